@@ -1,0 +1,14 @@
+pub mod Limits
+pub mod Declarations
+pub mod Terms
+pub mod Books
+pub mod Environments
+pub mod Kinds
+pub mod Values
+pub mod Flows
+pub mod Reads
+pub mod Shifts
+pub mod Instances
+pub mod Sizes
+pub mod Bounds
+pub mod Dates

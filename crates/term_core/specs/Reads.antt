@@ -1,0 +1,89 @@
+-- The places that are read, in order.
+use Rattle.std.specs.Prelude.{ℕ, zero, suc, ℤ, pos, ◌+ℤ◌, ◌-ℤ◌, int_lt, ◌==◌, ◌&&◌, ◌||◌, not, Bool, false, List, [], ◌∷◌, ◌++◌, Option, Some, None, if◌then◌else◌, slice_get, unsigned_abs, min}
+use Rattle.term_core.specs.Declarations.{Declarations}
+use Rattle.term_core.specs.declared.terms.LogicOp.{LogicOp}
+use Rattle.term_core.specs.declared.terms.LogicOp.TheVariants.{And, Or}
+use Rattle.term_core.specs.Terms.{Expression, Lit, Yes, Var, Obs, Neg, Num, Cmp, Not, Logic, Cond, Widen, Round, Div, Acc}
+use Rattle.term_core.specs.Terms.{Contract, Zero, Pay, Both, Scale, After, Let, Within}
+use Rattle.term_core.specs.Environments.{Environment, Place}
+use Rattle.term_core.specs.Kinds.{kind_of, scale_of, scale_of_kind}
+use Rattle.term_core.specs.Values.{Entry, kinds, truth, widened, kind_or, value_of, first_true, days_run}
+use Rattle.term_core.specs.Flows.{count_of}
+
+abbrev pub places_or : Option (List Place) → List Place
+places_or None = []
+places_or (Some ps) = ps
+
+-- the left side decides
+abbrev pub decides : LogicOp → Bool → Bool
+decides And a = not a
+decides Or a = a
+
+-- the lists of the steps before n, one after another
+abbrev pub steps_before : ℕ → (ℕ → List Place) → List Place
+steps_before zero f = []
+steps_before (suc n) f = steps_before n f ++ f n
+
+-- the lists of the days 0 to n
+abbrev pub upto : ℕ → (ℕ → List Place) → List Place
+upto n f = steps_before (suc n) f
+
+abbrev pub reads_of : Declarations → Expression → List Entry → List (List Place) → Environment → ℤ → List Place
+reads_of d (Lit m s) g bs env f = []
+reads_of d (Yes b) g bs env f = []
+reads_of d (Var back) g bs env f = places_or (slice_get bs back)
+reads_of d (Obs l t) g bs env f = record { label = l; day = f +ℤ t } ∷ []
+reads_of d (Neg e) g bs env f = reads_of d e g bs env f
+reads_of d (Num op a b) g bs env f = reads_of d a g bs env f ++ reads_of d b g bs env f
+reads_of d (Cmp op a b) g bs env f = reads_of d a g bs env f ++ reads_of d b g bs env f
+reads_of d (Not e) g bs env f = reads_of d e g bs env f
+reads_of d (Logic op a b) g bs env f =
+    reads_of d a g bs env f ++ (if decides op (truth (value_of d a g env f)) then [] else reads_of d b g bs env f)
+reads_of d (Cond t a b) g bs env f =
+    reads_of d t g bs env f ++ (if truth (value_of d t g env f) then reads_of d a g bs env f else reads_of d b g bs env f)
+reads_of d (Widen s e) g bs env f = reads_of d e g bs env f
+reads_of d (Round mode s e) g bs env f = reads_of d e g bs env f
+reads_of d (Div mode s a b) g bs env f = reads_of d a g bs env f ++ reads_of d b g bs env f
+reads_of d (Acc body n first) g bs env f =
+    let k = kind_or (kind_of d first (kinds g)) in
+    let from = f -ℤ pos n in
+    reads_of d first g bs env from
+    ++ steps_before n (λ i. reads_of d body (record { value = days_run i (λ i v. widened (scale_of d body (k ∷ kinds g)) (scale_of_kind k) (value_of d body (record { value = v; kind = k } ∷ g) env (from +ℤ pos i))) (value_of d first g env from); kind = k } ∷ g) ([] ∷ bs) env (from +ℤ pos (suc i)))
+
+-- a transfer stands on an own day from a to b on the path taken
+abbrev pub live : Declarations → Contract → List Entry → Environment → ℤ → ℤ → ℤ → Bool
+live d Zero g env f a b = false
+live d (Pay x p q) g env f a b = not (p == q) && not (int_lt (pos 0) a) && not (int_lt b (pos 0))
+live d (Both x y) g env f a b = live d x g env f a b || live d y g env f a b
+live d (Scale e c) g env f a b = live d c g env f a b
+live d (After m c) g env f a b = live d c g env (f +ℤ pos (count_of m)) (a -ℤ pos (count_of m)) (b -ℤ pos (count_of m))
+live d (Let e c) g env f a b =
+    live d c (record { value = value_of d e g env f; kind = kind_or (kind_of d e (kinds g)) } ∷ g) env f a b
+live d (Within e m x y) g env f a b =
+    elim (first_true d e g env f (count_of m)) [
+      | Some k ↦ live d x g env (f +ℤ pos k) (a -ℤ pos k) (b -ℤ pos k)
+      | None ↦ live d y g env (f +ℤ pos (count_of m)) (a -ℤ pos (count_of m)) (b -ℤ pos (count_of m))
+    ]
+
+-- the last day that is tested: the day of the first true test or n, and none after b
+abbrev pub tested : Option ℕ → ℕ → ℤ → ℕ
+tested None n b = min n (unsigned_abs b)
+tested (Some k) n b = min k (unsigned_abs b)
+
+abbrev pub reads_of_contract : Declarations → Contract → List Entry → List (List Place) → Environment → ℤ → ℤ → ℤ → List Place
+reads_of_contract d Zero g bs env f a b = []
+reads_of_contract d (Pay x p q) g bs env f a b = []
+reads_of_contract d (Both x y) g bs env f a b = reads_of_contract d x g bs env f a b ++ reads_of_contract d y g bs env f a b
+reads_of_contract d (Scale e c) g bs env f a b =
+    reads_of_contract d c g bs env f a b ++ (if live d c g env f a b then reads_of d e g bs env f else [])
+reads_of_contract d (After m c) g bs env f a b =
+    reads_of_contract d c g bs env (f +ℤ pos (count_of m)) (a -ℤ pos (count_of m)) (b -ℤ pos (count_of m))
+reads_of_contract d (Let e c) g bs env f a b =
+    reads_of_contract d c (record { value = value_of d e g env f; kind = kind_or (kind_of d e (kinds g)) } ∷ g) (reads_of d e g bs env f ∷ bs) env f a b
+reads_of_contract d (Within e m x y) g bs env f a b =
+    if int_lt b (pos 0) then [] else
+    (upto (tested (first_true d e g env f (count_of m)) (count_of m) b) (λ i. reads_of d e g bs env (f +ℤ pos i))
+    ++ (elim (first_true d e g env f (count_of m)) [
+      | Some k ↦ if int_lt b (pos k) then [] else reads_of_contract d x g bs env (f +ℤ pos k) (a -ℤ pos k) (b -ℤ pos k)
+      | None ↦ if int_lt b (pos (count_of m)) then [] else reads_of_contract d y g bs env (f +ℤ pos (count_of m)) (a -ℤ pos (count_of m)) (b -ℤ pos (count_of m))
+    ]))

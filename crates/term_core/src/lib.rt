@@ -1,0 +1,29 @@
+//! Terms of the contract language, their declarations, and the model that says what they mean.
+#![tactic(auto)]
+
+mod copies;
+mod dates;
+mod decls;
+mod instances;
+mod label;
+mod name;
+mod portfolio;
+mod rules;
+mod settings;
+mod shifts;
+mod sizes;
+mod terms;
+mod values;
+
+pub use dates::{date_text, epoch_day};
+pub use decls::Decls;
+pub use instances::instantiate;
+pub use label::Label;
+pub use name::Name;
+pub use portfolio::Portfolio;
+pub use rules::{CheckErr, Rule, RuleFault};
+pub use settings::{Setting, defaults};
+pub use shifts::shift_obs;
+pub use sizes::counts;
+pub use terms::{CmpOp, Contr, Counts, Days, Expr, LogicOp, NumOp};
+pub use values::{Kind, Missing, Value};

@@ -1,0 +1,103 @@
+//! How large a term is.
+
+ghost use Rattle.std.specs.Prelude.{◌≡◌, ℕ, ◌+◌, ◌≤◌, min, max};
+ghost use Rattle.term_core.specs.Terms.{expression, contract};
+ghost use Rattle.term_core.specs.Sizes.{nodes, height, nodes_of_contract, height_of_contract, capped};
+
+use crate::terms::{Contr, Counts, Expr};
+
+const MOST: u32 = 1_000_000;
+
+const LEAF: Counts = Counts {
+    height: 1,
+    nodes: 1,
+};
+
+// The counts of a node over two parts.
+fn over(a: Counts, b: Counts) -> Counts
+    requires a_height { a.height ≤ 1000000 }
+    requires a_nodes { a.nodes ≤ 1000000 }
+    requires b_height { b.height ≤ 1000000 }
+    requires b_nodes { b.nodes ≤ 1000000 }
+    ensures height { result.height ≡ min (max a.height b.height + 1) 1000000 }
+    ensures nodes { result.nodes ≡ min (a.nodes + b.nodes + 1) 1000000 }
+{
+    Counts {
+        height: (a.height.max(b.height) + 1).min(MOST),
+        nodes: (a.nodes + b.nodes + 1).min(MOST),
+    }
+}
+
+// The counts of a node over one part.
+fn above(a: Counts) -> Counts
+    requires height { a.height ≤ 1000000 }
+    requires nodes { a.nodes ≤ 1000000 }
+    ensures height { result.height ≡ min (a.height + 1) 1000000 }
+    ensures nodes { result.nodes ≡ min (a.nodes + 1) 1000000 }
+{
+    Counts {
+        height: (a.height + 1).min(MOST),
+        nodes: (a.nodes + 1).min(MOST),
+    }
+}
+
+// The counts of a node over three parts.
+fn over_three(a: Counts, b: Counts, c: Counts) -> Counts
+    requires a_height { a.height ≤ 1000000 }
+    requires a_nodes { a.nodes ≤ 1000000 }
+    requires b_height { b.height ≤ 1000000 }
+    requires b_nodes { b.nodes ≤ 1000000 }
+    requires c_height { c.height ≤ 1000000 }
+    requires c_nodes { c.nodes ≤ 1000000 }
+    ensures height { result.height ≡ min (max a.height (max b.height c.height) + 1) 1000000 }
+    ensures nodes { result.nodes ≡ min (a.nodes + b.nodes + c.nodes + 1) 1000000 }
+{
+    Counts {
+        height: (a.height.max(b.height.max(c.height)) + 1).min(MOST),
+        nodes: (a.nodes + b.nodes + c.nodes + 1).min(MOST),
+    }
+}
+
+/// The counts of an expression.
+pub fn counts_of_expr(e: &Expr) -> Counts
+    ensures height { result.height ≡ capped (height (expression e.now)) }
+    ensures nodes { result.nodes ≡ capped (nodes (expression e.now)) }
+{
+    match e {
+        Expr::Lit { .. } | Expr::Yes { .. } | Expr::Var { .. } | Expr::Obs { .. } => LEAF,
+        Expr::Neg { of } => above(counts_of_expr(of)),
+        Expr::Not { of } => above(counts_of_expr(of)),
+        Expr::Widen { of, .. } => above(counts_of_expr(of)),
+        Expr::Round { of, .. } => above(counts_of_expr(of)),
+        Expr::Num { left, right, .. } => over(counts_of_expr(left), counts_of_expr(right)),
+        Expr::Cmp { left, right, .. } => over(counts_of_expr(left), counts_of_expr(right)),
+        Expr::Logic { left, right, .. } => over(counts_of_expr(left), counts_of_expr(right)),
+        Expr::Div { top, below, .. } => over(counts_of_expr(top), counts_of_expr(below)),
+        Expr::Acc { body, first, .. } => over(counts_of_expr(body), counts_of_expr(first)),
+        Expr::Cond { test, yes, no } => over_three(
+            counts_of_expr(test),
+            counts_of_expr(yes),
+            counts_of_expr(no),
+        ),
+    }
+}
+
+/// The counts of a contract.
+pub fn counts(c: &Contr) -> Counts
+    ensures height { result.height ≡ capped (height_of_contract (contract c.now)) }
+    ensures nodes { result.nodes ≡ capped (nodes_of_contract (contract c.now)) }
+{
+    match c {
+        Contr::Zero | Contr::Pay { .. } => LEAF,
+        Contr::Both { left, right } => over(counts(left), counts(right)),
+        Contr::Scale { factor, body } => over(counts_of_expr(factor), counts(body)),
+        Contr::After { body, .. } => above(counts(body)),
+        Contr::Let { bound, body } => over(counts_of_expr(bound), counts(body)),
+        Contr::Within {
+            test,
+            hit,
+            miss,
+            ..
+        } => over_three(counts_of_expr(test), counts(hit), counts(miss)),
+    }
+}
