@@ -1,3 +1,4 @@
 pub mod Plain
 pub mod FlowLines
 pub mod Days
+pub mod Payments

@@ -20,7 +20,12 @@ fn append(out: &mut Vec<u8>, text: &[u8]) -> Result<(), NoMemory>
 }
 
 // The text of a day: its number, or its date where there is an origin.
-fn append_day(alloc: Global, out: &mut Vec<u8>, origin: Option<i64>, day: i64) -> Result<(), NoMemory>
+fn append_day(
+    alloc: Global,
+    out: &mut Vec<u8>,
+    origin: Option<i64>,
+    day: i64,
+) -> Result<(), NoMemory>
     requires first { pos 0 ≤ℤ day }
     requires last { day ≤ℤ pos 1_100_000 }
     requires origin { IsOrigin origin }

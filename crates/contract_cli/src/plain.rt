@@ -29,9 +29,10 @@ pub fn is_plain(amounts: u8, left: u32, c: &Contr) -> bool
     match c {
         Contr::Zero => true,
         Contr::Pay { .. } => true,
-        Contr::Both { left: one, right: other } => {
-            is_plain(amounts, left, one) && is_plain(amounts, left, other)
-        }
+        Contr::Both {
+            left: one,
+            right: other,
+        } => { is_plain(amounts, left, one) && is_plain(amounts, left, other) }
         Contr::Scale {
             factor: Expr::Lit { mant, scale },
             body,
