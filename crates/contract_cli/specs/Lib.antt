@@ -2,3 +2,4 @@ pub mod Plain
 pub mod FlowLines
 pub mod Days
 pub mod Payments
+pub mod Netting

@@ -3,6 +3,7 @@
 
 mod flow_lines;
 mod flow_table;
+mod netting;
 mod payments;
 mod plain;
 mod status;

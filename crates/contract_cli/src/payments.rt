@@ -33,8 +33,9 @@ pub struct Payment {
     pub amount: i128,
 }
 
-fn opposite(amount: i128) -> i128
-    requires { unsigned_abs amount ≤ 10 ^ 30 }
+/// The negative of an amount.
+pub fn opposite(amount: i128) -> i128
+    requires { unsigned_abs amount ≤ 10 ^ 36 }
     ensures { result ≡ neg_ℤ amount }
 {
     -amount
