@@ -26,7 +26,7 @@ digit_from_test b h = grind (arith, nat_tests)
 test_from_digit : (b : ℕ) → digit_value b < 10 → is_digit b ≡ true
 test_from_digit b h = grind (arith, nat_tests)
 
-value_of_digit : (b : ℕ) → digit_value b < 10 → digit_value b ≡ b - 48
+pub value_of_digit : (b : ℕ) → digit_value b < 10 → digit_value b ≡ b - 48
 value_of_digit b h = grind (arith, nat_tests)
 
 both : (a b : Bool) → (a && b) ≡ true → (a ≡ true) × (b ≡ true)
@@ -59,7 +59,7 @@ number_after_is n [] h = refl
 number_after_is n (d ∷ ds) h =
     ap (λ (x : ℕ). number_after (n * 10 + x) ds) (sym (value_of_digit d h.0)) ∙ number_after_is (n * 10 + digit_value d) ds h.1
 
-value_after_append : (n : ℕ) (xs ys : List ℕ) → digits_value_after 10 n (xs ++ ys) ≡ digits_value_after 10 (digits_value_after 10 n xs) ys
+pub value_after_append : (n : ℕ) (xs ys : List ℕ) → digits_value_after 10 n (xs ++ ys) ≡ digits_value_after 10 (digits_value_after 10 n xs) ys
 value_after_append n [] ys = refl
 value_after_append n (x ∷ xs) ys = value_after_append (n * 10 + digit_value x) xs ys
 
@@ -189,23 +189,21 @@ sign_split (c ∷ cs) = by (c == 45) refl
     by true e = ap (λ (x : ℕ). x ∷ cs) (eqb-true c 45 e) ∙ sym (ap (λ (b : Bool). minus_sign b ++ (if b then cs else c ∷ cs)) e)
     by false e = sym (ap (λ (b : Bool). minus_sign b ++ (if b then cs else c ∷ cs)) e)
 
+-- the sign of a text of a decimal, and what follows it
+pub sign_of_text : (negative : Bool) (whole rest : List ℕ) → IsNumeral 10 whole → (is_negative (minus_sign negative ++ (whole ++ rest)) ≡ negative) × (after_sign (minus_sign negative ++ (whole ++ rest)) ≡ whole ++ rest)
+sign_of_text true whole rest w = (refl, refl)
+sign_of_text false whole rest w = no_minus whole rest w
+
 -- every text of a decimal is taken
 
 taken : (text : List ℕ) (m : ℤ) (s : ℕ) (h : IsDecimalText text m s) → read_of text ≡ parts_of h.negative h.whole h.decimals
 unfolding read_of
 taken text m s h =
-    ap read_of h.spelled ∙ by h.negative
-  where
-    u : List ℕ
-    u = h.whole ++ after_point h.decimals
-
-    by : (negative : Bool) → read_of (minus_sign negative ++ u) ≡ parts_of negative h.whole h.decimals
-    by true = take_unsigned true h.whole h.decimals h.whole_digits h.decimal_digits
-    by false =
-        let plain = no_minus h.whole (after_point h.decimals) h.whole_digits in
-        ap (λ (b : Bool). unsigned_read b (after_sign u)) plain.0
-        ∙ ap (unsigned_read false) plain.1
-        ∙ take_unsigned false h.whole h.decimals h.whole_digits h.decimal_digits
+    let sign = sign_of_text h.negative h.whole (after_point h.decimals) h.whole_digits in
+    ap read_of h.spelled
+    ∙ ap (λ (b : Bool). unsigned_read b (after_sign (minus_sign h.negative ++ (h.whole ++ after_point h.decimals)))) sign.0
+    ∙ ap (unsigned_read h.negative) sign.1
+    ∙ take_unsigned h.negative h.whole h.decimals h.whole_digits h.decimal_digits
 
 -- the limits
 
