@@ -1,24 +1,22 @@
 -- The laws of the texts of decimals.
-use Rattle.std.proofs.Common.{◌≡◌, ◌≢◌, ℕ, zero, suc, ◌+◌, ◌-◌, ◌*◌, ◌/◌, ◌%◌, ◌^◌, ◌≤◌, ◌<◌, ◌⊎◌, List, [], ◌∷◌, ◌++◌, map, Result, Ok, Err, Bool, true, false, ◌==◌, ℤ, pos, negsuc, neg_ℤ, unsigned_abs, length, get_or, inl, inr, ap, sym, subst, refl, ◌∙◌, arith}
+use Rattle.std.proofs.Common.{◌≡◌, ◌≢◌, ℕ, zero, suc, ◌+◌, ◌*◌, ◌/◌, ◌%◌, ◌^◌, ◌≤◌, ◌<◌, ◌⊎◌, List, [], ◌∷◌, ◌++◌, map, Ok, Err, Bool, true, false, ℤ, pos, negsuc, unsigned_abs, length, get_or, inl, inr, ap, sym, subst, refl, ◌∙◌, arith}
 use Rattle.std.proofs.lemmas.Bool.Decides.{nat_tests}
 use Rattle.std.proofs.lemmas.Bool.{cases_lt}
-use Rattle.std.proofs.lemmas.List.{append-nil, length-append}
+use Rattle.std.proofs.lemmas.List.{length-append}
 use Rattle.std.proofs.lemmas.Int.Digits.{digits_value_is, number_digits_of, all_below_base_digits_of, first_digits_of, digits_push}
 use Rattle.std.proofs.Math.Nat.{pow-zero, pow-suc, mul_assoc, mod-lt, div-add-mod'}
 use Rattle.std.specs.Prelude.{if◌then◌else◌, int_lt}
 use Rattle.std.specs.Char.{digit_value}
 use Rattle.std.specs.Int.Digits.{digits_of, number_from_digits, AllBelowBase}
 use Rattle.std.specs.Str.Parse.{IsNumeral, AllDigits, digits_value, digits_value_after}
-use Rattle.decimal.specs.declared.reading.Decimal.{Decimal}
-use Rattle.decimal.specs.declared.reading.DecFault.{DecFault}
 use Rattle.decimal.specs.declared.reading.DecFault.TheVariants.{NotDecimal, TooWide}
-use Rattle.decimal.specs.DecimalText.{minus_sign, after_point, signed, IsDecimalText, Reads}
+use Rattle.decimal.specs.DecimalText.{minus_sign, after_point, signed}
 use Rattle.decimal.specs.Reading.{is_negative, after_sign}
 use Rattle.decimal.specs.Text.{last_digits, plain_digits, whole_digits, decimals_of, unsigned_text, sign_of, text_of}
 use Rattle.decimal.specs.TextLaws.{StandsForOne, StandsForWhatWasWritten, ReadsBack}
 use Rattle.decimal.proofs.PowerFacts.{ten_above}
 use Rattle.decimal.proofs.TextFacts.{decimals_some}
-use Rattle.decimal.proofs.ReadingFacts.{sign_of_text, value_of_digit, value_after_append}
+use Rattle.decimal.proofs.ReadingFacts.{sign_of_text, value_after_append}
 
 -- a text splits in one way into digits, a point and digits
 
