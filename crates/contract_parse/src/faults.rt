@@ -1,0 +1,72 @@
+//! Why a text is refused.
+ghost use Rattle.std.specs.Prelude.{◌≡◌};
+ghost use Rattle.contract_parse.specs.declared.faults.ReadErr.TheVariants.{NoMemory as lacks_memory};
+
+use decimal::NoMemory;
+use std::alloc::{AllocError, AllocFailed};
+
+/// The rule of the grammar that a token breaks.
+#[derive(Clone, Copy, Debug, PartialEq, Eq)]
+pub enum TextKind {
+    Syntax,
+    Number,
+    Date,
+    Deep,
+    Range,
+    Twice,
+    Unknown,
+    Utf8,
+}
+
+/// The first fault of a text, with the line and the column of its token, both from 1 and the column in bytes.
+#[derive(Clone, Copy, Debug, PartialEq, Eq)]
+pub struct TextFault {
+    pub kind: TextKind,
+    pub line: u32,
+    pub column: u32,
+}
+
+/// Why no value was read from a text.
+#[derive(Clone, Copy, Debug, PartialEq, Eq)]
+pub enum ParseErr {
+    Text(TextFault),
+    NoMemory,
+}
+
+/// A fault, and how many bytes of the text are left where its token begins.
+#[derive(Clone, Copy, Debug, PartialEq, Eq)]
+pub struct Refusal {
+    pub kind: TextKind,
+    pub left: usize,
+}
+
+/// Why a part of a text was not read.
+#[derive(Clone, Copy, Debug, PartialEq, Eq)]
+pub enum ReadErr {
+    Refused(Refusal),
+    NoMemory,
+}
+
+impl From<AllocError> for ReadErr {
+    ghost from_gives = { λ _ e. e ≡ lacks_memory };
+
+    fn from(_: AllocError) -> ReadErr {
+        ReadErr::NoMemory
+    }
+}
+
+impl<T: Drop> From<AllocFailed<T>> for ReadErr {
+    ghost from_gives = { λ _ e. e ≡ lacks_memory };
+
+    fn from(_: AllocFailed<T>) -> ReadErr {
+        ReadErr::NoMemory
+    }
+}
+
+impl From<NoMemory> for ReadErr {
+    ghost from_gives = { λ _ e. e ≡ lacks_memory };
+
+    fn from(_: NoMemory) -> ReadErr {
+        ReadErr::NoMemory
+    }
+}

@@ -1,0 +1,30 @@
+//! Lines and columns.
+ghost use Rattle.std.specs.Prelude.{◌≡◌, ◌≤◌, ◌==◌, length, not, reverse};
+ghost use Rattle.std.specs.List.{prefix_len};
+ghost use Rattle.contract_parse.specs.Lines.{column_at, line_at};
+
+/// The line of a place, from 1.
+pub fn line_at(bytes: &[u8], at: usize) -> u32
+    requires within { at ≤ length bytes.now }
+    requires small { length bytes.now ≤ 16_777_216 }
+    ensures { result ≡ line_at bytes.now at }
+{
+    let before = bytes[..at].iter().filter(|b| **b == 10).count();
+    1 + before as u32
+}
+
+fn last_line_len(bytes: &[u8]) -> usize
+    ensures value { result ≡ prefix_len (λ b. not (b == 10)) (reverse bytes.now) }
+    ensures within { result ≤ length bytes.now }
+{
+    bytes.iter().rev().take_while(|b| **b != 10).count()
+}
+
+/// The column of a place, from 1.
+pub fn column_at(bytes: &[u8], at: usize) -> u32
+    requires within { at ≤ length bytes.now }
+    requires small { length bytes.now ≤ 16_777_216 }
+    ensures { result ≡ column_at bytes.now at }
+{
+    1 + last_line_len(&bytes[..at]) as u32
+}

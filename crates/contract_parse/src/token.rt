@@ -1,0 +1,264 @@
+//! The tokens of a text, one at a time.
+ghost use Rattle.std.specs.Prelude.{◌≡◌, ◌≤◌, ◌<◌, false, length, take, drop};
+ghost use Rattle.std.specs.List.{prefix_len};
+ghost use Rattle.contract_parse.specs.Tokens.{after_gap, are_digits, is_date_part, begins_with_date, begins_with_digit, extent_at, fraction_len, is_blank, is_digit, is_letter, is_long_mark, is_short_mark, is_word_byte, mark_extent, mark_len, next_token, number_len, word_extent};
+
+/// What a token is. At a stray byte no token begins.
+#[derive(Clone, Copy, Debug, PartialEq, Eq)]
+pub enum Kind {
+    Word,
+    Number,
+    Date,
+    Mark,
+    End,
+    Stray,
+}
+
+/// A token, and how many bytes are left where it begins.
+#[derive(Clone, Copy, Debug)]
+pub struct Lexeme<'a> {
+    pub kind: Kind,
+    pub text: &'a [u8],
+    pub left: usize,
+}
+
+/// What begins at a byte, and how many bytes it has.
+#[derive(Clone, Copy, Debug)]
+pub struct Extent {
+    pub kind: Kind,
+    pub len: usize,
+}
+
+const LONGEST_WORD: usize = 64;
+
+fn is_letter(b: u8) -> bool
+    ensures { result ≡ is_letter b }
+{
+    (97 <= b && b <= 122) || (65 <= b && b <= 90) || b == 95
+}
+
+fn is_digit(b: u8) -> bool
+    ensures { result ≡ is_digit b }
+{
+    48 <= b && b <= 57
+}
+
+fn is_word_byte(b: u8) -> bool
+    ensures { result ≡ is_word_byte b }
+{
+    is_letter(b) || is_digit(b)
+}
+
+fn is_blank(b: u8) -> bool
+    ensures { result ≡ is_blank b }
+{
+    b == 32 || b == 9 || b == 13 || b == 10
+}
+
+// The bytes after the blanks and the comments.
+pub fn after_gap(bytes: &[u8]) -> &[u8]
+    ensures rest { result.now ≡ after_gap false bytes.now }
+    ensures within { length result.now ≤ length bytes.now }
+{
+    let mut rest = bytes;
+    let mut in_comment = false;
+    while let [b, after @ ..] = rest {
+        if in_comment {
+            in_comment = *b != b'\n';
+        } else if *b == b'#' {
+            in_comment = true;
+        } else if !is_blank(*b) {
+            break;
+        }
+        rest = after;
+    }
+    rest
+}
+
+fn word_len(bytes: &[u8]) -> usize
+    ensures value { result ≡ prefix_len is_word_byte bytes.now }
+    ensures within { result ≤ length bytes.now }
+{
+    bytes.iter().take_while(|b| is_word_byte(**b)).count()
+}
+
+fn digits_len(bytes: &[u8]) -> usize
+    ensures value { result ≡ prefix_len is_digit bytes.now }
+    ensures within { result ≤ length bytes.now }
+{
+    bytes.iter().take_while(|b| is_digit(**b)).count()
+}
+
+fn fraction_len(bytes: &[u8]) -> usize
+    ensures value { result ≡ fraction_len bytes.now }
+    ensures within { result ≤ length bytes.now }
+{
+    match bytes {
+        [] => 0,
+        [b, after @ ..] => {
+            let digits = digits_len(after);
+            if *b == b'.' && 0 < digits {
+                1 + digits
+            } else {
+                0
+            }
+        }
+    }
+}
+
+fn number_len(bytes: &[u8]) -> usize
+    ensures value { result ≡ number_len bytes.now }
+    ensures within { result ≤ length bytes.now }
+{
+    let whole = digits_len(bytes);
+    whole + fraction_len(&bytes[whole..])
+}
+
+fn begins_with_digit(bytes: &[u8]) -> bool
+    ensures { result ≡ begins_with_digit bytes.now }
+{
+    match bytes {
+        [] => false,
+        [b, ..] => is_digit(*b),
+    }
+}
+
+fn are_digits(a: u8, b: u8) -> bool
+    ensures { result ≡ are_digits a b }
+{
+    is_digit(a) && is_digit(b)
+}
+
+fn is_date_part(h: u8, a: u8, b: u8) -> bool
+    ensures { result ≡ is_date_part h a b }
+{
+    h == b'-' && are_digits(a, b)
+}
+
+fn begins_with_date(bytes: &[u8]) -> bool
+    ensures { result ≡ begins_with_date bytes.now }
+{
+    match bytes {
+        [a, b, c, d, h, e, f, i, g, j, after @ ..] => {
+            let is_year = are_digits(*a, *b) && are_digits(*c, *d);
+            let is_day = is_date_part(*h, *e, *f) && is_date_part(*i, *g, *j);
+            is_year && is_day && !begins_with_digit(after)
+        }
+        _ => false,
+    }
+}
+
+fn is_long_mark(a: u8, b: u8) -> bool
+    ensures { result ≡ is_long_mark a b }
+{
+    ((a == b'<' || a == b'>' || a == b'!') && b == b'=') || (a == b'.' && b == b'.')
+}
+
+fn is_short_mark(a: u8) -> bool
+    ensures { result ≡ is_short_mark a }
+{
+    a == b';'
+        || a == b','
+        || a == b':'
+        || a == b'='
+        || a == b'('
+        || a == b')'
+        || a == b'+'
+        || a == b'-'
+        || a == b'*'
+        || a == b'<'
+        || a == b'>'
+        || a == b'&'
+        || a == b'|'
+}
+
+fn mark_len(bytes: &[u8]) -> usize
+    ensures value { result ≡ mark_len bytes.now }
+    ensures within { result ≤ length bytes.now }
+{
+    match bytes {
+        [] => 0,
+        [a, b, ..] if is_long_mark(*a, *b) => 2,
+        [a, ..] if is_short_mark(*a) => 1,
+        _ => 0,
+    }
+}
+
+fn word_extent(len: usize) -> Extent
+    ensures { result ≡ word_extent len }
+{
+    if len > LONGEST_WORD {
+        Extent {
+            kind: Kind::Stray,
+            len: 0,
+        }
+    } else {
+        Extent {
+            kind: Kind::Word,
+            len,
+        }
+    }
+}
+
+fn mark_extent(len: usize) -> Extent
+    ensures { result ≡ mark_extent len }
+{
+    if len == 0 {
+        Extent {
+            kind: Kind::Stray,
+            len: 0,
+        }
+    } else {
+        Extent {
+            kind: Kind::Mark,
+            len,
+        }
+    }
+}
+
+fn number_extent(bytes: &[u8]) -> Extent {
+    if begins_with_date(bytes) {
+        Extent {
+            kind: Kind::Date,
+            len: 10,
+        }
+    } else {
+        Extent {
+            kind: Kind::Number,
+            len: number_len(bytes),
+        }
+    }
+}
+
+#[tactic(auto, unfolding(crate::specs::Tokens::extent_at))]
+fn extent_at(bytes: &[u8]) -> Extent
+    ensures value { result ≡ extent_at bytes.now }
+{
+    match bytes {
+        [] => Extent {
+            kind: Kind::End,
+            len: 0,
+        },
+        [b, ..] if is_letter(*b) => word_extent(word_len(bytes)),
+        [b, ..] if is_digit(*b) => number_extent(bytes),
+        _ => mark_extent(mark_len(bytes)),
+    }
+}
+
+/// The next token, and the bytes after it.
+#[tactic(auto, unfolding(crate::specs::Tokens::next_token))]
+pub fn next_token(bytes: &[u8]) -> (Lexeme<'_>, &[u8])
+    ensures { (record { kind = result.0.kind; text = result.0.text.now; left = result.0.left }, result.1.now) ≡ next_token bytes.now }
+{
+    let start = after_gap(bytes);
+    let extent = extent_at(start);
+    let (text, rest) = start.split_at(extent.len);
+    (
+        Lexeme {
+            kind: extent.kind,
+            text,
+            left: start.len(),
+        },
+        rest,
+    )
+}

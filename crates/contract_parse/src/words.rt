@@ -1,0 +1,116 @@
+//! What a token is to the grammar.
+
+use crate::faults::{ReadErr, Refusal, TextKind};
+use crate::token::{Kind, Lexeme, next_token};
+
+fn is_reserved_of_three(text: &[u8]) -> bool {
+    text == b"num".as_slice()
+        || text == b"pay".as_slice()
+        || text == b"let".as_slice()
+        || text == b"obs".as_slice()
+        || text == b"neg".as_slice()
+        || text == b"not".as_slice()
+        || text == b"min".as_slice()
+        || text == b"max".as_slice()
+        || text == b"div".as_slice()
+        || text == b"acc".as_slice()
+        || text == b"add".as_slice()
+        || text == b"cut".as_slice()
+}
+
+fn is_reserved_of_four(text: &[u8]) -> bool {
+    text == b"flag".as_slice()
+        || text == b"code".as_slice()
+        || text == b"zero".as_slice()
+        || text == b"both".as_slice()
+        || text == b"then".as_slice()
+        || text == b"else".as_slice()
+        || text == b"true".as_slice()
+        || text == b"none".as_slice()
+        || text == b"loop".as_slice()
+        || text == b"upto".as_slice()
+        || text == b"ceil".as_slice()
+}
+
+fn is_reserved_of_five(text: &[u8]) -> bool {
+    text == b"start".as_slice()
+        || text == b"party".as_slice()
+        || text == b"asset".as_slice()
+        || text == b"scale".as_slice()
+        || text == b"after".as_slice()
+        || text == b"false".as_slice()
+        || text == b"widen".as_slice()
+        || text == b"round".as_slice()
+        || text == b"model".as_slice()
+        || text == b"floor".as_slice()
+}
+
+fn is_reserved_of_more(text: &[u8]) -> bool {
+    text == b"payoff".as_slice()
+        || text == b"origin".as_slice()
+        || text == b"within".as_slice()
+        || text == b"amounts".as_slice()
+        || text == b"template".as_slice()
+        || text == b"contract".as_slice()
+        || text == b"portfolio".as_slice()
+        || text == b"half_even".as_slice()
+        || text == b"half_away".as_slice()
+}
+
+// By the length of the word first: most names are told from the reserved words by that and a few bytes.
+fn is_reserved(text: &[u8]) -> bool {
+    match text.len() {
+        0 | 1 => false,
+        2 => text == b"in".as_slice() || text == b"if".as_slice(),
+        3 => is_reserved_of_three(text),
+        4 => is_reserved_of_four(text),
+        5 => is_reserved_of_five(text),
+        _ => is_reserved_of_more(text),
+    }
+}
+
+/// The next token of a text, and the text after it.
+pub fn next(rest: &[u8]) -> (Lexeme<'_>, &[u8]) {
+    next_token(rest)
+}
+
+/// The fault of this kind at a token.
+pub fn refuse(kind: TextKind, token: &Lexeme<'_>) -> ReadErr {
+    ReadErr::Refused(Refusal {
+        kind,
+        left: token.left,
+    })
+}
+
+pub fn is_the_word(token: &Lexeme<'_>, word: &[u8]) -> bool {
+    matches!(token.kind, Kind::Word) && token.text == word
+}
+
+pub fn is_the_mark(token: &Lexeme<'_>, mark: &[u8]) -> bool {
+    matches!(token.kind, Kind::Mark) && token.text == mark
+}
+
+pub fn is_name(token: &Lexeme<'_>) -> bool {
+    matches!(token.kind, Kind::Word) && !is_reserved(token.text)
+}
+
+pub fn is_number(token: &Lexeme<'_>) -> bool {
+    matches!(token.kind, Kind::Number)
+}
+
+fn has_no_point(text: &[u8]) -> bool {
+    text.iter().all(|b| *b != b'.')
+}
+
+/// A number without a point.
+pub fn is_integer(token: &Lexeme<'_>) -> bool {
+    is_number(token) && has_no_point(token.text)
+}
+
+pub fn is_date(token: &Lexeme<'_>) -> bool {
+    matches!(token.kind, Kind::Date)
+}
+
+pub fn is_end(token: &Lexeme<'_>) -> bool {
+    matches!(token.kind, Kind::End)
+}
