@@ -20,3 +20,6 @@ literal_small amounts m s plain = grind (arith, nat_tests)
 -- what a plain literal pays
 pub amount_small : (amounts : ℕ) (m : ℤ) (s : ℕ) → amounts ≤ 12 → is_plain_amount amounts m s ≡ true → unsigned_abs (raised m (amounts - s)) ≤ 10 ^ 30
 amount_small amounts m s few plain = raised_small m (amounts - s) (literal_small amounts m s plain) (omega arith)
+
+pub unit_small : (amounts : ℕ) → amounts ≤ 12 → unsigned_abs (raised (pos 1) amounts) ≤ 10 ^ 30
+unit_small amounts few = raised_small (pos 1) amounts (omega arith) few

@@ -1,1 +1,2 @@
 pub mod AmountFacts
+pub mod PaymentFacts

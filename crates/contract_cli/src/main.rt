@@ -3,6 +3,7 @@
 
 mod flow_lines;
 mod flow_table;
+mod flows;
 mod netting;
 mod payments;
 mod plain;
@@ -10,6 +11,7 @@ mod status;
 
 pub use flow_lines::flow_line;
 pub use flow_table::{FlowRow, FlowTable};
+pub use flows::flows;
 pub use plain::is_plain;
 pub use status::Status;
 use std::process::ExitCode;

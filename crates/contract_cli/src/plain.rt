@@ -6,6 +6,9 @@ ghost use Rattle.contract_cli.specs.Plain.{is_payment, is_plain, is_plain_amount
 
 use term_core::{Contr, Days, Expr};
 
+/// The greatest sum of delays on a path of a plain contract.
+pub const GREATEST_DELAY: u32 = 100_000;
+
 const GREATEST_LITERAL: u128 = 1_000_000_000_000_000_000;
 
 // Whether a literal pays amounts of so many decimals.

@@ -2,8 +2,7 @@
 
 use crate::token::Lexeme;
 use crate::words::is_number;
-use decimal::reading::read;
-use decimal::{Decimal, pow10};
+use decimal::{Decimal, pow10, read};
 
 /// The greatest size of a mantissa.
 pub const GREATEST: u128 = 10_000_000_000_000_000_000_000_000_000_000_000_000;
