@@ -13,7 +13,7 @@ use Rattle.decimal.proofs.PowerFacts.{ten_above}
 use Rattle.decimal.proofs.QuotientFacts.{divided_up, divided_down, raised_nonzero}
 
 -- a greater number of times n is greater by n at least
-wider : (p q : ℤ) (n : ℕ) → p <ℤ q → (p *ℤ pos n +ℤ pos n) ≤ℤ (q *ℤ pos n)
+pub wider : (p q : ℤ) (n : ℕ) → p <ℤ q → (p *ℤ pos n +ℤ pos n) ≤ℤ (q *ℤ pos n)
 wider (pos a) (pos b) n h =
     let less : a + 1 ≤ b = omega (arith, ints) in
     omega (arith, ints, mul-le-mul_right n less, add-mul a 1 n)
@@ -32,7 +32,7 @@ rest_below : (m : ℤ) (n : ℕ) → 0 < n → rest_of m n < n
 rest_below (pos a) n h = omega (arith, mod-lt a h)
 rest_below (negsuc a) n h = omega (arith, mod-lt a h)
 
-next_times : (q : ℤ) (n : ℕ) → (q +ℤ pos 1) *ℤ pos n ≡ q *ℤ pos n +ℤ pos n
+pub next_times : (q : ℤ) (n : ℕ) → (q +ℤ pos 1) *ℤ pos n ≡ q *ℤ pos n +ℤ pos n
 next_times (pos a) n = omega (arith, ints, add-mul a 1 n)
 next_times (negsuc zero) n = omega (arith, ints)
 next_times (negsuc (suc a)) n =

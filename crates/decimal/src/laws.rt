@@ -1,7 +1,7 @@
 // What holds of all decimals, of their texts and of their rounding. Each law is the contract of a
 // function that does nothing; the calls that do the work have contracts by the same definitions.
 
-ghost use Rattle.decimal.specs.Rounded.{RoundsToScale, DividesToScale};
+ghost use Rattle.decimal.specs.Rounded.{RoundsToOne, RoundsToScale, DividesToScale};
 ghost use Rattle.decimal.specs.TextLaws.{StandsForOne, StandsForWhatWasWritten, ReadsBack};
 
 /// A text stands for at most one mantissa and scale.
@@ -17,6 +17,11 @@ pub fn written_text_stands_for_its_number()
 /// What `read` answers to a text that `write` appended is the number that was written.
 pub fn read_gives_back_what_was_written()
     ensures { ReadsBack }
+{}
+
+/// What a mode says of an exact number leaves one answer.
+pub fn rounding_leaves_one_answer()
+    ensures { RoundsToOne }
 {}
 
 /// `round_to` picks what its mode says of the exact number.

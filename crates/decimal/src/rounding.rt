@@ -4,13 +4,19 @@ ghost use Rattle.std.specs.Prelude.{◌≡◌, ◌≢◌, ◌+◌, ◌^◌, ◌�
 ghost use Rattle.decimal.specs.Rounding.{raised, rounded, at_scale, nearest, quotient, divided, DivFits};
 
 use crate::powers::{align, pow10};
+use std::cmp::Ordering;
 
-/// How a number is rounded.
+/// What stands for a number that lies between two mantissas: the roundings of IEEE 754 that decimal
+/// arithmetic in finance uses.
 #[derive(Clone, Copy, Debug, PartialEq, Eq)]
 pub enum Mode {
+    /// The nearest; of two equally near, the even one.
     HalfEven,
+    /// The nearest; of two equally near, the one farther from zero.
     HalfAway,
+    /// The greatest that is not above the number.
     Floor,
+    /// The least that is not below the number.
     Ceil,
 }
 
@@ -30,14 +36,11 @@ fn nearest_of(up: bool, q: i128, r: i128, n: i128) -> i128
     requires small { unsigned_abs q ≤ 10 ^ 37 }
     ensures { result ≡ nearest up q (unsigned_abs r) (unsigned_abs n) }
 {
-    if 2 * r < n {
-        q
-    } else if n < 2 * r {
-        next(q)
-    } else if up {
-        next(q)
-    } else {
-        q
+    match (2 * r).cmp(&n) {
+        Ordering::Less => q,
+        Ordering::Equal if up => next(q),
+        Ordering::Equal => q,
+        Ordering::Greater => next(q),
     }
 }
 
@@ -59,8 +62,9 @@ fn pick(mode: Mode, m: i128, n: i128) -> i128
     }
 }
 
+/// The mantissa at scale `to` of the number that `m` is at scale `from`: the same number where `to` is
+/// not less than `from`, and else rounded by the mode.
 #[tactic(auto, unfolding(crate::specs::Rounding::at_scale))]
-/// The mantissa at scale `to`, rounded by the mode where that is less than `from`.
 pub fn round_to(mode: Mode, m: i128, from: u8, to: u8) -> i128
     requires small { unsigned_abs m ≤ 10 ^ 37 }
     requires from_scale { from ≤ 27 }
@@ -97,7 +101,8 @@ fn quotient_of(mode: Mode, a: i128, b: i128) -> i128
     }
 }
 
-/// The mantissa of `a` over `b` at scale `s`, rounded by the mode.
+/// The mantissa at scale `s` of the quotient of `a` at scale `sa` by `b` at scale `sb`, rounded by the
+/// mode once, from the exact quotient.
 pub fn div_to(mode: Mode, a: i128, sa: u8, b: i128, sb: u8, s: u8) -> i128
     requires nonzero { b ≢ pos 0 }
     requires a_scale { sa ≤ 27 }
