@@ -23,7 +23,8 @@ pub struct Entry {
 /// Files in memory. They tell the contents of each name with an entry; of entries with one name the
 /// first counts. The reads are numbered from 1, and read `i` fails exactly where the list of failing
 /// reads holds `i`, the name has no entry, or `i` is the last number of 64 bits. A failed read is
-/// counted at its entry; all names without an entry share one count.
+/// counted at its entry; all names without an entry share one count, which begins with 0. A count
+/// or a number at its last value stays there.
 #[derive(Drop)]
 pub struct MemoryFiles {
     entries: Vec<Entry>,
@@ -37,13 +38,19 @@ impl Model for MemoryFiles {
 
     ghost Value = { MemoryState };
 
-    ghost view = { λ m. record { entries = m.entries.items; fail = m.fail.items; reads = m.reads; missing = m.missing } };
+    ghost view = { λ files. record {
+      entries = files.entries.items;
+      fail = files.fail.items;
+      reads = files.reads;
+      missing = files.missing;
+    } };
 }
 
 impl MemoryFiles {
     /// Files of these entries, of which the reads with these numbers fail. It takes no memory.
     pub fn new(entries: Vec<Entry>, fail: Vec<u64>) -> MemoryFiles
-        ensures { result ≡ record { entries = entries.items; fail = fail.items; reads = 0; missing = 0 } }
+        ensures { result
+            ≡ record { entries = entries.items; fail = fail.items; reads = 0; missing = 0 } }
     {
         MemoryFiles {
             entries,
@@ -96,12 +103,16 @@ impl Files for MemoryFiles {
     fn read_all(&mut self, alloc: Global, name: &str, max: u64) -> Result<Vec<u8>, ReadErr>
         ensures answers { Answers (contents_of self.old.entries name.now) max result }
         ensures failed { IsErrOf result ReadErr.Failed
-            → Rose (faults_of self.old.entries self.old.missing name.now) (faults_of self.new.entries self.new.missing name.now) }
+            → Rose (faults_of self.old.entries self.old.missing name.now)
+            (faults_of self.new.entries self.new.missing name.now) }
         ensures too_long { IsErrOf result ReadErr.TooLong
-            → faults_of self.new.entries self.new.missing name.now ≡ faults_of self.old.entries self.old.missing name.now }
-        ensures counts { CountsOnly (contents_of self.old.entries) (faults_of self.old.entries self.old.missing)
+            → faults_of self.new.entries self.new.missing name.now
+            ≡ faults_of self.old.entries self.old.missing name.now }
+        ensures counts { CountsOnly (contents_of self.old.entries)
+            (faults_of self.old.entries self.old.missing)
             (faults_of self.new.entries self.new.missing) name.now }
-        ensures kept { (other : List ℕ) → contents_of self.new.entries other ≡ contents_of self.old.entries other }
+        ensures kept { (other : List ℕ)
+            → contents_of self.new.entries other ≡ contents_of self.old.entries other }
         ensures reads { ReadsAs self.old self.new name.now result }
     {
         self.reads = one_more(self.reads);

@@ -10,7 +10,8 @@ use std::marker::Model;
 
 /// A sink in memory, with a room of bytes that it takes when it is made. The writes of pieces that
 /// are not empty are numbered from 1, and write `i` fails exactly where the list of failing writes
-/// holds `i`, no room is left, or `i` is the last number of 64 bits.
+/// holds `i`, no room is left, or `i` is the last number of 64 bits. A failed write is counted, and a
+/// count or a number at its last value stays there.
 #[derive(Drop)]
 pub struct MemorySink {
     bytes: Vec<u8>,
@@ -27,10 +28,19 @@ impl Model for MemorySink {
 
     ghost Value = { SinkState };
 
-    ghost view = { λ s. record { bytes = s.bytes.items; fail = s.fail.items; most = s.most; room = s.room; writes = s.writes; faults = s.faults } };
+    ghost view = { λ sink. record {
+      bytes = sink.bytes.items;
+      fail = sink.fail.items;
+      most = sink.most;
+      room = sink.room;
+      writes = sink.writes;
+      faults = sink.faults;
+    } };
 
     // The whole room is there, so that a write takes no memory.
-    ghost invariant = { λ s. (0 < s.most) × (s.room ≤ vec_capacity s.bytes) × (vec_len s.bytes ≤ s.room) };
+    ghost invariant = { λ sink. (0 < sink.most)
+        × (sink.room ≤ vec_capacity sink.bytes)
+        × (vec_len sink.bytes ≤ sink.room) };
 }
 
 impl MemorySink {
@@ -43,8 +53,14 @@ impl MemorySink {
         room: usize,
     ) -> Result<MemorySink, NoMemory>
         requires { 1 ≤ most }
-        ensures { IfOk result (λ sink. sink
-            ≡ record { bytes = []; fail = fail.items; most = most; room = room; writes = 0; faults = 0 }) }
+        ensures { IfOk result (λ sink. sink ≡ record {
+          bytes = [];
+          fail = fail.items;
+          most = most;
+          room = room;
+          writes = 0;
+          faults = 0;
+        }) }
     {
         let bytes = Vec::with_capacity(alloc, room)?;
         Ok(MemorySink {
@@ -75,9 +91,11 @@ impl Sink for MemorySink {
     ghost faults = { λ sink. sink.faults };
 
     fn write(&mut self, piece: &[u8]) -> Result<usize, WriteErr>
-        ensures takes { Takes (Some self.old.bytes) (Some self.new.bytes) self.old.faults self.new.faults piece.now result }
+        ensures takes { Takes (Some self.old.bytes) (Some self.new.bytes)
+            self.old.faults self.new.faults piece.now result }
         ensures later { self.old.faults ≤ self.new.faults }
-        ensures empty { LeavesEmpty (Some self.old.bytes) (Some self.new.bytes) self.old.faults self.new.faults piece.now result }
+        ensures empty { LeavesEmpty (Some self.old.bytes) (Some self.new.bytes)
+            self.old.faults self.new.faults piece.now result }
         ensures writes { WritesAs self.old self.new piece.now result }
     {
         if piece.is_empty() {

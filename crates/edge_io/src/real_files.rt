@@ -82,7 +82,8 @@ impl<R: RuntimeFiles + Drop> Files for RealFiles<R> {
         ensures answers { Answers None max result }
         ensures failed { IsErrOf result ReadErr.Failed → Rose self.old self.new }
         ensures too_long { IsErrOf result ReadErr.TooLong → self.new ≡ self.old }
-        ensures counts { CountsOnly (λ other. None) (λ other. self.old) (λ other. self.new) name.now }
+        ensures counts { CountsOnly (λ other. None)
+            (λ other. self.old) (λ other. self.new) name.now }
         ensures counted { self.new ≡ after_read result self.old }
     {
         let outcome = match fs::open(&self.rt, name) {

@@ -1,4 +1,4 @@
-use Rattle.std.proofs.Common.{◌≡◌, ◌+◌, ◌≤◌, length, arith, rules}
+use Rattle.std.proofs.Common.{◌+◌, ◌≤◌, arith, rules}
 use Rattle.std.proofs.KnownBytes.{Consumes-kept}
 use Rattle.edge_io.proofs.KnownReads.{more_taken, none_taken, exceeds, whole}
 use Rattle.edge_io.proofs.real_files.read_rest.Goals as goal
