@@ -1,2 +1,3 @@
 pub mod AmountFacts
+pub mod NettingFacts
 pub mod PaymentFacts

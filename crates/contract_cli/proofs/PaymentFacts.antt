@@ -1,5 +1,5 @@
 -- The payments of a plain contract are small, and no more than its transfers.
-use Rattle.std.proofs.Common.{◌≡◌, ℕ, ◌+◌, ◌-◌, ◌^◌, ◌≤◌, ◌<◌, ap, ℤ, pos, neg_ℤ, ◌+ℤ◌, Bool, true, false, ◌&&◌, ◌||◌, ◌==◌, nat_le, nat_lt, int_lt, if◌then◌else◌, List, [], ◌∷◌, ◌++◌, length, length-append, Option, Some, None, arith, refl, unsigned_abs}
+use Rattle.std.proofs.Common.{◌≡◌, ℕ, ◌+◌, ◌-◌, ◌^◌, ◌≤◌, ◌<◌, ◌≤ℤ◌, ap, ℤ, pos, neg_ℤ, ◌+ℤ◌, Bool, true, false, ◌&&◌, ◌||◌, ◌==◌, nat_le, nat_lt, int_lt, if◌then◌else◌, List, [], ◌∷◌, ◌++◌, length, length-append, Option, Some, None, arith, refl, unsigned_abs}
 use Rattle.std.specs.List.{All}
 use Rattle.std.specs.List.Sorted.{IsPermutation}
 use Rattle.std.proofs.lemmas.List.Sorted.{All-permutation, length_permutation}
@@ -12,7 +12,7 @@ use Rattle.contract_cli.specs.declared.payments.Payment.{Payment}
 use Rattle.contract_cli.specs.declared.payments.Transfer.{Transfer}
 use Rattle.contract_cli.specs.Plain.{is_plain, is_plain_amount, is_payment, payments_in}
 use Rattle.contract_cli.specs.Payments.{paid, paid_scaled, payment_on, payments_of, transfer_of}
-use Rattle.contract_cli.specs.Netting.{AreSmall}
+use Rattle.contract_cli.specs.Netting.{AreDue, AreSmall}
 use Rattle.contract_cli.proofs.AmountFacts.{amount_small, unit_small}
 
 and_left : (a b : Bool) → (a && b) ≡ true → a ≡ true
@@ -76,3 +76,33 @@ sorted_small amounts left last day c ps qs few plain gathered moved =
 pub sorted_few : (amounts : ℕ) (last day : ℤ) (c : Contract) (ps qs : List Payment) → payments_in c < 1_000_000 → ps ≡ payments_of amounts last day c → IsPermutation ps qs → length qs < 1_000_000
 sorted_few amounts last day c ps qs few gathered moved =
     omega (arith, length_permutation ps qs moved, ap (λ (xs : List Payment). length xs) gathered, payments_few amounts last day c)
+
+due_or_none : (late same : Bool) (first last : ℤ) (p : Payment) → first ≤ℤ p.slot.day → (late ≡ false → p.slot.day ≤ℤ last) → AreDue first last (if late || same then [] else p ∷ [])
+due_or_none true same first last p from to = All-nil (λ (p : Payment). (first ≤ℤ p.slot.day) × (p.slot.day ≤ℤ last))
+due_or_none false true first last p from to = All-nil (λ (p : Payment). (first ≤ℤ p.slot.day) × (p.slot.day ≤ℤ last))
+due_or_none false false first last p from to =
+    All-cons (λ (p : Payment). (first ≤ℤ p.slot.day) × (p.slot.day ≤ℤ last)) p [] (from, to refl) (All-nil (λ (p : Payment). (first ≤ℤ p.slot.day) × (p.slot.day ≤ℤ last)))
+
+not_after : (last day : ℤ) → int_lt last day ≡ false → day ≤ℤ last
+not_after last day h = grind (arith, ints)
+
+paid_due : (first last day : ℤ) (t : Transfer) (m : ℤ) → first ≤ℤ day → AreDue first last (paid last day t m)
+paid_due first last day t m from = due_or_none (int_lt last day) (t.from == t.to) first last (payment_on day t m) from (not_after last day)
+
+scaled_due : (first last day : ℤ) (t : Option Transfer) (m : ℤ) → first ≤ℤ day → AreDue first last (paid_scaled last day t m)
+scaled_due first last day None m from = All-nil (λ (p : Payment). (first ≤ℤ p.slot.day) × (p.slot.day ≤ℤ last))
+scaled_due first last day (Some t) m from = paid_due first last day t m from
+
+pub payments_due : (amounts : ℕ) (first last day : ℤ) (c : Contract) → first ≤ℤ day → AreDue first last (payments_of amounts last day c)
+payments_due amounts first last day Zero from = All-nil (λ (p : Payment). (first ≤ℤ p.slot.day) × (p.slot.day ≤ℤ last))
+payments_due amounts first last day (Pay a p q) from = paid_due first last day (record { asset = a; from = p; to = q }) (raised (pos 1) amounts) from
+payments_due amounts first last day (Both one other) from =
+    All-append (λ (p : Payment). (first ≤ℤ p.slot.day) × (p.slot.day ≤ℤ last)) (payments_of amounts last day one) (payments_of amounts last day other)
+    (payments_due amounts first last day one from) (payments_due amounts first last day other from)
+payments_due amounts first last day (Scale (Lit m s) c) from = scaled_due first last day (transfer_of c) (raised m (amounts - s)) from
+payments_due amounts first last day (After (Count n) c) from = payments_due amounts first last (day +ℤ pos n) c (omega (arith, ints))
+payments_due amounts first last day _ from = All-nil (λ (p : Payment). (first ≤ℤ p.slot.day) × (p.slot.day ≤ℤ last))
+
+pub sorted_due : (amounts : ℕ) (first last : ℤ) (c : Contract) (ps qs : List Payment) → ps ≡ payments_of amounts last first c → IsPermutation ps qs → AreDue first last qs
+sorted_due amounts first last c ps qs gathered moved =
+    All-permutation (λ (p : Payment). (first ≤ℤ p.slot.day) × (p.slot.day ≤ℤ last)) ps qs moved (rw gathered (payments_due amounts first last first c (omega (arith, ints))))

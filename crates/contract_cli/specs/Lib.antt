@@ -3,3 +3,5 @@ pub mod FlowLines
 pub mod Days
 pub mod Payments
 pub mod Netting
+pub mod Words
+pub mod Runs

@@ -1,5 +1,5 @@
 -- Payments in order of their slots, netted slot by slot into rows of a flow table.
-use Rattle.std.specs.Prelude.{ℕ, ℤ, pos, neg_ℤ, ◌+ℤ◌, ◌≤◌, ◌==◌, ◌&&◌, Bool, int_lt, List, [], ◌∷◌, ◌++◌, if◌then◌else◌, unsigned_abs}
+use Rattle.std.specs.Prelude.{ℕ, ℤ, pos, neg_ℤ, ◌+ℤ◌, ◌≤◌, ◌≤ℤ◌, ◌^◌, ◌==◌, ◌&&◌, Bool, int_lt, List, [], ◌∷◌, ◌++◌, if◌then◌else◌, unsigned_abs}
 use Rattle.std.specs.List.{All}
 use Rattle.std.specs.Ordering.{int_eq}
 use Rattle.contract_cli.specs.declared.flow_table.FlowRow.{FlowRow}
@@ -34,3 +34,11 @@ rows_of (p ∷ ps) = rows_from p ps
 -- each amount is at most so large
 abbrev pub AreSmall : ℕ → List Payment → Type 0
 AreSmall most ps = All (λ p. unsigned_abs p.amount ≤ most) ps
+
+-- each payment is on a day from the first to the last
+abbrev pub AreDue : ℤ → ℤ → List Payment → Type 0
+AreDue first last ps = All (λ p. (first ≤ℤ p.slot.day) × (p.slot.day ≤ℤ last)) ps
+
+-- a row on a day from the first to the last, of an amount that its line can hold
+abbrev pub IsDueRow : ℤ → ℤ → FlowRow → Type 0
+IsDueRow first last row = (first ≤ℤ row.day) × (row.day ≤ℤ last) × (unsigned_abs row.amount ≤ 10 ^ 36)

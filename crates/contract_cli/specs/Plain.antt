@@ -1,7 +1,7 @@
 -- Plain contracts: `zero`, payments, payments scaled by a literal, two of them together, and delays by a number of
 -- days. A literal has at most the portfolio's decimals and a mantissa of at most 10^18 in size, and on each path the
 -- delays add up to at most 100,000 days. Their flows need no fixing and no check.
-use Rattle.std.specs.Prelude.{ℕ, ℤ, ◌-◌, ◌+◌, ◌^◌, Bool, true, false, ◌&&◌, nat_le, unsigned_abs}
+use Rattle.std.specs.Prelude.{ℕ, ℤ, ◌-◌, ◌+◌, ◌^◌, Bool, true, false, ◌&&◌, nat_le, unsigned_abs, ◌≡◌, ◌<◌}
 use Rattle.term_core.specs.declared.terms.Days.{Days}
 use Rattle.term_core.specs.declared.terms.Days.TheVariants.{Num as Count, Named}
 use Rattle.term_core.specs.Terms.{Expression, Lit, Contract, Zero, Pay, Both, Scale, After, Let, Within}
@@ -35,3 +35,7 @@ payments_in (Scale e c) = payments_in c
 payments_in (After n c) = payments_in c
 payments_in (Let e c) = payments_in c
 payments_in (Within e n hit miss) = payments_in hit + payments_in miss
+
+-- a contract that `flows` takes today: plain, and of fewer than a million payments
+abbrev pub IsTaken : ℕ → Contract → Type 0
+IsTaken amounts c = (is_plain amounts greatest_delay c ≡ true) × (payments_in c < 1_000_000)

@@ -2,7 +2,9 @@
 
 ghost use Rattle.std.specs.Prelude.{◌≡◌, ◌<◌, pos, true, IfOk};
 ghost use Rattle.term_core.specs.Terms.{contract};
+ghost use Rattle.std.specs.List.{All};
 ghost use Rattle.std.specs.List.Sorted.{IsPermutation};
+ghost use Rattle.contract_cli.specs.Netting.{IsDueRow};
 ghost use Rattle.contract_cli.specs.Payments.{payments_of};
 ghost use Rattle.contract_cli.specs.Plain.{greatest_delay, is_plain, payments_in};
 
@@ -43,6 +45,7 @@ fn sorted(payments: Vec<Payment>) -> Result<Vec<Payment>, NoMemory>
 pub fn flows(alloc: Global, decls: &Decls, c: &Contr, until: i64) -> Result<FlowTable, NoMemory>
     requires plain { is_plain decls.now.amounts greatest_delay (contract c.now) ≡ true }
     requires few { payments_in (contract c.now) < 1_000_000 }
+    ensures { IfOk result (λ table. All (IsDueRow (pos decls.now.start) until) table.rows.items) }
 {
     let payments = payments_of(alloc, decls, c, until)?;
     let payments = sorted(payments)?;
