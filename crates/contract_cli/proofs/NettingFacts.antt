@@ -49,8 +49,8 @@ rows_are first last most sum (p ∷ ps) from to small due amounts h =
     either (same_slot sum.slot p.slot) (IsRow first last all) (rows_from (joined sum p) ps) (closed sum ++ rows_from p ps)
     (wider first last (most + 10 ^ 30 + 10 ^ 30 * length ps) all (rows_from (joined sum p) ps) (omega arith) (rows_are first last (most + 10 ^ 30) (joined sum p) ps from to (sum_small sum.amount p.amount most (10 ^ 30) small amount) days others (omega arith)))
     (All-append (IsRow first last all) (closed sum) (rows_from p ps)
-        (wider first last most all (closed sum) (omega arith) (closed_are first last most sum from to small))
-        (wider first last (most + 10 ^ 30 * length ps) all (rows_from p ps) (omega arith) (rows_are first last most p ps day.0 day.1 (omega (arith, amount)) days others h)))
+    (wider first last most all (closed sum) (omega arith) (closed_are first last most sum from to small))
+    (wider first last (most + 10 ^ 30 * length ps) all (rows_from p ps) (omega arith) (rows_are first last most p ps day.0 day.1 (omega (arith, amount)) days others h)))
 
 -- the rows of fewer than a million payments
 pub rows_due : (first last : ℤ) (ps : List Payment) → AreDue first last ps → AreSmall (10 ^ 30) ps → length ps < 1_000_000 → All (IsDueRow first last) (rows_of ps)

@@ -42,11 +42,9 @@ abbrev pub WritesAll : Edge → List ℕ → Type 0
 WritesAll edge text = Appends edge.taken_before edge.taken_after text
 
 -- a write failed, and a proper prefix of the text was written before it
-pub record WritesPart (edge : Edge) (text : List ℕ) : Type 0 where
-  pub rose : Rose edge.write_faults_before edge.write_faults_after
-  pub written : ℕ
-  pub proper : written < length text
-  pub appended : Appends edge.taken_before edge.taken_after (take written text)
+abbrev pub WritesPart : Edge → List ℕ → Type 0
+WritesPart edge text =
+    Rose edge.write_faults_before edge.write_faults_after × (written : ℕ) × (written < length text) × Appends edge.taken_before edge.taken_after (take written text)
 
 pub record UsageCause (words : List (List ℕ)) (edge : Edge) : Type 0 where
   pub no_form : file_of words ≡ None

@@ -1,78 +1,15 @@
 //! The commands.
 
-ghost use Rattle.std.specs.Prelude.{map, pos};
-ghost use Rattle.std.specs.List.{All};
-ghost use Rattle.contract_cli.specs.Netting.{IsDueRow};
+ghost use Rattle.std.specs.Prelude.{map};
 ghost use Rattle.contract_cli.specs.Runs.{Meets};
 
-use crate::flow_lines::flow_line;
-use crate::flow_table::FlowTable;
-use crate::flows::flows;
-use crate::plain::is_taken;
+use crate::flows_text::{Stop, flows_text};
 use crate::status::Status;
 use crate::words::file_of;
-use contract_parse::{ParseErr, parse_portfolio};
-use decimal::NoMemory;
 use edge_io::{Files, ReadErr, Sink, write_whole};
 use std::alloc::Global;
-use term_core::{Contr, Decls, Name, Portfolio};
 
 const LONGEST_FILE: u64 = 16_777_216;
-const LAST_DAY: i64 = 1_100_000;
-
-// Appends the lines of a flow table.
-fn append_table(
-    alloc: Global,
-    out: &mut Vec<u8>,
-    decls: &Decls,
-    name: &Name,
-    table: &FlowTable,
-) -> Result<(), NoMemory>
-    requires { All (IsDueRow (pos 0) (pos 1_100_000)) table.now.rows.items }
-{
-    for row in &table.rows {
-        flow_line(alloc, out, decls, name.text(), row)?;
-    }
-    Ok(())
-}
-
-/// Why the flows of a portfolio are not given.
-#[derive(Clone, Copy, Debug, PartialEq, Eq)]
-enum FlowsErr {
-    Refused,
-    NoMemory,
-}
-
-impl From<NoMemory> for FlowsErr {
-    fn from(_: NoMemory) -> FlowsErr {
-        FlowsErr::NoMemory
-    }
-}
-
-// Appends the lines of the flows of a contract.
-fn append_flows(
-    alloc: Global,
-    out: &mut Vec<u8>,
-    decls: &Decls,
-    name: &Name,
-    contr: &Contr,
-) -> Result<(), FlowsErr> {
-    if !is_taken(decls.amounts, contr) {
-        return Err(FlowsErr::Refused);
-    }
-    let table = flows(alloc, decls, contr, LAST_DAY)?;
-    append_table(alloc, out, decls, name, &table)?;
-    Ok(())
-}
-
-// The lines of the flows of all contracts, in their order.
-fn flows_text(alloc: Global, portfolio: &Portfolio) -> Result<Vec<u8>, FlowsErr> {
-    let mut text = Vec::new(alloc);
-    for (name, contr) in &portfolio.contracts {
-        append_flows(alloc, &mut text, &portfolio.decls, name, contr)?;
-    }
-    Ok(text)
-}
 
 /// Runs the command of the words, which are those of the command line without the program's name: reads the named
 /// file, makes the whole text, and writes it. `flows PORT` writes the flow lines of all contracts, in their order.
@@ -101,15 +38,11 @@ pub fn run<'a, F: Files, S: Sink>(
         Err(ReadErr::TooLong) => return Status::TooLong,
         Err(ReadErr::NoMemory) => return Status::NoMemory,
     };
-    let portfolio = match parse_portfolio(alloc, &bytes) {
-        Ok(portfolio) => portfolio,
-        Err(ParseErr::Text(_)) => return Status::BadText,
-        Err(ParseErr::NoMemory) => return Status::NoMemory,
-    };
-    let text = match flows_text(alloc, &portfolio) {
+    let text = match flows_text(alloc, &bytes) {
         Ok(text) => text,
-        Err(FlowsErr::Refused) => return Status::Refused,
-        Err(FlowsErr::NoMemory) => return Status::NoMemory,
+        Err(Stop::BadText(_)) => return Status::BadText,
+        Err(Stop::Refused) => return Status::Refused,
+        Err(Stop::NoMemory) => return Status::NoMemory,
     };
     match write_whole(out, &text) {
         Ok(()) => Status::Done,

@@ -28,7 +28,14 @@ fn payments_of(
 {
     let mut payments = Vec::new(alloc);
     let start = decls.start as i64;
-    gather(&mut payments, decls.amounts, GREATEST_DELAY, until, start, c)?;
+    gather(
+        &mut payments,
+        decls.amounts,
+        GREATEST_DELAY,
+        until,
+        start,
+        c,
+    )?;
     Ok(payments)
 }
 

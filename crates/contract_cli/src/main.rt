@@ -5,10 +5,13 @@ mod command;
 mod flow_lines;
 mod flow_table;
 mod flows;
+mod flows_text;
 mod netting;
 mod payments;
 mod plain;
 mod status;
+#[cfg(test)]
+mod tests;
 mod words;
 
 pub use command::run;
@@ -16,9 +19,9 @@ use edge_io::{RealFiles, RealSink};
 pub use flow_lines::flow_line;
 pub use flow_table::{FlowRow, FlowTable};
 pub use flows::flows;
+pub use status::Status;
 use std::alloc::{AllocError, Global};
 use std::env;
-pub use status::Status;
 use std::io::{Error, ErrorKind};
 use std::process::ExitCode;
 

@@ -68,11 +68,7 @@ fn close(rows: &mut Vec<FlowRow>, sum: Payment) -> Result<(), NoMemory>
 }
 
 // Joins a payment to the open sum, or closes that and opens the next.
-fn take_in(
-    rows: &mut Vec<FlowRow>,
-    sum: Payment,
-    payment: &Payment,
-) -> Result<Payment, NoMemory>
+fn take_in(rows: &mut Vec<FlowRow>, sum: Payment, payment: &Payment) -> Result<Payment, NoMemory>
     requires sum { unsigned_abs sum.amount ≤ 10 ^ 36 }
     requires payment { unsigned_abs payment.now.amount ≤ 10 ^ 30 }
     ensures rows { IfOk result (λ next. (rest : List Payment) → rows.new.items ++ rows_from next rest ≡ rows.old.items ++ rows_from sum (payment.now ∷ rest)) }
