@@ -1,2 +1,7 @@
 pub mod DateFacts
 pub mod Trials
+mod RowsSample
+mod RowsFlows
+mod RowsRules
+mod RowsReads
+mod RowsRedexes
