@@ -1,5 +1,6 @@
 pub mod DateFacts
 pub mod Trials
+pub mod FlowFacts
 mod RowsSample
 mod RowsFlows
 mod RowsRules

@@ -24,3 +24,4 @@ pub mod Residuals
 pub mod Redexes
 pub mod Factors
 pub mod Dates
+pub mod LawsFlows
