@@ -1,6 +1,7 @@
 pub mod DateFacts
 pub mod Trials
 pub mod FlowFacts
+pub mod ResidualFacts
 mod RowsSample
 mod RowsFlows
 mod RowsRules

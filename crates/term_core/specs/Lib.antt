@@ -25,3 +25,4 @@ pub mod Redexes
 pub mod Factors
 pub mod Dates
 pub mod LawsFlows
+pub mod LawsResiduals
