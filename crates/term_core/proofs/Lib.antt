@@ -1,6 +1,8 @@
 pub mod DateFacts
 pub mod Trials
 pub mod FlowFacts
+pub mod AlikeFacts
+pub mod ReadFacts
 pub mod ResidualFacts
 mod RowsSample
 mod RowsFlows

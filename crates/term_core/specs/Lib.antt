@@ -25,4 +25,5 @@ pub mod Redexes
 pub mod Factors
 pub mod Dates
 pub mod LawsFlows
+pub mod LawsReads
 pub mod LawsResiduals
