@@ -3,6 +3,7 @@ pub mod Trials
 pub mod FlowFacts
 pub mod AlikeFacts
 pub mod ReadFacts
+pub mod FirstFacts
 pub mod ResidualFacts
 mod RowsSample
 mod RowsFlows
