@@ -115,7 +115,7 @@ idle_sooner n d k zero le h = by_lt_z (n -ℤ pos k) (pos 0) (λ p. inl p) (λ p
 idle_sooner n d k (suc h) le (inl p) = inl (omega (arith, ints))
 idle_sooner n d k (suc h) le (inr p) = inr (omega (arith, ints))
 
-differs : (n : ℕ) → 0 < n → int_eq (pos n) (pos 0) ≡ false
+pub differs : (n : ℕ) → 0 < n → int_eq (pos n) (pos 0) ≡ false
 differs n h = grind (arith, nat_tests)
 
 idle_pay : (n x : ℤ) → (n <ℤ pos 0) ⊎ (pos 1 ≤ℤ n) → on_day_zero n x ≡ pos 0
@@ -127,7 +127,7 @@ sum_zero : (x y : ℤ) (k l : ℕ) → x ≡ pos 0 → y ≡ pos 0 → raised x 
 sum_zero x y k l h h' =
     ap (λ (z : ℤ). raised z k +ℤ raised y l) h ∙ ap (λ (z : ℤ). raised (pos 0) k +ℤ raised z l) h' ∙ ap (λ (z : ℤ). z +ℤ raised (pos 0) l) (raised-zero k) ∙ ap (λ (z : ℤ). pos 0 +ℤ z) (raised-zero l)
 
-one_zero : (x : ℤ) (k : ℕ) → x ≡ pos 0 → raised x k ≡ pos 0
+pub one_zero : (x : ℤ) (k : ℕ) → x ≡ pos 0 → raised x k ≡ pos 0
 one_zero x k h = ap (λ (z : ℤ). raised z k) h ∙ raised-zero k
 
 branch_zero : (o : Option ℕ) (x : ℕ → ℤ) (y : ℤ) (k l : ℕ) → ((i : ℕ) → o ≡ Some i → x i ≡ pos 0) → y ≡ pos 0 → elim o [ Some i ↦ raised (x i) k | None ↦ raised y l ] ≡ pos 0

@@ -4,6 +4,7 @@ pub mod FlowFacts
 pub mod AlikeFacts
 pub mod ReadFacts
 pub mod FirstFacts
+pub mod ContractReadFacts
 pub mod ResidualFacts
 mod RowsSample
 mod RowsFlows
