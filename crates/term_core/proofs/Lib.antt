@@ -5,6 +5,8 @@ pub mod AlikeFacts
 pub mod ReadFacts
 pub mod FirstFacts
 pub mod ContractReadFacts
+pub mod ReadLawFacts
+pub mod ShiftFacts
 pub mod ResidualFacts
 mod RowsSample
 mod RowsFlows

@@ -25,5 +25,6 @@ pub mod Redexes
 pub mod Factors
 pub mod Dates
 pub mod LawsFlows
+pub mod LawsShifts
 pub mod LawsReads
 pub mod LawsResiduals
