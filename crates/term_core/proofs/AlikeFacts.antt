@@ -70,11 +70,11 @@ pub then_alike : {A B : Type 0} {ok : Place → Bool} {xs ys zs ws : List Place}
 then_alike {A} {B} {ok} {xs} {ys} {zs} {ws} {v} {w} {a} {b} h next =
     record {
       lists =
-        up_to_first-append ok xs zs
-        ∙ lists_join (list_all ok xs) (up_to_first ok xs) (up_to_first ok ys) (up_to_first ok zs) (up_to_first ok ws) h.lists (λ p. (next (h.values p)).lists)
-        ∙ ap (λ (r : Bool). after_all r (up_to_first ok ys) (up_to_first ok ws)) (all_same ok xs ys h.lists)
-        ∙ sym (up_to_first-append ok ys ws);
-      values = λ p. (next (h.values (all_left ok xs zs p))).values (all_right ok xs zs p)
+          up_to_first-append ok xs zs
+          ∙ lists_join (list_all ok xs) (up_to_first ok xs) (up_to_first ok ys) (up_to_first ok zs) (up_to_first ok ws) h.lists (λ p. (next (h.values p)).lists)
+          ∙ ap (λ (r : Bool). after_all r (up_to_first ok ys) (up_to_first ok ws)) (all_same ok xs ys h.lists)
+          ∙ sym (up_to_first-append ok ys ws);
+      values = λ p. (next (h.values (all_left ok xs zs p))).values (all_right ok xs zs p);
     }
 
 pub same_alike : {A : Type 0} {ok : Place → Bool} (xs : List Place) (v : A) → Alike A ok xs v xs v

@@ -142,7 +142,7 @@ branch_alike {ok} o u m b rx sx ry sy lx kx ly ky (inl e) dx dy hx hy =
 branch_alike {ok} o u m b rx sx ry sy lx kx ly ky (inr late) dx dy hx hy =
     record {
       lists = ap (λ (xs : List Place). up_to_first ok xs) (late_reads o m b rx ry late.0 ∙ sym (late_reads u m b sx sy late.1));
-      values = λ _. late_live o m b lx ly late.0 (λ k p. (dx k p).0) (λ p. (dy p).0) ∙ sym (late_live u m b kx ky late.1 (λ k p. (dx k p).1) (λ p. (dy p).1))
+      values = λ _. late_live o m b lx ly late.0 (λ k p. (dx k p).0) (λ p. (dy p).0) ∙ sym (late_live u m b kx ky late.1 (λ k p. (dx k p).1) (λ p. (dy p).1));
     }
 
 -- the reads of an `if .. within` up to day b: the days that are tried, and then the branch
@@ -182,18 +182,18 @@ within_alike : (d : Declarations) (ok : Place → Bool) (one other : Environment
 within_alike d ok one other same e m x y hx hy g h bs cs s f a (negsuc b) =
     record {
       lists = refl;
-      values = λ _. dead_before d (Within e m x y) g one f a (negsuc b) (omega (arith, ints)) ∙ sym (dead_before d (Within e m x y) h other f a (negsuc b) (omega (arith, ints)))
+      values = λ _. dead_before d (Within e m x y) g one f a (negsuc b) (omega (arith, ints)) ∙ sym (dead_before d (Within e m x y) h other f a (negsuc b) (omega (arith, ints)));
     }
 within_alike d ok one other same e m x y hx hy g h bs cs s f a (pos b) =
     let n = count_of m in
     moved_alike (reads_of_contract d (Within e m x y) g bs one f a (pos b)) (reads_of_contract d (Within e m x y) h cs other f a (pos b)) (sym (within_reads d e m x y g bs one f a b)) (sym (within_reads d e m x y h cs other f a b))
     (then_alike (test_alike d ok one other same e g h bs cs s f (min n b)) (λ first.
-      branch_alike (first_of n (test_at d e g one f)) (first_of n (test_at d e h other f)) n b (hit_reads d x g bs one f a b) (hit_reads d x h cs other f a b) (hit_reads d y g bs one f a b n) (hit_reads d y h cs other f a b n) (hit_live d x g one f a b) (hit_live d x h other f a b) (hit_live d y g one f a b n) (hit_live d y h other f a b n)
-      (agree n b (test_at d e g one f) (test_at d e h other f) first)
-      (λ k late. (hit_dead d x g one f a b k late, hit_dead d x h other f a b k late))
-      (λ late. (hit_dead d y g one f a b n late, hit_dead d y h other f a b n late))
-      (λ k. hx g h bs cs s (f +ℤ pos k) (a -ℤ pos k) (pos b -ℤ pos k))
-      (hy g h bs cs s (f +ℤ pos n) (a -ℤ pos n) (pos b -ℤ pos n))))
+    branch_alike (first_of n (test_at d e g one f)) (first_of n (test_at d e h other f)) n b (hit_reads d x g bs one f a b) (hit_reads d x h cs other f a b) (hit_reads d y g bs one f a b n) (hit_reads d y h cs other f a b n) (hit_live d x g one f a b) (hit_live d x h other f a b) (hit_live d y g one f a b n) (hit_live d y h other f a b n)
+    (agree n b (test_at d e g one f) (test_at d e h other f) first)
+    (λ k late. (hit_dead d x g one f a b k late, hit_dead d x h other f a b k late))
+    (λ late. (hit_dead d y g one f a b n late, hit_dead d y h other f a b n late))
+    (λ k. hx g h bs cs s (f +ℤ pos k) (a -ℤ pos k) (pos b -ℤ pos k))
+    (hy g h bs cs s (f +ℤ pos n) (a -ℤ pos n) (pos b -ℤ pos n))))
 
 pub live_alike : (d : Declarations) (ok : Place → Bool) (one other : Environment) → SameWhere d ok one other → (c : Contract) → LiveAlike d ok one other c
 live_alike d ok one other same Zero g h bs cs s f a b = same_alike [] false
@@ -202,7 +202,7 @@ live_alike d ok one other same (Both x y) g h bs cs s f a b =
     two_alike (λ ks v w. v || w) [] [] refl (live_alike d ok one other same x g h bs cs s f a b) (live_alike d ok one other same y g h bs cs s f a b)
 live_alike d ok one other same (Scale e c) g h bs cs s f a b =
     then_alike (live_alike d ok one other same c g h bs cs s f a b) (λ known.
-      factor_alike (live d c g one f a b) (live d c h other f a b) known (reads_alike d ok one other same e g h bs cs s f))
+    factor_alike (live d c g one f a b) (live d c h other f a b) known (reads_alike d ok one other same e g h bs cs s f))
 live_alike d ok one other same (After m c) g h bs cs s f a b =
     live_alike d ok one other same c g h bs cs s (f +ℤ pos (count_of m)) (a -ℤ pos (count_of m)) (b -ℤ pos (count_of m))
 live_alike d ok one other same (Let e c) g h bs cs s f a b =
@@ -271,9 +271,9 @@ within_same d ok one other same e m x y hx hy g h bs cs s f a (pos b) n w low hi
     let dead_miss : (n -ℤ pos c) <ℤ pos 0 → (miss ≡ pos 0) × (miss' ≡ pos 0) = λ q. (flow_idle d y g one (f +ℤ pos c) (n -ℤ pos c) w (inl q), flow_idle d y h other (f +ℤ pos c) (n -ℤ pos c) w (inl q)) in
     subst (λ (ks : List Kind). branch_flow (first_of c (test_at d e g one f)) hit miss (most (kinds g) - scale_of_contract d x (kinds g)) (most (kinds g) - scale_of_contract d y (kinds g)) ≡ branch_flow (first_of c (test_at d e h other f)) hit' miss' (most ks - scale_of_contract d x ks) (most ks - scale_of_contract d y ks)) s.same_kinds
     (branch_same ok (first_of c (test_at d e g one f)) (first_of c (test_at d e h other f)) c b (hit_reads d x g bs one f a b) (hit_reads d y g bs one f a b c) hit hit' miss miss' _ _ (agree c b (test_at d e g one f) (test_at d e h other f) first)
-      (λ k q. dead_hit k (omega (arith, ints))) (λ q. dead_miss (omega (arith, ints))) rest
-      (λ k q. hit_same ok b k n (hit k) (hit' k) (hit_reads d x g bs one f a b k) high (dead_hit k) (hx g h bs cs s (f +ℤ pos k) (a -ℤ pos k) (pos b -ℤ pos k) (n -ℤ pos k) w (omega (arith, ints)) (omega (arith, ints))) q)
-      (λ q. hit_same ok b c n miss miss' (hit_reads d y g bs one f a b c) high dead_miss (hy g h bs cs s (f +ℤ pos c) (a -ℤ pos c) (pos b -ℤ pos c) (n -ℤ pos c) w (omega (arith, ints)) (omega (arith, ints))) q))
+    (λ k q. dead_hit k (omega (arith, ints))) (λ q. dead_miss (omega (arith, ints))) rest
+    (λ k q. hit_same ok b k n (hit k) (hit' k) (hit_reads d x g bs one f a b k) high (dead_hit k) (hx g h bs cs s (f +ℤ pos k) (a -ℤ pos k) (pos b -ℤ pos k) (n -ℤ pos k) w (omega (arith, ints)) (omega (arith, ints))) q)
+    (λ q. hit_same ok b c n miss miss' (hit_reads d y g bs one f a b c) high dead_miss (hy g h bs cs s (f +ℤ pos c) (a -ℤ pos c) (pos b -ℤ pos c) (n -ℤ pos c) w (omega (arith, ints)) (omega (arith, ints))) q))
 
 pub flow_same : (d : Declarations) (ok : Place → Bool) (one other : Environment) → SameWhere d ok one other → (c : Contract) → FlowSame d ok one other c
 flow_same d ok one other same Zero g h bs cs s f a b n w low high p = refl

@@ -53,14 +53,14 @@ reads_alike d ok one other same (Not e) g h bs cs n f =
     one_alike (λ ks x. Truth (not (truth x))) [] [] refl (reads_alike d ok one other same e g h bs cs n f)
 reads_alike d ok one other same (Logic op a b) g h bs cs n f =
     then_alike (reads_alike d ok one other same a g h bs cs n f) (λ e.
-      one_alike (λ ks x. Truth x) [] [] refl
-      (side_alike op (truth (value_of d a g one f)) (truth (value_of d a h other f)) (ap truth e)
-      (one_alike (λ ks x. truth x) [] [] refl (reads_alike d ok one other same b g h bs cs n f))))
+    one_alike (λ ks x. Truth x) [] [] refl
+    (side_alike op (truth (value_of d a g one f)) (truth (value_of d a h other f)) (ap truth e)
+    (one_alike (λ ks x. truth x) [] [] refl (reads_alike d ok one other same b g h bs cs n f))))
 reads_alike d ok one other same (Cond t a b) g h bs cs n f =
     then_alike (reads_alike d ok one other same t g h bs cs n f) (λ e.
-      choice_alike (truth (value_of d t g one f)) (truth (value_of d t h other f)) (ap truth e)
-      (one_alike (λ ks x. widened (scale_of d a ks) (max (scale_of d a ks) (scale_of d b ks)) x) (kinds g) (kinds h) n.same_kinds (reads_alike d ok one other same a g h bs cs n f))
-      (one_alike (λ ks x. widened (scale_of d b ks) (max (scale_of d a ks) (scale_of d b ks)) x) (kinds g) (kinds h) n.same_kinds (reads_alike d ok one other same b g h bs cs n f)))
+    choice_alike (truth (value_of d t g one f)) (truth (value_of d t h other f)) (ap truth e)
+    (one_alike (λ ks x. widened (scale_of d a ks) (max (scale_of d a ks) (scale_of d b ks)) x) (kinds g) (kinds h) n.same_kinds (reads_alike d ok one other same a g h bs cs n f))
+    (one_alike (λ ks x. widened (scale_of d b ks) (max (scale_of d a ks) (scale_of d b ks)) x) (kinds g) (kinds h) n.same_kinds (reads_alike d ok one other same b g h bs cs n f)))
 reads_alike d ok one other same (Widen s e) g h bs cs n f =
     one_alike (λ ks x. widened (scale_of d e ks) s x) (kinds g) (kinds h) n.same_kinds (reads_alike d ok one other same e g h bs cs n f)
 reads_alike d ok one other same (Round mode s e) g h bs cs n f =
@@ -75,6 +75,6 @@ reads_alike d ok one other same (Acc body m first) g h bs cs n f =
     let read : List Entry → List (List Place) → List Kind → Environment → ℕ → List Place = λ es ps ks env i. reads_of d body (record { value = run es ks env i; kind = kind ks } ∷ es) ([] ∷ ps) env (from +ℤ pos (suc i)) in
     subst (λ (ks : List Kind). Alike Value ok (reads_of d first g bs one from ++ steps_before m (read g bs (kinds g) one)) (run g (kinds g) one m) (reads_of d first h cs other from ++ steps_before m (read h cs ks other)) (run h ks other m)) n.same_kinds
     (days_alike m (run g (kinds g) one) (run h (kinds g) other) (read g bs (kinds g) one) (read h cs (kinds g) other) (reads_alike d ok one other same first g h bs cs n from) (λ i e.
-      one_alike (λ ks x. widened (scale_of d body (kind (kinds g) ∷ kinds g)) (scale_of_kind (kind (kinds g))) x) [] [] refl
-      (reads_alike d ok one other same body (record { value = run g (kinds g) one i; kind = kind (kinds g) } ∷ g) (record { value = run h (kinds g) other i; kind = kind (kinds g) } ∷ h) ([] ∷ bs) ([] ∷ cs)
-      (one_more ok g bs h cs (run g (kinds g) one i) (run h (kinds g) other i) (kind (kinds g)) [] [] n (record { lists = refl; values = λ _. e })) (from +ℤ pos (suc i)))))
+    one_alike (λ ks x. widened (scale_of d body (kind (kinds g) ∷ kinds g)) (scale_of_kind (kind (kinds g))) x) [] [] refl
+    (reads_alike d ok one other same body (record { value = run g (kinds g) one i; kind = kind (kinds g) } ∷ g) (record { value = run h (kinds g) other i; kind = kind (kinds g) } ∷ h) ([] ∷ bs) ([] ∷ cs)
+    (one_more ok g bs h cs (run g (kinds g) one i) (run h (kinds g) other i) (kind (kinds g)) [] [] n (record { lists = refl; values = λ _. e })) (from +ℤ pos (suc i)))))

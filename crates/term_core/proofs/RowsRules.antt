@@ -29,9 +29,10 @@ too_late = inr (tt, inr (([], pos 0, refl, omega (arith, ints)), inl ((λ h. ome
 
 -- a `let` over a future observable starts with it
 starts_on_day_30 : IsStart (later_rate 30) (Some (pos 30))
-starts_on_day_30 =
-    ((pos 30, omega (arith, ints), (pos 0, omega (arith, ints), omega (arith, ints), omega (arith, ints)))
-    , λ u h. omega (arith, ints))
+starts_on_day_30 = (
+  (pos 30, omega (arith, ints), (pos 0, omega (arith, ints), omega (arith, ints), omega (arith, ints))),
+  λ u h. omega (arith, ints),
+)
 
 fails : PartIsTimed (Later 29 ∷ Naming (Round HalfEven 2 (Obs 0 (pos 30))) ∷ []) (OfContract (Scale (Var 0) pay_ab)) → ⊥
 fails p =

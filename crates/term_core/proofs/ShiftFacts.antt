@@ -78,6 +78,6 @@ value-shifted d (Acc body n first) k g env f =
     let run : Option Kind → Value = λ o. days_run n (λ i v. widened (scale_of d (shifted k body) (kind_or o ∷ ks)) (scale_of_kind (kind_or o)) (value_of d (shifted k body) (record { value = v; kind = kind_or o } ∷ g) env (f -ℤ pos n +ℤ pos i))) (value_of d (shifted k first) g env (f -ℤ pos n)) in
     ap run (kind-shifted d first k ks)
     ∙ same_days n _ _ _ _ (value-shifted d first k g env (f -ℤ pos n) ∙ ap (value_of d first g env) from) (λ i v.
-      let kind = kind_or (kind_of d first ks) in
-      let es : List Entry = record { value = v; kind = kind } ∷ g in
-      ap₂ (λ (s : ℕ) (u : Value). widened s (scale_of_kind kind) u) (scale-shifted d body k (kind ∷ ks)) (value-shifted d body k es env (f -ℤ pos n +ℤ pos i) ∙ ap (value_of d body es env) (omega (arith, ints))))
+    let kind = kind_or (kind_of d first ks) in
+    let es : List Entry = record { value = v; kind = kind } ∷ g in
+    ap₂ (λ (s : ℕ) (u : Value). widened s (scale_of_kind kind) u) (scale-shifted d body k (kind ∷ ks)) (value-shifted d body k es env (f -ℤ pos n +ℤ pos i) ∙ ap (value_of d body es env) (omega (arith, ints))))
