@@ -24,3 +24,7 @@ pub mod Residuals
 pub mod Redexes
 pub mod Factors
 pub mod Dates
+pub mod LawsFlows
+pub mod LawsShifts
+pub mod LawsReads
+pub mod LawsResiduals

@@ -25,6 +25,11 @@ abbrev pub first_unfixed : Environment → List Place → Option Place
 first_unfixed fixings [] = None
 first_unfixed fixings (q ∷ qs) = if is_fixed fixings q then first_unfixed fixings qs else Some q
 
+-- the places up to and with the first that fails a test
+abbrev pub up_to_first : (Place → Bool) → List Place → List Place
+up_to_first passes [] = []
+up_to_first passes (q ∷ qs) = q ∷ (if passes q then up_to_first passes qs else [])
+
 -- the left side decides
 abbrev pub decides : LogicOp → Bool → Bool
 decides And a = not a

@@ -14,22 +14,22 @@ use Rattle.term_core.specs.Reads.{reads_of, is_fixed}
 use Rattle.term_core.specs.Sites.{Layer, Naming, Counting, Later, Earlier, Undated, Part, OfExpression, OfContract, Site, Once, sites_of, sites_of_contract, AllPass}
 
 pub data Redex : Type 0 where
-  EmptyLeft : Redex          -- both(zero, c)
-  EmptyRight : Redex         -- both(c, zero)
-  ScaledNothing : Redex      -- scale(e, zero)
-  ZeroFactor : Redex         -- scale(0, c), with a 0 of any scale
-  NoDelay : Redex            -- after(0, c)
-  TwoDelays : Redex          -- after(m, after(n, c))
-  DelayedNothing : Redex     -- after(m, zero)
-  UnusedName : Redex         -- a `let` whose name is not used
-  LiteralName : Redex        -- a `let` of a literal
-  NothingEither : Redex      -- an `if .. within` with two branches `zero`
-  DecidedTest : Redex        -- an `if .. within` with a literal test
-  LiteralOperands : Redex    -- an operator on literals alone, or `&` and `|` with a literal on the left
-  DecidedChoice : Redex      -- `if(e, a, b)` with a literal test
-  FixedPlace : Redex         -- an observable in a known frame whose place is fixed
-  NoSteps : Redex            -- an accumulator of 0 days
-  FixedSteps : Redex         -- an accumulator in a known frame that holds no name bound outside it and reads what is fixed
+  EmptyLeft : Redex  -- both(zero, c)
+  EmptyRight : Redex  -- both(c, zero)
+  ScaledNothing : Redex  -- scale(e, zero)
+  ZeroFactor : Redex  -- scale(0, c), with a 0 of any scale
+  NoDelay : Redex  -- after(0, c)
+  TwoDelays : Redex  -- after(m, after(n, c))
+  DelayedNothing : Redex  -- after(m, zero)
+  UnusedName : Redex  -- a `let` whose name is not used
+  LiteralName : Redex  -- a `let` of a literal
+  NothingEither : Redex  -- an `if .. within` with two branches `zero`
+  DecidedTest : Redex  -- an `if .. within` with a literal test
+  LiteralOperands : Redex  -- an operator on literals alone, or `&` and `|` with a literal on the left
+  DecidedChoice : Redex  -- `if(e, a, b)` with a literal test
+  FixedPlace : Redex  -- an observable in a known frame whose place is fixed
+  NoSteps : Redex  -- an accumulator of 0 days
+  FixedSteps : Redex  -- an accumulator in a known frame that holds no name bound outside it and reads what is fixed
 
 -- a decimal, `true` or `false`
 abbrev pub is_literal : Expression → Bool
