@@ -27,7 +27,7 @@ day_is y m d date r year is number =
     let ok = civil y m d year (rw month at date.month_in) (rw (is.0, month, day) at date.day_in) in
     rw ok (ap (λ z. Some z) (number ∙ rw (is.0, month, day) refl))
 
-first_day : day_count (pos 1) 1 1 ≡ 3_652_791
+pub first_day : day_count (pos 1) 1 1 ≡ 3_652_791
 first_day = day_count-early (pos 1) 10000 1 1 refl (omega arith) (omega arith) (omega arith)
 
 -- a day from 0001-01-01 on is of a year from 1 on

@@ -1,5 +1,7 @@
 pub mod DateFacts
 pub mod Trials
+pub mod RefusalFacts
+pub mod DateTextFacts
 pub mod FlowFacts
 pub mod AlikeFacts
 pub mod ReadFacts

@@ -25,6 +25,8 @@ pub mod Redexes
 pub mod Factors
 pub mod Dates
 pub mod LawsFlows
+pub mod LawsDates
+pub mod LawsAcceptance
 pub mod LawsShifts
 pub mod LawsReads
 pub mod LawsResiduals

@@ -5,6 +5,8 @@ ghost use Rattle.term_core.specs.LawsFlows.{AmountsAreOpposite, AmountsEndAtHori
 ghost use Rattle.term_core.specs.LawsResiduals.{CarriesComposes};
 ghost use Rattle.term_core.specs.LawsReads.{ReadsStayUpToUnfixed, AmountsAreFixed, ValuesDependOnReads, AmountsDependOnReads};
 ghost use Rattle.term_core.specs.LawsShifts.{ShiftsMoveTheDay};
+ghost use Rattle.term_core.specs.LawsAcceptance.{RefusalsAreUnique, AcceptedAreNotRefused};
+ghost use Rattle.term_core.specs.LawsDates.{TextsOfDaysAreUnique, DaysOfTextsAreCivil};
 
 /// What one party pays, the other receives.
 pub fn amounts_are_opposite()
@@ -49,4 +51,24 @@ pub fn amounts_depend_on_reads()
 /// An expression whose observables are read some days later has the value of that many days later.
 pub fn shifts_move_the_day()
     ensures { ShiftsMoveTheDay }
+{}
+
+/// A contract has at most one refusal.
+pub fn refusals_are_unique()
+    ensures { RefusalsAreUnique }
+{}
+
+/// An accepted contract has no refusal.
+pub fn accepted_are_not_refused()
+    ensures { AcceptedAreNotRefused }
+{}
+
+/// A day has one text.
+pub fn texts_of_days_are_unique()
+    ensures { TextsOfDaysAreUnique }
+{}
+
+/// A text that has a day names one of the years 0001 to 9999, so each day that is read can be written.
+pub fn days_of_texts_are_civil()
+    ensures { DaysOfTextsAreCivil }
 {}
