@@ -1,6 +1,7 @@
 pub mod DateFacts
 pub mod Trials
 pub mod RefusalFacts
+pub mod BoundTrials
 pub mod DateTextFacts
 pub mod FlowFacts
 pub mod AlikeFacts
@@ -13,5 +14,6 @@ pub mod ResidualFacts
 mod RowsSample
 mod RowsFlows
 mod RowsRules
+mod RowsAcceptance
 mod RowsReads
 mod RowsRedexes

@@ -1,4 +1,5 @@
--- The law of refusals: a contract has at most one refusal, and an accepted contract has none.
+-- The law of refusals: a contract has at most one refusal, which is a rule and a node, and an accepted contract has
+-- none. So a checker that answers a refusal has no choice.
 use Rattle.std.specs.Prelude.{ℕ, ◌≡◌}
 use Rattle.term_core.specs.Declarations.{Declarations}
 use Rattle.term_core.specs.declared.rules.Rule.{Rule}

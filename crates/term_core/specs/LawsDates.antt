@@ -1,4 +1,5 @@
--- The law of dates: a day has one text of the form `dddd-dd-dd`, and it is a day of the years 0001 to 9999.
+-- The laws of dates: a day has one text of the form `dddd-dd-dd`, and it is a day of the years 0001 to 9999. So the day
+-- of a text and the text of a day are inverse to each other.
 use Rattle.std.specs.Prelude.{ℕ, ℤ, pos, neg_ℤ, ◌≡◌, List, Some}
 use Rattle.jiff_core.specs.Calendar.{IsBetween}
 use Rattle.term_core.specs.Dates.{epoch_day_of}
