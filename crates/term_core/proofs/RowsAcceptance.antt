@@ -21,18 +21,31 @@ loan_is_accepted =
     let later = lowered_by 90 [] in
     record {
       sorts = first_failing-is (is_sorted with_fx) (sites Once loan);
-      times =
-        (tt
-        , (([], pos 0, refl, omega (arith, ints))
-        , (([], pos 0, refl, (pos 0, omega (arith, ints), tt, omega (arith, ints)))
-        , (tt
-        , ((later, pos 0, ([], refl, refl), omega (arith, ints))
-        , ((later, pos 0, ([], refl, refl), (pos 0, omega (arith, ints), tt, omega (arith, ints)))
-        , (([], pos 0, refl, (pos 0, omega (arith, ints), tt, omega (arith, ints)))
-        , (([], pos 0, refl, ((pos 0, omega (arith, ints), tt, omega (arith, ints)), (pos 0, omega (arith, ints), tt, omega (arith, ints)))), tt))))))));
+      times = (
+        tt,
+        (
+          ([], pos 0, refl, omega (arith, ints)),
+          (
+            ([], pos 0, refl, (pos 0, omega (arith, ints), tt, omega (arith, ints))),
+            (
+              tt,
+              (
+                (later, pos 0, ([], refl, refl), omega (arith, ints)),
+                (
+                  (later, pos 0, ([], refl, refl), (pos 0, omega (arith, ints), tt, omega (arith, ints))),
+                  (
+                    ([], pos 0, refl, (pos 0, omega (arith, ints), tt, omega (arith, ints))),
+                    (([], pos 0, refl, ((pos 0, omega (arith, ints), tt, omega (arith, ints)), (pos 0, omega (arith, ints), tt, omega (arith, ints)))), tt),
+                  ),
+                ),
+              ),
+            ),
+          ),
+        ),
+      );
       scales = first_failing-is (is_scaled with_fx) (sites Once loan);
       sizes = first_failing-is is_small (sites Once loan);
-      bounds = first_failing-is (is_bounded with_fx) (sites EachDay loan)
+      bounds = first_failing-is (is_bounded with_fx) (sites EachDay loan);
     }
 
 loan_facts : AreFacts with_fx loan (record { start = Some (pos 0); scale = 2; total = 20500; horizon = 91 })
@@ -41,7 +54,7 @@ loan_facts =
       right_start = (((pos 0, omega (arith, ints), tt, omega (arith, ints)), (pos 0, omega (arith, ints), tt, omega (arith, ints))), λ u h. omega (arith, ints));
       right_scale = refl;
       right_total = refl;
-      right_horizon = refl
+      right_horizon = refl;
     }
 
 nothing_starts_always : IsStart Zero None
@@ -53,9 +66,10 @@ unused_starts_always = λ t. (pos 9, omega (arith, ints), tt)
 
 -- after(4, let x = obs(FX, -4) in scale(round(half_even, 2, x), AB)): the `let` and the `scale` stand on day 4
 starts_on_day_4 : IsStart (After (Count 4) (Let (Obs 0 (neg_ℤ (pos 4))) (Scale (Round HalfEven 2 (Var 0)) pay_ab))) (Some (pos 4))
-starts_on_day_4 =
-    ((neg_ℤ (pos 4), omega (arith, ints), (pos 0, omega (arith, ints), omega (arith, ints), omega (arith, ints)))
-    , λ u h. omega (arith, ints))
+starts_on_day_4 = (
+  (neg_ℤ (pos 4), omega (arith, ints), (pos 0, omega (arith, ints), omega (arith, ints), omega (arith, ints))),
+  λ u h. omega (arith, ints),
+)
 
 -- if (obs(FX, 1) > 1.0000) within 2 then zero else zero
 test_of_tomorrow : FailsAt with_fx Time (Within (Cmp Greater (Obs 0 (pos 1)) (Lit (pos 10000) 4)) (Count 2) Zero Zero) 0

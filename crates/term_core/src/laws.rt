@@ -6,6 +6,7 @@ ghost use Rattle.term_core.specs.LawsResiduals.{CarriesComposes};
 ghost use Rattle.term_core.specs.LawsReads.{ReadsStayUpToUnfixed, AmountsAreFixed, ValuesDependOnReads, AmountsDependOnReads};
 ghost use Rattle.term_core.specs.LawsShifts.{ShiftsMoveTheDay};
 ghost use Rattle.term_core.specs.LawsAcceptance.{RefusalsAreUnique, AcceptedAreNotRefused};
+ghost use Rattle.term_core.specs.LawsInstances.{InstancesHaveNumbers, InstancesAreWellFormed, SettingsSuit, DefaultsSuit};
 ghost use Rattle.term_core.specs.LawsDates.{TextsOfDaysAreUnique, DaysOfTextsAreCivil};
 
 /// What one party pays, the other receives.
@@ -71,4 +72,24 @@ pub fn texts_of_days_are_unique()
 /// A text that has a day names one of the years 0001 to 9999, so each day that is read can be written.
 pub fn days_of_texts_are_civil()
     ensures { DaysOfTextsAreCivil }
+{}
+
+/// Each day count of an instance is a number.
+pub fn instances_have_numbers()
+    ensures { InstancesHaveNumbers }
+{}
+
+/// An instance of a well-formed contract is well formed.
+pub fn instances_are_well_formed()
+    ensures { InstancesAreWellFormed }
+{}
+
+/// A setting with a number for each template suits every well-formed contract.
+pub fn settings_suit()
+    ensures { SettingsSuit }
+{}
+
+/// The defaults are a number for each template.
+pub fn defaults_suit()
+    ensures { DefaultsSuit }
 {}

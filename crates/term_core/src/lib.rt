@@ -23,7 +23,8 @@ pub use label::Label;
 pub use laws::{
     accepted_are_not_refused, amounts_are_fixed, amounts_are_opposite, amounts_begin_at_zero,
     amounts_depend_on_reads, amounts_end_at_horizon, carries_composes, days_of_texts_are_civil,
-    reads_stay_up_to_unfixed, refusals_are_unique, shifts_move_the_day, texts_of_days_are_unique,
+    defaults_suit, instances_are_well_formed, instances_have_numbers, reads_stay_up_to_unfixed,
+    refusals_are_unique, settings_suit, shifts_move_the_day, texts_of_days_are_unique,
     values_depend_on_reads,
 };
 pub use name::Name;
