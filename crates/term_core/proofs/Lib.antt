@@ -14,6 +14,7 @@ pub mod ShiftFacts
 pub mod ResidualFacts
 mod RowsSample
 mod RowsFlows
+mod RowsValues
 mod RowsRules
 mod RowsAcceptance
 mod RowsReads
