@@ -7,6 +7,7 @@ ghost use Rattle.term_core.specs.LawsReads.{ReadsStayUpToUnfixed, AmountsAreFixe
 ghost use Rattle.term_core.specs.LawsShifts.{ShiftsMoveTheDay};
 ghost use Rattle.term_core.specs.LawsAcceptance.{RefusalsAreUnique, AcceptedAreNotRefused};
 ghost use Rattle.term_core.specs.LawsInstances.{InstancesHaveNumbers, InstancesAreWellFormed, SettingsSuit, DefaultsSuit};
+ghost use Rattle.term_core.specs.LawsTimes.{TimesMeanTyped};
 ghost use Rattle.term_core.specs.LawsDates.{TextsOfDaysAreUnique, DaysOfTextsAreCivil};
 
 /// What one party pays, the other receives.
@@ -92,4 +93,9 @@ pub fn settings_suit()
 /// The defaults are a number for each template.
 pub fn defaults_suit()
     ensures { DefaultsSuit }
+{}
+
+/// Each node has a type exactly where the closed contract has one.
+pub fn times_mean_typed()
+    ensures { TimesMeanTyped }
 {}
