@@ -1,15 +1,14 @@
 -- The rule on bounds by structure: intervals that are made one after another, up to the first node at fault, as code
 -- makes them, find the fault that the order of trial names, and else the interval of the model.
-use Rattle.std.proofs.Common.{◌≡◌, ℕ, zero, suc, ℤ, pos, ◌+◌, ◌-◌, max, Bool, true, false, ◌&&◌, if◌then◌else◌, List, [], ◌∷◌, ◌++◌, Option, Some, None, Result, Ok, Err, neg_ℤ, slice_get, refl, ap, sym, ◌∙◌, append_assoc, append-nil}
+use Rattle.std.proofs.Common.{◌≡◌, ℕ, zero, suc, pos, ◌+◌, ◌-◌, Bool, true, false, ◌&&◌, if◌then◌else◌, List, [], ◌∷◌, ◌++◌, Option, Some, None, Result, Ok, Err, neg_ℤ, slice_get, refl, ap, sym, ◌∙◌, append_assoc, append-nil}
 use Rattle.decimal.specs.Rounding.{raised, at_scale, divided}
 use Rattle.term_core.specs.Declarations.{Declarations}
-use Rattle.term_core.specs.declared.values.Kind.{Kind}
 use Rattle.term_core.specs.Terms.{Expression, Lit, Yes, Var, Obs, Neg, Num, Cmp, Not, Logic, Cond, Widen, Round, Div, Acc}
 use Rattle.term_core.specs.Environments.{label_of}
 use Rattle.term_core.specs.Kinds.{kind_of, scale_of, scale_of_kind}
 use Rattle.term_core.specs.Values.{kind_or}
 use Rattle.term_core.specs.Sizes.{nodes}
-use Rattle.term_core.specs.Sites.{Layer, Counting, Earlier, EachDay, Site, OfExpression, sites_of, days_tried, expression_at, first_failing}
+use Rattle.term_core.specs.Sites.{Layer, Counting, Earlier, EachDay, Site, sites_of, days_tried, expression_at, first_failing}
 use Rattle.term_core.specs.Bounds.{Interval, Range, range_kinds, single, lifted, swapped, hull, corners, aligned, of_op, interval_of_label, interval_of_range, interval_of, stepped, ranges_round, fits, fit_aligned, fit_operands, fit_divided, is_bounded}
 use Rattle.term_core.proofs.Trials.{or_else, first_failing-append}
 

@@ -1,5 +1,5 @@
 -- Days of the calendar.
-use Rattle.std.proofs.Common.{neg_ℤ, ◌≤ℤ◌, ◌≡◌, ◌≢◌, ℕ, ◌≤◌, ◌<◌, Bool, true, false, ◌&&◌, Some, pos, refl, sym, ap, ◌∙◌, arith}
+use Rattle.std.proofs.Common.{neg_ℤ, ◌≤ℤ◌, ◌≡◌, ℕ, ◌≤◌, true, Some, pos, refl, ap, ◌∙◌, arith}
 use Rattle.std.proofs.lemmas.Int.{ints, by_lt_z}
 use Rattle.jiff_core.proofs.SignedLemmas.{signed_arith}
 use Rattle.jiff_core.proofs.MarchLemmas.{day_count-early}
@@ -8,10 +8,10 @@ use Rattle.jiff_core.proofs.DateLemmas.{civil as civil_date}
 use Rattle.std.proofs.lemmas.Bool.Decides.{nat_tests}
 use Rattle.std.specs.Prelude.{ℤ, nat_le}
 use Rattle.std.specs.Int.{IsInRange}
-use Rattle.jiff_core.specs.Calendar.{day_count, days_from_civil, days_in_month}
+use Rattle.jiff_core.specs.Calendar.{day_count, days_in_month}
 use Rattle.jiff_core.specs.Date.{epoch_day, IsYmd}
 use Rattle.jiff_core.specs.declared.civil.date.Date.{Date}
-use Rattle.term_core.specs.Dates.{Parts, day_of, is_civil}
+use Rattle.term_core.specs.Dates.{day_of, is_civil}
 
 le-true : (a b : ℕ) → a ≤ b → nat_le a b ≡ true
 le-true a b h = grind (arith, nat_tests)

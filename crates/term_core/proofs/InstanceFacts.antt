@@ -4,9 +4,9 @@ use Rattle.term_core.specs.Declarations.{Declarations}
 use Rattle.term_core.specs.declared.name.Name.{Name}
 use Rattle.term_core.specs.declared.terms.Days.{Days}
 use Rattle.term_core.specs.declared.terms.Days.TheVariants.{Num as Count, Named}
-use Rattle.term_core.specs.Terms.{Contract, Zero, Pay, Both, Scale, After, Let, Within}
-use Rattle.term_core.specs.WellFormed.{IsDeclared, IsNumber, IsWellFormedContract, HasOnlyNumbers}
-use Rattle.term_core.specs.Instances.{instance, with_number, HasNumber, HasNumbers, declared_numbers}
+use Rattle.term_core.specs.Terms.{Zero, Pay, Both, Scale, After, Let, Within}
+use Rattle.term_core.specs.WellFormed.{IsDeclared, IsNumber}
+use Rattle.term_core.specs.Instances.{with_number, HasNumber}
 use Rattle.term_core.specs.LawsInstances.{InstancesHaveNumbers, InstancesAreWellFormed, SettingsSuit, DefaultsSuit}
 
 count_is_number : (xs : List ℕ) (n : Days) → IsNumber (with_number xs n)

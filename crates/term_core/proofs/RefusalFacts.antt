@@ -1,9 +1,8 @@
 -- Refusals: at most one, and none of an accepted contract.
-use Rattle.std.proofs.Common.{◌≡◌, ℕ, refl}
-use Rattle.term_core.specs.declared.rules.Rule.{Rule}
+use Rattle.std.proofs.Common.{refl}
 use Rattle.term_core.specs.declared.rules.Rule.TheVariants.{Sort, Time, Scale, Size, Bound}
 use Rattle.term_core.specs.Sites.{sites}
-use Rattle.term_core.specs.Acceptance.{Passes, trial_of, IsAccepted, IsRefusal}
+use Rattle.term_core.specs.Acceptance.{Passes, trial_of}
 use Rattle.term_core.specs.LawsAcceptance.{RefusalsAreUnique, AcceptedAreNotRefused}
 use Rattle.term_core.proofs.Trials.{FirstFault-unique, FirstFault-fails}
 

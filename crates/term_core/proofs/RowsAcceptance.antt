@@ -1,11 +1,11 @@
 -- Worked rows of acceptance: a loan is accepted, with its facts; starts of contracts, and a refusal.
-use Rattle.std.proofs.Common.{◌≡◌, ℕ, ℤ, pos, neg_ℤ, ◌≤ℤ◌, ◌-ℤ◌, List, [], ◌∷◌, Some, None, true, refl, inl, inr, arith}
+use Rattle.std.proofs.Common.{pos, neg_ℤ, [], Some, None, true, refl, inl, inr, arith}
 use Rattle.std.proofs.lemmas.Int.{ints}
 use Rattle.decimal.specs.declared.Mode.TheVariants.{HalfEven}
 use Rattle.term_core.specs.declared.terms.CmpOp.TheVariants.{Greater}
 use Rattle.term_core.specs.declared.terms.Days.TheVariants.{Num as Count}
-use Rattle.term_core.specs.declared.rules.Rule.TheVariants.{Sort, Time, Scale as ScaleRule}
-use Rattle.term_core.specs.Terms.{Expression, Lit, Yes, Var, Obs, Cmp, Round, Contract, Zero, Pay, Scale, After, Let, Within}
+use Rattle.term_core.specs.declared.rules.Rule.TheVariants.{Sort, Time}
+use Rattle.term_core.specs.Terms.{Lit, Yes, Var, Obs, Cmp, Round, Zero, Scale, After, Let, Within}
 use Rattle.term_core.specs.Sites.{Once, EachDay, sites}
 use Rattle.term_core.specs.Sorts.{is_sorted}
 use Rattle.term_core.specs.Times.{IsStart, lowered_by}

@@ -1,15 +1,15 @@
 -- Worked rows of values: one of each form of expression.
-use Rattle.std.proofs.Common.{◌≡◌, ℤ, pos, neg_ℤ, true, false, [], ◌∷◌, refl}
+use Rattle.std.proofs.Common.{◌≡◌, pos, neg_ℤ, true, false, [], refl}
 use Rattle.decimal.specs.Rounding.{at_scale, divided}
 use Rattle.decimal.specs.declared.Mode.TheVariants.{HalfEven}
 use Rattle.term_core.specs.declared.terms.NumOp.TheVariants.{Plus, Minus, Times, Min, Max}
-use Rattle.term_core.specs.declared.terms.CmpOp.TheVariants.{Less, LessEq, Greater, GreaterEq, Equal, Unequal}
+use Rattle.term_core.specs.declared.terms.CmpOp.TheVariants.{Less, LessEq, Greater, Equal}
 use Rattle.term_core.specs.declared.terms.LogicOp.TheVariants.{And, Or}
 use Rattle.term_core.specs.declared.values.Value.{Value}
 use Rattle.term_core.specs.declared.values.Value.TheVariants.{Num as Amount, Truth}
 use Rattle.term_core.specs.Terms.{Expression, Lit, Yes, Var, Obs, Neg, Num, Cmp, Not, Logic, Cond, Widen, Round, Div, Acc}
 use Rattle.term_core.specs.Values.{value_of}
-use Rattle.term_core.proofs.RowsSample.{with_fx, fx, level, sum_of_three}
+use Rattle.term_core.proofs.RowsSample.{with_fx, level, sum_of_three}
 
 -- the value on day 2, with FX at 1.0000 on the days 0 to 2
 abbrev value : Expression → Value

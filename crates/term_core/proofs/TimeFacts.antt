@@ -1,6 +1,5 @@
 -- The rule on times at every node, and the type of the whole.
-use Rattle.std.proofs.Common.{◌≡◌, ℕ, zero, suc, ℤ, pos, ◌-ℤ◌, ◌+◌, ◌↔◌, List, [], ◌∷◌, ◌++◌, refl, sym, subst}
-use Rattle.term_core.specs.Declarations.{Declarations}
+use Rattle.std.proofs.Common.{ℕ, zero, ℤ, pos, ◌-ℤ◌, ◌+◌, List, [], ◌∷◌, ◌++◌, refl, subst}
 use Rattle.term_core.specs.declared.rules.Rule.TheVariants.{Time}
 use Rattle.term_core.specs.Terms.{Expression, Lit, Yes, Var, Obs, Neg, Num, Cmp, Not, Logic, Cond, Widen, Round, Div, Acc}
 use Rattle.term_core.specs.Terms.{Contract, Zero, Pay, Both, Scale, After, Let, Within}

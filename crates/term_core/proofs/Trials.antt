@@ -1,6 +1,6 @@
 -- The order of trial against code that goes by structure: the first fault of one list after another, and the first
 -- fault by a test that computes.
-use Rattle.std.proofs.Common.{◌≡◌, ℕ, Bool, true, false, cond, List, [], ◌∷◌, ◌++◌, Option, Some, None, if◌then◌else◌, IsTrue, refl, ap, sym, subst, ◌∙◌, inl, inr, ◌⊎◌}
+use Rattle.std.proofs.Common.{◌≡◌, ℕ, Bool, true, false, List, [], ◌∷◌, ◌++◌, Option, Some, None, if◌then◌else◌, IsTrue, refl, ap, sym, ◌∙◌, inl, inr}
 use Rattle.term_core.specs.Sites.{Site, AllPass, FirstFault, first_failing}
 
 -- what is found first, or else the other

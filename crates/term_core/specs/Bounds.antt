@@ -3,7 +3,6 @@
 use Rattle.std.specs.Prelude.{ℕ, zero, suc, ℤ, pos, ◌+ℤ◌, ◌-ℤ◌, ◌*ℤ◌, neg_ℤ, int_lt, ◌+◌, ◌-◌, ◌*◌, ◌^◌, max, ◌&&◌, not, Bool, true, List, [], ◌∷◌, Option, Some, None, slice_get, unsigned_abs, nat_le, map}
 use Rattle.std.specs.Int.{int_min, int_max}
 use Rattle.decimal.specs.Rounding.{raised, at_scale, divided}
-use Rattle.decimal.specs.declared.Mode.{Mode}
 use Rattle.term_core.specs.Declarations.{Declarations}
 use Rattle.term_core.specs.declared.label.Label.{Label}
 use Rattle.term_core.specs.declared.label.Label.TheVariants.{Number as NumberLabel, Flag}

@@ -1,7 +1,6 @@
 -- How large a term is: its nodes and its height, how far it reaches into the days to come and into the past, and how
 -- many steps it takes to evaluate; and the rule on sizes.
-use Rattle.std.specs.Prelude.{ℕ, suc, ℤ, pos, negsuc, ◌+◌, ◌-◌, ◌*◌, min, max, ◌&&◌, Bool, true, nat_le}
-use Rattle.term_core.specs.declared.terms.Days.{Days}
+use Rattle.std.specs.Prelude.{ℕ, suc, ℤ, pos, negsuc, ◌+◌, ◌-◌, ◌*◌, min, max}
 use Rattle.term_core.specs.Flows.{count_of}
 use Rattle.term_core.specs.Terms.{Expression, Lit, Yes, Var, Obs, Neg, Num, Cmp, Not, Logic, Cond, Widen, Round, Div, Acc, Contract, Zero, Pay, Both, Scale, After, Let, Within}
 
