@@ -2,6 +2,7 @@ pub mod DateFacts
 pub mod Trials
 pub mod RefusalFacts
 pub mod TimeFacts
+pub mod KindFacts
 pub mod InstanceFacts
 pub mod BoundTrials
 pub mod DateTextFacts

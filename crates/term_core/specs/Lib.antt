@@ -25,6 +25,7 @@ pub mod Redexes
 pub mod Factors
 pub mod Dates
 pub mod LawsFlows
+pub mod LawsKinds
 pub mod LawsTimes
 pub mod LawsInstances
 pub mod LawsDates

@@ -8,6 +8,7 @@ ghost use Rattle.term_core.specs.LawsShifts.{ShiftsMoveTheDay};
 ghost use Rattle.term_core.specs.LawsAcceptance.{RefusalsAreUnique, AcceptedAreNotRefused};
 ghost use Rattle.term_core.specs.LawsInstances.{InstancesHaveNumbers, InstancesAreWellFormed, SettingsSuit, DefaultsSuit};
 ghost use Rattle.term_core.specs.LawsTimes.{TimesMeanTyped};
+ghost use Rattle.term_core.specs.LawsKinds.{ValuesHaveKinds};
 ghost use Rattle.term_core.specs.LawsDates.{TextsOfDaysAreUnique, DaysOfTextsAreCivil};
 
 /// What one party pays, the other receives.
@@ -98,4 +99,9 @@ pub fn defaults_suit()
 /// Each node has a type exactly where the closed contract has one.
 pub fn times_mean_typed()
     ensures { TimesMeanTyped }
+{}
+
+/// An expression that has a kind has a value of it.
+pub fn values_have_kinds()
+    ensures { ValuesHaveKinds }
 {}
