@@ -1,12 +1,12 @@
 -- Two computations that read places are alike if they read the same up to the first place that fails a test, and have
 -- equal results where none fails. One step for each shape of a definition; the definitions are taken apart by them.
-use Rattle.std.proofs.Common.{◌≡◌, ℕ, zero, suc, Bool, true, false, ◌&&◌, not, if◌then◌else◌, List, [], ◌∷◌, ◌++◌, Option, Some, None, refl, ap, ap₂, sym, subst, ◌∙◌, append_assoc, append-nil, is_some}
+use Rattle.std.proofs.Common.{◌≡◌, ℕ, zero, suc, Bool, true, false, ◌&&◌, if◌then◌else◌, List, [], ◌∷◌, ◌++◌, refl, ap, ap₂, sym, subst, ◌∙◌, append_assoc, append-nil}
 use Rattle.std.specs.List.{list_all}
 use Rattle.term_core.specs.declared.terms.LogicOp.{LogicOp}
 use Rattle.term_core.specs.declared.terms.LogicOp.TheVariants.{And, Or}
 use Rattle.term_core.specs.declared.values.Kind.{Kind}
 use Rattle.term_core.specs.Environments.{Place}
-use Rattle.term_core.specs.Values.{first_of, logic_op}
+use Rattle.term_core.specs.Values.{logic_op}
 use Rattle.term_core.specs.Reads.{up_to_first, decides, steps_before}
 
 pub record Alike (A : Type 0) (ok : Place → Bool) (xs : List Place) (v : A) (ys : List Place) (w : A) : Type 0 where

@@ -1,6 +1,6 @@
 -- Contracts in two environments that read equally at every place that passes a test: they read the same up to the first
 -- place that fails it, and where none fails before a day they pay the same up to it.
-use Rattle.std.proofs.Common.{◌≡◌, ℕ, zero, suc, ℤ, pos, negsuc, ◌+ℤ◌, ◌-ℤ◌, ◌*ℤ◌, neg_ℤ, ◌<ℤ◌, ◌≤ℤ◌, ◌≤◌, ◌<◌, ◌+◌, ◌-◌, min, max, Bool, true, false, ◌&&◌, ◌||◌, not, ◌==◌, if◌then◌else◌, int_lt, refl, ap, ap₂, sym, subst, ◌∙◌, Some, None, Option, List, [], ◌∷◌, ◌++◌, inl, inr, ◌⊎◌, arith}
+use Rattle.std.proofs.Common.{◌≡◌, ℕ, zero, suc, ℤ, pos, negsuc, ◌+ℤ◌, ◌-ℤ◌, ◌*ℤ◌, ◌<ℤ◌, ◌≤ℤ◌, ◌<◌, ◌-◌, min, max, Bool, true, false, ◌&&◌, ◌||◌, not, ◌==◌, if◌then◌else◌, int_lt, refl, ap, ap₂, sym, subst, ◌∙◌, Some, None, Option, List, [], ◌∷◌, ◌++◌, inl, inr, ◌⊎◌, arith}
 use Rattle.std.proofs.Math.IntN.{*ℤ-zero}
 use Rattle.std.proofs.lemmas.Int.{ints}
 use Rattle.std.proofs.lemmas.Bool.{cases_lt}
@@ -12,7 +12,7 @@ use Rattle.term_core.specs.declared.values.Kind.{Kind}
 use Rattle.term_core.specs.declared.values.Value.{Value}
 use Rattle.term_core.specs.Terms.{Expression, Contract, Zero, Pay, Both, Scale, After, Let, Within}
 use Rattle.term_core.specs.Environments.{Environment, Place}
-use Rattle.term_core.specs.Kinds.{kind_of, scale_of}
+use Rattle.term_core.specs.Kinds.{kind_of}
 use Rattle.term_core.specs.Values.{Entry, kinds, num, truth, kind_or, value_of, first_of, first_true}
 use Rattle.term_core.specs.Flows.{Flow, flow_of, count_of, unit_flow, on_day_zero, scale_of_contract}
 use Rattle.term_core.specs.Reads.{reads_of, reads_of_contract, live, upto, tested, up_to_first}

@@ -1,5 +1,5 @@
 -- Days of the calendar.
-use Rattle.std.proofs.Common.{neg_ℤ, ◌≤ℤ◌, ◌≡◌, ◌≢◌, ℕ, ◌≤◌, ◌<◌, Bool, true, false, ◌&&◌, Some, pos, refl, sym, ap, ◌∙◌, arith}
+use Rattle.std.proofs.Common.{neg_ℤ, ◌≤ℤ◌, ◌≡◌, ℕ, ◌≤◌, true, Some, pos, refl, ap, ◌∙◌, arith}
 use Rattle.std.proofs.lemmas.Int.{ints, by_lt_z}
 use Rattle.jiff_core.proofs.SignedLemmas.{signed_arith}
 use Rattle.jiff_core.proofs.MarchLemmas.{day_count-early}
@@ -8,10 +8,10 @@ use Rattle.jiff_core.proofs.DateLemmas.{civil as civil_date}
 use Rattle.std.proofs.lemmas.Bool.Decides.{nat_tests}
 use Rattle.std.specs.Prelude.{ℤ, nat_le}
 use Rattle.std.specs.Int.{IsInRange}
-use Rattle.jiff_core.specs.Calendar.{day_count, days_from_civil, days_in_month}
+use Rattle.jiff_core.specs.Calendar.{day_count, days_in_month}
 use Rattle.jiff_core.specs.Date.{epoch_day, IsYmd}
 use Rattle.jiff_core.specs.declared.civil.date.Date.{Date}
-use Rattle.term_core.specs.Dates.{Parts, day_of, is_civil}
+use Rattle.term_core.specs.Dates.{day_of, is_civil}
 
 le-true : (a b : ℕ) → a ≤ b → nat_le a b ≡ true
 le-true a b h = grind (arith, nat_tests)
@@ -27,7 +27,7 @@ day_is y m d date r year is number =
     let ok = civil y m d year (rw month at date.month_in) (rw (is.0, month, day) at date.day_in) in
     rw ok (ap (λ z. Some z) (number ∙ rw (is.0, month, day) refl))
 
-first_day : day_count (pos 1) 1 1 ≡ 3_652_791
+pub first_day : day_count (pos 1) 1 1 ≡ 3_652_791
 first_day = day_count-early (pos 1) 10000 1 1 refl (omega arith) (omega arith) (omega arith)
 
 -- a day from 0001-01-01 on is of a year from 1 on

@@ -1,9 +1,9 @@
 -- The first day on which a test is true, among more days and among fewer.
-use Rattle.std.proofs.Common.{◌≡◌, ℕ, zero, suc, ℤ, pos, ◌≤◌, ◌<◌, min, Bool, true, false, if◌then◌else◌, List, [], ◌∷◌, ◌++◌, Option, Some, None, refl, ap, sym, subst, ◌∙◌, is_some, inl, inr, ◌⊎◌, arith, eq-or-lt_of_le, append-nil}
+use Rattle.std.proofs.Common.{◌≡◌, ℕ, zero, suc, pos, ◌≤◌, ◌<◌, min, Bool, true, false, if◌then◌else◌, List, [], ◌++◌, Option, Some, None, refl, ap, sym, subst, ◌∙◌, is_some, inl, inr, ◌⊎◌, arith, eq-or-lt_of_le, append-nil}
 use Rattle.std.proofs.lemmas.Bool.{cases_lt}
 use Rattle.term_core.specs.Environments.{Place}
 use Rattle.term_core.specs.Values.{first_of}
-use Rattle.term_core.specs.Reads.{steps_before, upto, tested}
+use Rattle.term_core.specs.Reads.{upto, tested}
 use Rattle.term_core.proofs.FlowFacts.{first_within}
 use Rattle.term_core.proofs.AlikeFacts.{Alike, then_alike, same_alike, other_alike}
 

@@ -1,15 +1,15 @@
 -- Flows: opposite ways, and the days on which there are none.
-use Rattle.std.proofs.Common.{◌≡◌, ℕ, zero, suc, ℤ, pos, negsuc, ◌+ℤ◌, ◌-ℤ◌, ◌*ℤ◌, neg_ℤ, ◌<ℤ◌, ◌≤ℤ◌, ◌≤◌, ◌<◌, ◌+◌, ◌-◌, ◌*◌, ◌^◌, max, Bool, true, false, ◌&&◌, not, ◌==◌, if◌then◌else◌, refl, ap, sym, subst, ◌∙◌, Some, None, Option, List, [], ◌∷◌, mul-zero, zero-mul, inl, inr, ◌⊎◌, arith, int_eq}
+use Rattle.std.proofs.Common.{◌≡◌, ℕ, zero, suc, ℤ, pos, negsuc, ◌+ℤ◌, ◌-ℤ◌, ◌*ℤ◌, neg_ℤ, ◌<ℤ◌, ◌≤ℤ◌, ◌≤◌, ◌<◌, ◌-◌, ◌*◌, ◌^◌, max, Bool, true, false, ◌&&◌, not, ◌==◌, if◌then◌else◌, refl, ap, sym, ◌∙◌, Some, None, Option, List, [], ◌∷◌, mul-zero, inl, inr, ◌⊎◌, arith, int_eq}
 use Rattle.std.proofs.Math.IntN.{neg_ℤ-neg_ℤ, neg_ℤ-+ℤ, *ℤ_comm, zero-*ℤ, *ℤ-zero}
 use Rattle.std.proofs.lemmas.Int.{ints, by_lt_z}
 use Rattle.std.proofs.lemmas.Bool.Decides.{nat_tests}
 use Rattle.decimal.specs.Rounding.{raised}
 use Rattle.term_core.specs.Declarations.{Declarations}
-use Rattle.term_core.specs.Terms.{Expression, Contract, Zero, Pay, Both, Scale, After, Let, Within}
+use Rattle.term_core.specs.Terms.{Contract, Zero, Pay, Both, Scale, After, Let, Within}
 use Rattle.term_core.specs.Environments.{Environment}
 use Rattle.term_core.specs.Kinds.{kind_of}
 use Rattle.term_core.specs.Values.{Entry, kinds, num, kind_or, value_of, first_of, first_true}
-use Rattle.term_core.specs.Flows.{Flow, flow_of, amount_of, count_of, unit_flow, on_day_zero, scale_of_contract}
+use Rattle.term_core.specs.Flows.{Flow, flow_of, count_of, unit_flow, on_day_zero, scale_of_contract}
 use Rattle.term_core.specs.Horizons.{delayed, horizon_of}
 use Rattle.term_core.specs.LawsFlows.{reversed, AmountsAreOpposite, AmountsEndAtHorizon, AmountsBeginAtZero}
 

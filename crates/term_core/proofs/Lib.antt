@@ -1,5 +1,11 @@
 pub mod DateFacts
 pub mod Trials
+pub mod RefusalFacts
+pub mod TimeFacts
+pub mod KindFacts
+pub mod InstanceFacts
+pub mod BoundTrials
+pub mod DateTextFacts
 pub mod FlowFacts
 pub mod AlikeFacts
 pub mod ReadFacts
@@ -10,6 +16,8 @@ pub mod ShiftFacts
 pub mod ResidualFacts
 mod RowsSample
 mod RowsFlows
+mod RowsValues
 mod RowsRules
+mod RowsAcceptance
 mod RowsReads
 mod RowsRedexes

@@ -1,6 +1,6 @@
 -- Expressions in two environments that read equally at every place that passes a test: they read the same up to the
 -- first place that fails it, and have equal values where none does.
-use Rattle.std.proofs.Common.{◌≡◌, ℕ, zero, suc, ℤ, pos, ◌+ℤ◌, ◌-ℤ◌, neg_ℤ, ◌-◌, max, Bool, true, false, ◌&&◌, not, if◌then◌else◌, List, [], ◌∷◌, ◌++◌, Option, Some, None, refl, ap, sym, subst, ◌∙◌, slice_get}
+use Rattle.std.proofs.Common.{◌≡◌, ℕ, zero, suc, ℤ, pos, ◌+ℤ◌, ◌-ℤ◌, neg_ℤ, max, Bool, true, not, List, [], ◌∷◌, ◌++◌, refl, ap, subst, slice_get}
 use Rattle.decimal.specs.Rounding.{at_scale, divided}
 use Rattle.term_core.specs.Declarations.{Declarations}
 use Rattle.term_core.specs.declared.values.Kind.{Kind}
@@ -9,9 +9,9 @@ use Rattle.term_core.specs.declared.values.Value.TheVariants.{Num as Amount, Tru
 use Rattle.term_core.specs.Terms.{Expression, Lit, Yes, Var, Obs, Neg, Num, Cmp, Not, Logic, Cond, Widen, Round, Div, Acc}
 use Rattle.term_core.specs.Environments.{Environment, Place, observed}
 use Rattle.term_core.specs.Kinds.{kind_of, scale_of, scale_of_kind}
-use Rattle.term_core.specs.Values.{Entry, kinds, num, truth, value_of_entry, of_num, of_cmp, logic_op, widened, kind_or, value_of, days_run}
-use Rattle.term_core.specs.Reads.{decides, reads_of, places_or, steps_before}
-use Rattle.term_core.proofs.AlikeFacts.{Alike, and_left, then_alike, same_alike, one_alike, two_alike, other_alike, choice_alike, side_alike, days_alike}
+use Rattle.term_core.specs.Values.{Entry, kinds, num, truth, value_of_entry, of_num, of_cmp, widened, kind_or, value_of, days_run}
+use Rattle.term_core.specs.Reads.{reads_of, places_or, steps_before}
+use Rattle.term_core.proofs.AlikeFacts.{Alike, and_left, then_alike, same_alike, one_alike, two_alike, choice_alike, side_alike, days_alike}
 
 -- two environments read equally at every place that passes
 abbrev pub SameWhere : Declarations → (Place → Bool) → Environment → Environment → Type 0

@@ -1,5 +1,5 @@
 -- The laws of reads.
-use Rattle.std.proofs.Common.{◌≡◌, ℕ, zero, suc, ℤ, pos, ◌≤ℤ◌, ◌≤◌, Bool, true, false, ◌&&◌, ◌||◌, ◌==◌, if◌then◌else◌, int_eq, ◌-◌, refl, ap, ap₂, sym, subst, ◌∙◌, Some, None, Option, is_some, List, [], ◌∷◌, All, arith, slice_get}
+use Rattle.std.proofs.Common.{◌≡◌, ℕ, ℤ, pos, Bool, true, false, ◌||◌, ◌==◌, if◌then◌else◌, int_eq, ◌-◌, refl, ap, ap₂, sym, subst, Some, None, Option, is_some, List, [], ◌∷◌, arith, slice_get}
 use Rattle.std.proofs.lemmas.Int.{ints}
 use Rattle.std.proofs.lemmas.Bool.Decides.{Decides-eqb, Decides-int_eq}
 use Rattle.std.proofs.lemmas.List.Elements.{All-head, All-tail}
@@ -8,9 +8,9 @@ use Rattle.decimal.specs.Rounding.{raised}
 use Rattle.term_core.specs.Declarations.{Declarations}
 use Rattle.term_core.specs.declared.values.Value.{Value}
 use Rattle.term_core.specs.Environments.{Environment, Place, held, observed, value_or, least, label_of, same_place, Extends}
-use Rattle.term_core.specs.Values.{Entry, value_of_entry}
+use Rattle.term_core.specs.Values.{value_of_entry}
 use Rattle.term_core.specs.Flows.{scale_of_contract}
-use Rattle.term_core.specs.Reads.{reads_of, reads_of_contract, is_fixed, first_unfixed, up_to_first}
+use Rattle.term_core.specs.Reads.{reads_of, reads_of_contract, is_fixed, first_unfixed}
 use Rattle.term_core.specs.LawsReads.{ReadsStayUpToUnfixed, AmountsAreFixed, AgreeAt, ValuesDependOnReads, AmountsDependOnReads}
 use Rattle.term_core.proofs.AlikeFacts.{same_alike, and_left, and_right}
 use Rattle.term_core.proofs.ReadFacts.{SameWhere, SameNames, reads_alike}

@@ -1,7 +1,7 @@
 -- Residuals of residuals.
 use Rattle.std.proofs.Common.{◌≡◌, ℕ, ℤ, pos, ◌+◌, ◌+ℤ◌, sym, subst, ap, ◌∙◌, add_assoc, Contains, []}
 use Rattle.std.proofs.Math.IntN.{+ℤ_assoc}
-use Rattle.term_core.specs.Environments.{Environment, Place, Extends}
+use Rattle.term_core.specs.Environments.{Environment, Extends}
 use Rattle.term_core.specs.Flows.{amount_of}
 use Rattle.term_core.specs.Reads.{reads_of_contract}
 use Rattle.term_core.specs.LawsResiduals.{CarriesComposes}

@@ -1,13 +1,10 @@
 -- Worked rows of flows: a loan, a touch, an average and the roundings.
-use Rattle.std.proofs.Common.{◌≡◌, ℕ, ℤ, pos, neg_ℤ, negsuc, [], refl}
+use Rattle.std.proofs.Common.{◌≡◌, ℤ, pos, neg_ℤ, negsuc, [], refl}
 use Rattle.decimal.specs.Rounding.{at_scale, divided}
 use Rattle.decimal.specs.declared.Mode.{Mode}
 use Rattle.decimal.specs.declared.Mode.TheVariants.{HalfEven, HalfAway, Floor, Ceil}
-use Rattle.term_core.specs.declared.terms.NumOp.TheVariants.{Plus}
-use Rattle.term_core.specs.declared.terms.Days.TheVariants.{Num as Count}
 use Rattle.term_core.specs.declared.values.Value.TheVariants.{Num as Amount}
-use Rattle.term_core.specs.Terms.{Lit, Yes, Var, Obs, Num, Div, Round, Acc, Pay, Scale, Within}
-use Rattle.term_core.specs.Environments.{Environment}
+use Rattle.term_core.specs.Terms.{Lit, Var, Div, Round, Acc, Pay, Scale}
 use Rattle.term_core.specs.Values.{value_of}
 use Rattle.term_core.specs.Flows.{amount_of}
 use Rattle.term_core.specs.Horizons.{horizon_of}

@@ -1,14 +1,13 @@
 -- Worked rows of reads: which places a contract reads, in order, and the first that is not fixed.
-use Rattle.std.proofs.Common.{true, ◌≡◌, ℕ, ℤ, pos, List, [], ◌∷◌, ◌++◌, Some, None, refl}
-use Rattle.decimal.specs.Rounding.{at_scale}
+use Rattle.std.proofs.Common.{true, ◌≡◌, ℤ, pos, [], ◌∷◌, Some, None, refl}
 use Rattle.decimal.specs.declared.Mode.TheVariants.{HalfEven}
 use Rattle.term_core.specs.declared.label.Label.TheVariants.{Flag}
 use Rattle.term_core.specs.declared.terms.Days.TheVariants.{Num as Count}
 use Rattle.term_core.specs.declared.values.Value.TheVariants.{Truth}
-use Rattle.term_core.specs.Terms.{Lit, Yes, Obs, Round, Contract, Pay, Scale, After, Within}
+use Rattle.term_core.specs.Terms.{Lit, Yes, Obs, Round, Contract, Scale, After, Within}
 use Rattle.term_core.specs.Environments.{Environment, Place}
 use Rattle.term_core.specs.Reads.{reads_of_contract, first_unfixed, upto}
-use Rattle.term_core.proofs.RowsSample.{with_labels, with_fx, pay_ab, pay_ba, touch, fx, level, average}
+use Rattle.term_core.proofs.RowsSample.{with_labels, with_fx, pay_ab, pay_ba, touch, level, average}
 
 abbrev at : ℤ → Place
 at day = record { label = 0; day = day }

@@ -1,5 +1,5 @@
 -- One redex of each kind, and beside each a term that is none.
-use Rattle.std.proofs.Common.{◌≡◌, ℤ, pos, Bool, true, false, [], ◌∷◌, Option, Some, None, refl}
+use Rattle.std.proofs.Common.{◌≡◌, ℤ, pos, Bool, true, false, Option, Some, None, refl}
 use Rattle.term_core.specs.declared.terms.NumOp.TheVariants.{Plus}
 use Rattle.term_core.specs.declared.terms.LogicOp.TheVariants.{And}
 use Rattle.term_core.specs.declared.terms.Days.TheVariants.{Num as Count}

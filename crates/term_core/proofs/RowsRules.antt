@@ -1,22 +1,22 @@
 -- Worked rows of the rules: which node is at fault, the start, the total and the work.
-use Rattle.std.proofs.Common.{true, ◌≡◌, ℕ, ℤ, pos, neg_ℤ, ◌≤ℤ◌, ◌-ℤ◌, ◌+◌, ◌*◌, ◌^◌, List, [], ◌∷◌, Some, None, refl, subst, sym, ap, ◌∙◌, inl, inr, arith, slice_get}
+use Rattle.std.proofs.Common.{true, ◌≡◌, ℕ, ℤ, pos, neg_ℤ, ◌≤ℤ◌, ◌-ℤ◌, ◌+◌, ◌^◌, List, [], ◌∷◌, Some, None, refl, subst, ap, ◌∙◌, inl, inr, arith, slice_get}
 use Rattle.std.proofs.lemmas.Int.{ints}
-use Rattle.decimal.specs.Rounding.{at_scale, divided}
+use Rattle.decimal.specs.Rounding.{divided}
 use Rattle.decimal.specs.declared.Mode.TheVariants.{HalfEven}
 use Rattle.term_core.specs.declared.label.Label.TheVariants.{Number}
 use Rattle.term_core.specs.declared.terms.NumOp.TheVariants.{Plus}
 use Rattle.term_core.specs.declared.terms.CmpOp.TheVariants.{Greater}
 use Rattle.term_core.specs.declared.terms.Days.TheVariants.{Num as Count}
 use Rattle.term_core.specs.declared.rules.Rule.TheVariants.{Time}
-use Rattle.term_core.specs.Terms.{Expression, Lit, Yes, Var, Obs, Num, Cmp, Div, Round, Acc, Contract, Zero, Pay, Scale, After, Let, Within}
+use Rattle.term_core.specs.Terms.{Lit, Yes, Var, Obs, Num, Cmp, Div, Round, Acc, Contract, Zero, Scale, After, Within}
 use Rattle.term_core.specs.Sizes.{work_of_contract}
-use Rattle.term_core.specs.Sites.{Layer, Later, Naming, OfContract, Once, EachDay, sites, first_failing}
+use Rattle.term_core.specs.Sites.{Later, Naming, OfContract, Once, EachDay, sites, first_failing}
 use Rattle.term_core.specs.Sorts.{is_sorted}
-use Rattle.term_core.specs.Times.{PartIsTimed, Typed, TypedContract, AtMost, IsStart, lowered_by}
+use Rattle.term_core.specs.Times.{PartIsTimed, AtMost, IsStart, lowered_by}
 use Rattle.term_core.specs.Scales.{is_scaled}
 use Rattle.term_core.specs.Smallness.{is_small}
 use Rattle.term_core.specs.Bounds.{is_bounded, aligned_total}
-use Rattle.term_core.specs.Acceptance.{Meets, FailsAt}
+use Rattle.term_core.specs.Acceptance.{FailsAt}
 use Rattle.term_core.proofs.RowsSample.{with_labels, with_fx, pay_ab, average, later_rate, loan}
 
 -- scale(true, AB)

@@ -1,10 +1,10 @@
 -- Declarations and contracts of the worked rows: parties A, B and C are 0, 1 and 2, the asset EUR is 0, and the
 -- observable FX, of 4 decimals from 0.5000 to 2.0000, is label 0.
-use Rattle.std.proofs.Common.{ℕ, ℤ, pos, neg_ℤ, List, [], ◌∷◌, None, codes}
+use Rattle.std.proofs.Common.{ℕ, ℤ, pos, [], ◌∷◌, None, codes}
 use Rattle.decimal.specs.declared.Mode.TheVariants.{HalfEven}
 use Rattle.term_core.specs.Declarations.{Declarations}
 use Rattle.term_core.specs.declared.label.Label.{Label}
-use Rattle.term_core.specs.declared.label.Label.TheVariants.{Number, Flag}
+use Rattle.term_core.specs.declared.label.Label.TheVariants.{Number}
 use Rattle.term_core.specs.declared.terms.NumOp.TheVariants.{Plus}
 use Rattle.term_core.specs.declared.terms.CmpOp.TheVariants.{Greater}
 use Rattle.term_core.specs.declared.terms.Days.TheVariants.{Num as Count}

@@ -1,5 +1,5 @@
 -- Shifted expressions: equal kinds, and the value of another day.
-use Rattle.std.proofs.Common.{◌≡◌, ℕ, zero, suc, ℤ, pos, ◌+ℤ◌, ◌-ℤ◌, neg_ℤ, ◌-◌, max, Bool, true, false, not, if◌then◌else◌, List, [], ◌∷◌, Option, Some, None, refl, ap, ap₂, sym, subst, ◌∙◌, arith}
+use Rattle.std.proofs.Common.{◌≡◌, ℕ, zero, suc, ℤ, pos, ◌+ℤ◌, ◌-ℤ◌, neg_ℤ, max, not, if◌then◌else◌, List, ◌∷◌, Option, Some, None, refl, ap, ap₂, subst, ◌∙◌, arith}
 use Rattle.std.proofs.lemmas.Int.{ints}
 use Rattle.decimal.specs.Rounding.{at_scale, divided}
 use Rattle.term_core.specs.Declarations.{Declarations}
@@ -8,7 +8,7 @@ use Rattle.term_core.specs.declared.values.Kind.TheVariants.{Truth as TruthKind,
 use Rattle.term_core.specs.declared.values.Value.{Value}
 use Rattle.term_core.specs.declared.values.Value.TheVariants.{Num as Amount, Truth}
 use Rattle.term_core.specs.Terms.{Expression, Lit, Yes, Var, Obs, Neg, Num, Cmp, Not, Logic, Cond, Widen, Round, Div, Acc}
-use Rattle.term_core.specs.Environments.{Environment, observed}
+use Rattle.term_core.specs.Environments.{observed}
 use Rattle.term_core.specs.Kinds.{kind_of, scale_of, scale_or_zero, scale_of_kind, on_number, on_numbers, on_truth, joined, of_acc, scale_of_op}
 use Rattle.term_core.specs.Values.{Entry, kinds, num, truth, of_num, of_cmp, logic_op, widened, kind_or, value_of, days_run}
 use Rattle.term_core.specs.Shifts.{shifted}

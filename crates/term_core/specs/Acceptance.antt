@@ -1,6 +1,6 @@
 -- Which contracts are accepted: those that meet the rules on sorts, times, scales, sizes and bounds, in this order. A
 -- contract is refused with the first rule that fails anywhere, at the first node in the order of trial where it fails.
-use Rattle.std.specs.Prelude.{ℕ, ℤ, ◌≡◌, List, [], Option, IsTrue}
+use Rattle.std.specs.Prelude.{ℕ, ℤ, ◌≡◌, [], Option, IsTrue}
 use Rattle.term_core.specs.Declarations.{Declarations}
 use Rattle.term_core.specs.declared.rules.Rule.{Rule}
 use Rattle.term_core.specs.declared.rules.Rule.TheVariants.{Sort, Time, Scale, Size, Bound}

@@ -1,4 +1,5 @@
--- A portfolio by its contents: its declarations, and its contracts by name in their order.
+-- A portfolio by its contents: its declarations, and its contracts by name in their order. Where maps and boxes lie in
+-- memory is left out, so two portfolios with equal contents are equal here.
 use Rattle.std.specs.Prelude.{List, map}
 use Rattle.term_core.specs.declared.name.Name.{Name}
 use Rattle.term_core.specs.declared.portfolio.Portfolio.{Portfolio}

@@ -3,7 +3,6 @@
 use Rattle.std.specs.Prelude.{ℕ, zero, suc, ℤ, pos, ◌+ℤ◌, ◌-ℤ◌, ◌*ℤ◌, neg_ℤ, int_lt, ◌+◌, ◌-◌, ◌*◌, ◌^◌, max, ◌&&◌, not, Bool, true, List, [], ◌∷◌, Option, Some, None, slice_get, unsigned_abs, nat_le, map}
 use Rattle.std.specs.Int.{int_min, int_max}
 use Rattle.decimal.specs.Rounding.{raised, at_scale, divided}
-use Rattle.decimal.specs.declared.Mode.{Mode}
 use Rattle.term_core.specs.Declarations.{Declarations}
 use Rattle.term_core.specs.declared.label.Label.{Label}
 use Rattle.term_core.specs.declared.label.Label.TheVariants.{Number as NumberLabel, Flag}
@@ -122,6 +121,11 @@ fits i = nat_le (unsigned_abs i.low) greatest_mantissa && nat_le (unsigned_abs i
 abbrev pub fit_aligned : ℕ → Interval → ℕ → Interval → Bool
 fit_aligned a i b j = fits (aligned a b i) && fits (aligned b a j)
 
+-- the operands of an operator; a product aligns none
+abbrev pub fit_operands : NumOp → ℕ → Interval → ℕ → Interval → Bool
+fit_operands Times a i b j = true
+fit_operands op a i b j = fit_aligned a i b j
+
 abbrev pub has_zero : Interval → Bool
 has_zero i = not (int_lt (pos 0) i.low) && not (int_lt i.high (pos 0))
 
@@ -133,8 +137,7 @@ fit_divided a i b j s =
 
 -- what an operator asks of the intervals of its operands
 abbrev pub operands_fit : Declarations → List Range → Expression → Bool
-operands_fit d g (Num Times a b) = true
-operands_fit d g (Num op a b) = fit_aligned (scale_of d a (range_kinds g)) (interval_of d a g) (scale_of d b (range_kinds g)) (interval_of d b g)
+operands_fit d g (Num op a b) = fit_operands op (scale_of d a (range_kinds g)) (interval_of d a g) (scale_of d b (range_kinds g)) (interval_of d b g)
 operands_fit d g (Cmp op a b) = fit_aligned (scale_of d a (range_kinds g)) (interval_of d a g) (scale_of d b (range_kinds g)) (interval_of d b g)
 operands_fit d g (Cond t a b) = fit_aligned (scale_of d a (range_kinds g)) (interval_of d a g) (scale_of d b (range_kinds g)) (interval_of d b g)
 operands_fit d g (Div mode s a b) = fit_divided (scale_of d a (range_kinds g)) (interval_of d a g) (scale_of d b (range_kinds g)) (interval_of d b g) s

@@ -1,6 +1,6 @@
--- Days of the calendar as texts `dddd-dd-dd`, by the number of days since 1970-01-01.
-use Rattle.std.specs.Prelude.{ℕ, ◌+◌, ◌*◌, ◌-◌, ◌==◌, ◌&&◌, Bool, true, false, List, [], ◌∷◌, Option, Some, None, option_map, option_and_then, nat_le, if◌then◌else◌, ℤ, pos}
-use Rattle.std.specs.List.{list_all}
+-- Days of the calendar as texts `dddd-dd-dd`, by the number of days since 1970-01-01. A text has a day where it names a
+-- date of the proleptic Gregorian calendar in the years 0001 to 9999; which dates there are, jiff decides.
+use Rattle.std.specs.Prelude.{ℕ, ◌+◌, ◌*◌, ◌-◌, ◌==◌, ◌&&◌, Bool, List, [], ◌∷◌, Option, Some, None, option_and_then, nat_le, if◌then◌else◌, ℤ, pos}
 use Rattle.jiff_core.specs.Calendar.{days_from_civil, days_in_month}
 
 -- a year, a month and a day

@@ -12,6 +12,7 @@ use Rattle.term_core.specs.Environments.{Environment}
 use Rattle.term_core.specs.Kinds.{kind_of, scale_of}
 use Rattle.term_core.specs.Values.{Entry, kinds, num, kind_or, value_of, first_true}
 
+-- the number of a day count. A name of a template has none: the model speaks of contracts at a setting
 abbrev pub count_of : Days → ℕ
 count_of (Count n) = n
 count_of (Named t) = 0

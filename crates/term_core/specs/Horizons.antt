@@ -1,4 +1,5 @@
--- The horizon of a contract: the count of days, from the one on which it stands, after which it pays nothing more.
+-- The horizon of a contract: the count of days, from the one on which it stands, after which it pays nothing more,
+-- whatever is observed. It is 0 for a contract that pays nothing at all.
 use Rattle.std.specs.Prelude.{ℕ, zero, suc, ◌+◌, max}
 use Rattle.term_core.specs.Terms.{Contract, Zero, Pay, Both, Scale, After, Let, Within}
 use Rattle.term_core.specs.Flows.{count_of}

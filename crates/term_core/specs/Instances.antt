@@ -1,4 +1,5 @@
--- A contract at a setting: the numbers of the setting stand for the names of templates.
+-- A contract at a setting, which has a whole number of days for each template: the numbers stand in place of the names
+-- of templates. The defaults are the numbers that the templates are declared with.
 use Rattle.std.specs.Prelude.{ℕ, ◌<◌, List, length, map, slice_index}
 use Rattle.term_core.specs.declared.terms.Days.{Days}
 use Rattle.term_core.specs.declared.terms.Days.TheVariants.{Num as Count, Named}

@@ -1,4 +1,5 @@
--- The kind of an expression, and its scale.
+-- What an expression is: a truth value, a number with a scale, or nothing where sorts are mixed. A sum has the greater
+-- scale of its parts and a product the sum of both; an accumulator has the kind of its start.
 use Rattle.std.specs.Prelude.{ℕ, ◌+◌, max, List, ◌∷◌, Option, Some, None, slice_get}
 use Rattle.term_core.specs.Declarations.{Declarations}
 use Rattle.term_core.specs.declared.label.Label.{Label}

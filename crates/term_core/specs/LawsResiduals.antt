@@ -1,4 +1,5 @@
--- The law of residuals: a residual of a residual, under more fixings, carries the first contract over all the days.
+-- The law of residuals: a residual of a residual, under more fixings, carries the first contract over all the days. So
+-- a book that is advanced a day at a time is as good as one that is advanced at once.
 use Rattle.std.specs.Prelude.{ℕ, ℤ, pos, ◌+◌, ◌+ℤ◌}
 use Rattle.term_core.specs.Declarations.{Declarations}
 use Rattle.term_core.specs.Terms.{Contract}

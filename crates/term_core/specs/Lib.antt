@@ -25,6 +25,11 @@ pub mod Redexes
 pub mod Factors
 pub mod Dates
 pub mod LawsFlows
+pub mod LawsKinds
+pub mod LawsTimes
+pub mod LawsInstances
+pub mod LawsDates
+pub mod LawsAcceptance
 pub mod LawsShifts
 pub mod LawsReads
 pub mod LawsResiduals

@@ -1,17 +1,16 @@
 -- What a residual may not hold: parts that reduce, of sixteen kinds. Some of them ask for the day on which a part
 -- stands, its frame, which is known where the frame of the whole is, but for tests, the branches that they lead to and
 -- the bodies of accumulators.
-use Rattle.std.specs.Prelude.{ℕ, zero, suc, ℤ, pos, ◌+ℤ◌, ◌-ℤ◌, ◌+◌, ◌==◌, ◌&&◌, ◌||◌, not, Bool, true, false, List, [], ◌∷◌, Option, Some, None, is_some, nat_lt, IsFalse}
+use Rattle.std.specs.Prelude.{ℕ, ℤ, pos, ◌+ℤ◌, ◌-ℤ◌, ◌+◌, ◌==◌, ◌&&◌, ◌||◌, not, Bool, true, false, List, [], ◌∷◌, Option, Some, None, nat_lt, IsFalse}
 use Rattle.std.specs.List.{list_all}
 use Rattle.std.specs.Ordering.{int_eq}
 use Rattle.term_core.specs.Declarations.{Declarations}
-use Rattle.term_core.specs.declared.terms.Days.{Days}
 use Rattle.term_core.specs.Terms.{Expression, Lit, Yes, Var, Obs, Neg, Num, Cmp, Not, Logic, Cond, Widen, Round, Div, Acc}
 use Rattle.term_core.specs.Terms.{Contract, Zero, Pay, Both, Scale, After, Let, Within}
-use Rattle.term_core.specs.Environments.{Environment, Place, held}
+use Rattle.term_core.specs.Environments.{Environment}
 use Rattle.term_core.specs.Flows.{count_of}
 use Rattle.term_core.specs.Reads.{reads_of, is_fixed}
-use Rattle.term_core.specs.Sites.{Layer, Naming, Counting, Later, Earlier, Undated, Part, OfExpression, OfContract, Site, Once, sites_of, sites_of_contract, AllPass}
+use Rattle.term_core.specs.Sites.{Layer, Naming, Counting, Later, Earlier, Undated, Part, OfExpression, OfContract, Once, sites_of_contract, AllPass}
 
 pub data Redex : Type 0 where
   EmptyLeft : Redex  -- both(zero, c)

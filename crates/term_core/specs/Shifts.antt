@@ -1,4 +1,5 @@
--- An expression whose observables are read some days later, and where each offset stays an offset.
+-- An expression whose observables are all read some days later. It has the value of that many days later, because the
+-- days of an accumulator move with it; and each offset has to stay within its limit.
 use Rattle.std.specs.Prelude.{ℤ, ◌+ℤ◌}
 use Rattle.term_core.specs.Limits.{IsOffset}
 use Rattle.term_core.specs.Terms.{Expression, Obs, Neg, Num, Cmp, Not, Logic, Cond, Widen, Round, Div, Acc}

@@ -2,7 +2,8 @@
 -- written order, but an accumulator's start before its body. A node has the number of its first byte's place among all
 -- nodes, from 0. All five rules share this one list: a rule is a test on a site, and the node at fault is the number of
 -- the first site that fails. To prove code that goes by structure against it, use `first_failing-append` and
--- `first_failing-is` of proofs/Trials.
+-- `first_failing-is` of proofs/Trials, or for a rule that does not compute `AllPass-append`, `FirstFault-left` and
+-- `FirstFault-right`. proofs/BoundTrials is a whole such proof, for the rule on bounds and its accumulators.
 use Rattle.std.specs.Prelude.{ℕ, zero, suc, ◌+◌, ◌≡◌, ◌⊎◌, Bool, List, [], ◌∷◌, ◌++◌, Option, Some, None, if◌then◌else◌}
 use Rattle.term_core.specs.Declarations.{Declarations}
 use Rattle.term_core.specs.declared.values.Kind.{Kind}

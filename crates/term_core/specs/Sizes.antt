@@ -1,7 +1,6 @@
 -- How large a term is: its nodes and its height, how far it reaches into the days to come and into the past, and how
 -- many steps it takes to evaluate; and the rule on sizes.
-use Rattle.std.specs.Prelude.{ℕ, suc, ℤ, pos, negsuc, ◌+◌, ◌-◌, ◌*◌, min, max, ◌&&◌, Bool, true, nat_le}
-use Rattle.term_core.specs.declared.terms.Days.{Days}
+use Rattle.std.specs.Prelude.{ℕ, suc, ℤ, pos, negsuc, ◌+◌, ◌-◌, ◌*◌, min, max}
 use Rattle.term_core.specs.Flows.{count_of}
 use Rattle.term_core.specs.Terms.{Expression, Lit, Yes, Var, Obs, Neg, Num, Cmp, Not, Logic, Cond, Widen, Round, Div, Acc, Contract, Zero, Pay, Both, Scale, After, Let, Within}
 
@@ -124,3 +123,29 @@ work_of_contract (Scale e c) = work e + work_of_contract c
 work_of_contract (After n c) = work_of_contract c
 work_of_contract (Let e c) = work e + work_of_contract c
 work_of_contract (Within e n a b) = (count_of n + 1) * work e + work_of_contract a + work_of_contract b
+
+-- the observables that stand in an expression, and in a contract
+abbrev pub observables : Expression → ℕ
+observables (Lit m s) = 0
+observables (Yes b) = 0
+observables (Var back) = 0
+observables (Obs l t) = 1
+observables (Neg e) = observables e
+observables (Num op a b) = observables a + observables b
+observables (Cmp op a b) = observables a + observables b
+observables (Not e) = observables e
+observables (Logic op a b) = observables a + observables b
+observables (Cond t a b) = observables t + observables a + observables b
+observables (Widen s e) = observables e
+observables (Round mode s e) = observables e
+observables (Div mode s a b) = observables a + observables b
+observables (Acc body n first) = observables body + observables first
+
+abbrev pub observables_of_contract : Contract → ℕ
+observables_of_contract Zero = 0
+observables_of_contract (Pay a p q) = 0
+observables_of_contract (Both a b) = observables_of_contract a + observables_of_contract b
+observables_of_contract (Scale e c) = observables e + observables_of_contract c
+observables_of_contract (After n c) = observables_of_contract c
+observables_of_contract (Let e c) = observables e + observables_of_contract c
+observables_of_contract (Within e n a b) = observables e + observables_of_contract a + observables_of_contract b

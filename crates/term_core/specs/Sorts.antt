@@ -1,10 +1,10 @@
 -- The rule on sorts: every expression is a number or a truth value, every factor is a number and every test is a truth
 -- value.
-use Rattle.std.specs.Prelude.{Bool, true, false, Option, Some, None, is_some}
+use Rattle.std.specs.Prelude.{Bool, true, false, Option, Some, is_some}
 use Rattle.term_core.specs.Declarations.{Declarations}
 use Rattle.term_core.specs.declared.values.Kind.{Kind}
 use Rattle.term_core.specs.declared.values.Kind.TheVariants.{Truth, Number}
-use Rattle.term_core.specs.Terms.{Contract, Scale, Within}
+use Rattle.term_core.specs.Terms.{Scale, Within}
 use Rattle.term_core.specs.Kinds.{kind_of}
 use Rattle.term_core.specs.Sites.{Site, Part, OfExpression, OfContract, kinds_round}
 

@@ -1,4 +1,6 @@
--- The value of an expression.
+-- The value of an expression on a day: a truth value, or a whole number in units of ten to the minus its scale (the
+-- semantics of expressions of Bahr, Berthold and Elsman, ICFP 2015, in exact decimals). Operands are widened to the
+-- scale that they share. An accumulator starts some days ago, and each day since its body makes the next value.
 use Rattle.std.specs.Prelude.{ℕ, zero, suc, ℤ, pos, ◌+ℤ◌, ◌-ℤ◌, ◌*ℤ◌, neg_ℤ, int_lt, ◌-◌, max, ◌&&◌, ◌||◌, not, Bool, false, List, [], ◌∷◌, Option, Some, None, if◌then◌else◌, slice_get}
 use Rattle.std.specs.Int.{int_min, int_max}
 use Rattle.std.specs.Ordering.{int_eq}

@@ -5,6 +5,11 @@ ghost use Rattle.term_core.specs.LawsFlows.{AmountsAreOpposite, AmountsEndAtHori
 ghost use Rattle.term_core.specs.LawsResiduals.{CarriesComposes};
 ghost use Rattle.term_core.specs.LawsReads.{ReadsStayUpToUnfixed, AmountsAreFixed, ValuesDependOnReads, AmountsDependOnReads};
 ghost use Rattle.term_core.specs.LawsShifts.{ShiftsMoveTheDay};
+ghost use Rattle.term_core.specs.LawsAcceptance.{RefusalsAreUnique, AcceptedAreNotRefused};
+ghost use Rattle.term_core.specs.LawsInstances.{InstancesHaveNumbers, InstancesAreWellFormed, SettingsSuit, DefaultsSuit};
+ghost use Rattle.term_core.specs.LawsTimes.{TimesMeanTyped};
+ghost use Rattle.term_core.specs.LawsKinds.{ValuesHaveKinds};
+ghost use Rattle.term_core.specs.LawsDates.{TextsOfDaysAreUnique, DaysOfTextsAreCivil};
 
 /// What one party pays, the other receives.
 pub fn amounts_are_opposite()
@@ -49,4 +54,54 @@ pub fn amounts_depend_on_reads()
 /// An expression whose observables are read some days later has the value of that many days later.
 pub fn shifts_move_the_day()
     ensures { ShiftsMoveTheDay }
+{}
+
+/// A contract has at most one refusal.
+pub fn refusals_are_unique()
+    ensures { RefusalsAreUnique }
+{}
+
+/// An accepted contract has no refusal.
+pub fn accepted_are_not_refused()
+    ensures { AcceptedAreNotRefused }
+{}
+
+/// A day has one text.
+pub fn texts_of_days_are_unique()
+    ensures { TextsOfDaysAreUnique }
+{}
+
+/// A text that has a day names one of the years 0001 to 9999, so each day that is read can be written.
+pub fn days_of_texts_are_civil()
+    ensures { DaysOfTextsAreCivil }
+{}
+
+/// Each day count of an instance is a number.
+pub fn instances_have_numbers()
+    ensures { InstancesHaveNumbers }
+{}
+
+/// An instance of a well-formed contract is well formed.
+pub fn instances_are_well_formed()
+    ensures { InstancesAreWellFormed }
+{}
+
+/// A setting with a number for each template suits every well-formed contract.
+pub fn settings_suit()
+    ensures { SettingsSuit }
+{}
+
+/// The defaults are a number for each template.
+pub fn defaults_suit()
+    ensures { DefaultsSuit }
+{}
+
+/// Each node has a type exactly where the closed contract has one.
+pub fn times_mean_typed()
+    ensures { TimesMeanTyped }
+{}
+
+/// An expression that has a kind has a value of it.
+pub fn values_have_kinds()
+    ensures { ValuesHaveKinds }
 {}

@@ -21,9 +21,11 @@ pub use decls::Decls;
 pub use instances::instantiate;
 pub use label::Label;
 pub use laws::{
-    amounts_are_fixed, amounts_are_opposite, amounts_begin_at_zero, amounts_depend_on_reads,
-    amounts_end_at_horizon, carries_composes, reads_stay_up_to_unfixed, shifts_move_the_day,
-    values_depend_on_reads,
+    accepted_are_not_refused, amounts_are_fixed, amounts_are_opposite, amounts_begin_at_zero,
+    amounts_depend_on_reads, amounts_end_at_horizon, carries_composes, days_of_texts_are_civil,
+    defaults_suit, instances_are_well_formed, instances_have_numbers, reads_stay_up_to_unfixed,
+    refusals_are_unique, settings_suit, shifts_move_the_day, texts_of_days_are_unique,
+    times_mean_typed, values_depend_on_reads, values_have_kinds,
 };
 pub use name::Name;
 pub use portfolio::Portfolio;

@@ -1,6 +1,6 @@
-use Rattle.std.proofs.Common.{◌≡◌, ◌≤ℤ◌, ◌∙◌, neg_ℤ, pos, sym, arith, w64}
+use Rattle.std.proofs.Common.{◌∙◌, w64}
 use Rattle.std.specs.Prelude.{FitsSigned}
-use Rattle.std.proofs.lemmas.Int.{ints, to_z-of_z}
+use Rattle.std.proofs.lemmas.Int.{to_z-of_z}
 use Rattle.term_core.proofs.DateFacts.{year_from}
 use Rattle.term_core.proofs.dates.civil_of.Goals as goal
 

@@ -1,4 +1,4 @@
-use Rattle.std.proofs.Common.{◌≡◌, ◌≤◌, ◌<◌, ◌∙◌, pos, sym, ap, arith, Some, w8, w16, w32, w64}
+use Rattle.std.proofs.Common.{◌∙◌, ap, arith, w8, w16, w32, w64}
 use Rattle.std.specs.Prelude.{FitsSigned}
 use Rattle.std.proofs.lemmas.Int.{ints, to_z-of_z, to_z_pos}
 use Rattle.jiff_core.specs.Date.{epoch_day}

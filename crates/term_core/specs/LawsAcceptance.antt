@@ -1,0 +1,15 @@
+-- The law of refusals: a contract has at most one refusal, which is a rule and a node, and an accepted contract has
+-- none. So a checker that answers a refusal has no choice.
+use Rattle.std.specs.Prelude.{ℕ, ◌≡◌}
+use Rattle.term_core.specs.Declarations.{Declarations}
+use Rattle.term_core.specs.declared.rules.Rule.{Rule}
+use Rattle.term_core.specs.Terms.{Contract}
+use Rattle.term_core.specs.Acceptance.{IsAccepted, IsRefusal}
+
+abbrev pub RefusalsAreUnique : Type 0
+RefusalsAreUnique =
+    (d : Declarations) (c : Contract) (rule other : Rule) (j k : ℕ)
+    → IsRefusal d c rule j → IsRefusal d c other k → (rule ≡ other) × (j ≡ k)
+
+abbrev pub AcceptedAreNotRefused : Type 0
+AcceptedAreNotRefused = (d : Declarations) (c : Contract) (rule : Rule) (k : ℕ) → IsAccepted d c → IsRefusal d c rule k → ⊥
