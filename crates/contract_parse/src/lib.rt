@@ -2,20 +2,13 @@
 //! is none.
 #![tactic(auto)]
 
-mod contrs;
-mod decls;
-mod exprs;
 mod faults;
-mod labels;
+mod heads;
+mod judges;
 mod lines;
 mod names;
 mod numbers;
-mod places;
-mod portfolio;
-#[cfg(test)]
-mod tests;
 mod token;
 mod words;
 
 pub use faults::{ParseErr, TextFault, TextKind};
-pub use portfolio::parse_portfolio;

@@ -1,0 +1,2 @@
+pub mod TokenFacts
+pub mod NumberFacts
