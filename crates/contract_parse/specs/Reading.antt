@@ -1,5 +1,5 @@
 -- What the tokens and the answers of the code stand for.
-use Rattle.std.specs.Prelude.{◌≡◌, ℕ, List, [], Result, Ok, Err, if◌then◌else◌}
+use Rattle.std.specs.Prelude.{◌≡◌, ◌≤◌, ◌≤ℤ◌, ◌^◌, ℕ, ℤ, unsigned_abs, List, [], Option, Some, None, Result, Ok, Err, if◌then◌else◌}
 use Rattle.contract_parse.specs.Tokens.{Tok, is_last, tokens}
 use Rattle.contract_parse.specs.declared.token.Kind.{Kind}
 use Rattle.contract_parse.specs.declared.token.Lexeme.{Lexeme}
@@ -18,3 +18,8 @@ abbrev pub Settles : {X : Type 0} → Result X TextKind → ℕ → Result X Rea
 Settles verdict left (Ok x) = verdict ≡ Ok x
 Settles verdict left (Err (Refused r)) = (verdict ≡ Err r.kind) × (r.left ≡ left)
 Settles verdict left (Err NoMemory) = Unit {0}
+
+-- a bound of a label, above the lower bound where there is one
+abbrev pub IsBound : Option ℤ → ℤ → Type 0
+IsBound None m = unsigned_abs m ≤ 10 ^ 37
+IsBound (Some low) m = (unsigned_abs m ≤ 10 ^ 37) × (low ≤ℤ m)

@@ -1,9 +1,9 @@
 //! What one token is at a place of the grammar, or the kind of its fault.
-ghost use Rattle.std.specs.Prelude.{◌≡◌, ◌≤◌, ◌-◌, ◌^◌, IfErr, IfOk, length, unsigned_abs};
-ghost use Rattle.term_core.specs.Limits.{is_label, is_origin};
+ghost use Rattle.std.specs.Prelude.{◌≡◌, ◌≤◌, ◌-◌, ◌^◌, IfErr, IfOk, length, true, unsigned_abs};
+ghost use Rattle.term_core.specs.Limits.{is_origin};
 ghost use Rattle.contract_parse.specs.Names.{names_in};
 ghost use Rattle.contract_parse.specs.Judgements.{above, binder_at, bound_at, integer_at, is_version, literal_at, mode_at, offset_at, operator_at, origin_at, separator_at, variable_at};
-ghost use Rattle.contract_parse.specs.Reading.{tok_of, Settles};
+ghost use Rattle.contract_parse.specs.Reading.{IsBound, tok_of};
 
 use crate::faults::{ReadErr, Refusal, TextKind};
 use crate::heads::Operator;
@@ -73,7 +73,9 @@ pub fn literal_at(negative: bool, token: &Lexeme<'_>) -> Result<Decimal, TextKin
 
 // A mantissa that is not below the lower bound, if there is one.
 fn above(low: Option<i128>, mant: i128) -> Result<i128, TextKind>
-    ensures { result ≡ above low mant }
+    requires { unsigned_abs mant ≤ 10 ^ 37 }
+    ensures value { result ≡ above low mant }
+    ensures limits { IfOk result (λ m. IsBound low m) }
 {
     match low {
         Some(low) if mant < low => Err(TextKind::Range),
@@ -89,7 +91,8 @@ pub fn bound_at(
     token: &Lexeme<'_>,
 ) -> Result<i128, TextKind>
     requires { scale ≤ 18 }
-    ensures { result ≡ bound_at negative scale low (tok_of token.now) }
+    ensures value { result ≡ bound_at negative scale low (tok_of token.now) }
+    ensures limits { IfOk result (λ m. IsBound low m) }
 {
     let number = literal_at(negative, token)?;
     if number.scale > scale {
@@ -103,7 +106,8 @@ pub fn bound_at(
 
 /// A date from 1900-01-01 to 2999-12-31, as an epoch day.
 pub fn origin_at(token: &Lexeme<'_>) -> Result<i64, TextKind>
-    ensures { result ≡ origin_at (tok_of token.now) }
+    ensures value { result ≡ origin_at (tok_of token.now) }
+    ensures limits { IfOk result (λ day. is_origin (Some day) ≡ true) }
 {
     if !is_date(token) {
         return Err(TextKind::Syntax);
