@@ -17,7 +17,9 @@ fn read_pay<'a>(
     alloc: Global,
     decls: &Decls,
     rest: &'a [u8],
-) -> Result<(Contr, &'a [u8]), ReadErr> {
+) -> Result<(Contr, &'a [u8]), ReadErr>
+    ensures shorter { IfOk result (λ r. length r.1.now ≤ length rest.now) }
+{
     let rest = skip_mark(rest, b"(")?;
     let (asset, rest) = read_use_of_set(alloc, &decls.assets, rest)?;
     let rest = skip_mark(rest, b",")?;
@@ -39,6 +41,7 @@ fn read_both<'a>(
 ) -> Result<(Contr, &'a [u8]), ReadErr>
     requires shallow { depth ≤ 200 }
     requires bound { length (names_in bound.now) < depth }
+    ensures shorter { IfOk result (λ r. length r.1.now ≤ length rest.now) }
 {
     let rest = skip_mark(rest, b"(")?;
     let (left, rest) = read_contr(alloc, decls, bound, depth + 1, rest)?;
@@ -61,6 +64,7 @@ fn read_scaled<'a>(
 ) -> Result<(Contr, &'a [u8]), ReadErr>
     requires shallow { depth ≤ 200 }
     requires bound { length (names_in bound.now) < depth }
+    ensures shorter { IfOk result (λ r. length r.1.now ≤ length rest.now) }
 {
     let rest = skip_mark(rest, b"(")?;
     let (factor, rest) = read_expr(alloc, decls, bound, depth + 1, rest)?;
@@ -82,6 +86,7 @@ fn read_after<'a>(
 ) -> Result<(Contr, &'a [u8]), ReadErr>
     requires shallow { depth ≤ 200 }
     requires bound { length (names_in bound.now) < depth }
+    ensures shorter { IfOk result (λ r. length r.1.now ≤ length rest.now) }
 {
     let rest = skip_mark(rest, b"(")?;
     let (days, rest) = read_days(alloc, &decls.templates, rest)?;
@@ -103,6 +108,7 @@ fn read_let<'a>(
 ) -> Result<(Contr, &'a [u8]), ReadErr>
     requires shallow { depth ≤ 200 }
     requires bound { length (names_in bound.now) < depth }
+    ensures shorter { IfOk result (λ r. length r.1.now ≤ length rest.now) }
 {
     let (name, rest) = read_binder(rest)?;
     let rest = skip_mark(rest, b"=")?;
@@ -128,6 +134,7 @@ fn read_within<'a>(
 ) -> Result<(Contr, &'a [u8]), ReadErr>
     requires shallow { depth ≤ 200 }
     requires bound { length (names_in bound.now) < depth }
+    ensures shorter { IfOk result (λ r. length r.1.now ≤ length rest.now) }
 {
     let (test, rest) = read_expr(alloc, decls, bound, depth + 1, rest)?;
     let rest = skip_word(rest, b"within")?;
@@ -160,6 +167,7 @@ pub fn read_contr<'a>(
 ) -> Result<(Contr, &'a [u8]), ReadErr>
     requires shallow { depth ≤ 201 }
     requires bound { length (names_in bound.now) < depth }
+    ensures shorter { IfOk result (λ r. length r.1.now ≤ length rest.now) }
 {
     let (token, after) = next(rest);
     let head = match head_at(depth, &token) {

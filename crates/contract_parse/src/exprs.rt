@@ -32,6 +32,7 @@ fn literal(number: Decimal) -> Expr {
 
 // The scale in `widen`, `round` and `div`.
 fn read_scale(rest: &[u8]) -> Result<(u8, &[u8]), ReadErr>
+    ensures shorter { IfOk result (λ r. length r.1.now ≤ length rest.now) }
 {
     let (scale, rest) = read_integer(27, rest)?;
     Ok((scale as u8, rest))
@@ -39,6 +40,7 @@ fn read_scale(rest: &[u8]) -> Result<(u8, &[u8]), ReadErr>
 
 // A literal behind its sign.
 fn read_negative(rest: &[u8]) -> Result<(Expr, &[u8]), ReadErr>
+    ensures shorter { IfOk result (λ r. length r.1.now ≤ length rest.now) }
 {
     let (number, rest) = read_literal(true, rest)?;
     Ok((literal(number), rest))
@@ -49,7 +51,9 @@ fn read_observable<'a>(
     alloc: Global,
     decls: &Decls,
     rest: &'a [u8],
-) -> Result<(Expr, &'a [u8]), ReadErr> {
+) -> Result<(Expr, &'a [u8]), ReadErr>
+    ensures shorter { IfOk result (λ r. length r.1.now ≤ length rest.now) }
+{
     let rest = skip_mark(rest, b"(")?;
     let (label, rest) = read_use_of_map(alloc, &decls.labels, rest)?;
     let rest = skip_mark(rest, b",")?;
@@ -69,6 +73,7 @@ fn read_operand<'a>(
 ) -> Result<(Box<Expr>, &'a [u8]), ReadErr>
     requires shallow { depth ≤ 200 }
     requires bound { length (names_in bound.now) < depth }
+    ensures shorter { IfOk result (λ r. length r.1.now ≤ length rest.now) }
 {
     let rest = skip_mark(rest, b"(")?;
     let (of, rest) = read_expr(alloc, decls, bound, depth + 1, rest)?;
@@ -88,6 +93,7 @@ fn read_neg<'a>(
 ) -> Result<(Expr, &'a [u8]), ReadErr>
     requires shallow { depth ≤ 200 }
     requires bound { length (names_in bound.now) < depth }
+    ensures shorter { IfOk result (λ r. length r.1.now ≤ length rest.now) }
 {
     let (of, rest) = read_operand(alloc, decls, bound, depth, rest)?;
     Ok((Expr::Neg { of }, rest))
@@ -104,6 +110,7 @@ fn read_not<'a>(
 ) -> Result<(Expr, &'a [u8]), ReadErr>
     requires shallow { depth ≤ 200 }
     requires bound { length (names_in bound.now) < depth }
+    ensures shorter { IfOk result (λ r. length r.1.now ≤ length rest.now) }
 {
     let (of, rest) = read_operand(alloc, decls, bound, depth, rest)?;
     Ok((Expr::Not { of }, rest))
@@ -121,6 +128,7 @@ fn read_extreme<'a>(
 ) -> Result<(Expr, &'a [u8]), ReadErr>
     requires shallow { depth ≤ 200 }
     requires bound { length (names_in bound.now) < depth }
+    ensures shorter { IfOk result (λ r. length r.1.now ≤ length rest.now) }
 {
     let rest = skip_mark(rest, b"(")?;
     let (left, rest) = read_expr(alloc, decls, bound, depth + 1, rest)?;
@@ -143,6 +151,7 @@ fn read_infix<'a>(
 ) -> Result<(Expr, &'a [u8]), ReadErr>
     requires shallow { depth ≤ 200 }
     requires bound { length (names_in bound.now) < depth }
+    ensures shorter { IfOk result (λ r. length r.1.now ≤ length rest.now) }
 {
     let (left, rest) = read_expr(alloc, decls, bound, depth + 1, rest)?;
     let (operator, rest) = read_operator(rest)?;
@@ -164,6 +173,7 @@ fn read_choice<'a>(
 ) -> Result<(Expr, &'a [u8]), ReadErr>
     requires shallow { depth ≤ 200 }
     requires bound { length (names_in bound.now) < depth }
+    ensures shorter { IfOk result (λ r. length r.1.now ≤ length rest.now) }
 {
     let rest = skip_mark(rest, b"(")?;
     let (test, rest) = read_expr(alloc, decls, bound, depth + 1, rest)?;
@@ -189,6 +199,7 @@ fn read_widen<'a>(
 ) -> Result<(Expr, &'a [u8]), ReadErr>
     requires shallow { depth ≤ 200 }
     requires bound { length (names_in bound.now) < depth }
+    ensures shorter { IfOk result (λ r. length r.1.now ≤ length rest.now) }
 {
     let rest = skip_mark(rest, b"(")?;
     let (scale, rest) = read_scale(rest)?;
@@ -210,6 +221,7 @@ fn read_round<'a>(
 ) -> Result<(Expr, &'a [u8]), ReadErr>
     requires shallow { depth ≤ 200 }
     requires bound { length (names_in bound.now) < depth }
+    ensures shorter { IfOk result (λ r. length r.1.now ≤ length rest.now) }
 {
     let rest = skip_mark(rest, b"(")?;
     let (mode, rest) = read_mode(rest)?;
@@ -233,6 +245,7 @@ fn read_div<'a>(
 ) -> Result<(Expr, &'a [u8]), ReadErr>
     requires shallow { depth ≤ 200 }
     requires bound { length (names_in bound.now) < depth }
+    ensures shorter { IfOk result (λ r. length r.1.now ≤ length rest.now) }
 {
     let rest = skip_mark(rest, b"(")?;
     let (mode, rest) = read_mode(rest)?;
@@ -267,6 +280,7 @@ fn read_acc<'a>(
 ) -> Result<(Expr, &'a [u8]), ReadErr>
     requires shallow { depth ≤ 200 }
     requires bound { length (names_in bound.now) < depth }
+    ensures shorter { IfOk result (λ r. length r.1.now ≤ length rest.now) }
 {
     let rest = skip_mark(rest, b"(")?;
     let (name, rest) = read_binder(rest)?;
@@ -297,6 +311,7 @@ pub fn read_expr<'a>(
 ) -> Result<(Expr, &'a [u8]), ReadErr>
     requires shallow { depth ≤ 201 }
     requires bound { length (names_in bound.now) < depth }
+    ensures shorter { IfOk result (λ r. length r.1.now ≤ length rest.now) }
 {
     let (token, after) = next(rest);
     let first = match first_at(bound, depth, &token) {

@@ -151,7 +151,9 @@ pub fn read_bound(
 }
 
 // The offset of an observable behind its sign.
-fn read_offset_number(negative: bool, rest: &[u8]) -> Result<(i32, &[u8]), ReadErr> {
+fn read_offset_number(negative: bool, rest: &[u8]) -> Result<(i32, &[u8]), ReadErr>
+    ensures shorter { IfOk result (λ r. length r.1.now ≤ length rest.now) }
+{
     let (token, after) = next(rest);
     match offset_at(negative, &token) {
         Ok(offset) => Ok((offset, after)),
@@ -160,7 +162,9 @@ fn read_offset_number(negative: bool, rest: &[u8]) -> Result<(i32, &[u8]), ReadE
 }
 
 /// The offset of an observable.
-pub fn read_offset(rest: &[u8]) -> Result<(i32, &[u8]), ReadErr> {
+pub fn read_offset(rest: &[u8]) -> Result<(i32, &[u8]), ReadErr>
+    ensures shorter { IfOk result (λ r. length r.1.now ≤ length rest.now) }
+{
     let (token, after) = next(rest);
     if is_the_mark(&token, b"-") {
         return read_offset_number(true, after);
@@ -172,7 +176,9 @@ pub fn read_offset(rest: &[u8]) -> Result<(i32, &[u8]), ReadErr> {
 }
 
 /// The number of a literal behind its sign.
-pub fn read_literal(negative: bool, rest: &[u8]) -> Result<(Decimal, &[u8]), ReadErr> {
+pub fn read_literal(negative: bool, rest: &[u8]) -> Result<(Decimal, &[u8]), ReadErr>
+    ensures shorter { IfOk result (λ r. length r.1.now ≤ length rest.now) }
+{
     let (token, after) = next(rest);
     match literal_at(negative, &token) {
         Ok(number) => Ok((number, after)),
@@ -181,7 +187,9 @@ pub fn read_literal(negative: bool, rest: &[u8]) -> Result<(Decimal, &[u8]), Rea
 }
 
 /// A name that a binder binds.
-pub fn read_binder(rest: &[u8]) -> Result<(&[u8], &[u8]), ReadErr> {
+pub fn read_binder(rest: &[u8]) -> Result<(&[u8], &[u8]), ReadErr>
+    ensures shorter { IfOk result (λ r. length r.1.now ≤ length rest.now) }
+{
     let (token, after) = next(rest);
     match binder_at(&token) {
         Ok(name) => Ok((name, after)),
@@ -190,7 +198,9 @@ pub fn read_binder(rest: &[u8]) -> Result<(&[u8], &[u8]), ReadErr> {
 }
 
 /// How a number is rounded.
-pub fn read_mode(rest: &[u8]) -> Result<(Mode, &[u8]), ReadErr> {
+pub fn read_mode(rest: &[u8]) -> Result<(Mode, &[u8]), ReadErr>
+    ensures shorter { IfOk result (λ r. length r.1.now ≤ length rest.now) }
+{
     let (token, after) = next(rest);
     match mode_at(&token) {
         Ok(mode) => Ok((mode, after)),
@@ -199,7 +209,9 @@ pub fn read_mode(rest: &[u8]) -> Result<(Mode, &[u8]), ReadErr> {
 }
 
 /// An operator between two expressions.
-pub fn read_operator(rest: &[u8]) -> Result<(Operator, &[u8]), ReadErr> {
+pub fn read_operator(rest: &[u8]) -> Result<(Operator, &[u8]), ReadErr>
+    ensures shorter { IfOk result (λ r. length r.1.now ≤ length rest.now) }
+{
     let (token, after) = next(rest);
     match operator_at(&token) {
         Ok(operator) => Ok((operator, after)),
@@ -214,6 +226,7 @@ pub fn read_use_of_set<'a>(
     rest: &'a [u8],
 ) -> Result<(u32, &'a [u8]), ReadErr>
     requires { index_set_len names.now < 2 ^ 32 }
+    ensures shorter { IfOk result (λ r. length r.1.now ≤ length rest.now) }
 {
     let (token, after) = next(rest);
     if !is_name(&token) {
@@ -232,6 +245,7 @@ pub fn read_use_of_map<'a, V>(
     rest: &'a [u8],
 ) -> Result<(u32, &'a [u8]), ReadErr>
     requires { index_map_len names.now < 2 ^ 32 }
+    ensures shorter { IfOk result (λ r. length r.1.now ≤ length rest.now) }
 {
     let (token, after) = next(rest);
     if !is_name(&token) {
@@ -250,6 +264,7 @@ pub fn read_days<'a>(
     rest: &'a [u8],
 ) -> Result<(Days, &'a [u8]), ReadErr>
     requires { index_map_len templates.now < 2 ^ 32 }
+    ensures shorter { IfOk result (λ r. length r.1.now ≤ length rest.now) }
 {
     let (token, after) = next(rest);
     if is_integer(&token) {
