@@ -4,7 +4,7 @@ ghost use Rattle.indexmap.specs.IndexMap.{index_map_len};
 ghost use Rattle.term_core.specs.Limits.{are_labels, is_label};
 
 use crate::faults::ReadErr;
-use crate::readers::{after_word, read_bound, read_integer, read_new_name, skip_mark, skip_word};
+use crate::readers::{after_word, read_bound, read_label_scale, read_new_name, skip_mark, skip_word};
 use indexmap::IndexMap;
 use std::alloc::Global;
 use term_core::{Label, Name};
@@ -15,8 +15,7 @@ fn read_range(rest: &[u8]) -> Result<(Label, &[u8]), ReadErr>
     ensures limits { IfOk result (λ r. is_label r.0 ≡ true) }
 {
     let rest = skip_mark(rest, b":")?;
-    let (scale, rest) = read_integer(18, rest)?;
-    let scale = scale as u8;
+    let (scale, rest) = read_label_scale(rest)?;
     let rest = skip_word(rest, b"in")?;
     let (low, rest) = read_bound(scale, None, rest)?;
     let rest = skip_mark(rest, b"..")?;

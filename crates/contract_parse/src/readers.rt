@@ -1,11 +1,18 @@
 //! The places of the grammar that are one token, or a sign and a number.
-ghost use Rattle.std.specs.Prelude.{◌≡◌, ◌≤◌, ◌<◌, ◌+◌, ◌^◌, IfOk, IfSome, length, true};
+ghost use Rattle.std.specs.Prelude.{◌≡◌, ◌≤◌, ◌<◌, ◌+◌, ◌^◌, ◌∷◌, ◌++◌, [], ℕ, List, IfNone, IfOk, IfSome, OnOk, length, true};
 ghost use Rattle.indexmap.specs.IndexMap.{index_map_len, keys};
 ghost use Rattle.indexmap.specs.IndexSet.{index_set_len};
 ghost use Rattle.term_core.specs.Limits.{is_origin};
 ghost use Rattle.contract_parse.specs.Tokens.{tokens};
-ghost use Rattle.contract_parse.specs.Judgements.{binder_at, bound_at, integer_at, is_version, mode_at, new_at, offset_at, operator_at, origin_at, separator_at, use_at};
-ghost use Rattle.contract_parse.specs.Reading.{IsBound, tok_of};
+ghost use Rattle.contract_parse.specs.Words.{Bytes};
+ghost use Rattle.contract_parse.specs.Names.{Scope, with_names};
+ghost use Rattle.contract_parse.specs.Judgements.{binder_at, bound_at, days_at, integer_at, is_version, literal_at, mode_at, new_at, offset_at, operator_at, origin_at, separator_at, use_at};
+ghost use Rattle.contract_parse.specs.Spelling.{Signed, end, mark, one, valued, word};
+ghost use Rattle.contract_parse.specs.Statements.{Added};
+ghost use Rattle.contract_parse.specs.Places.{BinderAt, BoundAt, BoundNumber, DaysAt, IntegerAt, Leaves, LiteralNumber, ModeAt, MoreNames, NewIn, OffsetAt, OffsetNumber, Open, OperatorAt, OriginDate, Place, ScaleAt, TheEnd, TheMark, TheVersion, TheWord, UseOf, binder_places, bound_places, list_places, range_places, run};
+ghost use Rattle.contract_parse.specs.Reading.{IsBetween, IsBound, Lacks, tok_of};
+ghost use Rattle.contract_parse.specs.declared.names.NameSet.{NameSet};
+ghost use Rattle.contract_parse.specs.declared.heads.Binder.{Binder};
 
 use crate::faults::{ReadErr, TextKind};
 use crate::heads::Operator;
@@ -20,22 +27,26 @@ use indexmap::{IndexMap, IndexSet};
 use std::alloc::Global;
 use term_core::{Days, Name};
 
-pub fn skip_mark<'a>(rest: &'a [u8], mark: &[u8]) -> Result<&'a [u8], ReadErr>
+pub fn skip_mark<'a>(rest: &'a [u8], wanted: &[u8]) -> Result<&'a [u8], ReadErr>
+    ensures follows { (s : Scope) (ps : List Place) → Leaves (λ r. run s ps (tokens r.now)) result (run s (TheMark wanted.now ∷ ps) (tokens rest.now)) }
+    ensures spelled { IfOk result (λ r. mark wanted.now (tokens rest.now) (tokens r.now)) }
     ensures shorter { IfOk result (λ r. length r.now < length rest.now) }
 {
     let (token, after) = next(rest);
-    if is_the_mark(&token, mark) {
+    if is_the_mark(&token, wanted) {
         Ok(after)
     } else {
         Err(refuse(TextKind::Syntax, &token))
     }
 }
 
-pub fn skip_word<'a>(rest: &'a [u8], word: &[u8]) -> Result<&'a [u8], ReadErr>
+pub fn skip_word<'a>(rest: &'a [u8], wanted: &[u8]) -> Result<&'a [u8], ReadErr>
+    ensures follows { (s : Scope) (ps : List Place) → Leaves (λ r. run s ps (tokens r.now)) result (run s (TheWord wanted.now ∷ ps) (tokens rest.now)) }
+    ensures spelled { IfOk result (λ r. word wanted.now (tokens rest.now) (tokens r.now)) }
     ensures shorter { IfOk result (λ r. length r.now < length rest.now) }
 {
     let (token, after) = next(rest);
-    if is_the_word(&token, word) {
+    if is_the_word(&token, wanted) {
         Ok(after)
     } else {
         Err(refuse(TextKind::Syntax, &token))
@@ -44,6 +55,8 @@ pub fn skip_word<'a>(rest: &'a [u8], word: &[u8]) -> Result<&'a [u8], ReadErr>
 
 /// The version of the format, which is 1.
 pub fn skip_version(rest: &[u8]) -> Result<&[u8], ReadErr>
+    ensures follows { (s : Scope) (ps : List Place) → Leaves (λ r. run s ps (tokens r.now)) result (run s (TheVersion ∷ ps) (tokens rest.now)) }
+    ensures spelled { IfOk result (λ r. one is_version (tokens rest.now) (tokens r.now)) }
     ensures shorter { IfOk result (λ r. length r.now < length rest.now) }
 {
     let (token, after) = next(rest);
@@ -55,7 +68,10 @@ pub fn skip_version(rest: &[u8]) -> Result<&[u8], ReadErr>
 }
 
 /// The end of the text.
-pub fn read_end(rest: &[u8]) -> Result<(), ReadErr> {
+pub fn read_end(rest: &[u8]) -> Result<(), ReadErr>
+    ensures follows { (s : Scope) (ps : List Place) → Leaves (λ _. Open ps) result (run s (TheEnd ∷ ps) (tokens rest.now)) }
+    ensures spelled { OnOk result (end (tokens rest.now) []) }
+{
     let (token, _) = next(rest);
     if is_end(&token) {
         Ok(())
@@ -65,11 +81,13 @@ pub fn read_end(rest: &[u8]) -> Result<(), ReadErr> {
 }
 
 /// The text after a word, if that stands next.
-pub fn after_word<'a>(rest: &'a [u8], word: &[u8]) -> Option<&'a [u8]>
+pub fn after_word<'a>(rest: &'a [u8], wanted: &[u8]) -> Option<&'a [u8]>
+    ensures found { IfSome result (λ r. word wanted.now (tokens rest.now) (tokens r.now)) }
+    ensures lacks { IfNone result (Lacks wanted.now (tokens rest.now)) }
     ensures shorter { IfSome result (λ r. length r.now < length rest.now) }
 {
     let (token, after) = next(rest);
-    if is_the_word(&token, word) {
+    if is_the_word(&token, wanted) {
         Some(after)
     } else {
         None
@@ -80,6 +98,8 @@ pub fn after_word<'a>(rest: &'a [u8], word: &[u8]) -> Option<&'a [u8]>
 pub fn read_integer(most: u32, rest: &[u8]) -> Result<(u32, &[u8]), ReadErr>
     requires { most ≤ 1_000_000 }
     ensures most { IfOk result (λ r. r.0 ≤ most) }
+    ensures follows { (s : Scope) (ps : List Place) → Leaves (λ r. run s ps (tokens r.1.now)) result (run s (IntegerAt most ∷ ps) (tokens rest.now)) }
+    ensures spelled { IfOk result (λ r. valued (integer_at most) r.0 (tokens rest.now) (tokens r.1.now)) }
     ensures shorter { IfOk result (λ r. length r.1.now < length rest.now) }
 {
     let (token, after) = next(rest);
@@ -89,9 +109,25 @@ pub fn read_integer(most: u32, rest: &[u8]) -> Result<(u32, &[u8]), ReadErr>
     }
 }
 
+/// The scale of a label.
+pub fn read_label_scale(rest: &[u8]) -> Result<(u8, &[u8]), ReadErr>
+    ensures most { IfOk result (λ r. r.0 ≤ 18) }
+    ensures follows { (s : Scope) (ps : List Place) → Leaves (λ r. run s (range_places r.0 ps) (tokens r.1.now)) result (run s (ScaleAt ∷ ps) (tokens rest.now)) }
+    ensures spelled { IfOk result (λ r. valued (integer_at 18) r.0 (tokens rest.now) (tokens r.1.now)) }
+    ensures shorter { IfOk result (λ r. length r.1.now < length rest.now) }
+{
+    let (token, after) = next(rest);
+    match integer_at(18, &token) {
+        Ok(scale) => Ok((scale as u8, after)),
+        Err(kind) => Err(refuse(kind, &token)),
+    }
+}
+
 /// A date from 1900-01-01 to 2999-12-31, as an epoch day.
 pub fn read_origin_date(rest: &[u8]) -> Result<(i64, &[u8]), ReadErr>
     ensures limits { IfOk result (λ r. is_origin (Some r.0) ≡ true) }
+    ensures follows { (s : Scope) (ps : List Place) → Leaves (λ r. run s ps (tokens r.1.now)) result (run s (OriginDate ∷ ps) (tokens rest.now)) }
+    ensures spelled { IfOk result (λ r. valued origin_at r.0 (tokens rest.now) (tokens r.1.now)) }
     ensures shorter { IfOk result (λ r. length r.1.now < length rest.now) }
 {
     let (token, after) = next(rest);
@@ -103,6 +139,8 @@ pub fn read_origin_date(rest: &[u8]) -> Result<(i64, &[u8]), ReadErr>
 
 /// Whether a comma stands here, or the semicolon that ends a list.
 pub fn read_separator(rest: &[u8]) -> Result<(bool, &[u8]), ReadErr>
+    ensures follows { (set : NameSet) (s : Scope) (ps : List Place) → Leaves (λ r. run s (list_places set r.0 ps) (tokens r.1.now)) result (run s (MoreNames set ∷ ps) (tokens rest.now)) }
+    ensures spelled { IfOk result (λ r. valued separator_at r.0 (tokens rest.now) (tokens r.1.now)) }
     ensures shorter { IfOk result (λ r. length r.1.now < length rest.now) }
 {
     let (token, after) = next(rest);
@@ -121,6 +159,8 @@ fn read_bound_number(
 ) -> Result<(i128, &[u8]), ReadErr>
     requires { scale ≤ 18 }
     ensures limits { IfOk result (λ r. IsBound low r.0) }
+    ensures follows { (s : Scope) (ps : List Place) → Leaves (λ r. run s (bound_places scale low r.0 ps) (tokens r.1.now)) result (run s (BoundNumber negative scale low ∷ ps) (tokens rest.now)) }
+    ensures spelled { IfOk result (λ r. valued (bound_at negative scale low) r.0 (tokens rest.now) (tokens r.1.now)) }
     ensures shorter { IfOk result (λ r. length r.1.now < length rest.now) }
 {
     let (token, after) = next(rest);
@@ -138,6 +178,8 @@ pub fn read_bound(
 ) -> Result<(i128, &[u8]), ReadErr>
     requires { scale ≤ 18 }
     ensures limits { IfOk result (λ r. IsBound low r.0) }
+    ensures follows { (s : Scope) (ps : List Place) → Leaves (λ r. run s (bound_places scale low r.0 ps) (tokens r.1.now)) result (run s (BoundAt scale low ∷ ps) (tokens rest.now)) }
+    ensures spelled { IfOk result (λ r. Signed (λ negative. valued (bound_at negative scale low) r.0) (tokens rest.now) (tokens r.1.now)) }
     ensures shorter { IfOk result (λ r. length r.1.now < length rest.now) }
 {
     let (token, after) = next(rest);
@@ -152,6 +194,8 @@ pub fn read_bound(
 
 // The offset of an observable behind its sign.
 fn read_offset_number(negative: bool, rest: &[u8]) -> Result<(i32, &[u8]), ReadErr>
+    ensures follows { (s : Scope) (ps : List Place) → Leaves (λ r. run s ps (tokens r.1.now)) result (run s (OffsetNumber negative ∷ ps) (tokens rest.now)) }
+    ensures spelled { IfOk result (λ r. valued (offset_at negative) r.0 (tokens rest.now) (tokens r.1.now)) }
     ensures shorter { IfOk result (λ r. length r.1.now ≤ length rest.now) }
 {
     let (token, after) = next(rest);
@@ -163,6 +207,8 @@ fn read_offset_number(negative: bool, rest: &[u8]) -> Result<(i32, &[u8]), ReadE
 
 /// The offset of an observable.
 pub fn read_offset(rest: &[u8]) -> Result<(i32, &[u8]), ReadErr>
+    ensures follows { (s : Scope) (ps : List Place) → Leaves (λ r. run s ps (tokens r.1.now)) result (run s (OffsetAt ∷ ps) (tokens rest.now)) }
+    ensures spelled { IfOk result (λ r. Signed (λ negative. valued (offset_at negative) r.0) (tokens rest.now) (tokens r.1.now)) }
     ensures shorter { IfOk result (λ r. length r.1.now ≤ length rest.now) }
 {
     let (token, after) = next(rest);
@@ -177,6 +223,8 @@ pub fn read_offset(rest: &[u8]) -> Result<(i32, &[u8]), ReadErr>
 
 /// The number of a literal behind its sign.
 pub fn read_literal(negative: bool, rest: &[u8]) -> Result<(Decimal, &[u8]), ReadErr>
+    ensures follows { (s : Scope) (ps : List Place) → Leaves (λ r. run s ps (tokens r.1.now)) result (run s (LiteralNumber negative ∷ ps) (tokens rest.now)) }
+    ensures spelled { IfOk result (λ r. valued (literal_at negative) r.0 (tokens rest.now) (tokens r.1.now)) }
     ensures shorter { IfOk result (λ r. length r.1.now ≤ length rest.now) }
 {
     let (token, after) = next(rest);
@@ -188,6 +236,8 @@ pub fn read_literal(negative: bool, rest: &[u8]) -> Result<(Decimal, &[u8]), Rea
 
 /// A name that a binder binds.
 pub fn read_binder(rest: &[u8]) -> Result<(&[u8], &[u8]), ReadErr>
+    ensures follows { (binder : Binder) (d : ℕ) (names : List Bytes) (s : Scope) (ps : List Place) → Leaves (λ r. run s (binder_places binder d names r.0.now ps) (tokens r.1.now)) result (run s (BinderAt binder d names ∷ ps) (tokens rest.now)) }
+    ensures spelled { IfOk result (λ r. valued binder_at r.0.now (tokens rest.now) (tokens r.1.now)) }
     ensures shorter { IfOk result (λ r. length r.1.now ≤ length rest.now) }
 {
     let (token, after) = next(rest);
@@ -199,6 +249,8 @@ pub fn read_binder(rest: &[u8]) -> Result<(&[u8], &[u8]), ReadErr>
 
 /// How a number is rounded.
 pub fn read_mode(rest: &[u8]) -> Result<(Mode, &[u8]), ReadErr>
+    ensures follows { (s : Scope) (ps : List Place) → Leaves (λ r. run s ps (tokens r.1.now)) result (run s (ModeAt ∷ ps) (tokens rest.now)) }
+    ensures spelled { IfOk result (λ r. valued mode_at r.0 (tokens rest.now) (tokens r.1.now)) }
     ensures shorter { IfOk result (λ r. length r.1.now ≤ length rest.now) }
 {
     let (token, after) = next(rest);
@@ -210,6 +262,9 @@ pub fn read_mode(rest: &[u8]) -> Result<(Mode, &[u8]), ReadErr>
 
 /// An operator between two expressions.
 pub fn read_operator(rest: &[u8]) -> Result<(Operator, &[u8]), ReadErr>
+    ensures follows { (s : Scope) (ps : List Place) → Leaves (λ r. run s ps (tokens r.1.now)) result (run s (OperatorAt ∷ ps) (tokens rest.now)) }
+    ensures spelled { IfOk result (λ r. valued operator_at r.0 (tokens rest.now) (tokens r.1.now)) }
+    ensures between { IfOk result (λ r. IsBetween r.0) }
     ensures shorter { IfOk result (λ r. length r.1.now ≤ length rest.now) }
 {
     let (token, after) = next(rest);
@@ -226,6 +281,8 @@ pub fn read_use_of_set<'a>(
     rest: &'a [u8],
 ) -> Result<(u32, &'a [u8]), ReadErr>
     requires { index_set_len names.now < 2 ^ 32 }
+    ensures follows { (s : Scope) (ps : List Place) → Leaves (λ r. run s ps (tokens r.1.now)) result (run s (UseOf names.now.keys ∷ ps) (tokens rest.now)) }
+    ensures spelled { IfOk result (λ r. valued (use_at names.now.keys) r.0 (tokens rest.now) (tokens r.1.now)) }
     ensures shorter { IfOk result (λ r. length r.1.now ≤ length rest.now) }
 {
     let (token, after) = next(rest);
@@ -245,6 +302,8 @@ pub fn read_use_of_map<'a, V>(
     rest: &'a [u8],
 ) -> Result<(u32, &'a [u8]), ReadErr>
     requires { index_map_len names.now < 2 ^ 32 }
+    ensures follows { (s : Scope) (ps : List Place) → Leaves (λ r. run s ps (tokens r.1.now)) result (run s (UseOf (keys names.now) ∷ ps) (tokens rest.now)) }
+    ensures spelled { IfOk result (λ r. valued (use_at (keys names.now)) r.0 (tokens rest.now) (tokens r.1.now)) }
     ensures shorter { IfOk result (λ r. length r.1.now ≤ length rest.now) }
 {
     let (token, after) = next(rest);
@@ -264,6 +323,8 @@ pub fn read_days<'a>(
     rest: &'a [u8],
 ) -> Result<(Days, &'a [u8]), ReadErr>
     requires { index_map_len templates.now < 2 ^ 32 }
+    ensures follows { (s : Scope) (ps : List Place) → Leaves (λ r. run s ps (tokens r.1.now)) result (run s (DaysAt (keys templates.now) ∷ ps) (tokens rest.now)) }
+    ensures spelled { IfOk result (λ r. valued (days_at (keys templates.now)) r.0 (tokens rest.now) (tokens r.1.now)) }
     ensures shorter { IfOk result (λ r. length r.1.now ≤ length rest.now) }
 {
     let (token, after) = next(rest);
@@ -288,6 +349,8 @@ pub fn declare<'a>(
     names: &mut IndexSet<Name>,
     rest: &'a [u8],
 ) -> Result<&'a [u8], ReadErr>
+    ensures follows { (set : NameSet) (s : Scope) (ps : List Place) → Leaves (λ r. run (with_names set names.new.keys s) ps (tokens r.now)) result (run (with_names set names.old.keys s) (NewIn set ∷ ps) (tokens rest.now)) }
+    ensures spelled { IfOk result (λ r. Added names.old.keys names.new.keys (tokens rest.now) (tokens r.now)) }
     ensures shorter { IfOk result (λ r. length r.now < length rest.now) }
     ensures few { IfOk result (λ r. index_set_len names.new + length r.now ≤ index_set_len names.old + length rest.now) }
 {
@@ -309,6 +372,8 @@ pub fn read_new_name<'a, V>(
     names: &IndexMap<Name, V>,
     rest: &'a [u8],
 ) -> Result<(Name, &'a [u8]), ReadErr>
+    ensures follows { (set : NameSet) (s : Scope) (ps : List Place) → Leaves (λ r. run (with_names set (keys names.now ++ r.0 ∷ []) s) ps (tokens r.1.now)) result (run (with_names set (keys names.now) s) (NewIn set ∷ ps) (tokens rest.now)) }
+    ensures spelled { IfOk result (λ r. valued (new_at (keys names.now)) r.0 (tokens rest.now) (tokens r.1.now)) }
     ensures shorter { IfOk result (λ r. length r.1.now < length rest.now) }
 {
     let (token, after) = next(rest);
