@@ -1,6 +1,13 @@
 //! Contracts from texts.
-ghost use Rattle.std.specs.Prelude.{◌≡◌, ◌≤◌, ◌<◌, ◌+◌, IfOk, length};
+ghost use Rattle.std.specs.Prelude.{◌≡◌, ◌≤◌, ◌<◌, ◌+◌, ◌∷◌, [], ℕ, List, IfOk, codes, length};
+ghost use Rattle.term_core.specs.Terms.{contract, expression};
+ghost use Rattle.term_core.specs.Sizes.{height_of_contract};
+ghost use Rattle.contract_parse.specs.Tokens.{Tok, tokens};
+ghost use Rattle.contract_parse.specs.Words.{Bytes};
 ghost use Rattle.contract_parse.specs.Names.{names_in};
+ghost use Rattle.contract_parse.specs.Spelling.{contr, word};
+ghost use Rattle.contract_parse.specs.Places.{ContrAt, Leaves, Place, contr_places, run};
+ghost use Rattle.contract_parse.specs.Reading.{scope_in};
 
 use crate::exprs::read_expr;
 use crate::faults::ReadErr;
@@ -13,11 +20,15 @@ use std::alloc::Global;
 use term_core::{Contr, Decls};
 
 // What stands behind `pay`.
+#[tactic(auto, using(crate::proofs::Parts::followed_by))]
 fn read_pay<'a>(
     alloc: Global,
     decls: &Decls,
     rest: &'a [u8],
 ) -> Result<(Contr, &'a [u8]), ReadErr>
+    ensures follows { (cs : List Bytes) (depth : ℕ) (names : List Bytes) (ps : List Place) → Leaves (λ r. run (scope_in decls.now cs) ps (tokens r.1.now)) result (run (scope_in decls.now cs) (contr_places (scope_in decls.now cs) depth names Head.Pay ps) (tokens rest.now)) }
+    ensures spelled { IfOk result (λ r. (names : List Bytes) (ts : List Tok) → word (codes "pay") ts (tokens rest.now) → contr (scope_in decls.now []) names (contract r.0) ts (tokens r.1.now)) }
+    ensures high { IfOk result (λ r. height_of_contract (contract r.0) ≡ 1) }
     ensures shorter { IfOk result (λ r. length r.1.now ≤ length rest.now) }
 {
     let rest = skip_mark(rest, b"(")?;
@@ -32,6 +43,7 @@ fn read_pay<'a>(
 
 // What stands behind `both`.
 #[cycle(contr)]
+#[tactic(auto, using(crate::proofs::Parts::followed_by))]
 fn read_both<'a>(
     alloc: Global,
     decls: &Decls,
@@ -41,6 +53,9 @@ fn read_both<'a>(
 ) -> Result<(Contr, &'a [u8]), ReadErr>
     requires shallow { depth ≤ 200 }
     requires bound { length (names_in bound.now) < depth }
+    ensures follows { (cs : List Bytes) (ps : List Place) → Leaves (λ r. run (scope_in decls.now cs) ps (tokens r.1.now)) result (run (scope_in decls.now cs) (contr_places (scope_in decls.now cs) depth (names_in bound.now) Head.Both ps) (tokens rest.now)) }
+    ensures spelled { IfOk result (λ r. (ts : List Tok) → word (codes "both") ts (tokens rest.now) → contr (scope_in decls.now []) (names_in bound.now) (contract r.0) ts (tokens r.1.now)) }
+    ensures high { IfOk result (λ r. height_of_contract (contract r.0) + depth ≤ 201) }
     ensures shorter { IfOk result (λ r. length r.1.now ≤ length rest.now) }
 {
     let rest = skip_mark(rest, b"(")?;
@@ -55,6 +70,7 @@ fn read_both<'a>(
 
 // What stands behind `scale`.
 #[cycle(contr)]
+#[tactic(auto, using(crate::proofs::Parts::followed_by))]
 fn read_scaled<'a>(
     alloc: Global,
     decls: &Decls,
@@ -64,6 +80,9 @@ fn read_scaled<'a>(
 ) -> Result<(Contr, &'a [u8]), ReadErr>
     requires shallow { depth ≤ 200 }
     requires bound { length (names_in bound.now) < depth }
+    ensures follows { (cs : List Bytes) (ps : List Place) → Leaves (λ r. run (scope_in decls.now cs) ps (tokens r.1.now)) result (run (scope_in decls.now cs) (contr_places (scope_in decls.now cs) depth (names_in bound.now) Head.Scale ps) (tokens rest.now)) }
+    ensures spelled { IfOk result (λ r. (ts : List Tok) → word (codes "scale") ts (tokens rest.now) → contr (scope_in decls.now []) (names_in bound.now) (contract r.0) ts (tokens r.1.now)) }
+    ensures high { IfOk result (λ r. height_of_contract (contract r.0) + depth ≤ 201) }
     ensures shorter { IfOk result (λ r. length r.1.now ≤ length rest.now) }
 {
     let rest = skip_mark(rest, b"(")?;
@@ -77,6 +96,7 @@ fn read_scaled<'a>(
 
 // What stands behind `after`.
 #[cycle(contr)]
+#[tactic(auto, using(crate::proofs::Parts::followed_by))]
 fn read_after<'a>(
     alloc: Global,
     decls: &Decls,
@@ -86,6 +106,9 @@ fn read_after<'a>(
 ) -> Result<(Contr, &'a [u8]), ReadErr>
     requires shallow { depth ≤ 200 }
     requires bound { length (names_in bound.now) < depth }
+    ensures follows { (cs : List Bytes) (ps : List Place) → Leaves (λ r. run (scope_in decls.now cs) ps (tokens r.1.now)) result (run (scope_in decls.now cs) (contr_places (scope_in decls.now cs) depth (names_in bound.now) Head.After ps) (tokens rest.now)) }
+    ensures spelled { IfOk result (λ r. (ts : List Tok) → word (codes "after") ts (tokens rest.now) → contr (scope_in decls.now []) (names_in bound.now) (contract r.0) ts (tokens r.1.now)) }
+    ensures high { IfOk result (λ r. height_of_contract (contract r.0) + depth ≤ 201) }
     ensures shorter { IfOk result (λ r. length r.1.now ≤ length rest.now) }
 {
     let rest = skip_mark(rest, b"(")?;
@@ -99,6 +122,7 @@ fn read_after<'a>(
 
 // What stands behind `let`. The name is bound in the contract and not in its own expression.
 #[cycle(contr)]
+#[tactic(auto, using(crate::proofs::Parts::followed_by))]
 fn read_let<'a>(
     alloc: Global,
     decls: &Decls,
@@ -108,6 +132,9 @@ fn read_let<'a>(
 ) -> Result<(Contr, &'a [u8]), ReadErr>
     requires shallow { depth ≤ 200 }
     requires bound { length (names_in bound.now) < depth }
+    ensures follows { (cs : List Bytes) (ps : List Place) → Leaves (λ r. run (scope_in decls.now cs) ps (tokens r.1.now)) result (run (scope_in decls.now cs) (contr_places (scope_in decls.now cs) depth (names_in bound.now) Head.Let ps) (tokens rest.now)) }
+    ensures spelled { IfOk result (λ r. (ts : List Tok) → word (codes "let") ts (tokens rest.now) → contr (scope_in decls.now []) (names_in bound.now) (contract r.0) ts (tokens r.1.now)) }
+    ensures high { IfOk result (λ r. height_of_contract (contract r.0) + depth ≤ 201) }
     ensures shorter { IfOk result (λ r. length r.1.now ≤ length rest.now) }
 {
     let (name, rest) = read_binder(rest)?;
@@ -125,6 +152,7 @@ fn read_let<'a>(
 
 // What stands behind `if`.
 #[cycle(contr)]
+#[tactic(auto, using(crate::proofs::Parts::followed_by))]
 fn read_within<'a>(
     alloc: Global,
     decls: &Decls,
@@ -134,6 +162,9 @@ fn read_within<'a>(
 ) -> Result<(Contr, &'a [u8]), ReadErr>
     requires shallow { depth ≤ 200 }
     requires bound { length (names_in bound.now) < depth }
+    ensures follows { (cs : List Bytes) (ps : List Place) → Leaves (λ r. run (scope_in decls.now cs) ps (tokens r.1.now)) result (run (scope_in decls.now cs) (contr_places (scope_in decls.now cs) depth (names_in bound.now) Head.If ps) (tokens rest.now)) }
+    ensures spelled { IfOk result (λ r. (ts : List Tok) → word (codes "if") ts (tokens rest.now) → contr (scope_in decls.now []) (names_in bound.now) (contract r.0) ts (tokens r.1.now)) }
+    ensures high { IfOk result (λ r. height_of_contract (contract r.0) + depth ≤ 201) }
     ensures shorter { IfOk result (λ r. length r.1.now ≤ length rest.now) }
 {
     let (test, rest) = read_expr(alloc, decls, bound, depth + 1, rest)?;
@@ -158,6 +189,7 @@ fn read_within<'a>(
 
 /// A contract of a depth under bound names, and the text after it.
 #[cycle(contr)]
+#[tactic(auto, using(crate::proofs::Parts::followed_by))]
 pub fn read_contr<'a>(
     alloc: Global,
     decls: &Decls,
@@ -167,6 +199,9 @@ pub fn read_contr<'a>(
 ) -> Result<(Contr, &'a [u8]), ReadErr>
     requires shallow { depth ≤ 201 }
     requires bound { length (names_in bound.now) < depth }
+    ensures follows { (cs : List Bytes) (ps : List Place) → Leaves (λ r. run (scope_in decls.now cs) ps (tokens r.1.now)) result (run (scope_in decls.now cs) (ContrAt depth (names_in bound.now) ∷ ps) (tokens rest.now)) }
+    ensures spelled { IfOk result (λ r. contr (scope_in decls.now []) (names_in bound.now) (contract r.0) (tokens rest.now) (tokens r.1.now)) }
+    ensures high { IfOk result (λ r. height_of_contract (contract r.0) + depth ≤ 201) }
     ensures shorter { IfOk result (λ r. length r.1.now ≤ length rest.now) }
 {
     let (token, after) = next(rest);

@@ -1,6 +1,14 @@
 //! Expressions from texts.
-ghost use Rattle.std.specs.Prelude.{◌≡◌, ◌≤◌, ◌<◌, ◌+◌, IfOk, length};
-ghost use Rattle.contract_parse.specs.Names.{names_in};
+ghost use Rattle.std.specs.Prelude.{◌≡◌, ◌≤◌, ◌<◌, ◌+◌, ◌∷◌, [], ℕ, List, IfOk, codes, length, max, true};
+ghost use Rattle.term_core.specs.Terms.{Lit, expression};
+ghost use Rattle.term_core.specs.Sizes.{height};
+ghost use Rattle.contract_parse.specs.Tokens.{Tok, tokens};
+ghost use Rattle.contract_parse.specs.Words.{Bytes};
+ghost use Rattle.contract_parse.specs.Names.{Scope, names_in};
+ghost use Rattle.contract_parse.specs.Judgements.{integer_at};
+ghost use Rattle.contract_parse.specs.Spelling.{expr, mark, pair, valued, word, ◌⨟◌};
+ghost use Rattle.contract_parse.specs.Places.{ExprAt, IntegerAt, Leaves, LiteralNumber, Place, expr_places, operand_places, pair_places, run};
+ghost use Rattle.contract_parse.specs.Reading.{joined, scope_in};
 
 use crate::faults::ReadErr;
 use crate::heads::{First, Operator, first_at};
@@ -15,7 +23,9 @@ use decimal::Decimal;
 use std::alloc::Global;
 use term_core::{Decls, Expr, NumOp};
 
-fn joined(operator: Operator, left: Box<Expr>, right: Box<Expr>) -> Expr {
+fn joined(operator: Operator, left: Box<Expr>, right: Box<Expr>) -> Expr
+    ensures { expression result ≡ joined operator (expression left.value) (expression right.value) }
+{
     match operator {
         Operator::Arithmetic { op } => Expr::Num { op, left, right },
         Operator::Comparison { op } => Expr::Cmp { op, left, right },
@@ -23,7 +33,9 @@ fn joined(operator: Operator, left: Box<Expr>, right: Box<Expr>) -> Expr {
     }
 }
 
-fn literal(number: Decimal) -> Expr {
+fn literal(number: Decimal) -> Expr
+    ensures { expression result ≡ Lit number.mant number.scale }
+{
     Expr::Lit {
         mant: number.mant,
         scale: number.scale,
@@ -32,6 +44,8 @@ fn literal(number: Decimal) -> Expr {
 
 // The scale in `widen`, `round` and `div`.
 fn read_scale(rest: &[u8]) -> Result<(u8, &[u8]), ReadErr>
+    ensures follows { (s : Scope) (ps : List Place) → Leaves (λ r. run s ps (tokens r.1.now)) result (run s (IntegerAt 27 ∷ ps) (tokens rest.now)) }
+    ensures spelled { IfOk result (λ r. valued (integer_at 27) r.0 (tokens rest.now) (tokens r.1.now)) }
     ensures shorter { IfOk result (λ r. length r.1.now ≤ length rest.now) }
 {
     let (scale, rest) = read_integer(27, rest)?;
@@ -40,6 +54,9 @@ fn read_scale(rest: &[u8]) -> Result<(u8, &[u8]), ReadErr>
 
 // A literal behind its sign.
 fn read_negative(rest: &[u8]) -> Result<(Expr, &[u8]), ReadErr>
+    ensures follows { (s : Scope) (ps : List Place) → Leaves (λ r. run s ps (tokens r.1.now)) result (run s (LiteralNumber true ∷ ps) (tokens rest.now)) }
+    ensures spelled { IfOk result (λ r. (s : Scope) (names : List Bytes) (ts : List Tok) → mark (codes "-") ts (tokens rest.now) → expr s names (expression r.0) ts (tokens r.1.now)) }
+    ensures high { IfOk result (λ r. height (expression r.0) ≡ 1) }
     ensures shorter { IfOk result (λ r. length r.1.now ≤ length rest.now) }
 {
     let (number, rest) = read_literal(true, rest)?;
@@ -52,6 +69,9 @@ fn read_observable<'a>(
     decls: &Decls,
     rest: &'a [u8],
 ) -> Result<(Expr, &'a [u8]), ReadErr>
+    ensures follows { (cs : List Bytes) (depth : ℕ) (names : List Bytes) (ps : List Place) → Leaves (λ r. run (scope_in decls.now cs) ps (tokens r.1.now)) result (run (scope_in decls.now cs) (expr_places (scope_in decls.now cs) depth names First.Obs ps) (tokens rest.now)) }
+    ensures spelled { IfOk result (λ r. (names : List Bytes) (ts : List Tok) → word (codes "obs") ts (tokens rest.now) → expr (scope_in decls.now []) names (expression r.0) ts (tokens r.1.now)) }
+    ensures high { IfOk result (λ r. height (expression r.0) ≡ 1) }
     ensures shorter { IfOk result (λ r. length r.1.now ≤ length rest.now) }
 {
     let rest = skip_mark(rest, b"(")?;
@@ -64,6 +84,7 @@ fn read_observable<'a>(
 
 // One expression in parentheses.
 #[cycle(expr)]
+#[tactic(auto, using(crate::proofs::Parts::followed_by))]
 fn read_operand<'a>(
     alloc: Global,
     decls: &Decls,
@@ -73,6 +94,9 @@ fn read_operand<'a>(
 ) -> Result<(Box<Expr>, &'a [u8]), ReadErr>
     requires shallow { depth ≤ 200 }
     requires bound { length (names_in bound.now) < depth }
+    ensures follows { (cs : List Bytes) (ps : List Place) → Leaves (λ r. run (scope_in decls.now cs) ps (tokens r.1.now)) result (run (scope_in decls.now cs) (operand_places (ExprAt (depth + 1) (names_in bound.now)) ps) (tokens rest.now)) }
+    ensures spelled { IfOk result (λ r. (mark (codes "(") ⨟ expr (scope_in decls.now []) (names_in bound.now) (expression r.0.value) ⨟ mark (codes ")")) (tokens rest.now) (tokens r.1.now)) }
+    ensures high { IfOk result (λ r. height (expression r.0.value) + depth ≤ 200) }
     ensures shorter { IfOk result (λ r. length r.1.now ≤ length rest.now) }
 {
     let rest = skip_mark(rest, b"(")?;
@@ -84,6 +108,7 @@ fn read_operand<'a>(
 
 // What stands behind `neg`.
 #[cycle(expr)]
+#[tactic(auto, using(crate::proofs::Parts::followed_by))]
 fn read_neg<'a>(
     alloc: Global,
     decls: &Decls,
@@ -93,6 +118,9 @@ fn read_neg<'a>(
 ) -> Result<(Expr, &'a [u8]), ReadErr>
     requires shallow { depth ≤ 200 }
     requires bound { length (names_in bound.now) < depth }
+    ensures follows { (cs : List Bytes) (ps : List Place) → Leaves (λ r. run (scope_in decls.now cs) ps (tokens r.1.now)) result (run (scope_in decls.now cs) (expr_places (scope_in decls.now cs) depth (names_in bound.now) First.Neg ps) (tokens rest.now)) }
+    ensures spelled { IfOk result (λ r. (ts : List Tok) → word (codes "neg") ts (tokens rest.now) → expr (scope_in decls.now []) (names_in bound.now) (expression r.0) ts (tokens r.1.now)) }
+    ensures high { IfOk result (λ r. height (expression r.0) + depth ≤ 201) }
     ensures shorter { IfOk result (λ r. length r.1.now ≤ length rest.now) }
 {
     let (of, rest) = read_operand(alloc, decls, bound, depth, rest)?;
@@ -101,6 +129,7 @@ fn read_neg<'a>(
 
 // What stands behind `not`.
 #[cycle(expr)]
+#[tactic(auto, using(crate::proofs::Parts::followed_by))]
 fn read_not<'a>(
     alloc: Global,
     decls: &Decls,
@@ -110,25 +139,31 @@ fn read_not<'a>(
 ) -> Result<(Expr, &'a [u8]), ReadErr>
     requires shallow { depth ≤ 200 }
     requires bound { length (names_in bound.now) < depth }
+    ensures follows { (cs : List Bytes) (ps : List Place) → Leaves (λ r. run (scope_in decls.now cs) ps (tokens r.1.now)) result (run (scope_in decls.now cs) (expr_places (scope_in decls.now cs) depth (names_in bound.now) First.Not ps) (tokens rest.now)) }
+    ensures spelled { IfOk result (λ r. (ts : List Tok) → word (codes "not") ts (tokens rest.now) → expr (scope_in decls.now []) (names_in bound.now) (expression r.0) ts (tokens r.1.now)) }
+    ensures high { IfOk result (λ r. height (expression r.0) + depth ≤ 201) }
     ensures shorter { IfOk result (λ r. length r.1.now ≤ length rest.now) }
 {
     let (of, rest) = read_operand(alloc, decls, bound, depth, rest)?;
     Ok((Expr::Not { of }, rest))
 }
 
-// What stands behind `min` or `max`.
+// Two expressions in parentheses.
 #[cycle(expr)]
-fn read_extreme<'a>(
+#[tactic(auto, using(crate::proofs::Parts::followed_by))]
+fn read_pair<'a>(
     alloc: Global,
     decls: &Decls,
     bound: &Bound<'_>,
     depth: u32,
-    op: NumOp,
     rest: &'a [u8],
-) -> Result<(Expr, &'a [u8]), ReadErr>
+) -> Result<(Box<Expr>, Box<Expr>, &'a [u8]), ReadErr>
     requires shallow { depth ≤ 200 }
     requires bound { length (names_in bound.now) < depth }
-    ensures shorter { IfOk result (λ r. length r.1.now ≤ length rest.now) }
+    ensures follows { (cs : List Bytes) (ps : List Place) → Leaves (λ r. run (scope_in decls.now cs) ps (tokens r.2.now)) result (run (scope_in decls.now cs) (pair_places (ExprAt (depth + 1) (names_in bound.now)) (ExprAt (depth + 1) (names_in bound.now)) ps) (tokens rest.now)) }
+    ensures spelled { IfOk result (λ r. pair (expr (scope_in decls.now []) (names_in bound.now) (expression r.0.value)) (expr (scope_in decls.now []) (names_in bound.now) (expression r.1.value)) (tokens rest.now) (tokens r.2.now)) }
+    ensures high { IfOk result (λ r. max (height (expression r.0.value)) (height (expression r.1.value)) + depth ≤ 200) }
+    ensures shorter { IfOk result (λ r. length r.2.now ≤ length rest.now) }
 {
     let rest = skip_mark(rest, b"(")?;
     let (left, rest) = read_expr(alloc, decls, bound, depth + 1, rest)?;
@@ -137,11 +172,56 @@ fn read_extreme<'a>(
     let rest = skip_mark(rest, b")")?;
     let left = Box::new(alloc, left)?;
     let right = Box::new(alloc, right)?;
+    Ok((left, right, rest))
+}
+
+// What stands behind `min`.
+#[cycle(expr)]
+#[tactic(auto, using(crate::proofs::Parts::followed_by))]
+fn read_min<'a>(
+    alloc: Global,
+    decls: &Decls,
+    bound: &Bound<'_>,
+    depth: u32,
+    rest: &'a [u8],
+) -> Result<(Expr, &'a [u8]), ReadErr>
+    requires shallow { depth ≤ 200 }
+    requires bound { length (names_in bound.now) < depth }
+    ensures follows { (cs : List Bytes) (ps : List Place) → Leaves (λ r. run (scope_in decls.now cs) ps (tokens r.1.now)) result (run (scope_in decls.now cs) (expr_places (scope_in decls.now cs) depth (names_in bound.now) First.Min ps) (tokens rest.now)) }
+    ensures spelled { IfOk result (λ r. (ts : List Tok) → word (codes "min") ts (tokens rest.now) → expr (scope_in decls.now []) (names_in bound.now) (expression r.0) ts (tokens r.1.now)) }
+    ensures high { IfOk result (λ r. height (expression r.0) + depth ≤ 201) }
+    ensures shorter { IfOk result (λ r. length r.1.now ≤ length rest.now) }
+{
+    let (left, right, rest) = read_pair(alloc, decls, bound, depth, rest)?;
+    let op = NumOp::Min;
+    Ok((Expr::Num { op, left, right }, rest))
+}
+
+// What stands behind `max`.
+#[cycle(expr)]
+#[tactic(auto, using(crate::proofs::Parts::followed_by))]
+fn read_max<'a>(
+    alloc: Global,
+    decls: &Decls,
+    bound: &Bound<'_>,
+    depth: u32,
+    rest: &'a [u8],
+) -> Result<(Expr, &'a [u8]), ReadErr>
+    requires shallow { depth ≤ 200 }
+    requires bound { length (names_in bound.now) < depth }
+    ensures follows { (cs : List Bytes) (ps : List Place) → Leaves (λ r. run (scope_in decls.now cs) ps (tokens r.1.now)) result (run (scope_in decls.now cs) (expr_places (scope_in decls.now cs) depth (names_in bound.now) First.Max ps) (tokens rest.now)) }
+    ensures spelled { IfOk result (λ r. (ts : List Tok) → word (codes "max") ts (tokens rest.now) → expr (scope_in decls.now []) (names_in bound.now) (expression r.0) ts (tokens r.1.now)) }
+    ensures high { IfOk result (λ r. height (expression r.0) + depth ≤ 201) }
+    ensures shorter { IfOk result (λ r. length r.1.now ≤ length rest.now) }
+{
+    let (left, right, rest) = read_pair(alloc, decls, bound, depth, rest)?;
+    let op = NumOp::Max;
     Ok((Expr::Num { op, left, right }, rest))
 }
 
 // What stands behind a parenthesis.
 #[cycle(expr)]
+#[tactic(auto, using(crate::proofs::Parts::followed_by))]
 fn read_infix<'a>(
     alloc: Global,
     decls: &Decls,
@@ -151,6 +231,9 @@ fn read_infix<'a>(
 ) -> Result<(Expr, &'a [u8]), ReadErr>
     requires shallow { depth ≤ 200 }
     requires bound { length (names_in bound.now) < depth }
+    ensures follows { (cs : List Bytes) (ps : List Place) → Leaves (λ r. run (scope_in decls.now cs) ps (tokens r.1.now)) result (run (scope_in decls.now cs) (expr_places (scope_in decls.now cs) depth (names_in bound.now) First.Open ps) (tokens rest.now)) }
+    ensures spelled { IfOk result (λ r. (ts : List Tok) → mark (codes "(") ts (tokens rest.now) → expr (scope_in decls.now []) (names_in bound.now) (expression r.0) ts (tokens r.1.now)) }
+    ensures high { IfOk result (λ r. height (expression r.0) + depth ≤ 201) }
     ensures shorter { IfOk result (λ r. length r.1.now ≤ length rest.now) }
 {
     let (left, rest) = read_expr(alloc, decls, bound, depth + 1, rest)?;
@@ -164,6 +247,7 @@ fn read_infix<'a>(
 
 // What stands behind `if`.
 #[cycle(expr)]
+#[tactic(auto, using(crate::proofs::Parts::followed_by))]
 fn read_choice<'a>(
     alloc: Global,
     decls: &Decls,
@@ -173,6 +257,9 @@ fn read_choice<'a>(
 ) -> Result<(Expr, &'a [u8]), ReadErr>
     requires shallow { depth ≤ 200 }
     requires bound { length (names_in bound.now) < depth }
+    ensures follows { (cs : List Bytes) (ps : List Place) → Leaves (λ r. run (scope_in decls.now cs) ps (tokens r.1.now)) result (run (scope_in decls.now cs) (expr_places (scope_in decls.now cs) depth (names_in bound.now) First.If ps) (tokens rest.now)) }
+    ensures spelled { IfOk result (λ r. (ts : List Tok) → word (codes "if") ts (tokens rest.now) → expr (scope_in decls.now []) (names_in bound.now) (expression r.0) ts (tokens r.1.now)) }
+    ensures high { IfOk result (λ r. height (expression r.0) + depth ≤ 201) }
     ensures shorter { IfOk result (λ r. length r.1.now ≤ length rest.now) }
 {
     let rest = skip_mark(rest, b"(")?;
@@ -190,6 +277,7 @@ fn read_choice<'a>(
 
 // What stands behind `widen`.
 #[cycle(expr)]
+#[tactic(auto, using(crate::proofs::Parts::followed_by))]
 fn read_widen<'a>(
     alloc: Global,
     decls: &Decls,
@@ -199,6 +287,9 @@ fn read_widen<'a>(
 ) -> Result<(Expr, &'a [u8]), ReadErr>
     requires shallow { depth ≤ 200 }
     requires bound { length (names_in bound.now) < depth }
+    ensures follows { (cs : List Bytes) (ps : List Place) → Leaves (λ r. run (scope_in decls.now cs) ps (tokens r.1.now)) result (run (scope_in decls.now cs) (expr_places (scope_in decls.now cs) depth (names_in bound.now) First.Widen ps) (tokens rest.now)) }
+    ensures spelled { IfOk result (λ r. (ts : List Tok) → word (codes "widen") ts (tokens rest.now) → expr (scope_in decls.now []) (names_in bound.now) (expression r.0) ts (tokens r.1.now)) }
+    ensures high { IfOk result (λ r. height (expression r.0) + depth ≤ 201) }
     ensures shorter { IfOk result (λ r. length r.1.now ≤ length rest.now) }
 {
     let rest = skip_mark(rest, b"(")?;
@@ -212,6 +303,7 @@ fn read_widen<'a>(
 
 // What stands behind `round`.
 #[cycle(expr)]
+#[tactic(auto, using(crate::proofs::Parts::followed_by))]
 fn read_round<'a>(
     alloc: Global,
     decls: &Decls,
@@ -221,6 +313,9 @@ fn read_round<'a>(
 ) -> Result<(Expr, &'a [u8]), ReadErr>
     requires shallow { depth ≤ 200 }
     requires bound { length (names_in bound.now) < depth }
+    ensures follows { (cs : List Bytes) (ps : List Place) → Leaves (λ r. run (scope_in decls.now cs) ps (tokens r.1.now)) result (run (scope_in decls.now cs) (expr_places (scope_in decls.now cs) depth (names_in bound.now) First.Round ps) (tokens rest.now)) }
+    ensures spelled { IfOk result (λ r. (ts : List Tok) → word (codes "round") ts (tokens rest.now) → expr (scope_in decls.now []) (names_in bound.now) (expression r.0) ts (tokens r.1.now)) }
+    ensures high { IfOk result (λ r. height (expression r.0) + depth ≤ 201) }
     ensures shorter { IfOk result (λ r. length r.1.now ≤ length rest.now) }
 {
     let rest = skip_mark(rest, b"(")?;
@@ -236,6 +331,7 @@ fn read_round<'a>(
 
 // What stands behind `div`.
 #[cycle(expr)]
+#[tactic(auto, using(crate::proofs::Parts::followed_by))]
 fn read_div<'a>(
     alloc: Global,
     decls: &Decls,
@@ -245,6 +341,9 @@ fn read_div<'a>(
 ) -> Result<(Expr, &'a [u8]), ReadErr>
     requires shallow { depth ≤ 200 }
     requires bound { length (names_in bound.now) < depth }
+    ensures follows { (cs : List Bytes) (ps : List Place) → Leaves (λ r. run (scope_in decls.now cs) ps (tokens r.1.now)) result (run (scope_in decls.now cs) (expr_places (scope_in decls.now cs) depth (names_in bound.now) First.Div ps) (tokens rest.now)) }
+    ensures spelled { IfOk result (λ r. (ts : List Tok) → word (codes "div") ts (tokens rest.now) → expr (scope_in decls.now []) (names_in bound.now) (expression r.0) ts (tokens r.1.now)) }
+    ensures high { IfOk result (λ r. height (expression r.0) + depth ≤ 201) }
     ensures shorter { IfOk result (λ r. length r.1.now ≤ length rest.now) }
 {
     let rest = skip_mark(rest, b"(")?;
@@ -271,6 +370,7 @@ fn read_div<'a>(
 
 // What stands behind `acc`: the body, in which the name is bound, comes before the start.
 #[cycle(expr)]
+#[tactic(auto, using(crate::proofs::Parts::followed_by))]
 fn read_acc<'a>(
     alloc: Global,
     decls: &Decls,
@@ -280,6 +380,9 @@ fn read_acc<'a>(
 ) -> Result<(Expr, &'a [u8]), ReadErr>
     requires shallow { depth ≤ 200 }
     requires bound { length (names_in bound.now) < depth }
+    ensures follows { (cs : List Bytes) (ps : List Place) → Leaves (λ r. run (scope_in decls.now cs) ps (tokens r.1.now)) result (run (scope_in decls.now cs) (expr_places (scope_in decls.now cs) depth (names_in bound.now) First.Acc ps) (tokens rest.now)) }
+    ensures spelled { IfOk result (λ r. (ts : List Tok) → word (codes "acc") ts (tokens rest.now) → expr (scope_in decls.now []) (names_in bound.now) (expression r.0) ts (tokens r.1.now)) }
+    ensures high { IfOk result (λ r. height (expression r.0) + depth ≤ 201) }
     ensures shorter { IfOk result (λ r. length r.1.now ≤ length rest.now) }
 {
     let rest = skip_mark(rest, b"(")?;
@@ -302,6 +405,7 @@ fn read_acc<'a>(
 
 /// An expression of a depth under bound names, and the text after it.
 #[cycle(expr)]
+#[tactic(auto, using(crate::proofs::Parts::followed_by))]
 pub fn read_expr<'a>(
     alloc: Global,
     decls: &Decls,
@@ -311,6 +415,9 @@ pub fn read_expr<'a>(
 ) -> Result<(Expr, &'a [u8]), ReadErr>
     requires shallow { depth ≤ 201 }
     requires bound { length (names_in bound.now) < depth }
+    ensures follows { (cs : List Bytes) (ps : List Place) → Leaves (λ r. run (scope_in decls.now cs) ps (tokens r.1.now)) result (run (scope_in decls.now cs) (ExprAt depth (names_in bound.now) ∷ ps) (tokens rest.now)) }
+    ensures spelled { IfOk result (λ r. expr (scope_in decls.now []) (names_in bound.now) (expression r.0) (tokens rest.now) (tokens r.1.now)) }
+    ensures high { IfOk result (λ r. height (expression r.0) + depth ≤ 201) }
     ensures shorter { IfOk result (λ r. length r.1.now ≤ length rest.now) }
 {
     let (token, after) = next(rest);
@@ -328,8 +435,8 @@ pub fn read_expr<'a>(
         First::Obs => read_observable(alloc, decls, after),
         First::Neg => read_neg(alloc, decls, bound, depth, after),
         First::Not => read_not(alloc, decls, bound, depth, after),
-        First::Min => read_extreme(alloc, decls, bound, depth, NumOp::Min, after),
-        First::Max => read_extreme(alloc, decls, bound, depth, NumOp::Max, after),
+        First::Min => read_min(alloc, decls, bound, depth, after),
+        First::Max => read_max(alloc, decls, bound, depth, after),
         First::If => read_choice(alloc, decls, bound, depth, after),
         First::Widen => read_widen(alloc, decls, bound, depth, after),
         First::Round => read_round(alloc, decls, bound, depth, after),
