@@ -5,6 +5,7 @@
 mod faults;
 mod heads;
 mod judges;
+pub mod laws;
 mod lines;
 mod names;
 mod numbers;
