@@ -4,3 +4,6 @@ pub mod Passing
 pub mod TermsTaken
 pub mod LinesTaken
 pub mod TextFacts
+pub mod OneToken
+pub mod OneTerm
+pub mod OneText

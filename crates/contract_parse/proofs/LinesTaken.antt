@@ -43,7 +43,7 @@ or_right true b e = refl
 or_right false b e = e
 
 -- the words are not this one
-leads_other : (v : Bytes) (ws : List Bytes) (t : Tok) → list_all (λ w. not (bytes_eq w v)) ws ≡ true → leads ws t ≡ true → is_the_word v t ≡ false
+pub leads_other : (v : Bytes) (ws : List Bytes) (t : Tok) → list_all (λ w. not (bytes_eq w v)) ws ≡ true → leads ws t ≡ true → is_the_word v t ≡ false
 leads_other v [] t other e = end_no_word v t e
 leads_other v (w ∷ ws) t other e = elim (or_cases (is_the_word w t) (leads ws t) e) [
   | inl here ↦ not_word w v t (is_other (bytes_eq w v) _ other).0 here
@@ -57,7 +57,7 @@ leads_other v (w ∷ ws) t other e = elim (or_cases (is_the_word w t) (leads ws 
 pub heads_more : (w : Bytes) (ws : List Bytes) (ts : List Tok) → Heads ws ts → Heads (w ∷ ws) ts
 heads_more w ws ts (t, rest, is, e) = (t, rest, is, or_right (is_the_word w t) (leads ws t) e)
 
-heads_word : (w : Bytes) (ws : List Bytes) (ts rest : List Tok) → word w ts rest → Heads (w ∷ ws) ts
+pub heads_word : (w : Bytes) (ws : List Bytes) (ts rest : List Tok) → word w ts rest → Heads (w ∷ ws) ts
 heads_word w ws ts rest (t, is, e) = (t, rest, is, ap (λ b. b || leads ws t) e)
 
 heads_repeat : {A : Type 0} (line : A → A → Part) (ws : List Bytes) (a b : A) (ts rest : List Tok) → ((a b : A) (ts rest : List Tok) → line a b ts rest → Heads ws ts) → Heads ws rest → Repeat line a b ts rest → Heads ws ts
@@ -131,7 +131,7 @@ module _ (s : Scope) (set : NameSet) where
 
 -- ---- labels
 
-number_of_bound : (negative : Bool) (scale : ℕ) (low : Option ℤ) (t : Tok) (m : ℤ) → bound_at negative scale low t ≡ Ok m → is_number t ≡ true
+pub number_of_bound : (negative : Bool) (scale : ℕ) (low : Option ℤ) (t : Tok) (m : ℤ) → bound_at negative scale low t ≡ Ok m → is_number t ≡ true
 number_of_bound negative scale low t m e = elim (cases_Bool (is_number t)) [
   | inl is ↦ is
   | inr other ↦ let h = rw other at e in absurd cc
@@ -236,7 +236,7 @@ label_heads a b ws ts rest x = by_value a x.name x.value ts rest x.spelled
     by_value es name (label.Number scale low high) ts rest x = heads_word (codes "num") (codes "flag" ∷ ws) ts x.between x.one
     by_value es name label.Flag ts rest x = heads_more (codes "num") (codes "flag" ∷ ws) ts (heads_word (codes "flag") ws ts x.between x.one)
 
-start_heads : (day : ℕ) (ws : List Bytes) (ts rest : List Tok) → Heads ws rest → start_line day ts rest → Heads (codes "start" ∷ ws) ts
+pub start_heads : (day : ℕ) (ws : List Bytes) (ts rest : List Tok) → Heads ws rest → start_line day ts rest → Heads (codes "start" ∷ ws) ts
 start_heads day ws ts rest heads (inl x) = heads_more (codes "start") ws ts (subst (λ z. Heads ws z) (sym x.1) heads)
 start_heads day ws ts rest heads (inr x) = heads_word (codes "start") ws ts x.between x.one
 
@@ -258,47 +258,56 @@ module _ (s : Scope) (ps : List Place) (ts rest : List Tok) (ws : List Bytes) wh
       ∙ mark_taken s (codes ";") _ _ _ x.two.two
 
 -- the words with which lines behind each line begin
-abbrev behind_templates : List Bytes
+abbrev pub behind_templates : List Bytes
 behind_templates = codes "contract" ∷ []
 
-abbrev behind_labels : List Bytes
+abbrev pub behind_labels : List Bytes
 behind_labels = codes "template" ∷ behind_templates
 
-abbrev behind_assets : List Bytes
+abbrev pub behind_assets : List Bytes
 behind_assets = codes "num" ∷ codes "flag" ∷ behind_labels
 
-abbrev behind_parties : List Bytes
+abbrev pub behind_parties : List Bytes
 behind_parties = codes "asset" ∷ behind_assets
 
-abbrev behind_start : List Bytes
+abbrev pub behind_start : List Bytes
 behind_start = codes "party" ∷ behind_parties
 
-abbrev behind_origin : List Bytes
+abbrev pub behind_origin : List Bytes
 behind_origin = codes "start" ∷ behind_start
+
+pub at_contracts : (s : Scope) (a b : List (Bytes × Contract)) (ts rest : List Tok) → Heads [] rest → Repeat (Entry (contract_line s)) a b ts rest → Heads behind_templates ts
+at_contracts s a b ts rest heads x = heads_repeat (Entry (contract_line s)) behind_templates a b ts rest (λ a b ts rest e. heads_word (codes "contract") [] ts e.spelled.between e.spelled.one) (heads_more (codes "contract") [] rest heads) x
+
+pub at_templates : (a b : List (Bytes × ℕ)) (ts rest : List Tok) → Heads behind_templates rest → Repeat (Entry template_line) a b ts rest → Heads behind_labels ts
+at_templates a b ts rest heads x = heads_repeat (Entry template_line) behind_labels a b ts rest (λ a b ts rest e. heads_word (codes "template") behind_templates ts e.spelled.between e.spelled.one) (heads_more (codes "template") behind_templates rest heads) x
+
+pub at_labels : (a b : List (Bytes × Label)) (ts rest : List Tok) → Heads behind_labels rest → Repeat (Entry label_line) a b ts rest → Heads behind_assets ts
+at_labels a b ts rest heads x =
+    heads_repeat (Entry label_line) behind_assets a b ts rest (λ a b ts rest e. label_heads a b behind_labels ts rest e) (heads_more (codes "num") (codes "flag" ∷ behind_labels) rest (heads_more (codes "flag") behind_labels rest heads)) x
+
+pub at_names : (w : Bytes) (ws : List Bytes) (a b : List Bytes) (ts rest : List Tok) → Heads ws rest → Repeat (name_line w) a b ts rest → Heads (w ∷ ws) ts
+at_names w ws a b ts rest heads x = heads_repeat (name_line w) (w ∷ ws) a b ts rest (λ a b ts rest e. heads_word w ws ts e.between e.one) (heads_more w ws rest heads) x
 
 pub decls_taken : (d : Declarations) (ps : List Place) (ts rest : List Tok) → decls d ts rest → Heads behind_templates rest → run nothing_declared (decls_places ps) ts ≡ run (scope_of d []) ps rest
 decls_taken d ps ts rest x heads =
     let o = x.two.two.two in
-    let at_templates : Heads behind_labels o.two.two.two.two.between =
-      heads_repeat (Entry template_line) behind_labels [] d.templates _ rest (λ a b ts rest e. heads_word (codes "template") behind_templates ts e.spelled.between e.spelled.one) (heads_more (codes "template") behind_templates rest heads) o.two.two.two.two.two in
-    let at_labels : Heads behind_assets o.two.two.two.between =
-      heads_repeat (Entry label_line) behind_assets [] d.labels _ _ (λ a b ts rest e. label_heads a b behind_labels ts rest e) (heads_more (codes "num") (codes "flag" ∷ behind_labels) _ (heads_more (codes "flag") behind_labels _ at_templates)) o.two.two.two.two.one in
-    let at_assets : Heads behind_parties o.two.two.between =
-      heads_repeat (name_line (codes "asset")) behind_parties [] d.assets _ _ (λ a b ts rest e. heads_word (codes "asset") behind_assets ts e.between e.one) (heads_more (codes "asset") behind_assets _ at_labels) o.two.two.two.one in
-    let at_parties : Heads behind_start o.two.between =
-      heads_repeat (name_line (codes "party")) behind_start [] d.parties _ _ (λ a b ts rest e. heads_word (codes "party") behind_parties ts e.between e.one) (heads_more (codes "party") behind_parties _ at_assets) o.two.two.one in
-    let at_start : Heads behind_origin o.between = start_heads d.start behind_start _ _ at_parties o.two.one in
+    let templates = at_templates [] d.templates _ rest heads o.two.two.two.two.two in
+    let labels = at_labels [] d.labels _ _ templates o.two.two.two.two.one in
+    let assets = at_names (codes "asset") behind_assets [] d.assets _ _ labels o.two.two.two.one in
+    let parties = at_names (codes "party") behind_parties [] d.parties _ _ assets o.two.two.one in
+    let start = start_heads d.start behind_start _ _ parties o.two.one in
     let s1 = with_names Party d.parties nothing_declared in
     let s2 = with_names Asset d.assets s1 in
     let s3 = with_names LabelSet (map (λ entry. entry.0) d.labels) s2 in
     word_taken nothing_declared (codes "amounts") _ _ _ x.one
     ∙ integer_taken nothing_declared _ _ _ 12 d.amounts x.two.one
     ∙ mark_taken nothing_declared (codes ";") _ _ _ x.two.two.one
-    ∙ origin_taken nothing_declared _ _ _ behind_origin d.origin refl at_start o.one
-    ∙ start_taken nothing_declared _ _ _ behind_start d.start refl at_parties o.two.one
-    ∙ names_taken nothing_declared Party (codes "party") behind_parties [] d.parties _ _ _ refl at_assets o.two.two.one
-    ∙ names_taken s1 Asset (codes "asset") behind_assets [] d.assets _ _ _ refl at_labels o.two.two.two.one
-    ∙ labels_taken s2 behind_labels [] d.labels _ _ _ refl refl at_templates o.two.two.two.two.one
+    ∙ origin_taken nothing_declared _ _ _ behind_origin d.origin refl start o.one
+    ∙ start_taken nothing_declared _ _ _ behind_start d.start refl parties o.two.one
+    ∙ names_taken nothing_declared Party (codes "party") behind_parties [] d.parties _ _ _ refl assets o.two.two.one
+    ∙ names_taken s1 Asset (codes "asset") behind_assets [] d.assets _ _ _ refl labels o.two.two.two.one
+    ∙ labels_taken s2 behind_labels [] d.labels _ _ _ refl refl templates o.two.two.two.two.one
     ∙ templates_taken s3 behind_templates [] d.templates _ _ _ refl heads o.two.two.two.two.two
 
 pub portfolio_taken : (b : Book) (ts : List Tok) → portfolio b ts [] → run nothing_declared text_places ts ≡ Open []
@@ -307,12 +316,11 @@ portfolio_taken b ts x =
     let s2 = with_names ContractSet (map (λ entry. entry.0) b.contracts) s in
     let y = x.two.two.two in
     let at_end : Heads [] y.two.between = (y.two.two.0, [], y.two.two.1, y.two.two.2) in
-    let at_contracts : Heads behind_templates y.between =
-      heads_repeat (Entry (contract_line s)) behind_templates [] b.contracts _ _ (λ a b ts rest e. heads_word (codes "contract") [] ts e.spelled.between e.spelled.one) (heads_more (codes "contract") [] _ at_end) y.two.one in
+    let behind = at_contracts s [] b.contracts _ _ at_end y.two.one in
     word_taken nothing_declared (codes "portfolio") _ _ _ x.one
     ∙ test_taken nothing_declared nothing_declared _ _ is_version _ _ (λ t e. ap (λ b. if_so b (Next nothing_declared (TheMark (codes ";") ∷ decls_places (ContractLines ∷ TheEnd ∷ [])))) e) x.two.one
     ∙ mark_taken nothing_declared (codes ";") _ _ _ x.two.two.one
-    ∙ decls_taken b.declarations (ContractLines ∷ TheEnd ∷ []) _ _ y.one at_contracts
+    ∙ decls_taken b.declarations (ContractLines ∷ TheEnd ∷ []) _ _ y.one behind
     ∙ contracts_taken s [] [] b.contracts (TheEnd ∷ []) _ _ refl at_end y.two.one
     ∙ test_taken s2 s2 (TheEnd ∷ []) [] is_end _ [] (λ t e. ap (λ is. if_so is (Next s2 [])) e) y.two.two
     ∙ run-end s2 []

@@ -52,28 +52,28 @@ module _ (s : Scope) (ps : List Place) (ts rest : List Tok) where
 
 -- ---- what is a number or a name
 
-number_of_literal : (negative : Bool) (t : Tok) (d : Decimal) → literal_at negative t ≡ Ok d → is_number t ≡ true
+pub number_of_literal : (negative : Bool) (t : Tok) (d : Decimal) → literal_at negative t ≡ Ok d → is_number t ≡ true
 number_of_literal negative t d e = elim (cases_Bool (is_number t)) [
   | inl is ↦ is
   | inr other ↦ let h = rw other at e in absurd cc
 ]
 
-number_of_offset : (negative : Bool) (t : Tok) (n : ℤ) → offset_at negative t ≡ Ok n → is_number t ≡ true
+pub number_of_offset : (negative : Bool) (t : Tok) (n : ℤ) → offset_at negative t ≡ Ok n → is_number t ≡ true
 number_of_offset negative t n e = elim (cases_Bool (is_number t)) [
   | inl is ↦ is
   | inr other ↦ let h = rw other at e in absurd cc
 ]
 
-name_of_variable : (names : List Bytes) (t : Tok) (i : ℕ) → variable_at names t ≡ Ok i → is_name t ≡ true
+pub name_of_variable : (names : List Bytes) (t : Tok) (i : ℕ) → variable_at names t ≡ Ok i → is_name t ≡ true
 name_of_variable names t i e = elim (cases_Bool (is_name t)) [
   | inl is ↦ is
   | inr other ↦ let h = rw other at e in absurd cc
 ]
 
-first_is_number : (names : List Bytes) (t : Tok) → is_number t ≡ true → first_of names t ≡ first_number (literal_at false t)
+pub first_is_number : (names : List Bytes) (t : Tok) → is_number t ≡ true → first_of names t ≡ first_number (literal_at false t)
 first_is_number names t n = rw n refl
 
-first_is_name : (names : List Bytes) (t : Tok) → is_name t ≡ true → first_of names t ≡ first_name (variable_at names t)
+pub first_is_name : (names : List Bytes) (t : Tok) → is_name t ≡ true → first_of names t ≡ first_name (variable_at names t)
 first_is_name names t n = rw (ap is_number_kind (the_name t n)) (rw n refl)
 
 -- ---- what a term begins with

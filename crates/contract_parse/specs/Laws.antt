@@ -35,3 +35,7 @@ TextIsTaken = (bytes : List ℕ) (b : Book) → Text bytes b → run nothing_dec
 
 abbrev pub TextHasNoFault : Type 0
 TextHasNoFault = (bytes : List ℕ) (b : Book) (f : TextFault) → Text bytes b → IsFault bytes f → ⊥
+
+-- one text stands for at most one portfolio
+abbrev pub OneReading : Type 0
+OneReading = (bytes : List ℕ) (b b' : Book) → Text bytes b → Text bytes b' → b ≡ b'

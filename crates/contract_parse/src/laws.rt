@@ -1,5 +1,5 @@
 //! Laws over the definitions of texts: each function's contract is the law.
-ghost use Rattle.contract_parse.specs.Laws.{ContractIsTaken, DeclarationsAreTaken, ExpressionIsTaken, TextHasNoFault, TextIsTaken};
+ghost use Rattle.contract_parse.specs.Laws.{ContractIsTaken, DeclarationsAreTaken, ExpressionIsTaken, OneReading, TextHasNoFault, TextIsTaken};
 
 /// What is spelled as an expression is taken at a place of an expression.
 pub fn expression_is_taken()
@@ -24,4 +24,9 @@ pub fn text_is_taken()
 /// A text of a portfolio has no fault.
 pub fn text_has_no_fault()
     ensures { TextHasNoFault }
+{}
+
+/// One text stands for at most one portfolio.
+pub fn one_reading()
+    ensures { OneReading }
 {}
