@@ -7,3 +7,5 @@ pub mod TextFacts
 pub mod OneToken
 pub mod OneTerm
 pub mod OneText
+pub mod Weights
+pub mod TextSizes

@@ -10,3 +10,4 @@ pub mod Places
 pub mod Texts
 pub mod Reading
 pub mod Laws
+pub mod Payments
