@@ -1,5 +1,5 @@
 -- What is spelled as lines of a portfolio is taken at their places, and declares their names.
-use Rattle.std.proofs.Common.{◌≡◌, ℕ, ℤ, ◌+◌, ◌≤◌, Bool, true, false, cond, ◌&&◌, ◌||◌, Option, Some, None, Result, Ok, Err, List, [], ◌∷◌, ◌++◌, refl, sym, ap, ◌∙◌, subst, arith, inl, inr, map}
+use Rattle.std.proofs.Common.{◌≡◌, ℕ, ℤ, Bool, true, false, cond, ◌&&◌, ◌||◌, Option, Some, None, Ok, List, [], ◌∷◌, ◌++◌, refl, sym, ap, ◌∙◌, subst, arith, inl, inr, map}
 use Rattle.std.specs.Prelude.{◌⊎◌, codes, not}
 use Rattle.std.specs.List.{list_all}
 use Rattle.std.specs.Str.{bytes_eq}
@@ -13,16 +13,14 @@ use Rattle.term_core.specs.Books.{Book}
 use Rattle.contract_parse.specs.Tokens.{Tok}
 use Rattle.contract_parse.specs.Words.{Bytes, is_end, is_number, is_the_mark, is_the_word}
 use Rattle.contract_parse.specs.Names.{Scope, names_of, nothing_declared, scope_of, with_names}
-use Rattle.contract_parse.specs.Judgements.{bound_at, integer_at, is_version, literal_at, new_at, origin_at, separator_at, widened}
-use Rattle.contract_parse.specs.Spelling.{Part, Then, ◌⨟◌, Signed, contr, end, mark, nothing, one, sign, valued, word}
-use Rattle.contract_parse.specs.Statements.{Added, Entry, NameList, Repeat, none, more, comma_name, contract_line, decls, label_line, name_line, name_lines, new_name, origin_line, portfolio, range, shallow, start_line, template_line}
-use Rattle.contract_parse.specs.Places.{Place, TheMark, TheWord, TheEnd, IntegerAt, OriginDate, OriginLine, StartLine, NameLines, LabelLines, TemplateLines, ContractLines, NewIn, MoreNames, ScaleAt, BoundAt, BoundNumber, ContrAt, Outcome, Open, Step, Next, Refuse, bound_places, contract_places, decls_places, flag_places, if_so, judged, line_places, list_places, number_label_places, range_places, run, step, template_places, text_places}
+use Rattle.contract_parse.specs.Judgements.{bound_at, integer_at, is_version, new_at, origin_at, separator_at}
+use Rattle.contract_parse.specs.Spelling.{Part, ◌⨟◌, mark, sign, valued, word}
+use Rattle.contract_parse.specs.Statements.{Added, Entry, Repeat, none, more, comma_name, contract_line, decls, label_line, name_line, new_name, origin_line, portfolio, range, start_line, template_line}
+use Rattle.contract_parse.specs.Places.{Place, TheMark, TheEnd, IntegerAt, OriginDate, OriginLine, StartLine, NameLines, LabelLines, TemplateLines, ContractLines, NewIn, MoreNames, ScaleAt, BoundAt, BoundNumber, Open, Next, bound_places, contract_places, decls_places, flag_places, if_so, judged, list_places, number_label_places, range_places, run, step, template_places, text_places}
 use Rattle.contract_parse.specs.declared.names.NameSet.{NameSet}
 use Rattle.contract_parse.specs.declared.names.NameSet.TheVariants.{Party, Asset, Label as LabelSet, Template, Contract as ContractSet}
-use Rattle.contract_parse.specs.declared.faults.TextKind.{TextKind}
-use Rattle.contract_parse.specs.declared.faults.TextKind.TheVariants.{Syntax}
 use Rattle.contract_parse.proofs.Passing.{end_no_word, mark_taken, not_word, of_mark, number_no_mark, run-alike, run-end, test_taken, value_taken, word_taken}
-use Rattle.contract_parse.proofs.TermsTaken.{Takes, contr_taken, integer_taken, with_contracts}
+use Rattle.contract_parse.proofs.TermsTaken.{contr_taken, integer_taken}
 
 -- ---- what a line begins with
 

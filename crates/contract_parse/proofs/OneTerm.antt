@@ -1,25 +1,20 @@
 -- One reading of the tokens of a term.
-use Rattle.std.proofs.Common.{◌≡◌, ℕ, ℤ, Bool, true, false, cond, ◌&&◌, Option, Some, None, Result, Ok, Err, List, [], ◌∷◌, refl, sym, ap, ◌∙◌, subst}
+use Rattle.std.proofs.Common.{◌≡◌, ℕ, Bool, true, false, Result, Ok, Err, List, ◌∷◌, refl, sym, ap, ◌∙◌, subst}
 use Rattle.std.specs.Prelude.{codes, ◌==◌}
 use Rattle.std.proofs.lemmas.Bool.{false≢true, eq-eqb}
 use Rattle.decimal.specs.declared.Decimal.{Decimal}
 use Rattle.term_core.specs.Terms.{Expression, Lit, Yes, Var, Obs, Neg, Num, Cmp, Not, Logic, Cond, Widen, Round, Div, Acc, Contract, Zero, Pay, Both, Scale, After, Let, Within}
-use Rattle.term_core.specs.declared.terms.NumOp.{NumOp}
 use Rattle.term_core.specs.declared.terms.NumOp.TheVariants.{Plus, Minus, Times, Min, Max}
-use Rattle.term_core.specs.declared.terms.CmpOp.{CmpOp}
-use Rattle.term_core.specs.declared.terms.LogicOp.{LogicOp}
 use Rattle.contract_parse.specs.Tokens.{Tok}
-use Rattle.contract_parse.specs.Words.{Bytes, is_the_mark, is_the_word}
+use Rattle.contract_parse.specs.Words.{Bytes, is_the_word}
 use Rattle.contract_parse.specs.Names.{Scope}
 use Rattle.contract_parse.specs.Judgements.{binder_at, days_at, integer_at, literal_at, mode_at, offset_at, operator_at, use_at, variable_at}
 use Rattle.contract_parse.specs.Heads.{first_name, first_number, first_of, head_of}
-use Rattle.contract_parse.specs.Spelling.{Part, Then, ◌⨟◌, SomeName, Signed, contr, expr, infixed, mark, one, pair, sign, valued, word}
+use Rattle.contract_parse.specs.Spelling.{◌⨟◌, contr, expr, infixed, mark, sign, valued, word}
 use Rattle.contract_parse.specs.declared.token.Kind.TheVariants.{Word, Mark}
 use Rattle.contract_parse.specs.declared.faults.TextKind.{TextKind}
 use Rattle.contract_parse.specs.declared.heads.First.{First}
-use Rattle.contract_parse.specs.declared.heads.First.TheVariants as First
 use Rattle.contract_parse.specs.declared.heads.Head.{Head}
-use Rattle.contract_parse.specs.declared.heads.Head.TheVariants as Head
 use Rattle.contract_parse.specs.declared.heads.Operator.{Operator}
 use Rattle.contract_parse.specs.declared.heads.Operator.TheVariants.{Arithmetic, Comparison, Logic as Connective}
 use Rattle.contract_parse.proofs.Passing.{of_mark, of_word}

@@ -1,6 +1,6 @@
 -- One reading of the lines of a portfolio.
-use Rattle.std.proofs.Common.{◌≡◌, ℕ, ℤ, Bool, true, false, Option, Some, None, List, [], ◌∷◌, ◌++◌, refl, sym, ap, ◌∙◌, subst, inl, inr}
-use Rattle.std.specs.Prelude.{◌⊎◌, codes, not}
+use Rattle.std.proofs.Common.{◌≡◌, ℕ, ℤ, true, false, Option, Some, None, List, [], ◌∷◌, ◌++◌, refl, sym, ap, ◌∙◌, subst, inl, inr}
+use Rattle.std.specs.Prelude.{codes, not}
 use Rattle.std.specs.List.{list_all}
 use Rattle.std.specs.Str.{bytes_eq}
 use Rattle.std.proofs.lemmas.Bool.{false≢true}
@@ -13,13 +13,13 @@ use Rattle.contract_parse.specs.Tokens.{Tok, tokens}
 use Rattle.contract_parse.specs.Words.{Bytes, is_the_mark, is_the_word}
 use Rattle.contract_parse.specs.Names.{Scope, scope_of}
 use Rattle.contract_parse.specs.Judgements.{bound_at, integer_at, new_at, origin_at}
-use Rattle.contract_parse.specs.Spelling.{Part, Then, ◌⨟◌, Signed, contr, end, mark, nothing, valued, word}
-use Rattle.contract_parse.specs.Statements.{Added, Entry, NameList, Repeat, none, more, comma_name, contract_line, decls, label_line, name_line, name_lines, new_name, origin_line, portfolio, range, shallow, start_line, template_line}
+use Rattle.contract_parse.specs.Spelling.{Part, Then, ◌⨟◌, Signed, end, mark, valued, word}
+use Rattle.contract_parse.specs.Statements.{Added, Entry, NameList, Repeat, none, more, comma_name, contract_line, decls, label_line, name_line, name_lines, origin_line, portfolio, range, start_line, template_line}
 use Rattle.contract_parse.specs.Texts.{Text}
 use Rattle.contract_parse.proofs.Passing.{of_mark}
 use Rattle.contract_parse.proofs.OneToken.{one_one, part_case, signed_one, tail_same, test_case, value_case, value_one}
 use Rattle.contract_parse.proofs.OneTerm.{one_contr, other_words}
-use Rattle.contract_parse.proofs.LinesTaken.{Heads, at_contracts, at_labels, at_names, at_templates, behind_assets, behind_labels, behind_origin, behind_parties, behind_start, behind_templates, leads, leads_other, number_of_bound, start_heads}
+use Rattle.contract_parse.proofs.LinesTaken.{Heads, at_contracts, at_labels, at_names, at_templates, behind_assets, behind_labels, behind_origin, behind_parties, behind_start, behind_templates, leads_other, number_of_bound, start_heads}
 
 -- ---- any number of times
 

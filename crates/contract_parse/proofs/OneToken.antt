@@ -1,10 +1,10 @@
 -- Two readings of the same tokens: what one token is, and parts one after another.
-use Rattle.std.proofs.Common.{◌≡◌, ℕ, ℤ, Bool, true, false, cond, Option, Some, None, Result, Ok, Err, List, [], ◌∷◌, refl, sym, ap, ◌∙◌, subst}
+use Rattle.std.proofs.Common.{◌≡◌, Bool, true, false, Result, Ok, List, ◌∷◌, sym, ap, ◌∙◌, subst}
 use Rattle.std.specs.Prelude.{codes}
 use Rattle.std.proofs.lemmas.Bool.{false≢true}
 use Rattle.contract_parse.specs.Tokens.{Tok}
-use Rattle.contract_parse.specs.Words.{Bytes, is_number, is_the_mark}
-use Rattle.contract_parse.specs.Spelling.{Part, Then, ◌⨟◌, Signed, mark, one, sign, valued, word}
+use Rattle.contract_parse.specs.Words.{is_number, is_the_mark}
+use Rattle.contract_parse.specs.Spelling.{Part, Then, ◌⨟◌, Signed, mark, one, sign, valued}
 use Rattle.contract_parse.specs.declared.faults.TextKind.{TextKind}
 use Rattle.contract_parse.proofs.Passing.{number_no_mark}
 

@@ -1,16 +1,13 @@
 -- What is spelled as one token is taken at its place.
-use Rattle.std.proofs.Common.{◌≡◌, ℕ, ℤ, ◌+◌, ◌≤◌, Bool, true, false, cond, ◌&&◌, ◌||◌, Option, Some, None, Result, Ok, Err, List, [], ◌∷◌, refl, sym, ap, ◌∙◌, subst, nat_lt}
-use Rattle.std.specs.Prelude.{codes, not}
+use Rattle.std.proofs.Common.{◌≡◌, Bool, true, false, ◌&&◌, Result, Ok, List, [], ◌∷◌, refl, sym, ap, subst}
 use Rattle.std.specs.Str.{bytes_eq}
-use Rattle.std.specs.List.{list_all}
 use Rattle.std.proofs.lemmas.Slice.Eq.{bytes_eq-Decides}
-use Rattle.std.proofs.lemmas.Bool.{cases_Bool, false≢true, le-ltb}
-use Rattle.decimal.specs.declared.Decimal.{Decimal}
+use Rattle.std.proofs.lemmas.Bool.{false≢true}
 use Rattle.contract_parse.specs.Tokens.{Tok}
 use Rattle.contract_parse.specs.Words.{Bytes, is_end, is_end_kind, is_mark_kind, is_name, is_number, is_number_kind, is_the_mark, is_the_word, is_word_kind}
 use Rattle.contract_parse.specs.Names.{Scope}
 use Rattle.contract_parse.specs.Spelling.{mark, one, valued, word}
-use Rattle.contract_parse.specs.Places.{Place, TheMark, TheWord, Step, Next, Refuse, Outcome, Open, Stops, judged, if_so, run, step}
+use Rattle.contract_parse.specs.Places.{Place, TheMark, TheWord, Next, Open, if_so, run, step}
 use Rattle.contract_parse.specs.declared.token.Kind.{Kind}
 use Rattle.contract_parse.specs.declared.token.Kind.TheVariants.{Word, Number, Date, Mark, End, Stray}
 use Rattle.contract_parse.specs.declared.faults.TextKind.{TextKind}

@@ -1,28 +1,24 @@
 -- What is spelled as a term is taken at its place.
-use Rattle.std.proofs.Common.{◌≡◌, ℕ, ℤ, ◌+◌, ◌≤◌, ◌<◌, max, Bool, true, false, cond, ◌&&◌, ◌||◌, Option, Some, None, Result, Ok, Err, List, [], ◌∷◌, refl, sym, ap, ◌∙◌, subst, arith, lit<, nat_lt, inl, inr}
-use Rattle.std.specs.Prelude.{codes, not}
-use Rattle.std.proofs.lemmas.Bool.{cases_Bool, false≢true, le-ltb}
+use Rattle.std.proofs.Common.{◌≡◌, ℕ, ℤ, ◌+◌, ◌≤◌, ◌<◌, Bool, true, false, cond, Ok, Err, List, ◌∷◌, refl, ap, ◌∙◌, arith, lit<, inl, inr}
+use Rattle.std.specs.Prelude.{codes}
+use Rattle.std.proofs.lemmas.Bool.{cases_Bool, le-ltb}
 use Rattle.decimal.specs.declared.Mode.{Mode}
 use Rattle.decimal.specs.declared.Decimal.{Decimal}
 use Rattle.term_core.specs.Terms.{Expression, Lit, Yes, Var, Obs, Neg, Num, Cmp, Not, Logic, Cond, Widen, Round, Div, Acc, Contract, Zero, Pay, Both, Scale, After, Let, Within}
 use Rattle.term_core.specs.Sizes.{height, height_of_contract}
 use Rattle.term_core.specs.declared.terms.Days.{Days}
-use Rattle.term_core.specs.declared.terms.NumOp.{NumOp}
 use Rattle.term_core.specs.declared.terms.NumOp.TheVariants.{Plus, Minus, Times, Min, Max}
 use Rattle.contract_parse.specs.Tokens.{Tok}
-use Rattle.contract_parse.specs.Words.{Bytes, is_mark_kind, is_name, is_number, is_the_mark, is_the_word, is_word_kind, is_number_kind}
+use Rattle.contract_parse.specs.Words.{Bytes, is_name, is_number, is_the_mark, is_the_word, is_number_kind}
 use Rattle.contract_parse.specs.Names.{Scope}
-use Rattle.contract_parse.specs.Judgements.{binder_at, days_at, integer_at, literal_at, mode_at, offset_at, operator_at, signed_result, use_at, variable_at}
-use Rattle.contract_parse.specs.Heads.{first_at, first_name, first_number, first_of, first_word, head_at, head_of, within_depth}
-use Rattle.contract_parse.specs.Spelling.{Part, Then, ◌⨟◌, SomeName, Signed, contr, expr, infixed, mark, nothing, one, pair, sign, valued, word}
-use Rattle.contract_parse.specs.Places.{Place, TheMark, TheWord, IntegerAt, UseOf, OffsetAt, OffsetNumber, LiteralNumber, DaysAt, ModeAt, OperatorAt, BinderAt, ExprAt, ContrAt, Step, Next, Refuse, binder_places, contr_places, expr_places, judged, operand_places, pair_places, run, step}
+use Rattle.contract_parse.specs.Judgements.{binder_at, days_at, integer_at, literal_at, mode_at, offset_at, operator_at, use_at, variable_at}
+use Rattle.contract_parse.specs.Heads.{first_name, first_number, first_of, head_of, within_depth}
+use Rattle.contract_parse.specs.Spelling.{Part, ◌⨟◌, Signed, contr, expr, infixed, mark, pair, sign, valued, word}
+use Rattle.contract_parse.specs.Places.{Place, IntegerAt, UseOf, OffsetAt, OffsetNumber, LiteralNumber, DaysAt, ModeAt, OperatorAt, BinderAt, ExprAt, ContrAt, Next, binder_places, contr_places, expr_places, judged, operand_places, pair_places, run, step}
 use Rattle.contract_parse.specs.declared.token.Kind.TheVariants.{Word, Mark}
-use Rattle.contract_parse.specs.declared.faults.TextKind.{TextKind}
-use Rattle.contract_parse.specs.declared.faults.TextKind.TheVariants.{Syntax, Deep}
+use Rattle.contract_parse.specs.declared.faults.TextKind.TheVariants.{Deep}
 use Rattle.contract_parse.specs.declared.heads.First.{First}
-use Rattle.contract_parse.specs.declared.heads.First.TheVariants as First
 use Rattle.contract_parse.specs.declared.heads.Head.{Head}
-use Rattle.contract_parse.specs.declared.heads.Head.TheVariants as Head
 use Rattle.contract_parse.specs.declared.heads.Binder.{Binder}
 use Rattle.contract_parse.specs.declared.heads.Binder.TheVariants as binder
 use Rattle.contract_parse.specs.declared.heads.Operator.{Operator}

@@ -1,9 +1,7 @@
 -- A text of a portfolio has no fault.
-use Rattle.std.proofs.Common.{◌≡◌, ℕ, ◌-◌, List, [], length, refl, sym, ◌∙◌}
+use Rattle.std.proofs.Common.{ℕ, List}
 use Rattle.term_core.specs.Books.{Book}
 use Rattle.contract_parse.specs.Tokens.{tokens}
-use Rattle.contract_parse.specs.Names.{nothing_declared}
-use Rattle.contract_parse.specs.Places.{Outcome, Open, Stops, run, text_places}
 use Rattle.contract_parse.specs.Texts.{FirstFault, IsFault, Text, no_utf8, refused}
 use Rattle.contract_parse.specs.declared.faults.TextKind.{TextKind}
 use Rattle.contract_parse.specs.declared.faults.TextFault.{TextFault}

@@ -1,6 +1,6 @@
 -- What a text holds is bounded by its length.
-use Rattle.std.proofs.Common.{◌≡◌, ℕ, ℤ, ◌+◌, ◌-◌, ◌*◌, ◌<◌, ◌≤◌, Bool, true, false, cond, Option, Some, None, Result, Ok, Err, List, [], ◌∷◌, ◌++◌, length, length-append, refl, sym, ap, ◌∙◌, inl, inr, arith, subst, map}
-use Rattle.std.specs.Prelude.{◌⊎◌, All, codes}
+use Rattle.std.proofs.Common.{◌≡◌, ℕ, ℤ, ◌+◌, ◌-◌, ◌*◌, ◌<◌, ◌≤◌, Bool, false, Option, Some, None, Ok, List, [], ◌∷◌, ◌++◌, length, length-append, sym, ap, inl, inr, arith, subst}
+use Rattle.std.specs.Prelude.{All, codes}
 use Rattle.std.specs.List.{sum_by}
 use Rattle.std.proofs.lemmas.List.Sums.{sum_by_push}
 use Rattle.std.proofs.lemmas.List.Elements.{All-nil, All-push}
@@ -15,8 +15,8 @@ use Rattle.contract_parse.specs.Tokens.{Tok, is_last, tokens}
 use Rattle.contract_parse.specs.Words.{Bytes, is_name}
 use Rattle.contract_parse.specs.Names.{Scope, scope_of}
 use Rattle.contract_parse.specs.Judgements.{bound_at, integer_at, is_version, new_at, origin_at}
-use Rattle.contract_parse.specs.Spelling.{Part, Then, ◌⨟◌, Signed, contr, end, mark, nothing, one, sign, valued, word}
-use Rattle.contract_parse.specs.Statements.{Added, Entry, NameList, Repeat, none, more, comma_name, contract_line, decls, label_line, name_line, name_lines, new_name, origin_line, portfolio, range, shallow, start_line, template_line}
+use Rattle.contract_parse.specs.Spelling.{Part, contr, mark, one, valued}
+use Rattle.contract_parse.specs.Statements.{Added, Entry, Repeat, none, more, comma_name, contract_line, decls, label_line, name_line, origin_line, range, shallow, start_line, template_line}
 use Rattle.contract_parse.specs.Texts.{Text}
 use Rattle.contract_parse.specs.Payments.{payments_in}
 use Rattle.contract_parse.specs.Laws.{NamesFit}
@@ -76,8 +76,13 @@ comma_grows a b ts rest x = omega (arith, (mark_least (codes ",") (omega arith))
 names_grow : (w : Bytes) → Grows length (name_line w)
 names_grow w a b ts rest x =
     let l = x.two in
-    omega (arith, (word_least w 0 (omega arith)).least ts x.between x.one, added_grows a l.first x.between l.spelled.between l.spelled.one,
-    repeat_grows length comma_name comma_grows l.first b l.spelled.between l.spelled.two.between l.spelled.two.one, semicolon_least.least l.spelled.two.between rest l.spelled.two.two)
+    omega (
+      arith,
+      (word_least w 0 (omega arith)).least ts x.between x.one,
+      added_grows a l.first x.between l.spelled.between l.spelled.one,
+      repeat_grows length comma_name comma_grows l.first b l.spelled.between l.spelled.two.between l.spelled.two.one,
+      semicolon_least.least l.spelled.two.between rest l.spelled.two.two,
+    )
 
 -- ---- entries
 
@@ -176,8 +181,12 @@ pub nodes_fit : (bytes : List ℕ) (b : Book) → Text bytes b → sum_by (λ en
 nodes_fit bytes b text =
     let s = scope_of b.declarations [] in
     let l = contract_lines bytes b text in
-    omega (arith, l.light, repeat_grows all_nodes (Entry (contract_line s)) (entry_grows all_nodes (λ e. nodes_of_contract e.1) (contract_line s) (λ es e. sum_by_push (λ entry. nodes_of_contract entry.1) es e)
-    (λ es name c. lighter (line_least (nodes_of_contract c) s es name c (contr_least s [] c)) (omega arith))) [] b.contracts l.before l.behind l.spelled)
+    omega (
+      arith,
+      l.light,
+      repeat_grows all_nodes (Entry (contract_line s)) (entry_grows all_nodes (λ e. nodes_of_contract e.1) (contract_line s) (λ es e. sum_by_push (λ entry. nodes_of_contract entry.1) es e)
+          (λ es name c. lighter (line_least (nodes_of_contract c) s es name c (contr_least s [] c)) (omega arith))) [] b.contracts l.before l.behind l.spelled,
+    )
 
 pub payments_fit : (bytes : List ℕ) (b : Book) → Text bytes b → All (λ entry. 17 * payments_in entry.1 ≤ length bytes + 7) b.contracts
 payments_fit bytes b text =

@@ -1,17 +1,17 @@
 -- How many bytes the tokens of a text have, and how many a term takes at least.
-use Rattle.std.proofs.Common.{◌≡◌, ℕ, ℤ, zero, suc, ◌+◌, ◌-◌, ◌*◌, ◌<◌, ◌≤◌, max, min, Bool, true, false, cond, ◌&&◌, Option, Some, None, Result, Ok, Err, List, [], ◌∷◌, length, take, drop, refl, sym, ap, ◌∙◌, inl, inr, arith, length-drop}
+use Rattle.std.proofs.Common.{◌≡◌, ℕ, zero, suc, ◌+◌, ◌-◌, ◌*◌, ◌≤◌, max, Bool, true, false, cond, Result, Ok, List, [], ◌∷◌, length, ap, inl, inr, arith, length-drop}
 use Rattle.std.specs.Prelude.{codes}
 use Rattle.std.proofs.lemmas.List.{length-take}
-use Rattle.std.proofs.lemmas.Bool.{cases_Bool, false≢true}
+use Rattle.std.proofs.lemmas.Bool.{cases_Bool}
 use Rattle.decimal.specs.declared.Decimal.{Decimal}
 use Rattle.term_core.specs.Terms.{Expression, Lit, Yes, Var, Obs, Neg, Num, Cmp, Not, Logic, Cond, Widen, Round, Div, Acc, Contract, Zero, Pay, Both, Scale, After, Let, Within}
 use Rattle.term_core.specs.Sizes.{nodes, nodes_of_contract}
-use Rattle.term_core.specs.declared.terms.NumOp.TheVariants.{Plus, Minus, Times, Min, Max}
-use Rattle.contract_parse.specs.Tokens.{Tok, after_gap, extent_at, is_last, next_token, token_at, tokens, tokens_from}
-use Rattle.contract_parse.specs.Words.{Bytes, is_name, is_number, is_the_mark, is_the_word}
+use Rattle.term_core.specs.declared.terms.NumOp.TheVariants.{Min, Max}
+use Rattle.contract_parse.specs.Tokens.{Tok, after_gap, extent_at, is_last, next_token, tokens, tokens_from}
+use Rattle.contract_parse.specs.Words.{Bytes, is_name}
 use Rattle.contract_parse.specs.Names.{Scope}
 use Rattle.contract_parse.specs.Judgements.{days_at, integer_at, literal_at, mode_at, offset_at, operator_at, binder_at, use_at, variable_at}
-use Rattle.contract_parse.specs.Spelling.{Part, Then, ◌⨟◌, SomeName, Signed, contr, expr, mark, nothing, one, sign, valued, word}
+use Rattle.contract_parse.specs.Spelling.{Part, ◌⨟◌, SomeName, Signed, contr, expr, mark, sign, valued, word}
 use Rattle.contract_parse.specs.Payments.{payments_in}
 use Rattle.contract_parse.specs.declared.faults.TextKind.{TextKind}
 use Rattle.contract_parse.proofs.TokenFacts.{gap_shorter, shorter}
