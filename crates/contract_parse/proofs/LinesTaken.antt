@@ -16,7 +16,7 @@ use Rattle.contract_parse.specs.Names.{Scope, names_of, nothing_declared, scope_
 use Rattle.contract_parse.specs.Judgements.{bound_at, integer_at, is_version, new_at, origin_at, separator_at}
 use Rattle.contract_parse.specs.Spelling.{Part, ◌⨟◌, mark, sign, valued, word}
 use Rattle.contract_parse.specs.Statements.{Added, Entry, Repeat, none, more, comma_name, contract_line, decls, label_line, name_line, new_name, origin_line, portfolio, range, start_line, template_line}
-use Rattle.contract_parse.specs.Places.{Place, TheMark, TheEnd, IntegerAt, OriginDate, OriginLine, StartLine, NameLines, LabelLines, TemplateLines, ContractLines, NewIn, MoreNames, ScaleAt, BoundAt, BoundNumber, Open, Next, bound_places, contract_places, decls_places, flag_places, if_so, judged, list_places, number_label_places, range_places, run, step, template_places, text_places}
+use Rattle.contract_parse.specs.Places.{Place, TheMark, TheEnd, IntegerAt, OriginDate, OriginLine, StartLine, NameLines, LabelLines, TemplateLines, ContractLines, NewIn, MoreNames, ScaleAt, BoundAt, BoundNumber, Open, Next, bound_places, contract_places, decls_places, flag_places, judged, list_places, number_label_places, range_places, run, step, template_places, text_places}
 use Rattle.contract_parse.specs.declared.names.NameSet.{NameSet}
 use Rattle.contract_parse.specs.declared.names.NameSet.TheVariants.{Party, Asset, Label as LabelSet, Template, Contract as ContractSet}
 use Rattle.contract_parse.proofs.Passing.{end_no_word, mark_taken, not_word, of_mark, number_no_mark, run-alike, run-end, test_taken, value_taken, word_taken}
@@ -316,9 +316,9 @@ portfolio_taken b ts x =
     let at_end : Heads [] y.two.between = (y.two.two.0, [], y.two.two.1, y.two.two.2) in
     let behind = at_contracts s [] b.contracts _ _ at_end y.two.one in
     word_taken nothing_declared (codes "portfolio") _ _ _ x.one
-    ∙ test_taken nothing_declared nothing_declared _ _ is_version _ _ (λ t e. ap (λ b. if_so b (Next nothing_declared (TheMark (codes ";") ∷ decls_places (ContractLines ∷ TheEnd ∷ [])))) e) x.two.one
+    ∙ test_taken nothing_declared nothing_declared _ _ is_version _ _ (λ t e. rw e refl) x.two.one
     ∙ mark_taken nothing_declared (codes ";") _ _ _ x.two.two.one
     ∙ decls_taken b.declarations (ContractLines ∷ TheEnd ∷ []) _ _ y.one behind
     ∙ contracts_taken s [] [] b.contracts (TheEnd ∷ []) _ _ refl at_end y.two.one
-    ∙ test_taken s2 s2 (TheEnd ∷ []) [] is_end _ [] (λ t e. ap (λ is. if_so is (Next s2 [])) e) y.two.two
+    ∙ test_taken s2 s2 (TheEnd ∷ []) [] is_end _ [] (λ t e. rw e refl) y.two.two
     ∙ run-end s2 []
