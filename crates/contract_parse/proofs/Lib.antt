@@ -9,3 +9,4 @@ pub mod OneTerm
 pub mod OneText
 pub mod Weights
 pub mod TextSizes
+pub mod SampleText

@@ -14,6 +14,7 @@ use Rattle.contract_parse.specs.Statements.{decls}
 use Rattle.contract_parse.specs.Places.{Place, ExprAt, ContrAt, Open, decls_places, run, text_places}
 use Rattle.contract_parse.specs.Texts.{Text, IsFault}
 use Rattle.contract_parse.specs.Payments.{payments_in}
+use Rattle.contract_parse.specs.Sample.{sample_book, sample_text}
 use Rattle.contract_parse.specs.declared.faults.TextFault.{TextFault}
 
 -- at most 200 terms are open at one place, and the term's own depth is counted
@@ -65,3 +66,7 @@ PaymentsFitText = (bytes : List ℕ) (b : Book) → Text bytes b → All (λ ent
 -- 16 MiB is the most that a text may have
 abbrev pub PaymentsAreBounded : Type 0
 PaymentsAreBounded = (bytes : List ℕ) (b : Book) → Text bytes b → length bytes ≤ 16_777_216 → All (λ entry. payments_in entry.1 < 1_000_000) b.contracts
+
+-- a text that stands for a portfolio
+abbrev pub SampleIsText : Type 0
+SampleIsText = Text sample_text sample_book

@@ -11,3 +11,4 @@ pub mod Texts
 pub mod Reading
 pub mod Laws
 pub mod Payments
+pub mod Sample

@@ -1,5 +1,5 @@
 //! Laws over the definitions of texts: each function's contract is the law.
-ghost use Rattle.contract_parse.specs.Laws.{ContractIsTaken, ContractsFitText, DeclarationsAreTaken, ExpressionIsTaken, NamesFitText, NodesFitText, OneReading, PaymentsAreBounded, PaymentsFitText, TextHasNoFault, TextIsTaken};
+ghost use Rattle.contract_parse.specs.Laws.{ContractIsTaken, ContractsFitText, DeclarationsAreTaken, ExpressionIsTaken, NamesFitText, NodesFitText, OneReading, PaymentsAreBounded, PaymentsFitText, SampleIsText, TextHasNoFault, TextIsTaken};
 
 /// What is spelled as an expression is taken at a place of an expression.
 pub fn expression_is_taken()
@@ -54,4 +54,9 @@ pub fn payments_fit_text()
 /// A contract of a text of at most 16 MiB holds fewer than a million payments.
 pub fn payments_are_bounded()
     ensures { PaymentsAreBounded }
+{}
+
+/// A small text stands for its portfolio, so that the laws speak of something.
+pub fn sample_is_text()
+    ensures { SampleIsText }
 {}
