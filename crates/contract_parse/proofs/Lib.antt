@@ -1,5 +1,9 @@
 pub mod TokenFacts
 pub mod NumberFacts
+pub mod EntryFacts
+pub mod NameFacts
+pub mod Steps
+pub mod Parts
 pub mod Passing
 pub mod TermsTaken
 pub mod LinesTaken

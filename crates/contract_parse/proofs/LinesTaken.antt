@@ -19,7 +19,8 @@ use Rattle.contract_parse.specs.Statements.{Added, Entry, Repeat, none, more, co
 use Rattle.contract_parse.specs.Places.{Place, TheMark, TheEnd, IntegerAt, OriginDate, OriginLine, StartLine, NameLines, LabelLines, TemplateLines, ContractLines, NewIn, MoreNames, ScaleAt, BoundAt, BoundNumber, Open, Next, bound_places, contract_places, decls_places, flag_places, judged, list_places, number_label_places, range_places, run, step, template_places, text_places}
 use Rattle.contract_parse.specs.declared.names.NameSet.{NameSet}
 use Rattle.contract_parse.specs.declared.names.NameSet.TheVariants.{Party, Asset, Label as LabelSet, Template, Contract as ContractSet}
-use Rattle.contract_parse.proofs.Passing.{end_no_word, mark_taken, not_word, of_mark, number_no_mark, run-alike, run-end, test_taken, value_taken, word_taken}
+use Rattle.contract_parse.proofs.Steps.{run-same}
+use Rattle.contract_parse.proofs.Passing.{end_no_word, mark_taken, not_word, of_mark, number_no_mark, run-end, test_taken, value_taken, word_taken}
 use Rattle.contract_parse.proofs.TermsTaken.{contr_taken, integer_taken}
 
 -- ---- what a line begins with
@@ -64,7 +65,7 @@ heads_repeat line ws a b ts rest first last (more x xs) = first _ _ _ _ x
 
 -- a line that is absent
 absent : (s : Scope) (v : Bytes) (ws : List Bytes) (p : Place) (ps : List Place) (ts : List Tok) → ((t : Tok) → is_the_word v t ≡ false → step s (p ∷ ps) t ≡ step s ps t) → list_all (λ w. not (bytes_eq w v)) ws ≡ true → Heads ws ts → run s (p ∷ ps) ts ≡ run s ps ts
-absent s v ws p ps ts skips other (t, rest, is, e) = rw is (run-alike s (p ∷ ps) ps t rest (skips t (leads_other v ws t other e)))
+absent s v ws p ps ts skips other (t, rest, is, e) = rw is (run-same s (p ∷ ps) ps t rest (skips t (leads_other v ws t other e)))
 
 -- ---- new names
 
@@ -180,7 +181,7 @@ module _ (s : Scope) where
 
   labels_taken : (ws : List Bytes) (a b : List (Bytes × Label)) (ps : List Place) (ts rest : List Tok) → list_all (λ v. not (bytes_eq v (codes "num"))) ws ≡ true → list_all (λ v. not (bytes_eq v (codes "flag"))) ws ≡ true → Heads ws rest → Repeat (Entry label_line) a b ts rest → run (L a) (LabelLines ∷ ps) ts ≡ run (L b) ps rest
   labels_taken ws a b ps ts rest no_num no_flag (t, left, is, e) none =
-      rw is (run-alike (L a) (LabelLines ∷ ps) ps t left (no_num_step (L a) ps t false (leads_other (codes "num") ws t no_num e) (leads_other (codes "flag") ws t no_flag e)))
+      rw is (run-same (L a) (LabelLines ∷ ps) ps t left (no_num_step (L a) ps t false (leads_other (codes "num") ws t no_num e) (leads_other (codes "flag") ws t no_flag e)))
   labels_taken ws a b ps ts rest no_num no_flag heads (more {between = m} x xs) =
       label_taken a x.name x.value ps ts _ x.spelled ∙ ap (λ es. run (L es) (LabelLines ∷ ps) m) (sym x.is) ∙ labels_taken ws _ b ps _ rest no_num no_flag heads xs
 

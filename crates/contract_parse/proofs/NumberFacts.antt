@@ -1,7 +1,9 @@
 -- Numbers of tokens are within their limits.
 use Rattle.std.proofs.Common.{◌≡◌, ℕ, ℤ, pos, neg_ℤ, ◌+◌, ◌-◌, ◌*◌, ◌^◌, ◌≤◌, ◌<◌, Bool, true, false, ◌&&◌, cond, List, [], ◌∷◌, Option, Some, None, Result, Ok, Err, length, take, drop, nat_le, unsigned_abs, refl, sym, ap, ◌∙◌, arith, inl, inr}
 use Rattle.std.specs.Prelude.{position, ◌==◌}
-use Rattle.std.proofs.lemmas.Int.{ints}
+use Rattle.std.proofs.lemmas.Int.{fits_signed_from_abs, ints}
+use Rattle.std.proofs.Common.{FitsSigned, w32, w64}
+use mir.Syntax.{w128}
 use Rattle.std.proofs.lemmas.Bool.{cases_Bool, cases_lt}
 use Rattle.std.proofs.lemmas.Bool.Decides.{nat_tests}
 use Rattle.decimal.specs.declared.Decimal.{Decimal}
@@ -57,3 +59,13 @@ decimal_within text d same = is_within (read_of text) d same (read_within text)
 -- a number that has passed the limit stays past it
 pub past_limit : (most n m : ℕ) (ds : List ℕ) → n ≡ number_after m ds → most < m → up_to most n ≡ None
 past_limit most n m ds is h = let past : most < n = omega (arith, number_after-ge m ds) in grind (arith, nat_tests)
+
+-- numbers that fit the code's
+pub fits_small : (n : ℤ) → unsigned_abs n ≤ 1_000_000 → FitsSigned w32 n
+fits_small n h = fits_signed_from_abs w32 n (omega arith)
+
+pub fits_day : (n : ℤ) → unsigned_abs n ≤ 400_000 → FitsSigned w64 n
+fits_day n h = fits_signed_from_abs w64 n (omega arith)
+
+pub fits_wide : (n : ℤ) → unsigned_abs n ≤ 10 ^ 37 → FitsSigned w128 n
+fits_wide n h = fits_signed_from_abs w128 n (omega arith)

@@ -8,18 +8,10 @@ use Rattle.contract_parse.specs.Words.{Bytes, is_end, is_end_kind, is_mark_kind,
 use Rattle.contract_parse.specs.Names.{Scope}
 use Rattle.contract_parse.specs.Spelling.{mark, one, valued, word}
 use Rattle.contract_parse.specs.Places.{Place, TheMark, TheWord, Next, Open, run, step}
+use Rattle.contract_parse.proofs.Steps.{run-next}
 use Rattle.contract_parse.specs.declared.token.Kind.{Kind}
 use Rattle.contract_parse.specs.declared.token.Kind.TheVariants.{Word, Number, Date, Mark, End, Stray}
 use Rattle.contract_parse.specs.declared.faults.TextKind.{TextKind}
-
-pub run-next : (s s2 : Scope) (ps qs : List Place) (t : Tok) (ts : List Tok) → step s ps t ≡ Next s2 qs → run s ps (t ∷ ts) ≡ run s2 qs ts
-unfolding run
-run-next s s2 ps qs t ts e = rw (e, run) refl
-
--- places that a token takes alike
-pub run-alike : (s : Scope) (ps qs : List Place) (t : Tok) (ts : List Tok) → step s ps t ≡ step s qs t → run s ps (t ∷ ts) ≡ run s qs (t ∷ ts)
-unfolding run
-run-alike s ps qs t ts e = rw (e, run) refl
 
 pub run-end : (s : Scope) (ps : List Place) → run s ps [] ≡ Open ps
 unfolding run

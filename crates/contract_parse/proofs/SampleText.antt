@@ -9,20 +9,17 @@ use Rattle.std.proofs.lemmas.Str.Ascii.{IsAscii-cons, IsAscii-nil}
 use Rattle.decimal.specs.Reading.{read_of}
 use Rattle.term_core.specs.declared.label.Label.TheVariants as label
 use Rattle.contract_parse.specs.Tokens.{Tok, extent_at, next_token, tokens, tokens_from}
-use Rattle.contract_parse.specs.Spelling.{Part, Then}
 use Rattle.contract_parse.specs.Statements.{none, more, portfolio}
 use Rattle.contract_parse.specs.Texts.{Text}
 use Rattle.contract_parse.specs.Sample.{sample_book, sample_contract, sample_text}
 use Rattle.contract_parse.specs.declared.token.Kind.{Kind}
 use Rattle.contract_parse.specs.declared.token.Kind.TheVariants.{Word, Number, Mark, End}
+use Rattle.contract_parse.proofs.Parts.{followed_by}
 use Rattle.contract_parse.proofs.Passing.{and_parts}
 
 ascii : (bs : List ℕ) → list_all (λ b. nat_lt b 128) bs ≡ true → IsAscii bs
 ascii [] e = IsAscii-nil
 ascii (b ∷ bs) e = let p = and_parts (nat_lt b 128) (list_all (λ b. nat_lt b 128) bs) e in IsAscii-cons b bs (ltb-true b 128 p.0) (ascii bs p.1)
-
-followed : {P Q : Part} {ts rest : List Tok} (between : List Tok) → P ts between → Q between rest → Then P Q ts rest
-followed between first second = record { between = between; one = first; two = second }
 
 abbrev token : Kind → List ℕ → ℕ → Tok
 token kind text left = record { kind = kind; text = text; left = left }
@@ -105,23 +102,23 @@ tokens_of_sample = refl
 spelled : portfolio sample_book sample_tokens []
 unfolding read_of
 spelled =
-    followed _ (_, refl, refl) (followed _ (_, refl, refl) (followed _ (_, refl, refl) (followed _
-    (followed _ (_, refl, refl) (followed _ (_, refl, refl) (followed _ (_, refl, refl) (followed _ refl (followed _ (inl (refl, refl)) (followed _
-    (more (followed _ (_, refl, refl) ((record { first = codes "A" ∷ []; spelled = followed _ (record { name = codes "A"; is = refl; spelled = (_, refl, refl) }) (followed _ (more (followed _ (_, refl, refl) ((record { name = codes "B"; is = refl; spelled = (_, refl, refl) }))) none) ((_, refl, refl))) }))) none) (followed _
-    (more (followed _ (_, refl, refl) ((record { first = codes "E" ∷ []; spelled = followed _ (record { name = codes "E"; is = refl; spelled = (_, refl, refl) }) (followed _ none ((_, refl, refl))) }))) none) (followed _
-    (more (record { name = codes "F"; value = label.Number 4 (pos 5000) (pos 20000); is = refl; spelled = followed _ (_, refl, refl) (followed _ (_, refl, refl) (followed _ (followed _ (_, refl, refl) (followed _ (_, refl, refl) (followed _ (_, refl, refl) (followed _ (record { negative = false; spelled = followed _ refl ((_, refl, refl)) }) (followed _ (_, refl, refl) ((record { negative = false; spelled = followed _ refl ((_, refl, refl)) }))))))) ((_, refl, refl)))) }) none) (
-    (more (record { name = codes "T"; value = 90; is = refl; spelled = followed _ (_, refl, refl) (followed _ (_, refl, refl) (followed _ (_, refl, refl) (followed _ (_, refl, refl) ((_, refl, refl))))) }) none)))))))))) (followed _
+    followed_by _ (_, refl, refl) (followed_by _ (_, refl, refl) (followed_by _ (_, refl, refl) (followed_by _
+    (followed_by _ (_, refl, refl) (followed_by _ (_, refl, refl) (followed_by _ (_, refl, refl) (followed_by _ refl (followed_by _ (inl (refl, refl)) (followed_by _
+    (more (followed_by _ (_, refl, refl) ((record { first = codes "A" ∷ []; spelled = followed_by _ (record { name = codes "A"; is = refl; spelled = (_, refl, refl) }) (followed_by _ (more (followed_by _ (_, refl, refl) ((record { name = codes "B"; is = refl; spelled = (_, refl, refl) }))) none) ((_, refl, refl))) }))) none) (followed_by _
+    (more (followed_by _ (_, refl, refl) ((record { first = codes "E" ∷ []; spelled = followed_by _ (record { name = codes "E"; is = refl; spelled = (_, refl, refl) }) (followed_by _ none ((_, refl, refl))) }))) none) (followed_by _
+    (more (record { name = codes "F"; value = label.Number 4 (pos 5000) (pos 20000); is = refl; spelled = followed_by _ (_, refl, refl) (followed_by _ (_, refl, refl) (followed_by _ (followed_by _ (_, refl, refl) (followed_by _ (_, refl, refl) (followed_by _ (_, refl, refl) (followed_by _ (record { negative = false; spelled = followed_by _ refl ((_, refl, refl)) }) (followed_by _ (_, refl, refl) ((record { negative = false; spelled = followed_by _ refl ((_, refl, refl)) }))))))) ((_, refl, refl)))) }) none) (
+    (more (record { name = codes "T"; value = 90; is = refl; spelled = followed_by _ (_, refl, refl) (followed_by _ (_, refl, refl) (followed_by _ (_, refl, refl) (followed_by _ (_, refl, refl) ((_, refl, refl))))) }) none)))))))))) (followed_by _
     (more (record {
       name = codes "C";
       value = sample_contract;
       is = refl;
-      spelled = followed _ (_, refl, refl) (followed _ (_, refl, refl) (followed _ (_, refl, refl) (followed _
+      spelled = followed_by _ (_, refl, refl) (followed_by _ (_, refl, refl) (followed_by _ (_, refl, refl) (followed_by _
           (record {
             name = codes "x";
-            spelled = followed _ (_, refl, refl) (followed _ (_, refl, refl) (followed _ (_, refl, refl) (followed _ (followed _ (_, refl, refl) (followed _ (_, refl, refl) (followed _ (_, refl, refl) (followed _ (_, refl, refl) (followed _ (record { negative = true; spelled = followed _ (_, refl, refl) ((_, refl, refl)) }) ((_, refl, refl))))))) (followed _
-                (_, refl, refl) (followed _ (_, refl, refl) (followed _ (followed _ (_, refl, refl) (followed _ (_, refl, refl) (followed _ (_, refl, refl) (followed _ (record { negative = false; spelled = followed _ refl ((_, refl, refl)) }) ((_, refl, refl)))))) (followed _ (_, refl, refl) (followed _ (_, refl, refl) (followed _
-                (_, refl, refl) (followed _ (followed _ (_, refl, refl) (followed _ (_, refl, refl) (followed _ (_, refl, refl) (followed _ (_, refl, refl) (followed _ (followed _ (_, refl, refl) (followed _ (_, refl, refl) (followed _ (_, refl, refl) (followed _ (_, refl, refl) (followed _ (_, refl, refl) (followed _ (_, refl, refl) (followed _ (_, refl, refl) ((_, refl, refl))))))))) ((_, refl, refl))))))) (followed _ (_, refl, refl) ((_, refl, refl)))))))))))));
-          }) (followed _ (refl, omega arith) ((_, refl, refl))))));
+            spelled = followed_by _ (_, refl, refl) (followed_by _ (_, refl, refl) (followed_by _ (_, refl, refl) (followed_by _ (followed_by _ (_, refl, refl) (followed_by _ (_, refl, refl) (followed_by _ (_, refl, refl) (followed_by _ (_, refl, refl) (followed_by _ (record { negative = true; spelled = followed_by _ (_, refl, refl) ((_, refl, refl)) }) ((_, refl, refl))))))) (followed_by _
+                (_, refl, refl) (followed_by _ (_, refl, refl) (followed_by _ (followed_by _ (_, refl, refl) (followed_by _ (_, refl, refl) (followed_by _ (_, refl, refl) (followed_by _ (record { negative = false; spelled = followed_by _ refl ((_, refl, refl)) }) ((_, refl, refl)))))) (followed_by _ (_, refl, refl) (followed_by _ (_, refl, refl) (followed_by _
+                (_, refl, refl) (followed_by _ (followed_by _ (_, refl, refl) (followed_by _ (_, refl, refl) (followed_by _ (_, refl, refl) (followed_by _ (_, refl, refl) (followed_by _ (followed_by _ (_, refl, refl) (followed_by _ (_, refl, refl) (followed_by _ (_, refl, refl) (followed_by _ (_, refl, refl) (followed_by _ (_, refl, refl) (followed_by _ (_, refl, refl) (followed_by _ (_, refl, refl) ((_, refl, refl))))))))) ((_, refl, refl))))))) (followed_by _ (_, refl, refl) ((_, refl, refl)))))))))))));
+          }) (followed_by _ (refl, omega arith) ((_, refl, refl))))));
     }) none) ((_, refl, refl))))))
 
 pub sample_is_text : Text sample_text sample_book

@@ -34,8 +34,8 @@ module _ (s : Scope) (ps : List Place) (ts rest : List Tok) where
   pub integer_taken : (most n : ℕ) → valued (integer_at most) n ts rest → run s (IntegerAt most ∷ ps) ts ≡ run s ps rest
   integer_taken most n x = value_taken s s (IntegerAt most ∷ ps) ps (integer_at most) n ts rest (λ t e. ap (λ v. judged v (λ (n : ℕ). Next s ps)) e) x
 
-  days_taken : (n : Days) → valued (days_at s.templates) n ts rest → run s (DaysAt ∷ ps) ts ≡ run s ps rest
-  days_taken n x = value_taken s s (DaysAt ∷ ps) ps (days_at s.templates) n ts rest (λ t e. ap (λ v. judged v (λ (d : Days). Next s ps)) e) x
+  days_taken : (n : Days) → valued (days_at s.templates) n ts rest → run s (DaysAt s.templates ∷ ps) ts ≡ run s ps rest
+  days_taken n x = value_taken s s (DaysAt s.templates ∷ ps) ps (days_at s.templates) n ts rest (λ t e. ap (λ v. judged v (λ (d : Days). Next s ps)) e) x
 
   mode_taken : (m : Mode) → valued mode_at m ts rest → run s (ModeAt ∷ ps) ts ≡ run s ps rest
   mode_taken m x = value_taken s s (ModeAt ∷ ps) ps mode_at m ts rest (λ t e. ap (λ v. judged v (λ (m : Mode). Next s ps)) e) x
@@ -280,7 +280,7 @@ module _ (s : Scope) (ks : List Bytes) where
       ∙ pair_taken there ps x.between rest (ExprAt (d + 1) names) (ContrAt (d + 1) names) _ _ (expr_taken s ks names e (d + 1) (omega arith)) (contr_taken names c (d + 1) (omega arith)) x.two
   contr_taken names (After n c) d low ps ts rest x =
       contr_word there d names ps (omega (arith, tall_contract c)) (codes "after") Head.After ts x.between (λ l. refl) x.one
-      ∙ pair_taken there ps x.between rest DaysAt (ContrAt (d + 1) names) _ _ (λ ps ts rest x. days_taken there ps ts rest n x) (contr_taken names c (d + 1) (omega arith)) x.two
+      ∙ pair_taken there ps x.between rest (DaysAt s.templates) (ContrAt (d + 1) names) _ _ (λ ps ts rest x. days_taken there ps ts rest n x) (contr_taken names c (d + 1) (omega arith)) x.two
   contr_taken names (Let e c) d low ps ts rest y =
       let x = y.spelled in
       contr_word there d names ps (omega (arith, tall e)) (codes "let") Head.Let ts x.between (λ l. refl) x.one

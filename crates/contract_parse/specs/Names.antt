@@ -1,6 +1,7 @@
 -- Sets of declared names, and the names that are bound round a place.
-use Rattle.std.specs.Prelude.{ℕ, suc, Bool, List, [], ◌∷◌, ◌++◌, Option, Some, None, option_map, position, map, if◌then◌else◌}
+use Rattle.std.specs.Prelude.{ℕ, suc, Bool, List, [], ◌∷◌, ◌++◌, Option, Some, None, option_map, position, if◌then◌else◌}
 use Rattle.std.specs.List.{list_any}
+use Rattle.std.specs.Map.{keys_of}
 use Rattle.std.specs.Str.{bytes_eq}
 use Rattle.contract_parse.specs.Words.{Bytes}
 use Rattle.contract_parse.specs.declared.names.NameSet.{NameSet}
@@ -54,4 +55,4 @@ with_names Contract names s = record s { contracts = names }
 -- the names of declarations, and of contracts that stand below them
 abbrev pub scope_of : Declarations → List Bytes → Scope
 scope_of d contracts =
-    record { parties = d.parties; assets = d.assets; labels = map (λ entry. entry.0) d.labels; templates = map (λ entry. entry.0) d.templates; contracts = contracts }
+    record { parties = d.parties; assets = d.assets; labels = keys_of d.labels; templates = keys_of d.templates; contracts = contracts }

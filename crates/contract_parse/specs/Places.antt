@@ -48,7 +48,7 @@ pub data Place : Type 0 where
   OffsetAt : Place
   OffsetNumber : (negative : Bool) → Place
   LiteralNumber : (negative : Bool) → Place
-  DaysAt : Place
+  DaysAt : (templates : List Bytes) → Place
   ModeAt : Place
   OperatorAt : Place
   BinderAt : (binder : Binder) (depth : ℕ) (names : List Bytes) → Place
@@ -64,10 +64,6 @@ pub data Step : Type 0 where
 abbrev pub judged : {X : Type 0} → Result X TextKind → (X → Step) → Step
 judged (Ok x) next = next x
 judged (Err kind) next = Refuse kind
-
-abbrev pub if_so : Bool → Step → Step
-if_so true next = next
-if_so false next = Refuse Syntax
 
 -- what follows the scale of a label
 abbrev pub range_places : ℕ → List Place → List Place
@@ -123,10 +119,10 @@ contr_places s d names Head.Pay ps =
     TheMark (codes "(") ∷ UseOf s.assets ∷ TheMark (codes ",") ∷ UseOf s.parties ∷ TheMark (codes ",") ∷ UseOf s.parties ∷ TheMark (codes ")") ∷ ps
 contr_places s d names Head.Both ps = pair_places (ContrAt (d + 1) names) (ContrAt (d + 1) names) ps
 contr_places s d names Head.Scale ps = pair_places (ExprAt (d + 1) names) (ContrAt (d + 1) names) ps
-contr_places s d names Head.After ps = pair_places DaysAt (ContrAt (d + 1) names) ps
+contr_places s d names Head.After ps = pair_places (DaysAt s.templates) (ContrAt (d + 1) names) ps
 contr_places s d names Head.Let ps = BinderAt binder.Let d names ∷ ps
 contr_places s d names Head.If ps =
-    ExprAt (d + 1) names ∷ TheWord (codes "within") ∷ DaysAt ∷ TheWord (codes "then") ∷ ContrAt (d + 1) names ∷ TheWord (codes "else") ∷ ContrAt (d + 1) names ∷ ps
+    ExprAt (d + 1) names ∷ TheWord (codes "within") ∷ DaysAt s.templates ∷ TheWord (codes "then") ∷ ContrAt (d + 1) names ∷ TheWord (codes "else") ∷ ContrAt (d + 1) names ∷ ps
 
 -- the lines of declarations
 abbrev pub number_label_places : List Place → List Place
@@ -143,10 +139,10 @@ contract_places ps = NewIn Contract ∷ TheMark (codes "=") ∷ ContrAt 1 [] ∷
 
 abbrev pub step : Scope → List Place → Tok → Step
 step s [] t = Refuse Syntax
-step s (TheWord w ∷ ps) t = if_so (is_the_word w t) (Next s ps)
-step s (TheMark m ∷ ps) t = if_so (is_the_mark m t) (Next s ps)
-step s (TheVersion ∷ ps) t = if_so (is_version t) (Next s ps)
-step s (TheEnd ∷ ps) t = if_so (is_end t) (Next s ps)
+step s (TheWord w ∷ ps) t = if is_the_word w t then Next s ps else Refuse Syntax
+step s (TheMark m ∷ ps) t = if is_the_mark m t then Next s ps else Refuse Syntax
+step s (TheVersion ∷ ps) t = if is_version t then Next s ps else Refuse Syntax
+step s (TheEnd ∷ ps) t = if is_end t then Next s ps else Refuse Syntax
 step s (IntegerAt most ∷ ps) t = judged (integer_at most t) (λ n. Next s ps)
 step s (OriginDate ∷ ps) t = judged (origin_at t) (λ day. Next s ps)
 step s (OriginLine ∷ ps) t = if is_the_word (codes "origin") t then Next s (OriginDate ∷ TheMark (codes ";") ∷ ps) else step s ps t
@@ -168,7 +164,7 @@ step s (UseOf names ∷ ps) t = judged (use_at names t) (λ i. Next s ps)
 step s (OffsetAt ∷ ps) t = if is_the_mark (codes "-") t then Next s (OffsetNumber true ∷ ps) else judged (offset_at false t) (λ n. Next s ps)
 step s (OffsetNumber negative ∷ ps) t = judged (offset_at negative t) (λ n. Next s ps)
 step s (LiteralNumber negative ∷ ps) t = judged (literal_at negative t) (λ d. Next s ps)
-step s (DaysAt ∷ ps) t = judged (days_at s.templates t) (λ d. Next s ps)
+step s (DaysAt templates ∷ ps) t = judged (days_at templates t) (λ d. Next s ps)
 step s (ModeAt ∷ ps) t = judged (mode_at t) (λ m. Next s ps)
 step s (OperatorAt ∷ ps) t = judged (operator_at t) (λ op. Next s ps)
 step s (BinderAt binder d names ∷ ps) t = judged (binder_at t) (λ name. Next s (binder_places binder d names name ps))

@@ -1,5 +1,6 @@
 -- The grammar of declarations and of whole portfolios.
-use Rattle.std.specs.Prelude.{◌≡◌, ◌≤◌, ◌⊎◌, ℕ, ℤ, Bool, List, [], ◌∷◌, ◌++◌, Option, Some, None, codes, map}
+use Rattle.std.specs.Prelude.{◌≡◌, ◌≤◌, ◌⊎◌, ℕ, ℤ, Bool, List, [], ◌∷◌, ◌++◌, Option, Some, None, codes}
+use Rattle.std.specs.Map.{keys_of}
 use Rattle.term_core.specs.Declarations.{Declarations}
 use Rattle.term_core.specs.Books.{Book}
 use Rattle.term_core.specs.Terms.{Contract}
@@ -48,7 +49,7 @@ pub record Entry {V : Type 0} (line : List (Bytes × V) → Bytes → V → Part
 
 -- a new name beside entries
 abbrev pub new_name : {V : Type 0} → List (Bytes × V) → Bytes → Part
-new_name before name = valued (new_at (map (λ entry. entry.0) before)) name
+new_name before name = valued (new_at (keys_of before)) name
 
 -- `: scale in low .. high`
 abbrev pub range : ℕ → ℤ → ℤ → Part

@@ -1,9 +1,9 @@
 //! What one token is at a place of the grammar, or the kind of its fault.
-ghost use Rattle.std.specs.Prelude.{◌≡◌, ◌≤◌, ◌-◌, ◌^◌, IfErr, IfOk, length, unsigned_abs};
-ghost use Rattle.term_core.specs.Limits.{is_label, is_origin};
+ghost use Rattle.std.specs.Prelude.{◌≡◌, ◌≤◌, ◌-◌, ◌^◌, IfErr, IfOk, length, true, unsigned_abs};
+ghost use Rattle.term_core.specs.Limits.{is_origin};
 ghost use Rattle.contract_parse.specs.Names.{names_in};
 ghost use Rattle.contract_parse.specs.Judgements.{above, binder_at, bound_at, integer_at, is_version, literal_at, mode_at, offset_at, operator_at, origin_at, separator_at, variable_at};
-ghost use Rattle.contract_parse.specs.Reading.{tok_of, Settles};
+ghost use Rattle.contract_parse.specs.Reading.{IsBetween, IsBound, tok_of};
 
 use crate::faults::{ReadErr, Refusal, TextKind};
 use crate::heads::Operator;
@@ -49,7 +49,8 @@ pub fn is_version(token: &Lexeme<'_>) -> bool
 
 /// The offset of an observable, behind its sign.
 pub fn offset_at(negative: bool, token: &Lexeme<'_>) -> Result<i32, TextKind>
-    ensures { result ≡ offset_at negative (tok_of token.now) }
+    ensures value { result ≡ offset_at negative (tok_of token.now) }
+    ensures small { IfOk result (λ n. unsigned_abs n ≤ 1_000_000) }
 {
     let number = integer_at(1_000_000, token)? as i32;
     Ok(if negative { -number } else { number })
@@ -73,7 +74,10 @@ pub fn literal_at(negative: bool, token: &Lexeme<'_>) -> Result<Decimal, TextKin
 
 // A mantissa that is not below the lower bound, if there is one.
 fn above(low: Option<i128>, mant: i128) -> Result<i128, TextKind>
-    ensures { result ≡ above low mant }
+    requires { unsigned_abs mant ≤ 10 ^ 37 }
+    ensures value { result ≡ above low mant }
+    ensures limits { IfOk result (λ m. IsBound low m) }
+    ensures size { IfOk result (λ m. unsigned_abs m ≤ 10 ^ 37) }
 {
     match low {
         Some(low) if mant < low => Err(TextKind::Range),
@@ -89,7 +93,9 @@ pub fn bound_at(
     token: &Lexeme<'_>,
 ) -> Result<i128, TextKind>
     requires { scale ≤ 18 }
-    ensures { result ≡ bound_at negative scale low (tok_of token.now) }
+    ensures value { result ≡ bound_at negative scale low (tok_of token.now) }
+    ensures limits { IfOk result (λ m. IsBound low m) }
+    ensures size { IfOk result (λ m. unsigned_abs m ≤ 10 ^ 37) }
 {
     let number = literal_at(negative, token)?;
     if number.scale > scale {
@@ -103,7 +109,9 @@ pub fn bound_at(
 
 /// A date from 1900-01-01 to 2999-12-31, as an epoch day.
 pub fn origin_at(token: &Lexeme<'_>) -> Result<i64, TextKind>
-    ensures { result ≡ origin_at (tok_of token.now) }
+    ensures value { result ≡ origin_at (tok_of token.now) }
+    ensures limits { IfOk result (λ day. is_origin (Some day) ≡ true) }
+    ensures size { IfOk result (λ day. unsigned_abs day ≤ 400_000) }
 {
     if !is_date(token) {
         return Err(TextKind::Syntax);
@@ -173,7 +181,8 @@ pub fn mode_at(token: &Lexeme<'_>) -> Result<Mode, TextKind>
 
 /// An operator between two expressions.
 pub fn operator_at(token: &Lexeme<'_>) -> Result<Operator, TextKind>
-    ensures { result ≡ operator_at (tok_of token.now) }
+    ensures value { result ≡ operator_at (tok_of token.now) }
+    ensures between { IfOk result (λ op. IsBetween op) }
 {
     if is_the_mark(token, b"+") {
         Ok(Operator::Arithmetic { op: NumOp::Plus })

@@ -2,14 +2,24 @@
 //! is none.
 #![tactic(auto)]
 
+mod contrs;
+mod decls;
+mod exprs;
 mod faults;
 mod heads;
 mod judges;
+mod labels;
 pub mod laws;
 mod lines;
 mod names;
 mod numbers;
+mod portfolio;
+mod readers;
 mod token;
 mod words;
 
 pub use faults::{ParseErr, TextFault, TextKind};
+pub use portfolio::parse_portfolio;
+
+#[cfg(test)]
+mod tests;

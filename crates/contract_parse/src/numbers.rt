@@ -62,7 +62,8 @@ pub fn with_sign(negative: bool, number: Decimal) -> Decimal
 /// The mantissa of the same number with `more` further decimals, if it is within the limit.
 pub fn widened(mant: i128, more: u8) -> Option<i128>
     requires { more ≤ 38 }
-    ensures { result ≡ limited (raised mant more) }
+    ensures value { result ≡ limited (raised mant more) }
+    ensures size { IfSome result (λ m. unsigned_abs m ≤ 10 ^ 37) }
 {
     let mant = mant.checked_mul(pow10(more))?;
     if mant.unsigned_abs() <= GREATEST {

@@ -1,0 +1,80 @@
+//! Declarations of labels.
+ghost use Rattle.std.specs.Prelude.{◌≡◌, ◌≤◌, ◌<◌, ◌+◌, IfOk, length, true};
+ghost use Rattle.indexmap.specs.IndexMap.{index_map_len};
+ghost use Rattle.term_core.specs.Limits.{are_labels, is_label};
+
+use crate::faults::ReadErr;
+use crate::readers::{after_word, read_bound, read_label_scale, read_new_name, skip_mark, skip_word};
+use indexmap::IndexMap;
+use std::alloc::Global;
+use term_core::{Label, Name};
+
+// What stands behind the name of a number label.
+fn read_range(rest: &[u8]) -> Result<(Label, &[u8]), ReadErr>
+    ensures shorter { IfOk result (λ r. length r.1.now < length rest.now) }
+    ensures limits { IfOk result (λ r. is_label r.0 ≡ true) }
+{
+    let rest = skip_mark(rest, b":")?;
+    let (scale, rest) = read_label_scale(rest)?;
+    let rest = skip_word(rest, b"in")?;
+    let (low, rest) = read_bound(scale, None, rest)?;
+    let rest = skip_mark(rest, b"..")?;
+    let (high, rest) = read_bound(scale, Some(low), rest)?;
+    Ok((Label::Number { scale, low, high }, rest))
+}
+
+// A number label behind `num`.
+fn read_number_label<'a>(
+    alloc: Global,
+    labels: &mut IndexMap<Name, Label>,
+    rest: &'a [u8],
+) -> Result<&'a [u8], ReadErr>
+    requires { are_labels labels.old.entries ≡ true }
+    ensures shorter { IfOk result (λ r. length r.now < length rest.now) }
+    ensures few { IfOk result (λ r. index_map_len labels.new + length r.now ≤ index_map_len labels.old + length rest.now) }
+    ensures limits { IfOk result (λ r. are_labels labels.new.entries ≡ true) }
+{
+    let (name, rest) = read_new_name(alloc, labels, rest)?;
+    let (label, rest) = read_range(rest)?;
+    let rest = skip_mark(rest, b";")?;
+    labels.insert(name, label)?;
+    Ok(rest)
+}
+
+// A truth label behind `flag`.
+fn read_flag<'a>(
+    alloc: Global,
+    labels: &mut IndexMap<Name, Label>,
+    rest: &'a [u8],
+) -> Result<&'a [u8], ReadErr>
+    requires { are_labels labels.old.entries ≡ true }
+    ensures shorter { IfOk result (λ r. length r.now < length rest.now) }
+    ensures few { IfOk result (λ r. index_map_len labels.new + length r.now ≤ index_map_len labels.old + length rest.now) }
+    ensures limits { IfOk result (λ r. are_labels labels.new.entries ≡ true) }
+{
+    let (name, rest) = read_new_name(alloc, labels, rest)?;
+    let rest = skip_mark(rest, b";")?;
+    labels.insert(name, Label::Flag)?;
+    Ok(rest)
+}
+
+/// The labels that are declared from here on.
+pub fn read_labels<'a>(
+    alloc: Global,
+    rest: &'a [u8],
+) -> Result<(IndexMap<Name, Label>, &'a [u8]), ReadErr>
+    ensures few { IfOk result (λ r. index_map_len r.0 + length r.1.now ≤ length rest.now) }
+    ensures limits { IfOk result (λ r. are_labels r.0.entries ≡ true) }
+{
+    let mut labels = IndexMap::new(alloc);
+    let mut rest = rest;
+    loop {
+        if let Some(after) = after_word(rest, b"num") {
+            rest = read_number_label(alloc, &mut labels, after)?;
+        } else if let Some(after) = after_word(rest, b"flag") {
+            rest = read_flag(alloc, &mut labels, after)?;
+        } else {
+            return Ok((labels, rest));
+        }
+    }
+}

@@ -1,0 +1,94 @@
+//! Portfolios from texts.
+ghost use Rattle.std.specs.Prelude.{◌≡◌, ◌≤◌, ◌<◌, ◌-◌, IfOk, IfSome, length};
+
+use crate::contrs::read_contr;
+use crate::decls::read_decls;
+use crate::faults::{ParseErr, ReadErr, TextFault, TextKind};
+use crate::lines::{column_at, line_at};
+use crate::names::Bound;
+use crate::readers::{after_word, read_end, read_new_name, skip_mark, skip_version, skip_word};
+use indexmap::IndexMap;
+use std::alloc::Global;
+use std::str;
+use term_core::{Contr, Decls, Name, Portfolio};
+
+// A contract behind its word.
+fn read_contract<'a>(
+    alloc: Global,
+    decls: &Decls,
+    contracts: &mut IndexMap<Name, Contr>,
+    rest: &'a [u8],
+) -> Result<&'a [u8], ReadErr>
+    ensures shorter { IfOk result (λ r. length r.now < length rest.now) }
+{
+    let (name, rest) = read_new_name(alloc, contracts, rest)?;
+    let rest = skip_mark(rest, b"=")?;
+    let (contract, rest) = read_contr(alloc, decls, &Bound::Outermost, 1, rest)?;
+    let rest = skip_mark(rest, b";")?;
+    contracts.insert(name, contract)?;
+    Ok(rest)
+}
+
+fn read_contracts<'a>(
+    alloc: Global,
+    decls: &Decls,
+    rest: &'a [u8],
+) -> Result<(IndexMap<Name, Contr>, &'a [u8]), ReadErr> {
+    let mut contracts = IndexMap::new(alloc);
+    let mut rest = rest;
+    while let Some(after) = after_word(rest, b"contract") {
+        rest = read_contract(alloc, decls, &mut contracts, after)?;
+    }
+    Ok((contracts, rest))
+}
+
+fn read_portfolio(alloc: Global, bytes: &[u8]) -> Result<Portfolio, ReadErr>
+    requires { length bytes.now ≤ 16_777_216 }
+{
+    let rest = skip_word(bytes, b"portfolio")?;
+    let rest = skip_version(rest)?;
+    let rest = skip_mark(rest, b";")?;
+    let (decls, rest) = read_decls(alloc, rest)?;
+    let (contracts, rest) = read_contracts(alloc, &decls, rest)?;
+    read_end(rest)?;
+    Ok(Portfolio { decls, contracts })
+}
+
+// The fault of a kind at a place.
+fn fault_at(bytes: &[u8], kind: TextKind, at: usize) -> TextFault
+    requires within { at ≤ length bytes.now }
+    requires small { length bytes.now ≤ 16_777_216 }
+{
+    TextFault {
+        kind,
+        line: line_at(bytes, at),
+        column: column_at(bytes, at),
+    }
+}
+
+// The place of the first byte after the longest prefix that is UTF-8, if that is not the whole text.
+fn first_bad_byte(bytes: &[u8]) -> Option<usize>
+    ensures within { IfSome result (λ at. at ≤ length bytes.now) }
+{
+    match str::from_utf8(bytes) {
+        Ok(_) => None,
+        Err(error) => Some(error.valid_up_to()),
+    }
+}
+
+/// The portfolio of a text, or the first fault of a text that has none.
+pub fn parse_portfolio(alloc: Global, bytes: &[u8]) -> Result<Portfolio, ParseErr>
+    requires { length bytes.now ≤ 16_777_216 }
+{
+    if let Some(at) = first_bad_byte(bytes) {
+        return Err(ParseErr::Text(fault_at(bytes, TextKind::Utf8, at)));
+    }
+    match read_portfolio(alloc, bytes) {
+        Ok(portfolio) => Ok(portfolio),
+        Err(ReadErr::Refused(refusal)) => {
+            let at = bytes.len().saturating_sub(refusal.left);
+            Err(ParseErr::Text(fault_at(bytes, refusal.kind, at)))
+        }
+        Err(ReadErr::NoMemory) => Err(ParseErr::NoMemory),
+    }
+}
