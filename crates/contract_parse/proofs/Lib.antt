@@ -1,2 +1,3 @@
 pub mod TokenFacts
 pub mod NumberFacts
+pub mod DecimalFacts
