@@ -1,5 +1,6 @@
 pub mod TokenFacts
 pub mod NumberFacts
+pub mod DecimalFacts
 pub mod EntryFacts
 pub mod NameFacts
 pub mod Steps
