@@ -14,7 +14,7 @@ one_of_three true hash x y z n p q r = omega arith
 one_of_three false true x y z n p q r = omega arith
 one_of_three false false x y z n p q r = r
 
-gap_shorter : (c : Bool) (bytes : List ℕ) → length (after_gap c bytes) ≤ length bytes
+pub gap_shorter : (c : Bool) (bytes : List ℕ) → length (after_gap c bytes) ≤ length bytes
 gap_shorter true [] = omega arith
 gap_shorter false [] = omega arith
 gap_shorter true (b ∷ bs) = omega (arith, gap_shorter (not (b == 10)) bs)

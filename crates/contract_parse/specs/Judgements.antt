@@ -4,7 +4,8 @@ use Rattle.std.specs.Prelude.{ℕ, ℤ, pos, neg_ℤ, unsigned_abs, int_lt, ◌-
 use Rattle.decimal.specs.declared.Mode.{Mode}
 use Rattle.decimal.specs.declared.Mode.TheVariants.{HalfEven, HalfAway, Floor, Ceil}
 use Rattle.decimal.specs.declared.Decimal.{Decimal}
-use Rattle.decimal.specs.Reading.{number_after, read_of, signed}
+use Rattle.decimal.specs.DecimalText.{signed}
+use Rattle.decimal.specs.Reading.{number_after, read_of}
 use Rattle.decimal.specs.Rounding.{raised}
 use Rattle.term_core.specs.Dates.{epoch_day_of}
 use Rattle.term_core.specs.Limits.{is_origin, greatest_mantissa}

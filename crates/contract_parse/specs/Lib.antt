@@ -9,3 +9,6 @@ pub mod Statements
 pub mod Places
 pub mod Texts
 pub mod Reading
+pub mod Laws
+pub mod Payments
+pub mod Sample

@@ -9,6 +9,7 @@ mod faults;
 mod heads;
 mod judges;
 mod labels;
+pub mod laws;
 mod lines;
 mod names;
 mod numbers;

@@ -4,8 +4,7 @@ ghost use Rattle.decimal.specs.Reading.{number_after};
 ghost use Rattle.decimal.specs.Rounding.{raised};
 ghost use Rattle.contract_parse.specs.Judgements.{decimal_in, limited, up_to, with_sign};
 
-use decimal::reading::read;
-use decimal::{Decimal, pow10};
+use decimal::{Decimal, pow10, read};
 
 const GREATEST: u128 = 10_000_000_000_000_000_000_000_000_000_000_000_000;
 

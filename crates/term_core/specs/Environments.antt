@@ -1,5 +1,7 @@
--- What is observed: a finite map from places to values.
-use Rattle.std.specs.Prelude.{ℕ, ℤ, ◌==◌, ◌&&◌, Bool, false, List, [], ◌∷◌, Option, Some, None, if◌then◌else◌, slice_get}
+-- What is observed: a finite map from places, each a label and a day, to values. A place that it does not hold reads
+-- as the least value of its label (the external environments of Bahr, Berthold and Elsman, ICFP 2015; a contract reads
+-- finitely many places, so finite maps lose nothing).
+use Rattle.std.specs.Prelude.{ℕ, ℤ, ◌≤ℤ◌, ◌≡◌, ◌==◌, ◌&&◌, Bool, false, List, [], ◌∷◌, Option, Some, None, if◌then◌else◌, slice_get}
 use Rattle.std.specs.Ordering.{int_eq}
 use Rattle.term_core.specs.Declarations.{Declarations}
 use Rattle.term_core.specs.declared.label.Label.{Label}
@@ -41,3 +43,21 @@ value_or (Some w) v = w
 -- what is read at a label on a day
 abbrev pub observed : Declarations → Environment → ℕ → ℤ → Value
 observed d env l t = value_or (held env (record { label = l; day = t })) (least (label_of d l))
+
+-- a value lies within its label's declaration
+abbrev pub IsValueOf : Option Label → Value → Type 0
+IsValueOf (Some Flag) (Truth b) = Unit {0}
+IsValueOf (Some (Number scale low high)) (Amount m) = (low ≤ℤ m) × (m ≤ℤ high)
+IsValueOf _ _ = ⊥
+
+-- each value that it holds lies within its label's declaration
+abbrev pub IsAdmitted : Declarations → Environment → Type 0
+IsAdmitted d env = (q : Place) (v : Value) → held env q ≡ Some v → IsValueOf (label_of d q.label) v
+
+-- it holds every pair of the fixings
+abbrev pub Extends : Environment → Environment → Type 0
+Extends fixings env = (q : Place) (v : Value) → held fixings q ≡ Some v → held env q ≡ Some v
+
+-- they read equally at every label on every day at or below n
+abbrev pub AgreeUpTo : Declarations → ℤ → Environment → Environment → Type 0
+AgreeUpTo d n one other = (l : ℕ) (t : ℤ) → t ≤ℤ n → observed d one l t ≡ observed d other l t

@@ -1,11 +1,13 @@
--- The places that are read, in order.
-use Rattle.std.specs.Prelude.{ℕ, zero, suc, ℤ, pos, ◌+ℤ◌, ◌-ℤ◌, int_lt, ◌==◌, ◌&&◌, ◌||◌, not, Bool, false, List, [], ◌∷◌, ◌++◌, Option, Some, None, if◌then◌else◌, slice_get, unsigned_abs, min}
+-- The places that are read, in order. What is chosen decides what is read: of an `if` the chosen branch, of `&` and `|`
+-- the right side where the left does not decide, of an accumulator its start and then its body on each day. A name has
+-- the reads of its expression, which stand beside its value; the name of an accumulator has none.
+use Rattle.std.specs.Prelude.{ℕ, zero, suc, ℤ, pos, ◌+ℤ◌, ◌-ℤ◌, int_lt, ◌==◌, ◌&&◌, ◌||◌, not, Bool, false, List, [], ◌∷◌, ◌++◌, Option, Some, None, if◌then◌else◌, slice_get, unsigned_abs, min, is_some}
 use Rattle.term_core.specs.Declarations.{Declarations}
 use Rattle.term_core.specs.declared.terms.LogicOp.{LogicOp}
 use Rattle.term_core.specs.declared.terms.LogicOp.TheVariants.{And, Or}
 use Rattle.term_core.specs.Terms.{Expression, Lit, Yes, Var, Obs, Neg, Num, Cmp, Not, Logic, Cond, Widen, Round, Div, Acc}
 use Rattle.term_core.specs.Terms.{Contract, Zero, Pay, Both, Scale, After, Let, Within}
-use Rattle.term_core.specs.Environments.{Environment, Place}
+use Rattle.term_core.specs.Environments.{Environment, Place, held}
 use Rattle.term_core.specs.Kinds.{kind_of, scale_of, scale_of_kind}
 use Rattle.term_core.specs.Values.{Entry, kinds, truth, widened, kind_or, value_of, first_true, days_run}
 use Rattle.term_core.specs.Flows.{count_of}
@@ -13,6 +15,20 @@ use Rattle.term_core.specs.Flows.{count_of}
 abbrev pub places_or : Option (List Place) → List Place
 places_or None = []
 places_or (Some ps) = ps
+
+-- the fixings hold the place
+abbrev pub is_fixed : Environment → Place → Bool
+is_fixed fixings q = is_some (held fixings q)
+
+-- the first place that they do not hold
+abbrev pub first_unfixed : Environment → List Place → Option Place
+first_unfixed fixings [] = None
+first_unfixed fixings (q ∷ qs) = if is_fixed fixings q then first_unfixed fixings qs else Some q
+
+-- the places up to and with the first that fails a test
+abbrev pub up_to_first : (Place → Bool) → List Place → List Place
+up_to_first passes [] = []
+up_to_first passes (q ∷ qs) = q ∷ (if passes q then up_to_first passes qs else [])
 
 -- the left side decides
 abbrev pub decides : LogicOp → Bool → Bool
@@ -28,6 +44,7 @@ steps_before (suc n) f = steps_before n f ++ f n
 abbrev pub upto : ℕ → (ℕ → List Place) → List Place
 upto n f = steps_before (suc n) f
 
+-- the places that e reads on day f, where each name has an entry and a list of places
 abbrev pub reads_of : Declarations → Expression → List Entry → List (List Place) → Environment → ℤ → List Place
 reads_of d (Lit m s) g bs env f = []
 reads_of d (Yes b) g bs env f = []
@@ -70,6 +87,9 @@ abbrev pub tested : Option ℕ → ℕ → ℤ → ℕ
 tested None n b = min n (unsigned_abs b)
 tested (Some k) n b = min k (unsigned_abs b)
 
+-- the places that a contract on frame f reads for its own days a to b: of a `scale` those of the body and then, where
+-- something is transferred in it on these days, those of the factor; of an `if .. within` those of its test on each day
+-- until it is true, and then those of the branch that is entered
 abbrev pub reads_of_contract : Declarations → Contract → List Entry → List (List Place) → Environment → ℤ → ℤ → ℤ → List Place
 reads_of_contract d Zero g bs env f a b = []
 reads_of_contract d (Pay x p q) g bs env f a b = []

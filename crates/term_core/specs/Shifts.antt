@@ -1,5 +1,6 @@
 -- An expression whose observables are read some days later, and where each offset stays an offset.
-use Rattle.std.specs.Prelude.{ℤ, pos, neg_ℤ, ◌+ℤ◌, ◌≤ℤ◌}
+use Rattle.std.specs.Prelude.{ℤ, ◌+ℤ◌}
+use Rattle.term_core.specs.Limits.{IsOffset}
 use Rattle.term_core.specs.Terms.{Expression, Obs, Neg, Num, Cmp, Not, Logic, Cond, Widen, Round, Div, Acc}
 
 -- each observable is read k days later
@@ -16,9 +17,6 @@ shifted k (Round mode s e) = Round mode s (shifted k e)
 shifted k (Div mode s a b) = Div mode s (shifted k a) (shifted k b)
 shifted k (Acc body n first) = Acc (shifted k body) n (shifted k first)
 shifted k e = e
-
-abbrev pub IsOffset : ℤ → Type 0
-IsOffset t = (neg_ℤ (pos 1000000) ≤ℤ t) × (t ≤ℤ pos 1000000)
 
 -- each observable's offset, k days later, is an offset
 abbrev pub CanShift : ℤ → Expression → Type 0

@@ -6,6 +6,7 @@ mod dates;
 mod decls;
 mod instances;
 mod label;
+mod laws;
 mod name;
 mod portfolio;
 mod rules;
@@ -19,6 +20,11 @@ pub use dates::{date_text, epoch_day};
 pub use decls::Decls;
 pub use instances::instantiate;
 pub use label::Label;
+pub use laws::{
+    amounts_are_fixed, amounts_are_opposite, amounts_begin_at_zero, amounts_depend_on_reads,
+    amounts_end_at_horizon, carries_composes, reads_stay_up_to_unfixed, shifts_move_the_day,
+    values_depend_on_reads,
+};
 pub use name::Name;
 pub use portfolio::Portfolio;
 pub use rules::{CheckErr, Rule, RuleFault};
@@ -27,3 +33,6 @@ pub use shifts::shift_obs;
 pub use sizes::counts;
 pub use terms::{CmpOp, Contr, Counts, Days, Expr, LogicOp, NumOp};
 pub use values::{Kind, Missing, Value};
+
+#[cfg(test)]
+mod tests;

@@ -1,0 +1,3 @@
+pub mod AmountFacts
+pub mod NettingFacts
+pub mod PaymentFacts

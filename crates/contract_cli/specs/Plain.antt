@@ -1,0 +1,41 @@
+-- Plain contracts: `zero`, payments, payments scaled by a literal, two of them together, and delays by a number of
+-- days. A literal has at most the portfolio's decimals and a mantissa of at most 10^18 in size, and on each path the
+-- delays add up to at most 100,000 days. Their flows need no fixing and no check.
+use Rattle.std.specs.Prelude.{ℕ, ℤ, ◌-◌, ◌+◌, ◌^◌, Bool, true, false, ◌&&◌, nat_le, unsigned_abs, ◌≡◌, ◌<◌}
+use Rattle.term_core.specs.declared.terms.Days.{Days}
+use Rattle.term_core.specs.declared.terms.Days.TheVariants.{Num as Count, Named}
+use Rattle.term_core.specs.Terms.{Expression, Lit, Contract, Zero, Pay, Both, Scale, After, Let, Within}
+
+abbrev pub is_plain_amount : ℕ → ℤ → ℕ → Bool
+is_plain_amount amounts m s = nat_le s amounts && nat_le (unsigned_abs m) (10 ^ 18)
+
+abbrev pub is_payment : Contract → Bool
+is_payment (Pay a p q) = true
+is_payment _ = false
+
+-- plain, where the delays may add up to `left` days
+abbrev pub is_plain : ℕ → ℕ → Contract → Bool
+is_plain amounts left Zero = true
+is_plain amounts left (Pay a p q) = true
+is_plain amounts left (Both one other) = is_plain amounts left one && is_plain amounts left other
+is_plain amounts left (Scale (Lit m s) c) = is_payment c && is_plain_amount amounts m s
+is_plain amounts left (After (Count n) c) = nat_le n left && is_plain amounts (left - n) c
+is_plain amounts left _ = false
+
+-- the greatest sum of delays on a path
+abbrev pub greatest_delay : ℕ
+greatest_delay = 100_000
+
+-- the payments that a contract holds
+abbrev pub payments_in : Contract → ℕ
+payments_in Zero = 0
+payments_in (Pay a p q) = 1
+payments_in (Both one other) = payments_in one + payments_in other
+payments_in (Scale e c) = payments_in c
+payments_in (After n c) = payments_in c
+payments_in (Let e c) = payments_in c
+payments_in (Within e n hit miss) = payments_in hit + payments_in miss
+
+-- a contract that `flows` takes today: plain, and of fewer than a million payments
+abbrev pub IsTaken : ℕ → Contract → Type 0
+IsTaken amounts c = (is_plain amounts greatest_delay c ≡ true) × (payments_in c < 1_000_000)

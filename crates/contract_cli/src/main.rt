@@ -1,0 +1,64 @@
+//! Tilugba, the manager for financial contracts between parties.
+#![tactic(auto)]
+
+mod command;
+mod flow_lines;
+mod flow_table;
+mod flows;
+mod flows_text;
+mod netting;
+mod payments;
+mod plain;
+mod status;
+#[cfg(test)]
+mod tests;
+mod words;
+
+pub use command::run;
+use edge_io::{RealFiles, RealSink};
+pub use flow_lines::flow_line;
+pub use flow_table::{FlowRow, FlowTable};
+pub use flows::flows;
+pub use status::Status;
+use std::alloc::{AllocError, Global};
+use std::env;
+use std::io::{Error, ErrorKind};
+use std::process::ExitCode;
+
+// The exit status where the system does not give the words. No run ends with it.
+const NO_WORDS: u8 = 13;
+
+// The words after the program's name.
+fn words_of(rt: &HostRuntime) -> Result<Vec<String>, Error> {
+    let mut words = Vec::new(rt.alloc());
+    for word in env::args(rt)?.skip(1) {
+        words.push(word)?;
+    }
+    Ok(words)
+}
+
+fn lent<'a>(alloc: Global, words: &'a [String]) -> Result<Vec<&'a str>, AllocError> {
+    let mut lent = Vec::new(alloc);
+    for word in words {
+        lent.push(word.as_str())?;
+    }
+    Ok(lent)
+}
+
+fn main(rt: HostRuntime) -> ExitCode {
+    let words = match words_of(&rt) {
+        Ok(words) => words,
+        Err(error) if error.kind() == ErrorKind::OutOfMemory => {
+            return ExitCode::from(Status::NoMemory as u8);
+        }
+        Err(_) => return ExitCode::from(NO_WORDS),
+    };
+    let words = match lent(rt.alloc(), &words) {
+        Ok(words) => words,
+        Err(_) => return ExitCode::from(Status::NoMemory as u8),
+    };
+    let mut files = RealFiles::new(rt);
+    let mut out = RealSink::new(rt);
+    let status = run(rt.alloc(), &words, &mut files, &mut out);
+    ExitCode::from(status as u8)
+}

@@ -1,0 +1,81 @@
+//! Plain contracts: those whose flows need no fixing and no check.
+
+ghost use Rattle.std.specs.Prelude.{◌≡◌, ◌≤◌, ◌+◌, min, ◌↔◌, IsTrue};
+ghost use Rattle.term_core.specs.Terms.{contract};
+ghost use Rattle.contract_cli.specs.Plain.{IsTaken, is_payment, is_plain, is_plain_amount, payments_in};
+
+use term_core::{Contr, Days, Expr};
+
+/// The greatest sum of delays on a path of a plain contract.
+pub const GREATEST_DELAY: u32 = 100_000;
+
+const GREATEST_LITERAL: u128 = 1_000_000_000_000_000_000;
+
+// Whether a literal pays amounts of so many decimals.
+fn is_plain_amount(amounts: u8, mant: i128, scale: u8) -> bool
+    ensures { result ≡ is_plain_amount amounts mant scale }
+{
+    scale <= amounts && mant.unsigned_abs() <= GREATEST_LITERAL
+}
+
+fn is_payment(c: &Contr) -> bool
+    ensures { result ≡ is_payment (contract c.now) }
+{
+    matches!(c, Contr::Pay { .. })
+}
+
+// Whether a contract is plain under declarations of so many decimals for amounts, where the day counts on each path
+// may add up to `left`.
+fn is_plain(amounts: u8, left: u32, c: &Contr) -> bool
+    ensures { result ≡ is_plain amounts left (contract c.now) }
+{
+    match c {
+        Contr::Zero => true,
+        Contr::Pay { .. } => true,
+        Contr::Both {
+            left: one,
+            right: other,
+        } => { is_plain(amounts, left, one) && is_plain(amounts, left, other) }
+        Contr::Scale {
+            factor: Expr::Lit { mant, scale },
+            body,
+        } => is_payment(body) && is_plain_amount(amounts, *mant, *scale),
+        Contr::After {
+            days: Days::Num { days },
+            body,
+        } => *days <= left && is_plain(amounts, left - *days, body),
+        _ => false,
+    }
+}
+
+const MOST_PAYMENTS: u32 = 1_000_000;
+
+fn together(one: u32, other: u32) -> u32
+    requires one { one ≤ 1_000_000 }
+    requires other { other ≤ 1_000_000 }
+    ensures { result ≡ min (one + other) 1_000_000 }
+{
+    (one + other).min(MOST_PAYMENTS)
+}
+
+// How many payments a contract holds, up to a million.
+fn payments_in(c: &Contr) -> u32
+    ensures { result ≡ min (payments_in (contract c.now)) 1_000_000 }
+{
+    match c {
+        Contr::Zero => 0,
+        Contr::Pay { .. } => 1,
+        Contr::Both { left, right } => together(payments_in(left), payments_in(right)),
+        Contr::Scale { body, .. } => payments_in(body),
+        Contr::After { body, .. } => payments_in(body),
+        Contr::Let { body, .. } => payments_in(body),
+        Contr::Within { hit, miss, .. } => together(payments_in(hit), payments_in(miss)),
+    }
+}
+
+/// Whether the flows of a contract are given today, under declarations of so many decimals for amounts.
+pub fn is_taken(amounts: u8, c: &Contr) -> bool
+    ensures { IsTrue result ↔ IsTaken amounts (contract c.now) }
+{
+    is_plain(amounts, GREATEST_DELAY, c) && payments_in(c) < MOST_PAYMENTS
+}

@@ -1,0 +1,12 @@
+-- The law of residuals: a residual of a residual, under more fixings, carries the first contract over all the days.
+use Rattle.std.specs.Prelude.{ℕ, ℤ, pos, ◌+◌, ◌+ℤ◌}
+use Rattle.term_core.specs.Declarations.{Declarations}
+use Rattle.term_core.specs.Terms.{Contract}
+use Rattle.term_core.specs.Environments.{Environment, Extends}
+use Rattle.term_core.specs.Residuals.{Carries}
+
+abbrev pub CarriesComposes : Type 0
+CarriesComposes =
+    (d : Declarations) (c rest last : Contract) (f : ℤ) (fixings more : Environment) (m k : ℕ)
+    → Carries d c f fixings m rest → Carries d rest (f +ℤ pos m) more k last → Extends fixings more
+    → Carries d c f more (m + k) last

@@ -1,0 +1,13 @@
+-- The law of shifts: an expression whose observables are read k days later has on a day the value that the expression
+-- has k days later. The days of an accumulator move with it.
+use Rattle.std.specs.Prelude.{ℤ, ◌+ℤ◌, ◌≡◌, List}
+use Rattle.term_core.specs.Declarations.{Declarations}
+use Rattle.term_core.specs.Terms.{Expression}
+use Rattle.term_core.specs.Environments.{Environment}
+use Rattle.term_core.specs.Values.{Entry, value_of}
+use Rattle.term_core.specs.Shifts.{shifted}
+
+abbrev pub ShiftsMoveTheDay : Type 0
+ShiftsMoveTheDay =
+    (d : Declarations) (e : Expression) (k : ℤ) (g : List Entry) (env : Environment) (f : ℤ)
+    → value_of d (shifted k e) g env f ≡ value_of d e g env (f +ℤ k)
