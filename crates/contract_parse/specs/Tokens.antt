@@ -77,12 +77,16 @@ word_extent n = if nat_lt 64 n then record { kind = Stray; len = 0 } else record
 abbrev pub mark_extent : ℕ → Extent
 mark_extent n = if n == 0 then record { kind = Stray; len = 0 } else record { kind = Mark; len = n }
 
+-- a date comes before a number
+abbrev pub digits_extent : List ℕ → Extent
+digits_extent bytes = if begins_with_date bytes then record { kind = Date; len = 10 } else record { kind = Number; len = number_len bytes }
+
 -- what begins at the first byte, and how many bytes it has
 unfoldable pub extent_at : List ℕ → Extent
 extent_at [] = record { kind = End; len = 0 }
 extent_at (b ∷ bs) =
     if is_letter b then word_extent (prefix_len is_word_byte (b ∷ bs))
-    else if is_digit b then (if begins_with_date (b ∷ bs) then record { kind = Date; len = 10 } else record { kind = Number; len = number_len (b ∷ bs) })
+    else if is_digit b then digits_extent (b ∷ bs)
     else mark_extent (mark_len (b ∷ bs))
 
 abbrev pub token_at : List ℕ → Tok

@@ -1,67 +1,36 @@
 //! Contracts from texts.
+ghost use Rattle.std.specs.Prelude.{◌≡◌, ◌≤◌, ◌<◌, ◌+◌, ◌∷◌, [], ℕ, List, IfOk, codes, length};
+ghost use Rattle.term_core.specs.Terms.{contract, expression};
+ghost use Rattle.term_core.specs.Sizes.{height_of_contract};
+ghost use Rattle.contract_parse.specs.Tokens.{Tok, tokens};
+ghost use Rattle.contract_parse.specs.Words.{Bytes};
+ghost use Rattle.contract_parse.specs.Names.{names_in};
+ghost use Rattle.contract_parse.specs.Spelling.{contr, word};
+ghost use Rattle.contract_parse.specs.Places.{ContrAt, Leaves, Place, contr_places, run};
+ghost use Rattle.contract_parse.specs.Reading.{scope_in};
 
-use crate::exprs::{MAX_DEPTH, read_expr};
-use crate::faults::{ReadErr, TextKind};
-use crate::names::{Bound, read_use_of_map, read_use_of_set};
-use crate::places::{read_binder, read_integer, skip_mark, skip_word, starts_with_integer};
-use crate::token::Lexeme;
-use crate::words::{is_the_word, next, refuse};
+use crate::exprs::read_expr;
+use crate::faults::ReadErr;
+use crate::heads::{Head, head_at};
+use crate::judges::refuse;
+use crate::names::Bound;
+use crate::readers::{read_binder, read_days, read_use_of_set, skip_mark, skip_word};
+use crate::words::next;
 use std::alloc::Global;
-use term_core::{Contr, Days, Decls};
-
-/// What a contract begins with.
-#[derive(Clone, Copy, Debug, PartialEq, Eq)]
-pub enum Head {
-    Zero,
-    Pay,
-    Both,
-    Scale,
-    After,
-    Let,
-    If,
-}
-
-fn head_of(token: &Lexeme<'_>) -> Option<Head> {
-    if is_the_word(token, b"zero") {
-        Some(Head::Zero)
-    } else if is_the_word(token, b"pay") {
-        Some(Head::Pay)
-    } else if is_the_word(token, b"both") {
-        Some(Head::Both)
-    } else if is_the_word(token, b"scale") {
-        Some(Head::Scale)
-    } else if is_the_word(token, b"after") {
-        Some(Head::After)
-    } else if is_the_word(token, b"let") {
-        Some(Head::Let)
-    } else if is_the_word(token, b"if") {
-        Some(Head::If)
-    } else {
-        None
-    }
-}
-
-// A count of days: a number, or the name of a template.
-fn read_days<'a>(
-    alloc: Global,
-    decls: &Decls,
-    rest: &'a [u8],
-) -> Result<(Days, &'a [u8]), ReadErr> {
-    if starts_with_integer(rest) {
-        let (days, rest) = read_integer(rest, 100_000)?;
-        Ok((Days::Num { days }, rest))
-    } else {
-        let (template, rest) = read_use_of_map(alloc, &decls.templates, rest)?;
-        Ok((Days::Named { template }, rest))
-    }
-}
+use term_core::{Contr, Decls};
 
 // What stands behind `pay`.
+#[tactic(auto, using(crate::proofs::Parts::followed_by))]
 fn read_pay<'a>(
     alloc: Global,
     decls: &Decls,
     rest: &'a [u8],
-) -> Result<(Contr, &'a [u8]), ReadErr> {
+) -> Result<(Contr, &'a [u8]), ReadErr>
+    ensures follows { (cs : List Bytes) (depth : ℕ) (names : List Bytes) (ps : List Place) → Leaves (λ r. run (scope_in decls.now cs) ps (tokens r.1.now)) result (run (scope_in decls.now cs) (contr_places (scope_in decls.now cs) depth names Head.Pay ps) (tokens rest.now)) }
+    ensures spelled { IfOk result (λ r. (names : List Bytes) (ts : List Tok) → word (codes "pay") ts (tokens rest.now) → contr (scope_in decls.now []) names (contract r.0) ts (tokens r.1.now)) }
+    ensures high { IfOk result (λ r. height_of_contract (contract r.0) ≡ 1) }
+    ensures shorter { IfOk result (λ r. length r.1.now ≤ length rest.now) }
+{
     let rest = skip_mark(rest, b"(")?;
     let (asset, rest) = read_use_of_set(alloc, &decls.assets, rest)?;
     let rest = skip_mark(rest, b",")?;
@@ -74,13 +43,21 @@ fn read_pay<'a>(
 
 // What stands behind `both`.
 #[cycle(contr)]
+#[tactic(auto, using(crate::proofs::Parts::followed_by))]
 fn read_both<'a>(
     alloc: Global,
     decls: &Decls,
     bound: &Bound<'_>,
     depth: u32,
     rest: &'a [u8],
-) -> Result<(Contr, &'a [u8]), ReadErr> {
+) -> Result<(Contr, &'a [u8]), ReadErr>
+    requires shallow { depth ≤ 200 }
+    requires bound { length (names_in bound.now) < depth }
+    ensures follows { (cs : List Bytes) (ps : List Place) → Leaves (λ r. run (scope_in decls.now cs) ps (tokens r.1.now)) result (run (scope_in decls.now cs) (contr_places (scope_in decls.now cs) depth (names_in bound.now) Head.Both ps) (tokens rest.now)) }
+    ensures spelled { IfOk result (λ r. (ts : List Tok) → word (codes "both") ts (tokens rest.now) → contr (scope_in decls.now []) (names_in bound.now) (contract r.0) ts (tokens r.1.now)) }
+    ensures high { IfOk result (λ r. height_of_contract (contract r.0) + depth ≤ 201) }
+    ensures shorter { IfOk result (λ r. length r.1.now ≤ length rest.now) }
+{
     let rest = skip_mark(rest, b"(")?;
     let (left, rest) = read_contr(alloc, decls, bound, depth + 1, rest)?;
     let rest = skip_mark(rest, b",")?;
@@ -93,13 +70,21 @@ fn read_both<'a>(
 
 // What stands behind `scale`.
 #[cycle(contr)]
+#[tactic(auto, using(crate::proofs::Parts::followed_by))]
 fn read_scaled<'a>(
     alloc: Global,
     decls: &Decls,
     bound: &Bound<'_>,
     depth: u32,
     rest: &'a [u8],
-) -> Result<(Contr, &'a [u8]), ReadErr> {
+) -> Result<(Contr, &'a [u8]), ReadErr>
+    requires shallow { depth ≤ 200 }
+    requires bound { length (names_in bound.now) < depth }
+    ensures follows { (cs : List Bytes) (ps : List Place) → Leaves (λ r. run (scope_in decls.now cs) ps (tokens r.1.now)) result (run (scope_in decls.now cs) (contr_places (scope_in decls.now cs) depth (names_in bound.now) Head.Scale ps) (tokens rest.now)) }
+    ensures spelled { IfOk result (λ r. (ts : List Tok) → word (codes "scale") ts (tokens rest.now) → contr (scope_in decls.now []) (names_in bound.now) (contract r.0) ts (tokens r.1.now)) }
+    ensures high { IfOk result (λ r. height_of_contract (contract r.0) + depth ≤ 201) }
+    ensures shorter { IfOk result (λ r. length r.1.now ≤ length rest.now) }
+{
     let rest = skip_mark(rest, b"(")?;
     let (factor, rest) = read_expr(alloc, decls, bound, depth + 1, rest)?;
     let rest = skip_mark(rest, b",")?;
@@ -111,15 +96,23 @@ fn read_scaled<'a>(
 
 // What stands behind `after`.
 #[cycle(contr)]
+#[tactic(auto, using(crate::proofs::Parts::followed_by))]
 fn read_after<'a>(
     alloc: Global,
     decls: &Decls,
     bound: &Bound<'_>,
     depth: u32,
     rest: &'a [u8],
-) -> Result<(Contr, &'a [u8]), ReadErr> {
+) -> Result<(Contr, &'a [u8]), ReadErr>
+    requires shallow { depth ≤ 200 }
+    requires bound { length (names_in bound.now) < depth }
+    ensures follows { (cs : List Bytes) (ps : List Place) → Leaves (λ r. run (scope_in decls.now cs) ps (tokens r.1.now)) result (run (scope_in decls.now cs) (contr_places (scope_in decls.now cs) depth (names_in bound.now) Head.After ps) (tokens rest.now)) }
+    ensures spelled { IfOk result (λ r. (ts : List Tok) → word (codes "after") ts (tokens rest.now) → contr (scope_in decls.now []) (names_in bound.now) (contract r.0) ts (tokens r.1.now)) }
+    ensures high { IfOk result (λ r. height_of_contract (contract r.0) + depth ≤ 201) }
+    ensures shorter { IfOk result (λ r. length r.1.now ≤ length rest.now) }
+{
     let rest = skip_mark(rest, b"(")?;
-    let (days, rest) = read_days(alloc, decls, rest)?;
+    let (days, rest) = read_days(alloc, &decls.templates, rest)?;
     let rest = skip_mark(rest, b",")?;
     let (body, rest) = read_contr(alloc, decls, bound, depth + 1, rest)?;
     let rest = skip_mark(rest, b")")?;
@@ -129,13 +122,21 @@ fn read_after<'a>(
 
 // What stands behind `let`. The name is bound in the contract and not in its own expression.
 #[cycle(contr)]
+#[tactic(auto, using(crate::proofs::Parts::followed_by))]
 fn read_let<'a>(
     alloc: Global,
     decls: &Decls,
     bound: &Bound<'_>,
     depth: u32,
     rest: &'a [u8],
-) -> Result<(Contr, &'a [u8]), ReadErr> {
+) -> Result<(Contr, &'a [u8]), ReadErr>
+    requires shallow { depth ≤ 200 }
+    requires bound { length (names_in bound.now) < depth }
+    ensures follows { (cs : List Bytes) (ps : List Place) → Leaves (λ r. run (scope_in decls.now cs) ps (tokens r.1.now)) result (run (scope_in decls.now cs) (contr_places (scope_in decls.now cs) depth (names_in bound.now) Head.Let ps) (tokens rest.now)) }
+    ensures spelled { IfOk result (λ r. (ts : List Tok) → word (codes "let") ts (tokens rest.now) → contr (scope_in decls.now []) (names_in bound.now) (contract r.0) ts (tokens r.1.now)) }
+    ensures high { IfOk result (λ r. height_of_contract (contract r.0) + depth ≤ 201) }
+    ensures shorter { IfOk result (λ r. length r.1.now ≤ length rest.now) }
+{
     let (name, rest) = read_binder(rest)?;
     let rest = skip_mark(rest, b"=")?;
     let (value, rest) = read_expr(alloc, decls, bound, depth + 1, rest)?;
@@ -151,16 +152,24 @@ fn read_let<'a>(
 
 // What stands behind `if`.
 #[cycle(contr)]
+#[tactic(auto, using(crate::proofs::Parts::followed_by))]
 fn read_within<'a>(
     alloc: Global,
     decls: &Decls,
     bound: &Bound<'_>,
     depth: u32,
     rest: &'a [u8],
-) -> Result<(Contr, &'a [u8]), ReadErr> {
+) -> Result<(Contr, &'a [u8]), ReadErr>
+    requires shallow { depth ≤ 200 }
+    requires bound { length (names_in bound.now) < depth }
+    ensures follows { (cs : List Bytes) (ps : List Place) → Leaves (λ r. run (scope_in decls.now cs) ps (tokens r.1.now)) result (run (scope_in decls.now cs) (contr_places (scope_in decls.now cs) depth (names_in bound.now) Head.If ps) (tokens rest.now)) }
+    ensures spelled { IfOk result (λ r. (ts : List Tok) → word (codes "if") ts (tokens rest.now) → contr (scope_in decls.now []) (names_in bound.now) (contract r.0) ts (tokens r.1.now)) }
+    ensures high { IfOk result (λ r. height_of_contract (contract r.0) + depth ≤ 201) }
+    ensures shorter { IfOk result (λ r. length r.1.now ≤ length rest.now) }
+{
     let (test, rest) = read_expr(alloc, decls, bound, depth + 1, rest)?;
     let rest = skip_word(rest, b"within")?;
-    let (days, rest) = read_days(alloc, decls, rest)?;
+    let (days, rest) = read_days(alloc, &decls.templates, rest)?;
     let rest = skip_word(rest, b"then")?;
     let (hit, rest) = read_contr(alloc, decls, bound, depth + 1, rest)?;
     let rest = skip_word(rest, b"else")?;
@@ -180,20 +189,26 @@ fn read_within<'a>(
 
 /// A contract of a depth under bound names, and the text after it.
 #[cycle(contr)]
+#[tactic(auto, using(crate::proofs::Parts::followed_by))]
 pub fn read_contr<'a>(
     alloc: Global,
     decls: &Decls,
     bound: &Bound<'_>,
     depth: u32,
     rest: &'a [u8],
-) -> Result<(Contr, &'a [u8]), ReadErr> {
+) -> Result<(Contr, &'a [u8]), ReadErr>
+    requires shallow { depth ≤ 201 }
+    requires bound { length (names_in bound.now) < depth }
+    ensures follows { (cs : List Bytes) (ps : List Place) → Leaves (λ r. run (scope_in decls.now cs) ps (tokens r.1.now)) result (run (scope_in decls.now cs) (ContrAt depth (names_in bound.now) ∷ ps) (tokens rest.now)) }
+    ensures spelled { IfOk result (λ r. contr (scope_in decls.now []) (names_in bound.now) (contract r.0) (tokens rest.now) (tokens r.1.now)) }
+    ensures high { IfOk result (λ r. height_of_contract (contract r.0) + depth ≤ 201) }
+    ensures shorter { IfOk result (λ r. length r.1.now ≤ length rest.now) }
+{
     let (token, after) = next(rest);
-    let Some(head) = head_of(&token) else {
-        return Err(refuse(TextKind::Syntax, &token));
+    let head = match head_at(depth, &token) {
+        Ok(head) => head,
+        Err(kind) => return Err(refuse(kind, &token)),
     };
-    if depth > MAX_DEPTH {
-        return Err(refuse(TextKind::Deep, &token));
-    }
     match head {
         Head::Zero => Ok((Contr::Zero, after)),
         Head::Pay => read_pay(alloc, decls, after),

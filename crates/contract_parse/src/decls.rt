@@ -1,15 +1,23 @@
 //! Declarations.
+ghost use Rattle.std.specs.Prelude.{◌≡◌, ◌≤◌, ◌<◌, ◌+◌, ◌^◌, IfOk, length, true};
+ghost use Rattle.indexmap.specs.IndexMap.{index_map_len};
+ghost use Rattle.indexmap.specs.IndexSet.{index_set_len};
+ghost use Rattle.term_core.specs.Limits.{are_numbers, is_origin};
 
-use crate::faults::{ReadErr, TextKind};
+use crate::faults::ReadErr;
 use crate::labels::read_labels;
-use crate::names::{declare, read_new_name};
-use crate::places::{after_word, read_integer, read_origin_date, skip_mark, skip_word};
-use crate::words::{is_the_mark, next, refuse};
+use crate::readers::{
+    after_word, declare, read_integer, read_new_name, read_origin_date, read_separator, skip_mark,
+    skip_word,
+};
 use indexmap::{IndexMap, IndexSet};
 use std::alloc::Global;
 use term_core::{Decls, Name};
 
-fn read_origin(rest: &[u8]) -> Result<(Option<i64>, &[u8]), ReadErr> {
+fn read_origin(rest: &[u8]) -> Result<(Option<i64>, &[u8]), ReadErr>
+    ensures shorter { IfOk result (λ r. length r.1.now ≤ length rest.now) }
+    ensures limits { IfOk result (λ r. is_origin r.0 ≡ true) }
+{
     match after_word(rest, b"origin") {
         None => Ok((None, rest)),
         Some(after) => {
@@ -20,26 +28,17 @@ fn read_origin(rest: &[u8]) -> Result<(Option<i64>, &[u8]), ReadErr> {
     }
 }
 
-fn read_start(rest: &[u8]) -> Result<(u32, &[u8]), ReadErr> {
+fn read_start(rest: &[u8]) -> Result<(u32, &[u8]), ReadErr>
+    ensures shorter { IfOk result (λ r. length r.1.now ≤ length rest.now) }
+    ensures limits { IfOk result (λ r. r.0 ≤ 1_000_000) }
+{
     match after_word(rest, b"start") {
         None => Ok((0, rest)),
         Some(after) => {
-            let (start, rest) = read_integer(after, 1_000_000)?;
+            let (start, rest) = read_integer(1_000_000, after)?;
             let rest = skip_mark(rest, b";")?;
             Ok((start, rest))
         }
-    }
-}
-
-// Whether a comma stands here, and not the semicolon that ends a list.
-fn read_comma(rest: &[u8]) -> Result<(bool, &[u8]), ReadErr> {
-    let (token, after) = next(rest);
-    if is_the_mark(&token, b",") {
-        Ok((true, after))
-    } else if is_the_mark(&token, b";") {
-        Ok((false, after))
-    } else {
-        Err(refuse(TextKind::Syntax, &token))
     }
 }
 
@@ -48,11 +47,14 @@ fn read_name_list<'a>(
     alloc: Global,
     names: &mut IndexSet<Name>,
     rest: &'a [u8],
-) -> Result<&'a [u8], ReadErr> {
+) -> Result<&'a [u8], ReadErr>
+    ensures shorter { IfOk result (λ r. length r.now < length rest.now) }
+    ensures few { IfOk result (λ r. index_set_len names.new + length r.now ≤ index_set_len names.old + length rest.now) }
+{
     let mut rest = declare(alloc, names, rest)?;
     loop {
-        let (more, after) = read_comma(rest)?;
-        if !more {
+        let (comma, after) = read_separator(rest)?;
+        if !comma {
             return Ok(after);
         }
         rest = declare(alloc, names, after)?;
@@ -64,7 +66,9 @@ fn read_names<'a>(
     alloc: Global,
     word: &[u8],
     rest: &'a [u8],
-) -> Result<(IndexSet<Name>, &'a [u8]), ReadErr> {
+) -> Result<(IndexSet<Name>, &'a [u8]), ReadErr>
+    ensures few { IfOk result (λ r. index_set_len r.0 + length r.1.now ≤ length rest.now) }
+{
     let mut names = IndexSet::new(alloc);
     let mut rest = rest;
     while let Some(after) = after_word(rest, word) {
@@ -78,10 +82,15 @@ fn read_template<'a>(
     alloc: Global,
     templates: &mut IndexMap<Name, u32>,
     rest: &'a [u8],
-) -> Result<&'a [u8], ReadErr> {
+) -> Result<&'a [u8], ReadErr>
+    requires { are_numbers templates.old.entries ≡ true }
+    ensures shorter { IfOk result (λ r. length r.now < length rest.now) }
+    ensures few { IfOk result (λ r. index_map_len templates.new + length r.now ≤ index_map_len templates.old + length rest.now) }
+    ensures limits { IfOk result (λ r. are_numbers templates.new.entries ≡ true) }
+{
     let (name, rest) = read_new_name(alloc, templates, rest)?;
     let rest = skip_mark(rest, b"=")?;
-    let (days, rest) = read_integer(rest, 100_000)?;
+    let (days, rest) = read_integer(100_000, rest)?;
     let rest = skip_mark(rest, b";")?;
     templates.insert(name, days)?;
     Ok(rest)
@@ -90,7 +99,10 @@ fn read_template<'a>(
 fn read_templates<'a>(
     alloc: Global,
     rest: &'a [u8],
-) -> Result<(IndexMap<Name, u32>, &'a [u8]), ReadErr> {
+) -> Result<(IndexMap<Name, u32>, &'a [u8]), ReadErr>
+    ensures few { IfOk result (λ r. index_map_len r.0 + length r.1.now ≤ length rest.now) }
+    ensures limits { IfOk result (λ r. are_numbers r.0.entries ≡ true) }
+{
     let mut templates = IndexMap::new(alloc);
     let mut rest = rest;
     while let Some(after) = after_word(rest, b"template") {
@@ -100,9 +112,12 @@ fn read_templates<'a>(
 }
 
 /// The declarations that stand here, up to the last line that may belong to them.
-pub fn read_decls<'a>(alloc: Global, rest: &'a [u8]) -> Result<(Decls, &'a [u8]), ReadErr> {
+pub fn read_decls<'a>(alloc: Global, rest: &'a [u8]) -> Result<(Decls, &'a [u8]), ReadErr>
+    requires { length rest.now ≤ 16_777_216 }
+    ensures shorter { IfOk result (λ r. length r.1.now ≤ length rest.now) }
+{
     let rest = skip_word(rest, b"amounts")?;
-    let (amounts, rest) = read_integer(rest, 12)?;
+    let (amounts, rest) = read_integer(12, rest)?;
     let rest = skip_mark(rest, b";")?;
     let (origin, rest) = read_origin(rest)?;
     let (start, rest) = read_start(rest)?;

@@ -1,146 +1,66 @@
 //! Expressions from texts.
+ghost use Rattle.std.specs.Prelude.{◌≡◌, ◌≤◌, ◌<◌, ◌+◌, ◌∷◌, [], ℕ, List, IfOk, codes, length, max, true};
+ghost use Rattle.term_core.specs.Terms.{Lit, expression};
+ghost use Rattle.term_core.specs.Sizes.{height};
+ghost use Rattle.contract_parse.specs.Tokens.{Tok, tokens};
+ghost use Rattle.contract_parse.specs.Words.{Bytes};
+ghost use Rattle.contract_parse.specs.Names.{Scope, names_in};
+ghost use Rattle.contract_parse.specs.Judgements.{integer_at};
+ghost use Rattle.contract_parse.specs.Spelling.{expr, mark, pair, valued, word, ◌⨟◌};
+ghost use Rattle.contract_parse.specs.Places.{ExprAt, IntegerAt, Leaves, LiteralNumber, Place, expr_places, operand_places, pair_places, run};
+ghost use Rattle.contract_parse.specs.Reading.{joined, scope_in};
 
-use crate::faults::{ReadErr, TextKind};
-use crate::names::{Bound, back_to, read_use_of_map};
-use crate::numbers::{decimal_of, is_too_wide, signed};
-use crate::places::{read_binder, read_integer, read_mode, read_signed_integer, skip_mark};
-use crate::token::Lexeme;
-use crate::words::{is_name, is_number, is_the_mark, is_the_word, next, refuse};
+use crate::faults::ReadErr;
+use crate::heads::{First, Operator, first_at};
+use crate::judges::refuse;
+use crate::names::Bound;
+use crate::readers::{
+    read_binder, read_integer, read_literal, read_mode, read_offset, read_operator, read_use_of_map,
+    skip_mark,
+};
+use crate::words::next;
 use decimal::Decimal;
 use std::alloc::Global;
-use term_core::{CmpOp, Decls, Expr, LogicOp, NumOp};
+use term_core::{Decls, Expr, NumOp};
 
-/// The greatest depth of a term.
-pub const MAX_DEPTH: u32 = 200;
-
-/// What an expression begins with.
-#[derive(Clone, Copy, Debug, PartialEq, Eq)]
-pub enum First {
-    Number,
-    Minus,
-    Open,
-    True,
-    False,
-    Obs,
-    Neg,
-    Not,
-    Min,
-    Max,
-    If,
-    Widen,
-    Round,
-    Div,
-    Acc,
-    Name,
-}
-
-/// An operator between two expressions.
-#[derive(Clone, Copy, Debug, PartialEq, Eq)]
-pub enum Operator {
-    Number(NumOp),
-    Compare(CmpOp),
-    Logic(LogicOp),
-}
-
-fn first_of(token: &Lexeme<'_>) -> Option<First> {
-    if is_number(token) {
-        Some(First::Number)
-    } else if is_the_mark(token, b"-") {
-        Some(First::Minus)
-    } else if is_the_mark(token, b"(") {
-        Some(First::Open)
-    } else if is_the_word(token, b"true") {
-        Some(First::True)
-    } else if is_the_word(token, b"false") {
-        Some(First::False)
-    } else if is_the_word(token, b"obs") {
-        Some(First::Obs)
-    } else if is_the_word(token, b"neg") {
-        Some(First::Neg)
-    } else if is_the_word(token, b"not") {
-        Some(First::Not)
-    } else if is_the_word(token, b"min") {
-        Some(First::Min)
-    } else if is_the_word(token, b"max") {
-        Some(First::Max)
-    } else if is_the_word(token, b"if") {
-        Some(First::If)
-    } else if is_the_word(token, b"widen") {
-        Some(First::Widen)
-    } else if is_the_word(token, b"round") {
-        Some(First::Round)
-    } else if is_the_word(token, b"div") {
-        Some(First::Div)
-    } else if is_the_word(token, b"acc") {
-        Some(First::Acc)
-    } else if is_name(token) {
-        Some(First::Name)
-    } else {
-        None
-    }
-}
-
-fn operator_of(token: &Lexeme<'_>) -> Option<Operator> {
-    if is_the_mark(token, b"+") {
-        Some(Operator::Number(NumOp::Plus))
-    } else if is_the_mark(token, b"-") {
-        Some(Operator::Number(NumOp::Minus))
-    } else if is_the_mark(token, b"*") {
-        Some(Operator::Number(NumOp::Times))
-    } else if is_the_mark(token, b"<") {
-        Some(Operator::Compare(CmpOp::Less))
-    } else if is_the_mark(token, b"<=") {
-        Some(Operator::Compare(CmpOp::LessEq))
-    } else if is_the_mark(token, b">") {
-        Some(Operator::Compare(CmpOp::Greater))
-    } else if is_the_mark(token, b">=") {
-        Some(Operator::Compare(CmpOp::GreaterEq))
-    } else if is_the_mark(token, b"=") {
-        Some(Operator::Compare(CmpOp::Equal))
-    } else if is_the_mark(token, b"!=") {
-        Some(Operator::Compare(CmpOp::Unequal))
-    } else if is_the_mark(token, b"&") {
-        Some(Operator::Logic(LogicOp::And))
-    } else if is_the_mark(token, b"|") {
-        Some(Operator::Logic(LogicOp::Or))
-    } else {
-        None
-    }
-}
-
-fn read_operator(rest: &[u8]) -> Result<(Operator, &[u8]), ReadErr> {
-    let (token, after) = next(rest);
-    match operator_of(&token) {
-        Some(operator) => Ok((operator, after)),
-        None => Err(refuse(TextKind::Syntax, &token)),
-    }
-}
-
-fn joined(operator: Operator, left: Box<Expr>, right: Box<Expr>) -> Expr {
+fn joined(operator: Operator, left: Box<Expr>, right: Box<Expr>) -> Expr
+    ensures { expression result ≡ joined operator (expression left.value) (expression right.value) }
+{
     match operator {
-        Operator::Number(op) => Expr::Num { op, left, right },
-        Operator::Compare(op) => Expr::Cmp { op, left, right },
-        Operator::Logic(op) => Expr::Logic { op, left, right },
+        Operator::Arithmetic { op } => Expr::Num { op, left, right },
+        Operator::Comparison { op } => Expr::Cmp { op, left, right },
+        Operator::Logic { op } => Expr::Logic { op, left, right },
     }
 }
 
-fn literal(number: Decimal) -> Expr {
+fn literal(number: Decimal) -> Expr
+    ensures { expression result ≡ Lit number.mant number.scale }
+{
     Expr::Lit {
         mant: number.mant,
         scale: number.scale,
     }
 }
 
-// The number of a literal behind its sign.
-fn read_negative(rest: &[u8]) -> Result<(Expr, &[u8]), ReadErr> {
-    let (token, after) = next(rest);
-    if !is_number(&token) {
-        return Err(refuse(TextKind::Syntax, &token));
-    }
-    match decimal_of(&token) {
-        Some(number) => Ok((literal(signed(true, number)), after)),
-        None => Err(refuse(TextKind::Number, &token)),
-    }
+// The scale in `widen`, `round` and `div`.
+fn read_scale(rest: &[u8]) -> Result<(u8, &[u8]), ReadErr>
+    ensures follows { (s : Scope) (ps : List Place) → Leaves (λ r. run s ps (tokens r.1.now)) result (run s (IntegerAt 27 ∷ ps) (tokens rest.now)) }
+    ensures spelled { IfOk result (λ r. valued (integer_at 27) r.0 (tokens rest.now) (tokens r.1.now)) }
+    ensures shorter { IfOk result (λ r. length r.1.now ≤ length rest.now) }
+{
+    let (scale, rest) = read_integer(27, rest)?;
+    Ok((scale as u8, rest))
+}
+
+// A literal behind its sign.
+fn read_negative(rest: &[u8]) -> Result<(Expr, &[u8]), ReadErr>
+    ensures follows { (s : Scope) (ps : List Place) → Leaves (λ r. run s ps (tokens r.1.now)) result (run s (LiteralNumber true ∷ ps) (tokens rest.now)) }
+    ensures spelled { IfOk result (λ r. (s : Scope) (names : List Bytes) (ts : List Tok) → mark (codes "-") ts (tokens rest.now) → expr s names (expression r.0) ts (tokens r.1.now)) }
+    ensures high { IfOk result (λ r. height (expression r.0) ≡ 1) }
+    ensures shorter { IfOk result (λ r. length r.1.now ≤ length rest.now) }
+{
+    let (number, rest) = read_literal(true, rest)?;
+    Ok((literal(number), rest))
 }
 
 // What stands behind `obs`.
@@ -148,24 +68,37 @@ fn read_observable<'a>(
     alloc: Global,
     decls: &Decls,
     rest: &'a [u8],
-) -> Result<(Expr, &'a [u8]), ReadErr> {
+) -> Result<(Expr, &'a [u8]), ReadErr>
+    ensures follows { (cs : List Bytes) (depth : ℕ) (names : List Bytes) (ps : List Place) → Leaves (λ r. run (scope_in decls.now cs) ps (tokens r.1.now)) result (run (scope_in decls.now cs) (expr_places (scope_in decls.now cs) depth names First.Obs ps) (tokens rest.now)) }
+    ensures spelled { IfOk result (λ r. (names : List Bytes) (ts : List Tok) → word (codes "obs") ts (tokens rest.now) → expr (scope_in decls.now []) names (expression r.0) ts (tokens r.1.now)) }
+    ensures high { IfOk result (λ r. height (expression r.0) ≡ 1) }
+    ensures shorter { IfOk result (λ r. length r.1.now ≤ length rest.now) }
+{
     let rest = skip_mark(rest, b"(")?;
     let (label, rest) = read_use_of_map(alloc, &decls.labels, rest)?;
     let rest = skip_mark(rest, b",")?;
-    let (offset, rest) = read_signed_integer(rest, 1_000_000)?;
+    let (offset, rest) = read_offset(rest)?;
     let rest = skip_mark(rest, b")")?;
     Ok((Expr::Obs { label, offset }, rest))
 }
 
 // One expression in parentheses.
 #[cycle(expr)]
+#[tactic(auto, using(crate::proofs::Parts::followed_by))]
 fn read_operand<'a>(
     alloc: Global,
     decls: &Decls,
     bound: &Bound<'_>,
     depth: u32,
     rest: &'a [u8],
-) -> Result<(Box<Expr>, &'a [u8]), ReadErr> {
+) -> Result<(Box<Expr>, &'a [u8]), ReadErr>
+    requires shallow { depth ≤ 200 }
+    requires bound { length (names_in bound.now) < depth }
+    ensures follows { (cs : List Bytes) (ps : List Place) → Leaves (λ r. run (scope_in decls.now cs) ps (tokens r.1.now)) result (run (scope_in decls.now cs) (operand_places (ExprAt (depth + 1) (names_in bound.now)) ps) (tokens rest.now)) }
+    ensures spelled { IfOk result (λ r. (mark (codes "(") ⨟ expr (scope_in decls.now []) (names_in bound.now) (expression r.0.value) ⨟ mark (codes ")")) (tokens rest.now) (tokens r.1.now)) }
+    ensures high { IfOk result (λ r. height (expression r.0.value) + depth ≤ 200) }
+    ensures shorter { IfOk result (λ r. length r.1.now ≤ length rest.now) }
+{
     let rest = skip_mark(rest, b"(")?;
     let (of, rest) = read_expr(alloc, decls, bound, depth + 1, rest)?;
     let rest = skip_mark(rest, b")")?;
@@ -175,40 +108,63 @@ fn read_operand<'a>(
 
 // What stands behind `neg`.
 #[cycle(expr)]
+#[tactic(auto, using(crate::proofs::Parts::followed_by))]
 fn read_neg<'a>(
     alloc: Global,
     decls: &Decls,
     bound: &Bound<'_>,
     depth: u32,
     rest: &'a [u8],
-) -> Result<(Expr, &'a [u8]), ReadErr> {
+) -> Result<(Expr, &'a [u8]), ReadErr>
+    requires shallow { depth ≤ 200 }
+    requires bound { length (names_in bound.now) < depth }
+    ensures follows { (cs : List Bytes) (ps : List Place) → Leaves (λ r. run (scope_in decls.now cs) ps (tokens r.1.now)) result (run (scope_in decls.now cs) (expr_places (scope_in decls.now cs) depth (names_in bound.now) First.Neg ps) (tokens rest.now)) }
+    ensures spelled { IfOk result (λ r. (ts : List Tok) → word (codes "neg") ts (tokens rest.now) → expr (scope_in decls.now []) (names_in bound.now) (expression r.0) ts (tokens r.1.now)) }
+    ensures high { IfOk result (λ r. height (expression r.0) + depth ≤ 201) }
+    ensures shorter { IfOk result (λ r. length r.1.now ≤ length rest.now) }
+{
     let (of, rest) = read_operand(alloc, decls, bound, depth, rest)?;
     Ok((Expr::Neg { of }, rest))
 }
 
 // What stands behind `not`.
 #[cycle(expr)]
+#[tactic(auto, using(crate::proofs::Parts::followed_by))]
 fn read_not<'a>(
     alloc: Global,
     decls: &Decls,
     bound: &Bound<'_>,
     depth: u32,
     rest: &'a [u8],
-) -> Result<(Expr, &'a [u8]), ReadErr> {
+) -> Result<(Expr, &'a [u8]), ReadErr>
+    requires shallow { depth ≤ 200 }
+    requires bound { length (names_in bound.now) < depth }
+    ensures follows { (cs : List Bytes) (ps : List Place) → Leaves (λ r. run (scope_in decls.now cs) ps (tokens r.1.now)) result (run (scope_in decls.now cs) (expr_places (scope_in decls.now cs) depth (names_in bound.now) First.Not ps) (tokens rest.now)) }
+    ensures spelled { IfOk result (λ r. (ts : List Tok) → word (codes "not") ts (tokens rest.now) → expr (scope_in decls.now []) (names_in bound.now) (expression r.0) ts (tokens r.1.now)) }
+    ensures high { IfOk result (λ r. height (expression r.0) + depth ≤ 201) }
+    ensures shorter { IfOk result (λ r. length r.1.now ≤ length rest.now) }
+{
     let (of, rest) = read_operand(alloc, decls, bound, depth, rest)?;
     Ok((Expr::Not { of }, rest))
 }
 
-// What stands behind `min` or `max`.
+// Two expressions in parentheses.
 #[cycle(expr)]
-fn read_extreme<'a>(
+#[tactic(auto, using(crate::proofs::Parts::followed_by))]
+fn read_pair<'a>(
     alloc: Global,
     decls: &Decls,
     bound: &Bound<'_>,
     depth: u32,
-    op: NumOp,
     rest: &'a [u8],
-) -> Result<(Expr, &'a [u8]), ReadErr> {
+) -> Result<(Box<Expr>, Box<Expr>, &'a [u8]), ReadErr>
+    requires shallow { depth ≤ 200 }
+    requires bound { length (names_in bound.now) < depth }
+    ensures follows { (cs : List Bytes) (ps : List Place) → Leaves (λ r. run (scope_in decls.now cs) ps (tokens r.2.now)) result (run (scope_in decls.now cs) (pair_places (ExprAt (depth + 1) (names_in bound.now)) (ExprAt (depth + 1) (names_in bound.now)) ps) (tokens rest.now)) }
+    ensures spelled { IfOk result (λ r. pair (expr (scope_in decls.now []) (names_in bound.now) (expression r.0.value)) (expr (scope_in decls.now []) (names_in bound.now) (expression r.1.value)) (tokens rest.now) (tokens r.2.now)) }
+    ensures high { IfOk result (λ r. max (height (expression r.0.value)) (height (expression r.1.value)) + depth ≤ 200) }
+    ensures shorter { IfOk result (λ r. length r.2.now ≤ length rest.now) }
+{
     let rest = skip_mark(rest, b"(")?;
     let (left, rest) = read_expr(alloc, decls, bound, depth + 1, rest)?;
     let rest = skip_mark(rest, b",")?;
@@ -216,18 +172,70 @@ fn read_extreme<'a>(
     let rest = skip_mark(rest, b")")?;
     let left = Box::new(alloc, left)?;
     let right = Box::new(alloc, right)?;
+    Ok((left, right, rest))
+}
+
+// What stands behind `min`.
+#[cycle(expr)]
+#[tactic(auto, using(crate::proofs::Parts::followed_by))]
+fn read_min<'a>(
+    alloc: Global,
+    decls: &Decls,
+    bound: &Bound<'_>,
+    depth: u32,
+    rest: &'a [u8],
+) -> Result<(Expr, &'a [u8]), ReadErr>
+    requires shallow { depth ≤ 200 }
+    requires bound { length (names_in bound.now) < depth }
+    ensures follows { (cs : List Bytes) (ps : List Place) → Leaves (λ r. run (scope_in decls.now cs) ps (tokens r.1.now)) result (run (scope_in decls.now cs) (expr_places (scope_in decls.now cs) depth (names_in bound.now) First.Min ps) (tokens rest.now)) }
+    ensures spelled { IfOk result (λ r. (ts : List Tok) → word (codes "min") ts (tokens rest.now) → expr (scope_in decls.now []) (names_in bound.now) (expression r.0) ts (tokens r.1.now)) }
+    ensures high { IfOk result (λ r. height (expression r.0) + depth ≤ 201) }
+    ensures shorter { IfOk result (λ r. length r.1.now ≤ length rest.now) }
+{
+    let (left, right, rest) = read_pair(alloc, decls, bound, depth, rest)?;
+    let op = NumOp::Min;
+    Ok((Expr::Num { op, left, right }, rest))
+}
+
+// What stands behind `max`.
+#[cycle(expr)]
+#[tactic(auto, using(crate::proofs::Parts::followed_by))]
+fn read_max<'a>(
+    alloc: Global,
+    decls: &Decls,
+    bound: &Bound<'_>,
+    depth: u32,
+    rest: &'a [u8],
+) -> Result<(Expr, &'a [u8]), ReadErr>
+    requires shallow { depth ≤ 200 }
+    requires bound { length (names_in bound.now) < depth }
+    ensures follows { (cs : List Bytes) (ps : List Place) → Leaves (λ r. run (scope_in decls.now cs) ps (tokens r.1.now)) result (run (scope_in decls.now cs) (expr_places (scope_in decls.now cs) depth (names_in bound.now) First.Max ps) (tokens rest.now)) }
+    ensures spelled { IfOk result (λ r. (ts : List Tok) → word (codes "max") ts (tokens rest.now) → expr (scope_in decls.now []) (names_in bound.now) (expression r.0) ts (tokens r.1.now)) }
+    ensures high { IfOk result (λ r. height (expression r.0) + depth ≤ 201) }
+    ensures shorter { IfOk result (λ r. length r.1.now ≤ length rest.now) }
+{
+    let (left, right, rest) = read_pair(alloc, decls, bound, depth, rest)?;
+    let op = NumOp::Max;
     Ok((Expr::Num { op, left, right }, rest))
 }
 
 // What stands behind a parenthesis.
 #[cycle(expr)]
+#[tactic(auto, using(crate::proofs::Parts::followed_by))]
 fn read_infix<'a>(
     alloc: Global,
     decls: &Decls,
     bound: &Bound<'_>,
     depth: u32,
     rest: &'a [u8],
-) -> Result<(Expr, &'a [u8]), ReadErr> {
+) -> Result<(Expr, &'a [u8]), ReadErr>
+    requires shallow { depth ≤ 200 }
+    requires bound { length (names_in bound.now) < depth }
+    ensures follows { (cs : List Bytes) (ps : List Place) → Leaves (λ r. run (scope_in decls.now cs) ps (tokens r.1.now)) result (run (scope_in decls.now cs) (expr_places (scope_in decls.now cs) depth (names_in bound.now) First.Open ps) (tokens rest.now)) }
+    ensures spelled { IfOk result (λ r. (ts : List Tok) → mark (codes "(") ts (tokens rest.now) → expr (scope_in decls.now []) (names_in bound.now) (expression r.0) ts (tokens r.1.now)) }
+    ensures high { IfOk result (λ r. height (expression r.0) + depth ≤ 201) }
+    ensures shorter { IfOk result (λ r. length r.1.now ≤ length rest.now) }
+{
     let (left, rest) = read_expr(alloc, decls, bound, depth + 1, rest)?;
     let (operator, rest) = read_operator(rest)?;
     let (right, rest) = read_expr(alloc, decls, bound, depth + 1, rest)?;
@@ -239,13 +247,21 @@ fn read_infix<'a>(
 
 // What stands behind `if`.
 #[cycle(expr)]
+#[tactic(auto, using(crate::proofs::Parts::followed_by))]
 fn read_choice<'a>(
     alloc: Global,
     decls: &Decls,
     bound: &Bound<'_>,
     depth: u32,
     rest: &'a [u8],
-) -> Result<(Expr, &'a [u8]), ReadErr> {
+) -> Result<(Expr, &'a [u8]), ReadErr>
+    requires shallow { depth ≤ 200 }
+    requires bound { length (names_in bound.now) < depth }
+    ensures follows { (cs : List Bytes) (ps : List Place) → Leaves (λ r. run (scope_in decls.now cs) ps (tokens r.1.now)) result (run (scope_in decls.now cs) (expr_places (scope_in decls.now cs) depth (names_in bound.now) First.If ps) (tokens rest.now)) }
+    ensures spelled { IfOk result (λ r. (ts : List Tok) → word (codes "if") ts (tokens rest.now) → expr (scope_in decls.now []) (names_in bound.now) (expression r.0) ts (tokens r.1.now)) }
+    ensures high { IfOk result (λ r. height (expression r.0) + depth ≤ 201) }
+    ensures shorter { IfOk result (λ r. length r.1.now ≤ length rest.now) }
+{
     let rest = skip_mark(rest, b"(")?;
     let (test, rest) = read_expr(alloc, decls, bound, depth + 1, rest)?;
     let rest = skip_mark(rest, b",")?;
@@ -261,13 +277,21 @@ fn read_choice<'a>(
 
 // What stands behind `widen`.
 #[cycle(expr)]
+#[tactic(auto, using(crate::proofs::Parts::followed_by))]
 fn read_widen<'a>(
     alloc: Global,
     decls: &Decls,
     bound: &Bound<'_>,
     depth: u32,
     rest: &'a [u8],
-) -> Result<(Expr, &'a [u8]), ReadErr> {
+) -> Result<(Expr, &'a [u8]), ReadErr>
+    requires shallow { depth ≤ 200 }
+    requires bound { length (names_in bound.now) < depth }
+    ensures follows { (cs : List Bytes) (ps : List Place) → Leaves (λ r. run (scope_in decls.now cs) ps (tokens r.1.now)) result (run (scope_in decls.now cs) (expr_places (scope_in decls.now cs) depth (names_in bound.now) First.Widen ps) (tokens rest.now)) }
+    ensures spelled { IfOk result (λ r. (ts : List Tok) → word (codes "widen") ts (tokens rest.now) → expr (scope_in decls.now []) (names_in bound.now) (expression r.0) ts (tokens r.1.now)) }
+    ensures high { IfOk result (λ r. height (expression r.0) + depth ≤ 201) }
+    ensures shorter { IfOk result (λ r. length r.1.now ≤ length rest.now) }
+{
     let rest = skip_mark(rest, b"(")?;
     let (scale, rest) = read_scale(rest)?;
     let rest = skip_mark(rest, b",")?;
@@ -279,13 +303,21 @@ fn read_widen<'a>(
 
 // What stands behind `round`.
 #[cycle(expr)]
+#[tactic(auto, using(crate::proofs::Parts::followed_by))]
 fn read_round<'a>(
     alloc: Global,
     decls: &Decls,
     bound: &Bound<'_>,
     depth: u32,
     rest: &'a [u8],
-) -> Result<(Expr, &'a [u8]), ReadErr> {
+) -> Result<(Expr, &'a [u8]), ReadErr>
+    requires shallow { depth ≤ 200 }
+    requires bound { length (names_in bound.now) < depth }
+    ensures follows { (cs : List Bytes) (ps : List Place) → Leaves (λ r. run (scope_in decls.now cs) ps (tokens r.1.now)) result (run (scope_in decls.now cs) (expr_places (scope_in decls.now cs) depth (names_in bound.now) First.Round ps) (tokens rest.now)) }
+    ensures spelled { IfOk result (λ r. (ts : List Tok) → word (codes "round") ts (tokens rest.now) → expr (scope_in decls.now []) (names_in bound.now) (expression r.0) ts (tokens r.1.now)) }
+    ensures high { IfOk result (λ r. height (expression r.0) + depth ≤ 201) }
+    ensures shorter { IfOk result (λ r. length r.1.now ≤ length rest.now) }
+{
     let rest = skip_mark(rest, b"(")?;
     let (mode, rest) = read_mode(rest)?;
     let rest = skip_mark(rest, b",")?;
@@ -299,13 +331,21 @@ fn read_round<'a>(
 
 // What stands behind `div`.
 #[cycle(expr)]
+#[tactic(auto, using(crate::proofs::Parts::followed_by))]
 fn read_div<'a>(
     alloc: Global,
     decls: &Decls,
     bound: &Bound<'_>,
     depth: u32,
     rest: &'a [u8],
-) -> Result<(Expr, &'a [u8]), ReadErr> {
+) -> Result<(Expr, &'a [u8]), ReadErr>
+    requires shallow { depth ≤ 200 }
+    requires bound { length (names_in bound.now) < depth }
+    ensures follows { (cs : List Bytes) (ps : List Place) → Leaves (λ r. run (scope_in decls.now cs) ps (tokens r.1.now)) result (run (scope_in decls.now cs) (expr_places (scope_in decls.now cs) depth (names_in bound.now) First.Div ps) (tokens rest.now)) }
+    ensures spelled { IfOk result (λ r. (ts : List Tok) → word (codes "div") ts (tokens rest.now) → expr (scope_in decls.now []) (names_in bound.now) (expression r.0) ts (tokens r.1.now)) }
+    ensures high { IfOk result (λ r. height (expression r.0) + depth ≤ 201) }
+    ensures shorter { IfOk result (λ r. length r.1.now ≤ length rest.now) }
+{
     let rest = skip_mark(rest, b"(")?;
     let (mode, rest) = read_mode(rest)?;
     let rest = skip_mark(rest, b",")?;
@@ -330,13 +370,21 @@ fn read_div<'a>(
 
 // What stands behind `acc`: the body, in which the name is bound, comes before the start.
 #[cycle(expr)]
+#[tactic(auto, using(crate::proofs::Parts::followed_by))]
 fn read_acc<'a>(
     alloc: Global,
     decls: &Decls,
     bound: &Bound<'_>,
     depth: u32,
     rest: &'a [u8],
-) -> Result<(Expr, &'a [u8]), ReadErr> {
+) -> Result<(Expr, &'a [u8]), ReadErr>
+    requires shallow { depth ≤ 200 }
+    requires bound { length (names_in bound.now) < depth }
+    ensures follows { (cs : List Bytes) (ps : List Place) → Leaves (λ r. run (scope_in decls.now cs) ps (tokens r.1.now)) result (run (scope_in decls.now cs) (expr_places (scope_in decls.now cs) depth (names_in bound.now) First.Acc ps) (tokens rest.now)) }
+    ensures spelled { IfOk result (λ r. (ts : List Tok) → word (codes "acc") ts (tokens rest.now) → expr (scope_in decls.now []) (names_in bound.now) (expression r.0) ts (tokens r.1.now)) }
+    ensures high { IfOk result (λ r. height (expression r.0) + depth ≤ 201) }
+    ensures shorter { IfOk result (λ r. length r.1.now ≤ length rest.now) }
+{
     let rest = skip_mark(rest, b"(")?;
     let (name, rest) = read_binder(rest)?;
     let rest = skip_mark(rest, b",")?;
@@ -346,7 +394,7 @@ fn read_acc<'a>(
     };
     let (body, rest) = read_expr(alloc, decls, &inner, depth + 1, rest)?;
     let rest = skip_mark(rest, b",")?;
-    let (days, rest) = read_integer(rest, 100_000)?;
+    let (days, rest) = read_integer(100_000, rest)?;
     let rest = skip_mark(rest, b",")?;
     let (first, rest) = read_expr(alloc, decls, bound, depth + 1, rest)?;
     let rest = skip_mark(rest, b")")?;
@@ -355,59 +403,44 @@ fn read_acc<'a>(
     Ok((Expr::Acc { body, days, first }, rest))
 }
 
-// The scale in `widen`, `round` and `div`.
-fn read_scale(rest: &[u8]) -> Result<(u8, &[u8]), ReadErr> {
-    let (scale, rest) = read_integer(rest, 27)?;
-    Ok((scale as u8, rest))
-}
-
-// The kind of fault where a term begins too deep.
-fn too_deep(token: &Lexeme<'_>) -> TextKind {
-    if is_too_wide(token) {
-        TextKind::Number
-    } else {
-        TextKind::Deep
-    }
-}
-
 /// An expression of a depth under bound names, and the text after it.
 #[cycle(expr)]
+#[tactic(auto, using(crate::proofs::Parts::followed_by))]
 pub fn read_expr<'a>(
     alloc: Global,
     decls: &Decls,
     bound: &Bound<'_>,
     depth: u32,
     rest: &'a [u8],
-) -> Result<(Expr, &'a [u8]), ReadErr> {
+) -> Result<(Expr, &'a [u8]), ReadErr>
+    requires shallow { depth ≤ 201 }
+    requires bound { length (names_in bound.now) < depth }
+    ensures follows { (cs : List Bytes) (ps : List Place) → Leaves (λ r. run (scope_in decls.now cs) ps (tokens r.1.now)) result (run (scope_in decls.now cs) (ExprAt depth (names_in bound.now) ∷ ps) (tokens rest.now)) }
+    ensures spelled { IfOk result (λ r. expr (scope_in decls.now []) (names_in bound.now) (expression r.0) (tokens rest.now) (tokens r.1.now)) }
+    ensures high { IfOk result (λ r. height (expression r.0) + depth ≤ 201) }
+    ensures shorter { IfOk result (λ r. length r.1.now ≤ length rest.now) }
+{
     let (token, after) = next(rest);
-    let Some(first) = first_of(&token) else {
-        return Err(refuse(TextKind::Syntax, &token));
+    let first = match first_at(bound, depth, &token) {
+        Ok(first) => first,
+        Err(kind) => return Err(refuse(kind, &token)),
     };
-    if depth > MAX_DEPTH {
-        return Err(refuse(too_deep(&token), &token));
-    }
     match first {
-        First::Number => match decimal_of(&token) {
-            Some(number) => Ok((literal(number), after)),
-            None => Err(refuse(TextKind::Number, &token)),
-        },
-        First::Minus => read_negative(after),
-        First::Open => read_infix(alloc, decls, bound, depth, after),
+        First::Number { number } => Ok((literal(number), after)),
+        First::Name { back } => Ok((Expr::Var { back }, after)),
         First::True => Ok((Expr::Yes { value: true }, after)),
         First::False => Ok((Expr::Yes { value: false }, after)),
+        First::Minus => read_negative(after),
+        First::Open => read_infix(alloc, decls, bound, depth, after),
         First::Obs => read_observable(alloc, decls, after),
         First::Neg => read_neg(alloc, decls, bound, depth, after),
         First::Not => read_not(alloc, decls, bound, depth, after),
-        First::Min => read_extreme(alloc, decls, bound, depth, NumOp::Min, after),
-        First::Max => read_extreme(alloc, decls, bound, depth, NumOp::Max, after),
+        First::Min => read_min(alloc, decls, bound, depth, after),
+        First::Max => read_max(alloc, decls, bound, depth, after),
         First::If => read_choice(alloc, decls, bound, depth, after),
         First::Widen => read_widen(alloc, decls, bound, depth, after),
         First::Round => read_round(alloc, decls, bound, depth, after),
         First::Div => read_div(alloc, decls, bound, depth, after),
         First::Acc => read_acc(alloc, decls, bound, depth, after),
-        First::Name => match back_to(bound, token.text) {
-            Some(back) => Ok((Expr::Var { back }, after)),
-            None => Err(refuse(TextKind::Unknown, &token)),
-        },
     }
 }

@@ -1,73 +1,25 @@
 //! Declarations of labels.
+ghost use Rattle.std.specs.Prelude.{◌≡◌, ◌≤◌, ◌<◌, ◌+◌, IfOk, length, true};
+ghost use Rattle.indexmap.specs.IndexMap.{index_map_len};
+ghost use Rattle.term_core.specs.Limits.{are_labels, is_label};
 
-use crate::faults::{ReadErr, TextKind};
-use crate::names::read_new_name;
-use crate::numbers::{decimal_of, signed, widened};
-use crate::places::{after_mark, after_word, read_integer, skip_mark, skip_word};
-use crate::words::{is_number, next, refuse};
+use crate::faults::ReadErr;
+use crate::readers::{after_word, read_bound, read_label_scale, read_new_name, skip_mark, skip_word};
 use indexmap::IndexMap;
 use std::alloc::Global;
 use term_core::{Label, Name};
 
-// The number of a bound, widened to the label's scale.
-fn read_bound_number(negative: bool, scale: u8, rest: &[u8]) -> Result<(i128, &[u8]), ReadErr> {
-    let (token, after) = next(rest);
-    if !is_number(&token) {
-        return Err(refuse(TextKind::Syntax, &token));
-    }
-    let Some(number) = decimal_of(&token) else {
-        return Err(refuse(TextKind::Number, &token));
-    };
-    if number.scale > scale {
-        return Err(refuse(TextKind::Range, &token));
-    }
-    match widened(signed(negative, number), scale) {
-        Some(mant) => Ok((mant, after)),
-        None => Err(refuse(TextKind::Number, &token)),
-    }
-}
-
-// The lower bound of a label.
-fn read_low(scale: u8, rest: &[u8]) -> Result<(i128, &[u8]), ReadErr> {
-    match after_mark(rest, b"-") {
-        Some(after) => read_bound_number(true, scale, after),
-        None => read_bound_number(false, scale, rest),
-    }
-}
-
-// The number of the upper bound, which is not below the lower.
-fn read_high_number(
-    negative: bool,
-    scale: u8,
-    low: i128,
-    rest: &[u8],
-) -> Result<(i128, &[u8]), ReadErr> {
-    let (high, after) = read_bound_number(negative, scale, rest)?;
-    if high < low {
-        let (token, _) = next(rest);
-        return Err(refuse(TextKind::Range, &token));
-    }
-    Ok((high, after))
-}
-
-// The upper bound of a label.
-fn read_high(scale: u8, low: i128, rest: &[u8]) -> Result<(i128, &[u8]), ReadErr> {
-    match after_mark(rest, b"-") {
-        Some(after) => read_high_number(true, scale, low, after),
-        None => read_high_number(false, scale, low, rest),
-    }
-}
-
 // What stands behind the name of a number label.
-fn read_range(rest: &[u8]) -> Result<(Label, &[u8]), ReadErr> {
+fn read_range(rest: &[u8]) -> Result<(Label, &[u8]), ReadErr>
+    ensures shorter { IfOk result (λ r. length r.1.now < length rest.now) }
+    ensures limits { IfOk result (λ r. is_label r.0 ≡ true) }
+{
     let rest = skip_mark(rest, b":")?;
-    let (scale, rest) = read_integer(rest, 18)?;
-    let scale = scale as u8;
+    let (scale, rest) = read_label_scale(rest)?;
     let rest = skip_word(rest, b"in")?;
-    let (low, rest) = read_low(scale, rest)?;
+    let (low, rest) = read_bound(scale, None, rest)?;
     let rest = skip_mark(rest, b"..")?;
-    let (high, rest) = read_high(scale, low, rest)?;
-    let rest = skip_mark(rest, b";")?;
+    let (high, rest) = read_bound(scale, Some(low), rest)?;
     Ok((Label::Number { scale, low, high }, rest))
 }
 
@@ -76,9 +28,15 @@ fn read_number_label<'a>(
     alloc: Global,
     labels: &mut IndexMap<Name, Label>,
     rest: &'a [u8],
-) -> Result<&'a [u8], ReadErr> {
+) -> Result<&'a [u8], ReadErr>
+    requires { are_labels labels.old.entries ≡ true }
+    ensures shorter { IfOk result (λ r. length r.now < length rest.now) }
+    ensures few { IfOk result (λ r. index_map_len labels.new + length r.now ≤ index_map_len labels.old + length rest.now) }
+    ensures limits { IfOk result (λ r. are_labels labels.new.entries ≡ true) }
+{
     let (name, rest) = read_new_name(alloc, labels, rest)?;
     let (label, rest) = read_range(rest)?;
+    let rest = skip_mark(rest, b";")?;
     labels.insert(name, label)?;
     Ok(rest)
 }
@@ -88,7 +46,12 @@ fn read_flag<'a>(
     alloc: Global,
     labels: &mut IndexMap<Name, Label>,
     rest: &'a [u8],
-) -> Result<&'a [u8], ReadErr> {
+) -> Result<&'a [u8], ReadErr>
+    requires { are_labels labels.old.entries ≡ true }
+    ensures shorter { IfOk result (λ r. length r.now < length rest.now) }
+    ensures few { IfOk result (λ r. index_map_len labels.new + length r.now ≤ index_map_len labels.old + length rest.now) }
+    ensures limits { IfOk result (λ r. are_labels labels.new.entries ≡ true) }
+{
     let (name, rest) = read_new_name(alloc, labels, rest)?;
     let rest = skip_mark(rest, b";")?;
     labels.insert(name, Label::Flag)?;
@@ -99,7 +62,10 @@ fn read_flag<'a>(
 pub fn read_labels<'a>(
     alloc: Global,
     rest: &'a [u8],
-) -> Result<(IndexMap<Name, Label>, &'a [u8]), ReadErr> {
+) -> Result<(IndexMap<Name, Label>, &'a [u8]), ReadErr>
+    ensures few { IfOk result (λ r. index_map_len r.0 + length r.1.now ≤ length rest.now) }
+    ensures limits { IfOk result (λ r. are_labels r.0.entries ≡ true) }
+{
     let mut labels = IndexMap::new(alloc);
     let mut rest = rest;
     loop {

@@ -6,16 +6,20 @@ mod contrs;
 mod decls;
 mod exprs;
 mod faults;
+mod heads;
+mod judges;
 mod labels;
+pub mod laws;
 mod lines;
 mod names;
 mod numbers;
-mod places;
 mod portfolio;
-#[cfg(test)]
-mod tests;
+mod readers;
 mod token;
 mod words;
 
 pub use faults::{ParseErr, TextFault, TextKind};
 pub use portfolio::parse_portfolio;
+
+#[cfg(test)]
+mod tests;

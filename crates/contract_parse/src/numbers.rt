@@ -1,19 +1,25 @@
 //! Numbers of tokens.
+ghost use Rattle.std.specs.Prelude.{◌≡◌, ◌≤◌, ◌-◌, ◌^◌, IfSome, IfOk, unsigned_abs};
+ghost use Rattle.decimal.specs.Reading.{number_after};
+ghost use Rattle.decimal.specs.Rounding.{raised};
+ghost use Rattle.contract_parse.specs.Judgements.{decimal_in, limited, up_to, with_sign};
 
-use crate::token::Lexeme;
-use crate::words::is_number;
 use decimal::{Decimal, pow10, read};
 
-/// The greatest size of a mantissa.
-pub const GREATEST: u128 = 10_000_000_000_000_000_000_000_000_000_000_000_000;
+const GREATEST: u128 = 10_000_000_000_000_000_000_000_000_000_000_000_000;
 
-fn digit(b: u8) -> u32 {
-    b.saturating_sub(b'0') as u32
+fn digit(b: u8) -> u32
+    ensures value { result ≡ b - 48 }
+    ensures small { result ≤ 207 }
+{
+    b.saturating_sub(48) as u32
 }
 
 /// The number of a text of digits, if it is at most `most`.
 pub fn whole_number(text: &[u8], most: u32) -> Option<u32>
     requires { most ≤ 1_000_000 }
+    ensures value { result ≡ up_to most (number_after 0 text.now) }
+    ensures most { IfSome result (λ n. n ≤ most) }
 {
     let mut n: u32 = 0;
     for b in text {
@@ -25,21 +31,23 @@ pub fn whole_number(text: &[u8], most: u32) -> Option<u32>
     Some(n)
 }
 
-/// The decimal of a number token, if it is within the limits of a decimal.
-pub fn decimal_of(token: &Lexeme<'_>) -> Option<Decimal> {
-    match read(token.text) {
+/// The decimal of a text, if it is within the limits of a decimal.
+pub fn decimal_in(text: &[u8]) -> Option<Decimal>
+    ensures value { result ≡ decimal_in text.now }
+    ensures size { IfSome result (λ d. unsigned_abs d.mant ≤ 10 ^ 37) }
+    ensures scale { IfSome result (λ d. d.scale ≤ 27) }
+{
+    match read(text) {
         Ok(number) => Some(number),
         Err(_) => None,
     }
 }
 
-/// A number token that is no decimal within the limits.
-pub fn is_too_wide(token: &Lexeme<'_>) -> bool {
-    is_number(token) && decimal_of(token).is_none()
-}
-
-/// The decimal with its sign.
-pub fn signed(negative: bool, number: Decimal) -> Decimal {
+/// The number with its sign.
+pub fn with_sign(negative: bool, number: Decimal) -> Decimal
+    requires { unsigned_abs number.mant ≤ 10 ^ 37 }
+    ensures { result ≡ with_sign negative number }
+{
     if negative {
         Decimal {
             mant: -number.mant,
@@ -50,9 +58,13 @@ pub fn signed(negative: bool, number: Decimal) -> Decimal {
     }
 }
 
-/// The mantissa at a greater scale, if it is within the limit.
-pub fn widened(number: Decimal, scale: u8) -> Option<i128> {
-    let mant = number.mant.checked_mul(pow10(scale - number.scale))?;
+/// The mantissa of the same number with `more` further decimals, if it is within the limit.
+pub fn widened(mant: i128, more: u8) -> Option<i128>
+    requires { more ≤ 38 }
+    ensures value { result ≡ limited (raised mant more) }
+    ensures size { IfSome result (λ m. unsigned_abs m ≤ 10 ^ 37) }
+{
+    let mant = mant.checked_mul(pow10(more))?;
     if mant.unsigned_abs() <= GREATEST {
         Some(mant)
     } else {

@@ -1,12 +1,12 @@
 //! Portfolios from texts.
-ghost use Rattle.std.specs.Prelude.{◌≡◌, ◌≤◌, length};
+ghost use Rattle.std.specs.Prelude.{◌≡◌, ◌≤◌, ◌<◌, ◌-◌, IfOk, IfSome, length};
 
 use crate::contrs::read_contr;
 use crate::decls::read_decls;
 use crate::faults::{ParseErr, ReadErr, TextFault, TextKind};
 use crate::lines::{column_at, line_at};
-use crate::names::{Bound, read_new_name};
-use crate::places::{after_word, read_end, skip_mark, skip_version, skip_word};
+use crate::names::Bound;
+use crate::readers::{after_word, read_end, read_new_name, skip_mark, skip_version, skip_word};
 use indexmap::IndexMap;
 use std::alloc::Global;
 use std::str;
@@ -18,7 +18,9 @@ fn read_contract<'a>(
     decls: &Decls,
     contracts: &mut IndexMap<Name, Contr>,
     rest: &'a [u8],
-) -> Result<&'a [u8], ReadErr> {
+) -> Result<&'a [u8], ReadErr>
+    ensures shorter { IfOk result (λ r. length r.now < length rest.now) }
+{
     let (name, rest) = read_new_name(alloc, contracts, rest)?;
     let rest = skip_mark(rest, b"=")?;
     let (contract, rest) = read_contr(alloc, decls, &Bound::Outermost, 1, rest)?;
@@ -40,7 +42,9 @@ fn read_contracts<'a>(
     Ok((contracts, rest))
 }
 
-fn read_portfolio(alloc: Global, bytes: &[u8]) -> Result<Portfolio, ReadErr> {
+fn read_portfolio(alloc: Global, bytes: &[u8]) -> Result<Portfolio, ReadErr>
+    requires { length bytes.now ≤ 16_777_216 }
+{
     let rest = skip_word(bytes, b"portfolio")?;
     let rest = skip_version(rest)?;
     let rest = skip_mark(rest, b";")?;
@@ -63,7 +67,9 @@ fn fault_at(bytes: &[u8], kind: TextKind, at: usize) -> TextFault
 }
 
 // The place of the first byte after the longest prefix that is UTF-8, if that is not the whole text.
-fn first_bad_byte(bytes: &[u8]) -> Option<usize> {
+fn first_bad_byte(bytes: &[u8]) -> Option<usize>
+    ensures within { IfSome result (λ at. at ≤ length bytes.now) }
+{
     match str::from_utf8(bytes) {
         Ok(_) => None,
         Err(error) => Some(error.valid_up_to()),

@@ -1,7 +1,7 @@
 //! The tokens of a text, one at a time.
-ghost use Rattle.std.specs.Prelude.{◌≡◌, ◌≤◌, ◌<◌, false, length, take, drop};
+ghost use Rattle.std.specs.Prelude.{◌≡◌, ◌≤◌, ◌<◌, false, true, length};
 ghost use Rattle.std.specs.List.{prefix_len};
-ghost use Rattle.contract_parse.specs.Tokens.{after_gap, are_digits, is_date_part, begins_with_date, begins_with_digit, extent_at, fraction_len, is_blank, is_digit, is_letter, is_long_mark, is_short_mark, is_word_byte, mark_extent, mark_len, next_token, number_len, word_extent};
+ghost use Rattle.contract_parse.specs.Tokens.{after_gap, are_digits, is_date_part, begins_with_date, begins_with_digit, digits_extent, extent_at, fraction_len, is_blank, is_digit, is_letter, is_long_mark, is_short_mark, is_word_byte, mark_extent, mark_len, next_token, number_len, word_extent};
 
 /// What a token is. At a stray byte no token begins.
 #[derive(Clone, Copy, Debug, PartialEq, Eq)]
@@ -136,7 +136,8 @@ fn is_date_part(h: u8, a: u8, b: u8) -> bool
 }
 
 fn begins_with_date(bytes: &[u8]) -> bool
-    ensures { result ≡ begins_with_date bytes.now }
+    ensures value { result ≡ begins_with_date bytes.now }
+    ensures long { result ≡ true → 10 ≤ length bytes.now }
 {
     match bytes {
         [a, b, c, d, h, e, f, i, g, j, after @ ..] => {
@@ -185,7 +186,8 @@ fn mark_len(bytes: &[u8]) -> usize
 }
 
 fn word_extent(len: usize) -> Extent
-    ensures { result ≡ word_extent len }
+    ensures value { result ≡ word_extent len }
+    ensures within { result.len ≤ len }
 {
     if len > LONGEST_WORD {
         Extent {
@@ -201,7 +203,8 @@ fn word_extent(len: usize) -> Extent
 }
 
 fn mark_extent(len: usize) -> Extent
-    ensures { result ≡ mark_extent len }
+    ensures value { result ≡ mark_extent len }
+    ensures within { result.len ≤ len }
 {
     if len == 0 {
         Extent {
@@ -216,7 +219,11 @@ fn mark_extent(len: usize) -> Extent
     }
 }
 
-fn number_extent(bytes: &[u8]) -> Extent {
+// A date comes before a number.
+fn digits_extent(bytes: &[u8]) -> Extent
+    ensures value { result ≡ digits_extent bytes.now }
+    ensures within { result.len ≤ length bytes.now }
+{
     if begins_with_date(bytes) {
         Extent {
             kind: Kind::Date,
@@ -233,6 +240,7 @@ fn number_extent(bytes: &[u8]) -> Extent {
 #[tactic(auto, unfolding(crate::specs::Tokens::extent_at))]
 fn extent_at(bytes: &[u8]) -> Extent
     ensures value { result ≡ extent_at bytes.now }
+    ensures within { result.len ≤ length bytes.now }
 {
     match bytes {
         [] => Extent {
@@ -240,7 +248,7 @@ fn extent_at(bytes: &[u8]) -> Extent
             len: 0,
         },
         [b, ..] if is_letter(*b) => word_extent(word_len(bytes)),
-        [b, ..] if is_digit(*b) => number_extent(bytes),
+        [b, ..] if is_digit(*b) => digits_extent(bytes),
         _ => mark_extent(mark_len(bytes)),
     }
 }

@@ -1,9 +1,22 @@
 //! What a token is to the grammar.
+ghost use Rattle.std.specs.Prelude.{◌≡◌, ◌<◌, ◌∷◌, ◌==◌, false, length, not};
+ghost use Rattle.std.specs.List.{list_all, list_any};
+ghost use Rattle.std.specs.Str.{bytes_eq};
+ghost use Rattle.contract_parse.specs.Tokens.{is_last, tokens};
+ghost use Rattle.contract_parse.specs.Words.{is_date, is_end, is_integer, is_name, is_number, is_reserved, is_the_mark, is_the_word, reserved_of_five, reserved_of_four, reserved_of_more, reserved_of_three, reserved_of_two};
+ghost use Rattle.contract_parse.specs.Reading.{tok_of, tokens_after};
 
-use crate::faults::{ReadErr, Refusal, TextKind};
 use crate::token::{Kind, Lexeme, next_token};
 
-fn is_reserved_of_three(text: &[u8]) -> bool {
+fn is_reserved_of_two(text: &[u8]) -> bool
+    ensures { result ≡ list_any (λ w. bytes_eq text.now w) reserved_of_two }
+{
+    text == b"in".as_slice() || text == b"if".as_slice()
+}
+
+fn is_reserved_of_three(text: &[u8]) -> bool
+    ensures { result ≡ list_any (λ w. bytes_eq text.now w) reserved_of_three }
+{
     text == b"num".as_slice()
         || text == b"pay".as_slice()
         || text == b"let".as_slice()
@@ -18,7 +31,9 @@ fn is_reserved_of_three(text: &[u8]) -> bool {
         || text == b"cut".as_slice()
 }
 
-fn is_reserved_of_four(text: &[u8]) -> bool {
+fn is_reserved_of_four(text: &[u8]) -> bool
+    ensures { result ≡ list_any (λ w. bytes_eq text.now w) reserved_of_four }
+{
     text == b"flag".as_slice()
         || text == b"code".as_slice()
         || text == b"zero".as_slice()
@@ -32,7 +47,9 @@ fn is_reserved_of_four(text: &[u8]) -> bool {
         || text == b"ceil".as_slice()
 }
 
-fn is_reserved_of_five(text: &[u8]) -> bool {
+fn is_reserved_of_five(text: &[u8]) -> bool
+    ensures { result ≡ list_any (λ w. bytes_eq text.now w) reserved_of_five }
+{
     text == b"start".as_slice()
         || text == b"party".as_slice()
         || text == b"asset".as_slice()
@@ -45,7 +62,9 @@ fn is_reserved_of_five(text: &[u8]) -> bool {
         || text == b"floor".as_slice()
 }
 
-fn is_reserved_of_more(text: &[u8]) -> bool {
+fn is_reserved_of_more(text: &[u8]) -> bool
+    ensures { result ≡ list_any (λ w. bytes_eq text.now w) reserved_of_more }
+{
     text == b"payoff".as_slice()
         || text == b"origin".as_slice()
         || text == b"within".as_slice()
@@ -57,11 +76,13 @@ fn is_reserved_of_more(text: &[u8]) -> bool {
         || text == b"half_away".as_slice()
 }
 
-// By the length of the word first: most names are told from the reserved words by that and a few bytes.
-fn is_reserved(text: &[u8]) -> bool {
+// By the length of the word first: it tells most names from the reserved words.
+fn is_reserved(text: &[u8]) -> bool
+    ensures { result ≡ is_reserved text.now }
+{
     match text.len() {
         0 | 1 => false,
-        2 => text == b"in".as_slice() || text == b"if".as_slice(),
+        2 => is_reserved_of_two(text),
         3 => is_reserved_of_three(text),
         4 => is_reserved_of_four(text),
         5 => is_reserved_of_five(text),
@@ -70,47 +91,58 @@ fn is_reserved(text: &[u8]) -> bool {
 }
 
 /// The next token of a text, and the text after it.
-pub fn next(rest: &[u8]) -> (Lexeme<'_>, &[u8]) {
+pub fn next(rest: &[u8]) -> (Lexeme<'_>, &[u8])
+    ensures starts { tokens rest.now ≡ tok_of result.0 ∷ tokens_after result.0.kind result.1.now }
+    ensures shorter { is_last result.0.kind ≡ false → length result.1.now < length rest.now }
+{
     next_token(rest)
 }
 
-/// The fault of this kind at a token.
-pub fn refuse(kind: TextKind, token: &Lexeme<'_>) -> ReadErr {
-    ReadErr::Refused(Refusal {
-        kind,
-        left: token.left,
-    })
-}
-
-pub fn is_the_word(token: &Lexeme<'_>, word: &[u8]) -> bool {
+pub fn is_the_word(token: &Lexeme<'_>, word: &[u8]) -> bool
+    ensures { result ≡ is_the_word word.now (tok_of token.now) }
+{
     matches!(token.kind, Kind::Word) && token.text == word
 }
 
-pub fn is_the_mark(token: &Lexeme<'_>, mark: &[u8]) -> bool {
+pub fn is_the_mark(token: &Lexeme<'_>, mark: &[u8]) -> bool
+    ensures { result ≡ is_the_mark mark.now (tok_of token.now) }
+{
     matches!(token.kind, Kind::Mark) && token.text == mark
 }
 
-pub fn is_name(token: &Lexeme<'_>) -> bool {
+pub fn is_name(token: &Lexeme<'_>) -> bool
+    ensures { result ≡ is_name (tok_of token.now) }
+{
     matches!(token.kind, Kind::Word) && !is_reserved(token.text)
 }
 
-pub fn is_number(token: &Lexeme<'_>) -> bool {
+pub fn is_number(token: &Lexeme<'_>) -> bool
+    ensures { result ≡ is_number (tok_of token.now) }
+{
     matches!(token.kind, Kind::Number)
 }
 
-fn has_no_point(text: &[u8]) -> bool {
-    text.iter().all(|b| *b != b'.')
+fn has_no_point(text: &[u8]) -> bool
+    ensures { result ≡ list_all (λ b. not (b == 46)) text.now }
+{
+    text.iter().all(|b| *b != 46)
 }
 
 /// A number without a point.
-pub fn is_integer(token: &Lexeme<'_>) -> bool {
-    is_number(token) && has_no_point(token.text)
+pub fn is_integer(token: &Lexeme<'_>) -> bool
+    ensures { result ≡ is_integer (tok_of token.now) }
+{
+    matches!(token.kind, Kind::Number) && has_no_point(token.text)
 }
 
-pub fn is_date(token: &Lexeme<'_>) -> bool {
+pub fn is_date(token: &Lexeme<'_>) -> bool
+    ensures { result ≡ is_date (tok_of token.now) }
+{
     matches!(token.kind, Kind::Date)
 }
 
-pub fn is_end(token: &Lexeme<'_>) -> bool {
+pub fn is_end(token: &Lexeme<'_>) -> bool
+    ensures { result ≡ is_end (tok_of token.now) }
+{
     matches!(token.kind, Kind::End)
 }

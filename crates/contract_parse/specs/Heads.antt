@@ -1,0 +1,80 @@
+-- What a term begins with: the first token decides its form.
+use Rattle.std.specs.Prelude.{ℕ, Bool, true, false, List, [], ◌∷◌, Option, Some, None, Result, Ok, Err, codes, nat_lt, if◌then◌else◌}
+use Rattle.decimal.specs.declared.Decimal.{Decimal}
+use Rattle.contract_parse.specs.Tokens.{Tok}
+use Rattle.contract_parse.specs.Words.{Bytes, is_the_word, is_the_mark, is_name, is_number}
+use Rattle.contract_parse.specs.Judgements.{literal_at, variable_at}
+use Rattle.contract_parse.specs.declared.faults.TextKind.{TextKind}
+use Rattle.contract_parse.specs.declared.faults.TextKind.TheVariants.{Syntax, Number, Date, Deep, Range, Twice, Unknown, Utf8}
+use Rattle.contract_parse.specs.declared.heads.First.{First}
+use Rattle.contract_parse.specs.declared.heads.First.TheVariants as First
+use Rattle.contract_parse.specs.declared.heads.Head.{Head}
+use Rattle.contract_parse.specs.declared.heads.Head.TheVariants as Head
+
+abbrev pub first_number : Result Decimal TextKind → Result First TextKind
+first_number (Ok d) = Ok (First.Number d)
+first_number (Err kind) = Err kind
+
+abbrev pub first_name : Result ℕ TextKind → Result First TextKind
+first_name (Ok back) = Ok (First.Name back)
+first_name (Err kind) = Err kind
+
+-- a reserved word that begins an expression
+abbrev pub first_word : Tok → Result First TextKind
+first_word t =
+    if is_the_word (codes "true") t then Ok First.True
+    else if is_the_word (codes "false") t then Ok First.False
+    else if is_the_word (codes "obs") t then Ok First.Obs
+    else if is_the_word (codes "neg") t then Ok First.Neg
+    else if is_the_word (codes "not") t then Ok First.Not
+    else if is_the_word (codes "min") t then Ok First.Min
+    else if is_the_word (codes "max") t then Ok First.Max
+    else if is_the_word (codes "if") t then Ok First.If
+    else if is_the_word (codes "widen") t then Ok First.Widen
+    else if is_the_word (codes "round") t then Ok First.Round
+    else if is_the_word (codes "div") t then Ok First.Div
+    else if is_the_word (codes "acc") t then Ok First.Acc
+    else Err Syntax
+
+-- what an expression begins with, under the names that are bound round it
+abbrev pub first_of : List Bytes → Tok → Result First TextKind
+first_of names t =
+    if is_number t then first_number (literal_at false t)
+    else if is_name t then first_name (variable_at names t)
+    else if is_the_mark (codes "-") t then Ok First.Minus
+    else if is_the_mark (codes "(") t then Ok First.Open
+    else first_word t
+
+-- the faults that come before that of the depth
+abbrev pub is_before_depth : TextKind → Bool
+is_before_depth Syntax = true
+is_before_depth Number = true
+is_before_depth Date = true
+is_before_depth Deep = false
+is_before_depth Range = false
+is_before_depth Twice = false
+is_before_depth Unknown = false
+is_before_depth Utf8 = false
+
+-- a term that begins at this depth
+abbrev pub within_depth : {X : Type 0} → ℕ → Result X TextKind → Result X TextKind
+within_depth depth (Ok x) = if nat_lt 200 depth then Err Deep else Ok x
+within_depth depth (Err kind) = if is_before_depth kind then Err kind else if nat_lt 200 depth then Err Deep else Err kind
+
+abbrev pub first_at : ℕ → List Bytes → Tok → Result First TextKind
+first_at depth names t = within_depth depth (first_of names t)
+
+-- what a contract begins with
+abbrev pub head_of : Tok → Result Head TextKind
+head_of t =
+    if is_the_word (codes "zero") t then Ok Head.Zero
+    else if is_the_word (codes "pay") t then Ok Head.Pay
+    else if is_the_word (codes "both") t then Ok Head.Both
+    else if is_the_word (codes "scale") t then Ok Head.Scale
+    else if is_the_word (codes "after") t then Ok Head.After
+    else if is_the_word (codes "let") t then Ok Head.Let
+    else if is_the_word (codes "if") t then Ok Head.If
+    else Err Syntax
+
+abbrev pub head_at : ℕ → Tok → Result Head TextKind
+head_at depth t = within_depth depth (head_of t)

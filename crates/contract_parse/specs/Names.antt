@@ -1,0 +1,58 @@
+-- Sets of declared names, and the names that are bound round a place.
+use Rattle.std.specs.Prelude.{ℕ, suc, Bool, List, [], ◌∷◌, ◌++◌, Option, Some, None, option_map, position, if◌then◌else◌}
+use Rattle.std.specs.List.{list_any}
+use Rattle.std.specs.Map.{keys_of}
+use Rattle.std.specs.Str.{bytes_eq}
+use Rattle.contract_parse.specs.Words.{Bytes}
+use Rattle.contract_parse.specs.declared.names.NameSet.{NameSet}
+use Rattle.contract_parse.specs.declared.names.NameSet.TheVariants.{Party, Asset, Label, Template, Contract}
+use Rattle.contract_parse.specs.declared.names.Bound.{Bound}
+use Rattle.contract_parse.specs.declared.names.Bound.TheVariants as bound
+use Rattle.term_core.specs.Declarations.{Declarations}
+
+-- the place of a name in declared order
+abbrev pub place_in : List Bytes → Bytes → Option ℕ
+place_in names text = position (λ name. bytes_eq text name) names
+
+abbrev pub is_declared : List Bytes → Bytes → Bool
+is_declared names text = list_any (λ name. bytes_eq text name) names
+
+-- how many binders stand between a name and its own, the innermost of that name
+abbrev pub back_to : List Bytes → Bytes → Option ℕ
+back_to [] name = None
+back_to (inner ∷ outer) name = if bytes_eq inner name then Some 0 else option_map (λ back. suc back) (back_to outer name)
+
+-- the names that are bound, innermost first
+abbrev pub names_in : Bound → List Bytes
+names_in bound.Outermost = []
+names_in (bound.In' name p outer) = name.now ∷ names_in outer
+
+-- the five sets of names that a text declares
+pub record Scope : Type 0 where
+  pub parties : List Bytes
+  pub assets : List Bytes
+  pub labels : List Bytes
+  pub templates : List Bytes
+  pub contracts : List Bytes
+
+abbrev pub nothing_declared : Scope
+nothing_declared = record { parties = []; assets = []; labels = []; templates = []; contracts = [] }
+
+abbrev pub names_of : NameSet → Scope → List Bytes
+names_of Party s = s.parties
+names_of Asset s = s.assets
+names_of Label s = s.labels
+names_of Template s = s.templates
+names_of Contract s = s.contracts
+
+abbrev pub with_names : NameSet → List Bytes → Scope → Scope
+with_names Party names s = record s { parties = names }
+with_names Asset names s = record s { assets = names }
+with_names Label names s = record s { labels = names }
+with_names Template names s = record s { templates = names }
+with_names Contract names s = record s { contracts = names }
+
+-- the names of declarations, and of contracts that stand below them
+abbrev pub scope_of : Declarations → List Bytes → Scope
+scope_of d contracts =
+    record { parties = d.parties; assets = d.assets; labels = keys_of d.labels; templates = keys_of d.templates; contracts = contracts }

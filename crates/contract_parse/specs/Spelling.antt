@@ -1,0 +1,109 @@
+-- The grammar of terms: which tokens spell which term. A part relates the tokens where it begins to those after it;
+-- declared names are those of a scope, and bound names are listed innermost first.
+use Rattle.std.specs.Prelude.{◌≡◌, ℕ, ℤ, Bool, true, false, List, [], ◌∷◌, Result, Ok, codes}
+use Rattle.decimal.specs.declared.Decimal.{Decimal}
+use Rattle.term_core.specs.Terms.{Expression, Lit, Yes, Var, Obs, Neg, Num, Cmp, Not, Logic, Cond, Widen, Round, Div, Acc, Contract, Zero, Pay, Both, Scale, After, Let, Within}
+use Rattle.term_core.specs.declared.terms.NumOp.{NumOp}
+use Rattle.term_core.specs.declared.terms.NumOp.TheVariants.{Plus, Minus, Times, Min, Max}
+use Rattle.contract_parse.specs.Tokens.{Tok}
+use Rattle.contract_parse.specs.Words.{Bytes, is_the_word, is_the_mark, is_end}
+use Rattle.contract_parse.specs.Names.{Scope}
+use Rattle.contract_parse.specs.Judgements.{binder_at, days_at, integer_at, literal_at, mode_at, offset_at, operator_at, use_at, variable_at}
+use Rattle.contract_parse.specs.declared.faults.TextKind.{TextKind}
+use Rattle.contract_parse.specs.declared.heads.Operator.TheVariants.{Arithmetic, Comparison, Logic as Connective}
+
+abbrev pub Part : Type 1
+Part = List Tok → List Tok → Type 0
+
+-- one part, and then the next
+pub record Then (first next : Part) (ts rest : List Tok) : Type 0 where
+  pub between : List Tok
+  pub one : first ts between
+  pub two : next between rest
+
+infixr 5 ◌⨟◌
+abbrev pub ◌⨟◌ : Part → Part → Part
+first ⨟ next = Then first next
+
+-- no token
+abbrev pub nothing : Part
+nothing ts rest = ts ≡ rest
+
+-- one token that passes
+abbrev pub one : (Tok → Bool) → Part
+one test ts rest = (t : Tok) × (ts ≡ t ∷ rest) × (test t ≡ true)
+
+abbrev pub word : Bytes → Part
+word w = one (is_the_word w)
+
+abbrev pub mark : Bytes → Part
+mark m = one (is_the_mark m)
+
+abbrev pub end : Part
+end = one is_end
+
+-- one token of a value
+abbrev pub valued : {X : Type 0} → (Tok → Result X TextKind) → X → Part
+valued judge x ts rest = (t : Tok) × (ts ≡ t ∷ rest) × (judge t ≡ Ok x)
+
+-- for some name
+pub record SomeName (part : Bytes → Part) (ts rest : List Tok) : Type 0 where
+  pub name : Bytes
+  pub spelled : part name ts rest
+
+abbrev pub sign : Bool → Part
+sign true = mark (codes "-")
+sign false = nothing
+
+-- with or without a sign
+pub record Signed (part : Bool → Part) (ts rest : List Tok) : Type 0 where
+  pub negative : Bool
+  pub spelled : (sign negative ⨟ part negative) ts rest
+
+-- `(left operator right)`
+abbrev pub infixed : Part → Part → Part → Part
+infixed left op right = mark (codes "(") ⨟ left ⨟ op ⨟ right ⨟ mark (codes ")")
+
+-- `(left, right)`
+abbrev pub pair : Part → Part → Part
+pair left right = mark (codes "(") ⨟ left ⨟ mark (codes ",") ⨟ right ⨟ mark (codes ")")
+
+-- an expression
+abbrev pub expr : Scope → List Bytes → Expression → Part
+expr s names (Lit m k) = Signed (λ negative. valued (literal_at negative) (record { mant = m; scale = k }))
+expr s names (Yes true) = word (codes "true")
+expr s names (Yes false) = word (codes "false")
+expr s names (Var back) = valued (variable_at names) back
+expr s names (Obs label offset) =
+    word (codes "obs") ⨟ pair (valued (use_at s.labels) label) (Signed (λ negative. valued (offset_at negative) offset))
+expr s names (Neg e) = word (codes "neg") ⨟ mark (codes "(") ⨟ expr s names e ⨟ mark (codes ")")
+expr s names (Not e) = word (codes "not") ⨟ mark (codes "(") ⨟ expr s names e ⨟ mark (codes ")")
+expr s names (Num Min l r) = word (codes "min") ⨟ pair (expr s names l) (expr s names r)
+expr s names (Num Max l r) = word (codes "max") ⨟ pair (expr s names l) (expr s names r)
+expr s names (Num op l r) = infixed (expr s names l) (valued operator_at (Arithmetic op)) (expr s names r)
+expr s names (Cmp op l r) = infixed (expr s names l) (valued operator_at (Comparison op)) (expr s names r)
+expr s names (Logic op l r) = infixed (expr s names l) (valued operator_at (Connective op)) (expr s names r)
+expr s names (Cond t a b) =
+    word (codes "if") ⨟ mark (codes "(") ⨟ expr s names t ⨟ mark (codes ",") ⨟ expr s names a ⨟ mark (codes ",") ⨟ expr s names b ⨟ mark (codes ")")
+expr s names (Widen k e) = word (codes "widen") ⨟ pair (valued (integer_at 27) k) (expr s names e)
+expr s names (Round m k e) =
+    word (codes "round") ⨟ mark (codes "(") ⨟ valued mode_at m ⨟ mark (codes ",") ⨟ valued (integer_at 27) k ⨟ mark (codes ",") ⨟ expr s names e ⨟ mark (codes ")")
+expr s names (Div m k a b) =
+    word (codes "div") ⨟ mark (codes "(") ⨟ valued mode_at m ⨟ mark (codes ",") ⨟ valued (integer_at 27) k ⨟ mark (codes ",") ⨟ expr s names a ⨟ mark (codes ",") ⨟ expr s names b ⨟ mark (codes ")")
+-- the name is bound in the body, which comes before the start
+expr s names (Acc body n first) =
+    SomeName (λ name. word (codes "acc") ⨟ mark (codes "(") ⨟ valued binder_at name ⨟ mark (codes ",") ⨟ expr s (name ∷ names) body ⨟ mark (codes ",") ⨟ valued (integer_at 100_000) n ⨟ mark (codes ",") ⨟ expr s names first ⨟ mark (codes ")"))
+
+-- a contract
+abbrev pub contr : Scope → List Bytes → Contract → Part
+contr s names Zero = word (codes "zero")
+contr s names (Pay asset from to) =
+    word (codes "pay") ⨟ mark (codes "(") ⨟ valued (use_at s.assets) asset ⨟ mark (codes ",") ⨟ valued (use_at s.parties) from ⨟ mark (codes ",") ⨟ valued (use_at s.parties) to ⨟ mark (codes ")")
+contr s names (Both a b) = word (codes "both") ⨟ pair (contr s names a) (contr s names b)
+contr s names (Scale e c) = word (codes "scale") ⨟ pair (expr s names e) (contr s names c)
+contr s names (After n c) = word (codes "after") ⨟ pair (valued (days_at s.templates) n) (contr s names c)
+-- the name is bound in the contract and not in its own expression
+contr s names (Let e c) =
+    SomeName (λ name. word (codes "let") ⨟ valued binder_at name ⨟ mark (codes "=") ⨟ expr s names e ⨟ word (codes "in") ⨟ contr s (name ∷ names) c)
+contr s names (Within e n a b) =
+    word (codes "if") ⨟ expr s names e ⨟ word (codes "within") ⨟ valued (days_at s.templates) n ⨟ word (codes "then") ⨟ contr s names a ⨟ word (codes "else") ⨟ contr s names b

@@ -1,0 +1,39 @@
+-- Which bytes are the text of which portfolio, and the first fault of the others.
+use Rattle.std.specs.Prelude.{◌≡◌, ◌-◌, ℕ, List, [], Result, Ok, Err, length}
+use Rattle.std.specs.Str.{IsUtf8, IsValidUpTo}
+use Rattle.term_core.specs.Books.{Book, book}
+use Rattle.term_core.specs.declared.portfolio.Portfolio.{Portfolio}
+use Rattle.contract_parse.specs.Tokens.{tokens}
+use Rattle.contract_parse.specs.Lines.{line_at, column_at}
+use Rattle.contract_parse.specs.Names.{nothing_declared}
+use Rattle.contract_parse.specs.Statements.{portfolio}
+use Rattle.contract_parse.specs.Places.{Stops, run, text_places}
+use Rattle.contract_parse.specs.declared.faults.TextKind.{TextKind}
+use Rattle.contract_parse.specs.declared.faults.TextKind.TheVariants.{Utf8}
+use Rattle.contract_parse.specs.declared.faults.TextFault.{TextFault}
+use Rattle.contract_parse.specs.declared.faults.ParseErr.{ParseErr}
+use Rattle.contract_parse.specs.declared.faults.ParseErr.TheVariants as err
+
+-- the bytes are a text of this portfolio
+pub record Text (bytes : List ℕ) (b : Book) : Type 0 where
+  pub utf8 : IsUtf8 bytes
+  pub spelled : portfolio b (tokens bytes) []
+
+-- the kind and the place of the first fault: what is no UTF-8 comes before all, at the first byte after the longest
+-- prefix that is; else it is the first token that the places refuse
+pub data FirstFault (bytes : List ℕ) : TextKind → ℕ → Type 0 where
+  no_utf8 : {at : ℕ} → (IsUtf8 bytes → ⊥) → IsValidUpTo bytes at → FirstFault bytes Utf8 at
+  refused : {kind : TextKind} {left : ℕ} → IsUtf8 bytes → run nothing_declared text_places (tokens bytes) ≡ Stops kind left → FirstFault bytes kind (length bytes - left)
+
+-- the first fault of the bytes, with its line and column
+pub record IsFault (bytes : List ℕ) (f : TextFault) : Type 0 where
+  pub at : ℕ
+  pub first : FirstFault bytes f.kind at
+  pub line : f.line ≡ line_at bytes at
+  pub column : f.column ≡ column_at bytes at
+
+-- the portfolio of the text, or, just where the bytes are no text, their first fault
+abbrev pub Answers : List ℕ → Result Portfolio ParseErr → Type 0
+Answers bytes (Ok p) = Text bytes (book p)
+Answers bytes (Err (err.Text f)) = IsFault bytes f × ((b : Book) → Text bytes b → ⊥)
+Answers bytes (Err err.NoMemory) = Unit {0}

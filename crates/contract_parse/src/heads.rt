@@ -1,0 +1,176 @@
+//! What a term begins with.
+ghost use Rattle.std.specs.Prelude.{◌≡◌, ◌≤◌, false, length};
+ghost use Rattle.contract_parse.specs.Names.{names_in};
+ghost use Rattle.contract_parse.specs.Judgements.{literal_at, variable_at};
+ghost use Rattle.contract_parse.specs.Heads.{first_at, first_name, first_number, first_of, first_word, head_at, head_of};
+ghost use Rattle.contract_parse.specs.Reading.{tok_of};
+
+use crate::faults::TextKind;
+use crate::judges::{literal_at, variable_at};
+use crate::names::Bound;
+use crate::token::Lexeme;
+use crate::words::{is_name, is_number, is_the_mark, is_the_word};
+use decimal::Decimal;
+use term_core::{CmpOp, LogicOp, NumOp};
+
+/// The greatest depth of a term.
+pub const MAX_DEPTH: u32 = 200;
+
+/// What an expression begins with.
+#[derive(Clone, Copy, Debug)]
+pub enum First {
+    Number { number: Decimal },
+    Name { back: u32 },
+    True,
+    False,
+    Minus,
+    Open,
+    Obs,
+    Neg,
+    Not,
+    Min,
+    Max,
+    If,
+    Widen,
+    Round,
+    Div,
+    Acc,
+}
+
+/// What a contract begins with.
+#[derive(Clone, Copy, Debug)]
+pub enum Head {
+    Zero,
+    Pay,
+    Both,
+    Scale,
+    After,
+    Let,
+    If,
+}
+
+/// An operator between two expressions.
+#[derive(Clone, Copy, Debug)]
+pub enum Operator {
+    Arithmetic { op: NumOp },
+    Comparison { op: CmpOp },
+    Logic { op: LogicOp },
+}
+
+/// What binds a name.
+#[derive(Clone, Copy, Debug)]
+pub enum Binder {
+    Let,
+    Acc,
+}
+
+fn first_word(token: &Lexeme<'_>) -> Result<First, TextKind>
+    ensures { result ≡ first_word (tok_of token.now) }
+{
+    if is_the_word(token, b"true") {
+        Ok(First::True)
+    } else if is_the_word(token, b"false") {
+        Ok(First::False)
+    } else if is_the_word(token, b"obs") {
+        Ok(First::Obs)
+    } else if is_the_word(token, b"neg") {
+        Ok(First::Neg)
+    } else if is_the_word(token, b"not") {
+        Ok(First::Not)
+    } else if is_the_word(token, b"min") {
+        Ok(First::Min)
+    } else if is_the_word(token, b"max") {
+        Ok(First::Max)
+    } else if is_the_word(token, b"if") {
+        Ok(First::If)
+    } else if is_the_word(token, b"widen") {
+        Ok(First::Widen)
+    } else if is_the_word(token, b"round") {
+        Ok(First::Round)
+    } else if is_the_word(token, b"div") {
+        Ok(First::Div)
+    } else if is_the_word(token, b"acc") {
+        Ok(First::Acc)
+    } else {
+        Err(TextKind::Syntax)
+    }
+}
+
+fn first_number(token: &Lexeme<'_>) -> Result<First, TextKind>
+    ensures { result ≡ first_number (literal_at false (tok_of token.now)) }
+{
+    let number = literal_at(false, token)?;
+    Ok(First::Number { number })
+}
+
+fn first_name(bound: &Bound<'_>, token: &Lexeme<'_>) -> Result<First, TextKind>
+    requires { length (names_in bound.now) ≤ 201 }
+    ensures { result ≡ first_name (variable_at (names_in bound.now) (tok_of token.now)) }
+{
+    let back = variable_at(bound, token)?;
+    Ok(First::Name { back })
+}
+
+fn first_of(bound: &Bound<'_>, token: &Lexeme<'_>) -> Result<First, TextKind>
+    requires { length (names_in bound.now) ≤ 201 }
+    ensures { result ≡ first_of (names_in bound.now) (tok_of token.now) }
+{
+    if is_number(token) {
+        first_number(token)
+    } else if is_name(token) {
+        first_name(bound, token)
+    } else if is_the_mark(token, b"-") {
+        Ok(First::Minus)
+    } else if is_the_mark(token, b"(") {
+        Ok(First::Open)
+    } else {
+        first_word(token)
+    }
+}
+
+/// How an expression of a depth begins at a token, or the kind of the token's fault.
+pub fn first_at(bound: &Bound<'_>, depth: u32, token: &Lexeme<'_>) -> Result<First, TextKind>
+    requires { length (names_in bound.now) ≤ 201 }
+    ensures { result ≡ first_at depth (names_in bound.now) (tok_of token.now) }
+{
+    let first = first_of(bound, token);
+    match first {
+        Err(TextKind::Syntax) | Err(TextKind::Number) | Err(TextKind::Date) => first,
+        _ if depth > MAX_DEPTH => Err(TextKind::Deep),
+        _ => first,
+    }
+}
+
+fn head_of(token: &Lexeme<'_>) -> Result<Head, TextKind>
+    ensures { result ≡ head_of (tok_of token.now) }
+{
+    if is_the_word(token, b"zero") {
+        Ok(Head::Zero)
+    } else if is_the_word(token, b"pay") {
+        Ok(Head::Pay)
+    } else if is_the_word(token, b"both") {
+        Ok(Head::Both)
+    } else if is_the_word(token, b"scale") {
+        Ok(Head::Scale)
+    } else if is_the_word(token, b"after") {
+        Ok(Head::After)
+    } else if is_the_word(token, b"let") {
+        Ok(Head::Let)
+    } else if is_the_word(token, b"if") {
+        Ok(Head::If)
+    } else {
+        Err(TextKind::Syntax)
+    }
+}
+
+/// How a contract of a depth begins at a token, or the kind of the token's fault.
+pub fn head_at(depth: u32, token: &Lexeme<'_>) -> Result<Head, TextKind>
+    ensures { result ≡ head_at depth (tok_of token.now) }
+{
+    let head = head_of(token);
+    match head {
+        Err(TextKind::Syntax) | Err(TextKind::Number) | Err(TextKind::Date) => head,
+        _ if depth > MAX_DEPTH => Err(TextKind::Deep),
+        _ => head,
+    }
+}

@@ -1,0 +1,62 @@
+//! Laws over the definitions of texts: each function's contract is the law.
+ghost use Rattle.contract_parse.specs.Laws.{ContractIsTaken, ContractsFitText, DeclarationsAreTaken, ExpressionIsTaken, NamesFitText, NodesFitText, OneReading, PaymentsAreBounded, PaymentsFitText, SampleIsText, TextHasNoFault, TextIsTaken};
+
+/// What is spelled as an expression is taken at a place of an expression.
+pub fn expression_is_taken()
+    ensures { ExpressionIsTaken }
+{}
+
+/// What is spelled as a contract is taken at a place of a contract.
+pub fn contract_is_taken()
+    ensures { ContractIsTaken }
+{}
+
+/// What is spelled as declarations is taken at their places, and declares their names.
+pub fn declarations_are_taken()
+    ensures { DeclarationsAreTaken }
+{}
+
+/// A text of a portfolio is taken from its first token to its end.
+pub fn text_is_taken()
+    ensures { TextIsTaken }
+{}
+
+/// A text of a portfolio has no fault.
+pub fn text_has_no_fault()
+    ensures { TextHasNoFault }
+{}
+
+/// One text stands for at most one portfolio.
+pub fn one_reading()
+    ensures { OneReading }
+{}
+
+/// A text has at most as many contracts as bytes.
+pub fn contracts_fit_text()
+    ensures { ContractsFitText }
+{}
+
+/// The contracts of a text have together at most as many nodes as the text has bytes.
+pub fn nodes_fit_text()
+    ensures { NodesFitText }
+{}
+
+/// Each set of names that a text declares has at most as many names as the text has bytes.
+pub fn names_fit_text()
+    ensures { NamesFitText }
+{}
+
+/// A contract of a text holds at most a payment for each 17 bytes, but for the first, which takes 10.
+pub fn payments_fit_text()
+    ensures { PaymentsFitText }
+{}
+
+/// A contract of a text of at most 16 MiB holds fewer than a million payments.
+pub fn payments_are_bounded()
+    ensures { PaymentsAreBounded }
+{}
+
+/// A small text stands for its portfolio, so that the laws speak of something.
+pub fn sample_is_text()
+    ensures { SampleIsText }
+{}

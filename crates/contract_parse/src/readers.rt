@@ -1,0 +1,389 @@
+//! The places of the grammar that are one token, or a sign and a number.
+ghost use Rattle.std.specs.Prelude.{◌≡◌, ◌≤◌, ◌<◌, ◌+◌, ◌^◌, ◌∷◌, ◌++◌, [], ℕ, List, IfNone, IfOk, IfSome, OnOk, length, true};
+ghost use Rattle.indexmap.specs.IndexMap.{index_map_len, keys};
+ghost use Rattle.indexmap.specs.IndexSet.{index_set_len};
+ghost use Rattle.term_core.specs.Limits.{is_origin};
+ghost use Rattle.contract_parse.specs.Tokens.{tokens};
+ghost use Rattle.contract_parse.specs.Words.{Bytes};
+ghost use Rattle.contract_parse.specs.Names.{Scope, with_names};
+ghost use Rattle.contract_parse.specs.Judgements.{binder_at, bound_at, days_at, integer_at, is_version, literal_at, mode_at, new_at, offset_at, operator_at, origin_at, separator_at, use_at};
+ghost use Rattle.contract_parse.specs.Spelling.{Signed, end, mark, one, valued, word};
+ghost use Rattle.contract_parse.specs.Statements.{Added};
+ghost use Rattle.contract_parse.specs.Places.{BinderAt, BoundAt, BoundNumber, DaysAt, IntegerAt, Leaves, LiteralNumber, ModeAt, MoreNames, NewIn, OffsetAt, OffsetNumber, Open, OperatorAt, OriginDate, Place, ScaleAt, TheEnd, TheMark, TheVersion, TheWord, UseOf, binder_places, bound_places, list_places, range_places, run};
+ghost use Rattle.contract_parse.specs.Reading.{IsBetween, IsBound, Lacks, tok_of};
+ghost use Rattle.contract_parse.specs.declared.names.NameSet.{NameSet};
+ghost use Rattle.contract_parse.specs.declared.heads.Binder.{Binder};
+
+use crate::faults::{ReadErr, TextKind};
+use crate::heads::Operator;
+use crate::judges::{
+    binder_at, bound_at, integer_at, is_version, literal_at, mode_at, offset_at, operator_at,
+    origin_at, refuse, separator_at,
+};
+use crate::names::{place_in_map, place_in_set};
+use crate::words::{is_end, is_integer, is_name, is_the_mark, is_the_word, next};
+use decimal::{Decimal, Mode};
+use indexmap::{IndexMap, IndexSet};
+use std::alloc::Global;
+use term_core::{Days, Name};
+
+pub fn skip_mark<'a>(rest: &'a [u8], wanted: &[u8]) -> Result<&'a [u8], ReadErr>
+    ensures follows { (s : Scope) (ps : List Place) → Leaves (λ r. run s ps (tokens r.now)) result (run s (TheMark wanted.now ∷ ps) (tokens rest.now)) }
+    ensures spelled { IfOk result (λ r. mark wanted.now (tokens rest.now) (tokens r.now)) }
+    ensures shorter { IfOk result (λ r. length r.now < length rest.now) }
+{
+    let (token, after) = next(rest);
+    if is_the_mark(&token, wanted) {
+        Ok(after)
+    } else {
+        Err(refuse(TextKind::Syntax, &token))
+    }
+}
+
+pub fn skip_word<'a>(rest: &'a [u8], wanted: &[u8]) -> Result<&'a [u8], ReadErr>
+    ensures follows { (s : Scope) (ps : List Place) → Leaves (λ r. run s ps (tokens r.now)) result (run s (TheWord wanted.now ∷ ps) (tokens rest.now)) }
+    ensures spelled { IfOk result (λ r. word wanted.now (tokens rest.now) (tokens r.now)) }
+    ensures shorter { IfOk result (λ r. length r.now < length rest.now) }
+{
+    let (token, after) = next(rest);
+    if is_the_word(&token, wanted) {
+        Ok(after)
+    } else {
+        Err(refuse(TextKind::Syntax, &token))
+    }
+}
+
+/// The version of the format, which is 1.
+pub fn skip_version(rest: &[u8]) -> Result<&[u8], ReadErr>
+    ensures follows { (s : Scope) (ps : List Place) → Leaves (λ r. run s ps (tokens r.now)) result (run s (TheVersion ∷ ps) (tokens rest.now)) }
+    ensures spelled { IfOk result (λ r. one is_version (tokens rest.now) (tokens r.now)) }
+    ensures shorter { IfOk result (λ r. length r.now < length rest.now) }
+{
+    let (token, after) = next(rest);
+    if is_version(&token) {
+        Ok(after)
+    } else {
+        Err(refuse(TextKind::Syntax, &token))
+    }
+}
+
+/// The end of the text.
+pub fn read_end(rest: &[u8]) -> Result<(), ReadErr>
+    ensures follows { (s : Scope) (ps : List Place) → Leaves (λ _. Open ps) result (run s (TheEnd ∷ ps) (tokens rest.now)) }
+    ensures spelled { OnOk result (end (tokens rest.now) []) }
+{
+    let (token, _) = next(rest);
+    if is_end(&token) {
+        Ok(())
+    } else {
+        Err(refuse(TextKind::Syntax, &token))
+    }
+}
+
+/// The text after a word, if that stands next.
+pub fn after_word<'a>(rest: &'a [u8], wanted: &[u8]) -> Option<&'a [u8]>
+    ensures found { IfSome result (λ r. word wanted.now (tokens rest.now) (tokens r.now)) }
+    ensures lacks { IfNone result (Lacks wanted.now (tokens rest.now)) }
+    ensures shorter { IfSome result (λ r. length r.now < length rest.now) }
+{
+    let (token, after) = next(rest);
+    if is_the_word(&token, wanted) {
+        Some(after)
+    } else {
+        None
+    }
+}
+
+/// A number without a point, of at most `most`.
+pub fn read_integer(most: u32, rest: &[u8]) -> Result<(u32, &[u8]), ReadErr>
+    requires { most ≤ 1_000_000 }
+    ensures most { IfOk result (λ r. r.0 ≤ most) }
+    ensures follows { (s : Scope) (ps : List Place) → Leaves (λ r. run s ps (tokens r.1.now)) result (run s (IntegerAt most ∷ ps) (tokens rest.now)) }
+    ensures spelled { IfOk result (λ r. valued (integer_at most) r.0 (tokens rest.now) (tokens r.1.now)) }
+    ensures shorter { IfOk result (λ r. length r.1.now < length rest.now) }
+{
+    let (token, after) = next(rest);
+    match integer_at(most, &token) {
+        Ok(number) => Ok((number, after)),
+        Err(kind) => Err(refuse(kind, &token)),
+    }
+}
+
+/// The scale of a label.
+pub fn read_label_scale(rest: &[u8]) -> Result<(u8, &[u8]), ReadErr>
+    ensures most { IfOk result (λ r. r.0 ≤ 18) }
+    ensures follows { (s : Scope) (ps : List Place) → Leaves (λ r. run s (range_places r.0 ps) (tokens r.1.now)) result (run s (ScaleAt ∷ ps) (tokens rest.now)) }
+    ensures spelled { IfOk result (λ r. valued (integer_at 18) r.0 (tokens rest.now) (tokens r.1.now)) }
+    ensures shorter { IfOk result (λ r. length r.1.now < length rest.now) }
+{
+    let (token, after) = next(rest);
+    match integer_at(18, &token) {
+        Ok(scale) => Ok((scale as u8, after)),
+        Err(kind) => Err(refuse(kind, &token)),
+    }
+}
+
+/// A date from 1900-01-01 to 2999-12-31, as an epoch day.
+pub fn read_origin_date(rest: &[u8]) -> Result<(i64, &[u8]), ReadErr>
+    ensures limits { IfOk result (λ r. is_origin (Some r.0) ≡ true) }
+    ensures follows { (s : Scope) (ps : List Place) → Leaves (λ r. run s ps (tokens r.1.now)) result (run s (OriginDate ∷ ps) (tokens rest.now)) }
+    ensures spelled { IfOk result (λ r. valued origin_at r.0 (tokens rest.now) (tokens r.1.now)) }
+    ensures shorter { IfOk result (λ r. length r.1.now < length rest.now) }
+{
+    let (token, after) = next(rest);
+    match origin_at(&token) {
+        Ok(day) => Ok((day, after)),
+        Err(kind) => Err(refuse(kind, &token)),
+    }
+}
+
+/// Whether a comma stands here, or the semicolon that ends a list.
+pub fn read_separator(rest: &[u8]) -> Result<(bool, &[u8]), ReadErr>
+    ensures follows { (set : NameSet) (s : Scope) (ps : List Place) → Leaves (λ r. run s (list_places set r.0 ps) (tokens r.1.now)) result (run s (MoreNames set ∷ ps) (tokens rest.now)) }
+    ensures spelled { IfOk result (λ r. valued separator_at r.0 (tokens rest.now) (tokens r.1.now)) }
+    ensures shorter { IfOk result (λ r. length r.1.now < length rest.now) }
+{
+    let (token, after) = next(rest);
+    match separator_at(&token) {
+        Ok(comma) => Ok((comma, after)),
+        Err(kind) => Err(refuse(kind, &token)),
+    }
+}
+
+// The number of a bound behind its sign.
+fn read_bound_number(
+    negative: bool,
+    scale: u8,
+    low: Option<i128>,
+    rest: &[u8],
+) -> Result<(i128, &[u8]), ReadErr>
+    requires { scale ≤ 18 }
+    ensures limits { IfOk result (λ r. IsBound low r.0) }
+    ensures follows { (s : Scope) (ps : List Place) → Leaves (λ r. run s (bound_places scale low r.0 ps) (tokens r.1.now)) result (run s (BoundNumber negative scale low ∷ ps) (tokens rest.now)) }
+    ensures spelled { IfOk result (λ r. valued (bound_at negative scale low) r.0 (tokens rest.now) (tokens r.1.now)) }
+    ensures shorter { IfOk result (λ r. length r.1.now < length rest.now) }
+{
+    let (token, after) = next(rest);
+    match bound_at(negative, scale, low, &token) {
+        Ok(mant) => Ok((mant, after)),
+        Err(kind) => Err(refuse(kind, &token)),
+    }
+}
+
+/// A bound of a label, at the label's scale and not below the lower bound.
+pub fn read_bound(
+    scale: u8,
+    low: Option<i128>,
+    rest: &[u8],
+) -> Result<(i128, &[u8]), ReadErr>
+    requires { scale ≤ 18 }
+    ensures limits { IfOk result (λ r. IsBound low r.0) }
+    ensures follows { (s : Scope) (ps : List Place) → Leaves (λ r. run s (bound_places scale low r.0 ps) (tokens r.1.now)) result (run s (BoundAt scale low ∷ ps) (tokens rest.now)) }
+    ensures spelled { IfOk result (λ r. Signed (λ negative. valued (bound_at negative scale low) r.0) (tokens rest.now) (tokens r.1.now)) }
+    ensures shorter { IfOk result (λ r. length r.1.now < length rest.now) }
+{
+    let (token, after) = next(rest);
+    if is_the_mark(&token, b"-") {
+        return read_bound_number(true, scale, low, after);
+    }
+    match bound_at(false, scale, low, &token) {
+        Ok(mant) => Ok((mant, after)),
+        Err(kind) => Err(refuse(kind, &token)),
+    }
+}
+
+// The offset of an observable behind its sign.
+fn read_offset_number(negative: bool, rest: &[u8]) -> Result<(i32, &[u8]), ReadErr>
+    ensures follows { (s : Scope) (ps : List Place) → Leaves (λ r. run s ps (tokens r.1.now)) result (run s (OffsetNumber negative ∷ ps) (tokens rest.now)) }
+    ensures spelled { IfOk result (λ r. valued (offset_at negative) r.0 (tokens rest.now) (tokens r.1.now)) }
+    ensures shorter { IfOk result (λ r. length r.1.now ≤ length rest.now) }
+{
+    let (token, after) = next(rest);
+    match offset_at(negative, &token) {
+        Ok(offset) => Ok((offset, after)),
+        Err(kind) => Err(refuse(kind, &token)),
+    }
+}
+
+/// The offset of an observable.
+pub fn read_offset(rest: &[u8]) -> Result<(i32, &[u8]), ReadErr>
+    ensures follows { (s : Scope) (ps : List Place) → Leaves (λ r. run s ps (tokens r.1.now)) result (run s (OffsetAt ∷ ps) (tokens rest.now)) }
+    ensures spelled { IfOk result (λ r. Signed (λ negative. valued (offset_at negative) r.0) (tokens rest.now) (tokens r.1.now)) }
+    ensures shorter { IfOk result (λ r. length r.1.now ≤ length rest.now) }
+{
+    let (token, after) = next(rest);
+    if is_the_mark(&token, b"-") {
+        return read_offset_number(true, after);
+    }
+    match offset_at(false, &token) {
+        Ok(offset) => Ok((offset, after)),
+        Err(kind) => Err(refuse(kind, &token)),
+    }
+}
+
+/// The number of a literal behind its sign.
+pub fn read_literal(negative: bool, rest: &[u8]) -> Result<(Decimal, &[u8]), ReadErr>
+    ensures follows { (s : Scope) (ps : List Place) → Leaves (λ r. run s ps (tokens r.1.now)) result (run s (LiteralNumber negative ∷ ps) (tokens rest.now)) }
+    ensures spelled { IfOk result (λ r. valued (literal_at negative) r.0 (tokens rest.now) (tokens r.1.now)) }
+    ensures shorter { IfOk result (λ r. length r.1.now ≤ length rest.now) }
+{
+    let (token, after) = next(rest);
+    match literal_at(negative, &token) {
+        Ok(number) => Ok((number, after)),
+        Err(kind) => Err(refuse(kind, &token)),
+    }
+}
+
+/// A name that a binder binds.
+pub fn read_binder(rest: &[u8]) -> Result<(&[u8], &[u8]), ReadErr>
+    ensures follows { (binder : Binder) (d : ℕ) (names : List Bytes) (s : Scope) (ps : List Place) → Leaves (λ r. run s (binder_places binder d names r.0.now ps) (tokens r.1.now)) result (run s (BinderAt binder d names ∷ ps) (tokens rest.now)) }
+    ensures spelled { IfOk result (λ r. valued binder_at r.0.now (tokens rest.now) (tokens r.1.now)) }
+    ensures shorter { IfOk result (λ r. length r.1.now ≤ length rest.now) }
+{
+    let (token, after) = next(rest);
+    match binder_at(&token) {
+        Ok(name) => Ok((name, after)),
+        Err(kind) => Err(refuse(kind, &token)),
+    }
+}
+
+/// How a number is rounded.
+pub fn read_mode(rest: &[u8]) -> Result<(Mode, &[u8]), ReadErr>
+    ensures follows { (s : Scope) (ps : List Place) → Leaves (λ r. run s ps (tokens r.1.now)) result (run s (ModeAt ∷ ps) (tokens rest.now)) }
+    ensures spelled { IfOk result (λ r. valued mode_at r.0 (tokens rest.now) (tokens r.1.now)) }
+    ensures shorter { IfOk result (λ r. length r.1.now ≤ length rest.now) }
+{
+    let (token, after) = next(rest);
+    match mode_at(&token) {
+        Ok(mode) => Ok((mode, after)),
+        Err(kind) => Err(refuse(kind, &token)),
+    }
+}
+
+/// An operator between two expressions.
+pub fn read_operator(rest: &[u8]) -> Result<(Operator, &[u8]), ReadErr>
+    ensures follows { (s : Scope) (ps : List Place) → Leaves (λ r. run s ps (tokens r.1.now)) result (run s (OperatorAt ∷ ps) (tokens rest.now)) }
+    ensures spelled { IfOk result (λ r. valued operator_at r.0 (tokens rest.now) (tokens r.1.now)) }
+    ensures between { IfOk result (λ r. IsBetween r.0) }
+    ensures shorter { IfOk result (λ r. length r.1.now ≤ length rest.now) }
+{
+    let (token, after) = next(rest);
+    match operator_at(&token) {
+        Ok(operator) => Ok((operator, after)),
+        Err(kind) => Err(refuse(kind, &token)),
+    }
+}
+
+/// The place of a declared name of a set.
+pub fn read_use_of_set<'a>(
+    alloc: Global,
+    names: &IndexSet<Name>,
+    rest: &'a [u8],
+) -> Result<(u32, &'a [u8]), ReadErr>
+    requires { index_set_len names.now < 2 ^ 32 }
+    ensures follows { (s : Scope) (ps : List Place) → Leaves (λ r. run s ps (tokens r.1.now)) result (run s (UseOf names.now.keys ∷ ps) (tokens rest.now)) }
+    ensures spelled { IfOk result (λ r. valued (use_at names.now.keys) r.0 (tokens rest.now) (tokens r.1.now)) }
+    ensures shorter { IfOk result (λ r. length r.1.now ≤ length rest.now) }
+{
+    let (token, after) = next(rest);
+    if !is_name(&token) {
+        return Err(refuse(TextKind::Syntax, &token));
+    }
+    match place_in_set(alloc, names, token.text)? {
+        Some(place) => Ok((place, after)),
+        None => Err(refuse(TextKind::Unknown, &token)),
+    }
+}
+
+/// The place of a declared name of a map.
+pub fn read_use_of_map<'a, V>(
+    alloc: Global,
+    names: &IndexMap<Name, V>,
+    rest: &'a [u8],
+) -> Result<(u32, &'a [u8]), ReadErr>
+    requires { index_map_len names.now < 2 ^ 32 }
+    ensures follows { (s : Scope) (ps : List Place) → Leaves (λ r. run s ps (tokens r.1.now)) result (run s (UseOf (keys names.now) ∷ ps) (tokens rest.now)) }
+    ensures spelled { IfOk result (λ r. valued (use_at (keys names.now)) r.0 (tokens rest.now) (tokens r.1.now)) }
+    ensures shorter { IfOk result (λ r. length r.1.now ≤ length rest.now) }
+{
+    let (token, after) = next(rest);
+    if !is_name(&token) {
+        return Err(refuse(TextKind::Syntax, &token));
+    }
+    match place_in_map(alloc, names, token.text)? {
+        Some(place) => Ok((place, after)),
+        None => Err(refuse(TextKind::Unknown, &token)),
+    }
+}
+
+/// A count of days: a number, or the name of a template.
+pub fn read_days<'a>(
+    alloc: Global,
+    templates: &IndexMap<Name, u32>,
+    rest: &'a [u8],
+) -> Result<(Days, &'a [u8]), ReadErr>
+    requires { index_map_len templates.now < 2 ^ 32 }
+    ensures follows { (s : Scope) (ps : List Place) → Leaves (λ r. run s ps (tokens r.1.now)) result (run s (DaysAt (keys templates.now) ∷ ps) (tokens rest.now)) }
+    ensures spelled { IfOk result (λ r. valued (days_at (keys templates.now)) r.0 (tokens rest.now) (tokens r.1.now)) }
+    ensures shorter { IfOk result (λ r. length r.1.now ≤ length rest.now) }
+{
+    let (token, after) = next(rest);
+    if is_integer(&token) {
+        return match integer_at(100_000, &token) {
+            Ok(days) => Ok((Days::Num { days }, after)),
+            Err(kind) => Err(refuse(kind, &token)),
+        };
+    }
+    if !is_name(&token) {
+        return Err(refuse(TextKind::Syntax, &token));
+    }
+    match place_in_map(alloc, templates, token.text)? {
+        Some(template) => Ok((Days::Named { template }, after)),
+        None => Err(refuse(TextKind::Unknown, &token)),
+    }
+}
+
+/// Adds the name that is declared here to a set.
+pub fn declare<'a>(
+    alloc: Global,
+    names: &mut IndexSet<Name>,
+    rest: &'a [u8],
+) -> Result<&'a [u8], ReadErr>
+    ensures follows { (set : NameSet) (s : Scope) (ps : List Place) → Leaves (λ r. run (with_names set names.new.keys s) ps (tokens r.now)) result (run (with_names set names.old.keys s) (NewIn set ∷ ps) (tokens rest.now)) }
+    ensures spelled { IfOk result (λ r. Added names.old.keys names.new.keys (tokens rest.now) (tokens r.now)) }
+    ensures shorter { IfOk result (λ r. length r.now < length rest.now) }
+    ensures few { IfOk result (λ r. index_set_len names.new + length r.now ≤ index_set_len names.old + length rest.now) }
+{
+    let (token, after) = next(rest);
+    if !is_name(&token) {
+        return Err(refuse(TextKind::Syntax, &token));
+    }
+    let name = Name::new(alloc, token.text)?;
+    if names.insert(name)? {
+        Ok(after)
+    } else {
+        Err(refuse(TextKind::Twice, &token))
+    }
+}
+
+/// The name that is declared here, which no entry of a map has.
+pub fn read_new_name<'a, V>(
+    alloc: Global,
+    names: &IndexMap<Name, V>,
+    rest: &'a [u8],
+) -> Result<(Name, &'a [u8]), ReadErr>
+    ensures follows { (set : NameSet) (s : Scope) (ps : List Place) → Leaves (λ r. run (with_names set (keys names.now ++ r.0 ∷ []) s) ps (tokens r.1.now)) result (run (with_names set (keys names.now) s) (NewIn set ∷ ps) (tokens rest.now)) }
+    ensures spelled { IfOk result (λ r. valued (new_at (keys names.now)) r.0 (tokens rest.now) (tokens r.1.now)) }
+    ensures shorter { IfOk result (λ r. length r.1.now < length rest.now) }
+{
+    let (token, after) = next(rest);
+    if !is_name(&token) {
+        return Err(refuse(TextKind::Syntax, &token));
+    }
+    let name = Name::new(alloc, token.text)?;
+    if names.contains_key(&name) {
+        Err(refuse(TextKind::Twice, &token))
+    } else {
+        Ok((name, after))
+    }
+}
