@@ -1,25 +1,25 @@
 -- The payments of a plain contract are small, and no more than its transfers.
-use Rattle.std.proofs.Common.{◌≡◌, ℕ, ◌+◌, ◌-◌, ◌^◌, ◌≤◌, ◌<◌, ◌≤ℤ◌, ap, ℤ, pos, neg_ℤ, ◌+ℤ◌, Bool, true, false, ◌&&◌, ◌||◌, ◌==◌, nat_le, nat_lt, int_lt, if◌then◌else◌, List, [], ◌∷◌, ◌++◌, length, length-append, Option, Some, None, arith, refl, unsigned_abs}
-use Rattle.std.specs.List.{All}
+use Rattle.std.proofs.Common.{◌≡◌, ℕ, ◌-◌, ◌^◌, ◌≤◌, ◌<◌, ◌≤ℤ◌, ap, ℤ, pos, neg_ℤ, ◌+ℤ◌, Bool, true, false, ◌&&◌, ◌||◌, ◌==◌, nat_le, nat_lt, int_lt, if◌then◌else◌, List, [], ◌∷◌, length, length-append, Option, Some, None, arith, refl, unsigned_abs}
 use Rattle.std.specs.List.Sorted.{IsPermutation}
 use Rattle.std.proofs.lemmas.List.Sorted.{All-permutation, length_permutation}
 use Rattle.std.proofs.lemmas.List.Elements.{All-append, All-nil, All-cons}
 use Rattle.std.proofs.lemmas.Int.{ints}
 use Rattle.decimal.specs.Rounding.{raised}
-use Rattle.term_core.specs.Terms.{Expression, Lit, Contract, Zero, Pay, Both, Scale, After, Let, Within}
-use Rattle.term_core.specs.declared.terms.Days.TheVariants.{Num as Count, Named}
+use Rattle.term_core.specs.Terms.{Lit, Contract, Zero, Pay, Both, Scale, After}
+use Rattle.term_core.specs.declared.terms.Days.TheVariants.{Num as Count}
 use Rattle.contract_cli.specs.declared.payments.Payment.{Payment}
 use Rattle.contract_cli.specs.declared.payments.Transfer.{Transfer}
-use Rattle.contract_cli.specs.Plain.{is_plain, is_plain_amount, is_payment, payments_in}
+use Rattle.contract_parse.specs.Payments.{payments_in}
+use Rattle.contract_cli.specs.Plain.{is_plain, is_plain_amount, is_payment}
 use Rattle.contract_cli.specs.Payments.{paid, paid_scaled, payment_on, payments_of, transfer_of}
 use Rattle.contract_cli.specs.Netting.{AreDue, AreSmall}
 use Rattle.contract_cli.proofs.AmountFacts.{amount_small, unit_small}
 
-and_left : (a b : Bool) → (a && b) ≡ true → a ≡ true
+pub and_left : (a b : Bool) → (a && b) ≡ true → a ≡ true
 and_left true b h = refl
 and_left false b h = h
 
-and_right : (a b : Bool) → (a && b) ≡ true → b ≡ true
+pub and_right : (a b : Bool) → (a && b) ≡ true → b ≡ true
 and_right true b h = h
 and_right false b h = cc
 

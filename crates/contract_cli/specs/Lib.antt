@@ -1,7 +1,9 @@
 pub mod Plain
 pub mod FlowLines
-pub mod Days
 pub mod Payments
 pub mod Netting
 pub mod Words
 pub mod Runs
+pub mod Tables
+pub mod FlowsText
+pub mod RunLaws

@@ -1,10 +1,11 @@
 -- Payments in order of their slots, netted slot by slot into rows of a flow table.
-use Rattle.std.specs.Prelude.{ℕ, ℤ, pos, neg_ℤ, ◌+ℤ◌, ◌≤◌, ◌≤ℤ◌, ◌^◌, ◌==◌, ◌&&◌, Bool, int_lt, List, [], ◌∷◌, ◌++◌, if◌then◌else◌, unsigned_abs}
+use Rattle.std.specs.Prelude.{◌≡◌, ◌⊎◌, ℕ, ℤ, pos, neg_ℤ, ◌+ℤ◌, ◌≤◌, ◌≤ℤ◌, ◌^◌, ◌==◌, ◌&&◌, Bool, int_lt, List, [], ◌∷◌, ◌++◌, if◌then◌else◌, unsigned_abs}
 use Rattle.std.specs.List.{All}
 use Rattle.std.specs.Ordering.{int_eq}
 use Rattle.contract_cli.specs.declared.flow_table.FlowRow.{FlowRow}
-use Rattle.contract_cli.specs.declared.payments.Slot.{Slot}
+use Rattle.contract_cli.specs.declared.flow_table.Slot.{Slot}
 use Rattle.contract_cli.specs.declared.payments.Payment.{Payment}
+use Rattle.contract_cli.specs.Tables.{Precedes}
 
 abbrev pub same_slot : Slot → Slot → Bool
 same_slot a b = int_eq a.day b.day && ((a.asset == b.asset) && ((a.lower == b.lower) && (a.higher == b.higher)))
@@ -42,3 +43,8 @@ AreDue first last ps = All (λ p. (first ≤ℤ p.slot.day) × (p.slot.day ≤�
 -- a row on a day from the first to the last, of an amount that its line can hold
 abbrev pub IsDueRow : ℤ → ℤ → FlowRow → Type 0
 IsDueRow first last row = (first ≤ℤ row.day) × (row.day ≤ℤ last) × (unsigned_abs row.amount ≤ 10 ^ 36)
+
+-- no payment stands at a slot before that of an earlier one
+abbrev pub AreInOrder : List Payment → Type 0
+AreInOrder [] = Unit {0}
+AreInOrder (p ∷ ps) = All (λ q. (p.slot ≡ q.slot) ⊎ Precedes p.slot q.slot) ps × AreInOrder ps

@@ -1,9 +1,8 @@
 -- The payments of a plain contract, one for each transfer between two different parties on a day that counts.
-use Rattle.std.specs.Prelude.{ℕ, ℤ, pos, neg_ℤ, ◌+ℤ◌, ◌-◌, ◌+◌, ◌==◌, ◌||◌, ◌^◌, ◌≤◌, Bool, true, false, int_lt, nat_lt, min, max, List, [], ◌∷◌, ◌++◌, Option, Some, None, if◌then◌else◌, unsigned_abs}
+use Rattle.std.specs.Prelude.{ℕ, ℤ, pos, neg_ℤ, ◌+ℤ◌, ◌-◌, ◌==◌, ◌||◌, int_lt, nat_lt, min, max, List, [], ◌∷◌, ◌++◌, Option, Some, None, if◌then◌else◌}
 use Rattle.decimal.specs.Rounding.{raised}
-use Rattle.term_core.specs.declared.terms.Days.TheVariants.{Num as Count, Named}
-use Rattle.term_core.specs.Terms.{Expression, Lit, Contract, Zero, Pay, Both, Scale, After, Let, Within}
-use Rattle.contract_cli.specs.declared.payments.Slot.{Slot}
+use Rattle.term_core.specs.declared.terms.Days.TheVariants.{Num as Count}
+use Rattle.term_core.specs.Terms.{Lit, Contract, Zero, Pay, Both, Scale, After}
 use Rattle.contract_cli.specs.declared.payments.Payment.{Payment}
 use Rattle.contract_cli.specs.declared.payments.Transfer.{Transfer}
 

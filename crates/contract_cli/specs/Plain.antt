@@ -1,7 +1,7 @@
 -- Plain contracts: `zero`, payments, payments scaled by a literal, two of them together, and delays by a number of
 -- days. A literal has at most the portfolio's decimals and a mantissa of at most 10^18 in size, and on each path the
 -- delays add up to at most 100,000 days. Their flows need no fixing and no check.
-use Rattle.std.specs.Prelude.{ℕ, ℤ, ◌-◌, ◌+◌, ◌^◌, Bool, true, false, ◌&&◌, nat_le, unsigned_abs, ◌≡◌, ◌<◌}
+use Rattle.std.specs.Prelude.{ℕ, ℤ, ◌-◌, ◌^◌, Bool, true, false, ◌&&◌, nat_le, unsigned_abs, ◌≡◌}
 use Rattle.term_core.specs.declared.terms.Days.{Days}
 use Rattle.term_core.specs.declared.terms.Days.TheVariants.{Num as Count, Named}
 use Rattle.term_core.specs.Terms.{Expression, Lit, Contract, Zero, Pay, Both, Scale, After, Let, Within}
@@ -26,16 +26,6 @@ is_plain amounts left _ = false
 abbrev pub greatest_delay : ℕ
 greatest_delay = 100_000
 
--- the payments that a contract holds
-abbrev pub payments_in : Contract → ℕ
-payments_in Zero = 0
-payments_in (Pay a p q) = 1
-payments_in (Both one other) = payments_in one + payments_in other
-payments_in (Scale e c) = payments_in c
-payments_in (After n c) = payments_in c
-payments_in (Let e c) = payments_in c
-payments_in (Within e n hit miss) = payments_in hit + payments_in miss
-
--- a contract that `flows` takes today: plain, and of fewer than a million payments
-abbrev pub IsTaken : ℕ → Contract → Type 0
-IsTaken amounts c = (is_plain amounts greatest_delay c ≡ true) × (payments_in c < 1_000_000)
+-- a contract that is plain under declarations of so many decimals for amounts
+abbrev pub IsPlain : ℕ → Contract → Type 0
+IsPlain amounts c = is_plain amounts greatest_delay c ≡ true

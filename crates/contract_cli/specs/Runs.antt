@@ -4,6 +4,7 @@
 use Rattle.std.specs.Prelude.{◌≡◌, ◌≤◌, ◌<◌, ℕ, List, Option, Some, None, IfSome, length, take}
 use Rattle.std.specs.Io.KnownBytes.{Appends, Keeps}
 use Rattle.edge_io.specs.Counts.{Rose}
+use Rattle.contract_cli.specs.FlowsText.{IsFlowsText, IsNoText, IsNotPlain}
 use Rattle.contract_cli.specs.Words.{file_of}
 use Rattle.contract_cli.specs.declared.status.Status.{Status}
 use Rattle.contract_cli.specs.declared.status.Status.TheVariants as status
@@ -62,32 +63,40 @@ pub record TooLongCause (words : List (List ℕ)) (edge : Edge) : Type 0 where
   pub told : IfSome (edge.contents file) (λ all. longest_file < length all)
   pub nothing : WritesNothing edge
 
--- what was read is refused
-pub record ReadAndRefused (words : List (List ℕ)) (edge : Edge) : Type 0 where
+pub record BadTextCause (words : List (List ℕ)) (edge : Edge) : Type 0 where
   pub bytes : List ℕ
   pub read : WasRead words edge bytes
+  pub no_text : IsNoText bytes
+  pub nothing : WritesNothing edge
+
+pub record RefusedCause (words : List (List ℕ)) (edge : Edge) : Type 0 where
+  pub bytes : List ℕ
+  pub read : WasRead words edge bytes
+  pub not_plain : IsNotPlain bytes
   pub nothing : WritesNothing edge
 
 pub record DoneCause (words : List (List ℕ)) (edge : Edge) : Type 0 where
   pub bytes : List ℕ
   pub text : List ℕ
   pub read : WasRead words edge bytes
+  pub flows : IsFlowsText bytes text
   pub written : WritesAll edge text
 
 pub record WriteFaultCause (words : List (List ℕ)) (edge : Edge) : Type 0 where
   pub bytes : List ℕ
   pub text : List ℕ
   pub read : WasRead words edge bytes
+  pub flows : IsFlowsText bytes text
   pub written : WritesPart edge text
 
 abbrev pub Meets : List (List ℕ) → Edge → Status → Type 0
 Meets words edge status.Done = DoneCause words edge
-Meets words edge status.Refused = ReadAndRefused words edge
+Meets words edge status.Refused = RefusedCause words edge
 Meets words edge status.Usage = UsageCause words edge
 Meets words edge status.ReadFault = ReadFaultCause words edge
 Meets words edge status.WriteFault = WriteFaultCause words edge
 Meets words edge status.TooLong = TooLongCause words edge
-Meets words edge status.BadText = ReadAndRefused words edge
+Meets words edge status.BadText = BadTextCause words edge
 Meets words edge status.NoMemory = WritesNothing edge
 Meets words edge status.BadRow = ⊥
 Meets words edge status.Missing = ⊥

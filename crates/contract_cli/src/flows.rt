@@ -2,11 +2,15 @@
 
 ghost use Rattle.std.specs.Prelude.{◌≡◌, ◌<◌, pos, true, IfOk};
 ghost use Rattle.term_core.specs.Terms.{contract};
+ghost use Rattle.term_core.specs.Declarations.{declarations};
+ghost use Rattle.term_core.specs.Environments.{Environment};
 ghost use Rattle.std.specs.List.{All};
 ghost use Rattle.std.specs.List.Sorted.{IsPermutation};
-ghost use Rattle.contract_cli.specs.Netting.{IsDueRow};
+ghost use Rattle.contract_cli.specs.Netting.{AreInOrder, IsDueRow};
 ghost use Rattle.contract_cli.specs.Payments.{payments_of};
-ghost use Rattle.contract_cli.specs.Plain.{greatest_delay, is_plain, payments_in};
+ghost use Rattle.contract_cli.specs.Tables.{IsTable, paid_by};
+ghost use Rattle.contract_parse.specs.Payments.{payments_in};
+ghost use Rattle.contract_cli.specs.Plain.{greatest_delay, is_plain};
 
 use crate::flow_table::FlowTable;
 use crate::netting::rows_of;
@@ -41,18 +45,21 @@ fn payments_of(
 
 // The same payments, in order of their slots.
 fn sorted(payments: Vec<Payment>) -> Result<Vec<Payment>, NoMemory>
-    ensures { IfOk result (λ sorted. IsPermutation payments.items sorted.items) }
+    ensures moved { IfOk result (λ sorted. IsPermutation payments.items sorted.items) }
+    ensures in_order { IfOk result (λ sorted. AreInOrder sorted.items) }
 {
     let mut payments = payments;
     payments.sort_by_key(|payment| payment.slot)?;
     Ok(payments)
 }
 
-/// The flows up to a day of a plain contract that stands on the start of its portfolio.
+/// The flow table of a plain contract that stands on the start of its portfolio, from that day to `until`. It is the
+/// same whatever is observed.
 pub fn flows(alloc: Global, decls: &Decls, c: &Contr, until: i64) -> Result<FlowTable, NoMemory>
     requires plain { is_plain decls.now.amounts greatest_delay (contract c.now) ≡ true }
     requires few { payments_in (contract c.now) < 1_000_000 }
-    ensures { IfOk result (λ table. All (IsDueRow (pos decls.now.start) until) table.rows.items) }
+    ensures due { IfOk result (λ table. All (IsDueRow (pos decls.now.start) until) table.rows.items) }
+    ensures table { IfOk result (λ table. (env : Environment) → IsTable (paid_by (declarations decls.now) (contract c.now) env (pos decls.now.start)) (pos decls.now.start) until table.rows.items) }
 {
     let payments = payments_of(alloc, decls, c, until)?;
     let payments = sorted(payments)?;

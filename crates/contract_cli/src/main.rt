@@ -6,6 +6,7 @@ mod flow_lines;
 mod flow_table;
 mod flows;
 mod flows_text;
+pub mod laws;
 mod netting;
 mod payments;
 mod plain;

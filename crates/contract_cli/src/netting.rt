@@ -3,8 +3,8 @@
 ghost use Rattle.std.specs.Prelude.{◌≡◌, ◌≤◌, ◌<◌, ◌+◌, ◌*◌, ◌^◌, ◌++◌, List, length, OnOk, IfOk, [], ◌∷◌, unsigned_abs};
 ghost use Rattle.contract_cli.specs.Netting.{AreSmall, closed, joined, row_of, rows_from, rows_of, same_slot};
 
-use crate::flow_table::FlowRow;
-use crate::payments::{Payment, Slot, opposite};
+use crate::flow_table::{FlowRow, Slot};
+use crate::payments::{Payment, opposite};
 use decimal::NoMemory;
 use std::alloc::Global;
 

@@ -6,6 +6,7 @@ ghost use Rattle.term_core.specs.Terms.{contract};
 ghost use Rattle.contract_cli.specs.Plain.{is_plain, is_plain_amount};
 ghost use Rattle.contract_cli.specs.Payments.{paid, payments_of, payment_on, transfer_of};
 
+use crate::flow_table::Slot;
 use decimal::{NoMemory, align, pow10};
 use term_core::{Contr, Days, Expr};
 
@@ -15,15 +16,6 @@ pub struct Transfer {
     pub asset: u32,
     pub from: u32,
     pub to: u32,
-}
-
-/// Where a flow table holds a payment: its day, its asset, and the two parties in declared order.
-#[derive(Clone, Copy, Debug, PartialEq, Eq, PartialOrd, Ord)]
-pub struct Slot {
-    pub day: i64,
-    pub asset: u32,
-    pub lower: u32,
-    pub higher: u32,
 }
 
 /// An amount from the lower party to the higher one, or back where it is negative.

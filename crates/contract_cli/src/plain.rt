@@ -1,8 +1,8 @@
 //! Plain contracts: those whose flows need no fixing and no check.
 
-ghost use Rattle.std.specs.Prelude.{◌≡◌, ◌≤◌, ◌+◌, min, ◌↔◌, IsTrue};
+ghost use Rattle.std.specs.Prelude.{◌≡◌, ◌↔◌, IsTrue};
 ghost use Rattle.term_core.specs.Terms.{contract};
-ghost use Rattle.contract_cli.specs.Plain.{IsTaken, is_payment, is_plain, is_plain_amount, payments_in};
+ghost use Rattle.contract_cli.specs.Plain.{IsPlain, is_payment, is_plain, is_plain_amount};
 
 use term_core::{Contr, Days, Expr};
 
@@ -26,7 +26,7 @@ fn is_payment(c: &Contr) -> bool
 
 // Whether a contract is plain under declarations of so many decimals for amounts, where the day counts on each path
 // may add up to `left`.
-fn is_plain(amounts: u8, left: u32, c: &Contr) -> bool
+fn is_plain_within(amounts: u8, left: u32, c: &Contr) -> bool
     ensures { result ≡ is_plain amounts left (contract c.now) }
 {
     match c {
@@ -35,7 +35,7 @@ fn is_plain(amounts: u8, left: u32, c: &Contr) -> bool
         Contr::Both {
             left: one,
             right: other,
-        } => { is_plain(amounts, left, one) && is_plain(amounts, left, other) }
+        } => { is_plain_within(amounts, left, one) && is_plain_within(amounts, left, other) }
         Contr::Scale {
             factor: Expr::Lit { mant, scale },
             body,
@@ -43,39 +43,14 @@ fn is_plain(amounts: u8, left: u32, c: &Contr) -> bool
         Contr::After {
             days: Days::Num { days },
             body,
-        } => *days <= left && is_plain(amounts, left - *days, body),
+        } => *days <= left && is_plain_within(amounts, left - *days, body),
         _ => false,
     }
 }
 
-const MOST_PAYMENTS: u32 = 1_000_000;
-
-fn together(one: u32, other: u32) -> u32
-    requires one { one ≤ 1_000_000 }
-    requires other { other ≤ 1_000_000 }
-    ensures { result ≡ min (one + other) 1_000_000 }
+/// Whether a contract is plain under declarations of so many decimals for amounts.
+pub fn is_plain(amounts: u8, c: &Contr) -> bool
+    ensures { IsTrue result ↔ IsPlain amounts (contract c.now) }
 {
-    (one + other).min(MOST_PAYMENTS)
-}
-
-// How many payments a contract holds, up to a million.
-fn payments_in(c: &Contr) -> u32
-    ensures { result ≡ min (payments_in (contract c.now)) 1_000_000 }
-{
-    match c {
-        Contr::Zero => 0,
-        Contr::Pay { .. } => 1,
-        Contr::Both { left, right } => together(payments_in(left), payments_in(right)),
-        Contr::Scale { body, .. } => payments_in(body),
-        Contr::After { body, .. } => payments_in(body),
-        Contr::Let { body, .. } => payments_in(body),
-        Contr::Within { hit, miss, .. } => together(payments_in(hit), payments_in(miss)),
-    }
-}
-
-/// Whether the flows of a contract are given today, under declarations of so many decimals for amounts.
-pub fn is_taken(amounts: u8, c: &Contr) -> bool
-    ensures { IsTrue result ↔ IsTaken amounts (contract c.now) }
-{
-    is_plain(amounts, GREATEST_DELAY, c) && payments_in(c) < MOST_PAYMENTS
+    is_plain_within(amounts, GREATEST_DELAY, c)
 }

@@ -25,6 +25,7 @@ const LOAN: &[u8] = b"portfolio 1; amounts 2; party A, B, C; asset EUR;
 contract loan = both(scale(100.00, pay(EUR, A, B)), after(90, scale(105.00, pay(EUR, B, A))));";
 
 // What `flows` prints of a text, and its status.
+#[derive(Clone, Copy)]
 struct Row {
     text: &'static [u8],
     output: &'static [u8],

@@ -1,5 +1,5 @@
 use Rattle.std.proofs.Common.{arith}
-use Rattle.std.proofs.lemmas.Int.{ints, to_z-of_z}
+use Rattle.std.proofs.lemmas.Int.{to_z-of_z}
 use Rattle.contract_cli.proofs.AmountFacts.{amount_small}
 use Rattle.contract_cli.proofs.payments.amount_of.Goals as goal
 

@@ -1,0 +1,5 @@
+use Rattle.contract_cli.proofs.RunFacts.{faults_have_causes}
+use Rattle.contract_cli.proofs.laws.faults_have_causes.Goals as goal
+
+pub returns : goal.returns
+returns c = faults_have_causes

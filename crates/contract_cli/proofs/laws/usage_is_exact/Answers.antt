@@ -1,0 +1,5 @@
+use Rattle.contract_cli.proofs.RunFacts.{usage_is_exact}
+use Rattle.contract_cli.proofs.laws.usage_is_exact.Goals as goal
+
+pub returns : goal.returns
+returns c = usage_is_exact

@@ -1,0 +1,38 @@
+//! Laws of the causes of a run's status. Each is the contract of a function that does nothing.
+
+ghost use Rattle.contract_cli.specs.RunLaws.{BadTextIsExact, FaultsHaveCauses, RefusalsWriteNothing, RefusedIsExact, RunIsComplete, TooLongIsExact, UsageIsExact};
+
+/// Usage comes exactly where the words are of no form, or memory is wanting.
+pub fn usage_is_exact()
+    ensures { UsageIsExact }
+{}
+
+/// A read fault comes only where the count of the named file rose, a write fault only where that of the sink did.
+pub fn faults_have_causes()
+    ensures { FaultsHaveCauses }
+{}
+
+/// A file is too long exactly where its told contents exceed the limit.
+pub fn too_long_is_exact()
+    ensures { TooLongIsExact }
+{}
+
+/// A text is bad exactly where its told contents are no portfolio.
+pub fn bad_text_is_exact()
+    ensures { BadTextIsExact }
+{}
+
+/// A portfolio is refused exactly where some contract is not plain.
+pub fn refused_is_exact()
+    ensures { RefusedIsExact }
+{}
+
+/// A run with nothing in its way writes the whole text, or answers want of memory.
+pub fn run_is_complete()
+    ensures { RunIsComplete }
+{}
+
+/// A refusal writes nothing.
+pub fn refusals_write_nothing()
+    ensures { RefusalsWriteNothing }
+{}
