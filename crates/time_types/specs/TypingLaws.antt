@@ -1,0 +1,31 @@
+-- Types are kept where an expression is asked on a later day, a contract on an earlier one, and where names are known
+-- sooner. A rule of acceptance holds everywhere or fails first at one node, and never both.
+use Rattle.std.specs.Prelude.{ℕ, ℤ, ◌≡◌, ◌≤ℤ◌, List, [], ◌∷◌}
+use Rattle.term_core.specs.Declarations.{Declarations}
+use Rattle.term_core.specs.declared.rules.Rule.{Rule}
+use Rattle.term_core.specs.Terms.{Expression, Contract}
+use Rattle.term_core.specs.Times.{Typed, TypedContract}
+use Rattle.term_core.specs.Acceptance.{Meets, FailsAt}
+
+-- the first context's times are at most the second's, name by name
+abbrev pub AreNoLater : List ℤ → List ℤ → Type 0
+AreNoLater [] [] = Unit {0}
+AreNoLater [] (x ∷ g) = ⊥
+AreNoLater (y ∷ h) [] = ⊥
+AreNoLater (y ∷ h) (x ∷ g) = (y ≤ℤ x) × AreNoLater h g
+
+abbrev pub TypesOfExpressionsRise : Type 0
+TypesOfExpressionsRise =
+    (e : Expression) (g h : List ℤ) (t u : ℤ) → AreNoLater h g → t ≤ℤ u → Typed g e t → Typed h e u
+
+abbrev pub TypesOfContractsFall : Type 0
+TypesOfContractsFall =
+    (c : Contract) (g h : List ℤ) (t u : ℤ) → AreNoLater h g → u ≤ℤ t → TypedContract g c t → TypedContract h c u
+
+abbrev pub RulesHoldOrFail : Type 0
+RulesHoldOrFail =
+    (d : Declarations) (rule : Rule) (c : Contract) (k : ℕ) → Meets d rule c → FailsAt d rule c k → ⊥
+
+abbrev pub FaultsAreUnique : Type 0
+FaultsAreUnique =
+    (d : Declarations) (rule : Rule) (c : Contract) (j k : ℕ) → FailsAt d rule c j → FailsAt d rule c k → j ≡ k

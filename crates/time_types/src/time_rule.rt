@@ -1,0 +1,272 @@
+//! The rule on times: a factor is known when its contract starts, and a test on the day on which it is first tried.
+//! The trial of a contract answers its start, or the place of the node at fault counted from the contract's own first
+//! node; nodes before it are counted only on the way up from a fault, so that no part is visited more than twice.
+
+ghost use Rattle.std.specs.Prelude.{◌≡◌, ◌<◌, ◌≤◌, ◌+◌, ◌^◌, pos, ◌+ℤ◌, ◌-ℤ◌, unsigned_abs, List, [], ◌∷◌, IfErr};
+ghost use Rattle.term_core.specs.Declarations.{declarations};
+ghost use Rattle.term_core.specs.declared.rules.Rule.{Rule};
+ghost use Rattle.term_core.specs.Terms.{expression, contract};
+ghost use Rattle.term_core.specs.Flows.{count_of};
+ghost use Rattle.term_core.specs.Sizes.{nodes, height, nodes_of_contract, height_of_contract};
+ghost use Rattle.term_core.specs.Times.{IsStart};
+ghost use Rattle.term_core.specs.WellFormed.{IsClosed, HasOnlyNumbers};
+ghost use Rattle.term_core.specs.Acceptance.{Meets};
+ghost use Rattle.time_types.specs.Trying.{moved};
+ghost use Rattle.time_types.specs.Starts.{start_day};
+ghost use Rattle.time_types.specs.TimeScopes.{times_in};
+ghost use Rattle.time_types.specs.TimeTrials.{HasRoom, later, known_from, in_time, start_tried};
+ghost use Rattle.time_types.specs.Verdicts.{IsVerdict};
+
+use crate::nodes::{nodes_in, nodes_in_contract};
+use crate::starts::{Start, earlier_of, is_known};
+use crate::time_scopes::{TimeScope, known_at};
+use std::alloc::Global;
+use term_core::{CheckErr, Contr, Days, Decls, Expr, Rule};
+
+// The day from which both are known.
+fn later_of(a: Option<i64>, b: Option<i64>) -> Option<i64>
+    ensures { result ≡ later a b }
+{
+    match (a, b) {
+        (None, _) => b,
+        (Some(_), None) => a,
+        (Some(a), Some(b)) => Some(a.max(b)),
+    }
+}
+
+// The day on which a part of a contract stands, counted from the day on which the whole stands.
+#[derive(Clone, Copy)]
+struct PartDay {
+    number: i64,
+}
+
+// The day on which an observable is read.
+fn read_on(day: PartDay, offset: i32) -> i64
+    requires { HasRoom 1 day.number }
+    ensures { result ≡ day.number +ℤ offset }
+{
+    day.number + offset as i64
+}
+
+fn days_before(day: PartDay, days: u32) -> PartDay
+    requires { HasRoom 1 day.number }
+    ensures number { result.number ≡ day.number -ℤ pos days }
+    ensures near { unsigned_abs result.number ≤ unsigned_abs day.number + 2 ^ 32 }
+{
+    PartDay {
+        number: day.number - days as i64,
+    }
+}
+
+fn days_after(day: PartDay, days: u32) -> PartDay
+    requires { HasRoom 1 day.number }
+    ensures number { result.number ≡ day.number +ℤ pos days }
+    ensures near { unsigned_abs result.number ≤ unsigned_abs day.number + 2 ^ 32 }
+{
+    PartDay {
+        number: day.number + days as i64,
+    }
+}
+
+// A count of days; a template has none before it is given one.
+fn days_of(days: Days) -> u32
+    ensures { result ≡ count_of days }
+{
+    match days {
+        Days::Num { days } => days,
+        Days::Named { .. } => 0,
+    }
+}
+
+// The day from which an expression is known that stands on a day.
+#[cycle(knowing)]
+fn known(e: &Expr, scope: &TimeScope, day: PartDay) -> Option<i64>
+    requires { HasRoom (height (expression e.now)) day.number }
+    ensures { result ≡ known_from day.number (times_in scope.now) (expression e.now) }
+{
+    match e {
+        Expr::Lit { .. } => None,
+        Expr::Yes { .. } => None,
+        Expr::Var { back } => known_at(scope, *back),
+        Expr::Obs { offset, .. } => Some(read_on(day, *offset)),
+        Expr::Neg { of } => known(of, scope, day),
+        Expr::Not { of } => known(of, scope, day),
+        Expr::Widen { of, .. } => known(of, scope, day),
+        Expr::Round { of, .. } => known(of, scope, day),
+        Expr::Num { left, right, .. } => known_both(left, right, scope, day),
+        Expr::Cmp { left, right, .. } => known_both(left, right, scope, day),
+        Expr::Logic { left, right, .. } => known_both(left, right, scope, day),
+        Expr::Div { top, below, .. } => known_both(top, below, scope, day),
+        Expr::Cond { test, yes, no } => {
+            let test_known = known(test, scope, day);
+            later_of(test_known, known_both(yes, no, scope, day))
+        }
+        Expr::Acc { body, days, first } => {
+            // The name stands for a value of the same day, which is known where the body is.
+            let inner = TimeScope::Bound {
+                known: None,
+                outer: &*scope,
+            };
+            let body_known = known(body, &inner, day);
+            later_of(body_known, known(first, scope, days_before(day, *days)))
+        }
+    }
+}
+
+// Of two operands.
+#[cycle(knowing)]
+fn known_both(left: &Expr, right: &Expr, scope: &TimeScope, day: PartDay) -> Option<i64>
+    requires left { HasRoom (height (expression left.now)) day.number }
+    requires right { HasRoom (height (expression right.now)) day.number }
+    ensures { result ≡ later (known_from day.number (times_in scope.now) (expression left.now)) (known_from day.number (times_in scope.now) (expression right.now)) }
+{
+    let left_known = known(left, scope, day);
+    later_of(left_known, known(right, scope, day))
+}
+
+// The answer where an expression is known at a start, else a fault here.
+fn allow(known: Option<i64>, at: Start, answer: Start) -> Result<Start, u32>
+    ensures start { result ≡ in_time known at answer }
+    ensures here { IfErr result (λ place. place ≡ 0) }
+{
+    if is_known(known, at) {
+        Ok(answer)
+    } else {
+        Err(0)
+    }
+}
+
+// The start of a contract that stands on a day, or the place of the fault.
+#[cycle(starting)]
+fn try_start(c: &Contr, scope: &TimeScope, day: PartDay) -> Result<Start, u32>
+    requires small { nodes_of_contract (contract c.now) < 2 ^ 32 }
+    requires room { HasRoom (height_of_contract (contract c.now)) day.number }
+    ensures start { result ≡ start_tried day.number (times_in scope.now) (contract c.now) }
+    ensures below { IfErr result (λ place. place < nodes_of_contract (contract c.now)) }
+{
+    match c {
+        Contr::Zero => Ok(Start::Always),
+        Contr::Pay { .. } => Ok(Start::Day { day: day.number }),
+        Contr::Both { left, right } => {
+            let left_start = try_first(left, scope, day)?;
+            let right_start = try_after_contract(left, right, scope, day)?;
+            Ok(earlier_of(left_start, right_start))
+        }
+        Contr::Scale { factor, body } => {
+            let start = try_after(factor, body, scope, day)?;
+            allow(known(factor, scope, day), start, start)
+        }
+        Contr::After { days, body } => try_first(body, scope, days_after(day, days_of(*days))),
+        Contr::Let { bound, body } => {
+            let inner = TimeScope::Bound {
+                known: known(bound, scope, day),
+                outer: &*scope,
+            };
+            try_after(bound, body, &inner, day)
+        }
+        Contr::Within {
+            test,
+            days,
+            hit,
+            miss,
+        } => {
+            let hit_start = try_after(test, hit, scope, day)?;
+            let last = days_after(day, days_of(*days));
+            let miss_start = try_after_both(test, hit, miss, scope, last)?;
+            let start = earlier_of(hit_start, miss_start);
+            allow(
+                known(test, scope, day),
+                Start::Day { day: day.number },
+                start,
+            )
+        }
+    }
+}
+
+// Of the part that follows its node.
+#[cycle(starting)]
+fn try_first(c: &Contr, scope: &TimeScope, day: PartDay) -> Result<Start, u32>
+    requires small { nodes_of_contract (contract c.now) + 1 < 2 ^ 32 }
+    requires room { HasRoom (height_of_contract (contract c.now)) day.number }
+    ensures start { result ≡ moved 1 (start_tried day.number (times_in scope.now) (contract c.now)) }
+    ensures below { IfErr result (λ place. place < nodes_of_contract (contract c.now) + 1) }
+{
+    match try_start(c, scope, day) {
+        Ok(start) => Ok(start),
+        Err(place) => Err(1 + place),
+    }
+}
+
+// Of the part that follows an expression.
+#[cycle(starting)]
+fn try_after(before: &Expr, c: &Contr, scope: &TimeScope, day: PartDay) -> Result<Start, u32>
+    requires small { nodes (expression before.now) + nodes_of_contract (contract c.now) + 1 < 2 ^ 32 }
+    requires room { HasRoom (height_of_contract (contract c.now)) day.number }
+    ensures start { result ≡ moved (1 + nodes (expression before.now)) (start_tried day.number (times_in scope.now) (contract c.now)) }
+    ensures below { IfErr result (λ place. place < nodes (expression before.now) + nodes_of_contract (contract c.now) + 1) }
+{
+    match try_start(c, scope, day) {
+        Ok(start) => Ok(start),
+        Err(place) => Err(1 + nodes_in(before) + place),
+    }
+}
+
+// Of the part that follows a contract.
+#[cycle(starting)]
+fn try_after_contract(
+    before: &Contr,
+    c: &Contr,
+    scope: &TimeScope,
+    day: PartDay,
+) -> Result<Start, u32>
+    requires small { nodes_of_contract (contract before.now) + nodes_of_contract (contract c.now) + 1 < 2 ^ 32 }
+    requires room { HasRoom (height_of_contract (contract c.now)) day.number }
+    ensures start { result ≡ moved (1 + nodes_of_contract (contract before.now)) (start_tried day.number (times_in scope.now) (contract c.now)) }
+    ensures below { IfErr result (λ place. place < nodes_of_contract (contract before.now) + nodes_of_contract (contract c.now) + 1) }
+{
+    match try_start(c, scope, day) {
+        Ok(start) => Ok(start),
+        Err(place) => Err(1 + nodes_in_contract(before) + place),
+    }
+}
+
+// Of the part that follows an expression and a contract.
+#[cycle(starting)]
+fn try_after_both(
+    test: &Expr,
+    hit: &Contr,
+    c: &Contr,
+    scope: &TimeScope,
+    day: PartDay,
+) -> Result<Start, u32>
+    requires small { nodes (expression test.now) + nodes_of_contract (contract hit.now) + nodes_of_contract (contract c.now) + 1 < 2 ^ 32 }
+    requires room { HasRoom (height_of_contract (contract c.now)) day.number }
+    ensures start { result ≡ moved (nodes (expression test.now)) (moved (1 + nodes_of_contract (contract hit.now)) (start_tried day.number (times_in scope.now) (contract c.now))) }
+    ensures below { IfErr result (λ place. place < nodes (expression test.now) + nodes_of_contract (contract hit.now) + nodes_of_contract (contract c.now) + 1) }
+{
+    match try_after_contract(hit, c, scope, day) {
+        Ok(start) => Ok(start),
+        Err(place) => Err(nodes_in(test) + place),
+    }
+}
+
+/// The start of a contract, where the rule on times holds everywhere in it. Where it fails, the answer has the first
+/// node at fault, in the order in which the rules of acceptance try nodes: a `scale` whose factor is not known when its
+/// body starts, or an `if .. within` whose test is not known on the first day (after the typing of times of Bahr,
+/// Berthold and Elsman, ICFP 2015). It takes no memory today; a caller provides for want of it.
+pub fn times(_alloc: Global, decls: &Decls, c: &Contr) -> Result<Start, CheckErr>
+    requires low { height_of_contract (contract c.now) ≤ 1_000 }
+    requires small { nodes_of_contract (contract c.now) < 2 ^ 32 }
+    requires closed { IsClosed (declarations decls.now) (contract c.now) }
+    requires sorted { Meets (declarations decls.now) Rule.Sort (contract c.now) }
+    requires numbers { HasOnlyNumbers (contract c.now) }
+    ensures { IsVerdict (declarations decls.now) Rule.Time (contract c.now) (λ start. IsStart (contract c.now) (start_day start)) result }
+{
+    match try_start(c, &TimeScope::Empty, PartDay { number: 0 }) {
+        Ok(start) => Ok(start),
+        Err(node) => Err(CheckErr::Refused {
+            rule: Rule::Time,
+            node,
+        }),
+    }
+}
