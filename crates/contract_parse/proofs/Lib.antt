@@ -4,3 +4,5 @@ pub mod EntryFacts
 pub mod NameFacts
 pub mod Steps
 pub mod Parts
+
+pub mod LineFacts

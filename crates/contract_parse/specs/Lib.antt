@@ -9,3 +9,5 @@ pub mod Statements
 pub mod Places
 pub mod Texts
 pub mod Reading
+
+pub mod DeclarationReading
