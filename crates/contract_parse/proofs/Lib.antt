@@ -4,5 +4,4 @@ pub mod EntryFacts
 pub mod NameFacts
 pub mod Steps
 pub mod Parts
-
 pub mod LineFacts

@@ -1,23 +1,22 @@
 -- Lines that may stand here or be absent, and what they add.
-use Rattle.std.proofs.Common.{◌≡◌, ℕ, Bool, true, false, cond, ◌||◌, Option, Some, None, Result, Ok, Err, List, [], ◌∷◌, ◌++◌, refl, sym, ap, ◌∙◌}
+use Rattle.std.proofs.Common.{◌≡◌, Bool, true, false, cond, ◌||◌, Ok, Err, List, [], ◌∷◌, ◌++◌, refl, sym, ap, ◌∙◌}
 use Rattle.std.specs.Prelude.{codes}
 use Rattle.std.specs.Map.{keys_of}
 use Rattle.std.specs.Str.{bytes_eq}
-use Rattle.std.proofs.lemmas.Bool.{cases_Bool, false≢true}
+use Rattle.std.proofs.lemmas.Bool.{false≢true}
 use Rattle.indexmap.specs.IndexMap.{insert_entry}
 use Rattle.contract_parse.specs.Tokens.{Tok}
 use Rattle.contract_parse.specs.Words.{Bytes, is_name, is_the_mark, is_the_word}
 use Rattle.contract_parse.specs.Names.{Scope, is_declared}
 use Rattle.contract_parse.specs.Judgements.{new_at, separator_at}
-use Rattle.contract_parse.specs.Spelling.{◌⨟◌, mark, valued, word}
-use Rattle.contract_parse.specs.Statements.{label_line, range}
+use Rattle.contract_parse.specs.Spelling.{mark, valued, word}
+use Rattle.contract_parse.specs.Statements.{label_line}
 use Rattle.contract_parse.specs.DeclarationReading.{label_range}
 use Rattle.term_core.specs.declared.label.Label.{Label}
 use Rattle.term_core.specs.declared.label.Label.TheVariants as label
 use Rattle.contract_parse.proofs.Parts.{followed_by}
-use Rattle.contract_parse.specs.Places.{Place, Step, Next, LabelLines, flag_places, number_label_places, run, step}
+use Rattle.contract_parse.specs.Places.{Place, Next, LabelLines, flag_places, number_label_places, run, step}
 use Rattle.contract_parse.specs.Reading.{Lacks}
-use Rattle.contract_parse.specs.declared.faults.TextKind.{TextKind}
 use Rattle.contract_parse.specs.declared.faults.TextKind.TheVariants.{Syntax, Twice}
 use Rattle.contract_parse.proofs.Steps.{run-next, run-same}
 

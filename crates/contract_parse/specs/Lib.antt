@@ -9,5 +9,4 @@ pub mod Statements
 pub mod Places
 pub mod Texts
 pub mod Reading
-
 pub mod DeclarationReading

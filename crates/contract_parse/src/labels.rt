@@ -11,7 +11,9 @@ ghost use Rattle.contract_parse.specs.Places.{LabelLines, Leaves, Place, ScaleAt
 ghost use Rattle.contract_parse.specs.declared.names.NameSet.TheVariants.{Label as LabelSet};
 
 use crate::faults::ReadErr;
-use crate::readers::{after_word, read_bound, read_label_scale, read_new_name, skip_mark, skip_word};
+use crate::readers::{
+    after_word, read_bound, read_label_scale, read_new_name, skip_mark, skip_word,
+};
 use indexmap::IndexMap;
 use std::alloc::Global;
 use term_core::{Label, Name};

@@ -1,4 +1,4 @@
-use Rattle.std.proofs.Common.{◌≡◌, ◌∙◌, ◌∷◌, [], List, refl}
+use Rattle.std.proofs.Common.{◌∙◌, ◌∷◌}
 use Rattle.std.specs.Prelude.{codes}
 use Rattle.std.proofs.lemmas.Result.{err_from_is_err_and}
 use Rattle.indexmap.specs.IndexMap.{keys}
@@ -15,11 +15,11 @@ returns-in_err-parties-clause-follows c ps =
     let labels = LabelLines ∷ TemplateLines ∷ ps in
     let names = NameLines (codes "party") Party ∷ NameLines (codes "asset") Asset ∷ labels in
     let before =
-        c.in_ok-rest.ensures.follows nothing_declared (IntegerAt 12 ∷ TheMark (codes ";") ∷ OriginLine ∷ StartLine ∷ names)
-        ∙ c.in_ok-amounts.ensures.follows nothing_declared (TheMark (codes ";") ∷ OriginLine ∷ StartLine ∷ names)
-        ∙ c.in_ok-rest-2.ensures.follows nothing_declared (OriginLine ∷ StartLine ∷ names)
-        ∙ c.in_ok-origin.ensures.follows nothing_declared (StartLine ∷ names)
-        ∙ c.in_ok-start.ensures.follows nothing_declared names in
+    c.in_ok-rest.ensures.follows nothing_declared (IntegerAt 12 ∷ TheMark (codes ";") ∷ OriginLine ∷ StartLine ∷ names)
+    ∙ c.in_ok-amounts.ensures.follows nothing_declared (TheMark (codes ";") ∷ OriginLine ∷ StartLine ∷ names)
+    ∙ c.in_ok-rest-2.ensures.follows nothing_declared (OriginLine ∷ StartLine ∷ names)
+    ∙ c.in_ok-origin.ensures.follows nothing_declared (StartLine ∷ names)
+    ∙ c.in_ok-start.ensures.follows nothing_declared names in
     rw (p.1, p.2, before) (c.in_err-parties.ensures.follows Party nothing_declared (NameLines (codes "asset") Asset ∷ labels))
 
 pub returns-in_err-assets-clause-follows : goal.returns-in_err-assets-clause-follows
@@ -29,12 +29,12 @@ returns-in_err-assets-clause-follows c ps =
     let names = NameLines (codes "party") Party ∷ NameLines (codes "asset") Asset ∷ labels in
     let with_parties = with_names Party c.in_ok-parties.parties.keys nothing_declared in
     let before =
-        c.in_ok-rest.ensures.follows nothing_declared (IntegerAt 12 ∷ TheMark (codes ";") ∷ OriginLine ∷ StartLine ∷ names)
-        ∙ c.in_ok-amounts.ensures.follows nothing_declared (TheMark (codes ";") ∷ OriginLine ∷ StartLine ∷ names)
-        ∙ c.in_ok-rest-2.ensures.follows nothing_declared (OriginLine ∷ StartLine ∷ names)
-        ∙ c.in_ok-origin.ensures.follows nothing_declared (StartLine ∷ names)
-        ∙ c.in_ok-start.ensures.follows nothing_declared names
-        ∙ c.in_ok-parties.ensures.follows Party nothing_declared (NameLines (codes "asset") Asset ∷ labels) in
+    c.in_ok-rest.ensures.follows nothing_declared (IntegerAt 12 ∷ TheMark (codes ";") ∷ OriginLine ∷ StartLine ∷ names)
+    ∙ c.in_ok-amounts.ensures.follows nothing_declared (TheMark (codes ";") ∷ OriginLine ∷ StartLine ∷ names)
+    ∙ c.in_ok-rest-2.ensures.follows nothing_declared (OriginLine ∷ StartLine ∷ names)
+    ∙ c.in_ok-origin.ensures.follows nothing_declared (StartLine ∷ names)
+    ∙ c.in_ok-start.ensures.follows nothing_declared names
+    ∙ c.in_ok-parties.ensures.follows Party nothing_declared (NameLines (codes "asset") Asset ∷ labels) in
     rw (p.1, p.2, before) (c.in_err-assets.ensures.follows Asset with_parties labels)
 
 pub returns-in_err-labels-clause-follows : goal.returns-in_err-labels-clause-follows
@@ -45,13 +45,13 @@ returns-in_err-labels-clause-follows c ps =
     let with_parties = with_names Party c.in_ok-parties.parties.keys nothing_declared in
     let with_assets = with_names Asset c.in_ok-assets.assets.keys with_parties in
     let before =
-        c.in_ok-rest.ensures.follows nothing_declared (IntegerAt 12 ∷ TheMark (codes ";") ∷ OriginLine ∷ StartLine ∷ names)
-        ∙ c.in_ok-amounts.ensures.follows nothing_declared (TheMark (codes ";") ∷ OriginLine ∷ StartLine ∷ names)
-        ∙ c.in_ok-rest-2.ensures.follows nothing_declared (OriginLine ∷ StartLine ∷ names)
-        ∙ c.in_ok-origin.ensures.follows nothing_declared (StartLine ∷ names)
-        ∙ c.in_ok-start.ensures.follows nothing_declared names
-        ∙ c.in_ok-parties.ensures.follows Party nothing_declared (NameLines (codes "asset") Asset ∷ labels)
-        ∙ c.in_ok-assets.ensures.follows Asset with_parties labels in
+    c.in_ok-rest.ensures.follows nothing_declared (IntegerAt 12 ∷ TheMark (codes ";") ∷ OriginLine ∷ StartLine ∷ names)
+    ∙ c.in_ok-amounts.ensures.follows nothing_declared (TheMark (codes ";") ∷ OriginLine ∷ StartLine ∷ names)
+    ∙ c.in_ok-rest-2.ensures.follows nothing_declared (OriginLine ∷ StartLine ∷ names)
+    ∙ c.in_ok-origin.ensures.follows nothing_declared (StartLine ∷ names)
+    ∙ c.in_ok-start.ensures.follows nothing_declared names
+    ∙ c.in_ok-parties.ensures.follows Party nothing_declared (NameLines (codes "asset") Asset ∷ labels)
+    ∙ c.in_ok-assets.ensures.follows Asset with_parties labels in
     rw (p.1, p.2, before) (c.in_err-labels.ensures.follows with_assets (TemplateLines ∷ ps))
 
 pub returns-in_err-templates-clause-follows : goal.returns-in_err-templates-clause-follows
@@ -63,14 +63,14 @@ returns-in_err-templates-clause-follows c ps =
     let with_assets = with_names Asset c.in_ok-assets.assets.keys with_parties in
     let with_labels = with_names LabelSet (keys c.in_ok-labels.labels) with_assets in
     let before =
-        c.in_ok-rest.ensures.follows nothing_declared (IntegerAt 12 ∷ TheMark (codes ";") ∷ OriginLine ∷ StartLine ∷ names)
-        ∙ c.in_ok-amounts.ensures.follows nothing_declared (TheMark (codes ";") ∷ OriginLine ∷ StartLine ∷ names)
-        ∙ c.in_ok-rest-2.ensures.follows nothing_declared (OriginLine ∷ StartLine ∷ names)
-        ∙ c.in_ok-origin.ensures.follows nothing_declared (StartLine ∷ names)
-        ∙ c.in_ok-start.ensures.follows nothing_declared names
-        ∙ c.in_ok-parties.ensures.follows Party nothing_declared (NameLines (codes "asset") Asset ∷ labels)
-        ∙ c.in_ok-assets.ensures.follows Asset with_parties labels
-        ∙ c.in_ok-labels.ensures.follows with_assets (TemplateLines ∷ ps) in
+    c.in_ok-rest.ensures.follows nothing_declared (IntegerAt 12 ∷ TheMark (codes ";") ∷ OriginLine ∷ StartLine ∷ names)
+    ∙ c.in_ok-amounts.ensures.follows nothing_declared (TheMark (codes ";") ∷ OriginLine ∷ StartLine ∷ names)
+    ∙ c.in_ok-rest-2.ensures.follows nothing_declared (OriginLine ∷ StartLine ∷ names)
+    ∙ c.in_ok-origin.ensures.follows nothing_declared (StartLine ∷ names)
+    ∙ c.in_ok-start.ensures.follows nothing_declared names
+    ∙ c.in_ok-parties.ensures.follows Party nothing_declared (NameLines (codes "asset") Asset ∷ labels)
+    ∙ c.in_ok-assets.ensures.follows Asset with_parties labels
+    ∙ c.in_ok-labels.ensures.follows with_assets (TemplateLines ∷ ps) in
     rw (p.1, p.2, before) (c.in_err-templates.ensures.follows with_labels ps)
 
 pub returns-clause-follows : goal.returns-clause-follows

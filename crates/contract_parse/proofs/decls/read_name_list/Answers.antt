@@ -1,18 +1,11 @@
-use Rattle.std.proofs.Common.{◌≡◌, ◌≤◌, ◌<◌, ◌+◌, ◌∙◌, ◌∷◌, ◌++◌, [], Bool, List, ℕ, length, refl, sym, ap, arith, true, None, Some, inl, inr}
-use Rattle.std.proofs.lemmas.Bool.Decides.{nat_tests}
-use Rattle.std.specs.Prelude.{codes, nat_le}
-use Rattle.std.specs.Map.{keys_of}
+use Rattle.std.proofs.Common.{◌∙◌, ◌∷◌, Bool, ap, arith}
 use Rattle.std.proofs.lemmas.Result.{err_from_is_err_and}
-use Rattle.indexmap.specs.IndexMap.{keys}
 use Rattle.contract_parse.specs.Tokens.{tokens}
-use Rattle.contract_parse.specs.Words.{Bytes}
 use Rattle.contract_parse.specs.Names.{with_names}
-use Rattle.contract_parse.specs.Places.{IntegerAt, list_places, MoreNames, NameLines, NewIn, OriginDate, OriginLine, StartLine, TemplateLines, TheMark, run, template_places}
+use Rattle.contract_parse.specs.Places.{list_places, MoreNames, run}
 use Rattle.contract_parse.specs.Statements.{none, more}
-use Rattle.contract_parse.specs.declared.names.NameSet.TheVariants.{Template}
-use Rattle.contract_parse.proofs.EntryFacts.{all_inserted}
 use Rattle.contract_parse.proofs.Parts.{followed_by}
-use Rattle.contract_parse.proofs.LineFacts.{inserted_entry, inserted_names, is_comma, is_semicolon, line_absent, line_opens}
+use Rattle.contract_parse.proofs.LineFacts.{is_comma, is_semicolon}
 use Rattle.contract_parse.proofs.decls.read_name_list.Goals as goal
 
 pub returns-in_err-rest-clause-follows : goal.returns-in_err-rest-clause-follows
@@ -31,14 +24,14 @@ loop-comma-init c = record {
 pub loop-comma-preserved : goal.loop-comma-preserved
 loop-comma-preserved c = record {
   follows = λ set s ps.
-    let here = with_names set c.loop-comma.names.keys s in
-    c.loop-comma.invariant.follows set s ps
-    ∙ c.in_ok-comma.ensures.follows set here ps
-    ∙ ap (λ (comma : Bool). run here (list_places set comma ps) (tokens c.in_ok-comma.after.now)) c.if-not-comma.false
-    ∙ c.in_ok-rest-2.ensures.follows set s (MoreNames set ∷ ps);
+      let here = with_names set c.loop-comma.names.keys s in
+      c.loop-comma.invariant.follows set s ps
+      ∙ c.in_ok-comma.ensures.follows set here ps
+      ∙ ap (λ (comma : Bool). run here (list_places set comma ps) (tokens c.in_ok-comma.after.now)) c.if-not-comma.false
+      ∙ c.in_ok-rest-2.ensures.follows set s (MoreNames set ∷ ps);
   spelled = λ after end x.
-    let comma = is_comma c.in_ok-comma.comma (tokens c.loop-comma.rest.now) (tokens c.in_ok-comma.after.now) c.if-not-comma.false c.in_ok-comma.ensures.spelled in
-    c.loop-comma.invariant.spelled after end (followed_by x.between (more (followed_by (tokens c.in_ok-comma.after.now) comma c.in_ok-rest-2.ensures.spelled) x.one) x.two);
+      let comma = is_comma c.in_ok-comma.comma (tokens c.loop-comma.rest.now) (tokens c.in_ok-comma.after.now) c.if-not-comma.false c.in_ok-comma.ensures.spelled in
+      c.loop-comma.invariant.spelled after end (followed_by x.between (more (followed_by (tokens c.in_ok-comma.after.now) comma c.in_ok-rest-2.ensures.spelled) x.one) x.two);
   few = omega (arith, c.in_ok-rest-2.ensures.few, c.in_ok-comma.ensures.shorter);
   shorter = omega (arith, c.in_ok-rest-2.ensures.shorter, c.in_ok-comma.ensures.shorter);
 }

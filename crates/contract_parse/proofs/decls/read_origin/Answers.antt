@@ -1,18 +1,9 @@
-use Rattle.std.proofs.Common.{◌≡◌, ◌≤◌, ◌<◌, ◌+◌, ◌∙◌, ◌∷◌, ◌++◌, [], List, ℕ, length, refl, sym, ap, arith, true, None, Some, inl, inr}
-use Rattle.std.proofs.lemmas.Bool.Decides.{nat_tests}
-use Rattle.std.specs.Prelude.{codes, nat_le}
-use Rattle.std.specs.Map.{keys_of}
+use Rattle.std.proofs.Common.{◌∙◌, ◌∷◌, refl}
+use Rattle.std.specs.Prelude.{codes}
 use Rattle.std.proofs.lemmas.Result.{err_from_is_err_and}
-use Rattle.indexmap.specs.IndexMap.{keys}
 use Rattle.contract_parse.specs.Tokens.{tokens}
-use Rattle.contract_parse.specs.Words.{Bytes}
-use Rattle.contract_parse.specs.Names.{with_names}
-use Rattle.contract_parse.specs.Places.{IntegerAt, MoreNames, NameLines, NewIn, OriginDate, OriginLine, StartLine, TemplateLines, TheMark, run, template_places}
-use Rattle.contract_parse.specs.Statements.{none, more}
-use Rattle.contract_parse.specs.declared.names.NameSet.TheVariants.{Template}
-use Rattle.contract_parse.proofs.EntryFacts.{all_inserted}
-use Rattle.contract_parse.proofs.Parts.{followed_by}
-use Rattle.contract_parse.proofs.LineFacts.{inserted_entry, inserted_names, is_comma, is_semicolon, line_absent, line_opens}
+use Rattle.contract_parse.specs.Places.{OriginDate, OriginLine, TheMark}
+use Rattle.contract_parse.proofs.LineFacts.{line_absent, line_opens}
 use Rattle.contract_parse.proofs.decls.read_origin.Goals as goal
 
 pub returns-in_err-day-in-Some-clause-follows : goal.returns-in_err-day-in-Some-clause-follows

@@ -1,16 +1,14 @@
-use Rattle.std.proofs.Common.{◌≡◌, ◌≤◌, ◌+◌, ◌∙◌, ◌∷◌, ◌++◌, [], List, ℕ, length, refl, sym, ap, arith, true, None, Some}
+use Rattle.std.proofs.Common.{◌∙◌, ◌∷◌, ◌++◌, [], List, refl, ap}
 use Rattle.std.specs.Prelude.{codes}
 use Rattle.std.specs.Map.{keys_of}
 use Rattle.std.proofs.lemmas.Result.{err_from_is_err_and}
-use Rattle.indexmap.specs.IndexMap.{keys}
 use Rattle.contract_parse.specs.Tokens.{tokens}
 use Rattle.contract_parse.specs.Words.{Bytes}
 use Rattle.contract_parse.specs.Names.{with_names}
-use Rattle.contract_parse.specs.Places.{LabelLines, ScaleAt, TheMark, run}
-use Rattle.contract_parse.specs.Statements.{none, more}
+use Rattle.contract_parse.specs.Places.{TheMark, run}
 use Rattle.contract_parse.specs.declared.names.NameSet.TheVariants.{Label as LabelSet}
 use Rattle.contract_parse.proofs.Parts.{followed_by}
-use Rattle.contract_parse.proofs.LineFacts.{flag_opens, inserted_entry, inserted_names, labels_absent, number_opens, number_spelled}
+use Rattle.contract_parse.proofs.LineFacts.{inserted_entry, inserted_names}
 use Rattle.term_core.specs.Limits.{is_label}
 use Rattle.term_core.specs.declared.label.Label.TheVariants.{Flag}
 use Rattle.contract_parse.proofs.EntryFacts.{all_inserted}
@@ -34,7 +32,7 @@ returns-clause-follows c s ps =
     c.in_ok-name.ensures.follows LabelSet s (TheMark (codes ";") ∷ ps)
     ∙ c.in_ok-rest.ensures.follows (with_names LabelSet (keys_of c.args.labels.now.entries ++ c.in_ok-name.name ∷ []) s) ps
     ∙ ap (λ (names : List Bytes). run (with_names LabelSet names s) ps (tokens c.in_ok-rest.rest.now))
-      (inserted_names c.args.labels.now.entries c.insert.new.self.entries c.in_ok-name.name Flag (tokens c.args.rest.now) (tokens c.in_ok-name.rest.now) c.in_ok-insert.ensures.entries c.in_ok-name.ensures.spelled)
+    (inserted_names c.args.labels.now.entries c.insert.new.self.entries c.in_ok-name.name Flag (tokens c.args.rest.now) (tokens c.in_ok-name.rest.now) c.in_ok-insert.ensures.entries c.in_ok-name.ensures.spelled)
 
 pub returns-clause-spelled : goal.returns-clause-spelled
 returns-clause-spelled c ts w = record {
