@@ -16,3 +16,4 @@ pub mod OneText
 pub mod Weights
 pub mod TextSizes
 pub mod SampleText
+pub mod LineFacts

@@ -12,3 +12,4 @@ pub mod Reading
 pub mod Laws
 pub mod Payments
 pub mod Sample
+pub mod DeclarationReading
