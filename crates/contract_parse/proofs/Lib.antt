@@ -17,3 +17,5 @@ pub mod Weights
 pub mod TextSizes
 pub mod SampleText
 pub mod LineFacts
+pub mod ContractFacts
+pub mod InfixFacts

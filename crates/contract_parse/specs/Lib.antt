@@ -13,3 +13,4 @@ pub mod Laws
 pub mod Payments
 pub mod Sample
 pub mod DeclarationReading
+pub mod ContractReading
