@@ -19,3 +19,4 @@ pub mod SampleText
 pub mod LineFacts
 pub mod ContractFacts
 pub mod InfixFacts
+pub mod FaultFacts
