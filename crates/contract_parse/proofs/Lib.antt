@@ -16,3 +16,7 @@ pub mod OneText
 pub mod Weights
 pub mod TextSizes
 pub mod SampleText
+pub mod LineFacts
+pub mod ContractFacts
+pub mod InfixFacts
+pub mod FaultFacts

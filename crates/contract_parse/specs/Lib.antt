@@ -12,3 +12,5 @@ pub mod Reading
 pub mod Laws
 pub mod Payments
 pub mod Sample
+pub mod DeclarationReading
+pub mod ContractReading

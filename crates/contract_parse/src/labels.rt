@@ -1,16 +1,27 @@
 //! Declarations of labels.
-ghost use Rattle.std.specs.Prelude.{◌≡◌, ◌≤◌, ◌<◌, ◌+◌, IfOk, length, true};
-ghost use Rattle.indexmap.specs.IndexMap.{index_map_len};
+ghost use Rattle.std.specs.Prelude.{◌≡◌, ◌≤◌, ◌<◌, ◌+◌, ◌∷◌, [], List, IfOk, codes, length, true};
+ghost use Rattle.indexmap.specs.IndexMap.{index_map_len, keys};
 ghost use Rattle.term_core.specs.Limits.{are_labels, is_label};
+ghost use Rattle.contract_parse.specs.Tokens.{Tok, tokens};
+ghost use Rattle.contract_parse.specs.Names.{Scope, with_names};
+ghost use Rattle.contract_parse.specs.Spelling.{word};
+ghost use Rattle.contract_parse.specs.Statements.{Entry, Repeat, label_line};
+ghost use Rattle.contract_parse.specs.DeclarationReading.{label_range};
+ghost use Rattle.contract_parse.specs.Places.{LabelLines, Leaves, Place, ScaleAt, TheMark, flag_places, number_label_places, run};
+ghost use Rattle.contract_parse.specs.declared.names.NameSet.TheVariants.{Label as LabelSet};
 
 use crate::faults::ReadErr;
-use crate::readers::{after_word, read_bound, read_label_scale, read_new_name, skip_mark, skip_word};
+use crate::readers::{
+    after_word, read_bound, read_label_scale, read_new_name, skip_mark, skip_word,
+};
 use indexmap::IndexMap;
 use std::alloc::Global;
 use term_core::{Label, Name};
 
 // What stands behind the name of a number label.
 fn read_range(rest: &[u8]) -> Result<(Label, &[u8]), ReadErr>
+    ensures follows { (s : Scope) (ps : List Place) → Leaves (λ r. run s ps (tokens r.1.now)) result (run s (TheMark (codes ":") ∷ ScaleAt ∷ ps) (tokens rest.now)) }
+    ensures spelled { IfOk result (λ r. label_range r.0 (tokens rest.now) (tokens r.1.now)) }
     ensures shorter { IfOk result (λ r. length r.1.now < length rest.now) }
     ensures limits { IfOk result (λ r. is_label r.0 ≡ true) }
 {
@@ -30,6 +41,8 @@ fn read_number_label<'a>(
     rest: &'a [u8],
 ) -> Result<&'a [u8], ReadErr>
     requires { are_labels labels.old.entries ≡ true }
+    ensures follows { (s : Scope) (ps : List Place) → Leaves (λ r. run (with_names LabelSet (keys labels.new) s) ps (tokens r.now)) result (run (with_names LabelSet (keys labels.old) s) (number_label_places ps) (tokens rest.now)) }
+    ensures spelled { IfOk result (λ r. (ts : List Tok) → word (codes "num") ts (tokens rest.now) → Entry label_line labels.old.entries labels.new.entries ts (tokens r.now)) }
     ensures shorter { IfOk result (λ r. length r.now < length rest.now) }
     ensures few { IfOk result (λ r. index_map_len labels.new + length r.now ≤ index_map_len labels.old + length rest.now) }
     ensures limits { IfOk result (λ r. are_labels labels.new.entries ≡ true) }
@@ -48,6 +61,8 @@ fn read_flag<'a>(
     rest: &'a [u8],
 ) -> Result<&'a [u8], ReadErr>
     requires { are_labels labels.old.entries ≡ true }
+    ensures follows { (s : Scope) (ps : List Place) → Leaves (λ r. run (with_names LabelSet (keys labels.new) s) ps (tokens r.now)) result (run (with_names LabelSet (keys labels.old) s) (flag_places ps) (tokens rest.now)) }
+    ensures spelled { IfOk result (λ r. (ts : List Tok) → word (codes "flag") ts (tokens rest.now) → Entry label_line labels.old.entries labels.new.entries ts (tokens r.now)) }
     ensures shorter { IfOk result (λ r. length r.now < length rest.now) }
     ensures few { IfOk result (λ r. index_map_len labels.new + length r.now ≤ index_map_len labels.old + length rest.now) }
     ensures limits { IfOk result (λ r. are_labels labels.new.entries ≡ true) }
@@ -63,6 +78,8 @@ pub fn read_labels<'a>(
     alloc: Global,
     rest: &'a [u8],
 ) -> Result<(IndexMap<Name, Label>, &'a [u8]), ReadErr>
+    ensures follows { (s : Scope) (ps : List Place) → Leaves (λ r. run (with_names LabelSet (keys r.0) s) ps (tokens r.1.now)) result (run (with_names LabelSet [] s) (LabelLines ∷ ps) (tokens rest.now)) }
+    ensures spelled { IfOk result (λ r. Repeat (Entry label_line) [] r.0.entries (tokens rest.now) (tokens r.1.now)) }
     ensures few { IfOk result (λ r. index_map_len r.0 + length r.1.now ≤ length rest.now) }
     ensures limits { IfOk result (λ r. are_labels r.0.entries ≡ true) }
 {

@@ -1,5 +1,17 @@
 //! Portfolios from texts.
-ghost use Rattle.std.specs.Prelude.{◌≡◌, ◌≤◌, ◌<◌, ◌-◌, IfOk, IfSome, length};
+ghost use Rattle.std.specs.Prelude.{◌≡◌, ◌≤◌, ◌<◌, ◌-◌, ◌∷◌, [], List, IfNone, IfOk, IfSome, codes, length};
+ghost use Rattle.std.specs.Str.{IsUtf8, IsValidUpTo};
+ghost use Rattle.indexmap.specs.IndexMap.{keys};
+ghost use Rattle.term_core.specs.Books.{book};
+ghost use Rattle.contract_parse.specs.Tokens.{Tok, tokens};
+ghost use Rattle.contract_parse.specs.Lines.{column_at, line_at};
+ghost use Rattle.contract_parse.specs.Names.{nothing_declared};
+ghost use Rattle.contract_parse.specs.Spelling.{word};
+ghost use Rattle.contract_parse.specs.Statements.{Entry, Repeat, contract_line, portfolio};
+ghost use Rattle.contract_parse.specs.Places.{ContractLines, Leaves, Open, Place, contract_places, run, text_places};
+ghost use Rattle.contract_parse.specs.Reading.{scope_in};
+ghost use Rattle.contract_parse.specs.ContractReading.{trees};
+ghost use Rattle.contract_parse.specs.Texts.{Answers};
 
 use crate::contrs::read_contr;
 use crate::decls::read_decls;
@@ -19,6 +31,8 @@ fn read_contract<'a>(
     contracts: &mut IndexMap<Name, Contr>,
     rest: &'a [u8],
 ) -> Result<&'a [u8], ReadErr>
+    ensures follows { (ps : List Place) → Leaves (λ r. run (scope_in decls.now (keys contracts.new)) ps (tokens r.now)) result (run (scope_in decls.now (keys contracts.old)) (contract_places ps) (tokens rest.now)) }
+    ensures spelled { IfOk result (λ r. (ts : List Tok) → word (codes "contract") ts (tokens rest.now) → Entry (contract_line (scope_in decls.now [])) (trees contracts.old.entries) (trees contracts.new.entries) ts (tokens r.now)) }
     ensures shorter { IfOk result (λ r. length r.now < length rest.now) }
 {
     let (name, rest) = read_new_name(alloc, contracts, rest)?;
@@ -33,7 +47,10 @@ fn read_contracts<'a>(
     alloc: Global,
     decls: &Decls,
     rest: &'a [u8],
-) -> Result<(IndexMap<Name, Contr>, &'a [u8]), ReadErr> {
+) -> Result<(IndexMap<Name, Contr>, &'a [u8]), ReadErr>
+    ensures follows { (ps : List Place) → Leaves (λ r. run (scope_in decls.now (keys r.0)) ps (tokens r.1.now)) result (run (scope_in decls.now []) (ContractLines ∷ ps) (tokens rest.now)) }
+    ensures spelled { IfOk result (λ r. Repeat (Entry (contract_line (scope_in decls.now []))) [] (trees r.0.entries) (tokens rest.now) (tokens r.1.now)) }
+{
     let mut contracts = IndexMap::new(alloc);
     let mut rest = rest;
     while let Some(after) = after_word(rest, b"contract") {
@@ -44,6 +61,8 @@ fn read_contracts<'a>(
 
 fn read_portfolio(alloc: Global, bytes: &[u8]) -> Result<Portfolio, ReadErr>
     requires { length bytes.now ≤ 16_777_216 }
+    ensures follows { Leaves (λ r. Open []) result (run nothing_declared text_places (tokens bytes.now)) }
+    ensures spelled { IfOk result (λ r. portfolio (book r) (tokens bytes.now) []) }
 {
     let rest = skip_word(bytes, b"portfolio")?;
     let rest = skip_version(rest)?;
@@ -58,6 +77,7 @@ fn read_portfolio(alloc: Global, bytes: &[u8]) -> Result<Portfolio, ReadErr>
 fn fault_at(bytes: &[u8], kind: TextKind, at: usize) -> TextFault
     requires within { at ≤ length bytes.now }
     requires small { length bytes.now ≤ 16_777_216 }
+    ensures { result ≡ record { kind = kind; line = line_at bytes.now at; column = column_at bytes.now at } }
 {
     TextFault {
         kind,
@@ -68,6 +88,8 @@ fn fault_at(bytes: &[u8], kind: TextKind, at: usize) -> TextFault
 
 // The place of the first byte after the longest prefix that is UTF-8, if that is not the whole text.
 fn first_bad_byte(bytes: &[u8]) -> Option<usize>
+    ensures good { IfNone result (IsUtf8 bytes.now) }
+    ensures bad { IfSome result (λ at. (IsUtf8 bytes.now → ⊥) × IsValidUpTo bytes.now at) }
     ensures within { IfSome result (λ at. at ≤ length bytes.now) }
 {
     match str::from_utf8(bytes) {
@@ -79,6 +101,7 @@ fn first_bad_byte(bytes: &[u8]) -> Option<usize>
 /// The portfolio of a text, or the first fault of a text that has none.
 pub fn parse_portfolio(alloc: Global, bytes: &[u8]) -> Result<Portfolio, ParseErr>
     requires { length bytes.now ≤ 16_777_216 }
+    ensures { Answers bytes.now result }
 {
     if let Some(at) = first_bad_byte(bytes) {
         return Err(ParseErr::Text(fault_at(bytes, TextKind::Utf8, at)));

@@ -1,10 +1,18 @@
-use Rattle.std.proofs.Common.{◌≡◌, ◌≤◌, ◌+◌, length, true}
-use Rattle.indexmap.specs.IndexMap.{index_map_len}
+use Rattle.std.proofs.Common.{◌≡◌, ◌≤◌, ◌+◌, ◌∷◌, [], ℕ, List, length, true}
+use Rattle.indexmap.specs.IndexMap.{index_map_len, keys}
 use Rattle.term_core.specs.Limits.{are_numbers}
+use Rattle.contract_parse.specs.Tokens.{Tok, tokens}
+use Rattle.contract_parse.specs.Words.{Bytes}
+use Rattle.contract_parse.specs.Names.{Scope, with_names}
+use Rattle.contract_parse.specs.Statements.{Entry, Repeat, template_line}
+use Rattle.contract_parse.specs.Places.{Place, TemplateLines, run}
+use Rattle.contract_parse.specs.declared.names.NameSet.TheVariants.{Template}
 use Rattle.contract_parse.proofs.decls.read_templates.Given as goal
 
 abbrev pub invariant-loop-after : goal.invariant-loop-after
 invariant-loop-after l = record {
+  follows : (s : Scope) (ps : List Place) → run (with_names Template [] s) (TemplateLines ∷ ps) (tokens l.fn.rest) ≡ run (with_names Template (keys l.templates) s) (TemplateLines ∷ ps) (tokens l.rest);
+  spelled : (after : List (Bytes × ℕ)) (end : List Tok) → Repeat (Entry template_line) l.templates.entries after (tokens l.rest) end → Repeat (Entry template_line) [] after (tokens l.fn.rest) end;
   few : index_map_len l.templates + length l.rest ≤ length l.fn.rest;
   limits : are_numbers l.templates.entries ≡ true;
 }

@@ -1,10 +1,19 @@
-use Rattle.std.proofs.Common.{◌≡◌, ◌≤◌, ◌+◌, length, true}
-use Rattle.indexmap.specs.IndexMap.{index_map_len}
+use Rattle.std.proofs.Common.{◌≡◌, ◌≤◌, ◌+◌, ◌∷◌, [], List, length, true}
+use Rattle.indexmap.specs.IndexMap.{index_map_len, keys}
 use Rattle.term_core.specs.Limits.{are_labels}
+use Rattle.term_core.specs.declared.label.Label.{Label}
+use Rattle.contract_parse.specs.Tokens.{Tok, tokens}
+use Rattle.contract_parse.specs.Words.{Bytes}
+use Rattle.contract_parse.specs.Names.{Scope, with_names}
+use Rattle.contract_parse.specs.Statements.{Entry, Repeat, label_line}
+use Rattle.contract_parse.specs.Places.{LabelLines, Place, run}
+use Rattle.contract_parse.specs.declared.names.NameSet.TheVariants.{Label as LabelSet}
 use Rattle.contract_parse.proofs.labels.read_labels.Given as goal
 
 abbrev pub invariant-loop-after : goal.invariant-loop-after
 invariant-loop-after l = record {
+  follows : (s : Scope) (ps : List Place) → run (with_names LabelSet [] s) (LabelLines ∷ ps) (tokens l.fn.rest) ≡ run (with_names LabelSet (keys l.labels) s) (LabelLines ∷ ps) (tokens l.rest);
+  spelled : (after : List (Bytes × Label)) (end : List Tok) → Repeat (Entry label_line) l.labels.entries after (tokens l.rest) end → Repeat (Entry label_line) [] after (tokens l.fn.rest) end;
   few : index_map_len l.labels + length l.rest ≤ length l.fn.rest;
   limits : are_labels l.labels.entries ≡ true;
 }

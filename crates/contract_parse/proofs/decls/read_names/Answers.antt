@@ -1,0 +1,39 @@
+use Rattle.std.proofs.Common.{◌∙◌, ◌∷◌, refl, arith}
+use Rattle.std.proofs.lemmas.Result.{err_from_is_err_and}
+use Rattle.contract_parse.specs.Tokens.{tokens}
+use Rattle.contract_parse.specs.Names.{with_names}
+use Rattle.contract_parse.specs.Places.{MoreNames, NameLines, NewIn}
+use Rattle.contract_parse.specs.Statements.{none, more}
+use Rattle.contract_parse.proofs.Parts.{followed_by}
+use Rattle.contract_parse.proofs.LineFacts.{line_absent, line_opens}
+use Rattle.contract_parse.proofs.decls.read_names.Goals as goal
+
+pub returns-in_err-rest-clause-follows : goal.returns-in_err-rest-clause-follows
+returns-in_err-rest-clause-follows c set s ps =
+    let p = err_from_is_err_and c.from_residual.result c.from_residual.ensures.1 in
+    let here = with_names set c.loop-after.names.keys s in
+    let lines = NameLines c.args.word.now set ∷ ps in
+    let before =
+    c.loop-after.invariant.follows set s ps
+    ∙ line_opens here c.args.word.now lines (NewIn set ∷ MoreNames set ∷ lines) ps (λ t. refl) (tokens c.loop-after.rest.now) (tokens c.in-Some.after.now) c.in-Some.ensures.found in
+    rw (p.1, p.2, before) (c.in_err-rest.ensures.follows set s lines)
+
+pub loop-after-preserved : goal.loop-after-preserved
+loop-after-preserved c = record {
+  follows = λ set s ps.
+      let lines = NameLines c.args.word.now set ∷ ps in
+      c.loop-after.invariant.follows set s ps
+      ∙ line_opens (with_names set c.loop-after.names.keys s) c.args.word.now lines (NewIn set ∷ MoreNames set ∷ lines) ps (λ t. refl) (tokens c.loop-after.rest.now) (tokens c.in-Some.after.now) c.in-Some.ensures.found
+      ∙ c.in_ok-rest.ensures.follows set s lines;
+  spelled = λ after end x. c.loop-after.invariant.spelled after end (more (followed_by (tokens c.in-Some.after.now) c.in-Some.ensures.found c.in_ok-rest.ensures.spelled) x);
+  few = omega (arith, c.in_ok-rest.ensures.few, c.in-Some.ensures.shorter);
+}
+
+pub returns-clause-follows : goal.returns-clause-follows
+returns-clause-follows c set s ps =
+    let lines = NameLines c.args.word.now set ∷ ps in
+    c.loop-after.invariant.follows set s ps
+    ∙ line_absent (with_names set c.loop-after.names.keys s) c.args.word.now lines (NewIn set ∷ MoreNames set ∷ lines) ps (λ t. refl) (tokens c.loop-after.rest.now) c.in_default.ensures.lacks
+
+pub returns-clause-spelled : goal.returns-clause-spelled
+returns-clause-spelled c = c.loop-after.invariant.spelled c.loop-after.names.keys (tokens c.loop-after.rest.now) none

@@ -1,0 +1,53 @@
+use Rattle.std.proofs.Common.{◌∙◌, ◌∷◌, arith}
+use Rattle.std.proofs.lemmas.Result.{err_from_is_err_and}
+use Rattle.indexmap.specs.IndexMap.{keys}
+use Rattle.contract_parse.specs.Tokens.{tokens}
+use Rattle.contract_parse.specs.Names.{with_names}
+use Rattle.contract_parse.specs.Places.{LabelLines}
+use Rattle.contract_parse.specs.Statements.{none, more}
+use Rattle.contract_parse.specs.declared.names.NameSet.TheVariants.{Label as LabelSet}
+use Rattle.contract_parse.proofs.LineFacts.{flag_opens, labels_absent, number_opens}
+use Rattle.contract_parse.proofs.labels.read_labels.Goals as goal
+
+pub returns-in_err-rest-clause-follows : goal.returns-in_err-rest-clause-follows
+returns-in_err-rest-clause-follows c s ps =
+    let p = err_from_is_err_and c.from_residual.result c.from_residual.ensures.1 in
+    let here = with_names LabelSet (keys c.loop-after.labels) s in
+    let before = c.loop-after.invariant.follows s ps ∙ number_opens here ps (tokens c.loop-after.rest.now) (tokens c.in-Some.after.now) c.in-Some.ensures.found in
+    rw (p.1, p.2, before) (c.in_err-rest.ensures.follows s (LabelLines ∷ ps))
+
+pub loop-after-preserved-in-Some : goal.loop-after-preserved-in-Some
+loop-after-preserved-in-Some c = record {
+  follows = λ s ps.
+      c.loop-after.invariant.follows s ps
+      ∙ number_opens (with_names LabelSet (keys c.loop-after.labels) s) ps (tokens c.loop-after.rest.now) (tokens c.in-Some.after.now) c.in-Some.ensures.found
+      ∙ c.in_ok-rest.ensures.follows s (LabelLines ∷ ps);
+  spelled = λ after end x. c.loop-after.invariant.spelled after end (more (c.in_ok-rest.ensures.spelled (tokens c.loop-after.rest.now) c.in-Some.ensures.found) x);
+  few = omega (arith, c.in_ok-rest.ensures.few, c.in-Some.ensures.shorter);
+  limits = c.in_ok-rest.ensures.limits;
+}
+
+pub returns-in_err-rest-2-clause-follows : goal.returns-in_err-rest-2-clause-follows
+returns-in_err-rest-2-clause-follows c s ps =
+    let p = err_from_is_err_and c.from_residual-in_err-rest-2.result c.from_residual-in_err-rest-2.ensures.1 in
+    let here = with_names LabelSet (keys c.loop-after.labels) s in
+    let before = c.loop-after.invariant.follows s ps ∙ flag_opens here ps (tokens c.loop-after.rest.now) (tokens c.in-Some-after_word.after.now) c.in_default.ensures.lacks c.in-Some-after_word.ensures.found in
+    rw (p.1, p.2, before) (c.in_err-rest-2.ensures.follows s (LabelLines ∷ ps))
+
+pub loop-after-preserved : goal.loop-after-preserved
+loop-after-preserved c = record {
+  follows = λ s ps.
+      c.loop-after.invariant.follows s ps
+      ∙ flag_opens (with_names LabelSet (keys c.loop-after.labels) s) ps (tokens c.loop-after.rest.now) (tokens c.in-Some-after_word.after.now) c.in_default.ensures.lacks c.in-Some-after_word.ensures.found
+      ∙ c.in_ok-rest-2.ensures.follows s (LabelLines ∷ ps);
+  spelled = λ after end x. c.loop-after.invariant.spelled after end (more (c.in_ok-rest-2.ensures.spelled (tokens c.loop-after.rest.now) c.in-Some-after_word.ensures.found) x);
+  few = omega (arith, c.in_ok-rest-2.ensures.few, c.in-Some-after_word.ensures.shorter);
+  limits = c.in_ok-rest-2.ensures.limits;
+}
+
+pub returns-in_default-after_word-clause-follows : goal.returns-in_default-after_word-clause-follows
+returns-in_default-after_word-clause-follows c s ps =
+    c.loop-after.invariant.follows s ps ∙ labels_absent (with_names LabelSet (keys c.loop-after.labels) s) ps (tokens c.loop-after.rest.now) c.in_default.ensures.lacks c.in_default-after_word.ensures.lacks
+
+pub returns-in_default-after_word-clause-spelled : goal.returns-in_default-after_word-clause-spelled
+returns-in_default-after_word-clause-spelled c = c.loop-after.invariant.spelled c.loop-after.labels.entries (tokens c.loop-after.rest.now) none
