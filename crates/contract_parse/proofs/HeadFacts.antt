@@ -65,18 +65,18 @@ module _ (names : List Bytes) (t : Tok) where
   word_begins : (f : First) → Ok f ≡ first_word t → Begins names t f
   word_begins f e =
       choose (is_the_word (codes "true") t) First.True f _ e (λ h. h) (λ e.
-          choose (is_the_word (codes "false") t) First.False f _ e (λ h. h) (λ e.
-          choose (is_the_word (codes "obs") t) First.Obs f _ e (λ h. h) (λ e.
-          choose (is_the_word (codes "neg") t) First.Neg f _ e (λ h. h) (λ e.
-          choose (is_the_word (codes "not") t) First.Not f _ e (λ h. h) (λ e.
-          choose (is_the_word (codes "min") t) First.Min f _ e (λ h. h) (λ e.
-          choose (is_the_word (codes "max") t) First.Max f _ e (λ h. h) (λ e.
-          choose (is_the_word (codes "if") t) First.If f _ e (λ h. h) (λ e.
-          choose (is_the_word (codes "widen") t) First.Widen f _ e (λ h. h) (λ e.
-          choose (is_the_word (codes "round") t) First.Round f _ e (λ h. h) (λ e.
-          choose (is_the_word (codes "div") t) First.Div f _ e (λ h. h) (λ e.
-          choose (is_the_word (codes "acc") t) First.Acc f _ e (λ h. h) (λ e.
-          absurd cc))))))))))))
+      choose (is_the_word (codes "false") t) First.False f _ e (λ h. h) (λ e.
+      choose (is_the_word (codes "obs") t) First.Obs f _ e (λ h. h) (λ e.
+      choose (is_the_word (codes "neg") t) First.Neg f _ e (λ h. h) (λ e.
+      choose (is_the_word (codes "not") t) First.Not f _ e (λ h. h) (λ e.
+      choose (is_the_word (codes "min") t) First.Min f _ e (λ h. h) (λ e.
+      choose (is_the_word (codes "max") t) First.Max f _ e (λ h. h) (λ e.
+      choose (is_the_word (codes "if") t) First.If f _ e (λ h. h) (λ e.
+      choose (is_the_word (codes "widen") t) First.Widen f _ e (λ h. h) (λ e.
+      choose (is_the_word (codes "round") t) First.Round f _ e (λ h. h) (λ e.
+      choose (is_the_word (codes "div") t) First.Div f _ e (λ h. h) (λ e.
+      choose (is_the_word (codes "acc") t) First.Acc f _ e (λ h. h) (λ e.
+      absurd cc))))))))))))
 
   number_begins : (r : Result Decimal TextKind) (f : First) → literal_at false t ≡ r → Ok f ≡ first_number r → Begins names t f
   number_begins (Ok d) f is e = subst (λ g. Begins names t g) (sym (ok_same f (First.Number d) (Ok f) (Ok (First.Number d)) refl refl e)) is
@@ -93,9 +93,9 @@ module _ (names : List Bytes) (t : Tok) where
   of_begins : (f : First) → Ok f ≡ first_of names t → Begins names t f
   of_begins f e =
       either (is_number t) f _ _ e (λ e. number_begins (literal_at false t) f refl e) (λ e.
-          either (is_name t) f _ _ e (λ e. name_begins (variable_at names t) f refl e) (λ e.
-          choose (is_the_mark (codes "-") t) First.Minus f _ e (λ h. h) (λ e.
-          choose (is_the_mark (codes "(") t) First.Open f _ e (λ h. h) (λ e. word_begins f e))))
+      either (is_name t) f _ _ e (λ e. name_begins (variable_at names t) f refl e) (λ e.
+      choose (is_the_mark (codes "-") t) First.Minus f _ e (λ h. h) (λ e.
+      choose (is_the_mark (codes "(") t) First.Open f _ e (λ h. h) (λ e. word_begins f e))))
 
   -- the token that an expression was found to begin with
   pub begins : (d : ℕ) (f : First) → Ok f ≡ first_at d names t → Begins names t f
@@ -123,10 +123,10 @@ module _ (t : Tok) where
       of_head : Ok f ≡ head_of t → Heads t f
       of_head e =
           choose_head (is_the_word (codes "zero") t) Head.Zero f _ e (λ h. h) (λ e.
-              choose_head (is_the_word (codes "pay") t) Head.Pay f _ e (λ h. h) (λ e.
-              choose_head (is_the_word (codes "both") t) Head.Both f _ e (λ h. h) (λ e.
-              choose_head (is_the_word (codes "scale") t) Head.Scale f _ e (λ h. h) (λ e.
-              choose_head (is_the_word (codes "after") t) Head.After f _ e (λ h. h) (λ e.
-              choose_head (is_the_word (codes "let") t) Head.Let f _ e (λ h. h) (λ e.
-              choose_head (is_the_word (codes "if") t) Head.If f _ e (λ h. h) (λ e.
-              absurd cc)))))))
+          choose_head (is_the_word (codes "pay") t) Head.Pay f _ e (λ h. h) (λ e.
+          choose_head (is_the_word (codes "both") t) Head.Both f _ e (λ h. h) (λ e.
+          choose_head (is_the_word (codes "scale") t) Head.Scale f _ e (λ h. h) (λ e.
+          choose_head (is_the_word (codes "after") t) Head.After f _ e (λ h. h) (λ e.
+          choose_head (is_the_word (codes "let") t) Head.Let f _ e (λ h. h) (λ e.
+          choose_head (is_the_word (codes "if") t) Head.If f _ e (λ h. h) (λ e.
+          absurd cc)))))))

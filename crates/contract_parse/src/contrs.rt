@@ -21,11 +21,7 @@ use term_core::{Contr, Decls};
 
 // What stands behind `pay`.
 #[tactic(auto, using(crate::proofs::Parts::followed_by))]
-fn read_pay<'a>(
-    alloc: Global,
-    decls: &Decls,
-    rest: &'a [u8],
-) -> Result<(Contr, &'a [u8]), ReadErr>
+fn read_pay<'a>(alloc: Global, decls: &Decls, rest: &'a [u8]) -> Result<(Contr, &'a [u8]), ReadErr>
     ensures follows { (cs : List Bytes) (depth : ℕ) (names : List Bytes) (ps : List Place) → Leaves (λ r. run (scope_in decls.now cs) ps (tokens r.1.now)) result (run (scope_in decls.now cs) (contr_places (scope_in decls.now cs) depth names Head.Pay ps) (tokens rest.now)) }
     ensures spelled { IfOk result (λ r. (names : List Bytes) (ts : List Tok) → word (codes "pay") ts (tokens rest.now) → contr (scope_in decls.now []) names (contract r.0) ts (tokens r.1.now)) }
     ensures high { IfOk result (λ r. height_of_contract (contract r.0) ≡ 1) }

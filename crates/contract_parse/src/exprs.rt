@@ -15,8 +15,8 @@ use crate::heads::{First, Operator, first_at};
 use crate::judges::refuse;
 use crate::names::Bound;
 use crate::readers::{
-    read_binder, read_integer, read_literal, read_mode, read_offset, read_operator, read_use_of_map,
-    skip_mark,
+    read_binder, read_integer, read_literal, read_mode, read_offset, read_operator,
+    read_use_of_map, skip_mark,
 };
 use crate::words::next;
 use decimal::Decimal;

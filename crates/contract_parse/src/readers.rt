@@ -171,11 +171,7 @@ fn read_bound_number(
 }
 
 /// A bound of a label, at the label's scale and not below the lower bound.
-pub fn read_bound(
-    scale: u8,
-    low: Option<i128>,
-    rest: &[u8],
-) -> Result<(i128, &[u8]), ReadErr>
+pub fn read_bound(scale: u8, low: Option<i128>, rest: &[u8]) -> Result<(i128, &[u8]), ReadErr>
     requires { scale ≤ 18 }
     ensures limits { IfOk result (λ r. IsBound low r.0) }
     ensures follows { (s : Scope) (ps : List Place) → Leaves (λ r. run s (bound_places scale low r.0 ps) (tokens r.1.now)) result (run s (BoundAt scale low ∷ ps) (tokens rest.now)) }

@@ -280,12 +280,15 @@ read_let-returns-clause-follows t c cs ps =
 pub read_let-returns-clause-spelled : goal.read_let-returns-clause-spelled
 read_let-returns-clause-spelled t c ts first =
     rw (c.in_ok-body-2.ensures.ok)
-    (record { name = c.in_ok-name.name.now; spelled = followed_by (tokens c.args.rest.now) first
-    (followed_by (tokens c.in_ok-name.rest.now) c.in_ok-name.ensures.spelled
-    (followed_by (tokens c.in_ok-rest.rest.now) c.in_ok-rest.ensures.spelled
-    (followed_by (tokens c.in_ok-value.rest.now) c.in_ok-value.ensures.spelled
-    (followed_by (tokens c.in_ok-rest-2.rest.now) c.in_ok-rest-2.ensures.spelled
-    (c.in_ok-body.ensures.spelled))))) })
+    (record {
+      name = c.in_ok-name.name.now;
+      spelled = followed_by (tokens c.args.rest.now) first
+          (followed_by (tokens c.in_ok-name.rest.now) c.in_ok-name.ensures.spelled
+          (followed_by (tokens c.in_ok-rest.rest.now) c.in_ok-rest.ensures.spelled
+          (followed_by (tokens c.in_ok-value.rest.now) c.in_ok-value.ensures.spelled
+          (followed_by (tokens c.in_ok-rest-2.rest.now) c.in_ok-rest-2.ensures.spelled
+          (c.in_ok-body.ensures.spelled)))));
+    })
 
 pub read_within-returns-in_err-test-clause-follows : goal.read_within-returns-in_err-test-clause-follows
 read_within-returns-in_err-test-clause-follows t c cs ps =

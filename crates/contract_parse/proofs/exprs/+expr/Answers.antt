@@ -689,13 +689,16 @@ read_acc-returns-clause-follows t c cs ps =
 pub read_acc-returns-clause-spelled : goal.read_acc-returns-clause-spelled
 read_acc-returns-clause-spelled t c ts first =
     rw (c.in_ok-body-2.ensures.ok, c.in_ok-first-2.ensures.ok)
-    (record { name = c.in_ok-name.name.now; spelled = followed_by (tokens c.args.rest.now) first
-    (followed_by (tokens c.in_ok-rest.rest.now) c.in_ok-rest.ensures.spelled
-    (followed_by (tokens c.in_ok-name.rest.now) c.in_ok-name.ensures.spelled
-    (followed_by (tokens c.in_ok-rest-2.rest.now) c.in_ok-rest-2.ensures.spelled
-    (followed_by (tokens c.in_ok-body.rest.now) c.in_ok-body.ensures.spelled
-    (followed_by (tokens c.in_ok-rest-3.rest.now) c.in_ok-rest-3.ensures.spelled
-    (followed_by (tokens c.in_ok-days.rest.now) c.in_ok-days.ensures.spelled
-    (followed_by (tokens c.in_ok-rest-4.rest.now) c.in_ok-rest-4.ensures.spelled
-    (followed_by (tokens c.in_ok-first.rest.now) c.in_ok-first.ensures.spelled
-    (c.in_ok-rest-5.ensures.spelled))))))))) })
+    (record {
+      name = c.in_ok-name.name.now;
+      spelled = followed_by (tokens c.args.rest.now) first
+          (followed_by (tokens c.in_ok-rest.rest.now) c.in_ok-rest.ensures.spelled
+          (followed_by (tokens c.in_ok-name.rest.now) c.in_ok-name.ensures.spelled
+          (followed_by (tokens c.in_ok-rest-2.rest.now) c.in_ok-rest-2.ensures.spelled
+          (followed_by (tokens c.in_ok-body.rest.now) c.in_ok-body.ensures.spelled
+          (followed_by (tokens c.in_ok-rest-3.rest.now) c.in_ok-rest-3.ensures.spelled
+          (followed_by (tokens c.in_ok-days.rest.now) c.in_ok-days.ensures.spelled
+          (followed_by (tokens c.in_ok-rest-4.rest.now) c.in_ok-rest-4.ensures.spelled
+          (followed_by (tokens c.in_ok-first.rest.now) c.in_ok-first.ensures.spelled
+          (c.in_ok-rest-5.ensures.spelled)))))))));
+    })
