@@ -16,10 +16,12 @@ mod numbers;
 mod portfolio;
 mod readers;
 mod token;
+mod tokens;
 mod words;
 
 pub use faults::{ParseErr, TextFault, TextKind};
 pub use portfolio::parse_portfolio;
+pub use tokens::{Token, TokenKind};
 
 #[cfg(test)]
 mod tests;
