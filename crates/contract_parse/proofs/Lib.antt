@@ -15,6 +15,7 @@ pub mod OneTerm
 pub mod OneText
 pub mod Weights
 pub mod TextSizes
+pub mod TextClosed
 pub mod SampleText
 pub mod LineFacts
 pub mod ContractFacts

@@ -141,14 +141,14 @@ decls_weigh d ts rest x =
     record { parties = omega arith; assets = omega arith; labels = omega arith; templates = omega arith }
 
 -- the lines of contracts in a text, with the bytes before and behind
-record ContractLines (bytes : List ℕ) (b : Book) : Type 0 where
-  before : List Tok
-  behind : List Tok
-  spelled : Repeat (Entry (contract_line (scope_of b.declarations []))) [] b.contracts before behind
+pub record ContractLines (bytes : List ℕ) (b : Book) : Type 0 where
+  pub before : List Tok
+  pub behind : List Tok
+  pub spelled : Repeat (Entry (contract_line (scope_of b.declarations []))) [] b.contracts before behind
   light : weight before ≤ length bytes
   names : NamesFit bytes b.declarations
 
-contract_lines : (bytes : List ℕ) (b : Book) → Text bytes b → ContractLines bytes b
+pub contract_lines : (bytes : List ℕ) (b : Book) → Text bytes b → ContractLines bytes b
 contract_lines bytes b text =
     let x = text.spelled in
     let y = x.two.two.two in

@@ -1,11 +1,12 @@
 -- Laws over the definitions of texts: what is spelled is taken by the places, so that a text has no fault; a text has
--- one reading; and what a text holds is bounded by its length.
+-- one reading; what a text holds is bounded by its length; and its contracts are closed.
 use Rattle.std.specs.Prelude.{◌≡◌, ℕ, ◌+◌, ◌*◌, ◌≤◌, ◌<◌, ◌||◌, true, List, [], ◌∷◌, All, codes, length}
 use Rattle.std.specs.List.{sum_by}
 use Rattle.term_core.specs.Terms.{Expression, Contract}
 use Rattle.term_core.specs.Sizes.{height, height_of_contract, nodes_of_contract}
 use Rattle.term_core.specs.Declarations.{Declarations}
 use Rattle.term_core.specs.Books.{Book}
+use Rattle.term_core.specs.WellFormed.{IsClosed}
 use Rattle.contract_parse.specs.Tokens.{Tok, tokens}
 use Rattle.contract_parse.specs.Words.{Bytes, is_the_word, is_end}
 use Rattle.contract_parse.specs.Names.{Scope, nothing_declared, scope_of}
@@ -58,6 +59,11 @@ pub record NamesFit (bytes : List ℕ) (d : Declarations) : Type 0 where
 
 abbrev pub NamesFitText : Type 0
 NamesFitText = (bytes : List ℕ) (b : Book) → Text bytes b → NamesFit bytes b.declarations
+
+-- a contract of a text names only what is declared or bound round it, and at most 200 terms are open at one place
+abbrev pub ContractsAreClosed : Type 0
+ContractsAreClosed =
+    (bytes : List ℕ) (b : Book) → Text bytes b → All (λ entry. IsClosed b.declarations entry.1 × (height_of_contract entry.1 ≤ 200)) b.contracts
 
 -- `pay(E,A,B)` takes 10 bytes, and each further payment a `both(`, `,` and `)` or more
 abbrev pub PaymentsFitText : Type 0

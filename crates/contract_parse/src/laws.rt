@@ -1,5 +1,5 @@
 //! Laws over the definitions of texts: each function's contract is the law.
-ghost use Rattle.contract_parse.specs.Laws.{ContractIsTaken, ContractsFitText, DeclarationsAreTaken, ExpressionIsTaken, NamesFitText, NodesFitText, OneReading, PaymentsAreBounded, PaymentsFitText, SampleIsText, TextHasNoFault, TextIsTaken};
+ghost use Rattle.contract_parse.specs.Laws.{ContractIsTaken, ContractsAreClosed, ContractsFitText, DeclarationsAreTaken, ExpressionIsTaken, NamesFitText, NodesFitText, OneReading, PaymentsAreBounded, PaymentsFitText, SampleIsText, TextHasNoFault, TextIsTaken};
 
 /// What is spelled as an expression is taken at a place of an expression.
 pub fn expression_is_taken()
@@ -39,6 +39,11 @@ pub fn contracts_fit_text()
 /// The contracts of a text have together at most as many nodes as the text has bytes.
 pub fn nodes_fit_text()
     ensures { NodesFitText }
+{}
+
+/// A contract of a text names only what is declared or bound round it, and at most 200 terms are open at one place.
+pub fn contracts_are_closed()
+    ensures { ContractsAreClosed }
 {}
 
 /// Each set of names that a text declares has at most as many names as the text has bytes.
