@@ -1,0 +1,5 @@
+pub mod KnownNames
+pub mod KnownValues
+pub mod FirstDays
+pub mod QuietDays
+pub mod CausalFlows

@@ -1,0 +1,6 @@
+//! Which contracts are accepted: all five rules, in their order; and what is said of an accepted contract.
+#![tactic(auto)]
+
+mod laws;
+
+pub use laws::contracts_are_causal;
