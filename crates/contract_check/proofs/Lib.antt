@@ -3,3 +3,4 @@ pub mod KnownValues
 pub mod FirstDays
 pub mod QuietDays
 pub mod CausalFlows
+pub mod HorizonFacts
