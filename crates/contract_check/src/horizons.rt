@@ -2,22 +2,11 @@
 
 ghost use Rattle.std.specs.Prelude.{◌≡◌, ◌+◌, ◌≤◌, ◌<◌, ◌^◌};
 ghost use Rattle.term_core.specs.Terms.{contract};
-ghost use Rattle.term_core.specs.Flows.{count_of};
 ghost use Rattle.term_core.specs.Sizes.{reach};
 ghost use Rattle.term_core.specs.Horizons.{delayed, horizon_of};
 ghost use Rattle.contract_check.specs.Smallness.{MeetsSize};
 
-use term_core::{Contr, Days};
-
-// A count of days; a template has none before it is given one.
-fn count_in(days: Days) -> u32
-    ensures { result ≡ count_of days }
-{
-    match days {
-        Days::Num { days } => days,
-        _ => 0,
-    }
-}
+use term_core::Contr;
 
 // A horizon some days later; what pays nothing pays nothing later either.
 fn delayed_by(days: u32, horizon: u32) -> u32
@@ -38,13 +27,13 @@ fn horizon_in(c: &Contr) -> u32
         Contr::Pay { .. } => 1,
         Contr::Both { left, right } => horizon_in(left).max(horizon_in(right)),
         Contr::Scale { body, .. } | Contr::Let { body, .. } => horizon_in(body),
-        Contr::After { days, body } => delayed_by(count_in(*days), horizon_in(body)),
+        Contr::After { days, body } => delayed_by(days.number(), horizon_in(body)),
         Contr::Within {
             days,
             hit,
             miss,
             ..
-        } => delayed_by(count_in(*days), horizon_in(hit).max(horizon_in(miss))),
+        } => delayed_by(days.number(), horizon_in(hit).max(horizon_in(miss))),
     }
 }
 
