@@ -1,0 +1,6 @@
+pub mod KnownNames
+pub mod KnownValues
+pub mod FirstDays
+pub mod QuietDays
+pub mod CausalFlows
+pub mod HorizonFacts

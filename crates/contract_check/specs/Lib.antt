@@ -1,0 +1,2 @@
+pub mod CausalityLaws
+pub mod Smallness
