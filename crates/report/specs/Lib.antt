@@ -1,0 +1,3 @@
+pub mod Pieces
+pub mod CheckLines
+pub mod FaultLines

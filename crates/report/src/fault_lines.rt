@@ -1,0 +1,85 @@
+//! The lines of faults.
+
+ghost use Rattle.std.specs.Prelude.{◌≡◌, ◌++◌, OnOk, OnErr};
+ghost use Rattle.decimal.specs.Appending.{AppendsPart};
+ghost use Rattle.report.specs.FaultLines.{fault_text, kind_text};
+
+use crate::check_lines::rule_word;
+use crate::pieces::{Piece, append, whole};
+use contract_parse::{TextFault, TextKind};
+use decimal::NoMemory;
+use std::alloc::Global;
+use term_core::{Name, Rule};
+
+/// What keeps a command from its answer. A place is that of a file in the command's form, from 1.
+#[derive(Debug, PartialEq, Eq, Drop)]
+pub enum Fault {
+    /// The words are no command.
+    Usage,
+    /// A file could not be read.
+    Read { place: u8 },
+    /// A file is longer than the limit.
+    TooLong { place: u8 },
+    /// A text is not in its grammar.
+    Text(TextFault),
+    /// A contract that the command uses is not accepted.
+    Refused { name: Name, rule: Rule, node: u32 },
+}
+
+fn kind_word(kind: TextKind) -> &'static [u8]
+    ensures { result.now ≡ kind_text kind }
+{
+    match kind {
+        TextKind::Syntax => b"syntax",
+        TextKind::Number => b"number",
+        TextKind::Date => b"date",
+        TextKind::Deep => b"deep",
+        TextKind::Range => b"range",
+        TextKind::Twice => b"twice",
+        TextKind::Unknown => b"unknown",
+        TextKind::Utf8 => b"utf8",
+    }
+}
+
+/// Appends the line of a fault. Where memory runs out on the way, a front part of that line may stand in `out` already.
+pub fn fault_line(alloc: Global, out: &mut Vec<u8>, fault: &Fault) -> Result<(), NoMemory>
+    ensures ok { OnOk result (out.new.items ≡ out.old.items ++ fault_text fault.now) }
+    ensures err { OnErr result (AppendsPart out.old.items (fault_text fault.now) out.new.items) }
+{
+    let line_feed = Piece::Words { text: b"\n" };
+    match fault {
+        Fault::Usage => append(alloc, out, &[Piece::Words { text: b"fault usage" }, line_feed]),
+        Fault::Read { place } => {
+            let words = Piece::Words { text: b"fault read " };
+            append(alloc, out, &[words, whole(*place as u32), line_feed])
+        }
+        Fault::TooLong { place } => {
+            let words = Piece::Words { text: b"fault too long " };
+            append(alloc, out, &[words, whole(*place as u32), line_feed])
+        }
+        Fault::Text(fault) => {
+            let pieces = [
+                Piece::Words { text: b"fault text " },
+                Piece::Words { text: kind_word(fault.kind) },
+                Piece::Words { text: b" line " },
+                whole(fault.line),
+                Piece::Words { text: b" column " },
+                whole(fault.column),
+                line_feed,
+            ];
+            append(alloc, out, &pieces)
+        }
+        Fault::Refused { name, rule, node } => {
+            let pieces = [
+                Piece::Words { text: b"fault refused " },
+                Piece::Words { text: name.text() },
+                Piece::Words { text: b" " },
+                Piece::Words { text: rule_word(*rule) },
+                Piece::Words { text: b" node " },
+                whole(*node),
+                line_feed,
+            ];
+            append(alloc, out, &pieces)
+        }
+    }
+}
