@@ -4,3 +4,4 @@ pub mod FirstDays
 pub mod QuietDays
 pub mod CausalFlows
 pub mod HorizonFacts
+pub mod CheckFacts

@@ -1,2 +1,4 @@
 pub mod CausalityLaws
 pub mod Smallness
+pub mod Checks
+pub mod CheckLaws
