@@ -6,4 +6,6 @@ pub mod Words
 pub mod Runs
 pub mod Tables
 pub mod FlowsText
+pub mod CheckText
+pub mod Checking
 pub mod RunLaws

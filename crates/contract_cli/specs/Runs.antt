@@ -1,11 +1,19 @@
 -- What a run answers, by its status. Each status has its cause, and the refusals come in this order: usage, a failed
--- read, a file that is too long, a text that is no portfolio, a contract that is not plain, a failed write. Want of
--- memory may come before the first write. A refusal writes nothing.
-use Rattle.std.specs.Prelude.{◌≡◌, ◌≤◌, ◌<◌, ℕ, List, Option, Some, None, IfSome, length, take}
+-- read, a file that is too long, a text that is no portfolio, a contract that is refused, a failed write. Want of memory
+-- may come before the first write. A run makes its whole text first, which for a fault is the fault's line, and then
+-- writes it.
+use Rattle.std.specs.Prelude.{◌≡◌, ◌≤◌, ◌<◌, ℕ, List, [], Option, Some, None, IfSome, length, take}
 use Rattle.std.specs.Io.KnownBytes.{Appends, Keeps}
 use Rattle.edge_io.specs.Counts.{Rose}
+use Rattle.contract_parse.specs.Texts.{IsFault}
+use Rattle.contract_parse.specs.declared.faults.TextFault.{TextFault}
+use Rattle.report.specs.FaultLines.{fault_text}
+use Rattle.report.specs.declared.fault_lines.Fault.TheVariants as fault
 use Rattle.contract_cli.specs.FlowsText.{IsFlowsText, IsNoText, IsNotPlain}
-use Rattle.contract_cli.specs.Words.{file_of}
+use Rattle.contract_cli.specs.CheckText.{IsAllAccepted, IsCheckText, IsSomeRefused}
+use Rattle.contract_cli.specs.Words.{Asked, command_of}
+use Rattle.contract_cli.specs.declared.words.Verb.{Verb}
+use Rattle.contract_cli.specs.declared.words.Verb.TheVariants.{Check, Flows}
 use Rattle.contract_cli.specs.declared.status.Status.{Status}
 use Rattle.contract_cli.specs.declared.status.Status.TheVariants as status
 
@@ -13,92 +21,119 @@ use Rattle.contract_cli.specs.declared.status.Status.TheVariants as status
 abbrev pub longest_file : ℕ
 longest_file = 16_777_216
 
--- what a run sees and leaves of its files, by name, and of its sink
-pub record Edge : Type 0 where
+-- what a run sees of files, by name: their contents, where those are told, and the counts of their faults before and
+-- after it
+pub record FilesSeen : Type 0 where
   pub contents : List ℕ → Option (List ℕ)
   pub faults_before : List ℕ → ℕ
   pub faults_after : List ℕ → ℕ
+
+-- what a run leaves in a sink: the bytes taken, where those are told, and the counts of its faults before and after it
+pub record SinkLeft : Type 0 where
   pub taken_before : Option (List ℕ)
   pub taken_after : Option (List ℕ)
-  pub write_faults_before : ℕ
-  pub write_faults_after : ℕ
+  pub faults_before : ℕ
+  pub faults_after : ℕ
 
--- the words name this file
-abbrev pub Names : List (List ℕ) → List ℕ → Type 0
-Names words file = file_of words ≡ Some file
+pub record Edge : Type 0 where
+  pub files : FilesSeen
+  pub sink : SinkLeft
+
+-- the words ask for this
+abbrev pub Names : List (List ℕ) → Asked → Type 0
+Names words asked = command_of words ≡ Some asked
 
 -- these bytes were read of the file that the words name: its contents, where those are told
-pub record WasRead (words : List (List ℕ)) (edge : Edge) (bytes : List ℕ) : Type 0 where
+pub record WasRead (words : List (List ℕ)) (files : FilesSeen) (verb : Verb) (bytes : List ℕ) : Type 0 where
   pub file : List ℕ
-  pub named : Names words file
-  pub told : IfSome (edge.contents file) (λ all. bytes ≡ all)
+  pub named : Names words (record { verb = verb; file = file })
+  pub told : IfSome (files.contents file) (λ all. bytes ≡ all)
   pub fits : length bytes ≤ longest_file
 
 -- nothing was written
-abbrev pub WritesNothing : Edge → Type 0
-WritesNothing edge = Keeps edge.taken_before edge.taken_after
+abbrev pub WritesNothing : SinkLeft → Type 0
+WritesNothing sink = Keeps sink.taken_before sink.taken_after
 
 -- the whole text was written
-abbrev pub WritesAll : Edge → List ℕ → Type 0
-WritesAll edge text = Appends edge.taken_before edge.taken_after text
+abbrev pub WritesAll : SinkLeft → List ℕ → Type 0
+WritesAll sink text = Appends sink.taken_before sink.taken_after text
 
 -- a write failed, and a proper prefix of the text was written before it
-abbrev pub WritesPart : Edge → List ℕ → Type 0
-WritesPart edge text =
-    Rose edge.write_faults_before edge.write_faults_after × (written : ℕ) × (written < length text) × Appends edge.taken_before edge.taken_after (take written text)
+abbrev pub WritesPart : SinkLeft → List ℕ → Type 0
+WritesPart sink text =
+    Rose sink.faults_before sink.faults_after × (written : ℕ) × (written < length text) × Appends sink.taken_before sink.taken_after (take written text)
 
-pub record UsageCause (words : List (List ℕ)) (edge : Edge) : Type 0 where
-  pub no_form : file_of words ≡ None
-  pub nothing : WritesNothing edge
+-- the words have no form of a command
+pub record UsageCause (words : List (List ℕ)) (text : List ℕ) : Type 0 where
+  pub no_form : command_of words ≡ None
+  pub line : text ≡ fault_text fault.Usage
 
-pub record ReadFaultCause (words : List (List ℕ)) (edge : Edge) : Type 0 where
-  pub file : List ℕ
-  pub named : Names words file
-  pub rose : Rose (edge.faults_before file) (edge.faults_after file)
-  pub nothing : WritesNothing edge
+-- the count of the named file's faults rose
+pub record ReadFaultCause (words : List (List ℕ)) (files : FilesSeen) (text : List ℕ) : Type 0 where
+  pub asked : Asked
+  pub named : Names words asked
+  pub rose : Rose (files.faults_before asked.file) (files.faults_after asked.file)
+  pub line : text ≡ fault_text (fault.Read 1)
 
-pub record TooLongCause (words : List (List ℕ)) (edge : Edge) : Type 0 where
-  pub file : List ℕ
-  pub named : Names words file
-  pub told : IfSome (edge.contents file) (λ all. longest_file < length all)
-  pub nothing : WritesNothing edge
+-- the named file has more bytes than the limit, where its contents are told
+pub record TooLongCause (words : List (List ℕ)) (files : FilesSeen) (text : List ℕ) : Type 0 where
+  pub asked : Asked
+  pub named : Names words asked
+  pub told : IfSome (files.contents asked.file) (λ all. longest_file < length all)
+  pub line : text ≡ fault_text (fault.TooLong 1)
 
-pub record BadTextCause (words : List (List ℕ)) (edge : Edge) : Type 0 where
-  pub bytes : List ℕ
-  pub read : WasRead words edge bytes
+-- the bytes are no portfolio's text, and the text is the line of their first fault
+pub record IsBadText (bytes text : List ℕ) : Type 0 where
+  pub first : TextFault
+  pub is_first : IsFault bytes first
   pub no_text : IsNoText bytes
-  pub nothing : WritesNothing edge
+  pub line : text ≡ fault_text (fault.Text first)
 
-pub record RefusedCause (words : List (List ℕ)) (edge : Edge) : Type 0 where
-  pub bytes : List ℕ
-  pub read : WasRead words edge bytes
-  pub not_plain : IsNotPlain bytes
-  pub nothing : WritesNothing edge
+-- some contract is refused: `check` says of each contract whether it is, and `flows`, which takes plain contracts
+-- alone, says nothing
+abbrev pub IsRefusedText : Verb → List ℕ → List ℕ → Type 0
+IsRefusedText Check bytes text = IsSomeRefused bytes × IsCheckText bytes text
+IsRefusedText Flows bytes text = IsNotPlain bytes × (text ≡ [])
 
-pub record DoneCause (words : List (List ℕ)) (edge : Edge) : Type 0 where
+-- the whole answer of the command
+abbrev pub IsDoneText : Verb → List ℕ → List ℕ → Type 0
+IsDoneText Check bytes text = IsAllAccepted bytes × IsCheckText bytes text
+IsDoneText Flows bytes text = IsFlowsText bytes text
+
+-- what a command answers to the bytes of a portfolio's file: a status and a text
+abbrev pub Answers : Verb → List ℕ → Status → List ℕ → Type 0
+Answers verb bytes status.Done text = IsDoneText verb bytes text
+Answers verb bytes status.Refused text = IsRefusedText verb bytes text
+Answers verb bytes status.BadText text = IsBadText bytes text
+Answers verb bytes _ text = ⊥
+
+pub record AnswerCause (words : List (List ℕ)) (files : FilesSeen) (s : Status) (text : List ℕ) : Type 0 where
+  pub verb : Verb
   pub bytes : List ℕ
+  pub read : WasRead words files verb bytes
+  pub answer : Answers verb bytes s text
+
+-- why a run ends with a status, and the text that it writes then
+abbrev pub Cause : List (List ℕ) → FilesSeen → Status → List ℕ → Type 0
+Cause words files status.Usage text = UsageCause words text
+Cause words files status.ReadFault text = ReadFaultCause words files text
+Cause words files status.TooLong text = TooLongCause words files text
+Cause words files s text = AnswerCause words files s text
+
+-- a status with its cause, and the whole text written
+pub record Answered (words : List (List ℕ)) (edge : Edge) (s : Status) : Type 0 where
   pub text : List ℕ
-  pub read : WasRead words edge bytes
-  pub flows : IsFlowsText bytes text
-  pub written : WritesAll edge text
+  pub cause : Cause words edge.files s text
+  pub written : WritesAll edge.sink text
 
+-- a write failed of the text that another status was to have
 pub record WriteFaultCause (words : List (List ℕ)) (edge : Edge) : Type 0 where
-  pub bytes : List ℕ
+  pub due : Status
   pub text : List ℕ
-  pub read : WasRead words edge bytes
-  pub flows : IsFlowsText bytes text
-  pub written : WritesPart edge text
+  pub cause : Cause words edge.files due text
+  pub written : WritesPart edge.sink text
 
 abbrev pub Meets : List (List ℕ) → Edge → Status → Type 0
-Meets words edge status.Done = DoneCause words edge
-Meets words edge status.Refused = RefusedCause words edge
-Meets words edge status.Usage = UsageCause words edge
-Meets words edge status.ReadFault = ReadFaultCause words edge
 Meets words edge status.WriteFault = WriteFaultCause words edge
-Meets words edge status.TooLong = TooLongCause words edge
-Meets words edge status.BadText = BadTextCause words edge
-Meets words edge status.NoMemory = WritesNothing edge
-Meets words edge status.BadRow = ⊥
-Meets words edge status.Missing = ⊥
-Meets words edge status.UnknownName = ⊥
-Meets words edge status.DayRange = ⊥
+Meets words edge status.NoMemory = WritesNothing edge.sink
+Meets words edge s = Answered words edge s

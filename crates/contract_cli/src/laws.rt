@@ -1,8 +1,8 @@
 //! Laws of the causes of a run's status. Each is the contract of a function that does nothing.
 
-ghost use Rattle.contract_cli.specs.RunLaws.{BadTextIsExact, FaultsHaveCauses, RefusalsWriteNothing, RefusedIsExact, RunIsComplete, TooLongIsExact, UsageIsExact};
+ghost use Rattle.contract_cli.specs.RunLaws.{BadTextIsExact, CheckIsComplete, FaultsHaveCauses, RefusalsWriteTheirLine, RefusedIsExact, RunIsComplete, TooLongIsExact, UsageIsExact};
 
-/// Usage comes exactly where the words are of no form, or memory is wanting.
+/// Usage comes exactly where the words are of no form, or memory is wanting, or the write of its line fails.
 pub fn usage_is_exact()
     ensures { UsageIsExact }
 {}
@@ -22,17 +22,23 @@ pub fn bad_text_is_exact()
     ensures { BadTextIsExact }
 {}
 
-/// A portfolio is refused exactly where some contract is not plain.
+/// A portfolio is refused exactly where the command refuses some contract: `check` one that is not accepted, `flows` one
+/// that is not plain.
 pub fn refused_is_exact()
     ensures { RefusedIsExact }
 {}
 
-/// A run with nothing in its way writes the whole text, or answers want of memory.
+/// A run with nothing in its way writes the whole text of its answer, or answers want of memory.
 pub fn run_is_complete()
     ensures { RunIsComplete }
 {}
 
-/// A refusal writes nothing.
-pub fn refusals_write_nothing()
-    ensures { RefusalsWriteNothing }
+/// Where some contract is not accepted, `check` still writes the line of each, or answers want of memory.
+pub fn check_is_complete()
+    ensures { CheckIsComplete }
+{}
+
+/// A refusal of the words, of the file or of its text writes just its line.
+pub fn refusals_write_their_line()
+    ensures { RefusalsWriteTheirLine }
 {}

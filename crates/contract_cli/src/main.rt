@@ -1,6 +1,8 @@
 //! Tilugba, the manager for financial contracts between parties.
 #![tactic(auto)]
 
+mod answers;
+mod check_text;
 mod command;
 mod flow_lines;
 mod flow_table;

@@ -1,16 +1,13 @@
 -- The line of a verdict: `NAME accepted start S scale N total T horizon H`, with the start as a whole number or
 -- `always` and the total at the portfolio's decimals; or `NAME refused RULE node N`.
-use Rattle.std.specs.Prelude.{ℕ, ℤ, pos, List, [], ◌∷◌, ◌++◌, Option, Some, None, Result, Ok, Err, codes}
+use Rattle.std.specs.Prelude.{ℕ, ℤ, List, [], ◌∷◌, ◌++◌, Option, Some, None, Result, Ok, Err, codes}
 use Rattle.decimal.specs.Text.{text_of}
 use Rattle.term_core.specs.declared.rules.Rule.{Rule}
 use Rattle.term_core.specs.declared.rules.Rule.TheVariants.{Sort, Time, Scale, Size, Bound}
 use Rattle.term_core.specs.declared.rules.RuleFault.{RuleFault}
 use Rattle.time_types.specs.Starts.{start_day}
-use Rattle.contract_check.specs.declared.facts.Facts.{Facts}
-
--- a whole number in digits
-abbrev pub number_text : ℕ → List ℕ
-number_text n = text_of (pos n) 0
+use Rattle.report.specs.Pieces.{number_text}
+use Rattle.contract_check.specs.declared.checks.Facts.{Facts}
 
 abbrev pub rule_text : Rule → List ℕ
 rule_text Sort = codes "sort"

@@ -2,7 +2,8 @@
 use Rattle.std.specs.Prelude.{ℕ, List, ◌++◌, codes}
 use Rattle.contract_parse.specs.declared.faults.TextKind.{TextKind}
 use Rattle.contract_parse.specs.declared.faults.TextKind.TheVariants.{Syntax, Number, Date, Deep, Range, Twice, Unknown, Utf8}
-use Rattle.report.specs.CheckLines.{number_text, refusal_text, line_feed}
+use Rattle.report.specs.Pieces.{number_text}
+use Rattle.report.specs.CheckLines.{refusal_text, line_feed}
 use Rattle.report.specs.declared.fault_lines.Fault.{Fault}
 use Rattle.report.specs.declared.fault_lines.Fault.TheVariants.{Usage, Read, TooLong, Text, Refused}
 

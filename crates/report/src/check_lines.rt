@@ -2,6 +2,7 @@
 
 ghost use Rattle.std.specs.Prelude.{◌≡◌, ◌≤◌, ◌^◌, ◌++◌, IfOk, OnOk, OnErr, unsigned_abs};
 ghost use Rattle.decimal.specs.Appending.{AppendsPart};
+ghost use Rattle.decimal.specs.Text.{text_of};
 ghost use Rattle.time_types.specs.Starts.{start_day};
 ghost use Rattle.report.specs.Pieces.{piece_text, IsWritable};
 ghost use Rattle.report.specs.CheckLines.{rule_text, start_text, verdict_line};
@@ -39,6 +40,18 @@ fn start_piece<'a>(start: Start) -> Piece<'a>
     }
 }
 
+// The total at the portfolio's decimals.
+fn total_piece<'a>(decls: &Decls, facts: &Facts) -> Piece<'a>
+    requires { unsigned_abs facts.now.total ≤ 10 ^ 37 }
+    ensures text { piece_text result ≡ text_of facts.now.total decls.now.amounts }
+    ensures writable { IsWritable result }
+{
+    Piece::Number {
+        mantissa: facts.total,
+        scale: decls.amounts,
+    }
+}
+
 /// Appends the line of a contract's verdict: `NAME accepted start S scale N total T horizon H`, with the total at the
 /// portfolio's decimals, or `NAME refused RULE node N`. Where memory runs out on the way, a front part of that line may
 /// stand in `out` already.
@@ -56,18 +69,16 @@ pub fn check_line(
     let name = Piece::Words { text: name };
     match verdict {
         Ok(facts) => {
-            let total = Piece::Number {
-                mantissa: facts.total,
-                scale: decls.amounts,
-            };
             let pieces = [
                 name,
-                Piece::Words { text: b" accepted start " },
+                Piece::Words {
+                    text: b" accepted start ",
+                },
                 start_piece(facts.start),
                 Piece::Words { text: b" scale " },
                 whole(facts.scale as u32),
                 Piece::Words { text: b" total " },
-                total,
+                total_piece(decls, facts),
                 Piece::Words { text: b" horizon " },
                 whole(facts.horizon),
                 Piece::Words { text: b"\n" },
@@ -78,7 +89,9 @@ pub fn check_line(
             let pieces = [
                 name,
                 Piece::Words { text: b" refused " },
-                Piece::Words { text: rule_word(fault.rule) },
+                Piece::Words {
+                    text: rule_word(fault.rule),
+                },
                 Piece::Words { text: b" node " },
                 whole(fault.node),
                 Piece::Words { text: b"\n" },

@@ -48,19 +48,36 @@ pub fn fault_line(alloc: Global, out: &mut Vec<u8>, fault: &Fault) -> Result<(),
 {
     let line_feed = Piece::Words { text: b"\n" };
     match fault {
-        Fault::Usage => append(alloc, out, &[Piece::Words { text: b"fault usage" }, line_feed]),
+        Fault::Usage => append(
+            alloc,
+            out,
+            &[
+                Piece::Words {
+                    text: b"fault usage",
+                },
+                line_feed,
+            ],
+        ),
         Fault::Read { place } => {
-            let words = Piece::Words { text: b"fault read " };
+            let words = Piece::Words {
+                text: b"fault read ",
+            };
             append(alloc, out, &[words, whole(*place as u32), line_feed])
         }
         Fault::TooLong { place } => {
-            let words = Piece::Words { text: b"fault too long " };
+            let words = Piece::Words {
+                text: b"fault too long ",
+            };
             append(alloc, out, &[words, whole(*place as u32), line_feed])
         }
         Fault::Text(fault) => {
             let pieces = [
-                Piece::Words { text: b"fault text " },
-                Piece::Words { text: kind_word(fault.kind) },
+                Piece::Words {
+                    text: b"fault text ",
+                },
+                Piece::Words {
+                    text: kind_word(fault.kind),
+                },
                 Piece::Words { text: b" line " },
                 whole(fault.line),
                 Piece::Words { text: b" column " },
@@ -71,10 +88,14 @@ pub fn fault_line(alloc: Global, out: &mut Vec<u8>, fault: &Fault) -> Result<(),
         }
         Fault::Refused { name, rule, node } => {
             let pieces = [
-                Piece::Words { text: b"fault refused " },
+                Piece::Words {
+                    text: b"fault refused ",
+                },
                 Piece::Words { text: name.text() },
                 Piece::Words { text: b" " },
-                Piece::Words { text: rule_word(*rule) },
+                Piece::Words {
+                    text: rule_word(*rule),
+                },
                 Piece::Words { text: b" node " },
                 whole(*node),
                 line_feed,

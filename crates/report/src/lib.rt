@@ -7,3 +7,6 @@ mod pieces;
 
 pub use check_lines::check_line;
 pub use fault_lines::{Fault, fault_line};
+
+#[cfg(test)]
+mod tests;

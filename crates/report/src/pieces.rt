@@ -1,9 +1,9 @@
 //! Lines, piece by piece.
 
-ghost use Rattle.std.specs.Prelude.{◌≡◌, ◌++◌, pos, OnOk, OnErr};
-ghost use Rattle.std.specs.List.{All, flat_map};
+ghost use Rattle.std.specs.Prelude.{◌≡◌, ◌++◌, OnOk, OnErr};
+ghost use Rattle.std.specs.List.{flat_map};
 ghost use Rattle.decimal.specs.Appending.{AppendsPart};
-ghost use Rattle.report.specs.Pieces.{IsWritable, piece_text};
+ghost use Rattle.report.specs.Pieces.{AreWritable, IsWritable, number_text, piece_text};
 
 use decimal::{NoMemory, write};
 use std::alloc::Global;
@@ -16,19 +16,20 @@ pub enum Piece<'a> {
 }
 
 /// A whole number.
-pub fn whole<'a>(number: u32) -> Piece<'a>
-    ensures { result ≡ Piece.Number (pos number) 0 }
+pub fn whole<'a>(count: u32) -> Piece<'a>
+    ensures text { piece_text result ≡ number_text count }
+    ensures writable { IsWritable result }
 {
     Piece::Number {
-        mantissa: number as i128,
+        mantissa: count as i128,
         scale: 0,
     }
 }
 
 fn append_piece(alloc: Global, out: &mut Vec<u8>, piece: Piece<'_>) -> Result<(), NoMemory>
     requires { IsWritable piece }
-    ensures ok { OnOk result (out.new.items ≡ out.old.items ++ piece_text piece) }
-    ensures err { OnErr result (AppendsPart out.old.items (piece_text piece) out.new.items) }
+    ensures ok { OnOk result (out.new.items ≡ out.old.items ++ piece_text piece.entry) }
+    ensures err { OnErr result (AppendsPart out.old.items (piece_text piece.entry) out.new.items) }
 {
     match piece {
         Piece::Words { text } => {
@@ -41,7 +42,7 @@ fn append_piece(alloc: Global, out: &mut Vec<u8>, piece: Piece<'_>) -> Result<()
 
 /// Appends pieces, one after another; where memory runs out on the way, a front part of them.
 pub fn append(alloc: Global, out: &mut Vec<u8>, pieces: &[Piece<'_>]) -> Result<(), NoMemory>
-    requires { All IsWritable pieces.now }
+    requires { AreWritable pieces.now }
     ensures ok { OnOk result (out.new.items ≡ out.old.items ++ flat_map piece_text pieces.now) }
     ensures err { OnErr result (AppendsPart out.old.items (flat_map piece_text pieces.now) out.new.items) }
 {

@@ -1,0 +1,5 @@
+use Rattle.contract_cli.proofs.RunFacts.{refusals_write_their_line}
+use Rattle.contract_cli.proofs.laws.refusals_write_their_line.Goals as goal
+
+pub returns : goal.returns
+returns c = refusals_write_their_line

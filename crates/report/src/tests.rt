@@ -1,0 +1,151 @@
+// Lines, by hand.
+
+use super::*;
+use contract_check::Facts;
+use contract_parse::{TextFault, TextKind};
+use indexmap::{IndexMap, IndexSet};
+use std::alloc::Global;
+use std::test::Fail;
+use term_core::{Decls, Name, Rule, RuleFault};
+use time_types::Start;
+
+fn with_decimals(alloc: Global, amounts: u8) -> Result<Decls, Fail>
+    requires { amounts ≤ 12 }
+{
+    Ok(Decls {
+        amounts,
+        origin: None,
+        start: 0,
+        parties: IndexSet::new(alloc),
+        assets: IndexSet::new(alloc),
+        labels: IndexMap::new(alloc),
+        templates: IndexMap::new(alloc),
+    })
+}
+
+#[test]
+fn verdicts_have_lines(rt: HostRuntime) -> Result<(), Fail> {
+    let alloc = rt.alloc();
+    let option = Facts {
+        start: Start::Day { day: 90 },
+        scale: 2,
+        total: 9_000_000,
+        horizon: 91,
+    };
+    let nothing = Facts {
+        start: Start::Always,
+        scale: 0,
+        total: 0,
+        horizon: 0,
+    };
+    let early = Facts {
+        start: Start::Day { day: -3 },
+        scale: 12,
+        total: 5,
+        horizon: 1,
+    };
+    let refused = RuleFault {
+        rule: Rule::Bound,
+        node: 99_999,
+    };
+    let rows: [(u8, &[u8], Result<Facts, RuleFault>, &[u8]); 4] = [
+        (
+            2,
+            b"option",
+            Ok(option),
+            b"option accepted start 90 scale 2 total 90000.00 horizon 91\n",
+        ),
+        (
+            0,
+            b"c",
+            Ok(nothing),
+            b"c accepted start always scale 0 total 0 horizon 0\n",
+        ),
+        (
+            12,
+            b"d",
+            Ok(early),
+            b"d accepted start -3 scale 12 total 0.000000000005 horizon 1\n",
+        ),
+        (2, b"c", Err(refused), b"c refused bound node 99999\n"),
+    ];
+    for (amounts, name, verdict, line) in rows {
+        let decls = with_decimals(alloc, amounts)?;
+        let mut out = b"> ".to_vec(alloc)?;
+        check_line(alloc, &mut out, &decls, name, &verdict)?;
+        let mut wanted = b"> ".to_vec(alloc)?;
+        wanted.extend_from_slice(line)?;
+        assert_eq!(rt; out.as_slice(), wanted.as_slice());
+    }
+    Ok(())
+}
+
+#[test]
+fn rules_have_names(rt: HostRuntime) -> Result<(), Fail> {
+    let alloc = rt.alloc();
+    let rows: [(Rule, &[u8]); 5] = [
+        (Rule::Sort, b"fault refused c sort node 7\n"),
+        (Rule::Time, b"fault refused c time node 7\n"),
+        (Rule::Scale, b"fault refused c scale node 7\n"),
+        (Rule::Size, b"fault refused c size node 7\n"),
+        (Rule::Bound, b"fault refused c bound node 7\n"),
+    ];
+    for (rule, line) in rows {
+        let name = Name::new(alloc, b"c")?;
+        let mut out = Vec::new(alloc);
+        fault_line(
+            alloc,
+            &mut out,
+            &Fault::Refused {
+                name,
+                rule,
+                node: 7,
+            },
+        )?;
+        assert_eq!(rt; out.as_slice(), line);
+    }
+    Ok(())
+}
+
+#[test]
+fn faults_have_lines(rt: HostRuntime) -> Result<(), Fail> {
+    let alloc = rt.alloc();
+    let rows: [(Fault, &[u8]); 4] = [
+        (Fault::Usage, b"fault usage\n"),
+        (Fault::Read { place: 2 }, b"fault read 2\n"),
+        (Fault::TooLong { place: 1 }, b"fault too long 1\n"),
+        (Fault::Read { place: 255 }, b"fault read 255\n"),
+    ];
+    for (fault, line) in rows {
+        let mut out = Vec::new(alloc);
+        fault_line(alloc, &mut out, &fault)?;
+        assert_eq!(rt; out.as_slice(), line);
+    }
+    Ok(())
+}
+
+#[test]
+fn faults_of_texts_have_lines(rt: HostRuntime) -> Result<(), Fail> {
+    let alloc = rt.alloc();
+    let rows: [(TextKind, &[u8]); 8] = [
+        (TextKind::Syntax, b"fault text syntax line 3 column 11\n"),
+        (TextKind::Number, b"fault text number line 3 column 11\n"),
+        (TextKind::Date, b"fault text date line 3 column 11\n"),
+        (TextKind::Deep, b"fault text deep line 3 column 11\n"),
+        (TextKind::Range, b"fault text range line 3 column 11\n"),
+        (TextKind::Twice, b"fault text twice line 3 column 11\n"),
+        (TextKind::Unknown, b"fault text unknown line 3 column 11\n"),
+        (TextKind::Utf8, b"fault text utf8 line 3 column 11\n"),
+    ];
+    for (kind, line) in rows {
+        let fault = Fault::Text(TextFault {
+            kind,
+            line: 3,
+            column: 11,
+        });
+        let mut out = Vec::new(alloc);
+        fault_line(alloc, &mut out, &fault)?;
+        assert_eq!(rt; out.as_slice(), line);
+    }
+    Ok(())
+}
