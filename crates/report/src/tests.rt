@@ -1,5 +1,7 @@
 // Lines, by hand.
 
+ghost use Rattle.std.specs.Prelude.{◌≤◌};
+
 use super::*;
 use contract_check::Facts;
 use contract_parse::{TextFault, TextKind};
