@@ -1,0 +1,6 @@
+pub mod Finding
+pub mod KindParts
+pub mod ExprScaleFacts
+pub mod ScaleFacts
+pub mod ExprSizeFacts
+pub mod SizeFacts
