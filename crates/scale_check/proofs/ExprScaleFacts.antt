@@ -1,5 +1,5 @@
 -- The trial of the scale of an expression whose sorts are right finds the first node that breaks the rule on scales.
-use Rattle.std.proofs.Common.{◌≡◌, ℕ, zero, suc, ◌+◌, ◌≤◌, max, Bool, true, false, leb-true, le-leb, ◌&&◌, nat_le, List, [], ◌∷◌, ◌++◌, map, Option, Some, None, Ok, refl, ap, ap₂, sym, subst, ◌∙◌, arith, slice_get}
+use Rattle.std.proofs.Common.{◌≡◌, ℕ, zero, suc, ◌+◌, ◌≤◌, max, Bool, true, false, leb-true, le-leb, ◌&&◌, nat_le, List, [], ◌∷◌, ◌++◌, map, Option, Some, Ok, refl, ap, ap₂, sym, subst, ◌∙◌, arith, slice_get}
 use Rattle.term_core.specs.Declarations.{Declarations}
 use Rattle.term_core.specs.declared.values.Kind.{Kind}
 use Rattle.term_core.specs.declared.values.Kind.TheVariants.{Truth, Number}
@@ -15,9 +15,9 @@ use Rattle.term_core.specs.Scales.{greatest_scale, is_scaled}
 use Rattle.term_core.specs.Sites.{Site, Layer, Counting, Earlier, Once, sites_of, expression_at, kinds_round}
 use Rattle.term_core.specs.Trying.{then_do, moved}
 use Rattle.scale_check.specs.ScaleScopes.{found_scale}
-use Rattle.scale_check.specs.ScaleTrials.{Answer, at_most, not_above, two_tried, choice_tried, acc_tried, scale_tried}
+use Rattle.scale_check.specs.ScaleTrials.{Answer, at_most, not_above, two_tried, scale_tried}
 use Rattle.scale_check.proofs.Finding.{Finds, shift, seq, fine, ends, here, here_twice}
-use Rattle.scale_check.proofs.KindParts.{OneNumber, one_number, two_numbers, after_truth, two_branches, over_start}
+use Rattle.scale_check.proofs.KindParts.{one_number, two_numbers, after_truth, two_branches, over_start}
 
 -- a scale that was found is that of the kind, and at most the greatest
 pub record IsScale (x : Kind) (s : ℕ) : Type 0 where
@@ -30,7 +30,6 @@ scales_round d r = map scale_of_kind (kinds_round d r)
 abbrev pub ScaleFinds : Declarations → Expression → Type 0
 ScaleFinds d e =
     (r : List Layer) (k : ℕ) (x : Kind) → kind_of d e (kinds_round d r) ≡ Some x → Finds (is_scaled d) (sites_of Once e r k) k (IsScale x) (scale_tried d e (scales_round d r))
-
 
 and_true : (b : Bool) → (b && true) ≡ b
 and_true true = refl

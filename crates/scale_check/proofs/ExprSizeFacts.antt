@@ -1,6 +1,5 @@
 -- The trial of the size of an expression finds the first node that breaks the rule on sizes.
 use Rattle.std.proofs.Common.{◌≡◌, ℕ, zero, ◌+◌, List, [], ◌∷◌, ◌++◌, refl, ap, ap₂, sym, ◌∙◌, arith}
-use Rattle.decimal.specs.declared.Mode.{Mode}
 use Rattle.term_core.specs.Terms.{Expression, Lit, Yes, Var, Obs, Neg, Num, Cmp, Not, Logic, Cond, Widen, Round, Div, Acc}
 use Rattle.term_core.specs.Sizes.{nodes, days_before}
 use Rattle.term_core.specs.Smallness.{is_small}
@@ -8,7 +7,7 @@ use Rattle.term_core.specs.Sites.{Site, Layer, Counting, Earlier, Once, sites_of
 use Rattle.term_core.specs.Trying.{then_do, moved}
 use Rattle.scale_check.specs.declared.part_sizes.Size.{Size}
 use Rattle.scale_check.specs.PartSizes.{size_of, leaf, over_one, over_two, over_three, over_days, is_within, limited}
-use Rattle.scale_check.specs.SizeTrials.{Answer, one_tried, two_tried, three_tried, acc_tried, size_tried}
+use Rattle.scale_check.specs.SizeTrials.{Answer, one_tried, two_tried, size_tried}
 use Rattle.scale_check.proofs.Finding.{Finds, shift, seq, here}
 
 -- the size that was found is another

@@ -1,24 +1,22 @@
 -- The trial of the scale of a contract whose sorts are right finds the first node that breaks the rule on scales.
-use Rattle.std.proofs.Common.{◌≡◌, ℕ, ◌+◌, ◌≤◌, max, nat_le, leb-true, le-leb, true, List, [], ◌∷◌, ◌++◌, Option, Some, None, Result, Ok, Err, refl, ap, ap₂, sym, subst, ◌∙◌, arith, zero-add}
+use Rattle.std.proofs.Common.{◌≡◌, ℕ, ◌+◌, ◌≤◌, max, nat_le, leb-true, le-leb, true, List, [], ◌∷◌, ◌++◌, Option, Some, Ok, Err, refl, ap, ap₂, sym, subst, ◌∙◌, arith, zero-add}
 use Rattle.term_core.specs.Declarations.{Declarations}
 use Rattle.term_core.specs.declared.terms.Days.{Days}
 use Rattle.term_core.specs.declared.values.Kind.{Kind}
-use Rattle.term_core.specs.declared.values.Kind.TheVariants.{Truth, Number}
 use Rattle.term_core.specs.declared.rules.Rule.TheVariants.{Sort, Scale as ScaleRule}
 use Rattle.term_core.specs.Terms.{Expression, Contract, Zero, Pay, Both, Scale, After, Let, Within}
 use Rattle.term_core.specs.Kinds.{kind_of, scale_of, scale_of_kind, scale_or_zero}
 use Rattle.term_core.specs.Values.{kind_or}
 use Rattle.term_core.specs.Flows.{count_of, scale_of_contract}
 use Rattle.term_core.specs.Sizes.{nodes, nodes_of_contract}
-use Rattle.term_core.specs.Sorts.{is_number, is_truth}
 use Rattle.term_core.specs.Scales.{is_scaled}
-use Rattle.term_core.specs.Sites.{Site, Layer, Naming, Later, Undated, Once, sites_of, sites_of_contract, sites, contract_at, kinds_round, first_failing, AllPass}
+use Rattle.term_core.specs.Sites.{Site, Layer, Naming, Later, Undated, Once, sites_of, sites_of_contract, sites, contract_at, kinds_round, AllPass}
 use Rattle.term_core.specs.Acceptance.{Passes, Meets, FailsAt}
 use Rattle.term_core.specs.Trying.{then_do, moved}
 use Rattle.term_core.proofs.Trials.{AllPass-left, AllPass-right, first_failing-is, FaultIs}
 use Rattle.scale_check.specs.ScaleTrials.{Answer, at_most, scale_tried, contract_tried}
 use Rattle.scale_check.proofs.Finding.{Finds, shift, seq, fine, ends, here}
-use Rattle.scale_check.proofs.KindParts.{HasKind, kind_sorted}
+use Rattle.scale_check.proofs.KindParts.{kind_sorted}
 use Rattle.scale_check.proofs.ExprScaleFacts.{IsScale, scales_round, scale_finds}
 
 -- a scale that was found is the contract's, and at most the decimals of amounts

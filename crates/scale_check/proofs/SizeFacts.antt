@@ -1,5 +1,5 @@
 -- The trial of the size of a contract finds the first node that breaks the rule on sizes, whatever is declared.
-use Rattle.std.proofs.Common.{◌≡◌, ℕ, ◌+◌, max, List, [], ◌∷◌, ◌++◌, Option, Some, None, Ok, Err, refl, ap, ap₂, subst, ◌∙◌, arith, zero-add}
+use Rattle.std.proofs.Common.{◌≡◌, ℕ, ◌+◌, max, List, [], ◌∷◌, ◌++◌, Option, Some, Ok, Err, refl, ap, ap₂, subst, ◌∙◌, arith, zero-add}
 use Rattle.term_core.specs.Declarations.{Declarations}
 use Rattle.term_core.specs.declared.terms.Days.{Days}
 use Rattle.term_core.specs.declared.rules.Rule.TheVariants.{Size as SizeRule}

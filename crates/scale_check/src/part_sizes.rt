@@ -16,10 +16,15 @@ pub struct Size {
 }
 
 const MOST_HEIGHT: u64 = 200;
+
 const MOST_NODES: u64 = 100_000;
+
 const MOST_DAYS: u32 = 100_000;
+
 const MOST_REACH: u64 = 100_000;
+
 const MOST_REACH_AND_PAST: u64 = 1_000_000;
+
 const MOST_WORK: u64 = 10_000_000;
 
 impl Size {
@@ -186,7 +191,11 @@ impl Size {
         ensures limits { IfOk result IsLimited }
         ensures here { IfErr result (λ place. place ≡ 0) }
     {
-        if self.is_within(days) { Ok(self) } else { Err(0) }
+        if self.is_within(days) {
+            Ok(self)
+        } else {
+            Err(0)
+        }
     }
 }
 

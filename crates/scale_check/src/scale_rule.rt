@@ -40,7 +40,11 @@ fn take(part: u8, whole: u8) -> Result<u8, u32>
     ensures within { IfOk result (λ kept. kept ≤ 27) }
     ensures here { IfErr result (λ place. place ≡ 0) }
 {
-    if part <= whole { keep(GREATEST, whole) } else { Err(0) }
+    if part <= whole {
+        keep(GREATEST, whole)
+    } else {
+        Err(0)
+    }
 }
 
 // The scale of an operator's answer, from those of its operands.
@@ -88,7 +92,12 @@ fn scale_of_expr(decls: &Decls, e: &Expr, scope: &ScaleScope) -> Result<u8, u32>
         }
         Expr::Cmp { left, right, .. } => try_two(decls, left, right, 0, scope),
         Expr::Logic { left, right, .. } => try_two(decls, left, right, 0, scope),
-        Expr::Div { scale, top, below, .. } => try_two(decls, top, below, *scale, scope),
+        Expr::Div {
+            scale,
+            top,
+            below,
+            ..
+        } => try_two(decls, top, below, *scale, scope),
         Expr::Cond { test, yes, no } => scale_of_choice(decls, test, yes, no, scope),
         Expr::Acc { body, first, .. } => scale_of_run(decls, body, first, scope),
     }
@@ -135,12 +144,7 @@ fn scale_of_choice(
 
 // Of an accumulator, whose start is tried before its body.
 #[cycle(scaling)]
-fn scale_of_run(
-    decls: &Decls,
-    body: &Expr,
-    first: &Expr,
-    scope: &ScaleScope,
-) -> Result<u8, u32>
+fn scale_of_run(decls: &Decls, body: &Expr, first: &Expr, scope: &ScaleScope) -> Result<u8, u32>
     requires { nodes (expression body.now) + nodes (expression first.now) + 1 < 2 ^ 32 }
     ensures scale { result ≡ acc_tried (nodes (expression body.now)) (scale_tried (declarations decls.now) (expression first.now) (scales_in scope.now)) (λ s. scale_tried (declarations decls.now) (expression body.now) (s ∷ scales_in scope.now)) }
     ensures within { IfOk result (λ scale. scale ≤ 27) }
@@ -171,12 +175,7 @@ fn scale_of_first(decls: &Decls, e: &Expr, scope: &ScaleScope) -> Result<u8, u32
 
 // Of the part that follows the first.
 #[cycle(scaling)]
-fn scale_of_second(
-    decls: &Decls,
-    before: &Expr,
-    e: &Expr,
-    scope: &ScaleScope,
-) -> Result<u8, u32>
+fn scale_of_second(decls: &Decls, before: &Expr, e: &Expr, scope: &ScaleScope) -> Result<u8, u32>
     requires { nodes (expression before.now) + nodes (expression e.now) + 1 < 2 ^ 32 }
     ensures scale { result ≡ moved (1 + nodes (expression before.now)) (scale_tried (declarations decls.now) (expression e.now) (scales_in scope.now)) }
     ensures within { IfOk result (λ scale. scale ≤ 27) }
