@@ -8,3 +8,6 @@ mod size_rule;
 
 pub use scale_rule::scales;
 pub use size_rule::sizes;
+
+#[cfg(test)]
+mod tests;
