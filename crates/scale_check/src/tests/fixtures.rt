@@ -130,9 +130,10 @@ pub fn is_sorted(decls: &Decls, c: &Contr) -> bool
         Contr::Zero => true,
         Contr::Pay { .. } => true,
         Contr::Both { left, right } => is_sorted(decls, left) && is_sorted(decls, right),
-        Contr::Scale { factor, body } => {
-            number_scale(decls, factor, &[]).is_some() && is_sorted(decls, body)
-        }
+        Contr::Scale { factor, body } => match number_scale(decls, factor, &[]) {
+            Some(_) => is_sorted(decls, body),
+            None => false,
+        },
         Contr::After { body, .. } => is_sorted(decls, body),
         _ => false,
     }
