@@ -1,0 +1,7 @@
+pub mod Finding
+pub mod KindParts
+pub mod ExprScaleFacts
+pub mod ScaleFacts
+pub mod ExprSizeFacts
+pub mod SizeFacts
+pub mod SortedTerms

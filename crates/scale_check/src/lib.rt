@@ -1,0 +1,13 @@
+//! Two rules of acceptance: scales and sizes.
+#![tactic(auto)]
+
+mod part_sizes;
+mod scale_rule;
+mod scale_scopes;
+mod size_rule;
+
+pub use scale_rule::scales;
+pub use size_rule::sizes;
+
+#[cfg(test)]
+mod tests;

@@ -1,0 +1,261 @@
+//! The rule on sizes, of contracts whose day counts are numbers: a height of at most 200, at most 100,000 nodes, day
+//! counts and a reach of at most 100,000 days, at most 1,000,000 days of reach and past together, and a work of at most
+//! 10,000,000. The trial of a part answers its size, or the place of the node at fault counted from the part's own
+//! first node; nodes before it are counted only on the way up from a fault, so that no part is visited more than twice.
+
+ghost use Rattle.std.specs.Prelude.{◌≡◌, ◌<◌, ◌≤◌, ◌+◌, ◌^◌, IfOk, IfErr};
+ghost use Rattle.term_core.specs.Terms.{expression, contract};
+ghost use Rattle.term_core.specs.Sizes.{nodes, nodes_of_contract, height_of_contract};
+ghost use Rattle.term_core.specs.WellFormed.{HasOnlyNumbers};
+ghost use Rattle.term_core.specs.Trying.{moved};
+ghost use Rattle.scale_check.specs.PartSizes.{IsLimited};
+ghost use Rattle.scale_check.specs.SizeTrials.{one_tried, two_tried, three_tried, acc_tried, size_tried, behind_tried, contract_tried};
+ghost use Rattle.scale_check.specs.SizeVerdicts.{IsSizeVerdict};
+
+use crate::part_sizes::{Size, days_back};
+use term_core::{Contr, Expr, Rule, RuleFault, nodes_in, nodes_in_contract};
+
+// The size of an expression.
+#[cycle(sizing)]
+fn size_of_expr(e: &Expr) -> Result<Size, u32>
+    requires { nodes (expression e.now) < 2 ^ 32 }
+    ensures size { result ≡ size_tried (expression e.now) }
+    ensures limits { IfOk result IsLimited }
+    ensures below { IfErr result (λ place. place < nodes (expression e.now)) }
+{
+    match e {
+        Expr::Lit { .. } => Size::leaf(0).limited(0),
+        Expr::Yes { .. } => Size::leaf(0).limited(0),
+        Expr::Var { .. } => Size::leaf(0).limited(0),
+        Expr::Obs { offset, .. } => Size::leaf(days_back(*offset)).limited(0),
+        Expr::Neg { of } => size_over_one(of),
+        Expr::Not { of } => size_over_one(of),
+        Expr::Widen { of, .. } => size_over_one(of),
+        Expr::Round { of, .. } => size_over_one(of),
+        Expr::Num { left, right, .. } => size_over_two(left, right),
+        Expr::Cmp { left, right, .. } => size_over_two(left, right),
+        Expr::Logic { left, right, .. } => size_over_two(left, right),
+        Expr::Div { top, below, .. } => size_over_two(top, below),
+        Expr::Cond { test, yes, no } => size_over_three(test, yes, no),
+        Expr::Acc { body, days, first } => size_over_days(body, *days, first),
+    }
+}
+
+// Of an operator on one operand.
+#[cycle(sizing)]
+fn size_over_one(of: &Expr) -> Result<Size, u32>
+    requires { nodes (expression of.now) + 1 < 2 ^ 32 }
+    ensures size { result ≡ one_tried (size_tried (expression of.now)) }
+    ensures limits { IfOk result IsLimited }
+    ensures below { IfErr result (λ place. place < nodes (expression of.now) + 1) }
+{
+    let part = size_of_first(of)?;
+    Size::over_one(part).limited(0)
+}
+
+// Of an operator on two operands.
+#[cycle(sizing)]
+fn size_over_two(left: &Expr, right: &Expr) -> Result<Size, u32>
+    requires { nodes (expression left.now) + nodes (expression right.now) + 1 < 2 ^ 32 }
+    ensures size { result ≡ two_tried (nodes (expression left.now)) (size_tried (expression left.now)) (size_tried (expression right.now)) }
+    ensures limits { IfOk result IsLimited }
+    ensures below { IfErr result (λ place. place < nodes (expression left.now) + nodes (expression right.now) + 1) }
+{
+    let left_size = size_of_first(left)?;
+    let right_size = size_of_second(left, right)?;
+    Size::over_two(left_size, right_size).limited(0)
+}
+
+// Of an `if`.
+#[cycle(sizing)]
+fn size_over_three(test: &Expr, yes: &Expr, no: &Expr) -> Result<Size, u32>
+    requires { nodes (expression test.now) + nodes (expression yes.now) + nodes (expression no.now) + 1 < 2 ^ 32 }
+    ensures size { result ≡ three_tried (nodes (expression test.now)) (nodes (expression yes.now)) (size_tried (expression test.now)) (size_tried (expression yes.now)) (size_tried (expression no.now)) }
+    ensures limits { IfOk result IsLimited }
+    ensures below { IfErr result (λ place. place < nodes (expression test.now) + nodes (expression yes.now) + nodes (expression no.now) + 1) }
+{
+    let test_size = size_of_first(test)?;
+    let yes_size = size_of_second(test, yes)?;
+    let no_size = size_of_third(test, yes, no)?;
+    Size::over_three(test_size, yes_size, no_size).limited(0)
+}
+
+// Of an accumulator, whose start is tried before its body.
+#[cycle(sizing)]
+fn size_over_days(body: &Expr, days: u32, first: &Expr) -> Result<Size, u32>
+    requires { nodes (expression body.now) + nodes (expression first.now) + 1 < 2 ^ 32 }
+    ensures size { result ≡ acc_tried (nodes (expression body.now)) days (size_tried (expression first.now)) (size_tried (expression body.now)) }
+    ensures limits { IfOk result IsLimited }
+    ensures below { IfErr result (λ place. place < nodes (expression body.now) + nodes (expression first.now) + 1) }
+{
+    let first_size = size_of_second(body, first)?;
+    let body_size = size_of_first(body)?;
+    Size::over_days(body_size, days, first_size).limited(days)
+}
+
+// Of the part that follows its node.
+#[cycle(sizing)]
+fn size_of_first(e: &Expr) -> Result<Size, u32>
+    requires { nodes (expression e.now) + 1 < 2 ^ 32 }
+    ensures size { result ≡ moved 1 (size_tried (expression e.now)) }
+    ensures limits { IfOk result IsLimited }
+    ensures below { IfErr result (λ place. place < nodes (expression e.now) + 1) }
+{
+    match size_of_expr(e) {
+        Ok(size) => Ok(size),
+        Err(place) => Err(1 + place),
+    }
+}
+
+// Of the part that follows the first.
+#[cycle(sizing)]
+fn size_of_second(before: &Expr, e: &Expr) -> Result<Size, u32>
+    requires { nodes (expression before.now) + nodes (expression e.now) + 1 < 2 ^ 32 }
+    ensures size { result ≡ moved (1 + nodes (expression before.now)) (size_tried (expression e.now)) }
+    ensures limits { IfOk result IsLimited }
+    ensures below { IfErr result (λ place. place < nodes (expression before.now) + nodes (expression e.now) + 1) }
+{
+    match size_of_expr(e) {
+        Ok(size) => Ok(size),
+        Err(place) => Err(1 + nodes_in(before) + place),
+    }
+}
+
+// Of the part that follows the second.
+#[cycle(sizing)]
+fn size_of_third(first: &Expr, second: &Expr, e: &Expr) -> Result<Size, u32>
+    requires { nodes (expression first.now) + nodes (expression second.now) + nodes (expression e.now) + 1 < 2 ^ 32 }
+    ensures size { result ≡ moved (nodes (expression first.now)) (moved (1 + nodes (expression second.now)) (size_tried (expression e.now))) }
+    ensures limits { IfOk result IsLimited }
+    ensures below { IfErr result (λ place. place < nodes (expression first.now) + nodes (expression second.now) + nodes (expression e.now) + 1) }
+{
+    match size_of_second(second, e) {
+        Ok(size) => Ok(size),
+        Err(place) => Err(nodes_in(first) + place),
+    }
+}
+
+// The size of a contract.
+#[cycle(sized)]
+fn try_size(c: &Contr) -> Result<Size, u32>
+    requires { nodes_of_contract (contract c.now) < 2 ^ 32 }
+    ensures size { result ≡ contract_tried (contract c.now) }
+    ensures limits { IfOk result IsLimited }
+    ensures below { IfErr result (λ place. place < nodes_of_contract (contract c.now)) }
+{
+    match c {
+        Contr::Zero => Size::unit().limited(0),
+        Contr::Pay { .. } => Size::unit().limited(0),
+        Contr::Both { left, right } => {
+            let left_size = try_first(left)?;
+            let right_size = try_after_contract(left, right)?;
+            Size::together(left_size, right_size).limited(0)
+        }
+        Contr::Scale { factor, body } => try_behind(factor, body),
+        Contr::Let { bound, body } => try_behind(bound, body),
+        Contr::After { days, body } => {
+            let count = days.number();
+            let body_size = try_first(body)?;
+            Size::delayed(count, body_size).limited(count)
+        }
+        Contr::Within {
+            test,
+            days,
+            hit,
+            miss,
+        } => {
+            let count = days.number();
+            let test_size = size_of_first(test)?;
+            let hit_size = try_after(test, hit)?;
+            let miss_size = try_after_both(test, hit, miss)?;
+            Size::tested(test_size, count, hit_size, miss_size).limited(count)
+        }
+    }
+}
+
+// Of an expression and the contract that it stands before.
+#[cycle(sized)]
+fn try_behind(e: &Expr, c: &Contr) -> Result<Size, u32>
+    requires { nodes (expression e.now) + nodes_of_contract (contract c.now) + 1 < 2 ^ 32 }
+    ensures size { result ≡ behind_tried (nodes (expression e.now)) (size_tried (expression e.now)) (contract_tried (contract c.now)) }
+    ensures limits { IfOk result IsLimited }
+    ensures below { IfErr result (λ place. place < nodes (expression e.now) + nodes_of_contract (contract c.now) + 1) }
+{
+    let expr_size = size_of_first(e)?;
+    let contr_size = try_after(e, c)?;
+    Size::together(expr_size, contr_size).limited(0)
+}
+
+// Of the part that follows its node.
+#[cycle(sized)]
+fn try_first(c: &Contr) -> Result<Size, u32>
+    requires { nodes_of_contract (contract c.now) + 1 < 2 ^ 32 }
+    ensures size { result ≡ moved 1 (contract_tried (contract c.now)) }
+    ensures limits { IfOk result IsLimited }
+    ensures below { IfErr result (λ place. place < nodes_of_contract (contract c.now) + 1) }
+{
+    match try_size(c) {
+        Ok(size) => Ok(size),
+        Err(place) => Err(1 + place),
+    }
+}
+
+// Of the part that follows an expression.
+#[cycle(sized)]
+fn try_after(before: &Expr, c: &Contr) -> Result<Size, u32>
+    requires { nodes (expression before.now) + nodes_of_contract (contract c.now) + 1 < 2 ^ 32 }
+    ensures size { result ≡ moved (1 + nodes (expression before.now)) (contract_tried (contract c.now)) }
+    ensures limits { IfOk result IsLimited }
+    ensures below { IfErr result (λ place. place < nodes (expression before.now) + nodes_of_contract (contract c.now) + 1) }
+{
+    match try_size(c) {
+        Ok(size) => Ok(size),
+        Err(place) => Err(1 + nodes_in(before) + place),
+    }
+}
+
+// Of the part that follows a contract.
+#[cycle(sized)]
+fn try_after_contract(before: &Contr, c: &Contr) -> Result<Size, u32>
+    requires { nodes_of_contract (contract before.now) + nodes_of_contract (contract c.now) + 1 < 2 ^ 32 }
+    ensures size { result ≡ moved (1 + nodes_of_contract (contract before.now)) (contract_tried (contract c.now)) }
+    ensures limits { IfOk result IsLimited }
+    ensures below { IfErr result (λ place. place < nodes_of_contract (contract before.now) + nodes_of_contract (contract c.now) + 1) }
+{
+    match try_size(c) {
+        Ok(size) => Ok(size),
+        Err(place) => Err(1 + nodes_in_contract(before) + place),
+    }
+}
+
+// Of the part that follows an expression and a contract.
+#[cycle(sized)]
+fn try_after_both(test: &Expr, hit: &Contr, c: &Contr) -> Result<Size, u32>
+    requires { nodes (expression test.now) + nodes_of_contract (contract hit.now) + nodes_of_contract (contract c.now) + 1 < 2 ^ 32 }
+    ensures size { result ≡ moved (nodes (expression test.now)) (moved (1 + nodes_of_contract (contract hit.now)) (contract_tried (contract c.now))) }
+    ensures limits { IfOk result IsLimited }
+    ensures below { IfErr result (λ place. place < nodes (expression test.now) + nodes_of_contract (contract hit.now) + nodes_of_contract (contract c.now) + 1) }
+{
+    match try_after_contract(hit, c) {
+        Ok(size) => Ok(size),
+        Err(place) => Err(nodes_in(test) + place),
+    }
+}
+
+/// The reach of a contract, the days by which its latest part may stand later than it, where the rule on sizes holds
+/// everywhere in it, under whatever declarations. Where it fails, the answer has the first node at fault, in the order
+/// in which the rules of acceptance try nodes. It takes no memory.
+pub fn sizes(c: &Contr) -> Result<u32, RuleFault>
+    requires low { height_of_contract (contract c.now) ≤ 1_000 }
+    requires small { nodes_of_contract (contract c.now) < 2 ^ 32 }
+    requires numbers { HasOnlyNumbers (contract c.now) }
+    ensures { IsSizeVerdict (contract c.now) result }
+{
+    match try_size(c) {
+        Ok(size) => Ok(size.reach_in_days()),
+        Err(node) => Err(RuleFault {
+            rule: Rule::Size,
+            node,
+        }),
+    }
+}
