@@ -1,0 +1,4 @@
+pub mod MultipleFacts
+pub mod RoundingFacts
+pub mod IntervalFacts
+pub mod QuotientFacts

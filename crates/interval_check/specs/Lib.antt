@@ -1,0 +1,3 @@
+pub mod Nodes
+pub mod Within
+pub mod Safety
