@@ -2,3 +2,4 @@ pub mod MultipleFacts
 pub mod RoundingFacts
 pub mod IntervalFacts
 pub mod QuotientFacts
+pub mod NodeFacts
