@@ -1,5 +1,7 @@
 -- When numbers lie in intervals, and values of names in their ranges.
-use Rattle.std.specs.Prelude.{ℤ, ◌≤ℤ◌, ◌≡◌, List, [], ◌∷◌}
+use Rattle.std.specs.Prelude.{true, ℤ, ◌≤ℤ◌, ◌≡◌, List, [], ◌∷◌}
+use Rattle.term_core.specs.Declarations.{Declarations}
+use Rattle.term_core.specs.Limits.{are_labels}
 use Rattle.term_core.specs.Values.{Entry, num}
 use Rattle.term_core.specs.LawsKinds.{IsOfKind}
 use Rattle.term_core.specs.Bounds.{Interval, Range}
@@ -22,3 +24,7 @@ AreWithin [] [] = Unit {0}
 AreWithin (r ∷ g) (e ∷ es) = IsWithin r e × AreWithin g es
 AreWithin [] (e ∷ es) = ⊥
 AreWithin (r ∷ g) [] = ⊥
+
+-- the declared observables keep their limits, as those of every `Decls` do: bounds are in order
+abbrev pub KeepsLimits : Declarations → Type 0
+KeepsLimits d = are_labels d.labels ≡ true
