@@ -6,3 +6,6 @@ pub mod NodeFacts
 pub mod RuleFacts
 pub mod TestFacts
 pub mod ValueFacts
+pub mod KindsEnough
+pub mod RootFacts
+pub mod SafeFacts

@@ -1,7 +1,7 @@
 -- The value of each expression lies in its interval, where the rule on bounds holds at each of its nodes and each name
 -- has an entry within its range.
-use Rattle.std.proofs.Common.{◌≡◌, ℕ, zero, suc, ◌+◌, ◌-◌, ◌≤◌, ◌<◌, max, ℤ, pos, ◌+ℤ◌, ◌-ℤ◌, ◌≤ℤ◌, Bool, true, false, ◌&&◌, IsTrue, if◌then◌else◌, List, [], ◌∷◌, Option, Some, None, slice_get, refl, ap, sym, subst, ◌∙◌, arith}
-use Rattle.std.specs.Prelude.{int_le, nat_le, unsigned_abs}
+use Rattle.std.proofs.Common.{◌≡◌, ℕ, zero, suc, ◌-◌, ◌<◌, max, ℤ, pos, ◌+ℤ◌, ◌-ℤ◌, ◌≤ℤ◌, Bool, true, false, if◌then◌else◌, List, [], ◌∷◌, Option, Some, None, slice_get, refl, ap, sym, subst, ◌∙◌, arith}
+use Rattle.std.specs.Prelude.{int_le, nat_le}
 use Rattle.std.proofs.lemmas.Bool.{and_parts}
 use Rattle.std.proofs.lemmas.Int.{ints}
 use Rattle.decimal.specs.Rounding.{raised, at_scale, divided}
@@ -17,10 +17,10 @@ use Rattle.term_core.specs.Limits.{are_labels, is_label}
 use Rattle.term_core.specs.Environments.{Environment, Place, IsAdmitted, IsValueOf, held, label_of, least, value_or}
 use Rattle.term_core.specs.Kinds.{kind_of, scale_of, scale_of_kind}
 use Rattle.term_core.specs.Values.{Entry, kinds, num, truth, of_num, widened, kind_or, value_of, value_of_entry, days_run}
-use Rattle.term_core.specs.Bounds.{Interval, Range, range_kinds, single, lifted, hull, aligned, of_op, corners, interval_of_label, interval_of_range, interval_of, stepped, operands_fit, fits}
+use Rattle.term_core.specs.Bounds.{Interval, Range, range_kinds, lifted, hull, aligned, of_op, interval_of_label, interval_of_range, interval_of, stepped, operands_fit, fits}
 use Rattle.term_core.proofs.FlowFacts.{raised-zero}
 use Rattle.interval_check.specs.Nodes.{IsBounded, range_after}
-use Rattle.interval_check.specs.Within.{IsIn, IsWithin, AreWithin, KeepsLimits}
+use Rattle.interval_check.specs.Within.{IsIn, AreWithin, KeepsLimits}
 use Rattle.interval_check.proofs.IntervalFacts.{in_single, in_left, in_right, in_negative, in_raised, in_rounded, in_of_op, in_aligned_left, in_aligned_right}
 use Rattle.interval_check.proofs.QuotientFacts.{in_quotient}
 use Rattle.interval_check.proofs.TestFacts.{division_fits}
@@ -110,8 +110,8 @@ ValueLies d e =
     (g : List Range) (es : List Entry) (env : Environment) (f : ℤ) → IsBounded d e g → AreInside g es → IsAdmitted d env → IsIn (interval_of d e g) (num (value_of d e es env f))
 
 -- one round of an accumulator, of its body in the round before
-pub round_lies : (d : Declarations) (body : Expression) (n i : ℕ) (first : Expression) (g : List Range) (es : List Entry) (x : Value) (v : Value) → AreInside g es → IsIn (interval_of d body (range_after d body i first g ∷ g)) (num v) → IsIn (interval_of d (Acc body (suc i) first) g) (num (widened (scale_of d body (kind_or (kind_of d first (kinds es)) ∷ kinds es)) (scale_of_kind (kind_or (kind_of d first (kinds es)))) v))
-round_lies d body n i first g es x v inside h =
+pub round_lies : (d : Declarations) (body : Expression) (i : ℕ) (first : Expression) (g : List Range) (es : List Entry) (v : Value) → AreInside g es → IsIn (interval_of d body (range_after d body i first g ∷ g)) (num v) → IsIn (interval_of d (Acc body (suc i) first) g) (num (widened (scale_of d body (kind_or (kind_of d first (kinds es)) ∷ kinds es)) (scale_of_kind (kind_or (kind_of d first (kinds es)))) v))
+round_lies d body i first g es v inside h =
     subst (λ (ks : List Kind). IsIn (interval_of d (Acc body (suc i) first) g) (num (widened (scale_of d body (kind_or (kind_of d first ks) ∷ ks)) (scale_of_kind (kind_or (kind_of d first ks))) v))) (same_kinds g es inside)
     (widened_lies (scale_of d body (kind_or (kind_of d first (range_kinds g)) ∷ range_kinds g)) (scale_of_kind (kind_or (kind_of d first (range_kinds g)))) (interval_of d body (range_after d body i first g ∷ g)) v h)
 
@@ -165,4 +165,4 @@ values_lie d limits (Acc body n first) g es env f h inside admitted =
     let k = kind_or (kind_of d first (kinds es)) in
     let l = kind_or (kind_of d first (range_kinds g)) in
     days_lie n (λ i. lifted (λ m. raised m (scale_of_kind l - scale_of d body (l ∷ range_kinds g))) (interval_of d body (record { interval = i; kind = l } ∷ g))) (λ i v. widened (scale_of d body (k ∷ kinds es)) (scale_of_kind k) (value_of d body (record { value = v; kind = k } ∷ es) env (f -ℤ pos n +ℤ pos i))) (interval_of d first g) (value_of d first es env (f -ℤ pos n)) (values_lie d limits first g es env (f -ℤ pos n) h.0 inside admitted)
-    (λ i x less p. round_lies d body n i first g es x _ inside (values_lie d limits body (range_after d body i first g ∷ g) (record { value = x; kind = k } ∷ es) env (f -ℤ pos n +ℤ pos (suc i)) (h.1 i less).0 (inside_round d body i first g es x inside p) admitted))
+    (λ i x less p. round_lies d body i first g es _ inside (values_lie d limits body (range_after d body i first g ∷ g) (record { value = x; kind = k } ∷ es) env (f -ℤ pos n +ℤ pos (suc i)) (h.1 i less).0 (inside_round d body i first g es x inside p) admitted))
