@@ -1,5 +1,5 @@
 -- The rules on sorts and scales ask of the names of an expression only their kinds.
-use Rattle.std.proofs.Common.{◌≡◌, ℕ, List, ◌∷◌, ap, subst}
+use Rattle.std.proofs.Common.{◌≡◌, List, ◌∷◌, ap, subst}
 use Rattle.term_core.specs.Declarations.{Declarations}
 use Rattle.term_core.specs.declared.values.Kind.{Kind}
 use Rattle.term_core.specs.Terms.{Expression, Lit, Yes, Var, Obs, Neg, Num, Cmp, Not, Logic, Cond, Widen, Round, Div, Acc}

@@ -9,3 +9,5 @@ pub mod ValueFacts
 pub mod KindsEnough
 pub mod RootFacts
 pub mod SafeFacts
+pub mod SumFacts
+pub mod FlowSums

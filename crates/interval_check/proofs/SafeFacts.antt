@@ -1,9 +1,9 @@
 -- An expression can be evaluated in 128 bits, where it meets the rules on sorts, scales and bounds and each name has an
 -- entry within its range.
-use Rattle.std.proofs.Common.{◌≡◌, ◌≢◌, ℕ, zero, suc, ◌+◌, ◌-◌, ◌≤◌, ◌<◌, max, ℤ, pos, ◌+ℤ◌, ◌-ℤ◌, Bool, true, ◌&&◌, nat_le, IsTrue, is_some, List, [], ◌∷◌, Option, Some, None, refl, ap, sym, subst, ◌∙◌, arith}
+use Rattle.std.proofs.Common.{◌≡◌, ℕ, zero, suc, ◌-◌, ◌≤◌, ◌<◌, ℤ, pos, ◌+ℤ◌, ◌-ℤ◌, nat_le, IsTrue, is_some, List, ◌∷◌, Option, Some, None, refl, sym, subst, arith}
 use Rattle.std.proofs.lemmas.Bool.{and_parts, leb-true}
 use Rattle.decimal.specs.declared.rounding.Mode.{Mode}
-use Rattle.decimal.specs.Rounding.{raised, at_scale, divided}
+use Rattle.decimal.specs.Rounding.{raised, at_scale}
 use Rattle.term_core.specs.Declarations.{Declarations}
 use Rattle.term_core.specs.declared.terms.NumOp.{NumOp}
 use Rattle.term_core.specs.declared.terms.NumOp.TheVariants.{Plus, Minus, Times, Min, Max}
@@ -14,13 +14,13 @@ use Rattle.term_core.specs.declared.values.Value.TheVariants.{Num as Amount, Tru
 use Rattle.term_core.specs.Terms.{Expression, Lit, Yes, Var, Obs, Neg, Num, Cmp, Not, Logic, Cond, Widen, Round, Div, Acc}
 use Rattle.term_core.specs.Environments.{Environment, IsAdmitted}
 use Rattle.term_core.specs.Kinds.{kind_of, scale_of, scale_of_kind, on_truth, on_number, of_acc}
-use Rattle.term_core.specs.Values.{Entry, kinds, num, widened, kind_or, value_of, days_run}
+use Rattle.term_core.specs.Values.{Entry, kinds, num, widened, kind_or, value_of}
 use Rattle.term_core.specs.LawsKinds.{IsOfKind, AreOfKinds}
 use Rattle.term_core.specs.Scales.{greatest_scale}
-use Rattle.term_core.specs.Bounds.{Interval, Range, range_kinds, lifted, interval_of, fit_aligned, fit_operands, operands_fit, fits}
+use Rattle.term_core.specs.Bounds.{Interval, Range, range_kinds, lifted, interval_of, fit_aligned, fit_operands, fits}
 use Rattle.term_core.proofs.KindFacts.{values_have_kinds}
-use Rattle.interval_check.specs.Nodes.{IsSorted, IsScaled, IsBounded, IsSortedPart, IsScaledPart, is_sorted_part, is_scaled_part, has_scaled_parts, range_after}
-use Rattle.interval_check.specs.Within.{IsIn, IsWithin, AreWithin, KeepsLimits}
+use Rattle.interval_check.specs.Nodes.{IsSorted, IsScaled, IsBounded, IsSortedPart, is_sorted_part, is_scaled_part, has_scaled_parts, range_after}
+use Rattle.interval_check.specs.Within.{IsIn, KeepsLimits}
 use Rattle.interval_check.specs.Safety.{IsSmall, AlignSafely, OperateSafely, WidensSafely, RoundsSafely, DivideSafely, HasSafeValue, HasSafeParts, IsSafe, entry_after}
 use Rattle.interval_check.proofs.IntervalFacts.{in_raised, in_rounded}
 use Rattle.interval_check.proofs.QuotientFacts.{sign_nonzero}
@@ -28,7 +28,7 @@ use Rattle.interval_check.proofs.RoundingFacts.{at_scale_up}
 use Rattle.interval_check.proofs.TestFacts.{small_in, align_in, division_fits, divide_in}
 use Rattle.interval_check.proofs.KindsEnough.{kinds_are_enough}
 use Rattle.interval_check.proofs.RootFacts.{at_root, scale_fits, bound_tests, interval_fits, round_fits, some_kind, scale_of_some, number_scale, numbers_scale}
-use Rattle.interval_check.proofs.ValueFacts.{AreInside, same_kinds, values_lie, days_lie, inside_round, round_lies}
+use Rattle.interval_check.proofs.ValueFacts.{AreInside, same_kinds, values_lie, inside_round, round_lies}
 
 -- what is known of an expression and its names
 pub record Meets (d : Declarations) (e : Expression) (g : List Range) : Type 0 where

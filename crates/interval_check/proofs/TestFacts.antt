@@ -10,7 +10,7 @@ use Rattle.interval_check.specs.Safety.{IsSmall, AlignSafely}
 use Rattle.interval_check.proofs.IntervalFacts.{in_raised, in_aligned_left, in_aligned_right}
 use Rattle.interval_check.proofs.QuotientFacts.{HasSign}
 
-small_between : (lo hi m : ℤ) (most : ℕ) → unsigned_abs lo ≤ most → unsigned_abs hi ≤ most → lo ≤ℤ m → m ≤ℤ hi → unsigned_abs m ≤ most
+pub small_between : (lo hi m : ℤ) (most : ℕ) → unsigned_abs lo ≤ most → unsigned_abs hi ≤ most → lo ≤ℤ m → m ≤ℤ hi → unsigned_abs m ≤ most
 small_between lo hi m most h k below above = omega (arith, ints)
 
 -- end points that fit

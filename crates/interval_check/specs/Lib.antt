@@ -1,3 +1,5 @@
 pub mod Nodes
 pub mod Within
+pub mod Sums
 pub mod Safety
+pub mod ContractSafety
