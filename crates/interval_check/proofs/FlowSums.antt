@@ -1,5 +1,5 @@
 -- What a contract pays over any days, for one pair of parties and one asset, adds up to at most its total.
-use Rattle.std.proofs.Common.{◌≡◌, ℕ, zero, suc, ◌+◌, ◌-◌, ◌*◌, ◌^◌, max, ◌≤◌, ◌<◌, ℤ, pos, neg_ℤ, ◌+ℤ◌, ◌-ℤ◌, ◌*ℤ◌, ◌≤ℤ◌, unsigned_abs, Bool, true, false, ◌&&◌, not, ◌==◌, IsTrue, if◌then◌else◌, List, [], ◌∷◌, Option, Some, None, refl, ap, sym, subst, ◌∙◌, arith}
+use Rattle.std.proofs.Common.{◌≡◌, ℕ, ◌+◌, ◌-◌, ◌*◌, ◌^◌, max, ◌≤◌, ℤ, pos, neg_ℤ, ◌+ℤ◌, ◌-ℤ◌, ◌*ℤ◌, unsigned_abs, Bool, true, false, ◌&&◌, not, ◌==◌, if◌then◌else◌, List, ◌∷◌, Some, None, refl, ap, sym, subst, arith}
 use Rattle.std.proofs.Math.Nat.{mul-le-mul_right, mul-le-mul_left}
 use Rattle.std.proofs.lemmas.Int.{ints}
 use Rattle.decimal.specs.Rounding.{raised}
@@ -7,9 +7,9 @@ use Rattle.term_core.specs.Declarations.{Declarations}
 use Rattle.term_core.specs.declared.values.Kind.{Kind}
 use Rattle.term_core.specs.Terms.{Expression, Contract, Zero, Pay, Both, Scale, After, Let, Within}
 use Rattle.term_core.specs.Environments.{Environment, IsAdmitted}
-use Rattle.term_core.specs.Kinds.{kind_of, scale_of}
-use Rattle.term_core.specs.Values.{Entry, kinds, num, kind_or, value_of, first_true}
-use Rattle.term_core.specs.Flows.{Flow, count_of, scale_of_contract, unit_flow, on_day_zero, flow_of}
+use Rattle.term_core.specs.Kinds.{kind_of}
+use Rattle.term_core.specs.Values.{Entry, num, kind_or, value_of, first_true}
+use Rattle.term_core.specs.Flows.{Flow, count_of, scale_of_contract, unit_flow, flow_of}
 use Rattle.term_core.specs.Bounds.{Interval, Range, range_kinds, interval_of, greatest_size, total_of}
 use Rattle.interval_check.specs.Nodes.{IsBoundedContract, range_of}
 use Rattle.interval_check.specs.Within.{IsIn, KeepsLimits}

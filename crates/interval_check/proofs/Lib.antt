@@ -11,3 +11,4 @@ pub mod RootFacts
 pub mod SafeFacts
 pub mod SumFacts
 pub mod FlowSums
+pub mod ContractSafeFacts
