@@ -12,13 +12,14 @@ use Rattle.term_core.specs.Values.{Entry, kinds, num, value_of}
 use Rattle.term_core.specs.Flows.{Flow, count_of, scale_of_contract, flow_of}
 use Rattle.term_core.specs.Sites.{Trial, Once, EachDay, Part, OfContract}
 use Rattle.term_core.specs.Bounds.{Range, range_kinds, total_of, aligned_total, greatest_total}
-use Rattle.interval_check.specs.Nodes.{EachContractNode, IsSortedContract, IsScaledContract, IsBoundedContract, IsScaledPart, IsBoundedPart, range_of}
+use Rattle.interval_check.specs.Nodes.{MeetsRules, ContractMeetsRules, EachContractNode, IsSortedContract, IsScaledContract, IsBoundedContract, IsScaledPart, IsBoundedPart, range_of}
+use Rattle.interval_check.specs.Sums.{entry_of, turnover_of}
 use Rattle.interval_check.specs.Safety.{IsSafe}
-use Rattle.interval_check.specs.ContractSafety.{IsPayable, HasSafeFlows, AlignPayments, HasSafeContractParts, IsSafeContract, entry_of}
+use Rattle.interval_check.specs.ContractSafety.{IsPayable, HasSafeFlows, AlignPayments, HasSafeContractParts, IsSafeContract}
 use Rattle.interval_check.proofs.MultipleFacts.{times-size}
 use Rattle.interval_check.proofs.ValueFacts.{same_kinds, values_lie}
-use Rattle.interval_check.proofs.SafeFacts.{Meets, Suits, value_is_safe, expression_is_safe}
-use Rattle.interval_check.proofs.FlowSums.{inside_let, flow_at_most}
+use Rattle.interval_check.proofs.SafeFacts.{Suits, value_is_safe, expression_is_safe}
+use Rattle.interval_check.proofs.TurnoverFacts.{inside_let, turnover_at_most, flow_within_turnover}
 
 pub contract_at_root : (P : List Range → Part → Type 0) (w : Trial) (d : Declarations) (c : Contract) (g : List Range) → EachContractNode P w d c g → P g (OfContract c)
 contract_at_root P w d Zero g h = h
@@ -40,30 +41,37 @@ total_fits d c g h =
     let tests = and_parts (nat_le (total_of d c g) greatest_total) (nat_le (aligned_total d c g) greatest_total) h in
     record { own = leb-true (total_of d c g) greatest_total tests.0; aligned = leb-true (aligned_total d c g) greatest_total tests.1 }
 
--- what is known of a contract
-pub record MeetsRules (d : Declarations) (c : Contract) (g : List Range) : Type 0 where
-  pub sorts : IsSortedContract d c g
-  pub scales : IsScaledContract d c g
-  pub bounds : IsBoundedContract d c g
-
-total_at_root : (d : Declarations) (c : Contract) (g : List Range) → MeetsRules d c g → TotalFits d c g
+total_at_root : (d : Declarations) (c : Contract) (g : List Range) → ContractMeetsRules d c g → TotalFits d c g
 total_at_root d c g h = total_fits d c g (contract_at_root (IsBoundedPart d) EachDay d c g h.bounds)
 
 raised_size : (m : ℤ) (k most : ℕ) → unsigned_abs m ≤ most → unsigned_abs (raised m k) ≤ most * 10 ^ k
 raised_size m k most h = omega (arith, times-size m (10 ^ k), mul-le-mul_right (10 ^ k) h)
 
-pub flows_are_safe : (d : Declarations) (c : Contract) (g : List Range) (es : List Entry) (env : Environment) (f : ℤ) → MeetsRules d c g → Suits d g es env → HasSafeFlows d c es env f
+-- the flow of a day is at most the total
+flow_at_most : (d : Declarations) (c : Contract) (g : List Range) (es : List Entry) (env : Environment) (f n : ℤ) (w : Flow) → IsBoundedContract d c g → Suits d g es env → unsigned_abs (flow_of d c es env f n w) ≤ total_of d c g
+flow_at_most d c g es env f n w h s =
+    let most = turnover_at_most d s.limits c g es env f w h s.inside s.admitted in
+    let here = flow_within_turnover d c es env f n w in
+    omega arith
+
+pub flows_are_safe : (d : Declarations) (c : Contract) (g : List Range) (es : List Entry) (env : Environment) (f : ℤ) → ContractMeetsRules d c g → Suits d g es env → HasSafeFlows d c es env f
 flows_are_safe d c g es env f h s =
     let same = same_kinds g es s.inside in
     let total = total_at_root d c g h in
+    let k = d.amounts - scale_of_contract d c (range_kinds g) in
     let scaled = leb-true (scale_of_contract d c (range_kinds g)) d.amounts (contract_at_root (IsScaledPart d) Once d c g h.scales) in
     record {
       scale = subst (λ (ks : List Kind). scale_of_contract d c ks ≤ d.amounts) same scaled;
-      payable = λ n w. let most = flow_at_most d s.limits c g es env f n w h.bounds s.inside s.admitted in omega arith;
+      payable = λ n w. let most = flow_at_most d c g es env f n w h.bounds s in omega arith;
       aligned = λ n w.
-        let most = raised_size (flow_of d c es env f n w) (d.amounts - scale_of_contract d c (range_kinds g)) (total_of d c g) (flow_at_most d s.limits c g es env f n w h.bounds s.inside s.admitted) in
-        let known : IsPayable (raised (flow_of d c es env f n w) (d.amounts - scale_of_contract d c (range_kinds g))) = omega arith in
+        let most = raised_size (flow_of d c es env f n w) k (total_of d c g) (flow_at_most d c g es env f n w h.bounds s) in
+        let known : IsPayable (raised (flow_of d c es env f n w) k) = omega arith in
         subst (λ (ks : List Kind). IsPayable (raised (flow_of d c es env f n w) (d.amounts - scale_of_contract d c ks))) same known;
+      turnover = λ w. let most = turnover_at_most d s.limits c g es env f w h.bounds s.inside s.admitted in omega arith;
+      aligned_turnover = λ w.
+        let most = mul-le-mul_right (10 ^ k) (turnover_at_most d s.limits c g es env f w h.bounds s.inside s.admitted) in
+        let known : turnover_of d c es env f w * 10 ^ k ≤ greatest_total = omega arith in
+        subst (λ (ks : List Kind). turnover_of d c es env f w * 10 ^ (d.amounts - scale_of_contract d c ks) ≤ greatest_total) same known;
     }
 
 -- both parts of a contract, at the greater of their scales
@@ -85,16 +93,16 @@ payments_align d a b g es env i j ha hb s left right =
 
     at_left : (n : ℤ) (w : Flow) → IsPayable (raised (flow_of d a es env i n w) p)
     at_left n w =
-        let most = raised_size (flow_of d a es env i n w) p (total_of d a g) (flow_at_most d s.limits a g es env i n w ha s.inside s.admitted) in
+        let most = raised_size (flow_of d a es env i n w) p (total_of d a g) (flow_at_most d a g es env i n w ha s) in
         omega arith
 
     at_right : (n : ℤ) (w : Flow) → IsPayable (raised (flow_of d b es env j n w) q)
     at_right n w =
-        let most = raised_size (flow_of d b es env j n w) q (total_of d b g) (flow_at_most d s.limits b g es env j n w hb s.inside s.admitted) in
+        let most = raised_size (flow_of d b es env j n w) q (total_of d b g) (flow_at_most d b g es env j n w hb s) in
         omega arith
 
 -- the names in the body of a `let`
-pub let_suits : (d : Declarations) (e : Expression) (g : List Range) (es : List Entry) (env : Environment) (f : ℤ) → Meets d e g → Suits d g es env → Suits d (range_of d e g ∷ g) (entry_of d e es env f ∷ es) env
+pub let_suits : (d : Declarations) (e : Expression) (g : List Range) (es : List Entry) (env : Environment) (f : ℤ) → MeetsRules d e g → Suits d g es env → Suits d (range_of d e g ∷ g) (entry_of d e es env f ∷ es) env
 let_suits d e g es env f h s =
     let known = value_is_safe d e g es env f h s in
     record {
@@ -106,9 +114,9 @@ let_suits d e g es env f h s =
 
 abbrev ContractPartsAreSafe : Declarations → Contract → Type 0
 ContractPartsAreSafe d c =
-    (g : List Range) (es : List Entry) (env : Environment) (f : ℤ) → MeetsRules d c g → Suits d g es env → HasSafeContractParts d c es env f
+    (g : List Range) (es : List Entry) (env : Environment) (f : ℤ) → ContractMeetsRules d c g → Suits d g es env → HasSafeContractParts d c es env f
 
-whole : (d : Declarations) (c : Contract) (g : List Range) (es : List Entry) (env : Environment) (f : ℤ) → ContractPartsAreSafe d c → MeetsRules d c g → Suits d g es env → IsSafeContract d c es env f
+whole : (d : Declarations) (c : Contract) (g : List Range) (es : List Entry) (env : Environment) (f : ℤ) → ContractPartsAreSafe d c → ContractMeetsRules d c g → Suits d g es env → IsSafeContract d c es env f
 whole d c g es env f parts h s = (flows_are_safe d c g es env f h s, parts g es env f h s)
 
 contract_parts_are_safe : (d : Declarations) (c : Contract) → ContractPartsAreSafe d c
@@ -128,16 +136,16 @@ contract_parts_are_safe d (Scale e c) g es env f h s = (
 contract_parts_are_safe d (After n c) g es env f h s =
     whole d c g es env (f +ℤ pos (count_of n)) (contract_parts_are_safe d c) (record { sorts = h.sorts.0; scales = h.scales.0; bounds = h.bounds.0 }) s
 contract_parts_are_safe d (Let e c) g es env f h s =
-    let he : Meets d e g = record { sorts = h.sorts.0; scales = h.scales.0; bounds = h.bounds.0 } in
+    let he : MeetsRules d e g = record { sorts = h.sorts.0; scales = h.scales.0; bounds = h.bounds.0 } in
     (
       expression_is_safe d e g es env f he s,
       whole d c (range_of d e g ∷ g) (entry_of d e es env f ∷ es) env f (contract_parts_are_safe d c) (record { sorts = h.sorts.1; scales = h.scales.1; bounds = h.bounds.1 }) (let_suits d e g es env f he s),
     )
 contract_parts_are_safe d (Within e n a b) g es env f h s =
     let total = total_at_root d (Within e n a b) g h in
-    let he : Meets d e g = record { sorts = h.sorts.0; scales = h.scales.0; bounds = h.bounds.0 } in
-    let ha : MeetsRules d a g = record { sorts = h.sorts.1; scales = h.scales.1; bounds = h.bounds.1 } in
-    let hb : MeetsRules d b g = record { sorts = h.sorts.2; scales = h.scales.2; bounds = h.bounds.2 } in
+    let he : MeetsRules d e g = record { sorts = h.sorts.0; scales = h.scales.0; bounds = h.bounds.0 } in
+    let ha : ContractMeetsRules d a g = record { sorts = h.sorts.1; scales = h.scales.1; bounds = h.bounds.1 } in
+    let hb : ContractMeetsRules d b g = record { sorts = h.sorts.2; scales = h.scales.2; bounds = h.bounds.2 } in
     let last = f +ℤ pos (count_of n) in
     (
       λ i l. (
@@ -148,5 +156,5 @@ contract_parts_are_safe d (Within e n a b) g es env f h s =
       whole d b g es env last (contract_parts_are_safe d b) hb s,
     )
 
-pub contract_is_safe : (d : Declarations) (c : Contract) (g : List Range) (es : List Entry) (env : Environment) (f : ℤ) → MeetsRules d c g → Suits d g es env → IsSafeContract d c es env f
+pub contract_is_safe : (d : Declarations) (c : Contract) (g : List Range) (es : List Entry) (env : Environment) (f : ℤ) → ContractMeetsRules d c g → Suits d g es env → IsSafeContract d c es env f
 contract_is_safe d c g es env f h s = whole d c g es env f (contract_parts_are_safe d c) h s

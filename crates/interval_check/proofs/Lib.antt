@@ -10,5 +10,5 @@ pub mod KindsEnough
 pub mod RootFacts
 pub mod SafeFacts
 pub mod SumFacts
-pub mod FlowSums
+pub mod TurnoverFacts
 pub mod ContractSafeFacts

@@ -19,7 +19,7 @@ use Rattle.term_core.specs.LawsKinds.{IsOfKind, AreOfKinds}
 use Rattle.term_core.specs.Scales.{greatest_scale}
 use Rattle.term_core.specs.Bounds.{Interval, Range, range_kinds, lifted, interval_of, fit_aligned, fit_operands, fits}
 use Rattle.term_core.proofs.KindFacts.{values_have_kinds}
-use Rattle.interval_check.specs.Nodes.{IsSorted, IsScaled, IsBounded, IsSortedPart, is_sorted_part, is_scaled_part, has_scaled_parts, range_after}
+use Rattle.interval_check.specs.Nodes.{MeetsRules, IsSorted, IsScaled, IsBounded, IsSortedPart, is_sorted_part, is_scaled_part, has_scaled_parts, range_after}
 use Rattle.interval_check.specs.Within.{IsIn, KeepsLimits}
 use Rattle.interval_check.specs.Safety.{IsSmall, AlignSafely, OperateSafely, WidensSafely, RoundsSafely, DivideSafely, HasSafeValue, HasSafeParts, IsSafe, entry_after}
 use Rattle.interval_check.proofs.IntervalFacts.{in_raised, in_rounded}
@@ -30,12 +30,7 @@ use Rattle.interval_check.proofs.KindsEnough.{kinds_are_enough}
 use Rattle.interval_check.proofs.RootFacts.{at_root, scale_fits, bound_tests, interval_fits, round_fits, some_kind, scale_of_some, number_scale, numbers_scale}
 use Rattle.interval_check.proofs.ValueFacts.{AreInside, same_kinds, values_lie, inside_round, round_lies}
 
--- what is known of an expression and its names
-pub record Meets (d : Declarations) (e : Expression) (g : List Range) : Type 0 where
-  pub sorts : IsSorted d e g
-  pub scales : IsScaled d e g
-  pub bounds : IsBounded d e g
-
+-- what is known of an expression's names
 pub record Suits (d : Declarations) (g : List Range) (es : List Entry) (env : Environment) : Type 0 where
   pub limits : KeepsLimits d
   pub inside : AreInside g es
@@ -61,7 +56,7 @@ round_of_kind (Some TruthKind) body i j w h k = round_of_truth (body TruthKind) 
 round_of_kind (Some (Number s)) body i j w h k = round_of_number (body (Number s)) s i j w h k
 
 -- an expression's own value
-pub value_is_safe : (d : Declarations) (e : Expression) (g : List Range) (es : List Entry) (env : Environment) (f : ℤ) → Meets d e g → Suits d g es env → HasSafeValue d e es env f
+pub value_is_safe : (d : Declarations) (e : Expression) (g : List Range) (es : List Entry) (env : Environment) (f : ℤ) → MeetsRules d e g → Suits d g es env → HasSafeValue d e es env f
 value_is_safe d e g es env f h s =
     let same = same_kinds g es s.inside in
     let known : IsTrue (is_some (kind_of d e (kinds es))) = subst (λ (ks : List Kind). IsTrue (is_some (kind_of d e ks))) same (at_root (IsSortedPart d) d e g h.sorts) in
@@ -86,7 +81,7 @@ rounds_in mode i s k x h inside most =
     record { most = most; small = λ up. subst IsSmall (at_scale_up mode x i s up) (small_in (lifted (λ m. at_scale mode m i s) k) _ h (in_rounded mode k i s x inside)) }
 
 -- an accumulator's name, in each round
-rounds_suit : (d : Declarations) (body : Expression) (n : ℕ) (first : Expression) (g : List Range) (es : List Entry) (env : Environment) (f : ℤ) → Meets d (Acc body n first) g → Suits d g es env → (i : ℕ) → i ≤ n → Suits d (range_after d body i first g ∷ g) (entry_after d body n first es env f i ∷ es) env
+rounds_suit : (d : Declarations) (body : Expression) (n : ℕ) (first : Expression) (g : List Range) (es : List Entry) (env : Environment) (f : ℤ) → MeetsRules d (Acc body n first) g → Suits d g es env → (i : ℕ) → i ≤ n → Suits d (range_after d body i first g ∷ g) (entry_after d body n first es env f i ∷ es) env
 rounds_suit d body n first g es env f h s zero l =
     let known = value_is_safe d first g es env (f -ℤ pos n) (record { sorts = h.sorts.0; scales = h.scales.0; bounds = h.bounds.0 }) s in
     record {
@@ -113,28 +108,28 @@ rounds_suit d body n first g es env f h s (suc i) l =
 
 abbrev PartsAreSafe : Declarations → Expression → Type 0
 PartsAreSafe d e =
-    (g : List Range) (es : List Entry) (env : Environment) (f : ℤ) → Meets d e g → Suits d g es env → HasSafeParts d e es env f
+    (g : List Range) (es : List Entry) (env : Environment) (f : ℤ) → MeetsRules d e g → Suits d g es env → HasSafeParts d e es env f
 
 -- a part of one, with what is known of it
-whole : (d : Declarations) (e : Expression) (g : List Range) (es : List Entry) (env : Environment) (f : ℤ) → PartsAreSafe d e → Meets d e g → Suits d g es env → IsSafe d e es env f
+whole : (d : Declarations) (e : Expression) (g : List Range) (es : List Entry) (env : Environment) (f : ℤ) → PartsAreSafe d e → MeetsRules d e g → Suits d g es env → IsSafe d e es env f
 whole d e g es env f parts h s = (value_is_safe d e g es env f h s, parts g es env f h s)
 
-number_in : (d : Declarations) (e : Expression) (g : List Range) (es : List Entry) (env : Environment) (f : ℤ) → Meets d e g → Suits d g es env → IsIn (interval_of d e g) (num (value_of d e es env f))
+number_in : (d : Declarations) (e : Expression) (g : List Range) (es : List Entry) (env : Environment) (f : ℤ) → MeetsRules d e g → Suits d g es env → IsIn (interval_of d e g) (num (value_of d e es env f))
 number_in d e g es env f h s = values_lie d s.limits e g es env f h.bounds s.inside s.admitted
 
 -- two operands that are aligned
-aligned_safely : (d : Declarations) (a b : Expression) (g : List Range) (es : List Entry) (env : Environment) (f : ℤ) → Meets d a g → Meets d b g → Suits d g es env → IsTrue (fit_aligned (scale_of d a (range_kinds g)) (interval_of d a g) (scale_of d b (range_kinds g)) (interval_of d b g)) → AlignSafely (scale_of d a (kinds es)) (num (value_of d a es env f)) (scale_of d b (kinds es)) (num (value_of d b es env f))
+aligned_safely : (d : Declarations) (a b : Expression) (g : List Range) (es : List Entry) (env : Environment) (f : ℤ) → MeetsRules d a g → MeetsRules d b g → Suits d g es env → IsTrue (fit_aligned (scale_of d a (range_kinds g)) (interval_of d a g) (scale_of d b (range_kinds g)) (interval_of d b g)) → AlignSafely (scale_of d a (kinds es)) (num (value_of d a es env f)) (scale_of d b (kinds es)) (num (value_of d b es env f))
 aligned_safely d a b g es env f ha hb s fit =
     subst (λ (ks : List Kind). AlignSafely (scale_of d a ks) (num (value_of d a es env f)) (scale_of d b ks) (num (value_of d b es env f))) (same_kinds g es s.inside)
     (align_in (scale_of d a (range_kinds g)) (scale_of d b (range_kinds g)) (interval_of d a g) (interval_of d b g) _ _ fit (number_in d a g es env f ha s) (number_in d b g es env f hb s))
 
 -- a round of an accumulator: its body, and the widening of its value
-round_is_safe : (d : Declarations) (body : Expression) (n : ℕ) (first : Expression) (g : List Range) (es : List Entry) (env : Environment) (f : ℤ) → Meets d (Acc body n first) g → Suits d g es env → (i : ℕ) → i < n → PartsAreSafe d body → IsSafe d body (entry_after d body n first es env f i ∷ es) env (f -ℤ pos n +ℤ pos (suc i)) × WidensSafely (scale_of d body (kind_or (kind_of d first (kinds es)) ∷ kinds es)) (scale_of_kind (kind_or (kind_of d first (kinds es)))) (num (value_of d body (entry_after d body n first es env f i ∷ es) env (f -ℤ pos n +ℤ pos (suc i))))
+round_is_safe : (d : Declarations) (body : Expression) (n : ℕ) (first : Expression) (g : List Range) (es : List Entry) (env : Environment) (f : ℤ) → MeetsRules d (Acc body n first) g → Suits d g es env → (i : ℕ) → i < n → PartsAreSafe d body → IsSafe d body (entry_after d body n first es env f i ∷ es) env (f -ℤ pos n +ℤ pos (suc i)) × WidensSafely (scale_of d body (kind_or (kind_of d first (kinds es)) ∷ kinds es)) (scale_of_kind (kind_or (kind_of d first (kinds es)))) (num (value_of d body (entry_after d body n first es env f i ∷ es) env (f -ℤ pos n +ℤ pos (suc i))))
 round_is_safe d body n first g es env f h known i l parts =
     let day = f -ℤ pos n +ℤ pos (suc i) in
     let ranges = range_after d body i first g ∷ g in
     let entries = entry_after d body n first es env f i ∷ es in
-    let hb : Meets d body ranges = record { sorts = kinds_are_enough (λ ks part. IsTrue (is_sorted_part d ks part)) d body (range_after d body 0 first g ∷ g) ranges refl h.sorts.1.0; scales = kinds_are_enough (λ ks part. IsTrue (is_scaled_part d ks part)) d body (range_after d body 0 first g ∷ g) ranges refl h.scales.1.0; bounds = (h.bounds.1 i l).0 } in
+    let hb : MeetsRules d body ranges = record { sorts = kinds_are_enough (λ ks part. IsTrue (is_sorted_part d ks part)) d body (range_after d body 0 first g ∷ g) ranges refl h.sorts.1.0; scales = kinds_are_enough (λ ks part. IsTrue (is_scaled_part d ks part)) d body (range_after d body 0 first g ∷ g) ranges refl h.scales.1.0; bounds = (h.bounds.1 i l).0 } in
     let suits = rounds_suit d body n first g es env f h known i (omega arith) in
     let x = num (value_of d body entries env day) in
     let ks = range_kinds g in
@@ -162,8 +157,8 @@ parts_are_safe d (Obs l t) g es env f h known = tt
 parts_are_safe d (Neg e) g es env f h known =
     whole d e g es env f (parts_are_safe d e) (record { sorts = h.sorts.0; scales = h.scales.0; bounds = h.bounds.0 }) known
 parts_are_safe d (Num op a b) g es env f h known =
-    let ha : Meets d a g = record { sorts = h.sorts.0; scales = h.scales.0; bounds = h.bounds.0 } in
-    let hb : Meets d b g = record { sorts = h.sorts.1; scales = h.scales.1; bounds = h.bounds.1 } in
+    let ha : MeetsRules d a g = record { sorts = h.sorts.0; scales = h.scales.0; bounds = h.bounds.0 } in
+    let hb : MeetsRules d b g = record { sorts = h.sorts.1; scales = h.scales.1; bounds = h.bounds.1 } in
     let x = num (value_of d a es env f) in
     let y = num (value_of d b es env f) in
     let fit = (bound_tests d (Num op a b) g h.bounds.2).0 in
@@ -174,8 +169,8 @@ parts_are_safe d (Num op a b) g es env f h known =
       (operate_in op (scale_of d a (range_kinds g)) (scale_of d b (range_kinds g)) (interval_of d a g) (interval_of d b g) x y fit (number_in d a g es env f ha known) (number_in d b g es env f hb known)),
     )
 parts_are_safe d (Cmp op a b) g es env f h known =
-    let ha : Meets d a g = record { sorts = h.sorts.0; scales = h.scales.0; bounds = h.bounds.0 } in
-    let hb : Meets d b g = record { sorts = h.sorts.1; scales = h.scales.1; bounds = h.bounds.1 } in
+    let ha : MeetsRules d a g = record { sorts = h.sorts.0; scales = h.scales.0; bounds = h.bounds.0 } in
+    let hb : MeetsRules d b g = record { sorts = h.sorts.1; scales = h.scales.1; bounds = h.bounds.1 } in
     (
       whole d a g es env f (parts_are_safe d a) ha known,
       whole d b g es env f (parts_are_safe d b) hb known,
@@ -188,9 +183,9 @@ parts_are_safe d (Logic op a b) g es env f h known = (
   whole d b g es env f (parts_are_safe d b) (record { sorts = h.sorts.1; scales = h.scales.1; bounds = h.bounds.1 }) known,
 )
 parts_are_safe d (Cond t a b) g es env f h known =
-    let ht : Meets d t g = record { sorts = h.sorts.0; scales = h.scales.0; bounds = h.bounds.0 } in
-    let ha : Meets d a g = record { sorts = h.sorts.1; scales = h.scales.1; bounds = h.bounds.1 } in
-    let hb : Meets d b g = record { sorts = h.sorts.2; scales = h.scales.2; bounds = h.bounds.2 } in
+    let ht : MeetsRules d t g = record { sorts = h.sorts.0; scales = h.scales.0; bounds = h.bounds.0 } in
+    let ha : MeetsRules d a g = record { sorts = h.sorts.1; scales = h.scales.1; bounds = h.bounds.1 } in
+    let hb : MeetsRules d b g = record { sorts = h.sorts.2; scales = h.scales.2; bounds = h.bounds.2 } in
     (
       whole d t g es env f (parts_are_safe d t) ht known,
       whole d a g es env f (parts_are_safe d a) ha known,
@@ -198,7 +193,7 @@ parts_are_safe d (Cond t a b) g es env f h known =
       aligned_safely d a b g es env f ha hb known (bound_tests d (Cond t a b) g h.bounds.3).0,
     )
 parts_are_safe d (Widen s e) g es env f h known =
-    let he : Meets d e g = record { sorts = h.sorts.0; scales = h.scales.0; bounds = h.bounds.0 } in
+    let he : MeetsRules d e g = record { sorts = h.sorts.0; scales = h.scales.0; bounds = h.bounds.0 } in
     let ks = range_kinds g in
     let i = scale_of d e ks in
     let x = num (value_of d e es env f) in
@@ -211,7 +206,7 @@ parts_are_safe d (Widen s e) g es env f h known =
     } in
     (whole d e g es env f (parts_are_safe d e) he known, subst (λ (js : List Kind). WidensSafely (scale_of d e js) s x) (same_kinds g es known.inside) here)
 parts_are_safe d (Round mode s e) g es env f h known =
-    let he : Meets d e g = record { sorts = h.sorts.0; scales = h.scales.0; bounds = h.bounds.0 } in
+    let he : MeetsRules d e g = record { sorts = h.sorts.0; scales = h.scales.0; bounds = h.bounds.0 } in
     let ks = range_kinds g in
     let x = num (value_of d e es env f) in
     let most = subst (λ (m : ℕ). m ≤ greatest_scale) (number_scale (kind_of d e ks) s h.sorts.1) (scale_fits d (Round mode s e) g h.scales) in
@@ -222,8 +217,8 @@ parts_are_safe d (Round mode s e) g es env f h known =
       (rounds_in mode (scale_of d e ks) s (interval_of d e g) x fit (number_in d e g es env f he known) most),
     )
 parts_are_safe d (Div mode s a b) g es env f h known =
-    let ha : Meets d a g = record { sorts = h.sorts.0; scales = h.scales.0; bounds = h.bounds.0 } in
-    let hb : Meets d b g = record { sorts = h.sorts.1; scales = h.scales.1; bounds = h.bounds.1 } in
+    let ha : MeetsRules d a g = record { sorts = h.sorts.0; scales = h.scales.0; bounds = h.bounds.0 } in
+    let hb : MeetsRules d b g = record { sorts = h.sorts.1; scales = h.scales.1; bounds = h.bounds.1 } in
     let ks = range_kinds g in
     let x = num (value_of d a es env f) in
     let y = num (value_of d b es env f) in
@@ -245,5 +240,5 @@ parts_are_safe d (Acc body n first) g es env f h known = (
   λ i l. round_is_safe d body n first g es env f h known i l (parts_are_safe d body),
 )
 
-pub expression_is_safe : (d : Declarations) (e : Expression) (g : List Range) (es : List Entry) (env : Environment) (f : ℤ) → Meets d e g → Suits d g es env → IsSafe d e es env f
+pub expression_is_safe : (d : Declarations) (e : Expression) (g : List Range) (es : List Entry) (env : Environment) (f : ℤ) → MeetsRules d e g → Suits d g es env → IsSafe d e es env f
 expression_is_safe d e g es env f h known = whole d e g es env f (parts_are_safe d e) h known

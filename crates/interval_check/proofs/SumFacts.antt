@@ -66,8 +66,3 @@ sum_on_day_zero (suc n) m x =
     by_lt_z (pos 0) (m +ℤ pos n)
     (λ late. let none : unsigned_abs (on_day_zero (m +ℤ pos n) x) ≡ 0 = ap unsigned_abs (after_zero (m +ℤ pos n) x late) in omega (arith, sum_on_day_zero n m x))
     (λ soon. let none = sum_none n (λ i. on_day_zero (m +ℤ pos i) x) (λ i l. before_zero (m +ℤ pos i) x (omega (arith, ints))) in omega (arith, at_most (m +ℤ pos n) x))
-
--- one of two branches
-pub sum_of_branch : (n : ℕ) (o : Option ℕ) (x : ℕ → ℕ → ℤ) (y : ℕ → ℤ) (most : ℕ) → ((k : ℕ) → o ≡ Some k → sum_of_sizes n (x k) ≤ most) → sum_of_sizes n y ≤ most → sum_of_sizes n (λ i. elim o [ Some k ↦ x k i | None ↦ y i ]) ≤ most
-sum_of_branch n (Some k) x y most h g = h k refl
-sum_of_branch n None x y most h g = g

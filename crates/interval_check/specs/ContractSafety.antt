@@ -1,7 +1,7 @@
 -- What an evaluation of a contract in 128 bits needs, by structure: each factor, bound expression and test is safe on each
 -- day on which it is evaluated, and what each part pays is at most 10^27 in size, as it is, aligned to the whole, and at
--- the portfolio's decimals.
-use Rattle.std.specs.Prelude.{ℕ, ℤ, pos, ◌+ℤ◌, ◌-◌, ◌≤◌, max, unsigned_abs, List, ◌∷◌}
+-- the portfolio's decimals; and so is all that it pays between two parties in an asset, before it is netted.
+use Rattle.std.specs.Prelude.{ℕ, ℤ, pos, ◌+ℤ◌, ◌-◌, ◌*◌, ◌^◌, ◌≤◌, max, unsigned_abs, List, ◌∷◌}
 use Rattle.decimal.specs.Rounding.{raised}
 use Rattle.term_core.specs.Declarations.{Declarations}
 use Rattle.term_core.specs.Terms.{Expression, Contract, Zero, Pay, Both, Scale, After, Let, Within}
@@ -10,6 +10,7 @@ use Rattle.term_core.specs.Kinds.{kind_of}
 use Rattle.term_core.specs.Values.{Entry, kinds, kind_or, value_of}
 use Rattle.term_core.specs.Flows.{Flow, count_of, scale_of_contract, flow_of}
 use Rattle.term_core.specs.Bounds.{greatest_total}
+use Rattle.interval_check.specs.Sums.{entry_of, turnover_of}
 use Rattle.interval_check.specs.Safety.{IsSafe}
 
 -- an amount is at most 10^27 in size
@@ -21,15 +22,13 @@ pub record HasSafeFlows (d : Declarations) (c : Contract) (es : List Entry) (env
   pub scale : scale_of_contract d c (kinds es) ≤ d.amounts
   pub payable : (n : ℤ) (w : Flow) → IsPayable (flow_of d c es env f n w)
   pub aligned : (n : ℤ) (w : Flow) → IsPayable (raised (flow_of d c es env f n w) (d.amounts - scale_of_contract d c (kinds es)))
+  pub turnover : (w : Flow) → turnover_of d c es env f w ≤ greatest_total
+  pub aligned_turnover : (w : Flow) → turnover_of d c es env f w * 10 ^ (d.amounts - scale_of_contract d c (kinds es)) ≤ greatest_total
 
 -- what the two parts of a contract pay, on frames i and j, fits at the greater of their scales
 pub record AlignPayments (d : Declarations) (a b : Contract) (es : List Entry) (env : Environment) (i j : ℤ) : Type 0 where
   pub left : (n : ℤ) (w : Flow) → IsPayable (raised (flow_of d a es env i n w) (max (scale_of_contract d a (kinds es)) (scale_of_contract d b (kinds es)) - scale_of_contract d a (kinds es)))
   pub right : (n : ℤ) (w : Flow) → IsPayable (raised (flow_of d b es env j n w) (max (scale_of_contract d a (kinds es)) (scale_of_contract d b (kinds es)) - scale_of_contract d b (kinds es)))
-
--- what a name that is bound to an expression has
-abbrev pub entry_of : Declarations → Expression → List Entry → Environment → ℤ → Entry
-entry_of d e es env f = record { value = value_of d e es env f; kind = kind_or (kind_of d e (kinds es)) }
 
 -- the parts of a contract are safe
 abbrev pub HasSafeContractParts : Declarations → Contract → List Entry → Environment → ℤ → Type 0

@@ -106,3 +106,14 @@ IsScaledContract d c g = EachContractNode (IsScaledPart d) Once d c g
 
 abbrev pub IsBoundedContract : Declarations → Contract → List Range → Type 0
 IsBoundedContract d c g = EachContractNode (IsBoundedPart d) EachDay d c g
+
+-- the rules by which values are known
+pub record MeetsRules (d : Declarations) (e : Expression) (g : List Range) : Type 0 where
+  pub sorts : IsSorted d e g
+  pub scales : IsScaled d e g
+  pub bounds : IsBounded d e g
+
+pub record ContractMeetsRules (d : Declarations) (c : Contract) (g : List Range) : Type 0 where
+  pub sorts : IsSortedContract d c g
+  pub scales : IsScaledContract d c g
+  pub bounds : IsBoundedContract d c g
