@@ -1,6 +1,6 @@
 -- A contract can be evaluated in 128 bits, where it meets the rules on sorts, scales and bounds and each name has an entry
 -- within its range.
-use Rattle.std.proofs.Common.{◌≡◌, ℕ, zero, suc, ◌+◌, ◌-◌, ◌*◌, ◌^◌, max, ◌≤◌, ◌<◌, ℤ, pos, ◌+ℤ◌, unsigned_abs, Bool, true, ◌&&◌, nat_le, IsTrue, List, [], ◌∷◌, refl, ap, sym, subst, ◌∙◌, arith}
+use Rattle.std.proofs.Common.{◌≡◌, ℕ, ◌-◌, ◌*◌, ◌^◌, max, ◌≤◌, ℤ, pos, ◌+ℤ◌, unsigned_abs, ◌&&◌, nat_le, IsTrue, List, ◌∷◌, subst, arith}
 use Rattle.std.proofs.Math.Nat.{mul-le-mul_right}
 use Rattle.std.proofs.lemmas.Bool.{and_parts, leb-true}
 use Rattle.decimal.specs.Rounding.{raised}
@@ -8,13 +8,12 @@ use Rattle.term_core.specs.Declarations.{Declarations}
 use Rattle.term_core.specs.declared.values.Kind.{Kind}
 use Rattle.term_core.specs.Terms.{Expression, Contract, Zero, Pay, Both, Scale, After, Let, Within}
 use Rattle.term_core.specs.Environments.{Environment}
-use Rattle.term_core.specs.Values.{Entry, kinds, num, value_of}
+use Rattle.term_core.specs.Values.{Entry, kinds}
 use Rattle.term_core.specs.Flows.{Flow, count_of, scale_of_contract, flow_of}
 use Rattle.term_core.specs.Sites.{Trial, Once, EachDay, Part, OfContract}
 use Rattle.term_core.specs.Bounds.{Range, range_kinds, total_of, aligned_total, greatest_total}
-use Rattle.interval_check.specs.Nodes.{MeetsRules, ContractMeetsRules, EachContractNode, IsSortedContract, IsScaledContract, IsBoundedContract, IsScaledPart, IsBoundedPart, range_of}
+use Rattle.interval_check.specs.Nodes.{MeetsRules, ContractMeetsRules, EachContractNode, IsBoundedContract, IsScaledPart, IsBoundedPart, range_of}
 use Rattle.interval_check.specs.Sums.{entry_of, turnover_of}
-use Rattle.interval_check.specs.Safety.{IsSafe}
 use Rattle.interval_check.specs.ContractSafety.{IsPayable, HasSafeFlows, AlignPayments, HasSafeContractParts, IsSafeContract}
 use Rattle.interval_check.proofs.MultipleFacts.{times-size}
 use Rattle.interval_check.proofs.ValueFacts.{same_kinds, values_lie}

@@ -12,3 +12,5 @@ pub mod SafeFacts
 pub mod SumFacts
 pub mod TurnoverFacts
 pub mod ContractSafeFacts
+pub mod PartFacts
+pub mod GuaranteeFacts

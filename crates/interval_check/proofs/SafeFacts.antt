@@ -19,7 +19,7 @@ use Rattle.term_core.specs.LawsKinds.{IsOfKind, AreOfKinds}
 use Rattle.term_core.specs.Scales.{greatest_scale}
 use Rattle.term_core.specs.Bounds.{Interval, Range, range_kinds, lifted, interval_of, fit_aligned, fit_operands, fits}
 use Rattle.term_core.proofs.KindFacts.{values_have_kinds}
-use Rattle.interval_check.specs.Nodes.{MeetsRules, IsSorted, IsScaled, IsBounded, IsSortedPart, is_sorted_part, is_scaled_part, has_scaled_parts, range_after}
+use Rattle.interval_check.specs.Nodes.{MeetsRules, IsSortedPart, is_sorted_part, is_scaled_part, has_scaled_parts, range_after}
 use Rattle.interval_check.specs.Within.{IsIn, KeepsLimits}
 use Rattle.interval_check.specs.Safety.{IsSmall, AlignSafely, OperateSafely, WidensSafely, RoundsSafely, DivideSafely, HasSafeValue, HasSafeParts, IsSafe, entry_after}
 use Rattle.interval_check.proofs.IntervalFacts.{in_raised, in_rounded}

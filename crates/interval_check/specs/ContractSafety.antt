@@ -4,10 +4,9 @@
 use Rattle.std.specs.Prelude.{ℕ, ℤ, pos, ◌+ℤ◌, ◌-◌, ◌*◌, ◌^◌, ◌≤◌, max, unsigned_abs, List, ◌∷◌}
 use Rattle.decimal.specs.Rounding.{raised}
 use Rattle.term_core.specs.Declarations.{Declarations}
-use Rattle.term_core.specs.Terms.{Expression, Contract, Zero, Pay, Both, Scale, After, Let, Within}
+use Rattle.term_core.specs.Terms.{Contract, Zero, Pay, Both, Scale, After, Let, Within}
 use Rattle.term_core.specs.Environments.{Environment}
-use Rattle.term_core.specs.Kinds.{kind_of}
-use Rattle.term_core.specs.Values.{Entry, kinds, kind_or, value_of}
+use Rattle.term_core.specs.Values.{Entry, kinds}
 use Rattle.term_core.specs.Flows.{Flow, count_of, scale_of_contract, flow_of}
 use Rattle.term_core.specs.Bounds.{greatest_total}
 use Rattle.interval_check.specs.Sums.{entry_of, turnover_of}

@@ -3,3 +3,5 @@ pub mod Within
 pub mod Sums
 pub mod Safety
 pub mod ContractSafety
+pub mod Parts
+pub mod Guarantees
