@@ -1,5 +1,5 @@
 -- The guarantees of the rules, joined from what is known of nodes, values and sums.
-use Rattle.std.proofs.Common.{ℕ, ℤ, pos, ◌+ℤ◌, ◌-◌, ◌*◌, ◌^◌, ◌≤◌, List, [], ◌∷◌, arith}
+use Rattle.std.proofs.Common.{pos, ◌+ℤ◌, ◌-◌, ◌^◌, List, [], ◌∷◌, arith}
 use Rattle.std.proofs.Math.Nat.{mul-le-mul_right}
 use Rattle.term_core.specs.Declarations.{Declarations}
 use Rattle.term_core.specs.Environments.{Environment, IsAdmitted}
@@ -8,9 +8,9 @@ use Rattle.term_core.specs.LawsKinds.{AreOfKinds}
 use Rattle.term_core.specs.Flows.{scale_of_contract, flow_of}
 use Rattle.term_core.specs.Sites.{Once, EachDay}
 use Rattle.term_core.specs.Bounds.{Range}
-use Rattle.interval_check.specs.Nodes.{IsSortedPart, IsScaledPart, IsBoundedPart, MeetsRules, ContractMeetsRules}
+use Rattle.interval_check.specs.Nodes.{IsSortedPart, IsScaledPart, IsBoundedPart}
 use Rattle.interval_check.specs.Within.{AreWithin, KeepsLimits}
-use Rattle.interval_check.specs.Guarantees.{DeclsKeepLimits, RulesAreByStructure, AcceptedMeetRules, PartsMeetRules, ValuesLieInIntervals, ExpressionsAreSafe, ContractsAreSafe, AcceptedAreSafe, PartsOfAcceptedAreSafe, FlowsAddUpToTotal, AmountsAddUpToTotal}
+use Rattle.interval_check.specs.Guarantees.{RulesAreByStructure, AcceptedMeetRules, PartsMeetRules, ValuesLieInIntervals, ExpressionsAreSafe, ContractsAreSafe, AcceptedAreSafe, PartsOfAcceptedAreSafe, FlowsAddUpToTotal, AmountsAddUpToTotal}
 use Rattle.interval_check.proofs.RuleFacts.{sorts_hold, scales_hold, bounds_hold, sorts_are_met, scales_are_met, bounds_are_met}
 use Rattle.interval_check.proofs.ValueFacts.{inside_from, values_lie}
 use Rattle.interval_check.proofs.SafeFacts.{Suits, expression_is_safe}
@@ -18,9 +18,6 @@ use Rattle.interval_check.proofs.ContractSafeFacts.{contract_is_safe}
 use Rattle.interval_check.proofs.PartFacts.{standing_meets}
 use Rattle.interval_check.proofs.SumFacts.{sum_raised}
 use Rattle.interval_check.proofs.TurnoverFacts.{turnover_at_most, flows_within_turnover}
-
-pub decls_keep_limits : DeclsKeepLimits
-decls_keep_limits decls = decls.labels_in
 
 pub rules_are_by_structure : RulesAreByStructure
 rules_are_by_structure d c = (

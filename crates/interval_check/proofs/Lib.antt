@@ -14,3 +14,4 @@ pub mod TurnoverFacts
 pub mod ContractSafeFacts
 pub mod PartFacts
 pub mod GuaranteeFacts
+pub mod NarrowFacts

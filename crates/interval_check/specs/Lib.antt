@@ -5,3 +5,4 @@ pub mod Safety
 pub mod ContractSafety
 pub mod Parts
 pub mod Guarantees
+pub mod Narrowing
