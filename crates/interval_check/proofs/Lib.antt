@@ -15,3 +15,5 @@ pub mod ContractSafeFacts
 pub mod PartFacts
 pub mod GuaranteeFacts
 pub mod NarrowFacts
+pub mod TightFacts
+pub mod NarrowerFacts

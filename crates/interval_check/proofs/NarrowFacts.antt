@@ -1,6 +1,5 @@
 -- Operators on narrower intervals give narrower ones, and the tests of the rule on bounds still pass.
-use Rattle.std.proofs.Common.{◌≡◌, ℕ, zero, suc, ◌+◌, ◌-◌, ◌*◌, ◌^◌, max, ◌≤◌, ◌<◌, ◌⊎◌, inl, inr, Bool, true, false, not, ◌&&◌, nat_le, IsTrue, int_lt, ℤ, pos, ◌+ℤ◌, ◌-ℤ◌, ◌*ℤ◌, ◌≤ℤ◌, ◌<ℤ◌, neg_ℤ, unsigned_abs, refl, ap, sym, subst, ◌∙◌, arith}
-use Rattle.std.specs.Int.{int_min, int_max}
+use Rattle.std.proofs.Common.{◌≡◌, ℕ, ◌+◌, ◌-◌, max, ◌≤◌, inl, inr, Bool, true, false, not, ◌&&◌, IsTrue, int_lt, ℤ, pos, ◌*ℤ◌, ◌<ℤ◌, neg_ℤ, unsigned_abs, refl, arith}
 use Rattle.std.proofs.lemmas.Bool.{and_parts, and_from, le-leb}
 use Rattle.std.proofs.lemmas.Int.{ints, clamps}
 use Rattle.decimal.specs.declared.rounding.Mode.{Mode}
@@ -12,7 +11,7 @@ use Rattle.interval_check.specs.Within.{IsIn}
 use Rattle.interval_check.specs.Narrowing.{IsNarrower}
 use Rattle.interval_check.proofs.IntervalFacts.{in_single, in_left, in_right, in_product, in_negative, in_raised, in_rounded}
 use Rattle.interval_check.proofs.QuotientFacts.{HasSign, in_quotient}
-use Rattle.interval_check.proofs.TestFacts.{small_between, EndsFit, ends_fit, fits_from, small_in, DivisionFits, division_fits}
+use Rattle.interval_check.proofs.TestFacts.{small_between, fits_from, small_in, division_fits}
 
 pub narrower_single : (k : Interval) (m : ℤ) → IsIn k m → IsNarrower (single m) k
 narrower_single k m h = record { low = h; high = h }

@@ -54,14 +54,14 @@ name_lies (r ∷ g) (e ∷ es) (suc back) h = name_lies g es back h.2
 
 -- observables
 
-label_keeps : (entries : List (Name × Label)) (l : ℕ) (label : Label) → are_labels entries ≡ true → elim (slice_get entries l) [ Some e ↦ Some e.1 | None ↦ None ] ≡ Some label → is_label label ≡ true
+pub label_keeps : (entries : List (Name × Label)) (l : ℕ) (label : Label) → are_labels entries ≡ true → elim (slice_get entries l) [ Some e ↦ Some e.1 | None ↦ None ] ≡ Some label → is_label label ≡ true
 label_keeps [] l label h e = absurd (cc)
 label_keeps (entry ∷ entries) zero label h e =
     let same : entry.1 ≡ label = cc in
     subst (λ (x : Label). is_label x ≡ true) same (and_parts (is_label entry.1) (are_labels entries) h).0
 label_keeps (entry ∷ entries) (suc l) label h e = label_keeps entries l label (and_parts (is_label entry.1) (are_labels entries) h).1 e
 
-in_order : (low high : ℤ) → int_le low high ≡ true → low ≤ℤ high
+pub in_order : (low high : ℤ) → int_le low high ≡ true → low ≤ℤ high
 in_order low high h = grind (arith, ints)
 
 least_lies : (o : Option Label) → ((label : Label) → o ≡ Some label → is_label label ≡ true) → IsIn (interval_of_label o) (num (least o))
