@@ -17,3 +17,4 @@ pub mod GuaranteeFacts
 pub mod NarrowFacts
 pub mod TightFacts
 pub mod NarrowerFacts
+pub mod ReplacingFacts

@@ -1,5 +1,5 @@
 -- Narrower ranges of names give narrower intervals and lower totals, and keep the rules.
-use Rattle.std.proofs.Common.{◌≡◌, ℕ, zero, suc, ◌+◌, ◌-◌, ◌*◌, ◌^◌, max, ◌≤◌, ◌<◌, Bool, true, ◌&&◌, nat_le, IsTrue, unsigned_abs, int_le, List, [], ◌∷◌, Option, Some, None, slice_get, pos, ◌≤ℤ◌, refl, ap, sym, subst, ◌∙◌, arith}
+use Rattle.std.proofs.Common.{◌≡◌, ℕ, zero, suc, ◌+◌, ◌-◌, ◌*◌, ◌^◌, max, ◌≤◌, true, ◌&&◌, nat_le, IsTrue, int_le, List, [], ◌∷◌, Option, Some, None, slice_get, pos, refl, ap, sym, subst, ◌∙◌, arith}
 use Rattle.std.proofs.Math.Nat.{mul-le-mul_right}
 use Rattle.std.proofs.lemmas.Bool.{and_parts, and_from, le-leb}
 use Rattle.std.proofs.lemmas.Int.{ints}
@@ -14,18 +14,17 @@ use Rattle.term_core.specs.Environments.{label_of}
 use Rattle.term_core.specs.Kinds.{kind_of}
 use Rattle.term_core.specs.Values.{kind_or}
 use Rattle.term_core.specs.Flows.{scale_of_contract}
-use Rattle.term_core.specs.Bounds.{Interval, Range, range_kinds, single, interval_of, interval_of_label, interval_of_range, greatest_size, total_of, aligned_total, greatest_total}
-use Rattle.interval_check.specs.Nodes.{IsBounded, IsBoundedContract, MeetsRules, ContractMeetsRules, range_after, range_of, is_sorted_part, is_scaled_part}
-use Rattle.interval_check.specs.Within.{IsIn, KeepsLimits}
-use Rattle.interval_check.specs.Narrowing.{IsNarrower, IsNarrowerRange, AreNarrower, IntervalsAreMonotone, TotalsAreMonotone, RulesAreMonotone, ContractRulesAreMonotone}
-use Rattle.interval_check.proofs.IntervalFacts.{in_single}
+use Rattle.term_core.specs.Bounds.{Range, range_kinds, interval_of, interval_of_label, interval_of_range, greatest_size, total_of, aligned_total, greatest_total}
+use Rattle.interval_check.specs.Nodes.{IsBounded, IsBoundedContract, range_after, range_of, is_sorted_part, is_scaled_part}
+use Rattle.interval_check.specs.Within.{KeepsLimits}
+use Rattle.interval_check.specs.Narrowing.{IsNarrower, AreNarrower, IntervalsAreMonotone, TotalsAreMonotone, RulesAreMonotone, ContractRulesAreMonotone}
 use Rattle.interval_check.proofs.ValueFacts.{label_keeps, in_order}
 use Rattle.interval_check.proofs.RootFacts.{bound_tests}
 use Rattle.interval_check.proofs.KindsEnough.{kinds_are_enough, kinds_are_enough_for}
-use Rattle.interval_check.proofs.ContractSafeFacts.{TotalFits, total_fits}
+use Rattle.interval_check.proofs.ContractSafeFacts.{total_fits}
 use Rattle.interval_check.proofs.TurnoverFacts.{product_at_most}
 use Rattle.interval_check.proofs.NarrowFacts.{narrower_same, narrower_fits, narrower_size}
-use Rattle.interval_check.proofs.TightFacts.{IsTight, SameKind, RoundIsTight, tight_neg, tight_num, tight_cmp, tight_not, tight_logic, tight_cond, tight_widen, tight_round, tight_div, tight_acc}
+use Rattle.interval_check.proofs.TightFacts.{IsTight, SameKind, tight_neg, tight_num, tight_cmp, tight_not, tight_logic, tight_cond, tight_widen, tight_round, tight_div, tight_acc}
 
 pub narrower_kinds : (h g : List Range) → AreNarrower h g → range_kinds h ≡ range_kinds g
 narrower_kinds [] [] p = refl

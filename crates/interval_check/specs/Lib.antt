@@ -6,3 +6,4 @@ pub mod ContractSafety
 pub mod Parts
 pub mod Guarantees
 pub mod Narrowing
+pub mod Replacing
