@@ -18,3 +18,6 @@ pub mod NarrowFacts
 pub mod TightFacts
 pub mod NarrowerFacts
 pub mod ReplacingFacts
+pub mod RewritingFacts
+pub mod AlignedFacts
+pub mod RewritingContracts

@@ -1,5 +1,5 @@
 -- An expression with parts replaced may stand for the whole: by each form, from its parts.
-use Rattle.std.proofs.Common.{◌≡◌, ℕ, zero, suc, ◌+◌, ◌≤◌, ◌<◌, ◌⊎◌, inl, inr, Bool, true, ◌&&◌, nat_le, IsTrue, is_some, List, ◌∷◌, Option, Some, None, refl, ap, sym, subst, ◌∙◌, arith}
+use Rattle.std.proofs.Common.{◌≡◌, ℕ, ◌<◌, nat_le, IsTrue, is_some, List, ◌∷◌, Option, Some, None, refl, ap, sym, subst, ◌∙◌}
 use Rattle.std.proofs.lemmas.Bool.{and_parts, and_from}
 use Rattle.decimal.specs.declared.rounding.Mode.{Mode}
 use Rattle.term_core.specs.Declarations.{Declarations}
@@ -8,21 +8,21 @@ use Rattle.term_core.specs.declared.terms.CmpOp.{CmpOp}
 use Rattle.term_core.specs.declared.terms.LogicOp.{LogicOp}
 use Rattle.term_core.specs.declared.values.Kind.{Kind}
 use Rattle.term_core.specs.declared.values.Kind.TheVariants.{Truth as TruthKind, Number}
-use Rattle.term_core.specs.Terms.{Expression, Lit, Yes, Var, Obs, Neg, Num, Cmp, Not, Logic, Cond, Widen, Round, Div, Acc}
+use Rattle.term_core.specs.Terms.{Expression, Neg, Num, Cmp, Not, Logic, Cond, Widen, Round, Div, Acc}
 use Rattle.term_core.specs.Kinds.{kind_of, scale_of, scale_or_zero, scale_of_op, on_number, on_numbers, on_truth, joined, of_acc}
 use Rattle.term_core.specs.Values.{kind_or}
-use Rattle.term_core.specs.Sites.{Part, OfExpression}
+use Rattle.term_core.specs.Sites.{OfExpression}
 use Rattle.term_core.specs.Scales.{greatest_scale}
 use Rattle.term_core.specs.Bounds.{Range, range_kinds, interval_of}
-use Rattle.interval_check.specs.Nodes.{IsSorted, IsScaled, IsBounded, IsSortedPart, IsScaledPart, is_sorted_part, is_scaled_part, has_scaled_parts, MeetsRules, range_after}
+use Rattle.interval_check.specs.Nodes.{IsSorted, IsScaled, IsSortedPart, IsScaledPart, is_sorted_part, is_scaled_part, has_scaled_parts, MeetsRules, range_after}
 use Rattle.interval_check.specs.Within.{KeepsLimits}
 use Rattle.interval_check.specs.Narrowing.{IsNarrower, AreNarrower}
-use Rattle.interval_check.specs.Replacing.{Replaces, KeepsForm, IsRewritten, RewrittenReplaces}
+use Rattle.interval_check.specs.Replacing.{Replaces, KeepsForm}
 use Rattle.interval_check.proofs.KindsEnough.{kinds_are_enough}
 use Rattle.interval_check.proofs.RootFacts.{at_root}
 use Rattle.interval_check.proofs.NarrowFacts.{narrower_trans}
 use Rattle.interval_check.proofs.TightFacts.{IsTight, SameKind, RoundIsTight, tight_neg, tight_num, tight_cmp, tight_not, tight_logic, tight_cond, tight_widen, tight_round, tight_div, tight_acc}
-use Rattle.interval_check.proofs.NarrowerFacts.{stays_tight, narrower_kinds}
+use Rattle.interval_check.proofs.NarrowerFacts.{stays_tight}
 
 -- the tests of a node that has the kind of another
 
@@ -48,7 +48,7 @@ two_kinds F o u o' u' e e' = ap (λ (x : Option Kind). F x u') e ∙ ap (F o) e'
 three_kinds : (F : Option Kind → Option Kind → Option Kind → Option Kind) (t o u t' o' u' : Option Kind) → t' ≡ t → o' ≡ o → u' ≡ u → F t' o' u' ≡ F t o u
 three_kinds F t o u t' o' u' e e' e'' = ap (λ (x : Option Kind). F x o' u') e ∙ two_kinds (F t) o u o' u' e' e''
 
-replaces_neg : (d : Declarations) (a' a : Expression) (g : List Range) → Replaces d a' a g → MeetsRules d (Neg a) g → Replaces d (Neg a') (Neg a) g
+pub replaces_neg : (d : Declarations) (a' a : Expression) (g : List Range) → Replaces d a' a g → MeetsRules d (Neg a) g → Replaces d (Neg a') (Neg a) g
 replaces_neg d a' a g r h =
     let same : SameKind d (Neg a') g (Neg a) g = ap (on_number (λ s. Some (Number s))) r.same_kind in
     let tight = tight_neg d a' g a g (tight_from d a' a g r) h.bounds in
@@ -58,7 +58,7 @@ replaces_neg d a' a g r h =
       inside = tight.inside;
     }
 
-replaces_num : (d : Declarations) (op : NumOp) (a' b' a b : Expression) (g : List Range) → Replaces d a' a g → Replaces d b' b g → MeetsRules d (Num op a b) g → Replaces d (Num op a' b') (Num op a b) g
+pub replaces_num : (d : Declarations) (op : NumOp) (a' b' a b : Expression) (g : List Range) → Replaces d a' a g → Replaces d b' b g → MeetsRules d (Num op a b) g → Replaces d (Num op a' b') (Num op a b) g
 replaces_num d op a' b' a b g r q h =
     let same : SameKind d (Num op a' b') g (Num op a b) g = two_kinds (on_numbers (λ s t. Some (Number (scale_of_op op s t)))) _ _ _ _ r.same_kind q.same_kind in
     let tight = tight_num d op a' b' g a b g r.same_kind q.same_kind (tight_from d a' a g r) (tight_from d b' b g q) h.bounds in
@@ -68,7 +68,7 @@ replaces_num d op a' b' a b g r q h =
       inside = tight.inside;
     }
 
-replaces_cmp : (d : Declarations) (op : CmpOp) (a' b' a b : Expression) (g : List Range) → Replaces d a' a g → Replaces d b' b g → MeetsRules d (Cmp op a b) g → Replaces d (Cmp op a' b') (Cmp op a b) g
+pub replaces_cmp : (d : Declarations) (op : CmpOp) (a' b' a b : Expression) (g : List Range) → Replaces d a' a g → Replaces d b' b g → MeetsRules d (Cmp op a b) g → Replaces d (Cmp op a' b') (Cmp op a b) g
 replaces_cmp d op a' b' a b g r q h =
     let same : SameKind d (Cmp op a' b') g (Cmp op a b) g = two_kinds (on_numbers (λ s t. Some TruthKind)) _ _ _ _ r.same_kind q.same_kind in
     let tight = tight_cmp d op a' b' g a b g r.same_kind q.same_kind (tight_from d a' a g r) (tight_from d b' b g q) h.bounds in
@@ -78,7 +78,7 @@ replaces_cmp d op a' b' a b g r q h =
       inside = tight.inside;
     }
 
-replaces_not : (d : Declarations) (a' a : Expression) (g : List Range) → Replaces d a' a g → MeetsRules d (Not a) g → Replaces d (Not a') (Not a) g
+pub replaces_not : (d : Declarations) (a' a : Expression) (g : List Range) → Replaces d a' a g → MeetsRules d (Not a) g → Replaces d (Not a') (Not a) g
 replaces_not d a' a g r h =
     let same : SameKind d (Not a') g (Not a) g = ap (λ (o : Option Kind). on_truth o (Some TruthKind)) r.same_kind in
     let tight = tight_not d a' g a g (tight_from d a' a g r) h.bounds in
@@ -88,7 +88,7 @@ replaces_not d a' a g r h =
       inside = tight.inside;
     }
 
-replaces_logic : (d : Declarations) (op : LogicOp) (a' b' a b : Expression) (g : List Range) → Replaces d a' a g → Replaces d b' b g → MeetsRules d (Logic op a b) g → Replaces d (Logic op a' b') (Logic op a b) g
+pub replaces_logic : (d : Declarations) (op : LogicOp) (a' b' a b : Expression) (g : List Range) → Replaces d a' a g → Replaces d b' b g → MeetsRules d (Logic op a b) g → Replaces d (Logic op a' b') (Logic op a b) g
 replaces_logic d op a' b' a b g r q h =
     let same : SameKind d (Logic op a' b') g (Logic op a b) g = two_kinds (λ o u. on_truth o (on_truth u (Some TruthKind))) _ _ _ _ r.same_kind q.same_kind in
     let tight = tight_logic d op a' b' g a b g (tight_from d a' a g r) (tight_from d b' b g q) h.bounds in
@@ -98,7 +98,7 @@ replaces_logic d op a' b' a b g r q h =
       inside = tight.inside;
     }
 
-replaces_cond : (d : Declarations) (t' a' b' t a b : Expression) (g : List Range) → Replaces d t' t g → Replaces d a' a g → Replaces d b' b g → MeetsRules d (Cond t a b) g → Replaces d (Cond t' a' b') (Cond t a b) g
+pub replaces_cond : (d : Declarations) (t' a' b' t a b : Expression) (g : List Range) → Replaces d t' t g → Replaces d a' a g → Replaces d b' b g → MeetsRules d (Cond t a b) g → Replaces d (Cond t' a' b') (Cond t a b) g
 replaces_cond d t' a' b' t a b g p r q h =
     let same : SameKind d (Cond t' a' b') g (Cond t a b) g = three_kinds (λ o u v. on_truth o (joined u v)) _ _ _ _ _ _ p.same_kind r.same_kind q.same_kind in
     let tight = tight_cond d t' a' b' g t a b g r.same_kind q.same_kind (tight_from d t' t g p) (tight_from d a' a g r) (tight_from d b' b g q) h.bounds in
@@ -108,7 +108,7 @@ replaces_cond d t' a' b' t a b g p r q h =
       inside = tight.inside;
     }
 
-replaces_widen : (d : Declarations) (s : ℕ) (a' a : Expression) (g : List Range) → Replaces d a' a g → MeetsRules d (Widen s a) g → Replaces d (Widen s a') (Widen s a) g
+pub replaces_widen : (d : Declarations) (s : ℕ) (a' a : Expression) (g : List Range) → Replaces d a' a g → MeetsRules d (Widen s a) g → Replaces d (Widen s a') (Widen s a) g
 replaces_widen d s a' a g r h =
     let same : SameKind d (Widen s a') g (Widen s a) g = ap (on_number (λ _. Some (Number s))) r.same_kind in
     let tight = tight_widen d s a' g a g r.same_kind (tight_from d a' a g r) h.bounds in
@@ -119,7 +119,7 @@ replaces_widen d s a' a g r h =
       inside = tight.inside;
     }
 
-replaces_round : (d : Declarations) (mode : Mode) (s : ℕ) (a' a : Expression) (g : List Range) → Replaces d a' a g → MeetsRules d (Round mode s a) g → Replaces d (Round mode s a') (Round mode s a) g
+pub replaces_round : (d : Declarations) (mode : Mode) (s : ℕ) (a' a : Expression) (g : List Range) → Replaces d a' a g → MeetsRules d (Round mode s a) g → Replaces d (Round mode s a') (Round mode s a) g
 replaces_round d mode s a' a g r h =
     let same : SameKind d (Round mode s a') g (Round mode s a) g = ap (on_number (λ _. Some (Number s))) r.same_kind in
     let tight = tight_round d mode s a' g a g r.same_kind (tight_from d a' a g r) h.bounds in
@@ -129,7 +129,7 @@ replaces_round d mode s a' a g r h =
       inside = tight.inside;
     }
 
-replaces_div : (d : Declarations) (mode : Mode) (s : ℕ) (a' b' a b : Expression) (g : List Range) → Replaces d a' a g → Replaces d b' b g → MeetsRules d (Div mode s a b) g → Replaces d (Div mode s a' b') (Div mode s a b) g
+pub replaces_div : (d : Declarations) (mode : Mode) (s : ℕ) (a' b' a b : Expression) (g : List Range) → Replaces d a' a g → Replaces d b' b g → MeetsRules d (Div mode s a b) g → Replaces d (Div mode s a' b') (Div mode s a b) g
 replaces_div d mode s a' b' a b g r q h =
     let same : SameKind d (Div mode s a' b') g (Div mode s a b) g = two_kinds (on_numbers (λ _ _. Some (Number s))) _ _ _ _ r.same_kind q.same_kind in
     let tight = tight_div d mode s a' b' g a b g r.same_kind q.same_kind (tight_from d a' a g r) (tight_from d b' b g q) h.bounds in
@@ -160,7 +160,7 @@ round_replaces d limits body' body first' first i g ordered same r inside =
     let narrow = stays_tight d limits body' here there (round_ranges d body' body first' first i g ordered same inside) r.rules.bounds in
     record { bounded = narrow.bounded; inside = narrower_trans (interval_of d body' here) (interval_of d body' there) (interval_of d body there) narrow.inside r.inside }
 
-replaces_acc : (d : Declarations) → KeepsLimits d → (body' : Expression) (n : ℕ) (first' body first : Expression) (g : List Range) → AreNarrower g g → Replaces d first' first g → KeepsForm d body' body (range_after d body 0 first g ∷ g) → ((i : ℕ) → i < n → Replaces d body' body (range_after d body i first g ∷ g)) → MeetsRules d (Acc body n first) g → Replaces d (Acc body' n first') (Acc body n first) g
+pub replaces_acc : (d : Declarations) → KeepsLimits d → (body' : Expression) (n : ℕ) (first' body first : Expression) (g : List Range) → AreNarrower g g → Replaces d first' first g → KeepsForm d body' body (range_after d body 0 first g ∷ g) → ((i : ℕ) → i < n → Replaces d body' body (range_after d body i first g ∷ g)) → MeetsRules d (Acc body n first) g → Replaces d (Acc body' n first') (Acc body n first) g
 replaces_acc d limits body' n first' body first g ordered r form each h =
     let ks = range_kinds g in
     let here = range_after d body' 0 first' g ∷ g in
