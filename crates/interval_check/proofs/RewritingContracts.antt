@@ -1,23 +1,23 @@
 -- A contract with parts replaced may stand for the whole.
-use Rattle.std.proofs.Common.{◌≡◌, ℕ, zero, suc, ◌+◌, ◌-◌, ◌*◌, ◌^◌, max, ◌≤◌, ◌<◌, ◌⊎◌, inl, inr, Bool, true, ◌&&◌, nat_le, IsTrue, is_some, List, [], ◌∷◌, Option, refl, ap, sym, subst, ◌∙◌, arith}
+use Rattle.std.proofs.Common.{◌≡◌, ℕ, ◌+◌, ◌-◌, ◌*◌, ◌^◌, ◌≤◌, inl, inr, IsTrue, List, [], ◌∷◌, Option, refl, ap, sym, subst, ◌∙◌, arith}
 use Rattle.std.proofs.Math.Nat.{mul-le-mul_right}
 use Rattle.std.proofs.lemmas.Bool.{and_from, leb-true, le-leb}
 use Rattle.term_core.specs.Declarations.{Declarations}
 use Rattle.term_core.specs.declared.terms.Days.{Days}
 use Rattle.term_core.specs.declared.values.Kind.{Kind}
 use Rattle.term_core.specs.Terms.{Expression, Contract, Zero, Pay, Both, Scale, After, Let, Within}
-use Rattle.term_core.specs.Kinds.{kind_of, scale_of, scale_or_zero}
+use Rattle.term_core.specs.Kinds.{scale_of, scale_or_zero}
 use Rattle.term_core.specs.Values.{kind_or}
 use Rattle.term_core.specs.Flows.{scale_of_contract}
 use Rattle.term_core.specs.Sorts.{is_number, is_truth}
-use Rattle.term_core.specs.Sites.{Part, OfContract, Once, EachDay}
+use Rattle.term_core.specs.Sites.{OfContract, Once, EachDay}
 use Rattle.term_core.specs.Bounds.{Range, range_kinds, interval_of, greatest_size, total_of, aligned_total, greatest_total}
-use Rattle.interval_check.specs.Nodes.{IsSortedPart, IsScaledPart, IsBoundedPart, IsScaledContract, IsBoundedContract, MeetsRules, ContractMeetsRules, range_of}
+use Rattle.interval_check.specs.Nodes.{IsScaledPart, IsBoundedPart, IsScaledContract, IsBoundedContract, MeetsRules, ContractMeetsRules, range_of}
 use Rattle.interval_check.specs.Within.{KeepsLimits}
 use Rattle.interval_check.specs.Narrowing.{AreNarrower}
-use Rattle.interval_check.specs.Replacing.{Replaces, IsRewritten, ReplacesContract, IsRewrittenContract, PartsStandForThemselves, ReplacementsCompose, RewrittenContractReplaces, RewrittenMeetRules}
+use Rattle.interval_check.specs.Replacing.{Replaces, ReplacesContract, PartsStandForThemselves, ReplacementsCompose, RewrittenContractReplaces, RewrittenMeetRules}
 use Rattle.interval_check.proofs.RuleFacts.{sorts_hold, scales_hold, bounds_hold, sorts_are_met, scales_are_met, bounds_are_met}
-use Rattle.interval_check.proofs.ContractSafeFacts.{contract_at_root, TotalFits, total_fits}
+use Rattle.interval_check.proofs.ContractSafeFacts.{contract_at_root, total_fits}
 use Rattle.interval_check.proofs.NarrowFacts.{narrower_size, narrower_trans}
 use Rattle.interval_check.proofs.NarrowerFacts.{narrower_let, narrower_kinds, stays_tight, stays_bounded, contract_rules_are_monotone}
 use Rattle.interval_check.proofs.RewritingFacts.{rewritten_replaces}

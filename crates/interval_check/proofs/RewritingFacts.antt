@@ -1,12 +1,12 @@
 -- An expression with parts replaced may stand for the whole: by induction over the whole.
-use Rattle.std.proofs.Common.{◌≡◌, ℕ, zero, suc, ◌≤◌, ◌<◌, ◌⊎◌, inl, inr, IsTrue, List, ◌∷◌, refl, sym, subst, ◌∙◌, arith}
+use Rattle.std.proofs.Common.{◌≡◌, ℕ, ◌≤◌, ◌<◌, inl, inr, IsTrue, List, ◌∷◌, refl, sym, subst, arith}
 use Rattle.term_core.specs.Declarations.{Declarations}
 use Rattle.term_core.specs.Terms.{Expression, Lit, Yes, Var, Obs, Neg, Num, Cmp, Not, Logic, Cond, Widen, Round, Div, Acc}
-use Rattle.term_core.specs.Bounds.{Range, interval_of}
+use Rattle.term_core.specs.Bounds.{Range}
 use Rattle.interval_check.specs.Nodes.{IsBounded, is_sorted_part, is_scaled_part, MeetsRules, range_after}
 use Rattle.interval_check.specs.Within.{KeepsLimits}
 use Rattle.interval_check.specs.Narrowing.{AreNarrower}
-use Rattle.interval_check.specs.Replacing.{Replaces, IsRewritten, RewrittenReplaces}
+use Rattle.interval_check.specs.Replacing.{Replaces, RewrittenReplaces}
 use Rattle.interval_check.proofs.KindsEnough.{kinds_are_enough}
 use Rattle.interval_check.proofs.NarrowerFacts.{stays_tight}
 use Rattle.interval_check.proofs.ReplacingFacts.{replaces_neg, replaces_num, replaces_cmp, replaces_not, replaces_logic, replaces_cond, replaces_widen, replaces_round, replaces_div, replaces_acc}

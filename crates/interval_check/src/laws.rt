@@ -2,6 +2,8 @@
 //! caller takes the law by calling it.
 
 ghost use Rattle.interval_check.specs.Guarantees.{DeclsKeepLimits, RulesAreByStructure, AcceptedMeetRules, PartsMeetRules, ValuesLieInIntervals, ExpressionsAreSafe, ContractsAreSafe, AcceptedAreSafe, PartsOfAcceptedAreSafe, FlowsAddUpToTotal, AmountsAddUpToTotal};
+ghost use Rattle.interval_check.specs.Narrowing.{IntervalsAreMonotone, TotalsAreMonotone, RulesAreMonotone, ContractRulesAreMonotone};
+ghost use Rattle.interval_check.specs.Replacing.{PartsStandForThemselves, ReplacementsCompose, RewrittenReplaces, RewrittenContractReplaces, RewrittenMeetRules};
 
 /// The declarations that a program holds keep their limits, as the laws below ask.
 pub fn declarations_keep_limits()
@@ -37,4 +39,23 @@ pub fn accepted_contracts_are_safe()
 pub fn payments_add_up_to_total()
     ensures flows { FlowsAddUpToTotal }
     ensures amounts { AmountsAddUpToTotal }
+{}
+
+/// Where names have narrower ranges, expressions have narrower intervals and contracts no greater totals, and the rules
+/// that held still hold.
+pub fn narrower_ranges_keep_rules()
+    ensures expressions { IntervalsAreMonotone }
+    ensures contracts { TotalsAreMonotone }
+    ensures expression_rules { RulesAreMonotone }
+    ensures contract_rules { ContractRulesAreMonotone }
+{}
+
+/// A contract of which parts are replaced keeps the rules, where each new part meets them and has, in an expression, the
+/// kind and no wider an interval, and in a contract, no greater a scale and no greater a total.
+pub fn replaced_parts_keep_rules()
+    ensures unchanged { PartsStandForThemselves }
+    ensures composed { ReplacementsCompose }
+    ensures expressions { RewrittenReplaces }
+    ensures contracts { RewrittenContractReplaces }
+    ensures accepted { RewrittenMeetRules }
 {}
