@@ -1,0 +1,5 @@
+use Rattle.interval_check.proofs.GuaranteeFacts.{accepted_are_safe, parts_of_accepted_are_safe}
+use Rattle.interval_check.proofs.laws.accepted_contracts_are_safe.Goals as goal
+
+pub returns : goal.returns
+returns c = record { contracts = accepted_are_safe; parts = parts_of_accepted_are_safe }

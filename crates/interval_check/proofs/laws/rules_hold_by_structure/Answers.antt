@@ -1,0 +1,5 @@
+use Rattle.interval_check.proofs.GuaranteeFacts.{rules_are_by_structure, accepted_meet_rules, parts_meet_rules}
+use Rattle.interval_check.proofs.laws.rules_hold_by_structure.Goals as goal
+
+pub returns : goal.returns
+returns c = record { rules = rules_are_by_structure; accepted = accepted_meet_rules; parts = parts_meet_rules }

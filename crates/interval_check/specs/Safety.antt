@@ -1,0 +1,104 @@
+-- What an evaluation in 128 bits needs, by structure: at each node that it meets, and in an accumulator in each round,
+-- the value has the node's kind and its number is at most 10^37 in size; each operand that is aligned to a greater scale
+-- is so too; no divisor is 0, and the numbers under a division fit.
+use Rattle.std.specs.Prelude.{ℕ, suc, ℤ, pos, ◌+ℤ◌, ◌-ℤ◌, ◌-◌, ◌<◌, ◌≤◌, ◌≢◌, max, is_some, IsTrue, unsigned_abs, List, ◌∷◌}
+use Rattle.decimal.specs.Rounding.{raised, DivFits}
+use Rattle.term_core.specs.Declarations.{Declarations}
+use Rattle.term_core.specs.declared.terms.NumOp.{NumOp}
+use Rattle.term_core.specs.declared.terms.NumOp.TheVariants.{Times}
+use Rattle.term_core.specs.Terms.{Expression, Lit, Yes, Var, Obs, Neg, Num, Cmp, Not, Logic, Cond, Widen, Round, Div, Acc}
+use Rattle.term_core.specs.Limits.{greatest_mantissa}
+use Rattle.term_core.specs.Environments.{Environment}
+use Rattle.term_core.specs.Kinds.{kind_of, scale_of, scale_of_kind}
+use Rattle.term_core.specs.Values.{Entry, kinds, num, kind_or, widened, days_run, value_of}
+use Rattle.term_core.specs.LawsKinds.{IsOfKind}
+use Rattle.term_core.specs.Scales.{greatest_scale}
+
+-- a mantissa is at most 10^37 in size
+abbrev pub IsSmall : ℤ → Type 0
+IsSmall m = unsigned_abs m ≤ greatest_mantissa
+
+-- two numbers of scales i and j fit at the greater of the two
+pub record AlignSafely (i : ℕ) (x : ℤ) (j : ℕ) (y : ℤ) : Type 0 where
+  pub left : IsSmall (raised x (max i j - i))
+  pub right : IsSmall (raised y (max i j - j))
+
+-- operands of scales i and j fit under an operator; a product aligns none
+abbrev pub OperateSafely : NumOp → ℕ → ℤ → ℕ → ℤ → Type 0
+OperateSafely Times i x j y = Unit {0}
+OperateSafely op i x j y = AlignSafely i x j y
+
+-- a number of scale i fits at the scale s, which is no lower
+pub record WidensSafely (i s : ℕ) (x : ℤ) : Type 0 where
+  pub order : i ≤ s
+  pub most : s ≤ greatest_scale
+  pub small : IsSmall (raised x (s - i))
+
+-- a number of scale i can be rounded to the scale s
+pub record RoundsSafely (i s : ℕ) (x : ℤ) : Type 0 where
+  pub most : s ≤ greatest_scale
+  pub small : i ≤ s → IsSmall (raised x (s - i))
+
+-- a number of scale i can be divided by one of scale j, at scale s
+pub record DivideSafely (i : ℕ) (x : ℤ) (j : ℕ) (y : ℤ) (s : ℕ) : Type 0 where
+  pub nonzero : y ≢ pos 0
+  pub most : s ≤ greatest_scale
+  pub fits : DivFits x i y j s
+
+-- the value of an expression has its kind, and its number fits, at a scale of at most 27
+pub record HasSafeValue (d : Declarations) (e : Expression) (es : List Entry) (env : Environment) (f : ℤ) : Type 0 where
+  pub sorted : IsTrue (is_some (kind_of d e (kinds es)))
+  pub of_kind : IsOfKind (kind_or (kind_of d e (kinds es))) (value_of d e es env f)
+  pub most : scale_of d e (kinds es) ≤ greatest_scale
+  pub small : IsSmall (num (value_of d e es env f))
+
+-- what the name of an accumulator of n days has in its body after i of them, on day f
+abbrev pub entry_after : Declarations → Expression → ℕ → Expression → List Entry → Environment → ℤ → ℕ → Entry
+entry_after d body n first es env f i =
+    let k = kind_or (kind_of d first (kinds es)) in
+    record { value = days_run i (λ j v. widened (scale_of d body (k ∷ kinds es)) (scale_of_kind k) (value_of d body (record { value = v; kind = k } ∷ es) env (f -ℤ pos n +ℤ pos j))) (value_of d first es env (f -ℤ pos n)); kind = k }
+
+-- the parts of an expression have safe values, and fit under its operator
+abbrev pub HasSafeParts : Declarations → Expression → List Entry → Environment → ℤ → Type 0
+HasSafeParts d (Lit m s) es env f = Unit {0}
+HasSafeParts d (Yes b) es env f = Unit {0}
+HasSafeParts d (Var back) es env f = Unit {0}
+HasSafeParts d (Obs l t) es env f = Unit {0}
+HasSafeParts d (Neg e) es env f = HasSafeValue d e es env f × HasSafeParts d e es env f
+HasSafeParts d (Num op a b) es env f =
+    (HasSafeValue d a es env f × HasSafeParts d a es env f)
+    × (HasSafeValue d b es env f × HasSafeParts d b es env f)
+    × OperateSafely op (scale_of d a (kinds es)) (num (value_of d a es env f)) (scale_of d b (kinds es)) (num (value_of d b es env f))
+HasSafeParts d (Cmp op a b) es env f =
+    (HasSafeValue d a es env f × HasSafeParts d a es env f)
+    × (HasSafeValue d b es env f × HasSafeParts d b es env f)
+    × AlignSafely (scale_of d a (kinds es)) (num (value_of d a es env f)) (scale_of d b (kinds es)) (num (value_of d b es env f))
+HasSafeParts d (Not e) es env f = HasSafeValue d e es env f × HasSafeParts d e es env f
+HasSafeParts d (Logic op a b) es env f =
+    (HasSafeValue d a es env f × HasSafeParts d a es env f) × (HasSafeValue d b es env f × HasSafeParts d b es env f)
+HasSafeParts d (Cond t a b) es env f =
+    (HasSafeValue d t es env f × HasSafeParts d t es env f)
+    × (HasSafeValue d a es env f × HasSafeParts d a es env f)
+    × (HasSafeValue d b es env f × HasSafeParts d b es env f)
+    × AlignSafely (scale_of d a (kinds es)) (num (value_of d a es env f)) (scale_of d b (kinds es)) (num (value_of d b es env f))
+HasSafeParts d (Widen s e) es env f =
+    (HasSafeValue d e es env f × HasSafeParts d e es env f)
+    × WidensSafely (scale_of d e (kinds es)) s (num (value_of d e es env f))
+HasSafeParts d (Round mode s e) es env f =
+    (HasSafeValue d e es env f × HasSafeParts d e es env f)
+    × RoundsSafely (scale_of d e (kinds es)) s (num (value_of d e es env f))
+HasSafeParts d (Div mode s a b) es env f =
+    (HasSafeValue d a es env f × HasSafeParts d a es env f)
+    × (HasSafeValue d b es env f × HasSafeParts d b es env f)
+    × DivideSafely (scale_of d a (kinds es)) (num (value_of d a es env f)) (scale_of d b (kinds es)) (num (value_of d b es env f)) s
+HasSafeParts d (Acc body n first) es env f =
+    let k = kind_or (kind_of d first (kinds es)) in
+    (HasSafeValue d first es env (f -ℤ pos n) × HasSafeParts d first es env (f -ℤ pos n))
+    × ((i : ℕ) → i < n →
+        (HasSafeValue d body (entry_after d body n first es env f i ∷ es) env (f -ℤ pos n +ℤ pos (suc i))
+        × HasSafeParts d body (entry_after d body n first es env f i ∷ es) env (f -ℤ pos n +ℤ pos (suc i)))
+        × WidensSafely (scale_of d body (k ∷ kinds es)) (scale_of_kind k) (num (value_of d body (entry_after d body n first es env f i ∷ es) env (f -ℤ pos n +ℤ pos (suc i)))))
+
+-- an expression can be evaluated, with these entries for its names, on day f
+abbrev pub IsSafe : Declarations → Expression → List Entry → Environment → ℤ → Type 0
+IsSafe d e es env f = HasSafeValue d e es env f × HasSafeParts d e es env f

@@ -1,0 +1,30 @@
+-- When numbers lie in intervals, and values of names in their ranges.
+use Rattle.std.specs.Prelude.{true, ℤ, ◌≤ℤ◌, ◌≡◌, List, [], ◌∷◌}
+use Rattle.term_core.specs.Declarations.{Declarations}
+use Rattle.term_core.specs.Limits.{are_labels}
+use Rattle.term_core.specs.Values.{Entry, num}
+use Rattle.term_core.specs.LawsKinds.{IsOfKind}
+use Rattle.term_core.specs.Bounds.{Interval, Range}
+
+-- a mantissa lies in an interval
+pub record IsIn (i : Interval) (m : ℤ) : Type 0 where
+  pub low : i.low ≤ℤ m
+  pub high : m ≤ℤ i.high
+
+-- an entry has the kind of its range, and a value of this kind; its number, which of a truth value is 0, lies in the
+-- interval
+pub record IsWithin (r : Range) (e : Entry) : Type 0 where
+  pub same_kind : e.kind ≡ r.kind
+  pub of_kind : IsOfKind e.kind e.value
+  pub inside : IsIn r.interval (num e.value)
+
+-- each name has an entry that suits its range
+abbrev pub AreWithin : List Range → List Entry → Type 0
+AreWithin [] [] = Unit {0}
+AreWithin (r ∷ g) (e ∷ es) = IsWithin r e × AreWithin g es
+AreWithin [] (e ∷ es) = ⊥
+AreWithin (r ∷ g) [] = ⊥
+
+-- the declared observables keep their limits, as those of every `Decls` do: bounds are in order
+abbrev pub KeepsLimits : Declarations → Type 0
+KeepsLimits d = are_labels d.labels ≡ true

@@ -1,0 +1,61 @@
+//! What the rules of acceptance guarantee of an evaluation. Each law is the contract of a function that does nothing; a
+//! caller takes the law by calling it.
+
+ghost use Rattle.interval_check.specs.Guarantees.{DeclsKeepLimits, RulesAreByStructure, AcceptedMeetRules, PartsMeetRules, ValuesLieInIntervals, ExpressionsAreSafe, ContractsAreSafe, AcceptedAreSafe, PartsOfAcceptedAreSafe, FlowsAddUpToTotal, AmountsAddUpToTotal};
+ghost use Rattle.interval_check.specs.Narrowing.{IntervalsAreMonotone, TotalsAreMonotone, RulesAreMonotone, ContractRulesAreMonotone};
+ghost use Rattle.interval_check.specs.Replacing.{PartsStandForThemselves, ReplacementsCompose, RewrittenReplaces, RewrittenContractReplaces, RewrittenMeetRules};
+
+/// The declarations that a program holds keep their limits, as the laws below ask.
+pub fn declarations_keep_limits()
+    ensures { DeclsKeepLimits }
+{}
+
+/// The rules on sorts, scales and bounds hold in the order of trial exactly where they hold by structure. So an accepted
+/// contract meets them by structure, and so does each expression that stands in it.
+pub fn rules_hold_by_structure()
+    ensures rules { RulesAreByStructure }
+    ensures accepted { AcceptedMeetRules }
+    ensures parts { PartsMeetRules }
+{}
+
+/// The value of an expression lies in its interval, in every admitted environment and on every day.
+pub fn values_lie_in_intervals()
+    ensures { ValuesLieInIntervals }
+{}
+
+/// What meets the rules can be evaluated in 128 bits: no number leaves them, and no divisor is 0.
+pub fn evaluation_is_safe()
+    ensures expressions { ExpressionsAreSafe }
+    ensures contracts { ContractsAreSafe }
+{}
+
+/// An accepted contract can be evaluated in 128 bits, and so can each expression that stands in it.
+pub fn accepted_contracts_are_safe()
+    ensures contracts { AcceptedAreSafe }
+    ensures parts { PartsOfAcceptedAreSafe }
+{}
+
+/// Over any days, what a contract pays between two parties in an asset adds up to at most its total.
+pub fn payments_add_up_to_total()
+    ensures flows { FlowsAddUpToTotal }
+    ensures amounts { AmountsAddUpToTotal }
+{}
+
+/// Where names have narrower ranges, expressions have narrower intervals and contracts no greater totals, and the rules
+/// that held still hold.
+pub fn narrower_ranges_keep_rules()
+    ensures expressions { IntervalsAreMonotone }
+    ensures contracts { TotalsAreMonotone }
+    ensures expression_rules { RulesAreMonotone }
+    ensures contract_rules { ContractRulesAreMonotone }
+{}
+
+/// A contract of which parts are replaced keeps the rules, where each new part meets them and has, in an expression, the
+/// kind and no wider an interval, and in a contract, no greater a scale and no greater a total.
+pub fn replaced_parts_keep_rules()
+    ensures unchanged { PartsStandForThemselves }
+    ensures composed { ReplacementsCompose }
+    ensures expressions { RewrittenReplaces }
+    ensures contracts { RewrittenContractReplaces }
+    ensures accepted { RewrittenMeetRules }
+{}

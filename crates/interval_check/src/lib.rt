@@ -1,0 +1,11 @@
+//! The last rule of acceptance, bounds, and what it guarantees: an accepted contract never leaves 128 bits, never
+//! divides by 0, and never pays more than its total.
+#![tactic(auto)]
+
+mod laws;
+
+pub use laws::{
+    accepted_contracts_are_safe, declarations_keep_limits, evaluation_is_safe,
+    narrower_ranges_keep_rules, payments_add_up_to_total, replaced_parts_keep_rules,
+    rules_hold_by_structure, values_lie_in_intervals,
+};
