@@ -5,6 +5,6 @@ mod checks;
 mod horizons;
 mod laws;
 
-pub use checks::Facts;
+pub use checks::{Facts, check};
 pub use horizons::horizon;
 pub use laws::{answers_are_unique, contracts_are_causal};

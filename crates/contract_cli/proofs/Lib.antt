@@ -9,5 +9,6 @@ pub mod PlainTableFacts
 pub mod RowFacts
 pub mod TableFacts
 pub mod RunFacts
+pub mod CheckFacts
 pub mod PlainFlowFacts
 mod TableRows

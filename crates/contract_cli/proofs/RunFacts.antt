@@ -3,7 +3,8 @@ use Rattle.std.proofs.Common.{◌≡◌, ◌∙◌, ◌≤◌, ◌<◌, ◌⊎�
 use Rattle.std.specs.Prelude.{Option, Some, None, IfSome}
 use Rattle.edge_io.specs.Counts.{Rose}
 use Rattle.term_core.specs.Books.{Book}
-use Rattle.contract_parse.specs.Texts.{Text}
+use Rattle.contract_parse.specs.Texts.{IsFault, Text}
+use Rattle.contract_parse.specs.declared.faults.TextFault.{TextFault}
 use Rattle.contract_parse.proofs.OneText.{one_text}
 use Rattle.report.specs.FaultLines.{fault_text}
 use Rattle.report.specs.declared.fault_lines.Fault.TheVariants as fault
@@ -24,18 +25,18 @@ data Settled (words : List (List ℕ)) (edge : Edge) (s : Status) : Type 0 where
   lacking : s ≡ status.NoMemory → WritesNothing edge.sink → Settled words edge s
 
 settled : (words : List (List ℕ)) (edge : Edge) (s : Status) → Meets words edge s → WritesSucceed edge → Settled words edge s
-settled words edge status.WriteFault m no = absurd (no m.written.0)
-settled words edge status.NoMemory m no = lacking refl m
-settled words edge status.Done m no = answered m
-settled words edge status.Refused m no = answered m
-settled words edge status.Usage m no = answered m
-settled words edge status.ReadFault m no = answered m
-settled words edge status.TooLong m no = answered m
-settled words edge status.BadText m no = answered m
-settled words edge status.BadRow m no = answered m
-settled words edge status.Missing m no = answered m
-settled words edge status.UnknownName m no = answered m
-settled words edge status.DayRange m no = answered m
+settled words edge status.WriteFault m calm = absurd (calm m.written.0)
+settled words edge status.NoMemory m calm = lacking refl m
+settled words edge status.Done m calm = answered m
+settled words edge status.Refused m calm = answered m
+settled words edge status.Usage m calm = answered m
+settled words edge status.ReadFault m calm = answered m
+settled words edge status.TooLong m calm = answered m
+settled words edge status.BadText m calm = answered m
+settled words edge status.BadRow m calm = answered m
+settled words edge status.Missing m calm = answered m
+settled words edge status.UnknownName m calm = answered m
+settled words edge status.DayRange m calm = answered m
 
 -- ---- the causes
 
@@ -132,9 +133,9 @@ ends words edge s verb all m r = by_settled words edge verb all s r (settled wor
 
 module _ (bytes : List ℕ) where
   plain_or_not : (text : List ℕ) → IsFlowsText bytes text → IsNotPlain bytes → ⊥
-  plain_or_not text flows refused =
-      let same = one_text bytes flows.portfolio refused.portfolio flows.spelled refused.spelled in
-      refused.refused (subst (λ (b : Book). AreAllPlain b.declarations b.contracts) same flows.plain)
+  plain_or_not text flows other =
+      let same = one_text bytes flows.portfolio other.portfolio flows.spelled other.spelled in
+      other.refused (subst (λ (b : Book). AreAllPlain b.declarations b.contracts) same flows.plain)
 
   accepted_or_not : IsAllAccepted bytes → IsSomeRefused bytes → ⊥
   accepted_or_not all some =
@@ -175,7 +176,7 @@ usage_by words edge s (answered a) = by (cause_is words edge.files s a.text a.ca
         , (λ is. absurd (subst (λ (x : Status). Answers c.verb c.bytes x a.text) is c.answer)) )
 
 pub usage_is_exact : UsageIsExact
-usage_is_exact words edge s m no = usage_by words edge s (settled words edge s m no)
+usage_is_exact words edge s m calm = usage_by words edge s (settled words edge s m calm)
 
 pub faults_have_causes : FaultsHaveCauses
 faults_have_causes words edge s asked m named = ((λ is. rose_of s is m), (λ is. written_of s is m))
@@ -188,7 +189,7 @@ faults_have_causes words edge s asked m named = ((λ is. rose_of s is m), (λ is
     written_of x is n = (subst (λ (y : Status). Meets words edge y) is n).written.0
 
 apart : {s x y : Status} (P : Type 0) → (x ≡ y → ⊥) → s ≡ x → s ≡ y → P
-apart P no e f = absurd (no (sym e ∙ f))
+apart P differ e f = absurd (differ (sym e ∙ f))
 
 too_long_by : (words : List (List ℕ)) (edge : Edge) (s : Status) (verb : Verb) (all : List ℕ) → Ends words edge verb all s → (longest_file < length all → IsOrNoMemory status.TooLong s) × (s ≡ status.TooLong → longest_file < length all)
 too_long_by words edge s verb all (long e h) = ((λ _. inl e), (λ _. h))
@@ -251,7 +252,7 @@ refusals_write_their_line words edge =
     , (λ m. by_line edge m.text (fault_text (fault.TooLong 1)) m.cause.line m.written)
     , (λ verb all r m. bad_line verb all (ends words edge status.BadText verb all m r)) )
   where
-    bad_line : (verb : Verb) (all : List ℕ) → Ends words edge verb all status.BadText → (first : _) × _ × WritesAll edge.sink (fault_text (fault.Text first))
+    bad_line : (verb : Verb) (all : List ℕ) → Ends words edge verb all status.BadText → (first : TextFault) × IsFault all first × WritesAll edge.sink (fault_text (fault.Text first))
     bad_line verb all (long e h) = absurd cc
     bad_line verb all (without e w) = absurd cc
     bad_line verb all (told text _ (done e a) w) = absurd cc

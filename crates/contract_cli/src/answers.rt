@@ -75,7 +75,7 @@ fn flows_answer(alloc: Global, bytes: &[u8]) -> Result<Answer, NoMemory>
 }
 
 /// What a command answers to the bytes of its portfolio.
-pub fn answer(alloc: Global, verb: Verb, bytes: &[u8]) -> Result<Answer, NoMemory>
+pub fn answer_bytes(alloc: Global, verb: Verb, bytes: &[u8]) -> Result<Answer, NoMemory>
     requires { length bytes.now ≤ 16_777_216 }
     ensures { IfOk result (λ answer. Answers verb bytes.now answer.status answer.text.items) }
 {

@@ -3,7 +3,7 @@
 ghost use Rattle.std.specs.Prelude.{map, IfOk};
 ghost use Rattle.contract_cli.specs.Runs.{Cause, Meets};
 
-use crate::answers::{Answer, answer, fault_answer};
+use crate::answers::{Answer, answer_bytes, fault_answer};
 use crate::status::Status;
 use crate::words::command_of;
 use decimal::NoMemory;
@@ -25,7 +25,7 @@ fn prepare<'a, F: Files>(
         return fault_answer(alloc, Status::Usage, &Fault::Usage);
     };
     match files.read_all(alloc, command.file, LONGEST_FILE) {
-        Ok(bytes) => answer(alloc, command.verb, &bytes),
+        Ok(bytes) => answer_bytes(alloc, command.verb, &bytes),
         Err(ReadErr::Failed) => fault_answer(alloc, Status::ReadFault, &Fault::Read { place: 1 }),
         Err(ReadErr::TooLong) => fault_answer(alloc, Status::TooLong, &Fault::TooLong { place: 1 }),
         Err(ReadErr::NoMemory) => Err(NoMemory),
