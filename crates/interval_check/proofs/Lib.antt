@@ -21,3 +21,4 @@ pub mod ReplacingFacts
 pub mod RewritingFacts
 pub mod AlignedFacts
 pub mod RewritingContracts
+pub mod Rows
