@@ -61,8 +61,7 @@ accepted_are_safe d c env f limits h admitted =
 
 pub parts_of_accepted_are_safe : PartsOfAcceptedAreSafe
 parts_of_accepted_are_safe d c e h es env f limits accepted stands within admitted =
-    let rules = parts_meet_rules d e h c [] stands (accepted_meet_rules d c accepted) in
-    (
+    let rules = parts_meet_rules d e h c [] stands (accepted_meet_rules d c accepted) in (
       expressions_are_safe d e h es env f limits rules within admitted,
       values_lie_in_intervals d e h es env f limits rules.bounds within admitted,
     )

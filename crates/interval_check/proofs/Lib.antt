@@ -22,3 +22,5 @@ pub mod RewritingFacts
 pub mod AlignedFacts
 pub mod RewritingContracts
 pub mod Rows
+pub mod NameFacts
+pub mod ClosedFacts

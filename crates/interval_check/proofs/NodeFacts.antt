@@ -97,13 +97,12 @@ nodes_hold d P Q q w (Div mode s a b) r k h = two_hold d P Q w a b (Div mode s a
 nodes_hold d P Q q w (Acc body n first) r k h =
     let start = sites_of w first (Earlier n ∷ r) (k + 1 + nodes body) in
     let bodies : ℕ → List Site = λ i. sites_of w body (Counting body i first ∷ r) (k + 1) in
-    let wholes : ℕ → Site = λ i. expression_at k r (Acc body i first) in
-    (
+    let wholes : ℕ → Site = λ i. expression_at k r (Acc body i first) in (
       nodes_hold d P Q q w first (Earlier n ∷ r) (k + 1 + nodes body) (AllPass-left P start (rounds w n bodies wholes) h),
       in_rounds P w n bodies wholes (λ i. EachNode Q w d body (range_after d body i first (ranges_round d r) ∷ ranges_round d r)) (λ i. Q (ranges_round d r) (OfExpression (Acc body i first)))
-      (λ i p. nodes_hold d P Q q w body (Counting body i first ∷ r) (k + 1) p)
-      (λ i p. q k r (OfExpression (Acc body i first)) p)
-      (AllPass-right P start (rounds w n bodies wholes) h),
+          (λ i p. nodes_hold d P Q q w body (Counting body i first ∷ r) (k + 1) p)
+          (λ i p. q k r (OfExpression (Acc body i first)) p)
+          (AllPass-right P start (rounds w n bodies wholes) h),
     )
 
 abbrev PassesAtSites : Declarations → (Site → Type 0) → (List Range → Part → Type 0) → Trial → Expression → Type 0

@@ -1,5 +1,5 @@
 -- Worked rows: intervals and sums that the definitions compute, and why the laws ask for what they ask.
-use Rattle.std.proofs.Common.{◌≡◌, ℕ, ℤ, pos, neg_ℤ, ◌^◌, ◌≤ℤ◌, true, false, List, [], ◌∷◌, None, codes, refl, arith}
+use Rattle.std.proofs.Common.{◌≡◌, ℕ, ℤ, pos, neg_ℤ, ◌^◌, ◌≤ℤ◌, false, List, [], ◌∷◌, None, codes, refl, arith}
 use Rattle.std.proofs.lemmas.Int.{ints}
 use Rattle.decimal.specs.Rounding.{divided}
 use Rattle.decimal.specs.declared.Mode.TheVariants.{HalfEven}

@@ -143,8 +143,7 @@ round_is_safe d body n first g es env f h known i l parts =
       order = subst (λ (m : ℕ). low ≤ m) (sym same) (leb-true low (scale_of d first ks) scaled.1);
       most = subst (λ (m : ℕ). m ≤ greatest_scale) (sym same) start;
       small = small_in (interval_of d (Acc body (suc i) first) g) (raised x (high - low)) (round_fits d body n i first g h.bounds l) (in_raised (interval_of d body ranges) (high - low) x (number_in d body ranges entries env day hb suits));
-    } in
-    (
+    } in (
       whole d body ranges entries env day parts hb suits,
       subst (λ (js : List Kind). WidensSafely (scale_of d body (kind_or (kind_of d first js) ∷ js)) (scale_of_kind (kind_or (kind_of d first js))) x) (same_kinds g es known.inside) here,
     )
@@ -161,17 +160,15 @@ parts_are_safe d (Num op a b) g es env f h known =
     let hb : MeetsRules d b g = record { sorts = h.sorts.1; scales = h.scales.1; bounds = h.bounds.1 } in
     let x = num (value_of d a es env f) in
     let y = num (value_of d b es env f) in
-    let fit = (bound_tests d (Num op a b) g h.bounds.2).0 in
-    (
+    let fit = (bound_tests d (Num op a b) g h.bounds.2).0 in (
       whole d a g es env f (parts_are_safe d a) ha known,
       whole d b g es env f (parts_are_safe d b) hb known,
       subst (λ (ks : List Kind). OperateSafely op (scale_of d a ks) x (scale_of d b ks) y) (same_kinds g es known.inside)
-      (operate_in op (scale_of d a (range_kinds g)) (scale_of d b (range_kinds g)) (interval_of d a g) (interval_of d b g) x y fit (number_in d a g es env f ha known) (number_in d b g es env f hb known)),
+          (operate_in op (scale_of d a (range_kinds g)) (scale_of d b (range_kinds g)) (interval_of d a g) (interval_of d b g) x y fit (number_in d a g es env f ha known) (number_in d b g es env f hb known)),
     )
 parts_are_safe d (Cmp op a b) g es env f h known =
     let ha : MeetsRules d a g = record { sorts = h.sorts.0; scales = h.scales.0; bounds = h.bounds.0 } in
-    let hb : MeetsRules d b g = record { sorts = h.sorts.1; scales = h.scales.1; bounds = h.bounds.1 } in
-    (
+    let hb : MeetsRules d b g = record { sorts = h.sorts.1; scales = h.scales.1; bounds = h.bounds.1 } in (
       whole d a g es env f (parts_are_safe d a) ha known,
       whole d b g es env f (parts_are_safe d b) hb known,
       aligned_safely d a b g es env f ha hb known (bound_tests d (Cmp op a b) g h.bounds.2).0,
@@ -185,8 +182,7 @@ parts_are_safe d (Logic op a b) g es env f h known = (
 parts_are_safe d (Cond t a b) g es env f h known =
     let ht : MeetsRules d t g = record { sorts = h.sorts.0; scales = h.scales.0; bounds = h.bounds.0 } in
     let ha : MeetsRules d a g = record { sorts = h.sorts.1; scales = h.scales.1; bounds = h.bounds.1 } in
-    let hb : MeetsRules d b g = record { sorts = h.sorts.2; scales = h.scales.2; bounds = h.bounds.2 } in
-    (
+    let hb : MeetsRules d b g = record { sorts = h.sorts.2; scales = h.scales.2; bounds = h.bounds.2 } in (
       whole d t g es env f (parts_are_safe d t) ht known,
       whole d a g es env f (parts_are_safe d a) ha known,
       whole d b g es env f (parts_are_safe d b) hb known,
@@ -210,11 +206,10 @@ parts_are_safe d (Round mode s e) g es env f h known =
     let ks = range_kinds g in
     let x = num (value_of d e es env f) in
     let most = subst (λ (m : ℕ). m ≤ greatest_scale) (number_scale (kind_of d e ks) s h.sorts.1) (scale_fits d (Round mode s e) g h.scales) in
-    let fit = (bound_tests d (Round mode s e) g h.bounds.1).1 in
-    (
+    let fit = (bound_tests d (Round mode s e) g h.bounds.1).1 in (
       whole d e g es env f (parts_are_safe d e) he known,
       subst (λ (js : List Kind). RoundsSafely (scale_of d e js) s x) (same_kinds g es known.inside)
-      (rounds_in mode (scale_of d e ks) s (interval_of d e g) x fit (number_in d e g es env f he known) most),
+          (rounds_in mode (scale_of d e ks) s (interval_of d e g) x fit (number_in d e g es env f he known) most),
     )
 parts_are_safe d (Div mode s a b) g es env f h known =
     let ha : MeetsRules d a g = record { sorts = h.sorts.0; scales = h.scales.0; bounds = h.bounds.0 } in
@@ -229,8 +224,7 @@ parts_are_safe d (Div mode s a b) g es env f h known =
       nonzero = sign_nonzero (interval_of d b g) y division.sign in_b;
       most = subst (λ (m : ℕ). m ≤ greatest_scale) (numbers_scale (kind_of d a ks) (kind_of d b ks) s h.sorts.2) (scale_fits d (Div mode s a b) g h.scales);
       fits = divide_in (scale_of d a ks) (interval_of d a g) (scale_of d b ks) (interval_of d b g) s x y division in_a in_b;
-    } in
-    (
+    } in (
       whole d a g es env f (parts_are_safe d a) ha known,
       whole d b g es env f (parts_are_safe d b) hb known,
       subst (λ (js : List Kind). DivideSafely (scale_of d a js) x (scale_of d b js) y s) (same_kinds g es known.inside) here,

@@ -46,9 +46,9 @@ HasSafeContractParts d (Let e c) es env f =
     × (HasSafeFlows d c (entry_of d e es env f ∷ es) env f × HasSafeContractParts d c (entry_of d e es env f ∷ es) env f)
 HasSafeContractParts d (Within e n a b) es env f =
     ((i : ℕ) → i ≤ count_of n →
-        IsSafe d e es env (f +ℤ pos i)
-        × (HasSafeFlows d a es env (f +ℤ pos i) × HasSafeContractParts d a es env (f +ℤ pos i))
-        × AlignPayments d a b es env (f +ℤ pos i) (f +ℤ pos (count_of n)))
+    IsSafe d e es env (f +ℤ pos i)
+    × (HasSafeFlows d a es env (f +ℤ pos i) × HasSafeContractParts d a es env (f +ℤ pos i))
+    × AlignPayments d a b es env (f +ℤ pos i) (f +ℤ pos (count_of n)))
     × (HasSafeFlows d b es env (f +ℤ pos (count_of n)) × HasSafeContractParts d b es env (f +ℤ pos (count_of n)))
 
 -- a contract can be evaluated, with these entries for its names, on frame f

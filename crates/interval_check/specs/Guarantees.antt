@@ -6,6 +6,7 @@ use Rattle.term_core.specs.Declarations.{Declarations, declarations}
 use Rattle.term_core.specs.declared.decls.Decls.{Decls}
 use Rattle.term_core.specs.declared.rules.Rule.TheVariants.{Sort, Scale, Bound}
 use Rattle.term_core.specs.Terms.{Expression, Contract}
+use Rattle.term_core.specs.WellFormed.{IsWellFormed}
 use Rattle.term_core.specs.Environments.{Environment, IsAdmitted}
 use Rattle.term_core.specs.Values.{Entry, num, value_of}
 use Rattle.term_core.specs.Flows.{Flow}
@@ -66,6 +67,17 @@ PartsOfAcceptedAreSafe =
     (d : Declarations) (c : Contract) (e : Expression) (h : List Range) (es : List Entry) (env : Environment) (f : ℤ)
     → KeepsLimits d → IsAccepted d c → StandsIn d e h c [] → AreWithin h es → IsAdmitted d env
     → IsSafe d e es env f × IsIn (interval_of d e h) (num (value_of d e es env f))
+
+-- an expression that uses no name bound outside it meets the rules without any
+abbrev pub ClosedNeedNoNames : Type 0
+ClosedNeedNoNames =
+    (d : Declarations) (e : Expression) (g : List Range) → IsWellFormed d 0 e → MeetsRules d e g → MeetsRules d e []
+
+-- and one that stands in an accepted contract can be evaluated without entries
+abbrev pub ClosedPartsAreSafe : Type 0
+ClosedPartsAreSafe =
+    (d : Declarations) (c : Contract) (e : Expression) (h : List Range) (env : Environment) (f : ℤ)
+    → KeepsLimits d → IsAccepted d c → StandsIn d e h c [] → IsWellFormed d 0 e → IsAdmitted d env → IsSafe d e [] env f
 
 -- over any days, the sizes of what a contract pays between two parties in an asset add up to at most its turnover, and
 -- this is at most its total

@@ -55,8 +55,8 @@ IsRewritten d (Div mode s a b) y g =
 IsRewritten d (Acc body n first) y g =
     Replaces d y (Acc body n first) g
     ⊎ ((body' : Expression) × (first' : Expression) × (y ≡ Acc body' n first') × IsRewritten d first first' g
-        × KeepsForm d body' body (range_after d body 0 first g ∷ g)
-        × ((i : ℕ) → i < n → IsRewritten d body body' (range_after d body i first g ∷ g)))
+    × KeepsForm d body' body (range_after d body 0 first g ∷ g)
+    × ((i : ℕ) → i < n → IsRewritten d body body' (range_after d body i first g ∷ g)))
 
 -- b may stand in the place of a, among names of these ranges
 pub record ReplacesContract (d : Declarations) (b a : Contract) (g : List Range) : Type 0 where
@@ -82,7 +82,7 @@ IsRewrittenContract d (Let e c) k g =
 IsRewrittenContract d (Within e n a b) k g =
     ReplacesContract d k (Within e n a b) g
     ⊎ ((e' : Expression) × (n' : Days) × (a' : Contract) × (b' : Contract) × (k ≡ Within e' n' a' b')
-        × IsRewritten d e e' g × IsRewrittenContract d a a' g × IsRewrittenContract d b b' g)
+    × IsRewritten d e e' g × IsRewrittenContract d a a' g × IsRewrittenContract d b b' g)
 
 -- a part that is left as it is may stand for itself
 abbrev pub PartsStandForThemselves : Type 0

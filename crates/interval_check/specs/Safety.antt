@@ -95,9 +95,9 @@ HasSafeParts d (Acc body n first) es env f =
     let k = kind_or (kind_of d first (kinds es)) in
     (HasSafeValue d first es env (f -ℤ pos n) × HasSafeParts d first es env (f -ℤ pos n))
     × ((i : ℕ) → i < n →
-        (HasSafeValue d body (entry_after d body n first es env f i ∷ es) env (f -ℤ pos n +ℤ pos (suc i))
-        × HasSafeParts d body (entry_after d body n first es env f i ∷ es) env (f -ℤ pos n +ℤ pos (suc i)))
-        × WidensSafely (scale_of d body (k ∷ kinds es)) (scale_of_kind k) (num (value_of d body (entry_after d body n first es env f i ∷ es) env (f -ℤ pos n +ℤ pos (suc i)))))
+    (HasSafeValue d body (entry_after d body n first es env f i ∷ es) env (f -ℤ pos n +ℤ pos (suc i))
+    × HasSafeParts d body (entry_after d body n first es env f i ∷ es) env (f -ℤ pos n +ℤ pos (suc i)))
+    × WidensSafely (scale_of d body (k ∷ kinds es)) (scale_of_kind k) (num (value_of d body (entry_after d body n first es env f i ∷ es) env (f -ℤ pos n +ℤ pos (suc i)))))
 
 -- an expression can be evaluated, with these entries for its names, on day f
 abbrev pub IsSafe : Declarations → Expression → List Entry → Environment → ℤ → Type 0

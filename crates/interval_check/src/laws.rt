@@ -1,7 +1,7 @@
 //! What the rules of acceptance guarantee of an evaluation. Each law is the contract of a function that does nothing; a
 //! caller takes the law by calling it.
 
-ghost use Rattle.interval_check.specs.Guarantees.{DeclsKeepLimits, RulesAreByStructure, AcceptedMeetRules, PartsMeetRules, ValuesLieInIntervals, ExpressionsAreSafe, ContractsAreSafe, AcceptedAreSafe, PartsOfAcceptedAreSafe, FlowsAddUpToTotal, AmountsAddUpToTotal};
+ghost use Rattle.interval_check.specs.Guarantees.{DeclsKeepLimits, RulesAreByStructure, AcceptedMeetRules, PartsMeetRules, ClosedNeedNoNames, ValuesLieInIntervals, ExpressionsAreSafe, ContractsAreSafe, AcceptedAreSafe, PartsOfAcceptedAreSafe, ClosedPartsAreSafe, FlowsAddUpToTotal, AmountsAddUpToTotal};
 ghost use Rattle.interval_check.specs.Narrowing.{IntervalsAreMonotone, TotalsAreMonotone, RulesAreMonotone, ContractRulesAreMonotone};
 ghost use Rattle.interval_check.specs.Replacing.{PartsStandForThemselves, ReplacementsCompose, RewrittenReplaces, RewrittenContractReplaces, RewrittenMeetRules};
 
@@ -11,11 +11,13 @@ pub fn declarations_keep_limits()
 {}
 
 /// The rules on sorts, scales and bounds hold in the order of trial exactly where they hold by structure. So an accepted
-/// contract meets them by structure, and so does each expression that stands in it.
+/// contract meets them by structure, and so does each expression that stands in it, without any names where it uses
+/// none from outside.
 pub fn rules_hold_by_structure()
     ensures rules { RulesAreByStructure }
     ensures accepted { AcceptedMeetRules }
     ensures parts { PartsMeetRules }
+    ensures closed { ClosedNeedNoNames }
 {}
 
 /// The value of an expression lies in its interval, in every admitted environment and on every day.
@@ -33,6 +35,7 @@ pub fn evaluation_is_safe()
 pub fn accepted_contracts_are_safe()
     ensures contracts { AcceptedAreSafe }
     ensures parts { PartsOfAcceptedAreSafe }
+    ensures closed { ClosedPartsAreSafe }
 {}
 
 /// Over any days, what a contract pays between two parties in an asset adds up to at most its total.
