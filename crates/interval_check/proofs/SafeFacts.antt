@@ -21,13 +21,13 @@ use Rattle.term_core.specs.Bounds.{Interval, Range, range_kinds, lifted, interva
 use Rattle.term_core.proofs.KindFacts.{values_have_kinds}
 use Rattle.interval_check.specs.Nodes.{MeetsRules, IsSortedPart, is_sorted_part, is_scaled_part, has_scaled_parts, range_after}
 use Rattle.interval_check.specs.Within.{IsIn, KeepsLimits}
-use Rattle.interval_check.specs.Safety.{IsSmall, AlignSafely, OperateSafely, WidensSafely, RoundsSafely, DivideSafely, HasSafeValue, HasSafeParts, IsSafe, entry_after}
+use Rattle.interval_check.specs.Safety.{IsSmall, AlignSafely, OperateSafely, WidensSafely, RoundsSafely, DivideSafely, HasSafeValue, HasSafeParts, ScalesFit, IsSafe, CanEvaluate, entry_after}
 use Rattle.interval_check.proofs.IntervalFacts.{in_raised, in_rounded}
 use Rattle.interval_check.proofs.QuotientFacts.{sign_nonzero}
 use Rattle.interval_check.proofs.RoundingFacts.{at_scale_up}
 use Rattle.interval_check.proofs.TestFacts.{small_in, align_in, division_fits, divide_in}
 use Rattle.interval_check.proofs.KindsEnough.{kinds_are_enough}
-use Rattle.interval_check.proofs.RootFacts.{at_root, scale_fits, bound_tests, interval_fits, round_fits, some_kind, scale_of_some, number_scale, numbers_scale}
+use Rattle.interval_check.proofs.RootFacts.{at_root, scale_fits, scales_fit, bound_tests, interval_fits, round_fits, some_kind, scale_of_some, number_scale, numbers_scale}
 use Rattle.interval_check.proofs.ValueFacts.{AreInside, same_kinds, values_lie, inside_round, round_lies}
 
 -- what is known of an expression's names
@@ -234,5 +234,9 @@ parts_are_safe d (Acc body n first) g es env f h known = (
   λ i l. round_is_safe d body n first g es env f h known i l (parts_are_safe d body),
 )
 
-pub expression_is_safe : (d : Declarations) (e : Expression) (g : List Range) (es : List Entry) (env : Environment) (f : ℤ) → MeetsRules d e g → Suits d g es env → IsSafe d e es env f
-expression_is_safe d e g es env f h known = whole d e g es env f (parts_are_safe d e) h known
+pub expression_is_safe : (d : Declarations) (e : Expression) (g : List Range) (es : List Entry) (env : Environment) (f : ℤ) → MeetsRules d e g → Suits d g es env → CanEvaluate d e es env f
+expression_is_safe d e g es env f h known =
+    record {
+      scales = subst (ScalesFit d e) (same_kinds g es known.inside) (scales_fit d e g h.scales);
+      safe = whole d e g es env f (parts_are_safe d e) h known;
+    }

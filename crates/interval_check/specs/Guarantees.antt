@@ -15,7 +15,7 @@ use Rattle.term_core.specs.Acceptance.{Meets, IsAccepted}
 use Rattle.interval_check.specs.Nodes.{IsBounded, IsSortedContract, IsScaledContract, IsBoundedContract, MeetsRules, ContractMeetsRules}
 use Rattle.interval_check.specs.Within.{IsIn, AreWithin, KeepsLimits}
 use Rattle.interval_check.specs.Sums.{sum_of_flows, sum_of_amounts, turnover_of}
-use Rattle.interval_check.specs.Safety.{IsSafe}
+use Rattle.interval_check.specs.Safety.{CanEvaluate}
 use Rattle.interval_check.specs.ContractSafety.{IsSafeContract}
 use Rattle.interval_check.specs.Parts.{StandsIn}
 
@@ -48,7 +48,7 @@ ValuesLieInIntervals =
 abbrev pub ExpressionsAreSafe : Type 0
 ExpressionsAreSafe =
     (d : Declarations) (e : Expression) (g : List Range) (es : List Entry) (env : Environment) (f : ℤ)
-    → KeepsLimits d → MeetsRules d e g → AreWithin g es → IsAdmitted d env → IsSafe d e es env f
+    → KeepsLimits d → MeetsRules d e g → AreWithin g es → IsAdmitted d env → CanEvaluate d e es env f
 
 abbrev pub ContractsAreSafe : Type 0
 ContractsAreSafe =
@@ -66,7 +66,7 @@ abbrev pub PartsOfAcceptedAreSafe : Type 0
 PartsOfAcceptedAreSafe =
     (d : Declarations) (c : Contract) (e : Expression) (h : List Range) (es : List Entry) (env : Environment) (f : ℤ)
     → KeepsLimits d → IsAccepted d c → StandsIn d e h c [] → AreWithin h es → IsAdmitted d env
-    → IsSafe d e es env f × IsIn (interval_of d e h) (num (value_of d e es env f))
+    → CanEvaluate d e es env f × IsIn (interval_of d e h) (num (value_of d e es env f))
 
 -- an expression that uses no name bound outside it meets the rules without any
 abbrev pub ClosedNeedNoNames : Type 0
@@ -77,7 +77,7 @@ ClosedNeedNoNames =
 abbrev pub ClosedPartsAreSafe : Type 0
 ClosedPartsAreSafe =
     (d : Declarations) (c : Contract) (e : Expression) (h : List Range) (env : Environment) (f : ℤ)
-    → KeepsLimits d → IsAccepted d c → StandsIn d e h c [] → IsWellFormed d 0 e → IsAdmitted d env → IsSafe d e [] env f
+    → KeepsLimits d → IsAccepted d c → StandsIn d e h c [] → IsWellFormed d 0 e → IsAdmitted d env → CanEvaluate d e [] env f
 
 -- over any days, the sizes of what a contract pays between two parties in an asset add up to at most its turnover, and
 -- this is at most its total
