@@ -11,7 +11,7 @@ use Rattle.term_core.specs.Terms.{Expression, Lit, Yes, Var, Obs, Neg, Num, Cmp,
 use Rattle.term_core.specs.Limits.{greatest_mantissa}
 use Rattle.term_core.specs.Environments.{Environment}
 use Rattle.term_core.specs.Kinds.{kind_of, scale_of, scale_of_kind}
-use Rattle.term_core.specs.Values.{Entry, kinds, num, kind_or, widened, days_run, value_of}
+use Rattle.term_core.specs.Values.{Entry, kinds, num, of_num, kind_or, widened, days_run, value_of}
 use Rattle.term_core.specs.LawsKinds.{IsOfKind}
 use Rattle.term_core.specs.Scales.{greatest_scale}
 
@@ -24,10 +24,10 @@ pub record AlignSafely (i : ℕ) (x : ℤ) (j : ℕ) (y : ℤ) : Type 0 where
   pub left : IsSmall (raised x (max i j - i))
   pub right : IsSmall (raised y (max i j - j))
 
--- operands of scales i and j fit under an operator; a product aligns none
+-- operands of scales i and j fit under an operator, and so does the outcome; a product aligns none
 abbrev pub OperateSafely : NumOp → ℕ → ℤ → ℕ → ℤ → Type 0
-OperateSafely Times i x j y = Unit {0}
-OperateSafely op i x j y = AlignSafely i x j y
+OperateSafely Times i x j y = IsSmall x × IsSmall y × IsSmall (of_num Times i x j y)
+OperateSafely op i x j y = AlignSafely i x j y × IsSmall (of_num op i x j y)
 
 -- a number of scale i fits at the scale s, which is no lower
 pub record WidensSafely (i s : ℕ) (x : ℤ) : Type 0 where
