@@ -19,7 +19,7 @@ use Rattle.interval_check.specs.Nodes.{IsBounded, IsBoundedContract, range_after
 use Rattle.interval_check.specs.Within.{KeepsLimits}
 use Rattle.interval_check.specs.Narrowing.{IsNarrower, AreNarrower, IntervalsAreMonotone, TotalsAreMonotone, RulesAreMonotone, ContractRulesAreMonotone}
 use Rattle.interval_check.proofs.ValueFacts.{label_keeps, in_order}
-use Rattle.interval_check.proofs.RootFacts.{bound_tests}
+use Rattle.interval_check.proofs.NodeTests.{bound_tests}
 use Rattle.interval_check.proofs.KindsEnough.{kinds_are_enough, kinds_are_enough_for}
 use Rattle.interval_check.proofs.ContractSafeFacts.{total_fits}
 use Rattle.interval_check.proofs.TurnoverFacts.{product_at_most}

@@ -19,7 +19,7 @@ use Rattle.interval_check.specs.Within.{KeepsLimits}
 use Rattle.interval_check.specs.Narrowing.{IsNarrower, AreNarrower}
 use Rattle.interval_check.specs.Replacing.{Replaces, KeepsForm}
 use Rattle.interval_check.proofs.KindsEnough.{kinds_are_enough}
-use Rattle.interval_check.proofs.RootFacts.{at_root, scaled_parts}
+use Rattle.interval_check.proofs.NodeTests.{at_root, scaled_parts}
 use Rattle.interval_check.proofs.NarrowFacts.{narrower_trans}
 use Rattle.interval_check.proofs.TightFacts.{IsTight, SameKind, RoundIsTight, tight_neg, tight_num, tight_cmp, tight_not, tight_logic, tight_cond, tight_widen, tight_round, tight_div, tight_acc}
 use Rattle.interval_check.proofs.NarrowerFacts.{stays_tight}

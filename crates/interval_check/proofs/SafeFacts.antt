@@ -22,12 +22,12 @@ use Rattle.term_core.proofs.KindFacts.{values_have_kinds}
 use Rattle.interval_check.specs.Nodes.{MeetsRules, IsSortedPart, is_sorted_part, is_scaled_part, has_scaled_parts, range_after}
 use Rattle.interval_check.specs.Within.{IsIn, KeepsLimits}
 use Rattle.interval_check.specs.Safety.{IsSmall, AlignSafely, OperateSafely, WidensSafely, RoundsSafely, DivideSafely, HasSafeValue, HasSafeParts, ScalesFit, IsSafe, CanEvaluate, entry_after}
-use Rattle.interval_check.proofs.IntervalFacts.{in_raised, in_rounded, in_of_op}
-use Rattle.interval_check.proofs.QuotientFacts.{sign_nonzero}
+use Rattle.interval_check.proofs.InclusionFacts.{in_raised, in_rounded, in_of_op}
+use Rattle.interval_check.proofs.DivisionFacts.{sign_nonzero}
 use Rattle.interval_check.proofs.RoundingFacts.{at_scale_up}
 use Rattle.interval_check.proofs.TestFacts.{small_in, align_in, division_fits, divide_in}
 use Rattle.interval_check.proofs.KindsEnough.{kinds_are_enough}
-use Rattle.interval_check.proofs.RootFacts.{at_root, scale_fits, scales_fit, bound_tests, interval_fits, round_fits, some_kind, scale_of_some, number_scale, numbers_scale}
+use Rattle.interval_check.proofs.NodeTests.{at_root, scale_fits, scales_fit, bound_tests, interval_fits, round_fits, some_kind, scale_of_some, number_scale, numbers_scale}
 use Rattle.interval_check.proofs.ValueFacts.{AreInside, same_kinds, values_lie, inside_round, round_lies}
 
 -- what is known of an expression's names

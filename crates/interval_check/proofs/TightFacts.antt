@@ -16,7 +16,7 @@ use Rattle.term_core.specs.Bounds.{Interval, Range, range_kinds, lifted, hull, c
 use Rattle.interval_check.specs.Nodes.{IsBounded, range_after}
 use Rattle.interval_check.specs.Narrowing.{IsNarrower}
 use Rattle.interval_check.proofs.TestFacts.{division_fits}
-use Rattle.interval_check.proofs.RootFacts.{bound_tests, round_fits}
+use Rattle.interval_check.proofs.NodeTests.{bound_tests, round_fits}
 use Rattle.interval_check.proofs.NarrowFacts.{narrower_same, narrower_hulls, narrower_quotient, narrower_negative, narrower_raised, narrower_rounded, narrower_aligned, narrower_of_op, narrower_fits, narrower_fit_aligned, narrower_fit_operands, narrower_fit_divided}
 
 -- e among ranges h meets the rule on bounds, and its interval is narrower than that of x among ranges g

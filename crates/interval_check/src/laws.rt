@@ -1,7 +1,7 @@
 //! What the rules of acceptance guarantee of an evaluation. Each law is the contract of a function that does nothing; a
 //! caller takes the law by calling it.
 
-ghost use Rattle.interval_check.specs.Guarantees.{DeclsKeepLimits, RulesAreByStructure, AcceptedMeetRules, PartsMeetRules, ClosedNeedNoNames, ValuesLieInIntervals, ExpressionsAreSafe, ContractsAreSafe, AcceptedAreSafe, PartsOfAcceptedAreSafe, ClosedPartsAreSafe, FlowsAddUpToTotal, AmountsAddUpToTotal};
+ghost use Rattle.interval_check.specs.Guarantees.{DeclsKeepLimits, RulesAreByStructure, AcceptedMeetRules, PartsMeetRules, ClosedNeedNoNames, ValuesLieInIntervals, ExpressionsAreSafe, BindingsLieWithin, ContractsAreSafe, AcceptedAreSafe, PartsOfAcceptedAreSafe, ClosedPartsAreSafe, FlowsAddUpToTotal, AmountsAddUpToTotal};
 ghost use Rattle.interval_check.specs.Narrowing.{IntervalsAreMonotone, TotalsAreMonotone, RulesAreMonotone, ContractRulesAreMonotone};
 ghost use Rattle.interval_check.specs.Replacing.{PartsStandForThemselves, ReplacementsCompose, RewrittenReplaces, RewrittenContractReplaces, RewrittenMeetRules};
 
@@ -25,9 +25,11 @@ pub fn values_lie_in_intervals()
     ensures { ValuesLieInIntervals }
 {}
 
-/// What meets the rules can be evaluated in 128 bits: no number leaves them, and no divisor is 0.
+/// What meets the rules can be evaluated in 128 bits: no number leaves them, and no divisor is 0. A name that is bound to
+/// a value on the way lies within its range, as what stands below it asks.
 pub fn evaluation_is_safe()
     ensures expressions { ExpressionsAreSafe }
+    ensures bindings { BindingsLieWithin }
     ensures contracts { ContractsAreSafe }
 {}
 
