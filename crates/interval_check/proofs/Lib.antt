@@ -25,3 +25,4 @@ pub mod Rows
 pub mod NameFacts
 pub mod ClosedFacts
 pub mod SuitedFacts
+pub mod StandingFacts

@@ -3,7 +3,7 @@
 
 ghost use Rattle.interval_check.specs.Guarantees.{DeclsKeepLimits, RulesAreByStructure, AcceptedMeetRules, PartsMeetRules, ClosedNeedNoNames, ValuesLieInIntervals, ExpressionsAreSafe, BindingsLieWithin, ContractsAreSafe, AcceptedAreSafe, PartsOfAcceptedAreSafe, ClosedPartsAreSafe, FlowsAddUpToTotal, AmountsAddUpToTotal};
 ghost use Rattle.interval_check.specs.Narrowing.{IntervalsAreMonotone, TotalsAreMonotone, RulesAreMonotone, ContractRulesAreMonotone};
-ghost use Rattle.interval_check.specs.Replacing.{PartsStandForThemselves, ReplacementsCompose, RewrittenReplaces, RewrittenContractReplaces, RewrittenMeetRules};
+ghost use Rattle.interval_check.specs.Replacing.{PartsStandForThemselves, ReplacementsCompose, RewrittenReplaces, RewrittenContractReplaces, RewrittenMeetRules, ValuesReplace, BranchesReplace, ContractPartsReplace};
 
 /// The declarations that a program holds keep their limits, as the laws below ask.
 pub fn declarations_keep_limits()
@@ -63,4 +63,12 @@ pub fn replaced_parts_keep_rules()
     ensures expressions { RewrittenReplaces }
     ensures contracts { RewrittenContractReplaces }
     ensures accepted { RewrittenMeetRules }
+{}
+
+/// What may stand for a whole: the value of an expression in an admitted environment, a branch of an `if` at the scale of
+/// the whole, and in a contract `zero`, each part of a `both`, of an `after` and of an `if .. within`.
+pub fn parts_may_stand_for_wholes()
+    ensures values { ValuesReplace }
+    ensures branches { BranchesReplace }
+    ensures contracts { ContractPartsReplace }
 {}
