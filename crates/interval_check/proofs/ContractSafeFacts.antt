@@ -63,14 +63,14 @@ flows_are_safe d c g es env f h s =
       scale = subst (λ (ks : List Kind). scale_of_contract d c ks ≤ d.amounts) same scaled;
       payable = λ n w. let most = flow_at_most d c g es env f n w h.bounds s in omega arith;
       aligned = λ n w.
-        let most = raised_size (flow_of d c es env f n w) k (total_of d c g) (flow_at_most d c g es env f n w h.bounds s) in
-        let known : IsPayable (raised (flow_of d c es env f n w) k) = omega arith in
-        subst (λ (ks : List Kind). IsPayable (raised (flow_of d c es env f n w) (d.amounts - scale_of_contract d c ks))) same known;
+          let most = raised_size (flow_of d c es env f n w) k (total_of d c g) (flow_at_most d c g es env f n w h.bounds s) in
+          let known : IsPayable (raised (flow_of d c es env f n w) k) = omega arith in
+          subst (λ (ks : List Kind). IsPayable (raised (flow_of d c es env f n w) (d.amounts - scale_of_contract d c ks))) same known;
       turnover = λ w. let most = turnover_at_most d s.limits c g es env f w h.bounds s.inside s.admitted in omega arith;
       aligned_turnover = λ w.
-        let most = mul-le-mul_right (10 ^ k) (turnover_at_most d s.limits c g es env f w h.bounds s.inside s.admitted) in
-        let known : turnover_of d c es env f w * 10 ^ k ≤ greatest_total = omega arith in
-        subst (λ (ks : List Kind). turnover_of d c es env f w * 10 ^ (d.amounts - scale_of_contract d c ks) ≤ greatest_total) same known;
+          let most = mul-le-mul_right (10 ^ k) (turnover_at_most d s.limits c g es env f w h.bounds s.inside s.admitted) in
+          let known : turnover_of d c es env f w * 10 ^ k ≤ greatest_total = omega arith in
+          subst (λ (ks : List Kind). turnover_of d c es env f w * 10 ^ (d.amounts - scale_of_contract d c ks) ≤ greatest_total) same known;
     }
 
 -- both parts of a contract, at the greater of their scales
@@ -122,8 +122,7 @@ contract_parts_are_safe : (d : Declarations) (c : Contract) → ContractPartsAre
 contract_parts_are_safe d Zero g es env f h s = tt
 contract_parts_are_safe d (Pay a p q) g es env f h s = tt
 contract_parts_are_safe d (Both a b) g es env f h s =
-    let total = total_at_root d (Both a b) g h in
-    (
+    let total = total_at_root d (Both a b) g h in (
       whole d a g es env f (contract_parts_are_safe d a) (record { sorts = h.sorts.0; scales = h.scales.0; bounds = h.bounds.0 }) s,
       whole d b g es env f (contract_parts_are_safe d b) (record { sorts = h.sorts.1; scales = h.scales.1; bounds = h.bounds.1 }) s,
       payments_align d a b g es env f f h.bounds.0 h.bounds.1 s (omega arith) (omega arith),
@@ -135,8 +134,7 @@ contract_parts_are_safe d (Scale e c) g es env f h s = (
 contract_parts_are_safe d (After n c) g es env f h s =
     whole d c g es env (f +ℤ pos (count_of n)) (contract_parts_are_safe d c) (record { sorts = h.sorts.0; scales = h.scales.0; bounds = h.bounds.0 }) s
 contract_parts_are_safe d (Let e c) g es env f h s =
-    let he : MeetsRules d e g = record { sorts = h.sorts.0; scales = h.scales.0; bounds = h.bounds.0 } in
-    (
+    let he : MeetsRules d e g = record { sorts = h.sorts.0; scales = h.scales.0; bounds = h.bounds.0 } in (
       expression_is_safe d e g es env f he s,
       whole d c (range_of d e g ∷ g) (entry_of d e es env f ∷ es) env f (contract_parts_are_safe d c) (record { sorts = h.sorts.1; scales = h.scales.1; bounds = h.bounds.1 }) (let_suits d e g es env f he s),
     )
@@ -145,8 +143,7 @@ contract_parts_are_safe d (Within e n a b) g es env f h s =
     let he : MeetsRules d e g = record { sorts = h.sorts.0; scales = h.scales.0; bounds = h.bounds.0 } in
     let ha : ContractMeetsRules d a g = record { sorts = h.sorts.1; scales = h.scales.1; bounds = h.bounds.1 } in
     let hb : ContractMeetsRules d b g = record { sorts = h.sorts.2; scales = h.scales.2; bounds = h.bounds.2 } in
-    let last = f +ℤ pos (count_of n) in
-    (
+    let last = f +ℤ pos (count_of n) in (
       λ i l. (
         expression_is_safe d e g es env (f +ℤ pos i) he s,
         whole d a g es env (f +ℤ pos i) (contract_parts_are_safe d a) ha s,

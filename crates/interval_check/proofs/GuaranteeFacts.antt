@@ -10,14 +10,14 @@ use Rattle.term_core.specs.Sites.{Once, EachDay}
 use Rattle.term_core.specs.Bounds.{Range}
 use Rattle.interval_check.specs.Nodes.{IsSortedPart, IsScaledPart, IsBoundedPart}
 use Rattle.interval_check.specs.Within.{AreWithin, KeepsLimits}
-use Rattle.interval_check.specs.Guarantees.{RulesAreByStructure, AcceptedMeetRules, PartsMeetRules, ValuesLieInIntervals, ExpressionsAreSafe, ContractsAreSafe, AcceptedAreSafe, PartsOfAcceptedAreSafe, FlowsAddUpToTotal, AmountsAddUpToTotal}
+use Rattle.interval_check.specs.Guarantees.{RulesAreByStructure, AcceptedMeetRules, PartsMeetRules, ValuesLieInIntervals, ExpressionsAreSafe, BindingsLieWithin, ContractsAreSafe, AcceptedAreSafe, FlowsAddUpToTotal, AmountsAddUpToTotal}
 use Rattle.interval_check.proofs.RuleFacts.{sorts_hold, scales_hold, bounds_hold, sorts_are_met, scales_are_met, bounds_are_met}
 use Rattle.interval_check.proofs.ValueFacts.{inside_from, values_lie}
-use Rattle.interval_check.proofs.SafeFacts.{Suits, expression_is_safe}
+use Rattle.interval_check.proofs.SafeFacts.{Suits, value_is_safe, expression_is_safe}
 use Rattle.interval_check.proofs.ContractSafeFacts.{contract_is_safe}
 use Rattle.interval_check.proofs.PartFacts.{standing_meets}
 use Rattle.interval_check.proofs.SumFacts.{sum_raised}
-use Rattle.interval_check.proofs.TurnoverFacts.{turnover_at_most, flows_within_turnover}
+use Rattle.interval_check.proofs.TurnoverFacts.{inside_let, turnover_at_most, flows_within_turnover}
 
 pub rules_are_by_structure : RulesAreByStructure
 rules_are_by_structure d c = (
@@ -37,19 +37,26 @@ parts_meet_rules d e h c g stands rules =
 pub values_lie_in_intervals : ValuesLieInIntervals
 values_lie_in_intervals d e g es env f limits h within admitted = values_lie d limits e g es env f h (inside_from g es within) admitted
 
-of_kinds_from : (g : List Range) (es : List Entry) → AreWithin g es → AreOfKinds es
+pub of_kinds_from : (g : List Range) (es : List Entry) → AreWithin g es → AreOfKinds es
 of_kinds_from [] [] h = tt
 of_kinds_from [] (e ∷ es) h = absurd h
 of_kinds_from (r ∷ g) [] h = absurd h
 of_kinds_from (r ∷ g) (e ∷ es) h = (h.0.of_kind, of_kinds_from g es h.1)
 
-suits : (d : Declarations) (g : List Range) (es : List Entry) (env : Environment) → KeepsLimits d → AreWithin g es → IsAdmitted d env → Suits d g es env
+pub suits : (d : Declarations) (g : List Range) (es : List Entry) (env : Environment) → KeepsLimits d → AreWithin g es → IsAdmitted d env → Suits d g es env
 suits d g es env limits within admitted =
     record { limits = limits; inside = inside_from g es within; of_kinds = of_kinds_from g es within; admitted = admitted }
 
 pub expressions_are_safe : ExpressionsAreSafe
 expressions_are_safe d e g es env f limits h within admitted =
     expression_is_safe d e g es env f h (suits d g es env limits within admitted)
+
+pub bindings_lie_within : BindingsLieWithin
+bindings_lie_within d e g es env f limits h within admitted =
+    let known = suits d g es env limits within admitted in
+    let value = value_is_safe d e g es env f h known in
+    let inside = inside_let d e g es env f known.inside (values_lie d limits e g es env f h.bounds known.inside admitted) in
+    (record { same_kind = inside.0; of_kind = value.of_kind; inside = inside.1 }, within)
 
 pub contracts_are_safe : ContractsAreSafe
 contracts_are_safe d c g es env f limits h within admitted =
@@ -58,14 +65,6 @@ contracts_are_safe d c g es env f limits h within admitted =
 pub accepted_are_safe : AcceptedAreSafe
 accepted_are_safe d c env f limits h admitted =
     contracts_are_safe d c [] [] env f limits (accepted_meet_rules d c h) tt admitted
-
-pub parts_of_accepted_are_safe : PartsOfAcceptedAreSafe
-parts_of_accepted_are_safe d c e h es env f limits accepted stands within admitted =
-    let rules = parts_meet_rules d e h c [] stands (accepted_meet_rules d c accepted) in
-    (
-      expressions_are_safe d e h es env f limits rules within admitted,
-      values_lie_in_intervals d e h es env f limits rules.bounds within admitted,
-    )
 
 pub flows_add_up_to_total : FlowsAddUpToTotal
 flows_add_up_to_total d c g es env f m n w limits h within admitted =

@@ -1,13 +1,13 @@
 pub mod MultipleFacts
 pub mod RoundingFacts
-pub mod IntervalFacts
-pub mod QuotientFacts
+pub mod InclusionFacts
+pub mod DivisionFacts
 pub mod NodeFacts
 pub mod RuleFacts
 pub mod TestFacts
 pub mod ValueFacts
 pub mod KindsEnough
-pub mod RootFacts
+pub mod NodeTests
 pub mod SafeFacts
 pub mod SumFacts
 pub mod TurnoverFacts
@@ -21,3 +21,8 @@ pub mod ReplacingFacts
 pub mod RewritingFacts
 pub mod AlignedFacts
 pub mod RewritingContracts
+pub mod Rows
+pub mod NameFacts
+pub mod ClosedFacts
+pub mod SuitedFacts
+pub mod StandingFacts

@@ -9,8 +9,8 @@ use Rattle.term_core.specs.declared.terms.NumOp.TheVariants.{Plus, Minus, Times,
 use Rattle.term_core.specs.Bounds.{Interval, single, lifted, swapped, hull, corners, on_intervals, aligned, of_op, fits, fit_aligned, fit_operands, fit_divided, has_zero, greatest_size}
 use Rattle.interval_check.specs.Within.{IsIn}
 use Rattle.interval_check.specs.Narrowing.{IsNarrower}
-use Rattle.interval_check.proofs.IntervalFacts.{in_single, in_left, in_right, in_product, in_negative, in_raised, in_rounded}
-use Rattle.interval_check.proofs.QuotientFacts.{HasSign, in_quotient}
+use Rattle.interval_check.proofs.InclusionFacts.{in_single, in_left, in_right, in_product, in_negative, in_raised, in_rounded}
+use Rattle.interval_check.proofs.DivisionFacts.{HasSign, in_quotient}
 use Rattle.interval_check.proofs.TestFacts.{small_between, fits_from, small_in, division_fits}
 
 pub narrower_single : (k : Interval) (m : ℤ) → IsIn k m → IsNarrower (single m) k

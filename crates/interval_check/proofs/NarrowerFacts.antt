@@ -19,7 +19,7 @@ use Rattle.interval_check.specs.Nodes.{IsBounded, IsBoundedContract, range_after
 use Rattle.interval_check.specs.Within.{KeepsLimits}
 use Rattle.interval_check.specs.Narrowing.{IsNarrower, AreNarrower, IntervalsAreMonotone, TotalsAreMonotone, RulesAreMonotone, ContractRulesAreMonotone}
 use Rattle.interval_check.proofs.ValueFacts.{label_keeps, in_order}
-use Rattle.interval_check.proofs.RootFacts.{bound_tests}
+use Rattle.interval_check.proofs.NodeTests.{bound_tests}
 use Rattle.interval_check.proofs.KindsEnough.{kinds_are_enough, kinds_are_enough_for}
 use Rattle.interval_check.proofs.ContractSafeFacts.{total_fits}
 use Rattle.interval_check.proofs.TurnoverFacts.{product_at_most}
@@ -126,15 +126,15 @@ total_of_both : (d : Declarations) (a b : Contract) (h g : List Range) → AreNa
 total_of_both d a b h g p left right =
     subst (λ (ks : List Kind). total_of d a h * 10 ^ (max (scale_of_contract d a ks) (scale_of_contract d b ks) - scale_of_contract d a ks) + total_of d b h * 10 ^ (max (scale_of_contract d a ks) (scale_of_contract d b ks) - scale_of_contract d b ks) ≤ total_of d (Both a b) g) (sym (narrower_kinds h g p))
     (let one = mul-le-mul_right (10 ^ (max (scale_of_contract d a (range_kinds g)) (scale_of_contract d b (range_kinds g)) - scale_of_contract d a (range_kinds g))) left in
-     let two = mul-le-mul_right (10 ^ (max (scale_of_contract d a (range_kinds g)) (scale_of_contract d b (range_kinds g)) - scale_of_contract d b (range_kinds g))) right in
-     omega arith)
+    let two = mul-le-mul_right (10 ^ (max (scale_of_contract d a (range_kinds g)) (scale_of_contract d b (range_kinds g)) - scale_of_contract d b (range_kinds g))) right in
+    omega arith)
 
 total_of_within : (d : Declarations) (e : Expression) (h g : List Range) (a b : Contract) → AreNarrower h g → total_of d a h ≤ total_of d a g → total_of d b h ≤ total_of d b g → max (total_of d a h * 10 ^ (max (scale_of_contract d a (range_kinds h)) (scale_of_contract d b (range_kinds h)) - scale_of_contract d a (range_kinds h))) (total_of d b h * 10 ^ (max (scale_of_contract d a (range_kinds h)) (scale_of_contract d b (range_kinds h)) - scale_of_contract d b (range_kinds h))) ≤ max (total_of d a g * 10 ^ (max (scale_of_contract d a (range_kinds g)) (scale_of_contract d b (range_kinds g)) - scale_of_contract d a (range_kinds g))) (total_of d b g * 10 ^ (max (scale_of_contract d a (range_kinds g)) (scale_of_contract d b (range_kinds g)) - scale_of_contract d b (range_kinds g)))
 total_of_within d e h g a b p left right =
     subst (λ (ks : List Kind). max (total_of d a h * 10 ^ (max (scale_of_contract d a ks) (scale_of_contract d b ks) - scale_of_contract d a ks)) (total_of d b h * 10 ^ (max (scale_of_contract d a ks) (scale_of_contract d b ks) - scale_of_contract d b ks)) ≤ max (total_of d a g * 10 ^ (max (scale_of_contract d a (range_kinds g)) (scale_of_contract d b (range_kinds g)) - scale_of_contract d a (range_kinds g))) (total_of d b g * 10 ^ (max (scale_of_contract d a (range_kinds g)) (scale_of_contract d b (range_kinds g)) - scale_of_contract d b (range_kinds g)))) (sym (narrower_kinds h g p))
     (let one = mul-le-mul_right (10 ^ (max (scale_of_contract d a (range_kinds g)) (scale_of_contract d b (range_kinds g)) - scale_of_contract d a (range_kinds g))) left in
-     let two = mul-le-mul_right (10 ^ (max (scale_of_contract d a (range_kinds g)) (scale_of_contract d b (range_kinds g)) - scale_of_contract d b (range_kinds g))) right in
-     omega arith)
+    let two = mul-le-mul_right (10 ^ (max (scale_of_contract d a (range_kinds g)) (scale_of_contract d b (range_kinds g)) - scale_of_contract d b (range_kinds g))) right in
+    omega arith)
 
 pub stays_bounded : (d : Declarations) → KeepsLimits d → (c : Contract) → StaysBounded d c
 stays_bounded d limits Zero h g p b =

@@ -6,7 +6,7 @@ use Rattle.term_core.specs.Terms.{Expression, Lit, Yes, Var, Obs, Neg, Num, Cmp,
 use Rattle.term_core.specs.Terms.{Contract, Zero, Pay, Both, Scale, After, Let, Within}
 use Rattle.term_core.specs.Flows.{count_of}
 use Rattle.term_core.specs.Sizes.{nodes, nodes_of_contract}
-use Rattle.term_core.specs.Sites.{Layer, Naming, Counting, Later, Earlier, Undated, Trial, Once, EachDay, Site, Part, OfExpression, OfContract, sites_of, sites_of_contract, days_tried, rounds, expression_at, AllPass}
+use Rattle.term_core.specs.Sites.{Layer, Naming, Counting, Later, Earlier, Undated, Trial, Once, EachDay, Site, Part, OfExpression, OfContract, sites_of, sites_of_contract, days_tried, rounds, expression_at, contract_at, AllPass}
 use Rattle.term_core.specs.Bounds.{Range, ranges_round}
 use Rattle.term_core.proofs.Trials.{AllPass-append, AllPass-left, AllPass-right}
 use Rattle.interval_check.specs.Nodes.{InRounds, EachNode, EachContractNode, range_after}
@@ -33,6 +33,17 @@ last P xs s h = (AllPass-left P xs (s ∷ []) h, (AllPass-right P xs (s ∷ []) 
 
 with_last : (P : Site → Type 0) (xs : List Site) (s : Site) → AllPass P xs → P s → AllPass P (xs ++ s ∷ [])
 with_last P xs s h p = AllPass-append P xs (s ∷ []) h (p, tt)
+
+-- two parts and the whole, and three
+two_and_last : (P : Site → Type 0) (xs ys : List Site) (s : Site) → AllPass P (xs ++ (ys ++ s ∷ [])) → AllPass P xs × AllPass P ys × P s
+two_and_last P xs ys s h =
+    let rest = last P ys s (AllPass-right P xs (ys ++ s ∷ []) h) in
+    (AllPass-left P xs (ys ++ s ∷ []) h, rest.0, rest.1)
+
+three_and_last : (P : Site → Type 0) (ws xs ys : List Site) (s : Site) → AllPass P (ws ++ (xs ++ (ys ++ s ∷ []))) → AllPass P ws × AllPass P xs × AllPass P ys × P s
+three_and_last P ws xs ys s h =
+    let rest = two_and_last P xs ys s (AllPass-right P ws (xs ++ (ys ++ s ∷ [])) h) in
+    (AllPass-left P ws (xs ++ (ys ++ s ∷ [])) h, rest.0, rest.1, rest.2)
 
 -- what passes at a site holds among the ranges of the names round it
 abbrev pub Holds : Declarations → (Site → Type 0) → (List Range → Part → Type 0) → Type 0
@@ -64,8 +75,8 @@ one_holds d P Q w a e r j k q here h =
 
 two_hold : (d : Declarations) (P : Site → Type 0) (Q : List Range → Part → Type 0) (w : Trial) (a b e : Expression) (r : List Layer) (i j k : ℕ) → Holds d P Q → HoldsAtNodes d P Q w a → HoldsAtNodes d P Q w b → AllPass P (sites_of w a r i ++ (sites_of w b r j ++ expression_at k r e ∷ [])) → EachNode Q w d a (ranges_round d r) × EachNode Q w d b (ranges_round d r) × Q (ranges_round d r) (OfExpression e)
 two_hold d P Q w a b e r i j k q left right h =
-    let rest = one_holds d P Q w b e r j k q right (AllPass-right P (sites_of w a r i) _ h) in
-    (left r i (AllPass-left P (sites_of w a r i) _ h), rest.0, rest.1)
+    let parts = two_and_last P (sites_of w a r i) (sites_of w b r j) (expression_at k r e) h in
+    (left r i parts.0, right r j parts.1, q k r (OfExpression e) parts.2)
 
 pub nodes_hold : (d : Declarations) (P : Site → Type 0) (Q : List Range → Part → Type 0) → Holds d P Q → (w : Trial) (e : Expression) → HoldsAtNodes d P Q w e
 nodes_hold d P Q q w (Lit m s) r k h = q k r (OfExpression (Lit m s)) h.0
@@ -78,19 +89,20 @@ nodes_hold d P Q q w (Cmp op a b) r k h = two_hold d P Q w a b (Cmp op a b) r (k
 nodes_hold d P Q q w (Not e) r k h = one_holds d P Q w e (Not e) r (k + 1) k q (nodes_hold d P Q q w e) h
 nodes_hold d P Q q w (Logic op a b) r k h = two_hold d P Q w a b (Logic op a b) r (k + 1) (k + 1 + nodes a) k q (nodes_hold d P Q q w a) (nodes_hold d P Q q w b) h
 nodes_hold d P Q q w (Cond t a b) r k h =
-    let rest = two_hold d P Q w a b (Cond t a b) r (k + 1 + nodes t) (k + 1 + nodes t + nodes a) k q (nodes_hold d P Q q w a) (nodes_hold d P Q q w b) (AllPass-right P (sites_of w t r (k + 1)) _ h) in
-    (nodes_hold d P Q q w t r (k + 1) (AllPass-left P (sites_of w t r (k + 1)) _ h), rest.0, rest.1, rest.2)
+    let parts = three_and_last P (sites_of w t r (k + 1)) (sites_of w a r (k + 1 + nodes t)) (sites_of w b r (k + 1 + nodes t + nodes a)) (expression_at k r (Cond t a b)) h in
+    (nodes_hold d P Q q w t r (k + 1) parts.0, nodes_hold d P Q q w a r (k + 1 + nodes t) parts.1, nodes_hold d P Q q w b r (k + 1 + nodes t + nodes a) parts.2, q k r (OfExpression (Cond t a b)) parts.3)
 nodes_hold d P Q q w (Widen s e) r k h = one_holds d P Q w e (Widen s e) r (k + 1) k q (nodes_hold d P Q q w e) h
 nodes_hold d P Q q w (Round mode s e) r k h = one_holds d P Q w e (Round mode s e) r (k + 1) k q (nodes_hold d P Q q w e) h
 nodes_hold d P Q q w (Div mode s a b) r k h = two_hold d P Q w a b (Div mode s a b) r (k + 1) (k + 1 + nodes a) k q (nodes_hold d P Q q w a) (nodes_hold d P Q q w b) h
 nodes_hold d P Q q w (Acc body n first) r k h =
     let start = sites_of w first (Earlier n ∷ r) (k + 1 + nodes body) in
-    (
-      nodes_hold d P Q q w first (Earlier n ∷ r) (k + 1 + nodes body) (AllPass-left P start _ h),
-      in_rounds P w n (λ i. sites_of w body (Counting body i first ∷ r) (k + 1)) (λ i. expression_at k r (Acc body i first)) (λ i. EachNode Q w d body (range_after d body i first (ranges_round d r) ∷ ranges_round d r)) (λ i. Q (ranges_round d r) (OfExpression (Acc body i first)))
-      (λ i p. nodes_hold d P Q q w body (Counting body i first ∷ r) (k + 1) p)
-      (λ i p. q k r (OfExpression (Acc body i first)) p)
-      (AllPass-right P start _ h),
+    let bodies : ℕ → List Site = λ i. sites_of w body (Counting body i first ∷ r) (k + 1) in
+    let wholes : ℕ → Site = λ i. expression_at k r (Acc body i first) in (
+      nodes_hold d P Q q w first (Earlier n ∷ r) (k + 1 + nodes body) (AllPass-left P start (rounds w n bodies wholes) h),
+      in_rounds P w n bodies wholes (λ i. EachNode Q w d body (range_after d body i first (ranges_round d r) ∷ ranges_round d r)) (λ i. Q (ranges_round d r) (OfExpression (Acc body i first)))
+          (λ i p. nodes_hold d P Q q w body (Counting body i first ∷ r) (k + 1) p)
+          (λ i p. q k r (OfExpression (Acc body i first)) p)
+          (AllPass-right P start (rounds w n bodies wholes) h),
     )
 
 abbrev PassesAtSites : Declarations → (Site → Type 0) → (List Range → Part → Type 0) → Trial → Expression → Type 0
@@ -128,26 +140,23 @@ pub contract_nodes_hold : (d : Declarations) (P : Site → Type 0) (Q : List Ran
 contract_nodes_hold d P Q q w Zero r k h = q k r (OfContract Zero) h.0
 contract_nodes_hold d P Q q w (Pay a x y) r k h = q k r (OfContract (Pay a x y)) h.0
 contract_nodes_hold d P Q q w (Both a b) r k h =
-    let rest = AllPass-right P (sites_of_contract w a r (k + 1)) _ h in
-    let parts = last P (sites_of_contract w b r (k + 1 + nodes_of_contract a)) _ rest in
-    (contract_nodes_hold d P Q q w a r (k + 1) (AllPass-left P (sites_of_contract w a r (k + 1)) _ h), contract_nodes_hold d P Q q w b r (k + 1 + nodes_of_contract a) parts.0, q k r (OfContract (Both a b)) parts.1)
+    let parts = two_and_last P (sites_of_contract w a r (k + 1)) (sites_of_contract w b r (k + 1 + nodes_of_contract a)) (contract_at k r (Both a b)) h in
+    (contract_nodes_hold d P Q q w a r (k + 1) parts.0, contract_nodes_hold d P Q q w b r (k + 1 + nodes_of_contract a) parts.1, q k r (OfContract (Both a b)) parts.2)
 contract_nodes_hold d P Q q w (Scale e c) r k h =
-    let rest = AllPass-right P (sites_of w e r (k + 1)) _ h in
-    let parts = last P (sites_of_contract w c r (k + 1 + nodes e)) _ rest in
-    (nodes_hold d P Q q w e r (k + 1) (AllPass-left P (sites_of w e r (k + 1)) _ h), contract_nodes_hold d P Q q w c r (k + 1 + nodes e) parts.0, q k r (OfContract (Scale e c)) parts.1)
+    let parts = two_and_last P (sites_of w e r (k + 1)) (sites_of_contract w c r (k + 1 + nodes e)) (contract_at k r (Scale e c)) h in
+    (nodes_hold d P Q q w e r (k + 1) parts.0, contract_nodes_hold d P Q q w c r (k + 1 + nodes e) parts.1, q k r (OfContract (Scale e c)) parts.2)
 contract_nodes_hold d P Q q w (After n c) r k h =
-    let parts = last P (sites_of_contract w c (Later (count_of n) ∷ r) (k + 1)) _ h in
+    let parts = last P (sites_of_contract w c (Later (count_of n) ∷ r) (k + 1)) (contract_at k r (After n c)) h in
     (contract_nodes_hold d P Q q w c (Later (count_of n) ∷ r) (k + 1) parts.0, q k r (OfContract (After n c)) parts.1)
 contract_nodes_hold d P Q q w (Let e c) r k h =
-    let rest = AllPass-right P (sites_of w e r (k + 1)) _ h in
-    let parts = last P (sites_of_contract w c (Naming e ∷ r) (k + 1 + nodes e)) _ rest in
-    (nodes_hold d P Q q w e r (k + 1) (AllPass-left P (sites_of w e r (k + 1)) _ h), contract_nodes_hold d P Q q w c (Naming e ∷ r) (k + 1 + nodes e) parts.0, q k r (OfContract (Let e c)) parts.1)
+    let parts = two_and_last P (sites_of w e r (k + 1)) (sites_of_contract w c (Naming e ∷ r) (k + 1 + nodes e)) (contract_at k r (Let e c)) h in
+    (nodes_hold d P Q q w e r (k + 1) parts.0, contract_nodes_hold d P Q q w c (Naming e ∷ r) (k + 1 + nodes e) parts.1, q k r (OfContract (Let e c)) parts.2)
 contract_nodes_hold d P Q q w (Within e n a b) r k h =
     let tests = sites_of w e (Undated ∷ r) (k + 1) in
     let hits = sites_of_contract w a (Undated ∷ r) (k + 1 + nodes e) in
-    let rest = AllPass-right P tests _ h in
-    let parts = last P (sites_of_contract w b (Later (count_of n) ∷ r) (k + 1 + nodes e + nodes_of_contract a)) _ (AllPass-right P hits _ rest) in
-    (nodes_hold d P Q q w e (Undated ∷ r) (k + 1) (AllPass-left P tests _ h), contract_nodes_hold d P Q q w a (Undated ∷ r) (k + 1 + nodes e) (AllPass-left P hits _ rest), contract_nodes_hold d P Q q w b (Later (count_of n) ∷ r) (k + 1 + nodes e + nodes_of_contract a) parts.0, q k r (OfContract (Within e n a b)) parts.1)
+    let misses = sites_of_contract w b (Later (count_of n) ∷ r) (k + 1 + nodes e + nodes_of_contract a) in
+    let parts = three_and_last P tests hits misses (contract_at k r (Within e n a b)) h in
+    (nodes_hold d P Q q w e (Undated ∷ r) (k + 1) parts.0, contract_nodes_hold d P Q q w a (Undated ∷ r) (k + 1 + nodes e) parts.1, contract_nodes_hold d P Q q w b (Later (count_of n) ∷ r) (k + 1 + nodes e + nodes_of_contract a) parts.2, q k r (OfContract (Within e n a b)) parts.3)
 
 pub contract_nodes_pass : (d : Declarations) (P : Site → Type 0) (Q : List Range → Part → Type 0) → Passes d P Q → (w : Trial) (c : Contract) (r : List Layer) (k : ℕ) → EachContractNode Q w d c (ranges_round d r) → AllPass P (sites_of_contract w c r k)
 contract_nodes_pass d P Q q w Zero r k h = (q k r (OfContract Zero) h, tt)

@@ -19,7 +19,7 @@ use Rattle.interval_check.specs.Within.{KeepsLimits}
 use Rattle.interval_check.specs.Narrowing.{IsNarrower, AreNarrower}
 use Rattle.interval_check.specs.Replacing.{Replaces, KeepsForm}
 use Rattle.interval_check.proofs.KindsEnough.{kinds_are_enough}
-use Rattle.interval_check.proofs.RootFacts.{at_root}
+use Rattle.interval_check.proofs.NodeTests.{at_root, scaled_parts}
 use Rattle.interval_check.proofs.NarrowFacts.{narrower_trans}
 use Rattle.interval_check.proofs.TightFacts.{IsTight, SameKind, RoundIsTight, tight_neg, tight_num, tight_cmp, tight_not, tight_logic, tight_cond, tight_widen, tight_round, tight_div, tight_acc}
 use Rattle.interval_check.proofs.NarrowerFacts.{stays_tight}
@@ -33,10 +33,6 @@ scaled_root : (d : Declarations) (y x : Expression) (g : List Range) → SameKin
 scaled_root d y x g same h parts =
     let tests = and_parts (nat_le (scale_of d x (range_kinds g)) greatest_scale) (has_scaled_parts d (range_kinds g) x) (at_root (IsScaledPart d) d x g h) in
     and_from _ _ (subst (λ (o : Option Kind). IsTrue (nat_le (scale_or_zero o) greatest_scale)) (sym same) tests.0) parts
-
-scaled_parts : (d : Declarations) (x : Expression) (g : List Range) → IsScaled d x g → IsTrue (has_scaled_parts d (range_kinds g) x)
-scaled_parts d x g h =
-    (and_parts (nat_le (scale_of d x (range_kinds g)) greatest_scale) (has_scaled_parts d (range_kinds g) x) (at_root (IsScaledPart d) d x g h)).1
 
 pub tight_from : (d : Declarations) (y x : Expression) (g : List Range) → Replaces d y x g → IsTight d y g x g
 tight_from d y x g h = record { bounded = h.rules.bounds; inside = h.inside }

@@ -24,12 +24,12 @@ use Rattle.interval_check.proofs.RewritingFacts.{rewritten_replaces}
 use Rattle.interval_check.proofs.AlignedFacts.{sum_raised_twice, max_raised_twice, product_raised, below_raised}
 
 -- a contract keeps to the portfolio's decimals
-scale_fits : (d : Declarations) (c : Contract) (g : List Range) → IsScaledContract d c g → scale_of_contract d c (range_kinds g) ≤ d.amounts
-scale_fits d c g h = leb-true (scale_of_contract d c (range_kinds g)) d.amounts (contract_at_root (IsScaledPart d) Once d c g h)
+pub contract_scale_fits : (d : Declarations) (c : Contract) (g : List Range) → IsScaledContract d c g → scale_of_contract d c (range_kinds g) ≤ d.amounts
+contract_scale_fits d c g h = leb-true (scale_of_contract d c (range_kinds g)) d.amounts (contract_at_root (IsScaledPart d) Once d c g h)
 
 scaled_root : (d : Declarations) (b a : Contract) (g : List Range) → scale_of_contract d b (range_kinds g) ≤ scale_of_contract d a (range_kinds g) → IsScaledContract d a g → IsScaledPart d g (OfContract b)
 scaled_root d b a g le h =
-    let known = scale_fits d a g h in
+    let known = contract_scale_fits d a g h in
     le-leb (scale_of_contract d b (range_kinds g)) d.amounts (omega arith)
 
 -- no greater a total at the portfolio's decimals passes, and so does the total as it is
@@ -43,8 +43,8 @@ bounded_root d b a g le h =
 replaces_both : (d : Declarations) (a' b' a b : Contract) (g : List Range) → ReplacesContract d a' a g → ReplacesContract d b' b g → ContractMeetsRules d (Both a b) g → ReplacesContract d (Both a' b') (Both a b) g
 replaces_both d a' b' a b g r q h =
     let lower : scale_of_contract d (Both a' b') (range_kinds g) ≤ scale_of_contract d (Both a b) (range_kinds g) = let left = r.scale in let right = q.scale in omega arith in
-    let old = sum_raised_twice (total_of d a g) (total_of d b g) (scale_of_contract d a (range_kinds g)) (scale_of_contract d b (range_kinds g)) d.amounts (scale_fits d a g h.scales.0) (scale_fits d b g h.scales.1) in
-    let new = sum_raised_twice (total_of d a' g) (total_of d b' g) (scale_of_contract d a' (range_kinds g)) (scale_of_contract d b' (range_kinds g)) d.amounts (scale_fits d a' g r.rules.scales) (scale_fits d b' g q.rules.scales) in
+    let old = sum_raised_twice (total_of d a g) (total_of d b g) (scale_of_contract d a (range_kinds g)) (scale_of_contract d b (range_kinds g)) d.amounts (contract_scale_fits d a g h.scales.0) (contract_scale_fits d b g h.scales.1) in
+    let new = sum_raised_twice (total_of d a' g) (total_of d b' g) (scale_of_contract d a' (range_kinds g)) (scale_of_contract d b' (range_kinds g)) d.amounts (contract_scale_fits d a' g r.rules.scales) (contract_scale_fits d b' g q.rules.scales) in
     let total : aligned_total d (Both a' b') g ≤ aligned_total d (Both a b) g = let left = r.total in let right = q.total in omega arith in
     record {
       rules = record { sorts = (r.rules.sorts, q.rules.sorts, refl); scales = (r.rules.scales, q.rules.scales, scaled_root d (Both a' b') (Both a b) g lower h.scales); bounds = (r.rules.bounds, q.rules.bounds, bounded_root d (Both a' b') (Both a b) g total h.bounds) };
@@ -57,7 +57,7 @@ replaces_scale d e' c' e c g r q h =
     let ks = range_kinds g in
     let same : scale_of d e' ks ≡ scale_of d e ks = ap scale_or_zero r.same_kind in
     let lower : scale_of_contract d (Scale e' c') ks ≤ scale_of_contract d (Scale e c) ks = let body = q.scale in omega arith in
-    let old = product_raised (scale_of d e ks) (scale_of_contract d c' ks) (scale_of_contract d c ks) (total_of d c' g) (total_of d c g) (greatest_size (interval_of d e' g)) (greatest_size (interval_of d e g)) d.amounts (scale_fits d (Scale e c) g h.scales) q.scale q.total (narrower_size (interval_of d e' g) (interval_of d e g) r.inside) in
+    let old = product_raised (scale_of d e ks) (scale_of_contract d c' ks) (scale_of_contract d c ks) (total_of d c' g) (total_of d c g) (greatest_size (interval_of d e' g)) (greatest_size (interval_of d e g)) d.amounts (contract_scale_fits d (Scale e c) g h.scales) q.scale q.total (narrower_size (interval_of d e' g) (interval_of d e g) r.inside) in
     let total : aligned_total d (Scale e' c') g ≤ aligned_total d (Scale e c) g = subst (λ (s : ℕ). total_of d (Scale e' c') g * 10 ^ (d.amounts - (s + scale_of_contract d c' ks)) ≤ aligned_total d (Scale e c) g) (sym same) old in
     record {
       rules = record {
@@ -99,8 +99,8 @@ replaces_let d limits e' c' e c g ordered r q h =
 replaces_within : (d : Declarations) (e' : Expression) (n' : Days) (a' b' : Contract) (e : Expression) (n : Days) (a b : Contract) (g : List Range) → Replaces d e' e g → ReplacesContract d a' a g → ReplacesContract d b' b g → ContractMeetsRules d (Within e n a b) g → ReplacesContract d (Within e' n' a' b') (Within e n a b) g
 replaces_within d e' n' a' b' e n a b g p r q h =
     let lower : scale_of_contract d (Within e' n' a' b') (range_kinds g) ≤ scale_of_contract d (Within e n a b) (range_kinds g) = let left = r.scale in let right = q.scale in omega arith in
-    let old = max_raised_twice (total_of d a g) (total_of d b g) (scale_of_contract d a (range_kinds g)) (scale_of_contract d b (range_kinds g)) d.amounts (scale_fits d a g h.scales.1) (scale_fits d b g h.scales.2) in
-    let new = max_raised_twice (total_of d a' g) (total_of d b' g) (scale_of_contract d a' (range_kinds g)) (scale_of_contract d b' (range_kinds g)) d.amounts (scale_fits d a' g r.rules.scales) (scale_fits d b' g q.rules.scales) in
+    let old = max_raised_twice (total_of d a g) (total_of d b g) (scale_of_contract d a (range_kinds g)) (scale_of_contract d b (range_kinds g)) d.amounts (contract_scale_fits d a g h.scales.1) (contract_scale_fits d b g h.scales.2) in
+    let new = max_raised_twice (total_of d a' g) (total_of d b' g) (scale_of_contract d a' (range_kinds g)) (scale_of_contract d b' (range_kinds g)) d.amounts (contract_scale_fits d a' g r.rules.scales) (contract_scale_fits d b' g q.rules.scales) in
     let total : aligned_total d (Within e' n' a' b') g ≤ aligned_total d (Within e n a b) g = let left = r.total in let right = q.total in omega arith in
     record {
       rules = record {

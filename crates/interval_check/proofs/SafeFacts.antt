@@ -14,20 +14,20 @@ use Rattle.term_core.specs.declared.values.Value.TheVariants.{Num as Amount, Tru
 use Rattle.term_core.specs.Terms.{Expression, Lit, Yes, Var, Obs, Neg, Num, Cmp, Not, Logic, Cond, Widen, Round, Div, Acc}
 use Rattle.term_core.specs.Environments.{Environment, IsAdmitted}
 use Rattle.term_core.specs.Kinds.{kind_of, scale_of, scale_of_kind, on_truth, on_number, of_acc}
-use Rattle.term_core.specs.Values.{Entry, kinds, num, widened, kind_or, value_of}
+use Rattle.term_core.specs.Values.{Entry, kinds, num, of_num, widened, kind_or, value_of}
 use Rattle.term_core.specs.LawsKinds.{IsOfKind, AreOfKinds}
 use Rattle.term_core.specs.Scales.{greatest_scale}
-use Rattle.term_core.specs.Bounds.{Interval, Range, range_kinds, lifted, interval_of, fit_aligned, fit_operands, fits}
+use Rattle.term_core.specs.Bounds.{Interval, Range, range_kinds, lifted, of_op, interval_of, fit_aligned, fit_operands, fits}
 use Rattle.term_core.proofs.KindFacts.{values_have_kinds}
 use Rattle.interval_check.specs.Nodes.{MeetsRules, IsSortedPart, is_sorted_part, is_scaled_part, has_scaled_parts, range_after}
 use Rattle.interval_check.specs.Within.{IsIn, KeepsLimits}
-use Rattle.interval_check.specs.Safety.{IsSmall, AlignSafely, OperateSafely, WidensSafely, RoundsSafely, DivideSafely, HasSafeValue, HasSafeParts, IsSafe, entry_after}
-use Rattle.interval_check.proofs.IntervalFacts.{in_raised, in_rounded}
-use Rattle.interval_check.proofs.QuotientFacts.{sign_nonzero}
+use Rattle.interval_check.specs.Safety.{IsSmall, AlignSafely, OperateSafely, WidensSafely, RoundsSafely, DivideSafely, HasSafeValue, HasSafeParts, ScalesFit, IsSafe, CanEvaluate, entry_after}
+use Rattle.interval_check.proofs.InclusionFacts.{in_raised, in_rounded, in_of_op}
+use Rattle.interval_check.proofs.DivisionFacts.{sign_nonzero}
 use Rattle.interval_check.proofs.RoundingFacts.{at_scale_up}
 use Rattle.interval_check.proofs.TestFacts.{small_in, align_in, division_fits, divide_in}
 use Rattle.interval_check.proofs.KindsEnough.{kinds_are_enough}
-use Rattle.interval_check.proofs.RootFacts.{at_root, scale_fits, bound_tests, interval_fits, round_fits, some_kind, scale_of_some, number_scale, numbers_scale}
+use Rattle.interval_check.proofs.NodeTests.{at_root, scale_fits, scales_fit, bound_tests, interval_fits, round_fits, some_kind, scale_of_some, number_scale, numbers_scale}
 use Rattle.interval_check.proofs.ValueFacts.{AreInside, same_kinds, values_lie, inside_round, round_lies}
 
 -- what is known of an expression's names
@@ -69,12 +69,17 @@ value_is_safe d e g es env f h s =
 
 -- operands, between the scales that they have among ranges and among entries
 
-operate_in : (op : NumOp) (a b : ℕ) (i j : Interval) (x y : ℤ) → IsTrue (fit_operands op a i b j) → IsIn i x → IsIn j y → OperateSafely op a x b y
-operate_in Times a b i j x y h in_i in_j = tt
-operate_in Plus a b i j x y h in_i in_j = align_in a b i j x y h in_i in_j
-operate_in Minus a b i j x y h in_i in_j = align_in a b i j x y h in_i in_j
-operate_in Min a b i j x y h in_i in_j = align_in a b i j x y h in_i in_j
-operate_in Max a b i j x y h in_i in_j = align_in a b i j x y h in_i in_j
+operate_in : (op : NumOp) (a b : ℕ) (i j : Interval) (x y : ℤ) → IsTrue (fit_operands op a i b j) → IsTrue (fits (of_op op a i b j)) → IsSmall x → IsSmall y → IsIn i x → IsIn j y → OperateSafely op a x b y
+operate_in Times a b i j x y h whole small_x small_y in_i in_j =
+    (small_x, small_y, small_in (of_op Times a i b j) (of_num Times a x b y) whole (in_of_op Times a b i j x y in_i in_j))
+operate_in Plus a b i j x y h whole small_x small_y in_i in_j =
+    (align_in a b i j x y h in_i in_j, small_in (of_op Plus a i b j) (of_num Plus a x b y) whole (in_of_op Plus a b i j x y in_i in_j))
+operate_in Minus a b i j x y h whole small_x small_y in_i in_j =
+    (align_in a b i j x y h in_i in_j, small_in (of_op Minus a i b j) (of_num Minus a x b y) whole (in_of_op Minus a b i j x y in_i in_j))
+operate_in Min a b i j x y h whole small_x small_y in_i in_j =
+    (align_in a b i j x y h in_i in_j, small_in (of_op Min a i b j) (of_num Min a x b y) whole (in_of_op Min a b i j x y in_i in_j))
+operate_in Max a b i j x y h whole small_x small_y in_i in_j =
+    (align_in a b i j x y h in_i in_j, small_in (of_op Max a i b j) (of_num Max a x b y) whole (in_of_op Max a b i j x y in_i in_j))
 
 rounds_in : (mode : Mode) (i s : ℕ) (k : Interval) (x : ℤ) → IsTrue (fits (lifted (λ m. at_scale mode m i s) k)) → IsIn k x → s ≤ greatest_scale → RoundsSafely i s x
 rounds_in mode i s k x h inside most =
@@ -143,8 +148,7 @@ round_is_safe d body n first g es env f h known i l parts =
       order = subst (λ (m : ℕ). low ≤ m) (sym same) (leb-true low (scale_of d first ks) scaled.1);
       most = subst (λ (m : ℕ). m ≤ greatest_scale) (sym same) start;
       small = small_in (interval_of d (Acc body (suc i) first) g) (raised x (high - low)) (round_fits d body n i first g h.bounds l) (in_raised (interval_of d body ranges) (high - low) x (number_in d body ranges entries env day hb suits));
-    } in
-    (
+    } in (
       whole d body ranges entries env day parts hb suits,
       subst (λ (js : List Kind). WidensSafely (scale_of d body (kind_or (kind_of d first js) ∷ js)) (scale_of_kind (kind_or (kind_of d first js))) x) (same_kinds g es known.inside) here,
     )
@@ -161,17 +165,17 @@ parts_are_safe d (Num op a b) g es env f h known =
     let hb : MeetsRules d b g = record { sorts = h.sorts.1; scales = h.scales.1; bounds = h.bounds.1 } in
     let x = num (value_of d a es env f) in
     let y = num (value_of d b es env f) in
-    let fit = (bound_tests d (Num op a b) g h.bounds.2).0 in
-    (
+    let fit = bound_tests d (Num op a b) g h.bounds.2 in
+    let left = value_is_safe d a g es env f ha known in
+    let right = value_is_safe d b g es env f hb known in (
       whole d a g es env f (parts_are_safe d a) ha known,
       whole d b g es env f (parts_are_safe d b) hb known,
       subst (λ (ks : List Kind). OperateSafely op (scale_of d a ks) x (scale_of d b ks) y) (same_kinds g es known.inside)
-      (operate_in op (scale_of d a (range_kinds g)) (scale_of d b (range_kinds g)) (interval_of d a g) (interval_of d b g) x y fit (number_in d a g es env f ha known) (number_in d b g es env f hb known)),
+          (operate_in op (scale_of d a (range_kinds g)) (scale_of d b (range_kinds g)) (interval_of d a g) (interval_of d b g) x y fit.0 fit.1 left.small right.small (number_in d a g es env f ha known) (number_in d b g es env f hb known)),
     )
 parts_are_safe d (Cmp op a b) g es env f h known =
     let ha : MeetsRules d a g = record { sorts = h.sorts.0; scales = h.scales.0; bounds = h.bounds.0 } in
-    let hb : MeetsRules d b g = record { sorts = h.sorts.1; scales = h.scales.1; bounds = h.bounds.1 } in
-    (
+    let hb : MeetsRules d b g = record { sorts = h.sorts.1; scales = h.scales.1; bounds = h.bounds.1 } in (
       whole d a g es env f (parts_are_safe d a) ha known,
       whole d b g es env f (parts_are_safe d b) hb known,
       aligned_safely d a b g es env f ha hb known (bound_tests d (Cmp op a b) g h.bounds.2).0,
@@ -185,8 +189,7 @@ parts_are_safe d (Logic op a b) g es env f h known = (
 parts_are_safe d (Cond t a b) g es env f h known =
     let ht : MeetsRules d t g = record { sorts = h.sorts.0; scales = h.scales.0; bounds = h.bounds.0 } in
     let ha : MeetsRules d a g = record { sorts = h.sorts.1; scales = h.scales.1; bounds = h.bounds.1 } in
-    let hb : MeetsRules d b g = record { sorts = h.sorts.2; scales = h.scales.2; bounds = h.bounds.2 } in
-    (
+    let hb : MeetsRules d b g = record { sorts = h.sorts.2; scales = h.scales.2; bounds = h.bounds.2 } in (
       whole d t g es env f (parts_are_safe d t) ht known,
       whole d a g es env f (parts_are_safe d a) ha known,
       whole d b g es env f (parts_are_safe d b) hb known,
@@ -210,11 +213,10 @@ parts_are_safe d (Round mode s e) g es env f h known =
     let ks = range_kinds g in
     let x = num (value_of d e es env f) in
     let most = subst (λ (m : ℕ). m ≤ greatest_scale) (number_scale (kind_of d e ks) s h.sorts.1) (scale_fits d (Round mode s e) g h.scales) in
-    let fit = (bound_tests d (Round mode s e) g h.bounds.1).1 in
-    (
+    let fit = (bound_tests d (Round mode s e) g h.bounds.1).1 in (
       whole d e g es env f (parts_are_safe d e) he known,
       subst (λ (js : List Kind). RoundsSafely (scale_of d e js) s x) (same_kinds g es known.inside)
-      (rounds_in mode (scale_of d e ks) s (interval_of d e g) x fit (number_in d e g es env f he known) most),
+          (rounds_in mode (scale_of d e ks) s (interval_of d e g) x fit (number_in d e g es env f he known) most),
     )
 parts_are_safe d (Div mode s a b) g es env f h known =
     let ha : MeetsRules d a g = record { sorts = h.sorts.0; scales = h.scales.0; bounds = h.bounds.0 } in
@@ -229,8 +231,7 @@ parts_are_safe d (Div mode s a b) g es env f h known =
       nonzero = sign_nonzero (interval_of d b g) y division.sign in_b;
       most = subst (λ (m : ℕ). m ≤ greatest_scale) (numbers_scale (kind_of d a ks) (kind_of d b ks) s h.sorts.2) (scale_fits d (Div mode s a b) g h.scales);
       fits = divide_in (scale_of d a ks) (interval_of d a g) (scale_of d b ks) (interval_of d b g) s x y division in_a in_b;
-    } in
-    (
+    } in (
       whole d a g es env f (parts_are_safe d a) ha known,
       whole d b g es env f (parts_are_safe d b) hb known,
       subst (λ (js : List Kind). DivideSafely (scale_of d a js) x (scale_of d b js) y s) (same_kinds g es known.inside) here,
@@ -240,5 +241,9 @@ parts_are_safe d (Acc body n first) g es env f h known = (
   λ i l. round_is_safe d body n first g es env f h known i l (parts_are_safe d body),
 )
 
-pub expression_is_safe : (d : Declarations) (e : Expression) (g : List Range) (es : List Entry) (env : Environment) (f : ℤ) → MeetsRules d e g → Suits d g es env → IsSafe d e es env f
-expression_is_safe d e g es env f h known = whole d e g es env f (parts_are_safe d e) h known
+pub expression_is_safe : (d : Declarations) (e : Expression) (g : List Range) (es : List Entry) (env : Environment) (f : ℤ) → MeetsRules d e g → Suits d g es env → CanEvaluate d e es env f
+expression_is_safe d e g es env f h known =
+    record {
+      scales = subst (ScalesFit d e) (same_kinds g es known.inside) (scales_fit d e g h.scales);
+      safe = whole d e g es env f (parts_are_safe d e) h known;
+    }

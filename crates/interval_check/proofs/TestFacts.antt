@@ -7,8 +7,8 @@ use Rattle.term_core.specs.Limits.{greatest_mantissa}
 use Rattle.term_core.specs.Bounds.{Interval, lifted, aligned, fits, fit_aligned, fit_divided, has_zero}
 use Rattle.interval_check.specs.Within.{IsIn}
 use Rattle.interval_check.specs.Safety.{IsSmall, AlignSafely}
-use Rattle.interval_check.proofs.IntervalFacts.{in_raised, in_aligned_left, in_aligned_right}
-use Rattle.interval_check.proofs.QuotientFacts.{HasSign}
+use Rattle.interval_check.proofs.InclusionFacts.{in_raised, in_aligned_left, in_aligned_right}
+use Rattle.interval_check.proofs.DivisionFacts.{HasSign}
 
 pub small_between : (lo hi m : ℤ) (most : ℕ) → unsigned_abs lo ≤ most → unsigned_abs hi ≤ most → lo ≤ℤ m → m ≤ℤ hi → unsigned_abs m ≤ most
 small_between lo hi m most h k below above = omega (arith, ints)

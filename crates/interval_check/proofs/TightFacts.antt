@@ -16,7 +16,7 @@ use Rattle.term_core.specs.Bounds.{Interval, Range, range_kinds, lifted, hull, c
 use Rattle.interval_check.specs.Nodes.{IsBounded, range_after}
 use Rattle.interval_check.specs.Narrowing.{IsNarrower}
 use Rattle.interval_check.proofs.TestFacts.{division_fits}
-use Rattle.interval_check.proofs.RootFacts.{bound_tests, round_fits}
+use Rattle.interval_check.proofs.NodeTests.{bound_tests, round_fits}
 use Rattle.interval_check.proofs.NarrowFacts.{narrower_same, narrower_hulls, narrower_quotient, narrower_negative, narrower_raised, narrower_rounded, narrower_aligned, narrower_of_op, narrower_fits, narrower_fit_aligned, narrower_fit_operands, narrower_fit_divided}
 
 -- e among ranges h meets the rule on bounds, and its interval is narrower than that of x among ranges g
@@ -77,7 +77,7 @@ tight_logic d op a b h x y g ta tb bounds =
     record { bounded = (ta.bounded, tb.bounded, bounds.2); inside = narrower_same (pos 0) }
 
 pub tight_cond : (d : Declarations) (t a b : Expression) (h : List Range) (z x y : Expression) (g : List Range) → SameKind d a h x g → SameKind d b h y g → IsTight d t h z g → IsTight d a h x g → IsTight d b h y g → IsBounded d (Cond z x y) g → IsTight d (Cond t a b) h (Cond z x y) g
-tight_cond d t a b h z x y g ka kb tt' ta tb bounds =
+tight_cond d t a b h z x y g ka kb tz ta tb bounds =
     let i = interval_of d a h in
     let j = interval_of d b h in
     let k = interval_of d x g in
@@ -87,7 +87,7 @@ tight_cond d t a b h z x y g ka kb tt' ta tb bounds =
     let tests = bound_tests d (Cond z x y) g bounds.3 in
     let inner = at_scales (λ (s t : ℕ). IsNarrower (hull (aligned s t i) (aligned t s j)) (hull (aligned p q k) (aligned q p l))) p q _ _ (same_scale _ _ ka) (same_scale _ _ kb) (narrower_hulls _ _ _ _ (narrower_aligned p q i k ta.inside) (narrower_aligned q p j l tb.inside)) in
     let operands = at_scales (λ (s t : ℕ). IsTrue (fit_aligned s i t j)) p q _ _ (same_scale _ _ ka) (same_scale _ _ kb) (narrower_fit_aligned p q i j k l ta.inside tb.inside tests.0) in
-    record { bounded = (tt'.bounded, ta.bounded, tb.bounded, passes _ _ _ operands inner tests.1); inside = inner }
+    record { bounded = (tz.bounded, ta.bounded, tb.bounded, passes _ _ _ operands inner tests.1); inside = inner }
 
 pub tight_widen : (d : Declarations) (s : ℕ) (e : Expression) (h : List Range) (x : Expression) (g : List Range) → SameKind d e h x g → IsTight d e h x g → IsBounded d (Widen s x) g → IsTight d (Widen s e) h (Widen s x) g
 tight_widen d s e h x g ke t b =

@@ -21,8 +21,8 @@ use Rattle.term_core.specs.Bounds.{Interval, Range, range_kinds, lifted, hull, a
 use Rattle.term_core.proofs.FlowFacts.{raised-zero}
 use Rattle.interval_check.specs.Nodes.{IsBounded, range_after}
 use Rattle.interval_check.specs.Within.{IsIn, AreWithin, KeepsLimits}
-use Rattle.interval_check.proofs.IntervalFacts.{in_single, in_left, in_right, in_negative, in_raised, in_rounded, in_of_op, in_aligned_left, in_aligned_right}
-use Rattle.interval_check.proofs.QuotientFacts.{in_quotient}
+use Rattle.interval_check.proofs.InclusionFacts.{in_single, in_left, in_right, in_negative, in_raised, in_rounded, in_of_op, in_aligned_left, in_aligned_right}
+use Rattle.interval_check.proofs.DivisionFacts.{in_quotient}
 use Rattle.interval_check.proofs.TestFacts.{division_fits}
 
 -- each name has an entry of the kind of its range, whose number lies in the interval

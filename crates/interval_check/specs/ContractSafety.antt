@@ -10,7 +10,7 @@ use Rattle.term_core.specs.Values.{Entry, kinds}
 use Rattle.term_core.specs.Flows.{Flow, count_of, scale_of_contract, flow_of}
 use Rattle.term_core.specs.Bounds.{greatest_total}
 use Rattle.interval_check.specs.Sums.{entry_of, turnover_of}
-use Rattle.interval_check.specs.Safety.{IsSafe}
+use Rattle.interval_check.specs.Safety.{CanEvaluate}
 
 -- an amount is at most 10^27 in size
 abbrev pub IsPayable : ℤ → Type 0
@@ -38,17 +38,17 @@ HasSafeContractParts d (Both a b) es env f =
     × (HasSafeFlows d b es env f × HasSafeContractParts d b es env f)
     × AlignPayments d a b es env f f
 HasSafeContractParts d (Scale e c) es env f =
-    IsSafe d e es env f × (HasSafeFlows d c es env f × HasSafeContractParts d c es env f)
+    CanEvaluate d e es env f × (HasSafeFlows d c es env f × HasSafeContractParts d c es env f)
 HasSafeContractParts d (After n c) es env f =
     HasSafeFlows d c es env (f +ℤ pos (count_of n)) × HasSafeContractParts d c es env (f +ℤ pos (count_of n))
 HasSafeContractParts d (Let e c) es env f =
-    IsSafe d e es env f
+    CanEvaluate d e es env f
     × (HasSafeFlows d c (entry_of d e es env f ∷ es) env f × HasSafeContractParts d c (entry_of d e es env f ∷ es) env f)
 HasSafeContractParts d (Within e n a b) es env f =
     ((i : ℕ) → i ≤ count_of n →
-        IsSafe d e es env (f +ℤ pos i)
-        × (HasSafeFlows d a es env (f +ℤ pos i) × HasSafeContractParts d a es env (f +ℤ pos i))
-        × AlignPayments d a b es env (f +ℤ pos i) (f +ℤ pos (count_of n)))
+    CanEvaluate d e es env (f +ℤ pos i)
+    × (HasSafeFlows d a es env (f +ℤ pos i) × HasSafeContractParts d a es env (f +ℤ pos i))
+    × AlignPayments d a b es env (f +ℤ pos i) (f +ℤ pos (count_of n)))
     × (HasSafeFlows d b es env (f +ℤ pos (count_of n)) × HasSafeContractParts d b es env (f +ℤ pos (count_of n)))
 
 -- a contract can be evaluated, with these entries for its names, on frame f

@@ -1,20 +1,21 @@
--- What the rules of acceptance guarantee of an evaluation: values lie in their intervals, every number fits, no divisor is
--- 0, and what a contract pays adds up to at most its total. (The second law of acceptance of Bahr, Berthold and Elsman's
--- contracts in exact decimals; the rule on times gives the first, causality.)
-use Rattle.std.specs.Prelude.{ℕ, ℤ, ◌≤◌, ◌↔◌, List, []}
+-- What the rules of acceptance guarantee of an evaluation: values lie in their intervals (the inclusion property of
+-- interval arithmetic, Moore 1966, for exact decimals and rounding by a mode), every number fits, no divisor is 0, and what
+-- a contract pays adds up to at most its total.
+use Rattle.std.specs.Prelude.{ℕ, ℤ, ◌≤◌, ◌↔◌, List, [], ◌∷◌}
 use Rattle.term_core.specs.Declarations.{Declarations, declarations}
 use Rattle.term_core.specs.declared.decls.Decls.{Decls}
 use Rattle.term_core.specs.declared.rules.Rule.TheVariants.{Sort, Scale, Bound}
 use Rattle.term_core.specs.Terms.{Expression, Contract}
+use Rattle.term_core.specs.WellFormed.{IsWellFormed}
 use Rattle.term_core.specs.Environments.{Environment, IsAdmitted}
 use Rattle.term_core.specs.Values.{Entry, num, value_of}
 use Rattle.term_core.specs.Flows.{Flow}
 use Rattle.term_core.specs.Bounds.{Range, interval_of, total_of, aligned_total}
 use Rattle.term_core.specs.Acceptance.{Meets, IsAccepted}
-use Rattle.interval_check.specs.Nodes.{IsBounded, IsSortedContract, IsScaledContract, IsBoundedContract, MeetsRules, ContractMeetsRules}
-use Rattle.interval_check.specs.Within.{IsIn, AreWithin, KeepsLimits}
-use Rattle.interval_check.specs.Sums.{sum_of_flows, sum_of_amounts, turnover_of}
-use Rattle.interval_check.specs.Safety.{IsSafe}
+use Rattle.interval_check.specs.Nodes.{IsBounded, IsSortedContract, IsScaledContract, IsBoundedContract, MeetsRules, ContractMeetsRules, range_of}
+use Rattle.interval_check.specs.Within.{IsIn, AreWithin, AreSuited, KeepsLimits}
+use Rattle.interval_check.specs.Sums.{sum_of_flows, sum_of_amounts, turnover_of, entry_of}
+use Rattle.interval_check.specs.Safety.{CanEvaluate}
 use Rattle.interval_check.specs.ContractSafety.{IsSafeContract}
 use Rattle.interval_check.specs.Parts.{StandsIn}
 
@@ -47,7 +48,14 @@ ValuesLieInIntervals =
 abbrev pub ExpressionsAreSafe : Type 0
 ExpressionsAreSafe =
     (d : Declarations) (e : Expression) (g : List Range) (es : List Entry) (env : Environment) (f : ℤ)
-    → KeepsLimits d → MeetsRules d e g → AreWithin g es → IsAdmitted d env → IsSafe d e es env f
+    → KeepsLimits d → MeetsRules d e g → AreWithin g es → IsAdmitted d env → CanEvaluate d e es env f
+
+-- a name that is bound to the value of an expression lies within its range
+abbrev pub BindingsLieWithin : Type 0
+BindingsLieWithin =
+    (d : Declarations) (e : Expression) (g : List Range) (es : List Entry) (env : Environment) (f : ℤ)
+    → KeepsLimits d → MeetsRules d e g → AreWithin g es → IsAdmitted d env
+    → AreWithin (range_of d e g ∷ g) (entry_of d e es env f ∷ es)
 
 abbrev pub ContractsAreSafe : Type 0
 ContractsAreSafe =
@@ -60,12 +68,23 @@ AcceptedAreSafe =
     (d : Declarations) (c : Contract) (env : Environment) (f : ℤ)
     → KeepsLimits d → IsAccepted d c → IsAdmitted d env → IsSafeContract d c [] env f
 
--- and each expression that stands in one, with an entry for each `let` round it
+-- and each expression that stands in one, with an entry for each `let` round it that suits the binding
 abbrev pub PartsOfAcceptedAreSafe : Type 0
 PartsOfAcceptedAreSafe =
     (d : Declarations) (c : Contract) (e : Expression) (h : List Range) (es : List Entry) (env : Environment) (f : ℤ)
-    → KeepsLimits d → IsAccepted d c → StandsIn d e h c [] → AreWithin h es → IsAdmitted d env
-    → IsSafe d e es env f × IsIn (interval_of d e h) (num (value_of d e es env f))
+    → KeepsLimits d → IsAccepted d c → StandsIn d e h c [] → AreSuited h es → IsAdmitted d env
+    → CanEvaluate d e es env f × IsIn (interval_of d e h) (num (value_of d e es env f))
+
+-- an expression that uses no name bound outside it meets the rules without any
+abbrev pub ClosedNeedNoNames : Type 0
+ClosedNeedNoNames =
+    (d : Declarations) (e : Expression) (g : List Range) → IsWellFormed d 0 e → MeetsRules d e g → MeetsRules d e []
+
+-- and one that stands in an accepted contract can be evaluated without entries
+abbrev pub ClosedPartsAreSafe : Type 0
+ClosedPartsAreSafe =
+    (d : Declarations) (c : Contract) (e : Expression) (h : List Range) (env : Environment) (f : ℤ)
+    → KeepsLimits d → IsAccepted d c → StandsIn d e h c [] → IsWellFormed d 0 e → IsAdmitted d env → CanEvaluate d e [] env f
 
 -- over any days, the sizes of what a contract pays between two parties in an asset add up to at most its turnover, and
 -- this is at most its total

@@ -2,18 +2,23 @@
 -- expression, where it has the same kind and a narrower interval; in a contract, where it has no greater scale and no
 -- greater total at the portfolio's decimals. Who rewrites a contract part by part keeps the rules on sorts, scales and
 -- bounds of the whole.
-use Rattle.std.specs.Prelude.{ℕ, ◌≡◌, ◌≤◌, ◌<◌, ◌⊎◌, List, [], ◌∷◌}
+use Rattle.std.specs.Prelude.{ℕ, ℤ, ◌≡◌, ◌≤◌, ◌<◌, ◌⊎◌, nat_lt, if◌then◌else◌, List, [], ◌∷◌, Some}
 use Rattle.term_core.specs.Declarations.{Declarations}
 use Rattle.term_core.specs.declared.rules.Rule.TheVariants.{Sort, Scale as ScaleRule, Bound}
 use Rattle.term_core.specs.declared.terms.Days.{Days}
 use Rattle.term_core.specs.Terms.{Expression, Lit, Yes, Var, Obs, Neg, Num, Cmp, Not, Logic, Cond, Widen, Round, Div, Acc}
 use Rattle.term_core.specs.Terms.{Contract, Zero, Pay, Both, Scale, After, Let, Within}
-use Rattle.term_core.specs.Kinds.{kind_of}
+use Rattle.term_core.specs.Kinds.{kind_of, scale_of}
+use Rattle.term_core.specs.Environments.{Environment, IsAdmitted}
+use Rattle.term_core.specs.Values.{Entry, num, truth, value_of}
+use Rattle.term_core.specs.declared.values.Kind.{Kind}
+use Rattle.term_core.specs.declared.values.Kind.TheVariants.{Truth as TruthKind, Number}
+use Rattle.term_core.specs.declared.values.Value.{Value}
 use Rattle.term_core.specs.Flows.{scale_of_contract}
 use Rattle.term_core.specs.Acceptance.{Meets}
 use Rattle.term_core.specs.Bounds.{Range, range_kinds, interval_of, aligned_total}
 use Rattle.interval_check.specs.Nodes.{IsSorted, IsScaled, MeetsRules, ContractMeetsRules, range_of, range_after}
-use Rattle.interval_check.specs.Within.{KeepsLimits}
+use Rattle.interval_check.specs.Within.{AreWithin, KeepsLimits}
 use Rattle.interval_check.specs.Narrowing.{IsNarrower, AreNarrower}
 
 -- y may stand in the place of x, among names of these ranges
@@ -55,8 +60,8 @@ IsRewritten d (Div mode s a b) y g =
 IsRewritten d (Acc body n first) y g =
     Replaces d y (Acc body n first) g
     ⊎ ((body' : Expression) × (first' : Expression) × (y ≡ Acc body' n first') × IsRewritten d first first' g
-        × KeepsForm d body' body (range_after d body 0 first g ∷ g)
-        × ((i : ℕ) → i < n → IsRewritten d body body' (range_after d body i first g ∷ g)))
+    × KeepsForm d body' body (range_after d body 0 first g ∷ g)
+    × ((i : ℕ) → i < n → IsRewritten d body body' (range_after d body i first g ∷ g)))
 
 -- b may stand in the place of a, among names of these ranges
 pub record ReplacesContract (d : Declarations) (b a : Contract) (g : List Range) : Type 0 where
@@ -82,7 +87,7 @@ IsRewrittenContract d (Let e c) k g =
 IsRewrittenContract d (Within e n a b) k g =
     ReplacesContract d k (Within e n a b) g
     ⊎ ((e' : Expression) × (n' : Days) × (a' : Contract) × (b' : Contract) × (k ≡ Within e' n' a' b')
-        × IsRewritten d e e' g × IsRewrittenContract d a a' g × IsRewrittenContract d b b' g)
+    × IsRewritten d e e' g × IsRewrittenContract d a a' g × IsRewrittenContract d b b' g)
 
 -- a part that is left as it is may stand for itself
 abbrev pub PartsStandForThemselves : Type 0
@@ -113,3 +118,36 @@ abbrev pub RewrittenMeetRules : Type 0
 RewrittenMeetRules =
     (d : Declarations) (c k : Contract) → KeepsLimits d → Meets d Sort c → Meets d ScaleRule c → Meets d Bound c
     → IsRewrittenContract d c k [] → Meets d Sort k × Meets d ScaleRule k × Meets d Bound k
+
+-- the literal of a value of a kind
+abbrev pub literal_of : Kind → Value → Expression
+literal_of TruthKind v = Yes (truth v)
+literal_of (Number s) v = Lit (num v) s
+
+-- the value of an expression, in an admitted environment, may stand in its place
+abbrev pub ValuesReplace : Type 0
+ValuesReplace =
+    (d : Declarations) (e : Expression) (g : List Range) (es : List Entry) (env : Environment) (f : ℤ) (k : Kind)
+    → KeepsLimits d → MeetsRules d e g → AreWithin g es → IsAdmitted d env → kind_of d e (range_kinds g) ≡ Some k
+    → Replaces d (literal_of k (value_of d e es env f)) e g
+
+-- a branch of scale i at scale s, where that is greater
+abbrev pub branch_at : ℕ → ℕ → Expression → Expression
+branch_at i s e = if nat_lt i s then Widen s e else e
+
+-- each branch of an `if`, at the scale of the whole, may stand in its place
+abbrev pub BranchesReplace : Type 0
+BranchesReplace =
+    (d : Declarations) (t a b : Expression) (g : List Range) → KeepsLimits d → AreNarrower g g → MeetsRules d (Cond t a b) g
+    → Replaces d (branch_at (scale_of d a (range_kinds g)) (scale_of d (Cond t a b) (range_kinds g)) a) (Cond t a b) g
+    × Replaces d (branch_at (scale_of d b (range_kinds g)) (scale_of d (Cond t a b) (range_kinds g)) b) (Cond t a b) g
+
+-- so may each part of a contract, but for a factor's body and that of a `let`; and `zero` may stand for any contract
+abbrev pub ContractPartsReplace : Type 0
+ContractPartsReplace =
+    (d : Declarations) (g : List Range)
+    → ((c : Contract) → ReplacesContract d Zero c g)
+    × ((a b : Contract) → ContractMeetsRules d (Both a b) g → ReplacesContract d a (Both a b) g × ReplacesContract d b (Both a b) g)
+    × ((n : Days) (c : Contract) → ContractMeetsRules d (After n c) g → ReplacesContract d c (After n c) g)
+    × ((e : Expression) (n : Days) (a b : Contract) → ContractMeetsRules d (Within e n a b) g
+    → ReplacesContract d a (Within e n a b) g × ReplacesContract d b (Within e n a b) g)

@@ -6,11 +6,12 @@ use Rattle.decimal.specs.Rounding.{raised, DivFits}
 use Rattle.term_core.specs.Declarations.{Declarations}
 use Rattle.term_core.specs.declared.terms.NumOp.{NumOp}
 use Rattle.term_core.specs.declared.terms.NumOp.TheVariants.{Times}
+use Rattle.term_core.specs.declared.values.Kind.{Kind}
 use Rattle.term_core.specs.Terms.{Expression, Lit, Yes, Var, Obs, Neg, Num, Cmp, Not, Logic, Cond, Widen, Round, Div, Acc}
 use Rattle.term_core.specs.Limits.{greatest_mantissa}
 use Rattle.term_core.specs.Environments.{Environment}
 use Rattle.term_core.specs.Kinds.{kind_of, scale_of, scale_of_kind}
-use Rattle.term_core.specs.Values.{Entry, kinds, num, kind_or, widened, days_run, value_of}
+use Rattle.term_core.specs.Values.{Entry, kinds, num, of_num, kind_or, widened, days_run, value_of}
 use Rattle.term_core.specs.LawsKinds.{IsOfKind}
 use Rattle.term_core.specs.Scales.{greatest_scale}
 
@@ -23,10 +24,10 @@ pub record AlignSafely (i : ℕ) (x : ℤ) (j : ℕ) (y : ℤ) : Type 0 where
   pub left : IsSmall (raised x (max i j - i))
   pub right : IsSmall (raised y (max i j - j))
 
--- operands of scales i and j fit under an operator; a product aligns none
+-- operands of scales i and j fit under an operator, and so does the outcome; a product aligns none
 abbrev pub OperateSafely : NumOp → ℕ → ℤ → ℕ → ℤ → Type 0
-OperateSafely Times i x j y = Unit {0}
-OperateSafely op i x j y = AlignSafely i x j y
+OperateSafely Times i x j y = IsSmall x × IsSmall y × IsSmall (of_num Times i x j y)
+OperateSafely op i x j y = AlignSafely i x j y × IsSmall (of_num op i x j y)
 
 -- a number of scale i fits at the scale s, which is no lower
 pub record WidensSafely (i s : ℕ) (x : ℤ) : Type 0 where
@@ -51,6 +52,26 @@ pub record HasSafeValue (d : Declarations) (e : Expression) (es : List Entry) (e
   pub of_kind : IsOfKind (kind_or (kind_of d e (kinds es))) (value_of d e es env f)
   pub most : scale_of d e (kinds es) ≤ greatest_scale
   pub small : IsSmall (num (value_of d e es env f))
+
+-- every scale in an expression is at most 27, among names of these kinds, and none is widened to a lower one; also in the
+-- body of an accumulator of 0 days, which has a kind though it is never evaluated
+abbrev pub ScalesFit : Declarations → Expression → List Kind → Type 0
+ScalesFit d (Lit m s) ks = s ≤ greatest_scale
+ScalesFit d (Yes b) ks = Unit {0}
+ScalesFit d (Var back) ks = scale_of d (Var back) ks ≤ greatest_scale
+ScalesFit d (Obs l t) ks = scale_of d (Obs l t) ks ≤ greatest_scale
+ScalesFit d (Neg e) ks = ScalesFit d e ks
+ScalesFit d (Num op a b) ks = ScalesFit d a ks × ScalesFit d b ks × (scale_of d (Num op a b) ks ≤ greatest_scale)
+ScalesFit d (Cmp op a b) ks = ScalesFit d a ks × ScalesFit d b ks
+ScalesFit d (Not e) ks = ScalesFit d e ks
+ScalesFit d (Logic op a b) ks = ScalesFit d a ks × ScalesFit d b ks
+ScalesFit d (Cond t a b) ks = ScalesFit d t ks × ScalesFit d a ks × ScalesFit d b ks
+ScalesFit d (Widen s e) ks = ScalesFit d e ks × (scale_of d e ks ≤ s) × (scale_of d (Widen s e) ks ≤ greatest_scale)
+ScalesFit d (Round mode s e) ks = ScalesFit d e ks × (scale_of d (Round mode s e) ks ≤ greatest_scale)
+ScalesFit d (Div mode s a b) ks = ScalesFit d a ks × ScalesFit d b ks × (scale_of d (Div mode s a b) ks ≤ greatest_scale)
+ScalesFit d (Acc body n first) ks =
+    let inner = kind_or (kind_of d first ks) ∷ ks in
+    ScalesFit d first ks × ScalesFit d body inner × (scale_of d body inner ≤ scale_of d first ks)
 
 -- what the name of an accumulator of n days has in its body after i of them, on day f
 abbrev pub entry_after : Declarations → Expression → ℕ → Expression → List Entry → Environment → ℤ → ℕ → Entry
@@ -95,10 +116,15 @@ HasSafeParts d (Acc body n first) es env f =
     let k = kind_or (kind_of d first (kinds es)) in
     (HasSafeValue d first es env (f -ℤ pos n) × HasSafeParts d first es env (f -ℤ pos n))
     × ((i : ℕ) → i < n →
-        (HasSafeValue d body (entry_after d body n first es env f i ∷ es) env (f -ℤ pos n +ℤ pos (suc i))
-        × HasSafeParts d body (entry_after d body n first es env f i ∷ es) env (f -ℤ pos n +ℤ pos (suc i)))
-        × WidensSafely (scale_of d body (k ∷ kinds es)) (scale_of_kind k) (num (value_of d body (entry_after d body n first es env f i ∷ es) env (f -ℤ pos n +ℤ pos (suc i)))))
+    (HasSafeValue d body (entry_after d body n first es env f i ∷ es) env (f -ℤ pos n +ℤ pos (suc i))
+    × HasSafeParts d body (entry_after d body n first es env f i ∷ es) env (f -ℤ pos n +ℤ pos (suc i)))
+    × WidensSafely (scale_of d body (k ∷ kinds es)) (scale_of_kind k) (num (value_of d body (entry_after d body n first es env f i ∷ es) env (f -ℤ pos n +ℤ pos (suc i)))))
 
--- an expression can be evaluated, with these entries for its names, on day f
+-- the values of an expression and of all its parts are safe, with these entries for its names, on day f
 abbrev pub IsSafe : Declarations → Expression → List Entry → Environment → ℤ → Type 0
 IsSafe d e es env f = HasSafeValue d e es env f × HasSafeParts d e es env f
+
+-- so it can be evaluated
+pub record CanEvaluate (d : Declarations) (e : Expression) (es : List Entry) (env : Environment) (f : ℤ) : Type 0 where
+  pub scales : ScalesFit d e (kinds es)
+  pub safe : IsSafe d e es env f

@@ -1,9 +1,9 @@
 //! What the rules of acceptance guarantee of an evaluation. Each law is the contract of a function that does nothing; a
 //! caller takes the law by calling it.
 
-ghost use Rattle.interval_check.specs.Guarantees.{DeclsKeepLimits, RulesAreByStructure, AcceptedMeetRules, PartsMeetRules, ValuesLieInIntervals, ExpressionsAreSafe, ContractsAreSafe, AcceptedAreSafe, PartsOfAcceptedAreSafe, FlowsAddUpToTotal, AmountsAddUpToTotal};
+ghost use Rattle.interval_check.specs.Guarantees.{DeclsKeepLimits, RulesAreByStructure, AcceptedMeetRules, PartsMeetRules, ClosedNeedNoNames, ValuesLieInIntervals, ExpressionsAreSafe, BindingsLieWithin, ContractsAreSafe, AcceptedAreSafe, PartsOfAcceptedAreSafe, ClosedPartsAreSafe, FlowsAddUpToTotal, AmountsAddUpToTotal};
 ghost use Rattle.interval_check.specs.Narrowing.{IntervalsAreMonotone, TotalsAreMonotone, RulesAreMonotone, ContractRulesAreMonotone};
-ghost use Rattle.interval_check.specs.Replacing.{PartsStandForThemselves, ReplacementsCompose, RewrittenReplaces, RewrittenContractReplaces, RewrittenMeetRules};
+ghost use Rattle.interval_check.specs.Replacing.{PartsStandForThemselves, ReplacementsCompose, RewrittenReplaces, RewrittenContractReplaces, RewrittenMeetRules, ValuesReplace, BranchesReplace, ContractPartsReplace};
 
 /// The declarations that a program holds keep their limits, as the laws below ask.
 pub fn declarations_keep_limits()
@@ -11,11 +11,13 @@ pub fn declarations_keep_limits()
 {}
 
 /// The rules on sorts, scales and bounds hold in the order of trial exactly where they hold by structure. So an accepted
-/// contract meets them by structure, and so does each expression that stands in it.
+/// contract meets them by structure, and so does each expression that stands in it, without any names where it uses
+/// none from outside.
 pub fn rules_hold_by_structure()
     ensures rules { RulesAreByStructure }
     ensures accepted { AcceptedMeetRules }
     ensures parts { PartsMeetRules }
+    ensures closed { ClosedNeedNoNames }
 {}
 
 /// The value of an expression lies in its interval, in every admitted environment and on every day.
@@ -23,9 +25,11 @@ pub fn values_lie_in_intervals()
     ensures { ValuesLieInIntervals }
 {}
 
-/// What meets the rules can be evaluated in 128 bits: no number leaves them, and no divisor is 0.
+/// What meets the rules can be evaluated in 128 bits: no number leaves them, and no divisor is 0. A name that is bound to
+/// a value on the way lies within its range, as what stands below it asks.
 pub fn evaluation_is_safe()
     ensures expressions { ExpressionsAreSafe }
+    ensures bindings { BindingsLieWithin }
     ensures contracts { ContractsAreSafe }
 {}
 
@@ -33,6 +37,7 @@ pub fn evaluation_is_safe()
 pub fn accepted_contracts_are_safe()
     ensures contracts { AcceptedAreSafe }
     ensures parts { PartsOfAcceptedAreSafe }
+    ensures closed { ClosedPartsAreSafe }
 {}
 
 /// Over any days, what a contract pays between two parties in an asset adds up to at most its total.
@@ -58,4 +63,12 @@ pub fn replaced_parts_keep_rules()
     ensures expressions { RewrittenReplaces }
     ensures contracts { RewrittenContractReplaces }
     ensures accepted { RewrittenMeetRules }
+{}
+
+/// What may stand for a whole: the value of an expression in an admitted environment, a branch of an `if` at the scale of
+/// the whole, and in a contract `zero`, each part of a `both`, of an `after` and of an `if .. within`.
+pub fn parts_may_stand_for_wholes()
+    ensures values { ValuesReplace }
+    ensures branches { BranchesReplace }
+    ensures contracts { ContractPartsReplace }
 {}

@@ -1,5 +1,5 @@
 -- What the rules say of an expression itself: it has a kind, its scale is at most 27, and its interval fits.
-use Rattle.std.proofs.Common.{◌≡◌, ℕ, zero, suc, ◌<◌, ◌≤◌, ◌&&◌, nat_le, IsTrue, is_some, List, Option, Some, None, refl, arith}
+use Rattle.std.proofs.Common.{◌≡◌, ℕ, zero, suc, ◌<◌, ◌≤◌, ◌&&◌, nat_le, IsTrue, is_some, List, ◌∷◌, Option, Some, None, refl, arith}
 use Rattle.std.proofs.lemmas.Bool.{and_parts, leb-true}
 use Rattle.term_core.specs.Declarations.{Declarations}
 use Rattle.term_core.specs.declared.values.Kind.{Kind}
@@ -10,7 +10,8 @@ use Rattle.term_core.specs.Values.{kind_or}
 use Rattle.term_core.specs.Sites.{Part, OfExpression, Once}
 use Rattle.term_core.specs.Scales.{greatest_scale}
 use Rattle.term_core.specs.Bounds.{Range, range_kinds, interval_of, operands_fit, fits}
-use Rattle.interval_check.specs.Nodes.{EachNode, IsScaled, IsBounded, IsScaledPart, has_scaled_parts}
+use Rattle.interval_check.specs.Nodes.{EachNode, IsScaled, IsBounded, IsScaledPart, has_scaled_parts, range_after}
+use Rattle.interval_check.specs.Safety.{ScalesFit}
 
 pub at_root : (P : List Range → Part → Type 0) (d : Declarations) (e : Expression) (g : List Range) → EachNode P Once d e g → P g (OfExpression e)
 at_root P d (Lit m s) g h = h
@@ -32,6 +33,10 @@ pub scale_fits : (d : Declarations) (e : Expression) (g : List Range) → IsScal
 scale_fits d e g h =
     let tests = and_parts (nat_le (scale_of d e (range_kinds g)) greatest_scale) (has_scaled_parts d (range_kinds g) e) (at_root (IsScaledPart d) d e g h) in
     leb-true _ _ tests.0
+
+pub scaled_parts : (d : Declarations) (e : Expression) (g : List Range) → IsScaled d e g → IsTrue (has_scaled_parts d (range_kinds g) e)
+scaled_parts d e g h =
+    (and_parts (nat_le (scale_of d e (range_kinds g)) greatest_scale) (has_scaled_parts d (range_kinds g) e) (at_root (IsScaledPart d) d e g h)).1
 
 -- both tests of a node
 pub bound_tests : (d : Declarations) (e : Expression) (g : List Range) → IsTrue (operands_fit d g e && fits (interval_of d e g)) → IsTrue (operands_fit d g e) × IsTrue (fits (interval_of d e g))
@@ -79,3 +84,21 @@ numbers_scale (Some TruthKind) u s h = absurd (cc)
 numbers_scale (Some (Number t)) None s h = absurd (cc)
 numbers_scale (Some (Number t)) (Some TruthKind) s h = absurd (cc)
 numbers_scale (Some (Number t)) (Some (Number v)) s h = refl
+
+-- every scale of an expression
+pub scales_fit : (d : Declarations) (e : Expression) (g : List Range) → IsScaled d e g → ScalesFit d e (range_kinds g)
+scales_fit d (Lit m s) g h = scale_fits d (Lit m s) g h
+scales_fit d (Yes b) g h = tt
+scales_fit d (Var back) g h = scale_fits d (Var back) g h
+scales_fit d (Obs l t) g h = scale_fits d (Obs l t) g h
+scales_fit d (Neg e) g h = scales_fit d e g h.0
+scales_fit d (Num op a b) g h = (scales_fit d a g h.0, scales_fit d b g h.1, scale_fits d (Num op a b) g h)
+scales_fit d (Cmp op a b) g h = (scales_fit d a g h.0, scales_fit d b g h.1)
+scales_fit d (Not e) g h = scales_fit d e g h.0
+scales_fit d (Logic op a b) g h = (scales_fit d a g h.0, scales_fit d b g h.1)
+scales_fit d (Cond t a b) g h = (scales_fit d t g h.0, scales_fit d a g h.1, scales_fit d b g h.2)
+scales_fit d (Widen s e) g h = (scales_fit d e g h.0, leb-true _ _ (scaled_parts d (Widen s e) g h), scale_fits d (Widen s e) g h)
+scales_fit d (Round mode s e) g h = (scales_fit d e g h.0, scale_fits d (Round mode s e) g h)
+scales_fit d (Div mode s a b) g h = (scales_fit d a g h.0, scales_fit d b g h.1, scale_fits d (Div mode s a b) g h)
+scales_fit d (Acc body n first) g h =
+    (scales_fit d first g h.0, scales_fit d body (range_after d body 0 first g ∷ g) h.1.0, leb-true _ _ (scaled_parts d (Acc body n first) g h))

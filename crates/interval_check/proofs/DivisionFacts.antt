@@ -9,7 +9,7 @@ use Rattle.decimal.proofs.PowerFacts.{ten_above}
 use Rattle.decimal.proofs.RoundedFacts.{divides_to_scale}
 use Rattle.term_core.specs.Bounds.{Interval, single, hull, corners}
 use Rattle.interval_check.specs.Within.{IsIn}
-use Rattle.interval_check.proofs.IntervalFacts.{between_up, between_down, in_corners}
+use Rattle.interval_check.proofs.InclusionFacts.{between_up, between_down, in_corners}
 use Rattle.interval_check.proofs.MultipleFacts.{times-more, times-less}
 use Rattle.interval_check.proofs.RoundingFacts.{rounded_rises, rounded_across, raised_rises}
 
