@@ -258,3 +258,33 @@ refusals_write_their_line words edge =
     bad_line verb all (told text _ (done e a) w) = absurd cc
     bad_line verb all (told text _ (refused e a) w) = absurd cc
     bad_line verb all (told text _ (bad_text e a) w) = (a.first, a.is_first, by_line edge text (fault_text (fault.Text a.first)) a.line w)
+
+-- ---- the cause of an answer that a command makes, and what a run says that wrote it
+
+pub answer_cause : (words : List (List ℕ)) (files : FilesSeen) (s : Status) (text : List ℕ) → AnswerCause words files s text → Cause words files s text
+answer_cause words files status.Done text c = c
+answer_cause words files status.Refused text c = c
+answer_cause words files status.BadText text c = c
+answer_cause words files status.Usage text c = absurd c.answer
+answer_cause words files status.ReadFault text c = absurd c.answer
+answer_cause words files status.WriteFault text c = absurd c.answer
+answer_cause words files status.TooLong text c = absurd c.answer
+answer_cause words files status.BadRow text c = absurd c.answer
+answer_cause words files status.Missing text c = absurd c.answer
+answer_cause words files status.NoMemory text c = absurd c.answer
+answer_cause words files status.UnknownName text c = absurd c.answer
+answer_cause words files status.DayRange text c = absurd c.answer
+
+pub all_written : (words : List (List ℕ)) (edge : Edge) (s : Status) (text : List ℕ) → Cause words edge.files s text → WritesAll edge.sink text → Meets words edge s
+all_written words edge status.WriteFault text c w = absurd c.answer
+all_written words edge status.NoMemory text c w = absurd c.answer
+all_written words edge status.Done text c w = record { text = text; cause = c; written = w }
+all_written words edge status.Refused text c w = record { text = text; cause = c; written = w }
+all_written words edge status.Usage text c w = record { text = text; cause = c; written = w }
+all_written words edge status.ReadFault text c w = record { text = text; cause = c; written = w }
+all_written words edge status.TooLong text c w = record { text = text; cause = c; written = w }
+all_written words edge status.BadText text c w = record { text = text; cause = c; written = w }
+all_written words edge status.BadRow text c w = record { text = text; cause = c; written = w }
+all_written words edge status.Missing text c w = record { text = text; cause = c; written = w }
+all_written words edge status.UnknownName text c w = record { text = text; cause = c; written = w }
+all_written words edge status.DayRange text c w = record { text = text; cause = c; written = w }
