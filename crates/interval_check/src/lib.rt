@@ -1,0 +1,4 @@
+//! The last rule of acceptance: no mantissa, no operand and no total is too large, and no divisor may be 0.
+#![tactic(auto)]
+
+mod intervals;
