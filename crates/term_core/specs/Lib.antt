@@ -19,6 +19,8 @@ pub mod Scales
 pub mod Smallness
 pub mod Bounds
 pub mod Acceptance
+pub mod Trying
+pub mod Verdicts
 pub mod Causality
 pub mod Residuals
 pub mod Redexes

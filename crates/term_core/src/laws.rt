@@ -5,7 +5,7 @@ ghost use Rattle.term_core.specs.LawsFlows.{AmountsAreOpposite, AmountsEndAtHori
 ghost use Rattle.term_core.specs.LawsResiduals.{CarriesComposes};
 ghost use Rattle.term_core.specs.LawsReads.{ReadsStayUpToUnfixed, AmountsAreFixed, ValuesDependOnReads, AmountsDependOnReads};
 ghost use Rattle.term_core.specs.LawsShifts.{ShiftsMoveTheDay};
-ghost use Rattle.term_core.specs.LawsAcceptance.{RefusalsAreUnique, AcceptedAreNotRefused};
+ghost use Rattle.term_core.specs.LawsAcceptance.{RefusalsAreUnique, AcceptedAreNotRefused, RulesHoldOrFail, FaultsAreUnique};
 ghost use Rattle.term_core.specs.LawsInstances.{InstancesHaveNumbers, InstancesAreWellFormed, SettingsSuit, DefaultsSuit};
 ghost use Rattle.term_core.specs.LawsTimes.{TimesMeanTyped};
 ghost use Rattle.term_core.specs.LawsKinds.{ValuesHaveKinds};
@@ -64,6 +64,13 @@ pub fn refusals_are_unique()
 /// An accepted contract has no refusal.
 pub fn accepted_are_not_refused()
     ensures { AcceptedAreNotRefused }
+{}
+
+/// A rule of acceptance that holds everywhere in a contract fails nowhere, and where it fails, it does so first at one
+/// node. So the answers of the calls for the rules are the only ones that fit.
+pub fn faults_are_unique()
+    ensures apart { RulesHoldOrFail }
+    ensures unique { FaultsAreUnique }
 {}
 
 /// A day has one text.

@@ -3,11 +3,13 @@
 
 mod copies;
 mod dates;
+mod days;
 mod decls;
 mod instances;
 mod label;
 mod laws;
 mod name;
+mod nodes;
 mod portfolio;
 mod rules;
 mod settings;
@@ -23,11 +25,12 @@ pub use label::Label;
 pub use laws::{
     accepted_are_not_refused, amounts_are_fixed, amounts_are_opposite, amounts_begin_at_zero,
     amounts_depend_on_reads, amounts_end_at_horizon, carries_composes, days_of_texts_are_civil,
-    defaults_suit, instances_are_well_formed, instances_have_numbers, reads_stay_up_to_unfixed,
-    refusals_are_unique, settings_suit, shifts_move_the_day, texts_of_days_are_unique,
-    times_mean_typed, values_depend_on_reads, values_have_kinds,
+    defaults_suit, faults_are_unique, instances_are_well_formed, instances_have_numbers,
+    reads_stay_up_to_unfixed, refusals_are_unique, settings_suit, shifts_move_the_day,
+    texts_of_days_are_unique, times_mean_typed, values_depend_on_reads, values_have_kinds,
 };
 pub use name::Name;
+pub use nodes::{nodes_in, nodes_in_contract};
 pub use portfolio::Portfolio;
 pub use rules::{CheckErr, Rule, RuleFault};
 pub use settings::{Setting, defaults};

@@ -1,6 +1,7 @@
 // Worked values, by hand.
 
 use super::*;
+use crate::sizes::counts_of_expr;
 use decimal::{Mode, NoMemory};
 use indexmap::{IndexMap, IndexSet};
 use std::alloc::Global;
@@ -125,6 +126,8 @@ fn names_of_templates_get_numbers(rt: HostRuntime) -> Result<(), Fail> {
         days: Days::Num { days: 30 },
         body: Box::new(alloc, Contr::Zero)?,
     };
+    assert_eq!(rt; Days::Num { days: 30 }.number(), 30);
+    assert_eq!(rt; Days::Named { template: 0 }.number(), 0);
     assert!(rt; instantiate(alloc, &delayed, &setting)? == wanted);
     Ok(())
 }
@@ -147,6 +150,12 @@ fn nodes_are_counted(rt: HostRuntime) -> Result<(), Fail> {
             nodes: 1
         }
     );
+    // Few, as the count that stops at a million says, so the exact one can be taken.
+    assert!(rt; counts(&contract).nodes < 1_000_000);
+    assert_eq!(rt; nodes_in_contract(&contract), 9);
+    let sum = three_days(alloc)?;
+    assert!(rt; counts_of_expr(&sum).nodes < 1_000_000);
+    assert_eq!(rt; nodes_in(&sum), 5);
     Ok(())
 }
 

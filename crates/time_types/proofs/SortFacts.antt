@@ -17,7 +17,7 @@ use Rattle.term_core.specs.Acceptance.{Meets, FailsAt}
 use Rattle.term_core.proofs.Trials.{or_else, first_failing-append, first_failing-is, FaultIs}
 use Rattle.time_types.specs.declared.sort_scopes.Sort.{Sort}
 use Rattle.time_types.specs.declared.sort_scopes.Sort.TheVariants.{Truth, Number}
-use Rattle.time_types.specs.Trying.{then_do, moved, or_here}
+use Rattle.term_core.specs.Trying.{then_do, moved, or_here}
 use Rattle.time_types.specs.SortScopes.{sort_of_kind, sort_of}
 use Rattle.time_types.specs.SortTrials.{Answer, expected, one_tried, two_tried, sort_tried, Sorted, required, sorts_tried}
 

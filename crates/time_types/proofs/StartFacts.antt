@@ -11,7 +11,7 @@ use Rattle.term_core.specs.WellFormed.{IsWellFormed, IsWellFormedContract}
 use Rattle.term_core.specs.Times.{Typed, TypedContract, lowered_by}
 use Rattle.time_types.specs.declared.starts.Start.{Start}
 use Rattle.time_types.specs.declared.starts.Start.TheVariants.{Day, Always}
-use Rattle.time_types.specs.Trying.{then_do, moved}
+use Rattle.term_core.specs.Trying.{then_do, moved}
 use Rattle.time_types.specs.TimeTrials.{known_from, earlier, is_known_at, Answer, in_time, start_tried}
 use Rattle.time_types.proofs.KnownFacts.{KnownBy, Fits, Above, Fits-grows, Fits-lowered, Above-lowered, known_typed, known_bounded}
 

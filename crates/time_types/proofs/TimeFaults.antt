@@ -17,7 +17,7 @@ use Rattle.term_core.proofs.Trials.{AllPass-append, FirstFault-left, FirstFault-
 use Rattle.time_types.specs.declared.starts.Start.{Start}
 use Rattle.time_types.specs.declared.starts.Start.TheVariants.{Day, Always}
 use Rattle.time_types.specs.Starts.{start_day}
-use Rattle.time_types.specs.Trying.{then_do, moved}
+use Rattle.term_core.specs.Trying.{then_do, moved}
 use Rattle.time_types.specs.TimeTrials.{known_from, earlier, is_known_at, Answer, in_time, start_tried}
 use Rattle.time_types.proofs.KnownFacts.{Fits, Above, Fits-grows, Fits-lowered, Above-lowered, known_bounded}
 use Rattle.time_types.proofs.StartFacts.{Before, Knows, knows, known_then, Above-more, AtMostAnswer, AreTypes, start_typed, start_bounded}

@@ -1,8 +1,6 @@
-pub mod Trying
 pub mod SortScopes
 pub mod SortTrials
 pub mod Starts
 pub mod TimeScopes
 pub mod TimeTrials
 pub mod TypingLaws
-pub mod Verdicts

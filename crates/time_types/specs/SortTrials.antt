@@ -11,7 +11,7 @@ use Rattle.term_core.specs.Sizes.{nodes, nodes_of_contract}
 use Rattle.time_types.specs.declared.sort_scopes.Sort.{Sort}
 use Rattle.time_types.specs.declared.sort_scopes.Sort.TheVariants.{Truth, Number}
 use Rattle.time_types.specs.SortScopes.{sort_of}
-use Rattle.time_types.specs.Trying.{then_do, moved, or_here}
+use Rattle.term_core.specs.Trying.{then_do, moved, or_here}
 
 abbrev pub Answer : Type 0
 Answer = Result Sort ℕ

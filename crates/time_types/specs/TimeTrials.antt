@@ -10,7 +10,7 @@ use Rattle.term_core.specs.Flows.{count_of}
 use Rattle.term_core.specs.Sizes.{nodes, nodes_of_contract}
 use Rattle.time_types.specs.declared.starts.Start.{Start}
 use Rattle.time_types.specs.declared.starts.Start.TheVariants.{Day, Always}
-use Rattle.time_types.specs.Trying.{then_do, moved}
+use Rattle.term_core.specs.Trying.{then_do, moved}
 
 -- a day from which h steps, each of less than 2^32 days, stay far within the days that a program counts
 abbrev pub HasRoom : ℕ → ℤ → Type 0

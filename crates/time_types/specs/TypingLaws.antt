@@ -1,5 +1,5 @@
 -- Types are kept where an expression is asked on a later day, a contract on an earlier one, and where names are known
--- sooner. A rule of acceptance holds everywhere or fails first at one node, and never both.
+-- sooner.
 use Rattle.std.specs.Prelude.{ℕ, ℤ, ◌≡◌, ◌≤ℤ◌, List, [], ◌∷◌}
 use Rattle.term_core.specs.Declarations.{Declarations}
 use Rattle.term_core.specs.declared.rules.Rule.{Rule}
@@ -21,11 +21,3 @@ TypesOfExpressionsRise =
 abbrev pub TypesOfContractsFall : Type 0
 TypesOfContractsFall =
     (c : Contract) (g h : List ℤ) (t u : ℤ) → AreNoLater h g → u ≤ℤ t → TypedContract g c t → TypedContract h c u
-
-abbrev pub RulesHoldOrFail : Type 0
-RulesHoldOrFail =
-    (d : Declarations) (rule : Rule) (c : Contract) (k : ℕ) → Meets d rule c → FailsAt d rule c k → ⊥
-
-abbrev pub FaultsAreUnique : Type 0
-FaultsAreUnique =
-    (d : Declarations) (rule : Rule) (c : Contract) (j k : ℕ) → FailsAt d rule c j → FailsAt d rule c k → j ≡ k

@@ -2,14 +2,13 @@
 #![tactic(auto)]
 
 mod laws;
-mod nodes;
 mod sort_rule;
 mod sort_scopes;
 mod starts;
 mod time_rule;
 mod time_scopes;
 
-pub use laws::{faults_are_unique, typing_is_kept};
+pub use laws::typing_is_kept;
 pub use sort_rule::sorts;
 pub use starts::Start;
 pub use time_rule::times;

@@ -7,15 +7,14 @@ ghost use Rattle.term_core.specs.Declarations.{declarations};
 ghost use Rattle.term_core.specs.declared.rules.Rule.{Rule};
 ghost use Rattle.term_core.specs.Terms.{expression, contract};
 ghost use Rattle.term_core.specs.Sizes.{nodes, nodes_of_contract, height_of_contract};
-ghost use Rattle.time_types.specs.Trying.{moved, or_here};
+ghost use Rattle.term_core.specs.Trying.{moved, or_here};
 ghost use Rattle.time_types.specs.SortScopes.{sorts_in};
 ghost use Rattle.time_types.specs.SortTrials.{expected, required, one_tried, two_tried, sort_tried, sorts_tried};
-ghost use Rattle.time_types.specs.Verdicts.{IsVerdict};
+ghost use Rattle.term_core.specs.Verdicts.{IsVerdict};
 
-use crate::nodes::{nodes_in, nodes_in_contract};
 use crate::sort_scopes::{Sort, SortScope, sort_at, sort_observed};
 use std::alloc::Global;
-use term_core::{CheckErr, Contr, Decls, Expr, Rule};
+use term_core::{CheckErr, Contr, Decls, Expr, Rule, nodes_in, nodes_in_contract};
 
 // The answer where a sort is as wanted, else a fault here.
 fn expect(wanted: Sort, found: Sort, answer: Sort) -> Result<Sort, u32>

@@ -6,22 +6,20 @@ ghost use Rattle.std.specs.Prelude.{◌≡◌, ◌<◌, ◌≤◌, ◌+◌, ◌^
 ghost use Rattle.term_core.specs.Declarations.{declarations};
 ghost use Rattle.term_core.specs.declared.rules.Rule.{Rule};
 ghost use Rattle.term_core.specs.Terms.{expression, contract};
-ghost use Rattle.term_core.specs.Flows.{count_of};
 ghost use Rattle.term_core.specs.Sizes.{nodes, height, nodes_of_contract, height_of_contract};
 ghost use Rattle.term_core.specs.Times.{IsStart};
 ghost use Rattle.term_core.specs.WellFormed.{IsClosed, HasOnlyNumbers};
 ghost use Rattle.term_core.specs.Acceptance.{Meets};
-ghost use Rattle.time_types.specs.Trying.{moved};
+ghost use Rattle.term_core.specs.Trying.{moved};
 ghost use Rattle.time_types.specs.Starts.{start_day};
 ghost use Rattle.time_types.specs.TimeScopes.{times_in};
 ghost use Rattle.time_types.specs.TimeTrials.{HasRoom, later, known_from, in_time, start_tried};
-ghost use Rattle.time_types.specs.Verdicts.{IsVerdict};
+ghost use Rattle.term_core.specs.Verdicts.{IsVerdict};
 
-use crate::nodes::{nodes_in, nodes_in_contract};
 use crate::starts::{Start, earlier_of, is_known};
 use crate::time_scopes::{TimeScope, known_at};
 use std::alloc::Global;
-use term_core::{CheckErr, Contr, Days, Decls, Expr, Rule};
+use term_core::{CheckErr, Contr, Decls, Expr, Rule, nodes_in, nodes_in_contract};
 
 // The day from which both are known.
 fn later_of(a: Option<i64>, b: Option<i64>) -> Option<i64>
@@ -65,16 +63,6 @@ fn days_after(day: PartDay, days: u32) -> PartDay
 {
     PartDay {
         number: day.number + days as i64,
-    }
-}
-
-// A count of days; a template has none before it is given one.
-fn days_of(days: Days) -> u32
-    ensures { result ≡ count_of days }
-{
-    match days {
-        Days::Num { days } => days,
-        Days::Named { .. } => 0,
     }
 }
 
@@ -156,7 +144,7 @@ fn try_start(c: &Contr, scope: &TimeScope, day: PartDay) -> Result<Start, u32>
             let start = try_after(factor, body, scope, day)?;
             allow(known(factor, scope, day), start, start)
         }
-        Contr::After { days, body } => try_first(body, scope, days_after(day, days_of(*days))),
+        Contr::After { days, body } => try_first(body, scope, days_after(day, days.number())),
         Contr::Let { bound, body } => {
             let inner = TimeScope::Bound {
                 known: known(bound, scope, day),
@@ -171,7 +159,7 @@ fn try_start(c: &Contr, scope: &TimeScope, day: PartDay) -> Result<Start, u32>
             miss,
         } => {
             let hit_start = try_after(test, hit, scope, day)?;
-            let last = days_after(day, days_of(*days));
+            let last = days_after(day, days.number());
             let miss_start = try_after_both(test, hit, miss, scope, last)?;
             let start = earlier_of(hit_start, miss_start);
             allow(

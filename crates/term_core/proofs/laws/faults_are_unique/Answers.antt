@@ -1,7 +1,7 @@
 use Rattle.term_core.specs.Acceptance.{Passes, trial_of}
 use Rattle.term_core.specs.Sites.{sites}
 use Rattle.term_core.proofs.Trials.{FirstFault-unique, FirstFault-fails}
-use Rattle.time_types.proofs.laws.faults_are_unique.Goals as goal
+use Rattle.term_core.proofs.laws.faults_are_unique.Goals as goal
 
 pub returns : goal.returns
 returns c = record {

@@ -4,7 +4,7 @@ ghost use Rattle.std.specs.Prelude.{◌≡◌, ◌<◌, ◌^◌};
 ghost use Rattle.term_core.specs.Terms.{expression, contract};
 ghost use Rattle.term_core.specs.Sizes.{nodes, nodes_of_contract};
 
-use term_core::{Contr, Expr};
+use crate::terms::{Contr, Expr};
 
 /// The nodes of an expression.
 pub fn nodes_in(e: &Expr) -> u32
