@@ -1,7 +1,7 @@
 -- The program's intervals as those of the model; and a mantissa, or an interval, where it is at most 10^37 in size.
-use Rattle.std.specs.Prelude.{ℤ, Option, Some, None, nat_le, unsigned_abs, if◌then◌else◌}
+use Rattle.std.specs.Prelude.{ℤ, ◌≤◌, ◌^◌, Option, Some, None, nat_le, unsigned_abs, if◌then◌else◌}
 use Rattle.term_core.specs.Limits.{greatest_mantissa}
-use Rattle.term_core.specs.Bounds.{Interval, fits, single, hull}
+use Rattle.term_core.specs.Bounds.{Interval, fits}
 use Rattle.interval_check.specs.declared.intervals.Interval.{Interval as Ends}
 
 abbrev pub interval : Ends → Interval
@@ -17,6 +17,7 @@ mantissa m = if nat_le (unsigned_abs m) greatest_mantissa then Some m else None
 abbrev pub fitting : Interval → Option Interval
 fitting i = if fits i then Some i else None
 
--- the least interval that holds four numbers
-abbrev pub corner_hull : ℤ → ℤ → ℤ → ℤ → Interval
-corner_hull a b c d = hull (hull (single a) (single b)) (hull (single c) (single d))
+-- both end points are at most 10^37 in size
+pub record IsSmall (i : Interval) : Type 0 where
+  pub low : unsigned_abs i.low ≤ 10 ^ 37
+  pub high : unsigned_abs i.high ≤ 10 ^ 37

@@ -1,1 +1,4 @@
 pub mod Intervals
+pub mod Ranges
+pub mod RangeScopes
+pub mod RangeTrials

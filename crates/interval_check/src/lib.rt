@@ -2,3 +2,6 @@
 #![tactic(auto)]
 
 mod intervals;
+mod quotients;
+mod range_scopes;
+mod ranges;
