@@ -1,2 +1,3 @@
 pub mod IntervalFacts
 pub mod OperatorFacts
+pub mod QuotientFacts

@@ -23,11 +23,11 @@ rounds_up mode s r h =
 one_scale : (n : Name) (s : ℕ) (l h : ℤ) → is_label (NumberLabel s l h) ≡ true → s ≤ 27
 one_scale n s l h e = grind (arith, nat_tests)
 
-left_true : (a b : Bool) → (a && b) ≡ true → a ≡ true
+pub left_true : (a b : Bool) → (a && b) ≡ true → a ≡ true
 left_true true b e = refl
 left_true false b e = e
 
-right_true : (a b : Bool) → (a && b) ≡ true → b ≡ true
+pub right_true : (a b : Bool) → (a && b) ≡ true → b ≡ true
 right_true true b e = e
 right_true false b e = absurd (cc)
 
