@@ -1,7 +1,7 @@
 -- The range of an expression, or the place of its first node that breaks the rule on bounds, counted from the
 -- expression's own first node. This goes by structure, each part once, and an accumulator's body once for each day;
 -- proofs/RangeFacts shows that it finds what the rule says.
-use Rattle.std.specs.Prelude.{ℕ, zero, suc, ℤ, pos, neg_ℤ, ◌+◌, ◌-◌, max, List, ◌∷◌, Option, Some, None, Result, Ok, Err, if◌then◌else◌, slice_get}
+use Rattle.std.specs.Prelude.{ℕ, zero, suc, ℤ, pos, neg_ℤ, ◌+◌, ◌-◌, ◌≤◌, max, List, ◌∷◌, Option, Some, None, Result, Ok, Err, if◌then◌else◌, slice_get}
 use Rattle.decimal.specs.declared.rounding.Mode.{Mode}
 use Rattle.decimal.specs.Rounding.{raised, at_scale, divided}
 use Rattle.term_core.specs.declared.terms.NumOp.{NumOp}
@@ -102,6 +102,10 @@ abbrev pub days_tried : ℕ → (Range → Answer) → Range → Answer
 days_tried zero step r = Ok r
 days_tried (suc n) step r = then_do (days_tried n step r) step
 
+-- a day of an accumulator: the body, with the range so far for the name, at the scale of the start
+abbrev pub day_tried : (List Range → Answer) → List Range → Range → Answer
+day_tried body g r = then_do (moved 1 (body (r ∷ g))) (widened r.kind)
+
 abbrev pub range_tried : Declarations → Expression → List Range → Answer
 range_tried d (Lit m s) g = ranged (fitting (single m)) (Number s)
 range_tried d (Yes b) g = Ok truth
@@ -118,7 +122,7 @@ range_tried d (Widen s e) g = then_do (moved 1 (range_tried d e g)) (widened (Nu
 range_tried d (Round mode s e) g = then_do (moved 1 (range_tried d e g)) (rounded mode s)
 range_tried d (Div mode s a b) g = then_do (operands (nodes a) (range_tried d a g) (range_tried d b g)) (λ p. quotient mode s p.left p.right)
 range_tried d (Acc body n first) g =
-    then_do (moved (1 + nodes body) (range_tried d first g)) (λ r. days_tried n (λ v. then_do (moved 1 (range_tried d body (v ∷ g))) (widened v.kind)) r)
+    then_do (moved (1 + nodes body) (range_tried d first g)) (λ r. days_tried n (day_tried (λ h. range_tried d body h) g) r)
 
 -- The kind that the trial answers, and the scales that the rule on scales gives it.
 
@@ -138,3 +142,21 @@ kind_found d (Widen s e) ks = Number s
 kind_found d (Round mode s e) ks = Number s
 kind_found d (Div mode s a b) ks = Number s
 kind_found d (Acc body n first) ks = kind_found d first ks
+
+-- every scale is at most 27
+abbrev pub AreScaled : Declarations → Expression → List Kind → Type 0
+AreScaled d (Lit m s) ks = s ≤ 27
+AreScaled d (Yes b) ks = Unit {0}
+AreScaled d (Var back) ks = scale_of_kind (kind_or (slice_get ks back)) ≤ 27
+AreScaled d (Obs l t) ks = Unit {0}
+AreScaled d (Neg e) ks = AreScaled d e ks
+AreScaled d (Num op a b) ks =
+    AreScaled d a ks × AreScaled d b ks × (scale_of_op op (scale_of_kind (kind_found d a ks)) (scale_of_kind (kind_found d b ks)) ≤ 27)
+AreScaled d (Cmp op a b) ks = AreScaled d a ks × AreScaled d b ks
+AreScaled d (Not e) ks = AreScaled d e ks
+AreScaled d (Logic op a b) ks = AreScaled d a ks × AreScaled d b ks
+AreScaled d (Cond t a b) ks = AreScaled d t ks × AreScaled d a ks × AreScaled d b ks
+AreScaled d (Widen s e) ks = (s ≤ 27) × AreScaled d e ks
+AreScaled d (Round mode s e) ks = (s ≤ 27) × AreScaled d e ks
+AreScaled d (Div mode s a b) ks = (s ≤ 27) × AreScaled d a ks × AreScaled d b ks
+AreScaled d (Acc body n first) ks = AreScaled d body (kind_found d first ks ∷ ks) × AreScaled d first ks

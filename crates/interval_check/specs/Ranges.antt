@@ -5,8 +5,9 @@ use Rattle.term_core.specs.Kinds.{scale_of_kind}
 use Rattle.term_core.specs.Bounds.{Interval, Range}
 use Rattle.interval_check.specs.declared.ranges.Range.{Range as Found}
 use Rattle.interval_check.specs.declared.ranges.Shared.{Shared as FoundShared}
+use Rattle.interval_check.specs.declared.ranges.Operands.{Operands as FoundOperands}
 use Rattle.interval_check.specs.Intervals.{interval}
-use Rattle.interval_check.specs.RangeTrials.{Shared}
+use Rattle.interval_check.specs.RangeTrials.{Shared, Operands}
 
 abbrev pub range : Found → Range
 range r = record { interval = interval r.interval; kind = r.kind }
@@ -18,6 +19,10 @@ range_found (Err k) = Err k
 abbrev pub shared_found : Result FoundShared ℕ → Result Shared ℕ
 shared_found (Ok p) = Ok (record { left = interval p.left; right = interval p.right })
 shared_found (Err k) = Err k
+
+abbrev pub operands_found : Result FoundOperands ℕ → Result Operands ℕ
+operands_found (Ok p) = Ok (record { left = range p.left; right = range p.right })
+operands_found (Err k) = Err k
 
 pub record IsFit (r : Range) : Type 0 where
   pub low : unsigned_abs r.interval.low ≤ 10 ^ 37

@@ -3,5 +3,6 @@
 
 mod intervals;
 mod quotients;
+mod range_rule;
 mod range_scopes;
 mod ranges;

@@ -3,6 +3,8 @@
 ghost use Rattle.std.specs.Prelude.{◌≡◌, IfErr, IfOk, slice_get};
 ghost use Rattle.term_core.specs.Declarations.{declarations};
 ghost use Rattle.term_core.specs.Environments.{label_of};
+ghost use Rattle.term_core.specs.Values.{kind_or};
+ghost use Rattle.term_core.specs.Bounds.{range_kinds};
 ghost use Rattle.interval_check.specs.Ranges.{range, range_found, IsFit};
 ghost use Rattle.interval_check.specs.RangeScopes.{ranges_in};
 ghost use Rattle.interval_check.specs.RangeTrials.{observed, range_or_truth};
@@ -24,7 +26,8 @@ pub enum RangeScope<'a> {
 /// The range of the name that is bound `back` binders further out than the innermost. One without a binder, which no
 /// closed term has, is a truth value.
 pub fn range_at(scope: &RangeScope, back: u32) -> Range
-    ensures { range result ≡ range_or_truth (slice_get (ranges_in scope.now) back) }
+    ensures range { range result ≡ range_or_truth (slice_get (ranges_in scope.now) back) }
+    ensures kind { result.kind ≡ kind_or (slice_get (range_kinds (ranges_in scope.now)) back) }
 {
     match scope {
         RangeScope::Empty => TRUTH,

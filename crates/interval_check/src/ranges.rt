@@ -36,6 +36,13 @@ pub struct Shared {
     pub right: Interval,
 }
 
+/// The ranges of two operands.
+#[derive(Clone, Copy, Debug, PartialEq, Eq)]
+pub struct Operands {
+    pub left: Range,
+    pub right: Range,
+}
+
 /// The decimals of a kind; a truth value has none.
 pub fn scale_of(kind: Kind) -> u8
     ensures { result ≡ scale_of_kind kind }
@@ -77,6 +84,7 @@ pub fn widened(kind: Kind, of: Range) -> Result<Range, u32>
     ensures range { range_found result ≡ tried.widened kind (range of) }
     ensures here { IfErr result (λ place. place ≡ 0) }
     ensures fit { IfOk result (λ r. IsFit (range r)) }
+    ensures kind { IfOk result (λ r. r.kind ≡ kind) }
 {
     let by = scale_of(kind).saturating_sub(scale_of(of.kind));
     match raise_ends(of.interval, by) {
