@@ -4,7 +4,7 @@
 
 ghost use Rattle.std.specs.Prelude.{◌≡◌, ◌<◌, ◌≤◌, ◌+◌, ◌^◌, ◌∷◌, IfErr, IfOk};
 ghost use Rattle.term_core.specs.Declarations.{declarations};
-ghost use Rattle.term_core.specs.Terms.{expression};
+ghost use Rattle.term_core.specs.Terms.{expression, Acc};
 ghost use Rattle.term_core.specs.Sizes.{nodes};
 ghost use Rattle.term_core.specs.Bounds.{range_kinds, single};
 ghost use Rattle.term_core.specs.Trying.{moved};
@@ -17,7 +17,7 @@ use crate::intervals::Interval;
 use crate::quotients::divided;
 use crate::range_scopes::{RangeScope, range_at, range_observed};
 use crate::ranges::{
-    Operands, Range, TRUTH, checked, combined, compared, either, negated, rounded, widened,
+    Operands, Range, TRUTH, checked, combined, compared, either, is_same, negated, rounded, widened,
 };
 use term_core::{Decls, Expr, Kind, nodes_in};
 
@@ -76,10 +76,7 @@ pub fn range_of(decls: &Decls, e: &Expr, scope: &RangeScope) -> Result<Range, u3
             let both = ranges_after(decls, test, yes, no, scope)?;
             either(both.left, both.right)
         }
-        Expr::Acc { body, days, first } => {
-            let start = range_of_second(decls, body, first, scope)?;
-            accumulated(decls, body, *days, start, scope)
-        }
+        Expr::Acc { body, days, first } => { range_of_acc(decls, body, *days, first, scope) }
     }
 }
 
@@ -162,6 +159,25 @@ fn ranges_after(
     }
 }
 
+// Of an accumulator.
+#[cycle(ranging)]
+fn range_of_acc(
+    decls: &Decls,
+    body: &Expr,
+    days: u32,
+    first: &Expr,
+    scope: &RangeScope,
+) -> Result<Range, u32>
+    requires nodes { nodes (expression body.now) + nodes (expression first.now) + 1 < 2 ^ 32 }
+    requires scaled { AreScaled (declarations decls.now) (Acc (expression body.now) days (expression first.now)) (range_kinds (ranges_in scope.now)) }
+    ensures range { range_found result ≡ range_tried (declarations decls.now) (Acc (expression body.now) days (expression first.now)) (ranges_in scope.now) }
+    ensures below { IfErr result (λ place. place < nodes (expression body.now) + nodes (expression first.now) + 1) }
+    ensures fit { IfOk result (λ r. IsFit (range r)) }
+{
+    let start = range_of_second(decls, body, first, scope)?;
+    accumulated(decls, body, days, start, scope)
+}
+
 // Of an accumulator after some days, each of which tries the body anew with the range so far for its name. A day that
 // leaves the range as it was is followed by such days alone.
 #[cycle(ranging)]
@@ -182,7 +198,7 @@ fn accumulated(
     let mut so_far = start;
     for _day in 0..days {
         let next = range_of_day(decls, body, so_far, scope)?;
-        if next == so_far {
+        if is_same(next, so_far) {
             return Ok(so_far);
         }
         so_far = next;
