@@ -6,3 +6,4 @@ pub mod Accumulation
 pub mod Places
 pub mod KindsFound
 pub mod RangeFacts
+pub mod TotalSizes

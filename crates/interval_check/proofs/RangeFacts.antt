@@ -16,7 +16,7 @@ use Rattle.term_core.specs.Bounds.{Interval, Range, range_kinds, single, lifted,
 use Rattle.term_core.specs.Trying.{then_do, moved}
 use Rattle.term_core.proofs.BoundTrials.{Tried, then_try, checked, each_day, tried}
 use Rattle.interval_check.specs.Intervals.{fitting}
-use Rattle.interval_check.specs.RangeTrials.{Answer, Operands, ranged, truth, scale_in, both_fit, aligned_both, combined, compared, either, quotient, range_or_truth, operands, days_tried, day_tried, widened, range_tried, kind_found}
+use Rattle.interval_check.specs.RangeTrials.{Answer, Operands, ranged, truth, scale_in, both_fit, aligned_both, combined, compared, either, quotient, range_or_truth, operands, days_tried, day_tried, widened, rounded, range_tried, kind_found}
 use Rattle.interval_check.proofs.KindsFound.{one_number, two_numbers, truth_then, branches, days, has_kind, scale_is}
 use Rattle.interval_check.proofs.RangeKinds.{kind_is_found, day_kind, days_kind}
 
@@ -125,18 +125,99 @@ name_stands : (o : Option Range) (k : ℕ) → checked (fits (interval_of_range 
 name_stands None k = refl
 name_stands (Some r) k = fit_node (fits r.interval) k r.interval r.kind
 
+-- one day of an accumulator whose name has kind w
+day_stands : (d : Declarations) (body : Expression) (g : List Range) (k : ℕ) (w y : Kind) (v : Range) → RangeStands d body → kind_of d body (w ∷ range_kinds g) ≡ Some y → v.kind ≡ w → then_try (tried d body (record { interval = v.interval; kind = w } ∷ g) (k + 1)) (λ i. checked (fits (lifted (λ m. raised m (scale_of_kind w - scale_of d body (w ∷ range_kinds g))) i)) k (lifted (λ m. raised m (scale_of_kind w - scale_of d body (w ∷ range_kinds g))) i)) ≡ from k (day_tried (λ h. range_tried d body h) g v)
+day_stands d body g k w y v hb e hv =
+    let ks = range_kinds g in
+    let G : Kind → ℕ → Interval → Tried = λ j s i. checked (fits (lifted (λ m. raised m (scale_of_kind j - s)) i)) k (lifted (λ m. raised m (scale_of_kind j - s)) i) in
+    let known : kind_of d body (v.kind ∷ ks) ≡ Some y = subst (λ (j : Kind). kind_of d body (j ∷ ks) ≡ Some y) (sym hv) e in
+    ap (λ (j : Kind). then_try (tried d body (record { interval = v.interval; kind = j } ∷ g) (k + 1)) (λ i. G j (scale_of d body (j ∷ ks)) i)) (sym hv)
+    ∙ one_stands k 1 (k + 1) (range_tried d body (v ∷ g)) (tried d body (v ∷ g) (k + 1)) (λ i. G v.kind (scale_of d body (v.kind ∷ ks)) i) (widened v.kind) refl (hb (v ∷ g) (k + 1) y known)
+    (λ r q. ap (λ (s : ℕ). G v.kind s r.interval) (scale_found d body (v ∷ g) y r known q)
+    ∙ fit_node (fits (lifted (λ m. raised m (scale_of_kind v.kind - scale_in r)) r.interval)) k (lifted (λ m. raised m (scale_of_kind v.kind - scale_in r)) r.interval) v.kind)
+
+abbrev pub day_of : Declarations → Expression → List Range → ℕ → Kind → Interval → Tried
+day_of d body g k j i =
+    then_try (tried d body (record { interval = i; kind = j } ∷ g) (k + 1)) (λ x. checked (fits (lifted (λ m. raised m (scale_of_kind j - scale_of d body (j ∷ range_kinds g))) x)) k (lifted (λ m. raised m (scale_of_kind j - scale_of d body (j ∷ range_kinds g))) x))
+
+acc_from : (d : Declarations) (body : Expression) (n : ℕ) (g : List Range) (k : ℕ) (w y : Kind) (a : Answer) → RangeStands d body → kind_of d body (w ∷ range_kinds g) ≡ Some y → ((r : Range) → a ≡ Ok r → r.kind ≡ w) → each_day n (day_of d body g k w) (from (k + 1 + nodes body) a) ≡ from k (then_do (moved (1 + nodes body) a) (λ r. days_tried n (day_tried (λ h. range_tried d body h) g) r))
+acc_from d body n g k w y (Ok r) hb e kept =
+    days_stand n k w (day_of d body g k w) (λ h. range_tried d body h) g r (kept r refl) (λ v hv. day_stands d body g k w y v hb e hv)
+acc_from d body n g k w y (Err j) hb e kept =
+    let same : k + 1 + nodes body + j ≡ k + (1 + nodes body + j) = omega arith in
+    each_stopped n (day_of d body g k w) (k + 1 + nodes body + j) ∙ ap (λ (i : ℕ). Err i) same
+
 acc_stands : (d : Declarations) (body : Expression) (n : ℕ) (first : Expression) → RangeStands d body → RangeStands d first → RangeStands d (Acc body n first)
 acc_stands d body n first hb hf g k w e =
     let ks = range_kinds g in
     let p = days (kind_of d first ks) (λ j. kind_of d body (j ∷ ks)) w e in
-    let kind = kind_or (kind_of d first ks) in
-    let same : kind ≡ w = ap (λ (o : Option Kind). kind_or o) p.first in
-    let up : Kind → Interval → Interval = λ j i. lifted (λ m. raised m (scale_of_kind j - scale_of d body (j ∷ ks))) i in
-    let step : Kind → Interval → Tried = λ j i. then_try (tried d body (record { interval = i; kind = j } ∷ g) (k + 1)) (λ x. checked (fits (up j x)) k (up j x)) in
-    let B : List Range → Answer = λ h. range_tried d body h in
-    ap (λ (j : Kind). each_day n (step j) (tried d first g (k + 1 + nodes body))) same
-    ∙ ap (λ (t : Tried). each_day n (step w) t) (hf g (k + 1 + nodes body) w p.first)
-    ∙ acc_from d body n first g k w p.body_kind hb p.body p.first (range_tried d first g) refl
+    let same : kind_or (kind_of d first ks) ≡ w = ap (λ (o : Option Kind). kind_or o) p.first in
+    ap (λ (j : Kind). each_day n (day_of d body g k j) (tried d first g (k + 1 + nodes body))) same
+    ∙ ap (λ (t : Tried). each_day n (day_of d body g k w) t) (hf g (k + 1 + nodes body) w p.first)
+    ∙ acc_from d body n g k w p.body_kind (range_tried d first g) hb p.body (λ r q. kind_is_found d first g r q ∙ has_kind d first ks w p.first)
 
 pub range_stands : (d : Declarations) (e : Expression) → RangeStands d e
-range_stands d e = ?
+range_stands d (Lit m s) g k w e = fit_node (fits (single m)) k (single m) (Number s)
+range_stands d (Yes b) g k w e = refl
+range_stands d (Var back) g k w e = name_stands (slice_get g back) k
+range_stands d (Obs l t) g k w e =
+    fit_node (fits (interval_of_label (label_of d l))) k (interval_of_label (label_of d l)) (kind_or (kind_of_label (label_of d l)))
+range_stands d (Neg x) g k w e =
+    let p = one_number (λ s. Number s) (kind_of d x (range_kinds g)) w e in
+    one_stands k 1 (k + 1) (range_tried d x g) (tried d x g (k + 1)) _ _ refl (range_stands d x g (k + 1) (Number p.scale) p.operand)
+    (λ r q. fit_node (fits (lifted neg_ℤ (swapped r.interval))) k (lifted neg_ℤ (swapped r.interval)) (Number (scale_in r)))
+range_stands d (Num op a b) g k w e =
+    let ks = range_kinds g in
+    let p = two_numbers (λ s t. Number (scale_of_op op s t)) (kind_of d a ks) (kind_of d b ks) w e in
+    let G : ℕ → ℕ → Interval → Interval → Tried = λ s u i j. checked (fit_operands op s i u j && fits (of_op op s i u j)) k (of_op op s i u j) in
+    two_stands k (nodes a) (range_tried d a g) (range_tried d b g) (tried d a g (k + 1)) (tried d b g (k + 1 + nodes a)) (λ i j. G (scale_of d a ks) (scale_of d b ks) i j) (λ o. combined op o.left o.right) (range_stands d a g (k + 1) (Number p.left_scale) p.left) (range_stands d b g (k + 1 + nodes a) (Number p.right_scale) p.right)
+    (λ x y q r. ap (λ (s : ℕ). G s (scale_of d b ks) x.interval y.interval) (scale_found d a g (Number p.left_scale) x p.left q)
+    ∙ ap (λ (u : ℕ). G (scale_in x) u x.interval y.interval) (scale_found d b g (Number p.right_scale) y p.right r)
+    ∙ num_node op x y k)
+range_stands d (Cmp op a b) g k w e =
+    let ks = range_kinds g in
+    let p = two_numbers (λ s t. Truth) (kind_of d a ks) (kind_of d b ks) w e in
+    let G : ℕ → ℕ → Interval → Interval → Tried = λ s u i j. checked (fit_aligned s i u j) k (single (pos 0)) in
+    two_stands k (nodes a) (range_tried d a g) (range_tried d b g) (tried d a g (k + 1)) (tried d b g (k + 1 + nodes a)) (λ i j. G (scale_of d a ks) (scale_of d b ks) i j) (λ o. compared o.left o.right) (range_stands d a g (k + 1) (Number p.left_scale) p.left) (range_stands d b g (k + 1 + nodes a) (Number p.right_scale) p.right)
+    (λ x y q r. ap (λ (s : ℕ). G s (scale_of d b ks) x.interval y.interval) (scale_found d a g (Number p.left_scale) x p.left q)
+    ∙ ap (λ (u : ℕ). G (scale_in x) u x.interval y.interval) (scale_found d b g (Number p.right_scale) y p.right r)
+    ∙ compared_node (fits (aligned (scale_in x) (scale_in y) x.interval)) (fits (aligned (scale_in y) (scale_in x) y.interval)) (aligned (scale_in x) (scale_in y) x.interval) (aligned (scale_in y) (scale_in x) y.interval) k)
+range_stands d (Not x) g k w e =
+    let p = truth_then (kind_of d x (range_kinds g)) (Some Truth) w e in
+    one_stands k 1 (k + 1) (range_tried d x g) (tried d x g (k + 1)) _ _ refl (range_stands d x g (k + 1) Truth p.first) (λ r q. refl)
+range_stands d (Logic op a b) g k w e =
+    let ks = range_kinds g in
+    let p = truth_then (kind_of d a ks) (on_truth (kind_of d b ks) (Some Truth)) w e in
+    let q = truth_then (kind_of d b ks) (Some Truth) w p.rest in
+    two_stands k (nodes a) (range_tried d a g) (range_tried d b g) (tried d a g (k + 1)) (tried d b g (k + 1 + nodes a)) (λ i j. Ok (single (pos 0))) (λ _. Ok truth) (range_stands d a g (k + 1) Truth p.first) (range_stands d b g (k + 1 + nodes a) Truth q.first) (λ x y u v. refl)
+range_stands d (Cond t a b) g k w e =
+    let ks = range_kinds g in
+    let p = truth_then (kind_of d t ks) (joined (kind_of d a ks) (kind_of d b ks)) w e in
+    let q = branches (kind_of d a ks) (kind_of d b ks) w p.rest in
+    let G : ℕ → ℕ → Interval → Interval → Tried = λ s u i j. checked (fit_aligned s i u j && fits (hull (aligned s u i) (aligned u s j))) k (hull (aligned s u i) (aligned u s j)) in
+    one_stands k 1 (k + 1) (range_tried d t g) (tried d t g (k + 1)) _ _ refl (range_stands d t g (k + 1) Truth p.first)
+    (λ z o. two_after k (nodes t) (nodes a) (range_tried d a g) (range_tried d b g) (tried d a g (k + 1 + nodes t)) (tried d b g (k + 1 + nodes t + nodes a)) (λ i j. G (scale_of d a ks) (scale_of d b ks) i j) (λ r. either r.left r.right) (range_stands d a g (k + 1 + nodes t) q.yes_kind q.yes) (range_stands d b g (k + 1 + nodes t + nodes a) q.no_kind q.no)
+    (λ x y u v. ap (λ (s : ℕ). G s (scale_of d b ks) x.interval y.interval) (scale_found d a g q.yes_kind x q.yes u)
+    ∙ ap (λ (l : ℕ). G (scale_in x) l x.interval y.interval) (scale_found d b g q.no_kind y q.no v)
+    ∙ shared_node (fits (aligned (scale_in x) (scale_in y) x.interval)) (fits (aligned (scale_in y) (scale_in x) y.interval)) (aligned (scale_in x) (scale_in y) x.interval) (aligned (scale_in y) (scale_in x) y.interval) hull k _))
+range_stands d (Widen s x) g k w e =
+    let p = one_number (λ _. Number s) (kind_of d x (range_kinds g)) w e in
+    let G : ℕ → Interval → Tried = λ u i. checked (fits (lifted (λ m. raised m (s - u)) i)) k (lifted (λ m. raised m (s - u)) i) in
+    one_stands k 1 (k + 1) (range_tried d x g) (tried d x g (k + 1)) (λ i. G (scale_of d x (range_kinds g)) i) (widened (Number s)) refl (range_stands d x g (k + 1) (Number p.scale) p.operand)
+    (λ r q. ap (λ (u : ℕ). G u r.interval) (scale_found d x g (Number p.scale) r p.operand q)
+    ∙ fit_node (fits (lifted (λ m. raised m (s - scale_in r)) r.interval)) k (lifted (λ m. raised m (s - scale_in r)) r.interval) (Number s))
+range_stands d (Round mode s x) g k w e =
+    let p = one_number (λ _. Number s) (kind_of d x (range_kinds g)) w e in
+    let G : ℕ → Interval → Tried = λ u i. checked (fits (lifted (λ m. at_scale mode m u s) i)) k (lifted (λ m. at_scale mode m u s) i) in
+    one_stands k 1 (k + 1) (range_tried d x g) (tried d x g (k + 1)) (λ i. G (scale_of d x (range_kinds g)) i) (rounded mode s) refl (range_stands d x g (k + 1) (Number p.scale) p.operand)
+    (λ r q. ap (λ (u : ℕ). G u r.interval) (scale_found d x g (Number p.scale) r p.operand q)
+    ∙ fit_node (fits (lifted (λ m. at_scale mode m (scale_in r) s) r.interval)) k (lifted (λ m. at_scale mode m (scale_in r) s) r.interval) (Number s))
+range_stands d (Div mode s a b) g k w e =
+    let ks = range_kinds g in
+    let p = two_numbers (λ _ _. Number s) (kind_of d a ks) (kind_of d b ks) w e in
+    let G : ℕ → ℕ → Interval → Interval → Tried = λ u v i j. checked (fit_divided u i v j s && fits (corners (λ m n. divided mode m u n v s) i j)) k (corners (λ m n. divided mode m u n v s) i j) in
+    two_stands k (nodes a) (range_tried d a g) (range_tried d b g) (tried d a g (k + 1)) (tried d b g (k + 1 + nodes a)) (λ i j. G (scale_of d a ks) (scale_of d b ks) i j) (λ o. quotient mode s o.left o.right) (range_stands d a g (k + 1) (Number p.left_scale) p.left) (range_stands d b g (k + 1 + nodes a) (Number p.right_scale) p.right)
+    (λ x y q r. ap (λ (u : ℕ). G u (scale_of d b ks) x.interval y.interval) (scale_found d a g (Number p.left_scale) x p.left q)
+    ∙ ap (λ (v : ℕ). G (scale_in x) v x.interval y.interval) (scale_found d b g (Number p.right_scale) y p.right r)
+    ∙ tested_node (fit_divided (scale_in x) x.interval (scale_in y) y.interval s) k (corners (λ m n. divided mode m (scale_in x) n (scale_in y) s) x.interval y.interval) (Number s))
+range_stands d (Acc body n first) g k w e = acc_stands d body n first (range_stands d body) (range_stands d first) g k w e

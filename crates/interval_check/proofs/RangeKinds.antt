@@ -72,7 +72,7 @@ last_day : (body : List Range → Answer) (g : List Range) (x r : Range) (a : An
 last_day body g x r (Ok y) kept e = day_kind body g y r e ∙ kept y refl
 last_day body g x r (Err j) kept e = absurd (cc)
 
-days_kind : (n : ℕ) (body : List Range → Answer) (g : List Range) (x r : Range) → days_tried n (day_tried body g) x ≡ Ok r → r.kind ≡ x.kind
+pub days_kind : (n : ℕ) (body : List Range → Answer) (g : List Range) (x r : Range) → days_tried n (day_tried body g) x ≡ Ok r → r.kind ≡ x.kind
 days_kind zero body g x r e = here_kind x r e
 days_kind (suc n) body g x r e =
     last_day body g x r (days_tried n (day_tried body g) x) (λ y p. days_kind n body g x y p) e

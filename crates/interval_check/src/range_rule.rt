@@ -21,9 +21,9 @@ use crate::ranges::{
 };
 use term_core::{Decls, Expr, Kind, nodes_in};
 
-/// The range of an expression among names of these ranges.
+// The range of an expression among names of these ranges.
 #[cycle(ranging)]
-pub fn range_of(decls: &Decls, e: &Expr, scope: &RangeScope) -> Result<Range, u32>
+fn range_of(decls: &Decls, e: &Expr, scope: &RangeScope) -> Result<Range, u32>
     requires nodes { nodes (expression e.now) < 2 ^ 32 }
     requires scaled { AreScaled (declarations decls.now) (expression e.now) (range_kinds (ranges_in scope.now)) }
     ensures range { range_found result ≡ range_tried (declarations decls.now) (expression e.now) (ranges_in scope.now) }
@@ -87,9 +87,9 @@ fn point(m: i128) -> Interval
     Interval { low: m, high: m }
 }
 
-// Of the part that follows its node.
+/// The range of the part that follows its node, among names of these ranges.
 #[cycle(ranging)]
-fn range_of_first(decls: &Decls, e: &Expr, scope: &RangeScope) -> Result<Range, u32>
+pub fn range_of_first(decls: &Decls, e: &Expr, scope: &RangeScope) -> Result<Range, u32>
     requires nodes { nodes (expression e.now) + 1 < 2 ^ 32 }
     requires scaled { AreScaled (declarations decls.now) (expression e.now) (range_kinds (ranges_in scope.now)) }
     ensures range { range_found result ≡ moved 1 (range_tried (declarations decls.now) (expression e.now) (ranges_in scope.now)) }
