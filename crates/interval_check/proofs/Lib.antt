@@ -7,3 +7,4 @@ pub mod Places
 pub mod KindsFound
 pub mod RangeFacts
 pub mod TotalSizes
+pub mod TotalScales

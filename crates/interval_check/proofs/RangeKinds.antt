@@ -135,7 +135,7 @@ operands_scaled d op a b g x y e h =
     subst (λ (k : Kind). scale_of_op op (scale_of_kind k) (scale_in y) ≤ 27) (sym (kind_is_found d a g x p.0))
     (subst (λ (k : Kind). scale_of_op op (scale_of_kind (kind_found d a (range_kinds g))) (scale_of_kind k) ≤ 27) (sym (kind_is_found d b g y p.1)) h.2)
 
-found_there : (n : ℕ) (a : Answer) (x : Range) → Ok x ≡ moved n a → a ≡ Ok x
+pub found_there : (n : ℕ) (a : Answer) (x : Range) → Ok x ≡ moved n a → a ≡ Ok x
 found_there n (Ok v) x e = sym e
 found_there n (Err j) x e = absurd (cc)
 
