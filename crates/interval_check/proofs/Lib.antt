@@ -8,3 +8,6 @@ pub mod KindsFound
 pub mod RangeFacts
 pub mod TotalSizes
 pub mod TotalScales
+pub mod RootFacts
+pub mod ScaledFacts
+pub mod TotalFacts

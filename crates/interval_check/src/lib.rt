@@ -8,3 +8,5 @@ mod range_rule;
 mod range_scopes;
 mod ranges;
 mod totals;
+
+pub use bound_rule::bounds;
