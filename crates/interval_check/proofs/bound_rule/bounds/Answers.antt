@@ -1,8 +1,10 @@
-use Rattle.std.proofs.Common.{pos, ℕ, ap, refl, ◌∙◌, arith}
-use Rattle.std.proofs.lemmas.Int.{ints}
+use Rattle.std.proofs.Common.{pos, ℕ, ◌≤◌, ◌<◌, ◌^◌, ap, refl, ◌∙◌, arith}
+use Rattle.std.proofs.lemmas.Int.{to_z_pos}
+use mir.Syntax.{w128}
 use Rattle.term_core.specs.Declarations.{declarations}
 use Rattle.term_core.specs.Terms.{contract}
 use Rattle.interval_check.specs.Totals.{total}
+use Rattle.interval_check.specs.TotalTrials.{at_decimals}
 use Rattle.interval_check.proofs.RootFacts.{sorted_kinds}
 use Rattle.interval_check.proofs.ScaledFacts.{scaled_totals, few_nodes}
 use Rattle.interval_check.proofs.TotalFacts.{bounds_meet, bounds_fail, total_is}
@@ -20,7 +22,12 @@ pub returns-in-Ok : goal.returns-in-Ok
 returns-in-Ok c =
     let d = declarations c.args.decls.now in
     let e = contract c.args.c.now in
-    (bounds_meet d e (total c.in-Ok.total) c.requires.sorted c.in-Ok.ensures.total, ?)
+    let small : at_decimals d.amounts (total c.in-Ok.total) ≤ 10 ^ 27 = c.in-Ok.ensures.fits.aligned in
+    let fits : c.amount_at.result < 2 ^ 127 = omega (arith, c.amount_at.ensures, small) in (
+      bounds_meet d e (total c.in-Ok.total) c.requires.sorted c.in-Ok.ensures.total,
+      to_z_pos w128 c.amount_at.result fits
+          ∙ ap (λ (n : ℕ). pos n) (c.amount_at.ensures ∙ total_is d e (total c.in-Ok.total) c.requires.sorted c.in-Ok.ensures.total),
+    )
 
 pub returns-in-Err : goal.returns-in-Err
 returns-in-Err c =
