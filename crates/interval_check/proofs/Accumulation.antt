@@ -1,6 +1,6 @@
 -- The days of an accumulator: the first day at fault is the fault of all, and a day that changes nothing is followed by
 -- such days alone.
-use Rattle.std.proofs.Common.{◌≡◌, ℕ, zero, suc, ◌+◌, ◌≤◌, ◌<◌, ◌⊎◌, inl, inr, Result, Ok, Err, refl, ap, ◌∙◌, sym, subst, arith}
+use Rattle.std.proofs.Common.{◌≡◌, ℕ, zero, suc, ◌≤◌, ◌<◌, inl, inr, Ok, Err, ap, ◌∙◌, sym, arith}
 use Rattle.std.proofs.lemmas.Bool.{cases_lt}
 use Rattle.term_core.specs.Bounds.{Range}
 use Rattle.term_core.specs.Trying.{then_do}

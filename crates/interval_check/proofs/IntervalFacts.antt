@@ -1,12 +1,12 @@
 -- Numbers that are no mantissas: those past 37 decimals, and those between end points of which one is none.
-use Rattle.std.proofs.Common.{◌≡◌, ◌≢◌, ℕ, ℤ, pos, ◌*ℤ◌, ◌≤ℤ◌, ◌*◌, ◌^◌, ◌≤◌, ◌<◌, Bool, true, false, ◌&&◌, Option, Some, None, nat_le, unsigned_abs, if◌then◌else◌, refl, ap, ◌∙◌, sym, arith, inl, inr}
+use Rattle.std.proofs.Common.{◌≡◌, ◌≢◌, ℕ, ℤ, pos, ◌*ℤ◌, ◌≤ℤ◌, ◌*◌, ◌^◌, ◌≤◌, ◌<◌, Some, None, unsigned_abs, ap, ◌∙◌, sym, arith}
 use Rattle.std.specs.Int.{int_min, int_max}
-use Rattle.std.proofs.lemmas.Bool.Decides.{nat_tests, leb_tells}
+use Rattle.std.proofs.lemmas.Bool.Decides.{nat_tests}
 use Rattle.std.proofs.lemmas.Int.{ints, clamps, unsigned_abs-mul}
 use Rattle.std.proofs.lemmas.Nat.{mul-le}
 use Rattle.decimal.specs.Rounding.{raised}
 use Rattle.decimal.proofs.PowerFacts.{ten_most}
-use Rattle.term_core.specs.Bounds.{Interval, single, hull, corners, fits}
+use Rattle.term_core.specs.Bounds.{Interval, single, hull, corners}
 use Rattle.interval_check.specs.Intervals.{mantissa, fitting, IsSmall}
 
 no_mantissa : (m : ℤ) → 10 ^ 37 < unsigned_abs m → mantissa m ≡ None

@@ -1,11 +1,10 @@
 -- An expression that has a kind has the one that is found by structure, and so do its parts.
-use Rattle.std.proofs.Common.{◌≡◌, ℕ, max, List, ◌∷◌, Option, Some, None, slice_get, refl, ap, ◌∙◌, sym, subst}
+use Rattle.std.proofs.Common.{◌≡◌, ℕ, List, ◌∷◌, Option, Some, None, refl, ap, ◌∙◌, subst}
 use Rattle.term_core.specs.declared.values.Kind.{Kind}
 use Rattle.term_core.specs.declared.values.Kind.TheVariants.{Truth, Number}
 use Rattle.term_core.specs.Declarations.{Declarations}
 use Rattle.term_core.specs.Terms.{Expression, Lit, Yes, Var, Obs, Neg, Num, Cmp, Not, Logic, Cond, Widen, Round, Div, Acc}
-use Rattle.term_core.specs.Environments.{label_of}
-use Rattle.term_core.specs.Kinds.{kind_of, kind_of_label, scale_of, scale_or_zero, scale_of_kind, scale_of_op, on_number, on_numbers, on_truth, joined, of_acc}
+use Rattle.term_core.specs.Kinds.{kind_of, scale_of, scale_or_zero, scale_of_kind, scale_of_op, on_number, on_numbers, on_truth, joined, of_acc}
 use Rattle.term_core.specs.Values.{kind_or}
 use Rattle.interval_check.specs.RangeTrials.{kind_of_either, kind_found}
 

@@ -1,12 +1,12 @@
 -- Facts of the operators on ranges, and of declared labels.
-use Rattle.std.proofs.Common.{◌≡◌, ℕ, zero, suc, ℤ, pos, ◌-◌, ◌*ℤ◌, ◌^◌, ◌≤◌, Bool, true, false, ◌&&◌, List, [], ◌∷◌, Option, Some, None, nat_le, if◌then◌else◌, slice_get, refl, ap, ◌∙◌, sym, arith}
+use Rattle.std.proofs.Common.{◌≡◌, ℕ, zero, suc, ℤ, ◌-◌, ◌^◌, ◌≤◌, Bool, true, false, ◌&&◌, List, [], ◌∷◌, Some, nat_le, if◌then◌else◌, slice_get, refl, ap, ◌∙◌, sym, arith}
 use Rattle.std.proofs.lemmas.Bool.Decides.{nat_tests}
 use Rattle.decimal.specs.declared.rounding.Mode.{Mode}
 use Rattle.decimal.specs.Rounding as rounding
 use Rattle.decimal.specs.Rounding.{raised, at_scale}
 use Rattle.term_core.specs.declared.name.Name.{Name}
 use Rattle.term_core.specs.declared.label.Label.{Label}
-use Rattle.term_core.specs.declared.label.Label.TheVariants.{Number as NumberLabel, Flag}
+use Rattle.term_core.specs.declared.label.Label.TheVariants.{Number as NumberLabel}
 use Rattle.term_core.specs.declared.values.Kind.TheVariants.{Number}
 use Rattle.term_core.specs.Limits.{is_label, are_labels}
 use Rattle.term_core.specs.Bounds.{Range, lifted}

@@ -1,5 +1,5 @@
 -- What the trial of a quotient's operands tells of their end points.
-use Rattle.std.proofs.Common.{◌≡◌, ℕ, zero, ℤ, pos, ◌+◌, ◌-◌, ◌*ℤ◌, ◌^◌, ◌≤◌, Bool, true, false, ◌&&◌, not, nat_le, unsigned_abs, if◌then◌else◌, Ok, Err, refl, ap, ◌∙◌, sym, subst, arith, zero-mul}
+use Rattle.std.proofs.Common.{◌≡◌, ℕ, ℤ, pos, ◌+◌, ◌-◌, ◌^◌, ◌≤◌, Bool, true, false, ◌&&◌, not, nat_le, unsigned_abs, if◌then◌else◌, Err, refl, ap, ◌∙◌, sym, subst, arith, zero-mul}
 use Rattle.std.proofs.lemmas.Bool.Decides.{nat_tests}
 use Rattle.decimal.specs.declared.rounding.Mode.{Mode}
 use Rattle.decimal.specs.Rounding as rounding

@@ -1,6 +1,5 @@
 -- The trial of ranges by structure is the trial of intervals of the model, wherever an expression has a kind.
-use Rattle.std.proofs.Common.{◌≡◌, ℕ, zero, suc, ℤ, pos, ◌+◌, ◌-◌, Bool, true, false, ◌&&◌, if◌then◌else◌, List, [], ◌∷◌, Option, Some, None, Result, Ok, Err, neg_ℤ, slice_get, refl, ap, ◌∙◌, sym, subst, arith, add-zero}
-use Rattle.decimal.specs.declared.rounding.Mode.{Mode}
+use Rattle.std.proofs.Common.{◌≡◌, ℕ, zero, suc, pos, ◌+◌, ◌-◌, Bool, true, false, ◌&&◌, if◌then◌else◌, List, ◌∷◌, Option, Some, None, Ok, Err, neg_ℤ, slice_get, refl, ap, ◌∙◌, sym, subst, arith, add-zero}
 use Rattle.decimal.specs.Rounding.{raised, at_scale, divided}
 use Rattle.term_core.specs.declared.terms.NumOp.{NumOp}
 use Rattle.term_core.specs.declared.terms.NumOp.TheVariants.{Plus, Minus, Times, Min, Max}
@@ -16,9 +15,9 @@ use Rattle.term_core.specs.Bounds.{Interval, Range, range_kinds, single, lifted,
 use Rattle.term_core.specs.Trying.{then_do, moved}
 use Rattle.term_core.proofs.BoundTrials.{Tried, then_try, checked, each_day, tried}
 use Rattle.interval_check.specs.Intervals.{fitting}
-use Rattle.interval_check.specs.RangeTrials.{Answer, Operands, ranged, truth, scale_in, both_fit, aligned_both, combined, compared, either, quotient, range_or_truth, operands, days_tried, day_tried, widened, rounded, range_tried, kind_found}
+use Rattle.interval_check.specs.RangeTrials.{Answer, Operands, ranged, truth, scale_in, both_fit, combined, compared, either, quotient, range_or_truth, operands, days_tried, day_tried, widened, rounded, range_tried}
 use Rattle.interval_check.proofs.KindsFound.{one_number, two_numbers, truth_then, branches, days, has_kind, scale_is}
-use Rattle.interval_check.proofs.RangeKinds.{kind_is_found, day_kind, days_kind}
+use Rattle.interval_check.proofs.RangeKinds.{kind_is_found, days_kind}
 
 -- the interval of a range, or the number of the node at fault where the first has number k
 abbrev pub from : ℕ → Answer → Tried

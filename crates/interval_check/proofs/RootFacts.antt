@@ -1,27 +1,19 @@
 -- What a rule that holds everywhere tells of an expression and of a contract as wholes: each part has a kind, every
 -- scale is within its limit, and the nodes are not too many.
-use Rattle.std.proofs.Common.{◌≡◌, ℕ, zero, ◌+◌, ◌≤◌, ◌<◌, ◌^◌, max, Bool, true, false, ◌&&◌, List, [], ◌∷◌, ◌++◌, Option, Some, None, IsTrue, is_some, nat_le, slice_get, refl, ap, ◌∙◌, sym, subst, arith}
-use Rattle.std.proofs.lemmas.Bool.Decides.{nat_tests}
+use Rattle.std.proofs.Common.{◌≡◌, ℕ, zero, ◌+◌, List, [], ◌∷◌, ◌++◌, Option, Some, None, IsTrue, is_some, refl}
 use Rattle.term_core.specs.declared.values.Kind.{Kind}
-use Rattle.term_core.specs.declared.values.Kind.TheVariants.{Truth, Number}
-use Rattle.term_core.specs.declared.rules.Rule.TheVariants.{Sort, Scale as ScaleRule, Size}
+use Rattle.term_core.specs.declared.rules.Rule.TheVariants.{Sort}
 use Rattle.term_core.specs.Declarations.{Declarations}
 use Rattle.term_core.specs.Terms.{Expression, Lit, Yes, Var, Obs, Neg, Num, Cmp, Not, Logic, Cond, Widen, Round, Div, Acc}
 use Rattle.term_core.specs.Terms.{Contract, Zero, Pay, Both, Scale, After, Let, Within}
-use Rattle.term_core.specs.Flows.{count_of, scale_of_contract}
-use Rattle.term_core.specs.Kinds.{kind_of, scale_of, scale_of_kind, scale_of_op, on_truth, joined}
+use Rattle.term_core.specs.Flows.{count_of}
+use Rattle.term_core.specs.Kinds.{kind_of}
 use Rattle.term_core.specs.Values.{kind_or}
-use Rattle.term_core.specs.Sizes.{nodes, nodes_of_contract, height_of_contract, reach, past_of_contract, work_of_contract}
-use Rattle.term_core.specs.Sites.{Site, Layer, Naming, Counting, Later, Earlier, Undated, Once, sites_of, sites_of_contract, sites, expression_at, contract_at, kinds_round, AllPass}
+use Rattle.term_core.specs.Sizes.{nodes, nodes_of_contract}
+use Rattle.term_core.specs.Sites.{Site, Layer, Naming, Counting, Later, Earlier, Undated, Once, sites_of, sites_of_contract, expression_at, contract_at, kinds_round, AllPass}
 use Rattle.term_core.specs.Sorts.{is_sorted}
-use Rattle.term_core.specs.Scales.{is_scaled}
-use Rattle.term_core.specs.Smallness.{is_small, within_limits, days_of_contract}
 use Rattle.term_core.specs.Acceptance.{Meets}
 use Rattle.term_core.proofs.Trials.{AllPass-left, AllPass-right}
-use Rattle.interval_check.specs.RangeTrials.{kind_found, AreScaled}
-use Rattle.interval_check.specs.TotalTrials.{scale_found, AreTotalsScaled}
-use Rattle.interval_check.proofs.KindsFound.{one_number, two_numbers, truth_then, branches, days, has_kind, scale_is}
-use Rattle.interval_check.proofs.OperatorFacts.{left_true, right_true}
 
 -- the last site of a list
 last : (P : Site → Type 0) (xs : List Site) (s : Site) → AllPass P (xs ++ s ∷ []) → P s

@@ -1,5 +1,5 @@
 -- Where the rule on scales holds everywhere, the scales that the trial finds are within their limits.
-use Rattle.std.proofs.Common.{◌≡◌, ℕ, zero, ◌+◌, ◌≤◌, ◌<◌, ◌^◌, max, Bool, true, ◌&&◌, List, [], ◌∷◌, ◌++◌, Option, Some, IsTrue, nat_le, slice_get, refl, ap, ◌∙◌, sym, subst, arith}
+use Rattle.std.proofs.Common.{◌≡◌, ℕ, zero, ◌+◌, ◌≤◌, ◌<◌, ◌^◌, max, true, ◌&&◌, List, [], ◌∷◌, ◌++◌, Option, Some, IsTrue, nat_le, refl, ap, ◌∙◌, sym, subst, arith}
 use Rattle.std.proofs.lemmas.Bool.Decides.{nat_tests}
 use Rattle.term_core.specs.declared.values.Kind.{Kind}
 use Rattle.term_core.specs.declared.values.Kind.TheVariants.{Truth, Number}
@@ -11,7 +11,7 @@ use Rattle.term_core.specs.Flows.{count_of, scale_of_contract}
 use Rattle.term_core.specs.Kinds.{kind_of, scale_of, scale_of_kind, scale_of_op, on_truth, joined}
 use Rattle.term_core.specs.Values.{kind_or}
 use Rattle.term_core.specs.Sizes.{nodes, nodes_of_contract, height_of_contract, reach, past_of_contract, work_of_contract}
-use Rattle.term_core.specs.Sites.{Site, Layer, Naming, Counting, Later, Earlier, Undated, Once, sites_of, sites_of_contract, sites, contract_at, expression_at, kinds_round, AllPass}
+use Rattle.term_core.specs.Sites.{Site, Layer, Naming, Counting, Later, Earlier, Undated, Once, sites_of, sites_of_contract, expression_at, kinds_round, AllPass}
 use Rattle.term_core.specs.Scales.{is_scaled, parts_are_scaled}
 use Rattle.term_core.specs.Smallness.{is_small, days_of_contract}
 use Rattle.term_core.specs.Acceptance.{Meets}

@@ -1,13 +1,13 @@
 -- The trial of totals by structure finds the first node in the order of trial that breaks the rule on bounds, and else
 -- the total and the scale of the model.
-use Rattle.std.proofs.Common.{◌≡◌, ℕ, pos, ◌+◌, ◌-◌, ◌*◌, ◌^◌, max, Bool, true, false, ◌&&◌, nat_le, if◌then◌else◌, List, [], ◌∷◌, ◌++◌, Option, Some, None, Result, Ok, Err, refl, ap, ◌∙◌, sym, subst, arith, zero-add}
+use Rattle.std.proofs.Common.{◌≡◌, ℕ, ◌+◌, ◌*◌, Bool, true, false, if◌then◌else◌, List, [], ◌∷◌, ◌++◌, Option, Some, None, Result, Ok, Err, refl, ap, ◌∙◌, sym, subst, arith, zero-add}
 use Rattle.term_core.specs.declared.terms.Days.{Days}
 use Rattle.term_core.specs.declared.values.Kind.{Kind}
 use Rattle.term_core.specs.declared.rules.Rule.TheVariants.{Sort, Bound}
 use Rattle.term_core.specs.Declarations.{Declarations}
 use Rattle.term_core.specs.Terms.{Expression, Contract, Zero, Pay, Both, Scale, After, Let, Within}
 use Rattle.term_core.specs.Flows.{count_of, scale_of_contract}
-use Rattle.term_core.specs.Kinds.{kind_of, scale_of, scale_or_zero, scale_of_kind}
+use Rattle.term_core.specs.Kinds.{kind_of, scale_or_zero, scale_of_kind}
 use Rattle.term_core.specs.Values.{kind_or}
 use Rattle.term_core.specs.Sizes.{nodes, nodes_of_contract}
 use Rattle.term_core.specs.Sites.{Site, Layer, Naming, Later, Undated, EachDay, sites_of, sites_of_contract, sites, contract_at, first_failing}
@@ -15,8 +15,8 @@ use Rattle.term_core.specs.Bounds.{Interval, Range, range_kinds, interval_of, ra
 use Rattle.term_core.specs.Acceptance.{Meets, FailsAt}
 use Rattle.term_core.specs.Trying.{then_do, moved}
 use Rattle.term_core.proofs.Trials.{or_else, first_failing-append, first_failing-is, FaultIs}
-use Rattle.term_core.proofs.BoundTrials.{Tried, outcome, tried, tried_in_order}
-use Rattle.interval_check.specs.RangeTrials.{Answer, scale_in, range_tried}
+use Rattle.term_core.proofs.BoundTrials.{Tried, outcome, tried_in_order}
+use Rattle.interval_check.specs.RangeTrials.{Answer, range_tried}
 use Rattle.interval_check.specs.TotalTrials.{Total, at_decimals, total_fits, total_here, of_both, of_either, of_scaled, total_tried}
 use Rattle.interval_check.specs.TotalTrials as totals
 use Rattle.interval_check.proofs.KindsFound.{has_kind}

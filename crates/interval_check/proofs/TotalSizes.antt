@@ -1,5 +1,5 @@
 -- A total at fewer decimals is not greater.
-use Rattle.std.proofs.Common.{ℕ, ◌-◌, ◌*◌, ◌^◌, ◌≤◌, arith}
+use Rattle.std.proofs.Common.{ℕ, ◌-◌, ◌^◌, ◌≤◌, arith}
 use Rattle.std.proofs.lemmas.Nat.{mul-le}
 use Rattle.decimal.proofs.PowerFacts.{ten_most}
 use Rattle.interval_check.specs.TotalTrials.{Total, at_decimals}

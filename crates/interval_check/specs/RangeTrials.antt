@@ -1,7 +1,7 @@
 -- The range of an expression, or the place of its first node that breaks the rule on bounds, counted from the
 -- expression's own first node. This goes by structure, each part once, and an accumulator's body once for each day;
 -- proofs/RangeFacts shows that it finds what the rule says.
-use Rattle.std.specs.Prelude.{ℕ, zero, suc, ℤ, pos, neg_ℤ, ◌+◌, ◌-◌, ◌≤◌, max, List, ◌∷◌, Option, Some, None, Result, Ok, Err, if◌then◌else◌, slice_get}
+use Rattle.std.specs.Prelude.{ℕ, zero, suc, pos, neg_ℤ, ◌+◌, ◌-◌, ◌≤◌, max, List, ◌∷◌, Option, Some, None, Result, Ok, Err, if◌then◌else◌, slice_get}
 use Rattle.decimal.specs.declared.rounding.Mode.{Mode}
 use Rattle.decimal.specs.Rounding.{raised, at_scale, divided}
 use Rattle.term_core.specs.declared.terms.NumOp.{NumOp}

@@ -2,7 +2,7 @@
 -- 10^37 in size, and a scale of at most 27.
 use Rattle.std.specs.Prelude.{ℕ, ◌≤◌, ◌^◌, Result, Ok, Err, unsigned_abs}
 use Rattle.term_core.specs.Kinds.{scale_of_kind}
-use Rattle.term_core.specs.Bounds.{Interval, Range}
+use Rattle.term_core.specs.Bounds.{Range}
 use Rattle.interval_check.specs.declared.ranges.Range.{Range as Found}
 use Rattle.interval_check.specs.declared.ranges.Shared.{Shared as FoundShared}
 use Rattle.interval_check.specs.declared.ranges.Operands.{Operands as FoundOperands}

@@ -4,7 +4,7 @@
 use Rattle.std.specs.Prelude.{ℕ, ◌+◌, ◌-◌, ◌*◌, ◌^◌, ◌≤◌, max, ◌&&◌, Bool, nat_le, List, ◌∷◌, Result, Ok, Err, if◌then◌else◌}
 use Rattle.term_core.specs.declared.values.Kind.{Kind}
 use Rattle.term_core.specs.Declarations.{Declarations}
-use Rattle.term_core.specs.Terms.{Expression, Contract, Zero, Pay, Both, Scale, After, Let, Within}
+use Rattle.term_core.specs.Terms.{Contract, Zero, Pay, Both, Scale, After, Let, Within}
 use Rattle.term_core.specs.Kinds.{scale_of_kind}
 use Rattle.term_core.specs.Sizes.{nodes, nodes_of_contract}
 use Rattle.term_core.specs.Bounds.{Range, greatest_size, greatest_total}

@@ -1,5 +1,4 @@
 use Rattle.std.proofs.Common.{rules, refl, ap, sym, ◌∙◌, ◌≡◌, subst, arith, Ok}
-use Rattle.std.proofs.lemmas.Grind.{common_steps}
 use Rattle.std.proofs.lemmas.Result.{err_from_is_err_and}
 use Rattle.term_core.specs.Declarations.{declarations}
 use Rattle.term_core.specs.declared.terms.Expr.{Expr}
