@@ -26,9 +26,9 @@ use crate::totals::{
 use std::alloc::Global;
 use term_core::{CheckErr, Contr, Decls, Expr, Rule, nodes_in, nodes_in_contract};
 
-// The total of a contract among names of these ranges.
+/// The total of a contract among names of these ranges.
 #[cycle(totalling)]
-fn total_of(decls: &Decls, c: &Contr, scope: &RangeScope) -> Result<Total, u32>
+pub fn total_of(decls: &Decls, c: &Contr, scope: &RangeScope) -> Result<Total, u32>
     requires nodes { nodes_of_contract (contract c.now) < 2 ^ 32 }
     requires scaled { AreTotalsScaled (declarations decls.now) (contract c.now) (range_kinds (ranges_in scope.now)) }
     ensures total { total_found result ≡ total_tried (declarations decls.now) (contract c.now) (ranges_in scope.now) }

@@ -10,3 +10,6 @@ mod ranges;
 mod totals;
 
 pub use bound_rule::bounds;
+
+#[cfg(test)]
+mod tests;

@@ -200,8 +200,8 @@ pub fn compared(left: Range, right: Range) -> Result<Range, u32>
     Ok(TRUTH)
 }
 
-// The kind of either branch.
-fn kind_of_either(yes: Kind, no: Kind) -> Kind
+/// The kind of either branch.
+pub fn kind_of_either(yes: Kind, no: Kind) -> Kind
     ensures { result ≡ tried.kind_of_either yes no }
 {
     match (yes, no) {
