@@ -26,3 +26,16 @@ pub mod NameFacts
 pub mod ClosedFacts
 pub mod SuitedFacts
 pub mod StandingFacts
+pub mod IntervalFacts
+pub mod OperatorFacts
+pub mod QuotientFacts
+pub mod RangeKinds
+pub mod Accumulation
+pub mod Places
+pub mod KindsFound
+pub mod RangeFacts
+pub mod TotalSizes
+pub mod TotalScales
+pub mod RootFacts
+pub mod ScaledFacts
+pub mod TotalFacts

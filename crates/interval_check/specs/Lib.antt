@@ -7,3 +7,9 @@ pub mod Parts
 pub mod Guarantees
 pub mod Narrowing
 pub mod Replacing
+pub mod Intervals
+pub mod Ranges
+pub mod RangeScopes
+pub mod RangeTrials
+pub mod TotalTrials
+pub mod Totals

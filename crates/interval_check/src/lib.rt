@@ -2,10 +2,21 @@
 //! divides by 0, and never pays more than its total.
 #![tactic(auto)]
 
+mod bound_rule;
+mod intervals;
 mod laws;
+mod quotients;
+mod range_rule;
+mod range_scopes;
+mod ranges;
+mod totals;
 
+pub use bound_rule::bounds;
 pub use laws::{
     accepted_contracts_are_safe, declarations_keep_limits, evaluation_is_safe,
     narrower_ranges_keep_rules, parts_may_stand_for_wholes, payments_add_up_to_total,
     replaced_parts_keep_rules, rules_hold_by_structure, values_lie_in_intervals,
 };
+
+#[cfg(test)]
+mod tests;

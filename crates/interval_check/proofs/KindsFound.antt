@@ -1,0 +1,132 @@
+-- An expression that has a kind has the one that is found by structure, and so do its parts.
+use Rattle.std.proofs.Common.{◌≡◌, ℕ, List, ◌∷◌, Option, Some, None, refl, ap, ◌∙◌, subst}
+use Rattle.term_core.specs.declared.values.Kind.{Kind}
+use Rattle.term_core.specs.declared.values.Kind.TheVariants.{Truth, Number}
+use Rattle.term_core.specs.Declarations.{Declarations}
+use Rattle.term_core.specs.Terms.{Expression, Lit, Yes, Var, Obs, Neg, Num, Cmp, Not, Logic, Cond, Widen, Round, Div, Acc}
+use Rattle.term_core.specs.Kinds.{kind_of, scale_of, scale_or_zero, scale_of_kind, scale_of_op, on_number, on_numbers, on_truth, joined, of_acc}
+use Rattle.term_core.specs.Values.{kind_or}
+use Rattle.interval_check.specs.RangeTrials.{kind_of_either, kind_found}
+
+-- What an operator with a kind tells of its operands.
+
+pub record OneNumber (f : ℕ → Kind) (o : Option Kind) (w : Kind) : Type 0 where
+  pub scale : ℕ
+  pub operand : o ≡ Some (Number scale)
+  pub whole : f scale ≡ w
+
+pub one_number : (f : ℕ → Kind) (o : Option Kind) (w : Kind) → on_number (λ s. Some (f s)) o ≡ Some w → OneNumber f o w
+one_number f None w e = absurd (cc)
+one_number f (Some Truth) w e = absurd (cc)
+one_number f (Some (Number s)) w e = record { scale = s; operand = refl; whole = cc }
+
+pub record TwoNumbers (f : ℕ → ℕ → Kind) (o u : Option Kind) (w : Kind) : Type 0 where
+  pub left_scale : ℕ
+  pub right_scale : ℕ
+  pub left : o ≡ Some (Number left_scale)
+  pub right : u ≡ Some (Number right_scale)
+  pub whole : f left_scale right_scale ≡ w
+
+pub two_numbers : (f : ℕ → ℕ → Kind) (o u : Option Kind) (w : Kind) → on_numbers (λ s t. Some (f s t)) o u ≡ Some w → TwoNumbers f o u w
+two_numbers f None u w e = absurd (cc)
+two_numbers f (Some Truth) u w e = absurd (cc)
+two_numbers f (Some (Number s)) None w e = absurd (cc)
+two_numbers f (Some (Number s)) (Some Truth) w e = absurd (cc)
+two_numbers f (Some (Number s)) (Some (Number t)) w e =
+    record { left_scale = s; right_scale = t; left = refl; right = refl; whole = cc }
+
+pub record IsTruthThen (o u : Option Kind) (w : Kind) : Type 0 where
+  pub first : o ≡ Some Truth
+  pub rest : u ≡ Some w
+
+pub truth_then : (o u : Option Kind) (w : Kind) → on_truth o u ≡ Some w → IsTruthThen o u w
+truth_then None u w e = absurd (cc)
+truth_then (Some Truth) u w e = record { first = refl; rest = e }
+truth_then (Some (Number s)) u w e = absurd (cc)
+
+pub record Branches (o u : Option Kind) (w : Kind) : Type 0 where
+  pub yes_kind : Kind
+  pub no_kind : Kind
+  pub yes : o ≡ Some yes_kind
+  pub no : u ≡ Some no_kind
+  pub whole : kind_of_either yes_kind no_kind ≡ w
+
+pub branches : (o u : Option Kind) (w : Kind) → joined o u ≡ Some w → Branches o u w
+branches None u w e = absurd (cc)
+branches (Some Truth) None w e = absurd (cc)
+branches (Some Truth) (Some Truth) w e =
+    record { yes_kind = Truth; no_kind = Truth; yes = refl; no = refl; whole = cc }
+branches (Some Truth) (Some (Number t)) w e = absurd (cc)
+branches (Some (Number s)) None w e = absurd (cc)
+branches (Some (Number s)) (Some Truth) w e = absurd (cc)
+branches (Some (Number s)) (Some (Number t)) w e =
+    record { yes_kind = Number s; no_kind = Number t; yes = refl; no = refl; whole = cc }
+
+pub record Days (o : Option Kind) (f : Kind → Option Kind) (w : Kind) : Type 0 where
+  pub body_kind : Kind
+  pub first : o ≡ Some w
+  pub body : f w ≡ Some body_kind
+
+days_at : (f : Kind → Option Kind) (x w y : Kind) → x ≡ w → f x ≡ Some y → Days (Some x) f w
+days_at f x w y e h =
+    record { body_kind = y; first = ap (λ (k : Kind). Some k) e; body = subst (λ (k : Kind). f k ≡ Some y) e h }
+
+pub days : (o : Option Kind) (f : Kind → Option Kind) (w : Kind) → of_acc o f ≡ Some w → Days o f w
+days None f w e = absurd (cc)
+days (Some Truth) f w e =
+    let p = truth_then (f Truth) (Some Truth) w e in
+    let same : Truth ≡ w = let q : Some Truth ≡ Some w = p.rest in cc in
+    days_at f Truth w Truth same p.first
+days (Some (Number s)) f w e =
+    let p = one_number (λ _. Number s) (f (Number s)) w e in
+    days_at f (Number s) w (Number p.scale) p.whole p.operand
+
+number_found : (k : Kind) (s : ℕ) → k ≡ Number s → scale_of_kind k ≡ s
+number_found k s e = ap (λ (j : Kind). scale_of_kind j) e
+
+abbrev pub HasKind : Declarations → Expression → Type 0
+HasKind d e = (ks : List Kind) (w : Kind) → kind_of d e ks ≡ Some w → kind_found d e ks ≡ w
+
+pub has_kind : (d : Declarations) (e : Expression) → HasKind d e
+has_kind d (Lit m s) ks w e = cc
+has_kind d (Yes b) ks w e = cc
+has_kind d (Var back) ks w e = ap (λ (o : Option Kind). kind_or o) e
+has_kind d (Obs l t) ks w e = ap (λ (o : Option Kind). kind_or o) e
+has_kind d (Neg x) ks w e =
+    let p = one_number (λ s. Number s) (kind_of d x ks) w e in
+    ap (λ (s : ℕ). Number s) (number_found (kind_found d x ks) p.scale (has_kind d x ks (Number p.scale) p.operand)) ∙ p.whole
+has_kind d (Num op a b) ks w e =
+    let p = two_numbers (λ s t. Number (scale_of_op op s t)) (kind_of d a ks) (kind_of d b ks) w e in
+    ap (λ (s : ℕ). Number (scale_of_op op s (scale_of_kind (kind_found d b ks)))) (number_found (kind_found d a ks) p.left_scale (has_kind d a ks (Number p.left_scale) p.left))
+    ∙ ap (λ (t : ℕ). Number (scale_of_op op p.left_scale t)) (number_found (kind_found d b ks) p.right_scale (has_kind d b ks (Number p.right_scale) p.right))
+    ∙ p.whole
+has_kind d (Cmp op a b) ks w e =
+    let p = two_numbers (λ s t. Truth) (kind_of d a ks) (kind_of d b ks) w e in
+    p.whole
+has_kind d (Not x) ks w e =
+    let p = truth_then (kind_of d x ks) (Some Truth) w e in
+    let q : Some Truth ≡ Some w = p.rest in
+    cc
+has_kind d (Logic op a b) ks w e =
+    let p = truth_then (kind_of d a ks) (on_truth (kind_of d b ks) (Some Truth)) w e in
+    let q = truth_then (kind_of d b ks) (Some Truth) w p.rest in
+    let r : Some Truth ≡ Some w = q.rest in
+    cc
+has_kind d (Cond t a b) ks w e =
+    let p = truth_then (kind_of d t ks) (joined (kind_of d a ks) (kind_of d b ks)) w e in
+    let q = branches (kind_of d a ks) (kind_of d b ks) w p.rest in
+    ap (λ (k : Kind). kind_of_either k (kind_found d b ks)) (has_kind d a ks q.yes_kind q.yes)
+    ∙ ap (λ (k : Kind). kind_of_either q.yes_kind k) (has_kind d b ks q.no_kind q.no)
+    ∙ q.whole
+has_kind d (Widen s x) ks w e = let p = one_number (λ _. Number s) (kind_of d x ks) w e in p.whole
+has_kind d (Round mode s x) ks w e = let p = one_number (λ _. Number s) (kind_of d x ks) w e in p.whole
+has_kind d (Div mode s a b) ks w e =
+    let p = two_numbers (λ _ _. Number s) (kind_of d a ks) (kind_of d b ks) w e in
+    p.whole
+has_kind d (Acc body n first) ks w e =
+    let p = days (kind_of d first ks) (λ k. kind_of d body (k ∷ ks)) w e in
+    has_kind d first ks w p.first
+
+-- the scale of an expression that has a kind
+pub scale_is : (d : Declarations) (e : Expression) (ks : List Kind) (w : Kind) → kind_of d e ks ≡ Some w → scale_of d e ks ≡ scale_of_kind w
+scale_is d e ks w h = ap (λ (o : Option Kind). scale_or_zero o) h

@@ -1,0 +1,8 @@
+use Rattle.std.proofs.Common.{arith}
+use Rattle.std.proofs.lemmas.Grind.{common_steps}
+use Rattle.std.proofs.lemmas.Int.{to_z-of_z}
+use Rattle.interval_check.proofs.IntervalFacts.{both_there}
+use Rattle.interval_check.proofs.intervals.products.Goals as goal
+
+pub returns : goal.returns
+returns c = grind (arith, common_steps, to_z-of_z, both_there)

@@ -1,0 +1,226 @@
+//! The ranges of expressions, by the rule on bounds. The trial of an expression answers its range, or the place of the
+//! node at fault counted from the expression's own first node; nodes before it are counted only on the way up from a
+//! fault, so that no part is visited more than twice.
+
+ghost use Rattle.std.specs.Prelude.{◌≡◌, ◌<◌, ◌≤◌, ◌+◌, ◌^◌, ◌∷◌, IfErr, IfOk};
+ghost use Rattle.term_core.specs.Declarations.{declarations};
+ghost use Rattle.term_core.specs.Terms.{expression, Acc};
+ghost use Rattle.term_core.specs.Sizes.{nodes};
+ghost use Rattle.term_core.specs.Bounds.{range_kinds, single};
+ghost use Rattle.term_core.specs.Trying.{moved};
+ghost use Rattle.interval_check.specs.Intervals.{interval};
+ghost use Rattle.interval_check.specs.Ranges.{range, range_found, operands_found, IsFit};
+ghost use Rattle.interval_check.specs.RangeScopes.{ranges_in};
+ghost use Rattle.interval_check.specs.RangeTrials.{operands, days_tried, day_tried, range_tried, AreScaled};
+
+use crate::intervals::Interval;
+use crate::quotients::divided;
+use crate::range_scopes::{RangeScope, range_at, range_observed};
+use crate::ranges::{
+    Operands, Range, TRUTH, checked, combined, compared, either, is_same, negated, rounded, widened,
+};
+use term_core::{Decls, Expr, Kind, nodes_in};
+
+// The range of an expression among names of these ranges.
+#[cycle(ranging)]
+fn range_of(decls: &Decls, e: &Expr, scope: &RangeScope) -> Result<Range, u32>
+    requires nodes { nodes (expression e.now) < 2 ^ 32 }
+    requires scaled { AreScaled (declarations decls.now) (expression e.now) (range_kinds (ranges_in scope.now)) }
+    ensures range { range_found result ≡ range_tried (declarations decls.now) (expression e.now) (ranges_in scope.now) }
+    ensures below { IfErr result (λ place. place < nodes (expression e.now)) }
+    ensures fit { IfOk result (λ r. IsFit (range r)) }
+{
+    match e {
+        Expr::Lit { mant, scale } => checked(point(*mant), Kind::Number { scale: *scale }),
+        Expr::Yes { .. } => Ok(TRUTH),
+        Expr::Var { back } => {
+            let range = range_at(scope, *back);
+            checked(range.interval, range.kind)
+        }
+        Expr::Obs { label, .. } => range_observed(decls, *label),
+        Expr::Neg { of } => negated(range_of_first(decls, of, scope)?),
+        Expr::Not { of } => {
+            range_of_first(decls, of, scope)?;
+            Ok(TRUTH)
+        }
+        Expr::Widen { scale, of } => {
+            let range = range_of_first(decls, of, scope)?;
+            widened(Kind::Number { scale: *scale }, range)
+        }
+        Expr::Round { mode, scale, of } => {
+            rounded(*mode, *scale, range_of_first(decls, of, scope)?)
+        }
+        Expr::Num { op, left, right } => {
+            let both = ranges_of(decls, left, right, scope)?;
+            combined(*op, both.left, both.right)
+        }
+        Expr::Cmp { left, right, .. } => {
+            let both = ranges_of(decls, left, right, scope)?;
+            compared(both.left, both.right)
+        }
+        Expr::Logic { left, right, .. } => {
+            ranges_of(decls, left, right, scope)?;
+            Ok(TRUTH)
+        }
+        Expr::Div {
+            mode,
+            scale,
+            top,
+            below,
+        } => {
+            let both = ranges_of(decls, top, below, scope)?;
+            divided(*mode, *scale, both.left, both.right)
+        }
+        Expr::Cond { test, yes, no } => {
+            range_of_first(decls, test, scope)?;
+            let both = ranges_after(decls, test, yes, no, scope)?;
+            either(both.left, both.right)
+        }
+        Expr::Acc { body, days, first } => { range_of_acc(decls, body, *days, first, scope) }
+    }
+}
+
+// The interval of one mantissa.
+fn point(m: i128) -> Interval
+    ensures { interval result ≡ single m }
+{
+    Interval { low: m, high: m }
+}
+
+/// The range of the part that follows its node, among names of these ranges.
+#[cycle(ranging)]
+pub fn range_of_first(decls: &Decls, e: &Expr, scope: &RangeScope) -> Result<Range, u32>
+    requires nodes { nodes (expression e.now) + 1 < 2 ^ 32 }
+    requires scaled { AreScaled (declarations decls.now) (expression e.now) (range_kinds (ranges_in scope.now)) }
+    ensures range { range_found result ≡ moved 1 (range_tried (declarations decls.now) (expression e.now) (ranges_in scope.now)) }
+    ensures below { IfErr result (λ place. place < nodes (expression e.now) + 1) }
+    ensures fit { IfOk result (λ r. IsFit (range r)) }
+{
+    match range_of(decls, e, scope) {
+        Ok(range) => Ok(range),
+        Err(place) => Err(1 + place),
+    }
+}
+
+// Of the part that follows the first.
+#[cycle(ranging)]
+fn range_of_second(decls: &Decls, before: &Expr, e: &Expr, scope: &RangeScope) -> Result<Range, u32>
+    requires nodes { nodes (expression before.now) + nodes (expression e.now) + 1 < 2 ^ 32 }
+    requires scaled { AreScaled (declarations decls.now) (expression e.now) (range_kinds (ranges_in scope.now)) }
+    ensures range { range_found result ≡ moved (1 + nodes (expression before.now)) (range_tried (declarations decls.now) (expression e.now) (ranges_in scope.now)) }
+    ensures below { IfErr result (λ place. place < nodes (expression before.now) + nodes (expression e.now) + 1) }
+    ensures fit { IfOk result (λ r. IsFit (range r)) }
+{
+    match range_of(decls, e, scope) {
+        Ok(range) => Ok(range),
+        Err(place) => Err(1 + nodes_in(before) + place),
+    }
+}
+
+// Of the two operands of a node.
+#[cycle(ranging)]
+fn ranges_of(decls: &Decls, left: &Expr, right: &Expr, scope: &RangeScope) -> Result<Operands, u32>
+    requires nodes { nodes (expression left.now) + nodes (expression right.now) + 1 < 2 ^ 32 }
+    requires left { AreScaled (declarations decls.now) (expression left.now) (range_kinds (ranges_in scope.now)) }
+    requires right { AreScaled (declarations decls.now) (expression right.now) (range_kinds (ranges_in scope.now)) }
+    ensures ranges { operands_found result ≡ operands (nodes (expression left.now)) (range_tried (declarations decls.now) (expression left.now) (ranges_in scope.now)) (range_tried (declarations decls.now) (expression right.now) (ranges_in scope.now)) }
+    ensures below { IfErr result (λ place. place < nodes (expression left.now) + nodes (expression right.now) + 1) }
+    ensures left { IfOk result (λ p. IsFit (range p.left)) }
+    ensures right { IfOk result (λ p. IsFit (range p.right)) }
+{
+    let left_range = range_of_first(decls, left, scope)?;
+    let right_range = range_of_second(decls, left, right, scope)?;
+    Ok(Operands {
+        left: left_range,
+        right: right_range,
+    })
+}
+
+// Of the two that follow the first part.
+#[cycle(ranging)]
+fn ranges_after(
+    decls: &Decls,
+    before: &Expr,
+    left: &Expr,
+    right: &Expr,
+    scope: &RangeScope,
+) -> Result<Operands, u32>
+    requires nodes { nodes (expression before.now) + nodes (expression left.now) + nodes (expression right.now) + 1 < 2 ^ 32 }
+    requires left { AreScaled (declarations decls.now) (expression left.now) (range_kinds (ranges_in scope.now)) }
+    requires right { AreScaled (declarations decls.now) (expression right.now) (range_kinds (ranges_in scope.now)) }
+    ensures ranges { operands_found result ≡ moved (nodes (expression before.now)) (operands (nodes (expression left.now)) (range_tried (declarations decls.now) (expression left.now) (ranges_in scope.now)) (range_tried (declarations decls.now) (expression right.now) (ranges_in scope.now))) }
+    ensures below { IfErr result (λ place. place < nodes (expression before.now) + nodes (expression left.now) + nodes (expression right.now) + 1) }
+    ensures left { IfOk result (λ p. IsFit (range p.left)) }
+    ensures right { IfOk result (λ p. IsFit (range p.right)) }
+{
+    match ranges_of(decls, left, right, scope) {
+        Ok(both) => Ok(both),
+        Err(place) => Err(nodes_in(before) + place),
+    }
+}
+
+// Of an accumulator.
+#[cycle(ranging)]
+fn range_of_acc(
+    decls: &Decls,
+    body: &Expr,
+    days: u32,
+    first: &Expr,
+    scope: &RangeScope,
+) -> Result<Range, u32>
+    requires nodes { nodes (expression body.now) + nodes (expression first.now) + 1 < 2 ^ 32 }
+    requires scaled { AreScaled (declarations decls.now) (Acc (expression body.now) days (expression first.now)) (range_kinds (ranges_in scope.now)) }
+    ensures range { range_found result ≡ range_tried (declarations decls.now) (Acc (expression body.now) days (expression first.now)) (ranges_in scope.now) }
+    ensures below { IfErr result (λ place. place < nodes (expression body.now) + nodes (expression first.now) + 1) }
+    ensures fit { IfOk result (λ r. IsFit (range r)) }
+{
+    let start = range_of_second(decls, body, first, scope)?;
+    accumulated(decls, body, days, start, scope)
+}
+
+// Of an accumulator after some days, each of which tries the body anew with the range so far for its name. A day that
+// leaves the range as it was is followed by such days alone.
+#[cycle(ranging)]
+fn accumulated(
+    decls: &Decls,
+    body: &Expr,
+    days: u32,
+    start: Range,
+    scope: &RangeScope,
+) -> Result<Range, u32>
+    requires nodes { nodes (expression body.now) + 1 < 2 ^ 32 }
+    requires scaled { AreScaled (declarations decls.now) (expression body.now) (start.kind ∷ range_kinds (ranges_in scope.now)) }
+    requires start { IsFit (range start) }
+    ensures range { range_found result ≡ days_tried days (day_tried (λ g. range_tried (declarations decls.now) (expression body.now) g) (ranges_in scope.now)) (range start) }
+    ensures below { IfErr result (λ place. place < nodes (expression body.now) + 1) }
+    ensures fit { IfOk result (λ r. IsFit (range r)) }
+{
+    let mut so_far = start;
+    for _day in 0..days {
+        let next = range_of_day(decls, body, so_far, scope)?;
+        if is_same(next, so_far) {
+            return Ok(so_far);
+        }
+        so_far = next;
+    }
+    Ok(so_far)
+}
+
+// Of an accumulator after one more day.
+#[cycle(ranging)]
+fn range_of_day(decls: &Decls, body: &Expr, so_far: Range, scope: &RangeScope) -> Result<Range, u32>
+    requires nodes { nodes (expression body.now) + 1 < 2 ^ 32 }
+    requires scaled { AreScaled (declarations decls.now) (expression body.now) (so_far.kind ∷ range_kinds (ranges_in scope.now)) }
+    requires so_far { IsFit (range so_far) }
+    ensures range { range_found result ≡ day_tried (λ g. range_tried (declarations decls.now) (expression body.now) g) (ranges_in scope.now) (range so_far) }
+    ensures below { IfErr result (λ place. place < nodes (expression body.now) + 1) }
+    ensures fit { IfOk result (λ r. IsFit (range r)) }
+    ensures kind { IfOk result (λ r. r.kind ≡ so_far.kind) }
+{
+    let inner = RangeScope::Bound {
+        range: so_far,
+        outer: &*scope,
+    };
+    let next = range_of_first(decls, body, &inner)?;
+    widened(so_far.kind, next)
+}

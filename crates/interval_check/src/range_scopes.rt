@@ -1,0 +1,61 @@
+//! The ranges of the names that stand around an expression, and of what is observed.
+
+ghost use Rattle.std.specs.Prelude.{◌≡◌, IfErr, IfOk, slice_get};
+ghost use Rattle.term_core.specs.Declarations.{declarations};
+ghost use Rattle.term_core.specs.Environments.{label_of};
+ghost use Rattle.term_core.specs.Values.{kind_or};
+ghost use Rattle.term_core.specs.Bounds.{range_kinds};
+ghost use Rattle.interval_check.specs.Ranges.{range, range_found, IsFit};
+ghost use Rattle.interval_check.specs.RangeScopes.{ranges_in};
+ghost use Rattle.interval_check.specs.RangeTrials.{observed, range_or_truth};
+
+use crate::intervals::Interval;
+use crate::ranges::{Range, TRUTH, checked};
+use term_core::{Decls, Kind, Label};
+
+/// The ranges of the names that are bound around an expression, innermost first. It lies on the stack.
+#[derive(Clone, Copy)]
+pub enum RangeScope<'a> {
+    Empty,
+    Bound {
+        range: Range,
+        outer: &'a RangeScope<'a>,
+    },
+}
+
+/// The range of the name that is bound `back` binders further out than the innermost. One without a binder, which no
+/// closed term has, is a truth value.
+pub fn range_at(scope: &RangeScope, back: u32) -> Range
+    ensures range { range result ≡ range_or_truth (slice_get (ranges_in scope.now) back) }
+    ensures kind { result.kind ≡ kind_or (slice_get (range_kinds (ranges_in scope.now)) back) }
+{
+    match scope {
+        RangeScope::Empty => TRUTH,
+        RangeScope::Bound { range, outer } => {
+            if back == 0 {
+                *range
+            } else {
+                range_at(outer, back - 1)
+            }
+        }
+    }
+}
+
+/// The range of what is observed, by its declared bounds.
+pub fn range_observed(decls: &Decls, label: u32) -> Result<Range, u32>
+    ensures range { range_found result ≡ observed (label_of (declarations decls.now) label) }
+    ensures here { IfErr result (λ place. place ≡ 0) }
+    ensures fit { IfOk result (λ r. IsFit (range r)) }
+{
+    match decls.labels.get_index(label as usize) {
+        Some((_, Label::Number { scale, low, high })) => {
+            let bounds = Interval {
+                low: *low,
+                high: *high,
+            };
+            checked(bounds, Kind::Number { scale: *scale })
+        }
+        Some((_, Label::Flag)) => Ok(TRUTH),
+        None => Ok(TRUTH),
+    }
+}
