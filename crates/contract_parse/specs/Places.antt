@@ -55,6 +55,8 @@ pub data Place : Type 0 where
   -- a term of a depth under bound names
   ExprAt : (depth : ℕ) (names : List Bytes) → Place
   ContrAt : (depth : ℕ) (names : List Bytes) → Place
+  -- what another grammar reads: it takes any token
+  AnyTokens : Place
 
 -- a token goes on to these places, or is at fault
 pub data Step : Type 0 where
@@ -170,6 +172,7 @@ step s (OperatorAt ∷ ps) t = judged (operator_at t) (λ op. Next s ps)
 step s (BinderAt binder d names ∷ ps) t = judged (binder_at t) (λ name. Next s (binder_places binder d names name ps))
 step s (ExprAt d names ∷ ps) t = judged (first_at d names t) (λ first. Next s (expr_places s d names first ps))
 step s (ContrAt d names ∷ ps) t = judged (head_at d t) (λ head. Next s (contr_places s d names head ps))
+step s (AnyTokens ∷ ps) t = Next s (AnyTokens ∷ ps)
 
 -- the places that are left, or the first fault and how many bytes are left where its token begins
 pub data Outcome : Type 0 where
