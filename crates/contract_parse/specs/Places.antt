@@ -2,8 +2,7 @@
 -- behind it, or is at fault. The next token decides the form; optional and repeated parts may be absent. A list of
 -- tokens over which nothing is refused is a front of the text.
 use Rattle.std.specs.Prelude.{◌≡◌, ℕ, ℤ, ◌+◌, Bool, true, false, List, [], ◌∷◌, ◌++◌, Option, Some, None, Result, Ok, Err, codes, if◌then◌else◌}
-use Rattle.decimal.specs.declared.Decimal.{Decimal}
-use Rattle.contract_parse.specs.Tokens.{Tok, tokens}
+use Rattle.contract_parse.specs.Tokens.{Tok}
 use Rattle.contract_parse.specs.Words.{Bytes, is_the_word, is_the_mark, is_end}
 use Rattle.contract_parse.specs.Names.{Scope, names_of, with_names}
 use Rattle.contract_parse.specs.Judgements.{binder_at, bound_at, days_at, integer_at, is_version, literal_at, mode_at, new_at, offset_at, operator_at, origin_at, separator_at, use_at}
@@ -11,9 +10,7 @@ use Rattle.contract_parse.specs.Heads.{first_at, head_at}
 use Rattle.contract_parse.specs.declared.names.NameSet.{NameSet}
 use Rattle.contract_parse.specs.declared.names.NameSet.TheVariants.{Party, Asset, Label, Template, Contract}
 use Rattle.contract_parse.specs.declared.heads.First.{First}
-use Rattle.contract_parse.specs.declared.heads.First.TheVariants as First
 use Rattle.contract_parse.specs.declared.heads.Head.{Head}
-use Rattle.contract_parse.specs.declared.heads.Head.TheVariants as Head
 use Rattle.contract_parse.specs.declared.heads.Binder.{Binder}
 use Rattle.contract_parse.specs.declared.heads.Binder.TheVariants as binder
 use Rattle.contract_parse.specs.declared.faults.TextKind.{TextKind}
