@@ -7,7 +7,7 @@ use Rattle.contract_parse.specs.Names.{nothing_declared, scope_of}
 use Rattle.contract_parse.specs.Statements.{decls}
 use Rattle.contract_parse.specs.Places.{AnyTokens, Place, decls_places, run}
 use Rattle.contract_parse.specs.Reading.{tokens_after}
-use Rattle.contract_parse.specs.Cursors.{Fits, IsAfter, Position, TakesDecls, tokens_at}
+use Rattle.contract_parse.specs.Cursors.{IsAfter, Position, TakesDecls, tokens_at}
 use Rattle.contract_parse.proofs.LastTokens.{decls_end}
 use Rattle.contract_parse.proofs.Passing.{the_mark}
 use Rattle.contract_parse.proofs.TokenFacts.{tokens_next}
@@ -18,8 +18,8 @@ pub decls_taken : (bytes : List ℕ) (old new : Position) (d : Declarations) (af
     → ((ps : List Place) → run nothing_declared (decls_places ps) (tokens_at bytes old.at) ≡ run (scope_of d []) ps (tokens after))
     → p ≡ next_token after
     → ((before : List Tok) (last next : Tok) (rest : List Tok) → tokens_at bytes old.at ≡ before ++ last ∷ next ∷ rest → length bytes - next.left ≡ length bytes - p.0.left → IsAfter bytes last (next ∷ rest) new.at)
-    → Fits bytes new → TakesDecls bytes old d new
-decls_taken bytes old new d after p spelled whole is passed fits =
+    → TakesDecls bytes old d new
+decls_taken bytes old new d after p spelled whole is passed =
     let end = decls_end d (tokens_at bytes old.at) (tokens after) spelled in
     let more = tokens_after p.0.kind p.1 in
     let next : tokens after ≡ p.0 ∷ more = tokens_next after ∙ ap (λ (q : Tok × List ℕ). q.0 ∷ tokens_after q.0.kind q.1) (sym is) in
@@ -37,5 +37,4 @@ decls_taken bytes old new d after p spelled whole is passed fits =
         semicolon = end.semicolon;
         after = omega (arith, at.place, one);
       };
-      fits = fits;
     }

@@ -76,7 +76,6 @@ pub record TakesToken (bytes : List ℕ) (old : Position) (t : Token) (new : Pos
   pub line : t.line ≡ line_at bytes t.from
   pub column : t.column ≡ column_at bytes t.from
   pub after : new.at ≡ t.to
-  pub fits : Fits bytes new
 
 -- no token begins at the first byte behind blanks and comments
 pub record LacksToken (bytes : List ℕ) (old : Position) (f : TextFault) : Type 0 where
@@ -108,7 +107,6 @@ pub record TakesDecls (bytes : List ℕ) (old : Position) (d : Declarations) (ne
   pub spelled : decls d (tokens_at bytes old.at) (tokens_at bytes new.at)
   pub whole : (ps : List Place) → run nothing_declared (decls_places ps) (tokens_at bytes old.at) ≡ run (scope_of d []) ps (tokens_at bytes new.at)
   pub ends : EndsLine bytes old.at new.at
-  pub fits : Fits bytes new
 
 -- a token of a declaration is refused, and the fault stands at its first byte
 pub record RefusesDecls (bytes : List ℕ) (old : Position) (f : TextFault) : Type 0 where

@@ -146,6 +146,7 @@ pub fn next_token(cursor: &mut Cursor, bytes: &[u8]) -> Result<Token, TextFault>
     ensures taken { IfOk result (λ t. TakesToken bytes.now cursor.old t cursor.new) }
     ensures refused { IfErr result (LacksToken bytes.now cursor.old) }
     ensures kept { OnErr result (cursor.new ≡ cursor.old) }
+    ensures fits { Fits bytes.now cursor.new }
 {
     let span = next_span(bytes, cursor.at);
     let first = moved(*cursor, bytes, span.from);
@@ -195,6 +196,7 @@ pub fn parse_decls(alloc: Global, cursor: &mut Cursor, bytes: &[u8]) -> Result<D
     ensures taken { IfOk result (λ d. TakesDecls bytes.now cursor.old (declarations d) cursor.new) }
     ensures refused { IfErr result (LacksDecls bytes.now cursor.old) }
     ensures kept { OnErr result (cursor.new ≡ cursor.old) }
+    ensures fits { Fits bytes.now cursor.new }
 {
     match read_decls(alloc, &bytes[cursor.at..]) {
         Ok((decls, after)) => {
@@ -209,3 +211,6 @@ pub fn parse_decls(alloc: Global, cursor: &mut Cursor, bytes: &[u8]) -> Result<D
         Err(ReadErr::NoMemory) => Err(ParseErr::NoMemory),
     }
 }
+
+#[cfg(test)]
+mod tests;

@@ -41,6 +41,6 @@ returns-in-Ok-clause-taken c =
     let spelled = subst (λ (l : List ℕ). decls d (tokens l) (tokens c.in-Ok.after.now)) rest c.in-Ok.ensures.spelled in
     let whole : (ps : List Place) → run nothing_declared (decls_places ps) (tokens (drop c.cursor.inside.at bytes)) ≡ run (scope_of d []) ps (tokens c.in-Ok.after.now) =
     λ ps. subst (λ (l : List ℕ). run nothing_declared (decls_places ps) (tokens l) ≡ run (scope_of d []) ps (tokens c.in-Ok.after.now)) rest (c.in-Ok.ensures.follows ps) in
-    let taken = decls_taken bytes old c.after_tokens.result d c.in-Ok.after.now _ spelled whole c.next_token.ensures c.after_tokens.ensures.passed c.after_tokens.ensures.fits in
+    let taken = decls_taken bytes old c.after_tokens.result d c.in-Ok.after.now _ spelled whole c.next_token.ensures c.after_tokens.ensures.passed in
     subst (λ (p : Position). TakesDecls bytes p d (the_view c.cursor-in-Ok.inside)) c.cursor.view_is
     (subst (λ (p : Position). TakesDecls bytes old d p) (sym c.cursor-in-Ok.view_is) taken)
