@@ -1,5 +1,5 @@
 -- What is read of a text is the one decimal that the text stands for, if that is within the limits.
-use Rattle.std.proofs.Common.{◌≡◌, ◌∙◌, ℕ, ◌^◌, ◌≤◌, ◌<◌, ◌⊎◌, inl, inr, ℤ, List, ap, arith, refl, unsigned_abs}
+use Rattle.std.proofs.Common.{◌≡◌, ◌∙◌, ℕ, ◌^◌, ◌<◌, ◌⊎◌, inl, inr, ℤ, List, ap, arith, refl, unsigned_abs}
 use Rattle.std.specs.Prelude.{Option, Some, None, Result, Ok, Err}
 use Rattle.decimal.specs.declared.reading.Decimal.{Decimal}
 use Rattle.decimal.specs.declared.reading.DecFault.{DecFault}

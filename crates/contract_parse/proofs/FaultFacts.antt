@@ -1,9 +1,9 @@
 -- The first fault of bytes that are no text.
 use Rattle.std.proofs.Common.{◌≡◌, ◌-◌, ℕ, List, length, refl, subst, sym}
-use Rattle.std.specs.Str.{IsUtf8, IsValidUpTo}
+use Rattle.std.specs.Str.{IsUtf8}
 use Rattle.term_core.specs.Books.{Book}
 use Rattle.contract_parse.specs.Tokens.{tokens}
-use Rattle.contract_parse.specs.Lines.{column_at, line_at}
+use Rattle.contract_parse.specs.Cursors.{IsNoUtf8, fault_at}
 use Rattle.contract_parse.specs.Names.{nothing_declared}
 use Rattle.contract_parse.specs.Places.{Stops, run, text_places}
 use Rattle.contract_parse.specs.Texts.{FirstFault, IsFault, Text, no_utf8, refused}
@@ -12,19 +12,15 @@ use Rattle.contract_parse.specs.declared.faults.TextKind.TheVariants.{Utf8}
 use Rattle.contract_parse.specs.declared.faults.TextFault.{TextFault}
 use Rattle.contract_parse.proofs.TextFacts.{no_fault}
 
--- the fault of a kind at a place
-abbrev fault_of : List ℕ → TextKind → ℕ → TextFault
-fault_of bytes kind at = record { kind = kind; line = line_at bytes at; column = column_at bytes at }
-
-is_fault : (bytes : List ℕ) (kind : TextKind) (at : ℕ) (f : TextFault) → f ≡ fault_of bytes kind at → FirstFault bytes kind at → IsFault bytes f
+is_fault : (bytes : List ℕ) (kind : TextKind) (at : ℕ) (f : TextFault) → f ≡ fault_at bytes kind at → FirstFault bytes kind at → IsFault bytes f
 is_fault bytes kind at f is first =
-    let fault : IsFault bytes (fault_of bytes kind at) = record { at = at; first = first; line = refl; column = refl } in
+    let fault : IsFault bytes (fault_at bytes kind at) = record { at = at; first = first; line = refl; column = refl } in
     subst (λ (g : TextFault). IsFault bytes g) (sym is) fault
 
-pub not_utf8 : (bytes : List ℕ) (at : ℕ) (f : TextFault) → f ≡ fault_of bytes Utf8 at → (IsUtf8 bytes → ⊥) × IsValidUpTo bytes at → IsFault bytes f × ((b : Book) → Text bytes b → ⊥)
-not_utf8 bytes at f is bad = (is_fault bytes Utf8 at f is (no_utf8 bad.0 bad.1), λ b text. bad.0 text.utf8)
+pub not_utf8 : (bytes : List ℕ) (f : TextFault) → IsNoUtf8 bytes f → IsFault bytes f × ((b : Book) → Text bytes b → ⊥)
+not_utf8 bytes f bad = (is_fault bytes Utf8 bad.at f bad.is (no_utf8 bad.none bad.longest), λ b text. bad.none text.utf8)
 
-pub not_text : (bytes : List ℕ) (kind : TextKind) (left at : ℕ) (f : TextFault) → f ≡ fault_of bytes kind at → at ≡ length bytes - left → IsUtf8 bytes → run nothing_declared text_places (tokens bytes) ≡ Stops kind left → IsFault bytes f × ((b : Book) → Text bytes b → ⊥)
+pub not_text : (bytes : List ℕ) (kind : TextKind) (left at : ℕ) (f : TextFault) → f ≡ fault_at bytes kind at → at ≡ length bytes - left → IsUtf8 bytes → run nothing_declared text_places (tokens bytes) ≡ Stops kind left → IsFault bytes f × ((b : Book) → Text bytes b → ⊥)
 not_text bytes kind left at f is place utf8 stops =
     let first = subst (λ (n : ℕ). FirstFault bytes kind n) (sym place) (refused utf8 stops) in
     let fault = is_fault bytes kind at f is first in

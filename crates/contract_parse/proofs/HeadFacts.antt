@@ -1,24 +1,16 @@
 -- What terms begin with.
-use Rattle.std.proofs.Common.{◌≡◌, ℕ, ◌≤◌, ◌<◌, Bool, true, false, cond, ◌&&◌, Result, Ok, Err, List, [], ◌∷◌, refl, sym, ap, ◌∙◌, subst, arith}
-use Rattle.std.specs.Prelude.{codes, nat_lt, not}
-use Rattle.std.specs.Str.{bytes_eq}
-use Rattle.std.proofs.lemmas.Bool.{false≢true}
+use Rattle.std.proofs.Common.{◌≡◌, ℕ, ◌≤◌, Bool, true, false, cond, Result, Ok, Err, List, refl, sym, subst, arith}
+use Rattle.std.specs.Prelude.{codes, nat_lt}
 use Rattle.std.proofs.lemmas.Bool.Decides.{nat_tests}
-use Rattle.std.proofs.lemmas.Slice.Eq.{bytes_eq-Decides}
 use Rattle.decimal.specs.declared.Decimal.{Decimal}
-use Rattle.contract_parse.specs.declared.token.Kind.{Kind}
-use Rattle.contract_parse.specs.declared.token.Kind.TheVariants.{Word, Number, Date, Mark, End, Stray}
 use Rattle.contract_parse.specs.declared.faults.TextKind.{TextKind}
 use Rattle.contract_parse.specs.declared.faults.TextKind.TheVariants as kind
 use Rattle.contract_parse.specs.declared.heads.First.{First}
-use Rattle.contract_parse.specs.declared.heads.First.TheVariants as First
 use Rattle.contract_parse.specs.declared.heads.Head.{Head}
-use Rattle.contract_parse.specs.declared.heads.Head.TheVariants as Head
 use Rattle.contract_parse.specs.Tokens.{Tok}
-use Rattle.contract_parse.specs.Words.{Bytes, is_mark_kind, is_name, is_number, is_number_kind, is_reserved, is_the_mark, is_the_word, is_word_kind}
+use Rattle.contract_parse.specs.Words.{Bytes, is_name, is_number, is_the_mark, is_the_word}
 use Rattle.contract_parse.specs.Judgements.{literal_at, variable_at}
 use Rattle.contract_parse.specs.Heads.{first_at, first_name, first_number, first_of, first_word, head_at, head_of, is_before_depth, within_depth}
-use Rattle.contract_parse.proofs.EntryFacts.{and_parts}
 
 -- ---- from the judgement to the token
 

@@ -1,5 +1,5 @@
 -- An operator between its operands.
-use Rattle.std.proofs.Common.{◌≡◌, List}
+use Rattle.std.proofs.Common.{List}
 use Rattle.std.specs.Prelude.{codes}
 use Rattle.term_core.specs.Terms.{Expression}
 use Rattle.term_core.specs.declared.terms.NumOp.TheVariants.{Plus, Minus, Times, Min, Max}

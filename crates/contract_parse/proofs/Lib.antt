@@ -21,3 +21,9 @@ pub mod LineFacts
 pub mod ContractFacts
 pub mod InfixFacts
 pub mod FaultFacts
+pub mod LinePlaces
+pub mod TokenPlaces
+pub mod TokenBoundaries
+pub mod TokenOrder
+pub mod LastTokens
+pub mod DeclsTaken

@@ -11,7 +11,6 @@ use Rattle.contract_parse.specs.Tokens.{Tok}
 use Rattle.contract_parse.specs.Words.{Bytes, is_integer, is_name}
 use Rattle.contract_parse.specs.Names.{Scope, is_declared, names_of, place_in, with_names}
 use Rattle.contract_parse.specs.Judgements.{counted, days_at, integer_at, named, new_at, or_fault, up_to, use_at, whole}
-use Rattle.term_core.specs.declared.terms.Days.{Days}
 use Rattle.term_core.specs.declared.terms.Days.TheVariants.{Num as Count, Named}
 
 module _ (names : List Bytes) (t : Tok) where

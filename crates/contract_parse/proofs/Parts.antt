@@ -1,5 +1,5 @@
 -- Parts that follow each other.
-use Rattle.std.proofs.Common.{◌≡◌, List}
+use Rattle.std.proofs.Common.{List}
 use Rattle.contract_parse.specs.Tokens.{Tok}
 use Rattle.contract_parse.specs.Spelling.{Part, Then}
 

@@ -1,13 +1,12 @@
 -- The list of tokens, one at a time.
-use Rattle.std.proofs.Common.{◌≡◌, ℕ, zero, suc, ◌+◌, ◌-◌, ◌<◌, ◌≤◌, Bool, true, false, cond, List, [], ◌∷◌, length, drop, lit<, refl, sym, ap, ◌∙◌, inl, inr, arith, length-drop}
+use Rattle.std.proofs.Common.{◌≡◌, ℕ, zero, suc, ◌<◌, ◌≤◌, Bool, true, false, cond, List, [], ◌∷◌, length, lit<, refl, sym, ap, ◌∙◌, inl, inr, arith, length-drop}
 use Rattle.std.specs.List.{prefix_len}
 use Rattle.std.specs.Prelude.{◌==◌, nat_lt, not}
 use Rattle.std.proofs.lemmas.Bool.{cases_Bool, false≢true}
 use Rattle.std.proofs.lemmas.Bool.Decides.{nat_tests}
-use Rattle.contract_parse.specs.declared.token.Kind.{Kind}
-use Rattle.contract_parse.specs.declared.token.Kind.TheVariants.{Word, Number, Date, Mark, End, Stray}
+use Rattle.contract_parse.specs.declared.token.Kind.TheVariants.{Word, Number, Date, Mark, Stray}
 use Rattle.contract_parse.specs.declared.token.Extent.{Extent}
-use Rattle.contract_parse.specs.Tokens.{Tok, after_gap, begins_with_date, digits_extent, extent_at, fraction_len, is_blank, is_digit, is_last, is_letter, is_word_byte, mark_extent, mark_len, next_token, number_len, tokens, tokens_from, word_extent}
+use Rattle.contract_parse.specs.Tokens.{Tok, after_gap, begins_with_date, digits_extent, extent_at, is_blank, is_digit, is_last, is_letter, is_word_byte, mark_extent, mark_len, next_token, number_len, tokens, tokens_from, word_extent}
 
 one_of_three : (blank hash : Bool) (x y z : List ℕ) (n : ℕ) → length x ≤ n → length y ≤ n → length z ≤ suc n → length (cond blank x (cond hash y z)) ≤ suc n
 one_of_three true hash x y z n p q r = omega arith
@@ -21,7 +20,7 @@ gap_shorter true (b ∷ bs) = omega (arith, gap_shorter (not (b == 10)) bs)
 gap_shorter false (b ∷ bs) = one_of_three (is_blank b) (b == 35) (after_gap false bs) (after_gap true bs) (b ∷ bs) (length bs) (gap_shorter false bs) (gap_shorter true bs) (omega arith)
 
 -- a token that is not the last has a byte
-abbrev Has : Extent → Type 0
+abbrev pub Has : Extent → Type 0
 Has e = is_last e.kind ≡ false → 0 < e.len
 
 has_word : (b : Bool) (n : ℕ) → 0 < n → Has (cond b (record { kind = Stray; len = 0 }) (record { kind = Word; len = n }))
@@ -47,7 +46,7 @@ has_one true digit w d m p q r = p refl
 has_one false true w d m p q r = q refl
 has_one false false w d m p q r = r
 
-has_byte : (bytes : List ℕ) → Has (extent_at bytes)
+pub has_byte : (bytes : List ℕ) → Has (extent_at bytes)
 unfolding extent_at
 has_byte [] = λ e. absurd (false≢true (sym e))
 has_byte (b ∷ bs) = has_one (is_letter b) (is_digit b) (word_extent (prefix_len is_word_byte (b ∷ bs))) (digits_extent (b ∷ bs)) (mark_extent (mark_len (b ∷ bs)))
@@ -65,6 +64,13 @@ unfolding next_token
 shorter bytes e =
     let start = after_gap false bytes in
     omega (arith, has_byte start e, not_empty start e, length-drop (extent_at start).len start, gap_shorter false bytes)
+
+-- the bytes behind such a token are fewer than those from it on
+pub behind_shorter : (bytes : List ℕ) → is_last (next_token bytes).0.kind ≡ false → length (next_token bytes).1 < (next_token bytes).0.left
+unfolding next_token
+behind_shorter bytes e =
+    let start = after_gap false bytes in
+    omega (arith, has_byte start e, not_empty start e, length-drop (extent_at start).len start)
 
 -- how many tokens are asked for does not matter where they are enough
 enough : (m n : ℕ) (bytes : List ℕ) → length bytes < m → length bytes < n → tokens_from m bytes ≡ tokens_from n bytes

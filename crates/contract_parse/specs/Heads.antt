@@ -1,5 +1,5 @@
 -- What a term begins with: the first token decides its form.
-use Rattle.std.specs.Prelude.{ℕ, Bool, true, false, List, [], ◌∷◌, Option, Some, None, Result, Ok, Err, codes, nat_lt, if◌then◌else◌}
+use Rattle.std.specs.Prelude.{ℕ, Bool, true, false, List, Result, Ok, Err, codes, nat_lt, if◌then◌else◌}
 use Rattle.decimal.specs.declared.Decimal.{Decimal}
 use Rattle.contract_parse.specs.Tokens.{Tok}
 use Rattle.contract_parse.specs.Words.{Bytes, is_the_word, is_the_mark, is_name, is_number}
@@ -7,9 +7,7 @@ use Rattle.contract_parse.specs.Judgements.{literal_at, variable_at}
 use Rattle.contract_parse.specs.declared.faults.TextKind.{TextKind}
 use Rattle.contract_parse.specs.declared.faults.TextKind.TheVariants.{Syntax, Number, Date, Deep, Range, Twice, Unknown, Utf8}
 use Rattle.contract_parse.specs.declared.heads.First.{First}
-use Rattle.contract_parse.specs.declared.heads.First.TheVariants as First
 use Rattle.contract_parse.specs.declared.heads.Head.{Head}
-use Rattle.contract_parse.specs.declared.heads.Head.TheVariants as Head
 
 abbrev pub first_number : Result Decimal TextKind → Result First TextKind
 first_number (Ok d) = Ok (First.Number d)

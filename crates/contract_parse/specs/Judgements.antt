@@ -1,6 +1,6 @@
 -- What one token is at a place of the grammar, or the kind of its fault. At one token the first rule counts: Syntax,
 -- Number, Date, Deep, Range, Twice, Unknown.
-use Rattle.std.specs.Prelude.{ℕ, ℤ, pos, neg_ℤ, unsigned_abs, int_lt, ◌-◌, ◌^◌, ◌==◌, ◌&&◌, Bool, true, false, List, [], ◌∷◌, Option, Some, None, Result, Ok, Err, codes, nat_lt, nat_le, if◌then◌else◌}
+use Rattle.std.specs.Prelude.{ℕ, ℤ, neg_ℤ, unsigned_abs, int_lt, ◌-◌, ◌==◌, ◌&&◌, Bool, true, false, List, Option, Some, None, Result, Ok, Err, codes, nat_lt, nat_le, if◌then◌else◌}
 use Rattle.decimal.specs.declared.Mode.{Mode}
 use Rattle.decimal.specs.declared.Mode.TheVariants.{HalfEven, HalfAway, Floor, Ceil}
 use Rattle.decimal.specs.declared.Decimal.{Decimal}
@@ -18,7 +18,7 @@ use Rattle.contract_parse.specs.Tokens.{Tok}
 use Rattle.contract_parse.specs.Words.{Bytes, is_the_word, is_the_mark, is_name, is_number, is_integer, is_date}
 use Rattle.contract_parse.specs.Names.{place_in, is_declared, back_to}
 use Rattle.contract_parse.specs.declared.faults.TextKind.{TextKind}
-use Rattle.contract_parse.specs.declared.faults.TextKind.TheVariants.{Syntax, Number, Date, Deep, Range, Twice, Unknown}
+use Rattle.contract_parse.specs.declared.faults.TextKind.TheVariants.{Syntax, Number, Date, Range, Twice, Unknown}
 use Rattle.contract_parse.specs.declared.heads.Operator.{Operator}
 use Rattle.contract_parse.specs.declared.heads.Operator.TheVariants as operator
 

@@ -14,3 +14,4 @@ pub mod Payments
 pub mod Sample
 pub mod DeclarationReading
 pub mod ContractReading
+pub mod Cursors

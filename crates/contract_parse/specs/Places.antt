@@ -2,8 +2,7 @@
 -- behind it, or is at fault. The next token decides the form; optional and repeated parts may be absent. A list of
 -- tokens over which nothing is refused is a front of the text.
 use Rattle.std.specs.Prelude.{◌≡◌, ℕ, ℤ, ◌+◌, Bool, true, false, List, [], ◌∷◌, ◌++◌, Option, Some, None, Result, Ok, Err, codes, if◌then◌else◌}
-use Rattle.decimal.specs.declared.Decimal.{Decimal}
-use Rattle.contract_parse.specs.Tokens.{Tok, tokens}
+use Rattle.contract_parse.specs.Tokens.{Tok}
 use Rattle.contract_parse.specs.Words.{Bytes, is_the_word, is_the_mark, is_end}
 use Rattle.contract_parse.specs.Names.{Scope, names_of, with_names}
 use Rattle.contract_parse.specs.Judgements.{binder_at, bound_at, days_at, integer_at, is_version, literal_at, mode_at, new_at, offset_at, operator_at, origin_at, separator_at, use_at}
@@ -11,9 +10,7 @@ use Rattle.contract_parse.specs.Heads.{first_at, head_at}
 use Rattle.contract_parse.specs.declared.names.NameSet.{NameSet}
 use Rattle.contract_parse.specs.declared.names.NameSet.TheVariants.{Party, Asset, Label, Template, Contract}
 use Rattle.contract_parse.specs.declared.heads.First.{First}
-use Rattle.contract_parse.specs.declared.heads.First.TheVariants as First
 use Rattle.contract_parse.specs.declared.heads.Head.{Head}
-use Rattle.contract_parse.specs.declared.heads.Head.TheVariants as Head
 use Rattle.contract_parse.specs.declared.heads.Binder.{Binder}
 use Rattle.contract_parse.specs.declared.heads.Binder.TheVariants as binder
 use Rattle.contract_parse.specs.declared.faults.TextKind.{TextKind}
@@ -55,6 +52,8 @@ pub data Place : Type 0 where
   -- a term of a depth under bound names
   ExprAt : (depth : ℕ) (names : List Bytes) → Place
   ContrAt : (depth : ℕ) (names : List Bytes) → Place
+  -- what another grammar reads: it takes any token
+  AnyTokens : Place
 
 -- a token goes on to these places, or is at fault
 pub data Step : Type 0 where
@@ -170,6 +169,7 @@ step s (OperatorAt ∷ ps) t = judged (operator_at t) (λ op. Next s ps)
 step s (BinderAt binder d names ∷ ps) t = judged (binder_at t) (λ name. Next s (binder_places binder d names name ps))
 step s (ExprAt d names ∷ ps) t = judged (first_at d names t) (λ first. Next s (expr_places s d names first ps))
 step s (ContrAt d names ∷ ps) t = judged (head_at d t) (λ head. Next s (contr_places s d names head ps))
+step s (AnyTokens ∷ ps) t = Next s (AnyTokens ∷ ps)
 
 -- the places that are left, or the first fault and how many bytes are left where its token begins
 pub data Outcome : Type 0 where

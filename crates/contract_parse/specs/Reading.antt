@@ -1,5 +1,5 @@
 -- What the tokens and the answers of the code stand for.
-use Rattle.std.specs.Prelude.{◌≡◌, ◌≤◌, ◌≤ℤ◌, ◌^◌, ℕ, ℤ, unsigned_abs, List, [], ◌∷◌, Bool, false, Option, Some, None, if◌then◌else◌}
+use Rattle.std.specs.Prelude.{◌≡◌, ◌≤◌, ◌≤ℤ◌, ◌^◌, ℕ, ℤ, unsigned_abs, List, [], ◌∷◌, false, Option, Some, None, if◌then◌else◌}
 use Rattle.term_core.specs.Terms.{Expression, Num, Cmp, Logic}
 use Rattle.term_core.specs.Declarations.{declarations}
 use Rattle.term_core.specs.declared.decls.Decls.{Decls}

@@ -1,5 +1,5 @@
 -- The grammar of declarations and of whole portfolios.
-use Rattle.std.specs.Prelude.{◌≡◌, ◌≤◌, ◌⊎◌, ℕ, ℤ, Bool, List, [], ◌∷◌, ◌++◌, Option, Some, None, codes}
+use Rattle.std.specs.Prelude.{◌≡◌, ◌≤◌, ◌⊎◌, ℕ, ℤ, List, [], ◌∷◌, ◌++◌, Option, Some, None, codes}
 use Rattle.std.specs.Map.{keys_of}
 use Rattle.term_core.specs.Declarations.{Declarations}
 use Rattle.term_core.specs.Books.{Book}

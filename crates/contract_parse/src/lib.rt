@@ -3,6 +3,7 @@
 #![tactic(auto)]
 
 mod contrs;
+mod cursor;
 mod decls;
 mod exprs;
 mod faults;
@@ -19,6 +20,7 @@ mod token;
 mod tokens;
 mod words;
 
+pub use cursor::{Cursor, next_token, parse_decls, start_text};
 pub use faults::{ParseErr, TextFault, TextKind};
 pub use portfolio::parse_portfolio;
 pub use tokens::{Token, TokenKind};

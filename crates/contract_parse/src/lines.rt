@@ -2,6 +2,9 @@
 ghost use Rattle.std.specs.Prelude.{◌≡◌, ◌≤◌, ◌==◌, length, not, reverse};
 ghost use Rattle.std.specs.List.{prefix_len};
 ghost use Rattle.contract_parse.specs.Lines.{column_at, line_at};
+ghost use Rattle.contract_parse.specs.Cursors.{fault_at};
+
+use crate::faults::{TextFault, TextKind};
 
 /// The line of a place, from 1.
 pub fn line_at(bytes: &[u8], at: usize) -> u32
@@ -27,4 +30,17 @@ pub fn column_at(bytes: &[u8], at: usize) -> u32
     ensures { result ≡ column_at bytes.now at }
 {
     1 + last_line_len(&bytes[..at]) as u32
+}
+
+/// The fault of a kind at a place.
+pub fn fault_at(bytes: &[u8], kind: TextKind, at: usize) -> TextFault
+    requires within { at ≤ length bytes.now }
+    requires small { length bytes.now ≤ 16_777_216 }
+    ensures { result ≡ fault_at bytes.now kind at }
+{
+    TextFault {
+        kind,
+        line: line_at(bytes, at),
+        column: column_at(bytes, at),
+    }
 }

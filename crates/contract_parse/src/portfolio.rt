@@ -1,10 +1,8 @@
 //! Portfolios from texts.
 ghost use Rattle.std.specs.Prelude.{◌≡◌, ◌≤◌, ◌<◌, ◌-◌, ◌∷◌, [], List, IfNone, IfOk, IfSome, codes, length};
-ghost use Rattle.std.specs.Str.{IsUtf8, IsValidUpTo};
 ghost use Rattle.indexmap.specs.IndexMap.{keys};
 ghost use Rattle.term_core.specs.Books.{book};
 ghost use Rattle.contract_parse.specs.Tokens.{Tok, tokens};
-ghost use Rattle.contract_parse.specs.Lines.{column_at, line_at};
 ghost use Rattle.contract_parse.specs.Names.{nothing_declared};
 ghost use Rattle.contract_parse.specs.Spelling.{word};
 ghost use Rattle.contract_parse.specs.Statements.{Entry, Repeat, contract_line, portfolio};
@@ -14,14 +12,14 @@ ghost use Rattle.contract_parse.specs.ContractReading.{trees};
 ghost use Rattle.contract_parse.specs.Texts.{Answers};
 
 use crate::contrs::read_contr;
+use crate::cursor::start_text;
 use crate::decls::read_decls;
-use crate::faults::{ParseErr, ReadErr, TextFault, TextKind};
-use crate::lines::{column_at, line_at};
+use crate::faults::{ParseErr, ReadErr};
+use crate::lines::fault_at;
 use crate::names::Bound;
 use crate::readers::{after_word, read_end, read_new_name, skip_mark, skip_version, skip_word};
 use indexmap::IndexMap;
 use std::alloc::Global;
-use std::str;
 use term_core::{Contr, Decls, Name, Portfolio};
 
 // A contract behind its word.
@@ -73,38 +71,13 @@ fn read_portfolio(alloc: Global, bytes: &[u8]) -> Result<Portfolio, ReadErr>
     Ok(Portfolio { decls, contracts })
 }
 
-// The fault of a kind at a place.
-fn fault_at(bytes: &[u8], kind: TextKind, at: usize) -> TextFault
-    requires within { at ≤ length bytes.now }
-    requires small { length bytes.now ≤ 16_777_216 }
-    ensures { result ≡ record { kind = kind; line = line_at bytes.now at; column = column_at bytes.now at } }
-{
-    TextFault {
-        kind,
-        line: line_at(bytes, at),
-        column: column_at(bytes, at),
-    }
-}
-
-// The place of the first byte after the longest prefix that is UTF-8, if that is not the whole text.
-fn first_bad_byte(bytes: &[u8]) -> Option<usize>
-    ensures good { IfNone result (IsUtf8 bytes.now) }
-    ensures bad { IfSome result (λ at. (IsUtf8 bytes.now → ⊥) × IsValidUpTo bytes.now at) }
-    ensures within { IfSome result (λ at. at ≤ length bytes.now) }
-{
-    match str::from_utf8(bytes) {
-        Ok(_) => None,
-        Err(error) => Some(error.valid_up_to()),
-    }
-}
-
 /// The portfolio of a text, or the first fault of a text that has none.
 pub fn parse_portfolio(alloc: Global, bytes: &[u8]) -> Result<Portfolio, ParseErr>
     requires { length bytes.now ≤ 16_777_216 }
     ensures { Answers bytes.now result }
 {
-    if let Some(at) = first_bad_byte(bytes) {
-        return Err(ParseErr::Text(fault_at(bytes, TextKind::Utf8, at)));
+    if let Err(fault) = start_text(bytes) {
+        return Err(ParseErr::Text(fault));
     }
     match read_portfolio(alloc, bytes) {
         Ok(portfolio) => Ok(portfolio),

@@ -28,7 +28,7 @@ fn answer_to(alloc: Global, text: &[u8]) -> (Option<(TextKind, u32, u32)>, bool)
     }
 }
 
-const ROWS: [Row; 46] = [
+const ROWS: [Row; 59] = [
     Row {
         head: P,
         rest: b"contract c = zero;\n",
@@ -259,6 +259,71 @@ const ROWS: [Row; 46] = [
         rest: b"# Positions of the treasury desk\nportfolio 1;\namounts 2;\norigin 2024-01-15;\nparty A, B, C;\nasset EUR, USD;\nnum FX : 4 in 0.5000 .. 2.0000;\nflag Default_B;\ntemplate T = 90;\n\ncontract loan = both(scale(100.00, pay(EUR, A, B)),\n  after(T, scale(105.00, pay(EUR, B, A))));\ncontract guarded = if obs(Default_B, 0) within T\n  then scale(40.00, pay(EUR, C, A))\n  else scale(100.00, pay(EUR, B, A));\n",
         fault: None,
     },
+    Row {
+        head: NONE,
+        rest: b"portfolio 1; amounts 2; origin\n3000-01-01;",
+        fault: Some((TextKind::Date, 2, 1)),
+    },
+    Row {
+        head: FX,
+        rest: b"contract c = scale(obs(FX, 1000000), zero);",
+        fault: None,
+    },
+    Row {
+        head: FX,
+        rest: b"contract c = scale(obs(FX,\n1000001), zero);",
+        fault: Some((TextKind::Number, 7, 1)),
+    },
+    Row {
+        head: P,
+        rest: b"contract c = scale(round(floor, 27, 1), zero);",
+        fault: None,
+    },
+    Row {
+        head: P,
+        rest: b"contract c = scale(round(floor,\n28, 1), zero);",
+        fault: Some((TextKind::Number, 6, 1)),
+    },
+    Row {
+        head: P,
+        rest: b"contract c = scale(div(ceil, 27, 1, 2), zero);",
+        fault: None,
+    },
+    Row {
+        head: P,
+        rest: b"contract c = scale(div(ceil,\n28, 1, 2), zero);",
+        fault: Some((TextKind::Number, 6, 1)),
+    },
+    Row {
+        head: P,
+        rest: b"contract c = scale(acc(x, x, 100000, 1), zero);",
+        fault: None,
+    },
+    Row {
+        head: P,
+        rest: b"contract c = scale(acc(x, x,\n100001, 1), zero);",
+        fault: Some((TextKind::Number, 6, 1)),
+    },
+    Row {
+        head: P,
+        rest: b"contract aaaaaaaaaaaaaaaaaaaaaaaaaaaaaaaaaaaaaaaaaaaaaaaaaaaaaaaaaaaaaaaa = zero;",
+        fault: None,
+    },
+    Row {
+        head: P,
+        rest: b"contract\naaaaaaaaaaaaaaaaaaaaaaaaaaaaaaaaaaaaaaaaaaaaaaaaaaaaaaaaaaaaaaaaa = zero;",
+        fault: Some((TextKind::Syntax, 6, 1)),
+    },
+    Row {
+        head: P,
+        rest: b"template T = 1; contract c = if true within\nU then zero else zero;",
+        fault: Some((TextKind::Unknown, 6, 1)),
+    },
+    Row {
+        head: P,
+        rest: b"flag f; num\nf : 0 in 0 .. 1;",
+        fault: Some((TextKind::Twice, 6, 1)),
+    },
 ];
 
 #[test]
@@ -273,13 +338,14 @@ fn texts_are_read_or_have_their_first_fault(rt: HostRuntime) -> Result<(), Alloc
     Ok(())
 }
 
-fn deep(alloc: Global, times: u32) -> Result<Vec<u8>, AllocError> {
+// A contract in the midst of `times` others.
+fn deep(alloc: Global, times: u32, inner: &[u8]) -> Result<Vec<u8>, AllocError> {
     let mut text = P.to_vec(alloc)?;
     text.extend_from_slice(b"contract c = ")?;
     for _ in 0..times {
         text.extend_from_slice(b"after(1, ")?;
     }
-    text.extend_from_slice(b"zero")?;
+    text.extend_from_slice(inner)?;
     for _ in 0..times {
         text.extend_from_slice(b")")?;
     }
@@ -287,11 +353,59 @@ fn deep(alloc: Global, times: u32) -> Result<Vec<u8>, AllocError> {
     Ok(text)
 }
 
+// What stands in the midst of so many contracts, and the fault of the text.
+#[derive(Clone, Copy)]
+struct DeepRow {
+    times: u32,
+    inner: &'static [u8],
+    fault: Option<(TextKind, u32, u32)>,
+}
+
+const DEEP_ROWS: [DeepRow; 7] = [
+    DeepRow {
+        times: 199,
+        inner: b"zero",
+        fault: None,
+    },
+    DeepRow {
+        times: 200,
+        inner: b"zero",
+        fault: Some((TextKind::Deep, 5, 1814)),
+    },
+    DeepRow {
+        times: 199,
+        inner: b"scale(-1, zero)",
+        fault: Some((TextKind::Deep, 5, 1811)),
+    },
+    DeepRow {
+        times: 199,
+        inner: b"scale(y, zero)",
+        fault: Some((TextKind::Deep, 5, 1811)),
+    },
+    DeepRow {
+        times: 199,
+        inner: b"scale(10000000000000000000000000000000000001, zero)",
+        fault: Some((TextKind::Number, 5, 1811)),
+    },
+    DeepRow {
+        times: 199,
+        inner: b"scale(), zero)",
+        fault: Some((TextKind::Syntax, 5, 1811)),
+    },
+    DeepRow {
+        times: 198,
+        inner: b"scale(-1, zero)",
+        fault: None,
+    },
+];
+
 #[test]
 fn terms_are_read_to_a_depth_of_200(rt: HostRuntime) -> Result<(), AllocError> {
-    let text = deep(rt.alloc(), 199)?;
-    assert!(rt; answer_to(rt.alloc(), text.as_slice()) == (None, true));
-    let text = deep(rt.alloc(), 200)?;
-    assert!(rt; answer_to(rt.alloc(), text.as_slice()) == (Some((TextKind::Deep, 5, 1814)), false));
+    for row in DEEP_ROWS.iter() {
+        let text = deep(rt.alloc(), row.times, row.inner)?;
+        let (fault, is_read) = answer_to(rt.alloc(), text.as_slice());
+        assert!(rt; fault == row.fault);
+        assert!(rt; is_read == row.fault.is_none());
+    }
     Ok(())
 }

@@ -1,11 +1,10 @@
-use Rattle.std.proofs.Common.{◌+◌, ◌∙◌, ◌≡◌, ◌∷◌, [], List, ℕ, Ok, Err, refl}
+use Rattle.std.proofs.Common.{◌+◌, ◌∙◌, ◌∷◌, refl}
 use Rattle.std.proofs.lemmas.Result.{IfOk-weaker, err_from_is_err_and}
 use Rattle.std.specs.Prelude.{codes}
-use Rattle.contract_parse.specs.Tokens.{Tok, tokens}
-use Rattle.contract_parse.specs.Words.{Bytes}
+use Rattle.contract_parse.specs.Tokens.{tokens}
 use Rattle.contract_parse.specs.Names.{names_in}
 use Rattle.contract_parse.specs.Heads.{head_at}
-use Rattle.contract_parse.specs.Places.{BinderAt, ContrAt, DaysAt, ExprAt, Next, TheMark, TheWord, contr_places}
+use Rattle.contract_parse.specs.Places.{ContrAt, DaysAt, ExprAt, Next, TheMark, TheWord, contr_places}
 use Rattle.contract_parse.specs.Reading.{scope_in, tok_of}
 use Rattle.contract_parse.specs.declared.heads.Head.TheVariants as Head
 use Rattle.contract_parse.specs.declared.heads.Binder.TheVariants as binder

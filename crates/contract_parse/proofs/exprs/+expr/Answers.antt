@@ -1,13 +1,10 @@
-use Rattle.std.proofs.Common.{◌+◌, ◌≡◌, ◌∷◌, ◌∙◌, [], List, ℕ, Ok, Err, true, false, refl, sym, ap}
+use Rattle.std.proofs.Common.{◌+◌, ◌∷◌, ◌∙◌, [], false, refl}
 use Rattle.std.proofs.lemmas.Result.{IfOk-weaker, err_from_is_err_and}
 use Rattle.std.specs.Prelude.{codes}
-use Rattle.term_core.specs.Declarations.{declarations}
 use Rattle.term_core.specs.Terms.{expression}
-use Rattle.contract_parse.specs.Tokens.{Tok, tokens}
-use Rattle.contract_parse.specs.Words.{Bytes, is_the_word, is_the_mark}
+use Rattle.contract_parse.specs.Tokens.{tokens}
 use Rattle.contract_parse.specs.Names.{names_in}
 use Rattle.contract_parse.specs.Heads.{first_at}
-use Rattle.contract_parse.specs.Judgements.{literal_at, variable_at}
 use Rattle.contract_parse.specs.Places.{BinderAt, ExprAt, IntegerAt, ModeAt, Next, OperatorAt, TheMark, expr_places}
 use Rattle.contract_parse.specs.Reading.{scope_in, tok_of}
 use Rattle.contract_parse.specs.declared.heads.First.TheVariants as First

@@ -1,4 +1,4 @@
-use Rattle.std.proofs.Common.{◌≡◌, ◌∙◌, ◌<◌, ◌+◌, ◌-◌, ◌*◌, List, ℕ, ◌∷◌, drop, suc, sym, ap, arith, get_or, length, add-one, rules}
+use Rattle.std.proofs.Common.{◌≡◌, ◌∙◌, ◌+◌, ◌*◌, drop, sym, arith}
 use Rattle.std.proofs.lemmas.Grind.{common_steps}
 use Rattle.decimal.specs.Reading.{number_after}
 use Rattle.contract_parse.proofs.NumberFacts.{past_limit}

@@ -1,4 +1,4 @@
-use Rattle.std.proofs.Common.{◌≡◌, ◌∷◌, List, refl, sym}
+use Rattle.std.proofs.Common.{refl, sym}
 use Rattle.contract_parse.specs.Words.{is_the_word}
 use Rattle.contract_parse.specs.Reading.{tok_of, tokens_after}
 use Rattle.contract_parse.proofs.Steps.{so_spells}

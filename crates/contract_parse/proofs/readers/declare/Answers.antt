@@ -1,5 +1,4 @@
-use Rattle.std.proofs.Common.{◌≡◌, ◌∷◌, ◌∙◌, ◌++◌, [], cond, true, false, List, Ok, refl, sym, ap}
-use Rattle.std.specs.Prelude.{not}
+use Rattle.std.proofs.Common.{◌∙◌, List, Ok, refl, sym, ap}
 use Rattle.contract_parse.specs.Judgements.{new_at}
 use Rattle.contract_parse.specs.Places.{run}
 use Rattle.contract_parse.specs.Reading.{tok_of}

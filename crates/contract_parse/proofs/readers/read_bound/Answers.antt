@@ -1,7 +1,7 @@
 use Rattle.std.proofs.lemmas.Int.{to_z-of_z}
 use mir.Syntax.{w128}
 use Rattle.contract_parse.proofs.NumberFacts.{fits_wide}
-use Rattle.std.proofs.Common.{◌≡◌, ◌∷◌, List, refl, sym, true, false}
+use Rattle.std.proofs.Common.{◌≡◌, ◌∷◌, refl, sym, true, false}
 use Rattle.std.specs.Prelude.{codes}
 use Rattle.std.proofs.lemmas.Result.{IfOk-weaker}
 use Rattle.contract_parse.specs.Judgements.{bound_at}

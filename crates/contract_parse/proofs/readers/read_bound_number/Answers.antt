@@ -1,7 +1,7 @@
 use Rattle.std.proofs.lemmas.Int.{to_z-of_z}
 use mir.Syntax.{w128}
 use Rattle.contract_parse.proofs.NumberFacts.{fits_wide}
-use Rattle.std.proofs.Common.{◌≡◌, ◌∷◌, List, refl}
+use Rattle.std.proofs.Common.{◌∷◌, refl}
 use Rattle.contract_parse.specs.Judgements.{bound_at}
 use Rattle.contract_parse.specs.Places.{BoundNumber, Next, bound_places}
 use Rattle.contract_parse.specs.Reading.{tok_of}

@@ -1,4 +1,3 @@
-use Rattle.std.proofs.Common.{◌≡◌, ◌∷◌, List, refl}
 use Rattle.contract_parse.specs.Reading.{tok_of}
 use Rattle.contract_parse.proofs.Steps.{end_passes, end_refuses, end_spells}
 use Rattle.contract_parse.proofs.readers.read_end.Goals as goal

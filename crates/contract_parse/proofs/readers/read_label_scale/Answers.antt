@@ -1,4 +1,4 @@
-use Rattle.std.proofs.Common.{◌≡◌, ◌∷◌, List, refl}
+use Rattle.std.proofs.Common.{◌∷◌, refl}
 use Rattle.contract_parse.specs.Judgements.{integer_at}
 use Rattle.contract_parse.specs.Places.{ScaleAt, Next, range_places}
 use Rattle.contract_parse.specs.Reading.{tok_of}

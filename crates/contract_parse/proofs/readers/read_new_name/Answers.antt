@@ -1,4 +1,4 @@
-use Rattle.std.proofs.Common.{◌≡◌, ◌∷◌, ◌∙◌, List, Ok, refl, sym, ap}
+use Rattle.std.proofs.Common.{◌∙◌, Ok, refl, ap}
 use Rattle.std.specs.Str.{bytes_eq}
 use Rattle.std.proofs.lemmas.Map.Made.{is_some-lookup}
 use Rattle.contract_parse.specs.Judgements.{new_at}

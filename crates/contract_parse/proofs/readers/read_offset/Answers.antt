@@ -1,6 +1,6 @@
 use Rattle.std.proofs.lemmas.Int.{to_z-of_z}
 use Rattle.contract_parse.proofs.NumberFacts.{fits_small}
-use Rattle.std.proofs.Common.{w32, ◌≡◌, ◌∷◌, List, refl, sym, true, false}
+use Rattle.std.proofs.Common.{w32, ◌≡◌, ◌∷◌, refl, sym, true, false}
 use Rattle.std.specs.Prelude.{codes}
 use Rattle.std.proofs.lemmas.Result.{IfOk-weaker}
 use Rattle.contract_parse.specs.Judgements.{offset_at}

@@ -1,6 +1,6 @@
 use Rattle.std.proofs.lemmas.Int.{to_z-of_z}
 use Rattle.contract_parse.proofs.NumberFacts.{fits_small}
-use Rattle.std.proofs.Common.{w32, ◌≡◌, ◌∷◌, List, refl}
+use Rattle.std.proofs.Common.{w32, ◌∷◌, refl}
 use Rattle.contract_parse.specs.Judgements.{offset_at}
 use Rattle.contract_parse.specs.Places.{OffsetNumber, Next}
 use Rattle.contract_parse.specs.Reading.{tok_of}

@@ -1,6 +1,6 @@
 use Rattle.std.proofs.lemmas.Int.{to_z-of_z}
 use Rattle.contract_parse.proofs.NumberFacts.{fits_day}
-use Rattle.std.proofs.Common.{w64, ◌≡◌, ◌∷◌, List, refl}
+use Rattle.std.proofs.Common.{w64, ◌∷◌, refl}
 use Rattle.contract_parse.specs.Judgements.{origin_at}
 use Rattle.contract_parse.specs.Places.{OriginDate, Next}
 use Rattle.contract_parse.specs.Reading.{tok_of}

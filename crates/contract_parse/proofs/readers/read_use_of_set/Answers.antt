@@ -1,4 +1,4 @@
-use Rattle.std.proofs.Common.{◌≡◌, ◌∷◌, ◌∙◌, List, refl, sym}
+use Rattle.std.proofs.Common.{◌∷◌, ◌∙◌, refl, sym}
 use Rattle.contract_parse.specs.Judgements.{use_at}
 use Rattle.contract_parse.specs.Places.{UseOf, Next}
 use Rattle.contract_parse.specs.Reading.{tok_of}

@@ -1,4 +1,4 @@
-use Rattle.std.proofs.Common.{◌≡◌, ◌∷◌, List, refl}
+use Rattle.std.proofs.Common.{◌∷◌, refl}
 use Rattle.contract_parse.specs.Words.{is_the_mark}
 use Rattle.contract_parse.specs.Places.{TheMark, Next, Refuse}
 use Rattle.contract_parse.specs.Reading.{tok_of}

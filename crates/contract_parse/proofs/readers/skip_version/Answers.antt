@@ -1,4 +1,4 @@
-use Rattle.std.proofs.Common.{◌≡◌, ◌∷◌, List, refl}
+use Rattle.std.proofs.Common.{◌∷◌, refl}
 use Rattle.contract_parse.specs.Judgements.{is_version}
 use Rattle.contract_parse.specs.Places.{TheVersion, Next, Refuse}
 use Rattle.contract_parse.specs.Reading.{tok_of}

@@ -1,4 +1,4 @@
-use Rattle.std.proofs.Common.{◌≡◌, ◌<◌, ◌∙◌, List, ℕ, cond, [], ◌∷◌, false, length, sym, ap}
+use Rattle.std.proofs.Common.{◌∙◌, List, ℕ, cond, [], ◌∷◌, sym, ap}
 use Rattle.contract_parse.specs.Tokens.{Tok, is_last, tokens}
 use Rattle.contract_parse.proofs.TokenFacts.{tokens_next, shorter_pair}
 use Rattle.contract_parse.proofs.words.next.Goals as goal
