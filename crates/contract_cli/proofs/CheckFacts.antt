@@ -132,15 +132,16 @@ verdicts_more d name c rest so_far one all before middle after v vs = record {
   text = v.line ++ vs.text;
   lines = (v.line, vs.text, v.is_line, vs.lines, refl);
   appended = vs.appended ∙ ap (λ (t : List ℕ). t ++ vs.text) v.appended ∙ append_assoc before v.line vs.text;
-  decides =
-    ( (λ yes.
+  decides = (
+    (λ yes.
         let both = vs.decides.0 yes in
         let parts = and_parts so_far one both.0 in
-        (parts.0, All-cons (λ (entry : Name × Contract). IsAccepted d (at_defaults d entry.1)) (name, c) rest (v.decides.0 parts.1) both.1))
-    , (λ both.
+        (parts.0, All-cons (λ (entry : Name × Contract). IsAccepted d (at_defaults d entry.1)) (name, c) rest (v.decides.0 parts.1) both.1)),
+    (λ both.
         let P : Name × Contract → Type 0 = λ entry. IsAccepted d (at_defaults d entry.1) in
         let here = v.decides.1 (All-head P (name, c) rest both.1) in
-        vs.decides.1 (and_from so_far one both.0 here, All-tail P (name, c) rest both.1)) );
+        vs.decides.1 (and_from so_far one both.0 here, All-tail P (name, c) rest both.1)),
+  );
 }
 
 -- ---- the answer for the bytes of a portfolio

@@ -171,9 +171,10 @@ usage_by words edge s (answered a) = by (cause_is words edge.files s a.text a.ca
     by (usage e c) = ((λ none. inl e), (λ is. c.no_form))
     by (read_fault e c) = ((λ none. absurd (let h : command_of words ≡ Some c.asked = c.named in cc)), (λ is. absurd (let h : status.ReadFault ≡ status.Usage = sym e ∙ is in cc)))
     by (too_long e c) = ((λ none. absurd (let h : command_of words ≡ Some c.asked = c.named in cc)), (λ is. absurd (let h : status.TooLong ≡ status.Usage = sym e ∙ is in cc)))
-    by (answer c) =
-        ( (λ none. absurd (let h : command_of words ≡ Some (record { verb = c.verb; file = c.read.file }) = c.read.named in cc))
-        , (λ is. absurd (subst (λ (x : Status). Answers c.verb c.bytes x a.text) is c.answer)) )
+    by (answer c) = (
+      (λ none. absurd (let h : command_of words ≡ Some (record { verb = c.verb; file = c.read.file }) = c.read.named in cc)),
+      (λ is. absurd (subst (λ (x : Status). Answers c.verb c.bytes x a.text) is c.answer)),
+    )
 
 pub usage_is_exact : UsageIsExact
 usage_is_exact words edge s m calm = usage_by words edge s (settled words edge s m calm)
@@ -185,6 +186,7 @@ faults_have_causes words edge s asked m named = ((λ is. rose_of s is m), (λ is
     rose_of x is n =
         let a : Answered words edge status.ReadFault = subst (λ (y : Status). Meets words edge y) is n in
         subst (λ (y : Asked). Rose (edge.files.faults_before y.file) (edge.files.faults_after y.file)) (one_command words a.cause.asked asked a.cause.named named) a.cause.rose
+
     written_of : (x : Status) → x ≡ status.WriteFault → Meets words edge x → Rose edge.sink.faults_before edge.sink.faults_after
     written_of x is n = (subst (λ (y : Status). Meets words edge y) is n).written.0
 
@@ -246,11 +248,12 @@ by_line : (edge : Edge) (text line : List ℕ) → text ≡ line → WritesAll e
 by_line edge text line is w = subst (λ (t : List ℕ). WritesAll edge.sink t) is w
 
 pub refusals_write_their_line : RefusalsWriteTheirLine
-refusals_write_their_line words edge =
-    ( (λ m. by_line edge m.text (fault_text fault.Usage) m.cause.line m.written)
-    , (λ m. by_line edge m.text (fault_text (fault.Read 1)) m.cause.line m.written)
-    , (λ m. by_line edge m.text (fault_text (fault.TooLong 1)) m.cause.line m.written)
-    , (λ verb all r m. bad_line verb all (ends words edge status.BadText verb all m r)) )
+refusals_write_their_line words edge = (
+  (λ m. by_line edge m.text (fault_text fault.Usage) m.cause.line m.written),
+  (λ m. by_line edge m.text (fault_text (fault.Read 1)) m.cause.line m.written),
+  (λ m. by_line edge m.text (fault_text (fault.TooLong 1)) m.cause.line m.written),
+  (λ verb all r m. bad_line verb all (ends words edge status.BadText verb all m r)),
+)
   where
     bad_line : (verb : Verb) (all : List ℕ) → Ends words edge verb all status.BadText → (first : TextFault) × IsFault all first × WritesAll edge.sink (fault_text (fault.Text first))
     bad_line verb all (long e h) = absurd cc

@@ -21,8 +21,8 @@ at_defaults d c = instance (declared_numbers d) c
 -- the line of a named contract without names of templates
 pub data IsCheckLine (d : Declarations) (name : List ℕ) (c : Contract) (line : List ℕ) : Type 0 where
   accepted :
-    (facts : Facts) → IsAccepted d c → AreFacts d c facts → IsCausal d c
-    → line ≡ accepted_line d.amounts name facts.start facts.scale (pos facts.total) facts.horizon → IsCheckLine d name c line
+      (facts : Facts) → IsAccepted d c → AreFacts d c facts → IsCausal d c
+      → line ≡ accepted_line d.amounts name facts.start facts.scale (pos facts.total) facts.horizon → IsCheckLine d name c line
   refused : (rule : Rule) (node : ℕ) → IsRefusal d c rule node → line ≡ refused_line name rule node → IsCheckLine d name c line
 
 -- the lines of contracts, one after another

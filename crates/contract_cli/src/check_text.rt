@@ -13,7 +13,9 @@ use contract_check::{Facts, check};
 use decimal::NoMemory;
 use report::check_line;
 use std::alloc::Global;
-use term_core::{CheckErr, Contr, Decls, Name, Portfolio, RuleFault, Setting, defaults, instantiate};
+use term_core::{
+    CheckErr, Contr, Decls, Name, Portfolio, RuleFault, Setting, defaults, instantiate,
+};
 
 /// The verdicts on the contracts of a portfolio, a line each, and whether all of them are accepted.
 #[derive(Drop)]
