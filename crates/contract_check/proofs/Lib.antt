@@ -5,3 +5,4 @@ pub mod QuietDays
 pub mod CausalFlows
 pub mod HorizonFacts
 pub mod CheckFacts
+pub mod Granted

@@ -2,14 +2,19 @@
 
 ghost use Rattle.std.specs.Prelude.{◌≤◌, ◌<◌, ◌^◌};
 ghost use Rattle.term_core.specs.Declarations.{declarations};
+ghost use Rattle.term_core.specs.declared.rules.Rule.{Rule};
 ghost use Rattle.term_core.specs.Terms.{contract};
-ghost use Rattle.term_core.specs.Sizes.{height_of_contract, nodes_of_contract};
-ghost use Rattle.term_core.specs.WellFormed.{HasOnlyNumbers, IsClosed};
+ghost use Rattle.term_core.specs.Sizes.{nodes_of_contract, height_of_contract};
+ghost use Rattle.term_core.specs.WellFormed.{IsClosed, HasOnlyNumbers};
+ghost use Rattle.term_core.specs.Verdicts.{IsVerdict};
 ghost use Rattle.contract_check.specs.Checks.{IsChecked};
 
+use crate::horizons::horizon;
+use interval_check::bounds;
+use scale_check::{scales, sizes};
 use std::alloc::Global;
 use term_core::{CheckErr, Contr, Decls};
-use time_types::Start;
+use time_types::{Start, sorts, times};
 
 /// What is said of an accepted contract.
 #[derive(Clone, Copy, Debug, PartialEq, Eq)]
@@ -24,12 +29,42 @@ pub struct Facts {
     pub horizon: u32,
 }
 
-pub fn check(_alloc: Global, decls: &Decls, c: &Contr) -> Result<Facts, CheckErr>
+// Whether the rule on sizes holds everywhere in a contract. It asks nothing of the declarations.
+fn limited(_decls: &Decls, c: &Contr) -> Result<(), CheckErr>
+    requires low { height_of_contract (contract c.now) ≤ 1_000 }
+    requires small { nodes_of_contract (contract c.now) < 2 ^ 32 }
+    requires numbers { HasOnlyNumbers (contract c.now) }
+    ensures { IsVerdict (declarations _decls.now) Rule.Size (contract c.now) (λ _. Unit {0}) result }
+{
+    match sizes(c) {
+        Ok(_) => Ok(()),
+        Err(fault) => Err(CheckErr::Refused {
+            rule: fault.rule,
+            node: fault.node,
+        }),
+    }
+}
+
+/// Whether a contract is accepted, and what is said of it then. Where it is not, the answer has the first rule that
+/// fails and the first node at which it does. The rules are tried on sorts, times, scales, sizes and bounds, in this
+/// order.
+pub fn check(alloc: Global, decls: &Decls, c: &Contr) -> Result<Facts, CheckErr>
     requires closed { IsClosed (declarations decls.now) (contract c.now) }
     requires numbers { HasOnlyNumbers (contract c.now) }
     requires low { height_of_contract (contract c.now) ≤ 1_000 }
     requires small { nodes_of_contract (contract c.now) < 2 ^ 32 }
     ensures { IsChecked (declarations decls.now) (contract c.now) result }
 {
-    Err(CheckErr::NoMemory)
+    sorts(alloc, decls, c)?;
+    let start = times(alloc, decls, c)?;
+    let scale = scales(alloc, decls, c)?;
+    limited(decls, c)?;
+    let total = bounds(alloc, decls, c)?;
+    let horizon = horizon(c);
+    Ok(Facts {
+        start,
+        scale,
+        total,
+        horizon,
+    })
 }
