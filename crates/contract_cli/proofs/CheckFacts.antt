@@ -1,6 +1,6 @@
 -- The verdicts on contracts: what is asked before each is tried, and their lines one behind another.
-use Rattle.std.proofs.Common.{◌≡◌, ◌∙◌, ◌≤◌, ◌<◌, ◌^◌, ◌+◌, ℕ, zero, suc, Bool, true, false, ◌&&◌, IsTrue, List, [], ◌∷◌, ◌++◌, length, max, append_assoc, ap, arith, refl, subst, sym, unsigned_abs, pos}
-use Rattle.std.specs.Prelude.{All, IfOk, Result, Ok, Err, is_ok, ◌↔◌}
+use Rattle.std.proofs.Common.{◌≡◌, ◌∙◌, ◌≤◌, ◌<◌, ◌^◌, ℕ, Bool, true, false, ◌&&◌, List, [], ◌∷◌, ◌++◌, length, append_assoc, ap, arith, refl, subst, sym, unsigned_abs}
+use Rattle.std.specs.Prelude.{All, IfOk, Result, Ok, Err, is_ok}
 use Rattle.std.specs.List.{sum_by}
 use Rattle.std.proofs.lemmas.Bool.{and_parts, and_from}
 use Rattle.std.proofs.lemmas.List.{append-nil}
@@ -11,7 +11,7 @@ use Rattle.term_core.specs.declared.rules.RuleFault.{RuleFault}
 use Rattle.term_core.specs.Books.{Book}
 use Rattle.term_core.specs.Declarations.{Declarations}
 use Rattle.term_core.specs.Terms.{Contract, Zero, Pay, Both, Scale, After, Let, Within}
-use Rattle.term_core.specs.Sizes.{height, height_of_contract, nodes, nodes_of_contract}
+use Rattle.term_core.specs.Sizes.{height_of_contract, nodes_of_contract}
 use Rattle.term_core.specs.WellFormed.{HasOnlyNumbers, IsClosed}
 use Rattle.term_core.specs.Instances.{HasNumbers, declared_numbers, instance}
 use Rattle.term_core.specs.Sites.{EachDay}
@@ -29,7 +29,7 @@ use Rattle.contract_parse.proofs.TextClosed.{contracts_closed}
 use Rattle.contract_parse.proofs.TextSizes.{nodes_fit}
 use Rattle.report.specs.CheckLines.{accepted_line, verdict_line}
 use Rattle.time_types.specs.Starts.{start_day}
-use Rattle.contract_cli.specs.CheckText.{AreAllAccepted, AreCheckLines, IsCheckLine, accepted, refused, IsCheckText, at_defaults}
+use Rattle.contract_cli.specs.CheckText.{AreCheckLines, IsCheckLine, accepted, refused, IsCheckText, at_defaults}
 use Rattle.contract_cli.specs.Runs.{Answers}
 use Rattle.contract_cli.specs.declared.words.Verb.TheVariants.{Check}
 use Rattle.contract_cli.specs.declared.status.Status.TheVariants as status

@@ -12,7 +12,7 @@ use Rattle.contract_parse.specs.Texts.{Answers, Text}
 use Rattle.contract_parse.specs.declared.faults.ParseErr.{ParseErr}
 use Rattle.contract_parse.specs.declared.faults.ParseErr.TheVariants as parse
 use Rattle.contract_cli.specs.Plain.{IsPlain}
-use Rattle.contract_cli.specs.FlowsText.{AnswersAll, AnswersFlows, AnswersOne, AppendsAll, AppendsFlows, AppendsLines, AreAllLines, AreAllPlain, AreLines, last_day, stop_of}
+use Rattle.contract_cli.specs.FlowsText.{AnswersAll, AnswersFlows, AnswersOne, AppendsFlows, AppendsLines, AreAllLines, AreLines, last_day, stop_of}
 use Rattle.contract_cli.specs.declared.flows_text.Stop.{Stop}
 use Rattle.contract_cli.specs.declared.flows_text.Stop.TheVariants.{BadText, Refused, NoMemory}
 use Rattle.contract_cli.specs.declared.flow_table.FlowRow.{FlowRow}

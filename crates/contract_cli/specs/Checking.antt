@@ -1,6 +1,6 @@
 -- What the trial of contracts makes on the way: the line of each behind those before it, and whether all of them were
 -- accepted so far.
-use Rattle.std.specs.Prelude.{◌≡◌, ◌≤◌, ◌<◌, ◌^◌, ◌↔◌, ℕ, Bool, IsTrue, List, [], ◌++◌, Result, Ok, Err}
+use Rattle.std.specs.Prelude.{◌≡◌, ◌≤◌, ◌<◌, ◌^◌, ◌↔◌, ℕ, Bool, IsTrue, List, ◌++◌, Result, Ok, Err}
 use Rattle.term_core.specs.declared.name.Name.{Name}
 use Rattle.term_core.specs.declared.rules.RuleFault.{RuleFault}
 use Rattle.term_core.specs.Declarations.{Declarations}

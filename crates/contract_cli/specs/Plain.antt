@@ -2,9 +2,8 @@
 -- days. A literal has at most the portfolio's decimals and a mantissa of at most 10^18 in size, and on each path the
 -- delays add up to at most 100,000 days. Their flows need no fixing and no check.
 use Rattle.std.specs.Prelude.{ℕ, ℤ, ◌-◌, ◌^◌, Bool, true, false, ◌&&◌, nat_le, unsigned_abs, ◌≡◌}
-use Rattle.term_core.specs.declared.terms.Days.{Days}
-use Rattle.term_core.specs.declared.terms.Days.TheVariants.{Num as Count, Named}
-use Rattle.term_core.specs.Terms.{Expression, Lit, Contract, Zero, Pay, Both, Scale, After, Let, Within}
+use Rattle.term_core.specs.declared.terms.Days.TheVariants.{Num as Count}
+use Rattle.term_core.specs.Terms.{Lit, Contract, Zero, Pay, Both, Scale, After}
 
 abbrev pub is_plain_amount : ℕ → ℤ → ℕ → Bool
 is_plain_amount amounts m s = nat_le s amounts && nat_le (unsigned_abs m) (10 ^ 18)

@@ -1,15 +1,15 @@
 -- Laws of the causes of a run's status: which status comes exactly where, in the order of the refusals, and that a run
 -- with no cause to stop writes its whole text. An "exactly where" yields to want of memory, the one free answer, and
 -- to a failed write of the text.
-use Rattle.std.specs.Prelude.{◌≡◌, ◌≤◌, ◌<◌, ◌⊎◌, ℕ, List, Option, Some, None, length}
+use Rattle.std.specs.Prelude.{◌≡◌, ◌≤◌, ◌<◌, ◌⊎◌, ℕ, List, Some, None, length}
 use Rattle.edge_io.specs.Counts.{Rose}
 use Rattle.contract_parse.specs.Texts.{IsFault}
 use Rattle.contract_parse.specs.declared.faults.TextFault.{TextFault}
 use Rattle.report.specs.FaultLines.{fault_text}
 use Rattle.report.specs.declared.fault_lines.Fault.TheVariants as fault
-use Rattle.contract_cli.specs.FlowsText.{IsFlowsText, IsNoText, IsNotPlain}
-use Rattle.contract_cli.specs.CheckText.{IsAllAccepted, IsCheckText, IsSomeRefused}
-use Rattle.contract_cli.specs.Runs.{Edge, IsDoneText, IsRefusedText, Meets, Names, WritesAll, WritesNothing, longest_file}
+use Rattle.contract_cli.specs.FlowsText.{IsNoText, IsNotPlain}
+use Rattle.contract_cli.specs.CheckText.{IsCheckText, IsSomeRefused}
+use Rattle.contract_cli.specs.Runs.{Edge, IsDoneText, Meets, Names, WritesAll, WritesNothing, longest_file}
 use Rattle.contract_cli.specs.Words.{Asked, command_of}
 use Rattle.contract_cli.specs.declared.words.Verb.{Verb}
 use Rattle.contract_cli.specs.declared.words.Verb.TheVariants.{Check, Flows}

@@ -1,8 +1,5 @@
-use Rattle.std.proofs.Common.{sym, subst, ℕ}
 use Rattle.term_core.specs.Declarations.{declarations}
-use Rattle.term_core.specs.Terms.{Contract, contract}
-use Rattle.term_core.specs.Sizes.{height_of_contract, nodes_of_contract}
-use Rattle.term_core.specs.WellFormed.{HasOnlyNumbers, IsClosed}
+use Rattle.term_core.specs.Terms.{contract}
 use Rattle.contract_cli.proofs.CheckFacts.{sound_at}
 use Rattle.contract_cli.proofs.check_text.verdict.Goals as goal
 

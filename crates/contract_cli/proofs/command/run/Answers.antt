@@ -1,4 +1,3 @@
-use Rattle.std.proofs.Common.{rules}
 use Rattle.contract_cli.proofs.command.run.Goals as goal
 
 pub returns : goal.returns

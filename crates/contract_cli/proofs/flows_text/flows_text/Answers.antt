@@ -3,7 +3,7 @@ use Rattle.std.specs.Prelude.{ℕ, Result, Err}
 use Rattle.std.specs.Global.{Vec}
 use Rattle.std.proofs.lemmas.Result.{err_from_is_err_and}
 use Rattle.term_core.specs.Books.{book}
-use Rattle.contract_cli.specs.FlowsText.{AnswersFlows, stop_of}
+use Rattle.contract_cli.specs.FlowsText.{AnswersFlows}
 use Rattle.contract_cli.specs.declared.flows_text.Stop.{Stop}
 use Rattle.contract_parse.proofs.TextSizes.{payments_bounded}
 use Rattle.contract_cli.proofs.LineFacts.{flows_of_text, no_flows_of_text}
