@@ -141,6 +141,12 @@ pub fn is_closed(decls: &Decls, c: &Contr, depth: u32) -> bool
 
 pub const TRUE: Expr = Expr::Yes { value: true };
 
+pub const AA: Contr = Contr::Pay {
+    asset: 0,
+    from: 0,
+    to: 0,
+};
+
 pub const AB: Contr = Contr::Pay {
     asset: 0,
     from: 0,

@@ -1,8 +1,8 @@
 // The contracts of the tests.
 
 use super::fixtures::{
-    AB, BA, TRUE, acc, after, bind, both, div, greater, lit, now_or_never, num, obs, round, scale,
-    var,
+    AA, AB, BA, TRUE, acc, after, bind, both, div, greater, lit, now_or_never, num, obs, round,
+    scale, var,
 };
 use decimal::NoMemory;
 use std::alloc::Global;
@@ -43,20 +43,16 @@ impl Sample {
         match self {
             Sample::Loan => loan(alloc),
             Sample::Nothing => Ok(Contr::Zero),
-            Sample::ToItself => Ok(Contr::Pay {
-                asset: 0,
-                from: 0,
-                to: 0,
-            }),
+            Sample::ToItself => Ok(AA),
             Sample::Factor { offset } => scale(alloc, obs(offset), AB),
-            Sample::Unrounded => after(alloc, 1, scale(alloc, obs(0), AB)?),
-            Sample::Rounded => after(alloc, 1, scale(alloc, round(alloc, obs(0))?, AB)?),
+            Sample::Unrounded => unrounded(alloc),
+            Sample::Rounded => rounded(alloc),
             Sample::TruthFactor => scale(alloc, TRUE, AB),
             Sample::FixedLater { days } => fixed_later(alloc, days),
             Sample::Average => average(alloc),
-            Sample::Quotient => scale(alloc, div(alloc, lit(1, 0), obs(0))?, AB),
+            Sample::Quotient => quotient(alloc),
             Sample::Doubled { days } => doubled(alloc, days),
-            Sample::Delayed { days } => after(alloc, days, after(alloc, 1, AB)?),
+            Sample::Delayed { days } => delayed(alloc, days),
             Sample::CallOption => call_option(alloc),
         }
     }
@@ -66,6 +62,22 @@ fn loan(alloc: Global) -> Result<Contr, NoMemory> {
     let lent = scale(alloc, lit(10_000, 2), AB)?;
     let returned = after(alloc, 90, scale(alloc, lit(10_500, 2), BA)?)?;
     both(alloc, lent, returned)
+}
+
+fn unrounded(alloc: Global) -> Result<Contr, NoMemory> {
+    after(alloc, 1, scale(alloc, obs(0), AB)?)
+}
+
+fn rounded(alloc: Global) -> Result<Contr, NoMemory> {
+    after(alloc, 1, scale(alloc, round(alloc, obs(0))?, AB)?)
+}
+
+fn quotient(alloc: Global) -> Result<Contr, NoMemory> {
+    scale(alloc, div(alloc, lit(1, 0), obs(0))?, AB)
+}
+
+fn delayed(alloc: Global, days: u32) -> Result<Contr, NoMemory> {
+    after(alloc, days, after(alloc, 1, AB)?)
 }
 
 fn fixed_later(alloc: Global, days: u32) -> Result<Contr, NoMemory> {
