@@ -38,8 +38,8 @@ found kind (Some y) x e = cc
 use_within : (names : List Bytes) (t : Tok) (k : ℕ) → use_at names t ≡ Ok k → k < length names
 use_within names t k e = elim (cases_Bool (is_name t)) [
   | inl is ↦
-    let h : or_fault Unknown (place_in names t.text) ≡ Ok k = rw is at e in
-    (position-Some (λ name. bytes_eq t.text name) names k [] (found Unknown (place_in names t.text) k h)).0
+      let h : or_fault Unknown (place_in names t.text) ≡ Ok k = rw is at e in
+      (position-Some (λ name. bytes_eq t.text name) names k [] (found Unknown (place_in names t.text) k h)).0
   | inr other ↦ let h = rw other at e in absurd cc
 ]
 
@@ -52,19 +52,19 @@ back_within : (names : List Bytes) (name : Bytes) (k : ℕ) → back_to names na
 back_within [] name k e = absurd cc
 back_within (inner ∷ outer) name k e = elim (cases_Bool (bytes_eq inner name)) [
   | inl same ↦
-    let h : Some 0 ≡ Some k = rw same at e in
-    let at : k ≡ 0 = cc in
-    rw at (omega arith)
+      let h : Some 0 ≡ Some k = rw same at e in
+      let at : k ≡ 0 = cc in
+      rw at (omega arith)
   | inr other ↦
-    let h : option_map (λ (back : ℕ). suc back) (back_to outer name) ≡ Some k = rw other at e in
-    outward (back_to outer name) (length outer) k (λ back is. back_within outer name back is) h
+      let h : option_map (λ (back : ℕ). suc back) (back_to outer name) ≡ Some k = rw other at e in
+      outward (back_to outer name) (length outer) k (λ back is. back_within outer name back is) h
 ]
 
 variable_within : (names : List Bytes) (t : Tok) (k : ℕ) → variable_at names t ≡ Ok k → k < length names
 variable_within names t k e = elim (cases_Bool (is_name t)) [
   | inl is ↦
-    let h : or_fault Unknown (back_to names t.text) ≡ Ok k = rw is at e in
-    back_within names t.text k (found Unknown (back_to names t.text) k h)
+      let h : or_fault Unknown (back_to names t.text) ≡ Ok k = rw is at e in
+      back_within names t.text k (found Unknown (back_to names t.text) k h)
   | inr other ↦ let h = rw other at e in absurd cc
 ]
 
@@ -79,8 +79,8 @@ small most m n e = grind (arith, nat_tests)
 integer_within : (most : ℕ) (t : Tok) (n : ℕ) → integer_at most t ≡ Ok n → n ≤ most
 integer_within most t n e = elim (cases_Bool (is_integer t)) [
   | inl is ↦
-    let h : or_fault Number (up_to most (whole t)) ≡ Ok n = rw is at e in
-    small most (whole t) n (found Number (up_to most (whole t)) n h)
+      let h : or_fault Number (up_to most (whole t)) ≡ Ok n = rw is at e in
+      small most (whole t) n (found Number (up_to most (whole t)) n h)
   | inr other ↦ let h = rw other at e in absurd cc
 ]
 
@@ -100,13 +100,14 @@ days_within d contracts t (Count n) e = tt
 days_within d contracts t (Named i) e = elim (cases_Bool (is_integer t)) [
   | inl is ↦ let h : counted (up_to 100_000 (whole t)) ≡ Ok (Named i) = rw is at e in absurd (by_count (up_to 100_000 (whole t)) h)
   | inr other ↦
-    let h : named (use_at (scope_of d contracts).templates t) ≡ Ok (Named i) = rw other at e in
-    by_name (use_at (scope_of d contracts).templates t) refl h
+      let h : named (use_at (scope_of d contracts).templates t) ≡ Ok (Named i) = rw other at e in
+      by_name (use_at (scope_of d contracts).templates t) refl h
 ]
   where
     by_count : (o : Option ℕ) → counted o ≡ Ok (Named i) → ⊥
     by_count None h = cc
     by_count (Some m) h = cc
+
     by_name : (r : Result ℕ TextKind) → use_at (scope_of d contracts).templates t ≡ r → named r ≡ Ok (Named i) → i < length d.templates
     by_name (Err kind) is h = absurd cc
     by_name (Ok j) is h =
@@ -163,10 +164,11 @@ closed_contract : (d : Declarations) (c : Contract) → ContractIsClosed d c
 closed_contract d Zero cs ns ts rest x = tt
 closed_contract d (Pay a p q) cs ns ts rest x =
     let y = x.two.two in
-    let s = scope_of d cs in
-    ( by_value (use_at s.assets) a _ _ _ (λ t e. use_within s.assets t a e) y.one
-    , by_value (use_at s.parties) p _ _ _ (λ t e. use_within s.parties t p e) y.two.two.one
-    , by_value (use_at s.parties) q _ _ _ (λ t e. use_within s.parties t q e) y.two.two.two.two.one )
+    let s = scope_of d cs in (
+      by_value (use_at s.assets) a _ _ _ (λ t e. use_within s.assets t a e) y.one,
+      by_value (use_at s.parties) p _ _ _ (λ t e. use_within s.parties t p e) y.two.two.one,
+      by_value (use_at s.parties) q _ _ _ (λ t e. use_within s.parties t q e) y.two.two.two.two.one,
+    )
 closed_contract d (Both a b) cs ns ts rest x = (closed_contract d a cs ns _ _ x.two.two.one, closed_contract d b cs ns _ _ x.two.two.two.two.one)
 closed_contract d (Scale e c) cs ns ts rest x = (closed_expression d e cs ns _ _ x.two.two.one, closed_contract d c cs ns _ _ x.two.two.two.two.one)
 closed_contract d (After n c) cs ns ts rest x =
@@ -175,11 +177,12 @@ closed_contract d (Let e c) cs ns ts rest x =
     let y = x.spelled.two.two.two in
     (closed_expression d e cs ns _ _ y.one, under_contract d (length ns) c (closed_contract d c cs (x.name ∷ ns) _ _ y.two.two))
 closed_contract d (Within e n a b) cs ns ts rest x =
-    let y = x.two in
-    ( closed_expression d e cs ns _ _ y.one
-    , by_value (days_at (scope_of d cs).templates) n _ _ _ (λ t f. days_within d cs t n f) y.two.two.one
-    , closed_contract d a cs ns _ _ y.two.two.two.two.one
-    , closed_contract d b cs ns _ _ y.two.two.two.two.two.two )
+    let y = x.two in (
+      closed_expression d e cs ns _ _ y.one,
+      by_value (days_at (scope_of d cs).templates) n _ _ _ (λ t f. days_within d cs t n f) y.two.two.one,
+      closed_contract d a cs ns _ _ y.two.two.two.two.one,
+      closed_contract d b cs ns _ _ y.two.two.two.two.two.two,
+    )
 
 -- ---- the whole text
 

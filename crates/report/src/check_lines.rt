@@ -32,7 +32,7 @@ fn start_piece<'a>(start: Start) -> Piece<'a>
     ensures writable { IsWritable result }
 {
     match start {
-        Start::Always => Piece::Words { text: b"always" },
+        Start::Always => Piece::Words(b"always"),
         Start::Day { day } => Piece::Number {
             mantissa: day as i128,
             scale: 0,
@@ -66,35 +66,31 @@ pub fn check_line(
     ensures ok { OnOk result (out.new.items ≡ out.old.items ++ verdict_line decls.now.amounts name.now verdict.now) }
     ensures err { OnErr result (AppendsPart out.old.items (verdict_line decls.now.amounts name.now verdict.now) out.new.items) }
 {
-    let name = Piece::Words { text: name };
+    let name = Piece::Words(name);
     match verdict {
         Ok(facts) => {
             let pieces = [
                 name,
-                Piece::Words {
-                    text: b" accepted start ",
-                },
+                Piece::Words(b" accepted start "),
                 start_piece(facts.start),
-                Piece::Words { text: b" scale " },
+                Piece::Words(b" scale "),
                 whole(facts.scale as u32),
-                Piece::Words { text: b" total " },
+                Piece::Words(b" total "),
                 total_piece(decls, facts),
-                Piece::Words { text: b" horizon " },
+                Piece::Words(b" horizon "),
                 whole(facts.horizon),
-                Piece::Words { text: b"\n" },
+                Piece::Words(b"\n"),
             ];
             append(alloc, out, &pieces)
         }
         Err(fault) => {
             let pieces = [
                 name,
-                Piece::Words { text: b" refused " },
-                Piece::Words {
-                    text: rule_word(fault.rule),
-                },
-                Piece::Words { text: b" node " },
+                Piece::Words(b" refused "),
+                Piece::Words(rule_word(fault.rule)),
+                Piece::Words(b" node "),
                 whole(fault.node),
-                Piece::Words { text: b"\n" },
+                Piece::Words(b"\n"),
             ];
             append(alloc, out, &pieces)
         }

@@ -46,41 +46,24 @@ pub fn fault_line(alloc: Global, out: &mut Vec<u8>, fault: &Fault) -> Result<(),
     ensures ok { OnOk result (out.new.items ≡ out.old.items ++ fault_text fault.now) }
     ensures err { OnErr result (AppendsPart out.old.items (fault_text fault.now) out.new.items) }
 {
-    let line_feed = Piece::Words { text: b"\n" };
+    let line_feed = Piece::Words(b"\n");
     match fault {
-        Fault::Usage => append(
-            alloc,
-            out,
-            &[
-                Piece::Words {
-                    text: b"fault usage",
-                },
-                line_feed,
-            ],
-        ),
+        Fault::Usage => append(alloc, out, &[Piece::Words(b"fault usage"), line_feed]),
         Fault::Read { place } => {
-            let words = Piece::Words {
-                text: b"fault read ",
-            };
+            let words = Piece::Words(b"fault read ");
             append(alloc, out, &[words, whole(*place as u32), line_feed])
         }
         Fault::TooLong { place } => {
-            let words = Piece::Words {
-                text: b"fault too long ",
-            };
+            let words = Piece::Words(b"fault too long ");
             append(alloc, out, &[words, whole(*place as u32), line_feed])
         }
         Fault::Text(fault) => {
             let pieces = [
-                Piece::Words {
-                    text: b"fault text ",
-                },
-                Piece::Words {
-                    text: kind_word(fault.kind),
-                },
-                Piece::Words { text: b" line " },
+                Piece::Words(b"fault text "),
+                Piece::Words(kind_word(fault.kind)),
+                Piece::Words(b" line "),
                 whole(fault.line),
-                Piece::Words { text: b" column " },
+                Piece::Words(b" column "),
                 whole(fault.column),
                 line_feed,
             ];
@@ -88,15 +71,11 @@ pub fn fault_line(alloc: Global, out: &mut Vec<u8>, fault: &Fault) -> Result<(),
         }
         Fault::Refused { name, rule, node } => {
             let pieces = [
-                Piece::Words {
-                    text: b"fault refused ",
-                },
-                Piece::Words { text: name.text() },
-                Piece::Words { text: b" " },
-                Piece::Words {
-                    text: rule_word(*rule),
-                },
-                Piece::Words { text: b" node " },
+                Piece::Words(b"fault refused "),
+                Piece::Words(name.text()),
+                Piece::Words(b" "),
+                Piece::Words(rule_word(*rule)),
+                Piece::Words(b" node "),
                 whole(*node),
                 line_feed,
             ];

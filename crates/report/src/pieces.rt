@@ -11,7 +11,7 @@ use std::alloc::Global;
 /// A piece of a line: some words, or a number with its decimals.
 #[derive(Clone, Copy)]
 pub enum Piece<'a> {
-    Words { text: &'a [u8] },
+    Words(&'a [u8]),
     Number { mantissa: i128, scale: u8 },
 }
 
@@ -32,7 +32,7 @@ fn append_piece(alloc: Global, out: &mut Vec<u8>, piece: Piece<'_>) -> Result<()
     ensures err { OnErr result (AppendsPart out.old.items (piece_text piece.entry) out.new.items) }
 {
     match piece {
-        Piece::Words { text } => {
+        Piece::Words(text) => {
             out.extend_from_slice(text)?;
             Ok(())
         }
