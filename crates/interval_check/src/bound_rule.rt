@@ -3,7 +3,7 @@
 //! total, or the place of the node at fault counted from the contract's own first node; nodes before it are counted
 //! only on the way up from a fault, so that no part is visited more than twice.
 
-ghost use Rattle.std.specs.Prelude.{◌≡◌, ◌<◌, ◌≤◌, ◌+◌, ◌^◌, pos, [], IfErr, IfOk};
+ghost use Rattle.std.specs.Prelude.{◌≡◌, ◌<◌, ◌+◌, ◌^◌, pos, [], IfErr, IfOk};
 ghost use Rattle.term_core.specs.Declarations.{declarations};
 ghost use Rattle.term_core.specs.declared.rules.Rule.{Rule};
 ghost use Rattle.term_core.specs.Terms.{expression, contract, Scale, Let};
@@ -14,7 +14,6 @@ ghost use Rattle.term_core.specs.Acceptance.{Meets};
 ghost use Rattle.term_core.specs.Trying.{moved};
 ghost use Rattle.term_core.specs.Verdicts.{IsVerdict};
 ghost use Rattle.interval_check.specs.RangeScopes.{ranges_in};
-ghost use Rattle.interval_check.specs.RangeTrials.{range_tried, AreScaled};
 ghost use Rattle.interval_check.specs.Totals.{total, total_found, IsTotal};
 ghost use Rattle.interval_check.specs.TotalTrials.{total_tried, AreTotalsScaled};
 

@@ -1,8 +1,9 @@
 //! The ranges of expressions, by the rule on bounds. The trial of an expression answers its range, or the place of the
 //! node at fault counted from the expression's own first node; nodes before it are counted only on the way up from a
-//! fault, so that no part is visited more than twice.
+//! fault. So no part is visited more than twice, but for the body of an accumulator, which is tried anew for each day
+//! until a day changes nothing.
 
-ghost use Rattle.std.specs.Prelude.{◌≡◌, ◌<◌, ◌≤◌, ◌+◌, ◌^◌, ◌∷◌, IfErr, IfOk};
+ghost use Rattle.std.specs.Prelude.{◌≡◌, ◌<◌, ◌+◌, ◌^◌, ◌∷◌, IfErr, IfOk};
 ghost use Rattle.term_core.specs.Declarations.{declarations};
 ghost use Rattle.term_core.specs.Terms.{expression, Acc};
 ghost use Rattle.term_core.specs.Sizes.{nodes};
