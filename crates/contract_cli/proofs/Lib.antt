@@ -10,5 +10,6 @@ pub mod RowFacts
 pub mod TableFacts
 pub mod RunFacts
 pub mod CheckFacts
+pub mod OneCheckText
 pub mod PlainFlowFacts
 mod TableRows

@@ -77,3 +77,7 @@ abbrev pub RefusalsWriteTheirLine : Type 0
 RefusalsWriteTheirLine =
     (words : List (List ℕ)) (edge : Edge) → (Meets words edge status.Usage → WritesAll edge.sink (fault_text fault.Usage)) × (Meets words edge status.ReadFault → WritesAll edge.sink (fault_text (fault.Read 1))) × (Meets words edge status.TooLong → WritesAll edge.sink (fault_text (fault.TooLong 1)))
     × ((verb : Verb) (bytes : List ℕ) → IsRead words edge verb bytes → Meets words edge status.BadText → (first : TextFault) × IsFault bytes first × WritesAll edge.sink (fault_text (fault.Text first)))
+
+-- what `check` writes of a portfolio is one text
+abbrev pub CheckTextsAreOne : Type 0
+CheckTextsAreOne = (bytes one other : List ℕ) → IsCheckText bytes one → IsCheckText bytes other → one ≡ other

@@ -1,6 +1,6 @@
 //! Laws of the causes of a run's status. Each is the contract of a function that does nothing.
 
-ghost use Rattle.contract_cli.specs.RunLaws.{BadTextIsExact, CheckIsComplete, FaultsHaveCauses, RefusalsWriteTheirLine, RefusedIsExact, RunIsComplete, TooLongIsExact, UsageIsExact};
+ghost use Rattle.contract_cli.specs.RunLaws.{BadTextIsExact, CheckIsComplete, CheckTextsAreOne, FaultsHaveCauses, RefusalsWriteTheirLine, RefusedIsExact, RunIsComplete, TooLongIsExact, UsageIsExact};
 
 /// Usage comes exactly where the words are of no form, or memory is wanting, or the write of its line fails.
 pub fn usage_is_exact()
@@ -41,4 +41,9 @@ pub fn check_is_complete()
 /// A refusal of the words, of the file or of its text writes just its line.
 pub fn refusals_write_their_line()
     ensures { RefusalsWriteTheirLine }
+{}
+
+/// What `check` writes of a portfolio is one text: facts and refusals are unique.
+pub fn check_texts_are_one()
+    ensures { CheckTextsAreOne }
 {}
