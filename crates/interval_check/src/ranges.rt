@@ -1,7 +1,7 @@
 //! Ranges of expressions, and what each operator makes of those of its parts. Each answers the fault 0, the node
 //! itself, where an end point or an operand is no mantissa.
 
-ghost use Rattle.std.specs.Prelude.{◌≡◌, ◌≤◌, ◌+◌, IfErr, IfOk, IfSome, IsTrue};
+ghost use Rattle.std.specs.Prelude.{◌≡◌, ◌↔◌, ◌≤◌, ◌+◌, IfErr, IfOk, IfSome, IsTrue};
 ghost use Rattle.term_core.specs.declared.terms.NumOp.{NumOp};
 ghost use Rattle.term_core.specs.Kinds.{scale_of_kind, scale_of_op};
 ghost use Rattle.term_core.specs.Bounds.{aligned};
@@ -45,7 +45,7 @@ pub struct Operands {
 
 /// Whether two ranges are the same.
 pub fn is_same(a: Range, b: Range) -> bool
-    ensures { IsTrue result → a ≡ b }
+    ensures { IsTrue result ↔ a ≡ b }
 {
     a == b
 }

@@ -24,7 +24,7 @@ pub accumulated-returns-then-is_same-clause-range : goal.accumulated-returns-the
 accumulated-returns-then-is_same-clause-range t c =
     let step = day_tried (λ g. range_tried (declarations c.args.decls.now) (expression c.args.body.now) g) (ranges_in c.args.scope.now) in
     let same : step (range c.loop-day.so_far) ≡ Ok (range c.loop-day.so_far) =
-    sym c.in_ok-next.ensures.range ∙ ap (λ (x : Found). Ok (range x)) (c.if-is_same.ensures refl) in
+    sym c.in_ok-next.ensures.range ∙ ap (λ (x : Found). Ok (range x)) (c.if-is_same.ensures.0 refl) in
     sym (days_stay c.args.days c.loop-day._day step (range c.args.start) (range c.loop-day.so_far) (omega arith) c.loop-day.invariant.days same)
 
 pub range_of-combined-requires-clause-scale : goal.range_of-combined-requires-clause-scale
