@@ -5,3 +5,4 @@ pub mod RunReads
 pub mod FitFacts
 pub mod EvaluableFacts
 pub mod AnswerFacts
+pub mod PartFacts

@@ -8,6 +8,7 @@ use Rattle.term_core.specs.Terms.{Expression, Contract}
 use Rattle.term_core.specs.Environments.{Environment, Place, Extends}
 use Rattle.term_core.specs.Kinds.{kind_of}
 use Rattle.term_core.specs.Values.{Entry, kind_or, value_of}
+use Rattle.term_core.specs.LawsKinds.{IsOfKind}
 use Rattle.term_core.specs.Reads.{reads_of, first_unfixed}
 use Rattle.term_core.specs.Bounds.{Range}
 use Rattle.term_core.specs.Acceptance.{IsAccepted}
@@ -39,6 +40,10 @@ LacksFirstUnfixed d e bs fixings f r =
 pub record IsAnswer (d : Declarations) (e : Expression) (bs : List Binding) (fixings : Environment) (f : ℤ) (r : Result Value Missing) : Type 0 where
   pub value : IfOk r (λ v. IsValueEverywhere d e bs fixings f v)
   pub missing : LacksFirstUnfixed d e bs fixings f r
+
+-- a value is of the kind of e
+abbrev pub HasKind : Declarations → Expression → List Binding → Result Value Missing → Type 0
+HasKind d e bs r = IfOk r (λ v. IsOfKind (kind_or (kind_of d e (kinds_of bs))) v)
 
 abbrev pub held_of : Result Value Missing → Held
 held_of (Ok v) = Known v

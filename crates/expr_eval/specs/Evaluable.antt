@@ -48,3 +48,11 @@ pub record MayEvaluate (d : Declarations) (e : Expression) (bs : List Binding) :
   pub accepted : IsAccepted d contract
   pub stands : StandsIn d e ranges contract []
   pub entries : SuitAll ranges bs ⊎ NeedsNone d e bs
+
+-- a contract is an accepted one or a part of it, where names have these ranges, and the entries suit it
+pub record MayEvaluateIn (d : Declarations) (part : Contract) (bs : List Binding) : Type 0 where
+  pub contract : Contract
+  pub ranges : List Range
+  pub accepted : IsAccepted d contract
+  pub inside : (e : Expression) (inner : List Range) → StandsIn d e inner part ranges → StandsIn d e inner contract []
+  pub entries : SuitAll ranges bs

@@ -11,6 +11,6 @@ mod scratch;
 mod values;
 
 pub use kinds::kind_of;
-pub use laws::answers_may_be_entered;
+pub use laws::{answers_may_be_entered, parts_may_be_evaluated};
 pub use scratch::{Binding, Held, Scratch};
 pub use values::eval;

@@ -29,4 +29,4 @@ returns c =
     let d = declarations c.args.decls.now in
     let e = expression c.args.e.now in
     let p = subst (λ (r : Result Value Missing). Promised d e c.args.scratch.now.entries c.args.fixings.now c.args.day r) (sym c.without_kind.ensures) (found c) in
-    record { answer = p.answer; suits = p.suits; same = refl }
+    record { answer = p.answer; kind = p.kind; suits = p.suits; same = refl }
