@@ -15,3 +15,6 @@ pub use faults::{RowErr, RowFault, RowKind};
 pub use fixings::Fixings;
 pub use laws::tables_have_one_answer;
 pub use tables::read_fixings;
+
+#[cfg(test)]
+mod tests;
