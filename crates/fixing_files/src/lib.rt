@@ -13,7 +13,7 @@ mod values;
 pub use days::{DayFault, day_of_text};
 pub use faults::{RowErr, RowFault, RowKind};
 pub use fixings::Fixings;
-pub use laws::tables_have_one_answer;
+pub use laws::{mantissas_are_written, tables_have_one_answer};
 pub use tables::read_fixings;
 
 #[cfg(test)]
