@@ -48,9 +48,7 @@ impl Sample {
                 scaled(alloc, num(alloc, NumOp::Plus, obs(FX, 2), obs(FX, 1))?)
             }
             Sample::Tested { op } => scaled(alloc, tested(alloc, op)?),
-            Sample::Chosen => {
-                scaled(alloc, cond(alloc, obs(UP, 0), obs(FX, 0), obs(FX, 1))?)
-            }
+            Sample::Chosen => { scaled(alloc, cond(alloc, obs(UP, 0), obs(FX, 0), obs(FX, 1))?) }
             Sample::Named => named(alloc),
             Sample::Doubled => doubled(alloc, 60),
         }
@@ -75,12 +73,7 @@ fn sum_of_days(alloc: Global, days: u32) -> Result<Expr, NoMemory> {
 
 fn sum_of_sums(alloc: Global) -> Result<Expr, NoMemory> {
     let inner = sum_of_days(alloc, 2)?;
-    acc(
-        alloc,
-        num(alloc, NumOp::Plus, var(0), inner)?,
-        2,
-        lit(0, 4),
-    )
+    acc(alloc, num(alloc, NumOp::Plus, var(0), inner)?, 2, lit(0, 4))
 }
 
 fn tested(alloc: Global, op: LogicOp) -> Result<Expr, NoMemory> {
