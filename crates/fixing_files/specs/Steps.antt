@@ -18,7 +18,7 @@ use Rattle.fixing_files.specs.declared.faults.RowErr.TheVariants.{Row, NoMemory}
 use Rattle.fixing_files.specs.Fixed.{place_of}
 use Rattle.fixing_files.specs.declared.faults.Refusal.{Refusal}
 use Rattle.fixing_files.specs.declared.faults.Refusal.TheVariants.{Broken, NoMemory as LacksMemory}
-use Rattle.fixing_files.specs.declared.places.Spot.{Spot}
+use Rattle.fixing_files.specs.declared.places.Place.{Place as Spot}
 use Rattle.fixing_files.specs.declared.places.Fixed.{Fixed}
 
 -- what stands at a place
