@@ -6,7 +6,7 @@ ghost use Rattle.term_core.specs.Declarations.{declarations};
 ghost use Rattle.term_core.specs.Environments.{label_of};
 ghost use Rattle.term_core.specs.Limits.{is_label, is_origin};
 ghost use Rattle.fixing_files.specs.Records.{day_said, label_named, said};
-ghost use Rattle.fixing_files.specs.Steps.{Says, is_header, three_of};
+ghost use Rattle.fixing_files.specs.Steps.{Tells, is_header, three_of};
 
 use crate::days::day_of_text;
 use crate::faults::{Refusal, RowKind};
@@ -74,7 +74,7 @@ pub fn entry_of(
     decls: &Decls,
     record: &ByteRecord,
 ) -> Result<(Place, Value), Refusal>
-    ensures { Says (said (declarations decls.now) (fields_of «record».now)) result }
+    ensures { Tells (said (declarations decls.now) (fields_of «record».now)) result }
 {
     let Some((name, day, value)) = three(record) else {
         return Err(Refusal::Broken(RowKind::Shape));

@@ -59,8 +59,10 @@ fn take(
     }
 }
 
-/// The fixings of a table: a header `label,day,value`, and a record for each value. `Row` says which record is the first
-/// that breaks a rule, by its number from 1, the header included. Two records may say the same of one place.
+/// The fixings of a table of at most 16,777,216 bytes: a header `label,day,value`, and then a record for each value, of a
+/// declared label on a day of the portfolio or a date. A number has at most as many decimals as its label and lies within
+/// its bounds. Two records may say the same of one place. `Row` names the first record that breaks a rule, by its number
+/// from 1, the header included.
 pub fn read_fixings(alloc: Global, bytes: &[u8], decls: &Decls) -> Result<Fixings, RowErr>
     requires { length bytes.now ≤ 16_777_216 }
     ensures answer { Answers (declarations decls.now) (table_of bytes.now) result }
