@@ -1,0 +1,10 @@
+pub mod NettingFacts
+pub mod SlotFacts
+pub mod SumFacts
+pub mod SortFacts
+pub mod RowFacts
+pub mod TableFacts
+pub mod Products
+pub mod PaidFacts
+pub mod PaymentFacts
+pub mod PaymentSums
