@@ -8,3 +8,4 @@ pub mod Products
 pub mod PaidFacts
 pub mod PaymentFacts
 pub mod PaymentSums
+pub mod PaymentSizes

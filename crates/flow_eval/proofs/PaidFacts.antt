@@ -1,24 +1,17 @@
 -- What one payment comes to at a slot.
-use Rattle.std.proofs.Common.{◌≡◌, ℕ, zero, suc, ℤ, pos, negsuc, ◌+ℤ◌, ◌-ℤ◌, ◌*ℤ◌, neg_ℤ, ◌<ℤ◌, ◌≤ℤ◌, ◌≤◌, ◌<◌, ◌+◌, ◌-◌, ◌*◌, ◌^◌, min, max, Bool, true, false, ◌&&◌, ◌||◌, not, ◌==◌, nat_le, nat_lt, int_lt, if◌then◌else◌, refl, ap, sym, ◌∙◌, inl, inr, [], ◌∷◌, mul_assoc, arith}
-use Rattle.std.proofs.Math.IntN.{*ℤ_comm, zero-*ℤ, *ℤ-zero, *ℤ-one, one, +ℤ_idr, suc_ℤ-*ℤ}
-use Rattle.std.proofs.lemmas.Nat.{pow-add}
+use Rattle.std.proofs.Common.{◌≡◌, ℕ, ℤ, pos, negsuc, ◌-ℤ◌, ◌*ℤ◌, neg_ℤ, ◌<ℤ◌, ◌≤ℤ◌, ◌≤◌, ◌<◌, min, max, Bool, true, false, ◌&&◌, ◌||◌, not, ◌==◌, nat_lt, int_lt, if◌then◌else◌, refl, ap, sym, ◌∙◌, inl, inr, [], ◌∷◌, arith}
+use Rattle.std.proofs.Math.IntN.{*ℤ-zero, *ℤ-one, one, +ℤ_idr}
 use Rattle.std.specs.Ordering.{int_eq}
 use Rattle.std.proofs.lemmas.Int.{ints}
 use Rattle.std.proofs.lemmas.Bool.Decides.{nat_tests, Decides-int_eq, Decides-like, same_from_decides}
 use Rattle.std.proofs.lemmas.Bool.{cases_lt}
-use Rattle.decimal.specs.Rounding.{raised}
-use Rattle.term_core.specs.Declarations.{Declarations}
-use Rattle.term_core.specs.declared.terms.Days.TheVariants.{Num as Count}
-use Rattle.term_core.specs.Terms.{Lit, Contract, Zero, Pay, Both, Scale, After}
-use Rattle.term_core.specs.Environments.{Environment}
-use Rattle.term_core.specs.Flows.{Flow, flow_of, amount_of, unit_flow, on_day_zero, scale_of_contract}
+use Rattle.term_core.specs.Flows.{Flow, unit_flow, on_day_zero}
 use Rattle.term_core.proofs.FlowFacts.{mul-neg}
 use Rattle.flow_eval.specs.declared.flow_table.Slot.{Slot}
 use Rattle.flow_eval.specs.declared.payments.Payment.{Payment}
 use Rattle.flow_eval.specs.declared.payments.Transfer.{Transfer}
-use Rattle.flow_eval.specs.Payments.{paid, paid_scaled, payment_on, payments_of, transfer_of}
-use Rattle.flow_eval.proofs.SumFacts.{share, sum_at, sum_at-append}
-use Rattle.flow_eval.proofs.Products.{mul-neg, times_one, times_none, times_minus_one}
+use Rattle.flow_eval.specs.Payments.{paid, payment_on}
+use Rattle.flow_eval.proofs.SumFacts.{share, sum_at}
 
 -- from the lower party to the higher one
 abbrev pub flow_at : Slot → Flow

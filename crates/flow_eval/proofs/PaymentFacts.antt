@@ -1,6 +1,6 @@
 -- The payments of a contract fall on the days from its own to the last, between two parties in order, and are no more
 -- than its nodes; there are some exactly where something is transferred.
-use Rattle.std.proofs.Common.{◌≡◌, ℕ, ℤ, pos, ◌+ℤ◌, ◌-ℤ◌, ◌*ℤ◌, ◌≤ℤ◌, ◌≤◌, ◌<◌, ◌+◌, ◌-◌, min, max, Bool, true, false, ◌&&◌, ◌||◌, not, ◌==◌, int_lt, if◌then◌else◌, List, [], ◌∷◌, ◌++◌, map, length, length-append, Option, Some, None, refl, ap, sym, ◌∙◌, arith}
+use Rattle.std.proofs.Common.{◌≡◌, ℕ, ℤ, pos, ◌+ℤ◌, ◌-ℤ◌, ◌≤ℤ◌, ◌≤◌, ◌<◌, ◌+◌, ◌-◌, min, max, Bool, true, false, ◌&&◌, ◌||◌, not, ◌==◌, int_lt, if◌then◌else◌, List, [], ◌∷◌, ◌++◌, length, length-append, Option, Some, None, refl, ap, ◌∙◌, arith}
 use Rattle.std.specs.List.{All}
 use Rattle.std.proofs.lemmas.Int.{ints}
 use Rattle.std.proofs.lemmas.Bool.Decides.{nat_tests}
@@ -17,7 +17,7 @@ use Rattle.term_core.specs.Reads.{live}
 use Rattle.term_core.specs.Sizes.{nodes, nodes_of_contract}
 use Rattle.flow_eval.specs.declared.flow_table.Slot.{Slot}
 use Rattle.flow_eval.specs.declared.payments.Payment.{Payment}
-use Rattle.flow_eval.specs.Payments.{multiplied, paid, payment_on, payments_of, some_paid, times}
+use Rattle.flow_eval.specs.Payments.{multiplied, payment_on, payments_of, some_paid, times}
 
 -- ---- where they stand
 
@@ -68,7 +68,7 @@ one_at_most : (t : Bool) (p : Payment) → length (if t then [] else p ∷ []) �
 one_at_most true p = omega arith
 one_at_most false p = omega arith
 
-branch_few : (o : Option ℕ) (hit : ℕ → List Payment) (miss : List Payment) (most : ℕ) → ((k : ℕ) → length (hit k) ≤ most) → length miss ≤ most → length (elim o [ Some k ↦ hit k | None ↦ miss ]) ≤ most
+branch_few : (o : Option ℕ) (hit : ℕ → List Payment) (miss : List Payment) (most : ℕ) → ((k : ℕ) → length (hit k) ≤ most) → length miss ≤ most → length {A = Payment} (elim o [ Some k ↦ hit k | None ↦ miss ]) ≤ most
 branch_few (Some k) hit miss most one other = one k
 branch_few None hit miss most one other = other
 
@@ -148,7 +148,7 @@ payments_live d env last (Within e n one other) g room f a b h i =
     (payments_live d env last other g room (f +ℤ pos (count_of n)) (a -ℤ pos (count_of n)) (b -ℤ pos (count_of n)) (lower a (count_of n) h) (shorter last f b (count_of n) i))
 
 -- there are none after the last day
-branch_none : (o : Option ℕ) (hit : ℕ → List Payment) (miss : List Payment) → ((k : ℕ) → hit k ≡ []) → miss ≡ [] → (elim o [ Some k ↦ hit k | None ↦ miss ]) ≡ []
+branch_none : (o : Option ℕ) (hit : ℕ → List Payment) (miss : List Payment) → ((k : ℕ) → hit k ≡ []) → miss ≡ [] → ◌≡◌ {A = List Payment} (elim o [ Some k ↦ hit k | None ↦ miss ]) []
 branch_none (Some k) hit miss one other = one k
 branch_none None hit miss one other = other
 

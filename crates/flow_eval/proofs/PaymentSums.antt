@@ -1,5 +1,5 @@
 -- What the payments of a contract come to at a slot is what the contract pays by the model.
-use Rattle.std.proofs.Common.{◌≡◌, ℕ, ℤ, pos, neg_ℤ, ◌+ℤ◌, ◌-ℤ◌, ◌*ℤ◌, ◌≤ℤ◌, ◌≤◌, ◌<◌, ◌+◌, ◌-◌, ◌^◌, max, true, false, if◌then◌else◌, Bool, List, [], ◌∷◌, ◌++◌, Option, Some, None, refl, ap, sym, ◌∙◌, arith}
+use Rattle.std.proofs.Common.{◌≡◌, ℕ, ℤ, pos, neg_ℤ, ◌+ℤ◌, ◌-ℤ◌, ◌*ℤ◌, ◌≤ℤ◌, ◌≤◌, ◌<◌, ◌+◌, ◌-◌, ◌^◌, max, true, false, if◌then◌else◌, Bool, List, [], ◌∷◌, Option, Some, None, refl, ap, sym, ◌∙◌, arith}
 use Rattle.std.proofs.Math.IntN.{*ℤ_comm, zero-*ℤ, *ℤ-zero}
 use Rattle.std.proofs.lemmas.Int.{ints}
 use Rattle.decimal.specs.Rounding.{raised}
@@ -12,11 +12,11 @@ use Rattle.term_core.specs.Flows.{count_of, flow_of, scale_of_contract, unit_flo
 use Rattle.flow_eval.specs.declared.flow_table.Slot.{Slot}
 use Rattle.flow_eval.specs.declared.payments.Payment.{Payment}
 use Rattle.flow_eval.specs.Netting.{same_slot}
-use Rattle.flow_eval.specs.Payments.{multiplied, payments_of, times}
+use Rattle.flow_eval.specs.Payments.{multiplied, payments_of}
 use Rattle.flow_eval.proofs.SumFacts.{share, sum_at, sum_at-append}
 use Rattle.term_core.proofs.FlowFacts.{mul-neg}
-use Rattle.flow_eval.proofs.Products.{by_sign, mul-swap, parts_raised, raised-raised, sum-mul, times_one}
-use Rattle.flow_eval.proofs.PaidFacts.{flow_at, sum_at-paid}
+use Rattle.flow_eval.proofs.Products.{by_sign, mul-swap, parts_raised, raised-raised, sum-mul}
+use Rattle.flow_eval.proofs.PaidFacts.{flow_at, times_one, sum_at-paid}
 
 share_by : (b : Bool) (x v : ℤ) → (if b then x *ℤ v else pos 0) ≡ (if b then x else pos 0) *ℤ v
 share_by true x v = refl

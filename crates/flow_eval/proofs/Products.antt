@@ -1,11 +1,8 @@
 -- Products of whole numbers, and numbers at more decimals.
-use Rattle.std.proofs.Common.{◌≡◌, ℕ, zero, suc, ℤ, pos, negsuc, ◌+ℤ◌, ◌-ℤ◌, ◌*ℤ◌, neg_ℤ, ◌<ℤ◌, ◌≤ℤ◌, ◌≤◌, ◌<◌, ◌+◌, ◌-◌, ◌*◌, ◌^◌, min, max, Bool, true, false, ◌&&◌, ◌||◌, not, ◌==◌, nat_le, nat_lt, int_lt, if◌then◌else◌, refl, ap, sym, ◌∙◌, inl, inr, [], ◌∷◌, mul_assoc, arith}
-use Rattle.std.proofs.Math.IntN.{*ℤ_comm, zero-*ℤ, *ℤ-zero, *ℤ-one, one, +ℤ_idr, suc_ℤ-*ℤ}
+use Rattle.std.proofs.Common.{◌≡◌, ℕ, zero, suc, ℤ, pos, negsuc, ◌+ℤ◌, ◌*ℤ◌, neg_ℤ, ◌≤◌, ◌+◌, ◌-◌, ◌*◌, ◌^◌, max, ap, sym, ◌∙◌, mul_assoc, arith}
+use Rattle.std.proofs.Math.IntN.{*ℤ_comm, *ℤ-zero, suc_ℤ-*ℤ}
 use Rattle.std.proofs.lemmas.Nat.{pow-add}
-use Rattle.std.specs.Ordering.{int_eq}
 use Rattle.std.proofs.lemmas.Int.{ints}
-use Rattle.std.proofs.lemmas.Bool.Decides.{nat_tests, Decides-int_eq, Decides-like, same_from_decides}
-use Rattle.std.proofs.lemmas.Bool.{cases_lt}
 use Rattle.decimal.specs.Rounding.{raised}
 use Rattle.term_core.proofs.FlowFacts.{mul-neg}
 
