@@ -9,3 +9,4 @@ pub mod PaidFacts
 pub mod PaymentFacts
 pub mod PaymentSums
 pub mod PaymentSizes
+pub mod WalkFacts

@@ -1,3 +1,4 @@
 pub mod Tables
 pub mod Netting
 pub mod Payments
+pub mod Walks
