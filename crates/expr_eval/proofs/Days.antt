@@ -1,0 +1,35 @@
+-- The days of an accumulator, one after another.
+use Rattle.std.proofs.Common.{◌≡◌, ℕ, zero, suc, ◌+◌, ◌<◌, ◌-◌, ℤ, ◌-ℤ◌, arith, refl, ap, ◌∙◌, Ok, Err, add-one, List, pos}
+use Rattle.term_core.specs.declared.values.Missing.{Missing}
+use Rattle.term_core.specs.Declarations.{Declarations}
+use Rattle.term_core.specs.Terms.{Expression, Acc}
+use Rattle.term_core.specs.Environments.{Environment}
+use Rattle.expr_eval.specs.declared.scratch.Binding.{Binding}
+use Rattle.expr_eval.specs.declared.operations.Typed.{Typed}
+use Rattle.expr_eval.specs.Runs.{Answer, then_do, days_tried, days_run, run_of}
+
+-- a start that lacks a value
+pub days_tried-err : (n : ℕ) (step : ℕ → Typed → Answer) (m : Missing) → days_tried n step (Err m) ≡ Err m
+days_tried-err zero step m = refl
+days_tried-err (suc n) step m = ap (λ a. then_do a (step (suc n))) (days_tried-err n step m)
+
+-- one more day
+pub days_tried-more : (n : ℕ) (step : ℕ → Typed → Answer) (a : Answer) (v : Typed) → days_tried n step a ≡ Ok v → days_tried (n + 1) step a ≡ step (n + 1) v
+days_tried-more n step a v e = rw add-one (ap (λ b. then_do b (step (suc n))) e)
+
+-- a day that lacks a value ends it
+days_tried-stay : (k n : ℕ) (step : ℕ → Typed → Answer) (a : Answer) (m : Missing) → days_tried n step a ≡ Err m → (j : ℕ) → j ≡ k + n → days_tried j step a ≡ Err m
+days_tried-stay zero n step a m e j h = let i : j ≡ n = omega arith in rw i e
+days_tried-stay (suc k) n step a m e j h =
+    let i : j ≡ suc (k + n) = omega arith in
+    rw i (ap (λ b. then_do b (step (suc (k + n)))) (days_tried-stay k n step a m e (k + n) refl))
+
+pub days_tried-stop : (i n : ℕ) (step : ℕ → Typed → Answer) (a : Answer) (v : Typed) (m : Missing) → i < n → days_tried i step a ≡ Ok v → step (i + 1) v ≡ Err m → days_tried n step a ≡ Err m
+days_tried-stop i n step a v m h e f =
+    days_tried-stay (n - (i + 1)) (i + 1) step a m (days_tried-more i step a v e ∙ f) n (omega arith)
+
+-- an accumulator by its parts
+pub acc_is : (d : Declarations) (body : Expression) (n : ℕ) (first : Expression) (g : List Binding) (env : Environment) (f from : ℤ) (start r : Answer) → r ≡ days_run d body g env from n start → from ≡ f -ℤ pos n → start ≡ run_of d first g env from → r ≡ run_of d (Acc body n first) g env f
+acc_is d body n first g env f from start r e a s =
+    e ∙ ap (λ (x : ℤ). days_run d body g env x n start) a
+    ∙ ap (λ (x : Answer). days_run d body g env (f -ℤ pos n) n x) (s ∙ ap (λ (x : ℤ). run_of d first g env x) a)

@@ -1,0 +1,55 @@
+use Rattle.std.proofs.Common.{rules, arith, ◌≡◌, sym, ap, subst, ◌∙◌, Ok, ℤ, pos, ◌-ℤ◌, FitsSigned, w64}
+use Rattle.std.proofs.lemmas.Int.{to_z-of_z}
+use Rattle.term_core.specs.declared.terms.Expr.{Expr}
+use Rattle.term_core.specs.Declarations.{declarations}
+use Rattle.term_core.specs.Terms.{expression, Div}
+use Rattle.expr_eval.specs.Scopes.{bindings}
+use Rattle.expr_eval.specs.Runs.{days_run, run_of, both_of}
+use Rattle.expr_eval.specs.Fits.{Fits}
+use Rattle.expr_eval.specs.Operations.{DividesTo}
+use Rattle.expr_eval.proofs.Days.{days_tried-err, days_tried-stop, acc_is}
+use Rattle.expr_eval.proofs.Operands.{of_both}
+use Rattle.expr_eval.proofs.evaluation.+evaluation.Goals as goal
+
+pub evaluate_days-returns-in_err-value : goal.evaluate_days-returns-in_err-value
+evaluate_days-returns-in_err-value t c = grind (arith, days_tried-err)
+
+pub evaluate_days-returns-in_err-value-2 : goal.evaluate_days-returns-in_err-value-2
+evaluate_days-returns-in_err-value-2 t c = grind (arith, to_z-of_z, days_tried-stop)
+
+pub evaluate-divide-requires : goal.evaluate-divide-requires
+evaluate-divide-requires t c =
+    let d = declarations c.args.decls.now in
+    let g = bindings c.args.scope.now in
+    let env = c.args.fixings.now in
+    let f = c.args.day in
+    let s = c.in-Div.scale in
+    let a = expression c.in-Div.top.value in
+    let b = expression c.in-Div.below.value in
+    let h : Fits d (Div c.in-Div.mode s a b) g env f = subst (λ (x : Expr). Fits d (expression x) g env f) c.in-Div.is c.requires in
+    let e : both_of (run_of d a g env f) (run_of d b g env f) ≡ Ok c.in_ok-both-in-Div.both = search rules in
+    of_both (run_of d a g env f) (run_of d b g env f) (DividesTo s) c.in_ok-both-in-Div.both h.2 e
+
+pub evaluate-returns-in-Acc : goal.evaluate-returns-in-Acc
+evaluate-returns-in-Acc t c =
+    let d = declarations c.args.decls.now in
+    let g = bindings c.args.scope.now in
+    let env = c.args.fixings.now in
+    let f = c.args.day in
+    let n = c.in-Acc.days in
+    let body = expression c.in-Acc.body.value in
+    let first = expression c.in-Acc.first.value in
+    let fits : FitsSigned w64 c.day_before-from.result = search rules in
+    let rf : FitsSigned w64 f = c.ranges.day in
+    let a : c.day_before-from.result ≡ f -ℤ pos n = simp to_z-of_z at c.day_before-from.ensures in
+    let z = to_z-of_z w64 c.day_before-from.result fits in
+    let s : c.evaluate-start.result ≡ run_of d first g env c.day_before-from.result =
+    c.evaluate-start.ensures
+    ∙ ap (λ (x : ℤ). run_of d (expression c.deref-in-Acc.result.now) g env x) z
+    ∙ ap (λ (x : Expr). run_of d (expression x) g env c.day_before-from.result) c.deref-in-Acc.ensures in
+    let e : c.evaluate_days.result ≡ days_run d body g env c.day_before-from.result n c.evaluate-start.result =
+    c.evaluate_days.ensures
+    ∙ ap (λ (x : ℤ). days_run d (expression c.deref-in-Acc-2.result.now) g env x n c.evaluate-start.result) z
+    ∙ ap (λ (x : Expr). days_run d (expression x) g env c.day_before-from.result n c.evaluate-start.result) c.deref-in-Acc-2.ensures in
+    acc_is d body n first g env f c.day_before-from.result c.evaluate-start.result c.evaluate_days.result e a s
+    ∙ ap (λ (x : Expr). run_of d (expression x) g env f) (sym c.in-Acc.is)

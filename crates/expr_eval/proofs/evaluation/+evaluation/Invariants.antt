@@ -1,0 +1,29 @@
+use Rattle.std.proofs.Common.{◌≡◌, ◌+◌, ◌*◌, max, Ok}
+use Rattle.term_core.specs.declared.terms.Expr.{size-Expr}
+use Rattle.term_core.specs.Declarations.{declarations}
+use Rattle.term_core.specs.Terms.{expression}
+use Rattle.expr_eval.specs.Scopes.{bindings}
+use Rattle.expr_eval.specs.Runs.{days_run}
+use Rattle.expr_eval.proofs.evaluation.+evaluation.Given as goal
+
+abbrev pub decreases-evaluate : goal.decreases-evaluate
+decreases-evaluate l = 3 * size-Expr l.e.now
+
+abbrev pub decreases-evaluate_both : goal.decreases-evaluate_both
+decreases-evaluate_both l = 3 * max (size-Expr l.left.now) (size-Expr l.right.now) + 1
+
+abbrev pub decreases-evaluate_logic : goal.decreases-evaluate_logic
+decreases-evaluate_logic l = 3 * max (size-Expr l.left.now) (size-Expr l.right.now) + 1
+
+abbrev pub decreases-evaluate_branches : goal.decreases-evaluate_branches
+decreases-evaluate_branches l = 3 * max (size-Expr l.test.now) (max (size-Expr l.yes.now) (size-Expr l.no.now)) + 1
+
+abbrev pub decreases-evaluate_days : goal.decreases-evaluate_days
+decreases-evaluate_days l = 3 * size-Expr l.body.now + 2
+
+abbrev pub decreases-evaluate_day : goal.decreases-evaluate_day
+decreases-evaluate_day l = 3 * size-Expr l.body.now + 1
+
+abbrev pub invariant-evaluate_days-loop-i : goal.invariant-evaluate_days-loop-i
+invariant-evaluate_days-loop-i l =
+    days_run (declarations l.decls) (expression l.body) (bindings l.scope) l.fixings l.from l.i l.fn.start ≡ Ok l.value

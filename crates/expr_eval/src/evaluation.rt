@@ -1,0 +1,264 @@
+//! The evaluator: values with their kinds, or the first place that is not fixed.
+
+ghost use Rattle.std.specs.Prelude.{◌≡◌, ◌≤◌, ◌^◌, ◌+◌, ◌+ℤ◌, ◌-ℤ◌, pos, slice_get};
+ghost use Rattle.term_core.specs.Declarations.{declarations};
+ghost use Rattle.term_core.specs.Terms.{expression};
+ghost use Rattle.term_core.specs.Environments.{held, label_of};
+ghost use Rattle.term_core.specs.Kinds.{kind_of_label};
+ghost use Rattle.term_core.specs.Values.{kind_or};
+ghost use Rattle.expr_eval.specs.Rooms.{kinds_of};
+ghost use Rattle.expr_eval.specs.Scopes.{bindings};
+ghost use Rattle.expr_eval.specs.SortedKinds.{sorted_kind, KindFits};
+ghost use Rattle.expr_eval.specs.Operations as made;
+ghost use Rattle.expr_eval.specs.Operations.{FitsKind};
+ghost use Rattle.expr_eval.specs.Runs.{run_of, of_binding, of_place, both_of, of_sides, of_branches, day_run, days_run};
+ghost use Rattle.expr_eval.specs.Fits.{Fits, OnValue, IsDay, DayFitsIn, DaysFitIn};
+
+use crate::kinds::{kind_in, kind_observed};
+use crate::operations::{
+    Operands, Typed, at_kind, combine, compare, divide, is_decided, is_true, kind_of_either,
+    negate, number, round, verdict,
+};
+use crate::scopes::{Scope, binding_at};
+use crate::scratch::{Binding, Held};
+use fixing_files::Fixings;
+use term_core::{Decls, Expr, Kind, LogicOp, Missing};
+
+// The value of the name that is bound `back` binders further out than the innermost.
+fn value_bound(scope: &Scope, back: u32) -> Result<Typed, Missing>
+    ensures { result ≡ of_binding (slice_get (bindings scope.now) back) }
+{
+    match binding_at(scope, back) {
+        Some(binding) => match binding.held {
+            Held::Known { value } => Ok(Typed {
+                kind: binding.kind,
+                value,
+            }),
+            Held::Lacking { missing } => Err(missing),
+        },
+        None => Ok(verdict(false)),
+    }
+}
+
+// The value of what is observed on a day.
+fn value_observed(decls: &Decls, label: u32, day: i64, fixings: &Fixings) -> Result<Typed, Missing>
+    ensures { result ≡ of_place (kind_or (kind_of_label (label_of (declarations decls.now) label))) (held fixings.now (record { label = label; day = day })) label day }
+{
+    match fixings.get(label, day) {
+        Some(value) => Ok(Typed {
+            kind: kind_observed(decls, label),
+            value,
+        }),
+        None => Err(Missing { label, day }),
+    }
+}
+
+// A day that many days later; an offset may be negative.
+fn day_at(day: i64, offset: i32) -> i64
+    requires { IsDay day }
+    ensures { result ≡ day +ℤ offset }
+{
+    day + offset as i64
+}
+
+// The day `i + 1` days after a day.
+fn day_after(from: i64, i: u32) -> i64
+    requires { IsDay from }
+    ensures { result ≡ from +ℤ pos (i + 1) }
+{
+    from + (i as i64 + 1)
+}
+
+// The day `days` days before a day.
+fn day_before(day: i64, days: u32) -> i64
+    requires { IsDay day }
+    ensures { result ≡ day -ℤ pos days }
+{
+    day - days as i64
+}
+
+/// The value of an expression with its kind, or the first place that is not fixed.
+#[cycle(evaluation)]
+pub fn evaluate(
+    decls: &Decls,
+    e: &Expr,
+    scope: &Scope,
+    fixings: &Fixings,
+    day: i64,
+) -> Result<Typed, Missing>
+    requires { Fits (declarations decls.now) (expression e.now) (bindings scope.now) fixings.now day }
+    ensures { result ≡ run_of (declarations decls.now) (expression e.now) (bindings scope.now) fixings.now day }
+{
+    match e {
+        Expr::Lit { mant, scale } => Ok(number(*scale, *mant)),
+        Expr::Yes { value } => Ok(verdict(*value)),
+        Expr::Var { back } => value_bound(scope, *back),
+        Expr::Obs { label, offset } => value_observed(decls, *label, day_at(day, *offset), fixings),
+        Expr::Neg { of } => {
+            let of = evaluate(decls, of, scope, fixings, day)?;
+            Ok(negate(of))
+        }
+        Expr::Num { op, left, right } => {
+            let both = evaluate_both(decls, left, right, scope, fixings, day)?;
+            Ok(combine(*op, both))
+        }
+        Expr::Cmp { op, left, right } => {
+            let both = evaluate_both(decls, left, right, scope, fixings, day)?;
+            Ok(compare(*op, both))
+        }
+        Expr::Not { of } => {
+            let of = evaluate(decls, of, scope, fixings, day)?;
+            Ok(verdict(!is_true(of)))
+        }
+        Expr::Logic { op, left, right } => {
+            evaluate_logic(decls, *op, left, right, scope, fixings, day)
+        }
+        Expr::Cond { test, yes, no } => {
+            evaluate_branches(decls, test, yes, no, scope, fixings, day)
+        }
+        Expr::Widen { scale, of } => {
+            let of = evaluate(decls, of, scope, fixings, day)?;
+            Ok(at_kind(Kind::Number { scale: *scale }, of))
+        }
+        Expr::Round { mode, scale, of } => {
+            let of = evaluate(decls, of, scope, fixings, day)?;
+            Ok(round(*mode, *scale, of))
+        }
+        Expr::Div {
+            mode,
+            scale,
+            top,
+            below,
+        } => {
+            let both = evaluate_both(decls, top, below, scope, fixings, day)?;
+            Ok(divide(*mode, *scale, both))
+        }
+        Expr::Acc { body, days, first } => {
+            let from = day_before(day, *days);
+            let start = evaluate(decls, first, scope, fixings, from);
+            evaluate_days(decls, body, *days, start, scope, fixings, from)
+        }
+    }
+}
+
+// Both operands, the left one first.
+#[cycle(evaluation)]
+fn evaluate_both(
+    decls: &Decls,
+    left: &Expr,
+    right: &Expr,
+    scope: &Scope,
+    fixings: &Fixings,
+    day: i64,
+) -> Result<Operands, Missing>
+    requires left { Fits (declarations decls.now) (expression left.now) (bindings scope.now) fixings.now day }
+    requires right { Fits (declarations decls.now) (expression right.now) (bindings scope.now) fixings.now day }
+    ensures { result ≡ both_of (run_of (declarations decls.now) (expression left.now) (bindings scope.now) fixings.now day) (run_of (declarations decls.now) (expression right.now) (bindings scope.now) fixings.now day) }
+{
+    let left = evaluate(decls, left, scope, fixings, day)?;
+    let right = evaluate(decls, right, scope, fixings, day)?;
+    Ok(Operands { left, right })
+}
+
+// Two truth values; the right one is looked at only where the left does not decide.
+#[cycle(evaluation)]
+fn evaluate_logic(
+    decls: &Decls,
+    op: LogicOp,
+    left: &Expr,
+    right: &Expr,
+    scope: &Scope,
+    fixings: &Fixings,
+    day: i64,
+) -> Result<Typed, Missing>
+    requires left { Fits (declarations decls.now) (expression left.now) (bindings scope.now) fixings.now day }
+    requires right { Fits (declarations decls.now) (expression right.now) (bindings scope.now) fixings.now day }
+    ensures { result ≡ of_sides op (run_of (declarations decls.now) (expression left.now) (bindings scope.now) fixings.now day) (run_of (declarations decls.now) (expression right.now) (bindings scope.now) fixings.now day) }
+{
+    let left = is_true(evaluate(decls, left, scope, fixings, day)?);
+    if is_decided(op, left) {
+        return Ok(verdict(left));
+    }
+    let right = is_true(evaluate(decls, right, scope, fixings, day)?);
+    Ok(verdict(right))
+}
+
+// A branch, at the kind of both; of the one that is not taken only the kind is asked for.
+#[cycle(evaluation)]
+fn evaluate_branches(
+    decls: &Decls,
+    test: &Expr,
+    yes: &Expr,
+    no: &Expr,
+    scope: &Scope,
+    fixings: &Fixings,
+    day: i64,
+) -> Result<Typed, Missing>
+    requires test { Fits (declarations decls.now) (expression test.now) (bindings scope.now) fixings.now day }
+    requires yes { Fits (declarations decls.now) (expression yes.now) (bindings scope.now) fixings.now day }
+    requires no { Fits (declarations decls.now) (expression no.now) (bindings scope.now) fixings.now day }
+    requires yes_kind { KindFits (declarations decls.now) (expression yes.now) (kinds_of (bindings scope.now)) }
+    requires no_kind { KindFits (declarations decls.now) (expression no.now) (kinds_of (bindings scope.now)) }
+    requires yes_fits { OnValue (run_of (declarations decls.now) (expression yes.now) (bindings scope.now) fixings.now day) (λ v. FitsKind (made.kind_of_either v.kind (sorted_kind (declarations decls.now) (expression no.now) (kinds_of (bindings scope.now)))) v) }
+    requires no_fits { OnValue (run_of (declarations decls.now) (expression no.now) (bindings scope.now) fixings.now day) (λ v. FitsKind (made.kind_of_either (sorted_kind (declarations decls.now) (expression yes.now) (kinds_of (bindings scope.now))) v.kind) v) }
+    ensures { result ≡ of_branches (sorted_kind (declarations decls.now) (expression yes.now) (kinds_of (bindings scope.now))) (sorted_kind (declarations decls.now) (expression no.now) (kinds_of (bindings scope.now))) (run_of (declarations decls.now) (expression test.now) (bindings scope.now) fixings.now day) (run_of (declarations decls.now) (expression yes.now) (bindings scope.now) fixings.now day) (run_of (declarations decls.now) (expression no.now) (bindings scope.now) fixings.now day) }
+{
+    let test = evaluate(decls, test, scope, fixings, day)?;
+    if is_true(test) {
+        let taken = evaluate(decls, yes, scope, fixings, day)?;
+        let kind = kind_of_either(taken.kind, kind_in(decls, no, scope));
+        Ok(at_kind(kind, taken))
+    } else {
+        let taken = evaluate(decls, no, scope, fixings, day)?;
+        let kind = kind_of_either(kind_in(decls, yes, scope), taken.kind);
+        Ok(at_kind(kind, taken))
+    }
+}
+
+// An accumulator after its days, from its start, which stands on the day before the first of them.
+#[cycle(evaluation)]
+fn evaluate_days(
+    decls: &Decls,
+    body: &Expr,
+    days: u32,
+    start: Result<Typed, Missing>,
+    scope: &Scope,
+    fixings: &Fixings,
+    from: i64,
+) -> Result<Typed, Missing>
+    requires fits { DaysFitIn (declarations decls.now) (expression body.now) (bindings scope.now) fixings.now from days start }
+    requires first { IsDay from }
+    ensures { result ≡ days_run (declarations decls.now) (expression body.now) (bindings scope.now) fixings.now from days start }
+{
+    let mut value = start?;
+    for i in 0..days {
+        let day = day_after(from, i);
+        value = evaluate_day(decls, body, value, scope, fixings, day)?;
+    }
+    Ok(value)
+}
+
+// An accumulator after one more day, from its value before.
+#[cycle(evaluation)]
+fn evaluate_day(
+    decls: &Decls,
+    body: &Expr,
+    value: Typed,
+    scope: &Scope,
+    fixings: &Fixings,
+    day: i64,
+) -> Result<Typed, Missing>
+    requires fits { DayFitsIn (declarations decls.now) (expression body.now) (bindings scope.now) fixings.now day value }
+    ensures { result ≡ day_run (declarations decls.now) (expression body.now) (bindings scope.now) fixings.now day value }
+{
+    let held = Held::Known { value: value.value };
+    let inner = Scope::Inner {
+        binding: Binding {
+            kind: value.kind,
+            held,
+        },
+        outer: &*scope,
+    };
+    let next = evaluate(decls, body, &inner, fixings, day)?;
+    Ok(at_kind(value.kind, next))
+}

@@ -1,0 +1,56 @@
+//! Kinds of expressions.
+
+ghost use Rattle.std.specs.Prelude.{◌≡◌};
+ghost use Rattle.term_core.specs.Declarations.{declarations};
+ghost use Rattle.term_core.specs.Terms.{expression};
+ghost use Rattle.term_core.specs.Environments.{label_of};
+ghost use Rattle.term_core.specs.Kinds.{kind_of_label};
+ghost use Rattle.term_core.specs.Values.{kind_or};
+ghost use Rattle.expr_eval.specs.Rooms.{kinds_of};
+ghost use Rattle.expr_eval.specs.Scopes.{bindings};
+ghost use Rattle.expr_eval.specs.SortedKinds.{sorted_kind, KindFits};
+
+use crate::operations::{kind_of_either, scale_of_both};
+use crate::scopes::{Scope, kind_at};
+use term_core::{Decls, Expr, Kind, Label};
+
+/// The kind of what is observed; a label that is not declared, which no accepted term has, is a truth value.
+pub fn kind_observed(decls: &Decls, label: u32) -> Kind
+    ensures { result ≡ kind_or (kind_of_label (label_of (declarations decls.now) label)) }
+{
+    match decls.labels.get_index(label as usize) {
+        Some((_, Label::Number { scale, .. })) => Kind::Number { scale: *scale },
+        Some((_, Label::Flag)) => Kind::Truth,
+        None => Kind::Truth,
+    }
+}
+
+/// The kind of an expression whose sorts are in order. It looks only at the parts on which the kind depends.
+pub fn kind_in(decls: &Decls, e: &Expr, scope: &Scope) -> Kind
+    requires { KindFits (declarations decls.now) (expression e.now) (kinds_of (bindings scope.now)) }
+    ensures { result ≡ sorted_kind (declarations decls.now) (expression e.now) (kinds_of (bindings scope.now)) }
+{
+    match e {
+        Expr::Lit { scale, .. } => Kind::Number { scale: *scale },
+        Expr::Var { back } => kind_at(scope, *back),
+        Expr::Obs { label, .. } => kind_observed(decls, *label),
+        Expr::Yes { .. } | Expr::Cmp { .. } | Expr::Not { .. } | Expr::Logic { .. } => Kind::Truth,
+        Expr::Neg { of } => kind_in(decls, of, scope),
+        Expr::Num { op, left, right } => {
+            let left = kind_in(decls, left, scope);
+            let right = kind_in(decls, right, scope);
+            Kind::Number {
+                scale: scale_of_both(*op, left, right),
+            }
+        }
+        Expr::Cond { yes, no, .. } => {
+            let yes = kind_in(decls, yes, scope);
+            let no = kind_in(decls, no, scope);
+            kind_of_either(yes, no)
+        }
+        Expr::Widen { scale, .. } => Kind::Number { scale: *scale },
+        Expr::Round { scale, .. } => Kind::Number { scale: *scale },
+        Expr::Div { scale, .. } => Kind::Number { scale: *scale },
+        Expr::Acc { first, .. } => kind_in(decls, first, scope),
+    }
+}
