@@ -10,3 +10,5 @@ pub mod PaymentFacts
 pub mod PaymentSums
 pub mod PaymentSizes
 pub mod WalkFacts
+pub mod TriedFacts
+pub mod ReadyFacts

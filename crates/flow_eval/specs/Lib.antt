@@ -1,4 +1,8 @@
+pub mod Faults
 pub mod Tables
 pub mod Netting
 pub mod Payments
 pub mod Walks
+pub mod Names
+pub mod Readiness
+pub mod Gathering

@@ -1,6 +1,6 @@
 //! Single payments.
 
-ghost use Rattle.std.specs.Prelude.{◌≡◌, ◌≤◌, ◌*ℤ◌, ◌^◌, ◌++◌, neg_ℤ, unsigned_abs, OnOk};
+ghost use Rattle.std.specs.Prelude.{◌≡◌, ◌≤◌, ◌*ℤ◌, ◌^◌, ◌++◌, neg_ℤ, unsigned_abs, OnOk, length, take, drop};
 ghost use Rattle.std.specs.List.{All};
 ghost use Rattle.flow_eval.specs.Payments.{multiplied, paid, payment_on, times};
 
@@ -79,12 +79,21 @@ fn times(payment: Payment, factor: i128) -> Payment
     }
 }
 
-/// Multiplies payments by a factor.
-pub fn multiply(payments: &mut [Payment], factor: i128)
+// Multiplies payments by a factor.
+fn multiply(payments: &mut [Payment], factor: i128)
     requires { All (λ p. unsigned_abs (p.amount *ℤ factor) ≤ 10 ^ 30) payments.old }
     ensures { payments.new ≡ multiplied factor payments.old }
 {
     for payment in payments.iter_mut() {
         *payment = times(*payment, factor);
     }
+}
+
+/// Multiplies the payments from the one at `first` on by a factor.
+pub fn multiply_from(out: &mut Vec<Payment>, first: usize, factor: i128)
+    requires first { first ≤ length out.old.items }
+    requires small { All (λ p. unsigned_abs (p.amount *ℤ factor) ≤ 10 ^ 30) (drop first out.old.items) }
+    ensures { out.new.items ≡ take first out.old.items ++ multiplied factor (drop first out.old.items) }
+{
+    multiply(&mut out[first..], factor);
 }
