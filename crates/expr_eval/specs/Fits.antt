@@ -8,8 +8,9 @@ use Rattle.term_core.specs.Environments.{Environment}
 use Rattle.expr_eval.specs.declared.scratch.Binding.{Binding}
 use Rattle.expr_eval.specs.declared.operations.Typed.{Typed}
 use Rattle.expr_eval.specs.Rooms.{kinds_of}
-use Rattle.expr_eval.specs.Operations.{kind_of_either, Negates, Combines, Compares, FitsKind, RoundsTo, DividesTo}
-use Rattle.expr_eval.specs.SortedKinds.{sorted_kind, KindFits}
+use Rattle.expr_eval.specs.Operations.{Negates, Combines, Compares, FitsKind, RoundsTo, DividesTo}
+use Rattle.interval_check.specs.RangeTrials.{kind_found, kind_of_either}
+use Rattle.expr_eval.specs.KindScales.{KindFits}
 use Rattle.expr_eval.specs.Runs.{Answer, run_of, bound_to, days_tried, day_step}
 
 -- of the value, where there is one
@@ -45,8 +46,8 @@ Fits d (Logic op a b) g env f = Fits d a g env f × Fits d b g env f
 Fits d (Cond t a b) g env f =
     Fits d t g env f × Fits d a g env f × Fits d b g env f
     × KindFits d a (kinds_of g) × KindFits d b (kinds_of g)
-    × OnValue (run_of d a g env f) (λ v. FitsKind (kind_of_either v.kind (sorted_kind d b (kinds_of g))) v)
-    × OnValue (run_of d b g env f) (λ v. FitsKind (kind_of_either (sorted_kind d a (kinds_of g)) v.kind) v)
+    × OnValue (run_of d a g env f) (λ v. FitsKind (kind_of_either v.kind (kind_found d b (kinds_of g))) v)
+    × OnValue (run_of d b g env f) (λ v. FitsKind (kind_of_either (kind_found d a (kinds_of g)) v.kind) v)
 Fits d (Widen s e) g env f = Fits d e g env f × OnValue (run_of d e g env f) (FitsKind (Number s))
 Fits d (Round mode s e) g env f = Fits d e g env f × OnValue (run_of d e g env f) (RoundsTo s)
 Fits d (Div mode s a b) g env f =

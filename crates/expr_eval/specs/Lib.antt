@@ -1,6 +1,10 @@
 pub mod Rooms
 pub mod Scopes
 pub mod Operations
-pub mod SortedKinds
+pub mod KindScales
 pub mod Runs
 pub mod Fits
+pub mod Standing
+pub mod Evaluable
+pub mod Answers
+pub mod LawsEntries

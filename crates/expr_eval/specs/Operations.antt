@@ -1,6 +1,6 @@
 -- A value with its kind, and what each operator makes of those of its parts, with what it asks so that the numbers fit
 -- 128 bits.
-use Rattle.std.specs.Prelude.{ℕ, ℤ, neg_ℤ, not, Bool, ◌≤◌, max}
+use Rattle.std.specs.Prelude.{ℕ, ℤ, neg_ℤ, Bool, ◌≤◌}
 use Rattle.decimal.specs.Rounding.{at_scale, divided}
 use Rattle.decimal.specs.declared.rounding.Mode.{Mode}
 use Rattle.term_core.specs.declared.terms.NumOp.{NumOp}
@@ -28,11 +28,6 @@ truth_in v = truth v.value
 
 abbrev pub scale_in : Typed → ℕ
 scale_in v = scale_of_kind v.kind
-
--- of either of two branches
-abbrev pub kind_of_either : Kind → Kind → Kind
-kind_of_either TruthKind TruthKind = TruthKind
-kind_of_either a b = Number (max (scale_of_kind a) (scale_of_kind b))
 
 -- a value at a kind of no fewer decimals
 abbrev pub at_kind : Kind → Typed → Typed

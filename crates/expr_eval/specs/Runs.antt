@@ -19,11 +19,16 @@ use Rattle.expr_eval.specs.declared.scratch.Binding.{Binding}
 use Rattle.expr_eval.specs.declared.operations.Typed.{Typed}
 use Rattle.expr_eval.specs.declared.operations.Operands.{Operands}
 use Rattle.expr_eval.specs.Rooms.{kinds_of}
-use Rattle.expr_eval.specs.Operations.{number, verdict, truth_in, kind_of_either, at_kind, negated, combined, compared, rounded, quotient}
-use Rattle.expr_eval.specs.SortedKinds.{sorted_kind}
+use Rattle.expr_eval.specs.Operations.{number, verdict, truth_in, at_kind, negated, combined, compared, rounded, quotient}
+use Rattle.interval_check.specs.RangeTrials.{kind_found, kind_of_either}
 
 abbrev pub Answer : Type 0
 Answer = Result Typed Missing
+
+-- without the kind of its value
+abbrev pub untyped : Answer → Result Value Missing
+untyped (Ok v) = Ok v.value
+untyped (Err m) = Err m
 
 -- goes on with a value
 abbrev pub then_do : Answer → (Typed → Answer) → Answer
@@ -89,7 +94,7 @@ run_of d (Cmp op a b) g env f = on_both (both_of (run_of d a g env f) (run_of d 
 run_of d (Not e) g env f = then_do (run_of d e g env f) (λ v. Ok (verdict (not (truth_in v))))
 run_of d (Logic op a b) g env f = of_sides op (run_of d a g env f) (run_of d b g env f)
 run_of d (Cond t a b) g env f =
-    of_branches (sorted_kind d a (kinds_of g)) (sorted_kind d b (kinds_of g)) (run_of d t g env f) (run_of d a g env f) (run_of d b g env f)
+    of_branches (kind_found d a (kinds_of g)) (kind_found d b (kinds_of g)) (run_of d t g env f) (run_of d a g env f) (run_of d b g env f)
 run_of d (Widen s e) g env f = then_do (run_of d e g env f) (λ v. Ok (at_kind (Number s) v))
 run_of d (Round mode s e) g env f = then_do (run_of d e g env f) (λ v. Ok (rounded mode s v))
 run_of d (Div mode s a b) g env f = on_both (both_of (run_of d a g env f) (run_of d b g env f)) (quotient mode s)

@@ -8,8 +8,8 @@ ghost use Rattle.term_core.specs.Kinds.{kind_of_label};
 ghost use Rattle.term_core.specs.Values.{kind_or};
 ghost use Rattle.expr_eval.specs.Rooms.{kinds_of};
 ghost use Rattle.expr_eval.specs.Scopes.{bindings};
-ghost use Rattle.expr_eval.specs.SortedKinds.{sorted_kind, KindFits};
-ghost use Rattle.expr_eval.specs.Operations as made;
+ghost use Rattle.expr_eval.specs.KindScales.{KindFits};
+ghost use Rattle.interval_check.specs.RangeTrials as tried;
 ghost use Rattle.expr_eval.specs.Operations.{FitsKind};
 ghost use Rattle.expr_eval.specs.Runs.{run_of, of_binding, of_place, both_of, of_sides, of_branches, day_run, days_run};
 ghost use Rattle.expr_eval.specs.Fits.{Fits, OnValue, IsDay, DayFitsIn, DaysFitIn};
@@ -199,9 +199,9 @@ fn evaluate_branches(
     requires no { Fits (declarations decls.now) (expression no.now) (bindings scope.now) fixings.now day }
     requires yes_kind { KindFits (declarations decls.now) (expression yes.now) (kinds_of (bindings scope.now)) }
     requires no_kind { KindFits (declarations decls.now) (expression no.now) (kinds_of (bindings scope.now)) }
-    requires yes_fits { OnValue (run_of (declarations decls.now) (expression yes.now) (bindings scope.now) fixings.now day) (λ v. FitsKind (made.kind_of_either v.kind (sorted_kind (declarations decls.now) (expression no.now) (kinds_of (bindings scope.now)))) v) }
-    requires no_fits { OnValue (run_of (declarations decls.now) (expression no.now) (bindings scope.now) fixings.now day) (λ v. FitsKind (made.kind_of_either (sorted_kind (declarations decls.now) (expression yes.now) (kinds_of (bindings scope.now))) v.kind) v) }
-    ensures { result ≡ of_branches (sorted_kind (declarations decls.now) (expression yes.now) (kinds_of (bindings scope.now))) (sorted_kind (declarations decls.now) (expression no.now) (kinds_of (bindings scope.now))) (run_of (declarations decls.now) (expression test.now) (bindings scope.now) fixings.now day) (run_of (declarations decls.now) (expression yes.now) (bindings scope.now) fixings.now day) (run_of (declarations decls.now) (expression no.now) (bindings scope.now) fixings.now day) }
+    requires yes_fits { OnValue (run_of (declarations decls.now) (expression yes.now) (bindings scope.now) fixings.now day) (λ v. FitsKind (tried.kind_of_either v.kind (tried.kind_found (declarations decls.now) (expression no.now) (kinds_of (bindings scope.now)))) v) }
+    requires no_fits { OnValue (run_of (declarations decls.now) (expression no.now) (bindings scope.now) fixings.now day) (λ v. FitsKind (tried.kind_of_either (tried.kind_found (declarations decls.now) (expression yes.now) (kinds_of (bindings scope.now))) v.kind) v) }
+    ensures { result ≡ of_branches (tried.kind_found (declarations decls.now) (expression yes.now) (kinds_of (bindings scope.now))) (tried.kind_found (declarations decls.now) (expression no.now) (kinds_of (bindings scope.now))) (run_of (declarations decls.now) (expression test.now) (bindings scope.now) fixings.now day) (run_of (declarations decls.now) (expression yes.now) (bindings scope.now) fixings.now day) (run_of (declarations decls.now) (expression no.now) (bindings scope.now) fixings.now day) }
 {
     let test = evaluate(decls, test, scope, fixings, day)?;
     if is_true(test) {

@@ -1,17 +1,21 @@
 //! Kinds of expressions.
 
-ghost use Rattle.std.specs.Prelude.{◌≡◌};
+ghost use Rattle.std.specs.Prelude.{◌≡◌, Some};
 ghost use Rattle.term_core.specs.Declarations.{declarations};
 ghost use Rattle.term_core.specs.Terms.{expression};
 ghost use Rattle.term_core.specs.Environments.{label_of};
+ghost use Rattle.term_core.specs.Kinds as model;
 ghost use Rattle.term_core.specs.Kinds.{kind_of_label};
 ghost use Rattle.term_core.specs.Values.{kind_or};
+ghost use Rattle.interval_check.specs.RangeTrials.{kind_found};
 ghost use Rattle.expr_eval.specs.Rooms.{kinds_of};
 ghost use Rattle.expr_eval.specs.Scopes.{bindings};
-ghost use Rattle.expr_eval.specs.SortedKinds.{sorted_kind, KindFits};
+ghost use Rattle.expr_eval.specs.KindScales.{KindFits};
+ghost use Rattle.expr_eval.specs.Evaluable.{MayEvaluate};
 
-use crate::operations::{kind_of_either, scale_of_both};
+use crate::operations::{kind_of_either, scale_of, scale_of_both};
 use crate::scopes::{Scope, kind_at};
+use crate::scratch::Scratch;
 use term_core::{Decls, Expr, Kind, Label};
 
 /// The kind of what is observed; a label that is not declared, which no accepted term has, is a truth value.
@@ -28,14 +32,16 @@ pub fn kind_observed(decls: &Decls, label: u32) -> Kind
 /// The kind of an expression whose sorts are in order. It looks only at the parts on which the kind depends.
 pub fn kind_in(decls: &Decls, e: &Expr, scope: &Scope) -> Kind
     requires { KindFits (declarations decls.now) (expression e.now) (kinds_of (bindings scope.now)) }
-    ensures { result ≡ sorted_kind (declarations decls.now) (expression e.now) (kinds_of (bindings scope.now)) }
+    ensures { result ≡ kind_found (declarations decls.now) (expression e.now) (kinds_of (bindings scope.now)) }
 {
     match e {
         Expr::Lit { scale, .. } => Kind::Number { scale: *scale },
         Expr::Var { back } => kind_at(scope, *back),
         Expr::Obs { label, .. } => kind_observed(decls, *label),
         Expr::Yes { .. } | Expr::Cmp { .. } | Expr::Not { .. } | Expr::Logic { .. } => Kind::Truth,
-        Expr::Neg { of } => kind_in(decls, of, scope),
+        Expr::Neg { of } => Kind::Number {
+            scale: scale_of(kind_in(decls, of, scope)),
+        },
         Expr::Num { op, left, right } => {
             let left = kind_in(decls, left, scope);
             let right = kind_in(decls, right, scope);
@@ -53,4 +59,13 @@ pub fn kind_in(decls: &Decls, e: &Expr, scope: &Scope) -> Kind
         Expr::Div { scale, .. } => Kind::Number { scale: *scale },
         Expr::Acc { first, .. } => kind_in(decls, first, scope),
     }
+}
+
+/// The kind of an expression, with the kinds of the entries of a scratch for its names. It takes no memory.
+pub fn kind_of(decls: &Decls, e: &Expr, scratch: &Scratch) -> Kind
+    requires place { MayEvaluate (declarations decls.now) (expression e.now) scratch.now.entries }
+    ensures kind { model.kind_of (declarations decls.now) (expression e.now) (kinds_of scratch.now.entries) ≡ Some result }
+{
+    let scope = Scope::Base { scratch: &*scratch };
+    kind_in(decls, e, &scope)
 }

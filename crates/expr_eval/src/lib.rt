@@ -4,8 +4,13 @@
 mod evaluation;
 mod heights;
 mod kinds;
+mod laws;
 mod operations;
 mod scopes;
 mod scratch;
+mod values;
 
+pub use kinds::kind_of;
+pub use laws::{answers_may_be_entered, parts_may_be_evaluated};
 pub use scratch::{Binding, Held, Scratch};
+pub use values::eval;

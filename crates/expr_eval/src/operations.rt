@@ -5,6 +5,7 @@ ghost use Rattle.term_core.specs.Kinds.{scale_of_kind, scale_of_op};
 ghost use Rattle.term_core.specs.Values.{num, truth, num_op, cmp_op, of_num, of_cmp};
 ghost use Rattle.term_core.specs.Reads.{decides};
 ghost use Rattle.interval_check.specs.Safety.{AlignSafely, OperateSafely};
+ghost use Rattle.interval_check.specs.RangeTrials as tried;
 ghost use Rattle.expr_eval.specs.Operations as made;
 ghost use Rattle.expr_eval.specs.Operations.{number_in, scale_in, truth_in, Negates, Combines, Compares, RoundsTo, DividesTo, FitsKind};
 
@@ -88,7 +89,7 @@ pub fn scale_of_both(op: NumOp, left: Kind, right: Kind) -> u8
 
 /// The kind of either of two branches.
 pub fn kind_of_either(yes: Kind, no: Kind) -> Kind
-    ensures { result ≡ made.kind_of_either yes no }
+    ensures { result ≡ tried.kind_of_either yes no }
 {
     match (yes, no) {
         (Kind::Truth, Kind::Truth) => Kind::Truth,

@@ -7,6 +7,7 @@ use Rattle.std.specs.Map.{lookup}
 use Rattle.std.specs.BTreeMap.{is_at}
 use Rattle.term_core.specs.Environments.{same_place, held}
 use Rattle.term_core.specs.declared.values.Value.{Value}
+use Rattle.fixing_files.specs.Steps.{compared}
 use Rattle.fixing_files.specs.Fixed.{place_of, values_of}
 use Rattle.fixing_files.specs.declared.places.Spot.{Spot}
 use Rattle.fixing_files.specs.declared.places.Fixed.{Fixed}
@@ -24,10 +25,6 @@ either false false = refl
 
 of_label : (a b : ℕ) → is_eq (nat_cmp a b) ≡ (b == a)
 of_label a b = grind (arith, nat_tests)
-
--- the order of places, as the map compares them
-abbrev pub compared : Spot → Spot → Ordering
-compared a b = ordering_then (nat_cmp a.label b.label) (int_cmp a.day b.day)
 
 pub compared_same : (a b : Spot) → is_eq (compared a b) ≡ same_place (place_of b) (place_of a)
 compared_same a b =

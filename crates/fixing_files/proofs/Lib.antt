@@ -1,2 +1,7 @@
 pub mod DayFacts
 pub mod FixedFacts
+pub mod TableFacts
+pub mod StepFacts
+pub mod AnswerFacts
+pub mod LawFacts
+mod RowsTables
