@@ -3,6 +3,5 @@ pub mod Tables
 pub mod Netting
 pub mod Payments
 pub mod Walks
-pub mod Names
 pub mod Readiness
 pub mod Gathering

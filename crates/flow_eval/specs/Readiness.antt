@@ -1,20 +1,19 @@
 -- When a part of an accepted contract can be walked: the names round it have entries that stand for values within their
 -- ranges, there is room for the names in it, and its days and decimals are within those of the whole.
-use Rattle.std.specs.Prelude.{ℕ, ℤ, pos, ◌+ℤ◌, ◌≤ℤ◌, ◌≤◌, length, List, [], Option, Some, None}
+use Rattle.std.specs.Prelude.{ℕ, ℤ, pos, ◌+ℤ◌, ◌≤ℤ◌, ◌≤◌, List, [], Option, Some, None}
 use Rattle.term_core.specs.Declarations.{Declarations}
 use Rattle.term_core.specs.Terms.{Expression, Contract}
-use Rattle.term_core.specs.WellFormed.{IsWellFormed, IsWellFormedContract}
 use Rattle.term_core.specs.Environments.{Environment, IsAdmitted, Place}
 use Rattle.term_core.specs.Values.{Entry, kinds}
 use Rattle.term_core.specs.Flows.{scale_of_contract}
 use Rattle.term_core.specs.Bounds.{Range}
-use Rattle.term_core.specs.Sizes.{height, height_of_contract, reach}
+use Rattle.term_core.specs.Sizes.{height_of_contract}
 use Rattle.term_core.specs.Acceptance.{IsAccepted}
 use Rattle.interval_check.specs.Nodes.{ContractMeetsRules}
 use Rattle.interval_check.specs.Parts.{StandsIn}
 use Rattle.interval_check.specs.Within.{AreWithin, KeepsLimits}
 use Rattle.expr_eval.specs.Rooms.{Room}
-use Rattle.flow_eval.specs.Names.{StandFor}
+use Rattle.expr_eval.specs.Standing.{StandFor}
 
 -- an expression that stands in an accepted contract, with entries for the names round it
 pub record CanAnswer (d : Declarations) (e : Expression) (r : Room) (fixings : Environment) : Type 0 where
@@ -28,8 +27,6 @@ pub record CanAnswer (d : Declarations) (e : Expression) (r : Room) (fixings : E
   pub places : List (List Place)
   pub within : AreWithin ranges values
   pub stand : StandFor fixings r.entries values places
-  pub formed : IsWellFormed d (length r.entries) e
-  pub low : height e ≤ r.spare
 
 -- a contract inside an accepted one, with entries for the names round it; it has so many decimals left
 pub record CanWalk (d : Declarations) (c : Contract) (room : ℕ) (r : Room) (fixings : Environment) : Type 0 where
@@ -44,7 +41,6 @@ pub record CanWalk (d : Declarations) (c : Contract) (room : ℕ) (r : Room) (fi
   pub places : List (List Place)
   pub within : AreWithin ranges values
   pub stand : StandFor fixings r.entries values places
-  pub formed : IsWellFormedContract d (length r.entries) c
   pub low : height_of_contract c ≤ r.spare
   pub fits : scale_of_contract d c (kinds values) ≤ room
   pub most : room ≤ d.amounts

@@ -1,6 +1,6 @@
 //! The walk over a contract that notes its payments.
 
-ghost use Rattle.std.specs.Prelude.{◌≡◌, ◌≤◌, ◌<◌, ◌+◌, ◌-◌, ◌≤ℤ◌, ◌+ℤ◌, ◌-ℤ◌, pos, min, unsigned_abs, ℕ, List, length, Ok, Err, Some, None, IfOk};
+ghost use Rattle.std.specs.Prelude.{◌≡◌, ◌≤◌, ◌<◌, ◌+◌, ◌-◌, ◌≤ℤ◌, ◌+ℤ◌, ◌-ℤ◌, pos, min, unsigned_abs, ℕ, List, length, Ok, Err, Some, None, IfOk, int_lt};
 ghost use Rattle.term_core.specs.Declarations.{declarations};
 ghost use Rattle.term_core.specs.Terms.{contract, expression, Contract, Scale, Let};
 ghost use Rattle.term_core.specs.Environments.{Place};
@@ -9,7 +9,7 @@ ghost use Rattle.term_core.specs.Values.{Entry, kind_or, num, truth};
 ghost use Rattle.term_core.specs.Flows.{count_of};
 ghost use Rattle.term_core.specs.Sizes.{reach};
 ghost use Rattle.expr_eval.specs.Rooms.{kinds_of};
-ghost use Rattle.flow_eval.specs.Names.{StandFor};
+ghost use Rattle.expr_eval.specs.Standing.{StandFor};
 ghost use Rattle.flow_eval.specs.Walks.{answer_of, days_to_try, first_tried, walk_of};
 ghost use Rattle.flow_eval.specs.Readiness.{CanAnswer, CanWalk, IsAmongDays, IsUpTo};
 ghost use Rattle.flow_eval.specs.Gathering.{Gathers};
@@ -17,7 +17,7 @@ ghost use Rattle.flow_eval.specs.Gathering.{Gathers};
 use crate::faults::FlowErr;
 use crate::payments::{Payment, Transfer, multiply_from, pay};
 use decimal::pow10;
-use expr_eval::{Held, Scratch};
+use expr_eval::{Held, Scratch, eval, kind_of};
 use fixing_files::Fixings;
 use term_core::{Contr, Days, Decls, Expr, Kind, Missing, Value};
 
@@ -112,7 +112,7 @@ fn kind_at(course: &Course, e: &Expr, scratch: &Scratch) -> Kind
     requires ready { CanAnswer (declarations course.now.decls.now) (expression e.now) scratch.now course.now.fixings.now }
     ensures { result ≡ kind_or (kind_of (declarations course.now.decls.now) (expression e.now) (kinds_of scratch.now.entries)) }
 {
-    Kind::Truth
+    kind_of(course.decls, e, scratch)
 }
 
 // The value of an expression on its day, or the first place that it reads and that is not fixed.
@@ -127,7 +127,14 @@ fn value_at(
     ensures answer { (g : List Entry) (bs : List (List Place)) → StandFor course.now.fixings.now scratch.old.entries g bs → result ≡ answer_of (declarations course.now.decls.now) (expression e.now) g bs course.now.fixings.now here.day }
     ensures same { scratch.new ≡ scratch.old }
 {
-    Ok(Value::Truth { value: false })
+    eval(course.decls, e, scratch, course.fixings, here.day)
+}
+
+// The last day that counts has passed.
+fn is_over(course: &Course, here: Standing) -> bool
+    ensures { result ≡ int_lt course.now.until here.day }
+{
+    course.until < here.day
 }
 
 // The days after the first on which a test of so many days is tried.
@@ -182,7 +189,7 @@ pub fn gather(
     ensures answer { (g : List Entry) (bs : List (List Place)) → StandFor course.now.fixings.now scratch.old.entries g bs → Gathers (walk_of (declarations course.now.decls.now) here.decimals (contract c.now) g bs course.now.fixings.now here.day course.now.until) out.old.items out.new.items result }
     ensures same { scratch.new ≡ scratch.old }
 {
-    if course.until < here.day {
+    if is_over(course, here) {
         return Ok(());
     }
     match c {

@@ -7,7 +7,7 @@ use Rattle.term_core.specs.Values.{Entry, kind_or, num, truth}
 use Rattle.term_core.specs.Flows.{count_of}
 use Rattle.term_core.specs.Sizes.{reach}
 use Rattle.expr_eval.specs.Rooms.{kinds_of}
-use Rattle.flow_eval.specs.Names.{StandFor}
+use Rattle.expr_eval.specs.Standing.{StandFor}
 use Rattle.flow_eval.specs.Walks.{answer_of, days_to_try, first_tried, walk_of}
 use Rattle.flow_eval.specs.Readiness.{CanAnswer, CanWalk, IsAmongDays, IsUpTo}
 use Rattle.flow_eval.specs.Gathering.{Gathers}

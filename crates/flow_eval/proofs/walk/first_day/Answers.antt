@@ -4,7 +4,7 @@ use Rattle.term_core.specs.Declarations.{Declarations, declarations}
 use Rattle.term_core.specs.Terms.{Expression, expression}
 use Rattle.term_core.specs.Environments.{Environment, Place}
 use Rattle.term_core.specs.Values.{Entry}
-use Rattle.flow_eval.specs.Names.{StandFor}
+use Rattle.expr_eval.specs.Standing.{StandFor}
 use Rattle.expr_eval.specs.Rooms.{Room}
 use Rattle.flow_eval.specs.Walks.{ValueOrMissing, answer_of, days_to_try, first_tried}
 use Rattle.flow_eval.specs.declared.walk.Standing.{Standing}

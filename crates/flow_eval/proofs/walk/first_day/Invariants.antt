@@ -3,7 +3,7 @@ use Rattle.term_core.specs.Declarations.{declarations}
 use Rattle.term_core.specs.Terms.{expression}
 use Rattle.term_core.specs.Environments.{Place}
 use Rattle.term_core.specs.Values.{Entry}
-use Rattle.flow_eval.specs.Names.{StandFor}
+use Rattle.expr_eval.specs.Standing.{StandFor}
 use Rattle.flow_eval.specs.Walks.{answer_of, first_tried}
 use Rattle.flow_eval.proofs.walk.first_day.Given as goal
 
