@@ -12,3 +12,5 @@ pub mod PaymentSizes
 pub mod WalkFacts
 pub mod TriedFacts
 pub mod ReadyFacts
+pub mod GatherFacts
+pub mod StepFacts

@@ -1,8 +1,8 @@
 //! The walk over a contract that notes its payments.
 
-ghost use Rattle.std.specs.Prelude.{◌≡◌, ◌≤◌, ◌<◌, ◌+◌, ◌-◌, ◌≤ℤ◌, ◌+ℤ◌, ◌-ℤ◌, pos, min, unsigned_abs, ℕ, List, length, Ok, Err, Some, None, IfOk, int_lt};
+ghost use Rattle.std.specs.Prelude.{◌≡◌, ◌≤◌, ◌<◌, ◌+◌, ◌-◌, ◌≤ℤ◌, ◌+ℤ◌, ◌-ℤ◌, pos, min, max, unsigned_abs, ℕ, List, length, Ok, Err, Some, None, IfOk, int_lt};
 ghost use Rattle.term_core.specs.Declarations.{declarations};
-ghost use Rattle.term_core.specs.Terms.{contract, expression, Contract, Scale, Let};
+ghost use Rattle.term_core.specs.Terms.{contract, expression, Contract, Scale, Let, Within};
 ghost use Rattle.term_core.specs.Environments.{Place};
 ghost use Rattle.term_core.specs.Kinds.{kind_of, scale_of_kind};
 ghost use Rattle.term_core.specs.Values.{Entry, kind_or, num, truth};
@@ -223,13 +223,41 @@ pub fn gather(
             days,
             hit,
             miss,
-        } => {
-            let days = count(days);
-            match first_day(course, test, scratch, here, days)? {
-                Some(first) => gather(course, out, scratch, here.after(first), hit),
-                None => gather(course, out, scratch, here.after(days), miss),
-            }
-        }
+        } => gather_within(
+            course,
+            out,
+            scratch,
+            here,
+            test,
+            days,
+            hit,
+            miss,
+        ),
+    }
+}
+
+// Notes the payments of the branch that a test enters, if it does so by the last day that counts.
+#[cycle(gathering)]
+fn gather_within(
+    course: &Course,
+    out: &mut Vec<Payment>,
+    scratch: &mut Scratch,
+    here: Standing,
+    test: &Expr,
+    days: &Days,
+    hit: &Contr,
+    miss: &Contr,
+) -> Result<(), FlowErr>
+    requires ready { CanWalk (declarations course.now.decls.now) (Within (expression test.now) days.now (contract hit.now) (contract miss.now)) here.decimals scratch.old course.now.fixings.now }
+    requires days { IsAmongDays here.day (count_of days.now + max (reach (contract hit.now)) (reach (contract miss.now))) }
+    requires in_time { here.day ≤ℤ course.now.until }
+    ensures answer { (g : List Entry) (bs : List (List Place)) → StandFor course.now.fixings.now scratch.old.entries g bs → Gathers (walk_of (declarations course.now.decls.now) here.decimals (Within (expression test.now) days.now (contract hit.now) (contract miss.now)) g bs course.now.fixings.now here.day course.now.until) out.old.items out.new.items result }
+    ensures same { scratch.new ≡ scratch.old }
+{
+    let days = count(days);
+    match first_day(course, test, scratch, here, days)? {
+        Some(first) => gather(course, out, scratch, here.after(first), hit),
+        None => gather(course, out, scratch, here.after(days), miss),
     }
 }
 
