@@ -162,3 +162,33 @@ noted_small d e c here t r F last k s xs ys res u a v m h known is at gathered o
     let factor : m ≡ num (value_of d e h.values F here.day) = number ∙ ap num (answer_value d e h.values h.places F here.day v (sym answered ∙ value)) in
     subst (λ (n : ℤ). All (λ (p : Payment). unsigned_abs (p.amount *ℤ n) ≤ 10 ^ 30) (drop (length xs) ys)) (sym factor)
     (subst (λ (ps : List Payment). All (λ (p : Payment). unsigned_abs (p.amount *ℤ num (value_of d e h.values F here.day)) ≤ 10 ^ 30) ps) (sym ps_are) (product_small d e c here.decimals r F here.day last h))
+
+-- what is noted where the body or the factor is not, and where there is nothing to multiply
+pub body_missing : (w w' : PaymentsOrMissing) (a : ValueOrMissing) (xs ys : List Payment) (r res : Done) (e : FlowErr) → w ≡ w' → Gathers w xs ys r → r ≡ Err e → res ≡ Err e → Gathers (then_factor w' a) xs ys res
+body_missing w w' a xs ys r res e same h is err =
+    subst (λ (x : Done). Gathers (then_factor w' a) xs ys x) (sym err) (body_not_noted w' a xs ys e (not_noted w' xs ys r e (subst (λ (x : PaymentsOrMissing). Gathers x xs ys r) same h) is))
+
+pub body_noted : (w w' : PaymentsOrMissing) (xs ys : List Payment) (r : Done) (u : Unit {0}) → w ≡ w' → Gathers w xs ys r → r ≡ Ok u → appended xs w' ≡ Ok ys
+body_noted w w' xs ys r u same h is = noted w' xs ys r u (subst (λ (x : PaymentsOrMissing). Gathers x xs ys r) same h) is
+
+pub none_to_scale : (w w' : PaymentsOrMissing) (a : ValueOrMissing) (xs ys : List Payment) (r : Done) (u : Unit {0}) (m n : ℕ) → w ≡ w' → Gathers w xs ys r → r ≡ Ok u → m ≡ length xs → n ≡ length ys → n ≡ m → appended xs (then_factor w' a) ≡ Ok ys
+none_to_scale w w' a xs ys r u m n same h is first len e = nothing_scaled w' a xs ys (body_noted w w' xs ys r u same h is) (sym len ∙ e ∙ first)
+
+some_to_scale : (xs ys : List Payment) (m n : ℕ) → m ≡ length xs → n ≡ length ys → (n ≡ m → ⊥) → length ys ≡ length xs → ⊥
+some_to_scale xs ys m n first len differ e = differ (len ∙ e ∙ sym first)
+
+pub factor_lacks : (w w' : PaymentsOrMissing) (a : ValueOrMissing) (xs ys : List Payment) (r res : Done) (u : Unit {0}) (m n : ℕ) (v : ValueOrMissing) (q : Missing) → w ≡ w' → Gathers w xs ys r → r ≡ Ok u → m ≡ length xs → n ≡ length ys → (n ≡ m → ⊥)
+    → v ≡ a → v ≡ Err q → res ≡ Err (lacks_place q) → Gathers (then_factor w' a) xs ys res
+factor_lacks w w' a xs ys r res u m n v q same h is first len differ answered lacks err =
+    subst (λ (x : Done). Gathers (then_factor w' a) xs ys x) (sym err) (missing_noted (then_factor w' a) xs ys q (factor_missing w' a xs ys q (body_noted w w' xs ys r u same h is) (some_to_scale xs ys m n first len differ) (sym answered ∙ lacks)))
+
+pub factor_known : (w w' : PaymentsOrMissing) (a : ValueOrMissing) (xs ys zs : List Payment) (r : Done) (u : Unit {0}) (m n : ℕ) (v : ValueOrMissing) (x : Value) (k : ℤ) → w ≡ w' → Gathers w xs ys r → r ≡ Ok u → m ≡ length xs → n ≡ length ys → (n ≡ m → ⊥)
+    → v ≡ a → v ≡ Ok x → k ≡ num x → zs ≡ take m ys ++ multiplied k (drop m ys) → appended xs (then_factor w' a) ≡ Ok zs
+factor_known w w' a xs ys zs r u m n v x k same h is first len differ answered value number noted =
+    scaled_noted w' a xs ys x (body_noted w w' xs ys r u same h is) (some_to_scale xs ys m n first len differ) (sym answered ∙ value)
+    ∙ ap (λ (l : ℕ). Ok (take l ys ++ multiplied (num x) (drop l ys))) (sym first) ∙ ap (λ (i : ℤ). Ok (take m ys ++ multiplied i (drop m ys))) (sym number) ∙ ap (λ (ws : List Payment). Ok ws) (sym noted)
+
+pub first_within : (w : PaymentsOrMissing) (xs ys : List Payment) (r : Done) (u : Unit {0}) (m : ℕ) → Gathers w xs ys r → r ≡ Ok u → m ≡ length xs → m ≤ length ys
+first_within w xs ys r u m h is first =
+    let l = longer_by w xs ys (noted w xs ys r u h is) in
+    omega arith

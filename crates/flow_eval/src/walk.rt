@@ -8,6 +8,7 @@ ghost use Rattle.term_core.specs.Kinds.{kind_of, scale_of_kind};
 ghost use Rattle.term_core.specs.Values.{Entry, kind_or, num, truth};
 ghost use Rattle.term_core.specs.Flows.{count_of};
 ghost use Rattle.term_core.specs.Sizes.{reach};
+ghost use Rattle.expr_eval.specs.Answers.{held_of};
 ghost use Rattle.expr_eval.specs.Rooms.{kinds_of};
 ghost use Rattle.expr_eval.specs.Standing.{StandFor};
 ghost use Rattle.flow_eval.specs.Walks.{answer_of, days_to_try, first_tried, walk_of};
@@ -99,7 +100,7 @@ fn is_true(value: Value) -> bool
 
 // What is held of a name whose expression was answered so.
 fn held_from(answer: Result<Value, Missing>) -> Held
-    ensures { result ≡ elim answer [ Ok v ↦ Held.Known v | Err m ↦ Held.Lacking m ] }
+    ensures { result ≡ held_of answer }
 {
     match answer {
         Ok(value) => Held::Known { value },
