@@ -14,3 +14,5 @@ pub mod TriedFacts
 pub mod ReadyFacts
 pub mod GatherFacts
 pub mod StepFacts
+pub mod NetTables
+pub mod RootFacts

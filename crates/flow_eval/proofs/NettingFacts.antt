@@ -6,7 +6,8 @@ use Rattle.std.proofs.lemmas.List.Elements.{All-append, All-nil, All-cons, All-h
 use Rattle.std.proofs.lemmas.Int.{ints}
 use Rattle.flow_eval.specs.declared.flow_table.FlowRow.{FlowRow}
 use Rattle.flow_eval.specs.declared.payments.Payment.{Payment}
-use Rattle.flow_eval.specs.Netting.{AreDue, AreSmall, IsDueRow, closed, joined, row_of, rows_from, rows_of, same_slot}
+use Rattle.flow_eval.specs.Tables.{IsDueRow}
+use Rattle.flow_eval.specs.Netting.{AreDue, AreSmall, closed, joined, row_of, rows_from, rows_of, same_slot}
 
 -- a row on a day from the first to the last, of at most so much
 abbrev IsRow : ℤ → ℤ → ℕ → FlowRow → Type 0

@@ -1,6 +1,7 @@
 -- What a walk that notes payments answers: it appends the payments of the path to those noted before, or says which place
 -- is missing. Want of memory says nothing.
 use Rattle.std.specs.Prelude.{◌≡◌, List, ◌++◌, Result, Ok, Err}
+use Rattle.std.specs.Global.{Vec}
 use Rattle.flow_eval.specs.declared.faults.FlowErr.{FlowErr}
 use Rattle.flow_eval.specs.declared.faults.FlowErr.TheVariants.{Missing as IsMissing, NoMemory}
 use Rattle.flow_eval.specs.declared.payments.Payment.{Payment}
@@ -15,3 +16,9 @@ abbrev pub Gathers : PaymentsOrMissing → List Payment → List Payment → Res
 Gathers walk before after (Ok done) = appended before walk ≡ Ok after
 Gathers walk before after (Err (IsMissing label day)) = walk ≡ Err (record { label = label; day = day })
 Gathers walk before after (Err NoMemory) = Unit {0}
+
+-- the payments of a walk, gathered anew
+abbrev pub IsGathered : PaymentsOrMissing → Result (Vec Payment) FlowErr → Type 0
+IsGathered walk (Ok payments) = walk ≡ Ok payments.items
+IsGathered walk (Err (IsMissing label day)) = walk ≡ Err (record { label = label; day = day })
+IsGathered walk (Err NoMemory) = Unit {0}

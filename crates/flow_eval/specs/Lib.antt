@@ -5,3 +5,4 @@ pub mod Payments
 pub mod Walks
 pub mod Readiness
 pub mod Gathering
+pub mod FlowAnswers

@@ -40,10 +40,6 @@ AreSmall most ps = All (λ p. unsigned_abs p.amount ≤ most) ps
 abbrev pub AreDue : ℤ → ℤ → List Payment → Type 0
 AreDue first last ps = All (λ p. (first ≤ℤ p.slot.day) × (p.slot.day ≤ℤ last)) ps
 
--- a row on a day from the first to the last, of an amount that its line can hold
-abbrev pub IsDueRow : ℤ → ℤ → FlowRow → Type 0
-IsDueRow first last row = (first ≤ℤ row.day) × (row.day ≤ℤ last) × (unsigned_abs row.amount ≤ 10 ^ 36)
-
 -- no payment stands at a slot before that of an earlier one
 abbrev pub AreInOrder : List Payment → Type 0
 AreInOrder [] = Unit {0}

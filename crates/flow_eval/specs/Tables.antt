@@ -1,7 +1,7 @@
 -- The flow table of what is paid from a first to a last day: a row for each day, asset and two parties between whom the
 -- amount is not 0, in the direction in which it is above 0. The rows stand in order of day, asset, lower party and
 -- higher party; the places of assets and parties are those of the declarations.
-use Rattle.std.specs.Prelude.{ℤ, pos, ◌-ℤ◌, ◌<ℤ◌, ◌≤ℤ◌, ◌<◌, ◌≡◌, ◌⊎◌, min, max, List, [], ◌∷◌}
+use Rattle.std.specs.Prelude.{ℤ, pos, ◌-ℤ◌, ◌<ℤ◌, ◌≤ℤ◌, ◌<◌, ◌≤◌, ◌^◌, ◌≡◌, unsigned_abs, ◌⊎◌, min, max, List, [], ◌∷◌}
 use Rattle.std.specs.List.{All, Contains}
 use Rattle.term_core.specs.Declarations.{Declarations}
 use Rattle.term_core.specs.Terms.{Contract}
@@ -37,6 +37,10 @@ pub record IsPaid (pays : ℤ → Flow → ℤ) (first last : ℤ) (row : FlowRo
   pub no_later : row.day ≤ℤ last
   pub some : pos 0 <ℤ row.amount
   pub exact : row.amount ≡ pays row.day (flow_in row)
+
+-- a row on a day from the first to the last, of an amount that its line can hold
+abbrev pub IsDueRow : ℤ → ℤ → FlowRow → Type 0
+IsDueRow first last row = (first ≤ℤ row.day) × (row.day ≤ℤ last) × (unsigned_abs row.amount ≤ 10 ^ 36)
 
 -- the rows are the table of what is paid on a day from one party to another in an asset
 pub record IsTable (pays : ℤ → Flow → ℤ) (first last : ℤ) (rows : List FlowRow) : Type 0 where

@@ -3,10 +3,11 @@
 
 mod faults;
 mod flow_table;
-mod flows;
 mod netting;
 mod payments;
+mod tables;
 mod walk;
 
 pub use faults::FlowErr;
 pub use flow_table::{FlowRow, FlowTable, Slot, one_table};
+pub use tables::{flows, flows_on};
