@@ -16,3 +16,4 @@ pub mod GatherFacts
 pub mod StepFacts
 pub mod NetTables
 pub mod RootFacts
+pub mod AnswerFacts

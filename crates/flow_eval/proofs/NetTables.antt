@@ -108,6 +108,7 @@ table_from_net pays opposite first last from total rows same net = record {
       (λ down. let s : Slot = record { day = day; asset = w.asset; lower = w.to; higher = w.from } in held_down rows total s (pays day w) some (same s down due ∙ opposite day w) (net.whole s))
       (λ level. absurd (to_itself pays opposite day w level some));
 }
+
 rows_net_of : (first last : ℤ) (qs : List Payment) → All (λ p. Counts first last p.slot) qs → AreInOrder qs → (from : Slot) × AreNet (Counts first last) from (λ s. sum_at s qs) (rows_of qs)
 rows_net_of first last [] all order =
     let nowhere : Slot = record { day = pos 0; asset = 0; lower = 0; higher = 0 } in
@@ -141,7 +142,7 @@ table_same one other first last rows same table = record {
   ordered = table.ordered;
   right = All-weaker (IsPaid one first last) (IsPaid other first last) (paid_same one other first last same) rows table.right;
   whole = λ day w from to some.
-    subst (λ (x : ℤ). Contains rows (row_for day w x)) (same day w from to) (table.whole day w from to (subst (λ (x : ℤ). pos 0 <ℤ x) (sym (same day w from to)) some));
+      subst (λ (x : ℤ). Contains rows (row_for day w x)) (same day w from to) (table.whole day w from to (subst (λ (x : ℤ). pos 0 <ℤ x) (sym (same day w from to)) some));
 }
 
 own_day : (first day : ℤ) → first ≤ℤ day → pos (unsigned_abs (day -ℤ first)) ≡ day -ℤ first

@@ -75,9 +75,9 @@ pub hit_noted : (d : Declarations) (F : Environment) (last : ℤ) (here s : Stan
     → Gathers (walk_of d s.decimals z g bs F s.day last) xs ys res → Gathers (walk_of d here.decimals c g bs F here.day last) xs ys res
 hit_noted d F last here s c e n x y z g bs over r o k m xs ys res is b early count tried ok some es ez h =
     let all : walk_of d s.decimals z g bs F s.day last ≡ walk_of d here.decimals c g bs F here.day last =
-        ap (λ (u : Standing). walk_of d u.decimals z g bs F u.day last) es ∙ ap (λ (u : Contract). walk_of d here.decimals u g bs F (here.day +ℤ pos k) last) ez
-        ∙ sym (within_found d F last e n x y g bs here.decimals here.day k (sym b ∙ early) (tried_by d F last e g bs here.day m (count_of n) r (Ok (Some k)) count tried (ok ∙ ap (λ (u : Option ℕ). Ok u) some)))
-        ∙ ap (λ (u : Contract). walk_of d here.decimals u g bs F here.day last) (sym is) in
+    ap (λ (u : Standing). walk_of d u.decimals z g bs F u.day last) es ∙ ap (λ (u : Contract). walk_of d here.decimals u g bs F (here.day +ℤ pos k) last) ez
+    ∙ sym (within_found d F last e n x y g bs here.decimals here.day k (sym b ∙ early) (tried_by d F last e g bs here.day m (count_of n) r (Ok (Some k)) count tried (ok ∙ ap (λ (u : Option ℕ). Ok u) some)))
+    ∙ ap (λ (u : Contract). walk_of d here.decimals u g bs F here.day last) (sym is) in
     subst (λ (w : PaymentsOrMissing). Gathers w xs ys res) all h
 
 pub miss_noted : (d : Declarations) (F : Environment) (last : ℤ) (here s : Standing) (c : Contract) (e : Expression) (n : Days) (x y z : Contract) (g : List Entry) (bs : List (List Place)) (over : Bool) (r : DayOrMissing) (o : Option ℕ) (m : ℕ) (xs ys : List Payment) (res : Done)
@@ -85,10 +85,10 @@ pub miss_noted : (d : Declarations) (F : Environment) (last : ℤ) (here s : Sta
     → Gathers (walk_of d s.decimals z g bs F s.day last) xs ys res → Gathers (walk_of d here.decimals c g bs F here.day last) xs ys res
 miss_noted d F last here s c e n x y z g bs over r o m xs ys res is b early count tried ok none es ez h =
     let all : walk_of d s.decimals z g bs F s.day last ≡ walk_of d here.decimals c g bs F here.day last =
-        ap (λ (u : Standing). walk_of d u.decimals z g bs F u.day last) es ∙ ap (λ (u : Contract). walk_of d here.decimals u g bs F (here.day +ℤ pos m) last) ez
-        ∙ ap (λ (i : ℕ). walk_of d here.decimals y g bs F (here.day +ℤ pos i) last) count
-        ∙ sym (within_missed d F last e n x y g bs here.decimals here.day (sym b ∙ early) (tried_by d F last e g bs here.day m (count_of n) r (Ok None) count tried (ok ∙ ap (λ (u : Option ℕ). Ok u) none)))
-        ∙ ap (λ (u : Contract). walk_of d here.decimals u g bs F here.day last) (sym is) in
+    ap (λ (u : Standing). walk_of d u.decimals z g bs F u.day last) es ∙ ap (λ (u : Contract). walk_of d here.decimals u g bs F (here.day +ℤ pos m) last) ez
+    ∙ ap (λ (i : ℕ). walk_of d here.decimals y g bs F (here.day +ℤ pos i) last) count
+    ∙ sym (within_missed d F last e n x y g bs here.decimals here.day (sym b ∙ early) (tried_by d F last e g bs here.day m (count_of n) r (Ok None) count tried (ok ∙ ap (λ (u : Option ℕ). Ok u) none)))
+    ∙ ap (λ (u : Contract). walk_of d here.decimals u g bs F here.day last) (sym is) in
     subst (λ (w : PaymentsOrMissing). Gathers w xs ys res) all h
 
 pub test_missing : (d : Declarations) (F : Environment) (last : ℤ) (here : Standing) (c : Contract) (e : Expression) (n : Days) (x y : Contract) (g : List Entry) (bs : List (List Place)) (over : Bool) (r : DayOrMissing) (q : Missing) (m : ℕ) (xs ys : List Payment) (res : Done)

@@ -1,7 +1,5 @@
 //! Flow tables.
 
-ghost use Rattle.flow_eval.specs.Tables.{TablesAreOne};
-
 /// On a day of the portfolio, `from` pays `to` the amount, in units of the portfolio's least decimal, of the asset.
 #[derive(Clone, Copy, Debug, PartialEq, Eq)]
 pub struct FlowRow {
@@ -27,8 +25,3 @@ pub struct Slot {
 pub struct FlowTable {
     pub rows: Vec<FlowRow>,
 }
-
-/// What is paid has one flow table: of two lists of rows that are its table, each is the other.
-pub fn one_table()
-    ensures { TablesAreOne }
-{}

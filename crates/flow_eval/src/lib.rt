@@ -3,11 +3,13 @@
 
 mod faults;
 mod flow_table;
+mod laws;
 mod netting;
 mod payments;
 mod tables;
 mod walk;
 
 pub use faults::FlowErr;
-pub use flow_table::{FlowRow, FlowTable, Slot, one_table};
+pub use flow_table::{FlowRow, FlowTable, Slot};
+pub use laws::{one_answer, one_table};
 pub use tables::{flows, flows_on};

@@ -201,13 +201,7 @@ pub fn gather(
                 from: *from,
                 to: *to,
             };
-            pay(
-                out,
-                course.until,
-                here.day,
-                transfer,
-                pow10(here.decimals),
-            )?;
+            pay(out, course.until, here.day, transfer, pow10(here.decimals))?;
             Ok(())
         }
         Contr::Both { left, right } => {
@@ -224,16 +218,7 @@ pub fn gather(
             days,
             hit,
             miss,
-        } => gather_within(
-            course,
-            out,
-            scratch,
-            here,
-            test,
-            days,
-            hit,
-            miss,
-        ),
+        } => gather_within(course, out, scratch, here, test, days, hit, miss),
     }
 }
 

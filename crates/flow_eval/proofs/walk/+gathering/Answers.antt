@@ -33,7 +33,6 @@ pub gather-returns-then-is_over-clause-answer : goal.gather-returns-then-is_over
 gather-returns-then-is_over-clause-answer t c = λ g bs stand.
     over_notes c.args.out.now.items _ (walk_over (declarations c.args.course.now.decls.now) c.args.course.now.fixings.now c.args.course.now.until (contract c.args.c.now) g bs c.args.here.decimals c.args.here.day (sym c.is_over.ensures ∙ c.if-is_over.true))
 
-
 -- what the entries stand for, where the scratch is as it was
 stand_in : (F : Environment) (r r' : Room) (g : List Entry) (bs : List (List Place)) → r' ≡ r → StandFor F r.entries g bs → StandFor F r'.entries g bs
 stand_in F r r' g bs e h = subst (λ (x : Room). StandFor F x.entries g bs) (sym e) h
@@ -45,14 +44,18 @@ spared_in : (r r' r'' : Room) → r' ≡ r → r''.spare + 1 ≡ r'.spare → r'
 spared_in r r' r'' e h = h ∙ ap (λ (x : Room). x.spare) e
 
 pub gather_within-gather-requires : goal.gather_within-gather-requires
-gather_within-gather-requires t c =
-    (search rules, hit_ready (declarations c.args.course.now.decls.now) c.args.course.now.fixings.now c.args.here c.after.result c.args.scratch.now c.first_day.new.scratch (Within (expression c.args.test.now) c.args.days.now (contract c.args.hit.now) (contract c.args.miss.now)) (expression c.args.test.now) c.args.days.now (contract c.args.hit.now) (contract c.args.miss.now) (contract c.args.hit.now) c.in_ok-first.field-0 c.in-Some.first c.count-days.result
-    refl c.count-days.ensures c.in_ok-first.ensures.found c.in-Some.is c.after.ensures refl c.first_day.ensures.same c.requires.ready c.requires.days)
+gather_within-gather-requires t c = (
+  search rules,
+  hit_ready (declarations c.args.course.now.decls.now) c.args.course.now.fixings.now c.args.here c.after.result c.args.scratch.now c.first_day.new.scratch (Within (expression c.args.test.now) c.args.days.now (contract c.args.hit.now) (contract c.args.miss.now)) (expression c.args.test.now) c.args.days.now (contract c.args.hit.now) (contract c.args.miss.now) (contract c.args.hit.now) c.in_ok-first.field-0 c.in-Some.first c.count-days.result
+      refl c.count-days.ensures c.in_ok-first.ensures.found c.in-Some.is c.after.ensures refl c.first_day.ensures.same c.requires.ready c.requires.days,
+)
 
 pub gather_within-gather-requires-in-None : goal.gather_within-gather-requires-in-None
-gather_within-gather-requires-in-None t c =
-    (search rules, miss_ready (declarations c.args.course.now.decls.now) c.args.course.now.fixings.now c.args.here c.after-in-None.result c.args.scratch.now c.first_day.new.scratch (Within (expression c.args.test.now) c.args.days.now (contract c.args.hit.now) (contract c.args.miss.now)) (expression c.args.test.now) c.args.days.now (contract c.args.hit.now) (contract c.args.miss.now) (contract c.args.miss.now) c.count-days.result
-    refl c.count-days.ensures c.after-in-None.ensures refl c.first_day.ensures.same c.requires.ready c.requires.days)
+gather_within-gather-requires-in-None t c = (
+  search rules,
+  miss_ready (declarations c.args.course.now.decls.now) c.args.course.now.fixings.now c.args.here c.after-in-None.result c.args.scratch.now c.first_day.new.scratch (Within (expression c.args.test.now) c.args.days.now (contract c.args.hit.now) (contract c.args.miss.now)) (expression c.args.test.now) c.args.days.now (contract c.args.hit.now) (contract c.args.miss.now) (contract c.args.miss.now) c.count-days.result
+      refl c.count-days.ensures c.after-in-None.ensures refl c.first_day.ensures.same c.requires.ready c.requires.days,
+)
 
 pub gather_within-returns-in-Some-clause-answer : goal.gather_within-returns-in-Some-clause-answer
 gather_within-returns-in-Some-clause-answer t c = λ g bs stand.
@@ -90,10 +93,15 @@ pub gather_bound-value_at-requires-clause-ready : goal.gather_bound-value_at-req
 gather_bound-value_at-requires-clause-ready t c = ready_bound (declarations c.args.course.now.decls.now) (expression c.args.bound.now) (contract c.args.body.now) c.args.here.decimals c.args.scratch.now c.args.course.now.fixings.now c.requires.ready
 
 pub gather_bound-gather-gathered-requires : goal.gather_bound-gather-gathered-requires
-gather_bound-gather-gathered-requires t c =
-    (search rules, (ready_let (declarations c.args.course.now.decls.now) (expression c.args.bound.now) (contract c.args.body.now) c.args.here.decimals c.args.scratch.now c.enter.new.self c.args.course.now.fixings.now c.args.here.day c.kind_at-kind.result c.value_at.result c.held_from-held.result c.requires.ready c.kind_at-kind.ensures
-    (c.value_at.ensures.answer c.requires.ready.values c.requires.ready.places c.requires.ready.stand) c.held_from-held.ensures
-    (entered_in c.args.scratch.now c.value_at.new.scratch c.enter.new.self _ c.value_at.ensures.same c.enter.ensures.entries) (spared_in c.args.scratch.now c.value_at.new.scratch c.enter.new.self c.value_at.ensures.same c.enter.ensures.spare), c.requires.days))
+gather_bound-gather-gathered-requires t c = (
+  search rules,
+  (
+    ready_let (declarations c.args.course.now.decls.now) (expression c.args.bound.now) (contract c.args.body.now) c.args.here.decimals c.args.scratch.now c.enter.new.self c.args.course.now.fixings.now c.args.here.day c.kind_at-kind.result c.value_at.result c.held_from-held.result c.requires.ready c.kind_at-kind.ensures
+        (c.value_at.ensures.answer c.requires.ready.values c.requires.ready.places c.requires.ready.stand) c.held_from-held.ensures
+        (entered_in c.args.scratch.now c.value_at.new.scratch c.enter.new.self _ c.value_at.ensures.same c.enter.ensures.entries) (spared_in c.args.scratch.now c.value_at.new.scratch c.enter.new.self c.value_at.ensures.same c.enter.ensures.spare),
+    c.requires.days,
+  ),
+)
 
 pub gather_bound-returns-clause-answer : goal.gather_bound-returns-clause-answer
 gather_bound-returns-clause-answer t c = λ g bs stand.
@@ -152,8 +160,8 @@ gather_scaled-multiply_from-requires-clause-small t c =
     let fits : FitsSigned w128 c.number.result = search rules in
     let number : to_z w128 (of_z w128 c.number.result) ≡ num c.in_ok-factor.factor = to_z-of_z w128 c.number.result fits ∙ c.number.ensures in
     let small = noted_small (declarations c.args.course.now.decls.now) (expression c.args.factor.now) (contract c.args.body.now) c.args.here c.within.result c.args.scratch.now c.args.course.now.fixings.now c.args.course.now.until c.kind_at.result c.scale_of-scale.result c.args.out.now.items c.gather.new.out.items c.gather.result c.in_ok-gather.field-0 c.value_at.result c.in_ok-factor.factor (to_z w128 (of_z w128 c.number.result)) c.requires.ready
-        c.kind_at.ensures c.scale_of-scale.ensures c.within.ensures (c.gather.ensures.answer c.requires.ready.values c.requires.ready.places c.requires.ready.stand) c.in_ok-gather.was
-        (c.value_at.ensures.answer c.requires.ready.values c.requires.ready.places (stand_in c.args.course.now.fixings.now c.args.scratch.now c.gather.new.scratch c.requires.ready.values c.requires.ready.places c.gather.ensures.same c.requires.ready.stand)) c.in_ok-factor.was number in
+    c.kind_at.ensures c.scale_of-scale.ensures c.within.ensures (c.gather.ensures.answer c.requires.ready.values c.requires.ready.places c.requires.ready.stand) c.in_ok-gather.was
+    (c.value_at.ensures.answer c.requires.ready.values c.requires.ready.places (stand_in c.args.course.now.fixings.now c.args.scratch.now c.gather.new.scratch c.requires.ready.values c.requires.ready.places c.gather.ensures.same c.requires.ready.stand)) c.in_ok-factor.was number in
     subst (λ (n : ℕ). All (λ (p : Payment). unsigned_abs (p.amount *ℤ to_z w128 (of_z w128 c.number.result)) ≤ 10 ^ 30) (drop n c.gather.new.out.items)) (sym first) small
 
 pub gather_scaled-returns-clause-answer : goal.gather_scaled-returns-clause-answer

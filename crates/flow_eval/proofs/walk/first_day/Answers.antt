@@ -37,11 +37,11 @@ pub loop-i-preserved : goal.loop-i-preserved
 loop-i-preserved c = record {
   same = c.value_at.ensures.same ∙ c.loop-i.invariant.same;
   none = λ g bs stand.
-    let here : StandFor c.args.course.now.fixings.now c.loop-i.scratch.entries g bs = subst (λ (r : Room). StandFor c.args.course.now.fixings.now r.entries g bs) (sym c.loop-i.invariant.same) stand in
-    tried_false c.loop-i.i (λ i. answer_of (declarations c.args.course.now.decls.now) (expression c.args.test.now) g bs c.args.course.now.fixings.now (c.args.here.day +ℤ pos i)) c.in_ok-value_at.field-0 (c.loop-i.invariant.none g bs stand) (same_answer (declarations c.args.course.now.decls.now) (expression c.args.test.now) g bs c.args.course.now.fixings.now c.args.here c.after.result c.loop-i.i c.value_at.result _ c.after.ensures (c.value_at.ensures.answer g bs here) c.in_ok-value_at.was) (sym c.is_true.ensures ∙ c.if-is_true.false);
+      let here : StandFor c.args.course.now.fixings.now c.loop-i.scratch.entries g bs = subst (λ (r : Room). StandFor c.args.course.now.fixings.now r.entries g bs) (sym c.loop-i.invariant.same) stand in
+      tried_false c.loop-i.i (λ i. answer_of (declarations c.args.course.now.decls.now) (expression c.args.test.now) g bs c.args.course.now.fixings.now (c.args.here.day +ℤ pos i)) c.in_ok-value_at.field-0 (c.loop-i.invariant.none g bs stand) (same_answer (declarations c.args.course.now.decls.now) (expression c.args.test.now) g bs c.args.course.now.fixings.now c.args.here c.after.result c.loop-i.i c.value_at.result _ c.after.ensures (c.value_at.ensures.answer g bs here) c.in_ok-value_at.was) (sym c.is_true.ensures ∙ c.if-is_true.false);
 }
 
 pub returns-clause-answer : goal.returns-clause-answer
-returns-clause-answer c = λ g bs stand. 
+returns-clause-answer c = λ g bs stand.
     let count : c.loop-i.i ≡ days_to_try c.args.course.now.until c.args.here.day c.args.days = all_tried c.loop-i.i c.days_tried-count.result _ c.days_tried-count.ensures c.loop-i.auto.i-end c.loop-i-test.false in
     sym (subst (λ (n : ℕ). first_tried n (λ i. answer_of (declarations c.args.course.now.decls.now) (expression c.args.test.now) g bs c.args.course.now.fixings.now (c.args.here.day +ℤ pos i)) ≡ Ok None) count (c.loop-i.invariant.none g bs stand))
