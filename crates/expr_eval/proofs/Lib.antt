@@ -6,3 +6,4 @@ pub mod FitFacts
 pub mod EvaluableFacts
 pub mod AnswerFacts
 pub mod PartFacts
+mod Rows

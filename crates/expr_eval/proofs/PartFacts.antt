@@ -1,5 +1,5 @@
 -- What stands directly in a contract may be evaluated where the contract may be.
-use Rattle.std.proofs.Common.{◌≡◌, inl, inr, refl, List, [], ◌∷◌, Result}
+use Rattle.std.proofs.Common.{inl, inr, refl, List, [], ◌∷◌, Result}
 use Rattle.term_core.specs.Declarations.{Declarations}
 use Rattle.term_core.specs.declared.values.Value.{Value}
 use Rattle.term_core.specs.declared.values.Missing.{Missing}
@@ -9,9 +9,9 @@ use Rattle.term_core.specs.Bounds.{Range}
 use Rattle.interval_check.specs.Nodes.{range_of}
 use Rattle.interval_check.specs.Parts.{IsPart, IsPartHere, StandsIn}
 use Rattle.expr_eval.specs.declared.scratch.Binding.{Binding}
-use Rattle.expr_eval.specs.Evaluable.{SuitAll, MayEvaluate, MayEvaluateIn}
+use Rattle.expr_eval.specs.Evaluable.{MayEvaluate, MayEvaluateIn}
 use Rattle.expr_eval.specs.Answers.{entry_from, SuitsBinding}
-use Rattle.expr_eval.specs.LawsEntries.{PartsMayEvaluate, AcceptedMayEvaluate, PartsOfPartsMayEvaluate}
+use Rattle.expr_eval.specs.LawsEntries.{AcceptedMayEvaluate, PartsOfPartsMayEvaluate}
 
 part_of_itself : (e : Expression) → IsPart e e
 part_of_itself (Lit m s) = refl

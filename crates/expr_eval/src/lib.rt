@@ -14,3 +14,6 @@ pub use kinds::kind_of;
 pub use laws::{answers_may_be_entered, parts_may_be_evaluated};
 pub use scratch::{Binding, Held, Scratch};
 pub use values::eval;
+
+#[cfg(test)]
+mod tests;

@@ -4,6 +4,7 @@ ghost use Rattle.std.specs.Prelude.{◌≡◌, ◌∷◌, [], ◌≤◌, ◌<◌
 ghost use Rattle.term_core.specs.Terms.{expression, contract};
 ghost use Rattle.term_core.specs.Sizes.{height, height_of_contract};
 ghost use Rattle.expr_eval.specs.Rooms.{IsWithoutFirst};
+ghost use Rattle.expr_eval.specs.Answers.{held_of};
 
 use crate::heights::height_of;
 use decimal::NoMemory;
@@ -17,6 +18,18 @@ use term_core::{Contr, Expr, Kind, Missing, Value, counts};
 pub enum Held {
     Known { value: Value },
     Lacking { missing: Missing },
+}
+
+impl Held {
+    /// What a name holds that is bound to an expression with this answer.
+    pub fn of(answer: Result<Value, Missing>) -> Held
+        ensures { result ≡ held_of answer }
+    {
+        match answer {
+            Ok(value) => Held::Known { value },
+            Err(missing) => Held::Lacking { missing },
+        }
+    }
 }
 
 /// The entry of a bound name: the kind of its expression, and what it holds.

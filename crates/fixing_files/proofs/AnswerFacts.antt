@@ -1,23 +1,25 @@
 -- How a table begins and ends, and that it has one answer.
-use Rattle.std.proofs.Common.{◌≡◌, ◌≢◌, ◌∙◌, ◌⊎◌, inl, inr, ℕ, zero, suc, ◌+◌, ◌≤◌, ◌<◌, ◌==◌, ◌&&◌, Bool, true, false, cond, if◌then◌else◌, List, [], ◌∷◌, ◌++◌, length, Option, Some, None, Result, Ok, Err, refl, sym, ap, ap₂, subst, arith}
-use Rattle.std.specs.Prelude.{◌↔◌, codes}
+use Rattle.std.proofs.Common.{◌≡◌, ◌≢◌, ◌∙◌, ◌⊎◌, inl, inr, ℕ, ◌+◌, ◌≤◌, ◌&&◌, true, false, List, [], ◌∷◌, ◌++◌, length, Option, Some, None, Result, Ok, Err, refl, sym, ap, subst, arith}
+use Rattle.std.specs.Prelude.{codes}
+use Rattle.std.specs.Result.{IsErrAnd}
 use Rattle.std.proofs.lemmas.Bool.{and_parts, cases_Bool}
 use Rattle.std.proofs.lemmas.Slice.Eq.{bytes_eq-Decides}
 use Rattle.std.specs.Str.{bytes_eq}
 use Rattle.term_core.specs.Declarations.{Declarations}
 use Rattle.term_core.specs.Environments.{Place, Environment, held}
 use Rattle.term_core.specs.declared.values.Value.{Value}
-use Rattle.fixing_files.specs.Records.{Fields, header, said}
-use Rattle.fixing_files.specs.Tables.{Table, record_at, StandsAt, Says, IsFirstAt, Conflicts, LacksHeader, BreaksAlone, Breaks, IsFirstFault, Holds}
-use Rattle.fixing_files.specs.Laws.{FaultsAreUnique, FaultyTablesHoldNothing, TablesHoldOneMap}
-use Rattle.fixing_files.specs.Steps.{Found, Addition, Adds, step_of, is_header}
+use Rattle.fixing_files.specs.Records.{Fields, header}
+use Rattle.fixing_files.specs.Tables.{Table, Answers, StandsAt, Says, Breaks, IsFirstFault, Holds}
+use Rattle.fixing_files.specs.Steps.{Found, Addition, Adds, AddsIfOk, Steps, step_of, is_header}
 use Rattle.fixing_files.specs.declared.faults.RowKind.{RowKind}
 use Rattle.fixing_files.specs.declared.faults.RowKind.TheVariants as kind
 use Rattle.fixing_files.specs.declared.faults.RowFault.{RowFault}
+use Rattle.fixing_files.specs.declared.faults.RowErr.{RowErr}
+use Rattle.fixing_files.specs.declared.faults.RowErr.TheVariants.{Row, NoMemory}
 use Rattle.fixing_files.specs.declared.places.Fixed.{Fixed}
 use Rattle.fixing_files.proofs.FixedFacts.{value_in}
 use Rattle.fixing_files.proofs.TableFacts.{record_within}
-use Rattle.fixing_files.proofs.StepFacts.{Keeps, Known, Stands, steps_on, steps_fault, one_pair, one_kind}
+use Rattle.fixing_files.proofs.StepFacts.{Keeps, Known, steps_on, steps_fault}
 
 -- the header
 
@@ -63,14 +65,14 @@ module _ (d : Declarations) (r : Fields) where
 
   header_keeps : (found : Found) → r ≡ header → ((q : Place) → found q ≡ None) → Keeps d (r ∷ []) found
   header_keeps found is none =
-    record { sound = sound_header is; known = λ q. subst (Known d (r ∷ []) q) (sym (none q)) (λ n w s. nothing_stands r n s.fields s.at) }
+      record { sound = sound_header is; known = λ q. subst (Known d (r ∷ []) q) (sym (none q)) (λ n w s. nothing_stands r n s.fields s.at) }
 
   header_lacks : (more : Table) → r ≢ header → IsFirstFault d (r ∷ more) (record { row = 1; kind = kind.Shape })
   header_lacks more other =
-    record {
-      breaks = inl (record { number = refl; kind = refl; other = λ e. other (let same : r ≡ header = cc in same) });
-      first = λ n k b. from_one d (r ∷ more) n k b;
-    }
+      record {
+        breaks = inl (record { number = refl; kind = refl; other = λ e. other (let same : r ≡ header = cc in same) });
+        first = λ n k b. from_one d (r ∷ more) n k b;
+      }
 
   starts_on : (found after : Found) (a : Addition) → ((q : Place) → found q ≡ None) → step_of d 1 r found ≡ Ok a → Adds a found after → Keeps d (r ∷ []) after
   starts_on found after a none e adds = elim (cases_Bool (is_header r)) [
@@ -136,3 +138,32 @@ pub begun_holds : (d : Declarations) (t : Table) (found : Found) (env : Environm
 begun_holds d [] found env b some is = absurd (omega (arith, some))
 begun_holds d (x ∷ t) found env (inl b) some is = absurd (let wrong : x ∷ t ≡ [] = b.0 in cc)
 begun_holds d (x ∷ t) found env (inr b) some is = kept_holds d (x ∷ t) found env b.1 is
+
+-- what the steps of reading say
+
+module _ (d : Declarations) (t : Table) (r : Fields) (n : ℕ) (before after : Found) (next : n ≡ length t + 1) (begun : Begun d t before) where
+  here : (n : ℕ) → n ≡ length t + 1 → (s : Result Addition RowKind) → step_of d n r before ≡ s → step_of d (length t + 1) r before ≡ s
+  here n is s e = subst (λ (m : ℕ). step_of d m r before ≡ s) is e
+
+  adds_on : (s : Result Addition RowKind) → step_of d n r before ≡ s → AddsIfOk s before after → Begun d (t ++ r ∷ []) after
+  adds_on (Ok a) e adds = begun_on d t r before after a begun (here n next (Ok a) e) adds
+  adds_on (Err k) e adds = absurd adds
+
+  pub took_on : AddsIfOk (step_of d n r before) before after → Begun d (t ++ r ∷ []) after
+  took_on adds = adds_on (step_of d n r before) refl adds
+
+  fault_at : (fault : RowFault) (more : Table) → fault.row ≡ n → step_of d n r before ≡ Err fault.kind → IsFirstFault d (t ++ r ∷ more) fault
+  fault_at fault more row e =
+      subst (λ (m : ℕ). IsFirstFault d (t ++ r ∷ more) (record { row = m; kind = fault.kind })) (sym (row ∙ next)) (begun_fault d t r before more fault.kind begun (here n next (Err fault.kind) e))
+
+  pub took_fault : (all more : Table) (err : RowErr) → all ≡ t ++ r ∷ more → Steps n (step_of d n r before) before after (Err err) → Answers d all (Err err)
+  took_fault all more (Row fault) is s = subst (λ (x : Table). IsFirstFault d x fault) (sym is) (fault_at fault more s.0 s.1)
+  took_fault all more NoMemory is s = tt {0}
+
+pub answered : (d : Declarations) (all : Table) (r : Result Environment RowErr) (e : RowErr) → IsErrAnd r (λ x. x ≡ e) → Answers d all (Err e) → Answers d all r
+answered d all (Ok env) e h a = absurd h
+answered d all (Err x) e h a = subst (λ (y : RowErr). Answers d all (Err y)) (sym h) a
+
+pub empty_answers : (d : Declarations) (t all : Table) → t ≡ all → length t ≡ 0 → IsFirstFault d all (record { row = 1; kind = kind.Shape })
+empty_answers d [] all is none = subst (λ (x : Table). IsFirstFault d x (record { row = 1; kind = kind.Shape })) is (empty_fault d)
+empty_answers d (x ∷ t) all is none = absurd (omega (arith, none))

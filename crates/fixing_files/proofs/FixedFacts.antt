@@ -1,5 +1,5 @@
 -- The map that the program keeps, and the environment that it stands for.
-use Rattle.std.proofs.Common.{◌≡◌, ◌∙◌, ℕ, ◌==◌, ◌&&◌, Bool, true, false, cond, List, [], ◌∷◌, Option, Some, Ordering, Less, Equal, Greater, refl, ap₂, arith}
+use Rattle.std.proofs.Common.{◌≡◌, ◌∙◌, ℕ, ◌==◌, ◌&&◌, Bool, true, false, cond, List, [], ◌∷◌, Option, Some, None, Ordering, Less, Equal, Greater, refl, ap, ap₂, subst, sym, arith}
 use Rattle.std.proofs.lemmas.Bool.Decides.{nat_tests}
 use Rattle.std.specs.Prelude.{int_lt, option_map}
 use Rattle.std.specs.Ordering.{is_eq, nat_cmp, int_cmp, ordering_then}
@@ -7,7 +7,7 @@ use Rattle.std.specs.Map.{lookup}
 use Rattle.std.specs.BTreeMap.{is_at}
 use Rattle.term_core.specs.Environments.{same_place, held}
 use Rattle.term_core.specs.declared.values.Value.{Value}
-use Rattle.fixing_files.specs.Steps.{compared}
+use Rattle.fixing_files.specs.Steps.{Adds, AddsIfOk, against, compared, found_in, spot_of}
 use Rattle.fixing_files.specs.Fixed.{place_of, values_of}
 use Rattle.fixing_files.specs.declared.places.Spot.{Spot}
 use Rattle.fixing_files.specs.declared.places.Fixed.{Fixed}
@@ -44,3 +44,13 @@ at_first false true e f o r h = absurd (cc)
 pub held_is : (es : List (Spot × Fixed)) (s : Spot) → held (values_of es) (place_of s) ≡ value_in (lookup (is_at (compared s)) es)
 held_is [] s = refl
 held_is (e ∷ es) s = at_first (same_place (place_of e.0) (place_of s)) (is_eq (compared s e.0)) (compared_same s e.0) e.1 (held (values_of es) (place_of s)) (lookup (is_at (compared s)) es) (held_is es s)
+
+-- a value that is put at a place where nothing stood
+pub put_adds : (before after : List (Spot × Fixed)) (s : Spot) (f : Fixed) → lookup (is_at (compared s)) before ≡ None
+    → ((q : Spot) → lookup (is_at (compared q)) after ≡ cond (is_at (compared s) q) (Some f) (lookup (is_at (compared q)) before))
+    → AddsIfOk (against (found_in before (place_of s)) f.row (place_of s) f.value) (found_in before) (found_in after)
+put_adds before after s f none updates =
+    let adds : Adds (Some (place_of s, f)) (found_in before) (found_in after) =
+    λ p. updates (spot_of p) ∙ ap (λ (b : Bool). cond b (Some f) (found_in before p)) (compared_same s (spot_of p))
+    in
+    subst (λ (o : Option Fixed). AddsIfOk (against o f.row (place_of s) f.value) (found_in before) (found_in after)) (sym none) adds

@@ -1,6 +1,6 @@
 -- A table has one answer, and what it holds is declared.
-use Rattle.std.proofs.Common.{◌≡◌, ◌≢◌, ◌∙◌, ◌⊎◌, inl, inr, ℕ, zero, suc, ℤ, pos, neg_ℤ, ◌≤ℤ◌, ◌+◌, ◌≤◌, ◌<◌, ◌&&◌, Bool, true, false, cond, if◌then◌else◌, List, [], ◌∷◌, length, Option, Some, None, Result, Ok, Err, refl, sym, ap, ap₂, subst, arith}
-use Rattle.std.specs.Prelude.{◌↔◌, codes, int_le, position}
+use Rattle.std.proofs.Common.{◌≡◌, ◌∙◌, inl, inr, ℕ, ℤ, pos, neg_ℤ, ◌≤ℤ◌, ◌<◌, ◌&&◌, Bool, true, false, if◌then◌else◌, List, [], ◌∷◌, length, Option, Some, None, Result, Ok, Err, refl, sym, ap, ap₂, subst, arith}
+use Rattle.std.specs.Prelude.{codes, int_le}
 use Rattle.std.specs.Map.{keys_of}
 use Rattle.std.specs.Str.{bytes_eq}
 use Rattle.std.proofs.lemmas.Bool.{and_parts, cases_Bool}
@@ -14,13 +14,12 @@ use Rattle.term_core.specs.declared.label.Label.TheVariants.{Number, Flag}
 use Rattle.term_core.specs.declared.values.Value.{Value}
 use Rattle.term_core.specs.declared.values.Value.TheVariants.{Num as Amount, Truth}
 use Rattle.fixing_files.specs.Days.{day_of}
-use Rattle.fixing_files.specs.Records.{Fields, decimal_of, day_or_none, day_said, label_named, mantissa_at, placed, said, said_at, truth_said, value_said, within_bounds, within_days}
-use Rattle.fixing_files.specs.Tables.{Table, record_at, StandsAt, Says, IsFirstAt, Conflicts, LacksHeader, BreaksAlone, Breaks, IsFirstFault, Holds, IsPlaced}
+use Rattle.fixing_files.specs.Records.{Fields, decimal_of, day_or_none, day_said, label_named, mantissa_at, placed, said, said_at, value_said, within_bounds, within_days}
+use Rattle.fixing_files.specs.Tables.{Table, StandsAt, Says, IsFirstAt, BreaksAlone, Breaks, Holds, IsPlaced}
 use Rattle.fixing_files.specs.Laws.{FaultsAreUnique, FaultyTablesHoldNothing, TablesHoldOneMap}
 use Rattle.fixing_files.specs.declared.days.DayFault.{DayFault}
 use Rattle.fixing_files.specs.declared.faults.RowKind.{RowKind}
 use Rattle.fixing_files.specs.declared.faults.RowKind.TheVariants as kind
-use Rattle.fixing_files.specs.declared.faults.RowFault.{RowFault}
 use Rattle.fixing_files.proofs.StepFacts.{one_pair, one_kind}
 
 -- one record has one meaning

@@ -4,4 +4,7 @@ pub mod TableFacts
 pub mod StepFacts
 pub mod AnswerFacts
 pub mod LawFacts
+pub mod DecimalFacts
+pub mod RecordFacts
+pub mod ReachedFacts
 mod RowsTables

@@ -1,14 +1,13 @@
 -- Records of a table that goes on: what holds of a record in the front part holds in the whole.
-use Rattle.std.proofs.Common.{◌≡◌, ◌≢◌, ◌∙◌, ◌⊎◌, inl, inr, ℕ, zero, suc, ◌+◌, ◌≤◌, ◌<◌, List, [], ◌∷◌, ◌++◌, length, Option, Some, None, slice_get, Result, Ok, Err, refl, sym, ap, subst, arith, add-one}
+use Rattle.std.proofs.Common.{◌≡◌, ◌∙◌, inl, inr, ℕ, zero, suc, ◌+◌, ◌≤◌, ◌<◌, [], ◌∷◌, ◌++◌, length, Some, slice_get, refl, sym, ap, arith, add-one}
 use Rattle.std.proofs.lemmas.Option.{slice_get_within}
 use Rattle.std.proofs.lemmas.List.{length-append}
 use Rattle.term_core.specs.Declarations.{Declarations}
 use Rattle.term_core.specs.Environments.{Place}
 use Rattle.term_core.specs.declared.values.Value.{Value}
-use Rattle.fixing_files.specs.Records.{Fields, header, said}
-use Rattle.fixing_files.specs.Tables.{Table, record_at, StandsAt, Says, IsFirstAt, Conflicts, LacksHeader, BreaksAlone, Breaks}
+use Rattle.fixing_files.specs.Records.{Fields}
+use Rattle.fixing_files.specs.Tables.{Table, record_at, StandsAt, Says, IsFirstAt, Conflicts, Breaks}
 use Rattle.fixing_files.specs.declared.faults.RowKind.{RowKind}
-use Rattle.fixing_files.specs.declared.faults.RowKind.TheVariants as kind
 
 get_front : (t more : Table) (i : ℕ) → i < length t → slice_get (t ++ more) i ≡ slice_get t i
 get_front [] more i h = absurd (omega (arith, h))
@@ -46,28 +45,28 @@ module _ (d : Declarations) (t more : Table) where
 
   first_back : (q : Place) (e : ℕ) → IsFirstAt d (t ++ more) q e → e ≤ length t → IsFirstAt d t q e
   first_back q e h within =
-    record { value = h.value; says = says_back e q h.value h.says within; first = λ n w s. h.first n w (says_on n q w s) }
+      record { value = h.value; says = says_back e q h.value h.says within; first = λ n w s. h.first n w (says_on n q w s) }
 
   conflict_back : (n e : ℕ) → Conflicts d (t ++ more) n e → n ≤ length t → Conflicts d t n e
   conflict_back n e h within =
-    record {
-      place = h.place;
-      value = h.value;
-      other = h.other;
-      earlier = h.earlier;
-      says = says_back n h.place h.value h.says within;
-      says_other = says_back h.earlier h.place h.other h.says_other (omega (arith, h.before));
-      before = h.before;
-      another = h.another;
-      first = first_back h.place e h.first (omega (arith, h.first.first n h.value h.says));
-    }
+      record {
+        place = h.place;
+        value = h.value;
+        other = h.other;
+        earlier = h.earlier;
+        says = says_back n h.place h.value h.says within;
+        says_other = says_back h.earlier h.place h.other h.says_other (omega (arith, h.before));
+        before = h.before;
+        another = h.another;
+        first = first_back h.place e h.first (omega (arith, h.first.first n h.value h.says));
+      }
 
   -- what breaks a rule in the front part breaks it in the front part alone
   pub breaks_back : (n : ℕ) (k : RowKind) → Breaks d (t ++ more) n k → n ≤ length t → Breaks d t n k
   breaks_back n k (inl h) within =
-    inl (record { number = h.number; kind = h.kind; other = λ e. h.other (record_front t more 1 (omega (arith, h.number)) ∙ e) })
+      inl (record { number = h.number; kind = h.kind; other = λ e. h.other (record_front t more 1 (omega (arith, h.number)) ∙ e) })
   breaks_back n k (inr (inl h)) within =
-    inr (inl (record { fields = h.fields; at = stands_back t more n h.fields h.at within; meaning = h.meaning }))
+      inr (inl (record { fields = h.fields; at = stands_back t more n h.fields h.at within; meaning = h.meaning }))
   breaks_back n k (inr (inr h)) within = inr (inr (h.0, h.1, conflict_back n h.0 h.2 within))
 
 -- the record that stands behind the front part

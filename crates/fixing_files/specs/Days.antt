@@ -1,5 +1,5 @@
 -- The day that a text names: a number of days after the origin, as an optional minus and one to nine digits, or a civil
--- date `dddd-dd-dd`, whose day is its distance from the origin. No text is both.
+-- date `dddd-dd-dd`, whose day is its distance from the origin.
 use Rattle.std.specs.Prelude.{ℕ, ℤ, pos, neg_ℤ, ◌-ℤ◌, ◌==◌, ◌&&◌, nat_le, List, [], ◌∷◌, length, Option, Some, None, option_map, Result, Ok, Err, if◌then◌else◌}
 use Rattle.std.specs.List.{list_all}
 use Rattle.std.specs.Str.Parse.{digits_value}

@@ -15,6 +15,9 @@ use Rattle.fixing_files.specs.declared.faults.RowKind.{RowKind}
 use Rattle.fixing_files.specs.declared.faults.RowKind.TheVariants.{Shape, Conflict}
 use Rattle.fixing_files.specs.declared.faults.RowErr.{RowErr}
 use Rattle.fixing_files.specs.declared.faults.RowErr.TheVariants.{Row, NoMemory}
+use Rattle.fixing_files.specs.Fixed.{place_of}
+use Rattle.fixing_files.specs.declared.faults.Refusal.{Refusal}
+use Rattle.fixing_files.specs.declared.faults.Refusal.TheVariants.{Broken, NoMemory as LacksMemory}
 use Rattle.fixing_files.specs.declared.places.Spot.{Spot}
 use Rattle.fixing_files.specs.declared.places.Fixed.{Fixed}
 
@@ -55,9 +58,23 @@ abbrev pub judged : Found → ℕ → Result (Place × Value) RowKind → Result
 judged found n (Ok p) = against (found p.0) n p.0 p.1
 judged found n (Err kind) = Err kind
 
+-- three fields
+abbrev pub three_of : Fields → Option (List ℕ × List ℕ × List ℕ)
+three_of (a ∷ b ∷ c ∷ []) = Some (a, b, c)
+three_of _ = None
+
+abbrev pub are_header : Option (List ℕ × List ℕ × List ℕ) → Bool
+are_header None = false
+are_header (Some r) = bytes_eq r.0 (codes "label") && (bytes_eq r.1 (codes "day") && bytes_eq r.2 (codes "value"))
+
 abbrev pub is_header : Fields → Bool
-is_header (a ∷ b ∷ c ∷ []) = bytes_eq a (codes "label") && (bytes_eq b (codes "day") && bytes_eq c (codes "value"))
-is_header _ = false
+is_header fields = are_header (three_of fields)
+
+-- the answer to what a record says
+abbrev pub Says : Result (Place × Value) RowKind → Result (Spot × Value) Refusal → Type 0
+Says meaning (Ok p) = meaning ≡ Ok (place_of p.0, p.1)
+Says meaning (Err (Broken kind)) = meaning ≡ Err kind
+Says meaning (Err LacksMemory) = Unit {0}
 
 -- what record n does
 abbrev pub step_of : Declarations → ℕ → Fields → Found → Result Addition RowKind

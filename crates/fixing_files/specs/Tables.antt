@@ -2,10 +2,10 @@
 -- and each further one says that a value is fixed at a place or breaks a rule by itself, or conflicts with an earlier
 -- record of the same place. A table is refused at the first record that breaks a rule, and else it holds what its
 -- records say.
-use Rattle.std.specs.Prelude.{◌≡◌, ◌≢◌, ◌↔◌, ◌⊎◌, ◌≤◌, ◌<◌, ℕ, zero, suc, ℤ, pos, neg_ℤ, ◌≤ℤ◌, List, length, Option, Some, None, Result, Ok, Err, slice_get}
+use Rattle.std.specs.Prelude.{◌≡◌, ◌≢◌, ◌↔◌, ◌⊎◌, ◌≤◌, ◌<◌, ℕ, zero, suc, pos, neg_ℤ, ◌≤ℤ◌, List, length, Option, Some, None, Result, Ok, Err, slice_get}
 use Rattle.csv.specs.Reading.{default_config, records, strip_bom}
 use Rattle.term_core.specs.Declarations.{Declarations}
-use Rattle.term_core.specs.Environments.{Environment, IsAdmitted, Place, held}
+use Rattle.term_core.specs.Environments.{Environment, Place, held}
 use Rattle.term_core.specs.declared.values.Value.{Value}
 use Rattle.fixing_files.specs.Records.{Fields, header, said}
 use Rattle.fixing_files.specs.declared.faults.RowKind.{RowKind}

@@ -1,5 +1,11 @@
 //! Why a table is refused.
 
+ghost use Rattle.std.specs.Prelude.{◌≡◌};
+ghost use Rattle.fixing_files.specs.declared.faults.RowErr.TheVariants.{Row};
+ghost use Rattle.fixing_files.specs.declared.faults.Refusal.TheVariants.{NoMemory as lacks_memory};
+
+use decimal::NoMemory;
+
 /// The rule that a record breaks. `Conflict` names the first record of the same place, by its number. `Factor`, `Rising`
 /// and `Zero` are of tables of discount factors.
 #[derive(Clone, Copy, Debug, PartialEq, Eq)]
@@ -27,4 +33,26 @@ pub struct RowFault {
 pub enum RowErr {
     Row(RowFault),
     NoMemory,
+}
+
+/// The answer that refuses a record.
+pub fn refused(row: u32, kind: RowKind) -> RowErr
+    ensures { result ≡ Row (record { row = row; kind = kind }) }
+{
+    RowErr::Row(RowFault { row, kind })
+}
+
+/// Why a record says nothing.
+#[derive(Clone, Copy, Debug, PartialEq, Eq)]
+pub enum Refusal {
+    Broken(RowKind),
+    NoMemory,
+}
+
+impl From<NoMemory> for Refusal {
+    ghost from_gives = { λ _ e. e ≡ lacks_memory };
+
+    fn from(_: NoMemory) -> Refusal {
+        Refusal::NoMemory
+    }
 }

@@ -12,7 +12,7 @@ use term_core::Value;
 /// What was observed: a finite map from places, each a label and a day, to values.
 #[derive(Drop)]
 pub struct Fixings {
-    rows: BTreeMap<Spot, Fixed>,
+    pub(crate) rows: BTreeMap<Spot, Fixed>,
 }
 
 impl Model for Fixings {

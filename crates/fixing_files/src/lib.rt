@@ -4,8 +4,17 @@
 mod days;
 mod faults;
 mod fixings;
+mod laws;
 mod places;
+mod records;
+mod tables;
+mod values;
 
 pub use days::{DayFault, day_of_text};
 pub use faults::{RowErr, RowFault, RowKind};
 pub use fixings::Fixings;
+pub use laws::{mantissas_are_written, tables_have_one_answer};
+pub use tables::read_fixings;
+
+#[cfg(test)]
+mod tests;

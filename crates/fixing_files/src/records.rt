@@ -1,0 +1,88 @@
+//! What one record says.
+
+ghost use Rattle.std.specs.Prelude.{◌≡◌, IfOk, IfSome, Some, option_map, true};
+ghost use Rattle.csv.specs.Records.{fields_of};
+ghost use Rattle.term_core.specs.Declarations.{declarations};
+ghost use Rattle.term_core.specs.Environments.{label_of};
+ghost use Rattle.term_core.specs.Limits.{is_label, is_origin};
+ghost use Rattle.fixing_files.specs.Records.{day_said, label_named, said};
+ghost use Rattle.fixing_files.specs.Steps.{Says, is_header, three_of};
+
+use crate::days::day_of_text;
+use crate::faults::{Refusal, RowKind};
+use crate::places::Spot;
+use crate::values::value_of;
+use csv::ByteRecord;
+use decimal::NoMemory;
+use std::alloc::Global;
+use term_core::{Decls, Label, Name, Value};
+
+/// The limit of the days of fixings, before the origin and after it.
+const LAST_DAY: i64 = 3_000_000;
+
+// The fields of a record of three.
+fn three(record: &ByteRecord) -> Option<(&[u8], &[u8], &[u8])>
+    ensures { option_map (λ r. (r.0.now, r.1.now, r.2.now)) result ≡ three_of (fields_of «record».now) }
+{
+    if record.len() == 3 {
+        Some((record.get(0)?, record.get(1)?, record.get(2)?))
+    } else {
+        None
+    }
+}
+
+/// Whether the record is the header of a table of fixings.
+pub fn is_header(record: &ByteRecord) -> bool
+    ensures { result ≡ is_header (fields_of «record».now) }
+{
+    match three(record) {
+        Some((label, day, value)) => label == b"label".as_slice()
+            && day == b"day".as_slice()
+            && value == b"value".as_slice(),
+        None => false,
+    }
+}
+
+// The place of a declared label, and what is declared.
+fn label_named(alloc: Global, decls: &Decls, name: &[u8]) -> Result<Option<(u32, Label)>, NoMemory>
+    ensures place { IfOk result (λ found. option_map (λ p. p.0) found ≡ label_named (declarations decls.now) name.now) }
+    ensures declared { IfOk result (λ found. IfSome found (λ p. label_of (declarations decls.now) p.0 ≡ Some p.1)) }
+    ensures limits { IfOk result (λ found. IfSome found (λ p. is_label p.1 ≡ true)) }
+{
+    let name = Name::new(alloc, name)?;
+    match decls.labels.get_full(&name) {
+        Some((place, _, label)) => Ok(Some((place as u32, *label))),
+        None => Ok(None),
+    }
+}
+
+// The day of a fixing.
+fn day_said(origin: Option<i64>, text: &[u8]) -> Option<i64>
+    requires { is_origin origin ≡ true }
+    ensures { result ≡ day_said origin text.now }
+{
+    match day_of_text(origin, text) {
+        Ok(day) if -LAST_DAY <= day && day <= LAST_DAY => Some(day),
+        _ => None,
+    }
+}
+
+/// The value that a record says is fixed, and the place, or the first rule that the record breaks.
+#[tactic(auto, unfolding(crate::specs::Records::said))]
+pub fn entry_of(alloc: Global, decls: &Decls, record: &ByteRecord) -> Result<(Spot, Value), Refusal>
+    ensures { Says (said (declarations decls.now) (fields_of «record».now)) result }
+{
+    let Some((name, day, value)) = three(record) else {
+        return Err(Refusal::Broken(RowKind::Shape));
+    };
+    let Some((label, declared)) = label_named(alloc, decls, name)? else {
+        return Err(Refusal::Broken(RowKind::Label));
+    };
+    let Some(day) = day_said(decls.origin, day) else {
+        return Err(Refusal::Broken(RowKind::Day));
+    };
+    match value_of(declared, value) {
+        Ok(value) => Ok((Spot { label, day }, value)),
+        Err(kind) => Err(Refusal::Broken(kind)),
+    }
+}
