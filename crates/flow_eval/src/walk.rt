@@ -8,7 +8,6 @@ ghost use Rattle.term_core.specs.Kinds.{kind_of, scale_of_kind};
 ghost use Rattle.term_core.specs.Values.{Entry, kind_or, num, truth};
 ghost use Rattle.term_core.specs.Flows.{count_of};
 ghost use Rattle.term_core.specs.Sizes.{reach};
-ghost use Rattle.expr_eval.specs.Answers.{held_of};
 ghost use Rattle.expr_eval.specs.Rooms.{kinds_of};
 ghost use Rattle.expr_eval.specs.Standing.{StandFor};
 ghost use Rattle.flow_eval.specs.Walks.{answer_of, days_to_try, first_tried, walk_of};
@@ -95,16 +94,6 @@ fn is_true(value: Value) -> bool
     match value {
         Value::Num { .. } => false,
         Value::Truth { value } => value,
-    }
-}
-
-// What is held of a name whose expression was answered so.
-fn held_from(answer: Result<Value, Missing>) -> Held
-    ensures { result ≡ held_of answer }
-{
-    match answer {
-        Ok(value) => Held::Known { value },
-        Err(missing) => Held::Lacking { missing },
     }
 }
 
@@ -289,7 +278,7 @@ fn gather_bound(
     ensures same { scratch.new ≡ scratch.old }
 {
     let kind = kind_at(course, bound, scratch);
-    let held = held_from(value_at(course, bound, scratch, here));
+    let held = Held::of(value_at(course, bound, scratch, here));
     scratch.enter(kind, held);
     let gathered = gather(course, out, scratch, here, body);
     scratch.leave();

@@ -96,8 +96,8 @@ pub gather_bound-gather-gathered-requires : goal.gather_bound-gather-gathered-re
 gather_bound-gather-gathered-requires t c = (
   search rules,
   (
-    ready_let (declarations c.args.course.now.decls.now) (expression c.args.bound.now) (contract c.args.body.now) c.args.here.decimals c.args.scratch.now c.enter.new.self c.args.course.now.fixings.now c.args.here.day c.kind_at-kind.result c.value_at.result c.held_from-held.result c.requires.ready c.kind_at-kind.ensures
-        (c.value_at.ensures.answer c.requires.ready.values c.requires.ready.places c.requires.ready.stand) c.held_from-held.ensures
+    ready_let (declarations c.args.course.now.decls.now) (expression c.args.bound.now) (contract c.args.body.now) c.args.here.decimals c.args.scratch.now c.enter.new.self c.args.course.now.fixings.now c.args.here.day c.kind_at-kind.result c.value_at.result c.of-held.result c.requires.ready c.kind_at-kind.ensures
+        (c.value_at.ensures.answer c.requires.ready.values c.requires.ready.places c.requires.ready.stand) c.of-held.ensures
         (entered_in c.args.scratch.now c.value_at.new.scratch c.enter.new.self _ c.value_at.ensures.same c.enter.ensures.entries) (spared_in c.args.scratch.now c.value_at.new.scratch c.enter.new.self c.value_at.ensures.same c.enter.ensures.spare),
     c.requires.days,
   ),
@@ -111,7 +111,7 @@ gather_bound-returns-clause-answer t c = λ g bs stand.
     let entered = entered_in c.args.scratch.now c.value_at.new.scratch c.enter.new.self _ c.value_at.ensures.same c.enter.ensures.entries in
     c.gather-gathered.ensures.answer (entry_of d e g c.args.course.now.fixings.now f ∷ g) (reads_of d e g bs c.args.course.now.fixings.now f ∷ bs)
     (subst (λ (es : List Binding). StandFor c.args.course.now.fixings.now es (entry_of d e g c.args.course.now.fixings.now f ∷ g) (reads_of d e g bs c.args.course.now.fixings.now f ∷ bs)) (sym entered)
-    (entered_stands d e c.args.course.now.fixings.now f c.args.scratch.now.entries g bs c.kind_at-kind.result c.value_at.result c.held_from-held.result stand c.kind_at-kind.ensures (c.value_at.ensures.answer g bs stand) c.held_from-held.ensures))
+    (entered_stands d e c.args.course.now.fixings.now f c.args.scratch.now.entries g bs c.kind_at-kind.result c.value_at.result c.of-held.result stand c.kind_at-kind.ensures (c.value_at.ensures.answer g bs stand) c.of-held.ensures))
 
 -- ---- a factor
 
