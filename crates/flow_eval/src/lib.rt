@@ -13,3 +13,6 @@ pub use faults::FlowErr;
 pub use flow_table::{FlowRow, FlowTable, Slot};
 pub use laws::{one_answer, one_table};
 pub use tables::{flows, flows_on};
+
+#[cfg(test)]
+mod tests;
