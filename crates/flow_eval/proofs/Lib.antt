@@ -17,3 +17,4 @@ pub mod StepFacts
 pub mod NetTables
 pub mod RootFacts
 pub mod AnswerFacts
+mod Rows
