@@ -1,13 +1,10 @@
 -- The flows of a contract over fixings have one answer.
-use Rattle.std.proofs.Common.{◌≡◌, ℕ, ℤ, ◌⊎◌, inl, inr, List, Option, Some, None, Result, Ok, Err, refl, ap, sym, ◌∙◌}
-use Rattle.term_core.specs.Declarations.{Declarations}
-use Rattle.term_core.specs.Terms.{Contract}
-use Rattle.term_core.specs.Environments.{Environment, Place}
+use Rattle.std.proofs.Common.{◌≡◌, ℕ, ℤ, inl, inr, List, Option, Some, None, Ok, Err, refl, ap, sym, ◌∙◌}
+use Rattle.term_core.specs.Environments.{Place}
 use Rattle.flow_eval.specs.declared.faults.FlowErr.{FlowErr}
 use Rattle.flow_eval.specs.declared.faults.FlowErr.TheVariants.{Missing, NoMemory}
 use Rattle.flow_eval.specs.declared.flow_table.FlowRow.{FlowRow}
-use Rattle.flow_eval.specs.declared.flow_table.FlowTable.{FlowTable}
-use Rattle.flow_eval.specs.FlowAnswers.{AnswersAreOne, AreFlows, told}
+use Rattle.flow_eval.specs.FlowAnswers.{AnswersAreOne}
 use Rattle.flow_eval.specs.Tables.{paid_by}
 use Rattle.flow_eval.proofs.TableFacts.{tables_are_one}
 

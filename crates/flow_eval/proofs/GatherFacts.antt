@@ -1,9 +1,7 @@
 -- What the parts of a walk note, taken together.
-use Rattle.std.proofs.Common.{◌≡◌, ℕ, suc, ℤ, pos, ◌+ℤ◌, ◌*ℤ◌, ◌≤◌, ◌<◌, ◌+◌, ◌-◌, ◌-ℤ◌, ◌*◌, ◌==◌, ◌||◌, ◌^◌, Bool, true, false, int_lt, if◌then◌else◌, List, [], ◌∷◌, ◌++◌, append_assoc, append-nil, length, length-append, take, drop, Option, Some, None, Result, Ok, Err, refl, ap, sym, ◌∙◌, subst, arith, unsigned_abs}
+use Rattle.std.proofs.Common.{◌≡◌, ℕ, ℤ, pos, ◌+ℤ◌, ◌≤◌, ◌-◌, ◌-ℤ◌, ◌==◌, ◌||◌, Bool, true, false, int_lt, if◌then◌else◌, List, [], ◌∷◌, ◌++◌, append_assoc, append-nil, length, length-append, take, drop, Option, Some, None, Result, Ok, Err, refl, ap, sym, ◌∙◌, subst, arith}
 use Rattle.std.proofs.Math.Seq.{drop-append_seam, take-append_seam}
-use Rattle.std.specs.List.{All}
 use Rattle.std.proofs.lemmas.Int.{ints}
-use Rattle.std.proofs.lemmas.List.Elements.{All-nil, All-cons, All-head, All-tail, All-weaker}
 use Rattle.decimal.specs.Rounding.{raised}
 use Rattle.term_core.specs.Declarations.{Declarations}
 use Rattle.term_core.specs.declared.values.Value.{Value}
@@ -13,13 +11,13 @@ use Rattle.term_core.specs.Terms.{Expression, Contract, Zero, Pay, Both, Scale, 
 use Rattle.term_core.specs.Environments.{Environment, Place}
 use Rattle.term_core.specs.Kinds.{kind_of, scale_of}
 use Rattle.term_core.specs.Values.{Entry, kinds, num, kind_or, value_of}
-use Rattle.term_core.specs.Flows.{count_of, scale_of_contract}
+use Rattle.term_core.specs.Flows.{count_of}
 use Rattle.term_core.specs.Reads.{first_unfixed, reads_of, reads_of_contract}
 use Rattle.flow_eval.specs.declared.faults.FlowErr.{FlowErr}
 use Rattle.flow_eval.specs.declared.faults.FlowErr.TheVariants.{Missing, NoMemory}
 use Rattle.flow_eval.specs.declared.payments.Payment.{Payment}
 use Rattle.flow_eval.specs.Faults.{lacks_place}
-use Rattle.flow_eval.specs.Payments.{multiplied, paid, payment_on, payments_of, times}
+use Rattle.flow_eval.specs.Payments.{multiplied, payment_on, payments_of}
 use Rattle.flow_eval.specs.Walks.{DayOrMissing, PaymentsOrMissing, ValueOrMissing, answer_of, days_to_try, first_tried, payments_unless, then_branch, then_factor, then_others, value_unless, walk_of}
 use Rattle.flow_eval.specs.Gathering.{Gathers, appended}
 use Rattle.flow_eval.proofs.WalkFacts.{walk_is}

@@ -1,13 +1,12 @@
 -- Netted rows are the flow table of what is paid.
-use Rattle.std.proofs.Common.{◌≡◌, ℕ, ◌-◌, ◌<◌, ◌≤◌, ℤ, pos, neg_ℤ, ◌+ℤ◌, ◌-ℤ◌, ◌<ℤ◌, ◌≤ℤ◌, Bool, true, false, ◌||◌, ◌==◌, int_lt, min, max, if◌then◌else◌, inl, inr, List, [], ◌∷◌, Option, Some, None, refl, ap, sym, ◌∙◌, subst, arith, unsigned_abs}
+use Rattle.std.proofs.Common.{◌≡◌, ℕ, ◌<◌, ◌≤◌, ℤ, pos, neg_ℤ, ◌-ℤ◌, ◌<ℤ◌, ◌≤ℤ◌, Bool, true, false, int_lt, if◌then◌else◌, inl, inr, List, [], ◌∷◌, None, refl, ap, sym, ◌∙◌, subst, arith, unsigned_abs}
 use Rattle.std.proofs.Math.IntN.{neg_ℤ-neg_ℤ}
 use Rattle.std.specs.List.{All, Contains}
 use Rattle.std.specs.List.Sorted.{IsPermutation}
 use Rattle.std.proofs.lemmas.Int.{ints}
 use Rattle.std.proofs.lemmas.Bool.{cases_lt}
-use Rattle.std.proofs.lemmas.Bool.Decides.{nat_tests}
 use Rattle.std.proofs.lemmas.List.Sorted.{All-permutation}
-use Rattle.std.proofs.lemmas.List.Elements.{All-nil, All-cons, All-head, All-tail, All-append, All-weaker}
+use Rattle.std.proofs.lemmas.List.Elements.{All-head, All-tail, All-weaker}
 use Rattle.term_core.specs.Declarations.{Declarations}
 use Rattle.term_core.specs.Terms.{Contract}
 use Rattle.term_core.specs.Environments.{Environment, Extends}
@@ -25,9 +24,8 @@ use Rattle.flow_eval.specs.Tables.{IsPaid, IsTable, flow_in, paid_by, row_for}
 use Rattle.flow_eval.proofs.PaidFacts.{flow_at}
 use Rattle.flow_eval.proofs.PaymentFacts.{Counts, payments_count}
 use Rattle.flow_eval.proofs.PaymentSums.{sum_at-payments_of}
-use Rattle.flow_eval.proofs.RowFacts.{AreNet, IsNet, IsPair, net_none, row_at, rows_net}
+use Rattle.flow_eval.proofs.RowFacts.{AreNet, IsNet, net_none, row_at, rows_net}
 use Rattle.flow_eval.proofs.SumFacts.{sum_at, sum_at-permutation}
-use Rattle.flow_eval.proofs.TableFacts.{all_both}
 
 -- amounts that are opposite the other way
 abbrev pub AreOpposite : (ℤ → Flow → ℤ) → Type 0

@@ -1,12 +1,11 @@
 -- A part of a contract that can be walked can be walked, and an expression in it answered.
-use Rattle.std.proofs.Common.{◌≡◌, FitsSigned, ℕ, ℤ, pos, ◌+ℤ◌, ◌≤ℤ◌, ◌≤◌, ◌+◌, ◌-◌, max, List, [], ◌∷◌, Option, Some, None, Result, Ok, Err, length, map, refl, ap, sym, ◌∙◌, subst, inl, inr, arith, add-one}
+use Rattle.std.proofs.Common.{◌≡◌, FitsSigned, ℕ, ℤ, pos, ◌+ℤ◌, ◌≤◌, ◌+◌, ◌-◌, List, [], ◌∷◌, Option, Some, None, Ok, Err, refl, ap, sym, ◌∙◌, subst, inl, inr, arith}
 use Rattle.std.specs.Int.{w64}
 use Rattle.std.proofs.lemmas.Int.{fits_signed_from_abs, ints}
 use Rattle.term_core.specs.Declarations.{Declarations}
 use Rattle.term_core.specs.declared.terms.Days.{Days}
 use Rattle.term_core.specs.declared.values.Kind.{Kind}
 use Rattle.term_core.specs.declared.values.Value.{Value}
-use Rattle.term_core.specs.declared.values.Missing.{Missing}
 use Rattle.term_core.specs.Terms.{Expression, Lit, Yes, Var, Obs, Neg, Num, Cmp, Not, Logic, Cond, Widen, Round, Div, Acc}
 use Rattle.term_core.specs.Terms.{Contract, Both, Scale, After, Let, Within}
 use Rattle.term_core.specs.Environments.{Environment, Place}
@@ -14,12 +13,10 @@ use Rattle.term_core.specs.Kinds.{kind_of, scale_of, scale_of_kind, scale_or_zer
 use Rattle.term_core.specs.Values.{Entry, kinds, kind_or, num, value_of}
 use Rattle.term_core.specs.LawsKinds.{IsOfKind}
 use Rattle.term_core.specs.declared.values.Kind.TheVariants.{Truth as TruthKind, Number}
-use Rattle.term_core.specs.Flows.{count_of, scale_of_contract}
 use Rattle.term_core.specs.Reads.{first_unfixed, reads_of}
 use Rattle.term_core.specs.Bounds.{Interval, Range}
-use Rattle.term_core.specs.Sizes.{height, height_of_contract, reach}
-use Rattle.interval_check.specs.Nodes.{MeetsRules, range_of}
-use Rattle.interval_check.specs.Parts.{IsPart, IsPartHere, StandsIn}
+use Rattle.interval_check.specs.Nodes.{range_of}
+use Rattle.interval_check.specs.Parts.{IsPart, IsPartHere}
 use Rattle.interval_check.specs.Within.{AreWithin, IsIn, IsWithin, OnNumber}
 use Rattle.interval_check.specs.Sums.{entry_of}
 use Rattle.interval_check.proofs.GuaranteeFacts.{bindings_lie_within}
@@ -27,7 +24,7 @@ use Rattle.expr_eval.specs.declared.scratch.Held.{Held}
 use Rattle.expr_eval.specs.declared.scratch.Held.TheVariants.{Known, Lacking}
 use Rattle.expr_eval.specs.declared.scratch.Binding.{Binding}
 use Rattle.expr_eval.specs.Answers.{IsAnswer, held_of}
-use Rattle.expr_eval.specs.Evaluable.{IsHeldIn, MayEvaluate, SuitAll, Suits}
+use Rattle.expr_eval.specs.Evaluable.{IsHeldIn, MayEvaluate, SuitAll}
 use Rattle.expr_eval.specs.Rooms.{Room, kinds_of}
 use Rattle.expr_eval.specs.Standing.{IsHeldFor, StandFor}
 use Rattle.flow_eval.specs.Readiness.{CanAnswer, CanWalk, IsAmongDays}

@@ -1,12 +1,10 @@
 -- An accepted contract can be walked, and its payments are few and small.
-use Rattle.std.proofs.Common.{◌≡◌, ℕ, ℤ, pos, ◌+ℤ◌, ◌-ℤ◌, ◌≤ℤ◌, ◌≤◌, ◌<◌, ◌^◌, List, [], ◌++◌, length, Option, Some, None, Ok, Err, IsTrue, refl, ap, sym, ◌∙◌, subst, arith, unsigned_abs}
-use Rattle.std.specs.List.{All}
+use Rattle.std.proofs.Common.{◌≡◌, ℕ, ℤ, pos, ◌-ℤ◌, ◌≤ℤ◌, ◌≤◌, ◌<◌, ◌^◌, List, [], length, Option, Some, None, Ok, Err, IsTrue, refl, ap, sym, ◌∙◌, subst, arith, unsigned_abs}
 use Rattle.std.specs.List.Sorted.{IsPermutation}
 use Rattle.std.proofs.lemmas.Int.{ints}
 use Rattle.std.proofs.lemmas.Bool.Decides.{nat_tests}
 use Rattle.std.proofs.lemmas.List.Elements.{All-weaker}
 use Rattle.std.proofs.lemmas.List.Sorted.{All-permutation, length_permutation}
-use Rattle.std.specs.Global.{Vec}
 use Rattle.term_core.specs.Declarations.{Declarations}
 use Rattle.term_core.specs.Terms.{Contract}
 use Rattle.term_core.specs.Environments.{Environment, IsAdmitted, Place}
@@ -26,11 +24,10 @@ use Rattle.flow_eval.specs.declared.faults.FlowErr.{FlowErr}
 use Rattle.flow_eval.specs.declared.faults.FlowErr.TheVariants.{Missing, NoMemory}
 use Rattle.flow_eval.specs.declared.payments.Payment.{Payment}
 use Rattle.flow_eval.specs.declared.flow_table.FlowRow.{FlowRow}
-use Rattle.flow_eval.specs.Tables.{IsDueRow, IsTable, paid_by}
 use Rattle.flow_eval.specs.Netting.{AreDue, AreInOrder, AreSmall, rows_of}
 use Rattle.flow_eval.specs.Payments.{payments_of}
 use Rattle.flow_eval.specs.Walks.{PaymentsOrMissing, payments_unless, walk_of}
-use Rattle.flow_eval.specs.Gathering.{Gathers, IsGathered, appended}
+use Rattle.flow_eval.specs.Gathering.{Gathers, IsGathered}
 use Rattle.flow_eval.specs.Readiness.{CanWalk, IsAmongDays}
 use Rattle.flow_eval.specs.FlowAnswers.{AreFlows, AreKnownFlows, reads_until}
 use Rattle.flow_eval.proofs.GatherFacts.{Done}

@@ -1,6 +1,6 @@
 -- Worked rows of walks: a test that holds in time, late or not at all; a place that is missing, or not asked for; decimals
 -- that factors leave.
-use Rattle.std.proofs.Common.{◌≡◌, ℕ, ℤ, pos, negsuc, neg_ℤ, List, [], ◌∷◌, None, Ok, Err, refl, true}
+use Rattle.std.proofs.Common.{◌≡◌, ℕ, ℤ, pos, neg_ℤ, [], ◌∷◌, None, Ok, Err, refl, true}
 use Rattle.decimal.specs.declared.Mode.TheVariants.{HalfEven}
 use Rattle.decimal.specs.Rounding.{divided}
 use Rattle.term_core.specs.Declarations.{Declarations}

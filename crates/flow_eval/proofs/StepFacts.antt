@@ -1,5 +1,5 @@
 -- Each step of a walk: what it needs, and what it notes.
-use Rattle.std.proofs.Common.{◌≡◌, ℕ, ℤ, pos, ◌+ℤ◌, ◌≤ℤ◌, ◌≤◌, ◌+◌, ◌-◌, ◌*ℤ◌, ◌^◌, max, Bool, true, false, int_lt, List, [], ◌∷◌, ◌++◌, length, take, drop, Option, Some, None, Result, Ok, Err, refl, ap, sym, ◌∙◌, subst, arith, unsigned_abs}
+use Rattle.std.proofs.Common.{◌≡◌, ℕ, ℤ, pos, ◌+ℤ◌, ◌≤ℤ◌, ◌≤◌, ◌+◌, ◌-◌, ◌*ℤ◌, ◌^◌, max, Bool, false, int_lt, List, [], ◌∷◌, ◌++◌, length, take, drop, Option, Some, None, Ok, Err, ap, sym, ◌∙◌, subst, arith, unsigned_abs}
 use Rattle.std.specs.List.{All}
 use Rattle.std.proofs.lemmas.Int.{ints}
 use Rattle.std.proofs.lemmas.List.Elements.{All-nil, All-cons, All-head, All-tail, All-weaker}
@@ -8,11 +8,11 @@ use Rattle.term_core.specs.declared.terms.Days.{Days}
 use Rattle.term_core.specs.declared.values.Kind.{Kind}
 use Rattle.term_core.specs.declared.values.Value.{Value}
 use Rattle.term_core.specs.declared.values.Missing.{Missing}
-use Rattle.term_core.specs.Terms.{Expression, Contract, Both, Scale, Let, Within}
+use Rattle.term_core.specs.Terms.{Expression, Contract, Both, Scale, Within}
 use Rattle.term_core.specs.Environments.{Environment, Place}
 use Rattle.term_core.specs.Kinds.{kind_of, scale_of, scale_of_kind}
 use Rattle.term_core.specs.Values.{Entry, kinds, kind_or, num, value_of}
-use Rattle.term_core.specs.Flows.{count_of, scale_of_contract}
+use Rattle.term_core.specs.Flows.{count_of}
 use Rattle.term_core.specs.Bounds.{greatest_total}
 use Rattle.term_core.specs.Sizes.{reach}
 use Rattle.interval_check.proofs.GuaranteeFacts.{contracts_are_safe}
@@ -24,11 +24,11 @@ use Rattle.flow_eval.specs.declared.payments.Payment.{Payment}
 use Rattle.flow_eval.specs.Faults.{lacks_place}
 use Rattle.flow_eval.specs.Payments.{multiplied, payments_of, times}
 use Rattle.flow_eval.specs.Walks.{DayOrMissing, PaymentsOrMissing, ValueOrMissing, answer_of, days_to_try, first_tried, then_factor, walk_of}
-use Rattle.flow_eval.specs.Readiness.{CanAnswer, CanWalk, IsAmongDays, IsUpTo}
+use Rattle.flow_eval.specs.Readiness.{CanWalk, IsAmongDays, IsUpTo}
 use Rattle.flow_eval.specs.Gathering.{Gathers, appended}
-use Rattle.flow_eval.proofs.GatherFacts.{Done, answer_value, body_not_noted, factor_missing, first_not_noted, longer_by, missing_noted, not_noted, noted, noted_payments, nothing_scaled, scaled_noted, then_noted, within_found, within_missed, within_missing}
+use Rattle.flow_eval.proofs.GatherFacts.{Done, answer_value, body_not_noted, factor_missing, longer_by, missing_noted, not_noted, noted, noted_payments, nothing_scaled, scaled_noted, then_noted, within_found, within_missed, within_missing}
 use Rattle.flow_eval.proofs.PaymentSizes.{payments_small}
-use Rattle.flow_eval.proofs.ReadyFacts.{days_after, days_fewer, factor_fits, factor_scale, kinds_stand, ready_body, ready_hit, ready_miss}
+use Rattle.flow_eval.proofs.ReadyFacts.{days_after, days_fewer, factor_fits, factor_scale, ready_body, ready_hit, ready_miss}
 
 -- ---- a test and its branches
 

@@ -1,5 +1,5 @@
 -- Payments in order of their slots, netted slot by slot into rows of a flow table.
-use Rattle.std.specs.Prelude.{◌≡◌, ◌⊎◌, ℕ, ℤ, pos, neg_ℤ, ◌+ℤ◌, ◌≤◌, ◌≤ℤ◌, ◌^◌, ◌==◌, ◌&&◌, Bool, int_lt, List, [], ◌∷◌, ◌++◌, if◌then◌else◌, unsigned_abs}
+use Rattle.std.specs.Prelude.{◌≡◌, ◌⊎◌, ℕ, ℤ, pos, neg_ℤ, ◌+ℤ◌, ◌≤◌, ◌≤ℤ◌, ◌==◌, ◌&&◌, Bool, int_lt, List, [], ◌∷◌, ◌++◌, if◌then◌else◌, unsigned_abs}
 use Rattle.std.specs.List.{All}
 use Rattle.std.specs.Ordering.{int_eq}
 use Rattle.flow_eval.specs.declared.flow_table.FlowRow.{FlowRow}

@@ -1,6 +1,5 @@
-use Rattle.std.proofs.Common.{◌≡◌, ◌≤◌, ◌<◌, ◌^◌, ℤ, pos, List, [], Ok, Err, Result, sym, subst, ap, ◌∙◌, arith, length, to_z, of_z}
+use Rattle.std.proofs.Common.{◌≡◌, ◌<◌, ◌^◌, List, Err, Result, sym, subst, ap, ◌∙◌, arith, length}
 use Rattle.std.specs.Int.{w64}
-use Rattle.std.specs.Global.{Vec}
 use Rattle.std.proofs.lemmas.Int.{to_z-of_z}
 use Rattle.term_core.specs.Declarations.{declarations}
 use Rattle.term_core.specs.Terms.{contract}
@@ -10,7 +9,7 @@ use Rattle.flow_eval.specs.declared.payments.Payment.{Payment}
 use Rattle.flow_eval.specs.FlowAnswers.{AreFlows}
 use Rattle.flow_eval.specs.Gathering.{IsGathered}
 use Rattle.flow_eval.specs.Netting.{AreSmall, rows_of}
-use Rattle.flow_eval.specs.Walks.{PaymentsOrMissing, walk_of}
+use Rattle.flow_eval.specs.Walks.{PaymentsOrMissing}
 use Rattle.flow_eval.proofs.RootFacts.{known_flows, lacking_flows, same_walk, sorted_few, sorted_small}
 use Rattle.flow_eval.proofs.tables.flows_on.Goals as goal
 

@@ -1,4 +1,4 @@
-use Rattle.std.proofs.Common.{◌≡◌, refl, ◌≤ℤ◌, ℤ, pos, List, [], Ok, Err, Result, sym, subst, ap, ◌∙◌, arith, to_z, of_z}
+use Rattle.std.proofs.Common.{◌≡◌, refl, ℤ, List, [], Err, Result, sym, subst, arith}
 use Rattle.std.specs.Int.{w64}
 use Rattle.std.specs.Global.{Vec}
 use Rattle.flow_eval.specs.declared.faults.FlowErr.{FlowErr}

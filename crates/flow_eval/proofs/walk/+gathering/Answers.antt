@@ -1,32 +1,25 @@
-use Rattle.std.proofs.Common.{rules, ◌≡◌, ◌≤◌, ◌-◌, ◌+◌, ◌∷◌, to_z, of_z, FitsSigned, unsigned_abs, ◌*ℤ◌, ◌^◌, ◌+ℤ◌, pos, ℤ, ℕ, List, length, Ok, Err, Some, None, arith, ap, sym, ◌∙◌, subst, refl, true, false, int_lt, take, drop, ◌++◌, Result}
+use Rattle.std.proofs.Common.{rules, ◌≡◌, ◌≤◌, ◌-◌, ◌+◌, ◌∷◌, to_z, of_z, FitsSigned, unsigned_abs, ◌*ℤ◌, ◌^◌, ℕ, List, length, Err, arith, ap, sym, ◌∙◌, subst, refl, false, drop}
 use Rattle.std.specs.Int.{w128}
 use Rattle.std.specs.List.{All}
 use Rattle.std.proofs.lemmas.Int.{to_z-of_z}
-use Rattle.term_core.specs.Declarations.{Declarations, declarations}
-use Rattle.term_core.specs.Terms.{contract, expression, Contract, Expression, Both, Scale, After, Let, Within}
+use Rattle.term_core.specs.Declarations.{declarations}
+use Rattle.term_core.specs.Terms.{contract, expression, Within}
 use Rattle.term_core.specs.Environments.{Environment, Place}
 use Rattle.term_core.specs.Values.{Entry, kinds, num}
 use Rattle.term_core.specs.Kinds.{scale_of}
 use Rattle.term_core.specs.Reads.{reads_of}
 use Rattle.interval_check.specs.Sums.{entry_of}
 use Rattle.expr_eval.specs.declared.scratch.Binding.{Binding}
-use Rattle.term_core.specs.Flows.{count_of}
-use Rattle.term_core.specs.declared.terms.Contr.{Contr, size-Contr}
-use Rattle.term_core.specs.declared.terms.Days.{Days}
-use Rattle.term_core.specs.declared.values.Missing.{Missing}
-use Rattle.term_core.specs.Sizes.{reach}
-use Rattle.expr_eval.specs.Rooms.{Room, kinds_of}
+use Rattle.term_core.specs.declared.terms.Contr.{Contr}
+use Rattle.expr_eval.specs.Rooms.{Room}
 use Rattle.expr_eval.specs.Standing.{StandFor}
-use Rattle.flow_eval.specs.declared.walk.Standing.{Standing}
-use Rattle.flow_eval.specs.declared.faults.FlowErr.{FlowErr}
 use Rattle.flow_eval.specs.declared.payments.Payment.{Payment}
-use Rattle.flow_eval.specs.Walks.{DayOrMissing, PaymentsOrMissing, answer_of, days_to_try, first_tried, walk_of}
-use Rattle.flow_eval.specs.Readiness.{CanAnswer, CanWalk, IsAmongDays, IsUpTo}
-use Rattle.flow_eval.specs.Gathering.{Gathers}
+use Rattle.flow_eval.specs.Walks.{answer_of, walk_of}
+use Rattle.flow_eval.specs.Readiness.{CanAnswer}
 use Rattle.flow_eval.specs.Faults.{lacks_place}
-use Rattle.flow_eval.proofs.GatherFacts.{Done, body_not_noted, missing_noted, not_noted, noted, nothing_scaled, over_notes, then_noted, walk_over, within_found, within_missed, within_missing}
+use Rattle.flow_eval.proofs.GatherFacts.{over_notes, walk_over}
 use Rattle.flow_eval.proofs.StepFacts.{body_missing, body_ready, body_walk, factor_known, factor_lacks, first_within, none_to_scale, both_noted, hit_noted, hit_ready, miss_noted, miss_ready, not_over, noted_small, scale_fits, test_missing}
-use Rattle.flow_eval.proofs.ReadyFacts.{entered_stands, ready_bound, ready_factor, ready_hit, ready_let, ready_miss, ready_test}
+use Rattle.flow_eval.proofs.ReadyFacts.{entered_stands, ready_bound, ready_factor, ready_let, ready_test}
 use Rattle.flow_eval.proofs.walk.+gathering.Goals as goal
 
 pub gather-returns-then-is_over-clause-answer : goal.gather-returns-then-is_over-clause-answer

@@ -1,5 +1,4 @@
-use Rattle.std.proofs.Common.{◌≡◌, ◌<◌, ◌≤◌, ◌+◌, ◌-ℤ◌, ℕ, suc, List, ℤ, ◌+ℤ◌, pos, min, unsigned_abs, Ok, Err, Some, None, sym, ◌∙◌, ap, arith, subst}
-use Rattle.std.proofs.lemmas.Grind.{common_steps}
+use Rattle.std.proofs.Common.{◌≡◌, ◌<◌, ◌≤◌, ◌+◌, ℕ, suc, List, ◌+ℤ◌, pos, Ok, None, sym, ◌∙◌, ap, arith, subst}
 use Rattle.term_core.specs.Declarations.{Declarations, declarations}
 use Rattle.term_core.specs.Terms.{Expression, expression}
 use Rattle.term_core.specs.Environments.{Environment, Place}

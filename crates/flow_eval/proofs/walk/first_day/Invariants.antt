@@ -1,4 +1,4 @@
-use Rattle.std.proofs.Common.{◌≡◌, ℤ, ◌+ℤ◌, pos, ℕ, List, Ok, None}
+use Rattle.std.proofs.Common.{◌≡◌, ◌+ℤ◌, pos, List, Ok, None}
 use Rattle.term_core.specs.Declarations.{declarations}
 use Rattle.term_core.specs.Terms.{expression}
 use Rattle.term_core.specs.Environments.{Place}

@@ -1,4 +1,4 @@
-use Rattle.std.proofs.Common.{◌≡◌, Option, ap, sym}
+use Rattle.std.proofs.Common.{Option, ap, sym}
 use Rattle.term_core.specs.Declarations.{declarations}
 use Rattle.term_core.specs.Terms.{expression}
 use Rattle.term_core.specs.Values.{kind_or}
