@@ -3,7 +3,6 @@
 use Rattle.std.proofs.Common.{◌≡◌, ℤ, refl, ap, sym, subst, ◌∙◌, Ok, Err, IfOk, Some, Result, List, [], ◌∷◌}
 use Rattle.term_core.specs.Declarations.{Declarations}
 use Rattle.term_core.specs.declared.values.Kind.{Kind}
-use Rattle.term_core.specs.declared.values.Kind.TheVariants.{Truth as TruthKind, Number}
 use Rattle.term_core.specs.declared.values.Value.{Value}
 use Rattle.term_core.specs.declared.values.Missing.{Missing}
 use Rattle.term_core.specs.Terms.{Expression, Contract}
@@ -15,7 +14,7 @@ use Rattle.term_core.specs.Reads.{reads_of}
 use Rattle.term_core.specs.Bounds.{Range, range_kinds}
 use Rattle.term_core.specs.Acceptance.{IsAccepted}
 use Rattle.interval_check.specs.Nodes.{range_of}
-use Rattle.interval_check.specs.Within.{IsIn, OnNumber, KeepsLimits}
+use Rattle.interval_check.specs.Within.{IsIn, KeepsLimits}
 use Rattle.interval_check.specs.Parts.{StandsIn}
 use Rattle.interval_check.proofs.SuitedFacts.{parts_of_accepted_are_safe}
 use Rattle.expr_eval.specs.declared.scratch.Binding.{Binding}
@@ -28,7 +27,7 @@ use Rattle.expr_eval.specs.Answers.{lacked, IsValueEverywhere, IsAnswer, HasKind
 use Rattle.expr_eval.specs.LawsEntries.{NoneStandForNone, EnteredStandFor, EnteredSuit}
 use Rattle.expr_eval.proofs.RunValues.{run_is_value, same_kinds}
 use Rattle.expr_eval.proofs.RunReads.{missed, have_values, run_lacks_first, self_extends}
-use Rattle.expr_eval.proofs.EvaluableFacts.{SafeEntries, entries_for, safe_entries, kind_for}
+use Rattle.expr_eval.proofs.EvaluableFacts.{SafeEntries, entries_for, on_number, safe_entries, kind_for}
 
 kinds_standing : (fixings : Environment) (bs : List Binding) (es : List Entry) (ps : List (List Place)) → StandFor fixings bs es ps → kinds_of bs ≡ kinds es
 kinds_standing fixings bs es ps s = same_kinds bs es (have_values fixings bs es ps s)
@@ -60,10 +59,6 @@ kinds_suited [] [] s = refl
 kinds_suited [] (b ∷ bs) s = absurd s
 kinds_suited (r ∷ g) [] s = absurd s
 kinds_suited (r ∷ g) (b ∷ bs) s = let p = kinds_suited g bs s.1 in let q = s.0.same_kind in cc
-
-on_number : (k : Kind) (P : Type 0) → P → OnNumber k P
-on_number TruthKind P p = tt
-on_number (Number s) P p = p
 
 within_from : (d : Declarations) (e : Expression) (bs : List Binding) (fixings : Environment) (f : ℤ) (k : Kind) → KeepsLimits d → IsAdmitted d fixings → kind_of d e (kinds_of bs) ≡ Some k → (a : Answer) → run_of d e bs fixings f ≡ a → (c : Contract) (g : List Range) → IsAccepted d c → StandsIn d e g c [] → SuitAll g bs → IsHeldIn (range_of d e g) (held_of (untyped a))
 within_from d e bs fixings f k limits admitted h (Err m) r c g accepted stands suit = tt

@@ -2,7 +2,8 @@
 use Rattle.std.proofs.Common.{◌≡◌, ℕ, zero, suc, ◌+◌, ◌<◌, ◌-◌, ℤ, ◌-ℤ◌, arith, refl, ap, ◌∙◌, Ok, Err, add-one, List, pos}
 use Rattle.term_core.specs.declared.values.Missing.{Missing}
 use Rattle.term_core.specs.Declarations.{Declarations}
-use Rattle.term_core.specs.Terms.{Expression, Acc}
+use Rattle.term_core.specs.declared.terms.Expr.{Expr}
+use Rattle.term_core.specs.Terms.{expression, Acc}
 use Rattle.term_core.specs.Environments.{Environment}
 use Rattle.expr_eval.specs.declared.scratch.Binding.{Binding}
 use Rattle.expr_eval.specs.declared.operations.Typed.{Typed}
@@ -28,8 +29,10 @@ pub days_tried-stop : (i n : ℕ) (step : ℕ → Typed → Answer) (a : Answer)
 days_tried-stop i n step a v m h e f =
     days_tried-stay (n - (i + 1)) (i + 1) step a m (days_tried-more i step a v e ∙ f) n (omega arith)
 
--- an accumulator by its parts
-pub acc_is : (d : Declarations) (body : Expression) (n : ℕ) (first : Expression) (g : List Binding) (env : Environment) (f from : ℤ) (start r : Answer) → r ≡ days_run d body g env from n start → from ≡ f -ℤ pos n → start ≡ run_of d first g env from → r ≡ run_of d (Acc body n first) g env f
-acc_is d body n first g env f from start r e a s =
-    e ∙ ap (λ (x : ℤ). days_run d body g env x n start) a
-    ∙ ap (λ (x : Answer). days_run d body g env (f -ℤ pos n) n x) (s ∙ ap (λ (x : ℤ). run_of d first g env x) a)
+-- an accumulator by its parts: its days, from the day `at` on, and its start on that day
+pub acc_is : (d : Declarations) (body x first y : Expr) (n : ℕ) (g : List Binding) (env : Environment) (f from at : ℤ) (start r : Answer) → x ≡ body → y ≡ first → at ≡ from → from ≡ f -ℤ pos n → start ≡ run_of d (expression y) g env at → r ≡ days_run d (expression x) g env at n start → r ≡ run_of d (Acc (expression body) n (expression first)) g env f
+acc_is d body x first y n g env f from at start r p q u v s e =
+    e
+    ∙ ap (λ (z : Expr). days_run d (expression z) g env at n start) p
+    ∙ ap (λ (t : ℤ). days_run d (expression body) g env t n start) (u ∙ v)
+    ∙ ap (λ (a : Answer). days_run d (expression body) g env (f -ℤ pos n) n a) (s ∙ ap (λ (z : Expr). run_of d (expression z) g env at) q ∙ ap (λ (t : ℤ). run_of d (expression first) g env t) (u ∙ v))

@@ -72,7 +72,7 @@ entries_round d limits e h (Within x n a b) g (inr (inr p)) rules some =
 
 -- the known values in the place of those, which suit the ranges
 
-on_number : (k : Kind) (P : Type 0) → P → OnNumber k P
+pub on_number : (k : Kind) (P : Type 0) → P → OnNumber k P
 on_number TruthKind P p = tt
 on_number (Number s) P p = p
 

@@ -1,5 +1,5 @@
 -- An answer lacks the first unfixed read, exactly where there is one.
-use Rattle.std.proofs.Common.{◌≡◌, ℕ, zero, suc, ℤ, pos, ◌+ℤ◌, ◌-ℤ◌, Bool, true, false, not, if◌then◌else◌, refl, ap, sym, ◌∙◌, Ok, Err, Some, None, Option, List, [], ◌∷◌, ◌++◌, slice_get, append_assoc, is_some}
+use Rattle.std.proofs.Common.{◌≡◌, ℕ, zero, suc, ℤ, pos, ◌+ℤ◌, ◌-ℤ◌, Bool, true, false, not, if◌then◌else◌, refl, ap, sym, ◌∙◌, Ok, Err, Some, None, Option, List, [], ◌∷◌, ◌++◌, slice_get, append-nil, append_assoc, is_some}
 use Rattle.term_core.specs.Declarations.{Declarations}
 use Rattle.term_core.specs.declared.values.Kind.{Kind}
 use Rattle.term_core.specs.declared.values.Kind.TheVariants.{Truth as TruthKind, Number}
@@ -45,10 +45,6 @@ first_append fixings [] ys = refl
 first_append fixings (x ∷ xs) ys =
     ap (λ (o : Option Place). if is_fixed fixings x then o else Some x) (first_append fixings xs ys)
     ∙ sym (next_if (is_fixed fixings x) x (first_unfixed fixings xs) (first_unfixed fixings ys))
-
-append-nil : (xs : List Place) → xs ++ [] ≡ xs
-append-nil [] = refl
-append-nil (x ∷ xs) = ap (λ (ys : List Place). x ∷ ys) (append-nil xs)
 
 -- names
 

@@ -2,17 +2,13 @@
 
 ghost use Rattle.std.specs.Prelude.{◌≡◌, ◌≤◌, ◌^◌, ◌+◌, ◌+ℤ◌, ◌-ℤ◌, pos, slice_get};
 ghost use Rattle.term_core.specs.Declarations.{declarations};
-ghost use Rattle.term_core.specs.Terms.{expression};
+ghost use Rattle.term_core.specs.Terms.{expression, Logic, Cond};
 ghost use Rattle.term_core.specs.Environments.{held, label_of};
 ghost use Rattle.term_core.specs.Kinds.{kind_of_label};
 ghost use Rattle.term_core.specs.Values.{kind_or};
-ghost use Rattle.expr_eval.specs.Rooms.{kinds_of};
 ghost use Rattle.expr_eval.specs.Scopes.{bindings};
-ghost use Rattle.expr_eval.specs.KindScales.{KindFits};
-ghost use Rattle.interval_check.specs.RangeTrials as tried;
-ghost use Rattle.expr_eval.specs.Operations.{FitsKind};
-ghost use Rattle.expr_eval.specs.Runs.{run_of, of_binding, of_place, both_of, of_sides, of_branches, day_run, days_run};
-ghost use Rattle.expr_eval.specs.Fits.{Fits, OnValue, IsDay, DayFitsIn, DaysFitIn};
+ghost use Rattle.expr_eval.specs.Runs.{run_of, of_binding, of_place, both_of, day_run, days_run};
+ghost use Rattle.expr_eval.specs.Fits.{Fits, IsDay, DayFitsIn, DaysFitIn};
 
 use crate::kinds::{kind_in, kind_observed};
 use crate::operations::{
@@ -171,9 +167,8 @@ fn evaluate_logic(
     fixings: &Fixings,
     day: i64,
 ) -> Result<Typed, Missing>
-    requires left { Fits (declarations decls.now) (expression left.now) (bindings scope.now) fixings.now day }
-    requires right { Fits (declarations decls.now) (expression right.now) (bindings scope.now) fixings.now day }
-    ensures { result ≡ of_sides op (run_of (declarations decls.now) (expression left.now) (bindings scope.now) fixings.now day) (run_of (declarations decls.now) (expression right.now) (bindings scope.now) fixings.now day) }
+    requires { Fits (declarations decls.now) (Logic op (expression left.now) (expression right.now)) (bindings scope.now) fixings.now day }
+    ensures { result ≡ run_of (declarations decls.now) (Logic op (expression left.now) (expression right.now)) (bindings scope.now) fixings.now day }
 {
     let left = is_true(evaluate(decls, left, scope, fixings, day)?);
     if is_decided(op, left) {
@@ -194,14 +189,8 @@ fn evaluate_branches(
     fixings: &Fixings,
     day: i64,
 ) -> Result<Typed, Missing>
-    requires test { Fits (declarations decls.now) (expression test.now) (bindings scope.now) fixings.now day }
-    requires yes { Fits (declarations decls.now) (expression yes.now) (bindings scope.now) fixings.now day }
-    requires no { Fits (declarations decls.now) (expression no.now) (bindings scope.now) fixings.now day }
-    requires yes_kind { KindFits (declarations decls.now) (expression yes.now) (kinds_of (bindings scope.now)) }
-    requires no_kind { KindFits (declarations decls.now) (expression no.now) (kinds_of (bindings scope.now)) }
-    requires yes_fits { OnValue (run_of (declarations decls.now) (expression yes.now) (bindings scope.now) fixings.now day) (λ v. FitsKind (tried.kind_of_either v.kind (tried.kind_found (declarations decls.now) (expression no.now) (kinds_of (bindings scope.now)))) v) }
-    requires no_fits { OnValue (run_of (declarations decls.now) (expression no.now) (bindings scope.now) fixings.now day) (λ v. FitsKind (tried.kind_of_either (tried.kind_found (declarations decls.now) (expression yes.now) (kinds_of (bindings scope.now))) v.kind) v) }
-    ensures { result ≡ of_branches (tried.kind_found (declarations decls.now) (expression yes.now) (kinds_of (bindings scope.now))) (tried.kind_found (declarations decls.now) (expression no.now) (kinds_of (bindings scope.now))) (run_of (declarations decls.now) (expression test.now) (bindings scope.now) fixings.now day) (run_of (declarations decls.now) (expression yes.now) (bindings scope.now) fixings.now day) (run_of (declarations decls.now) (expression no.now) (bindings scope.now) fixings.now day) }
+    requires { Fits (declarations decls.now) (Cond (expression test.now) (expression yes.now) (expression no.now)) (bindings scope.now) fixings.now day }
+    ensures { result ≡ run_of (declarations decls.now) (Cond (expression test.now) (expression yes.now) (expression no.now)) (bindings scope.now) fixings.now day }
 {
     let test = evaluate(decls, test, scope, fixings, day)?;
     if is_true(test) {

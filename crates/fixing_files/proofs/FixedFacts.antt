@@ -9,7 +9,7 @@ use Rattle.term_core.specs.Environments.{same_place, held}
 use Rattle.term_core.specs.declared.values.Value.{Value}
 use Rattle.fixing_files.specs.Steps.{Adds, AddsIfOk, against, compared, found_in, spot_of}
 use Rattle.fixing_files.specs.Fixed.{place_of, values_of}
-use Rattle.fixing_files.specs.declared.places.Spot.{Spot}
+use Rattle.fixing_files.specs.declared.places.Place.{Place as Spot}
 use Rattle.fixing_files.specs.declared.places.Fixed.{Fixed}
 
 then_eq : (a b : Ordering) → is_eq (ordering_then a b) ≡ (is_eq a && is_eq b)

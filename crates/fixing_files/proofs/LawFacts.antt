@@ -14,7 +14,7 @@ use Rattle.term_core.specs.declared.label.Label.TheVariants.{Number, Flag}
 use Rattle.term_core.specs.declared.values.Value.{Value}
 use Rattle.term_core.specs.declared.values.Value.TheVariants.{Num as Amount, Truth}
 use Rattle.fixing_files.specs.Days.{day_of}
-use Rattle.fixing_files.specs.Records.{Fields, decimal_of, day_or_none, day_said, label_named, mantissa_at, placed, said, said_at, value_said, within_bounds, within_days}
+use Rattle.fixing_files.specs.Records.{Fields, IsFixingDay, decimal_of, day_or_none, day_said, label_named, mantissa_at, placed, said, said_at, value_said, within_bounds, within_days}
 use Rattle.fixing_files.specs.Tables.{Table, StandsAt, Says, IsFirstAt, BreaksAlone, Breaks, Holds, IsPlaced}
 use Rattle.fixing_files.specs.Laws.{FaultsAreUnique, FaultyTablesHoldNothing, TablesHoldOneMap}
 use Rattle.fixing_files.specs.declared.days.DayFault.{DayFault}
@@ -77,28 +77,25 @@ one_map d t one other h i q =
 
 -- what a record says is of a declared label, on a day within the limits, and within the label's declaration
 
-abbrev pub IsDayIn : ℤ → Type 0
-IsDayIn t = (neg_ℤ (pos 3_000_000) ≤ℤ t) × (t ≤ℤ pos 3_000_000)
-
 pub record IsSound (d : Declarations) (q : Place) (v : Value) : Type 0 where
   pub label : q.label < length d.labels
-  pub day : IsDayIn q.day
+  pub day : IsFixingDay q.day
   pub value : IsValueOf (label_of d q.label) v
 
 le_from : (a b : ℤ) → int_le a b ≡ true → a ≤ℤ b
 le_from a b h = grind (arith, ints)
 
-day_in : (t s : ℤ) → within_days t ≡ Some s → IsDayIn s
+day_in : (t s : ℤ) → within_days t ≡ Some s → IsFixingDay s
 day_in t s h = elim (cases_Bool (int_le (neg_ℤ (pos 3_000_000)) t && int_le t (pos 3_000_000))) [
   | inl is ↦
       let one : ◌≡◌ {A = Option ℤ} (Some t) (Some s) = rw is at h in
       let same : t ≡ s = cc in
       let parts = and_parts (int_le (neg_ℤ (pos 3_000_000)) t) (int_le t (pos 3_000_000)) is in
-      subst IsDayIn same (le_from (neg_ℤ (pos 3_000_000)) t parts.0, le_from t (pos 3_000_000) parts.1)
+      subst IsFixingDay same (le_from (neg_ℤ (pos 3_000_000)) t parts.0, le_from t (pos 3_000_000) parts.1)
   | inr other ↦ let wrong : ◌≡◌ {A = Option ℤ} None (Some s) = rw other at h in absurd (cc)
 ]
 
-day_from : (r : Result ℤ DayFault) (s : ℤ) → day_or_none r ≡ Some s → IsDayIn s
+day_from : (r : Result ℤ DayFault) (s : ℤ) → day_or_none r ≡ Some s → IsFixingDay s
 day_from (Ok t) s h = day_in t s h
 day_from (Err fault) s h = absurd (cc)
 
@@ -130,7 +127,7 @@ placed_is p q (Err k) v h = absurd (cc)
 label_in : (d : Declarations) (name : List ℕ) (l : ℕ) → label_named d name ≡ Some l → l < length d.labels
 label_in d name l h = omega (arith, (position-Some (λ declared. bytes_eq name declared) (keys_of d.labels) l [] h).0, length-keys_of d.labels)
 
-sound_at : (d : Declarations) (o : Option ℕ) (s : Option ℤ) (text : List ℕ) (q : Place) (v : Value) → ((l : ℕ) → o ≡ Some l → l < length d.labels) → ((t : ℤ) → s ≡ Some t → IsDayIn t)
+sound_at : (d : Declarations) (o : Option ℕ) (s : Option ℤ) (text : List ℕ) (q : Place) (v : Value) → ((l : ℕ) → o ≡ Some l → l < length d.labels) → ((t : ℤ) → s ≡ Some t → IsFixingDay t)
     → said_at d o s text ≡ Ok (q, v) → IsSound d q v
 sound_at d None s text q v label day h = absurd (cc)
 sound_at d (Some l) None text q v label day h = absurd (cc)
@@ -152,4 +149,4 @@ pub holds_admitted : (d : Declarations) (t : Table) (env : Environment) → Hold
 holds_admitted d t env h q v e = let s = (h.holds q v).0 e in (said_sound d s.1.fields q v s.1.meaning).value
 
 pub holds_placed : (d : Declarations) (t : Table) (env : Environment) → Holds d t env → IsPlaced d env
-holds_placed d t env h q v e = let s = (h.holds q v).0 e in let sound = said_sound d s.1.fields q v s.1.meaning in (sound.label, sound.day.0, sound.day.1)
+holds_placed d t env h q v e = let s = (h.holds q v).0 e in let sound = said_sound d s.1.fields q v s.1.meaning in (sound.label, sound.day)

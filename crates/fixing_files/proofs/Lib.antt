@@ -7,4 +7,4 @@ pub mod LawFacts
 pub mod DecimalFacts
 pub mod RecordFacts
 pub mod ReachedFacts
-mod RowsTables
+mod RowsRecords

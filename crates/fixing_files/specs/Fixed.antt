@@ -2,7 +2,7 @@
 -- value the number of the first record of its place, of which this does not speak.
 use Rattle.std.specs.Prelude.{List, [], ◌∷◌}
 use Rattle.term_core.specs.Environments.{Environment, Place}
-use Rattle.fixing_files.specs.declared.places.Spot.{Spot}
+use Rattle.fixing_files.specs.declared.places.Place.{Place as Spot}
 use Rattle.fixing_files.specs.declared.places.Fixed.{Fixed}
 
 abbrev pub place_of : Spot → Place

@@ -1,6 +1,6 @@
 -- What one record of a table of fixings says: that a value is fixed at a place, a label on a day. Its three fields are
 -- judged in their order, and the first rule that one of them breaks counts.
-use Rattle.std.specs.Prelude.{ℕ, ◌-◌, ℤ, pos, neg_ℤ, ◌&&◌, nat_le, int_le, unsigned_abs, true, false, List, [], ◌∷◌, Option, Some, None, Result, Ok, Err, if◌then◌else◌, position, codes}
+use Rattle.std.specs.Prelude.{ℕ, ◌-◌, ℤ, pos, neg_ℤ, ◌&&◌, ◌≤ℤ◌, nat_le, int_le, unsigned_abs, true, false, List, [], ◌∷◌, Option, Some, None, Result, Ok, Err, if◌then◌else◌, position, codes}
 use Rattle.std.specs.Map.{keys_of}
 use Rattle.std.specs.Str.{bytes_eq}
 use Rattle.decimal.specs.declared.reading.Decimal.{Decimal}
@@ -26,7 +26,10 @@ Fields = List (List ℕ)
 abbrev pub label_named : Declarations → List ℕ → Option ℕ
 label_named d name = position (λ declared. bytes_eq name declared) (keys_of d.labels)
 
--- a day of a fixing
+-- a day on which a value may be fixed
+abbrev pub IsFixingDay : ℤ → Type 0
+IsFixingDay t = (neg_ℤ (pos 3_000_000) ≤ℤ t) × (t ≤ℤ pos 3_000_000)
+
 abbrev pub within_days : ℤ → Option ℤ
 within_days t = if int_le (neg_ℤ (pos 3_000_000)) t && int_le t (pos 3_000_000) then Some t else None
 

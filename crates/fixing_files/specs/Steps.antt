@@ -18,7 +18,7 @@ use Rattle.fixing_files.specs.declared.faults.RowErr.TheVariants.{Row, NoMemory}
 use Rattle.fixing_files.specs.Fixed.{place_of}
 use Rattle.fixing_files.specs.declared.faults.Refusal.{Refusal}
 use Rattle.fixing_files.specs.declared.faults.Refusal.TheVariants.{Broken, NoMemory as LacksMemory}
-use Rattle.fixing_files.specs.declared.places.Spot.{Spot}
+use Rattle.fixing_files.specs.declared.places.Place.{Place as Spot}
 use Rattle.fixing_files.specs.declared.places.Fixed.{Fixed}
 
 -- what stands at a place
@@ -71,10 +71,10 @@ abbrev pub is_header : Fields → Bool
 is_header fields = are_header (three_of fields)
 
 -- the answer to what a record says
-abbrev pub Says : Result (Place × Value) RowKind → Result (Spot × Value) Refusal → Type 0
-Says meaning (Ok p) = meaning ≡ Ok (place_of p.0, p.1)
-Says meaning (Err (Broken kind)) = meaning ≡ Err kind
-Says meaning (Err LacksMemory) = Unit {0}
+abbrev pub Tells : Result (Place × Value) RowKind → Result (Spot × Value) Refusal → Type 0
+Tells meaning (Ok p) = meaning ≡ Ok (place_of p.0, p.1)
+Tells meaning (Err (Broken kind)) = meaning ≡ Err kind
+Tells meaning (Err LacksMemory) = Unit {0}
 
 -- what record n does
 abbrev pub step_of : Declarations → ℕ → Fields → Found → Result Addition RowKind

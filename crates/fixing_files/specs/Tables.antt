@@ -2,12 +2,12 @@
 -- and each further one says that a value is fixed at a place or breaks a rule by itself, or conflicts with an earlier
 -- record of the same place. A table is refused at the first record that breaks a rule, and else it holds what its
 -- records say.
-use Rattle.std.specs.Prelude.{◌≡◌, ◌≢◌, ◌↔◌, ◌⊎◌, ◌≤◌, ◌<◌, ℕ, zero, suc, pos, neg_ℤ, ◌≤ℤ◌, List, length, Option, Some, None, Result, Ok, Err, slice_get}
+use Rattle.std.specs.Prelude.{◌≡◌, ◌≢◌, ◌↔◌, ◌⊎◌, ◌≤◌, ◌<◌, ℕ, zero, suc, List, length, Option, Some, None, Result, Ok, Err, slice_get}
 use Rattle.csv.specs.Reading.{default_config, records, strip_bom}
 use Rattle.term_core.specs.Declarations.{Declarations}
 use Rattle.term_core.specs.Environments.{Environment, Place, held}
 use Rattle.term_core.specs.declared.values.Value.{Value}
-use Rattle.fixing_files.specs.Records.{Fields, header, said}
+use Rattle.fixing_files.specs.Records.{Fields, IsFixingDay, header, said}
 use Rattle.fixing_files.specs.declared.faults.RowKind.{RowKind}
 use Rattle.fixing_files.specs.declared.faults.RowKind.TheVariants as kind
 use Rattle.fixing_files.specs.declared.faults.RowFault.{RowFault}
@@ -17,7 +17,8 @@ use Rattle.fixing_files.specs.declared.faults.RowErr.TheVariants.{Row, NoMemory}
 abbrev pub Table : Type 0
 Table = List Fields
 
--- the records of a text: fields between commas, quoted by double quotes or not, a record for each line that is not empty
+-- the records of a text, of any length: fields between commas, in double quotes where they begin with one, and nothing
+-- trimmed but a byte order mark before the first
 abbrev pub table_of : List ℕ → Table
 table_of bytes = records default_config (strip_bom bytes)
 
@@ -89,4 +90,4 @@ Answers d table (Err NoMemory) = Unit {0}
 
 -- each place that it holds is a declared label on a day within the limits
 abbrev pub IsPlaced : Declarations → Environment → Type 0
-IsPlaced d env = (q : Place) (v : Value) → held env q ≡ Some v → (q.label < length d.labels) × (neg_ℤ (pos 3_000_000) ≤ℤ q.day) × (q.day ≤ℤ pos 3_000_000)
+IsPlaced d env = (q : Place) (v : Value) → held env q ≡ Some v → (q.label < length d.labels) × IsFixingDay q.day

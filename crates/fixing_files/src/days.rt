@@ -14,6 +14,7 @@ pub enum DayFault {
     NoOrigin,
 }
 
+// The number that digits write.
 fn digits(text: &[u8]) -> Option<u32>
     requires { length text.now ≤ 9 }
     ensures value { result ≡ digits_of text.now }

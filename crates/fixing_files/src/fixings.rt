@@ -3,7 +3,7 @@
 ghost use Rattle.std.specs.Prelude.{◌≡◌, []};
 ghost use Rattle.term_core.specs.Environments.{held};
 
-use crate::places::{Fixed, Spot};
+use crate::places::{Fixed, Place};
 use std::alloc::Global;
 use std::collections::BTreeMap;
 use std::marker::Model;
@@ -12,7 +12,7 @@ use term_core::Value;
 /// What was observed: a finite map from places, each a label and a day, to values.
 #[derive(Drop)]
 pub struct Fixings {
-    pub(crate) rows: BTreeMap<Spot, Fixed>,
+    pub(crate) rows: BTreeMap<Place, Fixed>,
 }
 
 impl Model for Fixings {
@@ -40,7 +40,7 @@ impl Fixings {
     pub fn get(&self, label: u32, day: i64) -> Option<Value>
         ensures { result ≡ held self.now (record { label = label; day = day }) }
     {
-        let fixed = self.rows.get(&Spot { label, day })?;
+        let fixed = self.rows.get(&Place { label, day })?;
         Some(fixed.value)
     }
 }

@@ -4,7 +4,7 @@ use term_core::Value;
 
 /// A label, by its number among the declared ones, and a day of the portfolio.
 #[derive(Clone, Copy, Debug, PartialEq, Eq, PartialOrd, Ord)]
-pub struct Spot {
+pub struct Place {
     pub label: u32,
     pub day: i64,
 }

@@ -6,11 +6,11 @@ ghost use Rattle.term_core.specs.Declarations.{declarations};
 ghost use Rattle.term_core.specs.Environments.{label_of};
 ghost use Rattle.term_core.specs.Limits.{is_label, is_origin};
 ghost use Rattle.fixing_files.specs.Records.{day_said, label_named, said};
-ghost use Rattle.fixing_files.specs.Steps.{Says, is_header, three_of};
+ghost use Rattle.fixing_files.specs.Steps.{Tells, is_header, three_of};
 
 use crate::days::day_of_text;
 use crate::faults::{Refusal, RowKind};
-use crate::places::Spot;
+use crate::places::Place;
 use crate::values::value_of;
 use csv::ByteRecord;
 use decimal::NoMemory;
@@ -69,8 +69,12 @@ fn day_said(origin: Option<i64>, text: &[u8]) -> Option<i64>
 
 /// The value that a record says is fixed, and the place, or the first rule that the record breaks.
 #[tactic(auto, unfolding(crate::specs::Records::said))]
-pub fn entry_of(alloc: Global, decls: &Decls, record: &ByteRecord) -> Result<(Spot, Value), Refusal>
-    ensures { Says (said (declarations decls.now) (fields_of «record».now)) result }
+pub fn entry_of(
+    alloc: Global,
+    decls: &Decls,
+    record: &ByteRecord,
+) -> Result<(Place, Value), Refusal>
+    ensures { Tells (said (declarations decls.now) (fields_of «record».now)) result }
 {
     let Some((name, day, value)) = three(record) else {
         return Err(Refusal::Broken(RowKind::Shape));
@@ -82,7 +86,7 @@ pub fn entry_of(alloc: Global, decls: &Decls, record: &ByteRecord) -> Result<(Sp
         return Err(Refusal::Broken(RowKind::Day));
     };
     match value_of(declared, value) {
-        Ok(value) => Ok((Spot { label, day }, value)),
+        Ok(value) => Ok((Place { label, day }, value)),
         Err(kind) => Err(Refusal::Broken(kind)),
     }
 }

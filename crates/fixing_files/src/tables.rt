@@ -10,7 +10,7 @@ ghost use Rattle.fixing_files.specs.Tables.{Answers, IsPlaced, table_of};
 
 use crate::faults::{Refusal, RowErr, RowKind, refused};
 use crate::fixings::Fixings;
-use crate::places::{Fixed, Spot};
+use crate::places::{Fixed, Place};
 use crate::records::{entry_of, is_header};
 use csv::{ByteRecord, ReaderBuilder};
 use std::alloc::Global;
@@ -18,11 +18,16 @@ use std::collections::BTreeMap;
 use term_core::{Decls, Value};
 
 // Puts a value at its place, unless one stands there.
-fn put(rows: &mut BTreeMap<Spot, Fixed>, row: u32, spot: Spot, value: Value) -> Result<(), RowErr>
-    ensures { Steps row (against (found_in rows.old.entries (place_of spot)) row (place_of spot) value) (found_in rows.old.entries) (found_in rows.new.entries) result }
+fn put(
+    rows: &mut BTreeMap<Place, Fixed>,
+    row: u32,
+    place: Place,
+    value: Value,
+) -> Result<(), RowErr>
+    ensures { Steps row (against (found_in rows.old.entries (place_of place)) row (place_of place) value) (found_in rows.old.entries) (found_in rows.new.entries) result }
 {
-    match rows.get(&spot) {
-        None => match rows.insert(spot, Fixed { value, row }) {
+    match rows.get(&place) {
+        None => match rows.insert(place, Fixed { value, row }) {
             Ok(_) => Ok(()),
             Err(_) => Err(RowErr::NoMemory),
         },
@@ -35,7 +40,7 @@ fn put(rows: &mut BTreeMap<Spot, Fixed>, row: u32, spot: Spot, value: Value) -> 
 fn take(
     alloc: Global,
     decls: &Decls,
-    rows: &mut BTreeMap<Spot, Fixed>,
+    rows: &mut BTreeMap<Place, Fixed>,
     row: u32,
     record: &ByteRecord,
 ) -> Result<(), RowErr>
@@ -48,14 +53,16 @@ fn take(
         return Err(refused(row, RowKind::Shape));
     }
     match entry_of(alloc, decls, record) {
-        Ok((spot, value)) => put(rows, row, spot, value),
+        Ok((place, value)) => put(rows, row, place, value),
         Err(Refusal::Broken(kind)) => Err(refused(row, kind)),
         Err(Refusal::NoMemory) => Err(RowErr::NoMemory),
     }
 }
 
-/// The fixings of a table: a header `label,day,value`, and a record for each value. `Row` says which record is the first
-/// that breaks a rule, by its number from 1, the header included. Two records may say the same of one place.
+/// The fixings of a table of at most 16,777,216 bytes: a header `label,day,value`, and then a record for each value, of a
+/// declared label on a day of the portfolio or a date. A number has at most as many decimals as its label and lies within
+/// its bounds. Two records may say the same of one place. `Row` names the first record that breaks a rule, by its number
+/// from 1, the header included.
 pub fn read_fixings(alloc: Global, bytes: &[u8], decls: &Decls) -> Result<Fixings, RowErr>
     requires { length bytes.now ≤ 16_777_216 }
     ensures answer { Answers (declarations decls.now) (table_of bytes.now) result }

@@ -1,10 +1,10 @@
-use Rattle.std.proofs.Common.{rules, arith, ◌≡◌, sym, ap, subst, ◌∙◌, Ok, ℤ, pos, ◌-ℤ◌, FitsSigned, w64}
+use Rattle.std.proofs.Common.{rules, arith, ◌≡◌, sym, ap, subst, ◌∙◌, Ok, pos, ◌-ℤ◌, FitsSigned, w64}
 use Rattle.std.proofs.lemmas.Int.{to_z-of_z}
 use Rattle.term_core.specs.declared.terms.Expr.{Expr}
 use Rattle.term_core.specs.Declarations.{declarations}
-use Rattle.term_core.specs.Terms.{expression, Div}
+use Rattle.term_core.specs.Terms.{expression, Div, Acc}
 use Rattle.expr_eval.specs.Scopes.{bindings}
-use Rattle.expr_eval.specs.Runs.{days_run, run_of, both_of}
+use Rattle.expr_eval.specs.Runs.{run_of, both_of}
 use Rattle.expr_eval.specs.Fits.{Fits}
 use Rattle.expr_eval.specs.Operations.{DividesTo}
 use Rattle.expr_eval.proofs.Days.{days_tried-err, days_tried-stop, acc_is}
@@ -36,20 +36,10 @@ evaluate-returns-in-Acc t c =
     let g = bindings c.args.scope.now in
     let env = c.args.fixings.now in
     let f = c.args.day in
-    let n = c.in-Acc.days in
-    let body = expression c.in-Acc.body.value in
-    let first = expression c.in-Acc.first.value in
     let fits : FitsSigned w64 c.day_before-from.result = search rules in
-    let rf : FitsSigned w64 f = c.ranges.day in
-    let a : c.day_before-from.result ≡ f -ℤ pos n = simp to_z-of_z at c.day_before-from.ensures in
-    let z = to_z-of_z w64 c.day_before-from.result fits in
-    let s : c.evaluate-start.result ≡ run_of d first g env c.day_before-from.result =
-    c.evaluate-start.ensures
-    ∙ ap (λ (x : ℤ). run_of d (expression c.deref-in-Acc.result.now) g env x) z
-    ∙ ap (λ (x : Expr). run_of d (expression x) g env c.day_before-from.result) c.deref-in-Acc.ensures in
-    let e : c.evaluate_days.result ≡ days_run d body g env c.day_before-from.result n c.evaluate-start.result =
-    c.evaluate_days.ensures
-    ∙ ap (λ (x : ℤ). days_run d (expression c.deref-in-Acc-2.result.now) g env x n c.evaluate-start.result) z
-    ∙ ap (λ (x : Expr). days_run d (expression x) g env c.day_before-from.result n c.evaluate-start.result) c.deref-in-Acc-2.ensures in
-    acc_is d body n first g env f c.day_before-from.result c.evaluate-start.result c.evaluate_days.result e a s
-    ∙ ap (λ (x : Expr). run_of d (expression x) g env f) (sym c.in-Acc.is)
+    let of_day : FitsSigned w64 f = c.ranges.day in
+    let from_is : c.day_before-from.result ≡ f -ℤ pos c.in-Acc.days = simp to_z-of_z at c.day_before-from.ensures in
+    let same : run_of d (Acc (expression c.in-Acc.body.value) c.in-Acc.days (expression c.in-Acc.first.value)) g env f ≡ run_of d (expression c.args.e.now) g env f =
+    ap (λ (x : Expr). run_of d (expression x) g env f) (sym c.in-Acc.is) in
+    acc_is d c.in-Acc.body.value c.deref-in-Acc-2.result.now c.in-Acc.first.value c.deref-in-Acc.result.now c.in-Acc.days g env f c.day_before-from.result _ c.evaluate-start.result c.evaluate_days.result c.deref-in-Acc-2.ensures c.deref-in-Acc.ensures (to_z-of_z w64 c.day_before-from.result fits) from_is c.evaluate-start.ensures c.evaluate_days.ensures
+    ∙ same

@@ -6,4 +6,4 @@ use Rattle.fixing_files.proofs.tables.put.Goals as goal
 pub returns-in-Ok : goal.returns-in-Ok
 returns-in-Ok c =
     let f : Fixed = record { value = c.args.value; row = c.args.row } in
-    put_adds c.args.rows.now.entries c.insert.new.self.entries c.args.spot f (sym c.in-None.ensures.value) (c.in-Ok.ensures.updates.0)
+    put_adds c.args.rows.now.entries c.insert.new.self.entries c.args.place f (sym c.in-None.ensures.value) (c.in-Ok.ensures.updates.0)

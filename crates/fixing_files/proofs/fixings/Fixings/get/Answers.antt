@@ -4,7 +4,7 @@ use Rattle.std.specs.Option.{option_copied}
 use Rattle.term_core.specs.Environments.{held, Environment}
 use Rattle.fixing_files.proofs.FixedFacts.{held_is, value_in}
 use Rattle.fixing_files.specs.Fixed.{place_of}
-use Rattle.fixing_files.specs.declared.places.Spot.{Spot}
+use Rattle.fixing_files.specs.declared.places.Place.{Place as Spot}
 use Rattle.fixing_files.proofs.fixings.Fixings.get.Goals as goal
 
 pub returns-in_err-fixed : goal.returns-in_err-fixed
