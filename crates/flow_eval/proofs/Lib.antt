@@ -1,0 +1,20 @@
+pub mod NettingFacts
+pub mod SlotFacts
+pub mod SumFacts
+pub mod SortFacts
+pub mod RowFacts
+pub mod TableFacts
+pub mod Products
+pub mod PaidFacts
+pub mod PaymentFacts
+pub mod PaymentSums
+pub mod PaymentSizes
+pub mod WalkFacts
+pub mod TriedFacts
+pub mod ReadyFacts
+pub mod GatherFacts
+pub mod StepFacts
+pub mod NetTables
+pub mod RootFacts
+pub mod AnswerFacts
+mod Rows

@@ -1,0 +1,317 @@
+-- A part of a contract that can be walked can be walked, and an expression in it answered.
+use Rattle.std.proofs.Common.{◌≡◌, FitsSigned, ℕ, ℤ, pos, ◌+ℤ◌, ◌≤◌, ◌+◌, ◌-◌, List, [], ◌∷◌, Option, Some, None, Ok, Err, refl, ap, sym, ◌∙◌, subst, inl, inr, arith}
+use Rattle.std.specs.Int.{w64}
+use Rattle.std.proofs.lemmas.Int.{fits_signed_from_abs, ints}
+use Rattle.term_core.specs.Declarations.{Declarations}
+use Rattle.term_core.specs.declared.terms.Days.{Days}
+use Rattle.term_core.specs.declared.values.Kind.{Kind}
+use Rattle.term_core.specs.declared.values.Value.{Value}
+use Rattle.term_core.specs.Terms.{Expression, Lit, Yes, Var, Obs, Neg, Num, Cmp, Not, Logic, Cond, Widen, Round, Div, Acc}
+use Rattle.term_core.specs.Terms.{Contract, Both, Scale, After, Let, Within}
+use Rattle.term_core.specs.Environments.{Environment, Place}
+use Rattle.term_core.specs.Kinds.{kind_of, scale_of, scale_of_kind, scale_or_zero}
+use Rattle.term_core.specs.Values.{Entry, kinds, kind_or, num, value_of}
+use Rattle.term_core.specs.LawsKinds.{IsOfKind}
+use Rattle.term_core.specs.declared.values.Kind.TheVariants.{Truth as TruthKind, Number}
+use Rattle.term_core.specs.Reads.{first_unfixed, reads_of}
+use Rattle.term_core.specs.Bounds.{Interval, Range}
+use Rattle.interval_check.specs.Nodes.{range_of}
+use Rattle.interval_check.specs.Parts.{IsPart, IsPartHere}
+use Rattle.interval_check.specs.Within.{AreWithin, IsIn, IsWithin, OnNumber}
+use Rattle.interval_check.specs.Sums.{entry_of}
+use Rattle.interval_check.proofs.GuaranteeFacts.{bindings_lie_within}
+use Rattle.expr_eval.specs.declared.scratch.Held.{Held}
+use Rattle.expr_eval.specs.declared.scratch.Held.TheVariants.{Known, Lacking}
+use Rattle.expr_eval.specs.declared.scratch.Binding.{Binding}
+use Rattle.expr_eval.specs.Answers.{IsAnswer, held_of}
+use Rattle.expr_eval.specs.Evaluable.{IsHeldIn, MayEvaluate, SuitAll}
+use Rattle.expr_eval.specs.Rooms.{Room, kinds_of}
+use Rattle.expr_eval.specs.Standing.{IsHeldFor, StandFor}
+use Rattle.flow_eval.specs.Readiness.{CanAnswer, CanWalk, IsAmongDays}
+use Rattle.flow_eval.specs.Walks.{ValueOrMissing, answer_of, value_unless}
+
+itself : (e : Expression) → IsPart e e
+itself (Lit m s) = refl
+itself (Yes b) = refl
+itself (Var back) = refl
+itself (Obs l t) = refl
+itself (Neg a) = inl refl
+itself (Num op a b) = inl refl
+itself (Cmp op a b) = inl refl
+itself (Not a) = inl refl
+itself (Logic op a b) = inl refl
+itself (Cond t a b) = inl refl
+itself (Widen s a) = inl refl
+itself (Round mode s a) = inl refl
+itself (Div mode s a b) = inl refl
+itself (Acc body n first) = inl refl
+
+here : (e : Expression) (g : List Range) → IsPartHere e g e g
+here e g = record { part = itself e; ranges = refl }
+
+-- ---- the parts of a contract
+
+pub ready_left : (d : Declarations) (x y : Contract) (room : ℕ) (r : Room) (F : Environment) → CanWalk d (Both x y) room r F → CanWalk d x room r F
+ready_left d x y room r F h = record {
+  limits = h.limits;
+  whole = h.whole;
+  accepted = h.accepted;
+  admitted = h.admitted;
+  ranges = h.ranges;
+  inside = λ e g p. h.inside e g (inl p);
+  rules = record { sorts = h.rules.sorts.0; scales = h.rules.scales.0; bounds = h.rules.bounds.0 };
+  values = h.values;
+  places = h.places;
+  within = h.within;
+  stand = h.stand;
+  low = let l = h.low in omega arith;
+  fits = let l = h.fits in omega arith;
+  most = h.most;
+}
+
+pub ready_right : (d : Declarations) (x y : Contract) (room : ℕ) (r : Room) (F : Environment) → CanWalk d (Both x y) room r F → CanWalk d y room r F
+ready_right d x y room r F h = record {
+  limits = h.limits;
+  whole = h.whole;
+  accepted = h.accepted;
+  admitted = h.admitted;
+  ranges = h.ranges;
+  inside = λ e g p. h.inside e g (inr p);
+  rules = record { sorts = h.rules.sorts.1; scales = h.rules.scales.1; bounds = h.rules.bounds.1 };
+  values = h.values;
+  places = h.places;
+  within = h.within;
+  stand = h.stand;
+  low = let l = h.low in omega arith;
+  fits = let l = h.fits in omega arith;
+  most = h.most;
+}
+
+pub ready_after : (d : Declarations) (n : Days) (c : Contract) (room : ℕ) (r : Room) (F : Environment) → CanWalk d (After n c) room r F → CanWalk d c room r F
+ready_after d n c room r F h = record {
+  limits = h.limits;
+  whole = h.whole;
+  accepted = h.accepted;
+  admitted = h.admitted;
+  ranges = h.ranges;
+  inside = λ e g p. h.inside e g p;
+  rules = record { sorts = h.rules.sorts.0; scales = h.rules.scales.0; bounds = h.rules.bounds.0 };
+  values = h.values;
+  places = h.places;
+  within = h.within;
+  stand = h.stand;
+  low = let l = h.low in omega arith;
+  fits = h.fits;
+  most = h.most;
+}
+
+pub ready_hit : (d : Declarations) (e : Expression) (n : Days) (x y : Contract) (room : ℕ) (r : Room) (F : Environment) → CanWalk d (Within e n x y) room r F → CanWalk d x room r F
+ready_hit d e n x y room r F h = record {
+  limits = h.limits;
+  whole = h.whole;
+  accepted = h.accepted;
+  admitted = h.admitted;
+  ranges = h.ranges;
+  inside = λ e' g p. h.inside e' g (inr (inl p));
+  rules = record { sorts = h.rules.sorts.1; scales = h.rules.scales.1; bounds = h.rules.bounds.1 };
+  values = h.values;
+  places = h.places;
+  within = h.within;
+  stand = h.stand;
+  low = let l = h.low in omega arith;
+  fits = let l = h.fits in omega arith;
+  most = h.most;
+}
+
+pub ready_miss : (d : Declarations) (e : Expression) (n : Days) (x y : Contract) (room : ℕ) (r : Room) (F : Environment) → CanWalk d (Within e n x y) room r F → CanWalk d y room r F
+ready_miss d e n x y room r F h = record {
+  limits = h.limits;
+  whole = h.whole;
+  accepted = h.accepted;
+  admitted = h.admitted;
+  ranges = h.ranges;
+  inside = λ e' g p. h.inside e' g (inr (inr p));
+  rules = record { sorts = h.rules.sorts.2; scales = h.rules.scales.2; bounds = h.rules.bounds.2 };
+  values = h.values;
+  places = h.places;
+  within = h.within;
+  stand = h.stand;
+  low = let l = h.low in omega arith;
+  fits = let l = h.fits in omega arith;
+  most = h.most;
+}
+
+-- ---- the expressions in it
+
+pub ready_test : (d : Declarations) (e : Expression) (n : Days) (x y : Contract) (room : ℕ) (r : Room) (F : Environment) → CanWalk d (Within e n x y) room r F → CanAnswer d e r F
+ready_test d e n x y room r F h = record {
+  limits = h.limits;
+  whole = h.whole;
+  accepted = h.accepted;
+  admitted = h.admitted;
+  ranges = h.ranges;
+  inside = h.inside e h.ranges (inl (here e h.ranges));
+  values = h.values;
+  places = h.places;
+  within = h.within;
+  stand = h.stand;
+}
+
+pub ready_factor : (d : Declarations) (e : Expression) (c : Contract) (room : ℕ) (r : Room) (F : Environment) → CanWalk d (Scale e c) room r F → CanAnswer d e r F
+ready_factor d e c room r F h = record {
+  limits = h.limits;
+  whole = h.whole;
+  accepted = h.accepted;
+  admitted = h.admitted;
+  ranges = h.ranges;
+  inside = h.inside e h.ranges (inl (here e h.ranges));
+  values = h.values;
+  places = h.places;
+  within = h.within;
+  stand = h.stand;
+}
+
+pub ready_bound : (d : Declarations) (e : Expression) (c : Contract) (room : ℕ) (r : Room) (F : Environment) → CanWalk d (Let e c) room r F → CanAnswer d e r F
+ready_bound d e c room r F h = record {
+  limits = h.limits;
+  whole = h.whole;
+  accepted = h.accepted;
+  admitted = h.admitted;
+  ranges = h.ranges;
+  inside = h.inside e h.ranges (inl (here e h.ranges));
+  values = h.values;
+  places = h.places;
+  within = h.within;
+  stand = h.stand;
+}
+
+-- ---- what an evaluation needs and answers
+
+known_kind : (k l : Kind) (v w : Value) → k ≡ l → w ≡ v → IsOfKind k v → IsOfKind l w
+known_kind k l v w e f h = subst (λ (x : Value). IsOfKind l x) (sym f) (subst (λ (x : Kind). IsOfKind x v) e h)
+
+on_number : (k : Kind) (i : Interval) (v w : Value) → w ≡ v → IsIn i (num v) → OnNumber k (IsIn i (num w))
+on_number TruthKind i v w e h = tt
+on_number (Number s) i v w e h = subst (λ (x : Value). IsIn i (num x)) (sym e) h
+
+held_within : (F : Environment) (r : Range) (x : Held) (e : Entry) (ps : List Place) → IsWithin r e → IsHeldFor F x e.value ps → IsHeldIn r x
+held_within F r (Known v) e ps within held =
+    record { of_kind = known_kind e.kind r.kind e.value v within.same_kind held.0 within.of_kind; inside = on_number r.kind r.interval e.value v held.0 within.inside }
+held_within F r (Lacking m) e ps within held = tt
+
+suit_all : (F : Environment) (ranges : List Range) (es : List Binding) (g : List Entry) (bs : List (List Place)) → AreWithin ranges g → StandFor F es g bs → SuitAll ranges es
+suit_all F [] [] [] [] within stand = tt
+suit_all F (r ∷ rs) (b ∷ es) (e ∷ g) (ps ∷ bs) within stand =
+    (record { same_kind = stand.0 ∙ within.0.same_kind; within = held_within F r b.held e ps within.0 stand.1 }, suit_all F rs es g bs within.1 stand.2)
+suit_all F [] es (e ∷ g) bs within stand = absurd within
+suit_all F (r ∷ rs) es [] bs within stand = absurd within
+suit_all F [] (b ∷ es) [] bs within stand = absurd stand
+suit_all F [] [] [] (ps ∷ bs) within stand = absurd stand
+suit_all F (r ∷ rs) [] (e ∷ g) bs within stand = absurd stand
+suit_all F (r ∷ rs) (b ∷ es) (e ∷ g) [] within stand = absurd stand
+
+-- it may be evaluated
+pub may_evaluate : (d : Declarations) (e : Expression) (r : Room) (F : Environment) → CanAnswer d e r F → MayEvaluate d e r.entries
+may_evaluate d e r F h =
+    record { contract = h.whole; ranges = h.ranges; accepted = h.accepted; stands = h.inside; entries = inl (suit_all F h.ranges r.entries h.values h.places h.within h.stand) }
+
+answer_by : (d : Declarations) (e : Expression) (es : List Binding) (F : Environment) (f : ℤ) (g : List Entry) (bs : List (List Place)) (r : ValueOrMissing) → StandFor F es g bs → IsAnswer d e es F f r → r ≡ answer_of d e g bs F f
+answer_by d e es F f g bs (Ok v) stand is =
+    ap (λ (x : Value). Ok x) (sym (is.value g bs F stand (λ q w h. h))) ∙ ap (λ (o : Option Place). value_unless o (value_of d e g F f)) (is.missing g bs stand)
+answer_by d e es F f g bs (Err m) stand is = ap (λ (o : Option Place). value_unless o (value_of d e g F f)) (is.missing g bs stand)
+
+-- its answer is that of the model, for all that the entries stand for
+pub answer_is : (d : Declarations) (e : Expression) (es : List Binding) (F : Environment) (f : ℤ) (r : ValueOrMissing) → IsAnswer d e es F f r → (g : List Entry) (bs : List (List Place)) → StandFor F es g bs → r ≡ answer_of d e g bs F f
+answer_is d e es F f r is g bs stand = answer_by d e es F f g bs r stand is
+
+-- ---- the body of a factor
+
+pub kinds_stand : (F : Environment) (es : List Binding) (g : List Entry) (bs : List (List Place)) → StandFor F es g bs → kinds_of es ≡ kinds g
+kinds_stand F [] [] [] h = refl
+kinds_stand F (b ∷ es) (e ∷ g) (ps ∷ bs) h = ap (λ (k : Kind). k ∷ kinds_of es) h.0 ∙ ap (λ (ks : List Kind). e.kind ∷ ks) (kinds_stand F es g bs h.2)
+kinds_stand F [] (e ∷ g) bs h = absurd h
+kinds_stand F [] [] (ps ∷ bs) h = absurd h
+kinds_stand F (b ∷ es) [] bs h = absurd h
+kinds_stand F (b ∷ es) (e ∷ g) [] h = absurd h
+
+scale_known : (o : Option Kind) → scale_of_kind (kind_or o) ≡ scale_or_zero o
+scale_known None = refl
+scale_known (Some k) = refl
+
+-- the decimals of a factor, by its kind among the entries
+pub factor_scale : (d : Declarations) (e : Expression) (F : Environment) (es : List Binding) (g : List Entry) (bs : List (List Place)) (k : Kind) (s : ℕ) → StandFor F es g bs → k ≡ kind_or (kind_of d e (kinds_of es)) → s ≡ scale_of_kind k → s ≡ scale_of d e (kinds g)
+factor_scale d e F es g bs k s stand known is =
+    is ∙ ap (λ (x : Kind). scale_of_kind x) known ∙ scale_known (kind_of d e (kinds_of es)) ∙ ap (λ (ks : List Kind). scale_of d e ks) (kinds_stand F es g bs stand)
+
+pub ready_body : (d : Declarations) (e : Expression) (c : Contract) (room : ℕ) (r : Room) (F : Environment) (s : ℕ) (h : CanWalk d (Scale e c) room r F) → s ≡ scale_of d e (kinds h.values) → CanWalk d c (room - s) r F
+ready_body d e c room r F s h is = record {
+  limits = h.limits;
+  whole = h.whole;
+  accepted = h.accepted;
+  admitted = h.admitted;
+  ranges = h.ranges;
+  inside = λ e' g p. h.inside e' g (inr p);
+  rules = record { sorts = h.rules.sorts.1; scales = h.rules.scales.1; bounds = h.rules.bounds.1 };
+  values = h.values;
+  places = h.places;
+  within = h.within;
+  stand = h.stand;
+  low = let l = h.low in omega arith;
+  fits = let l = h.fits in omega arith;
+  most = let l = h.most in omega arith;
+}
+
+pub factor_fits : (d : Declarations) (e : Expression) (c : Contract) (room : ℕ) (r : Room) (F : Environment) (s : ℕ) (h : CanWalk d (Scale e c) room r F) → s ≡ scale_of d e (kinds h.values) → s ≤ room
+factor_fits d e c room r F s h is = let l = h.fits in omega arith
+
+-- ---- the body of a `let`
+
+held_stands : (F : Environment) (o : Option Place) (ps : List Place) (v : Value) (a : ValueOrMissing) → first_unfixed F ps ≡ o → a ≡ value_unless o v → IsHeldFor F (held_of a) v ps
+held_stands F (Some q) ps v a first is = subst (λ (x : ValueOrMissing). IsHeldFor F (held_of x) v ps) (sym is) first
+held_stands F None ps v a first is = subst (λ (x : ValueOrMissing). IsHeldFor F (held_of x) v ps) (sym is) (refl, first)
+
+same_kind : (d : Declarations) (e : Expression) (F : Environment) (es : List Binding) (g : List Entry) (bs : List (List Place)) → StandFor F es g bs → kind_or (kind_of d e (kinds_of es)) ≡ kind_or (kind_of d e (kinds g))
+same_kind d e F es g bs stand = ap (λ (ks : List Kind). kind_or (kind_of d e ks)) (kinds_stand F es g bs stand)
+
+-- the entry of a name stands for its value and for what its expression reads
+pub entered_stands : (d : Declarations) (e : Expression) (F : Environment) (f : ℤ) (es : List Binding) (g : List Entry) (bs : List (List Place)) (k : Kind) (a : ValueOrMissing) (x : Held) → StandFor F es g bs → k ≡ kind_or (kind_of d e (kinds_of es)) → a ≡ answer_of d e g bs F f → x ≡ held_of a
+    → StandFor F (record { kind = k; held = x } ∷ es) (entry_of d e g F f ∷ g) (reads_of d e g bs F f ∷ bs)
+entered_stands d e F f es g bs k a x stand known is held =
+    (known ∙ same_kind d e F es g bs stand, subst (λ (y : Held). IsHeldFor F y (value_of d e g F f) (reads_of d e g bs F f)) (sym held) (held_stands F (first_unfixed F (reads_of d e g bs F f)) (reads_of d e g bs F f) (value_of d e g F f) a refl is), stand)
+
+pub ready_let : (d : Declarations) (e : Expression) (c : Contract) (room : ℕ) (r r' : Room) (F : Environment) (f : ℤ) (k : Kind) (a : ValueOrMissing) (x : Held) (h : CanWalk d (Let e c) room r F)
+    → k ≡ kind_or (kind_of d e (kinds_of r.entries)) → a ≡ answer_of d e h.values h.places F f → x ≡ held_of a → r'.entries ≡ record { kind = k; held = x } ∷ r.entries → r'.spare + 1 ≡ r.spare
+    → CanWalk d c room r' F
+ready_let d e c room r r' F f k a x h known is held entered spare = record {
+  limits = h.limits;
+  whole = h.whole;
+  accepted = h.accepted;
+  admitted = h.admitted;
+  ranges = range_of d e h.ranges ∷ h.ranges;
+  inside = λ e' g p. h.inside e' g (inr p);
+  rules = record { sorts = h.rules.sorts.1; scales = h.rules.scales.1; bounds = h.rules.bounds.1 };
+  values = entry_of d e h.values F f ∷ h.values;
+  places = reads_of d e h.values h.places F f ∷ h.places;
+  within = bindings_lie_within d e h.ranges h.values F f h.limits (record { sorts = h.rules.sorts.0; scales = h.rules.scales.0; bounds = h.rules.bounds.0 }) h.within h.admitted;
+  stand = subst (λ (es : List Binding). StandFor F es (entry_of d e h.values F f ∷ h.values) (reads_of d e h.values h.places F f ∷ h.places)) (sym entered) (entered_stands d e F f r.entries h.values h.places k a x h.stand known is held);
+  low = let l = h.low in omega arith;
+  fits = h.fits;
+  most = h.most;
+}
+
+pub room_left : (d : Declarations) (e : Expression) (c : Contract) (room : ℕ) (r : Room) (F : Environment) → CanWalk d (Let e c) room r F → 1 ≤ r.spare
+room_left d e c room r F h = let l = h.low in omega arith
+
+-- ---- days
+
+pub days_after : (f : ℤ) (n m : ℕ) → IsAmongDays f (n + m) → IsAmongDays (f +ℤ pos n) m
+days_after f n m h = record { first = let l = h.first in omega (arith, ints); last = let l = h.last in omega (arith, ints) }
+
+pub days_fewer : (f : ℤ) (n m : ℕ) → m ≤ n → IsAmongDays f n → IsAmongDays f m
+days_fewer f n m le h = record { first = h.first; last = let l = h.last in omega (arith, ints) }
+
+pub day_fits : (f : ℤ) (n : ℕ) → IsAmongDays f n → FitsSigned w64 f
+day_fits f n h =
+    let l = h.last in
+    let first = h.first in
+    fits_signed_from_abs w64 f (omega (arith, ints))

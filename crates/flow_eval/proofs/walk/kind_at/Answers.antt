@@ -1,0 +1,13 @@
+use Rattle.std.proofs.Common.{Option, ap, sym}
+use Rattle.term_core.specs.Declarations.{declarations}
+use Rattle.term_core.specs.Terms.{expression}
+use Rattle.term_core.specs.Values.{kind_or}
+use Rattle.term_core.specs.declared.values.Kind.{Kind}
+use Rattle.flow_eval.proofs.ReadyFacts.{may_evaluate}
+use Rattle.flow_eval.proofs.walk.kind_at.Goals as goal
+
+pub kind_of-requires : goal.kind_of-requires
+kind_of-requires c = record { place = may_evaluate (declarations c.args.course.now.decls.now) (expression c.args.e.now) c.args.scratch.now c.args.course.now.fixings.now c.requires.ready }
+
+pub returns : goal.returns
+returns c = sym (ap (λ (o : Option Kind). kind_or o) c.kind_of.ensures.kind)

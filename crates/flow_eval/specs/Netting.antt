@@ -1,0 +1,46 @@
+-- Payments in order of their slots, netted slot by slot into rows of a flow table.
+use Rattle.std.specs.Prelude.{◌≡◌, ◌⊎◌, ℕ, ℤ, pos, neg_ℤ, ◌+ℤ◌, ◌≤◌, ◌≤ℤ◌, ◌==◌, ◌&&◌, Bool, int_lt, List, [], ◌∷◌, ◌++◌, if◌then◌else◌, unsigned_abs}
+use Rattle.std.specs.List.{All}
+use Rattle.std.specs.Ordering.{int_eq}
+use Rattle.flow_eval.specs.declared.flow_table.FlowRow.{FlowRow}
+use Rattle.flow_eval.specs.declared.flow_table.Slot.{Slot}
+use Rattle.flow_eval.specs.declared.payments.Payment.{Payment}
+use Rattle.flow_eval.specs.Tables.{Precedes}
+
+abbrev pub same_slot : Slot → Slot → Bool
+same_slot a b = int_eq a.day b.day && ((a.asset == b.asset) && ((a.lower == b.lower) && (a.higher == b.higher)))
+
+-- a sum, and a further payment at its slot
+abbrev pub joined : Payment → Payment → Payment
+joined sum p = record sum { amount = sum.amount +ℤ p.amount }
+
+-- a sum in the direction in which it is positive
+abbrev pub row_of : Payment → FlowRow
+row_of p =
+    if int_lt (pos 0) p.amount then record { day = p.slot.day; asset = p.slot.asset; from = p.slot.lower; to = p.slot.higher; amount = p.amount } else record { day = p.slot.day; asset = p.slot.asset; from = p.slot.higher; to = p.slot.lower; amount = neg_ℤ p.amount }
+
+-- the row of a sum, if it is not 0
+abbrev pub closed : Payment → List FlowRow
+closed p = if int_eq p.amount (pos 0) then [] else row_of p ∷ []
+
+-- the rows of an open sum and the payments after it
+abbrev pub rows_from : Payment → List Payment → List FlowRow
+rows_from sum [] = closed sum
+rows_from sum (p ∷ ps) = if same_slot sum.slot p.slot then rows_from (joined sum p) ps else closed sum ++ rows_from p ps
+
+abbrev pub rows_of : List Payment → List FlowRow
+rows_of [] = []
+rows_of (p ∷ ps) = rows_from p ps
+
+-- each amount is at most so large
+abbrev pub AreSmall : ℕ → List Payment → Type 0
+AreSmall most ps = All (λ p. unsigned_abs p.amount ≤ most) ps
+
+-- each payment is on a day from the first to the last
+abbrev pub AreDue : ℤ → ℤ → List Payment → Type 0
+AreDue first last ps = All (λ p. (first ≤ℤ p.slot.day) × (p.slot.day ≤ℤ last)) ps
+
+-- no payment stands at a slot before that of an earlier one
+abbrev pub AreInOrder : List Payment → Type 0
+AreInOrder [] = Unit {0}
+AreInOrder (p ∷ ps) = All (λ q. (p.slot ≡ q.slot) ⊎ Precedes p.slot q.slot) ps × AreInOrder ps

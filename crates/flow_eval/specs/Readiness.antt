@@ -1,0 +1,60 @@
+-- When a part of an accepted contract can be walked: the names round it have entries that stand for values within their
+-- ranges, there is room for the names in it, and its days and decimals are within those of the whole.
+use Rattle.std.specs.Prelude.{ℕ, ℤ, pos, ◌+ℤ◌, ◌≤ℤ◌, ◌≤◌, List, [], Option, Some, None}
+use Rattle.term_core.specs.Declarations.{Declarations}
+use Rattle.term_core.specs.Terms.{Expression, Contract}
+use Rattle.term_core.specs.Environments.{Environment, IsAdmitted, Place}
+use Rattle.term_core.specs.Values.{Entry, kinds}
+use Rattle.term_core.specs.Flows.{scale_of_contract}
+use Rattle.term_core.specs.Bounds.{Range}
+use Rattle.term_core.specs.Sizes.{height_of_contract}
+use Rattle.term_core.specs.Acceptance.{IsAccepted}
+use Rattle.interval_check.specs.Nodes.{ContractMeetsRules}
+use Rattle.interval_check.specs.Parts.{StandsIn}
+use Rattle.interval_check.specs.Within.{AreWithin, KeepsLimits}
+use Rattle.expr_eval.specs.Rooms.{Room}
+use Rattle.expr_eval.specs.Standing.{StandFor}
+
+-- an expression that stands in an accepted contract, with entries for the names round it
+pub record CanAnswer (d : Declarations) (e : Expression) (r : Room) (fixings : Environment) : Type 0 where
+  pub limits : KeepsLimits d
+  pub whole : Contract
+  pub accepted : IsAccepted d whole
+  pub admitted : IsAdmitted d fixings
+  pub ranges : List Range
+  pub inside : StandsIn d e ranges whole []
+  pub values : List Entry
+  pub places : List (List Place)
+  pub within : AreWithin ranges values
+  pub stand : StandFor fixings r.entries values places
+
+-- a contract inside an accepted one, with entries for the names round it; it has so many decimals left
+pub record CanWalk (d : Declarations) (c : Contract) (room : ℕ) (r : Room) (fixings : Environment) : Type 0 where
+  pub limits : KeepsLimits d
+  pub whole : Contract
+  pub accepted : IsAccepted d whole
+  pub admitted : IsAdmitted d fixings
+  pub ranges : List Range
+  pub inside : (e : Expression) (h : List Range) → StandsIn d e h c ranges → StandsIn d e h whole []
+  pub rules : ContractMeetsRules d c ranges
+  pub values : List Entry
+  pub places : List (List Place)
+  pub within : AreWithin ranges values
+  pub stand : StandFor fixings r.entries values places
+  pub low : height_of_contract c ≤ r.spare
+  pub fits : scale_of_contract d c (kinds values) ≤ room
+  pub most : room ≤ d.amounts
+
+-- the last day that a contract on a day can reach
+abbrev pub last_day : ℕ
+last_day = 1_100_000
+
+-- a day, and that many more, are among those of a portfolio
+pub record IsAmongDays (f : ℤ) (days : ℕ) : Type 0 where
+  pub first : pos 0 ≤ℤ f
+  pub last : (f +ℤ pos days) ≤ℤ pos last_day
+
+-- a day that was found is among so many
+abbrev pub IsUpTo : Option ℕ → ℕ → Type 0
+IsUpTo None days = Unit {0}
+IsUpTo (Some k) days = k ≤ days

@@ -1,0 +1,94 @@
+-- The walk over a contract by fixings, up to a last day: each part on the path taken once, in the order in which it reads,
+-- until a place is met that is not fixed. It answers the payments on the path, or that place. Names have values, and the
+-- places that these were read from, as in `Reads`.
+use Rattle.std.specs.Prelude.{ℕ, zero, suc, ℤ, pos, ◌+ℤ◌, ◌-ℤ◌, ◌-◌, min, int_lt, unsigned_abs, List, [], ◌∷◌, ◌++◌, Option, Some, None, Result, Ok, Err, if◌then◌else◌}
+use Rattle.decimal.specs.Rounding.{raised}
+use Rattle.term_core.specs.Declarations.{Declarations}
+use Rattle.term_core.specs.declared.values.Value.{Value}
+use Rattle.term_core.specs.declared.values.Missing.{Missing}
+use Rattle.term_core.specs.Terms.{Expression, Contract, Zero, Pay, Both, Scale, After, Let, Within}
+use Rattle.term_core.specs.Environments.{Environment, Place}
+use Rattle.term_core.specs.Kinds.{kind_of, scale_of}
+use Rattle.term_core.specs.Values.{Entry, kinds, num, truth, kind_or, value_of}
+use Rattle.term_core.specs.Flows.{count_of}
+use Rattle.term_core.specs.Reads.{first_unfixed, reads_of}
+use Rattle.flow_eval.specs.declared.payments.Payment.{Payment}
+use Rattle.flow_eval.specs.Payments.{multiplied, paid}
+
+abbrev pub missing_at : Place → Missing
+missing_at q = record { label = q.label; day = q.day }
+
+-- what comes out where a place may be missing
+abbrev pub ValueOrMissing : Type 0
+ValueOrMissing = Result Value Missing
+
+abbrev pub DayOrMissing : Type 0
+DayOrMissing = Result (Option ℕ) Missing
+
+abbrev pub PaymentsOrMissing : Type 0
+PaymentsOrMissing = Result (List Payment) Missing
+
+abbrev pub value_unless : Option Place → Value → ValueOrMissing
+value_unless (Some q) v = Err (missing_at q)
+value_unless None v = Ok v
+
+abbrev pub payments_unless : Option Place → List Payment → PaymentsOrMissing
+payments_unless (Some q) ps = Err (missing_at q)
+payments_unless None ps = Ok ps
+
+-- the value of an expression over fixings, or its first place that is not fixed
+abbrev pub answer_of : Declarations → Expression → List Entry → List (List Place) → Environment → ℤ → ValueOrMissing
+answer_of d e g bs fixings f = value_unless (first_unfixed fixings (reads_of d e g bs fixings f)) (value_of d e g fixings f)
+
+-- one day of a test
+abbrev pub tried_on : ℕ → ValueOrMissing → DayOrMissing
+tried_on n (Err m) = Err m
+tried_on n (Ok v) = Ok (if truth v then Some n else None)
+
+abbrev pub or_next : DayOrMissing → ℕ → ValueOrMissing → DayOrMissing
+or_next (Err m) n next = Err m
+or_next (Ok (Some k)) n next = Ok (Some k)
+or_next (Ok None) n next = tried_on n next
+
+-- the first of n days on which a test is true
+abbrev pub first_tried : ℕ → (ℕ → ValueOrMissing) → DayOrMissing
+first_tried zero answers = Ok None
+first_tried (suc n) answers = or_next (first_tried n answers) n (answers n)
+
+-- the payments of two parts
+abbrev pub then_others : PaymentsOrMissing → PaymentsOrMissing → PaymentsOrMissing
+then_others (Err m) others = Err m
+then_others (Ok ps) (Err m) = Err m
+then_others (Ok ps) (Ok qs) = Ok (ps ++ qs)
+
+-- payments times a factor, which is not asked for where there are none
+abbrev pub then_factor : PaymentsOrMissing → ValueOrMissing → PaymentsOrMissing
+then_factor (Err m) factor = Err m
+then_factor (Ok []) factor = Ok []
+then_factor (Ok (p ∷ ps)) (Err m) = Err m
+then_factor (Ok (p ∷ ps)) (Ok v) = Ok (multiplied (num v) (p ∷ ps))
+
+-- the branch that is entered, if its day has come by the last day
+abbrev pub then_branch : DayOrMissing → ℤ → ℤ → ℕ → (ℕ → PaymentsOrMissing) → PaymentsOrMissing → PaymentsOrMissing
+then_branch (Err m) last f n hit miss = Err m
+then_branch (Ok (Some k)) last f n hit miss = hit k
+then_branch (Ok None) last f n hit miss = if int_lt last (f +ℤ pos n) then Ok [] else miss
+
+-- the days on which a test of n days is tried, up to the last day
+abbrev pub days_to_try : ℤ → ℤ → ℕ → ℕ
+days_to_try last f n = suc (min n (unsigned_abs (last -ℤ f)))
+
+abbrev pub walk_of : Declarations → ℕ → Contract → List Entry → List (List Place) → Environment → ℤ → ℤ → PaymentsOrMissing
+walk_of d room Zero g bs fixings f last = Ok []
+walk_of d room (Pay a p q) g bs fixings f last = Ok (paid last f (record { asset = a; from = p; to = q }) (raised (pos 1) room))
+walk_of d room (Both x y) g bs fixings f last = then_others (walk_of d room x g bs fixings f last) (walk_of d room y g bs fixings f last)
+walk_of d room (Scale e c) g bs fixings f last =
+    then_factor (walk_of d (room - scale_of d e (kinds g)) c g bs fixings f last) (answer_of d e g bs fixings f)
+walk_of d room (After n c) g bs fixings f last = walk_of d room c g bs fixings (f +ℤ pos (count_of n)) last
+walk_of d room (Let e c) g bs fixings f last =
+    walk_of d room c (record { value = value_of d e g fixings f; kind = kind_or (kind_of d e (kinds g)) } ∷ g) (reads_of d e g bs fixings f ∷ bs) fixings f last
+walk_of d room (Within e n x y) g bs fixings f last =
+    if int_lt last f then Ok [] else
+    then_branch (first_tried (days_to_try last f (count_of n)) (λ i. answer_of d e g bs fixings (f +ℤ pos i))) last f (count_of n)
+    (λ k. walk_of d room x g bs fixings (f +ℤ pos k) last)
+    (walk_of d room y g bs fixings (f +ℤ pos (count_of n)) last)

@@ -1,0 +1,18 @@
+//! The flows of an accepted contract over fixings: a table of what is paid, or the first observable that is missing.
+#![tactic(auto)]
+
+mod faults;
+mod flow_table;
+mod laws;
+mod netting;
+mod payments;
+mod tables;
+mod walk;
+
+pub use faults::FlowErr;
+pub use flow_table::{FlowRow, FlowTable, Slot};
+pub use laws::{one_answer, one_table};
+pub use tables::{flows, flows_on};
+
+#[cfg(test)]
+mod tests;

@@ -1,0 +1,102 @@
+//! The flow tables of contracts.
+
+ghost use Rattle.std.specs.Prelude.{◌≡◌, ◌≤ℤ◌, ◌≤◌, pos, IfOk, List, [], Result};
+ghost use Rattle.std.specs.List.Sorted.{IsPermutation};
+ghost use Rattle.term_core.specs.Declarations.{declarations};
+ghost use Rattle.term_core.specs.Terms.{contract};
+ghost use Rattle.term_core.specs.Environments.{IsAdmitted};
+ghost use Rattle.term_core.specs.Acceptance.{IsAccepted};
+ghost use Rattle.flow_eval.specs.Netting.{AreInOrder};
+ghost use Rattle.flow_eval.specs.Walks.{walk_of};
+ghost use Rattle.flow_eval.specs.Gathering.{IsGathered};
+ghost use Rattle.flow_eval.specs.FlowAnswers.{AreFlows};
+
+use crate::faults::FlowErr;
+use crate::flow_table::FlowTable;
+use crate::netting::rows_of;
+use crate::payments::Payment;
+use crate::walk::{Course, Standing, gather};
+use decimal::NoMemory;
+use expr_eval::Scratch;
+use fixing_files::Fixings;
+use std::alloc::Global;
+use term_core::{Contr, Decls};
+
+// The payments up to the last day of a contract that stands on a day.
+fn payments_on(
+    alloc: Global,
+    course: &Course,
+    c: &Contr,
+    frame: i64,
+) -> Result<Vec<Payment>, FlowErr>
+    requires accepted { IsAccepted (declarations course.now.decls.now) (contract c.now) }
+    requires admitted { IsAdmitted (declarations course.now.decls.now) course.now.fixings.now }
+    requires first { pos 0 ≤ℤ frame }
+    requires last { frame ≤ℤ pos 1_000_000 }
+    ensures { IsGathered (walk_of (declarations course.now.decls.now) course.now.decls.now.amounts (contract c.now) [] [] course.now.fixings.now frame course.now.until) result }
+{
+    let mut payments = Vec::new(alloc);
+    let mut scratch = Scratch::for_contract(alloc, c)?;
+    let here = Standing {
+        day: frame,
+        decimals: course.decls.amounts,
+    };
+    gather(course, &mut payments, &mut scratch, here, c)?;
+    Ok(payments)
+}
+
+// The same payments, in order of their slots.
+fn sorted(payments: Vec<Payment>) -> Result<Vec<Payment>, NoMemory>
+    ensures moved { IfOk result (λ sorted. IsPermutation payments.items sorted.items) }
+    ensures in_order { IfOk result (λ sorted. AreInOrder sorted.items) }
+{
+    let mut payments = payments;
+    payments.sort_by_key(|payment| payment.slot)?;
+    Ok(payments)
+}
+
+/// The flow table of an accepted contract that stands on a day from 0 to 1,000,000, from that day up to `until`: a row for
+/// each day, asset and two parties between whom something is paid, in units of the portfolio's least decimal. It is the
+/// same whatever else will be observed. It lacks a place exactly where the contract reads one on these days that is not
+/// fixed, and then answers the first. An amount has at most 36 digits.
+pub fn flows_on(
+    alloc: Global,
+    decls: &Decls,
+    c: &Contr,
+    fixings: &Fixings,
+    frame: i64,
+    until: i64,
+) -> Result<FlowTable, FlowErr>
+    requires accepted { IsAccepted (declarations decls.now) (contract c.now) }
+    requires admitted { IsAdmitted (declarations decls.now) fixings.now }
+    requires first { pos 0 ≤ℤ frame }
+    requires last { frame ≤ℤ pos 1_000_000 }
+    ensures { AreFlows (declarations decls.now) (contract c.now) fixings.now frame until result }
+{
+    let course = Course {
+        decls,
+        fixings,
+        until,
+    };
+    let payments = payments_on(alloc, &course, c, frame)?;
+    let payments = sorted(payments)?;
+    let rows = rows_of(alloc, &payments)?;
+    Ok(FlowTable { rows })
+}
+
+/// The flow table of an accepted contract that stands on the start of its portfolio, from that day up to `until`, as
+/// `flows_on` has it.
+pub fn flows(
+    alloc: Global,
+    decls: &Decls,
+    c: &Contr,
+    fixings: &Fixings,
+    until: i64,
+) -> Result<FlowTable, FlowErr>
+    requires accepted { IsAccepted (declarations decls.now) (contract c.now) }
+    requires admitted { IsAdmitted (declarations decls.now) fixings.now }
+    ensures { AreFlows (declarations decls.now) (contract c.now) fixings.now (pos decls.now.start) until result }
+{
+    let start = decls.start as i64;
+    flows_on(alloc, decls, c, fixings, start, until)
+}

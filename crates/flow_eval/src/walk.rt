@@ -1,0 +1,286 @@
+//! The walk over a contract that notes its payments.
+
+ghost use Rattle.std.specs.Prelude.{◌≡◌, ◌≤◌, ◌<◌, ◌+◌, ◌-◌, ◌≤ℤ◌, ◌+ℤ◌, ◌-ℤ◌, pos, min, max, unsigned_abs, ℕ, List, length, Ok, Err, Some, None, IfOk, int_lt};
+ghost use Rattle.term_core.specs.Declarations.{declarations};
+ghost use Rattle.term_core.specs.Terms.{contract, expression, Contract, Scale, Let, Within};
+ghost use Rattle.term_core.specs.Environments.{Place};
+ghost use Rattle.term_core.specs.Kinds.{kind_of, scale_of_kind};
+ghost use Rattle.term_core.specs.Values.{Entry, kind_or, num, truth};
+ghost use Rattle.term_core.specs.Flows.{count_of};
+ghost use Rattle.term_core.specs.Sizes.{reach};
+ghost use Rattle.expr_eval.specs.Rooms.{kinds_of};
+ghost use Rattle.expr_eval.specs.Standing.{StandFor};
+ghost use Rattle.flow_eval.specs.Walks.{answer_of, days_to_try, first_tried, walk_of};
+ghost use Rattle.flow_eval.specs.Readiness.{CanAnswer, CanWalk, IsAmongDays, IsUpTo};
+ghost use Rattle.flow_eval.specs.Gathering.{Gathers};
+
+use crate::faults::FlowErr;
+use crate::payments::{Payment, Transfer, multiply_from, pay};
+use decimal::pow10;
+use expr_eval::{Held, Scratch, eval, kind_of};
+use fixing_files::Fixings;
+use term_core::{Contr, Days, Decls, Expr, Kind, Missing, Value};
+
+/// What a walk goes by: the declarations, the fixings, and the last day that counts.
+#[derive(Clone, Copy)]
+pub struct Course<'a> {
+    pub decls: &'a Decls,
+    pub fixings: &'a Fixings,
+    pub until: i64,
+}
+
+/// Where a part of a contract stands: its day, and the decimals that the factors round it leave for its payments.
+#[derive(Clone, Copy, Debug, PartialEq, Eq)]
+pub struct Standing {
+    pub day: i64,
+    pub decimals: u8,
+}
+
+impl Standing {
+    // The same some days later.
+    fn after(self, days: u32) -> Standing
+        requires { IsAmongDays self.day days }
+        ensures { result ≡ record self { day = self.day +ℤ pos days } }
+    {
+        Standing {
+            day: self.day + days as i64,
+            decimals: self.decimals,
+        }
+    }
+
+    // The same inside a factor of so many decimals.
+    fn within(self, scale: u8) -> Standing
+        requires { scale ≤ self.decimals }
+        ensures { result ≡ record self { decimals = self.decimals - scale } }
+    {
+        Standing {
+            day: self.day,
+            decimals: self.decimals - scale,
+        }
+    }
+}
+
+// The number of a day count; an accepted contract has no other.
+fn count(days: &Days) -> u32
+    ensures { result ≡ count_of days.now }
+{
+    match days {
+        Days::Num { days } => *days,
+        Days::Named { .. } => 0,
+    }
+}
+
+fn scale_of(kind: Kind) -> u8
+    ensures { result ≡ scale_of_kind kind }
+{
+    match kind {
+        Kind::Truth => 0,
+        Kind::Number { scale } => scale,
+    }
+}
+
+fn number(value: Value) -> i128
+    ensures { result ≡ num value }
+{
+    match value {
+        Value::Num { mant } => mant,
+        Value::Truth { .. } => 0,
+    }
+}
+
+fn is_true(value: Value) -> bool
+    ensures { result ≡ truth value }
+{
+    match value {
+        Value::Num { .. } => false,
+        Value::Truth { value } => value,
+    }
+}
+
+// The kind of an expression.
+fn kind_at(course: &Course, e: &Expr, scratch: &Scratch) -> Kind
+    requires ready { CanAnswer (declarations course.now.decls.now) (expression e.now) scratch.now course.now.fixings.now }
+    ensures { result ≡ kind_or (kind_of (declarations course.now.decls.now) (expression e.now) (kinds_of scratch.now.entries)) }
+{
+    kind_of(course.decls, e, scratch)
+}
+
+// The value of an expression on its day, or the first place that it reads and that is not fixed.
+fn value_at(
+    course: &Course,
+    e: &Expr,
+    scratch: &mut Scratch,
+    here: Standing,
+) -> Result<Value, Missing>
+    requires ready { CanAnswer (declarations course.now.decls.now) (expression e.now) scratch.old course.now.fixings.now }
+    requires day { IsAmongDays here.day 0 }
+    ensures answer { (g : List Entry) (bs : List (List Place)) → StandFor course.now.fixings.now scratch.old.entries g bs → result ≡ answer_of (declarations course.now.decls.now) (expression e.now) g bs course.now.fixings.now here.day }
+    ensures same { scratch.new ≡ scratch.old }
+{
+    eval(course.decls, e, scratch, course.fixings, here.day)
+}
+
+// The last day that counts has passed.
+fn is_over(course: &Course, here: Standing) -> bool
+    ensures { result ≡ int_lt course.now.until here.day }
+{
+    course.until < here.day
+}
+
+// The days after the first on which a test of so many days is tried.
+fn days_tried(course: &Course, here: Standing, days: u32) -> u32
+    requires first { pos 0 ≤ℤ here.day }
+    requires in_time { here.day ≤ℤ course.now.until }
+    ensures { result ≡ min days (unsigned_abs (course.now.until -ℤ here.day)) }
+{
+    if course.until - here.day < days as i64 {
+        (course.until - here.day) as u32
+    } else {
+        days
+    }
+}
+
+// The days until a test first holds, of so many and up to the last day that counts.
+fn first_day(
+    course: &Course,
+    test: &Expr,
+    scratch: &mut Scratch,
+    here: Standing,
+    days: u32,
+) -> Result<Option<u32>, Missing>
+    requires ready { CanAnswer (declarations course.now.decls.now) (expression test.now) scratch.old course.now.fixings.now }
+    requires days { IsAmongDays here.day days }
+    requires in_time { here.day ≤ℤ course.now.until }
+    ensures answer { (g : List Entry) (bs : List (List Place)) → StandFor course.now.fixings.now scratch.old.entries g bs → result ≡ first_tried (days_to_try course.now.until here.day days) (λ i. answer_of (declarations course.now.decls.now) (expression test.now) g bs course.now.fixings.now (here.day +ℤ pos i)) }
+    ensures found { IfOk result (λ first. IsUpTo first days) }
+    ensures same { scratch.new ≡ scratch.old }
+{
+    let count = days_tried(course, here, days) + 1;
+    for i in 0..count {
+        if is_true(value_at(course, test, scratch, here.after(i))?) {
+            return Ok(Some(i));
+        }
+    }
+    Ok(None)
+}
+
+/// Notes the payments of a contract up to the last day that counts, or answers the first place that it reads and that is
+/// not fixed.
+#[cycle(gathering)]
+pub fn gather(
+    course: &Course,
+    out: &mut Vec<Payment>,
+    scratch: &mut Scratch,
+    here: Standing,
+    c: &Contr,
+) -> Result<(), FlowErr>
+    requires ready { CanWalk (declarations course.now.decls.now) (contract c.now) here.decimals scratch.old course.now.fixings.now }
+    requires days { IsAmongDays here.day (reach (contract c.now)) }
+    ensures answer { (g : List Entry) (bs : List (List Place)) → StandFor course.now.fixings.now scratch.old.entries g bs → Gathers (walk_of (declarations course.now.decls.now) here.decimals (contract c.now) g bs course.now.fixings.now here.day course.now.until) out.old.items out.new.items result }
+    ensures same { scratch.new ≡ scratch.old }
+{
+    if is_over(course, here) {
+        return Ok(());
+    }
+    match c {
+        Contr::Zero => Ok(()),
+        Contr::Pay { asset, from, to } => {
+            let transfer = Transfer {
+                asset: *asset,
+                from: *from,
+                to: *to,
+            };
+            pay(out, course.until, here.day, transfer, pow10(here.decimals))?;
+            Ok(())
+        }
+        Contr::Both { left, right } => {
+            gather(course, out, scratch, here, left)?;
+            gather(course, out, scratch, here, right)
+        }
+        Contr::Scale { factor, body } => gather_scaled(course, out, scratch, here, factor, body),
+        Contr::After { days, body } => {
+            gather(course, out, scratch, here.after(count(days)), body)
+        }
+        Contr::Let { bound, body } => gather_bound(course, out, scratch, here, bound, body),
+        Contr::Within {
+            test,
+            days,
+            hit,
+            miss,
+        } => gather_within(course, out, scratch, here, test, days, hit, miss),
+    }
+}
+
+// Notes the payments of the branch that a test enters, if it does so by the last day that counts.
+#[cycle(gathering)]
+fn gather_within(
+    course: &Course,
+    out: &mut Vec<Payment>,
+    scratch: &mut Scratch,
+    here: Standing,
+    test: &Expr,
+    days: &Days,
+    hit: &Contr,
+    miss: &Contr,
+) -> Result<(), FlowErr>
+    requires ready { CanWalk (declarations course.now.decls.now) (Within (expression test.now) days.now (contract hit.now) (contract miss.now)) here.decimals scratch.old course.now.fixings.now }
+    requires days { IsAmongDays here.day (count_of days.now + max (reach (contract hit.now)) (reach (contract miss.now))) }
+    requires in_time { here.day ≤ℤ course.now.until }
+    ensures answer { (g : List Entry) (bs : List (List Place)) → StandFor course.now.fixings.now scratch.old.entries g bs → Gathers (walk_of (declarations course.now.decls.now) here.decimals (Within (expression test.now) days.now (contract hit.now) (contract miss.now)) g bs course.now.fixings.now here.day course.now.until) out.old.items out.new.items result }
+    ensures same { scratch.new ≡ scratch.old }
+{
+    let days = count(days);
+    match first_day(course, test, scratch, here, days)? {
+        Some(first) => gather(course, out, scratch, here.after(first), hit),
+        None => gather(course, out, scratch, here.after(days), miss),
+    }
+}
+
+// Notes the payments of a contract times a factor, which is only asked for where there are some.
+#[cycle(gathering)]
+fn gather_scaled(
+    course: &Course,
+    out: &mut Vec<Payment>,
+    scratch: &mut Scratch,
+    here: Standing,
+    factor: &Expr,
+    body: &Contr,
+) -> Result<(), FlowErr>
+    requires ready { CanWalk (declarations course.now.decls.now) (Scale (expression factor.now) (contract body.now)) here.decimals scratch.old course.now.fixings.now }
+    requires days { IsAmongDays here.day (reach (contract body.now)) }
+    ensures answer { (g : List Entry) (bs : List (List Place)) → StandFor course.now.fixings.now scratch.old.entries g bs → Gathers (walk_of (declarations course.now.decls.now) here.decimals (Scale (expression factor.now) (contract body.now)) g bs course.now.fixings.now here.day course.now.until) out.old.items out.new.items result }
+    ensures same { scratch.new ≡ scratch.old }
+{
+    let scale = scale_of(kind_at(course, factor, scratch));
+    let first = out.len();
+    gather(course, out, scratch, here.within(scale), body)?;
+    if out.len() == first {
+        return Ok(());
+    }
+    let factor = value_at(course, factor, scratch, here)?;
+    multiply_from(out, first, number(factor));
+    Ok(())
+}
+
+// Notes the payments of a contract in which a name is bound to an expression.
+#[cycle(gathering)]
+fn gather_bound(
+    course: &Course,
+    out: &mut Vec<Payment>,
+    scratch: &mut Scratch,
+    here: Standing,
+    bound: &Expr,
+    body: &Contr,
+) -> Result<(), FlowErr>
+    requires ready { CanWalk (declarations course.now.decls.now) (Let (expression bound.now) (contract body.now)) here.decimals scratch.old course.now.fixings.now }
+    requires days { IsAmongDays here.day (reach (contract body.now)) }
+    ensures answer { (g : List Entry) (bs : List (List Place)) → StandFor course.now.fixings.now scratch.old.entries g bs → Gathers (walk_of (declarations course.now.decls.now) here.decimals (Let (expression bound.now) (contract body.now)) g bs course.now.fixings.now here.day course.now.until) out.old.items out.new.items result }
+    ensures same { scratch.new ≡ scratch.old }
+{
+    let kind = kind_at(course, bound, scratch);
+    let held = Held::of(value_at(course, bound, scratch, here));
+    scratch.enter(kind, held);
+    let gathered = gather(course, out, scratch, here, body);
+    scratch.leave();
+    gathered
+}
