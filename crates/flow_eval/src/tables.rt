@@ -58,7 +58,7 @@ fn sorted(payments: Vec<Payment>) -> Result<Vec<Payment>, NoMemory>
 /// The flow table of an accepted contract that stands on a day from 0 to 1,000,000, from that day up to `until`: a row for
 /// each day, asset and two parties between whom something is paid, in units of the portfolio's least decimal. It is the
 /// same whatever else will be observed. It lacks a place exactly where the contract reads one on these days that is not
-/// fixed, and then answers the first. An amount has at most 36 digits.
+/// fixed, and then answers the first. An amount is at most 10^36.
 pub fn flows_on(
     alloc: Global,
     decls: &Decls,

@@ -1,5 +1,10 @@
 // Flows of accepted contracts, over tables of fixings.
 
+ghost use Rattle.std.specs.Prelude.{IsTrue};
+ghost use Rattle.term_core.specs.Declarations.{declarations};
+ghost use Rattle.term_core.specs.Terms.{contract};
+ghost use Rattle.term_core.specs.Acceptance.{IsAccepted};
+
 mod closed;
 mod fixtures;
 mod samples;
@@ -13,7 +18,7 @@ use samples::Sample;
 use std::alloc::Global;
 use std::process::Abort;
 use std::test::Fail;
-use term_core::counts;
+use term_core::{Contr, Decls, counts};
 
 // What an answer tells of a contract that pays on at most one day between two parties.
 #[derive(Clone, Copy, Debug, PartialEq, Eq)]
@@ -35,6 +40,20 @@ fn outcome_of(answer: &Result<FlowTable, FlowErr>) -> Outcome {
     }
 }
 
+// Whether a contract is accepted.
+fn is_accepted(rt: &impl Abort, alloc: Global, decls: &Decls, c: &Contr) -> bool
+    ensures { IsTrue result → IsAccepted (declarations decls.now) (contract c.now) }
+{
+    let size = counts(c);
+    assert!(rt; size.height <= 1_000);
+    assert!(rt; size.nodes < 1_000_000);
+    assert!(rt; is_closed(decls, c, 0));
+    match check(alloc, decls, c) {
+        Ok(_) => true,
+        Err(_) => false,
+    }
+}
+
 // The flows of a sample, which is accepted, over the fixings of a table: on a day, or on the start of the portfolio.
 fn flows_of(
     rt: &impl Abort,
@@ -43,25 +62,18 @@ fn flows_of(
     table: &[u8],
     frame: Option<i64>,
     until: i64,
-) -> Result<Option<Result<FlowTable, FlowErr>>, Fail> {
+) -> Result<Result<FlowTable, FlowErr>, Fail> {
     assert!(rt; table.len() <= 1_000);
     let decls = declared(alloc)?;
     let c = sample.contract(alloc)?;
-    let size = counts(&c);
-    assert!(rt; size.height <= 1_000);
-    assert!(rt; size.nodes < 1_000_000);
-    assert!(rt; is_closed(&decls, &c, 0));
-    let facts = check(alloc, &decls, &c);
     let fixings = read_fixings(alloc, table, &decls)?;
-    match (facts, frame) {
-        (Ok(_), Some(frame)) => {
-            assert!(rt; 0 <= frame);
-            assert!(rt; frame <= 1_000);
-            Ok(Some(flows_on(alloc, &decls, &c, &fixings, frame, until)))
-        }
-        (Ok(_), None) => Ok(Some(flows(alloc, &decls, &c, &fixings, until))),
-        (Err(_), _) => Ok(None),
-    }
+    assert!(rt; is_accepted(rt, alloc, &decls, &c));
+    let Some(frame) = frame else {
+        return Ok(flows(alloc, &decls, &c, &fixings, until));
+    };
+    assert!(rt; 0 <= frame);
+    assert!(rt; frame <= 1_000);
+    Ok(flows_on(alloc, &decls, &c, &fixings, frame, until))
 }
 
 // What the answer for a sample tells.
@@ -72,11 +84,9 @@ fn outcome_on(
     table: &[u8],
     frame: Option<i64>,
     until: i64,
-) -> Result<Option<Outcome>, Fail> {
-    match flows_of(rt, alloc, sample, table, frame, until)? {
-        Some(answer) => Ok(Some(outcome_of(&answer))),
-        None => Ok(None),
-    }
+) -> Result<Outcome, Fail> {
+    let answer = flows_of(rt, alloc, sample, table, frame, until)?;
+    Ok(outcome_of(&answer))
 }
 
 const NONE: &[u8] = b"label,day,value\n";
@@ -120,7 +130,7 @@ fn tests_choose_a_branch(rt: HostRuntime) -> Result<(), Fail> {
         (8, Taken, NONE, 0, 100, row(0, A, B, 100)),
     ] {
         let answer = outcome_on(&rt, alloc, sample, table, Some(frame), until)?;
-        assert_eq!(rt; answer, Some(wanted), "line {line}");
+        assert_eq!(rt; answer, wanted, "line {line}");
     }
     Ok(())
 }
@@ -141,7 +151,7 @@ fn observables_are_read_where_they_count(rt: HostRuntime) -> Result<(), Fail> {
         (9, Fixed, LATER, 1, row(1, A, B, 100)),
     ] {
         let answer = outcome_on(&rt, alloc, sample, table, Some(0), until)?;
-        assert_eq!(rt; answer, Some(wanted), "line {line}");
+        assert_eq!(rt; answer, wanted, "line {line}");
     }
     Ok(())
 }
@@ -158,7 +168,7 @@ fn amounts_are_exact(rt: HostRuntime) -> Result<(), Fail> {
         (5, Three, Outcome::Rows(3)),
     ] {
         let answer = outcome_on(&rt, alloc, sample, NONE, None, 100)?;
-        assert_eq!(rt; answer, Some(wanted), "line {line}");
+        assert_eq!(rt; answer, wanted, "line {line}");
     }
     Ok(())
 }
@@ -176,8 +186,8 @@ fn rows_stand_by_lower_and_higher_party(rt: HostRuntime) -> Result<(), Fail> {
     };
     let wanted = [pays(B, A, 300), pays(A, C, 200), pays(B, C, 100)];
     let found = match &answer {
-        Some(Ok(table)) => table.rows.as_slice() == wanted.as_slice(),
-        _ => false,
+        Ok(table) => table.rows.as_slice() == wanted.as_slice(),
+        Err(_) => false,
     };
     assert!(rt; found);
     Ok(())
