@@ -30,8 +30,8 @@ use Rattle.contract_parse.proofs.TextSizes.{nodes_fit}
 use Rattle.report.specs.CheckLines.{accepted_line, verdict_line}
 use Rattle.time_types.specs.Starts.{start_day}
 use Rattle.contract_cli.specs.CheckText.{AreCheckLines, IsCheckLine, accepted, refused, IsCheckText, at_defaults}
-use Rattle.contract_cli.specs.Runs.{Answers}
-use Rattle.contract_cli.specs.declared.words.Verb.TheVariants.{Check}
+use Rattle.contract_cli.specs.Answers.{ChecksBytes, all_accepted, some_refused}
+use Rattle.contract_cli.specs.declared.status.Status.{Status}
 use Rattle.contract_cli.specs.declared.status.Status.TheVariants as status
 use Rattle.contract_cli.specs.Checking.{AppendsVerdict, AppendsVerdicts, IsSound, IsVerdictOf}
 
@@ -150,9 +150,10 @@ check_text_of : (bytes : List ℕ) (b : Book) (so_far all : Bool) (text : List �
 check_text_of bytes b so_far all text is vs =
     record { portfolio = b; spelled = is; lines = subst (λ (t : List ℕ). AreCheckLines b.declarations b.contracts t) (sym vs.appended) vs.lines }
 
-pub all_done : (bytes : List ℕ) (b : Book) (all : Bool) (text : List ℕ) → Text bytes b → AppendsVerdicts b.declarations b.contracts true all [] text → all ≡ true → Answers Check bytes status.Done text
-all_done bytes b all text is vs every = (record { portfolio = b; spelled = is; accepted = (vs.decides.0 every).1 }, check_text_of bytes b true all text is vs)
+pub all_done : (bytes : List ℕ) (b : Book) (all : Bool) (text : List ℕ) (s : Status) → Text bytes b → AppendsVerdicts b.declarations b.contracts true all [] text → all ≡ true → s ≡ status.Done → ChecksBytes bytes s text
+all_done bytes b all text s is vs every e =
+    all_accepted e (record { portfolio = b; spelled = is; accepted = (vs.decides.0 every).1 }) (check_text_of bytes b true all text is vs)
 
-pub some_refused : (bytes : List ℕ) (b : Book) (all : Bool) (text : List ℕ) → Text bytes b → AppendsVerdicts b.declarations b.contracts true all [] text → all ≡ false → Answers Check bytes status.Refused text
-some_refused bytes b all text is vs fails =
-    (record { portfolio = b; spelled = is; refused = λ every. let yes : all ≡ true = vs.decides.1 (refl, every) in let h : false ≡ true = sym fails ∙ yes in cc }, check_text_of bytes b true all text is vs)
+pub some_not : (bytes : List ℕ) (b : Book) (all : Bool) (text : List ℕ) (s : Status) → Text bytes b → AppendsVerdicts b.declarations b.contracts true all [] text → all ≡ false → s ≡ status.Refused → ChecksBytes bytes s text
+some_not bytes b all text s is vs fails e =
+    some_refused e (record { portfolio = b; spelled = is; refused = λ every. let yes : all ≡ true = vs.decides.1 (refl, every) in let h : false ≡ true = sym fails ∙ yes in cc }) (check_text_of bytes b true all text is vs)

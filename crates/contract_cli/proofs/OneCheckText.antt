@@ -10,8 +10,7 @@ use Rattle.term_core.proofs.RefusalFacts.{accepted_not_refused, refusals_unique}
 use Rattle.contract_check.proofs.CheckFacts.{facts_unique}
 use Rattle.contract_parse.proofs.OneText.{one_text}
 use Rattle.report.specs.CheckLines.{accepted_line, refused_line}
-use Rattle.contract_cli.specs.CheckText.{AreCheckLines, IsCheckLine, accepted, refused, at_defaults}
-use Rattle.contract_cli.specs.RunLaws.{CheckTextsAreOne}
+use Rattle.contract_cli.specs.CheckText.{AreCheckLines, IsCheckLine, accepted, refused, IsCheckText, at_defaults}
 
 one_line : (d : Declarations) (name : List ℕ) (c : Contract) (l m : List ℕ) → IsCheckLine d name c l → IsCheckLine d name c m → l ≡ m
 one_line d name c l m (accepted f a right causal is) (accepted g b wrong also was) =
@@ -29,7 +28,7 @@ one_lines d (e ∷ es) t u is was =
     let rest = one_lines d es is.1 was.1 is.3 was.3 in
     is.4 ∙ ap (λ (x : List ℕ). x ++ is.1) first ∙ ap (λ (x : List ℕ). was.0 ++ x) rest ∙ sym was.4
 
-pub check_texts_one : CheckTextsAreOne
+pub check_texts_one : (bytes t u : List ℕ) → IsCheckText bytes t → IsCheckText bytes u → t ≡ u
 check_texts_one bytes t u is was =
     let same = one_text bytes was.portfolio is.portfolio was.spelled is.spelled in
     one_lines is.portfolio.declarations is.portfolio.contracts t u is.lines (subst (λ (b : Book). AreCheckLines b.declarations b.contracts u) same was.lines)

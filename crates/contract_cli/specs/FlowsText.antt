@@ -1,24 +1,79 @@
--- What the command `flows` writes of a portfolio: for each contract in its order, a line for each row of its flow table
--- from the start to a last day.
-use Rattle.std.specs.Prelude.{◌≡◌, ◌<◌, ℕ, ℤ, pos, List, [], ◌∷◌, ◌++◌, Result, Ok, Err, map}
+-- What the command `flows` says of a portfolio over fixings: for each contract in its order, at the numbers that the
+-- templates are declared with, a line for each row of its flow table from the start to a last day; or what stops it, in
+-- this order: a day that is out of range, a contract that is refused, a row that is refused, a read that is not fixed.
+use Rattle.std.specs.Prelude.{◌≡◌, ◌≤ℤ◌, ◌<ℤ◌, ◌⊎◌, ℕ, ℤ, pos, List, [], ◌∷◌, ◌++◌, Option, Some, None, Result, Ok, Err, slice_get, map}
 use Rattle.std.specs.List.{All}
-use Rattle.std.specs.Global.{Vec}
 use Rattle.term_core.specs.declared.name.Name.{Name}
+use Rattle.term_core.specs.declared.rules.Rule.{Rule}
+use Rattle.term_core.specs.declared.terms.Contr.{Contr}
 use Rattle.term_core.specs.Books.{Book}
 use Rattle.term_core.specs.Declarations.{Declarations}
-use Rattle.term_core.specs.Environments.{Environment}
+use Rattle.term_core.specs.Environments.{Environment, Place}
 use Rattle.term_core.specs.Terms.{Contract, contract}
-use Rattle.term_core.specs.declared.terms.Contr.{Contr}
-use Rattle.contract_parse.specs.Payments.{payments_in}
-use Rattle.contract_parse.specs.Texts.{IsFault, Text}
-use Rattle.contract_parse.specs.declared.faults.ParseErr.{ParseErr}
-use Rattle.contract_parse.specs.declared.faults.ParseErr.TheVariants as parse
-use Rattle.contract_cli.specs.FlowLines.{IsFlowLine}
-use Rattle.contract_cli.specs.Plain.{IsPlain}
-use Rattle.contract_cli.specs.declared.flows_text.Stop.{Stop}
-use Rattle.contract_cli.specs.declared.flows_text.Stop.TheVariants.{BadText, Refused, NoMemory}
-use Rattle.contract_cli.specs.Tables.{IsTable, paid_by}
-use Rattle.contract_cli.specs.declared.flow_table.FlowRow.{FlowRow}
+use Rattle.term_core.specs.Acceptance.{IsRefusal}
+use Rattle.fixing_files.specs.Days.{day_of}
+use Rattle.fixing_files.specs.Tables.{Holds, IsFirstFault, table_of}
+use Rattle.fixing_files.specs.declared.days.DayFault.TheVariants.{NoOrigin}
+use Rattle.fixing_files.specs.declared.faults.RowFault.{RowFault}
+use Rattle.term_core.specs.Reads.{first_unfixed}
+use Rattle.flow_eval.specs.FlowAnswers.{AreKnownFlows, reads_until}
+use Rattle.flow_eval.specs.declared.flow_table.FlowRow.{FlowRow}
+use Rattle.report.specs.FlowLines.{IsFlowLine}
+use Rattle.report.specs.declared.fault_lines.Fault.{Fault}
+use Rattle.report.specs.declared.fault_lines.Fault.TheVariants as fault
+use Rattle.contract_cli.specs.CheckText.{AreAllAccepted, at_defaults}
+use Rattle.contract_cli.specs.declared.status.Status.{Status}
+use Rattle.contract_cli.specs.declared.status.Status.TheVariants as status
+
+-- the greatest day that can be asked for
+abbrev pub greatest_day : ℤ
+greatest_day = pos 1_100_000
+
+-- the last day that is asked for: that of a word, or the greatest
+abbrev pub IsLastDay : Declarations → Option (List ℕ) → ℤ → Type 0
+IsLastDay d None last = last ≡ greatest_day
+IsLastDay d (Some word) last = (day_of d.origin word ≡ Ok last) × (pos d.start ≤ℤ last) × (last ≤ℤ greatest_day)
+
+-- a word is a date where there is no origin, or names a day before the start or above the greatest
+pub data IsOutOfRange (d : Declarations) (word : List ℕ) : Type 0 where
+  no_origin : day_of d.origin word ≡ Err NoOrigin → IsOutOfRange d word
+  too_early : (day : ℤ) → day_of d.origin word ≡ Ok day → day <ℤ pos d.start → IsOutOfRange d word
+  too_late : (day : ℤ) → day_of d.origin word ≡ Ok day → greatest_day <ℤ day → IsOutOfRange d word
+
+-- the fixings of a table, or none where none is named
+abbrev pub AreFixings : Declarations → Option (List ℕ) → Environment → Type 0
+AreFixings d None fixings = fixings ≡ []
+AreFixings d (Some bytes) fixings = Holds d (table_of bytes) fixings
+
+-- the name of a declared label
+abbrev pub label_name : Declarations → ℕ → List ℕ
+label_name d label = elim (slice_get d.labels label) [ Some entry ↦ entry.0 | None ↦ [] ]
+
+-- the first read of a contract, at the defaults and on the start, that is not fixed
+abbrev pub missing_of : Declarations → Environment → ℤ → Contract → Option Place
+missing_of d fixings last c = first_unfixed fixings (reads_until d (at_defaults d c) fixings (pos d.start) last)
+
+-- each read of each contract is fixed
+abbrev pub AreAllFixed : Declarations → Environment → ℤ → List (Name × Contract) → Type 0
+AreAllFixed d fixings last entries = All (λ entry. missing_of d fixings last entry.1 ≡ None) entries
+
+-- the first contract that is not accepted
+pub record IsFirstNotAccepted (d : Declarations) (entries : List (Name × Contract)) (name : List ℕ) (rule : Rule) (node : ℕ) : Type 0 where
+  pub before : List (Name × Contract)
+  pub contr : Contract
+  pub after : List (Name × Contract)
+  pub split : entries ≡ before ++ (name, contr) ∷ after
+  pub accepted : AreAllAccepted d before
+  pub refused : IsRefusal d (at_defaults d contr) rule node
+
+-- the first read that is not fixed, of the first contract that has one
+pub record IsFirstMissing (d : Declarations) (fixings : Environment) (last : ℤ) (entries : List (Name × Contract)) (place : Place) : Type 0 where
+  pub before : List (Name × Contract)
+  pub entry : Name × Contract
+  pub after : List (Name × Contract)
+  pub split : entries ≡ before ++ entry ∷ after
+  pub fixed : AreAllFixed d fixings last before
+  pub missing : missing_of d fixings last entry.1 ≡ Some place
 
 -- a line for each row of the named contract
 abbrev pub AreLines : Declarations → List ℕ → List FlowRow → List ℕ → Type 0
@@ -26,89 +81,48 @@ AreLines d name [] text = text ≡ []
 AreLines d name (row ∷ rows) text =
     (line : List ℕ) × (rest : List ℕ) × IsFlowLine d name row line × AreLines d name rows rest × (text ≡ line ++ rest)
 
--- the lines of the flows of a contract that stands on the start; whatever is observed, they are the same
-pub record AreFlowLines (d : Declarations) (last : ℤ) (name : List ℕ) (c : Contract) (text : List ℕ) : Type 0 where
+-- the lines of the flows of a contract at the defaults that stands on the start, the same in every environment that extends
+-- the fixings
+pub record AreFlowLines (d : Declarations) (fixings : Environment) (last : ℤ) (name : List ℕ) (c : Contract) (text : List ℕ) : Type 0 where
   pub rows : List FlowRow
-  pub table : (env : Environment) → IsTable (paid_by d c env (pos d.start)) (pos d.start) last rows
+  pub flows : AreKnownFlows d (at_defaults d c) fixings (pos d.start) last rows
   pub lines : AreLines d name rows text
 
 -- the lines of contracts, one contract after another
-abbrev pub AreAllLines : Declarations → ℤ → List (Name × Contract) → List ℕ → Type 0
-AreAllLines d last [] text = text ≡ []
-AreAllLines d last (entry ∷ entries) text =
-    (first : List ℕ) × (rest : List ℕ) × AreFlowLines d last entry.0 entry.1 first × AreAllLines d last entries rest × (text ≡ first ++ rest)
+abbrev pub AreAllLines : Declarations → Environment → ℤ → List (Name × Contract) → List ℕ → Type 0
+AreAllLines d fixings last [] text = text ≡ []
+AreAllLines d fixings last (entry ∷ entries) text =
+    (first : List ℕ) × (rest : List ℕ) × AreFlowLines d fixings last entry.0 entry.1 first × AreAllLines d fixings last entries rest × (text ≡ first ++ rest)
 
--- the same, behind what was there before
-pub record AppendsLines (d : Declarations) (name : List ℕ) (rows : List FlowRow) (before after : List ℕ) : Type 0 where
-  pub text : List ℕ
-  pub lines : AreLines d name rows text
-  pub appended : after ≡ before ++ text
+-- the whole answer
+pub record IsFlowsText (b : Book) (until table : Option (List ℕ)) (text : List ℕ) : Type 0 where
+  pub last : ℤ
+  pub is_last : IsLastDay b.declarations until last
+  pub accepted : AreAllAccepted b.declarations b.contracts
+  pub fixings : Environment
+  pub are_fixings : AreFixings b.declarations table fixings
+  pub fixed : AreAllFixed b.declarations fixings last b.contracts
+  pub lines : AreAllLines b.declarations fixings last b.contracts text
 
--- each contract holds fewer than a million payments
-abbrev pub AreFew : List (Name × Contract) → Type 0
-AreFew entries = All (λ entry. payments_in entry.1 < 1_000_000) entries
-
--- each contract is plain
-abbrev pub AreAllPlain : Declarations → List (Name × Contract) → Type 0
-AreAllPlain d entries = All (λ entry. IsPlain d.amounts entry.1) entries
-
-pub record AppendsFlows (d : Declarations) (last : ℤ) (name : List ℕ) (c : Contract) (before after : List ℕ) : Type 0 where
-  pub text : List ℕ
-  pub lines : AreFlowLines d last name c text
-  pub appended : after ≡ before ++ text
-
-pub record AppendsAll (d : Declarations) (last : ℤ) (entries : List (Name × Contract)) (before after : List ℕ) : Type 0 where
-  pub text : List ℕ
-  pub lines : AreAllLines d last entries text
-  pub appended : after ≡ before ++ text
-
--- the answer for one contract: its lines, or just where it is not plain, a refusal
-abbrev pub AnswersOne : Declarations → ℤ → List ℕ → Contract → List ℕ → List ℕ → Result (Unit {0}) Stop → Type 0
-AnswersOne d last name c before after (Ok u) = IsPlain d.amounts c × AppendsFlows d last name c before after
-AnswersOne d last name c before after (Err (BadText fault)) = ⊥
-AnswersOne d last name c before after (Err Refused) = IsPlain d.amounts c → ⊥
-AnswersOne d last name c before after (Err NoMemory) = Unit {0}
-
--- the answer for contracts, behind what was there before
-abbrev pub AnswersAll : Declarations → ℤ → List (Name × Contract) → List ℕ → Result (Vec ℕ) Stop → Type 0
-AnswersAll d last entries before (Ok text) = AreAllPlain d entries × AppendsAll d last entries before text.items
-AnswersAll d last entries before (Err (BadText fault)) = ⊥
-AnswersAll d last entries before (Err Refused) = AreAllPlain d entries → ⊥
-AnswersAll d last entries before (Err NoMemory) = Unit {0}
+-- what stops it: a status and a fault
+pub data Stops (b : Book) (until table : Option (List ℕ)) (s : Status) (f : Fault) : Type 0 where
+  day_out :
+      s ≡ status.DayRange → (word : List ℕ) → until ≡ Some word → IsOutOfRange b.declarations word → f ≡ fault.Day word
+      → Stops b until table s f
+  not_accepted :
+      s ≡ status.Refused → (last : ℤ) → IsLastDay b.declarations until last
+      → (name : List ℕ) (rule : Rule) (node : ℕ) → IsFirstNotAccepted b.declarations b.contracts name rule node → f ≡ fault.Refused name rule node
+      → Stops b until table s f
+  row_refused :
+      s ≡ status.BadRow → (last : ℤ) → IsLastDay b.declarations until last → AreAllAccepted b.declarations b.contracts
+      → (bytes : List ℕ) → table ≡ Some bytes → (row : RowFault) → IsFirstFault b.declarations (table_of bytes) row → f ≡ fault.Row 2 row
+      → Stops b until table s f
+  read_missing :
+      s ≡ status.Missing → (last : ℤ) → IsLastDay b.declarations until last → AreAllAccepted b.declarations b.contracts
+      → (fixings : Environment) → AreFixings b.declarations table fixings
+      → (place : Place) → IsFirstMissing b.declarations fixings last b.contracts place → f ≡ fault.Missing (label_name b.declarations place.label) place.day
+      → Stops b until table s f
 
 -- contracts by their contents
 abbrev pub trees : List (Name × Contr) → List (Name × Contract)
 trees entries = map (λ entry. (entry.0, contract entry.1)) entries
-
--- why a text that is not read has no lines
-abbrev pub stop_of : ParseErr → Stop
-stop_of (parse.Text fault) = BadText fault
-stop_of parse.NoMemory = NoMemory
-
--- the greatest day that is written
-abbrev pub last_day : ℤ
-last_day = pos 1_100_000
-
--- the bytes are a portfolio of plain contracts, and the text has their lines
-pub record IsFlowsText (bytes text : List ℕ) : Type 0 where
-  pub portfolio : Book
-  pub spelled : Text bytes portfolio
-  pub plain : AreAllPlain portfolio.declarations portfolio.contracts
-  pub lines : AreAllLines portfolio.declarations last_day portfolio.contracts text
-
--- the bytes are no portfolio
-abbrev pub IsNoText : List ℕ → Type 0
-IsNoText bytes = (b : Book) → Text bytes b → ⊥
-
--- the bytes are a portfolio of which some contract is not plain
-pub record IsNotPlain (bytes : List ℕ) : Type 0 where
-  pub portfolio : Book
-  pub spelled : Text bytes portfolio
-  pub refused : AreAllPlain portfolio.declarations portfolio.contracts → ⊥
-
--- the answer for the bytes of a file
-abbrev pub AnswersFlows : List ℕ → Result (Vec ℕ) Stop → Type 0
-AnswersFlows bytes (Ok text) = IsFlowsText bytes text.items
-AnswersFlows bytes (Err (BadText fault)) = IsFault bytes fault × IsNoText bytes
-AnswersFlows bytes (Err Refused) = IsNotPlain bytes
-AnswersFlows bytes (Err NoMemory) = Unit {0}

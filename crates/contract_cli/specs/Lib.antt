@@ -1,11 +1,9 @@
-pub mod Plain
-pub mod FlowLines
-pub mod Payments
-pub mod Netting
 pub mod Words
-pub mod Runs
-pub mod Tables
-pub mod FlowsText
 pub mod CheckText
+pub mod FlowsText
+pub mod Answers
+pub mod Runs
 pub mod Checking
+pub mod FlowLists
+pub mod Answering
 pub mod RunLaws

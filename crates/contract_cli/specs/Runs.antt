@@ -1,19 +1,14 @@
--- What a run answers, by its status. Each status has its cause, and the refusals come in this order: usage, a failed
--- read, a file that is too long, a text that is no portfolio, a contract that is refused, a failed write. Want of memory
--- may come before the first write. A run makes its whole text first, which for a fault is the fault's line, and then
--- writes it.
+-- What a run answers, by its status. Each status has its cause, and the refusals come in this order: usage; file by file
+-- a failed read and a file that is too long; a text that is no portfolio; a day that is out of range; a contract that is
+-- refused; a row of a table that is refused; a read that is not fixed; a failed write. Want of memory may come before the
+-- first write. A run makes its whole text first, which for a fault is the fault's line, and then writes it.
 use Rattle.std.specs.Prelude.{◌≡◌, ◌≤◌, ◌<◌, ℕ, List, [], Option, Some, None, IfSome, length, take}
 use Rattle.std.specs.Io.KnownBytes.{Appends, Keeps}
 use Rattle.edge_io.specs.Counts.{Rose}
-use Rattle.contract_parse.specs.Texts.{IsFault}
-use Rattle.contract_parse.specs.declared.faults.TextFault.{TextFault}
 use Rattle.report.specs.FaultLines.{fault_text}
 use Rattle.report.specs.declared.fault_lines.Fault.TheVariants as fault
-use Rattle.contract_cli.specs.FlowsText.{IsFlowsText, IsNoText, IsNotPlain}
-use Rattle.contract_cli.specs.CheckText.{IsAllAccepted, IsCheckText, IsSomeRefused}
+use Rattle.contract_cli.specs.Answers.{Answers, Inputs}
 use Rattle.contract_cli.specs.Words.{Asked, command_of}
-use Rattle.contract_cli.specs.declared.words.Verb.{Verb}
-use Rattle.contract_cli.specs.declared.words.Verb.TheVariants.{Check, Flows}
 use Rattle.contract_cli.specs.declared.status.Status.{Status}
 use Rattle.contract_cli.specs.declared.status.Status.TheVariants as status
 
@@ -43,12 +38,26 @@ pub record Edge : Type 0 where
 abbrev pub Names : List (List ℕ) → Asked → Type 0
 Names words asked = command_of words ≡ Some asked
 
--- these bytes were read of the file that the words name: its contents, where those are told
-pub record WasRead (words : List (List ℕ)) (files : FilesSeen) (verb : Verb) (bytes : List ℕ) : Type 0 where
-  pub file : List ℕ
-  pub named : Names words (record { verb = verb; file = file })
+-- these bytes were read of a file: its contents, where they are told
+pub record WasRead (files : FilesSeen) (file bytes : List ℕ) : Type 0 where
   pub told : IfSome (files.contents file) (λ all. bytes ≡ all)
   pub fits : length bytes ≤ longest_file
+
+-- the same of a file that a command may have
+abbrev pub WasReadIfNamed : FilesSeen → Option (List ℕ) → Option (List ℕ) → Type 0
+WasReadIfNamed files None None = Unit {0}
+WasReadIfNamed files (Some file) (Some bytes) = WasRead files file bytes
+WasReadIfNamed files _ _ = ⊥
+
+-- these were read of the files of a command
+pub record WereRead (files : FilesSeen) (asked : Asked) (inputs : Inputs) : Type 0 where
+  pub portfolio : WasRead files asked.portfolio inputs.portfolio
+  pub fixings : WasReadIfNamed files asked.fixings inputs.fixings
+
+-- the file at a place of a command, where those before it were read
+pub data IsNext (files : FilesSeen) (asked : Asked) (file : List ℕ) (place : ℕ) : Type 0 where
+  is_first : place ≡ 1 → file ≡ asked.portfolio → IsNext files asked file place
+  is_second : place ≡ 2 → asked.fixings ≡ Some file → (bytes : List ℕ) → WasRead files asked.portfolio bytes → IsNext files asked file place
 
 -- nothing was written
 abbrev pub WritesNothing : SinkLeft → Type 0
@@ -68,50 +77,33 @@ pub record UsageCause (words : List (List ℕ)) (text : List ℕ) : Type 0 where
   pub no_form : command_of words ≡ None
   pub line : text ≡ fault_text fault.Usage
 
--- the count of the named file's faults rose
+-- the count of a named file's faults rose
 pub record ReadFaultCause (words : List (List ℕ)) (files : FilesSeen) (text : List ℕ) : Type 0 where
   pub asked : Asked
   pub named : Names words asked
-  pub rose : Rose (files.faults_before asked.file) (files.faults_after asked.file)
-  pub line : text ≡ fault_text (fault.Read 1)
+  pub file : List ℕ
+  pub place : ℕ
+  pub next : IsNext files asked file place
+  pub rose : Rose (files.faults_before file) (files.faults_after file)
+  pub line : text ≡ fault_text (fault.Read place)
 
--- the named file has more bytes than the limit, where its contents are told
+-- a named file has more bytes than the limit, where its contents are told
 pub record TooLongCause (words : List (List ℕ)) (files : FilesSeen) (text : List ℕ) : Type 0 where
   pub asked : Asked
   pub named : Names words asked
-  pub told : IfSome (files.contents asked.file) (λ all. longest_file < length all)
-  pub line : text ≡ fault_text (fault.TooLong 1)
+  pub file : List ℕ
+  pub place : ℕ
+  pub next : IsNext files asked file place
+  pub told : IfSome (files.contents file) (λ all. longest_file < length all)
+  pub line : text ≡ fault_text (fault.TooLong place)
 
--- the bytes are no portfolio's text, and the text is the line of their first fault
-pub record IsBadText (bytes text : List ℕ) : Type 0 where
-  pub first : TextFault
-  pub is_first : IsFault bytes first
-  pub no_text : IsNoText bytes
-  pub line : text ≡ fault_text (fault.Text first)
-
--- some contract is refused: `check` says of each contract whether it is, and `flows`, which takes plain contracts
--- alone, says nothing
-abbrev pub IsRefusedText : Verb → List ℕ → List ℕ → Type 0
-IsRefusedText Check bytes text = IsSomeRefused bytes × IsCheckText bytes text
-IsRefusedText Flows bytes text = IsNotPlain bytes × (text ≡ [])
-
--- the whole answer of the command
-abbrev pub IsDoneText : Verb → List ℕ → List ℕ → Type 0
-IsDoneText Check bytes text = IsAllAccepted bytes × IsCheckText bytes text
-IsDoneText Flows bytes text = IsFlowsText bytes text
-
--- what a command answers to the bytes of a portfolio's file: a status and a text
-abbrev pub Answers : Verb → List ℕ → Status → List ℕ → Type 0
-Answers verb bytes status.Done text = IsDoneText verb bytes text
-Answers verb bytes status.Refused text = IsRefusedText verb bytes text
-Answers verb bytes status.BadText text = IsBadText bytes text
-Answers verb bytes _ text = ⊥
-
+-- the named files were read, and this is what the command answers to their bytes
 pub record AnswerCause (words : List (List ℕ)) (files : FilesSeen) (s : Status) (text : List ℕ) : Type 0 where
-  pub verb : Verb
-  pub bytes : List ℕ
-  pub read : WasRead words files verb bytes
-  pub answer : Answers verb bytes s text
+  pub asked : Asked
+  pub named : Names words asked
+  pub inputs : Inputs
+  pub read : WereRead files asked inputs
+  pub answer : Answers asked inputs s text
 
 -- why a run ends with a status, and the text that it writes then
 abbrev pub Cause : List (List ℕ) → FilesSeen → Status → List ℕ → Type 0

@@ -24,8 +24,8 @@ pub struct CheckText {
     pub all_accepted: bool,
 }
 
-// The facts of a contract at a setting, or the rule that refuses it.
-fn verdict(
+/// The facts of a contract at the defaults, or the rule that refuses it.
+pub fn verdict(
     alloc: Global,
     decls: &Decls,
     setting: &Setting,

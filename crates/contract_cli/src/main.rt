@@ -4,24 +4,16 @@
 mod answers;
 mod check_text;
 mod command;
-mod flow_lines;
-mod flow_table;
-mod flows;
 mod flows_text;
 pub mod laws;
-mod netting;
-mod payments;
-mod plain;
 mod status;
+mod stop;
 #[cfg(test)]
 mod tests;
 mod words;
 
 pub use command::run;
 use edge_io::{RealFiles, RealSink};
-pub use flow_lines::flow_line;
-pub use flow_table::{FlowRow, FlowTable};
-pub use flows::flows;
 pub use status::Status;
 use std::alloc::{AllocError, Global};
 use std::env;

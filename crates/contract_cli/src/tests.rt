@@ -1,6 +1,7 @@
 use crate::{Status, run};
 use edge_io::{Entry, MemoryFiles, MemorySink};
 use std::alloc::{AllocError, Global};
+use std::process::Abort;
 use std::test::Fail;
 
 const ROOM: usize = 4_194_304;
@@ -33,7 +34,7 @@ struct Row {
 }
 
 #[test]
-fn prints_the_flows_of_plain_contracts(rt: HostRuntime) -> Result<(), Fail> {
+fn prints_flows(rt: HostRuntime) -> Result<(), Fail> {
     let alloc = rt.alloc();
     let rows = [
         Row {
@@ -84,7 +85,7 @@ contract one = scale(-1.25, pay(EUR, A, B)); contract two = after(2, both(pay(EU
         Row {
             text: b"portfolio 1; amounts 2; party A, B; asset EUR; num FX : 4 in 0.5000 .. 2.0000;
 contract c = scale(obs(FX, 0), pay(EUR, A, B));",
-            output: b"",
+            output: b"fault refused c scale node 0\n",
             status: Status::Refused,
         },
         Row {
@@ -212,13 +213,21 @@ contract c = scale(y, pay(EUR, A, B));",
 #[test]
 fn takes_the_words_of_commands_alone(rt: HostRuntime) -> Result<(), Fail> {
     let alloc = rt.alloc();
-    let forms: [&[&str]; 9] = [
+    let forms: [&[&str]; 17] = [
         &[],
         &["flows"],
         &["check"],
         &["check", "--all"],
         &["check", "loan.txt", "loan.txt"],
-        &["flows", "loan.txt", "loan.txt"],
+        &["flows", "loan.txt", "loan.txt", "loan.txt"],
+        &["flows", "loan.txt", "--until"],
+        &["flows", "loan.txt", "--until", "-1"],
+        &["flows", "loan.txt", "--until", "1234567890"],
+        &["flows", "loan.txt", "--until", "2024-02-30"],
+        &["flows", "loan.txt", "--until", "1", "loan.txt"],
+        &["flows", "--until", "1"],
+        &["flows", "--until", "1", "loan.txt"],
+        &["check", "loan.txt", "--until", "1"],
         &["flows", "--net"],
         &["flow", "loan.txt"],
         &["loan.txt", "flows"],
@@ -280,5 +289,275 @@ fn refuses_a_file_past_the_limit(rt: HostRuntime) -> Result<(), Fail> {
         assert!(rt; run(alloc, &["flows", "long.txt"], &mut files, &mut out) == status);
         assert_eq!(rt; out.taken(), output);
     }
+    Ok(())
+}
+
+// Two files, of which the numbered reads fail.
+fn two_files(
+    alloc: Global,
+    portfolio: &[u8],
+    table: &[u8],
+    fail: &[u64],
+) -> Result<MemoryFiles, AllocError> {
+    let mut entries = Vec::new(alloc);
+    entries.push(Entry {
+        name: b"desk.txt".to_vec(alloc)?,
+        bytes: portfolio.to_vec(alloc)?,
+        faults: 0,
+    })?;
+    entries.push(Entry {
+        name: b"fix.csv".to_vec(alloc)?,
+        bytes: table.to_vec(alloc)?,
+        faults: 0,
+    })?;
+    Ok(MemoryFiles::new(entries, fail.to_vec(alloc)?))
+}
+
+// What `flows` prints of a portfolio over fixings, with these words behind the files, and its status.
+#[derive(Clone, Copy)]
+struct Fixed {
+    text: &'static [u8],
+    table: &'static [u8],
+    until: Option<&'static str>,
+    output: &'static [u8],
+    status: Status,
+}
+
+// Runs `flows` on a row's files, with its day where it has one.
+fn prints(rt: &impl Abort, alloc: Global, row: &Fixed) -> Result<(), Fail> {
+    let mut files = two_files(alloc, row.text, row.table, &[])?;
+    let mut out = MemorySink::new(alloc, Vec::new(alloc), ROOM, ROOM)?;
+    let status = match row.until {
+        None => run(
+            alloc,
+            &["flows", "desk.txt", "fix.csv"],
+            &mut files,
+            &mut out,
+        ),
+        Some(day) => run(
+            alloc,
+            &["flows", "desk.txt", "fix.csv", "--until", day],
+            &mut files,
+            &mut out,
+        ),
+    };
+    assert_eq!(rt; out.taken(), row.output);
+    assert!(rt; status == row.status);
+    Ok(())
+}
+
+const TOUCH: &[u8] =
+    b"portfolio 1; amounts 2; party A, B, C; asset EUR; num FX : 4 in 0.5000 .. 2.0000;
+contract touch = if (obs(FX, 0) > 1.1000) within 3 then scale(1.00, pay(EUR, A, B)) else scale(2.00, pay(EUR, B, A));";
+
+const RISING: &[u8] = b"label,day,value\nFX,0,1.0000\nFX,1,1.0000\nFX,2,1.0000\nFX,3,1.2000\n";
+
+const LEVEL: &[u8] = b"label,day,value\nFX,0,1.0000\nFX,1,1.0000\nFX,2,1.0000\nFX,3,1.0000\n";
+
+const SHORT: &[u8] = b"label,day,value\nFX,0,1.0000\nFX,1,1.0000\nFX,2,1.0000\n";
+
+#[test]
+fn prints_flows_over_fixings(rt: HostRuntime) -> Result<(), Fail> {
+    let alloc = rt.alloc();
+    let rows = [
+        Fixed {
+            text: TOUCH,
+            table: RISING,
+            until: None,
+            output: b"touch,3,A,B,EUR,1.00\n",
+            status: Status::Done,
+        },
+        Fixed {
+            text: TOUCH,
+            table: LEVEL,
+            until: None,
+            output: b"touch,3,B,A,EUR,2.00\n",
+            status: Status::Done,
+        },
+        // No day after the last is read.
+        Fixed {
+            text: TOUCH,
+            table: SHORT,
+            until: Some("2"),
+            output: b"",
+            status: Status::Done,
+        },
+        Fixed {
+            text: TOUCH,
+            table: SHORT,
+            until: Some("000000003"),
+            output: b"fault missing FX 3\n",
+            status: Status::Missing,
+        },
+        // The mean of three days.
+        Fixed {
+            text: b"portfolio 1; amounts 2; party A, B; asset EUR; num FX : 4 in 0.5000 .. 2.0000;
+contract avg = after(3, scale(div(half_even, 2, acc(x, (x + obs(FX, 0)), 3, 0.0000), 3), pay(EUR, A, B)));",
+            table: b"label,day,value\nFX,1,1.0000\nFX,2,1.1000\nFX,3,1.2000\n",
+            until: None,
+            output: b"avg,3,A,B,EUR,1.10\n",
+            status: Status::Done,
+        },
+        Fixed {
+            text: b"portfolio 1; amounts 2; party A, B; asset EUR; num FX : 4 in 0.5000 .. 2.0000;
+contract option = after(90, if (obs(FX, 0) > 1.1000) within 0
+    then scale(round(half_even, 2, ((obs(FX, 0) - 1.1000) * 100000.00)), pay(EUR, A, B)) else zero);",
+            table: b"label,day,value\nFX,90,1.1234\n",
+            until: None,
+            output: b"option,90,A,B,EUR,2340.00\n",
+            status: Status::Done,
+        },
+        // A branch that is not taken is not read, and a factor only where its body pays.
+        Fixed {
+            text: b"portfolio 1; amounts 2; party A, B; asset EUR; num FX : 4 in 0.5000 .. 2.0000;
+contract c = if true within 0 then pay(EUR, A, B) else scale(round(half_even, 2, obs(FX, 0)), pay(EUR, A, B));",
+            table: b"label,day,value\n",
+            until: None,
+            output: b"c,0,A,B,EUR,1.00\n",
+            status: Status::Done,
+        },
+        Fixed {
+            text: b"portfolio 1; amounts 2; party A, B; asset EUR; num FX : 4 in 0.5000 .. 2.0000;
+contract c = scale(round(half_even, 2, obs(FX, 0)), after(5, pay(EUR, A, B)));",
+            table: b"label,day,value\n",
+            until: Some("4"),
+            output: b"",
+            status: Status::Done,
+        },
+        Fixed {
+            text: b"portfolio 1; amounts 2; party A, B; asset EUR; num FX : 4 in 0.5000 .. 2.0000;
+contract c = scale(round(half_even, 2, obs(FX, 0)), after(5, pay(EUR, A, B)));",
+            table: b"label,day,value\n",
+            until: Some("5"),
+            output: b"fault missing FX 0\n",
+            status: Status::Missing,
+        },
+        // The first in written order.
+        Fixed {
+            text: b"portfolio 1; amounts 2; party A, B; asset EUR; num FX : 4 in 0.5000 .. 2.0000;
+contract c = both(scale(round(half_even, 2, obs(FX, 0)), pay(EUR, A, B)), scale(round(half_even, 2, obs(FX, -1)), pay(EUR, B, A)));",
+            table: b"label,day,value\nFX,0,1.0000\n",
+            until: None,
+            output: b"fault missing FX -1\n",
+            status: Status::Missing,
+        },
+        // Dates, and days counted from the origin.
+        Fixed {
+            text: b"portfolio 1; amounts 2; origin 2024-01-15; start 0; party A, B, C; asset EUR; flag Default_B; template T = 90;
+contract guarded = if obs(Default_B, 0) within T then scale(40.00, pay(EUR, C, A)) else scale(100.00, pay(EUR, B, A));",
+            table: b"label,day,value\nDefault_B,2024-01-15,false\nDefault_B,1,false\nDefault_B,2024-01-17,true\n",
+            until: Some("2024-01-17"),
+            output: b"guarded,2024-01-17,C,A,EUR,40.00\n",
+            status: Status::Done,
+        },
+    ];
+    for row in &rows {
+        prints(&rt, alloc, row)?;
+    }
+    Ok(())
+}
+
+#[test]
+fn says_what_stops_flows(rt: HostRuntime) -> Result<(), Fail> {
+    let alloc = rt.alloc();
+    let rows = [
+        Fixed {
+            text: TOUCH,
+            table: b"label,day,value\nFX,0,1.0000\nFX,0,1.1\n",
+            until: None,
+            output: b"fault row file 2 record 3 conflict with 2\n",
+            status: Status::BadRow,
+        },
+        Fixed {
+            text: TOUCH,
+            table: b"label,day,value\nFX,0,2.0001\n",
+            until: None,
+            output: b"fault row file 2 record 2 bounds\n",
+            status: Status::BadRow,
+        },
+        Fixed {
+            text: TOUCH,
+            table: b"",
+            until: None,
+            output: b"fault row file 2 record 1 shape\n",
+            status: Status::BadRow,
+        },
+        // A day below the start, above the last, or a date without an origin.
+        Fixed {
+            text: b"portfolio 1; amounts 2; start 5; party A, B; asset EUR; contract c = pay(EUR, A, B);",
+            table: b"label,day,value\n",
+            until: Some("4"),
+            output: b"fault day 4\n",
+            status: Status::DayRange,
+        },
+        Fixed {
+            text: b"portfolio 1; amounts 2; start 5; party A, B; asset EUR; contract c = pay(EUR, A, B);",
+            table: b"label,day,value\n",
+            until: Some("5"),
+            output: b"c,5,A,B,EUR,1.00\n",
+            status: Status::Done,
+        },
+        Fixed {
+            text: TOUCH,
+            table: LEVEL,
+            until: Some("1100001"),
+            output: b"fault day 1100001\n",
+            status: Status::DayRange,
+        },
+        Fixed {
+            text: TOUCH,
+            table: LEVEL,
+            until: Some("2024-01-15"),
+            output: b"fault day 2024-01-15\n",
+            status: Status::DayRange,
+        },
+        // A text before a day, a day before a contract, a contract before a row, a row before a read.
+        Fixed {
+            text: b"portfolio 1;\namounts 2;\nparty A, B",
+            table: b"",
+            until: Some("1100001"),
+            output: b"fault text syntax line 3 column 11\n",
+            status: Status::BadText,
+        },
+        Fixed {
+            text: b"portfolio 1; amounts 2; party A, B; asset EUR; num FX : 4 in 0.5000 .. 2.0000;
+contract a = pay(EUR, A, B); contract b = scale(obs(FX, 1), pay(EUR, A, B)); contract c = scale(true, pay(EUR, A, B));",
+            table: b"",
+            until: None,
+            output: b"fault refused b time node 0\n",
+            status: Status::Refused,
+        },
+        Fixed {
+            text: TOUCH,
+            table: b"label,day,value\nEUR,0,1\n",
+            until: None,
+            output: b"fault row file 2 record 2 label\n",
+            status: Status::BadRow,
+        },
+    ];
+    for row in &rows {
+        prints(&rt, alloc, row)?;
+    }
+    Ok(())
+}
+
+#[test]
+fn says_which_of_two_files_fails(rt: HostRuntime) -> Result<(), Fail> {
+    let alloc = rt.alloc();
+    let words = ["flows", "desk.txt", "fix.csv"];
+    let rows: [(u64, &[u8]); 2] = [(1, b"fault read 1\n"), (2, b"fault read 2\n")];
+    for (fails, output) in rows {
+        let mut files = two_files(alloc, TOUCH, RISING, &[fails])?;
+        let mut out = MemorySink::new(alloc, Vec::new(alloc), ROOM, ROOM)?;
+        assert!(rt; run(alloc, &words, &mut files, &mut out) == Status::ReadFault);
+        assert_eq!(rt; out.taken(), output);
+    }
+    // A file that is too long is told before a text that is none.
+    let mut long = b"label,day,value\n".to_vec(alloc)?;
+    long.resize(16_777_217, b'\n')?;
+    let mut files = two_files(alloc, b"no text", &long, &[])?;
+    let mut out = MemorySink::new(alloc, Vec::new(alloc), ROOM, ROOM)?;
+    assert!(rt; run(alloc, &words, &mut files, &mut out) == Status::TooLong);
+    assert_eq!(rt; out.taken(), b"fault too long 2\n".as_slice());
     Ok(())
 }

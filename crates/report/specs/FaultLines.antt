@@ -1,11 +1,14 @@
 -- The line of a fault: `fault` and what kept the command from its answer.
-use Rattle.std.specs.Prelude.{ℕ, List, ◌++◌, codes}
+use Rattle.std.specs.Prelude.{ℕ, List, [], ◌++◌, codes}
 use Rattle.contract_parse.specs.declared.faults.TextKind.{TextKind}
 use Rattle.contract_parse.specs.declared.faults.TextKind.TheVariants.{Syntax, Number, Date, Deep, Range, Twice, Unknown, Utf8}
+use Rattle.decimal.specs.Text.{text_of}
 use Rattle.report.specs.Pieces.{number_text}
 use Rattle.report.specs.CheckLines.{refusal_text, line_feed}
 use Rattle.report.specs.declared.fault_lines.Fault.{Fault}
-use Rattle.report.specs.declared.fault_lines.Fault.TheVariants.{Usage, Read, TooLong, Text, Refused}
+use Rattle.report.specs.declared.fault_lines.Fault.TheVariants.{Usage, Read, TooLong, Text, Day, Refused, Row, Missing}
+use Rattle.fixing_files.specs.declared.faults.RowKind.{RowKind}
+use Rattle.fixing_files.specs.declared.faults.RowKind.TheVariants as row
 
 abbrev pub kind_text : TextKind → List ℕ
 kind_text Syntax = codes "syntax"
@@ -17,9 +20,30 @@ kind_text Twice = codes "twice"
 kind_text Unknown = codes "unknown"
 kind_text Utf8 = codes "utf8"
 
+-- the rule that a record breaks
+abbrev pub row_text : RowKind → List ℕ
+row_text row.Shape = codes "shape"
+row_text row.Label = codes "label"
+row_text row.Day = codes "day"
+row_text row.Value = codes "value"
+row_text row.Bounds = codes "bounds"
+row_text (row.Conflict earlier) = codes "conflict with "
+row_text row.Factor = codes "factor"
+row_text row.Rising = codes "rising"
+row_text row.Zero = codes "zero"
+
+-- the first record of the same place, for a conflict
+abbrev pub earlier_text : RowKind → List ℕ
+earlier_text (row.Conflict earlier) = number_text earlier
+earlier_text _ = []
+
 abbrev pub fault_text : Fault → List ℕ
 fault_text Usage = codes "fault usage" ++ line_feed
 fault_text (Read place) = codes "fault read " ++ (number_text place ++ line_feed)
 fault_text (TooLong place) = codes "fault too long " ++ (number_text place ++ line_feed)
 fault_text (Text f) = codes "fault text " ++ (kind_text f.kind ++ (codes " line " ++ (number_text f.line ++ (codes " column " ++ (number_text f.column ++ line_feed)))))
 fault_text (Refused name rule node) = codes "fault refused " ++ (name ++ (codes " " ++ refusal_text rule node))
+fault_text (Day word) = codes "fault day " ++ (word ++ line_feed)
+fault_text (Row place f) =
+    codes "fault row file " ++ (number_text place ++ (codes " record " ++ (number_text f.row ++ (codes " " ++ (row_text f.kind ++ (earlier_text f.kind ++ line_feed))))))
+fault_text (Missing label day) = codes "fault missing " ++ (label ++ (codes " " ++ (text_of day 0 ++ line_feed)))

@@ -1,3 +1,4 @@
 pub mod Pieces
 pub mod CheckLines
 pub mod FaultLines
+pub mod FlowLines

@@ -2,12 +2,14 @@
 
 ghost use Rattle.std.specs.Prelude.{◌≡◌, ◌++◌, OnOk, OnErr};
 ghost use Rattle.decimal.specs.Appending.{AppendsPart};
-ghost use Rattle.report.specs.FaultLines.{fault_text, kind_text};
+ghost use Rattle.report.specs.Pieces.{IsWritable, piece_text};
+ghost use Rattle.report.specs.FaultLines.{earlier_text, fault_text, kind_text, row_text};
 
 use crate::check_lines::rule_word;
 use crate::pieces::{Piece, append, whole};
 use contract_parse::{TextFault, TextKind};
 use decimal::NoMemory;
+use fixing_files::{RowFault, RowKind};
 use std::alloc::Global;
 use term_core::{Name, Rule};
 
@@ -22,8 +24,14 @@ pub enum Fault {
     TooLong { place: u8 },
     /// A text is not in its grammar.
     Text(TextFault),
+    /// A day of the words is out of range. The word is as it was given.
+    Day { word: Name },
     /// A contract that the command uses is not accepted.
     Refused { name: Name, rule: Rule, node: u32 },
+    /// A record of a table is refused.
+    Row { place: u8, fault: RowFault },
+    /// A label is not fixed on a day of the portfolio on which it is read.
+    Missing { label: Name, day: i64 },
 }
 
 fn kind_word(kind: TextKind) -> &'static [u8]
@@ -38,6 +46,33 @@ fn kind_word(kind: TextKind) -> &'static [u8]
         TextKind::Twice => b"twice",
         TextKind::Unknown => b"unknown",
         TextKind::Utf8 => b"utf8",
+    }
+}
+
+fn row_word(kind: RowKind) -> &'static [u8]
+    ensures { result.now ≡ row_text kind }
+{
+    match kind {
+        RowKind::Shape => b"shape",
+        RowKind::Label => b"label",
+        RowKind::Day => b"day",
+        RowKind::Value => b"value",
+        RowKind::Bounds => b"bounds",
+        RowKind::Conflict { .. } => b"conflict with ",
+        RowKind::Factor => b"factor",
+        RowKind::Rising => b"rising",
+        RowKind::Zero => b"zero",
+    }
+}
+
+// The record that another one conflicts with.
+fn earlier_piece<'a>(kind: RowKind) -> Piece<'a>
+    ensures text { piece_text result ≡ earlier_text kind }
+    ensures writable { IsWritable result }
+{
+    match kind {
+        RowKind::Conflict { earlier } => whole(earlier),
+        _ => Piece::Words(b""),
     }
 }
 
@@ -77,6 +112,36 @@ pub fn fault_line(alloc: Global, out: &mut Vec<u8>, fault: &Fault) -> Result<(),
                 Piece::Words(rule_word(*rule)),
                 Piece::Words(b" node "),
                 whole(*node),
+                line_feed,
+            ];
+            append(alloc, out, &pieces)
+        }
+        Fault::Day { word } => {
+            let words = Piece::Words(b"fault day ");
+            append(alloc, out, &[words, Piece::Words(word.text()), line_feed])
+        }
+        Fault::Row { place, fault } => {
+            let pieces = [
+                Piece::Words(b"fault row file "),
+                whole(*place as u32),
+                Piece::Words(b" record "),
+                whole(fault.row),
+                Piece::Words(b" "),
+                Piece::Words(row_word(fault.kind)),
+                earlier_piece(fault.kind),
+                line_feed,
+            ];
+            append(alloc, out, &pieces)
+        }
+        Fault::Missing { label, day } => {
+            let pieces = [
+                Piece::Words(b"fault missing "),
+                Piece::Words(label.text()),
+                Piece::Words(b" "),
+                Piece::Number {
+                    mantissa: *day as i128,
+                    scale: 0,
+                },
                 line_feed,
             ];
             append(alloc, out, &pieces)

@@ -1,4 +1,4 @@
-use Rattle.contract_cli.proofs.RunFacts.{bad_text_is_exact}
+use Rattle.contract_cli.proofs.LawFacts.{bad_text_is_exact}
 use Rattle.contract_cli.proofs.laws.bad_text_is_exact.Goals as goal
 
 pub returns : goal.returns

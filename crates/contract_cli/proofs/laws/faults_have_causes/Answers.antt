@@ -1,4 +1,4 @@
-use Rattle.contract_cli.proofs.RunFacts.{faults_have_causes}
+use Rattle.contract_cli.proofs.LawFacts.{faults_have_causes}
 use Rattle.contract_cli.proofs.laws.faults_have_causes.Goals as goal
 
 pub returns : goal.returns

@@ -1,4 +1,4 @@
-use Rattle.contract_cli.proofs.RunFacts.{refusals_write_their_line}
+use Rattle.contract_cli.proofs.LawFacts.{refusals_write_their_line}
 use Rattle.contract_cli.proofs.laws.refusals_write_their_line.Goals as goal
 
 pub returns : goal.returns

@@ -1,4 +1,4 @@
-use Rattle.contract_cli.proofs.RunFacts.{run_is_complete}
+use Rattle.contract_cli.proofs.LawFacts.{run_is_complete}
 use Rattle.contract_cli.proofs.laws.run_is_complete.Goals as goal
 
 pub returns : goal.returns

@@ -1,4 +1,4 @@
-use Rattle.contract_cli.proofs.RunFacts.{too_long_is_exact}
+use Rattle.contract_cli.proofs.LawFacts.{too_long_is_exact}
 use Rattle.contract_cli.proofs.laws.too_long_is_exact.Goals as goal
 
 pub returns : goal.returns

@@ -1,0 +1,68 @@
+-- The last day of a word: in range, or out of it.
+use Rattle.std.proofs.Common.{◌≡◌, ◌∙◌, ◌≤ℤ◌, ◌<ℤ◌, ℕ, ℤ, pos, Bool, true, false, ◌&&◌, not, List, ap, arith, refl, sym, FitsSigned, w64}
+use Rattle.std.specs.Prelude.{Option, Some, None, Result, Ok, Err, int_le, if◌then◌else◌}
+use Rattle.std.proofs.lemmas.Int.{ints}
+use Rattle.term_core.specs.Declarations.{Declarations}
+use Rattle.term_core.specs.Dates.{epoch_day_of}
+use Rattle.fixing_files.specs.Days.{day_of, day_of_date, number_of, number_or}
+use Rattle.fixing_files.specs.declared.days.DayFault.{DayFault}
+use Rattle.fixing_files.specs.declared.days.DayFault.TheVariants.{NotDay, NoOrigin}
+use Rattle.contract_cli.specs.FlowLists.{day_in_range}
+use Rattle.contract_cli.specs.FlowsText.{IsLastDay, IsOutOfRange, no_origin, too_early, too_late, greatest_day}
+use Rattle.contract_cli.specs.Words.{begins_with, has_form, is_day}
+
+le_from : (a b : ℤ) → int_le a b ≡ true → a ≤ℤ b
+le_from a b h = grind (arith, ints)
+
+lt_from : (a b : ℤ) → int_le a b ≡ false → b <ℤ a
+lt_from a b h = grind (arith, ints)
+
+in_range_by : (start day last : ℤ) (p q : Bool) → int_le start day ≡ p → int_le day greatest_day ≡ q → (if p && q then Some day else None) ≡ Some last → (day ≡ last) × (start ≤ℤ last) × (last ≤ℤ greatest_day)
+in_range_by start day last true true low high h =
+    let same : day ≡ last = cc in
+    (same, (let k = le_from start day low in omega (arith, ints, same)), (let k = le_from day greatest_day high in omega (arith, ints, same)))
+in_range_by start day last true false low high h = absurd cc
+in_range_by start day last false q low high h = absurd cc
+
+of_result : (d : Declarations) (r : Result ℤ DayFault) (last : ℤ) → day_in_range d r ≡ Some last → (r ≡ Ok last) × (pos d.start ≤ℤ last) × (last ≤ℤ greatest_day)
+of_result d (Ok day) last h =
+    let k = in_range_by (pos d.start) day last (int_le (pos d.start) day) (int_le day greatest_day) refl refl h in
+    (ap (λ (x : ℤ). Ok x) k.0, k.1, k.2)
+of_result d (Err fault) last h = absurd cc
+
+pub is_last : (d : Declarations) (word : List ℕ) (last : ℤ) → day_in_range d (day_of d.origin word) ≡ Some last → IsLastDay d (Some word) last × (pos 0 ≤ℤ last) × (last ≤ℤ pos 1_100_000)
+is_last d word last h =
+    let k = of_result d (day_of d.origin word) last h in
+    ((k.0, k.1, k.2), (let low = k.1 in omega (arith, ints)), k.2)
+
+not_day_by : (origin : Option ℤ) (n : Option ℤ) (e : Option ℤ) → number_or n (day_of_date origin e) ≡ Err NotDay → number_or n (day_of_date None e) ≡ Err NotDay
+not_day_by origin (Some n) e h = absurd cc
+not_day_by origin None None h = refl
+not_day_by None None (Some e) h = absurd cc
+not_day_by (Some o) None (Some e) h = absurd cc
+
+not_day : (origin : Option ℤ) (word : List ℕ) → day_of origin word ≡ Err NotDay → day_of None word ≡ Err NotDay
+unfolding day_of
+not_day origin word h = not_day_by origin (number_of word) (epoch_day_of word) h
+
+no_form : (dash : Bool) (r : Result ℤ DayFault) → r ≡ Err NotDay → (not dash && has_form r) ≡ true → ⊥
+no_form true r e h = let no : false ≡ true = h in cc
+no_form false (Ok day) e h = let no : Ok day ≡ Err NotDay = e in cc
+no_form false (Err NoOrigin) e h = let no : Err NoOrigin ≡ Err NotDay = e in cc
+no_form false (Err NotDay) e h = let no : false ≡ true = h in cc
+
+out_by : (d : Declarations) (word : List ℕ) (day : ℤ) (p q : Bool) → day_of d.origin word ≡ Ok day → int_le (pos d.start) day ≡ p → int_le day greatest_day ≡ q → (if p && q then Some day else None) ≡ None → IsOutOfRange d word
+out_by d word day true true is low high h = absurd cc
+out_by d word day true false is low high h = too_late day is (lt_from day greatest_day high)
+out_by d word day false q is low high h = too_early day is (lt_from (pos d.start) day low)
+
+out_of : (d : Declarations) (word : List ℕ) (r : Result ℤ DayFault) → day_of d.origin word ≡ r → is_day word ≡ true → day_in_range d r ≡ None → IsOutOfRange d word
+out_of d word (Ok day) is form h = out_by d word day (int_le (pos d.start) day) (int_le day greatest_day) is refl refl h
+out_of d word (Err NoOrigin) is form h = no_origin is
+out_of d word (Err NotDay) is form h = absurd (no_form (begins_with 45 word) (day_of None word) (not_day d.origin word is) form)
+
+pub is_out : (d : Declarations) (word : List ℕ) → is_day word ≡ true → day_in_range d (day_of d.origin word) ≡ None → IsOutOfRange d word
+is_out d word form h = out_of d word (day_of d.origin word) refl form h
+
+pub fits_day : (day : ℤ) → pos 0 ≤ℤ day → day ≤ℤ pos 1_100_000 → FitsSigned w64 day
+fits_day day low high = omega (arith, ints)

@@ -1,0 +1,54 @@
+-- The line of a flow: `NAME,DAY,FROM,TO,ASSET,AMOUNT`, with the day as a number, or as a date where the portfolio has
+-- an origin, and the amount at the portfolio's decimals.
+use Rattle.std.specs.Prelude.{◌≡◌, ℕ, ℤ, pos, neg_ℤ, ◌+ℤ◌, ◌≤ℤ◌, List, [], ◌∷◌, ◌++◌, Option, Some, None, slice_get}
+use Rattle.decimal.specs.Appending.{AppendsPart}
+use Rattle.decimal.specs.Text.{text_of}
+use Rattle.term_core.specs.Dates.{epoch_day_of}
+use Rattle.term_core.specs.Declarations.{Declarations}
+use Rattle.term_core.specs.declared.name.Name.{Name}
+use Rattle.flow_eval.specs.declared.flow_table.FlowRow.{FlowRow}
+use Rattle.report.specs.CheckLines.{line_feed}
+
+-- an origin is an epoch day of the years 1900 to 2999
+abbrev pub IsOrigin : ℤ → Type 0
+IsOrigin origin = (neg_ℤ (pos 25_567) ≤ℤ origin) × (origin ≤ℤ pos 376_199)
+
+-- the text of a day: its number, or the text of the date that it is
+abbrev pub IsDayText : Option ℤ → ℤ → List ℕ → Type 0
+IsDayText None day text = text ≡ text_of day 0
+IsDayText (Some origin) day text = epoch_day_of text ≡ Some (origin +ℤ day)
+
+-- a declared name by its place
+abbrev pub name_at : List Name → ℕ → List ℕ
+name_at names place = elim (slice_get names place) [ Some name ↦ name | None ↦ [] ]
+
+-- a comma, and a field behind it
+abbrev pub field : List ℕ → List ℕ
+field text = 44 ∷ text
+
+-- what stands behind the day: who pays whom in what, and the amount at the portfolio's decimals
+abbrev pub terms_text : Declarations → FlowRow → List ℕ
+terms_text d row =
+    field (name_at d.parties row.from) ++ (field (name_at d.parties row.to) ++ (field (name_at d.assets row.asset) ++ (field (text_of row.amount d.amounts) ++ line_feed)))
+
+-- the line with a text for the day
+abbrev pub line_with : Declarations → List ℕ → List ℕ → FlowRow → List ℕ
+line_with d name day row = name ++ (field day ++ terms_text d row)
+
+-- the line of a row of the named contract
+pub record IsFlowLine (d : Declarations) (name : List ℕ) (row : FlowRow) (line : List ℕ) : Type 0 where
+  pub day : List ℕ
+  pub is_day : IsDayText d.origin row.day day
+  pub is_line : line ≡ line_with d name day row
+
+-- the text after is the text before and the line of the row
+pub record AppendsFlowLine (d : Declarations) (name : List ℕ) (row : FlowRow) (before after : List ℕ) : Type 0 where
+  pub line : List ℕ
+  pub is_line : IsFlowLine d name row line
+  pub appended : after ≡ before ++ line
+
+-- the text after is the text before and a front part of the line of the row
+pub record AppendsPartOfLine (d : Declarations) (name : List ℕ) (row : FlowRow) (before after : List ℕ) : Type 0 where
+  pub line : List ℕ
+  pub is_line : IsFlowLine d name row line
+  pub appended : AppendsPart before line after

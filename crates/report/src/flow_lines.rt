@@ -1,0 +1,103 @@
+//! The lines of flow tables.
+
+ghost use Rattle.std.specs.Prelude.{◌≡◌, ◌≤◌, ◌≤ℤ◌, ◌+ℤ◌, ◌^◌, ◌++◌, pos, Some, OnOk, OnErr, unsigned_abs};
+ghost use Rattle.decimal.specs.Appending.{AppendsPart};
+ghost use Rattle.decimal.specs.Text.{text_of};
+ghost use Rattle.term_core.specs.Dates.{epoch_day_of};
+ghost use Rattle.term_core.specs.Declarations.{declarations};
+ghost use Rattle.report.specs.Pieces.{piece_text, IsWritable};
+ghost use Rattle.report.specs.FlowLines.{AppendsFlowLine, AppendsPartOfLine, IsOrigin, line_with, name_at};
+
+use crate::pieces::{Piece, append};
+use decimal::NoMemory;
+use flow_eval::FlowRow;
+use indexmap::IndexSet;
+use std::alloc::Global;
+use term_core::{Decls, Name, date_text};
+
+// A declared name.
+fn name_piece<'a>(names: &'a IndexSet<Name>, place: u32) -> Piece<'a>
+    ensures text { piece_text result ≡ name_at names.now.keys place }
+    ensures writable { IsWritable result }
+{
+    match names.get_index(place as usize) {
+        Some(name) => Piece::Words(name.text()),
+        None => Piece::Words(&[]),
+    }
+}
+
+// The line with these words or this number for the day.
+fn append_line<'a>(
+    alloc: Global,
+    out: &mut Vec<u8>,
+    decls: &'a Decls,
+    name: &'a [u8],
+    day: Piece<'a>,
+    row: &FlowRow,
+) -> Result<(), NoMemory>
+    requires day { IsWritable day }
+    requires amount { unsigned_abs row.now.amount ≤ 10 ^ 37 }
+    ensures ok { OnOk result (out.new.items ≡ out.old.items ++ line_with (declarations decls.now) name.now (piece_text day.entry) row.now) }
+    ensures err { OnErr result (AppendsPart out.old.items (line_with (declarations decls.now) name.now (piece_text day.entry) row.now) out.new.items) }
+{
+    let comma = Piece::Words(b",");
+    let pieces = [
+        Piece::Words(name),
+        comma,
+        day,
+        comma,
+        name_piece(&decls.parties, row.from),
+        comma,
+        name_piece(&decls.parties, row.to),
+        comma,
+        name_piece(&decls.assets, row.asset),
+        comma,
+        Piece::Number {
+            mantissa: row.amount,
+            scale: decls.amounts,
+        },
+        Piece::Words(b"\n"),
+    ];
+    append(alloc, out, &pieces)
+}
+
+// The date of a day.
+fn date_of(origin: i64, day: i64) -> [u8; 10]
+    requires origin { IsOrigin origin }
+    requires first { pos 0 ≤ℤ day }
+    requires last { day ≤ℤ pos 1_100_000 }
+    ensures { epoch_day_of result ≡ Some (origin +ℤ day) }
+{
+    date_text(origin + day)
+}
+
+/// Appends the line `NAME,DAY,FROM,TO,ASSET,AMOUNT` of a flow, with the day as a date where the portfolio has an
+/// origin, and the amount at the portfolio's decimals. Where memory runs out on the way, a front part of that line may
+/// stand in `out` already.
+pub fn flow_line(
+    alloc: Global,
+    out: &mut Vec<u8>,
+    decls: &Decls,
+    name: &[u8],
+    row: &FlowRow,
+) -> Result<(), NoMemory>
+    requires first { pos 0 ≤ℤ row.now.day }
+    requires last { row.now.day ≤ℤ pos 1_100_000 }
+    requires amount { unsigned_abs row.now.amount ≤ 10 ^ 37 }
+    ensures ok { OnOk result (AppendsFlowLine (declarations decls.now) name.now row.now out.old.items out.new.items) }
+    ensures err { OnErr result (AppendsPartOfLine (declarations decls.now) name.now row.now out.old.items out.new.items) }
+{
+    match decls.origin {
+        None => {
+            let day = Piece::Number {
+                mantissa: row.day as i128,
+                scale: 0,
+            };
+            append_line(alloc, out, decls, name, day, row)
+        }
+        Some(origin) => {
+            let date = date_of(origin, row.day);
+            append_line(alloc, out, decls, name, Piece::Words(&date), row)
+        }
+    }
+}
