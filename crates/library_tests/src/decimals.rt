@@ -1,6 +1,6 @@
 // Worked values, by hand.
 
-use super::*;
+use decimal::{DecFault, Decimal, Mode, align, div_to, pow10, read, round_to, write};
 
 const MOST: i128 = 10_000_000_000_000_000_000_000_000_000_000_000_000;
 

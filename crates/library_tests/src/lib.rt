@@ -1,0 +1,6 @@
+//! The tests of the libraries: tables of rows, each a case with its answer as known from outside, and a small function
+//! that walks each table. They stand in one crate, since a crate with tests is proved twice.
+#![tactic(auto)]
+
+#[cfg(test)]
+mod decimals;
