@@ -79,7 +79,7 @@ whole_some n h = grind (arith, nat_tests)
 whole_none : (n : ℕ) → n ≤ 0 → whole_digits n ≡ 48 ∷ []
 whole_none n h = grind (arith, nat_tests)
 
-whole_numeral : (n : ℕ) → IsNumeral 10 (whole_digits n) × (digits_value 10 (whole_digits n) ≡ n)
+pub whole_numeral : (n : ℕ) → IsNumeral 10 (whole_digits n) × (digits_value 10 (whole_digits n) ≡ n)
 whole_numeral n = by (cases_lt 0 n)
   where
     by : (0 < n) ⊎ (n ≤ 0) → IsNumeral 10 (whole_digits n) × (digits_value 10 (whole_digits n) ≡ n)
@@ -99,7 +99,7 @@ last_value (suc k) n a h =
     value_after_append a xs ((48 + n % 10) ∷ [])
     ∙ omega (arith, last_value k (n / 10) a tens, value_of_written (n % 10) (omega arith), mul_assoc a (10 ^ k) 10, ap (λ (x : ℕ). a * x) (pow-suc 10 k))
 
-last_numeral : (k n : ℕ) → AllDigits 10 (last_digits k n) × (length (last_digits k n) ≡ k)
+pub last_numeral : (k n : ℕ) → AllDigits 10 (last_digits k n) × (length (last_digits k n) ≡ k)
 last_numeral zero n = (tt, refl)
 last_numeral (suc k) n =
     let on = last_numeral k (n / 10) in
@@ -123,10 +123,10 @@ signed_size : (m : ℤ) → m ≡ signed (int_lt m (pos 0)) (unsigned_abs m)
 signed_size (pos n) = let whole : int_lt (pos n) (pos 0) ≡ false = grind (arith, nat_tests) in sym (ap (λ (b : Bool). signed b n) whole)
 signed_size (negsuc n) = refl
 
-unsigned_spelled : (n s : ℕ) → unsigned_text n s ≡ whole_digits (n / 10 ^ s) ++ after_point (last_digits s (n % 10 ^ s))
+pub unsigned_spelled : (n s : ℕ) → unsigned_text n s ≡ whole_digits (n / 10 ^ s) ++ after_point (last_digits s (n % 10 ^ s))
 unsigned_spelled n s = ap (λ (xs : List ℕ). whole_digits (n / 10 ^ s) ++ xs) (decimals_spelled n s)
 
-unsigned_value : (n s : ℕ) → digits_value 10 (whole_digits (n / 10 ^ s) ++ last_digits s (n % 10 ^ s)) ≡ n
+pub unsigned_value : (n s : ℕ) → digits_value 10 (whole_digits (n / 10 ^ s) ++ last_digits s (n % 10 ^ s)) ≡ n
 unsigned_value n s =
     let w = whole_digits (n / 10 ^ s) in
     let d = last_digits s (n % 10 ^ s) in
