@@ -5,7 +5,8 @@ ghost use Rattle.term_core.specs.Dates.{epoch_day_of};
 ghost use Rattle.term_core.specs.Limits.{is_origin};
 ghost use Rattle.fixing_files.specs.Days.{count_of, day_of, day_of_date, digits_of, number_of};
 
-use term_core::{days_of_texts_are_civil, epoch_day};
+use term_core::epoch_day;
+use term_core::laws::days_of_texts_are_civil;
 
 /// Why a text has no day.
 #[derive(Clone, Copy, Debug, PartialEq, Eq)]

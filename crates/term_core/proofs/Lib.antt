@@ -3,6 +3,7 @@ pub mod Trials
 pub mod RefusalFacts
 pub mod TimeFacts
 pub mod KindFacts
+pub mod BinderFacts
 pub mod InstanceFacts
 pub mod BoundTrials
 pub mod DateTextFacts
@@ -13,6 +14,12 @@ pub mod FirstFacts
 pub mod ContractReadFacts
 pub mod ReadLawFacts
 pub mod ShiftFacts
+pub mod ReadShiftFacts
+pub mod ReadGrowthFacts
+pub mod MeaningFacts
+pub mod VerdictFacts
+pub mod HorizonFacts
+pub mod FactorFacts
 pub mod ResidualFacts
 mod RowsSample
 mod RowsFlows
@@ -21,3 +28,4 @@ mod RowsRules
 mod RowsAcceptance
 mod RowsReads
 mod RowsRedexes
+mod RowsResiduals

@@ -8,10 +8,10 @@ use Rattle.decimal.specs.Rounding.{raised}
 use Rattle.term_core.specs.Declarations.{Declarations}
 use Rattle.term_core.specs.declared.values.Value.{Value}
 use Rattle.term_core.specs.Environments.{Environment, Place, held, observed, value_or, least, label_of, same_place, Extends}
-use Rattle.term_core.specs.Values.{value_of_entry}
+use Rattle.term_core.specs.Values.{Entry, value_of_entry}
 use Rattle.term_core.specs.Flows.{scale_of_contract}
 use Rattle.term_core.specs.Reads.{reads_of, reads_of_contract, is_fixed, first_unfixed}
-use Rattle.term_core.specs.LawsReads.{ReadsStayUpToUnfixed, AmountsAreFixed, AgreeAt, ValuesDependOnReads, AmountsDependOnReads}
+use Rattle.term_core.specs.LawsReads.{ReadsStayUpToUnfixed, AmountsAreFixed, AgreeAt, ValuesDependOnReads, AmountsDependOnReads, StandAlike, ExpressionReadsStay, ValuesAreFixed}
 use Rattle.term_core.proofs.AlikeFacts.{same_alike, and_left, and_right}
 use Rattle.term_core.proofs.ReadFacts.{SameWhere, SameNames, reads_alike}
 use Rattle.term_core.proofs.ContractReadFacts.{live_alike, flow_same}
@@ -95,3 +95,15 @@ amounts_depend d c one other f b h n le w =
     let qs = reads_of_contract d c [] [] one f (pos 0) (pos b) in
     ap (λ (z : ℤ). raised z (d.amounts - scale_of_contract d c []))
     (flow_same d (is_listed qs) one other (agree_listed d one other qs h) c [] [] [] [] (no_names (is_listed qs)) f (pos 0) (pos b) (pos n) w (omega (arith, ints)) (omega (arith, ints)) (all_listed qs))
+
+names_alike : (fixings : Environment) (g : List Entry) (bs : List (List Place)) (h : List Entry) (cs : List (List Place)) → StandAlike fixings g bs h cs → SameNames (is_fixed fixings) g bs h cs
+names_alike fixings g bs h cs s =
+    record { same_kinds = s.same_kinds; alike = λ k. record { lists = s.same_reads k; values = s.same_values k } }
+
+pub expression_reads_stay : ExpressionReadsStay
+expression_reads_stay d e fixings env g bs h cs f x s =
+    (reads_alike d (is_fixed fixings) env fixings (extension_reads d fixings env x) e g h bs cs (names_alike fixings g bs h cs s) f).lists
+
+pub values_fixed : ValuesAreFixed
+values_fixed d e fixings env g bs h cs f x s none =
+    (reads_alike d (is_fixed fixings) env fixings (extension_reads d fixings env x) e g h bs cs (names_alike fixings g bs h cs s) f).values (all_fixed fixings (reads_of d e g bs env f) none)

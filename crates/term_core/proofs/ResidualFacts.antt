@@ -1,13 +1,25 @@
 -- Residuals of residuals.
-use Rattle.std.proofs.Common.{◌≡◌, ℕ, ℤ, pos, ◌+◌, ◌+ℤ◌, sym, subst, ap, ◌∙◌, add_assoc, Contains, []}
+use Rattle.std.proofs.Common.{◌≡◌, ℕ, ℤ, pos, ◌+◌, ◌+ℤ◌, sym, subst, ap, ap₂, ◌∙◌, add_assoc, Contains, [], arith}
 use Rattle.std.proofs.Math.IntN.{+ℤ_assoc}
+use Rattle.std.proofs.lemmas.Int.{ints}
 use Rattle.term_core.specs.Environments.{Environment, Extends}
 use Rattle.term_core.specs.Flows.{amount_of}
 use Rattle.term_core.specs.Reads.{reads_of_contract}
-use Rattle.term_core.specs.LawsResiduals.{CarriesComposes}
+use Rattle.term_core.specs.LawsResiduals.{CarriesItself, CarriesComposes}
 
 extends_both : (one two three : Environment) → Extends one two → Extends two three → Extends one three
 extends_both one two three h k q v e = k q v (h q v e)
+
+pub carries_itself : CarriesItself
+carries_itself d c f fixings =
+    let frame : f +ℤ pos 0 ≡ f = omega (arith, ints) in
+    let later : (n : ℕ) → n ≡ 0 + n = λ n. omega arith in
+    record {
+      amounts = λ env a x n w. ap₂ (λ (g : ℤ) (i : ℕ). amount_of d c env g (pos i) w) frame (later n);
+      reads = λ env a x b q h.
+          subst (λ (i : ℕ). Contains (reads_of_contract d c [] [] env f (pos 0) (pos i)) q) (later b)
+          (subst (λ (g : ℤ). Contains (reads_of_contract d c [] [] env g (pos 0) (pos b)) q) frame h);
+    }
 
 pub carries_composes : CarriesComposes
 carries_composes d c rest last f fixings more m k h j x =

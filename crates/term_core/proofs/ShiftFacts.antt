@@ -19,7 +19,7 @@ acc_of None p q h = refl
 acc_of (Some TruthKind) p q h = ap (λ (r : Option Kind). on_truth r (Some TruthKind)) (h TruthKind)
 acc_of (Some (Number s)) p q h = ap (on_number (λ _. Some (Number s))) (h (Number s))
 
-same_acc : (o u : Option Kind) (p q : Kind → Option Kind) → o ≡ u → ((k : Kind) → p k ≡ q k) → of_acc o p ≡ of_acc u q
+pub same_acc : (o u : Option Kind) (p q : Kind → Option Kind) → o ≡ u → ((k : Kind) → p k ≡ q k) → of_acc o p ≡ of_acc u q
 same_acc o u p q e h = subst (λ (r : Option Kind). of_acc o p ≡ of_acc r q) e (acc_of o p q h)
 
 pub kind-shifted : (d : Declarations) (e : Expression) (k : ℤ) (ks : List Kind) → kind_of d (shifted k e) ks ≡ kind_of d e ks
@@ -42,12 +42,12 @@ kind-shifted d (Acc body n first) k ks =
 scale-shifted : (d : Declarations) (e : Expression) (k : ℤ) (ks : List Kind) → scale_of d (shifted k e) ks ≡ scale_of d e ks
 scale-shifted d e k ks = ap scale_or_zero (kind-shifted d e k ks)
 
-same_days : (n : ℕ) (step go : ℕ → Value → Value) (v w : Value) → v ≡ w → ((i : ℕ) (x : Value) → step i x ≡ go i x) → days_run n step v ≡ days_run n go w
+pub same_days : (n : ℕ) (step go : ℕ → Value → Value) (v w : Value) → v ≡ w → ((i : ℕ) (x : Value) → step i x ≡ go i x) → days_run n step v ≡ days_run n go w
 same_days zero step go v w e h = e
 same_days (suc n) step go v w e h = ap (step (suc n)) (same_days n step go v w e h) ∙ h (suc n) (days_run n go w)
 
 -- an operand's scale and value
-of_two : {A : Type 0} (F : ℕ → Value → ℕ → Value → A) (i i' j j' : ℕ) (v v' w w' : Value) → i ≡ i' → v ≡ v' → j ≡ j' → w ≡ w' → F i v j w ≡ F i' v' j' w'
+pub of_two : {A : Type 0} (F : ℕ → Value → ℕ → Value → A) (i i' j j' : ℕ) (v v' w w' : Value) → i ≡ i' → v ≡ v' → j ≡ j' → w ≡ w' → F i v j w ≡ F i' v' j' w'
 of_two F i i' j j' v v' w w' a b c e = ap₂ (λ (x : ℕ) (y : Value). F x y j w) a b ∙ ap₂ (λ (x : ℕ) (y : Value). F i' v' x y) c e
 
 pub value-shifted : ShiftsMoveTheDay

@@ -1,11 +1,12 @@
--- Laws of amounts that follow from the definitions alone: what one party pays the other receives, and nothing is paid
--- before the contract stands or from its horizon on.
-use Rattle.std.specs.Prelude.{ℤ, pos, neg_ℤ, ◌<ℤ◌, ◌≤ℤ◌, ◌≡◌}
+-- Laws of amounts that follow from the definitions alone: what one party pays the other receives, nothing is paid before
+-- the contract stands or from its horizon on, and the horizon is at most a day past the reach.
+use Rattle.std.specs.Prelude.{ℤ, pos, neg_ℤ, ◌<ℤ◌, ◌≤ℤ◌, ◌≡◌, ◌≤◌, ◌+◌}
 use Rattle.term_core.specs.Declarations.{Declarations}
 use Rattle.term_core.specs.Terms.{Contract}
 use Rattle.term_core.specs.Environments.{Environment}
 use Rattle.term_core.specs.Flows.{Flow, amount_of}
 use Rattle.term_core.specs.Horizons.{horizon_of}
+use Rattle.term_core.specs.Sizes.{reach}
 
 -- the other way
 abbrev pub reversed : Flow → Flow
@@ -25,3 +26,7 @@ AmountsEndAtHorizon =
 abbrev pub AmountsBeginAtZero : Type 0
 AmountsBeginAtZero =
     (d : Declarations) (c : Contract) (env : Environment) (f n : ℤ) (w : Flow) → n <ℤ pos 0 → amount_of d c env f n w ≡ pos 0
+
+-- what is paid is paid at the latest on the day of the reach
+abbrev pub HorizonIsWithinReach : Type 0
+HorizonIsWithinReach = (c : Contract) → horizon_of c ≤ reach c + 1

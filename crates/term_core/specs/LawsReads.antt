@@ -1,12 +1,15 @@
 -- Laws of reads that follow from the definitions alone: up to the first place that is not fixed, the same places are
--- read whatever the others will be; where all are fixed, the amounts are known; and what is not read has no influence.
-use Rattle.std.specs.Prelude.{ℕ, ℤ, pos, ◌≤◌, ◌≡◌, List, [], None, All}
+-- read whatever the others will be; where all are fixed, the amounts are known; what is not read has no influence; and
+-- over more days a contract reads no less.
+use Rattle.std.specs.Prelude.{ℕ, ℤ, pos, ◌≤◌, ◌≤ℤ◌, ◌≡◌, true, List, [], None, All, slice_get}
+use Rattle.std.specs.List.{list_all}
 use Rattle.term_core.specs.Declarations.{Declarations}
 use Rattle.term_core.specs.Terms.{Expression, Contract}
 use Rattle.term_core.specs.Environments.{Environment, Place, Extends, observed}
-use Rattle.term_core.specs.Values.{Entry, value_of}
+use Rattle.term_core.specs.Values.{Entry, kinds, value_of_entry, value_of}
 use Rattle.term_core.specs.Flows.{Flow, amount_of}
-use Rattle.term_core.specs.Reads.{reads_of, reads_of_contract, is_fixed, first_unfixed, up_to_first}
+use Rattle.term_core.specs.Reads.{places_or, reads_of, reads_of_contract, is_fixed, first_unfixed, up_to_first}
+use Rattle.term_core.specs.Sublists.{IsSublist}
 
 -- up to and with the first place that the fixings do not hold, a contract reads in every environment that extends them
 -- the places that it reads in the fixings alone
@@ -38,3 +41,32 @@ AmountsDependOnReads =
     (d : Declarations) (c : Contract) (one other : Environment) (f : ℤ) (b : ℕ)
     → AgreeAt d one other (reads_of_contract d c [] [] one f (pos 0) (pos b))
     → (n : ℕ) → n ≤ b → (w : Flow) → amount_of d c one f (pos n) w ≡ amount_of d c other f (pos n) w
+
+-- the same names in two worlds: of one kind in both, with the same reads up to the first that is not fixed, and with one
+-- value where all are fixed
+pub record StandAlike (fixings : Environment) (g : List Entry) (bs : List (List Place)) (h : List Entry) (cs : List (List Place)) : Type 0 where
+  pub same_kinds : kinds g ≡ kinds h
+  pub same_reads : (k : ℕ) → up_to_first (is_fixed fixings) (places_or (slice_get bs k)) ≡ up_to_first (is_fixed fixings) (places_or (slice_get cs k))
+  pub same_values : (k : ℕ) → list_all (is_fixed fixings) (places_or (slice_get bs k)) ≡ true → value_of_entry (slice_get g k) ≡ value_of_entry (slice_get h k)
+
+-- up to and with the first place that the fixings do not hold, an expression reads in every environment that extends
+-- them the places that it reads in the fixings alone
+abbrev pub ExpressionReadsStay : Type 0
+ExpressionReadsStay =
+    (d : Declarations) (e : Expression) (fixings env : Environment) (g : List Entry) (bs : List (List Place)) (h : List Entry) (cs : List (List Place)) (f : ℤ)
+    → Extends fixings env → StandAlike fixings g bs h cs
+    → up_to_first (is_fixed fixings) (reads_of d e g bs env f) ≡ up_to_first (is_fixed fixings) (reads_of d e h cs fixings f)
+
+-- and where it reads no place that is not fixed, it has there the value that it has in the fixings alone
+abbrev pub ValuesAreFixed : Type 0
+ValuesAreFixed =
+    (d : Declarations) (e : Expression) (fixings env : Environment) (g : List Entry) (bs : List (List Place)) (h : List Entry) (cs : List (List Place)) (f : ℤ)
+    → Extends fixings env → StandAlike fixings g bs h cs
+    → first_unfixed fixings (reads_of d e g bs env f) ≡ None → value_of d e g env f ≡ value_of d e h fixings f
+
+-- over more own days, from s to t in place of a to b, a contract reads all that it reads and in the same order, and
+-- maybe more between
+abbrev pub ReadsGrow : Type 0
+ReadsGrow =
+    (d : Declarations) (c : Contract) (g : List Entry) (bs : List (List Place)) (env : Environment) (f a b s t : ℤ)
+    → s ≤ℤ a → b ≤ℤ t → IsSublist (reads_of_contract d c g bs env f a b) (reads_of_contract d c g bs env f s t)

@@ -2,13 +2,16 @@ pub mod Limits
 pub mod Declarations
 pub mod Terms
 pub mod WellFormed
+pub mod Binders
 pub mod Books
 pub mod Environments
 pub mod Kinds
+pub mod Branches
 pub mod Values
 pub mod Flows
 pub mod Horizons
 pub mod Reads
+pub mod Sublists
 pub mod Shifts
 pub mod Instances
 pub mod Sizes
@@ -35,3 +38,5 @@ pub mod LawsAcceptance
 pub mod LawsShifts
 pub mod LawsReads
 pub mod LawsResiduals
+pub mod LawsFactors
+pub mod LawsDeclarations

@@ -31,3 +31,19 @@ pub struct Decls {
     pub ghost few_labels: { index_map_len labels < 2 ^ 32 },
     pub ghost few_templates: { index_map_len templates < 2 ^ 32 },
 }
+
+impl Decls {
+    ghost use Rattle.std.specs.Prelude.{◌≡◌};
+    ghost use Rattle.term_core.specs.Declarations.{declarations};
+    ghost use Rattle.term_core.specs.Environments.{label_of};
+
+    /// The observable that is declared at an index.
+    pub fn label(&self, index: u32) -> Option<Label>
+        ensures { result ≡ label_of (declarations self.now) index }
+    {
+        match self.labels.get_index(index as usize) {
+            Some((_, label)) => Some(*label),
+            None => None,
+        }
+    }
+}

@@ -1,14 +1,16 @@
 //! Laws that follow from the definitions of the model alone. Each is the contract of a function that does nothing; a
 //! caller takes the law by calling it.
 
-ghost use Rattle.term_core.specs.LawsFlows.{AmountsAreOpposite, AmountsEndAtHorizon, AmountsBeginAtZero};
-ghost use Rattle.term_core.specs.LawsResiduals.{CarriesComposes};
-ghost use Rattle.term_core.specs.LawsReads.{ReadsStayUpToUnfixed, AmountsAreFixed, ValuesDependOnReads, AmountsDependOnReads};
-ghost use Rattle.term_core.specs.LawsShifts.{ShiftsMoveTheDay};
+ghost use Rattle.term_core.specs.LawsFlows.{AmountsAreOpposite, AmountsEndAtHorizon, AmountsBeginAtZero, HorizonIsWithinReach};
+ghost use Rattle.term_core.specs.LawsResiduals.{CarriesItself, CarriesComposes};
+ghost use Rattle.term_core.specs.LawsReads.{ReadsStayUpToUnfixed, AmountsAreFixed, ValuesDependOnReads, AmountsDependOnReads, ExpressionReadsStay, ValuesAreFixed, ReadsGrow};
+ghost use Rattle.term_core.specs.LawsShifts.{ShiftsMoveTheDay, ReadsMoveTheDay};
 ghost use Rattle.term_core.specs.LawsAcceptance.{RefusalsAreUnique, AcceptedAreNotRefused, RulesHoldOrFail, FaultsAreUnique};
 ghost use Rattle.term_core.specs.LawsInstances.{InstancesHaveNumbers, InstancesAreWellFormed, SettingsSuit, DefaultsSuit};
 ghost use Rattle.term_core.specs.LawsTimes.{TimesMeanTyped};
 ghost use Rattle.term_core.specs.LawsKinds.{ValuesHaveKinds};
+ghost use Rattle.term_core.specs.LawsFactors.{CurvesAnswerFactors};
+ghost use Rattle.term_core.specs.LawsDeclarations.{DeclarationsGiveMeaning, DeclarationsGiveVerdicts};
 ghost use Rattle.term_core.specs.LawsDates.{TextsOfDaysAreUnique, DaysOfTextsAreCivil};
 
 /// What one party pays, the other receives.
@@ -26,14 +28,32 @@ pub fn amounts_begin_at_zero()
     ensures { AmountsBeginAtZero }
 {}
 
-/// A residual of a residual, under more fixings, carries the first contract over all the days.
+/// What is paid is paid at the latest on the day of the reach.
+pub fn horizon_is_within_reach()
+    ensures { HorizonIsWithinReach }
+{}
+
+/// A contract carries itself over no days, and a residual of a residual, under more fixings, carries the first contract
+/// over all the days.
 pub fn carries_composes()
-    ensures { CarriesComposes }
+    ensures itself { CarriesItself }
+    ensures composes { CarriesComposes }
 {}
 
 /// Up to the first place that is not fixed, a contract reads the same places whatever the others will hold.
 pub fn reads_stay_up_to_unfixed()
     ensures { ReadsStayUpToUnfixed }
+{}
+
+/// And so does an expression, among names of which that holds; where it reads no other place, its value is known.
+pub fn values_are_fixed()
+    ensures reads { ExpressionReadsStay }
+    ensures value { ValuesAreFixed }
+{}
+
+/// Over more days a contract reads no less.
+pub fn reads_grow()
+    ensures { ReadsGrow }
 {}
 
 /// Where everything that is read up to a day is fixed, the amounts up to it are known.
@@ -54,6 +74,11 @@ pub fn amounts_depend_on_reads()
 /// An expression whose observables are read some days later has the value of that many days later.
 pub fn shifts_move_the_day()
     ensures { ShiftsMoveTheDay }
+{}
+
+/// And it reads the places that the expression reads that many days later.
+pub fn reads_move_the_day()
+    ensures { ReadsMoveTheDay }
 {}
 
 /// A contract has at most one refusal.
@@ -111,4 +136,16 @@ pub fn times_mean_typed()
 /// An expression that has a kind has a value of it.
 pub fn values_have_kinds()
     ensures { ValuesHaveKinds }
+{}
+
+/// What a curve answers at an offset is a factor.
+pub fn curves_answer_factors()
+    ensures { CurvesAnswerFactors }
+{}
+
+/// What a term means, and whether it is accepted, follows from the decimals of the amounts and from the observables
+/// alone; so it is the same under declarations that differ in names, templates or days.
+pub fn declarations_give_meaning()
+    ensures meaning { DeclarationsGiveMeaning }
+    ensures verdict { DeclarationsGiveVerdicts }
 {}
