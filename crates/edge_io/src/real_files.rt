@@ -69,7 +69,7 @@ fn read_rest<S: Read>(alloc: Global, source: &mut S, max: u64) -> Result<Vec<u8>
 }
 
 impl<R: RuntimeFiles + Drop> Files for RealFiles<R> {
-    ghost use Rattle.std.specs.Prelude.{◌≡◌, ◌≤◌, List, ℕ, None, IsErrOf};
+    ghost use Rattle.std.specs.Prelude.{◌≡◌, ◌≤◌, ℕ, None, IsErrOf};
     ghost use Rattle.edge_io.specs.Counts.{Rose};
     ghost use Rattle.edge_io.specs.Files.{Answers, CountsOnly, after_read};
 

@@ -4,3 +4,5 @@
 
 #[cfg(test)]
 mod decimals;
+#[cfg(test)]
+mod edges;

@@ -1,8 +1,8 @@
-use crate::{
+use decimal::NoMemory;
+use edge_io::{
     Entry, Files, MemoryFiles, MemorySink, ReadErr, RealFiles, RealSink, Sink, WriteErr,
     write_whole,
 };
-use decimal::NoMemory;
 use std::alloc::{AllocError, Global};
 use std::fmt::Display;
 use std::io::ErrorKind;
