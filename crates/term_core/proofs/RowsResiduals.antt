@@ -1,18 +1,22 @@
 -- Worked rows of residuals and of discount factors: the residuals of worked rows hold no redex on their day, what they
 -- are residuals of holds some, and a curve of two rows.
-use Rattle.std.proofs.Common.{◌≡◌, ℤ, pos, negsuc, Bool, true, false, not, List, [], ◌∷◌, Some, refl, arith}
+use Rattle.std.proofs.Common.{◌≡◌, ℤ, pos, negsuc, ◌+ℤ◌, ◌-ℤ◌, ◌*ℤ◌, ◌+◌, Bool, true, false, not, if◌then◌else◌, List, [], ◌∷◌, ◌++◌, Some, Contains, refl, sym, ap₂, ◌∙◌, arith}
 use Rattle.std.proofs.lemmas.Int.{ints}
 use Rattle.std.specs.List.{list_all}
 use Rattle.std.specs.Prelude.{IsFalse}
 use Rattle.decimal.specs.declared.Mode.TheVariants.{HalfEven}
 use Rattle.term_core.specs.declared.terms.Days.TheVariants.{Num as Count}
 use Rattle.term_core.specs.Terms.{Lit, Var, Obs, Round, Contract, Scale, After, Let}
-use Rattle.term_core.specs.Environments.{Environment}
+use Rattle.decimal.specs.Rounding.{raised}
+use Rattle.term_core.specs.Environments.{Environment, Place}
+use Rattle.term_core.specs.Flows.{Flow, on_day_zero, unit_flow}
+use Rattle.term_core.specs.Reads.{live, reads_of_contract}
 use Rattle.term_core.specs.Factors.{CurveRow, IsCurve, discount_factor}
 use Rattle.term_core.specs.Residuals.{Carries}
 use Rattle.term_core.specs.Redexes.{Redex, EmptyLeft, EmptyRight, ScaledNothing, ZeroFactor, NoDelay, TwoDelays, DelayedNothing, UnusedName, LiteralName, NothingEither, DecidedTest, LiteralOperands, DecidedChoice, FixedPlace, NoSteps, FixedSteps, is_redex, frame_round, HasNone, IsReduced}
 use Rattle.term_core.specs.Sites.{Site, Once, sites_of_contract, AllPass}
 use Rattle.term_core.proofs.AlikeFacts.{and_left, and_right}
+use Rattle.term_core.proofs.FlowFacts.{differs}
 use Rattle.term_core.proofs.ResidualFacts.{carries_itself}
 use Rattle.term_core.proofs.RowsSample.{with_fx, pay_ab, pay_ba, loan, touch, average, fx}
 
@@ -164,6 +168,29 @@ loan_is_reduced kind = has_none [] (pos 30) loan_left kind (loan_holds_none kind
 -- the loan carries itself over no days
 loan_carries : Carries with_fx loan (pos 0) [] 0 loan
 loan_carries = carries_itself with_fx loan (pos 0) []
+
+-- the amounts of the loan on a day, from what its two parts pay
+abbrev paid : ℤ → ℤ → Flow → ℤ
+paid x day w = raised (raised (pos 10000 *ℤ x) 0 +ℤ raised (pos 10500 *ℤ on_day_zero day (unit_flow 0 1 0 w)) 0) 0
+
+only_back : (y : ℤ) → raised (pos 0 +ℤ raised y 0) 0 ≡ raised y 0
+only_back y = omega (arith, ints)
+
+nothing_read : (b : Bool) (q : Place) (ps : List Place) → Contains ([] ++ (if b then [] else [])) q → Contains ps q
+nothing_read true q ps h = absurd (omega (arith, h.1))
+nothing_read false q ps h = absurd (omega (arith, h.1))
+
+-- what is left of the loan on day 30 carries it
+loan_is_carried : Carries with_fx loan (pos 0) [] 30 loan_left
+loan_is_carried =
+    record {
+      amounts = λ env a x n w.
+          let due : on_day_zero (pos (30 + n)) (unit_flow 0 0 1 w) ≡ pos 0 = rw (differs (30 + n) (omega arith)) refl in
+          let later : pos (30 + n) -ℤ pos 90 ≡ pos n -ℤ pos 60 = omega (arith, ints) in
+          sym (ap₂ (λ (y day : ℤ). paid y day w) due later ∙ only_back (pos 10500 *ℤ on_day_zero (pos n -ℤ pos 60) (unit_flow 0 1 0 w)));
+      reads = λ env a x b q h.
+          nothing_read (live with_fx (Scale (Lit (pos 10500) 2) pay_ba) [] env (pos 90) (pos 0 -ℤ pos 60) (pos b -ℤ pos 60)) q (reads_of_contract with_fx loan [] [] env (pos 0) (pos 0) (pos (30 + b))) h;
+    }
 
 -- ---- discount factors
 
