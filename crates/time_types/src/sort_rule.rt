@@ -285,7 +285,7 @@ fn try_after_both(
 
 /// Whether the rule on sorts holds everywhere in a contract. Where it fails, the answer has the first node at fault, in
 /// the order in which the rules of acceptance try nodes. It takes no memory today; a caller provides for want of it.
-pub fn sorts(_alloc: Global, decls: &Decls, c: &Contr) -> Result<(), CheckErr>
+pub fn sorts(alloc: Global, decls: &Decls, c: &Contr) -> Result<(), CheckErr>
     requires low { height_of_contract (contract c.now) ≤ 1_000 }
     requires small { nodes_of_contract (contract c.now) < 2 ^ 32 }
     ensures { IsVerdict (declarations decls.now) Rule.Sort (contract c.now) (λ _. Unit {0}) result }

@@ -45,9 +45,9 @@ pub fn sort_at(scope: &SortScope, back: u32) -> Option<Sort>
 pub fn sort_observed(decls: &Decls, label: u32) -> Option<Sort>
     ensures { result ≡ sort_of (kind_of_label (label_of (declarations decls.now) label)) }
 {
-    match decls.labels.get_index(label as usize) {
-        Some((_, Label::Number { .. })) => Some(Sort::Number),
-        Some((_, Label::Flag)) => Some(Sort::Truth),
+    match decls.label(label) {
+        Some(Label::Number { .. }) => Some(Sort::Number),
+        Some(Label::Flag) => Some(Sort::Truth),
         None => None,
     }
 }

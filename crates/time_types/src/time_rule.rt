@@ -242,7 +242,7 @@ fn try_after_both(
 /// node at fault, in the order in which the rules of acceptance try nodes: a `scale` whose factor is not known when its
 /// body starts, or an `if .. within` whose test is not known on the first day (after the typing of times of Bahr,
 /// Berthold and Elsman, ICFP 2015). It takes no memory today; a caller provides for want of it.
-pub fn times(_alloc: Global, decls: &Decls, c: &Contr) -> Result<Start, CheckErr>
+pub fn times(alloc: Global, decls: &Decls, c: &Contr) -> Result<Start, CheckErr>
     requires low { height_of_contract (contract c.now) ≤ 1_000 }
     requires small { nodes_of_contract (contract c.now) < 2 ^ 32 }
     requires closed { IsClosed (declarations decls.now) (contract c.now) }
