@@ -1,24 +1,11 @@
 -- Numbers that are no mantissas: those past 37 decimals, and those between end points of which one is none.
-use Rattle.std.proofs.Common.{◌≡◌, ◌≢◌, ℕ, ℤ, pos, ◌*ℤ◌, ◌≤ℤ◌, ◌*◌, ◌^◌, ◌≤◌, ◌<◌, Some, None, unsigned_abs, ap, ◌∙◌, sym, arith}
+pub use Rattle.decimal.proofs.MantissaFacts.{no_mantissa, raised_past}
+use Rattle.std.proofs.Common.{◌≡◌, ℕ, ℤ, ◌*ℤ◌, ◌≤ℤ◌, ◌^◌, ◌≤◌, Some, None, unsigned_abs, ap, ◌∙◌, sym, arith}
 use Rattle.std.specs.Int.{int_min, int_max}
 use Rattle.std.proofs.lemmas.Bool.Decides.{nat_tests}
-use Rattle.std.proofs.lemmas.Int.{ints, clamps, unsigned_abs-mul}
-use Rattle.std.proofs.lemmas.Nat.{mul-le}
-use Rattle.decimal.specs.Rounding.{raised}
-use Rattle.decimal.proofs.PowerFacts.{ten_most}
+use Rattle.std.proofs.lemmas.Int.{ints, clamps}
 use Rattle.term_core.specs.Bounds.{Interval, single, hull, corners}
 use Rattle.interval_check.specs.Intervals.{mantissa, fitting, IsSmall}
-
-no_mantissa : (m : ℤ) → 10 ^ 37 < unsigned_abs m → mantissa m ≡ None
-no_mantissa m h = grind (arith, nat_tests)
-
-pub raised_past : (m : ℤ) (k : ℕ) → m ≢ pos 0 → 37 < k → mantissa (raised m k) ≡ None
-raised_past m k h g =
-    let some : 1 ≤ unsigned_abs m = omega (arith, ints) in
-    let most : 10 ^ 38 ≤ 10 ^ k = ten_most 38 k (omega arith) in
-    let size : unsigned_abs (raised m k) ≡ unsigned_abs m * 10 ^ k = unsigned_abs-mul m (pos (10 ^ k)) in
-    let less : 1 * 10 ^ 38 ≤ unsigned_abs m * 10 ^ k = mul-le 1 (10 ^ 38) (unsigned_abs m) (10 ^ k) some most in
-    no_mantissa (raised m k) (omega arith)
 
 size_between : (l m h : ℤ) (n : ℕ) → l ≤ℤ m → m ≤ℤ h → unsigned_abs l ≤ n → unsigned_abs h ≤ n → unsigned_abs m ≤ n
 size_between l m h n a b c d = omega (arith, ints)

@@ -1,5 +1,5 @@
 -- Facts of the operators on ranges, and of declared labels.
-use Rattle.std.proofs.Common.{◌≡◌, ℕ, zero, suc, ℤ, ◌-◌, ◌^◌, ◌≤◌, Bool, true, false, ◌&&◌, List, [], ◌∷◌, Some, nat_le, if◌then◌else◌, slice_get, refl, ap, ◌∙◌, sym, arith}
+use Rattle.std.proofs.Common.{◌≡◌, ℕ, zero, suc, ℤ, ◌-◌, ◌^◌, ◌≤◌, Bool, true, false, ◌&&◌, List, [], ◌∷◌, Some, None, Option, nat_le, if◌then◌else◌, slice_get, refl, ap, ◌∙◌, sym, arith}
 use Rattle.std.proofs.lemmas.Bool.Decides.{nat_tests}
 use Rattle.decimal.specs.declared.rounding.Mode.{Mode}
 use Rattle.decimal.specs.Rounding as rounding
@@ -8,6 +8,8 @@ use Rattle.term_core.specs.declared.name.Name.{Name}
 use Rattle.term_core.specs.declared.label.Label.{Label}
 use Rattle.term_core.specs.declared.label.Label.TheVariants.{Number as NumberLabel}
 use Rattle.term_core.specs.declared.values.Kind.TheVariants.{Number}
+use Rattle.term_core.specs.Declarations.{Declarations}
+use Rattle.term_core.specs.Environments.{label_of}
 use Rattle.term_core.specs.Limits.{is_label, are_labels}
 use Rattle.term_core.specs.Bounds.{Range, lifted}
 use Rattle.interval_check.specs.Intervals.{fitting}
@@ -38,3 +40,15 @@ declared_scale (x ∷ es) zero n s l h e f =
     let same : x ≡ (n, NumberLabel s l h) = cc in
     one_scale n s l h (ap (λ (y : Name × Label). is_label y.1) (sym same) ∙ left_true (is_label x.1) (are_labels es) e)
 declared_scale (x ∷ es) (suc i) n s l h e f = declared_scale es i n s l h (right_true (is_label x.1) (are_labels es) e) f
+
+abbrev label_part : Option (Name × Label) → Option Label
+label_part o = elim o [ Some e ↦ Some e.1 | None ↦ None ]
+
+found_scale : (es : List (Name × Label)) (i : ℕ) (o : Option (Name × Label)) (s : ℕ) (l h : ℤ) → are_labels es ≡ true → slice_get es i ≡ o → label_part o ≡ Some (NumberLabel s l h) → s ≤ 27
+found_scale es i None s l h e f g = absurd (cc)
+found_scale es i (Some x) s l h e f g =
+    let same : x.1 ≡ NumberLabel s l h = cc in
+    declared_scale es i x.0 s l h e (f ∙ ap (λ (v : Label). Some (x.0, v)) same)
+
+pub label_scale : (d : Declarations) (i s : ℕ) (l h : ℤ) → are_labels d.labels ≡ true → label_of d i ≡ Some (NumberLabel s l h) → s ≤ 27
+label_scale d i s l h e f = found_scale d.labels i (slice_get d.labels i) s l h e refl f

@@ -1,6 +1,6 @@
 -- The program's intervals as those of the model; and a mantissa, or an interval, where it is at most 10^37 in size.
-use Rattle.std.specs.Prelude.{ℤ, ◌≤◌, ◌^◌, Option, Some, None, nat_le, unsigned_abs, if◌then◌else◌}
-use Rattle.term_core.specs.Limits.{greatest_mantissa}
+pub use Rattle.decimal.specs.Mantissas.{mantissa}
+use Rattle.std.specs.Prelude.{◌≤◌, ◌^◌, Option, Some, None, unsigned_abs, if◌then◌else◌}
 use Rattle.term_core.specs.Bounds.{Interval, fits}
 use Rattle.interval_check.specs.declared.intervals.Interval.{Interval as Ends}
 
@@ -10,9 +10,6 @@ interval i = record { low = i.low; high = i.high }
 abbrev pub found : Option Ends → Option Interval
 found None = None
 found (Some i) = Some (interval i)
-
-abbrev pub mantissa : ℤ → Option ℤ
-mantissa m = if nat_le (unsigned_abs m) greatest_mantissa then Some m else None
 
 abbrev pub fitting : Interval → Option Interval
 fitting i = if fits i then Some i else None

@@ -1,7 +1,8 @@
 -- The range of an expression, or the place of its first node that breaks the rule on bounds, counted from the
 -- expression's own first node. This goes by structure, each part once, and an accumulator's body once for each day;
 -- proofs/RangeFacts shows that it finds what the rule says.
-use Rattle.std.specs.Prelude.{ℕ, zero, suc, pos, neg_ℤ, ◌+◌, ◌-◌, ◌≤◌, max, List, ◌∷◌, Option, Some, None, Result, Ok, Err, if◌then◌else◌, slice_get}
+pub use Rattle.term_core.specs.Branches.{either as kind_of_either}
+use Rattle.std.specs.Prelude.{ℕ, zero, suc, pos, neg_ℤ, ◌+◌, ◌-◌, ◌≤◌, List, ◌∷◌, Option, Some, None, Result, Ok, Err, if◌then◌else◌, slice_get}
 use Rattle.decimal.specs.declared.rounding.Mode.{Mode}
 use Rattle.decimal.specs.Rounding.{raised, at_scale, divided}
 use Rattle.term_core.specs.declared.terms.NumOp.{NumOp}
@@ -64,10 +65,6 @@ combined op r t =
 
 abbrev pub compared : Range → Range → Answer
 compared r t = then_do (aligned_both r t) (λ _. Ok truth)
-
-abbrev pub kind_of_either : Kind → Kind → Kind
-kind_of_either Truth Truth = Truth
-kind_of_either j k = Number (max (scale_of_kind j) (scale_of_kind k))
 
 abbrev pub either : Range → Range → Answer
 either r t = then_do (aligned_both r t) (λ p. ranged (fitting (hull p.left p.right)) (kind_of_either r.kind t.kind))

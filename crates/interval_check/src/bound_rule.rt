@@ -171,11 +171,8 @@ fn total_after_both(
 /// breaks the rule on bounds: a mantissa or an aligned operand of more than 10^37 in size, a divisor that may be 0, or a
 /// total of more than 10^27, as it is or at the portfolio's decimals. An accumulator's body is tried anew for each of
 /// its days. It takes no memory today; a caller provides for want of it.
-pub fn bounds(_alloc: Global, decls: &Decls, c: &Contr) -> Result<i128, CheckErr>
-    requires closed { IsClosed (declarations decls.now) (contract c.now) }
-    requires numbers { HasOnlyNumbers (contract c.now) }
+pub fn bounds(alloc: Global, decls: &Decls, c: &Contr) -> Result<i128, CheckErr>
     requires sorted { Meets (declarations decls.now) Rule.Sort (contract c.now) }
-    requires timed { Meets (declarations decls.now) Rule.Time (contract c.now) }
     requires scaled { Meets (declarations decls.now) Rule.Scale (contract c.now) }
     requires small { Meets (declarations decls.now) Rule.Size (contract c.now) }
     ensures { IsVerdict (declarations decls.now) Rule.Bound (contract c.now) (λ total. total ≡ pos (aligned_total (declarations decls.now) (contract c.now) [])) result }

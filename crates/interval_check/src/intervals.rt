@@ -7,10 +7,7 @@ ghost use Rattle.term_core.specs.declared.terms.NumOp.TheVariants.{Plus, Minus, 
 ghost use Rattle.term_core.specs.Bounds.{fits, lifted, swapped, single, hull, on_intervals};
 ghost use Rattle.interval_check.specs.Intervals.{interval, found, mantissa, fitting, IsSmall};
 
-use decimal::pow10;
-
-// The greatest size of a mantissa, 10^37.
-const GREATEST: u128 = 10_000_000_000_000_000_000_000_000_000_000_000_000;
+use decimal::{is_mantissa, widen};
 
 /// The mantissas from the least to the greatest.
 #[derive(Clone, Copy, Debug, PartialEq, Eq)]
@@ -19,31 +16,11 @@ pub struct Interval {
     pub high: i128,
 }
 
-fn is_mantissa(m: i128) -> bool
-    ensures { result ≡ nat_le (unsigned_abs m) greatest_mantissa }
-{
-    m.unsigned_abs() <= GREATEST
-}
-
 /// Whether both end points are mantissas.
 pub fn fits_in(i: Interval) -> bool
     ensures { result ≡ fits (interval i) }
 {
     is_mantissa(i.low) && is_mantissa(i.high)
-}
-
-// The mantissa at `by` more decimals, where it is one.
-fn raise(m: i128, by: u8) -> Option<i128>
-    ensures value { result ≡ mantissa (raised m by) }
-    ensures small { IfSome result (λ m. unsigned_abs m ≤ 10 ^ 37) }
-{
-    if m == 0 {
-        return Some(0);
-    }
-    if by > 37 {
-        return None;
-    }
-    product(m, pow10(by))
 }
 
 // The product, where it is a mantissa.
@@ -60,8 +37,8 @@ pub fn raise_ends(i: Interval, by: u8) -> Option<Interval>
     ensures interval { found result ≡ fitting (lifted (λ m. raised m by) (interval i)) }
     ensures small { IfSome result (λ i. IsSmall (interval i)) }
 {
-    let low = raise(i.low, by)?;
-    let high = raise(i.high, by)?;
+    let low = widen(i.low, by)?;
+    let high = widen(i.high, by)?;
     Some(Interval { low, high })
 }
 

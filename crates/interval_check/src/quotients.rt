@@ -8,7 +8,7 @@ ghost use Rattle.interval_check.specs.Ranges.{range, range_found, IsFit};
 ghost use Rattle.interval_check.specs.RangeTrials as tried;
 
 use crate::intervals::{Interval, hull_of, raise_ends};
-use crate::ranges::{Range, checked, scale_of};
+use crate::ranges::{Range, checked};
 use decimal::{Mode, div_to};
 use term_core::Kind;
 
@@ -86,8 +86,8 @@ pub fn divided(mode: Mode, scale: u8, top: Range, below: Range) -> Result<Range,
     ensures fit { IfOk result (λ r. IsFit (range r)) }
 {
     let by = Division {
-        top: scale_of(top.kind),
-        below: scale_of(below.kind),
+        top: top.kind.scale(),
+        below: below.kind.scale(),
         mode,
         scale,
     };

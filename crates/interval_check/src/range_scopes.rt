@@ -47,15 +47,10 @@ pub fn range_observed(decls: &Decls, label: u32) -> Result<Range, u32>
     ensures here { IfErr result (λ place. place ≡ 0) }
     ensures fit { IfOk result (λ r. IsFit (range r)) }
 {
-    match decls.labels.get_index(label as usize) {
-        Some((_, Label::Number { scale, low, high })) => {
-            let bounds = Interval {
-                low: *low,
-                high: *high,
-            };
-            checked(bounds, Kind::Number { scale: *scale })
+    match decls.label(label) {
+        Some(Label::Number { scale, low, high }) => {
+            checked(Interval { low, high }, Kind::Number { scale })
         }
-        Some((_, Label::Flag)) => Ok(TRUTH),
-        None => Ok(TRUTH),
+        Some(Label::Flag) | None => Ok(TRUTH),
     }
 }

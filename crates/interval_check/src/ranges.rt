@@ -50,16 +50,6 @@ pub fn is_same(a: Range, b: Range) -> bool
     a == b
 }
 
-/// The decimals of a kind; a truth value has none.
-pub fn scale_of(kind: Kind) -> u8
-    ensures { result ≡ scale_of_kind kind }
-{
-    match kind {
-        Kind::Truth => 0,
-        Kind::Number { scale } => scale,
-    }
-}
-
 /// The range of an interval whose end points are mantissas.
 pub fn checked(i: Interval, kind: Kind) -> Result<Range, u32>
     requires { scale_of_kind kind ≤ 27 }
@@ -81,7 +71,7 @@ pub fn negated(of: Range) -> Result<Range, u32>
     ensures here { IfErr result (λ place. place ≡ 0) }
     ensures fit { IfOk result (λ r. IsFit (range r)) }
 {
-    let scale = scale_of(of.kind);
+    let scale = of.kind.scale();
     checked(opposite_of(of.interval), Kind::Number { scale })
 }
 
@@ -93,7 +83,7 @@ pub fn widened(kind: Kind, of: Range) -> Result<Range, u32>
     ensures fit { IfOk result (λ r. IsFit (range r)) }
     ensures kind { IfOk result (λ r. r.kind ≡ kind) }
 {
-    let by = scale_of(kind).saturating_sub(scale_of(of.kind));
+    let by = kind.scale().saturating_sub(of.kind.scale());
     match raise_ends(of.interval, by) {
         Some(interval) => Ok(Range { interval, kind }),
         None => Err(0),
@@ -108,7 +98,7 @@ pub fn rounded(mode: Mode, scale: u8, of: Range) -> Result<Range, u32>
     ensures here { IfErr result (λ place. place ≡ 0) }
     ensures fit { IfOk result (λ r. IsFit (range r)) }
 {
-    let from = scale_of(of.kind);
+    let from = of.kind.scale();
     let kind = Kind::Number { scale };
     if from <= scale {
         return widened(kind, of);
@@ -123,8 +113,8 @@ fn shared_with(other: Range, of: Range) -> Option<Interval>
     ensures interval { found result ≡ fitting (aligned (tried.scale_in (range of)) (tried.scale_in (range other)) (interval of.interval)) }
     ensures small { IfSome result (λ i. IsSmall (interval i)) }
 {
-    let scale = scale_of(of.kind);
-    raise_ends(of.interval, scale.max(scale_of(other.kind)) - scale)
+    let scale = of.kind.scale();
+    raise_ends(of.interval, scale.max(other.kind.scale()) - scale)
 }
 
 // The intervals of two numbers at the greater of their scales.
@@ -147,7 +137,7 @@ fn multiplied(left: Range, right: Range) -> Result<Range, u32>
     ensures here { IfErr result (λ place. place ≡ 0) }
     ensures fit { IfOk result (λ r. IsFit (range r)) }
 {
-    let scale = scale_of(left.kind) + scale_of(right.kind);
+    let scale = left.kind.scale() + right.kind.scale();
     match product_of(left.interval, right.interval) {
         Some(interval) => Ok(Range {
             interval,
@@ -167,7 +157,7 @@ pub fn combined(op: NumOp, left: Range, right: Range) -> Result<Range, u32>
     ensures fit { IfOk result (λ r. IsFit (range r)) }
 {
     let kind = Kind::Number {
-        scale: scale_of(left.kind).max(scale_of(right.kind)),
+        scale: left.kind.scale().max(right.kind.scale()),
     };
     match op {
         NumOp::Times => multiplied(left, right),
@@ -200,18 +190,6 @@ pub fn compared(left: Range, right: Range) -> Result<Range, u32>
     Ok(TRUTH)
 }
 
-/// The kind of either branch.
-pub fn kind_of_either(yes: Kind, no: Kind) -> Kind
-    ensures { result ≡ tried.kind_of_either yes no }
-{
-    match (yes, no) {
-        (Kind::Truth, Kind::Truth) => Kind::Truth,
-        _ => Kind::Number {
-            scale: scale_of(yes).max(scale_of(no)),
-        },
-    }
-}
-
 /// The range of what is either of two branches.
 pub fn either(yes: Range, no: Range) -> Result<Range, u32>
     requires yes { IsFit (range yes) }
@@ -221,8 +199,5 @@ pub fn either(yes: Range, no: Range) -> Result<Range, u32>
     ensures fit { IfOk result (λ r. IsFit (range r)) }
 {
     let both = align_both(yes, no)?;
-    checked(
-        hull_of(both.left, both.right),
-        kind_of_either(yes.kind, no.kind),
-    )
+    checked(hull_of(both.left, both.right), yes.kind.either(no.kind))
 }

@@ -10,7 +10,7 @@ ghost use Rattle.interval_check.specs.TotalTrials as tried;
 ghost use Rattle.term_core.specs.Bounds.{greatest_size, greatest_total};
 
 use crate::intervals::Interval;
-use crate::ranges::{Range, scale_of};
+use crate::ranges::Range;
 use decimal::pow10;
 
 // The greatest total, 10^27.
@@ -116,7 +116,7 @@ pub fn total_of_scaled(decimals: u8, factor: Range, body: Total) -> Result<Total
     ensures here { IfErr result (λ place. place ≡ 0) }
     ensures fits { IfOk result (λ t. IsTotal decimals t) }
 {
-    let scale = scale_of(factor.kind) + body.scale;
+    let scale = factor.kind.scale() + body.scale;
     match body.amount.checked_mul(greatest_size_in(factor.interval)) {
         Some(amount) => checked_total(decimals, amount, scale),
         None => Err(0),

@@ -39,9 +39,8 @@ pub fn scale_at(scope: &ScaleScope, back: u32) -> u8
 pub fn scale_observed(decls: &Decls, label: u32) -> u8
     ensures { result ≡ scale_or_zero (kind_of_label (label_of (declarations decls.now) label)) }
 {
-    match decls.labels.get_index(label as usize) {
-        Some((_, Label::Number { scale, .. })) => *scale,
-        Some((_, Label::Flag)) => 0,
-        None => 0,
+    match decls.label(label) {
+        Some(Label::Number { scale, .. }) => scale,
+        Some(Label::Flag) | None => 0,
     }
 }
