@@ -13,7 +13,7 @@ ghost use Rattle.interval_check.specs.RangeTrials.{kind_found, AreScaled};
 ghost use Rattle.interval_check.specs.TotalTrials.{scale_found, AreTotalsScaled};
 
 use crate::range_scopes::{RangeScope, range_at};
-use crate::ranges::{Range, TRUTH, kind_of_either, scale_of};
+use crate::ranges::{Range, TRUTH};
 use decimal::{Mode, NoMemory};
 use indexmap::{IndexMap, IndexSet};
 use std::alloc::Global;
@@ -92,11 +92,7 @@ fn small(kind: Kind) -> Option<Kind>
     ensures small { IfSome result (λ k. scale_of_kind k ≤ 27) }
     ensures given { IfSome result (λ k. scale_of_kind kind ≤ 27) }
 {
-    if scale_of(kind) <= 27 {
-        Some(kind)
-    } else {
-        None
-    }
+    if kind.scale() <= 27 { Some(kind) } else { None }
 }
 
 // The kind of an operator.
@@ -107,11 +103,11 @@ fn kind_of_op(op: NumOp, left: Kind, right: Kind) -> Option<Kind>
     ensures small { IfSome result (λ k. scale_of_op op (scale_of_kind left) (scale_of_kind right) ≤ 27) }
 {
     match op {
-        NumOp::Times => scaled(scale_of(left) + scale_of(right)),
-        NumOp::Plus => scaled(scale_of(left).max(scale_of(right))),
-        NumOp::Minus => scaled(scale_of(left).max(scale_of(right))),
-        NumOp::Min => scaled(scale_of(left).max(scale_of(right))),
-        NumOp::Max => scaled(scale_of(left).max(scale_of(right))),
+        NumOp::Times => scaled(left.scale() + right.scale()),
+        NumOp::Plus => scaled(left.scale().max(right.scale())),
+        NumOp::Minus => scaled(left.scale().max(right.scale())),
+        NumOp::Min => scaled(left.scale().max(right.scale())),
+        NumOp::Max => scaled(left.scale().max(right.scale())),
     }
 }
 
@@ -139,7 +135,7 @@ pub fn kind_in(decls: &Decls, e: &Expr, scope: &RangeScope) -> Option<Kind>
         Expr::Obs { label, .. } => small(kind_observed(decls, *label)),
         Expr::Neg { of } => {
             let kind = kind_in(decls, of, scope)?;
-            scaled(scale_of(kind))
+            scaled(kind.scale())
         }
         Expr::Not { of } => {
             kind_in(decls, of, scope)?;
@@ -172,7 +168,7 @@ pub fn kind_in(decls: &Decls, e: &Expr, scope: &RangeScope) -> Option<Kind>
             kind_in(decls, test, scope)?;
             let yes_kind = kind_in(decls, yes, scope)?;
             let no_kind = kind_in(decls, no, scope)?;
-            Some(kind_of_either(yes_kind, no_kind))
+            Some(yes_kind.either(no_kind))
         }
         Expr::Div {
             scale,
@@ -238,7 +234,7 @@ pub fn scale_in(decls: &Decls, c: &Contr, scope: &RangeScope) -> Option<u8>
         Contr::Scale { factor, body } => {
             let kind = kind_in(decls, factor, scope)?;
             let body_scale = scale_in(decls, body, scope)?;
-            let scale = scale_of(kind) + body_scale;
+            let scale = kind.scale() + body_scale;
             if scale <= decls.amounts {
                 Some(scale)
             } else {
