@@ -12,8 +12,7 @@ ghost use Rattle.expr_eval.specs.Fits.{Fits, IsDay, DayFitsIn, DaysFitIn};
 
 use crate::kinds::{kind_in, kind_observed};
 use crate::operations::{
-    Operands, Typed, at_kind, combine, compare, divide, is_decided, is_true, kind_of_either,
-    negate, number, round, verdict,
+    Operands, Typed, at_kind, combine, compare, divide, is_decided, negate, number, round, verdict,
 };
 use crate::scopes::{Scope, binding_at};
 use crate::scratch::{Binding, Held};
@@ -104,7 +103,7 @@ pub fn evaluate(
         }
         Expr::Not { of } => {
             let of = evaluate(decls, of, scope, fixings, day)?;
-            Ok(verdict(!is_true(of)))
+            Ok(verdict(!of.value.is_true()))
         }
         Expr::Logic { op, left, right } => {
             evaluate_logic(decls, *op, left, right, scope, fixings, day)
@@ -170,11 +169,11 @@ fn evaluate_logic(
     requires { Fits (declarations decls.now) (Logic op (expression left.now) (expression right.now)) (bindings scope.now) fixings.now day }
     ensures { result ≡ run_of (declarations decls.now) (Logic op (expression left.now) (expression right.now)) (bindings scope.now) fixings.now day }
 {
-    let left = is_true(evaluate(decls, left, scope, fixings, day)?);
+    let left = evaluate(decls, left, scope, fixings, day)?.value.is_true();
     if is_decided(op, left) {
         return Ok(verdict(left));
     }
-    let right = is_true(evaluate(decls, right, scope, fixings, day)?);
+    let right = evaluate(decls, right, scope, fixings, day)?.value.is_true();
     Ok(verdict(right))
 }
 
@@ -193,13 +192,13 @@ fn evaluate_branches(
     ensures { result ≡ run_of (declarations decls.now) (Cond (expression test.now) (expression yes.now) (expression no.now)) (bindings scope.now) fixings.now day }
 {
     let test = evaluate(decls, test, scope, fixings, day)?;
-    if is_true(test) {
+    if test.value.is_true() {
         let taken = evaluate(decls, yes, scope, fixings, day)?;
-        let kind = kind_of_either(taken.kind, kind_in(decls, no, scope));
+        let kind = taken.kind.either(kind_in(decls, no, scope));
         Ok(at_kind(kind, taken))
     } else {
         let taken = evaluate(decls, no, scope, fixings, day)?;
-        let kind = kind_of_either(kind_in(decls, yes, scope), taken.kind);
+        let kind = kind_in(decls, yes, scope).either(taken.kind);
         Ok(at_kind(kind, taken))
     }
 }

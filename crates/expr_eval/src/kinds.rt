@@ -13,7 +13,7 @@ ghost use Rattle.expr_eval.specs.Scopes.{bindings};
 ghost use Rattle.expr_eval.specs.KindScales.{KindFits};
 ghost use Rattle.expr_eval.specs.Evaluable.{MayEvaluate};
 
-use crate::operations::{kind_of_either, scale_of, scale_of_both};
+use crate::operations::scale_of_both;
 use crate::scopes::{Scope, kind_at};
 use crate::scratch::Scratch;
 use term_core::{Decls, Expr, Kind, Label};
@@ -22,10 +22,9 @@ use term_core::{Decls, Expr, Kind, Label};
 pub fn kind_observed(decls: &Decls, label: u32) -> Kind
     ensures { result ≡ kind_or (kind_of_label (label_of (declarations decls.now) label)) }
 {
-    match decls.labels.get_index(label as usize) {
-        Some((_, Label::Number { scale, .. })) => Kind::Number { scale: *scale },
-        Some((_, Label::Flag)) => Kind::Truth,
-        None => Kind::Truth,
+    match decls.label(label) {
+        Some(Label::Number { scale, .. }) => Kind::Number { scale },
+        Some(Label::Flag) | None => Kind::Truth,
     }
 }
 
@@ -40,7 +39,7 @@ pub fn kind_in(decls: &Decls, e: &Expr, scope: &Scope) -> Kind
         Expr::Obs { label, .. } => kind_observed(decls, *label),
         Expr::Yes { .. } | Expr::Cmp { .. } | Expr::Not { .. } | Expr::Logic { .. } => Kind::Truth,
         Expr::Neg { of } => Kind::Number {
-            scale: scale_of(kind_in(decls, of, scope)),
+            scale: kind_in(decls, of, scope).scale(),
         },
         Expr::Num { op, left, right } => {
             let left = kind_in(decls, left, scope);
@@ -52,7 +51,7 @@ pub fn kind_in(decls: &Decls, e: &Expr, scope: &Scope) -> Kind
         Expr::Cond { yes, no, .. } => {
             let yes = kind_in(decls, yes, scope);
             let no = kind_in(decls, no, scope);
-            kind_of_either(yes, no)
+            yes.either(no)
         }
         Expr::Widen { scale, .. } => Kind::Number { scale: *scale },
         Expr::Round { scale, .. } => Kind::Number { scale: *scale },

@@ -26,36 +26,6 @@ pub struct Operands {
     pub right: Typed,
 }
 
-/// The number of a value.
-pub fn number_of(of: Typed) -> i128
-    ensures { result ≡ number_in of }
-{
-    match of.value {
-        Value::Num { mant } => mant,
-        Value::Truth { .. } => 0,
-    }
-}
-
-/// Whether a truth value is true.
-pub fn is_true(of: Typed) -> bool
-    ensures { result ≡ truth_in of }
-{
-    match of.value {
-        Value::Num { .. } => false,
-        Value::Truth { value } => value,
-    }
-}
-
-/// The decimals of a kind; a truth value has none.
-pub fn scale_of(kind: Kind) -> u8
-    ensures { result ≡ scale_of_kind kind }
-{
-    match kind {
-        Kind::Truth => 0,
-        Kind::Number { scale } => scale,
-    }
-}
-
 /// A number.
 pub fn number(scale: u8, mant: i128) -> Typed
     ensures { result ≡ made.number scale mant }
@@ -82,20 +52,8 @@ pub fn scale_of_both(op: NumOp, left: Kind, right: Kind) -> u8
     ensures { result ≡ scale_of_op op (scale_of_kind left) (scale_of_kind right) }
 {
     match op {
-        NumOp::Times => scale_of(left) + scale_of(right),
-        _ => scale_of(left).max(scale_of(right)),
-    }
-}
-
-/// The kind of either of two branches.
-pub fn kind_of_either(yes: Kind, no: Kind) -> Kind
-    ensures { result ≡ tried.kind_of_either yes no }
-{
-    match (yes, no) {
-        (Kind::Truth, Kind::Truth) => Kind::Truth,
-        _ => Kind::Number {
-            scale: scale_of(yes).max(scale_of(no)),
-        },
+        NumOp::Times => left.scale() + right.scale(),
+        _ => left.scale().max(right.scale()),
     }
 }
 
@@ -106,7 +64,7 @@ pub fn at_kind(kind: Kind, of: Typed) -> Typed
 {
     let value = match of.value {
         Value::Num { mant } => Value::Num {
-            mant: align(mant, scale_of(of.kind), scale_of(kind)),
+            mant: align(mant, of.kind.scale(), kind.scale()),
         },
         Value::Truth { value } => Value::Truth { value },
     };
@@ -121,7 +79,7 @@ pub fn negate(of: Typed) -> Typed
     Typed {
         kind: of.kind,
         value: Value::Num {
-            mant: -number_of(of),
+            mant: -of.value.number(),
         },
     }
 }
@@ -164,10 +122,10 @@ pub fn combine(op: NumOp, both: Operands) -> Typed
     let right = both.right;
     let mant = operate(
         op,
-        scale_of(left.kind),
-        number_of(left),
-        scale_of(right.kind),
-        number_of(right),
+        left.kind.scale(),
+        left.value.number(),
+        right.kind.scale(),
+        right.value.number(),
     );
     number(scale_of_both(op, left.kind, right.kind), mant)
 }
@@ -191,10 +149,10 @@ pub fn compare(op: CmpOp, both: Operands) -> Typed
     requires { Compares both.left both.right }
     ensures { result ≡ made.compared op both.left both.right }
 {
-    let i = scale_of(both.left.kind);
-    let j = scale_of(both.right.kind);
-    let x = align(number_of(both.left), i, i.max(j));
-    let y = align(number_of(both.right), j, i.max(j));
+    let i = both.left.kind.scale();
+    let j = both.right.kind.scale();
+    let x = align(both.left.value.number(), i, i.max(j));
+    let y = align(both.right.value.number(), j, i.max(j));
     verdict(compare_aligned(op, x, y))
 }
 
@@ -215,7 +173,7 @@ pub fn round(mode: Mode, scale: u8, of: Typed) -> Typed
 {
     number(
         scale,
-        round_to(mode, number_of(of), scale_of(of.kind), scale),
+        round_to(mode, of.value.number(), of.kind.scale(), scale),
     )
 }
 
@@ -228,10 +186,10 @@ pub fn divide(mode: Mode, scale: u8, both: Operands) -> Typed
     let below = both.right;
     let mant = div_to(
         mode,
-        number_of(top),
-        scale_of(top.kind),
-        number_of(below),
-        scale_of(below.kind),
+        top.value.number(),
+        top.kind.scale(),
+        below.value.number(),
+        below.kind.scale(),
         scale,
     );
     number(scale, mant)
