@@ -159,7 +159,7 @@ impl Contr {
 
 impl Decls {
     /// Equal declarations.
-    pub fn copy(&self, _alloc: Global) -> Result<Decls, NoMemory>
+    pub fn copy(&self, alloc: Global) -> Result<Decls, NoMemory>
         ensures { IfOk result (λ r. declarations r ≡ declarations self.now) }
     {
         let parties = self.parties.clone()?;
