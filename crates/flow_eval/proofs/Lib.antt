@@ -1,3 +1,4 @@
+pub mod SizeFacts
 pub mod NettingFacts
 pub mod SlotFacts
 pub mod SumFacts

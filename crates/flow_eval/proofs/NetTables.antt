@@ -43,11 +43,11 @@ paid_at pays opposite first last s x true counts is f g = record { no_sooner = c
 paid_at pays opposite first last s x false counts is f g = record { no_sooner = counts.0; no_later = counts.1; some = g refl; exact = ap neg_ℤ is ∙ sym (opposite s.day (flow_at s)) }
 
 -- a row of a sum is paid
-net_paid : (pays : ℤ → Flow → ℤ) → AreOpposite pays → (first last : ℤ) (total : Slot → ℤ) → ((s : Slot) → s.lower < s.higher → s.day ≤ℤ last → total s ≡ pays s.day (flow_at s))
+net_paid : (pays : ℤ → Flow → ℤ) → AreOpposite pays → (first last : ℤ) (total : Slot → ℤ) → ((s : Slot) → s.lower < s.higher → first ≤ℤ s.day → s.day ≤ℤ last → total s ≡ pays s.day (flow_at s))
     → (row : FlowRow) → IsNet (Counts first last) total row → IsPaid pays first last row
 net_paid pays opposite first last total same row net =
     let x = total net.slot in
-    subst (IsPaid pays first last) (sym net.is) (paid_at pays opposite first last net.slot x (int_lt (pos 0) x) net.counts (same net.slot net.counts.2 net.counts.1) (above x) (λ down. below x down net.some))
+    subst (IsPaid pays first last) (sym net.is) (paid_at pays opposite first last net.slot x (int_lt (pos 0) x) net.counts (same net.slot net.counts.2 net.counts.0 net.counts.1) (above x) (λ down. below x down net.some))
 
 row_up : (s : Slot) (x : ℤ) (up : Bool) → up ≡ true
     → (if up then record { day = s.day; asset = s.asset; from = s.lower; to = s.higher; amount = x } else record { day = s.day; asset = s.asset; from = s.higher; to = s.lower; amount = neg_ℤ x }) ≡ row_for s.day (flow_at s) x
@@ -90,24 +90,24 @@ by_order P p q f g h = elim (cases_lt p q) [ inl l ↦ f l | inr l ↦ elim (cas
     level : (p q : ℕ) → q ≤ p → p ≤ q → p ≡ q
     level p q l m = omega arith
 
-to_itself : (pays : ℤ → Flow → ℤ) → AreOpposite pays → (day : ℤ) (w : Flow) → w.from ≡ w.to → pos 0 <ℤ pays day w → ⊥
+pub to_itself : (pays : ℤ → Flow → ℤ) → AreOpposite pays → (day : ℤ) (w : Flow) → w.from ≡ w.to → pos 0 <ℤ pays day w → ⊥
 to_itself pays opposite day w same some =
     let turned : reversed w ≡ w = ap (λ (x : ℕ). let v : Flow = record { from = x; to = w.from; asset = w.asset } in v) (sym same) ∙ ap (λ (x : ℕ). let v : Flow = record { from = w.from; to = x; asset = w.asset } in v) same in
     no_opposite (pays day w) (sym (ap (pays day) turned) ∙ opposite day w) some
 
 -- rows that net what is paid are the table of it
-pub table_from_net : (pays : ℤ → Flow → ℤ) → AreOpposite pays → (first last : ℤ) (from : Slot) (total : Slot → ℤ) (rows : List FlowRow) → ((s : Slot) → s.lower < s.higher → s.day ≤ℤ last → total s ≡ pays s.day (flow_at s))
+pub table_from_net : (pays : ℤ → Flow → ℤ) → AreOpposite pays → (first last : ℤ) (from : Slot) (total : Slot → ℤ) (rows : List FlowRow) → ((s : Slot) → s.lower < s.higher → first ≤ℤ s.day → s.day ≤ℤ last → total s ≡ pays s.day (flow_at s))
     → AreNet (Counts first last) from total rows → IsTable pays first last rows
 table_from_net pays opposite first last from total rows same net = record {
   ordered = net.ordered;
   right = All-weaker (IsNet (Counts first last) total) (IsPaid pays first last) (net_paid pays opposite first last total same) rows net.right;
   whole = λ day w starts due some. by_order (Contains rows (row_for day w (pays day w))) w.from w.to
-      (λ up. let s : Slot = record { day = day; asset = w.asset; lower = w.from; higher = w.to } in held_up rows total s (pays day w) some (same s up due) (net.whole s))
-      (λ down. let s : Slot = record { day = day; asset = w.asset; lower = w.to; higher = w.from } in held_down rows total s (pays day w) some (same s down due ∙ opposite day w) (net.whole s))
+      (λ up. let s : Slot = record { day = day; asset = w.asset; lower = w.from; higher = w.to } in held_up rows total s (pays day w) some (same s up starts due) (net.whole s))
+      (λ down. let s : Slot = record { day = day; asset = w.asset; lower = w.to; higher = w.from } in held_down rows total s (pays day w) some (same s down starts due ∙ opposite day w) (net.whole s))
       (λ level. absurd (to_itself pays opposite day w level some));
 }
 
-rows_net_of : (first last : ℤ) (qs : List Payment) → All (λ p. Counts first last p.slot) qs → AreInOrder qs → (from : Slot) × AreNet (Counts first last) from (λ s. sum_at s qs) (rows_of qs)
+pub rows_net_of : (first last : ℤ) (qs : List Payment) → All (λ p. Counts first last p.slot) qs → AreInOrder qs → (from : Slot) × AreNet (Counts first last) from (λ s. sum_at s qs) (rows_of qs)
 rows_net_of first last [] all order =
     let nowhere : Slot = record { day = pos 0; asset = 0; lower = 0; higher = 0 } in
     (nowhere, net_none (Counts first last) nowhere)
@@ -122,7 +122,7 @@ payments_table d env c first last ps qs fits gathered moved order =
     let all : All (λ (p : Payment). Counts first last p.slot) qs = All-permutation (λ (p : Payment). Counts first last p.slot) ps qs moved (subst (λ (xs : List Payment). All (λ (p : Payment). Counts first last p.slot) xs) (sym gathered) (payments_count d env first last c [] d.amounts first (omega (arith, ints)))) in
     let net = rows_net_of first last qs all order in
     table_from_net (paid_by d c env first) (λ day w. amounts_opposite d c env first (day -ℤ first) w) first last net.0 (λ s. sum_at s qs) (rows_of qs)
-    (λ s pair due. sum_at-permutation s ps qs moved ∙ ap (λ (xs : List Payment). sum_at s xs) gathered ∙ sum_at-payments_of d env s last c [] d.amounts first pair due fits) net.1
+    (λ s pair starts due. sum_at-permutation s ps qs moved ∙ ap (λ (xs : List Payment). sum_at s xs) gathered ∙ sum_at-payments_of d env s last c [] d.amounts first pair due fits) net.1
 
 -- ---- in other environments
 

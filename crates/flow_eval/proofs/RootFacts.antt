@@ -4,7 +4,7 @@ use Rattle.std.specs.List.Sorted.{IsPermutation}
 use Rattle.std.proofs.lemmas.Int.{ints}
 use Rattle.std.proofs.lemmas.Bool.Decides.{nat_tests}
 use Rattle.std.proofs.lemmas.List.Elements.{All-weaker}
-use Rattle.std.proofs.lemmas.List.Sorted.{All-permutation, length_permutation}
+use Rattle.std.proofs.lemmas.List.Sorted.{All-permutation}
 use Rattle.term_core.specs.Declarations.{Declarations}
 use Rattle.term_core.specs.Terms.{Contract}
 use Rattle.term_core.specs.Environments.{Environment, IsAdmitted, Place}
@@ -24,7 +24,7 @@ use Rattle.flow_eval.specs.declared.faults.FlowErr.{FlowErr}
 use Rattle.flow_eval.specs.declared.faults.FlowErr.TheVariants.{Missing, NoMemory}
 use Rattle.flow_eval.specs.declared.payments.Payment.{Payment}
 use Rattle.flow_eval.specs.declared.flow_table.FlowRow.{FlowRow}
-use Rattle.flow_eval.specs.Netting.{AreDue, AreInOrder, AreSmall, rows_of}
+use Rattle.flow_eval.specs.Netting.{AreDue, AreSmall, CanBeNetted, Nets, rows_of}
 use Rattle.flow_eval.specs.Payments.{payments_of}
 use Rattle.flow_eval.specs.Walks.{PaymentsOrMissing, payments_unless, walk_of}
 use Rattle.flow_eval.specs.Gathering.{Gathers, IsGathered}
@@ -35,6 +35,7 @@ use Rattle.flow_eval.proofs.NetTables.{payments_table, table_everywhere}
 use Rattle.flow_eval.proofs.NettingFacts.{rows_due}
 use Rattle.flow_eval.proofs.PaymentFacts.{Counts, payments_count, payments_few}
 use Rattle.flow_eval.proofs.PaymentSizes.{payments_small}
+use Rattle.flow_eval.proofs.SizeFacts.{fits_few, fits_moved}
 use Rattle.flow_eval.proofs.WalkFacts.{walk_is}
 
 -- ---- the whole
@@ -128,31 +129,28 @@ all_small d c F f last limits accepted admitted =
     All-weaker (λ (p : Payment). unsigned_abs p.amount ≤ greatest_total) (λ (p : Payment). unsigned_abs p.amount ≤ 10 ^ 30) (λ p is. total_below (unsigned_abs p.amount) is) (payments_of d d.amounts c [] F f last)
     (payments_small d F last c [] d.amounts greatest_total f (whole_fits d c F limits accepted admitted) (at_most d.amounts) safe.0.aligned_turnover)
 
-pub sorted_small : (d : Declarations) (c : Contract) (F : Environment) (f last : ℤ) (ps qs : List Payment) → KeepsLimits d → IsAccepted d c → IsAdmitted d F → walk_of d d.amounts c [] [] F f last ≡ Ok ps → IsPermutation ps qs → AreSmall (10 ^ 30) qs
-sorted_small d c F f last ps qs limits accepted admitted walked moved =
-    All-permutation (λ (p : Payment). unsigned_abs p.amount ≤ 10 ^ 30) ps qs moved (subst (λ (xs : List Payment). AreSmall (10 ^ 30) xs) (sym (whole_payments d c F f last ps walked).1) (all_small d c F f last limits accepted admitted))
-
-pub sorted_few : (d : Declarations) (c : Contract) (F : Environment) (f last : ℤ) (ps qs : List Payment) → IsAccepted d c → walk_of d d.amounts c [] [] F f last ≡ Ok ps → IsPermutation ps qs → length qs < 1_000_000
-sorted_few d c F f last ps qs accepted walked moved =
+-- the payments of a walk can be netted
+pub walked_fit : (d : Declarations) (c : Contract) (F : Environment) (f last : ℤ) (ps : List Payment) → KeepsLimits d → IsAccepted d c → IsAdmitted d F → walk_of d d.amounts c [] [] F f last ≡ Ok ps → CanBeNetted ps
+walked_fit d c F f last ps limits accepted admitted walked =
     let l = limits_of d c accepted in
     let few = l.few in
-    let same = ap (λ (xs : List Payment). length xs) (whole_payments d c F f last ps walked).1 in
-    omega (arith, length_permutation ps qs moved, payments_few d F last c [] d.amounts f)
+    let all = payments_of d d.amounts c [] F f last in
+    subst (λ (xs : List Payment). CanBeNetted xs) (sym (whole_payments d c F f last ps walked).1) (fits_few all (all_small d c F f last limits accepted admitted) (omega (arith, payments_few d F last c [] d.amounts f)))
 
 sorted_due : (d : Declarations) (c : Contract) (F : Environment) (f last : ℤ) (ps qs : List Payment) → walk_of d d.amounts c [] [] F f last ≡ Ok ps → IsPermutation ps qs → AreDue f last qs
 sorted_due d c F f last ps qs walked moved =
     All-permutation (λ (p : Payment). (f ≤ℤ p.slot.day) × (p.slot.day ≤ℤ last)) ps qs moved (subst (λ (xs : List Payment). AreDue f last xs) (sym (whole_payments d c F f last ps walked).1)
     (All-weaker (λ (p : Payment). Counts f last p.slot) (λ (p : Payment). (f ≤ℤ p.slot.day) × (p.slot.day ≤ℤ last)) (λ p is. (is.0, is.1)) (payments_of d d.amounts c [] F f last) (payments_count d F f last c [] d.amounts f (omega (arith, ints)))))
 
-pub known_flows : (d : Declarations) (c : Contract) (F : Environment) (f last : ℤ) (ps qs : List Payment) (rows : List FlowRow) → KeepsLimits d → IsAccepted d c → IsAdmitted d F → walk_of d d.amounts c [] [] F f last ≡ Ok ps → IsPermutation ps qs → AreInOrder qs → rows ≡ rows_of qs
-    → AreKnownFlows d c F f last rows
-known_flows d c F f last ps qs rows limits accepted admitted walked moved order is =
+pub known_flows : (d : Declarations) (c : Contract) (F : Environment) (f last : ℤ) (ps : List Payment) (rows : List FlowRow) → KeepsLimits d → IsAccepted d c → IsAdmitted d F → walk_of d d.amounts c [] [] F f last ≡ Ok ps → Nets ps rows → AreKnownFlows d c F f last rows
+known_flows d c F f last ps rows limits accepted admitted walked nets =
     let known = whole_payments d c F f last ps walked in
-    let table = payments_table d F c f last ps qs (whole_fits d c F limits accepted admitted) known.1 moved order in
-    subst (λ (rs : List FlowRow). AreKnownFlows d c F f last rs) (sym is) (record {
+    let qs = nets.sorted in
+    let table = payments_table d F c f last ps qs (whole_fits d c F limits accepted admitted) known.1 nets.moved nets.in_order in
+    subst (λ (rs : List FlowRow). AreKnownFlows d c F f last rs) (sym nets.netted) (record {
       fixed = known.0;
       table = λ env extends. table_everywhere d c F env f last (rows_of qs) extends known.0 table;
-      due = rows_due f last qs (sorted_due d c F f last ps qs walked moved) (sorted_small d c F f last ps qs limits accepted admitted walked moved) (sorted_few d c F f last ps qs accepted walked moved);
+      due = rows_due f last qs (sorted_due d c F f last ps qs walked nets.moved) (fits_moved ps qs nets.moved (walked_fit d c F f last ps limits accepted admitted walked));
     })
 
 pub lacking_flows : (d : Declarations) (c : Contract) (F : Environment) (f last : ℤ) (e : FlowErr) → IsGathered (walk_of d d.amounts c [] [] F f last) (Err e) → AreFlows d c F f last (Err e)

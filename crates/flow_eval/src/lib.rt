@@ -12,6 +12,8 @@ mod walk;
 pub use faults::FlowErr;
 pub use flow_table::{FlowRow, FlowTable, Slot};
 pub use laws::{one_answer, one_table};
+pub use netting::netted;
+pub use payments::{Payment, Transfer, payment_on};
 pub use tables::{flows, flows_on};
 
 #[cfg(test)]

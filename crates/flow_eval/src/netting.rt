@@ -1,9 +1,10 @@
 //! Payments, netted slot by slot.
 
-ghost use Rattle.std.specs.Prelude.{◌≡◌, ◌≤◌, ◌<◌, ◌+◌, ◌*◌, ◌^◌, ◌++◌, List, length, OnOk, IfOk, [], ◌∷◌, unsigned_abs};
-ghost use Rattle.flow_eval.specs.Netting.{AreSmall, closed, joined, row_of, rows_from, rows_of, same_slot};
+ghost use Rattle.std.specs.Prelude.{◌≡◌, ◌≤◌, ◌^◌, ◌++◌, List, OnOk, IfOk, [], ◌∷◌, unsigned_abs};
+ghost use Rattle.std.specs.List.Sorted.{IsPermutation};
+ghost use Rattle.flow_eval.specs.Netting.{AreInOrder, CanBeNetted, Nets, closed, joined, row_of, rows_from, rows_of, same_slot, taken_in};
 
-use crate::flow_table::{FlowRow, Slot};
+use crate::flow_table::{FlowRow, FlowTable, Slot};
 use crate::payments::{Payment, opposite};
 use decimal::NoMemory;
 use std::alloc::Global;
@@ -70,9 +71,9 @@ fn close(rows: &mut Vec<FlowRow>, sum: Payment) -> Result<(), NoMemory>
 // Joins a payment to the open sum, or closes that and opens the next.
 fn take_in(rows: &mut Vec<FlowRow>, sum: Payment, payment: &Payment) -> Result<Payment, NoMemory>
     requires sum { unsigned_abs sum.amount ≤ 10 ^ 36 }
-    requires payment { unsigned_abs payment.now.amount ≤ 10 ^ 30 }
+    requires payment { unsigned_abs payment.now.amount ≤ 10 ^ 36 }
     ensures rows { IfOk result (λ next. (rest : List Payment) → rows.new.items ++ rows_from next rest ≡ rows.old.items ++ rows_from sum (payment.now ∷ rest)) }
-    ensures small { IfOk result (λ next. unsigned_abs next.amount ≤ unsigned_abs sum.amount + 10 ^ 30) }
+    ensures next { IfOk result (λ next. next ≡ taken_in sum payment.now) }
 {
     if same_slot(&sum.slot, &payment.slot) {
         Ok(joined(sum, payment))
@@ -82,10 +83,9 @@ fn take_in(rows: &mut Vec<FlowRow>, sum: Payment, payment: &Payment) -> Result<P
     }
 }
 
-/// The rows of payments that stand in order of their slots.
-pub fn rows_of(alloc: Global, payments: &[Payment]) -> Result<Vec<FlowRow>, NoMemory>
-    requires small { AreSmall (10 ^ 30) payments.now }
-    requires few { length payments.now < 1_000_000 }
+// The rows of payments that stand in order of their slots.
+fn rows_of(alloc: Global, payments: &[Payment]) -> Result<Vec<FlowRow>, NoMemory>
+    requires { CanBeNetted payments.now }
     ensures { IfOk result (λ rows. rows.items ≡ rows_of payments.now) }
 {
     let mut rows = Vec::new(alloc);
@@ -98,4 +98,24 @@ pub fn rows_of(alloc: Global, payments: &[Payment]) -> Result<Vec<FlowRow>, NoMe
     }
     close(&mut rows, sum)?;
     Ok(rows)
+}
+
+// The same payments, in order of their slots.
+fn sorted(payments: Vec<Payment>) -> Result<Vec<Payment>, NoMemory>
+    ensures moved { IfOk result (λ sorted. IsPermutation payments.items sorted.items) }
+    ensures in_order { IfOk result (λ sorted. AreInOrder sorted.items) }
+{
+    let mut payments = payments;
+    payments.sort_by_key(|payment| payment.slot)?;
+    Ok(payments)
+}
+
+/// The flow table of payments: a row for each slot at which they do not come to 0, by one sort.
+pub fn netted(alloc: Global, payments: Vec<Payment>) -> Result<FlowTable, NoMemory>
+    requires { CanBeNetted payments.items }
+    ensures { IfOk result (λ table. Nets payments.items table.rows.items) }
+{
+    let payments = sorted(payments)?;
+    let rows = rows_of(alloc, &payments)?;
+    Ok(FlowTable { rows })
 }

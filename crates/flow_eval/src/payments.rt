@@ -30,8 +30,8 @@ pub fn opposite(amount: i128) -> i128
     -amount
 }
 
-// The payment of an amount by a transfer on a day.
-fn payment_on(day: i64, transfer: Transfer, amount: i128) -> Payment
+/// The payment of an amount by a transfer on a day.
+pub fn payment_on(day: i64, transfer: Transfer, amount: i128) -> Payment
     requires { unsigned_abs amount ≤ 10 ^ 30 }
     ensures { result ≡ payment_on day transfer amount }
 {

@@ -1,22 +1,19 @@
 //! The flow tables of contracts.
 
-ghost use Rattle.std.specs.Prelude.{◌≡◌, ◌≤ℤ◌, ◌≤◌, pos, IfOk, List, [], Result};
-ghost use Rattle.std.specs.List.Sorted.{IsPermutation};
+ghost use Rattle.std.specs.Prelude.{◌≤ℤ◌, pos, []};
 ghost use Rattle.term_core.specs.Declarations.{declarations};
 ghost use Rattle.term_core.specs.Terms.{contract};
 ghost use Rattle.term_core.specs.Environments.{IsAdmitted};
 ghost use Rattle.term_core.specs.Acceptance.{IsAccepted};
-ghost use Rattle.flow_eval.specs.Netting.{AreInOrder};
 ghost use Rattle.flow_eval.specs.Walks.{walk_of};
 ghost use Rattle.flow_eval.specs.Gathering.{IsGathered};
 ghost use Rattle.flow_eval.specs.FlowAnswers.{AreFlows};
 
 use crate::faults::FlowErr;
 use crate::flow_table::FlowTable;
-use crate::netting::rows_of;
+use crate::netting::netted;
 use crate::payments::Payment;
 use crate::walk::{Course, Standing, gather};
-use decimal::NoMemory;
 use expr_eval::Scratch;
 use fixing_files::Fixings;
 use std::alloc::Global;
@@ -45,16 +42,6 @@ fn payments_on(
     Ok(payments)
 }
 
-// The same payments, in order of their slots.
-fn sorted(payments: Vec<Payment>) -> Result<Vec<Payment>, NoMemory>
-    ensures moved { IfOk result (λ sorted. IsPermutation payments.items sorted.items) }
-    ensures in_order { IfOk result (λ sorted. AreInOrder sorted.items) }
-{
-    let mut payments = payments;
-    payments.sort_by_key(|payment| payment.slot)?;
-    Ok(payments)
-}
-
 /// The flow table of an accepted contract that stands on a day from 0 to 1,000,000, from that day up to `until`: a row for
 /// each day, asset and two parties between whom something is paid, in units of the portfolio's least decimal. It is the
 /// same whatever else will be observed. It lacks a place exactly where the contract reads one on these days that is not
@@ -79,9 +66,7 @@ pub fn flows_on(
         until,
     };
     let payments = payments_on(alloc, &course, c, frame)?;
-    let payments = sorted(payments)?;
-    let rows = rows_of(alloc, &payments)?;
-    Ok(FlowTable { rows })
+    Ok(netted(alloc, payments)?)
 }
 
 /// The flow table of an accepted contract that stands on the start of its portfolio, from that day up to `until`, as
