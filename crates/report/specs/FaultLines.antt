@@ -6,7 +6,7 @@ use Rattle.decimal.specs.Text.{text_of}
 use Rattle.report.specs.Pieces.{number_text}
 use Rattle.report.specs.CheckLines.{refusal_text, line_feed}
 use Rattle.report.specs.declared.fault_lines.Fault.{Fault}
-use Rattle.report.specs.declared.fault_lines.Fault.TheVariants.{Usage, Read, TooLong, Text, Day, Refused, Row, Missing}
+use Rattle.report.specs.declared.fault_lines.Fault.TheVariants.{Usage, Read, TooLong, Text, UnknownName, Day, Refused, Row, Missing}
 use Rattle.fixing_files.specs.declared.faults.RowKind.{RowKind}
 use Rattle.fixing_files.specs.declared.faults.RowKind.TheVariants as row
 
@@ -43,6 +43,7 @@ fault_text (Read place) = codes "fault read " ++ (number_text place ++ line_feed
 fault_text (TooLong place) = codes "fault too long " ++ (number_text place ++ line_feed)
 fault_text (Text f) = codes "fault text " ++ (kind_text f.kind ++ (codes " line " ++ (number_text f.line ++ (codes " column " ++ (number_text f.column ++ line_feed)))))
 fault_text (Refused name rule node) = codes "fault refused " ++ (name ++ (codes " " ++ refusal_text rule node))
+fault_text (UnknownName name) = codes "fault unknown " ++ (name ++ line_feed)
 fault_text (Day word) = codes "fault day " ++ (word ++ line_feed)
 fault_text (Row place f) =
     codes "fault row file " ++ (number_text place ++ (codes " record " ++ (number_text f.row ++ (codes " " ++ (row_text f.kind ++ (earlier_text f.kind ++ line_feed))))))

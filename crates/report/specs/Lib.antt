@@ -2,3 +2,4 @@ pub mod Pieces
 pub mod CheckLines
 pub mod FaultLines
 pub mod FlowLines
+pub mod SumTables

@@ -24,6 +24,8 @@ pub enum Fault {
     TooLong { place: u8 },
     /// A text is not in its grammar.
     Text(TextFault),
+    /// A name of the words is not declared.
+    UnknownName { name: Name },
     /// A day of the words is out of range. The word is as it was given.
     Day { word: Name },
     /// A contract that the command uses is not accepted.
@@ -115,6 +117,10 @@ pub fn fault_line(alloc: Global, out: &mut Vec<u8>, fault: &Fault) -> Result<(),
                 line_feed,
             ];
             append(alloc, out, &pieces)
+        }
+        Fault::UnknownName { name } => {
+            let words = Piece::Words(b"fault unknown ");
+            append(alloc, out, &[words, Piece::Words(name.text()), line_feed])
         }
         Fault::Day { word } => {
             let words = Piece::Words(b"fault day ");
