@@ -1,6 +1,6 @@
 -- The grammar of terms: which tokens spell which term. A part relates the tokens where it begins to those after it;
 -- declared names are those of a scope, and bound names are listed innermost first.
-use Rattle.std.specs.Prelude.{◌≡◌, Bool, true, false, List, ◌∷◌, Result, Ok, codes}
+use Rattle.std.specs.Prelude.{◌≡◌, ℕ, ℤ, Bool, true, false, List, ◌∷◌, Result, Ok, codes}
 use Rattle.term_core.specs.Terms.{Expression, Lit, Yes, Var, Obs, Neg, Num, Cmp, Not, Logic, Cond, Widen, Round, Div, Acc, Contract, Zero, Pay, Both, Scale, After, Let, Within}
 use Rattle.term_core.specs.declared.terms.NumOp.TheVariants.{Min, Max}
 use Rattle.contract_parse.specs.Tokens.{Tok}
@@ -66,31 +66,42 @@ infixed left op right = mark (codes "(") ⨟ left ⨟ op ⨟ right ⨟ mark (cod
 abbrev pub pair : Part → Part → Part
 pair left right = mark (codes "(") ⨟ left ⨟ mark (codes ",") ⨟ right ⨟ mark (codes ")")
 
--- an expression
-abbrev pub expr : Scope → List Bytes → Expression → Part
-expr s names (Lit m k) = Signed (λ negative. valued (literal_at negative) (record { mant = m; scale = k }))
-expr s names (Yes true) = word (codes "true")
-expr s names (Yes false) = word (codes "false")
-expr s names (Var back) = valued (variable_at names) back
-expr s names (Obs label offset) =
-    word (codes "obs") ⨟ pair (valued (use_at s.labels) label) (Signed (λ negative. valued (offset_at negative) offset))
-expr s names (Neg e) = word (codes "neg") ⨟ mark (codes "(") ⨟ expr s names e ⨟ mark (codes ")")
-expr s names (Not e) = word (codes "not") ⨟ mark (codes "(") ⨟ expr s names e ⨟ mark (codes ")")
-expr s names (Num Min l r) = word (codes "min") ⨟ pair (expr s names l) (expr s names r)
-expr s names (Num Max l r) = word (codes "max") ⨟ pair (expr s names l) (expr s names r)
-expr s names (Num op l r) = infixed (expr s names l) (valued operator_at (Arithmetic op)) (expr s names r)
-expr s names (Cmp op l r) = infixed (expr s names l) (valued operator_at (Comparison op)) (expr s names r)
-expr s names (Logic op l r) = infixed (expr s names l) (valued operator_at (Connective op)) (expr s names r)
-expr s names (Cond t a b) =
-    word (codes "if") ⨟ mark (codes "(") ⨟ expr s names t ⨟ mark (codes ",") ⨟ expr s names a ⨟ mark (codes ",") ⨟ expr s names b ⨟ mark (codes ")")
-expr s names (Widen k e) = word (codes "widen") ⨟ pair (valued (integer_at 27) k) (expr s names e)
-expr s names (Round m k e) =
-    word (codes "round") ⨟ mark (codes "(") ⨟ valued mode_at m ⨟ mark (codes ",") ⨟ valued (integer_at 27) k ⨟ mark (codes ",") ⨟ expr s names e ⨟ mark (codes ")")
-expr s names (Div m k a b) =
-    word (codes "div") ⨟ mark (codes "(") ⨟ valued mode_at m ⨟ mark (codes ",") ⨟ valued (integer_at 27) k ⨟ mark (codes ",") ⨟ expr s names a ⨟ mark (codes ",") ⨟ expr s names b ⨟ mark (codes ")")
+-- the part of a leaf: in a contract an observable, by its label and its offset
+abbrev pub Leaf : Type 1
+Leaf = ℕ → ℤ → Part
+
+-- an expression over leaves
+abbrev pub expr_with : Leaf → List Bytes → Expression → Part
+expr_with leaf names (Lit m k) = Signed (λ negative. valued (literal_at negative) (record { mant = m; scale = k }))
+expr_with leaf names (Yes true) = word (codes "true")
+expr_with leaf names (Yes false) = word (codes "false")
+expr_with leaf names (Var back) = valued (variable_at names) back
+expr_with leaf names (Obs label offset) = leaf label offset
+expr_with leaf names (Neg e) = word (codes "neg") ⨟ mark (codes "(") ⨟ expr_with leaf names e ⨟ mark (codes ")")
+expr_with leaf names (Not e) = word (codes "not") ⨟ mark (codes "(") ⨟ expr_with leaf names e ⨟ mark (codes ")")
+expr_with leaf names (Num Min l r) = word (codes "min") ⨟ pair (expr_with leaf names l) (expr_with leaf names r)
+expr_with leaf names (Num Max l r) = word (codes "max") ⨟ pair (expr_with leaf names l) (expr_with leaf names r)
+expr_with leaf names (Num op l r) = infixed (expr_with leaf names l) (valued operator_at (Arithmetic op)) (expr_with leaf names r)
+expr_with leaf names (Cmp op l r) = infixed (expr_with leaf names l) (valued operator_at (Comparison op)) (expr_with leaf names r)
+expr_with leaf names (Logic op l r) = infixed (expr_with leaf names l) (valued operator_at (Connective op)) (expr_with leaf names r)
+expr_with leaf names (Cond t a b) =
+    word (codes "if") ⨟ mark (codes "(") ⨟ expr_with leaf names t ⨟ mark (codes ",") ⨟ expr_with leaf names a ⨟ mark (codes ",") ⨟ expr_with leaf names b ⨟ mark (codes ")")
+expr_with leaf names (Widen k e) = word (codes "widen") ⨟ pair (valued (integer_at 27) k) (expr_with leaf names e)
+expr_with leaf names (Round m k e) =
+    word (codes "round") ⨟ mark (codes "(") ⨟ valued mode_at m ⨟ mark (codes ",") ⨟ valued (integer_at 27) k ⨟ mark (codes ",") ⨟ expr_with leaf names e ⨟ mark (codes ")")
+expr_with leaf names (Div m k a b) =
+    word (codes "div") ⨟ mark (codes "(") ⨟ valued mode_at m ⨟ mark (codes ",") ⨟ valued (integer_at 27) k ⨟ mark (codes ",") ⨟ expr_with leaf names a ⨟ mark (codes ",") ⨟ expr_with leaf names b ⨟ mark (codes ")")
 -- the name is bound in the body, which comes before the start
-expr s names (Acc body n first) =
-    SomeName (λ name. word (codes "acc") ⨟ mark (codes "(") ⨟ valued binder_at name ⨟ mark (codes ",") ⨟ expr s (name ∷ names) body ⨟ mark (codes ",") ⨟ valued (integer_at 100_000) n ⨟ mark (codes ",") ⨟ expr s names first ⨟ mark (codes ")"))
+expr_with leaf names (Acc body n first) =
+    SomeName (λ name. word (codes "acc") ⨟ mark (codes "(") ⨟ valued binder_at name ⨟ mark (codes ",") ⨟ expr_with leaf (name ∷ names) body ⨟ mark (codes ",") ⨟ valued (integer_at 100_000) n ⨟ mark (codes ",") ⨟ expr_with leaf names first ⨟ mark (codes ")"))
+
+-- `obs(label, offset)`
+abbrev pub obs_leaf : Scope → Leaf
+obs_leaf s label offset = word (codes "obs") ⨟ pair (valued (use_at s.labels) label) (Signed (λ negative. valued (offset_at negative) offset))
+
+-- an expression of a contract
+abbrev pub expr : Scope → List Bytes → Expression → Part
+expr s = expr_with (obs_leaf s)
 
 -- a contract
 abbrev pub contr : Scope → List Bytes → Contract → Part
