@@ -70,8 +70,16 @@ module _ (test : Tok → Bool) (fails : Fails test) where
   so_more End text left e = let at = (fails text left).0 in absurd cc
   so_more Stray text left e = let at = (fails text left).1 in absurd cc
 
-  pub so_takes : (t : Tok) (bytes rest : List ℕ) → tokens bytes ≡ t ∷ tokens_after t.kind rest → true ≡ test t → tokens bytes ≡ t ∷ tokens rest
-  so_takes t bytes rest starts e = starts ∙ ap (λ b. t ∷ cond b [] (tokens rest)) (so_more t.kind t.text t.left (sym e))
+  -- a token that passes is not the last
+  so_goes_on : (t : Tok) (rest : List ℕ) → true ≡ test t → t ∷ tokens_after t.kind rest ≡ t ∷ tokens rest
+  so_goes_on t rest e = ap (λ b. t ∷ cond b [] (tokens rest)) (so_more t.kind t.text t.left (sym e))
+
+  so_takes : (t : Tok) (bytes rest : List ℕ) → tokens bytes ≡ t ∷ tokens_after t.kind rest → true ≡ test t → tokens bytes ≡ t ∷ tokens rest
+  so_takes t bytes rest starts e = starts ∙ so_goes_on t rest e
+
+  -- the same of a token that is read ahead
+  pub ahead_spells : (t : Tok) (rest : List ℕ) → true ≡ test t → one test (t ∷ tokens_after t.kind rest) (tokens rest)
+  ahead_spells t rest e = (t, so_goes_on t rest e, sym e)
 
   pub so_spells : (t : Tok) (bytes rest : List ℕ) → tokens bytes ≡ t ∷ tokens_after t.kind rest → true ≡ test t → one test (tokens bytes) (tokens rest)
   so_spells t bytes rest starts e = (t, so_takes t bytes rest starts e, sym e)
@@ -94,18 +102,18 @@ kind_end Mark e = absurd cc
 kind_end End e = refl
 kind_end Stray e = absurd cc
 
-end_takes : (t : Tok) (bytes rest : List ℕ) → tokens bytes ≡ t ∷ tokens_after t.kind rest → true ≡ is_end t → tokens bytes ≡ t ∷ []
-end_takes t bytes rest starts e = starts ∙ ap (λ b. t ∷ cond b [] (tokens rest)) (kind_end t.kind (sym e))
+end_same : (t : Tok) (rest : List ℕ) → true ≡ is_end t → t ∷ tokens_after t.kind rest ≡ t ∷ []
+end_same t rest e = ap (λ b. t ∷ cond b [] (tokens rest)) (kind_end t.kind (sym e))
 
-pub end_passes : (s : Scope) (ps : List Place) (t : Tok) (bytes rest : List ℕ) → tokens bytes ≡ t ∷ tokens_after t.kind rest → true ≡ is_end t → run s (TheEnd ∷ ps) (tokens bytes) ≡ Open ps
+pub end_passes : (s : Scope) (ps : List Place) (t : Tok) (rest : List ℕ) → true ≡ is_end t → run s (TheEnd ∷ ps) (t ∷ tokens_after t.kind rest) ≡ Open ps
 unfolding run
-end_passes s ps t bytes rest starts e = rw (end_takes t bytes rest starts e) (run-next s s (TheEnd ∷ ps) ps t [] (ap (λ b. cond b (Next s ps) (Refuse Syntax)) (sym e)))
+end_passes s ps t rest e = rw (end_same t rest e) (run-next s s (TheEnd ∷ ps) ps t [] (ap (λ b. cond b (Next s ps) (Refuse Syntax)) (sym e)))
 
-pub end_spells : (t : Tok) (bytes rest : List ℕ) → tokens bytes ≡ t ∷ tokens_after t.kind rest → true ≡ is_end t → one is_end (tokens bytes) []
-end_spells t bytes rest starts e = (t, end_takes t bytes rest starts e, sym e)
+pub end_spells : (t : Tok) (rest : List ℕ) → true ≡ is_end t → one is_end (t ∷ tokens_after t.kind rest) []
+end_spells t rest e = (t, end_same t rest e, sym e)
 
-pub end_refuses : (s : Scope) (ps : List Place) (t : Tok) (bytes rest : List ℕ) → tokens bytes ≡ t ∷ tokens_after t.kind rest → false ≡ is_end t → run s (TheEnd ∷ ps) (tokens bytes) ≡ Stops Syntax t.left
-end_refuses s ps t bytes rest starts e = so_refuses is_end s (TheEnd ∷ ps) (Next s ps) t bytes rest starts e refl
+pub end_refuses : (s : Scope) (ps : List Place) (t : Tok) (rest : List ℕ) → false ≡ is_end t → run s (TheEnd ∷ ps) (t ∷ tokens_after t.kind rest) ≡ Stops Syntax t.left
+end_refuses s ps t rest e = run-refuse s (TheEnd ∷ ps) Syntax t (tokens_after t.kind rest) (ap (λ b. cond b (Next s ps) (Refuse Syntax)) (sym e))
 
 -- ---- a new name
 

@@ -65,6 +65,12 @@ shorter bytes e =
     let start = after_gap false bytes in
     omega (arith, has_byte start e, not_empty start e, length-drop (extent_at start).len start, gap_shorter false bytes)
 
+pub within : (bytes : List ℕ) → length (next_token bytes).1 ≤ length bytes
+unfolding next_token
+within bytes =
+    let start = after_gap false bytes in
+    omega (arith, length-drop (extent_at start).len start, gap_shorter false bytes)
+
 -- the bytes behind such a token are fewer than those from it on
 pub behind_shorter : (bytes : List ℕ) → is_last (next_token bytes).0.kind ≡ false → length (next_token bytes).1 < (next_token bytes).0.left
 unfolding next_token
@@ -88,6 +94,9 @@ tokens_next bytes = elim (cases_Bool (is_last (next_token bytes).0.kind)) [
   | inl last ↦ rw last refl
   | inr more ↦ rw more (ap (λ ts. (next_token bytes).0 ∷ ts) (enough (length bytes) (suc (length (next_token bytes).1)) (next_token bytes).1 (shorter bytes more) (omega arith)))
 ]
+
+pub within_pair : (bytes : List ℕ) (p : Tok × List ℕ) → next_token bytes ≡ p → length p.1 ≤ length bytes
+within_pair bytes p is = omega (arith, within bytes, ap (λ (q : Tok × List ℕ). length q.1) is)
 
 pub shorter_pair : (bytes : List ℕ) (p : Tok × List ℕ) → next_token bytes ≡ p → is_last p.0.kind ≡ false → length p.1 < length bytes
 shorter_pair bytes p is more =

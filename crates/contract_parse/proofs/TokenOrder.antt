@@ -25,9 +25,6 @@ first_left : (bytes : List ℕ) → (next_token bytes).0.left ≤ length bytes
 unfolding next_token
 first_left bytes = gap_shorter false bytes
 
-pub next_left : (bytes : List ℕ) (p : Tok × List ℕ) → p ≡ next_token bytes → p.0.left ≤ length bytes
-next_left bytes p is = subst (λ (q : Tok × List ℕ). q.0.left ≤ length bytes) (sym is) (first_left bytes)
-
 from_within : (n fuel : ℕ) (bytes : List ℕ) → length bytes ≤ n → LeftWithin n (tokens_from fuel bytes)
 unfolding tokens_from
 from_within n zero bytes h = tt
@@ -46,6 +43,10 @@ tokens_within bytes = from_within (length bytes) (suc (length bytes)) bytes (ome
 within_at : (n : ℕ) (xs : List Tok) (t : Tok) (ts : List Tok) → LeftWithin n (xs ++ t ∷ ts) → t.left ≤ n
 within_at n [] t ts h = h.0
 within_at n (x ∷ xs) t ts h = within_at n xs t ts h.1
+
+-- at most as many bytes are left where a token begins as its text has
+pub left_inside : (bytes : List ℕ) (xs : List Tok) (t : Tok) (ts : List Tok) → tokens bytes ≡ xs ++ t ∷ ts → t.left ≤ length bytes
+left_inside bytes xs t ts is = within_at (length bytes) xs t ts (subst (λ (l : List Tok). LeftWithin (length bytes) l) is (tokens_within bytes))
 
 no_token : (xs : List Tok) (t : Tok) (ts : List Tok) → [] ≡ xs ++ t ∷ ts → ⊥
 no_token [] t ts e = cc

@@ -11,12 +11,17 @@ use Rattle.contract_parse.specs.declared.heads.Operator.{Operator}
 use Rattle.contract_parse.specs.declared.heads.Operator.TheVariants as operator
 use Rattle.contract_parse.specs.declared.token.Kind.{Kind}
 use Rattle.contract_parse.specs.declared.token.Lexeme.{Lexeme}
+use Rattle.contract_parse.specs.declared.words.Lookahead.{Lookahead}
 
 abbrev pub tok_of : Lexeme → Tok
 tok_of t = record { kind = t.kind; text = t.text.now; left = t.left }
 
 abbrev pub tokens_after : Kind → List ℕ → List Tok
 tokens_after kind rest = if is_last kind then [] else tokens rest
+
+-- the tokens from one on that is read ahead
+abbrev pub tokens_ahead : Lookahead → List Tok
+tokens_ahead ahead = tok_of ahead.token ∷ tokens_after ahead.token.kind ahead.after.now
 
 -- a bound of a label, above the lower bound where there is one
 abbrev pub IsBound : Option ℤ → ℤ → Type 0

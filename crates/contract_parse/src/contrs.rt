@@ -21,18 +21,18 @@ use term_core::{Contr, Decls};
 
 // What stands behind `pay`.
 #[tactic(auto, using(crate::proofs::Parts::followed_by))]
-fn read_pay<'a>(alloc: Global, decls: &Decls, rest: &'a [u8]) -> Result<(Contr, &'a [u8]), ReadErr>
+fn read_pay<'a>(decls: &Decls, rest: &'a [u8]) -> Result<(Contr, &'a [u8]), ReadErr>
     ensures follows { (cs : List Bytes) (depth : ℕ) (names : List Bytes) (ps : List Place) → Leaves (λ r. run (scope_in decls.now cs) ps (tokens r.1.now)) result (run (scope_in decls.now cs) (contr_places (scope_in decls.now cs) depth names Head.Pay ps) (tokens rest.now)) }
     ensures spelled { IfOk result (λ r. (names : List Bytes) (ts : List Tok) → word (codes "pay") ts (tokens rest.now) → contr (scope_in decls.now []) names (contract r.0) ts (tokens r.1.now)) }
     ensures high { IfOk result (λ r. height_of_contract (contract r.0) ≡ 1) }
     ensures shorter { IfOk result (λ r. length r.1.now ≤ length rest.now) }
 {
     let rest = skip_mark(rest, b"(")?;
-    let (asset, rest) = read_use_of_set(alloc, &decls.assets, rest)?;
+    let (asset, rest) = read_use_of_set(&decls.assets, rest)?;
     let rest = skip_mark(rest, b",")?;
-    let (from, rest) = read_use_of_set(alloc, &decls.parties, rest)?;
+    let (from, rest) = read_use_of_set(&decls.parties, rest)?;
     let rest = skip_mark(rest, b",")?;
-    let (to, rest) = read_use_of_set(alloc, &decls.parties, rest)?;
+    let (to, rest) = read_use_of_set(&decls.parties, rest)?;
     let rest = skip_mark(rest, b")")?;
     Ok((Contr::Pay { asset, from, to }, rest))
 }
@@ -108,7 +108,7 @@ fn read_after<'a>(
     ensures shorter { IfOk result (λ r. length r.1.now ≤ length rest.now) }
 {
     let rest = skip_mark(rest, b"(")?;
-    let (days, rest) = read_days(alloc, &decls.templates, rest)?;
+    let (days, rest) = read_days(&decls.templates, rest)?;
     let rest = skip_mark(rest, b",")?;
     let (body, rest) = read_contr(alloc, decls, bound, depth + 1, rest)?;
     let rest = skip_mark(rest, b")")?;
@@ -165,7 +165,7 @@ fn read_within<'a>(
 {
     let (test, rest) = read_expr(alloc, decls, bound, depth + 1, rest)?;
     let rest = skip_word(rest, b"within")?;
-    let (days, rest) = read_days(alloc, &decls.templates, rest)?;
+    let (days, rest) = read_days(&decls.templates, rest)?;
     let rest = skip_word(rest, b"then")?;
     let (hit, rest) = read_contr(alloc, decls, bound, depth + 1, rest)?;
     let rest = skip_word(rest, b"else")?;
@@ -207,7 +207,7 @@ pub fn read_contr<'a>(
     };
     match head {
         Head::Zero => Ok((Contr::Zero, after)),
-        Head::Pay => read_pay(alloc, decls, after),
+        Head::Pay => read_pay(decls, after),
         Head::Both => read_both(alloc, decls, bound, depth, after),
         Head::Scale => read_scaled(alloc, decls, bound, depth, after),
         Head::After => read_after(alloc, decls, bound, depth, after),

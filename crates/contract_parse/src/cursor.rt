@@ -199,9 +199,8 @@ pub fn parse_decls(alloc: Global, cursor: &mut Cursor, bytes: &[u8]) -> Result<D
     ensures fits { Fits bytes.now cursor.new }
 {
     match read_decls(alloc, &bytes[cursor.at..]) {
-        Ok((decls, after)) => {
-            let (next, _) = token::next_token(after);
-            *cursor = after_tokens(*cursor, bytes, bytes.len() - next.left);
+        Ok((decls, ahead)) => {
+            *cursor = after_tokens(*cursor, bytes, bytes.len() - ahead.token.left);
             Ok(decls)
         }
         Err(ReadErr::Refused(refusal)) => {

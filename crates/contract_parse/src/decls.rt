@@ -9,6 +9,7 @@ ghost use Rattle.contract_parse.specs.Names.{Scope, nothing_declared, scope_of, 
 ghost use Rattle.contract_parse.specs.Spelling.{word};
 ghost use Rattle.contract_parse.specs.Statements.{Entry, NameList, Repeat, decls, name_lines, origin_line, start_line, template_line};
 ghost use Rattle.contract_parse.specs.Places.{Leaves, MoreNames, NameLines, NewIn, OriginLine, Place, StartLine, TemplateLines, decls_places, run, template_places};
+ghost use Rattle.contract_parse.specs.Reading.{tokens_ahead};
 ghost use Rattle.contract_parse.specs.declared.names.NameSet.{NameSet};
 ghost use Rattle.contract_parse.specs.declared.names.NameSet.TheVariants.{Template};
 
@@ -18,38 +19,39 @@ use crate::readers::{
     after_word, declare, read_integer, read_new_name, read_origin_date, read_separator, skip_mark,
     skip_word,
 };
+use crate::words::{Lookahead, look};
 use indexmap::{IndexMap, IndexSet};
 use std::alloc::Global;
 use term_core::{Decls, Name};
 
-fn read_origin(rest: &[u8]) -> Result<(Option<i64>, &[u8]), ReadErr>
-    ensures follows { (s : Scope) (ps : List Place) → Leaves (λ r. run s ps (tokens r.1.now)) result (run s (OriginLine ∷ ps) (tokens rest.now)) }
-    ensures spelled { IfOk result (λ r. origin_line r.0 (tokens rest.now) (tokens r.1.now)) }
-    ensures shorter { IfOk result (λ r. length r.1.now ≤ length rest.now) }
+fn read_origin<'a>(ahead: &Lookahead<'a>) -> Result<(Option<i64>, Lookahead<'a>), ReadErr>
+    ensures follows { (s : Scope) (ps : List Place) → Leaves (λ r. run s ps (tokens_ahead r.1)) result (run s (OriginLine ∷ ps) (tokens_ahead ahead.now)) }
+    ensures spelled { IfOk result (λ r. origin_line r.0 (tokens_ahead ahead.now) (tokens_ahead r.1)) }
+    ensures shorter { IfOk result (λ r. length r.1.after.now ≤ length ahead.now.after.now) }
     ensures limits { IfOk result (λ r. is_origin r.0 ≡ true) }
 {
-    match after_word(rest, b"origin") {
-        None => Ok((None, rest)),
+    match after_word(ahead, b"origin") {
+        None => Ok((None, *ahead)),
         Some(after) => {
             let (day, rest) = read_origin_date(after)?;
             let rest = skip_mark(rest, b";")?;
-            Ok((Some(day), rest))
+            Ok((Some(day), look(rest)))
         }
     }
 }
 
-fn read_start(rest: &[u8]) -> Result<(u32, &[u8]), ReadErr>
-    ensures follows { (s : Scope) (ps : List Place) → Leaves (λ r. run s ps (tokens r.1.now)) result (run s (StartLine ∷ ps) (tokens rest.now)) }
-    ensures spelled { IfOk result (λ r. start_line r.0 (tokens rest.now) (tokens r.1.now)) }
-    ensures shorter { IfOk result (λ r. length r.1.now ≤ length rest.now) }
+fn read_start<'a>(ahead: &Lookahead<'a>) -> Result<(u32, Lookahead<'a>), ReadErr>
+    ensures follows { (s : Scope) (ps : List Place) → Leaves (λ r. run s ps (tokens_ahead r.1)) result (run s (StartLine ∷ ps) (tokens_ahead ahead.now)) }
+    ensures spelled { IfOk result (λ r. start_line r.0 (tokens_ahead ahead.now) (tokens_ahead r.1)) }
+    ensures shorter { IfOk result (λ r. length r.1.after.now ≤ length ahead.now.after.now) }
     ensures limits { IfOk result (λ r. r.0 ≤ 1_000_000) }
 {
-    match after_word(rest, b"start") {
-        None => Ok((0, rest)),
+    match after_word(ahead, b"start") {
+        None => Ok((0, *ahead)),
         Some(after) => {
             let (start, rest) = read_integer(1_000_000, after)?;
             let rest = skip_mark(rest, b";")?;
-            Ok((start, rest))
+            Ok((start, look(rest)))
         }
     }
 }
@@ -79,18 +81,19 @@ fn read_name_list<'a>(
 fn read_names<'a>(
     alloc: Global,
     word: &[u8],
-    rest: &'a [u8],
-) -> Result<(IndexSet<Name>, &'a [u8]), ReadErr>
-    ensures follows { (set : NameSet) (s : Scope) (ps : List Place) → Leaves (λ r. run (with_names set r.0.keys s) ps (tokens r.1.now)) result (run (with_names set [] s) (NameLines word.now set ∷ ps) (tokens rest.now)) }
-    ensures spelled { IfOk result (λ r. name_lines word.now r.0.keys (tokens rest.now) (tokens r.1.now)) }
-    ensures few { IfOk result (λ r. index_set_len r.0 + length r.1.now ≤ length rest.now) }
+    ahead: &Lookahead<'a>,
+) -> Result<(IndexSet<Name>, Lookahead<'a>), ReadErr>
+    ensures follows { (set : NameSet) (s : Scope) (ps : List Place) → Leaves (λ r. run (with_names set r.0.keys s) ps (tokens_ahead r.1)) result (run (with_names set [] s) (NameLines word.now set ∷ ps) (tokens_ahead ahead.now)) }
+    ensures spelled { IfOk result (λ r. name_lines word.now r.0.keys (tokens_ahead ahead.now) (tokens_ahead r.1)) }
+    ensures few { IfOk result (λ r. index_set_len r.0 + length r.1.after.now ≤ length ahead.now.after.now) }
 {
     let mut names = IndexSet::new(alloc);
-    let mut rest = rest;
-    while let Some(after) = after_word(rest, word) {
-        rest = read_name_list(alloc, &mut names, after)?;
+    let mut ahead = *ahead;
+    while let Some(after) = after_word(&ahead, word) {
+        let rest = read_name_list(alloc, &mut names, after)?;
+        ahead = look(rest);
     }
-    Ok((names, rest))
+    Ok((names, ahead))
 }
 
 // A template behind its word.
@@ -116,37 +119,37 @@ fn read_template<'a>(
 
 fn read_templates<'a>(
     alloc: Global,
-    rest: &'a [u8],
-) -> Result<(IndexMap<Name, u32>, &'a [u8]), ReadErr>
-    ensures follows { (s : Scope) (ps : List Place) → Leaves (λ r. run (with_names Template (keys r.0) s) ps (tokens r.1.now)) result (run (with_names Template [] s) (TemplateLines ∷ ps) (tokens rest.now)) }
-    ensures spelled { IfOk result (λ r. Repeat (Entry template_line) [] r.0.entries (tokens rest.now) (tokens r.1.now)) }
-    ensures few { IfOk result (λ r. index_map_len r.0 + length r.1.now ≤ length rest.now) }
+    ahead: &Lookahead<'a>,
+) -> Result<(IndexMap<Name, u32>, Lookahead<'a>), ReadErr>
+    ensures follows { (s : Scope) (ps : List Place) → Leaves (λ r. run (with_names Template (keys r.0) s) ps (tokens_ahead r.1)) result (run (with_names Template [] s) (TemplateLines ∷ ps) (tokens_ahead ahead.now)) }
+    ensures spelled { IfOk result (λ r. Repeat (Entry template_line) [] r.0.entries (tokens_ahead ahead.now) (tokens_ahead r.1)) }
+    ensures few { IfOk result (λ r. index_map_len r.0 + length r.1.after.now ≤ length ahead.now.after.now) }
     ensures limits { IfOk result (λ r. are_numbers r.0.entries ≡ true) }
 {
     let mut templates = IndexMap::new(alloc);
-    let mut rest = rest;
-    while let Some(after) = after_word(rest, b"template") {
-        rest = read_template(alloc, &mut templates, after)?;
+    let mut ahead = *ahead;
+    while let Some(after) = after_word(&ahead, b"template") {
+        let rest = read_template(alloc, &mut templates, after)?;
+        ahead = look(rest);
     }
-    Ok((templates, rest))
+    Ok((templates, ahead))
 }
 
-/// The declarations that stand here, up to the last line that may belong to them.
-pub fn read_decls<'a>(alloc: Global, rest: &'a [u8]) -> Result<(Decls, &'a [u8]), ReadErr>
+/// The declarations that stand here, up to the last line that may belong to them, and the token that comes next.
+pub fn read_decls<'a>(alloc: Global, rest: &'a [u8]) -> Result<(Decls, Lookahead<'a>), ReadErr>
     requires { length rest.now ≤ 16_777_216 }
-    ensures follows { (ps : List Place) → Leaves (λ r. run (scope_of (declarations r.0) []) ps (tokens r.1.now)) result (run nothing_declared (decls_places ps) (tokens rest.now)) }
-    ensures spelled { IfOk result (λ r. decls (declarations r.0) (tokens rest.now) (tokens r.1.now)) }
-    ensures shorter { IfOk result (λ r. length r.1.now ≤ length rest.now) }
+    ensures follows { (ps : List Place) → Leaves (λ r. run (scope_of (declarations r.0) []) ps (tokens_ahead r.1)) result (run nothing_declared (decls_places ps) (tokens rest.now)) }
+    ensures spelled { IfOk result (λ r. decls (declarations r.0) (tokens rest.now) (tokens_ahead r.1)) }
 {
     let rest = skip_word(rest, b"amounts")?;
     let (amounts, rest) = read_integer(12, rest)?;
     let rest = skip_mark(rest, b";")?;
-    let (origin, rest) = read_origin(rest)?;
-    let (start, rest) = read_start(rest)?;
-    let (parties, rest) = read_names(alloc, b"party", rest)?;
-    let (assets, rest) = read_names(alloc, b"asset", rest)?;
-    let (labels, rest) = read_labels(alloc, rest)?;
-    let (templates, rest) = read_templates(alloc, rest)?;
+    let (origin, ahead) = read_origin(&look(rest))?;
+    let (start, ahead) = read_start(&ahead)?;
+    let (parties, ahead) = read_names(alloc, b"party", &ahead)?;
+    let (assets, ahead) = read_names(alloc, b"asset", &ahead)?;
+    let (labels, ahead) = read_labels(alloc, &ahead)?;
+    let (templates, ahead) = read_templates(alloc, &ahead)?;
     let amounts = amounts as u8;
     let decls = Decls {
         amounts,
@@ -157,5 +160,5 @@ pub fn read_decls<'a>(alloc: Global, rest: &'a [u8]) -> Result<(Decls, &'a [u8])
         labels,
         templates,
     };
-    Ok((decls, rest))
+    Ok((decls, ahead))
 }

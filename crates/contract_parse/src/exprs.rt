@@ -64,18 +64,14 @@ fn read_negative(rest: &[u8]) -> Result<(Expr, &[u8]), ReadErr>
 }
 
 // What stands behind `obs`.
-fn read_observable<'a>(
-    alloc: Global,
-    decls: &Decls,
-    rest: &'a [u8],
-) -> Result<(Expr, &'a [u8]), ReadErr>
+fn read_observable<'a>(decls: &Decls, rest: &'a [u8]) -> Result<(Expr, &'a [u8]), ReadErr>
     ensures follows { (cs : List Bytes) (depth : ℕ) (names : List Bytes) (ps : List Place) → Leaves (λ r. run (scope_in decls.now cs) ps (tokens r.1.now)) result (run (scope_in decls.now cs) (expr_places (scope_in decls.now cs) depth names First.Obs ps) (tokens rest.now)) }
     ensures spelled { IfOk result (λ r. (names : List Bytes) (ts : List Tok) → word (codes "obs") ts (tokens rest.now) → expr (scope_in decls.now []) names (expression r.0) ts (tokens r.1.now)) }
     ensures high { IfOk result (λ r. height (expression r.0) ≡ 1) }
     ensures shorter { IfOk result (λ r. length r.1.now ≤ length rest.now) }
 {
     let rest = skip_mark(rest, b"(")?;
-    let (label, rest) = read_use_of_map(alloc, &decls.labels, rest)?;
+    let (label, rest) = read_use_of_map(&decls.labels, rest)?;
     let rest = skip_mark(rest, b",")?;
     let (offset, rest) = read_offset(rest)?;
     let rest = skip_mark(rest, b")")?;
@@ -432,7 +428,7 @@ pub fn read_expr<'a>(
         First::False => Ok((Expr::Yes { value: false }, after)),
         First::Minus => read_negative(after),
         First::Open => read_infix(alloc, decls, bound, depth, after),
-        First::Obs => read_observable(alloc, decls, after),
+        First::Obs => read_observable(decls, after),
         First::Neg => read_neg(alloc, decls, bound, depth, after),
         First::Not => read_not(alloc, decls, bound, depth, after),
         First::Min => read_min(alloc, decls, bound, depth, after),

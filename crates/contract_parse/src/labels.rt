@@ -8,12 +8,14 @@ ghost use Rattle.contract_parse.specs.Spelling.{word};
 ghost use Rattle.contract_parse.specs.Statements.{Entry, Repeat, label_line};
 ghost use Rattle.contract_parse.specs.DeclarationReading.{label_range};
 ghost use Rattle.contract_parse.specs.Places.{LabelLines, Leaves, Place, ScaleAt, TheMark, flag_places, number_label_places, run};
+ghost use Rattle.contract_parse.specs.Reading.{tokens_ahead};
 ghost use Rattle.contract_parse.specs.declared.names.NameSet.TheVariants.{Label as LabelSet};
 
 use crate::faults::ReadErr;
 use crate::readers::{
     after_word, read_bound, read_label_scale, read_new_name, skip_mark, skip_word,
 };
+use crate::words::{Lookahead, look};
 use indexmap::IndexMap;
 use std::alloc::Global;
 use term_core::{Label, Name};
@@ -76,22 +78,24 @@ fn read_flag<'a>(
 /// The labels that are declared from here on.
 pub fn read_labels<'a>(
     alloc: Global,
-    rest: &'a [u8],
-) -> Result<(IndexMap<Name, Label>, &'a [u8]), ReadErr>
-    ensures follows { (s : Scope) (ps : List Place) → Leaves (λ r. run (with_names LabelSet (keys r.0) s) ps (tokens r.1.now)) result (run (with_names LabelSet [] s) (LabelLines ∷ ps) (tokens rest.now)) }
-    ensures spelled { IfOk result (λ r. Repeat (Entry label_line) [] r.0.entries (tokens rest.now) (tokens r.1.now)) }
-    ensures few { IfOk result (λ r. index_map_len r.0 + length r.1.now ≤ length rest.now) }
+    ahead: &Lookahead<'a>,
+) -> Result<(IndexMap<Name, Label>, Lookahead<'a>), ReadErr>
+    ensures follows { (s : Scope) (ps : List Place) → Leaves (λ r. run (with_names LabelSet (keys r.0) s) ps (tokens_ahead r.1)) result (run (with_names LabelSet [] s) (LabelLines ∷ ps) (tokens_ahead ahead.now)) }
+    ensures spelled { IfOk result (λ r. Repeat (Entry label_line) [] r.0.entries (tokens_ahead ahead.now) (tokens_ahead r.1)) }
+    ensures few { IfOk result (λ r. index_map_len r.0 + length r.1.after.now ≤ length ahead.now.after.now) }
     ensures limits { IfOk result (λ r. are_labels r.0.entries ≡ true) }
 {
     let mut labels = IndexMap::new(alloc);
-    let mut rest = rest;
+    let mut ahead = *ahead;
     loop {
-        if let Some(after) = after_word(rest, b"num") {
-            rest = read_number_label(alloc, &mut labels, after)?;
-        } else if let Some(after) = after_word(rest, b"flag") {
-            rest = read_flag(alloc, &mut labels, after)?;
+        if let Some(after) = after_word(&ahead, b"num") {
+            let rest = read_number_label(alloc, &mut labels, after)?;
+            ahead = look(rest);
+        } else if let Some(after) = after_word(&ahead, b"flag") {
+            let rest = read_flag(alloc, &mut labels, after)?;
+            ahead = look(rest);
         } else {
-            return Ok((labels, rest));
+            return Ok((labels, ahead));
         }
     }
 }

@@ -1,12 +1,10 @@
 //! Names: those that a text declares, and those that are bound round a place.
-ghost use Rattle.std.specs.Prelude.{◌≡◌, ◌≤◌, ◌<◌, ◌^◌, IfOk, IfSome, length};
+ghost use Rattle.std.specs.Prelude.{◌≡◌, ◌≤◌, ◌<◌, ◌^◌, IfSome, length};
 ghost use Rattle.indexmap.specs.IndexMap.{index_map_len, keys};
 ghost use Rattle.indexmap.specs.IndexSet.{index_set_len};
 ghost use Rattle.contract_parse.specs.Names.{back_to, is_declared, names_in, place_in};
 
-use decimal::NoMemory;
 use indexmap::{IndexMap, IndexSet};
-use std::alloc::Global;
 use term_core::Name;
 
 /// The sets of names that a text declares.
@@ -51,33 +49,23 @@ pub fn back_to(bound: &Bound<'_>, name: &[u8]) -> Option<u32>
 }
 
 /// The place of a name in a set.
-pub fn place_in_set(
-    alloc: Global,
-    names: &IndexSet<Name>,
-    text: &[u8],
-) -> Result<Option<u32>, NoMemory>
+pub fn place_in_set(names: &IndexSet<Name>, text: &[u8]) -> Option<u32>
     requires { index_set_len names.now < 2 ^ 32 }
-    ensures { IfOk result (λ place. place ≡ place_in names.now.keys text.now) }
+    ensures { result ≡ place_in names.now.keys text.now }
 {
-    let name = Name::new(alloc, text)?;
-    match names.get_index_of(&name) {
-        Some(place) => Ok(Some(place as u32)),
-        None => Ok(None),
+    match names.get_index_of(text) {
+        Some(place) => Some(place as u32),
+        None => None,
     }
 }
 
 /// The place of a name in a map.
-pub fn place_in_map<V>(
-    alloc: Global,
-    names: &IndexMap<Name, V>,
-    text: &[u8],
-) -> Result<Option<u32>, NoMemory>
+pub fn place_in_map<V>(names: &IndexMap<Name, V>, text: &[u8]) -> Option<u32>
     requires { index_map_len names.now < 2 ^ 32 }
-    ensures { IfOk result (λ place. place ≡ place_in (keys names.now) text.now) }
+    ensures { result ≡ place_in (keys names.now) text.now }
 {
-    let name = Name::new(alloc, text)?;
-    match names.get_index_of(&name) {
-        Some(place) => Ok(Some(place as u32)),
-        None => Ok(None),
+    match names.get_index_of(text) {
+        Some(place) => Some(place as u32),
+        None => None,
     }
 }

@@ -7,7 +7,7 @@ ghost use Rattle.contract_parse.specs.Names.{nothing_declared};
 ghost use Rattle.contract_parse.specs.Spelling.{word};
 ghost use Rattle.contract_parse.specs.Statements.{Entry, Repeat, contract_line, portfolio};
 ghost use Rattle.contract_parse.specs.Places.{ContractLines, Leaves, Open, Place, contract_places, run, text_places};
-ghost use Rattle.contract_parse.specs.Reading.{scope_in};
+ghost use Rattle.contract_parse.specs.Reading.{scope_in, tokens_ahead};
 ghost use Rattle.contract_parse.specs.ContractReading.{trees};
 ghost use Rattle.contract_parse.specs.Texts.{Answers};
 
@@ -18,6 +18,7 @@ use crate::faults::{ParseErr, ReadErr};
 use crate::lines::fault_at;
 use crate::names::Bound;
 use crate::readers::{after_word, read_end, read_new_name, skip_mark, skip_version, skip_word};
+use crate::words::{Lookahead, look};
 use indexmap::IndexMap;
 use std::alloc::Global;
 use term_core::{Contr, Decls, Name, Portfolio};
@@ -44,17 +45,18 @@ fn read_contract<'a>(
 fn read_contracts<'a>(
     alloc: Global,
     decls: &Decls,
-    rest: &'a [u8],
-) -> Result<(IndexMap<Name, Contr>, &'a [u8]), ReadErr>
-    ensures follows { (ps : List Place) → Leaves (λ r. run (scope_in decls.now (keys r.0)) ps (tokens r.1.now)) result (run (scope_in decls.now []) (ContractLines ∷ ps) (tokens rest.now)) }
-    ensures spelled { IfOk result (λ r. Repeat (Entry (contract_line (scope_in decls.now []))) [] (trees r.0.entries) (tokens rest.now) (tokens r.1.now)) }
+    ahead: &Lookahead<'a>,
+) -> Result<(IndexMap<Name, Contr>, Lookahead<'a>), ReadErr>
+    ensures follows { (ps : List Place) → Leaves (λ r. run (scope_in decls.now (keys r.0)) ps (tokens_ahead r.1)) result (run (scope_in decls.now []) (ContractLines ∷ ps) (tokens_ahead ahead.now)) }
+    ensures spelled { IfOk result (λ r. Repeat (Entry (contract_line (scope_in decls.now []))) [] (trees r.0.entries) (tokens_ahead ahead.now) (tokens_ahead r.1)) }
 {
     let mut contracts = IndexMap::new(alloc);
-    let mut rest = rest;
-    while let Some(after) = after_word(rest, b"contract") {
-        rest = read_contract(alloc, decls, &mut contracts, after)?;
+    let mut ahead = *ahead;
+    while let Some(after) = after_word(&ahead, b"contract") {
+        let rest = read_contract(alloc, decls, &mut contracts, after)?;
+        ahead = look(rest);
     }
-    Ok((contracts, rest))
+    Ok((contracts, ahead))
 }
 
 fn read_portfolio(alloc: Global, bytes: &[u8]) -> Result<Portfolio, ReadErr>
@@ -65,9 +67,9 @@ fn read_portfolio(alloc: Global, bytes: &[u8]) -> Result<Portfolio, ReadErr>
     let rest = skip_word(bytes, b"portfolio")?;
     let rest = skip_version(rest)?;
     let rest = skip_mark(rest, b";")?;
-    let (decls, rest) = read_decls(alloc, rest)?;
-    let (contracts, rest) = read_contracts(alloc, &decls, rest)?;
-    read_end(rest)?;
+    let (decls, ahead) = read_decls(alloc, rest)?;
+    let (contracts, ahead) = read_contracts(alloc, &decls, &ahead)?;
+    read_end(&ahead)?;
     Ok(Portfolio { decls, contracts })
 }
 

@@ -10,7 +10,7 @@ ghost use Rattle.contract_parse.specs.Judgements.{binder_at, bound_at, days_at, 
 ghost use Rattle.contract_parse.specs.Spelling.{Signed, end, mark, one, valued, word};
 ghost use Rattle.contract_parse.specs.Statements.{Added};
 ghost use Rattle.contract_parse.specs.Places.{BinderAt, BoundAt, BoundNumber, DaysAt, IntegerAt, Leaves, LiteralNumber, ModeAt, MoreNames, NewIn, OffsetAt, OffsetNumber, Open, OperatorAt, OriginDate, Place, ScaleAt, TheEnd, TheMark, TheVersion, TheWord, UseOf, binder_places, bound_places, list_places, range_places, run};
-ghost use Rattle.contract_parse.specs.Reading.{IsBetween, IsBound, Lacks, tok_of};
+ghost use Rattle.contract_parse.specs.Reading.{IsBetween, IsBound, Lacks, tok_of, tokens_ahead};
 ghost use Rattle.contract_parse.specs.declared.names.NameSet.{NameSet};
 ghost use Rattle.contract_parse.specs.declared.heads.Binder.{Binder};
 
@@ -21,7 +21,7 @@ use crate::judges::{
     origin_at, refuse, separator_at,
 };
 use crate::names::{place_in_map, place_in_set};
-use crate::words::{is_end, is_integer, is_name, is_the_mark, is_the_word, next};
+use crate::words::{Lookahead, is_end, is_integer, is_name, is_the_mark, is_the_word, next};
 use decimal::{Decimal, Mode};
 use indexmap::{IndexMap, IndexSet};
 use std::alloc::Global;
@@ -68,27 +68,25 @@ pub fn skip_version(rest: &[u8]) -> Result<&[u8], ReadErr>
 }
 
 /// The end of the text.
-pub fn read_end(rest: &[u8]) -> Result<(), ReadErr>
-    ensures follows { (s : Scope) (ps : List Place) → Leaves (λ _. Open ps) result (run s (TheEnd ∷ ps) (tokens rest.now)) }
-    ensures spelled { OnOk result (end (tokens rest.now) []) }
+pub fn read_end(ahead: &Lookahead<'_>) -> Result<(), ReadErr>
+    ensures follows { (s : Scope) (ps : List Place) → Leaves (λ _. Open ps) result (run s (TheEnd ∷ ps) (tokens_ahead ahead.now)) }
+    ensures spelled { OnOk result (end (tokens_ahead ahead.now) []) }
 {
-    let (token, _) = next(rest);
-    if is_end(&token) {
+    if is_end(&ahead.token) {
         Ok(())
     } else {
-        Err(refuse(TextKind::Syntax, &token))
+        Err(refuse(TextKind::Syntax, &ahead.token))
     }
 }
 
-/// The text after a word, if that stands next.
-pub fn after_word<'a>(rest: &'a [u8], wanted: &[u8]) -> Option<&'a [u8]>
-    ensures found { IfSome result (λ r. word wanted.now (tokens rest.now) (tokens r.now)) }
-    ensures lacks { IfNone result (Lacks wanted.now (tokens rest.now)) }
-    ensures shorter { IfSome result (λ r. length r.now < length rest.now) }
+/// The text after a word, if that comes next.
+pub fn after_word<'a>(ahead: &Lookahead<'a>, wanted: &[u8]) -> Option<&'a [u8]>
+    ensures found { IfSome result (λ r. word wanted.now (tokens_ahead ahead.now) (tokens r.now)) }
+    ensures lacks { IfNone result (Lacks wanted.now (tokens_ahead ahead.now)) }
+    ensures after { IfSome result (λ r. r.now ≡ ahead.now.after.now) }
 {
-    let (token, after) = next(rest);
-    if is_the_word(&token, wanted) {
-        Some(after)
+    if is_the_word(&ahead.token, wanted) {
+        Some(ahead.after)
     } else {
         None
     }
@@ -272,7 +270,6 @@ pub fn read_operator(rest: &[u8]) -> Result<(Operator, &[u8]), ReadErr>
 
 /// The place of a declared name of a set.
 pub fn read_use_of_set<'a>(
-    alloc: Global,
     names: &IndexSet<Name>,
     rest: &'a [u8],
 ) -> Result<(u32, &'a [u8]), ReadErr>
@@ -285,7 +282,7 @@ pub fn read_use_of_set<'a>(
     if !is_name(&token) {
         return Err(refuse(TextKind::Syntax, &token));
     }
-    match place_in_set(alloc, names, token.text)? {
+    match place_in_set(names, token.text) {
         Some(place) => Ok((place, after)),
         None => Err(refuse(TextKind::Unknown, &token)),
     }
@@ -293,7 +290,6 @@ pub fn read_use_of_set<'a>(
 
 /// The place of a declared name of a map.
 pub fn read_use_of_map<'a, V>(
-    alloc: Global,
     names: &IndexMap<Name, V>,
     rest: &'a [u8],
 ) -> Result<(u32, &'a [u8]), ReadErr>
@@ -306,7 +302,7 @@ pub fn read_use_of_map<'a, V>(
     if !is_name(&token) {
         return Err(refuse(TextKind::Syntax, &token));
     }
-    match place_in_map(alloc, names, token.text)? {
+    match place_in_map(names, token.text) {
         Some(place) => Ok((place, after)),
         None => Err(refuse(TextKind::Unknown, &token)),
     }
@@ -314,7 +310,6 @@ pub fn read_use_of_map<'a, V>(
 
 /// A count of days: a number, or the name of a template.
 pub fn read_days<'a>(
-    alloc: Global,
     templates: &IndexMap<Name, u32>,
     rest: &'a [u8],
 ) -> Result<(Days, &'a [u8]), ReadErr>
@@ -333,7 +328,7 @@ pub fn read_days<'a>(
     if !is_name(&token) {
         return Err(refuse(TextKind::Syntax, &token));
     }
-    match place_in_map(alloc, templates, token.text)? {
+    match place_in_map(templates, token.text) {
         Some(template) => Ok((Days::Named { template }, after)),
         None => Err(refuse(TextKind::Unknown, &token)),
     }
@@ -376,10 +371,9 @@ pub fn read_new_name<'a, V>(
     if !is_name(&token) {
         return Err(refuse(TextKind::Syntax, &token));
     }
-    let name = Name::new(alloc, token.text)?;
-    if names.contains_key(&name) {
-        Err(refuse(TextKind::Twice, &token))
-    } else {
-        Ok((name, after))
+    if names.contains_key(token.text) {
+        return Err(refuse(TextKind::Twice, &token));
     }
+    let name = Name::new(alloc, token.text)?;
+    Ok((name, after))
 }

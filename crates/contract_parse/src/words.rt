@@ -1,12 +1,19 @@
 //! What a token is to the grammar.
-ghost use Rattle.std.specs.Prelude.{◌≡◌, ◌<◌, ◌∷◌, ◌==◌, false, length, not};
+ghost use Rattle.std.specs.Prelude.{◌≡◌, ◌≤◌, ◌<◌, ◌∷◌, ◌==◌, false, length, not};
 ghost use Rattle.std.specs.List.{list_all, list_any};
 ghost use Rattle.std.specs.Str.{bytes_eq};
 ghost use Rattle.contract_parse.specs.Tokens.{is_last, tokens};
 ghost use Rattle.contract_parse.specs.Words.{is_date, is_end, is_integer, is_name, is_number, is_reserved, is_the_mark, is_the_word, reserved_of_five, reserved_of_four, reserved_of_more, reserved_of_three, reserved_of_two};
-ghost use Rattle.contract_parse.specs.Reading.{tok_of, tokens_after};
+ghost use Rattle.contract_parse.specs.Reading.{tok_of, tokens_after, tokens_ahead};
 
 use crate::token::{Kind, Lexeme, next_token};
+
+/// The token that comes next, read ahead, and the text after it.
+#[derive(Clone, Copy, Debug)]
+pub struct Lookahead<'a> {
+    pub token: Lexeme<'a>,
+    pub after: &'a [u8],
+}
 
 fn is_reserved_of_two(text: &[u8]) -> bool
     ensures { result ≡ list_any (λ w. bytes_eq text.now w) reserved_of_two }
@@ -94,8 +101,18 @@ fn is_reserved(text: &[u8]) -> bool
 pub fn next(rest: &[u8]) -> (Lexeme<'_>, &[u8])
     ensures starts { tokens rest.now ≡ tok_of result.0 ∷ tokens_after result.0.kind result.1.now }
     ensures shorter { is_last result.0.kind ≡ false → length result.1.now < length rest.now }
+    ensures within { length result.1.now ≤ length rest.now }
 {
     next_token(rest)
+}
+
+/// The same, as one value that a reader may hand on.
+pub fn look(rest: &[u8]) -> Lookahead<'_>
+    ensures same { tokens_ahead result ≡ tokens rest.now }
+    ensures within { length result.after.now ≤ length rest.now }
+{
+    let (token, after) = next(rest);
+    Lookahead { token, after }
 }
 
 pub fn is_the_word(token: &Lexeme<'_>, word: &[u8]) -> bool

@@ -6,16 +6,17 @@ use Rattle.contract_parse.specs.Names.{nothing_declared, scope_of}
 use Rattle.contract_parse.specs.Statements.{decls}
 use Rattle.contract_parse.specs.Places.{AnyTokens, Place, decls_places, run}
 use Rattle.contract_parse.specs.Cursors.{Position, TakesDecls}
+use Rattle.contract_parse.specs.Reading.{tok_of, tokens_after, tokens_ahead}
 use Rattle.contract_parse.specs.contracts.cursor.Cursor.{the_view}
-use Rattle.contract_parse.proofs.DeclsTaken.{decls_taken}
-use Rattle.contract_parse.proofs.TokenOrder.{next_left, stop_inside}
+use Rattle.contract_parse.proofs.DeclsTaken.{decls_taken, next_inside}
+use Rattle.contract_parse.proofs.TokenOrder.{stop_inside}
 use Rattle.contract_parse.proofs.cursor.parse_decls.Goals as goal
 
 pub overflow_sub-bytes : goal.overflow_sub-bytes
 overflow_sub-bytes c =
-    let left = next_left c.in-Ok.after.now _ c.next_token.ensures in
+    let inside = next_inside (take (length c.args.bytes.now - c.cursor.inside.at) (drop c.cursor.inside.at c.args.bytes.now)) (declarations c.in-Ok.decls) (tok_of c.in-Ok.ahead.token) (tokens_after c.in-Ok.ahead.token.kind c.in-Ok.ahead.after.now) c.in-Ok.ensures.spelled in
     let rest = length-take (length c.args.bytes.now - c.cursor.inside.at) (drop c.cursor.inside.at c.args.bytes.now) in
-    omega (arith, left, c.in-Ok.ensures.shorter, rest, length-drop c.cursor.inside.at c.args.bytes.now)
+    omega (arith, inside, rest)
 
 pub overflow_sub-bytes-in-Err-Refused : goal.overflow_sub-bytes-in-Err-Refused
 overflow_sub-bytes-in-Err-Refused c =
@@ -38,9 +39,9 @@ returns-in-Ok-clause-taken c =
     let d = declarations c.in-Ok.decls in
     let old : Position = record { at = c.cursor.inside.at; line = c.cursor.inside.line; column = c.cursor.inside.column } in
     let rest = take_rest bytes c.cursor.inside.at in
-    let spelled = subst (λ (l : List ℕ). decls d (tokens l) (tokens c.in-Ok.after.now)) rest c.in-Ok.ensures.spelled in
-    let whole : (ps : List Place) → run nothing_declared (decls_places ps) (tokens (drop c.cursor.inside.at bytes)) ≡ run (scope_of d []) ps (tokens c.in-Ok.after.now) =
-    λ ps. subst (λ (l : List ℕ). run nothing_declared (decls_places ps) (tokens l) ≡ run (scope_of d []) ps (tokens c.in-Ok.after.now)) rest (c.in-Ok.ensures.follows ps) in
-    let taken = decls_taken bytes old c.after_tokens.result d c.in-Ok.after.now _ spelled whole c.next_token.ensures c.after_tokens.ensures.passed in
+    let spelled = subst (λ (l : List ℕ). decls d (tokens l) (tokens_ahead c.in-Ok.ahead)) rest c.in-Ok.ensures.spelled in
+    let whole : (ps : List Place) → run nothing_declared (decls_places ps) (tokens (drop c.cursor.inside.at bytes)) ≡ run (scope_of d []) ps (tokens_ahead c.in-Ok.ahead) =
+    λ ps. subst (λ (l : List ℕ). run nothing_declared (decls_places ps) (tokens l) ≡ run (scope_of d []) ps (tokens_ahead c.in-Ok.ahead)) rest (c.in-Ok.ensures.follows ps) in
+    let taken = decls_taken bytes old c.after_tokens.result d (tok_of c.in-Ok.ahead.token) (tokens_after c.in-Ok.ahead.token.kind c.in-Ok.ahead.after.now) spelled whole c.after_tokens.ensures.passed in
     subst (λ (p : Position). TakesDecls bytes p d (the_view c.cursor-in-Ok.inside)) c.cursor.view_is
     (subst (λ (p : Position). TakesDecls bytes old d p) (sym c.cursor-in-Ok.view_is) taken)

@@ -1,11 +1,13 @@
-use Rattle.std.proofs.Common.{◌∙◌, ◌∷◌}
+use Rattle.std.proofs.Common.{◌∙◌, ◌∷◌, List, ap, subst, sym}
 use Rattle.std.specs.Prelude.{codes}
 use Rattle.std.proofs.lemmas.Result.{err_from_is_err_and}
 use Rattle.indexmap.specs.IndexMap.{keys}
-use Rattle.contract_parse.specs.Tokens.{tokens}
+use Rattle.contract_parse.specs.Tokens.{Tok, tokens}
 use Rattle.contract_parse.specs.Names.{nothing_declared, with_names}
-use Rattle.contract_parse.specs.Places.{IntegerAt, LabelLines, NameLines, OriginLine, StartLine, TemplateLines, TheMark}
+use Rattle.contract_parse.specs.Reading.{tokens_ahead}
+use Rattle.contract_parse.specs.Places.{IntegerAt, LabelLines, NameLines, OriginLine, StartLine, TemplateLines, TheMark, run}
 use Rattle.contract_parse.specs.declared.names.NameSet.TheVariants.{Party, Asset, Label as LabelSet}
+use Rattle.contract_parse.specs.Spelling.{mark}
 use Rattle.contract_parse.proofs.Parts.{followed_by}
 use Rattle.contract_parse.proofs.decls.read_decls.Goals as goal
 
@@ -18,6 +20,7 @@ returns-in_err-parties-clause-follows c ps =
     c.in_ok-rest.ensures.follows nothing_declared (IntegerAt 12 ∷ TheMark (codes ";") ∷ OriginLine ∷ StartLine ∷ names)
     ∙ c.in_ok-amounts.ensures.follows nothing_declared (TheMark (codes ";") ∷ OriginLine ∷ StartLine ∷ names)
     ∙ c.in_ok-rest-2.ensures.follows nothing_declared (OriginLine ∷ StartLine ∷ names)
+    ∙ ap (run nothing_declared (OriginLine ∷ StartLine ∷ names)) (sym c.look.ensures.same)
     ∙ c.in_ok-origin.ensures.follows nothing_declared (StartLine ∷ names)
     ∙ c.in_ok-start.ensures.follows nothing_declared names in
     rw (p.1, p.2, before) (c.in_err-parties.ensures.follows Party nothing_declared (NameLines (codes "asset") Asset ∷ labels))
@@ -32,6 +35,7 @@ returns-in_err-assets-clause-follows c ps =
     c.in_ok-rest.ensures.follows nothing_declared (IntegerAt 12 ∷ TheMark (codes ";") ∷ OriginLine ∷ StartLine ∷ names)
     ∙ c.in_ok-amounts.ensures.follows nothing_declared (TheMark (codes ";") ∷ OriginLine ∷ StartLine ∷ names)
     ∙ c.in_ok-rest-2.ensures.follows nothing_declared (OriginLine ∷ StartLine ∷ names)
+    ∙ ap (run nothing_declared (OriginLine ∷ StartLine ∷ names)) (sym c.look.ensures.same)
     ∙ c.in_ok-origin.ensures.follows nothing_declared (StartLine ∷ names)
     ∙ c.in_ok-start.ensures.follows nothing_declared names
     ∙ c.in_ok-parties.ensures.follows Party nothing_declared (NameLines (codes "asset") Asset ∷ labels) in
@@ -48,6 +52,7 @@ returns-in_err-labels-clause-follows c ps =
     c.in_ok-rest.ensures.follows nothing_declared (IntegerAt 12 ∷ TheMark (codes ";") ∷ OriginLine ∷ StartLine ∷ names)
     ∙ c.in_ok-amounts.ensures.follows nothing_declared (TheMark (codes ";") ∷ OriginLine ∷ StartLine ∷ names)
     ∙ c.in_ok-rest-2.ensures.follows nothing_declared (OriginLine ∷ StartLine ∷ names)
+    ∙ ap (run nothing_declared (OriginLine ∷ StartLine ∷ names)) (sym c.look.ensures.same)
     ∙ c.in_ok-origin.ensures.follows nothing_declared (StartLine ∷ names)
     ∙ c.in_ok-start.ensures.follows nothing_declared names
     ∙ c.in_ok-parties.ensures.follows Party nothing_declared (NameLines (codes "asset") Asset ∷ labels)
@@ -66,6 +71,7 @@ returns-in_err-templates-clause-follows c ps =
     c.in_ok-rest.ensures.follows nothing_declared (IntegerAt 12 ∷ TheMark (codes ";") ∷ OriginLine ∷ StartLine ∷ names)
     ∙ c.in_ok-amounts.ensures.follows nothing_declared (TheMark (codes ";") ∷ OriginLine ∷ StartLine ∷ names)
     ∙ c.in_ok-rest-2.ensures.follows nothing_declared (OriginLine ∷ StartLine ∷ names)
+    ∙ ap (run nothing_declared (OriginLine ∷ StartLine ∷ names)) (sym c.look.ensures.same)
     ∙ c.in_ok-origin.ensures.follows nothing_declared (StartLine ∷ names)
     ∙ c.in_ok-start.ensures.follows nothing_declared names
     ∙ c.in_ok-parties.ensures.follows Party nothing_declared (NameLines (codes "asset") Asset ∷ labels)
@@ -83,6 +89,7 @@ returns-clause-follows c ps =
     c.in_ok-rest.ensures.follows nothing_declared (IntegerAt 12 ∷ TheMark (codes ";") ∷ OriginLine ∷ StartLine ∷ names)
     ∙ c.in_ok-amounts.ensures.follows nothing_declared (TheMark (codes ";") ∷ OriginLine ∷ StartLine ∷ names)
     ∙ c.in_ok-rest-2.ensures.follows nothing_declared (OriginLine ∷ StartLine ∷ names)
+    ∙ ap (run nothing_declared (OriginLine ∷ StartLine ∷ names)) (sym c.look.ensures.same)
     ∙ c.in_ok-origin.ensures.follows nothing_declared (StartLine ∷ names)
     ∙ c.in_ok-start.ensures.follows nothing_declared names
     ∙ c.in_ok-parties.ensures.follows Party nothing_declared (NameLines (codes "asset") Asset ∷ labels)
@@ -94,9 +101,9 @@ pub returns-clause-spelled : goal.returns-clause-spelled
 returns-clause-spelled c =
     followed_by (tokens c.in_ok-rest.rest.now) c.in_ok-rest.ensures.spelled
     (followed_by (tokens c.in_ok-amounts.rest.now) c.in_ok-amounts.ensures.spelled
-    (followed_by (tokens c.in_ok-rest-2.rest.now) c.in_ok-rest-2.ensures.spelled
-    (followed_by (tokens c.in_ok-origin.rest.now) c.in_ok-origin.ensures.spelled
-    (followed_by (tokens c.in_ok-start.rest.now) c.in_ok-start.ensures.spelled
-    (followed_by (tokens c.in_ok-parties.rest.now) c.in_ok-parties.ensures.spelled
-    (followed_by (tokens c.in_ok-assets.rest.now) c.in_ok-assets.ensures.spelled
-    (followed_by (tokens c.in_ok-labels.rest.now) c.in_ok-labels.ensures.spelled c.in_ok-templates.ensures.spelled)))))))
+    (followed_by (tokens_ahead c.look.result) (subst (λ (ts : List Tok). mark (codes ";") (tokens c.in_ok-amounts.rest.now) ts) (sym c.look.ensures.same) c.in_ok-rest-2.ensures.spelled)
+    (followed_by (tokens_ahead c.in_ok-origin.ahead) c.in_ok-origin.ensures.spelled
+    (followed_by (tokens_ahead c.in_ok-start.ahead) c.in_ok-start.ensures.spelled
+    (followed_by (tokens_ahead c.in_ok-parties.ahead) c.in_ok-parties.ensures.spelled
+    (followed_by (tokens_ahead c.in_ok-assets.ahead) c.in_ok-assets.ensures.spelled
+    (followed_by (tokens_ahead c.in_ok-labels.ahead) c.in_ok-labels.ensures.spelled c.in_ok-templates.ensures.spelled)))))))

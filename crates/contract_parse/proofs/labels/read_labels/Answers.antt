@@ -1,10 +1,11 @@
-use Rattle.std.proofs.Common.{◌∙◌, ◌∷◌, arith}
+use Rattle.std.proofs.Common.{◌∙◌, ◌∷◌, List, ap, length, subst, sym, arith}
 use Rattle.std.proofs.lemmas.Result.{err_from_is_err_and}
 use Rattle.indexmap.specs.IndexMap.{keys}
-use Rattle.contract_parse.specs.Tokens.{tokens}
+use Rattle.contract_parse.specs.Tokens.{Tok, tokens}
 use Rattle.contract_parse.specs.Names.{with_names}
-use Rattle.contract_parse.specs.Places.{LabelLines}
-use Rattle.contract_parse.specs.Statements.{none, more}
+use Rattle.contract_parse.specs.Reading.{tokens_ahead}
+use Rattle.contract_parse.specs.Places.{LabelLines, run}
+use Rattle.contract_parse.specs.Statements.{Entry, Repeat, label_line, none, more}
 use Rattle.contract_parse.specs.declared.names.NameSet.TheVariants.{Label as LabelSet}
 use Rattle.contract_parse.proofs.LineFacts.{flag_opens, labels_absent, number_opens}
 use Rattle.contract_parse.proofs.labels.read_labels.Goals as goal
@@ -13,17 +14,20 @@ pub returns-in_err-rest-clause-follows : goal.returns-in_err-rest-clause-follows
 returns-in_err-rest-clause-follows c s ps =
     let p = err_from_is_err_and c.from_residual.result c.from_residual.ensures.1 in
     let here = with_names LabelSet (keys c.loop-after.labels) s in
-    let before = c.loop-after.invariant.follows s ps ∙ number_opens here ps (tokens c.loop-after.rest.now) (tokens c.in-Some.after.now) c.in-Some.ensures.found in
+    let before = c.loop-after.invariant.follows s ps ∙ number_opens here ps (tokens_ahead c.loop-after.ahead) (tokens c.in-Some.after.now) c.in-Some.ensures.found in
     rw (p.1, p.2, before) (c.in_err-rest.ensures.follows s (LabelLines ∷ ps))
 
 pub loop-after-preserved-in-Some : goal.loop-after-preserved-in-Some
 loop-after-preserved-in-Some c = record {
   follows = λ s ps.
       c.loop-after.invariant.follows s ps
-      ∙ number_opens (with_names LabelSet (keys c.loop-after.labels) s) ps (tokens c.loop-after.rest.now) (tokens c.in-Some.after.now) c.in-Some.ensures.found
-      ∙ c.in_ok-rest.ensures.follows s (LabelLines ∷ ps);
-  spelled = λ after end x. c.loop-after.invariant.spelled after end (more (c.in_ok-rest.ensures.spelled (tokens c.loop-after.rest.now) c.in-Some.ensures.found) x);
-  few = omega (arith, c.in_ok-rest.ensures.few, c.in-Some.ensures.shorter);
+      ∙ number_opens (with_names LabelSet (keys c.loop-after.labels) s) ps (tokens_ahead c.loop-after.ahead) (tokens c.in-Some.after.now) c.in-Some.ensures.found
+      ∙ c.in_ok-rest.ensures.follows s (LabelLines ∷ ps)
+      ∙ ap (run (with_names LabelSet (keys c.read_number_label.new.labels) s) (LabelLines ∷ ps)) (sym c.look-ahead.ensures.same);
+  spelled = λ after end x.
+      let here = subst (λ (ts : List Tok). Repeat (Entry label_line) c.read_number_label.new.labels.entries after ts end) c.look-ahead.ensures.same x in
+      c.loop-after.invariant.spelled after end (more (c.in_ok-rest.ensures.spelled (tokens_ahead c.loop-after.ahead) c.in-Some.ensures.found) here);
+  few = omega (arith, c.in_ok-rest.ensures.few, ap length c.in-Some.ensures.after, c.look-ahead.ensures.within, c.loop-after.invariant.few);
   limits = c.in_ok-rest.ensures.limits;
 }
 
@@ -31,23 +35,26 @@ pub returns-in_err-rest-2-clause-follows : goal.returns-in_err-rest-2-clause-fol
 returns-in_err-rest-2-clause-follows c s ps =
     let p = err_from_is_err_and c.from_residual-in_err-rest-2.result c.from_residual-in_err-rest-2.ensures.1 in
     let here = with_names LabelSet (keys c.loop-after.labels) s in
-    let before = c.loop-after.invariant.follows s ps ∙ flag_opens here ps (tokens c.loop-after.rest.now) (tokens c.in-Some-after_word.after.now) c.in_default.ensures.lacks c.in-Some-after_word.ensures.found in
+    let before = c.loop-after.invariant.follows s ps ∙ flag_opens here ps (tokens_ahead c.loop-after.ahead) (tokens c.in-Some-after_word.after.now) c.in_default.ensures.lacks c.in-Some-after_word.ensures.found in
     rw (p.1, p.2, before) (c.in_err-rest-2.ensures.follows s (LabelLines ∷ ps))
 
 pub loop-after-preserved : goal.loop-after-preserved
 loop-after-preserved c = record {
   follows = λ s ps.
       c.loop-after.invariant.follows s ps
-      ∙ flag_opens (with_names LabelSet (keys c.loop-after.labels) s) ps (tokens c.loop-after.rest.now) (tokens c.in-Some-after_word.after.now) c.in_default.ensures.lacks c.in-Some-after_word.ensures.found
-      ∙ c.in_ok-rest-2.ensures.follows s (LabelLines ∷ ps);
-  spelled = λ after end x. c.loop-after.invariant.spelled after end (more (c.in_ok-rest-2.ensures.spelled (tokens c.loop-after.rest.now) c.in-Some-after_word.ensures.found) x);
-  few = omega (arith, c.in_ok-rest-2.ensures.few, c.in-Some-after_word.ensures.shorter);
+      ∙ flag_opens (with_names LabelSet (keys c.loop-after.labels) s) ps (tokens_ahead c.loop-after.ahead) (tokens c.in-Some-after_word.after.now) c.in_default.ensures.lacks c.in-Some-after_word.ensures.found
+      ∙ c.in_ok-rest-2.ensures.follows s (LabelLines ∷ ps)
+      ∙ ap (run (with_names LabelSet (keys c.read_flag.new.labels) s) (LabelLines ∷ ps)) (sym c.look-ahead-in-Some-after_word.ensures.same);
+  spelled = λ after end x.
+      let here = subst (λ (ts : List Tok). Repeat (Entry label_line) c.read_flag.new.labels.entries after ts end) c.look-ahead-in-Some-after_word.ensures.same x in
+      c.loop-after.invariant.spelled after end (more (c.in_ok-rest-2.ensures.spelled (tokens_ahead c.loop-after.ahead) c.in-Some-after_word.ensures.found) here);
+  few = omega (arith, c.in_ok-rest-2.ensures.few, ap length c.in-Some-after_word.ensures.after, c.look-ahead-in-Some-after_word.ensures.within, c.loop-after.invariant.few);
   limits = c.in_ok-rest-2.ensures.limits;
 }
 
 pub returns-in_default-after_word-clause-follows : goal.returns-in_default-after_word-clause-follows
 returns-in_default-after_word-clause-follows c s ps =
-    c.loop-after.invariant.follows s ps ∙ labels_absent (with_names LabelSet (keys c.loop-after.labels) s) ps (tokens c.loop-after.rest.now) c.in_default.ensures.lacks c.in_default-after_word.ensures.lacks
+    c.loop-after.invariant.follows s ps ∙ labels_absent (with_names LabelSet (keys c.loop-after.labels) s) ps (tokens_ahead c.loop-after.ahead) c.in_default.ensures.lacks c.in_default-after_word.ensures.lacks
 
 pub returns-in_default-after_word-clause-spelled : goal.returns-in_default-after_word-clause-spelled
-returns-in_default-after_word-clause-spelled c = c.loop-after.invariant.spelled c.loop-after.labels.entries (tokens c.loop-after.rest.now) none
+returns-in_default-after_word-clause-spelled c = c.loop-after.invariant.spelled c.loop-after.labels.entries (tokens_ahead c.loop-after.ahead) none

@@ -2,8 +2,9 @@ use Rattle.std.proofs.Common.{◌≡◌, ◌≤◌, ◌+◌, ◌∷◌, [], List
 use Rattle.indexmap.specs.IndexMap.{index_map_len, keys}
 use Rattle.term_core.specs.Limits.{are_labels}
 use Rattle.term_core.specs.declared.label.Label.{Label}
-use Rattle.contract_parse.specs.Tokens.{Tok, tokens}
+use Rattle.contract_parse.specs.Tokens.{Tok}
 use Rattle.contract_parse.specs.Words.{Bytes}
+use Rattle.contract_parse.specs.Reading.{tokens_ahead}
 use Rattle.contract_parse.specs.Names.{Scope, with_names}
 use Rattle.contract_parse.specs.Statements.{Entry, Repeat, label_line}
 use Rattle.contract_parse.specs.Places.{LabelLines, Place, run}
@@ -12,11 +13,11 @@ use Rattle.contract_parse.proofs.labels.read_labels.Given as goal
 
 abbrev pub invariant-loop-after : goal.invariant-loop-after
 invariant-loop-after l = record {
-  follows : (s : Scope) (ps : List Place) → run (with_names LabelSet [] s) (LabelLines ∷ ps) (tokens l.fn.rest) ≡ run (with_names LabelSet (keys l.labels) s) (LabelLines ∷ ps) (tokens l.rest);
-  spelled : (after : List (Bytes × Label)) (end : List Tok) → Repeat (Entry label_line) l.labels.entries after (tokens l.rest) end → Repeat (Entry label_line) [] after (tokens l.fn.rest) end;
-  few : index_map_len l.labels + length l.rest ≤ length l.fn.rest;
+  follows : (s : Scope) (ps : List Place) → run (with_names LabelSet [] s) (LabelLines ∷ ps) (tokens_ahead l.fn.ahead) ≡ run (with_names LabelSet (keys l.labels) s) (LabelLines ∷ ps) (tokens_ahead l.ahead);
+  spelled : (after : List (Bytes × Label)) (end : List Tok) → Repeat (Entry label_line) l.labels.entries after (tokens_ahead l.ahead) end → Repeat (Entry label_line) [] after (tokens_ahead l.fn.ahead) end;
+  few : index_map_len l.labels + length l.ahead.after.now ≤ length l.fn.ahead.after.now;
   limits : are_labels l.labels.entries ≡ true;
 }
 
 abbrev pub decreases-loop-after : goal.decreases-loop-after
-decreases-loop-after l = length l.rest
+decreases-loop-after l = length l.ahead.after.now

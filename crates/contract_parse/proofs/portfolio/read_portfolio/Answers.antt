@@ -5,7 +5,7 @@ use Rattle.indexmap.specs.IndexMap.{keys}
 use Rattle.contract_parse.specs.Tokens.{tokens}
 use Rattle.contract_parse.specs.Names.{nothing_declared}
 use Rattle.contract_parse.specs.Places.{ContractLines, TheEnd, TheMark, TheVersion, decls_places}
-use Rattle.contract_parse.specs.Reading.{scope_in}
+use Rattle.contract_parse.specs.Reading.{scope_in, tokens_ahead}
 use Rattle.contract_parse.proofs.Parts.{followed_by}
 use Rattle.contract_parse.proofs.portfolio.read_portfolio.Goals as goal
 
@@ -73,5 +73,5 @@ returns-clause-spelled c =
     followed_by (tokens c.in_ok-rest.rest.now) c.in_ok-rest.ensures.spelled
     (followed_by (tokens c.in_ok-rest-2.rest.now) c.in_ok-rest-2.ensures.spelled
     (followed_by (tokens c.in_ok-rest-3.rest.now) c.in_ok-rest-3.ensures.spelled
-    (followed_by (tokens c.in_ok-decls.rest.now) c.in_ok-decls.ensures.spelled
-    (followed_by (tokens c.in_ok-contracts.rest.now) c.in_ok-contracts.ensures.spelled c.in_ok-read_end.ensures.spelled))))
+    (followed_by (tokens_ahead c.in_ok-decls.ahead) c.in_ok-decls.ensures.spelled
+    (followed_by (tokens_ahead c.in_ok-contracts.ahead) c.in_ok-contracts.ensures.spelled c.in_ok-read_end.ensures.spelled))))

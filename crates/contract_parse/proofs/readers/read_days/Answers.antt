@@ -1,4 +1,4 @@
-use Rattle.std.proofs.Common.{◌∷◌, ◌∙◌, refl, sym}
+use Rattle.std.proofs.Common.{◌∷◌, refl}
 use Rattle.contract_parse.specs.Judgements.{days_at}
 use Rattle.contract_parse.specs.Places.{DaysAt, Next}
 use Rattle.contract_parse.specs.Reading.{tok_of}
@@ -22,10 +22,10 @@ pub returns-then-not-is_name-clause-follows : goal.returns-then-not-is_name-clau
 returns-then-not-is_name-clause-follows c s ps = rw c.refuse-then-not-is_name.ensures (refuses (days_at (keys c.args.templates.now)) s (DaysAt (keys c.args.templates.now) ∷ ps) (λ d. Next s ps) Syntax (tok_of c.next.result.0) c.args.rest.now c.next.result.1.now c.next.ensures.starts (days_none (keys c.args.templates.now) (tok_of c.next.result.0) Syntax c.if-is_integer.ensures (use_none (keys c.args.templates.now) (tok_of c.next.result.0) c.if-not-is_name.ensures)) refl)
 
 pub returns-in-Some-clause-follows : goal.returns-in-Some-clause-follows
-returns-in-Some-clause-follows c s ps = passes (days_at (keys c.args.templates.now)) (λ text left. (refl, refl)) s s (DaysAt (keys c.args.templates.now) ∷ ps) ps (λ d. Next s ps) (Named c.in-Some.template) (tok_of c.next.result.0) c.args.rest.now c.next.result.1.now c.next.ensures.starts (days_named (keys c.args.templates.now) (tok_of c.next.result.0) c.in-Some.template c.if-is_integer.ensures (use_some (keys c.args.templates.now) (tok_of c.next.result.0) c.in-Some.template c.if-not-is_name.ensures (sym c.in-Some.is ∙ c.in_ok-template.ensures))) refl refl
+returns-in-Some-clause-follows c s ps = passes (days_at (keys c.args.templates.now)) (λ text left. (refl, refl)) s s (DaysAt (keys c.args.templates.now) ∷ ps) ps (λ d. Next s ps) (Named c.in-Some.template) (tok_of c.next.result.0) c.args.rest.now c.next.result.1.now c.next.ensures.starts (days_named (keys c.args.templates.now) (tok_of c.next.result.0) c.in-Some.template c.if-is_integer.ensures (use_some (keys c.args.templates.now) (tok_of c.next.result.0) c.in-Some.template c.if-not-is_name.ensures c.in-Some.ensures)) refl refl
 
 pub returns-in-Some-clause-spelled : goal.returns-in-Some-clause-spelled
-returns-in-Some-clause-spelled c = spells (days_at (keys c.args.templates.now)) (λ text left. (refl, refl)) (Named c.in-Some.template) (tok_of c.next.result.0) c.args.rest.now c.next.result.1.now c.next.ensures.starts (days_named (keys c.args.templates.now) (tok_of c.next.result.0) c.in-Some.template c.if-is_integer.ensures (use_some (keys c.args.templates.now) (tok_of c.next.result.0) c.in-Some.template c.if-not-is_name.ensures (sym c.in-Some.is ∙ c.in_ok-template.ensures)))
+returns-in-Some-clause-spelled c = spells (days_at (keys c.args.templates.now)) (λ text left. (refl, refl)) (Named c.in-Some.template) (tok_of c.next.result.0) c.args.rest.now c.next.result.1.now c.next.ensures.starts (days_named (keys c.args.templates.now) (tok_of c.next.result.0) c.in-Some.template c.if-is_integer.ensures (use_some (keys c.args.templates.now) (tok_of c.next.result.0) c.in-Some.template c.if-not-is_name.ensures c.in-Some.ensures))
 
 pub returns-in-None-clause-follows : goal.returns-in-None-clause-follows
-returns-in-None-clause-follows c s ps = rw c.refuse-in-None.ensures (refuses (days_at (keys c.args.templates.now)) s (DaysAt (keys c.args.templates.now) ∷ ps) (λ d. Next s ps) Unknown (tok_of c.next.result.0) c.args.rest.now c.next.result.1.now c.next.ensures.starts (days_none (keys c.args.templates.now) (tok_of c.next.result.0) Unknown c.if-is_integer.ensures (use_unknown (keys c.args.templates.now) (tok_of c.next.result.0) c.if-not-is_name.ensures (sym c.in-None.is ∙ c.in_ok-template.ensures))) refl)
+returns-in-None-clause-follows c s ps = rw c.refuse-in-None.ensures (refuses (days_at (keys c.args.templates.now)) s (DaysAt (keys c.args.templates.now) ∷ ps) (λ d. Next s ps) Unknown (tok_of c.next.result.0) c.args.rest.now c.next.result.1.now c.next.ensures.starts (days_none (keys c.args.templates.now) (tok_of c.next.result.0) Unknown c.if-is_integer.ensures (use_unknown (keys c.args.templates.now) (tok_of c.next.result.0) c.if-not-is_name.ensures c.in-None.ensures)) refl)

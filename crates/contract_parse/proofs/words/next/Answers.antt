@@ -1,6 +1,6 @@
 use Rattle.std.proofs.Common.{◌∙◌, List, ℕ, cond, [], ◌∷◌, sym, ap}
 use Rattle.contract_parse.specs.Tokens.{Tok, is_last, tokens}
-use Rattle.contract_parse.proofs.TokenFacts.{tokens_next, shorter_pair}
+use Rattle.contract_parse.proofs.TokenFacts.{tokens_next, shorter_pair, within_pair}
 use Rattle.contract_parse.proofs.words.next.Goals as goal
 
 pub returns-clause-starts : goal.returns-clause-starts
@@ -10,3 +10,6 @@ returns-clause-starts c =
 
 pub returns-clause-shorter : goal.returns-clause-shorter
 returns-clause-shorter c = shorter_pair c.args.rest.now _ (sym c.next_token.ensures)
+
+pub returns-clause-within : goal.returns-clause-within
+returns-clause-within c = within_pair c.args.rest.now _ (sym c.next_token.ensures)
