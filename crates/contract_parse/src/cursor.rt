@@ -210,6 +210,3 @@ pub fn parse_decls(alloc: Global, cursor: &mut Cursor, bytes: &[u8]) -> Result<D
         Err(ReadErr::NoMemory) => Err(ParseErr::NoMemory),
     }
 }
-
-#[cfg(test)]
-mod tests;

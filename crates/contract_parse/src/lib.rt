@@ -24,6 +24,3 @@ pub use cursor::{Cursor, next_token, parse_decls, start_text};
 pub use faults::{ParseErr, TextFault, TextKind};
 pub use portfolio::parse_portfolio;
 pub use tokens::{Token, TokenKind};
-
-#[cfg(test)]
-mod tests;

@@ -6,3 +6,5 @@
 mod decimals;
 #[cfg(test)]
 mod edges;
+#[cfg(test)]
+mod texts;
