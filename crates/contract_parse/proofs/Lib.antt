@@ -27,3 +27,13 @@ pub mod TokenBoundaries
 pub mod TokenOrder
 pub mod LastTokens
 pub mod DeclsTaken
+pub mod OneSplit
+pub mod FrontFacts
+pub mod FrontTakes
+pub mod FrontPlaces
+pub mod FrontChoices
+pub mod FrontTerms
+pub mod FrontSteps
+pub mod FrontRuns
+pub mod FrontGoesOn
+pub mod FrontRows

@@ -9,6 +9,10 @@ pub mod Statements
 pub mod Places
 pub mod Texts
 pub mod Reading
+pub mod Forms
+pub mod Fronts
+pub mod FrontLaws
+pub mod FrontRows
 pub mod Laws
 pub mod Payments
 pub mod Sample

@@ -1,4 +1,6 @@
 //! Laws over the definitions of texts: each function's contract is the law.
+ghost use Rattle.contract_parse.specs.FrontLaws.{FaultsEndFronts, FrontsEndInSyntax, FrontsGoOn, RefusedTokensEndFronts, TextsAreWhole};
+ghost use Rattle.contract_parse.specs.FrontRows.{FrontRows};
 ghost use Rattle.contract_parse.specs.Laws.{ContractIsTaken, ContractsAreClosed, ContractsFitText, DeclarationsAreTaken, ExpressionIsTaken, NamesFitText, NodesFitText, OneReading, PaymentsAreBounded, PaymentsFitText, SampleIsText, TextHasNoFault, TextIsTaken};
 
 /// What is spelled as an expression is taken at a place of an expression.
@@ -64,4 +66,35 @@ pub fn payments_are_bounded()
 /// A small text stands for its portfolio, so that the laws speak of something.
 pub fn sample_is_text()
     ensures { SampleIsText }
+{}
+
+/// A fault of bytes that are UTF-8 stands at a token behind a front, and is of Syntax exactly where with that token there
+/// is none.
+pub fn faults_end_fronts()
+    ensures { FaultsEndFronts }
+{}
+
+/// The token that is refused stands behind a front, and its fault is of Syntax exactly where with it there is none.
+pub fn refused_tokens_end_fronts()
+    ensures { RefusedTokensEndFronts }
+{}
+
+/// Where no rule fails before, the first token with which there is no front is at fault, and of Syntax.
+pub fn fronts_end_in_syntax()
+    ensures { FrontsEndInSyntax }
+{}
+
+/// The tokens of a text are whole by the forms of its grammar.
+pub fn texts_are_whole()
+    ensures { TextsAreWhole }
+{}
+
+/// A front is what goes on to a whole, names and limits aside.
+pub fn fronts_go_on()
+    ensures { FrontsGoOn }
+{}
+
+/// Small texts stop being fronts where they should, so that the laws on fronts speak of something.
+pub fn rows_of_fronts()
+    ensures { FrontRows }
 {}
