@@ -1,34 +1,17 @@
 -- What one token makes of what may stand: a choice by its form.
-use Rattle.std.proofs.Common.{◌≡◌, ℕ, ℤ, Bool, true, false, cond, ◌&&◌, Option, Some, None, Result, Ok, Err, List, [], ◌∷◌, ◌++◌, refl, sym, ap, ◌∙◌, subst, inl, inr}
-use Rattle.std.specs.Prelude.{codes, nat_lt, not}
-use Rattle.std.specs.List.{list_any}
-use Rattle.std.specs.Str.{bytes_eq}
-use Rattle.std.proofs.lemmas.Bool.{cases_Bool, false≢true}
-use Rattle.std.proofs.lemmas.Slice.Eq.{bytes_eq-Decides}
-use Rattle.decimal.specs.declared.Decimal.{Decimal}
-use Rattle.term_core.specs.declared.terms.Days.{Days}
+use Rattle.std.proofs.Common.{◌≡◌, Bool, true, false, cond, Result, Ok, Err, List, [], ◌∷◌, ◌++◌, refl, sym, ap, ◌∙◌, subst}
+use Rattle.std.specs.Prelude.{codes}
 use Rattle.contract_parse.specs.Tokens.{Tok}
-use Rattle.contract_parse.specs.Words.{Bytes, is_date, is_end, is_integer, is_name, is_number, is_number_kind, is_reserved, is_the_mark, is_the_word, is_word_kind}
-use Rattle.contract_parse.specs.Names.{Scope, back_to, names_of, with_names}
-use Rattle.contract_parse.specs.Judgements.{binder_at, bound_at, days_at, decimal_in, integer_at, is_version, literal_at, mode_at, new_at, offset_at, operator_at, or_fault, origin_at, separator_at, signed_decimal, use_at, variable_at}
-use Rattle.contract_parse.specs.Heads.{first_at, first_name, first_number, first_of, head_at, head_of, within_depth}
+use Rattle.contract_parse.specs.Words.{Bytes, is_the_mark, is_the_word}
+use Rattle.contract_parse.specs.Judgements.{separator_at}
 use Rattle.contract_parse.specs.Forms.{Part, Terminal, Nonterminal, Optional, Repeated, Form, done, absent, enough, Front, empty, at_token, beyond}
-use Rattle.contract_parse.specs.Fronts.{Declared, Symbol, Declaration, ContractLine, Contract, Expression, Offset, arguments, a_name, an_integer, a_number, is_one_of, mode_words, operator_marks, portfolio_forms, the_mark, the_word}
-use Rattle.contract_parse.specs.Places.{Place, TheWord, TheMark, TheVersion, TheEnd, IntegerAt, OriginDate, OriginLine, StartLine, NameLines, LabelLines, TemplateLines, ContractLines, NewIn, MoreNames, ScaleAt, BoundAt, BoundNumber, UseOf, OffsetAt, OffsetNumber, LiteralNumber, DaysAt, ModeAt, OperatorAt, BinderAt, ExprAt, ContrAt, AnyTokens, Step, Next, Refuse, binder_places, bound_places, contr_places, contract_places, expr_places, flag_places, judged, list_places, number_label_places, range_places, step, template_places}
-use Rattle.contract_parse.specs.declared.names.NameSet.{NameSet}
-use Rattle.contract_parse.specs.declared.names.NameSet.TheVariants.{Party, Asset, Label, Template, Contract as ContractSet}
-use Rattle.contract_parse.specs.declared.heads.First.{First}
-use Rattle.contract_parse.specs.declared.heads.Head.{Head}
-use Rattle.contract_parse.specs.declared.heads.Binder.TheVariants as binder
-use Rattle.contract_parse.specs.declared.heads.Operator.{Operator}
+use Rattle.contract_parse.specs.Fronts.{Declared, Symbol, Declaration, ContractLine, Contract, Expression, Offset, a_name, an_integer, portfolio_forms, the_mark, the_word}
+use Rattle.contract_parse.specs.Places.{Step, Next, Refuse, judged}
 use Rattle.contract_parse.specs.declared.faults.TextKind.{TextKind}
 use Rattle.contract_parse.specs.declared.faults.TextKind.TheVariants as kind
-use Rattle.contract_parse.specs.declared.token.Kind.{Kind}
-use Rattle.contract_parse.specs.declared.token.Kind.TheVariants.{Word, Number}
-use Rattle.decimal.specs.declared.Mode.{Mode}
-use Rattle.contract_parse.proofs.Passing.{and_parts, of_mark, of_word, the_name, the_number}
-use Rattle.contract_parse.proofs.FrontTakes.{Bars, BeginWithTokens, Takes, nothing_bars, one_bars, one_takes, optional_bars, optional_skips, optional_takes, repeated_bars, repeated_skips, repeated_takes, rests, symbol_bars, symbol_takes}
-use Rattle.contract_parse.proofs.FrontPlaces.{a_bound, an_expression, Decided, Ends, all_parts, behind_bound, binder_formed, bound_formed, days_formed, formed, integer_formed, literal_formed, mode_formed, names_of_set, new_formed, offset_formed, operator_formed, origin_formed, parts_of, use_formed}
+use Rattle.contract_parse.proofs.Passing.{of_mark, of_word}
+use Rattle.contract_parse.proofs.FrontTakes.{Bars, BeginWithTokens, Takes, one_bars, one_takes, optional_bars, optional_skips, optional_takes, repeated_bars, repeated_skips, repeated_takes, rests, symbol_bars, symbol_takes}
+use Rattle.contract_parse.proofs.FrontPlaces.{a_bound, Decided, all_parts, formed}
 
 abbrev labels : Part Symbol
 labels = Repeated (Declaration Declared.LabelLine)
@@ -111,9 +94,9 @@ pub by_symbol : {X : Type 0} (symbol : Symbol) (rest parts : Form Symbol) (t : T
     → ((x : X) → r ≡ Ok x → Takes portfolio_forms (Nonterminal symbol ∷ parts) t (rest ++ parts) → Stepped (Nonterminal symbol ∷ parts) t (next x)) → Stepped (Nonterminal symbol ∷ parts) t (judged r next)
 by_symbol symbol rest parts t r next b begins is ok =
     by_part (Nonterminal symbol ∷ parts) t r next b is
-      (λ miss. symbol_bars portfolio_forms starts symbol parts t (begins ∙ ap (λ c. cond c (rest ∷ []) []) miss))
-      (λ hit. (takes hit).back [] empty)
-      (λ x found hit. ok x found (takes hit))
+    (λ miss. symbol_bars portfolio_forms starts symbol parts t (begins ∙ ap (λ c. cond c (rest ∷ []) []) miss))
+    (λ hit. (takes hit).back [] empty)
+    (λ x found hit. ok x found (takes hit))
   where
     takes : b ≡ true → Takes portfolio_forms (Nonterminal symbol ∷ parts) t (rest ++ parts)
     takes hit = symbol_takes portfolio_forms starts symbol rest parts t (begins ∙ ap (λ c. cond c (rest ∷ []) []) hit)
@@ -134,8 +117,8 @@ pub by_sign : {X : Type 0} (symbol : Symbol) (test : Tok → Bool) (parts : Form
     → Stepped (Nonterminal symbol ∷ parts) t (cond (is_the_mark (codes "-") t) signed (judged r next))
 by_sign symbol test parts t signed r next minus plain is with ok =
     by_bool (λ st. Stepped (Nonterminal symbol ∷ parts) t st) (is_the_mark (codes "-") t) signed (judged r next)
-      (λ hit. with (symbol_takes portfolio_forms starts symbol (Terminal test ∷ []) parts t (minus hit)))
-      (λ miss. by_symbol symbol [] parts t r next (test t) (plain miss) is (λ x found takes. ok x takes))
+    (λ hit. with (symbol_takes portfolio_forms starts symbol (Terminal test ∷ []) parts t (minus hit)))
+    (λ miss. by_symbol symbol [] parts t r next (test t) (plain miss) is (λ x found takes. ok x takes))
 
 -- ---- lines
 
@@ -163,15 +146,15 @@ pub optional_line : (symbol : Symbol) (w : Bytes) (rest parts : Form Symbol) (t 
     → (Takes portfolio_forms (Optional symbol ∷ parts) t (rest ++ parts) → Stepped (Optional symbol ∷ parts) t line) → Stepped parts t other → Stepped (Optional symbol ∷ parts) t (cond (is_the_word w t) line other)
 optional_line symbol w rest parts t line other begins ends with behind =
     by_bool (λ st. Stepped (Optional symbol ∷ parts) t st) (is_the_word w t) line other
-      (λ hit. with (optional_takes portfolio_forms starts symbol rest parts t (begins true hit) (ends hit)))
-      (λ miss. optional_absent symbol parts t other (begins false miss) behind)
+    (λ hit. with (optional_takes portfolio_forms starts symbol rest parts t (begins true hit) (ends hit)))
+    (λ miss. optional_absent symbol parts t other (begins false miss) behind)
 
 pub repeated_line : (symbol : Symbol) (w : Bytes) (rest parts : Form Symbol) (t : Tok) (line other : Step) → ((b : Bool) → is_the_word w t ≡ b → rests (portfolio_forms symbol) t ≡ cond b (rest ∷ []) []) → (is_the_word w t ≡ true → Bars portfolio_forms parts t)
     → (Takes portfolio_forms (Repeated symbol ∷ parts) t (rest ++ Repeated symbol ∷ parts) → Stepped (Repeated symbol ∷ parts) t line) → Stepped parts t other → Stepped (Repeated symbol ∷ parts) t (cond (is_the_word w t) line other)
 repeated_line symbol w rest parts t line other begins ends with behind =
     by_bool (λ st. Stepped (Repeated symbol ∷ parts) t st) (is_the_word w t) line other
-      (λ hit. with (repeated_takes portfolio_forms starts symbol rest parts t (begins true hit) (ends hit)))
-      (λ miss. repeated_absent symbol parts t other (begins false miss) behind)
+    (λ hit. with (repeated_takes portfolio_forms starts symbol rest parts t (begins true hit) (ends hit)))
+    (λ miss. repeated_absent symbol parts t other (begins false miss) behind)
 
 -- `num` or `flag`, or neither
 pub label_line : (parts : Form Symbol) (t : Tok) (num flag other : Step) → (is_the_word (codes "num") t ≡ true → Bars portfolio_forms parts t) → (is_the_word (codes "flag") t ≡ true → Bars portfolio_forms parts t)
@@ -179,10 +162,10 @@ pub label_line : (parts : Form Symbol) (t : Tok) (num flag other : Step) → (is
     → Stepped parts t other → Stepped (labels ∷ parts) t (cond (is_the_word (codes "num") t) num (cond (is_the_word (codes "flag") t) flag other))
 label_line parts t num flag other num_ends flag_ends with_num with_flag behind =
     by_bool P (is_the_word (codes "num") t) num (cond (is_the_word (codes "flag") t) flag other)
-      (λ hit. with_num (repeated_takes portfolio_forms starts _ num_rest parts t (of_word (λ z. rests label_forms z ≡ num_rest ∷ []) (codes "num") t hit refl) (num_ends hit)))
-      (λ miss. by_bool P (is_the_word (codes "flag") t) flag other
-        (λ hit. with_flag (repeated_takes portfolio_forms starts _ flag_rest parts t (of_word (λ z. rests label_forms z ≡ flag_rest ∷ []) (codes "flag") t hit refl) (flag_ends hit)))
-        (λ nor. repeated_absent _ parts t other (rw (miss, nor) refl) behind))
+    (λ hit. with_num (repeated_takes portfolio_forms starts _ num_rest parts t (of_word (λ z. rests label_forms z ≡ num_rest ∷ []) (codes "num") t hit refl) (num_ends hit)))
+    (λ miss. by_bool P (is_the_word (codes "flag") t) flag other
+    (λ hit. with_flag (repeated_takes portfolio_forms starts _ flag_rest parts t (of_word (λ z. rests label_forms z ≡ flag_rest ∷ []) (codes "flag") t hit refl) (flag_ends hit)))
+    (λ nor. repeated_absent _ parts t other (rw (miss, nor) refl) behind))
   where
     P : Step → Type 0
     P st = Stepped (labels ∷ parts) t st
@@ -206,11 +189,11 @@ pub names_stepped : (parts : Form Symbol) (t : Tok) (next : Bool → Step)
     → Stepped (further ∷ the_mark (codes ";") ∷ parts) t (judged (separator_at t) next)
 names_stepped parts t next comma semicolon =
     either (is_the_mark (codes ",") t)
-      (λ hit. subst (λ r. P (judged r next)) (sym (separator_comma t hit)) (comma (repeated_takes portfolio_forms starts _ (a_name ∷ []) (the_mark (codes ";") ∷ parts) t (of_mark (λ z. rests further_forms z ≡ (a_name ∷ []) ∷ []) (codes ",") t hit refl)
-        (one_bars portfolio_forms _ parts t (of_mark (λ z. is_the_mark (codes ";") z ≡ false) (codes ",") t hit refl)))))
-      (λ miss. either (is_the_mark (codes ";") t)
-        (λ hit. subst (λ r. P (judged r next)) (sym (separator_semicolon t miss hit)) (semicolon (repeated_skips portfolio_forms starts _ parts (the_mark (codes ";") ∷ parts) t (no_further t miss) (one_takes portfolio_forms _ parts t hit))))
-        (λ nor. subst (λ r. P (judged r next)) (sym (no_separator t miss nor)) (repeated_bars portfolio_forms starts _ (the_mark (codes ";") ∷ parts) t (no_further t miss) (one_bars portfolio_forms _ parts t nor))))
+    (λ hit. subst (λ r. P (judged r next)) (sym (separator_comma t hit)) (comma (repeated_takes portfolio_forms starts _ (a_name ∷ []) (the_mark (codes ";") ∷ parts) t (of_mark (λ z. rests further_forms z ≡ (a_name ∷ []) ∷ []) (codes ",") t hit refl)
+    (one_bars portfolio_forms _ parts t (of_mark (λ z. is_the_mark (codes ";") z ≡ false) (codes ",") t hit refl)))))
+    (λ miss. either (is_the_mark (codes ";") t)
+    (λ hit. subst (λ r. P (judged r next)) (sym (separator_semicolon t miss hit)) (semicolon (repeated_skips portfolio_forms starts _ parts (the_mark (codes ";") ∷ parts) t (no_further t miss) (one_takes portfolio_forms _ parts t hit))))
+    (λ nor. subst (λ r. P (judged r next)) (sym (no_separator t miss nor)) (repeated_bars portfolio_forms starts _ (the_mark (codes ";") ∷ parts) t (no_further t miss) (one_bars portfolio_forms _ parts t nor))))
   where
     P : Step → Type 0
     P st = Stepped (further ∷ the_mark (codes ";") ∷ parts) t st

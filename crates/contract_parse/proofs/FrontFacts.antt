@@ -1,9 +1,8 @@
 -- Fronts and wholes of any grammar: parts one after another, and one token.
-use Rattle.std.proofs.Common.{◌≡◌, Bool, true, false, cond, List, [], ◌∷◌, ◌++◌, refl, sym, ap, subst, inl, inr}
+use Rattle.std.proofs.Common.{◌≡◌, Bool, true, List, [], ◌∷◌, ◌++◌, refl, ap, subst, inl, inr}
 use Rattle.std.specs.Prelude.{◌⊎◌}
-use Rattle.std.proofs.lemmas.Bool.{false≢true}
 use Rattle.contract_parse.specs.Tokens.{Tok}
-use Rattle.contract_parse.specs.Forms.{Part, Terminal, Nonterminal, Optional, Repeated, Form, Grammar, IsAmong, here, later, Whole, done, token, form, absent, present, enough, again, Front, empty, at_token, in_form, in_optional, in_repeated, beyond}
+use Rattle.contract_parse.specs.Forms.{Part, Terminal, Nonterminal, Optional, Repeated, Form, Grammar, IsAmong, Whole, done, token, form, absent, present, enough, again, Front, empty, at_token, in_form, in_optional, in_repeated, beyond}
 
 -- a form begins with the whole of a form, and the rest is behind it
 pub record Parted {N : Type 0} (forms : Grammar N) (lead more : Form N) (ts rest : List Tok) : Type 0 where
@@ -93,6 +92,7 @@ module _ {N : Type 0} (forms : Grammar N) where
     where
       under : (part part' : Part N) (parts parts' : Form N) → part ∷ parts ≡ part' ∷ parts' → (part ≡ part') × (parts ≡ parts')
       under part part' parts parts' e = (cc, cc)
+
       go : (lead more all : Form N) (ts rest : List Tok) → Whole forms all ts rest → all ≡ lead ++ more → Parted forms lead more ts rest
       go [] more all ts rest w e = record { between = ts; whole = done; behind = subst (λ a. Whole forms a ts rest) e w }
       go (part ∷ parts) more all ts rest done e = absurd cc

@@ -1,11 +1,11 @@
 -- A front goes on to a whole, and what goes on to a whole is a front.
-use Rattle.std.proofs.Common.{◌≡◌, ℕ, Bool, true, false, ◌&&◌, ◌||◌, List, [], ◌∷◌, ◌++◌, refl, sym, ap, ◌∙◌, subst, inl, inr, append_assoc, append-nil, map}
-use Rattle.std.specs.Prelude.{◌⊎◌, ◌↔◌, codes}
+use Rattle.std.proofs.Common.{◌≡◌, Bool, true, false, ◌&&◌, ◌||◌, List, [], ◌∷◌, ◌++◌, refl, sym, subst, inl, inr, append_assoc, append-nil, map}
+use Rattle.std.specs.Prelude.{◌⊎◌, codes}
 use Rattle.std.specs.List.{list_all, list_any}
 use Rattle.contract_parse.specs.Tokens.{Tok}
 use Rattle.contract_parse.specs.Words.{Bytes, reserved}
 use Rattle.contract_parse.specs.Forms.{Part, Terminal, Nonterminal, Optional, Repeated, Form, Grammar, IsAmong, here, later, Whole, done, token, form, absent, present, enough, again, Front, empty, at_token, in_form, in_optional, in_repeated, beyond}
-use Rattle.contract_parse.specs.Fronts.{Declared, Symbol, Declaration, ContractLine, Contract, Expression, Offset, IsFront, IsWhole, portfolio_form, portfolio_forms}
+use Rattle.contract_parse.specs.Fronts.{Declared, Symbol, Declaration, ContractLine, Contract, Expression, Offset, IsWhole, portfolio_form, portfolio_forms}
 use Rattle.contract_parse.specs.FrontLaws.{FrontsGoOn}
 use Rattle.contract_parse.specs.declared.token.Kind.{Kind}
 use Rattle.contract_parse.specs.declared.token.Kind.TheVariants as kind
@@ -69,9 +69,9 @@ module _ {N : Type 0} (forms : Grammar N) where
   cut parts us rest (form a f w) ts more e = elim (cut _ _ _ f ts more e) [
     | inl x ↦ inl (in_form a x)
     | inr x ↦ elim (cut _ _ _ w x.behind more x.are) [
-        | inl y ↦ inl (beyond (form a x.whole done) y)
-        | inr y ↦ inr (record { behind = y.behind; whole = form a x.whole y.whole; are = y.are })
-      ]
+      | inl y ↦ inl (beyond (form a x.whole done) y)
+      | inr y ↦ inr (record { behind = y.behind; whole = form a x.whole y.whole; are = y.are })
+    ]
   ]
   cut parts us rest (absent w) ts more e = elim (cut _ _ _ w ts more e) [ inl x ↦ inl (beyond (absent done) x) | inr x ↦ inr (record { behind = x.behind; whole = absent x.whole; are = x.are }) ]
   cut parts us rest (present w) ts more e = elim (cut _ _ _ w ts more e) [ inl x ↦ inl (optional_from forms _ _ ts x) | inr x ↦ inr (record { behind = x.behind; whole = present x.whole; are = x.are }) ]
@@ -205,8 +205,9 @@ all_made Expression = record { tokens = one ∷ []; whole = λ rest. form here (
 all_made Offset = record { tokens = one ∷ []; whole = λ rest. form here (token refl done) done }
 
 pub fronts_go_on : FrontsGoOn
-fronts_go_on ts =
-    ((λ front.
-        let y = front_goes_on portfolio_forms samples all_met all_made portfolio_form ts front refl in
-        (y.more, subst (λ us. IsWhole (ts ++ us)) (append-nil y.more) (y.whole []))),
-     (λ goes. whole_front portfolio_forms portfolio_form ts goes.0 goes.1))
+fronts_go_on ts = (
+  (λ front.
+      let y = front_goes_on portfolio_forms samples all_met all_made portfolio_form ts front refl in
+      (y.more, subst (λ us. IsWhole (ts ++ us)) (append-nil y.more) (y.whole []))),
+  (λ goes. whole_front portfolio_forms portfolio_form ts goes.0 goes.1),
+)

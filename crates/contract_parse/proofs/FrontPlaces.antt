@@ -1,17 +1,14 @@
 -- The forms at a place, and the tests that decide them.
-use Rattle.std.proofs.Common.{◌≡◌, ℕ, ℤ, Bool, true, false, cond, ◌&&◌, ◌||◌, Option, Some, None, Result, Ok, Err, List, [], ◌∷◌, ◌++◌, refl, sym, ap, ◌∙◌, subst}
-use Rattle.std.specs.Prelude.{◌==◌, codes, nat_le, nat_lt, not}
-use Rattle.std.specs.List.{list_all, list_any}
-use Rattle.std.specs.Str.{bytes_eq}
-use Rattle.std.proofs.lemmas.Bool.{false≢true}
+use Rattle.std.proofs.Common.{◌≡◌, ℕ, ℤ, Bool, true, false, cond, ◌||◌, Option, Some, None, Result, Ok, Err, List, [], ◌∷◌, ◌++◌, refl, sym, ap, ◌∙◌}
+use Rattle.std.specs.Prelude.{codes, nat_lt, not}
 use Rattle.decimal.specs.declared.Decimal.{Decimal}
 use Rattle.term_core.specs.Dates.{epoch_day_of}
 use Rattle.term_core.specs.Limits.{is_origin}
 use Rattle.contract_parse.specs.Tokens.{Tok}
-use Rattle.contract_parse.specs.Words.{Bytes, is_date, is_end, is_integer, is_name, is_number, is_reserved, is_the_mark, is_the_word}
+use Rattle.contract_parse.specs.Words.{Bytes, is_date, is_end, is_integer, is_name, is_number, is_the_mark, is_the_word}
 use Rattle.contract_parse.specs.Names.{is_declared, place_in}
-use Rattle.contract_parse.specs.Judgements.{above, above_limited, binder_at, bound_at, counted, day_in, days_at, decimal_in, integer_at, is_version, limited, literal_at, mode_at, named, new_at, offset_at, operator_at, or_fault, origin_at, signed_decimal, signed_result, up_to, use_at, whole, widened}
-use Rattle.contract_parse.specs.Forms.{Part, Terminal, Nonterminal, Optional, Repeated, Form, Front}
+use Rattle.contract_parse.specs.Judgements.{above_limited, binder_at, bound_at, counted, days_at, decimal_in, integer_at, is_version, literal_at, mode_at, named, new_at, offset_at, operator_at, or_fault, origin_at, signed_decimal, signed_result, up_to, use_at, whole, widened}
+use Rattle.contract_parse.specs.Forms.{Part, Terminal, Nonterminal, Optional, Repeated, Form}
 use Rattle.contract_parse.specs.Fronts.{Declared, Symbol, Declaration, ContractLine, Contract, Expression, Offset, a_count, a_date, a_mode, a_name, a_number, an_integer, an_operator, is_one_of, mode_words, operator_marks, portfolio_forms, the_mark, the_word}
 use Rattle.contract_parse.specs.Places.{Place, TheWord, TheMark, TheVersion, TheEnd, IntegerAt, OriginDate, OriginLine, StartLine, NameLines, LabelLines, TemplateLines, ContractLines, NewIn, MoreNames, ScaleAt, BoundAt, BoundNumber, UseOf, OffsetAt, OffsetNumber, LiteralNumber, DaysAt, ModeAt, OperatorAt, BinderAt, ExprAt, ContrAt, AnyTokens}
 use Rattle.contract_parse.specs.declared.names.NameSet.{NameSet}
@@ -19,8 +16,6 @@ use Rattle.contract_parse.specs.declared.names.NameSet.TheVariants.{Party, Asset
 use Rattle.contract_parse.specs.declared.heads.Binder.TheVariants as binder
 use Rattle.contract_parse.specs.declared.faults.TextKind.{TextKind}
 use Rattle.contract_parse.specs.declared.faults.TextKind.TheVariants.{Syntax, Number, Date, Deep, Range, Twice, Unknown, Utf8}
-use Rattle.contract_parse.specs.declared.token.Kind.TheVariants as kind
-use Rattle.contract_parse.proofs.Passing.{the_name, the_number}
 use Rattle.contract_parse.proofs.FrontTakes.{Bars}
 
 abbrev pub an_expression : Part Symbol

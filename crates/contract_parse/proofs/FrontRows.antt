@@ -2,7 +2,7 @@
 use Rattle.std.proofs.Common.{◌≡◌, ℕ, Bool, true, false, cond, ◌&&◌, List, [], ◌∷◌, ◌++◌, refl, sym, ap, subst, append-nil}
 use Rattle.std.specs.Prelude.{codes}
 use Rattle.contract_parse.specs.Tokens.{Tok, extent_at, next_token, tokens, tokens_from}
-use Rattle.contract_parse.specs.Forms.{Part, Terminal, Nonterminal, Optional, Repeated, Form, Grammar, Whole, done, Front, empty}
+use Rattle.contract_parse.specs.Forms.{Terminal, Nonterminal, Optional, Repeated, Form, Grammar, Whole, done, Front, empty}
 use Rattle.contract_parse.specs.Fronts.{IsFront, IsWhole, Symbol, portfolio_form, portfolio_forms}
 use Rattle.contract_parse.specs.FrontRows.{EndsAt, FrontRows, at_left, begun}
 use Rattle.contract_parse.specs.declared.token.Kind.TheVariants.{Word, Number, Mark, End}

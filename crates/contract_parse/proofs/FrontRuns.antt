@@ -2,19 +2,16 @@
 use Rattle.std.proofs.Common.{◌≡◌, ℕ, true, List, [], ◌∷◌, ◌++◌, refl, sym, ap, ◌∙◌, subst, append-nil}
 use Rattle.std.specs.Prelude.{◌-◌, ◌↔◌, codes, length}
 use Rattle.std.specs.Str.{IsUtf8}
-use Rattle.term_core.specs.Books.{Book}
 use Rattle.contract_parse.specs.Tokens.{Tok, tokens}
-use Rattle.contract_parse.specs.Words.{is_the_word}
 use Rattle.contract_parse.specs.Lines.{line_at, column_at}
 use Rattle.contract_parse.specs.Names.{Scope, nothing_declared}
 use Rattle.contract_parse.specs.Forms.{Form, Whole, done, Front, empty}
 use Rattle.contract_parse.specs.Fronts.{IsFront, IsWhole, Symbol, portfolio_forms}
-use Rattle.contract_parse.specs.FrontLaws.{EndsFront, FaultyToken, FaultsEndFronts, FrontsEndInSyntax, RefusedTokensEndFronts, TextsAreWhole}
+use Rattle.contract_parse.specs.FrontLaws.{FaultyToken, FaultsEndFronts, FrontsEndInSyntax, RefusedTokensEndFronts, TextsAreWhole}
 use Rattle.contract_parse.specs.Places.{Place, StartLine, NameLines, LabelLines, TemplateLines, ContractLines, TheEnd, Step, Next, Refuse, Outcome, Open, Stops, run, step, text_places}
-use Rattle.contract_parse.specs.Texts.{Text, IsFault, FirstFault, no_utf8, refused}
+use Rattle.contract_parse.specs.Texts.{FirstFault, no_utf8, refused}
 use Rattle.contract_parse.specs.declared.faults.TextKind.{TextKind}
 use Rattle.contract_parse.specs.declared.faults.TextKind.TheVariants as kind
-use Rattle.contract_parse.specs.declared.faults.TextFault.{TextFault}
 use Rattle.contract_parse.specs.declared.names.NameSet.TheVariants.{Party, Asset}
 use Rattle.contract_parse.specs.declared.token.Kind.TheVariants.{Word}
 use Rattle.contract_parse.proofs.Passing.{of_word, run-end}
@@ -23,7 +20,7 @@ use Rattle.contract_parse.proofs.LinesTaken.{portfolio_taken}
 use Rattle.contract_parse.proofs.OneSplit.{one_split}
 use Rattle.contract_parse.proofs.FrontTakes.{Bars, Takes, bars, barred}
 use Rattle.contract_parse.proofs.FrontPlaces.{Decided, Ends, all_parts}
-use Rattle.contract_parse.proofs.FrontChoices.{Allows, Refused, Stepped, starts}
+use Rattle.contract_parse.proofs.FrontChoices.{Refused, Stepped, starts}
 use Rattle.contract_parse.proofs.FrontSteps.{stepped}
 
 -- over all of these tokens
@@ -103,7 +100,7 @@ ran (t ∷ ts) s ps decided = go (step s ps t) refl (stepped s ps t decided) (λ
     go (Next s2 qs) e x next = subst (λ o. Ran (all_parts ps) (t ∷ ts) o) (sym (run-next s s2 ps qs t ts e)) (onto (all_parts ps) (all_parts qs) t ts (run s2 qs ts) x.1 (next s2 qs x.0))
     go (Refuse k) e x next =
         subst (λ o. Ran (all_parts ps) (t ∷ ts) o) (sym (run-refuse s ps k t ts e))
-          (record { before = []; at = t; after = ts; are = refl; place = refl; front = empty; fault = first_faulty (all_parts ps) t k x })
+        (record { before = []; at = t; after = ts; are = refl; place = refl; front = empty; fault = first_faulty (all_parts ps) t k x })
 
 -- ---- the places of a text
 
@@ -199,6 +196,7 @@ onward [] s ps t after qs decided opens none = go (step s ps t) refl (stepped s 
     other kind.Twice e x = absurd (none x)
     other kind.Unknown e x = absurd (none x)
     other kind.Utf8 e x = absurd (none x)
+
     go : (st : Step) → step s ps t ≡ st → Stepped (all_parts ps) t st → run s ps (t ∷ after) ≡ Stops kind.Syntax t.left
     go (Next s2 rs) e x = absurd (none (x.1.back [] empty))
     go (Refuse k) e x = run-refuse s ps kind.Syntax t after (e ∙ ap (λ k. Refuse k) (other k e x))

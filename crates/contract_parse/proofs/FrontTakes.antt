@@ -1,9 +1,9 @@
 -- What one token makes of a front, in a grammar each of whose forms begins with a token.
-use Rattle.std.proofs.Common.{◌≡◌, Bool, true, false, cond, ◌&&◌, List, [], ◌∷◌, ◌++◌, refl, sym, ap, ◌∙◌, subst, inl, inr}
+use Rattle.std.proofs.Common.{◌≡◌, Bool, true, false, cond, ◌&&◌, List, [], ◌∷◌, ◌++◌, refl, sym, ◌∙◌, subst, inl, inr}
 use Rattle.std.specs.Prelude.{not}
 use Rattle.std.proofs.lemmas.Bool.{false≢true}
 use Rattle.contract_parse.specs.Tokens.{Tok}
-use Rattle.contract_parse.specs.Forms.{Part, Terminal, Nonterminal, Optional, Repeated, Form, Grammar, IsAmong, here, later, Whole, done, token, absent, present, enough, again, Front, empty, beyond}
+use Rattle.contract_parse.specs.Forms.{Terminal, Nonterminal, Optional, Repeated, Form, Grammar, IsAmong, here, later, Whole, done, token, absent, present, enough, again, Front, beyond}
 use Rattle.contract_parse.proofs.Passing.{and_parts}
 use Rattle.contract_parse.proofs.FrontFacts.{of_token, to_token, optional_from, repeated_from, to_symbol, whole_symbol, of_symbol, of_optional, of_repeated}
 
@@ -121,9 +121,9 @@ module _ {N : Type 0} (forms : Grammar N) where
         let b = begun (forms symbol) t rest (subst (λ rs. IsAmong rest rs) (sym e) here) in
         record {
           on = λ ts x.
-            let o = of_symbol forms symbol parts t ts x in
-            let p = rest_of parts t ts (forms symbol) o.0 (starts symbol) o.1 o.2 in
-            subst (λ r. Front forms (r ++ parts) ts) (only_among p.0 rest (rests (forms symbol) t) e p.1) p.2;
+              let o = of_symbol forms symbol parts t ts x in
+              let p = rest_of parts t ts (forms symbol) o.0 (starts symbol) o.1 o.2 in
+              subst (λ r. Front forms (r ++ parts) ts) (only_among p.0 rest (rests (forms symbol) t) e p.1) p.2;
           back = λ ts x. to_symbol forms symbol (Terminal b.test ∷ rest) parts (t ∷ ts) b.among (to_token forms b.test (rest ++ parts) t ts b.passes x);
           whole = λ ts last w. whole_symbol forms symbol (Terminal b.test ∷ rest) parts (t ∷ ts) last b.among (token b.passes w);
         }

@@ -1,35 +1,26 @@
 -- What the first token of a term makes of what may stand.
-use Rattle.std.proofs.Common.{◌≡◌, ℕ, ℤ, Bool, true, false, cond, ◌&&◌, Option, Some, None, Result, Ok, Err, List, [], ◌∷◌, ◌++◌, refl, sym, ap, ◌∙◌, subst, inl, inr}
+use Rattle.std.proofs.Common.{◌≡◌, ℕ, Bool, true, false, cond, ◌&&◌, Option, Some, None, Ok, Err, List, [], ◌∷◌, ◌++◌, refl, sym, ap, ◌∙◌, subst}
 use Rattle.std.specs.Prelude.{codes, nat_lt, not}
-use Rattle.std.specs.List.{list_any}
 use Rattle.std.specs.Str.{bytes_eq}
-use Rattle.std.proofs.lemmas.Bool.{cases_Bool, false≢true}
+use Rattle.std.proofs.lemmas.Bool.{false≢true}
 use Rattle.std.proofs.lemmas.Slice.Eq.{bytes_eq-Decides}
 use Rattle.decimal.specs.declared.Decimal.{Decimal}
-use Rattle.term_core.specs.declared.terms.Days.{Days}
 use Rattle.contract_parse.specs.Tokens.{Tok}
-use Rattle.contract_parse.specs.Words.{Bytes, is_date, is_end, is_integer, is_name, is_number, is_number_kind, is_reserved, is_the_mark, is_the_word, is_word_kind}
-use Rattle.contract_parse.specs.Names.{Scope, back_to, names_of, with_names}
-use Rattle.contract_parse.specs.Judgements.{binder_at, bound_at, days_at, decimal_in, integer_at, is_version, literal_at, mode_at, new_at, offset_at, operator_at, or_fault, origin_at, separator_at, signed_decimal, use_at, variable_at}
+use Rattle.contract_parse.specs.Words.{Bytes, is_name, is_number, is_reserved, is_the_mark, is_the_word, is_word_kind}
+use Rattle.contract_parse.specs.Names.{Scope, back_to}
+use Rattle.contract_parse.specs.Judgements.{decimal_in, literal_at, or_fault, signed_decimal, variable_at}
 use Rattle.contract_parse.specs.Heads.{first_at, first_name, first_number, first_of, head_at, head_of, within_depth}
-use Rattle.contract_parse.specs.Forms.{Part, Terminal, Nonterminal, Optional, Repeated, Form, done, absent, enough, Front, empty, at_token, beyond}
-use Rattle.contract_parse.specs.Fronts.{a_count, a_mode, an_operator, Declared, Symbol, Declaration, ContractLine, Contract, Expression, Offset, arguments, a_name, an_integer, a_number, is_one_of, mode_words, operator_marks, portfolio_forms, the_mark, the_word}
-use Rattle.contract_parse.specs.Places.{Place, TheWord, TheMark, TheVersion, TheEnd, IntegerAt, OriginDate, OriginLine, StartLine, NameLines, LabelLines, TemplateLines, ContractLines, NewIn, MoreNames, ScaleAt, BoundAt, BoundNumber, UseOf, OffsetAt, OffsetNumber, LiteralNumber, DaysAt, ModeAt, OperatorAt, BinderAt, ExprAt, ContrAt, AnyTokens, Step, Next, Refuse, binder_places, bound_places, contr_places, contract_places, expr_places, flag_places, judged, list_places, number_label_places, range_places, step, template_places}
-use Rattle.contract_parse.specs.declared.names.NameSet.{NameSet}
-use Rattle.contract_parse.specs.declared.names.NameSet.TheVariants.{Party, Asset, Label, Template, Contract as ContractSet}
+use Rattle.contract_parse.specs.Forms.{Part, Nonterminal, Form, empty}
+use Rattle.contract_parse.specs.Fronts.{a_count, a_mode, an_operator, Symbol, Contract, Expression, Offset, arguments, a_name, an_integer, a_number, portfolio_forms, the_mark, the_word}
+use Rattle.contract_parse.specs.Places.{Place, Step, Next, contr_places, expr_places, judged}
 use Rattle.contract_parse.specs.declared.heads.First.{First}
 use Rattle.contract_parse.specs.declared.heads.Head.{Head}
-use Rattle.contract_parse.specs.declared.heads.Binder.TheVariants as binder
-use Rattle.contract_parse.specs.declared.heads.Operator.{Operator}
-use Rattle.contract_parse.specs.declared.faults.TextKind.{TextKind}
 use Rattle.contract_parse.specs.declared.faults.TextKind.TheVariants as kind
-use Rattle.contract_parse.specs.declared.token.Kind.{Kind}
 use Rattle.contract_parse.specs.declared.token.Kind.TheVariants.{Word, Number, Mark}
-use Rattle.decimal.specs.declared.Mode.{Mode}
 use Rattle.contract_parse.proofs.Passing.{and_parts, of_mark, of_word, the_name, the_number}
-use Rattle.contract_parse.proofs.FrontTakes.{Bars, BeginWithTokens, Takes, nothing_bars, one_bars, one_takes, optional_bars, optional_skips, optional_takes, repeated_bars, repeated_skips, repeated_takes, rests, symbol_bars, symbol_takes}
-use Rattle.contract_parse.proofs.FrontPlaces.{a_bound, an_expression, Decided, Ends, all_parts, behind_bound, binder_formed, bound_formed, days_formed, formed, integer_formed, literal_formed, mode_formed, names_of_set, new_formed, offset_formed, operator_formed, origin_formed, parts_of, use_formed}
-use Rattle.contract_parse.proofs.FrontChoices.{Allows, Stepped, by_bool, either, starts}
+use Rattle.contract_parse.proofs.FrontTakes.{Takes, rests, symbol_bars, symbol_takes}
+use Rattle.contract_parse.proofs.FrontPlaces.{an_expression, Decided, all_parts}
+use Rattle.contract_parse.proofs.FrontChoices.{Allows, Stepped, either, starts}
 use Rattle.contract_parse.proofs.TermsTaken.{first_is_name, first_is_number}
 
 -- ---- what a token is
@@ -43,8 +34,8 @@ of_name P t e h = let same : record { kind = Word; text = t.text; left = t.left 
 not_reserved : (text w : Bytes) → not (is_reserved text) ≡ true → is_reserved w ≡ true → bytes_eq text w ≡ false
 not_reserved text w name word =
     either (bytes_eq text w)
-      (λ hit. absurd (false≢true (sym (ap not (ap is_reserved ((bytes_eq-Decides text w).0 hit) ∙ word)) ∙ name)))
-      (λ miss. miss)
+    (λ hit. absurd (false≢true (sym (ap not (ap is_reserved ((bytes_eq-Decides text w).0 hit) ∙ word)) ∙ name)))
+    (λ miss. miss)
 
 -- a name is none of the reserved words
 name_no_word : (w : Bytes) (t : Tok) → is_reserved w ≡ true → is_name t ≡ true → is_the_word w t ≡ false
@@ -98,13 +89,13 @@ module _ (s : Scope) (d : ℕ) (names : List Bytes) (ps : List Place) (decided :
       → (ExprTakes rest → PExpr (expr_next f)) → PExpr (judged (first_at d names t) expr_next)
   expr_word w f rest hit is begins ok =
       subst (λ r. PExpr (judged (within_depth d r) expr_next)) (sym (of_word (λ z. first_of names z ≡ Ok f) w t hit (is t.left)))
-        (expr_form f rest (of_word (λ z. rests expression_all z ≡ rest ∷ []) w t hit (begins t.left)) ok)
+      (expr_form f rest (of_word (λ z. rests expression_all z ≡ rest ∷ []) w t hit (begins t.left)) ok)
 
   expr_mark : (m : Bytes) (f : First) (rest : Form Symbol) → is_the_mark m t ≡ true → ((left : ℕ) → first_of names (record { kind = Mark; text = m; left = left }) ≡ Ok f) → ((left : ℕ) → rests expression_all (record { kind = Mark; text = m; left = left }) ≡ rest ∷ [])
       → (ExprTakes rest → PExpr (expr_next f)) → PExpr (judged (first_at d names t) expr_next)
   expr_mark m f rest hit is begins ok =
       subst (λ r. PExpr (judged (within_depth d r) expr_next)) (sym (of_mark (λ z. first_of names z ≡ Ok f) m t hit (is t.left)))
-        (expr_form f rest (of_mark (λ z. rests expression_all z ≡ rest ∷ []) m t hit (begins t.left)) ok)
+      (expr_form f rest (of_mark (λ z. rests expression_all z ≡ rest ∷ []) m t hit (begins t.left)) ok)
 
   number_value : (o : Option Decimal) → rests expression_all t ≡ [] ∷ [] → PExpr (judged (within_depth d (first_number (signed_decimal false o))) expr_next)
   number_value None begins = (symbol_takes portfolio_forms starts Expression [] (all_parts ps) t begins).back [] empty
@@ -114,7 +105,7 @@ module _ (s : Scope) (d : ℕ) (names : List Bytes) (ps : List Place) (decided :
   expr_number hit =
       let value : literal_at false t ≡ signed_decimal false (decimal_in t.text) = rw hit refl in
       subst (λ r. PExpr (judged (within_depth d r) expr_next)) (sym (first_is_number names t hit ∙ ap first_number value))
-        (number_value (decimal_in t.text) (of_number (λ z. rests expression_all z ≡ [] ∷ []) t hit refl))
+      (number_value (decimal_in t.text) (of_number (λ z. rests expression_all z ≡ [] ∷ []) t hit refl))
 
   name_value : (o : Option ℕ) → rests expression_all t ≡ [] ∷ [] → PExpr (judged (within_depth d (first_name (or_fault kind.Unknown o))) expr_next)
   name_value None begins = deep_fault (nat_lt 200 d) ((symbol_takes portfolio_forms starts Expression [] (all_parts ps) t begins).back [] empty)
@@ -122,16 +113,28 @@ module _ (s : Scope) (d : ℕ) (names : List Bytes) (ps : List Place) (decided :
 
   name_rests : is_name t ≡ true → rests expression_all t ≡ [] ∷ []
   name_rests hit =
-      rw (name_no_word (codes "true") t refl hit, name_no_word (codes "false") t refl hit, name_no_word (codes "obs") t refl hit, name_no_word (codes "neg") t refl hit,
-        name_no_word (codes "not") t refl hit, name_no_word (codes "min") t refl hit, name_no_word (codes "max") t refl hit, name_no_word (codes "if") t refl hit,
-        name_no_word (codes "widen") t refl hit, name_no_word (codes "round") t refl hit, name_no_word (codes "div") t refl hit, name_no_word (codes "acc") t refl hit, hit)
+      rw (
+        name_no_word (codes "true") t refl hit,
+        name_no_word (codes "false") t refl hit,
+        name_no_word (codes "obs") t refl hit,
+        name_no_word (codes "neg") t refl hit,
+        name_no_word (codes "not") t refl hit,
+        name_no_word (codes "min") t refl hit,
+        name_no_word (codes "max") t refl hit,
+        name_no_word (codes "if") t refl hit,
+        name_no_word (codes "widen") t refl hit,
+        name_no_word (codes "round") t refl hit,
+        name_no_word (codes "div") t refl hit,
+        name_no_word (codes "acc") t refl hit,
+        hit,
+      )
       (rw (the_name t hit) refl)
 
   expr_name : is_name t ≡ true → PExpr (judged (first_at d names t) expr_next)
   expr_name hit =
       let value : variable_at names t ≡ or_fault kind.Unknown (back_to names t.text) = rw hit refl in
       subst (λ r. PExpr (judged (within_depth d r) expr_next)) (sym (first_is_name names t hit ∙ ap first_name value))
-        (name_value (back_to names t.text) (name_rests hit))
+      (name_value (back_to names t.text) (name_rests hit))
 
   pub expr_stepped : Stepped (an_expression ∷ all_parts ps) t (judged (first_at d names t) expr_next)
   expr_stepped =
@@ -153,7 +156,7 @@ module _ (s : Scope) (d : ℕ) (names : List Bytes) (ps : List Place) (decided :
       either (is_the_word (codes "acc") t) (λ hit. expr_word (codes "acc") First.Acc (args (a_name ∷ an_expression ∷ an_integer ∷ an_expression ∷ [])) hit (λ left. refl) (λ left. refl) (λ takes. (decided, takes))) (λ n15.
       let none : first_of names t ≡ Err kind.Syntax = rw (n0, n1, n2, n3, n4, n5, n6, n7, n8, n9, n10, n11, n12, n13, n14, n15) refl in
       subst (λ r. PExpr (judged (within_depth d r) expr_next)) (sym none)
-        (symbol_bars portfolio_forms starts Expression (all_parts ps) t (rw (n0, n1, n2, n3, n4, n5, n6, n7, n8, n9, n10, n11, n12, n13, n14, n15) refl))))))))))))))))))
+      (symbol_bars portfolio_forms starts Expression (all_parts ps) t (rw (n0, n1, n2, n3, n4, n5, n6, n7, n8, n9, n10, n11, n12, n13, n14, n15) refl))))))))))))))))))
 
   -- ---- contracts
 
@@ -172,7 +175,7 @@ module _ (s : Scope) (d : ℕ) (names : List Bytes) (ps : List Place) (decided :
   contr_word w h rest hit is begins ok =
       let takes = symbol_takes portfolio_forms starts Contract rest (all_parts ps) t (of_word (λ z. rests contract_all z ≡ rest ∷ []) w t hit (begins t.left)) in
       subst (λ r. PContr (judged (within_depth d r) contr_next)) (sym (of_word (λ z. head_of z ≡ Ok h) w t hit (is t.left)))
-        (deep_head h (nat_lt 200 d) (takes.back [] empty) (ok takes))
+      (deep_head h (nat_lt 200 d) (takes.back [] empty) (ok takes))
 
   pub contr_stepped : Stepped (a_contract ∷ all_parts ps) t (judged (head_at d t) contr_next)
   contr_stepped =
@@ -185,4 +188,4 @@ module _ (s : Scope) (d : ℕ) (names : List Bytes) (ps : List Place) (decided :
       either (is_the_word (codes "if") t) (λ hit. contr_word (codes "if") Head.If (an_expression ∷ the_word (codes "within") ∷ a_count ∷ the_word (codes "then") ∷ a_contract ∷ the_word (codes "else") ∷ a_contract ∷ []) hit (λ left. refl) (λ left. refl) (λ takes. (decided, takes))) (λ n6.
       let none : head_of t ≡ Err kind.Syntax = rw (n0, n1, n2, n3, n4, n5, n6) refl in
       subst (λ r. PContr (judged (within_depth d r) contr_next)) (sym none)
-        (symbol_bars portfolio_forms starts Contract (all_parts ps) t (rw (n0, n1, n2, n3, n4, n5, n6) refl)))))))))
+      (symbol_bars portfolio_forms starts Contract (all_parts ps) t (rw (n0, n1, n2, n3, n4, n5, n6) refl)))))))))

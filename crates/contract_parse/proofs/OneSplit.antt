@@ -1,5 +1,5 @@
 -- The place of a token tells it among the tokens of a text.
-use Rattle.std.proofs.Common.{◌≡◌, ℕ, ◌<◌, inl, inr, cond, List, [], ◌∷◌, ◌++◌, refl, sym, ap, ◌∙◌, arith}
+use Rattle.std.proofs.Common.{◌≡◌, ℕ, inl, inr, cond, List, [], ◌∷◌, ◌++◌, refl, sym, ap, ◌∙◌, arith}
 use Rattle.std.proofs.lemmas.Bool.{cases_Bool}
 use Rattle.contract_parse.specs.Tokens.{Tok, is_last, next_token, tokens}
 use Rattle.contract_parse.specs.Reading.{tokens_after}

@@ -3,7 +3,7 @@ use Rattle.std.specs.Prelude.{◌≡◌, ℕ, List, [], ◌∷◌, ◌++◌, cod
 use Rattle.contract_parse.specs.Tokens.{Tok, tokens}
 use Rattle.contract_parse.specs.Fronts.{IsFront, IsWhole}
 use Rattle.contract_parse.specs.declared.token.Kind.{Kind}
-use Rattle.contract_parse.specs.declared.token.Kind.TheVariants.{Word, Number, Mark, End}
+use Rattle.contract_parse.specs.declared.token.Kind.TheVariants.{Word, Number, End}
 
 -- the tokens before this one are a front, and with it they are none
 pub record EndsAt (bytes : List ℕ) (t : Tok) : Type 0 where

@@ -1,6 +1,6 @@
 -- The grammar of a portfolio's text by the forms of its tokens alone, and its fronts: what a text may begin with. The
 -- forms of expressions and of declarations serve any grammar that has them as parts.
-use Rattle.std.specs.Prelude.{◌||◌, Bool, List, [], ◌∷◌, ◌++◌, codes}
+use Rattle.std.specs.Prelude.{◌||◌, Bool, List, [], ◌∷◌, codes}
 use Rattle.std.specs.List.{list_any}
 use Rattle.contract_parse.specs.Tokens.{Tok}
 use Rattle.contract_parse.specs.Words.{Bytes, is_the_word, is_the_mark, is_name, is_number, is_integer, is_date, is_end}
