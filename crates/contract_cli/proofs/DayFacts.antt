@@ -3,10 +3,11 @@ use Rattle.std.proofs.Common.{◌≡◌, ◌∙◌, ◌≤ℤ◌, ◌<ℤ◌, �
 use Rattle.std.specs.Prelude.{Option, Some, None, Result, Ok, Err, int_le, if◌then◌else◌}
 use Rattle.std.proofs.lemmas.Int.{ints}
 use Rattle.term_core.specs.Declarations.{Declarations}
-use Rattle.term_core.specs.Dates.{epoch_day_of}
-use Rattle.fixing_files.specs.Days.{day_of, day_of_date, number_of, number_or}
+use Rattle.fixing_files.specs.Days.{day_named, day_of, placed_if_named}
 use Rattle.fixing_files.specs.declared.days.DayFault.{DayFault}
 use Rattle.fixing_files.specs.declared.days.DayFault.TheVariants.{NotDay, NoOrigin}
+use Rattle.fixing_files.specs.declared.days.NamedDay.{NamedDay}
+use Rattle.fixing_files.specs.declared.days.NamedDay.TheVariants.{Number, Date}
 use Rattle.contract_cli.specs.FlowLists.{day_in_range}
 use Rattle.contract_cli.specs.FlowsText.{IsLastDay, IsOutOfRange, no_origin, too_early, too_late, greatest_day}
 use Rattle.contract_cli.specs.Words.{begins_with, has_form, is_day}
@@ -35,15 +36,15 @@ is_last d word last h =
     let k = of_result d (day_of d.origin word) last h in
     ((k.0, k.1, k.2), (let low = k.1 in omega (arith, ints)), k.2)
 
-not_day_by : (origin : Option ℤ) (n : Option ℤ) (e : Option ℤ) → number_or n (day_of_date origin e) ≡ Err NotDay → number_or n (day_of_date None e) ≡ Err NotDay
-not_day_by origin (Some n) e h = absurd cc
-not_day_by origin None None h = refl
-not_day_by None None (Some e) h = absurd cc
-not_day_by (Some o) None (Some e) h = absurd cc
+not_day_by : (origin : Option ℤ) (named : Option NamedDay) → placed_if_named origin named ≡ Err NotDay → placed_if_named None named ≡ Err NotDay
+not_day_by origin None h = refl
+not_day_by origin (Some (Number day)) h = absurd cc
+not_day_by None (Some (Date day)) h = absurd cc
+not_day_by (Some o) (Some (Date day)) h = absurd cc
 
 not_day : (origin : Option ℤ) (word : List ℕ) → day_of origin word ≡ Err NotDay → day_of None word ≡ Err NotDay
 unfolding day_of
-not_day origin word h = not_day_by origin (number_of word) (epoch_day_of word) h
+not_day origin word h = not_day_by origin (day_named word) h
 
 no_form : (dash : Bool) (r : Result ℤ DayFault) → r ≡ Err NotDay → (not dash && has_form r) ≡ true → ⊥
 no_form true r e h = let no : false ≡ true = h in cc

@@ -6,6 +6,8 @@ use Rattle.std.specs.Str.Parse.{digits_value}
 use Rattle.term_core.specs.Dates.{is_digit, epoch_day_of}
 use Rattle.fixing_files.specs.declared.days.DayFault.{DayFault}
 use Rattle.fixing_files.specs.declared.days.DayFault.TheVariants.{NotDay, NoOrigin}
+use Rattle.fixing_files.specs.declared.days.NamedDay.{NamedDay}
+use Rattle.fixing_files.specs.declared.days.NamedDay.TheVariants.{Number, Date}
 
 -- the number that digits write
 abbrev pub digits_of : List ℕ → Option ℕ
@@ -21,16 +23,24 @@ number_of [] = None
 number_of (b ∷ rest) =
     if b == 45 then option_map (λ n. neg_ℤ (pos n)) (count_of rest) else option_map (λ n. pos n) (count_of (b ∷ rest))
 
--- the day of a date, by its epoch day and that of the origin
-abbrev pub day_of_date : Option ℤ → Option ℤ → Result ℤ DayFault
-day_of_date origin None = Err NotDay
-day_of_date None (Some day) = Err NoOrigin
-day_of_date (Some origin) (Some day) = Ok (day -ℤ origin)
+abbrev pub named_by : Option ℤ → Option ℤ → Option NamedDay
+named_by (Some n) date = Some (Number n)
+named_by None date = option_map (λ day. Date day) date
 
-abbrev pub number_or : Option ℤ → Result ℤ DayFault → Result ℤ DayFault
-number_or (Some n) date = Ok n
-number_or None date = date
+-- what a text names: a number of days, or a date by its epoch day
+unfoldable pub day_named : List ℕ → Option NamedDay
+day_named text = named_by (number_of text) (epoch_day_of text)
 
--- the day of a text, by the epoch day of the origin, where there is one
+-- the day that is named, by the epoch day of the origin, where there is one
+abbrev pub placed_day : Option ℤ → NamedDay → Result ℤ DayFault
+placed_day origin (Number day) = Ok day
+placed_day None (Date day) = Err NoOrigin
+placed_day (Some origin) (Date day) = Ok (day -ℤ origin)
+
+abbrev pub placed_if_named : Option ℤ → Option NamedDay → Result ℤ DayFault
+placed_if_named origin None = Err NotDay
+placed_if_named origin (Some named) = placed_day origin named
+
+-- the day of a text
 unfoldable pub day_of : Option ℤ → List ℕ → Result ℤ DayFault
-day_of origin text = number_or (number_of text) (day_of_date origin (epoch_day_of text))
+day_of origin text = placed_if_named origin (day_named text)

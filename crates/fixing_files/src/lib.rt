@@ -10,7 +10,7 @@ mod records;
 mod tables;
 mod values;
 
-pub use days::{DayFault, day_of_text};
+pub use days::{DayFault, NamedDay, day_of_text, place_day, read_day};
 pub use faults::{RowErr, RowFault, RowKind};
 pub use fixings::Fixings;
 pub use laws::{mantissas_are_written, tables_have_one_answer};
