@@ -1,6 +1,7 @@
 pub mod Tokens
 pub mod Lines
 pub mod Words
+pub mod NameTexts
 pub mod Names
 pub mod Judgements
 pub mod Heads

@@ -12,6 +12,7 @@ mod judges;
 mod labels;
 pub mod laws;
 mod lines;
+mod name_texts;
 mod names;
 mod numbers;
 mod portfolio;
@@ -22,5 +23,6 @@ mod words;
 
 pub use cursor::{Cursor, next_token, parse_decls, start_text};
 pub use faults::{ParseErr, TextFault, TextKind};
+pub use name_texts::is_name_text;
 pub use portfolio::parse_portfolio;
 pub use tokens::{Token, TokenKind};

@@ -31,7 +31,7 @@ pub struct Extent {
 
 const LONGEST_WORD: usize = 64;
 
-fn is_letter(b: u8) -> bool
+pub fn is_letter(b: u8) -> bool
     ensures { result ≡ is_letter b }
 {
     (97 <= b && b <= 122) || (65 <= b && b <= 90) || b == 95
@@ -43,7 +43,7 @@ fn is_digit(b: u8) -> bool
     48 <= b && b <= 57
 }
 
-fn is_word_byte(b: u8) -> bool
+pub fn is_word_byte(b: u8) -> bool
     ensures { result ≡ is_word_byte b }
 {
     is_letter(b) || is_digit(b)

@@ -84,7 +84,7 @@ fn is_reserved_of_more(text: &[u8]) -> bool
 }
 
 // By the length of the word first: it tells most names from the reserved words.
-fn is_reserved(text: &[u8]) -> bool
+pub fn is_reserved(text: &[u8]) -> bool
     ensures { result ≡ is_reserved text.now }
 {
     match text.len() {
