@@ -20,14 +20,19 @@ use Rattle.fixing_files.specs.Laws.{FaultsAreUnique, FaultyTablesHoldNothing, Ta
 use Rattle.fixing_files.specs.declared.days.DayFault.{DayFault}
 use Rattle.fixing_files.specs.declared.faults.RowKind.{RowKind}
 use Rattle.fixing_files.specs.declared.faults.RowKind.TheVariants as kind
-use Rattle.fixing_files.proofs.StepFacts.{one_pair, one_kind}
 
 -- one record has one meaning
 
-same_fields : (t : Table) (n : ℕ) (f g : Fields) → StandsAt t n f → StandsAt t n g → f ≡ g
+pub one_pair : (a b : Place × Value) → ◌≡◌ {A = Result (Place × Value) RowKind} (Ok a) (Ok b) → (a.0 ≡ b.0) × (a.1 ≡ b.1)
+one_pair a b e = let same : a ≡ b = cc in (ap (λ (x : Place × Value). x.0) same, ap (λ (x : Place × Value). x.1) same)
+
+pub one_kind : (k l : RowKind) → ◌≡◌ {A = Result (Place × Value) RowKind} (Err k) (Err l) → k ≡ l
+one_kind k l e = cc
+
+pub same_fields : (t : Table) (n : ℕ) (f g : Fields) → StandsAt t n f → StandsAt t n g → f ≡ g
 same_fields t n f g h i = let e = sym h.stands ∙ i.stands in cc
 
-same_saying : (d : Declarations) (t : Table) (n : ℕ) (q p : Place) (v w : Value) → Says d t n q v → Says d t n p w → (q ≡ p) × (v ≡ w)
+pub same_saying : (d : Declarations) (t : Table) (n : ℕ) (q p : Place) (v w : Value) → Says d t n q v → Says d t n p w → (q ≡ p) × (v ≡ w)
 same_saying d t n q p v w s u =
     let same = same_fields t n s.fields u.fields s.at u.at in
     one_pair (q, v) (p, w) (sym s.meaning ∙ ap (said d) same ∙ u.meaning)

@@ -1,8 +1,11 @@
 pub mod DayFacts
-pub mod FixedFacts
+pub mod ValueFacts
+pub mod RunFacts
+pub mod FoldFacts
+pub mod RowFacts
+pub mod GatherFacts
+pub mod SettleFacts
 pub mod TableFacts
-pub mod StepFacts
-pub mod AnswerFacts
 pub mod LawFacts
 pub mod DecimalFacts
 pub mod RecordFacts

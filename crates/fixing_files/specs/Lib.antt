@@ -1,6 +1,10 @@
 pub mod Days
-pub mod Fixed
+pub mod Runs
+pub mod RunPlaces
 pub mod Records
 pub mod Tables
 pub mod Steps
+pub mod Rows
+pub mod Folds
+pub mod Gathering
 pub mod Laws

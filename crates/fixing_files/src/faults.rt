@@ -2,9 +2,6 @@
 
 ghost use Rattle.std.specs.Prelude.{◌≡◌};
 ghost use Rattle.fixing_files.specs.declared.faults.RowErr.TheVariants.{Row};
-ghost use Rattle.fixing_files.specs.declared.faults.Refusal.TheVariants.{NoMemory as lacks_memory};
-
-use decimal::NoMemory;
 
 /// The rule that a record breaks. `Conflict` names the first record of the same place, by its number. `Factor`, `Rising`
 /// and `Zero` are of tables of discount factors.
@@ -40,19 +37,4 @@ pub fn refused(row: u32, kind: RowKind) -> RowErr
     ensures { result ≡ Row (record { row = row; kind = kind }) }
 {
     RowErr::Row(RowFault { row, kind })
-}
-
-/// Why a record says nothing.
-#[derive(Clone, Copy, Debug, PartialEq, Eq)]
-pub enum Refusal {
-    Broken(RowKind),
-    NoMemory,
-}
-
-impl From<NoMemory> for Refusal {
-    ghost from_gives = { λ _ e. e ≡ lacks_memory };
-
-    fn from(_: NoMemory) -> Refusal {
-        Refusal::NoMemory
-    }
 }

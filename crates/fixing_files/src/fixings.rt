@@ -1,18 +1,23 @@
 //! Fixings: values by places.
 
-ghost use Rattle.std.specs.Prelude.{◌≡◌, []};
-ghost use Rattle.term_core.specs.Environments.{held};
+ghost use Rattle.std.specs.Prelude.{◌≡◌, ◌<◌, ◌^◌, [], OnErr, OnOk, vec_len};
+ghost use Rattle.term_core.specs.Declarations.{declarations};
+ghost use Rattle.term_core.specs.Environments.{IsAdmitted, IsValueOf, held, label_of};
+ghost use Rattle.fixing_files.specs.Records.{IsFixingDay};
+ghost use Rattle.fixing_files.specs.Runs.{AddsPair, AreRising, IsRising, LendsDays, values_of};
 
-use crate::places::{Fixed, Place};
+use crate::runs::{FixedDay, search, value_on};
+use decimal::NoMemory;
 use std::alloc::Global;
-use std::collections::BTreeMap;
 use std::marker::Model;
-use term_core::Value;
+use term_core::{Decls, Value};
 
-/// What was observed: a finite map from places, each a label and a day, to values.
+/// What was observed: a finite map from places, each a label and a day, to values. It is kept as a run of days for each
+/// label.
 #[derive(Drop)]
 pub struct Fixings {
-    pub(crate) rows: BTreeMap<Place, Fixed>,
+    pub(crate) alloc: Global,
+    pub(crate) runs: Vec<Vec<FixedDay>>,
 }
 
 impl Model for Fixings {
@@ -20,9 +25,24 @@ impl Model for Fixings {
 
     ghost Value = { Environment };
 
-    ghost use Rattle.fixing_files.specs.Fixed.{values_of};
+    ghost use Rattle.fixing_files.specs.Runs.{AreRising, values_of};
 
-    ghost view = { λ f. values_of f.rows.entries };
+    ghost view = { λ f. values_of f.runs.items };
+
+    ghost invariant = { λ f. AreRising f.runs.items };
+}
+
+// Makes runs without days up to the run of a label.
+fn reach(alloc: Global, runs: &mut Vec<Vec<FixedDay>>, label: usize) -> Result<(), NoMemory>
+    requires { AreRising runs.old.items }
+    ensures rising { AreRising runs.new.items }
+    ensures same { values_of runs.new.items ≡ values_of runs.old.items }
+    ensures reached { OnOk result (label < vec_len runs.new) }
+{
+    while runs.len() <= label {
+        runs.push(Vec::new(alloc))?;
+    }
+    Ok(())
 }
 
 impl Fixings {
@@ -31,16 +51,46 @@ impl Fixings {
         ensures { result ≡ [] }
     {
         Fixings {
-            rows: BTreeMap::new(alloc),
+            alloc,
+            runs: Vec::new(alloc),
         }
     }
 
     /// The value at a label, by its number among the declared ones, on a day of the portfolio; none exactly where the
-    /// place is not fixed.
+    /// place is not fixed. It takes no memory.
     pub fn get(&self, label: u32, day: i64) -> Option<Value>
         ensures { result ≡ held self.now (record { label = label; day = day }) }
     {
-        let fixed = self.rows.get(&Place { label, day })?;
-        Some(fixed.value)
+        value_on(self.days_of(label), day)
+    }
+
+    /// The days on which a label is fixed, in rising order, each with its value. It takes no memory.
+    pub fn days_of(&self, label: u32) -> &[FixedDay]
+        ensures rising { IsRising result.now }
+        ensures days { LendsDays self.now label result.now }
+    {
+        match self.runs.get(label as usize) {
+            Some(run) => run,
+            None => &[],
+        }
+    }
+
+    /// Fixes a value at a place that is not fixed yet: a declared label, by its number, and a day from 3,000,000 before
+    /// the origin to 3,000,000 after it. The value lies within the label's declaration.
+    pub fn put(&mut self, decls: &Decls, label: u32, day: i64, value: Value) -> Result<(), NoMemory>
+        requires day { IsFixingDay day }
+        requires value { IsValueOf (label_of (declarations decls.now) label) value }
+        requires absent { held self.old (record { label = label; day = day }) ≡ None }
+        ensures added { OnOk result (AddsPair self.old self.new (record { label = label; day = day }) value) }
+        ensures kept { OnErr result (self.new ≡ self.old) }
+        ensures admitted { OnOk result (IsAdmitted (declarations decls.now) self.old → IsAdmitted (declarations decls.now) self.new) }
+    {
+        reach(self.alloc, &mut self.runs, label as usize)?;
+        let run = &mut self.runs[label as usize];
+        let Err(at) = search(run, day) else {
+            return Ok(());
+        };
+        run.insert(at, FixedDay { day, value })?;
+        Ok(())
     }
 }

@@ -4,9 +4,11 @@
 mod days;
 mod faults;
 mod fixings;
+mod folds;
 mod laws;
-mod places;
 mod records;
+mod rows;
+mod runs;
 mod tables;
 mod values;
 
@@ -14,7 +16,5 @@ pub use days::{DayFault, NamedDay, day_of_text, place_day, read_day};
 pub use faults::{RowErr, RowFault, RowKind};
 pub use fixings::Fixings;
 pub use laws::{mantissas_are_written, tables_have_one_answer};
+pub use runs::FixedDay;
 pub use tables::read_fixings;
-
-#[cfg(test)]
-mod tests;

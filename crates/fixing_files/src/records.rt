@@ -1,6 +1,6 @@
 //! What one record says.
 
-ghost use Rattle.std.specs.Prelude.{◌≡◌, IfOk, IfSome, Some, option_map, true};
+ghost use Rattle.std.specs.Prelude.{◌≡◌, IfSome, Some, option_map, true};
 ghost use Rattle.csv.specs.Records.{fields_of};
 ghost use Rattle.term_core.specs.Declarations.{declarations};
 ghost use Rattle.term_core.specs.Environments.{label_of};
@@ -9,16 +9,20 @@ ghost use Rattle.fixing_files.specs.Records.{day_said, label_named, said};
 ghost use Rattle.fixing_files.specs.Steps.{Tells, is_header, three_of};
 
 use crate::days::day_of_text;
-use crate::faults::{Refusal, RowKind};
-use crate::places::Place;
+use crate::faults::RowKind;
 use crate::values::value_of;
 use csv::ByteRecord;
-use decimal::NoMemory;
-use std::alloc::Global;
-use term_core::{Decls, Label, Name, Value};
+use term_core::{Decls, Label, Value};
 
 /// The limit of the days of fixings, before the origin and after it.
 const LAST_DAY: i64 = 3_000_000;
+
+/// A label, by its number among the declared ones, and a day of the portfolio.
+#[derive(Clone, Copy, Debug, PartialEq, Eq)]
+pub struct Place {
+    pub label: u32,
+    pub day: i64,
+}
 
 // The fields of a record of three.
 fn three(record: &ByteRecord) -> Option<(&[u8], &[u8], &[u8])>
@@ -44,15 +48,14 @@ pub fn is_header(record: &ByteRecord) -> bool
 }
 
 // The place of a declared label, and what is declared.
-fn label_named(alloc: Global, decls: &Decls, name: &[u8]) -> Result<Option<(u32, Label)>, NoMemory>
-    ensures place { IfOk result (λ found. option_map (λ p. p.0) found ≡ label_named (declarations decls.now) name.now) }
-    ensures declared { IfOk result (λ found. IfSome found (λ p. label_of (declarations decls.now) p.0 ≡ Some p.1)) }
-    ensures limits { IfOk result (λ found. IfSome found (λ p. is_label p.1 ≡ true)) }
+fn label_named(decls: &Decls, name: &[u8]) -> Option<(u32, Label)>
+    ensures place { option_map (λ p. p.0) result ≡ label_named (declarations decls.now) name.now }
+    ensures declared { IfSome result (λ p. label_of (declarations decls.now) p.0 ≡ Some p.1) }
+    ensures limits { IfSome result (λ p. is_label p.1 ≡ true) }
 {
-    let name = Name::new(alloc, name)?;
-    match decls.labels.get_full(&name) {
-        Some((place, _, label)) => Ok(Some((place as u32, *label))),
-        None => Ok(None),
+    match decls.labels.get_full(name) {
+        Some((place, _, label)) => Some((place as u32, *label)),
+        None => None,
     }
 }
 
@@ -69,24 +72,20 @@ fn day_said(origin: Option<i64>, text: &[u8]) -> Option<i64>
 
 /// The value that a record says is fixed, and the place, or the first rule that the record breaks.
 #[tactic(auto, unfolding(crate::specs::Records::said))]
-pub fn entry_of(
-    alloc: Global,
-    decls: &Decls,
-    record: &ByteRecord,
-) -> Result<(Place, Value), Refusal>
+pub fn entry_of(decls: &Decls, record: &ByteRecord) -> Result<(Place, Value), RowKind>
     ensures { Tells (said (declarations decls.now) (fields_of «record».now)) result }
 {
     let Some((name, day, value)) = three(record) else {
-        return Err(Refusal::Broken(RowKind::Shape));
+        return Err(RowKind::Shape);
     };
-    let Some((label, declared)) = label_named(alloc, decls, name)? else {
-        return Err(Refusal::Broken(RowKind::Label));
+    let Some((label, declared)) = label_named(decls, name) else {
+        return Err(RowKind::Label);
     };
     let Some(day) = day_said(decls.origin, day) else {
-        return Err(Refusal::Broken(RowKind::Day));
+        return Err(RowKind::Day);
     };
     match value_of(declared, value) {
         Ok(value) => Ok((Place { label, day }, value)),
-        Err(kind) => Err(Refusal::Broken(kind)),
+        Err(kind) => Err(kind),
     }
 }

@@ -4,86 +4,133 @@ ghost use Rattle.std.specs.Prelude.{◌≡◌, ◌≤◌, length, IfOk};
 ghost use Rattle.csv.specs.Records.{fields_of};
 ghost use Rattle.term_core.specs.Declarations.{declarations};
 ghost use Rattle.term_core.specs.Environments.{IsAdmitted};
-ghost use Rattle.fixing_files.specs.Fixed.{place_of};
-ghost use Rattle.fixing_files.specs.Steps.{Steps, against, found_in, step_of};
+ghost use Rattle.fixing_files.specs.Gathering.{Gathers, Takes, missing};
+ghost use Rattle.fixing_files.specs.Rows.{AreRuns};
 ghost use Rattle.fixing_files.specs.Tables.{Answers, IsPlaced, table_of};
 
-use crate::faults::{Refusal, RowErr, RowKind, refused};
+use crate::faults::{RowErr, RowFault, RowKind, refused};
 use crate::fixings::Fixings;
-use crate::places::{Fixed, Place};
+use crate::folds::{AllSettled, settle_all};
 use crate::records::{entry_of, is_header};
+use crate::rows::{Row, Run, take_row};
 use csv::{ByteRecord, ReaderBuilder};
+use decimal::NoMemory;
 use std::alloc::Global;
-use std::collections::BTreeMap;
-use term_core::{Decls, Value};
+use term_core::Decls;
 
-// Puts a value at its place, unless one stands there.
-fn put(
-    rows: &mut BTreeMap<Place, Fixed>,
-    row: u32,
-    place: Place,
-    value: Value,
-) -> Result<(), RowErr>
-    ensures { Steps row (against (found_in rows.old.entries (place_of place)) row (place_of place) value) (found_in rows.old.entries) (found_in rows.new.entries) result }
-{
-    match rows.get(&place) {
-        None => match rows.insert(place, Fixed { value, row }) {
-            Ok(_) => Ok(()),
-            Err(_) => Err(RowErr::NoMemory),
-        },
-        Some(first) if first.value == value => Ok(()),
-        Some(first) => Err(refused(row, RowKind::Conflict { earlier: first.row })),
-    }
-}
-
-// Takes the record of this number.
+// Takes the record of this number, or answers the rule that it breaks by itself.
 fn take(
     alloc: Global,
     decls: &Decls,
-    rows: &mut BTreeMap<Place, Fixed>,
-    row: u32,
+    runs: &mut Vec<Run>,
+    number: u32,
     record: &ByteRecord,
-) -> Result<(), RowErr>
-    ensures { Steps row (step_of (declarations decls.now) row (fields_of «record».now) (found_in rows.old.entries)) (found_in rows.old.entries) (found_in rows.new.entries) result }
+) -> Result<Option<RowKind>, NoMemory>
+    requires runs { AreRuns runs.old.items }
+    requires number { 1 ≤ number }
+    ensures { IfOk result (λ broken. Takes (declarations decls.now) number (fields_of «record».now) runs.old.items runs.new.items broken) }
 {
-    if row == 1 {
+    if number == 1 {
         if is_header(record) {
-            return Ok(());
+            return Ok(None);
         }
-        return Err(refused(row, RowKind::Shape));
+        return Ok(Some(RowKind::Shape));
     }
-    match entry_of(alloc, decls, record) {
-        Ok((place, value)) => put(rows, row, place, value),
-        Err(Refusal::Broken(kind)) => Err(refused(row, kind)),
-        Err(Refusal::NoMemory) => Err(RowErr::NoMemory),
+    match entry_of(decls, record) {
+        Ok((place, value)) => {
+            let row = Row {
+                day: place.day,
+                number,
+                value,
+            };
+            take_row(alloc, runs, place.label, row)?;
+            Ok(None)
+        }
+        Err(kind) => Ok(Some(kind)),
     }
+}
+
+// More than the records of a table, of which there are at most one more than bytes.
+const MOST_READS: u32 = 16_777_218;
+
+// The fault of a table without records.
+fn missing(records: u32) -> Option<RowFault>
+    ensures { result ≡ missing records }
+{
+    if records == 0 {
+        Some(RowFault {
+            row: 1,
+            kind: RowKind::Shape,
+        })
+    } else {
+        None
+    }
+}
+
+// The rows of a table up to the first record that breaks a rule by itself, and that fault.
+#[derive(Drop)]
+struct Gathered {
+    runs: Vec<Run>,
+    fault: Option<RowFault>,
+}
+
+// Reads the rows of a table, one record after the other.
+fn gather(alloc: Global, bytes: &[u8], decls: &Decls) -> Result<Gathered, NoMemory>
+    requires { length bytes.now ≤ 16_777_216 }
+    ensures { IfOk result (λ g. Gathers (declarations decls.now) (table_of bytes.now) g.runs.items g.fault) }
+{
+    let mut reader = ReaderBuilder::new()
+        .has_headers(false)
+        .flexible(true)
+        .from_reader(alloc, bytes);
+    let mut record = ByteRecord::new(alloc);
+    let mut runs = Vec::new(alloc);
+    for read in 0..MOST_READS {
+        let Ok(found) = reader.read_byte_record(&mut record) else {
+            return Err(NoMemory);
+        };
+        if !found {
+            let fault = missing(read);
+            return Ok(Gathered { runs, fault });
+        }
+        let row = read + 1;
+        let broken = take(alloc, decls, &mut runs, row, &record)?;
+        match broken {
+            None => {}
+            Some(kind) => {
+                let fault = Some(RowFault { row, kind });
+                return Ok(Gathered { runs, fault });
+            }
+        }
+    }
+    Err(NoMemory)
 }
 
 /// The fixings of a table of at most 16,777,216 bytes: a header `label,day,value`, and then a record for each value, of a
 /// declared label on a day of the portfolio or a date. A number has at most as many decimals as its label and lies within
 /// its bounds. Two records may say the same of one place. `Row` names the first record that breaks a rule, by its number
-/// from 1, the header included.
+/// from 1, the header included. The records are read one by one, and the rows of a label are sorted only where their days
+/// do not rise.
 pub fn read_fixings(alloc: Global, bytes: &[u8], decls: &Decls) -> Result<Fixings, RowErr>
     requires { length bytes.now ≤ 16_777_216 }
     ensures answer { Answers (declarations decls.now) (table_of bytes.now) result }
     ensures admitted { IfOk result (λ fixings. IsAdmitted (declarations decls.now) fixings) }
     ensures placed { IfOk result (λ fixings. IsPlaced (declarations decls.now) fixings) }
 {
-    let reader = ReaderBuilder::new()
-        .has_headers(false)
-        .flexible(true)
-        .from_reader(alloc, bytes);
-    let mut rows = BTreeMap::new(alloc);
-    let mut row = 0;
-    for record in reader.into_byte_records() {
-        let Ok(record) = record else {
-            return Err(RowErr::NoMemory);
-        };
-        row += 1;
-        take(alloc, decls, &mut rows, row, &record)?;
+    let Ok(Gathered { runs, fault }) = gather(alloc, bytes, decls) else {
+        return Err(RowErr::NoMemory);
+    };
+    match settle_all(alloc, runs) {
+        Ok(AllSettled::Clashes(clash)) => Err(refused(
+            clash.number,
+            RowKind::Conflict {
+                earlier: clash.earlier,
+            },
+        )),
+        Ok(AllSettled::Runs(runs)) => match fault {
+            Some(fault) => Err(RowErr::Row(fault)),
+            None => Ok(Fixings { alloc, runs }),
+        },
+        Err(_) => Err(RowErr::NoMemory),
     }
-    if row == 0 {
-        return Err(refused(1, RowKind::Shape));
-    }
-    Ok(Fixings { rows })
 }
