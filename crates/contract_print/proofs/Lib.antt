@@ -1,0 +1,17 @@
+pub mod DigitFacts
+pub mod TokenTexts
+pub mod Joining
+pub mod Judged
+pub mod ExprPieces
+pub mod ExprSpelled
+pub mod ContrSpelled
+pub mod DateTokens
+pub mod LinesSpelled
+pub mod DateExists
+pub mod AppendFacts
+pub mod NumbersWithin
+pub mod TermNumbers
+pub mod WordTexts
+pub mod WordsKept
+pub mod TextSpellable
+pub mod TextRows

@@ -1,0 +1,48 @@
+-- Laws of canonical texts: that of a portfolio is a text of it, there is one and no other, and what was read can be
+-- printed.
+use Rattle.std.specs.Prelude.{All, ℕ, ◌+◌, ◌≤◌, ◌≡◌, true, List, []}
+use Rattle.std.specs.Map.{keys_of}
+use Rattle.term_core.specs.Terms.{Expression, Contract}
+use Rattle.term_core.specs.Sizes.{height, height_of_contract}
+use Rattle.term_core.specs.Declarations.{Declarations}
+use Rattle.term_core.specs.Books.{Book}
+use Rattle.term_core.specs.WellFormed.{IsWellFormed, IsWellFormedContract}
+use Rattle.contract_parse.specs.Names.{scope_of}
+use Rattle.contract_parse.specs.Spelling.{expr, contr}
+use Rattle.contract_parse.specs.Texts.{Text}
+use Rattle.contract_print.specs.TermTexts.{expr_text, contr_text, observed}
+use Rattle.contract_print.specs.Canon.{IsCanon}
+use Rattle.contract_print.specs.Spellable.{ContractHasNumbersOfTexts, HasNumbersOfTexts, AreSpellable, IsSpellableBook, are_names}
+use Rattle.contract_print.specs.Spelled.{Spells, bound_names, stops}
+use Rattle.contract_print.specs.Writable.{IsWritableTerm}
+
+-- the canonical text of a term spells it wherever it stands before a stop; names of fewer than 1,000 binders are words
+abbrev pub ExpressionIsSpelled : Type 0
+ExpressionIsSpelled =
+    (d : Declarations) (n : ℕ) (e : Expression) → are_names (keys_of d.labels) ≡ true → IsWellFormed d n e → HasNumbersOfTexts e → n + height e ≤ 999
+    → Spells stops (expr_text (observed (keys_of d.labels)) n e) (expr (scope_of d []) (bound_names n) e)
+
+abbrev pub ContractIsSpelled : Type 0
+ContractIsSpelled =
+    (d : Declarations) (n : ℕ) (c : Contract) → AreSpellable d → IsWellFormedContract d n c → ContractHasNumbersOfTexts c → n + height_of_contract c ≤ 999
+    → Spells stops (contr_text (scope_of d []) n c) (contr (scope_of d []) (bound_names n) c)
+
+-- the canonical text of a portfolio is a text of it
+abbrev pub CanonIsText : Type 0
+CanonIsText = (bytes : List ℕ) (b : Book) → IsSpellableBook b → IsCanon bytes b → Text bytes b
+
+-- there is one
+abbrev pub CanonExists : Type 0
+CanonExists = (b : Book) → IsSpellableBook b → (bytes : List ℕ) × IsCanon bytes b
+
+-- and it is the only one
+abbrev pub OneCanon : Type 0
+OneCanon = (bytes other : List ℕ) (b : Book) → IsCanon bytes b → IsCanon other b → bytes ≡ other
+
+-- the contracts of a text can be printed
+abbrev pub TextsAreWritable : Type 0
+TextsAreWritable = (bytes : List ℕ) (b : Book) → Text bytes b → All (λ entry. IsWritableTerm entry.1) b.contracts
+
+-- the portfolio of a text is within the limits of texts, so it has a canonical text, which is a text of it
+abbrev pub TextsAreSpellable : Type 0
+TextsAreSpellable = (bytes : List ℕ) (b : Book) → Text bytes b → IsSpellableBook b

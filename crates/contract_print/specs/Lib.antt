@@ -1,0 +1,6 @@
+pub mod TermTexts
+pub mod Canon
+pub mod Writable
+pub mod Spellable
+pub mod Spelled
+pub mod Laws

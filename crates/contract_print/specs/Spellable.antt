@@ -1,0 +1,108 @@
+-- What a text can stand for: numbers and depths within the limits of texts, contracts that are closed, and names that
+-- are words and not reserved, of which none is declared twice in its set.
+use Rattle.std.specs.Prelude.{◌≡◌, ◌≤◌, ◌<◌, ◌^◌, ℕ, ℤ, unsigned_abs, Bool, true, false, ◌&&◌, not, List, [], ◌∷◌, ◌++◌, length, nat_le, suc}
+use Rattle.std.specs.List.{list_all, All}
+use Rattle.std.specs.Map.{keys_of}
+use Rattle.term_core.specs.Limits.{IsOffset, are_labels, are_numbers, is_origin}
+use Rattle.term_core.specs.Declarations.{Declarations}
+use Rattle.term_core.specs.Books.{Book}
+use Rattle.term_core.specs.Sizes.{height_of_contract}
+use Rattle.term_core.specs.WellFormed.{IsClosed}
+use Rattle.contract_parse.specs.Tokens.{is_letter, is_word_byte}
+use Rattle.contract_parse.specs.Words.{Bytes, is_reserved}
+use Rattle.contract_parse.specs.Names.{is_declared}
+use Rattle.term_core.specs.Terms.{Expression, Lit, Yes, Var, Obs, Neg, Num, Cmp, Not, Logic, Cond, Widen, Round, Div, Acc, Contract, Zero, Pay, Both, Scale, After, Let, Within}
+use Rattle.term_core.specs.declared.terms.Days.{Days}
+use Rattle.term_core.specs.declared.terms.Days.TheVariants.{Num as Count, Named}
+
+-- a letter or `_`, then letters, digits and `_`, in all at most 64 bytes
+abbrev pub is_word_text : Bytes → Bool
+is_word_text [] = false
+is_word_text (b ∷ bs) = is_letter b && (list_all is_word_byte bs && nat_le (suc (length bs)) 64)
+
+-- NAME
+abbrev pub is_name_text : Bytes → Bool
+is_name_text text = is_word_text text && not (is_reserved text)
+
+-- each is a NAME, and none is declared twice
+abbrev pub are_new : List Bytes → List Bytes → Bool
+are_new before [] = true
+are_new before (name ∷ names) = (is_name_text name && not (is_declared before name)) && are_new (before ++ name ∷ []) names
+
+abbrev pub are_names : List Bytes → Bool
+are_names names = are_new [] names
+
+-- the numbers of an expression are within the limits of texts
+abbrev pub HasNumbersOfTexts : Expression → Type 0
+HasNumbersOfTexts (Lit m k) = (unsigned_abs m ≤ 10 ^ 37) × (k ≤ 27)
+HasNumbersOfTexts (Yes b) = Unit {0}
+HasNumbersOfTexts (Var back) = Unit {0}
+HasNumbersOfTexts (Obs l t) = Unit {0}
+HasNumbersOfTexts (Neg e) = HasNumbersOfTexts e
+HasNumbersOfTexts (Num op a b) = HasNumbersOfTexts a × HasNumbersOfTexts b
+HasNumbersOfTexts (Cmp op a b) = HasNumbersOfTexts a × HasNumbersOfTexts b
+HasNumbersOfTexts (Not e) = HasNumbersOfTexts e
+HasNumbersOfTexts (Logic op a b) = HasNumbersOfTexts a × HasNumbersOfTexts b
+HasNumbersOfTexts (Cond t a b) = HasNumbersOfTexts t × HasNumbersOfTexts a × HasNumbersOfTexts b
+HasNumbersOfTexts (Widen k e) = (k ≤ 27) × HasNumbersOfTexts e
+HasNumbersOfTexts (Round mode k e) = (k ≤ 27) × HasNumbersOfTexts e
+HasNumbersOfTexts (Div mode k a b) = (k ≤ 27) × HasNumbersOfTexts a × HasNumbersOfTexts b
+HasNumbersOfTexts (Acc body n first) = (n ≤ 100_000) × HasNumbersOfTexts body × HasNumbersOfTexts first
+
+-- a label that is declared, at an offset within its limit
+abbrev pub IsObservable : Declarations → ℕ → ℤ → Type 0
+IsObservable d label offset = (label < length d.labels) × IsOffset offset
+
+-- an expression under k binders, with numbers within the limits of texts and leaves that fit
+abbrev pub IsSpellableWith : (ℕ → ℤ → Type 0) → ℕ → Expression → Type 0
+IsSpellableWith Fits k (Lit m s) = (unsigned_abs m ≤ 10 ^ 37) × (s ≤ 27)
+IsSpellableWith Fits k (Yes b) = Unit {0}
+IsSpellableWith Fits k (Var back) = back < k
+IsSpellableWith Fits k (Obs l t) = Fits l t
+IsSpellableWith Fits k (Neg e) = IsSpellableWith Fits k e
+IsSpellableWith Fits k (Num op a b) = IsSpellableWith Fits k a × IsSpellableWith Fits k b
+IsSpellableWith Fits k (Cmp op a b) = IsSpellableWith Fits k a × IsSpellableWith Fits k b
+IsSpellableWith Fits k (Not e) = IsSpellableWith Fits k e
+IsSpellableWith Fits k (Logic op a b) = IsSpellableWith Fits k a × IsSpellableWith Fits k b
+IsSpellableWith Fits k (Cond t a b) = IsSpellableWith Fits k t × IsSpellableWith Fits k a × IsSpellableWith Fits k b
+IsSpellableWith Fits k (Widen s e) = (s ≤ 27) × IsSpellableWith Fits k e
+IsSpellableWith Fits k (Round mode s e) = (s ≤ 27) × IsSpellableWith Fits k e
+IsSpellableWith Fits k (Div mode s a b) = (s ≤ 27) × IsSpellableWith Fits k a × IsSpellableWith Fits k b
+IsSpellableWith Fits k (Acc body n first) = (n ≤ 100_000) × IsSpellableWith Fits (suc k) body × IsSpellableWith Fits k first
+
+abbrev pub IsCountOfTexts : Days → Type 0
+IsCountOfTexts (Count n) = n ≤ 100_000
+IsCountOfTexts (Named t) = Unit {0}
+
+abbrev pub ContractHasNumbersOfTexts : Contract → Type 0
+ContractHasNumbersOfTexts Zero = Unit {0}
+ContractHasNumbersOfTexts (Pay a p q) = Unit {0}
+ContractHasNumbersOfTexts (Both a b) = ContractHasNumbersOfTexts a × ContractHasNumbersOfTexts b
+ContractHasNumbersOfTexts (Scale e c) = HasNumbersOfTexts e × ContractHasNumbersOfTexts c
+ContractHasNumbersOfTexts (After n c) = IsCountOfTexts n × ContractHasNumbersOfTexts c
+ContractHasNumbersOfTexts (Let e c) = HasNumbersOfTexts e × ContractHasNumbersOfTexts c
+ContractHasNumbersOfTexts (Within e n a b) = HasNumbersOfTexts e × IsCountOfTexts n × ContractHasNumbersOfTexts a × ContractHasNumbersOfTexts b
+
+-- the numbers and names of declarations are within the limits of texts
+pub record AreSpellable (d : Declarations) : Type 0 where
+  pub amounts : d.amounts ≤ 12
+  pub origin : is_origin d.origin ≡ true
+  pub start : d.start ≤ 1_000_000
+  pub parties : are_names d.parties ≡ true
+  pub assets : are_names d.assets ≡ true
+  pub labels : are_names (keys_of d.labels) ≡ true
+  pub templates : are_names (keys_of d.templates) ≡ true
+  pub bounds : are_labels d.labels ≡ true
+  pub days : are_numbers d.templates ≡ true
+
+-- a closed contract with numbers within the limits, of which at most 200 terms are open at one place
+pub record IsSpellable (d : Declarations) (c : Contract) : Type 0 where
+  pub closed : IsClosed d c
+  pub numbers : ContractHasNumbersOfTexts c
+  pub shallow : height_of_contract c ≤ 200
+
+-- a portfolio that texts can stand for
+pub record IsSpellableBook (b : Book) : Type 0 where
+  pub declarations : AreSpellable b.declarations
+  pub contracts : are_names (keys_of b.contracts) ≡ true
+  pub each : All (λ entry. IsSpellable b.declarations entry.1) b.contracts

@@ -1,0 +1,182 @@
+//! The texts of contracts, and of what they name.
+
+ghost use Rattle.std.specs.Prelude.{◌≡◌, ◌≤◌, ◌+◌, ◌++◌, [], OnOk, codes};
+ghost use Rattle.std.specs.Map.{keys_of};
+ghost use Rattle.term_core.specs.Declarations.{declarations};
+ghost use Rattle.term_core.specs.Terms.{contract, expression};
+ghost use Rattle.term_core.specs.Sizes.{height, height_of_contract};
+ghost use Rattle.contract_parse.specs.Names.{scope_of};
+ghost use Rattle.contract_print.specs.TermTexts.{contr_text, days_text, expr_text, name_at, observed};
+ghost use Rattle.contract_print.specs.Writable.{IsWritable, IsWritableContract};
+
+use crate::exprs::{Leaf, append_expr};
+use crate::pieces::{append, append_bound_name, append_number};
+use decimal::{NoMemory, write};
+use indexmap::{IndexMap, IndexSet};
+use std::alloc::Global;
+use term_core::{Contr, Days, Decls, Expr, Label, Name};
+
+/// Appends a declared name, by its place.
+pub fn append_name(out: &mut Vec<u8>, names: &IndexSet<Name>, place: u32) -> Result<(), NoMemory>
+    ensures { OnOk result (out.new.items ≡ out.old.items ++ name_at names.now.keys place) }
+{
+    match names.get_index(place as usize) {
+        Some(name) => append(out, name.text()),
+        None => Ok(()),
+    }
+}
+
+/// Appends the name of a label, by its place.
+pub fn append_label_name(
+    out: &mut Vec<u8>,
+    labels: &IndexMap<Name, Label>,
+    place: u32,
+) -> Result<(), NoMemory>
+    ensures { OnOk result (out.new.items ≡ out.old.items ++ name_at (keys_of labels.now.entries) place) }
+{
+    match labels.get_index(place as usize) {
+        Some((name, _)) => append(out, name.text()),
+        None => Ok(()),
+    }
+}
+
+/// Appends the name of a template, by its place.
+pub fn append_template_name(
+    out: &mut Vec<u8>,
+    templates: &IndexMap<Name, u32>,
+    place: u32,
+) -> Result<(), NoMemory>
+    ensures { OnOk result (out.new.items ≡ out.old.items ++ name_at (keys_of templates.now.entries) place) }
+{
+    match templates.get_index(place as usize) {
+        Some((name, _)) => append(out, name.text()),
+        None => Ok(()),
+    }
+}
+
+/// The observables of a portfolio: `obs(NAME, offset)`.
+#[derive(Clone, Copy)]
+pub struct Observables<'a> {
+    pub labels: &'a IndexMap<Name, Label>,
+}
+
+impl<'a> Leaf for Observables<'a> {
+    ghost text = { λ o label offset. observed (keys_of o.labels.now.entries) label offset };
+
+    fn append_leaf(
+        &self,
+        alloc: Global,
+        out: &mut Vec<u8>,
+        label: u32,
+        offset: i32,
+    ) -> Result<(), NoMemory> {
+        append(out, b"obs(")?;
+        append_label_name(out, self.labels, label)?;
+        append(out, b", ")?;
+        write(alloc, out, offset as i128, 0)?;
+        append(out, b")")
+    }
+}
+
+/// Appends a count of days: a number, or the name of a template.
+pub fn append_days(
+    alloc: Global,
+    out: &mut Vec<u8>,
+    decls: &Decls,
+    days: Days,
+) -> Result<(), NoMemory>
+    ensures { OnOk result (out.new.items ≡ out.old.items ++ days_text (scope_of (declarations decls.now) []) days) }
+{
+    match days {
+        Days::Num { days } => append_number(alloc, out, days),
+        Days::Named { template } => append_template_name(out, &decls.templates, template),
+    }
+}
+
+// An expression of a contract.
+fn append_observing(
+    alloc: Global,
+    out: &mut Vec<u8>,
+    decls: &Decls,
+    binders: u32,
+    e: &Expr,
+) -> Result<(), NoMemory>
+    requires writable { IsWritable binders (expression e.now) }
+    requires low { binders + height (expression e.now) ≤ 1_000 }
+    ensures { OnOk result (out.new.items ≡ out.old.items ++ expr_text (observed (keys_of decls.now.labels.entries)) binders (expression e.now)) }
+{
+    let leaf = Observables {
+        labels: &decls.labels,
+    };
+    append_expr(alloc, out, &leaf, binders, e)
+}
+
+/// Appends the canonical text of a contract that has so many binders round it.
+pub fn append_contr(
+    alloc: Global,
+    out: &mut Vec<u8>,
+    decls: &Decls,
+    binders: u32,
+    c: &Contr,
+) -> Result<(), NoMemory>
+    requires writable { IsWritableContract binders (contract c.now) }
+    requires low { binders + height_of_contract (contract c.now) ≤ 1_000 }
+    ensures { OnOk result (out.new.items ≡ out.old.items ++ contr_text (scope_of (declarations decls.now) []) binders (contract c.now)) }
+{
+    match c {
+        Contr::Zero => append(out, b"zero"),
+        Contr::Pay { asset, from, to } => {
+            append(out, b"pay(")?;
+            append_name(out, &decls.assets, *asset)?;
+            append(out, b", ")?;
+            append_name(out, &decls.parties, *from)?;
+            append(out, b", ")?;
+            append_name(out, &decls.parties, *to)?;
+            append(out, b")")
+        }
+        Contr::Both { left, right } => {
+            append(out, b"both(")?;
+            append_contr(alloc, out, decls, binders, left)?;
+            append(out, b", ")?;
+            append_contr(alloc, out, decls, binders, right)?;
+            append(out, b")")
+        }
+        Contr::Scale { factor, body } => {
+            append(out, b"scale(")?;
+            append_observing(alloc, out, decls, binders, factor)?;
+            append(out, b", ")?;
+            append_contr(alloc, out, decls, binders, body)?;
+            append(out, b")")
+        }
+        Contr::After { days, body } => {
+            append(out, b"after(")?;
+            append_days(alloc, out, decls, *days)?;
+            append(out, b", ")?;
+            append_contr(alloc, out, decls, binders, body)?;
+            append(out, b")")
+        }
+        Contr::Let { bound, body } => {
+            append(out, b"let ")?;
+            append_bound_name(alloc, out, binders)?;
+            append(out, b" = ")?;
+            append_observing(alloc, out, decls, binders, bound)?;
+            append(out, b" in ")?;
+            append_contr(alloc, out, decls, binders + 1, body)
+        }
+        Contr::Within {
+            test,
+            days,
+            hit,
+            miss,
+        } => {
+            append(out, b"if ")?;
+            append_observing(alloc, out, decls, binders, test)?;
+            append(out, b" within ")?;
+            append_days(alloc, out, decls, *days)?;
+            append(out, b" then ")?;
+            append_contr(alloc, out, decls, binders, hit)?;
+            append(out, b" else ")?;
+            append_contr(alloc, out, decls, binders, miss)
+        }
+    }
+}

@@ -1,0 +1,37 @@
+//! Laws over the definitions of canonical texts: each function's contract is the law.
+ghost use Rattle.contract_print.specs.Laws.{CanonExists, CanonIsText, ContractIsSpelled, ExpressionIsSpelled, OneCanon, TextsAreSpellable, TextsAreWritable};
+
+/// The canonical text of an expression spells it wherever a comma, a bracket, a space or a semicolon follows.
+pub fn expression_is_spelled()
+    ensures { ExpressionIsSpelled }
+{}
+
+/// The canonical text of a contract spells it wherever a comma, a bracket, a space or a semicolon follows.
+pub fn contract_is_spelled()
+    ensures { ContractIsSpelled }
+{}
+
+/// The canonical text of a portfolio within the limits of texts is a text of it.
+pub fn canon_is_text()
+    ensures { CanonIsText }
+{}
+
+/// A portfolio within the limits of texts has a canonical text.
+pub fn canon_exists()
+    ensures { CanonExists }
+{}
+
+/// A portfolio has at most one canonical text.
+pub fn one_canon()
+    ensures { OneCanon }
+{}
+
+/// The contracts of a text that was read may be printed.
+pub fn texts_are_writable()
+    ensures { TextsAreWritable }
+{}
+
+/// The portfolio of a text is within the limits of texts, so it has a canonical text, which is a text of it.
+pub fn texts_are_spellable()
+    ensures { TextsAreSpellable }
+{}
