@@ -3,8 +3,20 @@
 #![tactic(auto)]
 
 #[cfg(test)]
+mod cases;
+#[cfg(test)]
 mod decimals;
 #[cfg(test)]
 mod edges;
 #[cfg(test)]
+mod flow_tables;
+#[cfg(test)]
+mod lines;
+#[cfg(test)]
+mod terms;
+#[cfg(test)]
 mod texts;
+#[cfg(test)]
+mod values;
+#[cfg(test)]
+mod verdicts;

@@ -1,0 +1,101 @@
+// Flows of accepted contracts, over tables of fixings.
+
+use crate::cases::{H, case_of};
+use contract_check::check;
+use fixing_files::read_fixings;
+use flow_eval::{FlowErr, FlowRow, FlowTable, flows, flows_on};
+use std::alloc::Global;
+use std::process::Abort;
+use std::test::Fail;
+
+// The flows of the contract of a text, which is accepted, over the fixings of a table: on a day, or on the start of the
+// portfolio.
+fn flows_of(
+    rt: &impl Abort,
+    alloc: Global,
+    text: &str,
+    table: &str,
+    frame: Option<i64>,
+    until: i64,
+) -> Result<Result<FlowTable, FlowErr>, Fail> {
+    assert!(rt; table.len() <= 1_000);
+    let case = case_of(rt, alloc, H, text)?;
+    let fixings = read_fixings(alloc, table.as_bytes(), &case.decls)?;
+    let _facts = check(alloc, &case.decls, &case.contract)?;
+    let Some(frame) = frame else {
+        return Ok(flows(alloc, &case.decls, &case.contract, &fixings, until));
+    };
+    assert!(rt; 0 <= frame && frame <= 1_000);
+    Ok(flows_on(alloc, &case.decls, &case.contract, &fixings, frame, until))
+}
+
+// What an answer tells of a contract that pays on at most one day between two parties.
+#[derive(Clone, Copy, Debug, PartialEq, Eq)]
+enum Outcome {
+    Nothing,
+    Row(FlowRow),
+    Rows,
+    Fault(FlowErr),
+}
+
+fn outcome_of(answer: &Result<FlowTable, FlowErr>) -> Outcome {
+    match answer {
+        Ok(table) => match table.rows.as_slice() {
+            [] => Outcome::Nothing,
+            [row] => Outcome::Row(*row),
+            _ => Outcome::Rows,
+        },
+        Err(fault) => Outcome::Fault(*fault),
+    }
+}
+
+fn row(day: i64, from: u32, to: u32, amount: i128) -> Outcome {
+    Outcome::Row(FlowRow {
+        day,
+        asset: 0,
+        from,
+        to,
+        amount,
+    })
+}
+
+fn missing(day: i64) -> Outcome {
+    Outcome::Fault(FlowErr::Missing { label: 0, day })
+}
+
+const NONE: &str = "label,day,value\n";
+
+const RISING: &str = "label,day,value\nFX,0,1.0000\nFX,1,1.0000\nFX,2,1.0000\nFX,3,1.2000\n";
+
+const THREE_DAYS: &str = "label,day,value\nFX,0,1.0000\nFX,1,1.0000\nFX,2,1.0000\n";
+
+const TOUCH: &str =
+    "if (obs(FX, 0) > 1.1000) within 3 then scale(1.00, pay(EUR, A, B)) else scale(2.00, pay(EUR, B, A))";
+
+const TOUCH_BY_TOMORROW: &str =
+    "if (obs(FX, 0) > 1.1000) within 1 then scale(1.00, pay(EUR, A, B)) else scale(2.00, pay(EUR, B, A))";
+
+const TODAY_AND_BEFORE: &str =
+    "both(scale(round(half_even, 2, obs(FX, 0)), pay(EUR, A, B)), scale(round(half_even, 2, obs(FX, -1)), pay(EUR, B, A)))";
+
+#[test]
+fn contracts_stand_on_any_day(rt: HostRuntime) -> Result<(), Fail> {
+    for (text, table, frame, until, wanted) in [
+        (TOUCH, RISING, None, 100, row(3, 0, 1, 100)),
+        (TOUCH, RISING, Some(0), 100, row(3, 0, 1, 100)),
+        (TOUCH, RISING, Some(1), 3, row(3, 0, 1, 100)),
+        (TOUCH, RISING, Some(1), 2, Outcome::Nothing),
+        (TOUCH, NONE, Some(4), 3, Outcome::Nothing),
+        (TOUCH, THREE_DAYS, Some(0), 3, missing(3)),
+        (TOUCH_BY_TOMORROW, RISING, Some(0), 100, row(1, 1, 0, 200)),
+        (TOUCH_BY_TOMORROW, RISING, Some(2), 100, row(3, 0, 1, 100)),
+        (TODAY_AND_BEFORE, RISING, Some(1), 100, Outcome::Nothing),
+        (TODAY_AND_BEFORE, RISING, Some(3), 100, row(3, 0, 1, 20)),
+        (TODAY_AND_BEFORE, RISING, Some(0), 100, missing(-1)),
+        (TODAY_AND_BEFORE, NONE, None, 100, missing(0)),
+    ] {
+        let answer = flows_of(&rt, rt.alloc(), text, table, frame, until)?;
+        assert_eq!(rt; outcome_of(&answer), wanted, "of {text} on {frame:?}");
+    }
+    Ok(())
+}
