@@ -33,6 +33,3 @@ pub use shifts::shift_obs;
 pub use sizes::counts;
 pub use terms::{CmpOp, Contr, Counts, Days, Expr, LogicOp, NumOp};
 pub use values::{Kind, Missing, Value};
-
-#[cfg(test)]
-mod tests;
