@@ -35,10 +35,6 @@ Before-both t Always b h k = k
 Before-both t (Day x) Always h k = h
 Before-both t (Day x) (Day y) h k = let i : t ≤ℤ x = h in let j : t ≤ℤ y = k in omega (arith, ints, clamps)
 
-Before-falls : (t u : ℤ) (s : Start) → t ≤ℤ u → Before u s → Before t s
-Before-falls t u Always h k = tt
-Before-falls t u (Day x) h k = let i : u ≤ℤ x = k in omega (arith, ints)
-
 -- known at a start, as a test and as days
 
 not_less : (a b : ℤ) → b ≤ℤ a → not (int_lt a b) ≡ true

@@ -12,6 +12,3 @@ pub use laws::typing_is_kept;
 pub use sort_rule::sorts;
 pub use starts::Start;
 pub use time_rule::times;
-
-#[cfg(test)]
-mod tests;

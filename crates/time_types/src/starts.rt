@@ -1,6 +1,6 @@
 //! When a contract starts.
 
-ghost use Rattle.std.specs.Prelude.{◌≡◌, not};
+ghost use Rattle.std.specs.Prelude.{◌≡◌};
 ghost use Rattle.time_types.specs.TimeTrials.{earlier, is_known_at};
 
 /// The portfolio day, counted from the day on which a contract stands, before which it transfers nothing; or `Always`,
