@@ -4,4 +4,3 @@ pub mod ExprScaleFacts
 pub mod ScaleFacts
 pub mod ExprSizeFacts
 pub mod SizeFacts
-pub mod SortedTerms

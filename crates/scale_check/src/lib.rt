@@ -8,6 +8,3 @@ mod size_rule;
 
 pub use scale_rule::scales;
 pub use size_rule::sizes;
-
-#[cfg(test)]
-mod tests;
