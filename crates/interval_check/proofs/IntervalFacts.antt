@@ -10,11 +10,7 @@ use Rattle.interval_check.specs.Intervals.{mantissa, fitting, IsSmall}
 size_between : (l m h : ℤ) (n : ℕ) → l ≤ℤ m → m ≤ℤ h → unsigned_abs l ≤ n → unsigned_abs h ≤ n → unsigned_abs m ≤ n
 size_between l m h n a b c d = omega (arith, ints)
 
--- an interval that holds a number which is no mantissa does not fit
-pub not_fitting : (l m h : ℤ) → l ≤ℤ m → m ≤ℤ h → mantissa m ≡ None → fitting (record { low = l; high = h }) ≡ None
-not_fitting l m h a b e = grind (arith, nat_tests, size_between)
-
--- nor does one that holds the end points of an interval which does not fit
+-- an interval that holds the end points of one which does not fit does not fit
 wider : (i j : Interval) → j.low ≤ℤ i.low → i.low ≤ℤ j.high → j.low ≤ℤ i.high → i.high ≤ℤ j.high → fitting i ≡ None → fitting j ≡ None
 wider i j a b c d e = grind (arith, nat_tests, size_between)
 
@@ -35,16 +31,6 @@ same_ends a b x y e f = cc
 
 abbrev pub pair_hull : ℤ → ℤ → Interval
 pair_hull a b = hull (single a) (single b)
-
-pub no_left : (a b : ℤ) → mantissa a ≡ None → fitting (hull (single a) (single b)) ≡ None
-no_left a b e =
-    let i = pair_hull a b in
-    not_fitting i.low a i.high (omega (arith, ints, clamps)) (omega (arith, ints, clamps)) e
-
-pub no_right : (a b : ℤ) → mantissa b ≡ None → fitting (hull (single a) (single b)) ≡ None
-no_right a b e =
-    let i = pair_hull a b in
-    not_fitting i.low b i.high (omega (arith, ints, clamps)) (omega (arith, ints, clamps)) e
 
 pub both_there : (a b x y : ℤ) → mantissa a ≡ Some x → mantissa b ≡ Some y → fitting (hull (single a) (single b)) ≡ Some (record { low = int_min x y; high = int_max x y })
 both_there a b x y e f =

@@ -1,7 +1,7 @@
 -- Whole numbers times natural ones: sums, orders and negatives.
-use Rattle.std.proofs.Common.{◌≡◌, ℕ, zero, suc, ◌+◌, ◌-◌, ◌*◌, ◌<◌, ◌≤◌, ℤ, pos, negsuc, ◌+ℤ◌, ◌-ℤ◌, ◌*ℤ◌, ◌≤ℤ◌, neg_ℤ, unsigned_abs, ap, sym, ◌∙◌, arith}
+use Rattle.std.proofs.Common.{◌≡◌, ℕ, zero, suc, ◌+◌, ◌-◌, ◌*◌, ◌<◌, ◌≤◌, ℤ, pos, negsuc, ◌+ℤ◌, ◌-ℤ◌, ◌*ℤ◌, ◌≤ℤ◌, neg_ℤ, unsigned_abs, ap, ◌∙◌, arith}
 use Rattle.std.proofs.Math.IntN.{*ℤ-zero}
-use Rattle.std.proofs.Math.Nat.{mul_comm, mul-add, mul-suc}
+use Rattle.std.proofs.Math.Nat.{mul-add, mul-suc}
 use Rattle.std.proofs.lemmas.Int.{ints, by_lt_z, unsigned_abs-mul}
 use Rattle.decimal.proofs.RoundedFacts.{wider}
 
@@ -59,6 +59,3 @@ times-less x m n h le = omega (arith, ints, times-le x (pos 0) (n - m) h, times-
 
 pub times-size : (x : ℤ) (n : ℕ) → unsigned_abs (x *ℤ pos n) ≡ unsigned_abs x * n
 times-size x n = unsigned_abs-mul x (pos n)
-
-pub times-swap : (x : ℤ) (m n : ℕ) → x *ℤ pos m *ℤ pos n ≡ x *ℤ pos n *ℤ pos m
-times-swap x m n = sym (times-times x m n) ∙ ap (λ (k : ℕ). x *ℤ pos k) (mul_comm m n) ∙ times-times x n m

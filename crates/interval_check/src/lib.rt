@@ -17,6 +17,3 @@ pub use laws::{
     narrower_ranges_keep_rules, parts_may_stand_for_wholes, payments_add_up_to_total,
     replaced_parts_keep_rules, rules_hold_by_structure, values_lie_in_intervals,
 };
-
-#[cfg(test)]
-mod tests;
