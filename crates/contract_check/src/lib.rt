@@ -8,6 +8,3 @@ mod laws;
 pub use checks::{Facts, check};
 pub use horizons::horizon;
 pub use laws::{answers_are_unique, contracts_are_causal};
-
-#[cfg(test)]
-mod tests;
