@@ -1,6 +1,6 @@
 //! The evaluator: values with their kinds, or the first place that is not fixed.
 
-ghost use Rattle.std.specs.Prelude.{◌≡◌, ◌≤◌, ◌^◌, ◌+◌, ◌+ℤ◌, ◌-ℤ◌, pos, slice_get};
+ghost use Rattle.std.specs.Prelude.{◌≡◌, ◌+◌, ◌+ℤ◌, ◌-ℤ◌, pos, slice_get};
 ghost use Rattle.term_core.specs.Declarations.{declarations};
 ghost use Rattle.term_core.specs.Terms.{expression, Logic, Cond};
 ghost use Rattle.term_core.specs.Environments.{held, label_of};

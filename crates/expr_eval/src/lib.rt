@@ -15,6 +15,3 @@ pub use laws::{answers_may_be_entered, parts_may_be_evaluated};
 pub use scratch::{Binding, Held, Scratch};
 pub use term_core::Kind;
 pub use values::eval;
-
-#[cfg(test)]
-mod tests;
