@@ -24,10 +24,6 @@ use Rattle.flow_eval.proofs.WalkFacts.{walk_is}
 
 -- ---- a walk that is over
 
-none_paid : (late same : Bool) (p : Payment) → late ≡ true → (if late then [] else p ∷ []) ≡ []
-none_paid true same p h = refl
-none_paid false same p h = absurd (cc)
-
 still_over : (last f : ℤ) (n : ℕ) → int_lt last f ≡ true → int_lt last (f +ℤ pos n) ≡ true
 still_over last f n h = grind (arith, ints)
 
@@ -76,10 +72,6 @@ then_noted (Ok ps) v xs ys zs (Err NoMemory) h k = tt
 then_noted (Ok ps) v xs ys zs (Err (Missing l t)) h k = ap (then_others (Ok ps)) k
 then_noted (Ok ps) (Err m) xs ys zs (Ok u) h k = absurd (cc)
 then_noted (Ok ps) (Ok qs) xs ys zs (Ok u) h k = others_noted ps qs xs ys zs h k
-
-pub first_not_noted : (w v : PaymentsOrMissing) (xs ys : List Payment) (e : FlowErr) → Gathers w xs ys (Err e) → Gathers (then_others w v) xs ys (Err e)
-first_not_noted w v xs ys NoMemory h = tt
-first_not_noted w v xs ys (Missing l t) h = ap (λ (x : PaymentsOrMissing). then_others x v) h
 
 -- ---- a test and its branches
 

@@ -7,7 +7,7 @@ use Rattle.term_core.specs.declared.terms.Days.{Days}
 use Rattle.term_core.specs.declared.values.Kind.{Kind}
 use Rattle.term_core.specs.declared.values.Value.{Value}
 use Rattle.term_core.specs.Terms.{Expression, Lit, Yes, Var, Obs, Neg, Num, Cmp, Not, Logic, Cond, Widen, Round, Div, Acc}
-use Rattle.term_core.specs.Terms.{Contract, Both, Scale, After, Let, Within}
+use Rattle.term_core.specs.Terms.{Contract, Scale, Let, Within}
 use Rattle.term_core.specs.Environments.{Environment, Place}
 use Rattle.term_core.specs.Kinds.{kind_of, scale_of, scale_of_kind, scale_or_zero}
 use Rattle.term_core.specs.Values.{Entry, kinds, kind_or, num, value_of}
@@ -50,60 +50,6 @@ here : (e : Expression) (g : List Range) → IsPartHere e g e g
 here e g = record { part = itself e; ranges = refl }
 
 -- ---- the parts of a contract
-
-pub ready_left : (d : Declarations) (x y : Contract) (room : ℕ) (r : Room) (F : Environment) → CanWalk d (Both x y) room r F → CanWalk d x room r F
-ready_left d x y room r F h = record {
-  limits = h.limits;
-  whole = h.whole;
-  accepted = h.accepted;
-  admitted = h.admitted;
-  ranges = h.ranges;
-  inside = λ e g p. h.inside e g (inl p);
-  rules = record { sorts = h.rules.sorts.0; scales = h.rules.scales.0; bounds = h.rules.bounds.0 };
-  values = h.values;
-  places = h.places;
-  within = h.within;
-  stand = h.stand;
-  low = let l = h.low in omega arith;
-  fits = let l = h.fits in omega arith;
-  most = h.most;
-}
-
-pub ready_right : (d : Declarations) (x y : Contract) (room : ℕ) (r : Room) (F : Environment) → CanWalk d (Both x y) room r F → CanWalk d y room r F
-ready_right d x y room r F h = record {
-  limits = h.limits;
-  whole = h.whole;
-  accepted = h.accepted;
-  admitted = h.admitted;
-  ranges = h.ranges;
-  inside = λ e g p. h.inside e g (inr p);
-  rules = record { sorts = h.rules.sorts.1; scales = h.rules.scales.1; bounds = h.rules.bounds.1 };
-  values = h.values;
-  places = h.places;
-  within = h.within;
-  stand = h.stand;
-  low = let l = h.low in omega arith;
-  fits = let l = h.fits in omega arith;
-  most = h.most;
-}
-
-pub ready_after : (d : Declarations) (n : Days) (c : Contract) (room : ℕ) (r : Room) (F : Environment) → CanWalk d (After n c) room r F → CanWalk d c room r F
-ready_after d n c room r F h = record {
-  limits = h.limits;
-  whole = h.whole;
-  accepted = h.accepted;
-  admitted = h.admitted;
-  ranges = h.ranges;
-  inside = λ e g p. h.inside e g p;
-  rules = record { sorts = h.rules.sorts.0; scales = h.rules.scales.0; bounds = h.rules.bounds.0 };
-  values = h.values;
-  places = h.places;
-  within = h.within;
-  stand = h.stand;
-  low = let l = h.low in omega arith;
-  fits = h.fits;
-  most = h.most;
-}
 
 pub ready_hit : (d : Declarations) (e : Expression) (n : Days) (x y : Contract) (room : ℕ) (r : Room) (F : Environment) → CanWalk d (Within e n x y) room r F → CanWalk d x room r F
 ready_hit d e n x y room r F h = record {

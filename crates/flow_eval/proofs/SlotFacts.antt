@@ -36,17 +36,9 @@ not_itself a h = grind (arith, ints)
 pub not_both : (a b : Slot) → Precedes a b → Precedes b a → ⊥
 not_both a b h k = not_itself a (precedes_trans a b a h k)
 
-pub upto_then : (a b c : Slot) → IsUpTo a b → Precedes b c → Precedes a c
-upto_then a b c (inl e) k = subst (λ (s : Slot). Precedes s c) (sym e) k
-upto_then a b c (inr h) k = precedes_trans a b c h k
-
 pub then_upto : (a b c : Slot) → Precedes a b → IsUpTo b c → Precedes a c
 then_upto a b c h (inl e) = subst (λ (s : Slot). Precedes a s) e h
 then_upto a b c h (inr k) = precedes_trans a b c h k
-
-pub upto_trans : (a b c : Slot) → IsUpTo a b → IsUpTo b c → IsUpTo a c
-upto_trans a b c h (inl e) = subst (λ (s : Slot). IsUpTo a s) e h
-upto_trans a b c h (inr k) = inr (upto_then a b c h k)
 
 -- one comparison and then another
 then_tells : (o r : Ordering) (P E F Q P' E' Q' : Type 0) → (E → F) → MatchOrdering o P E Q → MatchOrdering r P' E' Q' → MatchOrdering (ordering_then o r) (P ⊎ (E × P')) (E × E') (Q ⊎ (F × Q'))

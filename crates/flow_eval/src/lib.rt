@@ -15,6 +15,3 @@ pub use laws::{one_answer, one_table};
 pub use netting::netted;
 pub use payments::{Payment, Transfer, payment_on};
 pub use tables::{flows, flows_on};
-
-#[cfg(test)]
-mod tests;

@@ -1,8 +1,8 @@
 //! The walk over a contract that notes its payments.
 
-ghost use Rattle.std.specs.Prelude.{◌≡◌, ◌≤◌, ◌<◌, ◌+◌, ◌-◌, ◌≤ℤ◌, ◌+ℤ◌, ◌-ℤ◌, pos, min, max, unsigned_abs, ℕ, List, length, Ok, Err, Some, None, IfOk, int_lt};
+ghost use Rattle.std.specs.Prelude.{◌≡◌, ◌≤◌, ◌<◌, ◌+◌, ◌-◌, ◌≤ℤ◌, ◌+ℤ◌, ◌-ℤ◌, pos, min, max, unsigned_abs, List, Ok, Some, None, IfOk, int_lt};
 ghost use Rattle.term_core.specs.Declarations.{declarations};
-ghost use Rattle.term_core.specs.Terms.{contract, expression, Contract, Scale, Let, Within};
+ghost use Rattle.term_core.specs.Terms.{contract, expression, Scale, Let, Within};
 ghost use Rattle.term_core.specs.Environments.{Place};
 ghost use Rattle.term_core.specs.Kinds.{kind_of, scale_of_kind};
 ghost use Rattle.term_core.specs.Values.{Entry, kind_or, num, truth};
