@@ -2,7 +2,6 @@
 
 ghost use Rattle.std.specs.Prelude.{◌≡◌, ◌≤◌, ◌≤ℤ◌, ◌+ℤ◌, ◌^◌, ◌++◌, pos, Some, OnOk, OnErr, unsigned_abs};
 ghost use Rattle.decimal.specs.Appending.{AppendsPart};
-ghost use Rattle.decimal.specs.Text.{text_of};
 ghost use Rattle.term_core.specs.Dates.{epoch_day_of};
 ghost use Rattle.term_core.specs.Declarations.{declarations};
 ghost use Rattle.report.specs.Pieces.{piece_text, IsWritable};

@@ -11,6 +11,3 @@ pub use check_lines::check_line;
 pub use fault_lines::{Fault, fault_line};
 pub use flow_lines::flow_line;
 pub use sums::net;
-
-#[cfg(test)]
-mod tests;
