@@ -80,6 +80,12 @@ fn day(alloc: Global, word: &[u8]) -> Result<Fault, NoMemory> {
     })
 }
 
+fn unknown(alloc: Global, name: &[u8]) -> Result<Fault, NoMemory> {
+    Ok(Fault::UnknownName {
+        name: Name::new(alloc, name)?,
+    })
+}
+
 fn text(kind: TextKind) -> Fault {
     Fault::Text(TextFault {
         kind,
@@ -103,6 +109,7 @@ fn faults_have_lines(rt: HostRuntime) -> Result<(), Fail> {
         (Fault::Read { place: 2 }, "fault read 2\n"),
         (Fault::TooLong { place: 255 }, "fault too long 255\n"),
         (day(alloc, b"2024-01-15")?, "fault day 2024-01-15\n"),
+        (unknown(alloc, b"nope")?, "fault unknown nope\n"),
         (missing(alloc, b"FX", -1_000)?, "fault missing FX -1000\n"),
         (refused(alloc, Rule::Sort)?, "fault refused c sort node 7\n"),
         (refused(alloc, Rule::Time)?, "fault refused c time node 7\n"),
