@@ -5,9 +5,8 @@ ghost use Rattle.term_core.specs.Kinds.{scale_of_kind, scale_of_op};
 ghost use Rattle.term_core.specs.Values.{num_op, cmp_op, of_num};
 ghost use Rattle.term_core.specs.Reads.{decides};
 ghost use Rattle.interval_check.specs.Safety.{OperateSafely};
-ghost use Rattle.interval_check.specs.RangeTrials as tried;
 ghost use Rattle.expr_eval.specs.Operations as made;
-ghost use Rattle.expr_eval.specs.Operations.{number_in, truth_in, Negates, Combines, Compares, RoundsTo, DividesTo, FitsKind};
+ghost use Rattle.expr_eval.specs.Operations.{Negates, Combines, Compares, RoundsTo, DividesTo, FitsKind};
 
 use decimal::{Mode, align, div_to, round_to};
 use term_core::{CmpOp, Kind, LogicOp, NumOp, Value};

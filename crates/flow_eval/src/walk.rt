@@ -60,43 +60,6 @@ impl Standing {
     }
 }
 
-// The number of a day count; an accepted contract has no other.
-fn count(days: &Days) -> u32
-    ensures { result ≡ count_of days.now }
-{
-    match days {
-        Days::Num { days } => *days,
-        Days::Named { .. } => 0,
-    }
-}
-
-fn scale_of(kind: Kind) -> u8
-    ensures { result ≡ scale_of_kind kind }
-{
-    match kind {
-        Kind::Truth => 0,
-        Kind::Number { scale } => scale,
-    }
-}
-
-fn number(value: Value) -> i128
-    ensures { result ≡ num value }
-{
-    match value {
-        Value::Num { mant } => mant,
-        Value::Truth { .. } => 0,
-    }
-}
-
-fn is_true(value: Value) -> bool
-    ensures { result ≡ truth value }
-{
-    match value {
-        Value::Num { .. } => false,
-        Value::Truth { value } => value,
-    }
-}
-
 // The kind of an expression.
 fn kind_at(course: &Course, e: &Expr, scratch: &Scratch) -> Kind
     requires ready { CanAnswer (declarations course.now.decls.now) (expression e.now) scratch.now course.now.fixings.now }
@@ -157,7 +120,7 @@ fn first_day(
 {
     let count = days_tried(course, here, days) + 1;
     for i in 0..count {
-        if is_true(value_at(course, test, scratch, here.after(i))?) {
+        if value_at(course, test, scratch, here.after(i))?.is_true() {
             return Ok(Some(i));
         }
     }
@@ -199,7 +162,7 @@ pub fn gather(
         }
         Contr::Scale { factor, body } => gather_scaled(course, out, scratch, here, factor, body),
         Contr::After { days, body } => {
-            gather(course, out, scratch, here.after(count(days)), body)
+            gather(course, out, scratch, here.after(days.number()), body)
         }
         Contr::Let { bound, body } => gather_bound(course, out, scratch, here, bound, body),
         Contr::Within {
@@ -229,7 +192,7 @@ fn gather_within(
     ensures answer { (g : List Entry) (bs : List (List Place)) → StandFor course.now.fixings.now scratch.old.entries g bs → Gathers (walk_of (declarations course.now.decls.now) here.decimals (Within (expression test.now) days.now (contract hit.now) (contract miss.now)) g bs course.now.fixings.now here.day course.now.until) out.old.items out.new.items result }
     ensures same { scratch.new ≡ scratch.old }
 {
-    let days = count(days);
+    let days = days.number();
     match first_day(course, test, scratch, here, days)? {
         Some(first) => gather(course, out, scratch, here.after(first), hit),
         None => gather(course, out, scratch, here.after(days), miss),
@@ -251,14 +214,14 @@ fn gather_scaled(
     ensures answer { (g : List Entry) (bs : List (List Place)) → StandFor course.now.fixings.now scratch.old.entries g bs → Gathers (walk_of (declarations course.now.decls.now) here.decimals (Scale (expression factor.now) (contract body.now)) g bs course.now.fixings.now here.day course.now.until) out.old.items out.new.items result }
     ensures same { scratch.new ≡ scratch.old }
 {
-    let scale = scale_of(kind_at(course, factor, scratch));
+    let scale = kind_at(course, factor, scratch).scale();
     let first = out.len();
     gather(course, out, scratch, here.within(scale), body)?;
     if out.len() == first {
         return Ok(());
     }
     let factor = value_at(course, factor, scratch, here)?;
-    multiply_from(out, first, number(factor));
+    multiply_from(out, first, factor.number());
     Ok(())
 }
 

@@ -8,7 +8,6 @@ ghost use Rattle.term_core.specs.Declarations.{declarations};
 ghost use Rattle.term_core.specs.declared.rules.Rule.{Rule};
 ghost use Rattle.term_core.specs.Terms.{expression, contract, Scale, Let};
 ghost use Rattle.term_core.specs.Sizes.{nodes, nodes_of_contract};
-ghost use Rattle.term_core.specs.WellFormed.{IsClosed, HasOnlyNumbers};
 ghost use Rattle.term_core.specs.Bounds.{range_kinds, aligned_total};
 ghost use Rattle.term_core.specs.Acceptance.{Meets};
 ghost use Rattle.term_core.specs.Trying.{moved};

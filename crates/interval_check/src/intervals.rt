@@ -1,8 +1,7 @@
 //! Intervals of mantissas, and arithmetic on them that stops where a number is no mantissa.
 
-ghost use Rattle.std.specs.Prelude.{◌≡◌, ◌≤◌, ◌^◌, nat_le, unsigned_abs, ◌*ℤ◌, neg_ℤ, IfSome};
+ghost use Rattle.std.specs.Prelude.{◌≡◌, ◌≤◌, ◌^◌, unsigned_abs, ◌*ℤ◌, neg_ℤ, IfSome};
 ghost use Rattle.decimal.specs.Rounding.{raised};
-ghost use Rattle.term_core.specs.Limits.{greatest_mantissa};
 ghost use Rattle.term_core.specs.declared.terms.NumOp.TheVariants.{Plus, Minus, Times, Min, Max};
 ghost use Rattle.term_core.specs.Bounds.{fits, lifted, swapped, single, hull, on_intervals};
 ghost use Rattle.interval_check.specs.Intervals.{interval, found, mantissa, fitting, IsSmall};
