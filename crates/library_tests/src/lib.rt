@@ -13,6 +13,8 @@ mod flow_tables;
 #[cfg(test)]
 mod lines;
 #[cfg(test)]
+mod printing;
+#[cfg(test)]
 mod terms;
 #[cfg(test)]
 mod texts;
