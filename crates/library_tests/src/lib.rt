@@ -9,6 +9,8 @@ mod decimals;
 #[cfg(test)]
 mod edges;
 #[cfg(test)]
+mod fixings;
+#[cfg(test)]
 mod flow_tables;
 #[cfg(test)]
 mod lines;
