@@ -157,7 +157,11 @@ fn printing_decls(alloc: Global, text: &[u8], printed: &[u8]) -> Outcome {
 #[test]
 fn portfolios_are_printed_in_their_canonical_text(rt: HostRuntime) {
     for (i, row) in ROWS.into_iter().enumerate() {
-        assert_eq!(rt; printing(rt.alloc(), row.text, row.printed), Outcome::Same, "row {i}");
+        assert_eq!(rt;
+            printing(rt.alloc(), row.text, row.printed),
+            Outcome::Same,
+            "row {i}"
+        );
     }
     assert_eq!(rt; printing_decls(rt.alloc(), DESK, DESK_DECLS), Outcome::Same);
 }
