@@ -1,22 +1,39 @@
--- What the parts of an answer answer, put together.
-use Rattle.std.proofs.Common.{◌≡◌, ℕ, List, refl}
-use Rattle.std.specs.Prelude.{Option, Result, Err}
+-- What a command answers to the bytes of its files, from what it answers of their portfolio.
+use Rattle.std.proofs.Common.{◌≡◌, ◌∙◌, ℕ, List, ap, subst, sym}
+use Rattle.std.specs.Prelude.{Option, Result, Ok, Err, IsErrAnd}
+use Rattle.std.specs.Global.{Vec}
+use Rattle.std.proofs.lemmas.Result.{err_from_is_err_and}
 use Rattle.term_core.specs.Books.{Book}
 use Rattle.contract_parse.specs.Texts.{Text}
-use Rattle.contract_cli.specs.Answers.{no_portfolio, not_spelled, stopped, Inputs}
-use Rattle.contract_cli.specs.Answering.{AnswersCheck, AnswersFlowsText, AnswersPortfolio}
-use Rattle.contract_cli.specs.FlowLists.{AnswersFlows}
+use Rattle.report.specs.declared.fault_lines.Fault.{Fault}
+use Rattle.contract_cli.specs.Answering.{AnswersBytes}
+use Rattle.contract_cli.specs.Answers.{Answers, Inputs, Stops, on_portfolio, told}
+use Rattle.contract_cli.specs.CheckText.{IsChecked}
+use Rattle.contract_cli.specs.Commands.{Asked, Check, Flows, FlowsAsked}
+use Rattle.contract_cli.specs.FlowsText.{IsFlowsText, StopsFlows}
+use Rattle.contract_cli.specs.Stopping.{AnswersBy}
+use Rattle.contract_cli.specs.declared.answers.Answer.{Answer}
+use Rattle.contract_cli.specs.declared.status.Status.TheVariants as status
 use Rattle.contract_cli.specs.declared.stop.Stop.{Stop}
 use Rattle.contract_cli.specs.declared.stop.Stop.TheVariants as stop
+use Rattle.contract_cli.proofs.StopFacts.{handed_on}
 
-pub unread_by_check : (bytes : List ℕ) (e : Stop) → AnswersPortfolio bytes (Err e) → AnswersCheck bytes (Err e)
-unread_by_check bytes (stop.Fault s f) h = no_portfolio h.0 h.1
-unread_by_check bytes stop.NoMemory h = tt
+-- want of memory is an answer of every command
+pub lacks_memory : (asked : Asked) (inputs : Inputs) (r : Result Answer Stop) → IsErrAnd r (λ e. e ≡ stop.NoMemory) → AnswersBytes asked inputs r
+lacks_memory asked inputs r given =
+    let p = err_from_is_err_and r given in
+    subst (λ (x : Result Answer Stop). AnswersBytes asked inputs x) (sym (p.1 ∙ ap (λ (x : Stop). Err x) p.2)) tt
 
-pub unread_by_flows : (until : Option (List ℕ)) (inputs : Inputs) (e : Stop) → AnswersPortfolio inputs.portfolio (Err e) → AnswersFlowsText until inputs (Err e)
-unread_by_flows until inputs (stop.Fault s f) h = not_spelled h.0 h.1
-unread_by_flows until inputs stop.NoMemory h = tt
+pub check_told : (asked : Asked) (file : List ℕ) (inputs : Inputs) (b : Book) (a : Answer) → asked ≡ Check file → Text inputs.portfolio b → IsChecked b a.status a.text.items → AnswersBytes asked inputs (Ok a)
+check_told asked file inputs b a is text h =
+    subst (λ (x : Asked). AnswersBytes x inputs (Ok a)) (sym is) (told b text h)
 
-pub stopped_flows : (until : Option (List ℕ)) (inputs : Inputs) (b : Book) (e : Stop) → Text inputs.portfolio b → AnswersFlows b until inputs.fixings (Err e) → AnswersFlowsText until inputs (Err e)
-stopped_flows until inputs b (stop.Fault s f) text h = stopped b text f h refl
-stopped_flows until inputs b stop.NoMemory text h = tt
+pub flows_told : (asked : Asked) (flows : FlowsAsked) (inputs : Inputs) (table : Option (List ℕ)) (b : Book) (a : Answer) → asked ≡ Flows flows → table ≡ inputs.fixings → Text inputs.portfolio b → a.status ≡ status.Done → IsFlowsText b flows table a.text.items → AnswersBytes asked inputs (Ok a)
+flows_told asked flows inputs table b a is same text done h =
+    subst (λ (x : Asked). AnswersBytes x inputs (Ok a)) (sym is) (told b text (done, subst (λ (t : Option (List ℕ)). IsFlowsText b flows t a.text.items) same h))
+
+pub flows_stopped : (asked : Asked) (flows : FlowsAsked) (inputs : Inputs) (table : Option (List ℕ)) (b : Book) (e : Stop) (r : Result Answer Stop) → asked ≡ Flows flows → table ≡ inputs.fixings → Text inputs.portfolio b → AnswersBy (λ (text : Vec ℕ). IsFlowsText b flows table text.items) (StopsFlows b flows table) (Err e) → IsErrAnd r (λ y. y ≡ e) → AnswersBytes asked inputs r
+flows_stopped asked flows inputs table b e r is same text h given =
+    subst (λ (x : Asked). AnswersBytes x inputs r) (sym is)
+    (handed_on (λ (t : Vec ℕ). IsFlowsText b flows table t.items) (λ (a : Answer). Answers (Flows flows) inputs a.status a.text.items) (StopsFlows b flows table) (Stops (Flows flows) inputs)
+    (λ f s. on_portfolio b text (subst (λ (t : Option (List ℕ)). StopsFlows b flows t f) same s)) e r h given)

@@ -8,8 +8,8 @@ use Rattle.fixing_files.specs.declared.days.DayFault.{DayFault}
 use Rattle.fixing_files.specs.declared.days.DayFault.TheVariants.{NotDay, NoOrigin}
 use Rattle.fixing_files.specs.declared.days.NamedDay.{NamedDay}
 use Rattle.fixing_files.specs.declared.days.NamedDay.TheVariants.{Number, Date}
-use Rattle.contract_cli.specs.FlowLists.{day_in_range}
-use Rattle.contract_cli.specs.FlowsText.{IsLastDay, IsOutOfRange, no_origin, too_early, too_late, greatest_day}
+use Rattle.contract_cli.specs.FlowLists.{CanBeLast, day_in_range}
+use Rattle.contract_cli.specs.FlowsText.{IsOutOfRange, no_origin, too_early, too_late, greatest_day}
 use Rattle.contract_cli.specs.Words.{begins_with, has_form, is_day}
 
 le_from : (a b : ℤ) → int_le a b ≡ true → a ≤ℤ b
@@ -31,10 +31,10 @@ of_result d (Ok day) last h =
     (ap (λ (x : ℤ). Ok x) k.0, k.1, k.2)
 of_result d (Err fault) last h = absurd cc
 
-pub is_last : (d : Declarations) (word : List ℕ) (last : ℤ) → day_in_range d (day_of d.origin word) ≡ Some last → IsLastDay d (Some word) last × (pos 0 ≤ℤ last) × (last ≤ℤ pos 1_100_000)
+pub is_last : (d : Declarations) (word : List ℕ) (last : ℤ) → day_in_range d (day_of d.origin word) ≡ Some last → CanBeLast d (Some word) last
 is_last d word last h =
     let k = of_result d (day_of d.origin word) last h in
-    ((k.0, k.1, k.2), (let low = k.1 in omega (arith, ints)), k.2)
+    record { is_last = (k.0, k.1, k.2); first = (let low = k.1 in omega (arith, ints)); within = k.2 }
 
 not_day_by : (origin : Option ℤ) (named : Option NamedDay) → placed_if_named origin named ≡ Err NotDay → placed_if_named None named ≡ Err NotDay
 not_day_by origin None h = refl

@@ -1,6 +1,6 @@
 -- The bytes of a portfolio and of a table have one answer of `flows`: one thing stops it, or one text is written.
 use Rattle.std.proofs.Common.{◌≡◌, ◌∙◌, ◌<ℤ◌, ◌≤ℤ◌, ◌+ℤ◌, ◌-ℤ◌, ℕ, ℤ, pos, Bool, true, false, List, [], ◌∷◌, ◌++◌, ap, arith, refl, subst, sym}
-use Rattle.std.specs.Prelude.{All, Option, Some, None, Result, Ok, Err, is_some, if◌then◌else◌}
+use Rattle.std.specs.Prelude.{All, Option, Some, None, Result, Ok, Err, codes, is_some, if◌then◌else◌}
 use Rattle.std.proofs.lemmas.Int.{ints}
 use Rattle.std.proofs.lemmas.List.Elements.{All-head, All-tail, All-weaker}
 use Rattle.term_core.specs.declared.name.Name.{Name}
@@ -23,8 +23,8 @@ use Rattle.flow_eval.specs.Tables.{paid_by}
 use Rattle.flow_eval.specs.declared.flow_table.FlowRow.{FlowRow}
 use Rattle.flow_eval.proofs.TableFacts.{tables_are_one}
 use Rattle.report.specs.FlowLines.{IsDayText, IsFlowLine, line_with}
-use Rattle.contract_cli.specs.CheckText.{AreAllAccepted, at_defaults}
-use Rattle.contract_cli.specs.FlowsText.{AreAllFixed, AreAllLines, AreFixings, AreFlowLines, AreLines, IsFirstMissing, IsFirstNotAccepted, IsLastDay, IsOutOfRange, no_origin, too_early, too_late, greatest_day, missing_of}
+use Rattle.contract_cli.specs.CheckText.{AreAllAccepted}
+use Rattle.contract_cli.specs.FlowsText.{AreAllFixed, AreAllLines, AreFixings, AreFlowLines, AreLines, AreLinesAsked, AreSumLines, IsFirstMissing, IsFirstNotAccepted, IsLastDay, IsOutOfRange, no_origin, too_early, too_late, greatest_day, missing_of, paid_together}
 
 -- ---- the last day
 
@@ -60,25 +60,25 @@ all_at P (y ∷ b) x after h = all_at P b x after (All-tail P y (b ++ x ∷ afte
 record IsRefusedEntry (d : Declarations) (entry : Name × Contract) : Type 0 where
   rule : Rule
   node : ℕ
-  refused : IsRefusal d (at_defaults d entry.1) rule node
+  refused : IsRefusal d entry.1 rule node
 
 abbrev IsAcceptedEntry : Declarations → Name × Contract → Type 0
-IsAcceptedEntry d entry = IsAccepted d (at_defaults d entry.1)
+IsAcceptedEntry d entry = IsAccepted d entry.1
 
 not_both : (d : Declarations) (entry : Name × Contract) → IsAcceptedEntry d entry → IsRefusedEntry d entry → ⊥
-not_both d entry a r = accepted_not_refused d (at_defaults d entry.1) r.rule r.node a r.refused
+not_both d entry a r = accepted_not_refused d entry.1 r.rule r.node a r.refused
 
 module _ (d : Declarations) (entries : List (Name × Contract)) where
   pub accepted_or_not : (name : List ℕ) (rule : Rule) (node : ℕ) → AreAllAccepted d entries → IsFirstNotAccepted d entries name rule node → ⊥
   accepted_or_not name rule node all n =
       let here = all_at (IsAcceptedEntry d) n.before (name, n.contr) n.after (subst (λ (xs : List (Name × Contract)). AreAllAccepted d xs) n.split all) in
-      accepted_not_refused d (at_defaults d n.contr) rule node here n.refused
+      accepted_not_refused d n.contr rule node here n.refused
 
   pub one_not_accepted : (name other : List ℕ) (rule law : Rule) (node place : ℕ) → IsFirstNotAccepted d entries name rule node → IsFirstNotAccepted d entries other law place → (name ≡ other) × (rule ≡ law) × (node ≡ place)
   one_not_accepted name other rule law node place n m =
       let same = first_one (IsAcceptedEntry d) (IsRefusedEntry d) (not_both d) n.before m.before (name, n.contr) (other, m.contr) n.after m.after (sym n.split ∙ m.split) n.accepted m.accepted (record { rule = rule; node = node; refused = n.refused }) (record { rule = law; node = place; refused = m.refused }) in
       let contr : n.contr ≡ m.contr = ap (λ (x : Name × Contract). x.1) same in
-      let r = refusals_unique d (at_defaults d m.contr) rule law node place (subst (λ (c : Contract). IsRefusal d (at_defaults d c) rule node) contr n.refused) m.refused in
+      let r = refusals_unique d m.contr rule law node place (subst (λ (c : Contract). IsRefusal d c rule node) contr n.refused) m.refused in
       (ap (λ (x : Name × Contract). x.0) same, r.0, r.1)
 
 -- ---- fixings that hold the same
@@ -108,8 +108,8 @@ same_unfixed one other same (q ∷ qs) =
 
 same_missing : (d : Declarations) (one other : Environment) (last : ℤ) (c : Contract) → HoldSame one other → missing_of d one last c ≡ missing_of d other last c
 same_missing d one other last c same =
-    let reads : Environment → List Place = λ env. reads_until d (at_defaults d c) env (pos d.start) last in
-    unfixed_up_to one (reads one) ∙ ap (first_unfixed one) (sym (reads_stay d (at_defaults d c) one other (pos d.start) (pos 0) (last -ℤ pos d.start) (extends_same one other same))) ∙ sym (unfixed_up_to one (reads other)) ∙ same_unfixed one other same (reads other)
+    let reads : Environment → List Place = λ env. reads_until d c env (pos d.start) last in
+    unfixed_up_to one (reads one) ∙ ap (first_unfixed one) (sym (reads_stay d c one other (pos d.start) (pos 0) (last -ℤ pos d.start) (extends_same one other same))) ∙ sym (unfixed_up_to one (reads other)) ∙ same_unfixed one other same (reads other)
 
 -- ---- reads that are not fixed
 
@@ -162,10 +162,19 @@ module _ (d : Declarations) (last : ℤ) (one other : Environment) (same : HoldS
 
   one_flow_lines : (name : List ℕ) (c : Contract) (t u : List ℕ) → AreFlowLines d one last name c t → AreFlowLines d other last name c u → t ≡ u
   one_flow_lines name c t u h k =
-      let rows = one_table (at_defaults d c) h.rows k.rows h.flows k.flows in
+      let rows = one_table c h.rows k.rows h.flows k.flows in
       one_lines d name k.rows t u (subst (λ (xs : List FlowRow). AreLines d name xs t) rows h.lines) k.lines
 
   pub one_all_lines : (entries : List (Name × Contract)) (t u : List ℕ) → AreAllLines d one last entries t → AreAllLines d other last entries u → t ≡ u
   one_all_lines [] t u h k = h ∙ sym k
   one_all_lines (entry ∷ entries) t u h k =
       h.4 ∙ ap (λ (x : List ℕ). x ++ h.1) (one_flow_lines entry.0 entry.1 h.0 k.0 h.2 k.2) ∙ ap (λ (x : List ℕ). k.0 ++ x) (one_all_lines entries h.1 k.1 h.3 k.3) ∙ sym k.4
+
+  one_sum_lines : (entries : List (Name × Contract)) (t u : List ℕ) → AreSumLines d one last entries t → AreSumLines d other last entries u → t ≡ u
+  one_sum_lines entries t u h k =
+      let rows = tables_are_one (paid_together d entries one) (pos d.start) last h.rows k.rows (h.table one (λ q v e. e)) (k.table one (λ q v e. same q ∙ e)) in
+      one_lines d (codes "*") k.rows t u (subst (λ (xs : List FlowRow). AreLines d (codes "*") xs t) rows h.lines) k.lines
+
+  pub one_lines_asked : (net : Bool) (entries : List (Name × Contract)) (t u : List ℕ) → AreLinesAsked net d one last entries t → AreLinesAsked net d other last entries u → t ≡ u
+  one_lines_asked true entries t u h k = one_sum_lines entries t u h k
+  one_lines_asked false entries t u h k = one_all_lines entries t u h k

@@ -1,397 +1,309 @@
--- The laws of a run's status, over its clause.
-use Rattle.std.proofs.Common.{◌≡◌, ◌≢◌, ◌∙◌, ◌≤◌, ◌<◌, ◌⊎◌, inl, inr, ℕ, ℤ, List, length, ap, arith, refl, subst, sym}
+-- The laws of a run's status, over how a run ends.
+use Rattle.std.proofs.Common.{◌≡◌, ◌∙◌, ◌≤◌, ◌<◌, ◌⊎◌, inl, inr, ℕ, ℤ, List, length, ap, arith, refl, subst, sym}
 use Rattle.std.specs.Prelude.{Option, Some, None}
 use Rattle.edge_io.specs.Counts.{Rose}
-use Rattle.term_core.specs.declared.rules.Rule.{Rule}
 use Rattle.term_core.specs.Books.{Book}
 use Rattle.term_core.specs.Environments.{Environment}
 use Rattle.contract_parse.specs.Texts.{Text}
 use Rattle.contract_parse.proofs.OneText.{one_text}
-use Rattle.fixing_files.specs.Tables.{IsFirstFault, table_of}
-use Rattle.fixing_files.specs.declared.faults.RowFault.{RowFault}
 use Rattle.report.specs.FaultLines.{fault_text}
+use Rattle.report.specs.declared.fault_lines.Fault.{Fault}
 use Rattle.report.specs.declared.fault_lines.Fault.TheVariants as fault
-use Rattle.contract_cli.specs.Answers.{Answers, AnswersOf, ChecksBytes, no_portfolio, some_refused, all_accepted, FlowsOfBytes, not_spelled, stopped, done, Inputs, IsNoText}
+use Rattle.contract_cli.specs.Answers.{Answers, Inputs, IsNoText, Stops, StopsOn, Tells, not_spelled, on_portfolio, stopped, told}
 use Rattle.contract_cli.specs.Answering.{AreShort}
+use Rattle.contract_cli.specs.CheckText.{AreAllAccepted, IsChecked, all_accepted, some_refused}
+use Rattle.contract_cli.specs.Commands.{Asked, Check, Flows, FlowsAsked}
 use Rattle.contract_cli.specs.FlowLists.{IsShortTable}
-use Rattle.contract_cli.specs.CheckText.{AreAllAccepted, IsAllAccepted}
-use Rattle.contract_cli.specs.FlowsText.{AreAllFixed, AreFixings, IsFirstNotAccepted, IsFlowsText, IsLastDay, IsOutOfRange, Stops, day_out, not_accepted, row_refused, read_missing}
-use Rattle.contract_cli.specs.Runs.{AnswerCause, Answered, Cause, Edge, FilesSeen, IsNext, is_first, is_second, Meets, Names, WritesAll, WritesNothing, longest_file}
-use Rattle.contract_cli.specs.RunLaws.{BadRowIsExact, BadTextIsExact, ComesExactlyWhere, DayRangeIsExact, FaultsHaveCauses, IsBadRow, IsDayOut, IsMissing, IsOrNoMemory, IsReadWhole, IsRefused, by_check, by_flows, IsTooLong, long_portfolio, long_table, MissingIsExact, RefusalsWriteTheirLine, RefusedIsExact, RunIsComplete, SomeReadFailed, failed_portfolio, failed_table, TooLongIsExact, UsageIsExact}
-use Rattle.contract_cli.specs.Words.{Asked, command_of}
-use Rattle.contract_cli.specs.declared.words.Verb.{Verb}
-use Rattle.contract_cli.specs.declared.words.Verb.TheVariants.{Check, Flows}
+use Rattle.contract_cli.specs.FlowsText.{CanGo, IsFlowsText, StopsFlows, name_unknown, day_out, not_accepted, row_refused, read_missing}
+use Rattle.contract_cli.specs.Runs.{Cause, stopped as stops_run, answered, Edge, FileFault, read_failed, read_long, FilesSeen, IsNext, Meets, written, broken, lacking, Names, StopsRun, no_form, at_file, WritesAll, WritesNothing, longest_file}
+use Rattle.contract_cli.specs.RunLaws.{BadTextIsExact, CauseOnBook, CheckIsComplete, ComesExactlyWhere, FlowsAreComplete, IsExactOnBook, IsLongAt, long_portfolio, long_table, IsOrNoMemory, IsReadWhole, IsTextWhere, IsTooLong, ReadFaultIs, ReadFaultsHaveCauses, RefusalsAreExact, TooLongIs, TooLongIsExact, UsageIsExact, UsageWritesItsLine, WriteFaultsHaveCauses, WritesSucceed}
+use Rattle.contract_cli.specs.Statuses.{status_of}
+use Rattle.contract_cli.specs.Used.{used}
+use Rattle.contract_cli.specs.Words.{command_of}
 use Rattle.contract_cli.specs.declared.status.Status.{Status}
 use Rattle.contract_cli.specs.declared.status.Status.TheVariants as status
-use Rattle.contract_cli.proofs.AnswersAreOne.{accepted_or_refused, answers_are_one, rows_or_fixings, out_or_in}
-use Rattle.contract_cli.proofs.FlowsAreOne.{accepted_or_not, fixed_or_not, hold_same, one_last, same_fixed}
-use Rattle.contract_cli.proofs.RunFacts.{CauseIs, usage, read_fault, too_long, answer, cause_is, Ends, long, told, without, ends, one_command, Settled, answered, lacking, settled}
+use Rattle.contract_cli.proofs.FlowsAreOne.{accepted_or_not, fixed_or_not}
+use Rattle.contract_cli.proofs.RunFacts.{Ends, long, with_answer, with_nothing, ends}
+use Rattle.contract_cli.proofs.Stages.{Below, Fails, end_below, fails, one_stage, stage_of, status_at, stop_or_end}
 
 -- two statuses that a status cannot both be
 apart : {s x y : Status} (P : Type 0) → (x ≡ y → ⊥) → s ≡ x → s ≡ y → P
 apart P differ e f = absurd (differ (sym e ∙ f))
 
--- ---- the statuses of answers
+-- ---- what an answer tells of its status
 
-data AnswerStatus (s : Status) : Type 0 where
-  bad_text : s ≡ status.BadText → AnswerStatus s
-  day_range : s ≡ status.DayRange → AnswerStatus s
-  refused : s ≡ status.Refused → AnswerStatus s
-  bad_row : s ≡ status.BadRow → AnswerStatus s
-  missing : s ≡ status.Missing → AnswerStatus s
-  finished : s ≡ status.Done → AnswerStatus s
+data AnswerIs (asked : Asked) (inputs : Inputs) (s : Status) : Type 0 where
+  no_text : s ≡ status.BadText → IsNoText inputs.portfolio → AnswerIs asked inputs s
+  caused : IsTextWhere inputs.portfolio (CauseOnBook s asked inputs.fixings) → AnswerIs asked inputs s
+  done : s ≡ status.Done → AnswerIs asked inputs s
 
-status_of : (verb : Verb) (until : Option (List ℕ)) (inputs : Inputs) (s : Status) (text : List ℕ) → AnswersOf verb until inputs s text → AnswerStatus s
-status_of Check until inputs s text (no_portfolio e h) = bad_text e
-status_of Check until inputs s text (some_refused e h t) = refused e
-status_of Check until inputs s text (all_accepted e h t) = finished e
-status_of Flows until inputs s text (not_spelled e h) = bad_text e
-status_of Flows until inputs s text (stopped b t f (day_out e word given out is) line) = day_range e
-status_of Flows until inputs s text (stopped b t f (not_accepted e last range name rule node n is) line) = refused e
-status_of Flows until inputs s text (stopped b t f (row_refused e last range all bytes named row one is) line) = bad_row e
-status_of Flows until inputs s text (stopped b t f (read_missing e last range all fixings are place m is) line) = missing e
-status_of Flows until inputs s text (done e b t flows) = finished e
+cause_of_stop : (flows : FlowsAsked) (b : Book) (table : Option (List ℕ)) (f : Fault) → StopsFlows b flows table f → CauseOnBook (status_of f) (Flows flows) table b
+cause_of_stop flows b table f (name_unknown name given unknown is) = subst (λ (x : Fault). CauseOnBook (status_of x) (Flows flows) table b) (sym is) unknown
+cause_of_stop flows b table f (day_out known word given out is) =
+    subst (λ (x : Fault). CauseOnBook (status_of x) (Flows flows) table b) (sym is) (record { known = known; word = word; given = given; out = out })
+cause_of_stop flows b table f (not_accepted last fit name rule node first is) =
+    subst (λ (x : Fault). CauseOnBook (status_of x) (Flows flows) table b) (sym is) (record { last = last; fit = fit; refused = λ all. accepted_or_not b.declarations (used flows.contract b) name rule node all first })
+cause_of_stop flows b table f (row_refused last fit all bytes named row first is) =
+    subst (λ (x : Fault). CauseOnBook (status_of x) (Flows flows) table b) (sym is) (record { last = last; fit = fit; accepted = all; bytes = bytes; named = named; row = row; first = first })
+cause_of_stop flows b table f (read_missing last fit all fixings are place first is) =
+    subst (λ (x : Fault). CauseOnBook (status_of x) (Flows flows) table b) (sym is) (record { last = last; fit = fit; accepted = all; fixings = fixings; are_fixings = are; unfixed = λ every. fixed_or_not b.declarations last (used flows.contract b) fixings fixings (λ q. refl) place every first })
 
-no_other : (other : Status) → (other ≡ status.Usage) ⊎ (other ≡ status.TooLong) → AnswerStatus other → ⊥
-no_other other (inl u) (bad_text e) = let h : status.BadText ≡ status.Usage = sym e ∙ u in cc
-no_other other (inl u) (day_range e) = let h : status.DayRange ≡ status.Usage = sym e ∙ u in cc
-no_other other (inl u) (refused e) = let h : status.Refused ≡ status.Usage = sym e ∙ u in cc
-no_other other (inl u) (bad_row e) = let h : status.BadRow ≡ status.Usage = sym e ∙ u in cc
-no_other other (inl u) (missing e) = let h : status.Missing ≡ status.Usage = sym e ∙ u in cc
-no_other other (inl u) (finished e) = let h : status.Done ≡ status.Usage = sym e ∙ u in cc
-no_other other (inr u) (bad_text e) = let h : status.BadText ≡ status.TooLong = sym e ∙ u in cc
-no_other other (inr u) (day_range e) = let h : status.DayRange ≡ status.TooLong = sym e ∙ u in cc
-no_other other (inr u) (refused e) = let h : status.Refused ≡ status.TooLong = sym e ∙ u in cc
-no_other other (inr u) (bad_row e) = let h : status.BadRow ≡ status.TooLong = sym e ∙ u in cc
-no_other other (inr u) (missing e) = let h : status.Missing ≡ status.TooLong = sym e ∙ u in cc
-no_other other (inr u) (finished e) = let h : status.Done ≡ status.TooLong = sym e ∙ u in cc
+stop_is : (asked : Asked) (inputs : Inputs) (b : Book) (f : Fault) (s : Status) → Text inputs.portfolio b → StopsOn asked b inputs.fixings f → s ≡ status_of f → AnswerIs asked inputs s
+stop_is (Check file) inputs b f s text h e = absurd h
+stop_is (Flows flows) inputs b f s text h e =
+    caused (record { book = b; spelled = text; holds = subst (λ (x : Status). CauseOnBook x (Flows flows) inputs.fixings b) (sym e) (cause_of_stop flows b inputs.fixings f h) })
 
-no_usage_answer : (asked : Asked) (inputs : Inputs) (s : Status) (text : List ℕ) → s ≡ status.Usage → Answers asked inputs s text → ⊥
-no_usage_answer asked inputs s text is a = no_other s (inl is) (status_of asked.verb asked.until inputs s text a)
+told_is : (asked : Asked) (inputs : Inputs) (b : Book) (s : Status) (text : List ℕ) → Text inputs.portfolio b → Tells asked b inputs.fixings s text → AnswerIs asked inputs s
+told_is (Check file) inputs b s text spelled (all_accepted e all lines) = done e
+told_is (Check file) inputs b s text spelled (some_refused e none lines) =
+    caused (record { book = b; spelled = spelled; holds = subst (λ (x : Status). CauseOnBook x (Check file) inputs.fixings b) (sym e) none })
+told_is (Flows flows) inputs b s text spelled h = done h.0
 
-no_long_answer : (asked : Asked) (inputs : Inputs) (s : Status) (text : List ℕ) → s ≡ status.TooLong → Answers asked inputs s text → ⊥
-no_long_answer asked inputs s text is a = no_other s (inr is) (status_of asked.verb asked.until inputs s text a)
+answer_is : (asked : Asked) (inputs : Inputs) (s : Status) (text : List ℕ) → Answers asked inputs s text → AnswerIs asked inputs s
+answer_is asked inputs s text (stopped f (not_spelled h) e line) = no_text (e ∙ ap status_of h.fault_is) h.no_text
+answer_is asked inputs s text (stopped f (on_portfolio b spelled h) e line) = stop_is asked inputs b f s spelled h e
+answer_is asked inputs s text (told b spelled h) = told_is asked inputs b s text spelled h
 
--- ---- usage, faults and lengths
+-- a status that no portfolio gives and that is not that of a bad text or of the end
+not_so : (wanted : Status) → (status.BadText ≡ wanted → ⊥) → (status.Done ≡ wanted → ⊥) → ((asked : Asked) (table : Option (List ℕ)) (b : Book) → CauseOnBook wanted asked table b → ⊥)
+    → (asked : Asked) (inputs : Inputs) (s : Status) → s ≡ wanted → AnswerIs asked inputs s → ⊥
+not_so wanted no_bad no_done no_cause asked inputs s is (no_text e h) = no_bad (sym e ∙ is)
+not_so wanted no_bad no_done no_cause asked inputs s is (caused h) =
+    no_cause asked inputs.fixings h.book (subst (λ (x : Status). CauseOnBook x asked inputs.fixings h.book) is h.holds)
+not_so wanted no_bad no_done no_cause asked inputs s is (done e) = no_done (sym e ∙ is)
 
-usage_by : (words : List (List ℕ)) (edge : Edge) (s : Status) → Settled words edge s → ComesExactlyWhere (command_of words ≡ None) status.Usage s
-usage_by words edge s (lacking e w) = record { comes = λ none. inr e; only = λ is. apart _ (λ (x : status.NoMemory ≡ status.Usage). cc) e is }
-usage_by words edge s (answered a) = by (cause_is words edge.files s a.text a.cause)
-  where
-    by : CauseIs words edge.files s a.text → ComesExactlyWhere (command_of words ≡ None) status.Usage s
-    by (usage e c) = record { comes = λ none. inl e; only = λ is. c.no_form }
-    by (read_fault e c) = record { comes = λ none. absurd (let h : command_of words ≡ Some c.asked = c.named in cc); only = λ is. apart _ (λ (x : status.ReadFault ≡ status.Usage). cc) e is }
-    by (too_long e c) = record { comes = λ none. absurd (let h : command_of words ≡ Some c.asked = c.named in cc); only = λ is. apart _ (λ (x : status.TooLong ≡ status.Usage). cc) e is }
-    by (answer c) = record { comes = λ none. absurd (let h : command_of words ≡ Some c.asked = c.named in cc); only = λ is. absurd (no_usage_answer c.asked c.inputs s a.text is c.answer) }
+no_usage : (asked : Asked) (inputs : Inputs) (s : Status) (text : List ℕ) → Answers asked inputs s text → s ≡ status.Usage → ⊥
+no_usage asked inputs s text a is =
+    not_so status.Usage (λ (x : status.BadText ≡ status.Usage). cc) (λ (x : status.Done ≡ status.Usage). cc) (λ k table b h. h) asked inputs s is (answer_is asked inputs s text a)
+
+no_long : (asked : Asked) (inputs : Inputs) (s : Status) (text : List ℕ) → Answers asked inputs s text → s ≡ status.TooLong → ⊥
+no_long asked inputs s text a is =
+    not_so status.TooLong (λ (x : status.BadText ≡ status.TooLong). cc) (λ (x : status.Done ≡ status.TooLong). cc) (λ k table b h. h) asked inputs s is (answer_is asked inputs s text a)
+
+no_read_fault : (asked : Asked) (inputs : Inputs) (s : Status) (text : List ℕ) → Answers asked inputs s text → s ≡ status.ReadFault → ⊥
+no_read_fault asked inputs s text a is =
+    not_so status.ReadFault (λ (x : status.BadText ≡ status.ReadFault). cc) (λ (x : status.Done ≡ status.ReadFault). cc) (λ k table b h. h) asked inputs s is (answer_is asked inputs s text a)
+
+no_write_fault : (asked : Asked) (inputs : Inputs) (s : Status) (text : List ℕ) → Answers asked inputs s text → s ≡ status.WriteFault → ⊥
+no_write_fault asked inputs s text a is =
+    not_so status.WriteFault (λ (x : status.BadText ≡ status.WriteFault). cc) (λ (x : status.Done ≡ status.WriteFault). cc) (λ k table b h. h) asked inputs s is (answer_is asked inputs s text a)
+
+-- ---- usage
+
+module _ (words : List (List ℕ)) (files : FilesSeen) where
+  -- the fault of a file is none of usage
+  file_not_usage : (file : List ℕ) (place : ℕ) (f : Fault) → FileFault files file place f → status_of f ≡ status.Usage → ⊥
+  file_not_usage file place f (read_failed is rose) e = apart ⊥ (λ (x : status.ReadFault ≡ status.Usage). cc) (ap status_of is) e
+  file_not_usage file place f (read_long is known) e = apart ⊥ (λ (x : status.TooLong ≡ status.Usage). cc) (ap status_of is) e
+
+  usage_only : (s : Status) (text : List ℕ) → Cause words files s text → s ≡ status.Usage → (command_of words ≡ None) × (text ≡ fault_text fault.Usage)
+  usage_only s text (stops_run f (no_form none is) e line) same = (none, line ∙ ap fault_text is)
+  usage_only s text (stops_run f (at_file asked named file place next h) e line) same = absurd (file_not_usage file place f h (sym e ∙ same))
+  usage_only s text (answered asked named inputs read a) same = absurd (no_usage asked inputs s text a same)
+
+  usage_comes : (s : Status) (text : List ℕ) → Cause words files s text → command_of words ≡ None → s ≡ status.Usage
+  usage_comes s text (stops_run f (no_form none is) e line) h = e ∙ ap status_of is
+  usage_comes s text (stops_run f (at_file asked named file place next k) e line) h = absurd (let x : command_of words ≡ Some asked = named in cc)
+  usage_comes s text (answered asked named inputs read a) h = absurd (let x : command_of words ≡ Some asked = named in cc)
 
 pub usage_is_exact : UsageIsExact
-usage_is_exact words edge s m calm = usage_by words edge s (settled words edge s m calm)
-
-pub faults_have_causes : FaultsHaveCauses
-faults_have_causes words edge s asked m named = ((λ is. rose_of s is m), (λ is. written_of s is m))
-  where
-    failed : (a : Asked) (file : List ℕ) (place : ℕ) → a ≡ asked → IsNext edge.files a file place → Rose (edge.files.faults_before file) (edge.files.faults_after file) → SomeReadFailed edge.files asked
-    failed a file place same (is_first p is) rose =
-        failed_portfolio (subst (λ (x : List ℕ). Rose (edge.files.faults_before x) (edge.files.faults_after x)) (is ∙ ap (λ (y : Asked). y.portfolio) same) rose)
-    failed a file place same (is_second p is bytes w) rose = failed_table file (sym (ap (λ (y : Asked). y.fixings) same) ∙ is) rose
-
-    rose_of : (x : Status) → x ≡ status.ReadFault → Meets words edge x → SomeReadFailed edge.files asked
-    rose_of x is n =
-        let a : Answered words edge status.ReadFault = subst (λ (y : Status). Meets words edge y) is n in
-        failed a.cause.asked a.cause.file a.cause.place (one_command words a.cause.asked asked a.cause.named named) a.cause.next a.cause.rose
-
-    written_of : (x : Status) → x ≡ status.WriteFault → Meets words edge x → Rose edge.sink.faults_before edge.sink.faults_after
-    written_of x is n = (subst (λ (y : Status). Meets words edge y) is n).written.0
-
-long_or_short : (inputs : Inputs) → IsTooLong inputs → AreShort inputs → ⊥
-long_or_short inputs (long_portfolio h) k = let short = k.portfolio in omega arith
-long_or_short inputs (long_table bytes is h) k =
-    let short : IsShortTable (Some bytes) = subst (λ (t : Option (List ℕ)). IsShortTable t) is k.fixings in
-    omega arith
-
-too_long_by : (edge : Edge) (asked : Asked) (inputs : Inputs) (s : Status) → Ends edge asked inputs s → ComesExactlyWhere (IsTooLong inputs) status.TooLong s
-too_long_by edge asked inputs s (long e h) = record { comes = λ _. inl e; only = λ _. h }
-too_long_by edge asked inputs s (without e w) = record { comes = λ _. inr e; only = λ is. apart _ (λ (x : status.NoMemory ≡ status.TooLong). cc) e is }
-too_long_by edge asked inputs s (told text short a w) = record { comes = λ h. absurd (long_or_short inputs h short); only = λ is. absurd (no_long_answer asked inputs s text is a) }
-
-pub too_long_is_exact : TooLongIsExact
-too_long_is_exact words edge s asked inputs m r = too_long_by edge asked inputs s (ends words edge s asked inputs m r)
-
--- ---- the answer
-
--- what a run ends with that has read its files whole
-data EndsShort (edge : Edge) (asked : Asked) (inputs : Inputs) (s : Status) : Type 0 where
-  with_answer : (text : List ℕ) → Answers asked inputs s text → WritesAll edge.sink text → EndsShort edge asked inputs s
-  with_nothing : s ≡ status.NoMemory → WritesNothing edge.sink → EndsShort edge asked inputs s
-
-ends_short : (edge : Edge) (asked : Asked) (inputs : Inputs) (s : Status) → AreShort inputs → Ends edge asked inputs s → EndsShort edge asked inputs s
-ends_short edge asked inputs s short (long e h) = absurd (long_or_short inputs h short)
-ends_short edge asked inputs s short (told text _ a w) = with_answer text a w
-ends_short edge asked inputs s short (without e w) = with_nothing e w
-
-short_ends : (words : List (List ℕ)) (edge : Edge) (s : Status) (asked : Asked) (inputs : Inputs) → Meets words edge s → IsReadWhole words edge asked inputs → EndsShort edge asked inputs s
-short_ends words edge s asked inputs m r = ends_short edge asked inputs s r.short (ends words edge s asked inputs m r.read)
-
-complete_by : (edge : Edge) (asked : Asked) (inputs : Inputs) (s t : Status) (text : List ℕ) → Answers asked inputs t text → EndsShort edge asked inputs s → ((s ≡ t) × WritesAll edge.sink text) ⊎ ((s ≡ status.NoMemory) × WritesNothing edge.sink)
-complete_by edge asked inputs s t text h (with_nothing e w) = inr (e, w)
-complete_by edge asked inputs s t text h (with_answer written a w) =
-    let one = answers_are_one asked inputs s t written text a h in
-    inl (one.0, subst (λ (x : List ℕ). WritesAll edge.sink x) one.1 w)
-
-pub run_is_complete : RunIsComplete
-run_is_complete words edge s asked inputs t text m r h = complete_by edge asked inputs s t text h (short_ends words edge s asked inputs m r)
-
-one_book : (inputs : Inputs) (b c : Book) → Text inputs.portfolio b → Text inputs.portfolio c → b ≡ c
-one_book inputs b c h k = one_text inputs.portfolio b c h k
-
-no_verb : {A : Type 0} (asked : Asked) → asked.verb ≡ Check → asked.verb ≡ Flows → A
-no_verb asked e f = let h : Check ≡ Flows = sym e ∙ f in absurd cc
-
--- ---- bad_text
-
-bad_text_gives : (asked : Asked) (inputs : Inputs) (s : Status) (text : List ℕ) (v : Verb) → asked.verb ≡ v → AnswersOf v asked.until inputs s text → s ≡ status.BadText → IsNoText inputs.portfolio
-bad_text_gives asked inputs s text Check e (no_portfolio f h) same = h.no_text
-bad_text_gives asked inputs s text Check e (some_refused f h t) same = apart _ (λ (x : status.Refused ≡ status.BadText). cc) f same
-bad_text_gives asked inputs s text Check e (all_accepted f h t) same = apart _ (λ (x : status.Done ≡ status.BadText). cc) f same
-bad_text_gives asked inputs s text Flows e (not_spelled f h) same = h.no_text
-bad_text_gives asked inputs s text Flows e (stopped b t g (day_out f word given out is) line) same = apart _ (λ (x : status.DayRange ≡ status.BadText). cc) f same
-bad_text_gives asked inputs s text Flows e (stopped b t g (not_accepted f last range name rule node n is) line) same = apart _ (λ (x : status.Refused ≡ status.BadText). cc) f same
-bad_text_gives asked inputs s text Flows e (stopped b t g (row_refused f last range all bytes named row one is) line) same = apart _ (λ (x : status.BadRow ≡ status.BadText). cc) f same
-bad_text_gives asked inputs s text Flows e (stopped b t g (read_missing f last range all fixings are place m is) line) same = apart _ (λ (x : status.Missing ≡ status.BadText). cc) f same
-bad_text_gives asked inputs s text Flows e (done f b t flows) same = apart _ (λ (x : status.Done ≡ status.BadText). cc) f same
-
-bad_text_forces : (asked : Asked) (inputs : Inputs) (s : Status) (text : List ℕ) (v : Verb) → asked.verb ≡ v → AnswersOf v asked.until inputs s text → IsNoText inputs.portfolio → s ≡ status.BadText
-bad_text_forces asked inputs s text Check e (no_portfolio f h) cause = f
-bad_text_forces asked inputs s text Check e (some_refused f h t) cause = absurd (cause t.portfolio t.spelled)
-bad_text_forces asked inputs s text Check e (all_accepted f h t) cause = absurd (cause t.portfolio t.spelled)
-bad_text_forces asked inputs s text Flows e (not_spelled f h) cause = f
-bad_text_forces asked inputs s text Flows e (stopped b t g (day_out f word given out is) line) cause = absurd (cause b t)
-bad_text_forces asked inputs s text Flows e (stopped b t g (not_accepted f last range name rule node n is) line) cause = absurd (cause b t)
-bad_text_forces asked inputs s text Flows e (stopped b t g (row_refused f last range all bytes named row one is) line) cause = absurd (cause b t)
-bad_text_forces asked inputs s text Flows e (stopped b t g (read_missing f last range all fixings are place m is) line) cause = absurd (cause b t)
-bad_text_forces asked inputs s text Flows e (done f b t flows) cause = absurd (cause b t)
-
-day_or_last : (asked : Asked) (inputs : Inputs) (b : Book) (last : ℤ) → Text inputs.portfolio b → IsLastDay b.declarations asked.until last → IsDayOut asked inputs → ⊥
-day_or_last asked inputs b last text range cause =
-    out_or_in cause.book asked.until inputs.fixings cause.word last cause.given cause.out (subst (λ (x : Book). IsLastDay x.declarations asked.until last) (one_book inputs b cause.book text cause.spelled) range)
-
--- ---- day
-
-day_gives : (asked : Asked) (inputs : Inputs) (s : Status) (text : List ℕ) (v : Verb) → asked.verb ≡ v → AnswersOf v asked.until inputs s text → s ≡ status.DayRange → IsDayOut asked inputs
-day_gives asked inputs s text Check e (no_portfolio f h) same = apart _ (λ (x : status.BadText ≡ status.DayRange). cc) f same
-day_gives asked inputs s text Check e (some_refused f h t) same = apart _ (λ (x : status.Refused ≡ status.DayRange). cc) f same
-day_gives asked inputs s text Check e (all_accepted f h t) same = apart _ (λ (x : status.Done ≡ status.DayRange). cc) f same
-day_gives asked inputs s text Flows e (not_spelled f h) same = apart _ (λ (x : status.BadText ≡ status.DayRange). cc) f same
-day_gives asked inputs s text Flows e (stopped b t g (day_out f word given out is) line) same = record { flows = e; book = b; spelled = t; word = word; given = given; out = out }
-day_gives asked inputs s text Flows e (stopped b t g (not_accepted f last range name rule node n is) line) same = apart _ (λ (x : status.Refused ≡ status.DayRange). cc) f same
-day_gives asked inputs s text Flows e (stopped b t g (row_refused f last range all bytes named row one is) line) same = apart _ (λ (x : status.BadRow ≡ status.DayRange). cc) f same
-day_gives asked inputs s text Flows e (stopped b t g (read_missing f last range all fixings are place m is) line) same = apart _ (λ (x : status.Missing ≡ status.DayRange). cc) f same
-day_gives asked inputs s text Flows e (done f b t flows) same = apart _ (λ (x : status.Done ≡ status.DayRange). cc) f same
-
-day_forces : (asked : Asked) (inputs : Inputs) (s : Status) (text : List ℕ) (v : Verb) → asked.verb ≡ v → AnswersOf v asked.until inputs s text → IsDayOut asked inputs → s ≡ status.DayRange
-day_forces asked inputs s text Check e (no_portfolio f h) cause = absurd (no_verb {A = ⊥} asked e cause.flows)
-day_forces asked inputs s text Check e (some_refused f h t) cause = absurd (no_verb {A = ⊥} asked e cause.flows)
-day_forces asked inputs s text Check e (all_accepted f h t) cause = absurd (no_verb {A = ⊥} asked e cause.flows)
-day_forces asked inputs s text Flows e (not_spelled f h) cause = absurd (h.no_text cause.book cause.spelled)
-day_forces asked inputs s text Flows e (stopped b t g (day_out f word given out is) line) cause = f
-day_forces asked inputs s text Flows e (stopped b t g (not_accepted f last range name rule node n is) line) cause = absurd (day_or_last asked inputs b last t range cause)
-day_forces asked inputs s text Flows e (stopped b t g (row_refused f last range all bytes named row one is) line) cause = absurd (day_or_last asked inputs b last t range cause)
-day_forces asked inputs s text Flows e (stopped b t g (read_missing f last range all fixings are place m is) line) cause = absurd (day_or_last asked inputs b last t range cause)
-day_forces asked inputs s text Flows e (done f b t flows) cause = absurd (day_or_last asked inputs b flows.last t flows.is_last cause)
-
-row_or_day : (asked : Asked) (inputs : Inputs) (b : Book) (word : List ℕ) → Text inputs.portfolio b → asked.until ≡ Some word → IsOutOfRange b.declarations word → IsBadRow asked inputs → ⊥
-row_or_day asked inputs b word text given out cause =
-    out_or_in b asked.until inputs.fixings word cause.last given out (subst (λ (x : Book). IsLastDay x.declarations asked.until cause.last) (one_book inputs cause.book b cause.spelled text) cause.is_last)
-
-row_or_not_accepted : (asked : Asked) (inputs : Inputs) (b : Book) (name : List ℕ) (rule : Rule) (node : ℕ) → Text inputs.portfolio b → IsFirstNotAccepted b.declarations b.contracts name rule node → IsBadRow asked inputs → ⊥
-row_or_not_accepted asked inputs b name rule node text n cause =
-    accepted_or_not b.declarations b.contracts name rule node (subst (λ (x : Book). AreAllAccepted x.declarations x.contracts) (one_book inputs cause.book b cause.spelled text) cause.accepted) n
-
-row_or_fixings : (asked : Asked) (inputs : Inputs) (b : Book) (fixings : Environment) → Text inputs.portfolio b → AreFixings b.declarations inputs.fixings fixings → IsBadRow asked inputs → ⊥
-row_or_fixings asked inputs b fixings text are cause =
-    rows_or_fixings cause.book asked.until inputs.fixings cause.bytes fixings cause.row cause.named cause.first (subst (λ (x : Book). AreFixings x.declarations inputs.fixings fixings) (one_book inputs b cause.book text cause.spelled) are)
-
--- ---- row
-
-row_gives : (asked : Asked) (inputs : Inputs) (s : Status) (text : List ℕ) (v : Verb) → asked.verb ≡ v → AnswersOf v asked.until inputs s text → s ≡ status.BadRow → IsBadRow asked inputs
-row_gives asked inputs s text Check e (no_portfolio f h) same = apart _ (λ (x : status.BadText ≡ status.BadRow). cc) f same
-row_gives asked inputs s text Check e (some_refused f h t) same = apart _ (λ (x : status.Refused ≡ status.BadRow). cc) f same
-row_gives asked inputs s text Check e (all_accepted f h t) same = apart _ (λ (x : status.Done ≡ status.BadRow). cc) f same
-row_gives asked inputs s text Flows e (not_spelled f h) same = apart _ (λ (x : status.BadText ≡ status.BadRow). cc) f same
-row_gives asked inputs s text Flows e (stopped b t g (day_out f word given out is) line) same = apart _ (λ (x : status.DayRange ≡ status.BadRow). cc) f same
-row_gives asked inputs s text Flows e (stopped b t g (not_accepted f last range name rule node n is) line) same = apart _ (λ (x : status.Refused ≡ status.BadRow). cc) f same
-row_gives asked inputs s text Flows e (stopped b t g (row_refused f last range all bytes named row one is) line) same = record { flows = e; book = b; spelled = t; last = last; is_last = range; accepted = all; bytes = bytes; named = named; row = row; first = one }
-row_gives asked inputs s text Flows e (stopped b t g (read_missing f last range all fixings are place m is) line) same = apart _ (λ (x : status.Missing ≡ status.BadRow). cc) f same
-row_gives asked inputs s text Flows e (done f b t flows) same = apart _ (λ (x : status.Done ≡ status.BadRow). cc) f same
-
-row_forces : (asked : Asked) (inputs : Inputs) (s : Status) (text : List ℕ) (v : Verb) → asked.verb ≡ v → AnswersOf v asked.until inputs s text → IsBadRow asked inputs → s ≡ status.BadRow
-row_forces asked inputs s text Check e (no_portfolio f h) cause = absurd (no_verb {A = ⊥} asked e cause.flows)
-row_forces asked inputs s text Check e (some_refused f h t) cause = absurd (no_verb {A = ⊥} asked e cause.flows)
-row_forces asked inputs s text Check e (all_accepted f h t) cause = absurd (no_verb {A = ⊥} asked e cause.flows)
-row_forces asked inputs s text Flows e (not_spelled f h) cause = absurd (h.no_text cause.book cause.spelled)
-row_forces asked inputs s text Flows e (stopped b t g (day_out f word given out is) line) cause = absurd (row_or_day asked inputs b word t given out cause)
-row_forces asked inputs s text Flows e (stopped b t g (not_accepted f last range name rule node n is) line) cause = absurd (row_or_not_accepted asked inputs b name rule node t n cause)
-row_forces asked inputs s text Flows e (stopped b t g (row_refused f last range all bytes named row one is) line) cause = f
-row_forces asked inputs s text Flows e (stopped b t g (read_missing f last range all fixings are place m is) line) cause = absurd (row_or_fixings asked inputs b fixings t are cause)
-row_forces asked inputs s text Flows e (done f b t flows) cause = absurd (row_or_fixings asked inputs b flows.fixings t flows.are_fixings cause)
-
-missing_or_day : (asked : Asked) (inputs : Inputs) (b : Book) (word : List ℕ) → Text inputs.portfolio b → asked.until ≡ Some word → IsOutOfRange b.declarations word → IsMissing asked inputs → ⊥
-missing_or_day asked inputs b word text given out cause =
-    out_or_in b asked.until inputs.fixings word cause.last given out (subst (λ (x : Book). IsLastDay x.declarations asked.until cause.last) (one_book inputs cause.book b cause.spelled text) cause.is_last)
-
-missing_or_not_accepted : (asked : Asked) (inputs : Inputs) (b : Book) (name : List ℕ) (rule : Rule) (node : ℕ) → Text inputs.portfolio b → IsFirstNotAccepted b.declarations b.contracts name rule node → IsMissing asked inputs → ⊥
-missing_or_not_accepted asked inputs b name rule node text n cause =
-    accepted_or_not b.declarations b.contracts name rule node (subst (λ (x : Book). AreAllAccepted x.declarations x.contracts) (one_book inputs cause.book b cause.spelled text) cause.accepted) n
-
-missing_or_row : (asked : Asked) (inputs : Inputs) (b : Book) (bytes : List ℕ) (row : RowFault) → Text inputs.portfolio b → inputs.fixings ≡ Some bytes → IsFirstFault b.declarations (table_of bytes) row → IsMissing asked inputs → ⊥
-missing_or_row asked inputs b bytes row text named one cause =
-    rows_or_fixings b asked.until inputs.fixings bytes cause.fixings row named one (subst (λ (x : Book). AreFixings x.declarations inputs.fixings cause.fixings) (one_book inputs cause.book b cause.spelled text) cause.are_fixings)
-
-missing_or_done : (asked : Asked) (inputs : Inputs) (b : Book) (text : List ℕ) → Text inputs.portfolio b → IsFlowsText b asked.until inputs.fixings text → IsMissing asked inputs → ⊥
-missing_or_done asked inputs b text spelled flows cause =
-    let d = cause.book.declarations in
-    let there = subst (λ (x : Book). IsFlowsText x asked.until inputs.fixings text) (one_book inputs b cause.book spelled cause.spelled) flows in
-    let end = one_last d asked.until there.last cause.last there.is_last cause.is_last in
-    let same = hold_same d inputs.fixings cause.fixings there.fixings cause.are_fixings there.are_fixings in
-    cause.unfixed (same_fixed d cause.last cause.book.contracts cause.fixings there.fixings same cause.book.contracts (subst (λ (x : ℤ). AreAllFixed d there.fixings x cause.book.contracts) end there.fixed))
-
--- ---- missing
-
-missing_gives : (asked : Asked) (inputs : Inputs) (s : Status) (text : List ℕ) (v : Verb) → asked.verb ≡ v → AnswersOf v asked.until inputs s text → s ≡ status.Missing → IsMissing asked inputs
-missing_gives asked inputs s text Check e (no_portfolio f h) same = apart _ (λ (x : status.BadText ≡ status.Missing). cc) f same
-missing_gives asked inputs s text Check e (some_refused f h t) same = apart _ (λ (x : status.Refused ≡ status.Missing). cc) f same
-missing_gives asked inputs s text Check e (all_accepted f h t) same = apart _ (λ (x : status.Done ≡ status.Missing). cc) f same
-missing_gives asked inputs s text Flows e (not_spelled f h) same = apart _ (λ (x : status.BadText ≡ status.Missing). cc) f same
-missing_gives asked inputs s text Flows e (stopped b t g (day_out f word given out is) line) same = apart _ (λ (x : status.DayRange ≡ status.Missing). cc) f same
-missing_gives asked inputs s text Flows e (stopped b t g (not_accepted f last range name rule node n is) line) same = apart _ (λ (x : status.Refused ≡ status.Missing). cc) f same
-missing_gives asked inputs s text Flows e (stopped b t g (row_refused f last range all bytes named row one is) line) same = apart _ (λ (x : status.BadRow ≡ status.Missing). cc) f same
-missing_gives asked inputs s text Flows e (stopped b t g (read_missing f last range all fixings are place m is) line) same = record { flows = e; book = b; spelled = t; last = last; is_last = range; accepted = all; fixings = fixings; are_fixings = are; unfixed = λ every. fixed_or_not b.declarations last b.contracts fixings fixings (λ q. refl) place every m }
-missing_gives asked inputs s text Flows e (done f b t flows) same = apart _ (λ (x : status.Done ≡ status.Missing). cc) f same
-
-missing_forces : (asked : Asked) (inputs : Inputs) (s : Status) (text : List ℕ) (v : Verb) → asked.verb ≡ v → AnswersOf v asked.until inputs s text → IsMissing asked inputs → s ≡ status.Missing
-missing_forces asked inputs s text Check e (no_portfolio f h) cause = absurd (no_verb {A = ⊥} asked e cause.flows)
-missing_forces asked inputs s text Check e (some_refused f h t) cause = absurd (no_verb {A = ⊥} asked e cause.flows)
-missing_forces asked inputs s text Check e (all_accepted f h t) cause = absurd (no_verb {A = ⊥} asked e cause.flows)
-missing_forces asked inputs s text Flows e (not_spelled f h) cause = absurd (h.no_text cause.book cause.spelled)
-missing_forces asked inputs s text Flows e (stopped b t g (day_out f word given out is) line) cause = absurd (missing_or_day asked inputs b word t given out cause)
-missing_forces asked inputs s text Flows e (stopped b t g (not_accepted f last range name rule node n is) line) cause = absurd (missing_or_not_accepted asked inputs b name rule node t n cause)
-missing_forces asked inputs s text Flows e (stopped b t g (row_refused f last range all bytes named row one is) line) cause = absurd (missing_or_row asked inputs b bytes row t named one cause)
-missing_forces asked inputs s text Flows e (stopped b t g (read_missing f last range all fixings are place m is) line) cause = f
-missing_forces asked inputs s text Flows e (done f b t flows) cause = absurd (missing_or_done asked inputs b text t flows cause)
-
-refused_has_text : (asked : Asked) (inputs : Inputs) → IsNoText inputs.portfolio → IsRefused asked inputs → ⊥
-refused_has_text asked inputs none (by_check v some) = none some.portfolio some.spelled
-refused_has_text asked inputs none (by_flows v b text last range not_all) = none b text
-
-refused_or_accepted : (asked : Asked) (inputs : Inputs) → asked.verb ≡ Check → IsAllAccepted inputs.portfolio → IsRefused asked inputs → ⊥
-refused_or_accepted asked inputs e all (by_check v some) = accepted_or_refused inputs.portfolio all some
-refused_or_accepted asked inputs e all (by_flows v b text last range not_all) = no_verb {A = ⊥} asked e v
-
-refused_or_day : (asked : Asked) (inputs : Inputs) (b : Book) (word : List ℕ) → asked.verb ≡ Flows → Text inputs.portfolio b → asked.until ≡ Some word → IsOutOfRange b.declarations word → IsRefused asked inputs → ⊥
-refused_or_day asked inputs b word e text given out (by_check v some) = no_verb {A = ⊥} asked v e
-refused_or_day asked inputs b word e text given out (by_flows v c other last range not_all) =
-    out_or_in b asked.until inputs.fixings word last given out (subst (λ (x : Book). IsLastDay x.declarations asked.until last) (one_book inputs c b other text) range)
-
-refused_or_all : (asked : Asked) (inputs : Inputs) (b : Book) → asked.verb ≡ Flows → Text inputs.portfolio b → AreAllAccepted b.declarations b.contracts → IsRefused asked inputs → ⊥
-refused_or_all asked inputs b e text all (by_check v some) = no_verb {A = ⊥} asked v e
-refused_or_all asked inputs b e text all (by_flows v c other last range not_all) =
-    not_all (subst (λ (x : Book). AreAllAccepted x.declarations x.contracts) (one_book inputs b c text other) all)
-
--- ---- refused
-
-refused_gives : (asked : Asked) (inputs : Inputs) (s : Status) (text : List ℕ) (v : Verb) → asked.verb ≡ v → AnswersOf v asked.until inputs s text → s ≡ status.Refused → IsRefused asked inputs
-refused_gives asked inputs s text Check e (no_portfolio f h) same = apart _ (λ (x : status.BadText ≡ status.Refused). cc) f same
-refused_gives asked inputs s text Check e (some_refused f h t) same = by_check e h
-refused_gives asked inputs s text Check e (all_accepted f h t) same = apart _ (λ (x : status.Done ≡ status.Refused). cc) f same
-refused_gives asked inputs s text Flows e (not_spelled f h) same = apart _ (λ (x : status.BadText ≡ status.Refused). cc) f same
-refused_gives asked inputs s text Flows e (stopped b t g (day_out f word given out is) line) same = apart _ (λ (x : status.DayRange ≡ status.Refused). cc) f same
-refused_gives asked inputs s text Flows e (stopped b t g (not_accepted f last range name rule node n is) line) same = by_flows e b t last range (λ all. accepted_or_not b.declarations b.contracts name rule node all n)
-refused_gives asked inputs s text Flows e (stopped b t g (row_refused f last range all bytes named row one is) line) same = apart _ (λ (x : status.BadRow ≡ status.Refused). cc) f same
-refused_gives asked inputs s text Flows e (stopped b t g (read_missing f last range all fixings are place m is) line) same = apart _ (λ (x : status.Missing ≡ status.Refused). cc) f same
-refused_gives asked inputs s text Flows e (done f b t flows) same = apart _ (λ (x : status.Done ≡ status.Refused). cc) f same
-
-refused_forces : (asked : Asked) (inputs : Inputs) (s : Status) (text : List ℕ) (v : Verb) → asked.verb ≡ v → AnswersOf v asked.until inputs s text → IsRefused asked inputs → s ≡ status.Refused
-refused_forces asked inputs s text Check e (no_portfolio f h) cause = absurd (refused_has_text asked inputs h.no_text cause)
-refused_forces asked inputs s text Check e (some_refused f h t) cause = f
-refused_forces asked inputs s text Check e (all_accepted f h t) cause = absurd (refused_or_accepted asked inputs e h cause)
-refused_forces asked inputs s text Flows e (not_spelled f h) cause = absurd (refused_has_text asked inputs h.no_text cause)
-refused_forces asked inputs s text Flows e (stopped b t g (day_out f word given out is) line) cause = absurd (refused_or_day asked inputs b word e t given out cause)
-refused_forces asked inputs s text Flows e (stopped b t g (not_accepted f last range name rule node n is) line) cause = f
-refused_forces asked inputs s text Flows e (stopped b t g (row_refused f last range all bytes named row one is) line) cause = absurd (refused_or_all asked inputs b e t all cause)
-refused_forces asked inputs s text Flows e (stopped b t g (read_missing f last range all fixings are place m is) line) cause = absurd (refused_or_all asked inputs b e t all cause)
-refused_forces asked inputs s text Flows e (done f b t flows) cause = absurd (refused_or_all asked inputs b e t flows.accepted cause)
-
--- ---- a status comes exactly where its cause stands
-
-exact : (edge : Edge) (asked : Asked) (inputs : Inputs) (s wanted : Status) (P : Type 0) → (status.NoMemory ≡ wanted → ⊥) → ((text : List ℕ) → Answers asked inputs s text → s ≡ wanted → P) → ((text : List ℕ) → Answers asked inputs s text → P → s ≡ wanted) → EndsShort edge asked inputs s → ComesExactlyWhere P wanted s
-exact edge asked inputs s wanted P differ gives forces (with_nothing e w) = record { comes = λ _. inr e; only = λ is. absurd (differ (sym e ∙ is)) }
-exact edge asked inputs s wanted P differ gives forces (with_answer text a w) = record { comes = λ cause. inl (forces text a cause); only = λ is. gives text a is }
-
-pub bad_text_is_exact : BadTextIsExact
-bad_text_is_exact words edge s asked inputs m r =
-    exact edge asked inputs s status.BadText (IsNoText inputs.portfolio) (λ (x : status.NoMemory ≡ status.BadText). cc) (λ text a is. bad_text_gives asked inputs s text asked.verb refl a is) (λ text a cause. bad_text_forces asked inputs s text asked.verb refl a cause) (short_ends words edge s asked inputs m r)
-
-pub day_range_is_exact : DayRangeIsExact
-day_range_is_exact words edge s asked inputs m r =
-    exact edge asked inputs s status.DayRange (IsDayOut asked inputs) (λ (x : status.NoMemory ≡ status.DayRange). cc) (λ text a is. day_gives asked inputs s text asked.verb refl a is) (λ text a cause. day_forces asked inputs s text asked.verb refl a cause) (short_ends words edge s asked inputs m r)
-
-pub refused_is_exact : RefusedIsExact
-refused_is_exact words edge s asked inputs m r =
-    exact edge asked inputs s status.Refused (IsRefused asked inputs) (λ (x : status.NoMemory ≡ status.Refused). cc) (λ text a is. refused_gives asked inputs s text asked.verb refl a is) (λ text a cause. refused_forces asked inputs s text asked.verb refl a cause) (short_ends words edge s asked inputs m r)
-
-pub bad_row_is_exact : BadRowIsExact
-bad_row_is_exact words edge s asked inputs m r =
-    exact edge asked inputs s status.BadRow (IsBadRow asked inputs) (λ (x : status.NoMemory ≡ status.BadRow). cc) (λ text a is. row_gives asked inputs s text asked.verb refl a is) (λ text a cause. row_forces asked inputs s text asked.verb refl a cause) (short_ends words edge s asked inputs m r)
-
-pub missing_is_exact : MissingIsExact
-missing_is_exact words edge s asked inputs m r =
-    exact edge asked inputs s status.Missing (IsMissing asked inputs) (λ (x : status.NoMemory ≡ status.Missing). cc) (λ text a is. missing_gives asked inputs s text asked.verb refl a is) (λ text a cause. missing_forces asked inputs s text asked.verb refl a cause) (short_ends words edge s asked inputs m r)
-
--- ---- the lines of refusals
+usage_is_exact words edge s (written text cause w) calm = record { comes = λ none. inl (usage_comes words edge.files s text cause none); only = λ is. (usage_only words edge.files s text cause is).0 }
+usage_is_exact words edge s (broken e due text cause w) calm = absurd (calm w.0)
+usage_is_exact words edge s (lacking e w) calm = record { comes = λ none. inr e; only = λ is. apart (command_of words ≡ None) (λ (x : status.NoMemory ≡ status.Usage). cc) e is }
 
 by_line : (edge : Edge) (text line : List ℕ) → text ≡ line → WritesAll edge.sink text → WritesAll edge.sink line
 by_line edge text line is w = subst (λ (t : List ℕ). WritesAll edge.sink t) is w
 
-pub refusals_write_their_line : RefusalsWriteTheirLine
-refusals_write_their_line words edge = (
-  (λ m. by_line edge m.text (fault_text fault.Usage) m.cause.line m.written),
-  (λ m. (m.cause.place, by_line edge m.text (fault_text (fault.Read m.cause.place)) m.cause.line m.written)),
-  (λ m. (m.cause.place, by_line edge m.text (fault_text (fault.TooLong m.cause.place)) m.cause.line m.written)),
-)
+usage_line : (words : List (List ℕ)) (edge : Edge) (s : Status) → s ≡ status.Usage → Meets words edge s → WritesAll edge.sink (fault_text fault.Usage)
+usage_line words edge s is (written text cause w) = by_line edge text (fault_text fault.Usage) (usage_only words edge.files s text cause is).1 w
+usage_line words edge s is (broken e due text cause w) = apart (WritesAll edge.sink (fault_text fault.Usage)) (λ (x : status.WriteFault ≡ status.Usage). cc) e is
+usage_line words edge s is (lacking e w) = apart (WritesAll edge.sink (fault_text fault.Usage)) (λ (x : status.NoMemory ≡ status.Usage). cc) e is
 
--- ---- the cause of an answer that a command makes
+pub usage_writes_its_line : UsageWritesItsLine
+usage_writes_its_line words edge m = usage_line words edge status.Usage refl m
 
-pub answer_cause : (words : List (List ℕ)) (files : FilesSeen) (s : Status) (text : List ℕ) → AnswerCause words files s text → Cause words files s text
-answer_cause words files s text c = by (status_of c.asked.verb c.asked.until c.inputs s text c.answer)
-  where
-    to : (x : Status) → x ≡ s → Cause words files x text → Cause words files s text
-    to x e h = subst (λ (y : Status). Cause words files y text) e h
+-- ---- failed reads and writes
 
-    here : (x : Status) → s ≡ x → AnswerCause words files x text
-    here x e = subst (λ (y : Status). AnswerCause words files y text) e c
+module _ (words : List (List ℕ)) (edge : Edge) where
+  read_by_file : (asked : Asked) (file : List ℕ) (place : ℕ) (f : Fault) (s : Status) (text : List ℕ) → Names words asked → IsNext edge.files asked file place → FileFault edge.files file place f → s ≡ status_of f → s ≡ status.ReadFault → text ≡ fault_text f → WritesAll edge.sink text → ReadFaultIs words edge
+  read_by_file asked file place f s text named next (read_failed is rose) e same line w =
+      record { asked = asked; named = named; file = file; place = place; next = next; rose = rose; line = by_line edge text (fault_text (fault.Read place)) (line ∙ ap fault_text is) w }
+  read_by_file asked file place f s text named next (read_long is known) e same line w =
+      apart (ReadFaultIs words edge) (λ (x : status.TooLong ≡ status.ReadFault). cc) (e ∙ ap status_of is) same
 
-    by : AnswerStatus s → Cause words files s text
-    by (bad_text e) = to status.BadText (sym e) (here status.BadText e)
-    by (day_range e) = to status.DayRange (sym e) (here status.DayRange e)
-    by (refused e) = to status.Refused (sym e) (here status.Refused e)
-    by (bad_row e) = to status.BadRow (sym e) (here status.BadRow e)
-    by (missing e) = to status.Missing (sym e) (here status.Missing e)
-    by (finished e) = to status.Done (sym e) (here status.Done e)
+  read_by_cause : (s : Status) (text : List ℕ) → Cause words edge.files s text → s ≡ status.ReadFault → WritesAll edge.sink text → ReadFaultIs words edge
+  read_by_cause s text (stops_run f (no_form none is) e line) same w = apart (ReadFaultIs words edge) (λ (x : status.Usage ≡ status.ReadFault). cc) (e ∙ ap status_of is) same
+  read_by_cause s text (stops_run f (at_file asked named file place next h) e line) same w = read_by_file asked file place f s text named next h e same line w
+  read_by_cause s text (answered asked named inputs read a) same w = absurd (no_read_fault asked inputs s text a same)
 
--- a cause is of a status that a run ends with by itself
-pub not_by_itself : (words : List (List ℕ)) (files : FilesSeen) (s : Status) (text : List ℕ) → Cause words files s text → (s ≢ status.WriteFault) × (s ≢ status.NoMemory)
-not_by_itself words files s text c = by (cause_is words files s text c)
-  where
-    of_answer : AnswerStatus s → (s ≢ status.WriteFault) × (s ≢ status.NoMemory)
-    of_answer (bad_text e) = ((λ f. apart _ (λ (x : status.BadText ≡ status.WriteFault). cc) e f), (λ f. apart _ (λ (x : status.BadText ≡ status.NoMemory). cc) e f))
-    of_answer (day_range e) = ((λ f. apart _ (λ (x : status.DayRange ≡ status.WriteFault). cc) e f), (λ f. apart _ (λ (x : status.DayRange ≡ status.NoMemory). cc) e f))
-    of_answer (refused e) = ((λ f. apart _ (λ (x : status.Refused ≡ status.WriteFault). cc) e f), (λ f. apart _ (λ (x : status.Refused ≡ status.NoMemory). cc) e f))
-    of_answer (bad_row e) = ((λ f. apart _ (λ (x : status.BadRow ≡ status.WriteFault). cc) e f), (λ f. apart _ (λ (x : status.BadRow ≡ status.NoMemory). cc) e f))
-    of_answer (missing e) = ((λ f. apart _ (λ (x : status.Missing ≡ status.WriteFault). cc) e f), (λ f. apart _ (λ (x : status.Missing ≡ status.NoMemory). cc) e f))
-    of_answer (finished e) = ((λ f. apart _ (λ (x : status.Done ≡ status.WriteFault). cc) e f), (λ f. apart _ (λ (x : status.Done ≡ status.NoMemory). cc) e f))
+  read_fault_by : (s : Status) → s ≡ status.ReadFault → Meets words edge s → ReadFaultIs words edge
+  read_fault_by s is (written text cause w) = read_by_cause s text cause is w
+  read_fault_by s is (broken e due text cause w) = apart (ReadFaultIs words edge) (λ (x : status.WriteFault ≡ status.ReadFault). cc) e is
+  read_fault_by s is (lacking e w) = apart (ReadFaultIs words edge) (λ (x : status.NoMemory ≡ status.ReadFault). cc) e is
 
-    by : CauseIs words files s text → (s ≢ status.WriteFault) × (s ≢ status.NoMemory)
-    by (usage e k) = ((λ f. apart _ (λ (x : status.Usage ≡ status.WriteFault). cc) e f), (λ f. apart _ (λ (x : status.Usage ≡ status.NoMemory). cc) e f))
-    by (read_fault e k) = ((λ f. apart _ (λ (x : status.ReadFault ≡ status.WriteFault). cc) e f), (λ f. apart _ (λ (x : status.ReadFault ≡ status.NoMemory). cc) e f))
-    by (too_long e k) = ((λ f. apart _ (λ (x : status.TooLong ≡ status.WriteFault). cc) e f), (λ f. apart _ (λ (x : status.TooLong ≡ status.NoMemory). cc) e f))
-    by (answer k) = of_answer (status_of k.asked.verb k.asked.until k.inputs s text k.answer)
+pub read_faults_have_causes : ReadFaultsHaveCauses
+read_faults_have_causes words edge m = read_fault_by words edge status.ReadFault refl m
+
+no_write_cause : (words : List (List ℕ)) (files : FilesSeen) (s : Status) (text : List ℕ) → Cause words files s text → s ≡ status.WriteFault → ⊥
+no_write_cause words files s text (stops_run f (no_form none is) e line) same = apart ⊥ (λ (x : status.Usage ≡ status.WriteFault). cc) (e ∙ ap status_of is) same
+no_write_cause words files s text (stops_run f (at_file asked named file place next (read_failed is rose)) e line) same = apart ⊥ (λ (x : status.ReadFault ≡ status.WriteFault). cc) (e ∙ ap status_of is) same
+no_write_cause words files s text (stops_run f (at_file asked named file place next (read_long is known)) e line) same = apart ⊥ (λ (x : status.TooLong ≡ status.WriteFault). cc) (e ∙ ap status_of is) same
+no_write_cause words files s text (answered asked named inputs read a) same = no_write_fault asked inputs s text a same
+
+write_fault_by : (words : List (List ℕ)) (edge : Edge) (s : Status) → s ≡ status.WriteFault → Meets words edge s → Rose edge.sink.faults_before edge.sink.faults_after
+write_fault_by words edge s is (written text cause w) = absurd (no_write_cause words edge.files s text cause is)
+write_fault_by words edge s is (broken e due text cause w) = w.0
+write_fault_by words edge s is (lacking e w) = apart (Rose edge.sink.faults_before edge.sink.faults_after) (λ (x : status.NoMemory ≡ status.WriteFault). cc) e is
+
+pub write_faults_have_causes : WriteFaultsHaveCauses
+write_faults_have_causes words edge m = write_fault_by words edge status.WriteFault refl m
+
+-- ---- lengths
+
+long_or_short : (inputs : Inputs) (place : ℕ) → IsLongAt inputs place → AreShort inputs → ⊥
+long_or_short inputs place (long_portfolio p h) k = let short = k.portfolio in omega arith
+long_or_short inputs place (long_table p first bytes is h) k =
+    let short : IsShortTable (Some bytes) = subst (λ (t : Option (List ℕ)). IsShortTable t) is k.fixings in
+    omega arith
+
+too_long_by : (edge : Edge) (asked : Asked) (inputs : Inputs) (s : Status) → Ends edge asked inputs s → TooLongIs inputs edge s
+too_long_by edge asked inputs s (long e place h w) = record { exact = record { comes = λ _. inl e; only = λ _. (place, h) }; line = λ _. (place, h, w) }
+too_long_by edge asked inputs s (with_nothing e w) = record {
+  exact = record { comes = λ _. inr e; only = λ is. apart (IsTooLong inputs) (λ (x : status.NoMemory ≡ status.TooLong). cc) e is };
+  line = λ is. absurd (apart ⊥ (λ (x : status.NoMemory ≡ status.TooLong). cc) e is);
+}
+too_long_by edge asked inputs s (with_answer text short a w) = record {
+  exact = record { comes = λ h. absurd (long_or_short inputs h.0 h.1 short); only = λ is. absurd (no_long asked inputs s text a is) };
+  line = λ is. absurd (no_long asked inputs s text a is);
+}
+
+pub too_long_is_exact : TooLongIsExact
+too_long_is_exact words edge s asked inputs m r = too_long_by edge asked inputs s (ends words edge asked inputs r s m)
+
+-- ---- a status comes exactly where its cause stands
+
+module _ (words : List (List ℕ)) (edge : Edge) (s : Status) (asked : Asked) (inputs : Inputs) (m : Meets words edge s) (r : IsReadWhole words edge asked inputs) where
+  -- what a run ends with that has read its files whole
+  by_answer : (P : Type 0) → ((text : List ℕ) → Answers asked inputs s text → WritesAll edge.sink text → P) → (s ≡ status.NoMemory → WritesNothing edge.sink → P) → P
+  by_answer P given none = by (ends words edge asked inputs r.read s m)
+    where
+      by : Ends edge asked inputs s → P
+      by (long e place h w) = absurd (long_or_short inputs place h r.short)
+      by (with_answer text short a w) = given text a w
+      by (with_nothing e w) = none e w
+
+  exact : (wanted : Status) (P : Type 0) → (status.NoMemory ≡ wanted → ⊥) → ((text : List ℕ) → Answers asked inputs s text → s ≡ wanted → P) → ((text : List ℕ) → Answers asked inputs s text → P → s ≡ wanted) → ComesExactlyWhere P wanted s
+  exact wanted P differ gives forces =
+      by_answer (ComesExactlyWhere P wanted s) (λ text a w. record { comes = λ cause. inl (forces text a cause); only = λ is. gives text a is }) (λ e w. record { comes = λ _. inr e; only = λ is. absurd (differ (sym e ∙ is)) })
+
+bad_gives : (asked : Asked) (inputs : Inputs) (s : Status) → AnswerIs asked inputs s → s ≡ status.BadText → IsNoText inputs.portfolio
+bad_gives asked inputs s (no_text e h) is = h
+bad_gives asked inputs s (caused h) is = absurd (let k : ⊥ = subst (λ (x : Status). CauseOnBook x asked inputs.fixings h.book) is h.holds in k)
+bad_gives asked inputs s (done e) is = apart (IsNoText inputs.portfolio) (λ (x : status.Done ≡ status.BadText). cc) e is
+
+bad_forces : (asked : Asked) (inputs : Inputs) (s : Status) (text : List ℕ) → Answers asked inputs s text → IsNoText inputs.portfolio → s ≡ status.BadText
+bad_forces asked inputs s text (stopped f (not_spelled h) e line) none = e ∙ ap status_of h.fault_is
+bad_forces asked inputs s text (stopped f (on_portfolio b spelled h) e line) none = absurd (none b spelled)
+bad_forces asked inputs s text (told b spelled h) none = absurd (none b spelled)
+
+pub bad_text_is_exact : BadTextIsExact
+bad_text_is_exact words edge s asked inputs m r =
+    exact words edge s asked inputs m r status.BadText (IsNoText inputs.portfolio) (λ (x : status.NoMemory ≡ status.BadText). cc) (λ text a is. bad_gives asked inputs s (answer_is asked inputs s text a) is) (λ text a none. bad_forces asked inputs s text a none)
+
+-- ---- the statuses that a portfolio gives
+
+gives_cause : (wanted : Status) → (status.BadText ≡ wanted → ⊥) → (status.Done ≡ wanted → ⊥) → (asked : Asked) (inputs : Inputs) (s : Status) → AnswerIs asked inputs s → s ≡ wanted → IsTextWhere inputs.portfolio (CauseOnBook wanted asked inputs.fixings)
+gives_cause wanted no_bad no_done asked inputs s (no_text e h) is = absurd (no_bad (sym e ∙ is))
+gives_cause wanted no_bad no_done asked inputs s (caused h) is = record { book = h.book; spelled = h.spelled; holds = subst (λ (x : Status). CauseOnBook x asked inputs.fixings h.book) is h.holds }
+gives_cause wanted no_bad no_done asked inputs s (done e) is = absurd (no_done (sym e ∙ is))
+
+-- of `check`
+check_cause : (wanted : Status) (file : List ℕ) (table : Option (List ℕ)) (b : Book) → CauseOnBook wanted (Check file) table b → (wanted ≡ status.Refused) × (AreAllAccepted b.declarations (used None b) → ⊥)
+check_cause status.Refused file table b h = (refl, h)
+check_cause _ file table b h = absurd h
+
+check_forces_told : (b : Book) (s wanted : Status) (text : List ℕ) → IsChecked b s text → wanted ≡ status.Refused → (AreAllAccepted b.declarations (used None b) → ⊥) → s ≡ wanted
+check_forces_told b s wanted text (all_accepted e all lines) is none = absurd (none all)
+check_forces_told b s wanted text (some_refused e nor lines) is none = e ∙ sym is
+
+check_forces : (wanted : Status) (file : List ℕ) (inputs : Inputs) (s : Status) (text : List ℕ) → Answers (Check file) inputs s text → IsTextWhere inputs.portfolio (CauseOnBook wanted (Check file) inputs.fixings) → s ≡ wanted
+check_forces wanted file inputs s text (stopped f (not_spelled h) e line) cause = absurd (h.no_text cause.book cause.spelled)
+check_forces wanted file inputs s text (stopped f (on_portfolio b spelled h) e line) cause = absurd h
+check_forces wanted file inputs s text (told b spelled h) cause =
+    let c = check_cause wanted file inputs.fixings cause.book cause.holds in
+    check_forces_told b s wanted text h c.0 (subst (λ (x : Book). AreAllAccepted x.declarations (used None x) → ⊥) (one_text inputs.portfolio cause.book b cause.spelled spelled) c.1)
+
+-- of `flows`: its stage
+record IsAtStage (b : Book) (flows : FlowsAsked) (table : Option (List ℕ)) (s : Status) : Type 0 where
+  at : ℕ
+  failed : Fails b flows table at
+  below : Below b flows table at
+  status_is : s ≡ status_at at
+
+cause_stage : (wanted : Status) (flows : FlowsAsked) (table : Option (List ℕ)) (b : Book) → CauseOnBook wanted (Flows flows) table b → IsAtStage b flows table wanted
+cause_stage status.UnknownName flows table b h = record { at = 0; failed = h; below = tt; status_is = refl }
+cause_stage status.DayRange flows table b h = record { at = 1; failed = record { word = h.word; given = h.given; out = h.out }; below = (h.known, tt); status_is = refl }
+cause_stage status.Refused flows table b h = record { at = 2; failed = h.refused; below = ((h.last, h.fit.is_last), (h.fit.known, tt)); status_is = refl }
+cause_stage status.BadRow flows table b h =
+    record { at = 3; failed = record { bytes = h.bytes; named = h.named; row = h.row; first = h.first }; below = (h.accepted, ((h.last, h.fit.is_last), (h.fit.known, tt))); status_is = refl }
+cause_stage status.Missing flows table b h = record {
+  at = 4;
+  failed = record { last = h.last; is_last = h.fit.is_last; fixings = h.fixings; are_fixings = h.are_fixings; holds = h.unfixed };
+  below = ((h.fixings, h.are_fixings), (h.accepted, ((h.last, h.fit.is_last), (h.fit.known, tt))));
+  status_is = refl;
+}
+cause_stage _ flows table b h = absurd h
+
+same_stage : (b : Book) (flows : FlowsAsked) (table : Option (List ℕ)) (s wanted : Status) → IsAtStage b flows table s → IsAtStage b flows table wanted → s ≡ wanted
+same_stage b flows table s wanted h k = h.status_is ∙ ap status_at (one_stage b flows table h.at k.at h.failed h.below k.failed k.below) ∙ sym k.status_is
+
+flows_forces : (wanted : Status) (flows : FlowsAsked) (inputs : Inputs) (s : Status) (text : List ℕ) → Answers (Flows flows) inputs s text → IsTextWhere inputs.portfolio (CauseOnBook wanted (Flows flows) inputs.fixings) → s ≡ wanted
+flows_forces wanted flows inputs s text (stopped f (not_spelled h) e line) cause = absurd (h.no_text cause.book cause.spelled)
+flows_forces wanted flows inputs s text (stopped f (on_portfolio b spelled h) e line) cause =
+    let t = inputs.fixings in
+    let at = stage_of b flows t f h in
+    let c = subst (λ (x : Book). CauseOnBook wanted (Flows flows) t x) (one_text inputs.portfolio cause.book b cause.spelled spelled) cause.holds in
+    same_stage b flows t s wanted (record { at = at.at; failed = fails b flows t f at; below = at.below; status_is = e ∙ at.status_is }) (cause_stage wanted flows t b c)
+flows_forces wanted flows inputs s text (told b spelled h) cause =
+    let t = inputs.fixings in
+    let c = subst (λ (x : Book). CauseOnBook wanted (Flows flows) t x) (one_text inputs.portfolio cause.book b cause.spelled spelled) cause.holds in
+    same_stage b flows t s wanted (record { at = 5; failed = tt; below = end_below b flows t h.1.last h.1.fixings h.1.can; status_is = h.0 }) (cause_stage wanted flows t b c)
+
+forces_cause : (wanted : Status) (asked : Asked) (inputs : Inputs) (s : Status) (text : List ℕ) → Answers asked inputs s text → IsTextWhere inputs.portfolio (CauseOnBook wanted asked inputs.fixings) → s ≡ wanted
+forces_cause wanted (Check file) inputs s text a cause = check_forces wanted file inputs s text a cause
+forces_cause wanted (Flows flows) inputs s text a cause = flows_forces wanted flows inputs s text a cause
+
+exact_on_book : (wanted : Status) → (status.NoMemory ≡ wanted → ⊥) → (status.BadText ≡ wanted → ⊥) → (status.Done ≡ wanted → ⊥) → IsExactOnBook wanted
+exact_on_book wanted no_memory no_bad no_done words edge s asked inputs m r =
+    exact words edge s asked inputs m r wanted (IsTextWhere inputs.portfolio (CauseOnBook wanted asked inputs.fixings)) no_memory (λ text a is. gives_cause wanted no_bad no_done asked inputs s (answer_is asked inputs s text a) is) (λ text a cause. forces_cause wanted asked inputs s text a cause)
+
+pub refusals_are_exact : RefusalsAreExact
+refusals_are_exact = record {
+  unknown_name = exact_on_book status.UnknownName (λ (x : status.NoMemory ≡ status.UnknownName). cc) (λ (x : status.BadText ≡ status.UnknownName). cc) (λ (x : status.Done ≡ status.UnknownName). cc);
+  day_range = exact_on_book status.DayRange (λ (x : status.NoMemory ≡ status.DayRange). cc) (λ (x : status.BadText ≡ status.DayRange). cc) (λ (x : status.Done ≡ status.DayRange). cc);
+  refused = exact_on_book status.Refused (λ (x : status.NoMemory ≡ status.Refused). cc) (λ (x : status.BadText ≡ status.Refused). cc) (λ (x : status.Done ≡ status.Refused). cc);
+  bad_row = exact_on_book status.BadRow (λ (x : status.NoMemory ≡ status.BadRow). cc) (λ (x : status.BadText ≡ status.BadRow). cc) (λ (x : status.Done ≡ status.BadRow). cc);
+  missing = exact_on_book status.Missing (λ (x : status.NoMemory ≡ status.Missing). cc) (λ (x : status.BadText ≡ status.Missing). cc) (λ (x : status.Done ≡ status.Missing). cc);
+}
+
+-- ---- completeness
+
+check_whole : (file : List ℕ) (inputs : Inputs) (b : Book) (s : Status) (text : List ℕ) → Text inputs.portfolio b → Answers (Check file) inputs s text → IsChecked b s text
+check_whole file inputs b s text spelled (stopped f (not_spelled h) e line) = absurd (h.no_text b spelled)
+check_whole file inputs b s text spelled (stopped f (on_portfolio c other h) e line) = absurd h
+check_whole file inputs b s text spelled (told c other h) = subst (λ (x : Book). IsChecked x s text) (one_text inputs.portfolio c b other spelled) h
+
+pub check_is_complete : CheckIsComplete
+check_is_complete words edge s file inputs b m r spelled =
+    by_answer words edge s (Check file) inputs m r _ (λ text a w. inl (text, check_whole file inputs b s text spelled a, w)) (λ e w. inr (e, w))
+
+flows_whole : (flows : FlowsAsked) (inputs : Inputs) (b : Book) (last : ℤ) (fixings : Environment) (s : Status) (text : List ℕ) → Text inputs.portfolio b → CanGo b flows inputs.fixings last fixings → Answers (Flows flows) inputs s text → (s ≡ status.Done) × IsFlowsText b flows inputs.fixings text
+flows_whole flows inputs b last fixings s text spelled can (stopped f (not_spelled h) e line) = absurd (h.no_text b spelled)
+flows_whole flows inputs b last fixings s text spelled can (stopped f (on_portfolio c other h) e line) =
+    absurd (stop_or_end b flows inputs.fixings f last fixings (subst (λ (x : Book). StopsFlows x flows inputs.fixings f) (one_text inputs.portfolio c b other spelled) h) can)
+flows_whole flows inputs b last fixings s text spelled can (told c other h) =
+    (h.0, subst (λ (x : Book). IsFlowsText x flows inputs.fixings text) (one_text inputs.portfolio c b other spelled) h.1)
+
+pub flows_are_complete : FlowsAreComplete
+flows_are_complete words edge s flows inputs b last fixings m r spelled can =
+    by_answer words edge s (Flows flows) inputs m r _ (λ text a w. let h = flows_whole flows inputs b last fixings s text spelled can a in inl (text, h.0, h.1, w)) (λ e w. inr (e, w))

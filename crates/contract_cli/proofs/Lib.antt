@@ -1,10 +1,19 @@
+pub mod StopFacts
 pub mod DayFacts
+pub mod UsedFacts
 pub mod LineFacts
+pub mod FlowsParts
+pub mod AnswerFacts
 pub mod CheckFacts
+pub mod SumLineFacts
 pub mod OneCheckText
 pub mod FlowsAreOne
+pub mod Stages
 pub mod AnswersAreOne
 pub mod RunFacts
 pub mod ReadFacts
-pub mod AnswerFacts
 pub mod LawFacts
+pub mod Declaring
+pub mod Taken
+pub mod WordFacts
+mod WordRows

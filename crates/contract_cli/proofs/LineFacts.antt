@@ -1,9 +1,10 @@
 -- One more line, one more contract, and the parts of `flows` put together.
-use Rattle.std.proofs.Common.{◌≡◌, ◌∙◌, ◌≤ℤ◌, ◌<ℤ◌, ◌⊎◌, inl, inr, ℕ, ℤ, pos, List, [], ◌∷◌, ◌++◌, append_assoc, ap, arith, refl, subst, sym}
-use Rattle.std.specs.Prelude.{All, Option, Some, None, Result, Ok, Err}
+use Rattle.std.proofs.Common.{◌≡◌, ◌∙◌, ◌≤ℤ◌, ◌⊎◌, inl, inr, ℕ, ℤ, pos, true, false, List, [], ◌∷◌, ◌++◌, append_assoc, ap, arith, refl, subst, sym}
+use Rattle.std.specs.Prelude.{All, Option, Some, None, Result, Ok, Err, unsigned_abs, ◌≤◌, ◌^◌}
 use Rattle.std.specs.Global.{Vec}
+use Rattle.std.proofs.lemmas.Int.{ints}
 use Rattle.std.proofs.lemmas.List.{append-nil}
-use Rattle.std.proofs.lemmas.List.Elements.{All-cons, All-nil}
+use Rattle.std.proofs.lemmas.List.Elements.{All-cons, All-nil, All-weaker}
 use Rattle.term_core.specs.declared.name.Name.{Name}
 use Rattle.term_core.specs.declared.rules.Rule.{Rule}
 use Rattle.term_core.specs.Books.{Book}
@@ -11,14 +12,18 @@ use Rattle.term_core.specs.Declarations.{Declarations}
 use Rattle.term_core.specs.Environments.{Environment, Place}
 use Rattle.term_core.specs.Terms.{Contract}
 use Rattle.term_core.specs.Acceptance.{IsAccepted}
-use Rattle.flow_eval.specs.FlowAnswers.{AreFlows}
+use Rattle.flow_eval.specs.FlowAnswers.{AreFlows, AreKnownFlows}
+use Rattle.flow_eval.specs.Tables.{IsDueRow}
 use Rattle.flow_eval.specs.declared.faults.FlowErr.{FlowErr}
 use Rattle.flow_eval.specs.declared.faults.FlowErr.TheVariants as flow
 use Rattle.flow_eval.specs.declared.flow_table.FlowRow.{FlowRow}
+use Rattle.flow_eval.specs.declared.flow_table.FlowTable.{FlowTable}
 use Rattle.report.specs.FlowLines.{AppendsFlowLine, IsFlowLine}
-use Rattle.contract_cli.specs.CheckText.{AreAllAccepted, at_defaults}
-use Rattle.contract_cli.specs.FlowLists.{AnswersAccepted, AnswersAllAccepted, AnswersDay, AnswersFixings, AnswersFlows, AnswersFlowsOf, AnswersLines, AnswersTable, AppendsFlows, AppendsLines, IsStopOf, missing_at}
-use Rattle.contract_cli.specs.FlowsText.{AreAllFixed, AreAllLines, AreFixings, AreLines, IsFirstMissing, IsFirstNotAccepted, IsLastDay, day_out, not_accepted, row_refused, read_missing, missing_of}
+use Rattle.report.specs.declared.fault_lines.Fault.{Fault}
+use Rattle.contract_cli.specs.CheckText.{AreAllAccepted}
+use Rattle.contract_cli.specs.FlowLists.{AnswersLines, AnswersTables, AppendsAll, AppendsLines, AppendsTables, AreTables, IsMissingOf, IsMissingOne, IsRefusedOf, IsRefusedOne, IsStopOf, missing_at}
+use Rattle.contract_cli.specs.FlowsText.{AreAllFixed, AreLines, IsFirstMissing, IsFirstNotAccepted, missing_of}
+use Rattle.contract_cli.specs.Stopping.{AnswersBy}
 use Rattle.contract_cli.specs.declared.stop.Stop.{Stop}
 use Rattle.contract_cli.specs.declared.stop.Stop.TheVariants as stop
 
@@ -45,7 +50,10 @@ appends_no_line d name before = record { text = []; lines = refl; appended = sym
 -- ---- one more contract that is accepted
 
 abbrev IsAcceptedEntry : Declarations → Name × Contract → Type 0
-IsAcceptedEntry d entry = IsAccepted d (at_defaults d entry.1)
+IsAcceptedEntry d entry = IsAccepted d entry.1
+
+abbrev AnswersAccepted : Declarations → List (Name × Contract) → Result (Unit {0}) Stop → Type 0
+AnswersAccepted d entries r = AnswersBy (λ _. AreAllAccepted d entries) (IsRefusedOf d entries) r
 
 not_accepted_behind : (d : Declarations) (entry : Name × Contract) (entries : List (Name × Contract)) (name : List ℕ) (rule : Rule) (node : ℕ) → IsAcceptedEntry d entry → IsFirstNotAccepted d entries name rule node → IsFirstNotAccepted d (entry ∷ entries) name rule node
 not_accepted_behind d entry entries name rule node a n = record {
@@ -57,22 +65,20 @@ not_accepted_behind d entry entries name rule node a n = record {
   refused = n.refused;
 }
 
-pub accepted_behind : (d : Declarations) (entry : Name × Contract) (entries : List (Name × Contract)) (r : Result (Unit {0}) Stop) → IsAccepted d (at_defaults d entry.1) → AnswersAllAccepted d entries r → AnswersAllAccepted d (entry ∷ entries) r
+pub accepted_behind : (d : Declarations) (entry : Name × Contract) (entries : List (Name × Contract)) (r : Result (Unit {0}) Stop) → IsAccepted d entry.1 → AnswersAccepted d entries r → AnswersAccepted d (entry ∷ entries) r
 accepted_behind d entry entries (Ok u) a rest = All-cons (IsAcceptedEntry d) entry entries a rest
-accepted_behind d entry entries (Err (stop.Fault s f)) a rest =
-    record { status_is = rest.status_is; name = rest.name; rule = rest.rule; node = rest.node; first = not_accepted_behind d entry entries rest.name rest.rule rest.node a rest.first; fault_is = rest.fault_is }
+accepted_behind d entry entries (Err (stop.Fault f)) a rest =
+    record { name = rest.name; rule = rest.rule; node = rest.node; first = not_accepted_behind d entry entries rest.name rest.rule rest.node a rest.first; fault_is = rest.fault_is }
 accepted_behind d entry entries (Err stop.NoMemory) a rest = tt
 
-pub accepted_stopped : (d : Declarations) (entry : Name × Contract) (entries : List (Name × Contract)) (e : Stop) → AnswersAccepted d entry (Err e) → AnswersAllAccepted d (entry ∷ entries) (Err e)
-accepted_stopped d entry entries (stop.Fault s f) one = record {
-  status_is = one.status_is;
+pub refused_first : (d : Declarations) (entry : Name × Contract) (entries : List (Name × Contract)) (f : Fault) → IsRefusedOne d entry f → IsRefusedOf d (entry ∷ entries) f
+refused_first d entry entries f one = record {
   name = entry.0;
   rule = one.rule;
   node = one.node;
   first = record { before = []; contr = entry.1; after = entries; split = refl; accepted = All-nil (IsAcceptedEntry d); refused = one.refused };
   fault_is = one.fault_is;
 }
-accepted_stopped d entry entries stop.NoMemory one = tt
 
 pub accepted_none : (d : Declarations) → AreAllAccepted d []
 accepted_none d = All-nil (IsAcceptedEntry d)
@@ -83,76 +89,76 @@ abbrev IsFixedEntry : Declarations → Environment → ℤ → Name × Contract 
 IsFixedEntry d fixings last entry = missing_of d fixings last entry.1 ≡ None
 
 module _ (d : Declarations) (fixings : Environment) (last : ℤ) where
-  missing_behind : (entry : Name × Contract) (entries : List (Name × Contract)) (place : Place) → IsFixedEntry d fixings last entry → IsFirstMissing d fixings last entries place → IsFirstMissing d fixings last (entry ∷ entries) place
-  missing_behind entry entries place h m = record {
-    before = entry ∷ m.before;
-    entry = m.entry;
-    after = m.after;
-    split = ap (λ (xs : List (Name × Contract)). entry ∷ xs) m.split;
-    fixed = All-cons (IsFixedEntry d fixings last) entry m.before h m.fixed;
-    missing = m.missing;
+  missing_behind : (entry : Name × Contract) (entries : List (Name × Contract)) (f : Fault) → IsFixedEntry d fixings last entry → IsMissingOf d fixings last entries f → IsMissingOf d fixings last (entry ∷ entries) f
+  missing_behind entry entries f h m = record {
+    place = m.place;
+    first = record {
+      before = entry ∷ m.first.before;
+      entry = m.first.entry;
+      after = m.first.after;
+      split = ap (λ (xs : List (Name × Contract)). entry ∷ xs) m.first.split;
+      fixed = All-cons (IsFixedEntry d fixings last) entry m.first.before h m.first.fixed;
+      missing = m.first.missing;
+    };
+    fault_is = m.fault_is;
   }
 
-  pub lines_behind : (entry : Name × Contract) (entries : List (Name × Contract)) (before middle : List ℕ) (r : Result (Vec ℕ) Stop) → AppendsFlows d fixings last entry before middle → AnswersLines d fixings last entries middle r → AnswersLines d fixings last (entry ∷ entries) before r
-  lines_behind entry entries before middle (Ok text) one rest = record {
-    fixed = All-cons (IsFixedEntry d fixings last) entry entries one.fixed rest.fixed;
-    text = one.text ++ rest.text;
-    lines = (one.text, rest.text, one.lines, rest.lines, refl);
-    appended = rest.appended ∙ ap (λ (t : List ℕ). t ++ rest.text) one.appended ∙ append_assoc before one.text rest.text;
-  }
-  lines_behind entry entries before middle (Err (stop.Fault s f)) one rest =
-      record { status_is = rest.status_is; place = rest.place; first = missing_behind entry entries rest.place one.fixed rest.first; fault_is = rest.fault_is }
-  lines_behind entry entries before middle (Err stop.NoMemory) one rest = tt
-
-  pub lines_stopped : (entry : Name × Contract) (entries : List (Name × Contract)) (before middle : List ℕ) (e : Stop) → AnswersFlowsOf d fixings last entry before middle (Err e) → AnswersLines d fixings last (entry ∷ entries) before (Err e)
-  lines_stopped entry entries before middle (stop.Fault s f) one = record {
-    status_is = one.status_is;
+  pub missing_first : (entry : Name × Contract) (entries : List (Name × Contract)) (f : Fault) → IsMissingOne d fixings last entry.1 f → IsMissingOf d fixings last (entry ∷ entries) f
+  missing_first entry entries f one = record {
     place = one.place;
     first = record { before = []; entry = entry; after = entries; split = refl; fixed = All-nil (IsFixedEntry d fixings last); missing = one.missing };
     fault_is = one.fault_is;
   }
-  lines_stopped entry entries before middle stop.NoMemory one = tt
+
+  pub lines_behind : (entry : Name × Contract) (entries : List (Name × Contract)) (rows : List FlowRow) (before middle : List ℕ) (r : Result (Vec ℕ) Stop) → AreKnownFlows d entry.1 fixings (pos d.start) last rows → AppendsLines d entry.0 rows before middle → AnswersLines d fixings last entries middle r → AnswersLines d fixings last (entry ∷ entries) before r
+  lines_behind entry entries rows before middle (Ok text) known one rest = record {
+    fixed = All-cons (IsFixedEntry d fixings last) entry entries known.fixed rest.fixed;
+    text = one.text ++ rest.text;
+    lines = (one.text, rest.text, record { rows = rows; flows = known; lines = one.lines }, rest.lines, refl);
+    appended = rest.appended ∙ ap (λ (t : List ℕ). t ++ rest.text) one.appended ∙ append_assoc before one.text rest.text;
+  }
+  lines_behind entry entries rows before middle (Err (stop.Fault f)) known one rest = missing_behind entry entries f known.fixed rest
+  lines_behind entry entries rows before middle (Err stop.NoMemory) known one rest = tt
 
   pub lines_of_none : (text : Vec ℕ) → AnswersLines d fixings last [] text.items (Ok text)
   lines_of_none text = record { fixed = All-nil (IsFixedEntry d fixings last); text = []; lines = refl; appended = sym (append-nil text.items) }
 
--- ---- the parts together
+  pub tables_behind : (entry : Name × Contract) (entries : List (Name × Contract)) (table : FlowTable) (before : List FlowTable) (r : Result (Vec FlowTable) Stop) → AreKnownFlows d entry.1 fixings (pos d.start) last table.rows.items → AnswersTables d fixings last entries (before ++ table ∷ []) r → AnswersTables d fixings last (entry ∷ entries) before r
+  tables_behind entry entries table before (Ok tables) known rest =
+      record { tables = table ∷ rest.tables; are_tables = (known, rest.are_tables); appended = rest.appended ∙ append_assoc before (table ∷ []) rest.tables }
+  tables_behind entry entries table before (Err (stop.Fault f)) known rest = missing_behind entry entries f known.fixed rest
+  tables_behind entry entries table before (Err stop.NoMemory) known rest = tt
 
-module _ (b : Book) (until table : Option (List ℕ)) where
-  pub stopped_by_day : (e : Stop) → AnswersDay b.declarations until (Err e) → AnswersFlows b until table (Err e)
-  stopped_by_day (stop.Fault s f) h = day_out h.status_is h.word h.given h.out h.fault_is
-  stopped_by_day stop.NoMemory h = tt
+  pub tables_of_none : (tables : Vec FlowTable) → AnswersTables d fixings last [] tables.items (Ok tables)
+  tables_of_none tables = record { tables = []; are_tables = tt; appended = sym (append-nil tables.items) }
 
-  pub stopped_by_contract : (last : ℤ) (e : Stop) → IsLastDay b.declarations until last → AnswersAllAccepted b.declarations b.contracts (Err e) → AnswersFlows b until table (Err e)
-  stopped_by_contract last (stop.Fault s f) range h = not_accepted h.status_is last range h.name h.rule h.node h.first h.fault_is
-  stopped_by_contract last stop.NoMemory range h = tt
+-- ---- rows that can be written
 
-  pub stopped_by_row : (last : ℤ) (e : Stop) → IsLastDay b.declarations until last → AreAllAccepted b.declarations b.contracts → AnswersFixings b.declarations table (Err e) → AnswersFlows b until table (Err e)
-  stopped_by_row last (stop.Fault s f) range all h = row_refused h.status_is last range all h.bytes h.named h.row h.first h.fault_is
-  stopped_by_row last stop.NoMemory range all h = tt
+no_sooner : (start day : ℤ) → pos 0 ≤ℤ start → start ≤ℤ day → pos 0 ≤ℤ day
+no_sooner start day h k = omega (arith, ints)
 
-  pub with_lines : (last : ℤ) (fixings : Environment) (r : Result (Vec ℕ) Stop) → IsLastDay b.declarations until last → AreAllAccepted b.declarations b.contracts → AreFixings b.declarations table fixings → AnswersLines b.declarations fixings last b.contracts [] r → AnswersFlows b until table r
-  with_lines last fixings (Ok text) range all are h =
-      record { last = last; is_last = range; accepted = all; fixings = fixings; are_fixings = are; fixed = h.fixed; lines = subst (λ (t : List ℕ). AreAllLines b.declarations fixings last b.contracts t) (sym h.appended) h.lines }
-  with_lines last fixings (Err (stop.Fault s f)) range all are h = read_missing h.status_is last range all fixings are h.place h.first h.fault_is
-  with_lines last fixings (Err stop.NoMemory) range all are h = tt
+no_later : (last day : ℤ) → last ≤ℤ pos 1_100_000 → day ≤ℤ last → day ≤ℤ pos 1_100_000
+no_later last day h k = omega (arith, ints)
+
+pub rows_writable : (start : ℕ) (last : ℤ) (rows : List FlowRow) → last ≤ℤ pos 1_100_000 → All (IsDueRow (pos start) last) rows → All (IsDueRow (pos 0) (pos 1_100_000)) rows
+rows_writable start last rows h all =
+    All-weaker (IsDueRow (pos start) last) (IsDueRow (pos 0) (pos 1_100_000)) (λ row due. (no_sooner (pos start) row.day (omega (arith, ints)) due.0, no_later last row.day h due.1, due.2)) rows all
 
 -- ---- a contract without flows
 
-missing_stop : (d : Declarations) (fixings : Environment) (last : ℤ) (c : Contract) (label : ℕ) (day : ℤ) → missing_of d fixings last c ≡ Some (record { label = label; day = day }) → AnswersTable d fixings last c (Err (missing_at d label day))
-missing_stop d fixings last c label day h = record { status_is = refl; place = record { label = label; day = day }; missing = h; fault_is = refl }
+module _ (d : Declarations) (fixings : Environment) (last : ℤ) (c : Contract) where
+  abbrev AnswersTable : Result FlowTable Stop → Type 0
+  AnswersTable r = AnswersBy (λ table. AreKnownFlows d c fixings (pos d.start) last table.rows.items) (IsMissingOne d fixings last c) r
 
-by_memory : (d : Declarations) (fixings : Environment) (last : ℤ) (c : Contract) (s : Stop) → s ≡ stop.NoMemory → AnswersTable d fixings last c (Err s)
-by_memory d fixings last c s e = subst (λ (x : Stop). AnswersTable d fixings last c (Err x)) (sym e) tt
+  by_memory : (s : Stop) → s ≡ stop.NoMemory → AnswersTable (Err s)
+  by_memory s e = subst (λ (x : Stop). AnswersTable (Err x)) (sym e) tt
 
-by_missing : (d : Declarations) (fixings : Environment) (last : ℤ) (c : Contract) (label : ℕ) (day : ℤ) (s : Stop) → missing_of d fixings last c ≡ Some (record { label = label; day = day }) → (s ≡ missing_at d label day) ⊎ (s ≡ stop.NoMemory) → AnswersTable d fixings last c (Err s)
-by_missing d fixings last c label day s h (inl e) = subst (λ (x : Stop). AnswersTable d fixings last c (Err x)) (sym e) (missing_stop d fixings last c label day h)
-by_missing d fixings last c label day s h (inr e) = by_memory d fixings last c s e
+  by_missing : (label : ℕ) (day : ℤ) (s : Stop) → missing_of d fixings last c ≡ Some (record { label = label; day = day }) → (s ≡ missing_at d label day) ⊎ (s ≡ stop.NoMemory) → AnswersTable (Err s)
+  by_missing label day s h (inl e) =
+      let one : IsMissingOne d fixings last c _ = record { place = record { label = label; day = day }; missing = h; fault_is = refl } in
+      subst (λ (x : Stop). AnswersTable (Err x)) (sym e) one
+  by_missing label day s h (inr e) = by_memory s e
 
-pub without_flows : (d : Declarations) (fixings : Environment) (last : ℤ) (c : Contract) (e : FlowErr) (s : Stop) → AreFlows d (at_defaults d c) fixings (pos d.start) last (Err e) → IsStopOf d e s → AnswersTable d fixings last c (Err s)
-without_flows d fixings last c (flow.Missing label day) s h is = by_missing d fixings last c label day s h is
-without_flows d fixings last c flow.NoMemory s h is = by_memory d fixings last c s is
-
-pub stopped_at_table : (d : Declarations) (fixings : Environment) (last : ℤ) (entry : Name × Contract) (before after : List ℕ) (e : Stop) → AnswersTable d fixings last entry.1 (Err e) → AnswersFlowsOf d fixings last entry before after (Err e)
-stopped_at_table d fixings last entry before after (stop.Fault s f) h = h
-stopped_at_table d fixings last entry before after stop.NoMemory h = tt
+  pub without_flows : (e : FlowErr) (s : Stop) → AreFlows d c fixings (pos d.start) last (Err e) → IsStopOf d e s → AnswersTable (Err s)
+  without_flows (flow.Missing label day) s h is = by_missing label day s h is
+  without_flows flow.NoMemory s h is = by_memory s is

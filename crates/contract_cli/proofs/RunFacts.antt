@@ -1,59 +1,20 @@
--- The causes of a run's status exclude each other.
-use Rattle.std.proofs.Common.{◌≡◌, ◌≢◌, ◌∙◌, ◌≤◌, ◌<◌, ◌⊎◌, inl, inr, ℕ, List, length, ap, arith, refl, subst, sym}
+-- What a run is that has read files whose contents are told, where nothing failed.
+use Rattle.std.proofs.Common.{◌≡◌, ◌∙◌, ◌≤◌, ◌<◌, ℕ, List, length, ap, arith, refl, subst, sym}
 use Rattle.std.specs.Prelude.{Option, Some, None, IfSome}
 use Rattle.edge_io.specs.Counts.{Rose}
 use Rattle.report.specs.FaultLines.{fault_text}
+use Rattle.report.specs.declared.fault_lines.Fault.{Fault}
 use Rattle.report.specs.declared.fault_lines.Fault.TheVariants as fault
 use Rattle.contract_cli.specs.Answers.{Answers, Inputs}
 use Rattle.contract_cli.specs.Answering.{AreShort}
+use Rattle.contract_cli.specs.Commands.{Asked, fixings_file, portfolio_file}
 use Rattle.contract_cli.specs.FlowLists.{IsShortTable}
-use Rattle.contract_cli.specs.Words.{Asked, command_of}
-use Rattle.contract_cli.specs.Runs.{AnswerCause, Answered, Cause, Edge, FilesSeen, IsNext, is_first, is_second, Meets, Names, ReadFaultCause, TooLongCause, UsageCause, WasRead, WasReadIfNamed, WereRead, WritesAll, WritesNothing, longest_file}
-use Rattle.contract_cli.specs.RunLaws.{ComesExactlyWhere, FaultsHaveCauses, IsOrNoMemory, IsRead, IsReadWhole, IsTold, IsToldIfNamed, IsTooLong, long_portfolio, long_table, RefusalsWriteTheirLine, SomeReadFailed, TooLongIsExact, UsageIsExact, WritesSucceed}
+use Rattle.contract_cli.specs.Words.{command_of}
+use Rattle.contract_cli.specs.Runs.{Cause, stopped, answered, Edge, FilesSeen, FileFault, read_failed, read_long, IsNext, is_first, is_second, Meets, written, broken, lacking, Names, StopsRun, no_form, at_file, WasRead, WasReadIfNamed, WereRead, WritesAll, WritesNothing, longest_file}
+use Rattle.contract_cli.specs.RunLaws.{IsLongAt, long_portfolio, long_table, IsRead, IsReadWhole, IsTold, IsToldIfNamed, WritesSucceed}
+use Rattle.contract_cli.specs.Statuses.{status_of}
 use Rattle.contract_cli.specs.declared.status.Status.{Status}
 use Rattle.contract_cli.specs.declared.status.Status.TheVariants as status
-
--- ---- what is left of a status's meaning where no write failed
-
-pub data Settled (words : List (List ℕ)) (edge : Edge) (s : Status) : Type 0 where
-  answered : Answered words edge s → Settled words edge s
-  lacking : s ≡ status.NoMemory → WritesNothing edge.sink → Settled words edge s
-
-pub settled : (words : List (List ℕ)) (edge : Edge) (s : Status) → Meets words edge s → WritesSucceed edge → Settled words edge s
-settled words edge status.WriteFault m calm = absurd (calm m.written.0)
-settled words edge status.NoMemory m calm = lacking refl m
-settled words edge status.Done m calm = answered m
-settled words edge status.Refused m calm = answered m
-settled words edge status.Usage m calm = answered m
-settled words edge status.ReadFault m calm = answered m
-settled words edge status.TooLong m calm = answered m
-settled words edge status.BadText m calm = answered m
-settled words edge status.BadRow m calm = answered m
-settled words edge status.Missing m calm = answered m
-settled words edge status.UnknownName m calm = answered m
-settled words edge status.DayRange m calm = answered m
-
--- ---- the causes
-
-pub data CauseIs (words : List (List ℕ)) (files : FilesSeen) (s : Status) (text : List ℕ) : Type 0 where
-  usage : s ≡ status.Usage → UsageCause words text → CauseIs words files s text
-  read_fault : s ≡ status.ReadFault → ReadFaultCause words files text → CauseIs words files s text
-  too_long : s ≡ status.TooLong → TooLongCause words files text → CauseIs words files s text
-  answer : AnswerCause words files s text → CauseIs words files s text
-
-pub cause_is : (words : List (List ℕ)) (files : FilesSeen) (s : Status) (text : List ℕ) → Cause words files s text → CauseIs words files s text
-cause_is words files status.Usage text c = usage refl c
-cause_is words files status.ReadFault text c = read_fault refl c
-cause_is words files status.TooLong text c = too_long refl c
-cause_is words files status.Done text c = answer c
-cause_is words files status.Refused text c = answer c
-cause_is words files status.WriteFault text c = answer c
-cause_is words files status.BadText text c = answer c
-cause_is words files status.BadRow text c = answer c
-cause_is words files status.Missing text c = answer c
-cause_is words files status.NoMemory text c = answer c
-cause_is words files status.UnknownName text c = answer c
-cause_is words files status.DayRange text c = answer c
 
 -- ---- what was read
 
@@ -95,84 +56,69 @@ short_if_named files (Some f) None w = absurd w
 short_if_named files (Some f) (Some r) w = w.fits
 
 pub were_short : (files : FilesSeen) (asked : Asked) (inputs : Inputs) → WereRead files asked inputs → AreShort inputs
-were_short files asked inputs w = record { portfolio = w.portfolio.fits; fixings = short_if_named files asked.fixings inputs.fixings w.fixings }
+were_short files asked inputs w = record { portfolio = w.portfolio.fits; fixings = short_if_named files (fixings_file asked) inputs.fixings w.fixings }
 
-same_inputs : (files : FilesSeen) (asked : Asked) (read told : Inputs) → WereRead files asked read → IsTold files asked.portfolio told.portfolio → IsToldIfNamed files asked.fixings told.fixings → read ≡ told
+same_inputs : (files : FilesSeen) (asked : Asked) (read told : Inputs) → WereRead files asked read → IsTold files (portfolio_file asked) told.portfolio → IsToldIfNamed files (fixings_file asked) told.fixings → read ≡ told
 same_inputs files asked read told w p f =
-    ap (λ (x : List ℕ). let i : Inputs = record { portfolio = x; fixings = read.fixings } in i) (same_bytes files asked.portfolio read.portfolio told.portfolio w.portfolio p)
-    ∙ ap (λ (x : Option (List ℕ)). let i : Inputs = record { portfolio = told.portfolio; fixings = x } in i) (same_if_named files asked.fixings read.fixings told.fixings w.fixings f)
+    ap (λ (x : List ℕ). let i : Inputs = record { portfolio = x; fixings = read.fixings } in i) (same_bytes files (portfolio_file asked) read.portfolio told.portfolio w.portfolio p)
+    ∙ ap (λ (x : Option (List ℕ)). let i : Inputs = record { portfolio = told.portfolio; fixings = x } in i) (same_if_named files (fixings_file asked) read.fixings told.fixings w.fixings f)
+
+-- what a run ends with that has read its files
+pub data Ends (edge : Edge) (asked : Asked) (inputs : Inputs) (s : Status) : Type 0 where
+  long : s ≡ status.TooLong → (place : ℕ) → IsLongAt inputs place → WritesAll edge.sink (fault_text (fault.TooLong place)) → Ends edge asked inputs s
+  with_answer : (text : List ℕ) → AreShort inputs → Answers asked inputs s text → WritesAll edge.sink text → Ends edge asked inputs s
+  with_nothing : s ≡ status.NoMemory → WritesNothing edge.sink → Ends edge asked inputs s
 
 module _ (words : List (List ℕ)) (edge : Edge) (asked : Asked) (inputs : Inputs) (r : IsRead words edge asked inputs) where
   same_asked : (a : Asked) → Names words a → a ≡ asked
   same_asked a named = one_command words a asked named r.named
 
-  no_usage : (text : List ℕ) → UsageCause words text → ⊥
-  no_usage text u = let h : command_of words ≡ Some asked = r.named in let k = u.no_form in cc
+  portfolio_is : (a : Asked) (file : List ℕ) → Names words a → file ≡ portfolio_file a → portfolio_file asked ≡ file
+  portfolio_is a file named is = sym (is ∙ ap portfolio_file (same_asked a named))
 
-  portfolio_is : (a : Asked) (file : List ℕ) → Names words a → file ≡ a.portfolio → asked.portfolio ≡ file
-  portfolio_is a file named is = sym (is ∙ ap (λ (x : Asked). x.portfolio) (same_asked a named))
-
-  fixings_are : (a : Asked) (file : List ℕ) → Names words a → a.fixings ≡ Some file → NamedAs edge.files inputs.fixings file
+  fixings_are : (a : Asked) (file : List ℕ) → Names words a → fixings_file a ≡ Some file → NamedAs edge.files inputs.fixings file
   fixings_are a file named is =
-      named_as edge.files asked.fixings inputs.fixings file r.fixings (sym (ap (λ (x : Asked). x.fixings) (same_asked a named)) ∙ is)
+      named_as edge.files (fixings_file asked) inputs.fixings file r.fixings (sym (ap fixings_file (same_asked a named)) ∙ is)
 
   next_told : (a : Asked) (file : List ℕ) (place : ℕ) → Names words a → IsNext edge.files a file place → (bytes : List ℕ) × IsTold edge.files file bytes
   next_told a file place named (is_first p is) = (inputs.portfolio, subst (λ (x : List ℕ). IsTold edge.files x inputs.portfolio) (portfolio_is a file named is) r.portfolio)
   next_told a file place named (is_second p is bytes w) = let n = fixings_are a file named is in (n.bytes, n.told)
 
-  no_read_fault : (text : List ℕ) → ReadFaultCause words edge.files text → ⊥
-  no_read_fault text f = (next_told f.asked f.file f.place f.named f.next).1.no_fault f.rose
+  long_first : (file : List ℕ) → portfolio_file asked ≡ file → IfSome (edge.files.contents file) (λ all. longest_file < length all) → longest_file < length inputs.portfolio
+  long_first file is longer =
+      let t = subst (λ (x : List ℕ). IsTold edge.files x inputs.portfolio) is r.portfolio in
+      subst (λ (o : Option (List ℕ)). IfSome o (λ bytes. longest_file < length bytes)) t.told longer
 
-  long_by : (a : Asked) (file : List ℕ) (place : ℕ) → Names words a → IsNext edge.files a file place → IfSome (edge.files.contents file) (λ all. longest_file < length all) → IsTooLong inputs
-  long_by a file place named (is_first p is) long =
-      let t = subst (λ (x : List ℕ). IsTold edge.files x inputs.portfolio) (portfolio_is a file named is) r.portfolio in
-      long_portfolio (subst (λ (o : Option (List ℕ)). IfSome o (λ bytes. longest_file < length bytes)) t.told long)
-  long_by a file place named (is_second p is bytes w) long =
+  first_fits : (a : Asked) (bytes : List ℕ) → Names words a → WasRead edge.files (portfolio_file a) bytes → length inputs.portfolio ≤ longest_file
+  first_fits a bytes named w =
+      let there = subst (λ (x : Asked). WasRead edge.files (portfolio_file x) bytes) (same_asked a named) w in
+      subst (λ (x : List ℕ). length x ≤ longest_file) (same_bytes edge.files (portfolio_file asked) bytes inputs.portfolio there r.portfolio) w.fits
+
+  long_at : (a : Asked) (file : List ℕ) (place : ℕ) → Names words a → IsNext edge.files a file place → IfSome (edge.files.contents file) (λ all. longest_file < length all) → IsLongAt inputs place
+  long_at a file place named (is_first p is) longer = long_portfolio p (long_first file (portfolio_is a file named is) longer)
+  long_at a file place named (is_second p is bytes w) longer =
       let n = fixings_are a file named is in
-      long_table n.bytes n.is_given (subst (λ (o : Option (List ℕ)). IfSome o (λ bytes. longest_file < length bytes)) n.told.told long)
+      long_table p (first_fits a bytes named w) n.bytes n.is_given (subst (λ (o : Option (List ℕ)). IfSome o (λ bytes. longest_file < length bytes)) n.told.told longer)
 
-  is_long : (text : List ℕ) → TooLongCause words edge.files text → IsTooLong inputs
-  is_long text f = long_by f.asked f.file f.place f.named f.next f.told
+  by_file : (a : Asked) (file : List ℕ) (place : ℕ) (f : Fault) (s : Status) (text : List ℕ) → Names words a → IsNext edge.files a file place → FileFault edge.files file place f → s ≡ status_of f → text ≡ fault_text f → WritesAll edge.sink text → Ends edge asked inputs s
+  by_file a file place f s text named next (read_failed is rose) e line w = absurd ((next_told a file place named next).1.no_fault rose)
+  by_file a file place f s text named next (read_long is known) e line w =
+      long (e ∙ ap status_of is) place (long_at a file place named next known) (subst (λ (t : List ℕ). WritesAll edge.sink t) (line ∙ ap fault_text is) w)
 
-  answer_here : (s : Status) (text : List ℕ) → AnswerCause words edge.files s text → AreShort inputs × Answers asked inputs s text
-  answer_here s text c =
-      let one = same_asked c.asked c.named in
-      let read = subst (λ (a : Asked). WereRead edge.files a c.inputs) one c.read in
-      let given = subst (λ (a : Asked). Answers a c.inputs s text) one c.answer in
-      let same = same_inputs edge.files asked c.inputs inputs read r.portfolio r.fixings in
-      (subst (λ (i : Inputs). AreShort i) same (were_short edge.files asked c.inputs read), subst (λ (i : Inputs). Answers asked i s text) same given)
+  by_stop : (f : Fault) (s : Status) (text : List ℕ) → StopsRun words edge.files f → s ≡ status_of f → text ≡ fault_text f → WritesAll edge.sink text → Ends edge asked inputs s
+  by_stop f s text (no_form none is) e line w = absurd (let h : command_of words ≡ Some asked = r.named in cc)
+  by_stop f s text (at_file a named file place next h) e line w = by_file a file place f s text named next h e line w
 
--- what a run ends with that has read its files
-pub data Ends (edge : Edge) (asked : Asked) (inputs : Inputs) (s : Status) : Type 0 where
-  long : s ≡ status.TooLong → IsTooLong inputs → Ends edge asked inputs s
-  told : (text : List ℕ) → AreShort inputs → Answers asked inputs s text → WritesAll edge.sink text → Ends edge asked inputs s
-  without : s ≡ status.NoMemory → WritesNothing edge.sink → Ends edge asked inputs s
+  by_cause : (s : Status) (text : List ℕ) → Cause words edge.files s text → WritesAll edge.sink text → Ends edge asked inputs s
+  by_cause s text (stopped f h e line) w = by_stop f s text h e line w
+  by_cause s text (answered a named read_inputs read ans) w =
+      let one = same_asked a named in
+      let were = subst (λ (x : Asked). WereRead edge.files x read_inputs) one read in
+      let given = subst (λ (x : Asked). Answers x read_inputs s text) one ans in
+      let same = same_inputs edge.files asked read_inputs inputs were r.portfolio r.fixings in
+      with_answer text (subst (λ (i : Inputs). AreShort i) same (were_short edge.files asked read_inputs were)) (subst (λ (i : Inputs). Answers asked i s text) same given) w
 
-by_cause : (words : List (List ℕ)) (edge : Edge) (asked : Asked) (inputs : Inputs) (s : Status) (text : List ℕ) → IsRead words edge asked inputs → CauseIs words edge.files s text → WritesAll edge.sink text → Ends edge asked inputs s
-by_cause words edge asked inputs s text r (usage e c) w = absurd (no_usage words edge asked inputs r text c)
-by_cause words edge asked inputs s text r (read_fault e c) w = absurd (no_read_fault words edge asked inputs r text c)
-by_cause words edge asked inputs s text r (too_long e c) w = long e (is_long words edge asked inputs r text c)
-by_cause words edge asked inputs s text r (answer c) w = let a = answer_here words edge asked inputs r s text c in told text a.0 a.1 w
-
-by_settled : (words : List (List ℕ)) (edge : Edge) (asked : Asked) (inputs : Inputs) (s : Status) → IsRead words edge asked inputs → Settled words edge s → Ends edge asked inputs s
-by_settled words edge asked inputs s r (answered a) = by_cause words edge asked inputs s a.text r (cause_is words edge.files s a.text a.cause) a.written
-by_settled words edge asked inputs s r (lacking e w) = without e w
-
-pub ends : (words : List (List ℕ)) (edge : Edge) (s : Status) (asked : Asked) (inputs : Inputs) → Meets words edge s → IsRead words edge asked inputs → Ends edge asked inputs s
-ends words edge s asked inputs m r = by_settled words edge asked inputs s r (settled words edge s m r.no_write_fault)
-
--- ---- what a run says that wrote the text of its cause
-
-pub all_written : (words : List (List ℕ)) (edge : Edge) (s : Status) (text : List ℕ) → s ≢ status.WriteFault → s ≢ status.NoMemory → Cause words edge.files s text → WritesAll edge.sink text → Meets words edge s
-all_written words edge status.WriteFault text no_write no_memory c w = absurd (no_write refl)
-all_written words edge status.NoMemory text no_write no_memory c w = absurd (no_memory refl)
-all_written words edge status.Done text no_write no_memory c w = record { text = text; cause = c; written = w }
-all_written words edge status.Refused text no_write no_memory c w = record { text = text; cause = c; written = w }
-all_written words edge status.Usage text no_write no_memory c w = record { text = text; cause = c; written = w }
-all_written words edge status.ReadFault text no_write no_memory c w = record { text = text; cause = c; written = w }
-all_written words edge status.TooLong text no_write no_memory c w = record { text = text; cause = c; written = w }
-all_written words edge status.BadText text no_write no_memory c w = record { text = text; cause = c; written = w }
-all_written words edge status.BadRow text no_write no_memory c w = record { text = text; cause = c; written = w }
-all_written words edge status.Missing text no_write no_memory c w = record { text = text; cause = c; written = w }
-all_written words edge status.UnknownName text no_write no_memory c w = record { text = text; cause = c; written = w }
-all_written words edge status.DayRange text no_write no_memory c w = record { text = text; cause = c; written = w }
+  pub ends : (s : Status) → Meets words edge s → Ends edge asked inputs s
+  ends s (written text cause w) = by_cause s text cause w
+  ends s (broken e due text cause w) = absurd (r.no_write_fault w.0)
+  ends s (lacking e w) = with_nothing e w

@@ -1,5 +1,5 @@
--- What a command answers to the bytes of its files: a status and a text. A command that is stopped answers the line of its
--- fault; `check` answers the verdict of each contract also where some of them are refused.
+-- What a command answers to the bytes of its files: a status and a text. A command that a fault stops answers the fault's
+-- status and its line.
 use Rattle.std.specs.Prelude.{◌≡◌, ℕ, List, Option}
 use Rattle.term_core.specs.Books.{Book}
 use Rattle.contract_parse.specs.Texts.{IsFault, Text}
@@ -7,11 +7,10 @@ use Rattle.contract_parse.specs.declared.faults.TextFault.{TextFault}
 use Rattle.report.specs.FaultLines.{fault_text}
 use Rattle.report.specs.declared.fault_lines.Fault.{Fault}
 use Rattle.report.specs.declared.fault_lines.Fault.TheVariants as fault
-use Rattle.contract_cli.specs.CheckText.{IsAllAccepted, IsCheckText, IsSomeRefused}
-use Rattle.contract_cli.specs.FlowsText.{IsFlowsText, Stops}
-use Rattle.contract_cli.specs.Words.{Asked}
-use Rattle.contract_cli.specs.declared.words.Verb.{Verb}
-use Rattle.contract_cli.specs.declared.words.Verb.TheVariants.{Check, Flows}
+use Rattle.contract_cli.specs.CheckText.{IsChecked}
+use Rattle.contract_cli.specs.Commands.{Asked, Check, Flows}
+use Rattle.contract_cli.specs.FlowsText.{IsFlowsText, StopsFlows}
+use Rattle.contract_cli.specs.Statuses.{status_of}
 use Rattle.contract_cli.specs.declared.status.Status.{Status}
 use Rattle.contract_cli.specs.declared.status.Status.TheVariants as status
 
@@ -24,28 +23,28 @@ pub record Inputs : Type 0 where
 abbrev pub IsNoText : List ℕ → Type 0
 IsNoText bytes = (b : Book) → Text bytes b → ⊥
 
--- the bytes are no portfolio's text, and the text is the line of their first fault
-pub record IsBadText (bytes text : List ℕ) : Type 0 where
+-- the bytes are no portfolio's text, and the fault is their first
+pub record IsBadText (bytes : List ℕ) (f : Fault) : Type 0 where
   pub first : TextFault
   pub is_first : IsFault bytes first
   pub no_text : IsNoText bytes
-  pub line : text ≡ fault_text (fault.Text first)
+  pub fault_is : f ≡ fault.Text first
 
--- the answer of `check`
-pub data ChecksBytes (bytes : List ℕ) (s : Status) (text : List ℕ) : Type 0 where
-  no_portfolio : s ≡ status.BadText → IsBadText bytes text → ChecksBytes bytes s text
-  some_refused : s ≡ status.Refused → IsSomeRefused bytes → IsCheckText bytes text → ChecksBytes bytes s text
-  all_accepted : s ≡ status.Done → IsAllAccepted bytes → IsCheckText bytes text → ChecksBytes bytes s text
+-- what stops a command on a portfolio: nothing stops `check`
+abbrev pub StopsOn : Asked → Book → Option (List ℕ) → Fault → Type 0
+StopsOn (Check file) b table f = ⊥
+StopsOn (Flows flows) b table f = StopsFlows b flows table f
 
--- the answer of `flows`
-pub data FlowsOfBytes (until : Option (List ℕ)) (inputs : Inputs) (s : Status) (text : List ℕ) : Type 0 where
-  not_spelled : s ≡ status.BadText → IsBadText inputs.portfolio text → FlowsOfBytes until inputs s text
-  stopped : (b : Book) → Text inputs.portfolio b → (f : Fault) → Stops b until inputs.fixings s f → text ≡ fault_text f → FlowsOfBytes until inputs s text
-  done : s ≡ status.Done → (b : Book) → Text inputs.portfolio b → IsFlowsText b until inputs.fixings text → FlowsOfBytes until inputs s text
+-- what a command tells of a portfolio that nothing stops
+abbrev pub Tells : Asked → Book → Option (List ℕ) → Status → List ℕ → Type 0
+Tells (Check file) b table s text = IsChecked b s text
+Tells (Flows flows) b table s text = (s ≡ status.Done) × IsFlowsText b flows table text
 
-abbrev pub AnswersOf : Verb → Option (List ℕ) → Inputs → Status → List ℕ → Type 0
-AnswersOf Check until inputs s text = ChecksBytes inputs.portfolio s text
-AnswersOf Flows until inputs s text = FlowsOfBytes until inputs s text
+-- what stops a command on the bytes of its files
+pub data Stops (asked : Asked) (inputs : Inputs) (f : Fault) : Type 0 where
+  not_spelled : IsBadText inputs.portfolio f → Stops asked inputs f
+  on_portfolio : (b : Book) → Text inputs.portfolio b → StopsOn asked b inputs.fixings f → Stops asked inputs f
 
-abbrev pub Answers : Asked → Inputs → Status → List ℕ → Type 0
-Answers asked inputs s text = AnswersOf asked.verb asked.until inputs s text
+pub data Answers (asked : Asked) (inputs : Inputs) (s : Status) (text : List ℕ) : Type 0 where
+  stopped : (f : Fault) → Stops asked inputs f → s ≡ status_of f → text ≡ fault_text f → Answers asked inputs s text
+  told : (b : Book) → Text inputs.portfolio b → Tells asked b inputs.fixings s text → Answers asked inputs s text

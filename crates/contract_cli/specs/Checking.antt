@@ -1,33 +1,25 @@
 -- What the trial of contracts makes on the way: the line of each behind those before it, and whether all of them were
 -- accepted so far.
-use Rattle.std.specs.Prelude.{◌≡◌, ◌≤◌, ◌<◌, ◌^◌, ◌↔◌, ℕ, Bool, IsTrue, List, ◌++◌, Result, Ok, Err}
+use Rattle.std.specs.Prelude.{◌≡◌, ◌↔◌, ℕ, Bool, IsTrue, List, ◌++◌, Result, Ok, Err}
 use Rattle.term_core.specs.declared.name.Name.{Name}
 use Rattle.term_core.specs.declared.rules.RuleFault.{RuleFault}
 use Rattle.term_core.specs.Declarations.{Declarations}
 use Rattle.term_core.specs.Terms.{Contract}
-use Rattle.term_core.specs.Sizes.{height_of_contract, nodes_of_contract}
-use Rattle.term_core.specs.WellFormed.{IsClosed}
 use Rattle.term_core.specs.Acceptance.{IsAccepted, IsRefusal}
 use Rattle.contract_check.specs.Checks.{IsGranted}
 use Rattle.contract_check.specs.declared.checks.Facts.{Facts}
-use Rattle.contract_cli.specs.CheckText.{AreAllAccepted, AreCheckLines, IsCheckLine, at_defaults}
-
--- a contract that can be tried
-pub record IsSound (d : Declarations) (c : Contract) : Type 0 where
-  pub closed : IsClosed d c
-  pub low : height_of_contract c ≤ 200
-  pub small : nodes_of_contract c < 2 ^ 32
+use Rattle.contract_cli.specs.CheckText.{AreAllAccepted, AreCheckLines, IsCheckLine}
 
 abbrev pub IsVerdictOf : Declarations → Contract → Result Facts RuleFault → Type 0
 IsVerdictOf d c (Ok facts) = IsGranted d c facts
 IsVerdictOf d c (Err fault) = IsRefusal d c fault.rule fault.node
 
--- the text after is the text before and the line of a contract at the defaults
-pub record AppendsVerdict (d : Declarations) (name : List ℕ) (c : Contract) (accepted : Bool) (before after : List ℕ) : Type 0 where
+-- the text after is the text before and the line of a contract
+pub record AppendsVerdict (d : Declarations) (entry : Name × Contract) (accepted : Bool) (before after : List ℕ) : Type 0 where
   pub line : List ℕ
-  pub is_line : IsCheckLine d name (at_defaults d c) line
+  pub is_line : IsCheckLine d entry.0 entry.1 line
   pub appended : after ≡ before ++ line
-  pub decides : IsTrue accepted ↔ IsAccepted d (at_defaults d c)
+  pub decides : IsTrue accepted ↔ IsAccepted d entry.1
 
 -- the same of contracts, one after another, of which all are accepted, and all before them were
 pub record AppendsVerdicts (d : Declarations) (entries : List (Name × Contract)) (so_far all : Bool) (before after : List ℕ) : Type 0 where

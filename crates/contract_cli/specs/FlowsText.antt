@@ -1,29 +1,32 @@
--- What the command `flows` says of a portfolio over fixings: for each contract in its order, at the numbers that the
--- templates are declared with, a line for each row of its flow table from the start to a last day; or what stops it, in
--- this order: a day that is out of range, a contract that is refused, a row that is refused, a read that is not fixed.
-use Rattle.std.specs.Prelude.{◌≡◌, ◌≤ℤ◌, ◌<ℤ◌, ◌⊎◌, ℕ, ℤ, pos, List, [], ◌∷◌, ◌++◌, Option, Some, None, Result, Ok, Err, slice_get, map}
+-- What the command `flows` says of a portfolio over fixings: for each contract that is asked for, in order and at the
+-- numbers that the templates are declared with, a line for each row of its flow table from the start to a last day, or in
+-- their place the lines of what these contracts pay together; or what stops it, in this order: a name that is no
+-- contract's, a day that is out of range, a contract that is refused, a row that is refused, a read that is not fixed.
+use Rattle.std.specs.Prelude.{◌≡◌, ◌≤ℤ◌, ◌<ℤ◌, ℕ, ℤ, pos, Bool, true, false, List, [], ◌∷◌, ◌++◌, Option, Some, None, Ok, Err, codes, map, slice_get}
 use Rattle.std.specs.List.{All}
 use Rattle.term_core.specs.declared.name.Name.{Name}
 use Rattle.term_core.specs.declared.rules.Rule.{Rule}
-use Rattle.term_core.specs.declared.terms.Contr.{Contr}
 use Rattle.term_core.specs.Books.{Book}
 use Rattle.term_core.specs.Declarations.{Declarations}
-use Rattle.term_core.specs.Environments.{Environment, Place}
-use Rattle.term_core.specs.Terms.{Contract, contract}
+use Rattle.term_core.specs.Environments.{Environment, Extends, Place}
+use Rattle.term_core.specs.Flows.{Flow}
+use Rattle.term_core.specs.Terms.{Contract}
 use Rattle.term_core.specs.Acceptance.{IsRefusal}
+use Rattle.term_core.specs.Reads.{first_unfixed}
 use Rattle.fixing_files.specs.Days.{day_of}
 use Rattle.fixing_files.specs.Tables.{Holds, IsFirstFault, table_of}
 use Rattle.fixing_files.specs.declared.days.DayFault.TheVariants.{NoOrigin}
 use Rattle.fixing_files.specs.declared.faults.RowFault.{RowFault}
-use Rattle.term_core.specs.Reads.{first_unfixed}
 use Rattle.flow_eval.specs.FlowAnswers.{AreKnownFlows, reads_until}
+use Rattle.flow_eval.specs.Tables.{IsTable, paid_by}
 use Rattle.flow_eval.specs.declared.flow_table.FlowRow.{FlowRow}
 use Rattle.report.specs.FlowLines.{IsFlowLine}
+use Rattle.report.specs.SumTables.{together}
 use Rattle.report.specs.declared.fault_lines.Fault.{Fault}
 use Rattle.report.specs.declared.fault_lines.Fault.TheVariants as fault
-use Rattle.contract_cli.specs.CheckText.{AreAllAccepted, at_defaults}
-use Rattle.contract_cli.specs.declared.status.Status.{Status}
-use Rattle.contract_cli.specs.declared.status.Status.TheVariants as status
+use Rattle.contract_cli.specs.CheckText.{AreAllAccepted}
+use Rattle.contract_cli.specs.Commands.{FlowsAsked}
+use Rattle.contract_cli.specs.Used.{is_known, used}
 
 -- the greatest day that can be asked for
 abbrev pub greatest_day : ℤ
@@ -49,9 +52,9 @@ AreFixings d (Some bytes) fixings = Holds d (table_of bytes) fixings
 abbrev pub label_name : Declarations → ℕ → List ℕ
 label_name d label = elim (slice_get d.labels label) [ Some entry ↦ entry.0 | None ↦ [] ]
 
--- the first read of a contract, at the defaults and on the start, that is not fixed
+-- the first read of a contract that stands on the start that is not fixed
 abbrev pub missing_of : Declarations → Environment → ℤ → Contract → Option Place
-missing_of d fixings last c = first_unfixed fixings (reads_until d (at_defaults d c) fixings (pos d.start) last)
+missing_of d fixings last c = first_unfixed fixings (reads_until d c fixings (pos d.start) last)
 
 -- each read of each contract is fixed
 abbrev pub AreAllFixed : Declarations → Environment → ℤ → List (Name × Contract) → Type 0
@@ -64,7 +67,7 @@ pub record IsFirstNotAccepted (d : Declarations) (entries : List (Name × Contra
   pub after : List (Name × Contract)
   pub split : entries ≡ before ++ (name, contr) ∷ after
   pub accepted : AreAllAccepted d before
-  pub refused : IsRefusal d (at_defaults d contr) rule node
+  pub refused : IsRefusal d contr rule node
 
 -- the first read that is not fixed, of the first contract that has one
 pub record IsFirstMissing (d : Declarations) (fixings : Environment) (last : ℤ) (entries : List (Name × Contract)) (place : Place) : Type 0 where
@@ -81,11 +84,10 @@ AreLines d name [] text = text ≡ []
 AreLines d name (row ∷ rows) text =
     (line : List ℕ) × (rest : List ℕ) × IsFlowLine d name row line × AreLines d name rows rest × (text ≡ line ++ rest)
 
--- the lines of the flows of a contract at the defaults that stands on the start, the same in every environment that extends
--- the fixings
+-- the lines of the flows of a contract that stands on the start, the same in every environment that extends the fixings
 pub record AreFlowLines (d : Declarations) (fixings : Environment) (last : ℤ) (name : List ℕ) (c : Contract) (text : List ℕ) : Type 0 where
   pub rows : List FlowRow
-  pub flows : AreKnownFlows d (at_defaults d c) fixings (pos d.start) last rows
+  pub flows : AreKnownFlows d c fixings (pos d.start) last rows
   pub lines : AreLines d name rows text
 
 -- the lines of contracts, one contract after another
@@ -94,35 +96,59 @@ AreAllLines d fixings last [] text = text ≡ []
 AreAllLines d fixings last (entry ∷ entries) text =
     (first : List ℕ) × (rest : List ℕ) × AreFlowLines d fixings last entry.0 entry.1 first × AreAllLines d fixings last entries rest × (text ≡ first ++ rest)
 
--- the whole answer
-pub record IsFlowsText (b : Book) (until table : Option (List ℕ)) (text : List ℕ) : Type 0 where
-  pub last : ℤ
-  pub is_last : IsLastDay b.declarations until last
-  pub accepted : AreAllAccepted b.declarations b.contracts
-  pub fixings : Environment
+-- what contracts that stand on the start pay together on a day from one party to another in an asset
+abbrev pub paid_together : Declarations → List (Name × Contract) → Environment → ℤ → Flow → ℤ
+paid_together d entries env = together (map (λ entry. paid_by d entry.1 env (pos d.start)) entries)
+
+-- the lines of what contracts pay together, under the name *, the same in every environment that extends the fixings
+pub record AreSumLines (d : Declarations) (fixings : Environment) (last : ℤ) (entries : List (Name × Contract)) (text : List ℕ) : Type 0 where
+  pub rows : List FlowRow
+  pub table : (env : Environment) → Extends fixings env → IsTable (paid_together d entries env) (pos d.start) last rows
+  pub lines : AreLines d (codes "*") rows text
+
+-- the lines of contracts, or of their sum
+abbrev pub AreLinesAsked : Bool → Declarations → Environment → ℤ → List (Name × Contract) → List ℕ → Type 0
+AreLinesAsked false d fixings last entries text = AreAllLines d fixings last entries text
+AreLinesAsked true d fixings last entries text = AreSumLines d fixings last entries text
+
+-- the words name a contract of the portfolio, where they name one, and a day in range
+pub record WordsFit (b : Book) (flows : FlowsAsked) (last : ℤ) : Type 0 where
+  pub known : is_known flows.contract b ≡ true
+  pub is_last : IsLastDay b.declarations flows.until last
+
+-- nothing stops the command: the contracts are accepted, the rows are taken and each read is fixed
+pub record CanGo (b : Book) (flows : FlowsAsked) (table : Option (List ℕ)) (last : ℤ) (fixings : Environment) : Type 0 where
+  pub fit : WordsFit b flows last
+  pub accepted : AreAllAccepted b.declarations (used flows.contract b)
   pub are_fixings : AreFixings b.declarations table fixings
-  pub fixed : AreAllFixed b.declarations fixings last b.contracts
-  pub lines : AreAllLines b.declarations fixings last b.contracts text
+  pub fixed : AreAllFixed b.declarations fixings last (used flows.contract b)
 
--- what stops it: a status and a fault
-pub data Stops (b : Book) (until table : Option (List ℕ)) (s : Status) (f : Fault) : Type 0 where
+-- the whole answer
+pub record IsFlowsText (b : Book) (flows : FlowsAsked) (table : Option (List ℕ)) (text : List ℕ) : Type 0 where
+  pub last : ℤ
+  pub fixings : Environment
+  pub can : CanGo b flows table last fixings
+  pub lines : AreLinesAsked flows.net b.declarations fixings last (used flows.contract b) text
+
+-- what stops it
+pub data StopsFlows (b : Book) (flows : FlowsAsked) (table : Option (List ℕ)) (f : Fault) : Type 0 where
+  name_unknown :
+      (name : List ℕ) → flows.contract ≡ Some name → is_known flows.contract b ≡ false → f ≡ fault.UnknownName name
+      → StopsFlows b flows table f
   day_out :
-      s ≡ status.DayRange → (word : List ℕ) → until ≡ Some word → IsOutOfRange b.declarations word → f ≡ fault.Day word
-      → Stops b until table s f
+      is_known flows.contract b ≡ true
+      → (word : List ℕ) → flows.until ≡ Some word → IsOutOfRange b.declarations word → f ≡ fault.Day word
+      → StopsFlows b flows table f
   not_accepted :
-      s ≡ status.Refused → (last : ℤ) → IsLastDay b.declarations until last
-      → (name : List ℕ) (rule : Rule) (node : ℕ) → IsFirstNotAccepted b.declarations b.contracts name rule node → f ≡ fault.Refused name rule node
-      → Stops b until table s f
+      (last : ℤ) → WordsFit b flows last
+      → (name : List ℕ) (rule : Rule) (node : ℕ) → IsFirstNotAccepted b.declarations (used flows.contract b) name rule node → f ≡ fault.Refused name rule node
+      → StopsFlows b flows table f
   row_refused :
-      s ≡ status.BadRow → (last : ℤ) → IsLastDay b.declarations until last → AreAllAccepted b.declarations b.contracts
+      (last : ℤ) → WordsFit b flows last → AreAllAccepted b.declarations (used flows.contract b)
       → (bytes : List ℕ) → table ≡ Some bytes → (row : RowFault) → IsFirstFault b.declarations (table_of bytes) row → f ≡ fault.Row 2 row
-      → Stops b until table s f
+      → StopsFlows b flows table f
   read_missing :
-      s ≡ status.Missing → (last : ℤ) → IsLastDay b.declarations until last → AreAllAccepted b.declarations b.contracts
+      (last : ℤ) → WordsFit b flows last → AreAllAccepted b.declarations (used flows.contract b)
       → (fixings : Environment) → AreFixings b.declarations table fixings
-      → (place : Place) → IsFirstMissing b.declarations fixings last b.contracts place → f ≡ fault.Missing (label_name b.declarations place.label) place.day
-      → Stops b until table s f
-
--- contracts by their contents
-abbrev pub trees : List (Name × Contr) → List (Name × Contract)
-trees entries = map (λ entry. (entry.0, contract entry.1)) entries
+      → (place : Place) → IsFirstMissing b.declarations fixings last (used flows.contract b) place → f ≡ fault.Missing (label_name b.declarations place.label) place.day
+      → StopsFlows b flows table f

@@ -1,4 +1,10 @@
+pub mod Commands
+pub mod Arguments
 pub mod Words
+pub mod Statuses
+pub mod Stopping
+pub mod Used
+pub mod Using
 pub mod CheckText
 pub mod FlowsText
 pub mod Answers

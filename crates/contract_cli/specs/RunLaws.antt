@@ -1,7 +1,7 @@
 -- Laws of the causes of a run's status: which status comes exactly where, in the order of the refusals, and that a run
--- with nothing in its way writes the whole text of its answer. An "exactly where" yields to want of memory, the one free
+-- with nothing in its way writes the whole text of its command. An "exactly where" yields to want of memory, the one free
 -- answer, and to a failed write of the text.
-use Rattle.std.specs.Prelude.{◌≡◌, ◌≢◌, ◌≤◌, ◌<◌, ◌⊎◌, ℕ, ℤ, List, Option, Some, None, length}
+use Rattle.std.specs.Prelude.{◌≡◌, ◌≤◌, ◌<◌, ◌⊎◌, ℕ, ℤ, false, true, List, Option, Some, None, length}
 use Rattle.edge_io.specs.Counts.{Rose}
 use Rattle.term_core.specs.Books.{Book}
 use Rattle.term_core.specs.Environments.{Environment}
@@ -12,12 +12,12 @@ use Rattle.report.specs.FaultLines.{fault_text}
 use Rattle.report.specs.declared.fault_lines.Fault.TheVariants as fault
 use Rattle.contract_cli.specs.Answers.{Answers, Inputs, IsNoText}
 use Rattle.contract_cli.specs.Answering.{AreShort}
-use Rattle.contract_cli.specs.CheckText.{AreAllAccepted, IsCheckText, IsSomeRefused}
-use Rattle.contract_cli.specs.FlowsText.{AreAllFixed, AreFixings, IsLastDay, IsOutOfRange}
-use Rattle.contract_cli.specs.Runs.{Edge, FilesSeen, Meets, Names, WritesAll, WritesNothing, longest_file}
-use Rattle.contract_cli.specs.Words.{Asked, command_of}
-use Rattle.contract_cli.specs.declared.words.Verb.{Verb}
-use Rattle.contract_cli.specs.declared.words.Verb.TheVariants.{Check, Flows}
+use Rattle.contract_cli.specs.CheckText.{AreAllAccepted, IsChecked}
+use Rattle.contract_cli.specs.Commands.{Asked, Check, Flows, FlowsAsked, fixings_file, portfolio_file}
+use Rattle.contract_cli.specs.FlowsText.{AreAllFixed, AreFixings, CanGo, IsFlowsText, IsOutOfRange, WordsFit}
+use Rattle.contract_cli.specs.Runs.{Edge, FilesSeen, IsNext, Meets, Names, WritesAll, WritesNothing, longest_file}
+use Rattle.contract_cli.specs.Used.{is_known, used}
+use Rattle.contract_cli.specs.Words.{command_of}
 use Rattle.contract_cli.specs.declared.status.Status.{Status}
 use Rattle.contract_cli.specs.declared.status.Status.TheVariants as status
 
@@ -48,8 +48,8 @@ IsToldIfNamed files _ _ = ⊥
 -- the words ask for something to do with files whose contents are told, and nothing failed
 pub record IsRead (words : List (List ℕ)) (edge : Edge) (asked : Asked) (inputs : Inputs) : Type 0 where
   pub named : Names words asked
-  pub portfolio : IsTold edge.files asked.portfolio inputs.portfolio
-  pub fixings : IsToldIfNamed edge.files asked.fixings inputs.fixings
+  pub portfolio : IsTold edge.files (portfolio_file asked) inputs.portfolio
+  pub fixings : IsToldIfNamed edge.files (fixings_file asked) inputs.fixings
   pub no_write_fault : WritesSucceed edge
 
 -- and no file is longer than the limit
@@ -57,53 +57,68 @@ pub record IsReadWhole (words : List (List ℕ)) (edge : Edge) (asked : Asked) (
   pub read : IsRead words edge asked inputs
   pub short : AreShort inputs
 
+-- the first file with more bytes than the limit is at this place
+pub data IsLongAt (inputs : Inputs) (place : ℕ) : Type 0 where
+  long_portfolio : place ≡ 1 → longest_file < length inputs.portfolio → IsLongAt inputs place
+  long_table : place ≡ 2 → length inputs.portfolio ≤ longest_file → (bytes : List ℕ) → inputs.fixings ≡ Some bytes → longest_file < length bytes → IsLongAt inputs place
+
 -- a named file has more bytes than the limit
-pub data IsTooLong (inputs : Inputs) : Type 0 where
-  long_portfolio : longest_file < length inputs.portfolio → IsTooLong inputs
-  long_table : (bytes : List ℕ) → inputs.fixings ≡ Some bytes → longest_file < length bytes → IsTooLong inputs
+abbrev pub IsTooLong : Inputs → Type 0
+IsTooLong inputs = (place : ℕ) × IsLongAt inputs place
 
--- ---- what stops `flows`, where nothing before it does
+-- ---- what stops a command on a portfolio, where nothing before it does
 
--- the day is out of range
-pub record IsDayOut (asked : Asked) (inputs : Inputs) : Type 0 where
-  pub flows : asked.verb ≡ Flows
+-- the bytes are the text of a portfolio of which P holds
+pub record IsTextWhere (bytes : List ℕ) (P : Book → Type 0) : Type 0 where
   pub book : Book
-  pub spelled : Text inputs.portfolio book
+  pub spelled : Text bytes book
+  pub holds : P book
+
+-- a name of the words is that of no contract
+abbrev pub NameIsUnknown : FlowsAsked → Book → Type 0
+NameIsUnknown flows b = is_known flows.contract b ≡ false
+
+-- names are known, and the day is out of range
+pub record DayIsOut (flows : FlowsAsked) (b : Book) : Type 0 where
+  pub known : is_known flows.contract b ≡ true
   pub word : List ℕ
-  pub given : asked.until ≡ Some word
-  pub out : IsOutOfRange book.declarations word
+  pub given : flows.until ≡ Some word
+  pub out : IsOutOfRange b.declarations word
 
--- some contract is not accepted: of `flows` with a day in range
-pub data IsRefused (asked : Asked) (inputs : Inputs) : Type 0 where
-  by_check : asked.verb ≡ Check → IsSomeRefused inputs.portfolio → IsRefused asked inputs
-  by_flows :
-      asked.verb ≡ Flows → (book : Book) → Text inputs.portfolio book → (last : ℤ) → IsLastDay book.declarations asked.until last
-      → (AreAllAccepted book.declarations book.contracts → ⊥) → IsRefused asked inputs
-
--- the contracts are accepted, and some row of the table is refused
-pub record IsBadRow (asked : Asked) (inputs : Inputs) : Type 0 where
-  pub flows : asked.verb ≡ Flows
-  pub book : Book
-  pub spelled : Text inputs.portfolio book
+-- the words fit, and some contract that is used is not accepted
+pub record SomeIsRefused (flows : FlowsAsked) (b : Book) : Type 0 where
   pub last : ℤ
-  pub is_last : IsLastDay book.declarations asked.until last
-  pub accepted : AreAllAccepted book.declarations book.contracts
+  pub fit : WordsFit b flows last
+  pub refused : AreAllAccepted b.declarations (used flows.contract b) → ⊥
+
+-- the contracts that are used are accepted, and some row of the table is refused
+pub record SomeRowIsBad (flows : FlowsAsked) (table : Option (List ℕ)) (b : Book) : Type 0 where
+  pub last : ℤ
+  pub fit : WordsFit b flows last
+  pub accepted : AreAllAccepted b.declarations (used flows.contract b)
   pub bytes : List ℕ
-  pub named : inputs.fixings ≡ Some bytes
+  pub named : table ≡ Some bytes
   pub row : RowFault
-  pub first : IsFirstFault book.declarations (table_of bytes) row
+  pub first : IsFirstFault b.declarations (table_of bytes) row
 
--- the contracts are accepted and the rows are taken, and some read is not fixed
-pub record IsMissing (asked : Asked) (inputs : Inputs) : Type 0 where
-  pub flows : asked.verb ≡ Flows
-  pub book : Book
-  pub spelled : Text inputs.portfolio book
+-- the contracts that are used are accepted and the rows are taken, and some read is not fixed
+pub record SomeReadIsMissing (flows : FlowsAsked) (table : Option (List ℕ)) (b : Book) : Type 0 where
   pub last : ℤ
-  pub is_last : IsLastDay book.declarations asked.until last
-  pub accepted : AreAllAccepted book.declarations book.contracts
+  pub fit : WordsFit b flows last
+  pub accepted : AreAllAccepted b.declarations (used flows.contract b)
   pub fixings : Environment
-  pub are_fixings : AreFixings book.declarations inputs.fixings fixings
-  pub unfixed : AreAllFixed book.declarations fixings last book.contracts → ⊥
+  pub are_fixings : AreFixings b.declarations table fixings
+  pub unfixed : AreAllFixed b.declarations fixings last (used flows.contract b) → ⊥
+
+-- the cause of a status of a command that has its portfolio; nothing but a contract that is not accepted refuses `check`
+abbrev pub CauseOnBook : Status → Asked → Option (List ℕ) → Book → Type 0
+CauseOnBook status.Refused (Check file) table b = AreAllAccepted b.declarations (used None b) → ⊥
+CauseOnBook status.UnknownName (Flows flows) table b = NameIsUnknown flows b
+CauseOnBook status.DayRange (Flows flows) table b = DayIsOut flows b
+CauseOnBook status.Refused (Flows flows) table b = SomeIsRefused flows b
+CauseOnBook status.BadRow (Flows flows) table b = SomeRowIsBad flows table b
+CauseOnBook status.Missing (Flows flows) table b = SomeReadIsMissing flows table b
+CauseOnBook _ asked table b = ⊥
 
 -- ---- the laws
 
@@ -112,55 +127,76 @@ abbrev pub UsageIsExact : Type 0
 UsageIsExact =
     (words : List (List ℕ)) (edge : Edge) (s : Status) → Meets words edge s → WritesSucceed edge → ComesExactlyWhere (command_of words ≡ None) status.Usage s
 
--- the count of a file of the command rose
-pub data SomeReadFailed (files : FilesSeen) (asked : Asked) : Type 0 where
-  failed_portfolio : Rose (files.faults_before asked.portfolio) (files.faults_after asked.portfolio) → SomeReadFailed files asked
-  failed_table : (file : List ℕ) → asked.fixings ≡ Some file → Rose (files.faults_before file) (files.faults_after file) → SomeReadFailed files asked
+-- a read is at fault only where the count of a named file rose, whose place is the line's
+pub record ReadFaultIs (words : List (List ℕ)) (edge : Edge) : Type 0 where
+  pub asked : Asked
+  pub named : Names words asked
+  pub file : List ℕ
+  pub place : ℕ
+  pub next : IsNext edge.files asked file place
+  pub rose : Rose (edge.files.faults_before file) (edge.files.faults_after file)
+  pub line : WritesAll edge.sink (fault_text (fault.Read place))
 
--- a read is at fault only where the count of a named file rose, and a write only where that of the sink did
-abbrev pub FaultsHaveCauses : Type 0
-FaultsHaveCauses =
-    (words : List (List ℕ)) (edge : Edge) (s : Status) (asked : Asked) → Meets words edge s → Names words asked → (s ≡ status.ReadFault → SomeReadFailed edge.files asked) × (s ≡ status.WriteFault → Rose edge.sink.faults_before edge.sink.faults_after)
+abbrev pub ReadFaultsHaveCauses : Type 0
+ReadFaultsHaveCauses = (words : List (List ℕ)) (edge : Edge) → Meets words edge status.ReadFault → ReadFaultIs words edge
 
--- a file is too long exactly where one has more bytes than the limit
+-- a write is at fault only where the count of the sink rose
+abbrev pub WriteFaultsHaveCauses : Type 0
+WriteFaultsHaveCauses =
+    (words : List (List ℕ)) (edge : Edge) → Meets words edge status.WriteFault → Rose edge.sink.faults_before edge.sink.faults_after
+
+-- a file is too long exactly where one has more bytes than the limit, and the line has the place of the first
+pub record TooLongIs (inputs : Inputs) (edge : Edge) (s : Status) : Type 0 where
+  pub exact : ComesExactlyWhere (IsTooLong inputs) status.TooLong s
+  pub line : s ≡ status.TooLong → (place : ℕ) × IsLongAt inputs place × WritesAll edge.sink (fault_text (fault.TooLong place))
+
 abbrev pub TooLongIsExact : Type 0
 TooLongIsExact =
-    (words : List (List ℕ)) (edge : Edge) (s : Status) (asked : Asked) (inputs : Inputs) → Meets words edge s → IsRead words edge asked inputs → ComesExactlyWhere (IsTooLong inputs) status.TooLong s
+    (words : List (List ℕ)) (edge : Edge) (s : Status) (asked : Asked) (inputs : Inputs) → Meets words edge s → IsRead words edge asked inputs → TooLongIs inputs edge s
 
 -- a text is bad exactly where it is in no portfolio's grammar
 abbrev pub BadTextIsExact : Type 0
 BadTextIsExact =
-    (words : List (List ℕ)) (edge : Edge) (s : Status) (asked : Asked) (inputs : Inputs) → Meets words edge s → IsReadWhole words edge asked inputs → ComesExactlyWhere (IsNoText inputs.portfolio) status.BadText s
+    (words : List (List ℕ)) (edge : Edge) (s : Status) (asked : Asked) (inputs : Inputs)
+    → Meets words edge s → IsReadWhole words edge asked inputs → ComesExactlyWhere (IsNoText inputs.portfolio) status.BadText s
 
--- so of a day, of contracts, of rows and of reads
-abbrev pub DayRangeIsExact : Type 0
-DayRangeIsExact =
-    (words : List (List ℕ)) (edge : Edge) (s : Status) (asked : Asked) (inputs : Inputs) → Meets words edge s → IsReadWhole words edge asked inputs → ComesExactlyWhere (IsDayOut asked inputs) status.DayRange s
+-- the statuses that a portfolio gives come exactly where their cause stands
+abbrev pub IsExactOnBook : Status → Type 0
+IsExactOnBook wanted =
+    (words : List (List ℕ)) (edge : Edge) (s : Status) (asked : Asked) (inputs : Inputs)
+    → Meets words edge s → IsReadWhole words edge asked inputs
+    → ComesExactlyWhere (IsTextWhere inputs.portfolio (CauseOnBook wanted asked inputs.fixings)) wanted s
 
-abbrev pub RefusedIsExact : Type 0
-RefusedIsExact =
-    (words : List (List ℕ)) (edge : Edge) (s : Status) (asked : Asked) (inputs : Inputs) → Meets words edge s → IsReadWhole words edge asked inputs → ComesExactlyWhere (IsRefused asked inputs) status.Refused s
-
-abbrev pub BadRowIsExact : Type 0
-BadRowIsExact =
-    (words : List (List ℕ)) (edge : Edge) (s : Status) (asked : Asked) (inputs : Inputs) → Meets words edge s → IsReadWhole words edge asked inputs → ComesExactlyWhere (IsBadRow asked inputs) status.BadRow s
-
-abbrev pub MissingIsExact : Type 0
-MissingIsExact =
-    (words : List (List ℕ)) (edge : Edge) (s : Status) (asked : Asked) (inputs : Inputs) → Meets words edge s → IsReadWhole words edge asked inputs → ComesExactlyWhere (IsMissing asked inputs) status.Missing s
+pub record RefusalsAreExact : Type 0 where
+  pub unknown_name : IsExactOnBook status.UnknownName
+  pub day_range : IsExactOnBook status.DayRange
+  pub refused : IsExactOnBook status.Refused
+  pub bad_row : IsExactOnBook status.BadRow
+  pub missing : IsExactOnBook status.Missing
 
 -- the bytes of the files of a command have one answer, a status and a text
 abbrev pub AnswersAreOne : Type 0
 AnswersAreOne =
     (asked : Asked) (inputs : Inputs) (s t : Status) (one other : List ℕ) → Answers asked inputs s one → Answers asked inputs t other → (s ≡ t) × (one ≡ other)
 
--- a run with nothing in its way ends with the answer of its command and has written the whole text
-abbrev pub RunIsComplete : Type 0
-RunIsComplete =
-    (words : List (List ℕ)) (edge : Edge) (s : Status) (asked : Asked) (inputs : Inputs) (t : Status) (text : List ℕ)
-    → Meets words edge s → IsReadWhole words edge asked inputs → Answers asked inputs t text → ((s ≡ t) × WritesAll edge.sink text) ⊎ ((s ≡ status.NoMemory) × WritesNothing edge.sink)
+-- words of no form have just the line of that fault
+abbrev pub UsageWritesItsLine : Type 0
+UsageWritesItsLine = (words : List (List ℕ)) (edge : Edge) → Meets words edge status.Usage → WritesAll edge.sink (fault_text fault.Usage)
 
--- a refusal of the words or of a file writes just its line
-abbrev pub RefusalsWriteTheirLine : Type 0
-RefusalsWriteTheirLine =
-    (words : List (List ℕ)) (edge : Edge) → (Meets words edge status.Usage → WritesAll edge.sink (fault_text fault.Usage)) × (Meets words edge status.ReadFault → (place : ℕ) × WritesAll edge.sink (fault_text (fault.Read place))) × (Meets words edge status.TooLong → (place : ℕ) × WritesAll edge.sink (fault_text (fault.TooLong place)))
+-- ---- completeness
+
+-- `check` of a text that was read: the verdict on each contract is written, whether all are accepted or not
+abbrev pub CheckIsComplete : Type 0
+CheckIsComplete =
+    (words : List (List ℕ)) (edge : Edge) (s : Status) (file : List ℕ) (inputs : Inputs) (b : Book)
+    → Meets words edge s → IsReadWhole words edge (Check file) inputs → Text inputs.portfolio b
+    → ((text : List ℕ) × IsChecked b s text × WritesAll edge.sink text) ⊎ ((s ≡ status.NoMemory) × WritesNothing edge.sink)
+
+-- `flows` where names are known, the day is in range, the contracts that are used are accepted, the rows are taken and each
+-- read is fixed: the flow lines are written
+abbrev pub FlowsAreComplete : Type 0
+FlowsAreComplete =
+    (words : List (List ℕ)) (edge : Edge) (s : Status) (flows : FlowsAsked) (inputs : Inputs) (b : Book) (last : ℤ) (fixings : Environment)
+    → Meets words edge s → IsReadWhole words edge (Flows flows) inputs → Text inputs.portfolio b → CanGo b flows inputs.fixings last fixings
+    → ((text : List ℕ) × (s ≡ status.Done) × IsFlowsText b flows inputs.fixings text × WritesAll edge.sink text)
+      ⊎ ((s ≡ status.NoMemory) × WritesNothing edge.sink)

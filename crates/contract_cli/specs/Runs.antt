@@ -1,14 +1,17 @@
--- What a run answers, by its status. Each status has its cause, and the refusals come in this order: usage; file by file
--- a failed read and a file that is too long; a text that is no portfolio; a day that is out of range; a contract that is
--- refused; a row of a table that is refused; a read that is not fixed; a failed write. Want of memory may come before the
--- first write. A run makes its whole text first, which for a fault is the fault's line, and then writes it.
-use Rattle.std.specs.Prelude.{◌≡◌, ◌≤◌, ◌<◌, ℕ, List, [], Option, Some, None, IfSome, length, take}
+-- How a run ends. A run makes its whole text first, which for a fault is the fault's line, and then writes it: so it ends
+-- with the status of its text, which is written whole; or with a failed write of that text; or it lacks memory and has
+-- written nothing. The refusals come in this order: usage; file by file a failed read and a file that is too long; and then
+-- those of the command on the files' bytes.
+use Rattle.std.specs.Prelude.{◌≡◌, ◌≢◌, ◌≤◌, ◌<◌, ℕ, List, Option, Some, None, IfSome, IsSome, length, take}
 use Rattle.std.specs.Io.KnownBytes.{Appends, Keeps}
 use Rattle.edge_io.specs.Counts.{Rose}
 use Rattle.report.specs.FaultLines.{fault_text}
+use Rattle.report.specs.declared.fault_lines.Fault.{Fault}
 use Rattle.report.specs.declared.fault_lines.Fault.TheVariants as fault
 use Rattle.contract_cli.specs.Answers.{Answers, Inputs}
-use Rattle.contract_cli.specs.Words.{Asked, command_of}
+use Rattle.contract_cli.specs.Commands.{Asked, fixings_file, portfolio_file}
+use Rattle.contract_cli.specs.Statuses.{status_of}
+use Rattle.contract_cli.specs.Words.{command_of}
 use Rattle.contract_cli.specs.declared.status.Status.{Status}
 use Rattle.contract_cli.specs.declared.status.Status.TheVariants as status
 
@@ -38,6 +41,23 @@ pub record Edge : Type 0 where
 abbrev pub Names : List (List ℕ) → Asked → Type 0
 Names words asked = command_of words ≡ Some asked
 
+-- ---- the files of a command
+
+-- the command does not name a file
+pub record IsUnnamed (asked : Asked) (file : List ℕ) : Type 0 where
+  pub other_portfolio : file ≢ portfolio_file asked
+  pub other_fixings : fixings_file asked ≢ Some file
+
+-- no count of faults falls, and that of a told file that the command does not name stays
+pub record CountsOnlyNamed (asked : Asked) (files : FilesSeen) : Type 0 where
+  pub later : (file : List ℕ) → files.faults_before file ≤ files.faults_after file
+  pub others : (file : List ℕ) → IsUnnamed asked file → IsSome (files.contents file) → files.faults_after file ≡ files.faults_before file
+
+-- the same of the command of words: words of no command name no file
+pub record CountsOnlyBy (words : List (List ℕ)) (files : FilesSeen) : Type 0 where
+  pub later : (file : List ℕ) → files.faults_before file ≤ files.faults_after file
+  pub others : (file : List ℕ) → ((asked : Asked) → Names words asked → IsUnnamed asked file) → IsSome (files.contents file) → files.faults_after file ≡ files.faults_before file
+
 -- these bytes were read of a file: its contents, where they are told
 pub record WasRead (files : FilesSeen) (file bytes : List ℕ) : Type 0 where
   pub told : IfSome (files.contents file) (λ all. bytes ≡ all)
@@ -51,13 +71,21 @@ WasReadIfNamed files _ _ = ⊥
 
 -- these were read of the files of a command
 pub record WereRead (files : FilesSeen) (asked : Asked) (inputs : Inputs) : Type 0 where
-  pub portfolio : WasRead files asked.portfolio inputs.portfolio
-  pub fixings : WasReadIfNamed files asked.fixings inputs.fixings
+  pub portfolio : WasRead files (portfolio_file asked) inputs.portfolio
+  pub fixings : WasReadIfNamed files (fixings_file asked) inputs.fixings
 
 -- the file at a place of a command, where those before it were read
 pub data IsNext (files : FilesSeen) (asked : Asked) (file : List ℕ) (place : ℕ) : Type 0 where
-  is_first : place ≡ 1 → file ≡ asked.portfolio → IsNext files asked file place
-  is_second : place ≡ 2 → asked.fixings ≡ Some file → (bytes : List ℕ) → WasRead files asked.portfolio bytes → IsNext files asked file place
+  is_first : place ≡ 1 → file ≡ portfolio_file asked → IsNext files asked file place
+  is_second : place ≡ 2 → fixings_file asked ≡ Some file → (bytes : List ℕ) → WasRead files (portfolio_file asked) bytes → IsNext files asked file place
+
+-- why a file at a place was not read: the count of its faults rose, or it has more bytes than the limit, where its contents
+-- are told
+pub data FileFault (files : FilesSeen) (file : List ℕ) (place : ℕ) (f : Fault) : Type 0 where
+  read_failed : f ≡ fault.Read place → Rose (files.faults_before file) (files.faults_after file) → FileFault files file place f
+  read_long : f ≡ fault.TooLong place → IfSome (files.contents file) (λ all. longest_file < length all) → FileFault files file place f
+
+-- ---- what is written
 
 -- nothing was written
 abbrev pub WritesNothing : SinkLeft → Type 0
@@ -72,60 +100,25 @@ abbrev pub WritesPart : SinkLeft → List ℕ → Type 0
 WritesPart sink text =
     Rose sink.faults_before sink.faults_after × (written : ℕ) × (written < length text) × Appends sink.taken_before sink.taken_after (take written text)
 
--- the words have no form of a command
-pub record UsageCause (words : List (List ℕ)) (text : List ℕ) : Type 0 where
-  pub no_form : command_of words ≡ None
-  pub line : text ≡ fault_text fault.Usage
+-- ---- the end of a run
 
--- the count of a named file's faults rose
-pub record ReadFaultCause (words : List (List ℕ)) (files : FilesSeen) (text : List ℕ) : Type 0 where
-  pub asked : Asked
-  pub named : Names words asked
-  pub file : List ℕ
-  pub place : ℕ
-  pub next : IsNext files asked file place
-  pub rose : Rose (files.faults_before file) (files.faults_after file)
-  pub line : text ≡ fault_text (fault.Read place)
+-- what stops a run that has not the bytes of its files: words of no form, or a file that was not read
+pub data StopsRun (words : List (List ℕ)) (files : FilesSeen) (f : Fault) : Type 0 where
+  no_form : command_of words ≡ None → f ≡ fault.Usage → StopsRun words files f
+  at_file :
+      (asked : Asked) → Names words asked → (file : List ℕ) (place : ℕ) → IsNext files asked file place → FileFault files file place f
+      → StopsRun words files f
 
--- a named file has more bytes than the limit, where its contents are told
-pub record TooLongCause (words : List (List ℕ)) (files : FilesSeen) (text : List ℕ) : Type 0 where
-  pub asked : Asked
-  pub named : Names words asked
-  pub file : List ℕ
-  pub place : ℕ
-  pub next : IsNext files asked file place
-  pub told : IfSome (files.contents file) (λ all. longest_file < length all)
-  pub line : text ≡ fault_text (fault.TooLong place)
+-- why a run has a status, and the text that it writes then: the line of a fault; or the named files were read, and this is
+-- what the command answers to their bytes
+pub data Cause (words : List (List ℕ)) (files : FilesSeen) (s : Status) (text : List ℕ) : Type 0 where
+  stopped : (f : Fault) → StopsRun words files f → s ≡ status_of f → text ≡ fault_text f → Cause words files s text
+  answered :
+      (asked : Asked) → Names words asked → (inputs : Inputs) → WereRead files asked inputs → Answers asked inputs s text
+      → Cause words files s text
 
--- the named files were read, and this is what the command answers to their bytes
-pub record AnswerCause (words : List (List ℕ)) (files : FilesSeen) (s : Status) (text : List ℕ) : Type 0 where
-  pub asked : Asked
-  pub named : Names words asked
-  pub inputs : Inputs
-  pub read : WereRead files asked inputs
-  pub answer : Answers asked inputs s text
-
--- why a run ends with a status, and the text that it writes then
-abbrev pub Cause : List (List ℕ) → FilesSeen → Status → List ℕ → Type 0
-Cause words files status.Usage text = UsageCause words text
-Cause words files status.ReadFault text = ReadFaultCause words files text
-Cause words files status.TooLong text = TooLongCause words files text
-Cause words files s text = AnswerCause words files s text
-
--- a status with its cause, and the whole text written
-pub record Answered (words : List (List ℕ)) (edge : Edge) (s : Status) : Type 0 where
-  pub text : List ℕ
-  pub cause : Cause words edge.files s text
-  pub written : WritesAll edge.sink text
-
--- a write failed of the text that another status was to have
-pub record WriteFaultCause (words : List (List ℕ)) (edge : Edge) : Type 0 where
-  pub due : Status
-  pub text : List ℕ
-  pub cause : Cause words edge.files due text
-  pub written : WritesPart edge.sink text
-
-abbrev pub Meets : List (List ℕ) → Edge → Status → Type 0
-Meets words edge status.WriteFault = WriteFaultCause words edge
-Meets words edge status.NoMemory = WritesNothing edge.sink
-Meets words edge s = Answered words edge s
+-- how a run ends with a status
+pub data Meets (words : List (List ℕ)) (edge : Edge) (s : Status) : Type 0 where
+  written : (text : List ℕ) → Cause words edge.files s text → WritesAll edge.sink text → Meets words edge s
+  broken : s ≡ status.WriteFault → (due : Status) (text : List ℕ) → Cause words edge.files due text → WritesPart edge.sink text → Meets words edge s
+  lacking : s ≡ status.NoMemory → WritesNothing edge.sink → Meets words edge s

@@ -1,34 +1,39 @@
--- The command that words ask for: `check` and a portfolio's file; or `flows`, a portfolio's file, behind it, where it is
--- wanted, a file of fixings, and at the end, where it is wanted, `--until` and a day. The name of a file does not begin
--- with `-`; a day is one to nine digits or a civil date.
-use Rattle.std.specs.Prelude.{ℕ, ℤ, Bool, true, false, ◌==◌, ◌&&◌, not, List, [], ◌∷◌, Option, Some, None, option_map, Result, Ok, Err, codes, if◌then◌else◌}
+-- The command that words ask for. The first word names it, and the others are what the command line crate reads them for,
+-- by the arguments that are declared for the command: files in their order, options and flags. A day is one to nine
+-- digits or a civil date, and the name of a contract is one of the grammar of texts.
+use Rattle.std.specs.Prelude.{◌≡◌, ℕ, ℤ, Bool, true, false, ◌==◌, ◌&&◌, not, List, [], ◌∷◌, Option, Some, None, option_map, Result, Ok, Err, codes, if◌then◌else◌}
 use Rattle.std.specs.Str.{bytes_eq}
+use Rattle.clap.specs.Words.{App, Text}
+use Rattle.contract_parse.specs.NameTexts.{is_name_text}
 use Rattle.fixing_files.specs.Days.{day_of}
 use Rattle.fixing_files.specs.declared.days.DayFault.{DayFault}
 use Rattle.fixing_files.specs.declared.days.DayFault.TheVariants.{NotDay, NoOrigin}
+use Rattle.contract_cli.specs.Arguments.{IsAnswer, asked_of, declared, flag, is_set, optional, required, valued}
+use Rattle.contract_cli.specs.Commands.{Asked, Check, Flows, FlowsAsked}
 use Rattle.contract_cli.specs.declared.words.Command.{Command}
-use Rattle.contract_cli.specs.declared.words.Verb.{Verb}
-use Rattle.contract_cli.specs.declared.words.Verb.TheVariants.{Check, Flows}
-
--- what to do, with which files, up to which day
-pub record Asked : Type 0 where
-  pub verb : Verb
-  pub portfolio : List ℕ
-  pub fixings : Option (List ℕ)
-  pub until : Option (List ℕ)
+use Rattle.contract_cli.specs.declared.words.Command.TheVariants as command
+use Rattle.contract_cli.specs.declared.words.Flows.{Flows as FlowsCommand}
+use Rattle.contract_cli.specs.declared.arguments.WordsErr.{WordsErr}
 
 -- what a command of the program asks for
-abbrev pub asked_by : Command → Asked
-asked_by command =
-    record { verb = command.verb; portfolio = command.portfolio.now; fixings = option_map (λ word. word.now) command.fixings; until = option_map (λ word. word.now) command.until }
+abbrev pub flows_by : FlowsCommand → FlowsAsked
+flows_by flows = record {
+  portfolio = flows.portfolio.now;
+  fixings = option_map (λ word. word.now) flows.fixings;
+  until = option_map (λ word. word.now) flows.until;
+  contract = option_map (λ word. word.now) flows.contract;
+  net = flows.net;
+}
 
-abbrev pub begins_with : ℕ → List ℕ → Bool
+abbrev pub asked_by : Command → Asked
+asked_by (command.Check portfolio) = Check portfolio.now
+asked_by (command.Flows flows) = Flows (flows_by flows)
+
+-- ---- the forms of words
+
+abbrev pub begins_with : ℕ → Text → Bool
 begins_with byte [] = false
 begins_with byte (first ∷ rest) = first == byte
-
--- a file can have this name
-abbrev pub is_file : List ℕ → Bool
-is_file word = not (begins_with 45 word)
 
 -- digits or a date; a date has a day only where there is an origin
 abbrev pub has_form : Result ℤ DayFault → Bool
@@ -36,32 +41,54 @@ has_form (Ok day) = true
 has_form (Err NoOrigin) = true
 has_form (Err NotDay) = false
 
-abbrev pub is_day : List ℕ → Bool
+abbrev pub is_day : Text → Bool
 is_day word = not (begins_with 45 word) && has_form (day_of None word)
 
--- `check` of a file
-abbrev pub check_of : List (List ℕ) → Option Asked
-check_of (file ∷ []) =
-    if is_file file then Some (record { verb = Check; portfolio = file; fixings = None; until = None }) else None
-check_of _ = None
+-- a word that may be given, if it has its form where it is
+abbrev pub if_given : (Text → Bool) → Option Text → Option (Option Text)
+if_given has_its_form None = Some None
+if_given has_its_form (Some word) = if has_its_form word then Some (Some word) else None
 
--- `flows` of files, up to the day of the words behind them
-abbrev pub flows_until : List ℕ → Option (List ℕ) → List (List ℕ) → Option Asked
-flows_until file fixings [] = Some (record { verb = Flows; portfolio = file; fixings = fixings; until = None })
-flows_until file fixings (option ∷ day ∷ []) =
-    if bytes_eq option (codes "--until") && is_day day then Some (record { verb = Flows; portfolio = file; fixings = fixings; until = Some day }) else None
-flows_until file fixings _ = None
+-- ---- `check PORTFOLIO`
 
--- `flows` of a portfolio, over the fixings of the words behind it
-abbrev pub flows_over : List ℕ → List (List ℕ) → Option Asked
-flows_over file [] = flows_until file None []
-flows_over file (word ∷ rest) = if is_file word then flows_until file (Some word) rest else flows_until file None (word ∷ rest)
+abbrev pub check_app : App
+check_app = declared (codes "check") (required (codes "portfolio") ∷ [])
 
-abbrev pub flows_of : List (List ℕ) → Option Asked
-flows_of [] = None
-flows_of (file ∷ rest) = if is_file file then flows_over file rest else None
+abbrev pub check_from : (Text → Option Text) → Option Asked
+check_from word = option_map (λ file. Check file) (word (codes "portfolio"))
+
+abbrev pub check_of : List Text → Option Asked
+check_of words = asked_of check_app check_from words
+
+-- ---- `flows PORTFOLIO [FIXINGS] [--until DAY] [--contract NAME] [--net]`
+
+abbrev pub flows_app : App
+flows_app = declared (codes "flows")
+    (required (codes "portfolio") ∷ optional (codes "fixings") ∷ valued (codes "until") ∷ valued (codes "contract") ∷ flag (codes "net") ∷ [])
+
+abbrev pub flows_with : Option Text → Option Text → Option (Option Text) → Option (Option Text) → Bool → Option Asked
+flows_with (Some file) fixings (Some until) (Some contract) net =
+    Some (Flows (record { portfolio = file; fixings = fixings; until = until; contract = contract; net = net }))
+flows_with _ fixings _ _ net = None
+
+abbrev pub flows_from : (Text → Option Text) → Option Asked
+flows_from word = flows_with
+    (word (codes "portfolio"))
+    (word (codes "fixings"))
+    (if_given is_day (word (codes "until")))
+    (if_given is_name_text (word (codes "contract")))
+    (is_set (word (codes "net")))
+
+abbrev pub flows_of : List Text → Option Asked
+flows_of words = asked_of flows_app flows_from words
+
+-- ---- all commands
 
 -- the command of the words, if they have the form of one
-abbrev pub command_of : List (List ℕ) → Option Asked
+abbrev pub command_of : List Text → Option Asked
 command_of [] = None
-command_of (verb ∷ rest) = if bytes_eq verb (codes "check") then check_of rest else if bytes_eq verb (codes "flows") then flows_of rest else None
+command_of (name ∷ rest) = if bytes_eq name (codes "check") then check_of rest else if bytes_eq name (codes "flows") then flows_of rest else None
+
+-- an answer is the command of the words, or Usage where they have the form of none
+abbrev pub IsCommandOf : List Text → Result Command WordsErr → Type 0
+IsCommandOf words result = IsAnswer asked_by (command_of words) result

@@ -1,11 +1,14 @@
 //! The commands.
 
-ghost use Rattle.std.specs.Prelude.{◌≡◌, ◌≤◌, ℕ, List, map, IfOk};
+ghost use Rattle.std.specs.Prelude.{◌≡◌, ℕ, List, map, option_map, IfOk};
 ghost use Rattle.contract_cli.specs.Answering.{AnswersFile, AnswersInputs, AnswersWords};
-ghost use Rattle.contract_cli.specs.Runs.{Cause, Meets, Names};
+ghost use Rattle.edge_io.specs.Files.{CountsOnly};
+ghost use Rattle.contract_cli.specs.Runs.{Cause, CountsOnlyBy, CountsOnlyNamed, Meets, Names};
+ghost use Rattle.contract_cli.specs.Commands.{fixings_file, portfolio_file};
 ghost use Rattle.contract_cli.specs.Words.{asked_by};
 
 use crate::answers::{Answer, Inputs, answer_bytes, fault_answer};
+use crate::arguments::WordsErr;
 use crate::status::Status;
 use crate::stop::Stop;
 use crate::words::{Command, command_of};
@@ -20,19 +23,36 @@ const LONGEST_FILE: u64 = 16_777_216;
 fn read_file<F: Files>(alloc: Global, files: &mut F, name: &str, place: u8) -> Result<Vec<u8>, Stop>
     ensures answer { AnswersFile (record { contents = F.contents files.old; faults_before = F.faults files.old; faults_after = F.faults files.new }) name.now place result }
     ensures kept { (other : List ℕ) → F.contents files.new other ≡ F.contents files.old other }
-    ensures later { (other : List ℕ) → F.faults files.old other ≤ F.faults files.new other }
+    ensures counts { CountsOnly (F.contents files.old) (F.faults files.old) (F.faults files.new) name.now }
 {
     match files.read_all(alloc, name, LONGEST_FILE) {
         Ok(bytes) => Ok(bytes),
-        Err(ReadErr::Failed) => Err(Stop::Fault {
-            status: Status::ReadFault,
-            fault: Fault::Read { place },
-        }),
-        Err(ReadErr::TooLong) => Err(Stop::Fault {
-            status: Status::TooLong,
-            fault: Fault::TooLong { place },
-        }),
+        Err(ReadErr::Failed) => Err(Stop::Fault(Fault::Read { place })),
+        Err(ReadErr::TooLong) => Err(Stop::Fault(Fault::TooLong { place })),
         Err(ReadErr::NoMemory) => Err(Stop::NoMemory),
+    }
+}
+
+// The names of a command's files: the portfolio's, and that of the fixings where there is one.
+#[derive(Clone, Copy)]
+struct Named<'a> {
+    portfolio: &'a str,
+    fixings: Option<&'a str>,
+}
+
+fn named_files<'a>(command: &Command<'a>) -> Named<'a>
+    ensures portfolio { result.portfolio.now ≡ portfolio_file (asked_by command.now) }
+    ensures fixings { option_map (λ word. word.now) result.fixings ≡ fixings_file (asked_by command.now) }
+{
+    match command {
+        Command::Check { portfolio } => Named {
+            portfolio: *portfolio,
+            fixings: None,
+        },
+        Command::Flows(flows) => Named {
+            portfolio: flows.portfolio,
+            fixings: flows.fixings,
+        },
     }
 }
 
@@ -42,10 +62,13 @@ fn read_inputs<F: Files>(
     command: &Command<'_>,
     files: &mut F,
 ) -> Result<Inputs, Stop>
-    ensures { (words : List (List ℕ)) → Names words (asked_by command.now) → AnswersInputs words (record { contents = F.contents files.old; faults_before = F.faults files.old; faults_after = F.faults files.new }) (asked_by command.now) result }
+    ensures answer { (words : List (List ℕ)) → Names words (asked_by command.now) → AnswersInputs words (record { contents = F.contents files.old; faults_before = F.faults files.old; faults_after = F.faults files.new }) (asked_by command.now) result }
+    ensures kept { (other : List ℕ) → F.contents files.new other ≡ F.contents files.old other }
+    ensures counts { CountsOnlyNamed (asked_by command.now) (record { contents = F.contents files.old; faults_before = F.faults files.old; faults_after = F.faults files.new }) }
 {
-    let portfolio = read_file(alloc, files, command.portfolio, 1)?;
-    let fixings = match command.fixings {
+    let named = named_files(command);
+    let portfolio = read_file(alloc, files, named.portfolio, 1)?;
+    let fixings = match named.fixings {
         Some(name) => Some(read_file(alloc, files, name, 2)?),
         None => None,
     };
@@ -58,13 +81,14 @@ fn answer_words<'a, F: Files>(
     words: &'a [&'a str],
     files: &mut F,
 ) -> Result<Answer, Stop>
-    ensures { AnswersWords (map (λ word. word.now) words.entry.now) (record { contents = F.contents files.old; faults_before = F.faults files.old; faults_after = F.faults files.new }) result }
+    ensures answer { AnswersWords (map (λ word. word.now) words.entry.now) (record { contents = F.contents files.old; faults_before = F.faults files.old; faults_after = F.faults files.new }) result }
+    ensures kept { (other : List ℕ) → F.contents files.new other ≡ F.contents files.old other }
+    ensures counts { CountsOnlyBy (map (λ word. word.now) words.entry.now) (record { contents = F.contents files.old; faults_before = F.faults files.old; faults_after = F.faults files.new }) }
 {
-    let Some(command) = command_of(words) else {
-        return Err(Stop::Fault {
-            status: Status::Usage,
-            fault: Fault::Usage,
-        });
+    let command = match command_of(alloc, words) {
+        Ok(command) => command,
+        Err(WordsErr::Usage) => return Err(Stop::Fault(Fault::Usage)),
+        Err(WordsErr::NoMemory) => return Err(Stop::NoMemory),
     };
     let inputs = read_inputs(alloc, &command, files)?;
     answer_bytes(alloc, &command, &inputs)
@@ -76,29 +100,34 @@ fn prepare<'a, F: Files>(
     words: &'a [&'a str],
     files: &mut F,
 ) -> Result<Answer, NoMemory>
-    ensures { IfOk result (λ answer. Cause (map (λ word. word.now) words.entry.now) (record { contents = F.contents files.old; faults_before = F.faults files.old; faults_after = F.faults files.new }) answer.status answer.text.items) }
+    ensures answer { IfOk result (λ answer. Cause (map (λ word. word.now) words.entry.now) (record { contents = F.contents files.old; faults_before = F.faults files.old; faults_after = F.faults files.new }) answer.status answer.text.items) }
+    ensures kept { (other : List ℕ) → F.contents files.new other ≡ F.contents files.old other }
+    ensures counts { CountsOnlyBy (map (λ word. word.now) words.entry.now) (record { contents = F.contents files.old; faults_before = F.faults files.old; faults_after = F.faults files.new }) }
 {
     match answer_words(alloc, words, files) {
         Ok(answer) => Ok(answer),
-        Err(Stop::Fault { status, fault }) => fault_answer(alloc, status, &fault),
+        Err(Stop::Fault(fault)) => fault_answer(alloc, &fault),
         Err(Stop::NoMemory) => Err(NoMemory),
     }
 }
 
 /// Runs the command of the words, which are those of the command line without the program's name: reads the named
-/// files, makes the whole text, and writes it. `check PORT` writes a line for each contract, in their order, that says
-/// whether it is accepted; `flows PORT [FIX] [--until DAY]` writes the flow lines of all contracts over the fixings, up to
-/// the day. What stops a command writes the line of its fault.
+/// files, each once and in order, makes the whole text, and writes it. `check PORT` writes a line for each contract, in
+/// their order, that says whether it is accepted; `flows PORT [FIX] [--until DAY] [--contract NAME] [--net]` writes the
+/// flow lines of all contracts, or of the named one, or of their sum, over the fixings, up to the day. What stops a command
+/// writes the line of its fault.
 pub fn run<'a, F: Files, S: Sink>(
     alloc: Global,
     words: &'a [&'a str],
     files: &mut F,
     out: &mut S,
 ) -> Status
-    ensures { Meets (map (λ word. word.now) words.entry.now) (record {
+    ensures meets { Meets (map (λ word. word.now) words.entry.now) (record {
       files = record { contents = F.contents files.old; faults_before = F.faults files.old; faults_after = F.faults files.new };
       sink = record { taken_before = S.taken out.old; taken_after = S.taken out.new; faults_before = S.faults out.old; faults_after = S.faults out.new };
     }) result }
+    ensures kept { (other : List ℕ) → F.contents files.new other ≡ F.contents files.old other }
+    ensures counts { CountsOnlyBy (map (λ word. word.now) words.entry.now) (record { contents = F.contents files.old; faults_before = F.faults files.old; faults_after = F.faults files.new }) }
 {
     let answer = match prepare(alloc, words, files) {
         Ok(answer) => answer,

@@ -1,28 +1,31 @@
 //! The text of the command `flows`.
 
-ghost use Rattle.std.specs.Prelude.{◌≡◌, ◌≤ℤ◌, pos, [], OnOk, option_map};
+ghost use Rattle.std.specs.Prelude.{◌≡◌, ◌≤ℤ◌, ◌≤◌, pos, true, [], OnOk, length, option_map};
 ghost use Rattle.std.specs.List.{All};
+ghost use Rattle.term_core.specs.Acceptance.{IsAccepted};
 ghost use Rattle.term_core.specs.Books.{book};
 ghost use Rattle.term_core.specs.Declarations.{declarations};
 ghost use Rattle.term_core.specs.Environments.{IsAdmitted};
-ghost use Rattle.term_core.specs.Instances.{declared_numbers};
 ghost use Rattle.term_core.specs.Terms.{contract};
+ghost use Rattle.flow_eval.specs.FlowAnswers.{AreKnownFlows};
 ghost use Rattle.flow_eval.specs.Tables.{IsDueRow};
-ghost use Rattle.term_core.specs.Acceptance.{IsAccepted};
-ghost use Rattle.contract_cli.specs.CheckText.{AreAllAccepted, at_defaults};
-ghost use Rattle.contract_cli.specs.Checking.{IsSound};
-ghost use Rattle.contract_cli.specs.FlowsText.{label_name};
-ghost use Rattle.contract_cli.specs.FlowLists.{AnswersAccepted, AnswersAllAccepted, AnswersDay, AnswersFixings, AnswersFlows, AnswersFlowsOf, AnswersLines, AnswersTable, AppendsLines, HasDayForm, IsShortTable, IsStopOf, day_in_range};
+ghost use Rattle.contract_cli.specs.CheckText.{AreAllAccepted};
+ghost use Rattle.contract_cli.specs.FlowLists.{AnswersLines, AnswersTables, AppendsLines, CanBeLast, HasDayForm, HoldsFixings, IsDayFault, IsMissingOf, IsMissingOne, IsRefusedOf, IsRefusedOne, IsRowFault, IsShortTable, IsStopOf, LinesKnown, day_in_range};
+ghost use Rattle.contract_cli.specs.FlowsText.{IsFlowsText, StopsFlows, label_name};
+ghost use Rattle.contract_cli.specs.Stopping.{AnswersBy};
+ghost use Rattle.contract_cli.specs.Using.{IsSound, IsTriable, entries_of, entry_of};
+ghost use Rattle.contract_cli.specs.Words.{flows_by};
 
 use crate::check_text::verdict;
-use crate::status::Status;
 use crate::stop::Stop;
+use crate::used::{Used, know, used_contracts};
+use crate::words::Flows;
 use decimal::NoMemory;
 use fixing_files::{DayFault, Fixings, RowErr, day_of_text, read_fixings};
 use flow_eval::{FlowErr, FlowTable, flows};
-use report::{Fault, flow_line};
+use report::{Fault, flow_line, net};
 use std::alloc::Global;
-use term_core::{Contr, Decls, Name, Portfolio, Setting, defaults, instantiate};
+use term_core::{Contr, Decls, Name, Portfolio};
 
 const LAST_DAY: i64 = 1_100_000;
 
@@ -39,7 +42,7 @@ fn day_in_range(decls: &Decls, day: Result<i64, DayFault>) -> Option<i64>
 // The day of a word, or of none the last that there is.
 fn last_day(alloc: Global, decls: &Decls, until: Option<&str>) -> Result<i64, Stop>
     requires { HasDayForm (option_map (λ word. word.now) until) }
-    ensures { AnswersDay (declarations decls.now) (option_map (λ word. word.now) until.entry) result }
+    ensures { AnswersBy (CanBeLast (declarations decls.now) (option_map (λ word. word.now) until.entry)) (IsDayFault (declarations decls.now) (option_map (λ word. word.now) until.entry)) result }
 {
     let Some(word) = until else {
         return Ok(LAST_DAY);
@@ -48,10 +51,7 @@ fn last_day(alloc: Global, decls: &Decls, until: Option<&str>) -> Result<i64, St
         Some(day) => Ok(day),
         None => {
             let word = Name::new(alloc, word.as_bytes())?;
-            Err(Stop::Fault {
-                status: Status::DayRange,
-                fault: Fault::Day { word },
-            })
+            Err(Stop::Fault(Fault::Day { word }))
         }
     }
 }
@@ -59,57 +59,43 @@ fn last_day(alloc: Global, decls: &Decls, until: Option<&str>) -> Result<i64, St
 // The fixings of a table, or none where none is named.
 fn fixings_of(alloc: Global, decls: &Decls, table: Option<&[u8]>) -> Result<Fixings, Stop>
     requires { IsShortTable (option_map (λ bytes. bytes.now) table) }
-    ensures { AnswersFixings (declarations decls.now) (option_map (λ bytes. bytes.now) table.entry) result }
+    ensures { AnswersBy (HoldsFixings (declarations decls.now) (option_map (λ bytes. bytes.now) table.entry)) (IsRowFault (declarations decls.now) (option_map (λ bytes. bytes.now) table.entry)) result }
 {
     let Some(bytes) = table else {
         return Ok(Fixings::none(alloc));
     };
     match read_fixings(alloc, bytes, decls) {
         Ok(fixings) => Ok(fixings),
-        Err(RowErr::Row(fault)) => Err(Stop::Fault {
-            status: Status::BadRow,
-            fault: Fault::Row { place: 2, fault },
-        }),
+        Err(RowErr::Row(fault)) => Err(Stop::Fault(Fault::Row { place: 2, fault })),
         Err(RowErr::NoMemory) => Err(Stop::NoMemory),
     }
 }
 
-// Stops at a contract that is not accepted at the defaults.
-fn accept(
-    alloc: Global,
-    decls: &Decls,
-    setting: &Setting,
-    name: &Name,
-    contr: &Contr,
-) -> Result<(), Stop>
-    requires sound { IsSound (declarations decls.now) (contract contr.now) }
-    requires defaults { setting.now.days.items ≡ declared_numbers (declarations decls.now) }
-    ensures { AnswersAccepted (declarations decls.now) (name.now, contract contr.now) result }
+// Stops at a contract that is not accepted.
+fn accept(alloc: Global, decls: &Decls, one: &Used<'_>) -> Result<(), Stop>
+    requires { IsTriable (declarations decls.now) (entry_of one.now).1 }
+    ensures { AnswersBy (λ _. IsAccepted (declarations decls.now) (entry_of one.now).1) (IsRefusedOne (declarations decls.now) (entry_of one.now)) result }
 {
-    match verdict(alloc, decls, setting, contr)? {
+    match verdict(alloc, decls, one.contr.contr())? {
         Ok(_) => Ok(()),
         Err(fault) => {
-            let name = Name::new(alloc, name.text())?;
-            Err(Stop::Fault {
-                status: Status::Refused,
-                fault: Fault::Refused {
-                    name,
-                    rule: fault.rule,
-                    node: fault.node,
-                },
-            })
+            let name = Name::new(alloc, one.name.text())?;
+            Err(Stop::Fault(Fault::Refused {
+                name,
+                rule: fault.rule,
+                node: fault.node,
+            }))
         }
     }
 }
 
-// Stops at the first contract that is not accepted at the defaults.
-fn accept_all(alloc: Global, portfolio: &Portfolio, setting: &Setting) -> Result<(), Stop>
-    requires sound { All (λ entry. IsSound (book portfolio.now).declarations entry.1) (book portfolio.now).contracts }
-    requires defaults { setting.now.days.items ≡ declared_numbers (book portfolio.now).declarations }
-    ensures { AnswersAllAccepted (book portfolio.now).declarations (book portfolio.now).contracts result }
+// Stops at the first contract that is not accepted.
+fn accept_all(alloc: Global, decls: &Decls, ones: &[Used<'_>]) -> Result<(), Stop>
+    requires { All (λ entry. IsTriable (declarations decls.now) entry.1) (entries_of ones.now) }
+    ensures { AnswersBy (λ _. AreAllAccepted (declarations decls.now) (entries_of ones.now)) (IsRefusedOf (declarations decls.now) (entries_of ones.now)) result }
 {
-    for (name, contr) in &portfolio.contracts {
-        accept(alloc, &portfolio.decls, setting, name, contr)?;
+    for one in ones {
+        accept(alloc, decls, one)?;
     }
     Ok(())
 }
@@ -147,10 +133,7 @@ fn stop_of(alloc: Global, decls: &Decls, error: FlowErr) -> Stop
 {
     match error {
         FlowErr::Missing { label, day } => match Name::new(alloc, label_name(decls, label)) {
-            Ok(label) => Stop::Fault {
-                status: Status::Missing,
-                fault: Fault::Missing { label, day },
-            },
+            Ok(label) => Stop::Fault(Fault::Missing { label, day }),
             Err(NoMemory) => Stop::NoMemory,
         },
         FlowErr::NoMemory => Stop::NoMemory,
@@ -164,102 +147,131 @@ struct Course<'a> {
     last: i64,
 }
 
-// The flow table of a contract at the defaults.
+// The flow table of a contract.
 fn table_of(
     alloc: Global,
     decls: &Decls,
-    setting: &Setting,
     contr: &Contr,
     course: &Course<'_>,
 ) -> Result<FlowTable, Stop>
-    requires sound { IsSound (declarations decls.now) (contract contr.now) }
-    requires defaults { setting.now.days.items ≡ declared_numbers (declarations decls.now) }
-    requires accepted { IsAccepted (declarations decls.now) (at_defaults (declarations decls.now) (contract contr.now)) }
+    requires accepted { IsAccepted (declarations decls.now) (contract contr.now) }
     requires admitted { IsAdmitted (declarations decls.now) course.now.fixings.now }
     requires first { pos 0 ≤ℤ course.now.last }
     requires last { course.now.last ≤ℤ pos 1_100_000 }
-    ensures { AnswersTable (declarations decls.now) course.now.fixings.now course.now.last (contract contr.now) result }
+    ensures { AnswersBy (λ table. AreKnownFlows (declarations decls.now) (contract contr.now) course.now.fixings.now (pos decls.now.start) course.now.last table.rows.items) (IsMissingOne (declarations decls.now) course.now.fixings.now course.now.last (contract contr.now)) result }
 {
-    let instance = instantiate(alloc, contr, setting)?;
-    match flows(alloc, decls, &instance, course.fixings, course.last) {
+    match flows(alloc, decls, contr, course.fixings, course.last) {
         Ok(table) => Ok(table),
         Err(error) => Err(stop_of(alloc, decls, error)),
     }
 }
 
-// Appends the lines of the flows of a contract at the defaults.
-fn append_flows(
+// The lines of the flows of contracts, in their order.
+fn lines_of(
     alloc: Global,
-    out: &mut Vec<u8>,
     decls: &Decls,
-    setting: &Setting,
-    name: &Name,
-    contr: &Contr,
+    ones: &[Used<'_>],
     course: &Course<'_>,
-) -> Result<(), Stop>
-    requires sound { IsSound (declarations decls.now) (contract contr.now) }
-    requires defaults { setting.now.days.items ≡ declared_numbers (declarations decls.now) }
-    requires accepted { IsAccepted (declarations decls.now) (at_defaults (declarations decls.now) (contract contr.now)) }
+) -> Result<Vec<u8>, Stop>
+    requires accepted { AreAllAccepted (declarations decls.now) (entries_of ones.now) }
     requires admitted { IsAdmitted (declarations decls.now) course.now.fixings.now }
     requires first { pos 0 ≤ℤ course.now.last }
     requires last { course.now.last ≤ℤ pos 1_100_000 }
-    ensures { AnswersFlowsOf (declarations decls.now) course.now.fixings.now course.now.last (name.now, contract contr.now) out.old.items out.new.items result }
-{
-    let table = table_of(alloc, decls, setting, contr, course)?;
-    append_table(alloc, out, decls, name.text(), &table)?;
-    Ok(())
-}
-
-// The lines of the flows of all contracts, in their order.
-fn lines_of(
-    alloc: Global,
-    portfolio: &Portfolio,
-    setting: &Setting,
-    course: &Course<'_>,
-) -> Result<Vec<u8>, Stop>
-    requires sound { All (λ entry. IsSound (book portfolio.now).declarations entry.1) (book portfolio.now).contracts }
-    requires defaults { setting.now.days.items ≡ declared_numbers (book portfolio.now).declarations }
-    requires accepted { AreAllAccepted (book portfolio.now).declarations (book portfolio.now).contracts }
-    requires admitted { IsAdmitted (book portfolio.now).declarations course.now.fixings.now }
-    requires first { pos 0 ≤ℤ course.now.last }
-    requires last { course.now.last ≤ℤ pos 1_100_000 }
-    ensures { AnswersLines (book portfolio.now).declarations course.now.fixings.now course.now.last (book portfolio.now).contracts [] result }
+    ensures { AnswersLines (declarations decls.now) course.now.fixings.now course.now.last (entries_of ones.now) [] result }
 {
     let mut text = Vec::new(alloc);
-    for (name, contr) in &portfolio.contracts {
-        append_flows(
-            alloc,
-            &mut text,
-            &portfolio.decls,
-            setting,
-            name,
-            contr,
-            course,
-        )?;
+    for one in ones {
+        let table = table_of(alloc, decls, one.contr.contr(), course)?;
+        append_table(alloc, &mut text, decls, one.name.text(), &table)?;
     }
     Ok(text)
 }
 
-/// What `flows` writes of a portfolio over the fixings of a table, up to the day of a word: the flow lines of all
-/// contracts, at the defaults and in their order, or what stops it.
+// The flow tables of contracts, in their order.
+fn tables_of(
+    alloc: Global,
+    decls: &Decls,
+    ones: &[Used<'_>],
+    course: &Course<'_>,
+) -> Result<Vec<FlowTable>, Stop>
+    requires accepted { AreAllAccepted (declarations decls.now) (entries_of ones.now) }
+    requires admitted { IsAdmitted (declarations decls.now) course.now.fixings.now }
+    requires first { pos 0 ≤ℤ course.now.last }
+    requires last { course.now.last ≤ℤ pos 1_100_000 }
+    ensures { AnswersTables (declarations decls.now) course.now.fixings.now course.now.last (entries_of ones.now) [] result }
+{
+    let mut tables = Vec::new(alloc);
+    for one in ones {
+        tables.push(table_of(alloc, decls, one.contr.contr(), course)?)?;
+    }
+    Ok(tables)
+}
+
+// The lines of what contracts pay together.
+fn sum_lines(
+    alloc: Global,
+    decls: &Decls,
+    ones: &[Used<'_>],
+    course: &Course<'_>,
+) -> Result<Vec<u8>, Stop>
+    requires few { length ones.now ≤ 16_777_216 }
+    requires accepted { AreAllAccepted (declarations decls.now) (entries_of ones.now) }
+    requires admitted { IsAdmitted (declarations decls.now) course.now.fixings.now }
+    requires first { pos 0 ≤ℤ course.now.last }
+    requires last { course.now.last ≤ℤ pos 1_100_000 }
+    ensures { AnswersBy (λ text. LinesKnown true (declarations decls.now) course.now.fixings.now course.now.last (entries_of ones.now) text.items) (IsMissingOf (declarations decls.now) course.now.fixings.now course.now.last (entries_of ones.now)) result }
+{
+    let tables = tables_of(alloc, decls, ones, course)?;
+    let sum = net(alloc, &tables)?;
+    let mut text = Vec::new(alloc);
+    append_table(alloc, &mut text, decls, b"*", &sum)?;
+    Ok(text)
+}
+
+// The lines of contracts, or of their sum.
+fn lines_asked(
+    alloc: Global,
+    decls: &Decls,
+    ones: &[Used<'_>],
+    course: &Course<'_>,
+    net: bool,
+) -> Result<Vec<u8>, Stop>
+    requires few { length ones.now ≤ 16_777_216 }
+    requires accepted { AreAllAccepted (declarations decls.now) (entries_of ones.now) }
+    requires admitted { IsAdmitted (declarations decls.now) course.now.fixings.now }
+    requires first { pos 0 ≤ℤ course.now.last }
+    requires last { course.now.last ≤ℤ pos 1_100_000 }
+    ensures { AnswersBy (λ text. LinesKnown net (declarations decls.now) course.now.fixings.now course.now.last (entries_of ones.now) text.items) (IsMissingOf (declarations decls.now) course.now.fixings.now course.now.last (entries_of ones.now)) result }
+{
+    if net {
+        sum_lines(alloc, decls, ones, course)
+    } else {
+        lines_of(alloc, decls, ones, course)
+    }
+}
+
+/// What `flows` writes of a portfolio over the fixings of a table: the flow lines of the contracts that are asked for, at the
+/// defaults and in their order, or those of their sum; or what stops it. No other contract is looked at.
 pub fn flows_text(
     alloc: Global,
     portfolio: &Portfolio,
-    until: Option<&str>,
+    asked: &Flows<'_>,
     table: Option<&[u8]>,
 ) -> Result<Vec<u8>, Stop>
     requires sound { All (λ entry. IsSound (book portfolio.now).declarations entry.1) (book portfolio.now).contracts }
-    requires until { HasDayForm (option_map (λ word. word.now) until) }
+    requires few { length (book portfolio.now).contracts ≤ 16_777_216 }
+    requires until { HasDayForm (flows_by asked.now).until }
     requires table { IsShortTable (option_map (λ bytes. bytes.now) table) }
-    ensures { AnswersFlows (book portfolio.now) (option_map (λ word. word.now) until.entry) (option_map (λ bytes. bytes.now) table.entry) result }
+    ensures { AnswersBy (λ text. IsFlowsText (book portfolio.now) (flows_by asked.now) (option_map (λ bytes. bytes.now) table.entry) text.items) (StopsFlows (book portfolio.now) (flows_by asked.now) (option_map (λ bytes. bytes.now) table.entry)) result }
 {
-    let last = last_day(alloc, &portfolio.decls, until)?;
-    let setting = defaults(alloc, &portfolio.decls)?;
-    accept_all(alloc, portfolio, &setting)?;
+    know(alloc, portfolio, asked.contract)?;
+    let last = last_day(alloc, &portfolio.decls, asked.until)?;
+    let ones = used_contracts(alloc, portfolio, asked.contract)?;
+    accept_all(alloc, &portfolio.decls, &ones)?;
     let fixings = fixings_of(alloc, &portfolio.decls, table)?;
     let course = Course {
         fixings: &fixings,
         last,
     };
-    lines_of(alloc, portfolio, &setting, &course)
+    lines_asked(alloc, &portfolio.decls, &ones, &course, asked.net)
 }

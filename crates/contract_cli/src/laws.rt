@@ -1,18 +1,23 @@
 //! Laws of the causes of a run's status. Each is the contract of a function that does nothing.
 
-ghost use Rattle.contract_cli.specs.RunLaws.{AnswersAreOne, BadRowIsExact, BadTextIsExact, DayRangeIsExact, FaultsHaveCauses, MissingIsExact, RefusalsWriteTheirLine, RefusedIsExact, RunIsComplete, TooLongIsExact, UsageIsExact};
+ghost use Rattle.contract_cli.specs.RunLaws.{AnswersAreOne, BadTextIsExact, CheckIsComplete, FlowsAreComplete, ReadFaultsHaveCauses, RefusalsAreExact, TooLongIsExact, UsageIsExact, UsageWritesItsLine, WriteFaultsHaveCauses};
 
-/// Usage comes exactly where the words are of no form, or memory is wanting, or the write of its line fails.
+/// Usage comes exactly where the words are of no form, or memory is wanting, or the write of its line fails; and it has
+/// just that line.
 pub fn usage_is_exact()
-    ensures { UsageIsExact }
+    ensures exact { UsageIsExact }
+    ensures line { UsageWritesItsLine }
 {}
 
-/// A read fault comes only where the count of a named file rose, a write fault only where that of the sink did.
+/// A read fault comes only where the count of a named file rose, whose place its line has; a write fault only where the
+/// count of the sink rose.
 pub fn faults_have_causes()
-    ensures { FaultsHaveCauses }
+    ensures reads { ReadFaultsHaveCauses }
+    ensures writes { WriteFaultsHaveCauses }
 {}
 
-/// A file is too long exactly where the told contents of a named file exceed the limit.
+/// A file is too long exactly where the told contents of a named file exceed the limit, and the line has the place of the
+/// first.
 pub fn too_long_is_exact()
     ensures { TooLongIsExact }
 {}
@@ -22,24 +27,10 @@ pub fn bad_text_is_exact()
     ensures { BadTextIsExact }
 {}
 
-/// A day is out of range exactly where it is before the start, after the last day, or a date without an origin.
-pub fn day_range_is_exact()
-    ensures { DayRangeIsExact }
-{}
-
-/// A portfolio is refused exactly where some contract is not accepted: of `flows`, where the day is in range.
-pub fn refused_is_exact()
-    ensures { RefusedIsExact }
-{}
-
-/// A row is bad exactly where the table has one that is refused, and nothing before that stops the command.
-pub fn bad_row_is_exact()
-    ensures { BadRowIsExact }
-{}
-
-/// A read is missing exactly where one is not fixed, and nothing before that stops the command.
-pub fn missing_is_exact()
-    ensures { MissingIsExact }
+/// A name is unknown, a day is out of range, a portfolio is refused, a row is bad and a read is missing each exactly where
+/// its cause stands and nothing before it, in this order, stops the command.
+pub fn refusals_are_exact()
+    ensures { RefusalsAreExact }
 {}
 
 /// The bytes of the files of a command have one answer, a status and a text.
@@ -47,13 +38,9 @@ pub fn answers_are_one()
     ensures { AnswersAreOne }
 {}
 
-/// A run with nothing in its way ends with the answer of its command and has written the whole text, or answers want of
-/// memory.
+/// A run with nothing in its way has written the whole text of its command, or wants memory: `check` of any portfolio, and
+/// `flows` where names are known, the day is in range, contracts are accepted, rows are taken and reads are fixed.
 pub fn run_is_complete()
-    ensures { RunIsComplete }
-{}
-
-/// A refusal of the words or of a file writes just its line.
-pub fn refusals_write_their_line()
-    ensures { RefusalsWriteTheirLine }
+    ensures check { CheckIsComplete }
+    ensures flows { FlowsAreComplete }
 {}

@@ -2,6 +2,7 @@
 #![tactic(auto)]
 
 mod answers;
+mod arguments;
 mod check_text;
 mod command;
 mod flows_text;
@@ -10,6 +11,9 @@ mod status;
 mod stop;
 #[cfg(test)]
 mod tests;
+mod used;
+#[cfg(test)]
+mod word_tests;
 mod words;
 
 pub use command::run;
@@ -44,16 +48,16 @@ fn main(rt: HostRuntime) -> ExitCode {
     let words = match words_of(&rt) {
         Ok(words) => words,
         Err(error) if error.kind() == ErrorKind::OutOfMemory => {
-            return ExitCode::from(Status::NoMemory as u8);
+            return ExitCode::from(Status::NoMemory.number());
         }
         Err(_) => return ExitCode::from(NO_WORDS),
     };
     let words = match lent(rt.alloc(), &words) {
         Ok(words) => words,
-        Err(_) => return ExitCode::from(Status::NoMemory as u8),
+        Err(_) => return ExitCode::from(Status::NoMemory.number()),
     };
     let mut files = RealFiles::new(rt);
     let mut out = RealSink::new(rt);
     let status = run(rt.alloc(), &words, &mut files, &mut out);
-    ExitCode::from(status as u8)
+    ExitCode::from(status.number())
 }

@@ -1,5 +1,10 @@
 //! How a run ended.
 
+ghost use Rattle.std.specs.Prelude.{◌≡◌};
+ghost use Rattle.contract_cli.specs.Statuses.{number_of, status_of};
+
+use report::Fault;
+
 /// The outcome of a run, with the exit status that the program ends with.
 #[derive(Clone, Copy, Debug, PartialEq, Eq)]
 pub enum Status {
@@ -27,4 +32,30 @@ pub enum Status {
     UnknownName = 10,
     /// A day of the words is out of range.
     DayRange = 11,
+}
+
+impl Status {
+    /// The exit status of the program.
+    pub fn number(self) -> u8
+        ensures { result ≡ number_of self }
+    {
+        self as u8
+    }
+}
+
+/// The status of a run that a fault stops.
+pub fn status_of(fault: &Fault) -> Status
+    ensures { result ≡ status_of fault.now }
+{
+    match fault {
+        Fault::Usage => Status::Usage,
+        Fault::Read { .. } => Status::ReadFault,
+        Fault::TooLong { .. } => Status::TooLong,
+        Fault::Text(_) => Status::BadText,
+        Fault::UnknownName { .. } => Status::UnknownName,
+        Fault::Day { .. } => Status::DayRange,
+        Fault::Refused { .. } => Status::Refused,
+        Fault::Row { .. } => Status::BadRow,
+        Fault::Missing { .. } => Status::Missing,
+    }
 }

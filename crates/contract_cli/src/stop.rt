@@ -3,16 +3,15 @@
 ghost use Rattle.std.specs.Prelude.{◌≡◌};
 ghost use Rattle.contract_cli.specs.declared.stop.Stop.TheVariants.{NoMemory as lacks_memory};
 
-use crate::status::Status;
 use decimal::NoMemory;
 use report::Fault;
-use std::alloc::AllocError;
+use std::alloc::{AllocError, AllocFailed};
 
 /// Why a command has no answer of its own.
 #[derive(Debug, Drop)]
 pub enum Stop {
-    /// The status with which the run ends, and the fault of which it writes the line.
-    Fault { status: Status, fault: Fault },
+    /// The fault of which the run writes the line, and which gives its status.
+    Fault(Fault),
     NoMemory,
 }
 
@@ -28,6 +27,14 @@ impl From<AllocError> for Stop {
     ghost from_gives = { λ _ e. e ≡ lacks_memory };
 
     fn from(_: AllocError) -> Stop {
+        Stop::NoMemory
+    }
+}
+
+impl<T: Drop> From<AllocFailed<T>> for Stop {
+    ghost from_gives = { λ _ e. e ≡ lacks_memory };
+
+    fn from(_: AllocFailed<T>) -> Stop {
         Stop::NoMemory
     }
 }

@@ -25,7 +25,7 @@ fn one_file(
 const LOAN: &[u8] = b"portfolio 1; amounts 2; party A, B, C; asset EUR;
 contract loan = both(scale(100.00, pay(EUR, A, B)), after(90, scale(105.00, pay(EUR, B, A))));";
 
-// What `flows` prints of a text, and its status.
+// What a command prints of a text, of which it reads nothing twice, and its status.
 #[derive(Clone, Copy)]
 struct Row {
     text: &'static [u8],
@@ -95,7 +95,7 @@ contract c = scale(obs(FX, 0), pay(EUR, A, B));",
         },
     ];
     for row in &rows {
-        let mut files = one_file(alloc, b"loan.txt", row.text, &[])?;
+        let mut files = one_file(alloc, b"loan.txt", row.text, &[2])?;
         let mut out = MemorySink::new(alloc, Vec::new(alloc), ROOM, ROOM)?;
         let status = run(alloc, &["flows", "loan.txt"], &mut files, &mut out);
         assert_eq!(rt; out.taken(), row.output);
@@ -201,7 +201,7 @@ contract c = scale(y, pay(EUR, A, B));",
         },
     ];
     for row in &rows {
-        let mut files = one_file(alloc, b"desk.txt", row.text, &[])?;
+        let mut files = one_file(alloc, b"desk.txt", row.text, &[2])?;
         let mut out = MemorySink::new(alloc, Vec::new(alloc), ROOM, ROOM)?;
         let status = run(alloc, &["check", "desk.txt"], &mut files, &mut out);
         assert_eq!(rt; out.taken(), row.output);
@@ -210,33 +210,88 @@ contract c = scale(y, pay(EUR, A, B));",
     Ok(())
 }
 
+// What `flows` prints of a text with these words behind the file, and its status.
+#[derive(Clone, Copy)]
+struct Asked {
+    text: &'static [u8],
+    words: [&'static str; 3],
+    output: &'static [u8],
+    status: Status,
+}
+
+const MUTUAL: &[u8] = b"portfolio 1; amounts 2; party A, B, C; asset EUR;
+contract a = scale(5.00, pay(EUR, A, B)); contract b = scale(2.00, pay(EUR, B, A));";
+
+const HALF: &[u8] = b"portfolio 1; amounts 2; party A, B; asset EUR;
+contract good = pay(EUR, A, B); contract bad = scale(true, pay(EUR, A, B));";
+
 #[test]
-fn takes_the_words_of_commands_alone(rt: HostRuntime) -> Result<(), Fail> {
+fn prints_what_is_asked_for(rt: HostRuntime) -> Result<(), Fail> {
     let alloc = rt.alloc();
-    let forms: [&[&str]; 17] = [
-        &[],
-        &["flows"],
-        &["check"],
-        &["check", "--all"],
-        &["check", "loan.txt", "loan.txt"],
-        &["flows", "loan.txt", "loan.txt", "loan.txt"],
-        &["flows", "loan.txt", "--until"],
-        &["flows", "loan.txt", "--until", "-1"],
-        &["flows", "loan.txt", "--until", "1234567890"],
-        &["flows", "loan.txt", "--until", "2024-02-30"],
-        &["flows", "loan.txt", "--until", "1", "loan.txt"],
-        &["flows", "--until", "1"],
-        &["flows", "--until", "1", "loan.txt"],
-        &["check", "loan.txt", "--until", "1"],
-        &["flows", "--net"],
-        &["flow", "loan.txt"],
-        &["loan.txt", "flows"],
+    let rows = [
+        Asked {
+            text: LOAN,
+            words: ["--until", "89", "--"],
+            output: b"loan,0,A,B,EUR,100.00\n",
+            status: Status::Done,
+        },
+        Asked {
+            text: LOAN,
+            words: ["--contract", "nope", "--"],
+            output: b"fault unknown nope\n",
+            status: Status::UnknownName,
+        },
+        // What contracts pay each other is netted, and what comes to nothing is no row.
+        Asked {
+            text: MUTUAL,
+            words: ["--net", "--until", "0"],
+            output: b"*,0,A,B,EUR,3.00\n",
+            status: Status::Done,
+        },
+        Asked {
+            text: MUTUAL,
+            words: ["--net", "--contract", "b"],
+            output: b"*,0,B,A,EUR,2.00\n",
+            status: Status::Done,
+        },
+        Asked {
+            text: MUTUAL,
+            words: ["--contract", "b", "--"],
+            output: b"b,0,B,A,EUR,2.00\n",
+            status: Status::Done,
+        },
+        // No other contract is tried.
+        Asked {
+            text: HALF,
+            words: ["--contract", "good", "--"],
+            output: b"good,0,A,B,EUR,1.00\n",
+            status: Status::Done,
+        },
+        Asked {
+            text: HALF,
+            words: ["--contract", "bad", "--"],
+            output: b"fault refused bad sort node 0\n",
+            status: Status::Refused,
+        },
+        Asked {
+            text: HALF,
+            words: ["--contract=nope", "--until", "1100001"],
+            output: b"fault unknown nope\n",
+            status: Status::UnknownName,
+        },
     ];
-    for words in forms {
-        let mut files = one_file(alloc, b"loan.txt", LOAN, &[])?;
+    for row in &rows {
+        let mut files = one_file(alloc, b"desk.txt", row.text, &[2])?;
         let mut out = MemorySink::new(alloc, Vec::new(alloc), ROOM, ROOM)?;
-        assert!(rt; run(alloc, words, &mut files, &mut out) == Status::Usage);
-        assert_eq!(rt; out.taken(), b"fault usage\n".as_slice());
+        let [one, two, three] = row.words;
+        let status = run(
+            alloc,
+            &["flows", "desk.txt", one, two, three],
+            &mut files,
+            &mut out,
+        );
+        assert_eq!(rt; out.taken(), row.output);
+        assert!(rt; status == row.status);
     }
     Ok(())
 }
@@ -325,7 +380,7 @@ struct Fixed {
 
 // Runs `flows` on a row's files, with its day where it has one.
 fn prints(rt: &impl Abort, alloc: Global, row: &Fixed) -> Result<(), Fail> {
-    let mut files = two_files(alloc, row.text, row.table, &[])?;
+    let mut files = two_files(alloc, row.text, row.table, &[3])?;
     let mut out = MemorySink::new(alloc, Vec::new(alloc), ROOM, ROOM)?;
     let status = match row.until {
         None => run(

@@ -1,33 +1,33 @@
 //! The words of the command line.
 
-ghost use Rattle.std.specs.Prelude.{◌≡◌, Option, map, option_map};
-ghost use Rattle.contract_cli.specs.Words.{asked_by, check_of, command_of, flows_of, flows_over, flows_until, has_form, is_day, is_file};
+ghost use Rattle.std.specs.Prelude.{◌≡◌, map, option_map};
+ghost use Rattle.contract_parse.specs.NameTexts.{is_name_text};
+ghost use Rattle.contract_cli.specs.Arguments.{IsAnswer};
+ghost use Rattle.contract_cli.specs.Words.{IsCommandOf, asked_by, check_of, command_of, flows_of, has_form, if_given, is_day};
 
+use crate::arguments::{Argument, WordsErr, is_set, matches_of};
+use contract_parse::is_name_text;
 use fixing_files::{DayFault, day_of_text};
+use std::alloc::Global;
 
-/// What a command does.
-#[derive(Clone, Copy, Debug, PartialEq, Eq)]
-pub enum Verb {
-    /// Says of each contract whether it is accepted.
-    Check,
-    /// Lists what the contracts pay.
-    Flows,
-}
-
-/// A command: what to do with the portfolio of a file, over the fixings of another, up to a day.
+/// What the contracts of a portfolio's file pay: over the fixings of another file, up to a day, of one contract alone, and
+/// summed, each where it is asked.
 #[derive(Clone, Copy)]
-pub struct Command<'a> {
-    pub verb: Verb,
+pub struct Flows<'a> {
     pub portfolio: &'a str,
     pub fixings: Option<&'a str>,
     pub until: Option<&'a str>,
+    pub contract: Option<&'a str>,
+    pub net: bool,
 }
 
-// A file can have this name.
-fn is_file(word: &str) -> bool
-    ensures { result ≡ is_file word.now }
-{
-    !word.starts_with('-')
+/// A command, with what it is given.
+#[derive(Clone, Copy)]
+pub enum Command<'a> {
+    /// Says of each contract of the file whether it is accepted.
+    Check { portfolio: &'a str },
+    /// Lists what the contracts pay.
+    Flows(Flows<'a>),
 }
 
 // Digits or a date; a date has a day only where there is an origin.
@@ -47,72 +47,80 @@ fn is_day(word: &str) -> bool
     !word.starts_with('-') && has_form(day_of_text(None, word.as_bytes()))
 }
 
-fn check_of<'a>(words: &'a [&'a str]) -> Option<Command<'a>>
-    ensures { option_map asked_by result ≡ check_of (map (λ word. word.now) words.entry.now) }
+// A word that has to be given.
+fn given(word: Option<&str>) -> Result<&str, WordsErr>
+    ensures { IsAnswer (λ word. word.now) (option_map (λ word. word.now) word.entry) result }
 {
-    match words {
-        [portfolio] if is_file(portfolio) => Some(Command {
-            verb: Verb::Check,
-            portfolio: *portfolio,
-            fixings: None,
-            until: None,
-        }),
-        _ => None,
+    word.ok_or(WordsErr::Usage)
+}
+
+// A day, if a word gives one.
+fn day_if_given(word: Option<&str>) -> Result<Option<&str>, WordsErr>
+    ensures { IsAnswer (option_map (λ word. word.now)) (if_given is_day (option_map (λ word. word.now) word.entry)) result }
+{
+    match word {
+        Some(text) if !is_day(text) => Err(WordsErr::Usage),
+        _ => Ok(word),
     }
 }
 
-// The flows of files, up to the day of the words behind them.
-fn flows_until<'a>(
-    portfolio: &'a str,
-    fixings: Option<&'a str>,
-    words: &'a [&'a str],
-) -> Option<Command<'a>>
-    ensures { option_map asked_by result ≡ flows_until portfolio.entry.now (option_map (λ word. word.now) fixings.entry) (map (λ word. word.now) words.entry.now) }
+// A name, if a word gives one.
+fn name_if_given(word: Option<&str>) -> Result<Option<&str>, WordsErr>
+    ensures { IsAnswer (option_map (λ word. word.now)) (if_given is_name_text (option_map (λ word. word.now) word.entry)) result }
 {
-    let until = match words {
-        [] => None,
-        [option, day] if *option == "--until" && is_day(day) => Some(*day),
-        _ => return None,
-    };
-    Some(Command {
-        verb: Verb::Flows,
+    match word {
+        Some(text) if !is_name_text(text.as_bytes()) => Err(WordsErr::Usage),
+        _ => Ok(word),
+    }
+}
+
+// `check PORTFOLIO`, by the words behind the first.
+fn check_of<'a>(alloc: Global, words: &'a [&'a str]) -> Result<Command<'a>, WordsErr>
+    ensures { IsAnswer asked_by (check_of (map (λ word. word.now) words.entry.now)) result }
+{
+    let arguments = [Argument::Required("portfolio")];
+    let matches = matches_of(alloc, "check", &arguments, words)?;
+    let portfolio = given(matches.get_str("portfolio"))?;
+    Ok(Command::Check { portfolio })
+}
+
+// `flows PORTFOLIO [FIXINGS] [--until DAY] [--contract NAME] [--net]`, by the words behind the first.
+fn flows_of<'a>(alloc: Global, words: &'a [&'a str]) -> Result<Command<'a>, WordsErr>
+    ensures { IsAnswer asked_by (flows_of (map (λ word. word.now) words.entry.now)) result }
+{
+    let arguments = [
+        Argument::Required("portfolio"),
+        Argument::Optional("fixings"),
+        Argument::Valued("until"),
+        Argument::Valued("contract"),
+        Argument::Flag("net"),
+    ];
+    let matches = matches_of(alloc, "flows", &arguments, words)?;
+    let portfolio = given(matches.get_str("portfolio"))?;
+    let until = day_if_given(matches.get_str("until"))?;
+    let contract = name_if_given(matches.get_str("contract"))?;
+    Ok(Command::Flows(Flows {
         portfolio,
-        fixings,
+        fixings: matches.get_str("fixings"),
         until,
-    })
+        contract,
+        net: is_set(matches.get_str("net")),
+    }))
 }
 
-// The flows of a portfolio, over the fixings of the words behind it.
-fn flows_over<'a>(portfolio: &'a str, words: &'a [&'a str]) -> Option<Command<'a>>
-    ensures { option_map asked_by result ≡ flows_over portfolio.entry.now (map (λ word. word.now) words.entry.now) }
+/// The command of the words, which are those of the command line without the program's name. `Usage` comes exactly where
+/// they have the form of none.
+pub fn command_of<'a>(alloc: Global, words: &'a [&'a str]) -> Result<Command<'a>, WordsErr>
+    ensures { IsCommandOf (map (λ word. word.now) words.entry.now) result }
 {
-    match words {
-        [fixings, rest @ ..] if is_file(fixings) => flows_until(portfolio, Some(*fixings), rest),
-        _ => flows_until(portfolio, None, words),
-    }
-}
-
-fn flows_of<'a>(words: &'a [&'a str]) -> Option<Command<'a>>
-    ensures { option_map asked_by result ≡ flows_of (map (λ word. word.now) words.entry.now) }
-{
-    match words {
-        [portfolio, rest @ ..] if is_file(portfolio) => flows_over(*portfolio, rest),
-        _ => None,
-    }
-}
-
-/// The command of the words `check PORT` or `flows PORT [FIX] [--until DAY]`, or nothing where they have no such form.
-pub fn command_of<'a>(words: &'a [&'a str]) -> Option<Command<'a>>
-    ensures { option_map asked_by result ≡ command_of (map (λ word. word.now) words.entry.now) }
-{
-    let [verb, rest @ ..] = words else {
-        return None;
+    let [name, rest @ ..] = words else {
+        return Err(WordsErr::Usage);
     };
-    if *verb == "check" {
-        check_of(rest)
-    } else if *verb == "flows" {
-        flows_of(rest)
+    if *name == "check" {
+        check_of(alloc, rest)
+    } else if *name == "flows" {
+        flows_of(alloc, rest)
     } else {
-        None
+        Err(WordsErr::Usage)
     }
 }

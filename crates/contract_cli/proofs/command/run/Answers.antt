@@ -1,5 +1,9 @@
+use Rattle.contract_cli.specs.Runs.{written, broken}
+use Rattle.std.proofs.Common.{refl}
 use Rattle.contract_cli.proofs.command.run.Goals as goal
 
-pub returns : goal.returns
-returns g c =
-    record { due = c.in-Ok.answer.status; text = c.in-Ok.answer.text.items; cause = c.in-Ok.ensures; written = rw c.deref.ensures.value at c.in-Err-write_whole.ensures.whole }
+pub returns-in-Ok-write_whole-clause-meets : goal.returns-in-Ok-write_whole-clause-meets
+returns-in-Ok-write_whole-clause-meets g c = written c.in-Ok.answer.text.items c.in-Ok.ensures.answer (rw c.deref.ensures.value at c.in-Ok-write_whole.ensures.whole)
+
+pub returns-clause-meets : goal.returns-clause-meets
+returns-clause-meets g c = broken refl c.in-Ok.answer.status c.in-Ok.answer.text.items c.in-Ok.ensures.answer (rw c.deref.ensures.value at c.in-Err-write_whole.ensures.whole)

@@ -19,4 +19,4 @@ returns-in_ok-word-in-None c =
     let form : is_day word ≡ true = subst (λ (o : Option (List ℕ)). HasDayForm o) asked c.requires in
     let none : day_in_range d (day_of d.origin word) ≡ None = search rules in
     let same : c.in_ok-word-in-None.word ≡ word = search rules in
-    record { status_is = refl; word = word; given = asked; out = is_out d word form none; fault_is = ap (λ (w : List ℕ). fault.Day w) same }
+    record { word = word; given = asked; out = is_out d word form none; fault_is = ap (λ (w : List ℕ). fault.Day w) same }

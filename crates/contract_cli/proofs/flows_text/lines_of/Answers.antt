@@ -1,69 +1,56 @@
-use Rattle.std.proofs.Common.{◌≡◌, ◌∙◌, ◌∷◌, ℕ, List, ap, subst, sym}
-use Rattle.std.specs.Prelude.{All, Result, Ok, Err, []}
+use Rattle.std.proofs.Common.{◌≡◌, ◌∷◌, ◌+◌, ℕ, List, [], drop, pos, subst, sym}
+use Rattle.std.specs.Prelude.{Result, Ok}
 use Rattle.std.specs.Global.{Vec}
-use Rattle.std.specs.Map.Iter.{deref_pair}
-use Rattle.std.proofs.lemmas.Map.Iter.{rest_all, rest_more}
-use Rattle.std.proofs.lemmas.List.Elements.{All-head, All-tail}
-use Rattle.std.proofs.lemmas.Result.{err_from_is_err_and}
 use Rattle.term_core.specs.declared.name.Name.{Name}
-use Rattle.term_core.specs.declared.terms.Contr.{Contr}
-use Rattle.term_core.specs.Declarations.{Declarations, declarations}
-use Rattle.term_core.specs.Terms.{Contract, contract}
 use Rattle.term_core.specs.Acceptance.{IsAccepted}
-use Rattle.contract_cli.specs.CheckText.{AreAllAccepted, at_defaults}
-use Rattle.contract_cli.specs.Checking.{IsSound}
-use Rattle.contract_cli.specs.FlowLists.{AnswersLines}
-use Rattle.contract_cli.specs.FlowsText.{trees}
+use Rattle.term_core.specs.Declarations.{declarations}
+use Rattle.term_core.specs.Terms.{Contract, contract}
+use Rattle.flow_eval.specs.FlowAnswers.{AreKnownFlows}
+use Rattle.flow_eval.specs.declared.flow_table.FlowTable.{FlowTable}
+use Rattle.contract_cli.specs.FlowLists.{AnswersLines, AppendsAll, IsMissingOf, IsMissingOne}
+use Rattle.contract_cli.specs.Using.{entries_of, entry_of}
 use Rattle.contract_cli.specs.declared.stop.Stop.{Stop}
-use Rattle.contract_cli.proofs.LineFacts.{lines_behind, lines_of_none, lines_stopped}
+use Rattle.contract_cli.proofs.LineFacts.{lines_behind, lines_of_none, missing_first, rows_writable}
+use Rattle.contract_cli.proofs.StopFacts.{handed_on}
+use Rattle.contract_cli.proofs.UsedFacts.{item_has, left_more, left_none}
 use Rattle.contract_cli.proofs.flows_text.lines_of.Goals as goal
 
-abbrev AreSound : Declarations → List (Name × Contr) → Type 0
-AreSound d xs = All (λ entry. IsSound d entry.1) (trees xs)
+pub table_of-requires-clause-accepted : goal.table_of-requires-clause-accepted
+table_of-requires-clause-accepted c =
+    subst (λ (x : Contract). IsAccepted (declarations c.args.decls.now) x) (sym c.contr.ensures)
+    (item_has (λ (entry : Name × Contract). IsAccepted (declarations c.args.decls.now) entry.1) c.args.ones.now c.loop-one.one-index c.one-item.result c.loop-one-test.true c.one-item.is c.requires.accepted)
 
-abbrev AcceptAll : Declarations → List (Name × Contr) → Type 0
-AcceptAll d xs = AreAllAccepted d (trees xs)
+pub append_table-requires : goal.append_table-requires
+append_table-requires c = rows_writable c.args.decls.now.start c.args.course.now.last c.in_ok-table.table.rows.items c.requires.last c.in_ok-table.ensures.due
 
-left_sound : (d : Declarations) (xs ys : List (Name × Contr)) (x : Name × Contr) → xs ≡ x ∷ ys → AreSound d xs → AreSound d (x ∷ ys)
-left_sound d xs ys x left sound = subst (λ (zs : List (Name × Contr)). AreSound d zs) left sound
+pub loop-one-preserved : goal.loop-one-preserved
+loop-one-preserved c = λ r rest.
+    let d = declarations c.args.decls.now in
+    let fixings = c.args.course.now.fixings.now in
+    let last = c.args.course.now.last in
+    let ones = c.args.ones.now in
+    let i = c.loop-one.one-index in
+    let left = left_more ones i c.one-item.result c.loop-one-test.true c.one-item.is in
+    let known = subst (λ (x : Contract). AreKnownFlows d x fixings (pos c.args.decls.now.start) last c.in_ok-table.table.rows.items) c.contr.ensures c.in_ok-table.ensures in
+    c.loop-one.invariant r (subst (λ (es : List (Name × Contract)). AnswersLines d fixings last es c.loop-one.text.items r) (sym left) (lines_behind d fixings last (entry_of c.one-item.result) (entries_of (drop (i + 1) ones)) c.in_ok-table.table.rows.items c.loop-one.text.items c.append_table.new.out.items r known (rw c.text.ensures at c.in_ok-append_table.ensures) rest))
 
-left_accepted : (d : Declarations) (xs ys : List (Name × Contr)) (x : Name × Contr) → xs ≡ x ∷ ys → AcceptAll d xs → AcceptAll d (x ∷ ys)
-left_accepted d xs ys x left all = subst (λ (zs : List (Name × Contr)). AcceptAll d zs) left all
-
-pub append_flows-requires-clause-sound : goal.append_flows-requires-clause-sound
-append_flows-requires-clause-sound c =
-    let d = declarations c.args.portfolio.now.decls in
-    let left = rest_more deref_pair c.loop-name.name-iterator c.next.new.self c.next.result (c.in-Some.name, c.in-Some.contr) c.in-Some.is c.next.ensures.steps in
-    All-head (λ (entry : Name × Contract). IsSound d entry.1) (c.in-Some.name.now, contract c.in-Some.contr.now) (trees c.next.new.self) (left_sound d c.loop-name.name-iterator c.next.new.self (c.in-Some.name.now, c.in-Some.contr.now) left c.loop-name.invariant.sound)
-
-pub append_flows-requires-clause-accepted : goal.append_flows-requires-clause-accepted
-append_flows-requires-clause-accepted c =
-    let d = declarations c.args.portfolio.now.decls in
-    let left = rest_more deref_pair c.loop-name.name-iterator c.next.new.self c.next.result (c.in-Some.name, c.in-Some.contr) c.in-Some.is c.next.ensures.steps in
-    All-head (λ (entry : Name × Contract). IsAccepted d (at_defaults d entry.1)) (c.in-Some.name.now, contract c.in-Some.contr.now) (trees c.next.new.self) (left_accepted d c.loop-name.name-iterator c.next.new.self (c.in-Some.name.now, c.in-Some.contr.now) left c.loop-name.invariant.accepted)
-
-pub loop-name-preserved : goal.loop-name-preserved
-loop-name-preserved c =
-    let d = declarations c.args.portfolio.now.decls in
-    let left = rest_more deref_pair c.loop-name.name-iterator c.next.new.self c.next.result (c.in-Some.name, c.in-Some.contr) c.in-Some.is c.next.ensures.steps in
-    record {
-      answers = λ r rest. c.loop-name.invariant.answers r (subst (λ (xs : List (Name × Contr)). AnswersLines d c.args.course.now.fixings.now c.args.course.now.last (trees xs) c.loop-name.text.items r) (sym left) (lines_behind d c.args.course.now.fixings.now c.args.course.now.last (c.in-Some.name.now, contract c.in-Some.contr.now) (trees c.next.new.self) c.loop-name.text.items c.append_flows.new.out.items r c.in_ok-append_flows.ensures rest));
-      sound = All-tail (λ (entry : Name × Contract). IsSound d entry.1) (c.in-Some.name.now, contract c.in-Some.contr.now) (trees c.next.new.self) (left_sound d c.loop-name.name-iterator c.next.new.self (c.in-Some.name.now, c.in-Some.contr.now) left c.loop-name.invariant.sound);
-      accepted = All-tail (λ (entry : Name × Contract). IsAccepted d (at_defaults d entry.1)) (c.in-Some.name.now, contract c.in-Some.contr.now) (trees c.next.new.self) (left_accepted d c.loop-name.name-iterator c.next.new.self (c.in-Some.name.now, c.in-Some.contr.now) left c.loop-name.invariant.accepted);
-    }
-
-pub returns-in_err-append_flows : goal.returns-in_err-append_flows
-returns-in_err-append_flows c =
-    let d = declarations c.args.portfolio.now.decls in
-    let e = c.in_err-append_flows.field-0.0 in
-    let left = rest_more deref_pair c.loop-name.name-iterator c.next.new.self c.next.result (c.in-Some.name, c.in-Some.contr) c.in-Some.is c.next.ensures.steps in
-    let stopped = lines_stopped d c.args.course.now.fixings.now c.args.course.now.last (c.in-Some.name.now, contract c.in-Some.contr.now) (trees c.next.new.self) c.loop-name.text.items c.append_flows.new.out.items e c.in_err-append_flows.ensures in
-    let all = c.loop-name.invariant.answers (Err e) (subst (λ (xs : List (Name × Contr)). AnswersLines d c.args.course.now.fixings.now c.args.course.now.last (trees xs) c.loop-name.text.items (Err e)) (sym left) stopped) in
-    let p = err_from_is_err_and c.from_residual.result c.from_residual.ensures.1 in
-    subst (λ (r : Result (Vec ℕ) Stop). AnswersLines d c.args.course.now.fixings.now c.args.course.now.last (trees c.args.portfolio.now.contracts.entries) [] r) (sym (p.1 ∙ ap (λ (x : Stop). Err x) p.2)) all
+pub returns-in_err-table : goal.returns-in_err-table
+returns-in_err-table c =
+    let d = declarations c.args.decls.now in
+    let fixings = c.args.course.now.fixings.now in
+    let last = c.args.course.now.last in
+    let ones = c.args.ones.now in
+    let i = c.loop-one.one-index in
+    let entry = entry_of c.one-item.result in
+    let rest = entries_of (drop (i + 1) ones) in
+    let left = left_more ones i c.one-item.result c.loop-one-test.true c.one-item.is in
+    let stopped = handed_on (λ (table : FlowTable). AreKnownFlows d (contract c.contr.result.now) fixings (pos c.args.decls.now.start) last table.rows.items) (λ (text : Vec ℕ). AppendsAll d fixings last (entry ∷ rest) c.loop-one.text.items text.items) (IsMissingOne d fixings last (contract c.contr.result.now)) (IsMissingOf d fixings last (entry ∷ rest))
+        (λ f h. missing_first d fixings last entry rest f (subst (λ (x : Contract). IsMissingOne d fixings last x f) c.contr.ensures h)) c.in_err-table.field-0.0 c.from_residual.result c.in_err-table.ensures c.from_residual.ensures.1 in
+    c.loop-one.invariant c.from_residual.result (subst (λ (es : List (Name × Contract)). AnswersLines d fixings last es c.loop-one.text.items c.from_residual.result) (sym left) stopped)
 
 pub returns : goal.returns
 returns c =
-    let d = declarations c.args.portfolio.now.decls in
-    let left = rest_all deref_pair c.loop-name.name-iterator c.next.new.self c.next.result c.in-None.is c.next.ensures.steps in
-    c.loop-name.invariant.answers (Ok c.loop-name.text) (subst (λ (xs : List (Name × Contr)). AnswersLines d c.args.course.now.fixings.now c.args.course.now.last (trees xs) c.loop-name.text.items (Ok c.loop-name.text)) (sym left) (lines_of_none d c.args.course.now.fixings.now c.args.course.now.last c.loop-name.text))
+    let d = declarations c.args.decls.now in
+    let fixings = c.args.course.now.fixings.now in
+    let last = c.args.course.now.last in
+    c.loop-one.invariant (Ok c.loop-one.text) (subst (λ (es : List (Name × Contract)). AnswersLines d fixings last es c.loop-one.text.items (Ok c.loop-one.text)) (sym (left_none c.args.ones.now c.loop-one.one-index c.loop-one-test.false)) (lines_of_none d fixings last c.loop-one.text))

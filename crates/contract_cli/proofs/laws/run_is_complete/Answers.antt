@@ -1,5 +1,5 @@
-use Rattle.contract_cli.proofs.LawFacts.{run_is_complete}
+use Rattle.contract_cli.proofs.LawFacts.{check_is_complete, flows_are_complete}
 use Rattle.contract_cli.proofs.laws.run_is_complete.Goals as goal
 
 pub returns : goal.returns
-returns c = run_is_complete
+returns c = record { check = check_is_complete; flows = flows_are_complete }

@@ -1,0 +1,34 @@
+-- The answer of a parse, by what the command line crate states of it.
+use Rattle.std.proofs.Common.{◌≡◌, ◌∙◌, List, [], ◌∷◌, Bool, true, false, ◌&&◌, Option, Some, None, Result, refl, sym, ap, inl, inr}
+use Rattle.clap.specs.Words.{App, Row, Text, is_simple, is_simple_and_free, fault_of, matches_of, rows_of, first_value, first_of, kind_of}
+use Rattle.clap.specs.Kinds.{Kinds, IsAmong, HasKind}
+use Rattle.clap.specs.declared.parser.matches.Found.{Found}
+use Rattle.clap.specs.declared.error.kind.ErrorKind.{ErrorKind}
+use Rattle.clap.specs.declared.error.kind.ErrorKind.TheVariants as kind
+use Rattle.clap.specs.declared.error.Error.{Error}
+use Rattle.clap.proofs.WalkLemmas.{first_value-rows}
+use Rattle.contract_cli.specs.Arguments.{is_taken, taken}
+
+both_true : (a b : Bool) → (a && b) ≡ true → a ≡ true
+both_true true b h = refl
+both_true false b h = cc
+
+pub simple : (app : App) → is_simple_and_free app ≡ true → is_simple app ≡ true
+simple app h = both_true _ _ h
+
+pub takes : (app : App) (words : List Text) → fault_of app words ≡ [] → taken app words ≡ Some (matches_of app words)
+unfolding taken
+takes app words none = rw none refl
+
+pub holds : (app : App) (words : List Text) (f : Found) → rows_of f ≡ matches_of app words → (name : Text) → first_value f name ≡ first_of name (matches_of app words)
+holds app words f rows name = first_value-rows f name ∙ ap (first_of name) rows
+
+among : (app : App) (words : List Text) (k : ErrorKind) (ks : Kinds) → ks ≡ fault_of app words → IsAmong k ks → taken app words ≡ None
+unfolding taken
+among app words k [] same h = absurd h
+among app words k (x ∷ xs) same h = rw (sym same) refl
+
+-- a refusal that is no want of memory
+pub refuses : (app : App) (words : List Text) (e : Error) → HasKind (fault_of app words) e → (kind_of e ≡ kind.OutOfMemory → ⊥) → taken app words ≡ None
+refuses app words e (inl memory) other = absurd (other memory)
+refuses app words e (inr one) other = among app words (kind_of e) (fault_of app words) refl one

@@ -1,0 +1,12 @@
+use Rattle.std.specs.Prelude.{◌≡◌, ◌++◌, All, option_map}
+use Rattle.term_core.specs.Declarations.{declarations}
+use Rattle.contract_cli.specs.Using.{IsSound, entries_of, trees}
+use Rattle.contract_cli.proofs.UsedFacts.{used_of}
+use Rattle.contract_cli.proofs.used.used_contracts.Given as goal
+
+-- those so far and those that are asked for of the contracts that are left are those of all
+abbrev pub invariant-loop-name : goal.invariant-loop-name
+invariant-loop-name l = record {
+  made : entries_of l.ones.items ++ used_of (option_map (λ word. word.now) l.only) (declarations l.portfolio.decls) (trees l.name-iterator) ≡ used_of (option_map (λ word. word.now) l.only) (declarations l.portfolio.decls) (trees l.portfolio.contracts.entries);
+  sound : All (λ entry. IsSound (declarations l.portfolio.decls) entry.1) (trees l.name-iterator);
+}

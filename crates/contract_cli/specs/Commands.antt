@@ -1,0 +1,25 @@
+-- What the commands are asked for: `check` of a portfolio's file; or `flows` of a portfolio's file, over the fixings of
+-- another file where one is named, up to a day where a word gives one, of one contract where its name is given, and with
+-- the flows of all contracts summed where that is asked.
+use Rattle.std.specs.Prelude.{ℕ, Bool, List, Option, None}
+
+pub record FlowsAsked : Type 0 where
+  pub portfolio : List ℕ
+  pub fixings : Option (List ℕ)
+  pub until : Option (List ℕ)
+  pub contract : Option (List ℕ)
+  pub net : Bool
+
+pub data Asked : Type 0 where
+  Check : List ℕ → Asked
+  Flows : FlowsAsked → Asked
+
+-- the file of the portfolio
+abbrev pub portfolio_file : Asked → List ℕ
+portfolio_file (Check file) = file
+portfolio_file (Flows flows) = flows.portfolio
+
+-- the file of the fixings, if the command has one
+abbrev pub fixings_file : Asked → Option (List ℕ)
+fixings_file (Check file) = None
+fixings_file (Flows flows) = flows.fixings

@@ -1,0 +1,49 @@
+-- The contracts that a command uses, as the program keeps them, and what is asked of one before it is tried.
+use Rattle.std.specs.Prelude.{◌≡◌, ◌≤◌, ◌<◌, ◌^◌, ℕ, false, map, List, Option, Some}
+use Rattle.term_core.specs.declared.name.Name.{Name}
+use Rattle.term_core.specs.declared.terms.Contr.{Contr}
+use Rattle.term_core.specs.Books.{Book}
+use Rattle.term_core.specs.Declarations.{Declarations}
+use Rattle.term_core.specs.Terms.{Contract, contract}
+use Rattle.term_core.specs.Sizes.{height_of_contract, nodes_of_contract}
+use Rattle.term_core.specs.WellFormed.{HasOnlyNumbers, IsClosed}
+use Rattle.report.specs.declared.fault_lines.Fault.{Fault}
+use Rattle.report.specs.declared.fault_lines.Fault.TheVariants as fault
+use Rattle.contract_cli.specs.Used.{is_known}
+use Rattle.contract_cli.specs.declared.used.Instance.{Instance}
+use Rattle.contract_cli.specs.declared.used.Instance.TheVariants.{Lent, Made}
+use Rattle.contract_cli.specs.declared.used.Used.{Used}
+
+abbrev pub tree_of : Instance → Contract
+tree_of (Lent contr) = contract contr.now
+tree_of (Made contr) = contract contr
+
+abbrev pub entry_of : Used → Name × Contract
+entry_of one = (one.name.now, tree_of one.contr)
+
+abbrev pub entries_of : List Used → List (Name × Contract)
+entries_of ones = map entry_of ones
+
+-- the contracts of a portfolio by their contents
+abbrev pub trees : List (Name × Contr) → List (Name × Contract)
+trees entries = map (λ entry. (entry.0, contract entry.1)) entries
+
+-- a contract of a text
+pub record IsSound (d : Declarations) (c : Contract) : Type 0 where
+  pub closed : IsClosed d c
+  pub low : height_of_contract c ≤ 200
+  pub small : nodes_of_contract c < 2 ^ 32
+
+-- a contract without names of templates that can be tried
+pub record IsTriable (d : Declarations) (c : Contract) : Type 0 where
+  pub closed : IsClosed d c
+  pub numbers : HasOnlyNumbers c
+  pub low : height_of_contract c ≤ 1_000
+  pub small : nodes_of_contract c < 2 ^ 32
+
+-- a name that is asked for is that of no contract, and the fault says so
+pub record IsUnknownName (b : Book) (only : Option (List ℕ)) (f : Fault) : Type 0 where
+  pub name : List ℕ
+  pub given : only ≡ Some name
+  pub unknown : is_known only b ≡ false
+  pub fault_is : f ≡ fault.UnknownName name

@@ -1,0 +1,104 @@
+//! The contracts that a command uses.
+
+ghost use Rattle.std.specs.Prelude.{◌≡◌, true, IfOk, option_map};
+ghost use Rattle.std.specs.List.{All};
+ghost use Rattle.term_core.specs.Books.{book};
+ghost use Rattle.term_core.specs.Declarations.{declarations};
+ghost use Rattle.term_core.specs.Instances.{HasNumbers, declared_numbers, instance};
+ghost use Rattle.term_core.specs.Terms.{contract};
+ghost use Rattle.contract_cli.specs.Stopping.{AnswersBy};
+ghost use Rattle.contract_cli.specs.Used.{is_asked, is_known, used};
+ghost use Rattle.contract_cli.specs.Using.{IsSound, IsTriable, IsUnknownName, entries_of, tree_of};
+
+use crate::stop::Stop;
+use decimal::NoMemory;
+use report::Fault;
+use std::alloc::Global;
+use term_core::{Contr, Name, Portfolio, Setting, defaults, has_only_numbers, instantiate};
+
+/// A contract at the defaults: itself, where it names no template, or an instance of it.
+#[derive(Drop)]
+pub enum Instance<'a> {
+    Lent(&'a Contr),
+    Made(Contr),
+}
+
+impl<'a> Instance<'a> {
+    /// The contract, without names of templates.
+    pub fn contr(&self) -> &Contr
+        ensures { contract result.now ≡ tree_of self.now }
+    {
+        match self {
+            Instance::Lent(contr) => contr,
+            Instance::Made(contr) => contr,
+        }
+    }
+}
+
+/// A contract that a command uses, by its name.
+#[derive(Drop)]
+pub struct Used<'a> {
+    pub name: &'a Name,
+    pub contr: Instance<'a>,
+}
+
+// The contract with the setting's numbers for its names. What names no template is lent as it is.
+fn instance_of<'a>(
+    alloc: Global,
+    contr: &'a Contr,
+    setting: &Setting,
+) -> Result<Instance<'a>, NoMemory>
+    requires { HasNumbers setting.now.days.items (contract contr.now) }
+    ensures { IfOk result (λ made. tree_of made ≡ instance setting.now.days.items (contract contr.entry.now)) }
+{
+    if has_only_numbers(contr) {
+        Ok(Instance::Lent(contr))
+    } else {
+        Ok(Instance::Made(instantiate(alloc, contr, setting)?))
+    }
+}
+
+fn is_asked(name: &Name, only: Option<&str>) -> bool
+    ensures { result ≡ is_asked (option_map (λ word. word.now) only.entry) name.now }
+{
+    match only {
+        Some(word) => word.as_bytes() == name.text(),
+        None => true,
+    }
+}
+
+/// The contracts of a portfolio, or the one of a name, at the defaults. Each is made once, and copied only where it names a
+/// template.
+pub fn used_contracts<'a>(
+    alloc: Global,
+    portfolio: &'a Portfolio,
+    only: Option<&str>,
+) -> Result<Vec<Used<'a>>, NoMemory>
+    requires { All (λ entry. IsSound (book portfolio.now).declarations entry.1) (book portfolio.now).contracts }
+    ensures used { IfOk result (λ ones. entries_of ones.items ≡ used (option_map (λ word. word.now) only.entry) (book portfolio.entry.now)) }
+    ensures triable { IfOk result (λ ones. All (λ entry. IsTriable (book portfolio.entry.now).declarations entry.1) (entries_of ones.items)) }
+{
+    let setting = defaults(alloc, &portfolio.decls)?;
+    let mut ones = Vec::new(alloc);
+    for (name, contr) in &portfolio.contracts {
+        if is_asked(name, only) {
+            let contr = instance_of(alloc, contr, &setting)?;
+            ones.push(Used { name, contr })?;
+        }
+    }
+    Ok(ones)
+}
+
+/// Stops at a name that is that of no contract.
+pub fn know(alloc: Global, portfolio: &Portfolio, only: Option<&str>) -> Result<(), Stop>
+    ensures { AnswersBy (λ _. is_known (option_map (λ word. word.now) only.entry) (book portfolio.now) ≡ true) (IsUnknownName (book portfolio.now) (option_map (λ word. word.now) only.entry)) result }
+{
+    let Some(word) = only else {
+        return Ok(());
+    };
+    if portfolio.contracts.contains_key(word.as_bytes()) {
+        return Ok(());
+    }
+    let name = Name::new(alloc, word.as_bytes())?;
+    Err(Stop::Fault(Fault::UnknownName { name }))
+}

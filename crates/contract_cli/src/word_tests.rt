@@ -1,0 +1,132 @@
+use crate::{Status, run};
+use edge_io::{Entry, MemoryFiles, MemorySink};
+use std::alloc::{AllocError, Global};
+use std::process::Abort;
+use std::test::Fail;
+
+const ROOM: usize = 4_096;
+
+const LOAN: &[u8] = b"portfolio 1; amounts 2; origin 2024-01-15; party A, B, C; asset EUR;
+contract loan = both(scale(100.00, pay(EUR, A, B)), after(90, scale(105.00, pay(EUR, B, A))));";
+
+// The loan by several names, and a table of no fixings.
+fn desk(alloc: Global) -> Result<MemoryFiles, AllocError> {
+    let mut entries = Vec::new(alloc);
+    for name in ["loan.txt", "", "-", "-x", "--", "--until", "prêt.txt"] {
+        entries.push(Entry {
+            name: name.as_bytes().to_vec(alloc)?,
+            bytes: LOAN.to_vec(alloc)?,
+            faults: 0,
+        })?;
+    }
+    entries.push(Entry {
+        name: b"fix.csv".to_vec(alloc)?,
+        bytes: b"label,day,value\n".to_vec(alloc)?,
+        faults: 0,
+    })?;
+    Ok(MemoryFiles::new(entries, Vec::new(alloc)))
+}
+
+// Runs each line's words, which stand between `|`: all print this.
+fn print_all(rt: &impl Abort, alloc: Global, lines: &str, output: &[u8]) -> Result<(), Fail> {
+    for line in lines.split('\n') {
+        let mut words = Vec::new(alloc);
+        for word in line.split('|') {
+            words.push(word)?;
+        }
+        let mut files = desk(alloc)?;
+        let mut out = MemorySink::new(alloc, Vec::new(alloc), ROOM, ROOM)?;
+        run(alloc, &words, &mut files, &mut out);
+        assert_eq!(rt; out.taken(), output);
+    }
+    Ok(())
+}
+
+// No command, or one that is given what it does not take. A file is named behind `--` where its name begins with `-`. An
+// option is given once, by its whole name and with a value; a day is one to nine digits or a civil date, and a name one of
+// the grammar of texts, of at most 64 bytes.
+const REFUSED: &str = "
+help
+--help
+-h
+-V
+--version
+--|check|loan.txt
+Check|loan.txt
+check
+check|loan.txt|fix.csv
+check|--help
+check|-h
+check|--version
+check|loan.txt|--help
+check|loan.txt|--until|89
+check|loan.txt|--net
+flows
+flows|--help
+flows|loan.txt|fix.csv|fix.csv
+flows|-x
+flows|loan.txt|--|--until|89
+flows|loan.txt|--until|1|--until|2
+flows|loan.txt|--until=1|--until=1
+flows|loan.txt|--unti|89
+flows|loan.txt|-u|89
+flows|loan.txt|--until
+flows|loan.txt|--until|--|89
+flows|loan.txt|--until=
+flows|loan.txt|--until|
+flows|loan.txt|--until|0000000089
+flows|loan.txt|--until|2024-02-30
+flows|loan.txt|--until|-5
+flows|loan.txt|--until=-5
+flows|loan.txt|--until|+5
+flows|loan.txt|--until|-
+flows|loan.txt|--until|demain
+flows|loan.txt|--contract|pay
+flows|loan.txt|--contract|1a
+flows|loan.txt|--contract|prêt
+flows|loan.txt|--contract|aaaaaaaaaaaaaaaaaaaaaaaaaaaaaaaaaaaaaaaaaaaaaaaaaaaaaaaaaaaaaaaaa
+flows|loan.txt|--net|--net
+flows|loan.txt|--net=true";
+
+const CHECKED: &str = "check|loan.txt
+check|--|loan.txt
+check|-
+check|
+check|prêt.txt";
+
+// All lines of the loan: a single `-`, the empty word and words beyond ASCII are names of files.
+const WHOLE: &str = "flows|loan.txt
+flows|loan.txt|fix.csv
+flows|loan.txt|--until=90
+flows|-
+flows|
+flows|prêt.txt
+flows|--|-x
+flows|--|--until
+flows|--|--|fix.csv";
+
+// The first line alone: an option stands before, between and behind the files, in two words or in one.
+const TO_DAY_89: &str = "flows|--until|89|loan.txt
+flows|--until|89|loan.txt|fix.csv
+flows|loan.txt|--until|89|fix.csv
+flows|loan.txt|fix.csv|--until|89
+flows|--until=89|--|loan.txt
+flows|loan.txt|--until|000000089
+flows|loan.txt|--until|2024-04-13";
+
+#[test]
+fn reads_words(rt: HostRuntime) -> Result<(), Fail> {
+    let alloc = rt.alloc();
+    print_all(&rt, alloc, REFUSED, b"fault usage\n")?;
+    let verdict = b"loan accepted start 0 scale 2 total 205.00 horizon 91\n";
+    print_all(&rt, alloc, CHECKED, verdict)?;
+    let first = b"loan,2024-01-15,A,B,EUR,100.00\n";
+    print_all(&rt, alloc, TO_DAY_89, first)?;
+    let whole = b"loan,2024-01-15,A,B,EUR,100.00\nloan,2024-04-14,B,A,EUR,105.00\n";
+    print_all(&rt, alloc, WHOLE, whole)?;
+    print_all(&rt, alloc, "flows|help", b"fault read 1\n")?;
+    let mut files = desk(alloc)?;
+    let mut out = MemorySink::new(alloc, Vec::new(alloc), ROOM, ROOM)?;
+    assert!(rt; run(alloc, &[], &mut files, &mut out) == Status::Usage);
+    Ok(())
+}
