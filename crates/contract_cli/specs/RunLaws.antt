@@ -199,4 +199,4 @@ FlowsAreComplete =
     (words : List (List ℕ)) (edge : Edge) (s : Status) (flows : FlowsAsked) (inputs : Inputs) (b : Book) (last : ℤ) (fixings : Environment)
     → Meets words edge s → IsReadWhole words edge (Flows flows) inputs → Text inputs.portfolio b → CanGo b flows inputs.fixings last fixings
     → ((text : List ℕ) × (s ≡ status.Done) × IsFlowsText b flows inputs.fixings text × WritesAll edge.sink text)
-      ⊎ ((s ≡ status.NoMemory) × WritesNothing edge.sink)
+    ⊎ ((s ≡ status.NoMemory) × WritesNothing edge.sink)

@@ -27,7 +27,7 @@ loop-one-preserved c = λ all after vs.
     let i = c.loop-one.one-index in
     let left = left_more ones i c.one-item.result c.loop-one-test.true c.one-item.is in
     let joined : (c.loop-one.all_accepted && c.in_ok-accepted.accepted) ≡ c.if-all_accepted.all_accepted = elim c.if-all_accepted.branch [
-      then-all_accepted w ↦ ap (λ (b : Bool). b && c.in_ok-accepted.accepted) w.if-all_accepted.true ∙ sym w.all_accepted-is
+      | then-all_accepted w ↦ ap (λ (b : Bool). b && c.in_ok-accepted.accepted) w.if-all_accepted.true ∙ sym w.all_accepted-is
       | else-all_accepted w ↦ ap (λ (b : Bool). b && c.in_ok-accepted.accepted) w.if-all_accepted.false ∙ sym w.if-all_accepted.false ∙ sym w.all_accepted-is
     ] in
     c.loop-one.invariant all after (with_next d (entries_of (drop i ones)) (entries_of (drop (i + 1) ones)) (entry_of c.one-item.result) c.loop-one.all_accepted c.in_ok-accepted.accepted c.if-all_accepted.all_accepted all c.loop-one.text.items c.append_verdict.new.out.items after left c.in_ok-accepted.ensures joined vs)

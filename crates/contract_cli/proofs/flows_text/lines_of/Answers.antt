@@ -45,7 +45,7 @@ returns-in_err-table c =
     let rest = entries_of (drop (i + 1) ones) in
     let left = left_more ones i c.one-item.result c.loop-one-test.true c.one-item.is in
     let stopped = handed_on (λ (table : FlowTable). AreKnownFlows d (contract c.contr.result.now) fixings (pos c.args.decls.now.start) last table.rows.items) (λ (text : Vec ℕ). AppendsAll d fixings last (entry ∷ rest) c.loop-one.text.items text.items) (IsMissingOne d fixings last (contract c.contr.result.now)) (IsMissingOf d fixings last (entry ∷ rest))
-        (λ f h. missing_first d fixings last entry rest f (subst (λ (x : Contract). IsMissingOne d fixings last x f) c.contr.ensures h)) c.in_err-table.field-0.0 c.from_residual.result c.in_err-table.ensures c.from_residual.ensures.1 in
+    (λ f h. missing_first d fixings last entry rest f (subst (λ (x : Contract). IsMissingOne d fixings last x f) c.contr.ensures h)) c.in_err-table.field-0.0 c.from_residual.result c.in_err-table.ensures c.from_residual.ensures.1 in
     c.loop-one.invariant c.from_residual.result (subst (λ (es : List (Name × Contract)). AnswersLines d fixings last es c.loop-one.text.items c.from_residual.result) (sym left) stopped)
 
 pub returns : goal.returns

@@ -56,7 +56,7 @@ returns-clause-triable c =
     let ones = c.loop-name.ones.items in
     let entries = c.args.portfolio.now.contracts.entries in
     let all : entries_of ones ≡ used_of only d (trees entries) =
-        sym (append-nil (entries_of ones))
-        ∙ ap (λ (left : List (Name × Contr)). entries_of ones ++ used_of only d (trees left)) (sym c.in-None.ensures.steps.0)
-        ∙ c.loop-name.invariant.made in
+    sym (append-nil (entries_of ones))
+    ∙ ap (λ (left : List (Name × Contr)). entries_of ones ++ used_of only d (trees left)) (sym c.in-None.ensures.steps.0)
+    ∙ c.loop-name.invariant.made in
     subst (All (λ (entry : Name × Contract). IsTriable d entry.1)) (sym all) (used_triable only d (trees entries) c.requires)
