@@ -1,9 +1,14 @@
-// Flows of accepted contracts, over tables of fixings.
+// Flows of accepted contracts, over tables of fixings, and sums of flow tables.
+
+ghost use Rattle.std.specs.Prelude.{◌≤◌, ◌^◌, unsigned_abs, IfOk};
+ghost use Rattle.report.specs.SumTables.{IsSummable};
 
 use crate::cases::{H, case_of};
 use contract_check::check;
+use decimal::NoMemory;
 use fixing_files::read_fixings;
 use flow_eval::{FlowErr, FlowRow, FlowTable, flows, flows_on};
+use report::net;
 use std::alloc::Global;
 use std::process::Abort;
 use std::test::Fail;
@@ -96,6 +101,37 @@ fn contracts_stand_on_any_day(rt: HostRuntime) -> Result<(), Fail> {
     ] {
         let answer = flows_of(&rt, rt.alloc(), text, table, frame, until)?;
         assert_eq!(rt; outcome_of(&answer), wanted, "of {text} on {frame:?}");
+    }
+    Ok(())
+}
+
+// The table of what the first party pays the second one, or the second the first, on one day.
+fn table_of(alloc: Global, from: u32, to: u32, amount: i128) -> Result<FlowTable, NoMemory>
+    requires { unsigned_abs amount ≤ 10 ^ 27 }
+    ensures { IfOk result (λ table. IsSummable table.rows.items) }
+{
+    let mut rows = Vec::new(alloc);
+    rows.push(FlowRow {
+        day: 3,
+        asset: 0,
+        from,
+        to,
+        amount,
+    })?;
+    Ok(FlowTable { rows })
+}
+
+#[test]
+fn what_is_paid_back_is_netted(rt: HostRuntime) -> Result<(), Fail> {
+    let alloc = rt.alloc();
+    for (paid, back, wanted) in [
+        (250, 100, row(3, 0, 1, 150)),
+        (100, 250, row(3, 1, 0, 150)),
+        (250, 250, Outcome::Nothing),
+    ] {
+        let tables = [table_of(alloc, 0, 1, paid)?, table_of(alloc, 1, 0, back)?];
+        let sum = Ok(net(alloc, &tables)?);
+        assert_eq!(rt; outcome_of(&sum), wanted, "of {paid} and {back}");
     }
     Ok(())
 }
