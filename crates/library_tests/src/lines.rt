@@ -1,5 +1,7 @@
 // Lines of verdicts, faults and flows.
 
+ghost use Rattle.std.specs.Prelude.{◌≤◌, ◌^◌, unsigned_abs, IsTrue, IfOk};
+
 use crate::cases::portfolio_of;
 use contract_check::Facts;
 use contract_parse::{TextFault, TextKind};
@@ -31,6 +33,16 @@ const REFUSED: RuleFault = RuleFault {
     node: 99_999,
 };
 
+/// Whether a line can hold the total of a verdict.
+pub fn is_short(verdict: &Result<Facts, RuleFault>) -> bool
+    ensures { IsTrue result → IfOk verdict.now (λ facts. unsigned_abs facts.total ≤ 10 ^ 37) }
+{
+    match verdict {
+        Ok(facts) => facts.total.unsigned_abs() <= 1_000_000,
+        Err(_) => true,
+    }
+}
+
 #[test]
 fn verdicts_have_lines(rt: HostRuntime) -> Result<(), Fail> {
     let alloc = rt.alloc();
@@ -52,6 +64,7 @@ fn verdicts_have_lines(rt: HostRuntime) -> Result<(), Fail> {
         ),
     ] {
         let portfolio = portfolio_of(&rt, alloc, header)?;
+        assert!(rt; is_short(&verdict));
         let mut out = b"> ".to_vec(alloc)?;
         check_line(alloc, &mut out, &portfolio.decls, b"c", &verdict)?;
         assert!(rt; out.as_slice() == wanted.as_bytes(), "{wanted}");
@@ -196,6 +209,8 @@ fn flows_have_lines(rt: HostRuntime) -> Result<(), Fail> {
         ),
     ] {
         let portfolio = portfolio_of(&rt, alloc, header)?;
+        assert!(rt; 0 <= row.day && row.day <= 1_100_000);
+        assert!(rt; row.amount.unsigned_abs() <= 1_000_000);
         let mut out = b"> ".to_vec(alloc)?;
         flow_line(alloc, &mut out, &portfolio.decls, b"loan", &row)?;
         assert!(rt; out.as_slice() == wanted.as_bytes(), "{wanted}");

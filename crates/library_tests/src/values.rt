@@ -70,6 +70,7 @@ fn answer_of(
     let fixings = read_fixings(alloc, table.as_bytes(), &case.decls)?;
     match facts {
         Ok(_) => {
+            parts_may_be_evaluated();
             let mut scratch = Scratch::for_contract(alloc, &case.contract)?;
             Ok(factor_of(&case.decls, &case.contract, &mut scratch, &fixings, day))
         }

@@ -1,6 +1,7 @@
 // Verdicts on contracts, as lines. Every rule of acceptance takes part.
 
 use crate::cases::{H, P, case_of};
+use crate::lines::is_short;
 use contract_check::check;
 use decimal::NoMemory;
 use report::check_line;
@@ -17,6 +18,7 @@ fn line_of(rt: &impl Abort, alloc: Global, header: &str, text: &str) -> Result<V
         Err(CheckErr::Refused { rule, node }) => Err(RuleFault { rule, node }),
         Err(CheckErr::NoMemory) => return Err(NoMemory.into()),
     };
+    assert!(rt; is_short(&verdict));
     let mut line = Vec::new(alloc);
     check_line(alloc, &mut line, &case.decls, b"c", &verdict)?;
     Ok(line)
