@@ -1,0 +1,14 @@
+pub mod LeftParts
+pub mod LaterFirst
+pub mod LeftFlowFacts
+pub mod LeftReadFacts
+pub mod SpanFacts
+pub mod CarryFacts
+pub mod LeftRules
+pub mod LeftTimes
+pub mod LeftSizes
+pub mod LeftAcceptedFacts
+pub mod LeftForms
+pub mod LeftLarge
+pub mod LeftSmall
+pub mod ReducingFacts

@@ -1,0 +1,16 @@
+pub mod SizeFacts
+pub mod Choices
+pub mod Worth
+pub mod NameLists
+pub mod NameKinds
+pub mod NameValues
+pub mod NameFlows
+pub mod NameReads
+pub mod LookFacts
+pub mod ShiftedRules
+pub mod NamedRules
+pub mod ReducedFacts
+pub mod RaisedFacts
+pub mod Among
+pub mod Branches
+pub mod SmallFacts

@@ -1,0 +1,6 @@
+pub mod Measures
+pub mod Bindings
+pub mod Substituting
+pub mod LawsNames
+pub mod LawsRules
+pub mod Reduced

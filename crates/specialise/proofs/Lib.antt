@@ -1,0 +1,13 @@
+pub mod ClosedFacts
+pub mod ToldFacts
+pub mod SpecialValues
+pub mod SpecialReads
+pub mod SpecialSizes
+pub mod SpecialContracts
+pub mod SpecialRedexes
+pub mod SpecialShifts
+pub mod SpecialTimes
+pub mod SpecialForms
+pub mod SpecialSmall
+pub mod SpecialRules
+pub mod AcceptedFacts

@@ -1,0 +1,4 @@
+pub mod Specialising
+pub mod LawsSpecial
+pub mod LawsSpecialContracts
+pub mod LawsAccepted

@@ -1,0 +1,36 @@
+//! Laws over the definitions alone. Each is the contract of a function that does nothing.
+
+ghost use Rattle.specialise.specs.LawsSpecial.{SpecialisedKinds, SpecialisedValues, SpecialisedReads, SpecialisedIsSmaller, NothingIsTold, SpecialisedShifts};
+ghost use Rattle.specialise.specs.LawsSpecialContracts.{ContractScales, ContractFlows, ContractReads, ContractIsSmaller, SpecialisedCarries, SpecialisedLeavesNone};
+ghost use Rattle.specialise.specs.LawsAccepted.{SpecialisedIsTyped, SpecialisedIsWellFormed, SpecialisedReplaces, SpecialisedIsAccepted};
+
+/// A specialised expression has the kind and the value of the expression, reads no more, and is the same or smaller.
+#[tactic(none)]
+pub fn specialised_means()
+    ensures kinds { SpecialisedKinds }
+    ensures values { SpecialisedValues }
+    ensures reads { SpecialisedReads }
+    ensures size { SpecialisedIsSmaller }
+    ensures unknown { NothingIsTold }
+    ensures shifts { SpecialisedShifts }
+{}
+
+/// So does a specialised contract, on its frame.
+#[tactic(none)]
+pub fn specialised_contract_means()
+    ensures scales { ContractScales }
+    ensures flows { ContractFlows }
+    ensures reads { ContractReads }
+    ensures size { ContractIsSmaller }
+    ensures carries { SpecialisedCarries }
+    ensures none { SpecialisedLeavesNone }
+{}
+
+/// A specialised contract is accepted where the contract is.
+#[tactic(none)]
+pub fn specialised_are_accepted()
+    ensures times { SpecialisedIsTyped }
+    ensures well_formed { SpecialisedIsWellFormed }
+    ensures rules { SpecialisedReplaces }
+    ensures accepted { SpecialisedIsAccepted }
+{}
