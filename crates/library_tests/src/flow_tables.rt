@@ -30,7 +30,8 @@ fn flows_of(
     let Some(frame) = frame else {
         return Ok(flows(alloc, &case.decls, &case.contract, &fixings, until));
     };
-    assert!(rt; 0 <= frame && frame <= 1_000);
+    assert!(rt; 0 <= frame);
+    assert!(rt; frame <= 1_000_000);
     Ok(flows_on(alloc, &case.decls, &case.contract, &fixings, frame, until))
 }
 
