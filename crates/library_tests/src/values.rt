@@ -64,7 +64,7 @@ fn answer_of(
     day: i64,
 ) -> Result<Answer, Fail> {
     assert!(rt; table.len() <= 1_000);
-    assert!(rt; -1_000 <= day && day <= 1_000);
+    assert!(rt; day.unsigned_abs() <= 1_000_000_000_000);
     let case = case_of(rt, alloc, header, text)?;
     let facts = check(alloc, &case.decls, &case.contract);
     let fixings = read_fixings(alloc, table.as_bytes(), &case.decls)?;
