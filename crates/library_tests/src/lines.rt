@@ -10,6 +10,7 @@ use fixing_files::{RowFault, RowKind};
 use flow_eval::FlowRow;
 use report::{Fault, check_line, fault_line, flow_line};
 use std::alloc::Global;
+use std::process::Abort;
 use std::test::Fail;
 use term_core::{Name, Rule, RuleFault};
 use time_types::Start;
@@ -114,60 +115,81 @@ fn row(kind: RowKind) -> Fault {
     }
 }
 
+fn assert_line(rt: &impl Abort, alloc: Global, fault: &Fault, wanted: &str) -> Result<(), Fail> {
+    let mut out = Vec::new(alloc);
+    fault_line(alloc, &mut out, fault)?;
+    assert!(rt; out.as_slice() == wanted.as_bytes(), "{wanted}");
+    Ok(())
+}
+
 #[test]
 fn faults_have_lines(rt: HostRuntime) -> Result<(), Fail> {
     let alloc = rt.alloc();
-    for (fault, wanted) in [
-        (Fault::Usage, "fault usage\n"),
-        (Fault::Read { place: 2 }, "fault read 2\n"),
-        (Fault::TooLong { place: 255 }, "fault too long 255\n"),
-        (day(alloc, b"2024-01-15")?, "fault day 2024-01-15\n"),
-        (unknown(alloc, b"nope")?, "fault unknown nope\n"),
-        (missing(alloc, b"FX", -1_000)?, "fault missing FX -1000\n"),
-        (refused(alloc, Rule::Sort)?, "fault refused c sort node 7\n"),
-        (refused(alloc, Rule::Time)?, "fault refused c time node 7\n"),
+    assert_line(&rt, alloc, &Fault::Usage, "fault usage\n")?;
+    assert_line(&rt, alloc, &Fault::Read { place: 2 }, "fault read 2\n")?;
+    assert_line(
+        &rt,
+        alloc,
+        &Fault::TooLong { place: 255 },
+        "fault too long 255\n",
+    )?;
+    let fault = day(alloc, b"2024-01-15")?;
+    assert_line(&rt, alloc, &fault, "fault day 2024-01-15\n")?;
+    let fault = unknown(alloc, b"nope")?;
+    assert_line(&rt, alloc, &fault, "fault unknown nope\n")?;
+    let fault = missing(alloc, b"FX", -1_000)?;
+    assert_line(&rt, alloc, &fault, "fault missing FX -1000\n")
+}
+
+#[test]
+fn refusals_have_lines(rt: HostRuntime) -> Result<(), Fail> {
+    for (rule, wanted) in [
+        (Rule::Sort, "fault refused c sort node 7\n"),
+        (Rule::Time, "fault refused c time node 7\n"),
+        (Rule::Scale, "fault refused c scale node 7\n"),
+        (Rule::Size, "fault refused c size node 7\n"),
+        (Rule::Bound, "fault refused c bound node 7\n"),
+    ] {
+        let fault = refused(rt.alloc(), rule)?;
+        assert_line(&rt, rt.alloc(), &fault, wanted)?;
+    }
+    Ok(())
+}
+
+#[test]
+fn faults_of_texts_have_lines(rt: HostRuntime) -> Result<(), Fail> {
+    for (kind, wanted) in [
+        (TextKind::Syntax, "fault text syntax line 3 column 11\n"),
+        (TextKind::Number, "fault text number line 3 column 11\n"),
+        (TextKind::Date, "fault text date line 3 column 11\n"),
+        (TextKind::Deep, "fault text deep line 3 column 11\n"),
+        (TextKind::Range, "fault text range line 3 column 11\n"),
+        (TextKind::Twice, "fault text twice line 3 column 11\n"),
+        (TextKind::Unknown, "fault text unknown line 3 column 11\n"),
+        (TextKind::Utf8, "fault text utf8 line 3 column 11\n"),
+    ] {
+        assert_line(&rt, rt.alloc(), &text(kind), wanted)?;
+    }
+    Ok(())
+}
+
+#[test]
+fn faults_of_rows_have_lines(rt: HostRuntime) -> Result<(), Fail> {
+    for (kind, wanted) in [
+        (RowKind::Shape, "fault row file 2 record 3 shape\n"),
+        (RowKind::Label, "fault row file 2 record 3 label\n"),
+        (RowKind::Day, "fault row file 2 record 3 day\n"),
+        (RowKind::Value, "fault row file 2 record 3 value\n"),
+        (RowKind::Bounds, "fault row file 2 record 3 bounds\n"),
         (
-            refused(alloc, Rule::Scale)?,
-            "fault refused c scale node 7\n",
-        ),
-        (refused(alloc, Rule::Size)?, "fault refused c size node 7\n"),
-        (
-            refused(alloc, Rule::Bound)?,
-            "fault refused c bound node 7\n",
-        ),
-        (
-            text(TextKind::Syntax),
-            "fault text syntax line 3 column 11\n",
-        ),
-        (
-            text(TextKind::Number),
-            "fault text number line 3 column 11\n",
-        ),
-        (text(TextKind::Date), "fault text date line 3 column 11\n"),
-        (text(TextKind::Deep), "fault text deep line 3 column 11\n"),
-        (text(TextKind::Range), "fault text range line 3 column 11\n"),
-        (text(TextKind::Twice), "fault text twice line 3 column 11\n"),
-        (
-            text(TextKind::Unknown),
-            "fault text unknown line 3 column 11\n",
-        ),
-        (text(TextKind::Utf8), "fault text utf8 line 3 column 11\n"),
-        (row(RowKind::Shape), "fault row file 2 record 3 shape\n"),
-        (row(RowKind::Label), "fault row file 2 record 3 label\n"),
-        (row(RowKind::Day), "fault row file 2 record 3 day\n"),
-        (row(RowKind::Value), "fault row file 2 record 3 value\n"),
-        (row(RowKind::Bounds), "fault row file 2 record 3 bounds\n"),
-        (
-            row(RowKind::Conflict { earlier: 2 }),
+            RowKind::Conflict { earlier: 2 },
             "fault row file 2 record 3 conflict with 2\n",
         ),
-        (row(RowKind::Factor), "fault row file 2 record 3 factor\n"),
-        (row(RowKind::Rising), "fault row file 2 record 3 rising\n"),
-        (row(RowKind::Zero), "fault row file 2 record 3 zero\n"),
+        (RowKind::Factor, "fault row file 2 record 3 factor\n"),
+        (RowKind::Rising, "fault row file 2 record 3 rising\n"),
+        (RowKind::Zero, "fault row file 2 record 3 zero\n"),
     ] {
-        let mut out = Vec::new(alloc);
-        fault_line(alloc, &mut out, &fault)?;
-        assert!(rt; out.as_slice() == wanted.as_bytes(), "{wanted}");
+        assert_line(&rt, rt.alloc(), &row(kind), wanted)?;
     }
     Ok(())
 }
