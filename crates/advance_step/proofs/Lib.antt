@@ -12,3 +12,9 @@ pub mod LeftForms
 pub mod LeftLarge
 pub mod LeftSmall
 pub mod ReducingFacts
+pub mod RowsLeft
+pub mod SoonerFacts
+pub mod EntryFacts
+pub mod CarryReady
+pub mod TestFacts
+pub mod WalkFacts

@@ -1,4 +1,5 @@
 pub mod Carrying
+pub mod Carried
 pub mod LawsLeft
 pub mod LawsLeftRules
 pub mod LawsLeftAccepted

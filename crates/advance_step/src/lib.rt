@@ -1,4 +1,10 @@
-//! What is left of a contract after some days, and the laws of it: it carries the contract. No call answers it yet.
+//! What is left of a contract after some days, and the laws of it: it carries the contract.
 #![tactic(auto)]
 
+mod answers;
+mod carried;
 pub mod laws;
+mod parts;
+mod walk;
+
+pub use carried::carry;

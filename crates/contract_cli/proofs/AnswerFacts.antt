@@ -5,7 +5,6 @@ use Rattle.std.specs.Global.{Vec}
 use Rattle.std.proofs.lemmas.Result.{err_from_is_err_and}
 use Rattle.term_core.specs.Books.{Book}
 use Rattle.contract_parse.specs.Texts.{Text}
-use Rattle.report.specs.declared.fault_lines.Fault.{Fault}
 use Rattle.contract_cli.specs.Answering.{AnswersBytes}
 use Rattle.contract_cli.specs.Answers.{Answers, Inputs, Stops, on_portfolio, told}
 use Rattle.contract_cli.specs.CheckText.{IsChecked}

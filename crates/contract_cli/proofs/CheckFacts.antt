@@ -1,6 +1,6 @@
 -- The verdicts on contracts: their lines one behind another, and the answer of `check`.
 use Rattle.std.proofs.Common.{◌≡◌, ◌∙◌, ◌≤◌, ◌^◌, ℕ, Bool, true, false, ◌&&◌, List, [], ◌∷◌, ◌++◌, append_assoc, ap, arith, refl, subst, sym, unsigned_abs}
-use Rattle.std.specs.Prelude.{All, IfOk, None, Result, Ok, Err, is_ok}
+use Rattle.std.specs.Prelude.{IfOk, None, Result, Ok, Err, is_ok}
 use Rattle.std.proofs.lemmas.Bool.{and_parts, and_from}
 use Rattle.std.proofs.lemmas.List.{append-nil}
 use Rattle.std.proofs.lemmas.List.Elements.{All-cons, All-head, All-nil, All-tail}
@@ -20,7 +20,7 @@ use Rattle.contract_check.specs.Checks.{IsGranted, told}
 use Rattle.contract_check.specs.declared.checks.Facts.{Facts}
 use Rattle.report.specs.CheckLines.{accepted_line, verdict_line}
 use Rattle.time_types.specs.Starts.{start_day}
-use Rattle.contract_cli.specs.CheckText.{AreAllAccepted, AreCheckLines, IsCheckLine, accepted, refused, IsChecked, all_accepted, some_refused}
+use Rattle.contract_cli.specs.CheckText.{AreCheckLines, IsCheckLine, accepted, refused, IsChecked, all_accepted, some_refused}
 use Rattle.contract_cli.specs.Checking.{AppendsVerdict, AppendsVerdicts, IsVerdictOf}
 use Rattle.contract_cli.specs.Used.{used}
 use Rattle.contract_cli.specs.declared.status.Status.{Status}

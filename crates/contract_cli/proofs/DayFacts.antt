@@ -1,16 +1,15 @@
 -- The last day of a word: in range, or out of it.
-use Rattle.std.proofs.Common.{◌≡◌, ◌∙◌, ◌≤ℤ◌, ◌<ℤ◌, ℕ, ℤ, pos, Bool, true, false, ◌&&◌, not, List, ap, arith, refl, sym, FitsSigned, w64}
+use Rattle.std.proofs.Common.{◌≡◌, ◌∙◌, ◌≤ℤ◌, ◌<ℤ◌, ℕ, ℤ, pos, Bool, true, false, ◌&&◌, List, ap, arith, refl, FitsSigned, w64}
 use Rattle.std.specs.Prelude.{Option, Some, None, Result, Ok, Err, int_le, if◌then◌else◌}
 use Rattle.std.proofs.lemmas.Int.{ints}
 use Rattle.term_core.specs.Declarations.{Declarations}
-use Rattle.fixing_files.specs.Days.{day_named, day_of, placed_if_named}
+use Rattle.fixing_files.specs.Days.{day_named, day_of, placed_day, placed_if_named}
 use Rattle.fixing_files.specs.declared.days.DayFault.{DayFault}
 use Rattle.fixing_files.specs.declared.days.DayFault.TheVariants.{NotDay, NoOrigin}
 use Rattle.fixing_files.specs.declared.days.NamedDay.{NamedDay}
 use Rattle.fixing_files.specs.declared.days.NamedDay.TheVariants.{Number, Date}
 use Rattle.contract_cli.specs.FlowLists.{CanBeLast, day_in_range}
 use Rattle.contract_cli.specs.FlowsText.{IsOutOfRange, no_origin, too_early, too_late, greatest_day}
-use Rattle.contract_cli.specs.Words.{begins_with, has_form, is_day}
 
 le_from : (a b : ℤ) → int_le a b ≡ true → a ≤ℤ b
 le_from a b h = grind (arith, ints)
@@ -31,39 +30,33 @@ of_result d (Ok day) last h =
     (ap (λ (x : ℤ). Ok x) k.0, k.1, k.2)
 of_result d (Err fault) last h = absurd cc
 
-pub is_last : (d : Declarations) (word : List ℕ) (last : ℤ) → day_in_range d (day_of d.origin word) ≡ Some last → CanBeLast d (Some word) last
-is_last d word last h =
-    let k = of_result d (day_of d.origin word) last h in
-    record { is_last = (k.0, k.1, k.2); first = (let low = k.1 in omega (arith, ints)); within = k.2 }
-
-not_day_by : (origin : Option ℤ) (named : Option NamedDay) → placed_if_named origin named ≡ Err NotDay → placed_if_named None named ≡ Err NotDay
-not_day_by origin None h = refl
-not_day_by origin (Some (Number day)) h = absurd cc
-not_day_by None (Some (Date day)) h = absurd cc
-not_day_by (Some o) (Some (Date day)) h = absurd cc
-
-not_day : (origin : Option ℤ) (word : List ℕ) → day_of origin word ≡ Err NotDay → day_of None word ≡ Err NotDay
+-- the day that is named is that of its word
+named_day : (origin : Option ℤ) (word : List ℕ) (named : NamedDay) → day_named word ≡ Some named → day_of origin word ≡ placed_day origin named
 unfolding day_of
-not_day origin word h = not_day_by origin (day_named word) h
+named_day origin word named reads = ap (placed_if_named origin) reads
 
-no_form : (dash : Bool) (r : Result ℤ DayFault) → r ≡ Err NotDay → (not dash && has_form r) ≡ true → ⊥
-no_form true r e h = let no : false ≡ true = h in cc
-no_form false (Ok day) e h = let no : Ok day ≡ Err NotDay = e in cc
-no_form false (Err NoOrigin) e h = let no : Err NoOrigin ≡ Err NotDay = e in cc
-no_form false (Err NotDay) e h = let no : false ≡ true = h in cc
+pub is_last : (d : Declarations) (word : List ℕ) (named : NamedDay) (last : ℤ) → day_named word ≡ Some named → day_in_range d (placed_day d.origin named) ≡ Some last → CanBeLast d (Some word) last
+is_last d word named last reads h =
+    let k = of_result d (placed_day d.origin named) last h in
+    record { is_last = (named_day d.origin word named reads ∙ k.0, k.1, k.2); first = (let low = k.1 in omega (arith, ints)); within = k.2 }
+
+some_day : (origin : Option ℤ) (named : NamedDay) → placed_day origin named ≡ Err NotDay → ⊥
+some_day origin (Number day) h = let no : Ok day ≡ Err NotDay = h in cc
+some_day None (Date day) h = let no : Err NoOrigin ≡ Err NotDay = h in cc
+some_day (Some o) (Date day) h = cc
 
 out_by : (d : Declarations) (word : List ℕ) (day : ℤ) (p q : Bool) → day_of d.origin word ≡ Ok day → int_le (pos d.start) day ≡ p → int_le day greatest_day ≡ q → (if p && q then Some day else None) ≡ None → IsOutOfRange d word
 out_by d word day true true is low high h = absurd cc
 out_by d word day true false is low high h = too_late day is (lt_from day greatest_day high)
 out_by d word day false q is low high h = too_early day is (lt_from (pos d.start) day low)
 
-out_of : (d : Declarations) (word : List ℕ) (r : Result ℤ DayFault) → day_of d.origin word ≡ r → is_day word ≡ true → day_in_range d r ≡ None → IsOutOfRange d word
-out_of d word (Ok day) is form h = out_by d word day (int_le (pos d.start) day) (int_le day greatest_day) is refl refl h
-out_of d word (Err NoOrigin) is form h = no_origin is
-out_of d word (Err NotDay) is form h = absurd (no_form (begins_with 45 word) (day_of None word) (not_day d.origin word is) form)
+out_of : (d : Declarations) (word : List ℕ) (r : Result ℤ DayFault) → day_of d.origin word ≡ r → (r ≡ Err NotDay → ⊥) → day_in_range d r ≡ None → IsOutOfRange d word
+out_of d word (Ok day) is some h = out_by d word day (int_le (pos d.start) day) (int_le day greatest_day) is refl refl h
+out_of d word (Err NoOrigin) is some h = no_origin is
+out_of d word (Err NotDay) is some h = absurd (some refl)
 
-pub is_out : (d : Declarations) (word : List ℕ) → is_day word ≡ true → day_in_range d (day_of d.origin word) ≡ None → IsOutOfRange d word
-is_out d word form h = out_of d word (day_of d.origin word) refl form h
+pub is_out : (d : Declarations) (word : List ℕ) (named : NamedDay) → day_named word ≡ Some named → day_in_range d (placed_day d.origin named) ≡ None → IsOutOfRange d word
+is_out d word named reads h = out_of d word (placed_day d.origin named) (named_day d.origin word named reads) (some_day d.origin named) h
 
 pub fits_day : (day : ℤ) → pos 0 ≤ℤ day → day ≤ℤ pos 1_100_000 → FitsSigned w64 day
 fits_day day low high = omega (arith, ints)

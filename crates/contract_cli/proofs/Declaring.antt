@@ -1,5 +1,5 @@
 -- A command that is declared argument by argument.
-use Rattle.std.proofs.Common.{◌≡◌, ◌∙◌, ℕ, ◌+◌, ◌<◌, ◌≤◌, List, ap, ap₂, drop, get_or, length, map, refl, sym, add-one, drop-cons}
+use Rattle.std.proofs.Common.{◌≡◌, ℕ, ◌+◌, ◌<◌, ◌≤◌, List, drop, get_or, length, map, refl, add-one, drop-cons}
 use Rattle.std.specs.Prelude.{fold}
 use Rattle.std.proofs.lemmas.List.{drop_all}
 use Rattle.clap.specs.Words.{App, Rule, with_rule}

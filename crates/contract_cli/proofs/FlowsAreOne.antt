@@ -1,21 +1,19 @@
 -- The bytes of a portfolio and of a table have one answer of `flows`: one thing stops it, or one text is written.
-use Rattle.std.proofs.Common.{◌≡◌, ◌∙◌, ◌<ℤ◌, ◌≤ℤ◌, ◌+ℤ◌, ◌-ℤ◌, ℕ, ℤ, pos, Bool, true, false, List, [], ◌∷◌, ◌++◌, ap, arith, refl, subst, sym}
-use Rattle.std.specs.Prelude.{All, Option, Some, None, Result, Ok, Err, codes, is_some, if◌then◌else◌}
+use Rattle.std.proofs.Common.{◌≡◌, ◌∙◌, ◌+ℤ◌, ◌-ℤ◌, ℕ, ℤ, pos, Bool, true, false, List, [], ◌∷◌, ◌++◌, ap, arith, refl, subst, sym}
+use Rattle.std.specs.Prelude.{All, Option, Some, None, codes, is_some, if◌then◌else◌}
 use Rattle.std.proofs.lemmas.Int.{ints}
 use Rattle.std.proofs.lemmas.List.Elements.{All-head, All-tail, All-weaker}
 use Rattle.term_core.specs.declared.name.Name.{Name}
 use Rattle.term_core.specs.declared.rules.Rule.{Rule}
 use Rattle.term_core.specs.declared.values.Value.{Value}
 use Rattle.term_core.specs.Declarations.{Declarations}
-use Rattle.term_core.specs.Dates.{epoch_day_of}
 use Rattle.term_core.specs.Environments.{Environment, Extends, Place, held}
-use Rattle.term_core.specs.Reads.{first_unfixed, is_fixed, reads_of_contract, up_to_first}
+use Rattle.term_core.specs.Reads.{first_unfixed, is_fixed, up_to_first}
 use Rattle.term_core.specs.Terms.{Contract}
 use Rattle.term_core.specs.Acceptance.{IsAccepted, IsRefusal}
 use Rattle.term_core.proofs.DateTextFacts.{texts_unique}
 use Rattle.term_core.proofs.ReadLawFacts.{reads_stay}
 use Rattle.term_core.proofs.RefusalFacts.{accepted_not_refused, refusals_unique}
-use Rattle.fixing_files.specs.Days.{day_of}
 use Rattle.fixing_files.specs.Tables.{table_of}
 use Rattle.fixing_files.proofs.LawFacts.{one_map}
 use Rattle.flow_eval.specs.FlowAnswers.{AreKnownFlows, reads_until}
@@ -24,7 +22,7 @@ use Rattle.flow_eval.specs.declared.flow_table.FlowRow.{FlowRow}
 use Rattle.flow_eval.proofs.TableFacts.{tables_are_one}
 use Rattle.report.specs.FlowLines.{IsDayText, IsFlowLine, line_with}
 use Rattle.contract_cli.specs.CheckText.{AreAllAccepted}
-use Rattle.contract_cli.specs.FlowsText.{AreAllFixed, AreAllLines, AreFixings, AreFlowLines, AreLines, AreLinesAsked, AreSumLines, IsFirstMissing, IsFirstNotAccepted, IsLastDay, IsOutOfRange, no_origin, too_early, too_late, greatest_day, missing_of, paid_together}
+use Rattle.contract_cli.specs.FlowsText.{AreAllFixed, AreAllLines, AreFixings, AreFlowLines, AreLines, AreLinesAsked, AreSumLines, IsFirstMissing, IsFirstNotAccepted, IsLastDay, IsOutOfRange, no_origin, too_early, too_late, missing_of, paid_together}
 
 -- ---- the last day
 

@@ -1,5 +1,5 @@
 -- The laws of a run's status, over how a run ends.
-use Rattle.std.proofs.Common.{◌≡◌, ◌∙◌, ◌≤◌, ◌<◌, ◌⊎◌, inl, inr, ℕ, ℤ, List, length, ap, arith, refl, subst, sym}
+use Rattle.std.proofs.Common.{◌≡◌, ◌∙◌, inl, inr, ℕ, ℤ, List, ap, arith, refl, subst, sym}
 use Rattle.std.specs.Prelude.{Option, Some, None}
 use Rattle.edge_io.specs.Counts.{Rose}
 use Rattle.term_core.specs.Books.{Book}
@@ -9,17 +9,17 @@ use Rattle.contract_parse.proofs.OneText.{one_text}
 use Rattle.report.specs.FaultLines.{fault_text}
 use Rattle.report.specs.declared.fault_lines.Fault.{Fault}
 use Rattle.report.specs.declared.fault_lines.Fault.TheVariants as fault
-use Rattle.contract_cli.specs.Answers.{Answers, Inputs, IsNoText, Stops, StopsOn, Tells, not_spelled, on_portfolio, stopped, told}
+use Rattle.contract_cli.specs.Answers.{Answers, Inputs, IsNoText, StopsOn, Tells, not_spelled, on_portfolio, stopped, told}
 use Rattle.contract_cli.specs.Answering.{AreShort}
 use Rattle.contract_cli.specs.CheckText.{AreAllAccepted, IsChecked, all_accepted, some_refused}
-use Rattle.contract_cli.specs.Commands.{Asked, Check, Flows, FlowsAsked}
+use Rattle.contract_cli.specs.Commands.{Asked, Check, Flows, FlowsAsked, OnFiles, Sample}
 use Rattle.contract_cli.specs.FlowLists.{IsShortTable}
 use Rattle.contract_cli.specs.FlowsText.{CanGo, IsFlowsText, StopsFlows, name_unknown, day_out, not_accepted, row_refused, read_missing}
-use Rattle.contract_cli.specs.Runs.{Cause, stopped as stops_run, answered, Edge, FileFault, read_failed, read_long, FilesSeen, IsNext, Meets, written, broken, lacking, Names, StopsRun, no_form, at_file, WritesAll, WritesNothing, longest_file}
-use Rattle.contract_cli.specs.RunLaws.{BadTextIsExact, CauseOnBook, CheckIsComplete, ComesExactlyWhere, FlowsAreComplete, IsExactOnBook, IsLongAt, long_portfolio, long_table, IsOrNoMemory, IsReadWhole, IsTextWhere, IsTooLong, ReadFaultIs, ReadFaultsHaveCauses, RefusalsAreExact, TooLongIs, TooLongIsExact, UsageIsExact, UsageWritesItsLine, WriteFaultsHaveCauses, WritesSucceed}
+use Rattle.contract_cli.specs.Runs.{Cause, stopped as stops_run, answered, sampled, Edge, FileFault, read_failed, read_long, FilesSeen, IsNext, Meets, written, broken, lacking, Names, no_form, at_file, WritesAll, WritesNothing}
+use Rattle.contract_cli.specs.RunLaws.{BadTextIsExact, CauseOnBook, CheckIsComplete, ComesExactlyWhere, FlowsAreComplete, IsExactOnBook, IsLongAt, long_portfolio, long_table, IsReadWhole, IsTextWhere, IsTooLong, ReadFaultIs, ReadFaultsHaveCauses, RefusalsAreExact, TooLongIs, TooLongIsExact, UsageIsExact, UsageWritesItsLine, WriteFaultsHaveCauses}
 use Rattle.contract_cli.specs.Statuses.{status_of}
 use Rattle.contract_cli.specs.Used.{used}
-use Rattle.contract_cli.specs.Words.{command_of}
+use Rattle.contract_cli.specs.Words.{request_of}
 use Rattle.contract_cli.specs.declared.status.Status.{Status}
 use Rattle.contract_cli.specs.declared.status.Status.TheVariants as status
 use Rattle.contract_cli.proofs.FlowsAreOne.{accepted_or_not, fixed_or_not}
@@ -96,20 +96,22 @@ module _ (words : List (List ℕ)) (files : FilesSeen) where
   file_not_usage file place f (read_failed is rose) e = apart ⊥ (λ (x : status.ReadFault ≡ status.Usage). cc) (ap status_of is) e
   file_not_usage file place f (read_long is known) e = apart ⊥ (λ (x : status.TooLong ≡ status.Usage). cc) (ap status_of is) e
 
-  usage_only : (s : Status) (text : List ℕ) → Cause words files s text → s ≡ status.Usage → (command_of words ≡ None) × (text ≡ fault_text fault.Usage)
+  usage_only : (s : Status) (text : List ℕ) → Cause words files s text → s ≡ status.Usage → (request_of words ≡ None) × (text ≡ fault_text fault.Usage)
   usage_only s text (stops_run f (no_form none is) e line) same = (none, line ∙ ap fault_text is)
   usage_only s text (stops_run f (at_file asked named file place next h) e line) same = absurd (file_not_usage file place f h (sym e ∙ same))
   usage_only s text (answered asked named inputs read a) same = absurd (no_usage asked inputs s text a same)
+  usage_only s text (sampled count sample e sum) same = absurd (apart ⊥ (λ (x : status.Done ≡ status.Usage). cc) e same)
 
-  usage_comes : (s : Status) (text : List ℕ) → Cause words files s text → command_of words ≡ None → s ≡ status.Usage
+  usage_comes : (s : Status) (text : List ℕ) → Cause words files s text → request_of words ≡ None → s ≡ status.Usage
   usage_comes s text (stops_run f (no_form none is) e line) h = e ∙ ap status_of is
-  usage_comes s text (stops_run f (at_file asked named file place next k) e line) h = absurd (let x : command_of words ≡ Some asked = named in cc)
-  usage_comes s text (answered asked named inputs read a) h = absurd (let x : command_of words ≡ Some asked = named in cc)
+  usage_comes s text (stops_run f (at_file asked named file place next k) e line) h = absurd (let x : request_of words ≡ Some (OnFiles asked) = named in cc)
+  usage_comes s text (answered asked named inputs read a) h = absurd (let x : request_of words ≡ Some (OnFiles asked) = named in cc)
+  usage_comes s text (sampled count sample e sum) h = absurd (let x : request_of words ≡ Some (Sample count) = sample in cc)
 
 pub usage_is_exact : UsageIsExact
 usage_is_exact words edge s (written text cause w) calm = record { comes = λ none. inl (usage_comes words edge.files s text cause none); only = λ is. (usage_only words edge.files s text cause is).0 }
 usage_is_exact words edge s (broken e due text cause w) calm = absurd (calm w.0)
-usage_is_exact words edge s (lacking e w) calm = record { comes = λ none. inr e; only = λ is. apart (command_of words ≡ None) (λ (x : status.NoMemory ≡ status.Usage). cc) e is }
+usage_is_exact words edge s (lacking e w) calm = record { comes = λ none. inr e; only = λ is. apart (request_of words ≡ None) (λ (x : status.NoMemory ≡ status.Usage). cc) e is }
 
 by_line : (edge : Edge) (text line : List ℕ) → text ≡ line → WritesAll edge.sink text → WritesAll edge.sink line
 by_line edge text line is w = subst (λ (t : List ℕ). WritesAll edge.sink t) is w
@@ -135,6 +137,7 @@ module _ (words : List (List ℕ)) (edge : Edge) where
   read_by_cause s text (stops_run f (no_form none is) e line) same w = apart (ReadFaultIs words edge) (λ (x : status.Usage ≡ status.ReadFault). cc) (e ∙ ap status_of is) same
   read_by_cause s text (stops_run f (at_file asked named file place next h) e line) same w = read_by_file asked file place f s text named next h e same line w
   read_by_cause s text (answered asked named inputs read a) same w = absurd (no_read_fault asked inputs s text a same)
+  read_by_cause s text (sampled count sample e sum) same w = apart (ReadFaultIs words edge) (λ (x : status.Done ≡ status.ReadFault). cc) e same
 
   read_fault_by : (s : Status) → s ≡ status.ReadFault → Meets words edge s → ReadFaultIs words edge
   read_fault_by s is (written text cause w) = read_by_cause s text cause is w
@@ -149,6 +152,7 @@ no_write_cause words files s text (stops_run f (no_form none is) e line) same = 
 no_write_cause words files s text (stops_run f (at_file asked named file place next (read_failed is rose)) e line) same = apart ⊥ (λ (x : status.ReadFault ≡ status.WriteFault). cc) (e ∙ ap status_of is) same
 no_write_cause words files s text (stops_run f (at_file asked named file place next (read_long is known)) e line) same = apart ⊥ (λ (x : status.TooLong ≡ status.WriteFault). cc) (e ∙ ap status_of is) same
 no_write_cause words files s text (answered asked named inputs read a) same = no_write_fault asked inputs s text a same
+no_write_cause words files s text (sampled count sample e sum) same = apart ⊥ (λ (x : status.Done ≡ status.WriteFault). cc) e same
 
 write_fault_by : (words : List (List ℕ)) (edge : Edge) (s : Status) → s ≡ status.WriteFault → Meets words edge s → Rose edge.sink.faults_before edge.sink.faults_after
 write_fault_by words edge s is (written text cause w) = absurd (no_write_cause words edge.files s text cause is)

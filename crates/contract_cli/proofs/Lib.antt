@@ -16,4 +16,7 @@ pub mod LawFacts
 pub mod Declaring
 pub mod Taken
 pub mod WordFacts
+pub mod SizeFacts
+pub mod OneSummary
+pub mod SampleLaws
 mod WordRows

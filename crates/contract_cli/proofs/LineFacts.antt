@@ -1,15 +1,14 @@
 -- One more line, one more contract, and the parts of `flows` put together.
-use Rattle.std.proofs.Common.{◌≡◌, ◌∙◌, ◌≤ℤ◌, ◌⊎◌, inl, inr, ℕ, ℤ, pos, true, false, List, [], ◌∷◌, ◌++◌, append_assoc, ap, arith, refl, subst, sym}
-use Rattle.std.specs.Prelude.{All, Option, Some, None, Result, Ok, Err, unsigned_abs, ◌≤◌, ◌^◌}
+use Rattle.std.proofs.Common.{◌≡◌, ◌∙◌, ◌≤ℤ◌, ◌⊎◌, inl, inr, ℕ, ℤ, pos, List, [], ◌∷◌, ◌++◌, append_assoc, ap, arith, refl, subst, sym}
+use Rattle.std.specs.Prelude.{All, Some, None, Result, Ok, Err}
 use Rattle.std.specs.Global.{Vec}
 use Rattle.std.proofs.lemmas.Int.{ints}
 use Rattle.std.proofs.lemmas.List.{append-nil}
 use Rattle.std.proofs.lemmas.List.Elements.{All-cons, All-nil, All-weaker}
 use Rattle.term_core.specs.declared.name.Name.{Name}
 use Rattle.term_core.specs.declared.rules.Rule.{Rule}
-use Rattle.term_core.specs.Books.{Book}
 use Rattle.term_core.specs.Declarations.{Declarations}
-use Rattle.term_core.specs.Environments.{Environment, Place}
+use Rattle.term_core.specs.Environments.{Environment}
 use Rattle.term_core.specs.Terms.{Contract}
 use Rattle.term_core.specs.Acceptance.{IsAccepted}
 use Rattle.flow_eval.specs.FlowAnswers.{AreFlows, AreKnownFlows}
@@ -21,8 +20,8 @@ use Rattle.flow_eval.specs.declared.flow_table.FlowTable.{FlowTable}
 use Rattle.report.specs.FlowLines.{AppendsFlowLine, IsFlowLine}
 use Rattle.report.specs.declared.fault_lines.Fault.{Fault}
 use Rattle.contract_cli.specs.CheckText.{AreAllAccepted}
-use Rattle.contract_cli.specs.FlowLists.{AnswersLines, AnswersTables, AppendsAll, AppendsLines, AppendsTables, AreTables, IsMissingOf, IsMissingOne, IsRefusedOf, IsRefusedOne, IsStopOf, missing_at}
-use Rattle.contract_cli.specs.FlowsText.{AreAllFixed, AreLines, IsFirstMissing, IsFirstNotAccepted, missing_of}
+use Rattle.contract_cli.specs.FlowLists.{AnswersLines, AnswersTables, AppendsLines, IsMissingOf, IsMissingOne, IsRefusedOf, IsRefusedOne, IsStopOf, missing_at}
+use Rattle.contract_cli.specs.FlowsText.{AreLines, IsFirstNotAccepted, missing_of}
 use Rattle.contract_cli.specs.Stopping.{AnswersBy}
 use Rattle.contract_cli.specs.declared.stop.Stop.{Stop}
 use Rattle.contract_cli.specs.declared.stop.Stop.TheVariants as stop

@@ -1,11 +1,11 @@
 -- What is read of the files of a command, one after another, and what stops a run at one of them.
-use Rattle.std.proofs.Common.{◌≡◌, ◌≢◌, ◌∙◌, ◌≤◌, ◌<◌, ℕ, List, length, ap, arith, refl, subst, sym}
+use Rattle.std.proofs.Common.{◌≡◌, ◌∙◌, ◌≤◌, ◌<◌, ℕ, List, length, ap, arith, refl, subst, sym}
 use Rattle.std.specs.Prelude.{Option, Some, IfSome, IsSome}
 use Rattle.edge_io.specs.Counts.{Rose}
 use Rattle.edge_io.specs.Files.{CountsOnly}
 use Rattle.report.specs.declared.fault_lines.Fault.{Fault}
 use Rattle.contract_cli.specs.Commands.{Asked, fixings_file, portfolio_file}
-use Rattle.contract_cli.specs.Runs.{CountsOnlyBy, CountsOnlyNamed, FilesSeen, FileFault, read_failed, read_long, IsNext, is_first, is_second, IsUnnamed, Names, StopsRun, at_file, WasRead, longest_file}
+use Rattle.contract_cli.specs.Runs.{CountsOnlyBy, CountsOnlyNamed, FilesSeen, FileFault, read_failed, read_long, is_first, is_second, Names, StopsRun, at_file, WasRead, longest_file}
 
 -- a file that was read in a part of a run
 pub seen_told : (one two : FilesSeen) (file bytes : List ℕ) → two.contents file ≡ one.contents file → WasRead two file bytes → WasRead one file bytes

@@ -1,17 +1,16 @@
 -- What a run is that has read files whose contents are told, where nothing failed.
-use Rattle.std.proofs.Common.{◌≡◌, ◌∙◌, ◌≤◌, ◌<◌, ℕ, List, length, ap, arith, refl, subst, sym}
+use Rattle.std.proofs.Common.{◌≡◌, ◌∙◌, ◌≤◌, ◌<◌, ℕ, List, length, ap, refl, subst, sym}
 use Rattle.std.specs.Prelude.{Option, Some, None, IfSome}
-use Rattle.edge_io.specs.Counts.{Rose}
 use Rattle.report.specs.FaultLines.{fault_text}
 use Rattle.report.specs.declared.fault_lines.Fault.{Fault}
 use Rattle.report.specs.declared.fault_lines.Fault.TheVariants as fault
 use Rattle.contract_cli.specs.Answers.{Answers, Inputs}
 use Rattle.contract_cli.specs.Answering.{AreShort}
-use Rattle.contract_cli.specs.Commands.{Asked, fixings_file, portfolio_file}
+use Rattle.contract_cli.specs.Commands.{Asked, OnFiles, Sample, fixings_file, portfolio_file}
 use Rattle.contract_cli.specs.FlowLists.{IsShortTable}
-use Rattle.contract_cli.specs.Words.{command_of}
-use Rattle.contract_cli.specs.Runs.{Cause, stopped, answered, Edge, FilesSeen, FileFault, read_failed, read_long, IsNext, is_first, is_second, Meets, written, broken, lacking, Names, StopsRun, no_form, at_file, WasRead, WasReadIfNamed, WereRead, WritesAll, WritesNothing, longest_file}
-use Rattle.contract_cli.specs.RunLaws.{IsLongAt, long_portfolio, long_table, IsRead, IsReadWhole, IsTold, IsToldIfNamed, WritesSucceed}
+use Rattle.contract_cli.specs.Words.{request_of}
+use Rattle.contract_cli.specs.Runs.{Cause, stopped, answered, sampled, Edge, FilesSeen, FileFault, read_failed, read_long, IsNext, is_first, is_second, Meets, written, broken, lacking, Names, StopsRun, no_form, at_file, WasRead, WasReadIfNamed, WereRead, WritesAll, WritesNothing, longest_file}
+use Rattle.contract_cli.specs.RunLaws.{IsLongAt, long_portfolio, long_table, IsRead, IsTold, IsToldIfNamed}
 use Rattle.contract_cli.specs.Statuses.{status_of}
 use Rattle.contract_cli.specs.declared.status.Status.{Status}
 use Rattle.contract_cli.specs.declared.status.Status.TheVariants as status
@@ -106,7 +105,7 @@ module _ (words : List (List ℕ)) (edge : Edge) (asked : Asked) (inputs : Input
       long (e ∙ ap status_of is) place (long_at a file place named next known) (subst (λ (t : List ℕ). WritesAll edge.sink t) (line ∙ ap fault_text is) w)
 
   by_stop : (f : Fault) (s : Status) (text : List ℕ) → StopsRun words edge.files f → s ≡ status_of f → text ≡ fault_text f → WritesAll edge.sink text → Ends edge asked inputs s
-  by_stop f s text (no_form none is) e line w = absurd (let h : command_of words ≡ Some asked = r.named in cc)
+  by_stop f s text (no_form none is) e line w = absurd (let h : request_of words ≡ Some (OnFiles asked) = r.named in cc)
   by_stop f s text (at_file a named file place next h) e line w = by_file a file place f s text named next h e line w
 
   by_cause : (s : Status) (text : List ℕ) → Cause words edge.files s text → WritesAll edge.sink text → Ends edge asked inputs s
@@ -117,6 +116,7 @@ module _ (words : List (List ℕ)) (edge : Edge) (asked : Asked) (inputs : Input
       let given = subst (λ (x : Asked). Answers x read_inputs s text) one ans in
       let same = same_inputs edge.files asked read_inputs inputs were r.portfolio r.fixings in
       with_answer text (subst (λ (i : Inputs). AreShort i) same (were_short edge.files asked read_inputs were)) (subst (λ (i : Inputs). Answers asked i s text) same given) w
+  by_cause s text (sampled count sample e sum) w = absurd (let h : request_of words ≡ Some (OnFiles asked) = r.named in let k : request_of words ≡ Some (Sample count) = sample in cc)
 
   pub ends : (s : Status) → Meets words edge s → Ends edge asked inputs s
   ends s (written text cause w) = by_cause s text cause w

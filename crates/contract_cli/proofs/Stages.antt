@@ -1,6 +1,6 @@
 -- The stages of `flows`: names, the day, contracts, rows, reads, and the end. A command stops at the first stage that fails,
 -- and so at one stage alone.
-use Rattle.std.proofs.Common.{◌≡◌, ◌∙◌, ◌<◌, ◌≤◌, ◌⊎◌, inl, inr, ℕ, zero, suc, ℤ, true, false, List, ap, arith, refl, subst, sym}
+use Rattle.std.proofs.Common.{◌≡◌, ◌∙◌, ◌<◌, inl, inr, ℕ, zero, suc, ℤ, true, false, List, ap, arith, refl, subst, sym}
 use Rattle.std.specs.Prelude.{Option, Some}
 use Rattle.std.proofs.lemmas.Bool.{cases_lt}
 use Rattle.term_core.specs.declared.rules.Rule.{Rule}
@@ -14,7 +14,7 @@ use Rattle.report.specs.declared.fault_lines.Fault.TheVariants as fault
 use Rattle.contract_cli.specs.CheckText.{AreAllAccepted}
 use Rattle.contract_cli.specs.Commands.{FlowsAsked}
 use Rattle.contract_cli.specs.FlowLists.{IsDayFault, IsMissingOf, IsRefusedOf, IsRowFault}
-use Rattle.contract_cli.specs.FlowsText.{AreAllFixed, AreFixings, AreLinesAsked, CanGo, IsFirstMissing, IsFlowsText, IsLastDay, IsOutOfRange, StopsFlows, name_unknown, day_out, not_accepted, row_refused, read_missing, WordsFit, label_name}
+use Rattle.contract_cli.specs.FlowsText.{AreAllFixed, AreFixings, AreLinesAsked, CanGo, IsFirstMissing, IsFlowsText, IsLastDay, IsOutOfRange, StopsFlows, name_unknown, day_out, not_accepted, row_refused, read_missing, label_name}
 use Rattle.contract_cli.specs.Statuses.{status_of}
 use Rattle.contract_cli.specs.Used.{is_known, used}
 use Rattle.contract_cli.specs.Using.{IsUnknownName}

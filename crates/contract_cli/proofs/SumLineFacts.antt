@@ -1,5 +1,5 @@
 -- The sum of the flow tables of accepted contracts is the table of what they pay together.
-use Rattle.std.proofs.Common.{◌≡◌, ◌∙◌, ◌≤◌, ◌^◌, ◌+◌, ◌-ℤ◌, ◌+ℤ◌, ◌≤ℤ◌, ℕ, suc, ℤ, pos, true, List, [], ◌∷◌, map, length, ap, arith, refl, subst, sym, unsigned_abs}
+use Rattle.std.proofs.Common.{◌≡◌, ◌≤◌, ◌^◌, ◌-ℤ◌, ◌+ℤ◌, ℕ, suc, ℤ, pos, true, List, [], ◌∷◌, map, length, ap, arith, refl, subst, sym, unsigned_abs}
 use Rattle.std.specs.Prelude.{All, None, codes}
 use Rattle.std.proofs.lemmas.Int.{ints}
 use Rattle.std.proofs.lemmas.List.Elements.{All-cons, All-head, All-nil, All-tail, All-weaker}
@@ -13,13 +13,13 @@ use Rattle.term_core.proofs.FlowFacts.{amounts_opposite}
 use Rattle.interval_check.specs.Within.{KeepsLimits}
 use Rattle.interval_check.proofs.GuaranteeFacts.{amounts_add_up_to_total}
 use Rattle.flow_eval.specs.FlowAnswers.{AreKnownFlows}
-use Rattle.flow_eval.specs.Tables.{IsDueRow, IsPaid, IsTable, flow_in, paid_by}
+use Rattle.flow_eval.specs.Tables.{IsDueRow, IsPaid, flow_in, paid_by}
 use Rattle.flow_eval.specs.declared.flow_table.FlowRow.{FlowRow}
 use Rattle.flow_eval.specs.declared.flow_table.FlowTable.{FlowTable}
 use Rattle.report.specs.SumTables.{AreTablesOf, IsSummable, IsSumOf}
 use Rattle.contract_cli.specs.CheckText.{AreAllAccepted}
-use Rattle.contract_cli.specs.FlowLists.{AppendsLines, AreTables, LinesKnown}
-use Rattle.contract_cli.specs.FlowsText.{AreAllFixed, AreLines, AreSumLines, missing_of, paid_together}
+use Rattle.contract_cli.specs.FlowLists.{AreTables, LinesKnown}
+use Rattle.contract_cli.specs.FlowsText.{AreAllFixed, AreLines, missing_of}
 use Rattle.contract_cli.proofs.CheckFacts.{total_small}
 
 same_day : (n : ℤ) → n ≡ n +ℤ pos 0

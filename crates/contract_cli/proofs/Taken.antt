@@ -1,13 +1,13 @@
 -- The answer of a parse, by what the command line crate states of it.
-use Rattle.std.proofs.Common.{◌≡◌, ◌∙◌, List, [], ◌∷◌, Bool, true, false, ◌&&◌, Option, Some, None, Result, refl, sym, ap, inl, inr}
-use Rattle.clap.specs.Words.{App, Row, Text, is_simple, is_simple_and_free, fault_of, matches_of, rows_of, first_value, first_of, kind_of}
+use Rattle.std.proofs.Common.{◌≡◌, ◌∙◌, List, [], ◌∷◌, Bool, true, false, ◌&&◌, Some, None, refl, sym, ap, inl, inr}
+use Rattle.clap.specs.Words.{App, Text, is_simple, is_simple_and_free, fault_of, matches_of, rows_of, first_value, first_of, kind_of}
 use Rattle.clap.specs.Kinds.{Kinds, IsAmong, HasKind}
 use Rattle.clap.specs.declared.parser.matches.Found.{Found}
 use Rattle.clap.specs.declared.error.kind.ErrorKind.{ErrorKind}
 use Rattle.clap.specs.declared.error.kind.ErrorKind.TheVariants as kind
 use Rattle.clap.specs.declared.error.Error.{Error}
 use Rattle.clap.proofs.WalkLemmas.{first_value-rows}
-use Rattle.contract_cli.specs.Arguments.{is_taken, taken}
+use Rattle.contract_cli.specs.Arguments.{taken}
 
 both_true : (a b : Bool) → (a && b) ≡ true → a ≡ true
 both_true true b h = refl

@@ -1,11 +1,10 @@
 -- The contracts that a command uses: one after another from the portfolio's, and each can be tried.
 use Rattle.std.proofs.Common.{◌≡◌, ◌∙◌, ◌≤◌, ◌<◌, ◌^◌, ◌+◌, ℕ, suc, Bool, true, false, cond, ◌||◌, List, [], ◌∷◌, ◌++◌, drop, get_or, map, length, ap, arith, refl, subst, sym}
-use Rattle.std.specs.Prelude.{All, Option, Some, None, is_some}
+use Rattle.std.specs.Prelude.{All, Option}
 use Rattle.std.specs.List.{filter, list_any, sum_by}
-use Rattle.std.specs.Str.{bytes_eq}
 use Rattle.std.proofs.lemmas.List.{append_assoc, drop_all, drop_more, get_or-map, length-map, map-append}
 use Rattle.std.proofs.lemmas.List.Sums.{sum_by-cons}
-use Rattle.std.proofs.lemmas.List.Elements.{All-cons, All-head, All-map, All-nil, All-tail}
+use Rattle.std.proofs.lemmas.List.Elements.{All-cons, All-head, All-nil, All-tail}
 use Rattle.term_core.specs.declared.name.Name.{Name}
 use Rattle.term_core.specs.declared.terms.Contr.{Contr}
 use Rattle.term_core.specs.declared.terms.Days.{Days}
@@ -14,13 +13,13 @@ use Rattle.term_core.specs.Books.{Book}
 use Rattle.term_core.specs.Declarations.{Declarations}
 use Rattle.term_core.specs.Terms.{Contract, Zero, Pay, Both, Scale, After, Let, Within, contract}
 use Rattle.term_core.specs.Sizes.{height_of_contract, nodes_of_contract}
-use Rattle.term_core.specs.WellFormed.{HasOnlyNumbers, IsClosed, IsNumber}
+use Rattle.term_core.specs.WellFormed.{HasOnlyNumbers, IsNumber}
 use Rattle.term_core.specs.Instances.{HasNumbers, declared_numbers, instance, with_number}
 use Rattle.term_core.proofs.InstanceFacts.{defaults_suit, instances_have_numbers, instances_well_formed, settings_suit}
 use Rattle.contract_parse.specs.Texts.{Text}
 use Rattle.contract_parse.proofs.TextClosed.{contracts_closed}
 use Rattle.contract_parse.proofs.TextSizes.{nodes_fit}
-use Rattle.contract_cli.specs.Used.{at_defaults, is_asked, is_known, used}
+use Rattle.contract_cli.specs.Used.{at_defaults, is_asked}
 use Rattle.contract_cli.specs.Using.{IsSound, IsTriable, entries_of, entry_of, trees}
 use Rattle.contract_cli.specs.declared.used.Used.{Used}
 

@@ -1,61 +1,77 @@
 -- Worked rows of words: an option before, between and behind files, in one word or in two, and given twice; what stands
 -- behind `--`; plain words that look like options; days and names of no form; help.
-use Rattle.std.proofs.Common.{◌≡◌, ℕ, Bool, true, false, List, [], ◌∷◌, Option, Some, None, codes, refl}
+use Rattle.std.proofs.Common.{◌≡◌, Bool, true, false, [], ◌∷◌, Option, Some, None, codes, refl}
 use Rattle.clap.specs.Words.{Text}
 use Rattle.clap.proofs.OnLiterals.{clap_on_literals}
 use Rattle.term_core.specs.Dates.{epoch_day_of, parts_of, two_of}
 use Rattle.fixing_files.specs.Days.{day_named, day_of}
 use Rattle.contract_cli.specs.Arguments.{taken}
-use Rattle.contract_cli.specs.Commands.{Asked, Check, Flows}
-use Rattle.contract_cli.specs.Words.{command_of}
+use Rattle.contract_cli.specs.Commands.{Flows, Request, OnFiles, Sample}
+use Rattle.contract_cli.specs.Words.{request_of}
 
-abbrev flows : Text → Option Text → Option Text → Bool → Option Asked
+abbrev flows : Text → Option Text → Option Text → Bool → Option Request
 flows file fixings contract net =
-    Some (Flows (record { portfolio = file; fixings = fixings; until = None; contract = contract; net = net }))
+    Some (OnFiles (Flows (record { portfolio = file; fixings = fixings; until = None; contract = contract; net = net })))
 
-day_in_one_word : command_of (codes "flows" ∷ codes "--until=89" ∷ codes "--" ∷ codes "loan.txt" ∷ []) ≡ Some (Flows (record { portfolio = codes "loan.txt"; fixings = None; until = Some (codes "89"); contract = None; net = false }))
+day_in_one_word : request_of (codes "flows" ∷ codes "--until=89" ∷ codes "--" ∷ codes "loan.txt" ∷ []) ≡ Some (OnFiles (Flows (record { portfolio = codes "loan.txt"; fixings = None; until = Some (codes "89"); contract = None; net = false })))
 unfolding clap_on_literals taken day_of day_named two_of parts_of epoch_day_of
 day_in_one_word = refl
 
-no_civil_date : command_of (codes "flows" ∷ codes "a" ∷ codes "--until" ∷ codes "2024-02-30" ∷ []) ≡ None
+no_civil_date : request_of (codes "flows" ∷ codes "a" ∷ codes "--until" ∷ codes "2024-02-30" ∷ []) ≡ None
 unfolding clap_on_literals taken day_of day_named two_of parts_of epoch_day_of
 no_civil_date = refl
 
-files_in_order : command_of (codes "flows" ∷ codes "--net" ∷ codes "a" ∷ codes "--contract=c" ∷ codes "b" ∷ []) ≡ flows (codes "a") (Some (codes "b")) (Some (codes "c")) true
+files_in_order : request_of (codes "flows" ∷ codes "--net" ∷ codes "a" ∷ codes "--contract=c" ∷ codes "b" ∷ []) ≡ flows (codes "a") (Some (codes "b")) (Some (codes "c")) true
 unfolding clap_on_literals taken
 files_in_order = refl
 
-behind_dashes : command_of (codes "flows" ∷ codes "--" ∷ codes "--net" ∷ codes "-x" ∷ []) ≡ flows (codes "--net") (Some (codes "-x")) None false
+behind_dashes : request_of (codes "flows" ∷ codes "--" ∷ codes "--net" ∷ codes "-x" ∷ []) ≡ flows (codes "--net") (Some (codes "-x")) None false
 unfolding clap_on_literals taken
 behind_dashes = refl
 
-plain_words : command_of (codes "flows" ∷ codes "-" ∷ [] ∷ []) ≡ flows (codes "-") (Some []) None false
+plain_words : request_of (codes "flows" ∷ codes "-" ∷ [] ∷ []) ≡ flows (codes "-") (Some []) None false
 unfolding clap_on_literals taken
 plain_words = refl
 
-given_twice : command_of (codes "flows" ∷ codes "a" ∷ codes "--contract" ∷ codes "c" ∷ codes "--contract" ∷ codes "c" ∷ []) ≡ None
+given_twice : request_of (codes "flows" ∷ codes "a" ∷ codes "--contract" ∷ codes "c" ∷ codes "--contract" ∷ codes "c" ∷ []) ≡ None
 unfolding clap_on_literals taken
 given_twice = refl
 
-no_help : command_of (codes "check" ∷ codes "--help" ∷ []) ≡ None
+no_help : request_of (codes "check" ∷ codes "--help" ∷ []) ≡ None
 unfolding clap_on_literals taken
 no_help = refl
 
-no_version : command_of (codes "-V" ∷ []) ≡ None
+no_version : request_of (codes "-V" ∷ []) ≡ None
 no_version = refl
 
-no_option : command_of (codes "check" ∷ codes "a" ∷ codes "--until" ∷ codes "1" ∷ []) ≡ None
+no_option : request_of (codes "check" ∷ codes "a" ∷ codes "--until" ∷ codes "1" ∷ []) ≡ None
 unfolding clap_on_literals taken
 no_option = refl
 
-no_short_form : command_of (codes "flows" ∷ codes "-x" ∷ []) ≡ None
+no_short_form : request_of (codes "flows" ∷ codes "-x" ∷ []) ≡ None
 unfolding clap_on_literals taken
 no_short_form = refl
 
-reserved_name : command_of (codes "flows" ∷ codes "a" ∷ codes "--contract" ∷ codes "pay" ∷ []) ≡ None
+reserved_name : request_of (codes "flows" ∷ codes "a" ∷ codes "--contract" ∷ codes "pay" ∷ []) ≡ None
 unfolding clap_on_literals taken
 reserved_name = refl
 
-empty_name : command_of (codes "flows" ∷ codes "a" ∷ codes "--contract=" ∷ []) ≡ None
+empty_name : request_of (codes "flows" ∷ codes "a" ∷ codes "--contract=" ∷ []) ≡ None
 unfolding clap_on_literals taken
 empty_name = refl
+
+zeros_before : request_of (codes "sample" ∷ codes "00000000010000" ∷ []) ≡ Some (Sample 10_000)
+unfolding clap_on_literals taken
+zeros_before = refl
+
+one_too_many : request_of (codes "sample" ∷ codes "10001" ∷ []) ≡ None
+unfolding clap_on_literals taken
+one_too_many = refl
+
+no_contracts : request_of (codes "sample" ∷ codes "0" ∷ []) ≡ None
+unfolding clap_on_literals taken
+no_contracts = refl
+
+no_digits : request_of (codes "sample" ∷ [] ∷ []) ≡ None
+unfolding clap_on_literals taken
+no_digits = refl

@@ -1,12 +1,12 @@
 -- What words mean to a command that is declared by its name and its arguments: the matches that the crate `clap` states
 -- for it, where it takes the words.
-use Rattle.std.specs.Prelude.{◌≡◌, ℕ, Bool, true, false, List, [], ◌∷◌, Option, Some, None, Result, Ok, Err, codes, fold, if◌then◌else◌}
+use Rattle.std.specs.Prelude.{◌≡◌, Bool, true, false, List, [], ◌∷◌, Option, Some, None, Result, Ok, Err, codes, fold, if◌then◌else◌}
 use Rattle.std.specs.Str.{bytes_eq}
 use Rattle.clap.specs.Words.{App, Kinds, Row, Rule, Text, fault_of, first_of, first_value, found_of, matches_of, new_app, new_rule, with_rule}
 use Rattle.clap.specs.Simple.{on_top}
 use Rattle.clap.specs.declared.builder.ArgAction.TheVariants.{Set, SetTrue}
 use Rattle.clap.specs.declared.parser.matches.ArgMatches.{ArgMatches}
-use Rattle.contract_cli.specs.Commands.{Asked}
+use Rattle.contract_cli.specs.Commands.{Request}
 use Rattle.contract_cli.specs.declared.arguments.Argument.{Argument}
 use Rattle.contract_cli.specs.declared.arguments.Argument.TheVariants.{Required, Optional, Valued, Flag}
 use Rattle.contract_cli.specs.declared.arguments.WordsErr.{WordsErr}
@@ -69,14 +69,14 @@ is_set (Some value) = bytes_eq value (codes "true")
 
 -- what a command asks for, by what it finds under the name of each argument, or nothing where words are not of their form
 abbrev pub Reading : Type 0
-Reading = (Text → Option Text) → Option Asked
+Reading = (Text → Option Text) → Option Request
 
-abbrev pub read_rows : Reading → Option (List Row) → Option Asked
+abbrev pub read_rows : Reading → Option (List Row) → Option Request
 read_rows reading None = None
 read_rows reading (Some rows) = reading (λ name. first_of name rows)
 
 -- what the words ask of a command
-abbrev pub asked_of : App → Reading → List Text → Option Asked
+abbrev pub asked_of : App → Reading → List Text → Option Request
 asked_of app reading words = read_rows reading (taken app words)
 
 -- an answer is what is wanted, and `Usage` comes exactly where there is none

@@ -1,6 +1,6 @@
--- What the commands are asked for: `check` of a portfolio's file; or `flows` of a portfolio's file, over the fixings of
+-- What the commands are asked for. Those on files: `check` of a portfolio's file; or `flows` of a portfolio's file, over the fixings of
 -- another file where one is named, up to a day where a word gives one, of one contract where its name is given, and with
--- the flows of all contracts summed where that is asked.
+-- the flows of all contracts summed where that is asked. And `sample` of a number of contracts, which has no file.
 use Rattle.std.specs.Prelude.{ℕ, Bool, List, Option, None}
 
 pub record FlowsAsked : Type 0 where
@@ -13,6 +13,11 @@ pub record FlowsAsked : Type 0 where
 pub data Asked : Type 0 where
   Check : List ℕ → Asked
   Flows : FlowsAsked → Asked
+
+-- what words ask for: a command on files, or the summary of the sample of so many contracts
+pub data Request : Type 0 where
+  OnFiles : Asked → Request
+  Sample : ℕ → Request
 
 -- the file of the portfolio
 abbrev pub portfolio_file : Asked → List ℕ

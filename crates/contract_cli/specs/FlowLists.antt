@@ -1,5 +1,5 @@
 -- What the parts of `flows` answer, each that of its own or the fault that stops the command.
-use Rattle.std.specs.Prelude.{◌≡◌, ◌⊎◌, ◌≤◌, ◌≤ℤ◌, ℕ, ℤ, pos, Bool, List, [], ◌∷◌, ◌++◌, Option, Some, None, Result, Ok, Err, length, true, ◌&&◌, int_le, if◌then◌else◌}
+use Rattle.std.specs.Prelude.{◌≡◌, ◌⊎◌, ◌≤◌, ◌≤ℤ◌, ℕ, ℤ, pos, Bool, List, [], ◌∷◌, ◌++◌, Option, Some, None, Result, Ok, Err, length, ◌&&◌, int_le, if◌then◌else◌}
 use Rattle.std.specs.Global.{Vec}
 use Rattle.term_core.specs.declared.name.Name.{Name}
 use Rattle.term_core.specs.declared.rules.Rule.{Rule}
@@ -17,10 +17,8 @@ use Rattle.flow_eval.specs.declared.flow_table.FlowRow.{FlowRow}
 use Rattle.flow_eval.specs.declared.flow_table.FlowTable.{FlowTable}
 use Rattle.report.specs.declared.fault_lines.Fault.{Fault}
 use Rattle.report.specs.declared.fault_lines.Fault.TheVariants as fault
-use Rattle.contract_cli.specs.Commands.{Asked, Check, Flows}
 use Rattle.contract_cli.specs.FlowsText.{AreAllFixed, AreAllLines, AreFixings, AreLines, AreLinesAsked, IsFirstMissing, IsFirstNotAccepted, IsLastDay, IsOutOfRange, greatest_day, label_name, missing_of}
 use Rattle.contract_cli.specs.Stopping.{AnswersBy}
-use Rattle.contract_cli.specs.Words.{is_day}
 use Rattle.contract_cli.specs.declared.stop.Stop.{Stop}
 use Rattle.contract_cli.specs.declared.stop.Stop.TheVariants as stop
 
@@ -28,16 +26,6 @@ use Rattle.contract_cli.specs.declared.stop.Stop.TheVariants as stop
 abbrev pub IsShortTable : Option (List ℕ) → Type 0
 IsShortTable None = Unit {0}
 IsShortTable (Some bytes) = length bytes ≤ 16_777_216
-
--- a word for a day, where there is one, has the form of a day
-abbrev pub HasDayForm : Option (List ℕ) → Type 0
-HasDayForm None = Unit {0}
-HasDayForm (Some word) = is_day word ≡ true
-
--- the same of a command
-abbrev pub DayHasForm : Asked → Type 0
-DayHasForm (Check file) = Unit {0}
-DayHasForm (Flows flows) = HasDayForm flows.until
 
 -- ---- the last day
 

@@ -10,14 +10,15 @@ use Rattle.fixing_files.specs.Tables.{IsFirstFault, table_of}
 use Rattle.fixing_files.specs.declared.faults.RowFault.{RowFault}
 use Rattle.report.specs.FaultLines.{fault_text}
 use Rattle.report.specs.declared.fault_lines.Fault.TheVariants as fault
+use Rattle.sample.specs.Summary.{IsSummary}
 use Rattle.contract_cli.specs.Answers.{Answers, Inputs, IsNoText}
 use Rattle.contract_cli.specs.Answering.{AreShort}
 use Rattle.contract_cli.specs.CheckText.{AreAllAccepted, IsChecked}
 use Rattle.contract_cli.specs.Commands.{Asked, Check, Flows, FlowsAsked, fixings_file, portfolio_file}
 use Rattle.contract_cli.specs.FlowsText.{AreAllFixed, AreFixings, CanGo, IsFlowsText, IsOutOfRange, WordsFit}
-use Rattle.contract_cli.specs.Runs.{Edge, FilesSeen, IsNext, Meets, Names, WritesAll, WritesNothing, longest_file}
+use Rattle.contract_cli.specs.Runs.{NamesSample, Edge, FilesSeen, IsNext, Meets, Names, WritesAll, WritesNothing, longest_file}
 use Rattle.contract_cli.specs.Used.{is_known, used}
-use Rattle.contract_cli.specs.Words.{command_of}
+use Rattle.contract_cli.specs.Words.{request_of}
 use Rattle.contract_cli.specs.declared.status.Status.{Status}
 use Rattle.contract_cli.specs.declared.status.Status.TheVariants as status
 
@@ -125,7 +126,7 @@ CauseOnBook _ asked table b = ⊥
 -- words of no form are a fault of usage, and no other words are
 abbrev pub UsageIsExact : Type 0
 UsageIsExact =
-    (words : List (List ℕ)) (edge : Edge) (s : Status) → Meets words edge s → WritesSucceed edge → ComesExactlyWhere (command_of words ≡ None) status.Usage s
+    (words : List (List ℕ)) (edge : Edge) (s : Status) → Meets words edge s → WritesSucceed edge → ComesExactlyWhere (request_of words ≡ None) status.Usage s
 
 -- a read is at fault only where the count of a named file rose, whose place is the line's
 pub record ReadFaultIs (words : List (List ℕ)) (edge : Edge) : Type 0 where
@@ -179,6 +180,10 @@ abbrev pub AnswersAreOne : Type 0
 AnswersAreOne =
     (asked : Asked) (inputs : Inputs) (s t : Status) (one other : List ℕ) → Answers asked inputs s one → Answers asked inputs t other → (s ≡ t) × (one ≡ other)
 
+-- the sample of so many contracts has one summary
+abbrev pub SummariesAreOne : Type 0
+SummariesAreOne = (count : ℕ) (one other : List ℕ) → IsSummary count one → IsSummary count other → one ≡ other
+
 -- words of no form have just the line of that fault
 abbrev pub UsageWritesItsLine : Type 0
 UsageWritesItsLine = (words : List (List ℕ)) (edge : Edge) → Meets words edge status.Usage → WritesAll edge.sink (fault_text fault.Usage)
@@ -200,3 +205,19 @@ FlowsAreComplete =
     → Meets words edge s → IsReadWhole words edge (Flows flows) inputs → Text inputs.portfolio b → CanGo b flows inputs.fixings last fixings
     → ((text : List ℕ) × (s ≡ status.Done) × IsFlowsText b flows inputs.fixings text × WritesAll edge.sink text)
     ⊎ ((s ≡ status.NoMemory) × WritesNothing edge.sink)
+
+-- `sample` ends with its summary written, or with a failed write, or for want of memory; it has no other status
+pub data SampleEnds (edge : Edge) (count : ℕ) (s : Status) : Type 0 where
+  summarized : s ≡ status.Done → (text : List ℕ) → IsSummary count text → WritesAll edge.sink text → SampleEnds edge count s
+  unwritten : s ≡ status.WriteFault → Rose edge.sink.faults_before edge.sink.faults_after → SampleEnds edge count s
+  no_memory : s ≡ status.NoMemory → WritesNothing edge.sink → SampleEnds edge count s
+
+abbrev pub SampleHasThreeEnds : Type 0
+SampleHasThreeEnds = (words : List (List ℕ)) (edge : Edge) (s : Status) (count : ℕ) → Meets words edge s → NamesSample words count → SampleEnds edge count s
+
+-- `sample` where no write failed: its summary is written
+abbrev pub SampleIsComplete : Type 0
+SampleIsComplete =
+    (words : List (List ℕ)) (edge : Edge) (s : Status) (count : ℕ)
+    → Meets words edge s → NamesSample words count → WritesSucceed edge
+    → ((text : List ℕ) × (s ≡ status.Done) × IsSummary count text × WritesAll edge.sink text) ⊎ ((s ≡ status.NoMemory) × WritesNothing edge.sink)

@@ -1,17 +1,18 @@
 -- How a run ends. A run makes its whole text first, which for a fault is the fault's line, and then writes it: so it ends
 -- with the status of its text, which is written whole; or with a failed write of that text; or it lacks memory and has
 -- written nothing. The refusals come in this order: usage; file by file a failed read and a file that is too long; and then
--- those of the command on the files' bytes.
+-- those of the command on the files' bytes. A run of `sample` reads no file.
 use Rattle.std.specs.Prelude.{◌≡◌, ◌≢◌, ◌≤◌, ◌<◌, ℕ, List, Option, Some, None, IfSome, IsSome, length, take}
 use Rattle.std.specs.Io.KnownBytes.{Appends, Keeps}
 use Rattle.edge_io.specs.Counts.{Rose}
 use Rattle.report.specs.FaultLines.{fault_text}
 use Rattle.report.specs.declared.fault_lines.Fault.{Fault}
 use Rattle.report.specs.declared.fault_lines.Fault.TheVariants as fault
+use Rattle.sample.specs.Summary.{IsSummary}
 use Rattle.contract_cli.specs.Answers.{Answers, Inputs}
-use Rattle.contract_cli.specs.Commands.{Asked, fixings_file, portfolio_file}
+use Rattle.contract_cli.specs.Commands.{Asked, OnFiles, Sample, fixings_file, portfolio_file}
 use Rattle.contract_cli.specs.Statuses.{status_of}
-use Rattle.contract_cli.specs.Words.{command_of}
+use Rattle.contract_cli.specs.Words.{request_of}
 use Rattle.contract_cli.specs.declared.status.Status.{Status}
 use Rattle.contract_cli.specs.declared.status.Status.TheVariants as status
 
@@ -37,9 +38,13 @@ pub record Edge : Type 0 where
   pub files : FilesSeen
   pub sink : SinkLeft
 
--- the words ask for this
+-- the words ask for this of files
 abbrev pub Names : List (List ℕ) → Asked → Type 0
-Names words asked = command_of words ≡ Some asked
+Names words asked = request_of words ≡ Some (OnFiles asked)
+
+-- the words ask for the summary of the sample of so many contracts
+abbrev pub NamesSample : List (List ℕ) → ℕ → Type 0
+NamesSample words count = request_of words ≡ Some (Sample count)
 
 -- ---- the files of a command
 
@@ -53,7 +58,7 @@ pub record CountsOnlyNamed (asked : Asked) (files : FilesSeen) : Type 0 where
   pub later : (file : List ℕ) → files.faults_before file ≤ files.faults_after file
   pub others : (file : List ℕ) → IsUnnamed asked file → IsSome (files.contents file) → files.faults_after file ≡ files.faults_before file
 
--- the same of the command of words: words of no command name no file
+-- the same of the command of words: words of no command, and of `sample`, name no file
 pub record CountsOnlyBy (words : List (List ℕ)) (files : FilesSeen) : Type 0 where
   pub later : (file : List ℕ) → files.faults_before file ≤ files.faults_after file
   pub others : (file : List ℕ) → ((asked : Asked) → Names words asked → IsUnnamed asked file) → IsSome (files.contents file) → files.faults_after file ≡ files.faults_before file
@@ -104,18 +109,19 @@ WritesPart sink text =
 
 -- what stops a run that has not the bytes of its files: words of no form, or a file that was not read
 pub data StopsRun (words : List (List ℕ)) (files : FilesSeen) (f : Fault) : Type 0 where
-  no_form : command_of words ≡ None → f ≡ fault.Usage → StopsRun words files f
+  no_form : request_of words ≡ None → f ≡ fault.Usage → StopsRun words files f
   at_file :
       (asked : Asked) → Names words asked → (file : List ℕ) (place : ℕ) → IsNext files asked file place → FileFault files file place f
       → StopsRun words files f
 
 -- why a run has a status, and the text that it writes then: the line of a fault; or the named files were read, and this is
--- what the command answers to their bytes
+-- what the command answers to their bytes; or the summary of the sample
 pub data Cause (words : List (List ℕ)) (files : FilesSeen) (s : Status) (text : List ℕ) : Type 0 where
   stopped : (f : Fault) → StopsRun words files f → s ≡ status_of f → text ≡ fault_text f → Cause words files s text
   answered :
       (asked : Asked) → Names words asked → (inputs : Inputs) → WereRead files asked inputs → Answers asked inputs s text
       → Cause words files s text
+  sampled : (count : ℕ) → NamesSample words count → s ≡ status.Done → IsSummary count text → Cause words files s text
 
 -- how a run ends with a status
 pub data Meets (words : List (List ℕ)) (edge : Edge) (s : Status) : Type 0 where

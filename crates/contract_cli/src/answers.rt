@@ -4,18 +4,20 @@ ghost use Rattle.std.specs.Prelude.{◌≡◌, ◌≤◌, length, option_map, If
 ghost use Rattle.std.specs.List.{All};
 ghost use Rattle.contract_parse.specs.Texts.{Text};
 ghost use Rattle.report.specs.FaultLines.{fault_text};
+ghost use Rattle.sample.specs.Summary.{IsSummary};
 ghost use Rattle.term_core.specs.Books.{book};
 ghost use Rattle.contract_cli.specs.Answering.{AnswersBytes, AreShort, inputs_by};
 ghost use Rattle.contract_cli.specs.Answers.{IsBadText};
 ghost use Rattle.contract_cli.specs.CheckText.{IsChecked};
-ghost use Rattle.contract_cli.specs.FlowLists.{DayHasForm};
 ghost use Rattle.contract_cli.specs.Statuses.{status_of};
 ghost use Rattle.contract_cli.specs.Stopping.{AnswersBy};
 ghost use Rattle.contract_cli.specs.Using.{IsSound};
 ghost use Rattle.contract_cli.specs.Words.{asked_by};
+ghost use Rattle.contract_cli.specs.declared.status.Status.TheVariants.{Done as done};
 
 use crate::check_text::check_text;
 use crate::flows_text::flows_text;
+use crate::sample_size::SampleSize;
 use crate::status::{Status, status_of};
 use crate::stop::Stop;
 use crate::used::used_contracts;
@@ -23,6 +25,7 @@ use crate::words::Command;
 use contract_parse::{ParseErr, parse_portfolio};
 use decimal::NoMemory;
 use report::{Fault, fault_line};
+use sample::summary;
 use std::alloc::Global;
 use term_core::Portfolio;
 
@@ -81,6 +84,18 @@ fn check_answer(alloc: Global, portfolio: &Portfolio) -> Result<Answer, NoMemory
     })
 }
 
+/// The summary of the sample of so many contracts.
+pub fn sample_answer(alloc: Global, size: SampleSize) -> Result<Answer, NoMemory>
+    ensures status { IfOk result (λ answer. answer.status ≡ done) }
+    ensures text { IfOk result (λ answer. IsSummary size.contracts answer.text.items) }
+{
+    let text = summary(alloc, size.contracts)?;
+    Ok(Answer {
+        status: Status::Done,
+        text,
+    })
+}
+
 fn lent(table: &Option<Vec<u8>>) -> Option<&[u8]>
     ensures { option_map (λ bytes. bytes.now) result ≡ option_map (λ bytes. bytes.items) table.now }
 {
@@ -92,8 +107,7 @@ fn lent(table: &Option<Vec<u8>>) -> Option<&[u8]>
 
 /// What a command answers to the bytes of its files.
 pub fn answer_bytes(alloc: Global, command: &Command<'_>, inputs: &Inputs) -> Result<Answer, Stop>
-    requires until { DayHasForm (asked_by command.now) }
-    requires short { AreShort (inputs_by inputs.now) }
+    requires { AreShort (inputs_by inputs.now) }
     ensures { AnswersBytes (asked_by command.now) (inputs_by inputs.now) result }
 {
     let portfolio = portfolio_of(alloc, &inputs.portfolio)?;

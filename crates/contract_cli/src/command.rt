@@ -7,11 +7,11 @@ ghost use Rattle.contract_cli.specs.Runs.{Cause, CountsOnlyBy, CountsOnlyNamed, 
 ghost use Rattle.contract_cli.specs.Commands.{fixings_file, portfolio_file};
 ghost use Rattle.contract_cli.specs.Words.{asked_by};
 
-use crate::answers::{Answer, Inputs, answer_bytes, fault_answer};
+use crate::answers::{Answer, Inputs, answer_bytes, fault_answer, sample_answer};
 use crate::arguments::WordsErr;
 use crate::status::Status;
 use crate::stop::Stop;
-use crate::words::{Command, command_of};
+use crate::words::{Command, Request, request_of};
 use decimal::NoMemory;
 use edge_io::{Files, ReadErr, Sink, write_whole};
 use report::Fault;
@@ -85,13 +85,21 @@ fn answer_words<'a, F: Files>(
     ensures kept { (other : List ℕ) → F.contents files.new other ≡ F.contents files.old other }
     ensures counts { CountsOnlyBy (map (λ word. word.now) words.entry.now) (record { contents = F.contents files.old; faults_before = F.faults files.old; faults_after = F.faults files.new }) }
 {
-    let command = match command_of(alloc, words) {
-        Ok(command) => command,
+    let request = match request_of(alloc, words) {
+        Ok(request) => request,
         Err(WordsErr::Usage) => return Err(Stop::Fault(Fault::Usage)),
         Err(WordsErr::NoMemory) => return Err(Stop::NoMemory),
     };
-    let inputs = read_inputs(alloc, &command, files)?;
-    answer_bytes(alloc, &command, &inputs)
+    match request {
+        Request::OnFiles(command) => {
+            let inputs = read_inputs(alloc, &command, files)?;
+            answer_bytes(alloc, &command, &inputs)
+        }
+        Request::Sample(size) => {
+            let answer = sample_answer(alloc, size)?;
+            Ok(answer)
+        }
+    }
 }
 
 // The same, with the line of its fault for an answer that there is none of.
@@ -114,8 +122,8 @@ fn prepare<'a, F: Files>(
 /// Runs the command of the words, which are those of the command line without the program's name: reads the named
 /// files, each once and in order, makes the whole text, and writes it. `check PORT` writes a line for each contract, in
 /// their order, that says whether it is accepted; `flows PORT [FIX] [--until DAY] [--contract NAME] [--net]` writes the
-/// flow lines of all contracts, or of the named one, or of their sum, over the fixings, up to the day. What stops a command
-/// writes the line of its fault.
+/// flow lines of all contracts, or of the named one, or of their sum, over the fixings, up to the day; `sample NUMBER` reads no
+/// file and writes the summary of the sample of so many contracts. What stops a command writes the line of its fault.
 pub fn run<'a, F: Files, S: Sink>(
     alloc: Global,
     words: &'a [&'a str],

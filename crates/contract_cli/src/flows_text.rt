@@ -10,18 +10,19 @@ ghost use Rattle.term_core.specs.Terms.{contract};
 ghost use Rattle.flow_eval.specs.FlowAnswers.{AreKnownFlows};
 ghost use Rattle.flow_eval.specs.Tables.{IsDueRow};
 ghost use Rattle.contract_cli.specs.CheckText.{AreAllAccepted};
-ghost use Rattle.contract_cli.specs.FlowLists.{AnswersLines, AnswersTables, AppendsLines, CanBeLast, HasDayForm, HoldsFixings, IsDayFault, IsMissingOf, IsMissingOne, IsRefusedOf, IsRefusedOne, IsRowFault, IsShortTable, IsStopOf, LinesKnown, day_in_range};
+ghost use Rattle.contract_cli.specs.FlowLists.{AnswersLines, AnswersTables, AppendsLines, CanBeLast, HoldsFixings, IsDayFault, IsMissingOf, IsMissingOne, IsRefusedOf, IsRefusedOne, IsRowFault, IsShortTable, IsStopOf, LinesKnown, day_in_range};
 ghost use Rattle.contract_cli.specs.FlowsText.{IsFlowsText, StopsFlows, label_name};
 ghost use Rattle.contract_cli.specs.Stopping.{AnswersBy};
 ghost use Rattle.contract_cli.specs.Using.{IsSound, IsTriable, entries_of, entry_of};
 ghost use Rattle.contract_cli.specs.Words.{flows_by};
 
 use crate::check_text::verdict;
+use crate::day_words::DayWord;
 use crate::stop::Stop;
 use crate::used::{Used, know, used_contracts};
 use crate::words::Flows;
 use decimal::NoMemory;
-use fixing_files::{DayFault, Fixings, RowErr, day_of_text, read_fixings};
+use fixing_files::{DayFault, Fixings, RowErr, place_day, read_fixings};
 use flow_eval::{FlowErr, FlowTable, flows};
 use report::{Fault, flow_line, net};
 use std::alloc::Global;
@@ -40,17 +41,16 @@ fn day_in_range(decls: &Decls, day: Result<i64, DayFault>) -> Option<i64>
 }
 
 // The day of a word, or of none the last that there is.
-fn last_day(alloc: Global, decls: &Decls, until: Option<&str>) -> Result<i64, Stop>
-    requires { HasDayForm (option_map (λ word. word.now) until) }
-    ensures { AnswersBy (CanBeLast (declarations decls.now) (option_map (λ word. word.now) until.entry)) (IsDayFault (declarations decls.now) (option_map (λ word. word.now) until.entry)) result }
+fn last_day(alloc: Global, decls: &Decls, until: Option<DayWord<'_>>) -> Result<i64, Stop>
+    ensures { AnswersBy (CanBeLast (declarations decls.now) (option_map (λ day. day.word.now) until.entry)) (IsDayFault (declarations decls.now) (option_map (λ day. day.word.now) until.entry)) result }
 {
-    let Some(word) = until else {
+    let Some(asked) = until else {
         return Ok(LAST_DAY);
     };
-    match day_in_range(decls, day_of_text(decls.origin, word.as_bytes())) {
+    match day_in_range(decls, place_day(decls.origin, asked.named)) {
         Some(day) => Ok(day),
         None => {
-            let word = Name::new(alloc, word.as_bytes())?;
+            let word = Name::new(alloc, asked.word.as_bytes())?;
             Err(Stop::Fault(Fault::Day { word }))
         }
     }
@@ -260,7 +260,6 @@ pub fn flows_text(
 ) -> Result<Vec<u8>, Stop>
     requires sound { All (λ entry. IsSound (book portfolio.now).declarations entry.1) (book portfolio.now).contracts }
     requires few { length (book portfolio.now).contracts ≤ 16_777_216 }
-    requires until { HasDayForm (flows_by asked.now).until }
     requires table { IsShortTable (option_map (λ bytes. bytes.now) table) }
     ensures { AnswersBy (λ text. IsFlowsText (book portfolio.now) (flows_by asked.now) (option_map (λ bytes. bytes.now) table.entry) text.items) (StopsFlows (book portfolio.now) (flows_by asked.now) (option_map (λ bytes. bytes.now) table.entry)) result }
 {

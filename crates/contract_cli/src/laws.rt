@@ -1,6 +1,6 @@
 //! Laws of the causes of a run's status. Each is the contract of a function that does nothing.
 
-ghost use Rattle.contract_cli.specs.RunLaws.{AnswersAreOne, BadTextIsExact, CheckIsComplete, FlowsAreComplete, ReadFaultsHaveCauses, RefusalsAreExact, TooLongIsExact, UsageIsExact, UsageWritesItsLine, WriteFaultsHaveCauses};
+ghost use Rattle.contract_cli.specs.RunLaws.{AnswersAreOne, BadTextIsExact, CheckIsComplete, FlowsAreComplete, ReadFaultsHaveCauses, RefusalsAreExact, SampleHasThreeEnds, SampleIsComplete, SummariesAreOne, TooLongIsExact, UsageIsExact, UsageWritesItsLine, WriteFaultsHaveCauses};
 
 /// Usage comes exactly where the words are of no form, or memory is wanting, or the write of its line fails; and it has
 /// just that line.
@@ -33,14 +33,23 @@ pub fn refusals_are_exact()
     ensures { RefusalsAreExact }
 {}
 
-/// The bytes of the files of a command have one answer, a status and a text.
+/// The bytes of the files of a command have one answer, a status and a text; the sample of a number of contracts has one
+/// summary.
 pub fn answers_are_one()
-    ensures { AnswersAreOne }
+    ensures files { AnswersAreOne }
+    ensures sample { SummariesAreOne }
+{}
+
+/// `sample` ends with its summary written, with a failed write or for want of memory.
+pub fn sample_has_three_ends()
+    ensures { SampleHasThreeEnds }
 {}
 
 /// A run with nothing in its way has written the whole text of its command, or wants memory: `check` of any portfolio, and
-/// `flows` where names are known, the day is in range, contracts are accepted, rows are taken and reads are fixed.
+/// `flows` where names are known, the day is in range, contracts are accepted, rows are taken and reads are fixed, and
+/// `sample` of any number of contracts.
 pub fn run_is_complete()
     ensures check { CheckIsComplete }
     ensures flows { FlowsAreComplete }
+    ensures sample { SampleIsComplete }
 {}

@@ -5,8 +5,10 @@ mod answers;
 mod arguments;
 mod check_text;
 mod command;
+mod day_words;
 mod flows_text;
 pub mod laws;
+mod sample_size;
 mod status;
 mod stop;
 #[cfg(test)]
@@ -50,6 +52,8 @@ fn main(rt: HostRuntime) -> ExitCode {
         Err(error) if error.kind() == ErrorKind::OutOfMemory => {
             return ExitCode::from(Status::NoMemory.number());
         }
+        // A word that is not UTF-8 makes a faulty command line, as no word at all does.
+        Err(error) if error.kind() == ErrorKind::InvalidData => Vec::new(rt.alloc()),
         Err(_) => return ExitCode::from(NO_WORDS),
     };
     let words = match lent(rt.alloc(), &words) {

@@ -260,6 +260,13 @@ fn prints_what_is_asked_for(rt: HostRuntime) -> Result<(), Fail> {
             output: b"b,0,B,A,EUR,2.00\n",
             status: Status::Done,
         },
+        Asked {
+            text: b"portfolio 1; amounts 2; party A, B; asset EUR;
+contract a = scale(5.00, pay(EUR, A, B)); contract b = scale(5.00, pay(EUR, B, A));",
+            words: ["--net", "--until", "0"],
+            output: b"",
+            status: Status::Done,
+        },
         // No other contract is tried.
         Asked {
             text: HALF,
@@ -523,6 +530,21 @@ fn says_what_stops_flows(rt: HostRuntime) -> Result<(), Fail> {
             output: b"fault row file 2 record 3 conflict with 2\n",
             status: Status::BadRow,
         },
+        // Of two records that are refused, the first; a conflict names the first record of its place.
+        Fixed {
+            text: TOUCH,
+            table: b"label,day,value\nFX,5,1.0\nFX,0,1.0\nFX,5,1.1\nFX,0,9.0\n",
+            until: None,
+            output: b"fault row file 2 record 4 conflict with 2\n",
+            status: Status::BadRow,
+        },
+        Fixed {
+            text: TOUCH,
+            table: b"label,day,value\nFX,5,1.0\nFX,0,1.0\nFX,0,9.0\nFX,5,1.1\n",
+            until: None,
+            output: b"fault row file 2 record 4 bounds\n",
+            status: Status::BadRow,
+        },
         Fixed {
             text: TOUCH,
             table: b"label,day,value\nFX,0,2.0001\n",
@@ -614,5 +636,59 @@ fn says_which_of_two_files_fails(rt: HostRuntime) -> Result<(), Fail> {
     let mut out = MemorySink::new(alloc, Vec::new(alloc), ROOM, ROOM)?;
     assert!(rt; run(alloc, &words, &mut files, &mut out) == Status::TooLong);
     assert_eq!(rt; out.taken(), b"fault too long 2\n".as_slice());
+    Ok(())
+}
+
+// What `sample` prints, where no file can be read, and its status.
+#[derive(Clone, Copy)]
+struct Sampled {
+    number: &'static str,
+    output: &'static [u8],
+    status: Status,
+}
+
+#[test]
+fn summarizes_the_sample(rt: HostRuntime) -> Result<(), Fail> {
+    let alloc = rt.alloc();
+    let rows = [
+        Sampled {
+            number: "1",
+            output: b"contracts 1\nlines 1\nA,B,EUR,120.02\n",
+            status: Status::Done,
+        },
+        Sampled {
+            number: "2",
+            output: b"contracts 2\nlines 2\nA,B,EUR,240.04\n",
+            status: Status::Done,
+        },
+        Sampled {
+            number: "50",
+            output: b"contracts 50\nlines 50\nA,B,EUR,6315.62\n",
+            status: Status::Done,
+        },
+        Sampled {
+            number: "0",
+            output: b"fault usage\n",
+            status: Status::Usage,
+        },
+        Sampled {
+            number: "10001",
+            output: b"fault usage\n",
+            status: Status::Usage,
+        },
+    ];
+    for row in &rows {
+        let mut files = one_file(alloc, b"loan.txt", LOAN, &[1])?;
+        let mut out = MemorySink::new(alloc, Vec::new(alloc), ROOM, ROOM)?;
+        let status = run(alloc, &["sample", row.number], &mut files, &mut out);
+        assert_eq!(rt; out.taken(), row.output);
+        assert!(rt; status == row.status);
+    }
+    // On a sink that fails at once, the status is that of the write.
+    let mut files = one_file(alloc, b"loan.txt", LOAN, &[1])?;
+    let mut out = MemorySink::new(alloc, [1].to_vec(alloc)?, ROOM, ROOM)?;
+    let status = run(alloc, &["sample", "1"], &mut files, &mut out);
+    assert!(rt; out.taken().is_empty());
+    assert!(rt; status == Status::WriteFault);
     Ok(())
 }

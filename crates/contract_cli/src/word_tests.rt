@@ -44,7 +44,7 @@ fn print_all(rt: &impl Abort, alloc: Global, lines: &str, output: &[u8]) -> Resu
 
 // No command, or one that is given what it does not take. A file is named behind `--` where its name begins with `-`. An
 // option is given once, by its whole name and with a value; a day is one to nine digits or a civil date, and a name one of
-// the grammar of texts, of at most 64 bytes.
+// the grammar of texts, of at most 64 bytes. A sample has 1 to 10,000 contracts, and that in digits.
 const REFUSED: &str = "
 help
 --help
@@ -61,7 +61,9 @@ check|--version
 check|loan.txt|--help
 check|loan.txt|--until|89
 check|loan.txt|--net
+check|--
 flows
+flows|--
 flows|--help
 flows|loan.txt|fix.csv|fix.csv
 flows|-x
@@ -86,7 +88,23 @@ flows|loan.txt|--contract|1a
 flows|loan.txt|--contract|prêt
 flows|loan.txt|--contract|aaaaaaaaaaaaaaaaaaaaaaaaaaaaaaaaaaaaaaaaaaaaaaaaaaaaaaaaaaaaaaaaa
 flows|loan.txt|--net|--net
-flows|loan.txt|--net=true";
+flows|loan.txt|--net=true
+sample
+sample|
+sample|0
+sample|10001
+sample|4294967297
+sample|99999999999999999999999999999999999999999
+sample|x
+sample|1x
+sample|-1
+sample|+1
+sample|--|-1
+sample|1.0
+sample|1|2
+sample|--net|1
+sample|1|--net
+sample|--help";
 
 const CHECKED: &str = "check|loan.txt
 check|--|loan.txt
@@ -114,6 +132,11 @@ flows|--until=89|--|loan.txt
 flows|loan.txt|--until|000000089
 flows|loan.txt|--until|2024-04-13";
 
+const SAMPLE_OF_7: &str = "sample|7
+sample|007
+sample|00000000000000000000000000000000000000007
+sample|--|7";
+
 #[test]
 fn reads_words(rt: HostRuntime) -> Result<(), Fail> {
     let alloc = rt.alloc();
@@ -125,6 +148,8 @@ fn reads_words(rt: HostRuntime) -> Result<(), Fail> {
     let whole = b"loan,2024-01-15,A,B,EUR,100.00\nloan,2024-04-14,B,A,EUR,105.00\n";
     print_all(&rt, alloc, WHOLE, whole)?;
     print_all(&rt, alloc, "flows|help", b"fault read 1\n")?;
+    let sums = b"contracts 7\nlines 7\nA,B,EUR,840.14\n";
+    print_all(&rt, alloc, SAMPLE_OF_7, sums)?;
     let mut files = desk(alloc)?;
     let mut out = MemorySink::new(alloc, Vec::new(alloc), ROOM, ROOM)?;
     assert!(rt; run(alloc, &[], &mut files, &mut out) == Status::Usage);

@@ -3,11 +3,12 @@
 ghost use Rattle.std.specs.Prelude.{◌≡◌, map, option_map};
 ghost use Rattle.contract_parse.specs.NameTexts.{is_name_text};
 ghost use Rattle.contract_cli.specs.Arguments.{IsAnswer};
-ghost use Rattle.contract_cli.specs.Words.{IsCommandOf, asked_by, check_of, command_of, flows_of, has_form, if_given, is_day};
+ghost use Rattle.contract_cli.specs.Words.{IsRequestOf, check_of, flows_of, if_given, is_day, request_of, requested_by, sample_of};
 
 use crate::arguments::{Argument, WordsErr, is_set, matches_of};
+use crate::day_words::DayWord;
+use crate::sample_size::SampleSize;
 use contract_parse::is_name_text;
-use fixing_files::{DayFault, day_of_text};
 use std::alloc::Global;
 
 /// What the contracts of a portfolio's file pay: over the fixings of another file, up to a day, of one contract alone, and
@@ -16,7 +17,7 @@ use std::alloc::Global;
 pub struct Flows<'a> {
     pub portfolio: &'a str,
     pub fixings: Option<&'a str>,
-    pub until: Option<&'a str>,
+    pub until: Option<DayWord<'a>>,
     pub contract: Option<&'a str>,
     pub net: bool,
 }
@@ -30,21 +31,13 @@ pub enum Command<'a> {
     Flows(Flows<'a>),
 }
 
-// Digits or a date; a date has a day only where there is an origin.
-fn has_form(day: Result<i64, DayFault>) -> bool
-    ensures { result ≡ has_form day }
-{
-    match day {
-        Ok(_) | Err(DayFault::NoOrigin) => true,
-        Err(DayFault::NotDay) => false,
-    }
-}
-
-// The word has the form of a day: whether it names one is a matter of the portfolio's origin.
-fn is_day(word: &str) -> bool
-    ensures { result ≡ is_day word.now }
-{
-    !word.starts_with('-') && has_form(day_of_text(None, word.as_bytes()))
+/// What words ask for.
+#[derive(Clone, Copy)]
+pub enum Request<'a> {
+    /// A command on files.
+    OnFiles(Command<'a>),
+    /// Summarizes what the sample of so many contracts pays.
+    Sample(SampleSize),
 }
 
 // A word that has to be given.
@@ -55,12 +48,15 @@ fn given(word: Option<&str>) -> Result<&str, WordsErr>
 }
 
 // A day, if a word gives one.
-fn day_if_given(word: Option<&str>) -> Result<Option<&str>, WordsErr>
-    ensures { IsAnswer (option_map (λ word. word.now)) (if_given is_day (option_map (λ word. word.now) word.entry)) result }
+fn day_if_given(word: Option<&str>) -> Result<Option<DayWord<'_>>, WordsErr>
+    ensures { IsAnswer (option_map (λ day. day.word.now)) (if_given is_day (option_map (λ word. word.now) word.entry)) result }
 {
-    match word {
-        Some(text) if !is_day(text) => Err(WordsErr::Usage),
-        _ => Ok(word),
+    let Some(text) = word else {
+        return Ok(None);
+    };
+    match DayWord::read(text) {
+        Some(day) => Ok(Some(day)),
+        None => Err(WordsErr::Usage),
     }
 }
 
@@ -75,18 +71,18 @@ fn name_if_given(word: Option<&str>) -> Result<Option<&str>, WordsErr>
 }
 
 // `check PORTFOLIO`, by the words behind the first.
-fn check_of<'a>(alloc: Global, words: &'a [&'a str]) -> Result<Command<'a>, WordsErr>
-    ensures { IsAnswer asked_by (check_of (map (λ word. word.now) words.entry.now)) result }
+fn check_of<'a>(alloc: Global, words: &'a [&'a str]) -> Result<Request<'a>, WordsErr>
+    ensures { IsAnswer requested_by (check_of (map (λ word. word.now) words.entry.now)) result }
 {
     let arguments = [Argument::Required("portfolio")];
     let matches = matches_of(alloc, "check", &arguments, words)?;
     let portfolio = given(matches.get_str("portfolio"))?;
-    Ok(Command::Check { portfolio })
+    Ok(Request::OnFiles(Command::Check { portfolio }))
 }
 
 // `flows PORTFOLIO [FIXINGS] [--until DAY] [--contract NAME] [--net]`, by the words behind the first.
-fn flows_of<'a>(alloc: Global, words: &'a [&'a str]) -> Result<Command<'a>, WordsErr>
-    ensures { IsAnswer asked_by (flows_of (map (λ word. word.now) words.entry.now)) result }
+fn flows_of<'a>(alloc: Global, words: &'a [&'a str]) -> Result<Request<'a>, WordsErr>
+    ensures { IsAnswer requested_by (flows_of (map (λ word. word.now) words.entry.now)) result }
 {
     let arguments = [
         Argument::Required("portfolio"),
@@ -99,19 +95,32 @@ fn flows_of<'a>(alloc: Global, words: &'a [&'a str]) -> Result<Command<'a>, Word
     let portfolio = given(matches.get_str("portfolio"))?;
     let until = day_if_given(matches.get_str("until"))?;
     let contract = name_if_given(matches.get_str("contract"))?;
-    Ok(Command::Flows(Flows {
+    Ok(Request::OnFiles(Command::Flows(Flows {
         portfolio,
         fixings: matches.get_str("fixings"),
         until,
         contract,
         net: is_set(matches.get_str("net")),
-    }))
+    })))
 }
 
-/// The command of the words, which are those of the command line without the program's name. `Usage` comes exactly where
+// `sample NUMBER`, by the words behind the first.
+fn sample_of<'a>(alloc: Global, words: &'a [&'a str]) -> Result<Request<'a>, WordsErr>
+    ensures { IsAnswer requested_by (sample_of (map (λ word. word.now) words.entry.now)) result }
+{
+    let arguments = [Argument::Required("number")];
+    let matches = matches_of(alloc, "sample", &arguments, words)?;
+    let number = given(matches.get_str("number"))?;
+    match SampleSize::read(number) {
+        Some(size) => Ok(Request::Sample(size)),
+        None => Err(WordsErr::Usage),
+    }
+}
+
+/// What the words ask for, which are those of the command line without the program's name. `Usage` comes exactly where
 /// they have the form of none.
-pub fn command_of<'a>(alloc: Global, words: &'a [&'a str]) -> Result<Command<'a>, WordsErr>
-    ensures { IsCommandOf (map (λ word. word.now) words.entry.now) result }
+pub fn request_of<'a>(alloc: Global, words: &'a [&'a str]) -> Result<Request<'a>, WordsErr>
+    ensures { IsRequestOf (map (λ word. word.now) words.entry.now) result }
 {
     let [name, rest @ ..] = words else {
         return Err(WordsErr::Usage);
@@ -120,6 +129,8 @@ pub fn command_of<'a>(alloc: Global, words: &'a [&'a str]) -> Result<Command<'a>
         check_of(alloc, rest)
     } else if *name == "flows" {
         flows_of(alloc, rest)
+    } else if *name == "sample" {
+        sample_of(alloc, rest)
     } else {
         Err(WordsErr::Usage)
     }

@@ -7,7 +7,8 @@ use Rattle.term_core.specs.Limits.{is_origin}
 use Rattle.contract_parse.specs.Tokens.{Tok}
 use Rattle.contract_parse.specs.Words.{Bytes, is_date, is_end, is_integer, is_name, is_number, is_the_mark, is_the_word}
 use Rattle.contract_parse.specs.Names.{is_declared, place_in}
-use Rattle.contract_parse.specs.Judgements.{above_limited, binder_at, bound_at, counted, days_at, decimal_in, integer_at, is_version, literal_at, mode_at, named, new_at, offset_at, operator_at, or_fault, origin_at, signed_decimal, signed_result, up_to, use_at, whole, widened}
+use Rattle.decimal.specs.Mantissas.{decimal_of}
+use Rattle.contract_parse.specs.Judgements.{above_limited, binder_at, bound_at, counted, days_at, integer_at, is_version, literal_at, mode_at, named, new_at, offset_at, operator_at, or_fault, origin_at, signed_decimal, signed_result, up_to, use_at, whole, widened}
 use Rattle.contract_parse.specs.Forms.{Part, Terminal, Nonterminal, Optional, Repeated, Form}
 use Rattle.contract_parse.specs.Fronts.{Declared, Symbol, Declaration, ContractLine, Contract, Expression, Offset, a_count, a_date, a_mode, a_name, a_number, an_integer, an_operator, is_one_of, mode_words, operator_marks, portfolio_forms, the_mark, the_word}
 use Rattle.contract_parse.specs.Places.{Place, TheWord, TheMark, TheVersion, TheEnd, IntegerAt, OriginDate, OriginLine, StartLine, NameLines, LabelLines, TemplateLines, ContractLines, NewIn, MoreNames, ScaleAt, BoundAt, BoundNumber, UseOf, OffsetAt, OffsetNumber, LiteralNumber, DaysAt, ModeAt, OperatorAt, BinderAt, ExprAt, ContrAt, AnyTokens}
@@ -136,7 +137,7 @@ decimal_formed negative None = refl
 decimal_formed negative (Some d) = refl
 
 pub literal_formed : (negative : Bool) (t : Tok) → is_number t ≡ formed (literal_at negative t)
-literal_formed negative t = if_formed (is_number t) _ (decimal_formed negative (decimal_in t.text))
+literal_formed negative t = if_formed (is_number t) _ (decimal_formed negative (decimal_of t.text))
 
 order_formed : (b : Bool) (m : ℤ) → formed (cond b (Err Range) (Ok m)) ≡ true
 order_formed true m = refl

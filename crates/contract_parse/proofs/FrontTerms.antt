@@ -8,7 +8,8 @@ use Rattle.decimal.specs.declared.Decimal.{Decimal}
 use Rattle.contract_parse.specs.Tokens.{Tok}
 use Rattle.contract_parse.specs.Words.{Bytes, is_name, is_number, is_reserved, is_the_mark, is_the_word, is_word_kind}
 use Rattle.contract_parse.specs.Names.{Scope, back_to}
-use Rattle.contract_parse.specs.Judgements.{decimal_in, literal_at, or_fault, signed_decimal, variable_at}
+use Rattle.decimal.specs.Mantissas.{decimal_of}
+use Rattle.contract_parse.specs.Judgements.{literal_at, or_fault, signed_decimal, variable_at}
 use Rattle.contract_parse.specs.Heads.{first_at, first_name, first_number, first_of, head_at, head_of, within_depth}
 use Rattle.contract_parse.specs.Forms.{Part, Nonterminal, Form, empty}
 use Rattle.contract_parse.specs.Fronts.{a_count, a_mode, an_operator, Symbol, Contract, Expression, Offset, arguments, a_name, an_integer, a_number, portfolio_forms, the_mark, the_word}
@@ -103,9 +104,9 @@ module _ (s : Scope) (d : ℕ) (names : List Bytes) (ps : List Place) (decided :
 
   expr_number : is_number t ≡ true → PExpr (judged (first_at d names t) expr_next)
   expr_number hit =
-      let value : literal_at false t ≡ signed_decimal false (decimal_in t.text) = rw hit refl in
+      let value : literal_at false t ≡ signed_decimal false (decimal_of t.text) = rw hit refl in
       subst (λ r. PExpr (judged (within_depth d r) expr_next)) (sym (first_is_number names t hit ∙ ap first_number value))
-      (number_value (decimal_in t.text) (of_number (λ z. rests expression_all z ≡ [] ∷ []) t hit refl))
+      (number_value (decimal_of t.text) (of_number (λ z. rests expression_all z ≡ [] ∷ []) t hit refl))
 
   name_value : (o : Option ℕ) → rests expression_all t ≡ [] ∷ [] → PExpr (judged (within_depth d (first_name (or_fault kind.Unknown o))) expr_next)
   name_value None begins = deep_fault (nat_lt 200 d) ((symbol_takes portfolio_forms starts Expression [] (all_parts ps) t begins).back [] empty)

@@ -1,6 +1,5 @@
 pub mod TokenFacts
 pub mod NumberFacts
-pub mod DecimalFacts
 pub mod EntryFacts
 pub mod NameFacts
 pub mod Steps

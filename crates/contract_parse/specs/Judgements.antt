@@ -1,14 +1,15 @@
 -- What one token is at a place of the grammar, or the kind of its fault. At one token the first rule counts: Syntax,
 -- Number, Date, Deep, Range, Twice, Unknown.
-use Rattle.std.specs.Prelude.{ℕ, ℤ, neg_ℤ, unsigned_abs, int_lt, ◌-◌, ◌==◌, ◌&&◌, Bool, true, false, List, Option, Some, None, Result, Ok, Err, codes, nat_lt, nat_le, if◌then◌else◌}
+use Rattle.std.specs.Prelude.{ℕ, ℤ, neg_ℤ, int_lt, ◌-◌, ◌==◌, ◌&&◌, Bool, true, false, List, Option, Some, None, Result, Ok, Err, codes, nat_lt, nat_le, if◌then◌else◌}
 use Rattle.decimal.specs.declared.Mode.{Mode}
 use Rattle.decimal.specs.declared.Mode.TheVariants.{HalfEven, HalfAway, Floor, Ceil}
 use Rattle.decimal.specs.declared.Decimal.{Decimal}
 use Rattle.decimal.specs.DecimalText.{signed}
-use Rattle.decimal.specs.Reading.{number_after, read_of}
+use Rattle.decimal.specs.Mantissas.{mantissa, decimal_of}
+use Rattle.decimal.specs.Reading.{number_after}
 use Rattle.decimal.specs.Rounding.{raised}
 use Rattle.term_core.specs.Dates.{epoch_day_of}
-use Rattle.term_core.specs.Limits.{is_origin, greatest_mantissa}
+use Rattle.term_core.specs.Limits.{is_origin}
 use Rattle.term_core.specs.declared.terms.NumOp.TheVariants.{Plus, Minus, Times}
 use Rattle.term_core.specs.declared.terms.CmpOp.TheVariants.{Less, LessEq, Greater, GreaterEq, Equal, Unequal}
 use Rattle.term_core.specs.declared.terms.LogicOp.TheVariants.{And, Or}
@@ -48,10 +49,6 @@ signed_result negative (Err kind) = Err kind
 abbrev pub offset_at : Bool → Tok → Result ℤ TextKind
 offset_at negative t = signed_result negative (integer_at 1_000_000 t)
 
--- the decimal of a text, if it is within the limits of a decimal
-abbrev pub decimal_in : List ℕ → Option Decimal
-decimal_in text = elim (read_of text) [ Ok d ↦ Some d | Err fault ↦ None ]
-
 abbrev pub with_sign : Bool → Decimal → Decimal
 with_sign negative d = record { mant = if negative then neg_ℤ d.mant else d.mant; scale = d.scale }
 
@@ -61,11 +58,7 @@ signed_decimal negative (Some d) = Ok (with_sign negative d)
 
 -- DEC, behind its sign
 abbrev pub literal_at : Bool → Tok → Result Decimal TextKind
-literal_at negative t = if is_number t then signed_decimal negative (decimal_in t.text) else Err Syntax
-
--- a mantissa that is within the limit
-abbrev pub limited : ℤ → Option ℤ
-limited m = if nat_le (unsigned_abs m) greatest_mantissa then Some m else None
+literal_at negative t = if is_number t then signed_decimal negative (decimal_of t.text) else Err Syntax
 
 -- the upper bound of a label is not below the lower
 abbrev pub above : Option ℤ → ℤ → Result ℤ TextKind
@@ -79,7 +72,7 @@ above_limited low (Some m) = above low m
 -- a bound of a label, widened to the label's scale
 abbrev pub widened : ℕ → Option ℤ → Result Decimal TextKind → Result ℤ TextKind
 widened scale low (Err kind) = Err kind
-widened scale low (Ok d) = if nat_lt scale d.scale then Err Range else above_limited low (limited (raised d.mant (scale - d.scale)))
+widened scale low (Ok d) = if nat_lt scale d.scale then Err Range else above_limited low (mantissa (raised d.mant (scale - d.scale)))
 
 -- a bound of a label, behind its sign; the upper one stands above a lower
 abbrev pub bound_at : Bool → ℕ → Option ℤ → Tok → Result ℤ TextKind

@@ -1,12 +1,15 @@
 //! Contracts from texts.
-ghost use Rattle.std.specs.Prelude.{◌≡◌, ◌≤◌, ◌<◌, ◌+◌, ◌∷◌, [], ℕ, List, IfOk, codes, length};
+ghost use Rattle.std.specs.Prelude.{◌≡◌, ◌≤◌, ◌<◌, ◌+◌, ◌^◌, ◌∷◌, [], ℕ, List, IfOk, codes, length, max};
+ghost use Rattle.indexmap.specs.IndexMap.{index_map_len, keys};
+ghost use Rattle.indexmap.specs.IndexSet.{index_set_len};
 ghost use Rattle.term_core.specs.Terms.{contract, expression};
-ghost use Rattle.term_core.specs.Sizes.{height_of_contract};
+ghost use Rattle.term_core.specs.Sizes.{height, height_of_contract};
 ghost use Rattle.contract_parse.specs.Tokens.{Tok, tokens};
 ghost use Rattle.contract_parse.specs.Words.{Bytes};
-ghost use Rattle.contract_parse.specs.Names.{names_in};
-ghost use Rattle.contract_parse.specs.Spelling.{contr, word};
-ghost use Rattle.contract_parse.specs.Places.{ContrAt, Leaves, Place, contr_places, run};
+ghost use Rattle.contract_parse.specs.Names.{Scope, names_in};
+ghost use Rattle.contract_parse.specs.Judgements.{days_at, use_at};
+ghost use Rattle.contract_parse.specs.Spelling.{contr, expr, mark, valued, word, ◌⨟◌};
+ghost use Rattle.contract_parse.specs.Places.{ContrAt, DaysAt, ExprAt, Leaves, Place, TheMark, TheWord, UseOf, contr_places, run};
 ghost use Rattle.contract_parse.specs.Reading.{scope_in};
 
 use crate::exprs::read_expr;
@@ -16,8 +19,40 @@ use crate::judges::refuse;
 use crate::names::Bound;
 use crate::readers::{read_binder, read_days, read_use_of_set, skip_mark, skip_word};
 use crate::words::next;
+use indexmap::{IndexMap, IndexSet};
 use std::alloc::Global;
-use term_core::{Contr, Decls};
+use term_core::{Contr, Days, Decls, Expr, Name};
+
+// A declared name of a set behind a mark.
+#[tactic(auto, using(crate::proofs::Parts::followed_by))]
+fn read_use_behind<'a>(
+    wanted: &[u8],
+    names: &IndexSet<Name>,
+    rest: &'a [u8],
+) -> Result<(u32, &'a [u8]), ReadErr>
+    requires { index_set_len names.now < 2 ^ 32 }
+    ensures follows { (s : Scope) (ps : List Place) → Leaves (λ r. run s ps (tokens r.1.now)) result (run s (TheMark wanted.now ∷ UseOf names.now.keys ∷ ps) (tokens rest.now)) }
+    ensures spelled { IfOk result (λ r. (mark wanted.now ⨟ valued (use_at names.now.keys) r.0) (tokens rest.now) (tokens r.1.now)) }
+    ensures shorter { IfOk result (λ r. length r.1.now ≤ length rest.now) }
+{
+    let rest = skip_mark(rest, wanted)?;
+    read_use_of_set(names, rest)
+}
+
+// The days of `within`.
+#[tactic(auto, using(crate::proofs::Parts::followed_by))]
+fn read_days_within<'a>(
+    templates: &IndexMap<Name, u32>,
+    rest: &'a [u8],
+) -> Result<(Days, &'a [u8]), ReadErr>
+    requires { index_map_len templates.now < 2 ^ 32 }
+    ensures follows { (s : Scope) (ps : List Place) → Leaves (λ r. run s ps (tokens r.1.now)) result (run s (TheWord (codes "within") ∷ DaysAt (keys templates.now) ∷ ps) (tokens rest.now)) }
+    ensures spelled { IfOk result (λ r. (word (codes "within") ⨟ valued (days_at (keys templates.now)) r.0) (tokens rest.now) (tokens r.1.now)) }
+    ensures shorter { IfOk result (λ r. length r.1.now ≤ length rest.now) }
+{
+    let rest = skip_word(rest, b"within")?;
+    read_days(templates, rest)
+}
 
 // What stands behind `pay`.
 #[tactic(auto, using(crate::proofs::Parts::followed_by))]
@@ -27,14 +62,118 @@ fn read_pay<'a>(decls: &Decls, rest: &'a [u8]) -> Result<(Contr, &'a [u8]), Read
     ensures high { IfOk result (λ r. height_of_contract (contract r.0) ≡ 1) }
     ensures shorter { IfOk result (λ r. length r.1.now ≤ length rest.now) }
 {
-    let rest = skip_mark(rest, b"(")?;
-    let (asset, rest) = read_use_of_set(&decls.assets, rest)?;
-    let rest = skip_mark(rest, b",")?;
-    let (from, rest) = read_use_of_set(&decls.parties, rest)?;
-    let rest = skip_mark(rest, b",")?;
-    let (to, rest) = read_use_of_set(&decls.parties, rest)?;
+    let (asset, rest) = read_use_behind(b"(", &decls.assets, rest)?;
+    let (from, rest) = read_use_behind(b",", &decls.parties, rest)?;
+    let (to, rest) = read_use_behind(b",", &decls.parties, rest)?;
     let rest = skip_mark(rest, b")")?;
     Ok((Contr::Pay { asset, from, to }, rest))
+}
+
+// The factor of `scale`.
+#[tactic(auto, using(crate::proofs::Parts::followed_by))]
+fn read_factor<'a>(
+    alloc: Global,
+    decls: &Decls,
+    bound: &Bound<'_>,
+    depth: u32,
+    rest: &'a [u8],
+) -> Result<(Expr, &'a [u8]), ReadErr>
+    requires shallow { depth ≤ 200 }
+    requires bound { length (names_in bound.now) < depth }
+    ensures follows { (cs : List Bytes) (ps : List Place) → Leaves (λ r. run (scope_in decls.now cs) ps (tokens r.1.now)) result (run (scope_in decls.now cs) (TheMark (codes "(") ∷ ExprAt (depth + 1) (names_in bound.now) ∷ ps) (tokens rest.now)) }
+    ensures spelled { IfOk result (λ r. (mark (codes "(") ⨟ expr (scope_in decls.now []) (names_in bound.now) (expression r.0)) (tokens rest.now) (tokens r.1.now)) }
+    ensures high { IfOk result (λ r. height (expression r.0) + depth ≤ 200) }
+    ensures shorter { IfOk result (λ r. length r.1.now ≤ length rest.now) }
+{
+    let rest = skip_mark(rest, b"(")?;
+    read_expr(alloc, decls, bound, depth + 1, rest)
+}
+
+// A contract one deeper, in a box.
+#[cycle(contr)]
+fn read_boxed<'a>(
+    alloc: Global,
+    decls: &Decls,
+    bound: &Bound<'_>,
+    depth: u32,
+    rest: &'a [u8],
+) -> Result<(Box<Contr>, &'a [u8]), ReadErr>
+    requires shallow { depth ≤ 200 }
+    requires bound { length (names_in bound.now) ≤ depth }
+    ensures follows { (cs : List Bytes) (ps : List Place) → Leaves (λ r. run (scope_in decls.now cs) ps (tokens r.1.now)) result (run (scope_in decls.now cs) (ContrAt (depth + 1) (names_in bound.now) ∷ ps) (tokens rest.now)) }
+    ensures spelled { IfOk result (λ r. contr (scope_in decls.now []) (names_in bound.now) (contract r.0.value) (tokens rest.now) (tokens r.1.now)) }
+    ensures high { IfOk result (λ r. height_of_contract (contract r.0.value) + depth ≤ 200) }
+    ensures shorter { IfOk result (λ r. length r.1.now ≤ length rest.now) }
+{
+    let (of, rest) = read_contr(alloc, decls, bound, depth + 1, rest)?;
+    let of = Box::new(alloc, of)?;
+    Ok((of, rest))
+}
+
+// The same behind a mark.
+#[cycle(contr)]
+#[tactic(auto, using(crate::proofs::Parts::followed_by))]
+fn read_behind_mark<'a>(
+    alloc: Global,
+    decls: &Decls,
+    bound: &Bound<'_>,
+    depth: u32,
+    wanted: &[u8],
+    rest: &'a [u8],
+) -> Result<(Box<Contr>, &'a [u8]), ReadErr>
+    requires shallow { depth ≤ 200 }
+    requires bound { length (names_in bound.now) ≤ depth }
+    ensures follows { (cs : List Bytes) (ps : List Place) → Leaves (λ r. run (scope_in decls.now cs) ps (tokens r.1.now)) result (run (scope_in decls.now cs) (TheMark wanted.now ∷ ContrAt (depth + 1) (names_in bound.now) ∷ ps) (tokens rest.now)) }
+    ensures spelled { IfOk result (λ r. (mark wanted.now ⨟ contr (scope_in decls.now []) (names_in bound.now) (contract r.0.value)) (tokens rest.now) (tokens r.1.now)) }
+    ensures high { IfOk result (λ r. height_of_contract (contract r.0.value) + depth ≤ 200) }
+    ensures shorter { IfOk result (λ r. length r.1.now ≤ length rest.now) }
+{
+    let rest = skip_mark(rest, wanted)?;
+    read_boxed(alloc, decls, bound, depth, rest)
+}
+
+// The same behind a word.
+#[cycle(contr)]
+#[tactic(auto, using(crate::proofs::Parts::followed_by))]
+fn read_behind_word<'a>(
+    alloc: Global,
+    decls: &Decls,
+    bound: &Bound<'_>,
+    depth: u32,
+    wanted: &[u8],
+    rest: &'a [u8],
+) -> Result<(Box<Contr>, &'a [u8]), ReadErr>
+    requires shallow { depth ≤ 200 }
+    requires bound { length (names_in bound.now) ≤ depth }
+    ensures follows { (cs : List Bytes) (ps : List Place) → Leaves (λ r. run (scope_in decls.now cs) ps (tokens r.1.now)) result (run (scope_in decls.now cs) (TheWord wanted.now ∷ ContrAt (depth + 1) (names_in bound.now) ∷ ps) (tokens rest.now)) }
+    ensures spelled { IfOk result (λ r. (word wanted.now ⨟ contr (scope_in decls.now []) (names_in bound.now) (contract r.0.value)) (tokens rest.now) (tokens r.1.now)) }
+    ensures high { IfOk result (λ r. height_of_contract (contract r.0.value) + depth ≤ 200) }
+    ensures shorter { IfOk result (λ r. length r.1.now ≤ length rest.now) }
+{
+    let rest = skip_word(rest, wanted)?;
+    read_boxed(alloc, decls, bound, depth, rest)
+}
+
+// The contracts behind `then` and `else`.
+#[cycle(contr)]
+#[tactic(auto, using(crate::proofs::Parts::followed_by))]
+fn read_branches<'a>(
+    alloc: Global,
+    decls: &Decls,
+    bound: &Bound<'_>,
+    depth: u32,
+    rest: &'a [u8],
+) -> Result<(Box<Contr>, Box<Contr>, &'a [u8]), ReadErr>
+    requires shallow { depth ≤ 200 }
+    requires bound { length (names_in bound.now) ≤ depth }
+    ensures follows { (cs : List Bytes) (ps : List Place) → Leaves (λ r. run (scope_in decls.now cs) ps (tokens r.2.now)) result (run (scope_in decls.now cs) (TheWord (codes "then") ∷ ContrAt (depth + 1) (names_in bound.now) ∷ TheWord (codes "else") ∷ ContrAt (depth + 1) (names_in bound.now) ∷ ps) (tokens rest.now)) }
+    ensures spelled { IfOk result (λ r. (word (codes "then") ⨟ contr (scope_in decls.now []) (names_in bound.now) (contract r.0.value) ⨟ word (codes "else") ⨟ contr (scope_in decls.now []) (names_in bound.now) (contract r.1.value)) (tokens rest.now) (tokens r.2.now)) }
+    ensures high { IfOk result (λ r. max (height_of_contract (contract r.0.value)) (height_of_contract (contract r.1.value)) + depth ≤ 200) }
+    ensures shorter { IfOk result (λ r. length r.2.now ≤ length rest.now) }
+{
+    let (hit, rest) = read_behind_word(alloc, decls, bound, depth, b"then", rest)?;
+    let (miss, rest) = read_behind_word(alloc, decls, bound, depth, b"else", rest)?;
+    Ok((hit, miss, rest))
 }
 
 // What stands behind `both`.
@@ -54,13 +193,9 @@ fn read_both<'a>(
     ensures high { IfOk result (λ r. height_of_contract (contract r.0) + depth ≤ 201) }
     ensures shorter { IfOk result (λ r. length r.1.now ≤ length rest.now) }
 {
-    let rest = skip_mark(rest, b"(")?;
-    let (left, rest) = read_contr(alloc, decls, bound, depth + 1, rest)?;
-    let rest = skip_mark(rest, b",")?;
-    let (right, rest) = read_contr(alloc, decls, bound, depth + 1, rest)?;
+    let (left, rest) = read_behind_mark(alloc, decls, bound, depth, b"(", rest)?;
+    let (right, rest) = read_behind_mark(alloc, decls, bound, depth, b",", rest)?;
     let rest = skip_mark(rest, b")")?;
-    let left = Box::new(alloc, left)?;
-    let right = Box::new(alloc, right)?;
     Ok((Contr::Both { left, right }, rest))
 }
 
@@ -81,12 +216,9 @@ fn read_scaled<'a>(
     ensures high { IfOk result (λ r. height_of_contract (contract r.0) + depth ≤ 201) }
     ensures shorter { IfOk result (λ r. length r.1.now ≤ length rest.now) }
 {
-    let rest = skip_mark(rest, b"(")?;
-    let (factor, rest) = read_expr(alloc, decls, bound, depth + 1, rest)?;
-    let rest = skip_mark(rest, b",")?;
-    let (body, rest) = read_contr(alloc, decls, bound, depth + 1, rest)?;
+    let (factor, rest) = read_factor(alloc, decls, bound, depth, rest)?;
+    let (body, rest) = read_behind_mark(alloc, decls, bound, depth, b",", rest)?;
     let rest = skip_mark(rest, b")")?;
-    let body = Box::new(alloc, body)?;
     Ok((Contr::Scale { factor, body }, rest))
 }
 
@@ -109,10 +241,8 @@ fn read_after<'a>(
 {
     let rest = skip_mark(rest, b"(")?;
     let (days, rest) = read_days(&decls.templates, rest)?;
-    let rest = skip_mark(rest, b",")?;
-    let (body, rest) = read_contr(alloc, decls, bound, depth + 1, rest)?;
+    let (body, rest) = read_behind_mark(alloc, decls, bound, depth, b",", rest)?;
     let rest = skip_mark(rest, b")")?;
-    let body = Box::new(alloc, body)?;
     Ok((Contr::After { days, body }, rest))
 }
 
@@ -136,13 +266,11 @@ fn read_let<'a>(
     let (name, rest) = read_binder(rest)?;
     let rest = skip_mark(rest, b"=")?;
     let (value, rest) = read_expr(alloc, decls, bound, depth + 1, rest)?;
-    let rest = skip_word(rest, b"in")?;
     let inner = Bound::In {
         name,
         outer: &*bound,
     };
-    let (body, rest) = read_contr(alloc, decls, &inner, depth + 1, rest)?;
-    let body = Box::new(alloc, body)?;
+    let (body, rest) = read_behind_word(alloc, decls, &inner, depth, b"in", rest)?;
     Ok((Contr::Let { bound: value, body }, rest))
 }
 
@@ -164,14 +292,8 @@ fn read_within<'a>(
     ensures shorter { IfOk result (λ r. length r.1.now ≤ length rest.now) }
 {
     let (test, rest) = read_expr(alloc, decls, bound, depth + 1, rest)?;
-    let rest = skip_word(rest, b"within")?;
-    let (days, rest) = read_days(&decls.templates, rest)?;
-    let rest = skip_word(rest, b"then")?;
-    let (hit, rest) = read_contr(alloc, decls, bound, depth + 1, rest)?;
-    let rest = skip_word(rest, b"else")?;
-    let (miss, rest) = read_contr(alloc, decls, bound, depth + 1, rest)?;
-    let hit = Box::new(alloc, hit)?;
-    let miss = Box::new(alloc, miss)?;
+    let (days, rest) = read_days_within(&decls.templates, rest)?;
+    let (hit, miss, rest) = read_branches(alloc, decls, bound, depth, rest)?;
     Ok((
         Contr::Within {
             test,

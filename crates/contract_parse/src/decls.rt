@@ -6,12 +6,13 @@ ghost use Rattle.term_core.specs.Limits.{are_numbers, is_origin};
 ghost use Rattle.term_core.specs.Declarations.{declarations};
 ghost use Rattle.contract_parse.specs.Tokens.{Tok, tokens};
 ghost use Rattle.contract_parse.specs.Names.{Scope, nothing_declared, scope_of, with_names};
-ghost use Rattle.contract_parse.specs.Spelling.{word};
+ghost use Rattle.contract_parse.specs.Spelling.{mark, valued, word, ◌⨟◌};
+ghost use Rattle.contract_parse.specs.Judgements.{integer_at};
 ghost use Rattle.contract_parse.specs.Statements.{Entry, NameList, Repeat, decls, name_lines, origin_line, start_line, template_line};
-ghost use Rattle.contract_parse.specs.Places.{Leaves, MoreNames, NameLines, NewIn, OriginLine, Place, StartLine, TemplateLines, decls_places, run, template_places};
+ghost use Rattle.contract_parse.specs.Places.{IntegerAt, Leaves, MoreNames, NameLines, NewIn, OriginLine, Place, StartLine, TemplateLines, TheMark, TheWord, decls_places, run, template_places};
 ghost use Rattle.contract_parse.specs.Reading.{tokens_ahead};
 ghost use Rattle.contract_parse.specs.declared.names.NameSet.{NameSet};
-ghost use Rattle.contract_parse.specs.declared.names.NameSet.TheVariants.{Template};
+ghost use Rattle.contract_parse.specs.declared.names.NameSet.TheVariants.{Asset, Party, Template};
 
 use crate::faults::ReadErr;
 use crate::labels::read_labels;
@@ -96,6 +97,20 @@ fn read_names<'a>(
     Ok((names, ahead))
 }
 
+// The number of a template, from behind its name to the end of its line.
+#[tactic(auto, using(crate::proofs::Parts::followed_by))]
+fn read_template_days(rest: &[u8]) -> Result<(u32, &[u8]), ReadErr>
+    ensures follows { (s : Scope) (ps : List Place) → Leaves (λ r. run s ps (tokens r.1.now)) result (run s (TheMark (codes "=") ∷ IntegerAt 100_000 ∷ TheMark (codes ";") ∷ ps) (tokens rest.now)) }
+    ensures spelled { IfOk result (λ r. (mark (codes "=") ⨟ valued (integer_at 100_000) r.0 ⨟ mark (codes ";")) (tokens rest.now) (tokens r.1.now)) }
+    ensures shorter { IfOk result (λ r. length r.1.now < length rest.now) }
+    ensures most { IfOk result (λ r. r.0 ≤ 100_000) }
+{
+    let rest = skip_mark(rest, b"=")?;
+    let (days, rest) = read_integer(100_000, rest)?;
+    let rest = skip_mark(rest, b";")?;
+    Ok((days, rest))
+}
+
 // A template behind its word.
 fn read_template<'a>(
     alloc: Global,
@@ -110,9 +125,7 @@ fn read_template<'a>(
     ensures limits { IfOk result (λ r. are_numbers templates.new.entries ≡ true) }
 {
     let (name, rest) = read_new_name(alloc, templates, rest)?;
-    let rest = skip_mark(rest, b"=")?;
-    let (days, rest) = read_integer(100_000, rest)?;
-    let rest = skip_mark(rest, b";")?;
+    let (days, rest) = read_template_days(rest)?;
     templates.insert(name, days)?;
     Ok(rest)
 }
@@ -135,22 +148,61 @@ fn read_templates<'a>(
     Ok((templates, ahead))
 }
 
+// The number of decimals of amounts, and the token behind it.
+#[tactic(auto, using(crate::proofs::Parts::followed_by))]
+fn read_amounts(rest: &[u8]) -> Result<(u8, Lookahead<'_>), ReadErr>
+    ensures follows { (s : Scope) (ps : List Place) → Leaves (λ r. run s ps (tokens_ahead r.1)) result (run s (TheWord (codes "amounts") ∷ IntegerAt 12 ∷ TheMark (codes ";") ∷ ps) (tokens rest.now)) }
+    ensures spelled { IfOk result (λ r. (word (codes "amounts") ⨟ valued (integer_at 12) r.0 ⨟ mark (codes ";")) (tokens rest.now) (tokens_ahead r.1)) }
+    ensures shorter { IfOk result (λ r. length r.1.after.now ≤ length rest.now) }
+    ensures most { IfOk result (λ r. r.0 ≤ 12) }
+{
+    let rest = skip_word(rest, b"amounts")?;
+    let (amounts, rest) = read_integer(12, rest)?;
+    let rest = skip_mark(rest, b";")?;
+    Ok((amounts as u8, look(rest)))
+}
+
+// The lines of numbers with which declarations begin.
+#[tactic(auto, using(crate::proofs::Parts::followed_by))]
+fn read_heading(rest: &[u8]) -> Result<(u8, Option<i64>, u32, Lookahead<'_>), ReadErr>
+    ensures follows { (s : Scope) (ps : List Place) → Leaves (λ r. run s ps (tokens_ahead r.3)) result (run s (TheWord (codes "amounts") ∷ IntegerAt 12 ∷ TheMark (codes ";") ∷ OriginLine ∷ StartLine ∷ ps) (tokens rest.now)) }
+    ensures spelled { IfOk result (λ r. (word (codes "amounts") ⨟ valued (integer_at 12) r.0 ⨟ mark (codes ";") ⨟ origin_line r.1 ⨟ start_line r.2) (tokens rest.now) (tokens_ahead r.3)) }
+    ensures shorter { IfOk result (λ r. length r.3.after.now ≤ length rest.now) }
+    ensures amounts { IfOk result (λ r. r.0 ≤ 12) }
+    ensures origin { IfOk result (λ r. is_origin r.1 ≡ true) }
+    ensures start { IfOk result (λ r. r.2 ≤ 1_000_000) }
+{
+    let (amounts, ahead) = read_amounts(rest)?;
+    let (origin, ahead) = read_origin(&ahead)?;
+    let (start, ahead) = read_start(&ahead)?;
+    Ok((amounts, origin, start, ahead))
+}
+
+// The names of parties and of assets.
+#[tactic(auto, using(crate::proofs::Parts::followed_by))]
+fn read_owners<'a>(
+    alloc: Global,
+    ahead: &Lookahead<'a>,
+) -> Result<(IndexSet<Name>, IndexSet<Name>, Lookahead<'a>), ReadErr>
+    ensures follows { (ps : List Place) → Leaves (λ r. run (with_names Asset r.1.keys (with_names Party r.0.keys nothing_declared)) ps (tokens_ahead r.2)) result (run nothing_declared (NameLines (codes "party") Party ∷ NameLines (codes "asset") Asset ∷ ps) (tokens_ahead ahead.now)) }
+    ensures spelled { IfOk result (λ r. (name_lines (codes "party") r.0.keys ⨟ name_lines (codes "asset") r.1.keys) (tokens_ahead ahead.now) (tokens_ahead r.2)) }
+    ensures few { IfOk result (λ r. index_set_len r.0 + (index_set_len r.1 + length r.2.after.now) ≤ length ahead.now.after.now) }
+{
+    let (parties, ahead) = read_names(alloc, b"party", ahead)?;
+    let (assets, ahead) = read_names(alloc, b"asset", &ahead)?;
+    Ok((parties, assets, ahead))
+}
+
 /// The declarations that stand here, up to the last line that may belong to them, and the token that comes next.
 pub fn read_decls<'a>(alloc: Global, rest: &'a [u8]) -> Result<(Decls, Lookahead<'a>), ReadErr>
     requires { length rest.now ≤ 16_777_216 }
     ensures follows { (ps : List Place) → Leaves (λ r. run (scope_of (declarations r.0) []) ps (tokens_ahead r.1)) result (run nothing_declared (decls_places ps) (tokens rest.now)) }
     ensures spelled { IfOk result (λ r. decls (declarations r.0) (tokens rest.now) (tokens_ahead r.1)) }
 {
-    let rest = skip_word(rest, b"amounts")?;
-    let (amounts, rest) = read_integer(12, rest)?;
-    let rest = skip_mark(rest, b";")?;
-    let (origin, ahead) = read_origin(&look(rest))?;
-    let (start, ahead) = read_start(&ahead)?;
-    let (parties, ahead) = read_names(alloc, b"party", &ahead)?;
-    let (assets, ahead) = read_names(alloc, b"asset", &ahead)?;
+    let (amounts, origin, start, ahead) = read_heading(rest)?;
+    let (parties, assets, ahead) = read_owners(alloc, &ahead)?;
     let (labels, ahead) = read_labels(alloc, &ahead)?;
     let (templates, ahead) = read_templates(alloc, &ahead)?;
-    let amounts = amounts as u8;
     let decls = Decls {
         amounts,
         origin,

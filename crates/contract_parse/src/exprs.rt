@@ -5,10 +5,11 @@ ghost use Rattle.term_core.specs.Sizes.{height};
 ghost use Rattle.contract_parse.specs.Tokens.{Tok, tokens};
 ghost use Rattle.contract_parse.specs.Words.{Bytes};
 ghost use Rattle.contract_parse.specs.Names.{Scope, names_in};
-ghost use Rattle.contract_parse.specs.Judgements.{integer_at};
+ghost use Rattle.contract_parse.specs.Judgements.{binder_at, integer_at, mode_at};
 ghost use Rattle.contract_parse.specs.Spelling.{expr, mark, pair, valued, word, ◌⨟◌};
-ghost use Rattle.contract_parse.specs.Places.{ExprAt, IntegerAt, Leaves, LiteralNumber, Place, expr_places, operand_places, pair_places, run};
+ghost use Rattle.contract_parse.specs.Places.{BinderAt, ExprAt, IntegerAt, Leaves, LiteralNumber, ModeAt, Place, TheMark, binder_places, expr_places, operand_places, pair_places, run};
 ghost use Rattle.contract_parse.specs.Reading.{joined, scope_in};
+ghost use Rattle.contract_parse.specs.declared.heads.Binder.{Binder};
 
 use crate::faults::ReadErr;
 use crate::heads::{First, Operator, first_at};
@@ -19,7 +20,7 @@ use crate::readers::{
     read_use_of_map, skip_mark,
 };
 use crate::words::next;
-use decimal::Decimal;
+use decimal::{Decimal, Mode};
 use std::alloc::Global;
 use term_core::{Decls, Expr, NumOp};
 
@@ -42,14 +43,51 @@ fn literal(number: Decimal) -> Expr
     }
 }
 
-// The scale in `widen`, `round` and `div`.
-fn read_scale(rest: &[u8]) -> Result<(u8, &[u8]), ReadErr>
-    ensures follows { (s : Scope) (ps : List Place) → Leaves (λ r. run s ps (tokens r.1.now)) result (run s (IntegerAt 27 ∷ ps) (tokens rest.now)) }
-    ensures spelled { IfOk result (λ r. valued (integer_at 27) r.0 (tokens rest.now) (tokens r.1.now)) }
+// The scale behind a mark, in `widen`, `round` and `div`.
+#[tactic(auto, using(crate::proofs::Parts::followed_by))]
+fn read_scale<'a>(wanted: &[u8], rest: &'a [u8]) -> Result<(u8, &'a [u8]), ReadErr>
+    ensures follows { (s : Scope) (ps : List Place) → Leaves (λ r. run s ps (tokens r.1.now)) result (run s (TheMark wanted.now ∷ IntegerAt 27 ∷ ps) (tokens rest.now)) }
+    ensures spelled { IfOk result (λ r. (mark wanted.now ⨟ valued (integer_at 27) r.0) (tokens rest.now) (tokens r.1.now)) }
     ensures shorter { IfOk result (λ r. length r.1.now ≤ length rest.now) }
 {
+    let rest = skip_mark(rest, wanted)?;
     let (scale, rest) = read_integer(27, rest)?;
     Ok((scale as u8, rest))
+}
+
+// The mode and the scale in `round` and `div`.
+#[tactic(auto, using(crate::proofs::Parts::followed_by))]
+fn read_rounding(rest: &[u8]) -> Result<(Mode, u8, &[u8]), ReadErr>
+    ensures follows { (s : Scope) (ps : List Place) → Leaves (λ r. run s ps (tokens r.2.now)) result (run s (TheMark (codes "(") ∷ ModeAt ∷ TheMark (codes ",") ∷ IntegerAt 27 ∷ ps) (tokens rest.now)) }
+    ensures spelled { IfOk result (λ r. (mark (codes "(") ⨟ valued mode_at r.0 ⨟ mark (codes ",") ⨟ valued (integer_at 27) r.1) (tokens rest.now) (tokens r.2.now)) }
+    ensures shorter { IfOk result (λ r. length r.2.now ≤ length rest.now) }
+{
+    let rest = skip_mark(rest, b"(")?;
+    let (mode, rest) = read_mode(rest)?;
+    let (scale, rest) = read_scale(b",", rest)?;
+    Ok((mode, scale, rest))
+}
+
+// The name that `acc` binds.
+#[tactic(auto, using(crate::proofs::Parts::followed_by))]
+fn read_bound_name(rest: &[u8]) -> Result<(&[u8], &[u8]), ReadErr>
+    ensures follows { (binder : Binder) (d : ℕ) (names : List Bytes) (s : Scope) (ps : List Place) → Leaves (λ r. run s (binder_places binder d names r.0.now ps) (tokens r.1.now)) result (run s (TheMark (codes "(") ∷ BinderAt binder d names ∷ ps) (tokens rest.now)) }
+    ensures spelled { IfOk result (λ r. (mark (codes "(") ⨟ valued binder_at r.0.now) (tokens rest.now) (tokens r.1.now)) }
+    ensures shorter { IfOk result (λ r. length r.1.now ≤ length rest.now) }
+{
+    let rest = skip_mark(rest, b"(")?;
+    read_binder(rest)
+}
+
+// The number of days of `acc`.
+#[tactic(auto, using(crate::proofs::Parts::followed_by))]
+fn read_days_back(rest: &[u8]) -> Result<(u32, &[u8]), ReadErr>
+    ensures follows { (s : Scope) (ps : List Place) → Leaves (λ r. run s ps (tokens r.1.now)) result (run s (TheMark (codes ",") ∷ IntegerAt 100_000 ∷ ps) (tokens rest.now)) }
+    ensures spelled { IfOk result (λ r. (mark (codes ",") ⨟ valued (integer_at 100_000) r.0) (tokens rest.now) (tokens r.1.now)) }
+    ensures shorter { IfOk result (λ r. length r.1.now ≤ length rest.now) }
+{
+    let rest = skip_mark(rest, b",")?;
+    read_integer(100_000, rest)
 }
 
 // A literal behind its sign.
@@ -78,6 +116,49 @@ fn read_observable<'a>(decls: &Decls, rest: &'a [u8]) -> Result<(Expr, &'a [u8])
     Ok((Expr::Obs { label, offset }, rest))
 }
 
+// An expression one deeper, in a box.
+#[cycle(expr)]
+fn read_boxed<'a>(
+    alloc: Global,
+    decls: &Decls,
+    bound: &Bound<'_>,
+    depth: u32,
+    rest: &'a [u8],
+) -> Result<(Box<Expr>, &'a [u8]), ReadErr>
+    requires shallow { depth ≤ 200 }
+    requires bound { length (names_in bound.now) ≤ depth }
+    ensures follows { (cs : List Bytes) (ps : List Place) → Leaves (λ r. run (scope_in decls.now cs) ps (tokens r.1.now)) result (run (scope_in decls.now cs) (ExprAt (depth + 1) (names_in bound.now) ∷ ps) (tokens rest.now)) }
+    ensures spelled { IfOk result (λ r. expr (scope_in decls.now []) (names_in bound.now) (expression r.0.value) (tokens rest.now) (tokens r.1.now)) }
+    ensures high { IfOk result (λ r. height (expression r.0.value) + depth ≤ 200) }
+    ensures shorter { IfOk result (λ r. length r.1.now ≤ length rest.now) }
+{
+    let (of, rest) = read_expr(alloc, decls, bound, depth + 1, rest)?;
+    let of = Box::new(alloc, of)?;
+    Ok((of, rest))
+}
+
+// The same behind a mark.
+#[cycle(expr)]
+#[tactic(auto, using(crate::proofs::Parts::followed_by))]
+fn read_behind<'a>(
+    alloc: Global,
+    decls: &Decls,
+    bound: &Bound<'_>,
+    depth: u32,
+    wanted: &[u8],
+    rest: &'a [u8],
+) -> Result<(Box<Expr>, &'a [u8]), ReadErr>
+    requires shallow { depth ≤ 200 }
+    requires bound { length (names_in bound.now) ≤ depth }
+    ensures follows { (cs : List Bytes) (ps : List Place) → Leaves (λ r. run (scope_in decls.now cs) ps (tokens r.1.now)) result (run (scope_in decls.now cs) (TheMark wanted.now ∷ ExprAt (depth + 1) (names_in bound.now) ∷ ps) (tokens rest.now)) }
+    ensures spelled { IfOk result (λ r. (mark wanted.now ⨟ expr (scope_in decls.now []) (names_in bound.now) (expression r.0.value)) (tokens rest.now) (tokens r.1.now)) }
+    ensures high { IfOk result (λ r. height (expression r.0.value) + depth ≤ 200) }
+    ensures shorter { IfOk result (λ r. length r.1.now ≤ length rest.now) }
+{
+    let rest = skip_mark(rest, wanted)?;
+    read_boxed(alloc, decls, bound, depth, rest)
+}
+
 // One expression in parentheses.
 #[cycle(expr)]
 #[tactic(auto, using(crate::proofs::Parts::followed_by))]
@@ -95,10 +176,8 @@ fn read_operand<'a>(
     ensures high { IfOk result (λ r. height (expression r.0.value) + depth ≤ 200) }
     ensures shorter { IfOk result (λ r. length r.1.now ≤ length rest.now) }
 {
-    let rest = skip_mark(rest, b"(")?;
-    let (of, rest) = read_expr(alloc, decls, bound, depth + 1, rest)?;
+    let (of, rest) = read_behind(alloc, decls, bound, depth, b"(", rest)?;
     let rest = skip_mark(rest, b")")?;
-    let of = Box::new(alloc, of)?;
     Ok((of, rest))
 }
 
@@ -161,13 +240,9 @@ fn read_pair<'a>(
     ensures high { IfOk result (λ r. max (height (expression r.0.value)) (height (expression r.1.value)) + depth ≤ 200) }
     ensures shorter { IfOk result (λ r. length r.2.now ≤ length rest.now) }
 {
-    let rest = skip_mark(rest, b"(")?;
-    let (left, rest) = read_expr(alloc, decls, bound, depth + 1, rest)?;
-    let rest = skip_mark(rest, b",")?;
-    let (right, rest) = read_expr(alloc, decls, bound, depth + 1, rest)?;
+    let (left, rest) = read_behind(alloc, decls, bound, depth, b"(", rest)?;
+    let (right, rest) = read_behind(alloc, decls, bound, depth, b",", rest)?;
     let rest = skip_mark(rest, b")")?;
-    let left = Box::new(alloc, left)?;
-    let right = Box::new(alloc, right)?;
     Ok((left, right, rest))
 }
 
@@ -232,12 +307,10 @@ fn read_infix<'a>(
     ensures high { IfOk result (λ r. height (expression r.0) + depth ≤ 201) }
     ensures shorter { IfOk result (λ r. length r.1.now ≤ length rest.now) }
 {
-    let (left, rest) = read_expr(alloc, decls, bound, depth + 1, rest)?;
+    let (left, rest) = read_boxed(alloc, decls, bound, depth, rest)?;
     let (operator, rest) = read_operator(rest)?;
-    let (right, rest) = read_expr(alloc, decls, bound, depth + 1, rest)?;
+    let (right, rest) = read_boxed(alloc, decls, bound, depth, rest)?;
     let rest = skip_mark(rest, b")")?;
-    let left = Box::new(alloc, left)?;
-    let right = Box::new(alloc, right)?;
     Ok((joined(operator, left, right), rest))
 }
 
@@ -258,16 +331,10 @@ fn read_choice<'a>(
     ensures high { IfOk result (λ r. height (expression r.0) + depth ≤ 201) }
     ensures shorter { IfOk result (λ r. length r.1.now ≤ length rest.now) }
 {
-    let rest = skip_mark(rest, b"(")?;
-    let (test, rest) = read_expr(alloc, decls, bound, depth + 1, rest)?;
-    let rest = skip_mark(rest, b",")?;
-    let (yes, rest) = read_expr(alloc, decls, bound, depth + 1, rest)?;
-    let rest = skip_mark(rest, b",")?;
-    let (no, rest) = read_expr(alloc, decls, bound, depth + 1, rest)?;
+    let (test, rest) = read_behind(alloc, decls, bound, depth, b"(", rest)?;
+    let (yes, rest) = read_behind(alloc, decls, bound, depth, b",", rest)?;
+    let (no, rest) = read_behind(alloc, decls, bound, depth, b",", rest)?;
     let rest = skip_mark(rest, b")")?;
-    let test = Box::new(alloc, test)?;
-    let yes = Box::new(alloc, yes)?;
-    let no = Box::new(alloc, no)?;
     Ok((Expr::Cond { test, yes, no }, rest))
 }
 
@@ -288,12 +355,9 @@ fn read_widen<'a>(
     ensures high { IfOk result (λ r. height (expression r.0) + depth ≤ 201) }
     ensures shorter { IfOk result (λ r. length r.1.now ≤ length rest.now) }
 {
-    let rest = skip_mark(rest, b"(")?;
-    let (scale, rest) = read_scale(rest)?;
-    let rest = skip_mark(rest, b",")?;
-    let (of, rest) = read_expr(alloc, decls, bound, depth + 1, rest)?;
+    let (scale, rest) = read_scale(b"(", rest)?;
+    let (of, rest) = read_behind(alloc, decls, bound, depth, b",", rest)?;
     let rest = skip_mark(rest, b")")?;
-    let of = Box::new(alloc, of)?;
     Ok((Expr::Widen { scale, of }, rest))
 }
 
@@ -314,14 +378,9 @@ fn read_round<'a>(
     ensures high { IfOk result (λ r. height (expression r.0) + depth ≤ 201) }
     ensures shorter { IfOk result (λ r. length r.1.now ≤ length rest.now) }
 {
-    let rest = skip_mark(rest, b"(")?;
-    let (mode, rest) = read_mode(rest)?;
-    let rest = skip_mark(rest, b",")?;
-    let (scale, rest) = read_scale(rest)?;
-    let rest = skip_mark(rest, b",")?;
-    let (of, rest) = read_expr(alloc, decls, bound, depth + 1, rest)?;
+    let (mode, scale, rest) = read_rounding(rest)?;
+    let (of, rest) = read_behind(alloc, decls, bound, depth, b",", rest)?;
     let rest = skip_mark(rest, b")")?;
-    let of = Box::new(alloc, of)?;
     Ok((Expr::Round { mode, scale, of }, rest))
 }
 
@@ -342,17 +401,10 @@ fn read_div<'a>(
     ensures high { IfOk result (λ r. height (expression r.0) + depth ≤ 201) }
     ensures shorter { IfOk result (λ r. length r.1.now ≤ length rest.now) }
 {
-    let rest = skip_mark(rest, b"(")?;
-    let (mode, rest) = read_mode(rest)?;
-    let rest = skip_mark(rest, b",")?;
-    let (scale, rest) = read_scale(rest)?;
-    let rest = skip_mark(rest, b",")?;
-    let (top, rest) = read_expr(alloc, decls, bound, depth + 1, rest)?;
-    let rest = skip_mark(rest, b",")?;
-    let (below, rest) = read_expr(alloc, decls, bound, depth + 1, rest)?;
+    let (mode, scale, rest) = read_rounding(rest)?;
+    let (top, rest) = read_behind(alloc, decls, bound, depth, b",", rest)?;
+    let (below, rest) = read_behind(alloc, decls, bound, depth, b",", rest)?;
     let rest = skip_mark(rest, b")")?;
-    let top = Box::new(alloc, top)?;
-    let below = Box::new(alloc, below)?;
     Ok((
         Expr::Div {
             mode,
@@ -381,21 +433,15 @@ fn read_acc<'a>(
     ensures high { IfOk result (λ r. height (expression r.0) + depth ≤ 201) }
     ensures shorter { IfOk result (λ r. length r.1.now ≤ length rest.now) }
 {
-    let rest = skip_mark(rest, b"(")?;
-    let (name, rest) = read_binder(rest)?;
-    let rest = skip_mark(rest, b",")?;
+    let (name, rest) = read_bound_name(rest)?;
     let inner = Bound::In {
         name,
         outer: &*bound,
     };
-    let (body, rest) = read_expr(alloc, decls, &inner, depth + 1, rest)?;
-    let rest = skip_mark(rest, b",")?;
-    let (days, rest) = read_integer(100_000, rest)?;
-    let rest = skip_mark(rest, b",")?;
-    let (first, rest) = read_expr(alloc, decls, bound, depth + 1, rest)?;
+    let (body, rest) = read_behind(alloc, decls, &inner, depth, b",", rest)?;
+    let (days, rest) = read_days_back(rest)?;
+    let (first, rest) = read_behind(alloc, decls, bound, depth, b",", rest)?;
     let rest = skip_mark(rest, b")")?;
-    let body = Box::new(alloc, body)?;
-    let first = Box::new(alloc, first)?;
     Ok((Expr::Acc { body, days, first }, rest))
 }
 

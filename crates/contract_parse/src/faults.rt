@@ -34,14 +34,14 @@ pub enum ParseErr {
 }
 
 /// A fault, and how many bytes of the text are left where its token begins.
-#[derive(Clone, Copy, Debug, PartialEq, Eq)]
+#[derive(Clone, Copy)]
 pub struct Refusal {
     pub kind: TextKind,
     pub left: usize,
 }
 
 /// Why a part of a text was not read.
-#[derive(Clone, Copy, Debug, PartialEq, Eq)]
+#[derive(Clone, Copy)]
 pub enum ReadErr {
     Refused(Refusal),
     NoMemory,

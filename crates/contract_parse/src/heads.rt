@@ -17,7 +17,7 @@ use term_core::{CmpOp, LogicOp, NumOp};
 pub const MAX_DEPTH: u32 = 200;
 
 /// What an expression begins with.
-#[derive(Clone, Copy, Debug)]
+#[derive(Clone, Copy)]
 pub enum First {
     Number { number: Decimal },
     Name { back: u32 },
@@ -38,7 +38,7 @@ pub enum First {
 }
 
 /// What a contract begins with.
-#[derive(Clone, Copy, Debug)]
+#[derive(Clone, Copy)]
 pub enum Head {
     Zero,
     Pay,
@@ -50,7 +50,7 @@ pub enum Head {
 }
 
 /// An operator between two expressions.
-#[derive(Clone, Copy, Debug)]
+#[derive(Clone, Copy)]
 pub enum Operator {
     Arithmetic { op: NumOp },
     Comparison { op: CmpOp },
@@ -58,7 +58,7 @@ pub enum Operator {
 }
 
 /// What binds a name.
-#[derive(Clone, Copy, Debug)]
+#[derive(Clone, Copy)]
 pub enum Binder {
     Let,
     Acc,

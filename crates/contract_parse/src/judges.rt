@@ -8,10 +8,10 @@ ghost use Rattle.contract_parse.specs.Reading.{IsBetween, IsBound, tok_of};
 use crate::faults::{ReadErr, Refusal, TextKind};
 use crate::heads::Operator;
 use crate::names::{Bound, back_to};
-use crate::numbers::{decimal_in, whole_number, widened, with_sign};
+use crate::numbers::{whole_number, with_sign};
 use crate::token::Lexeme;
 use crate::words::{is_date, is_integer, is_name, is_number, is_the_mark, is_the_word};
-use decimal::{Decimal, Mode};
+use decimal::{Decimal, Mode, decimal_of, widen};
 use term_core::{CmpOp, LogicOp, NumOp, epoch_day};
 
 /// The fault of this kind at a token.
@@ -63,7 +63,7 @@ pub fn literal_at(negative: bool, token: &Lexeme<'_>) -> Result<Decimal, TextKin
     ensures scale { IfOk result (λ d. d.scale ≤ 27) }
 {
     if is_number(token) {
-        match decimal_in(token.text) {
+        match decimal_of(token.text) {
             Some(number) => Ok(with_sign(negative, number)),
             None => Err(TextKind::Number),
         }
@@ -101,7 +101,7 @@ pub fn bound_at(
     if number.scale > scale {
         return Err(TextKind::Range);
     }
-    match widened(number.mant, scale - number.scale) {
+    match widen(number.mant, scale - number.scale) {
         Some(mant) => above(low, mant),
         None => Err(TextKind::Number),
     }

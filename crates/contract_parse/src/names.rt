@@ -8,7 +8,7 @@ use indexmap::{IndexMap, IndexSet};
 use term_core::Name;
 
 /// The sets of names that a text declares.
-#[derive(Clone, Copy, Debug)]
+#[derive(Clone, Copy)]
 pub enum NameSet {
     Party,
     Asset,

@@ -2,11 +2,15 @@
 ghost use Rattle.std.specs.Prelude.{◌≡◌, ◌≤◌, ◌<◌, ◌-◌, ◌∷◌, [], List, IfNone, IfOk, IfSome, codes, length};
 ghost use Rattle.indexmap.specs.IndexMap.{keys};
 ghost use Rattle.term_core.specs.Books.{book};
+ghost use Rattle.term_core.specs.Sizes.{height_of_contract};
+ghost use Rattle.term_core.specs.Terms.{contract};
 ghost use Rattle.contract_parse.specs.Tokens.{Tok, tokens};
-ghost use Rattle.contract_parse.specs.Names.{nothing_declared};
-ghost use Rattle.contract_parse.specs.Spelling.{word};
+ghost use Rattle.contract_parse.specs.Names.{Scope, nothing_declared};
+ghost use Rattle.contract_parse.specs.Judgements.{is_version};
+ghost use Rattle.contract_parse.specs.Words.{Bytes};
+ghost use Rattle.contract_parse.specs.Spelling.{contr, mark, one, word, ◌⨟◌};
 ghost use Rattle.contract_parse.specs.Statements.{Entry, Repeat, contract_line, portfolio};
-ghost use Rattle.contract_parse.specs.Places.{ContractLines, Leaves, Open, Place, contract_places, run, text_places};
+ghost use Rattle.contract_parse.specs.Places.{ContrAt, ContractLines, Leaves, Open, Place, TheMark, TheVersion, TheWord, contract_places, run, text_places};
 ghost use Rattle.contract_parse.specs.Reading.{scope_in, tokens_ahead};
 ghost use Rattle.contract_parse.specs.ContractReading.{trees};
 ghost use Rattle.contract_parse.specs.Texts.{Answers};
@@ -23,6 +27,24 @@ use indexmap::IndexMap;
 use std::alloc::Global;
 use term_core::{Contr, Decls, Name, Portfolio};
 
+// A contract behind its name, to the end of its line.
+#[tactic(auto, using(crate::proofs::Parts::followed_by))]
+fn read_definition<'a>(
+    alloc: Global,
+    decls: &Decls,
+    rest: &'a [u8],
+) -> Result<(Contr, &'a [u8]), ReadErr>
+    ensures follows { (cs : List Bytes) (ps : List Place) → Leaves (λ r. run (scope_in decls.now cs) ps (tokens r.1.now)) result (run (scope_in decls.now cs) (TheMark (codes "=") ∷ ContrAt 1 [] ∷ TheMark (codes ";") ∷ ps) (tokens rest.now)) }
+    ensures spelled { IfOk result (λ r. (mark (codes "=") ⨟ contr (scope_in decls.now []) [] (contract r.0) ⨟ mark (codes ";")) (tokens rest.now) (tokens r.1.now)) }
+    ensures high { IfOk result (λ r. height_of_contract (contract r.0) ≤ 200) }
+    ensures shorter { IfOk result (λ r. length r.1.now < length rest.now) }
+{
+    let rest = skip_mark(rest, b"=")?;
+    let (body, rest) = read_contr(alloc, decls, &Bound::Outermost, 1, rest)?;
+    let rest = skip_mark(rest, b";")?;
+    Ok((body, rest))
+}
+
 // A contract behind its word.
 fn read_contract<'a>(
     alloc: Global,
@@ -35,9 +57,7 @@ fn read_contract<'a>(
     ensures shorter { IfOk result (λ r. length r.now < length rest.now) }
 {
     let (name, rest) = read_new_name(alloc, contracts, rest)?;
-    let rest = skip_mark(rest, b"=")?;
-    let (contract, rest) = read_contr(alloc, decls, &Bound::Outermost, 1, rest)?;
-    let rest = skip_mark(rest, b";")?;
+    let (contract, rest) = read_definition(alloc, decls, rest)?;
     contracts.insert(name, contract)?;
     Ok(rest)
 }
@@ -59,14 +79,25 @@ fn read_contracts<'a>(
     Ok((contracts, ahead))
 }
 
+// The first line.
+#[tactic(auto, using(crate::proofs::Parts::followed_by))]
+fn skip_first_line(rest: &[u8]) -> Result<&[u8], ReadErr>
+    ensures follows { (s : Scope) (ps : List Place) → Leaves (λ r. run s ps (tokens r.now)) result (run s (TheWord (codes "portfolio") ∷ TheVersion ∷ TheMark (codes ";") ∷ ps) (tokens rest.now)) }
+    ensures spelled { IfOk result (λ r. (word (codes "portfolio") ⨟ one is_version ⨟ mark (codes ";")) (tokens rest.now) (tokens r.now)) }
+    ensures shorter { IfOk result (λ r. length r.now ≤ length rest.now) }
+{
+    let rest = skip_word(rest, b"portfolio")?;
+    let rest = skip_version(rest)?;
+    let rest = skip_mark(rest, b";")?;
+    Ok(rest)
+}
+
 fn read_portfolio(alloc: Global, bytes: &[u8]) -> Result<Portfolio, ReadErr>
     requires { length bytes.now ≤ 16_777_216 }
     ensures follows { Leaves (λ r. Open []) result (run nothing_declared text_places (tokens bytes.now)) }
     ensures spelled { IfOk result (λ r. portfolio (book r) (tokens bytes.now) []) }
 {
-    let rest = skip_word(bytes, b"portfolio")?;
-    let rest = skip_version(rest)?;
-    let rest = skip_mark(rest, b";")?;
+    let rest = skip_first_line(bytes)?;
     let (decls, ahead) = read_decls(alloc, rest)?;
     let (contracts, ahead) = read_contracts(alloc, &decls, &ahead)?;
     read_end(&ahead)?;

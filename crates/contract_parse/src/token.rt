@@ -4,7 +4,7 @@ ghost use Rattle.std.specs.List.{prefix_len};
 ghost use Rattle.contract_parse.specs.Tokens.{after_gap, are_digits, is_date_part, begins_with_date, begins_with_digit, digits_extent, extent_at, fraction_len, is_blank, is_digit, is_letter, is_long_mark, is_short_mark, is_word_byte, mark_extent, mark_len, next_token, number_len, word_extent};
 
 /// What a token is. At a stray byte no token begins.
-#[derive(Clone, Copy, Debug, PartialEq, Eq)]
+#[derive(Clone, Copy)]
 pub enum Kind {
     Word,
     Number,
@@ -15,7 +15,7 @@ pub enum Kind {
 }
 
 /// A token, and how many bytes are left where it begins.
-#[derive(Clone, Copy, Debug)]
+#[derive(Clone, Copy)]
 pub struct Lexeme<'a> {
     pub kind: Kind,
     pub text: &'a [u8],
@@ -23,7 +23,7 @@ pub struct Lexeme<'a> {
 }
 
 /// What begins at a byte, and how many bytes it has.
-#[derive(Clone, Copy, Debug)]
+#[derive(Clone, Copy)]
 pub struct Extent {
     pub kind: Kind,
     pub len: usize,

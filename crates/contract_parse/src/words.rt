@@ -9,7 +9,7 @@ ghost use Rattle.contract_parse.specs.Reading.{tok_of, tokens_after, tokens_ahea
 use crate::token::{Kind, Lexeme, next_token};
 
 /// The token that comes next, read ahead, and the text after it.
-#[derive(Clone, Copy, Debug)]
+#[derive(Clone, Copy)]
 pub struct Lookahead<'a> {
     pub token: Lexeme<'a>,
     pub after: &'a [u8],

@@ -1,6 +1,6 @@
 -- What the tokens of canonical texts are to the grammar.
 use Rattle.std.proofs.Common.{◌≡◌, ◌≢◌, ℕ, zero, suc, ◌-◌, ◌/◌, ◌^◌, ◌≤◌, ◌<◌, inl, inr, ℤ, pos, negsuc, Bool, true, false, cond, ◌&&◌, Ok, Err, List, [], ◌∷◌, ◌++◌, length, take, get_or, refl, sym, ap, subst, ◌∙◌, arith, append_assoc, unsigned_abs}
-use Rattle.std.specs.Prelude.{◌==◌, nat_le, not, Option, Some, None, position}
+use Rattle.std.specs.Prelude.{◌==◌, nat_lt, not, Option, Some, None, position}
 use Rattle.std.specs.List.{list_all, position_or_len}
 use Rattle.std.specs.Str.{bytes_eq}
 use Rattle.std.specs.Str.Parse.{AllDigits, digits_value}
@@ -20,9 +20,10 @@ use Rattle.contract_parse.specs.Tokens.{is_word_byte, is_digit}
 use Rattle.contract_parse.specs.Words.{Bytes, is_integer, is_reserved}
 use Rattle.contract_parse.specs.Names.{back_to, is_declared, place_in}
 use Rattle.contract_parse.specs.Judgements.{binder_at, integer_at, literal_at, new_at, offset_at, or_fault, signed_decimal, signed_result, up_to, use_at, variable_at}
+use Rattle.contract_parse.specs.NameTexts.{is_name_text, is_word_text}
 use Rattle.contract_parse.proofs.Passing.{and_parts}
 use Rattle.contract_print.specs.TermTexts.{bound_name, name_at, number_text}
-use Rattle.contract_print.specs.Spellable.{are_names, are_new, is_name_text, is_word_text}
+use Rattle.contract_print.specs.Spellable.{are_names, are_new}
 use Rattle.contract_print.specs.Spelled.{bound_names}
 use Rattle.contract_print.proofs.DigitFacts.{digits_of_text, few_digits, read_unsigned, unsigned}
 use Rattle.contract_print.proofs.TokenTexts.{all_digits, token}
@@ -108,7 +109,7 @@ bound_word n few =
     let all : list_all is_word_byte text ≡ true = digits_word text (all_digits text (whole_text n).digits) in
     let one : n / 10 ^ 0 ≡ n = omega arith in
     let len : length text ≤ 3 = omega (arith, length-append (whole_digits (n / 10 ^ 0)) [], ap (λ k. length (whole_digits k)) one, few_digits n few) in
-    let short : nat_le (suc (length text)) 64 ≡ true = grind (arith, nat_tests) in
+    let short : nat_lt (length text) 64 ≡ true = grind (arith, nat_tests) in
     subst (λ (t : Bytes). is_word_text (118 ∷ t) ≡ true) (sym (number_is n)) (rw (all, short) refl)
 
 pub bound_free : (n : ℕ) → is_reserved (bound_name n) ≡ false

@@ -11,8 +11,10 @@ use Rattle.std.proofs.lemmas.List.{append-nil, map-append}
 use Rattle.std.proofs.lemmas.List.Elements.{recursion_from_All}
 use Rattle.std.proofs.lemmas.Str.{IsUtf8-from_ascii}
 use Rattle.std.proofs.lemmas.Str.Ascii.{IsAscii-nil}
+use Rattle.decimal.specs.Mantissas.{mantissa}
 use Rattle.decimal.specs.Rounding.{raised}
 use Rattle.decimal.specs.Text.{unsigned_text}
+use Rattle.decimal.proofs.MantissaFacts.{mantissa_within}
 use Rattle.term_core.specs.Dates.{epoch_day_of}
 use Rattle.term_core.proofs.DateTextFacts.{texts_unique}
 use Rattle.term_core.specs.Limits.{greatest_mantissa, is_label, is_origin}
@@ -26,15 +28,16 @@ use Rattle.contract_parse.specs.declared.faults.TextKind.TheVariants as kind
 use Rattle.contract_parse.specs.Tokens.{Tok, extent_at, next_token, tokens, tokens_from}
 use Rattle.contract_parse.specs.Words.{Bytes}
 use Rattle.contract_parse.specs.Names.{is_declared, scope_of}
-use Rattle.contract_parse.specs.Judgements.{above, above_limited, bound_at, day_in, integer_at, is_version, limited, new_at, origin_at, widened}
+use Rattle.contract_parse.specs.Judgements.{above, above_limited, bound_at, day_in, integer_at, is_version, new_at, origin_at, widened}
 use Rattle.contract_parse.specs.Spelling.{Part, ◌⨟◌, end, mark, one, valued, word}
 use Rattle.contract_parse.specs.Statements.{Entry, Repeat, comma_name, contract_line, decls, label_line, more, name_lines, none, origin_line, range, shallow, start_line, template_line}
 use Rattle.contract_parse.specs.Texts.{Text}
+use Rattle.contract_parse.specs.NameTexts.{is_name_text, is_word_text}
 use Rattle.contract_parse.proofs.Parts.{followed_by}
 use Rattle.contract_parse.proofs.Passing.{and_parts}
 use Rattle.contract_print.specs.Canon.{IsOriginText, amounts_text, book_text, contract_text, decls_text, header_text, label_text, line, more_names_text, names_text, origin_text, range_text, start_text, template_text}
 use Rattle.contract_print.specs.Laws.{CanonIsText, OneCanon}
-use Rattle.contract_print.specs.Spellable.{AreSpellable, IsSpellable, IsSpellableBook, are_names, are_new, is_name_text, is_word_text}
+use Rattle.contract_print.specs.Spellable.{AreSpellable, IsSpellable, IsSpellableBook, are_names, are_new}
 use Rattle.contract_print.specs.Spelled.{Spells, anywhere, stops}
 use Rattle.contract_print.proofs.DateTokens.{date_ascii, date_token, is_date_text}
 use Rattle.contract_print.proofs.TokenTexts.{is_first, number_token, token}
@@ -109,9 +112,6 @@ name_lines_spelled w (name ∷ rest) is all =
 
 -- ---- labels and templates
 
-limited_judged : (m : ℤ) → unsigned_abs m ≤ 10 ^ 37 → limited m ≡ Some m
-limited_judged m size = let small : nat_le (unsigned_abs m) greatest_mantissa ≡ true = grind (arith, nat_tests) in rw small refl
-
 not_raised : (m : ℤ) (k : ℕ) → raised m (k - k) ≡ m
 not_raised m k = let none : k - k ≡ 0 = omega arith in rw none (times_one m)
   where
@@ -123,9 +123,9 @@ bound_judged : (scale : ℕ) (low : Option ℤ) (m : ℤ) (left : ℕ) → unsig
 bound_judged scale low m left size small is_above =
     let same : nat_lt scale scale ≡ false = grind (arith, nat_tests) in
     ap (widened scale low) (literal_judged m scale left size (omega arith))
-    ∙ ap (λ (b : Bool). cond b (Err kind.Range) (above_limited low (limited (raised m (scale - scale))))) same
-    ∙ ap (λ (z : ℤ). above_limited low (limited z)) (not_raised m scale)
-    ∙ ap (above_limited low) (limited_judged m size)
+    ∙ ap (λ (b : Bool). cond b (Err kind.Range) (above_limited low (mantissa (raised m (scale - scale))))) same
+    ∙ ap (λ (z : ℤ). above_limited low (mantissa z)) (not_raised m scale)
+    ∙ ap (above_limited low) (mantissa_within m size)
     ∙ is_above
 
 extent_points : (bs : List ℕ) → extent_at (46 ∷ 46 ∷ 32 ∷ bs) ≡ record { kind = Mark; len = 2 }

@@ -6,6 +6,7 @@ use Rattle.std.proofs.lemmas.Bool.Decides.{nat_tests}
 use Rattle.decimal.specs.declared.Decimal.{Decimal}
 use Rattle.decimal.specs.declared.reading.DecFault.{DecFault}
 use Rattle.decimal.specs.DecimalText.{Reads}
+use Rattle.decimal.specs.Mantissas.{mantissa}
 use Rattle.decimal.specs.Reading.{read_of}
 use Rattle.decimal.specs.Rounding.{raised}
 use Rattle.decimal.proofs.ReadingFacts.{reads}
@@ -16,7 +17,7 @@ use Rattle.term_core.specs.declared.terms.Days.{Days}
 use Rattle.term_core.specs.declared.terms.Days.TheVariants.{Num as Count, Named}
 use Rattle.contract_parse.specs.Tokens.{Tok}
 use Rattle.contract_parse.specs.Words.{Bytes, is_date, is_number, is_integer}
-use Rattle.contract_parse.specs.Judgements.{above, above_limited, bound_at, counted, day_in, days_at, integer_at, limited, literal_at, named, or_fault, origin_at, signed_decimal, up_to, use_at, whole, widened, with_sign}
+use Rattle.contract_parse.specs.Judgements.{above, above_limited, bound_at, counted, day_in, days_at, integer_at, literal_at, named, or_fault, origin_at, signed_decimal, up_to, use_at, whole, widened, with_sign}
 use Rattle.contract_parse.specs.Spelling.{valued}
 use Rattle.contract_parse.specs.declared.faults.TextKind.{TextKind}
 use Rattle.contract_parse.specs.declared.faults.TextKind.TheVariants.{Date, Number}
@@ -86,7 +87,7 @@ above_same (Some low) z m e = elim (cases_Bool (int_lt z low)) [
   | inr fits ↦ let h : Ok z ≡ Ok m = rw fits at e in cc
 ]
 
-limited_within : (low : Option ℤ) (z m : ℤ) → above_limited low (limited z) ≡ Ok m → IsBound low m
+limited_within : (low : Option ℤ) (z m : ℤ) → above_limited low (mantissa z) ≡ Ok m → IsBound low m
 limited_within low z m e = elim (cases_Bool (nat_le (unsigned_abs z) greatest_mantissa)) [
   | inl fits ↦
       let h : above low z ≡ Ok m = rw fits at e in

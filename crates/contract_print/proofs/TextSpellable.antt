@@ -21,11 +21,12 @@ use Rattle.contract_parse.specs.Spelling.{Part, mark, valued, word}
 use Rattle.contract_parse.specs.Statements.{Added, Entry, Repeat, comma_name, contract_line, decls, label_line, more, name_line, none, origin_line, start_line, template_line}
 use Rattle.contract_parse.specs.Texts.{Text}
 use Rattle.contract_parse.specs.declared.faults.TextKind.TheVariants.{Twice}
+use Rattle.contract_parse.specs.NameTexts.{is_name_text, is_word_text}
 use Rattle.contract_parse.proofs.Passing.{and_parts}
 use Rattle.contract_parse.proofs.TextSizes.{contract_lines}
 use Rattle.contract_parse.proofs.TextClosed.{contracts_closed}
 use Rattle.contract_print.specs.Laws.{TextsAreSpellable, TextsAreWritable}
-use Rattle.contract_print.specs.Spellable.{AreSpellable, ContractHasNumbersOfTexts, IsSpellable, are_names, are_new, is_name_text, is_word_text}
+use Rattle.contract_print.specs.Spellable.{AreSpellable, ContractHasNumbersOfTexts, IsSpellable, are_names, are_new}
 use Rattle.contract_print.specs.Writable.{IsWritableTerm}
 use Rattle.contract_print.proofs.NumbersWithin.{bound_within, by_value, integer_within, label_within, origin_within}
 use Rattle.contract_print.proofs.TermNumbers.{numbers_of_contract, spellable_written}

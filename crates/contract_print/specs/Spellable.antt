@@ -1,30 +1,21 @@
 -- What a text can stand for: numbers and depths within the limits of texts, contracts that are closed, and names that
 -- are words and not reserved, of which none is declared twice in its set.
-use Rattle.std.specs.Prelude.{◌≡◌, ◌≤◌, ◌<◌, ◌^◌, ℕ, ℤ, unsigned_abs, Bool, true, false, ◌&&◌, not, List, [], ◌∷◌, ◌++◌, length, nat_le, suc}
-use Rattle.std.specs.List.{list_all, All}
+use Rattle.std.specs.Prelude.{◌≡◌, ◌≤◌, ◌<◌, ◌^◌, ℕ, ℤ, unsigned_abs, Bool, true, ◌&&◌, not, List, [], ◌∷◌, ◌++◌, length, suc}
+use Rattle.std.specs.List.{All}
 use Rattle.std.specs.Map.{keys_of}
 use Rattle.term_core.specs.Limits.{IsOffset, are_labels, are_numbers, is_origin}
 use Rattle.term_core.specs.Declarations.{Declarations}
 use Rattle.term_core.specs.Books.{Book}
 use Rattle.term_core.specs.Sizes.{height_of_contract}
 use Rattle.term_core.specs.WellFormed.{IsClosed}
-use Rattle.contract_parse.specs.Tokens.{is_letter, is_word_byte}
-use Rattle.contract_parse.specs.Words.{Bytes, is_reserved}
+use Rattle.contract_parse.specs.Words.{Bytes}
 use Rattle.contract_parse.specs.Names.{is_declared}
+use Rattle.contract_parse.specs.NameTexts.{is_name_text}
 use Rattle.term_core.specs.Terms.{Expression, Lit, Yes, Var, Obs, Neg, Num, Cmp, Not, Logic, Cond, Widen, Round, Div, Acc, Contract, Zero, Pay, Both, Scale, After, Let, Within}
 use Rattle.term_core.specs.declared.terms.Days.{Days}
 use Rattle.term_core.specs.declared.terms.Days.TheVariants.{Num as Count, Named}
 
--- a letter or `_`, then letters, digits and `_`, in all at most 64 bytes
-abbrev pub is_word_text : Bytes → Bool
-is_word_text [] = false
-is_word_text (b ∷ bs) = is_letter b && (list_all is_word_byte bs && nat_le (suc (length bs)) 64)
-
--- NAME
-abbrev pub is_name_text : Bytes → Bool
-is_name_text text = is_word_text text && not (is_reserved text)
-
--- each is a NAME, and none is declared twice
+-- each can be a name, and none is declared twice
 abbrev pub are_new : List Bytes → List Bytes → Bool
 are_new before [] = true
 are_new before (name ∷ names) = (is_name_text name && not (is_declared before name)) && are_new (before ++ name ∷ []) names

@@ -4,8 +4,12 @@ use Rattle.std.specs.Prelude.{ℕ, ℤ, ◌^◌, List, Option, Some, None, Resul
 use Rattle.decimal.specs.declared.reading.Decimal.{Decimal}
 use Rattle.decimal.specs.Reading.{read_of}
 
+-- the greatest size of a mantissa
+abbrev pub greatest_mantissa : ℕ
+greatest_mantissa = 10 ^ 37
+
 abbrev pub mantissa : ℤ → Option ℤ
-mantissa m = if nat_le (unsigned_abs m) (10 ^ 37) then Some m else None
+mantissa m = if nat_le (unsigned_abs m) greatest_mantissa then Some m else None
 
 abbrev pub decimal_of : List ℕ → Option Decimal
 decimal_of text = elim (read_of text) [ Ok d ↦ Some d | Err fault ↦ None ]

@@ -16,7 +16,7 @@ use Rattle.term_core.specs.Acceptance.{IsAccepted}
 use Rattle.interval_check.specs.Nodes.{range_of}
 use Rattle.interval_check.specs.Within.{IsIn, KeepsLimits}
 use Rattle.interval_check.specs.Parts.{StandsIn}
-use Rattle.interval_check.proofs.SuitedFacts.{parts_of_accepted_are_safe}
+use Rattle.term_core.specs.Shifts.{shifted}
 use Rattle.expr_eval.specs.declared.scratch.Binding.{Binding}
 use Rattle.expr_eval.specs.declared.operations.Typed.{Typed}
 use Rattle.expr_eval.specs.Rooms.{kinds_of}
@@ -27,7 +27,7 @@ use Rattle.expr_eval.specs.Answers.{lacked, IsValueEverywhere, IsAnswer, HasKind
 use Rattle.expr_eval.specs.LawsEntries.{NoneStandForNone, EnteredStandFor, EnteredSuit}
 use Rattle.expr_eval.proofs.RunValues.{run_is_value, same_kinds}
 use Rattle.expr_eval.proofs.RunReads.{missed, have_values, run_lacks_first, self_extends}
-use Rattle.expr_eval.proofs.EvaluableFacts.{SafeEntries, entries_for, on_number, safe_entries, kind_for}
+use Rattle.expr_eval.proofs.EvaluableFacts.{SafeEntries, moved_is_safe, entries_for, on_number, safe_entries, kind_for}
 
 kinds_standing : (fixings : Environment) (bs : List Binding) (es : List Entry) (ps : List (List Place)) → StandFor fixings bs es ps → kinds_of bs ≡ kinds es
 kinds_standing fixings bs es ps s = same_kinds bs es (have_values fixings bs es ps s)
@@ -60,12 +60,12 @@ kinds_suited [] (b ∷ bs) s = absurd s
 kinds_suited (r ∷ g) [] s = absurd s
 kinds_suited (r ∷ g) (b ∷ bs) s = let p = kinds_suited g bs s.1 in let q = s.0.same_kind in cc
 
-within_from : (d : Declarations) (e : Expression) (bs : List Binding) (fixings : Environment) (f : ℤ) (k : Kind) → KeepsLimits d → IsAdmitted d fixings → kind_of d e (kinds_of bs) ≡ Some k → (a : Answer) → run_of d e bs fixings f ≡ a → (c : Contract) (g : List Range) → IsAccepted d c → StandsIn d e g c [] → SuitAll g bs → IsHeldIn (range_of d e g) (held_of (untyped a))
-within_from d e bs fixings f k limits admitted h (Err m) r c g accepted stands suit = tt
-within_from d e bs fixings f k limits admitted h (Ok v) r c g accepted stands suit =
-    let s = entries_for d limits e g c bs accepted stands suit in
+within_from : (d : Declarations) (e : Expression) (bs : List Binding) (fixings : Environment) (f : ℤ) (k : Kind) → KeepsLimits d → IsAdmitted d fixings → kind_of d e (kinds_of bs) ≡ Some k → (a : Answer) → run_of d e bs fixings f ≡ a → (c : Contract) (m : ℤ) (g : List Range) → IsAccepted d c → StandsIn d (shifted m e) g c [] → SuitAll g bs → IsHeldIn (range_of d e g) (held_of (untyped a))
+within_from d e bs fixings f k limits admitted h (Err q) r c m g accepted stands suit = tt
+within_from d e bs fixings f k limits admitted h (Ok v) r c m g accepted stands suit =
+    let s = entries_for d limits (shifted m e) g c bs accepted stands suit in
     let same = same_kinds bs s.entries s.known in
-    let safe = parts_of_accepted_are_safe d c e g s.entries fixings f limits accepted stands s.suited admitted in
+    let safe = moved_is_safe d c e m g s.entries fixings f limits accepted stands s.suited admitted in
     let is : v.value ≡ value_of d e s.entries fixings f = ap (λ (o : Typed). o.value) (run_is_value d e bs s.entries s.known fixings fixings (self_extends fixings) f k (subst (λ (ks : List Kind). kind_of d e ks ≡ Some k) same h) v r) in
     let kind : kind_or (kind_of d e (kinds s.entries)) ≡ kind_or (kind_of d e (range_kinds g)) = ap (λ (ks : List Kind). kind_or (kind_of d e ks)) (sym same ∙ kinds_suited g bs suit) in
     record {
@@ -74,10 +74,10 @@ within_from d e bs fixings f k limits admitted h (Ok v) r c g accepted stands su
     }
 
 pub suits_binding : (d : Declarations) (e : Expression) (bs : List Binding) (fixings : Environment) (f : ℤ) (k : Kind) → KeepsLimits d → IsAdmitted d fixings → kind_of d e (kinds_of bs) ≡ Some k → SuitsBinding d e bs (untyped (run_of d e bs fixings f))
-suits_binding d e bs fixings f k limits admitted h c g accepted stands suit =
+suits_binding d e bs fixings f k limits admitted h c m g accepted stands suit =
     record {
       same_kind = ap (λ (ks : List Kind). kind_or (kind_of d e ks)) (kinds_suited g bs suit);
-      within = within_from d e bs fixings f k limits admitted h (run_of d e bs fixings f) refl c g accepted stands suit;
+      within = within_from d e bs fixings f k limits admitted h (run_of d e bs fixings f) refl c m g accepted stands suit;
     }
 
 -- what eval promises of its answer

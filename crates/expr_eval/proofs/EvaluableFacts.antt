@@ -10,9 +10,9 @@ use Rattle.term_core.specs.Terms.{Expression, Lit, Yes, Var, Obs, Neg, Num, Cmp,
 use Rattle.term_core.specs.Terms.{Contract, Zero, Pay, Both, Scale, After, Let, Within}
 use Rattle.term_core.specs.Environments.{Environment, IsAdmitted}
 use Rattle.term_core.specs.Kinds.{kind_of}
-use Rattle.term_core.specs.Values.{Entry, num}
+use Rattle.term_core.specs.Values.{Entry, num, value_of}
 use Rattle.term_core.specs.LawsKinds.{IsOfKind}
-use Rattle.term_core.specs.Bounds.{Range}
+use Rattle.term_core.specs.Bounds.{Range, interval_of}
 use Rattle.term_core.specs.Acceptance.{IsAccepted}
 use Rattle.term_core.specs.Sizes.{past, past_of_contract, height_of_contract, nodes_of_contract, reach, work_of_contract}
 use Rattle.term_core.specs.Smallness.{is_small, within_limits, days_of_contract}
@@ -23,10 +23,13 @@ use Rattle.interval_check.specs.Parts.{IsPart, IsPartHere, StandsIn}
 use Rattle.interval_check.specs.Safety.{ScalesFit, CanEvaluate}
 use Rattle.interval_check.specs.RangeTrials.{kind_found}
 use Rattle.interval_check.specs.Sums.{entry_of}
-use Rattle.interval_check.proofs.GuaranteeFacts.{accepted_meet_rules, bindings_lie_within}
-use Rattle.interval_check.proofs.SuitedFacts.{parts_of_accepted_are_safe}
+use Rattle.term_core.specs.Shifts.{shifted}
+use Rattle.interval_check.proofs.GuaranteeFacts.{accepted_meet_rules, bindings_lie_within, parts_meet_rules, expressions_are_safe}
+use Rattle.interval_check.proofs.GuaranteeFacts.{values_lie_in_intervals}
+use Rattle.rewriting.proofs.ShiftedRules.{rules_see_no_offsets}
+use Rattle.interval_check.proofs.SuitedFacts.{suited_are_within}
 use Rattle.interval_check.proofs.KindsFound.{has_kind}
-use Rattle.interval_check.proofs.ClosedFacts.{closed_parts_are_safe}
+use Rattle.interval_check.proofs.ClosedFacts.{closed_need_no_names}
 use Rattle.expr_eval.specs.declared.scratch.Held.{Held}
 use Rattle.expr_eval.specs.declared.scratch.Held.TheVariants.{Known, Lacking}
 use Rattle.expr_eval.specs.declared.scratch.Binding.{Binding}
@@ -35,6 +38,7 @@ use Rattle.expr_eval.specs.KindScales.{KindFits}
 use Rattle.expr_eval.specs.Evaluable.{IsHeldIn, SuitAll, MayEvaluate}
 use Rattle.expr_eval.specs.Fits.{Fits}
 use Rattle.expr_eval.proofs.RunValues.{HasValue, HaveValues, same_kinds}
+use Rattle.expr_eval.proofs.SpanFacts.{span, span-shifted, span-past}
 use Rattle.expr_eval.proofs.FitFacts.{InDays, kind_fits, run_fits}
 
 -- some entries lie within the ranges round an expression: the values where nothing is fixed
@@ -120,6 +124,14 @@ entries_for d limits e g c bs accepted stands suit =
     let some = entries_round d limits e g c [] stands (accepted_meet_rules d c accepted) ([], tt) in
     suited_entries g bs some.0 suit some.1
 
+-- what stands in an accepted contract with its offsets moved is safe as it is
+pub moved_is_safe : (d : Declarations) (c : Contract) (e : Expression) (m : ℤ) (h : List Range) (es : List Entry) (env : Environment) (f : ℤ) → KeepsLimits d → IsAccepted d c → StandsIn d (shifted m e) h c [] → AreSuited h es → IsAdmitted d env → CanEvaluate d e es env f × IsIn (interval_of d e h) (num (value_of d e es env f))
+moved_is_safe d c e m h es env f limits accepted stands suited admitted =
+    let whole = accepted_meet_rules d c accepted in
+    let rules = (rules_see_no_offsets d e m h).0 (parts_meet_rules d (shifted m e) h c [] stands whole) in
+    let within = suited_are_within d limits (shifted m e) h c es stands whole suited in
+    (expressions_are_safe d e h es env f limits rules within admitted, values_lie_in_intervals d e h es env f limits rules.bounds within admitted)
+
 -- so it is safe with these
 
 pub record SafeEntries (d : Declarations) (e : Expression) (bs : List Binding) (env : Environment) (f : ℤ) : Type 0 where
@@ -130,17 +142,19 @@ pub record SafeEntries (d : Declarations) (e : Expression) (bs : List Binding) (
 pub safe_entries : (d : Declarations) (e : Expression) (bs : List Binding) (env : Environment) (f : ℤ) → KeepsLimits d → IsAdmitted d env → MayEvaluate d e bs → SafeEntries d e bs env f
 safe_entries d e bs env f limits admitted h = elim h.entries [
   | inl suit ↦
-      let known = entries_for d limits e h.ranges h.contract bs h.accepted h.stands suit in
+      let known = entries_for d limits (shifted h.moved e) h.ranges h.contract bs h.accepted h.stands suit in
       record {
         entries = known.entries;
         known = known.known;
-        safe = (parts_of_accepted_are_safe d h.contract e h.ranges known.entries env f limits h.accepted h.stands known.suited admitted).0;
+        safe = (moved_is_safe d h.contract e h.moved h.ranges known.entries env f limits h.accepted h.stands known.suited admitted).0;
       }
-  | inr none ↦ record {
-    entries = [];
-    known = subst (λ (cs : List Binding). HaveValues cs []) (sym none.empty) tt;
-    safe = closed_parts_are_safe d h.contract e h.ranges env f limits h.accepted h.stands none.closed admitted;
-  }
+  | inr none ↦
+      let rules = (rules_see_no_offsets d e h.moved h.ranges).0 (parts_meet_rules d (shifted h.moved e) h.ranges h.contract [] h.stands (accepted_meet_rules d h.contract h.accepted)) in
+      record {
+        entries = [];
+        known = subst (λ (cs : List Binding). HaveValues cs []) (sym none.empty) tt;
+        safe = expressions_are_safe d e [] [] env f limits (closed_need_no_names d e h.ranges none.closed rules) tt admitted;
+      }
 ]
 
 -- and has a kind
@@ -203,7 +217,7 @@ past_of_part e (Div mode s a b) (inr (inr p)) = let q = past_of_part e b p in om
 past_of_part e (Acc body n first) (inl p) = let q = ap past p in omega arith
 past_of_part e (Acc body n first) (inr p) = let q = past_of_part e first p in omega arith
 
-past_of_standing : (d : Declarations) (e : Expression) (h : List Range) (c : Contract) (g : List Range) → StandsIn d e h c g → past e ≤ past_of_contract c
+pub past_of_standing : (d : Declarations) (e : Expression) (h : List Range) (c : Contract) (g : List Range) → StandsIn d e h c g → past e ≤ past_of_contract c
 past_of_standing d e h Zero g p = absurd p
 past_of_standing d e h (Pay a x y) g p = absurd p
 past_of_standing d e h (Both a b) g (inl p) = let q = past_of_standing d e h a g p in omega arith
@@ -220,7 +234,7 @@ past_of_standing d e h (Within x n a b) g (inr (inr p)) = let q = past_of_standi
 back_within : (h n days far back steps : ℕ) → IsTrue (within_limits h n days far back steps) → back ≤ 1_000_000
 back_within h n days far back steps p = grind (arith, nat_tests)
 
-past_limited : (d : Declarations) (c : Contract) → IsAccepted d c → past_of_contract c ≤ 1_000_000
+pub past_limited : (d : Declarations) (c : Contract) → IsAccepted d c → past_of_contract c ≤ 1_000_000
 past_limited d c h =
     back_within (height_of_contract c) (nodes_of_contract c) (days_of_contract c) (reach c) (past_of_contract c) (work_of_contract c) (whole_passes (λ s. IsTrue (is_small s)) c [] 0 h.sizes)
 
@@ -233,7 +247,10 @@ pub may_run : (d : Declarations) (e : Expression) (bs : List Binding) (env : Env
 may_run d e bs env f limits admitted day h =
     let s = safe_entries d e bs env f limits admitted h in
     let k = kind_for d e bs env f s in
+    let moved = shifted h.moved e in
     let back = past_limited d h.contract h.accepted in
-    let here = past_of_standing d e h.ranges h.contract [] h.stands in
-    let close : past e ≤ 1_000_000 = omega arith in
-    run_fits d e bs s.entries s.known env f (near (past e) f close day) k.0 (subst (λ (ks : List Kind). kind_of d e ks ≡ Some k.0) (same_kinds bs s.entries s.known) k.1) s.safe.scales s.safe.safe.1
+    let here = past_of_standing d moved h.ranges h.contract [] h.stands in
+    let reached = span-past moved in
+    let same = span-shifted h.moved e in
+    let close : span e ≤ 1_000_000 = omega arith in
+    run_fits d e bs s.entries s.known env f (near (span e) f close day) k.0 (subst (λ (ks : List Kind). kind_of d e ks ≡ Some k.0) (same_kinds bs s.entries s.known) k.1) s.safe.scales s.safe.safe.1

@@ -10,7 +10,6 @@ use Rattle.term_core.specs.Terms.{Expression, Lit, Yes, Var, Obs, Neg, Num, Cmp,
 use Rattle.term_core.specs.Environments.{Environment}
 use Rattle.term_core.specs.Kinds.{kind_of, scale_of, scale_of_kind, scale_of_op, on_truth, joined}
 use Rattle.term_core.specs.Scales.{greatest_scale}
-use Rattle.term_core.specs.Sizes.{past, days_before}
 use Rattle.term_core.specs.Values.{Entry, kinds, num, value_of, widened, days_run, kind_or}
 use Rattle.interval_check.specs.Safety.{IsSmall, AlignSafely, OperateSafely, WidensSafely, RoundsSafely, DivideSafely, HasSafeValue, HasSafeParts, ScalesFit}
 use Rattle.interval_check.specs.RangeTrials.{kind_found, kind_of_either}
@@ -24,6 +23,7 @@ use Rattle.expr_eval.specs.Runs.{Answer, run_of, bound_to, days_tried, day_step}
 use Rattle.expr_eval.specs.Fits.{OnValue, OnValues, IsDay, Fits, DayFits}
 use Rattle.expr_eval.proofs.RunValues.{typed, HaveValues, run_is_value, same_kinds, scale_either, days_value, by_one}
 use Rattle.expr_eval.proofs.RunReads.{self_extends}
+use Rattle.expr_eval.proofs.SpanFacts.{span}
 
 -- the kind of an expression, in 8 bits
 
@@ -59,7 +59,7 @@ kind_fits d (Acc body n first) ks k e h =
     let p = days (kind_of d first ks) (λ j. kind_of d body (j ∷ ks)) k e in
     kind_fits d first ks k p.first h.0
 
--- the days, in 64 bits: those that an expression of this past meets
+-- the days, in 64 bits: those that an expression of this span meets
 
 pub record InDays (n : ℕ) (f : ℤ) : Type 0 where
   pub low : neg_ℤ (pos (10 ^ 13)) ≤ℤ (f -ℤ pos n)
@@ -131,7 +131,7 @@ right_fits i j s t x y p q a b h =
     let e : max s t ≡ scale_of_kind (kind_of_either i j) = ap (λ (n : ℕ). max n t) p ∙ ap (λ (n : ℕ). max (scale_of_kind i) n) q ∙ sym (scale_either i j) in
     subst (λ (n : ℕ). WidensSafely n (scale_of_kind (kind_of_either i j)) (num y)) q (subst (λ (n : ℕ). WidensSafely t n (num y)) e c)
 
--- the days of an accumulator: its start, with past m, and its body, with past b
+-- the days of an accumulator: its start, with span m, and its body, with span b
 
 in_start : (m b n : ℕ) (f : ℤ) → InDays (max (m + n) (b + (n - 1))) f → InDays m (f -ℤ pos n)
 in_start m b n f p = let low = p.low in let high = p.high in record { low = omega (arith, ints); high = omega (arith, ints) }
@@ -141,7 +141,7 @@ in_body m b n i f h p = let low = p.low in let high = p.high in record { low = o
 
 abbrev pub RunFits : Declarations → Expression → Type 0
 RunFits d e =
-    (bs : List Binding) (es : List Entry) → HaveValues bs es → (fixings : Environment) (f : ℤ) → InDays (past e) f → (k : Kind)
+    (bs : List Binding) (es : List Entry) → HaveValues bs es → (fixings : Environment) (f : ℤ) → InDays (span e) f → (k : Kind)
     → kind_of d e (kinds es) ≡ Some k → ScalesFit d e (kinds es) → HasSafeParts d e es fixings f → Fits d e bs fixings f
 
 -- the entry of an accumulator's name after i days, where its start has some kind
@@ -160,7 +160,7 @@ pub run_fits : (d : Declarations) (e : Expression) → RunFits d e
 run_fits d (Lit m s) bs es st fixings f near k e h v = tt
 run_fits d (Yes b) bs es st fixings f near k e h v = tt
 run_fits d (Var n) bs es st fixings f near k e h v = tt
-run_fits d (Obs l t) bs es st fixings f near k e h v = is_day (days_before t) f near
+run_fits d (Obs l t) bs es st fixings f near k e h v = is_day 0 f near
 run_fits d (Neg a) bs es st fixings f near k e h v =
     let p = one_number (λ s. Number s) (kind_of d a (kinds es)) k e in (
       run_fits d a bs es st fixings f near (Number p.scale) p.operand h v.1,
@@ -170,16 +170,16 @@ run_fits d (Num op a b) bs es st fixings f near k e h v =
     let ks = kinds es in
     let p = two_numbers (λ s t. Number (scale_of_op op s t)) (kind_of d a ks) (kind_of d b ks) k e in
     let most : scale_of_op op p.left_scale p.right_scale ≤ greatest_scale = at_most_of (scale_of_op op p.left_scale p.right_scale) (scale_of d (Num op a b) ks) (ap (λ (j : Kind). scale_of_kind j) p.whole ∙ sym (scale_is d (Num op a b) ks k e)) h.2 in (
-      run_fits d a bs es st fixings f (in_days (past a) (max (past a) (past b)) f (omega arith) near) (Number p.left_scale) p.left h.0 v.0.1,
-      run_fits d b bs es st fixings f (in_days (past b) (max (past a) (past b)) f (omega arith) near) (Number p.right_scale) p.right h.1 v.1.1,
+      run_fits d a bs es st fixings f (in_days (span a) (max (span a) (span b)) f (omega arith) near) (Number p.left_scale) p.left h.0 v.0.1,
+      run_fits d b bs es st fixings f (in_days (span b) (max (span a) (span b)) f (omega arith) near) (Number p.right_scale) p.right h.1 v.1.1,
       on_values (run_of d a bs fixings f) (run_of d b bs fixings f) (typed (Number p.left_scale) (value_of d a es fixings f)) (typed (Number p.right_scale) (value_of d b es fixings f)) (Combines op) (run_is_value d a bs es st fixings fixings (self_extends fixings) f (Number p.left_scale) p.left) (run_is_value d b bs es st fixings fixings (self_extends fixings) f (Number p.right_scale) p.right)
           (combines op p.left_scale p.right_scale (scale_of d a ks) (scale_of d b ks) (value_of d a es fixings f) (value_of d b es fixings f) (scale_is d a ks (Number p.left_scale) p.left) (scale_is d b ks (Number p.right_scale) p.right) v.0.0.most v.1.0.most most v.2),
     )
 run_fits d (Cmp op a b) bs es st fixings f near k e h v =
     let ks = kinds es in
     let p = two_numbers (λ s t. TruthKind) (kind_of d a ks) (kind_of d b ks) k e in (
-      run_fits d a bs es st fixings f (in_days (past a) (max (past a) (past b)) f (omega arith) near) (Number p.left_scale) p.left h.0 v.0.1,
-      run_fits d b bs es st fixings f (in_days (past b) (max (past a) (past b)) f (omega arith) near) (Number p.right_scale) p.right h.1 v.1.1,
+      run_fits d a bs es st fixings f (in_days (span a) (max (span a) (span b)) f (omega arith) near) (Number p.left_scale) p.left h.0 v.0.1,
+      run_fits d b bs es st fixings f (in_days (span b) (max (span a) (span b)) f (omega arith) near) (Number p.right_scale) p.right h.1 v.1.1,
       on_values (run_of d a bs fixings f) (run_of d b bs fixings f) (typed (Number p.left_scale) (value_of d a es fixings f)) (typed (Number p.right_scale) (value_of d b es fixings f)) Compares (run_is_value d a bs es st fixings fixings (self_extends fixings) f (Number p.left_scale) p.left) (run_is_value d b bs es st fixings fixings (self_extends fixings) f (Number p.right_scale) p.right)
           (compares p.left_scale p.right_scale (scale_of d a ks) (scale_of d b ks) (value_of d a es fixings f) (value_of d b es fixings f) (scale_is d a ks (Number p.left_scale) p.left) (scale_is d b ks (Number p.right_scale) p.right) v.0.0.most v.1.0.most v.2),
     )
@@ -189,24 +189,24 @@ run_fits d (Not a) bs es st fixings f near k e h v =
 run_fits d (Logic op a b) bs es st fixings f near k e h v =
     let p = truth_then (kind_of d a (kinds es)) (on_truth (kind_of d b (kinds es)) (Some TruthKind)) k e in
     let q = truth_then (kind_of d b (kinds es)) (Some TruthKind) k p.rest in (
-      run_fits d a bs es st fixings f (in_days (past a) (max (past a) (past b)) f (omega arith) near) TruthKind p.first h.0 v.0.1,
-      run_fits d b bs es st fixings f (in_days (past b) (max (past a) (past b)) f (omega arith) near) TruthKind q.first h.1 v.1.1,
+      run_fits d a bs es st fixings f (in_days (span a) (max (span a) (span b)) f (omega arith) near) TruthKind p.first h.0 v.0.1,
+      run_fits d b bs es st fixings f (in_days (span b) (max (span a) (span b)) f (omega arith) near) TruthKind q.first h.1 v.1.1,
     )
 run_fits d (Cond t a b) bs es st fixings f near k e h v =
     let ks = kinds es in
     let p = truth_then (kind_of d t ks) (joined (kind_of d a ks) (kind_of d b ks)) k e in
     let q = branches (kind_of d a ks) (kind_of d b ks) k p.rest in
     let same = same_kinds bs es st in
-    let all = max (past t) (max (past a) (past b)) in
+    let all = max (span t) (max (span a) (span b)) in
     let x = value_of d a es fixings f in
     let y = value_of d b es fixings f in
     let found_a : kind_found d a (kinds_of bs) ≡ q.yes_kind = ap (λ (js : List Kind). kind_found d a js) same ∙ has_kind d a ks q.yes_kind q.yes in
     let found_b : kind_found d b (kinds_of bs) ≡ q.no_kind = ap (λ (js : List Kind). kind_found d b js) same ∙ has_kind d b ks q.no_kind q.no in
     let scale_a = scale_is d a ks q.yes_kind q.yes in
     let scale_b = scale_is d b ks q.no_kind q.no in (
-      run_fits d t bs es st fixings f (in_days (past t) all f (omega arith) near) TruthKind p.first h.0 v.0.1,
-      run_fits d a bs es st fixings f (in_days (past a) all f (omega arith) near) q.yes_kind q.yes h.1 v.1.1,
-      run_fits d b bs es st fixings f (in_days (past b) all f (omega arith) near) q.no_kind q.no h.2 v.2.1,
+      run_fits d t bs es st fixings f (in_days (span t) all f (omega arith) near) TruthKind p.first h.0 v.0.1,
+      run_fits d a bs es st fixings f (in_days (span a) all f (omega arith) near) q.yes_kind q.yes h.1 v.1.1,
+      run_fits d b bs es st fixings f (in_days (span b) all f (omega arith) near) q.no_kind q.no h.2 v.2.1,
       subst (λ (js : List Kind). KindFits d a js) (sym same) (kind_fits d a ks q.yes_kind q.yes h.1),
       subst (λ (js : List Kind). KindFits d b js) (sym same) (kind_fits d b ks q.no_kind q.no h.2),
       on_value (run_of d a bs fixings f) (typed q.yes_kind x) (λ w. FitsKind (kind_of_either w.kind (kind_found d b (kinds_of bs))) w) (run_is_value d a bs es st fixings fixings (self_extends fixings) f q.yes_kind q.yes)
@@ -229,8 +229,8 @@ run_fits d (Round mode s a) bs es st fixings f near k e h v =
 run_fits d (Div mode s a b) bs es st fixings f near k e h v =
     let ks = kinds es in
     let p = two_numbers (λ _ _. Number s) (kind_of d a ks) (kind_of d b ks) k e in (
-      run_fits d a bs es st fixings f (in_days (past a) (max (past a) (past b)) f (omega arith) near) (Number p.left_scale) p.left h.0 v.0.1,
-      run_fits d b bs es st fixings f (in_days (past b) (max (past a) (past b)) f (omega arith) near) (Number p.right_scale) p.right h.1 v.1.1,
+      run_fits d a bs es st fixings f (in_days (span a) (max (span a) (span b)) f (omega arith) near) (Number p.left_scale) p.left h.0 v.0.1,
+      run_fits d b bs es st fixings f (in_days (span b) (max (span a) (span b)) f (omega arith) near) (Number p.right_scale) p.right h.1 v.1.1,
       on_values (run_of d a bs fixings f) (run_of d b bs fixings f) (typed (Number p.left_scale) (value_of d a es fixings f)) (typed (Number p.right_scale) (value_of d b es fixings f)) (DividesTo s) (run_is_value d a bs es st fixings fixings (self_extends fixings) f (Number p.left_scale) p.left) (run_is_value d b bs es st fixings fixings (self_extends fixings) f (Number p.right_scale) p.right)
           (divides s p.left_scale p.right_scale (scale_of d a ks) (scale_of d b ks) (value_of d a es fixings f) (value_of d b es fixings f) (scale_is d a ks (Number p.left_scale) p.left) (scale_is d b ks (Number p.right_scale) p.right) v.0.0.most v.1.0.most v.2),
     )
@@ -239,7 +239,7 @@ run_fits d (Acc body n first) bs es st fixings f near k e h v =
     let p = days (kind_of d first ks) (λ j. kind_of d body (j ∷ ks)) k e in
     let from = f -ℤ pos n in
     let scales : ScalesFit d body (k ∷ ks) = subst (λ (o : Option Kind). ScalesFit d body (kind_or o ∷ ks)) p.first h.1 in
-    let early = in_start (past first) (past body) n f near in
+    let early = in_start (span first) (span body) n f near in
     let plain : ℕ → Value → Value = λ i y. widened (scale_of d body (k ∷ ks)) (scale_of_kind k) (value_of d body (record { value = y; kind = k } ∷ es) fixings (from +ℤ pos i)) in
     let start = value_of d first es fixings from in
     let body_is : (i : ℕ) (y : Value) (w : Typed) → run_of d body (bound_to (typed k y) ∷ bs) fixings (from +ℤ pos i) ≡ Ok w → w ≡ typed p.body_kind (value_of d body (record { value = y; kind = k } ∷ es) fixings (from +ℤ pos i)) =
@@ -253,12 +253,12 @@ run_fits d (Acc body n first) bs es st fixings f near k e h v =
     λ i lt.
     let x = days_run i plain start in
     let safe : BodySafe d body n first es fixings f i (Some k) = subst (λ (o : Option Kind). BodySafe d body n first es fixings f i o) p.first (v.1 i lt) in (
-      run_fits d body (bound_to (typed k x) ∷ bs) (record { value = x; kind = k } ∷ es) (refl, refl, st) fixings (from +ℤ pos (suc i)) (in_body (past first) (past body) n i f lt near) p.body_kind p.body scales safe.0.1,
+      run_fits d body (bound_to (typed k x) ∷ bs) (record { value = x; kind = k } ∷ es) (refl, refl, st) fixings (from +ℤ pos (suc i)) (in_body (span first) (span body) n i f lt near) p.body_kind p.body scales safe.0.1,
       on_value (run_of d body (bound_to (typed k x) ∷ bs) fixings (from +ℤ pos (suc i))) (typed p.body_kind (value_of d body (record { value = x; kind = k } ∷ es) fixings (from +ℤ pos (suc i)))) (λ w. FitsKind k w) (body_is (suc i) x)
           (fits_kind k p.body_kind (scale_of d body (k ∷ ks)) (value_of d body (record { value = x; kind = k } ∷ es) fixings (from +ℤ pos (suc i))) scale_body safe.1),
     ) in (
-      is_day (max (past first + n) (past body + (n - 1))) f near,
-      is_day (past first) from early,
+      is_day (max (span first + n) (span body + (n - 1))) f near,
+      is_day (span first) from early,
       run_fits d first bs es st fixings from early k p.first h.0 v.0.1,
       (λ i w lt r. subst (λ (m : ℕ). DayFits (λ c t. run_of d body c fixings t) (λ c t. Fits d body c fixings t) bs (from +ℤ pos m) w) (sym (add-one i))
           (subst (λ (o : Typed). DayFits (λ c t. run_of d body c fixings t) (λ c t. Fits d body c fixings t) bs (from +ℤ pos (suc i)) o) (sym (value_is i w r)) (day_fits i lt))),

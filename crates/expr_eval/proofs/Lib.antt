@@ -2,8 +2,12 @@ pub mod Days
 pub mod Operands
 pub mod RunValues
 pub mod RunReads
+pub mod SpanFacts
 pub mod FitFacts
 pub mod EvaluableFacts
+pub mod TriedFacts
+pub mod CompareFacts
 pub mod AnswerFacts
+pub mod TrialFacts
 pub mod PartFacts
 mod Rows

@@ -1,10 +1,11 @@
 -- What stands directly in a contract may be evaluated where the contract may be.
-use Rattle.std.proofs.Common.{inl, inr, refl, List, [], ◌∷◌, Result}
+use Rattle.std.proofs.Common.{pos, inl, inr, refl, sym, subst, List, [], ◌∷◌, Result}
 use Rattle.term_core.specs.Declarations.{Declarations}
 use Rattle.term_core.specs.declared.values.Value.{Value}
 use Rattle.term_core.specs.declared.values.Missing.{Missing}
 use Rattle.term_core.specs.Terms.{Expression, Lit, Yes, Var, Obs, Neg, Num, Cmp, Not, Logic, Cond, Widen, Round, Div, Acc}
 use Rattle.term_core.specs.Terms.{Contract, Zero, Pay, Both, Scale, After, Let, Within}
+use Rattle.term_core.specs.Shifts.{shifted}
 use Rattle.term_core.specs.Bounds.{Range}
 use Rattle.interval_check.specs.Nodes.{range_of}
 use Rattle.interval_check.specs.Parts.{IsPart, IsPartHere, StandsIn}
@@ -12,6 +13,7 @@ use Rattle.expr_eval.specs.declared.scratch.Binding.{Binding}
 use Rattle.expr_eval.specs.Evaluable.{MayEvaluate, MayEvaluateIn}
 use Rattle.expr_eval.specs.Answers.{entry_from, SuitsBinding}
 use Rattle.expr_eval.specs.LawsEntries.{AcceptedMayEvaluate, PartsOfPartsMayEvaluate}
+use Rattle.term_core.proofs.ShiftedFacts.{shifted_zero}
 
 part_of_itself : (e : Expression) → IsPart e e
 part_of_itself (Lit m s) = refl
@@ -32,11 +34,22 @@ part_of_itself (Acc body n first) = inl refl
 here : (e : Expression) (g : List Range) → IsPartHere e g e g
 here e g = record { part = part_of_itself e; ranges = refl }
 
+-- an expression as it stands is moved by nothing
+pub as_it_is : (d : Declarations) (e : Expression) (g : List Range) (c : Contract) → StandsIn d e g c [] → StandsIn d (shifted (pos 0) e) g c []
+as_it_is d e g c p = subst (λ (x : Expression). StandsIn d x g c []) (sym (shifted_zero e)) p
+
 -- an expression and a contract of which all that stands there stands in the contract
 
 one_expression : (d : Declarations) (c : Contract) (e : Expression) (bs : List Binding) → (h : MayEvaluateIn d c bs) → StandsIn d e h.ranges c h.ranges → MayEvaluate d e bs
 one_expression d c e bs h p =
-    record { contract = h.contract; ranges = h.ranges; accepted = h.accepted; stands = h.inside e h.ranges p; entries = inl h.entries }
+    record {
+      contract = h.contract;
+      moved = pos 0;
+      ranges = h.ranges;
+      accepted = h.accepted;
+      stands = as_it_is d e h.ranges h.contract (h.inside e h.ranges p);
+      entries = inl h.entries;
+    }
 
 one_contract : (d : Declarations) (c part : Contract) (bs : List Binding) → (h : MayEvaluateIn d c bs) → ((e : Expression) (inner : List Range) → StandsIn d e inner part h.ranges → StandsIn d e inner c h.ranges) → MayEvaluateIn d part bs
 one_contract d c part bs h p =
@@ -49,7 +62,7 @@ in_body d e c bs h r suits =
       ranges = range_of d e h.ranges ∷ h.ranges;
       accepted = h.accepted;
       inside = λ x inner q. h.inside x inner (inr q);
-      entries = (suits h.contract h.ranges h.accepted (h.inside e h.ranges (inl (here e h.ranges))) h.entries, h.entries);
+      entries = (suits h.contract (pos 0) h.ranges h.accepted (as_it_is d e h.ranges h.contract (h.inside e h.ranges (inl (here e h.ranges)))) h.entries, h.entries);
     }
 
 pub accepted_may_evaluate : AcceptedMayEvaluate

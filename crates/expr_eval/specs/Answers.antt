@@ -10,6 +10,7 @@ use Rattle.term_core.specs.Kinds.{kind_of}
 use Rattle.term_core.specs.Values.{Entry, kind_or, value_of}
 use Rattle.term_core.specs.LawsKinds.{IsOfKind}
 use Rattle.term_core.specs.Reads.{reads_of, first_unfixed}
+use Rattle.term_core.specs.Shifts.{shifted}
 use Rattle.term_core.specs.Bounds.{Range}
 use Rattle.term_core.specs.Acceptance.{IsAccepted}
 use Rattle.interval_check.specs.Nodes.{range_of}
@@ -56,4 +57,4 @@ entry_from d e bs r = record { kind = kind_or (kind_of d e (kinds_of bs)); held 
 -- it suits a name that is bound to e wherever e stands
 abbrev pub SuitsBinding : Declarations → Expression → List Binding → Result Value Missing → Type 0
 SuitsBinding d e bs r =
-    (c : Contract) (ranges : List Range) → IsAccepted d c → StandsIn d e ranges c [] → SuitAll ranges bs → Suits (range_of d e ranges) (entry_from d e bs r)
+    (c : Contract) (moved : ℤ) (ranges : List Range) → IsAccepted d c → StandsIn d (shifted moved e) ranges c [] → SuitAll ranges bs → Suits (range_of d e ranges) (entry_from d e bs r)

@@ -1,9 +1,10 @@
 -- Where an expression may be evaluated, and with which entries for its names: in an accepted contract, outside the bodies
 -- of accumulators, with an entry for each `let` in whose body it stands; or with none, where it uses no name from outside.
-use Rattle.std.specs.Prelude.{◌≡◌, ◌⊎◌, List, [], ◌∷◌}
+use Rattle.std.specs.Prelude.{ℤ, ◌≡◌, ◌⊎◌, List, [], ◌∷◌}
 use Rattle.term_core.specs.Declarations.{Declarations}
 use Rattle.term_core.specs.declared.values.Value.{Value}
 use Rattle.term_core.specs.Terms.{Expression, Contract}
+use Rattle.term_core.specs.Shifts.{shifted}
 use Rattle.term_core.specs.WellFormed.{IsWellFormed}
 use Rattle.term_core.specs.Values.{num}
 use Rattle.term_core.specs.LawsKinds.{IsOfKind}
@@ -41,12 +42,14 @@ pub record NeedsNone (d : Declarations) (e : Expression) (bs : List Binding) : T
   pub empty : bs ≡ []
   pub closed : IsWellFormed d 0 e
 
--- an expression stands in an accepted contract, where names have these ranges, and the entries suit it
+-- an expression, with one number added to all its offsets, is a part of an accepted contract, where names have these
+-- ranges, and stands there in no accumulator's body; and the entries suit it
 pub record MayEvaluate (d : Declarations) (e : Expression) (bs : List Binding) : Type 0 where
   pub contract : Contract
+  pub moved : ℤ
   pub ranges : List Range
   pub accepted : IsAccepted d contract
-  pub stands : StandsIn d e ranges contract []
+  pub stands : StandsIn d (shifted moved e) ranges contract []
   pub entries : SuitAll ranges bs ⊎ NeedsNone d e bs
 
 -- a contract is an accepted one or a part of it, where names have these ranges, and the entries suit it

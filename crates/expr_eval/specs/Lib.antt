@@ -4,7 +4,9 @@ pub mod Operations
 pub mod KindScales
 pub mod Runs
 pub mod Fits
+pub mod Comparing
 pub mod Standing
+pub mod Trials
 pub mod Evaluable
 pub mod Answers
 pub mod LawsEntries

@@ -48,12 +48,20 @@ fn value_observed(decls: &Decls, label: u32, day: i64, fixings: &Fixings) -> Res
     }
 }
 
-// A day that many days later; an offset may be negative.
-fn day_at(day: i64, offset: i32) -> i64
+/// A day that many days later; an offset may be negative.
+pub fn day_at(day: i64, offset: i32) -> i64
     requires { IsDay day }
     ensures { result ≡ day +ℤ offset }
 {
     day + offset as i64
+}
+
+/// The day `i` days after a day.
+pub fn day_on(from: i64, i: u32) -> i64
+    requires { IsDay from }
+    ensures { result ≡ from +ℤ pos i }
+{
+    from + i as i64
 }
 
 // The day `i + 1` days after a day.

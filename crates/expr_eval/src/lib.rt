@@ -5,13 +5,15 @@ mod evaluation;
 mod heights;
 mod kinds;
 mod laws;
-mod operations;
+pub mod operations;
 mod scopes;
 mod scratch;
+mod trials;
 mod values;
 
-pub use kinds::kind_of;
+pub use kinds::{kind_observed, kind_of};
 pub use laws::{answers_may_be_entered, parts_may_be_evaluated};
 pub use scratch::{Binding, Held, Scratch};
 pub use term_core::Kind;
+pub use trials::first_true;
 pub use values::eval;

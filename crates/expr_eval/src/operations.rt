@@ -129,8 +129,8 @@ pub fn combine(op: NumOp, both: Operands) -> Typed
     number(scale_of_both(op, left.kind, right.kind), mant)
 }
 
-// A comparison of two numbers of one scale.
-fn compare_aligned(op: CmpOp, x: i128, y: i128) -> bool
+/// A comparison of two numbers of one scale.
+pub fn compare_aligned(op: CmpOp, x: i128, y: i128) -> bool
     ensures { result ≡ cmp_op op x y }
 {
     match op {

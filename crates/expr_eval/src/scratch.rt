@@ -86,6 +86,16 @@ impl Scratch {
         Scratch::with_room(alloc, height_of(e) as usize)
     }
 
+    /// No entries, with room for as many as a term of that height can need. No accepted contract is higher than 200, so
+    /// that room for 200 serves each of its parts and of what is left of it, and none of them is walked for it.
+    pub fn for_height(alloc: Global, height: u32) -> Result<Scratch, NoMemory>
+        requires low { height ≤ 200 }
+        ensures empty { IfOk result (λ s. s.entries ≡ []) }
+        ensures spare { IfOk result (λ s. height ≤ s.spare) }
+    {
+        Scratch::with_room(alloc, height as usize)
+    }
+
     /// Enters a name: its entry is the innermost from now on. It takes no memory.
     pub fn enter(&mut self, kind: Kind, held: Held)
         requires { 1 ≤ self.old.spare }

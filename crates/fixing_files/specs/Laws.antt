@@ -2,10 +2,11 @@
 -- at each place that it fixes. And a field has a mantissa at a scale exactly where it is the text of a decimal that fits.
 use Rattle.std.specs.Prelude.{◌≡◌, ◌↔◌, ℕ, ◌-◌, ◌≤◌, ◌^◌, ℤ, unsigned_abs, List, Some}
 use Rattle.decimal.specs.DecimalText.{IsDecimalText}
+use Rattle.decimal.specs.Mantissas.{decimal_of}
 use Rattle.decimal.specs.Rounding.{raised}
 use Rattle.term_core.specs.Declarations.{Declarations}
 use Rattle.term_core.specs.Environments.{Environment, Place, held}
-use Rattle.fixing_files.specs.Records.{decimal_of, mantissa_at}
+use Rattle.fixing_files.specs.Records.{mantissa_at}
 use Rattle.fixing_files.specs.Tables.{Table, IsFirstFault, Holds}
 use Rattle.fixing_files.specs.declared.faults.RowFault.{RowFault}
 

@@ -1,13 +1,12 @@
 -- What one record of a table of fixings says: that a value is fixed at a place, a label on a day. Its three fields are
 -- judged in their order, and the first rule that one of them breaks counts.
-use Rattle.std.specs.Prelude.{ℕ, ◌-◌, ℤ, pos, neg_ℤ, ◌&&◌, ◌≤ℤ◌, nat_le, int_le, unsigned_abs, true, false, List, [], ◌∷◌, Option, Some, None, Result, Ok, Err, if◌then◌else◌, position, codes}
+use Rattle.std.specs.Prelude.{ℕ, ◌-◌, ℤ, pos, neg_ℤ, ◌&&◌, ◌≤ℤ◌, nat_le, int_le, true, false, List, [], ◌∷◌, Option, Some, None, Result, Ok, Err, if◌then◌else◌, position, codes}
 use Rattle.std.specs.Map.{keys_of}
 use Rattle.std.specs.Str.{bytes_eq}
 use Rattle.decimal.specs.declared.reading.Decimal.{Decimal}
-use Rattle.decimal.specs.Reading.{read_of}
+use Rattle.decimal.specs.Mantissas.{mantissa, decimal_of}
 use Rattle.decimal.specs.Rounding.{raised}
 use Rattle.term_core.specs.Declarations.{Declarations}
-use Rattle.term_core.specs.Limits.{greatest_mantissa}
 use Rattle.term_core.specs.Environments.{Place, label_of}
 use Rattle.term_core.specs.declared.label.Label.{Label}
 use Rattle.term_core.specs.declared.label.Label.TheVariants.{Number, Flag}
@@ -41,17 +40,10 @@ day_or_none (Err fault) = None
 abbrev pub day_said : Option ℤ → List ℕ → Option ℤ
 day_said origin text = day_or_none (day_of origin text)
 
--- the decimal of a text, if it is within the limits of decimals
-abbrev pub decimal_of : List ℕ → Option Decimal
-decimal_of text = elim (read_of text) [ Ok d ↦ Some d | Err fault ↦ None ]
-
-abbrev pub limited : ℤ → Option ℤ
-limited m = if nat_le (unsigned_abs m) greatest_mantissa then Some m else None
-
 -- a decimal as a mantissa at a scale: it has no more decimals, and its mantissa stays within the limit
 abbrev pub mantissa_at : ℕ → Option Decimal → Option ℤ
 mantissa_at scale None = None
-mantissa_at scale (Some d) = if nat_le d.scale scale then limited (raised d.mant (scale - d.scale)) else None
+mantissa_at scale (Some d) = if nat_le d.scale scale then mantissa (raised d.mant (scale - d.scale)) else None
 
 -- a mantissa within the bounds of its label
 abbrev pub within_bounds : ℤ → ℤ → Option ℤ → Result Reading RowKind

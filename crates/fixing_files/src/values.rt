@@ -1,39 +1,13 @@
 //! The values of fields.
 
 ghost use Rattle.std.specs.Prelude.{◌≡◌, ◌≤◌, Some, true};
-ghost use Rattle.decimal.specs.Rounding.{raised};
+ghost use Rattle.decimal.specs.Mantissas.{decimal_of};
 ghost use Rattle.term_core.specs.Limits.{is_label};
-ghost use Rattle.fixing_files.specs.Records.{decimal_of, limited, mantissa_at, truth_said, value_said, within_bounds};
+ghost use Rattle.fixing_files.specs.Records.{mantissa_at, truth_said, value_said, within_bounds};
 
 use crate::faults::RowKind;
-use decimal::{Decimal, pow10, read};
+use decimal::{decimal_of, widen};
 use term_core::{Label, Value};
-
-/// The greatest size of a mantissa, 10^37.
-const GREATEST: u128 = 10_000_000_000_000_000_000_000_000_000_000_000_000;
-
-// The decimal of a text, if it is within the limits of decimals.
-fn decimal_of(text: &[u8]) -> Option<Decimal>
-    ensures { result ≡ decimal_of text.now }
-{
-    match read(text) {
-        Ok(number) => Some(number),
-        Err(_) => None,
-    }
-}
-
-// The mantissa of the same number with `more` further decimals, if it is within the limit.
-fn widened(mant: i128, more: u8) -> Option<i128>
-    requires { more ≤ 38 }
-    ensures { result ≡ limited (raised mant more) }
-{
-    let mant = mant.checked_mul(pow10(more))?;
-    if mant.unsigned_abs() <= GREATEST {
-        Some(mant)
-    } else {
-        None
-    }
-}
 
 // The mantissa of a decimal's text at a scale.
 fn mantissa(scale: u8, text: &[u8]) -> Option<i128>
@@ -42,7 +16,7 @@ fn mantissa(scale: u8, text: &[u8]) -> Option<i128>
 {
     let number = decimal_of(text)?;
     if number.scale <= scale {
-        widened(number.mant, scale - number.scale)
+        widen(number.mant, scale - number.scale)
     } else {
         None
     }

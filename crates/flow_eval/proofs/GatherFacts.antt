@@ -18,7 +18,8 @@ use Rattle.flow_eval.specs.declared.faults.FlowErr.TheVariants.{Missing, NoMemor
 use Rattle.flow_eval.specs.declared.payments.Payment.{Payment}
 use Rattle.flow_eval.specs.Faults.{lacks_place}
 use Rattle.flow_eval.specs.Payments.{multiplied, payment_on, payments_of}
-use Rattle.flow_eval.specs.Walks.{DayOrMissing, PaymentsOrMissing, ValueOrMissing, answer_of, days_to_try, first_tried, payments_unless, then_branch, then_factor, then_others, value_unless, walk_of}
+use Rattle.expr_eval.specs.Trials.{DayOrMissing, ValueOrMissing, answer_of, first_tried, value_unless}
+use Rattle.flow_eval.specs.Walks.{PaymentsOrMissing, days_to_try, payments_unless, then_branch, then_factor, then_others, walk_of}
 use Rattle.flow_eval.specs.Gathering.{Gathers, appended}
 use Rattle.flow_eval.proofs.WalkFacts.{walk_is}
 

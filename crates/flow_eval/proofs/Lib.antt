@@ -11,7 +11,6 @@ pub mod PaymentFacts
 pub mod PaymentSums
 pub mod PaymentSizes
 pub mod WalkFacts
-pub mod TriedFacts
 pub mod ReadyFacts
 pub mod GatherFacts
 pub mod StepFacts

@@ -1,5 +1,5 @@
 -- A part of a contract that can be walked can be walked, and an expression in it answered.
-use Rattle.std.proofs.Common.{◌≡◌, FitsSigned, ℕ, ℤ, pos, ◌+ℤ◌, ◌≤◌, ◌+◌, ◌-◌, List, [], ◌∷◌, Option, Some, None, Ok, Err, refl, ap, sym, ◌∙◌, subst, inl, inr, arith}
+use Rattle.std.proofs.Common.{◌≡◌, FitsSigned, ℕ, ℤ, pos, ◌+ℤ◌, ◌≤◌, ◌+◌, ◌-◌, List, [], ◌∷◌, Option, Some, None, refl, ap, sym, ◌∙◌, subst, inl, inr, arith}
 use Rattle.std.specs.Int.{w64}
 use Rattle.std.proofs.lemmas.Int.{fits_signed_from_abs, ints}
 use Rattle.term_core.specs.Declarations.{Declarations}
@@ -20,15 +20,16 @@ use Rattle.interval_check.specs.Parts.{IsPart, IsPartHere}
 use Rattle.interval_check.specs.Within.{AreWithin, IsIn, IsWithin, OnNumber}
 use Rattle.interval_check.specs.Sums.{entry_of}
 use Rattle.interval_check.proofs.GuaranteeFacts.{bindings_lie_within}
+use Rattle.expr_eval.proofs.PartFacts.{as_it_is}
 use Rattle.expr_eval.specs.declared.scratch.Held.{Held}
 use Rattle.expr_eval.specs.declared.scratch.Held.TheVariants.{Known, Lacking}
 use Rattle.expr_eval.specs.declared.scratch.Binding.{Binding}
-use Rattle.expr_eval.specs.Answers.{IsAnswer, held_of}
+use Rattle.expr_eval.specs.Answers.{held_of}
 use Rattle.expr_eval.specs.Evaluable.{IsHeldIn, MayEvaluate, SuitAll}
 use Rattle.expr_eval.specs.Rooms.{Room, kinds_of}
 use Rattle.expr_eval.specs.Standing.{IsHeldFor, StandFor}
 use Rattle.flow_eval.specs.Readiness.{CanAnswer, CanWalk, IsAmongDays}
-use Rattle.flow_eval.specs.Walks.{ValueOrMissing, answer_of, value_unless}
+use Rattle.expr_eval.specs.Trials.{ValueOrMissing, answer_of, value_unless}
 
 itself : (e : Expression) → IsPart e e
 itself (Lit m s) = refl
@@ -159,16 +160,7 @@ suit_all F (r ∷ rs) (b ∷ es) (e ∷ g) [] within stand = absurd stand
 -- it may be evaluated
 pub may_evaluate : (d : Declarations) (e : Expression) (r : Room) (F : Environment) → CanAnswer d e r F → MayEvaluate d e r.entries
 may_evaluate d e r F h =
-    record { contract = h.whole; ranges = h.ranges; accepted = h.accepted; stands = h.inside; entries = inl (suit_all F h.ranges r.entries h.values h.places h.within h.stand) }
-
-answer_by : (d : Declarations) (e : Expression) (es : List Binding) (F : Environment) (f : ℤ) (g : List Entry) (bs : List (List Place)) (r : ValueOrMissing) → StandFor F es g bs → IsAnswer d e es F f r → r ≡ answer_of d e g bs F f
-answer_by d e es F f g bs (Ok v) stand is =
-    ap (λ (x : Value). Ok x) (sym (is.value g bs F stand (λ q w h. h))) ∙ ap (λ (o : Option Place). value_unless o (value_of d e g F f)) (is.missing g bs stand)
-answer_by d e es F f g bs (Err m) stand is = ap (λ (o : Option Place). value_unless o (value_of d e g F f)) (is.missing g bs stand)
-
--- its answer is that of the model, for all that the entries stand for
-pub answer_is : (d : Declarations) (e : Expression) (es : List Binding) (F : Environment) (f : ℤ) (r : ValueOrMissing) → IsAnswer d e es F f r → (g : List Entry) (bs : List (List Place)) → StandFor F es g bs → r ≡ answer_of d e g bs F f
-answer_is d e es F f r is g bs stand = answer_by d e es F f g bs r stand is
+    record { contract = h.whole; moved = pos 0; ranges = h.ranges; accepted = h.accepted; stands = as_it_is d e h.ranges h.whole h.inside; entries = inl (suit_all F h.ranges r.entries h.values h.places h.within h.stand) }
 
 -- ---- the body of a factor
 

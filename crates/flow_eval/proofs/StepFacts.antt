@@ -23,7 +23,8 @@ use Rattle.flow_eval.specs.declared.faults.FlowErr.{FlowErr}
 use Rattle.flow_eval.specs.declared.payments.Payment.{Payment}
 use Rattle.flow_eval.specs.Faults.{lacks_place}
 use Rattle.flow_eval.specs.Payments.{multiplied, payments_of, times}
-use Rattle.flow_eval.specs.Walks.{DayOrMissing, PaymentsOrMissing, ValueOrMissing, answer_of, days_to_try, first_tried, then_factor, walk_of}
+use Rattle.expr_eval.specs.Trials.{DayOrMissing, ValueOrMissing, answer_of, first_tried}
+use Rattle.flow_eval.specs.Walks.{PaymentsOrMissing, days_to_try, then_factor, walk_of}
 use Rattle.flow_eval.specs.Readiness.{CanWalk, IsAmongDays, IsUpTo}
 use Rattle.flow_eval.specs.Gathering.{Gathers, appended}
 use Rattle.flow_eval.proofs.GatherFacts.{Done, answer_value, body_not_noted, factor_missing, longer_by, missing_noted, not_noted, noted, noted_payments, nothing_scaled, scaled_noted, then_noted, within_found, within_missed, within_missing}

@@ -13,7 +13,8 @@ use Rattle.term_core.specs.Flows.{count_of}
 use Rattle.term_core.specs.Reads.{first_unfixed, is_fixed, live, reads_of, reads_of_contract, steps_before, tested, upto}
 use Rattle.flow_eval.specs.declared.payments.Payment.{Payment}
 use Rattle.flow_eval.specs.Payments.{multiplied, payments_of, some_paid}
-use Rattle.flow_eval.specs.Walks.{DayOrMissing, PaymentsOrMissing, ValueOrMissing, answer_of, days_to_try, first_tried, missing_at, or_next, payments_unless, then_branch, then_factor, then_others, value_unless, walk_of}
+use Rattle.expr_eval.specs.Trials.{DayOrMissing, ValueOrMissing, answer_of, first_tried, missing_at, or_next, value_unless}
+use Rattle.flow_eval.specs.Walks.{PaymentsOrMissing, days_to_try, payments_unless, then_branch, then_factor, then_others, walk_of}
 use Rattle.flow_eval.proofs.PaymentFacts.{after_last, payments_live, payments_none, shorter}
 
 -- ---- the first place that is not fixed

@@ -1,59 +1,27 @@
 -- The walk over a contract by fixings, up to a last day: each part on the path taken once, in the order in which it reads,
 -- until a place is met that is not fixed. It answers the payments on the path, or that place. Names have values, and the
 -- places that these were read from, as in `Reads`.
-use Rattle.std.specs.Prelude.{ℕ, zero, suc, ℤ, pos, ◌+ℤ◌, ◌-ℤ◌, ◌-◌, min, int_lt, unsigned_abs, List, [], ◌∷◌, ◌++◌, Option, Some, None, Result, Ok, Err, if◌then◌else◌}
+use Rattle.std.specs.Prelude.{ℕ, suc, ℤ, pos, ◌+ℤ◌, ◌-ℤ◌, ◌-◌, min, int_lt, unsigned_abs, List, [], ◌∷◌, ◌++◌, Option, Some, None, Result, Ok, Err, if◌then◌else◌}
 use Rattle.decimal.specs.Rounding.{raised}
 use Rattle.term_core.specs.Declarations.{Declarations}
-use Rattle.term_core.specs.declared.values.Value.{Value}
 use Rattle.term_core.specs.declared.values.Missing.{Missing}
-use Rattle.term_core.specs.Terms.{Expression, Contract, Zero, Pay, Both, Scale, After, Let, Within}
+use Rattle.term_core.specs.Terms.{Contract, Zero, Pay, Both, Scale, After, Let, Within}
 use Rattle.term_core.specs.Environments.{Environment, Place}
 use Rattle.term_core.specs.Kinds.{kind_of, scale_of}
-use Rattle.term_core.specs.Values.{Entry, kinds, num, truth, kind_or, value_of}
+use Rattle.term_core.specs.Values.{Entry, kinds, num, kind_or, value_of}
 use Rattle.term_core.specs.Flows.{count_of}
-use Rattle.term_core.specs.Reads.{first_unfixed, reads_of}
+use Rattle.term_core.specs.Reads.{reads_of}
+use Rattle.expr_eval.specs.Trials.{DayOrMissing, ValueOrMissing, answer_of, first_tried, missing_at}
 use Rattle.flow_eval.specs.declared.payments.Payment.{Payment}
 use Rattle.flow_eval.specs.Payments.{multiplied, paid}
 
-abbrev pub missing_at : Place → Missing
-missing_at q = record { label = q.label; day = q.day }
-
 -- what comes out where a place may be missing
-abbrev pub ValueOrMissing : Type 0
-ValueOrMissing = Result Value Missing
-
-abbrev pub DayOrMissing : Type 0
-DayOrMissing = Result (Option ℕ) Missing
-
 abbrev pub PaymentsOrMissing : Type 0
 PaymentsOrMissing = Result (List Payment) Missing
-
-abbrev pub value_unless : Option Place → Value → ValueOrMissing
-value_unless (Some q) v = Err (missing_at q)
-value_unless None v = Ok v
 
 abbrev pub payments_unless : Option Place → List Payment → PaymentsOrMissing
 payments_unless (Some q) ps = Err (missing_at q)
 payments_unless None ps = Ok ps
-
--- the value of an expression over fixings, or its first place that is not fixed
-abbrev pub answer_of : Declarations → Expression → List Entry → List (List Place) → Environment → ℤ → ValueOrMissing
-answer_of d e g bs fixings f = value_unless (first_unfixed fixings (reads_of d e g bs fixings f)) (value_of d e g fixings f)
-
--- one day of a test
-abbrev pub tried_on : ℕ → ValueOrMissing → DayOrMissing
-tried_on n (Err m) = Err m
-tried_on n (Ok v) = Ok (if truth v then Some n else None)
-
-abbrev pub or_next : DayOrMissing → ℕ → ValueOrMissing → DayOrMissing
-or_next (Err m) n next = Err m
-or_next (Ok (Some k)) n next = Ok (Some k)
-or_next (Ok None) n next = tried_on n next
-
--- the first of n days on which a test is true
-abbrev pub first_tried : ℕ → (ℕ → ValueOrMissing) → DayOrMissing
-first_tried zero answers = Ok None
-first_tried (suc n) answers = or_next (first_tried n answers) n (answers n)
 
 -- the payments of two parts
 abbrev pub then_others : PaymentsOrMissing → PaymentsOrMissing → PaymentsOrMissing

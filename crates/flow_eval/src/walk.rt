@@ -10,14 +10,15 @@ ghost use Rattle.term_core.specs.Flows.{count_of};
 ghost use Rattle.term_core.specs.Sizes.{reach};
 ghost use Rattle.expr_eval.specs.Rooms.{kinds_of};
 ghost use Rattle.expr_eval.specs.Standing.{StandFor};
-ghost use Rattle.flow_eval.specs.Walks.{answer_of, days_to_try, first_tried, walk_of};
+ghost use Rattle.expr_eval.specs.Trials.{answer_of, first_tried};
+ghost use Rattle.flow_eval.specs.Walks.{days_to_try, walk_of};
 ghost use Rattle.flow_eval.specs.Readiness.{CanAnswer, CanWalk, IsAmongDays, IsUpTo};
 ghost use Rattle.flow_eval.specs.Gathering.{Gathers};
 
 use crate::faults::FlowErr;
 use crate::payments::{Payment, Transfer, multiply_from, pay};
 use decimal::pow10;
-use expr_eval::{Held, Scratch, eval, kind_of};
+use expr_eval::{Held, Scratch, eval, first_true, kind_of};
 use fixing_files::Fixings;
 use term_core::{Contr, Days, Decls, Expr, Kind, Missing, Value};
 
@@ -119,12 +120,14 @@ fn first_day(
     ensures same { scratch.new ≡ scratch.old }
 {
     let count = days_tried(course, here, days) + 1;
-    for i in 0..count {
-        if value_at(course, test, scratch, here.after(i))?.is_true() {
-            return Ok(Some(i));
-        }
-    }
-    Ok(None)
+    first_true(
+        course.decls,
+        test,
+        &*scratch,
+        course.fixings,
+        here.day,
+        count,
+    )
 }
 
 /// Notes the payments of a contract up to the last day that counts, or answers the first place that it reads and that is

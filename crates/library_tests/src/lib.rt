@@ -17,6 +17,8 @@ mod lines;
 #[cfg(test)]
 mod printing;
 #[cfg(test)]
+mod simplifying;
+#[cfg(test)]
 mod terms;
 #[cfg(test)]
 mod texts;

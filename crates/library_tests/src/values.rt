@@ -184,11 +184,10 @@ fn bindings_are_evaluated_once(rt: HostRuntime) -> Result<(), Fail> {
     Ok(())
 }
 
-// The room for an expression is that for its names; there are none at first.
-#[test]
-fn scratches_have_room(rt: HostRuntime) -> Result<(), Fail> {
-    let e = Expr::Yes { value: true };
-    let mut scratch = Scratch::for_expr(rt.alloc(), &e)?;
+// A name is entered where there are none, and stands there.
+fn enter_one(rt: &impl Abort, scratch: &mut Scratch)
+    requires { 1 ≤ scratch.old.spare }
+{
     assert_eq!(rt; scratch.at(0), None);
     let held = Held::Known {
         value: Value::Truth { value: true },
@@ -201,5 +200,13 @@ fn scratches_have_room(rt: HostRuntime) -> Result<(), Fail> {
             held,
         })
     );
+}
+
+// The room for an expression, or for a height, is that for its names; there are none at first.
+#[test]
+fn scratches_have_room(rt: HostRuntime) -> Result<(), Fail> {
+    let e = Expr::Yes { value: true };
+    enter_one(&rt, &mut Scratch::for_expr(rt.alloc(), &e)?);
+    enter_one(&rt, &mut Scratch::for_height(rt.alloc(), 200)?);
     Ok(())
 }

@@ -1,2 +1,2 @@
 pub mod PieceFacts
-mod SumFacts
+pub mod SumFacts

@@ -14,3 +14,6 @@ pub mod RaisedFacts
 pub mod Among
 pub mod Branches
 pub mod SmallFacts
+pub mod ShiftedSizes
+pub mod Offsets
+pub mod NamedParts

@@ -4,3 +4,5 @@ pub mod Substituting
 pub mod LawsNames
 pub mod LawsRules
 pub mod Reduced
+pub mod Rebuilding
+pub mod RebuildingContracts

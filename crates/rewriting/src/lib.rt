@@ -1,5 +1,14 @@
-//! Laws of rewriting terms: literals for names, offsets, what is worth the same, what is no larger, and redexes by
-//! structure. Reductions and residuals stand on them.
+//! Rewriting terms: expressions of which parts are replaced, literals for names; and laws of them, of offsets, of what is
+//! worth the same, of what is no larger, and of redexes by structure. Reductions and residuals stand on them.
 #![tactic(auto)]
 
+mod contract_names;
+mod contracts;
 pub mod laws;
+mod naming;
+mod rebuilding;
+
+pub use contract_names::{substituted_in, uses_in};
+pub use contracts::{after_of, both_of, kept_expression, kept_part, let_of, scale_of, within_of};
+pub use naming::{names_within, substituted, uses};
+pub use rebuilding::{kept, literal, of_one, of_three, of_two};

@@ -14,7 +14,7 @@ use Rattle.rewriting.specs.Measures.{size_in}
 use Rattle.simplify.specs.TurningContracts.{is_nothing, is_contract_redex, after_both, decided, made, rule_in, turned_in, HasNoPlainIn, IsTurnIn, ContractTurnsEnd}
 use Rattle.simplify.proofs.TurnFacts.{turns_end}
 
-some_size_in : (c : Contract) → 1 ≤ size_in c
+pub some_size_in : (c : Contract) → 1 ≤ size_in c
 some_size_in Zero = omega arith
 some_size_in (Pay a p q) = omega arith
 some_size_in (Both a b) = omega arith
@@ -51,7 +51,7 @@ same_size (Round mode s e) j x h = omega (arith, same_size e j x h)
 same_size (Div mode s a b) j x h = omega (arith, same_size a j x h, same_size b j x h)
 same_size (Acc body n first) j x h = omega (arith, same_size body (suc j) x h, same_size first j x h)
 
-same_size_in : (c : Contract) (j : ℕ) (x : Expression) → size x ≡ 1 → size_in (substituted_in j x c) ≡ size_in c
+pub same_size_in : (c : Contract) (j : ℕ) (x : Expression) → size x ≡ 1 → size_in (substituted_in j x c) ≡ size_in c
 same_size_in Zero j x h = refl
 same_size_in (Pay a p q) j x h = refl
 same_size_in (Both a b) j x h = omega (arith, same_size_in a j x h, same_size_in b j x h)
@@ -60,7 +60,7 @@ same_size_in (After n c) j x h = omega (arith, same_size_in c j x h)
 same_size_in (Let e c) j x h = omega (arith, same_size e j x h, same_size_in c (suc j) x h)
 same_size_in (Within e n a b) j x h = omega (arith, same_size e j x h, same_size_in a j x h, same_size_in b j x h)
 
-literal_one : (e : Expression) → is_literal e ≡ true → size e ≡ 1
+pub literal_one : (e : Expression) → is_literal e ≡ true → size e ≡ 1
 literal_one (Lit m s) h = refl
 literal_one (Yes b) h = refl
 literal_one (Var back) h = absurd (cc)

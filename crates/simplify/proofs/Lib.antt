@@ -19,3 +19,10 @@ pub mod FormFacts
 pub mod TurnAccepted
 pub mod TurnForm
 pub mod TurnReplaces
+pub mod LessFacts
+pub mod TurnableFacts
+pub mod OffsetFacts
+pub mod TurnableInFacts
+pub mod WholeFacts
+pub mod TurnedParts
+pub mod RuleParts

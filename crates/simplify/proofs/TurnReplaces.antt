@@ -29,7 +29,7 @@ use Rattle.simplify.specs.LawsTurned.{TurnsReplace, ContractTurnsReplace}
 use Rattle.simplify.proofs.FormFacts.{root_kind}
 use Rattle.simplify.proofs.TurnForm.{turn_form}
 
-nothing_fixed : (d : Declarations) → IsAdmitted d []
+pub nothing_fixed : (d : Declarations) → IsAdmitted d []
 nothing_fixed d q v e = absurd (cc)
 
 -- the rule, once the parts are turned
@@ -46,13 +46,13 @@ module _ (d : Declarations) (body first : Expression) (n : ℕ) (g : List Range)
       let ks = range_kinds g in
       (days (kind_of d first ks) (λ k. kind_of d body (k ∷ ks)) (kind_or (kind_of d (Acc body n first) ks)) (root_kind d (Acc body n first) g r.sorts)).first ∙ sym (root_kind d (Acc body n first) g r.sorts)
 
-  round_within : (es : List Entry) (i : ℕ) → i < n → KeepsLimits d → AreWithin g es → AreWithin (range_after d body i first g ∷ g) (entry_of d (Acc body i first) es [] (pos 0) ∷ es)
+  pub round_within : (es : List Entry) (i : ℕ) → i < n → KeepsLimits d → AreWithin g es → AreWithin (range_after d body i first g ∷ g) (entry_of d (Acc body i first) es [] (pos 0) ∷ es)
   round_within es i l limits within =
       let there = bindings_lie_within d (Acc body i first) g es [] (pos 0) limits (fewer_rules d body first n i g (omega arith) r) within (nothing_fixed d) in
       let range : Option Kind → Range = λ o. record { interval = interval_of d (Acc body i first) g; kind = kind_or o } in
       subst (λ (o : Option Kind). AreWithin (range o ∷ g) (entry_of d (Acc body i first) es [] (pos 0) ∷ es)) (sym start_kind) there
 
-  round_truths : (i : ℕ) → TruthsAreNothing g → TruthsAreNothing (range_after d body i first g ∷ g)
+  pub round_truths : (i : ℕ) → TruthsAreNothing g → TruthsAreNothing (range_after d body i first g ∷ g)
   round_truths i t =
       (λ e. truths_have_nothing d (Acc body i first) g t (root_kind d (Acc body n first) g r.sorts ∙ ap (λ (k : Kind). Some k) (ap kind_or (sym start_kind) ∙ e)), t)
 

@@ -165,3 +165,6 @@ turns-shifted d (Acc body n first) ks k =
     ap (λ (o : Option Kind). rule d ks (Acc (turned d (kind_or o ∷ ks) (shifted k body)) n (turned d ks (shifted k first)))) (kind-shifted d first k ks)
     ∙ ap₂ (λ (x y : Expression). rule d ks (Acc x n y)) (turns-shifted d body js k) (turns-shifted d first ks k)
     ∙ rule-shifted d ks (Acc (turned d js body) n (turned d ks first)) k
+
+pub turned_shifted : (d : Declarations) (ks : List Kind) (k : ℤ) (e : Expression) → turned d ks (shifted k e) ≡ shifted k (turned d ks e)
+turned_shifted d ks k e = turns-shifted d e ks k

@@ -5,3 +5,8 @@ pub mod LawsTurnsAccepted
 pub mod LawsRuled
 pub mod LawsTurnShifts
 pub mod LawsTurned
+pub mod Names
+pub mod Folding
+pub mod Turnable
+pub mod TurnableContracts
+pub mod Simplified

@@ -11,3 +11,10 @@ pub mod SpecialForms
 pub mod SpecialSmall
 pub mod SpecialRules
 pub mod AcceptedFacts
+pub mod PartFacts
+pub mod AccumulatorFacts
+pub mod StandingFacts
+pub mod StoredFacts
+pub mod LiteralFacts
+pub mod CallFacts
+pub mod WalkFacts

@@ -1,4 +1,9 @@
 pub mod Specialising
+pub mod Specialisable
+pub mod Taken
+pub mod Literals
 pub mod LawsSpecial
 pub mod LawsSpecialContracts
 pub mod LawsAccepted
+pub mod LawsParts
+pub mod Specialised

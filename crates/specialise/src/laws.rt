@@ -2,6 +2,7 @@
 
 ghost use Rattle.specialise.specs.LawsSpecial.{SpecialisedKinds, SpecialisedValues, SpecialisedReads, SpecialisedIsSmaller, NothingIsTold, SpecialisedShifts};
 ghost use Rattle.specialise.specs.LawsSpecialContracts.{ContractScales, ContractFlows, ContractReads, ContractIsSmaller, SpecialisedCarries, SpecialisedLeavesNone};
+ghost use Rattle.specialise.specs.LawsParts.{AcceptedMaySpecialise, PartsOfPartsMaySpecialise, WellFormedHaveOffsets};
 ghost use Rattle.specialise.specs.LawsAccepted.{SpecialisedIsTyped, SpecialisedIsWellFormed, SpecialisedReplaces, SpecialisedIsAccepted};
 
 /// A specialised expression has the kind and the value of the expression, reads no more, and is the same or smaller.
@@ -33,4 +34,13 @@ pub fn specialised_are_accepted()
     ensures well_formed { SpecialisedIsWellFormed }
     ensures rules { SpecialisedReplaces }
     ensures accepted { SpecialisedIsAccepted }
+{}
+
+/// The expressions that stand directly in an accepted contract, and in the contracts in it, are parts of an accepted
+/// contract, and so on down to the last; and what is well formed has its offsets within their limit.
+#[tactic(none)]
+pub fn parts_may_be_specialised()
+    ensures whole { AcceptedMaySpecialise }
+    ensures parts { PartsOfPartsMaySpecialise }
+    ensures offsets { WellFormedHaveOffsets }
 {}

@@ -14,6 +14,7 @@ pub mod FirstFacts
 pub mod ContractReadFacts
 pub mod ReadLawFacts
 pub mod ShiftFacts
+pub mod ShiftedFacts
 pub mod ReadShiftFacts
 pub mod ReadGrowthFacts
 pub mod MeaningFacts

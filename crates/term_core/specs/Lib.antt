@@ -13,6 +13,7 @@ pub mod Horizons
 pub mod Reads
 pub mod Sublists
 pub mod Shifts
+pub mod SharedTerms
 pub mod Instances
 pub mod Sizes
 pub mod Sites

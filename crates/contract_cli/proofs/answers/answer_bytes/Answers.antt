@@ -10,15 +10,15 @@ use Rattle.contract_cli.proofs.answers.answer_bytes.Goals as goal
 
 pub check_answer-requires : goal.check_answer-requires
 check_answer-requires c =
-    contracts_sound c.args.inputs.now.portfolio.items (book c.in_ok-portfolio.portfolio) (rw c.deref.ensures.value at c.in_ok-portfolio.ensures) c.requires.short.portfolio
+    contracts_sound c.args.inputs.now.portfolio.items (book c.in_ok-portfolio.portfolio) (rw c.deref.ensures.value at c.in_ok-portfolio.ensures) c.requires.portfolio
 
 pub flows_text-requires-clause-sound : goal.flows_text-requires-clause-sound
 flows_text-requires-clause-sound c =
-    contracts_sound c.args.inputs.now.portfolio.items (book c.in_ok-portfolio.portfolio) (rw c.deref.ensures.value at c.in_ok-portfolio.ensures) c.requires.short.portfolio
+    contracts_sound c.args.inputs.now.portfolio.items (book c.in_ok-portfolio.portfolio) (rw c.deref.ensures.value at c.in_ok-portfolio.ensures) c.requires.portfolio
 
 pub flows_text-requires-clause-few : goal.flows_text-requires-clause-few
 flows_text-requires-clause-few c =
-    contracts_few c.args.inputs.now.portfolio.items (book c.in_ok-portfolio.portfolio) (rw c.deref.ensures.value at c.in_ok-portfolio.ensures) c.requires.short.portfolio
+    contracts_few c.args.inputs.now.portfolio.items (book c.in_ok-portfolio.portfolio) (rw c.deref.ensures.value at c.in_ok-portfolio.ensures) c.requires.portfolio
 
 pub returns-in_err-answer-in-Check : goal.returns-in_err-answer-in-Check
 returns-in_err-answer-in-Check c = lacks_memory (asked_by c.args.command.now) (inputs_by c.args.inputs.now) c.from_residual-in_err-answer-in-Check.result c.from_residual-in_err-answer-in-Check.ensures.1

@@ -1,4 +1,4 @@
-use Rattle.std.proofs.Common.{◌≡◌, ◌∙◌, ap, map, sym, subst, true, List, ℕ, Option, None}
+use Rattle.std.proofs.Common.{◌≡◌, ◌∙◌, ap, map, sym, true}
 use Rattle.clap.specs.Words.{App, app_of, found_of, is_simple_and_free, matches_of}
 use Rattle.contract_cli.specs.Arguments.{declared, rule_by, taken}
 use Rattle.contract_cli.proofs.Taken.{holds, refuses, simple, takes}

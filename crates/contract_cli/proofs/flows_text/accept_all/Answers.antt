@@ -1,5 +1,5 @@
-use Rattle.std.proofs.Common.{◌≡◌, ◌∷◌, ◌+◌, List, drop, subst, sym}
-use Rattle.std.specs.Prelude.{Result, Ok}
+use Rattle.std.proofs.Common.{◌∷◌, ◌+◌, List, drop, subst, sym}
+use Rattle.std.specs.Prelude.{Ok}
 use Rattle.term_core.specs.declared.name.Name.{Name}
 use Rattle.term_core.specs.Acceptance.{IsAccepted}
 use Rattle.term_core.specs.Declarations.{declarations}
@@ -8,7 +8,6 @@ use Rattle.contract_cli.specs.CheckText.{AreAllAccepted}
 use Rattle.contract_cli.specs.FlowLists.{IsRefusedOf, IsRefusedOne}
 use Rattle.contract_cli.specs.Stopping.{AnswersBy}
 use Rattle.contract_cli.specs.Using.{IsTriable, entries_of, entry_of}
-use Rattle.contract_cli.specs.declared.stop.Stop.{Stop}
 use Rattle.contract_cli.proofs.LineFacts.{accepted_behind, accepted_none, refused_first}
 use Rattle.contract_cli.proofs.StopFacts.{handed_on}
 use Rattle.contract_cli.proofs.UsedFacts.{item_has, left_more, left_none}

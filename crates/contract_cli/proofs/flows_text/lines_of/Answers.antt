@@ -1,5 +1,5 @@
-use Rattle.std.proofs.Common.{◌≡◌, ◌∷◌, ◌+◌, ℕ, List, [], drop, pos, subst, sym}
-use Rattle.std.specs.Prelude.{Result, Ok}
+use Rattle.std.proofs.Common.{◌∷◌, ◌+◌, ℕ, List, drop, pos, subst, sym}
+use Rattle.std.specs.Prelude.{Ok}
 use Rattle.std.specs.Global.{Vec}
 use Rattle.term_core.specs.declared.name.Name.{Name}
 use Rattle.term_core.specs.Acceptance.{IsAccepted}
@@ -9,7 +9,6 @@ use Rattle.flow_eval.specs.FlowAnswers.{AreKnownFlows}
 use Rattle.flow_eval.specs.declared.flow_table.FlowTable.{FlowTable}
 use Rattle.contract_cli.specs.FlowLists.{AnswersLines, AppendsAll, IsMissingOf, IsMissingOne}
 use Rattle.contract_cli.specs.Using.{entries_of, entry_of}
-use Rattle.contract_cli.specs.declared.stop.Stop.{Stop}
 use Rattle.contract_cli.proofs.LineFacts.{lines_behind, lines_of_none, missing_first, rows_writable}
 use Rattle.contract_cli.proofs.StopFacts.{handed_on}
 use Rattle.contract_cli.proofs.UsedFacts.{item_has, left_more, left_none}

@@ -1,5 +1,6 @@
 use Rattle.contract_cli.proofs.AnswersAreOne.{answers_are_one}
+use Rattle.contract_cli.proofs.OneSummary.{summaries_are_one}
 use Rattle.contract_cli.proofs.laws.answers_are_one.Goals as goal
 
 pub returns : goal.returns
-returns c = answers_are_one
+returns c = record { files = answers_are_one; sample = summaries_are_one }

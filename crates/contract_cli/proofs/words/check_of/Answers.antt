@@ -3,9 +3,9 @@ use Rattle.std.specs.Prelude.{Result, Err, option_map}
 use Rattle.std.proofs.lemmas.Result.{err_from_is_err_and}
 use Rattle.clap.specs.Words.{Text, first_value, found_of}
 use Rattle.contract_cli.specs.Arguments.{IsAnswer}
-use Rattle.contract_cli.specs.Words.{asked_by, check_app, check_from, check_of}
+use Rattle.contract_cli.specs.Words.{requested_by, check_app, check_from, check_of}
 use Rattle.contract_cli.specs.declared.arguments.WordsErr.{WordsErr}
-use Rattle.contract_cli.specs.declared.words.Command.{Command}
+use Rattle.contract_cli.specs.declared.words.Request.{Request}
 use Rattle.contract_cli.proofs.WordFacts.{check_has, check_lacks, lacks, reads, refused}
 use Rattle.contract_cli.proofs.words.check_of.Goals as goal
 
@@ -16,7 +16,7 @@ pub returns-in_err-matches : goal.returns-in_err-matches
 returns-in_err-matches c =
     let words = texts c.args.words.now in
     let p = err_from_is_err_and c.from_residual.result c.from_residual.ensures.1 in
-    subst (λ (r : Result Command WordsErr). IsAnswer asked_by (check_of words) r) (sym (p.1 ∙ ap (λ (x : WordsErr). Err x) p.2))
+    subst (λ (r : Result Request WordsErr). IsAnswer requested_by (check_of words) r) (sym (p.1 ∙ ap (λ (x : WordsErr). Err x) p.2))
     (refused check_app check_from words c.in_err-matches.field-0.0 c.in_err-matches.ensures)
 
 pub returns-in_err-portfolio : goal.returns-in_err-portfolio
@@ -26,7 +26,7 @@ returns-in_err-portfolio c =
     let h = c.in_ok-matches.ensures in
     let same = reads check_app check_from words h.0 found h.1 h.2 in
     let p = err_from_is_err_and c.from_residual-in_err-portfolio.result c.from_residual-in_err-portfolio.ensures.1 in
-    subst (λ (r : Result Command WordsErr). IsAnswer asked_by (check_of words) r) (sym (p.1 ∙ ap (λ (x : WordsErr). Err x) p.2))
+    subst (λ (r : Result Request WordsErr). IsAnswer requested_by (check_of words) r) (sym (p.1 ∙ ap (λ (x : WordsErr). Err x) p.2))
     (lacks (λ (word : Bor Text). word.now) (option_map (λ (word : Bor Text). word.now) c.get_str.result) (check_of words) c.in_err-portfolio.field-0.0
     (λ none. same ∙ check_lacks found (sym c.get_str.ensures ∙ none)) c.in_err-portfolio.ensures)
 

@@ -9,7 +9,7 @@ use Rattle.contract_parse.specs.Reading.{scope_in, tok_of}
 use Rattle.contract_parse.specs.declared.heads.Head.TheVariants as Head
 use Rattle.contract_parse.specs.declared.heads.Binder.TheVariants as binder
 use Rattle.contract_parse.proofs.HeadFacts.{heads}
-use Rattle.contract_parse.proofs.Parts.{followed_by}
+use Rattle.contract_parse.proofs.Parts.{followed_by, two_then}
 use Rattle.contract_parse.proofs.Steps.{passes, refuses, takes}
 use Rattle.contract_parse.proofs.contrs.+contr.Goals as goal
 
@@ -58,119 +58,125 @@ read_contr-returns-in-If-clause-follows t c cs ps = let value = rw c.in-If.is at
 pub read_contr-returns-in-If-clause-spelled : goal.read_contr-returns-in-If-clause-spelled
 read_contr-returns-in-If-clause-spelled t c = let value = rw c.in-If.is at c.in-Ok.ensures in IfOk-weaker c.read_within.result _ _ (λ r h. h (tokens c.args.rest.now) (tok_of c.next.result.0, takes (head_at c.args.depth) (λ text left. (refl, refl)) Head.If (tok_of c.next.result.0) c.args.rest.now c.next.result.1.now c.next.ensures.starts value, heads (tok_of c.next.result.0) c.args.depth Head.If value)) c.read_within.ensures.spelled
 
-pub read_both-returns-in_err-rest-clause-follows : goal.read_both-returns-in_err-rest-clause-follows
-read_both-returns-in_err-rest-clause-follows t c cs ps =
+pub read_boxed-returns-in_err-of-clause-follows : goal.read_boxed-returns-in_err-of-clause-follows
+read_boxed-returns-in_err-of-clause-follows t c cs ps =
     let p = err_from_is_err_and c.from_residual.result c.from_residual.ensures.1 in
-    rw (p.1, p.2) (c.in_err-rest.ensures.follows (scope_in c.args.decls.now cs) (ContrAt (c.args.depth + 1) (names_in c.args.bound.now) ∷ TheMark (codes ",") ∷ ContrAt (c.args.depth + 1) (names_in c.args.bound.now) ∷ TheMark (codes ")") ∷ ps))
+    rw (p.1, p.2) (c.in_err-of.ensures.follows cs ps)
+
+pub read_boxed-returns-clause-follows : goal.read_boxed-returns-clause-follows
+read_boxed-returns-clause-follows t c cs ps =
+    c.in_ok-of.ensures.follows cs ps
+
+pub read_boxed-returns-clause-spelled : goal.read_boxed-returns-clause-spelled
+read_boxed-returns-clause-spelled t c =
+    rw (c.in_ok-of-2.ensures.ok) c.in_ok-of.ensures.spelled
+
+pub read_behind_mark-returns-in_err-rest-clause-follows : goal.read_behind_mark-returns-in_err-rest-clause-follows
+read_behind_mark-returns-in_err-rest-clause-follows t c cs ps =
+    let p = err_from_is_err_and c.from_residual.result c.from_residual.ensures.1 in
+    rw (p.1, p.2) (c.in_err-rest.ensures.follows (scope_in c.args.decls.now cs) (ContrAt (c.args.depth + 1) (names_in c.args.bound.now) ∷ ps))
+
+pub read_behind_mark-returns-clause-follows : goal.read_behind_mark-returns-clause-follows
+read_behind_mark-returns-clause-follows t c cs ps = rw (c.in_ok-rest.ensures.follows (scope_in c.args.decls.now cs) (ContrAt (c.args.depth + 1) (names_in c.args.bound.now) ∷ ps)) (c.read_boxed.ensures.follows cs ps)
+
+pub read_behind_mark-returns-clause-spelled : goal.read_behind_mark-returns-clause-spelled
+read_behind_mark-returns-clause-spelled t c = IfOk-weaker c.read_boxed.result _ _ (λ r h. followed_by (tokens c.in_ok-rest.rest.now) c.in_ok-rest.ensures.spelled h) c.read_boxed.ensures.spelled
+
+pub read_behind_word-returns-in_err-rest-clause-follows : goal.read_behind_word-returns-in_err-rest-clause-follows
+read_behind_word-returns-in_err-rest-clause-follows t c cs ps =
+    let p = err_from_is_err_and c.from_residual.result c.from_residual.ensures.1 in
+    rw (p.1, p.2) (c.in_err-rest.ensures.follows (scope_in c.args.decls.now cs) (ContrAt (c.args.depth + 1) (names_in c.args.bound.now) ∷ ps))
+
+pub read_behind_word-returns-clause-follows : goal.read_behind_word-returns-clause-follows
+read_behind_word-returns-clause-follows t c cs ps = rw (c.in_ok-rest.ensures.follows (scope_in c.args.decls.now cs) (ContrAt (c.args.depth + 1) (names_in c.args.bound.now) ∷ ps)) (c.read_boxed.ensures.follows cs ps)
+
+pub read_behind_word-returns-clause-spelled : goal.read_behind_word-returns-clause-spelled
+read_behind_word-returns-clause-spelled t c = IfOk-weaker c.read_boxed.result _ _ (λ r h. followed_by (tokens c.in_ok-rest.rest.now) c.in_ok-rest.ensures.spelled h) c.read_boxed.ensures.spelled
+
+pub read_branches-returns-in_err-hit-clause-follows : goal.read_branches-returns-in_err-hit-clause-follows
+read_branches-returns-in_err-hit-clause-follows t c cs ps =
+    let p = err_from_is_err_and c.from_residual.result c.from_residual.ensures.1 in
+    rw (p.1, p.2) (c.in_err-hit.ensures.follows cs (TheWord (codes "else") ∷ ContrAt (c.args.depth + 1) (names_in c.args.bound.now) ∷ ps))
+
+pub read_branches-returns-in_err-miss-clause-follows : goal.read_branches-returns-in_err-miss-clause-follows
+read_branches-returns-in_err-miss-clause-follows t c cs ps =
+    let p = err_from_is_err_and c.from_residual-in_err-miss.result c.from_residual-in_err-miss.ensures.1 in
+    let before =
+    c.in_ok-hit.ensures.follows cs (TheWord (codes "else") ∷ ContrAt (c.args.depth + 1) (names_in c.args.bound.now) ∷ ps) in
+    rw (p.1, p.2, before) (c.in_err-miss.ensures.follows cs ps)
+
+pub read_branches-returns-clause-follows : goal.read_branches-returns-clause-follows
+read_branches-returns-clause-follows t c cs ps =
+    c.in_ok-hit.ensures.follows cs (TheWord (codes "else") ∷ ContrAt (c.args.depth + 1) (names_in c.args.bound.now) ∷ ps)
+    ∙ c.in_ok-miss.ensures.follows cs ps
+
+pub read_branches-returns-clause-spelled : goal.read_branches-returns-clause-spelled
+read_branches-returns-clause-spelled t c =
+    two_then (tokens c.in_ok-hit.rest.now) c.in_ok-hit.ensures.spelled c.in_ok-miss.ensures.spelled
 
 pub read_both-returns-in_err-left-clause-follows : goal.read_both-returns-in_err-left-clause-follows
 read_both-returns-in_err-left-clause-follows t c cs ps =
-    let p = err_from_is_err_and c.from_residual-in_err-left.result c.from_residual-in_err-left.ensures.1 in
-    let before =
-    c.in_ok-rest.ensures.follows (scope_in c.args.decls.now cs) (ContrAt (c.args.depth + 1) (names_in c.args.bound.now) ∷ TheMark (codes ",") ∷ ContrAt (c.args.depth + 1) (names_in c.args.bound.now) ∷ TheMark (codes ")") ∷ ps) in
-    rw (p.1, p.2, before) (c.in_err-left.ensures.follows cs (TheMark (codes ",") ∷ ContrAt (c.args.depth + 1) (names_in c.args.bound.now) ∷ TheMark (codes ")") ∷ ps))
-
-pub read_both-returns-in_err-rest-2-clause-follows : goal.read_both-returns-in_err-rest-2-clause-follows
-read_both-returns-in_err-rest-2-clause-follows t c cs ps =
-    let p = err_from_is_err_and c.from_residual-in_err-rest-2.result c.from_residual-in_err-rest-2.ensures.1 in
-    let before =
-    c.in_ok-rest.ensures.follows (scope_in c.args.decls.now cs) (ContrAt (c.args.depth + 1) (names_in c.args.bound.now) ∷ TheMark (codes ",") ∷ ContrAt (c.args.depth + 1) (names_in c.args.bound.now) ∷ TheMark (codes ")") ∷ ps)
-    ∙ c.in_ok-left.ensures.follows cs (TheMark (codes ",") ∷ ContrAt (c.args.depth + 1) (names_in c.args.bound.now) ∷ TheMark (codes ")") ∷ ps) in
-    rw (p.1, p.2, before) (c.in_err-rest-2.ensures.follows (scope_in c.args.decls.now cs) (ContrAt (c.args.depth + 1) (names_in c.args.bound.now) ∷ TheMark (codes ")") ∷ ps))
+    let p = err_from_is_err_and c.from_residual.result c.from_residual.ensures.1 in
+    rw (p.1, p.2) (c.in_err-left.ensures.follows cs (TheMark (codes ",") ∷ ContrAt (c.args.depth + 1) (names_in c.args.bound.now) ∷ TheMark (codes ")") ∷ ps))
 
 pub read_both-returns-in_err-right-clause-follows : goal.read_both-returns-in_err-right-clause-follows
 read_both-returns-in_err-right-clause-follows t c cs ps =
     let p = err_from_is_err_and c.from_residual-in_err-right.result c.from_residual-in_err-right.ensures.1 in
     let before =
-    c.in_ok-rest.ensures.follows (scope_in c.args.decls.now cs) (ContrAt (c.args.depth + 1) (names_in c.args.bound.now) ∷ TheMark (codes ",") ∷ ContrAt (c.args.depth + 1) (names_in c.args.bound.now) ∷ TheMark (codes ")") ∷ ps)
-    ∙ c.in_ok-left.ensures.follows cs (TheMark (codes ",") ∷ ContrAt (c.args.depth + 1) (names_in c.args.bound.now) ∷ TheMark (codes ")") ∷ ps)
-    ∙ c.in_ok-rest-2.ensures.follows (scope_in c.args.decls.now cs) (ContrAt (c.args.depth + 1) (names_in c.args.bound.now) ∷ TheMark (codes ")") ∷ ps) in
+    c.in_ok-left.ensures.follows cs (TheMark (codes ",") ∷ ContrAt (c.args.depth + 1) (names_in c.args.bound.now) ∷ TheMark (codes ")") ∷ ps) in
     rw (p.1, p.2, before) (c.in_err-right.ensures.follows cs (TheMark (codes ")") ∷ ps))
 
-pub read_both-returns-in_err-rest-3-clause-follows : goal.read_both-returns-in_err-rest-3-clause-follows
-read_both-returns-in_err-rest-3-clause-follows t c cs ps =
-    let p = err_from_is_err_and c.from_residual-in_err-rest-3.result c.from_residual-in_err-rest-3.ensures.1 in
+pub read_both-returns-in_err-rest-clause-follows : goal.read_both-returns-in_err-rest-clause-follows
+read_both-returns-in_err-rest-clause-follows t c cs ps =
+    let p = err_from_is_err_and c.from_residual-in_err-rest.result c.from_residual-in_err-rest.ensures.1 in
     let before =
-    c.in_ok-rest.ensures.follows (scope_in c.args.decls.now cs) (ContrAt (c.args.depth + 1) (names_in c.args.bound.now) ∷ TheMark (codes ",") ∷ ContrAt (c.args.depth + 1) (names_in c.args.bound.now) ∷ TheMark (codes ")") ∷ ps)
-    ∙ c.in_ok-left.ensures.follows cs (TheMark (codes ",") ∷ ContrAt (c.args.depth + 1) (names_in c.args.bound.now) ∷ TheMark (codes ")") ∷ ps)
-    ∙ c.in_ok-rest-2.ensures.follows (scope_in c.args.decls.now cs) (ContrAt (c.args.depth + 1) (names_in c.args.bound.now) ∷ TheMark (codes ")") ∷ ps)
+    c.in_ok-left.ensures.follows cs (TheMark (codes ",") ∷ ContrAt (c.args.depth + 1) (names_in c.args.bound.now) ∷ TheMark (codes ")") ∷ ps)
     ∙ c.in_ok-right.ensures.follows cs (TheMark (codes ")") ∷ ps) in
-    rw (p.1, p.2, before) (c.in_err-rest-3.ensures.follows (scope_in c.args.decls.now cs) (ps))
+    rw (p.1, p.2, before) (c.in_err-rest.ensures.follows (scope_in c.args.decls.now cs) ps)
 
 pub read_both-returns-clause-follows : goal.read_both-returns-clause-follows
 read_both-returns-clause-follows t c cs ps =
-    c.in_ok-rest.ensures.follows (scope_in c.args.decls.now cs) (ContrAt (c.args.depth + 1) (names_in c.args.bound.now) ∷ TheMark (codes ",") ∷ ContrAt (c.args.depth + 1) (names_in c.args.bound.now) ∷ TheMark (codes ")") ∷ ps)
-    ∙ c.in_ok-left.ensures.follows cs (TheMark (codes ",") ∷ ContrAt (c.args.depth + 1) (names_in c.args.bound.now) ∷ TheMark (codes ")") ∷ ps)
-    ∙ c.in_ok-rest-2.ensures.follows (scope_in c.args.decls.now cs) (ContrAt (c.args.depth + 1) (names_in c.args.bound.now) ∷ TheMark (codes ")") ∷ ps)
+    c.in_ok-left.ensures.follows cs (TheMark (codes ",") ∷ ContrAt (c.args.depth + 1) (names_in c.args.bound.now) ∷ TheMark (codes ")") ∷ ps)
     ∙ c.in_ok-right.ensures.follows cs (TheMark (codes ")") ∷ ps)
-    ∙ c.in_ok-rest-3.ensures.follows (scope_in c.args.decls.now cs) (ps)
+    ∙ c.in_ok-rest.ensures.follows (scope_in c.args.decls.now cs) ps
 
 pub read_both-returns-clause-spelled : goal.read_both-returns-clause-spelled
 read_both-returns-clause-spelled t c ts first =
-    rw (c.in_ok-left-2.ensures.ok, c.in_ok-right-2.ensures.ok)
-    (followed_by (tokens c.args.rest.now) first
-    (followed_by (tokens c.in_ok-rest.rest.now) c.in_ok-rest.ensures.spelled
-    (followed_by (tokens c.in_ok-left.rest.now) c.in_ok-left.ensures.spelled
-    (followed_by (tokens c.in_ok-rest-2.rest.now) c.in_ok-rest-2.ensures.spelled
-    (followed_by (tokens c.in_ok-right.rest.now) c.in_ok-right.ensures.spelled
-    (c.in_ok-rest-3.ensures.spelled))))))
-
-pub read_scaled-returns-in_err-rest-clause-follows : goal.read_scaled-returns-in_err-rest-clause-follows
-read_scaled-returns-in_err-rest-clause-follows t c cs ps =
-    let p = err_from_is_err_and c.from_residual.result c.from_residual.ensures.1 in
-    rw (p.1, p.2) (c.in_err-rest.ensures.follows (scope_in c.args.decls.now cs) (ExprAt (c.args.depth + 1) (names_in c.args.bound.now) ∷ TheMark (codes ",") ∷ ContrAt (c.args.depth + 1) (names_in c.args.bound.now) ∷ TheMark (codes ")") ∷ ps))
+    followed_by (tokens c.args.rest.now) first
+    (two_then (tokens c.in_ok-left.rest.now) c.in_ok-left.ensures.spelled
+    (two_then (tokens c.in_ok-right.rest.now) c.in_ok-right.ensures.spelled c.in_ok-rest.ensures.spelled))
 
 pub read_scaled-returns-in_err-factor-clause-follows : goal.read_scaled-returns-in_err-factor-clause-follows
 read_scaled-returns-in_err-factor-clause-follows t c cs ps =
-    let p = err_from_is_err_and c.from_residual-in_err-factor.result c.from_residual-in_err-factor.ensures.1 in
-    let before =
-    c.in_ok-rest.ensures.follows (scope_in c.args.decls.now cs) (ExprAt (c.args.depth + 1) (names_in c.args.bound.now) ∷ TheMark (codes ",") ∷ ContrAt (c.args.depth + 1) (names_in c.args.bound.now) ∷ TheMark (codes ")") ∷ ps) in
-    rw (p.1, p.2, before) (c.in_err-factor.ensures.follows cs (TheMark (codes ",") ∷ ContrAt (c.args.depth + 1) (names_in c.args.bound.now) ∷ TheMark (codes ")") ∷ ps))
-
-pub read_scaled-returns-in_err-rest-2-clause-follows : goal.read_scaled-returns-in_err-rest-2-clause-follows
-read_scaled-returns-in_err-rest-2-clause-follows t c cs ps =
-    let p = err_from_is_err_and c.from_residual-in_err-rest-2.result c.from_residual-in_err-rest-2.ensures.1 in
-    let before =
-    c.in_ok-rest.ensures.follows (scope_in c.args.decls.now cs) (ExprAt (c.args.depth + 1) (names_in c.args.bound.now) ∷ TheMark (codes ",") ∷ ContrAt (c.args.depth + 1) (names_in c.args.bound.now) ∷ TheMark (codes ")") ∷ ps)
-    ∙ c.in_ok-factor.ensures.follows cs (TheMark (codes ",") ∷ ContrAt (c.args.depth + 1) (names_in c.args.bound.now) ∷ TheMark (codes ")") ∷ ps) in
-    rw (p.1, p.2, before) (c.in_err-rest-2.ensures.follows (scope_in c.args.decls.now cs) (ContrAt (c.args.depth + 1) (names_in c.args.bound.now) ∷ TheMark (codes ")") ∷ ps))
+    let p = err_from_is_err_and c.from_residual.result c.from_residual.ensures.1 in
+    rw (p.1, p.2) (c.in_err-factor.ensures.follows cs (TheMark (codes ",") ∷ ContrAt (c.args.depth + 1) (names_in c.args.bound.now) ∷ TheMark (codes ")") ∷ ps))
 
 pub read_scaled-returns-in_err-body-clause-follows : goal.read_scaled-returns-in_err-body-clause-follows
 read_scaled-returns-in_err-body-clause-follows t c cs ps =
     let p = err_from_is_err_and c.from_residual-in_err-body.result c.from_residual-in_err-body.ensures.1 in
     let before =
-    c.in_ok-rest.ensures.follows (scope_in c.args.decls.now cs) (ExprAt (c.args.depth + 1) (names_in c.args.bound.now) ∷ TheMark (codes ",") ∷ ContrAt (c.args.depth + 1) (names_in c.args.bound.now) ∷ TheMark (codes ")") ∷ ps)
-    ∙ c.in_ok-factor.ensures.follows cs (TheMark (codes ",") ∷ ContrAt (c.args.depth + 1) (names_in c.args.bound.now) ∷ TheMark (codes ")") ∷ ps)
-    ∙ c.in_ok-rest-2.ensures.follows (scope_in c.args.decls.now cs) (ContrAt (c.args.depth + 1) (names_in c.args.bound.now) ∷ TheMark (codes ")") ∷ ps) in
+    c.in_ok-factor.ensures.follows cs (TheMark (codes ",") ∷ ContrAt (c.args.depth + 1) (names_in c.args.bound.now) ∷ TheMark (codes ")") ∷ ps) in
     rw (p.1, p.2, before) (c.in_err-body.ensures.follows cs (TheMark (codes ")") ∷ ps))
 
-pub read_scaled-returns-in_err-rest-3-clause-follows : goal.read_scaled-returns-in_err-rest-3-clause-follows
-read_scaled-returns-in_err-rest-3-clause-follows t c cs ps =
-    let p = err_from_is_err_and c.from_residual-in_err-rest-3.result c.from_residual-in_err-rest-3.ensures.1 in
+pub read_scaled-returns-in_err-rest-clause-follows : goal.read_scaled-returns-in_err-rest-clause-follows
+read_scaled-returns-in_err-rest-clause-follows t c cs ps =
+    let p = err_from_is_err_and c.from_residual-in_err-rest.result c.from_residual-in_err-rest.ensures.1 in
     let before =
-    c.in_ok-rest.ensures.follows (scope_in c.args.decls.now cs) (ExprAt (c.args.depth + 1) (names_in c.args.bound.now) ∷ TheMark (codes ",") ∷ ContrAt (c.args.depth + 1) (names_in c.args.bound.now) ∷ TheMark (codes ")") ∷ ps)
-    ∙ c.in_ok-factor.ensures.follows cs (TheMark (codes ",") ∷ ContrAt (c.args.depth + 1) (names_in c.args.bound.now) ∷ TheMark (codes ")") ∷ ps)
-    ∙ c.in_ok-rest-2.ensures.follows (scope_in c.args.decls.now cs) (ContrAt (c.args.depth + 1) (names_in c.args.bound.now) ∷ TheMark (codes ")") ∷ ps)
+    c.in_ok-factor.ensures.follows cs (TheMark (codes ",") ∷ ContrAt (c.args.depth + 1) (names_in c.args.bound.now) ∷ TheMark (codes ")") ∷ ps)
     ∙ c.in_ok-body.ensures.follows cs (TheMark (codes ")") ∷ ps) in
-    rw (p.1, p.2, before) (c.in_err-rest-3.ensures.follows (scope_in c.args.decls.now cs) (ps))
+    rw (p.1, p.2, before) (c.in_err-rest.ensures.follows (scope_in c.args.decls.now cs) ps)
 
 pub read_scaled-returns-clause-follows : goal.read_scaled-returns-clause-follows
 read_scaled-returns-clause-follows t c cs ps =
-    c.in_ok-rest.ensures.follows (scope_in c.args.decls.now cs) (ExprAt (c.args.depth + 1) (names_in c.args.bound.now) ∷ TheMark (codes ",") ∷ ContrAt (c.args.depth + 1) (names_in c.args.bound.now) ∷ TheMark (codes ")") ∷ ps)
-    ∙ c.in_ok-factor.ensures.follows cs (TheMark (codes ",") ∷ ContrAt (c.args.depth + 1) (names_in c.args.bound.now) ∷ TheMark (codes ")") ∷ ps)
-    ∙ c.in_ok-rest-2.ensures.follows (scope_in c.args.decls.now cs) (ContrAt (c.args.depth + 1) (names_in c.args.bound.now) ∷ TheMark (codes ")") ∷ ps)
+    c.in_ok-factor.ensures.follows cs (TheMark (codes ",") ∷ ContrAt (c.args.depth + 1) (names_in c.args.bound.now) ∷ TheMark (codes ")") ∷ ps)
     ∙ c.in_ok-body.ensures.follows cs (TheMark (codes ")") ∷ ps)
-    ∙ c.in_ok-rest-3.ensures.follows (scope_in c.args.decls.now cs) (ps)
+    ∙ c.in_ok-rest.ensures.follows (scope_in c.args.decls.now cs) ps
 
 pub read_scaled-returns-clause-spelled : goal.read_scaled-returns-clause-spelled
 read_scaled-returns-clause-spelled t c ts first =
-    rw (c.in_ok-body-2.ensures.ok)
-    (followed_by (tokens c.args.rest.now) first
-    (followed_by (tokens c.in_ok-rest.rest.now) c.in_ok-rest.ensures.spelled
-    (followed_by (tokens c.in_ok-factor.rest.now) c.in_ok-factor.ensures.spelled
-    (followed_by (tokens c.in_ok-rest-2.rest.now) c.in_ok-rest-2.ensures.spelled
-    (followed_by (tokens c.in_ok-body.rest.now) c.in_ok-body.ensures.spelled
-    (c.in_ok-rest-3.ensures.spelled))))))
+    followed_by (tokens c.args.rest.now) first
+    (two_then (tokens c.in_ok-factor.rest.now) c.in_ok-factor.ensures.spelled
+    (two_then (tokens c.in_ok-body.rest.now) c.in_ok-body.ensures.spelled c.in_ok-rest.ensures.spelled))
 
 pub read_after-returns-in_err-rest-clause-follows : goal.read_after-returns-in_err-rest-clause-follows
 read_after-returns-in_err-rest-clause-follows t c cs ps =
@@ -184,50 +190,36 @@ read_after-returns-in_err-days-clause-follows t c cs ps =
     c.in_ok-rest.ensures.follows (scope_in c.args.decls.now cs) (DaysAt (scope_in c.args.decls.now cs).templates ∷ TheMark (codes ",") ∷ ContrAt (c.args.depth + 1) (names_in c.args.bound.now) ∷ TheMark (codes ")") ∷ ps) in
     rw (p.1, p.2, before) (c.in_err-days.ensures.follows (scope_in c.args.decls.now cs) (TheMark (codes ",") ∷ ContrAt (c.args.depth + 1) (names_in c.args.bound.now) ∷ TheMark (codes ")") ∷ ps))
 
-pub read_after-returns-in_err-rest-2-clause-follows : goal.read_after-returns-in_err-rest-2-clause-follows
-read_after-returns-in_err-rest-2-clause-follows t c cs ps =
-    let p = err_from_is_err_and c.from_residual-in_err-rest-2.result c.from_residual-in_err-rest-2.ensures.1 in
-    let before =
-    c.in_ok-rest.ensures.follows (scope_in c.args.decls.now cs) (DaysAt (scope_in c.args.decls.now cs).templates ∷ TheMark (codes ",") ∷ ContrAt (c.args.depth + 1) (names_in c.args.bound.now) ∷ TheMark (codes ")") ∷ ps)
-    ∙ c.in_ok-days.ensures.follows (scope_in c.args.decls.now cs) (TheMark (codes ",") ∷ ContrAt (c.args.depth + 1) (names_in c.args.bound.now) ∷ TheMark (codes ")") ∷ ps) in
-    rw (p.1, p.2, before) (c.in_err-rest-2.ensures.follows (scope_in c.args.decls.now cs) (ContrAt (c.args.depth + 1) (names_in c.args.bound.now) ∷ TheMark (codes ")") ∷ ps))
-
 pub read_after-returns-in_err-body-clause-follows : goal.read_after-returns-in_err-body-clause-follows
 read_after-returns-in_err-body-clause-follows t c cs ps =
     let p = err_from_is_err_and c.from_residual-in_err-body.result c.from_residual-in_err-body.ensures.1 in
     let before =
     c.in_ok-rest.ensures.follows (scope_in c.args.decls.now cs) (DaysAt (scope_in c.args.decls.now cs).templates ∷ TheMark (codes ",") ∷ ContrAt (c.args.depth + 1) (names_in c.args.bound.now) ∷ TheMark (codes ")") ∷ ps)
-    ∙ c.in_ok-days.ensures.follows (scope_in c.args.decls.now cs) (TheMark (codes ",") ∷ ContrAt (c.args.depth + 1) (names_in c.args.bound.now) ∷ TheMark (codes ")") ∷ ps)
-    ∙ c.in_ok-rest-2.ensures.follows (scope_in c.args.decls.now cs) (ContrAt (c.args.depth + 1) (names_in c.args.bound.now) ∷ TheMark (codes ")") ∷ ps) in
+    ∙ c.in_ok-days.ensures.follows (scope_in c.args.decls.now cs) (TheMark (codes ",") ∷ ContrAt (c.args.depth + 1) (names_in c.args.bound.now) ∷ TheMark (codes ")") ∷ ps) in
     rw (p.1, p.2, before) (c.in_err-body.ensures.follows cs (TheMark (codes ")") ∷ ps))
 
-pub read_after-returns-in_err-rest-3-clause-follows : goal.read_after-returns-in_err-rest-3-clause-follows
-read_after-returns-in_err-rest-3-clause-follows t c cs ps =
-    let p = err_from_is_err_and c.from_residual-in_err-rest-3.result c.from_residual-in_err-rest-3.ensures.1 in
+pub read_after-returns-in_err-rest-2-clause-follows : goal.read_after-returns-in_err-rest-2-clause-follows
+read_after-returns-in_err-rest-2-clause-follows t c cs ps =
+    let p = err_from_is_err_and c.from_residual-in_err-rest-2.result c.from_residual-in_err-rest-2.ensures.1 in
     let before =
     c.in_ok-rest.ensures.follows (scope_in c.args.decls.now cs) (DaysAt (scope_in c.args.decls.now cs).templates ∷ TheMark (codes ",") ∷ ContrAt (c.args.depth + 1) (names_in c.args.bound.now) ∷ TheMark (codes ")") ∷ ps)
     ∙ c.in_ok-days.ensures.follows (scope_in c.args.decls.now cs) (TheMark (codes ",") ∷ ContrAt (c.args.depth + 1) (names_in c.args.bound.now) ∷ TheMark (codes ")") ∷ ps)
-    ∙ c.in_ok-rest-2.ensures.follows (scope_in c.args.decls.now cs) (ContrAt (c.args.depth + 1) (names_in c.args.bound.now) ∷ TheMark (codes ")") ∷ ps)
     ∙ c.in_ok-body.ensures.follows cs (TheMark (codes ")") ∷ ps) in
-    rw (p.1, p.2, before) (c.in_err-rest-3.ensures.follows (scope_in c.args.decls.now cs) (ps))
+    rw (p.1, p.2, before) (c.in_err-rest-2.ensures.follows (scope_in c.args.decls.now cs) ps)
 
 pub read_after-returns-clause-follows : goal.read_after-returns-clause-follows
 read_after-returns-clause-follows t c cs ps =
     c.in_ok-rest.ensures.follows (scope_in c.args.decls.now cs) (DaysAt (scope_in c.args.decls.now cs).templates ∷ TheMark (codes ",") ∷ ContrAt (c.args.depth + 1) (names_in c.args.bound.now) ∷ TheMark (codes ")") ∷ ps)
     ∙ c.in_ok-days.ensures.follows (scope_in c.args.decls.now cs) (TheMark (codes ",") ∷ ContrAt (c.args.depth + 1) (names_in c.args.bound.now) ∷ TheMark (codes ")") ∷ ps)
-    ∙ c.in_ok-rest-2.ensures.follows (scope_in c.args.decls.now cs) (ContrAt (c.args.depth + 1) (names_in c.args.bound.now) ∷ TheMark (codes ")") ∷ ps)
     ∙ c.in_ok-body.ensures.follows cs (TheMark (codes ")") ∷ ps)
-    ∙ c.in_ok-rest-3.ensures.follows (scope_in c.args.decls.now cs) (ps)
+    ∙ c.in_ok-rest-2.ensures.follows (scope_in c.args.decls.now cs) ps
 
 pub read_after-returns-clause-spelled : goal.read_after-returns-clause-spelled
 read_after-returns-clause-spelled t c ts first =
-    rw (c.in_ok-body-2.ensures.ok)
-    (followed_by (tokens c.args.rest.now) first
+    followed_by (tokens c.args.rest.now) first
     (followed_by (tokens c.in_ok-rest.rest.now) c.in_ok-rest.ensures.spelled
     (followed_by (tokens c.in_ok-days.rest.now) c.in_ok-days.ensures.spelled
-    (followed_by (tokens c.in_ok-rest-2.rest.now) c.in_ok-rest-2.ensures.spelled
-    (followed_by (tokens c.in_ok-body.rest.now) c.in_ok-body.ensures.spelled
-    (c.in_ok-rest-3.ensures.spelled))))))
+    (two_then (tokens c.in_ok-body.rest.now) c.in_ok-body.ensures.spelled c.in_ok-rest-2.ensures.spelled)))
 
 pub read_let-returns-in_err-name-clause-follows : goal.read_let-returns-in_err-name-clause-follows
 read_let-returns-in_err-name-clause-follows t c cs ps =
@@ -249,126 +241,60 @@ read_let-returns-in_err-value-clause-follows t c cs ps =
     ∙ c.in_ok-rest.ensures.follows (scope_in c.args.decls.now cs) (ExprAt (c.args.depth + 1) (names_in c.args.bound.now) ∷ TheWord (codes "in") ∷ ContrAt (c.args.depth + 1) (c.in_ok-name.name.now ∷ (names_in c.args.bound.now)) ∷ ps) in
     rw (p.1, p.2, before) (c.in_err-value.ensures.follows cs (TheWord (codes "in") ∷ ContrAt (c.args.depth + 1) (c.in_ok-name.name.now ∷ (names_in c.args.bound.now)) ∷ ps))
 
-pub read_let-returns-in_err-rest-2-clause-follows : goal.read_let-returns-in_err-rest-2-clause-follows
-read_let-returns-in_err-rest-2-clause-follows t c cs ps =
-    let p = err_from_is_err_and c.from_residual-in_err-rest-2.result c.from_residual-in_err-rest-2.ensures.1 in
-    let before =
-    c.in_ok-name.ensures.follows binder.Let c.args.depth (names_in c.args.bound.now) (scope_in c.args.decls.now cs) ps
-    ∙ c.in_ok-rest.ensures.follows (scope_in c.args.decls.now cs) (ExprAt (c.args.depth + 1) (names_in c.args.bound.now) ∷ TheWord (codes "in") ∷ ContrAt (c.args.depth + 1) (c.in_ok-name.name.now ∷ (names_in c.args.bound.now)) ∷ ps)
-    ∙ c.in_ok-value.ensures.follows cs (TheWord (codes "in") ∷ ContrAt (c.args.depth + 1) (c.in_ok-name.name.now ∷ (names_in c.args.bound.now)) ∷ ps) in
-    rw (p.1, p.2, before) (c.in_err-rest-2.ensures.follows (scope_in c.args.decls.now cs) (ContrAt (c.args.depth + 1) (c.in_ok-name.name.now ∷ (names_in c.args.bound.now)) ∷ ps))
-
 pub read_let-returns-in_err-body-clause-follows : goal.read_let-returns-in_err-body-clause-follows
 read_let-returns-in_err-body-clause-follows t c cs ps =
     let p = err_from_is_err_and c.from_residual-in_err-body.result c.from_residual-in_err-body.ensures.1 in
     let before =
     c.in_ok-name.ensures.follows binder.Let c.args.depth (names_in c.args.bound.now) (scope_in c.args.decls.now cs) ps
     ∙ c.in_ok-rest.ensures.follows (scope_in c.args.decls.now cs) (ExprAt (c.args.depth + 1) (names_in c.args.bound.now) ∷ TheWord (codes "in") ∷ ContrAt (c.args.depth + 1) (c.in_ok-name.name.now ∷ (names_in c.args.bound.now)) ∷ ps)
-    ∙ c.in_ok-value.ensures.follows cs (TheWord (codes "in") ∷ ContrAt (c.args.depth + 1) (c.in_ok-name.name.now ∷ (names_in c.args.bound.now)) ∷ ps)
-    ∙ c.in_ok-rest-2.ensures.follows (scope_in c.args.decls.now cs) (ContrAt (c.args.depth + 1) (c.in_ok-name.name.now ∷ (names_in c.args.bound.now)) ∷ ps) in
-    rw (p.1, p.2, before) (c.in_err-body.ensures.follows cs (ps))
+    ∙ c.in_ok-value.ensures.follows cs (TheWord (codes "in") ∷ ContrAt (c.args.depth + 1) (c.in_ok-name.name.now ∷ (names_in c.args.bound.now)) ∷ ps) in
+    rw (p.1, p.2, before) (c.in_err-body.ensures.follows cs ps)
 
 pub read_let-returns-clause-follows : goal.read_let-returns-clause-follows
 read_let-returns-clause-follows t c cs ps =
     c.in_ok-name.ensures.follows binder.Let c.args.depth (names_in c.args.bound.now) (scope_in c.args.decls.now cs) ps
     ∙ c.in_ok-rest.ensures.follows (scope_in c.args.decls.now cs) (ExprAt (c.args.depth + 1) (names_in c.args.bound.now) ∷ TheWord (codes "in") ∷ ContrAt (c.args.depth + 1) (c.in_ok-name.name.now ∷ (names_in c.args.bound.now)) ∷ ps)
     ∙ c.in_ok-value.ensures.follows cs (TheWord (codes "in") ∷ ContrAt (c.args.depth + 1) (c.in_ok-name.name.now ∷ (names_in c.args.bound.now)) ∷ ps)
-    ∙ c.in_ok-rest-2.ensures.follows (scope_in c.args.decls.now cs) (ContrAt (c.args.depth + 1) (c.in_ok-name.name.now ∷ (names_in c.args.bound.now)) ∷ ps)
-    ∙ c.in_ok-body.ensures.follows cs (ps)
+    ∙ c.in_ok-body.ensures.follows cs ps
 
 pub read_let-returns-clause-spelled : goal.read_let-returns-clause-spelled
 read_let-returns-clause-spelled t c ts first =
-    rw (c.in_ok-body-2.ensures.ok)
-    (record {
+    record {
       name = c.in_ok-name.name.now;
       spelled = followed_by (tokens c.args.rest.now) first
           (followed_by (tokens c.in_ok-name.rest.now) c.in_ok-name.ensures.spelled
           (followed_by (tokens c.in_ok-rest.rest.now) c.in_ok-rest.ensures.spelled
-          (followed_by (tokens c.in_ok-value.rest.now) c.in_ok-value.ensures.spelled
-          (followed_by (tokens c.in_ok-rest-2.rest.now) c.in_ok-rest-2.ensures.spelled
-          (c.in_ok-body.ensures.spelled)))));
-    })
+          (followed_by (tokens c.in_ok-value.rest.now) c.in_ok-value.ensures.spelled c.in_ok-body.ensures.spelled)));
+    }
 
 pub read_within-returns-in_err-test-clause-follows : goal.read_within-returns-in_err-test-clause-follows
 read_within-returns-in_err-test-clause-follows t c cs ps =
     let p = err_from_is_err_and c.from_residual.result c.from_residual.ensures.1 in
     rw (p.1, p.2) (c.in_err-test.ensures.follows cs (TheWord (codes "within") ∷ DaysAt (scope_in c.args.decls.now cs).templates ∷ TheWord (codes "then") ∷ ContrAt (c.args.depth + 1) (names_in c.args.bound.now) ∷ TheWord (codes "else") ∷ ContrAt (c.args.depth + 1) (names_in c.args.bound.now) ∷ ps))
 
-pub read_within-returns-in_err-rest-clause-follows : goal.read_within-returns-in_err-rest-clause-follows
-read_within-returns-in_err-rest-clause-follows t c cs ps =
-    let p = err_from_is_err_and c.from_residual-in_err-rest.result c.from_residual-in_err-rest.ensures.1 in
-    let before =
-    c.in_ok-test.ensures.follows cs (TheWord (codes "within") ∷ DaysAt (scope_in c.args.decls.now cs).templates ∷ TheWord (codes "then") ∷ ContrAt (c.args.depth + 1) (names_in c.args.bound.now) ∷ TheWord (codes "else") ∷ ContrAt (c.args.depth + 1) (names_in c.args.bound.now) ∷ ps) in
-    rw (p.1, p.2, before) (c.in_err-rest.ensures.follows (scope_in c.args.decls.now cs) (DaysAt (scope_in c.args.decls.now cs).templates ∷ TheWord (codes "then") ∷ ContrAt (c.args.depth + 1) (names_in c.args.bound.now) ∷ TheWord (codes "else") ∷ ContrAt (c.args.depth + 1) (names_in c.args.bound.now) ∷ ps))
-
 pub read_within-returns-in_err-days-clause-follows : goal.read_within-returns-in_err-days-clause-follows
 read_within-returns-in_err-days-clause-follows t c cs ps =
     let p = err_from_is_err_and c.from_residual-in_err-days.result c.from_residual-in_err-days.ensures.1 in
     let before =
-    c.in_ok-test.ensures.follows cs (TheWord (codes "within") ∷ DaysAt (scope_in c.args.decls.now cs).templates ∷ TheWord (codes "then") ∷ ContrAt (c.args.depth + 1) (names_in c.args.bound.now) ∷ TheWord (codes "else") ∷ ContrAt (c.args.depth + 1) (names_in c.args.bound.now) ∷ ps)
-    ∙ c.in_ok-rest.ensures.follows (scope_in c.args.decls.now cs) (DaysAt (scope_in c.args.decls.now cs).templates ∷ TheWord (codes "then") ∷ ContrAt (c.args.depth + 1) (names_in c.args.bound.now) ∷ TheWord (codes "else") ∷ ContrAt (c.args.depth + 1) (names_in c.args.bound.now) ∷ ps) in
+    c.in_ok-test.ensures.follows cs (TheWord (codes "within") ∷ DaysAt (scope_in c.args.decls.now cs).templates ∷ TheWord (codes "then") ∷ ContrAt (c.args.depth + 1) (names_in c.args.bound.now) ∷ TheWord (codes "else") ∷ ContrAt (c.args.depth + 1) (names_in c.args.bound.now) ∷ ps) in
     rw (p.1, p.2, before) (c.in_err-days.ensures.follows (scope_in c.args.decls.now cs) (TheWord (codes "then") ∷ ContrAt (c.args.depth + 1) (names_in c.args.bound.now) ∷ TheWord (codes "else") ∷ ContrAt (c.args.depth + 1) (names_in c.args.bound.now) ∷ ps))
-
-pub read_within-returns-in_err-rest-2-clause-follows : goal.read_within-returns-in_err-rest-2-clause-follows
-read_within-returns-in_err-rest-2-clause-follows t c cs ps =
-    let p = err_from_is_err_and c.from_residual-in_err-rest-2.result c.from_residual-in_err-rest-2.ensures.1 in
-    let before =
-    c.in_ok-test.ensures.follows cs (TheWord (codes "within") ∷ DaysAt (scope_in c.args.decls.now cs).templates ∷ TheWord (codes "then") ∷ ContrAt (c.args.depth + 1) (names_in c.args.bound.now) ∷ TheWord (codes "else") ∷ ContrAt (c.args.depth + 1) (names_in c.args.bound.now) ∷ ps)
-    ∙ c.in_ok-rest.ensures.follows (scope_in c.args.decls.now cs) (DaysAt (scope_in c.args.decls.now cs).templates ∷ TheWord (codes "then") ∷ ContrAt (c.args.depth + 1) (names_in c.args.bound.now) ∷ TheWord (codes "else") ∷ ContrAt (c.args.depth + 1) (names_in c.args.bound.now) ∷ ps)
-    ∙ c.in_ok-days.ensures.follows (scope_in c.args.decls.now cs) (TheWord (codes "then") ∷ ContrAt (c.args.depth + 1) (names_in c.args.bound.now) ∷ TheWord (codes "else") ∷ ContrAt (c.args.depth + 1) (names_in c.args.bound.now) ∷ ps) in
-    rw (p.1, p.2, before) (c.in_err-rest-2.ensures.follows (scope_in c.args.decls.now cs) (ContrAt (c.args.depth + 1) (names_in c.args.bound.now) ∷ TheWord (codes "else") ∷ ContrAt (c.args.depth + 1) (names_in c.args.bound.now) ∷ ps))
 
 pub read_within-returns-in_err-hit-clause-follows : goal.read_within-returns-in_err-hit-clause-follows
 read_within-returns-in_err-hit-clause-follows t c cs ps =
     let p = err_from_is_err_and c.from_residual-in_err-hit.result c.from_residual-in_err-hit.ensures.1 in
     let before =
     c.in_ok-test.ensures.follows cs (TheWord (codes "within") ∷ DaysAt (scope_in c.args.decls.now cs).templates ∷ TheWord (codes "then") ∷ ContrAt (c.args.depth + 1) (names_in c.args.bound.now) ∷ TheWord (codes "else") ∷ ContrAt (c.args.depth + 1) (names_in c.args.bound.now) ∷ ps)
-    ∙ c.in_ok-rest.ensures.follows (scope_in c.args.decls.now cs) (DaysAt (scope_in c.args.decls.now cs).templates ∷ TheWord (codes "then") ∷ ContrAt (c.args.depth + 1) (names_in c.args.bound.now) ∷ TheWord (codes "else") ∷ ContrAt (c.args.depth + 1) (names_in c.args.bound.now) ∷ ps)
-    ∙ c.in_ok-days.ensures.follows (scope_in c.args.decls.now cs) (TheWord (codes "then") ∷ ContrAt (c.args.depth + 1) (names_in c.args.bound.now) ∷ TheWord (codes "else") ∷ ContrAt (c.args.depth + 1) (names_in c.args.bound.now) ∷ ps)
-    ∙ c.in_ok-rest-2.ensures.follows (scope_in c.args.decls.now cs) (ContrAt (c.args.depth + 1) (names_in c.args.bound.now) ∷ TheWord (codes "else") ∷ ContrAt (c.args.depth + 1) (names_in c.args.bound.now) ∷ ps) in
-    rw (p.1, p.2, before) (c.in_err-hit.ensures.follows cs (TheWord (codes "else") ∷ ContrAt (c.args.depth + 1) (names_in c.args.bound.now) ∷ ps))
-
-pub read_within-returns-in_err-rest-3-clause-follows : goal.read_within-returns-in_err-rest-3-clause-follows
-read_within-returns-in_err-rest-3-clause-follows t c cs ps =
-    let p = err_from_is_err_and c.from_residual-in_err-rest-3.result c.from_residual-in_err-rest-3.ensures.1 in
-    let before =
-    c.in_ok-test.ensures.follows cs (TheWord (codes "within") ∷ DaysAt (scope_in c.args.decls.now cs).templates ∷ TheWord (codes "then") ∷ ContrAt (c.args.depth + 1) (names_in c.args.bound.now) ∷ TheWord (codes "else") ∷ ContrAt (c.args.depth + 1) (names_in c.args.bound.now) ∷ ps)
-    ∙ c.in_ok-rest.ensures.follows (scope_in c.args.decls.now cs) (DaysAt (scope_in c.args.decls.now cs).templates ∷ TheWord (codes "then") ∷ ContrAt (c.args.depth + 1) (names_in c.args.bound.now) ∷ TheWord (codes "else") ∷ ContrAt (c.args.depth + 1) (names_in c.args.bound.now) ∷ ps)
-    ∙ c.in_ok-days.ensures.follows (scope_in c.args.decls.now cs) (TheWord (codes "then") ∷ ContrAt (c.args.depth + 1) (names_in c.args.bound.now) ∷ TheWord (codes "else") ∷ ContrAt (c.args.depth + 1) (names_in c.args.bound.now) ∷ ps)
-    ∙ c.in_ok-rest-2.ensures.follows (scope_in c.args.decls.now cs) (ContrAt (c.args.depth + 1) (names_in c.args.bound.now) ∷ TheWord (codes "else") ∷ ContrAt (c.args.depth + 1) (names_in c.args.bound.now) ∷ ps)
-    ∙ c.in_ok-hit.ensures.follows cs (TheWord (codes "else") ∷ ContrAt (c.args.depth + 1) (names_in c.args.bound.now) ∷ ps) in
-    rw (p.1, p.2, before) (c.in_err-rest-3.ensures.follows (scope_in c.args.decls.now cs) (ContrAt (c.args.depth + 1) (names_in c.args.bound.now) ∷ ps))
-
-pub read_within-returns-in_err-miss-clause-follows : goal.read_within-returns-in_err-miss-clause-follows
-read_within-returns-in_err-miss-clause-follows t c cs ps =
-    let p = err_from_is_err_and c.from_residual-in_err-miss.result c.from_residual-in_err-miss.ensures.1 in
-    let before =
-    c.in_ok-test.ensures.follows cs (TheWord (codes "within") ∷ DaysAt (scope_in c.args.decls.now cs).templates ∷ TheWord (codes "then") ∷ ContrAt (c.args.depth + 1) (names_in c.args.bound.now) ∷ TheWord (codes "else") ∷ ContrAt (c.args.depth + 1) (names_in c.args.bound.now) ∷ ps)
-    ∙ c.in_ok-rest.ensures.follows (scope_in c.args.decls.now cs) (DaysAt (scope_in c.args.decls.now cs).templates ∷ TheWord (codes "then") ∷ ContrAt (c.args.depth + 1) (names_in c.args.bound.now) ∷ TheWord (codes "else") ∷ ContrAt (c.args.depth + 1) (names_in c.args.bound.now) ∷ ps)
-    ∙ c.in_ok-days.ensures.follows (scope_in c.args.decls.now cs) (TheWord (codes "then") ∷ ContrAt (c.args.depth + 1) (names_in c.args.bound.now) ∷ TheWord (codes "else") ∷ ContrAt (c.args.depth + 1) (names_in c.args.bound.now) ∷ ps)
-    ∙ c.in_ok-rest-2.ensures.follows (scope_in c.args.decls.now cs) (ContrAt (c.args.depth + 1) (names_in c.args.bound.now) ∷ TheWord (codes "else") ∷ ContrAt (c.args.depth + 1) (names_in c.args.bound.now) ∷ ps)
-    ∙ c.in_ok-hit.ensures.follows cs (TheWord (codes "else") ∷ ContrAt (c.args.depth + 1) (names_in c.args.bound.now) ∷ ps)
-    ∙ c.in_ok-rest-3.ensures.follows (scope_in c.args.decls.now cs) (ContrAt (c.args.depth + 1) (names_in c.args.bound.now) ∷ ps) in
-    rw (p.1, p.2, before) (c.in_err-miss.ensures.follows cs (ps))
+    ∙ c.in_ok-days.ensures.follows (scope_in c.args.decls.now cs) (TheWord (codes "then") ∷ ContrAt (c.args.depth + 1) (names_in c.args.bound.now) ∷ TheWord (codes "else") ∷ ContrAt (c.args.depth + 1) (names_in c.args.bound.now) ∷ ps) in
+    rw (p.1, p.2, before) (c.in_err-hit.ensures.follows cs ps)
 
 pub read_within-returns-clause-follows : goal.read_within-returns-clause-follows
 read_within-returns-clause-follows t c cs ps =
     c.in_ok-test.ensures.follows cs (TheWord (codes "within") ∷ DaysAt (scope_in c.args.decls.now cs).templates ∷ TheWord (codes "then") ∷ ContrAt (c.args.depth + 1) (names_in c.args.bound.now) ∷ TheWord (codes "else") ∷ ContrAt (c.args.depth + 1) (names_in c.args.bound.now) ∷ ps)
-    ∙ c.in_ok-rest.ensures.follows (scope_in c.args.decls.now cs) (DaysAt (scope_in c.args.decls.now cs).templates ∷ TheWord (codes "then") ∷ ContrAt (c.args.depth + 1) (names_in c.args.bound.now) ∷ TheWord (codes "else") ∷ ContrAt (c.args.depth + 1) (names_in c.args.bound.now) ∷ ps)
     ∙ c.in_ok-days.ensures.follows (scope_in c.args.decls.now cs) (TheWord (codes "then") ∷ ContrAt (c.args.depth + 1) (names_in c.args.bound.now) ∷ TheWord (codes "else") ∷ ContrAt (c.args.depth + 1) (names_in c.args.bound.now) ∷ ps)
-    ∙ c.in_ok-rest-2.ensures.follows (scope_in c.args.decls.now cs) (ContrAt (c.args.depth + 1) (names_in c.args.bound.now) ∷ TheWord (codes "else") ∷ ContrAt (c.args.depth + 1) (names_in c.args.bound.now) ∷ ps)
-    ∙ c.in_ok-hit.ensures.follows cs (TheWord (codes "else") ∷ ContrAt (c.args.depth + 1) (names_in c.args.bound.now) ∷ ps)
-    ∙ c.in_ok-rest-3.ensures.follows (scope_in c.args.decls.now cs) (ContrAt (c.args.depth + 1) (names_in c.args.bound.now) ∷ ps)
-    ∙ c.in_ok-miss.ensures.follows cs (ps)
+    ∙ c.in_ok-hit.ensures.follows cs ps
 
 pub read_within-returns-clause-spelled : goal.read_within-returns-clause-spelled
 read_within-returns-clause-spelled t c ts first =
-    rw (c.in_ok-hit-2.ensures.ok, c.in_ok-miss-2.ensures.ok)
-    (followed_by (tokens c.args.rest.now) first
+    followed_by (tokens c.args.rest.now) first
     (followed_by (tokens c.in_ok-test.rest.now) c.in_ok-test.ensures.spelled
-    (followed_by (tokens c.in_ok-rest.rest.now) c.in_ok-rest.ensures.spelled
-    (followed_by (tokens c.in_ok-days.rest.now) c.in_ok-days.ensures.spelled
-    (followed_by (tokens c.in_ok-rest-2.rest.now) c.in_ok-rest-2.ensures.spelled
-    (followed_by (tokens c.in_ok-hit.rest.now) c.in_ok-hit.ensures.spelled
-    (followed_by (tokens c.in_ok-rest-3.rest.now) c.in_ok-rest-3.ensures.spelled
-    (c.in_ok-miss.ensures.spelled))))))))
+    (two_then (tokens c.in_ok-days.rest.now) c.in_ok-days.ensures.spelled c.in_ok-hit.ensures.spelled))

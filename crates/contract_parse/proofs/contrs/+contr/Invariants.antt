@@ -1,20 +1,32 @@
 use Rattle.std.proofs.Common.{◌-◌, ◌+◌, ◌*◌}
 use Rattle.contract_parse.proofs.contrs.+contr.Given as goal
 
+abbrev pub decreases-read_boxed : goal.decreases-read_boxed
+decreases-read_boxed l = 5 * (201 - l.depth)
+
+abbrev pub decreases-read_behind_mark : goal.decreases-read_behind_mark
+decreases-read_behind_mark l = 5 * (201 - l.depth) + 1
+
+abbrev pub decreases-read_behind_word : goal.decreases-read_behind_word
+decreases-read_behind_word l = 5 * (201 - l.depth) + 1
+
+abbrev pub decreases-read_branches : goal.decreases-read_branches
+decreases-read_branches l = 5 * (201 - l.depth) + 2
+
 abbrev pub decreases-read_both : goal.decreases-read_both
-decreases-read_both l = 2 * (201 - l.depth)
+decreases-read_both l = 5 * (201 - l.depth) + 3
 
 abbrev pub decreases-read_scaled : goal.decreases-read_scaled
-decreases-read_scaled l = 2 * (201 - l.depth)
+decreases-read_scaled l = 5 * (201 - l.depth) + 3
 
 abbrev pub decreases-read_after : goal.decreases-read_after
-decreases-read_after l = 2 * (201 - l.depth)
+decreases-read_after l = 5 * (201 - l.depth) + 3
 
 abbrev pub decreases-read_let : goal.decreases-read_let
-decreases-read_let l = 2 * (201 - l.depth)
+decreases-read_let l = 5 * (201 - l.depth) + 3
 
 abbrev pub decreases-read_within : goal.decreases-read_within
-decreases-read_within l = 2 * (201 - l.depth)
+decreases-read_within l = 5 * (201 - l.depth) + 3
 
 abbrev pub decreases-read_contr : goal.decreases-read_contr
-decreases-read_contr l = 2 * (201 - l.depth) + 1
+decreases-read_contr l = 5 * (201 - l.depth) + 4

@@ -1,14 +1,10 @@
 use Rattle.contract_parse.specs.Tokens.{tokens}
-use Rattle.contract_parse.proofs.Parts.{followed_by}
+use Rattle.contract_parse.proofs.Parts.{followed_by, two_then}
 use Rattle.contract_parse.proofs.contrs.read_pay.Goals as goal
 
 pub returns-clause-spelled : goal.returns-clause-spelled
 returns-clause-spelled c names ts pay =
     followed_by (tokens c.args.rest.now) pay
-    (followed_by (tokens c.in_ok-rest.rest.now) c.in_ok-rest.ensures.spelled
-    (followed_by (tokens c.in_ok-asset.rest.now) c.in_ok-asset.ensures.spelled
-    (followed_by (tokens c.in_ok-rest-2.rest.now) c.in_ok-rest-2.ensures.spelled
-    (followed_by (tokens c.in_ok-from.rest.now) c.in_ok-from.ensures.spelled
-    (followed_by (tokens c.in_ok-rest-3.rest.now) c.in_ok-rest-3.ensures.spelled
-    (followed_by (tokens c.in_ok-to.rest.now) c.in_ok-to.ensures.spelled
-    c.in_ok-rest-4.ensures.spelled))))))
+    (two_then (tokens c.in_ok-asset.rest.now) c.in_ok-asset.ensures.spelled
+    (two_then (tokens c.in_ok-from.rest.now) c.in_ok-from.ensures.spelled
+    (two_then (tokens c.in_ok-to.rest.now) c.in_ok-to.ensures.spelled c.in_ok-rest.ensures.spelled)))

@@ -21,37 +21,18 @@ returns-in_err-name-clause-follows c s ps =
     let p = err_from_is_err_and c.from_residual.result c.from_residual.ensures.1 in
     rw (p.1, p.2) (c.in_err-name.ensures.follows Template s (TheMark (codes "=") ∷ IntegerAt 100_000 ∷ TheMark (codes ";") ∷ ps))
 
-pub returns-in_err-rest-clause-follows : goal.returns-in_err-rest-clause-follows
-returns-in_err-rest-clause-follows c s ps =
-    let p = err_from_is_err_and c.from_residual-in_err-rest.result c.from_residual-in_err-rest.ensures.1 in
-    rw (p.1, p.2, c.in_ok-name.ensures.follows Template s (TheMark (codes "=") ∷ IntegerAt 100_000 ∷ TheMark (codes ";") ∷ ps))
-    (c.in_err-rest.ensures.follows (with_names Template (keys_of c.args.templates.now.entries ++ c.in_ok-name.name ∷ []) s) (IntegerAt 100_000 ∷ TheMark (codes ";") ∷ ps))
-
 pub returns-in_err-days-clause-follows : goal.returns-in_err-days-clause-follows
 returns-in_err-days-clause-follows c s ps =
     let p = err_from_is_err_and c.from_residual-in_err-days.result c.from_residual-in_err-days.ensures.1 in
-    let added = with_names Template (keys_of c.args.templates.now.entries ++ c.in_ok-name.name ∷ []) s in
-    let before = c.in_ok-name.ensures.follows Template s (TheMark (codes "=") ∷ IntegerAt 100_000 ∷ TheMark (codes ";") ∷ ps) ∙ c.in_ok-rest.ensures.follows added (IntegerAt 100_000 ∷ TheMark (codes ";") ∷ ps) in
-    rw (p.1, p.2, before) (c.in_err-days.ensures.follows added (TheMark (codes ";") ∷ ps))
-
-pub returns-in_err-rest-2-clause-follows : goal.returns-in_err-rest-2-clause-follows
-returns-in_err-rest-2-clause-follows c s ps =
-    let p = err_from_is_err_and c.from_residual-in_err-rest-2.result c.from_residual-in_err-rest-2.ensures.1 in
-    let added = with_names Template (keys_of c.args.templates.now.entries ++ c.in_ok-name.name ∷ []) s in
-    let before =
-    c.in_ok-name.ensures.follows Template s (TheMark (codes "=") ∷ IntegerAt 100_000 ∷ TheMark (codes ";") ∷ ps)
-    ∙ c.in_ok-rest.ensures.follows added (IntegerAt 100_000 ∷ TheMark (codes ";") ∷ ps)
-    ∙ c.in_ok-days.ensures.follows added (TheMark (codes ";") ∷ ps) in
-    rw (p.1, p.2, before) (c.in_err-rest-2.ensures.follows added ps)
+    rw (p.1, p.2, c.in_ok-name.ensures.follows Template s (TheMark (codes "=") ∷ IntegerAt 100_000 ∷ TheMark (codes ";") ∷ ps))
+    (c.in_err-days.ensures.follows (with_names Template (keys_of c.args.templates.now.entries ++ c.in_ok-name.name ∷ []) s) ps)
 
 pub returns-clause-follows : goal.returns-clause-follows
 returns-clause-follows c s ps =
     let added = with_names Template (keys_of c.args.templates.now.entries ++ c.in_ok-name.name ∷ []) s in
     c.in_ok-name.ensures.follows Template s (TheMark (codes "=") ∷ IntegerAt 100_000 ∷ TheMark (codes ";") ∷ ps)
-    ∙ c.in_ok-rest.ensures.follows added (IntegerAt 100_000 ∷ TheMark (codes ";") ∷ ps)
-    ∙ c.in_ok-days.ensures.follows added (TheMark (codes ";") ∷ ps)
-    ∙ c.in_ok-rest-2.ensures.follows added ps
-    ∙ ap (λ (names : List Bytes). run (with_names Template names s) ps (tokens c.in_ok-rest-2.rest.now))
+    ∙ c.in_ok-days.ensures.follows added ps
+    ∙ ap (λ (names : List Bytes). run (with_names Template names s) ps (tokens c.in_ok-days.rest.now))
     (inserted_names c.args.templates.now.entries c.insert.new.self.entries c.in_ok-name.name c.in_ok-days.days (tokens c.args.rest.now) (tokens c.in_ok-name.rest.now) c.in_ok-insert.ensures.entries c.in_ok-name.ensures.spelled)
 
 pub returns-clause-spelled : goal.returns-clause-spelled
@@ -59,8 +40,5 @@ returns-clause-spelled c ts w = record {
   name = c.in_ok-name.name;
   value = c.in_ok-days.days;
   is = inserted_entry c.args.templates.now.entries c.insert.new.self.entries c.in_ok-name.name c.in_ok-days.days (tokens c.args.rest.now) (tokens c.in_ok-name.rest.now) c.in_ok-insert.ensures.entries c.in_ok-name.ensures.spelled;
-  spelled = followed_by (tokens c.args.rest.now) w
-      (followed_by (tokens c.in_ok-name.rest.now) c.in_ok-name.ensures.spelled
-      (followed_by (tokens c.in_ok-rest.rest.now) c.in_ok-rest.ensures.spelled
-      (followed_by (tokens c.in_ok-days.rest.now) c.in_ok-days.ensures.spelled c.in_ok-rest-2.ensures.spelled)));
+  spelled = followed_by (tokens c.args.rest.now) w (followed_by (tokens c.in_ok-name.rest.now) c.in_ok-name.ensures.spelled c.in_ok-days.ensures.spelled);
 }

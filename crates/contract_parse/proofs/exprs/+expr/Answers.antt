@@ -5,13 +5,13 @@ use Rattle.term_core.specs.Terms.{expression}
 use Rattle.contract_parse.specs.Tokens.{tokens}
 use Rattle.contract_parse.specs.Names.{names_in}
 use Rattle.contract_parse.specs.Heads.{first_at}
-use Rattle.contract_parse.specs.Places.{BinderAt, ExprAt, IntegerAt, ModeAt, Next, OperatorAt, TheMark, expr_places}
+use Rattle.contract_parse.specs.Places.{ExprAt, IntegerAt, ModeAt, Next, OperatorAt, TheMark, expr_places}
 use Rattle.contract_parse.specs.Reading.{scope_in, tok_of}
 use Rattle.contract_parse.specs.declared.heads.First.TheVariants as First
 use Rattle.contract_parse.specs.declared.heads.Binder.TheVariants as binder
 use Rattle.contract_parse.proofs.HeadFacts.{begins}
 use Rattle.contract_parse.proofs.InfixFacts.{infix_spelled}
-use Rattle.contract_parse.proofs.Parts.{followed_by}
+use Rattle.contract_parse.proofs.Parts.{followed_by, four_then, two_then}
 use Rattle.contract_parse.proofs.Steps.{passes, refuses, takes}
 use Rattle.contract_parse.proofs.exprs.+expr.Goals as goal
 
@@ -114,92 +114,81 @@ read_expr-returns-in-Acc-clause-follows t c cs ps = let value = rw c.in-Acc.is a
 pub read_expr-returns-in-Acc-clause-spelled : goal.read_expr-returns-in-Acc-clause-spelled
 read_expr-returns-in-Acc-clause-spelled t c = let value = rw c.in-Acc.is at c.in-Ok.ensures in IfOk-weaker c.read_acc.result _ _ (λ r h. h (tokens c.args.rest.now) (tok_of c.next.result.0, (takes (first_at c.args.depth (names_in c.args.bound.now)) (λ text left. (refl, refl)) First.Acc (tok_of c.next.result.0) c.args.rest.now c.next.result.1.now c.next.ensures.starts value), begins (names_in c.args.bound.now) (tok_of c.next.result.0) c.args.depth First.Acc value)) c.read_acc.ensures.spelled
 
-pub read_operand-returns-in_err-rest-clause-follows : goal.read_operand-returns-in_err-rest-clause-follows
-read_operand-returns-in_err-rest-clause-follows t c cs ps =
+pub read_boxed-returns-in_err-of-clause-follows : goal.read_boxed-returns-in_err-of-clause-follows
+read_boxed-returns-in_err-of-clause-follows t c cs ps =
     let p = err_from_is_err_and c.from_residual.result c.from_residual.ensures.1 in
-    rw (p.1, p.2) (c.in_err-rest.ensures.follows (scope_in c.args.decls.now cs) (ExprAt (c.args.depth + 1) (names_in c.args.bound.now) ∷ TheMark (codes ")") ∷ ps))
+    rw (p.1, p.2) (c.in_err-of.ensures.follows cs ps)
+
+pub read_boxed-returns-clause-follows : goal.read_boxed-returns-clause-follows
+read_boxed-returns-clause-follows t c cs ps =
+    c.in_ok-of.ensures.follows cs ps
+
+pub read_boxed-returns-clause-spelled : goal.read_boxed-returns-clause-spelled
+read_boxed-returns-clause-spelled t c =
+    rw (c.in_ok-of-2.ensures.ok) c.in_ok-of.ensures.spelled
+
+pub read_behind-returns-in_err-rest-clause-follows : goal.read_behind-returns-in_err-rest-clause-follows
+read_behind-returns-in_err-rest-clause-follows t c cs ps =
+    let p = err_from_is_err_and c.from_residual.result c.from_residual.ensures.1 in
+    rw (p.1, p.2) (c.in_err-rest.ensures.follows (scope_in c.args.decls.now cs) (ExprAt (c.args.depth + 1) (names_in c.args.bound.now) ∷ ps))
+
+pub read_behind-returns-clause-follows : goal.read_behind-returns-clause-follows
+read_behind-returns-clause-follows t c cs ps = rw (c.in_ok-rest.ensures.follows (scope_in c.args.decls.now cs) (ExprAt (c.args.depth + 1) (names_in c.args.bound.now) ∷ ps)) (c.read_boxed.ensures.follows cs ps)
+
+pub read_behind-returns-clause-spelled : goal.read_behind-returns-clause-spelled
+read_behind-returns-clause-spelled t c = IfOk-weaker c.read_boxed.result _ _ (λ r h. followed_by (tokens c.in_ok-rest.rest.now) c.in_ok-rest.ensures.spelled h) c.read_boxed.ensures.spelled
 
 pub read_operand-returns-in_err-of-clause-follows : goal.read_operand-returns-in_err-of-clause-follows
 read_operand-returns-in_err-of-clause-follows t c cs ps =
-    let p = err_from_is_err_and c.from_residual-in_err-of.result c.from_residual-in_err-of.ensures.1 in
-    let before =
-    c.in_ok-rest.ensures.follows (scope_in c.args.decls.now cs) (ExprAt (c.args.depth + 1) (names_in c.args.bound.now) ∷ TheMark (codes ")") ∷ ps) in
-    rw (p.1, p.2, before) (c.in_err-of.ensures.follows cs (TheMark (codes ")") ∷ ps))
+    let p = err_from_is_err_and c.from_residual.result c.from_residual.ensures.1 in
+    rw (p.1, p.2) (c.in_err-of.ensures.follows cs (TheMark (codes ")") ∷ ps))
 
-pub read_operand-returns-in_err-rest-2-clause-follows : goal.read_operand-returns-in_err-rest-2-clause-follows
-read_operand-returns-in_err-rest-2-clause-follows t c cs ps =
-    let p = err_from_is_err_and c.from_residual-in_err-rest-2.result c.from_residual-in_err-rest-2.ensures.1 in
+pub read_operand-returns-in_err-rest-clause-follows : goal.read_operand-returns-in_err-rest-clause-follows
+read_operand-returns-in_err-rest-clause-follows t c cs ps =
+    let p = err_from_is_err_and c.from_residual-in_err-rest.result c.from_residual-in_err-rest.ensures.1 in
     let before =
-    c.in_ok-rest.ensures.follows (scope_in c.args.decls.now cs) (ExprAt (c.args.depth + 1) (names_in c.args.bound.now) ∷ TheMark (codes ")") ∷ ps)
-    ∙ c.in_ok-of.ensures.follows cs (TheMark (codes ")") ∷ ps) in
-    rw (p.1, p.2, before) (c.in_err-rest-2.ensures.follows (scope_in c.args.decls.now cs) (ps))
+    c.in_ok-of.ensures.follows cs (TheMark (codes ")") ∷ ps) in
+    rw (p.1, p.2, before) (c.in_err-rest.ensures.follows (scope_in c.args.decls.now cs) ps)
 
 pub read_operand-returns-clause-follows : goal.read_operand-returns-clause-follows
 read_operand-returns-clause-follows t c cs ps =
-    c.in_ok-rest.ensures.follows (scope_in c.args.decls.now cs) (ExprAt (c.args.depth + 1) (names_in c.args.bound.now) ∷ TheMark (codes ")") ∷ ps)
-    ∙ c.in_ok-of.ensures.follows cs (TheMark (codes ")") ∷ ps)
-    ∙ c.in_ok-rest-2.ensures.follows (scope_in c.args.decls.now cs) (ps)
+    c.in_ok-of.ensures.follows cs (TheMark (codes ")") ∷ ps)
+    ∙ c.in_ok-rest.ensures.follows (scope_in c.args.decls.now cs) ps
 
 pub read_operand-returns-clause-spelled : goal.read_operand-returns-clause-spelled
 read_operand-returns-clause-spelled t c =
-    rw (c.in_ok-of-2.ensures.ok) (followed_by (tokens c.in_ok-rest.rest.now) c.in_ok-rest.ensures.spelled
-    (followed_by (tokens c.in_ok-of.rest.now) c.in_ok-of.ensures.spelled
-    (c.in_ok-rest-2.ensures.spelled)))
-
-pub read_pair-returns-in_err-rest-clause-follows : goal.read_pair-returns-in_err-rest-clause-follows
-read_pair-returns-in_err-rest-clause-follows t c cs ps =
-    let p = err_from_is_err_and c.from_residual.result c.from_residual.ensures.1 in
-    rw (p.1, p.2) (c.in_err-rest.ensures.follows (scope_in c.args.decls.now cs) (ExprAt (c.args.depth + 1) (names_in c.args.bound.now) ∷ TheMark (codes ",") ∷ ExprAt (c.args.depth + 1) (names_in c.args.bound.now) ∷ TheMark (codes ")") ∷ ps))
+    two_then (tokens c.in_ok-of.rest.now) c.in_ok-of.ensures.spelled c.in_ok-rest.ensures.spelled
 
 pub read_pair-returns-in_err-left-clause-follows : goal.read_pair-returns-in_err-left-clause-follows
 read_pair-returns-in_err-left-clause-follows t c cs ps =
-    let p = err_from_is_err_and c.from_residual-in_err-left.result c.from_residual-in_err-left.ensures.1 in
-    let before =
-    c.in_ok-rest.ensures.follows (scope_in c.args.decls.now cs) (ExprAt (c.args.depth + 1) (names_in c.args.bound.now) ∷ TheMark (codes ",") ∷ ExprAt (c.args.depth + 1) (names_in c.args.bound.now) ∷ TheMark (codes ")") ∷ ps) in
-    rw (p.1, p.2, before) (c.in_err-left.ensures.follows cs (TheMark (codes ",") ∷ ExprAt (c.args.depth + 1) (names_in c.args.bound.now) ∷ TheMark (codes ")") ∷ ps))
-
-pub read_pair-returns-in_err-rest-2-clause-follows : goal.read_pair-returns-in_err-rest-2-clause-follows
-read_pair-returns-in_err-rest-2-clause-follows t c cs ps =
-    let p = err_from_is_err_and c.from_residual-in_err-rest-2.result c.from_residual-in_err-rest-2.ensures.1 in
-    let before =
-    c.in_ok-rest.ensures.follows (scope_in c.args.decls.now cs) (ExprAt (c.args.depth + 1) (names_in c.args.bound.now) ∷ TheMark (codes ",") ∷ ExprAt (c.args.depth + 1) (names_in c.args.bound.now) ∷ TheMark (codes ")") ∷ ps)
-    ∙ c.in_ok-left.ensures.follows cs (TheMark (codes ",") ∷ ExprAt (c.args.depth + 1) (names_in c.args.bound.now) ∷ TheMark (codes ")") ∷ ps) in
-    rw (p.1, p.2, before) (c.in_err-rest-2.ensures.follows (scope_in c.args.decls.now cs) (ExprAt (c.args.depth + 1) (names_in c.args.bound.now) ∷ TheMark (codes ")") ∷ ps))
+    let p = err_from_is_err_and c.from_residual.result c.from_residual.ensures.1 in
+    rw (p.1, p.2) (c.in_err-left.ensures.follows cs (TheMark (codes ",") ∷ ExprAt (c.args.depth + 1) (names_in c.args.bound.now) ∷ TheMark (codes ")") ∷ ps))
 
 pub read_pair-returns-in_err-right-clause-follows : goal.read_pair-returns-in_err-right-clause-follows
 read_pair-returns-in_err-right-clause-follows t c cs ps =
     let p = err_from_is_err_and c.from_residual-in_err-right.result c.from_residual-in_err-right.ensures.1 in
     let before =
-    c.in_ok-rest.ensures.follows (scope_in c.args.decls.now cs) (ExprAt (c.args.depth + 1) (names_in c.args.bound.now) ∷ TheMark (codes ",") ∷ ExprAt (c.args.depth + 1) (names_in c.args.bound.now) ∷ TheMark (codes ")") ∷ ps)
-    ∙ c.in_ok-left.ensures.follows cs (TheMark (codes ",") ∷ ExprAt (c.args.depth + 1) (names_in c.args.bound.now) ∷ TheMark (codes ")") ∷ ps)
-    ∙ c.in_ok-rest-2.ensures.follows (scope_in c.args.decls.now cs) (ExprAt (c.args.depth + 1) (names_in c.args.bound.now) ∷ TheMark (codes ")") ∷ ps) in
+    c.in_ok-left.ensures.follows cs (TheMark (codes ",") ∷ ExprAt (c.args.depth + 1) (names_in c.args.bound.now) ∷ TheMark (codes ")") ∷ ps) in
     rw (p.1, p.2, before) (c.in_err-right.ensures.follows cs (TheMark (codes ")") ∷ ps))
 
-pub read_pair-returns-in_err-rest-3-clause-follows : goal.read_pair-returns-in_err-rest-3-clause-follows
-read_pair-returns-in_err-rest-3-clause-follows t c cs ps =
-    let p = err_from_is_err_and c.from_residual-in_err-rest-3.result c.from_residual-in_err-rest-3.ensures.1 in
+pub read_pair-returns-in_err-rest-clause-follows : goal.read_pair-returns-in_err-rest-clause-follows
+read_pair-returns-in_err-rest-clause-follows t c cs ps =
+    let p = err_from_is_err_and c.from_residual-in_err-rest.result c.from_residual-in_err-rest.ensures.1 in
     let before =
-    c.in_ok-rest.ensures.follows (scope_in c.args.decls.now cs) (ExprAt (c.args.depth + 1) (names_in c.args.bound.now) ∷ TheMark (codes ",") ∷ ExprAt (c.args.depth + 1) (names_in c.args.bound.now) ∷ TheMark (codes ")") ∷ ps)
-    ∙ c.in_ok-left.ensures.follows cs (TheMark (codes ",") ∷ ExprAt (c.args.depth + 1) (names_in c.args.bound.now) ∷ TheMark (codes ")") ∷ ps)
-    ∙ c.in_ok-rest-2.ensures.follows (scope_in c.args.decls.now cs) (ExprAt (c.args.depth + 1) (names_in c.args.bound.now) ∷ TheMark (codes ")") ∷ ps)
+    c.in_ok-left.ensures.follows cs (TheMark (codes ",") ∷ ExprAt (c.args.depth + 1) (names_in c.args.bound.now) ∷ TheMark (codes ")") ∷ ps)
     ∙ c.in_ok-right.ensures.follows cs (TheMark (codes ")") ∷ ps) in
-    rw (p.1, p.2, before) (c.in_err-rest-3.ensures.follows (scope_in c.args.decls.now cs) (ps))
+    rw (p.1, p.2, before) (c.in_err-rest.ensures.follows (scope_in c.args.decls.now cs) ps)
 
 pub read_pair-returns-clause-follows : goal.read_pair-returns-clause-follows
 read_pair-returns-clause-follows t c cs ps =
-    c.in_ok-rest.ensures.follows (scope_in c.args.decls.now cs) (ExprAt (c.args.depth + 1) (names_in c.args.bound.now) ∷ TheMark (codes ",") ∷ ExprAt (c.args.depth + 1) (names_in c.args.bound.now) ∷ TheMark (codes ")") ∷ ps)
-    ∙ c.in_ok-left.ensures.follows cs (TheMark (codes ",") ∷ ExprAt (c.args.depth + 1) (names_in c.args.bound.now) ∷ TheMark (codes ")") ∷ ps)
-    ∙ c.in_ok-rest-2.ensures.follows (scope_in c.args.decls.now cs) (ExprAt (c.args.depth + 1) (names_in c.args.bound.now) ∷ TheMark (codes ")") ∷ ps)
+    c.in_ok-left.ensures.follows cs (TheMark (codes ",") ∷ ExprAt (c.args.depth + 1) (names_in c.args.bound.now) ∷ TheMark (codes ")") ∷ ps)
     ∙ c.in_ok-right.ensures.follows cs (TheMark (codes ")") ∷ ps)
-    ∙ c.in_ok-rest-3.ensures.follows (scope_in c.args.decls.now cs) (ps)
+    ∙ c.in_ok-rest.ensures.follows (scope_in c.args.decls.now cs) ps
 
 pub read_pair-returns-clause-spelled : goal.read_pair-returns-clause-spelled
 read_pair-returns-clause-spelled t c =
-    rw (c.in_ok-left-2.ensures.ok, c.in_ok-right-2.ensures.ok) (followed_by (tokens c.in_ok-rest.rest.now) c.in_ok-rest.ensures.spelled
-    (followed_by (tokens c.in_ok-left.rest.now) c.in_ok-left.ensures.spelled
-    (followed_by (tokens c.in_ok-rest-2.rest.now) c.in_ok-rest-2.ensures.spelled
-    (followed_by (tokens c.in_ok-right.rest.now) c.in_ok-right.ensures.spelled
-    (c.in_ok-rest-3.ensures.spelled)))))
+    two_then (tokens c.in_ok-left.rest.now) c.in_ok-left.ensures.spelled
+    (two_then (tokens c.in_ok-right.rest.now) c.in_ok-right.ensures.spelled c.in_ok-rest.ensures.spelled)
 
 pub read_infix-returns-in_err-left-clause-follows : goal.read_infix-returns-in_err-left-clause-follows
 read_infix-returns-in_err-left-clause-follows t c cs ps =
@@ -228,474 +217,224 @@ read_infix-returns-in_err-rest-clause-follows t c cs ps =
     c.in_ok-left.ensures.follows cs (OperatorAt ∷ ExprAt (c.args.depth + 1) (names_in c.args.bound.now) ∷ TheMark (codes ")") ∷ ps)
     ∙ c.in_ok-operator.ensures.follows (scope_in c.args.decls.now cs) (ExprAt (c.args.depth + 1) (names_in c.args.bound.now) ∷ TheMark (codes ")") ∷ ps)
     ∙ c.in_ok-right.ensures.follows cs (TheMark (codes ")") ∷ ps) in
-    rw (p.1, p.2, before) (c.in_err-rest.ensures.follows (scope_in c.args.decls.now cs) (ps))
+    rw (p.1, p.2, before) (c.in_err-rest.ensures.follows (scope_in c.args.decls.now cs) ps)
 
 pub read_infix-returns-clause-follows : goal.read_infix-returns-clause-follows
 read_infix-returns-clause-follows t c cs ps =
     c.in_ok-left.ensures.follows cs (OperatorAt ∷ ExprAt (c.args.depth + 1) (names_in c.args.bound.now) ∷ TheMark (codes ")") ∷ ps)
     ∙ c.in_ok-operator.ensures.follows (scope_in c.args.decls.now cs) (ExprAt (c.args.depth + 1) (names_in c.args.bound.now) ∷ TheMark (codes ")") ∷ ps)
     ∙ c.in_ok-right.ensures.follows cs (TheMark (codes ")") ∷ ps)
-    ∙ c.in_ok-rest.ensures.follows (scope_in c.args.decls.now cs) (ps)
+    ∙ c.in_ok-rest.ensures.follows (scope_in c.args.decls.now cs) ps
 
 pub read_infix-returns-clause-spelled : goal.read_infix-returns-clause-spelled
 read_infix-returns-clause-spelled t c ts first =
-    rw (c.joined.ensures, c.in_ok-left-2.ensures.ok, c.in_ok-right-2.ensures.ok)
-    (infix_spelled (scope_in c.args.decls.now []) (names_in c.args.bound.now) c.in_ok-operator.operator (expression c.in_ok-left.left) (expression c.in_ok-right.right) ts (tokens c.args.rest.now) (tokens c.in_ok-left.rest.now) (tokens c.in_ok-operator.rest.now) (tokens c.in_ok-right.rest.now) (tokens c.in_ok-rest.rest.now) c.in_ok-operator.ensures.between first c.in_ok-left.ensures.spelled c.in_ok-operator.ensures.spelled c.in_ok-right.ensures.spelled c.in_ok-rest.ensures.spelled)
-
-pub read_choice-returns-in_err-rest-clause-follows : goal.read_choice-returns-in_err-rest-clause-follows
-read_choice-returns-in_err-rest-clause-follows t c cs ps =
-    let p = err_from_is_err_and c.from_residual.result c.from_residual.ensures.1 in
-    rw (p.1, p.2) (c.in_err-rest.ensures.follows (scope_in c.args.decls.now cs) (ExprAt (c.args.depth + 1) (names_in c.args.bound.now) ∷ TheMark (codes ",") ∷ ExprAt (c.args.depth + 1) (names_in c.args.bound.now) ∷ TheMark (codes ",") ∷ ExprAt (c.args.depth + 1) (names_in c.args.bound.now) ∷ TheMark (codes ")") ∷ ps))
+    rw (c.joined.ensures)
+    (infix_spelled (scope_in c.args.decls.now []) (names_in c.args.bound.now) c.in_ok-operator.operator (expression c.in_ok-left.left.value) (expression c.in_ok-right.right.value) ts (tokens c.args.rest.now) (tokens c.in_ok-left.rest.now) (tokens c.in_ok-operator.rest.now) (tokens c.in_ok-right.rest.now) (tokens c.in_ok-rest.rest.now) c.in_ok-operator.ensures.between first c.in_ok-left.ensures.spelled c.in_ok-operator.ensures.spelled c.in_ok-right.ensures.spelled c.in_ok-rest.ensures.spelled)
 
 pub read_choice-returns-in_err-test-clause-follows : goal.read_choice-returns-in_err-test-clause-follows
 read_choice-returns-in_err-test-clause-follows t c cs ps =
-    let p = err_from_is_err_and c.from_residual-in_err-test.result c.from_residual-in_err-test.ensures.1 in
-    let before =
-    c.in_ok-rest.ensures.follows (scope_in c.args.decls.now cs) (ExprAt (c.args.depth + 1) (names_in c.args.bound.now) ∷ TheMark (codes ",") ∷ ExprAt (c.args.depth + 1) (names_in c.args.bound.now) ∷ TheMark (codes ",") ∷ ExprAt (c.args.depth + 1) (names_in c.args.bound.now) ∷ TheMark (codes ")") ∷ ps) in
-    rw (p.1, p.2, before) (c.in_err-test.ensures.follows cs (TheMark (codes ",") ∷ ExprAt (c.args.depth + 1) (names_in c.args.bound.now) ∷ TheMark (codes ",") ∷ ExprAt (c.args.depth + 1) (names_in c.args.bound.now) ∷ TheMark (codes ")") ∷ ps))
-
-pub read_choice-returns-in_err-rest-2-clause-follows : goal.read_choice-returns-in_err-rest-2-clause-follows
-read_choice-returns-in_err-rest-2-clause-follows t c cs ps =
-    let p = err_from_is_err_and c.from_residual-in_err-rest-2.result c.from_residual-in_err-rest-2.ensures.1 in
-    let before =
-    c.in_ok-rest.ensures.follows (scope_in c.args.decls.now cs) (ExprAt (c.args.depth + 1) (names_in c.args.bound.now) ∷ TheMark (codes ",") ∷ ExprAt (c.args.depth + 1) (names_in c.args.bound.now) ∷ TheMark (codes ",") ∷ ExprAt (c.args.depth + 1) (names_in c.args.bound.now) ∷ TheMark (codes ")") ∷ ps)
-    ∙ c.in_ok-test.ensures.follows cs (TheMark (codes ",") ∷ ExprAt (c.args.depth + 1) (names_in c.args.bound.now) ∷ TheMark (codes ",") ∷ ExprAt (c.args.depth + 1) (names_in c.args.bound.now) ∷ TheMark (codes ")") ∷ ps) in
-    rw (p.1, p.2, before) (c.in_err-rest-2.ensures.follows (scope_in c.args.decls.now cs) (ExprAt (c.args.depth + 1) (names_in c.args.bound.now) ∷ TheMark (codes ",") ∷ ExprAt (c.args.depth + 1) (names_in c.args.bound.now) ∷ TheMark (codes ")") ∷ ps))
+    let p = err_from_is_err_and c.from_residual.result c.from_residual.ensures.1 in
+    rw (p.1, p.2) (c.in_err-test.ensures.follows cs (TheMark (codes ",") ∷ ExprAt (c.args.depth + 1) (names_in c.args.bound.now) ∷ TheMark (codes ",") ∷ ExprAt (c.args.depth + 1) (names_in c.args.bound.now) ∷ TheMark (codes ")") ∷ ps))
 
 pub read_choice-returns-in_err-yes-clause-follows : goal.read_choice-returns-in_err-yes-clause-follows
 read_choice-returns-in_err-yes-clause-follows t c cs ps =
     let p = err_from_is_err_and c.from_residual-in_err-yes.result c.from_residual-in_err-yes.ensures.1 in
     let before =
-    c.in_ok-rest.ensures.follows (scope_in c.args.decls.now cs) (ExprAt (c.args.depth + 1) (names_in c.args.bound.now) ∷ TheMark (codes ",") ∷ ExprAt (c.args.depth + 1) (names_in c.args.bound.now) ∷ TheMark (codes ",") ∷ ExprAt (c.args.depth + 1) (names_in c.args.bound.now) ∷ TheMark (codes ")") ∷ ps)
-    ∙ c.in_ok-test.ensures.follows cs (TheMark (codes ",") ∷ ExprAt (c.args.depth + 1) (names_in c.args.bound.now) ∷ TheMark (codes ",") ∷ ExprAt (c.args.depth + 1) (names_in c.args.bound.now) ∷ TheMark (codes ")") ∷ ps)
-    ∙ c.in_ok-rest-2.ensures.follows (scope_in c.args.decls.now cs) (ExprAt (c.args.depth + 1) (names_in c.args.bound.now) ∷ TheMark (codes ",") ∷ ExprAt (c.args.depth + 1) (names_in c.args.bound.now) ∷ TheMark (codes ")") ∷ ps) in
+    c.in_ok-test.ensures.follows cs (TheMark (codes ",") ∷ ExprAt (c.args.depth + 1) (names_in c.args.bound.now) ∷ TheMark (codes ",") ∷ ExprAt (c.args.depth + 1) (names_in c.args.bound.now) ∷ TheMark (codes ")") ∷ ps) in
     rw (p.1, p.2, before) (c.in_err-yes.ensures.follows cs (TheMark (codes ",") ∷ ExprAt (c.args.depth + 1) (names_in c.args.bound.now) ∷ TheMark (codes ")") ∷ ps))
-
-pub read_choice-returns-in_err-rest-3-clause-follows : goal.read_choice-returns-in_err-rest-3-clause-follows
-read_choice-returns-in_err-rest-3-clause-follows t c cs ps =
-    let p = err_from_is_err_and c.from_residual-in_err-rest-3.result c.from_residual-in_err-rest-3.ensures.1 in
-    let before =
-    c.in_ok-rest.ensures.follows (scope_in c.args.decls.now cs) (ExprAt (c.args.depth + 1) (names_in c.args.bound.now) ∷ TheMark (codes ",") ∷ ExprAt (c.args.depth + 1) (names_in c.args.bound.now) ∷ TheMark (codes ",") ∷ ExprAt (c.args.depth + 1) (names_in c.args.bound.now) ∷ TheMark (codes ")") ∷ ps)
-    ∙ c.in_ok-test.ensures.follows cs (TheMark (codes ",") ∷ ExprAt (c.args.depth + 1) (names_in c.args.bound.now) ∷ TheMark (codes ",") ∷ ExprAt (c.args.depth + 1) (names_in c.args.bound.now) ∷ TheMark (codes ")") ∷ ps)
-    ∙ c.in_ok-rest-2.ensures.follows (scope_in c.args.decls.now cs) (ExprAt (c.args.depth + 1) (names_in c.args.bound.now) ∷ TheMark (codes ",") ∷ ExprAt (c.args.depth + 1) (names_in c.args.bound.now) ∷ TheMark (codes ")") ∷ ps)
-    ∙ c.in_ok-yes.ensures.follows cs (TheMark (codes ",") ∷ ExprAt (c.args.depth + 1) (names_in c.args.bound.now) ∷ TheMark (codes ")") ∷ ps) in
-    rw (p.1, p.2, before) (c.in_err-rest-3.ensures.follows (scope_in c.args.decls.now cs) (ExprAt (c.args.depth + 1) (names_in c.args.bound.now) ∷ TheMark (codes ")") ∷ ps))
 
 pub read_choice-returns-in_err-no-clause-follows : goal.read_choice-returns-in_err-no-clause-follows
 read_choice-returns-in_err-no-clause-follows t c cs ps =
     let p = err_from_is_err_and c.from_residual-in_err-no.result c.from_residual-in_err-no.ensures.1 in
     let before =
-    c.in_ok-rest.ensures.follows (scope_in c.args.decls.now cs) (ExprAt (c.args.depth + 1) (names_in c.args.bound.now) ∷ TheMark (codes ",") ∷ ExprAt (c.args.depth + 1) (names_in c.args.bound.now) ∷ TheMark (codes ",") ∷ ExprAt (c.args.depth + 1) (names_in c.args.bound.now) ∷ TheMark (codes ")") ∷ ps)
-    ∙ c.in_ok-test.ensures.follows cs (TheMark (codes ",") ∷ ExprAt (c.args.depth + 1) (names_in c.args.bound.now) ∷ TheMark (codes ",") ∷ ExprAt (c.args.depth + 1) (names_in c.args.bound.now) ∷ TheMark (codes ")") ∷ ps)
-    ∙ c.in_ok-rest-2.ensures.follows (scope_in c.args.decls.now cs) (ExprAt (c.args.depth + 1) (names_in c.args.bound.now) ∷ TheMark (codes ",") ∷ ExprAt (c.args.depth + 1) (names_in c.args.bound.now) ∷ TheMark (codes ")") ∷ ps)
-    ∙ c.in_ok-yes.ensures.follows cs (TheMark (codes ",") ∷ ExprAt (c.args.depth + 1) (names_in c.args.bound.now) ∷ TheMark (codes ")") ∷ ps)
-    ∙ c.in_ok-rest-3.ensures.follows (scope_in c.args.decls.now cs) (ExprAt (c.args.depth + 1) (names_in c.args.bound.now) ∷ TheMark (codes ")") ∷ ps) in
+    c.in_ok-test.ensures.follows cs (TheMark (codes ",") ∷ ExprAt (c.args.depth + 1) (names_in c.args.bound.now) ∷ TheMark (codes ",") ∷ ExprAt (c.args.depth + 1) (names_in c.args.bound.now) ∷ TheMark (codes ")") ∷ ps)
+    ∙ c.in_ok-yes.ensures.follows cs (TheMark (codes ",") ∷ ExprAt (c.args.depth + 1) (names_in c.args.bound.now) ∷ TheMark (codes ")") ∷ ps) in
     rw (p.1, p.2, before) (c.in_err-no.ensures.follows cs (TheMark (codes ")") ∷ ps))
 
-pub read_choice-returns-in_err-rest-4-clause-follows : goal.read_choice-returns-in_err-rest-4-clause-follows
-read_choice-returns-in_err-rest-4-clause-follows t c cs ps =
-    let p = err_from_is_err_and c.from_residual-in_err-rest-4.result c.from_residual-in_err-rest-4.ensures.1 in
+pub read_choice-returns-in_err-rest-clause-follows : goal.read_choice-returns-in_err-rest-clause-follows
+read_choice-returns-in_err-rest-clause-follows t c cs ps =
+    let p = err_from_is_err_and c.from_residual-in_err-rest.result c.from_residual-in_err-rest.ensures.1 in
     let before =
-    c.in_ok-rest.ensures.follows (scope_in c.args.decls.now cs) (ExprAt (c.args.depth + 1) (names_in c.args.bound.now) ∷ TheMark (codes ",") ∷ ExprAt (c.args.depth + 1) (names_in c.args.bound.now) ∷ TheMark (codes ",") ∷ ExprAt (c.args.depth + 1) (names_in c.args.bound.now) ∷ TheMark (codes ")") ∷ ps)
-    ∙ c.in_ok-test.ensures.follows cs (TheMark (codes ",") ∷ ExprAt (c.args.depth + 1) (names_in c.args.bound.now) ∷ TheMark (codes ",") ∷ ExprAt (c.args.depth + 1) (names_in c.args.bound.now) ∷ TheMark (codes ")") ∷ ps)
-    ∙ c.in_ok-rest-2.ensures.follows (scope_in c.args.decls.now cs) (ExprAt (c.args.depth + 1) (names_in c.args.bound.now) ∷ TheMark (codes ",") ∷ ExprAt (c.args.depth + 1) (names_in c.args.bound.now) ∷ TheMark (codes ")") ∷ ps)
+    c.in_ok-test.ensures.follows cs (TheMark (codes ",") ∷ ExprAt (c.args.depth + 1) (names_in c.args.bound.now) ∷ TheMark (codes ",") ∷ ExprAt (c.args.depth + 1) (names_in c.args.bound.now) ∷ TheMark (codes ")") ∷ ps)
     ∙ c.in_ok-yes.ensures.follows cs (TheMark (codes ",") ∷ ExprAt (c.args.depth + 1) (names_in c.args.bound.now) ∷ TheMark (codes ")") ∷ ps)
-    ∙ c.in_ok-rest-3.ensures.follows (scope_in c.args.decls.now cs) (ExprAt (c.args.depth + 1) (names_in c.args.bound.now) ∷ TheMark (codes ")") ∷ ps)
     ∙ c.in_ok-no.ensures.follows cs (TheMark (codes ")") ∷ ps) in
-    rw (p.1, p.2, before) (c.in_err-rest-4.ensures.follows (scope_in c.args.decls.now cs) (ps))
+    rw (p.1, p.2, before) (c.in_err-rest.ensures.follows (scope_in c.args.decls.now cs) ps)
 
 pub read_choice-returns-clause-follows : goal.read_choice-returns-clause-follows
 read_choice-returns-clause-follows t c cs ps =
-    c.in_ok-rest.ensures.follows (scope_in c.args.decls.now cs) (ExprAt (c.args.depth + 1) (names_in c.args.bound.now) ∷ TheMark (codes ",") ∷ ExprAt (c.args.depth + 1) (names_in c.args.bound.now) ∷ TheMark (codes ",") ∷ ExprAt (c.args.depth + 1) (names_in c.args.bound.now) ∷ TheMark (codes ")") ∷ ps)
-    ∙ c.in_ok-test.ensures.follows cs (TheMark (codes ",") ∷ ExprAt (c.args.depth + 1) (names_in c.args.bound.now) ∷ TheMark (codes ",") ∷ ExprAt (c.args.depth + 1) (names_in c.args.bound.now) ∷ TheMark (codes ")") ∷ ps)
-    ∙ c.in_ok-rest-2.ensures.follows (scope_in c.args.decls.now cs) (ExprAt (c.args.depth + 1) (names_in c.args.bound.now) ∷ TheMark (codes ",") ∷ ExprAt (c.args.depth + 1) (names_in c.args.bound.now) ∷ TheMark (codes ")") ∷ ps)
+    c.in_ok-test.ensures.follows cs (TheMark (codes ",") ∷ ExprAt (c.args.depth + 1) (names_in c.args.bound.now) ∷ TheMark (codes ",") ∷ ExprAt (c.args.depth + 1) (names_in c.args.bound.now) ∷ TheMark (codes ")") ∷ ps)
     ∙ c.in_ok-yes.ensures.follows cs (TheMark (codes ",") ∷ ExprAt (c.args.depth + 1) (names_in c.args.bound.now) ∷ TheMark (codes ")") ∷ ps)
-    ∙ c.in_ok-rest-3.ensures.follows (scope_in c.args.decls.now cs) (ExprAt (c.args.depth + 1) (names_in c.args.bound.now) ∷ TheMark (codes ")") ∷ ps)
     ∙ c.in_ok-no.ensures.follows cs (TheMark (codes ")") ∷ ps)
-    ∙ c.in_ok-rest-4.ensures.follows (scope_in c.args.decls.now cs) (ps)
+    ∙ c.in_ok-rest.ensures.follows (scope_in c.args.decls.now cs) ps
 
 pub read_choice-returns-clause-spelled : goal.read_choice-returns-clause-spelled
 read_choice-returns-clause-spelled t c ts first =
-    rw (c.in_ok-test-2.ensures.ok, c.in_ok-yes-2.ensures.ok, c.in_ok-no-2.ensures.ok)
-    (followed_by (tokens c.args.rest.now) first
-    (followed_by (tokens c.in_ok-rest.rest.now) c.in_ok-rest.ensures.spelled
-    (followed_by (tokens c.in_ok-test.rest.now) c.in_ok-test.ensures.spelled
-    (followed_by (tokens c.in_ok-rest-2.rest.now) c.in_ok-rest-2.ensures.spelled
-    (followed_by (tokens c.in_ok-yes.rest.now) c.in_ok-yes.ensures.spelled
-    (followed_by (tokens c.in_ok-rest-3.rest.now) c.in_ok-rest-3.ensures.spelled
-    (followed_by (tokens c.in_ok-no.rest.now) c.in_ok-no.ensures.spelled
-    (c.in_ok-rest-4.ensures.spelled))))))))
-
-pub read_widen-returns-in_err-rest-clause-follows : goal.read_widen-returns-in_err-rest-clause-follows
-read_widen-returns-in_err-rest-clause-follows t c cs ps =
-    let p = err_from_is_err_and c.from_residual.result c.from_residual.ensures.1 in
-    rw (p.1, p.2) (c.in_err-rest.ensures.follows (scope_in c.args.decls.now cs) (IntegerAt 27 ∷ TheMark (codes ",") ∷ ExprAt (c.args.depth + 1) (names_in c.args.bound.now) ∷ TheMark (codes ")") ∷ ps))
+    followed_by (tokens c.args.rest.now) first
+    (two_then (tokens c.in_ok-test.rest.now) c.in_ok-test.ensures.spelled
+    (two_then (tokens c.in_ok-yes.rest.now) c.in_ok-yes.ensures.spelled
+    (two_then (tokens c.in_ok-no.rest.now) c.in_ok-no.ensures.spelled c.in_ok-rest.ensures.spelled)))
 
 pub read_widen-returns-in_err-scale-clause-follows : goal.read_widen-returns-in_err-scale-clause-follows
 read_widen-returns-in_err-scale-clause-follows t c cs ps =
-    let p = err_from_is_err_and c.from_residual-in_err-scale.result c.from_residual-in_err-scale.ensures.1 in
-    let before =
-    c.in_ok-rest.ensures.follows (scope_in c.args.decls.now cs) (IntegerAt 27 ∷ TheMark (codes ",") ∷ ExprAt (c.args.depth + 1) (names_in c.args.bound.now) ∷ TheMark (codes ")") ∷ ps) in
-    rw (p.1, p.2, before) (c.in_err-scale.ensures.follows (scope_in c.args.decls.now cs) (TheMark (codes ",") ∷ ExprAt (c.args.depth + 1) (names_in c.args.bound.now) ∷ TheMark (codes ")") ∷ ps))
-
-pub read_widen-returns-in_err-rest-2-clause-follows : goal.read_widen-returns-in_err-rest-2-clause-follows
-read_widen-returns-in_err-rest-2-clause-follows t c cs ps =
-    let p = err_from_is_err_and c.from_residual-in_err-rest-2.result c.from_residual-in_err-rest-2.ensures.1 in
-    let before =
-    c.in_ok-rest.ensures.follows (scope_in c.args.decls.now cs) (IntegerAt 27 ∷ TheMark (codes ",") ∷ ExprAt (c.args.depth + 1) (names_in c.args.bound.now) ∷ TheMark (codes ")") ∷ ps)
-    ∙ c.in_ok-scale.ensures.follows (scope_in c.args.decls.now cs) (TheMark (codes ",") ∷ ExprAt (c.args.depth + 1) (names_in c.args.bound.now) ∷ TheMark (codes ")") ∷ ps) in
-    rw (p.1, p.2, before) (c.in_err-rest-2.ensures.follows (scope_in c.args.decls.now cs) (ExprAt (c.args.depth + 1) (names_in c.args.bound.now) ∷ TheMark (codes ")") ∷ ps))
+    let p = err_from_is_err_and c.from_residual.result c.from_residual.ensures.1 in
+    rw (p.1, p.2) (c.in_err-scale.ensures.follows (scope_in c.args.decls.now cs) (TheMark (codes ",") ∷ ExprAt (c.args.depth + 1) (names_in c.args.bound.now) ∷ TheMark (codes ")") ∷ ps))
 
 pub read_widen-returns-in_err-of-clause-follows : goal.read_widen-returns-in_err-of-clause-follows
 read_widen-returns-in_err-of-clause-follows t c cs ps =
     let p = err_from_is_err_and c.from_residual-in_err-of.result c.from_residual-in_err-of.ensures.1 in
     let before =
-    c.in_ok-rest.ensures.follows (scope_in c.args.decls.now cs) (IntegerAt 27 ∷ TheMark (codes ",") ∷ ExprAt (c.args.depth + 1) (names_in c.args.bound.now) ∷ TheMark (codes ")") ∷ ps)
-    ∙ c.in_ok-scale.ensures.follows (scope_in c.args.decls.now cs) (TheMark (codes ",") ∷ ExprAt (c.args.depth + 1) (names_in c.args.bound.now) ∷ TheMark (codes ")") ∷ ps)
-    ∙ c.in_ok-rest-2.ensures.follows (scope_in c.args.decls.now cs) (ExprAt (c.args.depth + 1) (names_in c.args.bound.now) ∷ TheMark (codes ")") ∷ ps) in
+    c.in_ok-scale.ensures.follows (scope_in c.args.decls.now cs) (TheMark (codes ",") ∷ ExprAt (c.args.depth + 1) (names_in c.args.bound.now) ∷ TheMark (codes ")") ∷ ps) in
     rw (p.1, p.2, before) (c.in_err-of.ensures.follows cs (TheMark (codes ")") ∷ ps))
 
-pub read_widen-returns-in_err-rest-3-clause-follows : goal.read_widen-returns-in_err-rest-3-clause-follows
-read_widen-returns-in_err-rest-3-clause-follows t c cs ps =
-    let p = err_from_is_err_and c.from_residual-in_err-rest-3.result c.from_residual-in_err-rest-3.ensures.1 in
+pub read_widen-returns-in_err-rest-clause-follows : goal.read_widen-returns-in_err-rest-clause-follows
+read_widen-returns-in_err-rest-clause-follows t c cs ps =
+    let p = err_from_is_err_and c.from_residual-in_err-rest.result c.from_residual-in_err-rest.ensures.1 in
     let before =
-    c.in_ok-rest.ensures.follows (scope_in c.args.decls.now cs) (IntegerAt 27 ∷ TheMark (codes ",") ∷ ExprAt (c.args.depth + 1) (names_in c.args.bound.now) ∷ TheMark (codes ")") ∷ ps)
-    ∙ c.in_ok-scale.ensures.follows (scope_in c.args.decls.now cs) (TheMark (codes ",") ∷ ExprAt (c.args.depth + 1) (names_in c.args.bound.now) ∷ TheMark (codes ")") ∷ ps)
-    ∙ c.in_ok-rest-2.ensures.follows (scope_in c.args.decls.now cs) (ExprAt (c.args.depth + 1) (names_in c.args.bound.now) ∷ TheMark (codes ")") ∷ ps)
+    c.in_ok-scale.ensures.follows (scope_in c.args.decls.now cs) (TheMark (codes ",") ∷ ExprAt (c.args.depth + 1) (names_in c.args.bound.now) ∷ TheMark (codes ")") ∷ ps)
     ∙ c.in_ok-of.ensures.follows cs (TheMark (codes ")") ∷ ps) in
-    rw (p.1, p.2, before) (c.in_err-rest-3.ensures.follows (scope_in c.args.decls.now cs) (ps))
+    rw (p.1, p.2, before) (c.in_err-rest.ensures.follows (scope_in c.args.decls.now cs) ps)
 
 pub read_widen-returns-clause-follows : goal.read_widen-returns-clause-follows
 read_widen-returns-clause-follows t c cs ps =
-    c.in_ok-rest.ensures.follows (scope_in c.args.decls.now cs) (IntegerAt 27 ∷ TheMark (codes ",") ∷ ExprAt (c.args.depth + 1) (names_in c.args.bound.now) ∷ TheMark (codes ")") ∷ ps)
-    ∙ c.in_ok-scale.ensures.follows (scope_in c.args.decls.now cs) (TheMark (codes ",") ∷ ExprAt (c.args.depth + 1) (names_in c.args.bound.now) ∷ TheMark (codes ")") ∷ ps)
-    ∙ c.in_ok-rest-2.ensures.follows (scope_in c.args.decls.now cs) (ExprAt (c.args.depth + 1) (names_in c.args.bound.now) ∷ TheMark (codes ")") ∷ ps)
+    c.in_ok-scale.ensures.follows (scope_in c.args.decls.now cs) (TheMark (codes ",") ∷ ExprAt (c.args.depth + 1) (names_in c.args.bound.now) ∷ TheMark (codes ")") ∷ ps)
     ∙ c.in_ok-of.ensures.follows cs (TheMark (codes ")") ∷ ps)
-    ∙ c.in_ok-rest-3.ensures.follows (scope_in c.args.decls.now cs) (ps)
+    ∙ c.in_ok-rest.ensures.follows (scope_in c.args.decls.now cs) ps
 
 pub read_widen-returns-clause-spelled : goal.read_widen-returns-clause-spelled
 read_widen-returns-clause-spelled t c ts first =
-    rw (c.in_ok-of-2.ensures.ok)
-    (followed_by (tokens c.args.rest.now) first
-    (followed_by (tokens c.in_ok-rest.rest.now) c.in_ok-rest.ensures.spelled
-    (followed_by (tokens c.in_ok-scale.rest.now) c.in_ok-scale.ensures.spelled
-    (followed_by (tokens c.in_ok-rest-2.rest.now) c.in_ok-rest-2.ensures.spelled
-    (followed_by (tokens c.in_ok-of.rest.now) c.in_ok-of.ensures.spelled
-    (c.in_ok-rest-3.ensures.spelled))))))
-
-pub read_round-returns-in_err-rest-clause-follows : goal.read_round-returns-in_err-rest-clause-follows
-read_round-returns-in_err-rest-clause-follows t c cs ps =
-    let p = err_from_is_err_and c.from_residual.result c.from_residual.ensures.1 in
-    rw (p.1, p.2) (c.in_err-rest.ensures.follows (scope_in c.args.decls.now cs) (ModeAt ∷ TheMark (codes ",") ∷ IntegerAt 27 ∷ TheMark (codes ",") ∷ ExprAt (c.args.depth + 1) (names_in c.args.bound.now) ∷ TheMark (codes ")") ∷ ps))
+    followed_by (tokens c.args.rest.now) first
+    (two_then (tokens c.in_ok-scale.rest.now) c.in_ok-scale.ensures.spelled
+    (two_then (tokens c.in_ok-of.rest.now) c.in_ok-of.ensures.spelled c.in_ok-rest.ensures.spelled))
 
 pub read_round-returns-in_err-mode-clause-follows : goal.read_round-returns-in_err-mode-clause-follows
 read_round-returns-in_err-mode-clause-follows t c cs ps =
-    let p = err_from_is_err_and c.from_residual-in_err-mode.result c.from_residual-in_err-mode.ensures.1 in
-    let before =
-    c.in_ok-rest.ensures.follows (scope_in c.args.decls.now cs) (ModeAt ∷ TheMark (codes ",") ∷ IntegerAt 27 ∷ TheMark (codes ",") ∷ ExprAt (c.args.depth + 1) (names_in c.args.bound.now) ∷ TheMark (codes ")") ∷ ps) in
-    rw (p.1, p.2, before) (c.in_err-mode.ensures.follows (scope_in c.args.decls.now cs) (TheMark (codes ",") ∷ IntegerAt 27 ∷ TheMark (codes ",") ∷ ExprAt (c.args.depth + 1) (names_in c.args.bound.now) ∷ TheMark (codes ")") ∷ ps))
-
-pub read_round-returns-in_err-rest-2-clause-follows : goal.read_round-returns-in_err-rest-2-clause-follows
-read_round-returns-in_err-rest-2-clause-follows t c cs ps =
-    let p = err_from_is_err_and c.from_residual-in_err-rest-2.result c.from_residual-in_err-rest-2.ensures.1 in
-    let before =
-    c.in_ok-rest.ensures.follows (scope_in c.args.decls.now cs) (ModeAt ∷ TheMark (codes ",") ∷ IntegerAt 27 ∷ TheMark (codes ",") ∷ ExprAt (c.args.depth + 1) (names_in c.args.bound.now) ∷ TheMark (codes ")") ∷ ps)
-    ∙ c.in_ok-mode.ensures.follows (scope_in c.args.decls.now cs) (TheMark (codes ",") ∷ IntegerAt 27 ∷ TheMark (codes ",") ∷ ExprAt (c.args.depth + 1) (names_in c.args.bound.now) ∷ TheMark (codes ")") ∷ ps) in
-    rw (p.1, p.2, before) (c.in_err-rest-2.ensures.follows (scope_in c.args.decls.now cs) (IntegerAt 27 ∷ TheMark (codes ",") ∷ ExprAt (c.args.depth + 1) (names_in c.args.bound.now) ∷ TheMark (codes ")") ∷ ps))
-
-pub read_round-returns-in_err-scale-clause-follows : goal.read_round-returns-in_err-scale-clause-follows
-read_round-returns-in_err-scale-clause-follows t c cs ps =
-    let p = err_from_is_err_and c.from_residual-in_err-scale.result c.from_residual-in_err-scale.ensures.1 in
-    let before =
-    c.in_ok-rest.ensures.follows (scope_in c.args.decls.now cs) (ModeAt ∷ TheMark (codes ",") ∷ IntegerAt 27 ∷ TheMark (codes ",") ∷ ExprAt (c.args.depth + 1) (names_in c.args.bound.now) ∷ TheMark (codes ")") ∷ ps)
-    ∙ c.in_ok-mode.ensures.follows (scope_in c.args.decls.now cs) (TheMark (codes ",") ∷ IntegerAt 27 ∷ TheMark (codes ",") ∷ ExprAt (c.args.depth + 1) (names_in c.args.bound.now) ∷ TheMark (codes ")") ∷ ps)
-    ∙ c.in_ok-rest-2.ensures.follows (scope_in c.args.decls.now cs) (IntegerAt 27 ∷ TheMark (codes ",") ∷ ExprAt (c.args.depth + 1) (names_in c.args.bound.now) ∷ TheMark (codes ")") ∷ ps) in
-    rw (p.1, p.2, before) (c.in_err-scale.ensures.follows (scope_in c.args.decls.now cs) (TheMark (codes ",") ∷ ExprAt (c.args.depth + 1) (names_in c.args.bound.now) ∷ TheMark (codes ")") ∷ ps))
-
-pub read_round-returns-in_err-rest-3-clause-follows : goal.read_round-returns-in_err-rest-3-clause-follows
-read_round-returns-in_err-rest-3-clause-follows t c cs ps =
-    let p = err_from_is_err_and c.from_residual-in_err-rest-3.result c.from_residual-in_err-rest-3.ensures.1 in
-    let before =
-    c.in_ok-rest.ensures.follows (scope_in c.args.decls.now cs) (ModeAt ∷ TheMark (codes ",") ∷ IntegerAt 27 ∷ TheMark (codes ",") ∷ ExprAt (c.args.depth + 1) (names_in c.args.bound.now) ∷ TheMark (codes ")") ∷ ps)
-    ∙ c.in_ok-mode.ensures.follows (scope_in c.args.decls.now cs) (TheMark (codes ",") ∷ IntegerAt 27 ∷ TheMark (codes ",") ∷ ExprAt (c.args.depth + 1) (names_in c.args.bound.now) ∷ TheMark (codes ")") ∷ ps)
-    ∙ c.in_ok-rest-2.ensures.follows (scope_in c.args.decls.now cs) (IntegerAt 27 ∷ TheMark (codes ",") ∷ ExprAt (c.args.depth + 1) (names_in c.args.bound.now) ∷ TheMark (codes ")") ∷ ps)
-    ∙ c.in_ok-scale.ensures.follows (scope_in c.args.decls.now cs) (TheMark (codes ",") ∷ ExprAt (c.args.depth + 1) (names_in c.args.bound.now) ∷ TheMark (codes ")") ∷ ps) in
-    rw (p.1, p.2, before) (c.in_err-rest-3.ensures.follows (scope_in c.args.decls.now cs) (ExprAt (c.args.depth + 1) (names_in c.args.bound.now) ∷ TheMark (codes ")") ∷ ps))
+    let p = err_from_is_err_and c.from_residual.result c.from_residual.ensures.1 in
+    rw (p.1, p.2) (c.in_err-mode.ensures.follows (scope_in c.args.decls.now cs) (TheMark (codes ",") ∷ ExprAt (c.args.depth + 1) (names_in c.args.bound.now) ∷ TheMark (codes ")") ∷ ps))
 
 pub read_round-returns-in_err-of-clause-follows : goal.read_round-returns-in_err-of-clause-follows
 read_round-returns-in_err-of-clause-follows t c cs ps =
     let p = err_from_is_err_and c.from_residual-in_err-of.result c.from_residual-in_err-of.ensures.1 in
     let before =
-    c.in_ok-rest.ensures.follows (scope_in c.args.decls.now cs) (ModeAt ∷ TheMark (codes ",") ∷ IntegerAt 27 ∷ TheMark (codes ",") ∷ ExprAt (c.args.depth + 1) (names_in c.args.bound.now) ∷ TheMark (codes ")") ∷ ps)
-    ∙ c.in_ok-mode.ensures.follows (scope_in c.args.decls.now cs) (TheMark (codes ",") ∷ IntegerAt 27 ∷ TheMark (codes ",") ∷ ExprAt (c.args.depth + 1) (names_in c.args.bound.now) ∷ TheMark (codes ")") ∷ ps)
-    ∙ c.in_ok-rest-2.ensures.follows (scope_in c.args.decls.now cs) (IntegerAt 27 ∷ TheMark (codes ",") ∷ ExprAt (c.args.depth + 1) (names_in c.args.bound.now) ∷ TheMark (codes ")") ∷ ps)
-    ∙ c.in_ok-scale.ensures.follows (scope_in c.args.decls.now cs) (TheMark (codes ",") ∷ ExprAt (c.args.depth + 1) (names_in c.args.bound.now) ∷ TheMark (codes ")") ∷ ps)
-    ∙ c.in_ok-rest-3.ensures.follows (scope_in c.args.decls.now cs) (ExprAt (c.args.depth + 1) (names_in c.args.bound.now) ∷ TheMark (codes ")") ∷ ps) in
+    c.in_ok-mode.ensures.follows (scope_in c.args.decls.now cs) (TheMark (codes ",") ∷ ExprAt (c.args.depth + 1) (names_in c.args.bound.now) ∷ TheMark (codes ")") ∷ ps) in
     rw (p.1, p.2, before) (c.in_err-of.ensures.follows cs (TheMark (codes ")") ∷ ps))
 
-pub read_round-returns-in_err-rest-4-clause-follows : goal.read_round-returns-in_err-rest-4-clause-follows
-read_round-returns-in_err-rest-4-clause-follows t c cs ps =
-    let p = err_from_is_err_and c.from_residual-in_err-rest-4.result c.from_residual-in_err-rest-4.ensures.1 in
+pub read_round-returns-in_err-rest-clause-follows : goal.read_round-returns-in_err-rest-clause-follows
+read_round-returns-in_err-rest-clause-follows t c cs ps =
+    let p = err_from_is_err_and c.from_residual-in_err-rest.result c.from_residual-in_err-rest.ensures.1 in
     let before =
-    c.in_ok-rest.ensures.follows (scope_in c.args.decls.now cs) (ModeAt ∷ TheMark (codes ",") ∷ IntegerAt 27 ∷ TheMark (codes ",") ∷ ExprAt (c.args.depth + 1) (names_in c.args.bound.now) ∷ TheMark (codes ")") ∷ ps)
-    ∙ c.in_ok-mode.ensures.follows (scope_in c.args.decls.now cs) (TheMark (codes ",") ∷ IntegerAt 27 ∷ TheMark (codes ",") ∷ ExprAt (c.args.depth + 1) (names_in c.args.bound.now) ∷ TheMark (codes ")") ∷ ps)
-    ∙ c.in_ok-rest-2.ensures.follows (scope_in c.args.decls.now cs) (IntegerAt 27 ∷ TheMark (codes ",") ∷ ExprAt (c.args.depth + 1) (names_in c.args.bound.now) ∷ TheMark (codes ")") ∷ ps)
-    ∙ c.in_ok-scale.ensures.follows (scope_in c.args.decls.now cs) (TheMark (codes ",") ∷ ExprAt (c.args.depth + 1) (names_in c.args.bound.now) ∷ TheMark (codes ")") ∷ ps)
-    ∙ c.in_ok-rest-3.ensures.follows (scope_in c.args.decls.now cs) (ExprAt (c.args.depth + 1) (names_in c.args.bound.now) ∷ TheMark (codes ")") ∷ ps)
+    c.in_ok-mode.ensures.follows (scope_in c.args.decls.now cs) (TheMark (codes ",") ∷ ExprAt (c.args.depth + 1) (names_in c.args.bound.now) ∷ TheMark (codes ")") ∷ ps)
     ∙ c.in_ok-of.ensures.follows cs (TheMark (codes ")") ∷ ps) in
-    rw (p.1, p.2, before) (c.in_err-rest-4.ensures.follows (scope_in c.args.decls.now cs) (ps))
+    rw (p.1, p.2, before) (c.in_err-rest.ensures.follows (scope_in c.args.decls.now cs) ps)
 
 pub read_round-returns-clause-follows : goal.read_round-returns-clause-follows
 read_round-returns-clause-follows t c cs ps =
-    c.in_ok-rest.ensures.follows (scope_in c.args.decls.now cs) (ModeAt ∷ TheMark (codes ",") ∷ IntegerAt 27 ∷ TheMark (codes ",") ∷ ExprAt (c.args.depth + 1) (names_in c.args.bound.now) ∷ TheMark (codes ")") ∷ ps)
-    ∙ c.in_ok-mode.ensures.follows (scope_in c.args.decls.now cs) (TheMark (codes ",") ∷ IntegerAt 27 ∷ TheMark (codes ",") ∷ ExprAt (c.args.depth + 1) (names_in c.args.bound.now) ∷ TheMark (codes ")") ∷ ps)
-    ∙ c.in_ok-rest-2.ensures.follows (scope_in c.args.decls.now cs) (IntegerAt 27 ∷ TheMark (codes ",") ∷ ExprAt (c.args.depth + 1) (names_in c.args.bound.now) ∷ TheMark (codes ")") ∷ ps)
-    ∙ c.in_ok-scale.ensures.follows (scope_in c.args.decls.now cs) (TheMark (codes ",") ∷ ExprAt (c.args.depth + 1) (names_in c.args.bound.now) ∷ TheMark (codes ")") ∷ ps)
-    ∙ c.in_ok-rest-3.ensures.follows (scope_in c.args.decls.now cs) (ExprAt (c.args.depth + 1) (names_in c.args.bound.now) ∷ TheMark (codes ")") ∷ ps)
+    c.in_ok-mode.ensures.follows (scope_in c.args.decls.now cs) (TheMark (codes ",") ∷ ExprAt (c.args.depth + 1) (names_in c.args.bound.now) ∷ TheMark (codes ")") ∷ ps)
     ∙ c.in_ok-of.ensures.follows cs (TheMark (codes ")") ∷ ps)
-    ∙ c.in_ok-rest-4.ensures.follows (scope_in c.args.decls.now cs) (ps)
+    ∙ c.in_ok-rest.ensures.follows (scope_in c.args.decls.now cs) ps
 
 pub read_round-returns-clause-spelled : goal.read_round-returns-clause-spelled
 read_round-returns-clause-spelled t c ts first =
-    rw (c.in_ok-of-2.ensures.ok)
-    (followed_by (tokens c.args.rest.now) first
-    (followed_by (tokens c.in_ok-rest.rest.now) c.in_ok-rest.ensures.spelled
-    (followed_by (tokens c.in_ok-mode.rest.now) c.in_ok-mode.ensures.spelled
-    (followed_by (tokens c.in_ok-rest-2.rest.now) c.in_ok-rest-2.ensures.spelled
-    (followed_by (tokens c.in_ok-scale.rest.now) c.in_ok-scale.ensures.spelled
-    (followed_by (tokens c.in_ok-rest-3.rest.now) c.in_ok-rest-3.ensures.spelled
-    (followed_by (tokens c.in_ok-of.rest.now) c.in_ok-of.ensures.spelled
-    (c.in_ok-rest-4.ensures.spelled))))))))
-
-pub read_div-returns-in_err-rest-clause-follows : goal.read_div-returns-in_err-rest-clause-follows
-read_div-returns-in_err-rest-clause-follows t c cs ps =
-    let p = err_from_is_err_and c.from_residual.result c.from_residual.ensures.1 in
-    rw (p.1, p.2) (c.in_err-rest.ensures.follows (scope_in c.args.decls.now cs) (ModeAt ∷ TheMark (codes ",") ∷ IntegerAt 27 ∷ TheMark (codes ",") ∷ ExprAt (c.args.depth + 1) (names_in c.args.bound.now) ∷ TheMark (codes ",") ∷ ExprAt (c.args.depth + 1) (names_in c.args.bound.now) ∷ TheMark (codes ")") ∷ ps))
+    followed_by (tokens c.args.rest.now) first
+    (four_then (tokens c.in_ok-mode.rest.now) c.in_ok-mode.ensures.spelled
+    (two_then (tokens c.in_ok-of.rest.now) c.in_ok-of.ensures.spelled c.in_ok-rest.ensures.spelled))
 
 pub read_div-returns-in_err-mode-clause-follows : goal.read_div-returns-in_err-mode-clause-follows
 read_div-returns-in_err-mode-clause-follows t c cs ps =
-    let p = err_from_is_err_and c.from_residual-in_err-mode.result c.from_residual-in_err-mode.ensures.1 in
-    let before =
-    c.in_ok-rest.ensures.follows (scope_in c.args.decls.now cs) (ModeAt ∷ TheMark (codes ",") ∷ IntegerAt 27 ∷ TheMark (codes ",") ∷ ExprAt (c.args.depth + 1) (names_in c.args.bound.now) ∷ TheMark (codes ",") ∷ ExprAt (c.args.depth + 1) (names_in c.args.bound.now) ∷ TheMark (codes ")") ∷ ps) in
-    rw (p.1, p.2, before) (c.in_err-mode.ensures.follows (scope_in c.args.decls.now cs) (TheMark (codes ",") ∷ IntegerAt 27 ∷ TheMark (codes ",") ∷ ExprAt (c.args.depth + 1) (names_in c.args.bound.now) ∷ TheMark (codes ",") ∷ ExprAt (c.args.depth + 1) (names_in c.args.bound.now) ∷ TheMark (codes ")") ∷ ps))
-
-pub read_div-returns-in_err-rest-2-clause-follows : goal.read_div-returns-in_err-rest-2-clause-follows
-read_div-returns-in_err-rest-2-clause-follows t c cs ps =
-    let p = err_from_is_err_and c.from_residual-in_err-rest-2.result c.from_residual-in_err-rest-2.ensures.1 in
-    let before =
-    c.in_ok-rest.ensures.follows (scope_in c.args.decls.now cs) (ModeAt ∷ TheMark (codes ",") ∷ IntegerAt 27 ∷ TheMark (codes ",") ∷ ExprAt (c.args.depth + 1) (names_in c.args.bound.now) ∷ TheMark (codes ",") ∷ ExprAt (c.args.depth + 1) (names_in c.args.bound.now) ∷ TheMark (codes ")") ∷ ps)
-    ∙ c.in_ok-mode.ensures.follows (scope_in c.args.decls.now cs) (TheMark (codes ",") ∷ IntegerAt 27 ∷ TheMark (codes ",") ∷ ExprAt (c.args.depth + 1) (names_in c.args.bound.now) ∷ TheMark (codes ",") ∷ ExprAt (c.args.depth + 1) (names_in c.args.bound.now) ∷ TheMark (codes ")") ∷ ps) in
-    rw (p.1, p.2, before) (c.in_err-rest-2.ensures.follows (scope_in c.args.decls.now cs) (IntegerAt 27 ∷ TheMark (codes ",") ∷ ExprAt (c.args.depth + 1) (names_in c.args.bound.now) ∷ TheMark (codes ",") ∷ ExprAt (c.args.depth + 1) (names_in c.args.bound.now) ∷ TheMark (codes ")") ∷ ps))
-
-pub read_div-returns-in_err-scale-clause-follows : goal.read_div-returns-in_err-scale-clause-follows
-read_div-returns-in_err-scale-clause-follows t c cs ps =
-    let p = err_from_is_err_and c.from_residual-in_err-scale.result c.from_residual-in_err-scale.ensures.1 in
-    let before =
-    c.in_ok-rest.ensures.follows (scope_in c.args.decls.now cs) (ModeAt ∷ TheMark (codes ",") ∷ IntegerAt 27 ∷ TheMark (codes ",") ∷ ExprAt (c.args.depth + 1) (names_in c.args.bound.now) ∷ TheMark (codes ",") ∷ ExprAt (c.args.depth + 1) (names_in c.args.bound.now) ∷ TheMark (codes ")") ∷ ps)
-    ∙ c.in_ok-mode.ensures.follows (scope_in c.args.decls.now cs) (TheMark (codes ",") ∷ IntegerAt 27 ∷ TheMark (codes ",") ∷ ExprAt (c.args.depth + 1) (names_in c.args.bound.now) ∷ TheMark (codes ",") ∷ ExprAt (c.args.depth + 1) (names_in c.args.bound.now) ∷ TheMark (codes ")") ∷ ps)
-    ∙ c.in_ok-rest-2.ensures.follows (scope_in c.args.decls.now cs) (IntegerAt 27 ∷ TheMark (codes ",") ∷ ExprAt (c.args.depth + 1) (names_in c.args.bound.now) ∷ TheMark (codes ",") ∷ ExprAt (c.args.depth + 1) (names_in c.args.bound.now) ∷ TheMark (codes ")") ∷ ps) in
-    rw (p.1, p.2, before) (c.in_err-scale.ensures.follows (scope_in c.args.decls.now cs) (TheMark (codes ",") ∷ ExprAt (c.args.depth + 1) (names_in c.args.bound.now) ∷ TheMark (codes ",") ∷ ExprAt (c.args.depth + 1) (names_in c.args.bound.now) ∷ TheMark (codes ")") ∷ ps))
-
-pub read_div-returns-in_err-rest-3-clause-follows : goal.read_div-returns-in_err-rest-3-clause-follows
-read_div-returns-in_err-rest-3-clause-follows t c cs ps =
-    let p = err_from_is_err_and c.from_residual-in_err-rest-3.result c.from_residual-in_err-rest-3.ensures.1 in
-    let before =
-    c.in_ok-rest.ensures.follows (scope_in c.args.decls.now cs) (ModeAt ∷ TheMark (codes ",") ∷ IntegerAt 27 ∷ TheMark (codes ",") ∷ ExprAt (c.args.depth + 1) (names_in c.args.bound.now) ∷ TheMark (codes ",") ∷ ExprAt (c.args.depth + 1) (names_in c.args.bound.now) ∷ TheMark (codes ")") ∷ ps)
-    ∙ c.in_ok-mode.ensures.follows (scope_in c.args.decls.now cs) (TheMark (codes ",") ∷ IntegerAt 27 ∷ TheMark (codes ",") ∷ ExprAt (c.args.depth + 1) (names_in c.args.bound.now) ∷ TheMark (codes ",") ∷ ExprAt (c.args.depth + 1) (names_in c.args.bound.now) ∷ TheMark (codes ")") ∷ ps)
-    ∙ c.in_ok-rest-2.ensures.follows (scope_in c.args.decls.now cs) (IntegerAt 27 ∷ TheMark (codes ",") ∷ ExprAt (c.args.depth + 1) (names_in c.args.bound.now) ∷ TheMark (codes ",") ∷ ExprAt (c.args.depth + 1) (names_in c.args.bound.now) ∷ TheMark (codes ")") ∷ ps)
-    ∙ c.in_ok-scale.ensures.follows (scope_in c.args.decls.now cs) (TheMark (codes ",") ∷ ExprAt (c.args.depth + 1) (names_in c.args.bound.now) ∷ TheMark (codes ",") ∷ ExprAt (c.args.depth + 1) (names_in c.args.bound.now) ∷ TheMark (codes ")") ∷ ps) in
-    rw (p.1, p.2, before) (c.in_err-rest-3.ensures.follows (scope_in c.args.decls.now cs) (ExprAt (c.args.depth + 1) (names_in c.args.bound.now) ∷ TheMark (codes ",") ∷ ExprAt (c.args.depth + 1) (names_in c.args.bound.now) ∷ TheMark (codes ")") ∷ ps))
+    let p = err_from_is_err_and c.from_residual.result c.from_residual.ensures.1 in
+    rw (p.1, p.2) (c.in_err-mode.ensures.follows (scope_in c.args.decls.now cs) (TheMark (codes ",") ∷ ExprAt (c.args.depth + 1) (names_in c.args.bound.now) ∷ TheMark (codes ",") ∷ ExprAt (c.args.depth + 1) (names_in c.args.bound.now) ∷ TheMark (codes ")") ∷ ps))
 
 pub read_div-returns-in_err-top-clause-follows : goal.read_div-returns-in_err-top-clause-follows
 read_div-returns-in_err-top-clause-follows t c cs ps =
     let p = err_from_is_err_and c.from_residual-in_err-top.result c.from_residual-in_err-top.ensures.1 in
     let before =
-    c.in_ok-rest.ensures.follows (scope_in c.args.decls.now cs) (ModeAt ∷ TheMark (codes ",") ∷ IntegerAt 27 ∷ TheMark (codes ",") ∷ ExprAt (c.args.depth + 1) (names_in c.args.bound.now) ∷ TheMark (codes ",") ∷ ExprAt (c.args.depth + 1) (names_in c.args.bound.now) ∷ TheMark (codes ")") ∷ ps)
-    ∙ c.in_ok-mode.ensures.follows (scope_in c.args.decls.now cs) (TheMark (codes ",") ∷ IntegerAt 27 ∷ TheMark (codes ",") ∷ ExprAt (c.args.depth + 1) (names_in c.args.bound.now) ∷ TheMark (codes ",") ∷ ExprAt (c.args.depth + 1) (names_in c.args.bound.now) ∷ TheMark (codes ")") ∷ ps)
-    ∙ c.in_ok-rest-2.ensures.follows (scope_in c.args.decls.now cs) (IntegerAt 27 ∷ TheMark (codes ",") ∷ ExprAt (c.args.depth + 1) (names_in c.args.bound.now) ∷ TheMark (codes ",") ∷ ExprAt (c.args.depth + 1) (names_in c.args.bound.now) ∷ TheMark (codes ")") ∷ ps)
-    ∙ c.in_ok-scale.ensures.follows (scope_in c.args.decls.now cs) (TheMark (codes ",") ∷ ExprAt (c.args.depth + 1) (names_in c.args.bound.now) ∷ TheMark (codes ",") ∷ ExprAt (c.args.depth + 1) (names_in c.args.bound.now) ∷ TheMark (codes ")") ∷ ps)
-    ∙ c.in_ok-rest-3.ensures.follows (scope_in c.args.decls.now cs) (ExprAt (c.args.depth + 1) (names_in c.args.bound.now) ∷ TheMark (codes ",") ∷ ExprAt (c.args.depth + 1) (names_in c.args.bound.now) ∷ TheMark (codes ")") ∷ ps) in
+    c.in_ok-mode.ensures.follows (scope_in c.args.decls.now cs) (TheMark (codes ",") ∷ ExprAt (c.args.depth + 1) (names_in c.args.bound.now) ∷ TheMark (codes ",") ∷ ExprAt (c.args.depth + 1) (names_in c.args.bound.now) ∷ TheMark (codes ")") ∷ ps) in
     rw (p.1, p.2, before) (c.in_err-top.ensures.follows cs (TheMark (codes ",") ∷ ExprAt (c.args.depth + 1) (names_in c.args.bound.now) ∷ TheMark (codes ")") ∷ ps))
-
-pub read_div-returns-in_err-rest-4-clause-follows : goal.read_div-returns-in_err-rest-4-clause-follows
-read_div-returns-in_err-rest-4-clause-follows t c cs ps =
-    let p = err_from_is_err_and c.from_residual-in_err-rest-4.result c.from_residual-in_err-rest-4.ensures.1 in
-    let before =
-    c.in_ok-rest.ensures.follows (scope_in c.args.decls.now cs) (ModeAt ∷ TheMark (codes ",") ∷ IntegerAt 27 ∷ TheMark (codes ",") ∷ ExprAt (c.args.depth + 1) (names_in c.args.bound.now) ∷ TheMark (codes ",") ∷ ExprAt (c.args.depth + 1) (names_in c.args.bound.now) ∷ TheMark (codes ")") ∷ ps)
-    ∙ c.in_ok-mode.ensures.follows (scope_in c.args.decls.now cs) (TheMark (codes ",") ∷ IntegerAt 27 ∷ TheMark (codes ",") ∷ ExprAt (c.args.depth + 1) (names_in c.args.bound.now) ∷ TheMark (codes ",") ∷ ExprAt (c.args.depth + 1) (names_in c.args.bound.now) ∷ TheMark (codes ")") ∷ ps)
-    ∙ c.in_ok-rest-2.ensures.follows (scope_in c.args.decls.now cs) (IntegerAt 27 ∷ TheMark (codes ",") ∷ ExprAt (c.args.depth + 1) (names_in c.args.bound.now) ∷ TheMark (codes ",") ∷ ExprAt (c.args.depth + 1) (names_in c.args.bound.now) ∷ TheMark (codes ")") ∷ ps)
-    ∙ c.in_ok-scale.ensures.follows (scope_in c.args.decls.now cs) (TheMark (codes ",") ∷ ExprAt (c.args.depth + 1) (names_in c.args.bound.now) ∷ TheMark (codes ",") ∷ ExprAt (c.args.depth + 1) (names_in c.args.bound.now) ∷ TheMark (codes ")") ∷ ps)
-    ∙ c.in_ok-rest-3.ensures.follows (scope_in c.args.decls.now cs) (ExprAt (c.args.depth + 1) (names_in c.args.bound.now) ∷ TheMark (codes ",") ∷ ExprAt (c.args.depth + 1) (names_in c.args.bound.now) ∷ TheMark (codes ")") ∷ ps)
-    ∙ c.in_ok-top.ensures.follows cs (TheMark (codes ",") ∷ ExprAt (c.args.depth + 1) (names_in c.args.bound.now) ∷ TheMark (codes ")") ∷ ps) in
-    rw (p.1, p.2, before) (c.in_err-rest-4.ensures.follows (scope_in c.args.decls.now cs) (ExprAt (c.args.depth + 1) (names_in c.args.bound.now) ∷ TheMark (codes ")") ∷ ps))
 
 pub read_div-returns-in_err-below-clause-follows : goal.read_div-returns-in_err-below-clause-follows
 read_div-returns-in_err-below-clause-follows t c cs ps =
     let p = err_from_is_err_and c.from_residual-in_err-below.result c.from_residual-in_err-below.ensures.1 in
     let before =
-    c.in_ok-rest.ensures.follows (scope_in c.args.decls.now cs) (ModeAt ∷ TheMark (codes ",") ∷ IntegerAt 27 ∷ TheMark (codes ",") ∷ ExprAt (c.args.depth + 1) (names_in c.args.bound.now) ∷ TheMark (codes ",") ∷ ExprAt (c.args.depth + 1) (names_in c.args.bound.now) ∷ TheMark (codes ")") ∷ ps)
-    ∙ c.in_ok-mode.ensures.follows (scope_in c.args.decls.now cs) (TheMark (codes ",") ∷ IntegerAt 27 ∷ TheMark (codes ",") ∷ ExprAt (c.args.depth + 1) (names_in c.args.bound.now) ∷ TheMark (codes ",") ∷ ExprAt (c.args.depth + 1) (names_in c.args.bound.now) ∷ TheMark (codes ")") ∷ ps)
-    ∙ c.in_ok-rest-2.ensures.follows (scope_in c.args.decls.now cs) (IntegerAt 27 ∷ TheMark (codes ",") ∷ ExprAt (c.args.depth + 1) (names_in c.args.bound.now) ∷ TheMark (codes ",") ∷ ExprAt (c.args.depth + 1) (names_in c.args.bound.now) ∷ TheMark (codes ")") ∷ ps)
-    ∙ c.in_ok-scale.ensures.follows (scope_in c.args.decls.now cs) (TheMark (codes ",") ∷ ExprAt (c.args.depth + 1) (names_in c.args.bound.now) ∷ TheMark (codes ",") ∷ ExprAt (c.args.depth + 1) (names_in c.args.bound.now) ∷ TheMark (codes ")") ∷ ps)
-    ∙ c.in_ok-rest-3.ensures.follows (scope_in c.args.decls.now cs) (ExprAt (c.args.depth + 1) (names_in c.args.bound.now) ∷ TheMark (codes ",") ∷ ExprAt (c.args.depth + 1) (names_in c.args.bound.now) ∷ TheMark (codes ")") ∷ ps)
-    ∙ c.in_ok-top.ensures.follows cs (TheMark (codes ",") ∷ ExprAt (c.args.depth + 1) (names_in c.args.bound.now) ∷ TheMark (codes ")") ∷ ps)
-    ∙ c.in_ok-rest-4.ensures.follows (scope_in c.args.decls.now cs) (ExprAt (c.args.depth + 1) (names_in c.args.bound.now) ∷ TheMark (codes ")") ∷ ps) in
+    c.in_ok-mode.ensures.follows (scope_in c.args.decls.now cs) (TheMark (codes ",") ∷ ExprAt (c.args.depth + 1) (names_in c.args.bound.now) ∷ TheMark (codes ",") ∷ ExprAt (c.args.depth + 1) (names_in c.args.bound.now) ∷ TheMark (codes ")") ∷ ps)
+    ∙ c.in_ok-top.ensures.follows cs (TheMark (codes ",") ∷ ExprAt (c.args.depth + 1) (names_in c.args.bound.now) ∷ TheMark (codes ")") ∷ ps) in
     rw (p.1, p.2, before) (c.in_err-below.ensures.follows cs (TheMark (codes ")") ∷ ps))
 
-pub read_div-returns-in_err-rest-5-clause-follows : goal.read_div-returns-in_err-rest-5-clause-follows
-read_div-returns-in_err-rest-5-clause-follows t c cs ps =
-    let p = err_from_is_err_and c.from_residual-in_err-rest-5.result c.from_residual-in_err-rest-5.ensures.1 in
+pub read_div-returns-in_err-rest-clause-follows : goal.read_div-returns-in_err-rest-clause-follows
+read_div-returns-in_err-rest-clause-follows t c cs ps =
+    let p = err_from_is_err_and c.from_residual-in_err-rest.result c.from_residual-in_err-rest.ensures.1 in
     let before =
-    c.in_ok-rest.ensures.follows (scope_in c.args.decls.now cs) (ModeAt ∷ TheMark (codes ",") ∷ IntegerAt 27 ∷ TheMark (codes ",") ∷ ExprAt (c.args.depth + 1) (names_in c.args.bound.now) ∷ TheMark (codes ",") ∷ ExprAt (c.args.depth + 1) (names_in c.args.bound.now) ∷ TheMark (codes ")") ∷ ps)
-    ∙ c.in_ok-mode.ensures.follows (scope_in c.args.decls.now cs) (TheMark (codes ",") ∷ IntegerAt 27 ∷ TheMark (codes ",") ∷ ExprAt (c.args.depth + 1) (names_in c.args.bound.now) ∷ TheMark (codes ",") ∷ ExprAt (c.args.depth + 1) (names_in c.args.bound.now) ∷ TheMark (codes ")") ∷ ps)
-    ∙ c.in_ok-rest-2.ensures.follows (scope_in c.args.decls.now cs) (IntegerAt 27 ∷ TheMark (codes ",") ∷ ExprAt (c.args.depth + 1) (names_in c.args.bound.now) ∷ TheMark (codes ",") ∷ ExprAt (c.args.depth + 1) (names_in c.args.bound.now) ∷ TheMark (codes ")") ∷ ps)
-    ∙ c.in_ok-scale.ensures.follows (scope_in c.args.decls.now cs) (TheMark (codes ",") ∷ ExprAt (c.args.depth + 1) (names_in c.args.bound.now) ∷ TheMark (codes ",") ∷ ExprAt (c.args.depth + 1) (names_in c.args.bound.now) ∷ TheMark (codes ")") ∷ ps)
-    ∙ c.in_ok-rest-3.ensures.follows (scope_in c.args.decls.now cs) (ExprAt (c.args.depth + 1) (names_in c.args.bound.now) ∷ TheMark (codes ",") ∷ ExprAt (c.args.depth + 1) (names_in c.args.bound.now) ∷ TheMark (codes ")") ∷ ps)
+    c.in_ok-mode.ensures.follows (scope_in c.args.decls.now cs) (TheMark (codes ",") ∷ ExprAt (c.args.depth + 1) (names_in c.args.bound.now) ∷ TheMark (codes ",") ∷ ExprAt (c.args.depth + 1) (names_in c.args.bound.now) ∷ TheMark (codes ")") ∷ ps)
     ∙ c.in_ok-top.ensures.follows cs (TheMark (codes ",") ∷ ExprAt (c.args.depth + 1) (names_in c.args.bound.now) ∷ TheMark (codes ")") ∷ ps)
-    ∙ c.in_ok-rest-4.ensures.follows (scope_in c.args.decls.now cs) (ExprAt (c.args.depth + 1) (names_in c.args.bound.now) ∷ TheMark (codes ")") ∷ ps)
     ∙ c.in_ok-below.ensures.follows cs (TheMark (codes ")") ∷ ps) in
-    rw (p.1, p.2, before) (c.in_err-rest-5.ensures.follows (scope_in c.args.decls.now cs) (ps))
+    rw (p.1, p.2, before) (c.in_err-rest.ensures.follows (scope_in c.args.decls.now cs) ps)
 
 pub read_div-returns-clause-follows : goal.read_div-returns-clause-follows
 read_div-returns-clause-follows t c cs ps =
-    c.in_ok-rest.ensures.follows (scope_in c.args.decls.now cs) (ModeAt ∷ TheMark (codes ",") ∷ IntegerAt 27 ∷ TheMark (codes ",") ∷ ExprAt (c.args.depth + 1) (names_in c.args.bound.now) ∷ TheMark (codes ",") ∷ ExprAt (c.args.depth + 1) (names_in c.args.bound.now) ∷ TheMark (codes ")") ∷ ps)
-    ∙ c.in_ok-mode.ensures.follows (scope_in c.args.decls.now cs) (TheMark (codes ",") ∷ IntegerAt 27 ∷ TheMark (codes ",") ∷ ExprAt (c.args.depth + 1) (names_in c.args.bound.now) ∷ TheMark (codes ",") ∷ ExprAt (c.args.depth + 1) (names_in c.args.bound.now) ∷ TheMark (codes ")") ∷ ps)
-    ∙ c.in_ok-rest-2.ensures.follows (scope_in c.args.decls.now cs) (IntegerAt 27 ∷ TheMark (codes ",") ∷ ExprAt (c.args.depth + 1) (names_in c.args.bound.now) ∷ TheMark (codes ",") ∷ ExprAt (c.args.depth + 1) (names_in c.args.bound.now) ∷ TheMark (codes ")") ∷ ps)
-    ∙ c.in_ok-scale.ensures.follows (scope_in c.args.decls.now cs) (TheMark (codes ",") ∷ ExprAt (c.args.depth + 1) (names_in c.args.bound.now) ∷ TheMark (codes ",") ∷ ExprAt (c.args.depth + 1) (names_in c.args.bound.now) ∷ TheMark (codes ")") ∷ ps)
-    ∙ c.in_ok-rest-3.ensures.follows (scope_in c.args.decls.now cs) (ExprAt (c.args.depth + 1) (names_in c.args.bound.now) ∷ TheMark (codes ",") ∷ ExprAt (c.args.depth + 1) (names_in c.args.bound.now) ∷ TheMark (codes ")") ∷ ps)
+    c.in_ok-mode.ensures.follows (scope_in c.args.decls.now cs) (TheMark (codes ",") ∷ ExprAt (c.args.depth + 1) (names_in c.args.bound.now) ∷ TheMark (codes ",") ∷ ExprAt (c.args.depth + 1) (names_in c.args.bound.now) ∷ TheMark (codes ")") ∷ ps)
     ∙ c.in_ok-top.ensures.follows cs (TheMark (codes ",") ∷ ExprAt (c.args.depth + 1) (names_in c.args.bound.now) ∷ TheMark (codes ")") ∷ ps)
-    ∙ c.in_ok-rest-4.ensures.follows (scope_in c.args.decls.now cs) (ExprAt (c.args.depth + 1) (names_in c.args.bound.now) ∷ TheMark (codes ")") ∷ ps)
     ∙ c.in_ok-below.ensures.follows cs (TheMark (codes ")") ∷ ps)
-    ∙ c.in_ok-rest-5.ensures.follows (scope_in c.args.decls.now cs) (ps)
+    ∙ c.in_ok-rest.ensures.follows (scope_in c.args.decls.now cs) ps
 
 pub read_div-returns-clause-spelled : goal.read_div-returns-clause-spelled
 read_div-returns-clause-spelled t c ts first =
-    rw (c.in_ok-top-2.ensures.ok, c.in_ok-below-2.ensures.ok)
-    (followed_by (tokens c.args.rest.now) first
-    (followed_by (tokens c.in_ok-rest.rest.now) c.in_ok-rest.ensures.spelled
-    (followed_by (tokens c.in_ok-mode.rest.now) c.in_ok-mode.ensures.spelled
-    (followed_by (tokens c.in_ok-rest-2.rest.now) c.in_ok-rest-2.ensures.spelled
-    (followed_by (tokens c.in_ok-scale.rest.now) c.in_ok-scale.ensures.spelled
-    (followed_by (tokens c.in_ok-rest-3.rest.now) c.in_ok-rest-3.ensures.spelled
-    (followed_by (tokens c.in_ok-top.rest.now) c.in_ok-top.ensures.spelled
-    (followed_by (tokens c.in_ok-rest-4.rest.now) c.in_ok-rest-4.ensures.spelled
-    (followed_by (tokens c.in_ok-below.rest.now) c.in_ok-below.ensures.spelled
-    (c.in_ok-rest-5.ensures.spelled))))))))))
-
-pub read_acc-returns-in_err-rest-clause-follows : goal.read_acc-returns-in_err-rest-clause-follows
-read_acc-returns-in_err-rest-clause-follows t c cs ps =
-    let p = err_from_is_err_and c.from_residual.result c.from_residual.ensures.1 in
-    rw (p.1, p.2) (c.in_err-rest.ensures.follows (scope_in c.args.decls.now cs) (BinderAt binder.Acc c.args.depth (names_in c.args.bound.now) ∷ ps))
+    followed_by (tokens c.args.rest.now) first
+    (four_then (tokens c.in_ok-mode.rest.now) c.in_ok-mode.ensures.spelled
+    (two_then (tokens c.in_ok-top.rest.now) c.in_ok-top.ensures.spelled
+    (two_then (tokens c.in_ok-below.rest.now) c.in_ok-below.ensures.spelled c.in_ok-rest.ensures.spelled)))
 
 pub read_acc-returns-in_err-name-clause-follows : goal.read_acc-returns-in_err-name-clause-follows
 read_acc-returns-in_err-name-clause-follows t c cs ps =
-    let p = err_from_is_err_and c.from_residual-in_err-name.result c.from_residual-in_err-name.ensures.1 in
-    let before =
-    c.in_ok-rest.ensures.follows (scope_in c.args.decls.now cs) (BinderAt binder.Acc c.args.depth (names_in c.args.bound.now) ∷ ps) in
-    rw (p.1, p.2, before) (c.in_err-name.ensures.follows binder.Acc c.args.depth (names_in c.args.bound.now) (scope_in c.args.decls.now cs) ps)
-
-pub read_acc-returns-in_err-rest-2-clause-follows : goal.read_acc-returns-in_err-rest-2-clause-follows
-read_acc-returns-in_err-rest-2-clause-follows t c cs ps =
-    let p = err_from_is_err_and c.from_residual-in_err-rest-2.result c.from_residual-in_err-rest-2.ensures.1 in
-    let before =
-    c.in_ok-rest.ensures.follows (scope_in c.args.decls.now cs) (BinderAt binder.Acc c.args.depth (names_in c.args.bound.now) ∷ ps)
-    ∙ c.in_ok-name.ensures.follows binder.Acc c.args.depth (names_in c.args.bound.now) (scope_in c.args.decls.now cs) ps in
-    rw (p.1, p.2, before) (c.in_err-rest-2.ensures.follows (scope_in c.args.decls.now cs) (ExprAt (c.args.depth + 1) (c.in_ok-name.name.now ∷ (names_in c.args.bound.now)) ∷ TheMark (codes ",") ∷ IntegerAt 100_000 ∷ TheMark (codes ",") ∷ ExprAt (c.args.depth + 1) (names_in c.args.bound.now) ∷ TheMark (codes ")") ∷ ps))
+    let p = err_from_is_err_and c.from_residual.result c.from_residual.ensures.1 in
+    rw (p.1, p.2) (c.in_err-name.ensures.follows binder.Acc c.args.depth (names_in c.args.bound.now) (scope_in c.args.decls.now cs) ps)
 
 pub read_acc-returns-in_err-body-clause-follows : goal.read_acc-returns-in_err-body-clause-follows
 read_acc-returns-in_err-body-clause-follows t c cs ps =
     let p = err_from_is_err_and c.from_residual-in_err-body.result c.from_residual-in_err-body.ensures.1 in
     let before =
-    c.in_ok-rest.ensures.follows (scope_in c.args.decls.now cs) (BinderAt binder.Acc c.args.depth (names_in c.args.bound.now) ∷ ps)
-    ∙ c.in_ok-name.ensures.follows binder.Acc c.args.depth (names_in c.args.bound.now) (scope_in c.args.decls.now cs) ps
-    ∙ c.in_ok-rest-2.ensures.follows (scope_in c.args.decls.now cs) (ExprAt (c.args.depth + 1) (c.in_ok-name.name.now ∷ (names_in c.args.bound.now)) ∷ TheMark (codes ",") ∷ IntegerAt 100_000 ∷ TheMark (codes ",") ∷ ExprAt (c.args.depth + 1) (names_in c.args.bound.now) ∷ TheMark (codes ")") ∷ ps) in
+    c.in_ok-name.ensures.follows binder.Acc c.args.depth (names_in c.args.bound.now) (scope_in c.args.decls.now cs) ps in
     rw (p.1, p.2, before) (c.in_err-body.ensures.follows cs (TheMark (codes ",") ∷ IntegerAt 100_000 ∷ TheMark (codes ",") ∷ ExprAt (c.args.depth + 1) (names_in c.args.bound.now) ∷ TheMark (codes ")") ∷ ps))
-
-pub read_acc-returns-in_err-rest-3-clause-follows : goal.read_acc-returns-in_err-rest-3-clause-follows
-read_acc-returns-in_err-rest-3-clause-follows t c cs ps =
-    let p = err_from_is_err_and c.from_residual-in_err-rest-3.result c.from_residual-in_err-rest-3.ensures.1 in
-    let before =
-    c.in_ok-rest.ensures.follows (scope_in c.args.decls.now cs) (BinderAt binder.Acc c.args.depth (names_in c.args.bound.now) ∷ ps)
-    ∙ c.in_ok-name.ensures.follows binder.Acc c.args.depth (names_in c.args.bound.now) (scope_in c.args.decls.now cs) ps
-    ∙ c.in_ok-rest-2.ensures.follows (scope_in c.args.decls.now cs) (ExprAt (c.args.depth + 1) (c.in_ok-name.name.now ∷ (names_in c.args.bound.now)) ∷ TheMark (codes ",") ∷ IntegerAt 100_000 ∷ TheMark (codes ",") ∷ ExprAt (c.args.depth + 1) (names_in c.args.bound.now) ∷ TheMark (codes ")") ∷ ps)
-    ∙ c.in_ok-body.ensures.follows cs (TheMark (codes ",") ∷ IntegerAt 100_000 ∷ TheMark (codes ",") ∷ ExprAt (c.args.depth + 1) (names_in c.args.bound.now) ∷ TheMark (codes ")") ∷ ps) in
-    rw (p.1, p.2, before) (c.in_err-rest-3.ensures.follows (scope_in c.args.decls.now cs) (IntegerAt 100_000 ∷ TheMark (codes ",") ∷ ExprAt (c.args.depth + 1) (names_in c.args.bound.now) ∷ TheMark (codes ")") ∷ ps))
 
 pub read_acc-returns-in_err-days-clause-follows : goal.read_acc-returns-in_err-days-clause-follows
 read_acc-returns-in_err-days-clause-follows t c cs ps =
     let p = err_from_is_err_and c.from_residual-in_err-days.result c.from_residual-in_err-days.ensures.1 in
     let before =
-    c.in_ok-rest.ensures.follows (scope_in c.args.decls.now cs) (BinderAt binder.Acc c.args.depth (names_in c.args.bound.now) ∷ ps)
-    ∙ c.in_ok-name.ensures.follows binder.Acc c.args.depth (names_in c.args.bound.now) (scope_in c.args.decls.now cs) ps
-    ∙ c.in_ok-rest-2.ensures.follows (scope_in c.args.decls.now cs) (ExprAt (c.args.depth + 1) (c.in_ok-name.name.now ∷ (names_in c.args.bound.now)) ∷ TheMark (codes ",") ∷ IntegerAt 100_000 ∷ TheMark (codes ",") ∷ ExprAt (c.args.depth + 1) (names_in c.args.bound.now) ∷ TheMark (codes ")") ∷ ps)
-    ∙ c.in_ok-body.ensures.follows cs (TheMark (codes ",") ∷ IntegerAt 100_000 ∷ TheMark (codes ",") ∷ ExprAt (c.args.depth + 1) (names_in c.args.bound.now) ∷ TheMark (codes ")") ∷ ps)
-    ∙ c.in_ok-rest-3.ensures.follows (scope_in c.args.decls.now cs) (IntegerAt 100_000 ∷ TheMark (codes ",") ∷ ExprAt (c.args.depth + 1) (names_in c.args.bound.now) ∷ TheMark (codes ")") ∷ ps) in
+    c.in_ok-name.ensures.follows binder.Acc c.args.depth (names_in c.args.bound.now) (scope_in c.args.decls.now cs) ps
+    ∙ c.in_ok-body.ensures.follows cs (TheMark (codes ",") ∷ IntegerAt 100_000 ∷ TheMark (codes ",") ∷ ExprAt (c.args.depth + 1) (names_in c.args.bound.now) ∷ TheMark (codes ")") ∷ ps) in
     rw (p.1, p.2, before) (c.in_err-days.ensures.follows (scope_in c.args.decls.now cs) (TheMark (codes ",") ∷ ExprAt (c.args.depth + 1) (names_in c.args.bound.now) ∷ TheMark (codes ")") ∷ ps))
-
-pub read_acc-returns-in_err-rest-4-clause-follows : goal.read_acc-returns-in_err-rest-4-clause-follows
-read_acc-returns-in_err-rest-4-clause-follows t c cs ps =
-    let p = err_from_is_err_and c.from_residual-in_err-rest-4.result c.from_residual-in_err-rest-4.ensures.1 in
-    let before =
-    c.in_ok-rest.ensures.follows (scope_in c.args.decls.now cs) (BinderAt binder.Acc c.args.depth (names_in c.args.bound.now) ∷ ps)
-    ∙ c.in_ok-name.ensures.follows binder.Acc c.args.depth (names_in c.args.bound.now) (scope_in c.args.decls.now cs) ps
-    ∙ c.in_ok-rest-2.ensures.follows (scope_in c.args.decls.now cs) (ExprAt (c.args.depth + 1) (c.in_ok-name.name.now ∷ (names_in c.args.bound.now)) ∷ TheMark (codes ",") ∷ IntegerAt 100_000 ∷ TheMark (codes ",") ∷ ExprAt (c.args.depth + 1) (names_in c.args.bound.now) ∷ TheMark (codes ")") ∷ ps)
-    ∙ c.in_ok-body.ensures.follows cs (TheMark (codes ",") ∷ IntegerAt 100_000 ∷ TheMark (codes ",") ∷ ExprAt (c.args.depth + 1) (names_in c.args.bound.now) ∷ TheMark (codes ")") ∷ ps)
-    ∙ c.in_ok-rest-3.ensures.follows (scope_in c.args.decls.now cs) (IntegerAt 100_000 ∷ TheMark (codes ",") ∷ ExprAt (c.args.depth + 1) (names_in c.args.bound.now) ∷ TheMark (codes ")") ∷ ps)
-    ∙ c.in_ok-days.ensures.follows (scope_in c.args.decls.now cs) (TheMark (codes ",") ∷ ExprAt (c.args.depth + 1) (names_in c.args.bound.now) ∷ TheMark (codes ")") ∷ ps) in
-    rw (p.1, p.2, before) (c.in_err-rest-4.ensures.follows (scope_in c.args.decls.now cs) (ExprAt (c.args.depth + 1) (names_in c.args.bound.now) ∷ TheMark (codes ")") ∷ ps))
 
 pub read_acc-returns-in_err-first-clause-follows : goal.read_acc-returns-in_err-first-clause-follows
 read_acc-returns-in_err-first-clause-follows t c cs ps =
     let p = err_from_is_err_and c.from_residual-in_err-first.result c.from_residual-in_err-first.ensures.1 in
     let before =
-    c.in_ok-rest.ensures.follows (scope_in c.args.decls.now cs) (BinderAt binder.Acc c.args.depth (names_in c.args.bound.now) ∷ ps)
-    ∙ c.in_ok-name.ensures.follows binder.Acc c.args.depth (names_in c.args.bound.now) (scope_in c.args.decls.now cs) ps
-    ∙ c.in_ok-rest-2.ensures.follows (scope_in c.args.decls.now cs) (ExprAt (c.args.depth + 1) (c.in_ok-name.name.now ∷ (names_in c.args.bound.now)) ∷ TheMark (codes ",") ∷ IntegerAt 100_000 ∷ TheMark (codes ",") ∷ ExprAt (c.args.depth + 1) (names_in c.args.bound.now) ∷ TheMark (codes ")") ∷ ps)
+    c.in_ok-name.ensures.follows binder.Acc c.args.depth (names_in c.args.bound.now) (scope_in c.args.decls.now cs) ps
     ∙ c.in_ok-body.ensures.follows cs (TheMark (codes ",") ∷ IntegerAt 100_000 ∷ TheMark (codes ",") ∷ ExprAt (c.args.depth + 1) (names_in c.args.bound.now) ∷ TheMark (codes ")") ∷ ps)
-    ∙ c.in_ok-rest-3.ensures.follows (scope_in c.args.decls.now cs) (IntegerAt 100_000 ∷ TheMark (codes ",") ∷ ExprAt (c.args.depth + 1) (names_in c.args.bound.now) ∷ TheMark (codes ")") ∷ ps)
-    ∙ c.in_ok-days.ensures.follows (scope_in c.args.decls.now cs) (TheMark (codes ",") ∷ ExprAt (c.args.depth + 1) (names_in c.args.bound.now) ∷ TheMark (codes ")") ∷ ps)
-    ∙ c.in_ok-rest-4.ensures.follows (scope_in c.args.decls.now cs) (ExprAt (c.args.depth + 1) (names_in c.args.bound.now) ∷ TheMark (codes ")") ∷ ps) in
+    ∙ c.in_ok-days.ensures.follows (scope_in c.args.decls.now cs) (TheMark (codes ",") ∷ ExprAt (c.args.depth + 1) (names_in c.args.bound.now) ∷ TheMark (codes ")") ∷ ps) in
     rw (p.1, p.2, before) (c.in_err-first.ensures.follows cs (TheMark (codes ")") ∷ ps))
 
-pub read_acc-returns-in_err-rest-5-clause-follows : goal.read_acc-returns-in_err-rest-5-clause-follows
-read_acc-returns-in_err-rest-5-clause-follows t c cs ps =
-    let p = err_from_is_err_and c.from_residual-in_err-rest-5.result c.from_residual-in_err-rest-5.ensures.1 in
+pub read_acc-returns-in_err-rest-clause-follows : goal.read_acc-returns-in_err-rest-clause-follows
+read_acc-returns-in_err-rest-clause-follows t c cs ps =
+    let p = err_from_is_err_and c.from_residual-in_err-rest.result c.from_residual-in_err-rest.ensures.1 in
     let before =
-    c.in_ok-rest.ensures.follows (scope_in c.args.decls.now cs) (BinderAt binder.Acc c.args.depth (names_in c.args.bound.now) ∷ ps)
-    ∙ c.in_ok-name.ensures.follows binder.Acc c.args.depth (names_in c.args.bound.now) (scope_in c.args.decls.now cs) ps
-    ∙ c.in_ok-rest-2.ensures.follows (scope_in c.args.decls.now cs) (ExprAt (c.args.depth + 1) (c.in_ok-name.name.now ∷ (names_in c.args.bound.now)) ∷ TheMark (codes ",") ∷ IntegerAt 100_000 ∷ TheMark (codes ",") ∷ ExprAt (c.args.depth + 1) (names_in c.args.bound.now) ∷ TheMark (codes ")") ∷ ps)
+    c.in_ok-name.ensures.follows binder.Acc c.args.depth (names_in c.args.bound.now) (scope_in c.args.decls.now cs) ps
     ∙ c.in_ok-body.ensures.follows cs (TheMark (codes ",") ∷ IntegerAt 100_000 ∷ TheMark (codes ",") ∷ ExprAt (c.args.depth + 1) (names_in c.args.bound.now) ∷ TheMark (codes ")") ∷ ps)
-    ∙ c.in_ok-rest-3.ensures.follows (scope_in c.args.decls.now cs) (IntegerAt 100_000 ∷ TheMark (codes ",") ∷ ExprAt (c.args.depth + 1) (names_in c.args.bound.now) ∷ TheMark (codes ")") ∷ ps)
     ∙ c.in_ok-days.ensures.follows (scope_in c.args.decls.now cs) (TheMark (codes ",") ∷ ExprAt (c.args.depth + 1) (names_in c.args.bound.now) ∷ TheMark (codes ")") ∷ ps)
-    ∙ c.in_ok-rest-4.ensures.follows (scope_in c.args.decls.now cs) (ExprAt (c.args.depth + 1) (names_in c.args.bound.now) ∷ TheMark (codes ")") ∷ ps)
     ∙ c.in_ok-first.ensures.follows cs (TheMark (codes ")") ∷ ps) in
-    rw (p.1, p.2, before) (c.in_err-rest-5.ensures.follows (scope_in c.args.decls.now cs) (ps))
+    rw (p.1, p.2, before) (c.in_err-rest.ensures.follows (scope_in c.args.decls.now cs) ps)
 
 pub read_acc-returns-clause-follows : goal.read_acc-returns-clause-follows
 read_acc-returns-clause-follows t c cs ps =
-    c.in_ok-rest.ensures.follows (scope_in c.args.decls.now cs) (BinderAt binder.Acc c.args.depth (names_in c.args.bound.now) ∷ ps)
-    ∙ c.in_ok-name.ensures.follows binder.Acc c.args.depth (names_in c.args.bound.now) (scope_in c.args.decls.now cs) ps
-    ∙ c.in_ok-rest-2.ensures.follows (scope_in c.args.decls.now cs) (ExprAt (c.args.depth + 1) (c.in_ok-name.name.now ∷ (names_in c.args.bound.now)) ∷ TheMark (codes ",") ∷ IntegerAt 100_000 ∷ TheMark (codes ",") ∷ ExprAt (c.args.depth + 1) (names_in c.args.bound.now) ∷ TheMark (codes ")") ∷ ps)
+    c.in_ok-name.ensures.follows binder.Acc c.args.depth (names_in c.args.bound.now) (scope_in c.args.decls.now cs) ps
     ∙ c.in_ok-body.ensures.follows cs (TheMark (codes ",") ∷ IntegerAt 100_000 ∷ TheMark (codes ",") ∷ ExprAt (c.args.depth + 1) (names_in c.args.bound.now) ∷ TheMark (codes ")") ∷ ps)
-    ∙ c.in_ok-rest-3.ensures.follows (scope_in c.args.decls.now cs) (IntegerAt 100_000 ∷ TheMark (codes ",") ∷ ExprAt (c.args.depth + 1) (names_in c.args.bound.now) ∷ TheMark (codes ")") ∷ ps)
     ∙ c.in_ok-days.ensures.follows (scope_in c.args.decls.now cs) (TheMark (codes ",") ∷ ExprAt (c.args.depth + 1) (names_in c.args.bound.now) ∷ TheMark (codes ")") ∷ ps)
-    ∙ c.in_ok-rest-4.ensures.follows (scope_in c.args.decls.now cs) (ExprAt (c.args.depth + 1) (names_in c.args.bound.now) ∷ TheMark (codes ")") ∷ ps)
     ∙ c.in_ok-first.ensures.follows cs (TheMark (codes ")") ∷ ps)
-    ∙ c.in_ok-rest-5.ensures.follows (scope_in c.args.decls.now cs) (ps)
+    ∙ c.in_ok-rest.ensures.follows (scope_in c.args.decls.now cs) ps
 
 pub read_acc-returns-clause-spelled : goal.read_acc-returns-clause-spelled
 read_acc-returns-clause-spelled t c ts first =
-    rw (c.in_ok-body-2.ensures.ok, c.in_ok-first-2.ensures.ok)
-    (record {
+    record {
       name = c.in_ok-name.name.now;
       spelled = followed_by (tokens c.args.rest.now) first
-          (followed_by (tokens c.in_ok-rest.rest.now) c.in_ok-rest.ensures.spelled
-          (followed_by (tokens c.in_ok-name.rest.now) c.in_ok-name.ensures.spelled
-          (followed_by (tokens c.in_ok-rest-2.rest.now) c.in_ok-rest-2.ensures.spelled
-          (followed_by (tokens c.in_ok-body.rest.now) c.in_ok-body.ensures.spelled
-          (followed_by (tokens c.in_ok-rest-3.rest.now) c.in_ok-rest-3.ensures.spelled
-          (followed_by (tokens c.in_ok-days.rest.now) c.in_ok-days.ensures.spelled
-          (followed_by (tokens c.in_ok-rest-4.rest.now) c.in_ok-rest-4.ensures.spelled
-          (followed_by (tokens c.in_ok-first.rest.now) c.in_ok-first.ensures.spelled
-          (c.in_ok-rest-5.ensures.spelled)))))))));
-    })
+          (two_then (tokens c.in_ok-name.rest.now) c.in_ok-name.ensures.spelled
+          (two_then (tokens c.in_ok-body.rest.now) c.in_ok-body.ensures.spelled
+          (two_then (tokens c.in_ok-days.rest.now) c.in_ok-days.ensures.spelled
+          (two_then (tokens c.in_ok-first.rest.now) c.in_ok-first.ensures.spelled c.in_ok-rest.ensures.spelled))));
+    }

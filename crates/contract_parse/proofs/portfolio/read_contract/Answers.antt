@@ -1,9 +1,8 @@
-use Rattle.std.proofs.Common.{◌≤◌, ◌∙◌, ◌∷◌, ◌++◌, [], List, ap, arith, refl, subst}
+use Rattle.std.proofs.Common.{◌∙◌, ◌∷◌, ◌++◌, [], List, ap, refl, subst}
 use Rattle.std.specs.Prelude.{codes}
 use Rattle.std.specs.Map.{keys_of}
 use Rattle.std.proofs.lemmas.Result.{err_from_is_err_and}
 use Rattle.term_core.specs.Terms.{contract}
-use Rattle.term_core.specs.Sizes.{height_of_contract}
 use Rattle.contract_parse.specs.Tokens.{tokens}
 use Rattle.contract_parse.specs.Words.{Bytes}
 use Rattle.contract_parse.specs.Names.{with_names}
@@ -23,50 +22,25 @@ returns-in_err-name-clause-follows c ps =
     let p = err_from_is_err_and c.from_residual.result c.from_residual.ensures.1 in
     rw (p.1, p.2) (c.in_err-name.ensures.follows Contract (scope_in c.args.decls.now []) (TheMark (codes "=") ∷ ContrAt 1 [] ∷ TheMark (codes ";") ∷ ps))
 
-pub returns-in_err-rest-clause-follows : goal.returns-in_err-rest-clause-follows
-returns-in_err-rest-clause-follows c ps =
-    let p = err_from_is_err_and c.from_residual-in_err-rest.result c.from_residual-in_err-rest.ensures.1 in
-    let s = scope_in c.args.decls.now [] in
-    let names = keys_of c.args.contracts.now.entries ++ c.in_ok-name.name ∷ [] in
-    rw (p.1, p.2, c.in_ok-name.ensures.follows Contract s (TheMark (codes "=") ∷ ContrAt 1 [] ∷ TheMark (codes ";") ∷ ps))
-    (c.in_err-rest.ensures.follows (with_names Contract names s) (ContrAt 1 [] ∷ TheMark (codes ";") ∷ ps))
-
 pub returns-in_err-contract-clause-follows : goal.returns-in_err-contract-clause-follows
 returns-in_err-contract-clause-follows c ps =
     let p = err_from_is_err_and c.from_residual-in_err-contract.result c.from_residual-in_err-contract.ensures.1 in
-    let s = scope_in c.args.decls.now [] in
     let names = keys_of c.args.contracts.now.entries ++ c.in_ok-name.name ∷ [] in
-    let before =
-    c.in_ok-name.ensures.follows Contract s (TheMark (codes "=") ∷ ContrAt 1 [] ∷ TheMark (codes ";") ∷ ps)
-    ∙ c.in_ok-rest.ensures.follows (with_names Contract names s) (ContrAt 1 [] ∷ TheMark (codes ";") ∷ ps) in
-    rw (p.1, p.2, before) (c.in_err-contract.ensures.follows names (TheMark (codes ";") ∷ ps))
-
-pub returns-in_err-rest-2-clause-follows : goal.returns-in_err-rest-2-clause-follows
-returns-in_err-rest-2-clause-follows c ps =
-    let p = err_from_is_err_and c.from_residual-in_err-rest-2.result c.from_residual-in_err-rest-2.ensures.1 in
-    let s = scope_in c.args.decls.now [] in
-    let names = keys_of c.args.contracts.now.entries ++ c.in_ok-name.name ∷ [] in
-    let before =
-    c.in_ok-name.ensures.follows Contract s (TheMark (codes "=") ∷ ContrAt 1 [] ∷ TheMark (codes ";") ∷ ps)
-    ∙ c.in_ok-rest.ensures.follows (with_names Contract names s) (ContrAt 1 [] ∷ TheMark (codes ";") ∷ ps)
-    ∙ c.in_ok-contract.ensures.follows names (TheMark (codes ";") ∷ ps) in
-    rw (p.1, p.2, before) (c.in_err-rest-2.ensures.follows (with_names Contract names s) ps)
+    rw (p.1, p.2, c.in_ok-name.ensures.follows Contract (scope_in c.args.decls.now []) (TheMark (codes "=") ∷ ContrAt 1 [] ∷ TheMark (codes ";") ∷ ps)) (c.in_err-contract.ensures.follows names ps)
 
 pub returns-clause-follows : goal.returns-clause-follows
 returns-clause-follows c ps =
     let s = scope_in c.args.decls.now [] in
     let names = keys_of c.args.contracts.now.entries ++ c.in_ok-name.name ∷ [] in
     c.in_ok-name.ensures.follows Contract s (TheMark (codes "=") ∷ ContrAt 1 [] ∷ TheMark (codes ";") ∷ ps)
-    ∙ c.in_ok-rest.ensures.follows (with_names Contract names s) (ContrAt 1 [] ∷ TheMark (codes ";") ∷ ps)
-    ∙ c.in_ok-contract.ensures.follows names (TheMark (codes ";") ∷ ps)
-    ∙ c.in_ok-rest-2.ensures.follows (with_names Contract names s) ps
-    ∙ ap (λ (ns : List Bytes). run (with_names Contract ns s) ps (tokens c.in_ok-rest-2.rest.now))
+    ∙ c.in_ok-contract.ensures.follows names ps
+    ∙ ap (λ (ns : List Bytes). run (with_names Contract ns s) ps (tokens c.in_ok-contract.rest.now))
     (inserted_names c.args.contracts.now.entries c.insert.new.self.entries c.in_ok-name.name c.in_ok-contract.contract (tokens c.args.rest.now) (tokens c.in_ok-name.rest.now) c.in_ok-insert.ensures.entries c.in_ok-name.ensures.spelled)
 
 pub returns-clause-spelled : goal.returns-clause-spelled
 returns-clause-spelled c ts w =
-    let high : height_of_contract (contract c.in_ok-contract.contract) ≤ 200 = omega (arith, c.in_ok-contract.ensures.high) in
     let new = subst (λ (ns : List Bytes). valued (new_at ns) c.in_ok-name.name (tokens c.args.rest.now) (tokens c.in_ok-name.rest.now)) (keys_of_trees c.args.contracts.now.entries) c.in_ok-name.ensures.spelled in
+    let defined = c.in_ok-contract.ensures.spelled in
     record {
       name = c.in_ok-name.name;
       value = contract c.in_ok-contract.contract;
@@ -74,7 +48,7 @@ returns-clause-spelled c ts w =
           ∙ trees_added c.args.contracts.now.entries c.in_ok-name.name c.in_ok-contract.contract;
       spelled = followed_by (tokens c.args.rest.now) w
           (followed_by (tokens c.in_ok-name.rest.now) new
-          (followed_by (tokens c.in_ok-rest.rest.now) c.in_ok-rest.ensures.spelled
-          (followed_by (tokens c.in_ok-contract.rest.now) c.in_ok-contract.ensures.spelled
-          (followed_by (tokens c.in_ok-contract.rest.now) (refl, high) c.in_ok-rest-2.ensures.spelled))));
+          (followed_by defined.between defined.one
+          (followed_by defined.two.between defined.two.one
+          (followed_by defined.two.between (refl, c.in_ok-contract.ensures.high) defined.two.two))));
     }

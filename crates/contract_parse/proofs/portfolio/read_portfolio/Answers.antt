@@ -1,50 +1,30 @@
 use Rattle.std.proofs.Common.{◌∙◌, ◌∷◌, []}
-use Rattle.std.specs.Prelude.{codes}
 use Rattle.std.proofs.lemmas.Result.{err_from_is_err_and}
 use Rattle.indexmap.specs.IndexMap.{keys}
 use Rattle.contract_parse.specs.Tokens.{tokens}
 use Rattle.contract_parse.specs.Names.{nothing_declared}
-use Rattle.contract_parse.specs.Places.{ContractLines, TheEnd, TheMark, TheVersion, decls_places}
+use Rattle.contract_parse.specs.Places.{ContractLines, TheEnd, decls_places}
 use Rattle.contract_parse.specs.Reading.{scope_in, tokens_ahead}
-use Rattle.contract_parse.proofs.Parts.{followed_by}
+use Rattle.contract_parse.proofs.Parts.{followed_by, three_then}
 use Rattle.contract_parse.proofs.portfolio.read_portfolio.Goals as goal
 
 pub returns-in_err-rest-clause-follows : goal.returns-in_err-rest-clause-follows
 returns-in_err-rest-clause-follows c =
     let p = err_from_is_err_and c.from_residual.result c.from_residual.ensures.1 in
-    rw (p.1, p.2) (c.in_err-rest.ensures.follows nothing_declared (TheVersion ∷ TheMark (codes ";") ∷ decls_places (ContractLines ∷ TheEnd ∷ [])))
-
-pub returns-in_err-rest-2-clause-follows : goal.returns-in_err-rest-2-clause-follows
-returns-in_err-rest-2-clause-follows c =
-    let p = err_from_is_err_and c.from_residual-in_err-rest-2.result c.from_residual-in_err-rest-2.ensures.1 in
-    let before =
-    c.in_ok-rest.ensures.follows nothing_declared (TheVersion ∷ TheMark (codes ";") ∷ decls_places (ContractLines ∷ TheEnd ∷ [])) in
-    rw (p.1, p.2, before) (c.in_err-rest-2.ensures.follows nothing_declared (TheMark (codes ";") ∷ decls_places (ContractLines ∷ TheEnd ∷ [])))
-
-pub returns-in_err-rest-3-clause-follows : goal.returns-in_err-rest-3-clause-follows
-returns-in_err-rest-3-clause-follows c =
-    let p = err_from_is_err_and c.from_residual-in_err-rest-3.result c.from_residual-in_err-rest-3.ensures.1 in
-    let before =
-    c.in_ok-rest.ensures.follows nothing_declared (TheVersion ∷ TheMark (codes ";") ∷ decls_places (ContractLines ∷ TheEnd ∷ []))
-    ∙ c.in_ok-rest-2.ensures.follows nothing_declared (TheMark (codes ";") ∷ decls_places (ContractLines ∷ TheEnd ∷ [])) in
-    rw (p.1, p.2, before) (c.in_err-rest-3.ensures.follows nothing_declared (decls_places (ContractLines ∷ TheEnd ∷ [])))
+    rw (p.1, p.2) (c.in_err-rest.ensures.follows nothing_declared (decls_places (ContractLines ∷ TheEnd ∷ [])))
 
 pub returns-in_err-decls-clause-follows : goal.returns-in_err-decls-clause-follows
 returns-in_err-decls-clause-follows c =
     let p = err_from_is_err_and c.from_residual-in_err-decls.result c.from_residual-in_err-decls.ensures.1 in
     let before =
-    c.in_ok-rest.ensures.follows nothing_declared (TheVersion ∷ TheMark (codes ";") ∷ decls_places (ContractLines ∷ TheEnd ∷ []))
-    ∙ c.in_ok-rest-2.ensures.follows nothing_declared (TheMark (codes ";") ∷ decls_places (ContractLines ∷ TheEnd ∷ []))
-    ∙ c.in_ok-rest-3.ensures.follows nothing_declared (decls_places (ContractLines ∷ TheEnd ∷ [])) in
+    c.in_ok-rest.ensures.follows nothing_declared (decls_places (ContractLines ∷ TheEnd ∷ [])) in
     rw (p.1, p.2, before) (c.in_err-decls.ensures.follows (ContractLines ∷ TheEnd ∷ []))
 
 pub returns-in_err-contracts-clause-follows : goal.returns-in_err-contracts-clause-follows
 returns-in_err-contracts-clause-follows c =
     let p = err_from_is_err_and c.from_residual-in_err-contracts.result c.from_residual-in_err-contracts.ensures.1 in
     let before =
-    c.in_ok-rest.ensures.follows nothing_declared (TheVersion ∷ TheMark (codes ";") ∷ decls_places (ContractLines ∷ TheEnd ∷ []))
-    ∙ c.in_ok-rest-2.ensures.follows nothing_declared (TheMark (codes ";") ∷ decls_places (ContractLines ∷ TheEnd ∷ []))
-    ∙ c.in_ok-rest-3.ensures.follows nothing_declared (decls_places (ContractLines ∷ TheEnd ∷ []))
+    c.in_ok-rest.ensures.follows nothing_declared (decls_places (ContractLines ∷ TheEnd ∷ []))
     ∙ c.in_ok-decls.ensures.follows (ContractLines ∷ TheEnd ∷ []) in
     rw (p.1, p.2, before) (c.in_err-contracts.ensures.follows (TheEnd ∷ []))
 
@@ -52,26 +32,20 @@ pub returns-in_err-read_end-clause-follows : goal.returns-in_err-read_end-clause
 returns-in_err-read_end-clause-follows c =
     let p = err_from_is_err_and c.from_residual-in_err-read_end.result c.from_residual-in_err-read_end.ensures.1 in
     let before =
-    c.in_ok-rest.ensures.follows nothing_declared (TheVersion ∷ TheMark (codes ";") ∷ decls_places (ContractLines ∷ TheEnd ∷ []))
-    ∙ c.in_ok-rest-2.ensures.follows nothing_declared (TheMark (codes ";") ∷ decls_places (ContractLines ∷ TheEnd ∷ []))
-    ∙ c.in_ok-rest-3.ensures.follows nothing_declared (decls_places (ContractLines ∷ TheEnd ∷ []))
+    c.in_ok-rest.ensures.follows nothing_declared (decls_places (ContractLines ∷ TheEnd ∷ []))
     ∙ c.in_ok-decls.ensures.follows (ContractLines ∷ TheEnd ∷ [])
     ∙ c.in_ok-contracts.ensures.follows (TheEnd ∷ []) in
     rw (p.1, p.2, before) (c.in_err-read_end.ensures.follows (scope_in c.in_ok-decls.decls (keys c.in_ok-contracts.contracts)) [])
 
 pub returns-clause-follows : goal.returns-clause-follows
 returns-clause-follows c =
-    c.in_ok-rest.ensures.follows nothing_declared (TheVersion ∷ TheMark (codes ";") ∷ decls_places (ContractLines ∷ TheEnd ∷ []))
-    ∙ c.in_ok-rest-2.ensures.follows nothing_declared (TheMark (codes ";") ∷ decls_places (ContractLines ∷ TheEnd ∷ []))
-    ∙ c.in_ok-rest-3.ensures.follows nothing_declared (decls_places (ContractLines ∷ TheEnd ∷ []))
+    c.in_ok-rest.ensures.follows nothing_declared (decls_places (ContractLines ∷ TheEnd ∷ []))
     ∙ c.in_ok-decls.ensures.follows (ContractLines ∷ TheEnd ∷ [])
     ∙ c.in_ok-contracts.ensures.follows (TheEnd ∷ [])
     ∙ c.in_ok-read_end.ensures.follows (scope_in c.in_ok-decls.decls (keys c.in_ok-contracts.contracts)) []
 
 pub returns-clause-spelled : goal.returns-clause-spelled
 returns-clause-spelled c =
-    followed_by (tokens c.in_ok-rest.rest.now) c.in_ok-rest.ensures.spelled
-    (followed_by (tokens c.in_ok-rest-2.rest.now) c.in_ok-rest-2.ensures.spelled
-    (followed_by (tokens c.in_ok-rest-3.rest.now) c.in_ok-rest-3.ensures.spelled
+    three_then (tokens c.in_ok-rest.rest.now) c.in_ok-rest.ensures.spelled
     (followed_by (tokens_ahead c.in_ok-decls.ahead) c.in_ok-decls.ensures.spelled
-    (followed_by (tokens_ahead c.in_ok-contracts.ahead) c.in_ok-contracts.ensures.spelled c.in_ok-read_end.ensures.spelled))))
+    (followed_by (tokens_ahead c.in_ok-contracts.ahead) c.in_ok-contracts.ensures.spelled c.in_ok-read_end.ensures.spelled))

@@ -14,7 +14,8 @@ use Rattle.term_core.specs.declared.terms.Contr.{Contr}
 use Rattle.expr_eval.specs.Rooms.{Room}
 use Rattle.expr_eval.specs.Standing.{StandFor}
 use Rattle.flow_eval.specs.declared.payments.Payment.{Payment}
-use Rattle.flow_eval.specs.Walks.{answer_of, walk_of}
+use Rattle.expr_eval.specs.Trials.{answer_of}
+use Rattle.flow_eval.specs.Walks.{walk_of}
 use Rattle.flow_eval.specs.Readiness.{CanAnswer}
 use Rattle.flow_eval.specs.Faults.{lacks_place}
 use Rattle.flow_eval.proofs.GatherFacts.{over_notes, walk_over}

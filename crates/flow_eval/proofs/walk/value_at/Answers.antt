@@ -4,7 +4,8 @@ use Rattle.std.proofs.lemmas.Int.{to_z-of_z}
 use Rattle.expr_eval.specs.Answers.{IsAnswer}
 use Rattle.term_core.specs.Declarations.{declarations}
 use Rattle.term_core.specs.Terms.{expression}
-use Rattle.flow_eval.proofs.ReadyFacts.{answer_is, day_fits, may_evaluate}
+use Rattle.expr_eval.proofs.TrialFacts.{answer_is}
+use Rattle.flow_eval.proofs.ReadyFacts.{day_fits, may_evaluate}
 use Rattle.flow_eval.proofs.walk.value_at.Goals as goal
 
 pub eval-requires-clause-place : goal.eval-requires-clause-place

@@ -1,0 +1,74 @@
+//! What the walk asks of evaluations, and the days that it counts.
+
+ghost use Rattle.std.specs.Prelude.{◌≡◌, ◌≤◌, ◌+◌, ◌+ℤ◌, ◌*◌, ◌^◌, pos, min, unsigned_abs};
+ghost use Rattle.term_core.specs.Declarations.{declarations};
+ghost use Rattle.term_core.specs.Terms.{expression};
+ghost use Rattle.term_core.specs.Environments.{IsAdmitted};
+ghost use Rattle.term_core.specs.Shifts.{shifted};
+ghost use Rattle.expr_eval.specs.Evaluable.{MayEvaluate};
+ghost use Rattle.advance_step.specs.Carried.{Enters, IsEntry};
+
+use expr_eval::{Binding, Held, Scratch, eval, kind_of};
+use fixing_files::Fixings;
+use term_core::{Decls, Expr};
+
+/// What a walk goes by: the declarations and the fixings.
+#[derive(Clone, Copy)]
+pub struct Course<'a> {
+    pub decls: &'a Decls,
+    pub fixings: &'a Fixings,
+}
+
+/// A day some days later.
+pub fn later(day: i64, days: u32) -> i64
+    requires { unsigned_abs day ≤ 10 ^ 11 }
+    ensures { result ≡ day +ℤ pos days }
+{
+    day + days as i64
+}
+
+/// On how many days a test of so many days is tried, of the first `last + 1`.
+pub fn days_tried(days: u32, last: u32) -> u32
+    requires { last ≤ 1_200_000 }
+    ensures { result ≡ min days last + 1 }
+{
+    days.min(last) + 1
+}
+
+// The day on which an expression is read that is read later than it stands, or sooner.
+fn day_moved(day: i64, moved: i32) -> i64
+    requires { unsigned_abs day ≤ 10 ^ 11 }
+    ensures day { result ≡ day +ℤ moved }
+    ensures near { unsigned_abs result ≤ 2 * 10 ^ 11 }
+{
+    day + moved as i64
+}
+
+/// The entry of a name that is bound to an expression, which is read `moved` days later than it stands.
+pub fn entry_for(
+    course: &Course,
+    bound: &Expr,
+    moved: i32,
+    scratch: &mut Scratch,
+    day: i64,
+) -> Binding
+    requires place { MayEvaluate (declarations course.now.decls.now) (expression bound.now) scratch.old.entries }
+    requires admitted { IsAdmitted (declarations course.now.decls.now) course.now.fixings.now }
+    requires day { unsigned_abs day ≤ 10 ^ 11 }
+    ensures enters { Enters (declarations course.now.decls.now) (shifted moved (expression bound.now)) scratch.old.entries course.now.fixings.now day result }
+    ensures suits { IsEntry (declarations course.now.decls.now) (expression bound.now) scratch.old.entries result }
+    ensures same { scratch.new ≡ scratch.old }
+{
+    let kind = kind_of(course.decls, bound, scratch);
+    let answer = eval(
+        course.decls,
+        bound,
+        scratch,
+        course.fixings,
+        day_moved(day, moved),
+    );
+    Binding {
+        kind,
+        held: Held::of(answer),
+    }
+}

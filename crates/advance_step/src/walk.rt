@@ -1,0 +1,178 @@
+//! The walk that carries a contract with shared parts over any number of days: each node that stands up to the last of them
+//! is met once, and what stands later is handed on as it is.
+
+ghost use Rattle.std.specs.Prelude.{◌≡◌, ◌≤◌, ◌+◌, ◌^◌, max, unsigned_abs, IfOk, IfErr, List};
+ghost use Rattle.term_core.specs.Declarations.{declarations};
+ghost use Rattle.term_core.specs.Terms.{expression, After, Within, Let};
+ghost use Rattle.term_core.specs.Environments.{IsAdmitted};
+ghost use Rattle.term_core.specs.Shifts.{shifted};
+ghost use Rattle.term_core.specs.Sizes.{height_of_contract};
+ghost use Rattle.term_core.specs.declared.terms.Days.TheVariants.{Num as Count};
+ghost use Rattle.term_core.specs.SharedTerms.{shared, HasOffsets, StoresOffsets};
+ghost use Rattle.expr_eval.specs.declared.scratch.Binding.{Binding};
+ghost use Rattle.expr_eval.specs.Evaluable.{MayEvaluate};
+ghost use Rattle.advance_step.specs.Carried.{CanCarry, CanMove, IsLeft, LacksRead, WithEntry};
+
+use crate::answers::{Course, days_tried, entry_for, later};
+use crate::parts::{both_left, delayed, let_left, nothing, scale_left, still_waiting};
+use expr_eval::{Scratch, first_true};
+use flow_eval::FlowErr;
+use std::alloc::Global;
+use std::rc::Rc;
+use term_core::{Expr, SharedContr};
+
+/// What is left of a contract that stands on `day`, after `last + 1` days.
+#[cycle(carrying)]
+pub fn carry_in(
+    alloc: Global,
+    course: &Course,
+    scratch: &mut Scratch,
+    s: &SharedContr,
+    day: i64,
+    last: u32,
+) -> Result<Rc<SharedContr>, FlowErr>
+    requires ready { CanCarry (declarations course.now.decls.now) s.now scratch.old.entries }
+    requires offsets { StoresOffsets s.now }
+    requires admitted { IsAdmitted (declarations course.now.decls.now) course.now.fixings.now }
+    requires spare { height_of_contract (shared s.now) ≤ scratch.old.spare }
+    requires days { unsigned_abs day + last ≤ 10 ^ 11 }
+    requires last { last ≤ 1_200_000 }
+    ensures rest { IfOk result (λ r. IsLeft (declarations course.now.decls.now) (shared s.now) scratch.old.entries course.now.fixings.now day last (shared r.value)) }
+    ensures offsets { IfOk result (λ r. StoresOffsets r.value) }
+    ensures missing { IfErr result (λ e. LacksRead (declarations course.now.decls.now) (shared s.now) scratch.old.entries course.now.fixings.now day last e) }
+    ensures same { scratch.new ≡ scratch.old }
+{
+    match s {
+        SharedContr::Zero => Ok(nothing(alloc)?),
+        SharedContr::Pay { .. } => Ok(nothing(alloc)?),
+        SharedContr::Both { left, right } => {
+            let left = carry_in(alloc, course, scratch, left, day, last)?;
+            let right = carry_in(alloc, course, scratch, right, day, last)?;
+            Ok(both_left(alloc, left, right)?)
+        }
+        SharedContr::Scale {
+            factor,
+            moved,
+            body,
+        } => {
+            let body = carry_in(alloc, course, scratch, body, day, last)?;
+            Ok(scale_left(alloc, factor, *moved, last, body)?)
+        }
+        SharedContr::After { days, body } => {
+            carry_after(alloc, course, scratch, *days, body, day, last)
+        }
+        SharedContr::Let { bound, moved, body } => {
+            carry_bound(alloc, course, scratch, bound, *moved, body, day, last)
+        }
+        SharedContr::Within {
+            test,
+            days,
+            hit,
+            miss,
+        } => carry_within(alloc, course, scratch, test, *days, hit, miss, day, last),
+    }
+}
+
+// What is left of a contract that waits.
+#[cycle(carrying)]
+fn carry_after(
+    alloc: Global,
+    course: &Course,
+    scratch: &mut Scratch,
+    days: u32,
+    body: &Rc<SharedContr>,
+    day: i64,
+    last: u32,
+) -> Result<Rc<SharedContr>, FlowErr>
+    requires ready { CanCarry (declarations course.now.decls.now) body.now.value scratch.old.entries }
+    requires offsets { StoresOffsets body.now.value }
+    requires admitted { IsAdmitted (declarations course.now.decls.now) course.now.fixings.now }
+    requires spare { height_of_contract (shared body.now.value) ≤ scratch.old.spare }
+    requires days { unsigned_abs day + last ≤ 10 ^ 11 }
+    requires last { last ≤ 1_200_000 }
+    ensures rest { IfOk result (λ r. IsLeft (declarations course.now.decls.now) (After (Count days) (shared body.now.value)) scratch.old.entries course.now.fixings.now day last (shared r.value)) }
+    ensures offsets { IfOk result (λ r. StoresOffsets r.value) }
+    ensures missing { IfErr result (λ e. LacksRead (declarations course.now.decls.now) (After (Count days) (shared body.now.value)) scratch.old.entries course.now.fixings.now day last e) }
+    ensures same { scratch.new ≡ scratch.old }
+{
+    if days <= last {
+        carry_in(alloc, course, scratch, body, later(day, days), last - days)
+    } else {
+        Ok(delayed(alloc, days - last - 1, body)?)
+    }
+}
+
+// What is left of a contract in which a name is bound.
+#[cycle(carrying)]
+fn carry_bound(
+    alloc: Global,
+    course: &Course,
+    scratch: &mut Scratch,
+    bound: &Rc<Expr>,
+    moved: i32,
+    body: &Rc<SharedContr>,
+    day: i64,
+    last: u32,
+) -> Result<Rc<SharedContr>, FlowErr>
+    requires moves { CanMove moved (expression bound.now.value) }
+    requires place { MayEvaluate (declarations course.now.decls.now) (expression bound.now.value) scratch.old.entries }
+    requires ready { WithEntry (declarations course.now.decls.now) (expression bound.now.value) scratch.old.entries (λ (es : List Binding). CanCarry (declarations course.now.decls.now) body.now.value es) }
+    requires offsets { StoresOffsets body.now.value }
+    requires admitted { IsAdmitted (declarations course.now.decls.now) course.now.fixings.now }
+    requires spare { height_of_contract (shared body.now.value) + 1 ≤ scratch.old.spare }
+    requires days { unsigned_abs day + last ≤ 10 ^ 11 }
+    requires last { last ≤ 1_200_000 }
+    ensures rest { IfOk result (λ r. IsLeft (declarations course.now.decls.now) (Let (shifted moved (expression bound.now.value)) (shared body.now.value)) scratch.old.entries course.now.fixings.now day last (shared r.value)) }
+    ensures offsets { IfOk result (λ r. StoresOffsets r.value) }
+    ensures missing { IfErr result (λ e. LacksRead (declarations course.now.decls.now) (Let (shifted moved (expression bound.now.value)) (shared body.now.value)) scratch.old.entries course.now.fixings.now day last e) }
+    ensures same { scratch.new ≡ scratch.old }
+{
+    let entry = entry_for(course, bound, moved, scratch, day);
+    scratch.enter(entry.kind, entry.held);
+    let carried = carry_in(alloc, course, scratch, body, day, last);
+    scratch.leave();
+    Ok(let_left(alloc, bound, moved, last, carried?)?)
+}
+
+// What is left of a contract that waits for a test.
+#[cycle(carrying)]
+fn carry_within(
+    alloc: Global,
+    course: &Course,
+    scratch: &mut Scratch,
+    test: &Rc<Expr>,
+    days: u32,
+    hit: &Rc<SharedContr>,
+    miss: &Rc<SharedContr>,
+    day: i64,
+    last: u32,
+) -> Result<Rc<SharedContr>, FlowErr>
+    requires place { MayEvaluate (declarations course.now.decls.now) (expression test.now.value) scratch.old.entries }
+    requires hit { CanCarry (declarations course.now.decls.now) hit.now.value scratch.old.entries }
+    requires miss { CanCarry (declarations course.now.decls.now) miss.now.value scratch.old.entries }
+    requires test_stored { HasOffsets (expression test.now.value) }
+    requires hit_stored { StoresOffsets hit.now.value }
+    requires miss_stored { StoresOffsets miss.now.value }
+    requires admitted { IsAdmitted (declarations course.now.decls.now) course.now.fixings.now }
+    requires spare { max (height_of_contract (shared hit.now.value)) (height_of_contract (shared miss.now.value)) ≤ scratch.old.spare }
+    requires days { unsigned_abs day + last ≤ 10 ^ 11 }
+    requires last { last ≤ 1_200_000 }
+    ensures rest { IfOk result (λ r. IsLeft (declarations course.now.decls.now) (Within (expression test.now.value) (Count days) (shared hit.now.value) (shared miss.now.value)) scratch.old.entries course.now.fixings.now day last (shared r.value)) }
+    ensures offsets { IfOk result (λ r. StoresOffsets r.value) }
+    ensures missing { IfErr result (λ e. LacksRead (declarations course.now.decls.now) (Within (expression test.now.value) (Count days) (shared hit.now.value) (shared miss.now.value)) scratch.old.entries course.now.fixings.now day last e) }
+    ensures same { scratch.new ≡ scratch.old }
+{
+    let tried = days_tried(days, last);
+    match first_true(course.decls, test, &*scratch, course.fixings, day, tried)? {
+        Some(first) => carry_in(alloc, course, scratch, hit, later(day, first), last - first),
+        None if days <= last => carry_in(
+            alloc,
+            course,
+            scratch,
+            miss,
+            later(day, days),
+            last - days,
+        ),
+        None => Ok(still_waiting(alloc, test, days - last - 1, hit, miss)?),
+    }
+}

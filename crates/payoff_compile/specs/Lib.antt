@@ -1,0 +1,4 @@
+pub mod DateLimits
+pub mod Literals
+pub mod CompiledCode
+pub mod LawsCompiled

@@ -1,0 +1,90 @@
+//! Dates of code: later ones, and those of day counts.
+
+ghost use Rattle.std.specs.Prelude.{◌≡◌, ◌≤◌, ◌+ℤ◌, IfOk, length, insert, unsigned_abs};
+ghost use Rattle.term_core.specs.Flows.{count_of};
+ghost use Rattle.payoff_lang.specs.TemplateDates.{date, plus, plus_days, date_of_days, insert_name};
+
+use decimal::NoMemory;
+use payoff_lang::DateExpr;
+use std::alloc::Global;
+use term_core::Days;
+
+// The place of a template among others in rising order.
+fn place_of(names: &[u32], name: u32) -> usize
+    ensures within { result ≤ length names.now }
+    ensures place { insert names.now result name ≡ insert_name name names.now }
+{
+    for i in 0..names.len() {
+        if name <= names[i] {
+            return i;
+        }
+    }
+    names.len()
+}
+
+// The templates with one more.
+fn with_name(alloc: Global, names: &[u32], name: u32) -> Result<Vec<u32>, NoMemory>
+    ensures { IfOk result (λ v. v.items ≡ insert_name name names.now) }
+{
+    let mut more = Vec::from_slice(alloc, names)?;
+    more.insert(place_of(names, name), name)?;
+    Ok(more)
+}
+
+/// An equal date.
+pub fn copied(alloc: Global, on: &DateExpr) -> Result<DateExpr, NoMemory>
+    ensures { IfOk result (λ r. date r ≡ date on.now) }
+{
+    let names = Vec::from_slice(alloc, on.names.as_slice())?;
+    Ok(DateExpr {
+        days: on.days,
+        names,
+    })
+}
+
+/// The date that many days later; its templates stay.
+pub fn moved(alloc: Global, on: &DateExpr, by: i32) -> Result<DateExpr, NoMemory>
+    requires { unsigned_abs (on.now.days +ℤ by) ≤ 2_000_000 }
+    ensures { IfOk result (λ r. date r ≡ plus_days (date on.now) by) }
+{
+    let names = Vec::from_slice(alloc, on.names.as_slice())?;
+    Ok(DateExpr {
+        days: on.days + by,
+        names,
+    })
+}
+
+/// The date as many days later as a day count has.
+pub fn later(alloc: Global, on: &DateExpr, days: Days) -> Result<DateExpr, NoMemory>
+    requires count { count_of days ≤ 100_000 }
+    requires date { unsigned_abs on.now.days ≤ 1_000_000 }
+    ensures { IfOk result (λ r. date r ≡ plus (date on.now) (date_of_days days)) }
+{
+    match days {
+        Days::Num { days } => moved(alloc, on, days as i32),
+        Days::Named { template } => {
+            let names = with_name(alloc, on.names.as_slice(), template)?;
+            Ok(DateExpr {
+                days: on.days,
+                names,
+            })
+        }
+    }
+}
+
+/// A day count as a date.
+pub fn date_of(alloc: Global, days: Days) -> Result<DateExpr, NoMemory>
+    requires count { count_of days ≤ 100_000 }
+    ensures { IfOk result (λ r. date r ≡ date_of_days days) }
+{
+    match days {
+        Days::Num { days } => Ok(DateExpr {
+            days: days as i32,
+            names: Vec::new(alloc),
+        }),
+        Days::Named { template } => {
+            let names = Vec::from_slice(alloc, &[template])?;
+            Ok(DateExpr { days: 0, names })
+        }
+    }
+}

@@ -1,0 +1,14 @@
+pub mod Products
+pub mod DateFacts
+pub mod DatingFacts
+pub mod SumFacts
+pub mod ValueFacts
+pub mod CutFacts
+pub mod ReadFacts
+pub mod MeaningFacts
+pub mod CodeAlikeFacts
+pub mod DateFreeFacts
+pub mod WellFormedFacts
+mod RowsSample
+mod RowsCode
+mod RowsDefinitions

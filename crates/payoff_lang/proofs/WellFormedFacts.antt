@@ -1,0 +1,84 @@
+-- The code of a closed contract is closed: templates go among others in rising order, and stay declared.
+use Rattle.std.proofs.Common.{◌≡◌, ℕ, ◌≤◌, ◌<◌, ◌+◌, Bool, true, false, if◌then◌else◌, nat_le, List, [], ◌∷◌, length, refl, arith}
+use Rattle.std.proofs.lemmas.Bool.Decides.{nat_tests}
+use Rattle.term_core.specs.Declarations.{Declarations}
+use Rattle.term_core.specs.declared.terms.Days.{Days}
+use Rattle.term_core.specs.declared.terms.Days.TheVariants.{Num as Count, Named}
+use Rattle.term_core.specs.Terms.{Expression, Lit as Lit', Yes as Yes', Var as Var', Obs as Obs', Neg as Neg', Num as Num', Cmp as Cmp', Not as Not', Logic as Logic', Cond as Cond', Widen as Widen', Round as Round', Div as Div', Acc as Acc', Contract, Zero, Pay, Both, Scale, After, Let, Within}
+use Rattle.term_core.specs.WellFormed.{IsDeclared, IsWellFormed, IsWellFormedContract}
+use Rattle.payoff_lang.specs.TemplateDates.{Date, AreInOrderFrom, insert_name, insert_names, date_of_days, plus, no_date}
+use Rattle.payoff_lang.specs.Code.{PayoffCode, Nothing, PayOn, Add, ScaleBy, LetBe, Loop, Cut}
+use Rattle.payoff_lang.specs.Compiled.{compiled, compiled_value, code_of, cut_code}
+use Rattle.payoff_lang.specs.WellFormedCode.{AreTemplates, IsWellFormedDate, IsWellFormedValue, IsWellFormedCode}
+use Rattle.payoff_lang.specs.LawsCode.{CodeIsWellFormed}
+
+insert_step : (low t u : ℕ) (us : List ℕ) (b : Bool) → nat_le t u ≡ b → low ≤ t → AreInOrderFrom low (u ∷ us) → (u ≤ t → AreInOrderFrom u (insert_name t us)) → AreInOrderFrom low (if b then t ∷ u ∷ us else u ∷ insert_name t us)
+insert_step low t u us true e le h k = (le, (grind (arith, nat_tests), h.1))
+insert_step low t u us false e le h k = (h.0, k (grind (arith, nat_tests)))
+
+insert_in_order : (low t : ℕ) (us : List ℕ) → low ≤ t → AreInOrderFrom low us → AreInOrderFrom low (insert_name t us)
+insert_in_order low t [] le h = (le, tt)
+insert_in_order low t (u ∷ us) le h = insert_step low t u us (nat_le t u) refl le h (λ up. insert_in_order u t us up h.1)
+
+inserts_in_order : (ts us : List ℕ) → AreInOrderFrom 0 us → AreInOrderFrom 0 (insert_names ts us)
+inserts_in_order [] us h = h
+inserts_in_order (t ∷ ts) us h = insert_in_order 0 t (insert_names ts us) (omega arith) (inserts_in_order ts us h)
+
+declared_step : (d : Declarations) (t u : ℕ) (us : List ℕ) (b : Bool) → t < length d.templates → AreTemplates d (u ∷ us) → AreTemplates d (insert_name t us) → AreTemplates d (if b then t ∷ u ∷ us else u ∷ insert_name t us)
+declared_step d t u us true l h k = (l, h)
+declared_step d t u us false l h k = (h.0, k)
+
+insert_declared : (d : Declarations) (t : ℕ) (us : List ℕ) → t < length d.templates → AreTemplates d us → AreTemplates d (insert_name t us)
+insert_declared d t [] l h = (l, tt)
+insert_declared d t (u ∷ us) l h = declared_step d t u us (nat_le t u) l h (insert_declared d t us l h.1)
+
+inserts_declared : (d : Declarations) (ts us : List ℕ) → AreTemplates d ts → AreTemplates d us → AreTemplates d (insert_names ts us)
+inserts_declared d [] us h k = k
+inserts_declared d (t ∷ ts) us h k = insert_declared d t (insert_names ts us) h.0 (inserts_declared d ts us h.1 k)
+
+pub count_formed : (d : Declarations) (m : Days) → IsDeclared d m → IsWellFormedDate d (date_of_days m)
+count_formed d (Count n) h = (tt, tt)
+count_formed d (Named t) h = ((h, tt), (omega arith, tt))
+
+pub plus_formed : (d : Declarations) (x y : Date) → IsWellFormedDate d x → IsWellFormedDate d y → IsWellFormedDate d (plus x y)
+plus_formed d x y h k = (inserts_declared d y.names x.names k.0 h.0, inserts_in_order y.names x.names h.1)
+
+value_formed : (d : Declarations) (n : ℕ) (x : Date) (e : Expression) → IsWellFormedDate d x → IsWellFormed d n e → IsWellFormedValue d n (compiled_value x e)
+value_formed d n x (Lit' m s) f h = tt
+value_formed d n x (Yes' b) f h = tt
+value_formed d n x (Var' back) f h = h
+value_formed d n x (Obs' l t) f h = (h.0, f)
+value_formed d n x (Neg' e) f h = value_formed d n x e f h
+value_formed d n x (Num' op a b) f h = (value_formed d n x a f h.0, value_formed d n x b f h.1)
+value_formed d n x (Cmp' op a b) f h = (value_formed d n x a f h.0, value_formed d n x b f h.1)
+value_formed d n x (Not' e) f h = value_formed d n x e f h
+value_formed d n x (Logic' op a b) f h = (value_formed d n x a f h.0, value_formed d n x b f h.1)
+value_formed d n x (Cond' t a b) f h = (value_formed d n x t f h.0, value_formed d n x a f h.1, value_formed d n x b f h.2)
+value_formed d n x (Widen' s e) f h = value_formed d n x e f h
+value_formed d n x (Round' mode s e) f h = value_formed d n x e f h
+value_formed d n x (Div' mode s a b) f h = (value_formed d n x a f h.0, value_formed d n x b f h.1)
+value_formed d n x (Acc' body m first) f h = (value_formed d (n + 1) x body f h.0, value_formed d n x first f h.1)
+
+code_formed : (d : Declarations) (n : ℕ) (x : Date) (c : Contract) → IsWellFormedDate d x → IsWellFormedContract d n c → IsWellFormedCode d n (compiled x c)
+code_formed d n x Zero f h = tt
+code_formed d n x (Pay a p q) f h = (f, h.0, h.1, h.2)
+code_formed d n x (Both a b) f h = (code_formed d n x a f h.0, code_formed d n x b f h.1)
+code_formed d n x (Scale e c) f h = (value_formed d n x e f h.0, code_formed d n x c f h.1)
+code_formed d n x (After m c) f h =
+    code_formed d n (plus x (date_of_days m)) c (plus_formed d x (date_of_days m) f (count_formed d m h.0)) h.1
+code_formed d n x (Let e c) f h = (value_formed d n x e f h.0, code_formed d (n + 1) x c f h.1)
+code_formed d n x (Within e m a b) f h =
+    let count = count_formed d m h.1 in
+    (value_formed d n x e f h.0, count, code_formed d n x a f h.2, code_formed d n (plus x (date_of_days m)) b (plus_formed d x (date_of_days m) f count) h.3)
+
+pub cut_formed : (d : Declarations) (n : ℕ) (k : PayoffCode) → IsWellFormedCode d n k → IsWellFormedCode d n (cut_code k)
+cut_formed d n Nothing h = tt
+cut_formed d n (PayOn x a p q) h = (h.0, h)
+cut_formed d n (Add k l) h = (cut_formed d n k h.0, cut_formed d n l h.1)
+cut_formed d n (ScaleBy v k) h = (h.0, cut_formed d n k h.1)
+cut_formed d n (LetBe v k) h = (h.0, cut_formed d (n + 1) k h.1)
+cut_formed d n (Loop v x k l) h = (h.0, h.1, cut_formed d n k h.2, cut_formed d n l h.3)
+cut_formed d n (Cut x k) h = (h.0, cut_formed d n k h.1)
+
+pub codes_formed : CodeIsWellFormed
+codes_formed d c h = let whole = code_formed d 0 no_date c (tt, tt) h in (whole, cut_formed d 0 (code_of c) whole)

@@ -1,0 +1,12 @@
+//! Code files.
+
+use crate::code::Code;
+use term_core::{Decls, Name};
+
+/// Code with the declarations that it stands on, and its name.
+#[derive(Drop)]
+pub struct CodeFile {
+    pub decls: Decls,
+    pub name: Name,
+    pub code: Code,
+}

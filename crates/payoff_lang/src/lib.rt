@@ -1,0 +1,10 @@
+//! Payoff code in the manner of Annenkov and Elsman (PPDP 2018): what it is, what it is worth and reads, when it is
+//! accepted, and what it is that code means a contract.
+#![tactic(auto)]
+
+mod code;
+mod code_file;
+pub mod laws;
+
+pub use code::{Code, DateExpr, Vx};
+pub use code_file::CodeFile;

@@ -1,0 +1,172 @@
+//! Contracts with shared parts of which some are replaced, as expressions are: what stays is handed on and not copied.
+
+ghost use Rattle.std.specs.Prelude.{◌≡◌, IfOk};
+ghost use Rattle.term_core.specs.Terms.{expression, Both, Scale, After, Let, Within};
+ghost use Rattle.term_core.specs.declared.terms.Days.TheVariants.{Num as Count};
+ghost use Rattle.term_core.specs.Shifts.{shifted};
+ghost use Rattle.term_core.specs.SharedTerms.{shared, HasOffsets, StoresOffsets};
+ghost use Rattle.rewriting.specs.Rebuilding.{after, IsLess};
+ghost use Rattle.rewriting.specs.RebuildingContracts.{after_in, IsLessIn, StoresNew};
+
+use decimal::NoMemory;
+use std::alloc::Global;
+use std::rc::Rc;
+use term_core::{Expr, SharedContr};
+
+/// What took the place of a part, or the part.
+pub fn kept_part(
+    part: &Rc<SharedContr>,
+    new: Option<Rc<SharedContr>>,
+) -> Result<Rc<SharedContr>, NoMemory>
+    ensures same { IfOk result (λ r. shared r.value ≡ after_in (shared part.now.value) new) }
+    ensures offsets { IfOk result (λ r. StoresOffsets part.now.value → StoresNew new → StoresOffsets r.value) }
+{
+    match new {
+        Some(new) => Ok(new),
+        None => Ok(part.clone()?),
+    }
+}
+
+/// What took the place of an expression of a node, or the expression.
+pub fn kept_expression(
+    alloc: Global,
+    part: &Rc<Expr>,
+    new: Option<Expr>,
+) -> Result<Rc<Expr>, NoMemory>
+    ensures { IfOk result (λ r. expression r.value ≡ after (expression part.now.value) new) }
+{
+    match new {
+        Some(new) => Ok(Rc::new(alloc, new)?),
+        None => Ok(part.clone()?),
+    }
+}
+
+/// Two contracts, once something may have taken the place of either.
+pub fn both_of(
+    alloc: Global,
+    s: &SharedContr,
+    left: &Rc<SharedContr>,
+    right: &Rc<SharedContr>,
+    one: Option<Rc<SharedContr>>,
+    two: Option<Rc<SharedContr>>,
+) -> Result<Option<Rc<SharedContr>>, NoMemory>
+    requires { shared s.now ≡ Both (shared left.now.value) (shared right.now.value) }
+    ensures same { IfOk result (λ r. after_in (shared s.now) r ≡ Both (after_in (shared left.now.value) one) (after_in (shared right.now.value) two)) }
+    ensures less { IfOk result (λ r. IsLessIn one (shared left.now.value) → IsLessIn two (shared right.now.value) → IsLessIn r (shared s.now)) }
+    ensures offsets { IfOk result (λ r. StoresOffsets left.now.value → StoresOffsets right.now.value → StoresNew one → StoresNew two → StoresNew r) }
+{
+    if one.is_none() && two.is_none() {
+        return Ok(None);
+    }
+    let left = kept_part(left, one)?;
+    let right = kept_part(right, two)?;
+    Ok(Some(Rc::new(alloc, SharedContr::Both { left, right })?))
+}
+
+/// A contract with a factor, once something may have taken the place of either.
+#[tactic(auto, using(crate::proofs::ShiftedSizes::shifted_size))]
+pub fn scale_of(
+    alloc: Global,
+    s: &SharedContr,
+    factor: &Rc<Expr>,
+    moved: i32,
+    body: &Rc<SharedContr>,
+    one: Option<Expr>,
+    two: Option<Rc<SharedContr>>,
+) -> Result<Option<Rc<SharedContr>>, NoMemory>
+    requires { shared s.now ≡ Scale (shifted moved (expression factor.now.value)) (shared body.now.value) }
+    ensures same { IfOk result (λ r. after_in (shared s.now) r ≡ Scale (shifted moved (after (expression factor.now.value) one)) (after_in (shared body.now.value) two)) }
+    ensures less { IfOk result (λ r. IsLess one (expression factor.now.value) → IsLessIn two (shared body.now.value) → IsLessIn r (shared s.now)) }
+    ensures offsets { IfOk result (λ r. HasOffsets (after (expression factor.now.value) one) → StoresOffsets body.now.value → StoresNew two → StoresNew r) }
+{
+    if one.is_none() && two.is_none() {
+        return Ok(None);
+    }
+    let factor = kept_expression(alloc, factor, one)?;
+    let body = kept_part(body, two)?;
+    Ok(Some(Rc::new(
+        alloc,
+        SharedContr::Scale {
+            factor,
+            moved,
+            body,
+        },
+    )?))
+}
+
+/// A contract that waits, once something may have taken its place.
+pub fn after_of(
+    alloc: Global,
+    s: &SharedContr,
+    days: u32,
+    body: &Rc<SharedContr>,
+    new: Option<Rc<SharedContr>>,
+) -> Result<Option<Rc<SharedContr>>, NoMemory>
+    requires { shared s.now ≡ After (Count days) (shared body.now.value) }
+    ensures same { IfOk result (λ r. after_in (shared s.now) r ≡ After (Count days) (after_in (shared body.now.value) new)) }
+    ensures less { IfOk result (λ r. IsLessIn new (shared body.now.value) → IsLessIn r (shared s.now)) }
+    ensures offsets { IfOk result (λ r. StoresNew new → StoresNew r) }
+{
+    match new {
+        Some(body) => Ok(Some(Rc::new(alloc, SharedContr::After { days, body })?)),
+        None => Ok(None),
+    }
+}
+
+/// A contract with a name for an expression, once something may have taken the place of either.
+#[tactic(auto, using(crate::proofs::ShiftedSizes::shifted_size))]
+pub fn let_of(
+    alloc: Global,
+    s: &SharedContr,
+    bound: &Rc<Expr>,
+    moved: i32,
+    body: &Rc<SharedContr>,
+    one: Option<Expr>,
+    two: Option<Rc<SharedContr>>,
+) -> Result<Option<Rc<SharedContr>>, NoMemory>
+    requires { shared s.now ≡ Let (shifted moved (expression bound.now.value)) (shared body.now.value) }
+    ensures same { IfOk result (λ r. after_in (shared s.now) r ≡ Let (shifted moved (after (expression bound.now.value) one)) (after_in (shared body.now.value) two)) }
+    ensures less { IfOk result (λ r. IsLess one (expression bound.now.value) → IsLessIn two (shared body.now.value) → IsLessIn r (shared s.now)) }
+    ensures offsets { IfOk result (λ r. HasOffsets (after (expression bound.now.value) one) → StoresOffsets body.now.value → StoresNew two → StoresNew r) }
+{
+    if one.is_none() && two.is_none() {
+        return Ok(None);
+    }
+    let bound = kept_expression(alloc, bound, one)?;
+    let body = kept_part(body, two)?;
+    Ok(Some(Rc::new(alloc, SharedContr::Let { bound, moved, body })?))
+}
+
+/// A contract that waits for a test, once something may have taken the place of each of its parts.
+pub fn within_of(
+    alloc: Global,
+    s: &SharedContr,
+    test: &Rc<Expr>,
+    days: u32,
+    hit: &Rc<SharedContr>,
+    miss: &Rc<SharedContr>,
+    one: Option<Expr>,
+    two: Option<Rc<SharedContr>>,
+    three: Option<Rc<SharedContr>>,
+) -> Result<Option<Rc<SharedContr>>, NoMemory>
+    requires { shared s.now ≡ Within (expression test.now.value) (Count days) (shared hit.now.value) (shared miss.now.value) }
+    ensures same { IfOk result (λ r. after_in (shared s.now) r ≡ Within (after (expression test.now.value) one) (Count days) (after_in (shared hit.now.value) two) (after_in (shared miss.now.value) three)) }
+    ensures less { IfOk result (λ r. IsLess one (expression test.now.value) → IsLessIn two (shared hit.now.value) → IsLessIn three (shared miss.now.value) → IsLessIn r (shared s.now)) }
+    ensures offsets { IfOk result (λ r. HasOffsets (after (expression test.now.value) one) → StoresOffsets hit.now.value → StoresOffsets miss.now.value → StoresNew two → StoresNew three → StoresNew r) }
+{
+    if one.is_none() && two.is_none() && three.is_none() {
+        return Ok(None);
+    }
+    let test = kept_expression(alloc, test, one)?;
+    let hit = kept_part(hit, two)?;
+    let miss = kept_part(miss, three)?;
+    Ok(Some(Rc::new(
+        alloc,
+        SharedContr::Within {
+            test,
+            days,
+            hit,
+            miss,
+        },
+    )?))
+}

@@ -1,0 +1,8 @@
+mod AcceptedFacts
+mod ReadFacts
+mod FixingFacts
+mod DaySums
+mod OverDays
+mod ContractFacts
+mod GatheringFacts
+mod LineFacts

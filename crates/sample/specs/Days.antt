@@ -1,0 +1,31 @@
+-- What is paid over all days: a function of who pays whom in what, as if it were paid on each day alike, so that its flow
+-- table of one day is the table of what is paid over all.
+use Rattle.std.specs.Prelude.{ℕ, zero, suc, ℤ, pos, ◌+ℤ◌, List}
+use Rattle.term_core.specs.Flows.{Flow}
+use Rattle.flow_eval.specs.Payments.{payment_on}
+use Rattle.flow_eval.specs.Tables.{IsTable}
+use Rattle.flow_eval.specs.declared.flow_table.FlowRow.{FlowRow}
+use Rattle.flow_eval.specs.declared.payments.Payment.{Payment}
+use Rattle.report.specs.SumTables.{IsMutual}
+
+-- the sum of the first n numbers
+unfoldable pub sum_before : ℕ → (ℕ → ℤ) → ℤ
+sum_before zero f = pos 0
+sum_before (suc n) f = sum_before n f +ℤ f n
+
+-- the last day on which something can be paid
+abbrev pub last_day : ℕ
+last_day = 1_100_000
+
+-- what is paid from day 0 to the last
+abbrev pub over_days : (ℤ → Flow → ℤ) → ℤ → Flow → ℤ
+over_days pays day w = sum_before (suc last_day) (λ i. pays (pos i) w)
+
+-- what a row says, on day 0
+abbrev pub undated : FlowRow → Payment
+undated row = payment_on (pos 0) (record { asset = row.asset; from = row.from; to = row.to }) row.amount
+
+-- the rows are what others come to over all days, whatever those are the table of
+abbrev pub IsOverDays : List FlowRow → List FlowRow → Type 0
+IsOverDays rows sums =
+    (pays : ℤ → Flow → ℤ) → IsMutual pays → IsTable pays (pos 0) (pos last_day) rows → IsTable (over_days pays) (pos 0) (pos 0) sums

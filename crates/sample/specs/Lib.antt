@@ -1,0 +1,4 @@
+pub mod Sample
+pub mod Days
+pub mod Summary
+pub mod Gathering

@@ -1,0 +1,60 @@
+//! The simplifier: turns, until one changes nothing.
+
+ghost use Rattle.std.specs.Prelude.{◌≡◌, ◌≤◌, IfOk};
+ghost use Rattle.term_core.specs.Declarations.{declarations};
+ghost use Rattle.term_core.specs.Terms.{contract};
+ghost use Rattle.term_core.specs.Acceptance.{IsAccepted};
+ghost use Rattle.term_core.specs.SharedTerms.{shared, StoresOffsets};
+ghost use Rattle.term_core.specs.Sizes.{height_of_contract};
+ghost use Rattle.term_core.specs.WellFormed.{IsClosed, HasOnlyNumbers};
+ghost use Rattle.simplify.specs.Simplified.{PaysTheSame, ReadsNoMore, HasNoPlainRedex, IsNoLarger, HasLiteralsIn};
+
+use crate::contracts::turn_in;
+use crate::names::Names;
+use decimal::NoMemory;
+use std::alloc::Global;
+use std::rc::Rc;
+use term_core::{Contr, Decls, SharedContr, share, unshare};
+
+/// The contract without redexes that ask for no frame: it pays the same on every frame, reads no more and is accepted.
+/// Parts that stay are shared with the contract. After the simplification of contracts by Bahr, Berthold and Elsman.
+pub fn simplify_shared(
+    alloc: Global,
+    decls: &Decls,
+    s: &Rc<SharedContr>,
+) -> Result<Rc<SharedContr>, NoMemory>
+    requires accepted { IsAccepted (declarations decls.now) (shared s.now.value) }
+    requires offsets { StoresOffsets s.now.value }
+    ensures accepted { IfOk result (λ r. IsAccepted (declarations decls.now) (shared r.value)) }
+    ensures offsets { IfOk result (λ r. StoresOffsets r.value) }
+    ensures flows { IfOk result (λ r. PaysTheSame (declarations decls.now) (shared r.value) (shared s.now.value)) }
+    ensures reads { IfOk result (λ r. ReadsNoMore (declarations decls.now) (shared r.value) (shared s.now.value)) }
+    ensures none { IfOk result (λ r. HasNoPlainRedex (declarations decls.now) (shared r.value)) }
+    ensures smaller { IfOk result (λ r. IsNoLarger (shared r.value) (shared s.now.value)) }
+    ensures closed { IfOk result (λ r. IsClosed (declarations decls.now) (shared s.now.value) → IsClosed (declarations decls.now) (shared r.value)) }
+    ensures literals { IfOk result (λ r. HasLiteralsIn (shared r.value)) }
+{
+    match turn_in(alloc, decls, s, &Names::Empty)? {
+        Some(next) => simplify_shared(alloc, decls, &next),
+        None => Ok(s.clone()?),
+    }
+}
+
+/// The contract without redexes that ask for no frame, as `simplify_shared` has it.
+pub fn simplify(alloc: Global, decls: &Decls, c: &Contr) -> Result<Contr, NoMemory>
+    requires accepted { IsAccepted (declarations decls.now) (contract c.now) }
+    requires closed { IsClosed (declarations decls.now) (contract c.now) }
+    requires numbers { HasOnlyNumbers (contract c.now) }
+    ensures accepted { IfOk result (λ r. IsAccepted (declarations decls.now) (contract r)) }
+    ensures closed { IfOk result (λ r. IsClosed (declarations decls.now) (contract r)) }
+    ensures numbers { IfOk result (λ r. HasOnlyNumbers (contract r)) }
+    ensures flows { IfOk result (λ r. PaysTheSame (declarations decls.now) (contract r) (contract c.now)) }
+    ensures reads { IfOk result (λ r. ReadsNoMore (declarations decls.now) (contract r) (contract c.now)) }
+    ensures none { IfOk result (λ r. HasNoPlainRedex (declarations decls.now) (contract r)) }
+    ensures smaller { IfOk result (λ r. IsNoLarger (contract r) (contract c.now)) }
+    ensures literals { IfOk result (λ r. HasLiteralsIn (contract r)) }
+{
+    let s = share(alloc, c)?;
+    let simple = simplify_shared(alloc, decls, &s)?;
+    unshare(alloc, &simple)
+}

@@ -1,0 +1,70 @@
+-- What the specialiser promises of what it makes of a term.
+use Rattle.std.specs.Prelude.{ℕ, ℤ, pos, ◌<◌, ◌≤◌, ◌^◌, ◌≡◌, ◌⊎◌, unsigned_abs, List, [], Option, Some, None}
+use Rattle.term_core.specs.Declarations.{Declarations}
+use Rattle.term_core.specs.declared.values.Kind.{Kind}
+use Rattle.term_core.specs.Terms.{Expression}
+use Rattle.term_core.specs.Terms.{Contract}
+use Rattle.term_core.specs.Environments.{Environment, Place}
+use Rattle.term_core.specs.Kinds.{kind_of}
+use Rattle.term_core.specs.Values.{Entry, value_of}
+use Rattle.term_core.specs.Flows.{Flow, amount_of}
+use Rattle.term_core.specs.Reads.{reads_of, reads_of_contract}
+use Rattle.term_core.specs.Redexes.{Redex, HasNone}
+use Rattle.rewriting.specs.Measures.{size, size_in}
+use Rattle.rewriting.specs.Reduced.{NoneIn, IsNone}
+use Rattle.specialise.specs.declared.frames.Frame.{Frame}
+use Rattle.specialise.specs.declared.frames.Frame.TheVariants.{Day, Unknown}
+use Rattle.specialise.specs.LawsSpecial.{IsOn, MayCome, AreAmong, NamesReadLess}
+use Rattle.specialise.specs.LawsSpecialContracts.{IsToldKind}
+
+-- the day of a frame that is known
+abbrev pub day_of : Frame → Option ℤ
+day_of (Day f) = Some f
+day_of Unknown = None
+
+-- such a day is from -10^11 to 10^11
+abbrev pub IsNear : Frame → Type 0
+IsNear (Day f) = unsigned_abs f ≤ 10 ^ 11
+IsNear Unknown = Unit {0}
+
+-- an expression r has the kind of e, and so its scale
+abbrev pub HasItsKind : Declarations → Expression → Expression → Type 0
+HasItsKind d r e = (ks : List Kind) → kind_of d r ks ≡ kind_of d e ks
+
+-- and its value, for all values of the names round it, in every admitted environment that extends the fixings; on the day
+-- of the frame, or on every day where that is not known
+abbrev pub HasItsValue : Declarations → Environment → Option ℤ → Expression → Expression → Type 0
+HasItsValue d fixings frame r e =
+    (g : List Entry) (env : Environment) (f : ℤ) → MayCome d fixings env → IsOn frame f → value_of d r g env f ≡ value_of d e g env f
+
+-- there it reads only what e reads
+abbrev pub ReadsNoMore : Declarations → Environment → Option ℤ → Expression → Expression → Type 0
+ReadsNoMore d fixings frame r e =
+    (g : List Entry) (bs cs : List (List Place)) (env : Environment) (f : ℤ) → MayCome d fixings env → IsOn frame f → NamesReadLess bs cs
+    → AreAmong (reads_of d r g bs env f) (reads_of d e g cs env f)
+
+-- no observable that is fixed and no accumulator that is known stands in it
+abbrev pub HasNoTold : Declarations → Environment → Option ℤ → Expression → Type 0
+HasNoTold d fixings frame r = (kind : Redex) → IsToldKind kind → NoneIn (IsNone d fixings kind) frame r
+
+-- it is e, or has fewer nodes and observables together
+abbrev pub IsNoLarger : Expression → Expression → Type 0
+IsNoLarger r e = (r ≡ e) ⊎ (size r < size e)
+
+-- a contract r pays what c pays on a frame, in every admitted environment that extends the fixings
+abbrev pub PaysTheSameOn : Declarations → Environment → ℤ → Contract → Contract → Type 0
+PaysTheSameOn d fixings f r c = (env : Environment) (n : ℤ) (w : Flow) → MayCome d fixings env → amount_of d r env f n w ≡ amount_of d c env f n w
+
+-- there it reads only what c reads, for each number of days
+abbrev pub ReadsNoMoreOn : Declarations → Environment → ℤ → Contract → Contract → Type 0
+ReadsNoMoreOn d fixings f r c =
+    (env : Environment) (b : ℕ) → MayCome d fixings env
+    → AreAmong (reads_of_contract d r [] [] env f (pos 0) (pos b)) (reads_of_contract d c [] [] env f (pos 0) (pos b))
+
+-- no observable that is fixed and no accumulator that is known stands in it
+abbrev pub HasNoToldIn : Declarations → Environment → ℤ → Contract → Type 0
+HasNoToldIn d fixings f r = (kind : Redex) → IsToldKind kind → HasNone d fixings (Some f) kind r
+
+-- it is c, or has fewer nodes and observables together
+abbrev pub IsNoLargerIn : Contract → Contract → Type 0
+IsNoLargerIn r c = (r ≡ c) ⊎ (size_in r < size_in c)
