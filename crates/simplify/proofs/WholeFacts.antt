@@ -31,7 +31,8 @@ use Rattle.specialise.proofs.SpecialRules.{round_rules}
 use Rattle.simplify.specs.Turning.{is_plain_redex, HasNoPlain}
 use Rattle.simplify.specs.TurningContracts.{turned_in, HasNoPlainIn, IsTurnIn}
 use Rattle.simplify.specs.TurnableContracts.{CanTurnIn}
-use Rattle.simplify.specs.Simplified.{PaysTheSame, ReadsNoMore, HasNoPlainRedex, IsNoLarger, HasLiterals, HasLiteralsIn}
+use Rattle.specialise.specs.Literals.{HasLiterals, HasLiteralsIn}
+use Rattle.simplify.specs.Simplified.{PaysTheSame, ReadsNoMore, HasNoPlainRedex, IsNoLarger}
 use Rattle.simplify.proofs.ContractRuleStands.{root_in}
 use Rattle.simplify.proofs.ContractTurns.{contract_turns_end}
 use Rattle.simplify.proofs.ContractTurnReads.{contract_turn_reads}

@@ -9,4 +9,4 @@ mod names;
 mod turns;
 mod whole;
 
-pub use whole::{simplify, simplify_shared};
+pub use whole::{simplify, simplify_shared, turn_shared};

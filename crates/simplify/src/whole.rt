@@ -1,13 +1,16 @@
 //! The simplifier: turns, until one changes nothing.
 
-ghost use Rattle.std.specs.Prelude.{◌≡◌, ◌≤◌, IfOk};
+ghost use Rattle.std.specs.Prelude.{◌≡◌, ◌≤◌, [], IfOk};
 ghost use Rattle.term_core.specs.Declarations.{declarations};
 ghost use Rattle.term_core.specs.Terms.{contract};
 ghost use Rattle.term_core.specs.Acceptance.{IsAccepted};
 ghost use Rattle.term_core.specs.SharedTerms.{shared, StoresOffsets};
 ghost use Rattle.term_core.specs.Sizes.{height_of_contract};
 ghost use Rattle.term_core.specs.WellFormed.{IsClosed, HasOnlyNumbers};
-ghost use Rattle.simplify.specs.Simplified.{PaysTheSame, ReadsNoMore, HasNoPlainRedex, IsNoLarger, HasLiteralsIn};
+ghost use Rattle.rewriting.specs.RebuildingContracts.{after_in, IsLessIn, StoresNew};
+ghost use Rattle.specialise.specs.Literals.{HasLiteralsIn};
+ghost use Rattle.simplify.specs.Simplified.{PaysTheSame, ReadsNoMore, HasNoPlainRedex, IsNoLarger};
+ghost use Rattle.simplify.specs.TurningContracts.{turned_in};
 
 use crate::contracts::turn_in;
 use crate::names::Names;
@@ -15,6 +18,22 @@ use decimal::NoMemory;
 use std::alloc::Global;
 use std::rc::Rc;
 use term_core::{Contr, Decls, SharedContr, share, unshare};
+
+/// One turn of the simplifier: what takes the contract's place, which is smaller, or nothing where no redex is left that asks
+/// for no frame.
+pub fn turn_shared(
+    alloc: Global,
+    decls: &Decls,
+    s: &Rc<SharedContr>,
+) -> Result<Option<Rc<SharedContr>>, NoMemory>
+    requires accepted { IsAccepted (declarations decls.now) (shared s.now.value) }
+    requires offsets { StoresOffsets s.now.value }
+    ensures same { IfOk result (λ r. after_in (shared s.now.value) r ≡ turned_in (declarations decls.now) [] (shared s.now.value)) }
+    ensures less { IfOk result (λ r. IsLessIn r (shared s.now.value)) }
+    ensures offsets { IfOk result (λ r. StoresNew r) }
+{
+    turn_in(alloc, decls, s, &Names::Empty)
+}
 
 /// The contract without redexes that ask for no frame: it pays the same on every frame, reads no more and is accepted.
 /// Parts that stay are shared with the contract. After the simplification of contracts by Bahr, Berthold and Elsman.

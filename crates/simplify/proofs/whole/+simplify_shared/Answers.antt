@@ -6,7 +6,8 @@ use Rattle.term_core.specs.Terms.{Contract}
 use Rattle.rewriting.specs.Measures.{size_in}
 use Rattle.simplify.specs.TurningContracts.{turned_in, HasNoPlainIn}
 use Rattle.simplify.specs.TurnableContracts.{CanTurnIn}
-use Rattle.simplify.specs.Simplified.{HasNoPlainRedex, HasLiteralsIn}
+use Rattle.specialise.specs.Literals.{HasLiteralsIn}
+use Rattle.simplify.specs.Simplified.{HasNoPlainRedex}
 use Rattle.simplify.proofs.WholeFacts.{accepted_turns, accepted_through, next_is, next_less, next_stores, still_is, pays_then, reads_then, closed_then, nothing_plain, nothing_left, literals_fit}
 use Rattle.simplify.proofs.whole.+simplify_shared.Goals as goal
 

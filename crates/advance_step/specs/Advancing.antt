@@ -1,0 +1,41 @@
+-- What advancing an accepted contract over some days answers: what it pays on the days gone by, and what is left of it,
+-- reduced; or the first place that it reads on these days and that is not fixed.
+use Rattle.std.specs.Prelude.{◌≡◌, ◌<◌, ℕ, ℤ, pos, ◌+ℤ◌, ◌-ℤ◌, Some, Result, Ok, Err}
+use Rattle.term_core.specs.Declarations.{Declarations}
+use Rattle.term_core.specs.Terms.{Contract, Zero, contract}
+use Rattle.term_core.specs.Environments.{Environment}
+use Rattle.term_core.specs.Acceptance.{IsAccepted}
+use Rattle.term_core.specs.Reads.{first_unfixed}
+use Rattle.term_core.specs.Redexes.{IsReduced}
+use Rattle.term_core.specs.Residuals.{Carries}
+use Rattle.term_core.specs.Sizes.{reach}
+use Rattle.term_core.specs.WellFormed.{HasOnlyNumbers, IsClosed}
+use Rattle.flow_eval.specs.FlowAnswers.{AreKnownFlows, reads_until}
+use Rattle.flow_eval.specs.declared.faults.FlowErr.{FlowErr}
+use Rattle.flow_eval.specs.declared.faults.FlowErr.TheVariants.{Missing, NoMemory}
+use Rattle.specialise.specs.Literals.{HasLiteralsIn}
+use Rattle.advance_step.specs.declared.advance.Advanced.{Advanced}
+
+-- the day before the one that is so many days after the first
+abbrev pub day_before : ℤ → ℕ → ℤ
+day_before first days = (first +ℤ pos days) -ℤ pos 1
+
+-- a contract that is left of one which stands on the first day, so many days later: it is accepted, pays on each later day
+-- what the other pays, in each environment that extends the fixings, and has no redex; past the reach it is nothing. And
+-- what printing asks of it.
+pub record IsResidual (d : Declarations) (fixings : Environment) (first : ℤ) (days : ℕ) (c rest : Contract) : Type 0 where
+  pub accepted : IsAccepted d rest
+  pub carries : Carries d c first fixings days rest
+  pub reduced : IsReduced d rest fixings (first +ℤ pos days)
+  pub gone : reach c < days → rest ≡ Zero
+  pub closed : IsClosed d rest
+  pub numbers : HasOnlyNumbers rest
+  pub literals : HasLiteralsIn rest
+
+-- an answer is what is due before the new day and what is left, or the first read that it lacks
+abbrev pub Advances : Declarations → Contract → Environment → ℤ → ℕ → Result Advanced FlowErr → Type 0
+Advances d c fixings first days (Ok answer) =
+    AreKnownFlows d c fixings first (day_before first days) answer.due.rows.items × IsResidual d fixings first days c (contract answer.rest)
+Advances d c fixings first days (Err (Missing label day)) =
+    first_unfixed fixings (reads_until d c fixings first (day_before first days)) ≡ Some (record { label = label; day = day })
+Advances d c fixings first days (Err NoMemory) = Unit {0}

