@@ -12,6 +12,7 @@ pub mod PaymentSums
 pub mod PaymentSizes
 pub mod WalkFacts
 pub mod ReadyFacts
+pub mod MovedFacts
 pub mod GatherFacts
 pub mod StepFacts
 pub mod NetTables

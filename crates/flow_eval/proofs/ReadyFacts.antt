@@ -14,13 +14,14 @@ use Rattle.term_core.specs.Values.{Entry, kinds, kind_or, num, value_of}
 use Rattle.term_core.specs.LawsKinds.{IsOfKind}
 use Rattle.term_core.specs.declared.values.Kind.TheVariants.{Truth as TruthKind, Number}
 use Rattle.term_core.specs.Reads.{first_unfixed, reads_of}
+use Rattle.term_core.specs.Shifts.{shifted}
+use Rattle.term_core.proofs.ShiftedFacts.{shifted_zero}
 use Rattle.term_core.specs.Bounds.{Interval, Range}
 use Rattle.interval_check.specs.Nodes.{range_of}
 use Rattle.interval_check.specs.Parts.{IsPart, IsPartHere}
 use Rattle.interval_check.specs.Within.{AreWithin, IsIn, IsWithin, OnNumber}
 use Rattle.interval_check.specs.Sums.{entry_of}
 use Rattle.interval_check.proofs.GuaranteeFacts.{bindings_lie_within}
-use Rattle.expr_eval.proofs.PartFacts.{as_it_is}
 use Rattle.expr_eval.specs.declared.scratch.Held.{Held}
 use Rattle.expr_eval.specs.declared.scratch.Held.TheVariants.{Known, Lacking}
 use Rattle.expr_eval.specs.declared.scratch.Binding.{Binding}
@@ -157,10 +158,14 @@ suit_all F [] [] [] (ps ∷ bs) within stand = absurd stand
 suit_all F (r ∷ rs) [] (e ∷ g) bs within stand = absurd stand
 suit_all F (r ∷ rs) (b ∷ es) (e ∷ g) [] within stand = absurd stand
 
--- it may be evaluated
+-- an expression that is read k days later than it is stored may be evaluated as it is stored
+pub may_evaluate_stored : (d : Declarations) (k : ℤ) (e : Expression) (r : Room) (F : Environment) → CanAnswer d (shifted k e) r F → MayEvaluate d e r.entries
+may_evaluate_stored d k e r F h =
+    record { contract = h.whole; moved = k; ranges = h.ranges; accepted = h.accepted; stands = h.inside; entries = inl (suit_all F h.ranges r.entries h.values h.places h.within h.stand) }
+
+-- and so one that is read as it is
 pub may_evaluate : (d : Declarations) (e : Expression) (r : Room) (F : Environment) → CanAnswer d e r F → MayEvaluate d e r.entries
-may_evaluate d e r F h =
-    record { contract = h.whole; moved = pos 0; ranges = h.ranges; accepted = h.accepted; stands = as_it_is d e h.ranges h.whole h.inside; entries = inl (suit_all F h.ranges r.entries h.values h.places h.within h.stand) }
+may_evaluate d e r F h = may_evaluate_stored d (pos 0) e r F (subst (λ (x : Expression). CanAnswer d x r F) (sym (shifted_zero e)) h)
 
 -- ---- the body of a factor
 
@@ -239,6 +244,17 @@ ready_let d e c room r r' F f k a x h known is held entered spare = record {
 
 pub room_left : (d : Declarations) (e : Expression) (c : Contract) (room : ℕ) (r : Room) (F : Environment) → CanWalk d (Let e c) room r F → 1 ≤ r.spare
 room_left d e c room r F h = let l = h.low in omega arith
+
+-- ---- the scratch, as it was and with one entry more
+
+pub stand_in : (F : Environment) (r r' : Room) (g : List Entry) (bs : List (List Place)) → r' ≡ r → StandFor F r.entries g bs → StandFor F r'.entries g bs
+stand_in F r r' g bs e h = subst (λ (x : Room). StandFor F x.entries g bs) (sym e) h
+
+pub entered_in : (r r' r'' : Room) (b : Binding) → r' ≡ r → r''.entries ≡ b ∷ r'.entries → r''.entries ≡ b ∷ r.entries
+entered_in r r' r'' b e h = h ∙ ap (λ (x : Room). b ∷ x.entries) e
+
+pub spared_in : (r r' r'' : Room) → r' ≡ r → r''.spare + 1 ≡ r'.spare → r''.spare + 1 ≡ r.spare
+spared_in r r' r'' e h = h ∙ ap (λ (x : Room). x.spare) e
 
 -- ---- days
 

@@ -1,5 +1,6 @@
 -- An accepted contract can be walked, and its payments are few and small.
-use Rattle.std.proofs.Common.{◌≡◌, ℕ, ℤ, pos, ◌-ℤ◌, ◌≤ℤ◌, ◌≤◌, ◌<◌, ◌^◌, List, [], length, Option, Some, None, Ok, Err, IsTrue, refl, ap, sym, ◌∙◌, subst, arith, unsigned_abs}
+use Rattle.std.proofs.Common.{◌≡◌, ℕ, ℤ, pos, ◌-ℤ◌, ◌≤ℤ◌, ◌≤◌, ◌<◌, ◌^◌, List, [], length, Option, Some, None, Result, Ok, Err, IsTrue, refl, ap, sym, ◌∙◌, subst, arith, unsigned_abs}
+use Rattle.std.specs.Global.{Vec}
 use Rattle.std.specs.List.Sorted.{IsPermutation}
 use Rattle.std.proofs.lemmas.Int.{ints}
 use Rattle.std.proofs.lemmas.Bool.Decides.{nat_tests}
@@ -8,6 +9,7 @@ use Rattle.std.proofs.lemmas.List.Sorted.{All-permutation}
 use Rattle.term_core.specs.Declarations.{Declarations}
 use Rattle.term_core.specs.Terms.{Contract}
 use Rattle.term_core.specs.Environments.{Environment, IsAdmitted, Place}
+use Rattle.term_core.specs.Values.{Entry}
 use Rattle.term_core.specs.Flows.{scale_of_contract}
 use Rattle.term_core.specs.Reads.{first_unfixed}
 use Rattle.term_core.specs.Bounds.{greatest_total}
@@ -59,6 +61,12 @@ low_enough d c h =
     let low = l.low in
     omega arith
 
+pub room_for : (d : Declarations) (c : Contract) (n : ℕ) → IsAccepted d c → 200 ≤ n → height_of_contract c ≤ n
+room_for d c n h le =
+    let l = limits_of d c h in
+    let low = l.low in
+    omega arith
+
 pub whole_fits : (d : Declarations) (c : Contract) (F : Environment) → KeepsLimits d → IsAccepted d c → IsAdmitted d F → scale_of_contract d c [] ≤ d.amounts
 whole_fits d c F limits accepted admitted = (accepted_are_safe d c F (pos 0) limits accepted admitted).0.scale
 
@@ -91,12 +99,20 @@ whole_days d c f accepted first last =
 
 -- ---- what is gathered
 
-pub not_gathered : (w : PaymentsOrMissing) (xs ys : List Payment) (r : Done) (e : FlowErr) → Gathers w xs ys r → r ≡ Err e → IsGathered w (Err e)
+not_gathered : (w : PaymentsOrMissing) (xs ys : List Payment) (r : Done) (e : FlowErr) → Gathers w xs ys r → r ≡ Err e → IsGathered w (Err e)
 not_gathered w xs ys r e h is = by_fault w xs ys e (subst (λ (x : Done). Gathers w xs ys x) is h)
   where
     by_fault : (w : PaymentsOrMissing) (xs ys : List Payment) (e : FlowErr) → Gathers w xs ys (Err e) → IsGathered w (Err e)
     by_fault w xs ys NoMemory h = tt
     by_fault w xs ys (Missing l t) h = h
+
+-- a walk of a whole contract that notes no payments to the end, from a day that is another name of the first
+pub whole_not_gathered : (d : Declarations) (c : Contract) (F : Environment) (f g last : ℤ) (es : List Binding) (xs ys : List Payment) (r : Done) (res : Result (Vec Payment) FlowErr) (e : FlowErr) → es ≡ [] → f ≡ g → r ≡ Err e → res ≡ Err e
+    → ((vs : List Entry) (bs : List (List Place)) → StandFor F es vs bs → Gathers (walk_of d d.amounts c vs bs F f last) xs ys r) → IsGathered (walk_of d d.amounts c [] [] F g last) res
+whole_not_gathered d c F f g last es xs ys r res e none same is err h =
+    let stand : StandFor F es [] [] = subst (λ (bs : List Binding). StandFor F bs [] []) (sym none) tt in
+    let gathered = subst (λ (t : ℤ). Gathers (walk_of d d.amounts c [] [] F t last) xs ys r) same (h [] [] stand) in
+    subst (λ (x : Result (Vec Payment) FlowErr). IsGathered (walk_of d d.amounts c [] [] F g last) x) (sym err) (not_gathered (walk_of d d.amounts c [] [] F g last) xs ys r e gathered is)
 
 -- the days as they are passed
 pub same_walk : (d : Declarations) (room : ℕ) (c : Contract) (F : Environment) (f g last until : ℤ) → f ≡ g → last ≡ until → walk_of d room c [] [] F f last ≡ walk_of d room c [] [] F g until

@@ -6,6 +6,8 @@ mod flow_table;
 mod laws;
 mod netting;
 mod payments;
+mod shared_tables;
+mod shared_walk;
 mod tables;
 mod walk;
 
@@ -14,4 +16,5 @@ pub use flow_table::{FlowRow, FlowTable, Slot};
 pub use laws::{one_answer, one_table};
 pub use netting::netted;
 pub use payments::{Payment, Transfer, payment_on};
+pub use shared_tables::flows_shared;
 pub use tables::{flows, flows_on};

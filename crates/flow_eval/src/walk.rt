@@ -38,8 +38,8 @@ pub struct Standing {
 }
 
 impl Standing {
-    // The same some days later.
-    fn after(self, days: u32) -> Standing
+    /// The same some days later.
+    pub fn after(self, days: u32) -> Standing
         requires { IsAmongDays self.day days }
         ensures { result ≡ record self { day = self.day +ℤ pos days } }
     {
@@ -49,8 +49,8 @@ impl Standing {
         }
     }
 
-    // The same inside a factor of so many decimals.
-    fn within(self, scale: u8) -> Standing
+    /// The same inside a factor of so many decimals.
+    pub fn within(self, scale: u8) -> Standing
         requires { scale ≤ self.decimals }
         ensures { result ≡ record self { decimals = self.decimals - scale } }
     {
@@ -84,8 +84,8 @@ fn value_at(
     eval(course.decls, e, scratch, course.fixings, here.day)
 }
 
-// The last day that counts has passed.
-fn is_over(course: &Course, here: Standing) -> bool
+/// The last day that counts has passed.
+pub fn is_over(course: &Course, here: Standing) -> bool
     ensures { result ≡ int_lt course.now.until here.day }
 {
     course.until < here.day
@@ -104,8 +104,8 @@ fn days_tried(course: &Course, here: Standing, days: u32) -> u32
     }
 }
 
-// The days until a test first holds, of so many and up to the last day that counts.
-fn first_day(
+/// The days until a test first holds, of so many and up to the last day that counts.
+pub fn first_day(
     course: &Course,
     test: &Expr,
     scratch: &mut Scratch,

@@ -20,22 +20,12 @@ use Rattle.flow_eval.specs.Readiness.{CanAnswer}
 use Rattle.flow_eval.specs.Faults.{lacks_place}
 use Rattle.flow_eval.proofs.GatherFacts.{over_notes, walk_over}
 use Rattle.flow_eval.proofs.StepFacts.{body_missing, body_ready, body_walk, factor_known, factor_lacks, first_within, none_to_scale, both_noted, hit_noted, hit_ready, miss_noted, miss_ready, not_over, noted_small, scale_fits, test_missing}
-use Rattle.flow_eval.proofs.ReadyFacts.{entered_stands, ready_bound, ready_factor, ready_let, ready_test}
+use Rattle.flow_eval.proofs.ReadyFacts.{entered_in, entered_stands, ready_bound, ready_factor, ready_let, ready_test, spared_in, stand_in}
 use Rattle.flow_eval.proofs.walk.+gathering.Goals as goal
 
 pub gather-returns-then-is_over-clause-answer : goal.gather-returns-then-is_over-clause-answer
 gather-returns-then-is_over-clause-answer t c = λ g bs stand.
     over_notes c.args.out.now.items _ (walk_over (declarations c.args.course.now.decls.now) c.args.course.now.fixings.now c.args.course.now.until (contract c.args.c.now) g bs c.args.here.decimals c.args.here.day (sym c.is_over.ensures ∙ c.if-is_over.true))
-
--- what the entries stand for, where the scratch is as it was
-stand_in : (F : Environment) (r r' : Room) (g : List Entry) (bs : List (List Place)) → r' ≡ r → StandFor F r.entries g bs → StandFor F r'.entries g bs
-stand_in F r r' g bs e h = subst (λ (x : Room). StandFor F x.entries g bs) (sym e) h
-
-entered_in : (r r' r'' : Room) (b : Binding) → r' ≡ r → r''.entries ≡ b ∷ r'.entries → r''.entries ≡ b ∷ r.entries
-entered_in r r' r'' b e h = h ∙ ap (λ (x : Room). b ∷ x.entries) e
-
-spared_in : (r r' r'' : Room) → r' ≡ r → r''.spare + 1 ≡ r'.spare → r''.spare + 1 ≡ r.spare
-spared_in r r' r'' e h = h ∙ ap (λ (x : Room). x.spare) e
 
 pub gather_within-gather-requires : goal.gather_within-gather-requires
 gather_within-gather-requires t c = (
