@@ -1,4 +1,4 @@
-use Rattle.std.proofs.Common.{◌≡◌, ◌∙◌, ◌+◌, ◌-◌, ◌++◌, ℕ, List, ap, sym, drop, get_or, length, pos, subst, take, ◌∷◌}
+use Rattle.std.proofs.Common.{◌∙◌, ◌+◌, ◌-◌, ◌++◌, List, ap, sym, drop, get_or, length, pos, subst, take, ◌∷◌}
 use Rattle.std.proofs.lemmas.List.{drop_more}
 use Rattle.flow_eval.specs.Netting.{CanBeNetted, rows_from}
 use Rattle.flow_eval.specs.declared.flow_table.FlowRow.{FlowRow}

@@ -60,8 +60,7 @@ gather_within-gather_shared-requires t c =
     let e = expression c.args.test.now in
     let n = Count c.args.days in
     let x = shared c.args.hit.now in
-    let y = shared c.args.miss.now in
-    (
+    let y = shared c.args.miss.now in (
       search rules,
       hit_ready (declarations c.args.course.now.decls.now) c.args.course.now.fixings.now c.args.here c.after.result c.args.scratch.now c.first_day.new.scratch (Within e n x y) e n x y x c.in_ok-first.field-0 c.in-Some.first c.args.days
           refl refl c.in_ok-first.ensures.found c.in-Some.is c.after.ensures refl c.first_day.ensures.same c.requires.ready c.requires.days,
@@ -72,8 +71,7 @@ gather_within-gather_shared-requires-in-None t c =
     let e = expression c.args.test.now in
     let n = Count c.args.days in
     let x = shared c.args.hit.now in
-    let y = shared c.args.miss.now in
-    (
+    let y = shared c.args.miss.now in (
       search rules,
       miss_ready (declarations c.args.course.now.decls.now) c.args.course.now.fixings.now c.args.here c.after-in-None.result c.args.scratch.now c.first_day.new.scratch (Within e n x y) e n x y y c.args.days
           refl refl c.after-in-None.ensures refl c.first_day.ensures.same c.requires.ready c.requires.days,
@@ -131,8 +129,7 @@ gather_bound-gather_shared-gathered-requires t c =
     let e = expression c.args.bound.now in
     let F = c.args.course.now.fixings.now in
     let ready = c.requires.ready in
-    let answer = answer_by_days d e _ c.args.moved ready.values ready.places F c.args.here.day c.value_moved.result (to_z-of_z w32 c.args.moved c.ranges.moved) (c.value_moved.ensures.answer ready.values ready.places ready.stand) in
-    (
+    let answer = answer_by_days d e _ c.args.moved ready.values ready.places F c.args.here.day c.value_moved.result (to_z-of_z w32 c.args.moved c.ranges.moved) (c.value_moved.ensures.answer ready.values ready.places ready.stand) in (
       search rules,
       (
         ready_let d (shifted c.args.moved e) (shared c.args.body.now) c.args.here.decimals c.args.scratch.now c.enter.new.self F c.args.here.day c.kind_stored-kind.result c.value_moved.result c.of-held.result ready (c.kind_stored-kind.ensures c.args.moved) answer c.of-held.ensures

@@ -1,11 +1,10 @@
-use Rattle.std.proofs.Common.{rules, ◌≡◌, ◌≤◌, ◌-◌, ◌+◌, ◌∷◌, to_z, of_z, FitsSigned, unsigned_abs, ◌*ℤ◌, ◌^◌, ℕ, List, length, Err, arith, ap, sym, ◌∙◌, subst, refl, false, drop}
+use Rattle.std.proofs.Common.{rules, ◌≡◌, ◌≤◌, ◌-◌, ◌∷◌, to_z, of_z, FitsSigned, unsigned_abs, ◌*ℤ◌, ◌^◌, ℕ, List, length, Err, arith, ap, sym, ◌∙◌, subst, refl, false, drop}
 use Rattle.std.specs.Int.{w128}
 use Rattle.std.specs.List.{All}
 use Rattle.std.proofs.lemmas.Int.{to_z-of_z}
 use Rattle.term_core.specs.Declarations.{declarations}
 use Rattle.term_core.specs.Terms.{contract, expression, Within}
-use Rattle.term_core.specs.Environments.{Environment, Place}
-use Rattle.term_core.specs.Values.{Entry, kinds, num}
+use Rattle.term_core.specs.Values.{kinds, num}
 use Rattle.term_core.specs.Kinds.{scale_of}
 use Rattle.term_core.specs.Reads.{reads_of}
 use Rattle.interval_check.specs.Sums.{entry_of}
