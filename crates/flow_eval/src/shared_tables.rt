@@ -4,7 +4,7 @@ ghost use Rattle.std.specs.Prelude.{◌≤ℤ◌, pos, []};
 ghost use Rattle.term_core.specs.Declarations.{declarations};
 ghost use Rattle.term_core.specs.Environments.{IsAdmitted};
 ghost use Rattle.term_core.specs.Acceptance.{IsAccepted};
-ghost use Rattle.term_core.specs.SharedTerms.{shared, StoresOffsets};
+ghost use Rattle.term_core.specs.SharedTerms.{shared};
 ghost use Rattle.flow_eval.specs.Walks.{walk_of};
 ghost use Rattle.flow_eval.specs.Gathering.{IsGathered};
 ghost use Rattle.flow_eval.specs.FlowAnswers.{AreFlows};
@@ -56,7 +56,6 @@ pub fn flows_shared(
     until: i64,
 ) -> Result<FlowTable, FlowErr>
     requires accepted { IsAccepted (declarations decls.now) (shared s.now.value) }
-    requires offsets { StoresOffsets s.now.value }
     requires admitted { IsAdmitted (declarations decls.now) fixings.now }
     requires first { pos 0 ≤ℤ frame }
     requires last { frame ≤ℤ pos 1_000_000 }
