@@ -14,4 +14,8 @@ pub mod TermNumbers
 pub mod WordTexts
 pub mod WordsKept
 pub mod TextSpellable
+pub mod CommentFacts
+pub mod PlainFacts
+pub mod RestNumbers
+pub mod RestFacts
 pub mod TextRows

@@ -1,17 +1,20 @@
--- Canonical texts by hand.
-use Rattle.std.proofs.Common.{◌≡◌, ℕ, pos, negsuc, true, List, [], ◌∷◌, Some, refl}
-use Rattle.std.specs.Prelude.{codes, neg_ℤ}
+-- Canonical texts and comments by hand.
+use Rattle.std.proofs.Common.{◌≡◌, ℕ, pos, negsuc, List, [], ◌∷◌, Some, refl}
+use Rattle.std.specs.Prelude.{codes}
+use Rattle.std.proofs.lemmas.List.Elements.{All-cons, All-nil}
 use Rattle.decimal.specs.Text.{text_of}
-use Rattle.decimal.specs.declared.Mode.TheVariants.{HalfEven, Floor}
-use Rattle.term_core.specs.Terms.{Acc, Contract, Lit, Neg, Num, Var, Obs, Cmp, Round, Zero, Pay, Both, Scale, After, Let, Within}
+use Rattle.decimal.specs.declared.Mode.TheVariants.{HalfEven}
+use Rattle.term_core.specs.Terms.{Acc, Lit, Neg, Num, Var, Obs, Cmp, Round, Zero, Pay, Both, Scale, After, Let, Within}
 use Rattle.term_core.specs.Books.{Book}
 use Rattle.term_core.specs.declared.label.Label.TheVariants as label
 use Rattle.term_core.specs.declared.terms.CmpOp.TheVariants.{Greater}
 use Rattle.term_core.specs.declared.terms.NumOp.TheVariants.{Plus, Times, Max}
-use Rattle.term_core.specs.declared.terms.Days.TheVariants.{Num as Count, Named}
+use Rattle.term_core.specs.declared.terms.Days.TheVariants.{Named}
 use Rattle.contract_parse.specs.Names.{Scope}
+use Rattle.contract_print.specs.Comments.{IsCommentText, IsComments}
 use Rattle.contract_print.specs.TermTexts.{◌⊕◌, contr_text, expr_text, observed}
 use Rattle.contract_print.specs.Canon.{amounts_text, book_text, header_text, start_text}
+use Rattle.contract_print.proofs.PlainFacts.{plain_comment}
 
 abbrev scope : Scope
 scope =
@@ -49,3 +52,11 @@ desk_lines : book_text (codes "2024-01-15") desk
     ≡ codes "portfolio 1;" ⊕ feed ⊕ codes "amounts 2;" ⊕ feed ⊕ codes "origin 2024-01-15;" ⊕ feed ⊕ codes "start 0;" ⊕ feed ⊕ codes "party A, B, C;" ⊕ feed ⊕ codes "asset EUR, USD;" ⊕ feed ⊕ codes "num FX : 4 in 0.5000 .. 2.0000;" ⊕ feed ⊕ codes "flag Default_B;" ⊕ feed ⊕ codes "template T = 90;" ⊕ feed ⊕ codes "contract loan = both(scale(100.00, pay(EUR, A, B)), after(T, scale(105.00, pay(EUR, B, A))));" ⊕ feed ⊕ codes "contract none_yet = zero;" ⊕ feed
 unfolding text_of header_text amounts_text start_text
 desk_lines = refl
+
+-- a line of a flow as a comment, and an empty comment
+two_comments : IsComments (codes "# loan,90,B,A,EUR,105.00" ⊕ feed ⊕ codes "#" ⊕ feed)
+two_comments = record {
+  texts = codes " loan,90,B,A,EUR,105.00" ∷ [] ∷ [];
+  each = All-cons IsCommentText (codes " loan,90,B,A,EUR,105.00") ([] ∷ []) (plain_comment (codes " loan,90,B,A,EUR,105.00") refl) (All-cons IsCommentText [] [] (plain_comment [] refl) (All-nil IsCommentText));
+  is = refl;
+}

@@ -1,13 +1,13 @@
 -- The portfolio of a text can be spelled: its numbers and names are within the limits of texts.
-use Rattle.std.proofs.Common.{◌≡◌, ℕ, ℤ, ◌≤◌, inl, inr, ◌∙◌, Bool, true, false, cond, Option, Some, None, Result, Ok, Err, List, [], ◌∷◌, ◌++◌, ap, append_assoc, arith, refl, sym, subst}
+use Rattle.std.proofs.Common.{◌≡◌, ℕ, ℤ, ◌≤◌, inl, inr, Bool, true, false, cond, Option, Some, None, Ok, Err, List, [], ◌∷◌, ◌++◌, append_assoc, arith, refl, sym, subst}
 use Rattle.std.specs.Prelude.{All, codes, nat_le, not, ◌&&◌}
-use Rattle.std.specs.List.{AllByRecursion, list_all}
+use Rattle.std.specs.List.{list_all}
 use Rattle.std.specs.Map.{keys_of}
 use Rattle.std.proofs.lemmas.Bool.{cases_Bool}
 use Rattle.std.proofs.lemmas.Bool.Decides.{nat_tests}
 use Rattle.std.proofs.lemmas.List.{append-nil, map-append}
 use Rattle.std.proofs.lemmas.List.Elements.{All-nil, All-push}
-use Rattle.term_core.specs.Limits.{are_labels, are_numbers, is_label, is_origin}
+use Rattle.term_core.specs.Limits.{is_label, is_origin}
 use Rattle.term_core.specs.Terms.{Contract}
 use Rattle.term_core.specs.Declarations.{Declarations}
 use Rattle.term_core.specs.Books.{Book}
@@ -17,17 +17,16 @@ use Rattle.contract_parse.specs.Tokens.{Tok, tokens}
 use Rattle.contract_parse.specs.Words.{Bytes, is_name, is_reserved, is_word_kind}
 use Rattle.contract_parse.specs.Names.{is_declared, scope_of}
 use Rattle.contract_parse.specs.Judgements.{bound_at, integer_at, is_version, new_at, origin_at}
-use Rattle.contract_parse.specs.Spelling.{Part, mark, valued, word}
+use Rattle.contract_parse.specs.Spelling.{Part, valued}
 use Rattle.contract_parse.specs.Statements.{Added, Entry, Repeat, comma_name, contract_line, decls, label_line, more, name_line, none, origin_line, start_line, template_line}
 use Rattle.contract_parse.specs.Texts.{Text}
 use Rattle.contract_parse.specs.declared.faults.TextKind.TheVariants.{Twice}
-use Rattle.contract_parse.specs.NameTexts.{is_name_text, is_word_text}
+use Rattle.contract_parse.specs.NameTexts.{is_name_text}
 use Rattle.contract_parse.proofs.Passing.{and_parts}
 use Rattle.contract_parse.proofs.TextSizes.{contract_lines}
 use Rattle.contract_parse.proofs.TextClosed.{contracts_closed}
 use Rattle.contract_print.specs.Laws.{TextsAreSpellable, TextsAreWritable}
 use Rattle.contract_print.specs.Spellable.{AreSpellable, ContractHasNumbersOfTexts, IsSpellable, are_names, are_new}
-use Rattle.contract_print.specs.Writable.{IsWritableTerm}
 use Rattle.contract_print.proofs.NumbersWithin.{bound_within, by_value, integer_within, label_within, origin_within}
 use Rattle.contract_print.proofs.TermNumbers.{numbers_of_contract, spellable_written}
 use Rattle.contract_print.proofs.WordTexts.{IsWordToken, words_are_words}

@@ -1,10 +1,11 @@
 -- Laws of canonical texts: that of a portfolio is a text of it, there is one and no other, and what was read can be
--- printed.
-use Rattle.std.specs.Prelude.{All, ℕ, ◌+◌, ◌≤◌, ◌≡◌, true, List, []}
+-- printed, as can what is left of it on a later day. And comment lines may stand before a text.
+use Rattle.std.specs.Prelude.{All, ℕ, ◌+◌, ◌≤◌, ◌≡◌, true, List, [], ◌++◌}
 use Rattle.std.specs.Map.{keys_of}
 use Rattle.term_core.specs.Terms.{Expression, Contract}
 use Rattle.term_core.specs.Sizes.{height, height_of_contract}
 use Rattle.term_core.specs.Declarations.{Declarations}
+use Rattle.term_core.specs.Acceptance.{IsAccepted}
 use Rattle.term_core.specs.Books.{Book}
 use Rattle.term_core.specs.WellFormed.{IsWellFormed, IsWellFormedContract}
 use Rattle.contract_parse.specs.Names.{scope_of}
@@ -12,7 +13,9 @@ use Rattle.contract_parse.specs.Spelling.{expr, contr}
 use Rattle.contract_parse.specs.Texts.{Text}
 use Rattle.contract_print.specs.TermTexts.{expr_text, contr_text, observed}
 use Rattle.contract_print.specs.Canon.{IsCanon}
-use Rattle.contract_print.specs.Spellable.{ContractHasNumbersOfTexts, HasNumbersOfTexts, AreSpellable, IsSpellableBook, are_names}
+use Rattle.contract_print.specs.Comments.{IsComments}
+use Rattle.contract_print.specs.Rests.{IsRestOf, IsSoundRest}
+use Rattle.contract_print.specs.Spellable.{ContractHasNumbersOfTexts, HasNumbersOfTexts, AreSpellable, IsSpellable, IsSpellableBook, are_names}
 use Rattle.contract_print.specs.Spelled.{Spells, bound_names, stops}
 use Rattle.contract_print.specs.Writable.{IsWritableTerm}
 
@@ -46,3 +49,22 @@ TextsAreWritable = (bytes : List ℕ) (b : Book) → Text bytes b → All (λ en
 -- the portfolio of a text is within the limits of texts, so it has a canonical text, which is a text of it
 abbrev pub TextsAreSpellable : Type 0
 TextsAreSpellable = (bytes : List ℕ) (b : Book) → Text bytes b → IsSpellableBook b
+
+-- comment lines before a text change nothing
+abbrev pub CommentsChangeNothing : Type 0
+CommentsChangeNothing = (before bytes : List ℕ) (b : Book) → IsComments before → Text bytes b → Text (before ++ bytes) b
+
+-- acceptance keeps every other number of a contract, and its height, within the limits of texts
+abbrev pub RestsCanBeSpelled : Type 0
+RestsCanBeSpelled = (d : Declarations) (c : Contract) → IsSoundRest d c → IsSpellable d c
+
+abbrev pub RestsCanBeWritten : Type 0
+RestsCanBeWritten = (d : Declarations) (c : Contract) → IsSoundRest d c → IsWritableTerm c
+
+-- what is left of a portfolio that texts can stand for is such a portfolio too
+abbrev pub RestsAreSpellable : Type 0
+RestsAreSpellable = (b rest : Book) → IsSpellableBook b → IsRestOf b rest → IsSpellableBook rest
+
+-- and its contracts are accepted under its own declarations
+abbrev pub RestsAreAccepted : Type 0
+RestsAreAccepted = (b rest : Book) → IsRestOf b rest → All (λ entry. IsAccepted rest.declarations entry.1) rest.contracts

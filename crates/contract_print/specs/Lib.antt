@@ -3,4 +3,6 @@ pub mod Canon
 pub mod Writable
 pub mod Spellable
 pub mod Spelled
+pub mod Comments
+pub mod Rests
 pub mod Laws

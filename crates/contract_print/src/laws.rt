@@ -1,5 +1,6 @@
 //! Laws over the definitions of canonical texts: each function's contract is the law.
-ghost use Rattle.contract_print.specs.Laws.{CanonExists, CanonIsText, ContractIsSpelled, ExpressionIsSpelled, OneCanon, TextsAreSpellable, TextsAreWritable};
+ghost use Rattle.contract_print.specs.Laws.{CanonExists, CanonIsText, CommentsChangeNothing, ContractIsSpelled, ExpressionIsSpelled, OneCanon};
+ghost use Rattle.contract_print.specs.Laws.{RestsAreAccepted, RestsAreSpellable, RestsCanBeSpelled, RestsCanBeWritten, TextsAreSpellable, TextsAreWritable};
 
 /// The canonical text of an expression spells it wherever a comma, a bracket, a space or a semicolon follows.
 pub fn expression_is_spelled()
@@ -34,4 +35,23 @@ pub fn texts_are_writable()
 /// The portfolio of a text is within the limits of texts, so it has a canonical text, which is a text of it.
 pub fn texts_are_spellable()
     ensures { TextsAreSpellable }
+{}
+
+/// Comment lines before a text change nothing of what it stands for.
+pub fn comments_change_nothing()
+    ensures { CommentsChangeNothing }
+{}
+
+/// An accepted and closed contract whose literals are within the limits of texts can be spelled, and so printed:
+/// acceptance keeps its other numbers and its height within these limits.
+pub fn rests_can_be_printed()
+    ensures spelled { RestsCanBeSpelled }
+    ensures written { RestsCanBeWritten }
+{}
+
+/// What is left on a later day of a portfolio within the limits of texts is within them too, so it has a canonical text,
+/// which is a text of it; and its contracts are accepted under its own declarations.
+pub fn rests_are_portfolios()
+    ensures spellable { RestsAreSpellable }
+    ensures accepted { RestsAreAccepted }
 {}
