@@ -18,3 +18,6 @@ pub mod EntryFacts
 pub mod CarryReady
 pub mod TestFacts
 pub mod WalkFacts
+pub mod RoundFacts
+pub mod KnownFacts
+pub mod ResidualFacts

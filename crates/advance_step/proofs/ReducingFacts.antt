@@ -33,22 +33,22 @@ use Rattle.advance_step.specs.LawsReducing.{reduced_once, reduced_times, Reducin
 at_most : (a b : ℕ) → nat_le a b ≡ true → a ≤ b
 at_most a b h = grind (arith, nat_tests)
 
-right_scale : (d : Declarations) (c : Contract) → IsAccepted d c → scale_of_contract d c [] ≤ d.amounts
+pub right_scale : (d : Declarations) (c : Contract) → IsAccepted d c → scale_of_contract d c [] ≤ d.amounts
 right_scale d c h = at_most (scale_of_contract d c []) d.amounts (root_in (IsScaledPart d) Once d c [] (accepted_meet_rules d c h).scales)
 
 -- over no more days
-then_carries : (d : Declarations) (c r s : Contract) (f : ℤ) (F : Environment) (m : ℕ) → Carries d c f F m r → Carries d r (f +ℤ pos m) F 0 s → Carries d c f F m s
+pub then_carries : (d : Declarations) (c r s : Contract) (f : ℤ) (F : Environment) (m : ℕ) → Carries d c f F m r → Carries d r (f +ℤ pos m) F 0 s → Carries d c f F m s
 then_carries d c r s f F m h k =
     let same : m + 0 ≡ m = omega arith in
     subst (λ (n : ℕ). Carries d c f F n s) same (carries_composes d c r s f F F m 0 h k (λ q v e. e))
 
-from_here : (d : Declarations) (c r s : Contract) (f : ℤ) (F : Environment) → Carries d c f F 0 r → Carries d r f F 0 s → Carries d c f F 0 s
+pub from_here : (d : Declarations) (c r s : Contract) (f : ℤ) (F : Environment) → Carries d c f F 0 r → Carries d r f F 0 s → Carries d c f F 0 s
 from_here d c r s f F h k =
     let here : f ≡ f +ℤ pos 0 = omega (arith, ints) in
     then_carries d c r s f F 0 h (subst (λ (x : ℤ). Carries d r x F 0 s) here k)
 
 -- none of the kinds that ask for no frame, and none of those that do
-each_kind : (d : Declarations) (F : Environment) (f : ℤ) (s : Contract) → HasNoPlainIn s → HasNone d F (Some f) FixedPlace s → HasNone d F (Some f) FixedSteps s → IsReduced d s F f
+pub each_kind : (d : Declarations) (F : Environment) (f : ℤ) (s : Contract) → HasNoPlainIn s → HasNone d F (Some f) FixedPlace s → HasNone d F (Some f) FixedSteps s → IsReduced d s F f
 each_kind d F f s h p q FixedPlace = p
 each_kind d F f s h p q FixedSteps = q
 each_kind d F f s h p q EmptyLeft = plain_leaves_none d s F (Some f) EmptyLeft tt h

@@ -1,6 +1,6 @@
 -- What advancing an accepted contract over some days answers: what it pays on the days gone by, and what is left of it,
 -- reduced; or the first place that it reads on these days and that is not fixed.
-use Rattle.std.specs.Prelude.{◌≡◌, ◌<◌, ℕ, ℤ, pos, ◌+ℤ◌, ◌-ℤ◌, Some, Result, Ok, Err}
+use Rattle.std.specs.Prelude.{◌≡◌, ◌<◌, ℕ, ℤ, pos, ◌+ℤ◌, ◌-ℤ◌, List, Some, Result, Ok, Err}
 use Rattle.term_core.specs.Declarations.{Declarations}
 use Rattle.term_core.specs.Terms.{Contract, Zero, contract}
 use Rattle.term_core.specs.Environments.{Environment}
@@ -12,9 +12,11 @@ use Rattle.term_core.specs.Sizes.{reach}
 use Rattle.term_core.specs.WellFormed.{HasOnlyNumbers, IsClosed}
 use Rattle.flow_eval.specs.FlowAnswers.{AreKnownFlows, reads_until}
 use Rattle.flow_eval.specs.declared.faults.FlowErr.{FlowErr}
+use Rattle.flow_eval.specs.declared.flow_table.FlowRow.{FlowRow}
 use Rattle.flow_eval.specs.declared.faults.FlowErr.TheVariants.{Missing, NoMemory}
 use Rattle.specialise.specs.Literals.{HasLiteralsIn}
-use Rattle.advance_step.specs.declared.advance.Advanced.{Advanced}
+use Rattle.advance_step.specs.declared.advancing.Advanced.{Advanced}
+use Rattle.advance_step.specs.Residual.{IsLeftAfter}
 
 -- the day before the one that is so many days after the first
 abbrev pub day_before : ℤ → ℕ → ℤ
@@ -39,3 +41,14 @@ Advances d c fixings first days (Ok answer) =
 Advances d c fixings first days (Err (Missing label day)) =
     first_unfixed fixings (reads_until d c fixings first (day_before first days)) ≡ Some (record { label = label; day = day })
 Advances d c fixings first days (Err NoMemory) = Unit {0}
+
+-- what a step from a day to the next answers of a contract: what is due on the day, and what is left on the next
+pub record IsStep (d : Declarations) (fixings : Environment) (day : ℤ) (c : Contract) (rows : List FlowRow) (rest : Contract) : Type 0 where
+  pub due : AreKnownFlows d c fixings day day rows
+  pub left : IsLeftAfter d fixings day 1 c rest
+
+-- a fault is the first place that it reads on the day and that is not fixed, or want of memory
+abbrev pub LacksOnDay : Declarations → Environment → ℤ → Contract → FlowErr → Type 0
+LacksOnDay d fixings day c (Missing label at) =
+    first_unfixed fixings (reads_until d c fixings day day) ≡ Some (record { label = label; day = at })
+LacksOnDay d fixings day c NoMemory = Unit {0}

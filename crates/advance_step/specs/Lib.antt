@@ -1,6 +1,8 @@
 pub mod Carrying
 pub mod Carried
+pub mod Residual
 pub mod Advancing
+pub mod LawsAdvancing
 pub mod LawsLeft
 pub mod LawsLeftRules
 pub mod LawsLeftAccepted

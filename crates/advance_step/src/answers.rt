@@ -55,7 +55,8 @@ pub fn entry_for(
     requires place { MayEvaluate (declarations course.now.decls.now) (expression bound.now) scratch.old.entries }
     requires admitted { IsAdmitted (declarations course.now.decls.now) course.now.fixings.now }
     requires day { unsigned_abs day ≤ 10 ^ 11 }
-    ensures enters { Enters (declarations course.now.decls.now) (shifted moved (expression bound.now)) scratch.old.entries course.now.fixings.now day result }
+    ensures enters { Enters (declarations course.now.decls.now) (shifted moved (expression bound.now)) scratch.old.entries
+        course.now.fixings.now day result }
     ensures suits { IsEntry (declarations course.now.decls.now) (expression bound.now) scratch.old.entries result }
     ensures same { scratch.new ≡ scratch.old }
 {

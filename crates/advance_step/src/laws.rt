@@ -4,6 +4,7 @@ ghost use Rattle.advance_step.specs.LawsLeft.{LeftScales, LeftFlows, LeftCarries
 ghost use Rattle.advance_step.specs.LawsLeftRules.{NothingIsLeft, ReachIsLess, PastIsMore, NodesAreNoMore, LeftIsTyped, LeftReplaces};
 ghost use Rattle.advance_step.specs.LawsLeftAccepted.{LeftIsWellFormed, LeftIsAccepted};
 ghost use Rattle.advance_step.specs.LawsReducing.{ReducingOnce, ReducingEnds, ResidualsHold};
+ghost use Rattle.advance_step.specs.LawsAdvancing.{RunsCompose};
 
 /// What is left of a contract after some days pays on later days what the contract pays, at no greater a scale, and so
 /// carries it.
@@ -39,4 +40,11 @@ pub fn residuals_hold()
     ensures once { ReducingOnce }
     ensures ends { ReducingEnds }
     ensures residuals { ResidualsHold }
+{}
+
+/// A contract that is advanced twice, the second time over more fixings and under the declarations of the new day, is left
+/// as one that carries it over all the days, and without redexes on the last.
+#[tactic(none)]
+pub fn runs_compose()
+    ensures { RunsCompose }
 {}

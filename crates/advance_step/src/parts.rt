@@ -72,7 +72,8 @@ pub fn scale_left(
     requires last { last ≤ 1_200_000 }
     requires factor { CanMove moved (expression factor.now.value) }
     requires body { StoresOffsets body.value }
-    ensures tree { IfOk result (λ r. shared r.value ≡ model.scale_left (shifted (negsuc last) (shifted moved (expression factor.now.value))) (shared body.value)) }
+    ensures tree { IfOk result (λ r.
+        shared r.value ≡ model.scale_left (shifted (negsuc last) (shifted moved (expression factor.now.value))) (shared body.value)) }
     ensures offsets { IfOk result (λ r. StoresOffsets r.value) }
 {
     if is_zero(&body) {
@@ -101,7 +102,8 @@ pub fn let_left(
     requires last { last ≤ 1_200_000 }
     requires bound { CanMove moved (expression bound.now.value) }
     requires body { StoresOffsets body.value }
-    ensures tree { IfOk result (λ r. shared r.value ≡ model.let_left (shifted (negsuc last) (shifted moved (expression bound.now.value))) (shared body.value)) }
+    ensures tree { IfOk result (λ r.
+        shared r.value ≡ model.let_left (shifted (negsuc last) (shifted moved (expression bound.now.value))) (shared body.value)) }
     ensures offsets { IfOk result (λ r. StoresOffsets r.value) }
 {
     if is_zero(&body) {
@@ -148,7 +150,8 @@ pub fn still_waiting(
     requires test { HasOffsets (expression test.now.value) }
     requires hit { StoresOffsets hit.now.value }
     requires miss { StoresOffsets miss.now.value }
-    ensures tree { IfOk result (λ r. shared r.value ≡ Within (expression test.now.value) (Count days) (shared hit.now.value) (shared miss.now.value)) }
+    ensures tree { IfOk result (λ r.
+        shared r.value ≡ Within (expression test.now.value) (Count days) (shared hit.now.value) (shared miss.now.value)) }
     ensures offsets { IfOk result (λ r. StoresOffsets r.value) }
 {
     let test = test.clone()?;

@@ -37,9 +37,11 @@ pub fn carry_in(
     requires spare { height_of_contract (shared s.now) ≤ scratch.old.spare }
     requires days { unsigned_abs day + last ≤ 10 ^ 11 }
     requires last { last ≤ 1_200_000 }
-    ensures rest { IfOk result (λ r. IsLeft (declarations course.now.decls.now) (shared s.now) scratch.old.entries course.now.fixings.now day last (shared r.value)) }
+    ensures rest { IfOk result (λ r.
+        IsLeft (declarations course.now.decls.now) (shared s.now) scratch.old.entries course.now.fixings.now day last (shared r.value)) }
     ensures offsets { IfOk result (λ r. StoresOffsets r.value) }
-    ensures missing { IfErr result (λ e. LacksRead (declarations course.now.decls.now) (shared s.now) scratch.old.entries course.now.fixings.now day last e) }
+    ensures missing { IfErr result (λ e.
+        LacksRead (declarations course.now.decls.now) (shared s.now) scratch.old.entries course.now.fixings.now day last e) }
     ensures same { scratch.new ≡ scratch.old }
 {
     match s {
@@ -90,9 +92,13 @@ fn carry_after(
     requires spare { height_of_contract (shared body.now.value) ≤ scratch.old.spare }
     requires days { unsigned_abs day + last ≤ 10 ^ 11 }
     requires last { last ≤ 1_200_000 }
-    ensures rest { IfOk result (λ r. IsLeft (declarations course.now.decls.now) (After (Count days) (shared body.now.value)) scratch.old.entries course.now.fixings.now day last (shared r.value)) }
+    ensures rest { IfOk result (λ r.
+        IsLeft (declarations course.now.decls.now) (After (Count days) (shared body.now.value)) scratch.old.entries
+        course.now.fixings.now day last (shared r.value)) }
     ensures offsets { IfOk result (λ r. StoresOffsets r.value) }
-    ensures missing { IfErr result (λ e. LacksRead (declarations course.now.decls.now) (After (Count days) (shared body.now.value)) scratch.old.entries course.now.fixings.now day last e) }
+    ensures missing { IfErr result (λ e.
+        LacksRead (declarations course.now.decls.now) (After (Count days) (shared body.now.value)) scratch.old.entries
+        course.now.fixings.now day last e) }
     ensures same { scratch.new ≡ scratch.old }
 {
     if days <= last {
@@ -116,15 +122,20 @@ fn carry_bound(
 ) -> Result<Rc<SharedContr>, FlowErr>
     requires moves { CanMove moved (expression bound.now.value) }
     requires place { MayEvaluate (declarations course.now.decls.now) (expression bound.now.value) scratch.old.entries }
-    requires ready { WithEntry (declarations course.now.decls.now) (expression bound.now.value) scratch.old.entries (λ (es : List Binding). CanCarry (declarations course.now.decls.now) body.now.value es) }
+    requires ready { WithEntry (declarations course.now.decls.now) (expression bound.now.value) scratch.old.entries
+        (λ (es : List Binding). CanCarry (declarations course.now.decls.now) body.now.value es) }
     requires offsets { StoresOffsets body.now.value }
     requires admitted { IsAdmitted (declarations course.now.decls.now) course.now.fixings.now }
     requires spare { height_of_contract (shared body.now.value) + 1 ≤ scratch.old.spare }
     requires days { unsigned_abs day + last ≤ 10 ^ 11 }
     requires last { last ≤ 1_200_000 }
-    ensures rest { IfOk result (λ r. IsLeft (declarations course.now.decls.now) (Let (shifted moved (expression bound.now.value)) (shared body.now.value)) scratch.old.entries course.now.fixings.now day last (shared r.value)) }
+    ensures rest { IfOk result (λ r.
+        IsLeft (declarations course.now.decls.now) (Let (shifted moved (expression bound.now.value)) (shared body.now.value))
+        scratch.old.entries course.now.fixings.now day last (shared r.value)) }
     ensures offsets { IfOk result (λ r. StoresOffsets r.value) }
-    ensures missing { IfErr result (λ e. LacksRead (declarations course.now.decls.now) (Let (shifted moved (expression bound.now.value)) (shared body.now.value)) scratch.old.entries course.now.fixings.now day last e) }
+    ensures missing { IfErr result (λ e.
+        LacksRead (declarations course.now.decls.now) (Let (shifted moved (expression bound.now.value)) (shared body.now.value))
+        scratch.old.entries course.now.fixings.now day last e) }
     ensures same { scratch.new ≡ scratch.old }
 {
     let entry = entry_for(course, bound, moved, scratch, day);
@@ -157,9 +168,15 @@ fn carry_within(
     requires spare { max (height_of_contract (shared hit.now.value)) (height_of_contract (shared miss.now.value)) ≤ scratch.old.spare }
     requires days { unsigned_abs day + last ≤ 10 ^ 11 }
     requires last { last ≤ 1_200_000 }
-    ensures rest { IfOk result (λ r. IsLeft (declarations course.now.decls.now) (Within (expression test.now.value) (Count days) (shared hit.now.value) (shared miss.now.value)) scratch.old.entries course.now.fixings.now day last (shared r.value)) }
+    ensures rest { IfOk result (λ r.
+        IsLeft (declarations course.now.decls.now)
+        (Within (expression test.now.value) (Count days) (shared hit.now.value) (shared miss.now.value)) scratch.old.entries
+        course.now.fixings.now day last (shared r.value)) }
     ensures offsets { IfOk result (λ r. StoresOffsets r.value) }
-    ensures missing { IfErr result (λ e. LacksRead (declarations course.now.decls.now) (Within (expression test.now.value) (Count days) (shared hit.now.value) (shared miss.now.value)) scratch.old.entries course.now.fixings.now day last e) }
+    ensures missing { IfErr result (λ e.
+        LacksRead (declarations course.now.decls.now)
+        (Within (expression test.now.value) (Count days) (shared hit.now.value) (shared miss.now.value)) scratch.old.entries
+        course.now.fixings.now day last e) }
     ensures same { scratch.new ≡ scratch.old }
 {
     let tried = days_tried(days, last);

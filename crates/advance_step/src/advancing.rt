@@ -1,15 +1,16 @@
 //! Advancing a contract: what it pays on the days gone by, and what is left of it.
 
-ghost use Rattle.std.specs.Prelude.{◌≤◌, ◌+◌, pos};
+ghost use Rattle.std.specs.Prelude.{◌≡◌, ◌≤◌, ◌+◌, ◌^◌, pos, unsigned_abs};
 ghost use Rattle.term_core.specs.Declarations.{declarations};
 ghost use Rattle.term_core.specs.Terms.{contract};
 ghost use Rattle.term_core.specs.Acceptance.{IsAccepted};
 ghost use Rattle.term_core.specs.Environments.{IsAdmitted};
 ghost use Rattle.term_core.specs.WellFormed.{IsClosed, HasOnlyNumbers};
-ghost use Rattle.advance_step.specs.Advancing.{Advances};
+ghost use Rattle.advance_step.specs.Advancing.{Advances, day_before};
 
+use crate::residual::residual_of;
 use fixing_files::Fixings;
-use flow_eval::{FlowErr, FlowTable};
+use flow_eval::{FlowErr, FlowTable, flows};
 use std::alloc::Global;
 use term_core::{Contr, Decls};
 
@@ -18,6 +19,14 @@ use term_core::{Contr, Decls};
 pub struct Advanced {
     pub due: FlowTable,
     pub rest: Contr,
+}
+
+// The day before the one that is so many days after the first.
+fn day_before(first: i64, days: u32) -> i64
+    requires { unsigned_abs first ≤ 10 ^ 11 }
+    ensures { result ≡ day_before first days }
+{
+    first + days as i64 - 1
 }
 
 /// What an accepted contract that stands on the start of its portfolio pays on the next `days` days, and what is left of it
@@ -38,5 +47,8 @@ pub fn advance(
     requires last { decls.now.start + days ≤ 1_000_000 }
     ensures { Advances (declarations decls.now) (contract c.now) fixings.now (pos decls.now.start) days result }
 {
-    Err(FlowErr::NoMemory)
+    let start = decls.start as i64;
+    let due = flows(alloc, decls, c, fixings, day_before(start, days))?;
+    let rest = residual_of(alloc, decls, c, fixings, start, days)?;
+    Ok(Advanced { due, rest })
 }

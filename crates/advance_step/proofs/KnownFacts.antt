@@ -1,0 +1,89 @@
+-- Where the flows of a contract are known, no place that it reads on the days gone by is missing, and what is left of it
+-- is what is asked.
+use Rattle.std.proofs.Common.{◌≡◌, ℕ, suc, ℤ, pos, ◌+ℤ◌, ◌-ℤ◌, ◌+◌, ◌≤◌, true, false, Bool, List, [], ◌∷◌, Some, None, Result, Ok, Err, IfOk, IfErr, if◌then◌else◌, refl, ap, sym, subst, ◌∙◌, arith, IsTrue}
+use Rattle.std.specs.List.{All, Contains}
+use Rattle.std.proofs.lemmas.Int.{ints}
+use Rattle.std.proofs.lemmas.List.Elements.{All-cons, All-contains}
+use Rattle.std.specs.declared.rc.Rc.{Rc}
+use Rattle.std.specs.Global.{Global}
+use Rattle.term_core.specs.Declarations.{Declarations}
+use Rattle.term_core.specs.declared.shared.SharedContr.{SharedContr}
+use Rattle.term_core.specs.SharedTerms.{shared}
+use Rattle.term_core.specs.Terms.{Contract}
+use Rattle.term_core.specs.Environments.{Environment, Place, IsAdmitted}
+use Rattle.term_core.specs.Acceptance.{IsAccepted}
+use Rattle.term_core.specs.Reads.{first_unfixed, is_fixed, reads_of_contract}
+use Rattle.term_core.specs.Sizes.{reach, past_of_contract}
+use Rattle.term_core.specs.Smallness.{is_small}
+use Rattle.term_core.specs.WellFormed.{IsClosed, HasOnlyNumbers}
+use Rattle.term_core.proofs.TimeFacts.{whole_passes}
+use Rattle.interval_check.specs.Within.{KeepsLimits}
+use Rattle.simplify.proofs.WholeFacts.{shared_numbers}
+use Rattle.flow_eval.specs.FlowAnswers.{reads_until}
+use Rattle.flow_eval.specs.Faults.{lacks_memory}
+use Rattle.flow_eval.specs.declared.faults.FlowErr.{FlowErr}
+use Rattle.flow_eval.specs.declared.faults.FlowErr.TheVariants.{Missing, NoMemory}
+use Rattle.advance_step.specs.Carrying.{left_of}
+use Rattle.advance_step.specs.Carried.{IsLeftEverywhere, NamesUnfixedRead}
+use Rattle.advance_step.specs.Residual.{IsLeftAfter, ReadsAreFixed}
+use Rattle.advance_step.proofs.CarryFacts.{left_carries}
+use Rattle.advance_step.proofs.LeftAcceptedFacts.{left_accepted}
+use Rattle.advance_step.proofs.LeftForms.{left_formed}
+use Rattle.advance_step.proofs.LeftSizes.{gone}
+use Rattle.advance_step.proofs.LeftSmall.{contract_limits}
+use Rattle.advance_step.proofs.ReducingFacts.{right_scale}
+
+-- ---- nothing is missing
+
+step_fixed : (F : Environment) (x : Place) (xs : List Place) (b : Bool) → is_fixed F x ≡ b → (first_unfixed F xs ≡ None → All (λ (q : Place). is_fixed F q ≡ true) xs) → (if b then first_unfixed F xs else Some x) ≡ None → All (λ (q : Place). is_fixed F q ≡ true) (x ∷ xs)
+step_fixed F x xs true is h e = All-cons (λ (q : Place). is_fixed F q ≡ true) x xs is (h e)
+step_fixed F x xs false is h e = absurd (cc)
+
+all_fixed : (F : Environment) (xs : List Place) → first_unfixed F xs ≡ None → All (λ (q : Place). is_fixed F q ≡ true) xs
+all_fixed F [] e = λ k x l. absurd (omega arith)
+all_fixed F (x ∷ xs) e = step_fixed F x xs (is_fixed F x) refl (all_fixed F xs) e
+
+none_missing : (F : Environment) (xs : List Place) (q : Place) → first_unfixed F xs ≡ None → Contains xs q → is_fixed F q ≡ false → ⊥
+none_missing F xs q e h u =
+    let fixed : is_fixed F q ≡ true = All-contains (λ (y : Place). is_fixed F y ≡ true) xs q (all_fixed F xs e) h in
+    cc
+
+-- the days from the first to the last, counted
+counted : (d : Declarations) (c : Contract) (F : Environment) (f : ℤ) (j : ℕ) → reads_until d c F f (f +ℤ pos j) ≡ reads_of_contract d c [] [] F f (pos 0) (pos j)
+counted d c F f j =
+    let days : (f +ℤ pos j) -ℤ f ≡ pos j = omega (arith, ints) in
+    ap (λ (b : ℤ). reads_of_contract d c [] [] F f (pos 0) b) days
+
+only_memory : (d : Declarations) (F : Environment) (c : Contract) (f : ℤ) (j : ℕ) → ReadsAreFixed d c F f (f +ℤ pos j) → (e : FlowErr) → NamesUnfixedRead d F c f j e → e ≡ lacks_memory
+only_memory d F c f j known NoMemory h = refl
+only_memory d F c f j known (Missing l t) h =
+    absurd (none_missing F (reads_of_contract d c [] [] F f (pos 0) (pos j)) (record { label = l; day = t }) (ap (first_unfixed F) (sym (counted d c F f j)) ∙ known) h.0 h.1)
+
+-- ---- what is left
+
+near_enough : (d : Declarations) (c : Contract) → IsAccepted d c → reach c + past_of_contract c ≤ 1_000_000
+near_enough d c h = (contract_limits c (whole_passes (λ s. IsTrue (is_small s)) c [] 0 h.sizes)).both
+
+left_after : (d : Declarations) (F : Environment) (c rest : Contract) (f : ℤ) (j : ℕ) → KeepsLimits d → IsAdmitted d F → IsAccepted d c → HasOnlyNumbers c → IsLeftEverywhere d F c f j rest → IsLeftAfter d F f (suc j) c rest
+left_after d F c rest f j limits a h n is =
+    let here : rest ≡ left_of d c [] F f j = is F (λ q v e. e) in
+    record {
+      accepted = subst (λ (x : Contract). IsAccepted d x) (sym here) (left_accepted d c F f j limits h);
+      carries = left_carries d c f F j rest (right_scale d c h) (λ env b x. is env x);
+      gone = λ past. here ∙ gone d c [] F f j (omega (arith, past));
+      closed = λ w. subst (λ (x : Contract). IsClosed d x) (sym here) (left_formed d c [] F f j 0 (near_enough d c h) w n).0;
+    }
+
+-- ---- the answer
+
+pub known_rest : {E : Type 0} (d : Declarations) (F : Environment) (s : SharedContr) (f : ℤ) (j : ℕ) (o : Result (Rc SharedContr Global) E) → KeepsLimits d → IsAdmitted d F → IsAccepted d (shared s)
+    → IfOk o (λ r. IsLeftEverywhere d F (shared s) f j (shared r.value)) → IfOk o (λ r. IsLeftAfter d F f (j + 1) (shared s) (shared r.value))
+known_rest d F s f j (Err e) limits a h p = tt
+known_rest d F s f j (Ok r) limits a h p =
+    let days : suc j ≡ j + 1 = omega arith in
+    subst (λ (n : ℕ). IsLeftAfter d F f n (shared s) (shared r.value)) days (left_after d F (shared s) (shared r.value) f j limits a h (shared_numbers s) p)
+
+pub known_faults : {A : Type 0} (d : Declarations) (F : Environment) (c : Contract) (f : ℤ) (j : ℕ) (o : Result A FlowErr) → ReadsAreFixed d c F f (f +ℤ pos j)
+    → IfErr o (λ e. NamesUnfixedRead d F c f j e) → IfErr o (λ e. e ≡ lacks_memory)
+known_faults d F c f j (Ok r) known p = tt
+known_faults d F c f j (Err e) known p = only_memory d F c f j known e p

@@ -1,0 +1,35 @@
+-- The two halves of a residual: what is left of a contract some days later, and what that is reduced to.
+use Rattle.std.specs.Prelude.{ℕ, ℤ, ◌<◌, ◌≡◌, None}
+use Rattle.term_core.specs.Declarations.{Declarations}
+use Rattle.term_core.specs.Terms.{Contract, Zero}
+use Rattle.term_core.specs.Environments.{Environment}
+use Rattle.term_core.specs.Acceptance.{IsAccepted}
+use Rattle.term_core.specs.Reads.{first_unfixed}
+use Rattle.term_core.specs.Redexes.{IsReduced}
+use Rattle.term_core.specs.Residuals.{Carries}
+use Rattle.term_core.specs.Sizes.{reach}
+use Rattle.term_core.specs.WellFormed.{IsClosed}
+use Rattle.flow_eval.specs.FlowAnswers.{reads_until}
+use Rattle.specialise.specs.Literals.{HasLiteralsIn}
+
+-- each place is fixed that c, which stands on the first day, reads up to the last
+abbrev pub ReadsAreFixed : Declarations → Contract → Environment → ℤ → ℤ → Type 0
+ReadsAreFixed d c fixings first last = first_unfixed fixings (reads_until d c fixings first last) ≡ None
+
+-- a contract that is left of c, which stands on the first day, so many days later: accepted, and paying on each later day
+-- what c pays, in each environment that extends the fixings; past the reach it is nothing
+pub record IsLeftAfter (d : Declarations) (fixings : Environment) (first : ℤ) (days : ℕ) (c rest : Contract) : Type 0 where
+  pub accepted : IsAccepted d rest
+  pub carries : Carries d c first fixings days rest
+  pub gone : reach c < days → rest ≡ Zero
+  pub closed : IsClosed d c → IsClosed d rest
+
+-- a contract that c, which stands on a day, is reduced to: accepted, paying the same from that day on, and without redexes.
+-- Of nothing it is nothing.
+pub record IsReducedFrom (d : Declarations) (fixings : Environment) (day : ℤ) (c rest : Contract) : Type 0 where
+  pub accepted : IsAccepted d rest
+  pub carries : Carries d c day fixings 0 rest
+  pub reduced : IsReduced d rest fixings day
+  pub gone : c ≡ Zero → rest ≡ Zero
+  pub closed : IsClosed d c → IsClosed d rest
+  pub literals : HasLiteralsIn rest
