@@ -1,4 +1,4 @@
-//! What is left of a contract after some days, and the laws of it: it carries the contract.
+//! Contracts that are advanced over days: what they pay on the days gone by and what is left of them, with the laws of it.
 #![tactic(auto)]
 
 mod advancing;
