@@ -1,6 +1,6 @@
 -- Each contract of the sample is accepted. Of the rules only those on times and sizes look at the days by which it stands
 -- later, and these are at most 49.
-use Rattle.std.proofs.Common.{◌≡◌, ℕ, ◌+◌, ◌≤◌, ℤ, pos, ◌-ℤ◌, ◌≤ℤ◌, ◌&&◌, true, nat_le, [], refl, arith}
+use Rattle.std.proofs.Common.{◌≡◌, ℕ, ◌+◌, ◌≤◌, pos, ◌-ℤ◌, ◌≤ℤ◌, ◌&&◌, true, nat_le, [], refl, arith}
 use Rattle.std.proofs.lemmas.Int.{ints}
 use Rattle.std.proofs.lemmas.Bool.Decides.{nat_tests}
 use Rattle.decimal.specs.Rounding.{at_scale}

@@ -6,8 +6,8 @@ use Rattle.term_core.specs.declared.terms.Days.TheVariants.{Num as Count}
 use Rattle.term_core.specs.Flows.{count_of}
 use Rattle.term_core.specs.Redexes.{is_literal, is_zero_literal, uses_in_contract}
 use Rattle.term_core.specs.Shifts.{shifted}
-use Rattle.term_core.specs.Terms.{Expression, Lit, Yes, Var, Obs, Neg, Num, Cmp, Not, Logic, Cond, Widen, Round, Div, Acc}
-use Rattle.term_core.specs.Terms.{Contract, Zero, Pay, Both, Scale, After, Let, Within}
+use Rattle.term_core.specs.Terms.{Expression, Lit, Yes}
+use Rattle.term_core.specs.Terms.{Contract, Zero, Both, Scale, After, Let, Within}
 use Rattle.rewriting.specs.Substituting.{substituted_in}
 use Rattle.rewriting.proofs.ShiftedSizes.{shifted_literal, shifted_zero_literal}
 use Rattle.simplify.specs.TurningContracts.{is_nothing, rule_in}

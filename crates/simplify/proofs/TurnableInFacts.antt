@@ -1,7 +1,6 @@
 -- What meets the rules can be turned, over contracts with shared parts.
-use Rattle.std.proofs.Common.{◌≡◌, ℕ, pos, ◌+◌, ◌<◌, ◌≤◌, ◌^◌, max, Option, Some, None, IsTrue, ℤ, true, false, List, ◌∷◌, [], refl, ap, sym, subst, ◌∙◌, arith}
+use Rattle.std.proofs.Common.{◌≡◌, ℕ, pos, ◌+◌, ◌<◌, ◌≤◌, ◌^◌, Option, Some, None, IsTrue, ℤ, true, false, List, ◌∷◌, [], refl, ap, subst, ◌∙◌, arith}
 use Rattle.term_core.specs.Declarations.{Declarations}
-use Rattle.term_core.specs.declared.terms.Days.TheVariants.{Num as Count}
 use Rattle.term_core.specs.declared.values.Kind.{Kind}
 use Rattle.term_core.specs.declared.values.Kind.TheVariants.{Truth as TruthKind, Number}
 use Rattle.term_core.specs.declared.shared.SharedContr.{SharedContr}
@@ -11,8 +10,6 @@ use Rattle.term_core.specs.Shifts.{shifted}
 use Rattle.term_core.specs.Terms.{Expression, expression, Lit, Yes, Contract, Zero, Pay, Both, Scale, After, Let, Within}
 use Rattle.term_core.specs.Kinds.{kind_of}
 use Rattle.term_core.specs.Sorts.{is_truth}
-use Rattle.term_core.specs.Flows.{count_of}
-use Rattle.term_core.specs.Sites.{Once}
 use Rattle.term_core.specs.Sizes.{height_of_contract, reach}
 use Rattle.term_core.specs.Values.{Entry, kind_or}
 use Rattle.term_core.specs.Bounds.{Range, range_kinds}

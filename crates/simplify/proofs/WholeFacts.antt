@@ -1,9 +1,8 @@
 -- What turns keep, one after another, and what the last of them shows.
-use Rattle.std.proofs.Common.{◌≡◌, ℕ, suc, pos, ◌<◌, ◌≤◌, ◌==◌, nat_le, true, false, IsTrue, Option, Some, None, List, ◌∷◌, [], refl, ap, sym, subst, ◌∙◌, inl, inr, ◌⊎◌, Result, Ok, Err, IfOk, arith}
+use Rattle.std.proofs.Common.{◌≡◌, ℕ, pos, ◌<◌, ◌≤◌, ◌==◌, nat_le, true, false, Option, Some, None, List, ◌∷◌, [], ap, sym, subst, ◌∙◌, inl, inr, Result, Ok, Err, IfOk, arith}
 use Rattle.std.proofs.lemmas.Bool.{and_parts}
 use Rattle.std.proofs.lemmas.Bool.Decides.{nat_tests}
 use Rattle.term_core.specs.Declarations.{Declarations}
-use Rattle.term_core.specs.declared.values.Kind.{Kind}
 use Rattle.term_core.specs.declared.shared.SharedContr.{SharedContr}
 use Rattle.term_core.specs.declared.shared.SharedContr.TheVariants.{Zero as Zero', Pay as Pay', Both', Scale', After', Let', Within'}
 use Rattle.term_core.specs.SharedTerms.{shared, StoresOffsets}
@@ -15,7 +14,7 @@ use Rattle.term_core.specs.Terms.{contract, Contract, Zero, Pay, Both, Scale, Af
 use Rattle.term_core.specs.Flows.{scale_of_contract}
 use Rattle.term_core.specs.Acceptance.{IsAccepted}
 use Rattle.term_core.specs.Sites.{Once}
-use Rattle.term_core.specs.Sizes.{height_of_contract, nodes_of_contract, reach, past_of_contract, work_of_contract}
+use Rattle.term_core.specs.Sizes.{height_of_contract, nodes_of_contract, reach}
 use Rattle.term_core.specs.Smallness.{days_of_contract}
 use Rattle.term_core.specs.Values.{Entry}
 use Rattle.term_core.specs.WellFormed.{IsClosed, HasOnlyNumbers}
@@ -28,7 +27,7 @@ use Rattle.rewriting.specs.Measures.{size_in}
 use Rattle.rewriting.specs.RebuildingContracts.{after_in, IsLessIn, StoresNew}
 use Rattle.rewriting.proofs.SmallFacts.{Small, nodes_are_small}
 use Rattle.specialise.proofs.SpecialRules.{round_rules}
-use Rattle.simplify.specs.Turning.{is_plain_redex, HasNoPlain}
+use Rattle.simplify.specs.Turning.{HasNoPlain}
 use Rattle.simplify.specs.TurningContracts.{turned_in, HasNoPlainIn, IsTurnIn}
 use Rattle.simplify.specs.TurnableContracts.{CanTurnIn}
 use Rattle.specialise.specs.Literals.{HasLiterals, HasLiteralsIn}

@@ -2,7 +2,6 @@
 -- that are added up and binders that are counted fit their types.
 use Rattle.std.specs.Prelude.{ℕ, ◌+◌, ◌<◌, ◌≡◌, ◌≤◌, ◌^◌, Bool, true, false, if◌then◌else◌, ◌&&◌, Option, Some, None, List, ◌∷◌}
 use Rattle.term_core.specs.Declarations.{Declarations}
-use Rattle.term_core.specs.declared.terms.Days.{Days}
 use Rattle.term_core.specs.declared.terms.Days.TheVariants.{Num as Count}
 use Rattle.term_core.specs.declared.values.Kind.{Kind}
 use Rattle.term_core.specs.Terms.{Expression, expression, Contract, Zero, After, Within}

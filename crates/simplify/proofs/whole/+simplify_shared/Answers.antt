@@ -4,7 +4,7 @@ use Rattle.term_core.specs.declared.shared.SharedContr.{SharedContr}
 use Rattle.term_core.specs.SharedTerms.{shared}
 use Rattle.term_core.specs.Terms.{Contract}
 use Rattle.rewriting.specs.Measures.{size_in}
-use Rattle.simplify.specs.TurningContracts.{turned_in, HasNoPlainIn}
+use Rattle.simplify.specs.TurningContracts.{HasNoPlainIn}
 use Rattle.simplify.specs.TurnableContracts.{CanTurnIn}
 use Rattle.specialise.specs.Literals.{HasLiteralsIn}
 use Rattle.simplify.specs.Simplified.{HasNoPlainRedex}
