@@ -7,6 +7,7 @@ pub mod Used
 pub mod Using
 pub mod CheckText
 pub mod FlowsText
+pub mod AdvanceText
 pub mod Answers
 pub mod Runs
 pub mod Checking
