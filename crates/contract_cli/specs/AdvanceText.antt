@@ -3,7 +3,7 @@
 -- line a comment; and then the canonical text of a portfolio that stands on the new day, with what is left of each contract
 -- under its name. Or what stops it, in this order: a day that is out of range, a contract that is refused, a row that is
 -- refused, a read of the days gone by that is not fixed.
-use Rattle.std.specs.Prelude.{◌≡◌, ◌≤◌, ◌<ℤ◌, ◌-◌, ◌-ℤ◌, ℕ, ℤ, pos, List, [], ◌∷◌, ◌++◌, Option, Some, None, Ok, Err, codes}
+use Rattle.std.specs.Prelude.{◌≡◌, ◌≤◌, ◌-◌, ◌-ℤ◌, ℕ, ℤ, pos, List, [], ◌∷◌, ◌++◌, Option, Some, None, Ok, codes}
 use Rattle.term_core.specs.declared.name.Name.{Name}
 use Rattle.term_core.specs.declared.rules.Rule.{Rule}
 use Rattle.term_core.specs.Books.{Book}
@@ -13,7 +13,6 @@ use Rattle.term_core.specs.Terms.{Contract}
 use Rattle.contract_print.specs.Canon.{IsCanon}
 use Rattle.fixing_files.specs.Days.{day_of}
 use Rattle.fixing_files.specs.Tables.{IsFirstFault, table_of}
-use Rattle.fixing_files.specs.declared.days.DayFault.TheVariants.{NoOrigin}
 use Rattle.fixing_files.specs.declared.faults.RowFault.{RowFault}
 use Rattle.flow_eval.specs.FlowAnswers.{AreKnownFlows}
 use Rattle.flow_eval.specs.declared.flow_table.FlowRow.{FlowRow}
@@ -23,22 +22,24 @@ use Rattle.report.specs.declared.fault_lines.Fault.{Fault}
 use Rattle.report.specs.declared.fault_lines.Fault.TheVariants as fault
 use Rattle.contract_cli.specs.CheckText.{AreAllAccepted}
 use Rattle.contract_cli.specs.Commands.{AdvanceAsked}
-use Rattle.contract_cli.specs.FlowsText.{AreAllFixed, AreFixings, IsFirstMissing, IsFirstNotAccepted, label_name}
+use Rattle.contract_cli.specs.FlowsText.{AreAllFixed, AreFixings, IsFirstMissing, IsFirstNotAccepted, IsOutOfRange, label_name}
 use Rattle.contract_cli.specs.Used.{used}
 
 -- ---- the new day
 
--- the day that a word names, from the start to 1,000,000
+-- the greatest day that a portfolio can stand on
+abbrev pub greatest_new_day : ℤ
+greatest_new_day = pos 1_000_000
+
+-- the day that a word names, from the start to the greatest
 pub record IsNewDay (d : Declarations) (word : List ℕ) (day : ℕ) : Type 0 where
   pub named : day_of d.origin word ≡ Ok (pos day)
   pub no_sooner : d.start ≤ day
   pub no_later : day ≤ 1_000_000
 
--- a word is a date where there is no origin, or names a day before the start or above 1,000,000
-pub data IsNoNewDay (d : Declarations) (word : List ℕ) : Type 0 where
-  no_origin : day_of d.origin word ≡ Err NoOrigin → IsNoNewDay d word
-  too_early : (day : ℤ) → day_of d.origin word ≡ Ok day → day <ℤ pos d.start → IsNoNewDay d word
-  too_late : (day : ℤ) → day_of d.origin word ≡ Ok day → pos 1_000_000 <ℤ day → IsNoNewDay d word
+-- a word is a date where there is no origin, or names a day before the start or above the greatest
+abbrev pub IsNoNewDay : Declarations → List ℕ → Type 0
+IsNoNewDay d word = IsOutOfRange d greatest_new_day word
 
 -- the last of the days gone by
 abbrev pub last_gone : ℕ → ℤ

@@ -27,12 +27,17 @@ abbrev pub IsShortTable : Option (List ℕ) → Type 0
 IsShortTable None = Unit {0}
 IsShortTable (Some bytes) = length bytes ≤ 16_777_216
 
--- ---- the last day
+-- ---- the day of a word
 
--- a day, where it can be the last
-abbrev pub day_in_range : Declarations → Result ℤ DayFault → Option ℤ
-day_in_range d (Ok day) = if int_le (pos d.start) day && int_le day greatest_day then Some day else None
-day_in_range d (Err fault) = None
+-- a day, where it is none before the start or above a greatest
+abbrev pub day_in_range : Declarations → ℤ → Result ℤ DayFault → Option ℤ
+day_in_range d greatest (Ok day) = if int_le (pos d.start) day && int_le day greatest then Some day else None
+day_in_range d greatest (Err fault) = None
+
+-- a word names no day in range, and the fault says so
+pub record IsWordFault (d : Declarations) (greatest : ℤ) (word : List ℕ) (f : Fault) : Type 0 where
+  pub out : IsOutOfRange d greatest word
+  pub fault_is : f ≡ fault.Day word
 
 pub record CanBeLast (d : Declarations) (until : Option (List ℕ)) (last : ℤ) : Type 0 where
   pub is_last : IsLastDay d until last
@@ -42,7 +47,7 @@ pub record CanBeLast (d : Declarations) (until : Option (List ℕ)) (last : ℤ)
 pub record IsDayFault (d : Declarations) (until : Option (List ℕ)) (f : Fault) : Type 0 where
   pub word : List ℕ
   pub given : until ≡ Some word
-  pub out : IsOutOfRange d word
+  pub out : IsOutOfRange d greatest_day word
   pub fault_is : f ≡ fault.Day word
 
 -- ---- the fixings

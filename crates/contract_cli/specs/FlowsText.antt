@@ -32,16 +32,20 @@ use Rattle.contract_cli.specs.Used.{is_known, used}
 abbrev pub greatest_day : ℤ
 greatest_day = pos 1_100_000
 
+-- the day that a word names, from the start to a greatest
+abbrev pub IsDayAsked : Declarations → ℤ → List ℕ → ℤ → Type 0
+IsDayAsked d greatest word day = (day_of d.origin word ≡ Ok day) × (pos d.start ≤ℤ day) × (day ≤ℤ greatest)
+
 -- the last day that is asked for: that of a word, or the greatest
 abbrev pub IsLastDay : Declarations → Option (List ℕ) → ℤ → Type 0
 IsLastDay d None last = last ≡ greatest_day
-IsLastDay d (Some word) last = (day_of d.origin word ≡ Ok last) × (pos d.start ≤ℤ last) × (last ≤ℤ greatest_day)
+IsLastDay d (Some word) last = IsDayAsked d greatest_day word last
 
--- a word is a date where there is no origin, or names a day before the start or above the greatest
-pub data IsOutOfRange (d : Declarations) (word : List ℕ) : Type 0 where
-  no_origin : day_of d.origin word ≡ Err NoOrigin → IsOutOfRange d word
-  too_early : (day : ℤ) → day_of d.origin word ≡ Ok day → day <ℤ pos d.start → IsOutOfRange d word
-  too_late : (day : ℤ) → day_of d.origin word ≡ Ok day → greatest_day <ℤ day → IsOutOfRange d word
+-- a word is a date where there is no origin, or names a day before the start or above a greatest
+pub data IsOutOfRange (d : Declarations) (greatest : ℤ) (word : List ℕ) : Type 0 where
+  no_origin : day_of d.origin word ≡ Err NoOrigin → IsOutOfRange d greatest word
+  too_early : (day : ℤ) → day_of d.origin word ≡ Ok day → day <ℤ pos d.start → IsOutOfRange d greatest word
+  too_late : (day : ℤ) → day_of d.origin word ≡ Ok day → greatest <ℤ day → IsOutOfRange d greatest word
 
 -- the fixings of a table, or none where none is named
 abbrev pub AreFixings : Declarations → Option (List ℕ) → Environment → Type 0
@@ -137,7 +141,7 @@ pub data StopsFlows (b : Book) (flows : FlowsAsked) (table : Option (List ℕ)) 
       → StopsFlows b flows table f
   day_out :
       is_known flows.contract b ≡ true
-      → (word : List ℕ) → flows.until ≡ Some word → IsOutOfRange b.declarations word → f ≡ fault.Day word
+      → (word : List ℕ) → flows.until ≡ Some word → IsOutOfRange b.declarations greatest_day word → f ≡ fault.Day word
       → StopsFlows b flows table f
   not_accepted :
       (last : ℤ) → WordsFit b flows last

@@ -12,5 +12,6 @@ pub mod Answers
 pub mod Runs
 pub mod Checking
 pub mod FlowLists
+pub mod AdvanceLists
 pub mod Answering
 pub mod RunLaws

@@ -15,7 +15,7 @@ use Rattle.contract_cli.specs.Answers.{Answers, Inputs, IsNoText}
 use Rattle.contract_cli.specs.Answering.{AreShort}
 use Rattle.contract_cli.specs.CheckText.{AreAllAccepted, IsChecked}
 use Rattle.contract_cli.specs.Commands.{Asked, Check, Flows, FlowsAsked, fixings_file, portfolio_file}
-use Rattle.contract_cli.specs.FlowsText.{AreAllFixed, AreFixings, CanGo, IsFlowsText, IsOutOfRange, WordsFit}
+use Rattle.contract_cli.specs.FlowsText.{AreAllFixed, AreFixings, CanGo, IsFlowsText, IsOutOfRange, WordsFit, greatest_day}
 use Rattle.contract_cli.specs.Runs.{NamesSample, Edge, FilesSeen, IsNext, Meets, Names, WritesAll, WritesNothing, longest_file}
 use Rattle.contract_cli.specs.Used.{is_known, used}
 use Rattle.contract_cli.specs.Words.{request_of}
@@ -84,7 +84,7 @@ pub record DayIsOut (flows : FlowsAsked) (b : Book) : Type 0 where
   pub known : is_known flows.contract b ≡ true
   pub word : List ℕ
   pub given : flows.until ≡ Some word
-  pub out : IsOutOfRange b.declarations word
+  pub out : IsOutOfRange b.declarations greatest_day word
 
 -- the words fit, and some contract that is used is not accepted
 pub record SomeIsRefused (flows : FlowsAsked) (b : Book) : Type 0 where

@@ -8,9 +8,10 @@ use Rattle.contract_parse.specs.NameTexts.{is_name_text}
 use Rattle.fixing_files.specs.Days.{day_named, digits_of}
 use Rattle.fixing_files.specs.declared.days.NamedDay.{NamedDay}
 use Rattle.contract_cli.specs.Arguments.{IsAnswer, asked_of, declared, flag, is_set, optional, required, valued}
-use Rattle.contract_cli.specs.Commands.{Asked, Check, Flows, FlowsAsked, Request, OnFiles, Sample}
+use Rattle.contract_cli.specs.Commands.{Asked, Check, Flows, FlowsAsked, Advance, AdvanceAsked, Request, OnFiles, Sample}
 use Rattle.contract_cli.specs.declared.words.Command.{Command}
 use Rattle.contract_cli.specs.declared.words.Command.TheVariants as command
+use Rattle.contract_cli.specs.declared.words.Advance.{Advance as AdvanceCommand}
 use Rattle.contract_cli.specs.declared.words.Flows.{Flows as FlowsCommand}
 use Rattle.contract_cli.specs.declared.words.Request.{Request as Requested}
 use Rattle.contract_cli.specs.declared.words.Request.TheVariants as request
@@ -26,9 +27,13 @@ flows_by flows = record {
   net = flows.net;
 }
 
+abbrev pub advance_by : AdvanceCommand → AdvanceAsked
+advance_by advance = record { portfolio = advance.portfolio.now; fixings = advance.fixings.now; to = advance.to.word.now }
+
 abbrev pub asked_by : Command → Asked
 asked_by (command.Check portfolio) = Check portfolio.now
 asked_by (command.Flows flows) = Flows (flows_by flows)
+asked_by (command.Advance advance) = Advance (advance_by advance)
 
 -- what is requested of the program
 abbrev pub requested_by : Requested → Request
@@ -99,6 +104,26 @@ flows_from word = flows_with
 abbrev pub flows_of : List Text → Option Request
 flows_of words = asked_of flows_app flows_from words
 
+-- ---- `advance PORTFOLIO FIXINGS --to DAY`
+
+abbrev pub advance_app : App
+advance_app = declared (codes "advance") (required (codes "portfolio") ∷ required (codes "fixings") ∷ valued (codes "to") ∷ [])
+
+-- an option that has to be given, if it has its form
+abbrev pub with_form : (Text → Bool) → Option Text → Option Text
+with_form has_its_form None = None
+with_form has_its_form (Some word) = if has_its_form word then Some word else None
+
+abbrev pub advance_with : Option Text → Option Text → Option Text → Option Request
+advance_with (Some file) (Some fixings) (Some to) = Some (OnFiles (Advance (record { portfolio = file; fixings = fixings; to = to })))
+advance_with _ _ _ = None
+
+abbrev pub advance_from : (Text → Option Text) → Option Request
+advance_from word = advance_with (word (codes "portfolio")) (word (codes "fixings")) (with_form is_day (word (codes "to")))
+
+abbrev pub advance_of : List Text → Option Request
+advance_of words = asked_of advance_app advance_from words
+
 -- ---- `sample NUMBER`
 
 abbrev pub sample_app : App
@@ -118,6 +143,7 @@ request_of [] = None
 request_of (name ∷ rest) =
     if bytes_eq name (codes "check") then check_of rest
     else if bytes_eq name (codes "flows") then flows_of rest
+    else if bytes_eq name (codes "advance") then advance_of rest
     else if bytes_eq name (codes "sample") then sample_of rest
     else None
 

@@ -15,6 +15,7 @@ ghost use Rattle.contract_cli.specs.Using.{IsSound};
 ghost use Rattle.contract_cli.specs.Words.{asked_by};
 ghost use Rattle.contract_cli.specs.declared.status.Status.TheVariants.{Done as done};
 
+use crate::advance_text::advance_text;
 use crate::check_text::check_text;
 use crate::flows_text::flows_text;
 use crate::sample_size::SampleSize;
@@ -118,6 +119,13 @@ pub fn answer_bytes(alloc: Global, command: &Command<'_>, inputs: &Inputs) -> Re
         }
         Command::Flows(flows) => {
             let text = flows_text(alloc, &portfolio, flows, lent(&inputs.fixings))?;
+            Ok(Answer {
+                status: Status::Done,
+                text,
+            })
+        }
+        Command::Advance(advance) => {
+            let text = advance_text(alloc, &portfolio, advance, lent(&inputs.fixings))?;
             Ok(Answer {
                 status: Status::Done,
                 text,

@@ -53,6 +53,10 @@ fn named_files<'a>(command: &Command<'a>) -> Named<'a>
             portfolio: flows.portfolio,
             fixings: flows.fixings,
         },
+        Command::Advance(advance) => Named {
+            portfolio: advance.portfolio,
+            fixings: Some(advance.fixings),
+        },
     }
 }
 
@@ -122,8 +126,9 @@ fn prepare<'a, F: Files>(
 /// Runs the command of the words, which are those of the command line without the program's name: reads the named
 /// files, each once and in order, makes the whole text, and writes it. `check PORT` writes a line for each contract, in
 /// their order, that says whether it is accepted; `flows PORT [FIX] [--until DAY] [--contract NAME] [--net]` writes the
-/// flow lines of all contracts, or of the named one, or of their sum, over the fixings, up to the day; `sample NUMBER` reads no
-/// file and writes the summary of the sample of so many contracts. What stops a command writes the line of its fault.
+/// flow lines of all contracts, or of the named one, or of their sum, over the fixings, up to the day; `advance PORT FIX --to
+/// DAY` writes the flow lines of the days before the day as comments, and the portfolio that is left on it; `sample NUMBER`
+/// reads no file and writes the summary of the sample of so many contracts. What stops a command writes the line of its fault.
 pub fn run<'a, F: Files, S: Sink>(
     alloc: Global,
     words: &'a [&'a str],

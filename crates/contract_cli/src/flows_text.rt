@@ -10,94 +10,34 @@ ghost use Rattle.term_core.specs.Terms.{contract};
 ghost use Rattle.flow_eval.specs.FlowAnswers.{AreKnownFlows};
 ghost use Rattle.flow_eval.specs.Tables.{IsDueRow};
 ghost use Rattle.contract_cli.specs.CheckText.{AreAllAccepted};
-ghost use Rattle.contract_cli.specs.FlowLists.{AnswersLines, AnswersTables, AppendsLines, CanBeLast, HoldsFixings, IsDayFault, IsMissingOf, IsMissingOne, IsRefusedOf, IsRefusedOne, IsRowFault, IsShortTable, IsStopOf, LinesKnown, day_in_range};
-ghost use Rattle.contract_cli.specs.FlowsText.{IsFlowsText, StopsFlows, label_name};
+ghost use Rattle.contract_cli.specs.FlowLists.{AnswersLines, AnswersTables, AppendsLines, CanBeLast, IsDayFault, IsMissingOf, IsMissingOne, IsShortTable, LinesKnown};
+ghost use Rattle.contract_cli.specs.FlowsText.{IsFlowsText, StopsFlows};
 ghost use Rattle.contract_cli.specs.Stopping.{AnswersBy};
-ghost use Rattle.contract_cli.specs.Using.{IsSound, IsTriable, entries_of, entry_of};
+ghost use Rattle.contract_cli.specs.Using.{IsSound, entries_of};
 ghost use Rattle.contract_cli.specs.Words.{flows_by};
 
-use crate::check_text::verdict;
 use crate::day_words::DayWord;
+use crate::over_fixings::{accept_all, day_asked, fixings_of, stop_of};
 use crate::stop::Stop;
 use crate::used::{Used, know, used_contracts};
 use crate::words::Flows;
 use decimal::NoMemory;
-use fixing_files::{DayFault, Fixings, RowErr, place_day, read_fixings};
-use flow_eval::{FlowErr, FlowTable, flows};
-use report::{Fault, flow_line, net};
+use fixing_files::Fixings;
+use flow_eval::{FlowTable, flows};
+use report::{flow_line, net};
 use std::alloc::Global;
-use term_core::{Contr, Decls, Name, Portfolio};
+use term_core::{Contr, Decls, Portfolio};
 
 const LAST_DAY: i64 = 1_100_000;
-
-// A day that can be the last.
-fn day_in_range(decls: &Decls, day: Result<i64, DayFault>) -> Option<i64>
-    ensures { result ≡ day_in_range (declarations decls.now) day }
-{
-    match day {
-        Ok(day) if decls.start as i64 <= day && day <= LAST_DAY => Some(day),
-        _ => None,
-    }
-}
 
 // The day of a word, or of none the last that there is.
 fn last_day(alloc: Global, decls: &Decls, until: Option<DayWord<'_>>) -> Result<i64, Stop>
     ensures { AnswersBy (CanBeLast (declarations decls.now) (option_map (λ day. day.word.now) until.entry)) (IsDayFault (declarations decls.now) (option_map (λ day. day.word.now) until.entry)) result }
 {
-    let Some(asked) = until else {
-        return Ok(LAST_DAY);
-    };
-    match day_in_range(decls, place_day(decls.origin, asked.named)) {
-        Some(day) => Ok(day),
-        None => {
-            let word = Name::new(alloc, asked.word.as_bytes())?;
-            Err(Stop::Fault(Fault::Day { word }))
-        }
+    match until {
+        Some(asked) => day_asked(alloc, decls, asked, LAST_DAY),
+        None => Ok(LAST_DAY),
     }
-}
-
-// The fixings of a table, or none where none is named.
-fn fixings_of(alloc: Global, decls: &Decls, table: Option<&[u8]>) -> Result<Fixings, Stop>
-    requires { IsShortTable (option_map (λ bytes. bytes.now) table) }
-    ensures { AnswersBy (HoldsFixings (declarations decls.now) (option_map (λ bytes. bytes.now) table.entry)) (IsRowFault (declarations decls.now) (option_map (λ bytes. bytes.now) table.entry)) result }
-{
-    let Some(bytes) = table else {
-        return Ok(Fixings::none(alloc));
-    };
-    match read_fixings(alloc, bytes, decls) {
-        Ok(fixings) => Ok(fixings),
-        Err(RowErr::Row(fault)) => Err(Stop::Fault(Fault::Row { place: 2, fault })),
-        Err(RowErr::NoMemory) => Err(Stop::NoMemory),
-    }
-}
-
-// Stops at a contract that is not accepted.
-fn accept(alloc: Global, decls: &Decls, one: &Used<'_>) -> Result<(), Stop>
-    requires { IsTriable (declarations decls.now) (entry_of one.now).1 }
-    ensures { AnswersBy (λ _. IsAccepted (declarations decls.now) (entry_of one.now).1) (IsRefusedOne (declarations decls.now) (entry_of one.now)) result }
-{
-    match verdict(alloc, decls, one.contr.contr())? {
-        Ok(_) => Ok(()),
-        Err(fault) => {
-            let name = Name::new(alloc, one.name.text())?;
-            Err(Stop::Fault(Fault::Refused {
-                name,
-                rule: fault.rule,
-                node: fault.node,
-            }))
-        }
-    }
-}
-
-// Stops at the first contract that is not accepted.
-fn accept_all(alloc: Global, decls: &Decls, ones: &[Used<'_>]) -> Result<(), Stop>
-    requires { All (λ entry. IsTriable (declarations decls.now) entry.1) (entries_of ones.now) }
-    ensures { AnswersBy (λ _. AreAllAccepted (declarations decls.now) (entries_of ones.now)) (IsRefusedOf (declarations decls.now) (entries_of ones.now)) result }
-{
-    for one in ones {
-        accept(alloc, decls, one)?;
-    }
-    Ok(())
 }
 
 // Appends the lines of a flow table.
@@ -115,29 +55,6 @@ fn append_table(
         flow_line(alloc, out, decls, name, row)?;
     }
     Ok(())
-}
-
-// The name of a declared label.
-fn label_name(decls: &Decls, label: u32) -> &[u8]
-    ensures { result.now ≡ label_name (declarations decls.now) label }
-{
-    match decls.labels.get_index(label as usize) {
-        Some((name, _)) => name.text(),
-        None => &[],
-    }
-}
-
-// What stops a command that has no flows.
-fn stop_of(alloc: Global, decls: &Decls, error: FlowErr) -> Stop
-    ensures { IsStopOf (declarations decls.now) error result }
-{
-    match error {
-        FlowErr::Missing { label, day } => match Name::new(alloc, label_name(decls, label)) {
-            Ok(label) => Stop::Fault(Fault::Missing { label, day }),
-            Err(NoMemory) => Stop::NoMemory,
-        },
-        FlowErr::NoMemory => Stop::NoMemory,
-    }
 }
 
 // What flows are asked over: what is fixed, and the last day.

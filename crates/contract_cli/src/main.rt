@@ -1,6 +1,7 @@
 //! Tilugba, the manager for financial contracts between parties.
 #![tactic(auto)]
 
+mod advance_text;
 mod answers;
 mod arguments;
 mod check_text;
@@ -8,6 +9,7 @@ mod command;
 mod day_words;
 mod flows_text;
 pub mod laws;
+mod over_fixings;
 mod sample_size;
 mod status;
 mod stop;

@@ -3,7 +3,7 @@
 ghost use Rattle.std.specs.Prelude.{◌≡◌, map, option_map};
 ghost use Rattle.contract_parse.specs.NameTexts.{is_name_text};
 ghost use Rattle.contract_cli.specs.Arguments.{IsAnswer};
-ghost use Rattle.contract_cli.specs.Words.{IsRequestOf, check_of, flows_of, if_given, is_day, request_of, requested_by, sample_of};
+ghost use Rattle.contract_cli.specs.Words.{IsRequestOf, advance_of, check_of, flows_of, if_given, is_day, request_of, requested_by, sample_of, with_form};
 
 use crate::arguments::{Argument, WordsErr, is_set, matches_of};
 use crate::day_words::DayWord;
@@ -22,6 +22,15 @@ pub struct Flows<'a> {
     pub net: bool,
 }
 
+/// The flows of a portfolio's file that are due before a day, over the fixings of another file, and the portfolio that is
+/// left on that day.
+#[derive(Clone, Copy)]
+pub struct Advance<'a> {
+    pub portfolio: &'a str,
+    pub fixings: &'a str,
+    pub to: DayWord<'a>,
+}
+
 /// A command, with what it is given.
 #[derive(Clone, Copy)]
 pub enum Command<'a> {
@@ -29,6 +38,8 @@ pub enum Command<'a> {
     Check { portfolio: &'a str },
     /// Lists what the contracts pay.
     Flows(Flows<'a>),
+    /// Advances the portfolio to a day.
+    Advance(Advance<'a>),
 }
 
 /// What words ask for.
@@ -56,6 +67,19 @@ fn day_if_given(word: Option<&str>) -> Result<Option<DayWord<'_>>, WordsErr>
     };
     match DayWord::read(text) {
         Some(day) => Ok(Some(day)),
+        None => Err(WordsErr::Usage),
+    }
+}
+
+// A day that has to be given.
+fn day_given(word: Option<&str>) -> Result<DayWord<'_>, WordsErr>
+    ensures { IsAnswer (λ day. day.word.now) (with_form is_day (option_map (λ word. word.now) word.entry)) result }
+{
+    let Some(text) = word else {
+        return Err(WordsErr::Usage);
+    };
+    match DayWord::read(text) {
+        Some(day) => Ok(day),
         None => Err(WordsErr::Usage),
     }
 }
@@ -104,6 +128,26 @@ fn flows_of<'a>(alloc: Global, words: &'a [&'a str]) -> Result<Request<'a>, Word
     })))
 }
 
+// `advance PORTFOLIO FIXINGS --to DAY`, by the words behind the first.
+fn advance_of<'a>(alloc: Global, words: &'a [&'a str]) -> Result<Request<'a>, WordsErr>
+    ensures { IsAnswer requested_by (advance_of (map (λ word. word.now) words.entry.now)) result }
+{
+    let arguments = [
+        Argument::Required("portfolio"),
+        Argument::Required("fixings"),
+        Argument::Valued("to"),
+    ];
+    let matches = matches_of(alloc, "advance", &arguments, words)?;
+    let portfolio = given(matches.get_str("portfolio"))?;
+    let fixings = given(matches.get_str("fixings"))?;
+    let to = day_given(matches.get_str("to"))?;
+    Ok(Request::OnFiles(Command::Advance(Advance {
+        portfolio,
+        fixings,
+        to,
+    })))
+}
+
 // `sample NUMBER`, by the words behind the first.
 fn sample_of<'a>(alloc: Global, words: &'a [&'a str]) -> Result<Request<'a>, WordsErr>
     ensures { IsAnswer requested_by (sample_of (map (λ word. word.now) words.entry.now)) result }
@@ -129,6 +173,8 @@ pub fn request_of<'a>(alloc: Global, words: &'a [&'a str]) -> Result<Request<'a>
         check_of(alloc, rest)
     } else if *name == "flows" {
         flows_of(alloc, rest)
+    } else if *name == "advance" {
+        advance_of(alloc, rest)
     } else if *name == "sample" {
         sample_of(alloc, rest)
     } else {

@@ -1,0 +1,53 @@
+-- What the parts of `advance` answer: the comments and the contracts that are left, behind those that were there before.
+use Rattle.std.specs.Prelude.{◌≡◌, ◌-◌, ℕ, pos, List, [], ◌∷◌, ◌++◌, Result}
+use Rattle.term_core.specs.declared.name.Name.{Name}
+use Rattle.term_core.specs.Books.{Book}
+use Rattle.term_core.specs.Declarations.{Declarations}
+use Rattle.term_core.specs.Environments.{Environment}
+use Rattle.term_core.specs.Terms.{Contract}
+use Rattle.contract_print.specs.Canon.{IsCanon}
+use Rattle.flow_eval.specs.FlowAnswers.{AreKnownFlows}
+use Rattle.flow_eval.specs.declared.flow_table.FlowRow.{FlowRow}
+use Rattle.advance_step.specs.Advancing.{IsResidual}
+use Rattle.contract_cli.specs.AdvanceText.{AreComments, AreDueLines, AreResiduals, last_gone, rest_declarations}
+use Rattle.contract_cli.specs.FlowLists.{IsMissingOf}
+use Rattle.contract_cli.specs.FlowsText.{AreAllFixed}
+use Rattle.contract_cli.specs.Stopping.{AnswersBy}
+use Rattle.contract_cli.specs.Using.{trees}
+use Rattle.contract_cli.specs.declared.advance_text.Left.{Left}
+use Rattle.contract_cli.specs.declared.stop.Stop.{Stop}
+
+-- the comments of rows, behind what was there before
+pub record AppendsComments (d : Declarations) (name : List ℕ) (rows : List FlowRow) (before after : List ℕ) : Type 0 where
+  pub text : List ℕ
+  pub comments : AreComments d name rows text
+  pub appended : after ≡ before ++ text
+
+-- what is due of a contract and what is left of it, behind those of the contracts before it
+pub record AppendsRest (d : Declarations) (fixings : Environment) (day : ℕ) (entry : Name × Contract) (before after : Left) : Type 0 where
+  pub rows : List FlowRow
+  pub flows : AreKnownFlows d entry.1 fixings (pos d.start) (last_gone day) rows
+  pub comments : AppendsComments d entry.0 rows before.due.items after.due.items
+  pub rest : Contract
+  pub residual : IsResidual d fixings (pos d.start) (day - d.start) entry.1 rest
+  pub kept : trees after.contracts.entries ≡ trees before.contracts.entries ++ (entry.0, rest) ∷ []
+
+-- the same of contracts
+pub record AppendsRests (d : Declarations) (fixings : Environment) (day : ℕ) (entries : List (Name × Contract)) (due : List ℕ) (contracts : List (Name × Contract)) (left : Left) : Type 0 where
+  pub fixed : AreAllFixed d fixings (last_gone day) entries
+  pub text : List ℕ
+  pub lines : AreDueLines d fixings (last_gone day) entries text
+  pub due_is : left.due.items ≡ due ++ text
+  pub rest : List (Name × Contract)
+  pub residuals : AreResiduals d fixings day entries rest
+  pub kept : trees left.contracts.entries ≡ contracts ++ rest
+
+abbrev pub AnswersRests : Declarations → Environment → ℕ → List (Name × Contract) → List ℕ → List (Name × Contract) → Result Left Stop → Type 0
+AnswersRests d fixings day entries due contracts r =
+    AnswersBy (λ left. AppendsRests d fixings day entries due contracts left) (IsMissingOf d fixings (last_gone day) entries) r
+
+-- the canonical text of what is left, behind what is due
+pub record IsRestText (d : Declarations) (day : ℕ) (contracts : List (Name × Contract)) (due text : List ℕ) : Type 0 where
+  pub canon : List ℕ
+  pub is_canon : IsCanon canon (record { declarations = rest_declarations d day; contracts = contracts })
+  pub is : text ≡ due ++ canon

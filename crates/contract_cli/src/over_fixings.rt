@@ -1,0 +1,119 @@
+//! Commands over fixings: the day that a word asks for, the contracts that are accepted, the fixings of a table, and what
+//! stops a command that lacks one of these.
+
+ghost use Rattle.std.specs.Prelude.{◌≡◌, ◌≤ℤ◌, pos, option_map};
+ghost use Rattle.std.specs.List.{All};
+ghost use Rattle.term_core.specs.Acceptance.{IsAccepted};
+ghost use Rattle.term_core.specs.Declarations.{declarations};
+ghost use Rattle.contract_cli.specs.CheckText.{AreAllAccepted};
+ghost use Rattle.contract_cli.specs.FlowLists.{HoldsFixings, IsRefusedOf, IsRefusedOne, IsRowFault, IsShortTable, IsStopOf, IsWordFault, day_in_range};
+ghost use Rattle.contract_cli.specs.FlowsText.{IsDayAsked, label_name};
+ghost use Rattle.contract_cli.specs.Stopping.{AnswersBy};
+ghost use Rattle.contract_cli.specs.Using.{IsTriable, entries_of, entry_of};
+
+use crate::check_text::verdict;
+use crate::day_words::DayWord;
+use crate::stop::Stop;
+use crate::used::Used;
+use decimal::NoMemory;
+use fixing_files::{DayFault, Fixings, RowErr, place_day, read_fixings};
+use flow_eval::FlowErr;
+use report::Fault;
+use std::alloc::Global;
+use term_core::{Decls, Name};
+
+// A day, where it is none before the start or above the greatest.
+fn day_in_range(decls: &Decls, day: Result<i64, DayFault>, greatest: i64) -> Option<i64>
+    ensures { result ≡ day_in_range (declarations decls.now) greatest day }
+{
+    match day {
+        Ok(day) if decls.start as i64 <= day && day <= greatest => Some(day),
+        _ => None,
+    }
+}
+
+/// The day of a word, from the start to the greatest.
+pub fn day_asked(
+    alloc: Global,
+    decls: &Decls,
+    asked: DayWord<'_>,
+    greatest: i64,
+) -> Result<i64, Stop>
+    requires { greatest ≤ℤ pos 1_100_000 }
+    ensures { AnswersBy (IsDayAsked (declarations decls.now) greatest asked.word.now) (IsWordFault (declarations decls.now) greatest asked.word.now) result }
+{
+    match day_in_range(decls, place_day(decls.origin, asked.named), greatest) {
+        Some(day) => Ok(day),
+        None => {
+            let word = Name::new(alloc, asked.word.as_bytes())?;
+            Err(Stop::Fault(Fault::Day { word }))
+        }
+    }
+}
+
+/// The fixings of a table, or none where none is named.
+pub fn fixings_of(alloc: Global, decls: &Decls, table: Option<&[u8]>) -> Result<Fixings, Stop>
+    requires { IsShortTable (option_map (λ bytes. bytes.now) table) }
+    ensures { AnswersBy (HoldsFixings (declarations decls.now) (option_map (λ bytes. bytes.now) table.entry)) (IsRowFault (declarations decls.now) (option_map (λ bytes. bytes.now) table.entry)) result }
+{
+    let Some(bytes) = table else {
+        return Ok(Fixings::none(alloc));
+    };
+    match read_fixings(alloc, bytes, decls) {
+        Ok(fixings) => Ok(fixings),
+        Err(RowErr::Row(fault)) => Err(Stop::Fault(Fault::Row { place: 2, fault })),
+        Err(RowErr::NoMemory) => Err(Stop::NoMemory),
+    }
+}
+
+// Stops at a contract that is not accepted.
+fn accept(alloc: Global, decls: &Decls, one: &Used<'_>) -> Result<(), Stop>
+    requires { IsTriable (declarations decls.now) (entry_of one.now).1 }
+    ensures { AnswersBy (λ _. IsAccepted (declarations decls.now) (entry_of one.now).1) (IsRefusedOne (declarations decls.now) (entry_of one.now)) result }
+{
+    match verdict(alloc, decls, one.contr.contr())? {
+        Ok(_) => Ok(()),
+        Err(fault) => {
+            let name = Name::new(alloc, one.name.text())?;
+            Err(Stop::Fault(Fault::Refused {
+                name,
+                rule: fault.rule,
+                node: fault.node,
+            }))
+        }
+    }
+}
+
+/// Stops at the first contract that is not accepted.
+pub fn accept_all(alloc: Global, decls: &Decls, ones: &[Used<'_>]) -> Result<(), Stop>
+    requires { All (λ entry. IsTriable (declarations decls.now) entry.1) (entries_of ones.now) }
+    ensures { AnswersBy (λ _. AreAllAccepted (declarations decls.now) (entries_of ones.now)) (IsRefusedOf (declarations decls.now) (entries_of ones.now)) result }
+{
+    for one in ones {
+        accept(alloc, decls, one)?;
+    }
+    Ok(())
+}
+
+// The name of a declared label.
+fn label_name(decls: &Decls, label: u32) -> &[u8]
+    ensures { result.now ≡ label_name (declarations decls.now) label }
+{
+    match decls.labels.get_index(label as usize) {
+        Some((name, _)) => name.text(),
+        None => &[],
+    }
+}
+
+/// What stops a command that has no flows.
+pub fn stop_of(alloc: Global, decls: &Decls, error: FlowErr) -> Stop
+    ensures { IsStopOf (declarations decls.now) error result }
+{
+    match error {
+        FlowErr::Missing { label, day } => match Name::new(alloc, label_name(decls, label)) {
+            Ok(label) => Stop::Fault(Fault::Missing { label, day }),
+            Err(NoMemory) => Stop::NoMemory,
+        },
+        FlowErr::NoMemory => Stop::NoMemory,
+    }
+}
