@@ -22,7 +22,7 @@ use Rattle.flow_eval.specs.declared.flow_table.FlowRow.{FlowRow}
 use Rattle.flow_eval.proofs.TableFacts.{tables_are_one}
 use Rattle.report.specs.FlowLines.{IsDayText, IsFlowLine, line_with}
 use Rattle.contract_cli.specs.CheckText.{AreAllAccepted}
-use Rattle.contract_cli.specs.FlowsText.{AreAllFixed, AreAllLines, AreFixings, AreFlowLines, AreLines, AreLinesAsked, AreSumLines, IsFirstMissing, IsFirstNotAccepted, IsLastDay, IsOutOfRange, no_origin, too_early, too_late, missing_of, paid_together}
+use Rattle.contract_cli.specs.FlowsText.{AreAllFixed, AreAllLines, AreFixings, AreFlowLines, AreLines, AreLinesAsked, AreSumLines, IsDayAsked, IsFirstMissing, IsFirstNotAccepted, IsLastDay, IsOutOfRange, no_origin, too_early, too_late, missing_of, paid_together}
 
 -- ---- the last day
 
@@ -30,10 +30,10 @@ pub one_last : (d : Declarations) (until : Option (List ℕ)) (m n : ℤ) → Is
 one_last d None m n h k = h ∙ sym k
 one_last d (Some word) m n h k = let e = sym h.0 ∙ k.0 in cc
 
-pub in_range_or_not : (d : Declarations) (word : List ℕ) (last : ℤ) → IsLastDay d (Some word) last → IsOutOfRange d word → ⊥
-in_range_or_not d word last h (no_origin e) = let same = sym h.0 ∙ e in cc
-in_range_or_not d word last h (too_early day e less) = let same : last ≡ day = (let both = sym h.0 ∙ e in cc) in omega (arith, ints, same, h.1, less)
-in_range_or_not d word last h (too_late day e more) = let same : last ≡ day = (let both = sym h.0 ∙ e in cc) in omega (arith, ints, same, h.2, more)
+pub in_range_or_not : (d : Declarations) (greatest : ℤ) (word : List ℕ) (last : ℤ) → IsDayAsked d greatest word last → IsOutOfRange d greatest word → ⊥
+in_range_or_not d greatest word last h (no_origin e) = let same = sym h.0 ∙ e in cc
+in_range_or_not d greatest word last h (too_early day e less) = let same : last ≡ day = (let both = sym h.0 ∙ e in cc) in omega (arith, ints, same, h.1, less)
+in_range_or_not d greatest word last h (too_late day e more) = let same : last ≡ day = (let both = sym h.0 ∙ e in cc) in omega (arith, ints, same, h.2, more)
 
 -- ---- the first of a list
 
@@ -145,7 +145,7 @@ one_day_text : (origin : Option ℤ) (day : ℤ) (t u : List ℕ) → IsDayText 
 one_day_text None day t u h k = h ∙ sym k
 one_day_text (Some origin) day t u h k = texts_unique t u (origin +ℤ day) h k
 
-one_line : (d : Declarations) (name : List ℕ) (row : FlowRow) (t u : List ℕ) → IsFlowLine d name row t → IsFlowLine d name row u → t ≡ u
+pub one_line : (d : Declarations) (name : List ℕ) (row : FlowRow) (t u : List ℕ) → IsFlowLine d name row t → IsFlowLine d name row u → t ≡ u
 one_line d name row t u h k = h.is_line ∙ ap (λ (day : List ℕ). line_with d name day row) (one_day_text d.origin row.day h.day k.day h.is_day k.is_day) ∙ sym k.is_line
 
 one_lines : (d : Declarations) (name : List ℕ) (rows : List FlowRow) (t u : List ℕ) → AreLines d name rows t → AreLines d name rows u → t ≡ u
@@ -154,7 +154,7 @@ one_lines d name (row ∷ rows) t u h k =
     h.4 ∙ ap (λ (x : List ℕ). x ++ h.1) (one_line d name row h.0 k.0 h.2 k.2) ∙ ap (λ (x : List ℕ). k.0 ++ x) (one_lines d name rows h.1 k.1 h.3 k.3) ∙ sym k.4
 
 module _ (d : Declarations) (last : ℤ) (one other : Environment) (same : HoldSame one other) where
-  one_table : (c : Contract) (rows more : List FlowRow) → AreKnownFlows d c one (pos d.start) last rows → AreKnownFlows d c other (pos d.start) last more → rows ≡ more
+  pub one_table : (c : Contract) (rows more : List FlowRow) → AreKnownFlows d c one (pos d.start) last rows → AreKnownFlows d c other (pos d.start) last more → rows ≡ more
   one_table c rows more h k =
       tables_are_one (paid_by d c one (pos d.start)) (pos d.start) last rows more (h.table one (λ q v e. e)) (k.table one (λ q v e. same q ∙ e))
 

@@ -34,7 +34,7 @@ use report::flow_line;
 use std::alloc::Global;
 use term_core::{Contr, Decls, Name, Portfolio};
 
-const LAST_NEW_DAY: i64 = 1_000_000;
+const LAST_NEW_DAY: u32 = 1_000_000;
 
 // The new day of a word.
 fn new_day(alloc: Global, decls: &Decls, to: DayWord<'_>) -> Result<u32, Stop>
@@ -145,8 +145,9 @@ fn rest_decls(alloc: Global, decls: &Decls, day: u32) -> Result<Decls, NoMemory>
     requires { day ≤ 1_000_000 }
     ensures { IfOk result (λ rest. declarations rest ≡ rest_declarations (declarations decls.now) day) }
 {
-    let rest = decls.copy(alloc)?;
-    Ok(Decls { start: day, ..rest })
+    let mut rest = decls.copy(alloc)?;
+    rest.start = day;
+    Ok(rest)
 }
 
 // What is due, and behind it the text of what is left.

@@ -28,7 +28,7 @@ use report::{flow_line, net};
 use std::alloc::Global;
 use term_core::{Contr, Decls, Portfolio};
 
-const LAST_DAY: i64 = 1_100_000;
+const LAST_DAY: u32 = 1_100_000;
 
 // The day of a word, or of none the last that there is.
 fn last_day(alloc: Global, decls: &Decls, until: Option<DayWord<'_>>) -> Result<i64, Stop>
@@ -36,7 +36,7 @@ fn last_day(alloc: Global, decls: &Decls, until: Option<DayWord<'_>>) -> Result<
 {
     match until {
         Some(asked) => day_asked(alloc, decls, asked, LAST_DAY),
-        None => Ok(LAST_DAY),
+        None => Ok(LAST_DAY as i64),
     }
 }
 

@@ -1,7 +1,7 @@
 //! Commands over fixings: the day that a word asks for, the contracts that are accepted, the fixings of a table, and what
 //! stops a command that lacks one of these.
 
-ghost use Rattle.std.specs.Prelude.{◌≡◌, ◌≤ℤ◌, pos, option_map};
+ghost use Rattle.std.specs.Prelude.{◌≡◌, ◌≤◌, pos, option_map};
 ghost use Rattle.std.specs.List.{All};
 ghost use Rattle.term_core.specs.Acceptance.{IsAccepted};
 ghost use Rattle.term_core.specs.Declarations.{declarations};
@@ -23,11 +23,11 @@ use std::alloc::Global;
 use term_core::{Decls, Name};
 
 // A day, where it is none before the start or above the greatest.
-fn day_in_range(decls: &Decls, day: Result<i64, DayFault>, greatest: i64) -> Option<i64>
-    ensures { result ≡ day_in_range (declarations decls.now) greatest day }
+fn day_in_range(decls: &Decls, day: Result<i64, DayFault>, greatest: u32) -> Option<i64>
+    ensures { result ≡ day_in_range (declarations decls.now) (pos greatest) day }
 {
     match day {
-        Ok(day) if decls.start as i64 <= day && day <= greatest => Some(day),
+        Ok(day) if decls.start as i64 <= day && day <= greatest as i64 => Some(day),
         _ => None,
     }
 }
@@ -37,10 +37,10 @@ pub fn day_asked(
     alloc: Global,
     decls: &Decls,
     asked: DayWord<'_>,
-    greatest: i64,
+    greatest: u32,
 ) -> Result<i64, Stop>
-    requires { greatest ≤ℤ pos 1_100_000 }
-    ensures { AnswersBy (IsDayAsked (declarations decls.now) greatest asked.word.now) (IsWordFault (declarations decls.now) greatest asked.word.now) result }
+    requires { greatest ≤ 1_100_000 }
+    ensures { AnswersBy (IsDayAsked (declarations decls.now) (pos greatest) asked.word.now) (IsWordFault (declarations decls.now) (pos greatest) asked.word.now) result }
 {
     match day_in_range(decls, place_day(decls.origin, asked.named), greatest) {
         Some(day) => Ok(day),

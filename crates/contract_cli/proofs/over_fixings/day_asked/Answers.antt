@@ -1,33 +1,31 @@
-use Rattle.std.proofs.Common.{◌≡◌, ℕ, ℤ, List, ap, of_z, rules, subst, sym, to_z, w64}
-use Rattle.std.specs.Prelude.{Option, Some, None, option_map}
-use Rattle.std.proofs.lemmas.Int.{to_z-of_z}
+use Rattle.std.proofs.Common.{◌≡◌, ◌≤ℤ◌, ℤ, arith, ap, of_z, pos, rules, subst, sym, to_z, w64}
+use Rattle.std.specs.Prelude.{Some, None}
+use Rattle.std.proofs.lemmas.Int.{ints, to_z-of_z}
 use Rattle.term_core.specs.Declarations.{declarations}
 use Rattle.fixing_files.specs.Days.{placed_day}
 use Rattle.report.specs.declared.fault_lines.Fault.TheVariants as fault
-use Rattle.contract_cli.specs.FlowLists.{CanBeLast, day_in_range}
-use Rattle.contract_cli.specs.declared.day_words.DayWord.{DayWord}
-use Rattle.contract_cli.proofs.DayFacts.{fits_day, is_last, is_out}
-use Rattle.contract_cli.proofs.flows_text.last_day.Goals as goal
+use Rattle.contract_cli.specs.FlowLists.{day_in_range}
+use Rattle.contract_cli.specs.FlowsText.{IsDayAsked}
+use Rattle.contract_cli.proofs.DayFacts.{asked_first, fits_day, is_asked_day, is_out}
+use Rattle.contract_cli.proofs.over_fixings.day_asked.Goals as goal
 
-abbrev given : Option DayWord → Option (List ℕ)
-given until = option_map (λ (day : DayWord). day.word.now) until
-
-pub returns-in-Some-day_in_range : goal.returns-in-Some-day_in_range
-returns-in-Some-day_in_range c =
+pub returns-in-Some : goal.returns-in-Some
+returns-in-Some c =
     let d = declarations c.args.decls.now in
-    let day = c.in-Some.asked in
-    let last = c.in-Some-day_in_range.day in
-    let asked : given c.args.until ≡ Some day.word.now = search rules in
-    let some : day_in_range d (placed_day d.origin day.named) ≡ Some last = search rules in
-    let can = is_last d day.word.now day.named last day.reads some in
-    let same : to_z w64 (of_z w64 last) ≡ last = to_z-of_z w64 last (fits_day last can.first can.within) in
-    subst (λ (word : Option (List ℕ)). CanBeLast d word (to_z w64 (of_z w64 last))) (sym asked) (subst (λ (x : ℤ). CanBeLast d (Some day.word.now) x) (sym same) can)
+    let most = pos c.args.greatest in
+    let word = c.args.asked.word.now in
+    let day = c.in-Some.day in
+    let some : day_in_range d most (placed_day d.origin c.args.asked.named) ≡ Some day = search rules in
+    let is = is_asked_day d most word c.args.asked.named day c.args.asked.reads some in
+    let late : day ≤ℤ pos 1_100_000 = (let high = is.2 in let few = c.requires in omega (arith, ints)) in
+    let same : to_z w64 (of_z w64 day) ≡ day = to_z-of_z w64 day (fits_day day (asked_first d most word day is) late) in
+    subst (λ (x : ℤ). IsDayAsked d most word x) (sym same) is
 
-pub returns-in_ok-word-in-None : goal.returns-in_ok-word-in-None
-returns-in_ok-word-in-None c =
+pub returns : goal.returns
+returns c =
     let d = declarations c.args.decls.now in
-    let day = c.in-Some.asked in
-    let asked : given c.args.until ≡ Some day.word.now = search rules in
-    let none : day_in_range d (placed_day d.origin day.named) ≡ None = search rules in
-    let same : c.in_ok-word-in-None.word ≡ day.word.now = search rules in
-    record { word = day.word.now; given = asked; out = is_out d day.word.now day.named day.reads none; fault_is = ap (λ (w : List ℕ). fault.Day w) same }
+    let most = pos c.args.greatest in
+    let word = c.args.asked.word.now in
+    let none : day_in_range d most (placed_day d.origin c.args.asked.named) ≡ None = search rules in
+    let same : c.in_ok-word.word ≡ word = search rules in
+    record { out = is_out d most word c.args.asked.named c.args.asked.reads none; fault_is = ap (λ w. fault.Day w) same }
