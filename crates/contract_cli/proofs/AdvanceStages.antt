@@ -10,7 +10,7 @@ use Rattle.contract_cli.specs.AdvanceText.{AreDueLines, CanAdvance, IsAdvanceTex
 use Rattle.contract_cli.specs.Commands.{Advance, AdvanceAsked}
 use Rattle.contract_cli.specs.FlowLists.{IsWordFault}
 use Rattle.contract_cli.specs.FlowsText.{IsDayAsked}
-use Rattle.contract_cli.specs.RunLaws.{CauseOnBook}
+use Rattle.contract_cli.specs.RunLaws.{CauseOnBook, DueLinesAreOne}
 use Rattle.contract_cli.specs.Statuses.{status_of}
 use Rattle.contract_cli.specs.Used.{used}
 use Rattle.contract_cli.specs.declared.status.Status.{Status}
@@ -21,10 +21,10 @@ use Rattle.contract_cli.proofs.FlowsAreOne.{hold_same, in_range_or_not}
 use Rattle.contract_cli.proofs.Stages.{Below, Days, IsAtStage, StopsAt, no_end, one_stop_at}
 
 -- the last of the days gone by, before the day of a word
-record IsLastGone (d : Declarations) (word : List ℕ) (last : ℤ) : Type 0 where
-  day : ℕ
-  is_day : IsNewDay d word day
-  is_last : last ≡ last_gone day
+pub record IsLastGone (d : Declarations) (word : List ℕ) (last : ℤ) : Type 0 where
+  pub day : ℕ
+  pub is_day : IsNewDay d word day
+  pub is_last : last ≡ last_gone day
 
 pub one_day : (d : Declarations) (word : List ℕ) (m n : ℕ) → IsNewDay d word m → IsNewDay d word n → m ≡ n
 one_day d word m n h k = let e = sym h.named ∙ k.named in cc
@@ -35,7 +35,7 @@ one_last d word m n h k = h.is_last ∙ ap last_gone (one_day d word h.day k.day
 new_or_not : (d : Declarations) (word : List ℕ) (last : ℤ) → IsLastGone d word last → IsNoNewDay d word → ⊥
 new_or_not d word last h k = in_range_or_not d greatest_new_day word (pos h.day) (new_is_asked d word h.day h.is_day) k
 
-abbrev days : Declarations → List ℕ → Days
+abbrev pub days : Declarations → List ℕ → Days
 days d word = record {
   Last = IsLastGone d word;
   Out = IsNoNewDay d word;
@@ -79,12 +79,6 @@ module _ (b : Book) (asked : AdvanceAsked) (table : Option (List ℕ)) where
   pub stop_or_text : (f : Fault) (text : List ℕ) → StopsAdvance b asked table f → IsAdvanceText b asked table text → ⊥
   stop_or_text f text h t = stop_or_end f t.day t.fixings h t.can
 
-  pub due_lines_are_one : (t u : List ℕ) (h : IsAdvanceText b asked table t) (k : IsAdvanceText b asked table u) → h.due ≡ k.due
-  due_lines_are_one t u h k =
-      let same = hold_same b.declarations table h.fixings k.fixings h.can.are_fixings k.can.are_fixings in
-      let day = one_day b.declarations asked.to k.day h.day k.can.is_day h.can.is_day in
-      one_due b.declarations (last_gone h.day) h.fixings k.fixings same (used None b) h.due k.due h.are_due (subst (λ (x : ℕ). AreDueLines b.declarations k.fixings (last_gone x) (used None b) k.due) day k.are_due)
-
   -- ---- a status and its cause
 
   abbrev pub AtStage : Status → Type 0
@@ -102,3 +96,10 @@ module _ (b : Book) (asked : AdvanceAsked) (table : Option (List ℕ)) where
     status_is = refl;
   }
   cause_stage _ h = absurd h
+
+pub due_are_one : DueLinesAreOne
+due_are_one b asked table one other h k =
+    let same = hold_same b.declarations table h.fixings k.fixings h.can.are_fixings k.can.are_fixings in
+    let day = one_day b.declarations asked.to k.day h.day k.can.is_day h.can.is_day in
+    let there = subst (λ (x : ℕ). AreDueLines b.declarations k.fixings (last_gone x) (used None b) k.due) day k.are_due in
+    (one_due b.declarations (last_gone h.day) h.fixings k.fixings same (used None b) h.due k.due h.are_due there, sym day)

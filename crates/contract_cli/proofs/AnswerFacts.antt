@@ -7,8 +7,9 @@ use Rattle.term_core.specs.Books.{Book}
 use Rattle.contract_parse.specs.Texts.{Text}
 use Rattle.contract_cli.specs.Answering.{AnswersBytes}
 use Rattle.contract_cli.specs.Answers.{Answers, Inputs, Stops, on_portfolio, told}
+use Rattle.contract_cli.specs.AdvanceText.{IsAdvanceText, StopsAdvance}
 use Rattle.contract_cli.specs.CheckText.{IsChecked}
-use Rattle.contract_cli.specs.Commands.{Asked, Check, Flows, FlowsAsked}
+use Rattle.contract_cli.specs.Commands.{Advance, AdvanceAsked, Asked, Check, Flows, FlowsAsked}
 use Rattle.contract_cli.specs.FlowsText.{IsFlowsText, StopsFlows}
 use Rattle.contract_cli.specs.Stopping.{AnswersBy}
 use Rattle.contract_cli.specs.declared.answers.Answer.{Answer}
@@ -36,3 +37,13 @@ flows_stopped asked flows inputs table b e r is same text h given =
     subst (λ (x : Asked). AnswersBytes x inputs r) (sym is)
     (handed_on (λ (t : Vec ℕ). IsFlowsText b flows table t.items) (λ (a : Answer). Answers (Flows flows) inputs a.status a.text.items) (StopsFlows b flows table) (Stops (Flows flows) inputs)
     (λ f s. on_portfolio b text (subst (λ (t : Option (List ℕ)). StopsFlows b flows t f) same s)) e r h given)
+
+pub advance_told : (asked : Asked) (advance : AdvanceAsked) (inputs : Inputs) (table : Option (List ℕ)) (b : Book) (a : Answer) → asked ≡ Advance advance → table ≡ inputs.fixings → Text inputs.portfolio b → a.status ≡ status.Done → IsAdvanceText b advance table a.text.items → AnswersBytes asked inputs (Ok a)
+advance_told asked advance inputs table b a is same text done h =
+    subst (λ (x : Asked). AnswersBytes x inputs (Ok a)) (sym is) (told b text (done, subst (λ (t : Option (List ℕ)). IsAdvanceText b advance t a.text.items) same h))
+
+pub advance_stopped : (asked : Asked) (advance : AdvanceAsked) (inputs : Inputs) (table : Option (List ℕ)) (b : Book) (e : Stop) (r : Result Answer Stop) → asked ≡ Advance advance → table ≡ inputs.fixings → Text inputs.portfolio b → AnswersBy (λ (text : Vec ℕ). IsAdvanceText b advance table text.items) (StopsAdvance b advance table) (Err e) → IsErrAnd r (λ y. y ≡ e) → AnswersBytes asked inputs r
+advance_stopped asked advance inputs table b e r is same text h given =
+    subst (λ (x : Asked). AnswersBytes x inputs r) (sym is)
+    (handed_on (λ (t : Vec ℕ). IsAdvanceText b advance table t.items) (λ (a : Answer). Answers (Advance advance) inputs a.status a.text.items) (StopsAdvance b advance table) (Stops (Advance advance) inputs)
+    (λ f s. on_portfolio b text (subst (λ (t : Option (List ℕ)). StopsAdvance b advance t f) same s)) e r h given)

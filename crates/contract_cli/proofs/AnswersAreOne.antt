@@ -1,4 +1,4 @@
--- The bytes of a command's files have one answer: a status and a text.
+-- The bytes of a command's files have one answer: a status, and but for what is left of contracts a text.
 use Rattle.std.proofs.Common.{◌≡◌, ◌∙◌, ◌-◌, ℕ, List, length, ap, refl, subst, sym}
 use Rattle.std.specs.Prelude.{Option}
 use Rattle.std.specs.Str.{IsUtf8, IsValidUpTo}
@@ -17,12 +17,14 @@ use Rattle.report.specs.FaultLines.{fault_text}
 use Rattle.report.specs.declared.fault_lines.Fault.{Fault}
 use Rattle.report.specs.declared.fault_lines.Fault.TheVariants as fault
 use Rattle.contract_cli.specs.Answers.{Answers, Inputs, Stops, StopsOn, Tells, not_spelled, on_portfolio, stopped, told}
-use Rattle.contract_cli.specs.Commands.{Asked, Check, Flows}
-use Rattle.contract_cli.specs.RunLaws.{AnswersAreOne}
+use Rattle.contract_cli.specs.Commands.{Advance, Asked, Check, Flows}
+use Rattle.contract_cli.specs.RunLaws.{AnswersAreOne, LeavesNothingOpen, StatusesAreOne}
 use Rattle.contract_cli.specs.Statuses.{status_of}
 use Rattle.contract_cli.specs.declared.status.Status.{Status}
+use Rattle.contract_cli.specs.declared.status.Status.TheVariants as status
 use Rattle.contract_cli.proofs.OneCheckText.{checked_one}
-use Rattle.contract_cli.proofs.Stages.{one_flows_text, one_stop, stop_or_text}
+use Rattle.contract_cli.proofs.AdvanceStages.{one_stop as one_advance_stop, stop_or_text as stop_or_advance}
+use Rattle.contract_cli.proofs.FlowsStages.{one_flows_text, one_stop, stop_or_text}
 
 -- ---- one first fault of a text
 
@@ -57,14 +59,26 @@ one_fault bytes f g h k =
 one_on_book : (asked : Asked) (b : Book) (table : Option (List ℕ)) (f g : Fault) → StopsOn asked b table f → StopsOn asked b table g → f ≡ g
 one_on_book (Check file) b table f g h k = absurd h
 one_on_book (Flows flows) b table f g h k = one_stop b flows table f g h k
+one_on_book (Advance asked) b table f g h k = one_advance_stop b asked table f g h k
 
-one_told : (asked : Asked) (b : Book) (table : Option (List ℕ)) (s r : Status) (t u : List ℕ) → Tells asked b table s t → Tells asked b table r u → (s ≡ r) × (t ≡ u)
-one_told (Check file) b table s r t u h k = checked_one b s r t u h k
-one_told (Flows flows) b table s r t u h k = (h.0 ∙ sym k.0, one_flows_text b flows table t u h.1 k.1)
+one_told : (asked : Asked) (b : Book) (table : Option (List ℕ)) → LeavesNothingOpen asked → (s r : Status) (t u : List ℕ) → Tells asked b table s t → Tells asked b table r u → (s ≡ r) × (t ≡ u)
+one_told (Check file) b table closed s r t u h k = checked_one b s r t u h k
+one_told (Flows flows) b table closed s r t u h k = (h.0 ∙ sym k.0, one_flows_text b flows table t u h.1 k.1)
+one_told (Advance asked) b table closed s r t u h k = absurd closed
+
+-- one status, and one text but where the command is done
+abbrev OneStatus : Status → Status → List ℕ → List ℕ → Type 0
+OneStatus s r t u = (s ≡ r) × ((s ≡ status.Done → ⊥) → t ≡ u)
+
+one_status_told : (asked : Asked) (b : Book) (table : Option (List ℕ)) (s r : Status) (t u : List ℕ) → Tells asked b table s t → Tells asked b table r u → OneStatus s r t u
+one_status_told (Check file) b table s r t u h k = let same = checked_one b s r t u h k in (same.0, λ _. same.1)
+one_status_told (Flows flows) b table s r t u h k = (h.0 ∙ sym k.0, λ _. one_flows_text b flows table t u h.1 k.1)
+one_status_told (Advance asked) b table s r t u h k = (h.0 ∙ sym k.0, λ open_end. absurd (open_end h.0))
 
 stopped_or_told : (asked : Asked) (b : Book) (table : Option (List ℕ)) (f : Fault) (s : Status) (t : List ℕ) → StopsOn asked b table f → Tells asked b table s t → ⊥
 stopped_or_told (Check file) b table f s t h k = h
 stopped_or_told (Flows flows) b table f s t h k = stop_or_text b flows table f t h k.1
+stopped_or_told (Advance asked) b table f s t h k = stop_or_advance b asked table f t h k.1
 
 -- ---- one answer
 
@@ -82,14 +96,21 @@ module _ (asked : Asked) (inputs : Inputs) where
   never_both f b s t (on_portfolio c other h) text tells =
       stopped_or_told asked b inputs.fixings f s t (subst (λ (x : Book). StopsOn asked x inputs.fixings f) (one_text inputs.portfolio c b other text) h) tells
 
-  one_answer : (s r : Status) (t u : List ℕ) → Answers asked inputs s t → Answers asked inputs r u → (s ≡ r) × (t ≡ u)
-  one_answer s r t u (stopped f h e is) (stopped g k i was) =
-      let same = one_stopped f g h k in
-      (e ∙ ap status_of same ∙ sym i, is ∙ ap fault_text same ∙ sym was)
-  one_answer s r t u (stopped f h e is) (told b text tells) = absurd (never_both f b r u h text tells)
-  one_answer s r t u (told b text tells) (stopped f h e is) = absurd (never_both f b s t h text tells)
-  one_answer s r t u (told b text tells) (told c other tell) =
-      one_told asked b inputs.fixings s r t u tells (subst (λ (x : Book). Tells asked x inputs.fixings r u) (one_text inputs.portfolio c b other text) tell)
+  module _ (Alike : Status → Status → List ℕ → List ℕ → Type 0) (same_alike : (s r : Status) (t u : List ℕ) → s ≡ r → t ≡ u → Alike s r t u)
+      (told_alike : (b : Book) (s r : Status) (t u : List ℕ) → Tells asked b inputs.fixings s t → Tells asked b inputs.fixings r u → Alike s r t u) where
+    one_answer : (s r : Status) (t u : List ℕ) → Answers asked inputs s t → Answers asked inputs r u → Alike s r t u
+    one_answer s r t u (stopped f h e is) (stopped g k i was) =
+        let same = one_stopped f g h k in
+        same_alike s r t u (e ∙ ap status_of same ∙ sym i) (is ∙ ap fault_text same ∙ sym was)
+    one_answer s r t u (stopped f h e is) (told b text tells) = absurd (never_both f b r u h text tells)
+    one_answer s r t u (told b text tells) (stopped f h e is) = absurd (never_both f b s t h text tells)
+    one_answer s r t u (told b text tells) (told c other tell) =
+        told_alike b s r t u tells (subst (λ (x : Book). Tells asked x inputs.fixings r u) (one_text inputs.portfolio c b other text) tell)
 
 pub answers_are_one : AnswersAreOne
-answers_are_one asked inputs s r t u h k = one_answer asked inputs s r t u h k
+answers_are_one asked inputs s r t u closed h k =
+    one_answer asked inputs (λ x y v w. (x ≡ y) × (v ≡ w)) (λ x y v w e f. (e, f)) (λ b. one_told asked b inputs.fixings closed) s r t u h k
+
+pub statuses_are_one : StatusesAreOne
+statuses_are_one asked inputs s r t u h k =
+    one_answer asked inputs OneStatus (λ x y v w e f. (e, λ _. f)) (λ b. one_status_told asked b inputs.fixings) s r t u h k

@@ -9,6 +9,7 @@ use Rattle.fixing_files.specs.declared.days.DayFault.TheVariants.{NotDay, NoOrig
 use Rattle.fixing_files.specs.declared.days.NamedDay.{NamedDay}
 use Rattle.fixing_files.specs.declared.days.NamedDay.TheVariants.{Number, Date}
 use Rattle.report.specs.declared.fault_lines.Fault.{Fault}
+use Rattle.contract_cli.specs.AdvanceText.{IsNewDay, greatest_new_day}
 use Rattle.contract_cli.specs.FlowLists.{CanBeLast, IsDayFault, IsWordFault, day_in_range}
 use Rattle.contract_cli.specs.FlowsText.{IsDayAsked, IsOutOfRange, no_origin, too_early, too_late, greatest_day}
 
@@ -40,6 +41,10 @@ pub is_asked_day : (d : Declarations) (greatest : ℤ) (word : List ℕ) (named 
 is_asked_day d greatest word named day reads h =
     let k = of_result d greatest (placed_day d.origin named) day h in
     (named_day d.origin word named reads ∙ k.0, k.1, k.2)
+
+-- a new day is one that is asked for
+pub new_is_asked : (d : Declarations) (word : List ℕ) (day : ℕ) → IsNewDay d word day → IsDayAsked d greatest_new_day word (pos day)
+new_is_asked d word day h = (h.named, (let low = h.no_sooner in omega (arith, ints)), (let high = h.no_later in omega (arith, ints)))
 
 -- a day that is asked for is none before day 0
 pub asked_first : (d : Declarations) (greatest : ℤ) (word : List ℕ) (day : ℤ) → IsDayAsked d greatest word day → pos 0 ≤ℤ day

@@ -17,10 +17,10 @@ use Rattle.contract_cli.specs.declared.status.Status.TheVariants as status
 use Rattle.contract_cli.proofs.FlowsAreOne.{hold_same, in_range_or_not, one_last, one_lines_asked}
 use Rattle.contract_cli.proofs.Stages.{Below, Days, IsAtStage, StopsAt, no_end, one_stop_at, some_same}
 
-record IsOut (d : Declarations) (until : Option (List ℕ)) : Type 0 where
-  word : List ℕ
-  given : until ≡ Some word
-  out : IsOutOfRange d greatest_day word
+pub record IsOut (d : Declarations) (until : Option (List ℕ)) : Type 0 where
+  pub word : List ℕ
+  pub given : until ≡ Some word
+  pub out : IsOutOfRange d greatest_day word
 
 out_or_last : (d : Declarations) (until : Option (List ℕ)) (last : ℤ) → IsLastDay d until last → IsOut d until → ⊥
 out_or_last d until last h k = in_range_or_not d greatest_day k.word last (subst (λ (w : Option (List ℕ)). IsLastDay d w last) k.given h) k.out
@@ -28,7 +28,7 @@ out_or_last d until last h k = in_range_or_not d greatest_day k.word last (subst
 one_day_fault : (d : Declarations) (until : Option (List ℕ)) (f g : Fault) → IsDayFault d until f → IsDayFault d until g → f ≡ g
 one_day_fault d until f g h k = h.fault_is ∙ ap (λ (x : List ℕ). fault.Day x) (some_same h.word k.word (sym h.given ∙ k.given)) ∙ sym k.fault_is
 
-abbrev days : Declarations → Option (List ℕ) → Days
+abbrev pub days : Declarations → Option (List ℕ) → Days
 days d until = record {
   Last = IsLastDay d until;
   Out = IsOut d until;

@@ -11,20 +11,23 @@ use Rattle.report.specs.declared.fault_lines.Fault.{Fault}
 use Rattle.report.specs.declared.fault_lines.Fault.TheVariants as fault
 use Rattle.contract_cli.specs.Answers.{Answers, Inputs, IsNoText, StopsOn, Tells, not_spelled, on_portfolio, stopped, told}
 use Rattle.contract_cli.specs.Answering.{AreShort}
+use Rattle.contract_cli.specs.AdvanceText.{CanAdvance, IsAdvanceText, StopsAdvance, day_out as no_day, not_accepted as any_not_accepted, row_refused as any_row_refused, read_missing as any_read_missing, last_gone}
 use Rattle.contract_cli.specs.CheckText.{AreAllAccepted, IsChecked, all_accepted, some_refused}
-use Rattle.contract_cli.specs.Commands.{Asked, Check, Flows, FlowsAsked, OnFiles, Sample}
+use Rattle.contract_cli.specs.Commands.{Advance, AdvanceAsked, Asked, Check, Flows, FlowsAsked, OnFiles, Sample}
 use Rattle.contract_cli.specs.FlowLists.{IsShortTable}
 use Rattle.contract_cli.specs.FlowsText.{CanGo, IsFlowsText, StopsFlows, name_unknown, day_out, not_accepted, row_refused, read_missing}
 use Rattle.contract_cli.specs.Runs.{Cause, stopped as stops_run, answered, sampled, Edge, FileFault, read_failed, read_long, FilesSeen, IsNext, Meets, written, broken, lacking, Names, no_form, at_file, WritesAll, WritesNothing}
-use Rattle.contract_cli.specs.RunLaws.{BadTextIsExact, CauseOnBook, CheckIsComplete, ComesExactlyWhere, FlowsAreComplete, IsExactOnBook, IsLongAt, long_portfolio, long_table, IsReadWhole, IsTextWhere, IsTooLong, ReadFaultIs, ReadFaultsHaveCauses, RefusalsAreExact, TooLongIs, TooLongIsExact, UsageIsExact, UsageWritesItsLine, WriteFaultsHaveCauses}
+use Rattle.contract_cli.specs.RunLaws.{AdvanceIsComplete, BadTextIsExact, CauseOnBook, CheckIsComplete, ComesExactlyWhere, FlowsAreComplete, IsExactOnBook, IsLongAt, long_portfolio, long_table, IsReadWhole, IsTextWhere, IsTooLong, ReadFaultIs, ReadFaultsHaveCauses, RefusalsAreExact, TooLongIs, TooLongIsExact, UsageIsExact, UsageWritesItsLine, WriteFaultsHaveCauses}
 use Rattle.contract_cli.specs.Statuses.{status_of}
 use Rattle.contract_cli.specs.Used.{used}
 use Rattle.contract_cli.specs.Words.{request_of}
 use Rattle.contract_cli.specs.declared.status.Status.{Status}
 use Rattle.contract_cli.specs.declared.status.Status.TheVariants as status
+use Rattle.contract_cli.proofs.AdvanceStages as advance_stages
+use Rattle.contract_cli.proofs.FlowsStages as flows_stages
 use Rattle.contract_cli.proofs.FlowsAreOne.{accepted_or_not, fixed_or_not}
 use Rattle.contract_cli.proofs.RunFacts.{Ends, long, with_answer, with_nothing, ends}
-use Rattle.contract_cli.proofs.Stages.{Below, Fails, end_below, fails, one_stage, stage_of, status_at, stop_or_end}
+use Rattle.contract_cli.proofs.Stages.{last_stage, same_stage, stopped_stage}
 
 -- two statuses that a status cannot both be
 apart : {s x y : Status} (P : Type 0) → (x ≡ y → ⊥) → s ≡ x → s ≡ y → P
@@ -48,16 +51,28 @@ cause_of_stop flows b table f (row_refused last fit all bytes named row first is
 cause_of_stop flows b table f (read_missing last fit all fixings are place first is) =
     subst (λ (x : Fault). CauseOnBook (status_of x) (Flows flows) table b) (sym is) (record { last = last; fit = fit; accepted = all; fixings = fixings; are_fixings = are; unfixed = λ every. fixed_or_not b.declarations last (used flows.contract b) fixings fixings (λ q. refl) place every first })
 
+cause_of_advance : (asked : AdvanceAsked) (b : Book) (table : Option (List ℕ)) (f : Fault) → StopsAdvance b asked table f → CauseOnBook (status_of f) (Advance asked) table b
+cause_of_advance asked b table f (no_day out is) = subst (λ (x : Fault). CauseOnBook (status_of x) (Advance asked) table b) (sym is) out
+cause_of_advance asked b table f (any_not_accepted day new name rule node first is) =
+    subst (λ (x : Fault). CauseOnBook (status_of x) (Advance asked) table b) (sym is) (record { day = day; is_day = new; refused = λ all. accepted_or_not b.declarations (used None b) name rule node all first })
+cause_of_advance asked b table f (any_row_refused day new all bytes named row first is) =
+    subst (λ (x : Fault). CauseOnBook (status_of x) (Advance asked) table b) (sym is) (record { day = day; is_day = new; accepted = all; bytes = bytes; named = named; row = row; first = first })
+cause_of_advance asked b table f (any_read_missing day new all fixings are place first is) =
+    subst (λ (x : Fault). CauseOnBook (status_of x) (Advance asked) table b) (sym is) (record { day = day; is_day = new; accepted = all; fixings = fixings; are_fixings = are; unfixed = λ every. fixed_or_not b.declarations (last_gone day) (used None b) fixings fixings (λ q. refl) place every first })
+
 stop_is : (asked : Asked) (inputs : Inputs) (b : Book) (f : Fault) (s : Status) → Text inputs.portfolio b → StopsOn asked b inputs.fixings f → s ≡ status_of f → AnswerIs asked inputs s
 stop_is (Check file) inputs b f s text h e = absurd h
 stop_is (Flows flows) inputs b f s text h e =
     caused (record { book = b; spelled = text; holds = subst (λ (x : Status). CauseOnBook x (Flows flows) inputs.fixings b) (sym e) (cause_of_stop flows b inputs.fixings f h) })
+stop_is (Advance asked) inputs b f s text h e =
+    caused (record { book = b; spelled = text; holds = subst (λ (x : Status). CauseOnBook x (Advance asked) inputs.fixings b) (sym e) (cause_of_advance asked b inputs.fixings f h) })
 
 told_is : (asked : Asked) (inputs : Inputs) (b : Book) (s : Status) (text : List ℕ) → Text inputs.portfolio b → Tells asked b inputs.fixings s text → AnswerIs asked inputs s
 told_is (Check file) inputs b s text spelled (all_accepted e all lines) = done e
 told_is (Check file) inputs b s text spelled (some_refused e none lines) =
     caused (record { book = b; spelled = spelled; holds = subst (λ (x : Status). CauseOnBook x (Check file) inputs.fixings b) (sym e) none })
 told_is (Flows flows) inputs b s text spelled h = done h.0
+told_is (Advance asked) inputs b s text spelled h = done h.0
 
 answer_is : (asked : Asked) (inputs : Inputs) (s : Status) (text : List ℕ) → Answers asked inputs s text → AnswerIs asked inputs s
 answer_is asked inputs s text (stopped f (not_spelled h) e line) = no_text (e ∙ ap status_of h.fault_is) h.no_text
@@ -237,45 +252,33 @@ check_forces wanted file inputs s text (told b spelled h) cause =
     let c = check_cause wanted file inputs.fixings cause.book cause.holds in
     check_forces_told b s wanted text h c.0 (subst (λ (x : Book). AreAllAccepted x.declarations (used None x) → ⊥) (one_text inputs.portfolio cause.book b cause.spelled spelled) c.1)
 
--- of `flows`: its stage
-record IsAtStage (b : Book) (flows : FlowsAsked) (table : Option (List ℕ)) (s : Status) : Type 0 where
-  at : ℕ
-  failed : Fails b flows table at
-  below : Below b flows table at
-  status_is : s ≡ status_at at
-
-cause_stage : (wanted : Status) (flows : FlowsAsked) (table : Option (List ℕ)) (b : Book) → CauseOnBook wanted (Flows flows) table b → IsAtStage b flows table wanted
-cause_stage status.UnknownName flows table b h = record { at = 0; failed = h; below = tt; status_is = refl }
-cause_stage status.DayRange flows table b h = record { at = 1; failed = record { word = h.word; given = h.given; out = h.out }; below = (h.known, tt); status_is = refl }
-cause_stage status.Refused flows table b h = record { at = 2; failed = h.refused; below = ((h.last, h.fit.is_last), (h.fit.known, tt)); status_is = refl }
-cause_stage status.BadRow flows table b h =
-    record { at = 3; failed = record { bytes = h.bytes; named = h.named; row = h.row; first = h.first }; below = (h.accepted, ((h.last, h.fit.is_last), (h.fit.known, tt))); status_is = refl }
-cause_stage status.Missing flows table b h = record {
-  at = 4;
-  failed = record { last = h.last; is_last = h.fit.is_last; fixings = h.fixings; are_fixings = h.are_fixings; holds = h.unfixed };
-  below = ((h.fixings, h.are_fixings), (h.accepted, ((h.last, h.fit.is_last), (h.fit.known, tt))));
-  status_is = refl;
-}
-cause_stage _ flows table b h = absurd h
-
-same_stage : (b : Book) (flows : FlowsAsked) (table : Option (List ℕ)) (s wanted : Status) → IsAtStage b flows table s → IsAtStage b flows table wanted → s ≡ wanted
-same_stage b flows table s wanted h k = h.status_is ∙ ap status_at (one_stage b flows table h.at k.at h.failed h.below k.failed k.below) ∙ sym k.status_is
-
+-- of a command over fixings: its stage
 flows_forces : (wanted : Status) (flows : FlowsAsked) (inputs : Inputs) (s : Status) (text : List ℕ) → Answers (Flows flows) inputs s text → IsTextWhere inputs.portfolio (CauseOnBook wanted (Flows flows) inputs.fixings) → s ≡ wanted
 flows_forces wanted flows inputs s text (stopped f (not_spelled h) e line) cause = absurd (h.no_text cause.book cause.spelled)
 flows_forces wanted flows inputs s text (stopped f (on_portfolio b spelled h) e line) cause =
     let t = inputs.fixings in
-    let at = stage_of b flows t f h in
     let c = subst (λ (x : Book). CauseOnBook wanted (Flows flows) t x) (one_text inputs.portfolio cause.book b cause.spelled spelled) cause.holds in
-    same_stage b flows t s wanted (record { at = at.at; failed = fails b flows t f at; below = at.below; status_is = e ∙ at.status_is }) (cause_stage wanted flows t b c)
+    same_stage b flows.contract (flows_stages.days b.declarations flows.until) t s wanted (stopped_stage b flows.contract (flows_stages.days b.declarations flows.until) t f s (flows_stages.stage_of b flows t f h) e) (flows_stages.cause_stage b flows t wanted c)
 flows_forces wanted flows inputs s text (told b spelled h) cause =
     let t = inputs.fixings in
     let c = subst (λ (x : Book). CauseOnBook wanted (Flows flows) t x) (one_text inputs.portfolio cause.book b cause.spelled spelled) cause.holds in
-    same_stage b flows t s wanted (record { at = 5; failed = tt; below = end_below b flows t h.1.last h.1.fixings h.1.can; status_is = h.0 }) (cause_stage wanted flows t b c)
+    same_stage b flows.contract (flows_stages.days b.declarations flows.until) t s wanted (last_stage b flows.contract (flows_stages.days b.declarations flows.until) t s (flows_stages.end_below b flows t h.1.last h.1.fixings h.1.can) h.0) (flows_stages.cause_stage b flows t wanted c)
+
+advance_forces : (wanted : Status) (asked : AdvanceAsked) (inputs : Inputs) (s : Status) (text : List ℕ) → Answers (Advance asked) inputs s text → IsTextWhere inputs.portfolio (CauseOnBook wanted (Advance asked) inputs.fixings) → s ≡ wanted
+advance_forces wanted asked inputs s text (stopped f (not_spelled h) e line) cause = absurd (h.no_text cause.book cause.spelled)
+advance_forces wanted asked inputs s text (stopped f (on_portfolio b spelled h) e line) cause =
+    let t = inputs.fixings in
+    let c = subst (λ (x : Book). CauseOnBook wanted (Advance asked) t x) (one_text inputs.portfolio cause.book b cause.spelled spelled) cause.holds in
+    same_stage b None (advance_stages.days b.declarations asked.to) t s wanted (stopped_stage b None (advance_stages.days b.declarations asked.to) t f s (advance_stages.stage_of b asked t f h) e) (advance_stages.cause_stage b asked t wanted c)
+advance_forces wanted asked inputs s text (told b spelled h) cause =
+    let t = inputs.fixings in
+    let c = subst (λ (x : Book). CauseOnBook wanted (Advance asked) t x) (one_text inputs.portfolio cause.book b cause.spelled spelled) cause.holds in
+    same_stage b None (advance_stages.days b.declarations asked.to) t s wanted (last_stage b None (advance_stages.days b.declarations asked.to) t s (advance_stages.end_below b asked t h.1.day h.1.fixings h.1.can) h.0) (advance_stages.cause_stage b asked t wanted c)
 
 forces_cause : (wanted : Status) (asked : Asked) (inputs : Inputs) (s : Status) (text : List ℕ) → Answers asked inputs s text → IsTextWhere inputs.portfolio (CauseOnBook wanted asked inputs.fixings) → s ≡ wanted
 forces_cause wanted (Check file) inputs s text a cause = check_forces wanted file inputs s text a cause
 forces_cause wanted (Flows flows) inputs s text a cause = flows_forces wanted flows inputs s text a cause
+forces_cause wanted (Advance asked) inputs s text a cause = advance_forces wanted asked inputs s text a cause
 
 exact_on_book : (wanted : Status) → (status.NoMemory ≡ wanted → ⊥) → (status.BadText ≡ wanted → ⊥) → (status.Done ≡ wanted → ⊥) → IsExactOnBook wanted
 exact_on_book wanted no_memory no_bad no_done words edge s asked inputs m r =
@@ -304,10 +307,21 @@ check_is_complete words edge s file inputs b m r spelled =
 flows_whole : (flows : FlowsAsked) (inputs : Inputs) (b : Book) (last : ℤ) (fixings : Environment) (s : Status) (text : List ℕ) → Text inputs.portfolio b → CanGo b flows inputs.fixings last fixings → Answers (Flows flows) inputs s text → (s ≡ status.Done) × IsFlowsText b flows inputs.fixings text
 flows_whole flows inputs b last fixings s text spelled can (stopped f (not_spelled h) e line) = absurd (h.no_text b spelled)
 flows_whole flows inputs b last fixings s text spelled can (stopped f (on_portfolio c other h) e line) =
-    absurd (stop_or_end b flows inputs.fixings f last fixings (subst (λ (x : Book). StopsFlows x flows inputs.fixings f) (one_text inputs.portfolio c b other spelled) h) can)
+    absurd (flows_stages.stop_or_end b flows inputs.fixings f last fixings (subst (λ (x : Book). StopsFlows x flows inputs.fixings f) (one_text inputs.portfolio c b other spelled) h) can)
 flows_whole flows inputs b last fixings s text spelled can (told c other h) =
     (h.0, subst (λ (x : Book). IsFlowsText x flows inputs.fixings text) (one_text inputs.portfolio c b other spelled) h.1)
 
 pub flows_are_complete : FlowsAreComplete
 flows_are_complete words edge s flows inputs b last fixings m r spelled can =
     by_answer words edge s (Flows flows) inputs m r _ (λ text a w. let h = flows_whole flows inputs b last fixings s text spelled can a in inl (text, h.0, h.1, w)) (λ e w. inr (e, w))
+
+advance_whole : (asked : AdvanceAsked) (inputs : Inputs) (b : Book) (day : ℕ) (fixings : Environment) (s : Status) (text : List ℕ) → Text inputs.portfolio b → CanAdvance b asked inputs.fixings day fixings → Answers (Advance asked) inputs s text → (s ≡ status.Done) × IsAdvanceText b asked inputs.fixings text
+advance_whole asked inputs b day fixings s text spelled can (stopped f (not_spelled h) e line) = absurd (h.no_text b spelled)
+advance_whole asked inputs b day fixings s text spelled can (stopped f (on_portfolio c other h) e line) =
+    absurd (advance_stages.stop_or_end b asked inputs.fixings f day fixings (subst (λ (x : Book). StopsAdvance x asked inputs.fixings f) (one_text inputs.portfolio c b other spelled) h) can)
+advance_whole asked inputs b day fixings s text spelled can (told c other h) =
+    (h.0, subst (λ (x : Book). IsAdvanceText x asked inputs.fixings text) (one_text inputs.portfolio c b other spelled) h.1)
+
+pub advance_is_complete : AdvanceIsComplete
+advance_is_complete words edge s asked inputs b day fixings m r spelled can =
+    by_answer words edge s (Advance asked) inputs m r _ (λ text a w. let h = advance_whole asked inputs b day fixings s text spelled can a in inl (text, h.0, h.1, w)) (λ e w. inr (e, w))

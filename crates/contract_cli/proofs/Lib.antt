@@ -9,6 +9,9 @@ pub mod SumLineFacts
 pub mod OneCheckText
 pub mod FlowsAreOne
 pub mod Stages
+pub mod FlowsStages
+pub mod DueAreOne
+pub mod AdvanceStages
 pub mod AnswersAreOne
 pub mod RunFacts
 pub mod ReadFacts

@@ -5,8 +5,8 @@ use Rattle.std.specs.Prelude.{option_map}
 use Rattle.clap.specs.Words.{App, Row, Text, first_of}
 use Rattle.contract_parse.specs.NameTexts.{is_name_text}
 use Rattle.contract_cli.specs.Arguments.{HasMatches, IsAnswer, Reading, asked_of, is_set, read_rows, taken}
-use Rattle.contract_cli.specs.Commands.{Check, Flows, Request, OnFiles, Sample}
-use Rattle.contract_cli.specs.Words.{check_from, flows_from, flows_with, if_given, is_day, requested_by, sample_from, sample_size}
+use Rattle.contract_cli.specs.Commands.{Advance, Check, Flows, Request, OnFiles, Sample}
+use Rattle.contract_cli.specs.Words.{advance_from, advance_with, check_from, flows_from, flows_with, if_given, is_day, requested_by, sample_from, sample_size, with_form}
 use Rattle.contract_cli.specs.declared.arguments.WordsErr.{WordsErr}
 use Rattle.contract_cli.specs.declared.arguments.WordsErr.TheVariants.{Usage, NoMemory}
 
@@ -64,6 +64,35 @@ pub flows_has : (found : Text → Option Text) (file : Text) (fixings until cont
     → if_given is_name_text (found (codes "contract")) ≡ Some contract → is_set (found (codes "net")) ≡ net
     → flows_from found ≡ Some (OnFiles (Flows (record { portfolio = file; fixings = fixings; until = until; contract = contract; net = net })))
 flows_has found file fixings until contract net a b c d e = rw (a, b, c, d, e) refl
+
+-- ---- `advance`
+
+pub advance_lacks : (found : Text → Option Text) → found (codes "portfolio") ≡ None → advance_from found ≡ None
+advance_lacks found none = rw none refl
+
+with_no_fixings : (file to : Option Text) → advance_with file None to ≡ None
+with_no_fixings None to = refl
+with_no_fixings (Some file) to = refl
+
+with_no_new_day : (file fixings : Option Text) → advance_with file fixings None ≡ None
+with_no_new_day None fixings = refl
+with_no_new_day (Some file) None = refl
+with_no_new_day (Some file) (Some table) = refl
+
+pub advance_no_fixings : (found : Text → Option Text) → found (codes "fixings") ≡ None → advance_from found ≡ None
+advance_no_fixings found none =
+    ap (λ (table : Option Text). advance_with (found (codes "portfolio")) table (with_form is_day (found (codes "to")))) none
+    ∙ with_no_fixings _ _
+
+pub advance_no_day : (found : Text → Option Text) → with_form is_day (found (codes "to")) ≡ None → advance_from found ≡ None
+advance_no_day found none =
+    ap (λ (day : Option Text). advance_with (found (codes "portfolio")) (found (codes "fixings")) day) none
+    ∙ with_no_new_day _ _
+
+pub advance_has : (found : Text → Option Text) (file fixings to : Text)
+    → found (codes "portfolio") ≡ Some file → found (codes "fixings") ≡ Some fixings → with_form is_day (found (codes "to")) ≡ Some to
+    → advance_from found ≡ Some (OnFiles (Advance (record { portfolio = file; fixings = fixings; to = to })))
+advance_has found file fixings to a b c = rw (a, b, c) refl
 
 -- ---- `sample`
 

@@ -13,8 +13,9 @@ use Rattle.report.specs.declared.fault_lines.Fault.TheVariants as fault
 use Rattle.sample.specs.Summary.{IsSummary}
 use Rattle.contract_cli.specs.Answers.{Answers, Inputs, IsNoText}
 use Rattle.contract_cli.specs.Answering.{AreShort}
+use Rattle.contract_cli.specs.AdvanceText.{CanAdvance, IsAdvanceText, IsNewDay, IsNoNewDay, last_gone}
 use Rattle.contract_cli.specs.CheckText.{AreAllAccepted, IsChecked}
-use Rattle.contract_cli.specs.Commands.{Asked, Check, Flows, FlowsAsked, fixings_file, portfolio_file}
+use Rattle.contract_cli.specs.Commands.{Advance, AdvanceAsked, Asked, Check, Flows, FlowsAsked, fixings_file, portfolio_file}
 use Rattle.contract_cli.specs.FlowsText.{AreAllFixed, AreFixings, CanGo, IsFlowsText, IsOutOfRange, WordsFit, greatest_day}
 use Rattle.contract_cli.specs.Runs.{NamesSample, Edge, FilesSeen, IsNext, Meets, Names, WritesAll, WritesNothing, longest_file}
 use Rattle.contract_cli.specs.Used.{is_known, used}
@@ -111,6 +112,31 @@ pub record SomeReadIsMissing (flows : FlowsAsked) (table : Option (List ℕ)) (b
   pub are_fixings : AreFixings b.declarations table fixings
   pub unfixed : AreAllFixed b.declarations fixings last (used flows.contract b) → ⊥
 
+-- the same of `advance`: the day is in range, and some contract is not accepted
+pub record AnyIsRefused (asked : AdvanceAsked) (b : Book) : Type 0 where
+  pub day : ℕ
+  pub is_day : IsNewDay b.declarations asked.to day
+  pub refused : AreAllAccepted b.declarations (used None b) → ⊥
+
+-- the contracts are accepted, and some row of the table is refused
+pub record AnyRowIsBad (asked : AdvanceAsked) (table : Option (List ℕ)) (b : Book) : Type 0 where
+  pub day : ℕ
+  pub is_day : IsNewDay b.declarations asked.to day
+  pub accepted : AreAllAccepted b.declarations (used None b)
+  pub bytes : List ℕ
+  pub named : table ≡ Some bytes
+  pub row : RowFault
+  pub first : IsFirstFault b.declarations (table_of bytes) row
+
+-- the contracts are accepted and the rows are taken, and some read of the days gone by is not fixed
+pub record AnyReadIsMissing (asked : AdvanceAsked) (table : Option (List ℕ)) (b : Book) : Type 0 where
+  pub day : ℕ
+  pub is_day : IsNewDay b.declarations asked.to day
+  pub accepted : AreAllAccepted b.declarations (used None b)
+  pub fixings : Environment
+  pub are_fixings : AreFixings b.declarations table fixings
+  pub unfixed : AreAllFixed b.declarations fixings (last_gone day) (used None b) → ⊥
+
 -- the cause of a status of a command that has its portfolio; nothing but a contract that is not accepted refuses `check`
 abbrev pub CauseOnBook : Status → Asked → Option (List ℕ) → Book → Type 0
 CauseOnBook status.Refused (Check file) table b = AreAllAccepted b.declarations (used None b) → ⊥
@@ -119,6 +145,10 @@ CauseOnBook status.DayRange (Flows flows) table b = DayIsOut flows b
 CauseOnBook status.Refused (Flows flows) table b = SomeIsRefused flows b
 CauseOnBook status.BadRow (Flows flows) table b = SomeRowIsBad flows table b
 CauseOnBook status.Missing (Flows flows) table b = SomeReadIsMissing flows table b
+CauseOnBook status.DayRange (Advance asked) table b = IsNoNewDay b.declarations asked.to
+CauseOnBook status.Refused (Advance asked) table b = AnyIsRefused asked b
+CauseOnBook status.BadRow (Advance asked) table b = AnyRowIsBad asked table b
+CauseOnBook status.Missing (Advance asked) table b = AnyReadIsMissing asked table b
 CauseOnBook _ asked table b = ⊥
 
 -- ---- the laws
@@ -175,10 +205,29 @@ pub record RefusalsAreExact : Type 0 where
   pub bad_row : IsExactOnBook status.BadRow
   pub missing : IsExactOnBook status.Missing
 
--- the bytes of the files of a command have one answer, a status and a text
+-- a command whose text leaves nothing open: any but `advance`, which writes some contracts that are left of the old ones
+abbrev pub LeavesNothingOpen : Asked → Type 0
+LeavesNothingOpen (Check file) = Unit {0}
+LeavesNothingOpen (Flows flows) = Unit {0}
+LeavesNothingOpen (Advance asked) = ⊥
+
+-- the bytes of the files of such a command have one answer, a status and a text
 abbrev pub AnswersAreOne : Type 0
 AnswersAreOne =
-    (asked : Asked) (inputs : Inputs) (s t : Status) (one other : List ℕ) → Answers asked inputs s one → Answers asked inputs t other → (s ≡ t) × (one ≡ other)
+    (asked : Asked) (inputs : Inputs) (s t : Status) (one other : List ℕ) → LeavesNothingOpen asked
+    → Answers asked inputs s one → Answers asked inputs t other → (s ≡ t) × (one ≡ other)
+
+-- those of any command have one status, and but for a command that is done one text
+abbrev pub StatusesAreOne : Type 0
+StatusesAreOne =
+    (asked : Asked) (inputs : Inputs) (s t : Status) (one other : List ℕ)
+    → Answers asked inputs s one → Answers asked inputs t other → (s ≡ t) × ((s ≡ status.Done → ⊥) → one ≡ other)
+
+-- and two texts of `advance` begin with the same due lines, and go on with what is left on the same day
+abbrev pub DueLinesAreOne : Type 0
+DueLinesAreOne =
+    (b : Book) (asked : AdvanceAsked) (table : Option (List ℕ)) (one other : List ℕ)
+    (h : IsAdvanceText b asked table one) (k : IsAdvanceText b asked table other) → (h.due ≡ k.due) × (h.day ≡ k.day)
 
 -- the sample of so many contracts has one summary
 abbrev pub SummariesAreOne : Type 0
@@ -204,6 +253,15 @@ FlowsAreComplete =
     (words : List (List ℕ)) (edge : Edge) (s : Status) (flows : FlowsAsked) (inputs : Inputs) (b : Book) (last : ℤ) (fixings : Environment)
     → Meets words edge s → IsReadWhole words edge (Flows flows) inputs → Text inputs.portfolio b → CanGo b flows inputs.fixings last fixings
     → ((text : List ℕ) × (s ≡ status.Done) × IsFlowsText b flows inputs.fixings text × WritesAll edge.sink text)
+    ⊎ ((s ≡ status.NoMemory) × WritesNothing edge.sink)
+
+-- `advance` where the day is in range, the contracts are accepted, the rows are taken and each read of the days gone by is
+-- fixed: the due lines and the portfolio that is left are written
+abbrev pub AdvanceIsComplete : Type 0
+AdvanceIsComplete =
+    (words : List (List ℕ)) (edge : Edge) (s : Status) (asked : AdvanceAsked) (inputs : Inputs) (b : Book) (day : ℕ) (fixings : Environment)
+    → Meets words edge s → IsReadWhole words edge (Advance asked) inputs → Text inputs.portfolio b → CanAdvance b asked inputs.fixings day fixings
+    → ((text : List ℕ) × (s ≡ status.Done) × IsAdvanceText b asked inputs.fixings text × WritesAll edge.sink text)
     ⊎ ((s ≡ status.NoMemory) × WritesNothing edge.sink)
 
 -- `sample` ends with its summary written, or with a failed write, or for want of memory; it has no other status

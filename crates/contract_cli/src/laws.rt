@@ -1,6 +1,6 @@
 //! Laws of the causes of a run's status. Each is the contract of a function that does nothing.
 
-ghost use Rattle.contract_cli.specs.RunLaws.{AnswersAreOne, BadTextIsExact, CheckIsComplete, FlowsAreComplete, ReadFaultsHaveCauses, RefusalsAreExact, SampleHasThreeEnds, SampleIsComplete, SummariesAreOne, TooLongIsExact, UsageIsExact, UsageWritesItsLine, WriteFaultsHaveCauses};
+ghost use Rattle.contract_cli.specs.RunLaws.{AdvanceIsComplete, AnswersAreOne, BadTextIsExact, CheckIsComplete, DueLinesAreOne, FlowsAreComplete, ReadFaultsHaveCauses, RefusalsAreExact, SampleHasThreeEnds, SampleIsComplete, StatusesAreOne, SummariesAreOne, TooLongIsExact, UsageIsExact, UsageWritesItsLine, WriteFaultsHaveCauses};
 
 /// Usage comes exactly where the words are of no form, or memory is wanting, or the write of its line fails; and it has
 /// just that line.
@@ -33,10 +33,13 @@ pub fn refusals_are_exact()
     ensures { RefusalsAreExact }
 {}
 
-/// The bytes of the files of a command have one answer, a status and a text; the sample of a number of contracts has one
-/// summary.
+/// The bytes of the files of a command other than `advance` have one answer, a status and a text. Those of `advance` have one
+/// status, one line of a fault and the same due lines; what is left of a contract may be written in more than one way. The
+/// sample of a number of contracts has one summary.
 pub fn answers_are_one()
     ensures files { AnswersAreOne }
+    ensures statuses { StatusesAreOne }
+    ensures due { DueLinesAreOne }
     ensures sample { SummariesAreOne }
 {}
 
@@ -46,10 +49,11 @@ pub fn sample_has_three_ends()
 {}
 
 /// A run with nothing in its way has written the whole text of its command, or wants memory: `check` of any portfolio, and
-/// `flows` where names are known, the day is in range, contracts are accepted, rows are taken and reads are fixed, and
-/// `sample` of any number of contracts.
+/// `flows` where names are known, the day is in range, contracts are accepted, rows are taken and reads are fixed, `advance`
+/// where the same holds of its day and of the reads of the days gone by, and `sample` of any number of contracts.
 pub fn run_is_complete()
     ensures check { CheckIsComplete }
     ensures flows { FlowsAreComplete }
+    ensures advance { AdvanceIsComplete }
     ensures sample { SampleIsComplete }
 {}

@@ -1,6 +1,7 @@
-use Rattle.contract_cli.proofs.AnswersAreOne.{answers_are_one}
+use Rattle.contract_cli.proofs.AnswersAreOne.{answers_are_one, statuses_are_one}
+use Rattle.contract_cli.proofs.AdvanceStages.{due_are_one}
 use Rattle.contract_cli.proofs.OneSummary.{summaries_are_one}
 use Rattle.contract_cli.proofs.laws.answers_are_one.Goals as goal
 
 pub returns : goal.returns
-returns c = record { files = answers_are_one; sample = summaries_are_one }
+returns c = record { files = answers_are_one; statuses = statuses_are_one; due = due_are_one; sample = summaries_are_one }
