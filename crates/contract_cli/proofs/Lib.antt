@@ -4,6 +4,8 @@ pub mod UsedFacts
 pub mod LineFacts
 pub mod FlowsParts
 pub mod AnswerFacts
+pub mod WritableFacts
+pub mod AdvanceFacts
 pub mod CheckFacts
 pub mod SumLineFacts
 pub mod OneCheckText

@@ -28,10 +28,10 @@ use Rattle.contract_cli.specs.declared.stop.Stop.TheVariants as stop
 
 -- ---- one more line
 
-none_and : (text line : List ℕ) → text ≡ [] → text ++ line ≡ line ++ []
+pub none_and : (text line : List ℕ) → text ≡ [] → text ++ line ≡ line ++ []
 none_and text line none = ap (λ (t : List ℕ). t ++ line) none ∙ sym (append-nil line)
 
-some_and : (text first rest line : List ℕ) → text ≡ first ++ rest → text ++ line ≡ first ++ (rest ++ line)
+pub some_and : (text first rest line : List ℕ) → text ≡ first ++ rest → text ++ line ≡ first ++ (rest ++ line)
 some_and text first rest line is = ap (λ (t : List ℕ). t ++ line) is ∙ append_assoc first rest line
 
 lines_more : (d : Declarations) (name : List ℕ) (rows : List FlowRow) (text : List ℕ) (row : FlowRow) (line : List ℕ) → AreLines d name rows text → IsFlowLine d name row line → AreLines d name (rows ++ row ∷ []) (text ++ line)
@@ -84,11 +84,11 @@ accepted_none d = All-nil (IsAcceptedEntry d)
 
 -- ---- one more contract with its lines
 
-abbrev IsFixedEntry : Declarations → Environment → ℤ → Name × Contract → Type 0
+abbrev pub IsFixedEntry : Declarations → Environment → ℤ → Name × Contract → Type 0
 IsFixedEntry d fixings last entry = missing_of d fixings last entry.1 ≡ None
 
 module _ (d : Declarations) (fixings : Environment) (last : ℤ) where
-  missing_behind : (entry : Name × Contract) (entries : List (Name × Contract)) (f : Fault) → IsFixedEntry d fixings last entry → IsMissingOf d fixings last entries f → IsMissingOf d fixings last (entry ∷ entries) f
+  pub missing_behind : (entry : Name × Contract) (entries : List (Name × Contract)) (f : Fault) → IsFixedEntry d fixings last entry → IsMissingOf d fixings last entries f → IsMissingOf d fixings last (entry ∷ entries) f
   missing_behind entry entries f h m = record {
     place = m.place;
     first = record {

@@ -7,7 +7,7 @@ use Rattle.contract_cli.specs.Stopping.{AnswersBy}
 use Rattle.contract_cli.specs.declared.stop.Stop.{Stop}
 use Rattle.contract_cli.specs.declared.stop.Stop.TheVariants as stop
 
-by_stop : {A B : Type 0} (Good : A → Type 0) (Other : B → Type 0) (Stopped Stops : Fault → Type 0) → ((f : Fault) → Stopped f → Stops f) → (e : Stop) → AnswersBy Good Stopped (Err e) → AnswersBy Other Stops (Err e)
+pub by_stop : {A B : Type 0} (Good : A → Type 0) (Other : B → Type 0) (Stopped Stops : Fault → Type 0) → ((f : Fault) → Stopped f → Stops f) → (e : Stop) → AnswersBy Good Stopped (Err e) → AnswersBy Other Stops (Err e)
 by_stop Good Other Stopped Stops pass (stop.Fault f) h = pass f h
 by_stop Good Other Stopped Stops pass stop.NoMemory h = tt
 

@@ -112,20 +112,21 @@ pub fn answer_bytes(alloc: Global, command: &Command<'_>, inputs: &Inputs) -> Re
     ensures { AnswersBytes (asked_by command.now) (inputs_by inputs.now) result }
 {
     let portfolio = portfolio_of(alloc, &inputs.portfolio)?;
+    let table = lent(&inputs.fixings);
     match command {
         Command::Check { .. } => {
             let answer = check_answer(alloc, &portfolio)?;
             Ok(answer)
         }
         Command::Flows(flows) => {
-            let text = flows_text(alloc, &portfolio, flows, lent(&inputs.fixings))?;
+            let text = flows_text(alloc, &portfolio, flows, table)?;
             Ok(Answer {
                 status: Status::Done,
                 text,
             })
         }
         Command::Advance(advance) => {
-            let text = advance_text(alloc, &portfolio, advance, lent(&inputs.fixings))?;
+            let text = advance_text(alloc, &portfolio, advance, table)?;
             Ok(Answer {
                 status: Status::Done,
                 text,

@@ -1,0 +1,147 @@
+-- One more comment, one more contract that is left, and the parts of `advance` put together.
+use Rattle.std.proofs.Common.{◌≡◌, ◌∙◌, ◌≤◌, ◌-◌, ◌&&◌, ℕ, ℤ, pos, Bool, true, false, List, [], ◌∷◌, ◌++◌, append_assoc, ap, arith, map, refl, subst, sym}
+use Rattle.std.specs.Prelude.{Option, None, Result, Ok, Err, codes, not}
+use Rattle.std.specs.Map.{keys_of}
+use Rattle.std.proofs.lemmas.Int.{ints}
+use Rattle.std.proofs.lemmas.List.{append-nil, map-append}
+use Rattle.std.proofs.lemmas.List.Elements.{All-cons, All-nil}
+use Rattle.term_core.specs.declared.name.Name.{Name}
+use Rattle.term_core.specs.declared.terms.Contr.{Contr}
+use Rattle.term_core.specs.Books.{Book}
+use Rattle.term_core.specs.Declarations.{Declarations}
+use Rattle.term_core.specs.Environments.{Environment}
+use Rattle.term_core.specs.Terms.{Contract, contract}
+use Rattle.contract_parse.specs.Names.{is_declared}
+use Rattle.contract_parse.specs.NameTexts.{is_name_text}
+use Rattle.contract_print.specs.Spellable.{are_new}
+use Rattle.flow_eval.specs.FlowAnswers.{AreFlows}
+use Rattle.flow_eval.specs.declared.faults.FlowErr.{FlowErr}
+use Rattle.flow_eval.specs.declared.faults.FlowErr.TheVariants as flow
+use Rattle.flow_eval.specs.declared.flow_table.FlowRow.{FlowRow}
+use Rattle.advance_step.specs.Advancing.{Advances, day_before}
+use Rattle.report.specs.FlowLines.{AppendsFlowLine, IsFlowLine}
+use Rattle.report.specs.declared.fault_lines.Fault.{Fault}
+use Rattle.contract_cli.specs.AdvanceLists.{AnswersRests, AppendsComments, AppendsRest, AppendsRests, IsRestText}
+use Rattle.contract_cli.specs.AdvanceText.{AreComments, AreDueLines, AreResiduals, IsAdvanceText, IsNewDay, StopsAdvance, day_out, not_accepted, row_refused, read_missing, commented, greatest_new_day, last_gone, rest_declarations}
+use Rattle.contract_cli.specs.CheckText.{AreAllAccepted}
+use Rattle.contract_cli.specs.Commands.{AdvanceAsked}
+use Rattle.contract_cli.specs.FlowLists.{IsMissingOf, IsRefusedOf, IsRowFault, IsWordFault}
+use Rattle.contract_cli.specs.FlowsText.{AreFixings}
+use Rattle.contract_cli.specs.Used.{used}
+use Rattle.contract_cli.specs.Using.{trees}
+use Rattle.contract_cli.specs.declared.advance_text.Left.{Left}
+use Rattle.contract_cli.specs.declared.stop.Stop.{Stop}
+use Rattle.contract_cli.specs.declared.stop.Stop.TheVariants as stop
+use Rattle.contract_cli.proofs.LineFacts.{IsFixedEntry, missing_behind, none_and, some_and}
+
+-- ---- one more comment
+
+comments_more : (d : Declarations) (name : List ℕ) (rows : List FlowRow) (text : List ℕ) (row : FlowRow) (line : List ℕ) → AreComments d name rows text → IsFlowLine d name row line → AreComments d name (rows ++ row ∷ []) (text ++ commented line)
+comments_more d name [] text row line none is = (line, [], is, refl, none_and text (commented line) none)
+comments_more d name (r ∷ rows) text row line some is =
+    (some.0, some.1 ++ commented line, some.2, comments_more d name rows some.1 row line some.3 is, some_and text (commented some.0) some.1 (commented line) some.4)
+
+pub appends_comment : (d : Declarations) (name : List ℕ) (rows : List FlowRow) (row : FlowRow) (before middle marked after : List ℕ) → AppendsComments d name rows before middle → marked ≡ middle ++ codes "# " → AppendsFlowLine d name row marked after → AppendsComments d name (rows ++ row ∷ []) before after
+appends_comment d name rows row before middle marked after some mark more = record {
+  text = some.text ++ commented more.line;
+  comments = comments_more d name rows some.text row more.line some.comments more.is_line;
+  appended = more.appended
+      ∙ ap (λ (t : List ℕ). t ++ more.line) (mark ∙ ap (λ (t : List ℕ). t ++ codes "# ") some.appended)
+      ∙ append_assoc (before ++ some.text) (codes "# ") more.line
+      ∙ append_assoc before some.text (commented more.line);
+}
+
+pub appends_no_comment : (d : Declarations) (name before : List ℕ) → AppendsComments d name [] before before
+appends_no_comment d name before = record { text = []; comments = refl; appended = sym (append-nil before) }
+
+-- ---- names
+
+-- of names that are new, the first is, and the others are behind it
+pub new_first : (word there others : Bool) → ((word && not there) && others) ≡ true → (there ≡ false) × (others ≡ true)
+new_first true false true h = (refl, refl)
+new_first true false false h = absurd cc
+new_first true true others h = absurd cc
+new_first false there others h = absurd cc
+
+pub first_is_new : (before names : List (List ℕ)) (name : List ℕ) → are_new before (name ∷ names) ≡ true → (is_declared before name ≡ false) × (are_new (before ++ name ∷ []) names ≡ true)
+first_is_new before names name h = new_first (is_name_text name) (is_declared before name) (are_new (before ++ name ∷ []) names) h
+
+pub keys_of_trees : (entries : List (Name × Contr)) → keys_of (trees entries) ≡ keys_of entries
+keys_of_trees [] = refl
+keys_of_trees (e ∷ es) = ap (λ (names : List Name). e.0 ∷ names) (keys_of_trees es)
+
+pub keys_more : {V : Type 0} (entries : List (Name × V)) (name : Name) (value : V) → keys_of (entries ++ (name, value) ∷ []) ≡ keys_of entries ++ name ∷ []
+keys_more [] name value = refl
+keys_more (e ∷ es) name value = ap (λ (names : List Name). e.0 ∷ names) (keys_more es name value)
+
+pub trees_more : (entries after : List (Name × Contr)) (name : Name) (c : Contr) → after ≡ entries ++ (name, c) ∷ [] → trees after ≡ trees entries ++ (name, contract c) ∷ []
+trees_more entries after name c is =
+    ap (λ (es : List (Name × Contr)). trees es) is ∙ map-append (λ (entry : Name × Contr). (entry.0, contract entry.1)) entries ((name, c) ∷ [])
+
+-- ---- the days gone by
+
+-- the last of them, from the start and by the new day
+pub gone_is : (start day : ℕ) → start ≤ day → day_before (pos start) (day - start) ≡ last_gone day
+gone_is start day h = omega (arith, ints)
+
+-- a fault of advancing is one of flows
+pub as_flows : (d : Declarations) (c : Contract) (fixings : Environment) (first : ℤ) (days : ℕ) (e : FlowErr) → Advances d c fixings first days (Err e) → AreFlows d c fixings first (day_before first days) (Err e)
+as_flows d c fixings first days (flow.Missing label day) h = h
+as_flows d c fixings first days flow.NoMemory h = tt
+
+-- ---- one more contract that is left
+
+module _ (d : Declarations) (fixings : Environment) (day : ℕ) where
+  pub rest_behind : (entry : Name × Contract) (entries : List (Name × Contract)) (before middle : Left) (r : Result Left Stop) → AppendsRest d fixings day entry before middle → AnswersRests d fixings day entries middle.due.items (trees middle.contracts.entries) r → AnswersRests d fixings day (entry ∷ entries) before.due.items (trees before.contracts.entries) r
+  rest_behind entry entries before middle (Ok left) one more = record {
+    fixed = All-cons (IsFixedEntry d fixings (last_gone day)) entry entries one.flows.fixed more.fixed;
+    text = one.comments.text ++ more.text;
+    lines = (one.comments.text, more.text, record { rows = one.rows; flows = one.flows; comments = one.comments.comments }, more.lines, refl);
+    due_is = more.due_is ∙ ap (λ (t : List ℕ). t ++ more.text) one.comments.appended ∙ append_assoc before.due.items one.comments.text more.text;
+    rest = (entry.0, one.rest) ∷ more.rest;
+    residuals = (refl, one.residual, more.residuals);
+    kept = more.kept ∙ ap (λ (es : List (Name × Contract)). es ++ more.rest) one.kept ∙ append_assoc (trees before.contracts.entries) ((entry.0, one.rest) ∷ []) more.rest;
+  }
+  rest_behind entry entries before middle (Err (stop.Fault f)) one more = missing_behind d fixings (last_gone day) entry entries f one.flows.fixed more
+  rest_behind entry entries before middle (Err stop.NoMemory) one more = tt
+
+  pub rests_of_none : (left : Left) → AnswersRests d fixings day [] left.due.items (trees left.contracts.entries) (Ok left)
+  rests_of_none left = record {
+    fixed = All-nil (IsFixedEntry d fixings (last_gone day));
+    text = [];
+    lines = refl;
+    due_is = sym (append-nil left.due.items);
+    rest = [];
+    residuals = tt;
+    kept = sym (append-nil (trees left.contracts.entries));
+  }
+
+-- ---- the parts put together
+
+module _ (b : Book) (asked : AdvanceAsked) (table : Option (List ℕ)) where
+  pub day_stops : (f : Fault) → IsWordFault b.declarations greatest_new_day asked.to f → StopsAdvance b asked table f
+  day_stops f h = day_out h.out h.fault_is
+
+  pub contract_stops : (day : ℕ) → IsNewDay b.declarations asked.to day → (f : Fault) → IsRefusedOf b.declarations (used None b) f → StopsAdvance b asked table f
+  contract_stops day new f h = not_accepted day new h.name h.rule h.node h.first h.fault_is
+
+  pub row_stops : (day : ℕ) → IsNewDay b.declarations asked.to day → AreAllAccepted b.declarations (used None b) → (f : Fault) → IsRowFault b.declarations table f → StopsAdvance b asked table f
+  row_stops day new all f h = row_refused day new all h.bytes h.named h.row h.first h.fault_is
+
+  pub read_stops : (day : ℕ) → IsNewDay b.declarations asked.to day → AreAllAccepted b.declarations (used None b) → (fixings : Environment) → AreFixings b.declarations table fixings → (f : Fault) → IsMissingOf b.declarations fixings (last_gone day) (used None b) f → StopsAdvance b asked table f
+  read_stops day new all fixings are f h = read_missing day new all fixings are h.place h.first h.fault_is
+
+  pub whole_text : (day : ℕ) → IsNewDay b.declarations asked.to day → AreAllAccepted b.declarations (used None b) → (fixings : Environment) → AreFixings b.declarations table fixings
+      → (left : Left) (text : List ℕ) → AppendsRests b.declarations fixings day (used None b) [] [] left → IsRestText b.declarations day (trees left.contracts.entries) left.due.items text → IsAdvanceText b asked table text
+  whole_text day new all fixings are left text h k = record {
+    day = day;
+    fixings = fixings;
+    can = record { is_day = new; accepted = all; are_fixings = are; fixed = h.fixed };
+    due = left.due.items;
+    are_due = subst (λ (t : List ℕ). AreDueLines b.declarations fixings (last_gone day) (used None b) t) (sym h.due_is) h.lines;
+    rest = record { declarations = rest_declarations b.declarations day; contracts = trees left.contracts.entries };
+    is_rest = record { declarations = refl; contracts = subst (λ (es : List (Name × Contract)). AreResiduals b.declarations fixings day (used None b) es) (sym h.kept) h.residuals };
+    canon = k.canon;
+    is_canon = k.is_canon;
+    is = k.is;
+  }
