@@ -6,7 +6,7 @@ use Rattle.clap.proofs.OnLiterals.{clap_on_literals}
 use Rattle.term_core.specs.Dates.{epoch_day_of, parts_of, two_of}
 use Rattle.fixing_files.specs.Days.{day_named, day_of}
 use Rattle.contract_cli.specs.Arguments.{taken}
-use Rattle.contract_cli.specs.Commands.{Flows, Request, OnFiles, Sample}
+use Rattle.contract_cli.specs.Commands.{Advance, Flows, Request, OnFiles, Sample}
 use Rattle.contract_cli.specs.Words.{request_of}
 
 abbrev flows : Text → Option Text → Option Text → Bool → Option Request
@@ -59,6 +59,18 @@ reserved_name = refl
 empty_name : request_of (codes "flows" ∷ codes "a" ∷ codes "--contract=" ∷ []) ≡ None
 unfolding clap_on_literals taken
 empty_name = refl
+
+advance_to_a_day : request_of (codes "advance" ∷ codes "--to=2" ∷ codes "a" ∷ codes "b" ∷ []) ≡ Some (OnFiles (Advance (record { portfolio = codes "a"; fixings = codes "b"; to = codes "2" })))
+unfolding clap_on_literals taken day_of day_named two_of parts_of epoch_day_of
+advance_to_a_day = refl
+
+no_new_day : request_of (codes "advance" ∷ codes "a" ∷ codes "b" ∷ []) ≡ None
+unfolding clap_on_literals taken
+no_new_day = refl
+
+no_fixings : request_of (codes "advance" ∷ codes "a" ∷ codes "--to" ∷ codes "2" ∷ []) ≡ None
+unfolding clap_on_literals taken
+no_fixings = refl
 
 zeros_before : request_of (codes "sample" ∷ codes "00000000010000" ∷ []) ≡ Some (Sample 10_000)
 unfolding clap_on_literals taken

@@ -89,6 +89,19 @@ flows|loan.txt|--contract|prêt
 flows|loan.txt|--contract|aaaaaaaaaaaaaaaaaaaaaaaaaaaaaaaaaaaaaaaaaaaaaaaaaaaaaaaaaaaaaaaaa
 flows|loan.txt|--net|--net
 flows|loan.txt|--net=true
+advance
+advance|loan.txt|--to|1
+advance|loan.txt|fix.csv
+advance|loan.txt|fix.csv|--to
+advance|loan.txt|fix.csv|--to|
+advance|loan.txt|fix.csv|--to|-1
+advance|loan.txt|fix.csv|--to|2024-02-30
+advance|loan.txt|fix.csv|--to|1|--to|1
+advance|loan.txt|fix.csv|--until|1
+advance|loan.txt|fix.csv|--to|1|--net
+advance|loan.txt|fix.csv|fix.csv|--to|1
+advance|loan.txt|fix.csv|--|--to|1
+advance|--help
 sample
 sample|
 sample|0
@@ -132,6 +145,12 @@ flows|--until=89|--|loan.txt
 flows|loan.txt|--until|000000089
 flows|loan.txt|--until|2024-04-13";
 
+// The loan on day 30.
+const TO_DAY_30: &str = "advance|loan.txt|fix.csv|--to|30
+advance|--to|30|loan.txt|fix.csv
+advance|loan.txt|--to=2024-02-14|fix.csv
+advance|--to=000000030|--|-x|fix.csv";
+
 const SAMPLE_OF_7: &str = "sample|7
 sample|007
 sample|00000000000000000000000000000000000000007
@@ -148,6 +167,16 @@ fn reads_words(rt: HostRuntime) -> Result<(), Fail> {
     let whole = b"loan,2024-01-15,A,B,EUR,100.00\nloan,2024-04-14,B,A,EUR,105.00\n";
     print_all(&rt, alloc, WHOLE, whole)?;
     print_all(&rt, alloc, "flows|help", b"fault read 1\n")?;
+    let left = b"# loan,2024-01-15,A,B,EUR,100.00
+portfolio 1;
+amounts 2;
+origin 2024-01-15;
+start 30;
+party A, B, C;
+asset EUR;
+contract loan = after(60, scale(105.00, pay(EUR, B, A)));
+";
+    print_all(&rt, alloc, TO_DAY_30, left)?;
     let sums = b"contracts 7\nlines 7\nA,B,EUR,840.14\n";
     print_all(&rt, alloc, SAMPLE_OF_7, sums)?;
     let mut files = desk(alloc)?;
