@@ -18,6 +18,7 @@ pub mod AnswersAreOne
 pub mod RunFacts
 pub mod ReadFacts
 pub mod LawFacts
+pub mod ComposeFacts
 pub mod Declaring
 pub mod Taken
 pub mod WordFacts

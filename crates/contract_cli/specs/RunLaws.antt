@@ -1,10 +1,14 @@
 -- Laws of the causes of a run's status: which status comes exactly where, in the order of the refusals, and that a run
 -- with nothing in its way writes the whole text of its command. An "exactly where" yields to want of memory, the one free
 -- answer, and to a failed write of the text.
-use Rattle.std.specs.Prelude.{◌≡◌, ◌≤◌, ◌<◌, ◌⊎◌, ℕ, ℤ, false, true, List, Option, Some, None, length}
+use Rattle.std.specs.Prelude.{◌≡◌, ◌≤◌, ◌<◌, ◌⊎◌, ◌-◌, ℕ, ℤ, pos, false, true, List, [], ◌∷◌, Option, Some, None, length}
 use Rattle.edge_io.specs.Counts.{Rose}
 use Rattle.term_core.specs.Books.{Book}
-use Rattle.term_core.specs.Environments.{Environment}
+use Rattle.term_core.specs.declared.name.Name.{Name}
+use Rattle.term_core.specs.Declarations.{Declarations}
+use Rattle.term_core.specs.Environments.{Environment, Extends}
+use Rattle.term_core.specs.Residuals.{Carries}
+use Rattle.term_core.specs.Terms.{Contract}
 use Rattle.contract_parse.specs.Texts.{Text}
 use Rattle.fixing_files.specs.Tables.{IsFirstFault, table_of}
 use Rattle.fixing_files.specs.declared.faults.RowFault.{RowFault}
@@ -13,7 +17,7 @@ use Rattle.report.specs.declared.fault_lines.Fault.TheVariants as fault
 use Rattle.sample.specs.Summary.{IsSummary}
 use Rattle.contract_cli.specs.Answers.{Answers, Inputs, IsNoText}
 use Rattle.contract_cli.specs.Answering.{AreShort}
-use Rattle.contract_cli.specs.AdvanceText.{CanAdvance, IsAdvanceText, IsNewDay, IsNoNewDay, last_gone}
+use Rattle.contract_cli.specs.AdvanceText.{CanAdvance, IsAdvanceText, IsNewDay, IsNoNewDay, IsRestBook, last_gone, rest_declarations}
 use Rattle.contract_cli.specs.CheckText.{AreAllAccepted, IsChecked}
 use Rattle.contract_cli.specs.Commands.{Advance, AdvanceAsked, Asked, Check, Flows, FlowsAsked, fixings_file, portfolio_file}
 use Rattle.contract_cli.specs.FlowsText.{AreAllFixed, AreFixings, CanGo, IsFlowsText, IsOutOfRange, WordsFit, greatest_day}
@@ -263,6 +267,28 @@ AdvanceIsComplete =
     → Meets words edge s → IsReadWhole words edge (Advance asked) inputs → Text inputs.portfolio b → CanAdvance b asked inputs.fixings day fixings
     → ((text : List ℕ) × (s ≡ status.Done) × IsAdvanceText b asked inputs.fixings text × WritesAll edge.sink text)
     ⊎ ((s ≡ status.NoMemory) × WritesNothing edge.sink)
+
+-- ---- two runs
+
+-- contracts that carry those of the same names, which stand on the start, over some days
+abbrev pub AreCarried : Declarations → Environment → ℕ → List (Name × Contract) → List (Name × Contract) → Type 0
+AreCarried d fixings days [] [] = Unit {0}
+AreCarried d fixings days (entry ∷ entries) (left ∷ rest) =
+    (left.0 ≡ entry.0) × Carries d entry.1 (pos d.start) fixings days left.1 × AreCarried d fixings days entries rest
+AreCarried d fixings days _ _ = ⊥
+
+-- what is left of what is left, under fixings that extend the first ones, stands on the later day and carries the first
+-- contracts there
+pub record IsCarriedBook (b : Book) (fixings : Environment) (day : ℕ) (rest : Book) : Type 0 where
+  pub declarations : rest.declarations ≡ rest_declarations b.declarations day
+  pub contracts : AreCarried b.declarations fixings (day - b.declarations.start) (used None b) rest.contracts
+
+abbrev pub AdvancesCompose : Type 0
+AdvancesCompose =
+    (b rest last : Book) (fixings more : Environment) (day later : ℕ) → b.declarations.start ≤ day → day ≤ later → Extends fixings more
+    → IsRestBook b fixings day rest → IsRestBook rest more later last → IsCarriedBook b more later last
+
+-- ---- the sample
 
 -- `sample` ends with its summary written, or with a failed write, or for want of memory; it has no other status
 pub data SampleEnds (edge : Edge) (count : ℕ) (s : Status) : Type 0 where

@@ -1,6 +1,6 @@
 //! Laws of the causes of a run's status. Each is the contract of a function that does nothing.
 
-ghost use Rattle.contract_cli.specs.RunLaws.{AdvanceIsComplete, AnswersAreOne, BadTextIsExact, CheckIsComplete, DueLinesAreOne, FlowsAreComplete, ReadFaultsHaveCauses, RefusalsAreExact, SampleHasThreeEnds, SampleIsComplete, StatusesAreOne, SummariesAreOne, TooLongIsExact, UsageIsExact, UsageWritesItsLine, WriteFaultsHaveCauses};
+ghost use Rattle.contract_cli.specs.RunLaws.{AdvanceIsComplete, AdvancesCompose, AnswersAreOne, BadTextIsExact, CheckIsComplete, DueLinesAreOne, FlowsAreComplete, ReadFaultsHaveCauses, RefusalsAreExact, SampleHasThreeEnds, SampleIsComplete, StatusesAreOne, SummariesAreOne, TooLongIsExact, UsageIsExact, UsageWritesItsLine, WriteFaultsHaveCauses};
 
 /// Usage comes exactly where the words are of no form, or memory is wanting, or the write of its line fails; and it has
 /// just that line.
@@ -41,6 +41,12 @@ pub fn answers_are_one()
     ensures statuses { StatusesAreOne }
     ensures due { DueLinesAreOne }
     ensures sample { SummariesAreOne }
+{}
+
+/// Two runs compose: what is left on a day of what was left on an earlier one, under more fixings, carries the first
+/// contracts to that day.
+pub fn advances_compose()
+    ensures { AdvancesCompose }
 {}
 
 /// `sample` ends with its summary written, with a failed write or for want of memory.
