@@ -29,10 +29,10 @@ pub record IsLastGone (d : Declarations) (word : List ℕ) (last : ℤ) : Type 0
 pub one_day : (d : Declarations) (word : List ℕ) (m n : ℕ) → IsNewDay d word m → IsNewDay d word n → m ≡ n
 one_day d word m n h k = let e = sym h.named ∙ k.named in cc
 
-one_last : (d : Declarations) (word : List ℕ) (m n : ℤ) → IsLastGone d word m → IsLastGone d word n → m ≡ n
+pub one_last : (d : Declarations) (word : List ℕ) (m n : ℤ) → IsLastGone d word m → IsLastGone d word n → m ≡ n
 one_last d word m n h k = h.is_last ∙ ap last_gone (one_day d word h.day k.day h.is_day k.is_day) ∙ sym k.is_last
 
-new_or_not : (d : Declarations) (word : List ℕ) (last : ℤ) → IsLastGone d word last → IsNoNewDay d word → ⊥
+pub new_or_not : (d : Declarations) (word : List ℕ) (last : ℤ) → IsLastGone d word last → IsNoNewDay d word → ⊥
 new_or_not d word last h k = in_range_or_not d greatest_new_day word (pos h.day) (new_is_asked d word h.day h.is_day) k
 
 abbrev pub days : Declarations → List ℕ → Days
@@ -47,7 +47,7 @@ days d word = record {
 }
 
 module _ (b : Book) (asked : AdvanceAsked) (table : Option (List ℕ)) where
-  abbrev Stopped : Fault → Type 0
+  abbrev pub Stopped : Fault → Type 0
   Stopped f = StopsAt b None (days b.declarations asked.to) table f
 
   gone : (day : ℕ) → IsNewDay b.declarations asked.to day → IsLastGone b.declarations asked.to (last_gone day)

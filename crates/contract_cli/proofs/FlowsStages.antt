@@ -22,10 +22,10 @@ pub record IsOut (d : Declarations) (until : Option (List ℕ)) : Type 0 where
   pub given : until ≡ Some word
   pub out : IsOutOfRange d greatest_day word
 
-out_or_last : (d : Declarations) (until : Option (List ℕ)) (last : ℤ) → IsLastDay d until last → IsOut d until → ⊥
+pub out_or_last : (d : Declarations) (until : Option (List ℕ)) (last : ℤ) → IsLastDay d until last → IsOut d until → ⊥
 out_or_last d until last h k = in_range_or_not d greatest_day k.word last (subst (λ (w : Option (List ℕ)). IsLastDay d w last) k.given h) k.out
 
-one_day_fault : (d : Declarations) (until : Option (List ℕ)) (f g : Fault) → IsDayFault d until f → IsDayFault d until g → f ≡ g
+pub one_day_fault : (d : Declarations) (until : Option (List ℕ)) (f g : Fault) → IsDayFault d until f → IsDayFault d until g → f ≡ g
 one_day_fault d until f g h k = h.fault_is ∙ ap (λ (x : List ℕ). fault.Day x) (some_same h.word k.word (sym h.given ∙ k.given)) ∙ sym k.fault_is
 
 abbrev pub days : Declarations → Option (List ℕ) → Days
@@ -40,7 +40,7 @@ days d until = record {
 }
 
 module _ (b : Book) (flows : FlowsAsked) (table : Option (List ℕ)) where
-  abbrev Stopped : Fault → Type 0
+  abbrev pub Stopped : Fault → Type 0
   Stopped f = StopsAt b flows.contract (days b.declarations flows.until) table f
 
   pub stage_of : (f : Fault) → StopsFlows b flows table f → Stopped f

@@ -38,7 +38,7 @@ const LAST_NEW_DAY: u32 = 1_000_000;
 
 // The new day of a word.
 fn new_day(alloc: Global, decls: &Decls, to: DayWord<'_>) -> Result<u32, Stop>
-    ensures { AnswersBy (IsNewDay (declarations decls.now) to.word.now) (IsWordFault (declarations decls.now) greatest_new_day to.word.now) result }
+    ensures { AnswersBy (IsNewDay (declarations decls.now) to.entry.word.now) (IsWordFault (declarations decls.now) greatest_new_day to.entry.word.now) result }
 {
     let day = day_asked(alloc, decls, to, LAST_NEW_DAY)?;
     Ok(day as u32)

@@ -40,7 +40,7 @@ pub fn day_asked(
     greatest: u32,
 ) -> Result<i64, Stop>
     requires { greatest ≤ 1_100_000 }
-    ensures { AnswersBy (IsDayAsked (declarations decls.now) (pos greatest) asked.word.now) (IsWordFault (declarations decls.now) (pos greatest) asked.word.now) result }
+    ensures { AnswersBy (IsDayAsked (declarations decls.now) (pos greatest) asked.entry.word.now) (IsWordFault (declarations decls.now) (pos greatest) asked.entry.word.now) result }
 {
     match day_in_range(decls, place_day(decls.origin, asked.named), greatest) {
         Some(day) => Ok(day),

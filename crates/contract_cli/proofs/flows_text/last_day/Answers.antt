@@ -1,9 +1,9 @@
-use Rattle.std.proofs.Common.{ℕ, ℤ, List, refl}
+use Rattle.std.proofs.Common.{ℕ, List, ap, subst, sym}
 use Rattle.std.specs.Prelude.{Option, Some, option_map}
 use Rattle.term_core.specs.Declarations.{declarations}
-use Rattle.report.specs.declared.fault_lines.Fault.{Fault}
 use Rattle.contract_cli.specs.FlowLists.{CanBeLast, IsDayFault, IsWordFault}
 use Rattle.contract_cli.specs.FlowsText.{IsDayAsked, greatest_day}
+use Rattle.contract_cli.specs.Stopping.{AnswersBy}
 use Rattle.contract_cli.specs.declared.day_words.DayWord.{DayWord}
 use Rattle.contract_cli.proofs.DayFacts.{is_last, no_last}
 use Rattle.contract_cli.proofs.StopFacts.{answers_too}
@@ -13,4 +13,5 @@ pub returns-in-Some : goal.returns-in-Some
 returns-in-Some c =
     let d = declarations c.args.decls.now in
     let word = c.in-Some.asked.word.now in
-    answers_too (IsDayAsked d greatest_day word) (CanBeLast d (Some word)) (IsWordFault d greatest_day word) (IsDayFault d (Some word)) (is_last d word) (no_last d word) c.day_asked.result c.day_asked.ensures
+    subst (λ (until : Option (List ℕ)). AnswersBy (CanBeLast d until) (IsDayFault d until) c.day_asked.result) (sym (ap (option_map (λ (day : DayWord). day.word.now)) c.in-Some.is))
+    (answers_too (IsDayAsked d greatest_day word) (CanBeLast d (Some word)) (IsWordFault d greatest_day word) (IsDayFault d (Some word)) (is_last d word) (no_last d word) c.day_asked.result c.day_asked.ensures)

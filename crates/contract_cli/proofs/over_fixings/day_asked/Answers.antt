@@ -21,11 +21,11 @@ returns-in-Some c =
     let same : to_z w64 (of_z w64 day) ≡ day = to_z-of_z w64 day (fits_day day (asked_first d most word day is) late) in
     subst (λ (x : ℤ). IsDayAsked d most word x) (sym same) is
 
-pub returns : goal.returns
-returns c =
+pub returns-in_ok-word-in-None : goal.returns-in_ok-word-in-None
+returns-in_ok-word-in-None c =
     let d = declarations c.args.decls.now in
     let most = pos c.args.greatest in
     let word = c.args.asked.word.now in
     let none : day_in_range d most (placed_day d.origin c.args.asked.named) ≡ None = search rules in
-    let same : c.in_ok-word.word ≡ word = search rules in
+    let same : c.in_ok-word-in-None.word ≡ word = search rules in
     record { out = is_out d most word c.args.asked.named c.args.asked.reads none; fault_is = ap (λ w. fault.Day w) same }

@@ -1,0 +1,17 @@
+use Rattle.std.specs.Prelude.{◌≡◌, true, [], Result, drop}
+use Rattle.std.specs.Map.{keys_of}
+use Rattle.term_core.specs.Declarations.{declarations}
+use Rattle.contract_print.specs.Spellable.{are_new}
+use Rattle.contract_cli.specs.AdvanceLists.{AnswersRests}
+use Rattle.contract_cli.specs.Using.{entries_of, trees}
+use Rattle.contract_cli.specs.declared.advance_text.Left.{Left}
+use Rattle.contract_cli.specs.declared.stop.Stop.{Stop}
+use Rattle.contract_cli.proofs.advance_text.advance_all.Given as goal
+
+-- the names of the contracts that are left are new behind those so far, and the answer for them is that for all
+abbrev pub invariant-loop-one : goal.invariant-loop-one
+invariant-loop-one l = record {
+  names : are_new (keys_of (trees l.left.contracts.entries)) (keys_of (entries_of (drop l.one-index l.ones))) ≡ true;
+  rest : (r : Result Left Stop) → AnswersRests (declarations l.course.decls.now) l.course.fixings.now l.course.day (entries_of (drop l.one-index l.ones)) l.left.due.items (trees l.left.contracts.entries) r
+      → AnswersRests (declarations l.course.decls.now) l.course.fixings.now l.course.day (entries_of l.ones) [] [] r;
+}
