@@ -14,25 +14,30 @@ use Rattle.term_core.specs.Terms.{Contract, contract}
 use Rattle.contract_parse.specs.Names.{is_declared}
 use Rattle.contract_parse.specs.NameTexts.{is_name_text}
 use Rattle.contract_print.specs.Spellable.{are_new}
-use Rattle.flow_eval.specs.FlowAnswers.{AreFlows}
+use Rattle.contract_parse.proofs.LineFacts.{keys_added}
+use Rattle.flow_eval.specs.FlowAnswers.{AreFlows, AreKnownFlows}
 use Rattle.flow_eval.specs.declared.faults.FlowErr.{FlowErr}
 use Rattle.flow_eval.specs.declared.faults.FlowErr.TheVariants as flow
 use Rattle.flow_eval.specs.declared.flow_table.FlowRow.{FlowRow}
-use Rattle.advance_step.specs.Advancing.{Advances, day_before}
+use Rattle.flow_eval.specs.declared.flow_table.FlowTable.{FlowTable}
+use Rattle.advance_step.specs.Advancing.{Advances, IsResidual, day_before}
 use Rattle.report.specs.FlowLines.{AppendsFlowLine, IsFlowLine}
 use Rattle.report.specs.declared.fault_lines.Fault.{Fault}
 use Rattle.contract_cli.specs.AdvanceLists.{AnswersRests, AppendsComments, AppendsRest, AppendsRests, IsRestText}
 use Rattle.contract_cli.specs.AdvanceText.{AreComments, AreDueLines, AreResiduals, IsAdvanceText, IsNewDay, StopsAdvance, day_out, not_accepted, row_refused, read_missing, commented, greatest_new_day, last_gone, rest_declarations}
 use Rattle.contract_cli.specs.CheckText.{AreAllAccepted}
 use Rattle.contract_cli.specs.Commands.{AdvanceAsked}
-use Rattle.contract_cli.specs.FlowLists.{IsMissingOf, IsRefusedOf, IsRowFault, IsWordFault}
+use Rattle.contract_cli.specs.FlowLists.{IsMissingOf, IsMissingOne, IsRefusedOf, IsRowFault, IsStopOf, IsWordFault}
 use Rattle.contract_cli.specs.FlowsText.{AreFixings}
+use Rattle.contract_cli.specs.Stopping.{AnswersBy}
 use Rattle.contract_cli.specs.Used.{used}
 use Rattle.contract_cli.specs.Using.{trees}
 use Rattle.contract_cli.specs.declared.advance_text.Left.{Left}
 use Rattle.contract_cli.specs.declared.stop.Stop.{Stop}
 use Rattle.contract_cli.specs.declared.stop.Stop.TheVariants as stop
-use Rattle.contract_cli.proofs.LineFacts.{IsFixedEntry, missing_behind, none_and, some_and}
+use Rattle.contract_cli.proofs.LineFacts.{IsFixedEntry, missing_behind, none_and, some_and, without_flows}
+use Rattle.contract_cli.proofs.StopFacts.{by_stop}
+use Rattle.contract_cli.proofs.UsedFacts.{used_of}
 
 -- ---- one more comment
 
@@ -70,11 +75,17 @@ pub keys_of_trees : (entries : List (Name × Contr)) → keys_of (trees entries)
 keys_of_trees [] = refl
 keys_of_trees (e ∷ es) = ap (λ (names : List Name). e.0 ∷ names) (keys_of_trees es)
 
-pub keys_more : {V : Type 0} (entries : List (Name × V)) (name : Name) (value : V) → keys_of (entries ++ (name, value) ∷ []) ≡ keys_of entries ++ name ∷ []
-keys_more [] name value = refl
-keys_more (e ∷ es) name value = ap (λ (names : List Name). e.0 ∷ names) (keys_more es name value)
+-- the contracts that are used have the names of the portfolio's
+pub used_names : (d : Declarations) (entries : List (Name × Contract)) → keys_of (used_of None d entries) ≡ keys_of entries
+used_names d [] = refl
+used_names d (e ∷ es) = ap (λ (names : List Name). e.0 ∷ names) (used_names d es)
 
-pub trees_more : (entries after : List (Name × Contr)) (name : Name) (c : Contr) → after ≡ entries ++ (name, c) ∷ [] → trees after ≡ trees entries ++ (name, contract c) ∷ []
+-- behind a contract that is put behind others, the other names are new
+pub names_behind : (before after : List (Name × Contract)) (names : List Name) (name : Name) (c : Contract) → after ≡ before ++ (name, c) ∷ [] → are_new (keys_of before) (name ∷ names) ≡ true → are_new (keys_of after) names ≡ true
+names_behind before after names name c is new =
+    subst (λ (ns : List Name). are_new ns names ≡ true) (sym (ap keys_of is ∙ keys_added before name c)) (first_is_new (keys_of before) names name new).1
+
+trees_more : (entries after : List (Name × Contr)) (name : Name) (c : Contr) → after ≡ entries ++ (name, c) ∷ [] → trees after ≡ trees entries ++ (name, contract c) ∷ []
 trees_more entries after name c is =
     ap (λ (es : List (Name × Contr)). trees es) is ∙ map-append (λ (entry : Name × Contr). (entry.0, contract entry.1)) entries ((name, c) ∷ [])
 
@@ -85,9 +96,39 @@ pub gone_is : (start day : ℕ) → start ≤ day → day_before (pos start) (da
 gone_is start day h = omega (arith, ints)
 
 -- a fault of advancing is one of flows
-pub as_flows : (d : Declarations) (c : Contract) (fixings : Environment) (first : ℤ) (days : ℕ) (e : FlowErr) → Advances d c fixings first days (Err e) → AreFlows d c fixings first (day_before first days) (Err e)
+as_flows : (d : Declarations) (c : Contract) (fixings : Environment) (first : ℤ) (days : ℕ) (e : FlowErr) → Advances d c fixings first days (Err e) → AreFlows d c fixings first (day_before first days) (Err e)
 as_flows d c fixings first days (flow.Missing label day) h = h
 as_flows d c fixings first days flow.NoMemory h = tt
+
+-- ---- one contract
+
+module _ (d : Declarations) (fixings : Environment) (day days : ℕ) (entry : Name × Contract) (c : Contract) (low : d.start ≤ day) (count : days ≡ day - d.start) (tree : c ≡ entry.1) where
+  gone : day_before (pos d.start) days ≡ last_gone day
+  gone = ap (day_before (pos d.start)) count ∙ gone_is d.start day low
+
+  pub known_due : (rows : List FlowRow) → AreKnownFlows d c fixings (pos d.start) (day_before (pos d.start) days) rows → AreKnownFlows d entry.1 fixings (pos d.start) (last_gone day) rows
+  known_due rows known =
+      subst (λ (x : ℤ). AreKnownFlows d entry.1 fixings (pos d.start) x rows) gone
+      (subst (λ (x : Contract). AreKnownFlows d x fixings (pos d.start) (day_before (pos d.start) days) rows) tree known)
+
+  pub appends_rest : (rows : List FlowRow) (rest : Contr) (before after : Left) → AreKnownFlows d c fixings (pos d.start) (day_before (pos d.start) days) rows → IsResidual d fixings (pos d.start) days c (contract rest)
+      → AppendsComments d entry.0 rows before.due.items after.due.items → after.contracts.entries ≡ before.contracts.entries ++ (entry.0, rest) ∷ [] → AppendsRest d fixings day entry before after
+  appends_rest rows rest before after known residual comments kept = record {
+    rows = rows;
+    flows = known_due rows known;
+    comments = comments;
+    rest = contract rest;
+    residual = subst (λ (n : ℕ). IsResidual d fixings (pos d.start) n entry.1 (contract rest)) count (subst (λ (x : Contract). IsResidual d fixings (pos d.start) days x (contract rest)) tree residual);
+    kept = trees_more before.contracts.entries after.contracts.entries entry.0 rest kept;
+  }
+
+  pub no_rest : (Good : Unit {0} → Type 0) (e : FlowErr) (s : Stop) → Advances d c fixings (pos d.start) days (Err e) → IsStopOf d e s → AnswersBy Good (IsMissingOne d fixings (last_gone day) entry.1) (Err s)
+  no_rest Good e s told stops =
+      let lacks = as_flows d c fixings (pos d.start) days e told in
+      let here = subst (λ (x : Contract). AreFlows d x fixings (pos d.start) (day_before (pos d.start) days) (Err e)) tree lacks in
+      let there = subst (λ (x : ℤ). AreFlows d entry.1 fixings (pos d.start) x (Err e)) gone here in
+      by_stop (λ (table : FlowTable). AreKnownFlows d entry.1 fixings (pos d.start) (last_gone day) table.rows.items) Good (IsMissingOne d fixings (last_gone day) entry.1) (IsMissingOne d fixings (last_gone day) entry.1) (λ f h. h) s
+      (without_flows d fixings (last_gone day) entry.1 e s there stops)
 
 -- ---- one more contract that is left
 
