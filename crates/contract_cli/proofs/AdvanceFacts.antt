@@ -1,5 +1,5 @@
 -- One more comment, one more contract that is left, and the parts of `advance` put together.
-use Rattle.std.proofs.Common.{◌≡◌, ◌∙◌, ◌≤◌, ◌-◌, ◌&&◌, ℕ, ℤ, pos, Bool, true, false, List, [], ◌∷◌, ◌++◌, append_assoc, ap, arith, map, refl, subst, sym}
+use Rattle.std.proofs.Common.{◌≡◌, ◌∙◌, ◌≤◌, ◌-◌, ◌&&◌, ℕ, ℤ, pos, Bool, true, false, List, [], ◌∷◌, ◌++◌, append_assoc, ap, arith, refl, subst, sym}
 use Rattle.std.specs.Prelude.{Option, None, Result, Ok, Err, codes, not}
 use Rattle.std.specs.Map.{keys_of}
 use Rattle.std.proofs.lemmas.Int.{ints}

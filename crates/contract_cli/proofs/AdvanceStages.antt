@@ -1,15 +1,13 @@
 -- The stages of `advance`, which names no contract.
-use Rattle.std.proofs.Common.{◌≡◌, ◌∙◌, ◌-◌, ◌-ℤ◌, ℕ, ℤ, pos, List, ap, refl, subst, sym}
-use Rattle.std.specs.Prelude.{Option, None, Ok}
+use Rattle.std.proofs.Common.{◌≡◌, ◌∙◌, ℕ, ℤ, pos, List, ap, refl, subst, sym}
+use Rattle.std.specs.Prelude.{Option, None}
 use Rattle.term_core.specs.Books.{Book}
 use Rattle.term_core.specs.Declarations.{Declarations}
 use Rattle.term_core.specs.Environments.{Environment}
 use Rattle.report.specs.declared.fault_lines.Fault.{Fault}
-use Rattle.report.specs.declared.fault_lines.Fault.TheVariants as fault
 use Rattle.contract_cli.specs.AdvanceText.{AreDueLines, CanAdvance, IsAdvanceText, IsNewDay, IsNoNewDay, StopsAdvance, day_out, not_accepted, row_refused, read_missing, greatest_new_day, last_gone}
 use Rattle.contract_cli.specs.Commands.{Advance, AdvanceAsked}
 use Rattle.contract_cli.specs.FlowLists.{IsWordFault}
-use Rattle.contract_cli.specs.FlowsText.{IsDayAsked}
 use Rattle.contract_cli.specs.RunLaws.{CauseOnBook, DueLinesAreOne}
 use Rattle.contract_cli.specs.Statuses.{status_of}
 use Rattle.contract_cli.specs.Used.{used}

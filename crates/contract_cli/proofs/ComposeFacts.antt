@@ -1,9 +1,8 @@
 -- What is left of what is left carries the first contracts.
-use Rattle.std.proofs.Common.{◌≡◌, ◌∙◌, ◌≤◌, ◌-◌, ◌+◌, ◌+ℤ◌, ℕ, ℤ, pos, List, [], ◌∷◌, ap, arith, refl, subst, sym}
+use Rattle.std.proofs.Common.{◌≡◌, ◌∙◌, ◌≤◌, ◌-◌, ◌+◌, ◌+ℤ◌, ℕ, ℤ, pos, List, [], ◌∷◌, ap, arith, refl, subst}
 use Rattle.std.specs.Prelude.{None}
 use Rattle.std.proofs.lemmas.Int.{ints}
 use Rattle.term_core.specs.declared.name.Name.{Name}
-use Rattle.term_core.specs.Books.{Book}
 use Rattle.term_core.specs.Declarations.{Declarations}
 use Rattle.term_core.specs.Environments.{Environment, Extends}
 use Rattle.term_core.specs.Instances.{declared_numbers, instance}
@@ -12,8 +11,8 @@ use Rattle.term_core.specs.Terms.{Contract}
 use Rattle.term_core.proofs.ResidualFacts.{carries_composes}
 use Rattle.term_core.proofs.VerdictFacts.{one_verdict}
 use Rattle.advance_step.specs.Advancing.{IsResidual}
-use Rattle.contract_cli.specs.AdvanceText.{AreResiduals, IsRestBook, rest_declarations}
-use Rattle.contract_cli.specs.RunLaws.{AdvancesCompose, AreCarried, IsCarriedBook}
+use Rattle.contract_cli.specs.AdvanceText.{AreResiduals, rest_declarations}
+use Rattle.contract_cli.specs.RunLaws.{AdvancesCompose, AreCarried}
 use Rattle.contract_cli.specs.Used.{used}
 use Rattle.contract_cli.proofs.UsedFacts.{own_instance, used_of}
 

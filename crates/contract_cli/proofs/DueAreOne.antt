@@ -1,8 +1,6 @@
 -- Contracts over fixings have one text of what is due.
 use Rattle.std.proofs.Common.{◌≡◌, ◌∙◌, ℕ, ℤ, List, [], ◌∷◌, ◌++◌, ap, subst, sym}
-use Rattle.std.specs.Prelude.{Option}
 use Rattle.term_core.specs.declared.name.Name.{Name}
-use Rattle.term_core.specs.declared.values.Value.{Value}
 use Rattle.term_core.specs.Declarations.{Declarations}
 use Rattle.term_core.specs.Environments.{Environment, Place, held}
 use Rattle.term_core.specs.Terms.{Contract}

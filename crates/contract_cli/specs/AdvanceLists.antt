@@ -1,7 +1,6 @@
 -- What the parts of `advance` answer: the comments and the contracts that are left, behind those that were there before.
 use Rattle.std.specs.Prelude.{◌≡◌, ◌-◌, ℕ, pos, List, [], ◌∷◌, ◌++◌, Result}
 use Rattle.term_core.specs.declared.name.Name.{Name}
-use Rattle.term_core.specs.Books.{Book}
 use Rattle.term_core.specs.Declarations.{Declarations}
 use Rattle.term_core.specs.Environments.{Environment}
 use Rattle.term_core.specs.Terms.{Contract}

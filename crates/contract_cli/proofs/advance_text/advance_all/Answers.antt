@@ -1,4 +1,4 @@
-use Rattle.std.proofs.Common.{◌≡◌, ◌∷◌, ◌+◌, ℕ, List, true, false, drop, subst, sym}
+use Rattle.std.proofs.Common.{◌≡◌, ◌∷◌, ◌+◌, List, true, false, drop, subst, sym}
 use Rattle.std.specs.Prelude.{Ok}
 use Rattle.std.specs.Map.{keys_of}
 use Rattle.term_core.specs.declared.name.Name.{Name}

@@ -12,7 +12,7 @@ use Rattle.contract_cli.specs.AdvanceText.{IsAdvanceText, IsNewDay, StopsAdvance
 use Rattle.contract_cli.specs.CheckText.{AreAllAccepted}
 use Rattle.contract_cli.specs.FlowLists.{HoldsFixings, IsMissingOf, IsRefusedOf, IsRowFault, IsWordFault}
 use Rattle.contract_cli.specs.Used.{used}
-use Rattle.contract_cli.specs.Using.{entries_of, trees}
+use Rattle.contract_cli.specs.Using.{entries_of}
 use Rattle.contract_cli.specs.Words.{advance_by}
 use Rattle.contract_cli.specs.declared.advance_text.Left.{Left}
 use Rattle.contract_cli.specs.declared.used.Used.{Used}
