@@ -20,7 +20,7 @@ use Rattle.flow_eval.specs.declared.flow_table.FlowTable.{FlowTable}
 use Rattle.report.specs.FlowLines.{AppendsFlowLine, IsFlowLine}
 use Rattle.report.specs.declared.fault_lines.Fault.{Fault}
 use Rattle.contract_cli.specs.CheckText.{AreAllAccepted}
-use Rattle.contract_cli.specs.FlowLists.{AnswersLines, AnswersTables, AppendsLines, IsMissingOf, IsMissingOne, IsRefusedOf, IsRefusedOne, IsStopOf, missing_at}
+use Rattle.contract_cli.specs.FlowLists.{AnswersAccepted, AnswersLines, AnswersTables, AppendsLines, IsMissingOf, IsMissingOne, IsRefusedOf, IsRefusedOne, IsStopOf, missing_at}
 use Rattle.contract_cli.specs.FlowsText.{AreLines, IsFirstNotAccepted, missing_of}
 use Rattle.contract_cli.specs.Stopping.{AnswersBy}
 use Rattle.contract_cli.specs.declared.stop.Stop.{Stop}
@@ -50,9 +50,6 @@ appends_no_line d name before = record { text = []; lines = refl; appended = sym
 
 abbrev IsAcceptedEntry : Declarations → Name × Contract → Type 0
 IsAcceptedEntry d entry = IsAccepted d entry.1
-
-abbrev AnswersAccepted : Declarations → List (Name × Contract) → Result (Unit {0}) Stop → Type 0
-AnswersAccepted d entries r = AnswersBy (λ _. AreAllAccepted d entries) (IsRefusedOf d entries) r
 
 not_accepted_behind : (d : Declarations) (entry : Name × Contract) (entries : List (Name × Contract)) (name : List ℕ) (rule : Rule) (node : ℕ) → IsAcceptedEntry d entry → IsFirstNotAccepted d entries name rule node → IsFirstNotAccepted d (entry ∷ entries) name rule node
 not_accepted_behind d entry entries name rule node a n = record {

@@ -6,7 +6,7 @@ use Rattle.term_core.specs.declared.rules.Rule.{Rule}
 use Rattle.term_core.specs.Declarations.{Declarations}
 use Rattle.term_core.specs.Environments.{Environment, IsAdmitted, Place}
 use Rattle.term_core.specs.Terms.{Contract}
-use Rattle.term_core.specs.Acceptance.{IsRefusal}
+use Rattle.term_core.specs.Acceptance.{IsAccepted, IsRefusal}
 use Rattle.fixing_files.specs.Tables.{IsFirstFault, table_of}
 use Rattle.fixing_files.specs.declared.days.DayFault.{DayFault}
 use Rattle.fixing_files.specs.declared.faults.RowFault.{RowFault}
@@ -17,7 +17,8 @@ use Rattle.flow_eval.specs.declared.flow_table.FlowRow.{FlowRow}
 use Rattle.flow_eval.specs.declared.flow_table.FlowTable.{FlowTable}
 use Rattle.report.specs.declared.fault_lines.Fault.{Fault}
 use Rattle.report.specs.declared.fault_lines.Fault.TheVariants as fault
-use Rattle.contract_cli.specs.FlowsText.{AreAllFixed, AreAllLines, AreFixings, AreLines, AreLinesAsked, IsFirstMissing, IsFirstNotAccepted, IsLastDay, IsOutOfRange, greatest_day, label_name, missing_of}
+use Rattle.contract_cli.specs.CheckText.{AreAllAccepted}
+use Rattle.contract_cli.specs.FlowsText.{AreAllFixed, AreAllLines, AreFixings, AreLines, AreLinesAsked, IsFirstMissing, IsDayAsked, IsFirstNotAccepted, IsLastDay, IsOutOfRange, greatest_day, label_name, missing_of}
 use Rattle.contract_cli.specs.Stopping.{AnswersBy}
 use Rattle.contract_cli.specs.declared.stop.Stop.{Stop}
 use Rattle.contract_cli.specs.declared.stop.Stop.TheVariants as stop
@@ -38,6 +39,10 @@ day_in_range d greatest (Err fault) = None
 pub record IsWordFault (d : Declarations) (greatest : ℤ) (word : List ℕ) (f : Fault) : Type 0 where
   pub out : IsOutOfRange d greatest word
   pub fault_is : f ≡ fault.Day word
+
+-- the day of a word
+abbrev pub AnswersDay : Declarations → ℤ → List ℕ → Result ℤ Stop → Type 0
+AnswersDay d greatest word r = AnswersBy (IsDayAsked d greatest word) (IsWordFault d greatest word) r
 
 pub record CanBeLast (d : Declarations) (until : Option (List ℕ)) (last : ℤ) : Type 0 where
   pub is_last : IsLastDay d until last
@@ -63,6 +68,9 @@ pub record IsRowFault (d : Declarations) (table : Option (List ℕ)) (f : Fault)
   pub first : IsFirstFault d (table_of bytes) row
   pub fault_is : f ≡ fault.Row 2 row
 
+abbrev pub AnswersFixings : Declarations → Option (List ℕ) → Result Environment Stop → Type 0
+AnswersFixings d table r = AnswersBy (HoldsFixings d table) (IsRowFault d table) r
+
 -- ---- acceptance
 
 pub record IsRefusedOne (d : Declarations) (entry : Name × Contract) (f : Fault) : Type 0 where
@@ -77,6 +85,12 @@ pub record IsRefusedOf (d : Declarations) (entries : List (Name × Contract)) (f
   pub node : ℕ
   pub first : IsFirstNotAccepted d entries name rule node
   pub fault_is : f ≡ fault.Refused name rule node
+
+abbrev pub AnswersAcceptedOne : Declarations → Name × Contract → Result (Unit {0}) Stop → Type 0
+AnswersAcceptedOne d entry r = AnswersBy (λ _. IsAccepted d entry.1) (IsRefusedOne d entry) r
+
+abbrev pub AnswersAccepted : Declarations → List (Name × Contract) → Result (Unit {0}) Stop → Type 0
+AnswersAccepted d entries r = AnswersBy (λ _. AreAllAccepted d entries) (IsRefusedOf d entries) r
 
 -- ---- flow lines
 

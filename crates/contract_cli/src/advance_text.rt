@@ -11,11 +11,10 @@ ghost use Rattle.contract_parse.specs.Names.{is_declared};
 ghost use Rattle.contract_print.specs.Spellable.{are_names};
 ghost use Rattle.contract_print.specs.Writable.{IsWritableTerm};
 ghost use Rattle.flow_eval.specs.Tables.{IsDueRow};
-ghost use Rattle.contract_cli.specs.AdvanceLists.{AnswersRests, AppendsComments, AppendsRest, IsRestText};
-ghost use Rattle.contract_cli.specs.AdvanceText.{IsAdvanceText, IsNewDay, StopsAdvance, greatest_new_day, last_gone, rest_declarations};
+ghost use Rattle.contract_cli.specs.AdvanceLists.{AnswersAdvance, AnswersNewDay, AnswersRest, AnswersRests, AppendsComments, AppendsDue, IsRestText};
+ghost use Rattle.contract_cli.specs.AdvanceText.{rest_declarations};
 ghost use Rattle.contract_cli.specs.CheckText.{AreAllAccepted};
-ghost use Rattle.contract_cli.specs.FlowLists.{IsMissingOne, IsShortTable, IsWordFault};
-ghost use Rattle.contract_cli.specs.Stopping.{AnswersBy};
+ghost use Rattle.contract_cli.specs.FlowLists.{IsShortTable};
 ghost use Rattle.contract_cli.specs.Using.{IsSound, IsTriable, entries_of, entry_of, trees};
 ghost use Rattle.contract_cli.specs.Words.{advance_by};
 
@@ -38,7 +37,7 @@ const LAST_NEW_DAY: u32 = 1_000_000;
 
 // The new day of a word.
 fn new_day(alloc: Global, decls: &Decls, to: DayWord<'_>) -> Result<u32, Stop>
-    ensures { AnswersBy (IsNewDay (declarations decls.now) to.entry.word.now) (IsWordFault (declarations decls.now) greatest_new_day to.entry.word.now) result }
+    ensures { AnswersNewDay (declarations decls.now) to.entry.word.now result }
 {
     let day = day_asked(alloc, decls, to, LAST_NEW_DAY)?;
     Ok(day as u32)
@@ -87,7 +86,7 @@ fn keep(
 ) -> Result<(), NoMemory>
     requires due { All (IsDueRow (pos 0) (pos 1_100_000)) advanced.due.rows.items }
     requires name { is_declared (keys left.old.contracts) name.now ≡ false }
-    ensures due { OnOk result (AppendsComments (declarations decls.now) name.now advanced.due.rows.items left.old.due.items left.new.due.items) }
+    ensures due { OnOk result (AppendsDue (declarations decls.now) name.now advanced.due.rows.items left.old left.new) }
     ensures rest { OnOk result (left.new.contracts.entries ≡ left.old.contracts.entries ++ (name.now, advanced.rest) ∷ []) }
 {
     append_comments(alloc, &mut left.due, decls, name.text(), &advanced.due)?;
@@ -108,7 +107,7 @@ fn advance_one(
     requires first { course.now.decls.now.start ≤ course.now.day }
     requires last { course.now.day ≤ 1_000_000 }
     requires name { is_declared (keys left.old.contracts) (entry_of one.now).0 ≡ false }
-    ensures { AnswersBy (λ _. AppendsRest (declarations course.now.decls.now) course.now.fixings.now course.now.day (entry_of one.now) left.old left.new) (IsMissingOne (declarations course.now.decls.now) course.now.fixings.now (last_gone course.now.day) (entry_of one.now).1) result }
+    ensures { AnswersRest (declarations course.now.decls.now) course.now.fixings.now course.now.day (entry_of one.now) left.old left.new result }
 {
     let days = course.day - course.decls.start;
     match advance(alloc, course.decls, one.contr.contr(), course.fixings, days) {
@@ -176,7 +175,7 @@ pub fn advance_text(
     requires sound { All (λ entry. IsSound (book portfolio.now).declarations entry.1) (book portfolio.now).contracts }
     requires names { are_names (keys_of (book portfolio.now).contracts) ≡ true }
     requires table { IsShortTable (option_map (λ bytes. bytes.now) table) }
-    ensures { AnswersBy (λ text. IsAdvanceText (book portfolio.now) (advance_by asked.now) (option_map (λ bytes. bytes.now) table.entry) text.items) (StopsAdvance (book portfolio.now) (advance_by asked.now) (option_map (λ bytes. bytes.now) table.entry)) result }
+    ensures { AnswersAdvance (book portfolio.now) (advance_by asked.now) (option_map (λ bytes. bytes.now) table.entry) result }
 {
     let day = new_day(alloc, &portfolio.decls, asked.to)?;
     let ones = used_contracts(alloc, portfolio, None)?;

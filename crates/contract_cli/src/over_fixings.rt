@@ -3,12 +3,9 @@
 
 ghost use Rattle.std.specs.Prelude.{◌≡◌, ◌≤◌, pos, option_map};
 ghost use Rattle.std.specs.List.{All};
-ghost use Rattle.term_core.specs.Acceptance.{IsAccepted};
 ghost use Rattle.term_core.specs.Declarations.{declarations};
-ghost use Rattle.contract_cli.specs.CheckText.{AreAllAccepted};
-ghost use Rattle.contract_cli.specs.FlowLists.{HoldsFixings, IsRefusedOf, IsRefusedOne, IsRowFault, IsShortTable, IsStopOf, IsWordFault, day_in_range};
-ghost use Rattle.contract_cli.specs.FlowsText.{IsDayAsked, label_name};
-ghost use Rattle.contract_cli.specs.Stopping.{AnswersBy};
+ghost use Rattle.contract_cli.specs.FlowLists.{AnswersAccepted, AnswersAcceptedOne, AnswersDay, AnswersFixings, IsShortTable, IsStopOf, day_in_range};
+ghost use Rattle.contract_cli.specs.FlowsText.{label_name};
 ghost use Rattle.contract_cli.specs.Using.{IsTriable, entries_of, entry_of};
 
 use crate::check_text::verdict;
@@ -40,7 +37,7 @@ pub fn day_asked(
     greatest: u32,
 ) -> Result<i64, Stop>
     requires { greatest ≤ 1_100_000 }
-    ensures { AnswersBy (IsDayAsked (declarations decls.now) (pos greatest) asked.entry.word.now) (IsWordFault (declarations decls.now) (pos greatest) asked.entry.word.now) result }
+    ensures { AnswersDay (declarations decls.now) (pos greatest) asked.entry.word.now result }
 {
     match day_in_range(decls, place_day(decls.origin, asked.named), greatest) {
         Some(day) => Ok(day),
@@ -54,7 +51,7 @@ pub fn day_asked(
 /// The fixings of a table, or none where none is named.
 pub fn fixings_of(alloc: Global, decls: &Decls, table: Option<&[u8]>) -> Result<Fixings, Stop>
     requires { IsShortTable (option_map (λ bytes. bytes.now) table) }
-    ensures { AnswersBy (HoldsFixings (declarations decls.now) (option_map (λ bytes. bytes.now) table.entry)) (IsRowFault (declarations decls.now) (option_map (λ bytes. bytes.now) table.entry)) result }
+    ensures { AnswersFixings (declarations decls.now) (option_map (λ bytes. bytes.now) table.entry) result }
 {
     let Some(bytes) = table else {
         return Ok(Fixings::none(alloc));
@@ -69,7 +66,7 @@ pub fn fixings_of(alloc: Global, decls: &Decls, table: Option<&[u8]>) -> Result<
 // Stops at a contract that is not accepted.
 fn accept(alloc: Global, decls: &Decls, one: &Used<'_>) -> Result<(), Stop>
     requires { IsTriable (declarations decls.now) (entry_of one.now).1 }
-    ensures { AnswersBy (λ _. IsAccepted (declarations decls.now) (entry_of one.now).1) (IsRefusedOne (declarations decls.now) (entry_of one.now)) result }
+    ensures { AnswersAcceptedOne (declarations decls.now) (entry_of one.now) result }
 {
     match verdict(alloc, decls, one.contr.contr())? {
         Ok(_) => Ok(()),
@@ -87,7 +84,7 @@ fn accept(alloc: Global, decls: &Decls, one: &Used<'_>) -> Result<(), Stop>
 /// Stops at the first contract that is not accepted.
 pub fn accept_all(alloc: Global, decls: &Decls, ones: &[Used<'_>]) -> Result<(), Stop>
     requires { All (λ entry. IsTriable (declarations decls.now) entry.1) (entries_of ones.now) }
-    ensures { AnswersBy (λ _. AreAllAccepted (declarations decls.now) (entries_of ones.now)) (IsRefusedOf (declarations decls.now) (entries_of ones.now)) result }
+    ensures { AnswersAccepted (declarations decls.now) (entries_of ones.now) result }
 {
     for one in ones {
         accept(alloc, decls, one)?;
