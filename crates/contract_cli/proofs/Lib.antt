@@ -19,6 +19,7 @@ pub mod RunFacts
 pub mod ReadFacts
 pub mod LawFacts
 pub mod ComposeFacts
+pub mod AdvanceTexts
 pub mod Declaring
 pub mod Taken
 pub mod WordFacts

@@ -15,3 +15,4 @@ pub mod FlowLists
 pub mod AdvanceLists
 pub mod Answering
 pub mod RunLaws
+pub mod AdvanceLaws

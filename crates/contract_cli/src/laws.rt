@@ -1,5 +1,6 @@
 //! Laws of the causes of a run's status. Each is the contract of a function that does nothing.
 
+ghost use Rattle.contract_cli.specs.AdvanceLaws.{AdvanceTextsAreTexts};
 ghost use Rattle.contract_cli.specs.RunLaws.{AdvanceIsComplete, AdvancesCompose, AnswersAreOne, BadTextIsExact, CheckIsComplete, DueLinesAreOne, FlowsAreComplete, ReadFaultsHaveCauses, RefusalsAreExact, SampleHasThreeEnds, SampleIsComplete, StatusesAreOne, SummariesAreOne, TooLongIsExact, UsageIsExact, UsageWritesItsLine, WriteFaultsHaveCauses};
 
 /// Usage comes exactly where the words are of no form, or memory is wanting, or the write of its line fails; and it has
@@ -47,6 +48,12 @@ pub fn answers_are_one()
 /// contracts to that day.
 pub fn advances_compose()
     ensures { AdvancesCompose }
+{}
+
+/// What `advance` prints of the portfolio of a text is itself a text: that of what is left of the portfolio on the new day,
+/// in which no contract is refused.
+pub fn advance_texts_are_texts()
+    ensures { AdvanceTextsAreTexts }
 {}
 
 /// `sample` ends with its summary written, with a failed write or for want of memory.
