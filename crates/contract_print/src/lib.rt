@@ -10,6 +10,8 @@ mod pieces;
 mod portfolio;
 mod words;
 
-pub use decls::print_decls;
+pub use contrs::{append_label_name, append_name, append_template_name};
+pub use decls::{append_decls, origin_date, print_decls};
 pub use exprs::{Leaf, append_expr};
+pub use pieces::{append, append_bound_name};
 pub use portfolio::print_portfolio;

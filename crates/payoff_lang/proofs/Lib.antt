@@ -9,6 +9,8 @@ pub mod MeaningFacts
 pub mod CodeAlikeFacts
 pub mod DateFreeFacts
 pub mod WellFormedFacts
+pub mod NumberedFacts
+pub mod CodeCanonFacts
 mod RowsSample
 mod RowsCode
 mod RowsDefinitions

@@ -14,3 +14,8 @@ pub mod WellFormedCode
 pub mod PrintableCode
 pub mod CodeBooks
 pub mod LawsCode
+pub mod CodeTexts
+pub mod CodeCanon
+pub mod WritableCode
+pub mod Numbered
+pub mod LawsTexts

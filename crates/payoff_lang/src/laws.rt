@@ -1,6 +1,7 @@
 //! Laws of payoff code. Each is the contract of a function that does nothing; a caller takes the law by calling it.
 
 ghost use Rattle.payoff_lang.specs.LawsCode.{CompiledCodeMeans, CutCodeMeans, CodeIsWellFormed, CodeValuesAreFixed};
+ghost use Rattle.payoff_lang.specs.LawsTexts.{CodeCanonExists, OneCanonOfCode, PrintableIsWritable, ValuesAreWrittenAsExpressions};
 
 /// The code of a contract means it: at every setting at which the contract is accepted, in every admitted environment, on
 /// every day, for every pair of parties and asset, its value is the sum of the contract's discounted amounts.
@@ -21,4 +22,24 @@ pub fn code_is_well_formed()
 /// Where each place that code reads is fixed, its value is that of the fixings, whatever else is observed.
 pub fn code_values_are_fixed()
     ensures { CodeValuesAreFixed }
+{}
+
+/// A value expression is written as the expression that it is with its dates in a list, but for the leaf.
+pub fn values_are_written_as_expressions()
+    ensures { ValuesAreWrittenAsExpressions }
+{}
+
+/// A code file whose declarations are within the limits of texts has a canonical text.
+pub fn code_canon_exists()
+    ensures { CodeCanonExists }
+{}
+
+/// A code file has at most one canonical text.
+pub fn one_canon_of_code()
+    ensures { OneCanonOfCode }
+{}
+
+/// Code that a text can stand for may be printed.
+pub fn printable_is_writable()
+    ensures { PrintableIsWritable }
 {}

@@ -5,6 +5,9 @@
 mod code;
 mod code_file;
 pub mod laws;
+mod numbering;
+mod printing;
 
 pub use code::{Code, DateExpr, Vx};
 pub use code_file::CodeFile;
+pub use printing::print_code;

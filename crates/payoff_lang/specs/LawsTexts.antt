@@ -1,0 +1,30 @@
+-- The laws of the canonical texts of code.
+use Rattle.std.specs.Prelude.{ℕ, ◌≡◌, List, [], ◌++◌}
+use Rattle.term_core.specs.Declarations.{Declarations}
+use Rattle.contract_parse.specs.Names.{Scope}
+use Rattle.contract_print.specs.TermTexts.{expr_text}
+use Rattle.contract_print.specs.Spellable.{AreSpellable}
+use Rattle.payoff_lang.specs.Code.{ValueExpression, PayoffCode}
+use Rattle.payoff_lang.specs.CodeBooks.{CodeBook}
+use Rattle.payoff_lang.specs.CodeTexts.{value_text}
+use Rattle.payoff_lang.specs.CodeCanon.{IsCanonOfCode}
+use Rattle.payoff_lang.specs.Numbered.{numbered, with_dates, modelled_at}
+use Rattle.payoff_lang.specs.PrintableCode.{IsPrintableCode}
+use Rattle.payoff_lang.specs.WritableCode.{IsWritableCode}
+
+-- value expressions are written as expressions are, but for the leaf
+abbrev pub ValuesAreWrittenAsExpressions : Type 0
+ValuesAreWrittenAsExpressions =
+    (s : Scope) (n : ℕ) (v : ValueExpression) → expr_text (modelled_at s (with_dates [] v)) n (numbered [] v) ≡ value_text s n v
+
+-- a code file has a canonical text
+abbrev pub CodeCanonExists : Type 0
+CodeCanonExists = (b : CodeBook) → AreSpellable b.declarations → (bytes : List ℕ) × IsCanonOfCode bytes b
+
+-- and it is the only one
+abbrev pub OneCanonOfCode : Type 0
+OneCanonOfCode = (bytes other : List ℕ) (b : CodeBook) → IsCanonOfCode bytes b → IsCanonOfCode other b → bytes ≡ other
+
+-- what a text can stand for can be printed
+abbrev pub PrintableIsWritable : Type 0
+PrintableIsWritable = (d : Declarations) (k : PayoffCode) → IsPrintableCode d k → IsWritableCode k
