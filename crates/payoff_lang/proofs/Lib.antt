@@ -13,4 +13,5 @@ pub mod NumberedFacts
 pub mod CodeCanonFacts
 mod RowsSample
 mod RowsCode
+mod RowsTexts
 mod RowsDefinitions

@@ -18,7 +18,7 @@ use Rattle.payoff_lang.proofs.RowsSample.{decls, curve, asked, worth, days, fx}
 
 -- ---- a loan after a count of days
 
-abbrev loan : Days → Contract
+abbrev pub loan : Days → Contract
 loan m = Both (Scale (Lit (pos 10000) 2) (Pay 0 0 1)) (After m (Scale (Lit (pos 10500) 2) (Pay 0 1 0)))
 
 abbrev left_of_loan : PayoffCode
@@ -58,7 +58,7 @@ named_0 = refl
 
 -- ---- a touch
 
-abbrev touch : Contract
+abbrev pub touch : Contract
 touch =
     Within (Cmp Greater (Obs 0 (pos 0)) (Lit (pos 11000) 4)) (Count 3) (Scale (Lit (pos 100) 2) (Pay 0 0 1)) (Scale (Lit (pos 200) 2) (Pay 0 1 0))
 
@@ -100,7 +100,7 @@ touch_reads = refl
 
 -- ---- an option
 
-abbrev option : Contract
+abbrev pub option : Contract
 option =
     After (Count 90) (Within (Cmp Greater (Obs 0 (pos 0)) (Lit (pos 11000) 4)) (Count 0) (Scale (Round HalfEven 2 (Num Times (Num Minus (Obs 0 (pos 0)) (Lit (pos 11000) 4)) (Lit (pos 10000000) 2))) (Pay 0 0 1)) Zero)
 
