@@ -1,5 +1,5 @@
 -- Laws of the code of a contract against the contract, for the check and the values of code: totals, sizes, and that it is
--- accepted where the contract is; and what the compiler and the cut promise.
+-- accepted where the contract is; what the compiler and the cut promise; and that code may be printed.
 use Rattle.std.specs.Prelude.{ℕ, ◌≤◌, ◌+◌, ◌*◌, ◌^◌, List, []}
 use Rattle.term_core.specs.Declarations.{Declarations}
 use Rattle.term_core.specs.Terms.{Contract}
@@ -9,11 +9,14 @@ use Rattle.term_core.specs.Flows.{scale_of_contract}
 use Rattle.term_core.specs.Bounds.{aligned_total}
 use Rattle.term_core.specs.Sizes.{nodes_of_contract, height_of_contract, work_of_contract, reach}
 use Rattle.term_core.specs.Instances.{instance, declared_numbers}
+use Rattle.contract_print.specs.Writable.{IsWritableTerm}
 use Rattle.payoff_lang.specs.Code.{PayoffCode}
 use Rattle.payoff_lang.specs.Compiled.{code_of, cut_code}
 use Rattle.payoff_lang.specs.CodeSizes.{nodes_of_code, height_of_code, work_of_code, loop_days}
 use Rattle.payoff_lang.specs.CodeTotals.{aligned_code_total}
 use Rattle.payoff_lang.specs.CodeAcceptance.{IsAcceptedCode}
+use Rattle.payoff_lang.specs.WritableCode.{IsWritableCode}
+use Rattle.payoff_compile.specs.Literals.{ContractHasSmallLiterals}
 use Rattle.payoff_compile.specs.CompiledCode.{IsPlainCode, CountsTheRest}
 
 abbrev pub TotalsAreCarried : Type 0
@@ -47,3 +50,13 @@ CodeIsPlain =
 
 abbrev pub CutCodeCountsTheRest : Type 0
 CutCodeCountsTheRest = (k : PayoffCode) → CountsTheRest (cut_code k) k
+
+-- plain code and its cut may be printed, where the literals of the contract are small
+abbrev pub PlainCodeIsWritable : Type 0
+PlainCodeIsWritable =
+    (d : Declarations) (c : Contract) (k : PayoffCode) → IsPlainCode d c k → ContractHasSmallLiterals c
+    → IsWritableCode k × IsWritableCode (cut_code k)
+
+-- as they are where the contract may be printed, and so in each contract that was read
+abbrev pub WritableTermsHaveSmallLiterals : Type 0
+WritableTermsHaveSmallLiterals = (c : Contract) → IsWritableTerm c → ContractHasSmallLiterals c

@@ -1,6 +1,6 @@
 //! Laws of the code of contracts. Each is the contract of a function that does nothing; a caller takes the law by calling it.
 
-ghost use Rattle.payoff_compile.specs.LawsCompiled.{CodeIsAccepted, CodeIsPlain, CutCodeCountsTheRest, SizesAreCarried, TotalsAreCarried};
+ghost use Rattle.payoff_compile.specs.LawsCompiled.{CodeIsAccepted, CodeIsPlain, CutCodeCountsTheRest, PlainCodeIsWritable, SizesAreCarried, TotalsAreCarried, WritableTermsHaveSmallLiterals};
 
 /// The total of a contract's code is at most that of the contract, times the greatest factor.
 pub fn totals_are_carried()
@@ -25,4 +25,14 @@ pub fn code_is_plain()
 /// Cut code counts what is left to be paid.
 pub fn cut_code_counts_the_rest()
     ensures { CutCodeCountsTheRest }
+{}
+
+/// What the compiler answers may be printed, and its cut too, where the literals of the contract are small.
+pub fn plain_code_is_writable()
+    ensures { PlainCodeIsWritable }
+{}
+
+/// The literals of a contract that may be printed are small.
+pub fn writable_terms_have_small_literals()
+    ensures { WritableTermsHaveSmallLiterals }
 {}

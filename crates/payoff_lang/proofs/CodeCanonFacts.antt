@@ -1,12 +1,12 @@
 -- There is one canonical text of a code file, and code that a text can stand for may be printed.
-use Rattle.std.proofs.Common.{◌≡◌, ◌∙◌, ℕ, suc, ℤ, ◌+◌, List, [], Option, Some, None, refl, sym, ap, subst, arith}
+use Rattle.std.proofs.Common.{◌≡◌, ◌∙◌, ℕ, suc, ℤ, ◌+◌, [], Option, Some, None, refl, sym, ap, subst, arith}
 use Rattle.std.proofs.lemmas.List.Elements.{All-nil}
 use Rattle.term_core.specs.Declarations.{Declarations}
 use Rattle.term_core.specs.Terms.{Contract}
 use Rattle.term_core.specs.Books.{Book}
 use Rattle.term_core.proofs.DateTextFacts.{texts_unique}
 use Rattle.contract_parse.specs.Words.{Bytes}
-use Rattle.contract_print.specs.Canon.{IsCanon, IsOriginText, origin_text}
+use Rattle.contract_print.specs.Canon.{IsOriginText, origin_text}
 use Rattle.contract_print.specs.Spellable.{IsSpellable}
 use Rattle.contract_print.proofs.DateExists.{canon_exists}
 use Rattle.payoff_lang.specs.Code.{ValueExpression, Lit, Yes, Var, Model, Neg, Num, Cmp, Not, Logic, Cond, Widen, Round, Div, Acc, PayoffCode, Nothing, PayOn, Add, ScaleBy, LetBe, Loop, Cut}

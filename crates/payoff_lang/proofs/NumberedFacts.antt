@@ -1,18 +1,17 @@
 -- A value expression whose dates stand in a list is written as that expression, is as high, and may be printed where the
 -- value expression may.
-use Rattle.std.proofs.Common.{◌≡◌, ◌∙◌, ℕ, zero, suc, pos, ◌+◌, ◌<◌, max, true, false, List, [], ◌∷◌, ◌++◌, length, Option, Some, None, refl, sym, ap, ap₂, subst, append_assoc, arith}
-use Rattle.std.specs.Prelude.{slice_get, codes}
-use Rattle.contract_parse.specs.Words.{Bytes}
+use Rattle.std.proofs.Common.{◌≡◌, ◌∙◌, ℕ, suc, pos, true, false, List, [], ◌∷◌, ◌++◌, length, Option, Some, None, refl, ap, ap₂, append_assoc, arith}
+use Rattle.std.specs.Prelude.{slice_get}
 use Rattle.contract_parse.specs.Names.{Scope}
 use Rattle.term_core.specs.Sizes.{height}
 use Rattle.term_core.specs.Terms.{Expression}
-use Rattle.contract_print.specs.TermTexts.{◌⊕◌, expr_text, bound_name, comparison_text, connective_text, mode_text, number_text, operation_head, operation_text}
+use Rattle.contract_print.specs.TermTexts.{expr_text}
 use Rattle.contract_print.specs.Writable.{IsWritable}
 use Rattle.payoff_lang.specs.TemplateDates.{Date}
 use Rattle.payoff_lang.specs.Dating.{plain}
 use Rattle.payoff_lang.specs.Code.{ValueExpression, Lit, Yes, Var, Model, Neg, Num, Cmp, Not, Logic, Cond, Widen, Round, Div, Acc}
 use Rattle.payoff_lang.specs.CodeTexts.{date_text, modelled, value_text}
-use Rattle.payoff_lang.specs.Numbered.{numbered, with_dates, text_at, modelled_at}
+use Rattle.payoff_lang.specs.Numbered.{numbered, with_dates, modelled_at}
 use Rattle.payoff_lang.specs.WritableCode.{IsWritableValue}
 use Rattle.payoff_lang.specs.LawsTexts.{ValuesAreWrittenAsExpressions}
 

@@ -1,8 +1,8 @@
 -- Worked rows of the canonical texts of code: a loan, a touch and an option, and the forms of dates and value expressions.
-use Rattle.std.proofs.Common.{◌≡◌, ℕ, pos, neg_ℤ, true, List, [], ◌∷◌, refl}
+use Rattle.std.proofs.Common.{◌≡◌, pos, neg_ℤ, true, [], ◌∷◌, refl}
 use Rattle.std.specs.Prelude.{codes}
 use Rattle.decimal.specs.Text.{text_of}
-use Rattle.decimal.specs.declared.Mode.TheVariants.{HalfEven, Floor}
+use Rattle.decimal.specs.declared.Mode.TheVariants.{Floor}
 use Rattle.term_core.specs.declared.terms.NumOp.TheVariants.{Plus, Max}
 use Rattle.term_core.specs.declared.terms.CmpOp.TheVariants.{Unequal}
 use Rattle.term_core.specs.declared.terms.LogicOp.TheVariants.{And}
@@ -10,7 +10,6 @@ use Rattle.term_core.specs.declared.terms.Days.TheVariants.{Num as Count, Named}
 use Rattle.contract_parse.specs.Names.{Scope, scope_of}
 use Rattle.contract_print.specs.TermTexts.{◌⊕◌}
 use Rattle.contract_print.specs.Canon.{amounts_text, line, start_text}
-use Rattle.payoff_lang.specs.TemplateDates.{Date}
 use Rattle.payoff_lang.specs.Code.{Lit, Yes, Var, Model, Neg, Num, Cmp, Not, Logic, Cond, Widen, Div, Acc, Nothing, PayOn, ScaleBy, LetBe}
 use Rattle.payoff_lang.specs.CodeBooks.{CodeBook}
 use Rattle.payoff_lang.specs.CodeTexts.{code_text, date_text, test_text, value_text}

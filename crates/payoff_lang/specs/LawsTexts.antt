@@ -1,5 +1,5 @@
 -- The laws of the canonical texts of code.
-use Rattle.std.specs.Prelude.{ℕ, ◌≡◌, List, [], ◌++◌}
+use Rattle.std.specs.Prelude.{ℕ, ◌≡◌, List, []}
 use Rattle.term_core.specs.Declarations.{Declarations}
 use Rattle.contract_parse.specs.Names.{Scope}
 use Rattle.contract_print.specs.TermTexts.{expr_text}
