@@ -7,19 +7,19 @@ use Rattle.term_core.specs.declared.terms.NumOp.TheVariants.{Plus, Max}
 use Rattle.term_core.specs.declared.terms.CmpOp.TheVariants.{Unequal}
 use Rattle.term_core.specs.declared.terms.LogicOp.TheVariants.{And}
 use Rattle.term_core.specs.declared.terms.Days.TheVariants.{Num as Count, Named}
-use Rattle.contract_parse.specs.Names.{Scope, scope_of}
+use Rattle.contract_parse.specs.Names.{Scope}
 use Rattle.contract_print.specs.TermTexts.{◌⊕◌}
 use Rattle.contract_print.specs.Canon.{amounts_text, line, start_text}
 use Rattle.payoff_lang.specs.Code.{Lit, Yes, Var, Model, Neg, Num, Cmp, Not, Logic, Cond, Widen, Div, Acc, Nothing, PayOn, ScaleBy, LetBe}
 use Rattle.payoff_lang.specs.CodeBooks.{CodeBook}
-use Rattle.payoff_lang.specs.CodeTexts.{code_text, date_text, test_text, value_text}
+use Rattle.payoff_lang.specs.CodeTexts.{code_scope, code_text, date_text, test_text, value_text}
 use Rattle.payoff_lang.specs.CodeCanon.{code_book_text, code_header_text, code_line_text}
 use Rattle.payoff_lang.specs.Compiled.{code_of, cut_code}
 use Rattle.payoff_lang.proofs.RowsSample.{days, decls}
 use Rattle.payoff_lang.proofs.RowsCode.{loan, option, touch}
 
 abbrev scope : Scope
-scope = scope_of decls []
+scope = code_scope decls
 
 abbrev loan_file : CodeBook
 loan_file = record {

@@ -2,11 +2,16 @@
 -- What is common to contracts and code has the words and the numbers of contracts.
 use Rattle.std.specs.Prelude.{ℕ, suc, ◌-◌, true, false, List, [], ◌∷◌, codes}
 use Rattle.decimal.specs.Text.{text_of}
+use Rattle.term_core.specs.Declarations.{Declarations}
 use Rattle.contract_parse.specs.Words.{Bytes}
-use Rattle.contract_parse.specs.Names.{Scope}
+use Rattle.contract_parse.specs.Names.{Scope, scope_of}
 use Rattle.contract_print.specs.TermTexts.{◌⊕◌, bound_name, comparison_text, connective_text, mode_text, name_at, number_text, operation_head, operation_text}
 use Rattle.payoff_lang.specs.TemplateDates.{Date}
 use Rattle.payoff_lang.specs.Code.{ValueExpression, Lit, Yes, Var, Model, Neg, Num, Cmp, Not, Logic, Cond, Widen, Round, Div, Acc, PayoffCode, Nothing, PayOn, Add, ScaleBy, LetBe, Loop, Cut}
+
+-- the names that code can use
+abbrev pub code_scope : Declarations → Scope
+code_scope d = scope_of d []
 
 -- the templates of a date, each as often as it stands there
 abbrev pub names_text : Scope → List ℕ → Bytes

@@ -1,16 +1,14 @@
 //! The texts of dates, of value expressions and of code, and whole code files.
 
-ghost use Rattle.std.specs.Prelude.{◌≡◌, ◌≤◌, ◌+◌, ◌++◌, [], OnOk, OnErr};
-ghost use Rattle.std.specs.Map.{keys_of};
+ghost use Rattle.std.specs.Prelude.{◌≡◌, ◌≤◌, ◌+◌, ◌++◌, OnOk, OnErr};
 ghost use Rattle.term_core.specs.Declarations.{declarations};
-ghost use Rattle.contract_parse.specs.Names.{scope_of};
+ghost use Rattle.term_core.specs.Sizes.{height};
 ghost use Rattle.payoff_lang.specs.TemplateDates.{date};
 ghost use Rattle.payoff_lang.specs.Dating.{plain};
-ghost use Rattle.term_core.specs.Sizes.{height};
 ghost use Rattle.payoff_lang.specs.Code.{value_expression, payoff_code};
 ghost use Rattle.payoff_lang.specs.CodeBooks.{code_book};
 ghost use Rattle.payoff_lang.specs.CodeSizes.{height_of_code};
-ghost use Rattle.payoff_lang.specs.CodeTexts.{code_text, date_text, names_text, test_text, transfer_text, value_text};
+ghost use Rattle.payoff_lang.specs.CodeTexts.{code_scope, code_text, date_text, names_text, test_text, transfer_text, value_text};
 ghost use Rattle.payoff_lang.specs.CodeCanon.{AppendsCode, code_book_text, code_header_text, code_line_text};
 ghost use Rattle.payoff_lang.specs.Numbered.{dates_lent, modelled_at, text_at};
 ghost use Rattle.payoff_lang.specs.WritableCode.{IsWritableCode, IsWritableUnder, IsWritableValue};
@@ -28,7 +26,7 @@ use term_core::Decls;
 
 // The templates of a date.
 fn append_templates(out: &mut Vec<u8>, decls: &Decls, names: &[u32]) -> Result<(), NoMemory>
-    ensures { OnOk result (out.new.items ≡ out.old.items ++ names_text (scope_of (declarations decls.now) []) names.now) }
+    ensures { OnOk result (out.new.items ≡ out.old.items ++ names_text (code_scope (declarations decls.now)) names.now) }
 {
     for name in names {
         append(out, b" + ")?;
@@ -45,7 +43,7 @@ fn append_date(
     decls: &Decls,
     on: &DateExpr,
 ) -> Result<(), NoMemory>
-    ensures { OnOk result (out.new.items ≡ out.old.items ++ date_text (scope_of (declarations decls.now) []) (date on.now)) }
+    ensures { OnOk result (out.new.items ≡ out.old.items ++ date_text (code_scope (declarations decls.now)) (date on.now)) }
 {
     write(alloc, out, on.days as i128, 0)?;
     append_templates(out, decls, &on.names)
@@ -65,7 +63,8 @@ fn append_date_at(
     models: &Models,
     place: i32,
 ) -> Result<(), NoMemory>
-    ensures { OnOk result (out.new.items ≡ out.old.items ++ text_at (scope_of (declarations models.now.decls.now) []) (dates_lent models.now.dates.now) place) }
+    ensures { OnOk result (out.new.items ≡ out.old.items
+        ++ text_at (code_scope (declarations models.now.decls.now)) (dates_lent models.now.dates.now) place) }
 {
     let Ok(place) = usize::try_from(place) else {
         return Ok(());
@@ -77,7 +76,7 @@ fn append_date_at(
 }
 
 impl<'a> Leaf for Models<'a> {
-    ghost text = { λ m label place. modelled_at (scope_of (declarations m.decls.now) []) (dates_lent m.dates.now) label place };
+    ghost text = { λ m label place. modelled_at (code_scope (declarations m.decls.now)) (dates_lent m.dates.now) label place };
 
     fn append_leaf(
         &self,
@@ -104,7 +103,8 @@ fn append_value(
 ) -> Result<(), NoMemory>
     requires writable { IsWritableValue binders (value_expression v.now) }
     requires low { binders + height (plain (value_expression v.now)) ≤ 1_000 }
-    ensures { OnOk result (out.new.items ≡ out.old.items ++ value_text (scope_of (declarations decls.now) []) binders (value_expression v.now)) }
+    ensures { OnOk result (out.new.items ≡ out.old.items
+        ++ value_text (code_scope (declarations decls.now)) binders (value_expression v.now)) }
 {
     let mut dates = Vec::new(alloc);
     let e = number_dates(alloc, v, &mut dates)?;
@@ -123,7 +123,7 @@ fn append_transfer(
     from: u32,
     to: u32,
 ) -> Result<(), NoMemory>
-    ensures { OnOk result (out.new.items ≡ out.old.items ++ transfer_text (scope_of (declarations decls.now) []) asset from to) }
+    ensures { OnOk result (out.new.items ≡ out.old.items ++ transfer_text (code_scope (declarations decls.now)) asset from to) }
 {
     append_name(out, &decls.assets, asset)?;
     append(out, b", ")?;
@@ -145,7 +145,8 @@ fn append_test(
 ) -> Result<(), NoMemory>
     requires writable { IsWritableValue binders (value_expression test.now) }
     requires low { binders + height (plain (value_expression test.now)) ≤ 1_000 }
-    ensures { OnOk result (out.new.items ≡ out.old.items ++ test_text (scope_of (declarations decls.now) []) binders (value_expression test.now) (date upto.now)) }
+    ensures { OnOk result (out.new.items ≡ out.old.items
+        ++ test_text (code_scope (declarations decls.now)) binders (value_expression test.now) (date upto.now)) }
 {
     append_value(alloc, out, decls, binders, test)?;
     append(out, b" upto ")?;
@@ -162,7 +163,8 @@ fn append_code(
 ) -> Result<(), NoMemory>
     requires writable { IsWritableUnder binders (payoff_code code.now) }
     requires low { binders + height_of_code (payoff_code code.now) ≤ 1_000 }
-    ensures { OnOk result (out.new.items ≡ out.old.items ++ code_text (scope_of (declarations decls.now) []) binders (payoff_code code.now)) }
+    ensures { OnOk result (out.new.items ≡ out.old.items
+        ++ code_text (code_scope (declarations decls.now)) binders (payoff_code code.now)) }
 {
     match code {
         Code::None => append(out, b"none"),
@@ -233,7 +235,8 @@ fn append_header(out: &mut Vec<u8>) -> Result<(), NoMemory>
 // The line of the code.
 fn append_code_line(alloc: Global, out: &mut Vec<u8>, file: &CodeFile) -> Result<(), NoMemory>
     requires { IsWritableCode (code_book file.now).code }
-    ensures { OnOk result (out.new.items ≡ out.old.items ++ code_line_text (scope_of (code_book file.now).declarations []) (code_book file.now).name (code_book file.now).code) }
+    ensures { OnOk result (out.new.items ≡ out.old.items
+        ++ code_line_text (code_scope (code_book file.now).declarations) (code_book file.now).name (code_book file.now).code) }
 {
     append(out, b"code ")?;
     append(out, file.name.text())?;
