@@ -11,6 +11,7 @@ pub mod DateFreeFacts
 pub mod WellFormedFacts
 pub mod NumberedFacts
 pub mod CodeCanonFacts
+pub mod CodeSpelled
 mod RowsSample
 mod RowsCode
 mod RowsTexts

@@ -1,15 +1,19 @@
 -- The laws of the canonical texts of code.
-use Rattle.std.specs.Prelude.{ℕ, ◌≡◌, List, []}
+use Rattle.std.specs.Prelude.{ℕ, ◌≡◌, ◌+◌, ◌≤◌, List, []}
 use Rattle.term_core.specs.Declarations.{Declarations}
 use Rattle.contract_parse.specs.Names.{Scope}
 use Rattle.contract_print.specs.TermTexts.{expr_text}
 use Rattle.contract_print.specs.Spellable.{AreSpellable}
+use Rattle.contract_print.specs.Spelled.{Spells, bound_names, stops}
 use Rattle.payoff_lang.specs.Code.{ValueExpression, PayoffCode}
 use Rattle.payoff_lang.specs.CodeBooks.{CodeBook}
-use Rattle.payoff_lang.specs.CodeTexts.{value_text}
+use Rattle.payoff_lang.specs.CodeTexts.{code_scope, code_text, value_text}
+use Rattle.payoff_lang.specs.CodeSizes.{height_of_code}
+use Rattle.payoff_lang.specs.CodeSpelling.{code_part}
 use Rattle.payoff_lang.specs.CodeCanon.{IsCanonOfCode}
 use Rattle.payoff_lang.specs.Numbered.{numbered, with_dates, modelled_at}
-use Rattle.payoff_lang.specs.PrintableCode.{IsPrintableCode}
+use Rattle.payoff_lang.specs.PrintableCode.{CodeHasNumbersOfTexts, IsPrintableCode}
+use Rattle.payoff_lang.specs.WellFormedCode.{IsWellFormedCode}
 use Rattle.payoff_lang.specs.WritableCode.{IsWritableCode}
 
 -- value expressions are written as expressions are, but for the leaf
@@ -28,3 +32,9 @@ OneCanonOfCode = (bytes other : List ℕ) (b : CodeBook) → IsCanonOfCode bytes
 -- what a text can stand for can be printed
 abbrev pub PrintableIsWritable : Type 0
 PrintableIsWritable = (d : Declarations) (k : PayoffCode) → IsPrintableCode d k → IsWritableCode k
+
+-- the canonical text of code spells it wherever it stands before a stop; names of fewer than 1,000 binders are words
+abbrev pub CodeIsSpelled : Type 0
+CodeIsSpelled =
+    (d : Declarations) (n : ℕ) (k : PayoffCode) → AreSpellable d → IsWellFormedCode d n k → CodeHasNumbersOfTexts k
+    → n + height_of_code k ≤ 999 → Spells stops (code_text (code_scope d) n k) (code_part (code_scope d) (bound_names n) k)

@@ -18,4 +18,5 @@ pub mod CodeTexts
 pub mod CodeCanon
 pub mod WritableCode
 pub mod Numbered
+pub mod CodeSpelling
 pub mod LawsTexts
