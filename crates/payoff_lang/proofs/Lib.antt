@@ -12,6 +12,7 @@ pub mod WellFormedFacts
 pub mod NumberedFacts
 pub mod CodeCanonFacts
 pub mod CodeSpelled
+pub mod CodeFileSpelled
 mod RowsSample
 mod RowsCode
 mod RowsTexts

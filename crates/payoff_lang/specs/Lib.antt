@@ -19,4 +19,5 @@ pub mod CodeCanon
 pub mod WritableCode
 pub mod Numbered
 pub mod CodeSpelling
+pub mod CodeFiles
 pub mod LawsTexts
