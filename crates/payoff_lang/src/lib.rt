@@ -1,5 +1,5 @@
 //! Payoff code in the manner of Annenkov and Elsman (PPDP 2018): what it is, what it is worth and reads, when it is
-//! accepted, and what it is that code means a contract.
+//! accepted, what it is that code means a contract, and its canonical text.
 #![tactic(auto)]
 
 mod code;
