@@ -205,7 +205,7 @@ amounts_spelled : (n : ℕ) → n ≤ 12 → Spells anywhere (amounts_text n) (w
 unfolding amounts_text
 amounts_spelled n small = word_then (codes "amounts") refl (follow (integer_spells 12 n small) line_end)
 
-decls_spelled : (date : Bytes) (d : Declarations) → AreSpellable d → IsOriginText d.origin date → Spells anywhere (decls_text date d) (decls d)
+pub decls_spelled : (date : Bytes) (d : Declarations) → AreSpellable d → IsOriginText d.origin date → Spells anywhere (decls_text date d) (decls d)
 decls_spelled date d fits is =
     taken_as
     (λ ts to x. followed_by x.one.one.between x.one.one.one (followed_by x.one.one.two.between x.one.one.two.one (followed_by x.one.between x.one.one.two.two

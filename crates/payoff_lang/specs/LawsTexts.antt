@@ -11,6 +11,7 @@ use Rattle.payoff_lang.specs.CodeTexts.{code_scope, code_text, value_text}
 use Rattle.payoff_lang.specs.CodeSizes.{height_of_code}
 use Rattle.payoff_lang.specs.CodeSpelling.{code_part}
 use Rattle.payoff_lang.specs.CodeCanon.{IsCanonOfCode}
+use Rattle.payoff_lang.specs.CodeFiles.{CodeText, IsPrintableFile}
 use Rattle.payoff_lang.specs.Numbered.{numbered, with_dates, modelled_at}
 use Rattle.payoff_lang.specs.PrintableCode.{CodeHasNumbersOfTexts, IsPrintableCode}
 use Rattle.payoff_lang.specs.WellFormedCode.{IsWellFormedCode}
@@ -38,3 +39,7 @@ abbrev pub CodeIsSpelled : Type 0
 CodeIsSpelled =
     (d : Declarations) (n : ℕ) (k : PayoffCode) → AreSpellable d → IsWellFormedCode d n k → CodeHasNumbersOfTexts k
     → n + height_of_code k ≤ 999 → Spells stops (code_text (code_scope d) n k) (code_part (code_scope d) (bound_names n) k)
+
+-- the canonical text of a code file is a text of it
+abbrev pub CodeCanonIsText : Type 0
+CodeCanonIsText = (bytes : List ℕ) (b : CodeBook) → IsPrintableFile b → IsCanonOfCode bytes b → CodeText bytes b

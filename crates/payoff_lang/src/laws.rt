@@ -1,7 +1,7 @@
 //! Laws of payoff code. Each is the contract of a function that does nothing; a caller takes the law by calling it.
 
 ghost use Rattle.payoff_lang.specs.LawsCode.{CompiledCodeMeans, CutCodeMeans, CodeIsWellFormed, CodeValuesAreFixed};
-ghost use Rattle.payoff_lang.specs.LawsTexts.{CodeCanonExists, CodeIsSpelled, OneCanonOfCode, PrintableIsWritable, ValuesAreWrittenAsExpressions};
+ghost use Rattle.payoff_lang.specs.LawsTexts.{CodeCanonExists, CodeCanonIsText, CodeIsSpelled, OneCanonOfCode, PrintableIsWritable, ValuesAreWrittenAsExpressions};
 
 /// The code of a contract means it: at every setting at which the contract is accepted, in every admitted environment, on
 /// every day, for every pair of parties and asset, its value is the sum of the contract's discounted amounts.
@@ -47,4 +47,9 @@ pub fn printable_is_writable()
 /// The canonical text of code spells it wherever a comma, a bracket, a space or a semicolon follows.
 pub fn code_is_spelled()
     ensures { CodeIsSpelled }
+{}
+
+/// The canonical text of a code file within the limits of texts is a text of it.
+pub fn code_canon_is_text()
+    ensures { CodeCanonIsText }
 {}
