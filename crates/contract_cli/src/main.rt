@@ -9,6 +9,8 @@ mod command;
 mod day_words;
 mod flows_text;
 pub mod laws;
+#[cfg(test)]
+mod long_tests;
 mod over_fixings;
 mod sample_size;
 mod status;

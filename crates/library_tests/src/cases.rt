@@ -32,6 +32,16 @@ pub struct Case {
     pub contract: Contr,
 }
 
+// The one contract of a text, and its declarations.
+fn only_of(rt: &impl Abort, alloc: Global, header: &str, text: &str) -> Result<Case, Fail> {
+    let text = format!(in alloc; "{header} contract c = {text};")?;
+    let portfolio = portfolio_of(rt, alloc, &text)?;
+    assert!(rt; portfolio.contracts.len() == 1);
+    let contract = portfolio.contracts[0].copy(alloc)?;
+    let decls = portfolio.decls.copy(alloc)?;
+    Ok(Case { decls, contract })
+}
+
 /// The contract of a text that stands under declarations, which is one and names no template.
 pub fn case_of(rt: &impl Abort, alloc: Global, header: &str, text: &str) -> Result<Case, Fail>
     ensures closed { IfOk result (λ case. IsClosed (declarations case.decls) (contract case.contract)) }
@@ -39,17 +49,13 @@ pub fn case_of(rt: &impl Abort, alloc: Global, header: &str, text: &str) -> Resu
     ensures low { IfOk result (λ case. height_of_contract (contract case.contract) ≤ 1_000) }
     ensures small { IfOk result (λ case. nodes_of_contract (contract case.contract) < 1_000_000) }
 {
-    let text = format!(in alloc; "{header} contract c = {text};")?;
-    let portfolio = portfolio_of(rt, alloc, &text)?;
-    assert!(rt; portfolio.contracts.len() == 1);
-    let contract = portfolio.contracts[0].copy(alloc)?;
-    let decls = portfolio.decls.copy(alloc)?;
-    let size = counts(&contract);
+    let case = only_of(rt, alloc, header, text)?;
+    let size = counts(&case.contract);
     assert!(rt; size.height <= 1_000);
     assert!(rt; size.nodes < 1_000_000);
-    assert!(rt; is_closed(&decls, &contract));
-    assert!(rt; has_only_numbers(&contract));
-    Ok(Case { decls, contract })
+    assert!(rt; is_closed(&case.decls, &case.contract));
+    assert!(rt; has_only_numbers(&case.contract));
+    Ok(case)
 }
 
 /// A contract that pays 2^60: the name of 1, and sixty names behind it, each of twice the one before.

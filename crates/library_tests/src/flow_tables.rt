@@ -1,20 +1,82 @@
 // Flows of accepted contracts, over tables of fixings, and sums of flow tables.
 
-ghost use Rattle.std.specs.Prelude.{◌≤◌, ◌^◌, unsigned_abs, IfOk};
+ghost use Rattle.std.specs.Prelude.{◌≤◌, ◌<◌, ◌≤ℤ◌, ◌^◌, pos, length, unsigned_abs, IfOk, IfSome, IsTrue};
+ghost use Rattle.term_core.specs.Acceptance.{IsAccepted};
+ghost use Rattle.term_core.specs.Declarations.{declarations};
+ghost use Rattle.term_core.specs.Environments.{IsAdmitted};
+ghost use Rattle.term_core.specs.Sizes.{height_of_contract, nodes_of_contract};
+ghost use Rattle.term_core.specs.Terms.{contract};
+ghost use Rattle.term_core.specs.WellFormed.{IsClosed, HasOnlyNumbers};
 ghost use Rattle.report.specs.SumTables.{IsSummable};
 
 use crate::cases::{H, case_of};
 use contract_check::check;
 use decimal::NoMemory;
-use fixing_files::read_fixings;
-use flow_eval::{FlowErr, FlowRow, FlowTable, flows, flows_on};
+use fixing_files::{Fixings, read_fixings};
+use flow_eval::{FlowErr, FlowRow, FlowTable, flows, flows_on, flows_shared};
 use report::net;
 use std::alloc::Global;
 use std::process::Abort;
 use std::test::Fail;
+use term_core::{Contr, Decls, share};
 
-// The flows of the contract of a text, which is accepted, over the fixings of a table: on a day, or on the start of the
-// portfolio.
+// The flows of a contract that stands on a day, and where it is not the first those of its shared parts.
+fn flows_then(
+    alloc: Global,
+    decls: &Decls,
+    c: &Contr,
+    fixings: &Fixings,
+    frame: i64,
+    until: i64,
+) -> Result<FlowTable, FlowErr>
+    requires accepted { IsAccepted (declarations decls.now) (contract c.now) }
+    requires numbers { HasOnlyNumbers (contract c.now) }
+    requires admitted { IsAdmitted (declarations decls.now) fixings.now }
+    requires first { pos 0 ≤ℤ frame }
+    requires last { frame ≤ℤ pos 1_000_000 }
+{
+    if frame == 0 {
+        return flows_on(alloc, decls, c, fixings, frame, until);
+    }
+    let shared = share(alloc, c)?;
+    flows_shared(alloc, decls, &shared, fixings, frame, until)
+}
+
+// The flows of a contract that is accepted, over the fixings of a table: on the start of the portfolio, or on a day.
+fn flows_in(
+    alloc: Global,
+    decls: &Decls,
+    c: &Contr,
+    table: &str,
+    frame: Option<i64>,
+    until: i64,
+) -> Result<Result<FlowTable, FlowErr>, Fail>
+    requires closed { IsClosed (declarations decls.now) (contract c.now) }
+    requires numbers { HasOnlyNumbers (contract c.now) }
+    requires low { height_of_contract (contract c.now) ≤ 1_000 }
+    requires small { nodes_of_contract (contract c.now) < 1_000_000 }
+    requires table { length table.now ≤ 1_000 }
+    requires frame { IfSome frame (λ day. (pos 0 ≤ℤ day) × (day ≤ℤ pos 1_000_000)) }
+{
+    let _facts = check(alloc, decls, c)?;
+    let fixings = read_fixings(alloc, table.as_bytes(), decls)?;
+    Ok(match frame {
+        Some(frame) => flows_then(alloc, decls, c, &fixings, frame, until),
+        None => flows(alloc, decls, c, &fixings, until),
+    })
+}
+
+// Whether a contract can stand on a day.
+fn can_stand(frame: Option<i64>) -> bool
+    ensures { IsTrue result → IfSome frame (λ day. (pos 0 ≤ℤ day) × (day ≤ℤ pos 1_000_000)) }
+{
+    match frame {
+        Some(day) => 0 <= day && day <= 1_000_000,
+        None => true,
+    }
+}
+
+// The same of the contract of a text.
 fn flows_of(
     rt: &impl Abort,
     alloc: Global,
@@ -24,15 +86,9 @@ fn flows_of(
     until: i64,
 ) -> Result<Result<FlowTable, FlowErr>, Fail> {
     assert!(rt; table.len() <= 1_000);
+    assert!(rt; can_stand(frame));
     let case = case_of(rt, alloc, H, text)?;
-    let fixings = read_fixings(alloc, table.as_bytes(), &case.decls)?;
-    let _facts = check(alloc, &case.decls, &case.contract)?;
-    let Some(frame) = frame else {
-        return Ok(flows(alloc, &case.decls, &case.contract, &fixings, until));
-    };
-    assert!(rt; 0 <= frame);
-    assert!(rt; frame <= 1_000_000);
-    Ok(flows_on(alloc, &case.decls, &case.contract, &fixings, frame, until))
+    flows_in(alloc, &case.decls, &case.contract, table, frame, until)
 }
 
 // What an answer tells of a contract that pays on at most one day between two parties.

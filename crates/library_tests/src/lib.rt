@@ -19,6 +19,8 @@ mod printing;
 #[cfg(test)]
 mod simplifying;
 #[cfg(test)]
+mod specialising;
+#[cfg(test)]
 mod terms;
 #[cfg(test)]
 mod texts;

@@ -1,6 +1,7 @@
 // Lines of verdicts, faults and flows.
 
-ghost use Rattle.std.specs.Prelude.{◌≤◌, ◌^◌, unsigned_abs, IsTrue, IfOk};
+ghost use Rattle.std.specs.Prelude.{◌≤◌, ◌^◌, pos, unsigned_abs, IsTrue, IfOk};
+ghost use Rattle.flow_eval.specs.Tables.{IsDueRow};
 
 use crate::cases::portfolio_of;
 use contract_check::Facts;
@@ -12,7 +13,7 @@ use report::{Fault, check_line, fault_line, flow_line};
 use std::alloc::Global;
 use std::process::Abort;
 use std::test::Fail;
-use term_core::{Name, Rule, RuleFault};
+use term_core::{Decls, Name, Rule, RuleFault};
 use time_types::Start;
 
 const NOTHING: Facts = Facts {
@@ -44,6 +45,19 @@ pub fn is_short(verdict: &Result<Facts, RuleFault>) -> bool
     }
 }
 
+// What is written of a verdict behind a text.
+fn verdict_line(
+    alloc: Global,
+    decls: &Decls,
+    verdict: &Result<Facts, RuleFault>,
+) -> Result<Vec<u8>, NoMemory>
+    requires { IfOk verdict.now (λ facts. unsigned_abs facts.total ≤ 10 ^ 37) }
+{
+    let mut out = b"> ".to_vec(alloc)?;
+    check_line(alloc, &mut out, decls, b"c", verdict)?;
+    Ok(out)
+}
+
 #[test]
 fn verdicts_have_lines(rt: HostRuntime) -> Result<(), Fail> {
     let alloc = rt.alloc();
@@ -64,11 +78,10 @@ fn verdicts_have_lines(rt: HostRuntime) -> Result<(), Fail> {
             "> c refused bound node 99999\n",
         ),
     ] {
-        let portfolio = portfolio_of(&rt, alloc, header)?;
         assert!(rt; is_short(&verdict));
-        let mut out = b"> ".to_vec(alloc)?;
-        check_line(alloc, &mut out, &portfolio.decls, b"c", &verdict)?;
-        assert!(rt; out.as_slice() == wanted.as_bytes(), "{wanted}");
+        let portfolio = portfolio_of(&rt, alloc, header)?;
+        let line = verdict_line(alloc, &portfolio.decls, &verdict)?;
+        assert!(rt; line.as_slice() == wanted.as_bytes(), "{wanted}");
     }
     Ok(())
 }
@@ -210,6 +223,22 @@ const LAST: FlowRow = FlowRow {
     amount: 1,
 };
 
+// Whether a line can hold a row.
+fn can_be_written(row: &FlowRow) -> bool
+    ensures { IsTrue result → IsDueRow (pos 0) (pos 1_100_000) row.now }
+{
+    0 <= row.day && row.day <= 1_100_000 && row.amount.unsigned_abs() <= 1_000_000
+}
+
+// What is written of a row behind a text.
+fn row_line(alloc: Global, decls: &Decls, row: &FlowRow) -> Result<Vec<u8>, NoMemory>
+    requires { IsDueRow (pos 0) (pos 1_100_000) row.now }
+{
+    let mut out = b"> ".to_vec(alloc)?;
+    flow_line(alloc, &mut out, decls, b"loan", row)?;
+    Ok(out)
+}
+
 #[test]
 fn flows_have_lines(rt: HostRuntime) -> Result<(), Fail> {
     let alloc = rt.alloc();
@@ -230,12 +259,10 @@ fn flows_have_lines(rt: HostRuntime) -> Result<(), Fail> {
             "> loan,1100000,Ann,Bob,EUR,1\n",
         ),
     ] {
+        assert!(rt; can_be_written(&row));
         let portfolio = portfolio_of(&rt, alloc, header)?;
-        assert!(rt; 0 <= row.day && row.day <= 1_100_000);
-        assert!(rt; row.amount.unsigned_abs() <= 1_000_000);
-        let mut out = b"> ".to_vec(alloc)?;
-        flow_line(alloc, &mut out, &portfolio.decls, b"loan", &row)?;
-        assert!(rt; out.as_slice() == wanted.as_bytes(), "{wanted}");
+        let line = row_line(alloc, &portfolio.decls, &row)?;
+        assert!(rt; line.as_slice() == wanted.as_bytes(), "{wanted}");
     }
     Ok(())
 }

@@ -1,10 +1,11 @@
 // Values of expressions in accepted contracts, over tables of fixings.
 
-ghost use Rattle.std.specs.Prelude.{◌≡◌, ◌≤◌, ◌^◌, unsigned_abs};
+ghost use Rattle.std.specs.Prelude.{◌≡◌, ◌≤◌, ◌<◌, ◌^◌, length, unsigned_abs};
 ghost use Rattle.term_core.specs.Declarations.{declarations};
 ghost use Rattle.term_core.specs.Terms.{contract};
 ghost use Rattle.term_core.specs.Environments.{IsAdmitted};
-ghost use Rattle.term_core.specs.Sizes.{height_of_contract};
+ghost use Rattle.term_core.specs.Sizes.{height_of_contract, nodes_of_contract};
+ghost use Rattle.term_core.specs.WellFormed.{IsClosed, HasOnlyNumbers};
 ghost use Rattle.expr_eval.specs.Evaluable.{MayEvaluateIn};
 
 use crate::cases::{P, case_of, doubled_60_times};
@@ -54,7 +55,23 @@ fn factor_of(decls: &Decls, c: &Contr, scratch: &mut Scratch, fixings: &Fixings,
     }
 }
 
-// The same of the contract of a text, which is accepted, over the fixings of a table.
+// The same of a contract that is accepted, over the fixings of a table.
+fn answer_in(alloc: Global, decls: &Decls, c: &Contr, table: &str, day: i64) -> Result<Answer, Fail>
+    requires closed { IsClosed (declarations decls.now) (contract c.now) }
+    requires numbers { HasOnlyNumbers (contract c.now) }
+    requires low { height_of_contract (contract c.now) ≤ 1_000 }
+    requires small { nodes_of_contract (contract c.now) < 1_000_000 }
+    requires table { length table.now ≤ 1_000 }
+    requires day { unsigned_abs day ≤ 10 ^ 12 }
+{
+    let _facts = check(alloc, decls, c)?;
+    let fixings = read_fixings(alloc, table.as_bytes(), decls)?;
+    parts_may_be_evaluated();
+    let mut scratch = Scratch::for_contract(alloc, c)?;
+    Ok(factor_of(decls, c, &mut scratch, &fixings, day))
+}
+
+// The same of the contract of a text.
 fn answer_of(
     rt: &impl Abort,
     alloc: Global,
@@ -66,16 +83,7 @@ fn answer_of(
     assert!(rt; table.len() <= 1_000);
     assert!(rt; day.unsigned_abs() <= 1_000_000_000_000);
     let case = case_of(rt, alloc, header, text)?;
-    let facts = check(alloc, &case.decls, &case.contract);
-    let fixings = read_fixings(alloc, table.as_bytes(), &case.decls)?;
-    match facts {
-        Ok(_) => {
-            parts_may_be_evaluated();
-            let mut scratch = Scratch::for_contract(alloc, &case.contract)?;
-            Ok(factor_of(&case.decls, &case.contract, &mut scratch, &fixings, day))
-        }
-        Err(_) => Ok(None),
-    }
+    answer_in(alloc, &case.decls, &case.contract, table, day)
 }
 
 fn number(scale: u8, mant: i128) -> Answer {

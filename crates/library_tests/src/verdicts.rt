@@ -1,27 +1,53 @@
 // Verdicts on contracts, as lines. Every rule of acceptance takes part.
 
+ghost use Rattle.std.specs.Prelude.{◌≤◌, ◌<◌};
+ghost use Rattle.term_core.specs.Declarations.{declarations};
+ghost use Rattle.term_core.specs.Sizes.{height_of_contract, nodes_of_contract};
+ghost use Rattle.term_core.specs.Terms.{contract};
+ghost use Rattle.term_core.specs.WellFormed.{IsClosed, HasOnlyNumbers};
+
 use crate::cases::{H, P, case_of};
 use crate::lines::is_short;
-use contract_check::check;
+use contract_check::{Facts, check};
 use decimal::NoMemory;
 use report::check_line;
 use std::alloc::Global;
 use std::process::Abort;
 use std::test::Fail;
-use term_core::{CheckErr, RuleFault};
+use term_core::{CheckErr, Contr, Decls, RuleFault};
+
+// The verdict on a contract.
+fn verdict_of(alloc: Global, decls: &Decls, c: &Contr) -> Result<Result<Facts, RuleFault>, NoMemory>
+    requires closed { IsClosed (declarations decls.now) (contract c.now) }
+    requires numbers { HasOnlyNumbers (contract c.now) }
+    requires low { height_of_contract (contract c.now) ≤ 1_000 }
+    requires small { nodes_of_contract (contract c.now) < 1_000_000 }
+{
+    match check(alloc, decls, c) {
+        Ok(facts) => Ok(Ok(facts)),
+        Err(CheckErr::Refused { rule, node }) => Ok(Err(RuleFault { rule, node })),
+        Err(CheckErr::NoMemory) => Err(NoMemory),
+    }
+}
+
+// The line of a contract.
+fn line_in(rt: &impl Abort, alloc: Global, decls: &Decls, c: &Contr) -> Result<Vec<u8>, Fail>
+    requires closed { IsClosed (declarations decls.now) (contract c.now) }
+    requires numbers { HasOnlyNumbers (contract c.now) }
+    requires low { height_of_contract (contract c.now) ≤ 1_000 }
+    requires small { nodes_of_contract (contract c.now) < 1_000_000 }
+{
+    let verdict = verdict_of(alloc, decls, c)?;
+    assert!(rt; is_short(&verdict));
+    let mut line = Vec::new(alloc);
+    check_line(alloc, &mut line, decls, b"c", &verdict)?;
+    Ok(line)
+}
 
 // The line of the contract of a text.
 fn line_of(rt: &impl Abort, alloc: Global, header: &str, text: &str) -> Result<Vec<u8>, Fail> {
     let case = case_of(rt, alloc, header, text)?;
-    let verdict = match check(alloc, &case.decls, &case.contract) {
-        Ok(facts) => Ok(facts),
-        Err(CheckErr::Refused { rule, node }) => Err(RuleFault { rule, node }),
-        Err(CheckErr::NoMemory) => return Err(NoMemory.into()),
-    };
-    assert!(rt; is_short(&verdict));
-    let mut line = Vec::new(alloc);
-    check_line(alloc, &mut line, &case.decls, b"c", &verdict)?;
-    Ok(line)
+    line_in(rt, alloc, &case.decls, &case.contract)
 }
 
 // Declarations with a rate that may be 0, and with one that may not.

@@ -1,0 +1,79 @@
+// A book of 65,541 nodes, of which one part changes on each of 80,000 days and the others on none.
+
+use crate::{Status, run};
+use edge_io::{Entry, MemoryFiles, MemorySink};
+use std::alloc::{AllocError, Global};
+use std::process::Abort;
+use std::test::Fail;
+
+const ROOM: usize = 4_194_304;
+
+// A balanced tree of 16,384 payments.
+fn payments(alloc: Global) -> Result<String, AllocError> {
+    let mut tree = format!(in alloc; "scale(1.00, pay(EUR, A, B))")?;
+    for _ in 0..14u8 {
+        tree = format!(in alloc; "both({tree}, {tree})")?;
+    }
+    Ok(tree)
+}
+
+// A flag that is false on the days 0 to 90,000.
+fn never_up(alloc: Global) -> Result<String, AllocError> {
+    let mut table = format!(in alloc; "label,day,value\n")?;
+    for day in 0..90_001u32 {
+        let row = format!(in alloc; "F,{day},false\n")?;
+        table.push_str(&row)?;
+    }
+    Ok(table)
+}
+
+// A file of this name.
+fn entry(alloc: Global, name: &str, text: &[u8]) -> Result<Entry, AllocError> {
+    Ok(Entry {
+        name: name.as_bytes().to_vec(alloc)?,
+        bytes: text.to_vec(alloc)?,
+        faults: 0,
+    })
+}
+
+// What a command prints of a book and a table.
+fn printed(
+    rt: &impl Abort,
+    alloc: Global,
+    book: &[u8],
+    table: &[u8],
+    words: &[&str],
+) -> Result<MemorySink, Fail> {
+    let mut entries = Vec::new(alloc);
+    entries.push(entry(alloc, "book", book)?)?;
+    entries.push(entry(alloc, "table", table)?)?;
+    let mut files = MemoryFiles::new(entries, Vec::new(alloc));
+    let mut out = MemorySink::new(alloc, Vec::new(alloc), ROOM, ROOM)?;
+    assert!(rt; run(alloc, words, &mut files, &mut out) == Status::Done);
+    Ok(out)
+}
+
+#[test]
+fn advances_by_80000_days(rt: HostRuntime) -> Result<(), Fail> {
+    let alloc = rt.alloc();
+    let tree = payments(alloc)?;
+    let table = never_up(alloc)?;
+    let book = format!(in alloc;
+        "portfolio 1; amounts 2; party A, B, C; asset EUR; flag F;
+contract b = both(if obs(F, 0) within 90000 then zero else pay(EUR, A, B), after(90000, {tree}));"
+    )?;
+    let words = ["advance", "book", "table", "--to", "80000"];
+    let left = printed(&rt, alloc, book.as_bytes(), table.as_bytes(), &words)?;
+    let begins = b"portfolio 1;
+amounts 2;
+start 80000;
+party A, B, C;
+asset EUR;
+flag F;
+contract b = both(if obs(F, 0) within 10000 then zero else pay(EUR, A, B), after(10000, both(";
+    assert!(rt; left.taken().starts_with(begins.as_slice()));
+    let words = ["flows", "book", "table"];
+    let flows = printed(&rt, alloc, left.taken(), table.as_bytes(), &words)?;
+    assert!(rt; flows.taken() == b"b,90000,A,B,EUR,16385.00\n".as_slice());
+    Ok(())
+}
