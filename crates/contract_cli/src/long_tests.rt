@@ -8,9 +8,9 @@ use std::test::Fail;
 
 const ROOM: usize = 4_194_304;
 
-// A balanced tree of 16,384 payments.
-fn payments(alloc: Global) -> Result<String, AllocError> {
-    let mut tree = format!(in alloc; "scale(1.00, pay(EUR, A, B))")?;
+// A balanced tree over 16,384 copies of a contract.
+fn tree_of(alloc: Global, leaf: &str) -> Result<String, AllocError> {
+    let mut tree = format!(in alloc; "{leaf}")?;
     for _ in 0..14u8 {
         tree = format!(in alloc; "both({tree}, {tree})")?;
     }
@@ -53,27 +53,50 @@ fn printed(
     Ok(out)
 }
 
-#[test]
-fn advances_by_80000_days(rt: HostRuntime) -> Result<(), Fail> {
-    let alloc = rt.alloc();
-    let tree = payments(alloc)?;
+// What is left on day 80,000 begins so, and pays on day 90,000.
+fn advances(rt: &impl Abort, alloc: Global, contract: &str, begins: &str) -> Result<(), Fail> {
     let table = never_up(alloc)?;
     let book = format!(in alloc;
         "portfolio 1; amounts 2; party A, B, C; asset EUR; flag F;
-contract b = both(if obs(F, 0) within 90000 then zero else pay(EUR, A, B), after(90000, {tree}));"
+contract b = both(if obs(F, 0) within 90000 then zero else pay(EUR, A, B), {contract});"
     )?;
     let words = ["advance", "book", "table", "--to", "80000"];
-    let left = printed(&rt, alloc, book.as_bytes(), table.as_bytes(), &words)?;
-    let begins = b"portfolio 1;
+    let left = printed(rt, alloc, book.as_bytes(), table.as_bytes(), &words)?;
+    assert!(rt; left.taken().starts_with(begins.as_bytes()));
+    let words = ["flows", "book", "table"];
+    let flows = printed(rt, alloc, left.taken(), table.as_bytes(), &words)?;
+    assert!(rt; flows.taken() == b"b,90000,A,B,EUR,16385.00\n".as_slice());
+    Ok(())
+}
+
+const ONE_DELAY: &str = "portfolio 1;
 amounts 2;
 start 80000;
 party A, B, C;
 asset EUR;
 flag F;
 contract b = both(if obs(F, 0) within 10000 then zero else pay(EUR, A, B), after(10000, both(";
-    assert!(rt; left.taken().starts_with(begins.as_slice()));
-    let words = ["flows", "book", "table"];
-    let flows = printed(&rt, alloc, left.taken(), table.as_bytes(), &words)?;
-    assert!(rt; flows.taken() == b"b,90000,A,B,EUR,16385.00\n".as_slice());
-    Ok(())
+
+const MANY_DELAYS: &str = "portfolio 1;
+amounts 2;
+start 80000;
+party A, B, C;
+asset EUR;
+flag F;
+contract b = both(if obs(F, 0) within 10000 then zero else pay(EUR, A, B), both(both(";
+
+#[test]
+fn advances_by_80000_days(rt: HostRuntime) -> Result<(), Fail> {
+    let alloc = rt.alloc();
+    let payments = tree_of(alloc, "scale(1.00, pay(EUR, A, B))")?;
+    let contract = format!(in alloc; "after(90000, {payments})")?;
+    advances(&rt, alloc, &contract, ONE_DELAY)
+}
+
+// Each of the payments is nearer on each day.
+#[test]
+fn advances_delays_by_80000_days(rt: HostRuntime) -> Result<(), Fail> {
+    let alloc = rt.alloc();
+    let contract = tree_of(alloc, "after(90000, scale(1.00, pay(EUR, A, B)))")?;
+    advances(&rt, alloc, &contract, MANY_DELAYS)
 }

@@ -1,6 +1,8 @@
 //! Tilugba, the manager for financial contracts between parties.
 #![tactic(auto)]
 
+#[cfg(test)]
+mod advance_tests;
 mod advance_text;
 mod answers;
 mod arguments;
@@ -22,6 +24,8 @@ mod used;
 mod word_tests;
 mod words;
 
+ghost use Rattle.std.specs.Prelude.{◌≡◌, map, string_bytes, IfOk};
+
 pub use command::run;
 use edge_io::{RealFiles, RealSink};
 pub use status::Status;
@@ -42,7 +46,10 @@ fn words_of(rt: &HostRuntime) -> Result<Vec<String>, Error> {
     Ok(words)
 }
 
-fn lent<'a>(alloc: Global, words: &'a [String]) -> Result<Vec<&'a str>, AllocError> {
+// The same words, lent.
+fn lent<'a>(alloc: Global, words: &'a [String]) -> Result<Vec<&'a str>, AllocError>
+    ensures { IfOk result (λ lent. map (λ word. word.now) lent.items ≡ map (λ word. string_bytes word) words.now) }
+{
     let mut lent = Vec::new(alloc);
     for word in words {
         lent.push(word.as_str())?;

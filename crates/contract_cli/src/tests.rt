@@ -4,7 +4,7 @@ use std::alloc::{AllocError, Global};
 use std::process::Abort;
 use std::test::Fail;
 
-const ROOM: usize = 4_194_304;
+pub const ROOM: usize = 4_194_304;
 
 // One file by this name, of which the numbered reads fail.
 fn one_file(
@@ -22,7 +22,7 @@ fn one_file(
     Ok(MemoryFiles::new(entries, fail.to_vec(alloc)?))
 }
 
-const LOAN: &[u8] = b"portfolio 1; amounts 2; party A, B, C; asset EUR;
+pub const LOAN: &[u8] = b"portfolio 1; amounts 2; party A, B, C; asset EUR;
 contract loan = both(scale(100.00, pay(EUR, A, B)), after(90, scale(105.00, pay(EUR, B, A))));";
 
 // What a command prints of a text, of which it reads nothing twice, and its status.
@@ -222,7 +222,7 @@ struct Asked {
 const MUTUAL: &[u8] = b"portfolio 1; amounts 2; party A, B, C; asset EUR;
 contract a = scale(5.00, pay(EUR, A, B)); contract b = scale(2.00, pay(EUR, B, A));";
 
-const HALF: &[u8] = b"portfolio 1; amounts 2; party A, B; asset EUR;
+pub const HALF: &[u8] = b"portfolio 1; amounts 2; party A, B; asset EUR;
 contract good = pay(EUR, A, B); contract bad = scale(true, pay(EUR, A, B));";
 
 #[test]
@@ -355,7 +355,7 @@ fn refuses_a_file_past_the_limit(rt: HostRuntime) -> Result<(), Fail> {
 }
 
 // Two files, of which the numbered reads fail.
-fn two_files(
+pub fn two_files(
     alloc: Global,
     portfolio: &[u8],
     table: &[u8],
@@ -408,11 +408,11 @@ fn prints(rt: &impl Abort, alloc: Global, row: &Fixed) -> Result<(), Fail> {
     Ok(())
 }
 
-const TOUCH: &[u8] =
+pub const TOUCH: &[u8] =
     b"portfolio 1; amounts 2; party A, B, C; asset EUR; num FX : 4 in 0.5000 .. 2.0000;
 contract touch = if (obs(FX, 0) > 1.1000) within 3 then scale(1.00, pay(EUR, A, B)) else scale(2.00, pay(EUR, B, A));";
 
-const RISING: &[u8] = b"label,day,value\nFX,0,1.0000\nFX,1,1.0000\nFX,2,1.0000\nFX,3,1.2000\n";
+pub const RISING: &[u8] = b"label,day,value\nFX,0,1.0000\nFX,1,1.0000\nFX,2,1.0000\nFX,3,1.2000\n";
 
 const LEVEL: &[u8] = b"label,day,value\nFX,0,1.0000\nFX,1,1.0000\nFX,2,1.0000\nFX,3,1.0000\n";
 
@@ -636,248 +636,6 @@ fn says_which_of_two_files_fails(rt: HostRuntime) -> Result<(), Fail> {
     let mut out = MemorySink::new(alloc, Vec::new(alloc), ROOM, ROOM)?;
     assert!(rt; run(alloc, &words, &mut files, &mut out) == Status::TooLong);
     assert_eq!(rt; out.taken(), b"fault too long 2\n".as_slice());
-    Ok(())
-}
-
-// What `advance` prints of a portfolio over fixings to a day, and its status.
-#[derive(Clone, Copy)]
-struct Advanced {
-    text: &'static [u8],
-    table: &'static [u8],
-    to: &'static str,
-    output: &'static [u8],
-    status: Status,
-}
-
-// Runs `advance` on a row's files.
-fn advances(rt: &impl Abort, alloc: Global, row: &Advanced) -> Result<(), Fail> {
-    let mut files = two_files(alloc, row.text, row.table, &[3])?;
-    let mut out = MemorySink::new(alloc, Vec::new(alloc), ROOM, ROOM)?;
-    let words = ["advance", "desk.txt", "fix.csv", "--to", row.to];
-    let status = run(alloc, &words, &mut files, &mut out);
-    assert_eq!(rt; out.taken(), row.output);
-    assert!(rt; status == row.status);
-    Ok(())
-}
-
-const NOTHING_FIXED: &[u8] = b"label,day,value\n";
-
-const TOUCH_ON_DAY_2: &[u8] = b"portfolio 1;
-amounts 2;
-start 2;
-party A, B, C;
-asset EUR;
-num FX : 4 in 0.5000 .. 2.0000;
-contract touch = if (obs(FX, 0) > 1.1000) within 1 then scale(1.00, pay(EUR, A, B)) else scale(2.00, pay(EUR, B, A));
-";
-
-const FIXED_ON_DAY_30: &[u8] =
-    b"portfolio 1; amounts 2; party A, B, C; asset EUR; num FX : 4 in 0.5000 .. 2.0000;
-contract c = let x = round(half_even, 2, obs(FX, 30)) in after(30, scale(x, pay(EUR, A, B)));";
-
-const TREASURY: &[u8] = b"# Positions of the treasury desk
-portfolio 1;
-amounts 2;
-origin 2024-01-15;
-party A, B, C;
-asset EUR, USD;
-num FX : 4 in 0.5000 .. 2.0000;
-flag Default_B;
-template T = 90;
-
-contract loan = both(scale(100.00, pay(EUR, A, B)),
-                     after(T, scale(105.00, pay(EUR, B, A))));
-
-contract guarded = if obs(Default_B, 0) within T
-                   then scale(40.00, pay(EUR, C, A))
-                   else scale(100.00, pay(EUR, B, A));
-";
-
-#[test]
-fn advances_portfolios(rt: HostRuntime) -> Result<(), Fail> {
-    let alloc = rt.alloc();
-    let rows = [
-        Advanced {
-            text: TOUCH,
-            table: RISING,
-            to: "2",
-            output: TOUCH_ON_DAY_2,
-            status: Status::Done,
-        },
-        // What it prints is a portfolio. A contract of which nothing is left stays.
-        Advanced {
-            text: TOUCH_ON_DAY_2,
-            table: RISING,
-            to: "4",
-            output: b"# touch,3,A,B,EUR,1.00
-portfolio 1;
-amounts 2;
-start 4;
-party A, B, C;
-asset EUR;
-num FX : 4 in 0.5000 .. 2.0000;
-contract touch = zero;
-",
-            status: Status::Done,
-        },
-        // A test that waits keeps its parts, also where nothing is fixed.
-        Advanced {
-            text: TOUCH,
-            table: NOTHING_FIXED,
-            to: "0",
-            output: b"portfolio 1;
-amounts 2;
-start 0;
-party A, B, C;
-asset EUR;
-num FX : 4 in 0.5000 .. 2.0000;
-contract touch = if (obs(FX, 0) > 1.1000) within 3 then scale(1.00, pay(EUR, A, B)) else scale(2.00, pay(EUR, B, A));
-",
-            status: Status::Done,
-        },
-        // A name is bound to what is read so many days sooner.
-        Advanced {
-            text: FIXED_ON_DAY_30,
-            table: NOTHING_FIXED,
-            to: "1",
-            output: b"portfolio 1;
-amounts 2;
-start 1;
-party A, B, C;
-asset EUR;
-num FX : 4 in 0.5000 .. 2.0000;
-contract c = let v0 = round(half_even, 2, obs(FX, 29)) in after(29, scale(v0, pay(EUR, A, B)));
-",
-            status: Status::Done,
-        },
-        Advanced {
-            text: FIXED_ON_DAY_30,
-            table: b"label,day,value\nFX,30,1.2345\n",
-            to: "30",
-            output: b"portfolio 1;
-amounts 2;
-start 30;
-party A, B, C;
-asset EUR;
-num FX : 4 in 0.5000 .. 2.0000;
-contract c = scale(1.23, pay(EUR, A, B));
-",
-            status: Status::Done,
-        },
-        Advanced {
-            text: LOAN,
-            table: NOTHING_FIXED,
-            to: "30",
-            output: b"# loan,0,A,B,EUR,100.00
-portfolio 1;
-amounts 2;
-start 30;
-party A, B, C;
-asset EUR;
-contract loan = after(60, scale(105.00, pay(EUR, B, A)));
-",
-            status: Status::Done,
-        },
-        // What needs no fixing is worked out.
-        Advanced {
-            text: b"portfolio 1; amounts 2; party A, B, C; asset EUR;
-contract c = after(1, scale(acc(x, (x + 0.01), 3, if(true, 1, 0.00)), pay(EUR, A, B)));",
-            table: NOTHING_FIXED,
-            to: "0",
-            output: b"portfolio 1;
-amounts 2;
-start 0;
-party A, B, C;
-asset EUR;
-contract c = after(1, scale(1.03, pay(EUR, A, B)));
-",
-            status: Status::Done,
-        },
-        // Days count from the origin, and the templates' names give way to their defaults.
-        Advanced {
-            text: TREASURY,
-            table: b"label,day,value\nDefault_B,0,false\nDefault_B,1,false\nDefault_B,2,false\nDefault_B,3,false\nDefault_B,4,false\n",
-            to: "5",
-            output: b"# loan,2024-01-15,A,B,EUR,100.00
-portfolio 1;
-amounts 2;
-origin 2024-01-15;
-start 5;
-party A, B, C;
-asset EUR, USD;
-num FX : 4 in 0.5000 .. 2.0000;
-flag Default_B;
-template T = 90;
-contract loan = after(85, scale(105.00, pay(EUR, B, A)));
-contract guarded = if obs(Default_B, 0) within 85 then scale(40.00, pay(EUR, C, A)) else scale(100.00, pay(EUR, B, A));
-",
-            status: Status::Done,
-        },
-    ];
-    for row in &rows {
-        advances(&rt, alloc, row)?;
-    }
-    Ok(())
-}
-
-#[test]
-fn says_what_stops_advance(rt: HostRuntime) -> Result<(), Fail> {
-    let alloc = rt.alloc();
-    let rows = [
-        Advanced {
-            text: TOUCH,
-            table: NOTHING_FIXED,
-            to: "1",
-            output: b"fault missing FX 0\n",
-            status: Status::Missing,
-        },
-        Advanced {
-            text: TOUCH_ON_DAY_2,
-            table: RISING,
-            to: "1",
-            output: b"fault day 1\n",
-            status: Status::DayRange,
-        },
-        Advanced {
-            text: TOUCH,
-            table: RISING,
-            to: "1000001",
-            output: b"fault day 1000001\n",
-            status: Status::DayRange,
-        },
-        Advanced {
-            text: TOUCH,
-            table: RISING,
-            to: "2024-01-15",
-            output: b"fault day 2024-01-15\n",
-            status: Status::DayRange,
-        },
-        // A day before a contract, of which all are tried, a contract before a row, a row before a read.
-        Advanced {
-            text: HALF,
-            table: b"",
-            to: "1000001",
-            output: b"fault day 1000001\n",
-            status: Status::DayRange,
-        },
-        Advanced {
-            text: HALF,
-            table: b"",
-            to: "1",
-            output: b"fault refused bad sort node 0\n",
-            status: Status::Refused,
-        },
-        Advanced {
-            text: TOUCH,
-            table: b"label,day,value\nFX,1,9.0000\n",
-            to: "1",
-            output: b"fault row file 2 record 2 bounds\n",
-            status: Status::BadRow,
-        },
-    ];
-    for row in &rows {
-        advances(&rt, alloc, row)?;
-    }
     Ok(())
 }
 

@@ -21,6 +21,8 @@ mod simplifying;
 #[cfg(test)]
 mod specialising;
 #[cfg(test)]
+mod stepping;
+#[cfg(test)]
 mod terms;
 #[cfg(test)]
 mod texts;
