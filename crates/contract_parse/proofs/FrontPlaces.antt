@@ -1,4 +1,4 @@
--- The forms at a place, and the tests that decide them.
+-- The forms at a place of a portfolio's text, and the tests that decide them.
 use Rattle.std.proofs.Common.{◌≡◌, ℕ, ℤ, Bool, true, false, cond, ◌||◌, Option, Some, None, Result, Ok, Err, List, [], ◌∷◌, ◌++◌, refl, sym, ap, ◌∙◌}
 use Rattle.std.specs.Prelude.{codes, nat_lt, not}
 use Rattle.decimal.specs.declared.Decimal.{Decimal}
@@ -11,9 +11,10 @@ use Rattle.decimal.specs.Mantissas.{decimal_of}
 use Rattle.contract_parse.specs.Judgements.{above_limited, binder_at, bound_at, counted, days_at, integer_at, is_version, literal_at, mode_at, named, new_at, offset_at, operator_at, or_fault, origin_at, signed_decimal, signed_result, up_to, use_at, whole, widened}
 use Rattle.contract_parse.specs.Forms.{Part, Terminal, Nonterminal, Optional, Repeated, Form}
 use Rattle.contract_parse.specs.Fronts.{Declared, Symbol, Declaration, ContractLine, Contract, Expression, Offset, a_count, a_date, a_mode, a_name, a_number, an_integer, an_operator, is_one_of, mode_words, operator_marks, portfolio_forms, the_mark, the_word}
-use Rattle.contract_parse.specs.Places.{Place, TheWord, TheMark, TheVersion, TheEnd, IntegerAt, OriginDate, OriginLine, StartLine, NameLines, LabelLines, TemplateLines, ContractLines, NewIn, MoreNames, ScaleAt, BoundAt, BoundNumber, UseOf, OffsetAt, OffsetNumber, LiteralNumber, DaysAt, ModeAt, OperatorAt, BinderAt, ExprAt, ContrAt, AnyTokens}
+use Rattle.contract_parse.specs.Places.{Place, TheWord, TheMark, TheVersion, TheEnd, IntegerAt, OriginDate, OriginLine, StartLine, NameLines, LabelLines, TemplateLines, ContractLines, NewIn, MoreNames, ScaleAt, BoundAt, BoundNumber, UseOf, OffsetAt, OffsetNumber, LiteralNumber, DaysAt, ModeAt, OperatorAt, DateAt, DateNumber, MoreTemplates, BinderAt, ExprAt, ContrAt, AmountAt, AnyTokens}
 use Rattle.contract_parse.specs.declared.names.NameSet.{NameSet}
 use Rattle.contract_parse.specs.declared.names.NameSet.TheVariants.{Party, Asset, Label, Template, Contract as ContractSet}
+use Rattle.contract_parse.specs.declared.heads.Language.{Language}
 use Rattle.contract_parse.specs.declared.heads.Binder.TheVariants as binder
 use Rattle.contract_parse.specs.declared.faults.TextKind.{TextKind}
 use Rattle.contract_parse.specs.declared.faults.TextKind.TheVariants.{Syntax, Number, Date, Deep, Range, Twice, Unknown, Utf8}
@@ -63,10 +64,14 @@ parts_of (LiteralNumber negative) = a_number ∷ []
 parts_of (DaysAt templates) = a_count ∷ []
 parts_of ModeAt = a_mode ∷ []
 parts_of OperatorAt = an_operator ∷ []
-parts_of (BinderAt binder.Let depth names) = a_name ∷ the_mark (codes "=") ∷ an_expression ∷ the_word (codes "in") ∷ Nonterminal Contract ∷ []
-parts_of (BinderAt binder.Acc depth names) = a_name ∷ the_mark (codes ",") ∷ an_expression ∷ the_mark (codes ",") ∷ an_integer ∷ the_mark (codes ",") ∷ an_expression ∷ the_mark (codes ")") ∷ []
-parts_of (ExprAt depth names) = an_expression ∷ []
+parts_of (BinderAt binder.Let language depth names) = a_name ∷ the_mark (codes "=") ∷ an_expression ∷ the_word (codes "in") ∷ Nonterminal Contract ∷ []
+parts_of (BinderAt binder.Acc language depth names) = a_name ∷ the_mark (codes ",") ∷ an_expression ∷ the_mark (codes ",") ∷ an_integer ∷ the_mark (codes ",") ∷ an_expression ∷ the_mark (codes ")") ∷ []
+parts_of (ExprAt language depth names) = an_expression ∷ []
 parts_of (ContrAt depth names) = Nonterminal Contract ∷ []
+parts_of DateAt = []
+parts_of (DateNumber negative) = []
+parts_of MoreTemplates = []
+parts_of (AmountAt depth names) = []
 parts_of AnyTokens = []
 
 abbrev pub all_parts : List Place → Form Symbol
@@ -84,10 +89,16 @@ IsWordOf w Label = ⊥
 IsWordOf w Template = ⊥
 IsWordOf w ContractSet = ⊥
 
--- at each place the next token decides the form
+-- at each place of a portfolio the next token decides the form
 abbrev pub Decided : List Place → Type 0
 Decided [] = Unit {0}
 Decided (AnyTokens ∷ ps) = ⊥
+Decided (DateAt ∷ ps) = ⊥
+Decided (DateNumber negative ∷ ps) = ⊥
+Decided (MoreTemplates ∷ ps) = ⊥
+Decided (AmountAt depth names ∷ ps) = ⊥
+Decided (ExprAt Language.Code depth names ∷ ps) = ⊥
+Decided (BinderAt binder Language.Code depth names ∷ ps) = ⊥
 Decided (OriginLine ∷ ps) = Ends (codes "origin") ps × Decided ps
 Decided (StartLine ∷ ps) = Ends (codes "start") ps × Decided ps
 Decided (NameLines w set ∷ ps) = IsWordOf w set × Ends w ps × Decided ps

@@ -7,8 +7,9 @@ use Rattle.contract_parse.specs.Names.{Scope, names_of}
 use Rattle.contract_parse.specs.Judgements.{binder_at, bound_at, days_at, integer_at, is_version, literal_at, mode_at, new_at, offset_at, operator_at, origin_at, use_at}
 use Rattle.contract_parse.specs.Forms.{Terminal, Nonterminal, Repeated, Form}
 use Rattle.contract_parse.specs.Fronts.{Declared, Declaration, ContractLine, Contract, Offset, Symbol, a_date, a_name, a_number, an_integer, is_one_of, mode_words, operator_marks, portfolio_forms, the_mark, the_word}
-use Rattle.contract_parse.specs.Places.{Place, TheWord, TheMark, TheVersion, TheEnd, IntegerAt, OriginDate, OriginLine, StartLine, NameLines, LabelLines, TemplateLines, ContractLines, NewIn, MoreNames, ScaleAt, BoundAt, BoundNumber, UseOf, OffsetAt, OffsetNumber, LiteralNumber, DaysAt, ModeAt, OperatorAt, BinderAt, ExprAt, ContrAt, AnyTokens, Next, binder_places, bound_places, contract_places, flag_places, list_places, number_label_places, range_places, step, template_places}
+use Rattle.contract_parse.specs.Places.{Place, TheWord, TheMark, TheVersion, TheEnd, IntegerAt, OriginDate, OriginLine, StartLine, NameLines, LabelLines, TemplateLines, ContractLines, NewIn, MoreNames, ScaleAt, BoundAt, BoundNumber, UseOf, OffsetAt, OffsetNumber, LiteralNumber, DaysAt, ModeAt, OperatorAt, DateAt, DateNumber, MoreTemplates, BinderAt, ExprAt, ContrAt, AmountAt, AnyTokens, Next, binder_places, bound_places, contract_places, flag_places, list_places, number_label_places, range_places, step, template_places}
 use Rattle.contract_parse.specs.declared.names.NameSet.TheVariants.{Party, Asset, Label, Template, Contract as ContractSet}
+use Rattle.contract_parse.specs.declared.heads.Language.{Language}
 use Rattle.contract_parse.specs.declared.heads.Binder.TheVariants as binder
 use Rattle.contract_parse.proofs.FrontTakes.{nothing_bars, rests}
 use Rattle.contract_parse.proofs.FrontPlaces.{Decided, Ends, all_parts, behind_bound, binder_formed, bound_formed, days_formed, integer_formed, literal_formed, mode_formed, new_formed, offset_formed, operator_formed, origin_formed, use_formed}
@@ -85,8 +86,15 @@ stepped s (LiteralNumber negative ∷ ps) t decided = by_token is_number (all_pa
 stepped s (DaysAt templates ∷ ps) t decided = by_token _ (all_parts ps) t (days_at templates t) (λ d. Next s ps) (days_formed templates t) (λ d takes. (decided, takes))
 stepped s (ModeAt ∷ ps) t decided = by_token (is_one_of mode_words is_the_word) (all_parts ps) t (mode_at t) (λ m. Next s ps) (mode_formed t) (λ m takes. (decided, takes))
 stepped s (OperatorAt ∷ ps) t decided = by_token (is_one_of operator_marks is_the_mark) (all_parts ps) t (operator_at t) (λ op. Next s ps) (operator_formed t) (λ op takes. (decided, takes))
-stepped s (BinderAt binder.Let d names ∷ ps) t decided = by_token is_name _ t (binder_at t) (λ name. Next s (binder_places binder.Let d names name ps)) (binder_formed t) (λ name takes. (decided, takes))
-stepped s (BinderAt binder.Acc d names ∷ ps) t decided = by_token is_name _ t (binder_at t) (λ name. Next s (binder_places binder.Acc d names name ps)) (binder_formed t) (λ name takes. (decided, takes))
-stepped s (ExprAt d names ∷ ps) t decided = expr_stepped s d names ps decided t
+stepped s (BinderAt binder.Let Language.Contracts d names ∷ ps) t decided = by_token is_name _ t (binder_at t) (λ name. Next s (binder_places binder.Let Language.Contracts d names name ps)) (binder_formed t) (λ name takes. (decided, takes))
+stepped s (BinderAt binder.Acc Language.Contracts d names ∷ ps) t decided = by_token is_name _ t (binder_at t) (λ name. Next s (binder_places binder.Acc Language.Contracts d names name ps)) (binder_formed t) (λ name takes. (decided, takes))
+stepped s (ExprAt Language.Contracts d names ∷ ps) t decided = expr_stepped s d names ps decided t
 stepped s (ContrAt d names ∷ ps) t decided = contr_stepped s d names ps decided t
+stepped s (DateAt ∷ ps) t decided = absurd decided
+stepped s (DateNumber negative ∷ ps) t decided = absurd decided
+stepped s (MoreTemplates ∷ ps) t decided = absurd decided
+stepped s (AmountAt d names ∷ ps) t decided = absurd decided
+stepped s (ExprAt Language.Code d names ∷ ps) t decided = absurd decided
+stepped s (BinderAt binder.Let Language.Code d names ∷ ps) t decided = absurd decided
+stepped s (BinderAt binder.Acc Language.Code d names ∷ ps) t decided = absurd decided
 stepped s (AnyTokens ∷ ps) t decided = absurd decided

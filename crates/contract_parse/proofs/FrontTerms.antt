@@ -14,6 +14,7 @@ use Rattle.contract_parse.specs.Heads.{first_at, first_name, first_number, first
 use Rattle.contract_parse.specs.Forms.{Part, Nonterminal, Form, empty}
 use Rattle.contract_parse.specs.Fronts.{a_count, a_mode, an_operator, Symbol, Contract, Expression, Offset, arguments, a_name, an_integer, a_number, portfolio_forms, the_mark, the_word}
 use Rattle.contract_parse.specs.Places.{Place, Step, Next, contr_places, expr_places, judged}
+use Rattle.contract_parse.specs.declared.heads.Language.{Language}
 use Rattle.contract_parse.specs.declared.heads.First.{First}
 use Rattle.contract_parse.specs.declared.heads.Head.{Head}
 use Rattle.contract_parse.specs.declared.faults.TextKind.TheVariants as kind
@@ -67,7 +68,7 @@ module _ (s : Scope) (d : ℕ) (names : List Bytes) (ps : List Place) (decided :
   PExpr st = Stepped (an_expression ∷ all_parts ps) t st
 
   abbrev expr_next : First → Step
-  expr_next f = Next s (expr_places s d names f ps)
+  expr_next f = Next s (expr_places s Language.Contracts d names f ps)
 
   abbrev ExprTakes : Form Symbol → Type 0
   ExprTakes rest = Takes portfolio_forms (an_expression ∷ all_parts ps) t (rest ++ all_parts ps)
@@ -81,34 +82,34 @@ module _ (s : Scope) (d : ℕ) (names : List Bytes) (ps : List Place) (decided :
   deep_fault true may = may
   deep_fault false may = may
 
-  expr_form : (f : First) (rest : Form Symbol) → rests expression_all t ≡ rest ∷ [] → (ExprTakes rest → PExpr (expr_next f)) → PExpr (judged (within_depth d (Ok f)) expr_next)
+  expr_form : (f : First) (rest : Form Symbol) → rests expression_all t ≡ rest ∷ [] → (ExprTakes rest → PExpr (expr_next f)) → PExpr (judged (within_depth Language.Contracts d (Ok f)) expr_next)
   expr_form f rest begins ok =
       let takes = symbol_takes portfolio_forms starts Expression rest (all_parts ps) t begins in
       deep_first f (nat_lt 200 d) (takes.back [] empty) (ok takes)
 
-  expr_word : (w : Bytes) (f : First) (rest : Form Symbol) → is_the_word w t ≡ true → ((left : ℕ) → first_of names (record { kind = Word; text = w; left = left }) ≡ Ok f) → ((left : ℕ) → rests expression_all (record { kind = Word; text = w; left = left }) ≡ rest ∷ [])
-      → (ExprTakes rest → PExpr (expr_next f)) → PExpr (judged (first_at d names t) expr_next)
+  expr_word : (w : Bytes) (f : First) (rest : Form Symbol) → is_the_word w t ≡ true → ((left : ℕ) → first_of Language.Contracts names (record { kind = Word; text = w; left = left }) ≡ Ok f) → ((left : ℕ) → rests expression_all (record { kind = Word; text = w; left = left }) ≡ rest ∷ [])
+      → (ExprTakes rest → PExpr (expr_next f)) → PExpr (judged (first_at Language.Contracts d names t) expr_next)
   expr_word w f rest hit is begins ok =
-      subst (λ r. PExpr (judged (within_depth d r) expr_next)) (sym (of_word (λ z. first_of names z ≡ Ok f) w t hit (is t.left)))
+      subst (λ r. PExpr (judged (within_depth Language.Contracts d r) expr_next)) (sym (of_word (λ z. first_of Language.Contracts names z ≡ Ok f) w t hit (is t.left)))
       (expr_form f rest (of_word (λ z. rests expression_all z ≡ rest ∷ []) w t hit (begins t.left)) ok)
 
-  expr_mark : (m : Bytes) (f : First) (rest : Form Symbol) → is_the_mark m t ≡ true → ((left : ℕ) → first_of names (record { kind = Mark; text = m; left = left }) ≡ Ok f) → ((left : ℕ) → rests expression_all (record { kind = Mark; text = m; left = left }) ≡ rest ∷ [])
-      → (ExprTakes rest → PExpr (expr_next f)) → PExpr (judged (first_at d names t) expr_next)
+  expr_mark : (m : Bytes) (f : First) (rest : Form Symbol) → is_the_mark m t ≡ true → ((left : ℕ) → first_of Language.Contracts names (record { kind = Mark; text = m; left = left }) ≡ Ok f) → ((left : ℕ) → rests expression_all (record { kind = Mark; text = m; left = left }) ≡ rest ∷ [])
+      → (ExprTakes rest → PExpr (expr_next f)) → PExpr (judged (first_at Language.Contracts d names t) expr_next)
   expr_mark m f rest hit is begins ok =
-      subst (λ r. PExpr (judged (within_depth d r) expr_next)) (sym (of_mark (λ z. first_of names z ≡ Ok f) m t hit (is t.left)))
+      subst (λ r. PExpr (judged (within_depth Language.Contracts d r) expr_next)) (sym (of_mark (λ z. first_of Language.Contracts names z ≡ Ok f) m t hit (is t.left)))
       (expr_form f rest (of_mark (λ z. rests expression_all z ≡ rest ∷ []) m t hit (begins t.left)) ok)
 
-  number_value : (o : Option Decimal) → rests expression_all t ≡ [] ∷ [] → PExpr (judged (within_depth d (first_number (signed_decimal false o))) expr_next)
+  number_value : (o : Option Decimal) → rests expression_all t ≡ [] ∷ [] → PExpr (judged (within_depth Language.Contracts d (first_number (signed_decimal false o))) expr_next)
   number_value None begins = (symbol_takes portfolio_forms starts Expression [] (all_parts ps) t begins).back [] empty
   number_value (Some x) begins = expr_form (First.Number _) [] begins (λ takes. (decided, takes))
 
-  expr_number : is_number t ≡ true → PExpr (judged (first_at d names t) expr_next)
+  expr_number : is_number t ≡ true → PExpr (judged (first_at Language.Contracts d names t) expr_next)
   expr_number hit =
       let value : literal_at false t ≡ signed_decimal false (decimal_of t.text) = rw hit refl in
-      subst (λ r. PExpr (judged (within_depth d r) expr_next)) (sym (first_is_number names t hit ∙ ap first_number value))
+      subst (λ r. PExpr (judged (within_depth Language.Contracts d r) expr_next)) (sym (first_is_number Language.Contracts names t hit ∙ ap first_number value))
       (number_value (decimal_of t.text) (of_number (λ z. rests expression_all z ≡ [] ∷ []) t hit refl))
 
-  name_value : (o : Option ℕ) → rests expression_all t ≡ [] ∷ [] → PExpr (judged (within_depth d (first_name (or_fault kind.Unknown o))) expr_next)
+  name_value : (o : Option ℕ) → rests expression_all t ≡ [] ∷ [] → PExpr (judged (within_depth Language.Contracts d (first_name (or_fault kind.Unknown o))) expr_next)
   name_value None begins = deep_fault (nat_lt 200 d) ((symbol_takes portfolio_forms starts Expression [] (all_parts ps) t begins).back [] empty)
   name_value (Some back) begins = expr_form (First.Name back) [] begins (λ takes. (decided, takes))
 
@@ -131,13 +132,13 @@ module _ (s : Scope) (d : ℕ) (names : List Bytes) (ps : List Place) (decided :
       )
       (rw (the_name t hit) refl)
 
-  expr_name : is_name t ≡ true → PExpr (judged (first_at d names t) expr_next)
+  expr_name : is_name t ≡ true → PExpr (judged (first_at Language.Contracts d names t) expr_next)
   expr_name hit =
       let value : variable_at names t ≡ or_fault kind.Unknown (back_to names t.text) = rw hit refl in
-      subst (λ r. PExpr (judged (within_depth d r) expr_next)) (sym (first_is_name names t hit ∙ ap first_name value))
+      subst (λ r. PExpr (judged (within_depth Language.Contracts d r) expr_next)) (sym (first_is_name Language.Contracts names t hit ∙ ap first_name value))
       (name_value (back_to names t.text) (name_rests hit))
 
-  pub expr_stepped : Stepped (an_expression ∷ all_parts ps) t (judged (first_at d names t) expr_next)
+  pub expr_stepped : Stepped (an_expression ∷ all_parts ps) t (judged (first_at Language.Contracts d names t) expr_next)
   expr_stepped =
       either (is_number t) expr_number (λ n0.
       either (is_name t) expr_name (λ n1.
@@ -155,8 +156,8 @@ module _ (s : Scope) (d : ℕ) (names : List Bytes) (ps : List Place) (decided :
       either (is_the_word (codes "round") t) (λ hit. expr_word (codes "round") First.Round (args (a_mode ∷ an_integer ∷ an_expression ∷ [])) hit (λ left. refl) (λ left. refl) (λ takes. (decided, takes))) (λ n13.
       either (is_the_word (codes "div") t) (λ hit. expr_word (codes "div") First.Div (args (a_mode ∷ an_integer ∷ an_expression ∷ an_expression ∷ [])) hit (λ left. refl) (λ left. refl) (λ takes. (decided, takes))) (λ n14.
       either (is_the_word (codes "acc") t) (λ hit. expr_word (codes "acc") First.Acc (args (a_name ∷ an_expression ∷ an_integer ∷ an_expression ∷ [])) hit (λ left. refl) (λ left. refl) (λ takes. (decided, takes))) (λ n15.
-      let none : first_of names t ≡ Err kind.Syntax = rw (n0, n1, n2, n3, n4, n5, n6, n7, n8, n9, n10, n11, n12, n13, n14, n15) refl in
-      subst (λ r. PExpr (judged (within_depth d r) expr_next)) (sym none)
+      let none : first_of Language.Contracts names t ≡ Err kind.Syntax = rw (n0, n1, n2, n3, n4, n5, n6, n7, n8, n9, n10, n11, n12, n13, n14, n15) refl in
+      subst (λ r. PExpr (judged (within_depth Language.Contracts d r) expr_next)) (sym none)
       (symbol_bars portfolio_forms starts Expression (all_parts ps) t (rw (n0, n1, n2, n3, n4, n5, n6, n7, n8, n9, n10, n11, n12, n13, n14, n15) refl))))))))))))))))))
 
   -- ---- contracts
@@ -175,7 +176,7 @@ module _ (s : Scope) (d : ℕ) (names : List Bytes) (ps : List Place) (decided :
       → (Takes portfolio_forms (a_contract ∷ all_parts ps) t (rest ++ all_parts ps) → PContr (contr_next h)) → PContr (judged (head_at d t) contr_next)
   contr_word w h rest hit is begins ok =
       let takes = symbol_takes portfolio_forms starts Contract rest (all_parts ps) t (of_word (λ z. rests contract_all z ≡ rest ∷ []) w t hit (begins t.left)) in
-      subst (λ r. PContr (judged (within_depth d r) contr_next)) (sym (of_word (λ z. head_of z ≡ Ok h) w t hit (is t.left)))
+      subst (λ r. PContr (judged (within_depth Language.Contracts d r) contr_next)) (sym (of_word (λ z. head_of z ≡ Ok h) w t hit (is t.left)))
       (deep_head h (nat_lt 200 d) (takes.back [] empty) (ok takes))
 
   pub contr_stepped : Stepped (a_contract ∷ all_parts ps) t (judged (head_at d t) contr_next)
@@ -188,5 +189,5 @@ module _ (s : Scope) (d : ℕ) (names : List Bytes) (ps : List Place) (decided :
       either (is_the_word (codes "let") t) (λ hit. contr_word (codes "let") Head.Let (a_name ∷ the_mark (codes "=") ∷ an_expression ∷ the_word (codes "in") ∷ a_contract ∷ []) hit (λ left. refl) (λ left. refl) (λ takes. (decided, takes))) (λ n5.
       either (is_the_word (codes "if") t) (λ hit. contr_word (codes "if") Head.If (an_expression ∷ the_word (codes "within") ∷ a_count ∷ the_word (codes "then") ∷ a_contract ∷ the_word (codes "else") ∷ a_contract ∷ []) hit (λ left. refl) (λ left. refl) (λ takes. (decided, takes))) (λ n6.
       let none : head_of t ≡ Err kind.Syntax = rw (n0, n1, n2, n3, n4, n5, n6) refl in
-      subst (λ r. PContr (judged (within_depth d r) contr_next)) (sym none)
+      subst (λ r. PContr (judged (within_depth Language.Contracts d r) contr_next)) (sym none)
       (symbol_bars portfolio_forms starts Contract (all_parts ps) t (rw (n0, n1, n2, n3, n4, n5, n6) refl)))))))))

@@ -6,6 +6,7 @@ pub mod Steps
 pub mod Parts
 pub mod HeadFacts
 pub mod Passing
+pub mod PlusFacts
 pub mod TermsTaken
 pub mod LinesTaken
 pub mod TextFacts

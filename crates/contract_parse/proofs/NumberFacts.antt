@@ -15,6 +15,9 @@ past_limit most n m ds is h = let past : most < n = omega (arith, number_after-g
 pub fits_small : (n : ℤ) → unsigned_abs n ≤ 1_000_000 → FitsSigned w32 n
 fits_small n h = fits_signed_from_abs w32 n (omega arith)
 
+pub fits_days : (n : ℤ) → unsigned_abs n ≤ 2_000_000 → FitsSigned w32 n
+fits_days n h = fits_signed_from_abs w32 n (omega arith)
+
 pub fits_day : (n : ℤ) → unsigned_abs n ≤ 400_000 → FitsSigned w64 n
 fits_day n h = fits_signed_from_abs w64 n (omega arith)
 

@@ -8,6 +8,7 @@ use Rattle.contract_parse.specs.Words.{Bytes, is_end, is_end_kind, is_mark_kind,
 use Rattle.contract_parse.specs.Names.{Scope}
 use Rattle.contract_parse.specs.Spelling.{mark, one, valued, word}
 use Rattle.contract_parse.specs.Places.{Place, TheMark, TheWord, Next, Open, run, step}
+use Rattle.contract_parse.specs.Reading.{LacksMark}
 use Rattle.contract_parse.proofs.Steps.{run-next}
 use Rattle.contract_parse.specs.declared.token.Kind.{Kind}
 use Rattle.contract_parse.specs.declared.token.Kind.TheVariants.{Word, Number, Date, Mark, End, Stray}
@@ -98,6 +99,14 @@ pub test_taken : (s s2 : Scope) (ps qs : List Place) (test : Tok → Bool) (ts r
 test_taken s s2 ps qs test ts rest next (t, is, passes) = rw is (run-next s s2 ps qs t rest (next t passes))
 
 -- ---- other tokens
+
+-- where one mark stands, another does not
+pub mark_lacks : (m other : Bytes) (ts rest : List Tok) → bytes_eq m other ≡ false → mark m ts rest → LacksMark other ts
+mark_lacks m other ts rest differ (t, is, passes) = record { first = t; after = rest; is = is; other = of_mark (λ z. is_the_mark other z ≡ false) m t passes differ }
+
+-- where a word stands, a mark does not
+pub word_lacks : (w other : Bytes) (ts rest : List Tok) → word w ts rest → LacksMark other ts
+word_lacks w other ts rest (t, is, passes) = record { first = t; after = rest; is = is; other = of_word (λ z. is_the_mark other z ≡ false) w t passes refl }
 
 pub not_word : (v w : Bytes) (t : Tok) → bytes_eq v w ≡ false → is_the_word v t ≡ true → is_the_word w t ≡ false
 not_word v w t other e = of_word (λ z. is_the_word w z ≡ false) v t e other

@@ -1,5 +1,5 @@
 -- A contract of a text names only what is declared or bound round it, and at most 200 terms are open at one place.
-use Rattle.std.proofs.Common.{◌≡◌, ℕ, ℤ, zero, suc, ◌+◌, ◌<◌, ◌≤◌, Bool, true, false, Option, Some, None, Result, Ok, Err, List, [], ◌∷◌, ◌++◌, length, add-one, sym, ap, inl, inr, arith, subst, refl, ◌∙◌}
+use Rattle.std.proofs.Common.{◌≡◌, ℕ, ℤ, suc, ◌+◌, ◌<◌, ◌≤◌, Bool, true, false, Option, Some, None, Result, Ok, Err, List, [], ◌∷◌, length, add-one, sym, inl, inr, arith, subst, refl}
 use Rattle.std.proofs.lemmas.List.{length-map}
 use Rattle.std.proofs.lemmas.Bool.Decides.{nat_tests}
 use Rattle.std.specs.Prelude.{All, option_map}
@@ -19,13 +19,14 @@ use Rattle.term_core.specs.declared.terms.Days.TheVariants.{Num as Count, Named}
 use Rattle.term_core.specs.declared.terms.NumOp.TheVariants.{Plus, Minus, Times, Min, Max}
 use Rattle.contract_parse.specs.Tokens.{Tok}
 use Rattle.contract_parse.specs.Words.{Bytes, is_name, is_integer}
-use Rattle.contract_parse.specs.Names.{Scope, back_to, place_in, scope_of}
+use Rattle.contract_parse.specs.Names.{back_to, place_in, scope_of}
 use Rattle.contract_parse.specs.Judgements.{counted, days_at, integer_at, named, offset_at, or_fault, signed_result, up_to, use_at, variable_at, whole}
-use Rattle.contract_parse.specs.Spelling.{contr, expr, valued, Signed}
+use Rattle.contract_parse.specs.Spelling.{contr, expr, valued}
+use Rattle.contract_parse.specs.declared.heads.Language.{Language}
 use Rattle.contract_parse.specs.Statements.{Entry, Repeat, none, more, contract_line}
 use Rattle.contract_parse.specs.Texts.{Text}
 use Rattle.contract_parse.specs.declared.faults.TextKind.{TextKind}
-use Rattle.contract_parse.specs.declared.faults.TextKind.TheVariants.{Syntax, Number, Unknown}
+use Rattle.contract_parse.specs.declared.faults.TextKind.TheVariants.{Number, Unknown}
 use Rattle.contract_parse.proofs.TextSizes.{contract_lines}
 
 -- ---- names
@@ -119,7 +120,7 @@ days_within d contracts t (Named i) e = elim (cases_Bool (is_integer t)) [
 
 abbrev ExpressionIsClosed : Declarations → Expression → Type 0
 ExpressionIsClosed d e =
-    (contracts names : List Bytes) (ts rest : List Tok) → expr (scope_of d contracts) names e ts rest → IsWellFormed d (length names) e
+    (contracts names : List Bytes) (ts rest : List Tok) → expr Language.Contracts (scope_of d contracts) names e ts rest → IsWellFormed d (length names) e
 
 under : (d : Declarations) (n : ℕ) (e : Expression) → IsWellFormed d (suc n) e → IsWellFormed d (n + 1) e
 under d n e h = rw add-one h

@@ -1,5 +1,5 @@
 -- How many bytes the tokens of a text have, and how many a term takes at least.
-use Rattle.std.proofs.Common.{◌≡◌, ℕ, zero, suc, ◌+◌, ◌-◌, ◌*◌, ◌≤◌, max, Bool, true, false, cond, Result, Ok, List, [], ◌∷◌, length, ap, inl, inr, arith, length-drop}
+use Rattle.std.proofs.Common.{◌≡◌, ℕ, ℤ, zero, suc, ◌+◌, ◌-◌, ◌*◌, ◌≤◌, max, Bool, true, false, cond, Result, Ok, List, [], ◌∷◌, length, ap, inl, inr, arith, length-drop}
 use Rattle.std.specs.Prelude.{codes}
 use Rattle.std.proofs.lemmas.List.{length-take}
 use Rattle.std.proofs.lemmas.Bool.{cases_Bool}
@@ -10,8 +10,9 @@ use Rattle.term_core.specs.declared.terms.NumOp.TheVariants.{Min, Max}
 use Rattle.contract_parse.specs.Tokens.{Tok, after_gap, extent_at, is_last, next_token, tokens, tokens_from}
 use Rattle.contract_parse.specs.Words.{Bytes, is_name}
 use Rattle.contract_parse.specs.Names.{Scope}
-use Rattle.contract_parse.specs.Judgements.{days_at, integer_at, literal_at, mode_at, offset_at, operator_at, binder_at, use_at, variable_at}
-use Rattle.contract_parse.specs.Spelling.{Part, ◌⨟◌, SomeName, Signed, contr, expr, mark, sign, valued, word}
+use Rattle.contract_parse.specs.Judgements.{date_number_at, days_at, integer_at, literal_at, mode_at, offset_at, operator_at, binder_at, use_at, variable_at}
+use Rattle.contract_parse.specs.Spelling.{DateFrom, Part, ◌⨟◌, SomeName, Signed, contr, dated_part, expr, leaf_of, mark, sign, templates_part, valued, word}
+use Rattle.contract_parse.specs.declared.heads.Language.{Language}
 use Rattle.contract_parse.specs.Payments.{payments_in}
 use Rattle.contract_parse.specs.declared.faults.TextKind.{TextKind}
 use Rattle.contract_parse.proofs.TokenFacts.{gap_shorter, shorter}
@@ -125,41 +126,55 @@ comma_least = mark_least (codes ",") (omega arith)
 close_least : AtLeast 1 (mark (codes ")"))
 close_least = mark_least (codes ")") (omega arith)
 
-pub expr_least : (s : Scope) (names : List Bytes) (e : Expression) → AtLeast (nodes e) (expr s names e)
-expr_least s names (Lit m k) = signed_least _ (λ negative. byte_least (literal_at negative) _ (λ t e. literal_more negative t _ e))
-expr_least s names (Yes true) = word_least (codes "true") 1 (omega arith)
-expr_least s names (Yes false) = word_least (codes "false") 1 (omega arith)
-expr_least s names (Var back) = byte_least (variable_at names) back (λ t e. variable_more names t back e)
-expr_least s names (Obs label n) =
+-- a date
+templates_least : (templates : List Bytes) (written : List ℕ) → AtLeast 0 (templates_part templates written)
+templates_least templates [] = record { least = λ ts rest x. rw x (omega arith) }
+templates_least templates (t ∷ written) = lighter (mark_least (codes "+") (omega arith) ▹ value_least (use_at templates) t ▹ templates_least templates written) (omega arith)
+
+pub date_least : (templates : List Bytes) (days : ℤ) (written : List ℕ) → AtLeast 0 (dated_part templates days written)
+date_least templates days written = signed_least _ (λ negative. value_least (date_number_at negative) days) ▹ templates_least templates written
+
+leaf_least : (language : Language) (s : Scope) (label : ℕ) (n : ℤ) → AtLeast 1 (leaf_of language s label n)
+leaf_least Language.Contracts s label n =
     lighter (word_least (codes "obs") 1 (omega arith) ▹ open_least ▹ value_least (use_at s.labels) label ▹ comma_least ▹ signed_least _ (λ negative. value_least (offset_at negative) n) ▹ close_least) (omega arith)
-expr_least s names (Neg e) = lighter (word_least (codes "neg") 1 (omega arith) ▹ open_least ▹ expr_least s names e ▹ close_least) (omega arith)
-expr_least s names (Not e) = lighter (word_least (codes "not") 1 (omega arith) ▹ open_least ▹ expr_least s names e ▹ close_least) (omega arith)
-expr_least s names (Num Min a b) = lighter (word_least (codes "min") 1 (omega arith) ▹ open_least ▹ expr_least s names a ▹ comma_least ▹ expr_least s names b ▹ close_least) (omega arith)
-expr_least s names (Num Max a b) = lighter (word_least (codes "max") 1 (omega arith) ▹ open_least ▹ expr_least s names a ▹ comma_least ▹ expr_least s names b ▹ close_least) (omega arith)
-expr_least s names (Num op a b) = lighter (open_least ▹ expr_least s names a ▹ value_least operator_at _ ▹ expr_least s names b ▹ close_least) (omega arith)
-expr_least s names (Cmp op a b) = lighter (open_least ▹ expr_least s names a ▹ value_least operator_at _ ▹ expr_least s names b ▹ close_least) (omega arith)
-expr_least s names (Logic op a b) = lighter (open_least ▹ expr_least s names a ▹ value_least operator_at _ ▹ expr_least s names b ▹ close_least) (omega arith)
-expr_least s names (Cond t a b) =
-    lighter (word_least (codes "if") 1 (omega arith) ▹ open_least ▹ expr_least s names t ▹ comma_least ▹ expr_least s names a ▹ comma_least ▹ expr_least s names b ▹ close_least) (omega arith)
-expr_least s names (Widen k e) = lighter (word_least (codes "widen") 1 (omega arith) ▹ open_least ▹ value_least (integer_at 27) k ▹ comma_least ▹ expr_least s names e ▹ close_least) (omega arith)
-expr_least s names (Round m k e) =
-    lighter (word_least (codes "round") 1 (omega arith) ▹ open_least ▹ value_least mode_at m ▹ comma_least ▹ value_least (integer_at 27) k ▹ comma_least ▹ expr_least s names e ▹ close_least) (omega arith)
-expr_least s names (Div m k a b) =
-    lighter (word_least (codes "div") 1 (omega arith) ▹ open_least ▹ value_least mode_at m ▹ comma_least ▹ value_least (integer_at 27) k ▹ comma_least ▹ expr_least s names a ▹ comma_least ▹ expr_least s names b ▹ close_least) (omega arith)
-expr_least s names (Acc body n first) =
-    some_least _ (λ name. lighter (word_least (codes "acc") 1 (omega arith) ▹ open_least ▹ value_least binder_at name ▹ comma_least ▹ expr_least s (name ∷ names) body ▹ comma_least ▹ value_least (integer_at 100_000) n ▹ comma_least ▹ expr_least s names first ▹ close_least) (omega arith))
+leaf_least Language.Code s label n =
+    let date : AtLeast 0 (DateFrom s.templates n) = record { least = λ ts rest x. (date_least s.templates x.days x.written).least ts rest x.spelled } in
+    lighter (word_least (codes "model") 1 (omega arith) ▹ open_least ▹ value_least (use_at s.labels) label ▹ comma_least ▹ date ▹ close_least) (omega arith)
+
+pub expr_least : (language : Language) (s : Scope) (names : List Bytes) (e : Expression) → AtLeast (nodes e) (expr language s names e)
+expr_least language s names (Lit m k) = signed_least _ (λ negative. byte_least (literal_at negative) _ (λ t e. literal_more negative t _ e))
+expr_least language s names (Yes true) = word_least (codes "true") 1 (omega arith)
+expr_least language s names (Yes false) = word_least (codes "false") 1 (omega arith)
+expr_least language s names (Var back) = byte_least (variable_at names) back (λ t e. variable_more names t back e)
+expr_least language s names (Obs label n) = leaf_least language s label n
+expr_least language s names (Neg e) = lighter (word_least (codes "neg") 1 (omega arith) ▹ open_least ▹ expr_least language s names e ▹ close_least) (omega arith)
+expr_least language s names (Not e) = lighter (word_least (codes "not") 1 (omega arith) ▹ open_least ▹ expr_least language s names e ▹ close_least) (omega arith)
+expr_least language s names (Num Min a b) = lighter (word_least (codes "min") 1 (omega arith) ▹ open_least ▹ expr_least language s names a ▹ comma_least ▹ expr_least language s names b ▹ close_least) (omega arith)
+expr_least language s names (Num Max a b) = lighter (word_least (codes "max") 1 (omega arith) ▹ open_least ▹ expr_least language s names a ▹ comma_least ▹ expr_least language s names b ▹ close_least) (omega arith)
+expr_least language s names (Num op a b) = lighter (open_least ▹ expr_least language s names a ▹ value_least operator_at _ ▹ expr_least language s names b ▹ close_least) (omega arith)
+expr_least language s names (Cmp op a b) = lighter (open_least ▹ expr_least language s names a ▹ value_least operator_at _ ▹ expr_least language s names b ▹ close_least) (omega arith)
+expr_least language s names (Logic op a b) = lighter (open_least ▹ expr_least language s names a ▹ value_least operator_at _ ▹ expr_least language s names b ▹ close_least) (omega arith)
+expr_least language s names (Cond t a b) =
+    lighter (word_least (codes "if") 1 (omega arith) ▹ open_least ▹ expr_least language s names t ▹ comma_least ▹ expr_least language s names a ▹ comma_least ▹ expr_least language s names b ▹ close_least) (omega arith)
+expr_least language s names (Widen k e) = lighter (word_least (codes "widen") 1 (omega arith) ▹ open_least ▹ value_least (integer_at 27) k ▹ comma_least ▹ expr_least language s names e ▹ close_least) (omega arith)
+expr_least language s names (Round m k e) =
+    lighter (word_least (codes "round") 1 (omega arith) ▹ open_least ▹ value_least mode_at m ▹ comma_least ▹ value_least (integer_at 27) k ▹ comma_least ▹ expr_least language s names e ▹ close_least) (omega arith)
+expr_least language s names (Div m k a b) =
+    lighter (word_least (codes "div") 1 (omega arith) ▹ open_least ▹ value_least mode_at m ▹ comma_least ▹ value_least (integer_at 27) k ▹ comma_least ▹ expr_least language s names a ▹ comma_least ▹ expr_least language s names b ▹ close_least) (omega arith)
+expr_least language s names (Acc body n first) =
+    some_least _ (λ name. lighter (word_least (codes "acc") 1 (omega arith) ▹ open_least ▹ value_least binder_at name ▹ comma_least ▹ expr_least language s (name ∷ names) body ▹ comma_least ▹ value_least (integer_at 100_000) n ▹ comma_least ▹ expr_least language s names first ▹ close_least) (omega arith))
 
 pub contr_least : (s : Scope) (names : List Bytes) (c : Contract) → AtLeast (nodes_of_contract c) (contr s names c)
 contr_least s names Zero = word_least (codes "zero") 1 (omega arith)
 contr_least s names (Pay asset from to) =
     lighter (word_least (codes "pay") 1 (omega arith) ▹ open_least ▹ value_least (use_at s.assets) asset ▹ comma_least ▹ value_least (use_at s.parties) from ▹ comma_least ▹ value_least (use_at s.parties) to ▹ close_least) (omega arith)
 contr_least s names (Both a b) = lighter (word_least (codes "both") 1 (omega arith) ▹ open_least ▹ contr_least s names a ▹ comma_least ▹ contr_least s names b ▹ close_least) (omega arith)
-contr_least s names (Scale e c) = lighter (word_least (codes "scale") 1 (omega arith) ▹ open_least ▹ expr_least s names e ▹ comma_least ▹ contr_least s names c ▹ close_least) (omega arith)
+contr_least s names (Scale e c) = lighter (word_least (codes "scale") 1 (omega arith) ▹ open_least ▹ expr_least Language.Contracts s names e ▹ comma_least ▹ contr_least s names c ▹ close_least) (omega arith)
 contr_least s names (After n c) = lighter (word_least (codes "after") 1 (omega arith) ▹ open_least ▹ value_least (days_at s.templates) n ▹ comma_least ▹ contr_least s names c ▹ close_least) (omega arith)
 contr_least s names (Let e c) =
-    some_least _ (λ name. lighter (word_least (codes "let") 1 (omega arith) ▹ value_least binder_at name ▹ mark_least (codes "=") (omega arith) ▹ expr_least s names e ▹ word_least (codes "in") 1 (omega arith) ▹ contr_least s (name ∷ names) c) (omega arith))
+    some_least _ (λ name. lighter (word_least (codes "let") 1 (omega arith) ▹ value_least binder_at name ▹ mark_least (codes "=") (omega arith) ▹ expr_least Language.Contracts s names e ▹ word_least (codes "in") 1 (omega arith) ▹ contr_least s (name ∷ names) c) (omega arith))
 contr_least s names (Within e n a b) =
-    lighter (word_least (codes "if") 1 (omega arith) ▹ expr_least s names e ▹ word_least (codes "within") 1 (omega arith) ▹ value_least (days_at s.templates) n ▹ word_least (codes "then") 1 (omega arith) ▹ contr_least s names a ▹ word_least (codes "else") 1 (omega arith) ▹ contr_least s names b) (omega arith)
+    lighter (word_least (codes "if") 1 (omega arith) ▹ expr_least Language.Contracts s names e ▹ word_least (codes "within") 1 (omega arith) ▹ value_least (days_at s.templates) n ▹ word_least (codes "then") 1 (omega arith) ▹ contr_least s names a ▹ word_least (codes "else") 1 (omega arith) ▹ contr_least s names b) (omega arith)
 
 -- a payment takes 10 bytes, and two contracts 7 more
 pub payments_least : (s : Scope) (names : List Bytes) (c : Contract) → AtLeast (17 * payments_in c - 7) (contr s names c)
@@ -167,9 +182,9 @@ payments_least s names Zero = word_least (codes "zero") 0 (omega arith)
 payments_least s names (Pay asset from to) =
     lighter (word_least (codes "pay") 3 (omega arith) ▹ open_least ▹ byte_least (use_at s.assets) asset (λ t e. use_more s.assets t asset e) ▹ comma_least ▹ byte_least (use_at s.parties) from (λ t e. use_more s.parties t from e) ▹ comma_least ▹ byte_least (use_at s.parties) to (λ t e. use_more s.parties t to e) ▹ close_least) (omega arith)
 payments_least s names (Both a b) = lighter (word_least (codes "both") 4 (omega arith) ▹ open_least ▹ payments_least s names a ▹ comma_least ▹ payments_least s names b ▹ close_least) (omega arith)
-payments_least s names (Scale e c) = lighter (word_least (codes "scale") 5 (omega arith) ▹ open_least ▹ expr_least s names e ▹ comma_least ▹ payments_least s names c ▹ close_least) (omega arith)
+payments_least s names (Scale e c) = lighter (word_least (codes "scale") 5 (omega arith) ▹ open_least ▹ expr_least Language.Contracts s names e ▹ comma_least ▹ payments_least s names c ▹ close_least) (omega arith)
 payments_least s names (After n c) = lighter (word_least (codes "after") 5 (omega arith) ▹ open_least ▹ value_least (days_at s.templates) n ▹ comma_least ▹ payments_least s names c ▹ close_least) (omega arith)
 payments_least s names (Let e c) =
-    some_least _ (λ name. lighter (word_least (codes "let") 3 (omega arith) ▹ value_least binder_at name ▹ mark_least (codes "=") (omega arith) ▹ expr_least s names e ▹ word_least (codes "in") 2 (omega arith) ▹ payments_least s (name ∷ names) c) (omega arith))
+    some_least _ (λ name. lighter (word_least (codes "let") 3 (omega arith) ▹ value_least binder_at name ▹ mark_least (codes "=") (omega arith) ▹ expr_least Language.Contracts s names e ▹ word_least (codes "in") 2 (omega arith) ▹ payments_least s (name ∷ names) c) (omega arith))
 payments_least s names (Within e n a b) =
-    lighter (word_least (codes "if") 2 (omega arith) ▹ expr_least s names e ▹ word_least (codes "within") 6 (omega arith) ▹ value_least (days_at s.templates) n ▹ word_least (codes "then") 4 (omega arith) ▹ payments_least s names a ▹ word_least (codes "else") 4 (omega arith) ▹ payments_least s names b) (omega arith)
+    lighter (word_least (codes "if") 2 (omega arith) ▹ expr_least Language.Contracts s names e ▹ word_least (codes "within") 6 (omega arith) ▹ value_least (days_at s.templates) n ▹ word_least (codes "then") 4 (omega arith) ▹ payments_least s names a ▹ word_least (codes "else") 4 (omega arith) ▹ payments_least s names b) (omega arith)

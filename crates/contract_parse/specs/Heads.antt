@@ -1,4 +1,5 @@
--- What a term begins with: the first token decides its form.
+-- What a term begins with: the first token decides its form. Contracts and payoff code differ in the word that reads an
+-- observable, and in how many terms may be open at one place.
 use Rattle.std.specs.Prelude.{ℕ, Bool, true, false, List, Result, Ok, Err, codes, nat_lt, if◌then◌else◌}
 use Rattle.decimal.specs.declared.Decimal.{Decimal}
 use Rattle.contract_parse.specs.Tokens.{Tok}
@@ -6,8 +7,19 @@ use Rattle.contract_parse.specs.Words.{Bytes, is_the_word, is_the_mark, is_name,
 use Rattle.contract_parse.specs.Judgements.{literal_at, variable_at}
 use Rattle.contract_parse.specs.declared.faults.TextKind.{TextKind}
 use Rattle.contract_parse.specs.declared.faults.TextKind.TheVariants.{Syntax, Number, Date, Deep, Range, Twice, Unknown, Utf8}
+use Rattle.contract_parse.specs.declared.heads.Language.{Language}
 use Rattle.contract_parse.specs.declared.heads.First.{First}
 use Rattle.contract_parse.specs.declared.heads.Head.{Head}
+use Rattle.contract_parse.specs.declared.heads.AmountHead.{AmountHead}
+
+-- the word that reads an observable
+abbrev pub leaf_word : Language → Bytes
+leaf_word Language.Contracts = codes "obs"
+leaf_word Language.Code = codes "model"
+
+abbrev pub greatest_depth : Language → ℕ
+greatest_depth Language.Contracts = 200
+greatest_depth Language.Code = 400
 
 abbrev pub first_number : Result Decimal TextKind → Result First TextKind
 first_number (Ok d) = Ok (First.Number d)
@@ -18,11 +30,10 @@ first_name (Ok back) = Ok (First.Name back)
 first_name (Err kind) = Err kind
 
 -- a reserved word that begins an expression
-abbrev pub first_word : Tok → Result First TextKind
-first_word t =
+abbrev pub first_word : Language → Tok → Result First TextKind
+first_word l t =
     if is_the_word (codes "true") t then Ok First.True
     else if is_the_word (codes "false") t then Ok First.False
-    else if is_the_word (codes "obs") t then Ok First.Obs
     else if is_the_word (codes "neg") t then Ok First.Neg
     else if is_the_word (codes "not") t then Ok First.Not
     else if is_the_word (codes "min") t then Ok First.Min
@@ -32,16 +43,17 @@ first_word t =
     else if is_the_word (codes "round") t then Ok First.Round
     else if is_the_word (codes "div") t then Ok First.Div
     else if is_the_word (codes "acc") t then Ok First.Acc
+    else if is_the_word (leaf_word l) t then Ok First.Obs
     else Err Syntax
 
 -- what an expression begins with, under the names that are bound round it
-abbrev pub first_of : List Bytes → Tok → Result First TextKind
-first_of names t =
+abbrev pub first_of : Language → List Bytes → Tok → Result First TextKind
+first_of l names t =
     if is_number t then first_number (literal_at false t)
     else if is_name t then first_name (variable_at names t)
     else if is_the_mark (codes "-") t then Ok First.Minus
     else if is_the_mark (codes "(") t then Ok First.Open
-    else first_word t
+    else first_word l t
 
 -- the faults that come before that of the depth
 abbrev pub is_before_depth : TextKind → Bool
@@ -55,12 +67,12 @@ is_before_depth Unknown = false
 is_before_depth Utf8 = false
 
 -- a term that begins at this depth
-abbrev pub within_depth : {X : Type 0} → ℕ → Result X TextKind → Result X TextKind
-within_depth depth (Ok x) = if nat_lt 200 depth then Err Deep else Ok x
-within_depth depth (Err kind) = if is_before_depth kind then Err kind else if nat_lt 200 depth then Err Deep else Err kind
+abbrev pub within_depth : {X : Type 0} → Language → ℕ → Result X TextKind → Result X TextKind
+within_depth l depth (Ok x) = if nat_lt (greatest_depth l) depth then Err Deep else Ok x
+within_depth l depth (Err kind) = if is_before_depth kind then Err kind else if nat_lt (greatest_depth l) depth then Err Deep else Err kind
 
-abbrev pub first_at : ℕ → List Bytes → Tok → Result First TextKind
-first_at depth names t = within_depth depth (first_of names t)
+abbrev pub first_at : Language → ℕ → List Bytes → Tok → Result First TextKind
+first_at l depth names t = within_depth l depth (first_of l names t)
 
 -- what a contract begins with
 abbrev pub head_of : Tok → Result Head TextKind
@@ -75,4 +87,19 @@ head_of t =
     else Err Syntax
 
 abbrev pub head_at : ℕ → Tok → Result Head TextKind
-head_at depth t = within_depth depth (head_of t)
+head_at depth t = within_depth Language.Contracts depth (head_of t)
+
+-- what an amount of payoff code begins with
+abbrev pub amount_head_of : Tok → Result AmountHead TextKind
+amount_head_of t =
+    if is_the_word (codes "none") t then Ok AmountHead.None
+    else if is_the_word (codes "pay") t then Ok AmountHead.Pay
+    else if is_the_word (codes "add") t then Ok AmountHead.Add
+    else if is_the_word (codes "scale") t then Ok AmountHead.Scale
+    else if is_the_word (codes "let") t then Ok AmountHead.Let
+    else if is_the_word (codes "loop") t then Ok AmountHead.Loop
+    else if is_the_word (codes "cut") t then Ok AmountHead.Cut
+    else Err Syntax
+
+abbrev pub amount_head_at : ℕ → Tok → Result AmountHead TextKind
+amount_head_at depth t = within_depth Language.Code depth (amount_head_of t)

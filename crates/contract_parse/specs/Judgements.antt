@@ -49,6 +49,10 @@ signed_result negative (Err kind) = Err kind
 abbrev pub offset_at : Bool → Tok → Result ℤ TextKind
 offset_at negative t = signed_result negative (integer_at 1_000_000 t)
 
+-- the number of a date of payoff code, behind its sign
+abbrev pub date_number_at : Bool → Tok → Result ℤ TextKind
+date_number_at negative t = signed_result negative (integer_at 2_000_000 t)
+
 abbrev pub with_sign : Bool → Decimal → Decimal
 with_sign negative d = record { mant = if negative then neg_ℤ d.mant else d.mant; scale = d.scale }
 

@@ -10,18 +10,21 @@ use Rattle.term_core.specs.WellFormed.{IsClosed}
 use Rattle.contract_parse.specs.Tokens.{Tok, tokens}
 use Rattle.contract_parse.specs.Words.{Bytes, is_the_word, is_end}
 use Rattle.contract_parse.specs.Names.{Scope, nothing_declared, scope_of}
+use Rattle.contract_parse.specs.Heads.{greatest_depth}
 use Rattle.contract_parse.specs.Spelling.{expr, contr}
 use Rattle.contract_parse.specs.Statements.{decls}
 use Rattle.contract_parse.specs.Places.{Place, ExprAt, ContrAt, Open, decls_places, run, text_places}
 use Rattle.contract_parse.specs.Texts.{Text, IsFault}
 use Rattle.contract_parse.specs.Payments.{payments_in}
 use Rattle.contract_parse.specs.Sample.{sample_book, sample_text}
+use Rattle.contract_parse.specs.declared.heads.Language.{Language}
 use Rattle.contract_parse.specs.declared.faults.TextFault.{TextFault}
 
--- at most 200 terms are open at one place, and the term's own depth is counted
+-- at most 200 terms are open at one place, and 400 in payoff code; the term's own depth is counted
 abbrev pub ExpressionIsTaken : Type 0
 ExpressionIsTaken =
-    (s : Scope) (names : List Bytes) (e : Expression) (depth : ℕ) (ps : List Place) (ts rest : List Tok) → depth + height e ≤ 201 → expr s names e ts rest → run s (ExprAt depth names ∷ ps) ts ≡ run s ps rest
+    (l : Language) (s : Scope) (names : List Bytes) (e : Expression) (depth : ℕ) (ps : List Place) (ts rest : List Tok)
+    → depth + height e ≤ greatest_depth l + 1 → expr l s names e ts rest → run s (ExprAt l depth names ∷ ps) ts ≡ run s ps rest
 
 abbrev pub ContractIsTaken : Type 0
 ContractIsTaken =

@@ -5,12 +5,14 @@ use Rattle.std.specs.Prelude.{◌≡◌, ℕ, ℤ, ◌+◌, Bool, true, false, L
 use Rattle.contract_parse.specs.Tokens.{Tok}
 use Rattle.contract_parse.specs.Words.{Bytes, is_the_word, is_the_mark, is_end}
 use Rattle.contract_parse.specs.Names.{Scope, names_of, with_names}
-use Rattle.contract_parse.specs.Judgements.{binder_at, bound_at, days_at, integer_at, is_version, literal_at, mode_at, new_at, offset_at, operator_at, origin_at, separator_at, use_at}
-use Rattle.contract_parse.specs.Heads.{first_at, head_at}
+use Rattle.contract_parse.specs.Judgements.{binder_at, bound_at, date_number_at, days_at, integer_at, is_version, literal_at, mode_at, new_at, offset_at, operator_at, origin_at, separator_at, use_at}
+use Rattle.contract_parse.specs.Heads.{amount_head_at, first_at, head_at}
 use Rattle.contract_parse.specs.declared.names.NameSet.{NameSet}
 use Rattle.contract_parse.specs.declared.names.NameSet.TheVariants.{Party, Asset, Label, Template, Contract}
+use Rattle.contract_parse.specs.declared.heads.Language.{Language}
 use Rattle.contract_parse.specs.declared.heads.First.{First}
 use Rattle.contract_parse.specs.declared.heads.Head.{Head}
+use Rattle.contract_parse.specs.declared.heads.AmountHead.{AmountHead}
 use Rattle.contract_parse.specs.declared.heads.Binder.{Binder}
 use Rattle.contract_parse.specs.declared.heads.Binder.TheVariants as binder
 use Rattle.contract_parse.specs.declared.faults.TextKind.{TextKind}
@@ -48,10 +50,15 @@ pub data Place : Type 0 where
   DaysAt : (templates : List Bytes) → Place
   ModeAt : Place
   OperatorAt : Place
-  BinderAt : (binder : Binder) (depth : ℕ) (names : List Bytes) → Place
+  -- a date of payoff code: its number, and templates behind it
+  DateAt : Place
+  DateNumber : (negative : Bool) → Place
+  MoreTemplates : Place
+  BinderAt : (binder : Binder) (language : Language) (depth : ℕ) (names : List Bytes) → Place
   -- a term of a depth under bound names
-  ExprAt : (depth : ℕ) (names : List Bytes) → Place
+  ExprAt : (language : Language) (depth : ℕ) (names : List Bytes) → Place
   ContrAt : (depth : ℕ) (names : List Bytes) → Place
+  AmountAt : (depth : ℕ) (names : List Bytes) → Place
   -- what another grammar reads: it takes any token
   AnyTokens : Place
 
@@ -77,11 +84,19 @@ abbrev pub list_places : NameSet → Bool → List Place → List Place
 list_places set true ps = NewIn set ∷ MoreNames set ∷ ps
 list_places set false ps = ps
 
+-- what stands in a `let` behind its expression: a contract, or an amount of payoff code
+abbrev pub term_at : Language → ℕ → List Bytes → Place
+term_at Language.Contracts d names = ContrAt d names
+term_at Language.Code d names = AmountAt d names
+
 -- what follows a name that is bound
-abbrev pub binder_places : Binder → ℕ → List Bytes → Bytes → List Place → List Place
-binder_places binder.Let d names name ps = TheMark (codes "=") ∷ ExprAt (d + 1) names ∷ TheWord (codes "in") ∷ ContrAt (d + 1) (name ∷ names) ∷ ps
-binder_places binder.Acc d names name ps =
-    TheMark (codes ",") ∷ ExprAt (d + 1) (name ∷ names) ∷ TheMark (codes ",") ∷ IntegerAt 100_000 ∷ TheMark (codes ",") ∷ ExprAt (d + 1) names ∷ TheMark (codes ")") ∷ ps
+abbrev pub binder_places : Binder → Language → ℕ → List Bytes → Bytes → List Place → List Place
+binder_places binder.Let l d names name ps = TheMark (codes "=") ∷ ExprAt l (d + 1) names ∷ TheWord (codes "in") ∷ term_at l (d + 1) (name ∷ names) ∷ ps
+binder_places binder.Acc l d names name ps =
+    TheMark (codes ",") ∷ ExprAt l (d + 1) (name ∷ names) ∷ TheMark (codes ",") ∷ IntegerAt 100_000 ∷ TheMark (codes ",") ∷ ExprAt l (d + 1) names ∷ TheMark (codes ")") ∷ ps
+
+abbrev pub date_places : List Place → List Place
+date_places ps = DateAt ∷ MoreTemplates ∷ ps
 
 -- one term, and two, in parentheses
 abbrev pub operand_places : Place → List Place → List Place
@@ -90,26 +105,31 @@ operand_places p ps = TheMark (codes "(") ∷ p ∷ TheMark (codes ")") ∷ ps
 abbrev pub pair_places : Place → Place → List Place → List Place
 pair_places p q ps = TheMark (codes "(") ∷ p ∷ TheMark (codes ",") ∷ q ∷ TheMark (codes ")") ∷ ps
 
+-- what follows the word that reads an observable
+abbrev pub leaf_places : Scope → Language → List Place → List Place
+leaf_places s Language.Contracts ps = pair_places (UseOf s.labels) OffsetAt ps
+leaf_places s Language.Code ps = TheMark (codes "(") ∷ UseOf s.labels ∷ TheMark (codes ",") ∷ date_places (TheMark (codes ")") ∷ ps)
+
 -- what follows the first token of an expression
-abbrev pub expr_places : Scope → ℕ → List Bytes → First → List Place → List Place
-expr_places s d names (First.Number number) ps = ps
-expr_places s d names (First.Name back) ps = ps
-expr_places s d names First.True ps = ps
-expr_places s d names First.False ps = ps
-expr_places s d names First.Minus ps = LiteralNumber true ∷ ps
-expr_places s d names First.Open ps = ExprAt (d + 1) names ∷ OperatorAt ∷ ExprAt (d + 1) names ∷ TheMark (codes ")") ∷ ps
-expr_places s d names First.Obs ps = pair_places (UseOf s.labels) OffsetAt ps
-expr_places s d names First.Neg ps = operand_places (ExprAt (d + 1) names) ps
-expr_places s d names First.Not ps = operand_places (ExprAt (d + 1) names) ps
-expr_places s d names First.Min ps = pair_places (ExprAt (d + 1) names) (ExprAt (d + 1) names) ps
-expr_places s d names First.Max ps = pair_places (ExprAt (d + 1) names) (ExprAt (d + 1) names) ps
-expr_places s d names First.If ps =
-    TheMark (codes "(") ∷ ExprAt (d + 1) names ∷ TheMark (codes ",") ∷ ExprAt (d + 1) names ∷ TheMark (codes ",") ∷ ExprAt (d + 1) names ∷ TheMark (codes ")") ∷ ps
-expr_places s d names First.Widen ps = pair_places (IntegerAt 27) (ExprAt (d + 1) names) ps
-expr_places s d names First.Round ps = TheMark (codes "(") ∷ ModeAt ∷ TheMark (codes ",") ∷ IntegerAt 27 ∷ TheMark (codes ",") ∷ ExprAt (d + 1) names ∷ TheMark (codes ")") ∷ ps
-expr_places s d names First.Div ps =
-    TheMark (codes "(") ∷ ModeAt ∷ TheMark (codes ",") ∷ IntegerAt 27 ∷ TheMark (codes ",") ∷ ExprAt (d + 1) names ∷ TheMark (codes ",") ∷ ExprAt (d + 1) names ∷ TheMark (codes ")") ∷ ps
-expr_places s d names First.Acc ps = TheMark (codes "(") ∷ BinderAt binder.Acc d names ∷ ps
+abbrev pub expr_places : Scope → Language → ℕ → List Bytes → First → List Place → List Place
+expr_places s l d names (First.Number number) ps = ps
+expr_places s l d names (First.Name back) ps = ps
+expr_places s l d names First.True ps = ps
+expr_places s l d names First.False ps = ps
+expr_places s l d names First.Minus ps = LiteralNumber true ∷ ps
+expr_places s l d names First.Open ps = ExprAt l (d + 1) names ∷ OperatorAt ∷ ExprAt l (d + 1) names ∷ TheMark (codes ")") ∷ ps
+expr_places s l d names First.Obs ps = leaf_places s l ps
+expr_places s l d names First.Neg ps = operand_places (ExprAt l (d + 1) names) ps
+expr_places s l d names First.Not ps = operand_places (ExprAt l (d + 1) names) ps
+expr_places s l d names First.Min ps = pair_places (ExprAt l (d + 1) names) (ExprAt l (d + 1) names) ps
+expr_places s l d names First.Max ps = pair_places (ExprAt l (d + 1) names) (ExprAt l (d + 1) names) ps
+expr_places s l d names First.If ps =
+    TheMark (codes "(") ∷ ExprAt l (d + 1) names ∷ TheMark (codes ",") ∷ ExprAt l (d + 1) names ∷ TheMark (codes ",") ∷ ExprAt l (d + 1) names ∷ TheMark (codes ")") ∷ ps
+expr_places s l d names First.Widen ps = pair_places (IntegerAt 27) (ExprAt l (d + 1) names) ps
+expr_places s l d names First.Round ps = TheMark (codes "(") ∷ ModeAt ∷ TheMark (codes ",") ∷ IntegerAt 27 ∷ TheMark (codes ",") ∷ ExprAt l (d + 1) names ∷ TheMark (codes ")") ∷ ps
+expr_places s l d names First.Div ps =
+    TheMark (codes "(") ∷ ModeAt ∷ TheMark (codes ",") ∷ IntegerAt 27 ∷ TheMark (codes ",") ∷ ExprAt l (d + 1) names ∷ TheMark (codes ",") ∷ ExprAt l (d + 1) names ∷ TheMark (codes ")") ∷ ps
+expr_places s l d names First.Acc ps = TheMark (codes "(") ∷ BinderAt binder.Acc l d names ∷ ps
 
 -- what follows the first token of a contract
 abbrev pub contr_places : Scope → ℕ → List Bytes → Head → List Place → List Place
@@ -117,11 +137,23 @@ contr_places s d names Head.Zero ps = ps
 contr_places s d names Head.Pay ps =
     TheMark (codes "(") ∷ UseOf s.assets ∷ TheMark (codes ",") ∷ UseOf s.parties ∷ TheMark (codes ",") ∷ UseOf s.parties ∷ TheMark (codes ")") ∷ ps
 contr_places s d names Head.Both ps = pair_places (ContrAt (d + 1) names) (ContrAt (d + 1) names) ps
-contr_places s d names Head.Scale ps = pair_places (ExprAt (d + 1) names) (ContrAt (d + 1) names) ps
+contr_places s d names Head.Scale ps = pair_places (ExprAt Language.Contracts (d + 1) names) (ContrAt (d + 1) names) ps
 contr_places s d names Head.After ps = pair_places (DaysAt s.templates) (ContrAt (d + 1) names) ps
-contr_places s d names Head.Let ps = BinderAt binder.Let d names ∷ ps
+contr_places s d names Head.Let ps = BinderAt binder.Let Language.Contracts d names ∷ ps
 contr_places s d names Head.If ps =
-    ExprAt (d + 1) names ∷ TheWord (codes "within") ∷ DaysAt s.templates ∷ TheWord (codes "then") ∷ ContrAt (d + 1) names ∷ TheWord (codes "else") ∷ ContrAt (d + 1) names ∷ ps
+    ExprAt Language.Contracts (d + 1) names ∷ TheWord (codes "within") ∷ DaysAt s.templates ∷ TheWord (codes "then") ∷ ContrAt (d + 1) names ∷ TheWord (codes "else") ∷ ContrAt (d + 1) names ∷ ps
+
+-- what follows the first token of an amount of payoff code
+abbrev pub amount_places : Scope → ℕ → List Bytes → AmountHead → List Place → List Place
+amount_places s d names AmountHead.None ps = ps
+amount_places s d names AmountHead.Pay ps =
+    TheMark (codes "(") ∷ date_places (TheMark (codes ",") ∷ UseOf s.assets ∷ TheMark (codes ",") ∷ UseOf s.parties ∷ TheMark (codes ",") ∷ UseOf s.parties ∷ TheMark (codes ")") ∷ ps)
+amount_places s d names AmountHead.Add ps = pair_places (AmountAt (d + 1) names) (AmountAt (d + 1) names) ps
+amount_places s d names AmountHead.Scale ps = pair_places (ExprAt Language.Code (d + 1) names) (AmountAt (d + 1) names) ps
+amount_places s d names AmountHead.Let ps = BinderAt binder.Let Language.Code d names ∷ ps
+amount_places s d names AmountHead.Loop ps =
+    ExprAt Language.Code (d + 1) names ∷ TheWord (codes "upto") ∷ date_places (TheWord (codes "then") ∷ AmountAt (d + 1) names ∷ TheWord (codes "else") ∷ AmountAt (d + 1) names ∷ ps)
+amount_places s d names AmountHead.Cut ps = TheMark (codes "(") ∷ date_places (TheMark (codes ",") ∷ AmountAt (d + 1) names ∷ TheMark (codes ")") ∷ ps)
 
 -- the lines of declarations
 abbrev pub number_label_places : List Place → List Place
@@ -166,9 +198,13 @@ step s (LiteralNumber negative ∷ ps) t = judged (literal_at negative t) (λ d.
 step s (DaysAt templates ∷ ps) t = judged (days_at templates t) (λ d. Next s ps)
 step s (ModeAt ∷ ps) t = judged (mode_at t) (λ m. Next s ps)
 step s (OperatorAt ∷ ps) t = judged (operator_at t) (λ op. Next s ps)
-step s (BinderAt binder d names ∷ ps) t = judged (binder_at t) (λ name. Next s (binder_places binder d names name ps))
-step s (ExprAt d names ∷ ps) t = judged (first_at d names t) (λ first. Next s (expr_places s d names first ps))
+step s (DateAt ∷ ps) t = if is_the_mark (codes "-") t then Next s (DateNumber true ∷ ps) else judged (date_number_at false t) (λ n. Next s ps)
+step s (DateNumber negative ∷ ps) t = judged (date_number_at negative t) (λ n. Next s ps)
+step s (MoreTemplates ∷ ps) t = if is_the_mark (codes "+") t then Next s (UseOf s.templates ∷ MoreTemplates ∷ ps) else step s ps t
+step s (BinderAt binder l d names ∷ ps) t = judged (binder_at t) (λ name. Next s (binder_places binder l d names name ps))
+step s (ExprAt l d names ∷ ps) t = judged (first_at l d names t) (λ first. Next s (expr_places s l d names first ps))
 step s (ContrAt d names ∷ ps) t = judged (head_at d t) (λ head. Next s (contr_places s d names head ps))
+step s (AmountAt d names ∷ ps) t = judged (amount_head_at d t) (λ head. Next s (amount_places s d names head ps))
 step s (AnyTokens ∷ ps) t = Next s (AnyTokens ∷ ps)
 
 -- the places that are left, or the first fault and how many bytes are left where its token begins
@@ -180,7 +216,7 @@ unfoldable pub run : Scope → List Place → List Tok → Outcome
 run s ps [] = Open ps
 run s ps (t ∷ ts) = elim (step s ps t) [ Next s2 qs ↦ run s2 qs ts | Refuse kind ↦ Stops kind t.left ]
 
--- the places of declarations, and those of a whole text
+-- the places of declarations, and those of whole texts
 abbrev pub line_places : List Place → List Place
 line_places ps = OriginLine ∷ StartLine ∷ NameLines (codes "party") Party ∷ NameLines (codes "asset") Asset ∷ LabelLines ∷ TemplateLines ∷ ps
 
@@ -189,6 +225,11 @@ decls_places ps = TheWord (codes "amounts") ∷ IntegerAt 12 ∷ TheMark (codes 
 
 abbrev pub text_places : List Place
 text_places = TheWord (codes "portfolio") ∷ TheVersion ∷ TheMark (codes ";") ∷ decls_places (ContractLines ∷ TheEnd ∷ [])
+
+-- the text of a code file, whose name is alone in its set
+abbrev pub code_text_places : List Place
+code_text_places =
+    TheWord (codes "payoff") ∷ TheVersion ∷ TheMark (codes ";") ∷ decls_places (TheWord (codes "code") ∷ NewIn Contract ∷ TheMark (codes "=") ∷ AmountAt 1 [] ∷ TheMark (codes ";") ∷ TheEnd ∷ [])
 
 -- a failure is the outcome, but for want of memory
 abbrev pub Fails : ReadErr → Outcome → Type 0

@@ -5,7 +5,7 @@ use Rattle.term_core.specs.Declarations.{declarations}
 use Rattle.term_core.specs.declared.decls.Decls.{Decls}
 use Rattle.term_core.specs.declared.terms.NumOp.TheVariants.{Plus, Minus, Times, Min, Max}
 use Rattle.contract_parse.specs.Tokens.{Tok, is_last, tokens}
-use Rattle.contract_parse.specs.Words.{Bytes, is_the_word}
+use Rattle.contract_parse.specs.Words.{Bytes, is_the_mark, is_the_word}
 use Rattle.contract_parse.specs.Names.{Scope, scope_of}
 use Rattle.contract_parse.specs.declared.heads.Operator.{Operator}
 use Rattle.contract_parse.specs.declared.heads.Operator.TheVariants as operator
@@ -38,6 +38,13 @@ pub record Lacks (w : Bytes) (ts : List Tok) : Type 0 where
   pub after : List Tok
   pub is : ts ≡ first ∷ after
   pub other : is_the_word w first ≡ false
+
+-- another token than this mark stands next
+pub record LacksMark (m : Bytes) (ts : List Tok) : Type 0 where
+  pub first : Tok
+  pub after : List Tok
+  pub is : ts ≡ first ∷ after
+  pub other : is_the_mark m first ≡ false
 
 -- an operator that stands between its operands
 abbrev pub IsBetween : Operator → Type 0

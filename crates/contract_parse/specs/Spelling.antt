@@ -1,13 +1,14 @@
 -- The grammar of terms: which tokens spell which term. A part relates the tokens where it begins to those after it;
 -- declared names are those of a scope, and bound names are listed innermost first.
-use Rattle.std.specs.Prelude.{◌≡◌, ℕ, ℤ, Bool, true, false, List, ◌∷◌, Result, Ok, codes}
+use Rattle.std.specs.Prelude.{◌≡◌, ℕ, ℤ, pos, Bool, true, false, List, [], ◌∷◌, Result, Ok, codes}
 use Rattle.term_core.specs.Terms.{Expression, Lit, Yes, Var, Obs, Neg, Num, Cmp, Not, Logic, Cond, Widen, Round, Div, Acc, Contract, Zero, Pay, Both, Scale, After, Let, Within}
 use Rattle.term_core.specs.declared.terms.NumOp.TheVariants.{Min, Max}
 use Rattle.contract_parse.specs.Tokens.{Tok}
 use Rattle.contract_parse.specs.Words.{Bytes, is_the_word, is_the_mark, is_end}
 use Rattle.contract_parse.specs.Names.{Scope}
-use Rattle.contract_parse.specs.Judgements.{binder_at, days_at, integer_at, literal_at, mode_at, offset_at, operator_at, use_at, variable_at}
+use Rattle.contract_parse.specs.Judgements.{binder_at, date_number_at, days_at, integer_at, literal_at, mode_at, offset_at, operator_at, use_at, variable_at}
 use Rattle.contract_parse.specs.declared.faults.TextKind.{TextKind}
+use Rattle.contract_parse.specs.declared.heads.Language.{Language}
 use Rattle.contract_parse.specs.declared.heads.Operator.TheVariants.{Arithmetic, Comparison, Logic as Connective}
 
 abbrev pub Part : Type 1
@@ -99,9 +100,46 @@ expr_with leaf names (Acc body n first) =
 abbrev pub obs_leaf : Scope → Leaf
 obs_leaf s label offset = word (codes "obs") ⨟ pair (valued (use_at s.labels) label) (Signed (λ negative. valued (offset_at negative) offset))
 
--- an expression of a contract
-abbrev pub expr : Scope → List Bytes → Expression → Part
-expr s = expr_with (obs_leaf s)
+-- `+ NAME` for each template
+abbrev pub templates_part : List Bytes → List ℕ → Part
+templates_part templates [] = nothing
+templates_part templates (t ∷ ts) = mark (codes "+") ⨟ valued (use_at templates) t ⨟ templates_part templates ts
+
+-- a date of payoff code as it is written: its number, and its templates in any order
+abbrev pub dated_part : List Bytes → ℤ → List ℕ → Part
+dated_part templates days written = Signed (λ negative. valued (date_number_at negative) days) ⨟ templates_part templates written
+
+-- some templates, and some date
+pub record SomeTemplates (templates : List Bytes) (ts rest : List Tok) : Type 0 where
+  pub written : List ℕ
+  pub spelled : templates_part templates written ts rest
+
+pub record SomeDate (templates : List Bytes) (ts rest : List Tok) : Type 0 where
+  pub days : ℤ
+  pub written : List ℕ
+  pub spelled : dated_part templates days written ts rest
+
+-- some date, whose first token begins where so many bytes are left
+pub record DateFrom (templates : List Bytes) (place : ℤ) (ts rest : List Tok) : Type 0 where
+  pub days : ℤ
+  pub written : List ℕ
+  pub first : Tok
+  pub behind : List Tok
+  pub is : ts ≡ first ∷ behind
+  pub left : place ≡ pos first.left
+  pub spelled : dated_part templates days written ts rest
+
+-- `model(label, date)`: for its offset the observable has the place of its date in the text
+abbrev pub model_leaf : Scope → Leaf
+model_leaf s label place = word (codes "model") ⨟ pair (valued (use_at s.labels) label) (DateFrom s.templates place)
+
+abbrev pub leaf_of : Language → Scope → Leaf
+leaf_of Language.Contracts s = obs_leaf s
+leaf_of Language.Code s = model_leaf s
+
+-- an expression of a contract, or of payoff code
+abbrev pub expr : Language → Scope → List Bytes → Expression → Part
+expr l s = expr_with (leaf_of l s)
 
 -- a contract
 abbrev pub contr : Scope → List Bytes → Contract → Part
@@ -109,10 +147,10 @@ contr s names Zero = word (codes "zero")
 contr s names (Pay asset from to) =
     word (codes "pay") ⨟ mark (codes "(") ⨟ valued (use_at s.assets) asset ⨟ mark (codes ",") ⨟ valued (use_at s.parties) from ⨟ mark (codes ",") ⨟ valued (use_at s.parties) to ⨟ mark (codes ")")
 contr s names (Both a b) = word (codes "both") ⨟ pair (contr s names a) (contr s names b)
-contr s names (Scale e c) = word (codes "scale") ⨟ pair (expr s names e) (contr s names c)
+contr s names (Scale e c) = word (codes "scale") ⨟ pair (expr Language.Contracts s names e) (contr s names c)
 contr s names (After n c) = word (codes "after") ⨟ pair (valued (days_at s.templates) n) (contr s names c)
 -- the name is bound in the contract and not in its own expression
 contr s names (Let e c) =
-    SomeName (λ name. word (codes "let") ⨟ valued binder_at name ⨟ mark (codes "=") ⨟ expr s names e ⨟ word (codes "in") ⨟ contr s (name ∷ names) c)
+    SomeName (λ name. word (codes "let") ⨟ valued binder_at name ⨟ mark (codes "=") ⨟ expr Language.Contracts s names e ⨟ word (codes "in") ⨟ contr s (name ∷ names) c)
 contr s names (Within e n a b) =
-    word (codes "if") ⨟ expr s names e ⨟ word (codes "within") ⨟ valued (days_at s.templates) n ⨟ word (codes "then") ⨟ contr s names a ⨟ word (codes "else") ⨟ contr s names b
+    word (codes "if") ⨟ expr Language.Contracts s names e ⨟ word (codes "within") ⨟ valued (days_at s.templates) n ⨟ word (codes "then") ⨟ contr s names a ⨟ word (codes "else") ⨟ contr s names b

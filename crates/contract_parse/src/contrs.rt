@@ -11,10 +11,11 @@ ghost use Rattle.contract_parse.specs.Judgements.{days_at, use_at};
 ghost use Rattle.contract_parse.specs.Spelling.{contr, expr, mark, valued, word, ◌⨟◌};
 ghost use Rattle.contract_parse.specs.Places.{ContrAt, DaysAt, ExprAt, Leaves, Place, TheMark, TheWord, UseOf, contr_places, run};
 ghost use Rattle.contract_parse.specs.Reading.{scope_in};
+ghost use Rattle.contract_parse.specs.declared.heads.Language.{Language};
 
 use crate::exprs::read_expr;
 use crate::faults::ReadErr;
-use crate::heads::{Head, head_at};
+use crate::heads::{Head, Language, head_at};
 use crate::judges::refuse;
 use crate::names::Bound;
 use crate::readers::{read_binder, read_days, read_use_of_set, skip_mark, skip_word};
@@ -80,13 +81,13 @@ fn read_factor<'a>(
 ) -> Result<(Expr, &'a [u8]), ReadErr>
     requires shallow { depth ≤ 200 }
     requires bound { length (names_in bound.now) < depth }
-    ensures follows { (cs : List Bytes) (ps : List Place) → Leaves (λ r. run (scope_in decls.now cs) ps (tokens r.1.now)) result (run (scope_in decls.now cs) (TheMark (codes "(") ∷ ExprAt (depth + 1) (names_in bound.now) ∷ ps) (tokens rest.now)) }
-    ensures spelled { IfOk result (λ r. (mark (codes "(") ⨟ expr (scope_in decls.now []) (names_in bound.now) (expression r.0)) (tokens rest.now) (tokens r.1.now)) }
+    ensures follows { (cs : List Bytes) (ps : List Place) → Leaves (λ r. run (scope_in decls.now cs) ps (tokens r.1.now)) result (run (scope_in decls.now cs) (TheMark (codes "(") ∷ ExprAt Language.Contracts (depth + 1) (names_in bound.now) ∷ ps) (tokens rest.now)) }
+    ensures spelled { IfOk result (λ r. (mark (codes "(") ⨟ expr Language.Contracts (scope_in decls.now []) (names_in bound.now) (expression r.0)) (tokens rest.now) (tokens r.1.now)) }
     ensures high { IfOk result (λ r. height (expression r.0) + depth ≤ 200) }
     ensures shorter { IfOk result (λ r. length r.1.now ≤ length rest.now) }
 {
     let rest = skip_mark(rest, b"(")?;
-    read_expr(alloc, decls, bound, depth + 1, rest)
+    read_expr(alloc, Language::Contracts, decls, bound, depth + 1, rest)
 }
 
 // A contract one deeper, in a box.
@@ -265,7 +266,7 @@ fn read_let<'a>(
 {
     let (name, rest) = read_binder(rest)?;
     let rest = skip_mark(rest, b"=")?;
-    let (value, rest) = read_expr(alloc, decls, bound, depth + 1, rest)?;
+    let (value, rest) = read_expr(alloc, Language::Contracts, decls, bound, depth + 1, rest)?;
     let inner = Bound::In {
         name,
         outer: &*bound,
@@ -291,7 +292,7 @@ fn read_within<'a>(
     ensures high { IfOk result (λ r. height_of_contract (contract r.0) + depth ≤ 201) }
     ensures shorter { IfOk result (λ r. length r.1.now ≤ length rest.now) }
 {
-    let (test, rest) = read_expr(alloc, decls, bound, depth + 1, rest)?;
+    let (test, rest) = read_expr(alloc, Language::Contracts, decls, bound, depth + 1, rest)?;
     let (days, rest) = read_days_within(&decls.templates, rest)?;
     let (hit, miss, rest) = read_branches(alloc, decls, bound, depth, rest)?;
     Ok((

@@ -7,12 +7,15 @@ ghost use Rattle.contract_parse.specs.Words.{Bytes};
 ghost use Rattle.contract_parse.specs.Names.{Scope, names_in};
 ghost use Rattle.contract_parse.specs.Judgements.{binder_at, integer_at, mode_at};
 ghost use Rattle.contract_parse.specs.Spelling.{expr, mark, pair, valued, word, ◌⨟◌};
-ghost use Rattle.contract_parse.specs.Places.{BinderAt, ExprAt, IntegerAt, Leaves, LiteralNumber, ModeAt, Place, TheMark, binder_places, expr_places, operand_places, pair_places, run};
+ghost use Rattle.contract_parse.specs.Places.{BinderAt, ExprAt, IntegerAt, Leaves, LiteralNumber, ModeAt, Place, TheMark, binder_places, expr_places, leaf_places, operand_places, pair_places, run};
 ghost use Rattle.contract_parse.specs.Reading.{joined, scope_in};
+ghost use Rattle.contract_parse.specs.Heads.{greatest_depth, leaf_word};
 ghost use Rattle.contract_parse.specs.declared.heads.Binder.{Binder};
+ghost use Rattle.contract_parse.specs.declared.heads.Language.{Language};
 
+use crate::dates::read_place_of_date;
 use crate::faults::ReadErr;
-use crate::heads::{First, Operator, first_at};
+use crate::heads::{First, Language, Operator, first_at};
 use crate::judges::refuse;
 use crate::names::Bound;
 use crate::readers::{
@@ -71,7 +74,7 @@ fn read_rounding(rest: &[u8]) -> Result<(Mode, u8, &[u8]), ReadErr>
 // The name that `acc` binds.
 #[tactic(auto, using(crate::proofs::Parts::followed_by))]
 fn read_bound_name(rest: &[u8]) -> Result<(&[u8], &[u8]), ReadErr>
-    ensures follows { (binder : Binder) (d : ℕ) (names : List Bytes) (s : Scope) (ps : List Place) → Leaves (λ r. run s (binder_places binder d names r.0.now ps) (tokens r.1.now)) result (run s (TheMark (codes "(") ∷ BinderAt binder d names ∷ ps) (tokens rest.now)) }
+    ensures follows { (binder : Binder) (l : Language) (d : ℕ) (names : List Bytes) (s : Scope) (ps : List Place) → Leaves (λ r. run s (binder_places binder l d names r.0.now ps) (tokens r.1.now)) result (run s (TheMark (codes "(") ∷ BinderAt binder l d names ∷ ps) (tokens rest.now)) }
     ensures spelled { IfOk result (λ r. (mark (codes "(") ⨟ valued binder_at r.0.now) (tokens rest.now) (tokens r.1.now)) }
     ensures shorter { IfOk result (λ r. length r.1.now ≤ length rest.now) }
 {
@@ -93,7 +96,7 @@ fn read_days_back(rest: &[u8]) -> Result<(u32, &[u8]), ReadErr>
 // A literal behind its sign.
 fn read_negative(rest: &[u8]) -> Result<(Expr, &[u8]), ReadErr>
     ensures follows { (s : Scope) (ps : List Place) → Leaves (λ r. run s ps (tokens r.1.now)) result (run s (LiteralNumber true ∷ ps) (tokens rest.now)) }
-    ensures spelled { IfOk result (λ r. (s : Scope) (names : List Bytes) (ts : List Tok) → mark (codes "-") ts (tokens rest.now) → expr s names (expression r.0) ts (tokens r.1.now)) }
+    ensures spelled { IfOk result (λ r. (l : Language) (s : Scope) (names : List Bytes) (ts : List Tok) → mark (codes "-") ts (tokens rest.now) → expr l s names (expression r.0) ts (tokens r.1.now)) }
     ensures high { IfOk result (λ r. height (expression r.0) ≡ 1) }
     ensures shorter { IfOk result (λ r. length r.1.now ≤ length rest.now) }
 {
@@ -102,9 +105,9 @@ fn read_negative(rest: &[u8]) -> Result<(Expr, &[u8]), ReadErr>
 }
 
 // What stands behind `obs`.
-fn read_observable<'a>(decls: &Decls, rest: &'a [u8]) -> Result<(Expr, &'a [u8]), ReadErr>
-    ensures follows { (cs : List Bytes) (depth : ℕ) (names : List Bytes) (ps : List Place) → Leaves (λ r. run (scope_in decls.now cs) ps (tokens r.1.now)) result (run (scope_in decls.now cs) (expr_places (scope_in decls.now cs) depth names First.Obs ps) (tokens rest.now)) }
-    ensures spelled { IfOk result (λ r. (names : List Bytes) (ts : List Tok) → word (codes "obs") ts (tokens rest.now) → expr (scope_in decls.now []) names (expression r.0) ts (tokens r.1.now)) }
+fn read_observed<'a>(decls: &Decls, rest: &'a [u8]) -> Result<(Expr, &'a [u8]), ReadErr>
+    ensures follows { (cs : List Bytes) (ps : List Place) → Leaves (λ r. run (scope_in decls.now cs) ps (tokens r.1.now)) result (run (scope_in decls.now cs) (leaf_places (scope_in decls.now cs) Language.Contracts ps) (tokens rest.now)) }
+    ensures spelled { IfOk result (λ r. (names : List Bytes) (ts : List Tok) → word (codes "obs") ts (tokens rest.now) → expr Language.Contracts (scope_in decls.now []) names (expression r.0) ts (tokens r.1.now)) }
     ensures high { IfOk result (λ r. height (expression r.0) ≡ 1) }
     ensures shorter { IfOk result (λ r. length r.1.now ≤ length rest.now) }
 {
@@ -116,23 +119,56 @@ fn read_observable<'a>(decls: &Decls, rest: &'a [u8]) -> Result<(Expr, &'a [u8])
     Ok((Expr::Obs { label, offset }, rest))
 }
 
+// What stands behind `model`: the place of its date is its offset.
+fn read_modelled<'a>(decls: &Decls, rest: &'a [u8]) -> Result<(Expr, &'a [u8]), ReadErr>
+    ensures follows { (cs : List Bytes) (ps : List Place) → Leaves (λ r. run (scope_in decls.now cs) ps (tokens r.1.now)) result (run (scope_in decls.now cs) (leaf_places (scope_in decls.now cs) Language.Code ps) (tokens rest.now)) }
+    ensures spelled { IfOk result (λ r. (names : List Bytes) (ts : List Tok) → word (codes "model") ts (tokens rest.now) → expr Language.Code (scope_in decls.now []) names (expression r.0) ts (tokens r.1.now)) }
+    ensures high { IfOk result (λ r. height (expression r.0) ≡ 1) }
+    ensures shorter { IfOk result (λ r. length r.1.now ≤ length rest.now) }
+{
+    let rest = skip_mark(rest, b"(")?;
+    let (label, rest) = read_use_of_map(&decls.labels, rest)?;
+    let rest = skip_mark(rest, b",")?;
+    let (offset, rest) = read_place_of_date(decls, rest)?;
+    let rest = skip_mark(rest, b")")?;
+    Ok((Expr::Obs { label, offset }, rest))
+}
+
+// What stands behind the word that reads an observable.
+fn read_observable<'a>(
+    language: Language,
+    decls: &Decls,
+    rest: &'a [u8],
+) -> Result<(Expr, &'a [u8]), ReadErr>
+    ensures follows { (cs : List Bytes) (ps : List Place) → Leaves (λ r. run (scope_in decls.now cs) ps (tokens r.1.now)) result (run (scope_in decls.now cs) (leaf_places (scope_in decls.now cs) language ps) (tokens rest.now)) }
+    ensures spelled { IfOk result (λ r. (names : List Bytes) (ts : List Tok) → word (leaf_word language) ts (tokens rest.now) → expr language (scope_in decls.now []) names (expression r.0) ts (tokens r.1.now)) }
+    ensures high { IfOk result (λ r. height (expression r.0) ≡ 1) }
+    ensures shorter { IfOk result (λ r. length r.1.now ≤ length rest.now) }
+{
+    match language {
+        Language::Contracts => read_observed(decls, rest),
+        Language::Code => read_modelled(decls, rest),
+    }
+}
+
 // An expression one deeper, in a box.
 #[cycle(expr)]
 fn read_boxed<'a>(
     alloc: Global,
+    language: Language,
     decls: &Decls,
     bound: &Bound<'_>,
     depth: u32,
     rest: &'a [u8],
 ) -> Result<(Box<Expr>, &'a [u8]), ReadErr>
-    requires shallow { depth ≤ 200 }
+    requires shallow { depth ≤ greatest_depth language }
     requires bound { length (names_in bound.now) ≤ depth }
-    ensures follows { (cs : List Bytes) (ps : List Place) → Leaves (λ r. run (scope_in decls.now cs) ps (tokens r.1.now)) result (run (scope_in decls.now cs) (ExprAt (depth + 1) (names_in bound.now) ∷ ps) (tokens rest.now)) }
-    ensures spelled { IfOk result (λ r. expr (scope_in decls.now []) (names_in bound.now) (expression r.0.value) (tokens rest.now) (tokens r.1.now)) }
-    ensures high { IfOk result (λ r. height (expression r.0.value) + depth ≤ 200) }
+    ensures follows { (cs : List Bytes) (ps : List Place) → Leaves (λ r. run (scope_in decls.now cs) ps (tokens r.1.now)) result (run (scope_in decls.now cs) (ExprAt language (depth + 1) (names_in bound.now) ∷ ps) (tokens rest.now)) }
+    ensures spelled { IfOk result (λ r. expr language (scope_in decls.now []) (names_in bound.now) (expression r.0.value) (tokens rest.now) (tokens r.1.now)) }
+    ensures high { IfOk result (λ r. height (expression r.0.value) + depth ≤ greatest_depth language) }
     ensures shorter { IfOk result (λ r. length r.1.now ≤ length rest.now) }
 {
-    let (of, rest) = read_expr(alloc, decls, bound, depth + 1, rest)?;
+    let (of, rest) = read_expr(alloc, language, decls, bound, depth + 1, rest)?;
     let of = Box::new(alloc, of)?;
     Ok((of, rest))
 }
@@ -142,21 +178,22 @@ fn read_boxed<'a>(
 #[tactic(auto, using(crate::proofs::Parts::followed_by))]
 fn read_behind<'a>(
     alloc: Global,
+    language: Language,
     decls: &Decls,
     bound: &Bound<'_>,
     depth: u32,
     wanted: &[u8],
     rest: &'a [u8],
 ) -> Result<(Box<Expr>, &'a [u8]), ReadErr>
-    requires shallow { depth ≤ 200 }
+    requires shallow { depth ≤ greatest_depth language }
     requires bound { length (names_in bound.now) ≤ depth }
-    ensures follows { (cs : List Bytes) (ps : List Place) → Leaves (λ r. run (scope_in decls.now cs) ps (tokens r.1.now)) result (run (scope_in decls.now cs) (TheMark wanted.now ∷ ExprAt (depth + 1) (names_in bound.now) ∷ ps) (tokens rest.now)) }
-    ensures spelled { IfOk result (λ r. (mark wanted.now ⨟ expr (scope_in decls.now []) (names_in bound.now) (expression r.0.value)) (tokens rest.now) (tokens r.1.now)) }
-    ensures high { IfOk result (λ r. height (expression r.0.value) + depth ≤ 200) }
+    ensures follows { (cs : List Bytes) (ps : List Place) → Leaves (λ r. run (scope_in decls.now cs) ps (tokens r.1.now)) result (run (scope_in decls.now cs) (TheMark wanted.now ∷ ExprAt language (depth + 1) (names_in bound.now) ∷ ps) (tokens rest.now)) }
+    ensures spelled { IfOk result (λ r. (mark wanted.now ⨟ expr language (scope_in decls.now []) (names_in bound.now) (expression r.0.value)) (tokens rest.now) (tokens r.1.now)) }
+    ensures high { IfOk result (λ r. height (expression r.0.value) + depth ≤ greatest_depth language) }
     ensures shorter { IfOk result (λ r. length r.1.now ≤ length rest.now) }
 {
     let rest = skip_mark(rest, wanted)?;
-    read_boxed(alloc, decls, bound, depth, rest)
+    read_boxed(alloc, language, decls, bound, depth, rest)
 }
 
 // One expression in parentheses.
@@ -164,19 +201,20 @@ fn read_behind<'a>(
 #[tactic(auto, using(crate::proofs::Parts::followed_by))]
 fn read_operand<'a>(
     alloc: Global,
+    language: Language,
     decls: &Decls,
     bound: &Bound<'_>,
     depth: u32,
     rest: &'a [u8],
 ) -> Result<(Box<Expr>, &'a [u8]), ReadErr>
-    requires shallow { depth ≤ 200 }
+    requires shallow { depth ≤ greatest_depth language }
     requires bound { length (names_in bound.now) < depth }
-    ensures follows { (cs : List Bytes) (ps : List Place) → Leaves (λ r. run (scope_in decls.now cs) ps (tokens r.1.now)) result (run (scope_in decls.now cs) (operand_places (ExprAt (depth + 1) (names_in bound.now)) ps) (tokens rest.now)) }
-    ensures spelled { IfOk result (λ r. (mark (codes "(") ⨟ expr (scope_in decls.now []) (names_in bound.now) (expression r.0.value) ⨟ mark (codes ")")) (tokens rest.now) (tokens r.1.now)) }
-    ensures high { IfOk result (λ r. height (expression r.0.value) + depth ≤ 200) }
+    ensures follows { (cs : List Bytes) (ps : List Place) → Leaves (λ r. run (scope_in decls.now cs) ps (tokens r.1.now)) result (run (scope_in decls.now cs) (operand_places (ExprAt language (depth + 1) (names_in bound.now)) ps) (tokens rest.now)) }
+    ensures spelled { IfOk result (λ r. (mark (codes "(") ⨟ expr language (scope_in decls.now []) (names_in bound.now) (expression r.0.value) ⨟ mark (codes ")")) (tokens rest.now) (tokens r.1.now)) }
+    ensures high { IfOk result (λ r. height (expression r.0.value) + depth ≤ greatest_depth language) }
     ensures shorter { IfOk result (λ r. length r.1.now ≤ length rest.now) }
 {
-    let (of, rest) = read_behind(alloc, decls, bound, depth, b"(", rest)?;
+    let (of, rest) = read_behind(alloc, language, decls, bound, depth, b"(", rest)?;
     let rest = skip_mark(rest, b")")?;
     Ok((of, rest))
 }
@@ -186,19 +224,20 @@ fn read_operand<'a>(
 #[tactic(auto, using(crate::proofs::Parts::followed_by))]
 fn read_neg<'a>(
     alloc: Global,
+    language: Language,
     decls: &Decls,
     bound: &Bound<'_>,
     depth: u32,
     rest: &'a [u8],
 ) -> Result<(Expr, &'a [u8]), ReadErr>
-    requires shallow { depth ≤ 200 }
+    requires shallow { depth ≤ greatest_depth language }
     requires bound { length (names_in bound.now) < depth }
-    ensures follows { (cs : List Bytes) (ps : List Place) → Leaves (λ r. run (scope_in decls.now cs) ps (tokens r.1.now)) result (run (scope_in decls.now cs) (expr_places (scope_in decls.now cs) depth (names_in bound.now) First.Neg ps) (tokens rest.now)) }
-    ensures spelled { IfOk result (λ r. (ts : List Tok) → word (codes "neg") ts (tokens rest.now) → expr (scope_in decls.now []) (names_in bound.now) (expression r.0) ts (tokens r.1.now)) }
-    ensures high { IfOk result (λ r. height (expression r.0) + depth ≤ 201) }
+    ensures follows { (cs : List Bytes) (ps : List Place) → Leaves (λ r. run (scope_in decls.now cs) ps (tokens r.1.now)) result (run (scope_in decls.now cs) (expr_places (scope_in decls.now cs) language depth (names_in bound.now) First.Neg ps) (tokens rest.now)) }
+    ensures spelled { IfOk result (λ r. (ts : List Tok) → word (codes "neg") ts (tokens rest.now) → expr language (scope_in decls.now []) (names_in bound.now) (expression r.0) ts (tokens r.1.now)) }
+    ensures high { IfOk result (λ r. height (expression r.0) + depth ≤ greatest_depth language + 1) }
     ensures shorter { IfOk result (λ r. length r.1.now ≤ length rest.now) }
 {
-    let (of, rest) = read_operand(alloc, decls, bound, depth, rest)?;
+    let (of, rest) = read_operand(alloc, language, decls, bound, depth, rest)?;
     Ok((Expr::Neg { of }, rest))
 }
 
@@ -207,19 +246,20 @@ fn read_neg<'a>(
 #[tactic(auto, using(crate::proofs::Parts::followed_by))]
 fn read_not<'a>(
     alloc: Global,
+    language: Language,
     decls: &Decls,
     bound: &Bound<'_>,
     depth: u32,
     rest: &'a [u8],
 ) -> Result<(Expr, &'a [u8]), ReadErr>
-    requires shallow { depth ≤ 200 }
+    requires shallow { depth ≤ greatest_depth language }
     requires bound { length (names_in bound.now) < depth }
-    ensures follows { (cs : List Bytes) (ps : List Place) → Leaves (λ r. run (scope_in decls.now cs) ps (tokens r.1.now)) result (run (scope_in decls.now cs) (expr_places (scope_in decls.now cs) depth (names_in bound.now) First.Not ps) (tokens rest.now)) }
-    ensures spelled { IfOk result (λ r. (ts : List Tok) → word (codes "not") ts (tokens rest.now) → expr (scope_in decls.now []) (names_in bound.now) (expression r.0) ts (tokens r.1.now)) }
-    ensures high { IfOk result (λ r. height (expression r.0) + depth ≤ 201) }
+    ensures follows { (cs : List Bytes) (ps : List Place) → Leaves (λ r. run (scope_in decls.now cs) ps (tokens r.1.now)) result (run (scope_in decls.now cs) (expr_places (scope_in decls.now cs) language depth (names_in bound.now) First.Not ps) (tokens rest.now)) }
+    ensures spelled { IfOk result (λ r. (ts : List Tok) → word (codes "not") ts (tokens rest.now) → expr language (scope_in decls.now []) (names_in bound.now) (expression r.0) ts (tokens r.1.now)) }
+    ensures high { IfOk result (λ r. height (expression r.0) + depth ≤ greatest_depth language + 1) }
     ensures shorter { IfOk result (λ r. length r.1.now ≤ length rest.now) }
 {
-    let (of, rest) = read_operand(alloc, decls, bound, depth, rest)?;
+    let (of, rest) = read_operand(alloc, language, decls, bound, depth, rest)?;
     Ok((Expr::Not { of }, rest))
 }
 
@@ -228,20 +268,21 @@ fn read_not<'a>(
 #[tactic(auto, using(crate::proofs::Parts::followed_by))]
 fn read_pair<'a>(
     alloc: Global,
+    language: Language,
     decls: &Decls,
     bound: &Bound<'_>,
     depth: u32,
     rest: &'a [u8],
 ) -> Result<(Box<Expr>, Box<Expr>, &'a [u8]), ReadErr>
-    requires shallow { depth ≤ 200 }
+    requires shallow { depth ≤ greatest_depth language }
     requires bound { length (names_in bound.now) < depth }
-    ensures follows { (cs : List Bytes) (ps : List Place) → Leaves (λ r. run (scope_in decls.now cs) ps (tokens r.2.now)) result (run (scope_in decls.now cs) (pair_places (ExprAt (depth + 1) (names_in bound.now)) (ExprAt (depth + 1) (names_in bound.now)) ps) (tokens rest.now)) }
-    ensures spelled { IfOk result (λ r. pair (expr (scope_in decls.now []) (names_in bound.now) (expression r.0.value)) (expr (scope_in decls.now []) (names_in bound.now) (expression r.1.value)) (tokens rest.now) (tokens r.2.now)) }
-    ensures high { IfOk result (λ r. max (height (expression r.0.value)) (height (expression r.1.value)) + depth ≤ 200) }
+    ensures follows { (cs : List Bytes) (ps : List Place) → Leaves (λ r. run (scope_in decls.now cs) ps (tokens r.2.now)) result (run (scope_in decls.now cs) (pair_places (ExprAt language (depth + 1) (names_in bound.now)) (ExprAt language (depth + 1) (names_in bound.now)) ps) (tokens rest.now)) }
+    ensures spelled { IfOk result (λ r. pair (expr language (scope_in decls.now []) (names_in bound.now) (expression r.0.value)) (expr language (scope_in decls.now []) (names_in bound.now) (expression r.1.value)) (tokens rest.now) (tokens r.2.now)) }
+    ensures high { IfOk result (λ r. max (height (expression r.0.value)) (height (expression r.1.value)) + depth ≤ greatest_depth language) }
     ensures shorter { IfOk result (λ r. length r.2.now ≤ length rest.now) }
 {
-    let (left, rest) = read_behind(alloc, decls, bound, depth, b"(", rest)?;
-    let (right, rest) = read_behind(alloc, decls, bound, depth, b",", rest)?;
+    let (left, rest) = read_behind(alloc, language, decls, bound, depth, b"(", rest)?;
+    let (right, rest) = read_behind(alloc, language, decls, bound, depth, b",", rest)?;
     let rest = skip_mark(rest, b")")?;
     Ok((left, right, rest))
 }
@@ -251,19 +292,20 @@ fn read_pair<'a>(
 #[tactic(auto, using(crate::proofs::Parts::followed_by))]
 fn read_min<'a>(
     alloc: Global,
+    language: Language,
     decls: &Decls,
     bound: &Bound<'_>,
     depth: u32,
     rest: &'a [u8],
 ) -> Result<(Expr, &'a [u8]), ReadErr>
-    requires shallow { depth ≤ 200 }
+    requires shallow { depth ≤ greatest_depth language }
     requires bound { length (names_in bound.now) < depth }
-    ensures follows { (cs : List Bytes) (ps : List Place) → Leaves (λ r. run (scope_in decls.now cs) ps (tokens r.1.now)) result (run (scope_in decls.now cs) (expr_places (scope_in decls.now cs) depth (names_in bound.now) First.Min ps) (tokens rest.now)) }
-    ensures spelled { IfOk result (λ r. (ts : List Tok) → word (codes "min") ts (tokens rest.now) → expr (scope_in decls.now []) (names_in bound.now) (expression r.0) ts (tokens r.1.now)) }
-    ensures high { IfOk result (λ r. height (expression r.0) + depth ≤ 201) }
+    ensures follows { (cs : List Bytes) (ps : List Place) → Leaves (λ r. run (scope_in decls.now cs) ps (tokens r.1.now)) result (run (scope_in decls.now cs) (expr_places (scope_in decls.now cs) language depth (names_in bound.now) First.Min ps) (tokens rest.now)) }
+    ensures spelled { IfOk result (λ r. (ts : List Tok) → word (codes "min") ts (tokens rest.now) → expr language (scope_in decls.now []) (names_in bound.now) (expression r.0) ts (tokens r.1.now)) }
+    ensures high { IfOk result (λ r. height (expression r.0) + depth ≤ greatest_depth language + 1) }
     ensures shorter { IfOk result (λ r. length r.1.now ≤ length rest.now) }
 {
-    let (left, right, rest) = read_pair(alloc, decls, bound, depth, rest)?;
+    let (left, right, rest) = read_pair(alloc, language, decls, bound, depth, rest)?;
     let op = NumOp::Min;
     Ok((Expr::Num { op, left, right }, rest))
 }
@@ -273,19 +315,20 @@ fn read_min<'a>(
 #[tactic(auto, using(crate::proofs::Parts::followed_by))]
 fn read_max<'a>(
     alloc: Global,
+    language: Language,
     decls: &Decls,
     bound: &Bound<'_>,
     depth: u32,
     rest: &'a [u8],
 ) -> Result<(Expr, &'a [u8]), ReadErr>
-    requires shallow { depth ≤ 200 }
+    requires shallow { depth ≤ greatest_depth language }
     requires bound { length (names_in bound.now) < depth }
-    ensures follows { (cs : List Bytes) (ps : List Place) → Leaves (λ r. run (scope_in decls.now cs) ps (tokens r.1.now)) result (run (scope_in decls.now cs) (expr_places (scope_in decls.now cs) depth (names_in bound.now) First.Max ps) (tokens rest.now)) }
-    ensures spelled { IfOk result (λ r. (ts : List Tok) → word (codes "max") ts (tokens rest.now) → expr (scope_in decls.now []) (names_in bound.now) (expression r.0) ts (tokens r.1.now)) }
-    ensures high { IfOk result (λ r. height (expression r.0) + depth ≤ 201) }
+    ensures follows { (cs : List Bytes) (ps : List Place) → Leaves (λ r. run (scope_in decls.now cs) ps (tokens r.1.now)) result (run (scope_in decls.now cs) (expr_places (scope_in decls.now cs) language depth (names_in bound.now) First.Max ps) (tokens rest.now)) }
+    ensures spelled { IfOk result (λ r. (ts : List Tok) → word (codes "max") ts (tokens rest.now) → expr language (scope_in decls.now []) (names_in bound.now) (expression r.0) ts (tokens r.1.now)) }
+    ensures high { IfOk result (λ r. height (expression r.0) + depth ≤ greatest_depth language + 1) }
     ensures shorter { IfOk result (λ r. length r.1.now ≤ length rest.now) }
 {
-    let (left, right, rest) = read_pair(alloc, decls, bound, depth, rest)?;
+    let (left, right, rest) = read_pair(alloc, language, decls, bound, depth, rest)?;
     let op = NumOp::Max;
     Ok((Expr::Num { op, left, right }, rest))
 }
@@ -295,21 +338,22 @@ fn read_max<'a>(
 #[tactic(auto, using(crate::proofs::Parts::followed_by))]
 fn read_infix<'a>(
     alloc: Global,
+    language: Language,
     decls: &Decls,
     bound: &Bound<'_>,
     depth: u32,
     rest: &'a [u8],
 ) -> Result<(Expr, &'a [u8]), ReadErr>
-    requires shallow { depth ≤ 200 }
+    requires shallow { depth ≤ greatest_depth language }
     requires bound { length (names_in bound.now) < depth }
-    ensures follows { (cs : List Bytes) (ps : List Place) → Leaves (λ r. run (scope_in decls.now cs) ps (tokens r.1.now)) result (run (scope_in decls.now cs) (expr_places (scope_in decls.now cs) depth (names_in bound.now) First.Open ps) (tokens rest.now)) }
-    ensures spelled { IfOk result (λ r. (ts : List Tok) → mark (codes "(") ts (tokens rest.now) → expr (scope_in decls.now []) (names_in bound.now) (expression r.0) ts (tokens r.1.now)) }
-    ensures high { IfOk result (λ r. height (expression r.0) + depth ≤ 201) }
+    ensures follows { (cs : List Bytes) (ps : List Place) → Leaves (λ r. run (scope_in decls.now cs) ps (tokens r.1.now)) result (run (scope_in decls.now cs) (expr_places (scope_in decls.now cs) language depth (names_in bound.now) First.Open ps) (tokens rest.now)) }
+    ensures spelled { IfOk result (λ r. (ts : List Tok) → mark (codes "(") ts (tokens rest.now) → expr language (scope_in decls.now []) (names_in bound.now) (expression r.0) ts (tokens r.1.now)) }
+    ensures high { IfOk result (λ r. height (expression r.0) + depth ≤ greatest_depth language + 1) }
     ensures shorter { IfOk result (λ r. length r.1.now ≤ length rest.now) }
 {
-    let (left, rest) = read_boxed(alloc, decls, bound, depth, rest)?;
+    let (left, rest) = read_boxed(alloc, language, decls, bound, depth, rest)?;
     let (operator, rest) = read_operator(rest)?;
-    let (right, rest) = read_boxed(alloc, decls, bound, depth, rest)?;
+    let (right, rest) = read_boxed(alloc, language, decls, bound, depth, rest)?;
     let rest = skip_mark(rest, b")")?;
     Ok((joined(operator, left, right), rest))
 }
@@ -319,21 +363,22 @@ fn read_infix<'a>(
 #[tactic(auto, using(crate::proofs::Parts::followed_by))]
 fn read_choice<'a>(
     alloc: Global,
+    language: Language,
     decls: &Decls,
     bound: &Bound<'_>,
     depth: u32,
     rest: &'a [u8],
 ) -> Result<(Expr, &'a [u8]), ReadErr>
-    requires shallow { depth ≤ 200 }
+    requires shallow { depth ≤ greatest_depth language }
     requires bound { length (names_in bound.now) < depth }
-    ensures follows { (cs : List Bytes) (ps : List Place) → Leaves (λ r. run (scope_in decls.now cs) ps (tokens r.1.now)) result (run (scope_in decls.now cs) (expr_places (scope_in decls.now cs) depth (names_in bound.now) First.If ps) (tokens rest.now)) }
-    ensures spelled { IfOk result (λ r. (ts : List Tok) → word (codes "if") ts (tokens rest.now) → expr (scope_in decls.now []) (names_in bound.now) (expression r.0) ts (tokens r.1.now)) }
-    ensures high { IfOk result (λ r. height (expression r.0) + depth ≤ 201) }
+    ensures follows { (cs : List Bytes) (ps : List Place) → Leaves (λ r. run (scope_in decls.now cs) ps (tokens r.1.now)) result (run (scope_in decls.now cs) (expr_places (scope_in decls.now cs) language depth (names_in bound.now) First.If ps) (tokens rest.now)) }
+    ensures spelled { IfOk result (λ r. (ts : List Tok) → word (codes "if") ts (tokens rest.now) → expr language (scope_in decls.now []) (names_in bound.now) (expression r.0) ts (tokens r.1.now)) }
+    ensures high { IfOk result (λ r. height (expression r.0) + depth ≤ greatest_depth language + 1) }
     ensures shorter { IfOk result (λ r. length r.1.now ≤ length rest.now) }
 {
-    let (test, rest) = read_behind(alloc, decls, bound, depth, b"(", rest)?;
-    let (yes, rest) = read_behind(alloc, decls, bound, depth, b",", rest)?;
-    let (no, rest) = read_behind(alloc, decls, bound, depth, b",", rest)?;
+    let (test, rest) = read_behind(alloc, language, decls, bound, depth, b"(", rest)?;
+    let (yes, rest) = read_behind(alloc, language, decls, bound, depth, b",", rest)?;
+    let (no, rest) = read_behind(alloc, language, decls, bound, depth, b",", rest)?;
     let rest = skip_mark(rest, b")")?;
     Ok((Expr::Cond { test, yes, no }, rest))
 }
@@ -343,20 +388,21 @@ fn read_choice<'a>(
 #[tactic(auto, using(crate::proofs::Parts::followed_by))]
 fn read_widen<'a>(
     alloc: Global,
+    language: Language,
     decls: &Decls,
     bound: &Bound<'_>,
     depth: u32,
     rest: &'a [u8],
 ) -> Result<(Expr, &'a [u8]), ReadErr>
-    requires shallow { depth ≤ 200 }
+    requires shallow { depth ≤ greatest_depth language }
     requires bound { length (names_in bound.now) < depth }
-    ensures follows { (cs : List Bytes) (ps : List Place) → Leaves (λ r. run (scope_in decls.now cs) ps (tokens r.1.now)) result (run (scope_in decls.now cs) (expr_places (scope_in decls.now cs) depth (names_in bound.now) First.Widen ps) (tokens rest.now)) }
-    ensures spelled { IfOk result (λ r. (ts : List Tok) → word (codes "widen") ts (tokens rest.now) → expr (scope_in decls.now []) (names_in bound.now) (expression r.0) ts (tokens r.1.now)) }
-    ensures high { IfOk result (λ r. height (expression r.0) + depth ≤ 201) }
+    ensures follows { (cs : List Bytes) (ps : List Place) → Leaves (λ r. run (scope_in decls.now cs) ps (tokens r.1.now)) result (run (scope_in decls.now cs) (expr_places (scope_in decls.now cs) language depth (names_in bound.now) First.Widen ps) (tokens rest.now)) }
+    ensures spelled { IfOk result (λ r. (ts : List Tok) → word (codes "widen") ts (tokens rest.now) → expr language (scope_in decls.now []) (names_in bound.now) (expression r.0) ts (tokens r.1.now)) }
+    ensures high { IfOk result (λ r. height (expression r.0) + depth ≤ greatest_depth language + 1) }
     ensures shorter { IfOk result (λ r. length r.1.now ≤ length rest.now) }
 {
     let (scale, rest) = read_scale(b"(", rest)?;
-    let (of, rest) = read_behind(alloc, decls, bound, depth, b",", rest)?;
+    let (of, rest) = read_behind(alloc, language, decls, bound, depth, b",", rest)?;
     let rest = skip_mark(rest, b")")?;
     Ok((Expr::Widen { scale, of }, rest))
 }
@@ -366,20 +412,21 @@ fn read_widen<'a>(
 #[tactic(auto, using(crate::proofs::Parts::followed_by))]
 fn read_round<'a>(
     alloc: Global,
+    language: Language,
     decls: &Decls,
     bound: &Bound<'_>,
     depth: u32,
     rest: &'a [u8],
 ) -> Result<(Expr, &'a [u8]), ReadErr>
-    requires shallow { depth ≤ 200 }
+    requires shallow { depth ≤ greatest_depth language }
     requires bound { length (names_in bound.now) < depth }
-    ensures follows { (cs : List Bytes) (ps : List Place) → Leaves (λ r. run (scope_in decls.now cs) ps (tokens r.1.now)) result (run (scope_in decls.now cs) (expr_places (scope_in decls.now cs) depth (names_in bound.now) First.Round ps) (tokens rest.now)) }
-    ensures spelled { IfOk result (λ r. (ts : List Tok) → word (codes "round") ts (tokens rest.now) → expr (scope_in decls.now []) (names_in bound.now) (expression r.0) ts (tokens r.1.now)) }
-    ensures high { IfOk result (λ r. height (expression r.0) + depth ≤ 201) }
+    ensures follows { (cs : List Bytes) (ps : List Place) → Leaves (λ r. run (scope_in decls.now cs) ps (tokens r.1.now)) result (run (scope_in decls.now cs) (expr_places (scope_in decls.now cs) language depth (names_in bound.now) First.Round ps) (tokens rest.now)) }
+    ensures spelled { IfOk result (λ r. (ts : List Tok) → word (codes "round") ts (tokens rest.now) → expr language (scope_in decls.now []) (names_in bound.now) (expression r.0) ts (tokens r.1.now)) }
+    ensures high { IfOk result (λ r. height (expression r.0) + depth ≤ greatest_depth language + 1) }
     ensures shorter { IfOk result (λ r. length r.1.now ≤ length rest.now) }
 {
     let (mode, scale, rest) = read_rounding(rest)?;
-    let (of, rest) = read_behind(alloc, decls, bound, depth, b",", rest)?;
+    let (of, rest) = read_behind(alloc, language, decls, bound, depth, b",", rest)?;
     let rest = skip_mark(rest, b")")?;
     Ok((Expr::Round { mode, scale, of }, rest))
 }
@@ -389,21 +436,22 @@ fn read_round<'a>(
 #[tactic(auto, using(crate::proofs::Parts::followed_by))]
 fn read_div<'a>(
     alloc: Global,
+    language: Language,
     decls: &Decls,
     bound: &Bound<'_>,
     depth: u32,
     rest: &'a [u8],
 ) -> Result<(Expr, &'a [u8]), ReadErr>
-    requires shallow { depth ≤ 200 }
+    requires shallow { depth ≤ greatest_depth language }
     requires bound { length (names_in bound.now) < depth }
-    ensures follows { (cs : List Bytes) (ps : List Place) → Leaves (λ r. run (scope_in decls.now cs) ps (tokens r.1.now)) result (run (scope_in decls.now cs) (expr_places (scope_in decls.now cs) depth (names_in bound.now) First.Div ps) (tokens rest.now)) }
-    ensures spelled { IfOk result (λ r. (ts : List Tok) → word (codes "div") ts (tokens rest.now) → expr (scope_in decls.now []) (names_in bound.now) (expression r.0) ts (tokens r.1.now)) }
-    ensures high { IfOk result (λ r. height (expression r.0) + depth ≤ 201) }
+    ensures follows { (cs : List Bytes) (ps : List Place) → Leaves (λ r. run (scope_in decls.now cs) ps (tokens r.1.now)) result (run (scope_in decls.now cs) (expr_places (scope_in decls.now cs) language depth (names_in bound.now) First.Div ps) (tokens rest.now)) }
+    ensures spelled { IfOk result (λ r. (ts : List Tok) → word (codes "div") ts (tokens rest.now) → expr language (scope_in decls.now []) (names_in bound.now) (expression r.0) ts (tokens r.1.now)) }
+    ensures high { IfOk result (λ r. height (expression r.0) + depth ≤ greatest_depth language + 1) }
     ensures shorter { IfOk result (λ r. length r.1.now ≤ length rest.now) }
 {
     let (mode, scale, rest) = read_rounding(rest)?;
-    let (top, rest) = read_behind(alloc, decls, bound, depth, b",", rest)?;
-    let (below, rest) = read_behind(alloc, decls, bound, depth, b",", rest)?;
+    let (top, rest) = read_behind(alloc, language, decls, bound, depth, b",", rest)?;
+    let (below, rest) = read_behind(alloc, language, decls, bound, depth, b",", rest)?;
     let rest = skip_mark(rest, b")")?;
     Ok((
         Expr::Div {
@@ -421,16 +469,17 @@ fn read_div<'a>(
 #[tactic(auto, using(crate::proofs::Parts::followed_by))]
 fn read_acc<'a>(
     alloc: Global,
+    language: Language,
     decls: &Decls,
     bound: &Bound<'_>,
     depth: u32,
     rest: &'a [u8],
 ) -> Result<(Expr, &'a [u8]), ReadErr>
-    requires shallow { depth ≤ 200 }
+    requires shallow { depth ≤ greatest_depth language }
     requires bound { length (names_in bound.now) < depth }
-    ensures follows { (cs : List Bytes) (ps : List Place) → Leaves (λ r. run (scope_in decls.now cs) ps (tokens r.1.now)) result (run (scope_in decls.now cs) (expr_places (scope_in decls.now cs) depth (names_in bound.now) First.Acc ps) (tokens rest.now)) }
-    ensures spelled { IfOk result (λ r. (ts : List Tok) → word (codes "acc") ts (tokens rest.now) → expr (scope_in decls.now []) (names_in bound.now) (expression r.0) ts (tokens r.1.now)) }
-    ensures high { IfOk result (λ r. height (expression r.0) + depth ≤ 201) }
+    ensures follows { (cs : List Bytes) (ps : List Place) → Leaves (λ r. run (scope_in decls.now cs) ps (tokens r.1.now)) result (run (scope_in decls.now cs) (expr_places (scope_in decls.now cs) language depth (names_in bound.now) First.Acc ps) (tokens rest.now)) }
+    ensures spelled { IfOk result (λ r. (ts : List Tok) → word (codes "acc") ts (tokens rest.now) → expr language (scope_in decls.now []) (names_in bound.now) (expression r.0) ts (tokens r.1.now)) }
+    ensures high { IfOk result (λ r. height (expression r.0) + depth ≤ greatest_depth language + 1) }
     ensures shorter { IfOk result (λ r. length r.1.now ≤ length rest.now) }
 {
     let (name, rest) = read_bound_name(rest)?;
@@ -438,9 +487,9 @@ fn read_acc<'a>(
         name,
         outer: &*bound,
     };
-    let (body, rest) = read_behind(alloc, decls, &inner, depth, b",", rest)?;
+    let (body, rest) = read_behind(alloc, language, decls, &inner, depth, b",", rest)?;
     let (days, rest) = read_days_back(rest)?;
-    let (first, rest) = read_behind(alloc, decls, bound, depth, b",", rest)?;
+    let (first, rest) = read_behind(alloc, language, decls, bound, depth, b",", rest)?;
     let rest = skip_mark(rest, b")")?;
     Ok((Expr::Acc { body, days, first }, rest))
 }
@@ -450,20 +499,21 @@ fn read_acc<'a>(
 #[tactic(auto, using(crate::proofs::Parts::followed_by))]
 pub fn read_expr<'a>(
     alloc: Global,
+    language: Language,
     decls: &Decls,
     bound: &Bound<'_>,
     depth: u32,
     rest: &'a [u8],
 ) -> Result<(Expr, &'a [u8]), ReadErr>
-    requires shallow { depth ≤ 201 }
+    requires shallow { depth ≤ greatest_depth language + 1 }
     requires bound { length (names_in bound.now) < depth }
-    ensures follows { (cs : List Bytes) (ps : List Place) → Leaves (λ r. run (scope_in decls.now cs) ps (tokens r.1.now)) result (run (scope_in decls.now cs) (ExprAt depth (names_in bound.now) ∷ ps) (tokens rest.now)) }
-    ensures spelled { IfOk result (λ r. expr (scope_in decls.now []) (names_in bound.now) (expression r.0) (tokens rest.now) (tokens r.1.now)) }
-    ensures high { IfOk result (λ r. height (expression r.0) + depth ≤ 201) }
+    ensures follows { (cs : List Bytes) (ps : List Place) → Leaves (λ r. run (scope_in decls.now cs) ps (tokens r.1.now)) result (run (scope_in decls.now cs) (ExprAt language depth (names_in bound.now) ∷ ps) (tokens rest.now)) }
+    ensures spelled { IfOk result (λ r. expr language (scope_in decls.now []) (names_in bound.now) (expression r.0) (tokens rest.now) (tokens r.1.now)) }
+    ensures high { IfOk result (λ r. height (expression r.0) + depth ≤ greatest_depth language + 1) }
     ensures shorter { IfOk result (λ r. length r.1.now ≤ length rest.now) }
 {
     let (token, after) = next(rest);
-    let first = match first_at(bound, depth, &token) {
+    let first = match first_at(language, bound, depth, &token) {
         Ok(first) => first,
         Err(kind) => return Err(refuse(kind, &token)),
     };
@@ -473,16 +523,16 @@ pub fn read_expr<'a>(
         First::True => Ok((Expr::Yes { value: true }, after)),
         First::False => Ok((Expr::Yes { value: false }, after)),
         First::Minus => read_negative(after),
-        First::Open => read_infix(alloc, decls, bound, depth, after),
-        First::Obs => read_observable(decls, after),
-        First::Neg => read_neg(alloc, decls, bound, depth, after),
-        First::Not => read_not(alloc, decls, bound, depth, after),
-        First::Min => read_min(alloc, decls, bound, depth, after),
-        First::Max => read_max(alloc, decls, bound, depth, after),
-        First::If => read_choice(alloc, decls, bound, depth, after),
-        First::Widen => read_widen(alloc, decls, bound, depth, after),
-        First::Round => read_round(alloc, decls, bound, depth, after),
-        First::Div => read_div(alloc, decls, bound, depth, after),
-        First::Acc => read_acc(alloc, decls, bound, depth, after),
+        First::Open => read_infix(alloc, language, decls, bound, depth, after),
+        First::Obs => read_observable(language, decls, after),
+        First::Neg => read_neg(alloc, language, decls, bound, depth, after),
+        First::Not => read_not(alloc, language, decls, bound, depth, after),
+        First::Min => read_min(alloc, language, decls, bound, depth, after),
+        First::Max => read_max(alloc, language, decls, bound, depth, after),
+        First::If => read_choice(alloc, language, decls, bound, depth, after),
+        First::Widen => read_widen(alloc, language, decls, bound, depth, after),
+        First::Round => read_round(alloc, language, decls, bound, depth, after),
+        First::Div => read_div(alloc, language, decls, bound, depth, after),
+        First::Acc => read_acc(alloc, language, decls, bound, depth, after),
     }
 }

@@ -1,8 +1,9 @@
 //! What a term begins with.
 ghost use Rattle.std.specs.Prelude.{◌≡◌, ◌≤◌, false, length};
+ghost use Rattle.contract_parse.specs.Words.{is_the_word};
 ghost use Rattle.contract_parse.specs.Names.{names_in};
 ghost use Rattle.contract_parse.specs.Judgements.{literal_at, variable_at};
-ghost use Rattle.contract_parse.specs.Heads.{first_at, first_name, first_number, first_of, first_word, head_at, head_of};
+ghost use Rattle.contract_parse.specs.Heads.{amount_head_at, amount_head_of, first_at, first_name, first_number, first_of, first_word, greatest_depth, head_at, head_of, leaf_word};
 ghost use Rattle.contract_parse.specs.Reading.{tok_of};
 
 use crate::faults::TextKind;
@@ -13,8 +14,13 @@ use crate::words::{is_name, is_number, is_the_mark, is_the_word};
 use decimal::Decimal;
 use term_core::{CmpOp, LogicOp, NumOp};
 
-/// The greatest depth of a term.
-pub const MAX_DEPTH: u32 = 200;
+/// The language whose terms are read: contracts, or payoff code. They differ in the word that reads an observable, and in
+/// how many terms may be open at one place.
+#[derive(Clone, Copy)]
+pub enum Language {
+    Contracts,
+    Code,
+}
 
 /// What an expression begins with.
 #[derive(Clone, Copy)]
@@ -49,6 +55,18 @@ pub enum Head {
     If,
 }
 
+/// What an amount of payoff code begins with.
+#[derive(Clone, Copy)]
+pub enum AmountHead {
+    None,
+    Pay,
+    Add,
+    Scale,
+    Let,
+    Loop,
+    Cut,
+}
+
 /// An operator between two expressions.
 #[derive(Clone, Copy)]
 pub enum Operator {
@@ -64,15 +82,33 @@ pub enum Binder {
     Acc,
 }
 
-fn first_word(token: &Lexeme<'_>) -> Result<First, TextKind>
-    ensures { result ≡ first_word (tok_of token.now) }
+/// The greatest depth of a term.
+pub fn greatest_depth(language: Language) -> u32
+    ensures { result ≡ greatest_depth language }
+{
+    match language {
+        Language::Contracts => 200,
+        Language::Code => 400,
+    }
+}
+
+// Whether the word that reads an observable stands here.
+fn is_leaf_word(language: Language, token: &Lexeme<'_>) -> bool
+    ensures { result ≡ is_the_word (leaf_word language) (tok_of token.now) }
+{
+    match language {
+        Language::Contracts => is_the_word(token, b"obs"),
+        Language::Code => is_the_word(token, b"model"),
+    }
+}
+
+fn first_word(language: Language, token: &Lexeme<'_>) -> Result<First, TextKind>
+    ensures { result ≡ first_word language (tok_of token.now) }
 {
     if is_the_word(token, b"true") {
         Ok(First::True)
     } else if is_the_word(token, b"false") {
         Ok(First::False)
-    } else if is_the_word(token, b"obs") {
-        Ok(First::Obs)
     } else if is_the_word(token, b"neg") {
         Ok(First::Neg)
     } else if is_the_word(token, b"not") {
@@ -91,6 +127,8 @@ fn first_word(token: &Lexeme<'_>) -> Result<First, TextKind>
         Ok(First::Div)
     } else if is_the_word(token, b"acc") {
         Ok(First::Acc)
+    } else if is_leaf_word(language, token) {
+        Ok(First::Obs)
     } else {
         Err(TextKind::Syntax)
     }
@@ -104,16 +142,16 @@ fn first_number(token: &Lexeme<'_>) -> Result<First, TextKind>
 }
 
 fn first_name(bound: &Bound<'_>, token: &Lexeme<'_>) -> Result<First, TextKind>
-    requires { length (names_in bound.now) ≤ 201 }
+    requires { length (names_in bound.now) ≤ 401 }
     ensures { result ≡ first_name (variable_at (names_in bound.now) (tok_of token.now)) }
 {
     let back = variable_at(bound, token)?;
     Ok(First::Name { back })
 }
 
-fn first_of(bound: &Bound<'_>, token: &Lexeme<'_>) -> Result<First, TextKind>
-    requires { length (names_in bound.now) ≤ 201 }
-    ensures { result ≡ first_of (names_in bound.now) (tok_of token.now) }
+fn first_of(language: Language, bound: &Bound<'_>, token: &Lexeme<'_>) -> Result<First, TextKind>
+    requires { length (names_in bound.now) ≤ 401 }
+    ensures { result ≡ first_of language (names_in bound.now) (tok_of token.now) }
 {
     if is_number(token) {
         first_number(token)
@@ -124,19 +162,24 @@ fn first_of(bound: &Bound<'_>, token: &Lexeme<'_>) -> Result<First, TextKind>
     } else if is_the_mark(token, b"(") {
         Ok(First::Open)
     } else {
-        first_word(token)
+        first_word(language, token)
     }
 }
 
 /// How an expression of a depth begins at a token, or the kind of the token's fault.
-pub fn first_at(bound: &Bound<'_>, depth: u32, token: &Lexeme<'_>) -> Result<First, TextKind>
-    requires { length (names_in bound.now) ≤ 201 }
-    ensures { result ≡ first_at depth (names_in bound.now) (tok_of token.now) }
+pub fn first_at(
+    language: Language,
+    bound: &Bound<'_>,
+    depth: u32,
+    token: &Lexeme<'_>,
+) -> Result<First, TextKind>
+    requires { length (names_in bound.now) ≤ 401 }
+    ensures { result ≡ first_at language depth (names_in bound.now) (tok_of token.now) }
 {
-    let first = first_of(bound, token);
+    let first = first_of(language, bound, token);
     match first {
         Err(TextKind::Syntax) | Err(TextKind::Number) | Err(TextKind::Date) => first,
-        _ if depth > MAX_DEPTH => Err(TextKind::Deep),
+        _ if depth > greatest_depth(language) => Err(TextKind::Deep),
         _ => first,
     }
 }
@@ -170,7 +213,41 @@ pub fn head_at(depth: u32, token: &Lexeme<'_>) -> Result<Head, TextKind>
     let head = head_of(token);
     match head {
         Err(TextKind::Syntax) | Err(TextKind::Number) | Err(TextKind::Date) => head,
-        _ if depth > MAX_DEPTH => Err(TextKind::Deep),
+        _ if depth > greatest_depth(Language::Contracts) => Err(TextKind::Deep),
+        _ => head,
+    }
+}
+
+fn amount_head_of(token: &Lexeme<'_>) -> Result<AmountHead, TextKind>
+    ensures { result ≡ amount_head_of (tok_of token.now) }
+{
+    if is_the_word(token, b"none") {
+        Ok(AmountHead::None)
+    } else if is_the_word(token, b"pay") {
+        Ok(AmountHead::Pay)
+    } else if is_the_word(token, b"add") {
+        Ok(AmountHead::Add)
+    } else if is_the_word(token, b"scale") {
+        Ok(AmountHead::Scale)
+    } else if is_the_word(token, b"let") {
+        Ok(AmountHead::Let)
+    } else if is_the_word(token, b"loop") {
+        Ok(AmountHead::Loop)
+    } else if is_the_word(token, b"cut") {
+        Ok(AmountHead::Cut)
+    } else {
+        Err(TextKind::Syntax)
+    }
+}
+
+/// How an amount of payoff code of a depth begins at a token, or the kind of the token's fault.
+pub fn amount_head_at(depth: u32, token: &Lexeme<'_>) -> Result<AmountHead, TextKind>
+    ensures { result ≡ amount_head_at depth (tok_of token.now) }
+{
+    let head = amount_head_of(token);
+    match head {
+        Err(TextKind::Syntax) | Err(TextKind::Number) | Err(TextKind::Date) => head,
+        _ if depth > greatest_depth(Language::Code) => Err(TextKind::Deep),
         _ => head,
     }
 }

@@ -2,7 +2,7 @@
 ghost use Rattle.std.specs.Prelude.{◌≡◌, ◌≤◌, ◌-◌, ◌^◌, IfErr, IfOk, length, true, unsigned_abs};
 ghost use Rattle.term_core.specs.Limits.{is_origin};
 ghost use Rattle.contract_parse.specs.Names.{names_in};
-ghost use Rattle.contract_parse.specs.Judgements.{above, binder_at, bound_at, integer_at, is_version, literal_at, mode_at, offset_at, operator_at, origin_at, separator_at, variable_at};
+ghost use Rattle.contract_parse.specs.Judgements.{above, binder_at, bound_at, date_number_at, integer_at, is_version, literal_at, mode_at, offset_at, operator_at, origin_at, separator_at, variable_at};
 ghost use Rattle.contract_parse.specs.Reading.{IsBetween, IsBound, tok_of};
 
 use crate::faults::{ReadErr, Refusal, TextKind};
@@ -26,7 +26,7 @@ pub fn refuse(kind: TextKind, token: &Lexeme<'_>) -> ReadErr
 
 /// A number without a point, of at most `most`.
 pub fn integer_at(most: u32, token: &Lexeme<'_>) -> Result<u32, TextKind>
-    requires { most ≤ 1_000_000 }
+    requires { most ≤ 2_000_000 }
     ensures value { result ≡ integer_at most (tok_of token.now) }
     ensures most { IfOk result (λ n. n ≤ most) }
 {
@@ -53,6 +53,15 @@ pub fn offset_at(negative: bool, token: &Lexeme<'_>) -> Result<i32, TextKind>
     ensures small { IfOk result (λ n. unsigned_abs n ≤ 1_000_000) }
 {
     let number = integer_at(1_000_000, token)? as i32;
+    Ok(if negative { -number } else { number })
+}
+
+/// The number of a date of payoff code, behind its sign.
+pub fn date_number_at(negative: bool, token: &Lexeme<'_>) -> Result<i32, TextKind>
+    ensures value { result ≡ date_number_at negative (tok_of token.now) }
+    ensures small { IfOk result (λ n. unsigned_abs n ≤ 2_000_000) }
+{
+    let number = integer_at(2_000_000, token)? as i32;
     Ok(if negative { -number } else { number })
 }
 
@@ -136,7 +145,7 @@ pub fn binder_at<'a>(token: &Lexeme<'a>) -> Result<&'a [u8], TextKind>
 
 /// A bound name, by the binders between it and its own.
 pub fn variable_at(bound: &Bound<'_>, token: &Lexeme<'_>) -> Result<u32, TextKind>
-    requires { length (names_in bound.now) ≤ 201 }
+    requires { length (names_in bound.now) ≤ 401 }
     ensures { result ≡ variable_at (names_in bound.now) (tok_of token.now) }
 {
     if is_name(token) {

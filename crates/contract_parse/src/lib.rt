@@ -4,6 +4,7 @@
 
 mod contrs;
 mod cursor;
+mod dates;
 mod decls;
 mod exprs;
 mod faults;
@@ -26,3 +27,19 @@ pub use faults::{ParseErr, TextFault, TextKind};
 pub use name_texts::is_name_text;
 pub use portfolio::parse_portfolio;
 pub use tokens::{Token, TokenKind};
+
+// What another grammar over the same tokens and expressions is read with.
+pub use dates::skip_date;
+pub use decls::read_decls;
+pub use exprs::read_expr;
+pub use faults::{ReadErr, Refusal};
+pub use heads::{AmountHead, Language, amount_head_at};
+pub use judges::refuse;
+pub use lines::fault_at;
+pub use names::Bound;
+pub use readers::{
+    after_mark, after_word, read_binder, read_date_number, read_end, read_new_name,
+    read_use_of_map, read_use_of_set, skip_mark, skip_version, skip_word,
+};
+pub use token::{Kind, Lexeme};
+pub use words::{Lookahead, look, next};

@@ -29,7 +29,7 @@ pub enum Bound<'a> {
 
 /// How many binders stand between a name and its own.
 pub fn back_to(bound: &Bound<'_>, name: &[u8]) -> Option<u32>
-    requires { length (names_in bound.now) ≤ 201 }
+    requires { length (names_in bound.now) ≤ 401 }
     ensures value { result ≡ back_to (names_in bound.now) name.now }
     ensures within { IfSome result (λ back. back < length (names_in bound.now)) }
 {

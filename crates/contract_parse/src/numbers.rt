@@ -14,7 +14,7 @@ fn digit(b: u8) -> u32
 
 /// The number of a text of digits, if it is at most `most`.
 pub fn whole_number(text: &[u8], most: u32) -> Option<u32>
-    requires { most ≤ 1_000_000 }
+    requires { most ≤ 2_000_000 }
     ensures value { result ≡ up_to most (number_after 0 text.now) }
     ensures most { IfSome result (λ n. n ≤ most) }
 {

@@ -6,19 +6,20 @@ ghost use Rattle.term_core.specs.Limits.{is_origin};
 ghost use Rattle.contract_parse.specs.Tokens.{tokens};
 ghost use Rattle.contract_parse.specs.Words.{Bytes};
 ghost use Rattle.contract_parse.specs.Names.{Scope, with_names};
-ghost use Rattle.contract_parse.specs.Judgements.{binder_at, bound_at, days_at, integer_at, is_version, literal_at, mode_at, new_at, offset_at, operator_at, origin_at, separator_at, use_at};
+ghost use Rattle.contract_parse.specs.Judgements.{binder_at, bound_at, date_number_at, days_at, integer_at, is_version, literal_at, mode_at, new_at, offset_at, operator_at, origin_at, separator_at, use_at};
 ghost use Rattle.contract_parse.specs.Spelling.{Signed, end, mark, one, valued, word};
 ghost use Rattle.contract_parse.specs.Statements.{Added};
-ghost use Rattle.contract_parse.specs.Places.{BinderAt, BoundAt, BoundNumber, DaysAt, IntegerAt, Leaves, LiteralNumber, ModeAt, MoreNames, NewIn, OffsetAt, OffsetNumber, Open, OperatorAt, OriginDate, Place, ScaleAt, TheEnd, TheMark, TheVersion, TheWord, UseOf, binder_places, bound_places, list_places, range_places, run};
-ghost use Rattle.contract_parse.specs.Reading.{IsBetween, IsBound, Lacks, tok_of, tokens_ahead};
+ghost use Rattle.contract_parse.specs.Places.{BinderAt, BoundAt, BoundNumber, DateAt, DateNumber, DaysAt, IntegerAt, Leaves, LiteralNumber, ModeAt, MoreNames, NewIn, OffsetAt, OffsetNumber, Open, OperatorAt, OriginDate, Place, ScaleAt, TheEnd, TheMark, TheVersion, TheWord, UseOf, binder_places, bound_places, list_places, range_places, run};
+ghost use Rattle.contract_parse.specs.Reading.{IsBetween, IsBound, Lacks, LacksMark, tok_of, tokens_ahead};
 ghost use Rattle.contract_parse.specs.declared.names.NameSet.{NameSet};
 ghost use Rattle.contract_parse.specs.declared.heads.Binder.{Binder};
+ghost use Rattle.contract_parse.specs.declared.heads.Language.{Language};
 
 use crate::faults::{ReadErr, TextKind};
 use crate::heads::Operator;
 use crate::judges::{
-    binder_at, bound_at, integer_at, is_version, literal_at, mode_at, offset_at, operator_at,
-    origin_at, refuse, separator_at,
+    binder_at, bound_at, date_number_at, integer_at, is_version, literal_at, mode_at, offset_at,
+    operator_at, origin_at, refuse, separator_at,
 };
 use crate::names::{place_in_map, place_in_set};
 use crate::words::{Lookahead, is_end, is_integer, is_name, is_the_mark, is_the_word, next};
@@ -92,9 +93,23 @@ pub fn after_word<'a>(ahead: &Lookahead<'a>, wanted: &[u8]) -> Option<&'a [u8]>
     }
 }
 
+/// The text after a mark, if that comes next.
+pub fn after_mark<'a>(rest: &'a [u8], wanted: &[u8]) -> Option<&'a [u8]>
+    ensures found { IfSome result (λ r. mark wanted.now (tokens rest.now) (tokens r.now)) }
+    ensures lacks { IfNone result (LacksMark wanted.now (tokens rest.now)) }
+    ensures shorter { IfSome result (λ r. length r.now < length rest.now) }
+{
+    let (token, after) = next(rest);
+    if is_the_mark(&token, wanted) {
+        Some(after)
+    } else {
+        None
+    }
+}
+
 /// A number without a point, of at most `most`.
 pub fn read_integer(most: u32, rest: &[u8]) -> Result<(u32, &[u8]), ReadErr>
-    requires { most ≤ 1_000_000 }
+    requires { most ≤ 2_000_000 }
     ensures most { IfOk result (λ r. r.0 ≤ most) }
     ensures follows { (s : Scope) (ps : List Place) → Leaves (λ r. run s ps (tokens r.1.now)) result (run s (IntegerAt most ∷ ps) (tokens rest.now)) }
     ensures spelled { IfOk result (λ r. valued (integer_at most) r.0 (tokens rest.now) (tokens r.1.now)) }
@@ -215,6 +230,35 @@ pub fn read_offset(rest: &[u8]) -> Result<(i32, &[u8]), ReadErr>
     }
 }
 
+// The number of a date behind its sign.
+fn read_days_behind_sign(negative: bool, rest: &[u8]) -> Result<(i32, &[u8]), ReadErr>
+    ensures follows { (s : Scope) (ps : List Place) → Leaves (λ r. run s ps (tokens r.1.now)) result (run s (DateNumber negative ∷ ps) (tokens rest.now)) }
+    ensures spelled { IfOk result (λ r. valued (date_number_at negative) r.0 (tokens rest.now) (tokens r.1.now)) }
+    ensures shorter { IfOk result (λ r. length r.1.now ≤ length rest.now) }
+{
+    let (token, after) = next(rest);
+    match date_number_at(negative, &token) {
+        Ok(days) => Ok((days, after)),
+        Err(kind) => Err(refuse(kind, &token)),
+    }
+}
+
+/// The number of a date of payoff code.
+pub fn read_date_number(rest: &[u8]) -> Result<(i32, &[u8]), ReadErr>
+    ensures follows { (s : Scope) (ps : List Place) → Leaves (λ r. run s ps (tokens r.1.now)) result (run s (DateAt ∷ ps) (tokens rest.now)) }
+    ensures spelled { IfOk result (λ r. Signed (λ negative. valued (date_number_at negative) r.0) (tokens rest.now) (tokens r.1.now)) }
+    ensures shorter { IfOk result (λ r. length r.1.now ≤ length rest.now) }
+{
+    let (token, after) = next(rest);
+    if is_the_mark(&token, b"-") {
+        return read_days_behind_sign(true, after);
+    }
+    match date_number_at(false, &token) {
+        Ok(days) => Ok((days, after)),
+        Err(kind) => Err(refuse(kind, &token)),
+    }
+}
+
 /// The number of a literal behind its sign.
 pub fn read_literal(negative: bool, rest: &[u8]) -> Result<(Decimal, &[u8]), ReadErr>
     ensures follows { (s : Scope) (ps : List Place) → Leaves (λ r. run s ps (tokens r.1.now)) result (run s (LiteralNumber negative ∷ ps) (tokens rest.now)) }
@@ -230,7 +274,7 @@ pub fn read_literal(negative: bool, rest: &[u8]) -> Result<(Decimal, &[u8]), Rea
 
 /// A name that a binder binds.
 pub fn read_binder(rest: &[u8]) -> Result<(&[u8], &[u8]), ReadErr>
-    ensures follows { (binder : Binder) (d : ℕ) (names : List Bytes) (s : Scope) (ps : List Place) → Leaves (λ r. run s (binder_places binder d names r.0.now ps) (tokens r.1.now)) result (run s (BinderAt binder d names ∷ ps) (tokens rest.now)) }
+    ensures follows { (binder : Binder) (l : Language) (d : ℕ) (names : List Bytes) (s : Scope) (ps : List Place) → Leaves (λ r. run s (binder_places binder l d names r.0.now ps) (tokens r.1.now)) result (run s (BinderAt binder l d names ∷ ps) (tokens rest.now)) }
     ensures spelled { IfOk result (λ r. valued binder_at r.0.now (tokens rest.now) (tokens r.1.now)) }
     ensures shorter { IfOk result (λ r. length r.1.now ≤ length rest.now) }
 {

@@ -7,6 +7,7 @@ use Rattle.contract_parse.specs.Heads.{head_at}
 use Rattle.contract_parse.specs.Places.{ContrAt, DaysAt, ExprAt, Next, TheMark, TheWord, contr_places}
 use Rattle.contract_parse.specs.Reading.{scope_in, tok_of}
 use Rattle.contract_parse.specs.declared.heads.Head.TheVariants as Head
+use Rattle.contract_parse.specs.declared.heads.Language.{Language}
 use Rattle.contract_parse.specs.declared.heads.Binder.TheVariants as binder
 use Rattle.contract_parse.proofs.HeadFacts.{heads}
 use Rattle.contract_parse.proofs.Parts.{followed_by, two_then}
@@ -224,36 +225,36 @@ read_after-returns-clause-spelled t c ts first =
 pub read_let-returns-in_err-name-clause-follows : goal.read_let-returns-in_err-name-clause-follows
 read_let-returns-in_err-name-clause-follows t c cs ps =
     let p = err_from_is_err_and c.from_residual.result c.from_residual.ensures.1 in
-    rw (p.1, p.2) (c.in_err-name.ensures.follows binder.Let c.args.depth (names_in c.args.bound.now) (scope_in c.args.decls.now cs) ps)
+    rw (p.1, p.2) (c.in_err-name.ensures.follows binder.Let Language.Contracts c.args.depth (names_in c.args.bound.now) (scope_in c.args.decls.now cs) ps)
 
 pub read_let-returns-in_err-rest-clause-follows : goal.read_let-returns-in_err-rest-clause-follows
 read_let-returns-in_err-rest-clause-follows t c cs ps =
     let p = err_from_is_err_and c.from_residual-in_err-rest.result c.from_residual-in_err-rest.ensures.1 in
     let before =
-    c.in_ok-name.ensures.follows binder.Let c.args.depth (names_in c.args.bound.now) (scope_in c.args.decls.now cs) ps in
-    rw (p.1, p.2, before) (c.in_err-rest.ensures.follows (scope_in c.args.decls.now cs) (ExprAt (c.args.depth + 1) (names_in c.args.bound.now) ∷ TheWord (codes "in") ∷ ContrAt (c.args.depth + 1) (c.in_ok-name.name.now ∷ (names_in c.args.bound.now)) ∷ ps))
+    c.in_ok-name.ensures.follows binder.Let Language.Contracts c.args.depth (names_in c.args.bound.now) (scope_in c.args.decls.now cs) ps in
+    rw (p.1, p.2, before) (c.in_err-rest.ensures.follows (scope_in c.args.decls.now cs) (ExprAt Language.Contracts (c.args.depth + 1) (names_in c.args.bound.now) ∷ TheWord (codes "in") ∷ ContrAt (c.args.depth + 1) (c.in_ok-name.name.now ∷ (names_in c.args.bound.now)) ∷ ps))
 
 pub read_let-returns-in_err-value-clause-follows : goal.read_let-returns-in_err-value-clause-follows
 read_let-returns-in_err-value-clause-follows t c cs ps =
     let p = err_from_is_err_and c.from_residual-in_err-value.result c.from_residual-in_err-value.ensures.1 in
     let before =
-    c.in_ok-name.ensures.follows binder.Let c.args.depth (names_in c.args.bound.now) (scope_in c.args.decls.now cs) ps
-    ∙ c.in_ok-rest.ensures.follows (scope_in c.args.decls.now cs) (ExprAt (c.args.depth + 1) (names_in c.args.bound.now) ∷ TheWord (codes "in") ∷ ContrAt (c.args.depth + 1) (c.in_ok-name.name.now ∷ (names_in c.args.bound.now)) ∷ ps) in
+    c.in_ok-name.ensures.follows binder.Let Language.Contracts c.args.depth (names_in c.args.bound.now) (scope_in c.args.decls.now cs) ps
+    ∙ c.in_ok-rest.ensures.follows (scope_in c.args.decls.now cs) (ExprAt Language.Contracts (c.args.depth + 1) (names_in c.args.bound.now) ∷ TheWord (codes "in") ∷ ContrAt (c.args.depth + 1) (c.in_ok-name.name.now ∷ (names_in c.args.bound.now)) ∷ ps) in
     rw (p.1, p.2, before) (c.in_err-value.ensures.follows cs (TheWord (codes "in") ∷ ContrAt (c.args.depth + 1) (c.in_ok-name.name.now ∷ (names_in c.args.bound.now)) ∷ ps))
 
 pub read_let-returns-in_err-body-clause-follows : goal.read_let-returns-in_err-body-clause-follows
 read_let-returns-in_err-body-clause-follows t c cs ps =
     let p = err_from_is_err_and c.from_residual-in_err-body.result c.from_residual-in_err-body.ensures.1 in
     let before =
-    c.in_ok-name.ensures.follows binder.Let c.args.depth (names_in c.args.bound.now) (scope_in c.args.decls.now cs) ps
-    ∙ c.in_ok-rest.ensures.follows (scope_in c.args.decls.now cs) (ExprAt (c.args.depth + 1) (names_in c.args.bound.now) ∷ TheWord (codes "in") ∷ ContrAt (c.args.depth + 1) (c.in_ok-name.name.now ∷ (names_in c.args.bound.now)) ∷ ps)
+    c.in_ok-name.ensures.follows binder.Let Language.Contracts c.args.depth (names_in c.args.bound.now) (scope_in c.args.decls.now cs) ps
+    ∙ c.in_ok-rest.ensures.follows (scope_in c.args.decls.now cs) (ExprAt Language.Contracts (c.args.depth + 1) (names_in c.args.bound.now) ∷ TheWord (codes "in") ∷ ContrAt (c.args.depth + 1) (c.in_ok-name.name.now ∷ (names_in c.args.bound.now)) ∷ ps)
     ∙ c.in_ok-value.ensures.follows cs (TheWord (codes "in") ∷ ContrAt (c.args.depth + 1) (c.in_ok-name.name.now ∷ (names_in c.args.bound.now)) ∷ ps) in
     rw (p.1, p.2, before) (c.in_err-body.ensures.follows cs ps)
 
 pub read_let-returns-clause-follows : goal.read_let-returns-clause-follows
 read_let-returns-clause-follows t c cs ps =
-    c.in_ok-name.ensures.follows binder.Let c.args.depth (names_in c.args.bound.now) (scope_in c.args.decls.now cs) ps
-    ∙ c.in_ok-rest.ensures.follows (scope_in c.args.decls.now cs) (ExprAt (c.args.depth + 1) (names_in c.args.bound.now) ∷ TheWord (codes "in") ∷ ContrAt (c.args.depth + 1) (c.in_ok-name.name.now ∷ (names_in c.args.bound.now)) ∷ ps)
+    c.in_ok-name.ensures.follows binder.Let Language.Contracts c.args.depth (names_in c.args.bound.now) (scope_in c.args.decls.now cs) ps
+    ∙ c.in_ok-rest.ensures.follows (scope_in c.args.decls.now cs) (ExprAt Language.Contracts (c.args.depth + 1) (names_in c.args.bound.now) ∷ TheWord (codes "in") ∷ ContrAt (c.args.depth + 1) (c.in_ok-name.name.now ∷ (names_in c.args.bound.now)) ∷ ps)
     ∙ c.in_ok-value.ensures.follows cs (TheWord (codes "in") ∷ ContrAt (c.args.depth + 1) (c.in_ok-name.name.now ∷ (names_in c.args.bound.now)) ∷ ps)
     ∙ c.in_ok-body.ensures.follows cs ps
 

@@ -1,4 +1,4 @@
-use Rattle.std.proofs.Common.{◌≡◌, ◌-◌, ℕ, List, [], ◌∷◌, length, take, drop, ap, subst, sym, arith, length-drop}
+use Rattle.std.proofs.Common.{◌≡◌, ◌-◌, ℕ, List, [], ◌∷◌, length, take, drop, ap, subst, sym, arith}
 use Rattle.std.proofs.lemmas.List.{length-take, take_rest}
 use Rattle.term_core.specs.Declarations.{declarations}
 use Rattle.contract_parse.specs.Tokens.{tokens}
