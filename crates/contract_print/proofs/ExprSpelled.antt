@@ -13,6 +13,7 @@ use Rattle.contract_parse.specs.Words.{Bytes}
 use Rattle.contract_parse.specs.Names.{Scope, scope_of}
 use Rattle.contract_parse.specs.Judgements.{literal_at, offset_at, variable_at}
 use Rattle.contract_parse.specs.Spelling.{Leaf, expr, expr_with, obs_leaf}
+use Rattle.contract_parse.specs.declared.heads.Language.{Language}
 use Rattle.contract_print.specs.TermTexts.{bound_name, expr_text, observed}
 use Rattle.contract_print.specs.Spellable.{HasNumbersOfTexts, IsObservable, IsSpellableWith, are_names}
 use Rattle.contract_print.specs.Spelled.{Spells, bound_names, stops}
@@ -75,7 +76,7 @@ spellable_with d n (Acc body days first) wf h =
     (h.0, spellable_with d (suc n) body (subst (λ k. IsWellFormed d k body) (add-one n) wf.0) h.1, spellable_with d n first wf.1 h.2)
 
 pub expr_spelled : (d : Declarations) (contracts : List Bytes) (n : ℕ) (e : Expression) → are_names (keys_of d.labels) ≡ true → IsWellFormed d n e → HasNumbersOfTexts e → n + height e ≤ 999
-    → Spells stops (expr_text (observed (keys_of d.labels)) n e) (expr (scope_of d contracts) (bound_names n) e)
+    → Spells stops (expr_text (observed (keys_of d.labels)) n e) (expr Language.Contracts (scope_of d contracts) (bound_names n) e)
 expr_spelled d contracts n e names wf h low =
     let s = scope_of d contracts in
     expr_spelled_with (obs_leaf s) (observed s.labels) (IsObservable d) (λ l t fits. observed_spells s l t names (omega (arith, fits.0, length-map d.labels (λ entry. entry.0))) fits.1) n e (spellable_with d n e wf h) low

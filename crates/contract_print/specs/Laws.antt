@@ -10,6 +10,7 @@ use Rattle.term_core.specs.Books.{Book}
 use Rattle.term_core.specs.WellFormed.{IsWellFormed, IsWellFormedContract}
 use Rattle.contract_parse.specs.Names.{scope_of}
 use Rattle.contract_parse.specs.Spelling.{expr, contr}
+use Rattle.contract_parse.specs.declared.heads.Language.{Language}
 use Rattle.contract_parse.specs.Texts.{Text}
 use Rattle.contract_print.specs.TermTexts.{expr_text, contr_text, observed}
 use Rattle.contract_print.specs.Canon.{IsCanon}
@@ -23,7 +24,7 @@ use Rattle.contract_print.specs.Writable.{IsWritableTerm}
 abbrev pub ExpressionIsSpelled : Type 0
 ExpressionIsSpelled =
     (d : Declarations) (n : ℕ) (e : Expression) → are_names (keys_of d.labels) ≡ true → IsWellFormed d n e → HasNumbersOfTexts e → n + height e ≤ 999
-    → Spells stops (expr_text (observed (keys_of d.labels)) n e) (expr (scope_of d []) (bound_names n) e)
+    → Spells stops (expr_text (observed (keys_of d.labels)) n e) (expr Language.Contracts (scope_of d []) (bound_names n) e)
 
 abbrev pub ContractIsSpelled : Type 0
 ContractIsSpelled =
