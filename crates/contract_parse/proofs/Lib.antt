@@ -37,3 +37,4 @@ pub mod FrontSteps
 pub mod FrontRuns
 pub mod FrontGoesOn
 pub mod FrontRows
+mod RowsCode

@@ -12,14 +12,15 @@ use Rattle.contract_parse.specs.Tokens.{Tok}
 use Rattle.contract_parse.specs.Words.{Bytes, is_name, is_number, is_the_mark, is_the_word, is_number_kind}
 use Rattle.contract_parse.specs.Names.{Scope}
 use Rattle.contract_parse.specs.Judgements.{binder_at, date_number_at, days_at, integer_at, literal_at, mode_at, offset_at, operator_at, use_at, variable_at}
-use Rattle.contract_parse.specs.Heads.{first_name, first_number, first_of, greatest_depth, head_of, within_depth}
+use Rattle.contract_parse.specs.Heads.{amount_head_of, first_name, first_number, first_of, greatest_depth, head_of, within_depth}
 use Rattle.contract_parse.specs.Spelling.{Part, ◌⨟◌, Signed, contr, dated_part, expr, infixed, leaf_of, mark, pair, sign, templates_part, valued, word}
-use Rattle.contract_parse.specs.Places.{Place, IntegerAt, UseOf, OffsetAt, OffsetNumber, LiteralNumber, DaysAt, ModeAt, OperatorAt, DateAt, DateNumber, MoreTemplates, TheMark, BinderAt, ExprAt, ContrAt, Next, binder_places, contr_places, date_places, expr_places, judged, operand_places, pair_places, run, step}
+use Rattle.contract_parse.specs.Places.{Place, IntegerAt, UseOf, OffsetAt, OffsetNumber, LiteralNumber, DaysAt, ModeAt, OperatorAt, DateAt, DateNumber, MoreTemplates, TheMark, BinderAt, ExprAt, ContrAt, AmountAt, Next, amount_places, binder_places, contr_places, date_places, expr_places, judged, operand_places, pair_places, run, step}
 use Rattle.contract_parse.specs.declared.token.Kind.TheVariants.{Word, Mark}
 use Rattle.contract_parse.specs.declared.faults.TextKind.TheVariants.{Deep}
 use Rattle.contract_parse.specs.declared.heads.Language.{Language}
 use Rattle.contract_parse.specs.declared.heads.First.{First}
 use Rattle.contract_parse.specs.declared.heads.Head.{Head}
+use Rattle.contract_parse.specs.declared.heads.AmountHead.{AmountHead}
 use Rattle.contract_parse.specs.declared.heads.Binder.{Binder}
 use Rattle.contract_parse.specs.declared.heads.Binder.TheVariants as binder
 use Rattle.contract_parse.specs.declared.heads.Operator.{Operator}
@@ -37,7 +38,7 @@ module _ (s : Scope) (ps : List Place) (ts rest : List Tok) where
   pub integer_taken : (most n : ℕ) → valued (integer_at most) n ts rest → run s (IntegerAt most ∷ ps) ts ≡ run s ps rest
   integer_taken most n x = value_taken s s (IntegerAt most ∷ ps) ps (integer_at most) n ts rest (λ t e. ap (λ v. judged v (λ (n : ℕ). Next s ps)) e) x
 
-  days_taken : (n : Days) → valued (days_at s.templates) n ts rest → run s (DaysAt s.templates ∷ ps) ts ≡ run s ps rest
+  pub days_taken : (n : Days) → valued (days_at s.templates) n ts rest → run s (DaysAt s.templates ∷ ps) ts ≡ run s ps rest
   days_taken n x = value_taken s s (DaysAt s.templates ∷ ps) ps (days_at s.templates) n ts rest (λ t e. ap (λ v. judged v (λ (d : Days). Next s ps)) e) x
 
   mode_taken : (m : Mode) → valued mode_at m ts rest → run s (ModeAt ∷ ps) ts ≡ run s ps rest
@@ -129,6 +130,17 @@ module _ (s : Scope) (d : ℕ) (names : List Bytes) (ps : List Place) (shallow :
   contr_word w h ts rest is x =
       test_taken s s (ContrAt d names ∷ ps) (contr_places s d names h ps) (is_the_word w) ts rest (λ t e. contr_begins h t (of_word (λ z. head_of z ≡ Ok h) w t e (is t.left))) x
 
+module _ (s : Scope) (d : ℕ) (names : List Bytes) (ps : List Place) (shallow : d ≤ 400) where
+  amount_begins : (h : AmountHead) (t : Tok) → amount_head_of t ≡ Ok h → step s (AmountAt d names ∷ ps) t ≡ Next s (amount_places s d names h ps)
+  amount_begins h t e =
+      ap (λ r. judged (within_depth Language.Code d r) (λ (head : AmountHead). Next s (amount_places s d names head ps))) e
+      ∙ ap (λ b. judged (cond b (Err Deep) (Ok h)) (λ (head : AmountHead). Next s (amount_places s d names head ps))) (le-ltb 400 d shallow)
+
+  -- the word that an amount of payoff code begins with
+  pub amount_word : (w : Bytes) (h : AmountHead) (ts rest : List Tok) → ((left : ℕ) → amount_head_of (record { kind = Word; text = w; left = left }) ≡ Ok h) → word w ts rest → run s (AmountAt d names ∷ ps) ts ≡ run s (amount_places s d names h ps) rest
+  amount_word w h ts rest is x =
+      test_taken s s (AmountAt d names ∷ ps) (amount_places s d names h ps) (is_the_word w) ts rest (λ t e. amount_begins h t (of_word (λ z. amount_head_of z ≡ Ok h) w t e (is t.left))) x
+
 -- ---- parts
 
 offset_signed : (s : Scope) (n : ℤ) (negative : Bool) → Takes s OffsetAt (sign negative ⨟ valued (offset_at negative) n)
@@ -167,11 +179,11 @@ date_taken s days written ps ts rest lacks x =
     ∙ templates_taken s written ps x.between rest lacks x.two
 
 module _ (s : Scope) (ps : List Place) (ts rest : List Tok) where
-  operand_taken : (p : Place) (L : Part) → Takes s p L → (mark (codes "(") ⨟ L ⨟ mark (codes ")")) ts rest → run s (operand_places p ps) ts ≡ run s ps rest
+  pub operand_taken : (p : Place) (L : Part) → Takes s p L → (mark (codes "(") ⨟ L ⨟ mark (codes ")")) ts rest → run s (operand_places p ps) ts ≡ run s ps rest
   operand_taken p L left x =
       mark_taken s (codes "(") _ ts x.between x.one ∙ left _ x.between x.two.between x.two.one ∙ mark_taken s (codes ")") ps x.two.between rest x.two.two
 
-  pair_taken : (p q : Place) (L R : Part) → Takes s p L → Takes s q R → pair L R ts rest → run s (pair_places p q ps) ts ≡ run s ps rest
+  pub pair_taken : (p q : Place) (L R : Part) → Takes s p L → Takes s q R → pair L R ts rest → run s (pair_places p q ps) ts ≡ run s ps rest
   pair_taken p q L R left right x =
       mark_taken s (codes "(") _ ts x.between x.one
       ∙ left _ x.between x.two.between x.two.one
@@ -188,7 +200,7 @@ module _ (s : Scope) (ps : List Place) (ts rest : List Tok) where
       ∙ right _ x.two.two.between x.two.two.two.between x.two.two.two.one
       ∙ mark_taken s (codes ")") ps x.two.two.two.between rest x.two.two.two.two
 
-tall : (e : Expression) → 0 < height e
+pub tall : (e : Expression) → 0 < height e
 tall (Lit m k) = lit< tt
 tall (Yes b) = lit< tt
 tall (Var i) = lit< tt

@@ -114,16 +114,16 @@ sign_least false = record { least = λ ts rest x. rw (x) (omega arith) }
 pub signed_least : {n : ℕ} (part : Bool → Part) → ((negative : Bool) → AtLeast n (part negative)) → AtLeast n (Signed part)
 signed_least part each = record { least = λ ts rest x. omega (arith, (sign_least x.negative ▹ each x.negative).least ts rest x.spelled) }
 
-some_least : {n : ℕ} (part : Bytes → Part) → ((name : Bytes) → AtLeast n (part name)) → AtLeast n (SomeName part)
+pub some_least : {n : ℕ} (part : Bytes → Part) → ((name : Bytes) → AtLeast n (part name)) → AtLeast n (SomeName part)
 some_least part each = record { least = λ ts rest x. (each x.name).least ts rest x.spelled }
 
-open_least : AtLeast 1 (mark (codes "("))
+pub open_least : AtLeast 1 (mark (codes "("))
 open_least = mark_least (codes "(") (omega arith)
 
-comma_least : AtLeast 1 (mark (codes ","))
+pub comma_least : AtLeast 1 (mark (codes ","))
 comma_least = mark_least (codes ",") (omega arith)
 
-close_least : AtLeast 1 (mark (codes ")"))
+pub close_least : AtLeast 1 (mark (codes ")"))
 close_least = mark_least (codes ")") (omega arith)
 
 -- a date

@@ -1,6 +1,6 @@
 -- Laws over the definitions of texts: what is spelled is taken by the places, so that a text has no fault; a text has
 -- one reading; what a text holds is bounded by its length; and its contracts are closed.
-use Rattle.std.specs.Prelude.{◌≡◌, ℕ, ◌+◌, ◌*◌, ◌≤◌, ◌<◌, ◌||◌, true, List, [], ◌∷◌, All, codes, length}
+use Rattle.std.specs.Prelude.{◌≡◌, ℕ, ℤ, ◌+◌, ◌*◌, ◌≤◌, ◌<◌, ◌||◌, true, List, [], ◌∷◌, All, codes, length}
 use Rattle.std.specs.List.{sum_by}
 use Rattle.term_core.specs.Terms.{Expression, Contract}
 use Rattle.term_core.specs.Sizes.{height, height_of_contract, nodes_of_contract}
@@ -11,9 +11,10 @@ use Rattle.contract_parse.specs.Tokens.{Tok, tokens}
 use Rattle.contract_parse.specs.Words.{Bytes, is_the_word, is_end}
 use Rattle.contract_parse.specs.Names.{Scope, nothing_declared, scope_of}
 use Rattle.contract_parse.specs.Heads.{greatest_depth}
-use Rattle.contract_parse.specs.Spelling.{expr, contr}
+use Rattle.contract_parse.specs.Spelling.{expr, contr, dated_part}
 use Rattle.contract_parse.specs.Statements.{decls}
-use Rattle.contract_parse.specs.Places.{Place, ExprAt, ContrAt, Open, decls_places, run, text_places}
+use Rattle.contract_parse.specs.Places.{Place, ExprAt, ContrAt, Open, date_places, decls_places, run, text_places}
+use Rattle.contract_parse.specs.Reading.{LacksMark}
 use Rattle.contract_parse.specs.Texts.{Text, IsFault}
 use Rattle.contract_parse.specs.Payments.{payments_in}
 use Rattle.contract_parse.specs.Sample.{sample_book, sample_text}
@@ -29,6 +30,16 @@ ExpressionIsTaken =
 abbrev pub ContractIsTaken : Type 0
 ContractIsTaken =
     (s : Scope) (names : List Bytes) (c : Contract) (depth : ℕ) (ps : List Place) (ts rest : List Tok) → depth + height_of_contract c ≤ 201 → contr s names c ts rest → run s (ContrAt depth names ∷ ps) ts ≡ run s ps rest
+
+-- one reading of the tokens of an expression, and of those after it
+abbrev pub OneExpression : Type 0
+OneExpression =
+    (l : Language) (s : Scope) (names : List Bytes) (e e' : Expression) (ts rest rest' : List Tok) → expr l s names e ts rest → expr l s names e' ts rest' → (e ≡ e') × (rest ≡ rest')
+
+-- a date of payoff code is taken up to a token that is no plus
+abbrev pub DateIsTaken : Type 0
+DateIsTaken =
+    (s : Scope) (days : ℤ) (written : List ℕ) (ps : List Place) (ts rest : List Tok) → LacksMark (codes "+") rest → dated_part s.templates days written ts rest → run s (date_places ps) ts ≡ run s ps rest
 
 -- what stands behind declarations: a contract or the end
 abbrev pub IsBehindDeclarations : List Tok → Type 0

@@ -1,11 +1,21 @@
 //! Laws over the definitions of texts: each function's contract is the law.
 ghost use Rattle.contract_parse.specs.FrontLaws.{FaultsEndFronts, FrontsEndInSyntax, FrontsGoOn, RefusedTokensEndFronts, TextsAreWhole};
 ghost use Rattle.contract_parse.specs.FrontRows.{FrontRows};
-ghost use Rattle.contract_parse.specs.Laws.{ContractIsTaken, ContractsAreClosed, ContractsFitText, DeclarationsAreTaken, ExpressionIsTaken, NamesFitText, NodesFitText, OneReading, PaymentsAreBounded, PaymentsFitText, SampleIsText, TextHasNoFault, TextIsTaken};
+ghost use Rattle.contract_parse.specs.Laws.{ContractIsTaken, ContractsAreClosed, ContractsFitText, DateIsTaken, DeclarationsAreTaken, ExpressionIsTaken, NamesFitText, NodesFitText, OneExpression, OneReading, PaymentsAreBounded, PaymentsFitText, SampleIsText, TextHasNoFault, TextIsTaken};
 
 /// What is spelled as an expression is taken at a place of an expression.
 pub fn expression_is_taken()
     ensures { ExpressionIsTaken }
+{}
+
+/// Tokens are spelled as at most one expression, in contracts and in payoff code.
+pub fn one_expression()
+    ensures { OneExpression }
+{}
+
+/// What is spelled as a date of payoff code is taken at its places.
+pub fn date_is_taken()
+    ensures { DateIsTaken }
 {}
 
 /// What is spelled as a contract is taken at a place of a contract.

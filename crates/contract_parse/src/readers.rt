@@ -28,6 +28,7 @@ use indexmap::{IndexMap, IndexSet};
 use std::alloc::Global;
 use term_core::{Days, Name};
 
+/// This mark.
 pub fn skip_mark<'a>(rest: &'a [u8], wanted: &[u8]) -> Result<&'a [u8], ReadErr>
     ensures follows { (s : Scope) (ps : List Place) → Leaves (λ r. run s ps (tokens r.now)) result (run s (TheMark wanted.now ∷ ps) (tokens rest.now)) }
     ensures spelled { IfOk result (λ r. mark wanted.now (tokens rest.now) (tokens r.now)) }
@@ -41,6 +42,7 @@ pub fn skip_mark<'a>(rest: &'a [u8], wanted: &[u8]) -> Result<&'a [u8], ReadErr>
     }
 }
 
+/// This word.
 pub fn skip_word<'a>(rest: &'a [u8], wanted: &[u8]) -> Result<&'a [u8], ReadErr>
     ensures follows { (s : Scope) (ps : List Place) → Leaves (λ r. run s ps (tokens r.now)) result (run s (TheWord wanted.now ∷ ps) (tokens rest.now)) }
     ensures spelled { IfOk result (λ r. word wanted.now (tokens rest.now) (tokens r.now)) }
