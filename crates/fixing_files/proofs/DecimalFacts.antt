@@ -1,11 +1,11 @@
 -- A field has a mantissa at a scale exactly where it is the text of a decimal that fits there.
-use Rattle.std.proofs.Common.{◌≡◌, ◌∙◌, ◌-◌, ◌≤◌, pos, true, sym, ap₂, subst, ℕ, ◌^◌, ◌<◌, ◌⊎◌, inl, inr, ℤ, List, ap, arith, refl, unsigned_abs}
+use Rattle.std.proofs.Common.{◌≡◌, ◌∙◌, ◌-◌, ◌≤◌, pos, true, sym, ap₂, subst, ℕ, ◌^◌, inl, inr, ℤ, List, ap, arith, refl, unsigned_abs}
 use Rattle.std.specs.Prelude.{Option, Some, None, Result, Ok, Err}
 use Rattle.decimal.specs.declared.reading.Decimal.{Decimal}
 use Rattle.decimal.specs.declared.reading.DecFault.{DecFault}
 use Rattle.decimal.specs.declared.reading.DecFault.TheVariants.{NotDecimal, TooWide}
-use Rattle.decimal.specs.DecimalText.{IsDecimalText, Reads}
-use Rattle.decimal.specs.Mantissas.{mantissa, decimal_of}
+use Rattle.decimal.specs.DecimalText.{Reads}
+use Rattle.decimal.specs.Mantissas.{mantissa}
 use Rattle.decimal.specs.Reading.{read_of}
 use Rattle.decimal.proofs.MantissaFacts.{mantissa_is, mantissa_within}
 use Rattle.decimal.proofs.ReadingFacts.{reads}

@@ -10,4 +10,5 @@ pub mod LawFacts
 pub mod DecimalFacts
 pub mod RecordFacts
 pub mod ReachedFacts
+pub mod CurveFacts
 mod RowsRecords

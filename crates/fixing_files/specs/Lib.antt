@@ -8,3 +8,4 @@ pub mod Rows
 pub mod Folds
 pub mod Gathering
 pub mod Laws
+pub mod Curves

@@ -1,6 +1,8 @@
-//! Tables of fixings: which values were observed, at which places, and on which day a text says so.
+//! Tables of fixings: which values were observed, at which places, and on which day a text says so; and curves of discount
+//! factors.
 #![tactic(auto)]
 
+mod curves;
 mod days;
 mod faults;
 mod fixings;
@@ -12,6 +14,7 @@ mod runs;
 mod tables;
 mod values;
 
+pub use curves::Curve;
 pub use days::{DayFault, NamedDay, day_of_text, place_day, read_day};
 pub use faults::{RowErr, RowFault, RowKind};
 pub use fixings::Fixings;
