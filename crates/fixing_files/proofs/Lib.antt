@@ -11,4 +11,7 @@ pub mod DecimalFacts
 pub mod RecordFacts
 pub mod ReachedFacts
 pub mod CurveFacts
+pub mod CurveRecordFacts
+pub mod CurveTableFacts
+pub mod CurveStepFacts
 mod RowsRecords

@@ -9,7 +9,7 @@ use Rattle.fixing_files.specs.Records.{Fields}
 use Rattle.fixing_files.specs.Tables.{Table, record_at, StandsAt, Says, IsFirstAt, Conflicts, Breaks}
 use Rattle.fixing_files.specs.declared.faults.RowKind.{RowKind}
 
-get_front : (t more : Table) (i : ℕ) → i < length t → slice_get (t ++ more) i ≡ slice_get t i
+pub get_front : (t more : Table) (i : ℕ) → i < length t → slice_get (t ++ more) i ≡ slice_get t i
 get_front [] more i h = absurd (omega (arith, h))
 get_front (r ∷ t) more zero h = refl
 get_front (r ∷ t) more (suc i) h = get_front t more i (omega (arith, h))

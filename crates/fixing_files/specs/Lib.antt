@@ -9,3 +9,6 @@ pub mod Folds
 pub mod Gathering
 pub mod Laws
 pub mod Curves
+pub mod CurveRecords
+pub mod CurveTables
+pub mod CurveSteps

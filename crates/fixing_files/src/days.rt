@@ -32,8 +32,8 @@ fn digits(text: &[u8]) -> Option<u32>
     Some(n)
 }
 
-// The number that one to nine digits write.
-fn count(text: &[u8]) -> Option<u32>
+/// The number that one to nine digits write.
+pub fn count(text: &[u8]) -> Option<u32>
     ensures value { result ≡ count_of text.now }
     ensures small { IfSome result (λ n. n < 10 ^ 9) }
 {

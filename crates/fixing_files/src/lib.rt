@@ -2,6 +2,8 @@
 //! factors.
 #![tactic(auto)]
 
+mod curve_records;
+mod curve_tables;
 mod curves;
 mod days;
 mod faults;
@@ -14,6 +16,7 @@ mod runs;
 mod tables;
 mod values;
 
+pub use curve_tables::read_curve;
 pub use curves::Curve;
 pub use days::{DayFault, NamedDay, day_of_text, place_day, read_day};
 pub use faults::{RowErr, RowFault, RowKind};

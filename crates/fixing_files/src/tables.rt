@@ -50,8 +50,8 @@ fn take(
     }
 }
 
-// More than the records of a table, of which there are at most one more than bytes.
-const MOST_READS: u32 = 16_777_218;
+/// More than the records of a table, of which there are at most one more than bytes.
+pub const MOST_READS: u32 = 16_777_218;
 
 // The fault of a table without records.
 fn missing(records: u32) -> Option<RowFault>

@@ -9,8 +9,8 @@ use crate::faults::RowKind;
 use decimal::{decimal_of, widen};
 use term_core::{Label, Value};
 
-// The mantissa of a decimal's text at a scale.
-fn mantissa(scale: u8, text: &[u8]) -> Option<i128>
+/// The mantissa of a decimal's text at a scale.
+pub fn mantissa(scale: u8, text: &[u8]) -> Option<i128>
     requires { scale ≤ 18 }
     ensures { result ≡ mantissa_at scale (decimal_of text.now) }
 {
