@@ -59,7 +59,7 @@ pub record IsWithin (row : CurveRow) : Type 0 where
   pub near : row.offset ≤ 2_000_000
   pub factor : IsFactor row.factor
 
-row_within : (fields : Fields) (row : CurveRow) → row_said fields ≡ Ok row → IsWithin row
+pub row_within : (fields : Fields) (row : CurveRow) → row_said fields ≡ Ok row → IsWithin row
 unfolding row_said
 row_within [] row h = absurd (cc)
 row_within (a ∷ []) row h = absurd (cc)

@@ -22,7 +22,7 @@ row_at rows zero = None
 row_at rows (suc zero) = None
 row_at rows (suc (suc i)) = slice_get rows i
 
-one_row : (a b : CurveRow) → ◌≡◌ {A = Result CurveRow RowKind} (Ok a) (Ok b) → a ≡ b
+pub one_row : (a b : CurveRow) → ◌≡◌ {A = Result CurveRow RowKind} (Ok a) (Ok b) → a ≡ b
 one_row a b e = cc
 
 one_option : (a b : CurveRow) → Some a ≡ Some b → a ≡ b

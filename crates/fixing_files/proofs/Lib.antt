@@ -14,4 +14,5 @@ pub mod CurveFacts
 pub mod CurveRecordFacts
 pub mod CurveTableFacts
 pub mod CurveStepFacts
+pub mod CurveLawFacts
 mod RowsRecords

@@ -12,3 +12,4 @@ pub mod Curves
 pub mod CurveRecords
 pub mod CurveTables
 pub mod CurveSteps
+pub mod LawsCurves

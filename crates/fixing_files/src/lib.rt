@@ -21,6 +21,6 @@ pub use curves::Curve;
 pub use days::{DayFault, NamedDay, day_of_text, place_day, read_day};
 pub use faults::{RowErr, RowFault, RowKind};
 pub use fixings::Fixings;
-pub use laws::{mantissas_are_written, tables_have_one_answer};
+pub use laws::{curves_have_one_answer, mantissas_are_written, tables_have_one_answer};
 pub use runs::FixedDay;
 pub use tables::read_fixings;
