@@ -1,2 +1,3 @@
 pub mod PieceFacts
 pub mod SumFacts
+mod RowsValueLines

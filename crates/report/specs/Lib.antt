@@ -3,3 +3,4 @@ pub mod CheckLines
 pub mod FaultLines
 pub mod FlowLines
 pub mod SumTables
+pub mod ValueLines
