@@ -16,3 +16,4 @@ pub mod CurveTableFacts
 pub mod CurveStepFacts
 pub mod CurveLawFacts
 mod RowsRecords
+mod RowsCurves
