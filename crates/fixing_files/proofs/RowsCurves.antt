@@ -1,5 +1,5 @@
 -- Worked rows: what single records of a table of discount factors say, and what whole tables hold.
-use Rattle.std.proofs.Common.{◌≡◌, ◌≢◌, ℕ, ℤ, pos, inl, inr, List, [], ◌∷◌, Option, Some, None, Result, Ok, Err, refl, arith}
+use Rattle.std.proofs.Common.{◌≡◌, ℕ, ℤ, pos, inl, inr, List, [], ◌∷◌, Result, Ok, Err, refl, arith}
 use Rattle.std.specs.Prelude.{codes}
 use Rattle.std.proofs.lemmas.Int.{ints}
 use Rattle.csv.specs.Machine.{next_record}
@@ -10,7 +10,7 @@ use Rattle.fixing_files.specs.CurveRecords.{curve_header, row_said}
 use Rattle.fixing_files.specs.CurveSteps.{IsFront}
 use Rattle.fixing_files.specs.CurveTables.{HoldsCurve, IsFirstCurveFault}
 use Rattle.fixing_files.specs.Records.{Fields}
-use Rattle.fixing_files.specs.Tables.{Table, table_of}
+use Rattle.fixing_files.specs.Tables.{table_of}
 use Rattle.fixing_files.specs.declared.faults.RowKind.{RowKind}
 use Rattle.fixing_files.specs.declared.faults.RowKind.TheVariants.{Shape, Day, Factor, Zero, Rising}
 use Rattle.fixing_files.proofs.CurveTableFacts.{next_is_first}

@@ -59,7 +59,8 @@ IsFront (fields ∷ records) rows = (fields ≡ curve_header) × SayRows records
 -- record n is taken behind those before, or it is the first that breaks a rule
 abbrev pub TakesRecord : ℕ → Fields → List CurveRow → List CurveRow → Result (Unit {0}) RowErr → Type 0
 TakesRecord n fields before after (Ok _) = (t : Table) → n ≡ length t + 1 → IsFront t before → IsFront (t ++ fields ∷ []) after
-TakesRecord n fields before after (Err (Row fault)) = (t more : Table) → n ≡ length t + 1 → IsFront t before → IsFirstCurveFault (t ++ fields ∷ more) fault
+TakesRecord n fields before after (Err (Row fault)) =
+    (t more : Table) → n ≡ length t + 1 → IsFront t before → IsFirstCurveFault (t ++ fields ∷ more) fault
 TakesRecord n fields before after (Err NoMemory) = Unit {0}
 
 -- the answer to n records that say these rows

@@ -58,7 +58,8 @@ pub record FallsBack (table : Table) (n : ℕ) (k : RowKind) : Type 0 where
 
 -- record n breaks the rule k
 abbrev pub BreaksCurve : Table → ℕ → RowKind → Type 0
-BreaksCurve table n k = LacksCurveHeader table n k ⊎ IsBrokenRow table n k ⊎ LacksRows table n k ⊎ StartsLate table n k ⊎ FallsBack table n k
+BreaksCurve table n k =
+    LacksCurveHeader table n k ⊎ IsBrokenRow table n k ⊎ LacksRows table n k ⊎ StartsLate table n k ⊎ FallsBack table n k
 
 -- the first record that breaks a rule, and the rule
 pub record IsFirstCurveFault (table : Table) (fault : RowFault) : Type 0 where

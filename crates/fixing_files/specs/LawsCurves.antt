@@ -16,7 +16,8 @@ CurveFaultsAreUnique =
     (table : Table) (one other : RowFault) → IsFirstCurveFault table one → IsFirstCurveFault table other → one ≡ other
 
 abbrev pub FaultyTablesHoldNoCurve : Type 0
-FaultyTablesHoldNoCurve = (table : Table) (fault : RowFault) (rows : List CurveRow) → IsFirstCurveFault table fault → ¬ (HoldsCurve table rows)
+FaultyTablesHoldNoCurve =
+    (table : Table) (fault : RowFault) (rows : List CurveRow) → IsFirstCurveFault table fault → ¬ (HoldsCurve table rows)
 
 abbrev pub TablesHoldOneCurve : Type 0
 TablesHoldOneCurve = (table : Table) (one other : List CurveRow) → HoldsCurve table one → HoldsCurve table other → one ≡ other

@@ -64,12 +64,12 @@ fn take(steps: &mut Vec<CurveStep>, number: u32, record: &ByteRecord) -> Result<
     }
 }
 
-// The curve of the rows of all records, by how many these were.
-fn ended(steps: Vec<CurveStep>, records: u32) -> Result<Curve, RowErr>
-    requires kept { 2 ≤ records → IsKept (rows_of steps.items) }
-    ensures { EndsCurve records (rows_of steps.items) result }
+// The curve of the rows of all records, by the count of these.
+fn ended(steps: Vec<CurveStep>, count: u32) -> Result<Curve, RowErr>
+    requires kept { 2 ≤ count → IsKept (rows_of steps.items) }
+    ensures { EndsCurve count (rows_of steps.items) result }
 {
-    match records {
+    match count {
         0 => Err(refused(1, RowKind::Shape)),
         1 => Err(refused(2, RowKind::Zero)),
         _ => Ok(Curve { steps }),

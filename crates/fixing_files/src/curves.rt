@@ -11,7 +11,7 @@ use term_core::laws::curves_answer_factors;
 const UNIT: i128 = 1_000_000_000;
 
 /// A row of a curve: an offset in days and the factor from there on, in units of 10^-9.
-#[derive(Clone, Copy, Debug, PartialEq, Eq)]
+#[derive(Clone, Copy)]
 pub struct CurveStep {
     pub offset: u32,
     pub factor: i128,
