@@ -3,10 +3,10 @@
 
 mod evaluation;
 mod heights;
-mod kinds;
+pub mod kinds;
 mod laws;
 pub mod operations;
-mod scopes;
+pub mod scopes;
 mod scratch;
 mod trials;
 mod values;

@@ -59,8 +59,8 @@ impl Model for Scratch {
 }
 
 impl Scratch {
-    // No entries, with room for some.
-    fn with_room(alloc: Global, spare: usize) -> Result<Scratch, NoMemory>
+    /// No entries, with room for some.
+    pub fn with_room(alloc: Global, spare: usize) -> Result<Scratch, NoMemory>
         ensures empty { IfOk result (λ s. s.entries ≡ []) }
         ensures spare { IfOk result (λ s. s.spare ≡ spare) }
     {

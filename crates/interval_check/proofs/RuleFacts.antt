@@ -55,10 +55,10 @@ scaled_same d k r (OfExpression e) = ap (λ (b : Bool). nat_le (scale_of d e (ki
 scaled_same d k r (OfContract c) = refl
 
 -- the tests of a site, and those of a part among ranges
-sorted_is : (d : Declarations) (k : ℕ) (r : List Layer) (part : Part) → is_sorted d (record { number = k; part = part; layers = r }) ≡ is_sorted_part d (range_kinds (ranges_round d r)) part
+pub sorted_is : (d : Declarations) (k : ℕ) (r : List Layer) (part : Part) → is_sorted d (record { number = k; part = part; layers = r }) ≡ is_sorted_part d (range_kinds (ranges_round d r)) part
 sorted_is d k r part = sorted_same d k r part ∙ ap (λ (ks : List Kind). is_sorted_part d ks part) (kinds_of_ranges d r)
 
-scaled_is : (d : Declarations) (k : ℕ) (r : List Layer) (part : Part) → is_scaled d (record { number = k; part = part; layers = r }) ≡ is_scaled_part d (range_kinds (ranges_round d r)) part
+pub scaled_is : (d : Declarations) (k : ℕ) (r : List Layer) (part : Part) → is_scaled d (record { number = k; part = part; layers = r }) ≡ is_scaled_part d (range_kinds (ranges_round d r)) part
 scaled_is d k r part = scaled_same d k r part ∙ ap (λ (ks : List Kind). is_scaled_part d ks part) (kinds_of_ranges d r)
 
 pub sorts_hold : (d : Declarations) (c : Contract) → Meets d Sort c → IsSortedContract d c []
