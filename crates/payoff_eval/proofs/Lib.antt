@@ -1,0 +1,10 @@
+pub mod WalkFacts
+pub mod AccFacts
+pub mod SizeFacts
+pub mod RuleFacts
+pub mod NodeFacts
+pub mod RunFacts
+pub mod FitFacts
+pub mod AnswerFacts
+pub mod LawFacts
+pub mod StepFacts

@@ -1,0 +1,71 @@
+-- What is asked, by contents: a payment gone by counts with its face value. And what is answered to it.
+use Rattle.std.specs.Prelude.{ℕ, ℤ, List, Result}
+use Rattle.term_core.specs.Declarations.{declarations}
+use Rattle.term_core.specs.declared.values.Value.{Value}
+use Rattle.term_core.specs.declared.values.Missing.{Missing}
+use Rattle.term_core.specs.Factors.{CurveRow}
+use Rattle.term_core.specs.Terms.{Expression}
+use Rattle.expr_eval.specs.declared.operations.Typed.{Typed}
+use Rattle.expr_eval.specs.declared.scopes.Scope.{Scope}
+use Rattle.expr_eval.specs.declared.scratch.Binding.{Binding}
+use Rattle.expr_eval.specs.Fits.{Fits, DayFitsIn, DaysFitIn}
+use Rattle.expr_eval.specs.Runs.{Answer, run_of, day_run, days_run}
+use Rattle.expr_eval.specs.Scopes.{bindings}
+use Rattle.payoff_lang.specs.declared.code.Vx.{Vx}
+use Rattle.payoff_lang.specs.Code.{ValueExpression, PayoffCode, value_expression}
+use Rattle.payoff_lang.specs.Dating.{at_setting}
+use Rattle.payoff_lang.specs.CodeValues.{Asked}
+use Rattle.payoff_lang.specs.Meaning.{face_value}
+use Rattle.payoff_eval.specs.DatesFit.{DatesFit}
+use Rattle.payoff_eval.specs.CodeRuns.{CodeFits, ValueFits, answer_of, run_code}
+use Rattle.payoff_eval.specs.declared.asking.Asking.{Asking}
+use Rattle.payoff_eval.specs.declared.walk.Worth.{Worth}
+
+abbrev pub asked_on : List CurveRow → ℤ → ℕ → ℕ → ℕ → Asked
+asked_on curve at from to asset =
+    record { now = at; curve = curve; gone = face_value; flow = record { from = from; to = to; asset = asset } }
+
+-- what the program's question stands for
+abbrev pub asked_of : Asking → Asked
+asked_of q = asked_on q.curve.now q.today q.from q.to q.asset
+
+-- a value expression at the setting: an expression of the contract language
+abbrev pub dated : Asking → Vx → Expression
+dated q e = at_setting q.setting.now (value_expression e)
+
+abbrev pub HasDates : Asking → Vx → Type 0
+HasDates q e = DatesFit q.setting.now (value_expression e)
+
+-- an evaluation of an expression on a day
+abbrev pub run_on : Asking → Expression → Scope → ℤ → Answer
+run_on q e scope f = run_of (declarations q.decls.now) e (bindings scope) q.fixings.now f
+
+abbrev pub FitsOn : Asking → Expression → Scope → ℤ → Type 0
+FitsOn q e scope f = Fits (declarations q.decls.now) e (bindings scope) q.fixings.now f
+
+-- a day of an accumulator with this body, and its first n days
+abbrev pub day_run_on : Asking → Expression → Scope → ℤ → Typed → Answer
+day_run_on q body scope at v = day_run (declarations q.decls.now) body (bindings scope) q.fixings.now at v
+
+abbrev pub DayFitsOn : Asking → Expression → Scope → ℤ → Typed → Type 0
+DayFitsOn q body scope at v = DayFitsIn (declarations q.decls.now) body (bindings scope) q.fixings.now at v
+
+abbrev pub days_run_on : Asking → Expression → Scope → ℤ → ℕ → Answer → Answer
+days_run_on q body scope from n start = days_run (declarations q.decls.now) body (bindings scope) q.fixings.now from n start
+
+abbrev pub DaysFitOn : Asking → Expression → Scope → ℤ → ℕ → Answer → Type 0
+DaysFitOn q body scope from n start = DaysFitIn (declarations q.decls.now) body (bindings scope) q.fixings.now from n start
+
+-- an evaluation of a value expression at a base
+abbrev pub answer_on : Asking → ValueExpression → List Binding → ℤ → Result Value Missing
+answer_on q v g b = answer_of (declarations q.decls.now) v g q.fixings.now q.setting.now b
+
+abbrev pub EvaluatesOn : Asking → ValueExpression → List Binding → ℤ → Type 0
+EvaluatesOn q v g b = ValueFits (declarations q.decls.now) v g q.fixings.now q.setting.now b
+
+-- a walk over code at a base
+abbrev pub worth_on : Asking → ℕ → PayoffCode → List Binding → ℤ → Result Worth Missing
+worth_on q room k g b = run_code (declarations q.decls.now) room k g q.fixings.now q.setting.now (asked_of q) b
+
+abbrev pub WalksOn : Asking → ℕ → PayoffCode → List Binding → ℤ → Type 0
+WalksOn q room k g b = CodeFits (declarations q.decls.now) room k g q.fixings.now q.setting.now (asked_of q) b

@@ -1,0 +1,8 @@
+pub mod DatesFit
+pub mod Walks
+pub mod CodeRules
+pub mod CodeRuns
+pub mod AskedOf
+pub mod Valuation
+pub mod CodeAnswers
+pub mod Laws

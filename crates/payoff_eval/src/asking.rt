@@ -1,0 +1,17 @@
+//! What a value is asked of.
+
+use fixing_files::{Curve, Fixings};
+use term_core::Decls;
+
+/// The declarations, the setting, the fixings and the curve, the current day, the pair and the asset.
+#[derive(Clone, Copy)]
+pub struct Asking<'a> {
+    pub decls: &'a Decls,
+    pub setting: &'a [u32],
+    pub fixings: &'a Fixings,
+    pub curve: &'a Curve,
+    pub today: i64,
+    pub from: u32,
+    pub to: u32,
+    pub asset: u32,
+}

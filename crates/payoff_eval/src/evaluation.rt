@@ -1,0 +1,248 @@
+//! The evaluator of value expressions: values with their kinds, or the first place that is not fixed. It answers what the
+//! evaluator of expressions answers of the expression that a value expression is at the setting.
+
+ghost use Rattle.std.specs.Prelude.{◌≡◌, ◌+◌, ◌+ℤ◌, ◌-ℤ◌, pos, slice_get};
+ghost use Rattle.term_core.specs.Declarations.{declarations};
+ghost use Rattle.term_core.specs.Terms.{Logic, Cond};
+ghost use Rattle.term_core.specs.Environments.{held, label_of};
+ghost use Rattle.term_core.specs.Kinds.{kind_of_label};
+ghost use Rattle.term_core.specs.Values.{kind_or};
+ghost use Rattle.expr_eval.specs.Scopes.{bindings};
+ghost use Rattle.expr_eval.specs.Runs.{of_binding, of_place, both_of};
+ghost use Rattle.expr_eval.specs.Fits.{IsDay};
+ghost use Rattle.payoff_eval.specs.AskedOf.{DayFitsOn, DaysFitOn, FitsOn, HasDates, dated, day_run_on, days_run_on, run_on};
+
+use crate::asking::Asking;
+use crate::dates::day_on;
+use crate::kinds::kind_in;
+use expr_eval::kinds::kind_observed;
+use expr_eval::operations::{
+    Operands, Typed, at_kind, combine, compare, divide, is_decided, negate, number, round, verdict,
+};
+use expr_eval::scopes::{Scope, binding_at};
+use expr_eval::{Binding, Held};
+use fixing_files::Fixings;
+use payoff_lang::Vx;
+use term_core::{Decls, Kind, LogicOp, Missing};
+
+// The value of the name that is bound `back` binders further out than the innermost.
+fn value_bound(scope: &Scope, back: u32) -> Result<Typed, Missing>
+    ensures { result ≡ of_binding (slice_get (bindings scope.now) back) }
+{
+    match binding_at(scope, back) {
+        Some(binding) => match binding.held {
+            Held::Known { value } => Ok(Typed {
+                kind: binding.kind,
+                value,
+            }),
+            Held::Lacking { missing } => Err(missing),
+        },
+        None => Ok(verdict(false)),
+    }
+}
+
+// The value of what is observed on a day.
+fn value_observed(decls: &Decls, label: u32, day: i64, fixings: &Fixings) -> Result<Typed, Missing>
+    ensures { result ≡ of_place (kind_or (kind_of_label (label_of (declarations decls.now) label))) (held fixings.now (record { label = label; day = day })) label day }
+{
+    match fixings.get(label, day) {
+        Some(value) => Ok(Typed {
+            kind: kind_observed(decls, label),
+            value,
+        }),
+        None => Err(Missing { label, day }),
+    }
+}
+
+// The day `i + 1` days after a day.
+fn day_after(from: i64, i: u32) -> i64
+    requires { IsDay from }
+    ensures { result ≡ from +ℤ pos (i + 1) }
+{
+    from + (i as i64 + 1)
+}
+
+// The day `days` days before a day.
+fn day_before(day: i64, days: u32) -> i64
+    requires { IsDay day }
+    ensures { result ≡ day -ℤ pos days }
+{
+    day - days as i64
+}
+
+/// The value of an expression with its kind, or the first place that is not fixed.
+#[cycle(evaluation)]
+pub fn evaluate(asking: &Asking, e: &Vx, scope: &Scope, day: i64) -> Result<Typed, Missing>
+    requires dates { HasDates asking.now e.now }
+    requires fits { FitsOn asking.now (dated asking.now e.now) scope.now day }
+    ensures { result ≡ run_on asking.now (dated asking.now e.now) scope.now day }
+{
+    match e {
+        Vx::Lit { mant, scale } => Ok(number(*scale, *mant)),
+        Vx::Yes { value } => Ok(verdict(*value)),
+        Vx::Var { back } => value_bound(scope, *back),
+        Vx::Model { label, date } => {
+            value_observed(
+                asking.decls,
+                *label,
+                day_on(asking, day, date),
+                asking.fixings,
+            )
+        }
+        Vx::Neg { of } => {
+            let of = evaluate(asking, of, scope, day)?;
+            Ok(negate(of))
+        }
+        Vx::Num { op, left, right } => {
+            let both = evaluate_both(asking, left, right, scope, day)?;
+            Ok(combine(*op, both))
+        }
+        Vx::Cmp { op, left, right } => {
+            let both = evaluate_both(asking, left, right, scope, day)?;
+            Ok(compare(*op, both))
+        }
+        Vx::Not { of } => {
+            let of = evaluate(asking, of, scope, day)?;
+            Ok(verdict(!of.value.is_true()))
+        }
+        Vx::Logic { op, left, right } => { evaluate_logic(asking, *op, left, right, scope, day) }
+        Vx::Cond { test, yes, no } => { evaluate_branches(asking, test, yes, no, scope, day) }
+        Vx::Widen { scale, of } => {
+            let of = evaluate(asking, of, scope, day)?;
+            Ok(at_kind(Kind::Number { scale: *scale }, of))
+        }
+        Vx::Round { mode, scale, of } => {
+            let of = evaluate(asking, of, scope, day)?;
+            Ok(round(*mode, *scale, of))
+        }
+        Vx::Div {
+            mode,
+            scale,
+            top,
+            below,
+        } => {
+            let both = evaluate_both(asking, top, below, scope, day)?;
+            Ok(divide(*mode, *scale, both))
+        }
+        Vx::Acc { body, days, first } => {
+            let from = day_before(day, *days);
+            let start = evaluate(asking, first, scope, from);
+            evaluate_days(asking, body, *days, start, scope, from)
+        }
+    }
+}
+
+// Both operands, the left one first.
+#[cycle(evaluation)]
+fn evaluate_both(
+    asking: &Asking,
+    left: &Vx,
+    right: &Vx,
+    scope: &Scope,
+    day: i64,
+) -> Result<Operands, Missing>
+    requires dates { HasDates asking.now left.now × HasDates asking.now right.now }
+    requires left { FitsOn asking.now (dated asking.now left.now) scope.now day }
+    requires right { FitsOn asking.now (dated asking.now right.now) scope.now day }
+    ensures { result ≡ both_of (run_on asking.now (dated asking.now left.now) scope.now day) (run_on asking.now (dated asking.now right.now) scope.now day) }
+{
+    let left = evaluate(asking, left, scope, day)?;
+    let right = evaluate(asking, right, scope, day)?;
+    Ok(Operands { left, right })
+}
+
+// Two truth values; the right one is looked at only where the left does not decide.
+#[cycle(evaluation)]
+fn evaluate_logic(
+    asking: &Asking,
+    op: LogicOp,
+    left: &Vx,
+    right: &Vx,
+    scope: &Scope,
+    day: i64,
+) -> Result<Typed, Missing>
+    requires dates { HasDates asking.now left.now × HasDates asking.now right.now }
+    requires fits { FitsOn asking.now (Logic op (dated asking.now left.now) (dated asking.now right.now)) scope.now day }
+    ensures { result ≡ run_on asking.now (Logic op (dated asking.now left.now) (dated asking.now right.now)) scope.now day }
+{
+    let left = evaluate(asking, left, scope, day)?.value.is_true();
+    if is_decided(op, left) {
+        return Ok(verdict(left));
+    }
+    let right = evaluate(asking, right, scope, day)?.value.is_true();
+    Ok(verdict(right))
+}
+
+// A branch, at the kind of both; of the one that is not taken only the kind is asked for.
+#[cycle(evaluation)]
+fn evaluate_branches(
+    asking: &Asking,
+    test: &Vx,
+    yes: &Vx,
+    no: &Vx,
+    scope: &Scope,
+    day: i64,
+) -> Result<Typed, Missing>
+    requires dates { HasDates asking.now test.now × HasDates asking.now yes.now × HasDates asking.now no.now }
+    requires fits { FitsOn asking.now (Cond (dated asking.now test.now) (dated asking.now yes.now) (dated asking.now no.now)) scope.now day }
+    ensures { result ≡ run_on asking.now (Cond (dated asking.now test.now) (dated asking.now yes.now) (dated asking.now no.now)) scope.now day }
+{
+    let test = evaluate(asking, test, scope, day)?;
+    if test.value.is_true() {
+        let taken = evaluate(asking, yes, scope, day)?;
+        let kind = taken.kind.either(kind_in(asking, no, scope));
+        Ok(at_kind(kind, taken))
+    } else {
+        let taken = evaluate(asking, no, scope, day)?;
+        let kind = kind_in(asking, yes, scope).either(taken.kind);
+        Ok(at_kind(kind, taken))
+    }
+}
+
+// An accumulator after its days, from its start, which stands on the day before the first of them.
+#[cycle(evaluation)]
+fn evaluate_days(
+    asking: &Asking,
+    body: &Vx,
+    days: u32,
+    start: Result<Typed, Missing>,
+    scope: &Scope,
+    from: i64,
+) -> Result<Typed, Missing>
+    requires dates { HasDates asking.now body.now }
+    requires fits { DaysFitOn asking.now (dated asking.now body.now) scope.now from days start }
+    requires first { IsDay from }
+    ensures { result ≡ days_run_on asking.now (dated asking.now body.now) scope.now from days start }
+{
+    let mut value = start?;
+    for i in 0..days {
+        let day = day_after(from, i);
+        value = evaluate_day(asking, body, value, scope, day)?;
+    }
+    Ok(value)
+}
+
+// An accumulator after one more day, from its value before.
+#[cycle(evaluation)]
+fn evaluate_day(
+    asking: &Asking,
+    body: &Vx,
+    value: Typed,
+    scope: &Scope,
+    day: i64,
+) -> Result<Typed, Missing>
+    requires dates { HasDates asking.now body.now }
+    requires fits { DayFitsOn asking.now (dated asking.now body.now) scope.now day value }
+    ensures { result ≡ day_run_on asking.now (dated asking.now body.now) scope.now day value }
+{
+    let held = Held::Known { value: value.value };
+    let inner = Scope::Inner {
+        binding: Binding {
+            kind: value.kind,
+            held,
+        },
+        outer: &*scope,
+    };
+    let next = evaluate(asking, body, &inner, day)?;
+    Ok(at_kind(value.kind, next))
+}

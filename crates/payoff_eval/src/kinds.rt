@@ -1,0 +1,48 @@
+//! Kinds of value expressions.
+
+ghost use Rattle.std.specs.Prelude.{◌≡◌};
+ghost use Rattle.term_core.specs.Declarations.{declarations};
+ghost use Rattle.interval_check.specs.RangeTrials.{kind_found};
+ghost use Rattle.expr_eval.specs.Rooms.{kinds_of};
+ghost use Rattle.expr_eval.specs.Scopes.{bindings};
+ghost use Rattle.expr_eval.specs.KindScales.{KindFits};
+ghost use Rattle.payoff_eval.specs.AskedOf.{dated};
+
+use crate::asking::Asking;
+use expr_eval::kinds::kind_observed;
+use expr_eval::operations::scale_of_both;
+use expr_eval::scopes::{Scope, kind_at};
+use payoff_lang::Vx;
+use term_core::Kind;
+
+/// The kind of an expression whose sorts are in order. It looks only at the parts on which the kind depends.
+pub fn kind_in(asking: &Asking, e: &Vx, scope: &Scope) -> Kind
+    requires { KindFits (declarations asking.now.decls.now) (dated asking.now e.now) (kinds_of (bindings scope.now)) }
+    ensures { result ≡ kind_found (declarations asking.now.decls.now) (dated asking.now e.now) (kinds_of (bindings scope.now)) }
+{
+    match e {
+        Vx::Lit { scale, .. } => Kind::Number { scale: *scale },
+        Vx::Var { back } => kind_at(scope, *back),
+        Vx::Model { label, .. } => kind_observed(asking.decls, *label),
+        Vx::Yes { .. } | Vx::Cmp { .. } | Vx::Not { .. } | Vx::Logic { .. } => Kind::Truth,
+        Vx::Neg { of } => Kind::Number {
+            scale: kind_in(asking, of, scope).scale(),
+        },
+        Vx::Num { op, left, right } => {
+            let left = kind_in(asking, left, scope);
+            let right = kind_in(asking, right, scope);
+            Kind::Number {
+                scale: scale_of_both(*op, left, right),
+            }
+        }
+        Vx::Cond { yes, no, .. } => {
+            let yes = kind_in(asking, yes, scope);
+            let no = kind_in(asking, no, scope);
+            yes.either(no)
+        }
+        Vx::Widen { scale, .. } => Kind::Number { scale: *scale },
+        Vx::Round { scale, .. } => Kind::Number { scale: *scale },
+        Vx::Div { scale, .. } => Kind::Number { scale: *scale },
+        Vx::Acc { first, .. } => kind_in(asking, first, scope),
+    }
+}

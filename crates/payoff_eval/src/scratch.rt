@@ -1,0 +1,62 @@
+//! Room for the names round a part of code.
+
+ghost use Rattle.std.specs.Prelude.{◌≡◌, ◌≤◌, ◌<◌, [], IfOk};
+ghost use Rattle.expr_eval.specs.Scopes.{bindings};
+ghost use Rattle.payoff_lang.specs.Code.{payoff_code};
+ghost use Rattle.payoff_lang.specs.CodeSizes.{height_of_code};
+
+use crate::heights::{MOST, height_of};
+use decimal::NoMemory;
+use expr_eval::Scratch;
+use expr_eval::scopes::Scope;
+use payoff_lang::CodeFile;
+use std::alloc::Global;
+use std::marker::Model;
+
+/// Room for the names round a part of code, seen as the number of names that have room. None is bound between two calls.
+#[derive(Drop)]
+pub struct ValueScratch {
+    names: Scratch,
+}
+
+impl Model for ValueScratch {
+    ghost use Rattle.std.specs.Prelude.{◌≡◌, ℕ, []};
+
+    ghost Value = { ℕ };
+
+    ghost view = { λ s. s.names.spare };
+
+    ghost invariant = { λ s. s.names.entries ≡ [] };
+}
+
+impl ValueScratch {
+    /// The scope of code that stands under no binder.
+    pub fn outermost(&self) -> Scope<'_>
+        ensures { bindings result ≡ [] }
+    {
+        Scope::Base {
+            scratch: &self.names,
+        }
+    }
+}
+
+// Room for some names.
+fn with_room(alloc: Global, room: usize) -> Result<ValueScratch, NoMemory>
+    ensures { IfOk result (λ s. s ≡ room) }
+{
+    let names = Scratch::with_room(alloc, room)?;
+    Ok(ValueScratch { names })
+}
+
+/// Room for as many names as the height of a file's code, which is no less than the names that are bound round any of its
+/// parts. Code higher than a million, which no accepted code is, finds no room.
+pub fn value_scratch(alloc: Global, file: &CodeFile) -> Result<ValueScratch, NoMemory>
+    ensures { IfOk result (λ room. height_of_code (payoff_code file.now.code) ≤ room) }
+{
+    let height = height_of(&file.code);
+    if height < MOST {
+        with_room(alloc, height as usize)
+    } else {
+        Err(NoMemory)
+    }
+}

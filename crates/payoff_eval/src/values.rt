@@ -1,0 +1,74 @@
+//! The value of a file's code.
+
+ghost use Rattle.std.specs.Prelude.{◌≡◌, ◌≤◌, IfOk};
+ghost use Rattle.term_core.specs.Declarations.{declarations};
+ghost use Rattle.term_core.specs.Environments.{IsAdmitted};
+ghost use Rattle.interval_check.specs.Safety.{IsSmall};
+ghost use Rattle.payoff_lang.specs.Code.{payoff_code};
+ghost use Rattle.payoff_lang.specs.CodeBooks.{code_book};
+ghost use Rattle.payoff_lang.specs.CodeSizes.{height_of_code};
+ghost use Rattle.payoff_lang.specs.CodeAcceptance.{IsAcceptedCode};
+ghost use Rattle.payoff_lang.specs.WellFormedCode.{IsClosedCode};
+ghost use Rattle.payoff_eval.specs.AskedOf.{asked_on};
+ghost use Rattle.payoff_eval.specs.Valuation.{HasNumberForEach, IsQuestion};
+ghost use Rattle.payoff_eval.specs.CodeAnswers.{IsValueOf, amount_in};
+
+use crate::asking::Asking;
+use crate::scratch::ValueScratch;
+use crate::walk::{Worth, walk};
+use fixing_files::{Curve, Fixings};
+use payoff_lang::CodeFile;
+use term_core::{Missing, Setting};
+
+// The amount of an answer.
+fn amount_of(found: Result<Worth, Missing>) -> Result<i128, Missing>
+    ensures { result ≡ amount_in found }
+{
+    match found {
+        Ok(worth) => Ok(worth.amount),
+        Err(missing) => Err(missing),
+    }
+}
+
+/// What a file's code, which is accepted at the setting, is worth on the day `at` for what `from` owes `to` in an asset,
+/// in units of the least decimal of the portfolio's amounts times 10^-9. The base is the start of the file's declarations.
+/// A payment to come counts with the factor of the curve at its days from `at` on, one gone by at face value. The value is
+/// the same whatever else will be observed. It lacks a place exactly where the code reads one that is not fixed, and then
+/// answers the first. It takes no memory.
+pub fn value(
+    file: &CodeFile,
+    setting: &Setting,
+    fixings: &Fixings,
+    curve: &Curve,
+    at: i64,
+    from: u32,
+    to: u32,
+    asset: u32,
+    scratch: &mut ValueScratch,
+) -> Result<i128, Missing>
+    requires setting { HasNumberForEach (declarations file.now.decls) setting.now.days.items }
+    requires formed { IsClosedCode (declarations file.now.decls) (payoff_code file.now.code) }
+    requires accepted { IsAcceptedCode (declarations file.now.decls) setting.now.days.items (payoff_code file.now.code) }
+    requires admitted { IsAdmitted (declarations file.now.decls) fixings.now }
+    requires question { IsQuestion (declarations file.now.decls) (asked_on curve.now at from to asset) }
+    requires room { height_of_code (payoff_code file.now.code) ≤ scratch.old }
+    ensures value { IsValueOf (code_book file.now) setting.now.days.items fixings.now (asked_on curve.now at from to asset) result }
+    ensures small { IfOk result IsSmall }
+    ensures room { scratch.new ≡ scratch.old }
+{
+    curve.rises();
+    let asking = Asking {
+        decls: &file.decls,
+        setting: setting.days.as_slice(),
+        fixings,
+        curve,
+        today: at,
+        from,
+        to,
+        asset,
+    };
+    let base = file.decls.start as i64;
+    let room = file.decls.amounts + 9;
+    let scope = scratch.outermost();
+    amount_of(walk(&asking, &scope, base, room, &file.code))
+}

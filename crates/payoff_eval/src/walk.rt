@@ -1,0 +1,298 @@
+//! The walk over code at a base: what it is worth, or the first place that is not fixed.
+
+ghost use Rattle.std.specs.Prelude.{◌≡◌, ◌≤◌, ◌^◌, ◌+◌, ◌*◌, ◌*ℤ◌, ◌+ℤ◌, ◌≤ℤ◌, ℕ, pos, int_lt, true, unsigned_abs, IfOk, Ok};
+ghost use Rattle.term_core.specs.Values.{num};
+ghost use Rattle.term_core.specs.Flows.{unit_flow};
+ghost use Rattle.interval_check.specs.Safety.{IsSmall};
+ghost use Rattle.expr_eval.specs.Runs.{untyped};
+ghost use Rattle.expr_eval.specs.Scopes.{bindings};
+ghost use Rattle.expr_eval.specs.Fits.{IsDay};
+ghost use Rattle.expr_eval.specs.Trials.{first_tried};
+ghost use Rattle.payoff_lang.specs.TemplateDates.{date, day_of};
+ghost use Rattle.payoff_lang.specs.Code.{value_expression, payoff_code, ScaleBy, LetBe, Loop};
+ghost use Rattle.payoff_lang.specs.CodeValues.{factor_on};
+ghost use Rattle.payoff_lang.specs.CodeReads.{concerns};
+ghost use Rattle.payoff_eval.specs.DatesFit.{DateFits};
+ghost use Rattle.payoff_eval.specs.Walks.{then_added};
+ghost use Rattle.payoff_eval.specs.CodeRuns.{DayFits, IsUpTo, paid};
+ghost use Rattle.payoff_eval.specs.AskedOf.{EvaluatesOn, WalksOn, answer_on, asked_of, worth_on};
+
+use crate::asking::Asking;
+use crate::dates::{count, day_on};
+use crate::evaluation::evaluate;
+use crate::kinds::kind_in;
+use decimal::align;
+use expr_eval::operations::Typed;
+use expr_eval::scopes::Scope;
+use expr_eval::{Binding, Held};
+use payoff_lang::{Code, DateExpr, Vx};
+use term_core::{Kind, Missing, Value};
+
+/// What code is worth at some decimals, and whether it reaches a payment of the pair and the asset that are asked for.
+#[derive(Clone, Copy, Debug, PartialEq, Eq)]
+pub struct Worth {
+    pub amount: i128,
+    pub reached: bool,
+}
+
+const NOTHING: Worth = Worth {
+    amount: 0,
+    reached: false,
+};
+
+// A payment of this pair, either way, and this asset.
+fn is_asked(asking: &Asking, asset: u32, from: u32, to: u32) -> bool
+    ensures { result ≡ concerns asset from to (asked_of asking.now).flow }
+{
+    asset == asking.asset
+        && from != to
+        && ((from == asking.from && to == asking.to) || (from == asking.to && to == asking.from))
+}
+
+// One unit from one party to another, as it is asked for.
+fn unit(asking: &Asking, asset: u32, from: u32, to: u32) -> i128
+    ensures value { result ≡ unit_flow asset from to (asked_of asking.now).flow }
+    ensures small { unsigned_abs result ≤ 1 }
+{
+    if asset == asking.asset && from != to {
+        if from == asking.from && to == asking.to {
+            1
+        } else if from == asking.to && to == asking.from {
+            -1
+        } else {
+            0
+        }
+    } else {
+        0
+    }
+}
+
+// The discount factor of a day, seen from the current day.
+fn factor(asking: &Asking, day: i64) -> i128
+    requires day { unsigned_abs day ≤ 2 * 10 ^ 18 }
+    requires today { IsDay asking.now.today }
+    ensures value { result ≡ factor_on (asked_of asking.now) day }
+    ensures small { unsigned_abs result ≤ 10 ^ 10 }
+{
+    asking.curve.at(day - asking.today)
+}
+
+// A factor times a unit.
+fn times(factor: i128, unit: i128) -> i128
+    requires factor { unsigned_abs factor ≤ 10 ^ 10 }
+    requires unit { unsigned_abs unit ≤ 1 }
+    ensures value { result ≡ factor *ℤ unit }
+    ensures small { unsigned_abs result ≤ 10 ^ 10 }
+{
+    factor * unit
+}
+
+// A payment on a day, at nine decimals.
+fn face(asking: &Asking, day: i64, asset: u32, from: u32, to: u32) -> i128
+    requires day { unsigned_abs day ≤ 2 * 10 ^ 18 }
+    requires today { IsDay asking.now.today }
+    ensures value { result ≡ factor_on (asked_of asking.now) day *ℤ unit_flow asset from to (asked_of asking.now).flow }
+    ensures small { unsigned_abs result ≤ 10 ^ 10 }
+{
+    times(factor(asking, day), unit(asking, asset, from, to))
+}
+
+// A payment on a day.
+fn pay(asking: &Asking, room: u8, day: i64, asset: u32, from: u32, to: u32) -> Worth
+    requires low { 9 ≤ room }
+    requires high { room ≤ 21 }
+    requires day { unsigned_abs day ≤ 2 * 10 ^ 18 }
+    requires today { IsDay asking.now.today }
+    ensures { result ≡ paid room (asked_of asking.now) day asset from to }
+{
+    Worth {
+        amount: align(face(asking, day, asset, from, to), 9, room),
+        reached: is_asked(asking, asset, from, to),
+    }
+}
+
+// An answer, without the kind of its value.
+fn without_kind(found: Result<Typed, Missing>) -> Result<Value, Missing>
+    ensures { result ≡ untyped found }
+{
+    match found {
+        Ok(found) => Ok(found.value),
+        Err(missing) => Err(missing),
+    }
+}
+
+// The value of a value expression at a base, or the first place that it reads and that is not fixed.
+fn value_on(asking: &Asking, scope: &Scope, base: i64, v: &Vx) -> Result<Value, Missing>
+    requires { EvaluatesOn asking.now (value_expression v.now) (bindings scope.now) base }
+    ensures { result ≡ answer_on asking.now (value_expression v.now) (bindings scope.now) base }
+{
+    without_kind(evaluate(asking, v, scope, base))
+}
+
+// The base some days later.
+fn later(base: i64, days: u32) -> i64
+    requires { IsDay base }
+    ensures { result ≡ base +ℤ pos days }
+{
+    base + days as i64
+}
+
+// The days until a test is first true, of the days 0 to `days`.
+fn first_day(
+    asking: &Asking,
+    scope: &Scope,
+    base: i64,
+    test: &Vx,
+    days: u32,
+) -> Result<Option<u32>, Missing>
+    requires days { days ≤ 100_000 }
+    requires base { IsDay base }
+    requires fits { (i : ℕ) → i ≤ 100_000 → EvaluatesOn asking.now (value_expression test.now) (bindings scope.now) (base +ℤ pos i) }
+    ensures few { IfOk result (λ first. IsUpTo first days) }
+    ensures first { result ≡ first_tried (days + 1) (λ i. answer_on asking.now (value_expression test.now) (bindings scope.now) (base +ℤ pos i)) }
+{
+    for i in 0..days + 1 {
+        let value = value_on(asking, scope, later(base, i), test)?;
+        if value.is_true() {
+            return Ok(Some(i));
+        }
+    }
+    Ok(None)
+}
+
+// Both amounts.
+fn added(left: Worth, right: Worth) -> Worth
+    requires left { IsSmall left.amount }
+    requires right { IsSmall right.amount }
+    ensures { Ok result ≡ then_added (Ok left) (Ok right) }
+{
+    Worth {
+        amount: left.amount + right.amount,
+        reached: left.reached || right.reached,
+    }
+}
+
+// An amount times a number.
+fn scaled(by: Value, worth: Worth) -> Worth
+    requires { IsSmall (num by *ℤ worth.amount) }
+    ensures { result ≡ record { amount = num by *ℤ worth.amount; reached = true } }
+{
+    Worth {
+        amount: by.number() * worth.amount,
+        reached: true,
+    }
+}
+
+// The date has gone by.
+fn is_gone(asking: &Asking, base: i64, x: &DateExpr) -> bool
+    requires { DayFits asking.now.setting.now (date x.now) base }
+    ensures { result ≡ int_lt (base +ℤ day_of asking.now.setting.now (date x.now)) asking.now.today }
+{
+    day_on(asking, base, x) < asking.today
+}
+
+/// What code is worth at a base, at so many decimals, or the first place that it reads and that is not fixed.
+#[cycle(walking)]
+pub fn walk(asking: &Asking, scope: &Scope, base: i64, room: u8, k: &Code) -> Result<Worth, Missing>
+    requires today { IsDay asking.now.today }
+    requires fits { WalksOn asking.now room (payoff_code k.now) (bindings scope.now) base }
+    ensures { result ≡ worth_on asking.now room (payoff_code k.now) (bindings scope.now) base }
+{
+    match k {
+        Code::None => Ok(NOTHING),
+        Code::Pay {
+            date,
+            asset,
+            from,
+            to,
+        } => Ok(pay(asking, room, day_on(asking, base, date), *asset, *from, *to)),
+        Code::Add { left, right } => {
+            let left = walk(asking, scope, base, room, left)?;
+            let right = walk(asking, scope, base, room, right)?;
+            Ok(added(left, right))
+        }
+        Code::Scale { factor, body } => walk_scaled(asking, scope, base, room, factor, body),
+        Code::Let { bound, body } => walk_bound(asking, scope, base, room, bound, body),
+        Code::LoopIf {
+            test,
+            upto,
+            hit,
+            miss,
+        } => walk_loop(asking, scope, base, room, test, upto, hit, miss),
+        Code::Cut { date, body } => {
+            if is_gone(asking, base, date) {
+                return Ok(NOTHING);
+            }
+            walk(asking, scope, base, room, body)
+        }
+    }
+}
+
+// An amount times a factor, which is asked for only where a payment is reached.
+#[cycle(walking)]
+fn walk_scaled(
+    asking: &Asking,
+    scope: &Scope,
+    base: i64,
+    room: u8,
+    by: &Vx,
+    body: &Code,
+) -> Result<Worth, Missing>
+    requires today { IsDay asking.now.today }
+    requires fits { WalksOn asking.now room (ScaleBy (value_expression by.now) (payoff_code body.now)) (bindings scope.now) base }
+    ensures { result ≡ worth_on asking.now room (ScaleBy (value_expression by.now) (payoff_code body.now)) (bindings scope.now) base }
+{
+    let scale = kind_in(asking, by, scope).scale();
+    let worth = walk(asking, scope, base, room - scale, body)?;
+    if !worth.reached {
+        return Ok(NOTHING);
+    }
+    let by = value_on(asking, scope, base, by)?;
+    Ok(scaled(by, worth))
+}
+
+// An amount in which a name is bound: its value or its first missing read is found once.
+#[cycle(walking)]
+fn walk_bound(
+    asking: &Asking,
+    scope: &Scope,
+    base: i64,
+    room: u8,
+    bound: &Vx,
+    body: &Code,
+) -> Result<Worth, Missing>
+    requires today { IsDay asking.now.today }
+    requires fits { WalksOn asking.now room (LetBe (value_expression bound.now) (payoff_code body.now)) (bindings scope.now) base }
+    ensures { result ≡ worth_on asking.now room (LetBe (value_expression bound.now) (payoff_code body.now)) (bindings scope.now) base }
+{
+    let kind = kind_in(asking, bound, scope);
+    let held = Held::of(value_on(asking, scope, base, bound));
+    let inner = Scope::Inner {
+        binding: Binding { kind, held },
+        outer: &*scope,
+    };
+    walk(asking, &inner, base, room, body)
+}
+
+// The branch that a loop enters.
+#[cycle(walking)]
+fn walk_loop(
+    asking: &Asking,
+    scope: &Scope,
+    base: i64,
+    room: u8,
+    test: &Vx,
+    upto: &DateExpr,
+    hit: &Code,
+    miss: &Code,
+) -> Result<Worth, Missing>
+    requires today { IsDay asking.now.today }
+    requires fits { WalksOn asking.now room (Loop (value_expression test.now) (date upto.now) (payoff_code hit.now) (payoff_code miss.now)) (bindings scope.now) base }
+    ensures { result ≡ worth_on asking.now room (Loop (value_expression test.now) (date upto.now) (payoff_code hit.now) (payoff_code miss.now)) (bindings scope.now) base }
+{
+    let days = count(asking, upto);
+    match first_day(asking, scope, base, test, days)? {
+        Some(first) => walk(asking, scope, later(base, first), room, hit),
+        None => walk(asking, scope, base, room, miss),
+    }
+}
