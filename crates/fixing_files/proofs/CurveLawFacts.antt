@@ -16,7 +16,7 @@ use Rattle.fixing_files.specs.declared.faults.RowKind.TheVariants as kind
 use Rattle.std.proofs.lemmas.Bool.{cases_Bool}
 use Rattle.fixing_files.proofs.CurveRecordFacts.{header_from, other_from}
 use Rattle.fixing_files.proofs.CurveStepFacts.{breaks_next, front_more, row_within}
-use Rattle.fixing_files.proofs.CurveTableFacts.{front_sound, next_is_first, one_row}
+use Rattle.fixing_files.proofs.CurveTableFacts.{front_sound, header_ended, next_is_first, none_ended, one_row, rows_ended}
 use Rattle.fixing_files.proofs.LawFacts.{same_fields}
 use Rattle.fixing_files.proofs.TableFacts.{record_within}
 
@@ -133,11 +133,8 @@ abbrev IsAnswered : Table → Type 0
 IsAnswered t = ((rows : List CurveRow) × HoldsCurve t rows) ⊎ ((fault : RowFault) × IsFirstCurveFault t fault)
 
 ends_with : (head : Fields) (records : List Fields) (rows : List CurveRow) → IsFront (head ∷ records) rows → IsAnswered (head ∷ records)
-ends_with head [] rows front =
-    inr (record { row = 2; kind = kind.Zero }, next_is_first (head ∷ []) [] rows 2 kind.Zero front refl (inr (inr (inl (record { number = refl; kind = refl; none = refl })))))
-ends_with head (r ∷ records) [] front = absurd front.1
-ends_with head (r ∷ records) (row ∷ rows) front =
-    inl (row ∷ rows, record { records = r ∷ records; headed = ap (λ (f : Fields). f ∷ r ∷ records) front.0; said = front.1; curve = front.2 })
+ends_with head [] rows front = inr (record { row = 2; kind = kind.Zero }, header_ended (head ∷ []) rows refl front)
+ends_with head (r ∷ records) rows front = inl (rows, rows_ended (head ∷ r ∷ records) rows (omega arith) front)
 
 abbrev step_from : CurveRow → CurveStep
 step_from row = record { offset = row.offset; factor = row.factor }
@@ -169,7 +166,7 @@ goes_on (f ∷ more) t steps some front = by_record t steps f more some front (g
 
 pub are_answered : CurveTablesAreAnswered
 are_answered [] =
-    inr (record { row = 1; kind = kind.Shape }, next_is_first [] [] [] 1 kind.Shape refl refl (inl (record { number = refl; kind = refl; other = λ e. absurd (cc) })))
+    inr (record { row = 1; kind = kind.Shape }, none_ended [] [] refl refl)
 are_answered (f ∷ more) = elim (cases_Bool (is_curve_header f)) [
   | inl is ↦ goes_on more (f ∷ []) [] (omega arith) (header_from f is, tt {0}, tt {0}, tt {0})
   | inr other ↦

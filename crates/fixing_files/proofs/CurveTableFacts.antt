@@ -5,13 +5,14 @@ use Rattle.std.proofs.lemmas.Bool.{cases_lt}
 use Rattle.term_core.specs.Factors.{CurveRow, Rises}
 use Rattle.fixing_files.specs.CurveRecords.{row_said}
 use Rattle.fixing_files.specs.CurveSteps.{BeginsCurve, IsFront, TakesRecord}
-use Rattle.fixing_files.specs.CurveTables.{AnswersCurve, BreaksCurve, IsFirstCurveFault, SaysRow, SayRows}
+use Rattle.fixing_files.specs.CurveTables.{AnswersCurve, BreaksCurve, HoldsCurve, IsFirstCurveFault, SaysRow, SayRows}
 use Rattle.fixing_files.specs.Curves.{IsKept}
 use Rattle.fixing_files.specs.Records.{Fields}
 use Rattle.fixing_files.specs.Tables.{StandsAt, Table, record_at}
 use Rattle.fixing_files.specs.declared.faults.RowErr.{RowErr}
 use Rattle.fixing_files.specs.declared.faults.RowErr.TheVariants.{Row, NoMemory}
 use Rattle.fixing_files.specs.declared.faults.RowKind.{RowKind}
+use Rattle.fixing_files.specs.declared.faults.RowKind.TheVariants as kind
 use Rattle.fixing_files.proofs.TableFacts.{get_front}
 
 -- records and their rows
@@ -151,7 +152,11 @@ next_is_first t more rows n k front next breaks = record {
   ];
 }
 
--- the rows of two records and more are those of a curve
+pub next_answers : (table t more : Table) (f : Fields) (n : ℕ) (before after : List CurveRow) (e : RowErr) → table ≡ t ++ f ∷ more → n ≡ length t + 1 → IsFront t before → TakesRecord n f before after (Err e) → AnswersCurve table (Err e)
+next_answers table t more f n before after (Row fault) is next front takes = subst (λ (all : Table). IsFirstCurveFault all fault) (sym is) (takes t more next front)
+next_answers table t more f n before after NoMemory is next front takes = tt {0}
+
+-- the answer behind the last record
 
 pub front_kept : (t : Table) (rows : List CurveRow) (n : ℕ) → n ≡ length t → IsFront t rows → 2 ≤ n → IsKept rows
 front_kept [] rows n is front two = absurd (omega (arith, is, two))
@@ -159,6 +164,16 @@ front_kept (head ∷ []) rows n is front two = absurd (omega (arith, is, two))
 front_kept (head ∷ r ∷ records) [] n is front two = absurd front.1
 front_kept (head ∷ r ∷ records) (row ∷ rows) n is front two = record { curve = front.2; near = front.3 }
 
-pub next_answers : (table t more : Table) (f : Fields) (n : ℕ) (before after : List CurveRow) (e : RowErr) → table ≡ t ++ f ∷ more → n ≡ length t + 1 → IsFront t before → TakesRecord n f before after (Err e) → AnswersCurve table (Err e)
-next_answers table t more f n before after (Row fault) is next front takes = subst (λ (all : Table). IsFirstCurveFault all fault) (sym is) (takes t more next front)
-next_answers table t more f n before after NoMemory is next front takes = tt {0}
+pub none_ended : (t : Table) (rows : List CurveRow) → 0 ≡ length t → IsFront t rows → IsFirstCurveFault t (record { row = 1; kind = kind.Shape })
+none_ended [] rows is front = next_is_first [] [] rows 1 kind.Shape front refl (inl (record { number = refl; kind = refl; other = λ e. absurd (cc) }))
+none_ended (r ∷ t) rows is front = absurd (omega (arith, is))
+
+pub header_ended : (t : Table) (rows : List CurveRow) → 1 ≡ length t → IsFront t rows → IsFirstCurveFault t (record { row = 2; kind = kind.Zero })
+header_ended [] rows is front = absurd (omega (arith, is))
+header_ended (r ∷ []) rows is front = next_is_first (r ∷ []) [] rows 2 kind.Zero front refl (inr (inr (inl (record { number = refl; kind = refl; none = refl }))))
+header_ended (r ∷ q ∷ t) rows is front = absurd (omega (arith, is))
+
+pub rows_ended : (t : Table) (rows : List CurveRow) → 2 ≤ length t → IsFront t rows → HoldsCurve t rows
+rows_ended [] rows two front = absurd (omega (arith, two))
+rows_ended (head ∷ records) rows two front =
+    record { records = records; headed = ap (λ (f : Fields). f ∷ records) front.0; said = front.1; curve = (front_kept (head ∷ records) rows (length (head ∷ records)) refl front two).curve }
