@@ -14,9 +14,8 @@ use Rattle.fixing_files.specs.declared.faults.RowFault.{RowFault}
 use Rattle.fixing_files.specs.declared.faults.RowKind.{RowKind}
 use Rattle.fixing_files.specs.declared.faults.RowKind.TheVariants as kind
 use Rattle.std.proofs.lemmas.Bool.{cases_Bool}
-use Rattle.fixing_files.proofs.CurveRecordFacts.{header_from, other_from}
 use Rattle.fixing_files.proofs.CurveStepFacts.{breaks_next, front_more, row_within}
-use Rattle.fixing_files.proofs.CurveTableFacts.{front_sound, header_ended, next_is_first, none_ended, one_row, rows_ended}
+use Rattle.fixing_files.proofs.CurveTableFacts.{front_sound, header_ended, header_front, header_lacks, next_is_first, none_ended, one_row, rows_ended}
 use Rattle.fixing_files.proofs.LawFacts.{same_fields}
 use Rattle.fixing_files.proofs.TableFacts.{record_within}
 
@@ -168,14 +167,6 @@ pub are_answered : CurveTablesAreAnswered
 are_answered [] =
     inr (record { row = 1; kind = kind.Shape }, none_ended [] [] refl refl)
 are_answered (f ∷ more) = elim (cases_Bool (is_curve_header f)) [
-  | inl is ↦ goes_on more (f ∷ []) [] (omega arith) (header_from f is, tt {0}, tt {0}, tt {0})
-  | inr other ↦
-      inr (
-        record { row = 1; kind = kind.Shape },
-        next_is_first [] (f ∷ more) [] 1 kind.Shape refl refl (inl (record {
-          number = refl;
-          kind = refl;
-          other = λ e. other_from f other (let same : Some f ≡ Some curve_header = e in cc);
-        })),
-      )
+  | inl is ↦ goes_on more (f ∷ []) [] (omega arith) (header_front [] f [] refl is refl)
+  | inr other ↦ inr (record { row = 1; kind = kind.Shape }, header_lacks [] f more [] refl other refl)
 ]

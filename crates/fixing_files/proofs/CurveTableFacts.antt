@@ -1,10 +1,10 @@
 -- A table of discount factors, record by record: what is known of the records before the next one holds with it, or it is
 -- the first record that breaks a rule.
-use Rattle.std.proofs.Common.{◌≡◌, ◌≢◌, ◌∙◌, inl, inr, ℕ, zero, suc, ◌+◌, ◌<◌, ◌≤◌, List, [], ◌∷◌, ◌++◌, length, Option, Some, None, Result, Ok, Err, slice_get, refl, sym, ap, subst, arith, add-one}
+use Rattle.std.proofs.Common.{true, false, ◌≡◌, ◌≢◌, ◌∙◌, inl, inr, ℕ, zero, suc, ◌+◌, ◌<◌, ◌≤◌, List, [], ◌∷◌, ◌++◌, length, Option, Some, None, Result, Ok, Err, slice_get, refl, sym, ap, subst, arith, add-one}
 use Rattle.std.proofs.lemmas.Bool.{cases_lt}
 use Rattle.term_core.specs.Factors.{CurveRow, Rises}
-use Rattle.fixing_files.specs.CurveRecords.{row_said}
-use Rattle.fixing_files.specs.CurveSteps.{BeginsCurve, IsFront, TakesRecord}
+use Rattle.fixing_files.specs.CurveRecords.{curve_header, row_said}
+use Rattle.fixing_files.specs.CurveSteps.{BeginsCurve, IsFront, TakesRecord, is_curve_header}
 use Rattle.fixing_files.specs.CurveTables.{AnswersCurve, BreaksCurve, HoldsCurve, IsFirstCurveFault, SaysRow, SayRows}
 use Rattle.fixing_files.specs.Curves.{IsKept}
 use Rattle.fixing_files.specs.Records.{Fields}
@@ -13,6 +13,7 @@ use Rattle.fixing_files.specs.declared.faults.RowErr.{RowErr}
 use Rattle.fixing_files.specs.declared.faults.RowErr.TheVariants.{Row, NoMemory}
 use Rattle.fixing_files.specs.declared.faults.RowKind.{RowKind}
 use Rattle.fixing_files.specs.declared.faults.RowKind.TheVariants as kind
+use Rattle.fixing_files.proofs.CurveRecordFacts.{header_from, other_from}
 use Rattle.fixing_files.proofs.TableFacts.{get_front}
 
 -- records and their rows
@@ -155,6 +156,21 @@ next_is_first t more rows n k front next breaks = record {
 pub next_answers : (table t more : Table) (f : Fields) (n : ℕ) (before after : List CurveRow) (e : RowErr) → table ≡ t ++ f ∷ more → n ≡ length t + 1 → IsFront t before → TakesRecord n f before after (Err e) → AnswersCurve table (Err e)
 next_answers table t more f n before after (Row fault) is next front takes = subst (λ (all : Table). IsFirstCurveFault all fault) (sym is) (takes t more next front)
 next_answers table t more f n before after NoMemory is next front takes = tt {0}
+
+-- the first record
+
+pub header_front : (t : Table) (f : Fields) (rows : List CurveRow) → 1 ≡ length t + 1 → is_curve_header f ≡ true → IsFront t rows → IsFront (t ++ f ∷ []) rows
+header_front [] f rows is header front = subst (λ (r : List CurveRow). IsFront (f ∷ []) r) (sym front) (header_from f header, tt {0}, tt {0}, tt {0})
+header_front (r ∷ t) f rows is header front = absurd (omega (arith, is))
+
+pub header_lacks : (t : Table) (f : Fields) (more : Table) (rows : List CurveRow) → 1 ≡ length t + 1 → is_curve_header f ≡ false → IsFront t rows → IsFirstCurveFault (t ++ f ∷ more) (record { row = 1; kind = kind.Shape })
+header_lacks [] f more rows is other front =
+    next_is_first [] (f ∷ more) rows 1 kind.Shape front refl (inl (record {
+      number = refl;
+      kind = refl;
+      other = λ e. other_from f other (let same : Some f ≡ Some curve_header = e in cc);
+    }))
+header_lacks (r ∷ t) f more rows is other front = absurd (omega (arith, is))
 
 -- the answer behind the last record
 

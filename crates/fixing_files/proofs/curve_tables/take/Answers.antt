@@ -5,7 +5,7 @@ use Rattle.fixing_files.specs.CurveTables.{BreaksCurve}
 use Rattle.fixing_files.specs.Curves.{rows_of}
 use Rattle.fixing_files.specs.declared.curves.CurveStep.{CurveStep}
 use Rattle.fixing_files.proofs.CurveStepFacts.{breaks_next, front_more}
-use Rattle.fixing_files.proofs.CurveTableFacts.{next_is_first}
+use Rattle.fixing_files.proofs.CurveTableFacts.{header_front, header_lacks, next_is_first}
 use Rattle.fixing_files.proofs.curve_tables.take.Goals as goal
 
 pub returns-in-Ok-push : goal.returns-in-Ok-push
@@ -26,3 +26,11 @@ returns-in-Err c = rw c.refused-in-Err.ensures (λ t more next front.
     let tells = subst (λ (o : Option CurveStep). TellsNext o f (Err k)) last c.in-Err.ensures in
     let breaks = breaks_next t f more steps k (omega (arith, next, c.requires.number, c.if-number-eq1.false)) front tells in
     next_is_first t (f ∷ more) (rows_of steps) c.args.number k front next (subst (λ (n : ℕ). BreaksCurve (t ++ f ∷ more) n k) (sym next) breaks))
+
+pub returns-then-is_curve_header : goal.returns-then-is_curve_header
+returns-then-is_curve_header c t next front =
+    header_front t (fields_of c.args.record.now) (rows_of c.args.steps.now.items) (sym c.if-number-eq1.true ∙ next) (sym c.if-is_curve_header.ensures) front
+
+pub returns-else-is_curve_header : goal.returns-else-is_curve_header
+returns-else-is_curve_header c = rw c.refused.ensures (λ t more next front.
+    header_lacks t (fields_of c.args.record.now) more (rows_of c.args.steps.now.items) (sym c.if-number-eq1.true ∙ next) (sym c.if-is_curve_header.ensures) front)
