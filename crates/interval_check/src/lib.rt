@@ -3,12 +3,12 @@
 #![tactic(auto)]
 
 mod bound_rule;
-mod intervals;
+pub mod intervals;
 mod laws;
 mod quotients;
-mod range_rule;
-mod range_scopes;
-mod ranges;
+pub mod range_rule;
+pub mod range_scopes;
+pub mod ranges;
 mod totals;
 
 pub use bound_rule::bounds;

@@ -2,8 +2,8 @@
 #![tactic(auto)]
 
 mod part_sizes;
-mod scale_rule;
-mod scale_scopes;
+pub mod scale_rule;
+pub mod scale_scopes;
 mod size_rule;
 
 pub use scale_rule::scales;

@@ -62,9 +62,10 @@ fn scale_of_answer(op: NumOp, left: u8, right: u8) -> u8
     }
 }
 
-// The scale of an expression among names of these scales.
+/// The scale of an expression whose sorts are right, among names of these scales, or the place of its first node that
+/// breaks the rule on scales, counted from the expression's own first node.
 #[cycle(scaling)]
-fn scale_of_expr(decls: &Decls, e: &Expr, scope: &ScaleScope) -> Result<u8, u32>
+pub fn scale_of_expr(decls: &Decls, e: &Expr, scope: &ScaleScope) -> Result<u8, u32>
     requires { nodes (expression e.now) < 2 ^ 32 }
     ensures scale { result ≡ scale_tried (declarations decls.now) (expression e.now) (scales_in scope.now) }
     ensures within { IfOk result (λ scale. scale ≤ 27) }

@@ -2,8 +2,8 @@
 #![tactic(auto)]
 
 mod laws;
-mod sort_rule;
-mod sort_scopes;
+pub mod sort_rule;
+pub mod sort_scopes;
 mod starts;
 mod time_rule;
 mod time_scopes;

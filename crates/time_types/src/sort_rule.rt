@@ -40,9 +40,10 @@ fn found(sort: Option<Sort>) -> Result<Sort, u32>
     }
 }
 
-// The sort of an expression among names of these sorts.
+/// The sort of an expression among names of these sorts, or the place of its first node that has none, counted from the
+/// expression's own first node.
 #[cycle(sorting)]
-fn sort_of_expr(decls: &Decls, e: &Expr, scope: &SortScope) -> Result<Sort, u32>
+pub fn sort_of_expr(decls: &Decls, e: &Expr, scope: &SortScope) -> Result<Sort, u32>
     requires { nodes (expression e.now) < 2 ^ 32 }
     ensures sort { result ≡ sort_tried (declarations decls.now) (expression e.now) (sorts_in scope.now) }
     ensures below { IfErr result (λ place. place < nodes (expression e.now)) }
