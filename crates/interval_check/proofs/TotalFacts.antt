@@ -85,7 +85,7 @@ read_off p xs k x (Err j) (Some m) e h f =
     let q : k + j ≡ m = let s : ◌≡◌ {A = Tried} (Err (k + j)) (Err m) = h in cc in
     e ∙ ap (λ (i : ℕ). Some i) (sym q)
 
-finds_range : (d : Declarations) (e : Expression) (r : List Layer) (k : ℕ) → Has d e (range_kinds (ranges_round d r)) → Finds (is_bounded d) (sites_of EachDay e r k) k (right_range d e (ranges_round d r)) (λ _. Unit {0}) (range_tried d e (ranges_round d r))
+pub finds_range : (d : Declarations) (e : Expression) (r : List Layer) (k : ℕ) → Has d e (range_kinds (ranges_round d r)) → Finds (is_bounded d) (sites_of EachDay e r k) k (right_range d e (ranges_round d r)) (λ _. Unit {0}) (range_tried d e (ranges_round d r))
 finds_range d e r k p =
     let g = ranges_round d r in
     read_off (is_bounded d) (sites_of EachDay e r k) k (right_range d e g) (range_tried d e g) (first_failing (is_bounded d) (sites_of EachDay e r k)) refl

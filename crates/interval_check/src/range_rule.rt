@@ -22,9 +22,10 @@ use crate::ranges::{
 };
 use term_core::{Decls, Expr, Kind, nodes_in};
 
-// The range of an expression among names of these ranges.
+/// The range of an expression whose sorts and scales are right, among names of these ranges, or the place of its first node
+/// that breaks the rule on bounds, counted from the expression's own first node.
 #[cycle(ranging)]
-fn range_of(decls: &Decls, e: &Expr, scope: &RangeScope) -> Result<Range, u32>
+pub fn range_of(decls: &Decls, e: &Expr, scope: &RangeScope) -> Result<Range, u32>
     requires nodes { nodes (expression e.now) < 2 ^ 32 }
     requires scaled { AreScaled (declarations decls.now) (expression e.now) (range_kinds (ranges_in scope.now)) }
     ensures range { range_found result ≡ range_tried (declarations decls.now) (expression e.now) (ranges_in scope.now) }

@@ -1,0 +1,5 @@
+pub mod Trials
+pub mod SortTrials
+pub mod ScaleTrials
+pub mod SizeTrials
+pub mod BoundTrials

@@ -1,0 +1,160 @@
+//! The rule on bounds: value expressions meet it as in contracts, and the total of all code is at most 10^37, as it is and at
+//! nine more decimals than the portfolio's. A payment counts with the greatest discount factor, which is 10.
+
+ghost use Rattle.std.specs.Prelude.{◌≡◌, ◌<◌, ◌≤◌, ◌+◌, ◌^◌, IfOk};
+ghost use Rattle.term_core.specs.Declarations.{declarations};
+ghost use Rattle.term_core.specs.Terms.{expression};
+ghost use Rattle.term_core.specs.Sizes.{nodes};
+ghost use Rattle.term_core.specs.Bounds.{range_kinds};
+ghost use Rattle.interval_check.specs.Ranges.{range, IsFit};
+ghost use Rattle.interval_check.specs.RangeScopes.{ranges_in};
+ghost use Rattle.interval_check.specs.RangeTrials.{kind_found, AreScaled};
+ghost use Rattle.payoff_lang.specs.Code.{value_expression, payoff_code};
+ghost use Rattle.payoff_lang.specs.Dating.{plain};
+ghost use Rattle.payoff_lang.specs.CodeSizes.{nodes_of_code};
+ghost use Rattle.payoff_check.specs.Trials.{Tells, TellsAs};
+ghost use Rattle.payoff_check.specs.BoundTrials.{AreValuesScaled, IsFitting, bounds_tried, of_part, ranged, total_here, value_tried};
+
+use crate::faults::Fault;
+use crate::plains::plain_of;
+use crate::totals::{CodeTotal, checked, greater_of, product_of, sum_of};
+use decimal::NoMemory;
+use interval_check::range_rule::range_of;
+use interval_check::range_scopes::RangeScope;
+use interval_check::ranges::Range;
+use payoff_lang::{Code, Vx};
+use std::alloc::Global;
+use term_core::{Decls, Expr, nodes_in};
+
+/// The range of a value expression, and its nodes.
+#[derive(Clone, Copy, Debug, PartialEq, Eq)]
+pub struct Ranged {
+    pub range: Range,
+    pub nodes: u32,
+}
+
+// Of a plain expression whose first node has a number.
+fn range_of_plain(decls: &Decls, e: &Expr, scope: &RangeScope, node: u32) -> Result<Ranged, Fault>
+    requires nodes { node + nodes (expression e.now) < 2 ^ 32 }
+    requires scaled { AreScaled (declarations decls.now) (expression e.now) (range_kinds (ranges_in scope.now)) }
+    ensures range { TellsAs ranged result (value_tried (declarations decls.now) (expression e.now) (ranges_in scope.now) node) }
+    ensures nodes { IfOk result (λ found. found.nodes ≡ nodes (expression e.now)) }
+    ensures kind { IfOk result (λ found. found.range.kind ≡ kind_found (declarations decls.now) (expression e.now) (range_kinds (ranges_in scope.now))) }
+    ensures fit { IfOk result (λ found. IsFit (range found.range)) }
+{
+    match range_of(decls, e, scope) {
+        Ok(range) => Ok(Ranged {
+            range,
+            nodes: nodes_in(e),
+        }),
+        Err(place) => Err(Fault::At { node: node + place }),
+    }
+}
+
+// Of a value expression whose first node has a number.
+fn range_of_value(
+    alloc: Global,
+    decls: &Decls,
+    v: &Vx,
+    scope: &RangeScope,
+    node: u32,
+) -> Result<Ranged, Fault>
+    requires nodes { node + nodes (plain (value_expression v.now)) < 2 ^ 32 }
+    requires scaled { AreScaled (declarations decls.now) (plain (value_expression v.now)) (range_kinds (ranges_in scope.now)) }
+    ensures range { TellsAs ranged result (value_tried (declarations decls.now) (plain (value_expression v.now)) (ranges_in scope.now) node) }
+    ensures nodes { IfOk result (λ found. found.nodes ≡ nodes (plain (value_expression v.now))) }
+    ensures kind { IfOk result (λ found. found.range.kind ≡ kind_found (declarations decls.now) (plain (value_expression v.now)) (range_kinds (ranges_in scope.now))) }
+    ensures fit { IfOk result (λ found. IsFit (range found.range)) }
+{
+    match plain_of(alloc, v) {
+        Ok(e) => range_of_plain(decls, &e, scope, node),
+        Err(NoMemory) => Err(Fault::NoMemory),
+    }
+}
+
+// The total of a part, where some nodes more stand in the whole.
+fn checked_part(decimals: u8, count: u32, part: CodeTotal, node: u32) -> Result<CodeTotal, Fault>
+    requires decimals { decimals ≤ 21 }
+    requires nodes { count + part.nodes + 1 < 2 ^ 32 }
+    ensures total { Tells result (total_here decimals (of_part count part) node) }
+    ensures nodes { IfOk result (λ t. t.nodes ≡ count + part.nodes + 1) }
+    ensures fits { IfOk result (λ t. IsFitting decimals t) }
+{
+    let of = CodeTotal {
+        amount: part.amount,
+        scale: part.scale,
+        nodes: count + part.nodes + 1,
+    };
+    checked(decimals, of, node)
+}
+
+// A total without parts.
+fn checked_leaf(decimals: u8, amount: u128, scale: u8, node: u32) -> Result<CodeTotal, Fault>
+    requires { decimals ≤ 21 }
+    ensures total { Tells result (total_here decimals (record { amount = amount; scale = scale; nodes = 1 }) node) }
+    ensures nodes { IfOk result (λ t. t.nodes ≡ 1) }
+    ensures fits { IfOk result (λ t. IsFitting decimals t) }
+{
+    let of = CodeTotal {
+        amount,
+        scale,
+        nodes: 1,
+    };
+    checked(decimals, of, node)
+}
+
+// The total of code whose own node has a number, among names of these ranges.
+fn bounds_of(
+    alloc: Global,
+    decls: &Decls,
+    k: &Code,
+    scope: &RangeScope,
+    node: u32,
+) -> Result<CodeTotal, Fault>
+    requires nodes { node + nodes_of_code (payoff_code k.now) < 2 ^ 32 }
+    requires scaled { AreValuesScaled (declarations decls.now) (payoff_code k.now) (range_kinds (ranges_in scope.now)) }
+    ensures total { Tells result (bounds_tried (declarations decls.now) (payoff_code k.now) (ranges_in scope.now) node) }
+    ensures nodes { IfOk result (λ found. found.nodes ≡ nodes_of_code (payoff_code k.now)) }
+    ensures fits { IfOk result (λ found. IsFitting (decls.now.amounts + 9) found) }
+{
+    let decimals = decls.amounts + 9;
+    match k {
+        Code::None => checked_leaf(decimals, 0, 0, node),
+        Code::Pay { .. } => checked_leaf(decimals, 10_000_000_000, 9, node),
+        Code::Add { left, right } => {
+            let one = bounds_of(alloc, decls, left, scope, node + 1)?;
+            let two = bounds_of(alloc, decls, right, scope, node + 1 + one.nodes)?;
+            sum_of(decimals, one, two, node)
+        }
+        Code::Scale { factor, body } => {
+            let found = range_of_value(alloc, decls, factor, scope, node + 1)?;
+            let part = bounds_of(alloc, decls, body, scope, node + 1 + found.nodes)?;
+            product_of(decimals, found, part, node)
+        }
+        Code::Let { bound, body } => {
+            let found = range_of_value(alloc, decls, bound, scope, node + 1)?;
+            let inner = RangeScope::Bound {
+                range: found.range,
+                outer: &*scope,
+            };
+            let part = bounds_of(alloc, decls, body, &inner, node + 1 + found.nodes)?;
+            checked_part(decimals, found.nodes, part, node)
+        }
+        Code::LoopIf {
+            test,
+            hit,
+            miss,
+            ..
+        } => {
+            let found = range_of_value(alloc, decls, test, scope, node + 1)?;
+            let after = node + 1 + found.nodes;
+            let one = bounds_of(alloc, decls, hit, scope, after)?;
+            let two = bounds_of(alloc, decls, miss, scope, after + one.nodes)?;
+            greater_of(decimals, found.nodes, one, two, node)
+        }
+        Code::Cut { body, .. } => {
+            let part = bounds_of(alloc, decls, body, scope, node + 1)?;
+            checked_part(decimals, 0, part, node)
+        }
+    }
+}

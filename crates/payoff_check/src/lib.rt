@@ -1,0 +1,14 @@
+//! Which payoff code is accepted at a setting: the rules on sorts, scales, sizes and bounds, in this order. For value
+//! expressions the first two and the last are the rules of contracts, tried on the plain expression.
+#![tactic(auto)]
+
+mod bound_rule;
+mod days;
+mod faults;
+mod part_sizes;
+mod plains;
+mod scale_rule;
+mod size_rule;
+mod sort_rule;
+mod totals;
+mod value_sizes;

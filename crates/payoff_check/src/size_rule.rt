@@ -1,0 +1,109 @@
+//! The rule on sizes at a setting: a height of at most 400, at most 200,000 nodes, a work of at most 10,000,000, loops of at
+//! most 100,000 days one within another, and every date within its range.
+
+ghost use Rattle.std.specs.Prelude.{◌≡◌, ◌<◌, ◌≤◌, ◌+◌, ◌^◌, IfOk, true};
+ghost use Rattle.term_core.specs.Sizes.{nodes};
+ghost use Rattle.term_core.specs.Trying.{moved};
+ghost use Rattle.payoff_lang.specs.TemplateDates.{date, day_of};
+ghost use Rattle.payoff_lang.specs.Code.{value_expression, payoff_code};
+ghost use Rattle.payoff_lang.specs.CodeAcceptance as rule;
+ghost use Rattle.payoff_lang.specs.CodeSizes.{as_count, nodes_of_code};
+ghost use Rattle.payoff_lang.specs.Dating.{at_setting, plain};
+ghost use Rattle.payoff_check.specs.SizeTrials.{IsLimited, IsLimitedCode, dated_code, looped, size_tried, sizes_tried};
+
+use crate::days::{day_at, is_date, is_upto};
+use crate::part_sizes::{CodeSize, ValueSize};
+use crate::value_sizes::size_of_value;
+use payoff_lang::{Code, DateExpr, Vx};
+
+// The size of a value expression whose first node has a number.
+fn size_at(setting: &[u32], v: &Vx, node: u32) -> Result<ValueSize, u32>
+    requires { node + nodes (plain (value_expression v.now)) < 2 ^ 32 }
+    ensures size { result ≡ moved node (size_tried (at_setting setting.now (value_expression v.now))) }
+    ensures limits { IfOk result IsLimited }
+    ensures nodes { IfOk result (λ size. size.nodes ≡ nodes (plain (value_expression v.now))) }
+{
+    match size_of_value(setting, v) {
+        Ok(size) => Ok(size),
+        Err(place) => Err(node + place),
+    }
+}
+
+// A size within the limits, where the date at its node is within its range.
+fn dated(setting: &[u32], on: &DateExpr, size: CodeSize, node: u32) -> Result<CodeSize, u32>
+    ensures size { result ≡ dated_code (rule.is_date (day_of setting.now (date on.now))) size node }
+    ensures limits { IfOk result IsLimitedCode }
+    ensures nodes { IfOk result (λ found. found.nodes ≡ size.nodes) }
+{
+    if is_date(day_at(setting, on)) {
+        size.limited(node)
+    } else {
+        Err(node)
+    }
+}
+
+// The size of a `loop` from those of its parts, where its last day is within its range.
+fn looped_to(
+    day: i128,
+    test: ValueSize,
+    hit: CodeSize,
+    miss: CodeSize,
+    node: u32,
+) -> Result<CodeSize, u32>
+    requires test { IsLimited test }
+    requires hit { IsLimitedCode hit }
+    requires miss { IsLimitedCode miss }
+    ensures size { result ≡ dated_code (rule.is_upto day) (looped test (as_count day) hit miss) node }
+    ensures limits { IfOk result IsLimitedCode }
+    ensures nodes { IfOk result (λ found. found.nodes ≡ test.nodes + hit.nodes + miss.nodes + 1) }
+{
+    if is_upto(day) {
+        hit.looped(test, day as u32, miss).limited(node)
+    } else {
+        Err(node)
+    }
+}
+
+// The size of code whose own node has a number.
+fn sizes_of(setting: &[u32], k: &Code, node: u32) -> Result<CodeSize, u32>
+    requires { node + nodes_of_code (payoff_code k.now) < 2 ^ 32 }
+    ensures size { result ≡ sizes_tried setting.now (payoff_code k.now) node }
+    ensures limits { IfOk result IsLimitedCode }
+    ensures nodes { IfOk result (λ found. found.nodes ≡ nodes_of_code (payoff_code k.now)) }
+{
+    match k {
+        Code::None => CodeSize::unit().limited(node),
+        Code::Pay { date, .. } => dated(setting, date, CodeSize::unit(), node),
+        Code::Add { left, right } => {
+            let one = sizes_of(setting, left, node + 1)?;
+            let two = sizes_of(setting, right, node + 1 + one.nodes)?;
+            one.together(two).limited(node)
+        }
+        Code::Scale { factor, body } => {
+            let value = size_at(setting, factor, node + 1)?;
+            let part = sizes_of(setting, body, node + 1 + value.nodes)?;
+            part.behind(value).limited(node)
+        }
+        Code::Let { bound, body } => {
+            let value = size_at(setting, bound, node + 1)?;
+            let part = sizes_of(setting, body, node + 1 + value.nodes)?;
+            part.behind(value).limited(node)
+        }
+        Code::LoopIf {
+            test,
+            upto,
+            hit,
+            miss,
+        } => {
+            let value = size_at(setting, test, node + 1)?;
+            let after = node + 1 + value.nodes;
+            let one = sizes_of(setting, hit, after)?;
+            let two = sizes_of(setting, miss, after + one.nodes)?;
+            looped_to(day_at(setting, upto), value, one, two, node)
+        }
+        Code::Cut { date, body } => {
+            let part = sizes_of(setting, body, node + 1)?;
+            dated(setting, date, part.over(), node)
+        }
+    }
+}

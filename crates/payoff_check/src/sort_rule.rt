@@ -1,0 +1,138 @@
+//! The rule on sorts: every expression is a number or a truth value, every factor is a number and every test of a `loop`
+//! is a truth value.
+
+ghost use Rattle.std.specs.Prelude.{◌≡◌, ◌<◌, ◌+◌, ◌^◌, IfOk};
+ghost use Rattle.term_core.specs.Declarations.{declarations};
+ghost use Rattle.term_core.specs.Terms.{expression};
+ghost use Rattle.term_core.specs.Sizes.{nodes};
+ghost use Rattle.time_types.specs.SortScopes.{sorts_in};
+ghost use Rattle.payoff_lang.specs.Code.{value_expression, payoff_code};
+ghost use Rattle.payoff_lang.specs.Dating.{plain};
+ghost use Rattle.payoff_lang.specs.CodeSizes.{nodes_of_code};
+ghost use Rattle.payoff_check.specs.Trials.{Tells};
+ghost use Rattle.payoff_check.specs.SortTrials.{needed, value_tried, sorts_tried};
+
+use crate::faults::Fault;
+use crate::plains::plain_of;
+use decimal::NoMemory;
+use payoff_lang::{Code, Vx};
+use std::alloc::Global;
+use term_core::{Decls, Expr, nodes_in};
+use time_types::sort_rule::sort_of_expr;
+use time_types::sort_scopes::{Sort, SortScope};
+
+/// The sort of a value expression, and its nodes.
+#[derive(Clone, Copy, Debug, PartialEq, Eq)]
+pub struct Sorted {
+    pub sort: Sort,
+    pub nodes: u32,
+}
+
+// Of a plain expression whose first node has a number.
+fn sort_of_plain(decls: &Decls, e: &Expr, scope: &SortScope, node: u32) -> Result<Sorted, Fault>
+    requires { node + nodes (expression e.now) < 2 ^ 32 }
+    ensures sort { Tells result (value_tried (declarations decls.now) (expression e.now) (sorts_in scope.now) node) }
+    ensures nodes { IfOk result (λ found. found.nodes ≡ nodes (expression e.now)) }
+{
+    match sort_of_expr(decls, e, scope) {
+        Ok(sort) => Ok(Sorted {
+            sort,
+            nodes: nodes_in(e),
+        }),
+        Err(place) => Err(Fault::At { node: node + place }),
+    }
+}
+
+// Of a value expression whose first node has a number.
+fn sort_of_value(
+    alloc: Global,
+    decls: &Decls,
+    v: &Vx,
+    scope: &SortScope,
+    node: u32,
+) -> Result<Sorted, Fault>
+    requires { node + nodes (plain (value_expression v.now)) < 2 ^ 32 }
+    ensures sort { Tells result (value_tried (declarations decls.now) (plain (value_expression v.now)) (sorts_in scope.now) node) }
+    ensures nodes { IfOk result (λ found. found.nodes ≡ nodes (plain (value_expression v.now))) }
+{
+    match plain_of(alloc, v) {
+        Ok(e) => sort_of_plain(decls, &e, scope, node),
+        Err(NoMemory) => Err(Fault::NoMemory),
+    }
+}
+
+// The nodes of a part whose expression has the sort that is wanted, else a fault at its own node.
+fn need(wanted: Sort, found: Sort, nodes: u32, node: u32) -> Result<u32, Fault>
+    ensures sort { Tells result (needed wanted found nodes node) }
+    ensures nodes { IfOk result (λ passed. passed ≡ nodes) }
+{
+    match (wanted, found) {
+        (Sort::Truth, Sort::Truth) => Ok(nodes),
+        (Sort::Number, Sort::Number) => Ok(nodes),
+        (Sort::Truth, Sort::Number) => Err(Fault::At { node }),
+        (Sort::Number, Sort::Truth) => Err(Fault::At { node }),
+    }
+}
+
+// The nodes of code whose own node has a number, among names of these sorts.
+fn sorts_of(
+    alloc: Global,
+    decls: &Decls,
+    k: &Code,
+    scope: &SortScope,
+    node: u32,
+) -> Result<u32, Fault>
+    requires { node + nodes_of_code (payoff_code k.now) < 2 ^ 32 }
+    ensures sorts { Tells result (sorts_tried (declarations decls.now) (payoff_code k.now) (sorts_in scope.now) node) }
+    ensures nodes { IfOk result (λ passed. passed ≡ nodes_of_code (payoff_code k.now)) }
+{
+    match k {
+        Code::None => Ok(1),
+        Code::Pay { .. } => Ok(1),
+        Code::Add { left, right } => {
+            let left_nodes = sorts_of(alloc, decls, left, scope, node + 1)?;
+            let right_nodes = sorts_of(alloc, decls, right, scope, node + 1 + left_nodes)?;
+            Ok(left_nodes + right_nodes + 1)
+        }
+        Code::Scale { factor, body } => {
+            let found = sort_of_value(alloc, decls, factor, scope, node + 1)?;
+            let body_nodes = sorts_of(alloc, decls, body, scope, node + 1 + found.nodes)?;
+            need(Sort::Number, found.sort, found.nodes + body_nodes + 1, node)
+        }
+        Code::Let { bound, body } => {
+            let found = sort_of_value(alloc, decls, bound, scope, node + 1)?;
+            let inner = SortScope::Bound {
+                sort: found.sort,
+                outer: &*scope,
+            };
+            let body_nodes = sorts_of(alloc, decls, body, &inner, node + 1 + found.nodes)?;
+            Ok(found.nodes + body_nodes + 1)
+        }
+        Code::LoopIf {
+            test,
+            hit,
+            miss,
+            ..
+        } => {
+            let found = sort_of_value(alloc, decls, test, scope, node + 1)?;
+            let hit_nodes = sorts_of(alloc, decls, hit, scope, node + 1 + found.nodes)?;
+            let miss_nodes = sorts_of(
+                alloc,
+                decls,
+                miss,
+                scope,
+                node + 1 + found.nodes + hit_nodes,
+            )?;
+            need(
+                Sort::Truth,
+                found.sort,
+                found.nodes + hit_nodes + miss_nodes + 1,
+                node,
+            )
+        }
+        Code::Cut { body, .. } => {
+            let body_nodes = sorts_of(alloc, decls, body, scope, node + 1)?;
+            Ok(body_nodes + 1)
+        }
+    }
+}

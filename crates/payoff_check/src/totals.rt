@@ -1,0 +1,162 @@
+//! Totals of payoff code. Each operation answers a fault at the node itself where a total is more than 10^37, as it is or at
+//! nine more decimals than the portfolio's.
+
+ghost use Rattle.std.specs.Prelude.{◌≡◌, ◌≤◌, ◌<◌, ◌+◌, ◌-◌, ◌*◌, ◌^◌, nat_le, IfOk};
+ghost use Rattle.term_core.specs.Bounds.{greatest_size};
+ghost use Rattle.term_core.specs.Limits.{greatest_mantissa};
+ghost use Rattle.interval_check.specs.Intervals.{interval};
+ghost use Rattle.interval_check.specs.Ranges.{IsFit, range};
+ghost use Rattle.payoff_check.specs.Trials.{Tells};
+ghost use Rattle.payoff_check.specs.BoundTrials.{IsFitting, at_decimals, total_here, of_sum, of_product, of_branches, ranged};
+
+use crate::bound_rule::Ranged;
+use crate::faults::Fault;
+use decimal::pow10;
+use interval_check::intervals::Interval;
+
+// The greatest total, 10^37.
+const GREATEST: u128 = 10_000_000_000_000_000_000_000_000_000_000_000_000;
+
+/// The most that code can be worth in size, whatever is observed, in units of its scale; and its nodes.
+#[derive(Clone, Copy, Debug, PartialEq, Eq)]
+pub struct CodeTotal {
+    pub amount: u128,
+    pub scale: u8,
+    pub nodes: u32,
+}
+
+// The power of ten by which a total is multiplied at a count of decimals.
+fn power(decimals: u8, of: CodeTotal) -> u128
+    requires { decimals ≤ 21 }
+    ensures { result ≡ 10 ^ (decimals - of.scale) }
+{
+    pow10(decimals.saturating_sub(of.scale)).unsigned_abs()
+}
+
+// A total at a count of decimals that is not less than its scale.
+fn amount_at(decimals: u8, of: CodeTotal) -> u128
+    requires decimals { decimals ≤ 21 }
+    requires small { at_decimals decimals of ≤ 10 ^ 37 }
+    ensures { result ≡ at_decimals decimals of }
+{
+    of.amount * power(decimals, of)
+}
+
+// Whether a total is at most 10^37 at a count of decimals.
+fn is_small_at(decimals: u8, of: CodeTotal) -> bool
+    requires { decimals ≤ 21 }
+    ensures { result ≡ nat_le (at_decimals decimals of) greatest_mantissa }
+{
+    match of.amount.checked_mul(power(decimals, of)) {
+        Some(amount) => amount <= GREATEST,
+        None => false,
+    }
+}
+
+/// A total that fits, else a fault at its node.
+pub fn checked(decimals: u8, of: CodeTotal, node: u32) -> Result<CodeTotal, Fault>
+    requires { decimals ≤ 21 }
+    ensures total { Tells result (total_here decimals of node) }
+    ensures nodes { IfOk result (λ t. t.nodes ≡ of.nodes) }
+    ensures fits { IfOk result (λ t. IsFitting decimals t) }
+{
+    if of.scale <= decimals {
+        if of.amount <= GREATEST && is_small_at(decimals, of) {
+            Ok(of)
+        } else {
+            Err(Fault::At { node })
+        }
+    } else {
+        Err(Fault::At { node })
+    }
+}
+
+/// The total of two parts together.
+pub fn sum_of(
+    decimals: u8,
+    left: CodeTotal,
+    right: CodeTotal,
+    node: u32,
+) -> Result<CodeTotal, Fault>
+    requires decimals { decimals ≤ 21 }
+    requires left { IsFitting decimals left }
+    requires right { IsFitting decimals right }
+    requires nodes { left.nodes + right.nodes + 1 < 2 ^ 32 }
+    ensures total { Tells result (total_here decimals (of_sum left right) node) }
+    ensures nodes { IfOk result (λ t. t.nodes ≡ left.nodes + right.nodes + 1) }
+    ensures fits { IfOk result (λ t. IsFitting decimals t) }
+{
+    let scale = left.scale.max(right.scale);
+    let of = CodeTotal {
+        amount: amount_at(scale, left) + amount_at(scale, right),
+        scale,
+        nodes: left.nodes + right.nodes + 1,
+    };
+    checked(decimals, of, node)
+}
+
+/// The total of two parts of which one is entered, behind a test of so many nodes.
+pub fn greater_of(
+    decimals: u8,
+    count: u32,
+    hit: CodeTotal,
+    miss: CodeTotal,
+    node: u32,
+) -> Result<CodeTotal, Fault>
+    requires decimals { decimals ≤ 21 }
+    requires hit { IsFitting decimals hit }
+    requires miss { IsFitting decimals miss }
+    requires nodes { count + hit.nodes + miss.nodes + 1 < 2 ^ 32 }
+    ensures total { Tells result (total_here decimals (of_branches count hit miss) node) }
+    ensures nodes { IfOk result (λ t. t.nodes ≡ count + hit.nodes + miss.nodes + 1) }
+    ensures fits { IfOk result (λ t. IsFitting decimals t) }
+{
+    let scale = hit.scale.max(miss.scale);
+    let of = CodeTotal {
+        amount: amount_at(scale, hit).max(amount_at(scale, miss)),
+        scale,
+        nodes: count + hit.nodes + miss.nodes + 1,
+    };
+    checked(decimals, of, node)
+}
+
+// The greatest size among the mantissas of an interval.
+fn greatest_size_in(i: Interval) -> u128
+    ensures { result ≡ greatest_size (interval i) }
+{
+    i.low.unsigned_abs().max(i.high.unsigned_abs())
+}
+
+/// The total of a part that is multiplied by a number.
+pub fn product_of(
+    decimals: u8,
+    factor: Ranged,
+    body: CodeTotal,
+    node: u32,
+) -> Result<CodeTotal, Fault>
+    requires decimals { decimals ≤ 21 }
+    requires factor { IsFit (range factor.range) }
+    requires body { IsFitting decimals body }
+    requires nodes { factor.nodes + body.nodes + 1 < 2 ^ 32 }
+    ensures total { Tells result (total_here decimals (of_product (ranged factor) body) node) }
+    ensures nodes { IfOk result (λ t. t.nodes ≡ factor.nodes + body.nodes + 1) }
+    ensures fits { IfOk result (λ t. IsFitting decimals t) }
+{
+    let scale = factor.range.kind.scale() + body.scale;
+    let nodes = factor.nodes + body.nodes + 1;
+    match body
+        .amount
+        .checked_mul(greatest_size_in(factor.range.interval))
+    {
+        Some(amount) => checked(
+            decimals,
+            CodeTotal {
+                amount,
+                scale,
+                nodes,
+            },
+            node,
+        ),
+        None => Err(Fault::At { node }),
+    }
+}

@@ -1,0 +1,159 @@
+//! The rule on sizes in value expressions: a height of at most 400, at most 200,000 nodes, accumulators over at most 100,000
+//! days, a work of at most 10,000,000, and dates from -2,000,000 to 2,000,000 days. Nodes before a node at fault are counted
+//! only on the way up from it, so that no part is visited more than twice.
+
+ghost use Rattle.std.specs.Prelude.{◌≡◌, ◌<◌, ◌≤◌, ◌+◌, ◌^◌, IfOk, IfErr};
+ghost use Rattle.term_core.specs.Sizes.{nodes};
+ghost use Rattle.term_core.specs.Trying.{moved};
+ghost use Rattle.payoff_lang.specs.Code.{value_expression};
+ghost use Rattle.payoff_lang.specs.Dating.{at_setting, plain};
+ghost use Rattle.payoff_check.specs.SizeTrials.{IsLimited, acc_tried, one_tried, size_tried, three_tried, two_tried};
+
+use crate::days::{day_at, is_date};
+use crate::part_sizes::ValueSize;
+use payoff_lang::Vx;
+
+/// The nodes of a value expression.
+pub fn nodes_in_value(v: &Vx) -> u32
+    requires { nodes (plain (value_expression v.now)) < 2 ^ 32 }
+    ensures { result ≡ nodes (plain (value_expression v.now)) }
+{
+    match v {
+        Vx::Lit { .. } | Vx::Yes { .. } | Vx::Var { .. } | Vx::Model { .. } => 1,
+        Vx::Neg { of } => nodes_in_value(of) + 1,
+        Vx::Not { of } => nodes_in_value(of) + 1,
+        Vx::Widen { of, .. } => nodes_in_value(of) + 1,
+        Vx::Round { of, .. } => nodes_in_value(of) + 1,
+        Vx::Num { left, right, .. } => nodes_in_value(left) + nodes_in_value(right) + 1,
+        Vx::Cmp { left, right, .. } => nodes_in_value(left) + nodes_in_value(right) + 1,
+        Vx::Logic { left, right, .. } => nodes_in_value(left) + nodes_in_value(right) + 1,
+        Vx::Div { top, below, .. } => nodes_in_value(top) + nodes_in_value(below) + 1,
+        Vx::Acc { body, first, .. } => nodes_in_value(body) + nodes_in_value(first) + 1,
+        Vx::Cond { test, yes, no } => {
+            nodes_in_value(test) + nodes_in_value(yes) + nodes_in_value(no) + 1
+        }
+    }
+}
+
+/// The size of a value expression at a setting, or the place of its first node that breaks the rule on sizes, counted from
+/// its own first node.
+#[cycle(sizing)]
+pub fn size_of_value(setting: &[u32], e: &Vx) -> Result<ValueSize, u32>
+    requires { nodes (at_setting setting.now (value_expression e.now)) < 2 ^ 32 }
+    ensures size { result ≡ size_tried (at_setting setting.now (value_expression e.now)) }
+    ensures limits { IfOk result IsLimited }
+    ensures below { IfErr result (λ place. place < nodes (at_setting setting.now (value_expression e.now))) }
+{
+    match e {
+        Vx::Lit { .. } => ValueSize::leaf().limited(0),
+        Vx::Yes { .. } => ValueSize::leaf().limited(0),
+        Vx::Var { .. } => ValueSize::leaf().limited(0),
+        Vx::Model { date, .. } => ValueSize::dated(is_date(day_at(setting, date))),
+        Vx::Neg { of } => size_over_one(setting, of),
+        Vx::Not { of } => size_over_one(setting, of),
+        Vx::Widen { of, .. } => size_over_one(setting, of),
+        Vx::Round { of, .. } => size_over_one(setting, of),
+        Vx::Num { left, right, .. } => size_over_two(setting, left, right),
+        Vx::Cmp { left, right, .. } => size_over_two(setting, left, right),
+        Vx::Logic { left, right, .. } => size_over_two(setting, left, right),
+        Vx::Div { top, below, .. } => size_over_two(setting, top, below),
+        Vx::Cond { test, yes, no } => size_over_three(setting, test, yes, no),
+        Vx::Acc { body, days, first } => size_over_days(setting, body, *days, first),
+    }
+}
+
+// Of an operator on one operand.
+#[cycle(sizing)]
+fn size_over_one(setting: &[u32], of: &Vx) -> Result<ValueSize, u32>
+    requires { nodes (at_setting setting.now (value_expression of.now)) + 1 < 2 ^ 32 }
+    ensures size { result ≡ one_tried (size_tried (at_setting setting.now (value_expression of.now))) }
+    ensures limits { IfOk result IsLimited }
+    ensures below { IfErr result (λ place. place < nodes (at_setting setting.now (value_expression of.now)) + 1) }
+{
+    let part = size_of_first(setting, of)?;
+    part.over_one().limited(0)
+}
+
+// Of an operator on two operands.
+#[cycle(sizing)]
+fn size_over_two(setting: &[u32], left: &Vx, right: &Vx) -> Result<ValueSize, u32>
+    requires { nodes (at_setting setting.now (value_expression left.now)) + nodes (at_setting setting.now (value_expression right.now)) + 1 < 2 ^ 32 }
+    ensures size { result ≡ two_tried (nodes (at_setting setting.now (value_expression left.now))) (size_tried (at_setting setting.now (value_expression left.now))) (size_tried (at_setting setting.now (value_expression right.now))) }
+    ensures limits { IfOk result IsLimited }
+    ensures below { IfErr result (λ place. place < nodes (at_setting setting.now (value_expression left.now)) + nodes (at_setting setting.now (value_expression right.now)) + 1) }
+{
+    let left_size = size_of_first(setting, left)?;
+    let right_size = size_of_second(setting, left, right)?;
+    left_size.over_two(right_size).limited(0)
+}
+
+// Of an `if`.
+#[cycle(sizing)]
+fn size_over_three(setting: &[u32], test: &Vx, yes: &Vx, no: &Vx) -> Result<ValueSize, u32>
+    requires { nodes (at_setting setting.now (value_expression test.now)) + nodes (at_setting setting.now (value_expression yes.now)) + nodes (at_setting setting.now (value_expression no.now)) + 1 < 2 ^ 32 }
+    ensures size { result ≡ three_tried (nodes (at_setting setting.now (value_expression test.now))) (nodes (at_setting setting.now (value_expression yes.now))) (size_tried (at_setting setting.now (value_expression test.now))) (size_tried (at_setting setting.now (value_expression yes.now))) (size_tried (at_setting setting.now (value_expression no.now))) }
+    ensures limits { IfOk result IsLimited }
+    ensures below { IfErr result (λ place. place < nodes (at_setting setting.now (value_expression test.now)) + nodes (at_setting setting.now (value_expression yes.now)) + nodes (at_setting setting.now (value_expression no.now)) + 1) }
+{
+    let test_size = size_of_first(setting, test)?;
+    let yes_size = size_of_second(setting, test, yes)?;
+    let no_size = size_of_third(setting, test, yes, no)?;
+    test_size.over_three(yes_size, no_size).limited(0)
+}
+
+// Of an accumulator, whose start is tried before its body.
+#[cycle(sizing)]
+fn size_over_days(setting: &[u32], body: &Vx, days: u32, first: &Vx) -> Result<ValueSize, u32>
+    requires { nodes (at_setting setting.now (value_expression body.now)) + nodes (at_setting setting.now (value_expression first.now)) + 1 < 2 ^ 32 }
+    ensures size { result ≡ acc_tried (nodes (at_setting setting.now (value_expression body.now))) days (size_tried (at_setting setting.now (value_expression first.now))) (size_tried (at_setting setting.now (value_expression body.now))) }
+    ensures limits { IfOk result IsLimited }
+    ensures below { IfErr result (λ place. place < nodes (at_setting setting.now (value_expression body.now)) + nodes (at_setting setting.now (value_expression first.now)) + 1) }
+{
+    let first_size = size_of_second(setting, body, first)?;
+    let body_size = size_of_first(setting, body)?;
+    body_size.over_days(days, first_size).limited(days)
+}
+
+// Of the part that follows its node.
+#[cycle(sizing)]
+fn size_of_first(setting: &[u32], e: &Vx) -> Result<ValueSize, u32>
+    requires { nodes (at_setting setting.now (value_expression e.now)) + 1 < 2 ^ 32 }
+    ensures size { result ≡ moved 1 (size_tried (at_setting setting.now (value_expression e.now))) }
+    ensures limits { IfOk result IsLimited }
+    ensures below { IfErr result (λ place. place < nodes (at_setting setting.now (value_expression e.now)) + 1) }
+{
+    match size_of_value(setting, e) {
+        Ok(size) => Ok(size),
+        Err(place) => Err(1 + place),
+    }
+}
+
+// Of the part that follows the first.
+#[cycle(sizing)]
+#[tactic(auto, using(crate::proofs::DateFreeFacts::nodes_plain))]
+fn size_of_second(setting: &[u32], before: &Vx, e: &Vx) -> Result<ValueSize, u32>
+    requires { nodes (at_setting setting.now (value_expression before.now)) + nodes (at_setting setting.now (value_expression e.now)) + 1 < 2 ^ 32 }
+    ensures size { result ≡ moved (1 + nodes (at_setting setting.now (value_expression before.now))) (size_tried (at_setting setting.now (value_expression e.now))) }
+    ensures limits { IfOk result IsLimited }
+    ensures below { IfErr result (λ place. place < nodes (at_setting setting.now (value_expression before.now)) + nodes (at_setting setting.now (value_expression e.now)) + 1) }
+{
+    match size_of_value(setting, e) {
+        Ok(size) => Ok(size),
+        Err(place) => Err(1 + nodes_in_value(before) + place),
+    }
+}
+
+// Of the part that follows the second.
+#[cycle(sizing)]
+#[tactic(auto, using(crate::proofs::DateFreeFacts::nodes_plain))]
+fn size_of_third(setting: &[u32], first: &Vx, second: &Vx, e: &Vx) -> Result<ValueSize, u32>
+    requires { nodes (at_setting setting.now (value_expression first.now)) + nodes (at_setting setting.now (value_expression second.now)) + nodes (at_setting setting.now (value_expression e.now)) + 1 < 2 ^ 32 }
+    ensures size { result ≡ moved (nodes (at_setting setting.now (value_expression first.now))) (moved (1 + nodes (at_setting setting.now (value_expression second.now))) (size_tried (at_setting setting.now (value_expression e.now)))) }
+    ensures limits { IfOk result IsLimited }
+    ensures below { IfErr result (λ place. place < nodes (at_setting setting.now (value_expression first.now)) + nodes (at_setting setting.now (value_expression second.now)) + nodes (at_setting setting.now (value_expression e.now)) + 1) }
+{
+    match size_of_second(setting, second, e) {
+        Ok(size) => Ok(size),
+        Err(place) => Err(nodes_in_value(first) + place),
+    }
+}
