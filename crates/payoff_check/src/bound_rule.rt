@@ -1,9 +1,10 @@
 //! The rule on bounds: value expressions meet it as in contracts, and the total of all code is at most 10^37, as it is and at
 //! nine more decimals than the portfolio's. A payment counts with the greatest discount factor, which is 10.
 
-ghost use Rattle.std.specs.Prelude.{◌≡◌, ◌<◌, ◌≤◌, ◌+◌, ◌^◌, IfOk};
+ghost use Rattle.std.specs.Prelude.{◌≡◌, ◌<◌, ◌≤◌, ◌+◌, ◌^◌, pos, [], IfOk};
 ghost use Rattle.term_core.specs.Declarations.{declarations};
 ghost use Rattle.term_core.specs.Terms.{expression};
+ghost use Rattle.term_core.specs.declared.rules.Rule.{Rule};
 ghost use Rattle.term_core.specs.Sizes.{nodes};
 ghost use Rattle.term_core.specs.Bounds.{range_kinds};
 ghost use Rattle.interval_check.specs.Ranges.{range, IsFit};
@@ -12,6 +13,9 @@ ghost use Rattle.interval_check.specs.RangeTrials.{kind_found, AreScaled};
 ghost use Rattle.payoff_lang.specs.Code.{value_expression, payoff_code};
 ghost use Rattle.payoff_lang.specs.Dating.{plain};
 ghost use Rattle.payoff_lang.specs.CodeSizes.{nodes_of_code};
+ghost use Rattle.payoff_lang.specs.CodeTotals.{total_of_code};
+ghost use Rattle.payoff_lang.specs.CodeAcceptance.{MeetsInCode};
+ghost use Rattle.payoff_check.specs.Verdicts.{IsCodeVerdict};
 ghost use Rattle.payoff_check.specs.Trials.{Tells, TellsAs};
 ghost use Rattle.payoff_check.specs.BoundTrials.{AreValuesScaled, IsFitting, bounds_tried, of_part, ranged, total_here, value_tried};
 
@@ -24,10 +28,10 @@ use interval_check::range_scopes::RangeScope;
 use interval_check::ranges::Range;
 use payoff_lang::{Code, Vx};
 use std::alloc::Global;
-use term_core::{Decls, Expr, nodes_in};
+use term_core::{CheckErr, Decls, Expr, Rule, Setting, nodes_in};
 
 /// The range of a value expression, and its nodes.
-#[derive(Clone, Copy, Debug, PartialEq, Eq)]
+#[derive(Clone, Copy)]
 pub struct Ranged {
     pub range: Range,
     pub nodes: u32,
@@ -156,5 +160,23 @@ fn bounds_of(
             let part = bounds_of(alloc, decls, body, scope, node + 1)?;
             checked_part(decimals, 0, part, node)
         }
+    }
+}
+
+/// The total of code whose sorts and scales are right, in units of its scale, where the rule on bounds holds everywhere in it.
+/// Where it fails, the answer has the first node at fault, in the order in which the rules of acceptance try nodes.
+pub fn bounds(alloc: Global, decls: &Decls, _setting: &Setting, k: &Code) -> Result<i128, CheckErr>
+    requires small { nodes_of_code (payoff_code k.now) < 2 ^ 32 }
+    requires sorted { MeetsInCode (declarations decls.now) _setting.now.days.items Rule.Sort (payoff_code k.now) }
+    requires scaled { MeetsInCode (declarations decls.now) _setting.now.days.items Rule.Scale (payoff_code k.now) }
+    ensures { IsCodeVerdict (declarations decls.now) _setting.now.days.items Rule.Bound (payoff_code k.now) (λ total. total ≡ pos (total_of_code (declarations decls.now) (payoff_code k.now) [])) result }
+{
+    match bounds_of(alloc, decls, k, &RangeScope::Empty, 0) {
+        Ok(found) => Ok(found.amount as i128),
+        Err(Fault::At { node }) => Err(CheckErr::Refused {
+            rule: Rule::Bound,
+            node,
+        }),
+        Err(Fault::NoMemory) => Err(CheckErr::NoMemory),
     }
 }

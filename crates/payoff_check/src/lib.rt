@@ -3,8 +3,10 @@
 #![tactic(auto)]
 
 mod bound_rule;
+mod checks;
 mod days;
 mod faults;
+mod laws;
 mod part_sizes;
 mod plains;
 mod scale_rule;
@@ -12,3 +14,6 @@ mod size_rule;
 mod sort_rule;
 mod totals;
 mod value_sizes;
+
+pub use checks::{CodeFacts, check_code};
+pub use laws::code_has_one_verdict;

@@ -12,7 +12,7 @@ const MOST_DAYS: u32 = 100_000;
 const MOST_WORK: u64 = 10_000_000;
 
 /// A value expression's longest path, counted in nodes; its nodes; and the steps in which it is evaluated.
-#[derive(Clone, Copy, Debug, PartialEq, Eq)]
+#[derive(Clone, Copy)]
 pub struct ValueSize {
     pub height: u32,
     pub nodes: u32,
@@ -118,7 +118,7 @@ impl ValueSize {
 
 /// Code's longest path, counted in nodes; its nodes; the steps in which it is evaluated; and how many days its loops move
 /// the base at most, one within another.
-#[derive(Clone, Copy, Debug, PartialEq, Eq)]
+#[derive(Clone, Copy)]
 pub struct CodeSize {
     pub height: u32,
     pub nodes: u32,

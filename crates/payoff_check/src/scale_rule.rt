@@ -1,14 +1,18 @@
 //! The rule on scales: every expression meets it as in contracts, and the scale of all code is at most nine more than the
 //! portfolio's amounts have, since a discount factor has nine decimals.
 
-ghost use Rattle.std.specs.Prelude.{◌≡◌, ◌<◌, ◌≤◌, ◌+◌, ◌^◌, IfOk};
+ghost use Rattle.std.specs.Prelude.{◌≡◌, ◌<◌, ◌≤◌, ◌+◌, ◌^◌, [], IfOk};
 ghost use Rattle.term_core.specs.Declarations.{declarations};
 ghost use Rattle.term_core.specs.Terms.{expression};
+ghost use Rattle.term_core.specs.declared.rules.Rule.{Rule};
 ghost use Rattle.term_core.specs.Sizes.{nodes};
 ghost use Rattle.scale_check.specs.ScaleScopes.{scales_in};
 ghost use Rattle.payoff_lang.specs.Code.{value_expression, payoff_code};
 ghost use Rattle.payoff_lang.specs.Dating.{plain};
 ghost use Rattle.payoff_lang.specs.CodeSizes.{nodes_of_code};
+ghost use Rattle.payoff_lang.specs.CodeValues.{scale_of_code};
+ghost use Rattle.payoff_lang.specs.CodeAcceptance.{MeetsInCode};
+ghost use Rattle.payoff_check.specs.Verdicts.{IsCodeVerdict};
 ghost use Rattle.payoff_check.specs.Trials.{Tells};
 ghost use Rattle.payoff_check.specs.ScaleTrials.{kept, value_tried, scales_tried};
 
@@ -19,10 +23,10 @@ use payoff_lang::{Code, Vx};
 use scale_check::scale_rule::scale_of_expr;
 use scale_check::scale_scopes::ScaleScope;
 use std::alloc::Global;
-use term_core::{Decls, Expr, nodes_in};
+use term_core::{CheckErr, Decls, Expr, Rule, Setting, nodes_in};
 
 /// The scale of a part, and its nodes.
-#[derive(Clone, Copy, Debug, PartialEq, Eq)]
+#[derive(Clone, Copy)]
 pub struct Scaled {
     pub scale: u8,
     pub nodes: u32,
@@ -136,5 +140,22 @@ fn scales_of(
             let part = scales_of(alloc, decls, body, scope, node + 1)?;
             keep(greatest, part.scale, part.nodes + 1, node)
         }
+    }
+}
+
+/// The scale of code whose sorts are right, where the rule on scales holds everywhere in it. Where it fails, the answer has the
+/// first node at fault, in the order in which the rules of acceptance try nodes.
+pub fn scales(alloc: Global, decls: &Decls, _setting: &Setting, k: &Code) -> Result<u8, CheckErr>
+    requires small { nodes_of_code (payoff_code k.now) < 2 ^ 32 }
+    requires sorted { MeetsInCode (declarations decls.now) _setting.now.days.items Rule.Sort (payoff_code k.now) }
+    ensures { IsCodeVerdict (declarations decls.now) _setting.now.days.items Rule.Scale (payoff_code k.now) (λ scale. scale ≡ scale_of_code (declarations decls.now) (payoff_code k.now) []) result }
+{
+    match scales_of(alloc, decls, k, &ScaleScope::Empty, 0) {
+        Ok(found) => Ok(found.scale),
+        Err(Fault::At { node }) => Err(CheckErr::Refused {
+            rule: Rule::Scale,
+            node,
+        }),
+        Err(Fault::NoMemory) => Err(CheckErr::NoMemory),
     }
 }

@@ -2,6 +2,8 @@
 //! most 100,000 days one within another, and every date within its range.
 
 ghost use Rattle.std.specs.Prelude.{◌≡◌, ◌<◌, ◌≤◌, ◌+◌, ◌^◌, IfOk, true};
+ghost use Rattle.term_core.specs.Declarations.{declarations};
+ghost use Rattle.term_core.specs.declared.rules.Rule.{Rule};
 ghost use Rattle.term_core.specs.Sizes.{nodes};
 ghost use Rattle.term_core.specs.Trying.{moved};
 ghost use Rattle.payoff_lang.specs.TemplateDates.{date, day_of};
@@ -9,12 +11,14 @@ ghost use Rattle.payoff_lang.specs.Code.{value_expression, payoff_code};
 ghost use Rattle.payoff_lang.specs.CodeAcceptance as rule;
 ghost use Rattle.payoff_lang.specs.CodeSizes.{as_count, nodes_of_code};
 ghost use Rattle.payoff_lang.specs.Dating.{at_setting, plain};
+ghost use Rattle.payoff_check.specs.Verdicts.{IsCodeVerdict};
 ghost use Rattle.payoff_check.specs.SizeTrials.{IsLimited, IsLimitedCode, dated_code, looped, size_tried, sizes_tried};
 
 use crate::days::{day_at, is_date, is_upto};
 use crate::part_sizes::{CodeSize, ValueSize};
 use crate::value_sizes::size_of_value;
 use payoff_lang::{Code, DateExpr, Vx};
+use term_core::{CheckErr, Decls, Rule, Setting};
 
 // The size of a value expression whose first node has a number.
 fn size_at(setting: &[u32], v: &Vx, node: u32) -> Result<ValueSize, u32>
@@ -105,5 +109,20 @@ fn sizes_of(setting: &[u32], k: &Code, node: u32) -> Result<CodeSize, u32>
             let part = sizes_of(setting, body, node + 1)?;
             dated(setting, date, part.over(), node)
         }
+    }
+}
+
+/// Whether the rule on sizes holds everywhere in code at a setting. Where it fails, the answer has the first node at fault, in the
+/// order in which the rules of acceptance try nodes. It asks nothing of the declarations.
+pub fn sizes(_decls: &Decls, setting: &Setting, k: &Code) -> Result<(), CheckErr>
+    requires { nodes_of_code (payoff_code k.now) < 2 ^ 32 }
+    ensures { IsCodeVerdict (declarations _decls.now) setting.now.days.items Rule.Size (payoff_code k.now) (λ _. Unit {0}) result }
+{
+    match sizes_of(setting.days.as_slice(), k, 0) {
+        Ok(_) => Ok(()),
+        Err(node) => Err(CheckErr::Refused {
+            rule: Rule::Size,
+            node,
+        }),
     }
 }

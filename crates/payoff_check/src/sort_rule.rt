@@ -4,11 +4,13 @@
 ghost use Rattle.std.specs.Prelude.{◌≡◌, ◌<◌, ◌+◌, ◌^◌, IfOk};
 ghost use Rattle.term_core.specs.Declarations.{declarations};
 ghost use Rattle.term_core.specs.Terms.{expression};
+ghost use Rattle.term_core.specs.declared.rules.Rule.{Rule};
 ghost use Rattle.term_core.specs.Sizes.{nodes};
 ghost use Rattle.time_types.specs.SortScopes.{sorts_in};
 ghost use Rattle.payoff_lang.specs.Code.{value_expression, payoff_code};
 ghost use Rattle.payoff_lang.specs.Dating.{plain};
 ghost use Rattle.payoff_lang.specs.CodeSizes.{nodes_of_code};
+ghost use Rattle.payoff_check.specs.Verdicts.{IsCodeVerdict};
 ghost use Rattle.payoff_check.specs.Trials.{Tells};
 ghost use Rattle.payoff_check.specs.SortTrials.{needed, value_tried, sorts_tried};
 
@@ -17,12 +19,12 @@ use crate::plains::plain_of;
 use decimal::NoMemory;
 use payoff_lang::{Code, Vx};
 use std::alloc::Global;
-use term_core::{Decls, Expr, nodes_in};
+use term_core::{CheckErr, Decls, Expr, Rule, Setting, nodes_in};
 use time_types::sort_rule::sort_of_expr;
 use time_types::sort_scopes::{Sort, SortScope};
 
 /// The sort of a value expression, and its nodes.
-#[derive(Clone, Copy, Debug, PartialEq, Eq)]
+#[derive(Clone, Copy)]
 pub struct Sorted {
     pub sort: Sort,
     pub nodes: u32,
@@ -134,5 +136,21 @@ fn sorts_of(
             let body_nodes = sorts_of(alloc, decls, body, scope, node + 1)?;
             Ok(body_nodes + 1)
         }
+    }
+}
+
+/// Whether the rule on sorts holds everywhere in code. Where it fails, the answer has the first node at fault, in the order in
+/// which the rules of acceptance try nodes. It asks nothing of the setting.
+pub fn sorts(alloc: Global, decls: &Decls, _setting: &Setting, k: &Code) -> Result<(), CheckErr>
+    requires { nodes_of_code (payoff_code k.now) < 2 ^ 32 }
+    ensures { IsCodeVerdict (declarations decls.now) _setting.now.days.items Rule.Sort (payoff_code k.now) (λ _. Unit {0}) result }
+{
+    match sorts_of(alloc, decls, k, &SortScope::Empty, 0) {
+        Ok(_) => Ok(()),
+        Err(Fault::At { node }) => Err(CheckErr::Refused {
+            rule: Rule::Sort,
+            node,
+        }),
+        Err(Fault::NoMemory) => Err(CheckErr::NoMemory),
     }
 }

@@ -18,7 +18,7 @@ use interval_check::intervals::Interval;
 const GREATEST: u128 = 10_000_000_000_000_000_000_000_000_000_000_000_000;
 
 /// The most that code can be worth in size, whatever is observed, in units of its scale; and its nodes.
-#[derive(Clone, Copy, Debug, PartialEq, Eq)]
+#[derive(Clone, Copy)]
 pub struct CodeTotal {
     pub amount: u128,
     pub scale: u8,
