@@ -19,8 +19,8 @@ use crate::scratch::{Binding, Held};
 use fixing_files::Fixings;
 use term_core::{Decls, Expr, Kind, LogicOp, Missing};
 
-// The value of the name that is bound `back` binders further out than the innermost.
-fn value_bound(scope: &Scope, back: u32) -> Result<Typed, Missing>
+/// The value of the name that is bound `back` binders further out than the innermost.
+pub fn value_bound(scope: &Scope, back: u32) -> Result<Typed, Missing>
     ensures { result ≡ of_binding (slice_get (bindings scope.now) back) }
 {
     match binding_at(scope, back) {
@@ -35,8 +35,13 @@ fn value_bound(scope: &Scope, back: u32) -> Result<Typed, Missing>
     }
 }
 
-// The value of what is observed on a day.
-fn value_observed(decls: &Decls, label: u32, day: i64, fixings: &Fixings) -> Result<Typed, Missing>
+/// The value of what is observed on a day.
+pub fn value_observed(
+    decls: &Decls,
+    label: u32,
+    day: i64,
+    fixings: &Fixings,
+) -> Result<Typed, Missing>
     ensures { result ≡ of_place (kind_or (kind_of_label (label_of (declarations decls.now) label))) (held fixings.now (record { label = label; day = day })) label day }
 {
     match fixings.get(label, day) {
@@ -64,16 +69,16 @@ pub fn day_on(from: i64, i: u32) -> i64
     from + i as i64
 }
 
-// The day `i + 1` days after a day.
-fn day_after(from: i64, i: u32) -> i64
+/// The day `i + 1` days after a day.
+pub fn day_after(from: i64, i: u32) -> i64
     requires { IsDay from }
     ensures { result ≡ from +ℤ pos (i + 1) }
 {
     from + (i as i64 + 1)
 }
 
-// The day `days` days before a day.
-fn day_before(day: i64, days: u32) -> i64
+/// The day `days` days before a day.
+pub fn day_before(day: i64, days: u32) -> i64
     requires { IsDay day }
     ensures { result ≡ day -ℤ pos days }
 {

@@ -1,7 +1,7 @@
 //! Values of expressions on a day, over fixings, with entries for the names that are bound around them.
 #![tactic(auto)]
 
-mod evaluation;
+pub mod evaluation;
 mod heights;
 pub mod kinds;
 mod laws;

@@ -1,6 +1,7 @@
 -- What is asked, by contents: a payment gone by counts with its face value. And what is answered to it.
 use Rattle.std.specs.Prelude.{ℕ, ℤ, List, Result}
 use Rattle.term_core.specs.Declarations.{declarations}
+use Rattle.term_core.specs.declared.values.Kind.{Kind}
 use Rattle.term_core.specs.declared.values.Value.{Value}
 use Rattle.term_core.specs.declared.values.Missing.{Missing}
 use Rattle.term_core.specs.Factors.{CurveRow}
@@ -11,8 +12,14 @@ use Rattle.expr_eval.specs.declared.scratch.Binding.{Binding}
 use Rattle.expr_eval.specs.Fits.{Fits, DayFitsIn, DaysFitIn}
 use Rattle.expr_eval.specs.Runs.{Answer, run_of, day_run, days_run}
 use Rattle.expr_eval.specs.Scopes.{bindings}
+use Rattle.expr_eval.specs.KindScales.{KindFits}
+use Rattle.expr_eval.specs.Rooms.{kinds_of}
+use Rattle.interval_check.specs.RangeTrials.{kind_found}
+use Rattle.payoff_lang.specs.declared.code.Code.{Code}
+use Rattle.payoff_lang.specs.declared.code.DateExpr.{DateExpr}
 use Rattle.payoff_lang.specs.declared.code.Vx.{Vx}
-use Rattle.payoff_lang.specs.Code.{ValueExpression, PayoffCode, value_expression}
+use Rattle.payoff_lang.specs.TemplateDates.{date}
+use Rattle.payoff_lang.specs.Code.{ValueExpression, PayoffCode, ScaleBy, LetBe, Loop, value_expression, payoff_code}
 use Rattle.payoff_lang.specs.Dating.{at_setting}
 use Rattle.payoff_lang.specs.CodeValues.{Asked}
 use Rattle.payoff_lang.specs.Meaning.{face_value}
@@ -62,6 +69,23 @@ answer_on q v g b = answer_of (declarations q.decls.now) v g q.fixings.now q.set
 
 abbrev pub EvaluatesOn : Asking → ValueExpression → List Binding → ℤ → Type 0
 EvaluatesOn q v g b = ValueFits (declarations q.decls.now) v g q.fixings.now q.setting.now b
+
+-- the kind of a value expression
+abbrev pub kind_on : Asking → ValueExpression → List Binding → Kind
+kind_on q v g = kind_found (declarations q.decls.now) (at_setting q.setting.now v) (kinds_of g)
+
+abbrev pub HasKindOn : Asking → ValueExpression → List Binding → Type 0
+HasKindOn q v g = KindFits (declarations q.decls.now) (at_setting q.setting.now v) (kinds_of g)
+
+-- code by the program's parts
+abbrev pub scale_code : Vx → Code → PayoffCode
+scale_code v k = ScaleBy (value_expression v) (payoff_code k)
+
+abbrev pub let_code : Vx → Code → PayoffCode
+let_code v k = LetBe (value_expression v) (payoff_code k)
+
+abbrev pub loop_code : Vx → DateExpr → Code → Code → PayoffCode
+loop_code v x k l = Loop (value_expression v) (date x) (payoff_code k) (payoff_code l)
 
 -- a walk over code at a base
 abbrev pub worth_on : Asking → ℕ → PayoffCode → List Binding → ℤ → Result Worth Missing

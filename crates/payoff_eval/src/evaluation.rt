@@ -1,74 +1,23 @@
 //! The evaluator of value expressions: values with their kinds, or the first place that is not fixed. It answers what the
 //! evaluator of expressions answers of the expression that a value expression is at the setting.
 
-ghost use Rattle.std.specs.Prelude.{◌≡◌, ◌+◌, ◌+ℤ◌, ◌-ℤ◌, pos, slice_get};
-ghost use Rattle.term_core.specs.Declarations.{declarations};
+ghost use Rattle.std.specs.Prelude.{◌≡◌};
 ghost use Rattle.term_core.specs.Terms.{Logic, Cond};
-ghost use Rattle.term_core.specs.Environments.{held, label_of};
-ghost use Rattle.term_core.specs.Kinds.{kind_of_label};
-ghost use Rattle.term_core.specs.Values.{kind_or};
-ghost use Rattle.expr_eval.specs.Scopes.{bindings};
-ghost use Rattle.expr_eval.specs.Runs.{of_binding, of_place, both_of};
+ghost use Rattle.expr_eval.specs.Runs.{both_of};
 ghost use Rattle.expr_eval.specs.Fits.{IsDay};
 ghost use Rattle.payoff_eval.specs.AskedOf.{DayFitsOn, DaysFitOn, FitsOn, HasDates, dated, day_run_on, days_run_on, run_on};
 
 use crate::asking::Asking;
 use crate::dates::day_on;
 use crate::kinds::kind_in;
-use expr_eval::kinds::kind_observed;
+use expr_eval::evaluation::{day_after, day_before, value_bound, value_observed};
 use expr_eval::operations::{
     Operands, Typed, at_kind, combine, compare, divide, is_decided, negate, number, round, verdict,
 };
-use expr_eval::scopes::{Scope, binding_at};
+use expr_eval::scopes::Scope;
 use expr_eval::{Binding, Held};
-use fixing_files::Fixings;
 use payoff_lang::Vx;
-use term_core::{Decls, Kind, LogicOp, Missing};
-
-// The value of the name that is bound `back` binders further out than the innermost.
-fn value_bound(scope: &Scope, back: u32) -> Result<Typed, Missing>
-    ensures { result ≡ of_binding (slice_get (bindings scope.now) back) }
-{
-    match binding_at(scope, back) {
-        Some(binding) => match binding.held {
-            Held::Known { value } => Ok(Typed {
-                kind: binding.kind,
-                value,
-            }),
-            Held::Lacking { missing } => Err(missing),
-        },
-        None => Ok(verdict(false)),
-    }
-}
-
-// The value of what is observed on a day.
-fn value_observed(decls: &Decls, label: u32, day: i64, fixings: &Fixings) -> Result<Typed, Missing>
-    ensures { result ≡ of_place (kind_or (kind_of_label (label_of (declarations decls.now) label))) (held fixings.now (record { label = label; day = day })) label day }
-{
-    match fixings.get(label, day) {
-        Some(value) => Ok(Typed {
-            kind: kind_observed(decls, label),
-            value,
-        }),
-        None => Err(Missing { label, day }),
-    }
-}
-
-// The day `i + 1` days after a day.
-fn day_after(from: i64, i: u32) -> i64
-    requires { IsDay from }
-    ensures { result ≡ from +ℤ pos (i + 1) }
-{
-    from + (i as i64 + 1)
-}
-
-// The day `days` days before a day.
-fn day_before(day: i64, days: u32) -> i64
-    requires { IsDay day }
-    ensures { result ≡ day -ℤ pos days }
-{
-    day - days as i64
-}
+use term_core::{Kind, LogicOp, Missing};
 
 /// The value of an expression with its kind, or the first place that is not fixed.
 #[cycle(evaluation)]

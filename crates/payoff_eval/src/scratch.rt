@@ -1,14 +1,12 @@
 //! Room for the names round a part of code.
 
 ghost use Rattle.std.specs.Prelude.{◌≡◌, ◌≤◌, ◌<◌, [], IfOk};
-ghost use Rattle.expr_eval.specs.Scopes.{bindings};
 ghost use Rattle.payoff_lang.specs.Code.{payoff_code};
 ghost use Rattle.payoff_lang.specs.CodeSizes.{height_of_code};
 
 use crate::heights::{MOST, height_of};
 use decimal::NoMemory;
 use expr_eval::Scratch;
-use expr_eval::scopes::Scope;
 use payoff_lang::CodeFile;
 use std::alloc::Global;
 use std::marker::Model;
@@ -16,7 +14,7 @@ use std::marker::Model;
 /// Room for the names round a part of code, seen as the number of names that have room. None is bound between two calls.
 #[derive(Drop)]
 pub struct ValueScratch {
-    names: Scratch,
+    pub(crate) names: Scratch,
 }
 
 impl Model for ValueScratch {
@@ -27,17 +25,6 @@ impl Model for ValueScratch {
     ghost view = { λ s. s.names.spare };
 
     ghost invariant = { λ s. s.names.entries ≡ [] };
-}
-
-impl ValueScratch {
-    /// The scope of code that stands under no binder.
-    pub fn outermost(&self) -> Scope<'_>
-        ensures { bindings result ≡ [] }
-    {
-        Scope::Base {
-            scratch: &self.names,
-        }
-    }
 }
 
 // Room for some names.

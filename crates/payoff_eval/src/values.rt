@@ -69,6 +69,5 @@ pub fn value(
     };
     let base = file.decls.start as i64;
     let room = file.decls.amounts + 9;
-    let scope = scratch.outermost();
-    amount_of(walk(&asking, &scope, base, room, &file.code))
+    amount_of(walk(&asking, &mut scratch.names, base, room, &file.code))
 }

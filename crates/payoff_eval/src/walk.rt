@@ -5,17 +5,17 @@ ghost use Rattle.term_core.specs.Values.{num};
 ghost use Rattle.term_core.specs.Flows.{unit_flow};
 ghost use Rattle.interval_check.specs.Safety.{IsSmall};
 ghost use Rattle.expr_eval.specs.Runs.{untyped};
-ghost use Rattle.expr_eval.specs.Scopes.{bindings};
 ghost use Rattle.expr_eval.specs.Fits.{IsDay};
 ghost use Rattle.expr_eval.specs.Trials.{first_tried};
 ghost use Rattle.payoff_lang.specs.TemplateDates.{date, day_of};
-ghost use Rattle.payoff_lang.specs.Code.{value_expression, payoff_code, ScaleBy, LetBe, Loop};
+ghost use Rattle.payoff_lang.specs.Code.{value_expression, payoff_code};
+ghost use Rattle.payoff_lang.specs.CodeSizes.{height_of_code};
 ghost use Rattle.payoff_lang.specs.CodeValues.{factor_on};
 ghost use Rattle.payoff_lang.specs.CodeReads.{concerns};
 ghost use Rattle.payoff_eval.specs.DatesFit.{DateFits};
 ghost use Rattle.payoff_eval.specs.Walks.{then_added};
 ghost use Rattle.payoff_eval.specs.CodeRuns.{DayFits, IsUpTo, paid};
-ghost use Rattle.payoff_eval.specs.AskedOf.{EvaluatesOn, WalksOn, answer_on, asked_of, worth_on};
+ghost use Rattle.payoff_eval.specs.AskedOf.{EvaluatesOn, HasKindOn, WalksOn, answer_on, asked_of, kind_on, let_code, loop_code, scale_code, worth_on};
 
 use crate::asking::Asking;
 use crate::dates::{count, day_on};
@@ -24,7 +24,7 @@ use crate::kinds::kind_in;
 use decimal::align;
 use expr_eval::operations::Typed;
 use expr_eval::scopes::Scope;
-use expr_eval::{Binding, Held};
+use expr_eval::{Held, Scratch};
 use payoff_lang::{Code, DateExpr, Vx};
 use term_core::{Kind, Missing, Value};
 
@@ -121,12 +121,22 @@ fn without_kind(found: Result<Typed, Missing>) -> Result<Value, Missing>
     }
 }
 
-// The value of a value expression at a base, or the first place that it reads and that is not fixed.
-fn value_on(asking: &Asking, scope: &Scope, base: i64, v: &Vx) -> Result<Value, Missing>
-    requires { EvaluatesOn asking.now (value_expression v.now) (bindings scope.now) base }
-    ensures { result ≡ answer_on asking.now (value_expression v.now) (bindings scope.now) base }
+// The kind of a value expression, with the entries of a scratch for its names.
+fn kind_of(asking: &Asking, scratch: &Scratch, v: &Vx) -> Kind
+    requires { HasKindOn asking.now (value_expression v.now) scratch.now.entries }
+    ensures { result ≡ kind_on asking.now (value_expression v.now) scratch.now.entries }
 {
-    without_kind(evaluate(asking, v, scope, base))
+    let scope = Scope::Base { scratch };
+    kind_in(asking, v, &scope)
+}
+
+// The value of a value expression at a base, or the first place that it reads and that is not fixed.
+fn value_on(asking: &Asking, scratch: &Scratch, base: i64, v: &Vx) -> Result<Value, Missing>
+    requires { EvaluatesOn asking.now (value_expression v.now) scratch.now.entries base }
+    ensures { result ≡ answer_on asking.now (value_expression v.now) scratch.now.entries base }
+{
+    let scope = Scope::Base { scratch };
+    without_kind(evaluate(asking, v, &scope, base))
 }
 
 // The base some days later.
@@ -140,19 +150,19 @@ fn later(base: i64, days: u32) -> i64
 // The days until a test is first true, of the days 0 to `days`.
 fn first_day(
     asking: &Asking,
-    scope: &Scope,
+    scratch: &Scratch,
     base: i64,
     test: &Vx,
     days: u32,
 ) -> Result<Option<u32>, Missing>
     requires days { days ≤ 100_000 }
     requires base { IsDay base }
-    requires fits { (i : ℕ) → i ≤ 100_000 → EvaluatesOn asking.now (value_expression test.now) (bindings scope.now) (base +ℤ pos i) }
+    requires fits { (i : ℕ) → i ≤ 100_000 → EvaluatesOn asking.now (value_expression test.now) scratch.now.entries (base +ℤ pos i) }
     ensures few { IfOk result (λ first. IsUpTo first days) }
-    ensures first { result ≡ first_tried (days + 1) (λ i. answer_on asking.now (value_expression test.now) (bindings scope.now) (base +ℤ pos i)) }
+    ensures first { result ≡ first_tried (days + 1) (λ i. answer_on asking.now (value_expression test.now) scratch.now.entries (base +ℤ pos i)) }
 {
     for i in 0..days + 1 {
-        let value = value_on(asking, scope, later(base, i), test)?;
+        let value = value_on(asking, scratch, later(base, i), test)?;
         if value.is_true() {
             return Ok(Some(i));
         }
@@ -193,10 +203,18 @@ fn is_gone(asking: &Asking, base: i64, x: &DateExpr) -> bool
 
 /// What code is worth at a base, at so many decimals, or the first place that it reads and that is not fixed.
 #[cycle(walking)]
-pub fn walk(asking: &Asking, scope: &Scope, base: i64, room: u8, k: &Code) -> Result<Worth, Missing>
+pub fn walk(
+    asking: &Asking,
+    scratch: &mut Scratch,
+    base: i64,
+    room: u8,
+    k: &Code,
+) -> Result<Worth, Missing>
     requires today { IsDay asking.now.today }
-    requires fits { WalksOn asking.now room (payoff_code k.now) (bindings scope.now) base }
-    ensures { result ≡ worth_on asking.now room (payoff_code k.now) (bindings scope.now) base }
+    requires fits { WalksOn asking.now room (payoff_code k.now) scratch.old.entries base }
+    requires space { height_of_code (payoff_code k.now) ≤ scratch.old.spare }
+    ensures worth { result ≡ worth_on asking.now room (payoff_code k.now) scratch.old.entries base }
+    ensures same { scratch.new ≡ scratch.old }
 {
     match k {
         Code::None => Ok(NOTHING),
@@ -207,23 +225,23 @@ pub fn walk(asking: &Asking, scope: &Scope, base: i64, room: u8, k: &Code) -> Re
             to,
         } => Ok(pay(asking, room, day_on(asking, base, date), *asset, *from, *to)),
         Code::Add { left, right } => {
-            let left = walk(asking, scope, base, room, left)?;
-            let right = walk(asking, scope, base, room, right)?;
+            let left = walk(asking, scratch, base, room, left)?;
+            let right = walk(asking, scratch, base, room, right)?;
             Ok(added(left, right))
         }
-        Code::Scale { factor, body } => walk_scaled(asking, scope, base, room, factor, body),
-        Code::Let { bound, body } => walk_bound(asking, scope, base, room, bound, body),
+        Code::Scale { factor, body } => walk_scaled(asking, scratch, base, room, factor, body),
+        Code::Let { bound, body } => walk_bound(asking, scratch, base, room, bound, body),
         Code::LoopIf {
             test,
             upto,
             hit,
             miss,
-        } => walk_loop(asking, scope, base, room, test, upto, hit, miss),
+        } => walk_loop(asking, scratch, base, room, test, upto, hit, miss),
         Code::Cut { date, body } => {
             if is_gone(asking, base, date) {
                 return Ok(NOTHING);
             }
-            walk(asking, scope, base, room, body)
+            walk(asking, scratch, base, room, body)
         }
     }
 }
@@ -232,22 +250,24 @@ pub fn walk(asking: &Asking, scope: &Scope, base: i64, room: u8, k: &Code) -> Re
 #[cycle(walking)]
 fn walk_scaled(
     asking: &Asking,
-    scope: &Scope,
+    scratch: &mut Scratch,
     base: i64,
     room: u8,
     by: &Vx,
     body: &Code,
 ) -> Result<Worth, Missing>
     requires today { IsDay asking.now.today }
-    requires fits { WalksOn asking.now room (ScaleBy (value_expression by.now) (payoff_code body.now)) (bindings scope.now) base }
-    ensures { result ≡ worth_on asking.now room (ScaleBy (value_expression by.now) (payoff_code body.now)) (bindings scope.now) base }
+    requires fits { WalksOn asking.now room (scale_code by.now body.now) scratch.old.entries base }
+    requires space { height_of_code (scale_code by.now body.now) ≤ scratch.old.spare }
+    ensures worth { result ≡ worth_on asking.now room (scale_code by.now body.now) scratch.old.entries base }
+    ensures same { scratch.new ≡ scratch.old }
 {
-    let scale = kind_in(asking, by, scope).scale();
-    let worth = walk(asking, scope, base, room - scale, body)?;
+    let scale = kind_of(asking, scratch, by).scale();
+    let worth = walk(asking, scratch, base, room - scale, body)?;
     if !worth.reached {
         return Ok(NOTHING);
     }
-    let by = value_on(asking, scope, base, by)?;
+    let by = value_on(asking, scratch, base, by)?;
     Ok(scaled(by, worth))
 }
 
@@ -255,30 +275,31 @@ fn walk_scaled(
 #[cycle(walking)]
 fn walk_bound(
     asking: &Asking,
-    scope: &Scope,
+    scratch: &mut Scratch,
     base: i64,
     room: u8,
     bound: &Vx,
     body: &Code,
 ) -> Result<Worth, Missing>
     requires today { IsDay asking.now.today }
-    requires fits { WalksOn asking.now room (LetBe (value_expression bound.now) (payoff_code body.now)) (bindings scope.now) base }
-    ensures { result ≡ worth_on asking.now room (LetBe (value_expression bound.now) (payoff_code body.now)) (bindings scope.now) base }
+    requires fits { WalksOn asking.now room (let_code bound.now body.now) scratch.old.entries base }
+    requires space { height_of_code (let_code bound.now body.now) ≤ scratch.old.spare }
+    ensures worth { result ≡ worth_on asking.now room (let_code bound.now body.now) scratch.old.entries base }
+    ensures same { scratch.new ≡ scratch.old }
 {
-    let kind = kind_in(asking, bound, scope);
-    let held = Held::of(value_on(asking, scope, base, bound));
-    let inner = Scope::Inner {
-        binding: Binding { kind, held },
-        outer: &*scope,
-    };
-    walk(asking, &inner, base, room, body)
+    let kind = kind_of(asking, scratch, bound);
+    let held = Held::of(value_on(asking, scratch, base, bound));
+    scratch.enter(kind, held);
+    let worth = walk(asking, scratch, base, room, body);
+    scratch.leave();
+    worth
 }
 
 // The branch that a loop enters.
 #[cycle(walking)]
 fn walk_loop(
     asking: &Asking,
-    scope: &Scope,
+    scratch: &mut Scratch,
     base: i64,
     room: u8,
     test: &Vx,
@@ -287,12 +308,14 @@ fn walk_loop(
     miss: &Code,
 ) -> Result<Worth, Missing>
     requires today { IsDay asking.now.today }
-    requires fits { WalksOn asking.now room (Loop (value_expression test.now) (date upto.now) (payoff_code hit.now) (payoff_code miss.now)) (bindings scope.now) base }
-    ensures { result ≡ worth_on asking.now room (Loop (value_expression test.now) (date upto.now) (payoff_code hit.now) (payoff_code miss.now)) (bindings scope.now) base }
+    requires fits { WalksOn asking.now room (loop_code test.now upto.now hit.now miss.now) scratch.old.entries base }
+    requires space { height_of_code (loop_code test.now upto.now hit.now miss.now) ≤ scratch.old.spare }
+    ensures worth { result ≡ worth_on asking.now room (loop_code test.now upto.now hit.now miss.now) scratch.old.entries base }
+    ensures same { scratch.new ≡ scratch.old }
 {
     let days = count(asking, upto);
-    match first_day(asking, scope, base, test, days)? {
-        Some(first) => walk(asking, scope, later(base, first), room, hit),
-        None => walk(asking, scope, base, room, miss),
+    match first_day(asking, scratch, base, test, days)? {
+        Some(first) => walk(asking, scratch, later(base, first), room, hit),
+        None => walk(asking, scratch, base, room, miss),
     }
 }

@@ -2,7 +2,6 @@ use Rattle.std.proofs.Common.{◌≡◌, pos, rules, to_z, of_z, w64}
 use Rattle.std.proofs.lemmas.Int.{to_z-of_z}
 use Rattle.term_core.specs.Declarations.{declarations}
 use Rattle.payoff_lang.specs.Code.{payoff_code}
-use Rattle.expr_eval.specs.Scopes.{bindings}
 use Rattle.payoff_eval.specs.AskedOf.{asked_on}
 use Rattle.payoff_eval.specs.CodeAnswers.{IsCodeValue}
 use Rattle.payoff_eval.proofs.FitFacts.{accepted_code_fits}
@@ -18,16 +17,16 @@ walk-requires-clause-fits c =
     let a = asked_on c.args.curve.now c.args.at c.args.from c.args.to c.args.asset in
     let start = c.args.file.now.decls.start_in in
     let base : to_z w64 c.args.file.now.decls.start ≡ pos c.args.file.now.decls.start = search rules in
-    asked_fits d k c.args.fixings.now c.args.curve.now c.args.from c.args.to c.args.asset (bindings c.outermost-scope.result) xs c.as_slice.result.now c.args.at (to_z w64 (of_z w64 c.args.at)) (pos c.args.file.now.decls.start) (to_z w64 c.args.file.now.decls.start)
-    c.outermost-scope.ensures c.as_slice.ensures.value (to_z-of_z w64 c.args.at c.ranges.at) base
+    asked_fits d k c.args.fixings.now c.args.curve.now c.args.from c.args.to c.args.asset c.scratch.inside.names.entries xs c.as_slice.result.now c.args.at (to_z w64 (of_z w64 c.args.at)) (pos c.args.file.now.decls.start) (to_z w64 c.args.file.now.decls.start)
+    c.scratch.invariant c.as_slice.ensures.value (to_z-of_z w64 c.args.at c.ranges.at) base
     (accepted_code_fits d xs c.args.fixings.now k a (pos c.args.file.now.decls.start) c.args.file.now.decls.labels_in c.args.file.now.decls.amounts_in c.requires.setting c.requires.formed c.requires.accepted c.requires.admitted (curve_fits a c.rises.ensures.curve face_is_factor) start)
 
 found : (c : goal.After-amount_of) → IsCodeValue (declarations c.args.file.now.decls) (payoff_code c.args.file.now.code) c.args.setting.now.days.items c.args.fixings.now (asked_on c.args.curve.now c.args.at c.args.from c.args.to c.args.asset) (pos c.args.file.now.decls.start) c.amount_of.result
 found c =
     let start = c.args.file.now.decls.start_in in
     let base : to_z w64 c.args.file.now.decls.start ≡ pos c.args.file.now.decls.start = search rules in
-    answered (declarations c.args.file.now.decls) (payoff_code c.args.file.now.code) c.args.fixings.now c.args.curve.now c.args.from c.args.to c.args.asset (bindings c.outermost-scope.result) c.args.setting.now.days.items c.as_slice.result.now c.args.at (to_z w64 (of_z w64 c.args.at)) (pos c.args.file.now.decls.start) (to_z w64 c.args.file.now.decls.start) c.walk.result c.amount_of.result
-    c.outermost-scope.ensures c.as_slice.ensures.value (to_z-of_z w64 c.args.at c.ranges.at) base c.requires.accepted c.walk.ensures c.amount_of.ensures
+    answered (declarations c.args.file.now.decls) (payoff_code c.args.file.now.code) c.args.fixings.now c.args.curve.now c.args.from c.args.to c.args.asset c.scratch.inside.names.entries c.args.setting.now.days.items c.as_slice.result.now c.args.at (to_z w64 (of_z w64 c.args.at)) (pos c.args.file.now.decls.start) (to_z w64 c.args.file.now.decls.start) c.walk.result c.amount_of.result
+    c.scratch.invariant c.as_slice.ensures.value (to_z-of_z w64 c.args.at c.ranges.at) base c.requires.accepted c.walk.ensures.worth c.amount_of.ensures
 
 pub returns-clause-value : goal.returns-clause-value
 returns-clause-value c = found c

@@ -3,7 +3,6 @@ use Rattle.std.proofs.lemmas.Int.{to_z-of_z}
 use Rattle.term_core.specs.declared.values.Value.{Value}
 use Rattle.term_core.specs.declared.values.Missing.{Missing}
 use Rattle.term_core.specs.Declarations.{declarations}
-use Rattle.expr_eval.specs.Scopes.{bindings}
 use Rattle.payoff_lang.specs.Code.{value_expression}
 use Rattle.payoff_eval.specs.CodeRuns.{answer_of}
 use Rattle.expr_eval.specs.Trials.{first_tried}
@@ -12,21 +11,21 @@ use Rattle.payoff_eval.proofs.walk.first_day.Goals as goal
 
 pub returns-in_err-value : goal.returns-in_err-value
 returns-in_err-value c =
-    let answers : ℕ → Result Value Missing = λ i. answer_of (declarations c.args.asking.now.decls.now) (value_expression c.args.test.now) (bindings c.args.scope.now) c.args.asking.now.fixings.now c.args.asking.now.setting.now (c.args.base +ℤ pos i) in
+    let answers : ℕ → Result Value Missing = λ i. answer_of (declarations c.args.asking.now.decls.now) (value_expression c.args.test.now) c.args.scratch.now.entries c.args.asking.now.fixings.now c.args.asking.now.setting.now (c.args.base +ℤ pos i) in
     let base : FitsSigned w64 c.args.base = c.ranges.base in
     let fits : FitsSigned w64 c.later.result = search rules in
     let day : c.later.result ≡ c.args.base +ℤ pos c.loop-i.i = simp to_z-of_z at c.later.ensures in
-    let on : answers c.loop-i.i ≡ c.value_on.result = ap (λ (b : ℤ). answer_of (declarations c.args.asking.now.decls.now) (value_expression c.args.test.now) (bindings c.args.scope.now) c.args.asking.now.fixings.now c.args.asking.now.setting.now b) (sym (to_z-of_z w64 c.later.result fits ∙ day)) ∙ sym c.value_on.ensures in
+    let on : answers c.loop-i.i ≡ c.value_on.result = ap (λ (b : ℤ). answer_of (declarations c.args.asking.now.decls.now) (value_expression c.args.test.now) c.args.scratch.now.entries c.args.asking.now.fixings.now c.args.asking.now.setting.now b) (sym (to_z-of_z w64 c.later.result fits ∙ day)) ∙ sym c.value_on.ensures in
     let none : first_tried c.loop-i.i answers ≡ Ok None = simp to_z-of_z at c.loop-i.invariant in
     let missing = tried_missing (c.args.days + 1) c.loop-i.i answers c.in_err-value.field-0.0 (omega arith) none (on ∙ c.in_err-value.was) in
     grind (arith, missing, c.from_residual.ensures)
 
 pub returns-then-is_true : goal.returns-then-is_true
 returns-then-is_true c =
-    let answers : ℕ → Result Value Missing = λ i. answer_of (declarations c.args.asking.now.decls.now) (value_expression c.args.test.now) (bindings c.args.scope.now) c.args.asking.now.fixings.now c.args.asking.now.setting.now (c.args.base +ℤ pos i) in
+    let answers : ℕ → Result Value Missing = λ i. answer_of (declarations c.args.asking.now.decls.now) (value_expression c.args.test.now) c.args.scratch.now.entries c.args.asking.now.fixings.now c.args.asking.now.setting.now (c.args.base +ℤ pos i) in
     let base : FitsSigned w64 c.args.base = c.ranges.base in
     let fits : FitsSigned w64 c.later.result = search rules in
     let day : c.later.result ≡ c.args.base +ℤ pos c.loop-i.i = simp to_z-of_z at c.later.ensures in
-    let on : answers c.loop-i.i ≡ c.value_on.result = ap (λ (b : ℤ). answer_of (declarations c.args.asking.now.decls.now) (value_expression c.args.test.now) (bindings c.args.scope.now) c.args.asking.now.fixings.now c.args.asking.now.setting.now b) (sym (to_z-of_z w64 c.later.result fits ∙ day)) ∙ sym c.value_on.ensures in
+    let on : answers c.loop-i.i ≡ c.value_on.result = ap (λ (b : ℤ). answer_of (declarations c.args.asking.now.decls.now) (value_expression c.args.test.now) c.args.scratch.now.entries c.args.asking.now.fixings.now c.args.asking.now.setting.now b) (sym (to_z-of_z w64 c.later.result fits ∙ day)) ∙ sym c.value_on.ensures in
     let none : first_tried c.loop-i.i answers ≡ Ok None = simp to_z-of_z at c.loop-i.invariant in
     record { few = omega arith; first = sym (tried_true (c.args.days + 1) c.loop-i.i answers c.in_ok-value.value (omega arith) none (on ∙ c.in_ok-value.was) (sym c.is_true.ensures ∙ c.if-is_true.true)) }
