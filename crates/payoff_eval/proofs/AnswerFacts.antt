@@ -12,7 +12,8 @@ use Rattle.payoff_lang.specs.CodeReads.{reads_of_code, reaches_payment}
 use Rattle.payoff_lang.proofs.CodeAlikeFacts.{Worth as Worth', code_alike}
 use Rattle.payoff_eval.specs.declared.walk.Worth.{Worth}
 use Rattle.payoff_eval.specs.Walks.{unless, walk_of}
-use Rattle.payoff_eval.specs.CodeAnswers.{IsCodeValue, amount_in}
+use Rattle.payoff_eval.specs.CodeAnswers.{IsCodeValue}
+use Rattle.payoff_eval.specs.CodeRuns.{amount_in}
 use Rattle.payoff_eval.proofs.WalkFacts.{walk_is}
 
 fixed : (d : Declarations) (k : PayoffCode) (F env : Environment) (xs : List ℕ) (a : Asked) (b : ℤ) → Extends F env → first_unfixed F (reads_of_code d k [] [] F xs a b) ≡ None → code_value d k [] env xs a b ≡ code_value d k [] F xs a b

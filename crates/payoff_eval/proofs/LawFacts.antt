@@ -12,9 +12,9 @@ use Rattle.payoff_lang.specs.Code.{PayoffCode}
 use Rattle.payoff_lang.specs.CodeValues.{Asked}
 use Rattle.payoff_lang.specs.CodeAcceptance.{IsAcceptedCode}
 use Rattle.payoff_eval.specs.declared.walk.Worth.{Worth}
-use Rattle.payoff_eval.specs.AskedOf.{asked_on}
-use Rattle.payoff_eval.specs.CodeRuns.{CodeFits, run_code}
-use Rattle.payoff_eval.specs.CodeAnswers.{IsCodeValue, aligned_value, amount_in}
+use Rattle.payoff_eval.specs.Questions.{asked_on}
+use Rattle.payoff_eval.specs.CodeRuns.{CodeFits, amount_in, run_code}
+use Rattle.payoff_eval.specs.CodeAnswers.{IsCodeValue, aligned_value}
 use Rattle.payoff_eval.specs.Laws.{ValuesAreWithinTotals}
 use Rattle.payoff_eval.proofs.AnswerFacts.{walks_are_values}
 use Rattle.payoff_eval.proofs.NodeFacts.{bounds_hold, scale_of_accepted, total_at_root}

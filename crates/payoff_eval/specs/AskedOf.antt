@@ -1,16 +1,17 @@
--- What is asked, by contents: a payment gone by counts with its face value. And what is answered to it.
+-- What the evaluator of code is asked, by contents, and what it answers.
 use Rattle.std.specs.Prelude.{ℕ, ℤ, List, Result}
 use Rattle.term_core.specs.Declarations.{declarations}
 use Rattle.term_core.specs.declared.values.Kind.{Kind}
 use Rattle.term_core.specs.declared.values.Value.{Value}
 use Rattle.term_core.specs.declared.values.Missing.{Missing}
-use Rattle.term_core.specs.Factors.{CurveRow}
-use Rattle.term_core.specs.Terms.{Expression}
+use Rattle.term_core.specs.declared.terms.LogicOp.{LogicOp}
+use Rattle.term_core.specs.Terms.{Expression, Logic, Cond}
+use Rattle.expr_eval.specs.declared.operations.Operands.{Operands}
 use Rattle.expr_eval.specs.declared.operations.Typed.{Typed}
 use Rattle.expr_eval.specs.declared.scopes.Scope.{Scope}
 use Rattle.expr_eval.specs.declared.scratch.Binding.{Binding}
 use Rattle.expr_eval.specs.Fits.{Fits, DayFitsIn, DaysFitIn}
-use Rattle.expr_eval.specs.Runs.{Answer, run_of, day_run, days_run}
+use Rattle.expr_eval.specs.Runs.{Answer, run_of, both_of, day_run, days_run}
 use Rattle.expr_eval.specs.Scopes.{bindings}
 use Rattle.expr_eval.specs.KindScales.{KindFits}
 use Rattle.expr_eval.specs.Rooms.{kinds_of}
@@ -22,15 +23,11 @@ use Rattle.payoff_lang.specs.TemplateDates.{date}
 use Rattle.payoff_lang.specs.Code.{ValueExpression, PayoffCode, ScaleBy, LetBe, Loop, value_expression, payoff_code}
 use Rattle.payoff_lang.specs.Dating.{at_setting}
 use Rattle.payoff_lang.specs.CodeValues.{Asked}
-use Rattle.payoff_lang.specs.Meaning.{face_value}
 use Rattle.payoff_eval.specs.DatesFit.{DatesFit}
+use Rattle.payoff_eval.specs.Questions.{asked_on}
 use Rattle.payoff_eval.specs.CodeRuns.{CodeFits, ValueFits, answer_of, run_code}
 use Rattle.payoff_eval.specs.declared.asking.Asking.{Asking}
 use Rattle.payoff_eval.specs.declared.walk.Worth.{Worth}
-
-abbrev pub asked_on : List CurveRow → ℤ → ℕ → ℕ → ℕ → Asked
-asked_on curve at from to asset =
-    record { now = at; curve = curve; gone = face_value; flow = record { from = from; to = to; asset = asset } }
 
 -- what the program's question stands for
 abbrev pub asked_of : Asking → Asked
@@ -50,6 +47,16 @@ run_on q e scope f = run_of (declarations q.decls.now) e (bindings scope) q.fixi
 abbrev pub FitsOn : Asking → Expression → Scope → ℤ → Type 0
 FitsOn q e scope f = Fits (declarations q.decls.now) e (bindings scope) q.fixings.now f
 
+abbrev pub both_on : Asking → Expression → Expression → Scope → ℤ → Result Operands Missing
+both_on q x y scope f = both_of (run_on q x scope f) (run_on q y scope f)
+
+-- the forms whose parts are evaluated apart
+abbrev pub sides : Asking → LogicOp → Vx → Vx → Expression
+sides q op x y = Logic op (dated q x) (dated q y)
+
+abbrev pub branches : Asking → Vx → Vx → Vx → Expression
+branches q t x y = Cond (dated q t) (dated q x) (dated q y)
+
 -- a day of an accumulator with this body, and its first n days
 abbrev pub day_run_on : Asking → Expression → Scope → ℤ → Typed → Answer
 day_run_on q body scope at v = day_run (declarations q.decls.now) body (bindings scope) q.fixings.now at v
@@ -64,8 +71,8 @@ abbrev pub DaysFitOn : Asking → Expression → Scope → ℤ → ℕ → Answe
 DaysFitOn q body scope from n start = DaysFitIn (declarations q.decls.now) body (bindings scope) q.fixings.now from n start
 
 -- an evaluation of a value expression at a base
-abbrev pub answer_on : Asking → ValueExpression → List Binding → ℤ → Result Value Missing
-answer_on q v g b = answer_of (declarations q.decls.now) v g q.fixings.now q.setting.now b
+abbrev pub answer : Asking → ValueExpression → List Binding → ℤ → Result Value Missing
+answer q v g b = answer_of (declarations q.decls.now) v g q.fixings.now q.setting.now b
 
 abbrev pub EvaluatesOn : Asking → ValueExpression → List Binding → ℤ → Type 0
 EvaluatesOn q v g b = ValueFits (declarations q.decls.now) v g q.fixings.now q.setting.now b

@@ -11,7 +11,6 @@ use Rattle.payoff_lang.specs.Code.{PayoffCode}
 use Rattle.payoff_lang.specs.CodeBooks.{CodeBook}
 use Rattle.payoff_lang.specs.CodeValues.{Asked, code_value, scale_of_code}
 use Rattle.payoff_lang.specs.CodeReads.{reads_of_code}
-use Rattle.payoff_eval.specs.declared.walk.Worth.{Worth}
 
 -- the value of closed code, at nine decimals more than the portfolio's
 abbrev pub aligned_value : Declarations → PayoffCode → Environment → List ℕ → Asked → ℤ → ℤ
@@ -29,8 +28,3 @@ pub record IsCodeValue (d : Declarations) (k : PayoffCode) (xs : List ℕ) (fixi
 -- of a code file, whose base is the start of its declarations
 abbrev pub IsValueOf : CodeBook → List ℕ → Environment → Asked → Result ℤ Missing → Type 0
 IsValueOf b xs fixings a r = IsCodeValue b.declarations b.code xs fixings a (pos b.declarations.start) r
-
--- what is left of a walk's answer
-abbrev pub amount_in : Result Worth Missing → Result ℤ Missing
-amount_in (Ok w) = Ok w.amount
-amount_in (Err m) = Err m

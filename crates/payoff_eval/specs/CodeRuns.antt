@@ -55,6 +55,11 @@ run_code d room (Loop v x k l) g fixings xs a b =
 run_code d room (Cut x k) g fixings xs a b =
     if int_lt (b +ℤ day_of xs x) a.now then Ok nothing_reached else run_code d room k g fixings xs a b
 
+-- what is left of an answer
+abbrev pub amount_in : Result Worth Missing → Result ℤ Missing
+amount_in (Ok w) = Ok w.amount
+amount_in (Err m) = Err m
+
 -- ---- what it needs in 128 bits
 
 abbrev pub OnWorth : Result Worth Missing → (Worth → Type 0) → Type 0

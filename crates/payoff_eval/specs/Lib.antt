@@ -3,6 +3,6 @@ pub mod Walks
 pub mod CodeRules
 pub mod CodeRuns
 pub mod AskedOf
-pub mod Valuation
+pub mod Questions
 pub mod CodeAnswers
 pub mod Laws

@@ -41,10 +41,14 @@ then_added (Err m) other = Err m
 then_added (Ok x) (Err m) = Err m
 then_added (Ok x) (Ok y) = Ok (record { amount = x.amount +ℤ y.amount; reached = x.reached || y.reached })
 
+abbrev pub times : Result Value Missing → ℤ → Result Worth Missing
+times (Ok v) x = Ok (record { amount = num v *ℤ x; reached = true })
+times (Err m) x = Err m
+
 -- the factor is asked for only where a payment is reached
 abbrev pub then_scaled : Result Worth Missing → Result Value Missing → Result Worth Missing
 then_scaled (Err m) factor = Err m
-then_scaled (Ok x) factor = if x.reached then (elim factor [ Ok v ↦ Ok (record { amount = num v *ℤ x.amount; reached = true }) | Err m ↦ Err m ]) else Ok nothing_reached
+then_scaled (Ok x) factor = if x.reached then times factor x.amount else Ok nothing_reached
 
 abbrev pub then_branch : Result (Option ℕ) Missing → (ℕ → Result Worth Missing) → Result Worth Missing → Result Worth Missing
 then_branch (Err m) hit miss = Err m

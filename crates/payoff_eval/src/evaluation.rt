@@ -2,10 +2,8 @@
 //! evaluator of expressions answers of the expression that a value expression is at the setting.
 
 ghost use Rattle.std.specs.Prelude.{◌≡◌};
-ghost use Rattle.term_core.specs.Terms.{Logic, Cond};
-ghost use Rattle.expr_eval.specs.Runs.{both_of};
 ghost use Rattle.expr_eval.specs.Fits.{IsDay};
-ghost use Rattle.payoff_eval.specs.AskedOf.{DayFitsOn, DaysFitOn, FitsOn, HasDates, dated, day_run_on, days_run_on, run_on};
+ghost use Rattle.payoff_eval.specs.AskedOf.{DayFitsOn, DaysFitOn, FitsOn, HasDates, both_on, branches, dated, day_run_on, days_run_on, run_on, sides};
 
 use crate::asking::Asking;
 use crate::dates::day_on;
@@ -93,7 +91,7 @@ fn evaluate_both(
     requires dates { HasDates asking.now left.now × HasDates asking.now right.now }
     requires left { FitsOn asking.now (dated asking.now left.now) scope.now day }
     requires right { FitsOn asking.now (dated asking.now right.now) scope.now day }
-    ensures { result ≡ both_of (run_on asking.now (dated asking.now left.now) scope.now day) (run_on asking.now (dated asking.now right.now) scope.now day) }
+    ensures { result ≡ both_on asking.now (dated asking.now left.now) (dated asking.now right.now) scope.now day }
 {
     let left = evaluate(asking, left, scope, day)?;
     let right = evaluate(asking, right, scope, day)?;
@@ -111,8 +109,8 @@ fn evaluate_logic(
     day: i64,
 ) -> Result<Typed, Missing>
     requires dates { HasDates asking.now left.now × HasDates asking.now right.now }
-    requires fits { FitsOn asking.now (Logic op (dated asking.now left.now) (dated asking.now right.now)) scope.now day }
-    ensures { result ≡ run_on asking.now (Logic op (dated asking.now left.now) (dated asking.now right.now)) scope.now day }
+    requires fits { FitsOn asking.now (sides asking.now op left.now right.now) scope.now day }
+    ensures { result ≡ run_on asking.now (sides asking.now op left.now right.now) scope.now day }
 {
     let left = evaluate(asking, left, scope, day)?.value.is_true();
     if is_decided(op, left) {
@@ -133,8 +131,8 @@ fn evaluate_branches(
     day: i64,
 ) -> Result<Typed, Missing>
     requires dates { HasDates asking.now test.now × HasDates asking.now yes.now × HasDates asking.now no.now }
-    requires fits { FitsOn asking.now (Cond (dated asking.now test.now) (dated asking.now yes.now) (dated asking.now no.now)) scope.now day }
-    ensures { result ≡ run_on asking.now (Cond (dated asking.now test.now) (dated asking.now yes.now) (dated asking.now no.now)) scope.now day }
+    requires fits { FitsOn asking.now (branches asking.now test.now yes.now no.now) scope.now day }
+    ensures { result ≡ run_on asking.now (branches asking.now test.now yes.now no.now) scope.now day }
 {
     let test = evaluate(asking, test, scope, day)?;
     if test.value.is_true() {

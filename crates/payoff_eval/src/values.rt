@@ -9,9 +9,9 @@ ghost use Rattle.payoff_lang.specs.CodeBooks.{code_book};
 ghost use Rattle.payoff_lang.specs.CodeSizes.{height_of_code};
 ghost use Rattle.payoff_lang.specs.CodeAcceptance.{IsAcceptedCode};
 ghost use Rattle.payoff_lang.specs.WellFormedCode.{IsClosedCode};
-ghost use Rattle.payoff_eval.specs.AskedOf.{asked_on};
-ghost use Rattle.payoff_eval.specs.Valuation.{HasNumberForEach, IsQuestion};
-ghost use Rattle.payoff_eval.specs.CodeAnswers.{IsValueOf, amount_in};
+ghost use Rattle.payoff_eval.specs.Questions.{HasNumberForEach, IsQuestion, asked_on};
+ghost use Rattle.payoff_eval.specs.CodeAnswers.{IsValueOf};
+ghost use Rattle.payoff_eval.specs.CodeRuns.{amount_in};
 
 use crate::asking::Asking;
 use crate::scratch::ValueScratch;

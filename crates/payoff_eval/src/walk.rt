@@ -15,7 +15,8 @@ ghost use Rattle.payoff_lang.specs.CodeReads.{concerns};
 ghost use Rattle.payoff_eval.specs.DatesFit.{DateFits};
 ghost use Rattle.payoff_eval.specs.Walks.{then_added};
 ghost use Rattle.payoff_eval.specs.CodeRuns.{DayFits, IsUpTo, paid};
-ghost use Rattle.payoff_eval.specs.AskedOf.{EvaluatesOn, HasKindOn, WalksOn, answer_on, asked_of, kind_on, let_code, loop_code, scale_code, worth_on};
+ghost use Rattle.payoff_eval.specs.AskedOf.{EvaluatesOn, HasKindOn, WalksOn, answer, asked_of, kind_on, worth_on};
+ghost use Rattle.payoff_eval.specs.AskedOf.{let_code, loop_code, scale_code};
 
 use crate::asking::Asking;
 use crate::dates::{count, day_on};
@@ -133,7 +134,7 @@ fn kind_of(asking: &Asking, scratch: &Scratch, v: &Vx) -> Kind
 // The value of a value expression at a base, or the first place that it reads and that is not fixed.
 fn value_on(asking: &Asking, scratch: &Scratch, base: i64, v: &Vx) -> Result<Value, Missing>
     requires { EvaluatesOn asking.now (value_expression v.now) scratch.now.entries base }
-    ensures { result ≡ answer_on asking.now (value_expression v.now) scratch.now.entries base }
+    ensures { result ≡ answer asking.now (value_expression v.now) scratch.now.entries base }
 {
     let scope = Scope::Base { scratch };
     without_kind(evaluate(asking, v, &scope, base))
@@ -159,7 +160,7 @@ fn first_day(
     requires base { IsDay base }
     requires fits { (i : ℕ) → i ≤ 100_000 → EvaluatesOn asking.now (value_expression test.now) scratch.now.entries (base +ℤ pos i) }
     ensures few { IfOk result (λ first. IsUpTo first days) }
-    ensures first { result ≡ first_tried (days + 1) (λ i. answer_on asking.now (value_expression test.now) scratch.now.entries (base +ℤ pos i)) }
+    ensures day { result ≡ first_tried (days + 1) (λ i. answer asking.now (value_expression test.now) scratch.now.entries (base +ℤ pos i)) }
 {
     for i in 0..days + 1 {
         let value = value_on(asking, scratch, later(base, i), test)?;

@@ -2,7 +2,7 @@ use Rattle.std.proofs.Common.{◌≡◌, pos, rules, to_z, of_z, w64}
 use Rattle.std.proofs.lemmas.Int.{to_z-of_z}
 use Rattle.term_core.specs.Declarations.{declarations}
 use Rattle.payoff_lang.specs.Code.{payoff_code}
-use Rattle.payoff_eval.specs.AskedOf.{asked_on}
+use Rattle.payoff_eval.specs.Questions.{asked_on}
 use Rattle.payoff_eval.specs.CodeAnswers.{IsCodeValue}
 use Rattle.payoff_eval.proofs.FitFacts.{accepted_code_fits}
 use Rattle.payoff_eval.proofs.LawFacts.{answered, asked_fits, value_is_small}

@@ -21,5 +21,5 @@ walk_loop-returns-in-Some-clause-worth t c =
     let day : c.later.result ≡ c.args.base +ℤ pos c.in-Some.first = simp to_z-of_z at c.later.ensures in
     let entered : c.walk.result ≡ run (c.args.base +ℤ pos c.in-Some.first) = c.walk.ensures.worth ∙ ap run (to_z-of_z w64 c.later.result fits ∙ day) in
     let answers : ℕ → Result Value Missing = λ i. answer_of d (value_expression c.args.test.now) c.args.scratch.now.entries c.args.asking.now.fixings.now c.args.asking.now.setting.now (c.args.base +ℤ pos i) in
-    let tried : c.first_day.result ≡ first_tried (c.count-days.result + 1) answers = simp to_z-of_z at c.first_day.ensures.first in
+    let tried : c.first_day.result ≡ first_tried (c.count-days.result + 1) answers = simp to_z-of_z at c.first_day.ensures.day in
     loop_some c.count-days.result (day_of c.args.asking.now.setting.now (date c.args.upto.now)) answers (λ n. run (c.args.base +ℤ pos n)) _ c.walk.result c.first_day.result c.in-Some.first c.count-days.ensures.value tried (c.in_ok-first.was ∙ ap (λ (o : Option ℕ). Ok o) c.in-Some.is) entered

@@ -28,4 +28,4 @@ returns-then-is_true c =
     let day : c.later.result ≡ c.args.base +ℤ pos c.loop-i.i = simp to_z-of_z at c.later.ensures in
     let on : answers c.loop-i.i ≡ c.value_on.result = ap (λ (b : ℤ). answer_of (declarations c.args.asking.now.decls.now) (value_expression c.args.test.now) c.args.scratch.now.entries c.args.asking.now.fixings.now c.args.asking.now.setting.now b) (sym (to_z-of_z w64 c.later.result fits ∙ day)) ∙ sym c.value_on.ensures in
     let none : first_tried c.loop-i.i answers ≡ Ok None = simp to_z-of_z at c.loop-i.invariant in
-    record { few = omega arith; first = sym (tried_true (c.args.days + 1) c.loop-i.i answers c.in_ok-value.value (omega arith) none (on ∙ c.in_ok-value.was) (sym c.is_true.ensures ∙ c.if-is_true.true)) }
+    record { few = omega arith; day = sym (tried_true (c.args.days + 1) c.loop-i.i answers c.in_ok-value.value (omega arith) none (on ∙ c.in_ok-value.was) (sym c.is_true.ensures ∙ c.if-is_true.true)) }

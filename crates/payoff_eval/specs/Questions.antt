@@ -1,0 +1,21 @@
+-- What may be asked of a code file: at a setting with a number for each template, what one declared party owes another in
+-- a declared asset, on a day from the start on. A payment gone by counts with its face value.
+use Rattle.std.specs.Prelude.{ℕ, ℤ, pos, ◌<◌, ◌≤ℤ◌, ◌≡◌, List, length}
+use Rattle.term_core.specs.Declarations.{Declarations}
+use Rattle.term_core.specs.Factors.{CurveRow}
+use Rattle.payoff_lang.specs.CodeValues.{Asked}
+use Rattle.payoff_lang.specs.Meaning.{face_value}
+
+abbrev pub asked_on : List CurveRow → ℤ → ℕ → ℕ → ℕ → Asked
+asked_on curve at from to asset =
+    record { now = at; curve = curve; gone = face_value; flow = record { from = from; to = to; asset = asset } }
+
+pub record IsQuestion (d : Declarations) (a : Asked) : Type 0 where
+  pub begun : pos d.start ≤ℤ a.now
+  pub near : a.now ≤ℤ pos 1_100_000
+  pub payer : a.flow.from < length d.parties
+  pub receiver : a.flow.to < length d.parties
+  pub asset : a.flow.asset < length d.assets
+
+abbrev pub HasNumberForEach : Declarations → List ℕ → Type 0
+HasNumberForEach d xs = length xs ≡ length d.templates
