@@ -1,12 +1,12 @@
 -- The trial of the rule on bounds, of code whose sorts and scales are right: a value expression has the range of its plain
 -- expression, and every total is at most 10^37, as it is and at nine more decimals than the portfolio's.
-use Rattle.std.specs.Prelude.{ℕ, ◌+◌, ◌-◌, ◌*◌, ◌^◌, ◌≤◌, max, ◌&&◌, Bool, nat_le, List, ◌∷◌, Result, Ok, Err, if◌then◌else◌}
+use Rattle.std.specs.Prelude.{◌≡◌, ℕ, ◌+◌, ◌-◌, ◌*◌, ◌^◌, ◌≤◌, max, ◌&&◌, Bool, nat_le, List, ◌∷◌, Result, Ok, Err, if◌then◌else◌}
 use Rattle.term_core.specs.declared.values.Kind.{Kind}
 use Rattle.term_core.specs.Declarations.{Declarations}
 use Rattle.term_core.specs.Limits.{greatest_mantissa}
 use Rattle.term_core.specs.Terms.{Expression}
 use Rattle.term_core.specs.Sizes.{nodes}
-use Rattle.term_core.specs.Bounds.{Range, greatest_size}
+use Rattle.term_core.specs.Bounds.{Range, range_kinds, greatest_size}
 use Rattle.term_core.specs.Trying.{then_do, moved}
 use Rattle.interval_check.specs.Ranges.{range}
 use Rattle.interval_check.specs.RangeTrials.{scale_in, range_tried, kind_found, AreScaled}
@@ -23,6 +23,10 @@ pub record Found : Type 0 where
 
 abbrev pub ranged : Ranged → Found
 ranged r = record { range = range r.range; nodes = r.nodes }
+
+-- the kind that is found of an expression, among names of these ranges
+abbrev pub HasKind : Declarations → Expression → List Range → Ranged → Type 0
+HasKind d e g r = r.range.kind ≡ kind_found d e (range_kinds g)
 
 -- a plain expression whose first node has number n
 abbrev pub value_tried : Declarations → Expression → List Range → ℕ → Result Found ℕ

@@ -6,9 +6,10 @@ use Rattle.term_core.specs.Sizes.{nodes, height, work}
 use Rattle.term_core.specs.Trying.{then_do, moved}
 use Rattle.payoff_lang.specs.TemplateDates.{day_of}
 use Rattle.payoff_lang.specs.Dating.{at_setting}
-use Rattle.payoff_lang.specs.Code.{PayoffCode}
+use Rattle.payoff_lang.specs.Code.{PayoffCode, value_expression}
 use Rattle.payoff_lang.specs.CodeSizes.{nodes_of_code, height_of_code, work_of_code, loop_days, as_count}
 use Rattle.payoff_lang.specs.CodeAcceptance.{within_code_limits, is_date, is_upto}
+use Rattle.payoff_lang.specs.declared.code.Vx.{Vx}
 use Rattle.payoff_check.specs.declared.part_sizes.ValueSize.{ValueSize}
 use Rattle.payoff_check.specs.declared.part_sizes.CodeSize.{CodeSize}
 use Rattle.payoff_check.specs.Trials.{Steps, code_tried}
@@ -83,6 +84,13 @@ size_tried (Widen s e) = one_tried (size_tried e)
 size_tried (Round mode s e) = one_tried (size_tried e)
 size_tried (Div mode s a b) = two_tried (nodes a) (size_tried a) (size_tried b)
 size_tried (Acc body n first) = acc_tried (nodes body) n (size_tried first) (size_tried body)
+
+-- the nodes and the trial of the program's value expression at a setting
+abbrev pub nodes_at : List ℕ → Vx → ℕ
+nodes_at xs v = nodes (at_setting xs (value_expression v))
+
+abbrev pub tried_at : List ℕ → Vx → Answer
+tried_at xs v = size_tried (at_setting xs (value_expression v))
 
 -- what is known of the size of a part that is within the limits
 pub record IsLimited (s : ValueSize) : Type 0 where

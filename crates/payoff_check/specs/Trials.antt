@@ -2,14 +2,20 @@
 -- that is bound to it is known in the body, and what a node answers from the answers of its parts. A trial answers what
 -- it found, or the number of the first node at fault.
 use Rattle.std.specs.Prelude.{ℕ, ◌+◌, ◌≡◌, Result, Ok, Err}
+use Rattle.term_core.specs.Terms.{Expression}
 use Rattle.term_core.specs.Sizes.{nodes}
 use Rattle.term_core.specs.Trying.{then_do}
 use Rattle.payoff_lang.specs.TemplateDates.{Date}
 use Rattle.payoff_lang.specs.Dating.{plain}
-use Rattle.payoff_lang.specs.Code.{ValueExpression, PayoffCode, Nothing, PayOn, Add, ScaleBy, LetBe, Loop, Cut}
+use Rattle.payoff_lang.specs.Code.{ValueExpression, value_expression, PayoffCode, Nothing, PayOn, Add, ScaleBy, LetBe, Loop, Cut}
 use Rattle.payoff_lang.specs.CodeSizes.{nodes_of_code}
+use Rattle.payoff_lang.specs.declared.code.Vx.{Vx}
 use Rattle.payoff_check.specs.declared.faults.Fault.{Fault}
 use Rattle.payoff_check.specs.declared.faults.Fault.TheVariants.{At}
+
+-- the plain expression of the program's value expression
+abbrev pub plain_value : Vx → Expression
+plain_value v = plain (value_expression v)
 
 -- the steps of a rule, with what is found of values, U, what is found of code, A, and what is known of names, G
 pub record Steps (U A G : Type 0) : Type 0 where

@@ -1,7 +1,7 @@
 //! The rule on bounds: value expressions meet it as in contracts, and the total of all code is at most 10^37, as it is and at
 //! nine more decimals than the portfolio's. A payment counts with the greatest discount factor, which is 10.
 
-ghost use Rattle.std.specs.Prelude.{◌≡◌, ◌<◌, ◌≤◌, ◌+◌, ◌^◌, pos, [], IfOk};
+ghost use Rattle.std.specs.Prelude.{◌≡◌, ◌<◌, ◌≤◌, ◌+◌, ◌^◌, IfOk};
 ghost use Rattle.term_core.specs.Declarations.{declarations};
 ghost use Rattle.term_core.specs.Terms.{expression};
 ghost use Rattle.term_core.specs.declared.rules.Rule.{Rule};
@@ -9,15 +9,14 @@ ghost use Rattle.term_core.specs.Sizes.{nodes};
 ghost use Rattle.term_core.specs.Bounds.{range_kinds};
 ghost use Rattle.interval_check.specs.Ranges.{range, IsFit};
 ghost use Rattle.interval_check.specs.RangeScopes.{ranges_in};
-ghost use Rattle.interval_check.specs.RangeTrials.{kind_found, AreScaled};
-ghost use Rattle.payoff_lang.specs.Code.{value_expression, payoff_code};
-ghost use Rattle.payoff_lang.specs.Dating.{plain};
+ghost use Rattle.interval_check.specs.RangeTrials.{AreScaled};
+ghost use Rattle.payoff_lang.specs.Code.{payoff_code};
 ghost use Rattle.payoff_lang.specs.CodeSizes.{nodes_of_code};
-ghost use Rattle.payoff_lang.specs.CodeTotals.{total_of_code};
 ghost use Rattle.payoff_lang.specs.CodeAcceptance.{MeetsInCode};
-ghost use Rattle.payoff_check.specs.Verdicts.{IsCodeVerdict};
-ghost use Rattle.payoff_check.specs.Trials.{Tells, TellsAs};
-ghost use Rattle.payoff_check.specs.BoundTrials.{AreValuesScaled, IsFitting, bounds_tried, of_part, ranged, total_here, value_tried};
+ghost use Rattle.payoff_check.specs.Verdicts.{IsCodeVerdict, IsTotalOf};
+ghost use Rattle.payoff_check.specs.Trials.{Tells, TellsAs, plain_value};
+ghost use Rattle.payoff_check.specs.BoundTrials.{AreValuesScaled, HasKind, IsFitting};
+ghost use Rattle.payoff_check.specs.BoundTrials.{bounds_tried, of_part, ranged, total_here, value_tried};
 
 use crate::faults::Fault;
 use crate::plains::plain_of;
@@ -43,7 +42,7 @@ fn range_of_plain(decls: &Decls, e: &Expr, scope: &RangeScope, node: u32) -> Res
     requires scaled { AreScaled (declarations decls.now) (expression e.now) (range_kinds (ranges_in scope.now)) }
     ensures range { TellsAs ranged result (value_tried (declarations decls.now) (expression e.now) (ranges_in scope.now) node) }
     ensures nodes { IfOk result (λ found. found.nodes ≡ nodes (expression e.now)) }
-    ensures kind { IfOk result (λ found. found.range.kind ≡ kind_found (declarations decls.now) (expression e.now) (range_kinds (ranges_in scope.now))) }
+    ensures kind { IfOk result (HasKind (declarations decls.now) (expression e.now) (ranges_in scope.now)) }
     ensures fit { IfOk result (λ found. IsFit (range found.range)) }
 {
     match range_of(decls, e, scope) {
@@ -63,11 +62,11 @@ fn range_of_value(
     scope: &RangeScope,
     node: u32,
 ) -> Result<Ranged, Fault>
-    requires nodes { node + nodes (plain (value_expression v.now)) < 2 ^ 32 }
-    requires scaled { AreScaled (declarations decls.now) (plain (value_expression v.now)) (range_kinds (ranges_in scope.now)) }
-    ensures range { TellsAs ranged result (value_tried (declarations decls.now) (plain (value_expression v.now)) (ranges_in scope.now) node) }
-    ensures nodes { IfOk result (λ found. found.nodes ≡ nodes (plain (value_expression v.now))) }
-    ensures kind { IfOk result (λ found. found.range.kind ≡ kind_found (declarations decls.now) (plain (value_expression v.now)) (range_kinds (ranges_in scope.now))) }
+    requires nodes { node + nodes (plain_value v.now) < 2 ^ 32 }
+    requires scaled { AreScaled (declarations decls.now) (plain_value v.now) (range_kinds (ranges_in scope.now)) }
+    ensures range { TellsAs ranged result (value_tried (declarations decls.now) (plain_value v.now) (ranges_in scope.now) node) }
+    ensures nodes { IfOk result (λ found. found.nodes ≡ nodes (plain_value v.now)) }
+    ensures kind { IfOk result (HasKind (declarations decls.now) (plain_value v.now) (ranges_in scope.now)) }
     ensures fit { IfOk result (λ found. IsFit (range found.range)) }
 {
     match plain_of(alloc, v) {
@@ -169,7 +168,7 @@ pub fn bounds(alloc: Global, decls: &Decls, _setting: &Setting, k: &Code) -> Res
     requires small { nodes_of_code (payoff_code k.now) < 2 ^ 32 }
     requires sorted { MeetsInCode (declarations decls.now) _setting.now.days.items Rule.Sort (payoff_code k.now) }
     requires scaled { MeetsInCode (declarations decls.now) _setting.now.days.items Rule.Scale (payoff_code k.now) }
-    ensures { IsCodeVerdict (declarations decls.now) _setting.now.days.items Rule.Bound (payoff_code k.now) (λ total. total ≡ pos (total_of_code (declarations decls.now) (payoff_code k.now) [])) result }
+    ensures { IsCodeVerdict (declarations decls.now) _setting.now.days.items Rule.Bound (payoff_code k.now) IsTotalOf result }
 {
     match bounds_of(alloc, decls, k, &RangeScope::Empty, 0) {
         Ok(found) => Ok(found.amount as i128),

@@ -2,8 +2,7 @@
 
 ghost use Rattle.std.specs.Prelude.{◌≡◌, IfOk};
 ghost use Rattle.term_core.specs.Terms.{expression};
-ghost use Rattle.payoff_lang.specs.Code.{value_expression};
-ghost use Rattle.payoff_lang.specs.Dating.{plain};
+ghost use Rattle.payoff_check.specs.Trials.{plain_value};
 
 use decimal::NoMemory;
 use payoff_lang::Vx;
@@ -13,7 +12,7 @@ use term_core::Expr;
 /// The expression of a value expression in which each observable is read on the day itself: no rule but that on sizes
 /// sees a date.
 pub fn plain_of(alloc: Global, v: &Vx) -> Result<Expr, NoMemory>
-    ensures { IfOk result (λ e. expression e ≡ plain (value_expression v.now)) }
+    ensures { IfOk result (λ e. expression e ≡ plain_value v.now) }
 {
     match v {
         Vx::Lit { mant, scale } => Ok(Expr::Lit {

@@ -1,19 +1,17 @@
 //! The rule on scales: every expression meets it as in contracts, and the scale of all code is at most nine more than the
 //! portfolio's amounts have, since a discount factor has nine decimals.
 
-ghost use Rattle.std.specs.Prelude.{◌≡◌, ◌<◌, ◌≤◌, ◌+◌, ◌^◌, [], IfOk};
+ghost use Rattle.std.specs.Prelude.{◌≡◌, ◌<◌, ◌≤◌, ◌+◌, ◌^◌, IfOk};
 ghost use Rattle.term_core.specs.Declarations.{declarations};
 ghost use Rattle.term_core.specs.Terms.{expression};
 ghost use Rattle.term_core.specs.declared.rules.Rule.{Rule};
 ghost use Rattle.term_core.specs.Sizes.{nodes};
 ghost use Rattle.scale_check.specs.ScaleScopes.{scales_in};
-ghost use Rattle.payoff_lang.specs.Code.{value_expression, payoff_code};
-ghost use Rattle.payoff_lang.specs.Dating.{plain};
+ghost use Rattle.payoff_lang.specs.Code.{payoff_code};
 ghost use Rattle.payoff_lang.specs.CodeSizes.{nodes_of_code};
-ghost use Rattle.payoff_lang.specs.CodeValues.{scale_of_code};
 ghost use Rattle.payoff_lang.specs.CodeAcceptance.{MeetsInCode};
-ghost use Rattle.payoff_check.specs.Verdicts.{IsCodeVerdict};
-ghost use Rattle.payoff_check.specs.Trials.{Tells};
+ghost use Rattle.payoff_check.specs.Verdicts.{IsCodeVerdict, IsScaleOf};
+ghost use Rattle.payoff_check.specs.Trials.{Tells, plain_value};
 ghost use Rattle.payoff_check.specs.ScaleTrials.{kept, value_tried, scales_tried};
 
 use crate::faults::Fault;
@@ -56,9 +54,9 @@ fn scale_of_value(
     scope: &ScaleScope,
     node: u32,
 ) -> Result<Scaled, Fault>
-    requires { node + nodes (plain (value_expression v.now)) < 2 ^ 32 }
-    ensures scale { Tells result (value_tried (declarations decls.now) (plain (value_expression v.now)) (scales_in scope.now) node) }
-    ensures nodes { IfOk result (λ found. found.nodes ≡ nodes (plain (value_expression v.now))) }
+    requires { node + nodes (plain_value v.now) < 2 ^ 32 }
+    ensures scale { Tells result (value_tried (declarations decls.now) (plain_value v.now) (scales_in scope.now) node) }
+    ensures nodes { IfOk result (λ found. found.nodes ≡ nodes (plain_value v.now)) }
     ensures within { IfOk result (λ found. found.scale ≤ 27) }
 {
     match plain_of(alloc, v) {
@@ -100,8 +98,8 @@ fn scales_of(
         Code::Add { left, right } => {
             let one = scales_of(alloc, decls, left, scope, node + 1)?;
             let two = scales_of(alloc, decls, right, scope, node + 1 + one.nodes)?;
-            let scale = one.scale.max(two.scale);
-            keep(greatest, scale, one.nodes + two.nodes + 1, node)
+            let nodes = one.nodes + two.nodes + 1;
+            keep(greatest, one.scale.max(two.scale), nodes, node)
         }
         Code::Scale { factor, body } => {
             let found = scale_of_value(alloc, decls, factor, scope, node + 1)?;
@@ -128,13 +126,8 @@ fn scales_of(
             let after = node + 1 + found.nodes;
             let one = scales_of(alloc, decls, hit, scope, after)?;
             let two = scales_of(alloc, decls, miss, scope, after + one.nodes)?;
-            let scale = one.scale.max(two.scale);
-            keep(
-                greatest,
-                scale,
-                found.nodes + one.nodes + two.nodes + 1,
-                node,
-            )
+            let nodes = found.nodes + one.nodes + two.nodes + 1;
+            keep(greatest, one.scale.max(two.scale), nodes, node)
         }
         Code::Cut { body, .. } => {
             let part = scales_of(alloc, decls, body, scope, node + 1)?;
@@ -148,7 +141,7 @@ fn scales_of(
 pub fn scales(alloc: Global, decls: &Decls, _setting: &Setting, k: &Code) -> Result<u8, CheckErr>
     requires small { nodes_of_code (payoff_code k.now) < 2 ^ 32 }
     requires sorted { MeetsInCode (declarations decls.now) _setting.now.days.items Rule.Sort (payoff_code k.now) }
-    ensures { IsCodeVerdict (declarations decls.now) _setting.now.days.items Rule.Scale (payoff_code k.now) (λ scale. scale ≡ scale_of_code (declarations decls.now) (payoff_code k.now) []) result }
+    ensures { IsCodeVerdict (declarations decls.now) _setting.now.days.items Rule.Scale (payoff_code k.now) IsScaleOf result }
 {
     match scales_of(alloc, decls, k, &ScaleScope::Empty, 0) {
         Ok(found) => Ok(found.scale),

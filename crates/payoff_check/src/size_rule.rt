@@ -7,12 +7,12 @@ ghost use Rattle.term_core.specs.declared.rules.Rule.{Rule};
 ghost use Rattle.term_core.specs.Sizes.{nodes};
 ghost use Rattle.term_core.specs.Trying.{moved};
 ghost use Rattle.payoff_lang.specs.TemplateDates.{date, day_of};
-ghost use Rattle.payoff_lang.specs.Code.{value_expression, payoff_code};
+ghost use Rattle.payoff_lang.specs.Code.{payoff_code};
 ghost use Rattle.payoff_lang.specs.CodeAcceptance as rule;
 ghost use Rattle.payoff_lang.specs.CodeSizes.{as_count, nodes_of_code};
-ghost use Rattle.payoff_lang.specs.Dating.{at_setting, plain};
-ghost use Rattle.payoff_check.specs.Verdicts.{IsCodeVerdict};
-ghost use Rattle.payoff_check.specs.SizeTrials.{IsLimited, IsLimitedCode, dated_code, looped, size_tried, sizes_tried};
+ghost use Rattle.payoff_check.specs.Trials.{plain_value};
+ghost use Rattle.payoff_check.specs.Verdicts.{IsCodeVerdict, NothingMore};
+ghost use Rattle.payoff_check.specs.SizeTrials.{IsLimited, IsLimitedCode, dated_code, looped, sizes_tried, tried_at};
 
 use crate::days::{day_at, is_date, is_upto};
 use crate::part_sizes::{CodeSize, ValueSize};
@@ -22,10 +22,10 @@ use term_core::{CheckErr, Decls, Rule, Setting};
 
 // The size of a value expression whose first node has a number.
 fn size_at(setting: &[u32], v: &Vx, node: u32) -> Result<ValueSize, u32>
-    requires { node + nodes (plain (value_expression v.now)) < 2 ^ 32 }
-    ensures size { result ≡ moved node (size_tried (at_setting setting.now (value_expression v.now))) }
+    requires { node + nodes (plain_value v.now) < 2 ^ 32 }
+    ensures size { result ≡ moved node (tried_at setting.now v.now) }
     ensures limits { IfOk result IsLimited }
-    ensures nodes { IfOk result (λ size. size.nodes ≡ nodes (plain (value_expression v.now))) }
+    ensures nodes { IfOk result (λ size. size.nodes ≡ nodes (plain_value v.now)) }
 {
     match size_of_value(setting, v) {
         Ok(size) => Ok(size),
@@ -116,7 +116,7 @@ fn sizes_of(setting: &[u32], k: &Code, node: u32) -> Result<CodeSize, u32>
 /// order in which the rules of acceptance try nodes. It asks nothing of the declarations.
 pub fn sizes(_decls: &Decls, setting: &Setting, k: &Code) -> Result<(), CheckErr>
     requires { nodes_of_code (payoff_code k.now) < 2 ^ 32 }
-    ensures { IsCodeVerdict (declarations _decls.now) setting.now.days.items Rule.Size (payoff_code k.now) (λ _. Unit {0}) result }
+    ensures { IsCodeVerdict (declarations _decls.now) setting.now.days.items Rule.Size (payoff_code k.now) NothingMore result }
 {
     match sizes_of(setting.days.as_slice(), k, 0) {
         Ok(_) => Ok(()),

@@ -7,11 +7,10 @@ ghost use Rattle.term_core.specs.Terms.{expression};
 ghost use Rattle.term_core.specs.declared.rules.Rule.{Rule};
 ghost use Rattle.term_core.specs.Sizes.{nodes};
 ghost use Rattle.time_types.specs.SortScopes.{sorts_in};
-ghost use Rattle.payoff_lang.specs.Code.{value_expression, payoff_code};
-ghost use Rattle.payoff_lang.specs.Dating.{plain};
+ghost use Rattle.payoff_lang.specs.Code.{payoff_code};
 ghost use Rattle.payoff_lang.specs.CodeSizes.{nodes_of_code};
-ghost use Rattle.payoff_check.specs.Verdicts.{IsCodeVerdict};
-ghost use Rattle.payoff_check.specs.Trials.{Tells};
+ghost use Rattle.payoff_check.specs.Verdicts.{IsCodeVerdict, NothingMore};
+ghost use Rattle.payoff_check.specs.Trials.{Tells, plain_value};
 ghost use Rattle.payoff_check.specs.SortTrials.{needed, value_tried, sorts_tried};
 
 use crate::faults::Fault;
@@ -53,9 +52,9 @@ fn sort_of_value(
     scope: &SortScope,
     node: u32,
 ) -> Result<Sorted, Fault>
-    requires { node + nodes (plain (value_expression v.now)) < 2 ^ 32 }
-    ensures sort { Tells result (value_tried (declarations decls.now) (plain (value_expression v.now)) (sorts_in scope.now) node) }
-    ensures nodes { IfOk result (λ found. found.nodes ≡ nodes (plain (value_expression v.now))) }
+    requires { node + nodes (plain_value v.now) < 2 ^ 32 }
+    ensures sort { Tells result (value_tried (declarations decls.now) (plain_value v.now) (sorts_in scope.now) node) }
+    ensures nodes { IfOk result (λ found. found.nodes ≡ nodes (plain_value v.now)) }
 {
     match plain_of(alloc, v) {
         Ok(e) => sort_of_plain(decls, &e, scope, node),
@@ -89,8 +88,7 @@ fn sorts_of(
     ensures nodes { IfOk result (λ passed. passed ≡ nodes_of_code (payoff_code k.now)) }
 {
     match k {
-        Code::None => Ok(1),
-        Code::Pay { .. } => Ok(1),
+        Code::None | Code::Pay { .. } => Ok(1),
         Code::Add { left, right } => {
             let left_nodes = sorts_of(alloc, decls, left, scope, node + 1)?;
             let right_nodes = sorts_of(alloc, decls, right, scope, node + 1 + left_nodes)?;
@@ -117,20 +115,11 @@ fn sorts_of(
             ..
         } => {
             let found = sort_of_value(alloc, decls, test, scope, node + 1)?;
-            let hit_nodes = sorts_of(alloc, decls, hit, scope, node + 1 + found.nodes)?;
-            let miss_nodes = sorts_of(
-                alloc,
-                decls,
-                miss,
-                scope,
-                node + 1 + found.nodes + hit_nodes,
-            )?;
-            need(
-                Sort::Truth,
-                found.sort,
-                found.nodes + hit_nodes + miss_nodes + 1,
-                node,
-            )
+            let after = node + 1 + found.nodes;
+            let hit_nodes = sorts_of(alloc, decls, hit, scope, after)?;
+            let miss_nodes = sorts_of(alloc, decls, miss, scope, after + hit_nodes)?;
+            let nodes = found.nodes + hit_nodes + miss_nodes + 1;
+            need(Sort::Truth, found.sort, nodes, node)
         }
         Code::Cut { body, .. } => {
             let body_nodes = sorts_of(alloc, decls, body, scope, node + 1)?;
@@ -143,7 +132,7 @@ fn sorts_of(
 /// which the rules of acceptance try nodes. It asks nothing of the setting.
 pub fn sorts(alloc: Global, decls: &Decls, _setting: &Setting, k: &Code) -> Result<(), CheckErr>
     requires { nodes_of_code (payoff_code k.now) < 2 ^ 32 }
-    ensures { IsCodeVerdict (declarations decls.now) _setting.now.days.items Rule.Sort (payoff_code k.now) (λ _. Unit {0}) result }
+    ensures { IsCodeVerdict (declarations decls.now) _setting.now.days.items Rule.Sort (payoff_code k.now) NothingMore result }
 {
     match sorts_of(alloc, decls, k, &SortScope::Empty, 0) {
         Ok(_) => Ok(()),

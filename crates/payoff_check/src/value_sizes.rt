@@ -5,9 +5,8 @@
 ghost use Rattle.std.specs.Prelude.{◌≡◌, ◌<◌, ◌≤◌, ◌+◌, ◌^◌, IfOk, IfErr};
 ghost use Rattle.term_core.specs.Sizes.{nodes};
 ghost use Rattle.term_core.specs.Trying.{moved};
-ghost use Rattle.payoff_lang.specs.Code.{value_expression};
-ghost use Rattle.payoff_lang.specs.Dating.{at_setting, plain};
-ghost use Rattle.payoff_check.specs.SizeTrials.{IsLimited, acc_tried, one_tried, size_tried, three_tried, two_tried};
+ghost use Rattle.payoff_check.specs.Trials.{plain_value};
+ghost use Rattle.payoff_check.specs.SizeTrials.{IsLimited, acc_tried, nodes_at, one_tried, three_tried, tried_at, two_tried};
 
 use crate::days::{day_at, is_date};
 use crate::part_sizes::ValueSize;
@@ -15,8 +14,8 @@ use payoff_lang::Vx;
 
 /// The nodes of a value expression.
 pub fn nodes_in_value(v: &Vx) -> u32
-    requires { nodes (plain (value_expression v.now)) < 2 ^ 32 }
-    ensures { result ≡ nodes (plain (value_expression v.now)) }
+    requires { nodes (plain_value v.now) < 2 ^ 32 }
+    ensures { result ≡ nodes (plain_value v.now) }
 {
     match v {
         Vx::Lit { .. } | Vx::Yes { .. } | Vx::Var { .. } | Vx::Model { .. } => 1,
@@ -39,10 +38,10 @@ pub fn nodes_in_value(v: &Vx) -> u32
 /// its own first node.
 #[cycle(sizing)]
 pub fn size_of_value(setting: &[u32], e: &Vx) -> Result<ValueSize, u32>
-    requires { nodes (at_setting setting.now (value_expression e.now)) < 2 ^ 32 }
-    ensures size { result ≡ size_tried (at_setting setting.now (value_expression e.now)) }
+    requires { nodes_at setting.now e.now < 2 ^ 32 }
+    ensures size { result ≡ tried_at setting.now e.now }
     ensures limits { IfOk result IsLimited }
-    ensures below { IfErr result (λ place. place < nodes (at_setting setting.now (value_expression e.now))) }
+    ensures below { IfErr result (λ place. place < nodes_at setting.now e.now) }
 {
     match e {
         Vx::Lit { .. } => ValueSize::leaf().limited(0),
@@ -65,10 +64,10 @@ pub fn size_of_value(setting: &[u32], e: &Vx) -> Result<ValueSize, u32>
 // Of an operator on one operand.
 #[cycle(sizing)]
 fn size_over_one(setting: &[u32], of: &Vx) -> Result<ValueSize, u32>
-    requires { nodes (at_setting setting.now (value_expression of.now)) + 1 < 2 ^ 32 }
-    ensures size { result ≡ one_tried (size_tried (at_setting setting.now (value_expression of.now))) }
+    requires { nodes_at setting.now of.now + 1 < 2 ^ 32 }
+    ensures size { result ≡ one_tried (tried_at setting.now of.now) }
     ensures limits { IfOk result IsLimited }
-    ensures below { IfErr result (λ place. place < nodes (at_setting setting.now (value_expression of.now)) + 1) }
+    ensures below { IfErr result (λ place. place < nodes_at setting.now of.now + 1) }
 {
     let part = size_of_first(setting, of)?;
     part.over_one().limited(0)
@@ -77,10 +76,10 @@ fn size_over_one(setting: &[u32], of: &Vx) -> Result<ValueSize, u32>
 // Of an operator on two operands.
 #[cycle(sizing)]
 fn size_over_two(setting: &[u32], left: &Vx, right: &Vx) -> Result<ValueSize, u32>
-    requires { nodes (at_setting setting.now (value_expression left.now)) + nodes (at_setting setting.now (value_expression right.now)) + 1 < 2 ^ 32 }
-    ensures size { result ≡ two_tried (nodes (at_setting setting.now (value_expression left.now))) (size_tried (at_setting setting.now (value_expression left.now))) (size_tried (at_setting setting.now (value_expression right.now))) }
+    requires { nodes_at setting.now left.now + nodes_at setting.now right.now + 1 < 2 ^ 32 }
+    ensures size { result ≡ two_tried (nodes_at setting.now left.now) (tried_at setting.now left.now) (tried_at setting.now right.now) }
     ensures limits { IfOk result IsLimited }
-    ensures below { IfErr result (λ place. place < nodes (at_setting setting.now (value_expression left.now)) + nodes (at_setting setting.now (value_expression right.now)) + 1) }
+    ensures below { IfErr result (λ place. place < nodes_at setting.now left.now + nodes_at setting.now right.now + 1) }
 {
     let left_size = size_of_first(setting, left)?;
     let right_size = size_of_second(setting, left, right)?;
@@ -90,10 +89,10 @@ fn size_over_two(setting: &[u32], left: &Vx, right: &Vx) -> Result<ValueSize, u3
 // Of an `if`.
 #[cycle(sizing)]
 fn size_over_three(setting: &[u32], test: &Vx, yes: &Vx, no: &Vx) -> Result<ValueSize, u32>
-    requires { nodes (at_setting setting.now (value_expression test.now)) + nodes (at_setting setting.now (value_expression yes.now)) + nodes (at_setting setting.now (value_expression no.now)) + 1 < 2 ^ 32 }
-    ensures size { result ≡ three_tried (nodes (at_setting setting.now (value_expression test.now))) (nodes (at_setting setting.now (value_expression yes.now))) (size_tried (at_setting setting.now (value_expression test.now))) (size_tried (at_setting setting.now (value_expression yes.now))) (size_tried (at_setting setting.now (value_expression no.now))) }
+    requires { nodes_at setting.now test.now + nodes_at setting.now yes.now + nodes_at setting.now no.now + 1 < 2 ^ 32 }
+    ensures size { result ≡ three_tried (nodes_at setting.now test.now) (nodes_at setting.now yes.now) (tried_at setting.now test.now) (tried_at setting.now yes.now) (tried_at setting.now no.now) }
     ensures limits { IfOk result IsLimited }
-    ensures below { IfErr result (λ place. place < nodes (at_setting setting.now (value_expression test.now)) + nodes (at_setting setting.now (value_expression yes.now)) + nodes (at_setting setting.now (value_expression no.now)) + 1) }
+    ensures below { IfErr result (λ place. place < nodes_at setting.now test.now + nodes_at setting.now yes.now + nodes_at setting.now no.now + 1) }
 {
     let test_size = size_of_first(setting, test)?;
     let yes_size = size_of_second(setting, test, yes)?;
@@ -104,10 +103,10 @@ fn size_over_three(setting: &[u32], test: &Vx, yes: &Vx, no: &Vx) -> Result<Valu
 // Of an accumulator, whose start is tried before its body.
 #[cycle(sizing)]
 fn size_over_days(setting: &[u32], body: &Vx, days: u32, first: &Vx) -> Result<ValueSize, u32>
-    requires { nodes (at_setting setting.now (value_expression body.now)) + nodes (at_setting setting.now (value_expression first.now)) + 1 < 2 ^ 32 }
-    ensures size { result ≡ acc_tried (nodes (at_setting setting.now (value_expression body.now))) days (size_tried (at_setting setting.now (value_expression first.now))) (size_tried (at_setting setting.now (value_expression body.now))) }
+    requires { nodes_at setting.now body.now + nodes_at setting.now first.now + 1 < 2 ^ 32 }
+    ensures size { result ≡ acc_tried (nodes_at setting.now body.now) days (tried_at setting.now first.now) (tried_at setting.now body.now) }
     ensures limits { IfOk result IsLimited }
-    ensures below { IfErr result (λ place. place < nodes (at_setting setting.now (value_expression body.now)) + nodes (at_setting setting.now (value_expression first.now)) + 1) }
+    ensures below { IfErr result (λ place. place < nodes_at setting.now body.now + nodes_at setting.now first.now + 1) }
 {
     let first_size = size_of_second(setting, body, first)?;
     let body_size = size_of_first(setting, body)?;
@@ -117,10 +116,10 @@ fn size_over_days(setting: &[u32], body: &Vx, days: u32, first: &Vx) -> Result<V
 // Of the part that follows its node.
 #[cycle(sizing)]
 fn size_of_first(setting: &[u32], e: &Vx) -> Result<ValueSize, u32>
-    requires { nodes (at_setting setting.now (value_expression e.now)) + 1 < 2 ^ 32 }
-    ensures size { result ≡ moved 1 (size_tried (at_setting setting.now (value_expression e.now))) }
+    requires { nodes_at setting.now e.now + 1 < 2 ^ 32 }
+    ensures size { result ≡ moved 1 (tried_at setting.now e.now) }
     ensures limits { IfOk result IsLimited }
-    ensures below { IfErr result (λ place. place < nodes (at_setting setting.now (value_expression e.now)) + 1) }
+    ensures below { IfErr result (λ place. place < nodes_at setting.now e.now + 1) }
 {
     match size_of_value(setting, e) {
         Ok(size) => Ok(size),
@@ -132,10 +131,10 @@ fn size_of_first(setting: &[u32], e: &Vx) -> Result<ValueSize, u32>
 #[cycle(sizing)]
 #[tactic(auto, using(crate::proofs::DateFreeFacts::nodes_plain))]
 fn size_of_second(setting: &[u32], before: &Vx, e: &Vx) -> Result<ValueSize, u32>
-    requires { nodes (at_setting setting.now (value_expression before.now)) + nodes (at_setting setting.now (value_expression e.now)) + 1 < 2 ^ 32 }
-    ensures size { result ≡ moved (1 + nodes (at_setting setting.now (value_expression before.now))) (size_tried (at_setting setting.now (value_expression e.now))) }
+    requires { nodes_at setting.now before.now + nodes_at setting.now e.now + 1 < 2 ^ 32 }
+    ensures size { result ≡ moved (1 + nodes_at setting.now before.now) (tried_at setting.now e.now) }
     ensures limits { IfOk result IsLimited }
-    ensures below { IfErr result (λ place. place < nodes (at_setting setting.now (value_expression before.now)) + nodes (at_setting setting.now (value_expression e.now)) + 1) }
+    ensures below { IfErr result (λ place. place < nodes_at setting.now before.now + nodes_at setting.now e.now + 1) }
 {
     match size_of_value(setting, e) {
         Ok(size) => Ok(size),
@@ -147,10 +146,10 @@ fn size_of_second(setting: &[u32], before: &Vx, e: &Vx) -> Result<ValueSize, u32
 #[cycle(sizing)]
 #[tactic(auto, using(crate::proofs::DateFreeFacts::nodes_plain))]
 fn size_of_third(setting: &[u32], first: &Vx, second: &Vx, e: &Vx) -> Result<ValueSize, u32>
-    requires { nodes (at_setting setting.now (value_expression first.now)) + nodes (at_setting setting.now (value_expression second.now)) + nodes (at_setting setting.now (value_expression e.now)) + 1 < 2 ^ 32 }
-    ensures size { result ≡ moved (nodes (at_setting setting.now (value_expression first.now))) (moved (1 + nodes (at_setting setting.now (value_expression second.now))) (size_tried (at_setting setting.now (value_expression e.now)))) }
+    requires { nodes_at setting.now first.now + nodes_at setting.now second.now + nodes_at setting.now e.now + 1 < 2 ^ 32 }
+    ensures size { result ≡ moved (nodes_at setting.now first.now) (moved (1 + nodes_at setting.now second.now) (tried_at setting.now e.now)) }
     ensures limits { IfOk result IsLimited }
-    ensures below { IfErr result (λ place. place < nodes (at_setting setting.now (value_expression first.now)) + nodes (at_setting setting.now (value_expression second.now)) + nodes (at_setting setting.now (value_expression e.now)) + 1) }
+    ensures below { IfErr result (λ place. place < nodes_at setting.now first.now + nodes_at setting.now second.now + nodes_at setting.now e.now + 1) }
 {
     match size_of_second(setting, second, e) {
         Ok(size) => Ok(size),
