@@ -9,8 +9,9 @@ use Rattle.contract_cli.specs.Answering.{AnswersBytes}
 use Rattle.contract_cli.specs.Answers.{Answers, Inputs, Stops, on_portfolio, told}
 use Rattle.contract_cli.specs.AdvanceText.{IsAdvanceText, StopsAdvance}
 use Rattle.contract_cli.specs.CheckText.{IsChecked}
-use Rattle.contract_cli.specs.Commands.{Advance, AdvanceAsked, Asked, Check, Flows, FlowsAsked}
+use Rattle.contract_cli.specs.Commands.{Advance, AdvanceAsked, Asked, Check, Flows, FlowsAsked, Payoff, PayoffAsked}
 use Rattle.contract_cli.specs.FlowsText.{IsFlowsText, StopsFlows}
+use Rattle.contract_cli.specs.PayoffText.{IsPayoffText, StopsPayoff}
 use Rattle.contract_cli.specs.Stopping.{AnswersBy}
 use Rattle.contract_cli.specs.declared.answers.Answer.{Answer}
 use Rattle.contract_cli.specs.declared.status.Status.TheVariants as status
@@ -47,3 +48,13 @@ advance_stopped asked advance inputs table b e r is same text h given =
     subst (λ (x : Asked). AnswersBytes x inputs r) (sym is)
     (handed_on (λ (t : Vec ℕ). IsAdvanceText b advance table t.items) (λ (a : Answer). Answers (Advance advance) inputs a.status a.text.items) (StopsAdvance b advance table) (Stops (Advance advance) inputs)
     (λ f s. on_portfolio b text (subst (λ (t : Option (List ℕ)). StopsAdvance b advance t f) same s)) e r h given)
+
+pub payoff_told : (asked : Asked) (payoff : PayoffAsked) (inputs : Inputs) (b : Book) (a : Answer) → asked ≡ Payoff payoff → Text inputs.portfolio b → a.status ≡ status.Done → IsPayoffText b payoff a.text.items → AnswersBytes asked inputs (Ok a)
+payoff_told asked payoff inputs b a is text done h =
+    subst (λ (x : Asked). AnswersBytes x inputs (Ok a)) (sym is) (told b text (done, h))
+
+pub payoff_stopped : (asked : Asked) (payoff : PayoffAsked) (inputs : Inputs) (b : Book) (e : Stop) (r : Result Answer Stop) → asked ≡ Payoff payoff → Text inputs.portfolio b → AnswersBy (λ (text : Vec ℕ). IsPayoffText b payoff text.items) (StopsPayoff b payoff) (Err e) → IsErrAnd r (λ y. y ≡ e) → AnswersBytes asked inputs r
+payoff_stopped asked payoff inputs b e r is text h given =
+    subst (λ (x : Asked). AnswersBytes x inputs r) (sym is)
+    (handed_on (λ (t : Vec ℕ). IsPayoffText b payoff t.items) (λ (a : Answer). Answers (Payoff payoff) inputs a.status a.text.items) (StopsPayoff b payoff) (Stops (Payoff payoff) inputs)
+    (λ f s. on_portfolio b text s) e r h given)

@@ -17,7 +17,7 @@ use Rattle.report.specs.FaultLines.{fault_text}
 use Rattle.report.specs.declared.fault_lines.Fault.{Fault}
 use Rattle.report.specs.declared.fault_lines.Fault.TheVariants as fault
 use Rattle.contract_cli.specs.Answers.{Answers, Inputs, Stops, StopsOn, Tells, not_spelled, on_portfolio, stopped, told}
-use Rattle.contract_cli.specs.Commands.{Advance, Asked, Check, Flows}
+use Rattle.contract_cli.specs.Commands.{Advance, Asked, Check, Flows, Payoff}
 use Rattle.contract_cli.specs.RunLaws.{AnswersAreOne, LeavesNothingOpen, StatusesAreOne}
 use Rattle.contract_cli.specs.Statuses.{status_of}
 use Rattle.contract_cli.specs.declared.status.Status.{Status}
@@ -25,6 +25,7 @@ use Rattle.contract_cli.specs.declared.status.Status.TheVariants as status
 use Rattle.contract_cli.proofs.OneCheckText.{checked_one}
 use Rattle.contract_cli.proofs.AdvanceStages.{one_stop as one_advance_stop, stop_or_text as stop_or_advance}
 use Rattle.contract_cli.proofs.FlowsStages.{one_flows_text, one_stop, stop_or_text}
+use Rattle.contract_cli.proofs.PayoffStages.{one_payoff_text, one_stop as one_payoff_stop, stop_or_text as stop_or_payoff}
 
 -- ---- one first fault of a text
 
@@ -60,11 +61,13 @@ one_on_book : (asked : Asked) (b : Book) (table : Option (List ℕ)) (f g : Faul
 one_on_book (Check file) b table f g h k = absurd h
 one_on_book (Flows flows) b table f g h k = one_stop b flows table f g h k
 one_on_book (Advance asked) b table f g h k = one_advance_stop b asked table f g h k
+one_on_book (Payoff asked) b table f g h k = one_payoff_stop b asked f g h k
 
 one_told : (asked : Asked) (b : Book) (table : Option (List ℕ)) → LeavesNothingOpen asked → (s r : Status) (t u : List ℕ) → Tells asked b table s t → Tells asked b table r u → (s ≡ r) × (t ≡ u)
 one_told (Check file) b table closed s r t u h k = checked_one b s r t u h k
 one_told (Flows flows) b table closed s r t u h k = (h.0 ∙ sym k.0, one_flows_text b flows table t u h.1 k.1)
 one_told (Advance asked) b table closed s r t u h k = absurd closed
+one_told (Payoff asked) b table closed s r t u h k = (h.0 ∙ sym k.0, one_payoff_text b asked t u h.1 k.1)
 
 -- one status, and one text but where the command is done
 abbrev OneStatus : Status → Status → List ℕ → List ℕ → Type 0
@@ -74,11 +77,13 @@ one_status_told : (asked : Asked) (b : Book) (table : Option (List ℕ)) (s r : 
 one_status_told (Check file) b table s r t u h k = let same = checked_one b s r t u h k in (same.0, λ _. same.1)
 one_status_told (Flows flows) b table s r t u h k = (h.0 ∙ sym k.0, λ _. one_flows_text b flows table t u h.1 k.1)
 one_status_told (Advance asked) b table s r t u h k = (h.0 ∙ sym k.0, λ open_end. absurd (open_end h.0))
+one_status_told (Payoff asked) b table s r t u h k = (h.0 ∙ sym k.0, λ _. one_payoff_text b asked t u h.1 k.1)
 
 stopped_or_told : (asked : Asked) (b : Book) (table : Option (List ℕ)) (f : Fault) (s : Status) (t : List ℕ) → StopsOn asked b table f → Tells asked b table s t → ⊥
 stopped_or_told (Check file) b table f s t h k = h
 stopped_or_told (Flows flows) b table f s t h k = stop_or_text b flows table f t h k.1
 stopped_or_told (Advance asked) b table f s t h k = stop_or_advance b asked table f t h k.1
+stopped_or_told (Payoff asked) b table f s t h k = stop_or_payoff b asked f t h k.1
 
 -- ---- one answer
 

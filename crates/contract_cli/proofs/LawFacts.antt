@@ -4,6 +4,7 @@ use Rattle.std.specs.Prelude.{Option, Some, None}
 use Rattle.edge_io.specs.Counts.{Rose}
 use Rattle.term_core.specs.Books.{Book}
 use Rattle.term_core.specs.Environments.{Environment}
+use Rattle.term_core.specs.Terms.{Contract}
 use Rattle.contract_parse.specs.Texts.{Text}
 use Rattle.contract_parse.proofs.OneText.{one_text}
 use Rattle.report.specs.FaultLines.{fault_text}
@@ -13,11 +14,12 @@ use Rattle.contract_cli.specs.Answers.{Answers, Inputs, IsNoText, StopsOn, Tells
 use Rattle.contract_cli.specs.Answering.{AreShort}
 use Rattle.contract_cli.specs.AdvanceText.{CanAdvance, IsAdvanceText, StopsAdvance, day_out as no_day, not_accepted as any_not_accepted, row_refused as any_row_refused, read_missing as any_read_missing, last_gone}
 use Rattle.contract_cli.specs.CheckText.{AreAllAccepted, IsChecked, all_accepted, some_refused}
-use Rattle.contract_cli.specs.Commands.{Advance, AdvanceAsked, Asked, Check, Flows, FlowsAsked, OnFiles, Sample}
+use Rattle.contract_cli.specs.Commands.{Advance, AdvanceAsked, Asked, Check, Flows, FlowsAsked, OnFiles, Payoff, PayoffAsked, Sample}
 use Rattle.contract_cli.specs.FlowLists.{IsShortTable}
 use Rattle.contract_cli.specs.FlowsText.{CanGo, IsFlowsText, StopsFlows, name_unknown, day_out, not_accepted, row_refused, read_missing}
+use Rattle.contract_cli.specs.PayoffText.{CanCompile, IsPayoffText, StopsPayoff}
 use Rattle.contract_cli.specs.Runs.{Cause, stopped as stops_run, answered, sampled, Edge, FileFault, read_failed, read_long, FilesSeen, IsNext, Meets, written, broken, lacking, Names, no_form, at_file, WritesAll, WritesNothing}
-use Rattle.contract_cli.specs.RunLaws.{AdvanceIsComplete, BadTextIsExact, CauseOnBook, CheckIsComplete, ComesExactlyWhere, FlowsAreComplete, IsExactOnBook, IsLongAt, long_portfolio, long_table, IsReadWhole, IsTextWhere, IsTooLong, ReadFaultIs, ReadFaultsHaveCauses, RefusalsAreExact, TooLongIs, TooLongIsExact, UsageIsExact, UsageWritesItsLine, WriteFaultsHaveCauses}
+use Rattle.contract_cli.specs.RunLaws.{AdvanceIsComplete, BadTextIsExact, CauseOnBook, CheckIsComplete, ComesExactlyWhere, FlowsAreComplete, IsExactOnBook, IsLongAt, long_portfolio, long_table, IsReadWhole, IsTextWhere, IsTooLong, PayoffIsComplete, ReadFaultIs, ReadFaultsHaveCauses, RefusalsAreExact, TooLongIs, TooLongIsExact, UsageIsExact, UsageWritesItsLine, WriteFaultsHaveCauses}
 use Rattle.contract_cli.specs.Statuses.{status_of}
 use Rattle.contract_cli.specs.Used.{used}
 use Rattle.contract_cli.specs.Words.{request_of}
@@ -25,6 +27,7 @@ use Rattle.contract_cli.specs.declared.status.Status.{Status}
 use Rattle.contract_cli.specs.declared.status.Status.TheVariants as status
 use Rattle.contract_cli.proofs.AdvanceStages as advance_stages
 use Rattle.contract_cli.proofs.FlowsStages as flows_stages
+use Rattle.contract_cli.proofs.PayoffStages as payoff_stages
 use Rattle.contract_cli.proofs.FlowsAreOne.{accepted_or_not, fixed_or_not}
 use Rattle.contract_cli.proofs.RunFacts.{Ends, long, with_answer, with_nothing, ends}
 use Rattle.contract_cli.proofs.Stages.{last_stage, same_stage, stopped_stage}
@@ -66,6 +69,8 @@ stop_is (Flows flows) inputs b f s text h e =
     caused (record { book = b; spelled = text; holds = subst (λ (x : Status). CauseOnBook x (Flows flows) inputs.fixings b) (sym e) (cause_of_stop flows b inputs.fixings f h) })
 stop_is (Advance asked) inputs b f s text h e =
     caused (record { book = b; spelled = text; holds = subst (λ (x : Status). CauseOnBook x (Advance asked) inputs.fixings b) (sym e) (cause_of_advance asked b inputs.fixings f h) })
+stop_is (Payoff asked) inputs b f s text h e =
+    caused (record { book = b; spelled = text; holds = subst (λ (x : Status). CauseOnBook x (Payoff asked) inputs.fixings b) (sym e) (payoff_stages.cause_of_stop b asked inputs.fixings f h) })
 
 told_is : (asked : Asked) (inputs : Inputs) (b : Book) (s : Status) (text : List ℕ) → Text inputs.portfolio b → Tells asked b inputs.fixings s text → AnswerIs asked inputs s
 told_is (Check file) inputs b s text spelled (all_accepted e all lines) = done e
@@ -73,6 +78,7 @@ told_is (Check file) inputs b s text spelled (some_refused e none lines) =
     caused (record { book = b; spelled = spelled; holds = subst (λ (x : Status). CauseOnBook x (Check file) inputs.fixings b) (sym e) none })
 told_is (Flows flows) inputs b s text spelled h = done h.0
 told_is (Advance asked) inputs b s text spelled h = done h.0
+told_is (Payoff asked) inputs b s text spelled h = done h.0
 
 answer_is : (asked : Asked) (inputs : Inputs) (s : Status) (text : List ℕ) → Answers asked inputs s text → AnswerIs asked inputs s
 answer_is asked inputs s text (stopped f (not_spelled h) e line) = no_text (e ∙ ap status_of h.fault_is) h.no_text
@@ -275,10 +281,21 @@ advance_forces wanted asked inputs s text (told b spelled h) cause =
     let c = subst (λ (x : Book). CauseOnBook wanted (Advance asked) t x) (one_text inputs.portfolio cause.book b cause.spelled spelled) cause.holds in
     same_stage b None (advance_stages.days b.declarations asked.to) t s wanted (last_stage b None (advance_stages.days b.declarations asked.to) t s (advance_stages.end_below b asked t h.1.day h.1.fixings h.1.can) h.0) (advance_stages.cause_stage b asked t wanted c)
 
+-- of `payoff`
+payoff_forces : (wanted : Status) (asked : PayoffAsked) (inputs : Inputs) (s : Status) (text : List ℕ) → Answers (Payoff asked) inputs s text → IsTextWhere inputs.portfolio (CauseOnBook wanted (Payoff asked) inputs.fixings) → s ≡ wanted
+payoff_forces wanted asked inputs s text (stopped f (not_spelled h) e line) cause = absurd (h.no_text cause.book cause.spelled)
+payoff_forces wanted asked inputs s text (stopped f (on_portfolio b spelled h) e line) cause =
+    let c = subst (λ (x : Book). CauseOnBook wanted (Payoff asked) inputs.fixings x) (one_text inputs.portfolio cause.book b cause.spelled spelled) cause.holds in
+    e ∙ payoff_stages.stop_forces b asked inputs.fixings wanted f h c
+payoff_forces wanted asked inputs s text (told b spelled h) cause =
+    let c = subst (λ (x : Book). CauseOnBook wanted (Payoff asked) inputs.fixings x) (one_text inputs.portfolio cause.book b cause.spelled spelled) cause.holds in
+    absurd (payoff_stages.end_or_cause b asked inputs.fixings wanted h.1.contr h.1.can c)
+
 forces_cause : (wanted : Status) (asked : Asked) (inputs : Inputs) (s : Status) (text : List ℕ) → Answers asked inputs s text → IsTextWhere inputs.portfolio (CauseOnBook wanted asked inputs.fixings) → s ≡ wanted
 forces_cause wanted (Check file) inputs s text a cause = check_forces wanted file inputs s text a cause
 forces_cause wanted (Flows flows) inputs s text a cause = flows_forces wanted flows inputs s text a cause
 forces_cause wanted (Advance asked) inputs s text a cause = advance_forces wanted asked inputs s text a cause
+forces_cause wanted (Payoff asked) inputs s text a cause = payoff_forces wanted asked inputs s text a cause
 
 exact_on_book : (wanted : Status) → (status.NoMemory ≡ wanted → ⊥) → (status.BadText ≡ wanted → ⊥) → (status.Done ≡ wanted → ⊥) → IsExactOnBook wanted
 exact_on_book wanted no_memory no_bad no_done words edge s asked inputs m r =
@@ -325,3 +342,14 @@ advance_whole asked inputs b day fixings s text spelled can (told c other h) =
 pub advance_is_complete : AdvanceIsComplete
 advance_is_complete words edge s asked inputs b day fixings m r spelled can =
     by_answer words edge s (Advance asked) inputs m r _ (λ text a w. let h = advance_whole asked inputs b day fixings s text spelled can a in inl (text, h.0, h.1, w)) (λ e w. inr (e, w))
+
+payoff_whole : (asked : PayoffAsked) (inputs : Inputs) (b : Book) (c : Contract) (s : Status) (text : List ℕ) → Text inputs.portfolio b → CanCompile b asked c → Answers (Payoff asked) inputs s text → (s ≡ status.Done) × IsPayoffText b asked text
+payoff_whole asked inputs b c s text spelled can (stopped f (not_spelled h) e line) = absurd (h.no_text b spelled)
+payoff_whole asked inputs b c s text spelled can (stopped f (on_portfolio k other h) e line) =
+    absurd (payoff_stages.stop_or_end b asked f c (subst (λ (x : Book). StopsPayoff x asked f) (one_text inputs.portfolio k b other spelled) h) can)
+payoff_whole asked inputs b c s text spelled can (told k other h) =
+    (h.0, subst (λ (x : Book). IsPayoffText x asked text) (one_text inputs.portfolio k b other spelled) h.1)
+
+pub payoff_is_complete : PayoffIsComplete
+payoff_is_complete words edge s asked inputs b c m r spelled can =
+    by_answer words edge s (Payoff asked) inputs m r _ (λ text a w. let h = payoff_whole asked inputs b c s text spelled can a in inl (text, h.0, h.1, w)) (λ e w. inr (e, w))

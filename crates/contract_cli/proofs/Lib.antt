@@ -6,6 +6,7 @@ pub mod FlowsParts
 pub mod AnswerFacts
 pub mod WritableFacts
 pub mod AdvanceFacts
+pub mod PayoffFacts
 pub mod CheckFacts
 pub mod SumLineFacts
 pub mod OneCheckText
@@ -14,12 +15,14 @@ pub mod Stages
 pub mod FlowsStages
 pub mod DueAreOne
 pub mod AdvanceStages
+pub mod PayoffStages
 pub mod AnswersAreOne
 pub mod RunFacts
 pub mod ReadFacts
 pub mod LawFacts
 pub mod ComposeFacts
 pub mod AdvanceTexts
+pub mod PayoffTexts
 pub mod Declaring
 pub mod Taken
 pub mod WordFacts

@@ -61,7 +61,7 @@ instance_nodes xs (Within e n a b) = rw (instance_nodes xs a, instance_nodes xs 
 pub numbers_given : (d : Declarations) (c : Contract) → IsSound d c → HasNumbers (declared_numbers d) c
 numbers_given d c s = settings_suit d 0 (declared_numbers d) c s.closed (defaults_suit d)
 
-triable : (d : Declarations) (c : Contract) → IsSound d c → IsTriable d (instance (declared_numbers d) c)
+pub triable : (d : Declarations) (c : Contract) → IsSound d c → IsTriable d (instance (declared_numbers d) c)
 triable d c s =
     let xs = declared_numbers d in
     record {

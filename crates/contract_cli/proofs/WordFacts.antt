@@ -5,8 +5,8 @@ use Rattle.std.specs.Prelude.{option_map}
 use Rattle.clap.specs.Words.{App, Row, Text, first_of}
 use Rattle.contract_parse.specs.NameTexts.{is_name_text}
 use Rattle.contract_cli.specs.Arguments.{HasMatches, IsAnswer, Reading, asked_of, is_set, read_rows, taken}
-use Rattle.contract_cli.specs.Commands.{Advance, Check, Flows, Request, OnFiles, Sample}
-use Rattle.contract_cli.specs.Words.{advance_from, advance_with, check_from, flows_from, flows_with, if_given, is_day, requested_by, sample_from, sample_size, with_form}
+use Rattle.contract_cli.specs.Commands.{Advance, Check, Flows, Payoff, Request, OnFiles, Sample}
+use Rattle.contract_cli.specs.Words.{advance_from, advance_with, check_from, flows_from, flows_with, if_given, is_day, payoff_from, payoff_with, requested_by, sample_from, sample_size, with_form}
 use Rattle.contract_cli.specs.declared.arguments.WordsErr.{WordsErr}
 use Rattle.contract_cli.specs.declared.arguments.WordsErr.TheVariants.{Usage, NoMemory}
 
@@ -93,6 +93,25 @@ pub advance_has : (found : Text → Option Text) (file fixings to : Text)
     → found (codes "portfolio") ≡ Some file → found (codes "fixings") ≡ Some fixings → with_form is_day (found (codes "to")) ≡ Some to
     → advance_from found ≡ Some (OnFiles (Advance (record { portfolio = file; fixings = fixings; to = to })))
 advance_has found file fixings to a b c = rw (a, b, c) refl
+
+-- ---- `payoff`
+
+pub payoff_lacks : (found : Text → Option Text) → found (codes "portfolio") ≡ None → payoff_from found ≡ None
+payoff_lacks found none = rw none refl
+
+with_no_contract : (file : Option Text) (plain : Bool) → payoff_with file None plain ≡ None
+with_no_contract None plain = refl
+with_no_contract (Some file) plain = refl
+
+pub payoff_no_name : (found : Text → Option Text) → with_form is_name_text (found (codes "contract")) ≡ None → payoff_from found ≡ None
+payoff_no_name found none =
+    ap (λ (name : Option Text). payoff_with (found (codes "portfolio")) name (is_set (found (codes "plain")))) none
+    ∙ with_no_contract _ _
+
+pub payoff_has : (found : Text → Option Text) (file contract : Text) (plain : Bool)
+    → found (codes "portfolio") ≡ Some file → with_form is_name_text (found (codes "contract")) ≡ Some contract → is_set (found (codes "plain")) ≡ plain
+    → payoff_from found ≡ Some (OnFiles (Payoff (record { portfolio = file; contract = contract; plain = plain })))
+payoff_has found file contract plain a b c = rw (a, b, c) refl
 
 -- ---- `sample`
 

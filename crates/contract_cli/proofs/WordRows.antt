@@ -6,7 +6,7 @@ use Rattle.clap.proofs.OnLiterals.{clap_on_literals}
 use Rattle.term_core.specs.Dates.{epoch_day_of, parts_of, two_of}
 use Rattle.fixing_files.specs.Days.{day_named, day_of}
 use Rattle.contract_cli.specs.Arguments.{taken}
-use Rattle.contract_cli.specs.Commands.{Advance, Flows, Request, OnFiles, Sample}
+use Rattle.contract_cli.specs.Commands.{Advance, Flows, Payoff, Request, OnFiles, Sample}
 use Rattle.contract_cli.specs.Words.{request_of}
 
 abbrev flows : Text → Option Text → Option Text → Bool → Option Request
@@ -71,6 +71,14 @@ no_new_day = refl
 no_fixings : request_of (codes "advance" ∷ codes "a" ∷ codes "--to" ∷ codes "2" ∷ []) ≡ None
 unfolding clap_on_literals taken
 no_fixings = refl
+
+payoff_of_a_contract : request_of (codes "payoff" ∷ codes "--plain" ∷ codes "a" ∷ codes "--contract=c" ∷ []) ≡ Some (OnFiles (Payoff (record { portfolio = codes "a"; contract = codes "c"; plain = true })))
+unfolding clap_on_literals taken
+payoff_of_a_contract = refl
+
+no_contract_named : request_of (codes "payoff" ∷ codes "a" ∷ []) ≡ None
+unfolding clap_on_literals taken
+no_contract_named = refl
 
 zeros_before : request_of (codes "sample" ∷ codes "00000000010000" ∷ []) ≡ Some (Sample 10_000)
 unfolding clap_on_literals taken

@@ -9,8 +9,9 @@ use Rattle.report.specs.declared.fault_lines.Fault.{Fault}
 use Rattle.report.specs.declared.fault_lines.Fault.TheVariants as fault
 use Rattle.contract_cli.specs.AdvanceText.{IsAdvanceText, StopsAdvance}
 use Rattle.contract_cli.specs.CheckText.{IsChecked}
-use Rattle.contract_cli.specs.Commands.{Advance, Asked, Check, Flows}
+use Rattle.contract_cli.specs.Commands.{Advance, Asked, Check, Flows, Payoff}
 use Rattle.contract_cli.specs.FlowsText.{IsFlowsText, StopsFlows}
+use Rattle.contract_cli.specs.PayoffText.{IsPayoffText, StopsPayoff}
 use Rattle.contract_cli.specs.Statuses.{status_of}
 use Rattle.contract_cli.specs.declared.status.Status.{Status}
 use Rattle.contract_cli.specs.declared.status.Status.TheVariants as status
@@ -36,12 +37,14 @@ abbrev pub StopsOn : Asked → Book → Option (List ℕ) → Fault → Type 0
 StopsOn (Check file) b table f = ⊥
 StopsOn (Flows flows) b table f = StopsFlows b flows table f
 StopsOn (Advance advance) b table f = StopsAdvance b advance table f
+StopsOn (Payoff payoff) b table f = StopsPayoff b payoff f
 
 -- what a command tells of a portfolio that nothing stops
 abbrev pub Tells : Asked → Book → Option (List ℕ) → Status → List ℕ → Type 0
 Tells (Check file) b table s text = IsChecked b s text
 Tells (Flows flows) b table s text = (s ≡ status.Done) × IsFlowsText b flows table text
 Tells (Advance advance) b table s text = (s ≡ status.Done) × IsAdvanceText b advance table text
+Tells (Payoff payoff) b table s text = (s ≡ status.Done) × IsPayoffText b payoff text
 
 -- what stops a command on the bytes of its files
 pub data Stops (asked : Asked) (inputs : Inputs) (f : Fault) : Type 0 where

@@ -8,6 +8,7 @@ pub mod Using
 pub mod CheckText
 pub mod FlowsText
 pub mod AdvanceText
+pub mod PayoffText
 pub mod Answers
 pub mod Runs
 pub mod Checking
@@ -16,3 +17,5 @@ pub mod AdvanceLists
 pub mod Answering
 pub mod RunLaws
 pub mod AdvanceLaws
+pub mod PayoffParts
+pub mod PayoffLaws

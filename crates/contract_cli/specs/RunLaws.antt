@@ -19,10 +19,11 @@ use Rattle.contract_cli.specs.Answers.{Answers, Inputs, IsNoText}
 use Rattle.contract_cli.specs.Answering.{AreShort}
 use Rattle.contract_cli.specs.AdvanceText.{CanAdvance, IsAdvanceText, IsNewDay, IsNoNewDay, IsRestBook, last_gone, rest_declarations}
 use Rattle.contract_cli.specs.CheckText.{AreAllAccepted, IsChecked}
-use Rattle.contract_cli.specs.Commands.{Advance, AdvanceAsked, Asked, Check, Flows, FlowsAsked, fixings_file, portfolio_file}
+use Rattle.contract_cli.specs.Commands.{Advance, AdvanceAsked, Asked, Check, Flows, FlowsAsked, Payoff, PayoffAsked, fixings_file, portfolio_file}
 use Rattle.contract_cli.specs.FlowsText.{AreAllFixed, AreFixings, CanGo, IsFlowsText, IsOutOfRange, WordsFit, greatest_day}
+use Rattle.contract_cli.specs.PayoffText.{CanCompile, IsAcceptedAtDefaults, IsPayoffText}
 use Rattle.contract_cli.specs.Runs.{NamesSample, Edge, FilesSeen, IsNext, Meets, Names, WritesAll, WritesNothing, longest_file}
-use Rattle.contract_cli.specs.Used.{is_known, used}
+use Rattle.contract_cli.specs.Used.{contract_named, is_known, used}
 use Rattle.contract_cli.specs.Words.{request_of}
 use Rattle.contract_cli.specs.declared.status.Status.{Status}
 use Rattle.contract_cli.specs.declared.status.Status.TheVariants as status
@@ -141,6 +142,12 @@ pub record AnyReadIsMissing (asked : AdvanceAsked) (table : Option (List ℕ)) (
   pub are_fixings : AreFixings b.declarations table fixings
   pub unfixed : AreAllFixed b.declarations fixings (last_gone day) (used None b) → ⊥
 
+-- the same of `payoff`: the name is that of a contract, and this one is not accepted
+pub record NamedIsRefused (asked : PayoffAsked) (b : Book) : Type 0 where
+  pub contr : Contract
+  pub named : contract_named asked.contract b ≡ Some contr
+  pub refused : IsAcceptedAtDefaults b.declarations contr → ⊥
+
 -- the cause of a status of a command that has its portfolio; nothing but a contract that is not accepted refuses `check`
 abbrev pub CauseOnBook : Status → Asked → Option (List ℕ) → Book → Type 0
 CauseOnBook status.Refused (Check file) table b = AreAllAccepted b.declarations (used None b) → ⊥
@@ -153,6 +160,8 @@ CauseOnBook status.DayRange (Advance asked) table b = IsNoNewDay b.declarations 
 CauseOnBook status.Refused (Advance asked) table b = AnyIsRefused asked b
 CauseOnBook status.BadRow (Advance asked) table b = AnyRowIsBad asked table b
 CauseOnBook status.Missing (Advance asked) table b = AnyReadIsMissing asked table b
+CauseOnBook status.UnknownName (Payoff asked) table b = contract_named asked.contract b ≡ None
+CauseOnBook status.Refused (Payoff asked) table b = NamedIsRefused asked b
 CauseOnBook _ asked table b = ⊥
 
 -- ---- the laws
@@ -214,6 +223,7 @@ abbrev pub LeavesNothingOpen : Asked → Type 0
 LeavesNothingOpen (Check file) = Unit {0}
 LeavesNothingOpen (Flows flows) = Unit {0}
 LeavesNothingOpen (Advance asked) = ⊥
+LeavesNothingOpen (Payoff asked) = Unit {0}
 
 -- the bytes of the files of such a command have one answer, a status and a text
 abbrev pub AnswersAreOne : Type 0
@@ -266,6 +276,14 @@ AdvanceIsComplete =
     (words : List (List ℕ)) (edge : Edge) (s : Status) (asked : AdvanceAsked) (inputs : Inputs) (b : Book) (day : ℕ) (fixings : Environment)
     → Meets words edge s → IsReadWhole words edge (Advance asked) inputs → Text inputs.portfolio b → CanAdvance b asked inputs.fixings day fixings
     → ((text : List ℕ) × (s ≡ status.Done) × IsAdvanceText b asked inputs.fixings text × WritesAll edge.sink text)
+    ⊎ ((s ≡ status.NoMemory) × WritesNothing edge.sink)
+
+-- `payoff` where the name is that of a contract and this one is accepted: the text of its code is written
+abbrev pub PayoffIsComplete : Type 0
+PayoffIsComplete =
+    (words : List (List ℕ)) (edge : Edge) (s : Status) (asked : PayoffAsked) (inputs : Inputs) (b : Book) (c : Contract)
+    → Meets words edge s → IsReadWhole words edge (Payoff asked) inputs → Text inputs.portfolio b → CanCompile b asked c
+    → ((text : List ℕ) × (s ≡ status.Done) × IsPayoffText b asked text × WritesAll edge.sink text)
     ⊎ ((s ≡ status.NoMemory) × WritesNothing edge.sink)
 
 -- ---- two runs

@@ -1,5 +1,5 @@
 -- The contracts that a command uses, as the program keeps them, and what is asked of one before it is tried.
-use Rattle.std.specs.Prelude.{◌≡◌, ◌≤◌, ◌<◌, ◌^◌, ℕ, false, map, List, Option, Some}
+use Rattle.std.specs.Prelude.{◌≡◌, ◌≤◌, ◌<◌, ◌^◌, ℕ, false, map, List, Option, Some, None}
 use Rattle.term_core.specs.declared.name.Name.{Name}
 use Rattle.term_core.specs.declared.terms.Contr.{Contr}
 use Rattle.term_core.specs.Books.{Book}
@@ -9,10 +9,11 @@ use Rattle.term_core.specs.Sizes.{height_of_contract, nodes_of_contract}
 use Rattle.term_core.specs.WellFormed.{HasOnlyNumbers, IsClosed}
 use Rattle.report.specs.declared.fault_lines.Fault.{Fault}
 use Rattle.report.specs.declared.fault_lines.Fault.TheVariants as fault
-use Rattle.contract_cli.specs.Used.{is_known}
+use Rattle.contract_cli.specs.Used.{contract_named, is_known}
 use Rattle.contract_cli.specs.declared.used.Instance.{Instance}
 use Rattle.contract_cli.specs.declared.used.Instance.TheVariants.{Lent, Made}
 use Rattle.contract_cli.specs.declared.used.Used.{Used}
+use Rattle.contract_cli.specs.declared.used.Written.{Written}
 
 abbrev pub tree_of : Instance → Contract
 tree_of (Lent contr) = contract contr.now
@@ -46,4 +47,14 @@ pub record IsUnknownName (b : Book) (only : Option (List ℕ)) (f : Fault) : Typ
   pub name : List ℕ
   pub given : only ≡ Some name
   pub unknown : is_known only b ≡ false
+  pub fault_is : f ≡ fault.UnknownName name
+
+-- the contract of a name, as the program keeps it
+pub record IsNamed (b : Book) (name : List ℕ) (one : Written) : Type 0 where
+  pub same_name : one.name.now ≡ name
+  pub named : contract_named name b ≡ Some (contract one.contr.now)
+
+-- a name is that of no contract, and the fault says so
+pub record NamesNone (b : Book) (name : List ℕ) (f : Fault) : Type 0 where
+  pub none : contract_named name b ≡ None
   pub fault_is : f ≡ fault.UnknownName name

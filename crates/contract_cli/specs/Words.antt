@@ -8,11 +8,12 @@ use Rattle.contract_parse.specs.NameTexts.{is_name_text}
 use Rattle.fixing_files.specs.Days.{day_named, digits_of}
 use Rattle.fixing_files.specs.declared.days.NamedDay.{NamedDay}
 use Rattle.contract_cli.specs.Arguments.{IsAnswer, asked_of, declared, flag, is_set, optional, required, valued}
-use Rattle.contract_cli.specs.Commands.{Asked, Check, Flows, FlowsAsked, Advance, AdvanceAsked, Request, OnFiles, Sample}
+use Rattle.contract_cli.specs.Commands.{Asked, Check, Flows, FlowsAsked, Advance, AdvanceAsked, Payoff, PayoffAsked, Request, OnFiles, Sample}
 use Rattle.contract_cli.specs.declared.words.Command.{Command}
 use Rattle.contract_cli.specs.declared.words.Command.TheVariants as command
 use Rattle.contract_cli.specs.declared.words.Advance.{Advance as AdvanceCommand}
 use Rattle.contract_cli.specs.declared.words.Flows.{Flows as FlowsCommand}
+use Rattle.contract_cli.specs.declared.words.Payoff.{Payoff as PayoffCommand}
 use Rattle.contract_cli.specs.declared.words.Request.{Request as Requested}
 use Rattle.contract_cli.specs.declared.words.Request.TheVariants as request
 use Rattle.contract_cli.specs.declared.arguments.WordsErr.{WordsErr}
@@ -30,10 +31,14 @@ flows_by flows = record {
 abbrev pub advance_by : AdvanceCommand → AdvanceAsked
 advance_by advance = record { portfolio = advance.portfolio.now; fixings = advance.fixings.now; to = advance.to.word.now }
 
+abbrev pub payoff_by : PayoffCommand → PayoffAsked
+payoff_by payoff = record { portfolio = payoff.portfolio.now; contract = payoff.contract.now; plain = payoff.plain }
+
 abbrev pub asked_by : Command → Asked
 asked_by (command.Check portfolio) = Check portfolio.now
 asked_by (command.Flows flows) = Flows (flows_by flows)
 asked_by (command.Advance advance) = Advance (advance_by advance)
+asked_by (command.Payoff payoff) = Payoff (payoff_by payoff)
 
 -- what is requested of the program
 abbrev pub requested_by : Requested → Request
@@ -124,6 +129,21 @@ advance_from word = advance_with (word (codes "portfolio")) (word (codes "fixing
 abbrev pub advance_of : List Text → Option Request
 advance_of words = asked_of advance_app advance_from words
 
+-- ---- `payoff PORTFOLIO --contract NAME [--plain]`
+
+abbrev pub payoff_app : App
+payoff_app = declared (codes "payoff") (required (codes "portfolio") ∷ valued (codes "contract") ∷ flag (codes "plain") ∷ [])
+
+abbrev pub payoff_with : Option Text → Option Text → Bool → Option Request
+payoff_with (Some file) (Some contract) plain = Some (OnFiles (Payoff (record { portfolio = file; contract = contract; plain = plain })))
+payoff_with _ _ plain = None
+
+abbrev pub payoff_from : (Text → Option Text) → Option Request
+payoff_from word = payoff_with (word (codes "portfolio")) (with_form is_name_text (word (codes "contract"))) (is_set (word (codes "plain")))
+
+abbrev pub payoff_of : List Text → Option Request
+payoff_of words = asked_of payoff_app payoff_from words
+
 -- ---- `sample NUMBER`
 
 abbrev pub sample_app : App
@@ -144,6 +164,7 @@ request_of (name ∷ rest) =
     if bytes_eq name (codes "check") then check_of rest
     else if bytes_eq name (codes "flows") then flows_of rest
     else if bytes_eq name (codes "advance") then advance_of rest
+    else if bytes_eq name (codes "payoff") then payoff_of rest
     else if bytes_eq name (codes "sample") then sample_of rest
     else None
 

@@ -18,8 +18,9 @@ ghost use Rattle.contract_cli.specs.FlowLists.{IsShortTable};
 ghost use Rattle.contract_cli.specs.Using.{IsSound, IsTriable, entries_of, entry_of, trees};
 ghost use Rattle.contract_cli.specs.Words.{advance_by};
 
+use crate::accepting::accept_all;
 use crate::day_words::DayWord;
-use crate::over_fixings::{accept_all, day_asked, fixings_of, stop_of};
+use crate::over_fixings::{day_asked, fixings_of, stop_of};
 use crate::stop::Stop;
 use crate::used::{Used, used_contracts};
 use crate::words::Advance;

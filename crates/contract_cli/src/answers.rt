@@ -18,6 +18,7 @@ ghost use Rattle.contract_cli.specs.declared.status.Status.TheVariants.{Done as 
 use crate::advance_text::advance_text;
 use crate::check_text::check_text;
 use crate::flows_text::flows_text;
+use crate::payoff_text::payoff_text;
 use crate::sample_size::SampleSize;
 use crate::status::{Status, status_of};
 use crate::stop::Stop;
@@ -127,6 +128,13 @@ pub fn answer_bytes(alloc: Global, command: &Command<'_>, inputs: &Inputs) -> Re
         }
         Command::Advance(advance) => {
             let text = advance_text(alloc, &portfolio, advance, table)?;
+            Ok(Answer {
+                status: Status::Done,
+                text,
+            })
+        }
+        Command::Payoff(payoff) => {
+            let text = payoff_text(alloc, &portfolio, payoff)?;
             Ok(Answer {
                 status: Status::Done,
                 text,

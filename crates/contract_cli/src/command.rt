@@ -57,6 +57,10 @@ fn named_files<'a>(command: &Command<'a>) -> Named<'a>
             portfolio: advance.portfolio,
             fixings: Some(advance.fixings),
         },
+        Command::Payoff(payoff) => Named {
+            portfolio: payoff.portfolio,
+            fixings: None,
+        },
     }
 }
 
@@ -127,8 +131,9 @@ fn prepare<'a, F: Files>(
 /// files, each once and in order, makes the whole text, and writes it. `check PORT` writes a line for each contract, in
 /// their order, that says whether it is accepted; `flows PORT [FIX] [--until DAY] [--contract NAME] [--net]` writes the
 /// flow lines of all contracts, or of the named one, or of their sum, over the fixings, up to the day; `advance PORT FIX --to
-/// DAY` writes the flow lines of the days before the day as comments, and the portfolio that is left on it; `sample NUMBER`
-/// reads no file and writes the summary of the sample of so many contracts. What stops a command writes the line of its fault.
+/// DAY` writes the flow lines of the days before the day as comments, and the portfolio that is left on it; `payoff PORT
+/// --contract NAME [--plain]` writes the code of the named contract, with its payments cut or plain; `sample NUMBER` reads no
+/// file and writes the summary of the sample of so many contracts. What stops a command writes the line of its fault.
 pub fn run<'a, F: Files, S: Sink>(
     alloc: Global,
     words: &'a [&'a str],

@@ -16,8 +16,9 @@ ghost use Rattle.contract_cli.specs.Stopping.{AnswersBy};
 ghost use Rattle.contract_cli.specs.Using.{IsSound, entries_of};
 ghost use Rattle.contract_cli.specs.Words.{flows_by};
 
+use crate::accepting::accept_all;
 use crate::day_words::DayWord;
-use crate::over_fixings::{accept_all, day_asked, fixings_of, stop_of};
+use crate::over_fixings::{day_asked, fixings_of, stop_of};
 use crate::stop::Stop;
 use crate::used::{Used, know, used_contracts};
 use crate::words::Flows;

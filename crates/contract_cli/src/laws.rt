@@ -1,7 +1,8 @@
 //! Laws of the causes of a run's status. Each is the contract of a function that does nothing.
 
 ghost use Rattle.contract_cli.specs.AdvanceLaws.{AdvanceTextsAreTexts};
-ghost use Rattle.contract_cli.specs.RunLaws.{AdvanceIsComplete, AdvancesCompose, AnswersAreOne, BadTextIsExact, CheckIsComplete, DueLinesAreOne, FlowsAreComplete, ReadFaultsHaveCauses, RefusalsAreExact, SampleHasThreeEnds, SampleIsComplete, StatusesAreOne, SummariesAreOne, TooLongIsExact, UsageIsExact, UsageWritesItsLine, WriteFaultsHaveCauses};
+ghost use Rattle.contract_cli.specs.PayoffLaws.{PayoffTextsMean};
+ghost use Rattle.contract_cli.specs.RunLaws.{AdvanceIsComplete, AdvancesCompose, AnswersAreOne, BadTextIsExact, CheckIsComplete, DueLinesAreOne, FlowsAreComplete, PayoffIsComplete, ReadFaultsHaveCauses, RefusalsAreExact, SampleHasThreeEnds, SampleIsComplete, StatusesAreOne, SummariesAreOne, TooLongIsExact, UsageIsExact, UsageWritesItsLine, WriteFaultsHaveCauses};
 
 /// Usage comes exactly where the words are of no form, or memory is wanting, or the write of its line fails; and it has
 /// just that line.
@@ -56,6 +57,12 @@ pub fn advance_texts_are_texts()
     ensures { AdvanceTextsAreTexts }
 {}
 
+/// What `payoff` prints of a contract of a portfolio's text is a text of a code file on the portfolio's declarations, whose code
+/// means the contract, is accepted at every setting at which the contract is, and has few nodes.
+pub fn payoff_texts_mean()
+    ensures { PayoffTextsMean }
+{}
+
 /// `sample` ends with its summary written, with a failed write or for want of memory.
 pub fn sample_has_three_ends()
     ensures { SampleHasThreeEnds }
@@ -63,10 +70,12 @@ pub fn sample_has_three_ends()
 
 /// A run with nothing in its way has written the whole text of its command, or wants memory: `check` of any portfolio, and
 /// `flows` where names are known, the day is in range, contracts are accepted, rows are taken and reads are fixed, `advance`
-/// where the same holds of its day and of the reads of the days gone by, and `sample` of any number of contracts.
+/// where the same holds of its day and of the reads of the days gone by, `payoff` where its name is known and this contract
+/// accepted, and `sample` of any number of contracts.
 pub fn run_is_complete()
     ensures check { CheckIsComplete }
     ensures flows { FlowsAreComplete }
     ensures advance { AdvanceIsComplete }
+    ensures payoff { PayoffIsComplete }
     ensures sample { SampleIsComplete }
 {}

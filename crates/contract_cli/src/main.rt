@@ -1,6 +1,7 @@
 //! Tilugba, the manager for financial contracts between parties.
 #![tactic(auto)]
 
+mod accepting;
 #[cfg(test)]
 mod advance_tests;
 mod advance_text;
@@ -14,6 +15,7 @@ pub mod laws;
 #[cfg(test)]
 mod long_tests;
 mod over_fixings;
+mod payoff_text;
 mod sample_size;
 mod status;
 mod stop;

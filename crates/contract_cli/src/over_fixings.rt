@@ -1,17 +1,13 @@
-//! Commands over fixings: the day that a word asks for, the contracts that are accepted, the fixings of a table, and what
-//! stops a command that lacks one of these.
+//! Commands over fixings: the day that a word asks for, the fixings of a table, and what stops a command that lacks one of
+//! these.
 
 ghost use Rattle.std.specs.Prelude.{◌≡◌, ◌≤◌, pos, option_map};
-ghost use Rattle.std.specs.List.{All};
 ghost use Rattle.term_core.specs.Declarations.{declarations};
-ghost use Rattle.contract_cli.specs.FlowLists.{AnswersAccepted, AnswersAcceptedOne, AnswersDay, AnswersFixings, IsShortTable, IsStopOf, day_in_range};
+ghost use Rattle.contract_cli.specs.FlowLists.{AnswersDay, AnswersFixings, IsShortTable, IsStopOf, day_in_range};
 ghost use Rattle.contract_cli.specs.FlowsText.{label_name};
-ghost use Rattle.contract_cli.specs.Using.{IsTriable, entries_of, entry_of};
 
-use crate::check_text::verdict;
 use crate::day_words::DayWord;
 use crate::stop::Stop;
-use crate::used::Used;
 use decimal::NoMemory;
 use fixing_files::{DayFault, Fixings, RowErr, place_day, read_fixings};
 use flow_eval::FlowErr;
@@ -61,35 +57,6 @@ pub fn fixings_of(alloc: Global, decls: &Decls, table: Option<&[u8]>) -> Result<
         Err(RowErr::Row(fault)) => Err(Stop::Fault(Fault::Row { place: 2, fault })),
         Err(RowErr::NoMemory) => Err(Stop::NoMemory),
     }
-}
-
-// Stops at a contract that is not accepted.
-fn accept(alloc: Global, decls: &Decls, one: &Used<'_>) -> Result<(), Stop>
-    requires { IsTriable (declarations decls.now) (entry_of one.now).1 }
-    ensures { AnswersAcceptedOne (declarations decls.now) (entry_of one.now) result }
-{
-    match verdict(alloc, decls, one.contr.contr())? {
-        Ok(_) => Ok(()),
-        Err(fault) => {
-            let name = Name::new(alloc, one.name.text())?;
-            Err(Stop::Fault(Fault::Refused {
-                name,
-                rule: fault.rule,
-                node: fault.node,
-            }))
-        }
-    }
-}
-
-/// Stops at the first contract that is not accepted.
-pub fn accept_all(alloc: Global, decls: &Decls, ones: &[Used<'_>]) -> Result<(), Stop>
-    requires { All (λ entry. IsTriable (declarations decls.now) entry.1) (entries_of ones.now) }
-    ensures { AnswersAccepted (declarations decls.now) (entries_of ones.now) result }
-{
-    for one in ones {
-        accept(alloc, decls, one)?;
-    }
-    Ok(())
 }
 
 // The name of a declared label.

@@ -6,6 +6,7 @@ ghost use Rattle.term_core.specs.Books.{book};
 ghost use Rattle.term_core.specs.Declarations.{declarations};
 ghost use Rattle.term_core.specs.Instances.{HasNumbers, declared_numbers, instance};
 ghost use Rattle.term_core.specs.Terms.{contract};
+ghost use Rattle.contract_cli.specs.PayoffParts.{AnswersNamed};
 ghost use Rattle.contract_cli.specs.Stopping.{AnswersBy};
 ghost use Rattle.contract_cli.specs.Used.{is_asked, is_known, used};
 ghost use Rattle.contract_cli.specs.Using.{IsSound, IsTriable, IsUnknownName, entries_of, tree_of};
@@ -42,8 +43,15 @@ pub struct Used<'a> {
     pub contr: Instance<'a>,
 }
 
-// The contract with the setting's numbers for its names. What names no template is lent as it is.
-fn instance_of<'a>(
+/// A contract of a portfolio as it is written, by its name.
+#[derive(Clone, Copy)]
+pub struct Written<'a> {
+    pub name: &'a Name,
+    pub contr: &'a Contr,
+}
+
+/// The contract with the setting's numbers for its names. What names no template is lent as it is.
+pub fn instance_of<'a>(
     alloc: Global,
     contr: &'a Contr,
     setting: &Setting,
@@ -101,4 +109,21 @@ pub fn know(alloc: Global, portfolio: &Portfolio, only: Option<&str>) -> Result<
     }
     let name = Name::new(alloc, word.as_bytes())?;
     Err(Stop::Fault(Fault::UnknownName { name }))
+}
+
+/// The contract of a name. It stops at a name that is that of no contract.
+pub fn contract_named<'a>(
+    alloc: Global,
+    portfolio: &'a Portfolio,
+    word: &str,
+) -> Result<Written<'a>, Stop>
+    ensures { AnswersNamed (book portfolio.entry.now) word.now result }
+{
+    match portfolio.contracts.get_key_value(word.as_bytes()) {
+        Some((name, contr)) => Ok(Written { name, contr }),
+        None => {
+            let name = Name::new(alloc, word.as_bytes())?;
+            Err(Stop::Fault(Fault::UnknownName { name }))
+        }
+    }
 }

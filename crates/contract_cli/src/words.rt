@@ -3,7 +3,7 @@
 ghost use Rattle.std.specs.Prelude.{◌≡◌, map, option_map};
 ghost use Rattle.contract_parse.specs.NameTexts.{is_name_text};
 ghost use Rattle.contract_cli.specs.Arguments.{IsAnswer};
-ghost use Rattle.contract_cli.specs.Words.{IsRequestOf, advance_of, check_of, flows_of, if_given, is_day, request_of, requested_by, sample_of, with_form};
+ghost use Rattle.contract_cli.specs.Words.{IsRequestOf, advance_of, check_of, flows_of, if_given, is_day, request_of, payoff_of, requested_by, sample_of, with_form};
 
 use crate::arguments::{Argument, WordsErr, is_set, matches_of};
 use crate::day_words::DayWord;
@@ -31,6 +31,14 @@ pub struct Advance<'a> {
     pub to: DayWord<'a>,
 }
 
+/// The code of the contract of a name in a portfolio's file, with its payments cut, or plain where that is asked.
+#[derive(Clone, Copy)]
+pub struct Payoff<'a> {
+    pub portfolio: &'a str,
+    pub contract: &'a str,
+    pub plain: bool,
+}
+
 /// A command, with what it is given.
 #[derive(Clone, Copy)]
 pub enum Command<'a> {
@@ -40,6 +48,8 @@ pub enum Command<'a> {
     Flows(Flows<'a>),
     /// Advances the portfolio to a day.
     Advance(Advance<'a>),
+    /// Compiles a contract to code.
+    Payoff(Payoff<'a>),
 }
 
 /// What words ask for.
@@ -91,6 +101,16 @@ fn name_if_given(word: Option<&str>) -> Result<Option<&str>, WordsErr>
     match word {
         Some(text) if !is_name_text(text.as_bytes()) => Err(WordsErr::Usage),
         _ => Ok(word),
+    }
+}
+
+// A name that has to be given.
+fn name_given(word: Option<&str>) -> Result<&str, WordsErr>
+    ensures { IsAnswer (λ word. word.now) (with_form is_name_text (option_map (λ word. word.now) word.entry)) result }
+{
+    match word {
+        Some(text) if is_name_text(text.as_bytes()) => Ok(text),
+        _ => Err(WordsErr::Usage),
     }
 }
 
@@ -148,6 +168,25 @@ fn advance_of<'a>(alloc: Global, words: &'a [&'a str]) -> Result<Request<'a>, Wo
     })))
 }
 
+// `payoff PORTFOLIO --contract NAME [--plain]`, by the words behind the first.
+fn payoff_of<'a>(alloc: Global, words: &'a [&'a str]) -> Result<Request<'a>, WordsErr>
+    ensures { IsAnswer requested_by (payoff_of (map (λ word. word.now) words.entry.now)) result }
+{
+    let arguments = [
+        Argument::Required("portfolio"),
+        Argument::Valued("contract"),
+        Argument::Flag("plain"),
+    ];
+    let matches = matches_of(alloc, "payoff", &arguments, words)?;
+    let portfolio = given(matches.get_str("portfolio"))?;
+    let contract = name_given(matches.get_str("contract"))?;
+    Ok(Request::OnFiles(Command::Payoff(Payoff {
+        portfolio,
+        contract,
+        plain: is_set(matches.get_str("plain")),
+    })))
+}
+
 // `sample NUMBER`, by the words behind the first.
 fn sample_of<'a>(alloc: Global, words: &'a [&'a str]) -> Result<Request<'a>, WordsErr>
     ensures { IsAnswer requested_by (sample_of (map (λ word. word.now) words.entry.now)) result }
@@ -175,6 +214,8 @@ pub fn request_of<'a>(alloc: Global, words: &'a [&'a str]) -> Result<Request<'a>
         flows_of(alloc, rest)
     } else if *name == "advance" {
         advance_of(alloc, rest)
+    } else if *name == "payoff" {
+        payoff_of(alloc, rest)
     } else if *name == "sample" {
         sample_of(alloc, rest)
     } else {

@@ -1,11 +1,11 @@
 use Rattle.std.proofs.Common.{ℕ, List, Bor, ap, refl}
 use Rattle.std.specs.Prelude.{Option, option_map}
 use Rattle.term_core.specs.Books.{book}
-use Rattle.contract_print.proofs.TextSpellable.{texts_spellable}
+use Rattle.contract_print.proofs.TextSpellable.{texts_spellable, texts_writable}
 use Rattle.contract_cli.specs.Answering.{inputs_by}
-use Rattle.contract_cli.specs.Words.{advance_by, asked_by, flows_by}
+use Rattle.contract_cli.specs.Words.{advance_by, asked_by, flows_by, payoff_by}
 use Rattle.contract_cli.specs.declared.status.Status.TheVariants as status
-use Rattle.contract_cli.proofs.AnswerFacts.{advance_stopped, advance_told, check_told, flows_stopped, flows_told, lacks_memory}
+use Rattle.contract_cli.proofs.AnswerFacts.{advance_stopped, advance_told, check_told, flows_stopped, flows_told, lacks_memory, payoff_stopped, payoff_told}
 use Rattle.contract_cli.proofs.UsedFacts.{contracts_few, contracts_sound}
 use Rattle.contract_cli.proofs.answers.answer_bytes.Goals as goal
 
@@ -33,6 +33,14 @@ advance_text-requires-clause-names c =
     let spelled = texts_spellable c.args.inputs.now.portfolio.items (book c.in_ok-portfolio.portfolio) (rw c.deref.ensures.value at c.in_ok-portfolio.ensures) in
     spelled.contracts
 
+pub payoff_text-requires-clause-sound : goal.payoff_text-requires-clause-sound
+payoff_text-requires-clause-sound c =
+    contracts_sound c.args.inputs.now.portfolio.items (book c.in_ok-portfolio.portfolio) (rw c.deref.ensures.value at c.in_ok-portfolio.ensures) c.requires.portfolio
+
+pub payoff_text-requires-clause-writable : goal.payoff_text-requires-clause-writable
+payoff_text-requires-clause-writable c =
+    texts_writable c.args.inputs.now.portfolio.items (book c.in_ok-portfolio.portfolio) (rw c.deref.ensures.value at c.in_ok-portfolio.ensures)
+
 pub returns-in_err-answer-in-Check : goal.returns-in_err-answer-in-Check
 returns-in_err-answer-in-Check c = lacks_memory (asked_by c.args.command.now) (inputs_by c.args.inputs.now) c.from_residual-in_err-answer-in-Check.result c.from_residual-in_err-answer-in-Check.ensures.1
 
@@ -55,7 +63,17 @@ returns-in_err-text-in-Advance c =
     advance_stopped (asked_by c.args.command.now) (advance_by c.in-Advance.advance) (inputs_by c.args.inputs.now) (given c.lent-table.result) (book c.in_ok-portfolio.portfolio) c.in_err-text-in-Advance.field-0.0 c.from_residual-in_err-text-in-Advance.result (ap asked_by c.in-Advance.is) c.lent-table.ensures
     (rw c.deref.ensures.value at c.in_ok-portfolio.ensures) c.in_err-text-in-Advance.ensures c.from_residual-in_err-text-in-Advance.ensures.1
 
-pub returns : goal.returns
-returns c =
+pub returns-in-Advance : goal.returns-in-Advance
+returns-in-Advance c =
     advance_told (asked_by c.args.command.now) (advance_by c.in-Advance.advance) (inputs_by c.args.inputs.now) (given c.lent-table.result) (book c.in_ok-portfolio.portfolio) (record { status = status.Done; text = c.in_ok-text-in-Advance.text }) (ap asked_by c.in-Advance.is) c.lent-table.ensures
     (rw c.deref.ensures.value at c.in_ok-portfolio.ensures) refl c.in_ok-text-in-Advance.ensures
+
+pub returns-in_err-text-in-Payoff : goal.returns-in_err-text-in-Payoff
+returns-in_err-text-in-Payoff c =
+    payoff_stopped (asked_by c.args.command.now) (payoff_by c.in-Payoff.payoff) (inputs_by c.args.inputs.now) (book c.in_ok-portfolio.portfolio) c.in_err-text-in-Payoff.field-0.0 c.from_residual-in_err-text-in-Payoff.result (ap asked_by c.in-Payoff.is)
+    (rw c.deref.ensures.value at c.in_ok-portfolio.ensures) c.in_err-text-in-Payoff.ensures c.from_residual-in_err-text-in-Payoff.ensures.1
+
+pub returns : goal.returns
+returns c =
+    payoff_told (asked_by c.args.command.now) (payoff_by c.in-Payoff.payoff) (inputs_by c.args.inputs.now) (book c.in_ok-portfolio.portfolio) (record { status = status.Done; text = c.in_ok-text-in-Payoff.text }) (ap asked_by c.in-Payoff.is)
+    (rw c.deref.ensures.value at c.in_ok-portfolio.ensures) refl c.in_ok-text-in-Payoff.ensures

@@ -11,7 +11,7 @@ use Rattle.contract_cli.specs.Using.{IsTriable, entries_of, entry_of}
 use Rattle.contract_cli.proofs.LineFacts.{accepted_behind, accepted_none, refused_first}
 use Rattle.contract_cli.proofs.StopFacts.{handed_on}
 use Rattle.contract_cli.proofs.UsedFacts.{item_has, left_more, left_none}
-use Rattle.contract_cli.proofs.over_fixings.accept_all.Goals as goal
+use Rattle.contract_cli.proofs.accepting.accept_all.Goals as goal
 
 pub accept-requires : goal.accept-requires
 accept-requires c =

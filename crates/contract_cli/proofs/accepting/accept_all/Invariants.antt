@@ -5,7 +5,7 @@ use Rattle.contract_cli.specs.FlowLists.{IsRefusedOf}
 use Rattle.contract_cli.specs.Stopping.{AnswersBy}
 use Rattle.contract_cli.specs.Using.{entries_of}
 use Rattle.contract_cli.specs.declared.stop.Stop.{Stop}
-use Rattle.contract_cli.proofs.over_fixings.accept_all.Given as goal
+use Rattle.contract_cli.proofs.accepting.accept_all.Given as goal
 
 -- the answer for the contracts that are left is that for all
 abbrev pub invariant-loop-one : goal.invariant-loop-one
