@@ -258,7 +258,7 @@ module _ (s : Scope) (ps : List Place) (ts rest : List Tok) (ws : List Bytes) wh
 
 -- the words with which lines behind each line begin
 abbrev pub behind_templates : List Bytes
-behind_templates = codes "contract" ∷ []
+behind_templates = codes "contract" ∷ codes "code" ∷ []
 
 abbrev pub behind_labels : List Bytes
 behind_labels = codes "template" ∷ behind_templates
@@ -276,7 +276,7 @@ abbrev pub behind_origin : List Bytes
 behind_origin = codes "start" ∷ behind_start
 
 pub at_contracts : (s : Scope) (a b : List (Bytes × Contract)) (ts rest : List Tok) → Heads [] rest → Repeat (Entry (contract_line s)) a b ts rest → Heads behind_templates ts
-at_contracts s a b ts rest heads x = heads_repeat (Entry (contract_line s)) behind_templates a b ts rest (λ a b ts rest e. heads_word (codes "contract") [] ts e.spelled.between e.spelled.one) (heads_more (codes "contract") [] rest heads) x
+at_contracts s a b ts rest heads x = heads_repeat (Entry (contract_line s)) behind_templates a b ts rest (λ a b ts rest e. heads_word (codes "contract") (codes "code" ∷ []) ts e.spelled.between e.spelled.one) (heads_more (codes "contract") (codes "code" ∷ []) rest (heads_more (codes "code") [] rest heads)) x
 
 pub at_templates : (a b : List (Bytes × ℕ)) (ts rest : List Tok) → Heads behind_templates rest → Repeat (Entry template_line) a b ts rest → Heads behind_labels ts
 at_templates a b ts rest heads x = heads_repeat (Entry template_line) behind_labels a b ts rest (λ a b ts rest e. heads_word (codes "template") behind_templates ts e.spelled.between e.spelled.one) (heads_more (codes "template") behind_templates rest heads) x

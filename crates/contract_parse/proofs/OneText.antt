@@ -160,7 +160,7 @@ line_case {S' = S'} Stop ts a b stop stop' first x y next =
     next f.0 x.between x.two (subst (λ k. S' k b) (sym f.1) y.two)
 
 module _ (d d' : Declarations) (m n : List Tok) (heads_m : Heads behind_templates m) (heads_n : Heads behind_templates n) where
-  one_decls : (ts : List Tok) → decls d ts m → decls d' ts n → (d ≡ d') × (m ≡ n)
+  pub one_decls : (ts : List Tok) → decls d ts m → decls d' ts n → (d ≡ d') × (m ≡ n)
   one_decls ts x y =
       test_case _ _ ts m n x y (λ k x y. value_case (integer_at 12) d.amounts d'.amounts k m n x y (λ amounts k x y. test_case _ _ k m n x y (λ k x y.
       line_case (Heads behind_origin) k m n (start_line_heads d m heads_m) (start_line_heads d' n heads_n) (one_origin d.origin d'.origin k) x y (λ origin k x y.

@@ -36,7 +36,7 @@ found kind None x e = absurd cc
 found kind (Some y) x e = cc
 
 -- a declared name has its place among the names
-use_within : (names : List Bytes) (t : Tok) (k : ℕ) → use_at names t ≡ Ok k → k < length names
+pub use_within : (names : List Bytes) (t : Tok) (k : ℕ) → use_at names t ≡ Ok k → k < length names
 use_within names t k e = elim (cases_Bool (is_name t)) [
   | inl is ↦
       let h : or_fault Unknown (place_in names t.text) ≡ Ok k = rw is at e in
@@ -61,7 +61,7 @@ back_within (inner ∷ outer) name k e = elim (cases_Bool (bytes_eq inner name))
       outward (back_to outer name) (length outer) k (λ back is. back_within outer name back is) h
 ]
 
-variable_within : (names : List Bytes) (t : Tok) (k : ℕ) → variable_at names t ≡ Ok k → k < length names
+pub variable_within : (names : List Bytes) (t : Tok) (k : ℕ) → variable_at names t ≡ Ok k → k < length names
 variable_within names t k e = elim (cases_Bool (is_name t)) [
   | inl is ↦
       let h : or_fault Unknown (back_to names t.text) ≡ Ok k = rw is at e in
@@ -69,7 +69,7 @@ variable_within names t k e = elim (cases_Bool (is_name t)) [
   | inr other ↦ let h = rw other at e in absurd cc
 ]
 
-by_value : {X : Type 0} (judge : Tok → Result X TextKind) (x : X) (P : Type 0) (ts rest : List Tok) → ((t : Tok) → judge t ≡ Ok x → P) → valued judge x ts rest → P
+pub by_value : {X : Type 0} (judge : Tok → Result X TextKind) (x : X) (P : Type 0) (ts rest : List Tok) → ((t : Tok) → judge t ≡ Ok x → P) → valued judge x ts rest → P
 by_value judge x P ts rest go (t, is, e) = go t e
 
 -- ---- numbers

@@ -120,13 +120,13 @@ start_least day = record { least = λ ts rest x. by_line ts rest x }
     by_line ts rest (inr x) = omega (arith, (word_least (codes "start") 0 (omega arith) ▹ value_least (integer_at 1_000_000) day ▹ semicolon_least).least ts rest x)
 
 -- the bytes of declarations
-record NamesWeigh (d : Declarations) (ts rest : List Tok) : Type 0 where
-  parties : length d.parties + weight rest ≤ weight ts
-  assets : length d.assets + weight rest ≤ weight ts
-  labels : length d.labels + weight rest ≤ weight ts
-  templates : length d.templates + weight rest ≤ weight ts
+pub record NamesWeigh (d : Declarations) (ts rest : List Tok) : Type 0 where
+  pub parties : length d.parties + weight rest ≤ weight ts
+  pub assets : length d.assets + weight rest ≤ weight ts
+  pub labels : length d.labels + weight rest ≤ weight ts
+  pub templates : length d.templates + weight rest ≤ weight ts
 
-decls_weigh : (d : Declarations) (ts rest : List Tok) → decls d ts rest → NamesWeigh d ts rest
+pub decls_weigh : (d : Declarations) (ts rest : List Tok) → decls d ts rest → NamesWeigh d ts rest
 decls_weigh d ts rest x =
     let o = x.two.two.two in
     let first = (word_least (codes "amounts") 0 (omega arith)).least ts x.between x.one in

@@ -41,9 +41,9 @@ abbrev pub DateIsTaken : Type 0
 DateIsTaken =
     (s : Scope) (days : ℤ) (written : List ℕ) (ps : List Place) (ts rest : List Tok) → LacksMark (codes "+") rest → dated_part s.templates days written ts rest → run s (date_places ps) ts ≡ run s ps rest
 
--- what stands behind declarations: a contract or the end
+-- what stands behind declarations: a contract, payoff code or the end
 abbrev pub IsBehindDeclarations : List Tok → Type 0
-IsBehindDeclarations ts = (t : Tok) × (more : List Tok) × (ts ≡ t ∷ more) × ((is_the_word (codes "contract") t || is_end t) ≡ true)
+IsBehindDeclarations ts = (t : Tok) × (more : List Tok) × (ts ≡ t ∷ more) × ((is_the_word (codes "contract") t || (is_the_word (codes "code") t || is_end t)) ≡ true)
 
 abbrev pub DeclarationsAreTaken : Type 0
 DeclarationsAreTaken =
