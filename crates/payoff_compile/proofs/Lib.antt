@@ -1,4 +1,3 @@
-pub mod PlaceFacts
 pub mod LimitFacts
 pub mod SizeFacts
 pub mod TotalFacts

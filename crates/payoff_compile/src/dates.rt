@@ -1,35 +1,13 @@
 //! Dates of code: later ones, and those of day counts.
 
-ghost use Rattle.std.specs.Prelude.{◌≡◌, ◌≤◌, ◌+ℤ◌, IfOk, length, insert, unsigned_abs};
+ghost use Rattle.std.specs.Prelude.{◌≡◌, ◌≤◌, ◌+ℤ◌, IfOk, unsigned_abs};
 ghost use Rattle.term_core.specs.Flows.{count_of};
-ghost use Rattle.payoff_lang.specs.TemplateDates.{date, plus, plus_days, date_of_days, insert_name};
+ghost use Rattle.payoff_lang.specs.TemplateDates.{date, plus, plus_days, date_of_days};
 
 use decimal::NoMemory;
-use payoff_lang::DateExpr;
+use payoff_lang::{DateExpr, with_name};
 use std::alloc::Global;
 use term_core::Days;
-
-// The place of a template among others in rising order.
-fn place_of(names: &[u32], name: u32) -> usize
-    ensures within { result ≤ length names.now }
-    ensures place { insert names.now result name ≡ insert_name name names.now }
-{
-    for i in 0..names.len() {
-        if name <= names[i] {
-            return i;
-        }
-    }
-    names.len()
-}
-
-// The templates with one more.
-fn with_name(alloc: Global, names: &[u32], name: u32) -> Result<Vec<u32>, NoMemory>
-    ensures { IfOk result (λ v. v.items ≡ insert_name name names.now) }
-{
-    let mut more = Vec::from_slice(alloc, names)?;
-    more.insert(place_of(names, name), name)?;
-    Ok(more)
-}
 
 /// An equal date.
 pub fn copied(alloc: Global, on: &DateExpr) -> Result<DateExpr, NoMemory>

@@ -11,8 +11,8 @@ use Rattle.contract_parse.specs.declared.token.Kind.TheVariants.{Mark, Number}
 use Rattle.contract_parse.specs.Tokens.{extent_at}
 use Rattle.contract_parse.specs.Words.{Bytes}
 use Rattle.contract_parse.specs.Names.{Scope}
-use Rattle.contract_parse.specs.Judgements.{literal_at, signed_result, use_at, variable_at}
-use Rattle.contract_parse.specs.Spelling.{Part, Signed, ◌⨟◌, mark, valued, word}
+use Rattle.contract_parse.specs.Judgements.{date_number_at, literal_at, signed_result, use_at, variable_at}
+use Rattle.contract_parse.specs.Spelling.{Part, Signed, ◌⨟◌, mark, templates_part, valued, word}
 use Rattle.contract_parse.proofs.Parts.{followed_by}
 use Rattle.contract_print.specs.TermTexts.{bound_name, name_at}
 use Rattle.contract_print.specs.Spellable.{AreSpellable}
@@ -27,7 +27,7 @@ use Rattle.payoff_lang.specs.Dating.{plain}
 use Rattle.payoff_lang.specs.CodeSizes.{height_of_code}
 use Rattle.payoff_lang.specs.Code.{ValueExpression, Lit, Yes, Var, Model, Neg, Num, Cmp, Not, Logic, Cond, Widen, Round, Div, Acc, PayoffCode, Nothing, PayOn, Add, ScaleBy, LetBe, Loop, Cut}
 use Rattle.payoff_lang.specs.CodeTexts.{code_scope, code_text, date_text, names_text, test_text, value_text}
-use Rattle.payoff_lang.specs.CodeSpelling.{DatePart, code_part, date_number_at, templates_part, value_part}
+use Rattle.payoff_lang.specs.CodeSpelling.{DatePart, code_part, value_part}
 use Rattle.payoff_lang.specs.PrintableCode.{HasNumberOfTexts, ValueHasNumbersOfTexts, CodeHasNumbersOfTexts}
 use Rattle.payoff_lang.specs.WellFormedCode.{AreTemplates, IsWellFormedDate, IsWellFormedValue, IsWellFormedCode}
 

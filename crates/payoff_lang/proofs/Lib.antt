@@ -8,11 +8,25 @@ pub mod ReadFacts
 pub mod MeaningFacts
 pub mod CodeAlikeFacts
 pub mod DateFreeFacts
+pub mod RisingFacts
 pub mod WellFormedFacts
 pub mod NumberedFacts
 pub mod CodeCanonFacts
 pub mod CodeSpelled
 pub mod CodeFileSpelled
+pub mod PlaceFacts
+pub mod OrderFacts
+pub mod TokensStand
+pub mod DateReading
+pub mod Standing
+pub mod DatedSpelled
+pub mod Placed
+pub mod CodeStanding
+pub mod CodeTaken
+pub mod CodeFaults
+pub mod CodeClosed
+pub mod CodeWeights
+pub mod OneCode
 mod RowsSample
 mod RowsCode
 mod RowsTexts

@@ -1,31 +1,21 @@
 -- The grammar of payoff code: which tokens spell which code. A part relates the tokens where it begins to those after it;
 -- declared names are those of a scope, and bound names are listed innermost first.
-use Rattle.std.specs.Prelude.{◌≡◌, ℕ, ℤ, Bool, true, false, List, [], ◌∷◌, Result, codes}
+use Rattle.std.specs.Prelude.{◌≡◌, ℕ, true, false, List, [], ◌∷◌, codes}
 use Rattle.term_core.specs.declared.terms.NumOp.TheVariants.{Min, Max}
 use Rattle.contract_parse.specs.Tokens.{Tok}
 use Rattle.contract_parse.specs.Words.{Bytes}
 use Rattle.contract_parse.specs.Names.{Scope}
-use Rattle.contract_parse.specs.Judgements.{binder_at, integer_at, literal_at, mode_at, operator_at, signed_result, use_at, variable_at}
-use Rattle.contract_parse.specs.Spelling.{Part, Signed, SomeName, ◌⨟◌, infixed, mark, nothing, pair, valued, word}
-use Rattle.contract_parse.specs.declared.faults.TextKind.{TextKind}
+use Rattle.contract_parse.specs.Judgements.{binder_at, integer_at, literal_at, mode_at, operator_at, use_at, variable_at}
+use Rattle.contract_parse.specs.Spelling.{Part, Signed, SomeName, ◌⨟◌, dated_part, infixed, mark, pair, valued, word}
 use Rattle.contract_parse.specs.declared.heads.Operator.TheVariants.{Arithmetic, Comparison, Logic as Connective}
 use Rattle.payoff_lang.specs.TemplateDates.{Date, insert_names}
 use Rattle.payoff_lang.specs.Code.{ValueExpression, Lit, Yes, Var, Model, Neg, Num, Cmp, Not, Logic, Cond, Widen, Round, Div, Acc, PayoffCode, Nothing, PayOn, Add, ScaleBy, LetBe, Loop, Cut}
-
--- the number of a date, behind its sign
-abbrev pub date_number_at : Bool → Tok → Result ℤ TextKind
-date_number_at negative t = signed_result negative (integer_at 2_000_000 t)
-
--- `+ NAME` for each template
-abbrev pub templates_part : List Bytes → List ℕ → Part
-templates_part names [] = nothing
-templates_part names (t ∷ ts) = mark (codes "+") ⨟ valued (use_at names) t ⨟ templates_part names ts
 
 -- a date: its number, and its templates in any order
 pub record DatePart (s : Scope) (x : Date) (ts rest : List Tok) : Type 0 where
   pub written : List ℕ
   pub is : x.names ≡ insert_names written []
-  pub spelled : (Signed (λ negative. valued (date_number_at negative) x.days) ⨟ templates_part s.templates written) ts rest
+  pub spelled : dated_part s.templates x.days written ts rest
 
 -- a value expression
 abbrev pub value_part : Scope → List Bytes → ValueExpression → Part

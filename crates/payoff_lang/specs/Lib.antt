@@ -20,4 +20,7 @@ pub mod WritableCode
 pub mod Numbered
 pub mod CodeSpelling
 pub mod CodeFiles
+pub mod CodeReading
+pub mod CodeAnswers
 pub mod LawsTexts
+pub mod LawsReading

@@ -1,6 +1,7 @@
 //! Laws of payoff code. Each is the contract of a function that does nothing; a caller takes the law by calling it.
 
 ghost use Rattle.payoff_lang.specs.LawsCode.{CompiledCodeMeans, CutCodeMeans, CodeIsWellFormed, CodeValuesAreFixed};
+ghost use Rattle.payoff_lang.specs.LawsReading.{CodeFitsText, CodeOfTextIsClosed, CodeTextHasNoFault, CodeTextIsTaken, NamesOfCodeFitText, OneCodeReading};
 ghost use Rattle.payoff_lang.specs.LawsTexts.{CodeCanonExists, CodeCanonIsText, CodeIsSpelled, OneCanonOfCode, PrintableIsWritable, ValuesAreWrittenAsExpressions};
 
 /// The code of a contract means it: at every setting at which the contract is accepted, in every admitted environment, on
@@ -52,4 +53,34 @@ pub fn code_is_spelled()
 /// The canonical text of a code file within the limits of texts is a text of it.
 pub fn code_canon_is_text()
     ensures { CodeCanonIsText }
+{}
+
+/// A text of a code file is taken from its first token to its end.
+pub fn code_text_is_taken()
+    ensures { CodeTextIsTaken }
+{}
+
+/// A text of a code file has no fault.
+pub fn code_text_has_no_fault()
+    ensures { CodeTextHasNoFault }
+{}
+
+/// One text stands for at most one code file.
+pub fn one_code_reading()
+    ensures { OneCodeReading }
+{}
+
+/// The code of a text names only what is declared or bound round it, and at most 400 terms are open at one place.
+pub fn code_of_text_is_closed()
+    ensures { CodeOfTextIsClosed }
+{}
+
+/// The code of a text has fewer nodes than the text has bytes.
+pub fn code_fits_text()
+    ensures { CodeFitsText }
+{}
+
+/// Each set of names that the text of a code file declares has at most as many names as the text has bytes.
+pub fn names_of_code_fit_text()
+    ensures { NamesOfCodeFitText }
 {}

@@ -1,0 +1,24 @@
+use Rattle.std.proofs.Common.{[], ap, arith, sym, subst}
+use Rattle.indexmap.specs.IndexMap.{keys}
+use Rattle.term_core.specs.Sizes.{height}
+use Rattle.term_core.specs.Terms.{expression}
+use Rattle.contract_parse.specs.Tokens.{tokens}
+use Rattle.contract_parse.specs.Names.{names_in}
+use Rattle.contract_parse.specs.Reading.{scope_in}
+use Rattle.payoff_lang.specs.Code.{ValueExpression}
+use Rattle.payoff_lang.specs.Dating.{plain}
+use Rattle.payoff_lang.specs.CodeReading.{date_at}
+use Rattle.payoff_lang.specs.CodeSpelling.{value_part}
+use Rattle.payoff_lang.proofs.DatedSpelled.{dated_spelled, height_dated}
+use Rattle.payoff_lang.proofs.reading.read_value.Goals as goal
+
+pub returns-clause-spelled : goal.returns-clause-spelled
+returns-clause-spelled c =
+    let s = scope_in c.args.decls.now [] in
+    subst (λ (v : ValueExpression). value_part s (names_in c.args.bound.now) v (tokens c.args.rest.now) (tokens c.in_ok-e.after.now)) (sym c.in_ok-v.ensures)
+    (dated_spelled c.args.rest.now s (names_in c.args.bound.now) (expression c.in_ok-e.e) (tokens c.in_ok-e.after.now) c.in_ok-e.ensures.spelled)
+
+pub returns-clause-high : goal.returns-clause-high
+returns-clause-high c =
+    let same = height_dated (date_at (keys c.args.decls.now.templates) c.args.rest.now) (expression c.in_ok-e.e) in
+    omega (arith, c.in_ok-e.ensures.high, same, ap (λ (v : ValueExpression). height (plain v)) c.in_ok-v.ensures)

@@ -1,0 +1,82 @@
+-- What the readers of payoff code make of a text. An expression that is read as one of code has for the offset of each
+-- observable the place of its date, as how many bytes of the text are left there; here the dates are put in.
+use Rattle.std.specs.Prelude.{◌≡◌, ◌-◌, ℕ, ℤ, pos, negsuc, false, true, List, [], ◌∷◌, ◌++◌, Option, Some, None, codes, drop, length, if◌then◌else◌}
+use Rattle.decimal.specs.DecimalText.{signed}
+use Rattle.term_core.specs.Terms.{Expression, Lit as Lit', Yes as Yes', Var as Var', Obs as Obs', Neg as Neg', Num as Num', Cmp as Cmp', Not as Not', Logic as Logic', Cond as Cond', Widen as Widen', Round as Round', Div as Div', Acc as Acc'}
+use Rattle.contract_parse.specs.Tokens.{Tok, tokens}
+use Rattle.contract_parse.specs.Words.{Bytes, is_the_mark}
+use Rattle.contract_parse.specs.Names.{place_in}
+use Rattle.contract_parse.specs.Judgements.{whole}
+use Rattle.contract_parse.specs.Spelling.{templates_part}
+use Rattle.payoff_lang.specs.TemplateDates.{Date, insert_names}
+use Rattle.payoff_lang.specs.Code.{ValueExpression, Lit, Yes, Var, Model, Neg, Num, Cmp, Not, Logic, Cond, Widen, Round, Div, Acc}
+
+-- some templates are written, and these stand behind those that were there
+pub record AddsTemplates (templates : List Bytes) (before after : List ℕ) (ts rest : List Tok) : Type 0 where
+  pub written : List ℕ
+  pub is : after ≡ before ++ written
+  pub spelled : templates_part templates written ts rest
+
+-- some templates are written, and these are they in rising order
+pub record RisingTemplates (templates : List Bytes) (names : List ℕ) (ts rest : List Tok) : Type 0 where
+  pub written : List ℕ
+  pub is : names ≡ insert_names written []
+  pub spelled : templates_part templates written ts rest
+
+-- the number of the first token
+abbrev pub number_first : List Tok → ℕ
+number_first [] = 0
+number_first (t ∷ ts) = whole t
+
+-- the number that a date begins with, behind its sign where it has one
+abbrev pub days_first : List Tok → ℤ
+days_first [] = pos 0
+days_first (t ∷ ts) = if is_the_mark (codes "-") t then signed true (number_first ts) else signed false (whole t)
+
+abbrev pub behind_one : List Tok → List Tok
+behind_one [] = []
+behind_one (t ∷ ts) = ts
+
+abbrev pub behind_days : List Tok → List Tok
+behind_days [] = []
+behind_days (t ∷ ts) = if is_the_mark (codes "-") t then behind_one ts else ts
+
+abbrev pub or_first : Option ℕ → ℕ
+or_first (Some i) = i
+or_first None = 0
+
+-- the templates that follow, as long as each has a `+` before it
+abbrev pub templates_first : List Bytes → List Tok → List ℕ
+templates_first templates (plus ∷ t ∷ ts) =
+    if is_the_mark (codes "+") plus then or_first (place_in templates t.text) ∷ templates_first templates ts else []
+templates_first templates _ = []
+
+-- the date that tokens begin with
+abbrev pub date_first : List Bytes → List Tok → Date
+date_first templates ts = record { days = days_first ts; names = insert_names (templates_first templates (behind_days ts)) [] }
+
+-- the last bytes of a text, so many
+abbrev pub last_bytes : List ℕ → ℤ → List ℕ
+last_bytes text (pos n) = drop (length text - n) text
+last_bytes text (negsuc n) = []
+
+-- the date at a place of a text
+abbrev pub date_at : List Bytes → List ℕ → ℤ → Date
+date_at templates text place = date_first templates (tokens (last_bytes text place))
+
+-- the value expression of an expression, by the dates that its places have
+abbrev pub with_date : (ℤ → Date) → Expression → ValueExpression
+with_date on (Lit' m s) = Lit m s
+with_date on (Yes' b) = Yes b
+with_date on (Var' back) = Var back
+with_date on (Obs' l place) = Model l (on place)
+with_date on (Neg' e) = Neg (with_date on e)
+with_date on (Num' op a b) = Num op (with_date on a) (with_date on b)
+with_date on (Cmp' op a b) = Cmp op (with_date on a) (with_date on b)
+with_date on (Not' e) = Not (with_date on e)
+with_date on (Logic' op a b) = Logic op (with_date on a) (with_date on b)
+with_date on (Cond' t a b) = Cond (with_date on t) (with_date on a) (with_date on b)
+with_date on (Widen' s e) = Widen s (with_date on e)
+with_date on (Round' mode s e) = Round mode s (with_date on e)
+with_date on (Div' mode s a b) = Div mode s (with_date on a) (with_date on b)
+with_date on (Acc' body n first) = Acc (with_date on body) n (with_date on first)

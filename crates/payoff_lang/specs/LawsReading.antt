@@ -1,0 +1,35 @@
+-- The laws of the texts of code files: a text has no fault, and it stands for one file, whose code is closed and no larger
+-- than the text.
+use Rattle.std.specs.Prelude.{◌≡◌, ◌≤◌, ◌<◌, List, ℕ, [], length}
+use Rattle.contract_parse.specs.Tokens.{tokens}
+use Rattle.contract_parse.specs.Names.{nothing_declared}
+use Rattle.contract_parse.specs.Places.{Open, code_text_places, run}
+use Rattle.contract_parse.specs.Laws.{NamesFit}
+use Rattle.contract_parse.specs.declared.faults.TextFault.{TextFault}
+use Rattle.payoff_lang.specs.CodeBooks.{CodeBook}
+use Rattle.payoff_lang.specs.CodeFiles.{CodeText}
+use Rattle.payoff_lang.specs.CodeAnswers.{IsCodeFault}
+use Rattle.payoff_lang.specs.CodeSizes.{height_of_code, nodes_of_code}
+use Rattle.payoff_lang.specs.WellFormedCode.{IsClosedCode}
+
+abbrev pub CodeTextIsTaken : Type 0
+CodeTextIsTaken = (bytes : List ℕ) (b : CodeBook) → CodeText bytes b → run nothing_declared code_text_places (tokens bytes) ≡ Open []
+
+abbrev pub CodeTextHasNoFault : Type 0
+CodeTextHasNoFault = (bytes : List ℕ) (b : CodeBook) (f : TextFault) → CodeText bytes b → IsCodeFault bytes f → ⊥
+
+-- one text stands for at most one code file
+abbrev pub OneCodeReading : Type 0
+OneCodeReading = (bytes : List ℕ) (b b' : CodeBook) → CodeText bytes b → CodeText bytes b' → b ≡ b'
+
+-- the code names only what is declared or bound round it, its dates have their templates in order, and at most 400 terms
+-- are open at one place
+abbrev pub CodeOfTextIsClosed : Type 0
+CodeOfTextIsClosed =
+    (bytes : List ℕ) (b : CodeBook) → CodeText bytes b → IsClosedCode b.declarations b.code × (height_of_code b.code ≤ 400)
+
+abbrev pub CodeFitsText : Type 0
+CodeFitsText = (bytes : List ℕ) (b : CodeBook) → CodeText bytes b → nodes_of_code b.code < length bytes
+
+abbrev pub NamesOfCodeFitText : Type 0
+NamesOfCodeFitText = (bytes : List ℕ) (b : CodeBook) → CodeText bytes b → NamesFit bytes b.declarations

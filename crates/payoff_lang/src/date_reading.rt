@@ -1,0 +1,81 @@
+//! Dates of payoff code from texts.
+
+ghost use Rattle.std.specs.Prelude.{◌≡◌, ◌≤◌, ◌∷◌, [], List, IfOk, codes, length};
+ghost use Rattle.indexmap.specs.IndexMap.{keys};
+ghost use Rattle.contract_parse.specs.Tokens.{tokens};
+ghost use Rattle.contract_parse.specs.Words.{Bytes};
+ghost use Rattle.contract_parse.specs.Places.{Leaves, MoreTemplates, Place, date_places, run};
+ghost use Rattle.contract_parse.specs.Reading.{LacksMark, scope_in};
+ghost use Rattle.payoff_lang.specs.TemplateDates.{date};
+ghost use Rattle.payoff_lang.specs.CodeSpelling.{DatePart};
+ghost use Rattle.payoff_lang.specs.CodeReading.{AddsTemplates, RisingTemplates, date_first};
+
+use crate::code::DateExpr;
+use crate::dates::put_in_order;
+use contract_parse::{ReadErr, after_mark, read_date_number, read_use_of_map};
+use decimal::NoMemory;
+use std::alloc::Global;
+use term_core::Decls;
+
+// The templates behind a date's number, as they are written. They are put behind those that stand in the list.
+fn push_templates<'a>(
+    decls: &Decls,
+    names: &mut Vec<u32>,
+    rest: &'a [u8],
+) -> Result<&'a [u8], ReadErr>
+    ensures follows { (cs : List Bytes) (ps : List Place) → Leaves (λ r. run (scope_in decls.now cs) ps (tokens r.now)) result (run (scope_in decls.now cs) (MoreTemplates ∷ ps) (tokens rest.now)) }
+    ensures spelled { IfOk result (λ r. AddsTemplates (keys decls.now.templates) names.old.items names.new.items (tokens rest.now) (tokens r.now)) }
+    ensures ends { IfOk result (λ r. LacksMark (codes "+") (tokens r.now)) }
+    ensures shorter { IfOk result (λ r. length r.now ≤ length rest.now) }
+{
+    let mut rest = rest;
+    while let Some(after) = after_mark(rest, b"+") {
+        let (name, behind) = read_use_of_map(&decls.templates, after)?;
+        names.push(name)?;
+        rest = behind;
+    }
+    Ok(rest)
+}
+
+// The templates behind a date's number, in rising order.
+fn read_templates<'a>(
+    alloc: Global,
+    decls: &Decls,
+    rest: &'a [u8],
+) -> Result<(Vec<u32>, &'a [u8]), ReadErr>
+    ensures follows { (cs : List Bytes) (ps : List Place) → Leaves (λ r. run (scope_in decls.now cs) ps (tokens r.1.now)) result (run (scope_in decls.now cs) (MoreTemplates ∷ ps) (tokens rest.now)) }
+    ensures spelled { IfOk result (λ r. RisingTemplates (keys decls.now.templates) r.0.items (tokens rest.now) (tokens r.1.now)) }
+    ensures ends { IfOk result (λ r. LacksMark (codes "+") (tokens r.1.now)) }
+    ensures shorter { IfOk result (λ r. length r.1.now ≤ length rest.now) }
+{
+    let mut names = Vec::new(alloc);
+    let rest = push_templates(decls, &mut names, rest)?;
+    put_in_order(&mut names);
+    Ok((names, rest))
+}
+
+/// A date, and the text behind it, where no further template stands.
+pub fn read_date<'a>(
+    alloc: Global,
+    decls: &Decls,
+    rest: &'a [u8],
+) -> Result<(DateExpr, &'a [u8]), ReadErr>
+    ensures follows { (cs : List Bytes) (ps : List Place) → Leaves (λ r. run (scope_in decls.now cs) ps (tokens r.1.now)) result (run (scope_in decls.now cs) (date_places ps) (tokens rest.now)) }
+    ensures spelled { IfOk result (λ r. DatePart (scope_in decls.now []) (date r.0) (tokens rest.now) (tokens r.1.now)) }
+    ensures ends { IfOk result (λ r. LacksMark (codes "+") (tokens r.1.now)) }
+    ensures shorter { IfOk result (λ r. length r.1.now ≤ length rest.now) }
+{
+    let (days, rest) = read_date_number(rest)?;
+    let (names, rest) = read_templates(alloc, decls, rest)?;
+    Ok((DateExpr { days, names }, rest))
+}
+
+/// The date with which a text begins. It is read where one stands, so that no other fault comes than want of memory.
+pub fn written_date(alloc: Global, decls: &Decls, text: &[u8]) -> Result<DateExpr, NoMemory>
+    ensures { IfOk result (λ x. date x ≡ date_first (keys decls.now.templates) (tokens text.now)) }
+{
+    match read_date(alloc, decls, text) {
+        Ok((on, _)) => Ok(on),
+        Err(_) => Err(NoMemory),
+    }
+}

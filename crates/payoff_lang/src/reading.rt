@@ -1,0 +1,421 @@
+//! Amounts of payoff code from texts.
+ghost use Rattle.std.specs.Prelude.{◌≡◌, ◌≤◌, ◌<◌, ◌+◌, ◌^◌, ◌∷◌, [], ℕ, List, IfOk, codes, length, max};
+ghost use Rattle.indexmap.specs.IndexMap.{keys};
+ghost use Rattle.indexmap.specs.IndexSet.{index_set_len};
+ghost use Rattle.contract_parse.specs.Tokens.{Tok, tokens};
+ghost use Rattle.contract_parse.specs.Words.{Bytes};
+ghost use Rattle.contract_parse.specs.Names.{Scope, names_in};
+ghost use Rattle.contract_parse.specs.Judgements.{use_at};
+ghost use Rattle.contract_parse.specs.Spelling.{mark, valued, word, ◌⨟◌};
+ghost use Rattle.contract_parse.specs.Places.{AmountAt, ExprAt, Leaves, Place, TheMark, TheWord, UseOf, amount_places, date_places, run};
+ghost use Rattle.contract_parse.specs.Reading.{scope_in};
+ghost use Rattle.contract_parse.specs.declared.heads.Language.{Language};
+ghost use Rattle.contract_parse.specs.declared.heads.AmountHead.{AmountHead};
+ghost use Rattle.payoff_lang.specs.TemplateDates.{date};
+ghost use Rattle.payoff_lang.specs.Code.{payoff_code, value_expression};
+ghost use Rattle.payoff_lang.specs.Dating.{plain};
+ghost use Rattle.payoff_lang.specs.CodeSizes.{height_of_code};
+ghost use Rattle.payoff_lang.specs.CodeSpelling.{DatePart, code_part, value_part};
+ghost use Rattle.term_core.specs.Sizes.{height};
+
+use crate::code::{Code, DateExpr, Vx};
+use crate::date_reading::read_date;
+use crate::dating::dated;
+use contract_parse::{
+    AmountHead, Bound, Language, ReadErr, amount_head_at, next, read_binder, read_expr,
+    read_use_of_set, refuse, skip_mark, skip_word,
+};
+use indexmap::IndexSet;
+use std::alloc::Global;
+use term_core::{Decls, Name};
+
+// A declared name of a set behind a mark.
+#[tactic(auto, using(contract_parse::proofs::Parts::followed_by))]
+fn read_use_behind<'a>(
+    wanted: &[u8],
+    names: &IndexSet<Name>,
+    rest: &'a [u8],
+) -> Result<(u32, &'a [u8]), ReadErr>
+    requires { index_set_len names.now < 2 ^ 32 }
+    ensures follows { (s : Scope) (ps : List Place) → Leaves (λ r. run s ps (tokens r.1.now)) result (run s (TheMark wanted.now ∷ UseOf names.now.keys ∷ ps) (tokens rest.now)) }
+    ensures spelled { IfOk result (λ r. (mark wanted.now ⨟ valued (use_at names.now.keys) r.0) (tokens rest.now) (tokens r.1.now)) }
+    ensures shorter { IfOk result (λ r. length r.1.now ≤ length rest.now) }
+{
+    let rest = skip_mark(rest, wanted)?;
+    read_use_of_set(names, rest)
+}
+
+// What is paid, by whom and to whom, behind the date.
+#[tactic(auto, using(contract_parse::proofs::Parts::followed_by))]
+fn read_transfer<'a>(decls: &Decls, rest: &'a [u8]) -> Result<(u32, u32, u32, &'a [u8]), ReadErr>
+    ensures follows { (cs : List Bytes) (ps : List Place) → Leaves (λ r. run (scope_in decls.now cs) ps (tokens r.3.now)) result (run (scope_in decls.now cs) (TheMark (codes ",") ∷ UseOf (scope_in decls.now cs).assets ∷ TheMark (codes ",") ∷ UseOf (scope_in decls.now cs).parties ∷ TheMark (codes ",") ∷ UseOf (scope_in decls.now cs).parties ∷ TheMark (codes ")") ∷ ps) (tokens rest.now)) }
+    ensures spelled { IfOk result (λ r. (mark (codes ",") ⨟ valued (use_at (scope_in decls.now []).assets) r.0 ⨟ mark (codes ",") ⨟ valued (use_at (scope_in decls.now []).parties) r.1 ⨟ mark (codes ",") ⨟ valued (use_at (scope_in decls.now []).parties) r.2 ⨟ mark (codes ")")) (tokens rest.now) (tokens r.3.now)) }
+    ensures shorter { IfOk result (λ r. length r.3.now ≤ length rest.now) }
+{
+    let (asset, rest) = read_use_behind(b",", &decls.assets, rest)?;
+    let (from, rest) = read_use_behind(b",", &decls.parties, rest)?;
+    let (to, rest) = read_use_behind(b",", &decls.parties, rest)?;
+    let rest = skip_mark(rest, b")")?;
+    Ok((asset, from, to, rest))
+}
+
+// A date behind a mark.
+#[tactic(auto, using(contract_parse::proofs::Parts::followed_by))]
+fn read_date_behind_mark<'a>(
+    alloc: Global,
+    decls: &Decls,
+    wanted: &[u8],
+    rest: &'a [u8],
+) -> Result<(DateExpr, &'a [u8]), ReadErr>
+    ensures follows { (cs : List Bytes) (ps : List Place) → Leaves (λ r. run (scope_in decls.now cs) ps (tokens r.1.now)) result (run (scope_in decls.now cs) (TheMark wanted.now ∷ date_places ps) (tokens rest.now)) }
+    ensures spelled { IfOk result (λ r. (mark wanted.now ⨟ DatePart (scope_in decls.now []) (date r.0)) (tokens rest.now) (tokens r.1.now)) }
+    ensures shorter { IfOk result (λ r. length r.1.now ≤ length rest.now) }
+{
+    let rest = skip_mark(rest, wanted)?;
+    read_date(alloc, decls, rest)
+}
+
+// A date behind a word.
+#[tactic(auto, using(contract_parse::proofs::Parts::followed_by))]
+fn read_date_behind_word<'a>(
+    alloc: Global,
+    decls: &Decls,
+    wanted: &[u8],
+    rest: &'a [u8],
+) -> Result<(DateExpr, &'a [u8]), ReadErr>
+    ensures follows { (cs : List Bytes) (ps : List Place) → Leaves (λ r. run (scope_in decls.now cs) ps (tokens r.1.now)) result (run (scope_in decls.now cs) (TheWord wanted.now ∷ date_places ps) (tokens rest.now)) }
+    ensures spelled { IfOk result (λ r. (word wanted.now ⨟ DatePart (scope_in decls.now []) (date r.0)) (tokens rest.now) (tokens r.1.now)) }
+    ensures shorter { IfOk result (λ r. length r.1.now ≤ length rest.now) }
+{
+    let rest = skip_word(rest, wanted)?;
+    read_date(alloc, decls, rest)
+}
+
+// What stands behind `pay`.
+#[tactic(auto, using(contract_parse::proofs::Parts::followed_by))]
+fn read_pay<'a>(alloc: Global, decls: &Decls, rest: &'a [u8]) -> Result<(Code, &'a [u8]), ReadErr>
+    ensures follows { (cs : List Bytes) (depth : ℕ) (names : List Bytes) (ps : List Place) → Leaves (λ r. run (scope_in decls.now cs) ps (tokens r.1.now)) result (run (scope_in decls.now cs) (amount_places (scope_in decls.now cs) depth names AmountHead.Pay ps) (tokens rest.now)) }
+    ensures spelled { IfOk result (λ r. (names : List Bytes) (ts : List Tok) → word (codes "pay") ts (tokens rest.now) → code_part (scope_in decls.now []) names (payoff_code r.0) ts (tokens r.1.now)) }
+    ensures high { IfOk result (λ r. height_of_code (payoff_code r.0) ≡ 1) }
+    ensures shorter { IfOk result (λ r. length r.1.now ≤ length rest.now) }
+{
+    let (date, rest) = read_date_behind_mark(alloc, decls, b"(", rest)?;
+    let (asset, from, to, rest) = read_transfer(decls, rest)?;
+    Ok((
+        Code::Pay {
+            date,
+            asset,
+            from,
+            to,
+        },
+        rest,
+    ))
+}
+
+// A value expression of a depth under bound names.
+fn read_value<'a>(
+    alloc: Global,
+    decls: &Decls,
+    bound: &Bound<'_>,
+    depth: u32,
+    rest: &'a [u8],
+) -> Result<(Vx, &'a [u8]), ReadErr>
+    requires shallow { depth ≤ 401 }
+    requires bound { length (names_in bound.now) < depth }
+    ensures follows { (cs : List Bytes) (ps : List Place) → Leaves (λ r. run (scope_in decls.now cs) ps (tokens r.1.now)) result (run (scope_in decls.now cs) (ExprAt Language.Code depth (names_in bound.now) ∷ ps) (tokens rest.now)) }
+    ensures spelled { IfOk result (λ r. (value_part (scope_in decls.now []) (names_in bound.now) (value_expression r.0)) (tokens rest.now) (tokens r.1.now)) }
+    ensures high { IfOk result (λ r. height (plain (value_expression r.0)) + depth ≤ 401) }
+    ensures shorter { IfOk result (λ r. length r.1.now ≤ length rest.now) }
+{
+    let (e, after) = read_expr(alloc, Language::Code, decls, bound, depth, rest)?;
+    let v = dated(alloc, decls, rest, &e)?;
+    Ok((v, after))
+}
+
+// The same behind a mark.
+#[tactic(auto, using(contract_parse::proofs::Parts::followed_by))]
+fn read_value_behind<'a>(
+    alloc: Global,
+    decls: &Decls,
+    bound: &Bound<'_>,
+    depth: u32,
+    wanted: &[u8],
+    rest: &'a [u8],
+) -> Result<(Vx, &'a [u8]), ReadErr>
+    requires shallow { depth ≤ 400 }
+    requires bound { length (names_in bound.now) ≤ depth }
+    ensures follows { (cs : List Bytes) (ps : List Place) → Leaves (λ r. run (scope_in decls.now cs) ps (tokens r.1.now)) result (run (scope_in decls.now cs) (TheMark wanted.now ∷ ExprAt Language.Code (depth + 1) (names_in bound.now) ∷ ps) (tokens rest.now)) }
+    ensures spelled { IfOk result (λ r. (mark wanted.now ⨟ value_part (scope_in decls.now []) (names_in bound.now) (value_expression r.0)) (tokens rest.now) (tokens r.1.now)) }
+    ensures high { IfOk result (λ r. height (plain (value_expression r.0)) + depth ≤ 400) }
+    ensures shorter { IfOk result (λ r. length r.1.now ≤ length rest.now) }
+{
+    let rest = skip_mark(rest, wanted)?;
+    read_value(alloc, decls, bound, depth + 1, rest)
+}
+
+// The test of a loop, and the date up to which it runs.
+#[tactic(auto, using(contract_parse::proofs::Parts::followed_by))]
+fn read_test<'a>(
+    alloc: Global,
+    decls: &Decls,
+    bound: &Bound<'_>,
+    depth: u32,
+    rest: &'a [u8],
+) -> Result<(Vx, DateExpr, &'a [u8]), ReadErr>
+    requires shallow { depth ≤ 400 }
+    requires bound { length (names_in bound.now) < depth }
+    ensures follows { (cs : List Bytes) (ps : List Place) → Leaves (λ r. run (scope_in decls.now cs) ps (tokens r.2.now)) result (run (scope_in decls.now cs) (ExprAt Language.Code (depth + 1) (names_in bound.now) ∷ TheWord (codes "upto") ∷ date_places ps) (tokens rest.now)) }
+    ensures spelled { IfOk result (λ r. (value_part (scope_in decls.now []) (names_in bound.now) (value_expression r.0) ⨟ word (codes "upto") ⨟ DatePart (scope_in decls.now []) (date r.1)) (tokens rest.now) (tokens r.2.now)) }
+    ensures high { IfOk result (λ r. height (plain (value_expression r.0)) + depth ≤ 400) }
+    ensures shorter { IfOk result (λ r. length r.2.now ≤ length rest.now) }
+{
+    let (test, rest) = read_value(alloc, decls, bound, depth + 1, rest)?;
+    let (upto, rest) = read_date_behind_word(alloc, decls, b"upto", rest)?;
+    Ok((test, upto, rest))
+}
+
+// An amount one deeper, in a box.
+#[cycle(amount)]
+fn read_boxed<'a>(
+    alloc: Global,
+    decls: &Decls,
+    bound: &Bound<'_>,
+    depth: u32,
+    rest: &'a [u8],
+) -> Result<(Box<Code>, &'a [u8]), ReadErr>
+    requires shallow { depth ≤ 400 }
+    requires bound { length (names_in bound.now) ≤ depth }
+    ensures follows { (cs : List Bytes) (ps : List Place) → Leaves (λ r. run (scope_in decls.now cs) ps (tokens r.1.now)) result (run (scope_in decls.now cs) (AmountAt (depth + 1) (names_in bound.now) ∷ ps) (tokens rest.now)) }
+    ensures spelled { IfOk result (λ r. (code_part (scope_in decls.now []) (names_in bound.now) (payoff_code r.0.value)) (tokens rest.now) (tokens r.1.now)) }
+    ensures high { IfOk result (λ r. height_of_code (payoff_code r.0.value) + depth ≤ 400) }
+    ensures shorter { IfOk result (λ r. length r.1.now ≤ length rest.now) }
+{
+    let (of, rest) = read_amount(alloc, decls, bound, depth + 1, rest)?;
+    let of = Box::new(alloc, of)?;
+    Ok((of, rest))
+}
+
+// The same behind a mark.
+#[cycle(amount)]
+#[tactic(auto, using(contract_parse::proofs::Parts::followed_by))]
+fn read_behind_mark<'a>(
+    alloc: Global,
+    decls: &Decls,
+    bound: &Bound<'_>,
+    depth: u32,
+    wanted: &[u8],
+    rest: &'a [u8],
+) -> Result<(Box<Code>, &'a [u8]), ReadErr>
+    requires shallow { depth ≤ 400 }
+    requires bound { length (names_in bound.now) ≤ depth }
+    ensures follows { (cs : List Bytes) (ps : List Place) → Leaves (λ r. run (scope_in decls.now cs) ps (tokens r.1.now)) result (run (scope_in decls.now cs) (TheMark wanted.now ∷ AmountAt (depth + 1) (names_in bound.now) ∷ ps) (tokens rest.now)) }
+    ensures spelled { IfOk result (λ r. (mark wanted.now ⨟ code_part (scope_in decls.now []) (names_in bound.now) (payoff_code r.0.value)) (tokens rest.now) (tokens r.1.now)) }
+    ensures high { IfOk result (λ r. height_of_code (payoff_code r.0.value) + depth ≤ 400) }
+    ensures shorter { IfOk result (λ r. length r.1.now ≤ length rest.now) }
+{
+    let rest = skip_mark(rest, wanted)?;
+    read_boxed(alloc, decls, bound, depth, rest)
+}
+
+// The same behind a word.
+#[cycle(amount)]
+#[tactic(auto, using(contract_parse::proofs::Parts::followed_by))]
+fn read_behind_word<'a>(
+    alloc: Global,
+    decls: &Decls,
+    bound: &Bound<'_>,
+    depth: u32,
+    wanted: &[u8],
+    rest: &'a [u8],
+) -> Result<(Box<Code>, &'a [u8]), ReadErr>
+    requires shallow { depth ≤ 400 }
+    requires bound { length (names_in bound.now) ≤ depth }
+    ensures follows { (cs : List Bytes) (ps : List Place) → Leaves (λ r. run (scope_in decls.now cs) ps (tokens r.1.now)) result (run (scope_in decls.now cs) (TheWord wanted.now ∷ AmountAt (depth + 1) (names_in bound.now) ∷ ps) (tokens rest.now)) }
+    ensures spelled { IfOk result (λ r. (word wanted.now ⨟ code_part (scope_in decls.now []) (names_in bound.now) (payoff_code r.0.value)) (tokens rest.now) (tokens r.1.now)) }
+    ensures high { IfOk result (λ r. height_of_code (payoff_code r.0.value) + depth ≤ 400) }
+    ensures shorter { IfOk result (λ r. length r.1.now ≤ length rest.now) }
+{
+    let rest = skip_word(rest, wanted)?;
+    read_boxed(alloc, decls, bound, depth, rest)
+}
+
+// The amounts behind `then` and `else`.
+#[cycle(amount)]
+#[tactic(auto, using(contract_parse::proofs::Parts::followed_by))]
+fn read_branches<'a>(
+    alloc: Global,
+    decls: &Decls,
+    bound: &Bound<'_>,
+    depth: u32,
+    rest: &'a [u8],
+) -> Result<(Box<Code>, Box<Code>, &'a [u8]), ReadErr>
+    requires shallow { depth ≤ 400 }
+    requires bound { length (names_in bound.now) ≤ depth }
+    ensures follows { (cs : List Bytes) (ps : List Place) → Leaves (λ r. run (scope_in decls.now cs) ps (tokens r.2.now)) result (run (scope_in decls.now cs) (TheWord (codes "then") ∷ AmountAt (depth + 1) (names_in bound.now) ∷ TheWord (codes "else") ∷ AmountAt (depth + 1) (names_in bound.now) ∷ ps) (tokens rest.now)) }
+    ensures spelled { IfOk result (λ r. (word (codes "then") ⨟ code_part (scope_in decls.now []) (names_in bound.now) (payoff_code r.0.value) ⨟ word (codes "else") ⨟ code_part (scope_in decls.now []) (names_in bound.now) (payoff_code r.1.value)) (tokens rest.now) (tokens r.2.now)) }
+    ensures high { IfOk result (λ r. max (height_of_code (payoff_code r.0.value)) (height_of_code (payoff_code r.1.value)) + depth ≤ 400) }
+    ensures shorter { IfOk result (λ r. length r.2.now ≤ length rest.now) }
+{
+    let (hit, rest) = read_behind_word(alloc, decls, bound, depth, b"then", rest)?;
+    let (miss, rest) = read_behind_word(alloc, decls, bound, depth, b"else", rest)?;
+    Ok((hit, miss, rest))
+}
+
+// What stands behind `add`.
+#[cycle(amount)]
+#[tactic(auto, using(contract_parse::proofs::Parts::followed_by))]
+fn read_add<'a>(
+    alloc: Global,
+    decls: &Decls,
+    bound: &Bound<'_>,
+    depth: u32,
+    rest: &'a [u8],
+) -> Result<(Code, &'a [u8]), ReadErr>
+    requires shallow { depth ≤ 400 }
+    requires bound { length (names_in bound.now) < depth }
+    ensures follows { (cs : List Bytes) (ps : List Place) → Leaves (λ r. run (scope_in decls.now cs) ps (tokens r.1.now)) result (run (scope_in decls.now cs) (amount_places (scope_in decls.now cs) depth (names_in bound.now) AmountHead.Add ps) (tokens rest.now)) }
+    ensures spelled { IfOk result (λ r. (ts : List Tok) → word (codes "add") ts (tokens rest.now) → code_part (scope_in decls.now []) (names_in bound.now) (payoff_code r.0) ts (tokens r.1.now)) }
+    ensures high { IfOk result (λ r. height_of_code (payoff_code r.0) + depth ≤ 401) }
+    ensures shorter { IfOk result (λ r. length r.1.now ≤ length rest.now) }
+{
+    let (left, rest) = read_behind_mark(alloc, decls, bound, depth, b"(", rest)?;
+    let (right, rest) = read_behind_mark(alloc, decls, bound, depth, b",", rest)?;
+    let rest = skip_mark(rest, b")")?;
+    Ok((Code::Add { left, right }, rest))
+}
+
+// What stands behind `scale`.
+#[cycle(amount)]
+#[tactic(auto, using(contract_parse::proofs::Parts::followed_by))]
+fn read_scaled<'a>(
+    alloc: Global,
+    decls: &Decls,
+    bound: &Bound<'_>,
+    depth: u32,
+    rest: &'a [u8],
+) -> Result<(Code, &'a [u8]), ReadErr>
+    requires shallow { depth ≤ 400 }
+    requires bound { length (names_in bound.now) < depth }
+    ensures follows { (cs : List Bytes) (ps : List Place) → Leaves (λ r. run (scope_in decls.now cs) ps (tokens r.1.now)) result (run (scope_in decls.now cs) (amount_places (scope_in decls.now cs) depth (names_in bound.now) AmountHead.Scale ps) (tokens rest.now)) }
+    ensures spelled { IfOk result (λ r. (ts : List Tok) → word (codes "scale") ts (tokens rest.now) → code_part (scope_in decls.now []) (names_in bound.now) (payoff_code r.0) ts (tokens r.1.now)) }
+    ensures high { IfOk result (λ r. height_of_code (payoff_code r.0) + depth ≤ 401) }
+    ensures shorter { IfOk result (λ r. length r.1.now ≤ length rest.now) }
+{
+    let (factor, rest) = read_value_behind(alloc, decls, bound, depth, b"(", rest)?;
+    let (body, rest) = read_behind_mark(alloc, decls, bound, depth, b",", rest)?;
+    let rest = skip_mark(rest, b")")?;
+    Ok((Code::Scale { factor, body }, rest))
+}
+
+// What stands behind `let`. The name is bound in the amount and not in its own expression.
+#[cycle(amount)]
+#[tactic(auto, using(contract_parse::proofs::Parts::followed_by))]
+fn read_let<'a>(
+    alloc: Global,
+    decls: &Decls,
+    bound: &Bound<'_>,
+    depth: u32,
+    rest: &'a [u8],
+) -> Result<(Code, &'a [u8]), ReadErr>
+    requires shallow { depth ≤ 400 }
+    requires bound { length (names_in bound.now) < depth }
+    ensures follows { (cs : List Bytes) (ps : List Place) → Leaves (λ r. run (scope_in decls.now cs) ps (tokens r.1.now)) result (run (scope_in decls.now cs) (amount_places (scope_in decls.now cs) depth (names_in bound.now) AmountHead.Let ps) (tokens rest.now)) }
+    ensures spelled { IfOk result (λ r. (ts : List Tok) → word (codes "let") ts (tokens rest.now) → code_part (scope_in decls.now []) (names_in bound.now) (payoff_code r.0) ts (tokens r.1.now)) }
+    ensures high { IfOk result (λ r. height_of_code (payoff_code r.0) + depth ≤ 401) }
+    ensures shorter { IfOk result (λ r. length r.1.now ≤ length rest.now) }
+{
+    let (name, rest) = read_binder(rest)?;
+    let (value, rest) = read_value_behind(alloc, decls, bound, depth, b"=", rest)?;
+    let inner = Bound::In {
+        name,
+        outer: &*bound,
+    };
+    let (body, rest) = read_behind_word(alloc, decls, &inner, depth, b"in", rest)?;
+    Ok((Code::Let { bound: value, body }, rest))
+}
+
+// What stands behind `loop`.
+#[cycle(amount)]
+#[tactic(auto, using(contract_parse::proofs::Parts::followed_by))]
+fn read_loop<'a>(
+    alloc: Global,
+    decls: &Decls,
+    bound: &Bound<'_>,
+    depth: u32,
+    rest: &'a [u8],
+) -> Result<(Code, &'a [u8]), ReadErr>
+    requires shallow { depth ≤ 400 }
+    requires bound { length (names_in bound.now) < depth }
+    ensures follows { (cs : List Bytes) (ps : List Place) → Leaves (λ r. run (scope_in decls.now cs) ps (tokens r.1.now)) result (run (scope_in decls.now cs) (amount_places (scope_in decls.now cs) depth (names_in bound.now) AmountHead.Loop ps) (tokens rest.now)) }
+    ensures spelled { IfOk result (λ r. (ts : List Tok) → word (codes "loop") ts (tokens rest.now) → code_part (scope_in decls.now []) (names_in bound.now) (payoff_code r.0) ts (tokens r.1.now)) }
+    ensures high { IfOk result (λ r. height_of_code (payoff_code r.0) + depth ≤ 401) }
+    ensures shorter { IfOk result (λ r. length r.1.now ≤ length rest.now) }
+{
+    let (test, upto, rest) = read_test(alloc, decls, bound, depth, rest)?;
+    let (hit, miss, rest) = read_branches(alloc, decls, bound, depth, rest)?;
+    Ok((
+        Code::LoopIf {
+            test,
+            upto,
+            hit,
+            miss,
+        },
+        rest,
+    ))
+}
+
+// What stands behind `cut`.
+#[cycle(amount)]
+#[tactic(auto, using(contract_parse::proofs::Parts::followed_by))]
+fn read_cut<'a>(
+    alloc: Global,
+    decls: &Decls,
+    bound: &Bound<'_>,
+    depth: u32,
+    rest: &'a [u8],
+) -> Result<(Code, &'a [u8]), ReadErr>
+    requires shallow { depth ≤ 400 }
+    requires bound { length (names_in bound.now) < depth }
+    ensures follows { (cs : List Bytes) (ps : List Place) → Leaves (λ r. run (scope_in decls.now cs) ps (tokens r.1.now)) result (run (scope_in decls.now cs) (amount_places (scope_in decls.now cs) depth (names_in bound.now) AmountHead.Cut ps) (tokens rest.now)) }
+    ensures spelled { IfOk result (λ r. (ts : List Tok) → word (codes "cut") ts (tokens rest.now) → code_part (scope_in decls.now []) (names_in bound.now) (payoff_code r.0) ts (tokens r.1.now)) }
+    ensures high { IfOk result (λ r. height_of_code (payoff_code r.0) + depth ≤ 401) }
+    ensures shorter { IfOk result (λ r. length r.1.now ≤ length rest.now) }
+{
+    let (date, rest) = read_date_behind_mark(alloc, decls, b"(", rest)?;
+    let (body, rest) = read_behind_mark(alloc, decls, bound, depth, b",", rest)?;
+    let rest = skip_mark(rest, b")")?;
+    Ok((Code::Cut { date, body }, rest))
+}
+
+/// An amount of a depth under bound names, and the text after it.
+#[cycle(amount)]
+#[tactic(auto, using(contract_parse::proofs::Parts::followed_by))]
+pub fn read_amount<'a>(
+    alloc: Global,
+    decls: &Decls,
+    bound: &Bound<'_>,
+    depth: u32,
+    rest: &'a [u8],
+) -> Result<(Code, &'a [u8]), ReadErr>
+    requires shallow { depth ≤ 401 }
+    requires bound { length (names_in bound.now) < depth }
+    ensures follows { (cs : List Bytes) (ps : List Place) → Leaves (λ r. run (scope_in decls.now cs) ps (tokens r.1.now)) result (run (scope_in decls.now cs) (AmountAt depth (names_in bound.now) ∷ ps) (tokens rest.now)) }
+    ensures spelled { IfOk result (λ r. (code_part (scope_in decls.now []) (names_in bound.now) (payoff_code r.0)) (tokens rest.now) (tokens r.1.now)) }
+    ensures high { IfOk result (λ r. height_of_code (payoff_code r.0) + depth ≤ 401) }
+    ensures shorter { IfOk result (λ r. length r.1.now ≤ length rest.now) }
+{
+    let (token, after) = next(rest);
+    let head = match amount_head_at(depth, &token) {
+        Ok(head) => head,
+        Err(kind) => return Err(refuse(kind, &token)),
+    };
+    match head {
+        AmountHead::None => Ok((Code::None, after)),
+        AmountHead::Pay => read_pay(alloc, decls, after),
+        AmountHead::Add => read_add(alloc, decls, bound, depth, after),
+        AmountHead::Scale => read_scaled(alloc, decls, bound, depth, after),
+        AmountHead::Let => read_let(alloc, decls, bound, depth, after),
+        AmountHead::Loop => read_loop(alloc, decls, bound, depth, after),
+        AmountHead::Cut => read_cut(alloc, decls, bound, depth, after),
+    }
+}
