@@ -1,5 +1,5 @@
 -- The code of a text names only what is declared or bound round it, and at most 400 terms are open at one place.
-use Rattle.std.proofs.Common.{◌≡◌, ℕ, ℤ, suc, ◌+◌, ◌<◌, ◌≤◌, Bool, true, false, List, [], ◌∷◌, length, add-one, arith, sym, subst}
+use Rattle.std.proofs.Common.{ℕ, suc, ◌+◌, ◌<◌, ◌≤◌, List, [], ◌∷◌, length, add-one, arith, sym, subst}
 use Rattle.std.proofs.lemmas.List.{length-map}
 use Rattle.term_core.specs.Declarations.{Declarations}
 use Rattle.term_core.specs.declared.terms.NumOp.TheVariants.{Plus, Minus, Times, Min, Max}
@@ -8,7 +8,7 @@ use Rattle.contract_parse.specs.Words.{Bytes}
 use Rattle.contract_parse.specs.Judgements.{use_at, variable_at}
 use Rattle.contract_parse.specs.Spelling.{templates_part, valued}
 use Rattle.contract_parse.proofs.TextClosed.{by_value, use_within, variable_within}
-use Rattle.payoff_lang.specs.TemplateDates.{AreInOrder, Date, insert_names}
+use Rattle.payoff_lang.specs.TemplateDates.{AreInOrder, Date}
 use Rattle.payoff_lang.specs.Code.{ValueExpression, Lit, Yes, Var, Model, Neg, Num, Cmp, Not, Logic, Cond, Widen, Round, Div, Acc, PayoffCode, Nothing, PayOn, Add, ScaleBy, LetBe, Loop, Cut}
 use Rattle.payoff_lang.specs.CodeSizes.{height_of_code}
 use Rattle.payoff_lang.specs.CodeSpelling.{DatePart, code_part, value_part}

@@ -1,16 +1,13 @@
 -- What is spelled as code is taken at its places, and so is the text of a code file.
-use Rattle.std.proofs.Common.{◌≡◌, ◌∙◌, ℕ, ◌+◌, ◌≤◌, ◌<◌, List, [], ◌∷◌, refl, arith, lit<, ap, cond, Bool}
+use Rattle.std.proofs.Common.{◌≡◌, ◌∙◌, ℕ, ◌+◌, ◌≤◌, List, [], ◌∷◌, refl, arith, ap}
 use Rattle.std.specs.Prelude.{codes}
-use Rattle.term_core.specs.Declarations.{Declarations}
 use Rattle.term_core.specs.Sizes.{height}
 use Rattle.contract_parse.specs.Tokens.{Tok, tokens}
-use Rattle.contract_parse.specs.Words.{Bytes, is_end, is_the_word}
+use Rattle.contract_parse.specs.Words.{Bytes, is_end}
 use Rattle.contract_parse.specs.Names.{Scope, nothing_declared, scope_of, with_names}
 use Rattle.contract_parse.specs.Judgements.{is_version, new_at}
-use Rattle.contract_parse.specs.Spelling.{Part, ◌⨟◌, mark, word}
-use Rattle.contract_parse.specs.Places.{AmountAt, ExprAt, NewIn, Next, Open, Place, Refuse, TheEnd, TheMark, TheWord, code_text_places, date_places, judged, run}
+use Rattle.contract_parse.specs.Places.{AmountAt, ExprAt, NewIn, Next, Open, Place, TheEnd, TheMark, TheWord, code_text_places, date_places, judged, run}
 use Rattle.contract_parse.specs.Reading.{LacksMark}
-use Rattle.contract_parse.specs.declared.faults.TextKind.TheVariants.{Syntax}
 use Rattle.contract_parse.specs.declared.names.NameSet.TheVariants.{Contract}
 use Rattle.contract_parse.specs.declared.heads.Language.{Language}
 use Rattle.contract_parse.specs.declared.heads.AmountHead.{AmountHead}
@@ -25,9 +22,8 @@ use Rattle.payoff_lang.specs.CodeSizes.{height_of_code}
 use Rattle.payoff_lang.specs.CodeSpelling.{DatePart, code_part, value_part}
 use Rattle.payoff_lang.specs.CodeBooks.{CodeBook}
 use Rattle.payoff_lang.specs.CodeFiles.{CodeText, code_line}
-use Rattle.payoff_lang.specs.CodeTexts.{code_scope}
 use Rattle.payoff_lang.proofs.TokensStand.{StandsIn, stands_in}
-use Rattle.payoff_lang.proofs.Standing.{Turns, ◌▹◌, mark_stays, test_stays, word_stays}
+use Rattle.payoff_lang.proofs.Standing.{mark_stays, test_stays, word_stays}
 use Rattle.payoff_lang.proofs.Placed.{placed_height, value_placed}
 use Rattle.payoff_lang.proofs.CodeStanding.{Stood, behind_decls, code_stood, line_stood}
 

@@ -1,12 +1,12 @@
 -- How many bytes code takes at least, and what a text of a code file can hold.
-use Rattle.std.proofs.Common.{◌≡◌, ℕ, ◌+◌, ◌≤◌, ◌<◌, List, [], ◌∷◌, length, arith, ap, sym}
+use Rattle.std.proofs.Common.{ℕ, ◌+◌, ◌≤◌, ◌<◌, List, [], ◌∷◌, length, arith}
 use Rattle.std.specs.Prelude.{codes}
 use Rattle.term_core.specs.Sizes.{nodes}
 use Rattle.contract_parse.specs.Tokens.{Tok, tokens}
 use Rattle.contract_parse.specs.Words.{Bytes}
 use Rattle.contract_parse.specs.Names.{Scope}
 use Rattle.contract_parse.specs.Judgements.{binder_at, is_version, new_at, use_at}
-use Rattle.contract_parse.specs.Spelling.{Part, ◌⨟◌, one}
+use Rattle.contract_parse.specs.Spelling.{one}
 use Rattle.contract_parse.specs.Laws.{NamesFit}
 use Rattle.contract_parse.specs.declared.heads.Language.{Language}
 use Rattle.contract_parse.proofs.Weights.{AtLeast, ◌▹◌, close_least, comma_least, date_least, expr_least, lighter, mark_least, open_least, value_least, weight, weight_tokens, word_least}

@@ -1,5 +1,5 @@
 -- A date that stands somewhere is the date that the tokens begin with, where no further template follows.
-use Rattle.std.proofs.Common.{◌≡◌, ◌∙◌, ℕ, ℤ, Bool, true, false, cond, Option, Some, None, Ok, List, [], ◌∷◌, refl, sym, ap, inl, inr}
+use Rattle.std.proofs.Common.{◌≡◌, ◌∙◌, ℕ, ℤ, Bool, true, false, Option, Some, None, Ok, List, [], ◌∷◌, refl, sym, ap, inl, inr}
 use Rattle.std.specs.Prelude.{codes, nat_le}
 use Rattle.std.proofs.lemmas.Bool.{cases_Bool}
 use Rattle.decimal.specs.DecimalText.{signed}

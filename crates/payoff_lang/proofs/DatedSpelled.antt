@@ -1,16 +1,14 @@
 -- An expression of code that stands in a text is spelled as the value expression that it is with its dates put in.
-use Rattle.std.proofs.Common.{◌≡◌, ◌∙◌, ℕ, ℤ, pos, ◌-◌, Bool, true, false, Result, List, [], ◌∷◌, length, drop, refl, sym, ap, subst, arith}
+use Rattle.std.proofs.Common.{◌≡◌, ◌∙◌, ℕ, ℤ, true, false, List, [], ◌∷◌, refl, sym, ap, subst, arith}
 use Rattle.std.specs.Prelude.{codes}
 use Rattle.term_core.specs.Terms.{Expression, Lit, Yes, Var, Obs, Neg, Num, Cmp, Not, Logic, Cond, Widen, Round, Div, Acc}
 use Rattle.term_core.specs.Sizes.{height}
 use Rattle.term_core.specs.declared.terms.NumOp.TheVariants.{Plus, Minus, Times, Min, Max}
 use Rattle.contract_parse.specs.Tokens.{Tok, tokens}
-use Rattle.contract_parse.specs.Words.{Bytes, is_the_mark}
+use Rattle.contract_parse.specs.Words.{Bytes}
 use Rattle.contract_parse.specs.Names.{Scope}
-use Rattle.contract_parse.specs.Judgements.{binder_at, date_number_at, integer_at, literal_at, mode_at, operator_at, use_at, variable_at}
-use Rattle.contract_parse.specs.Spelling.{DateFrom, Part, Signed, SomeName, ◌⨟◌, dated_part, expr, mark, one, sign, templates_part, valued, word}
-use Rattle.contract_parse.specs.Reading.{LacksMark}
-use Rattle.contract_parse.specs.declared.faults.TextKind.{TextKind}
+use Rattle.contract_parse.specs.Judgements.{binder_at, integer_at, literal_at, mode_at, operator_at, use_at, variable_at}
+use Rattle.contract_parse.specs.Spelling.{DateFrom, ◌⨟◌, expr, mark}
 use Rattle.contract_parse.specs.declared.heads.Language.{Language}
 use Rattle.contract_parse.specs.declared.heads.Operator.TheVariants.{Arithmetic, Comparison, Logic as Connective}
 use Rattle.contract_parse.proofs.Passing.{mark_lacks}
@@ -19,7 +17,7 @@ use Rattle.payoff_lang.specs.Dating.{plain}
 use Rattle.payoff_lang.specs.CodeSpelling.{DatePart, value_part}
 use Rattle.payoff_lang.specs.CodeReading.{date_at, date_first, with_date}
 use Rattle.payoff_lang.proofs.TokensStand.{StandsIn, stands_in}
-use Rattle.payoff_lang.proofs.Standing.{Turns, ◌▹◌, behind_first, close_stays, comma_stays, date_stays, mark_stays, open_stays, signed_stays, value_stays, word_stays}
+use Rattle.payoff_lang.proofs.Standing.{Turns, ◌▹◌, behind_first, close_stays, comma_stays, date_stays, open_stays, signed_stays, value_stays, word_stays}
 use Rattle.payoff_lang.proofs.DateReading.{date_is}
 
 -- dates have no part in the height

@@ -1,5 +1,5 @@
 -- One reading of the tokens of code, and of the text of a code file.
-use Rattle.std.proofs.Common.{◌≡◌, ◌∙◌, ℕ, Bool, true, false, Result, Ok, Err, List, [], ◌∷◌, refl, sym, ap, subst}
+use Rattle.std.proofs.Common.{◌≡◌, ◌∙◌, ℕ, false, Result, Ok, Err, List, [], ◌∷◌, refl, sym, ap, subst}
 use Rattle.std.specs.Prelude.{codes, ◌==◌}
 use Rattle.std.proofs.lemmas.Bool.{false≢true, eq-eqb}
 use Rattle.term_core.specs.Terms.{Expression}
@@ -25,9 +25,8 @@ use Rattle.payoff_lang.specs.Code.{ValueExpression, PayoffCode, Nothing, PayOn, 
 use Rattle.payoff_lang.specs.CodeReading.{date_at, with_date}
 use Rattle.payoff_lang.specs.CodeSpelling.{DatePart, code_part, value_part}
 use Rattle.payoff_lang.specs.CodeBooks.{CodeBook}
-use Rattle.payoff_lang.specs.CodeFiles.{CodeText, code_line, shallow_code}
+use Rattle.payoff_lang.specs.CodeFiles.{CodeText}
 use Rattle.payoff_lang.specs.CodeTexts.{code_scope}
-use Rattle.payoff_lang.proofs.TokensStand.{StandsIn}
 use Rattle.payoff_lang.proofs.Placed.{value_placed}
 use Rattle.payoff_lang.proofs.CodeStanding.{Stood, code_stood, line_stood, stood_line}
 use Rattle.payoff_lang.proofs.CodeTaken.{heads_code, line_stands}

@@ -1,5 +1,5 @@
 -- A value expression that stands in a text is spelled as an expression of code, whose dates stand at its places.
-use Rattle.std.proofs.Common.{◌≡◌, ◌∙◌, ℕ, ℤ, pos, Bool, true, false, List, ◌∷◌, refl, sym, ap, subst, arith}
+use Rattle.std.proofs.Common.{◌≡◌, ◌∙◌, ℕ, ℤ, pos, Bool, true, false, List, ◌∷◌, refl, sym, ap, arith}
 use Rattle.std.specs.Prelude.{codes}
 use Rattle.term_core.specs.Terms.{Expression, Lit as Lit', Yes as Yes', Var as Var', Obs as Obs', Neg as Neg', Num as Num', Cmp as Cmp', Not as Not', Logic as Logic', Cond as Cond', Widen as Widen', Round as Round', Div as Div', Acc as Acc'}
 use Rattle.term_core.specs.Sizes.{height, nodes}
@@ -8,7 +8,7 @@ use Rattle.contract_parse.specs.Tokens.{Tok}
 use Rattle.contract_parse.specs.Words.{Bytes}
 use Rattle.contract_parse.specs.Names.{Scope}
 use Rattle.contract_parse.specs.Judgements.{binder_at, date_number_at, integer_at, literal_at, mode_at, operator_at, use_at, variable_at}
-use Rattle.contract_parse.specs.Spelling.{DateFrom, Part, Signed, ◌⨟◌, dated_part, expr, mark, sign, valued}
+use Rattle.contract_parse.specs.Spelling.{DateFrom, Part, ◌⨟◌, expr, mark, sign, valued}
 use Rattle.contract_parse.specs.declared.heads.Language.{Language}
 use Rattle.contract_parse.specs.declared.heads.Operator.TheVariants.{Arithmetic, Comparison, Logic as Connective}
 use Rattle.contract_parse.proofs.Passing.{mark_lacks}
@@ -17,7 +17,6 @@ use Rattle.payoff_lang.specs.Code.{ValueExpression, Lit, Yes, Var, Model, Neg, N
 use Rattle.payoff_lang.specs.Dating.{plain}
 use Rattle.payoff_lang.specs.CodeSpelling.{DatePart, value_part}
 use Rattle.payoff_lang.specs.CodeReading.{date_at, with_date}
-use Rattle.payoff_lang.proofs.TokensStand.{StandsIn}
 use Rattle.payoff_lang.proofs.Standing.{Turns, ◌▹◌, behind_first, close_stays, comma_stays, date_stays, open_stays, signed_stays, value_stays, word_stays}
 use Rattle.payoff_lang.proofs.DateReading.{date_is}
 use Rattle.payoff_lang.proofs.DatedSpelled.{height_dated, place_is}

@@ -1,11 +1,11 @@
 -- Each token of a text stands where it says: from the place on at which so many bytes are left, the tokens are that token
 -- and those behind it.
-use Rattle.std.proofs.Common.{◌≡◌, ℕ, zero, suc, ◌+◌, ◌-◌, ◌≤◌, Bool, true, false, cond, List, [], ◌∷◌, length, drop, refl, sym, ap, ◌∙◌, subst, arith, inl, inr, length-drop}
+use Rattle.std.proofs.Common.{◌≡◌, ℕ, zero, suc, ◌-◌, ◌≤◌, Bool, true, false, cond, List, [], ◌∷◌, length, drop, refl, sym, ap, ◌∙◌, subst, arith, inl, inr}
 use Rattle.std.specs.Prelude.{◌==◌, not}
 use Rattle.std.proofs.lemmas.Bool.{cases_Bool}
 use Rattle.contract_parse.specs.Tokens.{Tok, after_gap, extent_at, is_blank, is_last, next_token, token_at, tokens}
-use Rattle.contract_parse.proofs.TokenFacts.{gap_shorter, shorter, tokens_next}
-use Rattle.contract_parse.proofs.TokenPlaces.{behind, behind_rest, rest_place, rest_short, start, start_rest}
+use Rattle.contract_parse.proofs.TokenFacts.{shorter, tokens_next}
+use Rattle.contract_parse.proofs.TokenPlaces.{behind, behind_rest, rest_place, start, start_rest}
 
 abbrev pub StandsIn : List ℕ → List Tok → Type 0
 StandsIn text [] = Unit {0}

@@ -1,15 +1,14 @@
 -- The code of a closed contract is closed: templates go among others in rising order, and stay declared.
-use Rattle.std.proofs.Common.{◌≡◌, ℕ, ◌≤◌, ◌<◌, ◌+◌, Bool, true, false, if◌then◌else◌, nat_le, List, [], ◌∷◌, length, refl, arith}
-use Rattle.std.proofs.lemmas.Bool.Decides.{nat_tests}
+use Rattle.std.proofs.Common.{ℕ, ◌+◌, arith}
 use Rattle.term_core.specs.Declarations.{Declarations}
 use Rattle.term_core.specs.declared.terms.Days.{Days}
 use Rattle.term_core.specs.declared.terms.Days.TheVariants.{Num as Count, Named}
 use Rattle.term_core.specs.Terms.{Expression, Lit as Lit', Yes as Yes', Var as Var', Obs as Obs', Neg as Neg', Num as Num', Cmp as Cmp', Not as Not', Logic as Logic', Cond as Cond', Widen as Widen', Round as Round', Div as Div', Acc as Acc', Contract, Zero, Pay, Both, Scale, After, Let, Within}
 use Rattle.term_core.specs.WellFormed.{IsDeclared, IsWellFormed, IsWellFormedContract}
-use Rattle.payoff_lang.specs.TemplateDates.{Date, AreInOrderFrom, insert_name, insert_names, date_of_days, plus, no_date}
+use Rattle.payoff_lang.specs.TemplateDates.{Date, date_of_days, plus, no_date}
 use Rattle.payoff_lang.specs.Code.{PayoffCode, Nothing, PayOn, Add, ScaleBy, LetBe, Loop, Cut}
 use Rattle.payoff_lang.specs.Compiled.{compiled, compiled_value, code_of, cut_code}
-use Rattle.payoff_lang.specs.WellFormedCode.{AreTemplates, IsWellFormedDate, IsWellFormedValue, IsWellFormedCode}
+use Rattle.payoff_lang.specs.WellFormedCode.{IsWellFormedDate, IsWellFormedValue, IsWellFormedCode}
 use Rattle.payoff_lang.specs.LawsCode.{CodeIsWellFormed}
 use Rattle.payoff_lang.proofs.RisingFacts.{inserts_declared, inserts_in_order}
 

@@ -3,8 +3,6 @@ use Rattle.std.specs.Prelude.{codes}
 use Rattle.std.proofs.lemmas.Result.{err_from_is_err_and}
 use Rattle.contract_parse.specs.Places.{AmountAt, TheMark}
 use Rattle.contract_parse.specs.Reading.{scope_in}
-use Rattle.contract_parse.specs.Tokens.{tokens}
-use Rattle.contract_parse.proofs.Parts.{followed_by}
 use Rattle.payoff_lang.proofs.parsing.read_named_code.Goals as goal
 
 pub returns-in_err-name-clause-follows : goal.returns-in_err-name-clause-follows
