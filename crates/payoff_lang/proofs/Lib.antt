@@ -31,3 +31,4 @@ mod RowsSample
 mod RowsCode
 mod RowsTexts
 mod RowsDefinitions
+mod RowsReading

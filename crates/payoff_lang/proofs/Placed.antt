@@ -91,60 +91,60 @@ module _ (text : List ℕ) (s : Scope) where
       record { e = Obs' label d.place; spelled = fifth y d.from; is = ap (λ (q : Date). Model label q) d.is })
   value_placed names (Neg v) = made names (Neg v) (word_stays (codes "neg") ▹ open_stays ▹ value_placed names v ▹ close_stays) (λ ts rest y.
       let a = y.two.two.one in
-      record { e = Neg' a.e; spelled = third y a.spelled; is = ap Neg a.is })
+      record { e = Neg' a.e; spelled = third {B = expr Language.Code s names a.e} y a.spelled; is = ap Neg a.is })
   value_placed names (Not v) = made names (Not v) (word_stays (codes "not") ▹ open_stays ▹ value_placed names v ▹ close_stays) (λ ts rest y.
       let a = y.two.two.one in
-      record { e = Not' a.e; spelled = third y a.spelled; is = ap Not a.is })
+      record { e = Not' a.e; spelled = third {B = expr Language.Code s names a.e} y a.spelled; is = ap Not a.is })
   value_placed names (Num Min v w) = made names (Num Min v w) (word_stays (codes "min") ▹ open_stays ▹ value_placed names v ▹ comma_stays ▹ value_placed names w ▹ close_stays) (λ ts rest y.
       let a = y.two.two.one in
       let b = y.two.two.two.two.one in
-      record { e = Num' Min a.e b.e; spelled = fifth (third {B = expr Language.Code s names a.e} y a.spelled) b.spelled; is = λ i. Num Min (a.is i) (b.is i) })
+      record { e = Num' Min a.e b.e; spelled = fifth {B = expr Language.Code s names b.e} (third {B = expr Language.Code s names a.e} y a.spelled) b.spelled; is = λ i. Num Min (a.is i) (b.is i) })
   value_placed names (Num Max v w) = made names (Num Max v w) (word_stays (codes "max") ▹ open_stays ▹ value_placed names v ▹ comma_stays ▹ value_placed names w ▹ close_stays) (λ ts rest y.
       let a = y.two.two.one in
       let b = y.two.two.two.two.one in
-      record { e = Num' Max a.e b.e; spelled = fifth (third {B = expr Language.Code s names a.e} y a.spelled) b.spelled; is = λ i. Num Max (a.is i) (b.is i) })
+      record { e = Num' Max a.e b.e; spelled = fifth {B = expr Language.Code s names b.e} (third {B = expr Language.Code s names a.e} y a.spelled) b.spelled; is = λ i. Num Max (a.is i) (b.is i) })
   value_placed names (Num Plus v w) = made names (Num Plus v w) (open_stays ▹ value_placed names v ▹ value_stays operator_at (Arithmetic Plus) ▹ value_placed names w ▹ close_stays) (λ ts rest y.
       let a = y.two.one in
       let b = y.two.two.two.one in
-      record { e = Num' Plus a.e b.e; spelled = fourth (second {B = expr Language.Code s names a.e} y a.spelled) b.spelled; is = λ i. Num Plus (a.is i) (b.is i) })
+      record { e = Num' Plus a.e b.e; spelled = fourth {B = expr Language.Code s names b.e} (second {B = expr Language.Code s names a.e} y a.spelled) b.spelled; is = λ i. Num Plus (a.is i) (b.is i) })
   value_placed names (Num Minus v w) = made names (Num Minus v w) (open_stays ▹ value_placed names v ▹ value_stays operator_at (Arithmetic Minus) ▹ value_placed names w ▹ close_stays) (λ ts rest y.
       let a = y.two.one in
       let b = y.two.two.two.one in
-      record { e = Num' Minus a.e b.e; spelled = fourth (second {B = expr Language.Code s names a.e} y a.spelled) b.spelled; is = λ i. Num Minus (a.is i) (b.is i) })
+      record { e = Num' Minus a.e b.e; spelled = fourth {B = expr Language.Code s names b.e} (second {B = expr Language.Code s names a.e} y a.spelled) b.spelled; is = λ i. Num Minus (a.is i) (b.is i) })
   value_placed names (Num Times v w) = made names (Num Times v w) (open_stays ▹ value_placed names v ▹ value_stays operator_at (Arithmetic Times) ▹ value_placed names w ▹ close_stays) (λ ts rest y.
       let a = y.two.one in
       let b = y.two.two.two.one in
-      record { e = Num' Times a.e b.e; spelled = fourth (second {B = expr Language.Code s names a.e} y a.spelled) b.spelled; is = λ i. Num Times (a.is i) (b.is i) })
+      record { e = Num' Times a.e b.e; spelled = fourth {B = expr Language.Code s names b.e} (second {B = expr Language.Code s names a.e} y a.spelled) b.spelled; is = λ i. Num Times (a.is i) (b.is i) })
   value_placed names (Cmp op v w) = made names (Cmp op v w) (open_stays ▹ value_placed names v ▹ value_stays operator_at (Comparison op) ▹ value_placed names w ▹ close_stays) (λ ts rest y.
       let a = y.two.one in
       let b = y.two.two.two.one in
-      record { e = Cmp' op a.e b.e; spelled = fourth (second {B = expr Language.Code s names a.e} y a.spelled) b.spelled; is = λ i. Cmp op (a.is i) (b.is i) })
+      record { e = Cmp' op a.e b.e; spelled = fourth {B = expr Language.Code s names b.e} (second {B = expr Language.Code s names a.e} y a.spelled) b.spelled; is = λ i. Cmp op (a.is i) (b.is i) })
   value_placed names (Logic op v w) = made names (Logic op v w) (open_stays ▹ value_placed names v ▹ value_stays operator_at (Connective op) ▹ value_placed names w ▹ close_stays) (λ ts rest y.
       let a = y.two.one in
       let b = y.two.two.two.one in
-      record { e = Logic' op a.e b.e; spelled = fourth (second {B = expr Language.Code s names a.e} y a.spelled) b.spelled; is = λ i. Logic op (a.is i) (b.is i) })
+      record { e = Logic' op a.e b.e; spelled = fourth {B = expr Language.Code s names b.e} (second {B = expr Language.Code s names a.e} y a.spelled) b.spelled; is = λ i. Logic op (a.is i) (b.is i) })
   value_placed names (Cond t v w) = made names (Cond t v w) (word_stays (codes "if") ▹ open_stays ▹ value_placed names t ▹ comma_stays ▹ value_placed names v ▹ comma_stays ▹ value_placed names w ▹ close_stays) (λ ts rest y.
       let a = y.two.two.one in
       let b = y.two.two.two.two.one in
       let c = y.two.two.two.two.two.two.one in
-      record { e = Cond' a.e b.e c.e; spelled = seventh (fifth {B = expr Language.Code s names b.e} (third {B = expr Language.Code s names a.e} y a.spelled) b.spelled) c.spelled; is = λ i. Cond (a.is i) (b.is i) (c.is i) })
+      record { e = Cond' a.e b.e c.e; spelled = seventh {B = expr Language.Code s names c.e} (fifth {B = expr Language.Code s names b.e} (third {B = expr Language.Code s names a.e} y a.spelled) b.spelled) c.spelled; is = λ i. Cond (a.is i) (b.is i) (c.is i) })
   value_placed names (Widen k v) = made names (Widen k v) (word_stays (codes "widen") ▹ open_stays ▹ value_stays (integer_at 27) k ▹ comma_stays ▹ value_placed names v ▹ close_stays) (λ ts rest y.
       let a = y.two.two.two.two.one in
-      record { e = Widen' k a.e; spelled = fifth y a.spelled; is = ap (λ (u : ValueExpression). Widen k u) a.is })
+      record { e = Widen' k a.e; spelled = fifth {B = expr Language.Code s names a.e} y a.spelled; is = ap (λ (u : ValueExpression). Widen k u) a.is })
   value_placed names (Round m k v) = made names (Round m k v) (word_stays (codes "round") ▹ open_stays ▹ value_stays mode_at m ▹ comma_stays ▹ value_stays (integer_at 27) k ▹ comma_stays ▹ value_placed names v ▹ close_stays) (λ ts rest y.
       let a = y.two.two.two.two.two.two.one in
-      record { e = Round' m k a.e; spelled = seventh y a.spelled; is = ap (λ (u : ValueExpression). Round m k u) a.is })
+      record { e = Round' m k a.e; spelled = seventh {B = expr Language.Code s names a.e} y a.spelled; is = ap (λ (u : ValueExpression). Round m k u) a.is })
   value_placed names (Div m k v w) = made names (Div m k v w) (word_stays (codes "div") ▹ open_stays ▹ value_stays mode_at m ▹ comma_stays ▹ value_stays (integer_at 27) k ▹ comma_stays ▹ value_placed names v ▹ comma_stays ▹ value_placed names w ▹ close_stays) (λ ts rest y.
       let a = y.two.two.two.two.two.two.one in
       let b = y.two.two.two.two.two.two.two.two.one in
-      record { e = Div' m k a.e b.e; spelled = ninth (seventh {B = expr Language.Code s names a.e} y a.spelled) b.spelled; is = λ i. Div m k (a.is i) (b.is i) })
+      record { e = Div' m k a.e b.e; spelled = ninth {B = expr Language.Code s names b.e} (seventh {B = expr Language.Code s names a.e} y a.spelled) b.spelled; is = λ i. Div m k (a.is i) (b.is i) })
   value_placed names (Acc body n first) = record {
     turns = λ ts rest stands x.
         let t = (word_stays {text = text} (codes "acc") ▹ open_stays ▹ value_stays binder_at x.name ▹ comma_stays ▹ value_placed (x.name ∷ names) body ▹ comma_stays ▹ value_stays (integer_at 100_000) n ▹ comma_stays ▹ value_placed names first ▹ close_stays).turns ts rest stands x.spelled in
         let y = t.0 in
         let a = y.two.two.two.two.one in
         let b = y.two.two.two.two.two.two.two.two.one in
-        (record { e = Acc' a.e n b.e; spelled = record { name = x.name; spelled = ninth (fifth {B = expr Language.Code s (x.name ∷ names) a.e} y a.spelled) b.spelled }; is = λ i. Acc (a.is i) n (b.is i) }, t.1);
+        (record { e = Acc' a.e n b.e; spelled = record { name = x.name; spelled = ninth {B = expr Language.Code s names b.e} (fifth {B = expr Language.Code s (x.name ∷ names) a.e} y a.spelled) b.spelled }; is = λ i. Acc (a.is i) n (b.is i) }, t.1);
   }
 
   -- it stays as it is
