@@ -5,8 +5,9 @@ use Rattle.std.specs.List.{list_all, list_any}
 use Rattle.contract_parse.specs.Tokens.{Tok}
 use Rattle.contract_parse.specs.Words.{Bytes, reserved}
 use Rattle.contract_parse.specs.Forms.{Part, Terminal, Nonterminal, Optional, Repeated, Form, Grammar, IsAmong, here, later, Whole, done, token, form, absent, present, enough, again, Front, empty, at_token, in_form, in_optional, in_repeated, beyond}
-use Rattle.contract_parse.specs.Fronts.{Declared, Symbol, Declaration, ContractLine, Contract, Expression, Offset, IsWhole, portfolio_form, portfolio_forms}
+use Rattle.contract_parse.specs.Fronts.{Declared, Symbol, Declaration, ContractLine, Contract, Amount, Expression, SignedInteger, FurtherTemplate, IsWhole, text_form, text_forms}
 use Rattle.contract_parse.specs.FrontLaws.{FrontsGoOn}
+use Rattle.contract_parse.specs.declared.heads.Language.{Language}
 use Rattle.contract_parse.specs.declared.token.Kind.{Kind}
 use Rattle.contract_parse.specs.declared.token.Kind.TheVariants as kind
 use Rattle.contract_parse.proofs.Passing.{and_parts}
@@ -143,19 +144,19 @@ module _ {N : Type 0} (forms : Grammar N) where
         let y = front_goes_on next between x (met_behind part next e) in
         record { more = y.more; whole = λ rest. chain forms (part ∷ []) next (ts ++ (y.more ++ rest)) (between ++ (y.more ++ rest)) rest (further (part ∷ []) ts between (y.more ++ rest) w) (y.whole rest) }
 
--- ---- portfolios
+-- ---- texts
 
 abbrev sample : Kind → Bytes → Tok
 sample kind text = record { kind = kind; text = text; left = 0 }
 
 abbrev marks : List Bytes
-marks = codes ";" ∷ codes "," ∷ codes ":" ∷ codes "=" ∷ codes "(" ∷ codes ")" ∷ codes "-" ∷ codes ".." ∷ []
+marks = codes ";" ∷ codes "," ∷ codes ":" ∷ codes "=" ∷ codes "(" ∷ codes ")" ∷ codes "+" ∷ codes "-" ∷ codes ".." ∷ []
 
 abbrev samples : List Tok
 samples =
     sample kind.Word (codes "x") ∷ sample kind.Number (codes "1") ∷ sample kind.Date [] ∷ sample kind.End [] ∷ map (λ w. sample kind.Word w) reserved ++ map (λ m. sample kind.Mark m) marks
 
-all_met : (symbol : Symbol) → list_all (λ f. is_met samples f) (portfolio_forms symbol) ≡ true
+all_met : (symbol : Symbol) → list_all (λ f. is_met samples f) (text_forms symbol) ≡ true
 all_met (Declaration Declared.OriginLine) = refl
 all_met (Declaration Declared.StartLine) = refl
 all_met (Declaration Declared.PartyLine) = refl
@@ -166,8 +167,11 @@ all_met (Declaration Declared.Bound) = refl
 all_met (Declaration Declared.TemplateLine) = refl
 all_met ContractLine = refl
 all_met Contract = refl
-all_met Expression = refl
-all_met Offset = refl
+all_met Amount = refl
+all_met (Expression Language.Contracts) = refl
+all_met (Expression Language.Code) = refl
+all_met SignedInteger = refl
+all_met FurtherTemplate = refl
 
 abbrev a_word : Bytes → Tok
 a_word w = sample kind.Word w
@@ -184,10 +188,10 @@ one = sample kind.Number (codes "1")
 abbrev stop : Tok
 stop = a_mark (codes ";")
 
-zero_made : (rest : List Tok) → Whole portfolio_forms (Nonterminal Contract ∷ []) (a_word (codes "zero") ∷ rest) rest
+zero_made : (rest : List Tok) → Whole text_forms (Nonterminal Contract ∷ []) (a_word (codes "zero") ∷ rest) rest
 zero_made rest = form here (token refl done) done
 
-all_made : (symbol : Symbol) → Made portfolio_forms (Nonterminal symbol ∷ [])
+all_made : (symbol : Symbol) → Made text_forms (Nonterminal symbol ∷ [])
 all_made (Declaration Declared.OriginLine) = record { tokens = a_word (codes "origin") ∷ sample kind.Date [] ∷ stop ∷ []; whole = λ rest. form here (token refl (token refl (token refl done))) done }
 all_made (Declaration Declared.StartLine) = record { tokens = a_word (codes "start") ∷ one ∷ stop ∷ []; whole = λ rest. form here (token refl (token refl (token refl done))) done }
 all_made (Declaration Declared.PartyLine) = record { tokens = a_word (codes "party") ∷ x ∷ stop ∷ []; whole = λ rest. form here (token refl (token refl (enough (token refl done)))) done }
@@ -201,13 +205,19 @@ all_made ContractLine = record {
   whole = λ rest. form here (token refl (token refl (token refl (form here (token refl done) (token refl done))))) done;
 }
 all_made Contract = record { tokens = a_word (codes "zero") ∷ []; whole = zero_made }
-all_made Expression = record { tokens = one ∷ []; whole = λ rest. form here (token refl done) done }
-all_made Offset = record { tokens = one ∷ []; whole = λ rest. form here (token refl done) done }
+all_made Amount = record { tokens = a_word (codes "none") ∷ []; whole = λ rest. form here (token refl done) done }
+all_made (Expression l) = record { tokens = one ∷ []; whole = λ rest. form here (token refl done) done }
+all_made SignedInteger = record { tokens = one ∷ []; whole = λ rest. form here (token refl done) done }
+all_made FurtherTemplate = record { tokens = a_mark (codes "+") ∷ x ∷ []; whole = λ rest. form here (token refl (token refl done)) done }
+
+text_met : (l : Language) → is_met samples (text_form l) ≡ true
+text_met Language.Contracts = refl
+text_met Language.Code = refl
 
 pub fronts_go_on : FrontsGoOn
-fronts_go_on ts = (
+fronts_go_on l ts = (
   (λ front.
-      let y = front_goes_on portfolio_forms samples all_met all_made portfolio_form ts front refl in
-      (y.more, subst (λ us. IsWhole (ts ++ us)) (append-nil y.more) (y.whole []))),
-  (λ goes. whole_front portfolio_forms portfolio_form ts goes.0 goes.1),
+      let y = front_goes_on text_forms samples all_met all_made (text_form l) ts front (text_met l) in
+      (y.more, subst (λ us. IsWhole l (ts ++ us)) (append-nil y.more) (y.whole []))),
+  (λ goes. whole_front text_forms (text_form l) ts goes.0 goes.1),
 )

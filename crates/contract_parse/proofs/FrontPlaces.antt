@@ -1,4 +1,4 @@
--- The forms at a place of a portfolio's text, and the tests that decide them.
+-- The forms at a place of a text, and the tests that decide them.
 use Rattle.std.proofs.Common.{◌≡◌, ℕ, ℤ, Bool, true, false, cond, ◌||◌, Option, Some, None, Result, Ok, Err, List, [], ◌∷◌, ◌++◌, refl, sym, ap, ◌∙◌}
 use Rattle.std.specs.Prelude.{codes, nat_lt, not}
 use Rattle.decimal.specs.declared.Decimal.{Decimal}
@@ -8,9 +8,9 @@ use Rattle.contract_parse.specs.Tokens.{Tok}
 use Rattle.contract_parse.specs.Words.{Bytes, is_date, is_end, is_integer, is_name, is_number, is_the_mark, is_the_word}
 use Rattle.contract_parse.specs.Names.{is_declared, place_in}
 use Rattle.decimal.specs.Mantissas.{decimal_of}
-use Rattle.contract_parse.specs.Judgements.{above_limited, binder_at, bound_at, counted, days_at, integer_at, is_version, literal_at, mode_at, named, new_at, offset_at, operator_at, or_fault, origin_at, signed_decimal, signed_result, up_to, use_at, whole, widened}
+use Rattle.contract_parse.specs.Judgements.{above_limited, binder_at, bound_at, counted, date_number_at, days_at, integer_at, is_version, literal_at, mode_at, named, new_at, offset_at, operator_at, or_fault, origin_at, signed_decimal, signed_result, up_to, use_at, whole, widened}
 use Rattle.contract_parse.specs.Forms.{Part, Terminal, Nonterminal, Optional, Repeated, Form}
-use Rattle.contract_parse.specs.Fronts.{Declared, Symbol, Declaration, ContractLine, Contract, Expression, Offset, a_count, a_date, a_mode, a_name, a_number, an_integer, an_operator, is_one_of, mode_words, operator_marks, portfolio_forms, the_mark, the_word}
+use Rattle.contract_parse.specs.Fronts.{Declared, Symbol, Declaration, ContractLine, Contract, Amount, Expression, FurtherTemplate, a_count, a_date, a_mode, a_name, a_number, a_signed_integer, an_integer, an_operator, is_one_of, mode_words, operator_marks, text_forms, the_mark, the_word}
 use Rattle.contract_parse.specs.Places.{Place, TheWord, TheMark, TheVersion, TheEnd, IntegerAt, OriginDate, OriginLine, StartLine, NameLines, LabelLines, TemplateLines, ContractLines, NewIn, MoreNames, ScaleAt, BoundAt, BoundNumber, UseOf, OffsetAt, OffsetNumber, LiteralNumber, DaysAt, ModeAt, OperatorAt, DateAt, DateNumber, MoreTemplates, BinderAt, ExprAt, ContrAt, AmountAt, AnyTokens}
 use Rattle.contract_parse.specs.declared.names.NameSet.{NameSet}
 use Rattle.contract_parse.specs.declared.names.NameSet.TheVariants.{Party, Asset, Label, Template, Contract as ContractSet}
@@ -20,8 +20,13 @@ use Rattle.contract_parse.specs.declared.faults.TextKind.{TextKind}
 use Rattle.contract_parse.specs.declared.faults.TextKind.TheVariants.{Syntax, Number, Date, Deep, Range, Twice, Unknown, Utf8}
 use Rattle.contract_parse.proofs.FrontTakes.{Bars}
 
-abbrev pub an_expression : Part Symbol
-an_expression = Nonterminal Expression
+abbrev pub an_expression : Language → Part Symbol
+an_expression l = Nonterminal (Expression l)
+
+-- a contract, or an amount of payoff code
+abbrev pub a_term : Language → Part Symbol
+a_term Language.Contracts = Nonterminal Contract
+a_term Language.Code = Nonterminal Amount
 
 abbrev pub a_bound : Part Symbol
 a_bound = Nonterminal (Declaration Declared.Bound)
@@ -58,20 +63,20 @@ parts_of ScaleAt = an_integer ∷ the_word (codes "in") ∷ a_bound ∷ the_mark
 parts_of (BoundAt scale low) = a_bound ∷ behind_bound low
 parts_of (BoundNumber negative scale low) = a_number ∷ behind_bound low
 parts_of (UseOf names) = a_name ∷ []
-parts_of OffsetAt = Nonterminal Offset ∷ []
+parts_of OffsetAt = a_signed_integer ∷ []
 parts_of (OffsetNumber negative) = an_integer ∷ []
 parts_of (LiteralNumber negative) = a_number ∷ []
 parts_of (DaysAt templates) = a_count ∷ []
 parts_of ModeAt = a_mode ∷ []
 parts_of OperatorAt = an_operator ∷ []
-parts_of (BinderAt binder.Let language depth names) = a_name ∷ the_mark (codes "=") ∷ an_expression ∷ the_word (codes "in") ∷ Nonterminal Contract ∷ []
-parts_of (BinderAt binder.Acc language depth names) = a_name ∷ the_mark (codes ",") ∷ an_expression ∷ the_mark (codes ",") ∷ an_integer ∷ the_mark (codes ",") ∷ an_expression ∷ the_mark (codes ")") ∷ []
-parts_of (ExprAt language depth names) = an_expression ∷ []
+parts_of (BinderAt binder.Let language depth names) = a_name ∷ the_mark (codes "=") ∷ an_expression language ∷ the_word (codes "in") ∷ a_term language ∷ []
+parts_of (BinderAt binder.Acc language depth names) = a_name ∷ the_mark (codes ",") ∷ an_expression language ∷ the_mark (codes ",") ∷ an_integer ∷ the_mark (codes ",") ∷ an_expression language ∷ the_mark (codes ")") ∷ []
+parts_of (ExprAt language depth names) = an_expression language ∷ []
 parts_of (ContrAt depth names) = Nonterminal Contract ∷ []
-parts_of DateAt = []
-parts_of (DateNumber negative) = []
-parts_of MoreTemplates = []
-parts_of (AmountAt depth names) = []
+parts_of (AmountAt depth names) = Nonterminal Amount ∷ []
+parts_of DateAt = a_signed_integer ∷ []
+parts_of (DateNumber negative) = an_integer ∷ []
+parts_of MoreTemplates = Repeated FurtherTemplate ∷ []
 parts_of AnyTokens = []
 
 abbrev pub all_parts : List Place → Form Symbol
@@ -80,7 +85,11 @@ all_parts (p ∷ ps) = parts_of p ++ all_parts ps
 
 -- lines that begin with this word end where another part may begin with it
 abbrev pub Ends : Bytes → List Place → Type 0
-Ends w ps = (t : Tok) → is_the_word w t ≡ true → Bars portfolio_forms (all_parts ps) t
+Ends w ps = (t : Tok) → is_the_word w t ≡ true → Bars text_forms (all_parts ps) t
+
+-- templates end where another part may begin with a plus
+abbrev pub EndsDate : List Place → Type 0
+EndsDate ps = (t : Tok) → is_the_mark (codes "+") t ≡ true → Bars text_forms (all_parts ps) t
 
 abbrev pub IsWordOf : Bytes → NameSet → Type 0
 IsWordOf w Party = w ≡ codes "party"
@@ -89,22 +98,17 @@ IsWordOf w Label = ⊥
 IsWordOf w Template = ⊥
 IsWordOf w ContractSet = ⊥
 
--- at each place of a portfolio the next token decides the form
+-- at each place the next token decides the form
 abbrev pub Decided : List Place → Type 0
 Decided [] = Unit {0}
 Decided (AnyTokens ∷ ps) = ⊥
-Decided (DateAt ∷ ps) = ⊥
-Decided (DateNumber negative ∷ ps) = ⊥
-Decided (MoreTemplates ∷ ps) = ⊥
-Decided (AmountAt depth names ∷ ps) = ⊥
-Decided (ExprAt Language.Code depth names ∷ ps) = ⊥
-Decided (BinderAt binder Language.Code depth names ∷ ps) = ⊥
 Decided (OriginLine ∷ ps) = Ends (codes "origin") ps × Decided ps
 Decided (StartLine ∷ ps) = Ends (codes "start") ps × Decided ps
 Decided (NameLines w set ∷ ps) = IsWordOf w set × Ends w ps × Decided ps
 Decided (LabelLines ∷ ps) = Ends (codes "num") ps × Ends (codes "flag") ps × Decided ps
 Decided (TemplateLines ∷ ps) = Ends (codes "template") ps × Decided ps
 Decided (ContractLines ∷ ps) = Ends (codes "contract") ps × Decided ps
+Decided (MoreTemplates ∷ ps) = EndsDate ps × Decided ps
 Decided (p ∷ ps) = Decided ps
 
 -- ---- a judgement is Syntax just where the token is not of the form
@@ -142,6 +146,9 @@ signed_formed negative (Err k) = refl
 
 pub offset_formed : (negative : Bool) (t : Tok) → is_integer t ≡ formed (offset_at negative t)
 offset_formed negative t = integer_formed 1_000_000 t ∙ signed_formed negative (integer_at 1_000_000 t)
+
+pub date_number_formed : (negative : Bool) (t : Tok) → is_integer t ≡ formed (date_number_at negative t)
+date_number_formed negative t = integer_formed 2_000_000 t ∙ signed_formed negative (integer_at 2_000_000 t)
 
 decimal_formed : (negative : Bool) (o : Option Decimal) → formed (signed_decimal negative o) ≡ true
 decimal_formed negative None = refl

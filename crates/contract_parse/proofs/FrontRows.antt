@@ -3,8 +3,9 @@ use Rattle.std.proofs.Common.{◌≡◌, ℕ, Bool, true, false, cond, ◌&&◌,
 use Rattle.std.specs.Prelude.{codes}
 use Rattle.contract_parse.specs.Tokens.{Tok, extent_at, next_token, tokens, tokens_from}
 use Rattle.contract_parse.specs.Forms.{Terminal, Nonterminal, Optional, Repeated, Form, Grammar, Whole, done, Front, empty}
-use Rattle.contract_parse.specs.Fronts.{IsFront, IsWhole, Symbol, portfolio_form, portfolio_forms}
-use Rattle.contract_parse.specs.FrontRows.{EndsAt, FrontRows, at_left, begun}
+use Rattle.contract_parse.specs.Fronts.{IsFront, IsWhole, Symbol, text_form, text_forms}
+use Rattle.contract_parse.specs.FrontRows.{EndsAt, FrontRows, at_left, begun, code_begun}
+use Rattle.contract_parse.specs.declared.heads.Language.{Language}
 use Rattle.contract_parse.specs.declared.token.Kind.TheVariants.{Word, Number, Mark, End}
 use Rattle.contract_parse.proofs.Passing.{and_parts}
 use Rattle.contract_parse.proofs.FrontTakes.{BeginWithTokens, Takes, barred, bars, is_nil, nil_is, one_takes, optional_skips, optional_takes, repeated_skips, repeated_takes, rests, symbol_takes}
@@ -84,27 +85,27 @@ module _ {N : Type 0} (forms : Grammar N) (starts : (symbol : N) → BeginWithTo
         whole = λ us rest w. one.whole (ts ++ us) rest (more.whole us rest w);
       }
 
-abbrev clear : List Tok → Bool
-clear ts = are_clear portfolio_forms portfolio_form ts
+abbrev clear : Language → List Tok → Bool
+clear l ts = are_clear text_forms (text_form l) ts
 
-abbrev left_of : List Tok → Form Symbol
-left_of ts = all_behind portfolio_forms portfolio_form ts
+abbrev left_of : Language → List Tok → Form Symbol
+left_of l ts = all_behind text_forms (text_form l) ts
 
-ends : (bytes : List ℕ) (before after : List Tok) (t : Tok) → tokens bytes ≡ before ++ t ∷ after → clear before ≡ true → barred portfolio_forms (left_of before) t ≡ true → EndsAt bytes t
-ends bytes before after t are e f =
-    let w = walked portfolio_forms starts before portfolio_form e in
+ends : (l : Language) (bytes : List ℕ) (before after : List Tok) (t : Tok) → tokens bytes ≡ before ++ t ∷ after → clear l before ≡ true → barred text_forms (left_of l before) t ≡ true → EndsAt l bytes t
+ends l bytes before after t are e f =
+    let w = walked text_forms starts before (text_form l) e in
     record {
       before = before;
       after = after;
       are = are;
-      front = subst (λ ts. IsFront ts) (append-nil before) (w.back [] empty);
-      none = λ x. bars portfolio_forms starts (left_of before) t f [] (w.on (t ∷ []) x);
+      front = subst (λ ts. IsFront l ts) (append-nil before) (w.back [] empty);
+      none = λ x. bars text_forms starts (left_of l before) t f [] (w.on (t ∷ []) x);
     }
 
-walked_whole : (ts : List Tok) → clear ts ≡ true → left_of ts ≡ [] → IsWhole ts
-walked_whole ts e f =
-    let w = walked portfolio_forms starts ts portfolio_form e in
-    subst (λ us. IsWhole us) (append-nil ts) (w.whole [] [] (subst (λ parts. Whole portfolio_forms parts [] []) (sym f) done))
+walked_whole : (l : Language) (ts : List Tok) → clear l ts ≡ true → left_of l ts ≡ [] → IsWhole l ts
+walked_whole l ts e f =
+    let w = walked text_forms starts ts (text_form l) e in
+    subst (λ us. IsWhole l us) (append-nil ts) (w.whole [] [] (subst (λ parts. Whole text_forms parts [] []) (sym f) done))
 
 -- ---- the texts
 
@@ -171,15 +172,68 @@ great_number_are : tokens (codes "portfolio 1; amounts 13; party A, A;") ≡ gre
 unfolding tokens tokens_from next_token extent_at
 great_number_are = refl
 
+abbrev model_in_contracts_before : List Tok
+model_in_contracts_before = at_left Word (codes "portfolio") 48 ∷ at_left Number (codes "1") 38 ∷ at_left Mark (codes ";") 37 ∷ at_left Word (codes "amounts") 35 ∷ at_left Number (codes "2") 27 ∷ at_left Mark (codes ";") 26 ∷ at_left Word (codes "contract") 24 ∷ at_left Word (codes "c") 15 ∷ at_left Mark (codes "=") 13 ∷ at_left Word (codes "scale") 11 ∷ at_left Mark (codes "(") 6 ∷ []
+
+model_in_contracts_are : tokens (begun ++ codes "contract c = scale(model") ≡ model_in_contracts_before ++ at_left Word (codes "model") 5 ∷ (at_left End [] 0 ∷ [])
+unfolding tokens tokens_from next_token extent_at
+model_in_contracts_are = refl
+
+abbrev obs_in_code_before : List Tok
+obs_in_code_before = at_left Word (codes "payoff") 39 ∷ at_left Number (codes "1") 32 ∷ at_left Mark (codes ";") 31 ∷ at_left Word (codes "amounts") 29 ∷ at_left Number (codes "2") 21 ∷ at_left Mark (codes ";") 20 ∷ at_left Word (codes "code") 18 ∷ at_left Word (codes "c") 13 ∷ at_left Mark (codes "=") 11 ∷ at_left Word (codes "scale") 9 ∷ at_left Mark (codes "(") 4 ∷ []
+
+obs_in_code_are : tokens (code_begun ++ codes "scale(obs") ≡ obs_in_code_before ++ at_left Word (codes "obs") 3 ∷ (at_left End [] 0 ∷ [])
+unfolding tokens tokens_from next_token extent_at
+obs_in_code_are = refl
+
+abbrev within_in_code_before : List Tok
+within_in_code_before = at_left Word (codes "payoff") 46 ∷ at_left Number (codes "1") 39 ∷ at_left Mark (codes ";") 38 ∷ at_left Word (codes "amounts") 36 ∷ at_left Number (codes "2") 28 ∷ at_left Mark (codes ";") 27 ∷ at_left Word (codes "code") 25 ∷ at_left Word (codes "c") 20 ∷ at_left Mark (codes "=") 18 ∷ at_left Word (codes "loop") 16 ∷ at_left Word (codes "true") 11 ∷ []
+
+within_in_code_are : tokens (code_begun ++ codes "loop true within") ≡ within_in_code_before ++ at_left Word (codes "within") 6 ∷ (at_left End [] 0 ∷ [])
+unfolding tokens tokens_from next_token extent_at
+within_in_code_are = refl
+
+abbrev signed_template_before : List Tok
+signed_template_before = at_left Word (codes "payoff") 40 ∷ at_left Number (codes "1") 33 ∷ at_left Mark (codes ";") 32 ∷ at_left Word (codes "amounts") 30 ∷ at_left Number (codes "2") 22 ∷ at_left Mark (codes ";") 21 ∷ at_left Word (codes "code") 19 ∷ at_left Word (codes "c") 14 ∷ at_left Mark (codes "=") 12 ∷ at_left Word (codes "cut") 10 ∷ at_left Mark (codes "(") 7 ∷ at_left Mark (codes "-") 6 ∷ at_left Number (codes "5") 5 ∷ at_left Mark (codes "+") 3 ∷ []
+
+signed_template_are : tokens (code_begun ++ codes "cut(-5 + -") ≡ signed_template_before ++ at_left Mark (codes "-") 1 ∷ (at_left End [] 0 ∷ [])
+unfolding tokens tokens_from next_token extent_at
+signed_template_are = refl
+
+portfolio_as_code_are : tokens (codes "portfolio 1;") ≡ at_left Word (codes "portfolio") 12 ∷ (at_left Number (codes "1") 2 ∷ at_left Mark (codes ";") 1 ∷ at_left End [] 0 ∷ [])
+unfolding tokens tokens_from next_token extent_at
+portfolio_as_code_are = refl
+
+abbrev second_code_before : List Tok
+second_code_before = at_left Word (codes "payoff") 40 ∷ at_left Number (codes "1") 33 ∷ at_left Mark (codes ";") 32 ∷ at_left Word (codes "amounts") 30 ∷ at_left Number (codes "2") 22 ∷ at_left Mark (codes ";") 21 ∷ at_left Word (codes "code") 19 ∷ at_left Word (codes "c") 14 ∷ at_left Mark (codes "=") 12 ∷ at_left Word (codes "none") 10 ∷ at_left Mark (codes ";") 6 ∷ []
+
+second_code_are : tokens (code_begun ++ codes "none; code") ≡ second_code_before ++ at_left Word (codes "code") 4 ∷ (at_left End [] 0 ∷ [])
+unfolding tokens tokens_from next_token extent_at
+second_code_are = refl
+
+abbrev unknown_in_code_tokens : List Tok
+unknown_in_code_tokens = at_left Word (codes "payoff") 104 ∷ at_left Number (codes "1") 97 ∷ at_left Mark (codes ";") 96 ∷ at_left Word (codes "amounts") 94 ∷ at_left Number (codes "2") 86 ∷ at_left Mark (codes ";") 85 ∷ at_left Word (codes "code") 83 ∷ at_left Word (codes "c") 78 ∷ at_left Mark (codes "=") 76 ∷ at_left Word (codes "loop") 74 ∷ at_left Word (codes "model") 69 ∷ at_left Mark (codes "(") 64 ∷ at_left Word (codes "y") 63 ∷ at_left Mark (codes ",") 62 ∷ at_left Mark (codes "-") 60 ∷ at_left Number (codes "2") 59 ∷ at_left Mark (codes "+") 57 ∷ at_left Word (codes "T") 55 ∷ at_left Mark (codes ")") 54 ∷ at_left Word (codes "upto") 52 ∷ at_left Number (codes "9999999") 47 ∷ at_left Word (codes "then") 39 ∷ at_left Word (codes "pay") 34 ∷ at_left Mark (codes "(") 31 ∷ at_left Number (codes "5") 30 ∷ at_left Mark (codes "+") 28 ∷ at_left Word (codes "T") 26 ∷ at_left Mark (codes "+") 24 ∷ at_left Word (codes "T") 22 ∷ at_left Mark (codes ",") 21 ∷ at_left Word (codes "E") 19 ∷ at_left Mark (codes ",") 18 ∷ at_left Word (codes "A") 16 ∷ at_left Mark (codes ",") 15 ∷ at_left Word (codes "B") 13 ∷ at_left Mark (codes ")") 12 ∷ at_left Word (codes "else") 10 ∷ at_left Word (codes "none") 5 ∷ at_left Mark (codes ";") 1 ∷ at_left End [] 0 ∷ []
+
+unknown_in_code_are : tokens (code_begun ++ codes "loop model(y, -2 + T) upto 9999999 then pay(5 + T + T, E, A, B) else none;") ≡ unknown_in_code_tokens
+unfolding tokens tokens_from next_token extent_at
+unknown_in_code_are = refl
+
 pub front_rows : FrontRows
 front_rows = record {
-  no_semicolon = ends (begun ++ codes "party A, B") no_semicolon_before [] (at_left End [] 0) no_semicolon_are refl refl;
-  cut_word = ends (begun ++ codes "par") cut_word_before (at_left End [] 0 ∷ []) (at_left Word (codes "par") 3) cut_word_are refl refl;
-  reserved_name = ends (begun ++ codes "contract c = pay(in") reserved_name_before (at_left End [] 0 ∷ []) (at_left Word (codes "in") 2) reserved_name_are refl refl;
-  late_origin = ends (begun ++ codes "start 1; origin") late_origin_before (at_left End [] 0 ∷ []) (at_left Word (codes "origin") 6) late_origin_are refl refl;
-  other_version = ends (codes "portfolio 2;") other_version_before (at_left Mark (codes ";") 1 ∷ at_left End [] 0 ∷ []) (at_left Number (codes "2") 2) other_version_are refl refl;
-  zero_version = ends (codes "portfolio 01;") zero_version_before [] (at_left End [] 0) zero_version_are refl refl;
-  pointed = ends (codes "portfolio 1; amounts 2.0;") pointed_before (at_left Mark (codes ";") 1 ∷ at_left End [] 0 ∷ []) (at_left Number (codes "2.0") 4) pointed_are refl refl;
-  unknown_name = subst (λ ts. IsWhole ts) (sym unknown_name_are) (walked_whole unknown_name_tokens refl refl);
-  great_number = subst (λ ts. IsWhole ts) (sym great_number_are) (walked_whole great_number_tokens refl refl);
+  no_semicolon = ends Language.Contracts (begun ++ codes "party A, B") no_semicolon_before [] (at_left End [] 0) no_semicolon_are refl refl;
+  cut_word = ends Language.Contracts (begun ++ codes "par") cut_word_before (at_left End [] 0 ∷ []) (at_left Word (codes "par") 3) cut_word_are refl refl;
+  reserved_name = ends Language.Contracts (begun ++ codes "contract c = pay(in") reserved_name_before (at_left End [] 0 ∷ []) (at_left Word (codes "in") 2) reserved_name_are refl refl;
+  late_origin = ends Language.Contracts (begun ++ codes "start 1; origin") late_origin_before (at_left End [] 0 ∷ []) (at_left Word (codes "origin") 6) late_origin_are refl refl;
+  other_version = ends Language.Contracts (codes "portfolio 2;") other_version_before (at_left Mark (codes ";") 1 ∷ at_left End [] 0 ∷ []) (at_left Number (codes "2") 2) other_version_are refl refl;
+  zero_version = ends Language.Contracts (codes "portfolio 01;") zero_version_before [] (at_left End [] 0) zero_version_are refl refl;
+  pointed = ends Language.Contracts (codes "portfolio 1; amounts 2.0;") pointed_before (at_left Mark (codes ";") 1 ∷ at_left End [] 0 ∷ []) (at_left Number (codes "2.0") 4) pointed_are refl refl;
+  unknown_name = subst (λ ts. IsWhole Language.Contracts ts) (sym unknown_name_are) (walked_whole Language.Contracts unknown_name_tokens refl refl);
+  great_number = subst (λ ts. IsWhole Language.Contracts ts) (sym great_number_are) (walked_whole Language.Contracts great_number_tokens refl refl);
+  model_in_contracts = ends Language.Contracts (begun ++ codes "contract c = scale(model") model_in_contracts_before (at_left End [] 0 ∷ []) (at_left Word (codes "model") 5) model_in_contracts_are refl refl;
+  obs_in_code = ends Language.Code (code_begun ++ codes "scale(obs") obs_in_code_before (at_left End [] 0 ∷ []) (at_left Word (codes "obs") 3) obs_in_code_are refl refl;
+  within_in_code = ends Language.Code (code_begun ++ codes "loop true within") within_in_code_before (at_left End [] 0 ∷ []) (at_left Word (codes "within") 6) within_in_code_are refl refl;
+  signed_template = ends Language.Code (code_begun ++ codes "cut(-5 + -") signed_template_before (at_left End [] 0 ∷ []) (at_left Mark (codes "-") 1) signed_template_are refl refl;
+  portfolio_as_code = ends Language.Code (codes "portfolio 1;") [] (at_left Number (codes "1") 2 ∷ at_left Mark (codes ";") 1 ∷ at_left End [] 0 ∷ []) (at_left Word (codes "portfolio") 12) portfolio_as_code_are refl refl;
+  second_code = ends Language.Code (code_begun ++ codes "none; code") second_code_before (at_left End [] 0 ∷ []) (at_left Word (codes "code") 4) second_code_are refl refl;
+  unknown_in_code = subst (λ ts. IsWhole Language.Code ts) (sym unknown_in_code_are) (walked_whole Language.Code unknown_in_code_tokens refl refl);
 }

@@ -32,6 +32,7 @@ pub mod FrontFacts
 pub mod FrontTakes
 pub mod FrontPlaces
 pub mod FrontChoices
+pub mod FrontHeads
 pub mod FrontTerms
 pub mod FrontSteps
 pub mod FrontRuns

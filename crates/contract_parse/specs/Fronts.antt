@@ -1,11 +1,13 @@
--- The grammar of a portfolio's text by the forms of its tokens alone, and its fronts: what a text may begin with. The
--- forms of expressions and of declarations serve any grammar that has them as parts.
+-- The grammar of texts by the forms of their tokens alone, and their fronts: what a text may begin with. Portfolios and
+-- texts of payoff code are of one grammar, from two forms: they share declarations and, but for their reads, expressions.
 use Rattle.std.specs.Prelude.{◌||◌, Bool, List, [], ◌∷◌, codes}
 use Rattle.std.specs.List.{list_any}
 use Rattle.contract_parse.specs.Tokens.{Tok}
 use Rattle.contract_parse.specs.Words.{Bytes, is_the_word, is_the_mark, is_name, is_number, is_integer, is_date, is_end}
 use Rattle.contract_parse.specs.Judgements.{is_version}
+use Rattle.contract_parse.specs.Heads.{leaf_word}
 use Rattle.contract_parse.specs.Forms.{Part, Terminal, Nonterminal, Optional, Repeated, Form, Grammar, Whole, Front}
+use Rattle.contract_parse.specs.declared.heads.Language.{Language}
 
 -- ---- tokens
 
@@ -121,14 +123,31 @@ declarations_form at behind =
     ∷ Repeated (at PartyLine) ∷ Repeated (at AssetLine) ∷ Repeated (at LabelLine) ∷ Repeated (at TemplateLine)
     ∷ behind
 
--- ---- portfolios
+-- ---- terms
 
 pub data Symbol : Type 0 where
   Declaration : (of : Declared) → Symbol
   ContractLine : Symbol
   Contract : Symbol
-  Expression : Symbol
-  Offset : Symbol
+  Amount : Symbol
+  Expression : (language : Language) → Symbol
+  SignedInteger : Symbol
+  FurtherTemplate : Symbol
+
+abbrev pub a_signed_integer : Part Symbol
+a_signed_integer = Nonterminal SignedInteger
+
+-- a date of payoff code and what is behind it: a number, and `+ NAME` any number of times
+abbrev pub dated_form : Form Symbol → Form Symbol
+dated_form behind = a_signed_integer ∷ Repeated FurtherTemplate ∷ behind
+
+-- when an observable is read: by an offset in contracts, and at a date in payoff code
+abbrev pub time_form : Language → Form Symbol → Form Symbol
+time_form Language.Contracts behind = a_signed_integer ∷ behind
+time_form Language.Code behind = dated_form behind
+
+abbrev pub read_form : Language → Form Symbol
+read_form l = the_word (leaf_word l) ∷ the_mark (codes "(") ∷ a_name ∷ the_mark (codes ",") ∷ time_form l (the_mark (codes ")") ∷ [])
 
 abbrev pub contract_forms : Part Symbol → Part Symbol → List (Form Symbol)
 contract_forms c e =
@@ -141,22 +160,48 @@ contract_forms c e =
     ∷ (the_word (codes "if") ∷ e ∷ the_word (codes "within") ∷ a_count ∷ the_word (codes "then") ∷ c ∷ the_word (codes "else") ∷ c ∷ [])
     ∷ []
 
-abbrev pub portfolio_forms : Grammar Symbol
-portfolio_forms (Declaration of) = declared_forms Declaration of
-portfolio_forms ContractLine = (the_word (codes "contract") ∷ a_name ∷ the_mark (codes "=") ∷ Nonterminal Contract ∷ the_mark (codes ";") ∷ []) ∷ []
-portfolio_forms Contract = contract_forms (Nonterminal Contract) (Nonterminal Expression)
-portfolio_forms Expression = expression_forms (call (codes "obs") (a_name ∷ Nonterminal Offset ∷ [])) (Nonterminal Expression)
-portfolio_forms Offset = signed_forms an_integer
+-- amounts of payoff code
+abbrev pub amount_forms : Part Symbol → Part Symbol → List (Form Symbol)
+amount_forms a e =
+    (the_word (codes "none") ∷ [])
+    ∷ (the_word (codes "pay") ∷ the_mark (codes "(") ∷ dated_form (the_mark (codes ",") ∷ arguments (a_name ∷ a_name ∷ a_name ∷ [])))
+    ∷ call (codes "add") (a ∷ a ∷ [])
+    ∷ call (codes "scale") (e ∷ a ∷ [])
+    ∷ (the_word (codes "let") ∷ a_name ∷ the_mark (codes "=") ∷ e ∷ the_word (codes "in") ∷ a ∷ [])
+    ∷ (the_word (codes "loop") ∷ e ∷ the_word (codes "upto") ∷ dated_form (the_word (codes "then") ∷ a ∷ the_word (codes "else") ∷ a ∷ []))
+    ∷ (the_word (codes "cut") ∷ the_mark (codes "(") ∷ dated_form (the_mark (codes ",") ∷ arguments (a ∷ [])))
+    ∷ []
+
+-- ---- texts
+
+abbrev pub text_forms : Grammar Symbol
+text_forms (Declaration of) = declared_forms Declaration of
+text_forms ContractLine = (the_word (codes "contract") ∷ a_name ∷ the_mark (codes "=") ∷ Nonterminal Contract ∷ the_mark (codes ";") ∷ []) ∷ []
+text_forms Contract = contract_forms (Nonterminal Contract) (Nonterminal (Expression Language.Contracts))
+text_forms Amount = amount_forms (Nonterminal Amount) (Nonterminal (Expression Language.Code))
+text_forms (Expression l) = expression_forms (read_form l) (Nonterminal (Expression l))
+text_forms SignedInteger = signed_forms an_integer
+text_forms FurtherTemplate = (the_mark (codes "+") ∷ a_name ∷ []) ∷ []
 
 abbrev pub portfolio_form : Form Symbol
 portfolio_form =
     the_word (codes "portfolio") ∷ Terminal is_version ∷ the_mark (codes ";")
     ∷ declarations_form Declaration (Repeated ContractLine ∷ Terminal is_end ∷ [])
 
--- the tokens are a portfolio's, but for what names and limits say
-abbrev pub IsWhole : List Tok → Type 0
-IsWhole ts = Whole portfolio_forms portfolio_form ts []
+abbrev pub code_form : Form Symbol
+code_form =
+    the_word (codes "payoff") ∷ Terminal is_version ∷ the_mark (codes ";")
+    ∷ declarations_form Declaration (the_word (codes "code") ∷ a_name ∷ the_mark (codes "=") ∷ Nonterminal Amount ∷ the_mark (codes ";") ∷ Terminal is_end ∷ [])
 
--- a portfolio's text may begin with these tokens
-abbrev pub IsFront : List Tok → Type 0
-IsFront ts = Front portfolio_forms portfolio_form ts
+-- a text of the language: a portfolio of contracts, or a text of payoff code
+abbrev pub text_form : Language → Form Symbol
+text_form Language.Contracts = portfolio_form
+text_form Language.Code = code_form
+
+-- the tokens are a text's of the language, but for what names and limits say
+abbrev pub IsWhole : Language → List Tok → Type 0
+IsWhole l ts = Whole text_forms (text_form l) ts []
+
+-- a text of the language may begin with these tokens
+abbrev pub IsFront : Language → List Tok → Type 0
+IsFront l ts = Front text_forms (text_form l) ts

@@ -231,6 +231,11 @@ abbrev pub code_text_places : List Place
 code_text_places =
     TheWord (codes "payoff") ∷ TheVersion ∷ TheMark (codes ";") ∷ decls_places (TheWord (codes "code") ∷ NewIn Contract ∷ TheMark (codes "=") ∷ AmountAt 1 [] ∷ TheMark (codes ";") ∷ TheEnd ∷ [])
 
+-- the places of a text of the language
+abbrev pub places_of : Language → List Place
+places_of Language.Contracts = text_places
+places_of Language.Code = code_text_places
+
 -- a failure is the outcome, but for want of memory
 abbrev pub Fails : ReadErr → Outcome → Type 0
 Fails (Refused r) outcome = outcome ≡ Stops r.kind r.left

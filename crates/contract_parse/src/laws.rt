@@ -1,5 +1,5 @@
 //! Laws over the definitions of texts: each function's contract is the law.
-ghost use Rattle.contract_parse.specs.FrontLaws.{FaultsEndFronts, FrontsEndInSyntax, FrontsGoOn, RefusedTokensEndFronts, TextsAreWhole};
+ghost use Rattle.contract_parse.specs.FrontLaws.{FaultsEndFronts, FrontsEndInSyntax, FrontsGoOn, RefusalsEndFronts, RefusedTokensEndFronts, TakenTextsAreWhole, TakenTokensAreFronts, TextsAreWhole};
 ghost use Rattle.contract_parse.specs.FrontRows.{FrontRows};
 ghost use Rattle.contract_parse.specs.Laws.{ContractIsTaken, ContractsAreClosed, ContractsFitText, DateIsTaken, DeclarationsAreTaken, ExpressionIsTaken, NamesFitText, NodesFitText, OneExpression, OneReading, PaymentsAreBounded, PaymentsFitText, SampleIsText, TextHasNoFault, TextIsTaken};
 
@@ -78,15 +78,21 @@ pub fn sample_is_text()
     ensures { SampleIsText }
 {}
 
-/// A fault of bytes that are UTF-8 stands at a token behind a front, and is of Syntax exactly where with that token there
-/// is none.
+/// A fault of bytes that are UTF-8 stands at a token behind a front of portfolios, and is of Syntax exactly where with that
+/// token there is none.
 pub fn faults_end_fronts()
     ensures { FaultsEndFronts }
 {}
 
-/// The token that is refused stands behind a front, and its fault is of Syntax exactly where with it there is none.
+/// In either language the token that is refused stands behind a front, and its fault is of Syntax exactly where with it
+/// there is none.
 pub fn refused_tokens_end_fronts()
     ensures { RefusedTokensEndFronts }
+{}
+
+/// What is refused in a text of either language is one of its tokens, which ends its front in the same way.
+pub fn refusals_end_fronts()
+    ensures { RefusalsEndFronts }
 {}
 
 /// Where no rule fails before, the first token with which there is no front is at fault, and of Syntax.
@@ -94,7 +100,17 @@ pub fn fronts_end_in_syntax()
     ensures { FrontsEndInSyntax }
 {}
 
-/// The tokens of a text are whole by the forms of its grammar.
+/// Tokens over which nothing is refused are a front.
+pub fn taken_tokens_are_fronts()
+    ensures { TakenTokensAreFronts }
+{}
+
+/// Tokens that are taken to the end are whole.
+pub fn taken_texts_are_whole()
+    ensures { TakenTextsAreWhole }
+{}
+
+/// The tokens of a portfolio's text are whole by the forms of its grammar.
 pub fn texts_are_whole()
     ensures { TextsAreWhole }
 {}
