@@ -4,7 +4,7 @@ use Rattle.std.specs.Prelude.{codes}
 use Rattle.contract_parse.specs.Tokens.{Tok, extent_at, next_token, tokens, tokens_from}
 use Rattle.contract_parse.specs.Forms.{Terminal, Nonterminal, Optional, Repeated, Form, Grammar, Whole, done, Front, empty}
 use Rattle.contract_parse.specs.Fronts.{IsFront, IsWhole, Symbol, text_form, text_forms}
-use Rattle.contract_parse.specs.FrontRows.{EndsAt, FrontRows, at_left, begun, code_begun}
+use Rattle.contract_parse.specs.FrontRows.{EndsAt, FrontRows, at_left, begun, code_begun, great_loop}
 use Rattle.contract_parse.specs.declared.heads.Language.{Language}
 use Rattle.contract_parse.specs.declared.token.Kind.TheVariants.{Word, Number, Mark, End}
 use Rattle.contract_parse.proofs.Passing.{and_parts}
@@ -214,7 +214,7 @@ second_code_are = refl
 abbrev unknown_in_code_tokens : List Tok
 unknown_in_code_tokens = at_left Word (codes "payoff") 104 ∷ at_left Number (codes "1") 97 ∷ at_left Mark (codes ";") 96 ∷ at_left Word (codes "amounts") 94 ∷ at_left Number (codes "2") 86 ∷ at_left Mark (codes ";") 85 ∷ at_left Word (codes "code") 83 ∷ at_left Word (codes "c") 78 ∷ at_left Mark (codes "=") 76 ∷ at_left Word (codes "loop") 74 ∷ at_left Word (codes "model") 69 ∷ at_left Mark (codes "(") 64 ∷ at_left Word (codes "y") 63 ∷ at_left Mark (codes ",") 62 ∷ at_left Mark (codes "-") 60 ∷ at_left Number (codes "2") 59 ∷ at_left Mark (codes "+") 57 ∷ at_left Word (codes "T") 55 ∷ at_left Mark (codes ")") 54 ∷ at_left Word (codes "upto") 52 ∷ at_left Number (codes "9999999") 47 ∷ at_left Word (codes "then") 39 ∷ at_left Word (codes "pay") 34 ∷ at_left Mark (codes "(") 31 ∷ at_left Number (codes "5") 30 ∷ at_left Mark (codes "+") 28 ∷ at_left Word (codes "T") 26 ∷ at_left Mark (codes "+") 24 ∷ at_left Word (codes "T") 22 ∷ at_left Mark (codes ",") 21 ∷ at_left Word (codes "E") 19 ∷ at_left Mark (codes ",") 18 ∷ at_left Word (codes "A") 16 ∷ at_left Mark (codes ",") 15 ∷ at_left Word (codes "B") 13 ∷ at_left Mark (codes ")") 12 ∷ at_left Word (codes "else") 10 ∷ at_left Word (codes "none") 5 ∷ at_left Mark (codes ";") 1 ∷ at_left End [] 0 ∷ []
 
-unknown_in_code_are : tokens (code_begun ++ codes "loop model(y, -2 + T) upto 9999999 then pay(5 + T + T, E, A, B) else none;") ≡ unknown_in_code_tokens
+unknown_in_code_are : tokens (code_begun ++ great_loop) ≡ unknown_in_code_tokens
 unfolding tokens tokens_from next_token extent_at
 unknown_in_code_are = refl
 

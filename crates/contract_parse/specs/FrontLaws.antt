@@ -36,7 +36,9 @@ pub record RefusedToken (l : Language) (bytes : List ℕ) (kind : TextKind) (lef
 
 -- what is refused is one of the text's tokens
 abbrev pub RefusalsEndFronts : Type 0
-RefusalsEndFronts = (l : Language) (bytes : List ℕ) (kind : TextKind) (left : ℕ) → run nothing_declared (places_of l) (tokens bytes) ≡ Stops kind left → RefusedToken l bytes kind left
+RefusalsEndFronts =
+    (l : Language) (bytes : List ℕ) (kind : TextKind) (left : ℕ)
+    → run nothing_declared (places_of l) (tokens bytes) ≡ Stops kind left → RefusedToken l bytes kind left
 
 -- the token of a text at which it has its fault
 pub record FaultyToken (l : Language) (bytes : List ℕ) (f : TextFault) : Type 0 where

@@ -23,6 +23,9 @@ begun = codes "portfolio 1; amounts 2; "
 abbrev pub code_begun : List ℕ
 code_begun = codes "payoff 1; amounts 2; code c = "
 
+abbrev pub great_loop : List ℕ
+great_loop = codes "loop model(y, -2 + T) upto 9999999 then pay(5 + T + T, E, A, B) else none;"
+
 pub record FrontRows : Type 0 where
   -- the list of names is not ended
   pub no_semicolon : EndsAt Language.Contracts (begun ++ codes "party A, B") (at_left End [] 0)
@@ -51,4 +54,4 @@ pub record FrontRows : Type 0 where
   pub portfolio_as_code : EndsAt Language.Code (codes "portfolio 1;") (at_left Word (codes "portfolio") 12)
   pub second_code : EndsAt Language.Code (code_begun ++ codes "none; code") (at_left Word (codes "code") 4)
   -- names and limits are left aside in payoff code too
-  pub unknown_in_code : IsWhole Language.Code (tokens (code_begun ++ codes "loop model(y, -2 + T) upto 9999999 then pay(5 + T + T, E, A, B) else none;"))
+  pub unknown_in_code : IsWhole Language.Code (tokens (code_begun ++ great_loop))

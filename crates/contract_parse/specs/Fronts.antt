@@ -149,6 +149,10 @@ time_form Language.Code behind = dated_form behind
 abbrev pub read_form : Language → Form Symbol
 read_form l = the_word (leaf_word l) ∷ the_mark (codes "(") ∷ a_name ∷ the_mark (codes ",") ∷ time_form l (the_mark (codes ")") ∷ [])
 
+-- `let NAME = e in term`
+abbrev pub let_form : Part Symbol → Part Symbol → Form Symbol
+let_form e term = the_word (codes "let") ∷ a_name ∷ the_mark (codes "=") ∷ e ∷ the_word (codes "in") ∷ term ∷ []
+
 abbrev pub contract_forms : Part Symbol → Part Symbol → List (Form Symbol)
 contract_forms c e =
     (the_word (codes "zero") ∷ [])
@@ -156,7 +160,7 @@ contract_forms c e =
     ∷ call (codes "both") (c ∷ c ∷ [])
     ∷ call (codes "scale") (e ∷ c ∷ [])
     ∷ call (codes "after") (a_count ∷ c ∷ [])
-    ∷ (the_word (codes "let") ∷ a_name ∷ the_mark (codes "=") ∷ e ∷ the_word (codes "in") ∷ c ∷ [])
+    ∷ let_form e c
     ∷ (the_word (codes "if") ∷ e ∷ the_word (codes "within") ∷ a_count ∷ the_word (codes "then") ∷ c ∷ the_word (codes "else") ∷ c ∷ [])
     ∷ []
 
@@ -167,16 +171,20 @@ amount_forms a e =
     ∷ (the_word (codes "pay") ∷ the_mark (codes "(") ∷ dated_form (the_mark (codes ",") ∷ arguments (a_name ∷ a_name ∷ a_name ∷ [])))
     ∷ call (codes "add") (a ∷ a ∷ [])
     ∷ call (codes "scale") (e ∷ a ∷ [])
-    ∷ (the_word (codes "let") ∷ a_name ∷ the_mark (codes "=") ∷ e ∷ the_word (codes "in") ∷ a ∷ [])
+    ∷ let_form e a
     ∷ (the_word (codes "loop") ∷ e ∷ the_word (codes "upto") ∷ dated_form (the_word (codes "then") ∷ a ∷ the_word (codes "else") ∷ a ∷ []))
     ∷ (the_word (codes "cut") ∷ the_mark (codes "(") ∷ dated_form (the_mark (codes ",") ∷ arguments (a ∷ [])))
     ∷ []
 
 -- ---- texts
 
+-- `word NAME = term ;`
+abbrev pub defined_form : Bytes → Part Symbol → Form Symbol → Form Symbol
+defined_form w term behind = the_word w ∷ a_name ∷ the_mark (codes "=") ∷ term ∷ the_mark (codes ";") ∷ behind
+
 abbrev pub text_forms : Grammar Symbol
 text_forms (Declaration of) = declared_forms Declaration of
-text_forms ContractLine = (the_word (codes "contract") ∷ a_name ∷ the_mark (codes "=") ∷ Nonterminal Contract ∷ the_mark (codes ";") ∷ []) ∷ []
+text_forms ContractLine = defined_form (codes "contract") (Nonterminal Contract) [] ∷ []
 text_forms Contract = contract_forms (Nonterminal Contract) (Nonterminal (Expression Language.Contracts))
 text_forms Amount = amount_forms (Nonterminal Amount) (Nonterminal (Expression Language.Code))
 text_forms (Expression l) = expression_forms (read_form l) (Nonterminal (Expression l))
@@ -191,7 +199,7 @@ portfolio_form =
 abbrev pub code_form : Form Symbol
 code_form =
     the_word (codes "payoff") ∷ Terminal is_version ∷ the_mark (codes ";")
-    ∷ declarations_form Declaration (the_word (codes "code") ∷ a_name ∷ the_mark (codes "=") ∷ Nonterminal Amount ∷ the_mark (codes ";") ∷ Terminal is_end ∷ [])
+    ∷ declarations_form Declaration (defined_form (codes "code") (Nonterminal Amount) (Terminal is_end ∷ []))
 
 -- a text of the language: a portfolio of contracts, or a text of payoff code
 abbrev pub text_form : Language → Form Symbol

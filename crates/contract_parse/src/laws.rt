@@ -1,5 +1,6 @@
 //! Laws over the definitions of texts: each function's contract is the law.
-ghost use Rattle.contract_parse.specs.FrontLaws.{FaultsEndFronts, FrontsEndInSyntax, FrontsGoOn, RefusalsEndFronts, RefusedTokensEndFronts, TakenTextsAreWhole, TakenTokensAreFronts, TextsAreWhole};
+ghost use Rattle.contract_parse.specs.FrontLaws.{FaultsEndFronts, FrontsEndInSyntax, RefusalsEndFronts, RefusedTokensEndFronts};
+ghost use Rattle.contract_parse.specs.FrontLaws.{FrontsGoOn, TakenTextsAreWhole, TakenTokensAreFronts, TextsAreWhole};
 ghost use Rattle.contract_parse.specs.FrontRows.{FrontRows};
 ghost use Rattle.contract_parse.specs.Laws.{ContractIsTaken, ContractsAreClosed, ContractsFitText, DateIsTaken, DeclarationsAreTaken, ExpressionIsTaken, NamesFitText, NodesFitText, OneExpression, OneReading, PaymentsAreBounded, PaymentsFitText, SampleIsText, TextHasNoFault, TextIsTaken};
 
