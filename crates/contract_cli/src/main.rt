@@ -15,6 +15,8 @@ pub mod laws;
 #[cfg(test)]
 mod long_tests;
 mod over_fixings;
+#[cfg(test)]
+mod payoff_tests;
 mod payoff_text;
 mod sample_size;
 mod status;

@@ -7,7 +7,7 @@ use std::test::Fail;
 pub const ROOM: usize = 4_194_304;
 
 // One file by this name, of which the numbered reads fail.
-fn one_file(
+pub fn one_file(
     alloc: Global,
     name: &[u8],
     text: &[u8],

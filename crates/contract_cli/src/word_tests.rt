@@ -102,6 +102,21 @@ advance|loan.txt|fix.csv|--to|1|--net
 advance|loan.txt|fix.csv|fix.csv|--to|1
 advance|loan.txt|fix.csv|--|--to|1
 advance|--help
+payoff
+payoff|loan.txt
+payoff|--contract|loan
+payoff|loan.txt|--contract
+payoff|loan.txt|--contract=
+payoff|loan.txt|--contract|pay
+payoff|loan.txt|--contract|1a
+payoff|loan.txt|fix.csv|--contract|loan
+payoff|loan.txt|--contract|loan|--contract|loan
+payoff|loan.txt|--contract|loan|--plain|--plain
+payoff|loan.txt|--contract|loan|--plain=true
+payoff|loan.txt|--contract|loan|--net
+payoff|loan.txt|--contract|loan|--until|1
+payoff|loan.txt|--|--contract|loan
+payoff|--help
 sample
 sample|
 sample|0
@@ -151,6 +166,11 @@ advance|--to|30|loan.txt|fix.csv
 advance|loan.txt|--to=2024-02-14|fix.csv
 advance|--to=000000030|--|-x|fix.csv";
 
+// The code of the loan.
+const COMPILED: &str = "payoff|loan.txt|--contract|loan
+payoff|--contract=loan|loan.txt
+payoff|--contract|loan|--|-x";
+
 const SAMPLE_OF_7: &str = "sample|7
 sample|007
 sample|00000000000000000000000000000000000000007
@@ -177,6 +197,15 @@ asset EUR;
 contract loan = after(60, scale(105.00, pay(EUR, B, A)));
 ";
     print_all(&rt, alloc, TO_DAY_30, left)?;
+    let code = b"payoff 1;
+amounts 2;
+origin 2024-01-15;
+start 0;
+party A, B, C;
+asset EUR;
+code loan = add(scale(100.00, cut(0, pay(0, EUR, A, B))), scale(105.00, cut(90, pay(90, EUR, B, A))));
+";
+    print_all(&rt, alloc, COMPILED, code)?;
     let sums = b"contracts 7\nlines 7\nA,B,EUR,840.14\n";
     print_all(&rt, alloc, SAMPLE_OF_7, sums)?;
     let mut files = desk(alloc)?;
