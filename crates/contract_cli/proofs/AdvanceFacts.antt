@@ -26,7 +26,7 @@ use Rattle.report.specs.declared.fault_lines.Fault.{Fault}
 use Rattle.contract_cli.specs.AdvanceLists.{AnswersRests, AppendsComments, AppendsRest, AppendsRests, IsRestText}
 use Rattle.contract_cli.specs.AdvanceText.{AreComments, AreDueLines, AreResiduals, IsAdvanceText, IsNewDay, StopsAdvance, day_out, not_accepted, row_refused, read_missing, commented, greatest_new_day, last_gone, rest_declarations}
 use Rattle.contract_cli.specs.CheckText.{AreAllAccepted}
-use Rattle.contract_cli.specs.Commands.{AdvanceAsked}
+use Rattle.command_words.specs.Commands.{AdvanceAsked}
 use Rattle.contract_cli.specs.FlowLists.{IsMissingOf, IsMissingOne, IsRefusedOf, IsRowFault, IsStopOf, IsWordFault}
 use Rattle.contract_cli.specs.FlowsText.{AreFixings}
 use Rattle.contract_cli.specs.Stopping.{AnswersBy}

@@ -6,7 +6,7 @@ use Rattle.term_core.specs.Declarations.{Declarations}
 use Rattle.term_core.specs.Environments.{Environment}
 use Rattle.report.specs.declared.fault_lines.Fault.{Fault}
 use Rattle.contract_cli.specs.AdvanceText.{AreDueLines, CanAdvance, IsAdvanceText, IsNewDay, IsNoNewDay, StopsAdvance, day_out, not_accepted, row_refused, read_missing, greatest_new_day, last_gone}
-use Rattle.contract_cli.specs.Commands.{Advance, AdvanceAsked}
+use Rattle.command_words.specs.Commands.{Advance, AdvanceAsked}
 use Rattle.contract_cli.specs.FlowLists.{IsWordFault}
 use Rattle.contract_cli.specs.RunLaws.{CauseOnBook, DueLinesAreOne}
 use Rattle.contract_cli.specs.Statuses.{status_of}

@@ -9,7 +9,7 @@ use Rattle.contract_cli.specs.Answering.{AnswersBytes}
 use Rattle.contract_cli.specs.Answers.{Answers, Inputs, Stops, on_portfolio, told}
 use Rattle.contract_cli.specs.AdvanceText.{IsAdvanceText, StopsAdvance}
 use Rattle.contract_cli.specs.CheckText.{IsChecked}
-use Rattle.contract_cli.specs.Commands.{Advance, AdvanceAsked, Asked, Check, Flows, FlowsAsked, Payoff, PayoffAsked}
+use Rattle.command_words.specs.Commands.{Advance, AdvanceAsked, Asked, Check, Flows, FlowsAsked, Payoff, PayoffAsked}
 use Rattle.contract_cli.specs.FlowsText.{IsFlowsText, StopsFlows}
 use Rattle.contract_cli.specs.PayoffText.{IsPayoffText, StopsPayoff}
 use Rattle.contract_cli.specs.Stopping.{AnswersBy}

@@ -8,7 +8,7 @@ use Rattle.term_core.specs.Environments.{Environment}
 use Rattle.term_core.specs.Terms.{Contract}
 use Rattle.report.specs.declared.fault_lines.Fault.{Fault}
 use Rattle.contract_cli.specs.CheckText.{AreAllAccepted}
-use Rattle.contract_cli.specs.Commands.{FlowsAsked}
+use Rattle.command_words.specs.Commands.{FlowsAsked}
 use Rattle.contract_cli.specs.FlowLists.{IsDayFault, IsMissingOf, IsRefusedOf, IsRowFault, LinesKnown}
 use Rattle.contract_cli.specs.FlowsText.{AreFixings, IsFlowsText, StopsFlows, name_unknown, day_out, not_accepted, row_refused, read_missing, WordsFit}
 use Rattle.contract_cli.specs.Used.{is_known, used}

@@ -6,7 +6,7 @@ use Rattle.term_core.specs.Declarations.{Declarations}
 use Rattle.term_core.specs.Environments.{Environment}
 use Rattle.report.specs.declared.fault_lines.Fault.{Fault}
 use Rattle.report.specs.declared.fault_lines.Fault.TheVariants as fault
-use Rattle.contract_cli.specs.Commands.{Flows, FlowsAsked}
+use Rattle.command_words.specs.Commands.{Flows, FlowsAsked}
 use Rattle.contract_cli.specs.FlowLists.{IsDayFault}
 use Rattle.contract_cli.specs.FlowsText.{AreLinesAsked, CanGo, IsFlowsText, IsLastDay, IsOutOfRange, StopsFlows, name_unknown, day_out, not_accepted, row_refused, read_missing, greatest_day}
 use Rattle.contract_cli.specs.RunLaws.{CauseOnBook}

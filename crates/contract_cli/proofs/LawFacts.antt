@@ -14,15 +14,15 @@ use Rattle.contract_cli.specs.Answers.{Answers, Inputs, IsNoText, StopsOn, Tells
 use Rattle.contract_cli.specs.Answering.{AreShort}
 use Rattle.contract_cli.specs.AdvanceText.{CanAdvance, IsAdvanceText, StopsAdvance, day_out as no_day, not_accepted as any_not_accepted, row_refused as any_row_refused, read_missing as any_read_missing, last_gone}
 use Rattle.contract_cli.specs.CheckText.{AreAllAccepted, IsChecked, all_accepted, some_refused}
-use Rattle.contract_cli.specs.Commands.{Advance, AdvanceAsked, Asked, Check, Flows, FlowsAsked, OnFiles, Payoff, PayoffAsked, Sample}
+use Rattle.command_words.specs.Commands.{Advance, AdvanceAsked, Asked, Check, Flows, FlowsAsked, OnCode, OnFiles, Payoff, PayoffAsked, Sample}
 use Rattle.contract_cli.specs.FlowLists.{IsShortTable}
 use Rattle.contract_cli.specs.FlowsText.{CanGo, IsFlowsText, StopsFlows, name_unknown, day_out, not_accepted, row_refused, read_missing}
 use Rattle.contract_cli.specs.PayoffText.{CanCompile, IsPayoffText, StopsPayoff}
-use Rattle.contract_cli.specs.Runs.{Cause, stopped as stops_run, answered, sampled, Edge, FileFault, read_failed, read_long, FilesSeen, IsNext, Meets, written, broken, lacking, Names, no_form, at_file, WritesAll, WritesNothing}
+use Rattle.contract_cli.specs.Runs.{Cause, stopped as stops_run, answered, valued, sampled, Edge, FileFault, read_failed, read_long, FilesSeen, IsNextByWords, by_command, by_value, Meets, written, broken, lacking, no_form, at_file, WritesAll, WritesNothing}
 use Rattle.contract_cli.specs.RunLaws.{AdvanceIsComplete, BadTextIsExact, CauseOnBook, CheckIsComplete, ComesExactlyWhere, FlowsAreComplete, IsExactOnBook, IsLongAt, long_portfolio, long_table, IsReadWhole, IsTextWhere, IsTooLong, PayoffIsComplete, ReadFaultIs, ReadFaultsHaveCauses, RefusalsAreExact, TooLongIs, TooLongIsExact, UsageIsExact, UsageWritesItsLine, WriteFaultsHaveCauses}
 use Rattle.contract_cli.specs.Statuses.{status_of}
 use Rattle.contract_cli.specs.Used.{used}
-use Rattle.contract_cli.specs.Words.{request_of}
+use Rattle.command_words.specs.Words.{request_of}
 use Rattle.contract_cli.specs.declared.status.Status.{Status}
 use Rattle.contract_cli.specs.declared.status.Status.TheVariants as status
 use Rattle.contract_cli.proofs.AdvanceStages as advance_stages
@@ -31,6 +31,7 @@ use Rattle.contract_cli.proofs.PayoffStages as payoff_stages
 use Rattle.contract_cli.proofs.FlowsAreOne.{accepted_or_not, fixed_or_not}
 use Rattle.contract_cli.proofs.RunFacts.{Ends, long, with_answer, with_nothing, ends}
 use Rattle.contract_cli.proofs.Stages.{last_stage, same_stage, stopped_stage}
+use Rattle.contract_cli.proofs.ValueFacts.{no_value_read_fault, no_value_usage, no_value_write_fault}
 
 -- two statuses that a status cannot both be
 apart : {s x y : Status} (P : Type 0) → (x ≡ y → ⊥) → s ≡ x → s ≡ y → P
@@ -119,14 +120,17 @@ module _ (words : List (List ℕ)) (files : FilesSeen) where
 
   usage_only : (s : Status) (text : List ℕ) → Cause words files s text → s ≡ status.Usage → (request_of words ≡ None) × (text ≡ fault_text fault.Usage)
   usage_only s text (stops_run f (no_form none is) e line) same = (none, line ∙ ap fault_text is)
-  usage_only s text (stops_run f (at_file asked named file place next h) e line) same = absurd (file_not_usage file place f h (sym e ∙ same))
+  usage_only s text (stops_run f (at_file file place next h) e line) same = absurd (file_not_usage file place f h (sym e ∙ same))
   usage_only s text (answered asked named inputs read a) same = absurd (no_usage asked inputs s text a same)
+  usage_only s text (valued asked named inputs read a) same = absurd (no_value_usage asked inputs s text a same)
   usage_only s text (sampled count sample e sum) same = absurd (apart ⊥ (λ (x : status.Done ≡ status.Usage). cc) e same)
 
   usage_comes : (s : Status) (text : List ℕ) → Cause words files s text → request_of words ≡ None → s ≡ status.Usage
   usage_comes s text (stops_run f (no_form none is) e line) h = e ∙ ap status_of is
-  usage_comes s text (stops_run f (at_file asked named file place next k) e line) h = absurd (let x : request_of words ≡ Some (OnFiles asked) = named in cc)
+  usage_comes s text (stops_run f (at_file file place (by_command asked named next) k) e line) h = absurd (let x : request_of words ≡ Some (OnFiles asked) = named in cc)
+  usage_comes s text (stops_run f (at_file file place (by_value asked named next) k) e line) h = absurd (let x : request_of words ≡ Some (OnCode asked) = named in cc)
   usage_comes s text (answered asked named inputs read a) h = absurd (let x : request_of words ≡ Some (OnFiles asked) = named in cc)
+  usage_comes s text (valued asked named inputs read a) h = absurd (let x : request_of words ≡ Some (OnCode asked) = named in cc)
   usage_comes s text (sampled count sample e sum) h = absurd (let x : request_of words ≡ Some (Sample count) = sample in cc)
 
 pub usage_is_exact : UsageIsExact
@@ -148,16 +152,17 @@ usage_writes_its_line words edge m = usage_line words edge status.Usage refl m
 -- ---- failed reads and writes
 
 module _ (words : List (List ℕ)) (edge : Edge) where
-  read_by_file : (asked : Asked) (file : List ℕ) (place : ℕ) (f : Fault) (s : Status) (text : List ℕ) → Names words asked → IsNext edge.files asked file place → FileFault edge.files file place f → s ≡ status_of f → s ≡ status.ReadFault → text ≡ fault_text f → WritesAll edge.sink text → ReadFaultIs words edge
-  read_by_file asked file place f s text named next (read_failed is rose) e same line w =
-      record { asked = asked; named = named; file = file; place = place; next = next; rose = rose; line = by_line edge text (fault_text (fault.Read place)) (line ∙ ap fault_text is) w }
-  read_by_file asked file place f s text named next (read_long is known) e same line w =
+  read_by_file : (file : List ℕ) (place : ℕ) (f : Fault) (s : Status) (text : List ℕ) → IsNextByWords words edge.files file place → FileFault edge.files file place f → s ≡ status_of f → s ≡ status.ReadFault → text ≡ fault_text f → WritesAll edge.sink text → ReadFaultIs words edge
+  read_by_file file place f s text next (read_failed is rose) e same line w =
+      record { file = file; place = place; next = next; rose = rose; line = by_line edge text (fault_text (fault.Read place)) (line ∙ ap fault_text is) w }
+  read_by_file file place f s text next (read_long is known) e same line w =
       apart (ReadFaultIs words edge) (λ (x : status.TooLong ≡ status.ReadFault). cc) (e ∙ ap status_of is) same
 
   read_by_cause : (s : Status) (text : List ℕ) → Cause words edge.files s text → s ≡ status.ReadFault → WritesAll edge.sink text → ReadFaultIs words edge
   read_by_cause s text (stops_run f (no_form none is) e line) same w = apart (ReadFaultIs words edge) (λ (x : status.Usage ≡ status.ReadFault). cc) (e ∙ ap status_of is) same
-  read_by_cause s text (stops_run f (at_file asked named file place next h) e line) same w = read_by_file asked file place f s text named next h e same line w
+  read_by_cause s text (stops_run f (at_file file place next h) e line) same w = read_by_file file place f s text next h e same line w
   read_by_cause s text (answered asked named inputs read a) same w = absurd (no_read_fault asked inputs s text a same)
+  read_by_cause s text (valued asked named inputs read a) same w = absurd (no_value_read_fault asked inputs s text a same)
   read_by_cause s text (sampled count sample e sum) same w = apart (ReadFaultIs words edge) (λ (x : status.Done ≡ status.ReadFault). cc) e same
 
   read_fault_by : (s : Status) → s ≡ status.ReadFault → Meets words edge s → ReadFaultIs words edge
@@ -170,9 +175,10 @@ read_faults_have_causes words edge m = read_fault_by words edge status.ReadFault
 
 no_write_cause : (words : List (List ℕ)) (files : FilesSeen) (s : Status) (text : List ℕ) → Cause words files s text → s ≡ status.WriteFault → ⊥
 no_write_cause words files s text (stops_run f (no_form none is) e line) same = apart ⊥ (λ (x : status.Usage ≡ status.WriteFault). cc) (e ∙ ap status_of is) same
-no_write_cause words files s text (stops_run f (at_file asked named file place next (read_failed is rose)) e line) same = apart ⊥ (λ (x : status.ReadFault ≡ status.WriteFault). cc) (e ∙ ap status_of is) same
-no_write_cause words files s text (stops_run f (at_file asked named file place next (read_long is known)) e line) same = apart ⊥ (λ (x : status.TooLong ≡ status.WriteFault). cc) (e ∙ ap status_of is) same
+no_write_cause words files s text (stops_run f (at_file file place next (read_failed is rose)) e line) same = apart ⊥ (λ (x : status.ReadFault ≡ status.WriteFault). cc) (e ∙ ap status_of is) same
+no_write_cause words files s text (stops_run f (at_file file place next (read_long is known)) e line) same = apart ⊥ (λ (x : status.TooLong ≡ status.WriteFault). cc) (e ∙ ap status_of is) same
 no_write_cause words files s text (answered asked named inputs read a) same = no_write_fault asked inputs s text a same
+no_write_cause words files s text (valued asked named inputs read a) same = no_value_write_fault asked inputs s text a same
 no_write_cause words files s text (sampled count sample e sum) same = apart ⊥ (λ (x : status.Done ≡ status.WriteFault). cc) e same
 
 write_fault_by : (words : List (List ℕ)) (edge : Edge) (s : Status) → s ≡ status.WriteFault → Meets words edge s → Rose edge.sink.faults_before edge.sink.faults_after

@@ -19,14 +19,12 @@ pub mod PayoffStages
 pub mod AnswersAreOne
 pub mod RunFacts
 pub mod ReadFacts
+pub mod ValueFacts
+pub mod ValueParts
 pub mod LawFacts
 pub mod ComposeFacts
 pub mod AdvanceTexts
 pub mod PayoffTexts
-pub mod Declaring
-pub mod Taken
-pub mod WordFacts
-pub mod SizeFacts
 pub mod OneSummary
 pub mod SampleLaws
-mod WordRows
+pub mod HeadlineFacts

@@ -23,7 +23,7 @@ use Rattle.payoff_compile.proofs.PlainFacts.{code_plain}
 use Rattle.payoff_compile.proofs.WritableFacts.{plain_writable, terms_small}
 use Rattle.report.specs.declared.fault_lines.Fault.{Fault}
 use Rattle.report.specs.declared.fault_lines.Fault.TheVariants as fault
-use Rattle.contract_cli.specs.Commands.{PayoffAsked}
+use Rattle.command_words.specs.Commands.{PayoffAsked}
 use Rattle.contract_cli.specs.FlowLists.{IsRefusedOne}
 use Rattle.contract_cli.specs.PayoffText.{IsAcceptedAtDefaults, IsPayoffText, StopsPayoff, name_unknown, not_accepted, code_asked, file_of}
 use Rattle.contract_cli.specs.Used.{at_defaults, contract_named}

@@ -10,7 +10,7 @@ use Rattle.payoff_lang.specs.CodeCanon.{IsCanonOfCode}
 use Rattle.payoff_lang.proofs.CodeCanonFacts.{one_canon_of_code}
 use Rattle.report.specs.declared.fault_lines.Fault.{Fault}
 use Rattle.report.specs.declared.fault_lines.Fault.TheVariants as fault
-use Rattle.contract_cli.specs.Commands.{Payoff, PayoffAsked}
+use Rattle.command_words.specs.Commands.{Payoff, PayoffAsked}
 use Rattle.contract_cli.specs.PayoffText.{CanCompile, IsAcceptedAtDefaults, IsPayoffText, IsRefusedAtDefaults, StopsPayoff, name_unknown, not_accepted, code_file_of}
 use Rattle.contract_cli.specs.RunLaws.{CauseOnBook}
 use Rattle.contract_cli.specs.Statuses.{status_of}

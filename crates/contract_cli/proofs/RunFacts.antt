@@ -6,10 +6,10 @@ use Rattle.report.specs.declared.fault_lines.Fault.{Fault}
 use Rattle.report.specs.declared.fault_lines.Fault.TheVariants as fault
 use Rattle.contract_cli.specs.Answers.{Answers, Inputs}
 use Rattle.contract_cli.specs.Answering.{AreShort}
-use Rattle.contract_cli.specs.Commands.{Asked, OnFiles, Sample, fixings_file, portfolio_file}
+use Rattle.command_words.specs.Commands.{Asked, OnCode, OnFiles, Sample, fixings_file, portfolio_file}
 use Rattle.contract_cli.specs.FlowLists.{IsShortTable}
-use Rattle.contract_cli.specs.Words.{request_of}
-use Rattle.contract_cli.specs.Runs.{Cause, stopped, answered, sampled, Edge, FilesSeen, FileFault, read_failed, read_long, IsNext, is_first, is_second, Meets, written, broken, lacking, Names, StopsRun, no_form, at_file, WasRead, WasReadIfNamed, WereRead, WritesAll, WritesNothing, longest_file}
+use Rattle.command_words.specs.Words.{request_of}
+use Rattle.contract_cli.specs.Runs.{Cause, stopped, answered, valued, sampled, Edge, FilesSeen, FileFault, read_failed, read_long, IsNext, is_first, is_second, IsNextByWords, by_command, by_value, Meets, written, broken, lacking, Names, StopsRun, no_form, at_file, WasRead, WasReadIfNamed, WereRead, WritesAll, WritesNothing, longest_file}
 use Rattle.contract_cli.specs.RunLaws.{IsLongAt, long_portfolio, long_table, IsRead, IsTold, IsToldIfNamed}
 use Rattle.contract_cli.specs.Statuses.{status_of}
 use Rattle.contract_cli.specs.declared.status.Status.{Status}
@@ -106,7 +106,8 @@ module _ (words : List (List ℕ)) (edge : Edge) (asked : Asked) (inputs : Input
 
   by_stop : (f : Fault) (s : Status) (text : List ℕ) → StopsRun words edge.files f → s ≡ status_of f → text ≡ fault_text f → WritesAll edge.sink text → Ends edge asked inputs s
   by_stop f s text (no_form none is) e line w = absurd (let h : request_of words ≡ Some (OnFiles asked) = r.named in cc)
-  by_stop f s text (at_file a named file place next h) e line w = by_file a file place f s text named next h e line w
+  by_stop f s text (at_file file place (by_command a named next) h) e line w = by_file a file place f s text named next h e line w
+  by_stop f s text (at_file file place (by_value v named next) h) e line w = absurd (let h : request_of words ≡ Some (OnFiles asked) = r.named in let k : request_of words ≡ Some (OnCode v) = named in cc)
 
   by_cause : (s : Status) (text : List ℕ) → Cause words edge.files s text → WritesAll edge.sink text → Ends edge asked inputs s
   by_cause s text (stopped f h e line) w = by_stop f s text h e line w
@@ -116,6 +117,7 @@ module _ (words : List (List ℕ)) (edge : Edge) (asked : Asked) (inputs : Input
       let given = subst (λ (x : Asked). Answers x read_inputs s text) one ans in
       let same = same_inputs edge.files asked read_inputs inputs were r.portfolio r.fixings in
       with_answer text (subst (λ (i : Inputs). AreShort i) same (were_short edge.files asked read_inputs were)) (subst (λ (i : Inputs). Answers asked i s text) same given) w
+  by_cause s text (valued v named given read ans) w = absurd (let h : request_of words ≡ Some (OnFiles asked) = r.named in let k : request_of words ≡ Some (OnCode v) = named in cc)
   by_cause s text (sampled count sample e sum) w = absurd (let h : request_of words ≡ Some (OnFiles asked) = r.named in let k : request_of words ≡ Some (Sample count) = sample in cc)
 
   pub ends : (s : Status) → Meets words edge s → Ends edge asked inputs s

@@ -2,20 +2,24 @@
 use Rattle.std.proofs.Common.{◌≡◌, ◌∙◌, ◌⊎◌, inl, inr, ℕ, List, subst, sym}
 use Rattle.std.specs.Prelude.{Some}
 use Rattle.sample.specs.Summary.{IsSummary}
-use Rattle.contract_cli.specs.Commands.{OnFiles, Sample}
-use Rattle.contract_cli.specs.Runs.{NamesSample, Cause, stopped, answered, sampled, Edge, Meets, written, broken, lacking, no_form, at_file, WritesAll, WritesNothing}
+use Rattle.command_words.specs.Commands.{OnCode, OnFiles, Sample}
+use Rattle.contract_cli.specs.Runs.{NamesSample, Cause, stopped, answered, valued, sampled, Edge, Meets, written, broken, lacking, no_form, at_file, by_command, by_value, WritesAll, WritesNothing}
 use Rattle.contract_cli.specs.RunLaws.{SampleEnds, summarized, unwritten, no_memory, SampleHasThreeEnds, SampleIsComplete, WritesSucceed}
-use Rattle.contract_cli.specs.Words.{request_of}
+use Rattle.command_words.specs.Words.{request_of}
 use Rattle.contract_cli.specs.declared.status.Status.{Status}
 use Rattle.contract_cli.specs.declared.status.Status.TheVariants as status
 
 module _ (words : List (List ℕ)) (edge : Edge) (count : ℕ) (sample : NamesSample words count) where
   by_cause : (s : Status) (text : List ℕ) → Cause words edge.files s text → WritesAll edge.sink text → SampleEnds edge count s
   by_cause s text (stopped f (no_form none is) e line) w = absurd (let h : request_of words ≡ Some (Sample count) = sample in cc)
-  by_cause s text (stopped f (at_file asked named file place next h) e line) w =
+  by_cause s text (stopped f (at_file file place (by_command asked named next) h) e line) w =
       absurd (let a : request_of words ≡ Some (Sample count) = sample in let b : request_of words ≡ Some (OnFiles asked) = named in cc)
+  by_cause s text (stopped f (at_file file place (by_value asked named next) h) e line) w =
+      absurd (let a : request_of words ≡ Some (Sample count) = sample in let b : request_of words ≡ Some (OnCode asked) = named in cc)
   by_cause s text (answered asked named inputs read h) w =
       absurd (let a : request_of words ≡ Some (Sample count) = sample in let b : request_of words ≡ Some (OnFiles asked) = named in cc)
+  by_cause s text (valued asked named inputs read h) w =
+      absurd (let a : request_of words ≡ Some (Sample count) = sample in let b : request_of words ≡ Some (OnCode asked) = named in cc)
   by_cause s text (sampled number asks e h) w =
       let both : Some (Sample number) ≡ Some (Sample count) = sym asks ∙ sample in
       let same : number ≡ count = cc in

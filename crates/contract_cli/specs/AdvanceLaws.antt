@@ -5,7 +5,7 @@ use Rattle.term_core.specs.Environments.{Environment}
 use Rattle.contract_parse.specs.Texts.{Text}
 use Rattle.contract_cli.specs.AdvanceText.{CanAdvance, IsAdvanceText, IsRestBook}
 use Rattle.contract_cli.specs.CheckText.{AreAllAccepted}
-use Rattle.contract_cli.specs.Commands.{AdvanceAsked}
+use Rattle.command_words.specs.Commands.{AdvanceAsked}
 use Rattle.contract_cli.specs.Used.{used}
 
 -- the bytes are a text of what is left of a portfolio on the new day, in which no contract is refused

@@ -11,7 +11,7 @@ use Rattle.flow_eval.specs.FlowAnswers.{AreKnownFlows}
 use Rattle.flow_eval.specs.declared.flow_table.FlowRow.{FlowRow}
 use Rattle.advance_step.specs.Advancing.{IsResidual}
 use Rattle.contract_cli.specs.AdvanceText.{AreComments, AreDueLines, AreResiduals, IsAdvanceText, IsNewDay, StopsAdvance, greatest_new_day, last_gone, rest_declarations}
-use Rattle.contract_cli.specs.Commands.{AdvanceAsked}
+use Rattle.command_words.specs.Commands.{AdvanceAsked}
 use Rattle.contract_cli.specs.FlowLists.{IsMissingOf, IsMissingOne, IsWordFault}
 use Rattle.contract_cli.specs.FlowsText.{AreAllFixed}
 use Rattle.contract_cli.specs.Stopping.{AnswersBy}

@@ -21,7 +21,7 @@ use Rattle.report.specs.FlowLines.{IsFlowLine}
 use Rattle.report.specs.declared.fault_lines.Fault.{Fault}
 use Rattle.report.specs.declared.fault_lines.Fault.TheVariants as fault
 use Rattle.contract_cli.specs.CheckText.{AreAllAccepted}
-use Rattle.contract_cli.specs.Commands.{AdvanceAsked}
+use Rattle.command_words.specs.Commands.{AdvanceAsked}
 use Rattle.contract_cli.specs.FlowsText.{AreAllFixed, AreFixings, IsFirstMissing, IsFirstNotAccepted, IsOutOfRange, label_name}
 use Rattle.contract_cli.specs.Used.{used}
 

@@ -3,14 +3,16 @@ use Rattle.std.specs.Prelude.{◌≤◌, ℕ, List, option_map, Result, length}
 use Rattle.std.specs.Global.{Vec}
 use Rattle.report.specs.FaultLines.{fault_text}
 use Rattle.contract_cli.specs.Answers.{Answers, Inputs, Stops}
-use Rattle.contract_cli.specs.Commands.{Asked}
+use Rattle.command_words.specs.Commands.{Asked, ValueAsked}
 use Rattle.contract_cli.specs.FlowLists.{IsShortTable}
-use Rattle.contract_cli.specs.Runs.{Cause, FilesSeen, StopsRun, FileFault, WasRead, WereRead}
+use Rattle.contract_cli.specs.Runs.{Cause, FilesSeen, StopsRun, FileFault, WasRead, WereRead, WereReadForValue}
 use Rattle.contract_cli.specs.Statuses.{status_of}
 use Rattle.contract_cli.specs.Stopping.{AnswersBy}
+use Rattle.contract_cli.specs.Valuing.{value_inputs_by}
 use Rattle.contract_cli.specs.declared.answers.Answer.{Answer}
 use Rattle.contract_cli.specs.declared.answers.Inputs.{Inputs as Kept}
 use Rattle.contract_cli.specs.declared.stop.Stop.{Stop}
+use Rattle.contract_cli.specs.declared.value_inputs.ValueInputs.{ValueInputs as KeptForValue}
 
 -- the bytes that a program keeps of a command's files
 abbrev pub inputs_by : Kept → Inputs
@@ -31,6 +33,10 @@ AnswersFile files file place r = AnswersBy (λ bytes. WasRead files file bytes.i
 -- the bytes of the files of a command, or what stops a run that reads them not
 abbrev pub AnswersInputs : List (List ℕ) → FilesSeen → Asked → Result Kept Stop → Type 0
 AnswersInputs words files asked r = AnswersBy (λ inputs. WereRead files asked (inputs_by inputs)) (StopsRun words files) r
+
+-- the bytes of the files of `value`, or what stops a run that reads them not
+abbrev pub AnswersValueInputs : List (List ℕ) → FilesSeen → ValueAsked → Result KeptForValue Stop → Type 0
+AnswersValueInputs words files asked r = AnswersBy (λ inputs. WereReadForValue files asked (value_inputs_by inputs)) (StopsRun words files) r
 
 -- an answer with its cause
 abbrev pub AnswersWords : List (List ℕ) → FilesSeen → Result Answer Stop → Type 0

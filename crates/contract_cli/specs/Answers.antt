@@ -9,7 +9,7 @@ use Rattle.report.specs.declared.fault_lines.Fault.{Fault}
 use Rattle.report.specs.declared.fault_lines.Fault.TheVariants as fault
 use Rattle.contract_cli.specs.AdvanceText.{IsAdvanceText, StopsAdvance}
 use Rattle.contract_cli.specs.CheckText.{IsChecked}
-use Rattle.contract_cli.specs.Commands.{Advance, Asked, Check, Flows, Payoff}
+use Rattle.command_words.specs.Commands.{Advance, Asked, Check, Flows, Payoff}
 use Rattle.contract_cli.specs.FlowsText.{IsFlowsText, StopsFlows}
 use Rattle.contract_cli.specs.PayoffText.{IsPayoffText, StopsPayoff}
 use Rattle.contract_cli.specs.Statuses.{status_of}

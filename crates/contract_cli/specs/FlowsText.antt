@@ -25,7 +25,7 @@ use Rattle.report.specs.SumTables.{together}
 use Rattle.report.specs.declared.fault_lines.Fault.{Fault}
 use Rattle.report.specs.declared.fault_lines.Fault.TheVariants as fault
 use Rattle.contract_cli.specs.CheckText.{AreAllAccepted}
-use Rattle.contract_cli.specs.Commands.{FlowsAsked}
+use Rattle.command_words.specs.Commands.{FlowsAsked}
 use Rattle.contract_cli.specs.Used.{is_known, used}
 
 -- the greatest day that can be asked for

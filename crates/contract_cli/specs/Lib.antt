@@ -1,6 +1,3 @@
-pub mod Commands
-pub mod Arguments
-pub mod Words
 pub mod Statuses
 pub mod Stopping
 pub mod Used
@@ -10,6 +7,9 @@ pub mod FlowsText
 pub mod AdvanceText
 pub mod PayoffText
 pub mod Answers
+pub mod ValueText
+pub mod Valuing
+pub mod ValueAnswers
 pub mod Runs
 pub mod Checking
 pub mod FlowLists
@@ -19,3 +19,4 @@ pub mod RunLaws
 pub mod AdvanceLaws
 pub mod PayoffParts
 pub mod PayoffLaws
+pub mod Headline

@@ -2,7 +2,7 @@
 use Rattle.std.specs.Prelude.{ℕ, List, Result}
 use Rattle.std.specs.Global.{Vec}
 use Rattle.term_core.specs.Books.{Book}
-use Rattle.contract_cli.specs.Commands.{PayoffAsked}
+use Rattle.command_words.specs.Commands.{PayoffAsked}
 use Rattle.contract_cli.specs.PayoffText.{IsPayoffText, StopsPayoff}
 use Rattle.contract_cli.specs.Stopping.{AnswersBy}
 use Rattle.contract_cli.specs.Using.{IsNamed, NamesNone}

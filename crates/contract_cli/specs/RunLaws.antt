@@ -19,12 +19,12 @@ use Rattle.contract_cli.specs.Answers.{Answers, Inputs, IsNoText}
 use Rattle.contract_cli.specs.Answering.{AreShort}
 use Rattle.contract_cli.specs.AdvanceText.{CanAdvance, IsAdvanceText, IsNewDay, IsNoNewDay, IsRestBook, last_gone, rest_declarations}
 use Rattle.contract_cli.specs.CheckText.{AreAllAccepted, IsChecked}
-use Rattle.contract_cli.specs.Commands.{Advance, AdvanceAsked, Asked, Check, Flows, FlowsAsked, Payoff, PayoffAsked, fixings_file, portfolio_file}
+use Rattle.command_words.specs.Commands.{Advance, AdvanceAsked, Asked, Check, Flows, FlowsAsked, Payoff, PayoffAsked, fixings_file, portfolio_file}
 use Rattle.contract_cli.specs.FlowsText.{AreAllFixed, AreFixings, CanGo, IsFlowsText, IsOutOfRange, WordsFit, greatest_day}
 use Rattle.contract_cli.specs.PayoffText.{CanCompile, IsAcceptedAtDefaults, IsPayoffText}
-use Rattle.contract_cli.specs.Runs.{NamesSample, Edge, FilesSeen, IsNext, Meets, Names, WritesAll, WritesNothing, longest_file}
+use Rattle.contract_cli.specs.Runs.{NamesSample, Edge, FilesSeen, IsNextByWords, Meets, Names, WritesAll, WritesNothing, longest_file}
 use Rattle.contract_cli.specs.Used.{contract_named, is_known, used}
-use Rattle.contract_cli.specs.Words.{request_of}
+use Rattle.command_words.specs.Words.{request_of}
 use Rattle.contract_cli.specs.declared.status.Status.{Status}
 use Rattle.contract_cli.specs.declared.status.Status.TheVariants as status
 
@@ -173,11 +173,9 @@ UsageIsExact =
 
 -- a read is at fault only where the count of a named file rose, whose place is the line's
 pub record ReadFaultIs (words : List (List ℕ)) (edge : Edge) : Type 0 where
-  pub asked : Asked
-  pub named : Names words asked
   pub file : List ℕ
   pub place : ℕ
-  pub next : IsNext edge.files asked file place
+  pub next : IsNextByWords words edge.files file place
   pub rose : Rose (edge.files.faults_before file) (edge.files.faults_after file)
   pub line : WritesAll edge.sink (fault_text (fault.Read place))
 

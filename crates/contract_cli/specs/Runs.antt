@@ -1,7 +1,7 @@
 -- How a run ends. A run makes its whole text first, which for a fault is the fault's line, and then writes it: so it ends
 -- with the status of its text, which is written whole; or with a failed write of that text; or it lacks memory and has
 -- written nothing. The refusals come in this order: usage; file by file a failed read and a file that is too long; and then
--- those of the command on the files' bytes. A run of `sample` reads no file.
+-- those of the command on the files' bytes. A run of `value` reads three files, and one of `sample` none.
 use Rattle.std.specs.Prelude.{◌≡◌, ◌≢◌, ◌≤◌, ◌<◌, ℕ, List, Option, Some, None, IfSome, IsSome, length, take}
 use Rattle.std.specs.Io.KnownBytes.{Appends, Keeps}
 use Rattle.edge_io.specs.Counts.{Rose}
@@ -10,9 +10,11 @@ use Rattle.report.specs.declared.fault_lines.Fault.{Fault}
 use Rattle.report.specs.declared.fault_lines.Fault.TheVariants as fault
 use Rattle.sample.specs.Summary.{IsSummary}
 use Rattle.contract_cli.specs.Answers.{Answers, Inputs}
-use Rattle.contract_cli.specs.Commands.{Asked, OnFiles, Sample, fixings_file, portfolio_file}
+use Rattle.command_words.specs.Commands.{Asked, OnCode, OnFiles, Sample, ValueAsked, fixings_file, portfolio_file}
 use Rattle.contract_cli.specs.Statuses.{status_of}
-use Rattle.contract_cli.specs.Words.{request_of}
+use Rattle.contract_cli.specs.ValueAnswers.{ValueAnswers}
+use Rattle.contract_cli.specs.ValueText.{ValueInputs}
+use Rattle.command_words.specs.Words.{request_of}
 use Rattle.contract_cli.specs.declared.status.Status.{Status}
 use Rattle.contract_cli.specs.declared.status.Status.TheVariants as status
 
@@ -42,6 +44,10 @@ pub record Edge : Type 0 where
 abbrev pub Names : List (List ℕ) → Asked → Type 0
 Names words asked = request_of words ≡ Some (OnFiles asked)
 
+-- the words ask for the value of a code file
+abbrev pub NamesValue : List (List ℕ) → ValueAsked → Type 0
+NamesValue words asked = request_of words ≡ Some (OnCode asked)
+
 -- the words ask for the summary of the sample of so many contracts
 abbrev pub NamesSample : List (List ℕ) → ℕ → Type 0
 NamesSample words count = request_of words ≡ Some (Sample count)
@@ -58,10 +64,26 @@ pub record CountsOnlyNamed (asked : Asked) (files : FilesSeen) : Type 0 where
   pub later : (file : List ℕ) → files.faults_before file ≤ files.faults_after file
   pub others : (file : List ℕ) → IsUnnamed asked file → IsSome (files.contents file) → files.faults_after file ≡ files.faults_before file
 
--- the same of the command of words: words of no command, and of `sample`, name no file
+-- `value` does not name a file
+pub record IsUnnamedByValue (asked : ValueAsked) (file : List ℕ) : Type 0 where
+  pub other_code : file ≢ asked.files.code
+  pub other_fixings : file ≢ asked.files.fixings
+  pub other_curve : file ≢ asked.files.curve
+
+-- the same of what `value` names
+pub record CountsOnlyValued (asked : ValueAsked) (files : FilesSeen) : Type 0 where
+  pub later : (file : List ℕ) → files.faults_before file ≤ files.faults_after file
+  pub others : (file : List ℕ) → IsUnnamedByValue asked file → IsSome (files.contents file) → files.faults_after file ≡ files.faults_before file
+
+-- words do not name a file: words of no command, and of `sample`, name none
+pub record IsUnnamedByWords (words : List (List ℕ)) (file : List ℕ) : Type 0 where
+  pub by_command : (asked : Asked) → Names words asked → IsUnnamed asked file
+  pub by_value : (asked : ValueAsked) → NamesValue words asked → IsUnnamedByValue asked file
+
+-- the same of the command of words
 pub record CountsOnlyBy (words : List (List ℕ)) (files : FilesSeen) : Type 0 where
   pub later : (file : List ℕ) → files.faults_before file ≤ files.faults_after file
-  pub others : (file : List ℕ) → ((asked : Asked) → Names words asked → IsUnnamed asked file) → IsSome (files.contents file) → files.faults_after file ≡ files.faults_before file
+  pub others : (file : List ℕ) → IsUnnamedByWords words file → IsSome (files.contents file) → files.faults_after file ≡ files.faults_before file
 
 -- these bytes were read of a file: its contents, where they are told
 pub record WasRead (files : FilesSeen) (file bytes : List ℕ) : Type 0 where
@@ -79,10 +101,31 @@ pub record WereRead (files : FilesSeen) (asked : Asked) (inputs : Inputs) : Type
   pub portfolio : WasRead files (portfolio_file asked) inputs.portfolio
   pub fixings : WasReadIfNamed files (fixings_file asked) inputs.fixings
 
+-- these were read of the files of `value`
+pub record WereReadForValue (files : FilesSeen) (asked : ValueAsked) (inputs : ValueInputs) : Type 0 where
+  pub code : WasRead files asked.files.code inputs.code
+  pub fixings : WasRead files asked.files.fixings inputs.fixings
+  pub curve : WasRead files asked.files.curve inputs.curve
+
 -- the file at a place of a command, where those before it were read
 pub data IsNext (files : FilesSeen) (asked : Asked) (file : List ℕ) (place : ℕ) : Type 0 where
   is_first : place ≡ 1 → file ≡ portfolio_file asked → IsNext files asked file place
   is_second : place ≡ 2 → fixings_file asked ≡ Some file → (bytes : List ℕ) → WasRead files (portfolio_file asked) bytes → IsNext files asked file place
+
+-- the same of `value`
+pub data IsNextOfValue (files : FilesSeen) (asked : ValueAsked) (file : List ℕ) (place : ℕ) : Type 0 where
+  is_code : place ≡ 1 → file ≡ asked.files.code → IsNextOfValue files asked file place
+  is_fixings :
+      place ≡ 2 → file ≡ asked.files.fixings → (code : List ℕ) → WasRead files asked.files.code code
+      → IsNextOfValue files asked file place
+  is_curve :
+      place ≡ 3 → file ≡ asked.files.curve → (code : List ℕ) → WasRead files asked.files.code code
+      → (fixings : List ℕ) → WasRead files asked.files.fixings fixings → IsNextOfValue files asked file place
+
+-- the file at a place of what the words ask for
+pub data IsNextByWords (words : List (List ℕ)) (files : FilesSeen) (file : List ℕ) (place : ℕ) : Type 0 where
+  by_command : (asked : Asked) → Names words asked → IsNext files asked file place → IsNextByWords words files file place
+  by_value : (asked : ValueAsked) → NamesValue words asked → IsNextOfValue files asked file place → IsNextByWords words files file place
 
 -- why a file at a place was not read: the count of its faults rose, or it has more bytes than the limit, where its contents
 -- are told
@@ -110,9 +153,7 @@ WritesPart sink text =
 -- what stops a run that has not the bytes of its files: words of no form, or a file that was not read
 pub data StopsRun (words : List (List ℕ)) (files : FilesSeen) (f : Fault) : Type 0 where
   no_form : request_of words ≡ None → f ≡ fault.Usage → StopsRun words files f
-  at_file :
-      (asked : Asked) → Names words asked → (file : List ℕ) (place : ℕ) → IsNext files asked file place → FileFault files file place f
-      → StopsRun words files f
+  at_file : (file : List ℕ) (place : ℕ) → IsNextByWords words files file place → FileFault files file place f → StopsRun words files f
 
 -- why a run has a status, and the text that it writes then: the line of a fault; or the named files were read, and this is
 -- what the command answers to their bytes; or the summary of the sample
@@ -121,6 +162,9 @@ pub data Cause (words : List (List ℕ)) (files : FilesSeen) (s : Status) (text 
   answered :
       (asked : Asked) → Names words asked → (inputs : Inputs) → WereRead files asked inputs → Answers asked inputs s text
       → Cause words files s text
+  valued :
+      (asked : ValueAsked) → NamesValue words asked → (inputs : ValueInputs) → WereReadForValue files asked inputs
+      → ValueAnswers asked inputs s text → Cause words files s text
   sampled : (count : ℕ) → NamesSample words count → s ≡ status.Done → IsSummary count text → Cause words files s text
 
 -- how a run ends with a status

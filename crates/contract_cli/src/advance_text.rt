@@ -16,14 +16,13 @@ ghost use Rattle.contract_cli.specs.AdvanceText.{rest_declarations};
 ghost use Rattle.contract_cli.specs.CheckText.{AreAllAccepted};
 ghost use Rattle.contract_cli.specs.FlowLists.{IsShortTable};
 ghost use Rattle.contract_cli.specs.Using.{IsSound, IsTriable, entries_of, entry_of, trees};
-ghost use Rattle.contract_cli.specs.Words.{advance_by};
+ghost use Rattle.command_words.specs.Words.{advance_by};
 
 use crate::accepting::accept_all;
-use crate::day_words::DayWord;
 use crate::over_fixings::{day_asked, fixings_of, stop_of};
 use crate::stop::Stop;
 use crate::used::{Used, used_contracts};
-use crate::words::Advance;
+use command_words::{Advance, DayWord};
 use advance_step::{Advanced, advance};
 use contract_print::print_portfolio;
 use decimal::NoMemory;

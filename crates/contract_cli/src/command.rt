@@ -1,17 +1,20 @@
 //! The commands.
 
 ghost use Rattle.std.specs.Prelude.{◌≡◌, ℕ, List, map, option_map, IfOk};
-ghost use Rattle.contract_cli.specs.Answering.{AnswersFile, AnswersInputs, AnswersWords};
+ghost use Rattle.contract_cli.specs.Answering.{AnswersFile, AnswersInputs, AnswersValueInputs, AnswersWords};
 ghost use Rattle.edge_io.specs.Files.{CountsOnly};
-ghost use Rattle.contract_cli.specs.Runs.{Cause, CountsOnlyBy, CountsOnlyNamed, Meets, Names};
-ghost use Rattle.contract_cli.specs.Commands.{fixings_file, portfolio_file};
-ghost use Rattle.contract_cli.specs.Words.{asked_by};
+ghost use Rattle.contract_cli.specs.Valuing.{AreShortForValue, value_inputs_by};
+ghost use Rattle.contract_cli.specs.Headline.{Headline};
+ghost use Rattle.contract_cli.specs.Runs.{Cause, CountsOnlyBy, CountsOnlyNamed, CountsOnlyValued, Meets, Names, NamesValue};
+ghost use Rattle.command_words.specs.Commands.{ValueAsked, fixings_file, portfolio_file};
+ghost use Rattle.command_words.specs.Words.{asked_by, files_by, value_by};
 
 use crate::answers::{Answer, Inputs, answer_bytes, fault_answer, sample_answer};
-use crate::arguments::WordsErr;
 use crate::status::Status;
 use crate::stop::Stop;
-use crate::words::{Command, Request, request_of};
+use crate::value_answers::answer_value;
+use crate::value_inputs::ValueInputs;
+use command_words::{Command, Request, Value, ValueFiles, WordsErr, request_of};
 use decimal::NoMemory;
 use edge_io::{Files, ReadErr, Sink, write_whole};
 use report::Fault;
@@ -83,6 +86,41 @@ fn read_inputs<F: Files>(
     Ok(Inputs { portfolio, fixings })
 }
 
+// The bytes of the files of `value`, in their order.
+fn read_value_inputs<F: Files>(
+    alloc: Global,
+    named: &ValueFiles<'_>,
+    files: &mut F,
+) -> Result<ValueInputs, Stop>
+    ensures answer { (words : List (List ℕ)) (asked : ValueAsked) → asked.files ≡ files_by named.now → NamesValue words asked → AnswersValueInputs words (record { contents = F.contents files.old; faults_before = F.faults files.old; faults_after = F.faults files.new }) asked result }
+    ensures kept { (other : List ℕ) → F.contents files.new other ≡ F.contents files.old other }
+    ensures short { IfOk result (λ inputs. AreShortForValue (value_inputs_by inputs)) }
+    ensures counts { (asked : ValueAsked) → asked.files ≡ files_by named.now → CountsOnlyValued asked (record { contents = F.contents files.old; faults_before = F.faults files.old; faults_after = F.faults files.new }) }
+{
+    let code = read_file(alloc, files, named.code, 1)?;
+    let fixings = read_file(alloc, files, named.fixings, 2)?;
+    let curve = read_file(alloc, files, named.curve, 3)?;
+    Ok(ValueInputs {
+        code,
+        fixings,
+        curve,
+    })
+}
+
+// Reads the files of `value`, and makes the text of its answer.
+fn answer_on_code<F: Files>(
+    alloc: Global,
+    value: &Value<'_>,
+    files: &mut F,
+) -> Result<Answer, Stop>
+    ensures answer { (words : List (List ℕ)) → NamesValue words (value_by value.now) → AnswersWords words (record { contents = F.contents files.old; faults_before = F.faults files.old; faults_after = F.faults files.new }) result }
+    ensures kept { (other : List ℕ) → F.contents files.new other ≡ F.contents files.old other }
+    ensures counts { CountsOnlyValued (value_by value.now) (record { contents = F.contents files.old; faults_before = F.faults files.old; faults_after = F.faults files.new }) }
+{
+    let inputs = read_value_inputs(alloc, &value.files, files)?;
+    answer_value(alloc, value, &inputs)
+}
+
 // Reads the words and the named files, and makes the text of the answer.
 fn answer_words<'a, F: Files>(
     alloc: Global,
@@ -103,6 +141,7 @@ fn answer_words<'a, F: Files>(
             let inputs = read_inputs(alloc, &command, files)?;
             answer_bytes(alloc, &command, &inputs)
         }
+        Request::OnCode(value) => answer_on_code(alloc, &value, files),
         Request::Sample(size) => {
             let answer = sample_answer(alloc, size)?;
             Ok(answer)
@@ -141,6 +180,10 @@ pub fn run<'a, F: Files, S: Sink>(
     out: &mut S,
 ) -> Status
     ensures meets { Meets (map (λ word. word.now) words.entry.now) (record {
+      files = record { contents = F.contents files.old; faults_before = F.faults files.old; faults_after = F.faults files.new };
+      sink = record { taken_before = S.taken out.old; taken_after = S.taken out.new; faults_before = S.faults out.old; faults_after = S.faults out.new };
+    }) result }
+    ensures headline { Headline (map (λ word. word.now) words.entry.now) (record {
       files = record { contents = F.contents files.old; faults_before = F.faults files.old; faults_after = F.faults files.new };
       sink = record { taken_before = S.taken out.old; taken_after = S.taken out.new; faults_before = S.faults out.old; faults_after = S.faults out.new };
     }) result }

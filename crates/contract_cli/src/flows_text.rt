@@ -14,14 +14,13 @@ ghost use Rattle.contract_cli.specs.FlowLists.{AnswersLines, AnswersTables, Appe
 ghost use Rattle.contract_cli.specs.FlowsText.{IsFlowsText, StopsFlows};
 ghost use Rattle.contract_cli.specs.Stopping.{AnswersBy};
 ghost use Rattle.contract_cli.specs.Using.{IsSound, entries_of};
-ghost use Rattle.contract_cli.specs.Words.{flows_by};
+ghost use Rattle.command_words.specs.Words.{flows_by};
 
 use crate::accepting::accept_all;
-use crate::day_words::DayWord;
 use crate::over_fixings::{day_asked, fixings_of, stop_of};
 use crate::stop::Stop;
 use crate::used::{Used, know, used_contracts};
-use crate::words::Flows;
+use command_words::{DayWord, Flows};
 use decimal::NoMemory;
 use fixing_files::Fixings;
 use flow_eval::{FlowTable, flows};

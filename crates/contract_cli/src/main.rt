@@ -6,10 +6,8 @@ mod accepting;
 mod advance_tests;
 mod advance_text;
 mod answers;
-mod arguments;
 mod check_text;
 mod command;
-mod day_words;
 mod flows_text;
 pub mod laws;
 #[cfg(test)]
@@ -18,15 +16,19 @@ mod over_fixings;
 #[cfg(test)]
 mod payoff_tests;
 mod payoff_text;
-mod sample_size;
 mod status;
 mod stop;
 #[cfg(test)]
 mod tests;
 mod used;
+mod value_answers;
+mod value_inputs;
+mod value_names;
+#[cfg(test)]
+mod value_tests;
+mod value_text;
 #[cfg(test)]
 mod word_tests;
-mod words;
 
 ghost use Rattle.std.specs.Prelude.{◌≡◌, map, string_bytes, IfOk};
 

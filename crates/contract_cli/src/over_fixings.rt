@@ -6,7 +6,8 @@ ghost use Rattle.term_core.specs.Declarations.{declarations};
 ghost use Rattle.contract_cli.specs.FlowLists.{AnswersDay, AnswersFixings, IsShortTable, IsStopOf, day_in_range};
 ghost use Rattle.contract_cli.specs.FlowsText.{label_name};
 
-use crate::day_words::DayWord;
+use crate::check_text::verdict;
+use command_words::DayWord;
 use crate::stop::Stop;
 use decimal::NoMemory;
 use fixing_files::{DayFault, Fixings, RowErr, place_day, read_fixings};

@@ -16,12 +16,12 @@ ghost use Rattle.contract_cli.specs.PayoffParts.{AnswersPayoff};
 ghost use Rattle.contract_cli.specs.PayoffText.{IsAcceptedAtDefaults, code_asked, file_of};
 ghost use Rattle.contract_cli.specs.Used.{at_defaults};
 ghost use Rattle.contract_cli.specs.Using.{IsSound};
-ghost use Rattle.contract_cli.specs.Words.{payoff_by};
+ghost use Rattle.command_words.specs.Words.{payoff_by};
 
 use crate::accepting::accept;
 use crate::stop::Stop;
 use crate::used::{Used, Written, contract_named, instance_of};
-use crate::words::Payoff;
+use command_words::Payoff;
 use decimal::NoMemory;
 use payoff_compile::{compile, cut};
 use payoff_lang::{Code, CodeFile, print_code};

@@ -13,7 +13,7 @@ use Rattle.contract_cli.specs.CheckText.{AreAllAccepted}
 use Rattle.contract_cli.specs.FlowLists.{HoldsFixings, IsMissingOf, IsRefusedOf, IsRowFault, IsWordFault}
 use Rattle.contract_cli.specs.Used.{used}
 use Rattle.contract_cli.specs.Using.{entries_of}
-use Rattle.contract_cli.specs.Words.{advance_by}
+use Rattle.command_words.specs.Words.{advance_by}
 use Rattle.contract_cli.specs.declared.advance_text.Left.{Left}
 use Rattle.contract_cli.specs.declared.used.Used.{Used}
 use Rattle.contract_cli.proofs.AdvanceFacts.{contract_stops, day_stops, read_stops, row_stops, used_names, whole_text}

@@ -6,12 +6,12 @@ use Rattle.contract_cli.specs.Answering.{inputs_by}
 use Rattle.contract_cli.specs.Answers.{Answers, Stops, stopped as stops_on}
 use Rattle.contract_cli.specs.Runs.{Cause, answered, sampled, stopped, no_form, FilesSeen, Names, NamesSample, StopsRun, WereRead}
 use Rattle.contract_cli.specs.Statuses.{status_of}
-use Rattle.contract_cli.specs.Words.{IsRequestOf, asked_by, requested_by}
+use Rattle.command_words.specs.Words.{IsRequestOf, asked_by, requested_by}
 use Rattle.contract_cli.specs.declared.answers.Answer.{Answer}
-use Rattle.contract_cli.specs.declared.arguments.WordsErr.{WordsErr}
-use Rattle.contract_cli.specs.declared.arguments.WordsErr.TheVariants as words_err
+use Rattle.command_words.specs.declared.arguments.WordsErr.{WordsErr}
+use Rattle.command_words.specs.declared.arguments.WordsErr.TheVariants as words_err
 use Rattle.contract_cli.specs.declared.answers.Inputs.{Inputs as Kept}
-use Rattle.contract_cli.specs.declared.words.Request.{Request as Requested}
+use Rattle.command_words.specs.declared.words.Request.{Request as Requested}
 use Rattle.contract_cli.proofs.ReadFacts.{counts_by_words}
 use Rattle.contract_cli.proofs.StopFacts.{answers_too, handed_on}
 use Rattle.contract_cli.proofs.command.answer_words.Goals as goal

@@ -11,7 +11,7 @@ use Rattle.contract_cli.specs.FlowsText.{IsFlowsText, StopsFlows, WordsFit}
 use Rattle.contract_cli.specs.Stopping.{AnswersBy}
 use Rattle.contract_cli.specs.Used.{is_known, used}
 use Rattle.contract_cli.specs.Using.{IsUnknownName, entries_of}
-use Rattle.contract_cli.specs.Words.{flows_by}
+use Rattle.command_words.specs.Words.{flows_by}
 use Rattle.contract_cli.specs.declared.used.Used.{Used}
 use Rattle.contract_cli.proofs.DayFacts.{fits_day}
 use Rattle.contract_cli.proofs.FlowsParts.{contract_stops, day_stops, name_stops, ones_few, read_stops, row_stops, whole_text}

@@ -4,7 +4,7 @@ use Rattle.term_core.specs.Declarations.{declarations}
 use Rattle.contract_cli.specs.FlowLists.{CanBeLast, IsDayFault, IsWordFault}
 use Rattle.contract_cli.specs.FlowsText.{IsDayAsked, greatest_day}
 use Rattle.contract_cli.specs.Stopping.{AnswersBy}
-use Rattle.contract_cli.specs.declared.day_words.DayWord.{DayWord}
+use Rattle.command_words.specs.declared.day_words.DayWord.{DayWord}
 use Rattle.contract_cli.proofs.DayFacts.{is_last, no_last}
 use Rattle.contract_cli.proofs.StopFacts.{answers_too}
 use Rattle.contract_cli.proofs.flows_text.last_day.Goals as goal

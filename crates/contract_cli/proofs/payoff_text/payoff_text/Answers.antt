@@ -9,7 +9,7 @@ use Rattle.contract_cli.specs.FlowLists.{IsRefusedOne}
 use Rattle.contract_cli.specs.PayoffText.{IsAcceptedAtDefaults, IsPayoffText, StopsPayoff}
 use Rattle.contract_cli.specs.Used.{at_defaults}
 use Rattle.contract_cli.specs.Using.{IsSound}
-use Rattle.contract_cli.specs.Words.{payoff_by}
+use Rattle.command_words.specs.Words.{payoff_by}
 use Rattle.contract_cli.proofs.PayoffFacts.{code_writable, contract_stops, named_has, whole_text}
 use Rattle.contract_cli.proofs.StopFacts.{handed_on}
 use Rattle.contract_cli.proofs.payoff_text.payoff_text.Goals as goal

@@ -1,0 +1,5 @@
+pub mod Declaring
+pub mod Taken
+pub mod WordFacts
+pub mod NumberFacts
+mod WordRows

@@ -1,0 +1,197 @@
+-- What a command makes of the words that are found for its arguments.
+use Rattle.std.proofs.Common.{◌≡◌, ◌∙◌, ℕ, Bool, true, false, List, [], ◌∷◌, ◌++◌, Option, Some, None, Err, codes, ap, refl, sym}
+use Rattle.std.proofs.Math.Path.{fun_ext}
+use Rattle.std.specs.Prelude.{option_map}
+use Rattle.std.specs.Map.{keys_of}
+use Rattle.clap.specs.Words.{App, Row, Text, all_of, first_of}
+use Rattle.contract_parse.specs.Names.{is_declared}
+use Rattle.contract_parse.specs.NameTexts.{is_name_text}
+use Rattle.command_words.specs.Arguments.{HasMatches, IsAnswer, Reading, asked_of, is_set, read_rows, taken}
+use Rattle.command_words.specs.Commands.{Advance, Between, Check, Flows, Payoff, Request, OnFiles, Sample, ValueAsked, ValueFiles}
+use Rattle.command_words.specs.Words.{advance_from, advance_with, check_from, flows_from, flows_with, if_given, is_day, one_more_setting, payoff_from, payoff_with, requested_by, sample_from, sample_size, settings_of, value_app, value_between, value_by, value_files, value_from, value_of, value_of_rows, value_with, with_form}
+use Rattle.command_words.specs.declared.arguments.WordsErr.{WordsErr}
+use Rattle.command_words.specs.declared.arguments.WordsErr.TheVariants.{Usage, NoMemory}
+
+-- words that are taken are read by what is found in them
+pub reads : (app : App) (reading : Reading) (words : List Text) (rows : List Row) (found : Text → Option Text)
+    → taken app words ≡ Some rows → ((name : Text) → found name ≡ first_of name rows) → asked_of app reading words ≡ reading found
+reads app reading words rows found is holds =
+    ap (read_rows reading) is ∙ ap reading (fun_ext (λ name. sym (holds name)))
+
+-- words that are not taken ask for nothing
+pub refused : (app : App) (reading : Reading) (words : List Text) (e : WordsErr) → HasMatches app words (Err e) → IsAnswer requested_by (asked_of app reading words) (Err e)
+refused app reading words Usage none = ap (read_rows reading) none
+refused app reading words NoMemory none = tt
+
+module _ {X Y : Type 0} (view : X → Y) where
+  -- an error of a part is one of the whole, where the whole lacks what the part lacks
+  pub lacks : (part : Option Y) (whole : Option Request) (e : WordsErr) → (part ≡ None → whole ≡ None) → IsAnswer view part (Err e) → IsAnswer requested_by whole (Err e)
+  lacks part whole Usage none h = none h
+  lacks part whole NoMemory none h = tt
+
+-- ---- `check`
+
+pub check_lacks : (found : Text → Option Text) → found (codes "portfolio") ≡ None → check_from found ≡ None
+check_lacks found none = rw none refl
+
+pub check_has : (found : Text → Option Text) (file : Text) → found (codes "portfolio") ≡ Some file → check_from found ≡ Some (OnFiles (Check file))
+check_has found file is = rw is refl
+
+-- ---- `flows`
+
+with_no_day : (file fixings : Option Text) (contract : Option (Option Text)) (net : Bool) → flows_with file fixings None contract net ≡ None
+with_no_day None fixings contract net = refl
+with_no_day (Some file) fixings contract net = refl
+
+with_no_name : (file fixings : Option Text) (until : Option (Option Text)) (net : Bool) → flows_with file fixings until None net ≡ None
+with_no_name None fixings until net = refl
+with_no_name (Some file) fixings None net = refl
+with_no_name (Some file) fixings (Some day) net = refl
+
+pub flows_lacks : (found : Text → Option Text) → found (codes "portfolio") ≡ None → flows_from found ≡ None
+flows_lacks found none = rw none refl
+
+pub flows_no_day : (found : Text → Option Text) → if_given is_day (found (codes "until")) ≡ None → flows_from found ≡ None
+flows_no_day found none =
+    ap (λ (day : Option (Option Text)). flows_with (found (codes "portfolio")) (found (codes "fixings")) day (if_given is_name_text (found (codes "contract"))) (is_set (found (codes "net")))) none
+    ∙ with_no_day _ _ _ _
+
+pub flows_no_name : (found : Text → Option Text) → if_given is_name_text (found (codes "contract")) ≡ None → flows_from found ≡ None
+flows_no_name found none =
+    ap (λ (name : Option (Option Text)). flows_with (found (codes "portfolio")) (found (codes "fixings")) (if_given is_day (found (codes "until"))) name (is_set (found (codes "net")))) none
+    ∙ with_no_name _ _ _ _
+
+pub flows_has : (found : Text → Option Text) (file : Text) (fixings until contract : Option Text) (net : Bool)
+    → found (codes "portfolio") ≡ Some file → found (codes "fixings") ≡ fixings → if_given is_day (found (codes "until")) ≡ Some until
+    → if_given is_name_text (found (codes "contract")) ≡ Some contract → is_set (found (codes "net")) ≡ net
+    → flows_from found ≡ Some (OnFiles (Flows (record { portfolio = file; fixings = fixings; until = until; contract = contract; net = net })))
+flows_has found file fixings until contract net a b c d e = rw (a, b, c, d, e) refl
+
+-- ---- `advance`
+
+pub advance_lacks : (found : Text → Option Text) → found (codes "portfolio") ≡ None → advance_from found ≡ None
+advance_lacks found none = rw none refl
+
+with_no_fixings : (file to : Option Text) → advance_with file None to ≡ None
+with_no_fixings None to = refl
+with_no_fixings (Some file) to = refl
+
+with_no_new_day : (file fixings : Option Text) → advance_with file fixings None ≡ None
+with_no_new_day None fixings = refl
+with_no_new_day (Some file) None = refl
+with_no_new_day (Some file) (Some table) = refl
+
+pub advance_no_fixings : (found : Text → Option Text) → found (codes "fixings") ≡ None → advance_from found ≡ None
+advance_no_fixings found none =
+    ap (λ (table : Option Text). advance_with (found (codes "portfolio")) table (with_form is_day (found (codes "to")))) none
+    ∙ with_no_fixings _ _
+
+pub advance_no_day : (found : Text → Option Text) → with_form is_day (found (codes "to")) ≡ None → advance_from found ≡ None
+advance_no_day found none =
+    ap (λ (day : Option Text). advance_with (found (codes "portfolio")) (found (codes "fixings")) day) none
+    ∙ with_no_new_day _ _
+
+pub advance_has : (found : Text → Option Text) (file fixings to : Text)
+    → found (codes "portfolio") ≡ Some file → found (codes "fixings") ≡ Some fixings → with_form is_day (found (codes "to")) ≡ Some to
+    → advance_from found ≡ Some (OnFiles (Advance (record { portfolio = file; fixings = fixings; to = to })))
+advance_has found file fixings to a b c = rw (a, b, c) refl
+
+-- ---- `payoff`
+
+pub payoff_lacks : (found : Text → Option Text) → found (codes "portfolio") ≡ None → payoff_from found ≡ None
+payoff_lacks found none = rw none refl
+
+with_no_contract : (file : Option Text) (plain : Bool) → payoff_with file None plain ≡ None
+with_no_contract None plain = refl
+with_no_contract (Some file) plain = refl
+
+pub payoff_no_name : (found : Text → Option Text) → with_form is_name_text (found (codes "contract")) ≡ None → payoff_from found ≡ None
+payoff_no_name found none =
+    ap (λ (name : Option Text). payoff_with (found (codes "portfolio")) name (is_set (found (codes "plain")))) none
+    ∙ with_no_contract _ _
+
+pub payoff_has : (found : Text → Option Text) (file contract : Text) (plain : Bool)
+    → found (codes "portfolio") ≡ Some file → with_form is_name_text (found (codes "contract")) ≡ Some contract → is_set (found (codes "plain")) ≡ plain
+    → payoff_from found ≡ Some (OnFiles (Payoff (record { portfolio = file; contract = contract; plain = plain })))
+payoff_has found file contract plain a b c = rw (a, b, c) refl
+
+-- ---- `sample`
+
+pub sample_lacks : (found : Text → Option Text) → found (codes "number") ≡ None → sample_from found ≡ None
+sample_lacks found none = rw none refl
+
+pub sample_reads : (found : Text → Option Text) (number : Text) (size : Option ℕ) → found (codes "number") ≡ Some number → sample_size number ≡ size → sample_from found ≡ option_map (λ (n : ℕ). Sample n) size
+sample_reads found number size is same = rw (is, same) refl
+
+-- ---- `value`
+
+-- words that are taken are read by what is found in them
+pub value_reads : (words : List Text) (rows : List Row) (word : Text → Option Text) (all : Text → Option (List Text))
+    → taken value_app words ≡ Some rows → ((name : Text) → word name ≡ first_of name rows) → ((name : Text) → all name ≡ all_of name rows)
+    → value_of words ≡ value_from word all
+value_reads words rows word all is one every =
+    ap value_of_rows is
+    ∙ ap (λ (f : Text → Option Text). value_from f (λ name. all_of name rows)) (fun_ext (λ name. sym (one name)))
+    ∙ ap (value_from word) (fun_ext (λ name. sym (every name)))
+
+-- words that are not taken ask for nothing
+pub value_refused : (words : List Text) (e : WordsErr) → HasMatches value_app words (Err e) → IsAnswer value_by (value_of words) (Err e)
+value_refused words Usage none = ap value_of_rows none
+value_refused words NoMemory none = tt
+
+-- an error of a part is one of the whole, where the whole lacks what the part lacks
+pub value_lacks : {X Y : Type 0} (view : X → Y) (part : Option Y) (whole : Option ValueAsked) (e : WordsErr) → (part ≡ None → whole ≡ None) → IsAnswer view part (Err e) → IsAnswer value_by whole (Err e)
+value_lacks view part whole Usage none h = none h
+value_lacks view part whole NoMemory none h = tt
+
+with_no_word : (files : Option ValueFiles) (between : Option Between) (settings : Option (List (Text × ℕ))) → value_with files None between settings ≡ None
+with_no_word None between settings = refl
+with_no_word (Some files) between settings = refl
+
+with_nobody : (files : Option ValueFiles) (at : Option Text) (settings : Option (List (Text × ℕ))) → value_with files at None settings ≡ None
+with_nobody None at settings = refl
+with_nobody (Some files) None settings = refl
+with_nobody (Some files) (Some at) settings = refl
+
+with_no_setting : (files : Option ValueFiles) (at : Option Text) (between : Option Between) → value_with files at between None ≡ None
+with_no_setting None at between = refl
+with_no_setting (Some files) None between = refl
+with_no_setting (Some files) (Some at) None = refl
+with_no_setting (Some files) (Some at) (Some between) = refl
+
+module _ (word : Text → Option Text) (all : Text → Option (List Text)) where
+  pub value_no_files : value_files word ≡ None → value_from word all ≡ None
+  value_no_files none =
+      ap (λ (f : Option ValueFiles). value_with f (with_form is_day (word (codes "at"))) (value_between word) (settings_of (all (codes "settings")))) none
+
+  pub value_no_day : with_form is_day (word (codes "at")) ≡ None → value_from word all ≡ None
+  value_no_day none =
+      ap (λ (d : Option Text). value_with (value_files word) d (value_between word) (settings_of (all (codes "settings")))) none
+      ∙ with_no_word _ _ _
+
+  pub value_nobody : value_between word ≡ None → value_from word all ≡ None
+  value_nobody none =
+      ap (λ (b : Option Between). value_with (value_files word) (with_form is_day (word (codes "at"))) b (settings_of (all (codes "settings")))) none
+      ∙ with_nobody _ _ _
+
+  pub value_no_setting : settings_of (all (codes "settings")) ≡ None → value_from word all ≡ None
+  value_no_setting none =
+      ap (λ (s : Option (List (Text × ℕ))). value_with (value_files word) (with_form is_day (word (codes "at"))) (value_between word) s) none
+      ∙ with_no_setting _ _ _
+
+  pub value_has : (files : ValueFiles) (at : Text) (between : Between) (settings : List (Text × ℕ))
+      → value_files word ≡ Some files → with_form is_day (word (codes "at")) ≡ Some at → value_between word ≡ Some between
+      → settings_of (all (codes "settings")) ≡ Some settings
+      → value_from word all ≡ Some (record { files = files; at = at; between = between; settings = settings })
+  value_has files at between settings a b c d =
+      ap (λ (f : Option ValueFiles). value_with f (with_form is_day (word (codes "at"))) (value_between word) (settings_of (all (codes "settings")))) a
+      ∙ ap (λ (t : Option Text). value_with (Some files) t (value_between word) (settings_of (all (codes "settings")))) b
+      ∙ ap (λ (t : Option Between). value_with (Some files) (Some at) t (settings_of (all (codes "settings")))) c
+      ∙ ap (λ (t : Option (List (Text × ℕ))). value_with (Some files) (Some at) (Some between) t) d
+
+-- a name that words before it set, and one that they do not
+pub setting_twice : (settings : List (Text × ℕ)) (name : Text) (number : ℕ) → is_declared (keys_of settings) name ≡ true → one_more_setting settings (Some (name, number)) ≡ None
+setting_twice settings name number there = rw there refl
+
+pub setting_fresh : (settings : List (Text × ℕ)) (name : Text) (number : ℕ) → is_declared (keys_of settings) name ≡ false → one_more_setting settings (Some (name, number)) ≡ Some (settings ++ (name, number) ∷ [])
+setting_fresh settings name number absent = rw absent refl

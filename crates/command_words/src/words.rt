@@ -1,0 +1,177 @@
+//! The words of the command line.
+
+ghost use Rattle.std.specs.Prelude.{map};
+ghost use Rattle.command_words.specs.Arguments.{IsAnswer};
+ghost use Rattle.command_words.specs.Words.{IsRequestOf, advance_of, check_of, flows_of, payoff_of, requested_by, sample_of};
+
+use crate::arguments::{Argument, WordsErr, is_set, matches_of};
+use crate::day_words::DayWord;
+use crate::forms::{day_given, day_if_given, given, name_given, name_if_given};
+use crate::sample_size::SampleSize;
+use crate::value_asked::Value;
+use crate::value_words::value_of;
+use std::alloc::Global;
+
+/// What the contracts of a portfolio's file pay: over the fixings of another file, up to a day, of one contract alone, and
+/// summed, each where it is asked.
+#[derive(Clone, Copy)]
+pub struct Flows<'a> {
+    pub portfolio: &'a str,
+    pub fixings: Option<&'a str>,
+    pub until: Option<DayWord<'a>>,
+    pub contract: Option<&'a str>,
+    pub net: bool,
+}
+
+/// The flows of a portfolio's file that are due before a day, over the fixings of another file, and the portfolio that is
+/// left on that day.
+#[derive(Clone, Copy)]
+pub struct Advance<'a> {
+    pub portfolio: &'a str,
+    pub fixings: &'a str,
+    pub to: DayWord<'a>,
+}
+
+/// The code of the contract of a name in a portfolio's file, with its payments cut, or plain where that is asked.
+#[derive(Clone, Copy)]
+pub struct Payoff<'a> {
+    pub portfolio: &'a str,
+    pub contract: &'a str,
+    pub plain: bool,
+}
+
+/// A command, with what it is given.
+#[derive(Clone, Copy)]
+pub enum Command<'a> {
+    /// Says of each contract of the file whether it is accepted.
+    Check { portfolio: &'a str },
+    /// Lists what the contracts pay.
+    Flows(Flows<'a>),
+    /// Advances the portfolio to a day.
+    Advance(Advance<'a>),
+    /// Compiles a contract to code.
+    Payoff(Payoff<'a>),
+}
+
+/// What words ask for.
+#[derive(Drop)]
+pub enum Request<'a> {
+    /// A command on a portfolio's file.
+    OnFiles(Command<'a>),
+    /// Values a code file.
+    OnCode(Value<'a>),
+    /// Summarizes what the sample of so many contracts pays.
+    Sample(SampleSize),
+}
+
+// `check PORTFOLIO`, by the words behind the first.
+fn check_of<'a>(alloc: Global, words: &'a [&'a str]) -> Result<Request<'a>, WordsErr>
+    ensures { IsAnswer requested_by (check_of (map (λ word. word.now) words.entry.now)) result }
+{
+    let arguments = [Argument::Required("portfolio")];
+    let matches = matches_of(alloc, "check", &arguments, words)?;
+    let portfolio = given(matches.get_str("portfolio"))?;
+    Ok(Request::OnFiles(Command::Check { portfolio }))
+}
+
+// `flows PORTFOLIO [FIXINGS] [--until DAY] [--contract NAME] [--net]`, by the words behind the first.
+fn flows_of<'a>(alloc: Global, words: &'a [&'a str]) -> Result<Request<'a>, WordsErr>
+    ensures { IsAnswer requested_by (flows_of (map (λ word. word.now) words.entry.now)) result }
+{
+    let arguments = [
+        Argument::Required("portfolio"),
+        Argument::Optional("fixings"),
+        Argument::Valued("until"),
+        Argument::Valued("contract"),
+        Argument::Flag("net"),
+    ];
+    let matches = matches_of(alloc, "flows", &arguments, words)?;
+    let portfolio = given(matches.get_str("portfolio"))?;
+    let until = day_if_given(matches.get_str("until"))?;
+    let contract = name_if_given(matches.get_str("contract"))?;
+    Ok(Request::OnFiles(Command::Flows(Flows {
+        portfolio,
+        fixings: matches.get_str("fixings"),
+        until,
+        contract,
+        net: is_set(matches.get_str("net")),
+    })))
+}
+
+// `advance PORTFOLIO FIXINGS --to DAY`, by the words behind the first.
+fn advance_of<'a>(alloc: Global, words: &'a [&'a str]) -> Result<Request<'a>, WordsErr>
+    ensures { IsAnswer requested_by (advance_of (map (λ word. word.now) words.entry.now)) result }
+{
+    let arguments = [
+        Argument::Required("portfolio"),
+        Argument::Required("fixings"),
+        Argument::Valued("to"),
+    ];
+    let matches = matches_of(alloc, "advance", &arguments, words)?;
+    let portfolio = given(matches.get_str("portfolio"))?;
+    let fixings = given(matches.get_str("fixings"))?;
+    let to = day_given(matches.get_str("to"))?;
+    Ok(Request::OnFiles(Command::Advance(Advance {
+        portfolio,
+        fixings,
+        to,
+    })))
+}
+
+// `payoff PORTFOLIO --contract NAME [--plain]`, by the words behind the first.
+fn payoff_of<'a>(alloc: Global, words: &'a [&'a str]) -> Result<Request<'a>, WordsErr>
+    ensures { IsAnswer requested_by (payoff_of (map (λ word. word.now) words.entry.now)) result }
+{
+    let arguments = [
+        Argument::Required("portfolio"),
+        Argument::Valued("contract"),
+        Argument::Flag("plain"),
+    ];
+    let matches = matches_of(alloc, "payoff", &arguments, words)?;
+    let portfolio = given(matches.get_str("portfolio"))?;
+    let contract = name_given(matches.get_str("contract"))?;
+    Ok(Request::OnFiles(Command::Payoff(Payoff {
+        portfolio,
+        contract,
+        plain: is_set(matches.get_str("plain")),
+    })))
+}
+
+// `sample NUMBER`, by the words behind the first.
+fn sample_of<'a>(alloc: Global, words: &'a [&'a str]) -> Result<Request<'a>, WordsErr>
+    ensures { IsAnswer requested_by (sample_of (map (λ word. word.now) words.entry.now)) result }
+{
+    let arguments = [Argument::Required("number")];
+    let matches = matches_of(alloc, "sample", &arguments, words)?;
+    let number = given(matches.get_str("number"))?;
+    match SampleSize::read(number) {
+        Some(size) => Ok(Request::Sample(size)),
+        None => Err(WordsErr::Usage),
+    }
+}
+
+/// What the words ask for, which are those of the command line without the program's name. `Usage` comes exactly where
+/// they have the form of none.
+pub fn request_of<'a>(alloc: Global, words: &'a [&'a str]) -> Result<Request<'a>, WordsErr>
+    ensures { IsRequestOf (map (λ word. word.now) words.entry.now) result }
+{
+    let [name, rest @ ..] = words else {
+        return Err(WordsErr::Usage);
+    };
+    if *name == "check" {
+        check_of(alloc, rest)
+    } else if *name == "flows" {
+        flows_of(alloc, rest)
+    } else if *name == "advance" {
+        advance_of(alloc, rest)
+    } else if *name == "payoff" {
+        payoff_of(alloc, rest)
+    } else if *name == "value" {
+        let value = value_of(alloc, rest)?;
+        Ok(Request::OnCode(value))
+    } else if *name == "sample" {
+        sample_of(alloc, rest)
+    } else {
+        Err(WordsErr::Usage)
+    }
+}

@@ -1,0 +1,91 @@
+-- What a run shows, by its status and its command, over the bytes that were read and written. `check` accepts exactly what
+-- the written rules type, and accepted contracts are causal. `advance` writes the flows that are due and contracts whose later
+-- flows are those of the first, shifted, in every admitted environment that extends the fixings. `payoff` writes code that
+-- means its contract. And `value`, on code that means a contract, writes the discounted sum of what the contract still pays
+-- between two parties (Bahr, Berthold and Elsman, ICFP 2015; Annenkov and Elsman, PPDP 2018).
+use Rattle.std.specs.Prelude.{◌≡◌, ◌+◌, ◌⊎◌, ℕ, ℤ, pos, List, Option}
+use Rattle.term_core.specs.Acceptance.{IsAccepted}
+use Rattle.term_core.specs.Books.{Book}
+use Rattle.term_core.specs.Environments.{Environment, Extends, IsAdmitted}
+use Rattle.term_core.specs.Instances.{instance}
+use Rattle.term_core.specs.Terms.{Contract}
+use Rattle.contract_parse.specs.Texts.{Text}
+use Rattle.payoff_lang.specs.CodeBooks.{CodeBook}
+use Rattle.payoff_lang.specs.CodeFiles.{CodeText}
+use Rattle.payoff_lang.specs.Meaning.{CodeMeans, Remaining, counting}
+use Rattle.payoff_lang.specs.PresentValues.{present_value}
+use Rattle.report.specs.ValueLines.{value_text}
+use Rattle.command_words.specs.Commands.{Advance, AdvanceAsked, Asked, Check, Payoff, PayoffAsked, ValueAsked}
+use Rattle.contract_cli.specs.AdvanceLaws.{IsTextOfRest}
+use Rattle.contract_cli.specs.AdvanceText.{IsAdvanceText}
+use Rattle.contract_cli.specs.Answers.{Inputs}
+use Rattle.contract_cli.specs.CheckText.{IsChecked}
+use Rattle.contract_cli.specs.PayoffLaws.{IsTextOfCode}
+use Rattle.contract_cli.specs.Runs.{Edge, Names, NamesValue, WereRead, WereReadForValue, WritesAll}
+use Rattle.contract_cli.specs.ValueText.{CanValue, ValueInputs, question, setting_by}
+use Rattle.contract_cli.specs.declared.status.Status.{Status}
+use Rattle.contract_cli.specs.declared.status.Status.TheVariants as status
+
+-- a command on a portfolio's file has read it and written a text
+pub record Ran (edge : Edge) (asked : Asked) (b : Book) (inputs : Inputs) (text : List ℕ) : Type 0 where
+  pub read : WereRead edge.files asked inputs
+  pub spelled : Text inputs.portfolio b
+  pub written : WritesAll edge.sink text
+
+-- `check` has written a verdict on each contract: it is accepted by the written rules, and then causal, or refused by the
+-- first of them that fails
+pub record HasChecked (edge : Edge) (file : List ℕ) (s : Status) : Type 0 where
+  pub book : Book
+  pub inputs : Inputs
+  pub text : List ℕ
+  pub ran : Ran edge (Check file) book inputs text
+  pub verdicts : IsChecked book s text
+
+-- `advance` has written what is due before the new day, and a text of contracts that are accepted, reduced, and carry the old
+-- ones to that day
+pub record HasAdvanced (edge : Edge) (asked : AdvanceAsked) : Type 0 where
+  pub book : Book
+  pub inputs : Inputs
+  pub text : List ℕ
+  pub ran : Ran edge (Advance asked) book inputs text
+  pub advanced : IsAdvanceText book asked inputs.fixings text
+  pub rest : IsTextOfRest book asked inputs.fixings text
+
+-- `payoff` has written a text of code that means the contract, and is accepted at every setting at which the contract is
+pub record HasCompiled (edge : Edge) (asked : PayoffAsked) : Type 0 where
+  pub book : Book
+  pub inputs : Inputs
+  pub text : List ℕ
+  pub ran : Ran edge (Payoff asked) book inputs text
+  pub code : IsTextOfCode book asked text
+
+-- a number is what a contract is worth that the code means with what is left to pay: at a setting at which the contract is
+-- accepted, the sum of what it still pays from the one party to the other in the asset, each day with its discount factor, in
+-- every admitted environment that extends the fixings
+abbrev pub IsWorthOfContract : (b : CodeBook) (asked : ValueAsked) (inputs : ValueInputs) → CanValue b asked inputs → ℤ → Contract → Type 0
+IsWorthOfContract b asked inputs can amount c =
+    CodeMeans b.declarations b.code c Remaining → IsAccepted b.declarations (instance (setting_by b.declarations asked.settings) c)
+    → (env : Environment) → IsAdmitted b.declarations env → Extends can.fixings env
+    → amount ≡ present_value b.declarations (instance (setting_by b.declarations asked.settings) c) env (pos b.declarations.start)
+        (counting (pos 0) (question can.day can.curve can.flow))
+
+-- `value` has written the value of every contract that the code means
+pub record HasValued (edge : Edge) (asked : ValueAsked) : Type 0 where
+  pub book : CodeBook
+  pub inputs : ValueInputs
+  pub read : WereReadForValue edge.files asked inputs
+  pub spelled : CodeText inputs.code book
+  pub can : CanValue book asked inputs
+  pub amount : ℤ
+  pub worth : (c : Contract) → IsWorthOfContract book asked inputs can amount c
+  pub written : WritesAll edge.sink (value_text amount (book.declarations.amounts + 9))
+
+-- the status says that the verdicts were written
+abbrev pub Judged : Status → Type 0
+Judged s = (s ≡ status.Done) ⊎ (s ≡ status.Refused)
+
+pub record Headline (words : List (List ℕ)) (edge : Edge) (s : Status) : Type 0 where
+  pub checks : (file : List ℕ) → Names words (Check file) → Judged s → HasChecked edge file s
+  pub advances : (asked : AdvanceAsked) → Names words (Advance asked) → s ≡ status.Done → HasAdvanced edge asked
+  pub compiles : (asked : PayoffAsked) → Names words (Payoff asked) → s ≡ status.Done → HasCompiled edge asked
+  pub values : (asked : ValueAsked) → NamesValue words asked → s ≡ status.Done → HasValued edge asked
