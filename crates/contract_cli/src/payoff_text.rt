@@ -31,7 +31,8 @@ use term_core::{Contr, Decls, Name, Portfolio, defaults};
 // Stops where a contract is not accepted at the defaults.
 fn accept_at_defaults(alloc: Global, decls: &Decls, one: &Written<'_>) -> Result<(), Stop>
     requires { IsSound (declarations decls.now) (contract one.now.contr.now) }
-    ensures { AnswersAcceptedOne (declarations decls.now) (at_defaults (declarations decls.now) (one.now.name.now, contract one.now.contr.now)) result }
+    ensures { AnswersAcceptedOne (declarations decls.now)
+        (at_defaults (declarations decls.now) (one.now.name.now, contract one.now.contr.now)) result }
 {
     let setting = defaults(alloc, decls)?;
     let contr = instance_of(alloc, one.contr, &setting)?;
