@@ -1,14 +1,12 @@
 //! Dates of payoff code from texts.
 
-ghost use Rattle.std.specs.Prelude.{◌≡◌, ◌≤◌, ◌∷◌, [], List, IfOk, codes, length};
+ghost use Rattle.std.specs.Prelude.{◌≡◌, ◌≤◌, ◌∷◌, IfOk, codes, length};
 ghost use Rattle.indexmap.specs.IndexMap.{keys};
 ghost use Rattle.contract_parse.specs.Tokens.{tokens};
-ghost use Rattle.contract_parse.specs.Words.{Bytes};
-ghost use Rattle.contract_parse.specs.Places.{Leaves, MoreTemplates, Place, date_places, run};
-ghost use Rattle.contract_parse.specs.Reading.{LacksMark, scope_in};
+ghost use Rattle.contract_parse.specs.Places.{MoreTemplates, date_places};
+ghost use Rattle.contract_parse.specs.Reading.{LacksMark};
 ghost use Rattle.payoff_lang.specs.TemplateDates.{date};
-ghost use Rattle.payoff_lang.specs.CodeSpelling.{DatePart};
-ghost use Rattle.payoff_lang.specs.CodeReading.{AddsTemplates, RisingTemplates, date_first};
+ghost use Rattle.payoff_lang.specs.CodeReading.{AddsTemplates, Passes, RisingTemplates, date_first, date_in};
 
 use crate::code::DateExpr;
 use crate::dates::put_in_order;
@@ -23,8 +21,9 @@ fn push_templates<'a>(
     names: &mut Vec<u32>,
     rest: &'a [u8],
 ) -> Result<&'a [u8], ReadErr>
-    ensures follows { (cs : List Bytes) (ps : List Place) → Leaves (λ r. run (scope_in decls.now cs) ps (tokens r.now)) result (run (scope_in decls.now cs) (MoreTemplates ∷ ps) (tokens rest.now)) }
-    ensures spelled { IfOk result (λ r. AddsTemplates (keys decls.now.templates) names.old.items names.new.items (tokens rest.now) (tokens r.now)) }
+    ensures follows { Passes decls.now (λ r. r.now) (λ s ps. MoreTemplates ∷ ps) rest.now result }
+    ensures spelled { IfOk result
+        (λ r. AddsTemplates (keys decls.now.templates) names.old.items names.new.items (tokens rest.now) (tokens r.now)) }
     ensures ends { IfOk result (λ r. LacksMark (codes "+") (tokens r.now)) }
     ensures shorter { IfOk result (λ r. length r.now ≤ length rest.now) }
 {
@@ -43,7 +42,7 @@ fn read_templates<'a>(
     decls: &Decls,
     rest: &'a [u8],
 ) -> Result<(Vec<u32>, &'a [u8]), ReadErr>
-    ensures follows { (cs : List Bytes) (ps : List Place) → Leaves (λ r. run (scope_in decls.now cs) ps (tokens r.1.now)) result (run (scope_in decls.now cs) (MoreTemplates ∷ ps) (tokens rest.now)) }
+    ensures follows { Passes decls.now (λ r. r.1.now) (λ s ps. MoreTemplates ∷ ps) rest.now result }
     ensures spelled { IfOk result (λ r. RisingTemplates (keys decls.now.templates) r.0.items (tokens rest.now) (tokens r.1.now)) }
     ensures ends { IfOk result (λ r. LacksMark (codes "+") (tokens r.1.now)) }
     ensures shorter { IfOk result (λ r. length r.1.now ≤ length rest.now) }
@@ -60,8 +59,8 @@ pub fn read_date<'a>(
     decls: &Decls,
     rest: &'a [u8],
 ) -> Result<(DateExpr, &'a [u8]), ReadErr>
-    ensures follows { (cs : List Bytes) (ps : List Place) → Leaves (λ r. run (scope_in decls.now cs) ps (tokens r.1.now)) result (run (scope_in decls.now cs) (date_places ps) (tokens rest.now)) }
-    ensures spelled { IfOk result (λ r. DatePart (scope_in decls.now []) (date r.0) (tokens rest.now) (tokens r.1.now)) }
+    ensures follows { Passes decls.now (λ r. r.1.now) (λ s ps. date_places ps) rest.now result }
+    ensures spelled { IfOk result (λ r. date_in decls.now r.0 (tokens rest.now) (tokens r.1.now)) }
     ensures ends { IfOk result (λ r. LacksMark (codes "+") (tokens r.1.now)) }
     ensures shorter { IfOk result (λ r. length r.1.now ≤ length rest.now) }
 {

@@ -1,8 +1,7 @@
 //! Code files from texts.
-ghost use Rattle.std.specs.Prelude.{◌≡◌, ◌≤◌, ◌<◌, ◌∷◌, [], List, IfOk, codes, length};
+ghost use Rattle.std.specs.Prelude.{◌≤◌, ◌<◌, ◌∷◌, [], List, IfOk, codes, length};
 ghost use Rattle.term_core.specs.Declarations.{declarations};
-ghost use Rattle.contract_parse.specs.Tokens.{Tok, tokens};
-ghost use Rattle.contract_parse.specs.Words.{Bytes};
+ghost use Rattle.contract_parse.specs.Tokens.{tokens};
 ghost use Rattle.contract_parse.specs.Names.{Scope, nothing_declared, with_names};
 ghost use Rattle.contract_parse.specs.Judgements.{is_version, new_at};
 ghost use Rattle.contract_parse.specs.Spelling.{end, mark, one, valued, word, ◌⨟◌};
@@ -17,6 +16,7 @@ ghost use Rattle.payoff_lang.specs.CodeSpelling.{code_part};
 ghost use Rattle.payoff_lang.specs.CodeTexts.{code_scope};
 ghost use Rattle.payoff_lang.specs.CodeAnswers.{CodeAnswers};
 ghost use Rattle.payoff_lang.specs.WellFormedCode.{IsClosedCode};
+ghost use Rattle.payoff_lang.specs.CodeReading.{Passes, SpelledBehind};
 
 use crate::code::Code;
 use crate::code_file::CodeFile;
@@ -31,7 +31,8 @@ use term_core::{Decls, Name};
 
 // The name of the code, which is alone in its set.
 fn read_name(alloc: Global, rest: &[u8]) -> Result<(Name, &[u8]), ReadErr>
-    ensures follows { (s : Scope) (ps : List Place) → Leaves (λ r. run (with_names Contract (r.0 ∷ []) s) ps (tokens r.1.now)) result (run (with_names Contract [] s) (NewIn Contract ∷ ps) (tokens rest.now)) }
+    ensures follows { (s : Scope) (ps : List Place) → Leaves (λ r. run (with_names Contract (r.0 ∷ []) s) ps (tokens r.1.now)) result
+        (run (with_names Contract [] s) (NewIn Contract ∷ ps) (tokens rest.now)) }
     ensures spelled { IfOk result (λ r. valued (new_at []) r.0 (tokens rest.now) (tokens r.1.now)) }
     ensures shorter { IfOk result (λ r. length r.1.now < length rest.now) }
 {
@@ -46,8 +47,11 @@ fn read_definition<'a>(
     decls: &Decls,
     rest: &'a [u8],
 ) -> Result<(Code, &'a [u8]), ReadErr>
-    ensures follows { (cs : List Bytes) (ps : List Place) → Leaves (λ r. run (scope_in decls.now cs) ps (tokens r.1.now)) result (run (scope_in decls.now cs) (TheMark (codes "=") ∷ AmountAt 1 [] ∷ TheMark (codes ";") ∷ ps) (tokens rest.now)) }
-    ensures spelled { IfOk result (λ r. (mark (codes "=") ⨟ code_part (scope_in decls.now []) [] (payoff_code r.0) ⨟ mark (codes ";")) (tokens rest.now) (tokens r.1.now)) }
+    ensures follows { Passes decls.now (λ r. r.1.now)
+        (λ s ps. TheMark (codes "=") ∷ AmountAt 1 [] ∷ TheMark (codes ";") ∷ ps) rest.now result }
+    ensures spelled { IfOk result
+        (λ r. (mark (codes "=") ⨟ code_part (scope_in decls.now []) [] (payoff_code r.0)
+        ⨟ mark (codes ";")) (tokens rest.now) (tokens r.1.now)) }
     ensures high { IfOk result (λ r. height_of_code (payoff_code r.0) ≤ 400) }
     ensures shorter { IfOk result (λ r. length r.1.now < length rest.now) }
 {
@@ -63,8 +67,10 @@ fn read_named_code<'a>(
     decls: &Decls,
     rest: &'a [u8],
 ) -> Result<(Name, Code, &'a [u8]), ReadErr>
-    ensures follows { (ps : List Place) → Leaves (λ r. run (scope_in decls.now (r.0 ∷ [])) ps (tokens r.2.now)) result (run (scope_in decls.now []) (NewIn Contract ∷ TheMark (codes "=") ∷ AmountAt 1 [] ∷ TheMark (codes ";") ∷ ps) (tokens rest.now)) }
-    ensures spelled { IfOk result (λ r. (ts : List Tok) → word (codes "code") ts (tokens rest.now) → code_line (code_scope (declarations decls.now)) r.0 (payoff_code r.1) ts (tokens r.2.now)) }
+    ensures follows { (ps : List Place) → Leaves (λ r. run (scope_in decls.now (r.0 ∷ [])) ps (tokens r.2.now)) result
+        (run (scope_in decls.now []) (NewIn Contract ∷ TheMark (codes "=") ∷ AmountAt 1 [] ∷ TheMark (codes ";") ∷ ps) (tokens rest.now)) }
+    ensures spelled { IfOk result (λ r.
+        SpelledBehind (codes "code") (code_line (code_scope (declarations decls.now)) r.0 (payoff_code r.1)) rest.now r.2.now) }
     ensures shorter { IfOk result (λ r. length r.2.now < length rest.now) }
 {
     let (name, rest) = read_name(alloc, rest)?;
@@ -78,8 +84,11 @@ fn read_code_line<'a>(
     decls: &Decls,
     ahead: &Lookahead<'a>,
 ) -> Result<(Name, Code, &'a [u8]), ReadErr>
-    ensures follows { (ps : List Place) → Leaves (λ r. run (scope_in decls.now (r.0 ∷ [])) ps (tokens r.2.now)) result (run (scope_in decls.now []) (TheWord (codes "code") ∷ NewIn Contract ∷ TheMark (codes "=") ∷ AmountAt 1 [] ∷ TheMark (codes ";") ∷ ps) (tokens_ahead ahead.now)) }
-    ensures spelled { IfOk result (λ r. code_line (code_scope (declarations decls.now)) r.0 (payoff_code r.1) (tokens_ahead ahead.now) (tokens r.2.now)) }
+    ensures follows { (ps : List Place) → Leaves (λ r. run (scope_in decls.now (r.0 ∷ [])) ps (tokens r.2.now)) result
+        (run (scope_in decls.now []) (TheWord (codes "code") ∷ NewIn Contract ∷ TheMark (codes "=") ∷ AmountAt 1 []
+        ∷ TheMark (codes ";") ∷ ps) (tokens_ahead ahead.now)) }
+    ensures spelled { IfOk result
+        (λ r. code_line (code_scope (declarations decls.now)) r.0 (payoff_code r.1) (tokens_ahead ahead.now) (tokens r.2.now)) }
 {
     match after_word(ahead, b"code") {
         Some(rest) => read_named_code(alloc, decls, rest),
@@ -93,8 +102,11 @@ fn read_code<'a>(
     decls: &Decls,
     ahead: &Lookahead<'a>,
 ) -> Result<(Name, Code), ReadErr>
-    ensures follows { Leaves (λ r. Open []) result (run (scope_in decls.now []) (TheWord (codes "code") ∷ NewIn Contract ∷ TheMark (codes "=") ∷ AmountAt 1 [] ∷ TheMark (codes ";") ∷ TheEnd ∷ []) (tokens_ahead ahead.now)) }
-    ensures spelled { IfOk result (λ r. (code_line (code_scope (declarations decls.now)) r.0 (payoff_code r.1) ⨟ end) (tokens_ahead ahead.now) []) }
+    ensures follows { Leaves (λ r. Open []) result
+        (run (scope_in decls.now []) (TheWord (codes "code") ∷ NewIn Contract ∷ TheMark (codes "=") ∷ AmountAt 1 []
+        ∷ TheMark (codes ";") ∷ TheEnd ∷ []) (tokens_ahead ahead.now)) }
+    ensures spelled { IfOk result
+        (λ r. (code_line (code_scope (declarations decls.now)) r.0 (payoff_code r.1) ⨟ end) (tokens_ahead ahead.now) []) }
 {
     let (name, code, rest) = read_code_line(alloc, decls, ahead)?;
     read_end(&look(rest))?;
@@ -104,7 +116,8 @@ fn read_code<'a>(
 // The first line.
 #[tactic(auto, using(contract_parse::proofs::Parts::followed_by))]
 fn skip_first_line(rest: &[u8]) -> Result<&[u8], ReadErr>
-    ensures follows { (s : Scope) (ps : List Place) → Leaves (λ r. run s ps (tokens r.now)) result (run s (TheWord (codes "payoff") ∷ TheVersion ∷ TheMark (codes ";") ∷ ps) (tokens rest.now)) }
+    ensures follows { (s : Scope) (ps : List Place) → Leaves (λ r. run s ps (tokens r.now)) result
+        (run s (TheWord (codes "payoff") ∷ TheVersion ∷ TheMark (codes ";") ∷ ps) (tokens rest.now)) }
     ensures spelled { IfOk result (λ r. (word (codes "payoff") ⨟ one is_version ⨟ mark (codes ";")) (tokens rest.now) (tokens r.now)) }
     ensures shorter { IfOk result (λ r. length r.now ≤ length rest.now) }
 {

@@ -1,8 +1,7 @@
 //! Amounts of payoff code from texts.
 ghost use Rattle.std.specs.Prelude.{◌≡◌, ◌≤◌, ◌<◌, ◌+◌, ◌^◌, ◌∷◌, [], ℕ, List, IfOk, codes, length, max};
-ghost use Rattle.indexmap.specs.IndexMap.{keys};
 ghost use Rattle.indexmap.specs.IndexSet.{index_set_len};
-ghost use Rattle.contract_parse.specs.Tokens.{Tok, tokens};
+ghost use Rattle.contract_parse.specs.Tokens.{tokens};
 ghost use Rattle.contract_parse.specs.Words.{Bytes};
 ghost use Rattle.contract_parse.specs.Names.{Scope, names_in};
 ghost use Rattle.contract_parse.specs.Judgements.{use_at};
@@ -15,8 +14,9 @@ ghost use Rattle.payoff_lang.specs.TemplateDates.{date};
 ghost use Rattle.payoff_lang.specs.Code.{payoff_code, value_expression};
 ghost use Rattle.payoff_lang.specs.Dating.{plain};
 ghost use Rattle.payoff_lang.specs.CodeSizes.{height_of_code};
-ghost use Rattle.payoff_lang.specs.CodeSpelling.{DatePart, code_part, value_part};
+ghost use Rattle.payoff_lang.specs.CodeSpelling.{code_part};
 ghost use Rattle.term_core.specs.Sizes.{height};
+ghost use Rattle.payoff_lang.specs.CodeReading.{Passes, SpelledBehind, code_in, date_in, value_in};
 
 use crate::code::{Code, DateExpr, Vx};
 use crate::date_reading::read_date;
@@ -37,7 +37,8 @@ fn read_use_behind<'a>(
     rest: &'a [u8],
 ) -> Result<(u32, &'a [u8]), ReadErr>
     requires { index_set_len names.now < 2 ^ 32 }
-    ensures follows { (s : Scope) (ps : List Place) → Leaves (λ r. run s ps (tokens r.1.now)) result (run s (TheMark wanted.now ∷ UseOf names.now.keys ∷ ps) (tokens rest.now)) }
+    ensures follows { (s : Scope) (ps : List Place) → Leaves (λ r. run s ps (tokens r.1.now)) result
+        (run s (TheMark wanted.now ∷ UseOf names.now.keys ∷ ps) (tokens rest.now)) }
     ensures spelled { IfOk result (λ r. (mark wanted.now ⨟ valued (use_at names.now.keys) r.0) (tokens rest.now) (tokens r.1.now)) }
     ensures shorter { IfOk result (λ r. length r.1.now ≤ length rest.now) }
 {
@@ -48,8 +49,13 @@ fn read_use_behind<'a>(
 // What is paid, by whom and to whom, behind the date.
 #[tactic(auto, using(contract_parse::proofs::Parts::followed_by))]
 fn read_transfer<'a>(decls: &Decls, rest: &'a [u8]) -> Result<(u32, u32, u32, &'a [u8]), ReadErr>
-    ensures follows { (cs : List Bytes) (ps : List Place) → Leaves (λ r. run (scope_in decls.now cs) ps (tokens r.3.now)) result (run (scope_in decls.now cs) (TheMark (codes ",") ∷ UseOf (scope_in decls.now cs).assets ∷ TheMark (codes ",") ∷ UseOf (scope_in decls.now cs).parties ∷ TheMark (codes ",") ∷ UseOf (scope_in decls.now cs).parties ∷ TheMark (codes ")") ∷ ps) (tokens rest.now)) }
-    ensures spelled { IfOk result (λ r. (mark (codes ",") ⨟ valued (use_at (scope_in decls.now []).assets) r.0 ⨟ mark (codes ",") ⨟ valued (use_at (scope_in decls.now []).parties) r.1 ⨟ mark (codes ",") ⨟ valued (use_at (scope_in decls.now []).parties) r.2 ⨟ mark (codes ")")) (tokens rest.now) (tokens r.3.now)) }
+    ensures follows { Passes decls.now (λ r. r.3.now)
+        (λ s ps. TheMark (codes ",") ∷ UseOf s.assets ∷ TheMark (codes ",") ∷ UseOf s.parties ∷ TheMark (codes ",") ∷ UseOf s.parties
+        ∷ TheMark (codes ")") ∷ ps) rest.now result }
+    ensures spelled { IfOk result
+        (λ r. (mark (codes ",") ⨟ valued (use_at (scope_in decls.now []).assets) r.0 ⨟ mark (codes ",")
+        ⨟ valued (use_at (scope_in decls.now []).parties) r.1 ⨟ mark (codes ",")
+        ⨟ valued (use_at (scope_in decls.now []).parties) r.2 ⨟ mark (codes ")")) (tokens rest.now) (tokens r.3.now)) }
     ensures shorter { IfOk result (λ r. length r.3.now ≤ length rest.now) }
 {
     let (asset, rest) = read_use_behind(b",", &decls.assets, rest)?;
@@ -67,8 +73,8 @@ fn read_date_behind_mark<'a>(
     wanted: &[u8],
     rest: &'a [u8],
 ) -> Result<(DateExpr, &'a [u8]), ReadErr>
-    ensures follows { (cs : List Bytes) (ps : List Place) → Leaves (λ r. run (scope_in decls.now cs) ps (tokens r.1.now)) result (run (scope_in decls.now cs) (TheMark wanted.now ∷ date_places ps) (tokens rest.now)) }
-    ensures spelled { IfOk result (λ r. (mark wanted.now ⨟ DatePart (scope_in decls.now []) (date r.0)) (tokens rest.now) (tokens r.1.now)) }
+    ensures follows { Passes decls.now (λ r. r.1.now) (λ s ps. TheMark wanted.now ∷ date_places ps) rest.now result }
+    ensures spelled { IfOk result (λ r. (mark wanted.now ⨟ date_in decls.now r.0) (tokens rest.now) (tokens r.1.now)) }
     ensures shorter { IfOk result (λ r. length r.1.now ≤ length rest.now) }
 {
     let rest = skip_mark(rest, wanted)?;
@@ -83,8 +89,8 @@ fn read_date_behind_word<'a>(
     wanted: &[u8],
     rest: &'a [u8],
 ) -> Result<(DateExpr, &'a [u8]), ReadErr>
-    ensures follows { (cs : List Bytes) (ps : List Place) → Leaves (λ r. run (scope_in decls.now cs) ps (tokens r.1.now)) result (run (scope_in decls.now cs) (TheWord wanted.now ∷ date_places ps) (tokens rest.now)) }
-    ensures spelled { IfOk result (λ r. (word wanted.now ⨟ DatePart (scope_in decls.now []) (date r.0)) (tokens rest.now) (tokens r.1.now)) }
+    ensures follows { Passes decls.now (λ r. r.1.now) (λ s ps. TheWord wanted.now ∷ date_places ps) rest.now result }
+    ensures spelled { IfOk result (λ r. (word wanted.now ⨟ date_in decls.now r.0) (tokens rest.now) (tokens r.1.now)) }
     ensures shorter { IfOk result (λ r. length r.1.now ≤ length rest.now) }
 {
     let rest = skip_word(rest, wanted)?;
@@ -94,8 +100,10 @@ fn read_date_behind_word<'a>(
 // What stands behind `pay`.
 #[tactic(auto, using(contract_parse::proofs::Parts::followed_by))]
 fn read_pay<'a>(alloc: Global, decls: &Decls, rest: &'a [u8]) -> Result<(Code, &'a [u8]), ReadErr>
-    ensures follows { (cs : List Bytes) (depth : ℕ) (names : List Bytes) (ps : List Place) → Leaves (λ r. run (scope_in decls.now cs) ps (tokens r.1.now)) result (run (scope_in decls.now cs) (amount_places (scope_in decls.now cs) depth names AmountHead.Pay ps) (tokens rest.now)) }
-    ensures spelled { IfOk result (λ r. (names : List Bytes) (ts : List Tok) → word (codes "pay") ts (tokens rest.now) → code_part (scope_in decls.now []) names (payoff_code r.0) ts (tokens r.1.now)) }
+    ensures follows { (depth : ℕ) (names : List Bytes) → Passes decls.now (λ r. r.1.now)
+        (λ s ps. amount_places s depth names AmountHead.Pay ps) rest.now result }
+    ensures spelled { IfOk result (λ r. (names : List Bytes) →
+        SpelledBehind (codes "pay") (code_part (scope_in decls.now []) names (payoff_code r.0)) rest.now r.1.now) }
     ensures high { IfOk result (λ r. height_of_code (payoff_code r.0) ≡ 1) }
     ensures shorter { IfOk result (λ r. length r.1.now ≤ length rest.now) }
 {
@@ -122,8 +130,8 @@ fn read_value<'a>(
 ) -> Result<(Vx, &'a [u8]), ReadErr>
     requires shallow { depth ≤ 401 }
     requires bound { length (names_in bound.now) < depth }
-    ensures follows { (cs : List Bytes) (ps : List Place) → Leaves (λ r. run (scope_in decls.now cs) ps (tokens r.1.now)) result (run (scope_in decls.now cs) (ExprAt Language.Code depth (names_in bound.now) ∷ ps) (tokens rest.now)) }
-    ensures spelled { IfOk result (λ r. (value_part (scope_in decls.now []) (names_in bound.now) (value_expression r.0)) (tokens rest.now) (tokens r.1.now)) }
+    ensures follows { Passes decls.now (λ r. r.1.now) (λ s ps. ExprAt Language.Code depth (names_in bound.now) ∷ ps) rest.now result }
+    ensures spelled { IfOk result (λ r. (value_in decls.now bound.now r.0) (tokens rest.now) (tokens r.1.now)) }
     ensures high { IfOk result (λ r. height (plain (value_expression r.0)) + depth ≤ 401) }
     ensures shorter { IfOk result (λ r. length r.1.now ≤ length rest.now) }
 {
@@ -144,8 +152,9 @@ fn read_value_behind<'a>(
 ) -> Result<(Vx, &'a [u8]), ReadErr>
     requires shallow { depth ≤ 400 }
     requires bound { length (names_in bound.now) ≤ depth }
-    ensures follows { (cs : List Bytes) (ps : List Place) → Leaves (λ r. run (scope_in decls.now cs) ps (tokens r.1.now)) result (run (scope_in decls.now cs) (TheMark wanted.now ∷ ExprAt Language.Code (depth + 1) (names_in bound.now) ∷ ps) (tokens rest.now)) }
-    ensures spelled { IfOk result (λ r. (mark wanted.now ⨟ value_part (scope_in decls.now []) (names_in bound.now) (value_expression r.0)) (tokens rest.now) (tokens r.1.now)) }
+    ensures follows { Passes decls.now (λ r. r.1.now)
+        (λ s ps. TheMark wanted.now ∷ ExprAt Language.Code (depth + 1) (names_in bound.now) ∷ ps) rest.now result }
+    ensures spelled { IfOk result (λ r. (mark wanted.now ⨟ value_in decls.now bound.now r.0) (tokens rest.now) (tokens r.1.now)) }
     ensures high { IfOk result (λ r. height (plain (value_expression r.0)) + depth ≤ 400) }
     ensures shorter { IfOk result (λ r. length r.1.now ≤ length rest.now) }
 {
@@ -164,8 +173,10 @@ fn read_test<'a>(
 ) -> Result<(Vx, DateExpr, &'a [u8]), ReadErr>
     requires shallow { depth ≤ 400 }
     requires bound { length (names_in bound.now) < depth }
-    ensures follows { (cs : List Bytes) (ps : List Place) → Leaves (λ r. run (scope_in decls.now cs) ps (tokens r.2.now)) result (run (scope_in decls.now cs) (ExprAt Language.Code (depth + 1) (names_in bound.now) ∷ TheWord (codes "upto") ∷ date_places ps) (tokens rest.now)) }
-    ensures spelled { IfOk result (λ r. (value_part (scope_in decls.now []) (names_in bound.now) (value_expression r.0) ⨟ word (codes "upto") ⨟ DatePart (scope_in decls.now []) (date r.1)) (tokens rest.now) (tokens r.2.now)) }
+    ensures follows { Passes decls.now (λ r. r.2.now)
+        (λ s ps. ExprAt Language.Code (depth + 1) (names_in bound.now) ∷ TheWord (codes "upto") ∷ date_places ps) rest.now result }
+    ensures spelled { IfOk result
+        (λ r. (value_in decls.now bound.now r.0 ⨟ word (codes "upto") ⨟ date_in decls.now r.1) (tokens rest.now) (tokens r.2.now)) }
     ensures high { IfOk result (λ r. height (plain (value_expression r.0)) + depth ≤ 400) }
     ensures shorter { IfOk result (λ r. length r.2.now ≤ length rest.now) }
 {
@@ -185,8 +196,8 @@ fn read_boxed<'a>(
 ) -> Result<(Box<Code>, &'a [u8]), ReadErr>
     requires shallow { depth ≤ 400 }
     requires bound { length (names_in bound.now) ≤ depth }
-    ensures follows { (cs : List Bytes) (ps : List Place) → Leaves (λ r. run (scope_in decls.now cs) ps (tokens r.1.now)) result (run (scope_in decls.now cs) (AmountAt (depth + 1) (names_in bound.now) ∷ ps) (tokens rest.now)) }
-    ensures spelled { IfOk result (λ r. (code_part (scope_in decls.now []) (names_in bound.now) (payoff_code r.0.value)) (tokens rest.now) (tokens r.1.now)) }
+    ensures follows { Passes decls.now (λ r. r.1.now) (λ s ps. AmountAt (depth + 1) (names_in bound.now) ∷ ps) rest.now result }
+    ensures spelled { IfOk result (λ r. (code_in decls.now bound.now r.0.value) (tokens rest.now) (tokens r.1.now)) }
     ensures high { IfOk result (λ r. height_of_code (payoff_code r.0.value) + depth ≤ 400) }
     ensures shorter { IfOk result (λ r. length r.1.now ≤ length rest.now) }
 {
@@ -208,8 +219,9 @@ fn read_behind_mark<'a>(
 ) -> Result<(Box<Code>, &'a [u8]), ReadErr>
     requires shallow { depth ≤ 400 }
     requires bound { length (names_in bound.now) ≤ depth }
-    ensures follows { (cs : List Bytes) (ps : List Place) → Leaves (λ r. run (scope_in decls.now cs) ps (tokens r.1.now)) result (run (scope_in decls.now cs) (TheMark wanted.now ∷ AmountAt (depth + 1) (names_in bound.now) ∷ ps) (tokens rest.now)) }
-    ensures spelled { IfOk result (λ r. (mark wanted.now ⨟ code_part (scope_in decls.now []) (names_in bound.now) (payoff_code r.0.value)) (tokens rest.now) (tokens r.1.now)) }
+    ensures follows { Passes decls.now (λ r. r.1.now)
+        (λ s ps. TheMark wanted.now ∷ AmountAt (depth + 1) (names_in bound.now) ∷ ps) rest.now result }
+    ensures spelled { IfOk result (λ r. (mark wanted.now ⨟ code_in decls.now bound.now r.0.value) (tokens rest.now) (tokens r.1.now)) }
     ensures high { IfOk result (λ r. height_of_code (payoff_code r.0.value) + depth ≤ 400) }
     ensures shorter { IfOk result (λ r. length r.1.now ≤ length rest.now) }
 {
@@ -230,8 +242,9 @@ fn read_behind_word<'a>(
 ) -> Result<(Box<Code>, &'a [u8]), ReadErr>
     requires shallow { depth ≤ 400 }
     requires bound { length (names_in bound.now) ≤ depth }
-    ensures follows { (cs : List Bytes) (ps : List Place) → Leaves (λ r. run (scope_in decls.now cs) ps (tokens r.1.now)) result (run (scope_in decls.now cs) (TheWord wanted.now ∷ AmountAt (depth + 1) (names_in bound.now) ∷ ps) (tokens rest.now)) }
-    ensures spelled { IfOk result (λ r. (word wanted.now ⨟ code_part (scope_in decls.now []) (names_in bound.now) (payoff_code r.0.value)) (tokens rest.now) (tokens r.1.now)) }
+    ensures follows { Passes decls.now (λ r. r.1.now)
+        (λ s ps. TheWord wanted.now ∷ AmountAt (depth + 1) (names_in bound.now) ∷ ps) rest.now result }
+    ensures spelled { IfOk result (λ r. (word wanted.now ⨟ code_in decls.now bound.now r.0.value) (tokens rest.now) (tokens r.1.now)) }
     ensures high { IfOk result (λ r. height_of_code (payoff_code r.0.value) + depth ≤ 400) }
     ensures shorter { IfOk result (λ r. length r.1.now ≤ length rest.now) }
 {
@@ -251,8 +264,12 @@ fn read_branches<'a>(
 ) -> Result<(Box<Code>, Box<Code>, &'a [u8]), ReadErr>
     requires shallow { depth ≤ 400 }
     requires bound { length (names_in bound.now) ≤ depth }
-    ensures follows { (cs : List Bytes) (ps : List Place) → Leaves (λ r. run (scope_in decls.now cs) ps (tokens r.2.now)) result (run (scope_in decls.now cs) (TheWord (codes "then") ∷ AmountAt (depth + 1) (names_in bound.now) ∷ TheWord (codes "else") ∷ AmountAt (depth + 1) (names_in bound.now) ∷ ps) (tokens rest.now)) }
-    ensures spelled { IfOk result (λ r. (word (codes "then") ⨟ code_part (scope_in decls.now []) (names_in bound.now) (payoff_code r.0.value) ⨟ word (codes "else") ⨟ code_part (scope_in decls.now []) (names_in bound.now) (payoff_code r.1.value)) (tokens rest.now) (tokens r.2.now)) }
+    ensures follows { Passes decls.now (λ r. r.2.now)
+        (λ s ps. TheWord (codes "then") ∷ AmountAt (depth + 1) (names_in bound.now) ∷ TheWord (codes "else")
+        ∷ AmountAt (depth + 1) (names_in bound.now) ∷ ps) rest.now result }
+    ensures spelled { IfOk result
+        (λ r. (word (codes "then") ⨟ code_in decls.now bound.now r.0.value ⨟ word (codes "else")
+        ⨟ code_in decls.now bound.now r.1.value) (tokens rest.now) (tokens r.2.now)) }
     ensures high { IfOk result (λ r. max (height_of_code (payoff_code r.0.value)) (height_of_code (payoff_code r.1.value)) + depth ≤ 400) }
     ensures shorter { IfOk result (λ r. length r.2.now ≤ length rest.now) }
 {
@@ -273,8 +290,9 @@ fn read_add<'a>(
 ) -> Result<(Code, &'a [u8]), ReadErr>
     requires shallow { depth ≤ 400 }
     requires bound { length (names_in bound.now) < depth }
-    ensures follows { (cs : List Bytes) (ps : List Place) → Leaves (λ r. run (scope_in decls.now cs) ps (tokens r.1.now)) result (run (scope_in decls.now cs) (amount_places (scope_in decls.now cs) depth (names_in bound.now) AmountHead.Add ps) (tokens rest.now)) }
-    ensures spelled { IfOk result (λ r. (ts : List Tok) → word (codes "add") ts (tokens rest.now) → code_part (scope_in decls.now []) (names_in bound.now) (payoff_code r.0) ts (tokens r.1.now)) }
+    ensures follows { Passes decls.now (λ r. r.1.now)
+        (λ s ps. amount_places s depth (names_in bound.now) AmountHead.Add ps) rest.now result }
+    ensures spelled { IfOk result (λ r. SpelledBehind (codes "add") (code_in decls.now bound.now r.0) rest.now r.1.now) }
     ensures high { IfOk result (λ r. height_of_code (payoff_code r.0) + depth ≤ 401) }
     ensures shorter { IfOk result (λ r. length r.1.now ≤ length rest.now) }
 {
@@ -296,8 +314,9 @@ fn read_scaled<'a>(
 ) -> Result<(Code, &'a [u8]), ReadErr>
     requires shallow { depth ≤ 400 }
     requires bound { length (names_in bound.now) < depth }
-    ensures follows { (cs : List Bytes) (ps : List Place) → Leaves (λ r. run (scope_in decls.now cs) ps (tokens r.1.now)) result (run (scope_in decls.now cs) (amount_places (scope_in decls.now cs) depth (names_in bound.now) AmountHead.Scale ps) (tokens rest.now)) }
-    ensures spelled { IfOk result (λ r. (ts : List Tok) → word (codes "scale") ts (tokens rest.now) → code_part (scope_in decls.now []) (names_in bound.now) (payoff_code r.0) ts (tokens r.1.now)) }
+    ensures follows { Passes decls.now (λ r. r.1.now)
+        (λ s ps. amount_places s depth (names_in bound.now) AmountHead.Scale ps) rest.now result }
+    ensures spelled { IfOk result (λ r. SpelledBehind (codes "scale") (code_in decls.now bound.now r.0) rest.now r.1.now) }
     ensures high { IfOk result (λ r. height_of_code (payoff_code r.0) + depth ≤ 401) }
     ensures shorter { IfOk result (λ r. length r.1.now ≤ length rest.now) }
 {
@@ -319,8 +338,9 @@ fn read_let<'a>(
 ) -> Result<(Code, &'a [u8]), ReadErr>
     requires shallow { depth ≤ 400 }
     requires bound { length (names_in bound.now) < depth }
-    ensures follows { (cs : List Bytes) (ps : List Place) → Leaves (λ r. run (scope_in decls.now cs) ps (tokens r.1.now)) result (run (scope_in decls.now cs) (amount_places (scope_in decls.now cs) depth (names_in bound.now) AmountHead.Let ps) (tokens rest.now)) }
-    ensures spelled { IfOk result (λ r. (ts : List Tok) → word (codes "let") ts (tokens rest.now) → code_part (scope_in decls.now []) (names_in bound.now) (payoff_code r.0) ts (tokens r.1.now)) }
+    ensures follows { Passes decls.now (λ r. r.1.now)
+        (λ s ps. amount_places s depth (names_in bound.now) AmountHead.Let ps) rest.now result }
+    ensures spelled { IfOk result (λ r. SpelledBehind (codes "let") (code_in decls.now bound.now r.0) rest.now r.1.now) }
     ensures high { IfOk result (λ r. height_of_code (payoff_code r.0) + depth ≤ 401) }
     ensures shorter { IfOk result (λ r. length r.1.now ≤ length rest.now) }
 {
@@ -346,8 +366,9 @@ fn read_loop<'a>(
 ) -> Result<(Code, &'a [u8]), ReadErr>
     requires shallow { depth ≤ 400 }
     requires bound { length (names_in bound.now) < depth }
-    ensures follows { (cs : List Bytes) (ps : List Place) → Leaves (λ r. run (scope_in decls.now cs) ps (tokens r.1.now)) result (run (scope_in decls.now cs) (amount_places (scope_in decls.now cs) depth (names_in bound.now) AmountHead.Loop ps) (tokens rest.now)) }
-    ensures spelled { IfOk result (λ r. (ts : List Tok) → word (codes "loop") ts (tokens rest.now) → code_part (scope_in decls.now []) (names_in bound.now) (payoff_code r.0) ts (tokens r.1.now)) }
+    ensures follows { Passes decls.now (λ r. r.1.now)
+        (λ s ps. amount_places s depth (names_in bound.now) AmountHead.Loop ps) rest.now result }
+    ensures spelled { IfOk result (λ r. SpelledBehind (codes "loop") (code_in decls.now bound.now r.0) rest.now r.1.now) }
     ensures high { IfOk result (λ r. height_of_code (payoff_code r.0) + depth ≤ 401) }
     ensures shorter { IfOk result (λ r. length r.1.now ≤ length rest.now) }
 {
@@ -376,8 +397,9 @@ fn read_cut<'a>(
 ) -> Result<(Code, &'a [u8]), ReadErr>
     requires shallow { depth ≤ 400 }
     requires bound { length (names_in bound.now) < depth }
-    ensures follows { (cs : List Bytes) (ps : List Place) → Leaves (λ r. run (scope_in decls.now cs) ps (tokens r.1.now)) result (run (scope_in decls.now cs) (amount_places (scope_in decls.now cs) depth (names_in bound.now) AmountHead.Cut ps) (tokens rest.now)) }
-    ensures spelled { IfOk result (λ r. (ts : List Tok) → word (codes "cut") ts (tokens rest.now) → code_part (scope_in decls.now []) (names_in bound.now) (payoff_code r.0) ts (tokens r.1.now)) }
+    ensures follows { Passes decls.now (λ r. r.1.now)
+        (λ s ps. amount_places s depth (names_in bound.now) AmountHead.Cut ps) rest.now result }
+    ensures spelled { IfOk result (λ r. SpelledBehind (codes "cut") (code_in decls.now bound.now r.0) rest.now r.1.now) }
     ensures high { IfOk result (λ r. height_of_code (payoff_code r.0) + depth ≤ 401) }
     ensures shorter { IfOk result (λ r. length r.1.now ≤ length rest.now) }
 {
@@ -399,8 +421,8 @@ pub fn read_amount<'a>(
 ) -> Result<(Code, &'a [u8]), ReadErr>
     requires shallow { depth ≤ 401 }
     requires bound { length (names_in bound.now) < depth }
-    ensures follows { (cs : List Bytes) (ps : List Place) → Leaves (λ r. run (scope_in decls.now cs) ps (tokens r.1.now)) result (run (scope_in decls.now cs) (AmountAt depth (names_in bound.now) ∷ ps) (tokens rest.now)) }
-    ensures spelled { IfOk result (λ r. (code_part (scope_in decls.now []) (names_in bound.now) (payoff_code r.0)) (tokens rest.now) (tokens r.1.now)) }
+    ensures follows { Passes decls.now (λ r. r.1.now) (λ s ps. AmountAt depth (names_in bound.now) ∷ ps) rest.now result }
+    ensures spelled { IfOk result (λ r. (code_in decls.now bound.now r.0) (tokens rest.now) (tokens r.1.now)) }
     ensures high { IfOk result (λ r. height_of_code (payoff_code r.0) + depth ≤ 401) }
     ensures shorter { IfOk result (λ r. length r.1.now ≤ length rest.now) }
 {

@@ -27,7 +27,7 @@ read_amount-returns-in-None-clause-spelled t c =
 pub read_amount-returns-in-Pay-clause-follows : goal.read_amount-returns-in-Pay-clause-follows
 read_amount-returns-in-Pay-clause-follows t c cs ps =
     let value = rw c.in-Pay.is at c.in-Ok.ensures in
-    rw (passes (amount_head_at c.args.depth) (λ text left. (refl, refl)) (scope_in c.args.decls.now cs) (scope_in c.args.decls.now cs) (AmountAt c.args.depth (names_in c.args.bound.now) ∷ ps) (amount_places (scope_in c.args.decls.now cs) c.args.depth (names_in c.args.bound.now) Head.Pay ps) (λ head. Next (scope_in c.args.decls.now cs) (amount_places (scope_in c.args.decls.now cs) c.args.depth (names_in c.args.bound.now) head ps)) Head.Pay (tok_of c.next.result.0) c.args.rest.now c.next.result.1.now c.next.ensures.starts value refl refl) (c.read_pay.ensures.follows cs c.args.depth (names_in c.args.bound.now) ps)
+    rw (passes (amount_head_at c.args.depth) (λ text left. (refl, refl)) (scope_in c.args.decls.now cs) (scope_in c.args.decls.now cs) (AmountAt c.args.depth (names_in c.args.bound.now) ∷ ps) (amount_places (scope_in c.args.decls.now cs) c.args.depth (names_in c.args.bound.now) Head.Pay ps) (λ head. Next (scope_in c.args.decls.now cs) (amount_places (scope_in c.args.decls.now cs) c.args.depth (names_in c.args.bound.now) head ps)) Head.Pay (tok_of c.next.result.0) c.args.rest.now c.next.result.1.now c.next.ensures.starts value refl refl) (c.read_pay.ensures.follows c.args.depth (names_in c.args.bound.now) cs ps)
 
 pub read_amount-returns-in-Pay-clause-spelled : goal.read_amount-returns-in-Pay-clause-spelled
 read_amount-returns-in-Pay-clause-spelled t c =
