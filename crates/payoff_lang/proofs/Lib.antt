@@ -25,6 +25,7 @@ pub mod CodeStanding
 pub mod CodeTaken
 pub mod CodeFaults
 pub mod CodeClosed
+pub mod CodeNumbers
 pub mod CodeWeights
 pub mod OneCode
 mod RowsSample

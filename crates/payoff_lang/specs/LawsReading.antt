@@ -11,6 +11,7 @@ use Rattle.payoff_lang.specs.CodeFiles.{CodeText}
 use Rattle.payoff_lang.specs.CodeAnswers.{IsCodeFault}
 use Rattle.payoff_lang.specs.CodeSizes.{height_of_code, nodes_of_code}
 use Rattle.payoff_lang.specs.WellFormedCode.{IsClosedCode}
+use Rattle.payoff_lang.specs.PrintableCode.{IsPrintableCode}
 
 abbrev pub CodeTextIsTaken : Type 0
 CodeTextIsTaken = (bytes : List ℕ) (b : CodeBook) → CodeText bytes b → run nothing_declared code_text_places (tokens bytes) ≡ Open []
@@ -27,6 +28,10 @@ OneCodeReading = (bytes : List ℕ) (b b' : CodeBook) → CodeText bytes b → C
 abbrev pub CodeOfTextIsClosed : Type 0
 CodeOfTextIsClosed =
     (bytes : List ℕ) (b : CodeBook) → CodeText bytes b → IsClosedCode b.declarations b.code × (height_of_code b.code ≤ 400)
+
+-- its numbers are within the limits of texts, so that it may be printed
+abbrev pub CodeOfTextIsPrintable : Type 0
+CodeOfTextIsPrintable = (bytes : List ℕ) (b : CodeBook) → CodeText bytes b → IsPrintableCode b.declarations b.code
 
 abbrev pub CodeFitsText : Type 0
 CodeFitsText = (bytes : List ℕ) (b : CodeBook) → CodeText bytes b → nodes_of_code b.code < length bytes

@@ -1,7 +1,7 @@
 //! Laws of payoff code. Each is the contract of a function that does nothing; a caller takes the law by calling it.
 
 ghost use Rattle.payoff_lang.specs.LawsCode.{CompiledCodeMeans, CutCodeMeans, CodeIsWellFormed, CodeValuesAreFixed};
-ghost use Rattle.payoff_lang.specs.LawsReading.{CodeFitsText, CodeOfTextIsClosed, CodeTextHasNoFault, CodeTextIsTaken, NamesOfCodeFitText, OneCodeReading};
+ghost use Rattle.payoff_lang.specs.LawsReading.{CodeFitsText, CodeOfTextIsClosed, CodeOfTextIsPrintable, CodeTextHasNoFault, CodeTextIsTaken, NamesOfCodeFitText, OneCodeReading};
 ghost use Rattle.payoff_lang.specs.LawsTexts.{CodeCanonExists, CodeCanonIsText, CodeIsSpelled, OneCanonOfCode, PrintableIsWritable, ValuesAreWrittenAsExpressions};
 
 /// The code of a contract means it: at every setting at which the contract is accepted, in every admitted environment, on
@@ -73,6 +73,11 @@ pub fn one_code_reading()
 /// The code of a text names only what is declared or bound round it, and at most 400 terms are open at one place.
 pub fn code_of_text_is_closed()
     ensures { CodeOfTextIsClosed }
+{}
+
+/// The code of a text has numbers within the limits of texts, so that it may be printed.
+pub fn code_of_text_is_printable()
+    ensures { CodeOfTextIsPrintable }
 {}
 
 /// The code of a text has fewer nodes than the text has bytes.

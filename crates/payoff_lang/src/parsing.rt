@@ -16,6 +16,7 @@ ghost use Rattle.payoff_lang.specs.CodeSpelling.{code_part};
 ghost use Rattle.payoff_lang.specs.CodeTexts.{code_scope};
 ghost use Rattle.payoff_lang.specs.CodeAnswers.{CodeAnswers};
 ghost use Rattle.payoff_lang.specs.WellFormedCode.{IsClosedCode};
+ghost use Rattle.payoff_lang.specs.PrintableCode.{CodeHasNumbersOfTexts};
 ghost use Rattle.payoff_lang.specs.CodeReading.{Passes, SpelledBehind};
 
 use crate::code::Code;
@@ -144,6 +145,7 @@ pub fn parse_code(alloc: Global, bytes: &[u8]) -> Result<CodeFile, ParseErr>
     ensures answer { CodeAnswers bytes.now result }
     ensures closed { IfOk result (λ file. IsClosedCode (declarations file.decls) (payoff_code file.code)) }
     ensures shallow { IfOk result (λ file. height_of_code (payoff_code file.code) ≤ 400) }
+    ensures numbers { IfOk result (λ file. CodeHasNumbersOfTexts (payoff_code file.code)) }
     ensures few { IfOk result (λ file. nodes_of_code (payoff_code file.code) < length bytes.now) }
 {
     if let Err(fault) = start_text(bytes) {

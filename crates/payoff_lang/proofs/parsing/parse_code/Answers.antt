@@ -1,6 +1,7 @@
 use Rattle.payoff_lang.specs.CodeBooks.{code_book}
 use Rattle.payoff_lang.proofs.CodeClosed.{code_of_text_closed}
 use Rattle.payoff_lang.proofs.CodeFaults.{not_code, not_code_utf8}
+use Rattle.payoff_lang.proofs.CodeNumbers.{code_of_text_printable}
 use Rattle.payoff_lang.proofs.CodeWeights.{code_fits}
 use Rattle.payoff_lang.proofs.parsing.parse_code.Goals as goal
 
@@ -17,6 +18,9 @@ returns-in-Ok-clause-closed c = (code_of_text_closed c.args.bytes.now (code_book
 
 pub returns-in-Ok-clause-shallow : goal.returns-in-Ok-clause-shallow
 returns-in-Ok-clause-shallow c = (code_of_text_closed c.args.bytes.now (code_book c.in-Ok.file) (record { utf8 = c.in_default.ensures.fits.utf8; spelled = c.in-Ok.ensures.spelled })).1
+
+pub returns-in-Ok-clause-numbers : goal.returns-in-Ok-clause-numbers
+returns-in-Ok-clause-numbers c = (code_of_text_printable c.args.bytes.now (code_book c.in-Ok.file) (record { utf8 = c.in_default.ensures.fits.utf8; spelled = c.in-Ok.ensures.spelled })).numbers
 
 pub returns-in-Ok-clause-few : goal.returns-in-Ok-clause-few
 returns-in-Ok-clause-few c = code_fits c.args.bytes.now (code_book c.in-Ok.file) (record { utf8 = c.in_default.ensures.fits.utf8; spelled = c.in-Ok.ensures.spelled })
