@@ -24,6 +24,7 @@ pub mod Placed
 pub mod CodeStanding
 pub mod CodeTaken
 pub mod CodeFaults
+pub mod CodeFronts
 pub mod CodeClosed
 pub mod CodeNumbers
 pub mod CodeWeights

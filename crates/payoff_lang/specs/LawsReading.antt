@@ -1,10 +1,14 @@
 -- The laws of the texts of code files: a text has no fault, and it stands for one file, whose code is closed and no larger
 -- than the text.
 use Rattle.std.specs.Prelude.{◌≡◌, ◌≤◌, ◌<◌, List, ℕ, [], length}
+use Rattle.std.specs.Str.{IsUtf8}
 use Rattle.contract_parse.specs.Tokens.{tokens}
 use Rattle.contract_parse.specs.Names.{nothing_declared}
 use Rattle.contract_parse.specs.Places.{Open, code_text_places, run}
 use Rattle.contract_parse.specs.Laws.{NamesFit}
+use Rattle.contract_parse.specs.Fronts.{IsWhole}
+use Rattle.contract_parse.specs.FrontLaws.{FaultyToken}
+use Rattle.contract_parse.specs.declared.heads.Language.{Language}
 use Rattle.contract_parse.specs.declared.faults.TextFault.{TextFault}
 use Rattle.payoff_lang.specs.CodeBooks.{CodeBook}
 use Rattle.payoff_lang.specs.CodeFiles.{CodeText}
@@ -18,6 +22,13 @@ CodeTextIsTaken = (bytes : List ℕ) (b : CodeBook) → CodeText bytes b → run
 
 abbrev pub CodeTextHasNoFault : Type 0
 CodeTextHasNoFault = (bytes : List ℕ) (b : CodeBook) (f : TextFault) → CodeText bytes b → IsCodeFault bytes f → ⊥
+
+-- a fault at a token leaves a front before it, and is of Syntax exactly where with that token there is none
+abbrev pub CodeFaultsEndFronts : Type 0
+CodeFaultsEndFronts = (bytes : List ℕ) (f : TextFault) → IsUtf8 bytes → IsCodeFault bytes f → FaultyToken Language.Code bytes f
+
+abbrev pub CodeTextsAreWhole : Type 0
+CodeTextsAreWhole = (bytes : List ℕ) (b : CodeBook) → CodeText bytes b → IsWhole Language.Code (tokens bytes)
 
 -- one text stands for at most one code file
 abbrev pub OneCodeReading : Type 0

@@ -1,7 +1,7 @@
 //! Laws of payoff code. Each is the contract of a function that does nothing; a caller takes the law by calling it.
 
 ghost use Rattle.payoff_lang.specs.LawsCode.{CompiledCodeMeans, CutCodeMeans, CodeIsWellFormed, CodeValuesAreFixed};
-ghost use Rattle.payoff_lang.specs.LawsReading.{CodeFitsText, CodeOfTextIsClosed, CodeOfTextIsPrintable, CodeTextHasNoFault, CodeTextIsTaken, NamesOfCodeFitText, OneCodeReading};
+ghost use Rattle.payoff_lang.specs.LawsReading.{CodeFaultsEndFronts, CodeFitsText, CodeOfTextIsClosed, CodeOfTextIsPrintable, CodeTextHasNoFault, CodeTextIsTaken, CodeTextsAreWhole, NamesOfCodeFitText, OneCodeReading};
 ghost use Rattle.payoff_lang.specs.LawsTexts.{CodeCanonExists, CodeCanonIsText, CodeIsSpelled, OneCanonOfCode, PrintableIsWritable, ValuesAreWrittenAsExpressions};
 
 /// The code of a contract means it: at every setting at which the contract is accepted, in every admitted environment, on
@@ -63,6 +63,17 @@ pub fn code_text_is_taken()
 /// A text of a code file has no fault.
 pub fn code_text_has_no_fault()
     ensures { CodeTextHasNoFault }
+{}
+
+/// A fault of bytes that are UTF-8 stands at a token behind a front, and is of Syntax exactly where with that token there
+/// is none.
+pub fn code_faults_end_fronts()
+    ensures { CodeFaultsEndFronts }
+{}
+
+/// The tokens of a text of a code file are whole by the forms of its grammar.
+pub fn code_texts_are_whole()
+    ensures { CodeTextsAreWhole }
 {}
 
 /// One text stands for at most one code file.
