@@ -22,7 +22,7 @@ one_form : (rest : Form Symbol) (test : Tok → Bool) (t : Tok) (b : Bool) → t
 one_form rest test t b e = ap (λ c. cond c (rest ∷ []) []) e
 
 -- a form with a sign, and one without
-plain_sign : (test : Tok → Bool) (t : Tok) → is_the_mark (codes "-") t ≡ false → rests ((Terminal test ∷ []) ∷ (the_mark {N = Symbol} (codes "-") ∷ Terminal test ∷ []) ∷ []) t ≡ cond (test t) ([] ∷ []) []
+plain_sign : (test : Tok → Bool) (t : Tok) → is_the_mark (codes "-") t ≡ false → rests ((Terminal test ∷ []) ∷ (the_mark (codes "-") ∷ Terminal test ∷ []) ∷ []) t ≡ cond (test t) ([] ∷ []) []
 plain_sign test t miss = ap (λ c. cond (test t) ([] ∷ cond c ((Terminal test ∷ []) ∷ []) []) (cond c ((Terminal test ∷ []) ∷ []) [])) miss
 
 pub stepped : (s : Scope) (ps : List Place) (t : Tok) → Decided ps → Stepped (all_parts ps) t (step s ps t)

@@ -9,24 +9,45 @@ use Rattle.contract_parse.specs.Heads.{leaf_word}
 use Rattle.contract_parse.specs.Forms.{Part, Terminal, Nonterminal, Optional, Repeated, Form, Grammar, Whole, Front}
 use Rattle.contract_parse.specs.declared.heads.Language.{Language}
 
+-- ---- symbols
+
+pub data Declared : Type 0 where
+  OriginLine : Declared
+  StartLine : Declared
+  PartyLine : Declared
+  AssetLine : Declared
+  FurtherName : Declared
+  LabelLine : Declared
+  Bound : Declared
+  TemplateLine : Declared
+
+pub data Symbol : Type 0 where
+  Declaration : (of : Declared) → Symbol
+  ContractLine : Symbol
+  Contract : Symbol
+  Amount : Symbol
+  Expression : (language : Language) → Symbol
+  SignedInteger : Symbol
+  FurtherTemplate : Symbol
+
 -- ---- tokens
 
-abbrev pub the_word : {N : Type 0} → Bytes → Part N
+abbrev pub the_word : Bytes → Part Symbol
 the_word w = Terminal (is_the_word w)
 
-abbrev pub the_mark : {N : Type 0} → Bytes → Part N
+abbrev pub the_mark : Bytes → Part Symbol
 the_mark m = Terminal (is_the_mark m)
 
-abbrev pub a_name : {N : Type 0} → Part N
+abbrev pub a_name : Part Symbol
 a_name = Terminal is_name
 
-abbrev pub an_integer : {N : Type 0} → Part N
+abbrev pub an_integer : Part Symbol
 an_integer = Terminal is_integer
 
-abbrev pub a_number : {N : Type 0} → Part N
+abbrev pub a_number : Part Symbol
 a_number = Terminal is_number
 
-abbrev pub a_date : {N : Type 0} → Part N
+abbrev pub a_date : Part Symbol
 a_date = Terminal is_date
 
 abbrev pub is_one_of : List Bytes → (Bytes → Tok → Bool) → Tok → Bool
@@ -40,33 +61,33 @@ abbrev pub mode_words : List Bytes
 mode_words = codes "half_even" ∷ codes "half_away" ∷ codes "floor" ∷ codes "ceil" ∷ []
 
 -- a count of days: a number, or the name of a template
-abbrev pub a_count : {N : Type 0} → Part N
+abbrev pub a_count : Part Symbol
 a_count = Terminal (λ t. is_integer t || is_name t)
 
-abbrev pub an_operator : {N : Type 0} → Part N
+abbrev pub an_operator : Part Symbol
 an_operator = Terminal (is_one_of operator_marks is_the_mark)
 
-abbrev pub a_mode : {N : Type 0} → Part N
+abbrev pub a_mode : Part Symbol
 a_mode = Terminal (is_one_of mode_words is_the_word)
 
 -- with or without a sign
-abbrev pub signed_forms : {N : Type 0} → Part N → List (Form N)
+abbrev pub signed_forms : Part Symbol → List (Form Symbol)
 signed_forms number = (number ∷ []) ∷ (the_mark (codes "-") ∷ number ∷ []) ∷ []
 
 -- `a, b, c)`
-abbrev pub arguments : {N : Type 0} → List (Part N) → Form N
+abbrev pub arguments : List (Part Symbol) → Form Symbol
 arguments [] = the_mark (codes ")") ∷ []
 arguments (a ∷ []) = a ∷ the_mark (codes ")") ∷ []
 arguments (a ∷ b ∷ rest) = a ∷ the_mark (codes ",") ∷ arguments (b ∷ rest)
 
 -- `word(a, b, c)`
-abbrev pub call : {N : Type 0} → Bytes → List (Part N) → Form N
+abbrev pub call : Bytes → List (Part Symbol) → Form Symbol
 call w parts = the_word w ∷ the_mark (codes "(") ∷ arguments parts
 
 -- ---- expressions
 
 -- the forms of an expression `e`, with the form of a read
-abbrev pub expression_forms : {N : Type 0} → Form N → Part N → List (Form N)
+abbrev pub expression_forms : Form Symbol → Part Symbol → List (Form Symbol)
 expression_forms read e =
     (a_number ∷ [])
     ∷ (the_mark (codes "-") ∷ a_number ∷ [])
@@ -88,51 +109,31 @@ expression_forms read e =
 
 -- ---- declarations
 
-pub data Declared : Type 0 where
-  OriginLine : Declared
-  StartLine : Declared
-  PartyLine : Declared
-  AssetLine : Declared
-  FurtherName : Declared
-  LabelLine : Declared
-  Bound : Declared
-  TemplateLine : Declared
-
 -- `word NAME { , NAME } ;`
-abbrev pub names_form : {N : Type 0} → (Declared → N) → Bytes → Form N
-names_form at w = the_word w ∷ a_name ∷ Repeated (at FurtherName) ∷ the_mark (codes ";") ∷ []
+abbrev pub names_form : Bytes → Form Symbol
+names_form w = the_word w ∷ a_name ∷ Repeated (Declaration FurtherName) ∷ the_mark (codes ";") ∷ []
 
--- the forms of declarations in a grammar that has their symbols
-abbrev pub declared_forms : {N : Type 0} → (Declared → N) → Declared → List (Form N)
-declared_forms at OriginLine = (the_word (codes "origin") ∷ a_date ∷ the_mark (codes ";") ∷ []) ∷ []
-declared_forms at StartLine = (the_word (codes "start") ∷ an_integer ∷ the_mark (codes ";") ∷ []) ∷ []
-declared_forms at PartyLine = names_form at (codes "party") ∷ []
-declared_forms at AssetLine = names_form at (codes "asset") ∷ []
-declared_forms at FurtherName = (the_mark (codes ",") ∷ a_name ∷ []) ∷ []
-declared_forms at LabelLine =
-    (the_word (codes "num") ∷ a_name ∷ the_mark (codes ":") ∷ an_integer ∷ the_word (codes "in") ∷ Nonterminal (at Bound) ∷ the_mark (codes "..") ∷ Nonterminal (at Bound) ∷ the_mark (codes ";") ∷ [])
+abbrev pub declared_forms : Declared → List (Form Symbol)
+declared_forms OriginLine = (the_word (codes "origin") ∷ a_date ∷ the_mark (codes ";") ∷ []) ∷ []
+declared_forms StartLine = (the_word (codes "start") ∷ an_integer ∷ the_mark (codes ";") ∷ []) ∷ []
+declared_forms PartyLine = names_form (codes "party") ∷ []
+declared_forms AssetLine = names_form (codes "asset") ∷ []
+declared_forms FurtherName = (the_mark (codes ",") ∷ a_name ∷ []) ∷ []
+declared_forms LabelLine =
+    (the_word (codes "num") ∷ a_name ∷ the_mark (codes ":") ∷ an_integer ∷ the_word (codes "in") ∷ Nonterminal (Declaration Bound) ∷ the_mark (codes "..") ∷ Nonterminal (Declaration Bound) ∷ the_mark (codes ";") ∷ [])
     ∷ (the_word (codes "flag") ∷ a_name ∷ the_mark (codes ";") ∷ [])
     ∷ []
-declared_forms at Bound = signed_forms a_number
-declared_forms at TemplateLine = (the_word (codes "template") ∷ a_name ∷ the_mark (codes "=") ∷ an_integer ∷ the_mark (codes ";") ∷ []) ∷ []
+declared_forms Bound = signed_forms a_number
+declared_forms TemplateLine = (the_word (codes "template") ∷ a_name ∷ the_mark (codes "=") ∷ an_integer ∷ the_mark (codes ";") ∷ []) ∷ []
 
-abbrev pub declarations_form : {N : Type 0} → (Declared → N) → Form N → Form N
-declarations_form at behind =
+abbrev pub declarations_form : Form Symbol → Form Symbol
+declarations_form behind =
     the_word (codes "amounts") ∷ an_integer ∷ the_mark (codes ";")
-    ∷ Optional (at OriginLine) ∷ Optional (at StartLine)
-    ∷ Repeated (at PartyLine) ∷ Repeated (at AssetLine) ∷ Repeated (at LabelLine) ∷ Repeated (at TemplateLine)
+    ∷ Optional (Declaration OriginLine) ∷ Optional (Declaration StartLine)
+    ∷ Repeated (Declaration PartyLine) ∷ Repeated (Declaration AssetLine) ∷ Repeated (Declaration LabelLine) ∷ Repeated (Declaration TemplateLine)
     ∷ behind
 
 -- ---- terms
-
-pub data Symbol : Type 0 where
-  Declaration : (of : Declared) → Symbol
-  ContractLine : Symbol
-  Contract : Symbol
-  Amount : Symbol
-  Expression : (language : Language) → Symbol
-  SignedInteger : Symbol
-  FurtherTemplate : Symbol
 
 abbrev pub a_signed_integer : Part Symbol
 a_signed_integer = Nonterminal SignedInteger
@@ -183,7 +184,7 @@ abbrev pub defined_form : Bytes → Part Symbol → Form Symbol → Form Symbol
 defined_form w term behind = the_word w ∷ a_name ∷ the_mark (codes "=") ∷ term ∷ the_mark (codes ";") ∷ behind
 
 abbrev pub text_forms : Grammar Symbol
-text_forms (Declaration of) = declared_forms Declaration of
+text_forms (Declaration of) = declared_forms of
 text_forms ContractLine = defined_form (codes "contract") (Nonterminal Contract) [] ∷ []
 text_forms Contract = contract_forms (Nonterminal Contract) (Nonterminal (Expression Language.Contracts))
 text_forms Amount = amount_forms (Nonterminal Amount) (Nonterminal (Expression Language.Code))
@@ -194,12 +195,12 @@ text_forms FurtherTemplate = (the_mark (codes "+") ∷ a_name ∷ []) ∷ []
 abbrev pub portfolio_form : Form Symbol
 portfolio_form =
     the_word (codes "portfolio") ∷ Terminal is_version ∷ the_mark (codes ";")
-    ∷ declarations_form Declaration (Repeated ContractLine ∷ Terminal is_end ∷ [])
+    ∷ declarations_form (Repeated ContractLine ∷ Terminal is_end ∷ [])
 
 abbrev pub code_form : Form Symbol
 code_form =
     the_word (codes "payoff") ∷ Terminal is_version ∷ the_mark (codes ";")
-    ∷ declarations_form Declaration (defined_form (codes "code") (Nonterminal Amount) (Terminal is_end ∷ []))
+    ∷ declarations_form (defined_form (codes "code") (Nonterminal Amount) (Terminal is_end ∷ []))
 
 -- a text of the language: a portfolio of contracts, or a text of payoff code
 abbrev pub text_form : Language → Form Symbol
