@@ -67,7 +67,7 @@ IsWorthOfContract b asked inputs can amount c =
     CodeMeans b.declarations b.code c Remaining → IsAccepted b.declarations (instance (setting_by b.declarations asked.settings) c)
     → (env : Environment) → IsAdmitted b.declarations env → Extends can.fixings env
     → amount ≡ present_value b.declarations (instance (setting_by b.declarations asked.settings) c) env (pos b.declarations.start)
-        (counting (pos 0) (question can.day can.curve can.flow))
+    (counting (pos 0) (question can.day can.curve can.flow))
 
 -- `value` has written the value of every contract that the code means
 pub record HasValued (edge : Edge) (asked : ValueAsked) : Type 0 where

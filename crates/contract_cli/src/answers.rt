@@ -18,12 +18,11 @@ ghost use Rattle.contract_cli.specs.declared.status.Status.TheVariants.{Done as 
 use crate::advance_text::advance_text;
 use crate::check_text::check_text;
 use crate::flows_text::flows_text;
-use command_words::SampleSize;
 use crate::payoff_text::payoff_text;
 use crate::status::{Status, status_of};
 use crate::stop::Stop;
 use crate::used::used_contracts;
-use command_words::Command;
+use command_words::{Command, SampleSize};
 use contract_parse::{ParseErr, parse_portfolio};
 use decimal::NoMemory;
 use report::{Fault, fault_line};

@@ -108,11 +108,7 @@ fn read_value_inputs<F: Files>(
 }
 
 // Reads the files of `value`, and makes the text of its answer.
-fn answer_on_code<F: Files>(
-    alloc: Global,
-    value: &Value<'_>,
-    files: &mut F,
-) -> Result<Answer, Stop>
+fn answer_on_code<F: Files>(alloc: Global, value: &Value<'_>, files: &mut F) -> Result<Answer, Stop>
     ensures answer { (words : List (List ℕ)) → NamesValue words (value_by value.now) → AnswersWords words (record { contents = F.contents files.old; faults_before = F.faults files.old; faults_after = F.faults files.new }) result }
     ensures kept { (other : List ℕ) → F.contents files.new other ≡ F.contents files.old other }
     ensures counts { CountsOnlyValued (value_by value.now) (record { contents = F.contents files.old; faults_before = F.faults files.old; faults_after = F.faults files.new }) }

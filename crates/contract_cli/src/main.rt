@@ -9,6 +9,8 @@ mod answers;
 mod check_text;
 mod command;
 mod flows_text;
+#[cfg(test)]
+mod hostile_tests;
 pub mod laws;
 #[cfg(test)]
 mod long_tests;

@@ -7,8 +7,8 @@ ghost use Rattle.contract_cli.specs.FlowLists.{AnswersDay, AnswersFixings, IsSho
 ghost use Rattle.contract_cli.specs.FlowsText.{label_name};
 
 use crate::check_text::verdict;
-use command_words::DayWord;
 use crate::stop::Stop;
+use command_words::DayWord;
 use decimal::NoMemory;
 use fixing_files::{DayFault, Fixings, RowErr, place_day, read_fixings};
 use flow_eval::FlowErr;

@@ -32,11 +32,7 @@ fn code_of(alloc: Global, bytes: &[u8]) -> Result<CodeFile, Stop>
 }
 
 /// What `value` answers to the bytes of its files.
-pub fn answer_value(
-    alloc: Global,
-    value: &Value<'_>,
-    inputs: &ValueInputs,
-) -> Result<Answer, Stop>
+pub fn answer_value(alloc: Global, value: &Value<'_>, inputs: &ValueInputs) -> Result<Answer, Stop>
     requires { AreShortForValue (value_inputs_by inputs.now) }
     ensures { AnswersBy (λ answer. ValueAnswers (value_by value.now) (value_inputs_by inputs.now) answer.status answer.text.items) (ValueStops (value_by value.now) (value_inputs_by inputs.now)) result }
 {

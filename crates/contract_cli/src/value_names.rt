@@ -50,11 +50,7 @@ fn parties_of(alloc: Global, decls: &Decls, between: &Between<'_>) -> Result<Par
 }
 
 // Stops at the first name that is set and is that of no template.
-fn know_settings(
-    alloc: Global,
-    decls: &Decls,
-    settings: &IndexMap<Name, u32>,
-) -> Result<(), Stop>
+fn know_settings(alloc: Global, decls: &Decls, settings: &IndexMap<Name, u32>) -> Result<(), Stop>
     ensures { AnswersBy (λ _. settings_are_known (declarations decls.now) settings.now.entries) (IsUnknownSetting (declarations decls.now) settings.now.entries) result }
 {
     for (name, _) in settings {

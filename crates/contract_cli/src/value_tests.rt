@@ -104,15 +104,47 @@ fn values_code(rt: HostRuntime) -> Result<(), Fail> {
     let alloc = rt.alloc();
     let rows = [
         worth(LOAN, PRESENT, b"-3.95000000000\n"),
-        worth(LOAN, "--at|1|--from|A|--to|B|--asset|EUR", b"-105.00000000000\n"),
-        worth(LOAN, "--at|90|--from|A|--to|B|--asset|EUR", b"-105.00000000000\n"),
-        worth(LOAN, "--at|91|--from|A|--to|B|--asset|EUR", b"0.00000000000\n"),
-        worth(LOAN, "--at|0|--from|B|--to|A|--asset|EUR", b"3.95000000000\n"),
-        worth(LOAN, "--at|0|--from|A|--to|A|--asset|EUR", b"0.00000000000\n"),
+        worth(
+            LOAN,
+            "--at|1|--from|A|--to|B|--asset|EUR",
+            b"-105.00000000000\n",
+        ),
+        worth(
+            LOAN,
+            "--at|90|--from|A|--to|B|--asset|EUR",
+            b"-105.00000000000\n",
+        ),
+        worth(
+            LOAN,
+            "--at|91|--from|A|--to|B|--asset|EUR",
+            b"0.00000000000\n",
+        ),
+        worth(
+            LOAN,
+            "--at|0|--from|B|--to|A|--asset|EUR",
+            b"3.95000000000\n",
+        ),
+        worth(
+            LOAN,
+            "--at|0|--from|A|--to|A|--asset|EUR",
+            b"0.00000000000\n",
+        ),
         // Settings may stand on both sides of options.
-        worth(NAMED_LOAN, "T=90|--at|0|--from|A|--to|B|--asset|EUR", b"-3.95000000000\n"),
-        worth(NAMED_LOAN, "--at|0|--from|A|--to|B|--asset|EUR|T=30", b"-5.00000000000\n"),
-        worth(NAMED_LOAN, "--at|0|T=0|--from|A|--to|B|--asset|EUR", b"-5.00000000000\n"),
+        worth(
+            NAMED_LOAN,
+            "T=90|--at|0|--from|A|--to|B|--asset|EUR",
+            b"-3.95000000000\n",
+        ),
+        worth(
+            NAMED_LOAN,
+            "--at|0|--from|A|--to|B|--asset|EUR|T=30",
+            b"-5.00000000000\n",
+        ),
+        worth(
+            NAMED_LOAN,
+            "--at|0|T=0|--from|A|--to|B|--asset|EUR",
+            b"-5.00000000000\n",
+        ),
         worth(NAMED_LOAN, PRESENT, b"-3.95000000000\n"),
         // A payment gone by counts at face value, where it is not cut.
         worth(PAST, PRESENT, b"1.00000000000\n"),
@@ -127,7 +159,11 @@ fn values_code(rt: HostRuntime) -> Result<(), Fail> {
         },
         Valued {
             table: RISING,
-            ..worth(TOUCH, "--at|3|--from|A|--to|B|--asset|EUR", b"0.00000000000\n")
+            ..worth(
+                TOUCH,
+                "--at|3|--from|A|--to|B|--asset|EUR",
+                b"0.00000000000\n",
+            )
         },
     ];
     for row in &rows {
@@ -143,7 +179,11 @@ fn values_are_refused(rt: HostRuntime) -> Result<(), Fail> {
         // The tests of a loop are read, though its payment is gone by.
         Valued {
             status: Status::Missing,
-            ..worth(TOUCH, "--at|3|--from|A|--to|B|--asset|EUR", b"fault missing FX 0\n")
+            ..worth(
+                TOUCH,
+                "--at|3|--from|A|--to|B|--asset|EUR",
+                b"fault missing FX 0\n",
+            )
         },
         Valued {
             curve: b"offset,factor\n",
@@ -165,23 +205,43 @@ fn values_are_refused(rt: HostRuntime) -> Result<(), Fail> {
         // Names before days, parties before the asset and that before settings.
         Valued {
             status: Status::UnknownName,
-            ..worth(LOAN, "S=1|--at|2000000|--from|A|--to|Z|--asset|USD", b"fault unknown Z\n")
+            ..worth(
+                LOAN,
+                "S=1|--at|2000000|--from|A|--to|Z|--asset|USD",
+                b"fault unknown Z\n",
+            )
         },
         Valued {
             status: Status::UnknownName,
-            ..worth(LOAN, "S=1|--at|2000000|--from|A|--to|B|--asset|USD", b"fault unknown USD\n")
+            ..worth(
+                LOAN,
+                "S=1|--at|2000000|--from|A|--to|B|--asset|USD",
+                b"fault unknown USD\n",
+            )
         },
         Valued {
             status: Status::UnknownName,
-            ..worth(NAMED_LOAN, "T=1|S=1|--at|2000000|--from|A|--to|B|--asset|EUR", b"fault unknown S\n")
+            ..worth(
+                NAMED_LOAN,
+                "T=1|S=1|--at|2000000|--from|A|--to|B|--asset|EUR",
+                b"fault unknown S\n",
+            )
         },
         Valued {
             status: Status::DayRange,
-            ..worth(LOAN, "--at|2000000|--from|A|--to|B|--asset|EUR", b"fault day 2000000\n")
+            ..worth(
+                LOAN,
+                "--at|2000000|--from|A|--to|B|--asset|EUR",
+                b"fault day 2000000\n",
+            )
         },
         Valued {
             status: Status::DayRange,
-            ..worth(LOAN, "--at|2024-01-15|--from|A|--to|B|--asset|EUR", b"fault day 2024-01-15\n")
+            ..worth(
+                LOAN,
+                "--at|2024-01-15|--from|A|--to|B|--asset|EUR",
+                b"fault day 2024-01-15\n",
+            )
         },
         // The code before the rows.
         Valued {
@@ -192,7 +252,11 @@ fn values_are_refused(rt: HostRuntime) -> Result<(), Fail> {
         },
         Valued {
             status: Status::Usage,
-            ..worth(NAMED_LOAN, "T=1|T=1|--at|0|--from|A|--to|B|--asset|EUR", b"fault usage\n")
+            ..worth(
+                NAMED_LOAN,
+                "T=1|T=1|--at|0|--from|A|--to|B|--asset|EUR",
+                b"fault usage\n",
+            )
         },
         Valued {
             status: Status::Usage,

@@ -53,7 +53,7 @@ returns-in_err-curve-clause-answer g c = λ words asked same names.
     let also = subst (λ (x : List ℕ). WasRead one x rows) table_is (seen_told one middle table rows (c.read_file.ensures.kept table) c.in_ok-fixings.ensures.answer) in
     handed_on (λ (b : Vec ℕ). WasRead two file b.items) (λ (inputs : Kept). WereReadForValue one asked (value_inputs_by inputs)) (FileFault two file 3) (StopsRun words one)
     (λ f h. stopped_at_curve words one two asked bytes rows f names read also
-        (c.read_file-2.ensures.kept last ∙ c.read_file.ensures.kept last)
-        (both_later (one.faults_before last) (middle.faults_before last) (two.faults_before last) (c.read_file.ensures.counts.later last) (c.read_file-2.ensures.counts.later last))
-        refl (subst (λ (x : List ℕ). FileFault two x 3 f) is h))
+    (c.read_file-2.ensures.kept last ∙ c.read_file.ensures.kept last)
+    (both_later (one.faults_before last) (middle.faults_before last) (two.faults_before last) (c.read_file.ensures.counts.later last) (c.read_file-2.ensures.counts.later last))
+    refl (subst (λ (x : List ℕ). FileFault two x 3 f) is h))
     c.in_err-curve.field-0.0 c.from_residual-in_err-curve.result c.in_err-curve.ensures.answer c.from_residual-in_err-curve.ensures.1

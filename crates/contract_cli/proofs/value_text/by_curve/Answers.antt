@@ -33,9 +33,9 @@ returns c =
     let amount = c.in_ok-amount.amount in
     let same : to_z w128 (of_z w128 amount) ≡ amount = to_z-of_z w128 amount (fits_wide amount c.in_ok-amount.ensures.small) in
     record {
-  curve = c.in_ok-curve.curve;
-  is_curve = c.in_ok-curve.ensures;
-  amount = c.in_ok-amount.amount;
-  worth = c.in_ok-amount.ensures;
-  line = subst (λ (m : ℤ). c.in_ok-text.text.items ≡ value_text m (c.args.file.now.decls.amounts + 9)) same c.in_ok-text.ensures;
-}
+      curve = c.in_ok-curve.curve;
+      is_curve = c.in_ok-curve.ensures;
+      amount = c.in_ok-amount.amount;
+      worth = c.in_ok-amount.ensures;
+      line = subst (λ (m : ℤ). c.in_ok-text.text.items ≡ value_text m (c.args.file.now.decls.amounts + 9)) same c.in_ok-text.ensures;
+    }

@@ -1,0 +1,320 @@
+// Files that cannot be read, sinks that fail, texts that are cut off, and the limits at their last good and first bad numbers.
+
+use crate::tests::{ROOM, one_file};
+use crate::{Status, run};
+use edge_io::{Entry, MemoryFiles, MemorySink};
+use std::alloc::{AllocError, Global};
+use std::process::Abort;
+use std::test::Fail;
+
+const LOAN: &[u8] = b"portfolio 1;
+amounts 2;
+party A, B, C;
+asset EUR;
+contract loan = both(scale(100.00, pay(EUR, A, B)), after(90, scale(105.00, pay(EUR, B, A))));
+";
+
+const CODE: &str = "payoff 1;
+amounts 2;
+start 0;
+party A, B, C;
+asset EUR;
+code loan = add(scale(100.00, cut(0, pay(0, EUR, A, B))), scale(105.00, cut(90, pay(90, EUR, B, A))));
+";
+
+const CURVE: &[u8] = b"offset,factor\n0,1.000000000\n90,0.990000000\n";
+
+const NOTHING_FIXED: &[u8] = b"label,day,value\n";
+
+const PRESENT: &str = "value|code|table|curve|--at|0|--from|A|--to|B|--asset|EUR";
+
+fn entry(alloc: Global, name: &str, bytes: &[u8]) -> Result<Entry, AllocError> {
+    Ok(Entry {
+        name: name.as_bytes().to_vec(alloc)?,
+        bytes: bytes.to_vec(alloc)?,
+        faults: 0,
+    })
+}
+
+// A portfolio, code, a table and a curve; the numbered read fails.
+fn desk(
+    alloc: Global,
+    portfolio: &[u8],
+    code: &[u8],
+    table: &[u8],
+    fails: u64,
+) -> Result<MemoryFiles, AllocError> {
+    let mut entries = Vec::new(alloc);
+    entries.push(entry(alloc, "book", portfolio)?)?;
+    entries.push(entry(alloc, "code", code)?)?;
+    entries.push(entry(alloc, "table", table)?)?;
+    entries.push(entry(alloc, "curve", CURVE)?)?;
+    let mut fail = Vec::new(alloc);
+    fail.push(fails)?;
+    Ok(MemoryFiles::new(entries, fail))
+}
+
+// What these words, which stand between `|`, print, and their status.
+fn ran(alloc: Global, line: &str, mut files: MemoryFiles) -> Result<(Status, MemorySink), Fail> {
+    let mut words = Vec::new(alloc);
+    for word in line.split('|') {
+        words.push(word)?;
+    }
+    let mut out = MemorySink::new(alloc, Vec::new(alloc), ROOM, ROOM)?;
+    let status = run(alloc, &words, &mut files, &mut out);
+    Ok((status, out))
+}
+
+#[test]
+fn says_of_each_command_which_read_fails(rt: HostRuntime) -> Result<(), Fail> {
+    let alloc = rt.alloc();
+    let rows = [
+        ("check|book", 1),
+        ("flows|book", 1),
+        ("flows|book|table", 2),
+        ("advance|book|table|--to|0", 2),
+        ("payoff|book|--contract|loan", 1),
+        (PRESENT, 3),
+    ];
+    for (line, count) in rows {
+        for read in 1..=count {
+            let files = desk(alloc, LOAN, CODE.as_bytes(), NOTHING_FIXED, read)?;
+            let (status, out) = ran(alloc, line, files)?;
+            let fault = format!(in alloc; "fault read {read}\n")?;
+            assert_eq!(rt; out.taken(), fault.as_bytes());
+            assert!(rt; status == Status::ReadFault);
+        }
+        let files = desk(alloc, LOAN, CODE.as_bytes(), NOTHING_FIXED, count + 1)?;
+        let (status, _) = ran(alloc, line, files)?;
+        assert!(rt; status == Status::Done);
+    }
+    Ok(())
+}
+
+// The sink takes ten bytes a write.
+#[test]
+fn writes_a_part_where_the_sink_fails(rt: HostRuntime) -> Result<(), Fail> {
+    let alloc = rt.alloc();
+    let whole = b"loan,0,A,B,EUR,100.00\nloan,90,B,A,EUR,105.00\n".as_slice();
+    for write in 1..=6usize {
+        let mut files = one_file(alloc, b"book", LOAN, &[])?;
+        let mut fail = Vec::new(alloc);
+        fail.push(write as u64)?;
+        let mut out = MemorySink::new(alloc, fail, 10, ROOM)?;
+        let status = run(alloc, &["flows", "book"], &mut files, &mut out);
+        let taken = if write < 6 {
+            (write - 1) * 10
+        } else {
+            whole.len()
+        };
+        assert!(rt; whole.starts_with(out.taken()));
+        assert_eq!(rt; out.taken().len(), taken);
+        assert!(rt;
+            status
+                == if write < 6 {
+                    Status::WriteFault
+                } else {
+                    Status::Done
+                }
+        );
+    }
+    Ok(())
+}
+
+const TREASURY: &str = "# Positions of the treasury desk
+portfolio 1;
+amounts 2;
+origin 2024-01-15;
+party A, B, C;
+asset EUR, USD;
+num FX : 4 in 0.5000 .. 2.0000;
+flag Default_B;
+template T = 90;
+
+contract loan = both(scale(100.00, pay(EUR, A, B)),
+                     after(T, scale(105.00, pay(EUR, B, A))));
+
+contract guarded = if obs(Default_B, 0) within T
+                   then scale(40.00, pay(EUR, C, A))
+                   else scale(100.00, pay(EUR, B, A));
+";
+
+// A portfolio ends with its amounts, or with any sentence behind them.
+#[test]
+fn checks_what_is_cut_off(rt: HostRuntime) -> Result<(), Fail> {
+    let alloc = rt.alloc();
+    for length in 0..TREASURY.len() {
+        let text = &TREASURY[..length];
+        let whole = text.contains("amounts 2;") && text.trim_end().ends_with(';');
+        let (status, _) = ran(
+            alloc,
+            "check|book",
+            one_file(alloc, b"book", text.as_bytes(), &[])?,
+        )?;
+        assert!(rt; status == if whole { Status::Done } else { Status::BadText });
+    }
+    Ok(())
+}
+
+// Code is whole but for its last line feed, or it is none.
+#[test]
+fn values_nothing_that_is_cut_off(rt: HostRuntime) -> Result<(), Fail> {
+    let alloc = rt.alloc();
+    for length in 0..CODE.len() {
+        let files = desk(alloc, LOAN, CODE[..length].as_bytes(), NOTHING_FIXED, 4)?;
+        let (status, _) = ran(alloc, PRESENT, files)?;
+        let whole = length + 1 == CODE.len();
+        assert!(rt; status == if whole { Status::Done } else { Status::BadText });
+    }
+    Ok(())
+}
+
+const HEADER: &str = "amounts 2;
+party A, B, C;
+asset EUR;
+";
+
+// Declarations, and a sentence of which a part stands many times.
+fn nested(
+    alloc: Global,
+    first: &str,
+    begins: &str,
+    part: &str,
+    times: u32,
+    within: &str,
+) -> Result<String, AllocError> {
+    let mut text = format!(in alloc; "{first}\n{HEADER}{begins}")?;
+    for _ in 0..times {
+        text.push_str(part)?;
+    }
+    text.push_str(within)?;
+    for _ in 0..times {
+        text.push(')')?;
+    }
+    text.push_str(";\n")?;
+    Ok(text)
+}
+
+#[test]
+fn reads_texts_of_depth_200(rt: HostRuntime) -> Result<(), Fail> {
+    let alloc = rt.alloc();
+    let rows = [
+        (
+            199,
+            Status::Done,
+            "c accepted start always scale 0 total 0.00 horizon 0\n",
+        ),
+        (200, Status::BadText, "fault text deep line 5 column 1814\n"),
+    ];
+    for (times, wanted, output) in rows {
+        let text = nested(
+            alloc,
+            "portfolio 1;",
+            "contract c = ",
+            "after(1, ",
+            times,
+            "zero",
+        )?;
+        let (status, out) = ran(
+            alloc,
+            "check|book",
+            one_file(alloc, b"book", text.as_bytes(), &[])?,
+        )?;
+        assert_eq!(rt; out.taken(), output.as_bytes());
+        assert!(rt; status == wanted);
+    }
+    Ok(())
+}
+
+#[test]
+fn reads_code_of_depth_400(rt: HostRuntime) -> Result<(), Fail> {
+    let alloc = rt.alloc();
+    let rows = [
+        (399, Status::Done, "0.00000000000\n"),
+        (400, Status::BadText, "fault text deep line 5 column 4004\n"),
+    ];
+    for (times, wanted, output) in rows {
+        let text = nested(alloc, "payoff 1;", "code c = ", "add(none, ", times, "none")?;
+        let files = desk(alloc, LOAN, text.as_bytes(), NOTHING_FIXED, 4)?;
+        let (status, out) = ran(alloc, PRESENT, files)?;
+        assert_eq!(rt; out.taken(), output.as_bytes());
+        assert!(rt; status == wanted);
+    }
+    Ok(())
+}
+
+#[test]
+fn checks_contracts_at_the_limits(rt: HostRuntime) -> Result<(), Fail> {
+    let alloc = rt.alloc();
+    let rows = [
+        (
+            "if (acc(x, (x + 0), 100, 0) > 0) within 30000 then zero else zero",
+            Status::Done,
+            "c accepted start always scale 0 total 0.00 horizon 0\n",
+        ),
+        (
+            "if (acc(x, (x + 0), 100, 0) > 0) within 99999 then zero else zero",
+            Status::Refused,
+            "c refused size node 0\n",
+        ),
+        (
+            "scale(10000000000000000000000000.00, pay(EUR, A, B))",
+            Status::Done,
+            "c accepted start 0 scale 2 total 10000000000000000000000000.00 horizon 1\n",
+        ),
+        (
+            "scale(10000000000000000000000000.01, pay(EUR, A, B))",
+            Status::Refused,
+            "c refused bound node 0\n",
+        ),
+    ];
+    for (contract, wanted, output) in rows {
+        let text = format!(in alloc; "portfolio 1;\n{HEADER}contract c = {contract};\n")?;
+        let (status, out) = ran(
+            alloc,
+            "check|book",
+            one_file(alloc, b"book", text.as_bytes(), &[])?,
+        )?;
+        assert_eq!(rt; out.taken(), output.as_bytes());
+        assert!(rt; status == wanted);
+    }
+    Ok(())
+}
+
+#[test]
+fn refuses_code_beyond_the_limits(rt: HostRuntime) -> Result<(), Fail> {
+    let alloc = rt.alloc();
+    let rows = [
+        (
+            "scale(10000000000000000000000000.01, pay(0, EUR, A, B))",
+            "fault refused c bound node 0\n",
+        ),
+        (
+            "loop true upto -1 then none else none",
+            "fault refused c size node 0\n",
+        ),
+    ];
+    for (code, output) in rows {
+        let text = format!(in alloc; "payoff 1;\n{HEADER}code c = {code};\n")?;
+        let files = desk(alloc, LOAN, text.as_bytes(), NOTHING_FIXED, 4)?;
+        let (status, out) = ran(alloc, PRESENT, files)?;
+        assert_eq!(rt; out.taken(), output.as_bytes());
+        assert!(rt; status == Status::Refused);
+    }
+    Ok(())
+}
+
+#[test]
+fn refuses_a_fixing_of_38_digits(rt: HostRuntime) -> Result<(), Fail> {
+    let alloc = rt.alloc();
+    let book = format!(in alloc; "portfolio 1;\n{HEADER}num FX : 4 in 0.5000 .. 2.0000;\n")?;
+    let table = b"label,day,value\nFX,0,99999999999999999999999999999999999999\n";
+    let files = desk(alloc, book.as_bytes(), CODE.as_bytes(), table, 3)?;
+    let (status, out) = ran(alloc, "flows|book|table", files)?;
+    assert_eq!(rt;
+        out.taken(),
+        b"fault row file 2 record 2 value\n".as_slice()
+    );
+    assert!(rt; status == Status::BadRow);
+    Ok(())
+}
