@@ -46,7 +46,7 @@ one_place bytes kind other at place (refused_at u left stops e) (refused_at w re
     let here : left ≡ rest = cc in
     ((let both : stops_at kind left ≡ stops_at other rest = sym stops ∙ halts in cc), e ∙ ap (λ (k : ℕ). length bytes - k) here ∙ sym f)
 
-same_fault : (f g : TextFault) → f.kind ≡ g.kind → f.line ≡ g.line → f.column ≡ g.column → f ≡ g
+pub same_fault : (f g : TextFault) → f.kind ≡ g.kind → f.line ≡ g.line → f.column ≡ g.column → f ≡ g
 same_fault f g kind line column =
     ap (λ (x : TextKind). let t : TextFault = record { kind = x; line = f.line; column = f.column } in t) kind ∙ ap (λ (x : ℕ). let t : TextFault = record { kind = g.kind; line = x; column = f.column } in t) line ∙ ap (λ (x : ℕ). let t : TextFault = record { kind = g.kind; line = g.line; column = x } in t) column
 

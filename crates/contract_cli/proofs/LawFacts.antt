@@ -34,7 +34,7 @@ use Rattle.contract_cli.proofs.Stages.{last_stage, same_stage, stopped_stage}
 use Rattle.contract_cli.proofs.ValueFacts.{no_value_read_fault, no_value_usage, no_value_write_fault}
 
 -- two statuses that a status cannot both be
-apart : {s x y : Status} (P : Type 0) → (x ≡ y → ⊥) → s ≡ x → s ≡ y → P
+pub apart : {s x y : Status} (P : Type 0) → (x ≡ y → ⊥) → s ≡ x → s ≡ y → P
 apart P differ e f = absurd (differ (sym e ∙ f))
 
 -- ---- what an answer tells of its status

@@ -22,6 +22,11 @@ pub mod ReadFacts
 pub mod ValueFacts
 pub mod ValueParts
 pub mod LawFacts
+pub mod ValueRuns
+pub mod ValueReads
+pub mod ValueStages
+pub mod ValueAnswersAreOne
+pub mod ValueLawFacts
 pub mod ComposeFacts
 pub mod AdvanceTexts
 pub mod PayoffTexts

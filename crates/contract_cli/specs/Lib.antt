@@ -20,3 +20,4 @@ pub mod AdvanceLaws
 pub mod PayoffParts
 pub mod PayoffLaws
 pub mod Headline
+pub mod ValueLaws

@@ -3,6 +3,7 @@
 ghost use Rattle.contract_cli.specs.AdvanceLaws.{AdvanceTextsAreTexts};
 ghost use Rattle.contract_cli.specs.PayoffLaws.{PayoffTextsMean};
 ghost use Rattle.contract_cli.specs.RunLaws.{AdvanceIsComplete, AdvancesCompose, AnswersAreOne, BadTextIsExact, CheckIsComplete, DueLinesAreOne, FlowsAreComplete, PayoffIsComplete, ReadFaultsHaveCauses, RefusalsAreExact, SampleHasThreeEnds, SampleIsComplete, StatusesAreOne, SummariesAreOne, TooLongIsExact, UsageIsExact, UsageWritesItsLine, WriteFaultsHaveCauses};
+ghost use Rattle.contract_cli.specs.ValueLaws.{BadCodeIsExact, DeclaredNamesHavePlaces, TooLongForValueIsExact, ValueAnswersAreOne, ValueIsComplete, ValueRefusalsAreExact};
 
 /// Usage comes exactly where the words are of no form, or memory is wanting, or the write of its line fails; and it has
 /// just that line.
@@ -78,4 +79,26 @@ pub fn run_is_complete()
     ensures advance { AdvanceIsComplete }
     ensures payoff { PayoffIsComplete }
     ensures sample { SampleIsComplete }
+{}
+
+/// Of `value`, the first of the three files with more bytes than the limit is too long, and its place is in the line; a text is
+/// bad exactly where its told contents are no code file; and a name is unknown, a day is out of range, code is refused at the
+/// numbers that are set, a row of the fixings or then of the curve is bad and a read is missing each exactly where its cause
+/// stands and nothing before it, in this order, stops the command.
+pub fn value_refusals_are_exact()
+    ensures long { TooLongForValueIsExact }
+    ensures text { BadCodeIsExact }
+    ensures causes { ValueRefusalsAreExact }
+{}
+
+/// A run of `value` with nothing in its way has written the line of the value, or wants memory; and names that are declared have
+/// places to be asked for.
+pub fn value_is_complete()
+    ensures whole { ValueIsComplete }
+    ensures places { DeclaredNamesHavePlaces }
+{}
+
+/// The bytes of the files of `value` have one answer, a status and a text.
+pub fn value_answers_are_one()
+    ensures { ValueAnswersAreOne }
 {}
