@@ -33,3 +33,4 @@ pub mod PayoffTexts
 pub mod OneSummary
 pub mod SampleLaws
 pub mod HeadlineFacts
+pub mod TwoRunFacts

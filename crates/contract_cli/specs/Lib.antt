@@ -21,3 +21,4 @@ pub mod PayoffParts
 pub mod PayoffLaws
 pub mod Headline
 pub mod ValueLaws
+pub mod TwoRuns

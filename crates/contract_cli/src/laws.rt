@@ -3,6 +3,7 @@
 ghost use Rattle.contract_cli.specs.AdvanceLaws.{AdvanceTextsAreTexts};
 ghost use Rattle.contract_cli.specs.PayoffLaws.{PayoffTextsMean};
 ghost use Rattle.contract_cli.specs.RunLaws.{AdvanceIsComplete, AdvancesCompose, AnswersAreOne, BadTextIsExact, CheckIsComplete, DueLinesAreOne, FlowsAreComplete, PayoffIsComplete, ReadFaultsHaveCauses, RefusalsAreExact, SampleHasThreeEnds, SampleIsComplete, StatusesAreOne, SummariesAreOne, TooLongIsExact, UsageIsExact, UsageWritesItsLine, WriteFaultsHaveCauses};
+ghost use Rattle.contract_cli.specs.TwoRuns.{AdvancedTextsAdvance, AdvancedTextsAreAccepted, PrintedCodeIsTaken, PrintedCodeIsValued};
 ghost use Rattle.contract_cli.specs.ValueLaws.{BadCodeIsExact, DeclaredNamesHavePlaces, TooLongForValueIsExact, ValueAnswersAreOne, ValueIsComplete, ValueRefusalsAreExact};
 
 /// Usage comes exactly where the words are of no form, or memory is wanting, or the write of its line fails; and it has
@@ -101,4 +102,18 @@ pub fn value_is_complete()
 /// The bytes of the files of `value` have one answer, a status and a text.
 pub fn value_answers_are_one()
     ensures { ValueAnswersAreOne }
+{}
+
+/// What `payoff` has printed is a text of code for `value`, which does not refuse it at a setting at which the contract is
+/// accepted; and the number that `value` prints of it is the contract's present value there, where the code is not plain.
+pub fn printed_code_is_valued()
+    ensures taken { PrintedCodeIsTaken }
+    ensures valued { PrintedCodeIsValued }
+{}
+
+/// What `advance` prints of a portfolio that `advance` has printed carries the first contracts to the later day; and `check`
+/// accepts each contract of what `advance` has printed.
+pub fn advanced_texts_advance()
+    ensures carried { AdvancedTextsAdvance }
+    ensures accepted { AdvancedTextsAreAccepted }
 {}
