@@ -144,7 +144,9 @@ contract guarded = if obs(Default_B, 0) within T
 fn checks_what_is_cut_off(rt: HostRuntime) -> Result<(), Fail> {
     let alloc = rt.alloc();
     for length in 0..TREASURY.len() {
-        let text = &TREASURY[..length];
+        let front = TREASURY.get(..length);
+        assert!(rt; front.is_some());
+        let text = front.unwrap_or("");
         let whole = text.contains("amounts 2;") && text.trim_end().ends_with(';');
         let (status, _) = ran(
             alloc,
@@ -160,10 +162,11 @@ fn checks_what_is_cut_off(rt: HostRuntime) -> Result<(), Fail> {
 #[test]
 fn values_nothing_that_is_cut_off(rt: HostRuntime) -> Result<(), Fail> {
     let alloc = rt.alloc();
-    for length in 0..CODE.len() {
-        let files = desk(alloc, LOAN, CODE[..length].as_bytes(), NOTHING_FIXED, 4)?;
+    let code = CODE.as_bytes();
+    for length in 0..code.len() {
+        let files = desk(alloc, LOAN, &code[..length], NOTHING_FIXED, 4)?;
         let (status, _) = ran(alloc, PRESENT, files)?;
-        let whole = length + 1 == CODE.len();
+        let whole = length + 1 == code.len();
         assert!(rt; status == if whole { Status::Done } else { Status::BadText });
     }
     Ok(())
