@@ -32,8 +32,8 @@ pub struct Case {
     pub contract: Contr,
 }
 
-// The one contract of a text, and its declarations.
-fn only_of(rt: &impl Abort, alloc: Global, header: &str, text: &str) -> Result<Case, Fail> {
+/// The one contract of a text, and its declarations.
+pub fn only_of(rt: &impl Abort, alloc: Global, header: &str, text: &str) -> Result<Case, Fail> {
     let text = format!(in alloc; "{header} contract c = {text};")?;
     let portfolio = portfolio_of(rt, alloc, &text)?;
     assert!(rt; portfolio.contracts.len() == 1);

@@ -5,6 +5,16 @@
 #[cfg(test)]
 mod cases;
 #[cfg(test)]
+mod code_faults;
+#[cfg(test)]
+mod code_verdicts;
+#[cfg(test)]
+mod coding;
+#[cfg(test)]
+mod compiling;
+#[cfg(test)]
+mod curves;
+#[cfg(test)]
 mod decimals;
 #[cfg(test)]
 mod edges;

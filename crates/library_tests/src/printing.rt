@@ -15,7 +15,7 @@ struct Row {
 
 /// What printing a text showed.
 #[derive(Clone, Copy, Debug, PartialEq, Eq)]
-enum Outcome {
+pub enum Outcome {
     Same,
     Another,
     LeftBehind,
@@ -116,8 +116,8 @@ fn rows() -> [Row; 4] {
     ]
 }
 
-// What stands after a call that appends to nothing, which leaves nothing where memory runs out.
-fn outcome_of(printed: Result<(), NoMemory>, out: &[u8], expected: &[u8]) -> Outcome {
+/// What stands after a call that appends to nothing, which leaves nothing where memory runs out.
+pub fn outcome_of(printed: Result<(), NoMemory>, out: &[u8], expected: &[u8]) -> Outcome {
     match printed {
         Ok(()) if out == expected => Outcome::Same,
         Ok(()) => Outcome::Another,
