@@ -88,10 +88,7 @@ fn settings_of(alloc: Global, words: &[&str]) -> Result<IndexMap<Name, u32>, Wor
 }
 
 // The same, of words that may be given.
-fn settings_given(
-    alloc: Global,
-    words: Option<&[&str]>,
-) -> Result<IndexMap<Name, u32>, WordsErr>
+fn settings_given(alloc: Global, words: Option<&[&str]>) -> Result<IndexMap<Name, u32>, WordsErr>
     ensures answer { IsAnswer (λ settings. settings.entries) (settings_of (option_map (λ words. map (λ word. word.now) words.now) words.entry)) result }
     ensures few { IfOk result (λ settings. All (λ setting. setting.1 ≤ 100_000) settings.entries) }
 {
