@@ -167,8 +167,10 @@ fn prepare<'a, F: Files>(
 /// their order, that says whether it is accepted; `flows PORT [FIX] [--until DAY] [--contract NAME] [--net]` writes the
 /// flow lines of all contracts, or of the named one, or of their sum, over the fixings, up to the day; `advance PORT FIX --to
 /// DAY` writes the flow lines of the days before the day as comments, and the portfolio that is left on it; `payoff PORT
-/// --contract NAME [--plain]` writes the code of the named contract, with its payments cut or plain; `sample NUMBER` reads no
-/// file and writes the summary of the sample of so many contracts. What stops a command writes the line of its fault.
+/// --contract NAME [--plain]` writes the code of the named contract, with its payments cut or plain; `value CODE FIX CURVE
+/// [T=N].. --at DAY --from P --to Q --asset A` writes the line of what the code is worth on the day between the two parties in
+/// the asset; `sample NUMBER` reads no file and writes the summary of the sample of so many contracts. What stops a command
+/// writes the line of its fault.
 pub fn run<'a, F: Files, S: Sink>(
     alloc: Global,
     words: &'a [&'a str],

@@ -20,24 +20,24 @@ pub fn faults_have_causes()
     ensures writes { WriteFaultsHaveCauses }
 {}
 
-/// A file is too long exactly where the told contents of a named file exceed the limit, and the line has the place of the
-/// first.
+/// Of a command over a portfolio, a file is too long exactly where the told contents of a named file exceed the limit, and the
+/// line has the place of the first.
 pub fn too_long_is_exact()
     ensures { TooLongIsExact }
 {}
 
-/// A text is bad exactly where its told contents are no portfolio.
+/// Of a command over a portfolio, a text is bad exactly where its told contents are no portfolio.
 pub fn bad_text_is_exact()
     ensures { BadTextIsExact }
 {}
 
-/// A name is unknown, a day is out of range, a portfolio is refused, a row is bad and a read is missing each exactly where
-/// its cause stands and nothing before it, in this order, stops the command.
+/// Of a command over a portfolio, a name is unknown, a day is out of range, a portfolio is refused, a row is bad and a read is
+/// missing each exactly where its cause stands and nothing before it, in this order, stops the command.
 pub fn refusals_are_exact()
     ensures { RefusalsAreExact }
 {}
 
-/// The bytes of the files of a command other than `advance` have one answer, a status and a text. Those of `advance` have one
+/// The bytes of the files of `check`, `flows` and `payoff` have one answer, a status and a text. Those of `advance` have one
 /// status, one line of a fault and the same due lines; what is left of a contract may be written in more than one way. The
 /// sample of a number of contracts has one summary.
 pub fn answers_are_one()
