@@ -23,6 +23,7 @@ pub mod Scales
 pub mod Smallness
 pub mod Bounds
 pub mod Acceptance
+pub mod Scopes
 pub mod Trying
 pub mod Verdicts
 pub mod Causality

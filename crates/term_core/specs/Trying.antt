@@ -1,6 +1,6 @@
 -- What the trial of a part answers: what it found, or the place of the node at fault, counted from the part's own
 -- first node.
-use Rattle.std.specs.Prelude.{ℕ, ◌+◌, Option, Some, None, Result, Ok, Err}
+use Rattle.std.specs.Prelude.{ℕ, ◌+◌, ◌<◌, Option, Some, None, Result, Ok, Err, IfErr}
 
 -- goes on with what was found
 abbrev pub then_do : {A B : Type 0} → Result A ℕ → (A → Result B ℕ) → Result B ℕ
@@ -16,3 +16,7 @@ moved n (Err k) = Err (n + k)
 abbrev pub or_here : {A : Type 0} → Option A → Result A ℕ
 or_here None = Err 0
 or_here (Some a) = Ok a
+
+-- a fault is one of the first n nodes
+abbrev pub IsWithin : {A : Type 0} → ℕ → Result A ℕ → Type 0
+IsWithin n answer = IfErr answer (λ node. node < n)

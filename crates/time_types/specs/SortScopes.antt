@@ -1,15 +1,9 @@
--- The sorts of the names in a scope, innermost first, and the sort of a kind.
-use Rattle.std.specs.Prelude.{List, [], ◌∷◌, Option, Some, None}
+-- The sort of a kind.
+use Rattle.std.specs.Prelude.{Option, Some, None}
 use Rattle.term_core.specs.declared.values.Kind.{Kind}
 use Rattle.term_core.specs.declared.values.Kind.TheVariants.{Truth as TruthKind, Number as NumberKind}
 use Rattle.time_types.specs.declared.sort_scopes.Sort.{Sort}
 use Rattle.time_types.specs.declared.sort_scopes.Sort.TheVariants.{Truth, Number}
-use Rattle.time_types.specs.declared.sort_scopes.SortScope.{SortScope}
-use Rattle.time_types.specs.declared.sort_scopes.SortScope.TheVariants.{Empty, Bound'}
-
-abbrev pub sorts_in : SortScope → List Sort
-sorts_in Empty = []
-sorts_in (Bound' s p outer) = s ∷ sorts_in outer
 
 abbrev pub sort_of_kind : Kind → Sort
 sort_of_kind TruthKind = Truth

@@ -7,14 +7,17 @@ ghost use Rattle.term_core.specs.Declarations.{declarations};
 ghost use Rattle.term_core.specs.declared.rules.Rule.{Rule};
 ghost use Rattle.term_core.specs.Terms.{expression, contract};
 ghost use Rattle.term_core.specs.Sizes.{nodes, nodes_of_contract, height_of_contract};
-ghost use Rattle.term_core.specs.Trying.{moved, or_here};
-ghost use Rattle.time_types.specs.SortScopes.{sorts_in};
+ghost use Rattle.term_core.specs.Scopes.{held_in};
+ghost use Rattle.term_core.specs.Trying.{or_here};
 ghost use Rattle.time_types.specs.SortTrials.{expected, required, one_tried, two_tried, sort_tried, sorts_tried};
 ghost use Rattle.term_core.specs.Verdicts.{IsVerdict};
 
-use crate::sort_scopes::{Sort, SortScope, sort_at, sort_observed};
+use crate::sort_scopes::{Sort, sort_observed};
 use std::alloc::Global;
-use term_core::{CheckErr, Contr, Decls, Expr, Rule, nodes_in, nodes_in_contract};
+use term_core::{
+    CheckErr, Contr, Decls, Expr, Rule, Scope, behind, behind_both, behind_contract, behind_node,
+    behind_two, held_at,
+};
 
 // The answer where a sort is as wanted, else a fault here.
 fn expect(wanted: Sort, found: Sort, answer: Sort) -> Result<Sort, u32>
@@ -43,15 +46,15 @@ fn found(sort: Option<Sort>) -> Result<Sort, u32>
 /// The sort of an expression among names of these sorts, or the place of its first node that has none, counted from the
 /// expression's own first node.
 #[cycle(sorting)]
-pub fn sort_of_expr(decls: &Decls, e: &Expr, scope: &SortScope) -> Result<Sort, u32>
+pub fn sort_of_expr(decls: &Decls, e: &Expr, scope: &Scope<Sort>) -> Result<Sort, u32>
     requires { nodes (expression e.now) < 2 ^ 32 }
-    ensures sort { result ≡ sort_tried (declarations decls.now) (expression e.now) (sorts_in scope.now) }
+    ensures sort { result ≡ sort_tried (declarations decls.now) (expression e.now) (held_in scope.now) }
     ensures below { IfErr result (λ place. place < nodes (expression e.now)) }
 {
     match e {
         Expr::Lit { .. } => Ok(Sort::Number),
         Expr::Yes { .. } => Ok(Sort::Truth),
-        Expr::Var { back } => found(sort_at(scope, *back)),
+        Expr::Var { back } => found(held_at(scope, *back)),
         Expr::Obs { label, .. } => found(sort_observed(decls, *label)),
         Expr::Neg { of } => sort_of_one(decls, of, Sort::Number, Sort::Number, scope),
         Expr::Not { of } => sort_of_one(decls, of, Sort::Truth, Sort::Truth, scope),
@@ -70,19 +73,19 @@ pub fn sort_of_expr(decls: &Decls, e: &Expr, scope: &SortScope) -> Result<Sort, 
             sort_of_two(decls, top, below, Sort::Number, Sort::Number, scope)
         }
         Expr::Cond { test, yes, no } => {
-            let test_sort = sort_of_first(decls, test, scope)?;
-            let yes_sort = sort_of_second(decls, test, yes, scope)?;
-            let no_sort = sort_of_third(decls, test, yes, no, scope)?;
+            let test_sort = behind_node(sort_of_expr(decls, test, scope))?;
+            let yes_sort = behind(test, sort_of_expr(decls, yes, scope))?;
+            let no_sort = behind_two(test, yes, sort_of_expr(decls, no, scope))?;
             expect(Sort::Truth, test_sort, Sort::Truth)?;
             expect(yes_sort, no_sort, yes_sort)
         }
         Expr::Acc { body, first, .. } => {
-            let sort = sort_of_second(decls, body, first, scope)?;
-            let inner = SortScope::Bound {
-                sort,
+            let sort = behind(body, sort_of_expr(decls, first, scope))?;
+            let inner = Scope::Bound {
+                held: sort,
                 outer: &*scope,
             };
-            let body_sort = sort_of_first(decls, body, &inner)?;
+            let body_sort = behind_node(sort_of_expr(decls, body, &inner))?;
             expect(sort, body_sort, sort)
         }
     }
@@ -95,13 +98,13 @@ fn sort_of_one(
     of: &Expr,
     wanted: Sort,
     answer: Sort,
-    scope: &SortScope,
+    scope: &Scope<Sort>,
 ) -> Result<Sort, u32>
     requires { nodes (expression of.now) + 1 < 2 ^ 32 }
-    ensures sort { result ≡ one_tried wanted answer (sort_tried (declarations decls.now) (expression of.now) (sorts_in scope.now)) }
+    ensures sort { result ≡ one_tried wanted answer (sort_tried (declarations decls.now) (expression of.now) (held_in scope.now)) }
     ensures below { IfErr result (λ place. place < nodes (expression of.now) + 1) }
 {
-    let sort = sort_of_first(decls, of, scope)?;
+    let sort = behind_node(sort_of_expr(decls, of, scope))?;
     expect(wanted, sort, answer)
 }
 
@@ -113,61 +116,16 @@ fn sort_of_two(
     right: &Expr,
     wanted: Sort,
     answer: Sort,
-    scope: &SortScope,
+    scope: &Scope<Sort>,
 ) -> Result<Sort, u32>
     requires { nodes (expression left.now) + nodes (expression right.now) + 1 < 2 ^ 32 }
-    ensures sort { result ≡ two_tried wanted answer (nodes (expression left.now)) (sort_tried (declarations decls.now) (expression left.now) (sorts_in scope.now)) (sort_tried (declarations decls.now) (expression right.now) (sorts_in scope.now)) }
+    ensures sort { result ≡ two_tried wanted answer (nodes (expression left.now)) (sort_tried (declarations decls.now) (expression left.now) (held_in scope.now)) (sort_tried (declarations decls.now) (expression right.now) (held_in scope.now)) }
     ensures below { IfErr result (λ place. place < nodes (expression left.now) + nodes (expression right.now) + 1) }
 {
-    let left_sort = sort_of_first(decls, left, scope)?;
-    let right_sort = sort_of_second(decls, left, right, scope)?;
+    let left_sort = behind_node(sort_of_expr(decls, left, scope))?;
+    let right_sort = behind(left, sort_of_expr(decls, right, scope))?;
     expect(wanted, left_sort, answer)?;
     expect(wanted, right_sort, answer)
-}
-
-// Of the part that follows its node.
-#[cycle(sorting)]
-fn sort_of_first(decls: &Decls, e: &Expr, scope: &SortScope) -> Result<Sort, u32>
-    requires { nodes (expression e.now) + 1 < 2 ^ 32 }
-    ensures sort { result ≡ moved 1 (sort_tried (declarations decls.now) (expression e.now) (sorts_in scope.now)) }
-    ensures below { IfErr result (λ place. place < nodes (expression e.now) + 1) }
-{
-    match sort_of_expr(decls, e, scope) {
-        Ok(sort) => Ok(sort),
-        Err(place) => Err(1 + place),
-    }
-}
-
-// Of the part that follows the first.
-#[cycle(sorting)]
-fn sort_of_second(decls: &Decls, before: &Expr, e: &Expr, scope: &SortScope) -> Result<Sort, u32>
-    requires { nodes (expression before.now) + nodes (expression e.now) + 1 < 2 ^ 32 }
-    ensures sort { result ≡ moved (1 + nodes (expression before.now)) (sort_tried (declarations decls.now) (expression e.now) (sorts_in scope.now)) }
-    ensures below { IfErr result (λ place. place < nodes (expression before.now) + nodes (expression e.now) + 1) }
-{
-    match sort_of_expr(decls, e, scope) {
-        Ok(sort) => Ok(sort),
-        Err(place) => Err(1 + nodes_in(before) + place),
-    }
-}
-
-// Of the part that follows the second.
-#[cycle(sorting)]
-fn sort_of_third(
-    decls: &Decls,
-    first: &Expr,
-    second: &Expr,
-    e: &Expr,
-    scope: &SortScope,
-) -> Result<Sort, u32>
-    requires { nodes (expression first.now) + nodes (expression second.now) + nodes (expression e.now) + 1 < 2 ^ 32 }
-    ensures sort { result ≡ moved (nodes (expression first.now)) (moved (1 + nodes (expression second.now)) (sort_tried (declarations decls.now) (expression e.now) (sorts_in scope.now))) }
-    ensures below { IfErr result (λ place. place < nodes (expression first.now) + nodes (expression second.now) + nodes (expression e.now) + 1) }
-{
-    match sort_of_second(decls, second, e, scope) {
-        Ok(sort) => Ok(sort),
-        Err(place) => Err(nodes_in(first) + place),
-    }
 }
 
 // A sort that has to be one, else a fault here.
@@ -180,32 +138,31 @@ fn require(wanted: Sort, sort: Sort) -> Result<(), u32>
 }
 
 // The place of a contract's first node at fault, among names of these sorts.
-#[cycle(sorted)]
-fn try_sorts(decls: &Decls, c: &Contr, scope: &SortScope) -> Result<(), u32>
+fn try_sorts(decls: &Decls, c: &Contr, scope: &Scope<Sort>) -> Result<(), u32>
     requires { nodes_of_contract (contract c.now) < 2 ^ 32 }
-    ensures sorts { result ≡ sorts_tried (declarations decls.now) (contract c.now) (sorts_in scope.now) }
+    ensures sorts { result ≡ sorts_tried (declarations decls.now) (contract c.now) (held_in scope.now) }
     ensures below { IfErr result (λ place. place < nodes_of_contract (contract c.now)) }
 {
     match c {
         Contr::Zero => Ok(()),
         Contr::Pay { .. } => Ok(()),
         Contr::Both { left, right } => {
-            try_first(decls, left, scope)?;
-            try_after_contract(decls, left, right, scope)
+            behind_node(try_sorts(decls, left, scope))?;
+            behind_contract(left, try_sorts(decls, right, scope))
         }
         Contr::Scale { factor, body } => {
-            let sort = sort_of_first(decls, factor, scope)?;
-            try_after(decls, factor, body, scope)?;
+            let sort = behind_node(sort_of_expr(decls, factor, scope))?;
+            behind(factor, try_sorts(decls, body, scope))?;
             require(Sort::Number, sort)
         }
-        Contr::After { body, .. } => try_first(decls, body, scope),
+        Contr::After { body, .. } => behind_node(try_sorts(decls, body, scope)),
         Contr::Let { bound, body } => {
-            let sort = sort_of_first(decls, bound, scope)?;
-            let inner = SortScope::Bound {
-                sort,
+            let sort = behind_node(sort_of_expr(decls, bound, scope))?;
+            let inner = Scope::Bound {
+                held: sort,
                 outer: &*scope,
             };
-            try_after(decls, bound, body, &inner)
+            behind(bound, try_sorts(decls, body, &inner))
         }
         Contr::Within {
             test,
@@ -213,74 +170,11 @@ fn try_sorts(decls: &Decls, c: &Contr, scope: &SortScope) -> Result<(), u32>
             miss,
             ..
         } => {
-            let sort = sort_of_first(decls, test, scope)?;
-            try_after(decls, test, hit, scope)?;
-            try_after_both(decls, test, hit, miss, scope)?;
+            let sort = behind_node(sort_of_expr(decls, test, scope))?;
+            behind(test, try_sorts(decls, hit, scope))?;
+            behind_both(test, hit, try_sorts(decls, miss, scope))?;
             require(Sort::Truth, sort)
         }
-    }
-}
-
-// Of the part that follows its node.
-#[cycle(sorted)]
-fn try_first(decls: &Decls, c: &Contr, scope: &SortScope) -> Result<(), u32>
-    requires { nodes_of_contract (contract c.now) + 1 < 2 ^ 32 }
-    ensures sorts { result ≡ moved 1 (sorts_tried (declarations decls.now) (contract c.now) (sorts_in scope.now)) }
-    ensures below { IfErr result (λ place. place < nodes_of_contract (contract c.now) + 1) }
-{
-    match try_sorts(decls, c, scope) {
-        Ok(()) => Ok(()),
-        Err(place) => Err(1 + place),
-    }
-}
-
-// Of the part that follows an expression.
-#[cycle(sorted)]
-fn try_after(decls: &Decls, before: &Expr, c: &Contr, scope: &SortScope) -> Result<(), u32>
-    requires { nodes (expression before.now) + nodes_of_contract (contract c.now) + 1 < 2 ^ 32 }
-    ensures sorts { result ≡ moved (1 + nodes (expression before.now)) (sorts_tried (declarations decls.now) (contract c.now) (sorts_in scope.now)) }
-    ensures below { IfErr result (λ place. place < nodes (expression before.now) + nodes_of_contract (contract c.now) + 1) }
-{
-    match try_sorts(decls, c, scope) {
-        Ok(()) => Ok(()),
-        Err(place) => Err(1 + nodes_in(before) + place),
-    }
-}
-
-// Of the part that follows a contract.
-#[cycle(sorted)]
-fn try_after_contract(
-    decls: &Decls,
-    before: &Contr,
-    c: &Contr,
-    scope: &SortScope,
-) -> Result<(), u32>
-    requires { nodes_of_contract (contract before.now) + nodes_of_contract (contract c.now) + 1 < 2 ^ 32 }
-    ensures sorts { result ≡ moved (1 + nodes_of_contract (contract before.now)) (sorts_tried (declarations decls.now) (contract c.now) (sorts_in scope.now)) }
-    ensures below { IfErr result (λ place. place < nodes_of_contract (contract before.now) + nodes_of_contract (contract c.now) + 1) }
-{
-    match try_sorts(decls, c, scope) {
-        Ok(()) => Ok(()),
-        Err(place) => Err(1 + nodes_in_contract(before) + place),
-    }
-}
-
-// Of the part that follows an expression and a contract.
-#[cycle(sorted)]
-fn try_after_both(
-    decls: &Decls,
-    test: &Expr,
-    hit: &Contr,
-    c: &Contr,
-    scope: &SortScope,
-) -> Result<(), u32>
-    requires { nodes (expression test.now) + nodes_of_contract (contract hit.now) + nodes_of_contract (contract c.now) + 1 < 2 ^ 32 }
-    ensures sorts { result ≡ moved (nodes (expression test.now)) (moved (1 + nodes_of_contract (contract hit.now)) (sorts_tried (declarations decls.now) (contract c.now) (sorts_in scope.now))) }
-    ensures below { IfErr result (λ place. place < nodes (expression test.now) + nodes_of_contract (contract hit.now) + nodes_of_contract (contract c.now) + 1) }
-{
-    match try_after_contract(decls, hit, c, scope) {
-        Ok(()) => Ok(()),
-        Err(place) => Err(nodes_in(test) + place),
     }
 }
 
@@ -291,7 +185,7 @@ pub fn sorts(alloc: Global, decls: &Decls, c: &Contr) -> Result<(), CheckErr>
     requires small { nodes_of_contract (contract c.now) < 2 ^ 32 }
     ensures { IsVerdict (declarations decls.now) Rule.Sort (contract c.now) (λ _. Unit {0}) result }
 {
-    match try_sorts(decls, c, &SortScope::Empty) {
+    match try_sorts(decls, c, &Scope::Empty) {
         Ok(()) => Ok(()),
         Err(node) => Err(CheckErr::Refused {
             rule: Rule::Sort,
