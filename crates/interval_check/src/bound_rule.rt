@@ -10,23 +10,24 @@ ghost use Rattle.term_core.specs.Terms.{expression, contract, Scale, Let};
 ghost use Rattle.term_core.specs.Sizes.{nodes, nodes_of_contract};
 ghost use Rattle.term_core.specs.Bounds.{range_kinds, aligned_total};
 ghost use Rattle.term_core.specs.Acceptance.{Meets};
-ghost use Rattle.term_core.specs.Trying.{moved};
 ghost use Rattle.term_core.specs.Verdicts.{IsVerdict};
 ghost use Rattle.interval_check.specs.RangeScopes.{ranges_in};
 ghost use Rattle.interval_check.specs.Totals.{total, total_found, IsTotal};
 ghost use Rattle.interval_check.specs.TotalTrials.{total_tried, AreTotalsScaled};
 
-use crate::range_rule::range_of_first;
-use crate::range_scopes::RangeScope;
+use crate::range_rule::range_of;
+use crate::ranges::Range;
 use crate::totals::{
     Total, amount_at, checked_total, total_of_both, total_of_either, total_of_scaled,
 };
 use std::alloc::Global;
-use term_core::{CheckErr, Contr, Decls, Expr, Rule, nodes_in, nodes_in_contract};
+use term_core::{
+    CheckErr, Contr, Decls, Expr, Rule, Scope, behind, behind_both, behind_contract, behind_node,
+};
 
 /// The total of a contract among names of these ranges.
 #[cycle(totalling)]
-pub fn total_of(decls: &Decls, c: &Contr, scope: &RangeScope) -> Result<Total, u32>
+pub fn total_of(decls: &Decls, c: &Contr, scope: &Scope<Range>) -> Result<Total, u32>
     requires nodes { nodes_of_contract (contract c.now) < 2 ^ 32 }
     requires scaled { AreTotalsScaled (declarations decls.now) (contract c.now) (range_kinds (ranges_in scope.now)) }
     ensures total { total_found result ≡ total_tried (declarations decls.now) (contract c.now) (ranges_in scope.now) }
@@ -37,12 +38,12 @@ pub fn total_of(decls: &Decls, c: &Contr, scope: &RangeScope) -> Result<Total, u
         Contr::Zero => checked_total(decls.amounts, 0, 0),
         Contr::Pay { .. } => checked_total(decls.amounts, 1, 0),
         Contr::Both { left, right } => {
-            let left_total = total_of_first(decls, left, scope)?;
-            let right_total = total_after_contract(decls, left, right, scope)?;
+            let left_total = behind_node(total_of(decls, left, scope))?;
+            let right_total = behind_contract(left, total_of(decls, right, scope))?;
             total_of_both(decls.amounts, left_total, right_total)
         }
         Contr::Scale { factor, body } => total_of_scale(decls, factor, body, scope),
-        Contr::After { body, .. } => total_of_first(decls, body, scope),
+        Contr::After { body, .. } => behind_node(total_of(decls, body, scope)),
         Contr::Let { bound, body } => total_of_let(decls, bound, body, scope),
         Contr::Within {
             test,
@@ -50,9 +51,9 @@ pub fn total_of(decls: &Decls, c: &Contr, scope: &RangeScope) -> Result<Total, u
             miss,
             ..
         } => {
-            range_of_first(decls, test, scope)?;
-            let hit_total = total_after(decls, test, hit, scope)?;
-            let miss_total = total_after_both(decls, test, hit, miss, scope)?;
+            behind_node(range_of(decls, test, scope))?;
+            let hit_total = behind(test, total_of(decls, hit, scope))?;
+            let miss_total = behind_both(test, hit, total_of(decls, miss, scope))?;
             total_of_either(decls.amounts, hit_total, miss_total)
         }
     }
@@ -64,7 +65,7 @@ fn total_of_scale(
     decls: &Decls,
     factor: &Expr,
     body: &Contr,
-    scope: &RangeScope,
+    scope: &Scope<Range>,
 ) -> Result<Total, u32>
     requires nodes { nodes (expression factor.now) + nodes_of_contract (contract body.now) + 1 < 2 ^ 32 }
     requires scaled { AreTotalsScaled (declarations decls.now) (Scale (expression factor.now) (contract body.now)) (range_kinds (ranges_in scope.now)) }
@@ -72,97 +73,31 @@ fn total_of_scale(
     ensures below { IfErr result (λ place. place < nodes (expression factor.now) + nodes_of_contract (contract body.now) + 1) }
     ensures fits { IfOk result (λ t. IsTotal decls.now.amounts t) }
 {
-    let range = range_of_first(decls, factor, scope)?;
-    let body_total = total_after(decls, factor, body, scope)?;
+    let range = behind_node(range_of(decls, factor, scope))?;
+    let body_total = behind(factor, total_of(decls, body, scope))?;
     total_of_scaled(decls.amounts, range, body_total)
 }
 
 // Of a body with a name for what is bound.
 #[cycle(totalling)]
-fn total_of_let(decls: &Decls, bound: &Expr, body: &Contr, scope: &RangeScope) -> Result<Total, u32>
+fn total_of_let(
+    decls: &Decls,
+    bound: &Expr,
+    body: &Contr,
+    scope: &Scope<Range>,
+) -> Result<Total, u32>
     requires nodes { nodes (expression bound.now) + nodes_of_contract (contract body.now) + 1 < 2 ^ 32 }
     requires scaled { AreTotalsScaled (declarations decls.now) (Let (expression bound.now) (contract body.now)) (range_kinds (ranges_in scope.now)) }
     ensures total { total_found result ≡ total_tried (declarations decls.now) (Let (expression bound.now) (contract body.now)) (ranges_in scope.now) }
     ensures below { IfErr result (λ place. place < nodes (expression bound.now) + nodes_of_contract (contract body.now) + 1) }
     ensures fits { IfOk result (λ t. IsTotal decls.now.amounts t) }
 {
-    let range = range_of_first(decls, bound, scope)?;
-    let inner = RangeScope::Bound {
-        range,
+    let range = behind_node(range_of(decls, bound, scope))?;
+    let inner = Scope::Bound {
+        held: range,
         outer: &*scope,
     };
-    total_after(decls, bound, body, &inner)
-}
-
-// Of the part that follows its node.
-#[cycle(totalling)]
-fn total_of_first(decls: &Decls, c: &Contr, scope: &RangeScope) -> Result<Total, u32>
-    requires nodes { nodes_of_contract (contract c.now) + 1 < 2 ^ 32 }
-    requires scaled { AreTotalsScaled (declarations decls.now) (contract c.now) (range_kinds (ranges_in scope.now)) }
-    ensures total { total_found result ≡ moved 1 (total_tried (declarations decls.now) (contract c.now) (ranges_in scope.now)) }
-    ensures below { IfErr result (λ place. place < nodes_of_contract (contract c.now) + 1) }
-    ensures fits { IfOk result (λ t. IsTotal decls.now.amounts t) }
-{
-    match total_of(decls, c, scope) {
-        Ok(total) => Ok(total),
-        Err(place) => Err(1 + place),
-    }
-}
-
-// Of the part that follows an expression.
-#[cycle(totalling)]
-fn total_after(decls: &Decls, before: &Expr, c: &Contr, scope: &RangeScope) -> Result<Total, u32>
-    requires nodes { nodes (expression before.now) + nodes_of_contract (contract c.now) + 1 < 2 ^ 32 }
-    requires scaled { AreTotalsScaled (declarations decls.now) (contract c.now) (range_kinds (ranges_in scope.now)) }
-    ensures total { total_found result ≡ moved (1 + nodes (expression before.now)) (total_tried (declarations decls.now) (contract c.now) (ranges_in scope.now)) }
-    ensures below { IfErr result (λ place. place < nodes (expression before.now) + nodes_of_contract (contract c.now) + 1) }
-    ensures fits { IfOk result (λ t. IsTotal decls.now.amounts t) }
-{
-    match total_of(decls, c, scope) {
-        Ok(total) => Ok(total),
-        Err(place) => Err(1 + nodes_in(before) + place),
-    }
-}
-
-// Of the part that follows a contract.
-#[cycle(totalling)]
-fn total_after_contract(
-    decls: &Decls,
-    before: &Contr,
-    c: &Contr,
-    scope: &RangeScope,
-) -> Result<Total, u32>
-    requires nodes { nodes_of_contract (contract before.now) + nodes_of_contract (contract c.now) + 1 < 2 ^ 32 }
-    requires scaled { AreTotalsScaled (declarations decls.now) (contract c.now) (range_kinds (ranges_in scope.now)) }
-    ensures total { total_found result ≡ moved (1 + nodes_of_contract (contract before.now)) (total_tried (declarations decls.now) (contract c.now) (ranges_in scope.now)) }
-    ensures below { IfErr result (λ place. place < nodes_of_contract (contract before.now) + nodes_of_contract (contract c.now) + 1) }
-    ensures fits { IfOk result (λ t. IsTotal decls.now.amounts t) }
-{
-    match total_of(decls, c, scope) {
-        Ok(total) => Ok(total),
-        Err(place) => Err(1 + nodes_in_contract(before) + place),
-    }
-}
-
-// Of the part that follows an expression and a contract.
-#[cycle(totalling)]
-fn total_after_both(
-    decls: &Decls,
-    test: &Expr,
-    hit: &Contr,
-    c: &Contr,
-    scope: &RangeScope,
-) -> Result<Total, u32>
-    requires nodes { nodes (expression test.now) + nodes_of_contract (contract hit.now) + nodes_of_contract (contract c.now) + 1 < 2 ^ 32 }
-    requires scaled { AreTotalsScaled (declarations decls.now) (contract c.now) (range_kinds (ranges_in scope.now)) }
-    ensures total { total_found result ≡ moved (nodes (expression test.now)) (moved (1 + nodes_of_contract (contract hit.now)) (total_tried (declarations decls.now) (contract c.now) (ranges_in scope.now))) }
-    ensures below { IfErr result (λ place. place < nodes (expression test.now) + nodes_of_contract (contract hit.now) + nodes_of_contract (contract c.now) + 1) }
-    ensures fits { IfOk result (λ t. IsTotal decls.now.amounts t) }
-{
-    match total_after_contract(decls, hit, c, scope) {
-        Ok(total) => Ok(total),
-        Err(place) => Err(nodes_in(test) + place),
-    }
+    behind(bound, total_of(decls, body, &inner))
 }
 
 /// The total of a contract at the portfolio's decimals: the most that it can pay over all days, for a pair of parties
@@ -176,7 +111,7 @@ pub fn bounds(alloc: Global, decls: &Decls, c: &Contr) -> Result<i128, CheckErr>
     requires small { Meets (declarations decls.now) Rule.Size (contract c.now) }
     ensures { IsVerdict (declarations decls.now) Rule.Bound (contract c.now) (λ total. total ≡ pos (aligned_total (declarations decls.now) (contract c.now) [])) result }
 {
-    match total_of(decls, c, &RangeScope::Empty) {
+    match total_of(decls, c, &Scope::Empty) {
         Ok(total) => Ok(amount_at(decls.amounts, total) as i128),
         Err(node) => Err(CheckErr::Refused {
             rule: Rule::Bound,

@@ -20,12 +20,12 @@ use crate::range_scopes::{RangeScope, range_at, range_observed};
 use crate::ranges::{
     Operands, Range, TRUTH, checked, combined, compared, either, is_same, negated, rounded, widened,
 };
-use term_core::{Decls, Expr, Kind, nodes_in};
+use term_core::{Decls, Expr, Kind, Scope, behind, behind_node, nodes_in};
 
 /// The range of an expression whose sorts and scales are right, among names of these ranges, or the place of its first node
 /// that breaks the rule on bounds, counted from the expression's own first node.
 #[cycle(ranging)]
-pub fn range_of(decls: &Decls, e: &Expr, scope: &RangeScope) -> Result<Range, u32>
+pub fn range_of(decls: &Decls, e: &Expr, scope: &Scope<Range>) -> Result<Range, u32>
     requires nodes { nodes (expression e.now) < 2 ^ 32 }
     requires scaled { AreScaled (declarations decls.now) (expression e.now) (range_kinds (ranges_in scope.now)) }
     ensures range { range_found result ≡ range_tried (declarations decls.now) (expression e.now) (ranges_in scope.now) }
@@ -40,17 +40,17 @@ pub fn range_of(decls: &Decls, e: &Expr, scope: &RangeScope) -> Result<Range, u3
             checked(range.interval, range.kind)
         }
         Expr::Obs { label, .. } => range_observed(decls, *label),
-        Expr::Neg { of } => negated(range_of_first(decls, of, scope)?),
+        Expr::Neg { of } => negated(behind_node(range_of(decls, of, scope))?),
         Expr::Not { of } => {
-            range_of_first(decls, of, scope)?;
+            behind_node(range_of(decls, of, scope))?;
             Ok(TRUTH)
         }
         Expr::Widen { scale, of } => {
-            let range = range_of_first(decls, of, scope)?;
+            let range = behind_node(range_of(decls, of, scope))?;
             widened(Kind::Number { scale: *scale }, range)
         }
         Expr::Round { mode, scale, of } => {
-            rounded(*mode, *scale, range_of_first(decls, of, scope)?)
+            rounded(*mode, *scale, behind_node(range_of(decls, of, scope))?)
         }
         Expr::Num { op, left, right } => {
             let both = ranges_of(decls, left, right, scope)?;
@@ -74,7 +74,7 @@ pub fn range_of(decls: &Decls, e: &Expr, scope: &RangeScope) -> Result<Range, u3
             divided(*mode, *scale, both.left, both.right)
         }
         Expr::Cond { test, yes, no } => {
-            range_of_first(decls, test, scope)?;
+            behind_node(range_of(decls, test, scope))?;
             let both = ranges_after(decls, test, yes, no, scope)?;
             either(both.left, both.right)
         }
@@ -89,39 +89,14 @@ fn point(m: i128) -> Interval
     Interval { low: m, high: m }
 }
 
-/// The range of the part that follows its node, among names of these ranges.
-#[cycle(ranging)]
-pub fn range_of_first(decls: &Decls, e: &Expr, scope: &RangeScope) -> Result<Range, u32>
-    requires nodes { nodes (expression e.now) + 1 < 2 ^ 32 }
-    requires scaled { AreScaled (declarations decls.now) (expression e.now) (range_kinds (ranges_in scope.now)) }
-    ensures range { range_found result ≡ moved 1 (range_tried (declarations decls.now) (expression e.now) (ranges_in scope.now)) }
-    ensures below { IfErr result (λ place. place < nodes (expression e.now) + 1) }
-    ensures fit { IfOk result (λ r. IsFit (range r)) }
-{
-    match range_of(decls, e, scope) {
-        Ok(range) => Ok(range),
-        Err(place) => Err(1 + place),
-    }
-}
-
-// Of the part that follows the first.
-#[cycle(ranging)]
-fn range_of_second(decls: &Decls, before: &Expr, e: &Expr, scope: &RangeScope) -> Result<Range, u32>
-    requires nodes { nodes (expression before.now) + nodes (expression e.now) + 1 < 2 ^ 32 }
-    requires scaled { AreScaled (declarations decls.now) (expression e.now) (range_kinds (ranges_in scope.now)) }
-    ensures range { range_found result ≡ moved (1 + nodes (expression before.now)) (range_tried (declarations decls.now) (expression e.now) (ranges_in scope.now)) }
-    ensures below { IfErr result (λ place. place < nodes (expression before.now) + nodes (expression e.now) + 1) }
-    ensures fit { IfOk result (λ r. IsFit (range r)) }
-{
-    match range_of(decls, e, scope) {
-        Ok(range) => Ok(range),
-        Err(place) => Err(1 + nodes_in(before) + place),
-    }
-}
-
 // Of the two operands of a node.
 #[cycle(ranging)]
-fn ranges_of(decls: &Decls, left: &Expr, right: &Expr, scope: &RangeScope) -> Result<Operands, u32>
+fn ranges_of(
+    decls: &Decls,
+    left: &Expr,
+    right: &Expr,
+    scope: &Scope<Range>,
+) -> Result<Operands, u32>
     requires nodes { nodes (expression left.now) + nodes (expression right.now) + 1 < 2 ^ 32 }
     requires left { AreScaled (declarations decls.now) (expression left.now) (range_kinds (ranges_in scope.now)) }
     requires right { AreScaled (declarations decls.now) (expression right.now) (range_kinds (ranges_in scope.now)) }
@@ -130,8 +105,8 @@ fn ranges_of(decls: &Decls, left: &Expr, right: &Expr, scope: &RangeScope) -> Re
     ensures left { IfOk result (λ p. IsFit (range p.left)) }
     ensures right { IfOk result (λ p. IsFit (range p.right)) }
 {
-    let left_range = range_of_first(decls, left, scope)?;
-    let right_range = range_of_second(decls, left, right, scope)?;
+    let left_range = behind_node(range_of(decls, left, scope))?;
+    let right_range = behind(left, range_of(decls, right, scope))?;
     Ok(Operands {
         left: left_range,
         right: right_range,
@@ -145,7 +120,7 @@ fn ranges_after(
     before: &Expr,
     left: &Expr,
     right: &Expr,
-    scope: &RangeScope,
+    scope: &Scope<Range>,
 ) -> Result<Operands, u32>
     requires nodes { nodes (expression before.now) + nodes (expression left.now) + nodes (expression right.now) + 1 < 2 ^ 32 }
     requires left { AreScaled (declarations decls.now) (expression left.now) (range_kinds (ranges_in scope.now)) }
@@ -168,7 +143,7 @@ fn range_of_acc(
     body: &Expr,
     days: u32,
     first: &Expr,
-    scope: &RangeScope,
+    scope: &Scope<Range>,
 ) -> Result<Range, u32>
     requires nodes { nodes (expression body.now) + nodes (expression first.now) + 1 < 2 ^ 32 }
     requires scaled { AreScaled (declarations decls.now) (Acc (expression body.now) days (expression first.now)) (range_kinds (ranges_in scope.now)) }
@@ -176,7 +151,7 @@ fn range_of_acc(
     ensures below { IfErr result (λ place. place < nodes (expression body.now) + nodes (expression first.now) + 1) }
     ensures fit { IfOk result (λ r. IsFit (range r)) }
 {
-    let start = range_of_second(decls, body, first, scope)?;
+    let start = behind(body, range_of(decls, first, scope))?;
     accumulated(decls, body, days, start, scope)
 }
 
@@ -188,7 +163,7 @@ fn accumulated(
     body: &Expr,
     days: u32,
     start: Range,
-    scope: &RangeScope,
+    scope: &Scope<Range>,
 ) -> Result<Range, u32>
     requires nodes { nodes (expression body.now) + 1 < 2 ^ 32 }
     requires scaled { AreScaled (declarations decls.now) (expression body.now) (start.kind ∷ range_kinds (ranges_in scope.now)) }
@@ -210,7 +185,12 @@ fn accumulated(
 
 // Of an accumulator after one more day.
 #[cycle(ranging)]
-fn range_of_day(decls: &Decls, body: &Expr, so_far: Range, scope: &RangeScope) -> Result<Range, u32>
+fn range_of_day(
+    decls: &Decls,
+    body: &Expr,
+    so_far: Range,
+    scope: &Scope<Range>,
+) -> Result<Range, u32>
     requires nodes { nodes (expression body.now) + 1 < 2 ^ 32 }
     requires scaled { AreScaled (declarations decls.now) (expression body.now) (so_far.kind ∷ range_kinds (ranges_in scope.now)) }
     requires so_far { IsFit (range so_far) }
@@ -219,10 +199,10 @@ fn range_of_day(decls: &Decls, body: &Expr, so_far: Range, scope: &RangeScope) -
     ensures fit { IfOk result (λ r. IsFit (range r)) }
     ensures kind { IfOk result (λ r. r.kind ≡ so_far.kind) }
 {
-    let inner = RangeScope::Bound {
-        range: so_far,
+    let inner = Scope::Bound {
+        held: so_far,
         outer: &*scope,
     };
-    let next = range_of_first(decls, body, &inner)?;
+    let next = behind_node(range_of(decls, body, &inner))?;
     widened(so_far.kind, next)
 }

@@ -11,29 +11,19 @@ ghost use Rattle.interval_check.specs.RangeTrials.{observed, range_or_truth};
 
 use crate::intervals::Interval;
 use crate::ranges::{Range, TRUTH, checked};
-use term_core::{Decls, Kind, Label};
-
-/// The ranges of the names that are bound around an expression, innermost first. It lies on the stack.
-#[derive(Clone, Copy)]
-pub enum RangeScope<'a> {
-    Empty,
-    Bound {
-        range: Range,
-        outer: &'a RangeScope<'a>,
-    },
-}
+use term_core::{Decls, Kind, Label, Scope};
 
 /// The range of the name that is bound `back` binders further out than the innermost. One without a binder, which no
 /// closed term has, is a truth value.
-pub fn range_at(scope: &RangeScope, back: u32) -> Range
+pub fn range_at(scope: &Scope<Range>, back: u32) -> Range
     ensures range { range result ≡ range_or_truth (slice_get (ranges_in scope.now) back) }
     ensures kind { result.kind ≡ kind_or (slice_get (range_kinds (ranges_in scope.now)) back) }
 {
     match scope {
-        RangeScope::Empty => TRUTH,
-        RangeScope::Bound { range, outer } => {
+        Scope::Empty => TRUTH,
+        Scope::Bound { held, outer } => {
             if back == 0 {
-                *range
+                *held
             } else {
                 range_at(outer, back - 1)
             }

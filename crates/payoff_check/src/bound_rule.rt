@@ -23,11 +23,10 @@ use crate::plains::plain_of;
 use crate::totals::{CodeTotal, checked, greater_of, product_of, sum_of};
 use decimal::NoMemory;
 use interval_check::range_rule::range_of;
-use interval_check::range_scopes::RangeScope;
 use interval_check::ranges::Range;
 use payoff_lang::{Code, Vx};
 use std::alloc::Global;
-use term_core::{CheckErr, Decls, Expr, Rule, Setting, nodes_in};
+use term_core::{CheckErr, Decls, Expr, Rule, Scope, Setting, nodes_in};
 
 /// The range of a value expression, and its nodes.
 #[derive(Clone, Copy)]
@@ -37,7 +36,7 @@ pub struct Ranged {
 }
 
 // Of a plain expression whose first node has a number.
-fn range_of_plain(decls: &Decls, e: &Expr, scope: &RangeScope, node: u32) -> Result<Ranged, Fault>
+fn range_of_plain(decls: &Decls, e: &Expr, scope: &Scope<Range>, node: u32) -> Result<Ranged, Fault>
     requires nodes { node + nodes (expression e.now) < 2 ^ 32 }
     requires scaled { AreScaled (declarations decls.now) (expression e.now) (range_kinds (ranges_in scope.now)) }
     ensures range { TellsAs ranged result (value_tried (declarations decls.now) (expression e.now) (ranges_in scope.now) node) }
@@ -59,7 +58,7 @@ fn range_of_value(
     alloc: Global,
     decls: &Decls,
     v: &Vx,
-    scope: &RangeScope,
+    scope: &Scope<Range>,
     node: u32,
 ) -> Result<Ranged, Fault>
     requires nodes { node + nodes (plain_value v.now) < 2 ^ 32 }
@@ -111,7 +110,7 @@ fn bounds_of(
     alloc: Global,
     decls: &Decls,
     k: &Code,
-    scope: &RangeScope,
+    scope: &Scope<Range>,
     node: u32,
 ) -> Result<CodeTotal, Fault>
     requires nodes { node + nodes_of_code (payoff_code k.now) < 2 ^ 32 }
@@ -136,8 +135,8 @@ fn bounds_of(
         }
         Code::Let { bound, body } => {
             let found = range_of_value(alloc, decls, bound, scope, node + 1)?;
-            let inner = RangeScope::Bound {
-                range: found.range,
+            let inner = Scope::Bound {
+                held: found.range,
                 outer: &*scope,
             };
             let part = bounds_of(alloc, decls, body, &inner, node + 1 + found.nodes)?;
@@ -170,7 +169,7 @@ pub fn bounds(alloc: Global, decls: &Decls, _setting: &Setting, k: &Code) -> Res
     requires scaled { MeetsInCode (declarations decls.now) _setting.now.days.items Rule.Scale (payoff_code k.now) }
     ensures { IsCodeVerdict (declarations decls.now) _setting.now.days.items Rule.Bound (payoff_code k.now) IsTotalOf result }
 {
-    match bounds_of(alloc, decls, k, &RangeScope::Empty, 0) {
+    match bounds_of(alloc, decls, k, &Scope::Empty, 0) {
         Ok(found) => Ok(found.amount as i128),
         Err(Fault::At { node }) => Err(CheckErr::Refused {
             rule: Rule::Bound,

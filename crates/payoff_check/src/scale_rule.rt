@@ -6,7 +6,7 @@ ghost use Rattle.term_core.specs.Declarations.{declarations};
 ghost use Rattle.term_core.specs.Terms.{expression};
 ghost use Rattle.term_core.specs.declared.rules.Rule.{Rule};
 ghost use Rattle.term_core.specs.Sizes.{nodes};
-ghost use Rattle.scale_check.specs.ScaleScopes.{scales_in};
+ghost use Rattle.term_core.specs.Scopes.{held_in};
 ghost use Rattle.payoff_lang.specs.Code.{payoff_code};
 ghost use Rattle.payoff_lang.specs.CodeSizes.{nodes_of_code};
 ghost use Rattle.payoff_lang.specs.CodeAcceptance.{MeetsInCode};
@@ -19,9 +19,8 @@ use crate::plains::plain_of;
 use decimal::NoMemory;
 use payoff_lang::{Code, Vx};
 use scale_check::scale_rule::scale_of_expr;
-use scale_check::scale_scopes::ScaleScope;
 use std::alloc::Global;
-use term_core::{CheckErr, Decls, Expr, Rule, Setting, nodes_in};
+use term_core::{CheckErr, Decls, Expr, Rule, Scope, Setting, nodes_in};
 
 /// The scale of a part, and its nodes.
 #[derive(Clone, Copy)]
@@ -31,9 +30,9 @@ pub struct Scaled {
 }
 
 // Of a plain expression whose first node has a number.
-fn scale_of_plain(decls: &Decls, e: &Expr, scope: &ScaleScope, node: u32) -> Result<Scaled, Fault>
+fn scale_of_plain(decls: &Decls, e: &Expr, scope: &Scope<u8>, node: u32) -> Result<Scaled, Fault>
     requires { node + nodes (expression e.now) < 2 ^ 32 }
-    ensures scale { Tells result (value_tried (declarations decls.now) (expression e.now) (scales_in scope.now) node) }
+    ensures scale { Tells result (value_tried (declarations decls.now) (expression e.now) (held_in scope.now) node) }
     ensures nodes { IfOk result (λ found. found.nodes ≡ nodes (expression e.now)) }
     ensures within { IfOk result (λ found. found.scale ≤ 27) }
 {
@@ -51,11 +50,11 @@ fn scale_of_value(
     alloc: Global,
     decls: &Decls,
     v: &Vx,
-    scope: &ScaleScope,
+    scope: &Scope<u8>,
     node: u32,
 ) -> Result<Scaled, Fault>
     requires { node + nodes (plain_value v.now) < 2 ^ 32 }
-    ensures scale { Tells result (value_tried (declarations decls.now) (plain_value v.now) (scales_in scope.now) node) }
+    ensures scale { Tells result (value_tried (declarations decls.now) (plain_value v.now) (held_in scope.now) node) }
     ensures nodes { IfOk result (λ found. found.nodes ≡ nodes (plain_value v.now)) }
     ensures within { IfOk result (λ found. found.scale ≤ 27) }
 {
@@ -83,11 +82,11 @@ fn scales_of(
     alloc: Global,
     decls: &Decls,
     k: &Code,
-    scope: &ScaleScope,
+    scope: &Scope<u8>,
     node: u32,
 ) -> Result<Scaled, Fault>
     requires { node + nodes_of_code (payoff_code k.now) < 2 ^ 32 }
-    ensures scale { Tells result (scales_tried (declarations decls.now) (payoff_code k.now) (scales_in scope.now) node) }
+    ensures scale { Tells result (scales_tried (declarations decls.now) (payoff_code k.now) (held_in scope.now) node) }
     ensures nodes { IfOk result (λ found. found.nodes ≡ nodes_of_code (payoff_code k.now)) }
     ensures within { IfOk result (λ found. found.scale ≤ decls.now.amounts + 9) }
 {
@@ -109,8 +108,8 @@ fn scales_of(
         }
         Code::Let { bound, body } => {
             let found = scale_of_value(alloc, decls, bound, scope, node + 1)?;
-            let inner = ScaleScope::Bound {
-                scale: found.scale,
+            let inner = Scope::Bound {
+                held: found.scale,
                 outer: &*scope,
             };
             let part = scales_of(alloc, decls, body, &inner, node + 1 + found.nodes)?;
@@ -143,7 +142,7 @@ pub fn scales(alloc: Global, decls: &Decls, _setting: &Setting, k: &Code) -> Res
     requires sorted { MeetsInCode (declarations decls.now) _setting.now.days.items Rule.Sort (payoff_code k.now) }
     ensures { IsCodeVerdict (declarations decls.now) _setting.now.days.items Rule.Scale (payoff_code k.now) IsScaleOf result }
 {
-    match scales_of(alloc, decls, k, &ScaleScope::Empty, 0) {
+    match scales_of(alloc, decls, k, &Scope::Empty, 0) {
         Ok(found) => Ok(found.scale),
         Err(Fault::At { node }) => Err(CheckErr::Refused {
             rule: Rule::Scale,

@@ -6,7 +6,7 @@ ghost use Rattle.term_core.specs.Declarations.{declarations};
 ghost use Rattle.term_core.specs.Terms.{expression};
 ghost use Rattle.term_core.specs.declared.rules.Rule.{Rule};
 ghost use Rattle.term_core.specs.Sizes.{nodes};
-ghost use Rattle.time_types.specs.SortScopes.{sorts_in};
+ghost use Rattle.term_core.specs.Scopes.{held_in};
 ghost use Rattle.payoff_lang.specs.Code.{payoff_code};
 ghost use Rattle.payoff_lang.specs.CodeSizes.{nodes_of_code};
 ghost use Rattle.payoff_check.specs.Verdicts.{IsCodeVerdict, NothingMore};
@@ -18,9 +18,9 @@ use crate::plains::plain_of;
 use decimal::NoMemory;
 use payoff_lang::{Code, Vx};
 use std::alloc::Global;
-use term_core::{CheckErr, Decls, Expr, Rule, Setting, nodes_in};
+use term_core::{CheckErr, Decls, Expr, Rule, Scope, Setting, nodes_in};
+use time_types::sort_kinds::Sort;
 use time_types::sort_rule::sort_of_expr;
-use time_types::sort_scopes::{Sort, SortScope};
 
 /// The sort of a value expression, and its nodes.
 #[derive(Clone, Copy)]
@@ -30,9 +30,9 @@ pub struct Sorted {
 }
 
 // Of a plain expression whose first node has a number.
-fn sort_of_plain(decls: &Decls, e: &Expr, scope: &SortScope, node: u32) -> Result<Sorted, Fault>
+fn sort_of_plain(decls: &Decls, e: &Expr, scope: &Scope<Sort>, node: u32) -> Result<Sorted, Fault>
     requires { node + nodes (expression e.now) < 2 ^ 32 }
-    ensures sort { Tells result (value_tried (declarations decls.now) (expression e.now) (sorts_in scope.now) node) }
+    ensures sort { Tells result (value_tried (declarations decls.now) (expression e.now) (held_in scope.now) node) }
     ensures nodes { IfOk result (λ found. found.nodes ≡ nodes (expression e.now)) }
 {
     match sort_of_expr(decls, e, scope) {
@@ -49,11 +49,11 @@ fn sort_of_value(
     alloc: Global,
     decls: &Decls,
     v: &Vx,
-    scope: &SortScope,
+    scope: &Scope<Sort>,
     node: u32,
 ) -> Result<Sorted, Fault>
     requires { node + nodes (plain_value v.now) < 2 ^ 32 }
-    ensures sort { Tells result (value_tried (declarations decls.now) (plain_value v.now) (sorts_in scope.now) node) }
+    ensures sort { Tells result (value_tried (declarations decls.now) (plain_value v.now) (held_in scope.now) node) }
     ensures nodes { IfOk result (λ found. found.nodes ≡ nodes (plain_value v.now)) }
 {
     match plain_of(alloc, v) {
@@ -80,11 +80,11 @@ fn sorts_of(
     alloc: Global,
     decls: &Decls,
     k: &Code,
-    scope: &SortScope,
+    scope: &Scope<Sort>,
     node: u32,
 ) -> Result<u32, Fault>
     requires { node + nodes_of_code (payoff_code k.now) < 2 ^ 32 }
-    ensures sorts { Tells result (sorts_tried (declarations decls.now) (payoff_code k.now) (sorts_in scope.now) node) }
+    ensures sorts { Tells result (sorts_tried (declarations decls.now) (payoff_code k.now) (held_in scope.now) node) }
     ensures nodes { IfOk result (λ passed. passed ≡ nodes_of_code (payoff_code k.now)) }
 {
     match k {
@@ -101,8 +101,8 @@ fn sorts_of(
         }
         Code::Let { bound, body } => {
             let found = sort_of_value(alloc, decls, bound, scope, node + 1)?;
-            let inner = SortScope::Bound {
-                sort: found.sort,
+            let inner = Scope::Bound {
+                held: found.sort,
                 outer: &*scope,
             };
             let body_nodes = sorts_of(alloc, decls, body, &inner, node + 1 + found.nodes)?;
@@ -134,7 +134,7 @@ pub fn sorts(alloc: Global, decls: &Decls, _setting: &Setting, k: &Code) -> Resu
     requires { nodes_of_code (payoff_code k.now) < 2 ^ 32 }
     ensures { IsCodeVerdict (declarations decls.now) _setting.now.days.items Rule.Sort (payoff_code k.now) NothingMore result }
 {
-    match sorts_of(alloc, decls, k, &SortScope::Empty, 0) {
+    match sorts_of(alloc, decls, k, &Scope::Empty, 0) {
         Ok(_) => Ok(()),
         Err(Fault::At { node }) => Err(CheckErr::Refused {
             rule: Rule::Sort,

@@ -13,14 +13,16 @@ ghost use Rattle.term_core.specs.Kinds.{scale_of_op};
 ghost use Rattle.term_core.specs.Sizes.{nodes, nodes_of_contract, height_of_contract};
 ghost use Rattle.term_core.specs.WellFormed.{IsClosed};
 ghost use Rattle.term_core.specs.Acceptance.{Meets};
-ghost use Rattle.term_core.specs.Trying.{moved};
+ghost use Rattle.term_core.specs.Scopes.{held_in};
 ghost use Rattle.term_core.specs.Verdicts.{IsVerdict};
-ghost use Rattle.scale_check.specs.ScaleScopes.{scales_in};
 ghost use Rattle.scale_check.specs.ScaleTrials.{at_most, not_above, two_tried, scale_tried, acc_tried, choice_tried, contract_tried};
 
-use crate::scale_scopes::{ScaleScope, scale_at, scale_observed};
+use crate::scale_scopes::{scale_at, scale_observed};
 use std::alloc::Global;
-use term_core::{CheckErr, Contr, Decls, Expr, NumOp, Rule, nodes_in, nodes_in_contract};
+use term_core::{
+    CheckErr, Contr, Decls, Expr, NumOp, Rule, Scope, behind, behind_both, behind_contract,
+    behind_node, behind_two,
+};
 
 // The greatest scale of an expression.
 const GREATEST: u8 = 27;
@@ -65,9 +67,9 @@ fn scale_of_answer(op: NumOp, left: u8, right: u8) -> u8
 /// The scale of an expression whose sorts are right, among names of these scales, or the place of its first node that
 /// breaks the rule on scales, counted from the expression's own first node.
 #[cycle(scaling)]
-pub fn scale_of_expr(decls: &Decls, e: &Expr, scope: &ScaleScope) -> Result<u8, u32>
+pub fn scale_of_expr(decls: &Decls, e: &Expr, scope: &Scope<u8>) -> Result<u8, u32>
     requires { nodes (expression e.now) < 2 ^ 32 }
-    ensures scale { result ≡ scale_tried (declarations decls.now) (expression e.now) (scales_in scope.now) }
+    ensures scale { result ≡ scale_tried (declarations decls.now) (expression e.now) (held_in scope.now) }
     ensures within { IfOk result (λ scale. scale ≤ 27) }
     ensures below { IfErr result (λ place. place < nodes (expression e.now)) }
 {
@@ -76,19 +78,19 @@ pub fn scale_of_expr(decls: &Decls, e: &Expr, scope: &ScaleScope) -> Result<u8, 
         Expr::Yes { .. } => Ok(0),
         Expr::Var { back } => keep(GREATEST, scale_at(scope, *back)),
         Expr::Obs { label, .. } => keep(GREATEST, scale_observed(decls, *label)),
-        Expr::Neg { of } => scale_of_first(decls, of, scope),
-        Expr::Not { of } => scale_of_first(decls, of, scope),
+        Expr::Neg { of } => behind_node(scale_of_expr(decls, of, scope)),
+        Expr::Not { of } => behind_node(scale_of_expr(decls, of, scope)),
         Expr::Widen { scale, of } => {
-            let part = scale_of_first(decls, of, scope)?;
+            let part = behind_node(scale_of_expr(decls, of, scope))?;
             take(part, *scale)
         }
         Expr::Round { scale, of, .. } => {
-            scale_of_first(decls, of, scope)?;
+            behind_node(scale_of_expr(decls, of, scope))?;
             keep(GREATEST, *scale)
         }
         Expr::Num { op, left, right } => {
-            let left_scale = scale_of_first(decls, left, scope)?;
-            let right_scale = scale_of_second(decls, left, right, scope)?;
+            let left_scale = behind_node(scale_of_expr(decls, left, scope))?;
+            let right_scale = behind(left, scale_of_expr(decls, right, scope))?;
             keep(GREATEST, scale_of_answer(*op, left_scale, right_scale))
         }
         Expr::Cmp { left, right, .. } => try_two(decls, left, right, 0, scope),
@@ -111,15 +113,15 @@ fn try_two(
     left: &Expr,
     right: &Expr,
     answer: u8,
-    scope: &ScaleScope,
+    scope: &Scope<u8>,
 ) -> Result<u8, u32>
     requires { nodes (expression left.now) + nodes (expression right.now) + 1 < 2 ^ 32 }
-    ensures scale { result ≡ two_tried answer (nodes (expression left.now)) (scale_tried (declarations decls.now) (expression left.now) (scales_in scope.now)) (scale_tried (declarations decls.now) (expression right.now) (scales_in scope.now)) }
+    ensures scale { result ≡ two_tried answer (nodes (expression left.now)) (scale_tried (declarations decls.now) (expression left.now) (held_in scope.now)) (scale_tried (declarations decls.now) (expression right.now) (held_in scope.now)) }
     ensures within { IfOk result (λ scale. scale ≤ 27) }
     ensures below { IfErr result (λ place. place < nodes (expression left.now) + nodes (expression right.now) + 1) }
 {
-    scale_of_first(decls, left, scope)?;
-    scale_of_second(decls, left, right, scope)?;
+    behind_node(scale_of_expr(decls, left, scope))?;
+    behind(left, scale_of_expr(decls, right, scope))?;
     keep(GREATEST, answer)
 }
 
@@ -130,89 +132,40 @@ fn scale_of_choice(
     test: &Expr,
     yes: &Expr,
     no: &Expr,
-    scope: &ScaleScope,
+    scope: &Scope<u8>,
 ) -> Result<u8, u32>
     requires { nodes (expression test.now) + nodes (expression yes.now) + nodes (expression no.now) + 1 < 2 ^ 32 }
-    ensures scale { result ≡ choice_tried (nodes (expression test.now)) (nodes (expression yes.now)) (scale_tried (declarations decls.now) (expression test.now) (scales_in scope.now)) (scale_tried (declarations decls.now) (expression yes.now) (scales_in scope.now)) (scale_tried (declarations decls.now) (expression no.now) (scales_in scope.now)) }
+    ensures scale { result ≡ choice_tried (nodes (expression test.now)) (nodes (expression yes.now)) (scale_tried (declarations decls.now) (expression test.now) (held_in scope.now)) (scale_tried (declarations decls.now) (expression yes.now) (held_in scope.now)) (scale_tried (declarations decls.now) (expression no.now) (held_in scope.now)) }
     ensures within { IfOk result (λ scale. scale ≤ 27) }
     ensures below { IfErr result (λ place. place < nodes (expression test.now) + nodes (expression yes.now) + nodes (expression no.now) + 1) }
 {
-    scale_of_first(decls, test, scope)?;
-    let yes_scale = scale_of_second(decls, test, yes, scope)?;
-    let no_scale = scale_of_third(decls, test, yes, no, scope)?;
+    behind_node(scale_of_expr(decls, test, scope))?;
+    let yes_scale = behind(test, scale_of_expr(decls, yes, scope))?;
+    let no_scale = behind_two(test, yes, scale_of_expr(decls, no, scope))?;
     Ok(yes_scale.max(no_scale))
 }
 
 // Of an accumulator, whose start is tried before its body.
 #[cycle(scaling)]
-fn scale_of_run(decls: &Decls, body: &Expr, first: &Expr, scope: &ScaleScope) -> Result<u8, u32>
+fn scale_of_run(decls: &Decls, body: &Expr, first: &Expr, scope: &Scope<u8>) -> Result<u8, u32>
     requires { nodes (expression body.now) + nodes (expression first.now) + 1 < 2 ^ 32 }
-    ensures scale { result ≡ acc_tried (nodes (expression body.now)) (scale_tried (declarations decls.now) (expression first.now) (scales_in scope.now)) (λ s. scale_tried (declarations decls.now) (expression body.now) (s ∷ scales_in scope.now)) }
+    ensures scale { result ≡ acc_tried (nodes (expression body.now)) (scale_tried (declarations decls.now) (expression first.now) (held_in scope.now)) (λ s. scale_tried (declarations decls.now) (expression body.now) (s ∷ held_in scope.now)) }
     ensures within { IfOk result (λ scale. scale ≤ 27) }
     ensures below { IfErr result (λ place. place < nodes (expression body.now) + nodes (expression first.now) + 1) }
 {
-    let scale = scale_of_second(decls, body, first, scope)?;
-    let inner = ScaleScope::Bound {
-        scale,
+    let scale = behind(body, scale_of_expr(decls, first, scope))?;
+    let inner = Scope::Bound {
+        held: scale,
         outer: &*scope,
     };
-    let body_scale = scale_of_first(decls, body, &inner)?;
+    let body_scale = behind_node(scale_of_expr(decls, body, &inner))?;
     take(body_scale, scale)
 }
 
-// Of the part that follows its node.
-#[cycle(scaling)]
-fn scale_of_first(decls: &Decls, e: &Expr, scope: &ScaleScope) -> Result<u8, u32>
-    requires { nodes (expression e.now) + 1 < 2 ^ 32 }
-    ensures scale { result ≡ moved 1 (scale_tried (declarations decls.now) (expression e.now) (scales_in scope.now)) }
-    ensures within { IfOk result (λ scale. scale ≤ 27) }
-    ensures below { IfErr result (λ place. place < nodes (expression e.now) + 1) }
-{
-    match scale_of_expr(decls, e, scope) {
-        Ok(scale) => Ok(scale),
-        Err(place) => Err(1 + place),
-    }
-}
-
-// Of the part that follows the first.
-#[cycle(scaling)]
-fn scale_of_second(decls: &Decls, before: &Expr, e: &Expr, scope: &ScaleScope) -> Result<u8, u32>
-    requires { nodes (expression before.now) + nodes (expression e.now) + 1 < 2 ^ 32 }
-    ensures scale { result ≡ moved (1 + nodes (expression before.now)) (scale_tried (declarations decls.now) (expression e.now) (scales_in scope.now)) }
-    ensures within { IfOk result (λ scale. scale ≤ 27) }
-    ensures below { IfErr result (λ place. place < nodes (expression before.now) + nodes (expression e.now) + 1) }
-{
-    match scale_of_expr(decls, e, scope) {
-        Ok(scale) => Ok(scale),
-        Err(place) => Err(1 + nodes_in(before) + place),
-    }
-}
-
-// Of the part that follows the second.
-#[cycle(scaling)]
-fn scale_of_third(
-    decls: &Decls,
-    first: &Expr,
-    second: &Expr,
-    e: &Expr,
-    scope: &ScaleScope,
-) -> Result<u8, u32>
-    requires { nodes (expression first.now) + nodes (expression second.now) + nodes (expression e.now) + 1 < 2 ^ 32 }
-    ensures scale { result ≡ moved (nodes (expression first.now)) (moved (1 + nodes (expression second.now)) (scale_tried (declarations decls.now) (expression e.now) (scales_in scope.now))) }
-    ensures within { IfOk result (λ scale. scale ≤ 27) }
-    ensures below { IfErr result (λ place. place < nodes (expression first.now) + nodes (expression second.now) + nodes (expression e.now) + 1) }
-{
-    match scale_of_second(decls, second, e, scope) {
-        Ok(scale) => Ok(scale),
-        Err(place) => Err(nodes_in(first) + place),
-    }
-}
-
 // The scale of a contract among names of these scales.
-#[cycle(scaled)]
-fn try_scale(decls: &Decls, c: &Contr, scope: &ScaleScope) -> Result<u8, u32>
+fn try_scale(decls: &Decls, c: &Contr, scope: &Scope<u8>) -> Result<u8, u32>
     requires { nodes_of_contract (contract c.now) < 2 ^ 32 }
-    ensures scale { result ≡ contract_tried (declarations decls.now) (contract c.now) (scales_in scope.now) }
+    ensures scale { result ≡ contract_tried (declarations decls.now) (contract c.now) (held_in scope.now) }
     ensures within { IfOk result (λ scale. scale ≤ decls.now.amounts) }
     ensures below { IfErr result (λ place. place < nodes_of_contract (contract c.now)) }
 {
@@ -220,23 +173,23 @@ fn try_scale(decls: &Decls, c: &Contr, scope: &ScaleScope) -> Result<u8, u32>
         Contr::Zero => Ok(0),
         Contr::Pay { .. } => Ok(0),
         Contr::Both { left, right } => {
-            let left_scale = try_first(decls, left, scope)?;
-            let right_scale = try_after_contract(decls, left, right, scope)?;
+            let left_scale = behind_node(try_scale(decls, left, scope))?;
+            let right_scale = behind_contract(left, try_scale(decls, right, scope))?;
             Ok(left_scale.max(right_scale))
         }
         Contr::Scale { factor, body } => {
-            let factor_scale = scale_of_first(decls, factor, scope)?;
-            let body_scale = try_after(decls, factor, body, scope)?;
+            let factor_scale = behind_node(scale_of_expr(decls, factor, scope))?;
+            let body_scale = behind(factor, try_scale(decls, body, scope))?;
             keep(decls.amounts, factor_scale + body_scale)
         }
-        Contr::After { body, .. } => try_first(decls, body, scope),
+        Contr::After { body, .. } => behind_node(try_scale(decls, body, scope)),
         Contr::Let { bound, body } => {
-            let scale = scale_of_first(decls, bound, scope)?;
-            let inner = ScaleScope::Bound {
-                scale,
+            let scale = behind_node(scale_of_expr(decls, bound, scope))?;
+            let inner = Scope::Bound {
+                held: scale,
                 outer: &*scope,
             };
-            try_after(decls, bound, body, &inner)
+            behind(bound, try_scale(decls, body, &inner))
         }
         Contr::Within {
             test,
@@ -244,78 +197,11 @@ fn try_scale(decls: &Decls, c: &Contr, scope: &ScaleScope) -> Result<u8, u32>
             miss,
             ..
         } => {
-            scale_of_first(decls, test, scope)?;
-            let hit_scale = try_after(decls, test, hit, scope)?;
-            let miss_scale = try_after_both(decls, test, hit, miss, scope)?;
+            behind_node(scale_of_expr(decls, test, scope))?;
+            let hit_scale = behind(test, try_scale(decls, hit, scope))?;
+            let miss_scale = behind_both(test, hit, try_scale(decls, miss, scope))?;
             Ok(hit_scale.max(miss_scale))
         }
-    }
-}
-
-// Of the part that follows its node.
-#[cycle(scaled)]
-fn try_first(decls: &Decls, c: &Contr, scope: &ScaleScope) -> Result<u8, u32>
-    requires { nodes_of_contract (contract c.now) + 1 < 2 ^ 32 }
-    ensures scale { result ≡ moved 1 (contract_tried (declarations decls.now) (contract c.now) (scales_in scope.now)) }
-    ensures within { IfOk result (λ scale. scale ≤ decls.now.amounts) }
-    ensures below { IfErr result (λ place. place < nodes_of_contract (contract c.now) + 1) }
-{
-    match try_scale(decls, c, scope) {
-        Ok(scale) => Ok(scale),
-        Err(place) => Err(1 + place),
-    }
-}
-
-// Of the part that follows an expression.
-#[cycle(scaled)]
-fn try_after(decls: &Decls, before: &Expr, c: &Contr, scope: &ScaleScope) -> Result<u8, u32>
-    requires { nodes (expression before.now) + nodes_of_contract (contract c.now) + 1 < 2 ^ 32 }
-    ensures scale { result ≡ moved (1 + nodes (expression before.now)) (contract_tried (declarations decls.now) (contract c.now) (scales_in scope.now)) }
-    ensures within { IfOk result (λ scale. scale ≤ decls.now.amounts) }
-    ensures below { IfErr result (λ place. place < nodes (expression before.now) + nodes_of_contract (contract c.now) + 1) }
-{
-    match try_scale(decls, c, scope) {
-        Ok(scale) => Ok(scale),
-        Err(place) => Err(1 + nodes_in(before) + place),
-    }
-}
-
-// Of the part that follows a contract.
-#[cycle(scaled)]
-fn try_after_contract(
-    decls: &Decls,
-    before: &Contr,
-    c: &Contr,
-    scope: &ScaleScope,
-) -> Result<u8, u32>
-    requires { nodes_of_contract (contract before.now) + nodes_of_contract (contract c.now) + 1 < 2 ^ 32 }
-    ensures scale { result ≡ moved (1 + nodes_of_contract (contract before.now)) (contract_tried (declarations decls.now) (contract c.now) (scales_in scope.now)) }
-    ensures within { IfOk result (λ scale. scale ≤ decls.now.amounts) }
-    ensures below { IfErr result (λ place. place < nodes_of_contract (contract before.now) + nodes_of_contract (contract c.now) + 1) }
-{
-    match try_scale(decls, c, scope) {
-        Ok(scale) => Ok(scale),
-        Err(place) => Err(1 + nodes_in_contract(before) + place),
-    }
-}
-
-// Of the part that follows an expression and a contract.
-#[cycle(scaled)]
-fn try_after_both(
-    decls: &Decls,
-    test: &Expr,
-    hit: &Contr,
-    c: &Contr,
-    scope: &ScaleScope,
-) -> Result<u8, u32>
-    requires { nodes (expression test.now) + nodes_of_contract (contract hit.now) + nodes_of_contract (contract c.now) + 1 < 2 ^ 32 }
-    ensures scale { result ≡ moved (nodes (expression test.now)) (moved (1 + nodes_of_contract (contract hit.now)) (contract_tried (declarations decls.now) (contract c.now) (scales_in scope.now))) }
-    ensures within { IfOk result (λ scale. scale ≤ decls.now.amounts) }
-    ensures below { IfErr result (λ place. place < nodes (expression test.now) + nodes_of_contract (contract hit.now) + nodes_of_contract (contract c.now) + 1) }
-{
-    match try_after_contract(decls, hit, c, scope) {
-        Ok(scale) => Ok(scale),
-        Err(place) => Err(nodes_in(test) + place),
     }
 }
 
@@ -329,7 +215,7 @@ pub fn scales(alloc: Global, decls: &Decls, c: &Contr) -> Result<u8, CheckErr>
     requires sorted { Meets (declarations decls.now) Rule.Sort (contract c.now) }
     ensures { IsVerdict (declarations decls.now) Rule.Scale (contract c.now) (λ scale. scale ≡ scale_of_contract (declarations decls.now) (contract c.now) []) result }
 {
-    match try_scale(decls, c, &ScaleScope::Empty) {
+    match try_scale(decls, c, &Scope::Empty) {
         Ok(scale) => Ok(scale),
         Err(node) => Err(CheckErr::Refused {
             rule: Rule::Scale,

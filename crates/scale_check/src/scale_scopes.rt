@@ -4,34 +4,19 @@ ghost use Rattle.std.specs.Prelude.{◌≡◌, slice_get};
 ghost use Rattle.term_core.specs.Declarations.{declarations};
 ghost use Rattle.term_core.specs.Environments.{label_of};
 ghost use Rattle.term_core.specs.Kinds.{kind_of_label, scale_or_zero};
-ghost use Rattle.scale_check.specs.ScaleScopes.{scales_in, found_scale};
+ghost use Rattle.term_core.specs.Scopes.{held_in};
+ghost use Rattle.scale_check.specs.ScaleScopes.{found_scale};
 
-use term_core::{Decls, Label};
+use term_core::{Decls, Label, Scope, held_at};
 
-/// The scales of the names that are bound around an expression, innermost first; a truth value has 0. It lies on the
-/// stack.
-#[derive(Clone, Copy)]
-pub enum ScaleScope<'a> {
-    Empty,
-    Bound {
-        scale: u8,
-        outer: &'a ScaleScope<'a>,
-    },
-}
-
-/// The scale of the name that is bound `back` binders further out than the innermost, or 0 where there is none.
-pub fn scale_at(scope: &ScaleScope, back: u32) -> u8
-    ensures { result ≡ found_scale (slice_get (scales_in scope.now) back) }
+/// The scale of the name that is bound `back` binders further out than the innermost, or 0 where there is none; a truth
+/// value has 0.
+pub fn scale_at(scope: &Scope<u8>, back: u32) -> u8
+    ensures { result ≡ found_scale (slice_get (held_in scope.now) back) }
 {
-    match scope {
-        ScaleScope::Empty => 0,
-        ScaleScope::Bound { scale, outer } => {
-            if back == 0 {
-                *scale
-            } else {
-                scale_at(outer, back - 1)
-            }
-        }
+    match held_at(scope, back) {
+        Some(scale) => scale,
+        None => 0,
     }
 }
 

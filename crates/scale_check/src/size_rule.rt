@@ -7,13 +7,14 @@ ghost use Rattle.std.specs.Prelude.{◌≡◌, ◌<◌, ◌≤◌, ◌+◌, ◌^
 ghost use Rattle.term_core.specs.Terms.{expression, contract};
 ghost use Rattle.term_core.specs.Sizes.{nodes, nodes_of_contract, height_of_contract};
 ghost use Rattle.term_core.specs.WellFormed.{HasOnlyNumbers};
-ghost use Rattle.term_core.specs.Trying.{moved};
 ghost use Rattle.scale_check.specs.PartSizes.{IsLimited};
 ghost use Rattle.scale_check.specs.SizeTrials.{one_tried, two_tried, three_tried, acc_tried, size_tried, behind_tried, contract_tried};
 ghost use Rattle.scale_check.specs.SizeVerdicts.{IsSizeVerdict};
 
 use crate::part_sizes::{Size, days_back};
-use term_core::{Contr, Expr, Rule, RuleFault, nodes_in, nodes_in_contract};
+use term_core::{
+    Contr, Expr, Rule, RuleFault, behind, behind_both, behind_contract, behind_node, behind_two,
+};
 
 // The size of an expression.
 #[cycle(sizing)]
@@ -49,7 +50,7 @@ fn size_over_one(of: &Expr) -> Result<Size, u32>
     ensures limits { IfOk result IsLimited }
     ensures below { IfErr result (λ place. place < nodes (expression of.now) + 1) }
 {
-    let part = size_of_first(of)?;
+    let part = behind_node(size_of_expr(of))?;
     Size::over_one(part).limited(0)
 }
 
@@ -61,8 +62,8 @@ fn size_over_two(left: &Expr, right: &Expr) -> Result<Size, u32>
     ensures limits { IfOk result IsLimited }
     ensures below { IfErr result (λ place. place < nodes (expression left.now) + nodes (expression right.now) + 1) }
 {
-    let left_size = size_of_first(left)?;
-    let right_size = size_of_second(left, right)?;
+    let left_size = behind_node(size_of_expr(left))?;
+    let right_size = behind(left, size_of_expr(right))?;
     Size::over_two(left_size, right_size).limited(0)
 }
 
@@ -74,9 +75,9 @@ fn size_over_three(test: &Expr, yes: &Expr, no: &Expr) -> Result<Size, u32>
     ensures limits { IfOk result IsLimited }
     ensures below { IfErr result (λ place. place < nodes (expression test.now) + nodes (expression yes.now) + nodes (expression no.now) + 1) }
 {
-    let test_size = size_of_first(test)?;
-    let yes_size = size_of_second(test, yes)?;
-    let no_size = size_of_third(test, yes, no)?;
+    let test_size = behind_node(size_of_expr(test))?;
+    let yes_size = behind(test, size_of_expr(yes))?;
+    let no_size = behind_two(test, yes, size_of_expr(no))?;
     Size::over_three(test_size, yes_size, no_size).limited(0)
 }
 
@@ -88,51 +89,9 @@ fn size_over_days(body: &Expr, days: u32, first: &Expr) -> Result<Size, u32>
     ensures limits { IfOk result IsLimited }
     ensures below { IfErr result (λ place. place < nodes (expression body.now) + nodes (expression first.now) + 1) }
 {
-    let first_size = size_of_second(body, first)?;
-    let body_size = size_of_first(body)?;
+    let first_size = behind(body, size_of_expr(first))?;
+    let body_size = behind_node(size_of_expr(body))?;
     Size::over_days(body_size, days, first_size).limited(days)
-}
-
-// Of the part that follows its node.
-#[cycle(sizing)]
-fn size_of_first(e: &Expr) -> Result<Size, u32>
-    requires { nodes (expression e.now) + 1 < 2 ^ 32 }
-    ensures size { result ≡ moved 1 (size_tried (expression e.now)) }
-    ensures limits { IfOk result IsLimited }
-    ensures below { IfErr result (λ place. place < nodes (expression e.now) + 1) }
-{
-    match size_of_expr(e) {
-        Ok(size) => Ok(size),
-        Err(place) => Err(1 + place),
-    }
-}
-
-// Of the part that follows the first.
-#[cycle(sizing)]
-fn size_of_second(before: &Expr, e: &Expr) -> Result<Size, u32>
-    requires { nodes (expression before.now) + nodes (expression e.now) + 1 < 2 ^ 32 }
-    ensures size { result ≡ moved (1 + nodes (expression before.now)) (size_tried (expression e.now)) }
-    ensures limits { IfOk result IsLimited }
-    ensures below { IfErr result (λ place. place < nodes (expression before.now) + nodes (expression e.now) + 1) }
-{
-    match size_of_expr(e) {
-        Ok(size) => Ok(size),
-        Err(place) => Err(1 + nodes_in(before) + place),
-    }
-}
-
-// Of the part that follows the second.
-#[cycle(sizing)]
-fn size_of_third(first: &Expr, second: &Expr, e: &Expr) -> Result<Size, u32>
-    requires { nodes (expression first.now) + nodes (expression second.now) + nodes (expression e.now) + 1 < 2 ^ 32 }
-    ensures size { result ≡ moved (nodes (expression first.now)) (moved (1 + nodes (expression second.now)) (size_tried (expression e.now))) }
-    ensures limits { IfOk result IsLimited }
-    ensures below { IfErr result (λ place. place < nodes (expression first.now) + nodes (expression second.now) + nodes (expression e.now) + 1) }
-{
-    match size_of_second(second, e) {
-        Ok(size) => Ok(size),
-        Err(place) => Err(nodes_in(first) + place),
-    }
 }
 
 // The size of a contract.
@@ -147,15 +106,15 @@ fn try_size(c: &Contr) -> Result<Size, u32>
         Contr::Zero => Size::unit().limited(0),
         Contr::Pay { .. } => Size::unit().limited(0),
         Contr::Both { left, right } => {
-            let left_size = try_first(left)?;
-            let right_size = try_after_contract(left, right)?;
+            let left_size = behind_node(try_size(left))?;
+            let right_size = behind_contract(left, try_size(right))?;
             Size::together(left_size, right_size).limited(0)
         }
         Contr::Scale { factor, body } => try_behind(factor, body),
         Contr::Let { bound, body } => try_behind(bound, body),
         Contr::After { days, body } => {
             let count = days.number();
-            let body_size = try_first(body)?;
+            let body_size = behind_node(try_size(body))?;
             Size::delayed(count, body_size).limited(count)
         }
         Contr::Within {
@@ -165,9 +124,9 @@ fn try_size(c: &Contr) -> Result<Size, u32>
             miss,
         } => {
             let count = days.number();
-            let test_size = size_of_first(test)?;
-            let hit_size = try_after(test, hit)?;
-            let miss_size = try_after_both(test, hit, miss)?;
+            let test_size = behind_node(size_of_expr(test))?;
+            let hit_size = behind(test, try_size(hit))?;
+            let miss_size = behind_both(test, hit, try_size(miss))?;
             Size::tested(test_size, count, hit_size, miss_size).limited(count)
         }
     }
@@ -181,65 +140,9 @@ fn try_behind(e: &Expr, c: &Contr) -> Result<Size, u32>
     ensures limits { IfOk result IsLimited }
     ensures below { IfErr result (λ place. place < nodes (expression e.now) + nodes_of_contract (contract c.now) + 1) }
 {
-    let expr_size = size_of_first(e)?;
-    let contr_size = try_after(e, c)?;
+    let expr_size = behind_node(size_of_expr(e))?;
+    let contr_size = behind(e, try_size(c))?;
     Size::together(expr_size, contr_size).limited(0)
-}
-
-// Of the part that follows its node.
-#[cycle(sized)]
-fn try_first(c: &Contr) -> Result<Size, u32>
-    requires { nodes_of_contract (contract c.now) + 1 < 2 ^ 32 }
-    ensures size { result ≡ moved 1 (contract_tried (contract c.now)) }
-    ensures limits { IfOk result IsLimited }
-    ensures below { IfErr result (λ place. place < nodes_of_contract (contract c.now) + 1) }
-{
-    match try_size(c) {
-        Ok(size) => Ok(size),
-        Err(place) => Err(1 + place),
-    }
-}
-
-// Of the part that follows an expression.
-#[cycle(sized)]
-fn try_after(before: &Expr, c: &Contr) -> Result<Size, u32>
-    requires { nodes (expression before.now) + nodes_of_contract (contract c.now) + 1 < 2 ^ 32 }
-    ensures size { result ≡ moved (1 + nodes (expression before.now)) (contract_tried (contract c.now)) }
-    ensures limits { IfOk result IsLimited }
-    ensures below { IfErr result (λ place. place < nodes (expression before.now) + nodes_of_contract (contract c.now) + 1) }
-{
-    match try_size(c) {
-        Ok(size) => Ok(size),
-        Err(place) => Err(1 + nodes_in(before) + place),
-    }
-}
-
-// Of the part that follows a contract.
-#[cycle(sized)]
-fn try_after_contract(before: &Contr, c: &Contr) -> Result<Size, u32>
-    requires { nodes_of_contract (contract before.now) + nodes_of_contract (contract c.now) + 1 < 2 ^ 32 }
-    ensures size { result ≡ moved (1 + nodes_of_contract (contract before.now)) (contract_tried (contract c.now)) }
-    ensures limits { IfOk result IsLimited }
-    ensures below { IfErr result (λ place. place < nodes_of_contract (contract before.now) + nodes_of_contract (contract c.now) + 1) }
-{
-    match try_size(c) {
-        Ok(size) => Ok(size),
-        Err(place) => Err(1 + nodes_in_contract(before) + place),
-    }
-}
-
-// Of the part that follows an expression and a contract.
-#[cycle(sized)]
-fn try_after_both(test: &Expr, hit: &Contr, c: &Contr) -> Result<Size, u32>
-    requires { nodes (expression test.now) + nodes_of_contract (contract hit.now) + nodes_of_contract (contract c.now) + 1 < 2 ^ 32 }
-    ensures size { result ≡ moved (nodes (expression test.now)) (moved (1 + nodes_of_contract (contract hit.now)) (contract_tried (contract c.now))) }
-    ensures limits { IfOk result IsLimited }
-    ensures below { IfErr result (λ place. place < nodes (expression test.now) + nodes_of_contract (contract hit.now) + nodes_of_contract (contract c.now) + 1) }
-{
-    match try_after_contract(hit, c) {
-        Ok(size) => Ok(size),
-        Err(place) => Err(nodes_in(test) + place),
-    }
 }
 
 /// The reach of a contract, the days by which its latest part may stand later than it, where the rule on sizes holds

@@ -15,10 +15,10 @@ use Rattle.term_core.specs.Sites.{Site, Layer, Naming, Counting, Later, Earlier,
 use Rattle.term_core.specs.Sorts.{is_sorted, is_number, is_truth}
 use Rattle.term_core.specs.Acceptance.{Meets, FailsAt}
 use Rattle.term_core.proofs.Trials.{or_else, first_failing-append, first_failing-is, FaultIs}
-use Rattle.time_types.specs.declared.sort_scopes.Sort.{Sort}
-use Rattle.time_types.specs.declared.sort_scopes.Sort.TheVariants.{Truth, Number}
+use Rattle.time_types.specs.declared.sort_kinds.Sort.{Sort}
+use Rattle.time_types.specs.declared.sort_kinds.Sort.TheVariants.{Truth, Number}
 use Rattle.term_core.specs.Trying.{then_do, moved, or_here}
-use Rattle.time_types.specs.SortScopes.{sort_of_kind, sort_of}
+use Rattle.time_types.specs.SortKinds.{sort_of_kind, sort_of}
 use Rattle.time_types.specs.SortTrials.{Answer, expected, one_tried, two_tried, sort_tried, Sorted, required, sorts_tried}
 
 -- What a trial of the nodes from number k on answers: the sort of a kind, where all pass, or else the first that does

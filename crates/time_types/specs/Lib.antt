@@ -1,6 +1,5 @@
-pub mod SortScopes
+pub mod SortKinds
 pub mod SortTrials
 pub mod Starts
-pub mod TimeScopes
 pub mod TimeTrials
 pub mod TypingLaws

@@ -2,11 +2,10 @@
 #![tactic(auto)]
 
 mod laws;
+pub mod sort_kinds;
 pub mod sort_rule;
-pub mod sort_scopes;
 mod starts;
 mod time_rule;
-mod time_scopes;
 
 pub use laws::typing_is_kept;
 pub use sort_rule::sorts;

@@ -12,7 +12,7 @@ ghost use Rattle.term_core.specs.Trying.{or_here};
 ghost use Rattle.time_types.specs.SortTrials.{expected, required, one_tried, two_tried, sort_tried, sorts_tried};
 ghost use Rattle.term_core.specs.Verdicts.{IsVerdict};
 
-use crate::sort_scopes::{Sort, sort_observed};
+use crate::sort_kinds::{Sort, sort_observed};
 use std::alloc::Global;
 use term_core::{
     CheckErr, Contr, Decls, Expr, Rule, Scope, behind, behind_both, behind_contract, behind_node,

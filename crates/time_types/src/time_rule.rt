@@ -2,7 +2,7 @@
 //! The trial of a contract answers its start, or the place of the node at fault counted from the contract's own first
 //! node; nodes before it are counted only on the way up from a fault, so that no part is visited more than twice.
 
-ghost use Rattle.std.specs.Prelude.{◌≡◌, ◌<◌, ◌≤◌, ◌+◌, ◌^◌, pos, ◌+ℤ◌, ◌-ℤ◌, unsigned_abs, IfErr};
+ghost use Rattle.std.specs.Prelude.{◌≡◌, ◌<◌, ◌≤◌, ◌+◌, ◌^◌, pos, ◌+ℤ◌, ◌-ℤ◌, unsigned_abs, IfErr, slice_get};
 ghost use Rattle.term_core.specs.Declarations.{declarations};
 ghost use Rattle.term_core.specs.declared.rules.Rule.{Rule};
 ghost use Rattle.term_core.specs.Terms.{expression, contract};
@@ -10,16 +10,17 @@ ghost use Rattle.term_core.specs.Sizes.{nodes, height, nodes_of_contract, height
 ghost use Rattle.term_core.specs.Times.{IsStart};
 ghost use Rattle.term_core.specs.WellFormed.{IsClosed, HasOnlyNumbers};
 ghost use Rattle.term_core.specs.Acceptance.{Meets};
-ghost use Rattle.term_core.specs.Trying.{moved};
+ghost use Rattle.term_core.specs.Scopes.{held_in};
 ghost use Rattle.time_types.specs.Starts.{start_day};
-ghost use Rattle.time_types.specs.TimeScopes.{times_in};
-ghost use Rattle.time_types.specs.TimeTrials.{HasRoom, later, known_from, in_time, start_tried};
+ghost use Rattle.time_types.specs.TimeTrials.{HasRoom, later, name_known, known_from, in_time, start_tried};
 ghost use Rattle.term_core.specs.Verdicts.{IsVerdict};
 
 use crate::starts::{Start, earlier_of, is_known};
-use crate::time_scopes::{TimeScope, known_at};
 use std::alloc::Global;
-use term_core::{CheckErr, Contr, Decls, Expr, Rule, nodes_in, nodes_in_contract};
+use term_core::{
+    CheckErr, Contr, Decls, Expr, Rule, Scope, behind, behind_both, behind_contract, behind_node,
+    held_at,
+};
 
 // The day from which both are known.
 fn later_of(a: Option<i64>, b: Option<i64>) -> Option<i64>
@@ -66,11 +67,22 @@ fn days_after(day: PartDay, days: u32) -> PartDay
     }
 }
 
+// The day from which a name is known that is bound around an expression. Days are those of the whole contract, so that
+// a scope serves parts that stand on later and on earlier days as it is.
+fn known_at(scope: &Scope<Option<i64>>, back: u32) -> Option<i64>
+    ensures { result ≡ name_known (slice_get (held_in scope.now) back) }
+{
+    match held_at(scope, back) {
+        Some(known) => known,
+        None => None,
+    }
+}
+
 // The day from which an expression is known that stands on a day.
 #[cycle(knowing)]
-fn known(e: &Expr, scope: &TimeScope, day: PartDay) -> Option<i64>
+fn known(e: &Expr, scope: &Scope<Option<i64>>, day: PartDay) -> Option<i64>
     requires { HasRoom (height (expression e.now)) day.number }
-    ensures { result ≡ known_from day.number (times_in scope.now) (expression e.now) }
+    ensures { result ≡ known_from day.number (held_in scope.now) (expression e.now) }
 {
     match e {
         Expr::Lit { .. } => None,
@@ -91,8 +103,8 @@ fn known(e: &Expr, scope: &TimeScope, day: PartDay) -> Option<i64>
         }
         Expr::Acc { body, days, first } => {
             // The name stands for a value of the same day, which is known where the body is.
-            let inner = TimeScope::Bound {
-                known: None,
+            let inner = Scope::Bound {
+                held: None,
                 outer: &*scope,
             };
             let body_known = known(body, &inner, day);
@@ -103,10 +115,10 @@ fn known(e: &Expr, scope: &TimeScope, day: PartDay) -> Option<i64>
 
 // Of two operands.
 #[cycle(knowing)]
-fn known_both(left: &Expr, right: &Expr, scope: &TimeScope, day: PartDay) -> Option<i64>
+fn known_both(left: &Expr, right: &Expr, scope: &Scope<Option<i64>>, day: PartDay) -> Option<i64>
     requires left { HasRoom (height (expression left.now)) day.number }
     requires right { HasRoom (height (expression right.now)) day.number }
-    ensures { result ≡ later (known_from day.number (times_in scope.now) (expression left.now)) (known_from day.number (times_in scope.now) (expression right.now)) }
+    ensures { result ≡ later (known_from day.number (held_in scope.now) (expression left.now)) (known_from day.number (held_in scope.now) (expression right.now)) }
 {
     let left_known = known(left, scope, day);
     later_of(left_known, known(right, scope, day))
@@ -125,32 +137,35 @@ fn allow(known: Option<i64>, at: Start, answer: Start) -> Result<Start, u32>
 }
 
 // The start of a contract that stands on a day, or the place of the fault.
-#[cycle(starting)]
-fn try_start(c: &Contr, scope: &TimeScope, day: PartDay) -> Result<Start, u32>
+fn try_start(c: &Contr, scope: &Scope<Option<i64>>, day: PartDay) -> Result<Start, u32>
     requires small { nodes_of_contract (contract c.now) < 2 ^ 32 }
     requires room { HasRoom (height_of_contract (contract c.now)) day.number }
-    ensures start { result ≡ start_tried day.number (times_in scope.now) (contract c.now) }
+    ensures start { result ≡ start_tried day.number (held_in scope.now) (contract c.now) }
     ensures below { IfErr result (λ place. place < nodes_of_contract (contract c.now)) }
 {
     match c {
         Contr::Zero => Ok(Start::Always),
         Contr::Pay { .. } => Ok(Start::Day { day: day.number }),
         Contr::Both { left, right } => {
-            let left_start = try_first(left, scope, day)?;
-            let right_start = try_after_contract(left, right, scope, day)?;
+            let left_start = behind_node(try_start(left, scope, day))?;
+            let right_start = behind_contract(left, try_start(right, scope, day))?;
             Ok(earlier_of(left_start, right_start))
         }
         Contr::Scale { factor, body } => {
-            let start = try_after(factor, body, scope, day)?;
+            let start = behind(factor, try_start(body, scope, day))?;
             allow(known(factor, scope, day), start, start)
         }
-        Contr::After { days, body } => try_first(body, scope, days_after(day, days.number())),
+        Contr::After { days, body } => behind_node(try_start(
+            body,
+            scope,
+            days_after(day, days.number()),
+        )),
         Contr::Let { bound, body } => {
-            let inner = TimeScope::Bound {
-                known: known(bound, scope, day),
+            let inner = Scope::Bound {
+                held: known(bound, scope, day),
                 outer: &*scope,
             };
-            try_after(bound, body, &inner, day)
+            behind(bound, try_start(body, &inner, day))
         }
         Contr::Within {
             test,
@@ -158,9 +173,9 @@ fn try_start(c: &Contr, scope: &TimeScope, day: PartDay) -> Result<Start, u32>
             hit,
             miss,
         } => {
-            let hit_start = try_after(test, hit, scope, day)?;
+            let hit_start = behind(test, try_start(hit, scope, day))?;
             let last = days_after(day, days.number());
-            let miss_start = try_after_both(test, hit, miss, scope, last)?;
+            let miss_start = behind_both(test, hit, try_start(miss, scope, last))?;
             let start = earlier_of(hit_start, miss_start);
             allow(
                 known(test, scope, day),
@@ -168,73 +183,6 @@ fn try_start(c: &Contr, scope: &TimeScope, day: PartDay) -> Result<Start, u32>
                 start,
             )
         }
-    }
-}
-
-// Of the part that follows its node.
-#[cycle(starting)]
-fn try_first(c: &Contr, scope: &TimeScope, day: PartDay) -> Result<Start, u32>
-    requires small { nodes_of_contract (contract c.now) + 1 < 2 ^ 32 }
-    requires room { HasRoom (height_of_contract (contract c.now)) day.number }
-    ensures start { result ≡ moved 1 (start_tried day.number (times_in scope.now) (contract c.now)) }
-    ensures below { IfErr result (λ place. place < nodes_of_contract (contract c.now) + 1) }
-{
-    match try_start(c, scope, day) {
-        Ok(start) => Ok(start),
-        Err(place) => Err(1 + place),
-    }
-}
-
-// Of the part that follows an expression.
-#[cycle(starting)]
-fn try_after(before: &Expr, c: &Contr, scope: &TimeScope, day: PartDay) -> Result<Start, u32>
-    requires small { nodes (expression before.now) + nodes_of_contract (contract c.now) + 1 < 2 ^ 32 }
-    requires room { HasRoom (height_of_contract (contract c.now)) day.number }
-    ensures start { result ≡ moved (1 + nodes (expression before.now)) (start_tried day.number (times_in scope.now) (contract c.now)) }
-    ensures below { IfErr result (λ place. place < nodes (expression before.now) + nodes_of_contract (contract c.now) + 1) }
-{
-    match try_start(c, scope, day) {
-        Ok(start) => Ok(start),
-        Err(place) => Err(1 + nodes_in(before) + place),
-    }
-}
-
-// Of the part that follows a contract.
-#[cycle(starting)]
-fn try_after_contract(
-    before: &Contr,
-    c: &Contr,
-    scope: &TimeScope,
-    day: PartDay,
-) -> Result<Start, u32>
-    requires small { nodes_of_contract (contract before.now) + nodes_of_contract (contract c.now) + 1 < 2 ^ 32 }
-    requires room { HasRoom (height_of_contract (contract c.now)) day.number }
-    ensures start { result ≡ moved (1 + nodes_of_contract (contract before.now)) (start_tried day.number (times_in scope.now) (contract c.now)) }
-    ensures below { IfErr result (λ place. place < nodes_of_contract (contract before.now) + nodes_of_contract (contract c.now) + 1) }
-{
-    match try_start(c, scope, day) {
-        Ok(start) => Ok(start),
-        Err(place) => Err(1 + nodes_in_contract(before) + place),
-    }
-}
-
-// Of the part that follows an expression and a contract.
-#[cycle(starting)]
-fn try_after_both(
-    test: &Expr,
-    hit: &Contr,
-    c: &Contr,
-    scope: &TimeScope,
-    day: PartDay,
-) -> Result<Start, u32>
-    requires small { nodes (expression test.now) + nodes_of_contract (contract hit.now) + nodes_of_contract (contract c.now) + 1 < 2 ^ 32 }
-    requires room { HasRoom (height_of_contract (contract c.now)) day.number }
-    ensures start { result ≡ moved (nodes (expression test.now)) (moved (1 + nodes_of_contract (contract hit.now)) (start_tried day.number (times_in scope.now) (contract c.now))) }
-    ensures below { IfErr result (λ place. place < nodes (expression test.now) + nodes_of_contract (contract hit.now) + nodes_of_contract (contract c.now) + 1) }
-{
-    match try_after_contract(hit, c, scope, day) {
-        Ok(start) => Ok(start),
-        Err(place) => Err(nodes_in(test) + place),
     }
 }
 
@@ -250,7 +198,7 @@ pub fn times(alloc: Global, decls: &Decls, c: &Contr) -> Result<Start, CheckErr>
     requires numbers { HasOnlyNumbers (contract c.now) }
     ensures { IsVerdict (declarations decls.now) Rule.Time (contract c.now) (λ start. IsStart (contract c.now) (start_day start)) result }
 {
-    match try_start(c, &TimeScope::Empty, PartDay { number: 0 }) {
+    match try_start(c, &Scope::Empty, PartDay { number: 0 }) {
         Ok(start) => Ok(start),
         Err(node) => Err(CheckErr::Refused {
             rule: Rule::Time,

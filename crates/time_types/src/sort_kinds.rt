@@ -4,7 +4,7 @@ ghost use Rattle.std.specs.Prelude.{◌≡◌};
 ghost use Rattle.term_core.specs.Declarations.{declarations};
 ghost use Rattle.term_core.specs.Environments.{label_of};
 ghost use Rattle.term_core.specs.Kinds.{kind_of_label};
-ghost use Rattle.time_types.specs.SortScopes.{sort_of};
+ghost use Rattle.time_types.specs.SortKinds.{sort_of};
 
 use term_core::{Decls, Label};
 
