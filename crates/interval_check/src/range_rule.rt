@@ -16,7 +16,7 @@ ghost use Rattle.interval_check.specs.RangeTrials.{operands, days_tried, day_tri
 
 use crate::intervals::Interval;
 use crate::quotients::divided;
-use crate::range_scopes::{RangeScope, range_at, range_observed};
+use crate::range_scopes::{range_at, range_observed};
 use crate::ranges::{
     Operands, Range, TRUTH, checked, combined, compared, either, is_same, negated, rounded, widened,
 };

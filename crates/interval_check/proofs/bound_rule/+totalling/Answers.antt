@@ -7,8 +7,8 @@ use Rattle.interval_check.specs.Totals.{total}
 use Rattle.interval_check.proofs.TotalScales.{let_scaled, product_scaled}
 use Rattle.interval_check.proofs.bound_rule.+totalling.Goals as goal
 
-pub total_of_let-total_after-requires : goal.total_of_let-total_after-requires
-total_of_let-total_after-requires t c =
+pub total_of_let-total_of-requires : goal.total_of_let-total_of-requires
+total_of_let-total_of-requires t c =
     (search rules, (search rules, let_scaled (declarations c.args.decls.now) _ (expression c.args.bound.now) (contract c.args.body.now) (ranges_in c.args.scope.now) (range c.in_ok-range.range) c.in_ok-range.ensures.range c.requires.scaled))
 
 pub total_of_scale-total_of_scaled-requires-clause-scale : goal.total_of_scale-total_of_scaled-requires-clause-scale

@@ -8,28 +8,22 @@ use Rattle.interval_check.specs.RangeTrials.{days_tried, day_tried, range_tried}
 use Rattle.interval_check.proofs.range_rule.+ranging.Given as goal
 
 abbrev pub decreases-range_of : goal.decreases-range_of
-decreases-range_of l = 5 * size-Expr l.e.now
-
-abbrev pub decreases-range_of_first : goal.decreases-range_of_first
-decreases-range_of_first l = 5 * size-Expr l.e.now + 1
-
-abbrev pub decreases-range_of_second : goal.decreases-range_of_second
-decreases-range_of_second l = 5 * size-Expr l.e.now + 1
+decreases-range_of l = 4 * size-Expr l.e.now
 
 abbrev pub decreases-ranges_of : goal.decreases-ranges_of
-decreases-ranges_of l = 5 * max (size-Expr l.left.now) (size-Expr l.right.now) + 2
+decreases-ranges_of l = 4 * max (size-Expr l.left.now) (size-Expr l.right.now) + 1
 
 abbrev pub decreases-ranges_after : goal.decreases-ranges_after
-decreases-ranges_after l = 5 * max (size-Expr l.left.now) (size-Expr l.right.now) + 3
+decreases-ranges_after l = 4 * max (size-Expr l.left.now) (size-Expr l.right.now) + 2
 
 abbrev pub decreases-range_of_day : goal.decreases-range_of_day
-decreases-range_of_day l = 5 * size-Expr l.body.now + 2
+decreases-range_of_day l = 4 * size-Expr l.body.now + 1
 
 abbrev pub decreases-range_of_acc : goal.decreases-range_of_acc
-decreases-range_of_acc l = 5 * max (size-Expr l.body.now) (size-Expr l.first.now) + 4
+decreases-range_of_acc l = 4 * max (size-Expr l.body.now) (size-Expr l.first.now) + 3
 
 abbrev pub decreases-accumulated : goal.decreases-accumulated
-decreases-accumulated l = 5 * size-Expr l.body.now + 3
+decreases-accumulated l = 4 * size-Expr l.body.now + 2
 
 abbrev pub invariant-accumulated-loop-day : goal.invariant-accumulated-loop-day
 invariant-accumulated-loop-day l = record {

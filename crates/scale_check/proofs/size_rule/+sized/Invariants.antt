@@ -3,19 +3,7 @@ use Rattle.term_core.specs.declared.terms.Contr.{size-Contr}
 use Rattle.scale_check.proofs.size_rule.+sized.Given as goal
 
 abbrev pub decreases-try_size : goal.decreases-try_size
-decreases-try_size l = 3 * size-Contr l.c.now
+decreases-try_size l = 2 * size-Contr l.c.now
 
 abbrev pub decreases-try_behind : goal.decreases-try_behind
-decreases-try_behind l = 3 * size-Contr l.c.now + 2
-
-abbrev pub decreases-try_first : goal.decreases-try_first
-decreases-try_first l = 3 * size-Contr l.c.now + 1
-
-abbrev pub decreases-try_after : goal.decreases-try_after
-decreases-try_after l = 3 * size-Contr l.c.now + 1
-
-abbrev pub decreases-try_after_contract : goal.decreases-try_after_contract
-decreases-try_after_contract l = 3 * size-Contr l.c.now + 1
-
-abbrev pub decreases-try_after_both : goal.decreases-try_after_both
-decreases-try_after_both l = 3 * size-Contr l.c.now + 2
+decreases-try_behind l = 2 * size-Contr l.c.now + 1
