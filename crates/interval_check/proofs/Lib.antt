@@ -31,6 +31,7 @@ pub mod OperatorFacts
 pub mod QuotientFacts
 pub mod RangeKinds
 pub mod Accumulation
+pub mod BehindFacts
 pub mod Places
 pub mod KindsFound
 pub mod RangeFacts

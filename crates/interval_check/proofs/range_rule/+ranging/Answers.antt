@@ -10,6 +10,7 @@ use Rattle.interval_check.specs.Ranges.{range}
 use Rattle.interval_check.specs.RangeScopes.{ranges_in}
 use Rattle.interval_check.specs.RangeTrials.{day_tried, range_tried, AreScaled}
 use Rattle.interval_check.proofs.Accumulation.{days_stop, days_stay}
+use Rattle.interval_check.proofs.BehindFacts.{range_behind}
 use Rattle.interval_check.proofs.Places.{err_below, nodes_above}
 use Rattle.interval_check.proofs.RangeKinds.{operands_scaled, body_scaled}
 use Rattle.interval_check.proofs.range_rule.+ranging.Goals as goal
@@ -39,7 +40,7 @@ range_of-combined-requires-clause-scale t c =
     (subst (λ (x : Expr). AreScaled d (Num c.in-Num.op (expression c.deref-in-Num.result.now) (expression x)) ks) (sym c.deref-in-Num-2.ensures) left)
 
 pub range_of_acc-accumulated-requires : goal.range_of_acc-accumulated-requires
-range_of_acc-accumulated-requires t c = (search rules, (search rules, (body_scaled (declarations c.args.decls.now) (expression c.args.body.now) c.args.days _ (expression c.args.first.now) (ranges_in c.args.scope.now) (range c.in_ok-start.start) c.in_ok-start.ensures.range c.requires.scaled, search rules)))
+range_of_acc-accumulated-requires t c = (search rules, (search rules, (body_scaled (declarations c.args.decls.now) (expression c.args.body.now) c.args.days _ (expression c.args.first.now) (ranges_in c.args.scope.now) (range c.in_ok-start.start) (range_behind _ c.range_of.result c.in_ok-start.start _ c.in_ok-start.ensures c.range_of.ensures.range) c.requires.scaled, search rules)))
 
 pub range_of-returns-in_ok-both-in-Div-clause-below : goal.range_of-returns-in_ok-both-in-Div-clause-below
 range_of-returns-in_ok-both-in-Div-clause-below t c = err_below c.divided.result (nodes (expression c.args.e.now)) c.divided.ensures.here (nodes_above (expression c.args.e.now))
