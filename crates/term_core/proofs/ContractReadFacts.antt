@@ -13,7 +13,7 @@ use Rattle.term_core.specs.declared.values.Value.{Value}
 use Rattle.term_core.specs.Terms.{Expression, Contract, Zero, Pay, Both, Scale, After, Let, Within}
 use Rattle.term_core.specs.Environments.{Environment, Place}
 use Rattle.term_core.specs.Kinds.{kind_of}
-use Rattle.term_core.specs.Values.{Entry, kinds, num, truth, kind_or, value_of, first_of, first_true}
+use Rattle.term_core.specs.Values.{Entry, kinds, num, truth, kind_or, value_of, entry_of, first_of, first_true}
 use Rattle.term_core.specs.Flows.{Flow, flow_of, count_of, unit_flow, on_day_zero, scale_of_contract}
 use Rattle.term_core.specs.Reads.{reads_of, reads_of_contract, live, upto, tested, up_to_first}
 use Rattle.term_core.proofs.FlowFacts.{flow_idle, differs, one_zero}
@@ -53,7 +53,7 @@ dead_before d (Scale e c) g env f a b h = dead_before d c g env f a b h
 dead_before d (After m c) g env f a b h =
     dead_before d c g env (f +ℤ pos (count_of m)) (a -ℤ pos (count_of m)) (b -ℤ pos (count_of m)) (omega (arith, ints))
 dead_before d (Let e c) g env f a b h =
-    dead_before d c (record { value = value_of d e g env f; kind = kind_or (kind_of d e (kinds g)) } ∷ g) env f a b h
+    dead_before d c (entry_of d e g env f ∷ g) env f a b h
 dead_before d (Within e m x y) g env f a b h =
     branch_false (first_true d e g env f (count_of m)) (λ k. live d x g env (f +ℤ pos k) (a -ℤ pos k) (b -ℤ pos k)) (live d y g env (f +ℤ pos (count_of m)) (a -ℤ pos (count_of m)) (b -ℤ pos (count_of m)))
     (λ k. dead_before d x g env (f +ℤ pos k) (a -ℤ pos k) (b -ℤ pos k) (omega (arith, ints)))
@@ -93,7 +93,7 @@ flow_dead d (Scale e c) g env f a b n w h low high =
 flow_dead d (After m c) g env f a b n w h low high =
     flow_dead d c g env (f +ℤ pos (count_of m)) (a -ℤ pos (count_of m)) (b -ℤ pos (count_of m)) (n -ℤ pos (count_of m)) w h (omega (arith, ints)) (omega (arith, ints))
 flow_dead d (Let e c) g env f a b n w h low high =
-    flow_dead d c (record { value = value_of d e g env f; kind = kind_or (kind_of d e (kinds g)) } ∷ g) env f a b n w h low high
+    flow_dead d c (entry_of d e g env f ∷ g) env f a b n w h low high
 flow_dead d (Within e m x y) g env f a b n w h low high =
     branch_dead (first_true d e g env f (count_of m)) (λ k. live d x g env (f +ℤ pos k) (a -ℤ pos k) (b -ℤ pos k)) (live d y g env (f +ℤ pos (count_of m)) (a -ℤ pos (count_of m)) (b -ℤ pos (count_of m))) _ _ _ _ h
     (λ k e. flow_dead d x g env (f +ℤ pos k) (a -ℤ pos k) (b -ℤ pos k) (n -ℤ pos k) w e (omega (arith, ints)) (omega (arith, ints)))

@@ -7,8 +7,7 @@ use Rattle.decimal.specs.Rounding.{raised}
 use Rattle.term_core.specs.Declarations.{Declarations}
 use Rattle.term_core.specs.Terms.{Contract, Zero, Pay, Both, Scale, After, Let, Within}
 use Rattle.term_core.specs.Environments.{Environment}
-use Rattle.term_core.specs.Kinds.{kind_of}
-use Rattle.term_core.specs.Values.{Entry, kinds, num, kind_or, value_of, first_of, first_true}
+use Rattle.term_core.specs.Values.{Entry, kinds, num, value_of, entry_of, first_of, first_true}
 use Rattle.term_core.specs.Flows.{Flow, flow_of, count_of, unit_flow, on_day_zero, scale_of_contract}
 use Rattle.term_core.specs.Horizons.{delayed, horizon_of}
 use Rattle.term_core.specs.LawsFlows.{reversed, AmountsAreOpposite, AmountsEndAtHorizon, AmountsBeginAtZero}
@@ -72,7 +71,7 @@ flow_opposite d (Scale e c) g env f n w =
     ap (λ (x : ℤ). num (value_of d e g env f) *ℤ x) (flow_opposite d c g env f n w) ∙ mul-neg (num (value_of d e g env f)) (flow_of d c g env f n w)
 flow_opposite d (After m c) g env f n w = flow_opposite d c g env (f +ℤ pos (count_of m)) (n -ℤ pos (count_of m)) w
 flow_opposite d (Let e c) g env f n w =
-    flow_opposite d c (record { value = value_of d e g env f; kind = kind_or (kind_of d e (kinds g)) } ∷ g) env f n w
+    flow_opposite d c (entry_of d e g env f ∷ g) env f n w
 flow_opposite d (Within e m a b) g env f n w =
     let i = scale_of_contract d a (kinds g) in
     let j = scale_of_contract d b (kinds g) in
@@ -143,7 +142,7 @@ flow_idle d (Scale e c) g env f n w h =
     ap (λ (x : ℤ). num (value_of d e g env f) *ℤ x) (flow_idle d c g env f n w h) ∙ *ℤ-zero (num (value_of d e g env f))
 flow_idle d (After m c) g env f n w h = flow_idle d c g env (f +ℤ pos (count_of m)) (n -ℤ pos (count_of m)) w (idle_sooner n (count_of m) (count_of m) (horizon_of c) (omega arith) h)
 flow_idle d (Let e c) g env f n w h =
-    flow_idle d c (record { value = value_of d e g env f; kind = kind_or (kind_of d e (kinds g)) } ∷ g) env f n w h
+    flow_idle d c (entry_of d e g env f ∷ g) env f n w h
 flow_idle d (Within e m a b) g env f n w h =
     let i = scale_of_contract d a (kinds g) in
     let j = scale_of_contract d b (kinds g) in

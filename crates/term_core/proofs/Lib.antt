@@ -8,6 +8,7 @@ pub mod InstanceFacts
 pub mod BoundTrials
 pub mod DateTextFacts
 pub mod FlowFacts
+pub mod Products
 pub mod AlikeFacts
 pub mod ReadFacts
 pub mod FirstFacts

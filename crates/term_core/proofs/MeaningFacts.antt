@@ -12,7 +12,7 @@ use Rattle.term_core.specs.Terms.{Expression, Lit, Yes, Var, Obs, Neg, Num, Cmp,
 use Rattle.term_core.specs.Terms.{Contract, Zero, Pay, Both, Scale, After, Let, Within}
 use Rattle.term_core.specs.Environments.{Environment, Place, label_of, held, least, value_or}
 use Rattle.term_core.specs.Kinds.{kind_of, kind_of_label, on_number, on_numbers, on_truth, joined, scale_of, scale_of_op, scale_of_kind, scale_or_zero}
-use Rattle.term_core.specs.Values.{Entry, kinds, num, truth, of_num, of_cmp, logic_op, widened, days_run, kind_or, value_of, first_of, first_true}
+use Rattle.term_core.specs.Values.{Entry, kinds, num, truth, of_num, of_cmp, logic_op, widened, days_run, kind_or, value_of, entry_of, first_of, first_true}
 use Rattle.term_core.specs.Flows.{Flow, flow_of, amount_of, count_of, scale_of_contract}
 use Rattle.term_core.specs.Reads.{reads_of, reads_of_contract, live, steps_before, upto, tested, decides}
 use Rattle.term_core.specs.LawsDeclarations.{MeanTheSame, DeclarationsGiveMeaning}
@@ -133,11 +133,8 @@ same_first (suc n) p q h = ap₂ (λ (u : Option ℕ) (b : Bool). or_day u (suc 
 first_same : (d o : Declarations) → MeanTheSame d o → (e : Expression) (g : List Entry) (env : Environment) (f : ℤ) (n : ℕ) → first_true d e g env f n ≡ first_true o e g env f n
 first_same d o s e g env f n = same_first n _ _ (λ i. ap truth (value_same d o s e g env (f +ℤ pos i)))
 
-abbrev named : Declarations → Expression → List Entry → Environment → ℤ → Entry
-named d e g env f = record { value = value_of d e g env f; kind = kind_or (kind_of d e (kinds g)) }
-
-named_same : (d o : Declarations) → MeanTheSame d o → (e : Expression) (g : List Entry) (env : Environment) (f : ℤ) → named d e g env f ≡ named o e g env f
-named_same d o s e g env f =
+entry_same : (d o : Declarations) → MeanTheSame d o → (e : Expression) (g : List Entry) (env : Environment) (f : ℤ) → entry_of d e g env f ≡ entry_of o e g env f
+entry_same d o s e g env f =
     let entry : Value → Option Kind → Entry = λ v u. record { value = v; kind = kind_or u } in
     ap₂ entry (value_same d o s e g env f) (kind_same d o s e (kinds g))
 
@@ -165,7 +162,7 @@ flow_same d o s (Both a b) g env f n w =
 flow_same d o s (Scale e c) g env f n w = ap₂ (λ (v : Value) (x : ℤ). num v *ℤ x) (value_same d o s e g env f) (flow_same d o s c g env f n w)
 flow_same d o s (After m c) g env f n w = flow_same d o s c g env (f +ℤ pos (count_of m)) (n -ℤ pos (count_of m)) w
 flow_same d o s (Let e c) g env f n w =
-    flow_same d o s c (named d e g env f ∷ g) env f n w ∙ ap (λ (x : Entry). flow_of o c (x ∷ g) env f n w) (named_same d o s e g env f)
+    flow_same d o s c (entry_of d e g env f ∷ g) env f n w ∙ ap (λ (x : Entry). flow_of o c (x ∷ g) env f n w) (entry_same d o s e g env f)
 flow_same d o s (Within e m a b) g env f n w =
     same_branch (first_true d e g env f (count_of m)) (first_true o e g env f (count_of m)) _ _ _ _ (first_same d o s e g env f (count_of m))
     (λ k. raised_same _ _ _ _ _ _ (flow_same d o s a g env (f +ℤ pos k) (n -ℤ pos k) w) (contract_scale_same d o s a (kinds g)) (contract_scale_same d o s b (kinds g)))
@@ -181,7 +178,7 @@ live_same d o s (Both x y) g env f a b = ap₂ (λ (t u : Bool). t || u) (live_s
 live_same d o s (Scale e c) g env f a b = live_same d o s c g env f a b
 live_same d o s (After m c) g env f a b = live_same d o s c g env (f +ℤ pos (count_of m)) (a -ℤ pos (count_of m)) (b -ℤ pos (count_of m))
 live_same d o s (Let e c) g env f a b =
-    live_same d o s c (named d e g env f ∷ g) env f a b ∙ ap (λ (x : Entry). live o c (x ∷ g) env f a b) (named_same d o s e g env f)
+    live_same d o s c (entry_of d e g env f ∷ g) env f a b ∙ ap (λ (x : Entry). live o c (x ∷ g) env f a b) (entry_same d o s e g env f)
 live_same d o s (Within e m x y) g env f a b =
     same_branch (first_true d e g env f (count_of m)) (first_true o e g env f (count_of m)) _ _ _ _ (first_same d o s e g env f (count_of m))
     (λ k. live_same d o s x g env (f +ℤ pos k) (a -ℤ pos k) (b -ℤ pos k))
@@ -196,8 +193,8 @@ contract_reads_same d o s (Scale e c) g bs env f a b =
 contract_reads_same d o s (After m c) g bs env f a b =
     contract_reads_same d o s c g bs env (f +ℤ pos (count_of m)) (a -ℤ pos (count_of m)) (b -ℤ pos (count_of m))
 contract_reads_same d o s (Let e c) g bs env f a b =
-    contract_reads_same d o s c (named d e g env f ∷ g) (reads_of d e g bs env f ∷ bs) env f a b
-    ∙ ap₂ (λ (x : Entry) (ps : List Place). reads_of_contract o c (x ∷ g) (ps ∷ bs) env f a b) (named_same d o s e g env f) (reads_same d o s e g bs env f)
+    contract_reads_same d o s c (entry_of d e g env f ∷ g) (reads_of d e g bs env f ∷ bs) env f a b
+    ∙ ap₂ (λ (x : Entry) (ps : List Place). reads_of_contract o c (x ∷ g) (ps ∷ bs) env f a b) (entry_same d o s e g env f) (reads_same d o s e g bs env f)
 contract_reads_same d o s (Within e m x y) g bs env f a b =
     let n = count_of m in
     let test : Declarations → ℕ → List Place = λ r i. reads_of r e g bs env (f +ℤ pos i) in

@@ -2,10 +2,9 @@
 use Rattle.std.proofs.Common.{◌≡◌, ℕ, zero, suc, ℤ, pos, ◌+ℤ◌, ◌-ℤ◌, ◌≤ℤ◌, ◌<ℤ◌, ◌≤◌, Bool, true, false, ◌&&◌, ◌||◌, not, ◌==◌, if◌then◌else◌, int_lt, Option, Some, None, List, [], ◌∷◌, ◌++◌, refl, ap, subst, sym, inl, inr, arith, eq-or-lt_of_le}
 use Rattle.std.proofs.lemmas.Int.{ints, by_lt_z}
 use Rattle.term_core.specs.Declarations.{Declarations}
-use Rattle.term_core.specs.Terms.{Expression, Contract, Zero, Pay, Both, Scale, After, Let, Within}
+use Rattle.term_core.specs.Terms.{Contract, Zero, Pay, Both, Scale, After, Let, Within}
 use Rattle.term_core.specs.Environments.{Environment, Place}
-use Rattle.term_core.specs.Kinds.{kind_of}
-use Rattle.term_core.specs.Values.{Entry, kinds, kind_or, value_of, first_true}
+use Rattle.term_core.specs.Values.{Entry, entry_of, first_true}
 use Rattle.term_core.specs.Flows.{count_of}
 use Rattle.term_core.specs.Reads.{reads_of, reads_of_contract, live, steps_before, upto, tested}
 use Rattle.term_core.specs.Sublists.{IsSublist}
@@ -84,9 +83,6 @@ branch_only : (o : Option ℕ) (x y : ℕ → Bool) (u v : Bool) → ((k : ℕ) 
 branch_only (Some k) x y u v h e = h k
 branch_only None x y u v h e = e
 
-abbrev with_name : Declarations → Expression → List Entry → Environment → ℤ → List Entry
-with_name d e g env f = record { value = value_of d e g env f; kind = kind_or (kind_of d e (kinds g)) } ∷ g
-
 live_grows : (d : Declarations) (c : Contract) (g : List Entry) (env : Environment) (f a b s t : ℤ) → s ≤ℤ a → b ≤ℤ t → OnlyIf (live d c g env f a b) (live d c g env f s t)
 live_grows d Zero g env f a b s t le le' = λ e. e
 live_grows d (Pay x p q) g env f a b s t le le' =
@@ -96,7 +92,7 @@ live_grows d (Both x y) g env f a b s t le le' =
 live_grows d (Scale e c) g env f a b s t le le' = live_grows d c g env f a b s t le le'
 live_grows d (After m c) g env f a b s t le le' =
     live_grows d c g env (f +ℤ pos (count_of m)) (a -ℤ pos (count_of m)) (b -ℤ pos (count_of m)) (s -ℤ pos (count_of m)) (t -ℤ pos (count_of m)) (omega (arith, ints)) (omega (arith, ints))
-live_grows d (Let e c) g env f a b s t le le' = live_grows d c (with_name d e g env f) env f a b s t le le'
+live_grows d (Let e c) g env f a b s t le le' = live_grows d c (entry_of d e g env f ∷ g) env f a b s t le le'
 live_grows d (Within e m x y) g env f a b s t le le' =
     branch_only (first_true d e g env f (count_of m)) (λ k. live d x g env (f +ℤ pos k) (a -ℤ pos k) (b -ℤ pos k)) (λ k. live d x g env (f +ℤ pos k) (s -ℤ pos k) (t -ℤ pos k)) _ _
     (λ k. live_grows d x g env (f +ℤ pos k) (a -ℤ pos k) (b -ℤ pos k) (s -ℤ pos k) (t -ℤ pos k) (omega (arith, ints)) (omega (arith, ints)))
@@ -143,7 +139,7 @@ reads_grow d (Scale e c) g bs env f a b s t le le' =
     (where_more (live d c g env f a b) (live d c g env f s t) (reads_of d e g bs env f) (live_grows d c g env f a b s t le le'))
 reads_grow d (After m c) g bs env f a b s t le le' =
     reads_grow d c g bs env (f +ℤ pos (count_of m)) (a -ℤ pos (count_of m)) (b -ℤ pos (count_of m)) (s -ℤ pos (count_of m)) (t -ℤ pos (count_of m)) (omega (arith, ints)) (omega (arith, ints))
-reads_grow d (Let e c) g bs env f a b s t le le' = reads_grow d c (with_name d e g env f) (reads_of d e g bs env f ∷ bs) env f a b s t le le'
+reads_grow d (Let e c) g bs env f a b s t le le' = reads_grow d c (entry_of d e g env f ∷ g) (reads_of d e g bs env f ∷ bs) env f a b s t le le'
 reads_grow d (Within e m x y) g bs env f a b s t le le' =
     let n = count_of m in
     let first = first_true d e g env f n in

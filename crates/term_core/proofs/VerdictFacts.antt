@@ -16,7 +16,7 @@ use Rattle.term_core.specs.Flows.{scale_of_contract}
 use Rattle.term_core.specs.Sites.{Layer, Naming, Counting, Later, Earlier, Undated, Site, Part, OfExpression, OfContract, kinds_round, AllPass, FirstFault, sites}
 use Rattle.term_core.specs.Sorts.{is_number, is_truth, part_is_sorted}
 use Rattle.term_core.specs.Scales.{greatest_scale, part_is_scaled, parts_are_scaled}
-use Rattle.term_core.specs.Bounds.{Interval, Range, range_kinds, lifted, swapped, hull, corners, aligned, of_op, interval_of_label, stepped, interval_of, ranges_round, fits, fit_aligned, fit_operands, fit_divided, operands_fit, greatest_size, total_of, aligned_total, greatest_total, part_is_bounded, is_bounded}
+use Rattle.term_core.specs.Bounds.{Interval, Range, range_kinds, lifted, swapped, hull, corners, aligned, of_op, interval_of_label, stepped, interval_of, range_of, range_after, ranges_round, fits, fit_aligned, fit_operands, fit_divided, operands_fit, greatest_size, total_of, aligned_total, greatest_total, part_is_bounded, is_bounded}
 use Rattle.term_core.specs.Acceptance.{Passes, trial_of, Meets, FailsAt, IsRefusal}
 use Rattle.term_core.specs.Residuals.{Carries}
 use Rattle.term_core.specs.LawsDeclarations.{MeanTheSame, DeclarationsGiveVerdicts}
@@ -54,11 +54,8 @@ interval_same d o s (Acc body n first) g =
     let rs : List Range = record { interval = i; kind = kind } ∷ g in
     ap₂ (λ (j : ℕ) (x : Interval). lifted (λ m. raised m (scale_of_kind kind - j)) x) (scale_same d o s body (kind ∷ ks)) (interval_same d o s body rs))
 
-abbrev named : Declarations → Expression → List Range → Range
-named d e g = record { interval = interval_of d e g; kind = kind_or (kind_of d e (range_kinds g)) }
-
-named_same : (d o : Declarations) → MeanTheSame d o → (e : Expression) (g : List Range) → named d e g ≡ named o e g
-named_same d o s e g =
+range_same : (d o : Declarations) → MeanTheSame d o → (e : Expression) (g : List Range) → range_of d e g ≡ range_of o e g
+range_same d o s e g =
     let range : Interval → Option Kind → Range = λ i u. record { interval = i; kind = kind_or u } in
     ap₂ range (interval_same d o s e g) (kind_same d o s e (range_kinds g))
 
@@ -69,7 +66,7 @@ total_same d o s (Both a b) g =
     four (λ i x j y. x * 10 ^ (max i j - i) + y * 10 ^ (max i j - j)) _ _ _ _ _ _ _ _ (contract_scale_same d o s a (range_kinds g)) (total_same d o s a g) (contract_scale_same d o s b (range_kinds g)) (total_same d o s b g)
 total_same d o s (Scale e c) g = ap₂ (λ (t : ℕ) (i : Interval). t * greatest_size i) (total_same d o s c g) (interval_same d o s e g)
 total_same d o s (After n c) g = total_same d o s c g
-total_same d o s (Let e c) g = total_same d o s c (named d e g ∷ g) ∙ ap (λ (r : Range). total_of o c (r ∷ g)) (named_same d o s e g)
+total_same d o s (Let e c) g = total_same d o s c (range_of d e g ∷ g) ∙ ap (λ (r : Range). total_of o c (r ∷ g)) (range_same d o s e g)
 total_same d o s (Within e n a b) g =
     four (λ i x j y. max (x * 10 ^ (max i j - i)) (y * 10 ^ (max i j - j))) _ _ _ _ _ _ _ _ (contract_scale_same d o s a (range_kinds g)) (total_same d o s a g) (contract_scale_same d o s b (range_kinds g)) (total_same d o s b g)
 
@@ -89,20 +86,17 @@ kinds_same d o s (Later n ∷ r) = kinds_same d o s r
 kinds_same d o s (Earlier n ∷ r) = kinds_same d o s r
 kinds_same d o s (Undated ∷ r) = kinds_same d o s r
 
-abbrev counted : Declarations → Expression → ℕ → Expression → List Range → Range
-counted d body n first g = record { interval = interval_of d (Acc body n first) g; kind = kind_or (kind_of d first (range_kinds g)) }
-
-counted_same : (d o : Declarations) → MeanTheSame d o → (body : Expression) (n : ℕ) (first : Expression) (g : List Range) → counted d body n first g ≡ counted o body n first g
-counted_same d o s body n first g =
+range_after_same : (d o : Declarations) → MeanTheSame d o → (body : Expression) (n : ℕ) (first : Expression) (g : List Range) → range_after d body n first g ≡ range_after o body n first g
+range_after_same d o s body n first g =
     let range : Interval → Option Kind → Range = λ i u. record { interval = i; kind = kind_or u } in
     ap₂ range (interval_same d o s (Acc body n first) g) (kind_same d o s first (range_kinds g))
 
 ranges_same : (d o : Declarations) → MeanTheSame d o → (r : List Layer) → ranges_round d r ≡ ranges_round o r
 ranges_same d o s [] = refl
 ranges_same d o s (Naming e ∷ r) =
-    ap (λ (g : List Range). named d e g ∷ g) (ranges_same d o s r) ∙ ap (λ (x : Range). x ∷ ranges_round o r) (named_same d o s e (ranges_round o r))
+    ap (λ (g : List Range). range_of d e g ∷ g) (ranges_same d o s r) ∙ ap (λ (x : Range). x ∷ ranges_round o r) (range_same d o s e (ranges_round o r))
 ranges_same d o s (Counting body n first ∷ r) =
-    ap (λ (g : List Range). counted d body n first g ∷ g) (ranges_same d o s r) ∙ ap (λ (x : Range). x ∷ ranges_round o r) (counted_same d o s body n first (ranges_round o r))
+    ap (λ (g : List Range). range_after d body n first g ∷ g) (ranges_same d o s r) ∙ ap (λ (x : Range). x ∷ ranges_round o r) (range_after_same d o s body n first (ranges_round o r))
 ranges_same d o s (Later n ∷ r) = ranges_same d o s r
 ranges_same d o s (Earlier n ∷ r) = ranges_same d o s r
 ranges_same d o s (Undated ∷ r) = ranges_same d o s r

@@ -22,11 +22,17 @@ around (Some n) = Some (n - 1)
 abbrev pub is_offset : ℤ → Bool
 is_offset t = int_le (neg_ℤ (pos 1_000_000)) t && int_le t (pos 1_000_000)
 
+abbrev pub is_observable : Declarations → ℕ → ℤ → Bool
+is_observable d l t = nat_lt l (length d.labels) && is_offset t
+
+abbrev pub is_transfer : Declarations → ℕ → ℕ → ℕ → Bool
+is_transfer d a p q = nat_lt a (length d.assets) && (nat_lt p (length d.parties) && nat_lt q (length d.parties))
+
 abbrev pub wanted : Declarations → Expression → Option ℕ
 wanted d (Lit m s) = Some 0
 wanted d (Yes b) = Some 0
 wanted d (Var back) = Some (back + 1)
-wanted d (Obs l t) = if_declared (nat_lt l (length d.labels) && is_offset t) (Some 0)
+wanted d (Obs l t) = if_declared (is_observable d l t) (Some 0)
 wanted d (Neg e) = wanted d e
 wanted d (Num op a b) = more_of (wanted d a) (wanted d b)
 wanted d (Cmp op a b) = more_of (wanted d a) (wanted d b)
@@ -44,8 +50,7 @@ is_declared d (Named t) = nat_lt t (length d.templates)
 
 abbrev pub wanted_by_contract : Declarations → Contract → Option ℕ
 wanted_by_contract d Zero = Some 0
-wanted_by_contract d (Pay a p q) =
-    if_declared (nat_lt a (length d.assets) && (nat_lt p (length d.parties) && nat_lt q (length d.parties))) (Some 0)
+wanted_by_contract d (Pay a p q) = if_declared (is_transfer d a p q) (Some 0)
 wanted_by_contract d (Both a b) = more_of (wanted_by_contract d a) (wanted_by_contract d b)
 wanted_by_contract d (Scale e c) = more_of (wanted d e) (wanted_by_contract d c)
 wanted_by_contract d (After n c) = if_declared (is_declared d n) (wanted_by_contract d c)

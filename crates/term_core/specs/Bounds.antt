@@ -85,7 +85,8 @@ interval_of d (Yes b) g = single (pos 0)
 interval_of d (Var back) g = interval_of_range (slice_get g back)
 interval_of d (Obs l t) g = interval_of_label (label_of d l)
 interval_of d (Neg e) g = lifted neg_ℤ (swapped (interval_of d e g))
-interval_of d (Num op a b) g = of_op op (scale_of d a (range_kinds g)) (interval_of d a g) (scale_of d b (range_kinds g)) (interval_of d b g)
+interval_of d (Num op a b) g =
+    of_op op (scale_of d a (range_kinds g)) (interval_of d a g) (scale_of d b (range_kinds g)) (interval_of d b g)
 interval_of d (Cmp op a b) g = single (pos 0)
 interval_of d (Not e) g = single (pos 0)
 interval_of d (Logic op a b) g = single (pos 0)
@@ -96,19 +97,30 @@ interval_of d (Cond t a b) g =
 interval_of d (Widen s e) g = lifted (λ m. raised m (s - scale_of d e (range_kinds g))) (interval_of d e g)
 interval_of d (Round mode s e) g = lifted (λ m. at_scale mode m (scale_of d e (range_kinds g)) s) (interval_of d e g)
 interval_of d (Div mode s a b) g =
-    corners (λ x y. divided mode x (scale_of d a (range_kinds g)) y (scale_of d b (range_kinds g)) s) (interval_of d a g) (interval_of d b g)
+    let i = scale_of d a (range_kinds g) in
+    let j = scale_of d b (range_kinds g) in
+    corners (λ x y. divided mode x i y j s) (interval_of d a g) (interval_of d b g)
 interval_of d (Acc body n first) g =
     let k = kind_or (kind_of d first (range_kinds g)) in
-    stepped n (λ i. lifted (λ m. raised m (scale_of_kind k - scale_of d body (k ∷ range_kinds g))) (interval_of d body (record { interval = i; kind = k } ∷ g))) (interval_of d first g)
+    let more = scale_of_kind k - scale_of d body (k ∷ range_kinds g) in
+    let next : Interval → Interval = λ i. interval_of d body (record { interval = i; kind = k } ∷ g) in
+    stepped n (λ i. lifted (λ m. raised m more) (next i)) (interval_of d first g)
+
+-- what a name that is bound to an expression has
+abbrev pub range_of : Declarations → Expression → List Range → Range
+range_of d e g = record { interval = interval_of d e g; kind = kind_or (kind_of d e (range_kinds g)) }
+
+-- what the name of an accumulator has in its body, after some days
+abbrev pub range_after : Declarations → Expression → ℕ → Expression → List Range → Range
+range_after d body i first g =
+    record { interval = interval_of d (Acc body i first) g; kind = kind_or (kind_of d first (range_kinds g)) }
 
 -- the ranges of the names that stand round a node; in an accumulator's body the name has the interval of the value
 -- after the days before
 abbrev pub ranges_round : Declarations → List Layer → List Range
 ranges_round d [] = []
-ranges_round d (Naming e ∷ r) =
-    record { interval = interval_of d e (ranges_round d r); kind = kind_or (kind_of d e (range_kinds (ranges_round d r))) } ∷ ranges_round d r
-ranges_round d (Counting body n first ∷ r) =
-    record { interval = interval_of d (Acc body n first) (ranges_round d r); kind = kind_or (kind_of d first (range_kinds (ranges_round d r))) } ∷ ranges_round d r
+ranges_round d (Naming e ∷ r) = range_of d e (ranges_round d r) ∷ ranges_round d r
+ranges_round d (Counting body n first ∷ r) = range_after d body n first (ranges_round d r) ∷ ranges_round d r
 ranges_round d (Later n ∷ r) = ranges_round d r
 ranges_round d (Earlier n ∷ r) = ranges_round d r
 ranges_round d (Undated ∷ r) = ranges_round d r
@@ -133,14 +145,22 @@ has_zero i = not (int_lt (pos 0) i.low) && not (int_lt i.high (pos 0))
 -- ten by which one of the two is multiplied is at most 10^37, and so is the outcome
 abbrev pub fit_divided : ℕ → Interval → ℕ → Interval → ℕ → Bool
 fit_divided a i b j s =
-    not (has_zero j) && (nat_le (s + b) (a + 37) && (nat_le a (s + b + 37) && (fits (lifted (λ m. raised m (s + b - a)) i) && fits (lifted (λ m. raised m (a - (s + b))) j))))
+    not (has_zero j)
+    && (nat_le (s + b) (a + 37)
+    && (nat_le a (s + b + 37)
+    && (fits (lifted (λ m. raised m (s + b - a)) i)
+    && fits (lifted (λ m. raised m (a - (s + b))) j))))
 
 -- what an operator asks of the intervals of its operands
 abbrev pub operands_fit : Declarations → List Range → Expression → Bool
-operands_fit d g (Num op a b) = fit_operands op (scale_of d a (range_kinds g)) (interval_of d a g) (scale_of d b (range_kinds g)) (interval_of d b g)
-operands_fit d g (Cmp op a b) = fit_aligned (scale_of d a (range_kinds g)) (interval_of d a g) (scale_of d b (range_kinds g)) (interval_of d b g)
-operands_fit d g (Cond t a b) = fit_aligned (scale_of d a (range_kinds g)) (interval_of d a g) (scale_of d b (range_kinds g)) (interval_of d b g)
-operands_fit d g (Div mode s a b) = fit_divided (scale_of d a (range_kinds g)) (interval_of d a g) (scale_of d b (range_kinds g)) (interval_of d b g) s
+operands_fit d g (Num op a b) =
+    fit_operands op (scale_of d a (range_kinds g)) (interval_of d a g) (scale_of d b (range_kinds g)) (interval_of d b g)
+operands_fit d g (Cmp op a b) =
+    fit_aligned (scale_of d a (range_kinds g)) (interval_of d a g) (scale_of d b (range_kinds g)) (interval_of d b g)
+operands_fit d g (Cond t a b) =
+    fit_aligned (scale_of d a (range_kinds g)) (interval_of d a g) (scale_of d b (range_kinds g)) (interval_of d b g)
+operands_fit d g (Div mode s a b) =
+    fit_divided (scale_of d a (range_kinds g)) (interval_of d a g) (scale_of d b (range_kinds g)) (interval_of d b g) s
 operands_fit d g _ = true
 
 -- the greatest size in an interval
@@ -157,8 +177,7 @@ total_of d (Both a b) g =
     total_of d a g * 10 ^ (max i j - i) + total_of d b g * 10 ^ (max i j - j)
 total_of d (Scale e c) g = total_of d c g * greatest_size (interval_of d e g)
 total_of d (After n c) g = total_of d c g
-total_of d (Let e c) g =
-    total_of d c (record { interval = interval_of d e g; kind = kind_or (kind_of d e (range_kinds g)) } ∷ g)
+total_of d (Let e c) g = total_of d c (range_of d e g ∷ g)
 total_of d (Within e n a b) g =
     let i = scale_of_contract d a (range_kinds g) in
     let j = scale_of_contract d b (range_kinds g) in

@@ -37,7 +37,10 @@ parts_of _ = None
 
 -- the calendar has the day, in a year from 1 on
 abbrev pub is_civil : Parts → Bool
-is_civil p = nat_le 1 p.year && (nat_le 1 p.month && (nat_le p.month 12 && (nat_le 1 p.day && nat_le p.day (days_in_month (pos p.year) p.month))))
+is_civil p =
+    nat_le 1 p.year
+    && (nat_le 1 p.month && (nat_le p.month 12
+    && (nat_le 1 p.day && nat_le p.day (days_in_month (pos p.year) p.month))))
 
 abbrev pub day_of : Parts → Option ℤ
 day_of p = if is_civil p then Some (days_from_civil (pos p.year) p.month p.day) else None

@@ -17,4 +17,12 @@ pub record Declarations : Type 0 where
 -- what the program's declarations stand for
 abbrev pub declarations : Decls → Declarations
 declarations d =
-    record { amounts = d.amounts; origin = d.origin; start = d.start; parties = d.parties.keys; assets = d.assets.keys; labels = d.labels.entries; templates = d.templates.entries }
+    record {
+      amounts = d.amounts;
+      origin = d.origin;
+      start = d.start;
+      parties = d.parties.keys;
+      assets = d.assets.keys;
+      labels = d.labels.entries;
+      templates = d.templates.entries;
+    }

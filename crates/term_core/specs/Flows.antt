@@ -10,7 +10,7 @@ use Rattle.term_core.specs.declared.values.Kind.{Kind}
 use Rattle.term_core.specs.Terms.{Contract, Zero, Pay, Both, Scale, After, Let, Within}
 use Rattle.term_core.specs.Environments.{Environment}
 use Rattle.term_core.specs.Kinds.{kind_of, scale_of}
-use Rattle.term_core.specs.Values.{Entry, kinds, num, kind_or, value_of, first_true}
+use Rattle.term_core.specs.Values.{Entry, kinds, num, kind_or, value_of, entry_of, first_true}
 
 -- the number of a day count. A name of a template has none: the model speaks of contracts at a setting
 abbrev pub count_of : Days → ℕ
@@ -36,7 +36,9 @@ pub record Flow : Type 0 where
 -- one unit of a from p to q
 abbrev pub unit_flow : ℕ → ℕ → ℕ → Flow → ℤ
 unit_flow a p q w =
-    if (a == w.asset) && not (p == q) then (if (p == w.from) && (q == w.to) then pos 1 else (if (p == w.to) && (q == w.from) then neg_ℤ (pos 1) else pos 0)) else pos 0
+    let there = (p == w.from) && (q == w.to) in
+    let back = (p == w.to) && (q == w.from) in
+    if (a == w.asset) && not (p == q) then (if there then pos 1 else (if back then neg_ℤ (pos 1) else pos 0)) else pos 0
 
 abbrev pub on_day_zero : ℤ → ℤ → ℤ
 on_day_zero n x = if int_eq n (pos 0) then x else pos 0
@@ -51,8 +53,7 @@ flow_of d (Both a b) g env f n w =
     raised (flow_of d a g env f n w) (max i j - i) +ℤ raised (flow_of d b g env f n w) (max i j - j)
 flow_of d (Scale e c) g env f n w = num (value_of d e g env f) *ℤ flow_of d c g env f n w
 flow_of d (After m c) g env f n w = flow_of d c g env (f +ℤ pos (count_of m)) (n -ℤ pos (count_of m)) w
-flow_of d (Let e c) g env f n w =
-    flow_of d c (record { value = value_of d e g env f; kind = kind_or (kind_of d e (kinds g)) } ∷ g) env f n w
+flow_of d (Let e c) g env f n w = flow_of d c (entry_of d e g env f ∷ g) env f n w
 flow_of d (Within e m a b) g env f n w =
     let i = scale_of_contract d a (kinds g) in
     let j = scale_of_contract d b (kinds g) in

@@ -22,10 +22,12 @@ pub record MeanTheSame (d other : Declarations) : Type 0 where
 pub record HasOneMeaning (d other : Declarations) : Type 0 where
   pub kinds : (e : Expression) (ks : List Kind) → kind_of d e ks ≡ kind_of other e ks
   pub values : (e : Expression) (g : List Entry) (env : Environment) (f : ℤ) → value_of d e g env f ≡ value_of other e g env f
-  pub reads : (e : Expression) (g : List Entry) (bs : List (List Place)) (env : Environment) (f : ℤ) → reads_of d e g bs env f ≡ reads_of other e g bs env f
+  pub reads : (e : Expression) (g : List Entry) (bs : List (List Place)) (env : Environment) (f : ℤ)
+      → reads_of d e g bs env f ≡ reads_of other e g bs env f
   pub scales : (c : Contract) (ks : List Kind) → scale_of_contract d c ks ≡ scale_of_contract other c ks
   pub amounts : (c : Contract) (env : Environment) (f n : ℤ) (w : Flow) → amount_of d c env f n w ≡ amount_of other c env f n w
-  pub reads_of_contracts : (c : Contract) (g : List Entry) (bs : List (List Place)) (env : Environment) (f a b : ℤ) → reads_of_contract d c g bs env f a b ≡ reads_of_contract other c g bs env f a b
+  pub reads_of_contracts : (c : Contract) (g : List Entry) (bs : List (List Place)) (env : Environment) (f a b : ℤ)
+      → reads_of_contract d c g bs env f a b ≡ reads_of_contract other c g bs env f a b
 
 abbrev pub DeclarationsGiveMeaning : Type 0
 DeclarationsGiveMeaning = (d other : Declarations) → MeanTheSame d other → HasOneMeaning d other
@@ -35,7 +37,8 @@ pub record HasOneVerdict (d other : Declarations) : Type 0 where
   pub accepted : (c : Contract) → IsAccepted d c → IsAccepted other c
   pub facts : (c : Contract) (facts : Facts) → AreFacts d c facts → AreFacts other c facts
   pub refused : (c : Contract) (rule : Rule) (k : ℕ) → IsRefusal d c rule k → IsRefusal other c rule k
-  pub carried : (c : Contract) (f : ℤ) (fixings : Environment) (m : ℕ) (rest : Contract) → Carries d c f fixings m rest → Carries other c f fixings m rest
+  pub carried : (c : Contract) (f : ℤ) (fixings : Environment) (m : ℕ) (rest : Contract)
+      → Carries d c f fixings m rest → Carries other c f fixings m rest
 
 abbrev pub DeclarationsGiveVerdicts : Type 0
 DeclarationsGiveVerdicts = (d other : Declarations) → MeanTheSame d other → HasOneVerdict d other

@@ -15,7 +15,8 @@ reversed w = record { from = w.to; to = w.from; asset = w.asset }
 -- the amount from q to p is the negative of that from p to q
 abbrev pub AmountsAreOpposite : Type 0
 AmountsAreOpposite =
-    (d : Declarations) (c : Contract) (env : Environment) (f n : ℤ) (w : Flow) → amount_of d c env f n (reversed w) ≡ neg_ℤ (amount_of d c env f n w)
+    (d : Declarations) (c : Contract) (env : Environment) (f n : ℤ) (w : Flow)
+    → amount_of d c env f n (reversed w) ≡ neg_ℤ (amount_of d c env f n w)
 
 -- the amount is 0 on every own day at or after the horizon
 abbrev pub AmountsEndAtHorizon : Type 0

@@ -11,12 +11,16 @@ use Rattle.term_core.specs.Flows.{Flow, amount_of}
 use Rattle.term_core.specs.Reads.{places_or, reads_of, reads_of_contract, is_fixed, first_unfixed, up_to_first}
 use Rattle.term_core.specs.Sublists.{IsSublist}
 
+-- two lists of places are one, up to and with the first place that the fixings do not hold
+abbrev pub AgreeUpToUnfixed : Environment → List Place → List Place → Type 0
+AgreeUpToUnfixed fixings ps qs = up_to_first (is_fixed fixings) ps ≡ up_to_first (is_fixed fixings) qs
+
 -- up to and with the first place that the fixings do not hold, a contract reads in every environment that extends them
 -- the places that it reads in the fixings alone
 abbrev pub ReadsStayUpToUnfixed : Type 0
 ReadsStayUpToUnfixed =
     (d : Declarations) (c : Contract) (fixings env : Environment) (f a b : ℤ) → Extends fixings env
-    → up_to_first (is_fixed fixings) (reads_of_contract d c [] [] env f a b) ≡ up_to_first (is_fixed fixings) (reads_of_contract d c [] [] fixings f a b)
+    → AgreeUpToUnfixed fixings (reads_of_contract d c [] [] env f a b) (reads_of_contract d c [] [] fixings f a b)
 
 -- where no place that is read up to day b is unfixed, the amounts up to it are those of the fixings alone
 abbrev pub AmountsAreFixed : Type 0
@@ -44,23 +48,28 @@ AmountsDependOnReads =
 
 -- the same names in two worlds: of one kind in both, with the same reads up to the first that is not fixed, and with one
 -- value where all are fixed
-pub record StandAlike (fixings : Environment) (g : List Entry) (bs : List (List Place)) (h : List Entry) (cs : List (List Place)) : Type 0 where
+pub record StandAlike (fixings : Environment)
+    (g : List Entry) (bs : List (List Place)) (h : List Entry) (cs : List (List Place)) : Type 0 where
   pub same_kinds : kinds g ≡ kinds h
-  pub same_reads : (k : ℕ) → up_to_first (is_fixed fixings) (places_or (slice_get bs k)) ≡ up_to_first (is_fixed fixings) (places_or (slice_get cs k))
-  pub same_values : (k : ℕ) → list_all (is_fixed fixings) (places_or (slice_get bs k)) ≡ true → value_of_entry (slice_get g k) ≡ value_of_entry (slice_get h k)
+  pub same_reads : (k : ℕ) → AgreeUpToUnfixed fixings (places_or (slice_get bs k)) (places_or (slice_get cs k))
+  pub same_values : (k : ℕ)
+      → list_all (is_fixed fixings) (places_or (slice_get bs k)) ≡ true
+      → value_of_entry (slice_get g k) ≡ value_of_entry (slice_get h k)
 
 -- up to and with the first place that the fixings do not hold, an expression reads in every environment that extends
 -- them the places that it reads in the fixings alone
 abbrev pub ExpressionReadsStay : Type 0
 ExpressionReadsStay =
-    (d : Declarations) (e : Expression) (fixings env : Environment) (g : List Entry) (bs : List (List Place)) (h : List Entry) (cs : List (List Place)) (f : ℤ)
+    (d : Declarations) (e : Expression) (fixings env : Environment)
+    (g : List Entry) (bs : List (List Place)) (h : List Entry) (cs : List (List Place)) (f : ℤ)
     → Extends fixings env → StandAlike fixings g bs h cs
-    → up_to_first (is_fixed fixings) (reads_of d e g bs env f) ≡ up_to_first (is_fixed fixings) (reads_of d e h cs fixings f)
+    → AgreeUpToUnfixed fixings (reads_of d e g bs env f) (reads_of d e h cs fixings f)
 
 -- and where it reads no place that is not fixed, it has there the value that it has in the fixings alone
 abbrev pub ValuesAreFixed : Type 0
 ValuesAreFixed =
-    (d : Declarations) (e : Expression) (fixings env : Environment) (g : List Entry) (bs : List (List Place)) (h : List Entry) (cs : List (List Place)) (f : ℤ)
+    (d : Declarations) (e : Expression) (fixings env : Environment)
+    (g : List Entry) (bs : List (List Place)) (h : List Entry) (cs : List (List Place)) (f : ℤ)
     → Extends fixings env → StandAlike fixings g bs h cs
     → first_unfixed fixings (reads_of d e g bs env f) ≡ None → value_of d e g env f ≡ value_of d e h fixings f
 

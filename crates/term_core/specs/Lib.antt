@@ -2,6 +2,7 @@ pub mod Limits
 pub mod Declarations
 pub mod Terms
 pub mod WellFormed
+pub mod Literals
 pub mod Binders
 pub mod Books
 pub mod Environments

@@ -1,6 +1,6 @@
--- The limits that numbers keep: the offset of an observable is at most 1,000,000 days, an origin is an epoch day from 1900-01-01 to 2999-12-31, a label's
--- scale is at most 18 and its bounds are in order and of at most 10^37 in size, and a template's number is at most
--- 100,000.
+-- The limits that numbers keep: the offset of an observable is at most 1,000,000 days, an origin is an epoch day from
+-- 1900-01-01 to 2999-12-31, a label's scale is at most 18 and its bounds are in order and of at most 10^37 in size, and
+-- a template's number is at most 100,000.
 use Rattle.std.specs.Prelude.{ℕ, ℤ, pos, neg_ℤ, ◌≤ℤ◌, Bool, true, ◌&&◌, nat_le, int_le, unsigned_abs, List, Option, Some, None}
 use Rattle.std.specs.List.{list_all}
 pub use Rattle.decimal.specs.Mantissas.{greatest_mantissa}

@@ -8,8 +8,8 @@ use Rattle.term_core.specs.declared.terms.LogicOp.TheVariants.{And, Or}
 use Rattle.term_core.specs.Terms.{Expression, Lit, Yes, Var, Obs, Neg, Num, Cmp, Not, Logic, Cond, Widen, Round, Div, Acc}
 use Rattle.term_core.specs.Terms.{Contract, Zero, Pay, Both, Scale, After, Let, Within}
 use Rattle.term_core.specs.Environments.{Environment, Place, held}
-use Rattle.term_core.specs.Kinds.{kind_of, scale_of, scale_of_kind}
-use Rattle.term_core.specs.Values.{Entry, kinds, truth, widened, kind_or, value_of, first_true, days_run}
+use Rattle.term_core.specs.Kinds.{kind_of}
+use Rattle.term_core.specs.Values.{Entry, kinds, truth, kind_or, value_of, entry_of, entry_after, first_true}
 use Rattle.term_core.specs.Flows.{count_of}
 
 abbrev pub places_or : Option (List Place) → List Place
@@ -65,7 +65,7 @@ reads_of d (Acc body n first) g bs env f =
     let k = kind_or (kind_of d first (kinds g)) in
     let from = f -ℤ pos n in
     reads_of d first g bs env from
-    ++ steps_before n (λ i. reads_of d body (record { value = days_run i (λ i v. widened (scale_of d body (k ∷ kinds g)) (scale_of_kind k) (value_of d body (record { value = v; kind = k } ∷ g) env (from +ℤ pos i))) (value_of d first g env from); kind = k } ∷ g) ([] ∷ bs) env (from +ℤ pos (suc i)))
+    ++ steps_before n (λ i. reads_of d body (entry_after d body first k g env from i ∷ g) ([] ∷ bs) env (from +ℤ pos (suc i)))
 
 -- a transfer stands on an own day from a to b on the path taken
 abbrev pub live : Declarations → Contract → List Entry → Environment → ℤ → ℤ → ℤ → Bool
@@ -74,8 +74,7 @@ live d (Pay x p q) g env f a b = not (p == q) && not (int_lt (pos 0) a) && not (
 live d (Both x y) g env f a b = live d x g env f a b || live d y g env f a b
 live d (Scale e c) g env f a b = live d c g env f a b
 live d (After m c) g env f a b = live d c g env (f +ℤ pos (count_of m)) (a -ℤ pos (count_of m)) (b -ℤ pos (count_of m))
-live d (Let e c) g env f a b =
-    live d c (record { value = value_of d e g env f; kind = kind_or (kind_of d e (kinds g)) } ∷ g) env f a b
+live d (Let e c) g env f a b = live d c (entry_of d e g env f ∷ g) env f a b
 live d (Within e m x y) g env f a b =
     elim (first_true d e g env f (count_of m)) [
       | Some k ↦ live d x g env (f +ℤ pos k) (a -ℤ pos k) (b -ℤ pos k)
@@ -99,11 +98,12 @@ reads_of_contract d (Scale e c) g bs env f a b =
 reads_of_contract d (After m c) g bs env f a b =
     reads_of_contract d c g bs env (f +ℤ pos (count_of m)) (a -ℤ pos (count_of m)) (b -ℤ pos (count_of m))
 reads_of_contract d (Let e c) g bs env f a b =
-    reads_of_contract d c (record { value = value_of d e g env f; kind = kind_or (kind_of d e (kinds g)) } ∷ g) (reads_of d e g bs env f ∷ bs) env f a b
+    reads_of_contract d c (entry_of d e g env f ∷ g) (reads_of d e g bs env f ∷ bs) env f a b
 reads_of_contract d (Within e m x y) g bs env f a b =
+    let n = count_of m in
     if int_lt b (pos 0) then [] else
-    (upto (tested (first_true d e g env f (count_of m)) (count_of m) b) (λ i. reads_of d e g bs env (f +ℤ pos i))
-    ++ (elim (first_true d e g env f (count_of m)) [
+    (upto (tested (first_true d e g env f n) n b) (λ i. reads_of d e g bs env (f +ℤ pos i))
+    ++ (elim (first_true d e g env f n) [
       | Some k ↦ if int_lt b (pos k) then [] else reads_of_contract d x g bs env (f +ℤ pos k) (a -ℤ pos k) (b -ℤ pos k)
-      | None ↦ if int_lt b (pos (count_of m)) then [] else reads_of_contract d y g bs env (f +ℤ pos (count_of m)) (a -ℤ pos (count_of m)) (b -ℤ pos (count_of m))
+      | None ↦ if int_lt b (pos n) then [] else reads_of_contract d y g bs env (f +ℤ pos n) (a -ℤ pos n) (b -ℤ pos n)
     ]))

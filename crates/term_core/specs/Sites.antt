@@ -71,7 +71,10 @@ sites_of w (Not e) r k = sites_of w e r (k + 1) ++ expression_at k r (Not e) ∷
 sites_of w (Logic op a b) r k =
     sites_of w a r (k + 1) ++ (sites_of w b r (k + 1 + nodes a) ++ expression_at k r (Logic op a b) ∷ [])
 sites_of w (Cond t a b) r k =
-    sites_of w t r (k + 1) ++ (sites_of w a r (k + 1 + nodes t) ++ (sites_of w b r (k + 1 + nodes t + nodes a) ++ expression_at k r (Cond t a b) ∷ []))
+    sites_of w t r (k + 1)
+    ++ (sites_of w a r (k + 1 + nodes t)
+    ++ (sites_of w b r (k + 1 + nodes t + nodes a)
+    ++ expression_at k r (Cond t a b) ∷ []))
 sites_of w (Widen s e) r k = sites_of w e r (k + 1) ++ expression_at k r (Widen s e) ∷ []
 sites_of w (Round mode s e) r k = sites_of w e r (k + 1) ++ expression_at k r (Round mode s e) ∷ []
 sites_of w (Div mode s a b) r k =

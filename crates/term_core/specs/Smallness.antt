@@ -18,7 +18,12 @@ days_of_contract _ = 0
 -- a height, a number of nodes, a day count, a reach, a past and a work
 abbrev pub within_limits : ℕ → ℕ → ℕ → ℕ → ℕ → ℕ → Bool
 within_limits h n days far back steps =
-    nat_le h 200 && (nat_le n 100_000 && (nat_le days 100_000 && (nat_le far 100_000 && (nat_le (far + back) 1_000_000 && nat_le steps 10_000_000))))
+    nat_le h 200
+    && (nat_le n 100_000
+    && (nat_le days 100_000
+    && (nat_le far 100_000
+    && (nat_le (far + back) 1_000_000
+    && nat_le steps 10_000_000))))
 
 abbrev pub part_is_small : Part → Bool
 part_is_small (OfExpression e) = within_limits (height e) (nodes e) (days_of e) 0 (past e) (work e)

@@ -106,7 +106,20 @@ value_of d (Div mode s a b) g env f =
     Amount (divided mode (num (value_of d a g env f)) (scale_of d a (kinds g)) (num (value_of d b g env f)) (scale_of d b (kinds g)) s)
 value_of d (Acc body n first) g env f =
     let k = kind_or (kind_of d first (kinds g)) in
-    days_run n (λ i v. widened (scale_of d body (k ∷ kinds g)) (scale_of_kind k) (value_of d body (record { value = v; kind = k } ∷ g) env (f -ℤ pos n +ℤ pos i))) (value_of d first g env (f -ℤ pos n))
+    let from = f -ℤ pos n in
+    let next : ℕ → Value → Value = λ i v. value_of d body (record { value = v; kind = k } ∷ g) env (from +ℤ pos i) in
+    days_run n (λ i v. widened (scale_of d body (k ∷ kinds g)) (scale_of_kind k) (next i v)) (value_of d first g env from)
+
+-- what a name that is bound to an expression has
+abbrev pub entry_of : Declarations → Expression → List Entry → Environment → ℤ → Entry
+entry_of d e g env f = record { value = value_of d e g env f; kind = kind_or (kind_of d e (kinds g)) }
+
+-- what the name of an accumulator has in its body, i days after the day of its start, where k is its kind
+abbrev pub entry_after : Declarations → Expression → Expression → Kind → List Entry → Environment → ℤ → ℕ → Entry
+entry_after d body first k g env from i =
+    let next : ℕ → Value → Value = λ i v. value_of d body (record { value = v; kind = k } ∷ g) env (from +ℤ pos i) in
+    let step : ℕ → Value → Value = λ i v. widened (scale_of d body (k ∷ kinds g)) (scale_of_kind k) (next i v) in
+    record { value = days_run i step (value_of d first g env from); kind = k }
 
 -- the least i up to d that passes
 abbrev pub first_of : ℕ → (ℕ → Bool) → Option ℕ

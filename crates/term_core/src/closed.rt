@@ -1,11 +1,11 @@
 //! Whether a contract is closed: each index that it holds is declared, each name has its binder, and each offset of an
 //! observable is within the limit.
 
-ghost use Rattle.std.specs.Prelude.{◌≡◌, ◌≤◌, ◌^◌, ◌↔◌, ◌&&◌, IfSome, IsTrue, length, nat_lt};
+ghost use Rattle.std.specs.Prelude.{◌≡◌, ◌≤◌, ◌^◌, ◌↔◌, IfSome, IsTrue, nat_lt};
 ghost use Rattle.term_core.specs.Declarations.{declarations};
 ghost use Rattle.term_core.specs.Terms.{expression, contract};
 ghost use Rattle.term_core.specs.WellFormed.{IsClosed, HasOnlyNumbers};
-ghost use Rattle.term_core.specs.Binders.{around, is_declared, is_offset, more_of, wanted, wanted_by_contract};
+ghost use Rattle.term_core.specs.Binders.{around, is_declared, is_observable, is_offset, is_transfer, more_of, wanted, wanted_by_contract};
 
 use crate::decls::Decls;
 use crate::terms::{Contr, Days, Expr};
@@ -48,7 +48,7 @@ fn is_among(index: u32, count: usize) -> bool
 }
 
 fn is_observable(decls: &Decls, label: u32, offset: i32) -> bool
-    ensures { result ≡ (nat_lt label (length (declarations decls.now).labels) && is_offset offset) }
+    ensures { result ≡ is_observable (declarations decls.now) label offset }
 {
     is_among(label, decls.labels.len()) && is_offset(offset)
 }
@@ -87,7 +87,7 @@ fn wanted(decls: &Decls, e: &Expr) -> Option<u64>
 }
 
 fn is_transfer(decls: &Decls, asset: u32, from: u32, to: u32) -> bool
-    ensures { result ≡ (nat_lt asset (length (declarations decls.now).assets) && (nat_lt from (length (declarations decls.now).parties) && nat_lt to (length (declarations decls.now).parties))) }
+    ensures { result ≡ is_transfer (declarations decls.now) asset from to }
 {
     let parties = decls.parties.len();
     is_among(asset, decls.assets.len()) && is_among(from, parties) && is_among(to, parties)
