@@ -26,8 +26,10 @@ pub record HasSafeFlows (d : Declarations) (c : Contract) (es : List Entry) (env
 
 -- what the two parts of a contract pay, on frames i and j, fits at the greater of their scales
 pub record AlignPayments (d : Declarations) (a b : Contract) (es : List Entry) (env : Environment) (i j : ℤ) : Type 0 where
-  pub left : (n : ℤ) (w : Flow) → IsPayable (raised (flow_of d a es env i n w) (max (scale_of_contract d a (kinds es)) (scale_of_contract d b (kinds es)) - scale_of_contract d a (kinds es)))
-  pub right : (n : ℤ) (w : Flow) → IsPayable (raised (flow_of d b es env j n w) (max (scale_of_contract d a (kinds es)) (scale_of_contract d b (kinds es)) - scale_of_contract d b (kinds es)))
+  pub left : (n : ℤ) (w : Flow) → IsPayable (raised (flow_of d a es env i n w)
+      (max (scale_of_contract d a (kinds es)) (scale_of_contract d b (kinds es)) - scale_of_contract d a (kinds es)))
+  pub right : (n : ℤ) (w : Flow) → IsPayable (raised (flow_of d b es env j n w)
+      (max (scale_of_contract d a (kinds es)) (scale_of_contract d b (kinds es)) - scale_of_contract d b (kinds es)))
 
 -- the parts of a contract are safe
 abbrev pub HasSafeContractParts : Declarations → Contract → List Entry → Environment → ℤ → Type 0

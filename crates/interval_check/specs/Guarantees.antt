@@ -27,7 +27,8 @@ DeclsKeepLimits = (decls : Decls) → KeepsLimits (declarations decls)
 abbrev pub RulesAreByStructure : Type 0
 RulesAreByStructure =
     (d : Declarations) (c : Contract)
-    → (Meets d Sort c ↔ IsSortedContract d c []) × (Meets d Scale c ↔ IsScaledContract d c []) × (Meets d Bound c ↔ IsBoundedContract d c [])
+    → (Meets d Sort c ↔ IsSortedContract d c []) × (Meets d Scale c ↔ IsScaledContract d c [])
+    × (Meets d Bound c ↔ IsBoundedContract d c [])
 
 -- an accepted contract meets the rules by structure, and so does each expression that stands in it
 abbrev pub AcceptedMeetRules : Type 0

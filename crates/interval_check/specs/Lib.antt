@@ -12,4 +12,5 @@ pub mod Ranges
 pub mod RangeScopes
 pub mod RangeTrials
 pub mod TotalTrials
+pub mod ScopedTrials
 pub mod Totals

@@ -71,7 +71,9 @@ either r t = then_do (aligned_both r t) (λ p. ranged (fitting (hull p.left p.ri
 
 abbrev pub quotient : Mode → ℕ → Range → Range → Answer
 quotient mode s r t =
-    if fit_divided (scale_in r) r.interval (scale_in t) t.interval s then ranged (fitting (corners (λ x y. divided mode x (scale_in r) y (scale_in t) s) r.interval t.interval)) (Number s) else Err 0
+    if fit_divided (scale_in r) r.interval (scale_in t) t.interval s
+    then ranged (fitting (corners (λ x y. divided mode x (scale_in r) y (scale_in t) s) r.interval t.interval)) (Number s)
+    else Err 0
 
 abbrev pub observed : Option Label → Answer
 observed o = ranged (fitting (interval_of_label o)) (kind_or (kind_of_label o))
@@ -114,10 +116,13 @@ range_tried d (Cmp op a b) g = then_do (operands (nodes a) (range_tried d a g) (
 range_tried d (Not e) g = then_do (moved 1 (range_tried d e g)) (λ _. Ok truth)
 range_tried d (Logic op a b) g = then_do (operands (nodes a) (range_tried d a g) (range_tried d b g)) (λ _. Ok truth)
 range_tried d (Cond t a b) g =
-    then_do (moved 1 (range_tried d t g)) (λ _. then_do (moved (nodes t) (operands (nodes a) (range_tried d a g) (range_tried d b g))) (λ p. either p.left p.right))
+    then_do (moved 1 (range_tried d t g))
+    (λ _. then_do (moved (nodes t) (operands (nodes a) (range_tried d a g) (range_tried d b g)))
+    (λ p. either p.left p.right))
 range_tried d (Widen s e) g = then_do (moved 1 (range_tried d e g)) (widened (Number s))
 range_tried d (Round mode s e) g = then_do (moved 1 (range_tried d e g)) (rounded mode s)
-range_tried d (Div mode s a b) g = then_do (operands (nodes a) (range_tried d a g) (range_tried d b g)) (λ p. quotient mode s p.left p.right)
+range_tried d (Div mode s a b) g =
+    then_do (operands (nodes a) (range_tried d a g) (range_tried d b g)) (λ p. quotient mode s p.left p.right)
 range_tried d (Acc body n first) g =
     then_do (moved (1 + nodes body) (range_tried d first g)) (λ r. days_tried n (day_tried (λ h. range_tried d body h) g) r)
 

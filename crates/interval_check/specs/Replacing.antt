@@ -47,10 +47,12 @@ IsRewritten d (Cmp op a b) y g =
     Replaces d y (Cmp op a b) g ⊎ ((a' : Expression) × (b' : Expression) × (y ≡ Cmp op a' b') × IsRewritten d a a' g × IsRewritten d b b' g)
 IsRewritten d (Not a) y g = Replaces d y (Not a) g ⊎ ((a' : Expression) × (y ≡ Not a') × IsRewritten d a a' g)
 IsRewritten d (Logic op a b) y g =
-    Replaces d y (Logic op a b) g ⊎ ((a' : Expression) × (b' : Expression) × (y ≡ Logic op a' b') × IsRewritten d a a' g × IsRewritten d b b' g)
+    Replaces d y (Logic op a b) g
+    ⊎ ((a' : Expression) × (b' : Expression) × (y ≡ Logic op a' b') × IsRewritten d a a' g × IsRewritten d b b' g)
 IsRewritten d (Cond t a b) y g =
     Replaces d y (Cond t a b) g
-    ⊎ ((t' : Expression) × (a' : Expression) × (b' : Expression) × (y ≡ Cond t' a' b') × IsRewritten d t t' g × IsRewritten d a a' g × IsRewritten d b b' g)
+    ⊎ ((t' : Expression) × (a' : Expression) × (b' : Expression) × (y ≡ Cond t' a' b')
+    × IsRewritten d t t' g × IsRewritten d a a' g × IsRewritten d b b' g)
 IsRewritten d (Widen s a) y g = Replaces d y (Widen s a) g ⊎ ((a' : Expression) × (y ≡ Widen s a') × IsRewritten d a a' g)
 IsRewritten d (Round mode s a) y g =
     Replaces d y (Round mode s a) g ⊎ ((a' : Expression) × (y ≡ Round mode s a') × IsRewritten d a a' g)

@@ -77,7 +77,11 @@ ScalesFit d (Acc body n first) ks =
 abbrev pub entry_after : Declarations → Expression → ℕ → Expression → List Entry → Environment → ℤ → ℕ → Entry
 entry_after d body n first es env f i =
     let k = kind_or (kind_of d first (kinds es)) in
-    record { value = days_run i (λ j v. widened (scale_of d body (k ∷ kinds es)) (scale_of_kind k) (value_of d body (record { value = v; kind = k } ∷ es) env (f -ℤ pos n +ℤ pos j))) (value_of d first es env (f -ℤ pos n)); kind = k }
+    record {
+      value = days_run i (λ j v. widened (scale_of d body (k ∷ kinds es)) (scale_of_kind k)
+          (value_of d body (record { value = v; kind = k } ∷ es) env (f -ℤ pos n +ℤ pos j))) (value_of d first es env (f -ℤ pos n));
+      kind = k;
+    }
 
 -- the parts of an expression have safe values, and fit under its operator
 abbrev pub HasSafeParts : Declarations → Expression → List Entry → Environment → ℤ → Type 0
@@ -118,7 +122,8 @@ HasSafeParts d (Acc body n first) es env f =
     × ((i : ℕ) → i < n →
     (HasSafeValue d body (entry_after d body n first es env f i ∷ es) env (f -ℤ pos n +ℤ pos (suc i))
     × HasSafeParts d body (entry_after d body n first es env f i ∷ es) env (f -ℤ pos n +ℤ pos (suc i)))
-    × WidensSafely (scale_of d body (k ∷ kinds es)) (scale_of_kind k) (num (value_of d body (entry_after d body n first es env f i ∷ es) env (f -ℤ pos n +ℤ pos (suc i)))))
+    × WidensSafely (scale_of d body (k ∷ kinds es)) (scale_of_kind k)
+    (num (value_of d body (entry_after d body n first es env f i ∷ es) env (f -ℤ pos n +ℤ pos (suc i)))))
 
 -- the values of an expression and of all its parts are safe, with these entries for its names, on day f
 abbrev pub IsSafe : Declarations → Expression → List Entry → Environment → ℤ → Type 0

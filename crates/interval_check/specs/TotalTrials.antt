@@ -48,14 +48,19 @@ abbrev pub total_tried : Declarations → Contract → List Range → Answer
 total_tried d Zero g = total_here d.amounts (record { amount = 0; scale = 0 })
 total_tried d (Pay a p q) g = total_here d.amounts (record { amount = 1; scale = 0 })
 total_tried d (Both a b) g =
-    then_do (moved 1 (total_tried d a g)) (λ t. then_do (moved (1 + nodes_of_contract a) (total_tried d b g)) (λ u. total_here d.amounts (of_both t u)))
+    then_do (moved 1 (total_tried d a g))
+    (λ t. then_do (moved (1 + nodes_of_contract a) (total_tried d b g)) (λ u. total_here d.amounts (of_both t u)))
 total_tried d (Scale e c) g =
-    then_do (moved 1 (range_tried d e g)) (λ r. then_do (moved (1 + nodes e) (total_tried d c g)) (λ t. total_here d.amounts (of_scaled r t)))
+    then_do (moved 1 (range_tried d e g))
+    (λ r. then_do (moved (1 + nodes e) (total_tried d c g)) (λ t. total_here d.amounts (of_scaled r t)))
 total_tried d (After n c) g = moved 1 (total_tried d c g)
 total_tried d (Let e c) g =
     then_do (moved 1 (range_tried d e g)) (λ r. moved (1 + nodes e) (total_tried d c (r ∷ g)))
 total_tried d (Within e n a b) g =
-    then_do (moved 1 (range_tried d e g)) (λ _. then_do (moved (1 + nodes e) (total_tried d a g)) (λ t. then_do (moved (nodes e) (moved (1 + nodes_of_contract a) (total_tried d b g))) (λ u. total_here d.amounts (of_either t u))))
+    then_do (moved 1 (range_tried d e g))
+    (λ _. then_do (moved (1 + nodes e) (total_tried d a g))
+    (λ t. then_do (moved (nodes e) (moved (1 + nodes_of_contract a) (total_tried d b g)))
+    (λ u. total_here d.amounts (of_either t u))))
 
 -- The scale that the trial answers, and the scales that the rule on scales gives it.
 

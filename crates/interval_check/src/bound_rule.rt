@@ -12,6 +12,7 @@ ghost use Rattle.term_core.specs.Bounds.{range_kinds, aligned_total};
 ghost use Rattle.term_core.specs.Acceptance.{Meets};
 ghost use Rattle.term_core.specs.Verdicts.{IsVerdict};
 ghost use Rattle.interval_check.specs.RangeScopes.{ranges_in};
+ghost use Rattle.interval_check.specs.ScopedTrials.{total_among, PaysScaledAmong};
 ghost use Rattle.interval_check.specs.Totals.{total, total_found, IsTotal};
 ghost use Rattle.interval_check.specs.TotalTrials.{total_tried, AreTotalsScaled};
 
@@ -29,8 +30,8 @@ use term_core::{
 #[cycle(totalling)]
 pub fn total_of(decls: &Decls, c: &Contr, scope: &Scope<Range>) -> Result<Total, u32>
     requires nodes { nodes_of_contract (contract c.now) < 2 ^ 32 }
-    requires scaled { AreTotalsScaled (declarations decls.now) (contract c.now) (range_kinds (ranges_in scope.now)) }
-    ensures total { total_found result ≡ total_tried (declarations decls.now) (contract c.now) (ranges_in scope.now) }
+    requires scaled { PaysScaledAmong decls.now c.now scope.now }
+    ensures total { total_found result ≡ total_among decls.now c.now scope.now }
     ensures below { IfErr result (λ place. place < nodes_of_contract (contract c.now)) }
     ensures fits { IfOk result (λ t. IsTotal decls.now.amounts t) }
 {
@@ -68,8 +69,10 @@ fn total_of_scale(
     scope: &Scope<Range>,
 ) -> Result<Total, u32>
     requires nodes { nodes (expression factor.now) + nodes_of_contract (contract body.now) + 1 < 2 ^ 32 }
-    requires scaled { AreTotalsScaled (declarations decls.now) (Scale (expression factor.now) (contract body.now)) (range_kinds (ranges_in scope.now)) }
-    ensures total { total_found result ≡ total_tried (declarations decls.now) (Scale (expression factor.now) (contract body.now)) (ranges_in scope.now) }
+    requires scaled { AreTotalsScaled (declarations decls.now) (Scale (expression factor.now) (contract body.now))
+        (range_kinds (ranges_in scope.now)) }
+    ensures total { total_found result ≡ total_tried (declarations decls.now)
+        (Scale (expression factor.now) (contract body.now)) (ranges_in scope.now) }
     ensures below { IfErr result (λ place. place < nodes (expression factor.now) + nodes_of_contract (contract body.now) + 1) }
     ensures fits { IfOk result (λ t. IsTotal decls.now.amounts t) }
 {
@@ -87,8 +90,10 @@ fn total_of_let(
     scope: &Scope<Range>,
 ) -> Result<Total, u32>
     requires nodes { nodes (expression bound.now) + nodes_of_contract (contract body.now) + 1 < 2 ^ 32 }
-    requires scaled { AreTotalsScaled (declarations decls.now) (Let (expression bound.now) (contract body.now)) (range_kinds (ranges_in scope.now)) }
-    ensures total { total_found result ≡ total_tried (declarations decls.now) (Let (expression bound.now) (contract body.now)) (ranges_in scope.now) }
+    requires scaled { AreTotalsScaled (declarations decls.now) (Let (expression bound.now) (contract body.now))
+        (range_kinds (ranges_in scope.now)) }
+    ensures total { total_found result ≡ total_tried (declarations decls.now)
+        (Let (expression bound.now) (contract body.now)) (ranges_in scope.now) }
     ensures below { IfErr result (λ place. place < nodes (expression bound.now) + nodes_of_contract (contract body.now) + 1) }
     ensures fits { IfOk result (λ t. IsTotal decls.now.amounts t) }
 {
@@ -109,7 +114,8 @@ pub fn bounds(alloc: Global, decls: &Decls, c: &Contr) -> Result<i128, CheckErr>
     requires sorted { Meets (declarations decls.now) Rule.Sort (contract c.now) }
     requires scaled { Meets (declarations decls.now) Rule.Scale (contract c.now) }
     requires small { Meets (declarations decls.now) Rule.Size (contract c.now) }
-    ensures { IsVerdict (declarations decls.now) Rule.Bound (contract c.now) (λ total. total ≡ pos (aligned_total (declarations decls.now) (contract c.now) [])) result }
+    ensures { IsVerdict (declarations decls.now) Rule.Bound (contract c.now)
+        (λ total. total ≡ pos (aligned_total (declarations decls.now) (contract c.now) [])) result }
 {
     match total_of(decls, c, &Scope::Empty) {
         Ok(total) => Ok(amount_at(decls.amounts, total) as i128),

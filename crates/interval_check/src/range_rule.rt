@@ -12,6 +12,7 @@ ghost use Rattle.term_core.specs.Trying.{moved};
 ghost use Rattle.interval_check.specs.Intervals.{interval};
 ghost use Rattle.interval_check.specs.Ranges.{range, range_found, operands_found, IsFit};
 ghost use Rattle.interval_check.specs.RangeScopes.{ranges_in};
+ghost use Rattle.interval_check.specs.ScopedTrials.{range_among, IsScaledAmong};
 ghost use Rattle.interval_check.specs.RangeTrials.{operands, days_tried, day_tried, range_tried, AreScaled};
 
 use crate::intervals::Interval;
@@ -27,8 +28,8 @@ use term_core::{Decls, Expr, Kind, Scope, behind, behind_node, nodes_in};
 #[cycle(ranging)]
 pub fn range_of(decls: &Decls, e: &Expr, scope: &Scope<Range>) -> Result<Range, u32>
     requires nodes { nodes (expression e.now) < 2 ^ 32 }
-    requires scaled { AreScaled (declarations decls.now) (expression e.now) (range_kinds (ranges_in scope.now)) }
-    ensures range { range_found result ≡ range_tried (declarations decls.now) (expression e.now) (ranges_in scope.now) }
+    requires scaled { IsScaledAmong decls.now e.now scope.now }
+    ensures range { range_found result ≡ range_among decls.now e.now scope.now }
     ensures below { IfErr result (λ place. place < nodes (expression e.now)) }
     ensures fit { IfOk result (λ r. IsFit (range r)) }
 {
@@ -98,9 +99,10 @@ fn ranges_of(
     scope: &Scope<Range>,
 ) -> Result<Operands, u32>
     requires nodes { nodes (expression left.now) + nodes (expression right.now) + 1 < 2 ^ 32 }
-    requires left { AreScaled (declarations decls.now) (expression left.now) (range_kinds (ranges_in scope.now)) }
-    requires right { AreScaled (declarations decls.now) (expression right.now) (range_kinds (ranges_in scope.now)) }
-    ensures ranges { operands_found result ≡ operands (nodes (expression left.now)) (range_tried (declarations decls.now) (expression left.now) (ranges_in scope.now)) (range_tried (declarations decls.now) (expression right.now) (ranges_in scope.now)) }
+    requires left { IsScaledAmong decls.now left.now scope.now }
+    requires right { IsScaledAmong decls.now right.now scope.now }
+    ensures ranges { operands_found result ≡ operands (nodes (expression left.now))
+        (range_among decls.now left.now scope.now) (range_among decls.now right.now scope.now) }
     ensures below { IfErr result (λ place. place < nodes (expression left.now) + nodes (expression right.now) + 1) }
     ensures left { IfOk result (λ p. IsFit (range p.left)) }
     ensures right { IfOk result (λ p. IsFit (range p.right)) }
@@ -123,10 +125,12 @@ fn ranges_after(
     scope: &Scope<Range>,
 ) -> Result<Operands, u32>
     requires nodes { nodes (expression before.now) + nodes (expression left.now) + nodes (expression right.now) + 1 < 2 ^ 32 }
-    requires left { AreScaled (declarations decls.now) (expression left.now) (range_kinds (ranges_in scope.now)) }
-    requires right { AreScaled (declarations decls.now) (expression right.now) (range_kinds (ranges_in scope.now)) }
-    ensures ranges { operands_found result ≡ moved (nodes (expression before.now)) (operands (nodes (expression left.now)) (range_tried (declarations decls.now) (expression left.now) (ranges_in scope.now)) (range_tried (declarations decls.now) (expression right.now) (ranges_in scope.now))) }
-    ensures below { IfErr result (λ place. place < nodes (expression before.now) + nodes (expression left.now) + nodes (expression right.now) + 1) }
+    requires left { IsScaledAmong decls.now left.now scope.now }
+    requires right { IsScaledAmong decls.now right.now scope.now }
+    ensures ranges { operands_found result ≡ moved (nodes (expression before.now)) (operands (nodes (expression left.now))
+        (range_among decls.now left.now scope.now) (range_among decls.now right.now scope.now)) }
+    ensures below { IfErr result
+        (λ place. place < nodes (expression before.now) + nodes (expression left.now) + nodes (expression right.now) + 1) }
     ensures left { IfOk result (λ p. IsFit (range p.left)) }
     ensures right { IfOk result (λ p. IsFit (range p.right)) }
 {
@@ -146,8 +150,10 @@ fn range_of_acc(
     scope: &Scope<Range>,
 ) -> Result<Range, u32>
     requires nodes { nodes (expression body.now) + nodes (expression first.now) + 1 < 2 ^ 32 }
-    requires scaled { AreScaled (declarations decls.now) (Acc (expression body.now) days (expression first.now)) (range_kinds (ranges_in scope.now)) }
-    ensures range { range_found result ≡ range_tried (declarations decls.now) (Acc (expression body.now) days (expression first.now)) (ranges_in scope.now) }
+    requires scaled { AreScaled (declarations decls.now) (Acc (expression body.now) days (expression first.now))
+        (range_kinds (ranges_in scope.now)) }
+    ensures range { range_found result ≡ range_tried (declarations decls.now) (Acc (expression body.now) days (expression first.now))
+        (ranges_in scope.now) }
     ensures below { IfErr result (λ place. place < nodes (expression body.now) + nodes (expression first.now) + 1) }
     ensures fit { IfOk result (λ r. IsFit (range r)) }
 {
@@ -168,7 +174,8 @@ fn accumulated(
     requires nodes { nodes (expression body.now) + 1 < 2 ^ 32 }
     requires scaled { AreScaled (declarations decls.now) (expression body.now) (start.kind ∷ range_kinds (ranges_in scope.now)) }
     requires start { IsFit (range start) }
-    ensures range { range_found result ≡ days_tried days (day_tried (λ g. range_tried (declarations decls.now) (expression body.now) g) (ranges_in scope.now)) (range start) }
+    ensures range { range_found result ≡ days_tried days
+        (day_tried (λ g. range_tried (declarations decls.now) (expression body.now) g) (ranges_in scope.now)) (range start) }
     ensures below { IfErr result (λ place. place < nodes (expression body.now) + 1) }
     ensures fit { IfOk result (λ r. IsFit (range r)) }
 {
@@ -194,7 +201,8 @@ fn range_of_day(
     requires nodes { nodes (expression body.now) + 1 < 2 ^ 32 }
     requires scaled { AreScaled (declarations decls.now) (expression body.now) (so_far.kind ∷ range_kinds (ranges_in scope.now)) }
     requires so_far { IsFit (range so_far) }
-    ensures range { range_found result ≡ day_tried (λ g. range_tried (declarations decls.now) (expression body.now) g) (ranges_in scope.now) (range so_far) }
+    ensures range { range_found result ≡ day_tried (λ g. range_tried (declarations decls.now) (expression body.now) g)
+        (ranges_in scope.now) (range so_far) }
     ensures below { IfErr result (λ place. place < nodes (expression body.now) + 1) }
     ensures fit { IfOk result (λ r. IsFit (range r)) }
     ensures kind { IfOk result (λ r. r.kind ≡ so_far.kind) }

@@ -11,7 +11,13 @@ size_of e = record { height = height e; nodes = nodes e; reach = 0; past = past 
 
 abbrev pub size_of_contract : Contract → Size
 size_of_contract c =
-    record { height = height_of_contract c; nodes = nodes_of_contract c; reach = reach c; past = past_of_contract c; work = work_of_contract c }
+    record {
+      height = height_of_contract c;
+      nodes = nodes_of_contract c;
+      reach = reach c;
+      past = past_of_contract c;
+      work = work_of_contract c;
+    }
 
 -- an expression without parts
 abbrev pub leaf : ℕ → Size
@@ -23,16 +29,34 @@ over_one a = record { height = a.height + 1; nodes = a.nodes + 1; reach = 0; pas
 
 abbrev pub over_two : Size → Size → Size
 over_two a b =
-    record { height = max a.height b.height + 1; nodes = a.nodes + b.nodes + 1; reach = 0; past = max a.past b.past; work = 1 + (a.work + b.work) }
+    record {
+      height = max a.height b.height + 1;
+      nodes = a.nodes + b.nodes + 1;
+      reach = 0;
+      past = max a.past b.past;
+      work = 1 + (a.work + b.work);
+    }
 
 abbrev pub over_three : Size → Size → Size → Size
 over_three t a b =
-    record { height = max t.height (max a.height b.height) + 1; nodes = t.nodes + a.nodes + b.nodes + 1; reach = 0; past = max t.past (max a.past b.past); work = 1 + (t.work + a.work + b.work) }
+    record {
+      height = max t.height (max a.height b.height) + 1;
+      nodes = t.nodes + a.nodes + b.nodes + 1;
+      reach = 0;
+      past = max t.past (max a.past b.past);
+      work = 1 + (t.work + a.work + b.work);
+    }
 
 -- an accumulator over n days
 abbrev pub over_days : Size → ℕ → Size → Size
 over_days body n first =
-    record { height = max body.height first.height + 1; nodes = body.nodes + first.nodes + 1; reach = 0; past = max (first.past + n) (body.past + (n - 1)); work = 1 + (first.work + n * body.work) }
+    record {
+      height = max body.height first.height + 1;
+      nodes = body.nodes + first.nodes + 1;
+      reach = 0;
+      past = max (first.past + n) (body.past + (n - 1));
+      work = 1 + (first.work + n * body.work);
+    }
 
 -- a contract without parts
 abbrev pub unit : Size
@@ -41,7 +65,13 @@ unit = record { height = 1; nodes = 1; reach = 0; past = 0; work = 0 }
 -- two parts that stand on the same day
 abbrev pub together : Size → Size → Size
 together a b =
-    record { height = max a.height b.height + 1; nodes = a.nodes + b.nodes + 1; reach = max a.reach b.reach; past = max a.past b.past; work = a.work + b.work }
+    record {
+      height = max a.height b.height + 1;
+      nodes = a.nodes + b.nodes + 1;
+      reach = max a.reach b.reach;
+      past = max a.past b.past;
+      work = a.work + b.work;
+    }
 
 -- a part n days later
 abbrev pub delayed : ℕ → Size → Size
@@ -50,7 +80,13 @@ delayed n c = record { height = c.height + 1; nodes = c.nodes + 1; reach = n + c
 -- a test on up to n days after the first, with a branch for each outcome
 abbrev pub tested : Size → ℕ → Size → Size → Size
 tested e n a b =
-    record { height = max e.height (max a.height b.height) + 1; nodes = e.nodes + a.nodes + b.nodes + 1; reach = n + max a.reach b.reach; past = max e.past (max a.past b.past); work = (n + 1) * e.work + a.work + b.work }
+    record {
+      height = max e.height (max a.height b.height) + 1;
+      nodes = e.nodes + a.nodes + b.nodes + 1;
+      reach = n + max a.reach b.reach;
+      past = max e.past (max a.past b.past);
+      work = (n + 1) * e.work + a.work + b.work;
+    }
 
 -- a part of a count of days is within the limits
 abbrev pub is_within : ℕ → Size → Bool

@@ -42,7 +42,8 @@ scale_tried d (Var back) ss = at_most greatest_scale (found_scale (slice_get ss 
 scale_tried d (Obs l t) ss = at_most greatest_scale (scale_or_zero (kind_of_label (label_of d l)))
 scale_tried d (Neg e) ss = moved 1 (scale_tried d e ss)
 scale_tried d (Num op a b) ss =
-    then_do (moved 1 (scale_tried d a ss)) (λ s. then_do (moved (1 + nodes a) (scale_tried d b ss)) (λ t. at_most greatest_scale (scale_of_op op s t)))
+    then_do (moved 1 (scale_tried d a ss))
+    (λ s. then_do (moved (1 + nodes a) (scale_tried d b ss)) (λ t. at_most greatest_scale (scale_of_op op s t)))
 scale_tried d (Cmp op a b) ss = two_tried 0 (nodes a) (scale_tried d a ss) (scale_tried d b ss)
 scale_tried d (Not e) ss = moved 1 (scale_tried d e ss)
 scale_tried d (Logic op a b) ss = two_tried 0 (nodes a) (scale_tried d a ss) (scale_tried d b ss)
@@ -65,4 +66,6 @@ contract_tried d (After n c) ss = moved 1 (contract_tried d c ss)
 contract_tried d (Let e c) ss =
     then_do (moved 1 (scale_tried d e ss)) (λ s. moved (1 + nodes e) (contract_tried d c (s ∷ ss)))
 contract_tried d (Within e n a b) ss =
-    then_do (moved 1 (scale_tried d e ss)) (λ _. then_do (moved (1 + nodes e) (contract_tried d a ss)) (λ s. then_do (moved (nodes e) (moved (1 + nodes_of_contract a) (contract_tried d b ss))) (λ t. Ok (max s t))))
+    then_do (moved 1 (scale_tried d e ss))
+    (λ _. then_do (moved (1 + nodes e) (contract_tried d a ss))
+    (λ s. then_do (moved (nodes e) (moved (1 + nodes_of_contract a) (contract_tried d b ss))) (λ t. Ok (max s t))))

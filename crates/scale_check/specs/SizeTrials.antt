@@ -58,4 +58,7 @@ contract_tried (Scale e c) = behind_tried (nodes e) (size_tried e) (contract_tri
 contract_tried (After n c) = then_do (moved 1 (contract_tried c)) (λ s. limited (count_of n) (delayed (count_of n) s))
 contract_tried (Let e c) = behind_tried (nodes e) (size_tried e) (contract_tried c)
 contract_tried (Within e n a b) =
-    then_do (moved 1 (size_tried e)) (λ s. then_do (moved (1 + nodes e) (contract_tried a)) (λ x. then_do (moved (nodes e) (moved (1 + nodes_of_contract a) (contract_tried b))) (λ y. limited (count_of n) (tested s (count_of n) x y))))
+    then_do (moved 1 (size_tried e))
+    (λ s. then_do (moved (1 + nodes e) (contract_tried a))
+    (λ x. then_do (moved (nodes e) (moved (1 + nodes_of_contract a) (contract_tried b)))
+    (λ y. limited (count_of n) (tested s (count_of n) x y))))

@@ -116,7 +116,9 @@ fn try_two(
     scope: &Scope<u8>,
 ) -> Result<u8, u32>
     requires { nodes (expression left.now) + nodes (expression right.now) + 1 < 2 ^ 32 }
-    ensures scale { result ≡ two_tried answer (nodes (expression left.now)) (scale_tried (declarations decls.now) (expression left.now) (held_in scope.now)) (scale_tried (declarations decls.now) (expression right.now) (held_in scope.now)) }
+    ensures scale { result ≡ two_tried answer (nodes (expression left.now))
+        (scale_tried (declarations decls.now) (expression left.now) (held_in scope.now))
+        (scale_tried (declarations decls.now) (expression right.now) (held_in scope.now)) }
     ensures within { IfOk result (λ scale. scale ≤ 27) }
     ensures below { IfErr result (λ place. place < nodes (expression left.now) + nodes (expression right.now) + 1) }
 {
@@ -135,9 +137,13 @@ fn scale_of_choice(
     scope: &Scope<u8>,
 ) -> Result<u8, u32>
     requires { nodes (expression test.now) + nodes (expression yes.now) + nodes (expression no.now) + 1 < 2 ^ 32 }
-    ensures scale { result ≡ choice_tried (nodes (expression test.now)) (nodes (expression yes.now)) (scale_tried (declarations decls.now) (expression test.now) (held_in scope.now)) (scale_tried (declarations decls.now) (expression yes.now) (held_in scope.now)) (scale_tried (declarations decls.now) (expression no.now) (held_in scope.now)) }
+    ensures scale { result ≡ choice_tried (nodes (expression test.now)) (nodes (expression yes.now))
+        (scale_tried (declarations decls.now) (expression test.now) (held_in scope.now))
+        (scale_tried (declarations decls.now) (expression yes.now) (held_in scope.now))
+        (scale_tried (declarations decls.now) (expression no.now) (held_in scope.now)) }
     ensures within { IfOk result (λ scale. scale ≤ 27) }
-    ensures below { IfErr result (λ place. place < nodes (expression test.now) + nodes (expression yes.now) + nodes (expression no.now) + 1) }
+    ensures below { IfErr result
+        (λ place. place < nodes (expression test.now) + nodes (expression yes.now) + nodes (expression no.now) + 1) }
 {
     behind_node(scale_of_expr(decls, test, scope))?;
     let yes_scale = behind(test, scale_of_expr(decls, yes, scope))?;
@@ -149,7 +155,9 @@ fn scale_of_choice(
 #[cycle(scaling)]
 fn scale_of_run(decls: &Decls, body: &Expr, first: &Expr, scope: &Scope<u8>) -> Result<u8, u32>
     requires { nodes (expression body.now) + nodes (expression first.now) + 1 < 2 ^ 32 }
-    ensures scale { result ≡ acc_tried (nodes (expression body.now)) (scale_tried (declarations decls.now) (expression first.now) (held_in scope.now)) (λ s. scale_tried (declarations decls.now) (expression body.now) (s ∷ held_in scope.now)) }
+    ensures scale { result ≡ acc_tried (nodes (expression body.now))
+        (scale_tried (declarations decls.now) (expression first.now) (held_in scope.now))
+        (λ s. scale_tried (declarations decls.now) (expression body.now) (s ∷ held_in scope.now)) }
     ensures within { IfOk result (λ scale. scale ≤ 27) }
     ensures below { IfErr result (λ place. place < nodes (expression body.now) + nodes (expression first.now) + 1) }
 {
@@ -213,7 +221,8 @@ pub fn scales(alloc: Global, decls: &Decls, c: &Contr) -> Result<u8, CheckErr>
     requires small { nodes_of_contract (contract c.now) < 2 ^ 32 }
     requires closed { IsClosed (declarations decls.now) (contract c.now) }
     requires sorted { Meets (declarations decls.now) Rule.Sort (contract c.now) }
-    ensures { IsVerdict (declarations decls.now) Rule.Scale (contract c.now) (λ scale. scale ≡ scale_of_contract (declarations decls.now) (contract c.now) []) result }
+    ensures { IsVerdict (declarations decls.now) Rule.Scale (contract c.now)
+        (λ scale. scale ≡ scale_of_contract (declarations decls.now) (contract c.now) []) result }
 {
     match try_scale(decls, c, &Scope::Empty) {
         Ok(scale) => Ok(scale),

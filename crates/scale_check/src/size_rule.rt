@@ -71,9 +71,11 @@ fn size_over_two(left: &Expr, right: &Expr) -> Result<Size, u32>
 #[cycle(sizing)]
 fn size_over_three(test: &Expr, yes: &Expr, no: &Expr) -> Result<Size, u32>
     requires { nodes (expression test.now) + nodes (expression yes.now) + nodes (expression no.now) + 1 < 2 ^ 32 }
-    ensures size { result ≡ three_tried (nodes (expression test.now)) (nodes (expression yes.now)) (size_tried (expression test.now)) (size_tried (expression yes.now)) (size_tried (expression no.now)) }
+    ensures size { result ≡ three_tried (nodes (expression test.now)) (nodes (expression yes.now))
+        (size_tried (expression test.now)) (size_tried (expression yes.now)) (size_tried (expression no.now)) }
     ensures limits { IfOk result IsLimited }
-    ensures below { IfErr result (λ place. place < nodes (expression test.now) + nodes (expression yes.now) + nodes (expression no.now) + 1) }
+    ensures below { IfErr result
+        (λ place. place < nodes (expression test.now) + nodes (expression yes.now) + nodes (expression no.now) + 1) }
 {
     let test_size = behind_node(size_of_expr(test))?;
     let yes_size = behind(test, size_of_expr(yes))?;
@@ -85,7 +87,8 @@ fn size_over_three(test: &Expr, yes: &Expr, no: &Expr) -> Result<Size, u32>
 #[cycle(sizing)]
 fn size_over_days(body: &Expr, days: u32, first: &Expr) -> Result<Size, u32>
     requires { nodes (expression body.now) + nodes (expression first.now) + 1 < 2 ^ 32 }
-    ensures size { result ≡ acc_tried (nodes (expression body.now)) days (size_tried (expression first.now)) (size_tried (expression body.now)) }
+    ensures size { result ≡ acc_tried (nodes (expression body.now)) days
+        (size_tried (expression first.now)) (size_tried (expression body.now)) }
     ensures limits { IfOk result IsLimited }
     ensures below { IfErr result (λ place. place < nodes (expression body.now) + nodes (expression first.now) + 1) }
 {

@@ -7,10 +7,7 @@ ghost use Rattle.term_core.specs.Scopes.{held_in};
 #[derive(Clone, Copy)]
 pub enum Scope<'a, T> {
     Empty,
-    Bound {
-        held: T,
-        outer: &'a Scope<'a, T>,
-    },
+    Bound { held: T, outer: &'a Scope<'a, T> },
 }
 
 /// What is known of the name that is bound `back` binders further out than the innermost; nothing without a binder.

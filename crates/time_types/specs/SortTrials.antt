@@ -43,7 +43,10 @@ sort_tried d (Cmp op a b) ss = two_tried Number Truth (nodes a) (sort_tried d a 
 sort_tried d (Not e) ss = one_tried Truth Truth (sort_tried d e ss)
 sort_tried d (Logic op a b) ss = two_tried Truth Truth (nodes a) (sort_tried d a ss) (sort_tried d b ss)
 sort_tried d (Cond t a b) ss =
-    then_do (moved 1 (sort_tried d t ss)) (λ s. then_do (moved (1 + nodes t) (sort_tried d a ss)) (λ x. then_do (moved (nodes t) (moved (1 + nodes a) (sort_tried d b ss))) (λ y. then_do (expected Truth s Truth) (λ _. expected x y x))))
+    then_do (moved 1 (sort_tried d t ss))
+    (λ s. then_do (moved (1 + nodes t) (sort_tried d a ss))
+    (λ x. then_do (moved (nodes t) (moved (1 + nodes a) (sort_tried d b ss)))
+    (λ y. then_do (expected Truth s Truth) (λ _. expected x y x))))
 sort_tried d (Widen s e) ss = one_tried Number Number (sort_tried d e ss)
 sort_tried d (Round mode s e) ss = one_tried Number Number (sort_tried d e ss)
 sort_tried d (Div mode s a b) ss = two_tried Number Number (nodes a) (sort_tried d a ss) (sort_tried d b ss)
@@ -68,4 +71,6 @@ sorts_tried d (After n c) ss = moved 1 (sorts_tried d c ss)
 sorts_tried d (Let e c) ss =
     then_do (moved 1 (sort_tried d e ss)) (λ s. moved (1 + nodes e) (sorts_tried d c (s ∷ ss)))
 sorts_tried d (Within e n a b) ss =
-    then_do (moved 1 (sort_tried d e ss)) (λ s. then_do (moved (1 + nodes e) (sorts_tried d a ss)) (λ _. then_do (moved (nodes e) (moved (1 + nodes_of_contract a) (sorts_tried d b ss))) (λ _. required Truth s)))
+    then_do (moved 1 (sort_tried d e ss))
+    (λ s. then_do (moved (1 + nodes e) (sorts_tried d a ss))
+    (λ _. then_do (moved (nodes e) (moved (1 + nodes_of_contract a) (sorts_tried d b ss))) (λ _. required Truth s)))

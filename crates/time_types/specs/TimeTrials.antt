@@ -69,10 +69,13 @@ abbrev pub start_tried : ℤ → List (Option ℤ) → Contract → Answer
 start_tried day names Zero = Ok Always
 start_tried day names (Pay a p q) = Ok (Day day)
 start_tried day names (Both a b) =
-    then_do (moved 1 (start_tried day names a)) (λ s. then_do (moved (1 + nodes_of_contract a) (start_tried day names b)) (λ t. Ok (earlier s t)))
+    then_do (moved 1 (start_tried day names a))
+    (λ s. then_do (moved (1 + nodes_of_contract a) (start_tried day names b)) (λ t. Ok (earlier s t)))
 start_tried day names (Scale e c) =
     then_do (moved (1 + nodes e) (start_tried day names c)) (λ s. in_time (known_from day names e) s s)
 start_tried day names (After n c) = moved 1 (start_tried (day +ℤ pos (count_of n)) names c)
 start_tried day names (Let e c) = moved (1 + nodes e) (start_tried day (known_from day names e ∷ names) c)
 start_tried day names (Within e n a b) =
-    then_do (moved (1 + nodes e) (start_tried day names a)) (λ s. then_do (moved (nodes e) (moved (1 + nodes_of_contract a) (start_tried (day +ℤ pos (count_of n)) names b))) (λ t. in_time (known_from day names e) (Day day) (earlier s t)))
+    then_do (moved (1 + nodes e) (start_tried day names a))
+    (λ s. then_do (moved (nodes e) (moved (1 + nodes_of_contract a) (start_tried (day +ℤ pos (count_of n)) names b)))
+    (λ t. in_time (known_from day names e) (Day day) (earlier s t)))

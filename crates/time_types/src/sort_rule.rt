@@ -119,7 +119,9 @@ fn sort_of_two(
     scope: &Scope<Sort>,
 ) -> Result<Sort, u32>
     requires { nodes (expression left.now) + nodes (expression right.now) + 1 < 2 ^ 32 }
-    ensures sort { result ≡ two_tried wanted answer (nodes (expression left.now)) (sort_tried (declarations decls.now) (expression left.now) (held_in scope.now)) (sort_tried (declarations decls.now) (expression right.now) (held_in scope.now)) }
+    ensures sort { result ≡ two_tried wanted answer (nodes (expression left.now))
+        (sort_tried (declarations decls.now) (expression left.now) (held_in scope.now))
+        (sort_tried (declarations decls.now) (expression right.now) (held_in scope.now)) }
     ensures below { IfErr result (λ place. place < nodes (expression left.now) + nodes (expression right.now) + 1) }
 {
     let left_sort = behind_node(sort_of_expr(decls, left, scope))?;

@@ -118,7 +118,8 @@ fn known(e: &Expr, scope: &Scope<Option<i64>>, day: PartDay) -> Option<i64>
 fn known_both(left: &Expr, right: &Expr, scope: &Scope<Option<i64>>, day: PartDay) -> Option<i64>
     requires left { HasRoom (height (expression left.now)) day.number }
     requires right { HasRoom (height (expression right.now)) day.number }
-    ensures { result ≡ later (known_from day.number (held_in scope.now) (expression left.now)) (known_from day.number (held_in scope.now) (expression right.now)) }
+    ensures { result ≡ later (known_from day.number (held_in scope.now) (expression left.now))
+        (known_from day.number (held_in scope.now) (expression right.now)) }
 {
     let left_known = known(left, scope, day);
     later_of(left_known, known(right, scope, day))
