@@ -1,4 +1,12 @@
 //! Which contracts are accepted: all five rules, in their order; and what is said of an accepted contract.
+//!
+//! ```text
+//! let facts = check(alloc, &portfolio.decls, &contr)?; // its start, scale, total and horizon
+//! ```
+//!
+//! Promised: `check` answers the facts of an accepted contract, which is causal then, or the first rule that
+//! fails and the first node at which it does (`IsChecked`).
+//! Only tested: that it answers where there is memory (`library_tests/src/verdicts.rt`).
 #![tactic(auto)]
 
 mod checks;

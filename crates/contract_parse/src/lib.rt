@@ -1,5 +1,14 @@
-//! Portfolios from their texts: tokens, the grammar of declarations and contracts, and the first fault of a text that
-//! is none.
+//! Portfolios from their texts: tokens, the grammar of declarations and contracts, and the first fault of a
+//! text that is none. A cursor lends tokens and declarations to other grammars; payoff code has its
+//! expressions from here.
+//!
+//! ```text
+//! let portfolio = parse_portfolio(alloc, &bytes)?; // of at most 16,777,216 bytes
+//! ```
+//!
+//! Promised: `parse_portfolio` answers the portfolio exactly where the bytes are a text of it, and else the
+//! first fault (`Answers`); a text stands for one portfolio (`laws`).
+//! Only tested: that a text is read where there is memory (`library_tests/src/texts.rt`).
 #![tactic(auto)]
 
 mod contrs;

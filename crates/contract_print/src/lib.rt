@@ -1,5 +1,13 @@
-//! The canonical text of portfolios: the one spelling of each that the program writes, which reads back as the same
-//! portfolio.
+//! The canonical text of portfolios: the one spelling of each that the program writes, which reads back as
+//! the same portfolio.
+//!
+//! ```text
+//! print_portfolio(alloc, &mut out, &portfolio)?;
+//! ```
+//!
+//! Promised: `print_portfolio` appends exactly that text (`AppendsBook`), or nothing; it reads back
+//! (`laws::canon_is_text`).
+//! Only tested: that it is printed where there is memory (`library_tests/src/printing.rt`).
 #![tactic(auto)]
 
 mod contrs;

@@ -1,4 +1,14 @@
 //! Values of expressions on a day, over fixings, with entries for the names that are bound around them.
+//!
+//! ```text
+//! let mut scratch = Scratch::for_contract(alloc, &contr)?;
+//! let value = eval(&portfolio.decls, &expr, &mut scratch, &fixings, day)?;
+//! ```
+//!
+//! Promised: `eval` answers the value of the model, the same in every environment that extends the fixings,
+//! or the first read that is not fixed (`IsAnswer`).
+//! Only tested: that a scratch is made where there is memory (`library_tests/src/values.rt`); `eval` takes
+//! none.
 #![tactic(auto)]
 
 pub mod evaluation;

@@ -1,5 +1,12 @@
-//! The tests of the libraries: tables of rows, each a case with its answer as known from outside, and a small function
-//! that walks each table. They stand in one crate, since a crate with tests is proved twice.
+//! The tests of the libraries: tables of rows, each a case with its answer as known from outside, and a small
+//! function that walks each table. They stand in one crate, since a crate with tests is proved twice.
+//!
+//! ```text
+//! let case = case_of(&rt, alloc, H, "zero")?; // the one contract of a text, under the declarations of H
+//! ```
+//!
+//! Promised: nothing to other crates; `rt test` runs the rows.
+//! Only tested: all that stands here, since a test that fails breaks no clause.
 #![tactic(auto)]
 
 #[cfg(test)]

@@ -1,4 +1,14 @@
-//! The lines that the program writes of verdicts, of flows, of values and of faults, and the sum of flow tables.
+//! The lines that the program writes of verdicts, of flows, of values and of faults, and the sum of flow
+//! tables.
+//!
+//! ```text
+//! let sum = net(alloc, &tables)?;
+//! flow_line(alloc, &mut out, &portfolio.decls, b"*", row)?; // of a row of the sum
+//! ```
+//!
+//! Promised: `flow_line` appends exactly the line of a row (`IsFlowLine`), or a front part of it; `net`
+//! answers the table of what is paid together (`IsSumOf`).
+//! Only tested: that they succeed where there is memory (`library_tests/src/lines.rt`, `flow_tables.rt`).
 #![tactic(auto)]
 
 mod check_lines;

@@ -1,4 +1,15 @@
-//! Two rules of acceptance: scales and sizes.
+//! Two rules of acceptance. Scales: a contract has no more decimals than the portfolio's amounts. Sizes: its
+//! nodes, its height, its days and the steps of its evaluation keep their limits.
+//!
+//! ```text
+//! let scale = scales(alloc, &portfolio.decls, &contr)?;
+//! let reach = sizes(&contr)?; // takes no memory
+//! ```
+//!
+//! Promised: `scales` answers the scale and `sizes` the reach, or the first node at which the rule fails
+//! (`IsVerdict`, `IsSizeVerdict`).
+//! Only tested: that `scales` answers where there is memory (by `contract_check`, in
+//! `library_tests/src/verdicts.rt`).
 #![tactic(auto)]
 
 mod part_sizes;

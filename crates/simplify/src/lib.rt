@@ -1,5 +1,14 @@
-//! The simplifier: it takes away the redexes of a contract that ask for no frame, by turns over its parts and itself. And
-//! the laws of turns.
+//! The simplifier: it takes away the redexes of a contract that ask for no frame, by turns over its parts and
+//! itself. And the laws of turns.
+//!
+//! ```text
+//! let simpler = simplify(alloc, &portfolio.decls, &contr)?;
+//! ```
+//!
+//! Promised: what `simplify` answers is accepted, pays the same (`PaysTheSame`), has no such redex
+//! (`HasNoPlainRedex`) and is no larger (`IsNoLarger`).
+//! Only tested: which of several such contracts it answers, and that it does where there is memory
+//! (`library_tests/src/simplifying.rt`).
 #![tactic(auto)]
 
 mod contracts;

@@ -1,5 +1,13 @@
-//! Terms with what fixings tell in them: what is put for an observable and for an accumulator of which all is fixed, and
-//! the laws of it.
+//! Terms with what fixings tell in them: what is put for an observable and for an accumulator of which all is
+//! fixed, and the laws of it.
+//!
+//! ```text
+//! let told = specialise_contr(alloc, &portfolio.decls, &contr, &fixings, day)?;
+//! ```
+//!
+//! Promised: `specialise_contr` answers exactly what `specialised_in` says, which on that day pays the same
+//! (`PaysTheSameOn`) and holds nothing that the fixings tell (`HasNoToldIn`).
+//! Only tested: that it answers where there is memory (`library_tests/src/specialising.rt`).
 #![tactic(auto)]
 
 mod calls;

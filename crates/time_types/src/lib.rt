@@ -1,4 +1,15 @@
-//! The first two rules of acceptance: sorts and times.
+//! The first two rules of acceptance. Sorts: each expression is a number or a truth value, each factor a
+//! number and each test a truth value. Times: nothing is paid before it is known.
+//!
+//! ```text
+//! sorts(alloc, &portfolio.decls, &contr)?;
+//! let start = times(alloc, &portfolio.decls, &contr)?;
+//! ```
+//!
+//! Promised: `sorts` and `times` answer that their rule holds, `times` with the start, or the first node at
+//! which it fails (`IsVerdict`).
+//! Only tested: that they answer where there is memory (by `contract_check`, in
+//! `library_tests/src/verdicts.rt`).
 #![tactic(auto)]
 
 mod laws;
