@@ -7,7 +7,7 @@ use Rattle.term_core.specs.Terms.{Contract}
 use Rattle.term_core.specs.Environments.{Environment}
 use Rattle.term_core.specs.Flows.{Flow, flow_of, amount_of, scale_of_contract}
 use Rattle.term_core.specs.Reads.{reads_of_contract}
-use Rattle.advance_step.specs.Carrying.{left_of}
+use Rattle.advance_step.specs.WhatIsLeft.{left_of}
 use Rattle.advance_step.specs.LawsLeft.{LeftCarries}
 use Rattle.rewriting.proofs.RaisedFacts.{raised_by}
 use Rattle.advance_step.proofs.LeftFlowFacts.{left_scales, left_flows}

@@ -24,26 +24,11 @@ use Rattle.expr_eval.specs.Answers.{entry_from, SuitsBinding}
 use Rattle.expr_eval.proofs.PartFacts.{accepted_may_evaluate, parts_of_parts_may_evaluate}
 use Rattle.expr_eval.proofs.EvaluableFacts.{past_of_standing, past_limited}
 use Rattle.flow_eval.proofs.RootFacts.{limits_of}
-use Rattle.advance_step.specs.Carried.{CanCarry, IsEntry, WithEntry}
-
-itself : (e : Expression) → IsPart e e
-itself (Lit m s) = refl
-itself (Yes b) = refl
-itself (Var back) = refl
-itself (Obs l t) = refl
-itself (Neg a) = inl refl
-itself (Num op a b) = inl refl
-itself (Cmp op a b) = inl refl
-itself (Not a) = inl refl
-itself (Logic op a b) = inl refl
-itself (Cond t a b) = inl refl
-itself (Widen s a) = inl refl
-itself (Round mode s a) = inl refl
-itself (Div mode s a b) = inl refl
-itself (Acc body n first) = inl refl
+use Rattle.specialise.proofs.PartFacts.{part_of_itself}
+use Rattle.advance_step.specs.CarryingWalk.{CanCarry, IsEntry, WithEntry}
 
 here : (e : Expression) (g : List Range) → IsPartHere e g e g
-here e g = record { part = itself e; ranges = refl }
+here e g = record { part = part_of_itself e; ranges = refl }
 
 -- an expression that stands in an accepted contract reads not too far back
 recent : (d : Declarations) (c : Contract) (e : Expression) (bs : List Binding) (h : MayEvaluateIn d c bs) → StandsIn d e h.ranges c h.ranges → past e ≤ 1_000_000

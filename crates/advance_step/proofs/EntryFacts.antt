@@ -20,7 +20,7 @@ use Rattle.expr_eval.specs.Standing.{StandFor}
 use Rattle.expr_eval.specs.Answers.{IsAnswer, SuitsBinding, entry_from, held_of}
 use Rattle.expr_eval.proofs.AnswerFacts.{entered_stand_for}
 use Rattle.rewriting.specs.Bindings.{bound_to}
-use Rattle.advance_step.specs.Carried.{Enters, IsEntry}
+use Rattle.advance_step.specs.CarryingWalk.{Enters, IsEntry}
 
 moved_entry : (d : Declarations) (e : Expression) (k : ℤ) (g : List Entry) (env : Environment) (f : ℤ) → bound_to d (shifted k e) g env f ≡ entry_of d e g env (f +ℤ k)
 moved_entry d e k g env f =

@@ -18,13 +18,13 @@ use Rattle.term_core.specs.Smallness.{is_small}
 use Rattle.term_core.specs.WellFormed.{IsClosed, HasOnlyNumbers}
 use Rattle.term_core.proofs.TimeFacts.{whole_passes}
 use Rattle.interval_check.specs.Within.{KeepsLimits}
-use Rattle.simplify.proofs.WholeFacts.{shared_numbers}
+use Rattle.simplify.proofs.SimplifyingFacts.{shared_numbers}
 use Rattle.flow_eval.specs.FlowAnswers.{reads_until}
 use Rattle.flow_eval.specs.Faults.{lacks_memory}
 use Rattle.flow_eval.specs.declared.faults.FlowErr.{FlowErr}
 use Rattle.flow_eval.specs.declared.faults.FlowErr.TheVariants.{Missing, NoMemory}
-use Rattle.advance_step.specs.Carrying.{left_of}
-use Rattle.advance_step.specs.Carried.{IsLeftEverywhere, NamesUnfixedRead}
+use Rattle.advance_step.specs.WhatIsLeft.{left_of}
+use Rattle.advance_step.specs.CarryingWalk.{IsLeftEverywhere, NamesUnfixedRead}
 use Rattle.advance_step.specs.Residual.{IsLeftAfter, ReadsAreFixed}
 use Rattle.advance_step.proofs.CarryFacts.{left_carries}
 use Rattle.advance_step.proofs.LeftAcceptedFacts.{left_accepted}

@@ -2,7 +2,7 @@
 use Rattle.std.proofs.Common.{suc, pos, ◌-ℤ◌, []}
 use Rattle.term_core.proofs.TimeFacts.{times_mean_typed}
 use Rattle.interval_check.proofs.GuaranteeFacts.{accepted_meet_rules, rules_are_by_structure}
-use Rattle.advance_step.specs.Carrying.{left_of}
+use Rattle.advance_step.specs.WhatIsLeft.{left_of}
 use Rattle.advance_step.proofs.LeftRules.{left_replaces}
 use Rattle.advance_step.proofs.LeftTimes.{left_typed}
 use Rattle.rewriting.proofs.SmallFacts.{nodes_are_small, small_are_met}

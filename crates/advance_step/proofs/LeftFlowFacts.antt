@@ -15,10 +15,12 @@ use Rattle.term_core.specs.Flows.{Flow, flow_of, count_of, unit_flow, on_day_zer
 use Rattle.term_core.specs.Shifts.{shifted}
 use Rattle.term_core.proofs.FlowFacts.{differs, first_within}
 use Rattle.term_core.proofs.ShiftFacts.{kind-shifted, value-shifted}
-use Rattle.advance_step.specs.Carrying.{left_of, delayed}
+use Rattle.advance_step.specs.WhatIsLeft.{left_of, delayed}
 use Rattle.rewriting.specs.Bindings.{bound_to}
 use Rattle.advance_step.specs.LawsLeft.{LeftScales, LeftFlows}
-use Rattle.rewriting.proofs.Worth.{Worth, worth_zero, worth_is, worth_more, worth_same}
+use Rattle.rewriting.specs.Worth.{Worth}
+use Rattle.rewriting.proofs.Worth.{worth_zero, worth_is, worth_more, worth_same}
+use Rattle.rewriting.proofs.Branches.{branch}
 use Rattle.rewriting.proofs.Choices.{if_cases, option_cases}
 use Rattle.advance_step.proofs.LeftParts.{worth_both, worth_scale, worth_let}
 use Rattle.advance_step.proofs.LaterFirst.{more_days, later_by, first_later}
@@ -67,9 +69,6 @@ delayed_scale d (suc n) c ks = refl
 delayed_flow : (d : Declarations) (n : ℕ) (c : Contract) (g : List Entry) (env : Environment) (f x : ℤ) (w : Flow) → flow_of d (delayed n c) g env f x w ≡ flow_of d c g env (f +ℤ pos n) (x -ℤ pos n) w
 delayed_flow d zero c g env f x w = ap₂ (λ (h y : ℤ). flow_of d c g env h y w) (omega (arith, ints)) (omega (arith, ints))
 delayed_flow d (suc n) c g env f x w = refl
-
-abbrev pub branch : Option ℕ → (ℕ → ℤ) → ℤ → ℤ
-branch o hit miss = elim o [ Some k ↦ hit k | None ↦ miss ]
 
 hit_is : (o : Option ℕ) (k : ℕ) (hit : ℕ → ℤ) (miss : ℤ) → o ≡ Some k → branch o hit miss ≡ hit k
 hit_is o k hit miss e = ap (λ (u : Option ℕ). branch u hit miss) e

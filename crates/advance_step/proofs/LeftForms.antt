@@ -12,7 +12,7 @@ use Rattle.term_core.specs.Flows.{count_of}
 use Rattle.term_core.specs.Shifts.{shifted}
 use Rattle.term_core.specs.Sizes.{days_before, past, reach, past_of_contract}
 use Rattle.term_core.specs.WellFormed.{IsWellFormed, IsWellFormedContract, HasOnlyNumbers}
-use Rattle.advance_step.specs.Carrying.{is_zero, left_of, delayed}
+use Rattle.advance_step.specs.WhatIsLeft.{is_zero, left_of, delayed}
 use Rattle.rewriting.specs.Bindings.{bound_to}
 use Rattle.rewriting.proofs.Choices.{if_cases, option_cases}
 use Rattle.advance_step.proofs.LeftParts.{both_cases}

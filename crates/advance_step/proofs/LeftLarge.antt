@@ -10,7 +10,7 @@ use Rattle.term_core.specs.Values.{Entry, first_true}
 use Rattle.term_core.specs.Flows.{count_of}
 use Rattle.term_core.specs.Shifts.{shifted}
 use Rattle.term_core.specs.Sizes.{height, nodes, work, height_of_contract, work_of_contract}
-use Rattle.advance_step.specs.Carrying.{left_of, delayed}
+use Rattle.advance_step.specs.WhatIsLeft.{left_of, delayed}
 use Rattle.rewriting.specs.Bindings.{bound_to}
 use Rattle.rewriting.proofs.Choices.{if_cases, option_cases}
 use Rattle.advance_step.proofs.LeftParts.{both_cases, scale_cases, let_cases}

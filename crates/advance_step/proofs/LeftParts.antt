@@ -1,6 +1,7 @@
 -- What is worth so much on a day, at a scale: the parts of what is left, put together.
 use Rattle.rewriting.proofs.Choices.{if_cases}
-use Rattle.rewriting.proofs.Worth.{worth_zero, worth_nothing, worth_is, worth_more, both_worth, under_nothing, Worth}
+use Rattle.rewriting.specs.Worth.{Worth}
+use Rattle.rewriting.proofs.Worth.{worth_zero, worth_nothing, worth_is, worth_more, both_worth, under_nothing}
 use Rattle.std.proofs.Common.{◌≡◌, ℕ, ℤ, pos, ◌+ℤ◌, ◌*ℤ◌, ◌+◌, ◌-◌, max, true, if◌then◌else◌, refl, ap, ap₂, sym, subst, ◌∙◌, List, ◌∷◌, arith}
 use Rattle.std.proofs.Math.IntN.{*ℤ-zero}
 use Rattle.std.proofs.lemmas.Int.{ints}
@@ -12,7 +13,7 @@ use Rattle.term_core.specs.Kinds.{kind_of, scale_of}
 use Rattle.term_core.specs.Values.{Entry, kinds, num, kind_or, value_of}
 use Rattle.term_core.specs.Flows.{Flow, flow_of, scale_of_contract}
 use Rattle.term_core.proofs.FlowFacts.{one_zero}
-use Rattle.advance_step.specs.Carrying.{is_zero, both_left, scale_left, let_left}
+use Rattle.advance_step.specs.WhatIsLeft.{is_zero, both_left, scale_left, let_left}
 use Rattle.rewriting.proofs.RaisedFacts.{raised-times}
 
 zero_is : (c : Contract) → is_zero c ≡ true → c ≡ Zero

@@ -11,14 +11,16 @@ use Rattle.term_core.specs.Flows.{count_of}
 use Rattle.term_core.specs.Reads.{reads_of, reads_of_contract, live, upto, tested, steps_before}
 use Rattle.term_core.specs.Shifts.{shifted}
 use Rattle.term_core.proofs.FlowFacts.{first_within}
-use Rattle.advance_step.specs.Carrying.{left_of, delayed}
+use Rattle.advance_step.specs.WhatIsLeft.{left_of, delayed}
 use Rattle.rewriting.specs.Bindings.{bound_to}
+use Rattle.rewriting.proofs.Branches.{branch_test, branch_reads, test_reads}
 use Rattle.rewriting.proofs.Choices.{if_cases, option_cases}
 use Rattle.advance_step.proofs.LeftParts.{both_cases, scale_cases, let_cases}
 use Rattle.advance_step.proofs.LaterFirst.{more_days, later_by}
 use Rattle.advance_step.proofs.LeftFlowFacts.{le_of, lt_of, rest_frame, rest_day, into_frame, into_day, bound_back, test_at, still_first}
 use Rattle.term_core.proofs.ReadShiftFacts.{reads-shifted, same_steps}
-use Rattle.rewriting.proofs.Among.{Among, among_none, among_same, among_left, among_right, among_both, among_if, among_later}
+use Rattle.rewriting.specs.Keeping.{AreAmong}
+use Rattle.rewriting.proofs.Among.{among_none, among_same, among_left, among_right, among_both, among_if, among_later}
 
 -- one is true only where the other is
 abbrev pub OnlyIf : Bool → Bool → Type 0
@@ -41,9 +43,6 @@ one_side b s t h e = rw (h e) refl
 other_side : (b s t : Bool) → OnlyIf b t → OnlyIf b (s || t)
 other_side b true t h e = refl
 other_side b false t h e = h e
-
-abbrev branch_test : Option ℕ → (ℕ → Bool) → Bool → Bool
-branch_test o hit miss = elim o [ Some k ↦ hit k | None ↦ miss ]
 
 hit_test : (o : Option ℕ) (k : ℕ) (hit : ℕ → Bool) (miss : Bool) → o ≡ Some k → branch_test o hit miss ≡ hit k
 hit_test o k hit miss e = ap (λ (u : Option ℕ). branch_test u hit miss) e
@@ -116,12 +115,9 @@ delayed_reads : (d : Declarations) (n : ℕ) (c : Contract) (g : List Entry) (bs
 delayed_reads d zero c g bs env f a b = moved_reads d c g bs env _ _ _ _ _ _ (omega (arith, ints)) (omega (arith, ints)) (omega (arith, ints))
 delayed_reads d (suc n) c g bs env f a b = refl
 
-moved_among : (d : Declarations) (c l : Contract) (g : List Entry) (bs : List (List Place)) (env : Environment) (f h k a b s t u v : ℤ) → f ≡ h → s ≡ u → t ≡ v → Among (reads_of_contract d l g bs env f a b) (reads_of_contract d c g bs env k s t) → Among (reads_of_contract d l g bs env h a b) (reads_of_contract d c g bs env k u v)
+moved_among : (d : Declarations) (c l : Contract) (g : List Entry) (bs : List (List Place)) (env : Environment) (f h k a b s t u v : ℤ) → f ≡ h → s ≡ u → t ≡ v → AreAmong (reads_of_contract d l g bs env f a b) (reads_of_contract d c g bs env k s t) → AreAmong (reads_of_contract d l g bs env h a b) (reads_of_contract d c g bs env k u v)
 moved_among d c l g bs env f h k a b s t u v e i j p q x =
     among_same _ _ (moved_reads d c g bs env k k s t u v refl i j) q (p q (among_same _ _ (sym (moved_reads d l g bs env f h a b a b e refl refl)) q x))
-
-abbrev pub branch_reads : Option ℕ → ℕ → ℤ → (ℕ → List Place) → List Place → List Place
-branch_reads o n b hit miss = elim o [ Some k ↦ if int_lt b (pos k) then [] else hit k | None ↦ if int_lt b (pos n) then [] else miss ]
 
 pub is_below : (a b : ℤ) → a <ℤ b → int_lt a b ≡ true
 is_below a b h = grind (arith, ints)
@@ -153,10 +149,7 @@ later_tested : (j n b : ℕ) (o : Option ℕ) → j < n → tested (later_by (su
 later_tested j n b None lt = omega arith
 later_tested j n b (Some k) lt = omega arith
 
-abbrev pub test_reads : Declarations → Expression → List Entry → List (List Place) → Environment → ℤ → ℕ → List Place
-test_reads d e g bs env f i = reads_of d e g bs env (f +ℤ pos i)
-
-among_tests : (j t s : ℕ) (f g : ℕ → List Place) → ((i : ℕ) → f i ≡ g (suc j + i)) → s ≡ suc j + t → Among (upto t f) (upto s g)
+among_tests : (j t s : ℕ) (f g : ℕ → List Place) → ((i : ℕ) → f i ≡ g (suc j + i)) → s ≡ suc j + t → AreAmong (upto t f) (upto s g)
 among_tests j t s f g h e =
     let more : suc j + suc t ≡ suc s = omega (arith, e) in
     λ q c. among_same _ _ (ap (λ (n : ℕ). steps_before n g) more) q (among_later (suc j) (suc t) g q (among_same _ _ (same_steps (suc t) f (λ i. g (suc j + i)) h) q c))
@@ -164,7 +157,7 @@ among_tests j t s f g h e =
 -- the reads of a residual up to day b, among those of the contract up to so many days later
 abbrev pub ReadsLeft : Declarations → Contract → List Entry → List (List Place) → Environment → ℤ → ℕ → ℤ → ℕ → Contract → Type 0
 ReadsLeft d c g bs env f j a b l =
-    Among (reads_of_contract d l g bs env (f +ℤ pos (suc j)) a (pos b)) (reads_of_contract d c g bs env f (pos (suc j) +ℤ a) (pos (suc j) +ℤ pos b))
+    AreAmong (reads_of_contract d l g bs env (f +ℤ pos (suc j)) a (pos b)) (reads_of_contract d c g bs env f (pos (suc j) +ℤ a) (pos (suc j) +ℤ pos b))
 
 within_opens : (t : Bool) (xs : List Place) → t ≡ false → xs ≡ (if t then [] else xs)
 within_opens t xs h = rw h refl
@@ -192,8 +185,8 @@ left_reads d (Let e c) g bs env f j a b =
     let here : reads_of d (shifted (negsuc j) e) g bs env (f +ℤ pos (suc j)) ≡ places = reads-shifted d e (negsuc j) g bs env (f +ℤ pos (suc j)) ∙ ap (reads_of d e g bs env) (omega (arith, ints)) in
     let_cases (ReadsLeft d (Let e c) g bs env f j a b) (shifted (negsuc j) e) (left_of d c (was ∷ g) env f j)
     (λ _. among_none _)
-    (subst (λ (ps : List Place). Among (reads_of_contract d (left_of d c (was ∷ g) env f j) (bound_to d (shifted (negsuc j) e) g env (f +ℤ pos (suc j)) ∷ g) (ps ∷ bs) env (f +ℤ pos (suc j)) a (pos b)) (reads_of_contract d c (was ∷ g) (places ∷ bs) env f (pos (suc j) +ℤ a) (pos (suc j) +ℤ pos b))) (sym here)
-    (subst (λ (entry : Entry). Among (reads_of_contract d (left_of d c (was ∷ g) env f j) (entry ∷ g) (places ∷ bs) env (f +ℤ pos (suc j)) a (pos b)) (reads_of_contract d c (was ∷ g) (places ∷ bs) env f (pos (suc j) +ℤ a) (pos (suc j) +ℤ pos b))) (sym (bound_back d e g env f j))
+    (subst (λ (ps : List Place). AreAmong (reads_of_contract d (left_of d c (was ∷ g) env f j) (bound_to d (shifted (negsuc j) e) g env (f +ℤ pos (suc j)) ∷ g) (ps ∷ bs) env (f +ℤ pos (suc j)) a (pos b)) (reads_of_contract d c (was ∷ g) (places ∷ bs) env f (pos (suc j) +ℤ a) (pos (suc j) +ℤ pos b))) (sym here)
+    (subst (λ (entry : Entry). AreAmong (reads_of_contract d (left_of d c (was ∷ g) env f j) (entry ∷ g) (places ∷ bs) env (f +ℤ pos (suc j)) a (pos b)) (reads_of_contract d c (was ∷ g) (places ∷ bs) env f (pos (suc j) +ℤ a) (pos (suc j) +ℤ pos b))) (sym (bound_back d e g env f j))
     (left_reads d c (was ∷ g) (places ∷ bs) env f j a b)))
 left_reads d (Within e m x y) g bs env f j a b =
     let n = count_of m in

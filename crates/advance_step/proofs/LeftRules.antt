@@ -16,31 +16,16 @@ use Rattle.interval_check.specs.Replacing.{Replaces, ReplacesContract, IsRewritt
 use Rattle.interval_check.proofs.NarrowerFacts.{stays_tight, narrower_let}
 use Rattle.interval_check.proofs.RewritingContracts.{rewritten_contract_replaces, parts_stand_for_themselves, replacements_compose}
 use Rattle.interval_check.proofs.StandingFacts.{contract_parts_replace}
-use Rattle.advance_step.specs.Carrying.{left_of, delayed}
+use Rattle.advance_step.specs.WhatIsLeft.{left_of, delayed}
 use Rattle.rewriting.specs.Bindings.{bound_to}
 use Rattle.rewriting.proofs.Choices.{if_cases, option_cases}
 use Rattle.advance_step.proofs.LeftParts.{both_cases, scale_cases, let_cases}
 use Rattle.rewriting.proofs.LookFacts.{Look}
 use Rattle.rewriting.proofs.ShiftedRules.{shifted_alike}
+use Rattle.specialise.proofs.SpecialRules.{by_whole}
 use Rattle.advance_step.specs.LawsLeftRules.{LeftReplaces}
 
 -- what may stand for a whole is the whole rewritten
-by_whole : (d : Declarations) (x y : Expression) (g : List Range) → Replaces d y x g → IsRewritten d x y g
-by_whole d (Lit m s) y g r = r
-by_whole d (Yes b) y g r = r
-by_whole d (Var back) y g r = r
-by_whole d (Obs l t) y g r = r
-by_whole d (Neg a) y g r = inl r
-by_whole d (Num op a b) y g r = inl r
-by_whole d (Cmp op a b) y g r = inl r
-by_whole d (Not a) y g r = inl r
-by_whole d (Logic op a b) y g r = inl r
-by_whole d (Cond t a b) y g r = inl r
-by_whole d (Widen s a) y g r = inl r
-by_whole d (Round mode s a) y g r = inl r
-by_whole d (Div mode s a b) y g r = inl r
-by_whole d (Acc body n first) y g r = inl r
-
 by_whole_contract : (d : Declarations) (c k : Contract) (g : List Range) → ReplacesContract d k c g → IsRewrittenContract d c k g
 by_whole_contract d Zero k g r = r
 by_whole_contract d (Pay a p q) k g r = r

@@ -9,7 +9,7 @@ use Rattle.term_core.specs.Flows.{count_of}
 use Rattle.term_core.specs.Shifts.{shifted}
 use Rattle.term_core.specs.Sizes.{reach, past, past_of_contract, days_before, nodes, nodes_of_contract}
 use Rattle.term_core.proofs.FlowFacts.{first_within}
-use Rattle.advance_step.specs.Carrying.{left_of, delayed, both_left, scale_left, let_left}
+use Rattle.advance_step.specs.WhatIsLeft.{left_of, delayed, both_left, scale_left, let_left}
 use Rattle.rewriting.specs.Bindings.{bound_to}
 use Rattle.rewriting.proofs.Choices.{if_cases, option_cases}
 use Rattle.advance_step.proofs.LeftParts.{both_cases, scale_cases, let_cases}

@@ -15,7 +15,7 @@ use Rattle.term_core.specs.Smallness.{within_limits, days_of, days_of_contract, 
 use Rattle.term_core.specs.Sites.{Once, OfExpression, OfContract}
 use Rattle.term_core.specs.Bounds.{Range}
 use Rattle.interval_check.specs.Nodes.{EachNode, EachContractNode, range_of, range_after}
-use Rattle.advance_step.specs.Carrying.{is_zero, both_left, scale_left, let_left, left_of, delayed}
+use Rattle.advance_step.specs.WhatIsLeft.{is_zero, both_left, scale_left, let_left, left_of, delayed}
 use Rattle.rewriting.specs.Bindings.{bound_to}
 use Rattle.rewriting.proofs.Choices.{if_cases, option_cases}
 use Rattle.advance_step.proofs.LeftSizes.{near, past_back, past_left, nodes_left}

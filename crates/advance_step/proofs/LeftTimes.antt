@@ -11,7 +11,7 @@ use Rattle.term_core.specs.Times.{AtMost, Typed, TypedContract, raised_by, lower
 use Rattle.term_core.proofs.FlowFacts.{first_within}
 use Rattle.time_types.specs.TypingLaws.{AreNoLater}
 use Rattle.time_types.proofs.TypingFacts.{expressions_rise, contracts_fall}
-use Rattle.advance_step.specs.Carrying.{left_of, delayed}
+use Rattle.advance_step.specs.WhatIsLeft.{left_of, delayed}
 use Rattle.rewriting.specs.Bindings.{bound_to}
 use Rattle.rewriting.proofs.Choices.{if_cases, option_cases}
 use Rattle.advance_step.proofs.LeftParts.{both_cases, scale_cases, let_cases}

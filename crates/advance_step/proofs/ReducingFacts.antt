@@ -13,7 +13,7 @@ use Rattle.term_core.specs.Sites.{Once}
 use Rattle.term_core.proofs.ResidualFacts.{carries_composes}
 use Rattle.interval_check.specs.Nodes.{IsScaledPart}
 use Rattle.interval_check.proofs.GuaranteeFacts.{accepted_meet_rules}
-use Rattle.advance_step.specs.Carrying.{left_of}
+use Rattle.advance_step.specs.WhatIsLeft.{left_of}
 use Rattle.advance_step.proofs.CarryFacts.{left_carries}
 use Rattle.advance_step.proofs.LeftSizes.{gone}
 use Rattle.rewriting.specs.Measures.{size_in}

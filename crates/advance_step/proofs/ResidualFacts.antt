@@ -15,7 +15,7 @@ use Rattle.term_core.specs.WellFormed.{IsClosed}
 use Rattle.term_core.proofs.MeaningFacts.{one_meaning}
 use Rattle.term_core.proofs.ResidualFacts.{carries_composes}
 use Rattle.term_core.proofs.VerdictFacts.{one_verdict}
-use Rattle.simplify.proofs.WholeFacts.{shared_numbers}
+use Rattle.simplify.proofs.SimplifyingFacts.{shared_numbers}
 use Rattle.advance_step.specs.Advancing.{IsResidual}
 use Rattle.advance_step.specs.LawsAdvancing.{RunsCompose}
 use Rattle.advance_step.specs.Residual.{IsLeftAfter, IsReducedFrom}

@@ -14,14 +14,14 @@ use Rattle.term_core.specs.WellFormed.{IsClosed, HasOnlyNumbers}
 use Rattle.interval_check.specs.Within.{KeepsLimits}
 use Rattle.rewriting.specs.Measures.{size_in}
 use Rattle.specialise.specs.Specialising.{specialised_in}
-use Rattle.specialise.specs.Specialised.{IsNoLargerIn}
+use Rattle.rewriting.specs.Keeping.{IsNoLargerIn}
 use Rattle.specialise.proofs.AcceptedFacts.{special_accepted}
 use Rattle.specialise.proofs.SpecialContracts.{special_carries}
 use Rattle.specialise.proofs.SpecialForms.{contract_formed}
 use Rattle.specialise.proofs.SpecialRedexes.{special_leaves_none}
 use Rattle.simplify.specs.TurningContracts.{turned_in}
 use Rattle.simplify.proofs.TurnForms.{turns_keep_forms}
-use Rattle.simplify.proofs.WholeFacts.{literals_fit, nothing_plain, shared_numbers}
+use Rattle.simplify.proofs.SimplifyingFacts.{literals_fit, nothing_plain, shared_numbers}
 use Rattle.advance_step.specs.LawsReducing.{reduced_once}
 use Rattle.advance_step.specs.Residual.{IsReducedFrom}
 use Rattle.advance_step.proofs.ReducingFacts.{each_kind, from_here, reducing_once}

@@ -27,7 +27,7 @@ use Rattle.term_core.proofs.AlikeFacts.{and_left}
 use Rattle.term_core.proofs.TimeFacts.{nodes_timed}
 use Rattle.term_core.proofs.Trials.{first_failing-is}
 use Rattle.rewriting.specs.Measures.{size_in}
-use Rattle.advance_step.specs.Carrying.{left_of}
+use Rattle.advance_step.specs.WhatIsLeft.{left_of}
 use Rattle.advance_step.specs.LawsReducing.{reduced_times}
 use Rattle.advance_step.proofs.ReducingFacts.{residuals_hold}
 

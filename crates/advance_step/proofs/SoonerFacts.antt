@@ -7,7 +7,7 @@ use Rattle.term_core.specs.Shifts.{shifted}
 use Rattle.term_core.specs.SharedTerms.{HasOffsets}
 use Rattle.term_core.specs.Sizes.{past, days_before}
 use Rattle.term_core.proofs.ShiftedFacts.{shifted_twice}
-use Rattle.advance_step.specs.Carried.{CanMove}
+use Rattle.advance_step.specs.CarryingWalk.{CanMove}
 
 -- r is k, where k is as few days as an observable can be moved by
 abbrev pub IsNear : ℤ → ℤ → ℤ → Type 0

@@ -8,8 +8,9 @@ use Rattle.term_core.specs.Values.{Entry, first_true}
 use Rattle.term_core.specs.Flows.{count_of}
 use Rattle.term_core.specs.Reads.{reads_of, reads_of_contract, live, upto, tested}
 use Rattle.rewriting.specs.Bindings.{bound_to}
-use Rattle.rewriting.proofs.Among.{Among, among_none, among_same, among_both, among_if}
-use Rattle.advance_step.proofs.LeftReadFacts.{OnlyIf, either, branch_reads, is_below, not_below}
+use Rattle.rewriting.specs.Keeping.{AreAmong}
+use Rattle.rewriting.proofs.Among.{among_none, among_same, among_both, among_if, among_unless, among_branches}
+use Rattle.advance_step.proofs.LeftReadFacts.{OnlyIf, either, is_below, not_below}
 
 below_sooner : (x a b : ℤ) → a ≤ℤ b → int_lt x b ≡ false → int_lt x a ≡ false
 below_sooner x a b le h =
@@ -39,15 +40,7 @@ live_longer d (Let e c) g env f s a b le = live_longer d c (bound_to d e g env f
 live_longer d (Within e m x y) g env f s a b le =
     branch_only (first_true d e g env f (count_of m)) _ _ _ _ (λ k. live_longer d x g env (f +ℤ pos k) (s -ℤ pos k) (a -ℤ pos k) (b -ℤ pos k) (omega (arith, ints))) (live_longer d y g env (f +ℤ pos (count_of m)) (s -ℤ pos (count_of m)) (a -ℤ pos (count_of m)) (b -ℤ pos (count_of m)) (omega (arith, ints)))
 
-unless : (t : Bool) (xs ys : List Place) → Among xs ys → Among (if t then [] else xs) (if t then [] else ys)
-unless true xs ys h = among_none []
-unless false xs ys h = h
-
-branch_longer : (o : Option ℕ) (n : ℕ) (b : ℤ) (x y : ℕ → List Place) (u v : List Place) → ((k : ℕ) → Among (x k) (y k)) → Among u v → Among (branch_reads o n b x u) (branch_reads o n b y v)
-branch_longer (Some k) n b x y u v h e = unless (int_lt b (pos k)) (x k) (y k) (h k)
-branch_longer None n b x y u v h e = unless (int_lt b (pos n)) u v e
-
-pub reads_longer : (d : Declarations) (c : Contract) (g : List Entry) (bs : List (List Place)) (env : Environment) (f s a b : ℤ) → s ≤ℤ a → Among (reads_of_contract d c g bs env f a b) (reads_of_contract d c g bs env f s b)
+pub reads_longer : (d : Declarations) (c : Contract) (g : List Entry) (bs : List (List Place)) (env : Environment) (f s a b : ℤ) → s ≤ℤ a → AreAmong (reads_of_contract d c g bs env f a b) (reads_of_contract d c g bs env f s b)
 reads_longer d Zero g bs env f s a b le = among_none []
 reads_longer d (Pay x p q) g bs env f s a b le = among_none []
 reads_longer d (Both x y) g bs env f s a b le = among_both _ _ _ _ (reads_longer d x g bs env f s a b le) (reads_longer d y g bs env f s a b le)
@@ -60,5 +53,5 @@ reads_longer d (Within e m x y) g bs env f s a b le =
     let n = count_of m in
     let first = first_true d e g env f n in
     let tests : List Place = upto (tested first n b) (λ i. reads_of d e g bs env (f +ℤ pos i)) in
-    unless (int_lt b (pos 0)) _ _ (among_both tests _ tests _ (among_same tests tests refl)
-    (branch_longer first n b _ _ _ _ (λ k. reads_longer d x g bs env (f +ℤ pos k) (s -ℤ pos k) (a -ℤ pos k) (b -ℤ pos k) (omega (arith, ints))) (reads_longer d y g bs env (f +ℤ pos n) (s -ℤ pos n) (a -ℤ pos n) (b -ℤ pos n) (omega (arith, ints)))))
+    among_unless (int_lt b (pos 0)) _ _ (among_both tests _ tests _ (among_same tests tests refl)
+    (among_branches first first n b _ _ _ _ refl (λ k. reads_longer d x g bs env (f +ℤ pos k) (s -ℤ pos k) (a -ℤ pos k) (b -ℤ pos k) (omega (arith, ints))) (reads_longer d y g bs env (f +ℤ pos n) (s -ℤ pos n) (a -ℤ pos n) (b -ℤ pos n) (omega (arith, ints)))))

@@ -18,10 +18,11 @@ use Rattle.flow_eval.specs.declared.faults.FlowErr.{FlowErr}
 use Rattle.flow_eval.specs.declared.faults.FlowErr.TheVariants.{Missing, NoMemory}
 use Rattle.flow_eval.specs.Faults.{lacks_place}
 use Rattle.rewriting.specs.Bindings.{bound_to}
-use Rattle.advance_step.specs.Carrying.{delayed, left_of, let_left}
-use Rattle.advance_step.specs.Carried.{Enters, IsLeft, IsLeftEverywhere, LacksRead, NamesUnfixedRead}
+use Rattle.advance_step.specs.WhatIsLeft.{delayed, left_of, let_left}
+use Rattle.advance_step.specs.CarryingWalk.{Enters, IsLeft, IsLeftEverywhere, LacksRead, NamesUnfixedRead}
 use Rattle.advance_step.proofs.LaterFirst.{more_days}
-use Rattle.advance_step.proofs.LeftReadFacts.{branch_reads, not_below}
+use Rattle.advance_step.proofs.LeftReadFacts.{not_below}
+use Rattle.rewriting.proofs.Branches.{branch_reads}
 use Rattle.advance_step.proofs.TestFacts.{first_is, first_lacks, is_tested, lacked_is_read, steps_hold}
 
 -- ---- two parts, and a factor

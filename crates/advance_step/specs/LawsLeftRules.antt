@@ -12,7 +12,7 @@ use Rattle.interval_check.specs.Nodes.{ContractMeetsRules}
 use Rattle.interval_check.specs.Narrowing.{AreNarrower}
 use Rattle.interval_check.specs.Within.{KeepsLimits}
 use Rattle.interval_check.specs.Replacing.{ReplacesContract}
-use Rattle.advance_step.specs.Carrying.{left_of}
+use Rattle.advance_step.specs.WhatIsLeft.{left_of}
 
 abbrev pub NothingIsLeft : Type 0
 NothingIsLeft =
@@ -43,5 +43,5 @@ LeftIsTyped =
 
 abbrev pub LeftReplaces : Type 0
 LeftReplaces =
-    (d : Declarations) (c : Contract) (es : List Entry) (env : Environment) (f : ℤ) (j : ℕ) (g : List Range) → KeepsLimits d → AreNarrower g g
-    → ContractMeetsRules d c g → ReplacesContract d (left_of d c es env f j) c g
+    (d : Declarations) (c : Contract) (es : List Entry) (env : Environment) (f : ℤ) (j : ℕ) (g : List Range)
+    → KeepsLimits d → AreNarrower g g → ContractMeetsRules d c g → ReplacesContract d (left_of d c es env f j) c g

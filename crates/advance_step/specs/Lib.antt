@@ -1,5 +1,5 @@
-pub mod Carrying
-pub mod Carried
+pub mod WhatIsLeft
+pub mod CarryingWalk
 pub mod Residual
 pub mod Advancing
 pub mod LawsAdvancing

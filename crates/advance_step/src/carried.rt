@@ -5,9 +5,9 @@ ghost use Rattle.term_core.specs.Declarations.{declarations};
 ghost use Rattle.term_core.specs.Environments.{IsAdmitted};
 ghost use Rattle.term_core.specs.Acceptance.{IsAccepted};
 ghost use Rattle.term_core.specs.SharedTerms.{shared, StoresOffsets};
-ghost use Rattle.advance_step.specs.Carried.{IsLeftEverywhere, NamesUnfixedRead};
+ghost use Rattle.advance_step.specs.CarryingWalk.{IsLeftEverywhere, NamesUnfixedRead};
 
-use crate::answers::Course;
+use crate::course::Course;
 use crate::walk::carry_in;
 use expr_eval::Scratch;
 use fixing_files::Fixings;

@@ -12,8 +12,8 @@
 #![tactic(auto)]
 
 mod advancing;
-mod answers;
 mod carried;
+mod course;
 mod known;
 pub mod laws;
 mod parts;

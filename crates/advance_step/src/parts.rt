@@ -5,8 +5,8 @@ ghost use Rattle.term_core.specs.Terms.{expression, Zero, Within, Expression};
 ghost use Rattle.term_core.specs.declared.terms.Days.TheVariants.{Num as Count};
 ghost use Rattle.term_core.specs.Shifts.{shifted};
 ghost use Rattle.term_core.specs.SharedTerms.{shared, HasOffsets, StoresOffsets};
-ghost use Rattle.advance_step.specs.Carrying as model;
-ghost use Rattle.advance_step.specs.Carried.{CanMove};
+ghost use Rattle.advance_step.specs.WhatIsLeft as model;
+ghost use Rattle.advance_step.specs.CarryingWalk.{CanMove};
 
 use decimal::NoMemory;
 use std::alloc::Global;

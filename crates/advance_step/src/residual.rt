@@ -11,7 +11,7 @@ ghost use Rattle.flow_eval.specs.Faults.{lacks_memory};
 ghost use Rattle.advance_step.specs.Advancing.{IsResidual, day_before};
 ghost use Rattle.advance_step.specs.Residual.{IsLeftAfter, ReadsAreFixed};
 
-use crate::answers::later;
+use crate::course::later;
 use crate::known::carry_known;
 use crate::reducing::reduce;
 use decimal::NoMemory;

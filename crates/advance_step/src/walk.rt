@@ -11,9 +11,9 @@ ghost use Rattle.term_core.specs.declared.terms.Days.TheVariants.{Num as Count};
 ghost use Rattle.term_core.specs.SharedTerms.{shared, HasOffsets, StoresOffsets};
 ghost use Rattle.expr_eval.specs.declared.scratch.Binding.{Binding};
 ghost use Rattle.expr_eval.specs.Evaluable.{MayEvaluate};
-ghost use Rattle.advance_step.specs.Carried.{CanCarry, CanMove, IsLeft, LacksRead, WithEntry};
+ghost use Rattle.advance_step.specs.CarryingWalk.{CanCarry, CanMove, IsLeft, LacksRead, WithEntry};
 
-use crate::answers::{Course, days_tried, entry_for, later};
+use crate::course::{Course, days_tried, entry_for, later};
 use crate::parts::{both_left, delayed, let_left, nothing, scale_left, still_waiting};
 use expr_eval::{Scratch, first_true};
 use flow_eval::FlowErr;

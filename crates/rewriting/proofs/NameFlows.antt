@@ -12,6 +12,7 @@ use Rattle.term_core.specs.Flows.{flow_of, count_of, scale_of_contract}
 use Rattle.term_core.specs.Redexes.{uses, uses_in_contract}
 use Rattle.rewriting.specs.Substituting.{substituted, substituted_in, without}
 use Rattle.rewriting.specs.LawsNames.{HasKindOf, HasValueOf, FlowsWithoutName}
+use Rattle.rewriting.proofs.Branches.{two_raised, same_branch}
 use Rattle.rewriting.proofs.NameLists.{kinds-without, on_left, on_right}
 use Rattle.rewriting.proofs.NameKinds.{kind_without, kind_here}
 use Rattle.rewriting.proofs.NameValues.{value_without}
@@ -51,17 +52,6 @@ first_without d e j x g env f n h v = same_first n _ _ (λ i. ap truth (value_wi
 pub entry_without : (d : Declarations) (e : Expression) (j : ℕ) (x : Expression) (g : List Entry) (env : Environment) (f : ℤ) → (uses j e ≡ true → HasKindOf d x (kinds g) j) → (uses j e ≡ true → HasValueOf d x g j) → (let entry : Entry = record { value = value_of d (substituted j x e) (without j g) env f; kind = kind_or (kind_of d (substituted j x e) (kinds (without j g))) } in entry) ≡ record { value = value_of d e g env f; kind = kind_or (kind_of d e (kinds g)) }
 entry_without d e j x g env f h v =
     ap₂ (λ (u : Value) (k : Option Kind). let entry : Entry = record { value = u; kind = kind_or k } in entry) (value_without d e j x g env f h v) (kind_here d e j x g h)
-
-two_raised : (x x' y y' : ℤ) (i i' k k' : ℕ) → x ≡ x' → y ≡ y' → i ≡ i' → k ≡ k' → raised x (max i k - i) +ℤ raised y (max i k - k) ≡ raised x' (max i' k' - i') +ℤ raised y' (max i' k' - k')
-two_raised x x' y y' i i' k k' ex ey ei ek =
-    ap₂ (λ (u v : ℤ). raised u (max i k - i) +ℤ raised v (max i k - k)) ex ey ∙ ap₂ (λ (s t : ℕ). raised x' (max s t - s) +ℤ raised y' (max s t - t)) ei ek
-
-abbrev branch : Option ℕ → (ℕ → ℤ) → ℤ → ℤ
-branch o hit miss = elim o [ Some k ↦ hit k | None ↦ miss ]
-
-same_branch : (o u : Option ℕ) (x y : ℕ → ℤ) (v w : ℤ) → o ≡ u → ((k : ℕ) → x k ≡ y k) → v ≡ w → branch o x v ≡ branch u y w
-same_branch (Some k) u x y v w e h i = h k ∙ ap (λ (r : Option ℕ). branch r y w) e
-same_branch None u x y v w e h i = i ∙ ap (λ (r : Option ℕ). branch r y w) e
 
 pub flow_without : FlowsWithoutName
 flow_without d Zero j x g env f n w h v = refl

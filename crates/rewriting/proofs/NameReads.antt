@@ -16,6 +16,7 @@ use Rattle.rewriting.specs.LawsNames.{HasKindOf, HasValueOf, ReadsWithoutName, C
 use Rattle.rewriting.proofs.NameLists.{get_before, get_past, name_cases, on_left, on_right, eq_is}
 use Rattle.rewriting.proofs.NameKinds.{in_body, kind_here, scale_here}
 use Rattle.rewriting.proofs.NameValues.{value_without, same_days}
+use Rattle.rewriting.proofs.Branches.{same_test, branch_reads}
 use Rattle.rewriting.proofs.NameFlows.{under, first_without, entry_without}
 
 same_steps : (n : ℕ) (f g : ℕ → List Place) → ((i : ℕ) → f i ≡ g i) → steps_before n f ≡ steps_before n g
@@ -88,13 +89,6 @@ reads_without d (Acc body n first) j x g bs env f h v r =
     let entry : Entry = record { value = u; kind = kind } in
     ap₂ (λ (s : ℕ) (z : Value). widened s (scale_of_kind kind) z) (scale_here d body (suc j) x (entry ∷ g) hb) (value_without d body (suc j) x (entry ∷ g) env (from +ℤ pos i') hb vb)))))
 
-abbrev branch_test : Option ℕ → (ℕ → Bool) → Bool → Bool
-branch_test o hit miss = elim o [ Some k ↦ hit k | None ↦ miss ]
-
-same_test : (o u : Option ℕ) (x y : ℕ → Bool) (v w : Bool) → o ≡ u → ((k : ℕ) → x k ≡ y k) → v ≡ w → branch_test o x v ≡ branch_test u y w
-same_test (Some k) u x y v w e h i = h k ∙ ap (λ (r : Option ℕ). branch_test r y w) e
-same_test None u x y v w e h i = i ∙ ap (λ (r : Option ℕ). branch_test r y w) e
-
 pub live_without : (d : Declarations) (c : Contract) (j : ℕ) (x : Expression) (g : List Entry) (env : Environment) (f a b : ℤ)
     → (uses_in_contract j c ≡ true → HasKindOf d x (kinds g) j) → (uses_in_contract j c ≡ true → HasValueOf d x g j)
     → live d (substituted_in j x c) (without j g) env f a b ≡ live d c g env f a b
@@ -119,9 +113,6 @@ live_without d (Within e m p q) j x g env f a b h v =
     same_test _ (first_true d e g env f (count_of m)) _ _ _ _ (first_without d e j x g env f (count_of m) (on_left ue (up || uq) h) (on_left ue (up || uq) v))
     (λ k. live_without d p j x g env (f +ℤ pos k) (a -ℤ pos k) (b -ℤ pos k) (on_left up uq hr) (on_left up uq vr))
     (live_without d q j x g env (f +ℤ pos (count_of m)) (a -ℤ pos (count_of m)) (b -ℤ pos (count_of m)) (on_right up uq hr) (on_right up uq vr))
-
-abbrev branch_reads : Option ℕ → ℕ → ℤ → (ℕ → List Place) → List Place → List Place
-branch_reads o n b hit miss = elim o [ Some k ↦ if int_lt b (pos k) then [] else hit k | None ↦ if int_lt b (pos n) then [] else miss ]
 
 unless : (t : Bool) (xs ys : List Place) → xs ≡ ys → (if t then [] else xs) ≡ (if t then [] else ys)
 unless t xs ys e = ap (λ (zs : List Place). if t then [] else zs) e

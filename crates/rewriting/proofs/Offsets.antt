@@ -4,6 +4,7 @@ use Rattle.term_core.specs.Terms.{Expression, Lit, Yes, Var, Obs, Neg, Num, Cmp,
 use Rattle.term_core.specs.Redexes.{is_literal}
 use Rattle.term_core.specs.SharedTerms.{HasOffsets}
 use Rattle.rewriting.specs.Substituting.{substituted, name_without}
+use Rattle.rewriting.proofs.ShiftedSizes.{substituted_shifted, shifted_height}
 
 literal_offsets : (x : Expression) → is_literal x ≡ true → HasOffsets x
 literal_offsets (Lit m s) h = tt
@@ -44,3 +45,6 @@ offsets_substituted j x (Widen s e) h p = offsets_substituted j x e h p
 offsets_substituted j x (Round mode s e) h p = offsets_substituted j x e h p
 offsets_substituted j x (Div mode s a b) h p = (offsets_substituted j x a h p.0, offsets_substituted j x b h p.1)
 offsets_substituted j x (Acc body n first) h p = (offsets_substituted (suc j) x body h p.0, offsets_substituted j x first h p.1)
+
+-- what a literal in the place of a name leaves as it is
+pub ruleset for_substituted = (substituted_shifted, shifted_height, offsets_substituted)

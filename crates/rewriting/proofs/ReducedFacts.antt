@@ -6,7 +6,7 @@ use Rattle.term_core.specs.Flows.{count_of}
 use Rattle.term_core.specs.Sizes.{nodes, nodes_of_contract}
 use Rattle.term_core.specs.Sites.{Layer, Naming, Counting, Later, Earlier, Undated, Part, Once, Site, sites_of, sites_of_contract, AllPass}
 use Rattle.term_core.specs.Redexes.{frame_round}
-use Rattle.rewriting.specs.Reduced.{IsNone, NoneIn, NoneInContract, ReducedByStructure}
+use Rattle.rewriting.specs.Reduced.{IsNoRedex, NoneIn, NoneInContract, ReducedByStructure}
 
 and_more : (P : Site → Type 0) (xs ys : List Site) → AllPass P xs → AllPass P ys → AllPass P (xs ++ ys)
 and_more P [] ys h k = k
@@ -57,4 +57,4 @@ none_at_contract P whole (Within e n a b) r k h =
     (and_more _ _ _ (none_at_contract P whole b (Later (count_of n) ∷ r) (k + 1 + nodes e + nodes_of_contract a) h.2) (h.3, tt)))
 
 pub reduced_by_structure : ReducedByStructure
-reduced_by_structure d c fixings whole kind h = none_at_contract (IsNone d fixings kind) whole c [] 0 h
+reduced_by_structure d c fixings whole kind h = none_at_contract (IsNoRedex d fixings kind) whole c [] 0 h

@@ -7,12 +7,8 @@ use Rattle.term_core.specs.Environments.{Environment}
 use Rattle.term_core.specs.Values.{Entry, kinds}
 use Rattle.term_core.specs.Flows.{Flow, flow_of, scale_of_contract}
 use Rattle.term_core.proofs.FlowFacts.{raised-zero}
+use Rattle.rewriting.specs.Worth.{Worth}
 use Rattle.rewriting.proofs.RaisedFacts.{raised_by, raised-none, raised-sum}
-
--- at scale s a contract pays v on its own day x
-abbrev pub Worth : Declarations → List Entry → Environment → ℤ → ℤ → Flow → ℕ → ℤ → Contract → Type 0
-Worth d g env f x w s v c =
-    (scale_of_contract d c (kinds g) ≤ s) × (raised (flow_of d c g env f x w) (s - scale_of_contract d c (kinds g)) ≡ v)
 
 module _ (d : Declarations) (g : List Entry) (env : Environment) (f x : ℤ) (w : Flow) where
   pub worth_zero : (s : ℕ) (v : ℤ) → v ≡ pos 0 → Worth d g env f x w s v Zero

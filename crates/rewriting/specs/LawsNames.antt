@@ -20,7 +20,8 @@ abbrev pub HasValueOf : Declarations → Expression → List Entry → ℕ → T
 HasValueOf d x g j = (h : List Entry) (env : Environment) (f : ℤ) → value_of d x h env f ≡ value_of_entry (slice_get g j)
 
 abbrev pub HasReadsOf : Declarations → Expression → List (List Place) → ℕ → Type 0
-HasReadsOf d x bs j = (h : List Entry) (cs : List (List Place)) (env : Environment) (f : ℤ) → reads_of d x h cs env f ≡ places_or (slice_get bs j)
+HasReadsOf d x bs j =
+    (h : List Entry) (cs : List (List Place)) (env : Environment) (f : ℤ) → reads_of d x h cs env f ≡ places_or (slice_get bs j)
 
 abbrev pub KindsWithoutName : Type 0
 KindsWithoutName =
@@ -49,5 +50,6 @@ FlowsWithoutName =
 abbrev pub ContractReadsWithoutName : Type 0
 ContractReadsWithoutName =
     (d : Declarations) (c : Contract) (j : ℕ) (x : Expression) (g : List Entry) (bs : List (List Place)) (env : Environment) (f a b : ℤ)
-    → (uses_in_contract j c ≡ true → HasKindOf d x (kinds g) j) → (uses_in_contract j c ≡ true → HasValueOf d x g j) → (uses_in_contract j c ≡ true → HasReadsOf d x bs j)
+    → (uses_in_contract j c ≡ true → HasKindOf d x (kinds g) j) → (uses_in_contract j c ≡ true → HasValueOf d x g j)
+    → (uses_in_contract j c ≡ true → HasReadsOf d x bs j)
     → reads_of_contract d (substituted_in j x c) (without j g) (without j bs) env f a b ≡ reads_of_contract d c g bs env f a b

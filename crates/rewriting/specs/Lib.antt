@@ -1,4 +1,6 @@
 pub mod Measures
+pub mod Keeping
+pub mod Worth
 pub mod Bindings
 pub mod Substituting
 pub mod LawsNames

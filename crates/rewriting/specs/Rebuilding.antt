@@ -29,3 +29,21 @@ over_two (Logic op a b) x y = Logic op x y
 over_two (Div mode s a b) x y = Div mode s x y
 over_two (Acc body n first) x y = Acc x n y
 over_two e x y = e
+
+-- a node over two parts, and a choice, over what took the places of their parts
+abbrev pub two_after : Expr → Expr → Option Expr → Expr → Option Expr → Expression
+two_after e left one right two = over_two (expression e) (after (expression left) one) (after (expression right) two)
+
+abbrev pub choice_after : Expr → Option Expr → Expr → Option Expr → Expr → Option Expr → Expression
+choice_after test one yes two no three = Cond (after (expression test) one) (after (expression yes) two) (after (expression no) three)
+
+-- a claim, where what took the places of parts is smaller
+abbrev pub IfBothAreLess : Expr → Option Expr → Expr → Option Expr → Type 0 → Type 0
+IfBothAreLess left one right two P = IsLess one (expression left) → IsLess two (expression right) → P
+
+abbrev pub IfAllAreLess : Expr → Option Expr → Expr → Option Expr → Expr → Option Expr → Type 0 → Type 0
+IfAllAreLess test one yes two no three P = IsLess one (expression test) → IfBothAreLess yes two no three P
+
+-- what takes the place of e is smaller, if x and y are together smaller than the two parts of e
+abbrev pub IsLessByParts : Expression → Expression → Expression → Option Expr → Type 0
+IsLessByParts e x y new = (a b : Expression) → over_two e a b ≡ e → size x + size y < size a + size b → IsLess new e

@@ -1,11 +1,15 @@
 -- A contract of which parts are replaced: what took the place of a part, or the part where nothing did.
-use Rattle.std.specs.Prelude.{◌<◌, Option, Some, None}
+use Rattle.std.specs.Prelude.{ℕ, ℤ, ◌<◌, Option, Some, None}
 use Rattle.std.specs.declared.rc.Rc.{Rc}
 use Rattle.std.specs.Global.{Global}
-use Rattle.term_core.specs.Terms.{Contract}
+use Rattle.term_core.specs.declared.terms.Expr.{Expr}
+use Rattle.term_core.specs.declared.terms.Days.TheVariants.{Num as Count}
+use Rattle.term_core.specs.Terms.{expression, Contract, Both, Scale, Let, Within}
 use Rattle.term_core.specs.declared.shared.SharedContr.{SharedContr}
-use Rattle.term_core.specs.SharedTerms.{shared, StoresOffsets}
+use Rattle.term_core.specs.SharedTerms.{shared, HasOffsets, StoresOffsets}
+use Rattle.term_core.specs.Shifts.{shifted}
 use Rattle.rewriting.specs.Measures.{size_in}
+use Rattle.rewriting.specs.Rebuilding.{after, IsLess}
 
 abbrev pub after_in : Contract → Option (Rc SharedContr Global) → Contract
 after_in c None = c
@@ -20,3 +24,52 @@ IsLessIn (Some r) c = size_in (shared r.value) < size_in c
 abbrev pub StoresNew : Option (Rc SharedContr Global) → Type 0
 StoresNew None = Unit {0}
 StoresNew (Some r) = StoresOffsets r.value
+
+-- a part as it is shared, and what took its place
+abbrev SharedPart : Type 0
+SharedPart = Rc SharedContr Global
+
+abbrev NewPart : Type 0
+NewPart = Option (Rc SharedContr Global)
+
+-- a part of a contract, once something may have taken its place
+abbrev pub part_after : SharedPart → NewPart → Contract
+part_after part new = after_in (shared part.value) new
+
+-- an expression of a contract, once something may have taken its place; it is read some days later than it is stored
+abbrev pub moved_after : ℤ → Rc Expr Global → Option Expr → Expression
+moved_after moved e new = shifted moved (after (expression e.value) new)
+
+-- contracts over what took the places of their parts
+abbrev pub both_after : SharedPart → NewPart → SharedPart → NewPart → Contract
+both_after left one right two = Both (part_after left one) (part_after right two)
+
+abbrev pub scale_after : ℤ → Rc Expr Global → Option Expr → SharedPart → NewPart → Contract
+scale_after moved factor one body two = Scale (moved_after moved factor one) (part_after body two)
+
+abbrev pub let_after : ℤ → Rc Expr Global → Option Expr → SharedPart → NewPart → Contract
+let_after moved bound one body two = Let (moved_after moved bound one) (part_after body two)
+
+abbrev pub within_after : Rc Expr Global → Option Expr → ℕ → SharedPart → NewPart → SharedPart → NewPart → Contract
+within_after test one days hit two miss three =
+    Within (after (expression test.value) one) (Count days) (part_after hit two) (part_after miss three)
+
+-- a claim, where what took the places of parts is smaller
+abbrev pub IfBothAreLessIn : SharedPart → NewPart → SharedPart → NewPart → Type 0 → Type 0
+IfBothAreLessIn left one right two P = IsLessIn one (shared left.value) → IsLessIn two (shared right.value) → P
+
+abbrev pub IfTermAndBodyAreLess : Rc Expr Global → Option Expr → SharedPart → NewPart → Type 0 → Type 0
+IfTermAndBodyAreLess e one body two P = IsLess one (expression e.value) → IsLessIn two (shared body.value) → P
+
+abbrev pub IfTestAndBranchesAreLess : Rc Expr Global → Option Expr → SharedPart → NewPart → SharedPart → NewPart → Type 0 → Type 0
+IfTestAndBranchesAreLess test one hit two miss three P = IsLess one (expression test.value) → IfBothAreLessIn hit two miss three P
+
+-- a claim, where the offsets that parts store, and what took their places, are within the limit
+abbrev pub IfBothStore : SharedPart → NewPart → SharedPart → NewPart → Type 0 → Type 0
+IfBothStore left one right two P = StoresOffsets left.value → StoresOffsets right.value → StoresNew one → StoresNew two → P
+
+abbrev pub IfTermAndBodyStore : Rc Expr Global → Option Expr → SharedPart → NewPart → Type 0 → Type 0
+IfTermAndBodyStore e one body two P = HasOffsets (after (expression e.value) one) → StoresOffsets body.value → StoresNew two → P
+
+abbrev pub IfTestAndBranchesStore : Rc Expr Global → Option Expr → SharedPart → NewPart → SharedPart → NewPart → Type 0 → Type 0
+IfTestAndBranchesStore test one hit two miss three P = HasOffsets (after (expression test.value) one) → IfBothStore hit two miss three P

@@ -37,7 +37,7 @@ pub fn uses_in(s: &SharedContr, back: u32) -> bool
 }
 
 /// The contract with a literal for the name with `back` binders between, as an expression with one.
-#[tactic(auto, using(crate::proofs::ShiftedSizes::substituted_shifted, crate::proofs::ShiftedSizes::shifted_height, crate::proofs::Offsets::offsets_substituted))]
+#[tactic(auto, using(crate::proofs::Offsets::for_substituted))]
 pub fn substituted_in(
     alloc: Global,
     s: &SharedContr,

@@ -4,9 +4,10 @@ ghost use Rattle.std.specs.Prelude.{◌≡◌, IfOk};
 ghost use Rattle.term_core.specs.Terms.{expression, Both, Scale, After, Let, Within};
 ghost use Rattle.term_core.specs.declared.terms.Days.TheVariants.{Num as Count};
 ghost use Rattle.term_core.specs.Shifts.{shifted};
-ghost use Rattle.term_core.specs.SharedTerms.{shared, HasOffsets, StoresOffsets};
-ghost use Rattle.rewriting.specs.Rebuilding.{after, IsLess};
-ghost use Rattle.rewriting.specs.RebuildingContracts.{after_in, IsLessIn, StoresNew};
+ghost use Rattle.term_core.specs.SharedTerms.{shared, StoresOffsets};
+ghost use Rattle.rewriting.specs.Rebuilding.{after};
+ghost use Rattle.rewriting.specs.RebuildingContracts.{after_in, both_after, let_after, part_after, scale_after, within_after};
+ghost use Rattle.rewriting.specs.RebuildingContracts.{IfBothAreLessIn, IfBothStore, IfTermAndBodyAreLess, IfTermAndBodyStore, IfTestAndBranchesAreLess, IfTestAndBranchesStore, IsLessIn, StoresNew};
 
 use decimal::NoMemory;
 use std::alloc::Global;
@@ -18,7 +19,7 @@ pub fn kept_part(
     part: &Rc<SharedContr>,
     new: Option<Rc<SharedContr>>,
 ) -> Result<Rc<SharedContr>, NoMemory>
-    ensures same { IfOk result (λ r. shared r.value ≡ after_in (shared part.now.value) new) }
+    ensures same { IfOk result (λ r. shared r.value ≡ part_after part.now new) }
     ensures offsets { IfOk result (λ r. StoresOffsets part.now.value → StoresNew new → StoresOffsets r.value) }
 {
     match new {
@@ -51,9 +52,9 @@ pub fn both_of(
     two: Option<Rc<SharedContr>>,
 ) -> Result<Option<Rc<SharedContr>>, NoMemory>
     requires { shared s.now ≡ Both (shared left.now.value) (shared right.now.value) }
-    ensures same { IfOk result (λ r. after_in (shared s.now) r ≡ Both (after_in (shared left.now.value) one) (after_in (shared right.now.value) two)) }
-    ensures less { IfOk result (λ r. IsLessIn one (shared left.now.value) → IsLessIn two (shared right.now.value) → IsLessIn r (shared s.now)) }
-    ensures offsets { IfOk result (λ r. StoresOffsets left.now.value → StoresOffsets right.now.value → StoresNew one → StoresNew two → StoresNew r) }
+    ensures same { IfOk result (λ r. after_in (shared s.now) r ≡ both_after left.now one right.now two) }
+    ensures less { IfOk result (λ r. IfBothAreLessIn left.now one right.now two (IsLessIn r (shared s.now))) }
+    ensures offsets { IfOk result (λ r. IfBothStore left.now one right.now two (StoresNew r)) }
 {
     if one.is_none() && two.is_none() {
         return Ok(None);
@@ -75,9 +76,9 @@ pub fn scale_of(
     two: Option<Rc<SharedContr>>,
 ) -> Result<Option<Rc<SharedContr>>, NoMemory>
     requires { shared s.now ≡ Scale (shifted moved (expression factor.now.value)) (shared body.now.value) }
-    ensures same { IfOk result (λ r. after_in (shared s.now) r ≡ Scale (shifted moved (after (expression factor.now.value) one)) (after_in (shared body.now.value) two)) }
-    ensures less { IfOk result (λ r. IsLess one (expression factor.now.value) → IsLessIn two (shared body.now.value) → IsLessIn r (shared s.now)) }
-    ensures offsets { IfOk result (λ r. HasOffsets (after (expression factor.now.value) one) → StoresOffsets body.now.value → StoresNew two → StoresNew r) }
+    ensures same { IfOk result (λ r. after_in (shared s.now) r ≡ scale_after moved factor.now one body.now two) }
+    ensures less { IfOk result (λ r. IfTermAndBodyAreLess factor.now one body.now two (IsLessIn r (shared s.now))) }
+    ensures offsets { IfOk result (λ r. IfTermAndBodyStore factor.now one body.now two (StoresNew r)) }
 {
     if one.is_none() && two.is_none() {
         return Ok(None);
@@ -103,7 +104,7 @@ pub fn after_of(
     new: Option<Rc<SharedContr>>,
 ) -> Result<Option<Rc<SharedContr>>, NoMemory>
     requires { shared s.now ≡ After (Count days) (shared body.now.value) }
-    ensures same { IfOk result (λ r. after_in (shared s.now) r ≡ After (Count days) (after_in (shared body.now.value) new)) }
+    ensures same { IfOk result (λ r. after_in (shared s.now) r ≡ After (Count days) (part_after body.now new)) }
     ensures less { IfOk result (λ r. IsLessIn new (shared body.now.value) → IsLessIn r (shared s.now)) }
     ensures offsets { IfOk result (λ r. StoresNew new → StoresNew r) }
 {
@@ -125,9 +126,9 @@ pub fn let_of(
     two: Option<Rc<SharedContr>>,
 ) -> Result<Option<Rc<SharedContr>>, NoMemory>
     requires { shared s.now ≡ Let (shifted moved (expression bound.now.value)) (shared body.now.value) }
-    ensures same { IfOk result (λ r. after_in (shared s.now) r ≡ Let (shifted moved (after (expression bound.now.value) one)) (after_in (shared body.now.value) two)) }
-    ensures less { IfOk result (λ r. IsLess one (expression bound.now.value) → IsLessIn two (shared body.now.value) → IsLessIn r (shared s.now)) }
-    ensures offsets { IfOk result (λ r. HasOffsets (after (expression bound.now.value) one) → StoresOffsets body.now.value → StoresNew two → StoresNew r) }
+    ensures same { IfOk result (λ r. after_in (shared s.now) r ≡ let_after moved bound.now one body.now two) }
+    ensures less { IfOk result (λ r. IfTermAndBodyAreLess bound.now one body.now two (IsLessIn r (shared s.now))) }
+    ensures offsets { IfOk result (λ r. IfTermAndBodyStore bound.now one body.now two (StoresNew r)) }
 {
     if one.is_none() && two.is_none() {
         return Ok(None);
@@ -150,9 +151,9 @@ pub fn within_of(
     three: Option<Rc<SharedContr>>,
 ) -> Result<Option<Rc<SharedContr>>, NoMemory>
     requires { shared s.now ≡ Within (expression test.now.value) (Count days) (shared hit.now.value) (shared miss.now.value) }
-    ensures same { IfOk result (λ r. after_in (shared s.now) r ≡ Within (after (expression test.now.value) one) (Count days) (after_in (shared hit.now.value) two) (after_in (shared miss.now.value) three)) }
-    ensures less { IfOk result (λ r. IsLess one (expression test.now.value) → IsLessIn two (shared hit.now.value) → IsLessIn three (shared miss.now.value) → IsLessIn r (shared s.now)) }
-    ensures offsets { IfOk result (λ r. HasOffsets (after (expression test.now.value) one) → StoresOffsets hit.now.value → StoresOffsets miss.now.value → StoresNew two → StoresNew three → StoresNew r) }
+    ensures same { IfOk result (λ r. after_in (shared s.now) r ≡ within_after test.now one days hit.now two miss.now three) }
+    ensures less { IfOk result (λ r. IfTestAndBranchesAreLess test.now one hit.now two miss.now three (IsLessIn r (shared s.now))) }
+    ensures offsets { IfOk result (λ r. IfTestAndBranchesStore test.now one hit.now two miss.now three (StoresNew r)) }
 {
     if one.is_none() && two.is_none() && three.is_none() {
         return Ok(None);

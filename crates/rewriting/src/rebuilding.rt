@@ -1,11 +1,11 @@
 //! Expressions of which parts are replaced. A walk that rewrites an expression answers nothing where it changes nothing, so
 //! that what stays takes no memory; these put a node together from what its parts come to.
 
-ghost use Rattle.std.specs.Prelude.{◌≡◌, ◌+◌, ◌<◌, IfOk};
-ghost use Rattle.term_core.specs.Terms.{Expression, expression, Cond};
+ghost use Rattle.std.specs.Prelude.{◌≡◌, IfOk};
+ghost use Rattle.term_core.specs.Terms.{expression, Cond};
 ghost use Rattle.interval_check.specs.Replacing.{literal_of};
 ghost use Rattle.rewriting.specs.Measures.{size};
-ghost use Rattle.rewriting.specs.Rebuilding.{after, IsLess, over_one, over_two};
+ghost use Rattle.rewriting.specs.Rebuilding.{after, choice_after, over_one, over_two, two_after, IfAllAreLess, IfBothAreLess, IsLess, IsLessByParts};
 
 use decimal::NoMemory;
 use std::alloc::Global;
@@ -76,7 +76,7 @@ pub fn of_one(
 // A node over two parts with new ones.
 fn with_two(e: &Expr, left: Box<Expr>, right: Box<Expr>) -> Option<Expr>
     ensures same { after (expression e.now) result ≡ over_two (expression e.now) (expression left.value) (expression right.value) }
-    ensures less { (a b : Expression) → over_two (expression e.now) a b ≡ expression e.now → size (expression left.value) + size (expression right.value) < size a + size b → IsLess result (expression e.now) }
+    ensures less { IsLessByParts (expression e.now) (expression left.value) (expression right.value) result }
 {
     match e {
         Expr::Num { op, .. } => Some(Expr::Num {
@@ -119,8 +119,8 @@ pub fn of_two(
     two: Option<Expr>,
 ) -> Result<Option<Expr>, NoMemory>
     requires { over_two (expression e.now) (expression left.now) (expression right.now) ≡ expression e.now }
-    ensures same { IfOk result (λ r. after (expression e.now) r ≡ over_two (expression e.now) (after (expression left.now) one) (after (expression right.now) two)) }
-    ensures less { IfOk result (λ r. IsLess one (expression left.now) → IsLess two (expression right.now) → IsLess r (expression e.now)) }
+    ensures same { IfOk result (λ r. after (expression e.now) r ≡ two_after e.now left.now one right.now two) }
+    ensures less { IfOk result (λ r. IfBothAreLess left.now one right.now two (IsLess r (expression e.now))) }
 {
     if one.is_none() && two.is_none() {
         return Ok(None);
@@ -142,8 +142,8 @@ pub fn of_three(
     three: Option<Expr>,
 ) -> Result<Option<Expr>, NoMemory>
     requires { expression e.now ≡ Cond (expression test.now) (expression yes.now) (expression no.now) }
-    ensures same { IfOk result (λ r. after (expression e.now) r ≡ Cond (after (expression test.now) one) (after (expression yes.now) two) (after (expression no.now) three)) }
-    ensures less { IfOk result (λ r. IsLess one (expression test.now) → IsLess two (expression yes.now) → IsLess three (expression no.now) → IsLess r (expression e.now)) }
+    ensures same { IfOk result (λ r. after (expression e.now) r ≡ choice_after test.now one yes.now two no.now three) }
+    ensures less { IfOk result (λ r. IfAllAreLess test.now one yes.now two no.now three (IsLess r (expression e.now))) }
 {
     if one.is_none() && two.is_none() && three.is_none() {
         return Ok(None);

@@ -20,7 +20,7 @@ use Rattle.rewriting.specs.LawsRules.{IsRangeOf}
 use Rattle.rewriting.proofs.NamedRules.{named_contract}
 use Rattle.simplify.specs.TurningContracts.{is_nothing, is_later, is_contract_redex, after_both, decided, made}
 use Rattle.simplify.proofs.RuleFlows.{if_cases_in, other_of, not_true}
-use Rattle.simplify.specs.LawsRuled.{ContractRuleReplaces}
+use Rattle.simplify.specs.LawsRulesStand.{ContractRuleReplaces}
 
 -- a literal that meets the rules does so among any names, and has the kind and the interval of its name
 literal_range : (d : Declarations) (e : Expression) (g : List Range) → is_literal e ≡ true → MeetsRules d e g → IsRangeOf d e (range_of d e g ∷ g) 0

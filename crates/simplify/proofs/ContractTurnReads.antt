@@ -11,15 +11,13 @@ use Rattle.term_core.specs.Flows.{count_of, amount_of}
 use Rattle.term_core.specs.Reads.{reads_of, reads_of_contract, live, upto, tested}
 use Rattle.interval_check.proofs.GuaranteeFacts.{rules_are_by_structure}
 use Rattle.rewriting.specs.Bindings.{bound_to}
-use Rattle.rewriting.proofs.Among.{among_none, among_same, among_both, among_if}
+use Rattle.rewriting.proofs.Among.{among_none, among_same, among_both, among_if, then_among, among_steps, one_name_more, among_unless, among_branches}
 use Rattle.simplify.specs.Turning.{turned}
 use Rattle.simplify.specs.TurningContracts.{rule_in, turned_in}
 use Rattle.simplify.proofs.TurnMeaning.{turn_means}
-use Rattle.specialise.specs.LawsSpecial.{AreAmong}
-use Rattle.rewriting.proofs.Branches.{branch_test, branch_reads}
-use Rattle.specialise.proofs.SpecialReads.{then_among, among_steps, one_name_more}
-use Rattle.specialise.proofs.SpecialContracts.{among_unless, among_branches, TestReads}
-use Rattle.simplify.specs.LawsEffects.{TurnsTransferLess, ContractTurnsReadLess, TurnsCarry}
+use Rattle.rewriting.specs.Keeping.{AreAmong}
+use Rattle.rewriting.proofs.Branches.{branch_test, branch_reads, test_reads}
+use Rattle.simplify.specs.LawsTurnsKeep.{TurnsTransferLess, ContractTurnsReadLess, TurnsCarry}
 use Rattle.simplify.proofs.RuleReads.{OnlyIf, ReadsInPlace, rule_reads_in}
 use Rattle.simplify.proofs.TurnReads.{turn_reads}
 use Rattle.simplify.proofs.TurnFlows.{entry_has, same_entry, same_test, sorts_here, turns_keep_amounts}
@@ -104,8 +102,8 @@ contract_turn_reads d (Within e n x y) g bs cs env f a b m h s less =
     let first = first_true d e g env f c in
     let first' = first_true d e' g env f c in
     let last = tested first c b in
-    let tests' = TestReads d e' g bs env f in
-    let tests = TestReads d e g cs env f in
+    let tests' = test_reads d e' g bs env f in
+    let tests = test_reads d e g cs env f in
     reads_then d g bs env (Within e' n x' y') f a b (reads_of_contract d (Within e n x y) g cs env f a b) (rule_reads_in d g bs env (Within e' n x' y') (turn_means d e g env (pos 0) TruthKind m h s.0).0)
     (among_unless (int_lt b (pos 0)) _ _
     (among_both (upto (tested first' c b) tests') (branch_reads first' c b (λ k. reads_of_contract d x' g bs env (f +ℤ pos k) (a -ℤ pos k) (b -ℤ pos k)) (reads_of_contract d y' g bs env (f +ℤ pos c) (a -ℤ pos c) (b -ℤ pos c))) (upto last tests) (branch_reads first c b (λ k. reads_of_contract d x g cs env (f +ℤ pos k) (a -ℤ pos k) (b -ℤ pos k)) (reads_of_contract d y g cs env (f +ℤ pos c) (a -ℤ pos c) (b -ℤ pos c)))

@@ -23,6 +23,6 @@ pub mod LessFacts
 pub mod TurnableFacts
 pub mod OffsetFacts
 pub mod TurnableInFacts
-pub mod WholeFacts
+pub mod SimplifyingFacts
 pub mod TurnedParts
 pub mod RuleParts

@@ -7,7 +7,7 @@ use Rattle.term_core.specs.Environments.{Environment}
 use Rattle.term_core.specs.Flows.{count_of}
 use Rattle.term_core.specs.Sites.{OfExpression, OfContract}
 use Rattle.term_core.specs.Redexes.{Redex, EmptyLeft, EmptyRight, ScaledNothing, ZeroFactor, NoDelay, TwoDelays, DelayedNothing, UnusedName, LiteralName, NothingEither, DecidedTest, LiteralOperands, DecidedChoice, FixedPlace, NoSteps, FixedSteps, is_redex, is_literal, has_literal_operands, moved}
-use Rattle.rewriting.specs.Reduced.{IsNone, NoneIn, NoneInContract}
+use Rattle.rewriting.specs.Reduced.{IsNoRedex, NoneIn, NoneInContract}
 use Rattle.rewriting.proofs.ReducedFacts.{reduced_by_structure}
 use Rattle.simplify.specs.Turning.{is_chosen, is_plain_redex, HasNoPlain}
 use Rattle.simplify.specs.TurningContracts.{is_nothing, is_later, is_contract_redex, HasNoPlainIn, IsPlainKind, PlainLeavesNone}
@@ -70,7 +70,7 @@ node_none d F LiteralName p f e h = refl
 node_none d F NothingEither p f e h = refl
 node_none d F DecidedTest p f e h = refl
 
-in_expression : (d : Declarations) (F : Environment) (kind : Redex) → IsPlainKind kind → (f : Option ℤ) (e : Expression) → HasNoPlain e → NoneIn (IsNone d F kind) f e
+in_expression : (d : Declarations) (F : Environment) (kind : Redex) → IsPlainKind kind → (f : Option ℤ) (e : Expression) → HasNoPlain e → NoneIn (IsNoRedex d F kind) f e
 in_expression d F kind p f (Lit m s) h = node_none d F kind p f (Lit m s) refl
 in_expression d F kind p f (Yes b) h = node_none d F kind p f (Yes b) refl
 in_expression d F kind p f (Var back) h = node_none d F kind p f (Var back) refl
@@ -117,7 +117,7 @@ contract_none d F NoSteps p f c h = refl
 contract_none d F FixedPlace p f c h = absurd p
 contract_none d F FixedSteps p f c h = absurd p
 
-in_contract : (d : Declarations) (F : Environment) (kind : Redex) → IsPlainKind kind → (f : Option ℤ) (c : Contract) → HasNoPlainIn c → NoneInContract (IsNone d F kind) f c
+in_contract : (d : Declarations) (F : Environment) (kind : Redex) → IsPlainKind kind → (f : Option ℤ) (c : Contract) → HasNoPlainIn c → NoneInContract (IsNoRedex d F kind) f c
 in_contract d F kind p f Zero h = contract_none d F kind p f Zero refl
 in_contract d F kind p f (Pay a x y) h = contract_none d F kind p f (Pay a x y) refl
 in_contract d F kind p f (Both a b) h = (in_contract d F kind p f a h.0, in_contract d F kind p f b h.1, contract_none d F kind p f (Both a b) h.2)

@@ -18,10 +18,9 @@ use Rattle.rewriting.specs.LawsNames.{HasReadsOf}
 use Rattle.rewriting.specs.Substituting.{substituted_in}
 use Rattle.rewriting.proofs.NameReads.{live_without, contract_reads_without}
 use Rattle.rewriting.specs.Bindings.{bound_to}
-use Rattle.rewriting.proofs.Among.{among_none, among_same, among_left, among_right}
-use Rattle.specialise.specs.LawsSpecial.{AreAmong}
+use Rattle.rewriting.proofs.Among.{among_none, among_same, among_left, among_right, then_among}
+use Rattle.rewriting.specs.Keeping.{AreAmong}
 use Rattle.rewriting.proofs.Branches.{branch_test, branch_reads}
-use Rattle.specialise.proofs.SpecialReads.{then_among}
 use Rattle.simplify.specs.TurningContracts.{is_nothing, is_later, is_contract_redex, after_both, decided, made, rule_in}
 use Rattle.simplify.proofs.RuleFlows.{HasTest, first_at_once, first_never, if_cases_in, is_zero_count, literal_has_kind, literal_has_value, other_of, not_true}
 

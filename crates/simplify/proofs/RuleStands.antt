@@ -25,7 +25,7 @@ use Rattle.simplify.specs.Turning.{is_chosen, resolved, choice}
 use Rattle.specialise.proofs.ClosedFacts.{value_among, both_none}
 use Rattle.specialise.proofs.SpecialRules.{itself}
 use Rattle.simplify.proofs.RuleFlows.{is_zero_count}
-use Rattle.simplify.specs.LawsRuled.{TruthsAreNothing, RuleReplaces}
+use Rattle.simplify.specs.LawsRulesStand.{TruthsAreNothing, RuleReplaces}
 use Rattle.simplify.proofs.TruthIntervals.{truths_have_nothing}
 
 nothing_fixed : (d : Declarations) → IsAdmitted d []

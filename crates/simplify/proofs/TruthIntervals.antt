@@ -11,7 +11,7 @@ use Rattle.term_core.specs.Kinds.{kind_of, kind_of_label, scale_of, scale_or_zer
 use Rattle.term_core.specs.Values.{kind_or}
 use Rattle.term_core.specs.Bounds.{Interval, Range, range_kinds, single, lifted, hull, aligned, stepped, interval_of, interval_of_label, interval_of_range}
 use Rattle.interval_check.proofs.KindsFound.{one_number, two_numbers, truth_then}
-use Rattle.simplify.specs.LawsRuled.{TruthsAreNothing, TruthsHaveNothing}
+use Rattle.simplify.specs.LawsRulesStand.{TruthsAreNothing, TruthsHaveNothing}
 
 name_nothing : (g : List Range) (back : ℕ) → TruthsAreNothing g → slice_get (range_kinds g) back ≡ Some TruthKind → interval_of_range (slice_get g back) ≡ single (pos 0)
 name_nothing [] back t e = refl

@@ -5,7 +5,7 @@ use Rattle.interval_check.proofs.GuaranteeFacts.{accepted_meet_rules, rules_are_
 use Rattle.simplify.specs.TurningContracts.{turned_in}
 use Rattle.simplify.proofs.TurnTimes.{turns_keep_types}
 use Rattle.simplify.proofs.TurnSmall.{turns_keep_sizes}
-use Rattle.simplify.specs.LawsTurned.{TurnIsAccepted}
+use Rattle.simplify.specs.LawsTurnsStand.{TurnIsAccepted}
 use Rattle.simplify.proofs.TurnReplaces.{contract_turn_replaces}
 
 pub turn_accepted : TurnIsAccepted

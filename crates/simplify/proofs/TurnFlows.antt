@@ -23,7 +23,7 @@ use Rattle.rewriting.proofs.RaisedFacts.{raised_by}
 use Rattle.simplify.specs.Turning.{turned}
 use Rattle.simplify.specs.TurningContracts.{rule_in, turned_in}
 use Rattle.simplify.proofs.TurnMeaning.{turn_means}
-use Rattle.simplify.specs.LawsEffects.{HasSomeKind, HasSorts, TurnsKeepFlows, TurnsKeepAmounts}
+use Rattle.simplify.specs.LawsTurnsKeep.{HasSomeKind, HasSorts, TurnsKeepFlows, TurnsKeepAmounts}
 use Rattle.simplify.proofs.WorthFacts.{InPlace, in_its_place, then_in_place, both_in_place, scale_in_place, after_in_place, let_in_place, within_in_place}
 use Rattle.simplify.proofs.RuleFlows.{rule_in_place}
 

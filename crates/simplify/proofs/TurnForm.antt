@@ -12,7 +12,7 @@ use Rattle.interval_check.specs.Replacing.{KeepsForm}
 use Rattle.interval_check.proofs.KindsEnough.{kinds_are_enough}
 use Rattle.interval_check.proofs.NodeTests.{scaled_parts}
 use Rattle.simplify.specs.Turning.{rule, turned}
-use Rattle.simplify.specs.LawsTurned.{TurnsKeepForm}
+use Rattle.simplify.specs.LawsTurnsStand.{TurnsKeepForm}
 use Rattle.simplify.proofs.FormFacts.{sorted_root, scaled_root, rule_form}
 
 itself : (d : Declarations) (e : Expression) (g : List Range) → IsSorted d e g → IsScaled d e g → KeepsForm d e e g

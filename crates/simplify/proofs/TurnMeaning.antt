@@ -190,12 +190,12 @@ of_two : {A : Type 0} (F : ℕ → Value → ℕ → Value → A) (i i' j j' : �
 of_two F i i' j j' v v' w w' a b c e = ap₂ (λ (x : ℕ) (y : Value). F x y j w) a b ∙ ap₂ (λ (x : ℕ) (y : Value). F i' v' x y) c e
 
 -- steps that are the same at each value on the way
-same_run : (n : ℕ) (step go : ℕ → Value → Value) (v w : Value) → v ≡ w → ((i : ℕ) → step (suc i) (days_run i go w) ≡ go (suc i) (days_run i go w)) → days_run n step v ≡ days_run n go w
+pub same_run : (n : ℕ) (step go : ℕ → Value → Value) (v w : Value) → v ≡ w → ((i : ℕ) → step (suc i) (days_run i go w) ≡ go (suc i) (days_run i go w)) → days_run n step v ≡ days_run n go w
 same_run zero step go v w e h = e
 same_run (suc n) step go v w e h = ap (step (suc n)) (same_run n step go v w e h) ∙ h n
 
 -- the value on the way has the kind of the start
-on_the_way : (d : Declarations) (body first : Expression) (n i : ℕ) (g : List Entry) (env : Environment) (f : ℤ) (k : Kind) → IsAdmitted d env → AreOfKinds g → kind_of d (Acc body n first) (kinds g) ≡ Some k
+pub on_the_way : (d : Declarations) (body first : Expression) (n i : ℕ) (g : List Entry) (env : Environment) (f : ℤ) (k : Kind) → IsAdmitted d env → AreOfKinds g → kind_of d (Acc body n first) (kinds g) ≡ Some k
     → (let kind = kind_or (kind_of d first (kinds g)) in
     IsOfKind k (days_run i (λ i v. widened (scale_of d body (kind ∷ kinds g)) (scale_of_kind kind) (value_of d body (record { value = v; kind = kind } ∷ g) env (f -ℤ pos n +ℤ pos i))) (value_of d first g env (f -ℤ pos n))))
 on_the_way d body first n i g env f k a h e =
@@ -204,7 +204,7 @@ on_the_way d body first n i g env f k a h e =
     let back : (f -ℤ pos n +ℤ pos i) -ℤ pos i ≡ f -ℤ pos n = omega (arith, ints) in
     subst (λ (v : Value). IsOfKind k v) (ap run back) (values_have_kinds d (Acc body i first) g env (f -ℤ pos n +ℤ pos i) k a h e)
 
-acc_at : (o u : Option Kind) (p q : Kind → Option Kind) → o ≡ u → p (kind_or u) ≡ q (kind_or u) → of_acc o p ≡ of_acc u q
+pub acc_at : (o u : Option Kind) (p q : Kind → Option Kind) → o ≡ u → p (kind_or u) ≡ q (kind_or u) → of_acc o p ≡ of_acc u q
 acc_at o u p q e h = ap (λ (r : Option Kind). of_acc r p) e ∙ at u h
   where
     at : (r : Option Kind) → p (kind_or r) ≡ q (kind_or r) → of_acc r p ≡ of_acc r q

@@ -17,13 +17,12 @@ use Rattle.term_core.specs.Redexes.{has_literal_operands}
 use Rattle.term_core.proofs.KindFacts.{values_have_kinds}
 use Rattle.interval_check.specs.Replacing.{literal_of, branch_at}
 use Rattle.interval_check.proofs.KindsFound.{one_number, two_numbers, truth_then, branches, days}
-use Rattle.rewriting.proofs.Among.{among_none, among_same, among_both, among_left}
+use Rattle.rewriting.proofs.Among.{among_none, among_same, among_both, among_left, then_among, among_steps, among_chosen, one_name_more}
 use Rattle.simplify.specs.Turning.{is_chosen, resolved, choice, rule, turned}
-use Rattle.simplify.proofs.TurnMeaning.{turn_means}
-use Rattle.specialise.specs.LawsSpecial.{AreAmong}
+use Rattle.simplify.proofs.TurnMeaning.{same_run, on_the_way, acc_at, turn_means}
+use Rattle.rewriting.specs.Keeping.{AreAmong}
 use Rattle.specialise.proofs.ToldFacts.{literal_reads}
-use Rattle.specialise.proofs.SpecialReads.{then_among, among_steps, among_chosen, one_name_more}
-use Rattle.simplify.specs.LawsEffects.{TurnsReadLess}
+use Rattle.simplify.specs.LawsTurnsKeep.{TurnsReadLess}
 use Rattle.simplify.proofs.RuleFlows.{is_zero_count}
 
 literal_among : (d : Declarations) (k : Kind) (v : Value) (g : List Entry) (bs : List (List Place)) (env : Environment) (f : ℤ) (ys : List Place) → AreAmong (reads_of d (literal_of k v) g bs env f) ys
@@ -99,29 +98,6 @@ rule_reads d x g bs env f k e = at (has_literal_operands x) (is_chosen x) refl r
 -- the rule, once the parts are turned
 ruled : (d : Declarations) (x : Expression) (g : List Entry) (bs : List (List Place)) (env : Environment) (f : ℤ) (k : Kind) (ys : List Place) → kind_of d x (kinds g) ≡ Some k → AreAmong (reads_of d x g bs env f) ys → AreAmong (reads_of d (rule d (kinds g) x) g bs env f) ys
 ruled d x g bs env f k ys kind h = then_among (reads_of d (rule d (kinds g) x) g bs env f) (reads_of d x g bs env f) ys (rule_reads d x g bs env f k kind) h
-
--- steps that are the same at each value on the way
-same_run : (n : ℕ) (step go : ℕ → Value → Value) (v w : Value) → v ≡ w → ((i : ℕ) → step (suc i) (days_run i go w) ≡ go (suc i) (days_run i go w)) → days_run n step v ≡ days_run n go w
-same_run zero step go v w e h = e
-same_run (suc n) step go v w e h = ap (step (suc n)) (same_run n step go v w e h) ∙ h n
-
--- the value on the way has the kind of the start
-on_the_way : (d : Declarations) (body first : Expression) (n i : ℕ) (g : List Entry) (env : Environment) (f : ℤ) (k : Kind) → IsAdmitted d env → AreOfKinds g → kind_of d (Acc body n first) (kinds g) ≡ Some k
-    → (let kind = kind_or (kind_of d first (kinds g)) in
-    IsOfKind k (days_run i (λ i v. widened (scale_of d body (kind ∷ kinds g)) (scale_of_kind kind) (value_of d body (record { value = v; kind = kind } ∷ g) env (f -ℤ pos n +ℤ pos i))) (value_of d first g env (f -ℤ pos n))))
-on_the_way d body first n i g env f k a h e =
-    let kind = kind_or (kind_of d first (kinds g)) in
-    let run : ℤ → Value = λ from. days_run i (λ i v. widened (scale_of d body (kind ∷ kinds g)) (scale_of_kind kind) (value_of d body (record { value = v; kind = kind } ∷ g) env (from +ℤ pos i))) (value_of d first g env from) in
-    let back : (f -ℤ pos n +ℤ pos i) -ℤ pos i ≡ f -ℤ pos n = omega (arith, ints) in
-    subst (λ (v : Value). IsOfKind k v) (ap run back) (values_have_kinds d (Acc body i first) g env (f -ℤ pos n +ℤ pos i) k a h e)
-
-acc_at : (o u : Option Kind) (p q : Kind → Option Kind) → o ≡ u → p (kind_or u) ≡ q (kind_or u) → of_acc o p ≡ of_acc u q
-acc_at o u p q e h = ap (λ (r : Option Kind). of_acc r p) e ∙ at u h
-  where
-    at : (r : Option Kind) → p (kind_or r) ≡ q (kind_or r) → of_acc r p ≡ of_acc r q
-    at None h = refl
-    at (Some TruthKind) h = ap (λ (r : Option Kind). on_truth r (Some TruthKind)) h
-    at (Some (Number s)) h = ap (on_number (λ _. Some (Number s))) h
 
 pub turn_reads : TurnsReadLess
 turn_reads d (Lit m s) g bs cs env f k a h e less = among_none []

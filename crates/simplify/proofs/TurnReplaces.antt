@@ -21,11 +21,11 @@ use Rattle.interval_check.proofs.RewritingContracts.{rewritten_contract_replaces
 use Rattle.simplify.specs.Turning.{rule, turned}
 use Rattle.simplify.specs.TurningContracts.{rule_in, turned_in}
 use Rattle.specialise.proofs.SpecialRules.{itself, by_whole, ordered_round, round_rules}
-use Rattle.simplify.specs.LawsRuled.{TruthsAreNothing}
+use Rattle.simplify.specs.LawsRulesStand.{TruthsAreNothing}
 use Rattle.simplify.proofs.TruthIntervals.{truths_have_nothing}
 use Rattle.simplify.proofs.RuleStands.{rule_replaces}
 use Rattle.simplify.proofs.ContractRuleStands.{contract_rule_replaces}
-use Rattle.simplify.specs.LawsTurned.{TurnsReplace, ContractTurnsReplace}
+use Rattle.simplify.specs.LawsTurnsStand.{TurnsReplace, ContractTurnsReplace}
 use Rattle.simplify.proofs.FormFacts.{root_kind}
 use Rattle.simplify.proofs.TurnForm.{turn_form}
 

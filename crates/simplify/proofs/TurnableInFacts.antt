@@ -22,7 +22,7 @@ use Rattle.interval_check.specs.Within.{AreWithin, KeepsLimits}
 use Rattle.interval_check.proofs.GuaranteeFacts.{bindings_lie_within}
 use Rattle.interval_check.proofs.NarrowerFacts.{stays_tight, narrower_let}
 use Rattle.rewriting.proofs.ShiftedRules.{rules_see_no_offsets}
-use Rattle.simplify.specs.LawsRuled.{TruthsAreNothing}
+use Rattle.simplify.specs.LawsRulesStand.{TruthsAreNothing}
 use Rattle.simplify.specs.Turning.{turned}
 use Rattle.simplify.specs.TurningContracts.{turned_in}
 use Rattle.simplify.specs.TurnableContracts.{joined_days, DecidesTest, CanTurnIn}

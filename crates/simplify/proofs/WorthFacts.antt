@@ -11,7 +11,8 @@ use Rattle.term_core.specs.Values.{Entry, kinds, num, value_of, first_true}
 use Rattle.term_core.specs.Flows.{Flow, flow_of, count_of, scale_of_contract}
 use Rattle.rewriting.specs.Bindings.{bound_to}
 use Rattle.rewriting.proofs.RaisedFacts.{raised_by, raised-sum, raised-times}
-use Rattle.rewriting.proofs.Worth.{Worth, worth_is, worth_more, worth_same}
+use Rattle.rewriting.specs.Worth.{Worth}
+use Rattle.rewriting.proofs.Worth.{worth_is, worth_more, worth_same}
 use Rattle.rewriting.proofs.Branches.{branch}
 
 abbrev pub InPlace : Declarations → List Entry → Environment → Contract → Contract → Type 0

@@ -1,12 +1,13 @@
 pub mod Turning
 pub mod TurningContracts
-pub mod LawsEffects
+pub mod LawsTurnsKeep
 pub mod LawsTurnsAccepted
-pub mod LawsRuled
+pub mod LawsRulesStand
 pub mod LawsTurnShifts
-pub mod LawsTurned
-pub mod Names
+pub mod LawsTurnsStand
+pub mod ScopeKinds
 pub mod Folding
 pub mod Turnable
+pub mod TurnAnswers
 pub mod TurnableContracts
 pub mod Simplified

@@ -1,5 +1,5 @@
 -- What the simplifier promises of a contract k that it makes of a contract c.
-use Rattle.std.specs.Prelude.{ℕ, ℤ, pos, ◌<◌, ◌≡◌, ◌⊎◌, [], Option}
+use Rattle.std.specs.Prelude.{ℕ, ℤ, pos, ◌≡◌, [], Option}
 use Rattle.term_core.specs.Declarations.{Declarations}
 use Rattle.term_core.specs.Terms.{Contract}
 use Rattle.term_core.specs.Environments.{Environment, IsAdmitted}
@@ -7,8 +7,7 @@ use Rattle.term_core.specs.Flows.{Flow, amount_of}
 use Rattle.term_core.specs.Reads.{reads_of_contract}
 use Rattle.term_core.specs.Redexes.{Redex, HasNone}
 use Rattle.term_core.specs.Acceptance.{IsAccepted}
-use Rattle.rewriting.specs.Measures.{size_in}
-use Rattle.specialise.specs.LawsSpecial.{AreAmong}
+use Rattle.rewriting.specs.Keeping.{AreAmong, IsNoLargerIn}
 use Rattle.simplify.specs.TurningContracts.{IsPlainKind}
 
 -- it pays the same on every frame in every admitted environment
@@ -25,13 +24,9 @@ ReadsNoMore d k c =
 abbrev pub HasNoPlainRedex : Declarations → Contract → Type 0
 HasNoPlainRedex d k = (fixings : Environment) (f : Option ℤ) (kind : Redex) → IsPlainKind kind → HasNone d fixings f kind k
 
--- it is c, or has fewer nodes and observables together
-abbrev pub IsNoLarger : Contract → Contract → Type 0
-IsNoLarger k c = (k ≡ c) ⊎ (size_in k < size_in c)
-
 -- what turns keep of a contract
 pub record IsTurnedFrom (d : Declarations) (k c : Contract) : Type 0 where
   pub accepted : IsAccepted d k
   pub flows : PaysTheSame d k c
   pub reads : ReadsNoMore d k c
-  pub smaller : IsNoLarger k c
+  pub smaller : IsNoLargerIn k c

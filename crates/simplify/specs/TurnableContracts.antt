@@ -38,7 +38,8 @@ of_test None n a b other = other
 abbrev pub DecidesTest : Expression → Type 0
 DecidesTest x =
     (n : ℕ) (a b : Contract)
-    → rule_in (Within x (Count n) a b) ≡ of_test (truth_literal x) n a b (if is_nothing a && is_nothing b then Zero else Within x (Count n) a b)
+    → rule_in (Within x (Count n) a b)
+    ≡ of_test (truth_literal x) n a b (if is_nothing a && is_nothing b then Zero else Within x (Count n) a b)
 
 abbrev pub CanTurnIn : Declarations → SharedContr → List Kind → Type 0
 CanTurnIn d Zero' ks = Unit {0}

@@ -87,4 +87,5 @@ IsPlainKind _ = Unit {0}
 
 abbrev pub PlainLeavesNone : Type 0
 PlainLeavesNone =
-    (d : Declarations) (c : Contract) (fixings : Environment) (f : Option ℤ) (kind : Redex) → IsPlainKind kind → HasNoPlainIn c → HasNone d fixings f kind c
+    (d : Declarations) (c : Contract) (fixings : Environment) (f : Option ℤ) (kind : Redex)
+    → IsPlainKind kind → HasNoPlainIn c → HasNone d fixings f kind c

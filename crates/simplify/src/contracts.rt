@@ -7,15 +7,17 @@ ghost use Rattle.term_core.specs.declared.terms.Days.TheVariants.{Num as Count};
 ghost use Rattle.term_core.specs.Terms.{expression, Contract, Zero, Both, Scale, After, Let, Within};
 ghost use Rattle.term_core.specs.Redexes.{is_literal, is_zero_literal, uses_in_contract};
 ghost use Rattle.term_core.specs.Sizes.{height_of_contract};
-ghost use Rattle.term_core.specs.SharedTerms.{shared, HasOffsets, StoresOffsets};
+ghost use Rattle.term_core.specs.SharedTerms.{shared, StoresOffsets};
 ghost use Rattle.term_core.specs.Shifts.{shifted};
 ghost use Rattle.rewriting.specs.Measures.{size_in};
-ghost use Rattle.rewriting.specs.Rebuilding.{after, IsLess};
-ghost use Rattle.rewriting.specs.RebuildingContracts.{after_in, IsLessIn, StoresNew};
+ghost use Rattle.rewriting.specs.Rebuilding.{after};
+ghost use Rattle.rewriting.specs.RebuildingContracts.{after_in, both_after, let_after, part_after, scale_after, within_after};
+ghost use Rattle.rewriting.specs.RebuildingContracts.{IfBothAreLessIn, IfBothStore, IfTermAndBodyAreLess, IfTermAndBodyStore, IfTestAndBranchesAreLess, IfTestAndBranchesStore, IsLessIn, StoresNew};
 ghost use Rattle.rewriting.specs.Substituting.{substituted_in};
-ghost use Rattle.simplify.specs.Names.{kinds_in};
+ghost use Rattle.simplify.specs.ScopeKinds.{kinds_in};
 ghost use Rattle.simplify.specs.TurningContracts as model;
-ghost use Rattle.simplify.specs.TurningContracts.{turned_in, rule_in};
+ghost use Rattle.simplify.specs.TurningContracts.{rule_in};
+ghost use Rattle.simplify.specs.TurnAnswers.{IsTurnOfContract};
 ghost use Rattle.simplify.specs.TurnableContracts.{joined, joined_days, DecidesTest, CanTurnIn};
 
 use crate::names::Names;
@@ -34,7 +36,7 @@ fn is_nothing(s: &SharedContr) -> bool
 
 // Whether a part is nothing, once something may have taken its place.
 fn is_nothing_after(part: &Rc<SharedContr>, new: &Option<Rc<SharedContr>>) -> bool
-    ensures { result ≡ model.is_nothing (after_in (shared part.now.value) new.now) }
+    ensures { result ≡ model.is_nothing (part_after part.now new.now) }
 {
     match new {
         Some(new) => is_nothing(new),
@@ -49,7 +51,7 @@ fn are_nothing(
     one: &Option<Rc<SharedContr>>,
     two: &Option<Rc<SharedContr>>,
 ) -> bool
-    ensures { result ≡ (model.is_nothing (after_in (shared left.now.value) one.now) && model.is_nothing (after_in (shared right.now.value) two.now)) }
+    ensures { result ≡ (model.is_nothing (part_after left.now one.now) && model.is_nothing (part_after right.now two.now)) }
 {
     is_nothing_after(left, one) && is_nothing_after(right, two)
 }
@@ -63,7 +65,7 @@ fn nothing(alloc: Global) -> Result<Option<Rc<SharedContr>>, NoMemory>
 }
 
 // What two contracts come to, once they are turned.
-#[tactic(auto, using(crate::proofs::RuleParts::both_left, crate::proofs::RuleParts::both_right, crate::proofs::RuleParts::both_stay, crate::proofs::LessFacts::no_more_in, crate::proofs::ContractTurns::some_size_in))]
+#[tactic(auto, using(crate::proofs::RuleParts::for_both))]
 fn turn_both(
     alloc: Global,
     s: &SharedContr,
@@ -73,9 +75,9 @@ fn turn_both(
     two: Option<Rc<SharedContr>>,
 ) -> Result<Option<Rc<SharedContr>>, NoMemory>
     requires { shared s.now ≡ Both (shared left.now.value) (shared right.now.value) }
-    ensures same { IfOk result (λ r. after_in (shared s.now) r ≡ rule_in (Both (after_in (shared left.now.value) one) (after_in (shared right.now.value) two))) }
-    ensures less { IfOk result (λ r. IsLessIn one (shared left.now.value) → IsLessIn two (shared right.now.value) → IsLessIn r (shared s.now)) }
-    ensures offsets { IfOk result (λ r. StoresOffsets left.now.value → StoresOffsets right.now.value → StoresNew one → StoresNew two → StoresNew r) }
+    ensures same { IfOk result (λ r. after_in (shared s.now) r ≡ rule_in (both_after left.now one right.now two)) }
+    ensures less { IfOk result (λ r. IfBothAreLessIn left.now one right.now two (IsLessIn r (shared s.now))) }
+    ensures offsets { IfOk result (λ r. IfBothStore left.now one right.now two (StoresNew r)) }
 {
     if is_nothing_after(left, &one) {
         Ok(Some(kept_part(right, two)?))
@@ -105,7 +107,7 @@ fn is_zero_after(part: &Expr, new: &Option<Expr>) -> bool
 }
 
 // What a contract with a factor comes to, once both are turned.
-#[tactic(auto, using(crate::proofs::RuleParts::scale_nothing, crate::proofs::RuleParts::scale_zero, crate::proofs::RuleParts::scale_stays, rewriting::proofs::SizeFacts::some_size, crate::proofs::ContractTurns::some_size_in))]
+#[tactic(auto, using(crate::proofs::RuleParts::for_scale))]
 fn turn_scale(
     alloc: Global,
     s: &SharedContr,
@@ -116,9 +118,9 @@ fn turn_scale(
     two: Option<Rc<SharedContr>>,
 ) -> Result<Option<Rc<SharedContr>>, NoMemory>
     requires { shared s.now ≡ Scale (shifted moved (expression factor.now.value)) (shared body.now.value) }
-    ensures same { IfOk result (λ r. after_in (shared s.now) r ≡ rule_in (Scale (shifted moved (after (expression factor.now.value) one)) (after_in (shared body.now.value) two))) }
-    ensures less { IfOk result (λ r. IsLess one (expression factor.now.value) → IsLessIn two (shared body.now.value) → IsLessIn r (shared s.now)) }
-    ensures offsets { IfOk result (λ r. HasOffsets (after (expression factor.now.value) one) → StoresOffsets body.now.value → StoresNew two → StoresNew r) }
+    ensures same { IfOk result (λ r. after_in (shared s.now) r ≡ rule_in (scale_after moved factor.now one body.now two)) }
+    ensures less { IfOk result (λ r. IfTermAndBodyAreLess factor.now one body.now two (IsLessIn r (shared s.now))) }
+    ensures offsets { IfOk result (λ r. IfTermAndBodyStore factor.now one body.now two (StoresNew r)) }
 {
     if is_nothing_after(body, &two) {
         nothing(alloc)
@@ -151,7 +153,7 @@ fn joined_delay(
 }
 
 // What a contract that waits comes to, once it is turned.
-#[tactic(auto, using(crate::proofs::RuleParts::after_nothing, crate::proofs::RuleParts::after_none, crate::proofs::RuleParts::after_joined, crate::proofs::LessFacts::no_more_in))]
+#[tactic(auto, using(crate::proofs::RuleParts::for_after))]
 fn turn_after(
     alloc: Global,
     s: &SharedContr,
@@ -160,8 +162,8 @@ fn turn_after(
     new: Option<Rc<SharedContr>>,
 ) -> Result<Option<Rc<SharedContr>>, NoMemory>
     requires whole { shared s.now ≡ After (Count days) (shared body.now.value) }
-    requires days { joined_days days (after_in (shared body.now.value) new) < 2 ^ 32 }
-    ensures same { IfOk result (λ r. after_in (shared s.now) r ≡ rule_in (After (Count days) (after_in (shared body.now.value) new))) }
+    requires days { joined_days days (part_after body.now new) < 2 ^ 32 }
+    ensures same { IfOk result (λ r. after_in (shared s.now) r ≡ rule_in (After (Count days) (part_after body.now new))) }
     ensures less { IfOk result (λ r. IsLessIn new (shared body.now.value) → IsLessIn r (shared s.now)) }
     ensures offsets { IfOk result (λ r. StoresOffsets body.now.value → StoresNew new → StoresNew r) }
 {
@@ -215,8 +217,8 @@ fn without_name(
 }
 
 fn uses_name(part: &Rc<SharedContr>, new: &Option<Rc<SharedContr>>) -> bool
-    requires { height_of_contract (after_in (shared part.now.value) new.now) ≤ 2 ^ 30 }
-    ensures { result ≡ uses_in_contract 0 (after_in (shared part.now.value) new.now) }
+    requires { height_of_contract (part_after part.now new.now) ≤ 2 ^ 30 }
+    ensures { result ≡ uses_in_contract 0 (part_after part.now new.now) }
 {
     match new {
         Some(new) => uses_in(new, 0),
@@ -225,7 +227,7 @@ fn uses_name(part: &Rc<SharedContr>, new: &Option<Rc<SharedContr>>) -> bool
 }
 
 // What a contract with a name for an expression comes to, once both are turned.
-#[tactic(auto, using(crate::proofs::RuleParts::let_literal, crate::proofs::RuleParts::let_unused, crate::proofs::RuleParts::let_stays, crate::proofs::LessFacts::no_more_in))]
+#[tactic(auto, using(crate::proofs::RuleParts::for_let))]
 fn turn_let(
     alloc: Global,
     s: &SharedContr,
@@ -236,10 +238,10 @@ fn turn_let(
     two: Option<Rc<SharedContr>>,
 ) -> Result<Option<Rc<SharedContr>>, NoMemory>
     requires whole { shared s.now ≡ Let (shifted moved (expression bound.now.value)) (shared body.now.value) }
-    requires low { height_of_contract (after_in (shared body.now.value) two) ≤ 2 ^ 30 }
-    ensures same { IfOk result (λ r. after_in (shared s.now) r ≡ rule_in (Let (shifted moved (after (expression bound.now.value) one)) (after_in (shared body.now.value) two))) }
-    ensures less { IfOk result (λ r. IsLess one (expression bound.now.value) → IsLessIn two (shared body.now.value) → IsLessIn r (shared s.now)) }
-    ensures offsets { IfOk result (λ r. HasOffsets (after (expression bound.now.value) one) → StoresOffsets body.now.value → StoresNew two → StoresNew r) }
+    requires low { height_of_contract (part_after body.now two) ≤ 2 ^ 30 }
+    ensures same { IfOk result (λ r. after_in (shared s.now) r ≡ rule_in (let_after moved bound.now one body.now two)) }
+    ensures less { IfOk result (λ r. IfTermAndBodyAreLess bound.now one body.now two (IsLessIn r (shared s.now))) }
+    ensures offsets { IfOk result (λ r. IfTermAndBodyStore bound.now one body.now two (StoresNew r)) }
 {
     if is_literal_after(bound, &one) {
         let bound = kept(alloc, bound, one)?;
@@ -255,7 +257,7 @@ fn turn_let(
 }
 
 // What a contract that waits for a test comes to, once its parts are turned.
-#[tactic(auto, using(crate::proofs::RuleParts::within_hit, crate::proofs::RuleParts::within_miss, crate::proofs::RuleParts::within_nothing, crate::proofs::RuleParts::within_stays, crate::proofs::LessFacts::no_more_in, crate::proofs::ContractTurns::some_size_in, rewriting::proofs::SizeFacts::some_size))]
+#[tactic(auto, using(crate::proofs::RuleParts::for_within))]
 fn turn_within(
     alloc: Global,
     s: &SharedContr,
@@ -269,9 +271,9 @@ fn turn_within(
 ) -> Result<Option<Rc<SharedContr>>, NoMemory>
     requires whole { shared s.now ≡ Within (expression test.now.value) (Count days) (shared hit.now.value) (shared miss.now.value) }
     requires test { DecidesTest (after (expression test.now.value) one) }
-    ensures same { IfOk result (λ r. after_in (shared s.now) r ≡ rule_in (Within (after (expression test.now.value) one) (Count days) (after_in (shared hit.now.value) two) (after_in (shared miss.now.value) three))) }
-    ensures less { IfOk result (λ r. IsLess one (expression test.now.value) → IsLessIn two (shared hit.now.value) → IsLessIn three (shared miss.now.value) → IsLessIn r (shared s.now)) }
-    ensures offsets { IfOk result (λ r. HasOffsets (after (expression test.now.value) one) → StoresOffsets hit.now.value → StoresOffsets miss.now.value → StoresNew two → StoresNew three → StoresNew r) }
+    ensures same { IfOk result (λ r. after_in (shared s.now) r ≡ rule_in (within_after test.now one days hit.now two miss.now three)) }
+    ensures less { IfOk result (λ r. IfTestAndBranchesAreLess test.now one hit.now two miss.now three (IsLessIn r (shared s.now))) }
+    ensures offsets { IfOk result (λ r. IfTestAndBranchesStore test.now one hit.now two miss.now three (StoresNew r)) }
 {
     match truth_after(test, &one) {
         Some(true) => Ok(Some(kept_part(hit, two)?)),
@@ -298,7 +300,7 @@ pub fn turn_in(
     names: &Names,
 ) -> Result<Option<Rc<SharedContr>>, NoMemory>
     requires { CanTurnIn (declarations decls.now) s.now (kinds_in names.now) }
-    ensures same { IfOk result (λ r. after_in (shared s.now) r ≡ turned_in (declarations decls.now) (kinds_in names.now) (shared s.now)) }
+    ensures same { IfOk result (λ r. IsTurnOfContract (declarations decls.now) (kinds_in names.now) s.now r) }
     ensures less { IfOk result (λ r. IsLessIn r (shared s.now)) }
     ensures offsets { IfOk result (λ r. StoresOffsets s.now → StoresNew r) }
 {

@@ -2,10 +2,10 @@
 
 ghost use Rattle.simplify.specs.Turning.{TurnsEnd, TurnsKeepValues};
 ghost use Rattle.simplify.specs.TurningContracts.{ContractTurnsEnd, PlainLeavesNone};
-ghost use Rattle.simplify.specs.LawsEffects.{TurnsKeepFlows, TurnsKeepAmounts, TurnsReadLess, TurnsTransferLess, ContractTurnsReadLess, TurnsCarry};
+ghost use Rattle.simplify.specs.LawsTurnsKeep.{TurnsKeepFlows, TurnsKeepAmounts, TurnsReadLess, TurnsTransferLess, ContractTurnsReadLess, TurnsCarry};
 ghost use Rattle.simplify.specs.LawsTurnsAccepted.{TurnsKeepTypes, TurnsKeepForms, TurnsKeepSizes};
-ghost use Rattle.simplify.specs.LawsRuled.{TruthsHaveNothing, RuleReplaces, ContractRuleReplaces};
-ghost use Rattle.simplify.specs.LawsTurned.{TurnsKeepForm, TurnsReplace, ContractTurnsReplace, TurnIsAccepted};
+ghost use Rattle.simplify.specs.LawsRulesStand.{TruthsHaveNothing, RuleReplaces, ContractRuleReplaces};
+ghost use Rattle.simplify.specs.LawsTurnsStand.{TurnsKeepForm, TurnsReplace, ContractTurnsReplace, TurnIsAccepted};
 ghost use Rattle.simplify.specs.LawsTurnShifts.{TurnsSeeNoOffsets};
 
 /// A turn of the simplifier leaves an expression as it is, and then it holds no redex that asks for no frame, or makes it

@@ -15,7 +15,7 @@ mod contracts;
 mod folding;
 pub mod laws;
 mod names;
+mod simplifying;
 mod turns;
-mod whole;
 
-pub use whole::{simplify, simplify_shared, turn_shared};
+pub use simplifying::{simplify, simplify_shared, turn_shared};

@@ -2,7 +2,7 @@
 
 ghost use Rattle.std.specs.Prelude.{◌≡◌, slice_get};
 ghost use Rattle.term_core.specs.Values.{kind_or};
-ghost use Rattle.simplify.specs.Names.{kinds_in};
+ghost use Rattle.simplify.specs.ScopeKinds.{kinds_in};
 
 use term_core::Kind;
 

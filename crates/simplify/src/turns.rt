@@ -7,10 +7,10 @@ ghost use Rattle.term_core.specs.Kinds.{scale_of_kind};
 ghost use Rattle.interval_check.specs.RangeTrials.{kind_found};
 ghost use Rattle.interval_check.specs.Replacing.{branch_at};
 ghost use Rattle.rewriting.specs.Measures.{size};
-ghost use Rattle.rewriting.specs.Rebuilding.{after, IsLess};
-ghost use Rattle.simplify.specs.Names.{kinds_in};
-ghost use Rattle.simplify.specs.Turning.{turned};
-ghost use Rattle.simplify.specs.Turnable.{CanTurn, truth_literal, of_logic, of_choice};
+ghost use Rattle.rewriting.specs.Rebuilding.{after, IfAllAreLess, IfBothAreLess, IsLess};
+ghost use Rattle.simplify.specs.ScopeKinds.{kinds_in};
+ghost use Rattle.simplify.specs.Turnable.{CanTurn, truth_literal};
+ghost use Rattle.simplify.specs.TurnAnswers.{decided_after, logic_after, IsTurnOf};
 
 use crate::folding::ruled;
 use crate::names::{Names, kind_at};
@@ -59,8 +59,8 @@ fn turn_logic(
     two: Option<Expr>,
 ) -> Result<Option<Expr>, NoMemory>
     requires { expression e.now ≡ Logic op (expression left.now) (expression right.now) }
-    ensures same { IfOk result (λ r. after (expression e.now) r ≡ of_logic op (truth_literal (after (expression left.now) one)) (after (expression right.now) two) (Logic op (after (expression left.now) one) (after (expression right.now) two))) }
-    ensures less { IfOk result (λ r. IsLess one (expression left.now) → IsLess two (expression right.now) → IsLess r (expression e.now)) }
+    ensures same { IfOk result (λ r. after (expression e.now) r ≡ logic_after op left.now one right.now two) }
+    ensures less { IfOk result (λ r. IfBothAreLess left.now one right.now two (IsLess r (expression e.now))) }
 {
     match truth_after(left, &one) {
         Some(value) => {
@@ -103,8 +103,8 @@ fn turn_choice(
     two: Turned,
 ) -> Result<Option<Expr>, NoMemory>
     requires { expression e.now ≡ Cond (expression test.now) (expression yes.now) (expression no.now) }
-    ensures same { IfOk result (λ r. after (expression e.now) r ≡ of_choice (truth_literal (after (expression test.now) decision)) (scale_of_kind one.kind) (scale_of_kind two.kind) (after (expression yes.now) one.new) (after (expression no.now) two.new) (Cond (after (expression test.now) decision) (after (expression yes.now) one.new) (after (expression no.now) two.new))) }
-    ensures less { IfOk result (λ r. IsLess decision (expression test.now) → IsLess one.new (expression yes.now) → IsLess two.new (expression no.now) → IsLess r (expression e.now)) }
+    ensures same { IfOk result (λ r. after (expression e.now) r ≡ decided_after test.now decision yes.now one no.now two) }
+    ensures less { IfOk result (λ r. IfAllAreLess test.now decision yes.now one.new no.now two.new (IsLess r (expression e.now))) }
 {
     let scale = one.kind.scale().max(two.kind.scale());
     match truth_after(test, &decision) {
@@ -117,7 +117,7 @@ fn turn_choice(
 /// What an expression turns into, among names of these kinds.
 pub fn turn(alloc: Global, decls: &Decls, e: &Expr, names: &Names) -> Result<Turned, NoMemory>
     requires { CanTurn (declarations decls.now) (expression e.now) (kinds_in names.now) }
-    ensures same { IfOk result (λ r. after (expression e.now) r.new ≡ turned (declarations decls.now) (kinds_in names.now) (expression e.now)) }
+    ensures same { IfOk result (λ r. IsTurnOf (declarations decls.now) (kinds_in names.now) e.now r.new) }
     ensures kind { IfOk result (λ r. r.kind ≡ kind_found (declarations decls.now) (expression e.now) (kinds_in names.now)) }
     ensures less { IfOk result (λ r. IsLess r.new (expression e.now)) }
 {

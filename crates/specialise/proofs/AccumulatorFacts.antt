@@ -19,8 +19,9 @@ use Rattle.expr_eval.specs.Rooms.{kinds_of}
 use Rattle.expr_eval.specs.Standing.{place_of}
 use Rattle.expr_eval.specs.Answers.{IsAnswer}
 use Rattle.specialise.specs.Specialising.{specialised, told, told_or, literal_or, is_known}
-use Rattle.specialise.specs.Taken.{steps_left, IsAccumulator}
+use Rattle.specialise.specs.WalkAnswers.{steps_left, IsAccumulator}
 use Rattle.specialise.proofs.SpecialSizes.{nothing_told}
+use Rattle.specialise.proofs.StandingFacts.{is_low, closed_may_evaluate}
 
 -- some place is not fixed
 some_unfixed : (fixings : Environment) (q : Place) (qs : List Place) → first_unfixed fixings qs ≡ Some q → list_all (is_fixed fixings) qs ≡ false
@@ -104,3 +105,6 @@ value_told d fixings f e bs cs k v r g a none same i closed day h kind =
     let here : IsAnswer d e [] fixings f (Ok v) = at_day d fixings f e bs (Ok v) r g none i day h in
     let fixed = all_fixed fixings (reads_of d e [] [] fixings f) (sym (here.missing [] [] tt)) in
     steps_told d fixings f e k v a (rw closed fixed) (ap (λ (x : List Binding). kind_of d e (kinds_of x)) (sym (same ∙ none)) ∙ kind) (here.value [] [] fixings tt (λ q u p. p))
+
+-- what an accumulator comes to, by the tests of the walk
+pub ruleset for_accumulators = (is_low, closed_may_evaluate, open_stays, lacking_stays, value_told)

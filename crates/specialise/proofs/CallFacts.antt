@@ -14,7 +14,8 @@ use Rattle.term_core.specs.Acceptance.{IsAccepted}
 use Rattle.interval_check.proofs.GuaranteeFacts.{accepted_meet_rules, parts_meet_rules}
 use Rattle.specialise.specs.Specialising.{specialised, specialised_in}
 use Rattle.specialise.specs.Specialisable.{IsPartOfAccepted}
-use Rattle.specialise.specs.Specialised.{HasItsKind, HasItsValue, ReadsNoMore, HasNoTold, IsNoLarger, PaysTheSameOn, ReadsNoMoreOn, HasNoToldIn, IsNoLargerIn}
+use Rattle.rewriting.specs.Keeping.{IsNoLarger, IsNoLargerIn}
+use Rattle.specialise.specs.Specialised.{HasItsKind, HasItsValue, ReadsNoMore, HasNoTold, PaysTheSameOn, ReadsNoMoreOn, HasNoToldIn}
 use Rattle.specialise.specs.Literals.{HasLiteralsIn}
 use Rattle.specialise.proofs.SpecialValues.{special_kind, special_value}
 use Rattle.specialise.proofs.SpecialReads.{special_reads}

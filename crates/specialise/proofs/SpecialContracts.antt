@@ -13,16 +13,17 @@ use Rattle.term_core.specs.Flows.{flow_of, amount_of, count_of, scale_of_contrac
 use Rattle.term_core.specs.Reads.{reads_of, reads_of_contract, live, upto, tested}
 use Rattle.term_core.specs.Redexes.{moved}
 use Rattle.rewriting.proofs.NameFlows.{same_first}
-use Rattle.rewriting.proofs.Among.{among_none, among_same, among_both}
+use Rattle.rewriting.proofs.Among.{among_none, among_same, among_both, then_among, among_steps, one_name_more, among_unless, among_if_same, among_branches}
 use Rattle.specialise.specs.Specialising.{specialised, specialised_in}
-use Rattle.specialise.specs.LawsSpecial.{IsOn, MayCome, AreAmong}
+use Rattle.specialise.specs.Specialised.{IsOn, MayCome}
+use Rattle.rewriting.specs.Keeping.{AreAmong}
 use Rattle.specialise.specs.LawsSpecialContracts.{ContractScales, ContractFlows, ContractReads, ContractIsSmaller, SpecialisedCarries}
-use Rattle.rewriting.proofs.Branches.{two_raised, same_branch, same_test, branch_reads}
+use Rattle.rewriting.proofs.Branches.{two_raised, same_branch, same_test, branch_reads, test_reads}
 use Rattle.specialise.proofs.SpecialValues.{special_kind, special_scale, special_value, on_moved}
 use Rattle.rewriting.specs.Measures.{size}
 use Rattle.rewriting.specs.Measures.{size_in}
 use Rattle.specialise.proofs.SpecialSizes.{less_one, less_two, less_three, special_smaller}
-use Rattle.specialise.proofs.SpecialReads.{then_among, among_steps, one_name_more, special_reads}
+use Rattle.specialise.proofs.SpecialReads.{special_reads}
 
 pub contract_scale : ContractScales
 contract_scale d F o Zero ks = refl
@@ -81,25 +82,6 @@ contract_live d F o (Within e n x y) g env f a b m i =
 
 -- ---- what is read
 
-pub among_unless : (t : Bool) (xs ys : List Place) → AreAmong xs ys → AreAmong (if t then [] else xs) (if t then [] else ys)
-among_unless true xs ys h = among_none []
-among_unless false xs ys h = h
-
-pub among_if_same : (s t : Bool) (xs ys : List Place) → s ≡ t → AreAmong xs ys → AreAmong (if s then xs else []) (if t then ys else [])
-among_if_same true true xs ys e h = h
-among_if_same true false xs ys e h = absurd (cc)
-among_if_same false true xs ys e h = absurd (cc)
-among_if_same false false xs ys e h = among_none []
-
-pub among_branches : (o u : Option ℕ) (n : ℕ) (b : ℤ) (x y : ℕ → List Place) (v w : List Place) → o ≡ u → ((k : ℕ) → AreAmong (x k) (y k)) → AreAmong v w → AreAmong (branch_reads o n b x v) (branch_reads u n b y w)
-among_branches (Some k) u n b x y v w e h i =
-    then_among (branch_reads (Some k) n b x v) (branch_reads (Some k) n b y w) (branch_reads u n b y w) (among_unless (int_lt b (pos k)) (x k) (y k) (h k)) (among_same (branch_reads (Some k) n b y w) (branch_reads u n b y w) (ap (λ (r : Option ℕ). branch_reads r n b y w) e))
-among_branches None u n b x y v w e h i =
-    then_among (branch_reads None n b x v) (branch_reads None n b y w) (branch_reads u n b y w) (among_unless (int_lt b (pos n)) v w i) (among_same (branch_reads None n b y w) (branch_reads u n b y w) (ap (λ (r : Option ℕ). branch_reads r n b y w) e))
-
-abbrev pub TestReads : Declarations → Expression → List Entry → List (List Place) → Environment → ℤ → ℕ → List Place
-TestReads d e g bs env f i = reads_of d e g bs env (f +ℤ pos i)
-
 pub contract_reads : ContractReads
 contract_reads d F o Zero g bs cs env f a b m i h = among_none []
 contract_reads d F o (Pay x p q) g bs cs env f a b m i h = among_none []
@@ -123,8 +105,8 @@ contract_reads d F o (Within e n x y) g bs cs env f a b m i h =
     let first = first_true d e g env f c in
     let first' = first_true d e' g env f c in
     let last = tested first c b in
-    let tests' = TestReads d e' g bs env f in
-    let tests = TestReads d e g cs env f in
+    let tests' = test_reads d e' g bs env f in
+    let tests = test_reads d e g cs env f in
     among_unless (int_lt b (pos 0)) _ _
     (among_both (upto (tested first' c b) tests') (branch_reads first' c b (λ k. reads_of_contract d x' g bs env (f +ℤ pos k) (a -ℤ pos k) (b -ℤ pos k)) (reads_of_contract d y' g bs env (f +ℤ pos c) (a -ℤ pos c) (b -ℤ pos c))) (upto last tests) (branch_reads first c b (λ k. reads_of_contract d x g cs env (f +ℤ pos k) (a -ℤ pos k) (b -ℤ pos k)) (reads_of_contract d y g cs env (f +ℤ pos c) (a -ℤ pos c) (b -ℤ pos c)))
     (then_among (upto (tested first' c b) tests') (upto last tests') (upto last tests)

@@ -11,31 +11,14 @@ use Rattle.term_core.specs.Values.{Entry, kinds, truth, widened, kind_or, value_
 use Rattle.term_core.specs.Reads.{reads_of, steps_before, decides}
 use Rattle.term_core.specs.Redexes.{moved}
 use Rattle.rewriting.proofs.NameValues.{same_days}
-use Rattle.rewriting.proofs.Among.{among_none, among_same, among_both}
+use Rattle.rewriting.proofs.Among.{among_none, among_same, among_both, then_among, among_steps, one_name_more, among_chosen}
 use Rattle.interval_check.specs.Replacing.{literal_of}
 use Rattle.specialise.specs.Specialising.{specialised}
-use Rattle.specialise.specs.LawsSpecial.{IsOn, MayCome, AreAmong, NamesReadLess, SpecialisedReads}
+use Rattle.specialise.specs.LawsSpecial.{SpecialisedReads}
+use Rattle.specialise.specs.Specialised.{IsOn, MayCome}
+use Rattle.rewriting.specs.Keeping.{AreAmong, NamesReadLess}
 use Rattle.specialise.proofs.ToldFacts.{told_cases, literal_reads}
 use Rattle.specialise.proofs.SpecialValues.{special_kind, special_scale, special_value, on_moved}
-
-pub then_among : (xs ys zs : List Place) → AreAmong xs ys → AreAmong ys zs → AreAmong xs zs
-then_among xs ys zs h k q c = k q (h q c)
-
-pub among_steps : (n : ℕ) (f g : ℕ → List Place) → ((i : ℕ) → AreAmong (f i) (g i)) → AreAmong (steps_before n f) (steps_before n g)
-among_steps zero f g h = among_none []
-among_steps (suc n) f g h = among_both _ _ _ _ (among_steps n f g h) (h n)
-
--- one of two lists, by tests that are the same
-pub among_chosen : (b c : Bool) (xs xs' ys ys' : List Place) → b ≡ c → AreAmong xs xs' → AreAmong ys ys' → AreAmong (if b then xs else ys) (if c then xs' else ys')
-among_chosen b c xs xs' ys ys' e h k = subst (λ (t : Bool). AreAmong (if b then xs else ys) (if t then xs' else ys')) e (at b)
-  where
-    at : (t : Bool) → AreAmong (if t then xs else ys) (if t then xs' else ys')
-    at true = h
-    at false = k
-
-pub one_name_more : (xs ys : List Place) (bs cs : List (List Place)) → AreAmong xs ys → NamesReadLess bs cs → NamesReadLess (xs ∷ bs) (ys ∷ cs)
-one_name_more xs ys bs cs h less zero = h
-one_name_more xs ys bs cs h less (suc k) = less k
 
 -- the value on the way of an accumulator
 pub special_run : (d : Declarations) (F : Environment) (o : Option ℤ) (body first : Expression) (n j : ℕ) (g : List Entry) (env : Environment) (f : ℤ) → MayCome d F env → IsOn o f

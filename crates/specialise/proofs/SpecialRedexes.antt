@@ -20,11 +20,12 @@ use Rattle.term_core.proofs.AlikeFacts.{all-append}
 use Rattle.interval_check.specs.Nodes.{IsSorted, IsSortedContract, range_of, range_after}
 use Rattle.interval_check.proofs.GuaranteeFacts.{rules_are_by_structure}
 use Rattle.interval_check.specs.Replacing.{literal_of}
-use Rattle.rewriting.specs.Reduced.{IsNone, NoneIn, NoneInContract}
+use Rattle.rewriting.specs.Reduced.{IsNoRedex, NoneIn, NoneInContract}
 use Rattle.rewriting.proofs.ReducedFacts.{reduced_by_structure}
 use Rattle.specialise.specs.Specialising.{is_known, specialised, specialised_in}
-use Rattle.specialise.specs.LawsSpecial.{IsOn, MayCome}
-use Rattle.specialise.specs.LawsSpecialContracts.{IsToldKind, SpecialisedLeavesNone}
+use Rattle.specialise.specs.Specialised.{IsOn, MayCome}
+use Rattle.specialise.specs.Specialised.{IsToldKind}
+use Rattle.specialise.specs.LawsSpecialContracts.{SpecialisedLeavesNone}
 use Rattle.specialise.proofs.ClosedFacts.{kind_among, agree_none, names_more}
 use Rattle.specialise.proofs.ToldFacts.{told_cases, literal_reads, on_day}
 use Rattle.specialise.proofs.SpecialValues.{special_kind, special_value, on_moved}
@@ -153,7 +154,7 @@ no_contract d F LiteralOperands p o c = absurd p
 no_contract d F DecidedChoice p o c = absurd p
 no_contract d F NoSteps p o c = absurd p
 
-literal_none : (d : Declarations) (F : Environment) (kind : Redex) → IsToldKind kind → (o : Option ℤ) (k : Kind) (v : Value) → NoneIn (IsNone d F kind) o (literal_of k v)
+literal_none : (d : Declarations) (F : Environment) (kind : Redex) → IsToldKind kind → (o : Option ℤ) (k : Kind) (v : Value) → NoneIn (IsNoRedex d F kind) o (literal_of k v)
 literal_none d F kind p o TruthKind v = never_told d F kind p o (Yes (truth v)) refl
 literal_none d F kind p o (Number s) v = never_told d F kind p o (literal_of (Number s) v) refl
 
@@ -214,12 +215,12 @@ known_same d F o body first n a =
         ap (λ (b : Expression). list_all (is_fixed F) (reads_of d (Acc b n (specialised d F o' first)) [] [] F f)) (nothing_told d F body)
         ∙ with_start d F body first (specialised d F o' first) n f (special_kind d F o' first []) (special_value d F o' first [] F (f -ℤ pos n) (themselves d F a) i') (special_fixed d F o' first (f -ℤ pos n) a i')
 
-pub none_told : (d : Declarations) (F : Environment) (kind : Redex) → IsToldKind kind → IsAdmitted d F → (o : Option ℤ) (e : Expression) (g : List Range) → IsSorted d e g → NoneIn (IsNone d F kind) o (specialised d F o e)
+pub none_told : (d : Declarations) (F : Environment) (kind : Redex) → IsToldKind kind → IsAdmitted d F → (o : Option ℤ) (e : Expression) (g : List Range) → IsSorted d e g → NoneIn (IsNoRedex d F kind) o (specialised d F o e)
 none_told d F kind p a o (Lit m s) g r = never_told d F kind p o (Lit m s) refl
 none_told d F kind p a o (Yes b) g r = never_told d F kind p o (Yes b) refl
 none_told d F kind p a o (Var back) g r = never_told d F kind p o (Var back) refl
 none_told d F kind p a o (Obs l t) g r =
-    told_cases (NoneIn (IsNone d F kind) o) d F o (Obs l t) (Obs l t) (λ f k e. literal_none d F kind p o k _) (λ u. elim u [
+    told_cases (NoneIn (IsNoRedex d F kind) o) d F o (Obs l t) (Obs l t) (λ f k e. literal_none d F kind p o k _) (λ u. elim u [
       | inl unknown ↦ place_none d F kind p o l t unknown
       | inr none ↦ absurd (cc (has_no_kind d (Obs l t) (range_kinds g) none.0 none.1 r))
     ])
@@ -235,7 +236,7 @@ none_told d F kind p a o (Round mode s e) g r = (none_told d F kind p a o e g r.
 none_told d F kind p a o (Div mode s x y) g r = (none_told d F kind p a o x g r.0, none_told d F kind p a o y g r.1, never_told d F kind p o (Div mode s _ _) refl)
 none_told d F kind p a o (Acc body n first) g r =
     let o' = moved (pos 0 -ℤ pos n) o in
-    told_cases (NoneIn (IsNone d F kind) o) d F o (Acc body n first) (Acc (specialised d F None body) n (specialised d F o' first)) (λ f k e. literal_none d F kind p o k _) (λ u. (
+    told_cases (NoneIn (IsNoRedex d F kind) o) d F o (Acc body n first) (Acc (specialised d F None body) n (specialised d F o' first)) (λ f k e. literal_none d F kind p o k _) (λ u. (
       none_told d F kind p a o' first g r.0,
       none_told d F kind p a None body (range_after d body 0 first g ∷ g) r.1.0,
       elim u [
@@ -244,7 +245,7 @@ none_told d F kind p a o (Acc body n first) g r =
       ],
     ))
 
-pub none_told_in : (d : Declarations) (F : Environment) (kind : Redex) → IsToldKind kind → IsAdmitted d F → (o : Option ℤ) (c : Contract) (g : List Range) → IsSortedContract d c g → NoneInContract (IsNone d F kind) o (specialised_in d F o c)
+pub none_told_in : (d : Declarations) (F : Environment) (kind : Redex) → IsToldKind kind → IsAdmitted d F → (o : Option ℤ) (c : Contract) (g : List Range) → IsSortedContract d c g → NoneInContract (IsNoRedex d F kind) o (specialised_in d F o c)
 none_told_in d F kind p a o Zero g r = no_contract d F kind p o Zero
 none_told_in d F kind p a o (Pay x y z) g r = no_contract d F kind p o (Pay x y z)
 none_told_in d F kind p a o (Both x y) g r = (none_told_in d F kind p a o x g r.0, none_told_in d F kind p a o y g r.1, no_contract d F kind p o _)

@@ -14,7 +14,8 @@ use Rattle.term_core.specs.Values.{Entry, kinds, num, truth, of_num, of_cmp, log
 use Rattle.term_core.specs.Redexes.{moved}
 use Rattle.rewriting.proofs.NameValues.{same_days}
 use Rattle.specialise.specs.Specialising.{specialised}
-use Rattle.specialise.specs.LawsSpecial.{IsOn, SpecialisedKinds, SpecialisedValues}
+use Rattle.specialise.specs.LawsSpecial.{SpecialisedKinds, SpecialisedValues}
+use Rattle.specialise.specs.Specialised.{IsOn}
 use Rattle.specialise.proofs.ClosedFacts.{same_acc, of_two}
 use Rattle.specialise.proofs.ToldFacts.{told_cases, told_kind, told_value}
 

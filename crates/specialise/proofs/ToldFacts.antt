@@ -19,7 +19,7 @@ use Rattle.term_core.proofs.ReadFacts.{reads_alike}
 use Rattle.term_core.proofs.ReadLawFacts.{extension_reads, no_names}
 use Rattle.interval_check.specs.Replacing.{literal_of}
 use Rattle.specialise.specs.Specialising.{is_known, literal_or, told, told_or}
-use Rattle.specialise.specs.LawsSpecial.{IsOn, MayCome}
+use Rattle.specialise.specs.Specialised.{IsOn, MayCome}
 use Rattle.specialise.proofs.ClosedFacts.{kind_among, value_among, agree_none, both_none}
 
 -- an expression that is known: it is closed, its frame is a day on which all its reads are fixed, and it has a kind

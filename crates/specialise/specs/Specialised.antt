@@ -1,21 +1,19 @@
 -- What the specialiser promises of what it makes of a term.
-use Rattle.std.specs.Prelude.{ℕ, ℤ, pos, ◌<◌, ◌≤◌, ◌^◌, ◌≡◌, ◌⊎◌, unsigned_abs, List, [], Option, Some, None}
+use Rattle.std.specs.Prelude.{ℕ, ℤ, pos, ◌≤◌, ◌^◌, ◌≡◌, unsigned_abs, List, [], Option, Some, None}
 use Rattle.term_core.specs.Declarations.{Declarations}
 use Rattle.term_core.specs.declared.values.Kind.{Kind}
-use Rattle.term_core.specs.Terms.{Expression}
-use Rattle.term_core.specs.Terms.{Contract}
-use Rattle.term_core.specs.Environments.{Environment, Place}
+use Rattle.term_core.specs.Terms.{Expression, Contract}
+use Rattle.term_core.specs.Environments.{Environment, Place, IsAdmitted, Extends}
 use Rattle.term_core.specs.Kinds.{kind_of}
 use Rattle.term_core.specs.Values.{Entry, value_of}
 use Rattle.term_core.specs.Flows.{Flow, amount_of}
 use Rattle.term_core.specs.Reads.{reads_of, reads_of_contract}
-use Rattle.term_core.specs.Redexes.{Redex, HasNone}
-use Rattle.rewriting.specs.Measures.{size, size_in}
-use Rattle.rewriting.specs.Reduced.{NoneIn, IsNone}
+use Rattle.term_core.specs.Redexes.{Redex, FixedPlace, FixedSteps, HasNone}
+use Rattle.rewriting.specs.Keeping.{AreAmong, NamesReadLess}
+use Rattle.rewriting.specs.Reduced.{NoneIn, IsNoRedex}
 use Rattle.specialise.specs.declared.frames.Frame.{Frame}
 use Rattle.specialise.specs.declared.frames.Frame.TheVariants.{Day, Unknown}
-use Rattle.specialise.specs.LawsSpecial.{IsOn, MayCome, AreAmong, NamesReadLess}
-use Rattle.specialise.specs.LawsSpecialContracts.{IsToldKind}
+use Rattle.specialise.specs.Specialising.{specialised, specialised_in}
 
 -- the day of a frame that is known
 abbrev pub day_of : Frame → Option ℤ
@@ -27,7 +25,20 @@ abbrev pub IsNear : Frame → Type 0
 IsNear (Day f) = unsigned_abs f ≤ 10 ^ 11
 IsNear Unknown = Unit {0}
 
--- an expression r has the kind of e, and so its scale
+-- a frame that is known is the day
+abbrev pub IsOn : Option ℤ → ℤ → Type 0
+IsOn None f = Unit {0}
+IsOn (Some h) f = h ≡ f
+
+-- an environment that may come, where the fixings are known
+abbrev pub MayCome : Declarations → Environment → Environment → Type 0
+MayCome d fixings env = IsAdmitted d env × Extends fixings env
+
+-- an expression r is e with what the fixings tell
+abbrev pub IsSpecialised : Declarations → Environment → Option ℤ → Expression → Expression → Type 0
+IsSpecialised d fixings frame r e = r ≡ specialised d fixings frame e
+
+-- it has the kind of e, and so its scale
 abbrev pub HasItsKind : Declarations → Expression → Expression → Type 0
 HasItsKind d r e = (ks : List Kind) → kind_of d r ks ≡ kind_of d e ks
 
@@ -43,17 +54,24 @@ ReadsNoMore d fixings frame r e =
     (g : List Entry) (bs cs : List (List Place)) (env : Environment) (f : ℤ) → MayCome d fixings env → IsOn frame f → NamesReadLess bs cs
     → AreAmong (reads_of d r g bs env f) (reads_of d e g cs env f)
 
--- no observable that is fixed and no accumulator that is known stands in it
+-- an observable that is fixed, and an accumulator that is known
+abbrev pub IsToldKind : Redex → Type 0
+IsToldKind FixedPlace = Unit {0}
+IsToldKind FixedSteps = Unit {0}
+IsToldKind _ = ⊥
+
+-- neither stands in it
 abbrev pub HasNoTold : Declarations → Environment → Option ℤ → Expression → Type 0
-HasNoTold d fixings frame r = (kind : Redex) → IsToldKind kind → NoneIn (IsNone d fixings kind) frame r
+HasNoTold d fixings frame r = (kind : Redex) → IsToldKind kind → NoneIn (IsNoRedex d fixings kind) frame r
 
--- it is e, or has fewer nodes and observables together
-abbrev pub IsNoLarger : Expression → Expression → Type 0
-IsNoLarger r e = (r ≡ e) ⊎ (size r < size e)
+-- a contract r is c, which stands on a day, with what the fixings tell
+abbrev pub IsSpecialisedOn : Declarations → Environment → ℤ → Contract → Contract → Type 0
+IsSpecialisedOn d fixings f r c = r ≡ specialised_in d fixings (Some f) c
 
--- a contract r pays what c pays on a frame, in every admitted environment that extends the fixings
+-- it pays what c pays, in every admitted environment that extends the fixings
 abbrev pub PaysTheSameOn : Declarations → Environment → ℤ → Contract → Contract → Type 0
-PaysTheSameOn d fixings f r c = (env : Environment) (n : ℤ) (w : Flow) → MayCome d fixings env → amount_of d r env f n w ≡ amount_of d c env f n w
+PaysTheSameOn d fixings f r c =
+    (env : Environment) (n : ℤ) (w : Flow) → MayCome d fixings env → amount_of d r env f n w ≡ amount_of d c env f n w
 
 -- there it reads only what c reads, for each number of days
 abbrev pub ReadsNoMoreOn : Declarations → Environment → ℤ → Contract → Contract → Type 0
@@ -64,7 +82,3 @@ ReadsNoMoreOn d fixings f r c =
 -- no observable that is fixed and no accumulator that is known stands in it
 abbrev pub HasNoToldIn : Declarations → Environment → ℤ → Contract → Type 0
 HasNoToldIn d fixings f r = (kind : Redex) → IsToldKind kind → HasNone d fixings (Some f) kind r
-
--- it is c, or has fewer nodes and observables together
-abbrev pub IsNoLargerIn : Contract → Contract → Type 0
-IsNoLargerIn r c = (r ≡ c) ⊎ (size_in r < size_in c)

@@ -1,18 +1,18 @@
 //! The calls of the specialiser. After the specialisation of contracts by Bahr, Berthold and Elsman (ICFP 2015) and the
 //! partial evaluation of contracts by Annenkov and Elsman (PPDP 2018).
 
-ghost use Rattle.std.specs.Prelude.{◌≡◌, ◌≤◌, ◌≤ℤ◌, pos, IfOk, Some};
+ghost use Rattle.std.specs.Prelude.{◌≤ℤ◌, pos, IfOk};
 ghost use Rattle.term_core.specs.Declarations.{declarations};
 ghost use Rattle.term_core.specs.Terms.{expression, contract};
 ghost use Rattle.term_core.specs.Acceptance.{IsAccepted};
 ghost use Rattle.term_core.specs.Environments.{IsAdmitted};
-ghost use Rattle.term_core.specs.SharedTerms.{shared, HasOffsets, HasOffsetsIn, StoresOffsets};
+ghost use Rattle.term_core.specs.SharedTerms.{shared, HasOffsets, StoresOffsets};
 ghost use Rattle.term_core.specs.WellFormed.{HasOnlyNumbers, IsClosed};
-ghost use Rattle.specialise.specs.Specialising.{specialised, specialised_in};
+ghost use Rattle.rewriting.specs.Keeping.{IsNoLarger, IsNoLargerIn, StaysClosed};
 ghost use Rattle.specialise.specs.Specialisable.{IsPartOfAccepted};
-ghost use Rattle.specialise.specs.Taken.{taken};
-ghost use Rattle.specialise.specs.Literals.{HasLiterals, HasLiteralsIn};
-ghost use Rattle.specialise.specs.Specialised.{day_of, IsNear, HasItsKind, HasItsValue, ReadsNoMore, HasNoTold, IsNoLarger, PaysTheSameOn, ReadsNoMoreOn, HasNoToldIn, IsNoLargerIn};
+ghost use Rattle.specialise.specs.Literals.{HasLiteralsIn};
+ghost use Rattle.specialise.specs.Specialised.{day_of, HasItsKind, HasItsValue, HasNoTold, HasNoToldIn, IsNear, IsSpecialised, IsSpecialisedOn, PaysTheSameOn, ReadsNoMore, ReadsNoMoreOn};
+ghost use Rattle.specialise.specs.WalkAnswers.{TakesItsPlace};
 
 use crate::contracts::specialise_from;
 use crate::expressions::specialise_at;
@@ -36,7 +36,7 @@ fn taken_on(
     requires offsets { HasOffsets (expression e.now) }
     requires admitted { IsAdmitted (declarations decls.now) fixings.now }
     requires day { IsNear frame }
-    ensures { IfOk result (λ o. taken (expression e.now) o ≡ specialised (declarations decls.now) fixings.now (day_of frame) (expression e.now)) }
+    ensures { IfOk result (λ new. TakesItsPlace (declarations decls.now) fixings.now (day_of frame) e.now new) }
 {
     match frame {
         Frame::Day { day } => specialise_at(alloc, decls, e, fixings, day),
@@ -56,7 +56,7 @@ fn expr_on(
     requires offsets { HasOffsets (expression e.now) }
     requires admitted { IsAdmitted (declarations decls.now) fixings.now }
     requires day { IsNear frame }
-    ensures { IfOk result (λ r. expression r ≡ specialised (declarations decls.now) fixings.now (day_of frame) (expression e.now)) }
+    ensures { IfOk result (λ r. IsSpecialised (declarations decls.now) fixings.now (day_of frame) (expression r) (expression e.now)) }
 {
     match taken_on(alloc, decls, e, fixings, frame)? {
         Some(new) => Ok(new),
@@ -78,7 +78,7 @@ fn shared_on(
     requires admitted { IsAdmitted (declarations decls.now) fixings.now }
     requires first { pos 0 ≤ℤ day }
     requires last { day ≤ℤ pos 1_100_000 }
-    ensures exact { IfOk result (λ r. shared r.value ≡ specialised_in (declarations decls.now) fixings.now (Some day) (shared s.now.value)) }
+    ensures exact { IfOk result (λ r. IsSpecialisedOn (declarations decls.now) fixings.now day (shared r.value) (shared s.now.value)) }
     ensures offsets { IfOk result (λ r. StoresOffsets r.value) }
 {
     match specialise_from(alloc, decls, s, fixings, day)? {
@@ -102,7 +102,7 @@ fn contr_on(
     requires admitted { IsAdmitted (declarations decls.now) fixings.now }
     requires first { pos 0 ≤ℤ day }
     requires last { day ≤ℤ pos 1_100_000 }
-    ensures { IfOk result (λ r. contract r ≡ specialised_in (declarations decls.now) fixings.now (Some day) (contract c.now)) }
+    ensures { IfOk result (λ r. IsSpecialisedOn (declarations decls.now) fixings.now day (contract r) (contract c.now)) }
 {
     let s = share(alloc, c)?;
     let new = shared_on(alloc, decls, &s, fixings, day)?;
@@ -122,7 +122,7 @@ pub fn specialise_expr(
     requires offsets { HasOffsets (expression e.now) }
     requires admitted { IsAdmitted (declarations decls.now) fixings.now }
     requires day { IsNear frame }
-    ensures exact { IfOk result (λ r. expression r ≡ specialised (declarations decls.now) fixings.now (day_of frame) (expression e.now)) }
+    ensures exact { IfOk result (λ r. IsSpecialised (declarations decls.now) fixings.now (day_of frame) (expression r) (expression e.now)) }
     ensures kind { IfOk result (λ r. HasItsKind (declarations decls.now) (expression r) (expression e.now)) }
     ensures value { IfOk result (λ r. HasItsValue (declarations decls.now) fixings.now (day_of frame) (expression r) (expression e.now)) }
     ensures reads { IfOk result (λ r. ReadsNoMore (declarations decls.now) fixings.now (day_of frame) (expression r) (expression e.now)) }
@@ -145,14 +145,14 @@ pub fn specialise_shared(
     requires admitted { IsAdmitted (declarations decls.now) fixings.now }
     requires first { pos 0 ≤ℤ day }
     requires last { day ≤ℤ pos 1_100_000 }
-    ensures exact { IfOk result (λ r. shared r.value ≡ specialised_in (declarations decls.now) fixings.now (Some day) (shared s.now.value)) }
+    ensures exact { IfOk result (λ r. IsSpecialisedOn (declarations decls.now) fixings.now day (shared r.value) (shared s.now.value)) }
     ensures accepted { IfOk result (λ r. IsAccepted (declarations decls.now) (shared r.value)) }
     ensures offsets { IfOk result (λ r. StoresOffsets r.value) }
     ensures flows { IfOk result (λ r. PaysTheSameOn (declarations decls.now) fixings.now day (shared r.value) (shared s.now.value)) }
     ensures reads { IfOk result (λ r. ReadsNoMoreOn (declarations decls.now) fixings.now day (shared r.value) (shared s.now.value)) }
     ensures none { IfOk result (λ r. HasNoToldIn (declarations decls.now) fixings.now day (shared r.value)) }
     ensures smaller { IfOk result (λ r. IsNoLargerIn (shared r.value) (shared s.now.value)) }
-    ensures closed { IfOk result (λ r. IsClosed (declarations decls.now) (shared s.now.value) → IsClosed (declarations decls.now) (shared r.value)) }
+    ensures closed { IfOk result (λ r. StaysClosed (declarations decls.now) (shared r.value) (shared s.now.value)) }
     ensures literals { IfOk result (λ r. HasLiteralsIn (shared s.now.value) → HasLiteralsIn (shared r.value)) }
 {
     shared_on(alloc, decls, s, fixings, day)
@@ -172,7 +172,7 @@ pub fn specialise_contr(
     requires admitted { IsAdmitted (declarations decls.now) fixings.now }
     requires first { pos 0 ≤ℤ day }
     requires last { day ≤ℤ pos 1_100_000 }
-    ensures exact { IfOk result (λ r. contract r ≡ specialised_in (declarations decls.now) fixings.now (Some day) (contract c.now)) }
+    ensures exact { IfOk result (λ r. IsSpecialisedOn (declarations decls.now) fixings.now day (contract r) (contract c.now)) }
     ensures accepted { IfOk result (λ r. IsAccepted (declarations decls.now) (contract r)) }
     ensures closed { IfOk result (λ r. IsClosed (declarations decls.now) (contract r)) }
     ensures numbers { IfOk result (λ r. HasOnlyNumbers (contract r)) }

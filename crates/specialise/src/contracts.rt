@@ -2,44 +2,21 @@
 
 ghost use Rattle.std.specs.Prelude.{◌≡◌, ◌+ℤ◌, pos, ◌≤◌, ◌*◌, ◌^◌, IfOk, Some, unsigned_abs};
 ghost use Rattle.term_core.specs.Declarations.{declarations};
-ghost use Rattle.term_core.specs.Terms.{expression, Both, Scale, Let, Within};
-ghost use Rattle.term_core.specs.declared.terms.Days.TheVariants.{Num as Count};
+ghost use Rattle.term_core.specs.Terms.{expression};
 ghost use Rattle.term_core.specs.Environments.{IsAdmitted};
-ghost use Rattle.term_core.specs.Shifts.{shifted};
-ghost use Rattle.term_core.specs.SharedTerms.{shared, HasOffsets, StoresOffsets};
-ghost use Rattle.specialise.specs.Specialising.{specialised, specialised_in};
+ghost use Rattle.term_core.specs.SharedTerms.{HasOffsets, StoresOffsets};
+ghost use Rattle.rewriting.specs.Rebuilding.{after};
+ghost use Rattle.rewriting.specs.RebuildingContracts.{StoresNew};
 ghost use Rattle.specialise.specs.Specialisable.{CanTellIn, CanTellLater};
-ghost use Rattle.specialise.specs.Taken.{taken_stored, taken_in, TakenStores};
+ghost use Rattle.specialise.specs.WalkAnswers.{TakesItsPlaceIn, TakesItsPlaceLater};
 
 use crate::expressions::specialise_at;
 use decimal::NoMemory;
 use fixing_files::Fixings;
+use rewriting::{after_of, both_of, let_of, scale_of, within_of};
 use std::alloc::Global;
 use std::rc::Rc;
 use term_core::{Decls, Expr, SharedContr};
-
-// What took the place of a part, or the part itself.
-fn handed_on(s: &Rc<SharedContr>, new: Option<Rc<SharedContr>>) -> Result<Rc<SharedContr>, NoMemory>
-    requires part { StoresOffsets s.now.value }
-    requires stored { TakenStores new }
-    ensures tree { IfOk result (λ r. shared r.value ≡ taken_in (shared s.now.value) new) }
-    ensures stores { IfOk result (λ r. StoresOffsets r.value) }
-{
-    match new {
-        Some(new) => Ok(new),
-        None => Ok(s.clone()?),
-    }
-}
-
-// What took the place of a stored expression, or the expression itself.
-fn stored_on(e: &Rc<Expr>, new: Option<Rc<Expr>>) -> Result<Rc<Expr>, NoMemory>
-    ensures { IfOk result (λ r. expression r.value ≡ taken_stored (expression e.now.value) new) }
-{
-    match new {
-        Some(new) => Ok(new),
-        None => Ok(e.clone()?),
-    }
-}
 
 // The day `days` days after a day.
 fn day_after(day: i64, days: u32) -> i64
@@ -67,120 +44,14 @@ fn stored_at(
     moved: i32,
     fixings: &Fixings,
     day: i64,
-) -> Result<Option<Rc<Expr>>, NoMemory>
+) -> Result<Option<Expr>, NoMemory>
     requires place { CanTellLater (declarations decls.now) (expression e.now.value) moved day }
     requires admitted { IsAdmitted (declarations decls.now) fixings.now }
-    ensures tree { IfOk result (λ o. shifted moved (taken_stored (expression e.now.value) o) ≡ specialised (declarations decls.now) fixings.now (Some day) (shifted moved (expression e.now.value))) }
-    ensures stores { IfOk result (λ o. HasOffsets (taken_stored (expression e.now.value) o)) }
+    ensures tree { IfOk result (λ new. TakesItsPlaceLater (declarations decls.now) fixings.now day moved e.now new) }
+    ensures stores { IfOk result (λ new. HasOffsets (after (expression e.now.value) new)) }
 {
-    match specialise_at(alloc, decls, e, fixings, day_moved(day, moved))? {
-        Some(new) => Ok(Some(Rc::new(alloc, new)?)),
-        None => Ok(None),
-    }
-}
-
-// Two contracts together, where one of them changed.
-fn both(
-    alloc: Global,
-    left: &Rc<SharedContr>,
-    right: &Rc<SharedContr>,
-    one: Option<Rc<SharedContr>>,
-    two: Option<Rc<SharedContr>>,
-) -> Result<Option<Rc<SharedContr>>, NoMemory>
-    requires parts { StoresOffsets left.now.value × StoresOffsets right.now.value }
-    requires stored { TakenStores one × TakenStores two }
-    ensures tree { IfOk result (λ o. taken_in (Both (shared left.now.value) (shared right.now.value)) o ≡ Both (taken_in (shared left.now.value) one) (taken_in (shared right.now.value) two)) }
-    ensures stores { IfOk result (λ o. TakenStores o) }
-{
-    if one.is_none() && two.is_none() {
-        Ok(None)
-    } else {
-        let left = handed_on(left, one)?;
-        let right = handed_on(right, two)?;
-        Ok(Some(Rc::new(alloc, SharedContr::Both { left, right })?))
-    }
-}
-
-// A factor and its contract, where one of them changed.
-fn scaled(
-    alloc: Global,
-    factor: &Rc<Expr>,
-    moved: i32,
-    body: &Rc<SharedContr>,
-    one: Option<Rc<Expr>>,
-    two: Option<Rc<SharedContr>>,
-) -> Result<Option<Rc<SharedContr>>, NoMemory>
-    requires factor { HasOffsets (taken_stored (expression factor.now.value) one) }
-    requires body { StoresOffsets body.now.value }
-    requires stored { TakenStores two }
-    ensures tree { IfOk result (λ o. taken_in (Scale (shifted moved (expression factor.now.value)) (shared body.now.value)) o ≡ Scale (shifted moved (taken_stored (expression factor.now.value) one)) (taken_in (shared body.now.value) two)) }
-    ensures stores { IfOk result (λ o. TakenStores o) }
-{
-    if one.is_none() && two.is_none() {
-        Ok(None)
-    } else {
-        let factor = stored_on(factor, one)?;
-        let body = handed_on(body, two)?;
-        Ok(Some(Rc::new(
-            alloc,
-            SharedContr::Scale {
-                factor,
-                moved,
-                body,
-            },
-        )?))
-    }
-}
-
-// A binding and its contract, where one of them changed.
-fn bound(
-    alloc: Global,
-    bound: &Rc<Expr>,
-    moved: i32,
-    body: &Rc<SharedContr>,
-    one: Option<Rc<Expr>>,
-    two: Option<Rc<SharedContr>>,
-) -> Result<Option<Rc<SharedContr>>, NoMemory>
-    requires binding { HasOffsets (taken_stored (expression bound.now.value) one) }
-    requires body { StoresOffsets body.now.value }
-    requires stored { TakenStores two }
-    ensures tree { IfOk result (λ o. taken_in (Let (shifted moved (expression bound.now.value)) (shared body.now.value)) o ≡ Let (shifted moved (taken_stored (expression bound.now.value) one)) (taken_in (shared body.now.value) two)) }
-    ensures stores { IfOk result (λ o. TakenStores o) }
-{
-    if one.is_none() && two.is_none() {
-        Ok(None)
-    } else {
-        let bound = stored_on(bound, one)?;
-        let body = handed_on(body, two)?;
-        Ok(Some(Rc::new(alloc, SharedContr::Let { bound, moved, body })?))
-    }
-}
-
-// A contract that waits for a test, where its second branch changed.
-fn waiting(
-    alloc: Global,
-    test: &Rc<Expr>,
-    days: u32,
-    hit: &Rc<SharedContr>,
-    miss: Rc<SharedContr>,
-) -> Result<Rc<SharedContr>, NoMemory>
-    requires test { HasOffsets (expression test.now.value) }
-    requires hit { StoresOffsets hit.now.value }
-    requires miss { StoresOffsets miss.value }
-    ensures tree { IfOk result (λ r. shared r.value ≡ Within (expression test.now.value) (Count days) (shared hit.now.value) (shared miss.value)) }
-    ensures stores { IfOk result (λ r. StoresOffsets r.value) }
-{
-    let test = test.clone()?;
-    let hit = hit.clone()?;
-    Ok(Rc::new(
-        alloc,
-        SharedContr::Within {
-            test,
-            days,
-            hit,
-            miss,
-        },
-    )?)
+    let new = specialise_at(alloc, decls, e, fixings, day_moved(day, moved))?;
+    Ok(new)
 }
 
 /// What takes the place of a contract on a day, with what the fixings tell; none where nothing changes. Tests and the
@@ -196,15 +67,15 @@ pub fn specialise_from(
     requires place { CanTellIn (declarations decls.now) s.now day }
     requires stored { StoresOffsets s.now }
     requires admitted { IsAdmitted (declarations decls.now) fixings.now }
-    ensures tree { IfOk result (λ o. taken_in (shared s.now) o ≡ specialised_in (declarations decls.now) fixings.now (Some day) (shared s.now)) }
-    ensures stores { IfOk result (λ o. TakenStores o) }
+    ensures tree { IfOk result (λ new. TakesItsPlaceIn (declarations decls.now) fixings.now (Some day) s.now new) }
+    ensures stores { IfOk result (λ new. StoresNew new) }
 {
     match s {
         SharedContr::Zero | SharedContr::Pay { .. } => Ok(None),
         SharedContr::Both { left, right } => {
             let one = specialise_from(alloc, decls, left, fixings, day)?;
             let two = specialise_from(alloc, decls, right, fixings, day)?;
-            both(alloc, left, right, one, two)
+            both_of(alloc, s, left, right, one, two)
         }
         SharedContr::Scale {
             factor,
@@ -213,35 +84,25 @@ pub fn specialise_from(
         } => {
             let one = stored_at(alloc, decls, factor, *moved, fixings, day)?;
             let two = specialise_from(alloc, decls, body, fixings, day)?;
-            scaled(alloc, factor, *moved, body, one, two)
+            scale_of(alloc, s, factor, *moved, body, one, two)
         }
-        SharedContr::After { days, body } => match specialise_from(
-            alloc,
-            decls,
-            body,
-            fixings,
-            day_after(day, *days),
-        )? {
-            Some(body) => Ok(Some(Rc::new(alloc, SharedContr::After { days: *days, body })?)),
-            None => Ok(None),
-        },
-        SharedContr::Let {
-            bound: expr,
-            moved,
-            body,
-        } => {
-            let one = stored_at(alloc, decls, expr, *moved, fixings, day)?;
+        SharedContr::After { days, body } => {
+            let new = specialise_from(alloc, decls, body, fixings, day_after(day, *days))?;
+            after_of(alloc, s, *days, body, new)
+        }
+        SharedContr::Let { bound, moved, body } => {
+            let one = stored_at(alloc, decls, bound, *moved, fixings, day)?;
             let two = specialise_from(alloc, decls, body, fixings, day)?;
-            bound(alloc, expr, *moved, body, one, two)
+            let_of(alloc, s, bound, *moved, body, one, two)
         }
         SharedContr::Within {
             test,
             days,
             hit,
             miss,
-        } => match specialise_from(alloc, decls, miss, fixings, day_after(day, *days))? {
-            Some(miss) => Ok(Some(waiting(alloc, test, *days, hit, miss)?)),
-            None => Ok(None),
-        },
+        } => {
+            let new = specialise_from(alloc, decls, miss, fixings, day_after(day, *days))?;
+            within_of(alloc, s, test, *days, hit, miss, None, None, new)
+        }
     }
 }

@@ -16,8 +16,6 @@ mod expressions;
 mod frames;
 pub mod laws;
 mod literals;
-mod names;
-mod parts;
 
 pub use calls::{specialise_contr, specialise_expr, specialise_shared};
 pub use frames::Frame;

@@ -2,31 +2,16 @@
 
 ghost use Rattle.std.specs.Prelude.{◌≡◌, Some};
 ghost use Rattle.term_core.specs.Declarations.{declarations};
-ghost use Rattle.term_core.specs.Terms.{expression, Obs};
+ghost use Rattle.term_core.specs.Terms.{Obs};
 ghost use Rattle.term_core.specs.Environments.{label_of};
 ghost use Rattle.term_core.specs.Kinds as model;
-ghost use Rattle.interval_check.specs.Replacing.{literal_of};
+ghost use Rattle.rewriting.specs.Rebuilding.{after};
 ghost use Rattle.specialise.specs.Specialising.{specialised};
 ghost use Rattle.specialise.specs.Specialisable.{IsLookedUp};
-ghost use Rattle.specialise.specs.Taken.{taken};
 
 use fixing_files::Fixings;
-use term_core::{Decls, Expr, Kind, Label, Value};
-
-/// The literal of a value of a kind.
-pub fn literal(kind: Kind, value: Value) -> Expr
-    ensures { expression result ≡ literal_of kind value }
-{
-    match kind {
-        Kind::Truth => Expr::Yes {
-            value: value.is_true(),
-        },
-        Kind::Number { scale } => Expr::Lit {
-            mant: value.number(),
-            scale,
-        },
-    }
-}
+use rewriting::literal;
+use term_core::{Decls, Expr, Kind, Label};
 
 // The kind of what is observed; none where the label is not declared.
 fn kind_of_label(decls: &Decls, label: u32) -> Option<Kind>
@@ -42,7 +27,7 @@ fn kind_of_label(decls: &Decls, label: u32) -> Option<Kind>
 /// The literal of what is observed on a day, where the place is fixed.
 pub fn observed(decls: &Decls, label: u32, offset: i32, fixings: &Fixings, day: i64) -> Option<Expr>
     requires { IsLookedUp day }
-    ensures { taken (Obs label offset) result ≡ specialised (declarations decls.now) fixings.now (Some day) (Obs label offset) }
+    ensures { after (Obs label offset) result ≡ specialised (declarations decls.now) fixings.now (Some day) (Obs label offset) }
 {
     match fixings.get(label, day + offset as i64) {
         Some(value) => match kind_of_label(decls, label) {

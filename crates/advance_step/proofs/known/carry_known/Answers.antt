@@ -2,7 +2,7 @@ use Rattle.std.proofs.Common.{ℤ, IfOk, IfErr, subst, w64}
 use Rattle.std.proofs.lemmas.Int.{to_z-of_z}
 use Rattle.term_core.specs.Declarations.{declarations}
 use Rattle.term_core.specs.SharedTerms.{shared}
-use Rattle.advance_step.specs.Carried.{IsLeftEverywhere, NamesUnfixedRead}
+use Rattle.advance_step.specs.CarryingWalk.{IsLeftEverywhere, NamesUnfixedRead}
 use Rattle.advance_step.proofs.KnownFacts.{known_rest, known_faults}
 use Rattle.advance_step.proofs.known.carry_known.Goals as goal
 

@@ -5,7 +5,7 @@ use Rattle.term_core.specs.SharedTerms.{shared}
 use Rattle.rewriting.specs.Measures.{size_in}
 use Rattle.specialise.specs.Specialising.{specialised_in}
 use Rattle.simplify.specs.TurningContracts.{turned_in}
-use Rattle.simplify.proofs.WholeFacts.{accepted_through, next_is, next_less, next_stores, still_is}
+use Rattle.simplify.proofs.SimplifyingFacts.{accepted_through, next_is, next_less, next_stores, still_is}
 use Rattle.advance_step.specs.Residual.{IsReducedFrom}
 use Rattle.advance_step.proofs.RoundFacts.{round_then, round_last, round_less}
 use Rattle.advance_step.proofs.reducing.+reduce.Goals as goal

@@ -5,7 +5,7 @@ use Rattle.term_core.specs.SharedTerms.{shared, HasOffsetsIn}
 use Rattle.term_core.specs.Terms.{Contract, contract}
 use Rattle.term_core.specs.WellFormed.{HasOnlyNumbers, IsClosed}
 use Rattle.term_core.proofs.ShiftedFacts.{formed_offsets_in}
-use Rattle.simplify.proofs.WholeFacts.{shared_numbers}
+use Rattle.simplify.proofs.SimplifyingFacts.{shared_numbers}
 use Rattle.specialise.proofs.CallFacts.{offsets_shared}
 use Rattle.advance_step.proofs.stepping.step.Goals as goal
 

@@ -11,7 +11,7 @@ use Rattle.term_core.specs.Values.{kind_or}
 use Rattle.interval_check.specs.RangeTrials.{kind_found}
 use Rattle.rewriting.specs.Rebuilding.{after}
 use Rattle.rewriting.specs.RebuildingContracts.{after_in, StoresNew}
-use Rattle.simplify.specs.Names.{kinds_in}
+use Rattle.simplify.specs.ScopeKinds.{kinds_in}
 use Rattle.simplify.specs.Turning.{turned}
 use Rattle.simplify.specs.TurningContracts.{turned_in}
 use Rattle.simplify.specs.TurnableContracts.{CanTurnIn}

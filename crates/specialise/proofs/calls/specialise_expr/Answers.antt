@@ -3,7 +3,8 @@ use Rattle.term_core.specs.Declarations.{declarations}
 use Rattle.term_core.specs.declared.terms.Expr.{Expr}
 use Rattle.term_core.specs.Terms.{expression}
 use Rattle.specialise.specs.Specialising.{specialised}
-use Rattle.specialise.specs.Specialised.{day_of, HasItsKind, HasItsValue, ReadsNoMore, HasNoTold, IsNoLarger}
+use Rattle.rewriting.specs.Keeping.{IsNoLarger}
+use Rattle.specialise.specs.Specialised.{day_of, HasItsKind, HasItsValue, ReadsNoMore, HasNoTold}
 use Rattle.specialise.proofs.CallFacts.{on_ok, kind_kept, value_kept, reads_kept, none_kept, smaller_kept}
 use Rattle.specialise.proofs.calls.specialise_expr.Goals as goal
 

@@ -31,7 +31,8 @@ use Rattle.simplify.specs.Turning.{HasNoPlain}
 use Rattle.simplify.specs.TurningContracts.{turned_in, HasNoPlainIn, IsTurnIn}
 use Rattle.simplify.specs.TurnableContracts.{CanTurnIn}
 use Rattle.specialise.specs.Literals.{HasLiterals, HasLiteralsIn}
-use Rattle.simplify.specs.Simplified.{PaysTheSame, ReadsNoMore, HasNoPlainRedex, IsNoLarger}
+use Rattle.simplify.specs.Simplified.{PaysTheSame, ReadsNoMore, HasNoPlainRedex}
+use Rattle.rewriting.specs.Keeping.{IsNoLargerIn}
 use Rattle.simplify.proofs.ContractRuleStands.{root_in}
 use Rattle.simplify.proofs.ContractTurns.{contract_turns_end}
 use Rattle.simplify.proofs.ContractTurnReads.{contract_turn_reads}
@@ -85,7 +86,7 @@ pays_on d r k c h j env f n w a = h env f n w a ∙ j env f n w a
 pub reads_on : (d : Declarations) (r k c : Contract) → ReadsNoMore d r k → ReadsNoMore d k c → ReadsNoMore d r c
 reads_on d r k c h j env f b a q e = j env f b a q (h env f b a q e)
 
-pub smaller_on : (r k c : Contract) → IsNoLarger r k → size_in k < size_in c → IsNoLarger r c
+pub smaller_on : (r k c : Contract) → IsNoLargerIn r k → size_in k < size_in c → IsNoLargerIn r c
 smaller_on r k c (inl e) l = inr (omega (arith, ap (λ (x : Contract). size_in x) e, l))
 smaller_on r k c (inr m) l = inr (omega (arith, m, l))
 

@@ -22,28 +22,35 @@ use Rattle.expr_eval.specs.Answers.{entry_from, SuitsBinding}
 use Rattle.flow_eval.specs.declared.faults.FlowErr.{FlowErr}
 use Rattle.flow_eval.specs.declared.faults.FlowErr.TheVariants.{Missing, NoMemory}
 use Rattle.rewriting.specs.Bindings.{bound_to}
-use Rattle.advance_step.specs.Carrying.{left_of}
+use Rattle.advance_step.specs.WhatIsLeft.{left_of}
 
 -- what is left of c, which stands on day f, after j + 1 days
 abbrev pub IsLeft : Declarations → Contract → List Binding → Environment → ℤ → ℕ → Contract → Type 0
 IsLeft d c bs fixings f j rest =
-    (g : List Entry) (ps : List (List Place)) (env : Environment) → StandFor fixings bs g ps → Extends fixings env → rest ≡ left_of d c g env f j
+    (g : List Entry) (ps : List (List Place)) (env : Environment)
+    → StandFor fixings bs g ps → Extends fixings env → rest ≡ left_of d c g env f j
+
+-- a place that a fault names
+abbrev pub place_at : ℕ → ℤ → Place
+place_at label day = record { label = label; day = day }
 
 -- c reads the place on its own days 0 to j, and it is not fixed
-pub record IsUnfixedRead (d : Declarations) (c : Contract) (g : List Entry) (ps : List (List Place)) (fixings : Environment) (f : ℤ) (j : ℕ) (q : Place) : Type 0 where
+pub record IsUnfixedRead (d : Declarations) (c : Contract) (g : List Entry) (ps : List (List Place))
+    (fixings : Environment) (f : ℤ) (j : ℕ) (q : Place) : Type 0 where
   pub read : (a : ℤ) → Contains (reads_of_contract d c g ps fixings f a (pos j)) q
   pub unfixed : is_fixed fixings q ≡ false
 
 -- a fault names such a place, or is want of memory
 abbrev pub LacksRead : Declarations → Contract → List Binding → Environment → ℤ → ℕ → FlowErr → Type 0
 LacksRead d c bs fixings f j (Missing label day) =
-    (g : List Entry) (ps : List (List Place)) → StandFor fixings bs g ps → IsUnfixedRead d c g ps fixings f j (record { label = label; day = day })
+    (g : List Entry) (ps : List (List Place)) → StandFor fixings bs g ps → IsUnfixedRead d c g ps fixings f j (place_at label day)
 LacksRead d c bs fixings f j NoMemory = Unit {0}
 
 -- an entry stands for what a name is bound to, and for what that reads
 abbrev pub Enters : Declarations → Expression → List Binding → Environment → ℤ → Binding → Type 0
 Enters d e bs fixings f b =
-    (g known : List Entry) (ps : List (List Place)) (env : Environment) → StandFor fixings bs g ps → StandFor fixings bs known ps → Extends fixings env
+    (g known : List Entry) (ps : List (List Place)) (env : Environment)
+    → StandFor fixings bs g ps → StandFor fixings bs known ps → Extends fixings env
     → StandFor fixings (b ∷ bs) (bound_to d e g env f ∷ g) (reads_of d e known ps fixings f ∷ ps)
 
 -- it is made of an answer that suits the body of the `let`
@@ -80,5 +87,5 @@ IsLeftEverywhere d fixings c f j rest = (env : Environment) → Extends fixings 
 -- a fault names a place that a whole contract reads on its own days 0 to j and that is not fixed
 abbrev pub NamesUnfixedRead : Declarations → Environment → Contract → ℤ → ℕ → FlowErr → Type 0
 NamesUnfixedRead d fixings c f j (Missing label day) =
-    Contains (reads_of_contract d c [] [] fixings f (pos 0) (pos j)) (record { label = label; day = day }) × (is_fixed fixings (record { label = label; day = day }) ≡ false)
+    Contains (reads_of_contract d c [] [] fixings f (pos 0) (pos j)) (place_at label day) × (is_fixed fixings (place_at label day) ≡ false)
 NamesUnfixedRead d fixings c f j NoMemory = Unit {0}

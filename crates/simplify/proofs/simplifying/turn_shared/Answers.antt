@@ -2,8 +2,8 @@ use Rattle.std.proofs.Common.{[], sym, subst}
 use Rattle.term_core.specs.Declarations.{declarations}
 use Rattle.term_core.specs.declared.shared.SharedContr.{SharedContr}
 use Rattle.simplify.specs.TurnableContracts.{CanTurnIn}
-use Rattle.simplify.proofs.WholeFacts.{accepted_turns}
-use Rattle.simplify.proofs.whole.turn_shared.Goals as goal
+use Rattle.simplify.proofs.SimplifyingFacts.{accepted_turns}
+use Rattle.simplify.proofs.simplifying.turn_shared.Goals as goal
 
 pub turn_in-requires : goal.turn_in-requires
 turn_in-requires c =

@@ -19,18 +19,24 @@ abbrev pub TruthsAreNothing : List Range → Type 0
 TruthsAreNothing [] = Unit {0}
 TruthsAreNothing (r ∷ g) = (r.kind ≡ TruthKind → r.interval ≡ single (pos 0)) × TruthsAreNothing g
 
--- so has every expression that is a truth value
+-- a claim among such ranges, which hold the values of the entries, under declarations that keep their limits
+abbrev pub AmongRanges : Declarations → List Range → List Entry → Type 0 → Type 0
+AmongRanges d g es P = KeepsLimits d → AreNarrower g g → AreWithin g es → TruthsAreNothing g → P
+
+-- every expression that is a truth value has the interval of 0 there
 abbrev pub TruthsHaveNothing : Type 0
 TruthsHaveNothing =
-    (d : Declarations) (e : Expression) (g : List Range) → TruthsAreNothing g → kind_of d e (range_kinds g) ≡ Some TruthKind → interval_of d e g ≡ single (pos 0)
+    (d : Declarations) (e : Expression) (g : List Range)
+    → TruthsAreNothing g → kind_of d e (range_kinds g) ≡ Some TruthKind → interval_of d e g ≡ single (pos 0)
 
 -- what the rule makes of an expression that meets the rules may stand in its place
 abbrev pub RuleReplaces : Type 0
 RuleReplaces =
-    (d : Declarations) (x : Expression) (g : List Range) (es : List Entry) → KeepsLimits d → AreNarrower g g → AreWithin g es → TruthsAreNothing g
-    → MeetsRules d x g → Replaces d (rule d (range_kinds g) x) x g
+    (d : Declarations) (x : Expression) (g : List Range) (es : List Entry)
+    → AmongRanges d g es (MeetsRules d x g → Replaces d (rule d (range_kinds g) x) x g)
 
 -- and what it makes of a contract
 abbrev pub ContractRuleReplaces : Type 0
 ContractRuleReplaces =
-    (d : Declarations) (c : Contract) (g : List Range) → KeepsLimits d → AreNarrower g g → ContractMeetsRules d c g → ReplacesContract d (rule_in c) c g
+    (d : Declarations) (c : Contract) (g : List Range)
+    → KeepsLimits d → AreNarrower g g → ContractMeetsRules d c g → ReplacesContract d (rule_in c) c g

@@ -8,8 +8,8 @@ use Rattle.simplify.specs.TurningContracts.{HasNoPlainIn}
 use Rattle.simplify.specs.TurnableContracts.{CanTurnIn}
 use Rattle.specialise.specs.Literals.{HasLiteralsIn}
 use Rattle.simplify.specs.Simplified.{HasNoPlainRedex}
-use Rattle.simplify.proofs.WholeFacts.{accepted_turns, accepted_through, next_is, next_less, next_stores, still_is, pays_then, reads_then, closed_then, nothing_plain, nothing_left, literals_fit}
-use Rattle.simplify.proofs.whole.+simplify_shared.Goals as goal
+use Rattle.simplify.proofs.SimplifyingFacts.{accepted_turns, accepted_through, next_is, next_less, next_stores, still_is, pays_then, reads_then, closed_then, nothing_plain, nothing_left, literals_fit}
+use Rattle.simplify.proofs.simplifying.+simplify_shared.Goals as goal
 
 pub turn_in-requires : goal.turn_in-requires
 turn_in-requires t c =

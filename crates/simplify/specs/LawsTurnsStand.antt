@@ -6,26 +6,26 @@ use Rattle.term_core.specs.Values.{Entry}
 use Rattle.term_core.specs.Acceptance.{IsAccepted}
 use Rattle.term_core.specs.Bounds.{Range, range_kinds}
 use Rattle.interval_check.specs.Nodes.{IsSorted, IsScaled, MeetsRules, ContractMeetsRules}
-use Rattle.interval_check.specs.Narrowing.{AreNarrower}
-use Rattle.interval_check.specs.Within.{AreWithin, KeepsLimits}
+use Rattle.interval_check.specs.Within.{KeepsLimits}
 use Rattle.interval_check.specs.Replacing.{Replaces, KeepsForm, ReplacesContract}
 use Rattle.simplify.specs.Turning.{turned}
 use Rattle.simplify.specs.TurningContracts.{turned_in}
-use Rattle.simplify.specs.LawsRuled.{TruthsAreNothing}
+use Rattle.simplify.specs.LawsRulesStand.{AmongRanges}
 
 -- kind, sorts and scales, where nothing is known of bounds, as in the body of an accumulator of no days
 abbrev pub TurnsKeepForm : Type 0
-TurnsKeepForm = (d : Declarations) (e : Expression) (g : List Range) → IsSorted d e g → IsScaled d e g → KeepsForm d (turned d (range_kinds g) e) e g
+TurnsKeepForm =
+    (d : Declarations) (e : Expression) (g : List Range) → IsSorted d e g → IsScaled d e g → KeepsForm d (turned d (range_kinds g) e) e g
 
 abbrev pub TurnsReplace : Type 0
 TurnsReplace =
-    (d : Declarations) (e : Expression) (g : List Range) (es : List Entry) → KeepsLimits d → AreNarrower g g → AreWithin g es → TruthsAreNothing g
-    → MeetsRules d e g → Replaces d (turned d (range_kinds g) e) e g
+    (d : Declarations) (e : Expression) (g : List Range) (es : List Entry)
+    → AmongRanges d g es (MeetsRules d e g → Replaces d (turned d (range_kinds g) e) e g)
 
 abbrev pub ContractTurnsReplace : Type 0
 ContractTurnsReplace =
-    (d : Declarations) (c : Contract) (g : List Range) (es : List Entry) → KeepsLimits d → AreNarrower g g → AreWithin g es → TruthsAreNothing g
-    → ContractMeetsRules d c g → ReplacesContract d (turned_in d (range_kinds g) c) c g
+    (d : Declarations) (c : Contract) (g : List Range) (es : List Entry)
+    → AmongRanges d g es (ContractMeetsRules d c g → ReplacesContract d (turned_in d (range_kinds g) c) c g)
 
 abbrev pub TurnIsAccepted : Type 0
 TurnIsAccepted = (d : Declarations) (c : Contract) → KeepsLimits d → IsAccepted d c → IsAccepted d (turned_in d [] c)

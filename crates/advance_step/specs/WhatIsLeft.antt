@@ -42,5 +42,7 @@ left_of d (Let e c) g env f j = let_left (shifted (negsuc j) e) (left_of d c (bo
 left_of d (Within e m a b) g env f j =
     elim (first_true d e g env f (min (count_of m) j)) [
       | Some k ↦ left_of d a g env (f +ℤ pos k) (j - k)
-      | None ↦ if nat_le (count_of m) j then left_of d b g env (f +ℤ pos (count_of m)) (j - count_of m) else Within e (Count (count_of m - suc j)) a b
+      | None ↦
+          if nat_le (count_of m) j then left_of d b g env (f +ℤ pos (count_of m)) (j - count_of m)
+          else Within e (Count (count_of m - suc j)) a b
     ]

@@ -1,16 +1,16 @@
 //! The simplifier: turns, until one changes nothing.
 
-ghost use Rattle.std.specs.Prelude.{◌≡◌, ◌≤◌, [], IfOk};
+ghost use Rattle.std.specs.Prelude.{[], IfOk};
 ghost use Rattle.term_core.specs.Declarations.{declarations};
 ghost use Rattle.term_core.specs.Terms.{contract};
 ghost use Rattle.term_core.specs.Acceptance.{IsAccepted};
 ghost use Rattle.term_core.specs.SharedTerms.{shared, StoresOffsets};
-ghost use Rattle.term_core.specs.Sizes.{height_of_contract};
 ghost use Rattle.term_core.specs.WellFormed.{IsClosed, HasOnlyNumbers};
-ghost use Rattle.rewriting.specs.RebuildingContracts.{after_in, IsLessIn, StoresNew};
+ghost use Rattle.rewriting.specs.Keeping.{IsNoLargerIn, StaysClosed};
+ghost use Rattle.rewriting.specs.RebuildingContracts.{IsLessIn, StoresNew};
 ghost use Rattle.specialise.specs.Literals.{HasLiteralsIn};
-ghost use Rattle.simplify.specs.Simplified.{PaysTheSame, ReadsNoMore, HasNoPlainRedex, IsNoLarger};
-ghost use Rattle.simplify.specs.TurningContracts.{turned_in};
+ghost use Rattle.simplify.specs.Simplified.{PaysTheSame, ReadsNoMore, HasNoPlainRedex};
+ghost use Rattle.simplify.specs.TurnAnswers.{IsTurnOfContract};
 
 use crate::contracts::turn_in;
 use crate::names::Names;
@@ -28,7 +28,7 @@ pub fn turn_shared(
 ) -> Result<Option<Rc<SharedContr>>, NoMemory>
     requires accepted { IsAccepted (declarations decls.now) (shared s.now.value) }
     requires offsets { StoresOffsets s.now.value }
-    ensures same { IfOk result (λ r. after_in (shared s.now.value) r ≡ turned_in (declarations decls.now) [] (shared s.now.value)) }
+    ensures same { IfOk result (λ r. IsTurnOfContract (declarations decls.now) [] s.now.value r) }
     ensures less { IfOk result (λ r. IsLessIn r (shared s.now.value)) }
     ensures offsets { IfOk result (λ r. StoresNew r) }
 {
@@ -49,8 +49,8 @@ pub fn simplify_shared(
     ensures flows { IfOk result (λ r. PaysTheSame (declarations decls.now) (shared r.value) (shared s.now.value)) }
     ensures reads { IfOk result (λ r. ReadsNoMore (declarations decls.now) (shared r.value) (shared s.now.value)) }
     ensures none { IfOk result (λ r. HasNoPlainRedex (declarations decls.now) (shared r.value)) }
-    ensures smaller { IfOk result (λ r. IsNoLarger (shared r.value) (shared s.now.value)) }
-    ensures closed { IfOk result (λ r. IsClosed (declarations decls.now) (shared s.now.value) → IsClosed (declarations decls.now) (shared r.value)) }
+    ensures smaller { IfOk result (λ r. IsNoLargerIn (shared r.value) (shared s.now.value)) }
+    ensures closed { IfOk result (λ r. StaysClosed (declarations decls.now) (shared r.value) (shared s.now.value)) }
     ensures literals { IfOk result (λ r. HasLiteralsIn (shared r.value)) }
 {
     match turn_in(alloc, decls, s, &Names::Empty)? {
@@ -70,7 +70,7 @@ pub fn simplify(alloc: Global, decls: &Decls, c: &Contr) -> Result<Contr, NoMemo
     ensures flows { IfOk result (λ r. PaysTheSame (declarations decls.now) (contract r) (contract c.now)) }
     ensures reads { IfOk result (λ r. ReadsNoMore (declarations decls.now) (contract r) (contract c.now)) }
     ensures none { IfOk result (λ r. HasNoPlainRedex (declarations decls.now) (contract r)) }
-    ensures smaller { IfOk result (λ r. IsNoLarger (contract r) (contract c.now)) }
+    ensures smaller { IfOk result (λ r. IsNoLargerIn (contract r) (contract c.now)) }
     ensures literals { IfOk result (λ r. HasLiteralsIn (contract r)) }
 {
     let s = share(alloc, c)?;

@@ -4,7 +4,7 @@ use Rattle.std.proofs.lemmas.Int.{to_z-of_z, ints}
 use Rattle.term_core.specs.Declarations.{declarations}
 use Rattle.term_core.specs.Terms.{expression}
 use Rattle.advance_step.proofs.EntryFacts.{answer_enters, answer_suits}
-use Rattle.advance_step.proofs.answers.entry_for.Goals as goal
+use Rattle.advance_step.proofs.course.entry_for.Goals as goal
 
 pub returns-clause-enters : goal.returns-clause-enters
 returns-clause-enters c =

@@ -6,7 +6,7 @@ ghost use Rattle.term_core.specs.Terms.{expression};
 ghost use Rattle.term_core.specs.Environments.{IsAdmitted};
 ghost use Rattle.term_core.specs.Shifts.{shifted};
 ghost use Rattle.expr_eval.specs.Evaluable.{MayEvaluate};
-ghost use Rattle.advance_step.specs.Carried.{Enters, IsEntry};
+ghost use Rattle.advance_step.specs.CarryingWalk.{Enters, IsEntry};
 
 use expr_eval::{Binding, Held, Scratch, eval, kind_of};
 use fixing_files::Fixings;

@@ -1,0 +1,37 @@
+-- What a turn answers for a part: what takes its place, or nothing where the part stays.
+use Rattle.std.specs.Prelude.{◌≡◌, Option, List}
+use Rattle.std.specs.declared.rc.Rc.{Rc}
+use Rattle.std.specs.Global.{Global}
+use Rattle.term_core.specs.Declarations.{Declarations}
+use Rattle.term_core.specs.declared.terms.Expr.{Expr}
+use Rattle.term_core.specs.declared.terms.LogicOp.{LogicOp}
+use Rattle.term_core.specs.declared.shared.SharedContr.{SharedContr}
+use Rattle.term_core.specs.declared.values.Kind.{Kind}
+use Rattle.term_core.specs.Terms.{Expression, expression, Logic}
+use Rattle.term_core.specs.Kinds.{scale_of_kind}
+use Rattle.term_core.specs.SharedTerms.{shared}
+use Rattle.rewriting.specs.Rebuilding.{after, choice_after}
+use Rattle.rewriting.specs.RebuildingContracts.{after_in}
+use Rattle.simplify.specs.declared.turns.Turned.{Turned}
+use Rattle.simplify.specs.Turning.{turned}
+use Rattle.simplify.specs.TurningContracts.{turned_in}
+use Rattle.simplify.specs.Turnable.{truth_literal, of_logic, of_choice}
+
+-- among names of these kinds, of an expression and of a contract
+abbrev pub IsTurnOf : Declarations → List Kind → Expr → Option Expr → Type 0
+IsTurnOf d ks e new = after (expression e) new ≡ turned d ks (expression e)
+
+abbrev pub IsTurnOfContract : Declarations → List Kind → SharedContr → Option (Rc SharedContr Global) → Type 0
+IsTurnOfContract d ks s new = after_in (shared s) new ≡ turned_in d ks (shared s)
+
+-- what `&` and `|`, and a choice, come to over what took the places of their parts
+abbrev pub logic_after : LogicOp → Expr → Option Expr → Expr → Option Expr → Expression
+logic_after op left one right two =
+    let x = after (expression left) one in
+    let y = after (expression right) two in
+    of_logic op (truth_literal x) y (Logic op x y)
+
+abbrev pub decided_after : Expr → Option Expr → Expr → Turned → Expr → Turned → Expression
+decided_after test decision yes one no two =
+    of_choice (truth_literal (after (expression test) decision)) (scale_of_kind one.kind) (scale_of_kind two.kind)
+    (after (expression yes) one.new) (after (expression no) two.new) (choice_after test decision yes one.new no two.new)
