@@ -2,7 +2,7 @@
 -- every environment that extends the fixings, for all values and places that the entries of the names round it stand for;
 -- or a place that is read on the days gone by and that is not fixed.
 use Rattle.std.specs.Prelude.{ℕ, ℤ, pos, ◌≡◌, ◌≤◌, false, List, [], ◌∷◌, Result, Contains}
-use Rattle.term_core.specs.Declarations.{Declarations}
+use Rattle.term_core.specs.Declarations.{Declarations, declarations}
 use Rattle.term_core.specs.declared.values.Value.{Value}
 use Rattle.term_core.specs.declared.values.Missing.{Missing as MissingPlace}
 use Rattle.term_core.specs.declared.shared.SharedContr.{SharedContr}
@@ -22,6 +22,7 @@ use Rattle.expr_eval.specs.Answers.{entry_from, SuitsBinding}
 use Rattle.flow_eval.specs.declared.faults.FlowErr.{FlowErr}
 use Rattle.flow_eval.specs.declared.faults.FlowErr.TheVariants.{Missing, NoMemory}
 use Rattle.rewriting.specs.Bindings.{bound_to}
+use Rattle.advance_step.specs.declared.course.Course.{Course}
 use Rattle.advance_step.specs.WhatIsLeft.{left_of}
 
 -- what is left of c, which stands on day f, after j + 1 days
@@ -45,6 +46,13 @@ abbrev pub LacksRead : Declarations → Contract → List Binding → Environmen
 LacksRead d c bs fixings f j (Missing label day) =
     (g : List Entry) (ps : List (List Place)) → StandFor fixings bs g ps → IsUnfixedRead d c g ps fixings f j (place_at label day)
 LacksRead d c bs fixings f j NoMemory = Unit {0}
+
+-- both, on a course
+abbrev pub IsLeftOn : Course → List Binding → ℤ → ℕ → Contract → Contract → Type 0
+IsLeftOn course bs f j c rest = IsLeft (declarations course.decls.now) c bs course.fixings.now f j rest
+
+abbrev pub LacksReadOn : Course → List Binding → ℤ → ℕ → Contract → FlowErr → Type 0
+LacksReadOn course bs f j c e = LacksRead (declarations course.decls.now) c bs course.fixings.now f j e
 
 -- an entry stands for what a name is bound to, and for what that reads
 abbrev pub Enters : Declarations → Expression → List Binding → Environment → ℤ → Binding → Type 0

@@ -1,10 +1,10 @@
 //! What is left of parts, put together. A part that is not touched is handed on.
 
 ghost use Rattle.std.specs.Prelude.{◌≡◌, ◌≤◌, ◌≤ℤ◌, ◌-ℤ◌, pos, negsuc, IfOk};
-ghost use Rattle.term_core.specs.Terms.{expression, Zero, Within, Expression};
-ghost use Rattle.term_core.specs.declared.terms.Days.TheVariants.{Num as Count};
+ghost use Rattle.term_core.specs.Terms.{expression, Zero, Expression};
 ghost use Rattle.term_core.specs.Shifts.{shifted};
 ghost use Rattle.term_core.specs.SharedTerms.{shared, HasOffsets, StoresOffsets};
+ghost use Rattle.rewriting.specs.RebuildingContracts.{within_over};
 ghost use Rattle.advance_step.specs.WhatIsLeft as model;
 ghost use Rattle.advance_step.specs.CarryingWalk.{CanMove};
 
@@ -150,8 +150,7 @@ pub fn still_waiting(
     requires test { HasOffsets (expression test.now.value) }
     requires hit { StoresOffsets hit.now.value }
     requires miss { StoresOffsets miss.now.value }
-    ensures tree { IfOk result (λ r.
-        shared r.value ≡ Within (expression test.now.value) (Count days) (shared hit.now.value) (shared miss.now.value)) }
+    ensures tree { IfOk result (λ r. shared r.value ≡ within_over test.now days hit.now miss.now) }
     ensures offsets { IfOk result (λ r. StoresOffsets r.value) }
 {
     let test = test.clone()?;

@@ -3,15 +3,14 @@
 
 ghost use Rattle.std.specs.Prelude.{◌≡◌, ◌≤◌, ◌+◌, ◌^◌, max, unsigned_abs, IfOk, IfErr, List};
 ghost use Rattle.term_core.specs.Declarations.{declarations};
-ghost use Rattle.term_core.specs.Terms.{expression, After, Within, Let};
+ghost use Rattle.term_core.specs.Terms.{expression};
 ghost use Rattle.term_core.specs.Environments.{IsAdmitted};
-ghost use Rattle.term_core.specs.Shifts.{shifted};
 ghost use Rattle.term_core.specs.Sizes.{height_of_contract};
-ghost use Rattle.term_core.specs.declared.terms.Days.TheVariants.{Num as Count};
 ghost use Rattle.term_core.specs.SharedTerms.{shared, HasOffsets, StoresOffsets};
 ghost use Rattle.expr_eval.specs.declared.scratch.Binding.{Binding};
 ghost use Rattle.expr_eval.specs.Evaluable.{MayEvaluate};
-ghost use Rattle.advance_step.specs.CarryingWalk.{CanCarry, CanMove, IsLeft, LacksRead, WithEntry};
+ghost use Rattle.rewriting.specs.RebuildingContracts.{after_over, let_over, within_over};
+ghost use Rattle.advance_step.specs.CarryingWalk.{CanCarry, CanMove, IsLeftOn, LacksReadOn, WithEntry};
 
 use crate::course::{Course, days_tried, entry_for, later};
 use crate::parts::{both_left, delayed, let_left, nothing, scale_left, still_waiting};
@@ -37,11 +36,9 @@ pub fn carry_in(
     requires spare { height_of_contract (shared s.now) ≤ scratch.old.spare }
     requires days { unsigned_abs day + last ≤ 10 ^ 11 }
     requires last { last ≤ 1_200_000 }
-    ensures rest { IfOk result (λ r.
-        IsLeft (declarations course.now.decls.now) (shared s.now) scratch.old.entries course.now.fixings.now day last (shared r.value)) }
+    ensures rest { IfOk result (λ r. IsLeftOn course.now scratch.old.entries day last (shared s.now) (shared r.value)) }
     ensures offsets { IfOk result (λ r. StoresOffsets r.value) }
-    ensures missing { IfErr result (λ e.
-        LacksRead (declarations course.now.decls.now) (shared s.now) scratch.old.entries course.now.fixings.now day last e) }
+    ensures missing { IfErr result (λ e. LacksReadOn course.now scratch.old.entries day last (shared s.now) e) }
     ensures same { scratch.new ≡ scratch.old }
 {
     match s {
@@ -93,12 +90,9 @@ fn carry_after(
     requires days { unsigned_abs day + last ≤ 10 ^ 11 }
     requires last { last ≤ 1_200_000 }
     ensures rest { IfOk result (λ r.
-        IsLeft (declarations course.now.decls.now) (After (Count days) (shared body.now.value)) scratch.old.entries
-        course.now.fixings.now day last (shared r.value)) }
+        IsLeftOn course.now scratch.old.entries day last (after_over days body.now) (shared r.value)) }
     ensures offsets { IfOk result (λ r. StoresOffsets r.value) }
-    ensures missing { IfErr result (λ e.
-        LacksRead (declarations course.now.decls.now) (After (Count days) (shared body.now.value)) scratch.old.entries
-        course.now.fixings.now day last e) }
+    ensures missing { IfErr result (λ e. LacksReadOn course.now scratch.old.entries day last (after_over days body.now) e) }
     ensures same { scratch.new ≡ scratch.old }
 {
     if days <= last {
@@ -130,12 +124,9 @@ fn carry_bound(
     requires days { unsigned_abs day + last ≤ 10 ^ 11 }
     requires last { last ≤ 1_200_000 }
     ensures rest { IfOk result (λ r.
-        IsLeft (declarations course.now.decls.now) (Let (shifted moved (expression bound.now.value)) (shared body.now.value))
-        scratch.old.entries course.now.fixings.now day last (shared r.value)) }
+        IsLeftOn course.now scratch.old.entries day last (let_over moved bound.now body.now) (shared r.value)) }
     ensures offsets { IfOk result (λ r. StoresOffsets r.value) }
-    ensures missing { IfErr result (λ e.
-        LacksRead (declarations course.now.decls.now) (Let (shifted moved (expression bound.now.value)) (shared body.now.value))
-        scratch.old.entries course.now.fixings.now day last e) }
+    ensures missing { IfErr result (λ e. LacksReadOn course.now scratch.old.entries day last (let_over moved bound.now body.now) e) }
     ensures same { scratch.new ≡ scratch.old }
 {
     let entry = entry_for(course, bound, moved, scratch, day);
@@ -169,14 +160,12 @@ fn carry_within(
     requires days { unsigned_abs day + last ≤ 10 ^ 11 }
     requires last { last ≤ 1_200_000 }
     ensures rest { IfOk result (λ r.
-        IsLeft (declarations course.now.decls.now)
-        (Within (expression test.now.value) (Count days) (shared hit.now.value) (shared miss.now.value)) scratch.old.entries
-        course.now.fixings.now day last (shared r.value)) }
+        IsLeftOn course.now scratch.old.entries day last
+        (within_over test.now days hit.now miss.now) (shared r.value)) }
     ensures offsets { IfOk result (λ r. StoresOffsets r.value) }
     ensures missing { IfErr result (λ e.
-        LacksRead (declarations course.now.decls.now)
-        (Within (expression test.now.value) (Count days) (shared hit.now.value) (shared miss.now.value)) scratch.old.entries
-        course.now.fixings.now day last e) }
+        LacksReadOn course.now scratch.old.entries day last
+        (within_over test.now days hit.now miss.now) e) }
     ensures same { scratch.new ≡ scratch.old }
 {
     let tried = days_tried(days, last);

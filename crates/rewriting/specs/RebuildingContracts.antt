@@ -4,7 +4,7 @@ use Rattle.std.specs.declared.rc.Rc.{Rc}
 use Rattle.std.specs.Global.{Global}
 use Rattle.term_core.specs.declared.terms.Expr.{Expr}
 use Rattle.term_core.specs.declared.terms.Days.TheVariants.{Num as Count}
-use Rattle.term_core.specs.Terms.{expression, Contract, Both, Scale, Let, Within}
+use Rattle.term_core.specs.Terms.{expression, Contract, Both, Scale, After, Let, Within}
 use Rattle.term_core.specs.declared.shared.SharedContr.{SharedContr}
 use Rattle.term_core.specs.SharedTerms.{shared, HasOffsets, StoresOffsets}
 use Rattle.term_core.specs.Shifts.{shifted}
@@ -32,6 +32,22 @@ SharedPart = Rc SharedContr Global
 abbrev NewPart : Type 0
 NewPart = Option (Rc SharedContr Global)
 
+-- contracts over stored parts
+abbrev pub both_over : SharedPart → SharedPart → Contract
+both_over left right = Both (shared left.value) (shared right.value)
+
+abbrev pub scale_over : ℤ → Rc Expr Global → SharedPart → Contract
+scale_over moved factor body = Scale (shifted moved (expression factor.value)) (shared body.value)
+
+abbrev pub after_over : ℕ → SharedPart → Contract
+after_over days body = After (Count days) (shared body.value)
+
+abbrev pub let_over : ℤ → Rc Expr Global → SharedPart → Contract
+let_over moved bound body = Let (shifted moved (expression bound.value)) (shared body.value)
+
+abbrev pub within_over : Rc Expr Global → ℕ → SharedPart → SharedPart → Contract
+within_over test days hit miss = Within (expression test.value) (Count days) (shared hit.value) (shared miss.value)
+
 -- a part of a contract, once something may have taken its place
 abbrev pub part_after : SharedPart → NewPart → Contract
 part_after part new = after_in (shared part.value) new
@@ -40,7 +56,7 @@ part_after part new = after_in (shared part.value) new
 abbrev pub moved_after : ℤ → Rc Expr Global → Option Expr → Expression
 moved_after moved e new = shifted moved (after (expression e.value) new)
 
--- contracts over what took the places of their parts
+-- the same contracts over what took the places of their parts
 abbrev pub both_after : SharedPart → NewPart → SharedPart → NewPart → Contract
 both_after left one right two = Both (part_after left one) (part_after right two)
 

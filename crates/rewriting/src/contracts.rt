@@ -1,12 +1,11 @@
 //! Contracts with shared parts of which some are replaced, as expressions are: what stays is handed on and not copied.
 
 ghost use Rattle.std.specs.Prelude.{◌≡◌, IfOk};
-ghost use Rattle.term_core.specs.Terms.{expression, Both, Scale, After, Let, Within};
+ghost use Rattle.term_core.specs.Terms.{expression, After};
 ghost use Rattle.term_core.specs.declared.terms.Days.TheVariants.{Num as Count};
-ghost use Rattle.term_core.specs.Shifts.{shifted};
 ghost use Rattle.term_core.specs.SharedTerms.{shared, StoresOffsets};
 ghost use Rattle.rewriting.specs.Rebuilding.{after};
-ghost use Rattle.rewriting.specs.RebuildingContracts.{after_in, both_after, let_after, part_after, scale_after, within_after};
+ghost use Rattle.rewriting.specs.RebuildingContracts.{after_in, part_after, both_over, both_after, scale_over, scale_after, after_over, let_over, let_after, within_over, within_after};
 ghost use Rattle.rewriting.specs.RebuildingContracts.{IfBothAreLessIn, IfBothStore, IfTermAndBodyAreLess, IfTermAndBodyStore, IfTestAndBranchesAreLess, IfTestAndBranchesStore, IsLessIn, StoresNew};
 
 use decimal::NoMemory;
@@ -51,7 +50,7 @@ pub fn both_of(
     one: Option<Rc<SharedContr>>,
     two: Option<Rc<SharedContr>>,
 ) -> Result<Option<Rc<SharedContr>>, NoMemory>
-    requires { shared s.now ≡ Both (shared left.now.value) (shared right.now.value) }
+    requires { shared s.now ≡ both_over left.now right.now }
     ensures same { IfOk result (λ r. after_in (shared s.now) r ≡ both_after left.now one right.now two) }
     ensures less { IfOk result (λ r. IfBothAreLessIn left.now one right.now two (IsLessIn r (shared s.now))) }
     ensures offsets { IfOk result (λ r. IfBothStore left.now one right.now two (StoresNew r)) }
@@ -75,7 +74,7 @@ pub fn scale_of(
     one: Option<Expr>,
     two: Option<Rc<SharedContr>>,
 ) -> Result<Option<Rc<SharedContr>>, NoMemory>
-    requires { shared s.now ≡ Scale (shifted moved (expression factor.now.value)) (shared body.now.value) }
+    requires { shared s.now ≡ scale_over moved factor.now body.now }
     ensures same { IfOk result (λ r. after_in (shared s.now) r ≡ scale_after moved factor.now one body.now two) }
     ensures less { IfOk result (λ r. IfTermAndBodyAreLess factor.now one body.now two (IsLessIn r (shared s.now))) }
     ensures offsets { IfOk result (λ r. IfTermAndBodyStore factor.now one body.now two (StoresNew r)) }
@@ -103,7 +102,7 @@ pub fn after_of(
     body: &Rc<SharedContr>,
     new: Option<Rc<SharedContr>>,
 ) -> Result<Option<Rc<SharedContr>>, NoMemory>
-    requires { shared s.now ≡ After (Count days) (shared body.now.value) }
+    requires { shared s.now ≡ after_over days body.now }
     ensures same { IfOk result (λ r. after_in (shared s.now) r ≡ After (Count days) (part_after body.now new)) }
     ensures less { IfOk result (λ r. IsLessIn new (shared body.now.value) → IsLessIn r (shared s.now)) }
     ensures offsets { IfOk result (λ r. StoresNew new → StoresNew r) }
@@ -125,7 +124,7 @@ pub fn let_of(
     one: Option<Expr>,
     two: Option<Rc<SharedContr>>,
 ) -> Result<Option<Rc<SharedContr>>, NoMemory>
-    requires { shared s.now ≡ Let (shifted moved (expression bound.now.value)) (shared body.now.value) }
+    requires { shared s.now ≡ let_over moved bound.now body.now }
     ensures same { IfOk result (λ r. after_in (shared s.now) r ≡ let_after moved bound.now one body.now two) }
     ensures less { IfOk result (λ r. IfTermAndBodyAreLess bound.now one body.now two (IsLessIn r (shared s.now))) }
     ensures offsets { IfOk result (λ r. IfTermAndBodyStore bound.now one body.now two (StoresNew r)) }
@@ -150,7 +149,7 @@ pub fn within_of(
     two: Option<Rc<SharedContr>>,
     three: Option<Rc<SharedContr>>,
 ) -> Result<Option<Rc<SharedContr>>, NoMemory>
-    requires { shared s.now ≡ Within (expression test.now.value) (Count days) (shared hit.now.value) (shared miss.now.value) }
+    requires { shared s.now ≡ within_over test.now days hit.now miss.now }
     ensures same { IfOk result (λ r. after_in (shared s.now) r ≡ within_after test.now one days hit.now two miss.now three) }
     ensures less { IfOk result (λ r. IfTestAndBranchesAreLess test.now one hit.now two miss.now three (IsLessIn r (shared s.now))) }
     ensures offsets { IfOk result (λ r. IfTestAndBranchesStore test.now one hit.now two miss.now three (StoresNew r)) }

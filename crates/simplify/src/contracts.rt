@@ -4,14 +4,13 @@
 ghost use Rattle.std.specs.Prelude.{◌≡◌, ◌≤◌, ◌<◌, ◌^◌, ◌&&◌, true, IfOk};
 ghost use Rattle.term_core.specs.Declarations.{declarations};
 ghost use Rattle.term_core.specs.declared.terms.Days.TheVariants.{Num as Count};
-ghost use Rattle.term_core.specs.Terms.{expression, Contract, Zero, Both, Scale, After, Let, Within};
+ghost use Rattle.term_core.specs.Terms.{expression, Contract, Zero, After};
 ghost use Rattle.term_core.specs.Redexes.{is_literal, is_zero_literal, uses_in_contract};
 ghost use Rattle.term_core.specs.Sizes.{height_of_contract};
 ghost use Rattle.term_core.specs.SharedTerms.{shared, StoresOffsets};
-ghost use Rattle.term_core.specs.Shifts.{shifted};
 ghost use Rattle.rewriting.specs.Measures.{size_in};
 ghost use Rattle.rewriting.specs.Rebuilding.{after};
-ghost use Rattle.rewriting.specs.RebuildingContracts.{after_in, both_after, let_after, part_after, scale_after, within_after};
+ghost use Rattle.rewriting.specs.RebuildingContracts.{after_in, part_after, both_over, both_after, scale_over, scale_after, after_over, let_over, let_after, within_over, within_after};
 ghost use Rattle.rewriting.specs.RebuildingContracts.{IfBothAreLessIn, IfBothStore, IfTermAndBodyAreLess, IfTermAndBodyStore, IfTestAndBranchesAreLess, IfTestAndBranchesStore, IsLessIn, StoresNew};
 ghost use Rattle.rewriting.specs.Substituting.{substituted_in};
 ghost use Rattle.simplify.specs.ScopeKinds.{kinds_in};
@@ -74,7 +73,7 @@ fn turn_both(
     one: Option<Rc<SharedContr>>,
     two: Option<Rc<SharedContr>>,
 ) -> Result<Option<Rc<SharedContr>>, NoMemory>
-    requires { shared s.now ≡ Both (shared left.now.value) (shared right.now.value) }
+    requires { shared s.now ≡ both_over left.now right.now }
     ensures same { IfOk result (λ r. after_in (shared s.now) r ≡ rule_in (both_after left.now one right.now two)) }
     ensures less { IfOk result (λ r. IfBothAreLessIn left.now one right.now two (IsLessIn r (shared s.now))) }
     ensures offsets { IfOk result (λ r. IfBothStore left.now one right.now two (StoresNew r)) }
@@ -117,7 +116,7 @@ fn turn_scale(
     one: Option<Expr>,
     two: Option<Rc<SharedContr>>,
 ) -> Result<Option<Rc<SharedContr>>, NoMemory>
-    requires { shared s.now ≡ Scale (shifted moved (expression factor.now.value)) (shared body.now.value) }
+    requires { shared s.now ≡ scale_over moved factor.now body.now }
     ensures same { IfOk result (λ r. after_in (shared s.now) r ≡ rule_in (scale_after moved factor.now one body.now two)) }
     ensures less { IfOk result (λ r. IfTermAndBodyAreLess factor.now one body.now two (IsLessIn r (shared s.now))) }
     ensures offsets { IfOk result (λ r. IfTermAndBodyStore factor.now one body.now two (StoresNew r)) }
@@ -161,7 +160,7 @@ fn turn_after(
     body: &Rc<SharedContr>,
     new: Option<Rc<SharedContr>>,
 ) -> Result<Option<Rc<SharedContr>>, NoMemory>
-    requires whole { shared s.now ≡ After (Count days) (shared body.now.value) }
+    requires whole { shared s.now ≡ after_over days body.now }
     requires days { joined_days days (part_after body.now new) < 2 ^ 32 }
     ensures same { IfOk result (λ r. after_in (shared s.now) r ≡ rule_in (After (Count days) (part_after body.now new))) }
     ensures less { IfOk result (λ r. IsLessIn new (shared body.now.value) → IsLessIn r (shared s.now)) }
@@ -237,7 +236,7 @@ fn turn_let(
     one: Option<Expr>,
     two: Option<Rc<SharedContr>>,
 ) -> Result<Option<Rc<SharedContr>>, NoMemory>
-    requires whole { shared s.now ≡ Let (shifted moved (expression bound.now.value)) (shared body.now.value) }
+    requires whole { shared s.now ≡ let_over moved bound.now body.now }
     requires low { height_of_contract (part_after body.now two) ≤ 2 ^ 30 }
     ensures same { IfOk result (λ r. after_in (shared s.now) r ≡ rule_in (let_after moved bound.now one body.now two)) }
     ensures less { IfOk result (λ r. IfTermAndBodyAreLess bound.now one body.now two (IsLessIn r (shared s.now))) }
@@ -269,7 +268,7 @@ fn turn_within(
     two: Option<Rc<SharedContr>>,
     three: Option<Rc<SharedContr>>,
 ) -> Result<Option<Rc<SharedContr>>, NoMemory>
-    requires whole { shared s.now ≡ Within (expression test.now.value) (Count days) (shared hit.now.value) (shared miss.now.value) }
+    requires whole { shared s.now ≡ within_over test.now days hit.now miss.now }
     requires test { DecidesTest (after (expression test.now.value) one) }
     ensures same { IfOk result (λ r. after_in (shared s.now) r ≡ rule_in (within_after test.now one days hit.now two miss.now three)) }
     ensures less { IfOk result (λ r. IfTestAndBranchesAreLess test.now one hit.now two miss.now three (IsLessIn r (shared s.now))) }
