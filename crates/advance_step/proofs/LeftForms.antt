@@ -12,7 +12,8 @@ use Rattle.term_core.specs.Flows.{count_of}
 use Rattle.term_core.specs.Shifts.{shifted}
 use Rattle.term_core.specs.Sizes.{days_before, past, reach, past_of_contract}
 use Rattle.term_core.specs.WellFormed.{IsWellFormed, IsWellFormedContract, HasOnlyNumbers}
-use Rattle.advance_step.specs.WhatIsLeft.{is_zero, left_of, delayed}
+use Rattle.simplify.specs.TurningContracts.{is_nothing}
+use Rattle.advance_step.specs.WhatIsLeft.{left_of, delayed}
 use Rattle.rewriting.specs.Bindings.{bound_to}
 use Rattle.rewriting.proofs.Choices.{if_cases, option_cases}
 use Rattle.advance_step.proofs.LeftParts.{both_cases}
@@ -56,7 +57,7 @@ formed d (Both a b) g env f j k h w =
 formed d (Scale e c) g env f j k h w =
     let c' = left_of d c g env f j in
     let y = formed d c g env f j k (omega (arith, h)) (w.0.1, w.1) in
-    if_cases (IsFormed d k) (is_zero c') Zero (Scale (shifted (negsuc j) e) c') (λ _. (tt, tt))
+    if_cases (IsFormed d k) (is_nothing c') Zero (Scale (shifted (negsuc j) e) c') (λ _. (tt, tt))
     (λ z. ((shifted_formed d e j k (omega (arith, h, in_reach d c g env f j z)) w.0.0, y.0), y.1))
 formed d (After m c) g env f j k h w =
     let n = count_of m in
@@ -65,7 +66,7 @@ formed d (After m c) g env f j k h w =
 formed d (Let e c) g env f j k h w =
     let c' = left_of d c (bound_to d e g env f ∷ g) env f j in
     let y = formed d c (bound_to d e g env f ∷ g) env f j (k + 1) (omega (arith, h)) (w.0.1, w.1) in
-    if_cases (IsFormed d k) (is_zero c') Zero (Let (shifted (negsuc j) e) c') (λ _. (tt, tt))
+    if_cases (IsFormed d k) (is_nothing c') Zero (Let (shifted (negsuc j) e) c') (λ _. (tt, tt))
     (λ z. ((shifted_formed d e j k (omega (arith, h, in_reach d c (bound_to d e g env f ∷ g) env f j z)) w.0.0, y.0), y.1))
 formed d (Within e m a b) g env f j k h w =
     let n = count_of m in

@@ -13,10 +13,11 @@ use Rattle.term_core.specs.Kinds.{kind_of, scale_of}
 use Rattle.term_core.specs.Values.{Entry, kinds, num, kind_or, value_of}
 use Rattle.term_core.specs.Flows.{Flow, flow_of, scale_of_contract}
 use Rattle.term_core.proofs.FlowFacts.{one_zero}
-use Rattle.advance_step.specs.WhatIsLeft.{is_zero, both_left, scale_left, let_left}
+use Rattle.simplify.specs.TurningContracts.{is_nothing}
+use Rattle.advance_step.specs.WhatIsLeft.{both_left, scale_left, let_left}
 use Rattle.rewriting.proofs.RaisedFacts.{raised-times}
 
-zero_is : (c : Contract) → is_zero c ≡ true → c ≡ Zero
+zero_is : (c : Contract) → is_nothing c ≡ true → c ≡ Zero
 zero_is Zero h = refl
 zero_is (Pay a p q) h = absurd (cc)
 zero_is (Both a b) h = absurd (cc)
@@ -27,13 +28,13 @@ zero_is (Within e n a b) h = absurd (cc)
 
 pub both_cases : (P : Contract → Type 0) (a b : Contract) → (a ≡ Zero → P b) → (b ≡ Zero → P a) → P (Both a b) → P (both_left a b)
 both_cases P a b left right both =
-    if_cases P (is_zero a) b (if is_zero b then a else Both a b) (λ e. left (zero_is a e)) (λ _. if_cases P (is_zero b) a (Both a b) (λ e. right (zero_is b e)) (λ _. both))
+    if_cases P (is_nothing a) b (if is_nothing b then a else Both a b) (λ e. left (zero_is a e)) (λ _. if_cases P (is_nothing b) a (Both a b) (λ e. right (zero_is b e)) (λ _. both))
 
 pub scale_cases : (P : Contract → Type 0) (e : Expression) (c : Contract) → (c ≡ Zero → P Zero) → P (Scale e c) → P (scale_left e c)
-scale_cases P e c none some = if_cases P (is_zero c) Zero (Scale e c) (λ h. none (zero_is c h)) (λ _. some)
+scale_cases P e c none some = if_cases P (is_nothing c) Zero (Scale e c) (λ h. none (zero_is c h)) (λ _. some)
 
 pub let_cases : (P : Contract → Type 0) (e : Expression) (c : Contract) → (c ≡ Zero → P Zero) → P (Let e c) → P (let_left e c)
-let_cases P e c none some = if_cases P (is_zero c) Zero (Let e c) (λ h. none (zero_is c h)) (λ _. some)
+let_cases P e c none some = if_cases P (is_nothing c) Zero (Let e c) (λ h. none (zero_is c h)) (λ _. some)
 
 none_left : (x y : ℤ) → x ≡ pos 0 → y ≡ x +ℤ y
 none_left x y h = omega (arith, ints)

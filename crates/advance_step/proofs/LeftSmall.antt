@@ -15,7 +15,8 @@ use Rattle.term_core.specs.Smallness.{within_limits, days_of, days_of_contract, 
 use Rattle.term_core.specs.Sites.{Once, OfExpression, OfContract}
 use Rattle.term_core.specs.Bounds.{Range}
 use Rattle.interval_check.specs.Nodes.{EachNode, EachContractNode, range_of, range_after}
-use Rattle.advance_step.specs.WhatIsLeft.{is_zero, both_left, scale_left, let_left, left_of, delayed}
+use Rattle.simplify.specs.TurningContracts.{is_nothing}
+use Rattle.advance_step.specs.WhatIsLeft.{both_left, scale_left, let_left, left_of, delayed}
 use Rattle.rewriting.specs.Bindings.{bound_to}
 use Rattle.rewriting.proofs.Choices.{if_cases, option_cases}
 use Rattle.advance_step.proofs.LeftSizes.{near, past_back, past_left, nodes_left}
@@ -135,24 +136,24 @@ left_node d c g env f j p =
           (record { heights = omega (arith, l.heights, large.0); counts = omega (arith, l.counts, nodes_left d c g env f j); each = omega (arith, days_in_reach k, less, l.reaches); reaches = omega (arith, less, l.reaches); both = omega (arith, less, past, l.both); works = omega (arith, l.works, large.1) })
     ]
 
-not_zero : (c : Contract) → c ≡ Zero → is_zero c ≡ false → false ≡ true
-not_zero c e h = sym h ∙ ap is_zero e
+not_zero : (c : Contract) → c ≡ Zero → is_nothing c ≡ false → false ≡ true
+not_zero c e h = sym h ∙ ap is_nothing e
 
 -- what is left of a part that is not nothing: its days are within the reach
-pub in_reach : (d : Declarations) (c : Contract) (g : List Entry) (env : Environment) (f : ℤ) (j : ℕ) → is_zero (left_of d c g env f j) ≡ false → suc j ≤ reach c
+pub in_reach : (d : Declarations) (c : Contract) (g : List Entry) (env : Environment) (f : ℤ) (j : ℕ) → is_nothing (left_of d c g env f j) ≡ false → suc j ≤ reach c
 in_reach d c g env f j h =
     elim (near d c g env f j) [
       | inl e ↦ absurd (cc (not_zero (left_of d c g env f j) e h))
       | inr less ↦ omega (arith, less)
     ]
 
-both_left_is : (a b : Contract) → is_zero a ≡ false → is_zero b ≡ false → both_left a b ≡ Both a b
+both_left_is : (a b : Contract) → is_nothing a ≡ false → is_nothing b ≡ false → both_left a b ≡ Both a b
 both_left_is a b h k = rw h (rw k refl)
 
-scale_left_is : (e : Expression) (c : Contract) → is_zero c ≡ false → scale_left e c ≡ Scale e c
+scale_left_is : (e : Expression) (c : Contract) → is_nothing c ≡ false → scale_left e c ≡ Scale e c
 scale_left_is e c h = rw h refl
 
-let_left_is : (e : Expression) (c : Contract) → is_zero c ≡ false → let_left e c ≡ Let e c
+let_left_is : (e : Expression) (c : Contract) → is_nothing c ≡ false → let_left e c ≡ Let e c
 let_left_is e c h = rw h refl
 
 abbrev Root : Contract → Type 0
@@ -171,14 +172,14 @@ left_small d (Both a b) es env f j g h r =
     let root = left_node d (Both a b) es env f j r.2 in
     let one = left_small d a es env f j g h r.0 in
     let two = left_small d b es env f j g h r.1 in
-    if_cases (λ l. EachContractNode Small Once d l h) (is_zero a') b' (if is_zero b' then a' else Both a' b') (λ _. two)
-    (λ za. if_cases (λ l. EachContractNode Small Once d l h) (is_zero b') a' (Both a' b') (λ _. one) (λ zb. (one, two, subst Root (both_left_is a' b' za zb) root)))
+    if_cases (λ l. EachContractNode Small Once d l h) (is_nothing a') b' (if is_nothing b' then a' else Both a' b') (λ _. two)
+    (λ za. if_cases (λ l. EachContractNode Small Once d l h) (is_nothing b') a' (Both a' b') (λ _. one) (λ zb. (one, two, subst Root (both_left_is a' b' za zb) root)))
 left_small d (Scale e c) es env f j g h r =
     let c' = left_of d c es env f j in
     let e' = shifted (negsuc j) e in
     let root = left_node d (Scale e c) es env f j r.2 in
     let l = contract_limits (Scale e c) r.2 in
-    if_cases (λ k. EachContractNode Small Once d k h) (is_zero c') Zero (Scale e' c') (λ _. refl)
+    if_cases (λ k. EachContractNode Small Once d k h) (is_nothing c') Zero (Scale e' c') (λ _. refl)
     (λ z. (shifted_small d e j g h (omega (arith, l.both, in_reach d c es env f j z)) r.0, left_small d c es env f j g h r.1, subst Root (scale_left_is e' c' z) root))
 left_small d (After m c) es env f j g h r =
     let n = count_of m in
@@ -190,7 +191,7 @@ left_small d (Let e c) es env f j g h r =
     let e' = shifted (negsuc j) e in
     let root = left_node d (Let e c) es env f j r.2 in
     let l = contract_limits (Let e c) r.2 in
-    if_cases (λ k. EachContractNode Small Once d k h) (is_zero c') Zero (Let e' c') (λ _. refl)
+    if_cases (λ k. EachContractNode Small Once d k h) (is_nothing c') Zero (Let e' c') (λ _. refl)
     (λ z. (shifted_small d e j g h (omega (arith, l.both, in_reach d c (bound_to d e es env f ∷ es) env f j z)) r.0, left_small d c (bound_to d e es env f ∷ es) env f j (range_of d e g ∷ g) (range_of d e' h ∷ h) r.1, subst Root (let_left_is e' c' z) root))
 left_small d (Within e m a b) es env f j g h r =
     let n = count_of m in

@@ -1,7 +1,7 @@
 -- What is left of a contract after some days, on the path that an environment chooses: what is paid before is gone, what
 -- stands later stands sooner, and what is read at the start keeps its day.
 use Rattle.rewriting.specs.Bindings.{bound_to}
-use Rattle.std.specs.Prelude.{ℕ, zero, suc, ℤ, pos, negsuc, ◌+ℤ◌, ◌-◌, min, Bool, true, false, if◌then◌else◌, nat_le, List, ◌∷◌, Some, None}
+use Rattle.std.specs.Prelude.{ℕ, zero, suc, ℤ, pos, negsuc, ◌+ℤ◌, ◌-◌, min, if◌then◌else◌, nat_le, List, ◌∷◌, Some, None}
 use Rattle.term_core.specs.Declarations.{Declarations}
 use Rattle.term_core.specs.declared.terms.Days.TheVariants.{Num as Count}
 use Rattle.term_core.specs.Terms.{Expression, Contract, Zero, Pay, Both, Scale, After, Let, Within}
@@ -9,21 +9,18 @@ use Rattle.term_core.specs.Environments.{Environment}
 use Rattle.term_core.specs.Values.{Entry, first_true}
 use Rattle.term_core.specs.Flows.{count_of}
 use Rattle.term_core.specs.Shifts.{shifted}
-
-abbrev pub is_zero : Contract → Bool
-is_zero Zero = true
-is_zero _ = false
+use Rattle.simplify.specs.TurningContracts.{is_nothing}
 
 -- of two parts
 abbrev pub both_left : Contract → Contract → Contract
-both_left a b = if is_zero a then b else (if is_zero b then a else Both a b)
+both_left a b = if is_nothing a then b else (if is_nothing b then a else Both a b)
 
 -- of a body with a factor, or under a name
 abbrev pub scale_left : Expression → Contract → Contract
-scale_left e c = if is_zero c then Zero else Scale e c
+scale_left e c = if is_nothing c then Zero else Scale e c
 
 abbrev pub let_left : Expression → Contract → Contract
-let_left e c = if is_zero c then Zero else Let e c
+let_left e c = if is_nothing c then Zero else Let e c
 
 -- some days later
 abbrev pub delayed : ℕ → Contract → Contract

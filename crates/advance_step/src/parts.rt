@@ -5,6 +5,7 @@ ghost use Rattle.term_core.specs.Terms.{expression, Zero, Expression};
 ghost use Rattle.term_core.specs.Shifts.{shifted};
 ghost use Rattle.term_core.specs.SharedTerms.{shared, HasOffsets, StoresOffsets};
 ghost use Rattle.rewriting.specs.RebuildingContracts.{within_over};
+ghost use Rattle.simplify.specs.TurningContracts.{is_nothing};
 ghost use Rattle.advance_step.specs.WhatIsLeft as model;
 ghost use Rattle.advance_step.specs.CarryingWalk.{CanMove};
 
@@ -13,8 +14,8 @@ use std::alloc::Global;
 use std::rc::Rc;
 use term_core::{Expr, SharedContr};
 
-fn is_zero(s: &SharedContr) -> bool
-    ensures { result ≡ model.is_zero (shared s.now) }
+fn is_nothing(s: &SharedContr) -> bool
+    ensures { result ≡ is_nothing (shared s.now) }
 {
     matches!(s, SharedContr::Zero)
 }
@@ -30,9 +31,9 @@ pub fn both_left(
     ensures tree { IfOk result (λ r. shared r.value ≡ model.both_left (shared left.value) (shared right.value)) }
     ensures offsets { IfOk result (λ r. StoresOffsets r.value) }
 {
-    if is_zero(&left) {
+    if is_nothing(&left) {
         Ok(right)
-    } else if is_zero(&right) {
+    } else if is_nothing(&right) {
         Ok(left)
     } else {
         Ok(Rc::new(alloc, SharedContr::Both { left, right })?)
@@ -76,7 +77,7 @@ pub fn scale_left(
         shared r.value ≡ model.scale_left (shifted (negsuc last) (shifted moved (expression factor.now.value))) (shared body.value)) }
     ensures offsets { IfOk result (λ r. StoresOffsets r.value) }
 {
-    if is_zero(&body) {
+    if is_nothing(&body) {
         return Ok(body);
     }
     let moved = sooner(moved, last);
@@ -106,7 +107,7 @@ pub fn let_left(
         shared r.value ≡ model.let_left (shifted (negsuc last) (shifted moved (expression bound.now.value))) (shared body.value)) }
     ensures offsets { IfOk result (λ r. StoresOffsets r.value) }
 {
-    if is_zero(&body) {
+    if is_nothing(&body) {
         return Ok(body);
     }
     let moved = sooner(moved, last);

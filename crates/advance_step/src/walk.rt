@@ -160,12 +160,10 @@ fn carry_within(
     requires days { unsigned_abs day + last ≤ 10 ^ 11 }
     requires last { last ≤ 1_200_000 }
     ensures rest { IfOk result (λ r.
-        IsLeftOn course.now scratch.old.entries day last
-        (within_over test.now days hit.now miss.now) (shared r.value)) }
+        IsLeftOn course.now scratch.old.entries day last (within_over test.now days hit.now miss.now) (shared r.value)) }
     ensures offsets { IfOk result (λ r. StoresOffsets r.value) }
     ensures missing { IfErr result (λ e.
-        LacksReadOn course.now scratch.old.entries day last
-        (within_over test.now days hit.now miss.now) e) }
+        LacksReadOn course.now scratch.old.entries day last (within_over test.now days hit.now miss.now) e) }
     ensures same { scratch.new ≡ scratch.old }
 {
     let tried = days_tried(days, last);
