@@ -35,14 +35,15 @@ abbrev pub two_after : Expr → Expr → Option Expr → Expr → Option Expr �
 two_after e left one right two = over_two (expression e) (after (expression left) one) (after (expression right) two)
 
 abbrev pub choice_after : Expr → Option Expr → Expr → Option Expr → Expr → Option Expr → Expression
-choice_after test one yes two no three = Cond (after (expression test) one) (after (expression yes) two) (after (expression no) three)
+choice_after test one left two right three =
+    Cond (after (expression test) one) (after (expression left) two) (after (expression right) three)
 
 -- a claim, where what took the places of parts is smaller
 abbrev pub IfBothAreLess : Expr → Option Expr → Expr → Option Expr → Type 0 → Type 0
 IfBothAreLess left one right two P = IsLess one (expression left) → IsLess two (expression right) → P
 
 abbrev pub IfAllAreLess : Expr → Option Expr → Expr → Option Expr → Expr → Option Expr → Type 0 → Type 0
-IfAllAreLess test one yes two no three P = IsLess one (expression test) → IfBothAreLess yes two no three P
+IfAllAreLess test one left two right three P = IsLess one (expression test) → IfBothAreLess left two right three P
 
 -- what takes the place of e is smaller, if x and y are together smaller than the two parts of e
 abbrev pub IsLessByParts : Expression → Expression → Expression → Option Expr → Type 0

@@ -4,7 +4,7 @@ use Rattle.std.specs.declared.rc.Rc.{Rc}
 use Rattle.std.specs.Global.{Global}
 use Rattle.term_core.specs.declared.terms.Expr.{Expr}
 use Rattle.term_core.specs.declared.terms.Days.TheVariants.{Num as Count}
-use Rattle.term_core.specs.Terms.{expression, Contract, Both, Scale, After, Let, Within}
+use Rattle.term_core.specs.Terms.{Expression, expression, Contract, Both, Scale, After, Let, Within}
 use Rattle.term_core.specs.declared.shared.SharedContr.{SharedContr}
 use Rattle.term_core.specs.SharedTerms.{shared, HasOffsets, StoresOffsets}
 use Rattle.term_core.specs.Shifts.{shifted}

@@ -32,6 +32,6 @@ logic_after op left one right two =
     of_logic op (truth_literal x) y (Logic op x y)
 
 abbrev pub decided_after : Expr → Option Expr → Expr → Turned → Expr → Turned → Expression
-decided_after test decision yes one no two =
+decided_after test decision left one right two =
     of_choice (truth_literal (after (expression test) decision)) (scale_of_kind one.kind) (scale_of_kind two.kind)
-    (after (expression yes) one.new) (after (expression no) two.new) (choice_after test decision yes one.new no two.new)
+    (after (expression left) one.new) (after (expression right) two.new) (choice_after test decision left one.new right two.new)
