@@ -30,7 +30,8 @@ lacked (Err m) = Some (place_of m)
 -- v is the value of e on day f in every environment that extends the fixings
 abbrev pub IsValueEverywhere : Declarations → Expression → List Binding → Environment → ℤ → Value → Type 0
 IsValueEverywhere d e bs fixings f v =
-    (es : List Entry) (ps : List (List Place)) (env : Environment) → StandFor fixings bs es ps → Extends fixings env → value_of d e es env f ≡ v
+    (es : List Entry) (ps : List (List Place)) (env : Environment)
+    → StandFor fixings bs es ps → Extends fixings env → value_of d e es env f ≡ v
 
 -- an answer lacks the first unfixed place that e reads on day f, and none where every one is fixed
 abbrev pub LacksFirstUnfixed : Declarations → Expression → List Binding → Environment → ℤ → Result Value Missing → Type 0
@@ -38,7 +39,8 @@ LacksFirstUnfixed d e bs fixings f r =
     (es : List Entry) (ps : List (List Place)) → StandFor fixings bs es ps → lacked r ≡ first_unfixed fixings (reads_of d e es ps fixings f)
 
 -- the answer of an evaluation on day f
-pub record IsAnswer (d : Declarations) (e : Expression) (bs : List Binding) (fixings : Environment) (f : ℤ) (r : Result Value Missing) : Type 0 where
+pub record IsAnswer (d : Declarations) (e : Expression) (bs : List Binding) (fixings : Environment) (f : ℤ)
+    (r : Result Value Missing) : Type 0 where
   pub value : IfOk r (λ v. IsValueEverywhere d e bs fixings f v)
   pub missing : LacksFirstUnfixed d e bs fixings f r
 
@@ -57,4 +59,6 @@ entry_from d e bs r = record { kind = kind_or (kind_of d e (kinds_of bs)); held 
 -- it suits a name that is bound to e wherever e stands
 abbrev pub SuitsBinding : Declarations → Expression → List Binding → Result Value Missing → Type 0
 SuitsBinding d e bs r =
-    (c : Contract) (moved : ℤ) (ranges : List Range) → IsAccepted d c → StandsIn d (shifted moved e) ranges c [] → SuitAll ranges bs → Suits (range_of d e ranges) (entry_from d e bs r)
+    (c : Contract) (moved : ℤ) (ranges : List Range)
+    → IsAccepted d c → StandsIn d (shifted moved e) ranges c [] → SuitAll ranges bs
+    → Suits (range_of d e ranges) (entry_from d e bs r)

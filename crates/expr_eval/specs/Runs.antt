@@ -57,15 +57,28 @@ abbrev pub of_place : Kind → Option Value → ℕ → ℤ → Answer
 of_place k None l t = Err (record { label = l; day = t })
 of_place k (Some v) l t = Ok (record { kind = k; value = v })
 
+-- the kind of what is observed under a label, and its value on a day
+abbrev pub kind_observed : Declarations → ℕ → Kind
+kind_observed d l = kind_or (kind_of_label (label_of d l))
+
+abbrev pub observation : Declarations → Environment → ℕ → ℤ → Answer
+observation d env l t = of_place (kind_observed d l) (held env (record { label = l; day = t })) l t
+
 -- the right side only where the left does not decide
 abbrev pub of_sides : LogicOp → Answer → Answer → Answer
 of_sides op a b =
     then_do a (λ x. if decides op (truth_in x) then Ok (verdict (truth_in x)) else then_do b (λ y. Ok (verdict (truth_in y))))
 
+-- the first branch at the kind of both, where the second has kind j; and the second, where the first has kind i
+abbrev pub of_first : Kind → Answer → Answer
+of_first j a = then_do a (λ y. Ok (at_kind (kind_of_either y.kind j) y))
+
+abbrev pub of_second : Kind → Answer → Answer
+of_second i b = then_do b (λ y. Ok (at_kind (kind_of_either i y.kind) y))
+
 -- one branch, at the kind of both; of the other only the kind is asked for
 abbrev pub of_branches : Kind → Kind → Answer → Answer → Answer → Answer
-of_branches i j t a b =
-    then_do t (λ x. if truth_in x then then_do a (λ y. Ok (at_kind (kind_of_either y.kind j) y)) else then_do b (λ y. Ok (at_kind (kind_of_either i y.kind) y)))
+of_branches i j t a b = then_do t (λ x. if truth_in x then of_first j a else of_second i b)
 
 -- each day's step, from the first to the last
 abbrev pub days_tried : ℕ → (ℕ → Typed → Answer) → Answer → Answer
@@ -87,7 +100,7 @@ abbrev pub run_of : Declarations → Expression → List Binding → Environment
 run_of d (Lit m s) g env f = Ok (number s m)
 run_of d (Yes b) g env f = Ok (verdict b)
 run_of d (Var back) g env f = of_binding (slice_get g back)
-run_of d (Obs l t) g env f = of_place (kind_or (kind_of_label (label_of d l))) (held env (record { label = l; day = f +ℤ t })) l (f +ℤ t)
+run_of d (Obs l t) g env f = observation d env l (f +ℤ t)
 run_of d (Neg e) g env f = then_do (run_of d e g env f) (λ v. Ok (negated v))
 run_of d (Num op a b) g env f = on_both (both_of (run_of d a g env f) (run_of d b g env f)) (combined op)
 run_of d (Cmp op a b) g env f = on_both (both_of (run_of d a g env f) (run_of d b g env f)) (compared op)
@@ -101,9 +114,6 @@ run_of d (Div mode s a b) g env f = on_both (both_of (run_of d a g env f) (run_o
 run_of d (Acc body n first) g env f =
     days_tried n (day_step (λ h t. run_of d body h env t) g (f -ℤ pos n)) (run_of d first g env (f -ℤ pos n))
 
--- a day of an accumulator with this body, and its first n days
-abbrev pub day_run : Declarations → Expression → List Binding → Environment → ℤ → Typed → Answer
-day_run d body g env at v = day_done (λ h t. run_of d body h env t) g at v
-
+-- the first n days of an accumulator with this body
 abbrev pub days_run : Declarations → Expression → List Binding → Environment → ℤ → ℕ → Answer → Answer
 days_run d body g env from n start = days_tried n (day_step (λ h t. run_of d body h env t) g from) start

@@ -2,13 +2,11 @@
 
 ghost use Rattle.std.specs.Prelude.{◌≡◌, ◌+◌, ◌+ℤ◌, ◌-ℤ◌, pos, slice_get};
 ghost use Rattle.term_core.specs.Declarations.{declarations};
-ghost use Rattle.term_core.specs.Terms.{expression, Logic, Cond};
-ghost use Rattle.term_core.specs.Environments.{held, label_of};
-ghost use Rattle.term_core.specs.Kinds.{kind_of_label};
-ghost use Rattle.term_core.specs.Values.{kind_or};
+ghost use Rattle.term_core.specs.Terms.{expression};
 ghost use Rattle.expr_eval.specs.Scopes.{bindings};
-ghost use Rattle.expr_eval.specs.Runs.{run_of, of_binding, of_place, both_of, day_run, days_run};
-ghost use Rattle.expr_eval.specs.Fits.{Fits, IsDay, DayFitsIn, DaysFitIn};
+ghost use Rattle.expr_eval.specs.Runs.{observation, of_binding, untyped};
+ghost use Rattle.expr_eval.specs.Fits.{IsDay};
+ghost use Rattle.expr_eval.specs.Evaluations.{DayFitsIn, DaysFitIn, FitsIn, answer_in, both_in, branches, day_in, days_in, sides};
 
 use crate::kinds::{kind_in, kind_observed};
 use crate::operations::{
@@ -17,7 +15,7 @@ use crate::operations::{
 use crate::scopes::{Scope, binding_at};
 use crate::scratch::{Binding, Held};
 use fixing_files::Fixings;
-use term_core::{Decls, Expr, Kind, LogicOp, Missing};
+use term_core::{Decls, Expr, Kind, LogicOp, Missing, Value};
 
 /// The value of the name that is bound `back` binders further out than the innermost.
 pub fn value_bound(scope: &Scope, back: u32) -> Result<Typed, Missing>
@@ -42,7 +40,7 @@ pub fn value_observed(
     day: i64,
     fixings: &Fixings,
 ) -> Result<Typed, Missing>
-    ensures { result ≡ of_place (kind_or (kind_of_label (label_of (declarations decls.now) label))) (held fixings.now (record { label = label; day = day })) label day }
+    ensures { result ≡ observation (declarations decls.now) fixings.now label day }
 {
     match fixings.get(label, day) {
         Some(value) => Ok(Typed {
@@ -85,6 +83,16 @@ pub fn day_before(day: i64, days: u32) -> i64
     day - days as i64
 }
 
+/// An answer, without the kind of its value.
+pub fn without_kind(found: Result<Typed, Missing>) -> Result<Value, Missing>
+    ensures { result ≡ untyped found }
+{
+    match found {
+        Ok(found) => Ok(found.value),
+        Err(missing) => Err(missing),
+    }
+}
+
 /// The value of an expression with its kind, or the first place that is not fixed.
 #[cycle(evaluation)]
 pub fn evaluate(
@@ -94,8 +102,8 @@ pub fn evaluate(
     fixings: &Fixings,
     day: i64,
 ) -> Result<Typed, Missing>
-    requires { Fits (declarations decls.now) (expression e.now) (bindings scope.now) fixings.now day }
-    ensures { result ≡ run_of (declarations decls.now) (expression e.now) (bindings scope.now) fixings.now day }
+    requires { FitsIn decls.now (expression e.now) scope.now fixings.now day }
+    ensures { result ≡ answer_in decls.now (expression e.now) scope.now fixings.now day }
 {
     match e {
         Expr::Lit { mant, scale } => Ok(number(*scale, *mant)),
@@ -159,9 +167,9 @@ fn evaluate_both(
     fixings: &Fixings,
     day: i64,
 ) -> Result<Operands, Missing>
-    requires left { Fits (declarations decls.now) (expression left.now) (bindings scope.now) fixings.now day }
-    requires right { Fits (declarations decls.now) (expression right.now) (bindings scope.now) fixings.now day }
-    ensures { result ≡ both_of (run_of (declarations decls.now) (expression left.now) (bindings scope.now) fixings.now day) (run_of (declarations decls.now) (expression right.now) (bindings scope.now) fixings.now day) }
+    requires left { FitsIn decls.now (expression left.now) scope.now fixings.now day }
+    requires right { FitsIn decls.now (expression right.now) scope.now fixings.now day }
+    ensures { result ≡ both_in decls.now (expression left.now) (expression right.now) scope.now fixings.now day }
 {
     let left = evaluate(decls, left, scope, fixings, day)?;
     let right = evaluate(decls, right, scope, fixings, day)?;
@@ -179,8 +187,8 @@ fn evaluate_logic(
     fixings: &Fixings,
     day: i64,
 ) -> Result<Typed, Missing>
-    requires { Fits (declarations decls.now) (Logic op (expression left.now) (expression right.now)) (bindings scope.now) fixings.now day }
-    ensures { result ≡ run_of (declarations decls.now) (Logic op (expression left.now) (expression right.now)) (bindings scope.now) fixings.now day }
+    requires { FitsIn decls.now (sides op left.now right.now) scope.now fixings.now day }
+    ensures { result ≡ answer_in decls.now (sides op left.now right.now) scope.now fixings.now day }
 {
     let left = evaluate(decls, left, scope, fixings, day)?.value.is_true();
     if is_decided(op, left) {
@@ -201,8 +209,8 @@ fn evaluate_branches(
     fixings: &Fixings,
     day: i64,
 ) -> Result<Typed, Missing>
-    requires { Fits (declarations decls.now) (Cond (expression test.now) (expression yes.now) (expression no.now)) (bindings scope.now) fixings.now day }
-    ensures { result ≡ run_of (declarations decls.now) (Cond (expression test.now) (expression yes.now) (expression no.now)) (bindings scope.now) fixings.now day }
+    requires { FitsIn decls.now (branches test.now yes.now no.now) scope.now fixings.now day }
+    ensures { result ≡ answer_in decls.now (branches test.now yes.now no.now) scope.now fixings.now day }
 {
     let test = evaluate(decls, test, scope, fixings, day)?;
     if test.value.is_true() {
@@ -227,9 +235,9 @@ fn evaluate_days(
     fixings: &Fixings,
     from: i64,
 ) -> Result<Typed, Missing>
-    requires fits { DaysFitIn (declarations decls.now) (expression body.now) (bindings scope.now) fixings.now from days start }
+    requires fits { DaysFitIn decls.now (expression body.now) scope.now fixings.now from days start }
     requires first { IsDay from }
-    ensures { result ≡ days_run (declarations decls.now) (expression body.now) (bindings scope.now) fixings.now from days start }
+    ensures { result ≡ days_in decls.now (expression body.now) scope.now fixings.now from days start }
 {
     let mut value = start?;
     for i in 0..days {
@@ -249,8 +257,8 @@ fn evaluate_day(
     fixings: &Fixings,
     day: i64,
 ) -> Result<Typed, Missing>
-    requires fits { DayFitsIn (declarations decls.now) (expression body.now) (bindings scope.now) fixings.now day value }
-    ensures { result ≡ day_run (declarations decls.now) (expression body.now) (bindings scope.now) fixings.now day value }
+    requires fits { DayFitsIn decls.now (expression body.now) scope.now fixings.now day value }
+    ensures { result ≡ day_in decls.now (expression body.now) scope.now fixings.now day value }
 {
     let held = Held::Known { value: value.value };
     let inner = Scope::Inner {

@@ -3,14 +3,10 @@
 ghost use Rattle.std.specs.Prelude.{◌≡◌, Some};
 ghost use Rattle.term_core.specs.Declarations.{declarations};
 ghost use Rattle.term_core.specs.Terms.{expression};
-ghost use Rattle.term_core.specs.Environments.{label_of};
 ghost use Rattle.term_core.specs.Kinds as model;
-ghost use Rattle.term_core.specs.Kinds.{kind_of_label};
-ghost use Rattle.term_core.specs.Values.{kind_or};
-ghost use Rattle.interval_check.specs.RangeTrials.{kind_found};
 ghost use Rattle.expr_eval.specs.Rooms.{kinds_of};
-ghost use Rattle.expr_eval.specs.Scopes.{bindings};
-ghost use Rattle.expr_eval.specs.KindScales.{KindFits};
+ghost use Rattle.expr_eval.specs.Runs.{kind_observed};
+ghost use Rattle.expr_eval.specs.Evaluations.{KindFitsIn, kind_in};
 ghost use Rattle.expr_eval.specs.Evaluable.{MayEvaluate};
 
 use crate::operations::scale_of_both;
@@ -20,7 +16,7 @@ use term_core::{Decls, Expr, Kind, Label};
 
 /// The kind of what is observed; a label that is not declared, which no accepted term has, is a truth value.
 pub fn kind_observed(decls: &Decls, label: u32) -> Kind
-    ensures { result ≡ kind_or (kind_of_label (label_of (declarations decls.now) label)) }
+    ensures { result ≡ kind_observed (declarations decls.now) label }
 {
     match decls.label(label) {
         Some(Label::Number { scale, .. }) => Kind::Number { scale },
@@ -30,8 +26,8 @@ pub fn kind_observed(decls: &Decls, label: u32) -> Kind
 
 /// The kind of an expression whose sorts are in order. It looks only at the parts on which the kind depends.
 pub fn kind_in(decls: &Decls, e: &Expr, scope: &Scope) -> Kind
-    requires { KindFits (declarations decls.now) (expression e.now) (kinds_of (bindings scope.now)) }
-    ensures { result ≡ kind_found (declarations decls.now) (expression e.now) (kinds_of (bindings scope.now)) }
+    requires { KindFitsIn decls.now (expression e.now) scope.now }
+    ensures { result ≡ kind_in decls.now (expression e.now) scope.now }
 {
     match e {
         Expr::Lit { scale, .. } => Kind::Number { scale: *scale },

@@ -1,10 +1,10 @@
 //! Values with their kinds, and what each operator makes of those of its parts.
 
-ghost use Rattle.std.specs.Prelude.{◌≡◌, ◌≤◌, ◌^◌, unsigned_abs};
+ghost use Rattle.std.specs.Prelude.{◌≡◌, ◌≤◌};
 ghost use Rattle.term_core.specs.Kinds.{scale_of_kind, scale_of_op};
 ghost use Rattle.term_core.specs.Values.{num_op, cmp_op, of_num};
 ghost use Rattle.term_core.specs.Reads.{decides};
-ghost use Rattle.interval_check.specs.Safety.{OperateSafely};
+ghost use Rattle.interval_check.specs.Safety.{IsSmall, OperateSafely};
 ghost use Rattle.expr_eval.specs.Operations as made;
 ghost use Rattle.expr_eval.specs.Operations.{Negates, Combines, Compares, RoundsTo, DividesTo, FitsKind};
 
@@ -85,9 +85,9 @@ pub fn negate(of: Typed) -> Typed
 
 // An operator on two numbers of one scale.
 fn on_aligned(op: NumOp, x: i128, y: i128) -> i128
-    requires x { unsigned_abs x ≤ 10 ^ 37 }
-    requires y { unsigned_abs y ≤ 10 ^ 37 }
-    requires outcome { unsigned_abs (num_op op x y) ≤ 10 ^ 37 }
+    requires x { IsSmall x }
+    requires y { IsSmall y }
+    requires outcome { IsSmall (num_op op x y) }
     ensures { result ≡ num_op op x y }
 {
     match op {

@@ -1,18 +1,17 @@
 //! Tests, tried on one day after another.
 
-ghost use Rattle.std.specs.Prelude.{◌≡◌, ◌≤◌, ◌^◌, ◌+ℤ◌, ◌*ℤ◌, pos, unsigned_abs, IfOk};
+ghost use Rattle.std.specs.Prelude.{◌≡◌, ◌≤◌, ◌^◌, ◌*ℤ◌, unsigned_abs, IfOk};
 ghost use Rattle.term_core.specs.Declarations.{declarations};
-ghost use Rattle.term_core.specs.Terms.{expression, Cmp};
+ghost use Rattle.term_core.specs.Terms.{expression};
 ghost use Rattle.term_core.specs.Environments.{IsAdmitted, held};
 ghost use Rattle.term_core.specs.Values.{cmp_op};
-ghost use Rattle.expr_eval.specs.Rooms.{kinds_of};
-ghost use Rattle.expr_eval.specs.Scopes.{bindings};
-ghost use Rattle.expr_eval.specs.Runs.{run_of, untyped};
-ghost use Rattle.expr_eval.specs.Fits.{Fits, IsDay};
+ghost use Rattle.interval_check.specs.Safety.{IsSmall};
+ghost use Rattle.expr_eval.specs.Fits.{IsDay};
 ghost use Rattle.expr_eval.specs.Evaluable.{MayEvaluate};
+ghost use Rattle.expr_eval.specs.Evaluations.{ComparesIn, FitsIn, answer_in, comparison, first_in, kinds_in};
 ghost use Rattle.expr_eval.specs.Comparing as found;
-ghost use Rattle.expr_eval.specs.Comparing.{factors_found, mantissa_held, number_found, truth_found, ComparesOn, OnDays, SidesFit};
-ghost use Rattle.expr_eval.specs.Trials.{first_tried, IsFirstTrue, IsOneOf};
+ghost use Rattle.expr_eval.specs.Comparing.{factors_found, mantissa_held, number_found, truth_found, OnDays, SidesFit};
+ghost use Rattle.expr_eval.specs.Trials.{IsFirstTrue, IsOneOf};
 
 use crate::evaluation::{day_at, day_on, evaluate};
 use crate::kinds::kind_in;
@@ -54,8 +53,8 @@ fn factors_of(i: u8, j: u8) -> Factors
 
 // The factors of two sides, which are the same on each day.
 fn factors_between(decls: &Decls, left: &Expr, right: &Expr, scope: &Scope) -> Factors
-    requires { SidesFit (declarations decls.now) (expression left.now) (expression right.now) (kinds_of (bindings scope.now)) }
-    ensures { result ≡ factors_found (declarations decls.now) (expression left.now) (expression right.now) (kinds_of (bindings scope.now)) }
+    requires { SidesFit (declarations decls.now) (expression left.now) (expression right.now) (kinds_in scope.now) }
+    ensures { result ≡ factors_found (declarations decls.now) (expression left.now) (expression right.now) (kinds_in scope.now) }
 {
     let i = kind_in(decls, left, scope).scale();
     let j = kind_in(decls, right, scope).scale();
@@ -80,8 +79,8 @@ fn mantissa_of(
     fixings: &Fixings,
     day: i64,
 ) -> Result<i128, Missing>
-    requires { Fits (declarations decls.now) (expression e.now) (bindings scope.now) fixings.now day }
-    ensures { result ≡ number_found (run_of (declarations decls.now) (expression e.now) (bindings scope.now) fixings.now day) }
+    requires { FitsIn decls.now (expression e.now) scope.now fixings.now day }
+    ensures { result ≡ number_found (answer_in decls.now (expression e.now) scope.now fixings.now day) }
 {
     match e {
         Expr::Lit { mant, .. } => Ok(*mant),
@@ -95,7 +94,7 @@ fn mantissa_of(
 
 // A number times its factor.
 fn brought(x: i128, factor: i128) -> i128
-    requires { unsigned_abs (x *ℤ factor) ≤ 10 ^ 37 }
+    requires { IsSmall (x *ℤ factor) }
     ensures { result ≡ x *ℤ factor }
 {
     x * factor
@@ -103,8 +102,8 @@ fn brought(x: i128, factor: i128) -> i128
 
 // A comparison of two numbers that are brought to one scale.
 fn compare_brought(op: CmpOp, x: i128, y: i128, by: Factors) -> bool
-    requires left { unsigned_abs (x *ℤ by.left) ≤ 10 ^ 37 }
-    requires right { unsigned_abs (y *ℤ by.right) ≤ 10 ^ 37 }
+    requires left { IsSmall (x *ℤ by.left) }
+    requires right { IsSmall (y *ℤ by.right) }
     ensures { result ≡ cmp_op op (x *ℤ by.left) (y *ℤ by.right) }
 {
     let x = brought(x, by.left);
@@ -120,8 +119,8 @@ fn compares_on(
     fixings: &Fixings,
     day: i64,
 ) -> Result<bool, Missing>
-    requires { ComparesOn (declarations decls.now) (expression test.now.left.now) (expression test.now.right.now) test.now.by (bindings scope.now) fixings.now day }
-    ensures { result ≡ truth_found (run_of (declarations decls.now) (Cmp test.now.op (expression test.now.left.now) (expression test.now.right.now)) (bindings scope.now) fixings.now day) }
+    requires { ComparesIn decls.now test.now scope.now fixings.now day }
+    ensures { result ≡ truth_found (answer_in decls.now (comparison test.now) scope.now fixings.now day) }
 {
     let x = mantissa_of(decls, test.left, scope, fixings, day)?;
     let y = mantissa_of(decls, test.right, scope, fixings, day)?;
@@ -136,8 +135,8 @@ fn holds_on(
     fixings: &Fixings,
     day: i64,
 ) -> Result<bool, Missing>
-    requires { Fits (declarations decls.now) (expression test.now) (bindings scope.now) fixings.now day }
-    ensures { result ≡ truth_found (run_of (declarations decls.now) (expression test.now) (bindings scope.now) fixings.now day) }
+    requires { FitsIn decls.now (expression test.now) scope.now fixings.now day }
+    ensures { result ≡ truth_found (answer_in decls.now (expression test.now) scope.now fixings.now day) }
 {
     let found = evaluate(decls, test, scope, fixings, day)?;
     Ok(found.value.is_true())
@@ -153,8 +152,8 @@ fn first_compared(
     days: u32,
 ) -> Result<Option<u32>, Missing>
     requires first { IsDay from }
-    requires fits { OnDays (λ f. ComparesOn (declarations decls.now) (expression test.now.left.now) (expression test.now.right.now) test.now.by (bindings scope.now) fixings.now f) from days }
-    ensures days { result ≡ first_tried days (λ i. untyped (run_of (declarations decls.now) (Cmp test.now.op (expression test.now.left.now) (expression test.now.right.now)) (bindings scope.now) fixings.now (from +ℤ pos i))) }
+    requires fits { OnDays (λ day. ComparesIn decls.now test.now scope.now fixings.now day) from days }
+    ensures days { result ≡ first_in decls.now (comparison test.now) scope.now fixings.now from days }
     ensures found { IfOk result (λ first. IsOneOf days first) }
 {
     for i in 0..days {
@@ -177,8 +176,8 @@ fn first_held(
     days: u32,
 ) -> Result<Option<u32>, Missing>
     requires first { IsDay from }
-    requires fits { OnDays (λ f. Fits (declarations decls.now) (expression test.now) (bindings scope.now) fixings.now f) from days }
-    ensures days { result ≡ first_tried days (λ i. untyped (run_of (declarations decls.now) (expression test.now) (bindings scope.now) fixings.now (from +ℤ pos i))) }
+    requires fits { OnDays (λ day. FitsIn decls.now (expression test.now) scope.now fixings.now day) from days }
+    ensures days { result ≡ first_in decls.now (expression test.now) scope.now fixings.now from days }
     ensures found { IfOk result (λ first. IsOneOf days first) }
 {
     for i in 0..days {

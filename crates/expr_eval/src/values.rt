@@ -6,24 +6,12 @@ ghost use Rattle.term_core.specs.Terms.{expression};
 ghost use Rattle.term_core.specs.Environments.{IsAdmitted};
 ghost use Rattle.expr_eval.specs.Evaluable.{MayEvaluate};
 ghost use Rattle.expr_eval.specs.Answers.{IsAnswer, HasKind, SuitsBinding};
-ghost use Rattle.expr_eval.specs.Runs.{untyped};
 
-use crate::evaluation::evaluate;
-use crate::operations::Typed;
+use crate::evaluation::{evaluate, without_kind};
 use crate::scopes::Scope;
 use crate::scratch::Scratch;
 use fixing_files::Fixings;
 use term_core::{Decls, Expr, Missing, Value};
-
-// An answer, without the kind of its value.
-fn without_kind(found: Result<Typed, Missing>) -> Result<Value, Missing>
-    ensures { result ≡ untyped found }
-{
-    match found {
-        Ok(found) => Ok(found.value),
-        Err(missing) => Err(missing),
-    }
-}
 
 /// The value of an expression on a day of the portfolio, over fixings, with the entries of a scratch for its names: the
 /// mantissa of a number at the scale of its kind, or a truth value. It lacks a place exactly where one that the

@@ -15,7 +15,7 @@ use Rattle.payoff_eval.specs.declared.walk.Worth.{Worth}
 use Rattle.payoff_eval.specs.Questions.{asked_on}
 use Rattle.payoff_eval.specs.CodeRuns.{CodeFits, amount_in, run_code}
 use Rattle.payoff_eval.specs.CodeAnswers.{IsCodeValue, aligned_value}
-use Rattle.payoff_eval.specs.Laws.{ValuesAreWithinTotals}
+use Rattle.payoff_eval.specs.LawsValues.{ValuesAreWithinTotals}
 use Rattle.payoff_eval.proofs.AnswerFacts.{walks_are_values}
 use Rattle.payoff_eval.proofs.NodeFacts.{bounds_hold, scale_of_accepted, total_at_root}
 use Rattle.payoff_eval.proofs.RuleFacts.{accepted_code_meets}

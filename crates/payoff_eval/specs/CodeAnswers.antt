@@ -21,7 +21,8 @@ abbrev pub lacked_place : Result ℤ Missing → Option Place
 lacked_place (Ok m) = None
 lacked_place (Err m) = Some (place_of m)
 
-pub record IsCodeValue (d : Declarations) (k : PayoffCode) (xs : List ℕ) (fixings : Environment) (a : Asked) (b : ℤ) (r : Result ℤ Missing) : Type 0 where
+pub record IsCodeValue (d : Declarations) (k : PayoffCode) (xs : List ℕ) (fixings : Environment) (a : Asked) (b : ℤ)
+    (r : Result ℤ Missing) : Type 0 where
   pub value : IfOk r (λ m. (env : Environment) → Extends fixings env → aligned_value d k env xs a b ≡ m)
   pub missing : lacked_place r ≡ first_unfixed fixings (reads_of_code d k [] [] fixings xs a b)
 

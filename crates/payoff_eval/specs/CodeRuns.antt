@@ -3,7 +3,6 @@
 use Rattle.std.specs.Prelude.{ℕ, ℤ, pos, int_lt, ◌+ℤ◌, ◌*ℤ◌, ◌-◌, ◌≤◌, ◌≤ℤ◌, List, ◌∷◌, Option, Some, None, Result, Ok, Err, if◌then◌else◌}
 use Rattle.decimal.specs.Rounding.{raised}
 use Rattle.term_core.specs.Declarations.{Declarations}
-use Rattle.term_core.specs.declared.values.Value.{Value}
 use Rattle.term_core.specs.declared.values.Missing.{Missing}
 use Rattle.term_core.specs.Environments.{Environment}
 use Rattle.term_core.specs.Kinds.{scale_of_kind}
@@ -17,17 +16,17 @@ use Rattle.expr_eval.specs.Runs.{run_of, untyped}
 use Rattle.expr_eval.specs.Answers.{held_of}
 use Rattle.expr_eval.specs.KindScales.{KindFits}
 use Rattle.expr_eval.specs.Fits.{Fits, IsDay}
-use Rattle.expr_eval.specs.Trials.{first_tried}
+use Rattle.expr_eval.specs.Trials.{ValueOrMissing, first_tried}
 use Rattle.payoff_lang.specs.TemplateDates.{Date, day_of}
 use Rattle.payoff_lang.specs.Dating.{at_setting}
 use Rattle.payoff_lang.specs.Code.{ValueExpression, PayoffCode, Nothing, PayOn, Add, ScaleBy, LetBe, Loop, Cut}
 use Rattle.payoff_lang.specs.CodeValues.{Asked, factor_on}
 use Rattle.payoff_lang.specs.CodeReads.{concerns}
 use Rattle.payoff_eval.specs.DatesFit.{DateFits, DatesFit}
-use Rattle.payoff_eval.specs.Walks.{nothing_reached, tries, then_added, then_scaled, then_branch}
+use Rattle.payoff_eval.specs.Walks.{WorthOrMissing, nothing_reached, tries, then_added, then_scaled, then_branch}
 use Rattle.payoff_eval.specs.declared.walk.Worth.{Worth}
 
-abbrev pub answer_of : Declarations → ValueExpression → List Binding → Environment → List ℕ → ℤ → Result Value Missing
+abbrev pub answer_of : Declarations → ValueExpression → List Binding → Environment → List ℕ → ℤ → ValueOrMissing
 answer_of d v g fixings xs b = untyped (run_of d (at_setting xs v) g fixings b)
 
 abbrev pub scale_found : Declarations → ValueExpression → List Binding → List ℕ → ℕ
@@ -41,7 +40,7 @@ abbrev pub paid : ℕ → Asked → ℤ → ℕ → ℕ → ℕ → Worth
 paid room a day u p q =
     record { amount = raised (factor_on a day *ℤ unit_flow u p q a.flow) (room - 9); reached = concerns u p q a.flow }
 
-abbrev pub run_code : Declarations → ℕ → PayoffCode → List Binding → Environment → List ℕ → Asked → ℤ → Result Worth Missing
+abbrev pub run_code : Declarations → ℕ → PayoffCode → List Binding → Environment → List ℕ → Asked → ℤ → WorthOrMissing
 run_code d room Nothing g fixings xs a b = Ok nothing_reached
 run_code d room (PayOn x u p q) g fixings xs a b = Ok (paid room a (b +ℤ day_of xs x) u p q)
 run_code d room (Add k l) g fixings xs a b = then_added (run_code d room k g fixings xs a b) (run_code d room l g fixings xs a b)
@@ -56,22 +55,30 @@ run_code d room (Cut x k) g fixings xs a b =
     if int_lt (b +ℤ day_of xs x) a.now then Ok nothing_reached else run_code d room k g fixings xs a b
 
 -- what is left of an answer
-abbrev pub amount_in : Result Worth Missing → Result ℤ Missing
+abbrev pub amount_in : WorthOrMissing → Result ℤ Missing
 amount_in (Ok w) = Ok w.amount
 amount_in (Err m) = Err m
 
 -- ---- what it needs in 128 bits
 
-abbrev pub OnWorth : Result Worth Missing → (Worth → Type 0) → Type 0
+abbrev pub OnWorth : WorthOrMissing → (Worth → Type 0) → Type 0
 OnWorth (Ok w) P = P w
 OnWorth (Err m) P = Unit {0}
 
-abbrev pub OnFactor : Result Value Missing → (ℤ → Type 0) → Type 0
+abbrev pub OnFactor : ValueOrMissing → (ℤ → Type 0) → Type 0
 OnFactor (Ok v) P = P (num v)
 OnFactor (Err m) P = Unit {0}
 
+abbrev pub IsSmallWorth : WorthOrMissing → Type 0
+IsSmallWorth found = OnWorth found (λ w. IsSmall w.amount)
+
+-- so is what it is worth times a factor
+abbrev pub ScalesSafely : ValueOrMissing → WorthOrMissing → Type 0
+ScalesSafely factor found = OnWorth found (λ w. OnFactor factor (λ m. IsSmall (m *ℤ w.amount)))
+
 -- a value expression can be evaluated at a base
-pub record ValueFits (d : Declarations) (v : ValueExpression) (g : List Binding) (fixings : Environment) (xs : List ℕ) (b : ℤ) : Type 0 where
+pub record ValueFits (d : Declarations) (v : ValueExpression) (g : List Binding) (fixings : Environment) (xs : List ℕ)
+    (b : ℤ) : Type 0 where
   pub dates : DatesFit xs v
   pub fits : Fits d (at_setting xs v) g fixings b
   pub kind : KindFits d (at_setting xs v) (kinds_of g)
@@ -87,12 +94,11 @@ CodeFits d room Nothing g fixings xs a b = Unit {0}
 CodeFits d room (PayOn x u p q) g fixings xs a b = DayFits xs x b × (9 ≤ room) × (room ≤ 21)
 CodeFits d room (Add k l) g fixings xs a b =
     CodeFits d room k g fixings xs a b × CodeFits d room l g fixings xs a b
-    × OnWorth (run_code d room k g fixings xs a b) (λ w. IsSmall w.amount)
-    × OnWorth (run_code d room l g fixings xs a b) (λ w. IsSmall w.amount)
+    × IsSmallWorth (run_code d room k g fixings xs a b) × IsSmallWorth (run_code d room l g fixings xs a b)
 CodeFits d room (ScaleBy v k) g fixings xs a b =
     ValueFits d v g fixings xs b × (scale_found d v g xs ≤ room)
     × CodeFits d (room - scale_found d v g xs) k g fixings xs a b
-    × OnWorth (run_code d (room - scale_found d v g xs) k g fixings xs a b) (λ w. OnFactor (answer_of d v g fixings xs b) (λ m. IsSmall (m *ℤ w.amount)))
+    × ScalesSafely (answer_of d v g fixings xs b) (run_code d (room - scale_found d v g xs) k g fixings xs a b)
 CodeFits d room (LetBe v k) g fixings xs a b =
     ValueFits d v g fixings xs b × CodeFits d room k (bound_for d v g fixings xs b ∷ g) fixings xs a b
 CodeFits d room (Loop v x k l) g fixings xs a b =

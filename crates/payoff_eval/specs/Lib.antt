@@ -2,7 +2,7 @@ pub mod DatesFit
 pub mod Walks
 pub mod CodeRules
 pub mod CodeRuns
-pub mod AskedOf
+pub mod CodeEvaluations
 pub mod Questions
 pub mod CodeAnswers
-pub mod Laws
+pub mod LawsValues

@@ -1,9 +1,9 @@
 //! Dates at a setting.
 
-ghost use Rattle.std.specs.Prelude.{◌≡◌, ◌≤◌, ◌<◌, ◌≤ℤ◌, ◌+ℤ◌, ◌*◌, ◌^◌, All, length, pos, unsigned_abs};
+ghost use Rattle.std.specs.Prelude.{◌≡◌, ◌≤◌, ◌<◌, ◌≤ℤ◌, ◌+ℤ◌, ◌^◌, All, length, pos};
 ghost use Rattle.expr_eval.specs.Fits.{IsDay};
 ghost use Rattle.payoff_lang.specs.TemplateDates.{date, day_of, sum_at};
-ghost use Rattle.payoff_eval.specs.DatesFit.{DateFits};
+ghost use Rattle.payoff_eval.specs.DatesFit.{DateFits, IsDayOfDate};
 
 use crate::asking::Asking;
 use payoff_lang::DateExpr;
@@ -35,7 +35,7 @@ pub fn day_on(asking: &Asking, base: i64, x: &DateExpr) -> i64
     requires base { IsDay base }
     requires date { DateFits asking.now.setting.now (date x.now) }
     ensures day { result ≡ base +ℤ day_of asking.now.setting.now (date x.now) }
-    ensures near { unsigned_abs result ≤ 2 * 10 ^ 18 }
+    ensures near { IsDayOfDate result }
 {
     base + day_at(asking.setting, x)
 }

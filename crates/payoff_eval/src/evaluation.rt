@@ -3,7 +3,7 @@
 
 ghost use Rattle.std.specs.Prelude.{◌≡◌};
 ghost use Rattle.expr_eval.specs.Fits.{IsDay};
-ghost use Rattle.payoff_eval.specs.AskedOf.{DayFitsOn, DaysFitOn, FitsOn, HasDates, both_on, branches, dated, day_run_on, days_run_on, run_on, sides};
+ghost use Rattle.payoff_eval.specs.CodeEvaluations.{DayFitsOn, DaysFitOn, FitsOn, HasDates, both_on, branches, dated, day_run_on, days_run_on, run_on, sides};
 
 use crate::asking::Asking;
 use crate::dates::day_on;

@@ -1,12 +1,8 @@
 //! Kinds of value expressions.
 
 ghost use Rattle.std.specs.Prelude.{◌≡◌};
-ghost use Rattle.term_core.specs.Declarations.{declarations};
-ghost use Rattle.interval_check.specs.RangeTrials.{kind_found};
-ghost use Rattle.expr_eval.specs.Rooms.{kinds_of};
-ghost use Rattle.expr_eval.specs.Scopes.{bindings};
-ghost use Rattle.expr_eval.specs.KindScales.{KindFits};
-ghost use Rattle.payoff_eval.specs.AskedOf.{dated};
+ghost use Rattle.expr_eval.specs.Evaluations.{KindFitsIn, kind_in};
+ghost use Rattle.payoff_eval.specs.CodeEvaluations.{dated};
 
 use crate::asking::Asking;
 use expr_eval::kinds::kind_observed;
@@ -17,8 +13,8 @@ use term_core::Kind;
 
 /// The kind of an expression whose sorts are in order. It looks only at the parts on which the kind depends.
 pub fn kind_in(asking: &Asking, e: &Vx, scope: &Scope) -> Kind
-    requires { KindFits (declarations asking.now.decls.now) (dated asking.now e.now) (kinds_of (bindings scope.now)) }
-    ensures { result ≡ kind_found (declarations asking.now.decls.now) (dated asking.now e.now) (kinds_of (bindings scope.now)) }
+    requires { KindFitsIn asking.now.decls.now (dated asking.now e.now) scope.now }
+    ensures { result ≡ kind_in asking.now.decls.now (dated asking.now e.now) scope.now }
 {
     match e {
         Vx::Lit { scale, .. } => Kind::Number { scale: *scale },

@@ -1,29 +1,28 @@
 //! The walk over code at a base: what it is worth, or the first place that is not fixed.
 
-ghost use Rattle.std.specs.Prelude.{◌≡◌, ◌≤◌, ◌^◌, ◌+◌, ◌*◌, ◌*ℤ◌, ◌+ℤ◌, ◌≤ℤ◌, ℕ, pos, int_lt, true, unsigned_abs, IfOk, Ok};
+ghost use Rattle.std.specs.Prelude.{◌≡◌, ◌≤◌, ◌+◌, ◌*ℤ◌, ◌+ℤ◌, int_lt, true, unsigned_abs, IfOk, Ok};
 ghost use Rattle.term_core.specs.Values.{num};
 ghost use Rattle.term_core.specs.Flows.{unit_flow};
 ghost use Rattle.interval_check.specs.Safety.{IsSmall};
-ghost use Rattle.expr_eval.specs.Runs.{untyped};
 ghost use Rattle.expr_eval.specs.Fits.{IsDay};
-ghost use Rattle.expr_eval.specs.Trials.{first_tried};
 ghost use Rattle.payoff_lang.specs.TemplateDates.{date, day_of};
 ghost use Rattle.payoff_lang.specs.Code.{value_expression, payoff_code};
 ghost use Rattle.payoff_lang.specs.CodeSizes.{height_of_code};
 ghost use Rattle.payoff_lang.specs.CodeValues.{factor_on};
 ghost use Rattle.payoff_lang.specs.CodeReads.{concerns};
-ghost use Rattle.payoff_eval.specs.DatesFit.{DateFits};
+ghost use Rattle.payoff_eval.specs.DatesFit.{IsDayOfDate};
 ghost use Rattle.payoff_eval.specs.Walks.{then_added};
+ghost use Rattle.payoff_eval.specs.CodeRules.{IsAtMostTen};
 ghost use Rattle.payoff_eval.specs.CodeRuns.{DayFits, IsUpTo, paid};
-ghost use Rattle.payoff_eval.specs.AskedOf.{EvaluatesOn, HasKindOn, WalksOn, answer, asked_of, kind_on, worth_on};
-ghost use Rattle.payoff_eval.specs.AskedOf.{let_code, loop_code, scale_code};
+ghost use Rattle.payoff_eval.specs.CodeEvaluations.{EvaluatesFrom, EvaluatesOn, HasKindOn, WalksOn, answer, asked_of, first_from};
+ghost use Rattle.payoff_eval.specs.CodeEvaluations.{kind_on, let_code, loop_code, scale_code, worth_on};
 
 use crate::asking::Asking;
 use crate::dates::{count, day_on};
 use crate::evaluation::evaluate;
 use crate::kinds::kind_in;
 use decimal::align;
-use expr_eval::operations::Typed;
+use expr_eval::evaluation::{day_on as later, without_kind};
 use expr_eval::scopes::Scope;
 use expr_eval::{Held, Scratch};
 use payoff_lang::{Code, DateExpr, Vx};
@@ -70,30 +69,30 @@ fn unit(asking: &Asking, asset: u32, from: u32, to: u32) -> i128
 
 // The discount factor of a day, seen from the current day.
 fn factor(asking: &Asking, day: i64) -> i128
-    requires day { unsigned_abs day ≤ 2 * 10 ^ 18 }
+    requires day { IsDayOfDate day }
     requires today { IsDay asking.now.today }
     ensures value { result ≡ factor_on (asked_of asking.now) day }
-    ensures small { unsigned_abs result ≤ 10 ^ 10 }
+    ensures small { IsAtMostTen result }
 {
     asking.curve.at(day - asking.today)
 }
 
 // A factor times a unit.
 fn times(factor: i128, unit: i128) -> i128
-    requires factor { unsigned_abs factor ≤ 10 ^ 10 }
+    requires factor { IsAtMostTen factor }
     requires unit { unsigned_abs unit ≤ 1 }
     ensures value { result ≡ factor *ℤ unit }
-    ensures small { unsigned_abs result ≤ 10 ^ 10 }
+    ensures small { IsAtMostTen result }
 {
     factor * unit
 }
 
 // A payment on a day, at nine decimals.
 fn face(asking: &Asking, day: i64, asset: u32, from: u32, to: u32) -> i128
-    requires day { unsigned_abs day ≤ 2 * 10 ^ 18 }
+    requires day { IsDayOfDate day }
     requires today { IsDay asking.now.today }
     ensures value { result ≡ factor_on (asked_of asking.now) day *ℤ unit_flow asset from to (asked_of asking.now).flow }
-    ensures small { unsigned_abs result ≤ 10 ^ 10 }
+    ensures small { IsAtMostTen result }
 {
     times(factor(asking, day), unit(asking, asset, from, to))
 }
@@ -102,23 +101,13 @@ fn face(asking: &Asking, day: i64, asset: u32, from: u32, to: u32) -> i128
 fn pay(asking: &Asking, room: u8, day: i64, asset: u32, from: u32, to: u32) -> Worth
     requires low { 9 ≤ room }
     requires high { room ≤ 21 }
-    requires day { unsigned_abs day ≤ 2 * 10 ^ 18 }
+    requires day { IsDayOfDate day }
     requires today { IsDay asking.now.today }
     ensures { result ≡ paid room (asked_of asking.now) day asset from to }
 {
     Worth {
         amount: align(face(asking, day, asset, from, to), 9, room),
         reached: is_asked(asking, asset, from, to),
-    }
-}
-
-// An answer, without the kind of its value.
-fn without_kind(found: Result<Typed, Missing>) -> Result<Value, Missing>
-    ensures { result ≡ untyped found }
-{
-    match found {
-        Ok(found) => Ok(found.value),
-        Err(missing) => Err(missing),
     }
 }
 
@@ -140,14 +129,6 @@ fn value_on(asking: &Asking, scratch: &Scratch, base: i64, v: &Vx) -> Result<Val
     without_kind(evaluate(asking, v, &scope, base))
 }
 
-// The base some days later.
-fn later(base: i64, days: u32) -> i64
-    requires { IsDay base }
-    ensures { result ≡ base +ℤ pos days }
-{
-    base + days as i64
-}
-
 // The days until a test is first true, of the days 0 to `days`.
 fn first_day(
     asking: &Asking,
@@ -158,9 +139,9 @@ fn first_day(
 ) -> Result<Option<u32>, Missing>
     requires days { days ≤ 100_000 }
     requires base { IsDay base }
-    requires fits { (i : ℕ) → i ≤ 100_000 → EvaluatesOn asking.now (value_expression test.now) scratch.now.entries (base +ℤ pos i) }
+    requires fits { EvaluatesFrom asking.now (value_expression test.now) scratch.now.entries base }
     ensures few { IfOk result (λ first. IsUpTo first days) }
-    ensures day { result ≡ first_tried (days + 1) (λ i. answer asking.now (value_expression test.now) scratch.now.entries (base +ℤ pos i)) }
+    ensures day { result ≡ first_from asking.now (value_expression test.now) scratch.now.entries base (days + 1) }
 {
     for i in 0..days + 1 {
         let value = value_on(asking, scratch, later(base, i), test)?;

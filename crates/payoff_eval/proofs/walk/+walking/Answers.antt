@@ -6,7 +6,7 @@ use Rattle.term_core.specs.Declarations.{declarations}
 use Rattle.payoff_lang.specs.TemplateDates.{date, day_of}
 use Rattle.payoff_lang.specs.Code.{value_expression, payoff_code}
 use Rattle.payoff_eval.specs.declared.walk.Worth.{Worth}
-use Rattle.payoff_eval.specs.AskedOf.{asked_of}
+use Rattle.payoff_eval.specs.CodeEvaluations.{asked_of}
 use Rattle.payoff_eval.specs.CodeRuns.{answer_of, run_code}
 use Rattle.expr_eval.specs.Trials.{first_tried}
 use Rattle.payoff_eval.proofs.StepFacts.{loop_some}

@@ -1,8 +1,8 @@
--- What the evaluator of code is asked, by contents, and what it answers.
-use Rattle.std.specs.Prelude.{ℕ, ℤ, List, Result}
+-- The evaluator of code by the program's values: what it answers of what is asked, and what it needs so that numbers fit
+-- 128 bits and days 64.
+use Rattle.std.specs.Prelude.{ℕ, ℤ, pos, ◌+ℤ◌, ◌≤◌, List, Result}
 use Rattle.term_core.specs.Declarations.{declarations}
 use Rattle.term_core.specs.declared.values.Kind.{Kind}
-use Rattle.term_core.specs.declared.values.Value.{Value}
 use Rattle.term_core.specs.declared.values.Missing.{Missing}
 use Rattle.term_core.specs.declared.terms.LogicOp.{LogicOp}
 use Rattle.term_core.specs.Terms.{Expression, Logic, Cond}
@@ -10,9 +10,9 @@ use Rattle.expr_eval.specs.declared.operations.Operands.{Operands}
 use Rattle.expr_eval.specs.declared.operations.Typed.{Typed}
 use Rattle.expr_eval.specs.declared.scopes.Scope.{Scope}
 use Rattle.expr_eval.specs.declared.scratch.Binding.{Binding}
-use Rattle.expr_eval.specs.Fits.{Fits, DayFitsIn, DaysFitIn}
-use Rattle.expr_eval.specs.Runs.{Answer, run_of, both_of, day_run, days_run}
-use Rattle.expr_eval.specs.Scopes.{bindings}
+use Rattle.expr_eval.specs.Runs.{Answer}
+use Rattle.expr_eval.specs.Evaluations.{DayFitsIn, DaysFitIn, FitsIn, answer_in, both_in, day_in, days_in}
+use Rattle.expr_eval.specs.Trials.{DayOrMissing, ValueOrMissing, first_tried}
 use Rattle.expr_eval.specs.KindScales.{KindFits}
 use Rattle.expr_eval.specs.Rooms.{kinds_of}
 use Rattle.interval_check.specs.RangeTrials.{kind_found}
@@ -25,9 +25,9 @@ use Rattle.payoff_lang.specs.Dating.{at_setting}
 use Rattle.payoff_lang.specs.CodeValues.{Asked}
 use Rattle.payoff_eval.specs.DatesFit.{DatesFit}
 use Rattle.payoff_eval.specs.Questions.{asked_on}
+use Rattle.payoff_eval.specs.Walks.{WorthOrMissing}
 use Rattle.payoff_eval.specs.CodeRuns.{CodeFits, ValueFits, answer_of, run_code}
 use Rattle.payoff_eval.specs.declared.asking.Asking.{Asking}
-use Rattle.payoff_eval.specs.declared.walk.Worth.{Worth}
 
 -- what the program's question stands for
 abbrev pub asked_of : Asking → Asked
@@ -42,13 +42,13 @@ HasDates q e = DatesFit q.setting.now (value_expression e)
 
 -- an evaluation of an expression on a day
 abbrev pub run_on : Asking → Expression → Scope → ℤ → Answer
-run_on q e scope f = run_of (declarations q.decls.now) e (bindings scope) q.fixings.now f
+run_on q e scope f = answer_in q.decls.now e scope q.fixings.now f
 
 abbrev pub FitsOn : Asking → Expression → Scope → ℤ → Type 0
-FitsOn q e scope f = Fits (declarations q.decls.now) e (bindings scope) q.fixings.now f
+FitsOn q e scope f = FitsIn q.decls.now e scope q.fixings.now f
 
 abbrev pub both_on : Asking → Expression → Expression → Scope → ℤ → Result Operands Missing
-both_on q x y scope f = both_of (run_on q x scope f) (run_on q y scope f)
+both_on q x y scope f = both_in q.decls.now x y scope q.fixings.now f
 
 -- the forms whose parts are evaluated apart
 abbrev pub sides : Asking → LogicOp → Vx → Vx → Expression
@@ -59,23 +59,30 @@ branches q t x y = Cond (dated q t) (dated q x) (dated q y)
 
 -- a day of an accumulator with this body, and its first n days
 abbrev pub day_run_on : Asking → Expression → Scope → ℤ → Typed → Answer
-day_run_on q body scope at v = day_run (declarations q.decls.now) body (bindings scope) q.fixings.now at v
+day_run_on q body scope at v = day_in q.decls.now body scope q.fixings.now at v
 
 abbrev pub DayFitsOn : Asking → Expression → Scope → ℤ → Typed → Type 0
-DayFitsOn q body scope at v = DayFitsIn (declarations q.decls.now) body (bindings scope) q.fixings.now at v
+DayFitsOn q body scope at v = DayFitsIn q.decls.now body scope q.fixings.now at v
 
 abbrev pub days_run_on : Asking → Expression → Scope → ℤ → ℕ → Answer → Answer
-days_run_on q body scope from n start = days_run (declarations q.decls.now) body (bindings scope) q.fixings.now from n start
+days_run_on q body scope from n start = days_in q.decls.now body scope q.fixings.now from n start
 
 abbrev pub DaysFitOn : Asking → Expression → Scope → ℤ → ℕ → Answer → Type 0
-DaysFitOn q body scope from n start = DaysFitIn (declarations q.decls.now) body (bindings scope) q.fixings.now from n start
+DaysFitOn q body scope from n start = DaysFitIn q.decls.now body scope q.fixings.now from n start
 
 -- an evaluation of a value expression at a base
-abbrev pub answer : Asking → ValueExpression → List Binding → ℤ → Result Value Missing
+abbrev pub answer : Asking → ValueExpression → List Binding → ℤ → ValueOrMissing
 answer q v g b = answer_of (declarations q.decls.now) v g q.fixings.now q.setting.now b
 
 abbrev pub EvaluatesOn : Asking → ValueExpression → List Binding → ℤ → Type 0
 EvaluatesOn q v g b = ValueFits (declarations q.decls.now) v g q.fixings.now q.setting.now b
+
+-- evaluations of a test on the days from a base on, and the first of n on which it is true
+abbrev pub EvaluatesFrom : Asking → ValueExpression → List Binding → ℤ → Type 0
+EvaluatesFrom q test g b = (i : ℕ) → i ≤ 100_000 → EvaluatesOn q test g (b +ℤ pos i)
+
+abbrev pub first_from : Asking → ValueExpression → List Binding → ℤ → ℕ → DayOrMissing
+first_from q test g b n = first_tried n (λ i. answer q test g (b +ℤ pos i))
 
 -- the kind of a value expression
 abbrev pub kind_on : Asking → ValueExpression → List Binding → Kind
@@ -95,7 +102,7 @@ abbrev pub loop_code : Vx → DateExpr → Code → Code → PayoffCode
 loop_code v x k l = Loop (value_expression v) (date x) (payoff_code k) (payoff_code l)
 
 -- a walk over code at a base
-abbrev pub worth_on : Asking → ℕ → PayoffCode → List Binding → ℤ → Result Worth Missing
+abbrev pub worth_on : Asking → ℕ → PayoffCode → List Binding → ℤ → WorthOrMissing
 worth_on q room k g b = run_code (declarations q.decls.now) room k g q.fixings.now q.setting.now (asked_of q) b
 
 abbrev pub WalksOn : Asking → ℕ → PayoffCode → List Binding → ℤ → Type 0
