@@ -31,7 +31,7 @@ part_of_itself (Round mode s a) = inl refl
 part_of_itself (Div mode s a b) = inl refl
 part_of_itself (Acc body n first) = inl refl
 
-here : (e : Expression) (g : List Range) → IsPartHere e g e g
+pub here : (e : Expression) (g : List Range) → IsPartHere e g e g
 here e g = record { part = part_of_itself e; ranges = refl }
 
 -- an expression as it stands is moved by nothing

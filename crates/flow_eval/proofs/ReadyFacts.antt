@@ -6,19 +6,20 @@ use Rattle.term_core.specs.Declarations.{Declarations}
 use Rattle.term_core.specs.declared.terms.Days.{Days}
 use Rattle.term_core.specs.declared.values.Kind.{Kind}
 use Rattle.term_core.specs.declared.values.Value.{Value}
-use Rattle.term_core.specs.Terms.{Expression, Lit, Yes, Var, Obs, Neg, Num, Cmp, Not, Logic, Cond, Widen, Round, Div, Acc}
-use Rattle.term_core.specs.Terms.{Contract, Scale, Let, Within}
+use Rattle.term_core.specs.Terms.{Expression, Contract, Scale, Let, Within}
 use Rattle.term_core.specs.Environments.{Environment, Place}
 use Rattle.term_core.specs.Kinds.{kind_of, scale_of, scale_of_kind, scale_or_zero}
 use Rattle.term_core.specs.Values.{Entry, kinds, kind_or, num, value_of}
 use Rattle.term_core.specs.LawsKinds.{IsOfKind}
 use Rattle.term_core.specs.declared.values.Kind.TheVariants.{Truth as TruthKind, Number}
+use Rattle.term_core.specs.Flows.{scale_of_contract}
+use Rattle.term_core.specs.Sizes.{height_of_contract}
 use Rattle.term_core.specs.Reads.{first_unfixed, reads_of}
 use Rattle.term_core.specs.Shifts.{shifted}
 use Rattle.term_core.proofs.ShiftedFacts.{shifted_zero}
 use Rattle.term_core.specs.Bounds.{Interval, Range}
-use Rattle.interval_check.specs.Nodes.{range_of}
-use Rattle.interval_check.specs.Parts.{IsPart, IsPartHere}
+use Rattle.interval_check.specs.Nodes.{ContractMeetsRules, range_of}
+use Rattle.interval_check.specs.Parts.{StandsIn}
 use Rattle.interval_check.specs.Within.{AreWithin, IsIn, IsWithin, OnNumber}
 use Rattle.interval_check.specs.Sums.{entry_of}
 use Rattle.interval_check.proofs.GuaranteeFacts.{bindings_lie_within}
@@ -31,107 +32,67 @@ use Rattle.expr_eval.specs.Rooms.{Room, kinds_of}
 use Rattle.expr_eval.specs.Standing.{IsHeldFor, StandFor}
 use Rattle.flow_eval.specs.Readiness.{CanAnswer, CanWalk, IsAmongDays}
 use Rattle.expr_eval.specs.Trials.{ValueOrMissing, answer_of, value_unless}
-
-itself : (e : Expression) → IsPart e e
-itself (Lit m s) = refl
-itself (Yes b) = refl
-itself (Var back) = refl
-itself (Obs l t) = refl
-itself (Neg a) = inl refl
-itself (Num op a b) = inl refl
-itself (Cmp op a b) = inl refl
-itself (Not a) = inl refl
-itself (Logic op a b) = inl refl
-itself (Cond t a b) = inl refl
-itself (Widen s a) = inl refl
-itself (Round mode s a) = inl refl
-itself (Div mode s a b) = inl refl
-itself (Acc body n first) = inl refl
-
-here : (e : Expression) (g : List Range) → IsPartHere e g e g
-here e g = record { part = itself e; ranges = refl }
+use Rattle.expr_eval.proofs.PartFacts.{here}
 
 -- ---- the parts of a contract
 
-pub ready_hit : (d : Declarations) (e : Expression) (n : Days) (x y : Contract) (room : ℕ) (r : Room) (F : Environment) → CanWalk d (Within e n x y) room r F → CanWalk d x room r F
-ready_hit d e n x y room r F h = record {
+-- one of which all that stands there stands in the contract, that is no higher, and has decimals enough
+part_ready : (d : Declarations) (c part : Contract) (room left : ℕ) (r : Room) (F : Environment) (h : CanWalk d c room r F)
+    → ((e : Expression) (g : List Range) → StandsIn d e g part h.ranges → StandsIn d e g c h.ranges) → ContractMeetsRules d part h.ranges
+    → height_of_contract part ≤ r.spare → scale_of_contract d part (kinds h.values) ≤ left → left ≤ d.amounts → CanWalk d part left r F
+part_ready d c part room left r F h inside rules low fits most = record {
   limits = h.limits;
   whole = h.whole;
   accepted = h.accepted;
   admitted = h.admitted;
   ranges = h.ranges;
-  inside = λ e' g p. h.inside e' g (inr (inl p));
-  rules = record { sorts = h.rules.sorts.1; scales = h.rules.scales.1; bounds = h.rules.bounds.1 };
+  inside = λ e g p. h.inside e g (inside e g p);
+  rules = rules;
   values = h.values;
   places = h.places;
   within = h.within;
   stand = h.stand;
-  low = let l = h.low in omega arith;
-  fits = let l = h.fits in omega arith;
-  most = h.most;
+  low = low;
+  fits = fits;
+  most = most;
 }
 
+pub ready_hit : (d : Declarations) (e : Expression) (n : Days) (x y : Contract) (room : ℕ) (r : Room) (F : Environment) → CanWalk d (Within e n x y) room r F → CanWalk d x room r F
+ready_hit d e n x y room r F h =
+    let low = h.low in
+    let fits = h.fits in
+    part_ready d (Within e n x y) x room room r F h (λ _ _ p. inr (inl p)) (record { sorts = h.rules.sorts.1; scales = h.rules.scales.1; bounds = h.rules.bounds.1 }) (omega arith) (omega arith) h.most
+
 pub ready_miss : (d : Declarations) (e : Expression) (n : Days) (x y : Contract) (room : ℕ) (r : Room) (F : Environment) → CanWalk d (Within e n x y) room r F → CanWalk d y room r F
-ready_miss d e n x y room r F h = record {
-  limits = h.limits;
-  whole = h.whole;
-  accepted = h.accepted;
-  admitted = h.admitted;
-  ranges = h.ranges;
-  inside = λ e' g p. h.inside e' g (inr (inr p));
-  rules = record { sorts = h.rules.sorts.2; scales = h.rules.scales.2; bounds = h.rules.bounds.2 };
-  values = h.values;
-  places = h.places;
-  within = h.within;
-  stand = h.stand;
-  low = let l = h.low in omega arith;
-  fits = let l = h.fits in omega arith;
-  most = h.most;
-}
+ready_miss d e n x y room r F h =
+    let low = h.low in
+    let fits = h.fits in
+    part_ready d (Within e n x y) y room room r F h (λ _ _ p. inr (inr p)) (record { sorts = h.rules.sorts.2; scales = h.rules.scales.2; bounds = h.rules.bounds.2 }) (omega arith) (omega arith) h.most
 
 -- ---- the expressions in it
 
-pub ready_test : (d : Declarations) (e : Expression) (n : Days) (x y : Contract) (room : ℕ) (r : Room) (F : Environment) → CanWalk d (Within e n x y) room r F → CanAnswer d e r F
-ready_test d e n x y room r F h = record {
+expression_ready : (d : Declarations) (e : Expression) (c : Contract) (room : ℕ) (r : Room) (F : Environment) (h : CanWalk d c room r F) → StandsIn d e h.ranges c h.ranges → CanAnswer d e r F
+expression_ready d e c room r F h p = record {
   limits = h.limits;
   whole = h.whole;
   accepted = h.accepted;
   admitted = h.admitted;
   ranges = h.ranges;
-  inside = h.inside e h.ranges (inl (here e h.ranges));
+  inside = h.inside e h.ranges p;
   values = h.values;
   places = h.places;
   within = h.within;
   stand = h.stand;
 }
+
+pub ready_test : (d : Declarations) (e : Expression) (n : Days) (x y : Contract) (room : ℕ) (r : Room) (F : Environment) → CanWalk d (Within e n x y) room r F → CanAnswer d e r F
+ready_test d e n x y room r F h = expression_ready d e (Within e n x y) room r F h (inl (here e h.ranges))
 
 pub ready_factor : (d : Declarations) (e : Expression) (c : Contract) (room : ℕ) (r : Room) (F : Environment) → CanWalk d (Scale e c) room r F → CanAnswer d e r F
-ready_factor d e c room r F h = record {
-  limits = h.limits;
-  whole = h.whole;
-  accepted = h.accepted;
-  admitted = h.admitted;
-  ranges = h.ranges;
-  inside = h.inside e h.ranges (inl (here e h.ranges));
-  values = h.values;
-  places = h.places;
-  within = h.within;
-  stand = h.stand;
-}
+ready_factor d e c room r F h = expression_ready d e (Scale e c) room r F h (inl (here e h.ranges))
 
 pub ready_bound : (d : Declarations) (e : Expression) (c : Contract) (room : ℕ) (r : Room) (F : Environment) → CanWalk d (Let e c) room r F → CanAnswer d e r F
-ready_bound d e c room r F h = record {
-  limits = h.limits;
-  whole = h.whole;
-  accepted = h.accepted;
-  admitted = h.admitted;
-  ranges = h.ranges;
-  inside = h.inside e h.ranges (inl (here e h.ranges));
-  values = h.values;
-  places = h.places;
-  within = h.within;
-  stand = h.stand;
-}
+ready_bound d e c room r F h = expression_ready d e (Let e c) room r F h (inl (here e h.ranges))
 
 -- ---- what an evaluation needs and answers
 
@@ -187,22 +148,11 @@ factor_scale d e F es g bs k s stand known is =
     is ∙ ap (λ (x : Kind). scale_of_kind x) known ∙ scale_known (kind_of d e (kinds_of es)) ∙ ap (λ (ks : List Kind). scale_of d e ks) (kinds_stand F es g bs stand)
 
 pub ready_body : (d : Declarations) (e : Expression) (c : Contract) (room : ℕ) (r : Room) (F : Environment) (s : ℕ) (h : CanWalk d (Scale e c) room r F) → s ≡ scale_of d e (kinds h.values) → CanWalk d c (room - s) r F
-ready_body d e c room r F s h is = record {
-  limits = h.limits;
-  whole = h.whole;
-  accepted = h.accepted;
-  admitted = h.admitted;
-  ranges = h.ranges;
-  inside = λ e' g p. h.inside e' g (inr p);
-  rules = record { sorts = h.rules.sorts.1; scales = h.rules.scales.1; bounds = h.rules.bounds.1 };
-  values = h.values;
-  places = h.places;
-  within = h.within;
-  stand = h.stand;
-  low = let l = h.low in omega arith;
-  fits = let l = h.fits in omega arith;
-  most = let l = h.most in omega arith;
-}
+ready_body d e c room r F s h is =
+    let low = h.low in
+    let fits = h.fits in
+    let most = h.most in
+    part_ready d (Scale e c) c room (room - s) r F h (λ _ _ p. inr p) (record { sorts = h.rules.sorts.1; scales = h.rules.scales.1; bounds = h.rules.bounds.1 }) (omega arith) (omega arith) (omega arith)
 
 pub factor_fits : (d : Declarations) (e : Expression) (c : Contract) (room : ℕ) (r : Room) (F : Environment) (s : ℕ) (h : CanWalk d (Scale e c) room r F) → s ≡ scale_of d e (kinds h.values) → s ≤ room
 factor_fits d e c room r F s h is = let l = h.fits in omega arith

@@ -6,4 +6,4 @@ pub mod Walks
 pub mod Readiness
 pub mod Gathering
 pub mod FlowAnswers
-pub mod SharedWalks
+pub mod WalkAnswers

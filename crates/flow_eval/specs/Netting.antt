@@ -22,7 +22,9 @@ taken_in sum p = if same_slot sum.slot p.slot then joined sum p else p
 -- a sum in the direction in which it is positive
 abbrev pub row_of : Payment → FlowRow
 row_of p =
-    if int_lt (pos 0) p.amount then record { day = p.slot.day; asset = p.slot.asset; from = p.slot.lower; to = p.slot.higher; amount = p.amount } else record { day = p.slot.day; asset = p.slot.asset; from = p.slot.higher; to = p.slot.lower; amount = neg_ℤ p.amount }
+    if int_lt (pos 0) p.amount
+    then record { day = p.slot.day; asset = p.slot.asset; from = p.slot.lower; to = p.slot.higher; amount = p.amount }
+    else record { day = p.slot.day; asset = p.slot.asset; from = p.slot.higher; to = p.slot.lower; amount = neg_ℤ p.amount }
 
 -- the row of a sum, if it is not 0
 abbrev pub closed : Payment → List FlowRow
@@ -32,6 +34,10 @@ closed p = if int_eq p.amount (pos 0) then [] else row_of p ∷ []
 abbrev pub rows_from : Payment → List Payment → List FlowRow
 rows_from sum [] = closed sum
 rows_from sum (p ∷ ps) = if same_slot sum.slot p.slot then rows_from (joined sum p) ps else closed sum ++ rows_from p ps
+
+-- taking in a payment changes no row: those written and those to come are the same, whatever follows
+abbrev pub TakesIn : Payment → Payment → Payment → List FlowRow → List FlowRow → Type 0
+TakesIn p sum next before after = (rest : List Payment) → after ++ rows_from next rest ≡ before ++ rows_from sum (p ∷ rest)
 
 abbrev pub rows_of : List Payment → List FlowRow
 rows_of [] = []

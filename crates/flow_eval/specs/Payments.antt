@@ -1,21 +1,30 @@
 -- The single payments of a contract up to a last day, on the path that its tests choose: each transfer between two
 -- different parties, on its day and times the factors round it, before any is netted against another. Amounts are in
 -- units of so many decimals: a part of a contract has those of the whole less the decimals of the factors round it.
-use Rattle.std.specs.Prelude.{ℕ, ℤ, pos, neg_ℤ, ◌+ℤ◌, ◌*ℤ◌, ◌-◌, ◌==◌, ◌||◌, int_lt, nat_lt, min, max, map, Bool, true, false, List, [], ◌∷◌, ◌++◌, Some, None, if◌then◌else◌}
+use Rattle.std.specs.Prelude.{ℕ, ℤ, pos, neg_ℤ, ◌+ℤ◌, ◌*ℤ◌, ◌-◌, ◌^◌, ◌≤◌, ◌==◌, ◌||◌, unsigned_abs, int_lt, nat_lt, min, max, map, Bool, true, false, List, [], ◌∷◌, ◌++◌, Some, None, if◌then◌else◌}
+use Rattle.std.specs.List.{All}
 use Rattle.decimal.specs.Rounding.{raised}
 use Rattle.term_core.specs.Declarations.{Declarations}
 use Rattle.term_core.specs.Terms.{Contract, Zero, Pay, Both, Scale, After, Let, Within}
 use Rattle.term_core.specs.Environments.{Environment}
-use Rattle.term_core.specs.Kinds.{kind_of, scale_of}
-use Rattle.term_core.specs.Values.{Entry, kinds, num, kind_or, value_of, first_true}
+use Rattle.term_core.specs.Kinds.{scale_of}
+use Rattle.term_core.specs.Values.{Entry, kinds, num, value_of, first_true}
 use Rattle.term_core.specs.Flows.{count_of}
+use Rattle.interval_check.specs.Sums.{entry_of}
 use Rattle.flow_eval.specs.declared.payments.Payment.{Payment}
 use Rattle.flow_eval.specs.declared.payments.Transfer.{Transfer}
 
 -- a transfer between two parties, seen from the lower one
 abbrev pub payment_on : ℤ → Transfer → ℤ → Payment
 payment_on day t m =
-    record { slot = record { day = day; asset = t.asset; lower = min t.from t.to; higher = max t.from t.to }; amount = if nat_lt t.from t.to then m else neg_ℤ m }
+    record {
+      slot = record { day = day; asset = t.asset; lower = min t.from t.to; higher = max t.from t.to };
+      amount = if nat_lt t.from t.to then m else neg_ℤ m;
+    }
+
+-- no amount of a contract's payment is larger
+abbrev pub IsPayable : ℤ → Type 0
+IsPayable m = unsigned_abs m ≤ 10 ^ 30
 
 -- the payment of an amount, if it counts
 abbrev pub paid : ℤ → ℤ → Transfer → ℤ → List Payment
@@ -24,6 +33,9 @@ paid last day t m = if int_lt last day || (t.from == t.to) then [] else payment_
 -- a payment times a factor
 abbrev pub times : ℤ → Payment → Payment
 times v p = record p { amount = p.amount *ℤ v }
+
+abbrev pub CanBeMultiplied : ℤ → List Payment → Type 0
+CanBeMultiplied v ps = All (λ p. IsPayable (p.amount *ℤ v)) ps
 
 abbrev pub multiplied : ℤ → List Payment → List Payment
 multiplied v ps = map (times v) ps
@@ -40,8 +52,7 @@ payments_of d room (Both x y) g env f last = payments_of d room x g env f last +
 payments_of d room (Scale e c) g env f last =
     multiplied (num (value_of d e g env f)) (payments_of d (room - scale_of d e (kinds g)) c g env f last)
 payments_of d room (After n c) g env f last = payments_of d room c g env (f +ℤ pos (count_of n)) last
-payments_of d room (Let e c) g env f last =
-    payments_of d room c (record { value = value_of d e g env f; kind = kind_or (kind_of d e (kinds g)) } ∷ g) env f last
+payments_of d room (Let e c) g env f last = payments_of d room c (entry_of d e g env f ∷ g) env f last
 payments_of d room (Within e n x y) g env f last =
     elim (first_true d e g env f (count_of n)) [
       | Some k ↦ payments_of d room x g env (f +ℤ pos k) last

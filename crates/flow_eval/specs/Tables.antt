@@ -17,7 +17,8 @@ slot_of row = record { day = row.day; asset = row.asset; lower = min row.from ro
 -- one slot before another: by day, by asset, by lower party and by higher party
 abbrev pub Precedes : Slot → Slot → Type 0
 Precedes a b =
-    (a.day <ℤ b.day) ⊎ ((a.day ≡ b.day) × ((a.asset < b.asset) ⊎ ((a.asset ≡ b.asset) × ((a.lower < b.lower) ⊎ ((a.lower ≡ b.lower) × (a.higher < b.higher))))))
+    (a.day <ℤ b.day) ⊎ ((a.day ≡ b.day) × ((a.asset < b.asset) ⊎ ((a.asset ≡ b.asset)
+    × ((a.lower < b.lower) ⊎ ((a.lower ≡ b.lower) × (a.higher < b.higher))))))
 
 -- each row stands before all that follow
 abbrev pub AreOrdered : List FlowRow → Type 0
@@ -38,9 +39,13 @@ pub record IsPaid (pays : ℤ → Flow → ℤ) (first last : ℤ) (row : FlowRo
   pub some : pos 0 <ℤ row.amount
   pub exact : row.amount ≡ pays row.day (flow_in row)
 
+-- an amount that a line can hold
+abbrev pub FitsLine : ℤ → Type 0
+FitsLine amount = unsigned_abs amount ≤ 10 ^ 36
+
 -- a row on a day from the first to the last, of an amount that its line can hold
 abbrev pub IsDueRow : ℤ → ℤ → FlowRow → Type 0
-IsDueRow first last row = (first ≤ℤ row.day) × (row.day ≤ℤ last) × (unsigned_abs row.amount ≤ 10 ^ 36)
+IsDueRow first last row = (first ≤ℤ row.day) × (row.day ≤ℤ last) × FitsLine row.amount
 
 -- the rows are the table of what is paid on a day from one party to another in an asset
 pub record IsTable (pays : ℤ → Flow → ℤ) (first last : ℤ) (rows : List FlowRow) : Type 0 where
@@ -55,4 +60,5 @@ paid_by d c env first day w = amount_of d c env first (day -ℤ first) w
 -- there is one table
 abbrev pub TablesAreOne : Type 0
 TablesAreOne =
-    (pays : ℤ → Flow → ℤ) (first last : ℤ) (one other : List FlowRow) → IsTable pays first last one → IsTable pays first last other → one ≡ other
+    (pays : ℤ → Flow → ℤ) (first last : ℤ) (one other : List FlowRow)
+    → IsTable pays first last one → IsTable pays first last other → one ≡ other

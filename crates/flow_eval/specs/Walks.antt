@@ -7,10 +7,11 @@ use Rattle.term_core.specs.Declarations.{Declarations}
 use Rattle.term_core.specs.declared.values.Missing.{Missing}
 use Rattle.term_core.specs.Terms.{Contract, Zero, Pay, Both, Scale, After, Let, Within}
 use Rattle.term_core.specs.Environments.{Environment, Place}
-use Rattle.term_core.specs.Kinds.{kind_of, scale_of}
-use Rattle.term_core.specs.Values.{Entry, kinds, num, kind_or, value_of}
+use Rattle.term_core.specs.Kinds.{scale_of}
+use Rattle.term_core.specs.Values.{Entry, kinds, num}
 use Rattle.term_core.specs.Flows.{count_of}
 use Rattle.term_core.specs.Reads.{reads_of}
+use Rattle.interval_check.specs.Sums.{entry_of}
 use Rattle.expr_eval.specs.Trials.{DayOrMissing, ValueOrMissing, answer_of, first_tried, missing_at}
 use Rattle.flow_eval.specs.declared.payments.Payment.{Payment}
 use Rattle.flow_eval.specs.Payments.{multiplied, paid}
@@ -54,7 +55,7 @@ walk_of d room (Scale e c) g bs fixings f last =
     then_factor (walk_of d (room - scale_of d e (kinds g)) c g bs fixings f last) (answer_of d e g bs fixings f)
 walk_of d room (After n c) g bs fixings f last = walk_of d room c g bs fixings (f +ℤ pos (count_of n)) last
 walk_of d room (Let e c) g bs fixings f last =
-    walk_of d room c (record { value = value_of d e g fixings f; kind = kind_or (kind_of d e (kinds g)) } ∷ g) (reads_of d e g bs fixings f ∷ bs) fixings f last
+    walk_of d room c (entry_of d e g fixings f ∷ g) (reads_of d e g bs fixings f ∷ bs) fixings f last
 walk_of d room (Within e n x y) g bs fixings f last =
     if int_lt last f then Ok [] else
     then_branch (first_tried (days_to_try last f (count_of n)) (λ i. answer_of d e g bs fixings (f +ℤ pos i))) last f (count_of n)

@@ -1,8 +1,9 @@
 //! Payments, netted slot by slot.
 
-ghost use Rattle.std.specs.Prelude.{◌≡◌, ◌≤◌, ◌^◌, ◌++◌, List, OnOk, IfOk, [], ◌∷◌, unsigned_abs};
+ghost use Rattle.std.specs.Prelude.{◌≡◌, ◌++◌, OnOk, IfOk};
 ghost use Rattle.std.specs.List.Sorted.{IsPermutation};
-ghost use Rattle.flow_eval.specs.Netting.{AreInOrder, CanBeNetted, Nets, closed, joined, row_of, rows_from, rows_of, same_slot, taken_in};
+ghost use Rattle.flow_eval.specs.Tables.{FitsLine};
+ghost use Rattle.flow_eval.specs.Netting.{AreInOrder, CanBeNetted, Nets, TakesIn, closed, joined, row_of, rows_of, same_slot, taken_in};
 
 use crate::flow_table::{FlowRow, FlowTable, Slot};
 use crate::payments::{Payment, opposite};
@@ -17,8 +18,8 @@ fn same_slot(a: &Slot, b: &Slot) -> bool
 
 // A sum, and a further payment at its slot.
 fn joined(sum: Payment, payment: &Payment) -> Payment
-    requires sum { unsigned_abs sum.amount ≤ 10 ^ 36 }
-    requires payment { unsigned_abs payment.now.amount ≤ 10 ^ 36 }
+    requires sum { FitsLine sum.amount }
+    requires payment { FitsLine payment.now.amount }
     ensures { result ≡ joined sum payment.now }
 {
     Payment {
@@ -29,7 +30,7 @@ fn joined(sum: Payment, payment: &Payment) -> Payment
 
 // A sum in the direction in which it is positive.
 fn row_of(sum: Payment) -> FlowRow
-    requires { unsigned_abs sum.amount ≤ 10 ^ 36 }
+    requires { FitsLine sum.amount }
     ensures { result ≡ row_of sum }
 {
     let Slot {
@@ -59,7 +60,7 @@ fn row_of(sum: Payment) -> FlowRow
 
 // Appends the row of a sum, if it is not 0.
 fn close(rows: &mut Vec<FlowRow>, sum: Payment) -> Result<(), NoMemory>
-    requires { unsigned_abs sum.amount ≤ 10 ^ 36 }
+    requires { FitsLine sum.amount }
     ensures { OnOk result (rows.new.items ≡ rows.old.items ++ closed sum) }
 {
     if sum.amount != 0 {
@@ -70,9 +71,9 @@ fn close(rows: &mut Vec<FlowRow>, sum: Payment) -> Result<(), NoMemory>
 
 // Joins a payment to the open sum, or closes that and opens the next.
 fn take_in(rows: &mut Vec<FlowRow>, sum: Payment, payment: &Payment) -> Result<Payment, NoMemory>
-    requires sum { unsigned_abs sum.amount ≤ 10 ^ 36 }
-    requires payment { unsigned_abs payment.now.amount ≤ 10 ^ 36 }
-    ensures rows { IfOk result (λ next. (rest : List Payment) → rows.new.items ++ rows_from next rest ≡ rows.old.items ++ rows_from sum (payment.now ∷ rest)) }
+    requires sum { FitsLine sum.amount }
+    requires payment { FitsLine payment.now.amount }
+    ensures rows { IfOk result (λ next. TakesIn payment.now sum next rows.old.items rows.new.items) }
     ensures next { IfOk result (λ next. next ≡ taken_in sum payment.now) }
 {
     if same_slot(&sum.slot, &payment.slot) {

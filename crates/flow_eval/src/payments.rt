@@ -1,8 +1,8 @@
 //! Single payments.
 
-ghost use Rattle.std.specs.Prelude.{◌≡◌, ◌≤◌, ◌*ℤ◌, ◌^◌, ◌++◌, neg_ℤ, unsigned_abs, OnOk, length, take, drop};
-ghost use Rattle.std.specs.List.{All};
-ghost use Rattle.flow_eval.specs.Payments.{multiplied, paid, payment_on, times};
+ghost use Rattle.std.specs.Prelude.{◌≡◌, ◌≤◌, ◌*ℤ◌, ◌++◌, neg_ℤ, OnOk, length, take, drop};
+ghost use Rattle.flow_eval.specs.Tables.{FitsLine};
+ghost use Rattle.flow_eval.specs.Payments.{CanBeMultiplied, IsPayable, multiplied, paid, payment_on, times};
 
 use crate::flow_table::Slot;
 use decimal::NoMemory;
@@ -24,7 +24,7 @@ pub struct Payment {
 
 /// The negative of an amount.
 pub fn opposite(amount: i128) -> i128
-    requires { unsigned_abs amount ≤ 10 ^ 36 }
+    requires { FitsLine amount }
     ensures { result ≡ neg_ℤ amount }
 {
     -amount
@@ -32,7 +32,7 @@ pub fn opposite(amount: i128) -> i128
 
 /// The payment of an amount by a transfer on a day.
 pub fn payment_on(day: i64, transfer: Transfer, amount: i128) -> Payment
-    requires { unsigned_abs amount ≤ 10 ^ 30 }
+    requires { IsPayable amount }
     ensures { result ≡ payment_on day transfer amount }
 {
     Payment {
@@ -58,7 +58,7 @@ pub fn pay(
     transfer: Transfer,
     amount: i128,
 ) -> Result<(), NoMemory>
-    requires { unsigned_abs amount ≤ 10 ^ 30 }
+    requires { IsPayable amount }
     ensures { OnOk result (out.new.items ≡ out.old.items ++ paid until day transfer amount) }
 {
     if until < day || transfer.from == transfer.to {
@@ -70,7 +70,7 @@ pub fn pay(
 
 // A payment times a factor.
 fn times(payment: Payment, factor: i128) -> Payment
-    requires { unsigned_abs (payment.amount *ℤ factor) ≤ 10 ^ 30 }
+    requires { IsPayable (payment.amount *ℤ factor) }
     ensures { result ≡ times factor payment }
 {
     Payment {
@@ -81,7 +81,7 @@ fn times(payment: Payment, factor: i128) -> Payment
 
 // Multiplies payments by a factor.
 fn multiply(payments: &mut [Payment], factor: i128)
-    requires { All (λ p. unsigned_abs (p.amount *ℤ factor) ≤ 10 ^ 30) payments.old }
+    requires { CanBeMultiplied factor payments.old }
     ensures { payments.new ≡ multiplied factor payments.old }
 {
     for payment in payments.iter_mut() {
@@ -92,7 +92,7 @@ fn multiply(payments: &mut [Payment], factor: i128)
 /// Multiplies the payments from the one at `first` on by a factor.
 pub fn multiply_from(out: &mut Vec<Payment>, first: usize, factor: i128)
     requires first { first ≤ length out.old.items }
-    requires small { All (λ p. unsigned_abs (p.amount *ℤ factor) ≤ 10 ^ 30) (drop first out.old.items) }
+    requires small { CanBeMultiplied factor (drop first out.old.items) }
     ensures { out.new.items ≡ take first out.old.items ++ multiplied factor (drop first out.old.items) }
 {
     multiply(&mut out[first..], factor);

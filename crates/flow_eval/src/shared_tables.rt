@@ -1,13 +1,12 @@
 //! The flow tables of contracts with shared parts.
 
-ghost use Rattle.std.specs.Prelude.{◌≤ℤ◌, pos, []};
+ghost use Rattle.std.specs.Prelude.{◌≤ℤ◌, pos};
 ghost use Rattle.term_core.specs.Declarations.{declarations};
 ghost use Rattle.term_core.specs.Environments.{IsAdmitted};
 ghost use Rattle.term_core.specs.Acceptance.{IsAccepted};
 ghost use Rattle.term_core.specs.SharedTerms.{shared};
-ghost use Rattle.flow_eval.specs.Walks.{walk_of};
-ghost use Rattle.flow_eval.specs.Gathering.{IsGathered};
 ghost use Rattle.flow_eval.specs.FlowAnswers.{AreFlows};
+ghost use Rattle.flow_eval.specs.WalkAnswers.{ArePaymentsOf};
 
 use crate::faults::FlowErr;
 use crate::flow_table::FlowTable;
@@ -32,8 +31,7 @@ fn payments_shared(
     requires admitted { IsAdmitted (declarations course.now.decls.now) course.now.fixings.now }
     requires first { pos 0 ≤ℤ frame }
     requires last { frame ≤ℤ pos 1_000_000 }
-    ensures { IsGathered (walk_of (declarations course.now.decls.now) course.now.decls.now.amounts (shared s.now) [] []
-        course.now.fixings.now frame course.now.until) result }
+    ensures { ArePaymentsOf course.now (shared s.now) frame result }
 {
     let mut payments = Vec::new(alloc);
     let mut scratch = Scratch::for_height(alloc, 200)?;

@@ -4,16 +4,13 @@
 ghost use Rattle.std.specs.Prelude.{◌≡◌, ◌≤◌, ◌+◌, ◌^◌, ◌≤ℤ◌, ◌+ℤ◌, ℤ, max, unsigned_abs};
 ghost use Rattle.term_core.specs.Declarations.{declarations};
 ghost use Rattle.term_core.specs.Terms.{expression, Scale, Let, Within};
-ghost use Rattle.term_core.specs.Kinds.{kind_of};
-ghost use Rattle.term_core.specs.Values.{kind_or};
 ghost use Rattle.term_core.specs.Shifts.{shifted};
 ghost use Rattle.term_core.specs.Sizes.{reach};
 ghost use Rattle.term_core.specs.declared.terms.Days.TheVariants.{Num as Count};
 ghost use Rattle.term_core.specs.SharedTerms.{shared};
 ghost use Rattle.expr_eval.specs.Evaluable.{MayEvaluate};
-ghost use Rattle.expr_eval.specs.Rooms.{kinds_of};
-ghost use Rattle.flow_eval.specs.Readiness.{CanAnswer, IsAmongDays};
-ghost use Rattle.flow_eval.specs.SharedWalks.{IsAnswerFor, MayWalk, Notes};
+ghost use Rattle.flow_eval.specs.Readiness.{IsAmongDays};
+ghost use Rattle.flow_eval.specs.WalkAnswers.{IsAnswerFor, MayAnswer, MayWalk, Notes, kind_among};
 
 use crate::faults::FlowErr;
 use crate::payments::{Payment, Transfer, multiply_from, pay};
@@ -25,8 +22,7 @@ use term_core::{Expr, Kind, Missing, SharedContr, Value};
 // The kind of an expression as it is stored, which is its kind however many days later it is read.
 fn kind_stored(course: &Course, e: &Expr, scratch: &Scratch) -> Kind
     requires place { MayEvaluate (declarations course.now.decls.now) (expression e.now) scratch.now.entries }
-    ensures { (moved : ℤ) → result ≡ kind_or (kind_of (declarations course.now.decls.now)
-        (shifted moved (expression e.now)) (kinds_of scratch.now.entries)) }
+    ensures { (moved : ℤ) → result ≡ kind_among course.now (shifted moved (expression e.now)) scratch.now }
 {
     kind_of(course.decls, e, scratch)
 }
@@ -49,7 +45,7 @@ fn value_moved(
     scratch: &mut Scratch,
     here: Standing,
 ) -> Result<Value, Missing>
-    requires ready { CanAnswer (declarations course.now.decls.now) (shifted moved (expression e.now)) scratch.old course.now.fixings.now }
+    requires ready { MayAnswer course.now (shifted moved (expression e.now)) scratch.old }
     requires day { IsAmongDays here.day 0 }
     ensures answer { IsAnswerFor course.now (shifted moved (expression e.now)) here scratch.old result }
     ensures same { scratch.new ≡ scratch.old }

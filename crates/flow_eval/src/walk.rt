@@ -1,19 +1,11 @@
 //! The walk over a contract that notes its payments.
 
-ghost use Rattle.std.specs.Prelude.{◌≡◌, ◌≤◌, ◌<◌, ◌+◌, ◌-◌, ◌≤ℤ◌, ◌+ℤ◌, ◌-ℤ◌, pos, min, max, unsigned_abs, List, Ok, Some, None, IfOk, int_lt};
-ghost use Rattle.term_core.specs.Declarations.{declarations};
+ghost use Rattle.std.specs.Prelude.{◌≡◌, ◌≤◌, ◌+◌, ◌-◌, ◌≤ℤ◌, ◌+ℤ◌, ◌-ℤ◌, pos, min, max, unsigned_abs, IfOk, int_lt};
 ghost use Rattle.term_core.specs.Terms.{contract, expression, Scale, Let, Within};
-ghost use Rattle.term_core.specs.Environments.{Place};
-ghost use Rattle.term_core.specs.Kinds.{kind_of, scale_of_kind};
-ghost use Rattle.term_core.specs.Values.{Entry, kind_or, num, truth};
 ghost use Rattle.term_core.specs.Flows.{count_of};
 ghost use Rattle.term_core.specs.Sizes.{reach};
-ghost use Rattle.expr_eval.specs.Rooms.{kinds_of};
-ghost use Rattle.expr_eval.specs.Standing.{StandFor};
-ghost use Rattle.expr_eval.specs.Trials.{answer_of, first_tried};
-ghost use Rattle.flow_eval.specs.Walks.{days_to_try, walk_of};
-ghost use Rattle.flow_eval.specs.Readiness.{CanAnswer, CanWalk, IsAmongDays, IsUpTo};
-ghost use Rattle.flow_eval.specs.Gathering.{Gathers};
+ghost use Rattle.flow_eval.specs.Readiness.{IsAmongDays, IsUpTo};
+ghost use Rattle.flow_eval.specs.WalkAnswers.{IsAnswerFor, IsFirstDayFor, MayAnswer, MayWalk, Notes, kind_among};
 
 use crate::faults::FlowErr;
 use crate::payments::{Payment, Transfer, multiply_from, pay};
@@ -63,8 +55,8 @@ impl Standing {
 
 // The kind of an expression.
 fn kind_at(course: &Course, e: &Expr, scratch: &Scratch) -> Kind
-    requires ready { CanAnswer (declarations course.now.decls.now) (expression e.now) scratch.now course.now.fixings.now }
-    ensures { result ≡ kind_or (kind_of (declarations course.now.decls.now) (expression e.now) (kinds_of scratch.now.entries)) }
+    requires ready { MayAnswer course.now (expression e.now) scratch.now }
+    ensures { result ≡ kind_among course.now (expression e.now) scratch.now }
 {
     kind_of(course.decls, e, scratch)
 }
@@ -76,9 +68,9 @@ fn value_at(
     scratch: &mut Scratch,
     here: Standing,
 ) -> Result<Value, Missing>
-    requires ready { CanAnswer (declarations course.now.decls.now) (expression e.now) scratch.old course.now.fixings.now }
+    requires ready { MayAnswer course.now (expression e.now) scratch.old }
     requires day { IsAmongDays here.day 0 }
-    ensures answer { (g : List Entry) (bs : List (List Place)) → StandFor course.now.fixings.now scratch.old.entries g bs → result ≡ answer_of (declarations course.now.decls.now) (expression e.now) g bs course.now.fixings.now here.day }
+    ensures answer { IsAnswerFor course.now (expression e.now) here scratch.old result }
     ensures same { scratch.new ≡ scratch.old }
 {
     eval(course.decls, e, scratch, course.fixings, here.day)
@@ -112,10 +104,10 @@ pub fn first_day(
     here: Standing,
     days: u32,
 ) -> Result<Option<u32>, Missing>
-    requires ready { CanAnswer (declarations course.now.decls.now) (expression test.now) scratch.old course.now.fixings.now }
+    requires ready { MayAnswer course.now (expression test.now) scratch.old }
     requires days { IsAmongDays here.day days }
     requires in_time { here.day ≤ℤ course.now.until }
-    ensures answer { (g : List Entry) (bs : List (List Place)) → StandFor course.now.fixings.now scratch.old.entries g bs → result ≡ first_tried (days_to_try course.now.until here.day days) (λ i. answer_of (declarations course.now.decls.now) (expression test.now) g bs course.now.fixings.now (here.day +ℤ pos i)) }
+    ensures answer { IsFirstDayFor course.now (expression test.now) here scratch.old days result }
     ensures found { IfOk result (λ first. IsUpTo first days) }
     ensures same { scratch.new ≡ scratch.old }
 {
@@ -140,9 +132,9 @@ pub fn gather(
     here: Standing,
     c: &Contr,
 ) -> Result<(), FlowErr>
-    requires ready { CanWalk (declarations course.now.decls.now) (contract c.now) here.decimals scratch.old course.now.fixings.now }
+    requires ready { MayWalk course.now (contract c.now) here scratch.old }
     requires days { IsAmongDays here.day (reach (contract c.now)) }
-    ensures answer { (g : List Entry) (bs : List (List Place)) → StandFor course.now.fixings.now scratch.old.entries g bs → Gathers (walk_of (declarations course.now.decls.now) here.decimals (contract c.now) g bs course.now.fixings.now here.day course.now.until) out.old.items out.new.items result }
+    ensures answer { Notes course.now (contract c.now) here scratch.old out.old.items out.new.items result }
     ensures same { scratch.new ≡ scratch.old }
 {
     if is_over(course, here) {
@@ -189,10 +181,11 @@ fn gather_within(
     hit: &Contr,
     miss: &Contr,
 ) -> Result<(), FlowErr>
-    requires ready { CanWalk (declarations course.now.decls.now) (Within (expression test.now) days.now (contract hit.now) (contract miss.now)) here.decimals scratch.old course.now.fixings.now }
+    requires ready { MayWalk course.now (Within (expression test.now) days.now (contract hit.now) (contract miss.now)) here scratch.old }
     requires days { IsAmongDays here.day (count_of days.now + max (reach (contract hit.now)) (reach (contract miss.now))) }
     requires in_time { here.day ≤ℤ course.now.until }
-    ensures answer { (g : List Entry) (bs : List (List Place)) → StandFor course.now.fixings.now scratch.old.entries g bs → Gathers (walk_of (declarations course.now.decls.now) here.decimals (Within (expression test.now) days.now (contract hit.now) (contract miss.now)) g bs course.now.fixings.now here.day course.now.until) out.old.items out.new.items result }
+    ensures answer { Notes course.now (Within (expression test.now) days.now (contract hit.now) (contract miss.now)) here scratch.old
+        out.old.items out.new.items result }
     ensures same { scratch.new ≡ scratch.old }
 {
     let days = days.number();
@@ -212,9 +205,10 @@ fn gather_scaled(
     factor: &Expr,
     body: &Contr,
 ) -> Result<(), FlowErr>
-    requires ready { CanWalk (declarations course.now.decls.now) (Scale (expression factor.now) (contract body.now)) here.decimals scratch.old course.now.fixings.now }
+    requires ready { MayWalk course.now (Scale (expression factor.now) (contract body.now)) here scratch.old }
     requires days { IsAmongDays here.day (reach (contract body.now)) }
-    ensures answer { (g : List Entry) (bs : List (List Place)) → StandFor course.now.fixings.now scratch.old.entries g bs → Gathers (walk_of (declarations course.now.decls.now) here.decimals (Scale (expression factor.now) (contract body.now)) g bs course.now.fixings.now here.day course.now.until) out.old.items out.new.items result }
+    ensures answer { Notes course.now (Scale (expression factor.now) (contract body.now)) here scratch.old
+        out.old.items out.new.items result }
     ensures same { scratch.new ≡ scratch.old }
 {
     let scale = kind_at(course, factor, scratch).scale();
@@ -238,9 +232,10 @@ fn gather_bound(
     bound: &Expr,
     body: &Contr,
 ) -> Result<(), FlowErr>
-    requires ready { CanWalk (declarations course.now.decls.now) (Let (expression bound.now) (contract body.now)) here.decimals scratch.old course.now.fixings.now }
+    requires ready { MayWalk course.now (Let (expression bound.now) (contract body.now)) here scratch.old }
     requires days { IsAmongDays here.day (reach (contract body.now)) }
-    ensures answer { (g : List Entry) (bs : List (List Place)) → StandFor course.now.fixings.now scratch.old.entries g bs → Gathers (walk_of (declarations course.now.decls.now) here.decimals (Let (expression bound.now) (contract body.now)) g bs course.now.fixings.now here.day course.now.until) out.old.items out.new.items result }
+    ensures answer { Notes course.now (Let (expression bound.now) (contract body.now)) here scratch.old
+        out.old.items out.new.items result }
     ensures same { scratch.new ≡ scratch.old }
 {
     let kind = kind_at(course, bound, scratch);

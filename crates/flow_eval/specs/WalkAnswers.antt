@@ -1,0 +1,58 @@
+-- What a walk over a contract needs and answers, by the course that it takes and where the contract stands: the walk of
+-- `Walks`, for all values and places that the entries of the names round it stand for.
+use Rattle.std.specs.Prelude.{◌≡◌, ℕ, ℤ, pos, ◌+ℤ◌, List, [], Result}
+use Rattle.std.specs.Global.{Vec}
+use Rattle.term_core.specs.Declarations.{declarations}
+use Rattle.term_core.specs.Terms.{Expression, Contract}
+use Rattle.term_core.specs.Environments.{Place}
+use Rattle.term_core.specs.declared.values.Kind.{Kind}
+use Rattle.term_core.specs.Kinds.{kind_of}
+use Rattle.term_core.specs.Values.{Entry, kind_or}
+use Rattle.expr_eval.specs.Rooms.{Room, kinds_of}
+use Rattle.expr_eval.specs.Standing.{StandFor}
+use Rattle.expr_eval.specs.Trials.{DayOrMissing, ValueOrMissing, answer_of, first_tried}
+use Rattle.flow_eval.specs.declared.faults.FlowErr.{FlowErr}
+use Rattle.flow_eval.specs.declared.payments.Payment.{Payment}
+use Rattle.flow_eval.specs.declared.walk.Course.{Course}
+use Rattle.flow_eval.specs.declared.walk.Standing.{Standing}
+use Rattle.flow_eval.specs.Walks.{days_to_try, walk_of}
+use Rattle.flow_eval.specs.Readiness.{CanAnswer, CanWalk}
+use Rattle.flow_eval.specs.Gathering.{Gathers, IsGathered}
+
+-- a contract can be walked where it stands
+abbrev pub MayWalk : Course → Contract → Standing → Room → Type 0
+MayWalk course c here r = CanWalk (declarations course.decls.now) c here.decimals r course.fixings.now
+
+-- an expression can be answered among the entries
+abbrev pub MayAnswer : Course → Expression → Room → Type 0
+MayAnswer course e r = CanAnswer (declarations course.decls.now) e r course.fixings.now
+
+-- its kind
+abbrev pub kind_among : Course → Expression → Room → Kind
+kind_among course e r = kind_or (kind_of (declarations course.decls.now) e (kinds_of r.entries))
+
+-- an expression that stands there has this value, or lacks this place
+abbrev pub IsAnswerFor : Course → Expression → Standing → Room → ValueOrMissing → Type 0
+IsAnswerFor course e here r answer =
+    (g : List Entry) (bs : List (List Place)) → StandFor course.fixings.now r.entries g bs
+    → answer ≡ answer_of (declarations course.decls.now) e g bs course.fixings.now here.day
+
+-- the first day on which a test that stands there is true, of so many days behind the first and up to the last that
+-- counts; or the place that it lacks before
+abbrev pub IsFirstDayFor : Course → Expression → Standing → Room → ℕ → DayOrMissing → Type 0
+IsFirstDayFor course test here r days answer =
+    (g : List Entry) (bs : List (List Place)) → StandFor course.fixings.now r.entries g bs
+    → answer ≡ first_tried (days_to_try course.until here.day days)
+        (λ i. answer_of (declarations course.decls.now) test g bs course.fixings.now (here.day +ℤ pos i))
+
+-- the payments of the walk are noted behind those before, or the place that it lacks is answered
+abbrev pub Notes : Course → Contract → Standing → Room → List Payment → List Payment → Result (Unit {0}) FlowErr → Type 0
+Notes course c here r before after result =
+    (g : List Entry) (bs : List (List Place)) → StandFor course.fixings.now r.entries g bs
+    → Gathers (walk_of (declarations course.decls.now) here.decimals c g bs course.fixings.now here.day course.until) before after result
+
+-- the payments of a contract that stands on a day, at the portfolio's decimals, or the place that it lacks
+abbrev pub ArePaymentsOf : Course → Contract → ℤ → Result (Vec Payment) FlowErr → Type 0
+ArePaymentsOf course c frame result =
+    IsGathered
+    (walk_of (declarations course.decls.now) course.decls.now.amounts c [] [] course.fixings.now frame course.until) result
