@@ -27,7 +27,8 @@ line_feed = 10 ∷ []
 -- of a named contract with these facts, in a portfolio of so many decimals
 abbrev pub accepted_line : ℕ → List ℕ → Option ℤ → ℕ → ℤ → ℕ → List ℕ
 accepted_line amounts name start scale total horizon =
-    name ++ (codes " accepted start " ++ (start_text start ++ (codes " scale " ++ (number_text scale ++ (codes " total " ++ (text_of total amounts ++ (codes " horizon " ++ (number_text horizon ++ line_feed))))))))
+    name ++ (codes " accepted start " ++ (start_text start ++ (codes " scale " ++ (number_text scale
+    ++ (codes " total " ++ (text_of total amounts ++ (codes " horizon " ++ (number_text horizon ++ line_feed))))))))
 
 -- which rule refuses a contract, and at which node
 abbrev pub refusal_text : Rule → ℕ → List ℕ

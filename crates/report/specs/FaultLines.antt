@@ -41,10 +41,13 @@ abbrev pub fault_text : Fault → List ℕ
 fault_text Usage = codes "fault usage" ++ line_feed
 fault_text (Read place) = codes "fault read " ++ (number_text place ++ line_feed)
 fault_text (TooLong place) = codes "fault too long " ++ (number_text place ++ line_feed)
-fault_text (Text f) = codes "fault text " ++ (kind_text f.kind ++ (codes " line " ++ (number_text f.line ++ (codes " column " ++ (number_text f.column ++ line_feed)))))
+fault_text (Text f) =
+    codes "fault text " ++ (kind_text f.kind
+    ++ (codes " line " ++ (number_text f.line ++ (codes " column " ++ (number_text f.column ++ line_feed)))))
 fault_text (Refused name rule node) = codes "fault refused " ++ (name ++ (codes " " ++ refusal_text rule node))
 fault_text (UnknownName name) = codes "fault unknown " ++ (name ++ line_feed)
 fault_text (Day word) = codes "fault day " ++ (word ++ line_feed)
 fault_text (Row place f) =
-    codes "fault row file " ++ (number_text place ++ (codes " record " ++ (number_text f.row ++ (codes " " ++ (row_text f.kind ++ (earlier_text f.kind ++ line_feed))))))
+    codes "fault row file " ++ (number_text place ++ (codes " record " ++ (number_text f.row
+    ++ (codes " " ++ (row_text f.kind ++ (earlier_text f.kind ++ line_feed))))))
 fault_text (Missing label day) = codes "fault missing " ++ (label ++ (codes " " ++ (text_of day 0 ++ line_feed)))

@@ -4,10 +4,13 @@ use Rattle.std.specs.Prelude.{◌≡◌, ℕ, ℤ, pos, neg_ℤ, ◌+ℤ◌, ◌
 use Rattle.decimal.specs.Appending.{AppendsPart}
 use Rattle.decimal.specs.Text.{text_of}
 use Rattle.term_core.specs.Dates.{epoch_day_of}
-use Rattle.term_core.specs.Declarations.{Declarations}
+use Rattle.term_core.specs.Declarations.{Declarations, declarations}
+use Rattle.term_core.specs.declared.decls.Decls.{Decls}
 use Rattle.term_core.specs.declared.name.Name.{Name}
 use Rattle.flow_eval.specs.declared.flow_table.FlowRow.{FlowRow}
 use Rattle.report.specs.CheckLines.{line_feed}
+use Rattle.report.specs.Pieces.{piece_text}
+use Rattle.report.specs.declared.pieces.Piece.{Piece}
 
 -- an origin is an epoch day of the years 1900 to 2999
 abbrev pub IsOrigin : ℤ → Type 0
@@ -26,14 +29,22 @@ name_at names place = elim (slice_get names place) [ Some name ↦ name | None �
 abbrev pub field : List ℕ → List ℕ
 field text = 44 ∷ text
 
--- what stands behind the day: who pays whom in what, and the amount at the portfolio's decimals
+-- what stands behind the payer: whom it pays in what, and the amount at the portfolio's decimals
+abbrev pub behind_payer : Declarations → FlowRow → List ℕ
+behind_payer d row =
+    field (name_at d.parties row.to) ++ (field (name_at d.assets row.asset) ++ (field (text_of row.amount d.amounts) ++ line_feed))
+
+-- and behind the day: who pays, and that
 abbrev pub terms_text : Declarations → FlowRow → List ℕ
-terms_text d row =
-    field (name_at d.parties row.from) ++ (field (name_at d.parties row.to) ++ (field (name_at d.assets row.asset) ++ (field (text_of row.amount d.amounts) ++ line_feed)))
+terms_text d row = field (name_at d.parties row.from) ++ behind_payer d row
 
 -- the line with a text for the day
 abbrev pub line_with : Declarations → List ℕ → List ℕ → FlowRow → List ℕ
 line_with d name day row = name ++ (field day ++ terms_text d row)
+
+-- the same by the program's values
+abbrev pub line_on : Decls → List ℕ → Piece → FlowRow → List ℕ
+line_on decls name day row = line_with (declarations decls) name (piece_text day) row
 
 -- the line of a row of the named contract
 pub record IsFlowLine (d : Declarations) (name : List ℕ) (row : FlowRow) (line : List ℕ) : Type 0 where

@@ -22,7 +22,8 @@ together (pays ∷ others) day w = pays day w +ℤ together others day w
 -- the tables are those of what these pay, one after another, from a first to a last day
 abbrev pub AreTablesOf : List (ℤ → Flow → ℤ) → ℤ → ℤ → List FlowTable → Type 0
 AreTablesOf [] first last [] = Unit {0}
-AreTablesOf (pays ∷ others) first last (table ∷ tables) = IsMutual pays × IsTable pays first last table.rows.items × AreTablesOf others first last tables
+AreTablesOf (pays ∷ others) first last (table ∷ tables) =
+    IsMutual pays × IsTable pays first last table.rows.items × AreTablesOf others first last tables
 AreTablesOf _ first last _ = ⊥
 
 -- the rows are those of the sum of tables, whatever the tables are those of
@@ -31,10 +32,17 @@ IsSumOf tables rows =
     (all : List (ℤ → Flow → ℤ)) (first last : ℤ)
     → AreTablesOf all first last tables → IsTable (together all) first last rows × All (IsDueRow first last) rows
 
+-- an amount that can be summed with those of as many tables as there may be
+abbrev pub HasSmallAmount : FlowRow → Type 0
+HasSmallAmount row = unsigned_abs row.amount ≤ 10 ^ 27
+
 -- rows in the order of a flow table, with amounts that can be summed
 pub record IsSummable (rows : List FlowRow) : Type 0 where
   pub ordered : AreOrdered rows
-  pub small : All (λ row. unsigned_abs row.amount ≤ 10 ^ 27) rows
+  pub small : All (λ row. HasSmallAmount row) rows
+
+abbrev pub AreSummable : List FlowTable → Type 0
+AreSummable tables = All (λ table. IsSummable table.rows.items) tables
 
 -- what a row says, as a payment from the lower party to the higher one
 abbrev pub payment_of : FlowRow → Payment

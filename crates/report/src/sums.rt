@@ -1,8 +1,8 @@
 //! The sum of flow tables.
 
-ghost use Rattle.std.specs.Prelude.{◌≡◌, ◌≤◌, ◌++◌, ◌^◌, unsigned_abs, length, map, IfOk, OnOk};
+ghost use Rattle.std.specs.Prelude.{◌≡◌, ◌≤◌, ◌++◌, length, map, IfOk, OnOk};
 ghost use Rattle.std.specs.List.{All};
-ghost use Rattle.report.specs.SumTables.{IsSummable, IsSumOf, payment_of, payments_of};
+ghost use Rattle.report.specs.SumTables.{AreSummable, HasSmallAmount, IsSumOf, payment_of, payments_of};
 
 use decimal::NoMemory;
 use flow_eval::{FlowRow, FlowTable, Payment, Transfer, netted, payment_on};
@@ -10,7 +10,7 @@ use std::alloc::Global;
 
 // What a row says, as a payment.
 fn payment_of(row: &FlowRow) -> Payment
-    requires { unsigned_abs row.now.amount ≤ 10 ^ 27 }
+    requires { HasSmallAmount row.now }
     ensures { result ≡ payment_of row.now }
 {
     let transfer = Transfer {
@@ -23,7 +23,7 @@ fn payment_of(row: &FlowRow) -> Payment
 
 // Appends the payments of rows.
 fn append_payments(out: &mut Vec<Payment>, rows: &[FlowRow]) -> Result<(), NoMemory>
-    requires { All (λ row. unsigned_abs row.amount ≤ 10 ^ 27) rows.now }
+    requires { All (λ row. HasSmallAmount row) rows.now }
     ensures { OnOk result (out.new.items ≡ out.old.items ++ map payment_of rows.now) }
 {
     for row in rows {
@@ -34,7 +34,7 @@ fn append_payments(out: &mut Vec<Payment>, rows: &[FlowRow]) -> Result<(), NoMem
 
 // The payments of tables, one table after another.
 fn payments_of(alloc: Global, tables: &[FlowTable]) -> Result<Vec<Payment>, NoMemory>
-    requires { All (λ table. IsSummable table.rows.items) tables.now }
+    requires { AreSummable tables.now }
     ensures { IfOk result (λ payments. payments.items ≡ payments_of tables.now) }
 {
     let mut payments = Vec::new(alloc);
@@ -48,7 +48,7 @@ fn payments_of(alloc: Global, tables: &[FlowTable]) -> Result<Vec<Payment>, NoMe
 /// row. It takes one sort of all rows.
 pub fn net(alloc: Global, tables: &[FlowTable]) -> Result<FlowTable, NoMemory>
     requires few { length tables.now ≤ 16_777_216 }
-    requires summable { All (λ table. IsSummable table.rows.items) tables.now }
+    requires summable { AreSummable tables.now }
     ensures { IfOk result (λ sum. IsSumOf tables.now sum.rows.items) }
 {
     let payments = payments_of(alloc, tables)?;

@@ -1,9 +1,10 @@
 -- What is paid over all days: a function of who pays whom in what, as if it were paid on each day alike, so that its flow
 -- table of one day is the table of what is paid over all.
 use Rattle.std.specs.Prelude.{ℕ, zero, suc, ℤ, pos, ◌+ℤ◌, List}
+use Rattle.std.specs.List.{All}
 use Rattle.term_core.specs.Flows.{Flow}
 use Rattle.flow_eval.specs.Payments.{payment_on}
-use Rattle.flow_eval.specs.Tables.{IsTable}
+use Rattle.flow_eval.specs.Tables.{IsDueRow, IsTable}
 use Rattle.flow_eval.specs.declared.flow_table.FlowRow.{FlowRow}
 use Rattle.flow_eval.specs.declared.payments.Payment.{Payment}
 use Rattle.report.specs.SumTables.{IsMutual}
@@ -17,6 +18,13 @@ sum_before (suc n) f = sum_before n f +ℤ f n
 abbrev pub last_day : ℕ
 last_day = 1_100_000
 
+-- rows on the days from 0 to the last; and rows of what is paid over all, on day 0
+abbrev pub AreDue : List FlowRow → Type 0
+AreDue rows = All (IsDueRow (pos 0) (pos last_day)) rows
+
+abbrev pub AreUndated : List FlowRow → Type 0
+AreUndated rows = All (IsDueRow (pos 0) (pos 0)) rows
+
 -- what is paid from day 0 to the last
 abbrev pub over_days : (ℤ → Flow → ℤ) → ℤ → Flow → ℤ
 over_days pays day w = sum_before (suc last_day) (λ i. pays (pos i) w)
@@ -28,4 +36,5 @@ undated row = payment_on (pos 0) (record { asset = row.asset; from = row.from; t
 -- the rows are what others come to over all days, whatever those are the table of
 abbrev pub IsOverDays : List FlowRow → List FlowRow → Type 0
 IsOverDays rows sums =
-    (pays : ℤ → Flow → ℤ) → IsMutual pays → IsTable pays (pos 0) (pos last_day) rows → IsTable (over_days pays) (pos 0) (pos 0) sums
+    (pays : ℤ → Flow → ℤ)
+    → IsMutual pays → IsTable pays (pos 0) (pos last_day) rows → IsTable (over_days pays) (pos 0) (pos 0) sums

@@ -3,14 +3,13 @@
 -- direction in which it is above 0.
 use Rattle.std.specs.Prelude.{◌≡◌, ℕ, zero, suc, ℤ, pos, ◌+◌, List, [], ◌∷◌, ◌++◌, length, codes}
 use Rattle.std.specs.List.{flat_map}
-use Rattle.decimal.specs.Text.{text_of}
 use Rattle.term_core.specs.Declarations.{Declarations}
 use Rattle.term_core.specs.Terms.{Contract}
 use Rattle.term_core.specs.Flows.{Flow}
 use Rattle.flow_eval.specs.Tables.{IsTable, paid_by}
 use Rattle.flow_eval.specs.declared.flow_table.FlowRow.{FlowRow}
 use Rattle.report.specs.CheckLines.{line_feed}
-use Rattle.report.specs.FlowLines.{field, name_at}
+use Rattle.report.specs.FlowLines.{behind_payer, name_at}
 use Rattle.report.specs.Pieces.{number_text}
 use Rattle.report.specs.SumTables.{together}
 use Rattle.sample.specs.Sample.{sample_contract, sample_declarations, sample_fixings}
@@ -27,7 +26,9 @@ AreRowsOf c rows = IsTable (paid_of c) (pos 0) (pos last_day) rows
 -- so many lines have the flows of the first contracts together
 abbrev pub CountsLines : ℕ → ℕ → Type 0
 CountsLines zero lines = lines ≡ 0
-CountsLines (suc number) lines = (before : ℕ) × (rows : List FlowRow) × CountsLines number before × AreRowsOf (sample_contract number) rows × (lines ≡ before + length rows)
+CountsLines (suc number) lines =
+    (before : ℕ) × (rows : List FlowRow) × CountsLines number before
+    × AreRowsOf (sample_contract number) rows × (lines ≡ before + length rows)
 
 -- what each of the first contracts pays over all days
 abbrev pub paid_over_days : ℕ → List (ℤ → Flow → ℤ)
@@ -36,8 +37,7 @@ paid_over_days (suc number) = paid_over_days number ++ over_days (paid_of (sampl
 
 -- FROM,TO,ASSET,AMOUNT
 abbrev pub sum_line : Declarations → FlowRow → List ℕ
-sum_line d row =
-    name_at d.parties row.from ++ (field (name_at d.parties row.to) ++ (field (name_at d.assets row.asset) ++ (field (text_of row.amount d.amounts) ++ line_feed)))
+sum_line d row = name_at d.parties row.from ++ behind_payer d row
 
 -- a word and a number
 abbrev pub number_line : List ℕ → ℕ → List ℕ

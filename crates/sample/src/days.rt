@@ -1,10 +1,9 @@
 //! What the rows of a flow table come to over all days.
 
-ghost use Rattle.std.specs.Prelude.{◌≡◌, ◌≤◌, ◌^◌, pos, map, unsigned_abs, IfOk};
+ghost use Rattle.std.specs.Prelude.{◌≡◌, map, IfOk};
 ghost use Rattle.std.specs.List.{All};
-ghost use Rattle.flow_eval.specs.Tables.{IsDueRow};
-ghost use Rattle.report.specs.SumTables.{IsSummable};
-ghost use Rattle.sample.specs.Days.{IsOverDays, last_day, undated};
+ghost use Rattle.report.specs.SumTables.{HasSmallAmount, IsSummable};
+ghost use Rattle.sample.specs.Days.{AreDue, IsOverDays, undated};
 
 use decimal::NoMemory;
 use flow_eval::{FlowRow, FlowTable, Payment, Transfer, netted, payment_on};
@@ -12,7 +11,7 @@ use std::alloc::Global;
 
 // What a row says, on day 0.
 fn undated(row: &FlowRow) -> Payment
-    requires { unsigned_abs row.now.amount ≤ 10 ^ 27 }
+    requires { HasSmallAmount row.now }
     ensures { result ≡ undated row.now }
 {
     let transfer = Transfer {
@@ -25,7 +24,7 @@ fn undated(row: &FlowRow) -> Payment
 
 // What the rows say, each on day 0.
 fn undated_payments(alloc: Global, rows: &[FlowRow]) -> Result<Vec<Payment>, NoMemory>
-    requires { All (λ row. unsigned_abs row.amount ≤ 10 ^ 27) rows.now }
+    requires { All (λ row. HasSmallAmount row) rows.now }
     ensures { IfOk result (λ payments. payments.items ≡ map undated rows.now) }
 {
     let mut payments = Vec::new(alloc);
@@ -38,7 +37,7 @@ fn undated_payments(alloc: Global, rows: &[FlowRow]) -> Result<Vec<Payment>, NoM
 /// What the rows of a flow table come to over all days, as the flow table of day 0.
 pub fn over_days(alloc: Global, table: &FlowTable) -> Result<FlowTable, NoMemory>
     requires summable { IsSummable table.now.rows.items }
-    requires due { All (IsDueRow (pos 0) (pos last_day)) table.now.rows.items }
+    requires due { AreDue table.now.rows.items }
     ensures { IfOk result (λ sums. IsOverDays table.now.rows.items sums.rows.items) }
 {
     let payments = undated_payments(alloc, &table.rows)?;

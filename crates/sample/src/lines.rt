@@ -1,12 +1,14 @@
 //! The lines of a summary.
 
-ghost use Rattle.std.specs.Prelude.{◌≡◌, ◌≤◌, ◌^◌, ◌++◌, pos, unsigned_abs, IfOk, OnOk};
-ghost use Rattle.std.specs.List.{All, flat_map};
+ghost use Rattle.std.specs.Prelude.{◌≡◌, ◌≤◌, ◌^◌, ◌++◌, IfOk, OnOk};
+ghost use Rattle.std.specs.List.{flat_map};
 ghost use Rattle.decimal.specs.Text.{text_of};
 ghost use Rattle.term_core.specs.Declarations.{declarations};
-ghost use Rattle.flow_eval.specs.Tables.{IsDueRow};
+ghost use Rattle.flow_eval.specs.Tables.{FitsLine};
 ghost use Rattle.report.specs.CheckLines.{line_feed};
 ghost use Rattle.report.specs.FlowLines.{field, name_at};
+ghost use Rattle.report.specs.Pieces.{HasFewDigits};
+ghost use Rattle.sample.specs.Days.{AreUndated};
 ghost use Rattle.sample.specs.Sample.{sample_declarations};
 ghost use Rattle.sample.specs.Summary.{sum_line, summary_text};
 
@@ -23,7 +25,7 @@ fn append_number(
     word: &[u8],
     number: i128,
 ) -> Result<(), NoMemory>
-    requires { unsigned_abs number ≤ 10 ^ 37 }
+    requires { HasFewDigits number }
     ensures { OnOk result (out.new.items ≡ out.old.items ++ (word.now ++ (text_of number 0 ++ line_feed))) }
 {
     out.extend_from_slice(word)?;
@@ -57,7 +59,7 @@ fn append_amount(
     amount: i128,
     decimals: u8,
 ) -> Result<(), NoMemory>
-    requires amount { unsigned_abs amount ≤ 10 ^ 37 }
+    requires amount { HasFewDigits amount }
     requires decimals { decimals ≤ 27 }
     ensures { OnOk result (out.new.items ≡ out.old.items ++ (field (text_of amount decimals) ++ line_feed)) }
 {
@@ -74,7 +76,7 @@ fn append_sum(
     decls: &Decls,
     row: &FlowRow,
 ) -> Result<(), NoMemory>
-    requires { unsigned_abs row.now.amount ≤ 10 ^ 36 }
+    requires { FitsLine row.now.amount }
     ensures { OnOk result (out.new.items ≡ out.old.items ++ sum_line (declarations decls.now) row.now) }
 {
     append_name(out, &decls.parties, row.from)?;
@@ -91,7 +93,7 @@ fn append_sums(
     decls: &Decls,
     rows: &[FlowRow],
 ) -> Result<(), NoMemory>
-    requires { All (IsDueRow (pos 0) (pos 0)) rows.now }
+    requires { AreUndated rows.now }
     ensures { OnOk result (out.new.items ≡ out.old.items ++ flat_map (sum_line (declarations decls.now)) rows.now) }
 {
     for row in rows {
@@ -110,7 +112,7 @@ pub fn summary_text(
 ) -> Result<Vec<u8>, NoMemory>
     requires declared { declarations decls.now ≡ sample_declarations }
     requires lines { lines ≤ 10 ^ 30 }
-    requires due { All (IsDueRow (pos 0) (pos 0)) rows.now }
+    requires due { AreUndated rows.now }
     ensures { IfOk result (λ text. text.items ≡ summary_text count lines rows.now) }
 {
     let mut text = Vec::new(alloc);

@@ -1,14 +1,11 @@
 //! The summary of the sample.
 
-ghost use Rattle.std.specs.Prelude.{◌≡◌, ◌≤◌, ◌<◌, ◌+◌, ◌^◌, length, pos, IfOk};
-ghost use Rattle.std.specs.List.{All};
+ghost use Rattle.std.specs.Prelude.{◌≡◌, ◌≤◌, ◌<◌, ◌+◌, ◌^◌, length, IfOk};
 ghost use Rattle.term_core.specs.Declarations.{declarations};
 ghost use Rattle.term_core.specs.Terms.{contract};
 ghost use Rattle.term_core.specs.Environments.{IsAdmitted};
-ghost use Rattle.flow_eval.specs.Tables.{IsDueRow};
-ghost use Rattle.report.specs.SumTables.{IsSummable};
 ghost use Rattle.sample.specs.Sample.{HoldSame, IsOfSample, sample_contract, sample_declarations, sample_fixings};
-ghost use Rattle.sample.specs.Days.{last_day};
+ghost use Rattle.sample.specs.Days.{AreDue};
 ghost use Rattle.sample.specs.Gathering.{IsGathered};
 ghost use Rattle.sample.specs.Summary.{AreRowsOf, IsSummary};
 
@@ -38,7 +35,7 @@ fn table_of(
     requires same { HoldSame fixings.now sample_fixings }
     requires admitted { IsAdmitted sample_declarations fixings.now }
     ensures rows { IfOk result (λ table. AreRowsOf (contract contr.now) table.rows.items) }
-    ensures due { IfOk result (λ table. All (IsDueRow (pos 0) (pos last_day)) table.rows.items) }
+    ensures due { IfOk result (λ table. AreDue table.rows.items) }
 {
     match flows(alloc, decls, contr, fixings, LAST_DAY) {
         Ok(table) => Ok(table),
@@ -58,7 +55,7 @@ fn flows_of(
     requires same { HoldSame fixings.now sample_fixings }
     requires admitted { IsAdmitted sample_declarations fixings.now }
     ensures rows { IfOk result (λ table. AreRowsOf (sample_contract number) table.rows.items) }
-    ensures due { IfOk result (λ table. All (IsDueRow (pos 0) (pos last_day)) table.rows.items) }
+    ensures due { IfOk result (λ table. AreDue table.rows.items) }
 {
     let contr = sample_contract(alloc, number)?;
     table_of(alloc, decls, &contr, fixings)
