@@ -1,6 +1,7 @@
 -- What words mean to a command that is declared by its name and its arguments: the matches that the crate `clap` states
 -- for it, where it takes the words.
-use Rattle.std.specs.Prelude.{◌≡◌, Bool, true, false, List, [], ◌∷◌, Option, Some, None, Result, Ok, Err, codes, fold, option_map, if◌then◌else◌}
+use Rattle.std.specs.Prelude.{◌≡◌, Bool, true, false, List, [], ◌∷◌, Option, Some, None, Result, Ok, Err, codes, fold, map, option_map, if◌then◌else◌}
+use Rattle.std.specs.Borrow.{Bor}
 use Rattle.std.specs.Str.{bytes_eq}
 use Rattle.clap.specs.Words.{App, Kinds, Row, Rule, Text, all_of, fault_of, first_of, first_value, found_of, matched_of, matches_of, new_app, new_rule, raw_values, with_rule}
 use Rattle.clap.specs.Simple.{on_top}
@@ -11,6 +12,16 @@ use Rattle.command_words.specs.declared.arguments.Argument.{Argument}
 use Rattle.command_words.specs.declared.arguments.Argument.TheVariants.{Required, Optional, Repeated, Valued, Flag}
 use Rattle.command_words.specs.declared.arguments.WordsErr.{WordsErr}
 use Rattle.command_words.specs.declared.arguments.WordsErr.TheVariants.{Usage, NoMemory}
+
+-- the texts of words; of a word that may be given, and of words
+abbrev pub texts : List (Bor Text) → List Text
+texts words = map (λ word. word.now) words
+
+abbrev pub given_text : Option (Bor Text) → Option Text
+given_text word = option_map (λ word. word.now) word
+
+abbrev pub given_texts : Option (Bor (List (Bor Text))) → Option (List Text)
+given_texts words = option_map (λ words. texts words.now) words
 
 -- a word that has to be given
 abbrev pub required : Text → Rule

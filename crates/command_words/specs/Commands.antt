@@ -4,7 +4,8 @@
 -- the day of a word; or `payoff` of the contract of a name in a portfolio's file, with its payments uncut where that is asked.
 -- `value` of a code file, over the fixings and the discount factors of two others. And `sample` of a number of contracts, which
 -- has no file.
-use Rattle.std.specs.Prelude.{ℕ, Bool, List, Option, Some, None}
+use Rattle.std.specs.Prelude.{ℕ, ◌≤◌, Bool, List, Option, Some, None}
+use Rattle.std.specs.List.{All}
 
 pub record FlowsAsked : Type 0 where
   pub portfolio : List ℕ
@@ -28,6 +29,10 @@ pub data Asked : Type 0 where
   Flows : FlowsAsked → Asked
   Advance : AdvanceAsked → Asked
   Payoff : PayoffAsked → Asked
+
+-- numbers that are set for templates by their names, each of at most 100,000
+abbrev pub AreSettings : List (List ℕ × ℕ) → Type 0
+AreSettings settings = All (λ setting. setting.1 ≤ 100_000) settings
 
 -- the files of `value`: payoff code, fixings and discount factors
 pub record ValueFiles : Type 0 where

@@ -11,7 +11,7 @@ use Rattle.contract_parse.specs.Names.{is_declared}
 use Rattle.contract_parse.specs.NameTexts.{is_name_text}
 use Rattle.fixing_files.specs.Days.{day_named, digits_of}
 use Rattle.fixing_files.specs.declared.days.NamedDay.{NamedDay}
-use Rattle.command_words.specs.Arguments.{IsAnswer, asked_of, declared, flag, is_set, optional, repeated, required, taken, valued}
+use Rattle.command_words.specs.Arguments.{IsAnswer, asked_of, declared, flag, given_text, is_set, optional, repeated, required, taken, valued}
 use Rattle.command_words.specs.Commands.{Asked, Check, Flows, FlowsAsked, Advance, AdvanceAsked, Between, Payoff, PayoffAsked, ValueAsked, ValueFiles, Request, OnFiles, OnCode, Sample}
 use Rattle.command_words.specs.declared.words.Command.{Command}
 use Rattle.command_words.specs.declared.words.Command.TheVariants as command
@@ -29,9 +29,9 @@ use Rattle.command_words.specs.declared.arguments.WordsErr.{WordsErr}
 abbrev pub flows_by : FlowsCommand → FlowsAsked
 flows_by flows = record {
   portfolio = flows.portfolio.now;
-  fixings = option_map (λ word. word.now) flows.fixings;
+  fixings = given_text flows.fixings;
   until = option_map (λ day. day.word.now) flows.until;
-  contract = option_map (λ word. word.now) flows.contract;
+  contract = given_text flows.contract;
   net = flows.net;
 }
 
@@ -120,7 +120,8 @@ check_of words = asked_of check_app check_from words
 
 abbrev pub flows_app : App
 flows_app = declared (codes "flows")
-    (required (codes "portfolio") ∷ optional (codes "fixings") ∷ valued (codes "until") ∷ valued (codes "contract") ∷ flag (codes "net") ∷ [])
+    (required (codes "portfolio") ∷ optional (codes "fixings")
+    ∷ valued (codes "until") ∷ valued (codes "contract") ∷ flag (codes "net") ∷ [])
 
 abbrev pub flows_with : Option Text → Option Text → Option (Option Text) → Option (Option Text) → Bool → Option Request
 flows_with (Some file) fixings (Some until) (Some contract) net =
@@ -239,7 +240,9 @@ value_files word = files_with (word (codes "code")) (word (codes "fixings")) (wo
 
 abbrev pub value_between : (Text → Option Text) → Option Between
 value_between word = between_with
-    (with_form is_name_text (word (codes "from"))) (with_form is_name_text (word (codes "to"))) (with_form is_name_text (word (codes "asset")))
+    (with_form is_name_text (word (codes "from")))
+    (with_form is_name_text (word (codes "to")))
+    (with_form is_name_text (word (codes "asset")))
 
 abbrev pub value_with : Option ValueFiles → Option Text → Option Between → Option (List (Text × ℕ)) → Option ValueAsked
 value_with (Some files) (Some at) (Some between) (Some settings) =

@@ -1,9 +1,9 @@
 //! Commands as the crate `clap` reads them: each is declared by its name and its arguments, and what words mean is the
 //! function of them that the crate states.
 
-ghost use Rattle.std.specs.Prelude.{◌≡◌, IfOk, false, map, option_map, true};
+ghost use Rattle.std.specs.Prelude.{◌≡◌, IfOk, false, map, true};
 ghost use Rattle.clap.specs.Words.{app_of, is_simple_and_free, rule_of};
-ghost use Rattle.command_words.specs.Arguments.{HasMatches, bare_app, declared, is_set, rule_by};
+ghost use Rattle.command_words.specs.Arguments.{HasMatches, bare_app, declared, given_text, is_set, rule_by, texts};
 ghost use Rattle.command_words.specs.declared.arguments.WordsErr.TheVariants.{NoMemory as lacks_memory};
 
 use clap::error::ErrorKind;
@@ -94,7 +94,7 @@ pub fn matches_of<'a>(
     words: &'a [&'a str],
 ) -> Result<ArgMatches<'a>, WordsErr>
     requires { is_simple_and_free (declared name.now (map rule_by arguments.now)) ≡ true }
-    ensures { HasMatches (declared name.entry.now (map rule_by arguments.now)) (map (λ word. word.now) words.entry.now) result }
+    ensures { HasMatches (declared name.entry.now (map rule_by arguments.now)) (texts words.entry.now) result }
 {
     let command = declare(alloc, name, arguments)?;
     match command.try_get_matches_from(words) {
@@ -108,7 +108,7 @@ pub fn matches_of<'a>(
 
 /// What is found for a flag says that it is given.
 pub fn is_set(value: Option<&str>) -> bool
-    ensures { result ≡ is_set (option_map (λ text. text.now) value.entry) }
+    ensures { result ≡ is_set (given_text value.entry) }
 {
     match value {
         Some(text) => text == "true",

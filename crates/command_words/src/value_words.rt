@@ -1,12 +1,12 @@
 //! The words of `value`.
 
-ghost use Rattle.std.specs.Prelude.{◌≡◌, ◌≤◌, ◌++◌, ◌∷◌, IfOk, IfSome, OnOk, Some, [], false, map, option_map};
-ghost use Rattle.std.specs.List.{All};
+ghost use Rattle.std.specs.Prelude.{◌≡◌, ◌≤◌, ◌++◌, ◌∷◌, IfOk, IfSome, OnOk, Some, [], false, option_map};
 ghost use Rattle.std.specs.Map.{keys_of};
 ghost use Rattle.clap.specs.Words.{first_value, found_of};
 ghost use Rattle.contract_parse.specs.Names.{is_declared};
 ghost use Rattle.contract_parse.specs.NameTexts.{is_name_text};
-ghost use Rattle.command_words.specs.Arguments.{IsAnswer};
+ghost use Rattle.command_words.specs.Arguments.{IsAnswer, given_texts, texts};
+ghost use Rattle.command_words.specs.Commands.{AreSettings};
 ghost use Rattle.command_words.specs.Words.{between_by, files_by, one_more_setting, setting_number, setting_of_word, settings_after, settings_of, value_between, value_by, value_files, value_of, with_form};
 
 use crate::arguments::{Argument, WordsErr, matches_of};
@@ -60,9 +60,9 @@ fn add_setting(
     settings: &mut IndexMap<Name, u32>,
     word: &str,
 ) -> Result<(), WordsErr>
-    requires { All (λ setting. setting.1 ≤ 100_000) settings.old.entries }
+    requires { AreSettings settings.old.entries }
     ensures answer { IsAnswer (λ _. settings.new.entries) (one_more_setting settings.old.entries (setting_of_word word.now)) result }
-    ensures few { IfOk result (λ _. All (λ setting. setting.1 ≤ 100_000) settings.new.entries) }
+    ensures few { IfOk result (λ _. AreSettings settings.new.entries) }
 {
     let Some((name, number)) = setting_of_word(word) else {
         return Err(WordsErr::Usage);
@@ -77,8 +77,8 @@ fn add_setting(
 
 // What words set, one after another.
 fn settings_of(alloc: Global, words: &[&str]) -> Result<IndexMap<Name, u32>, WordsErr>
-    ensures answer { IsAnswer (λ settings. settings.entries) (settings_after (Some []) (map (λ word. word.now) words.now)) result }
-    ensures few { IfOk result (λ settings. All (λ setting. setting.1 ≤ 100_000) settings.entries) }
+    ensures answer { IsAnswer (λ settings. settings.entries) (settings_after (Some []) (texts words.now)) result }
+    ensures few { IfOk result (λ settings. AreSettings settings.entries) }
 {
     let mut settings = IndexMap::new(alloc);
     for word in words {
@@ -89,8 +89,8 @@ fn settings_of(alloc: Global, words: &[&str]) -> Result<IndexMap<Name, u32>, Wor
 
 // The same, of words that may be given.
 fn settings_given(alloc: Global, words: Option<&[&str]>) -> Result<IndexMap<Name, u32>, WordsErr>
-    ensures answer { IsAnswer (λ settings. settings.entries) (settings_of (option_map (λ words. map (λ word. word.now) words.now) words.entry)) result }
-    ensures few { IfOk result (λ settings. All (λ setting. setting.1 ≤ 100_000) settings.entries) }
+    ensures answer { IsAnswer (λ settings. settings.entries) (settings_of (given_texts words.entry)) result }
+    ensures few { IfOk result (λ settings. AreSettings settings.entries) }
 {
     match words {
         Some(words) => settings_of(alloc, words),
@@ -124,7 +124,7 @@ fn between_of<'a>(matches: &ArgMatches<'a>) -> Result<Between<'a>, WordsErr>
 
 /// `value CODE FIXINGS CURVE [T=N].. --at DAY --from P --to Q --asset A`, by the words behind the first.
 pub fn value_of<'a>(alloc: Global, words: &'a [&'a str]) -> Result<Value<'a>, WordsErr>
-    ensures { IsAnswer value_by (value_of (map (λ word. word.now) words.entry.now)) result }
+    ensures { IsAnswer value_by (value_of (texts words.entry.now)) result }
 {
     let arguments = [
         Argument::Required("code"),

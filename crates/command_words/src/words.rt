@@ -1,7 +1,6 @@
 //! The words of the command line.
 
-ghost use Rattle.std.specs.Prelude.{map};
-ghost use Rattle.command_words.specs.Arguments.{IsAnswer};
+ghost use Rattle.command_words.specs.Arguments.{IsAnswer, texts};
 ghost use Rattle.command_words.specs.Words.{IsRequestOf, advance_of, check_of, flows_of, payoff_of, requested_by, sample_of};
 
 use crate::arguments::{Argument, WordsErr, is_set, matches_of};
@@ -66,7 +65,7 @@ pub enum Request<'a> {
 
 // `check PORTFOLIO`, by the words behind the first.
 fn check_of<'a>(alloc: Global, words: &'a [&'a str]) -> Result<Request<'a>, WordsErr>
-    ensures { IsAnswer requested_by (check_of (map (λ word. word.now) words.entry.now)) result }
+    ensures { IsAnswer requested_by (check_of (texts words.entry.now)) result }
 {
     let arguments = [Argument::Required("portfolio")];
     let matches = matches_of(alloc, "check", &arguments, words)?;
@@ -76,7 +75,7 @@ fn check_of<'a>(alloc: Global, words: &'a [&'a str]) -> Result<Request<'a>, Word
 
 // `flows PORTFOLIO [FIXINGS] [--until DAY] [--contract NAME] [--net]`, by the words behind the first.
 fn flows_of<'a>(alloc: Global, words: &'a [&'a str]) -> Result<Request<'a>, WordsErr>
-    ensures { IsAnswer requested_by (flows_of (map (λ word. word.now) words.entry.now)) result }
+    ensures { IsAnswer requested_by (flows_of (texts words.entry.now)) result }
 {
     let arguments = [
         Argument::Required("portfolio"),
@@ -100,7 +99,7 @@ fn flows_of<'a>(alloc: Global, words: &'a [&'a str]) -> Result<Request<'a>, Word
 
 // `advance PORTFOLIO FIXINGS --to DAY`, by the words behind the first.
 fn advance_of<'a>(alloc: Global, words: &'a [&'a str]) -> Result<Request<'a>, WordsErr>
-    ensures { IsAnswer requested_by (advance_of (map (λ word. word.now) words.entry.now)) result }
+    ensures { IsAnswer requested_by (advance_of (texts words.entry.now)) result }
 {
     let arguments = [
         Argument::Required("portfolio"),
@@ -120,7 +119,7 @@ fn advance_of<'a>(alloc: Global, words: &'a [&'a str]) -> Result<Request<'a>, Wo
 
 // `payoff PORTFOLIO --contract NAME [--plain]`, by the words behind the first.
 fn payoff_of<'a>(alloc: Global, words: &'a [&'a str]) -> Result<Request<'a>, WordsErr>
-    ensures { IsAnswer requested_by (payoff_of (map (λ word. word.now) words.entry.now)) result }
+    ensures { IsAnswer requested_by (payoff_of (texts words.entry.now)) result }
 {
     let arguments = [
         Argument::Required("portfolio"),
@@ -139,7 +138,7 @@ fn payoff_of<'a>(alloc: Global, words: &'a [&'a str]) -> Result<Request<'a>, Wor
 
 // `sample NUMBER`, by the words behind the first.
 fn sample_of<'a>(alloc: Global, words: &'a [&'a str]) -> Result<Request<'a>, WordsErr>
-    ensures { IsAnswer requested_by (sample_of (map (λ word. word.now) words.entry.now)) result }
+    ensures { IsAnswer requested_by (sample_of (texts words.entry.now)) result }
 {
     let arguments = [Argument::Required("number")];
     let matches = matches_of(alloc, "sample", &arguments, words)?;
@@ -153,7 +152,7 @@ fn sample_of<'a>(alloc: Global, words: &'a [&'a str]) -> Result<Request<'a>, Wor
 /// What the words ask for, which are those of the command line without the program's name. `Usage` comes exactly where
 /// they have the form of none.
 pub fn request_of<'a>(alloc: Global, words: &'a [&'a str]) -> Result<Request<'a>, WordsErr>
-    ensures { IsRequestOf (map (λ word. word.now) words.entry.now) result }
+    ensures { IsRequestOf (texts words.entry.now) result }
 {
     let [name, rest @ ..] = words else {
         return Err(WordsErr::Usage);

@@ -1,12 +1,12 @@
 use Rattle.std.proofs.Common.{◌≡◌, ◌∙◌, ap, map, sym, true}
 use Rattle.clap.specs.Words.{App, app_of, is_simple_and_free, matches_of}
-use Rattle.command_words.specs.Arguments.{declared, rule_by, taken}
+use Rattle.command_words.specs.Arguments.{declared, rule_by, taken, texts}
 use Rattle.command_words.proofs.Taken.{holds, refuses, simple, takes}
 use Rattle.command_words.proofs.arguments.matches_of.Goals as goal
 
 pub returns-in-Ok : goal.returns-in-Ok
 returns-in-Ok c =
-    let words = map (λ w. w.now) c.args.words.now in
+    let words = texts c.args.words.now in
     let app = app_of c.in_ok-command.command in
     let same : app ≡ declared c.args.name.now (map rule_by c.args.arguments.now) = c.in_ok-command.ensures in
     let free : is_simple_and_free app ≡ true = ap is_simple_and_free same ∙ c.requires in
@@ -18,7 +18,7 @@ returns-in-Ok c =
 
 pub returns : goal.returns
 returns c =
-    let words = map (λ w. w.now) c.args.words.now in
+    let words = texts c.args.words.now in
     let app = app_of c.in_ok-command.command in
     let same : app ≡ declared c.args.name.now (map rule_by c.args.arguments.now) = c.in_ok-command.ensures in
     let free : is_simple_and_free app ≡ true = ap is_simple_and_free same ∙ c.requires in

@@ -1,25 +1,16 @@
-use Rattle.std.proofs.Common.{◌∙◌, ◌≡◌, ℕ, List, Bor, ap, map, subst, sym}
-use Rattle.std.specs.Prelude.{Option, Result, Err, option_map}
+use Rattle.std.proofs.Common.{◌∙◌, ℕ, ap, subst, sym}
+use Rattle.std.specs.Prelude.{Result, Err, option_map}
 use Rattle.std.proofs.lemmas.Result.{err_from_is_err_and}
 use Rattle.std.specs.declared.random_state.RandomState.{RandomState}
 use Rattle.indexmap.specs.IndexMap.{IndexMap}
 use Rattle.clap.specs.Words.{Text, first_value, found_of, matched_of, raw_values}
-use Rattle.command_words.specs.Arguments.{IsAnswer}
+use Rattle.command_words.specs.Arguments.{IsAnswer, given_text, given_texts, texts}
 use Rattle.command_words.specs.Words.{between_by, files_by, is_day, settings_of, value_between, value_by, value_files, value_from, value_of, with_form}
 use Rattle.command_words.specs.declared.arguments.WordsErr.{WordsErr}
 use Rattle.command_words.specs.declared.day_words.DayWord.{DayWord}
 use Rattle.command_words.specs.declared.value_asked.Value.{Value}
 use Rattle.command_words.proofs.WordFacts.{value_has, value_lacks, value_no_day, value_no_files, value_no_setting, value_nobody, value_reads, value_refused}
 use Rattle.command_words.proofs.value_words.value_of.Goals as goal
-
-abbrev texts : List (Bor Text) → List Text
-texts words = map (λ (word : Bor Text). word.now) words
-
-abbrev text : Option (Bor Text) → Option Text
-text word = option_map (λ (w : Bor Text). w.now) word
-
-abbrev all_texts : Option (Bor (List (Bor Text))) → Option (List Text)
-all_texts words = option_map (λ (ws : Bor (List (Bor Text))). texts ws.now) words
 
 pub returns-in_err-matches : goal.returns-in_err-matches
 returns-in_err-matches c =
@@ -49,7 +40,7 @@ returns-in_err-at c =
     let same = value_reads words h.0 (first_value found) all h.1 h.2.first h.2.all in
     let p = err_from_is_err_and c.from_residual-in_err-at.result c.from_residual-in_err-at.ensures.1 in
     subst (λ (r : Result Value WordsErr). IsAnswer value_by (value_of words) r) (sym (p.1 ∙ ap (λ (x : WordsErr). Err x) p.2))
-    (value_lacks (λ (day : DayWord). day.word.now) (with_form is_day (text c.get_str.result)) (value_of words) c.in_err-at.field-0.0
+    (value_lacks (λ (day : DayWord). day.word.now) (with_form is_day (given_text c.get_str.result)) (value_of words) c.in_err-at.field-0.0
     (λ none. same ∙ value_no_day (first_value found) all (ap (with_form is_day) (sym c.get_str.ensures) ∙ none)) c.in_err-at.ensures)
 
 pub returns-in_err-between : goal.returns-in_err-between
@@ -73,7 +64,7 @@ returns-in_err-settings c =
     let same = value_reads words h.0 (first_value found) all h.1 h.2.first h.2.all in
     let p = err_from_is_err_and c.from_residual-in_err-settings.result c.from_residual-in_err-settings.ensures.1 in
     subst (λ (r : Result Value WordsErr). IsAnswer value_by (value_of words) r) (sym (p.1 ∙ ap (λ (x : WordsErr). Err x) p.2))
-    (value_lacks (λ (settings : IndexMap Text ℕ RandomState). settings.entries) (settings_of (all_texts c.get_strs.result)) (value_of words) c.in_err-settings.field-0.0
+    (value_lacks (λ (settings : IndexMap Text ℕ RandomState). settings.entries) (settings_of (given_texts c.get_strs.result)) (value_of words) c.in_err-settings.field-0.0
     (λ none. same ∙ value_no_setting (first_value found) all (ap settings_of (sym c.get_strs.ensures) ∙ none)) c.in_err-settings.ensures.answer)
 
 pub returns : goal.returns

@@ -1,16 +1,13 @@
-use Rattle.std.proofs.Common.{◌∙◌, List, Bor, ap, map, subst, sym}
-use Rattle.std.specs.Prelude.{Result, Err, option_map}
+use Rattle.std.proofs.Common.{◌∙◌, Bor, ap, subst, sym}
+use Rattle.std.specs.Prelude.{Result, Err}
 use Rattle.std.proofs.lemmas.Result.{err_from_is_err_and}
 use Rattle.clap.specs.Words.{Text, first_value, found_of}
-use Rattle.command_words.specs.Arguments.{IsAnswer}
+use Rattle.command_words.specs.Arguments.{IsAnswer, given_text, texts}
 use Rattle.command_words.specs.Words.{requested_by, check_app, check_from, check_of}
 use Rattle.command_words.specs.declared.arguments.WordsErr.{WordsErr}
 use Rattle.command_words.specs.declared.words.Request.{Request}
 use Rattle.command_words.proofs.WordFacts.{check_has, check_lacks, lacks, reads, refused}
 use Rattle.command_words.proofs.words.check_of.Goals as goal
-
-abbrev texts : List (Bor Text) → List Text
-texts words = map (λ (word : Bor Text). word.now) words
 
 pub returns-in_err-matches : goal.returns-in_err-matches
 returns-in_err-matches c =
@@ -27,7 +24,7 @@ returns-in_err-portfolio c =
     let same = reads check_app check_from words h.0 found h.1 h.2.first in
     let p = err_from_is_err_and c.from_residual-in_err-portfolio.result c.from_residual-in_err-portfolio.ensures.1 in
     subst (λ (r : Result Request WordsErr). IsAnswer requested_by (check_of words) r) (sym (p.1 ∙ ap (λ (x : WordsErr). Err x) p.2))
-    (lacks (λ (word : Bor Text). word.now) (option_map (λ (word : Bor Text). word.now) c.get_str.result) (check_of words) c.in_err-portfolio.field-0.0
+    (lacks (λ (word : Bor Text). word.now) (given_text c.get_str.result) (check_of words) c.in_err-portfolio.field-0.0
     (λ none. same ∙ check_lacks found (sym c.get_str.ensures ∙ none)) c.in_err-portfolio.ensures)
 
 pub returns : goal.returns

@@ -1,21 +1,15 @@
-use Rattle.std.proofs.Common.{◌∙◌, List, Bor, ap, map, subst, sym}
+use Rattle.std.proofs.Common.{◌∙◌, Bor, ap, subst, sym}
 use Rattle.std.specs.Prelude.{Option, Result, Err, option_map}
 use Rattle.std.proofs.lemmas.Result.{err_from_is_err_and}
 use Rattle.clap.specs.Words.{Text, first_value, found_of}
 use Rattle.contract_parse.specs.NameTexts.{is_name_text}
-use Rattle.command_words.specs.Arguments.{IsAnswer, is_set}
+use Rattle.command_words.specs.Arguments.{IsAnswer, given_text, is_set, texts}
 use Rattle.command_words.specs.Words.{requested_by, flows_app, flows_from, flows_of, if_given, is_day}
 use Rattle.command_words.specs.declared.arguments.WordsErr.{WordsErr}
 use Rattle.command_words.specs.declared.day_words.DayWord.{DayWord}
 use Rattle.command_words.specs.declared.words.Request.{Request}
 use Rattle.command_words.proofs.WordFacts.{flows_has, flows_lacks, flows_no_day, flows_no_name, lacks, reads, refused}
 use Rattle.command_words.proofs.words.flows_of.Goals as goal
-
-abbrev texts : List (Bor Text) → List Text
-texts words = map (λ (word : Bor Text). word.now) words
-
-abbrev text : Option (Bor Text) → Option Text
-text word = option_map (λ (w : Bor Text). w.now) word
 
 abbrev day_text : Option DayWord → Option Text
 day_text day = option_map (λ (d : DayWord). d.word.now) day
@@ -35,7 +29,7 @@ returns-in_err-portfolio c =
     let same = reads flows_app flows_from words h.0 found h.1 h.2.first in
     let p = err_from_is_err_and c.from_residual-in_err-portfolio.result c.from_residual-in_err-portfolio.ensures.1 in
     subst (λ (r : Result Request WordsErr). IsAnswer requested_by (flows_of words) r) (sym (p.1 ∙ ap (λ (x : WordsErr). Err x) p.2))
-    (lacks (λ (word : Bor Text). word.now) (text c.get_str.result) (flows_of words) c.in_err-portfolio.field-0.0
+    (lacks (λ (word : Bor Text). word.now) (given_text c.get_str.result) (flows_of words) c.in_err-portfolio.field-0.0
     (λ none. same ∙ flows_lacks found (sym c.get_str.ensures ∙ none)) c.in_err-portfolio.ensures)
 
 pub returns-in_err-until : goal.returns-in_err-until
@@ -46,7 +40,7 @@ returns-in_err-until c =
     let same = reads flows_app flows_from words h.0 found h.1 h.2.first in
     let p = err_from_is_err_and c.from_residual-in_err-until.result c.from_residual-in_err-until.ensures.1 in
     subst (λ (r : Result Request WordsErr). IsAnswer requested_by (flows_of words) r) (sym (p.1 ∙ ap (λ (x : WordsErr). Err x) p.2))
-    (lacks day_text (if_given is_day (text c.get_str-2.result)) (flows_of words) c.in_err-until.field-0.0
+    (lacks day_text (if_given is_day (given_text c.get_str-2.result)) (flows_of words) c.in_err-until.field-0.0
     (λ none. same ∙ flows_no_day found (ap (if_given is_day) (sym c.get_str-2.ensures) ∙ none)) c.in_err-until.ensures)
 
 pub returns-in_err-contract : goal.returns-in_err-contract
@@ -57,7 +51,7 @@ returns-in_err-contract c =
     let same = reads flows_app flows_from words h.0 found h.1 h.2.first in
     let p = err_from_is_err_and c.from_residual-in_err-contract.result c.from_residual-in_err-contract.ensures.1 in
     subst (λ (r : Result Request WordsErr). IsAnswer requested_by (flows_of words) r) (sym (p.1 ∙ ap (λ (x : WordsErr). Err x) p.2))
-    (lacks text (if_given is_name_text (text c.get_str-3.result)) (flows_of words) c.in_err-contract.field-0.0
+    (lacks given_text (if_given is_name_text (given_text c.get_str-3.result)) (flows_of words) c.in_err-contract.field-0.0
     (λ none. same ∙ flows_no_name found (ap (if_given is_name_text) (sym c.get_str-3.ensures) ∙ none)) c.in_err-contract.ensures)
 
 pub returns : goal.returns
@@ -66,7 +60,7 @@ returns c =
     let found = first_value (found_of c.in_ok-matches.matches) in
     let h = c.in_ok-matches.ensures in
     reads flows_app flows_from words h.0 found h.1 h.2.first
-    ∙ flows_has found c.in_ok-portfolio.portfolio.now (text c.get_str-4.result) (day_text c.in_ok-until.until) (text c.in_ok-contract.contract) c.is_set.result
+    ∙ flows_has found c.in_ok-portfolio.portfolio.now (given_text c.get_str-4.result) (day_text c.in_ok-until.until) (given_text c.in_ok-contract.contract) c.is_set.result
     (sym c.get_str.ensures ∙ c.in_ok-portfolio.ensures)
     (sym c.get_str-4.ensures)
     (ap (if_given is_day) (sym c.get_str-2.ensures) ∙ c.in_ok-until.ensures)

@@ -1,20 +1,14 @@
-use Rattle.std.proofs.Common.{◌∙◌, List, Bor, ap, map, subst, sym}
-use Rattle.std.specs.Prelude.{Option, Result, Err, option_map}
+use Rattle.std.proofs.Common.{◌∙◌, Bor, ap, subst, sym}
+use Rattle.std.specs.Prelude.{Result, Err}
 use Rattle.std.proofs.lemmas.Result.{err_from_is_err_and}
 use Rattle.clap.specs.Words.{Text, first_value, found_of}
 use Rattle.contract_parse.specs.NameTexts.{is_name_text}
-use Rattle.command_words.specs.Arguments.{IsAnswer, is_set}
+use Rattle.command_words.specs.Arguments.{IsAnswer, given_text, is_set, texts}
 use Rattle.command_words.specs.Words.{payoff_app, payoff_from, payoff_of, requested_by, with_form}
 use Rattle.command_words.specs.declared.arguments.WordsErr.{WordsErr}
 use Rattle.command_words.specs.declared.words.Request.{Request}
 use Rattle.command_words.proofs.WordFacts.{payoff_has, payoff_lacks, payoff_no_name, lacks, reads, refused}
 use Rattle.command_words.proofs.words.payoff_of.Goals as goal
-
-abbrev texts : List (Bor Text) → List Text
-texts words = map (λ (word : Bor Text). word.now) words
-
-abbrev text : Option (Bor Text) → Option Text
-text word = option_map (λ (w : Bor Text). w.now) word
 
 pub returns-in_err-matches : goal.returns-in_err-matches
 returns-in_err-matches c =
@@ -31,7 +25,7 @@ returns-in_err-portfolio c =
     let same = reads payoff_app payoff_from words h.0 found h.1 h.2.first in
     let p = err_from_is_err_and c.from_residual-in_err-portfolio.result c.from_residual-in_err-portfolio.ensures.1 in
     subst (λ (r : Result Request WordsErr). IsAnswer requested_by (payoff_of words) r) (sym (p.1 ∙ ap (λ (x : WordsErr). Err x) p.2))
-    (lacks (λ (word : Bor Text). word.now) (text c.get_str.result) (payoff_of words) c.in_err-portfolio.field-0.0
+    (lacks (λ (word : Bor Text). word.now) (given_text c.get_str.result) (payoff_of words) c.in_err-portfolio.field-0.0
     (λ none. same ∙ payoff_lacks found (sym c.get_str.ensures ∙ none)) c.in_err-portfolio.ensures)
 
 pub returns-in_err-contract : goal.returns-in_err-contract
@@ -42,7 +36,7 @@ returns-in_err-contract c =
     let same = reads payoff_app payoff_from words h.0 found h.1 h.2.first in
     let p = err_from_is_err_and c.from_residual-in_err-contract.result c.from_residual-in_err-contract.ensures.1 in
     subst (λ (r : Result Request WordsErr). IsAnswer requested_by (payoff_of words) r) (sym (p.1 ∙ ap (λ (x : WordsErr). Err x) p.2))
-    (lacks (λ (word : Bor Text). word.now) (with_form is_name_text (text c.get_str-2.result)) (payoff_of words) c.in_err-contract.field-0.0
+    (lacks (λ (word : Bor Text). word.now) (with_form is_name_text (given_text c.get_str-2.result)) (payoff_of words) c.in_err-contract.field-0.0
     (λ none. same ∙ payoff_no_name found (ap (with_form is_name_text) (sym c.get_str-2.ensures) ∙ none)) c.in_err-contract.ensures)
 
 pub returns : goal.returns
