@@ -1,24 +1,21 @@
 -- The evaluator by the program's values: what it answers of an expression on a day, over fixings and among the names of a
 -- scope, and what it needs so that numbers fit 128 bits and days 64.
-use Rattle.std.specs.Prelude.{ℕ, ℤ, pos, ◌+ℤ◌, List, Result}
+use Rattle.std.specs.Prelude.{ℕ, ℤ, pos, ◌+ℤ◌, List}
 use Rattle.term_core.specs.Declarations.{declarations}
 use Rattle.term_core.specs.declared.decls.Decls.{Decls}
 use Rattle.term_core.specs.declared.terms.Expr.{Expr}
 use Rattle.term_core.specs.declared.terms.LogicOp.{LogicOp}
 use Rattle.term_core.specs.declared.values.Kind.{Kind}
-use Rattle.term_core.specs.declared.values.Missing.{Missing}
 use Rattle.term_core.specs.Terms.{Expression, expression, Cmp, Logic, Cond}
 use Rattle.term_core.specs.Environments.{Environment}
 use Rattle.interval_check.specs.RangeTrials.{kind_found}
-use Rattle.expr_eval.specs.declared.operations.Operands.{Operands}
-use Rattle.expr_eval.specs.declared.operations.Typed.{Typed}
 use Rattle.expr_eval.specs.declared.scopes.Scope.{Scope}
 use Rattle.expr_eval.specs.declared.trials.Comparison.{Comparison}
 use Rattle.expr_eval.specs.Rooms.{kinds_of}
 use Rattle.expr_eval.specs.Scopes.{bindings}
 use Rattle.expr_eval.specs.KindScales.{KindFits}
-use Rattle.expr_eval.specs.Runs.{Answer, run_of, both_of, day_done, days_run, untyped}
-use Rattle.expr_eval.specs.Fits.{Fits, DayFits, DaysFit}
+use Rattle.expr_eval.specs.Runs.{Answer, run_of, untyped}
+use Rattle.expr_eval.specs.Fits.{Fits}
 use Rattle.expr_eval.specs.Comparing.{ComparesOn}
 use Rattle.expr_eval.specs.Trials.{DayOrMissing, first_tried}
 
@@ -28,30 +25,6 @@ answer_in decls e scope fixings day = run_of (declarations decls) e (bindings sc
 
 abbrev pub FitsIn : Decls → Expression → Scope → Environment → ℤ → Type 0
 FitsIn decls e scope fixings day = Fits (declarations decls) e (bindings scope) fixings day
-
--- both operands, the left one first
-abbrev pub both_in : Decls → Expression → Expression → Scope → Environment → ℤ → Result Operands Missing
-both_in decls left right scope fixings day =
-    both_of (answer_in decls left scope fixings day) (answer_in decls right scope fixings day)
-
--- a day of an accumulator with this body, from its value before
-abbrev pub day_in : Decls → Expression → Scope → Environment → ℤ → Typed → Answer
-day_in decls body scope fixings day before =
-    day_done (λ g t. run_of (declarations decls) body g fixings t) (bindings scope) day before
-
-abbrev pub DayFitsIn : Decls → Expression → Scope → Environment → ℤ → Typed → Type 0
-DayFitsIn decls body scope fixings day before =
-    DayFits (λ g t. run_of (declarations decls) body g fixings t) (λ g t. Fits (declarations decls) body g fixings t)
-    (bindings scope) day before
-
--- its first n days, behind the one on which it starts
-abbrev pub days_in : Decls → Expression → Scope → Environment → ℤ → ℕ → Answer → Answer
-days_in decls body scope fixings from n start = days_run (declarations decls) body (bindings scope) fixings from n start
-
-abbrev pub DaysFitIn : Decls → Expression → Scope → Environment → ℤ → ℕ → Answer → Type 0
-DaysFitIn decls body scope fixings from n start =
-    DaysFit (λ g t. run_of (declarations decls) body g fixings t) (λ g t. Fits (declarations decls) body g fixings t)
-    (bindings scope) from n start
 
 -- ---- kinds, by the forms of expressions
 
@@ -70,7 +43,7 @@ abbrev pub sides : LogicOp → Expr → Expr → Expression
 sides op left right = Logic op (expression left) (expression right)
 
 abbrev pub branches : Expr → Expr → Expr → Expression
-branches test yes no = Cond (expression test) (expression yes) (expression no)
+branches t a b = Cond (expression t) (expression a) (expression b)
 
 abbrev pub comparison : Comparison → Expression
 comparison test = Cmp test.op (expression test.left.now) (expression test.right.now)

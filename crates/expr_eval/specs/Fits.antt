@@ -56,3 +56,9 @@ Fits d (Acc body n first) g env f =
     IsDay f × IsDay (f -ℤ pos n) × Fits d first g env (f -ℤ pos n)
     × DaysFit (λ h t. run_of d body h env t) (λ h t. Fits d body h env t) g (f -ℤ pos n) n (run_of d first g env (f -ℤ pos n))
 Fits d _ g env f = Unit {0}
+
+abbrev pub DayFitsIn : Declarations → Expression → List Binding → Environment → ℤ → Typed → Type 0
+DayFitsIn d body g env at v = DayFits (λ h t. run_of d body h env t) (λ h t. Fits d body h env t) g at v
+
+abbrev pub DaysFitIn : Declarations → Expression → List Binding → Environment → ℤ → ℕ → Answer → Type 0
+DaysFitIn d body g env from n start = DaysFit (λ h t. run_of d body h env t) (λ h t. Fits d body h env t) g from n start

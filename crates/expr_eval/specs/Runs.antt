@@ -114,6 +114,13 @@ run_of d (Div mode s a b) g env f = on_both (both_of (run_of d a g env f) (run_o
 run_of d (Acc body n first) g env f =
     days_tried n (day_step (λ h t. run_of d body h env t) g (f -ℤ pos n)) (run_of d first g env (f -ℤ pos n))
 
--- the first n days of an accumulator with this body
+-- both operands, the left one first
+abbrev pub both_run : Declarations → Expression → Expression → List Binding → Environment → ℤ → Result Operands Missing
+both_run d a b g env f = both_of (run_of d a g env f) (run_of d b g env f)
+
+-- a day of an accumulator with this body, and its first n days
+abbrev pub day_run : Declarations → Expression → List Binding → Environment → ℤ → Typed → Answer
+day_run d body g env at v = day_done (λ h t. run_of d body h env t) g at v
+
 abbrev pub days_run : Declarations → Expression → List Binding → Environment → ℤ → ℕ → Answer → Answer
 days_run d body g env from n start = days_tried n (day_step (λ h t. run_of d body h env t) g from) start

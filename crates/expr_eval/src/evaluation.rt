@@ -4,9 +4,9 @@ ghost use Rattle.std.specs.Prelude.{◌≡◌, ◌+◌, ◌+ℤ◌, ◌-ℤ◌, 
 ghost use Rattle.term_core.specs.Declarations.{declarations};
 ghost use Rattle.term_core.specs.Terms.{expression};
 ghost use Rattle.expr_eval.specs.Scopes.{bindings};
-ghost use Rattle.expr_eval.specs.Runs.{observation, of_binding, untyped};
-ghost use Rattle.expr_eval.specs.Fits.{IsDay};
-ghost use Rattle.expr_eval.specs.Evaluations.{DayFitsIn, DaysFitIn, FitsIn, answer_in, both_in, branches, day_in, days_in, sides};
+ghost use Rattle.expr_eval.specs.Runs.{both_run, day_run, days_run, observation, of_binding, run_of, untyped};
+ghost use Rattle.expr_eval.specs.Fits.{DayFitsIn, DaysFitIn, Fits, IsDay};
+ghost use Rattle.expr_eval.specs.Evaluations.{branches, sides};
 
 use crate::kinds::{kind_in, kind_observed};
 use crate::operations::{
@@ -102,8 +102,8 @@ pub fn evaluate(
     fixings: &Fixings,
     day: i64,
 ) -> Result<Typed, Missing>
-    requires { FitsIn decls.now (expression e.now) scope.now fixings.now day }
-    ensures { result ≡ answer_in decls.now (expression e.now) scope.now fixings.now day }
+    requires { Fits (declarations decls.now) (expression e.now) (bindings scope.now) fixings.now day }
+    ensures { result ≡ run_of (declarations decls.now) (expression e.now) (bindings scope.now) fixings.now day }
 {
     match e {
         Expr::Lit { mant, scale } => Ok(number(*scale, *mant)),
@@ -167,9 +167,9 @@ fn evaluate_both(
     fixings: &Fixings,
     day: i64,
 ) -> Result<Operands, Missing>
-    requires left { FitsIn decls.now (expression left.now) scope.now fixings.now day }
-    requires right { FitsIn decls.now (expression right.now) scope.now fixings.now day }
-    ensures { result ≡ both_in decls.now (expression left.now) (expression right.now) scope.now fixings.now day }
+    requires left { Fits (declarations decls.now) (expression left.now) (bindings scope.now) fixings.now day }
+    requires right { Fits (declarations decls.now) (expression right.now) (bindings scope.now) fixings.now day }
+    ensures { result ≡ both_run (declarations decls.now) (expression left.now) (expression right.now) (bindings scope.now) fixings.now day }
 {
     let left = evaluate(decls, left, scope, fixings, day)?;
     let right = evaluate(decls, right, scope, fixings, day)?;
@@ -187,8 +187,8 @@ fn evaluate_logic(
     fixings: &Fixings,
     day: i64,
 ) -> Result<Typed, Missing>
-    requires { FitsIn decls.now (sides op left.now right.now) scope.now fixings.now day }
-    ensures { result ≡ answer_in decls.now (sides op left.now right.now) scope.now fixings.now day }
+    requires { Fits (declarations decls.now) (sides op left.now right.now) (bindings scope.now) fixings.now day }
+    ensures { result ≡ run_of (declarations decls.now) (sides op left.now right.now) (bindings scope.now) fixings.now day }
 {
     let left = evaluate(decls, left, scope, fixings, day)?.value.is_true();
     if is_decided(op, left) {
@@ -209,8 +209,8 @@ fn evaluate_branches(
     fixings: &Fixings,
     day: i64,
 ) -> Result<Typed, Missing>
-    requires { FitsIn decls.now (branches test.now yes.now no.now) scope.now fixings.now day }
-    ensures { result ≡ answer_in decls.now (branches test.now yes.now no.now) scope.now fixings.now day }
+    requires { Fits (declarations decls.now) (branches test.now yes.now no.now) (bindings scope.now) fixings.now day }
+    ensures { result ≡ run_of (declarations decls.now) (branches test.now yes.now no.now) (bindings scope.now) fixings.now day }
 {
     let test = evaluate(decls, test, scope, fixings, day)?;
     if test.value.is_true() {
@@ -235,9 +235,9 @@ fn evaluate_days(
     fixings: &Fixings,
     from: i64,
 ) -> Result<Typed, Missing>
-    requires fits { DaysFitIn decls.now (expression body.now) scope.now fixings.now from days start }
+    requires fits { DaysFitIn (declarations decls.now) (expression body.now) (bindings scope.now) fixings.now from days start }
     requires first { IsDay from }
-    ensures { result ≡ days_in decls.now (expression body.now) scope.now fixings.now from days start }
+    ensures { result ≡ days_run (declarations decls.now) (expression body.now) (bindings scope.now) fixings.now from days start }
 {
     let mut value = start?;
     for i in 0..days {
@@ -257,8 +257,8 @@ fn evaluate_day(
     fixings: &Fixings,
     day: i64,
 ) -> Result<Typed, Missing>
-    requires fits { DayFitsIn decls.now (expression body.now) scope.now fixings.now day value }
-    ensures { result ≡ day_in decls.now (expression body.now) scope.now fixings.now day value }
+    requires fits { DayFitsIn (declarations decls.now) (expression body.now) (bindings scope.now) fixings.now day value }
+    ensures { result ≡ day_run (declarations decls.now) (expression body.now) (bindings scope.now) fixings.now day value }
 {
     let held = Held::Known { value: value.value };
     let inner = Scope::Inner {
