@@ -1,6 +1,6 @@
 //! The walk over code at a base: what it is worth, or the first place that is not fixed.
 
-ghost use Rattle.std.specs.Prelude.{◌≡◌, ◌≤◌, ◌+◌, ◌*ℤ◌, ◌+ℤ◌, int_lt, true, unsigned_abs, IfOk, Ok};
+ghost use Rattle.std.specs.Prelude.{◌≡◌, ◌≤◌, ◌+◌, ◌*ℤ◌, ◌+ℤ◌, pos, int_lt, true, unsigned_abs, IfOk, Ok};
 ghost use Rattle.term_core.specs.Values.{num};
 ghost use Rattle.term_core.specs.Flows.{unit_flow};
 ghost use Rattle.interval_check.specs.Safety.{IsSmall};
@@ -22,7 +22,7 @@ use crate::dates::{count, day_on};
 use crate::evaluation::evaluate;
 use crate::kinds::kind_in;
 use decimal::align;
-use expr_eval::evaluation::{day_on as later, without_kind};
+use expr_eval::evaluation::without_kind;
 use expr_eval::scopes::Scope;
 use expr_eval::{Held, Scratch};
 use payoff_lang::{Code, DateExpr, Vx};
@@ -127,6 +127,14 @@ fn value_on(asking: &Asking, scratch: &Scratch, base: i64, v: &Vx) -> Result<Val
 {
     let scope = Scope::Base { scratch };
     without_kind(evaluate(asking, v, &scope, base))
+}
+
+// The base some days later.
+fn later(base: i64, days: u32) -> i64
+    requires { IsDay base }
+    ensures { result ≡ base +ℤ pos days }
+{
+    base + days as i64
 }
 
 // The days until a test is first true, of the days 0 to `days`.
