@@ -23,15 +23,15 @@ use Rattle.flow_eval.specs.declared.flow_table.FlowTable.{FlowTable}
 use Rattle.advance_step.specs.Advancing.{Advances, IsResidual, day_before}
 use Rattle.report.specs.FlowLines.{AppendsFlowLine, IsFlowLine}
 use Rattle.report.specs.declared.fault_lines.Fault.{Fault}
-use Rattle.contract_cli.specs.AdvanceLists.{AnswersRests, AppendsComments, AppendsRest, AppendsRests, IsRestText}
-use Rattle.contract_cli.specs.AdvanceText.{AreComments, AreDueLines, AreResiduals, IsAdvanceText, IsNewDay, StopsAdvance, day_out, not_accepted, row_refused, read_missing, commented, greatest_new_day, last_gone, rest_declarations}
-use Rattle.contract_cli.specs.CheckText.{AreAllAccepted}
+use Rattle.contract_cli.specs.AdvanceParts.{AnswersRests, AppendsComments, AppendsRest, AppendsRests, IsRestText}
+use Rattle.contract_cli.specs.AdvancePromise.{AreComments, AreDueLines, AreResiduals, IsAdvanceText, IsNewDay, StopsAdvance, day_out, not_accepted, row_refused, read_missing, commented, greatest_new_day, last_gone, rest_declarations}
+use Rattle.contract_cli.specs.CheckPromise.{AreAllAccepted}
 use Rattle.command_words.specs.Commands.{AdvanceAsked}
-use Rattle.contract_cli.specs.FlowLists.{IsMissingOf, IsMissingOne, IsRefusedOf, IsRowFault, IsStopOf, IsWordFault}
-use Rattle.contract_cli.specs.FlowsText.{AreFixings}
+use Rattle.contract_cli.specs.FlowsParts.{IsMissingOf, IsMissingOne, IsRefusedOf, IsRowFault, IsStopOf, IsWordFault}
+use Rattle.contract_cli.specs.FlowsPromise.{AreFixings}
 use Rattle.contract_cli.specs.Stopping.{AnswersBy}
-use Rattle.contract_cli.specs.Used.{used}
-use Rattle.contract_cli.specs.Using.{trees}
+use Rattle.contract_cli.specs.UsedContracts.{used}
+use Rattle.contract_cli.specs.UsedParts.{trees}
 use Rattle.contract_cli.specs.declared.advance_text.Left.{Left}
 use Rattle.contract_cli.specs.declared.stop.Stop.{Stop}
 use Rattle.contract_cli.specs.declared.stop.Stop.TheVariants as stop

@@ -5,12 +5,12 @@ use Rattle.term_core.specs.Books.{Book}
 use Rattle.term_core.specs.Declarations.{Declarations}
 use Rattle.term_core.specs.Environments.{Environment}
 use Rattle.report.specs.declared.fault_lines.Fault.{Fault}
-use Rattle.contract_cli.specs.AdvanceText.{AreDueLines, CanAdvance, IsAdvanceText, IsNewDay, IsNoNewDay, StopsAdvance, day_out, not_accepted, row_refused, read_missing, greatest_new_day, last_gone}
+use Rattle.contract_cli.specs.AdvancePromise.{AreDueLines, CanAdvance, IsAdvanceText, IsNewDay, IsNoNewDay, StopsAdvance, day_out, not_accepted, row_refused, read_missing, greatest_new_day, last_gone}
 use Rattle.command_words.specs.Commands.{Advance, AdvanceAsked}
-use Rattle.contract_cli.specs.FlowLists.{IsWordFault}
+use Rattle.contract_cli.specs.FlowsParts.{IsWordFault}
 use Rattle.contract_cli.specs.RunLaws.{CauseOnBook, DueLinesAreOne}
 use Rattle.contract_cli.specs.Statuses.{status_of}
-use Rattle.contract_cli.specs.Used.{used}
+use Rattle.contract_cli.specs.UsedContracts.{used}
 use Rattle.contract_cli.specs.declared.status.Status.{Status}
 use Rattle.contract_cli.specs.declared.status.Status.TheVariants as status
 use Rattle.contract_cli.proofs.DayFacts.{new_is_asked}

@@ -29,8 +29,8 @@ use Rattle.flow_eval.specs.declared.flow_table.FlowRow.{FlowRow}
 use Rattle.report.specs.CheckLines.{line_feed}
 use Rattle.report.specs.FlowLines.{IsDayText, IsFlowLine, field, name_at}
 use Rattle.contract_cli.specs.AdvanceLaws.{AdvanceTextsAreTexts}
-use Rattle.contract_cli.specs.AdvanceText.{AreComments, AreDueLines, AreResiduals, commented, last_gone}
-use Rattle.contract_cli.specs.Used.{at_defaults, is_asked, used}
+use Rattle.contract_cli.specs.AdvancePromise.{AreComments, AreDueLines, AreResiduals, commented, last_gone}
+use Rattle.contract_cli.specs.UsedContracts.{at_defaults, is_asked, used}
 use Rattle.contract_cli.proofs.UsedFacts.{own_instance}
 
 -- ---- literals, as texts limit them

@@ -5,13 +5,13 @@ use Rattle.std.specs.Global.{Vec}
 use Rattle.std.proofs.lemmas.Result.{err_from_is_err_and}
 use Rattle.term_core.specs.Books.{Book}
 use Rattle.contract_parse.specs.Texts.{Text}
-use Rattle.contract_cli.specs.Answering.{AnswersBytes}
-use Rattle.contract_cli.specs.Answers.{Answers, Inputs, Stops, on_portfolio, told}
-use Rattle.contract_cli.specs.AdvanceText.{IsAdvanceText, StopsAdvance}
-use Rattle.contract_cli.specs.CheckText.{IsChecked}
+use Rattle.contract_cli.specs.RunParts.{AnswersBytes}
+use Rattle.contract_cli.specs.FilesPromise.{Answers, Inputs, Stops, on_portfolio, told}
+use Rattle.contract_cli.specs.AdvancePromise.{IsAdvanceText, StopsAdvance}
+use Rattle.contract_cli.specs.CheckPromise.{IsCheckText}
 use Rattle.command_words.specs.Commands.{Advance, AdvanceAsked, Asked, Check, Flows, FlowsAsked, Payoff, PayoffAsked}
-use Rattle.contract_cli.specs.FlowsText.{IsFlowsText, StopsFlows}
-use Rattle.contract_cli.specs.PayoffText.{IsPayoffText, StopsPayoff}
+use Rattle.contract_cli.specs.FlowsPromise.{IsFlowsText, StopsFlows}
+use Rattle.contract_cli.specs.PayoffPromise.{IsPayoffText, StopsPayoff}
 use Rattle.contract_cli.specs.Stopping.{AnswersBy}
 use Rattle.contract_cli.specs.declared.answers.Answer.{Answer}
 use Rattle.contract_cli.specs.declared.status.Status.TheVariants as status
@@ -25,7 +25,7 @@ lacks_memory asked inputs r given =
     let p = err_from_is_err_and r given in
     subst (λ (x : Result Answer Stop). AnswersBytes asked inputs x) (sym (p.1 ∙ ap (λ (x : Stop). Err x) p.2)) tt
 
-pub check_told : (asked : Asked) (file : List ℕ) (inputs : Inputs) (b : Book) (a : Answer) → asked ≡ Check file → Text inputs.portfolio b → IsChecked b a.status a.text.items → AnswersBytes asked inputs (Ok a)
+pub check_told : (asked : Asked) (file : List ℕ) (inputs : Inputs) (b : Book) (a : Answer) → asked ≡ Check file → Text inputs.portfolio b → IsCheckText b a.status a.text.items → AnswersBytes asked inputs (Ok a)
 check_told asked file inputs b a is text h =
     subst (λ (x : Asked). AnswersBytes x inputs (Ok a)) (sym is) (told b text h)
 

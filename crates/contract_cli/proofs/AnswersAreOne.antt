@@ -16,7 +16,7 @@ use Rattle.contract_parse.proofs.OneText.{one_text}
 use Rattle.report.specs.FaultLines.{fault_text}
 use Rattle.report.specs.declared.fault_lines.Fault.{Fault}
 use Rattle.report.specs.declared.fault_lines.Fault.TheVariants as fault
-use Rattle.contract_cli.specs.Answers.{Answers, Inputs, Stops, StopsOn, Tells, not_spelled, on_portfolio, stopped, told}
+use Rattle.contract_cli.specs.FilesPromise.{Answers, Inputs, Stops, StopsOn, Tells, not_spelled, on_portfolio, stopped, told}
 use Rattle.command_words.specs.Commands.{Advance, Asked, Check, Flows, Payoff}
 use Rattle.contract_cli.specs.RunLaws.{AnswersAreOne, LeavesNothingOpen, StatusesAreOne}
 use Rattle.contract_cli.specs.Statuses.{status_of}

@@ -20,9 +20,9 @@ use Rattle.contract_check.specs.Checks.{IsGranted, told}
 use Rattle.contract_check.specs.declared.checks.Facts.{Facts}
 use Rattle.report.specs.CheckLines.{accepted_line, verdict_line}
 use Rattle.time_types.specs.Starts.{start_day}
-use Rattle.contract_cli.specs.CheckText.{AreCheckLines, IsCheckLine, accepted, refused, IsChecked, all_accepted, some_refused}
-use Rattle.contract_cli.specs.Checking.{AppendsVerdict, AppendsVerdicts, IsVerdictOf}
-use Rattle.contract_cli.specs.Used.{used}
+use Rattle.contract_cli.specs.CheckPromise.{AreCheckLines, IsCheckLine, accepted, refused, IsCheckText, all_accepted, some_refused}
+use Rattle.contract_cli.specs.CheckParts.{AppendsVerdict, AppendsVerdicts, IsVerdictOf}
+use Rattle.contract_cli.specs.UsedContracts.{used}
 use Rattle.contract_cli.specs.declared.status.Status.{Status}
 use Rattle.contract_cli.specs.declared.status.Status.TheVariants as status
 
@@ -88,9 +88,9 @@ verdicts_more d entry rest so_far one all before middle after v vs = record {
 lines_all : (d : Declarations) (entries : List (Name × Contract)) (so_far all : Bool) (text : List ℕ) → AppendsVerdicts d entries so_far all [] text → AreCheckLines d entries text
 lines_all d entries so_far all text vs = subst (λ (t : List ℕ). AreCheckLines d entries t) (sym vs.appended) vs.lines
 
-pub all_done : (b : Book) (all : Bool) (text : List ℕ) (s : Status) → AppendsVerdicts b.declarations (used None b) true all [] text → all ≡ true → s ≡ status.Done → IsChecked b s text
+pub all_done : (b : Book) (all : Bool) (text : List ℕ) (s : Status) → AppendsVerdicts b.declarations (used None b) true all [] text → all ≡ true → s ≡ status.Done → IsCheckText b s text
 all_done b all text s vs every e = all_accepted e (vs.decides.0 every).1 (lines_all b.declarations (used None b) true all text vs)
 
-pub some_not : (b : Book) (all : Bool) (text : List ℕ) (s : Status) → AppendsVerdicts b.declarations (used None b) true all [] text → all ≡ false → s ≡ status.Refused → IsChecked b s text
+pub some_not : (b : Book) (all : Bool) (text : List ℕ) (s : Status) → AppendsVerdicts b.declarations (used None b) true all [] text → all ≡ false → s ≡ status.Refused → IsCheckText b s text
 some_not b all text s vs fails e =
     some_refused e (λ every. let yes : all ≡ true = vs.decides.1 (refl, every) in let h : false ≡ true = sym fails ∙ yes in cc) (lines_all b.declarations (used None b) true all text vs)

@@ -11,9 +11,9 @@ use Rattle.term_core.specs.Terms.{Contract}
 use Rattle.term_core.proofs.ResidualFacts.{carries_composes}
 use Rattle.term_core.proofs.VerdictFacts.{one_verdict}
 use Rattle.advance_step.specs.Advancing.{IsResidual}
-use Rattle.contract_cli.specs.AdvanceText.{AreResiduals, rest_declarations}
+use Rattle.contract_cli.specs.AdvancePromise.{AreResiduals, rest_declarations}
 use Rattle.contract_cli.specs.RunLaws.{AdvancesCompose, AreCarried}
-use Rattle.contract_cli.specs.Used.{used}
+use Rattle.contract_cli.specs.UsedContracts.{used}
 use Rattle.contract_cli.proofs.UsedFacts.{own_instance, used_of}
 
 module _ (d : Declarations) (fixings more : Environment) (day later : ℕ) (first : d.start ≤ day) (next : day ≤ later) (extends : Extends fixings more) where

@@ -9,9 +9,9 @@ use Rattle.fixing_files.specs.declared.days.DayFault.TheVariants.{NotDay, NoOrig
 use Rattle.fixing_files.specs.declared.days.NamedDay.{NamedDay}
 use Rattle.fixing_files.specs.declared.days.NamedDay.TheVariants.{Number, Date}
 use Rattle.report.specs.declared.fault_lines.Fault.{Fault}
-use Rattle.contract_cli.specs.AdvanceText.{IsNewDay, greatest_new_day}
-use Rattle.contract_cli.specs.FlowLists.{CanBeLast, IsDayFault, IsWordFault, day_in_range}
-use Rattle.contract_cli.specs.FlowsText.{IsDayAsked, IsOutOfRange, no_origin, too_early, too_late, greatest_day}
+use Rattle.contract_cli.specs.AdvancePromise.{IsNewDay, greatest_new_day}
+use Rattle.contract_cli.specs.FlowsParts.{CanBeLast, IsDayFault, IsWordFault, day_in_range}
+use Rattle.contract_cli.specs.FlowsPromise.{IsDayAsked, IsOutOfRange, no_origin, too_early, too_late, greatest_day}
 
 le_from : (a b : ℤ) → int_le a b ≡ true → a ≤ℤ b
 le_from a b h = grind (arith, ints)

@@ -5,7 +5,7 @@ use Rattle.term_core.specs.Declarations.{Declarations}
 use Rattle.term_core.specs.Environments.{Environment, Place, held}
 use Rattle.term_core.specs.Terms.{Contract}
 use Rattle.flow_eval.specs.declared.flow_table.FlowRow.{FlowRow}
-use Rattle.contract_cli.specs.AdvanceText.{AreComments, AreDueLines, IsDueText, commented}
+use Rattle.contract_cli.specs.AdvancePromise.{AreComments, AreDueLines, IsDueText, commented}
 use Rattle.contract_cli.proofs.FlowsAreOne.{one_line, one_table}
 
 one_comments : (d : Declarations) (name : List ℕ) (rows : List FlowRow) (t u : List ℕ) → AreComments d name rows t → AreComments d name rows u → t ≡ u

@@ -21,8 +21,8 @@ use Rattle.flow_eval.specs.Tables.{paid_by}
 use Rattle.flow_eval.specs.declared.flow_table.FlowRow.{FlowRow}
 use Rattle.flow_eval.proofs.TableFacts.{tables_are_one}
 use Rattle.report.specs.FlowLines.{IsDayText, IsFlowLine, line_with}
-use Rattle.contract_cli.specs.CheckText.{AreAllAccepted}
-use Rattle.contract_cli.specs.FlowsText.{AreAllFixed, AreAllLines, AreFixings, AreFlowLines, AreLines, AreLinesAsked, AreSumLines, IsDayAsked, IsFirstMissing, IsFirstNotAccepted, IsLastDay, IsOutOfRange, no_origin, too_early, too_late, missing_of, paid_together}
+use Rattle.contract_cli.specs.CheckPromise.{AreAllAccepted}
+use Rattle.contract_cli.specs.FlowsPromise.{AreAllFixed, AreAllLines, AreFixings, AreFlowLines, AreLines, AreLinesAsked, AreSumLines, IsDayAsked, IsFirstMissing, IsFirstNotAccepted, IsLastDay, IsOutOfRange, no_origin, too_early, too_late, missing_of, paid_together}
 
 -- ---- the last day
 

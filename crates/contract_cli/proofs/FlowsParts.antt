@@ -7,12 +7,12 @@ use Rattle.term_core.specs.Books.{Book}
 use Rattle.term_core.specs.Environments.{Environment}
 use Rattle.term_core.specs.Terms.{Contract}
 use Rattle.report.specs.declared.fault_lines.Fault.{Fault}
-use Rattle.contract_cli.specs.CheckText.{AreAllAccepted}
+use Rattle.contract_cli.specs.CheckPromise.{AreAllAccepted}
 use Rattle.command_words.specs.Commands.{FlowsAsked}
-use Rattle.contract_cli.specs.FlowLists.{IsDayFault, IsMissingOf, IsRefusedOf, IsRowFault, LinesKnown}
-use Rattle.contract_cli.specs.FlowsText.{AreFixings, IsFlowsText, StopsFlows, name_unknown, day_out, not_accepted, row_refused, read_missing, WordsFit}
-use Rattle.contract_cli.specs.Used.{is_known, used}
-use Rattle.contract_cli.specs.Using.{IsUnknownName, entries_of, entry_of}
+use Rattle.contract_cli.specs.FlowsParts.{IsDayFault, IsMissingOf, IsRefusedOf, IsRowFault, LinesKnown}
+use Rattle.contract_cli.specs.FlowsPromise.{AreFixings, IsFlowsText, StopsFlows, name_unknown, day_out, not_accepted, row_refused, read_missing, WordsFit}
+use Rattle.contract_cli.specs.UsedContracts.{is_known, used}
+use Rattle.contract_cli.specs.UsedParts.{IsUnknownName, entries_of, entry_of}
 use Rattle.contract_cli.specs.declared.used.Used.{Used}
 use Rattle.contract_cli.proofs.UsedFacts.{used_few}
 

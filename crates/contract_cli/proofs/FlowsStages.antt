@@ -7,11 +7,11 @@ use Rattle.term_core.specs.Environments.{Environment}
 use Rattle.report.specs.declared.fault_lines.Fault.{Fault}
 use Rattle.report.specs.declared.fault_lines.Fault.TheVariants as fault
 use Rattle.command_words.specs.Commands.{Flows, FlowsAsked}
-use Rattle.contract_cli.specs.FlowLists.{IsDayFault}
-use Rattle.contract_cli.specs.FlowsText.{AreLinesAsked, CanGo, IsFlowsText, IsLastDay, IsOutOfRange, StopsFlows, name_unknown, day_out, not_accepted, row_refused, read_missing, greatest_day}
+use Rattle.contract_cli.specs.FlowsParts.{IsDayFault}
+use Rattle.contract_cli.specs.FlowsPromise.{AreLinesAsked, CanListFlows, IsFlowsText, IsLastDay, IsOutOfRange, StopsFlows, name_unknown, day_out, not_accepted, row_refused, read_missing, greatest_day}
 use Rattle.contract_cli.specs.RunLaws.{CauseOnBook}
 use Rattle.contract_cli.specs.Statuses.{status_of}
-use Rattle.contract_cli.specs.Used.{used}
+use Rattle.contract_cli.specs.UsedContracts.{used}
 use Rattle.contract_cli.specs.declared.status.Status.{Status}
 use Rattle.contract_cli.specs.declared.status.Status.TheVariants as status
 use Rattle.contract_cli.proofs.FlowsAreOne.{hold_same, in_range_or_not, one_last, one_lines_asked}
@@ -59,14 +59,14 @@ module _ (b : Book) (flows : FlowsAsked) (table : Option (List ℕ)) where
     status_is = ap status_of is;
   }
 
-  pub end_below : (last : ℤ) (fixings : Environment) → CanGo b flows table last fixings → Below b flows.contract (days b.declarations flows.until) table 5
+  pub end_below : (last : ℤ) (fixings : Environment) → CanListFlows b flows table last fixings → Below b flows.contract (days b.declarations flows.until) table 5
   end_below last fixings can =
       (record { last = last; is_last = can.fit.is_last; fixings = fixings; are_fixings = can.are_fixings; holds = can.fixed }, ((fixings, can.are_fixings), (can.accepted, ((last, can.fit.is_last), (can.fit.known, tt)))))
 
   pub one_stop : (f g : Fault) → StopsFlows b flows table f → StopsFlows b flows table g → f ≡ g
   one_stop f g h k = one_stop_at b flows.contract (days b.declarations flows.until) table f g (stage_of f h) (stage_of g k)
 
-  pub stop_or_end : (f : Fault) (last : ℤ) (fixings : Environment) → StopsFlows b flows table f → CanGo b flows table last fixings → ⊥
+  pub stop_or_end : (f : Fault) (last : ℤ) (fixings : Environment) → StopsFlows b flows table f → CanListFlows b flows table last fixings → ⊥
   stop_or_end f last fixings h can = no_end b flows.contract (days b.declarations flows.until) table f (stage_of f h) (end_below last fixings can)
 
   pub stop_or_text : (f : Fault) (text : List ℕ) → StopsFlows b flows table f → IsFlowsText b flows table text → ⊥

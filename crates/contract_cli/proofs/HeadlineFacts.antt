@@ -12,12 +12,11 @@ use Rattle.payoff_lang.specs.Meaning.{CodeMeans, MayBeAsked, Remaining}
 use Rattle.report.specs.declared.fault_lines.Fault.{Fault}
 use Rattle.command_words.specs.Commands.{Advance, AdvanceAsked, Asked, Check, Flows, OnCode, OnFiles, Payoff, PayoffAsked, Sample, ValueAsked}
 use Rattle.command_words.specs.Words.{request_of}
-use Rattle.contract_cli.specs.Answers.{Answers, Inputs, Stops, not_spelled, on_portfolio, stopped as stops_on, told}
+use Rattle.contract_cli.specs.FilesPromise.{Answers, Inputs, Stops, ValueAnswers, not_spelled, on_portfolio, stopped as stops_on, told, value_stopped, value_told}
 use Rattle.contract_cli.specs.Headline.{HasAdvanced, HasChecked, HasCompiled, HasValued, Headline, IsWorthOfContract, Judged}
-use Rattle.contract_cli.specs.Runs.{Cause, stopped, answered, valued, sampled, Edge, FileFault, read_failed, read_long, FilesSeen, by_command, by_value, Meets, written, broken, lacking, Names, NamesValue, StopsRun, no_form, at_file, WereRead, WereReadForValue, WritesAll}
+use Rattle.contract_cli.specs.RunPromise.{Cause, stopped, answered, valued, sampled, Edge, FileFault, read_failed, read_long, FilesSeen, by_command, by_value, Meets, written, broken, lacking, Names, NamesValue, StopsRun, no_form, at_file, WereRead, WereReadForValue, WritesAll}
 use Rattle.contract_cli.specs.Statuses.{status_of}
-use Rattle.contract_cli.specs.ValueAnswers.{ValueAnswers, value_stopped, value_told}
-use Rattle.contract_cli.specs.ValueText.{CanValue, IsValueText, ValueInputs, question, setting_by}
+use Rattle.contract_cli.specs.ValuePromise.{CanValue, IsValueText, ValueInputs, question, setting_by}
 use Rattle.contract_cli.specs.declared.status.Status.{Status}
 use Rattle.contract_cli.specs.declared.status.Status.TheVariants as status
 use Rattle.contract_cli.proofs.AdvanceTexts.{advance_texts_are_texts}

@@ -10,18 +10,18 @@ use Rattle.contract_parse.proofs.OneText.{one_text}
 use Rattle.report.specs.FaultLines.{fault_text}
 use Rattle.report.specs.declared.fault_lines.Fault.{Fault}
 use Rattle.report.specs.declared.fault_lines.Fault.TheVariants as fault
-use Rattle.contract_cli.specs.Answers.{Answers, Inputs, IsNoText, StopsOn, Tells, not_spelled, on_portfolio, stopped, told}
-use Rattle.contract_cli.specs.Answering.{AreShort}
-use Rattle.contract_cli.specs.AdvanceText.{CanAdvance, IsAdvanceText, StopsAdvance, day_out as no_day, not_accepted as any_not_accepted, row_refused as any_row_refused, read_missing as any_read_missing, last_gone}
-use Rattle.contract_cli.specs.CheckText.{AreAllAccepted, IsChecked, all_accepted, some_refused}
+use Rattle.contract_cli.specs.FilesPromise.{Answers, Inputs, IsNoText, StopsOn, Tells, not_spelled, on_portfolio, stopped, told}
+use Rattle.contract_cli.specs.RunParts.{AreShort}
+use Rattle.contract_cli.specs.AdvancePromise.{CanAdvance, IsAdvanceText, StopsAdvance, day_out as no_day, not_accepted as any_not_accepted, row_refused as any_row_refused, read_missing as any_read_missing, last_gone}
+use Rattle.contract_cli.specs.CheckPromise.{AreAllAccepted, IsCheckText, all_accepted, some_refused}
 use Rattle.command_words.specs.Commands.{Advance, AdvanceAsked, Asked, Check, Flows, FlowsAsked, OnCode, OnFiles, Payoff, PayoffAsked, Sample}
-use Rattle.contract_cli.specs.FlowLists.{IsShortTable}
-use Rattle.contract_cli.specs.FlowsText.{CanGo, IsFlowsText, StopsFlows, name_unknown, day_out, not_accepted, row_refused, read_missing}
-use Rattle.contract_cli.specs.PayoffText.{CanCompile, IsPayoffText, StopsPayoff}
-use Rattle.contract_cli.specs.Runs.{Cause, stopped as stops_run, answered, valued, sampled, Edge, FileFault, read_failed, read_long, FilesSeen, IsNextByWords, by_command, by_value, Meets, written, broken, lacking, no_form, at_file, WritesAll, WritesNothing}
+use Rattle.contract_cli.specs.FlowsParts.{IsShortTable}
+use Rattle.contract_cli.specs.FlowsPromise.{CanListFlows, IsFlowsText, StopsFlows, name_unknown, day_out, not_accepted, row_refused, read_missing}
+use Rattle.contract_cli.specs.PayoffPromise.{CanCompile, IsPayoffText, StopsPayoff}
+use Rattle.contract_cli.specs.RunPromise.{Cause, stopped as stops_run, answered, valued, sampled, Edge, FileFault, read_failed, read_long, FilesSeen, IsNextByWords, by_command, by_value, Meets, written, broken, lacking, no_form, at_file, WritesAll, WritesNothing}
 use Rattle.contract_cli.specs.RunLaws.{AdvanceIsComplete, BadTextIsExact, CauseOnBook, CheckIsComplete, ComesExactlyWhere, FlowsAreComplete, IsExactOnBook, IsLongAt, long_portfolio, long_table, IsReadWhole, IsTextWhere, IsTooLong, PayoffIsComplete, ReadFaultIs, ReadFaultsHaveCauses, RefusalsAreExact, TooLongIs, TooLongIsExact, UsageIsExact, UsageWritesItsLine, WriteFaultsHaveCauses}
 use Rattle.contract_cli.specs.Statuses.{status_of}
-use Rattle.contract_cli.specs.Used.{used}
+use Rattle.contract_cli.specs.UsedContracts.{used}
 use Rattle.command_words.specs.Words.{request_of}
 use Rattle.contract_cli.specs.declared.status.Status.{Status}
 use Rattle.contract_cli.specs.declared.status.Status.TheVariants as status
@@ -253,7 +253,7 @@ check_cause : (wanted : Status) (file : List ℕ) (table : Option (List ℕ)) (b
 check_cause status.Refused file table b h = (refl, h)
 check_cause _ file table b h = absurd h
 
-check_forces_told : (b : Book) (s wanted : Status) (text : List ℕ) → IsChecked b s text → wanted ≡ status.Refused → (AreAllAccepted b.declarations (used None b) → ⊥) → s ≡ wanted
+check_forces_told : (b : Book) (s wanted : Status) (text : List ℕ) → IsCheckText b s text → wanted ≡ status.Refused → (AreAllAccepted b.declarations (used None b) → ⊥) → s ≡ wanted
 check_forces_told b s wanted text (all_accepted e all lines) is none = absurd (none all)
 check_forces_told b s wanted text (some_refused e nor lines) is none = e ∙ sym is
 
@@ -318,16 +318,16 @@ refusals_are_exact = record {
 
 -- ---- completeness
 
-check_whole : (file : List ℕ) (inputs : Inputs) (b : Book) (s : Status) (text : List ℕ) → Text inputs.portfolio b → Answers (Check file) inputs s text → IsChecked b s text
+check_whole : (file : List ℕ) (inputs : Inputs) (b : Book) (s : Status) (text : List ℕ) → Text inputs.portfolio b → Answers (Check file) inputs s text → IsCheckText b s text
 check_whole file inputs b s text spelled (stopped f (not_spelled h) e line) = absurd (h.no_text b spelled)
 check_whole file inputs b s text spelled (stopped f (on_portfolio c other h) e line) = absurd h
-check_whole file inputs b s text spelled (told c other h) = subst (λ (x : Book). IsChecked x s text) (one_text inputs.portfolio c b other spelled) h
+check_whole file inputs b s text spelled (told c other h) = subst (λ (x : Book). IsCheckText x s text) (one_text inputs.portfolio c b other spelled) h
 
 pub check_is_complete : CheckIsComplete
 check_is_complete words edge s file inputs b m r spelled =
     by_answer words edge s (Check file) inputs m r _ (λ text a w. inl (text, check_whole file inputs b s text spelled a, w)) (λ e w. inr (e, w))
 
-flows_whole : (flows : FlowsAsked) (inputs : Inputs) (b : Book) (last : ℤ) (fixings : Environment) (s : Status) (text : List ℕ) → Text inputs.portfolio b → CanGo b flows inputs.fixings last fixings → Answers (Flows flows) inputs s text → (s ≡ status.Done) × IsFlowsText b flows inputs.fixings text
+flows_whole : (flows : FlowsAsked) (inputs : Inputs) (b : Book) (last : ℤ) (fixings : Environment) (s : Status) (text : List ℕ) → Text inputs.portfolio b → CanListFlows b flows inputs.fixings last fixings → Answers (Flows flows) inputs s text → (s ≡ status.Done) × IsFlowsText b flows inputs.fixings text
 flows_whole flows inputs b last fixings s text spelled can (stopped f (not_spelled h) e line) = absurd (h.no_text b spelled)
 flows_whole flows inputs b last fixings s text spelled can (stopped f (on_portfolio c other h) e line) =
     absurd (flows_stages.stop_or_end b flows inputs.fixings f last fixings (subst (λ (x : Book). StopsFlows x flows inputs.fixings f) (one_text inputs.portfolio c b other spelled) h) can)

@@ -19,9 +19,9 @@ use Rattle.flow_eval.specs.declared.flow_table.FlowRow.{FlowRow}
 use Rattle.flow_eval.specs.declared.flow_table.FlowTable.{FlowTable}
 use Rattle.report.specs.FlowLines.{AppendsFlowLine, IsFlowLine}
 use Rattle.report.specs.declared.fault_lines.Fault.{Fault}
-use Rattle.contract_cli.specs.CheckText.{AreAllAccepted}
-use Rattle.contract_cli.specs.FlowLists.{AnswersAccepted, AnswersLines, AnswersTables, AppendsLines, IsMissingOf, IsMissingOne, IsRefusedOf, IsRefusedOne, IsStopOf, missing_at}
-use Rattle.contract_cli.specs.FlowsText.{AreLines, IsFirstNotAccepted, missing_of}
+use Rattle.contract_cli.specs.CheckPromise.{AreAllAccepted}
+use Rattle.contract_cli.specs.FlowsParts.{AnswersAccepted, AnswersLines, AnswersTables, AppendsLines, IsMissingOf, IsMissingOne, IsRefusedOf, IsRefusedOne, IsStopOf, missing_at}
+use Rattle.contract_cli.specs.FlowsPromise.{AreLines, IsFirstNotAccepted, missing_of}
 use Rattle.contract_cli.specs.Stopping.{AnswersBy}
 use Rattle.contract_cli.specs.declared.stop.Stop.{Stop}
 use Rattle.contract_cli.specs.declared.stop.Stop.TheVariants as stop

@@ -10,8 +10,8 @@ use Rattle.term_core.specs.Acceptance.{Facts}
 use Rattle.term_core.proofs.RefusalFacts.{accepted_not_refused, refusals_unique}
 use Rattle.contract_check.proofs.CheckFacts.{facts_unique}
 use Rattle.report.specs.CheckLines.{accepted_line, refused_line}
-use Rattle.contract_cli.specs.CheckText.{AreCheckLines, IsCheckLine, accepted, refused, IsChecked, all_accepted, some_refused}
-use Rattle.contract_cli.specs.Used.{used}
+use Rattle.contract_cli.specs.CheckPromise.{AreCheckLines, IsCheckLine, accepted, refused, IsCheckText, all_accepted, some_refused}
+use Rattle.contract_cli.specs.UsedContracts.{used}
 use Rattle.contract_cli.specs.declared.status.Status.{Status}
 
 one_line : (d : Declarations) (name : List ℕ) (c : Contract) (l m : List ℕ) → IsCheckLine d name c l → IsCheckLine d name c m → l ≡ m
@@ -30,7 +30,7 @@ check_lines_one d (e ∷ es) t u is was =
     let rest = check_lines_one d es is.1 was.1 is.3 was.3 in
     is.4 ∙ ap (λ (x : List ℕ). x ++ is.1) first ∙ ap (λ (x : List ℕ). was.0 ++ x) rest ∙ sym was.4
 
-pub checked_one : (b : Book) (s r : Status) (t u : List ℕ) → IsChecked b s t → IsChecked b r u → (s ≡ r) × (t ≡ u)
+pub checked_one : (b : Book) (s r : Status) (t u : List ℕ) → IsCheckText b s t → IsCheckText b r u → (s ≡ r) × (t ≡ u)
 checked_one b s r t u (all_accepted e all is) (all_accepted f every was) = (e ∙ sym f, check_lines_one b.declarations (used None b) t u is was)
 checked_one b s r t u (all_accepted e all is) (some_refused f none was) = absurd (none all)
 checked_one b s r t u (some_refused e none is) (all_accepted f all was) = absurd (none all)

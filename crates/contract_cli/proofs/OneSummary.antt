@@ -6,7 +6,7 @@ use Rattle.report.specs.SumTables.{together}
 use Rattle.sample.specs.Days.{last_day}
 use Rattle.sample.specs.Sample.{sample_contract}
 use Rattle.sample.specs.Summary.{CountsLines, paid_of, paid_over_days, summary_text}
-use Rattle.contract_cli.specs.RunLaws.{SummariesAreOne}
+use Rattle.contract_cli.specs.SampleLaws.{SummariesAreOne}
 
 one_count : (number a b : ℕ) → CountsLines number a → CountsLines number b → a ≡ b
 one_count zero a b h k = h ∙ sym k

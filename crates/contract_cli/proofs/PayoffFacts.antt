@@ -24,10 +24,10 @@ use Rattle.payoff_compile.proofs.WritableFacts.{plain_writable, terms_small}
 use Rattle.report.specs.declared.fault_lines.Fault.{Fault}
 use Rattle.report.specs.declared.fault_lines.Fault.TheVariants as fault
 use Rattle.command_words.specs.Commands.{PayoffAsked}
-use Rattle.contract_cli.specs.FlowLists.{IsRefusedOne}
-use Rattle.contract_cli.specs.PayoffText.{IsAcceptedAtDefaults, IsPayoffText, StopsPayoff, name_unknown, not_accepted, code_asked, file_of}
-use Rattle.contract_cli.specs.Used.{at_defaults, contract_named}
-use Rattle.contract_cli.specs.Using.{IsNamed, NamesNone, trees}
+use Rattle.contract_cli.specs.FlowsParts.{IsRefusedOne}
+use Rattle.contract_cli.specs.PayoffPromise.{IsAcceptedAtDefaults, IsPayoffText, StopsPayoff, name_unknown, not_accepted, code_asked, file_of}
+use Rattle.contract_cli.specs.UsedContracts.{at_defaults, contract_named}
+use Rattle.contract_cli.specs.UsedParts.{IsNamed, NamesNone, trees}
 use Rattle.contract_cli.specs.declared.used.Written.{Written}
 
 -- ---- the contract of a name

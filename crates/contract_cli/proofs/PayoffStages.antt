@@ -11,10 +11,10 @@ use Rattle.payoff_lang.proofs.CodeCanonFacts.{one_canon_of_code}
 use Rattle.report.specs.declared.fault_lines.Fault.{Fault}
 use Rattle.report.specs.declared.fault_lines.Fault.TheVariants as fault
 use Rattle.command_words.specs.Commands.{Payoff, PayoffAsked}
-use Rattle.contract_cli.specs.PayoffText.{CanCompile, IsAcceptedAtDefaults, IsPayoffText, IsRefusedAtDefaults, StopsPayoff, name_unknown, not_accepted, code_file_of}
+use Rattle.contract_cli.specs.PayoffPromise.{CanCompile, IsAcceptedAtDefaults, IsPayoffText, IsRefusedAtDefaults, StopsPayoff, name_unknown, not_accepted, code_file_of}
 use Rattle.contract_cli.specs.RunLaws.{CauseOnBook}
 use Rattle.contract_cli.specs.Statuses.{status_of}
-use Rattle.contract_cli.specs.Used.{contract_named}
+use Rattle.contract_cli.specs.UsedContracts.{contract_named}
 use Rattle.contract_cli.specs.declared.status.Status.{Status}
 use Rattle.contract_cli.specs.declared.status.Status.TheVariants as status
 use Rattle.contract_cli.proofs.Stages.{some_same}

@@ -26,8 +26,8 @@ use Rattle.payoff_compile.specs.Literals.{ContractHasSmallLiterals}
 use Rattle.payoff_compile.proofs.PlainFacts.{code_plain}
 use Rattle.payoff_compile.proofs.WritableFacts.{terms_small}
 use Rattle.contract_cli.specs.PayoffLaws.{IsCodeFor, PayoffTextsMean}
-use Rattle.contract_cli.specs.PayoffText.{code_asked, code_file_of}
-use Rattle.contract_cli.specs.Used.{contract_named}
+use Rattle.contract_cli.specs.PayoffPromise.{code_asked, code_file_of}
+use Rattle.contract_cli.specs.UsedContracts.{contract_named}
 use Rattle.contract_cli.proofs.PayoffFacts.{named_has}
 
 -- ---- the name

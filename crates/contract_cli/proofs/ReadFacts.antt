@@ -5,7 +5,7 @@ use Rattle.edge_io.specs.Counts.{Rose}
 use Rattle.edge_io.specs.Files.{CountsOnly}
 use Rattle.report.specs.declared.fault_lines.Fault.{Fault}
 use Rattle.command_words.specs.Commands.{Asked, ValueAsked, fixings_file, portfolio_file}
-use Rattle.contract_cli.specs.Runs.{CountsOnlyBy, CountsOnlyNamed, CountsOnlyValued, FilesSeen, FileFault, read_failed, read_long, by_command, by_value, is_code, is_curve, is_fixings, is_first, is_second, Names, NamesValue, StopsRun, at_file, WasRead, longest_file}
+use Rattle.contract_cli.specs.RunPromise.{CountsOnlyBy, CountsOnlyNamed, CountsOnlyValued, FilesSeen, FileFault, read_failed, read_long, by_command, by_value, is_code, is_curve, is_fixings, is_first, is_second, Names, NamesValue, StopsRun, at_file, WasRead, longest_file}
 
 -- a file that was read in a part of a run
 pub seen_told : (one two : FilesSeen) (file bytes : List ℕ) → two.contents file ≡ one.contents file → WasRead two file bytes → WasRead one file bytes

@@ -4,12 +4,12 @@ use Rattle.std.specs.Prelude.{Option, Some, None, IfSome}
 use Rattle.report.specs.FaultLines.{fault_text}
 use Rattle.report.specs.declared.fault_lines.Fault.{Fault}
 use Rattle.report.specs.declared.fault_lines.Fault.TheVariants as fault
-use Rattle.contract_cli.specs.Answers.{Answers, Inputs}
-use Rattle.contract_cli.specs.Answering.{AreShort}
+use Rattle.contract_cli.specs.FilesPromise.{Answers, Inputs}
+use Rattle.contract_cli.specs.RunParts.{AreShort}
 use Rattle.command_words.specs.Commands.{Asked, OnCode, OnFiles, Sample, fixings_file, portfolio_file}
-use Rattle.contract_cli.specs.FlowLists.{IsShortTable}
+use Rattle.contract_cli.specs.FlowsParts.{IsShortTable}
 use Rattle.command_words.specs.Words.{request_of}
-use Rattle.contract_cli.specs.Runs.{Cause, stopped, answered, valued, sampled, Edge, FilesSeen, FileFault, read_failed, read_long, IsNext, is_first, is_second, IsNextByWords, by_command, by_value, Meets, written, broken, lacking, Names, StopsRun, no_form, at_file, WasRead, WasReadIfNamed, WereRead, WritesAll, WritesNothing, longest_file}
+use Rattle.contract_cli.specs.RunPromise.{Cause, stopped, answered, valued, sampled, Edge, FilesSeen, FileFault, read_failed, read_long, IsNext, is_first, is_second, IsNextByWords, by_command, by_value, Meets, written, broken, lacking, Names, StopsRun, no_form, at_file, WasRead, WasReadIfNamed, WereRead, WritesAll, WritesNothing, longest_file}
 use Rattle.contract_cli.specs.RunLaws.{IsLongAt, long_portfolio, long_table, IsRead, IsTold, IsToldIfNamed}
 use Rattle.contract_cli.specs.Statuses.{status_of}
 use Rattle.contract_cli.specs.declared.status.Status.{Status}

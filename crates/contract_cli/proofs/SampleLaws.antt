@@ -3,8 +3,9 @@ use Rattle.std.proofs.Common.{◌≡◌, ◌∙◌, ◌⊎◌, inl, inr, ℕ, Li
 use Rattle.std.specs.Prelude.{Some}
 use Rattle.sample.specs.Summary.{IsSummary}
 use Rattle.command_words.specs.Commands.{OnCode, OnFiles, Sample}
-use Rattle.contract_cli.specs.Runs.{NamesSample, Cause, stopped, answered, valued, sampled, Edge, Meets, written, broken, lacking, no_form, at_file, by_command, by_value, WritesAll, WritesNothing}
-use Rattle.contract_cli.specs.RunLaws.{SampleEnds, summarized, unwritten, no_memory, SampleHasThreeEnds, SampleIsComplete, WritesSucceed}
+use Rattle.contract_cli.specs.RunPromise.{NamesSample, Cause, stopped, answered, valued, sampled, Edge, Meets, written, broken, lacking, no_form, at_file, by_command, by_value, WritesAll, WritesNothing}
+use Rattle.contract_cli.specs.RunLaws.{WritesSucceed}
+use Rattle.contract_cli.specs.SampleLaws.{SampleEnds, summarized, unwritten, no_memory, SampleHasThreeEnds, SampleIsComplete}
 use Rattle.command_words.specs.Words.{request_of}
 use Rattle.contract_cli.specs.declared.status.Status.{Status}
 use Rattle.contract_cli.specs.declared.status.Status.TheVariants as status

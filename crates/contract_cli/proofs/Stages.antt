@@ -11,12 +11,12 @@ use Rattle.fixing_files.specs.declared.faults.RowFault.{RowFault}
 use Rattle.fixing_files.proofs.LawFacts.{faults_unique, faulty_hold_nothing}
 use Rattle.report.specs.declared.fault_lines.Fault.{Fault}
 use Rattle.report.specs.declared.fault_lines.Fault.TheVariants as fault
-use Rattle.contract_cli.specs.CheckText.{AreAllAccepted}
-use Rattle.contract_cli.specs.FlowLists.{IsMissingOf, IsRefusedOf, IsRowFault}
-use Rattle.contract_cli.specs.FlowsText.{AreAllFixed, AreFixings, IsFirstMissing, label_name}
+use Rattle.contract_cli.specs.CheckPromise.{AreAllAccepted}
+use Rattle.contract_cli.specs.FlowsParts.{IsMissingOf, IsRefusedOf, IsRowFault}
+use Rattle.contract_cli.specs.FlowsPromise.{AreAllFixed, AreFixings, IsFirstMissing, label_name}
 use Rattle.contract_cli.specs.Statuses.{status_of}
-use Rattle.contract_cli.specs.Used.{is_known, used}
-use Rattle.contract_cli.specs.Using.{IsUnknownName}
+use Rattle.contract_cli.specs.UsedContracts.{is_known, used}
+use Rattle.contract_cli.specs.UsedParts.{IsUnknownName}
 use Rattle.contract_cli.specs.declared.status.Status.{Status}
 use Rattle.contract_cli.specs.declared.status.Status.TheVariants as status
 use Rattle.contract_cli.proofs.FlowsAreOne.{accepted_or_not, fixed_or_not, hold_same, one_missing, one_not_accepted, same_fixed}

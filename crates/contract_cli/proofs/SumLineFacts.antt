@@ -17,9 +17,9 @@ use Rattle.flow_eval.specs.Tables.{IsDueRow, IsPaid, flow_in, paid_by}
 use Rattle.flow_eval.specs.declared.flow_table.FlowRow.{FlowRow}
 use Rattle.flow_eval.specs.declared.flow_table.FlowTable.{FlowTable}
 use Rattle.report.specs.SumTables.{AreTablesOf, IsSummable, IsSumOf}
-use Rattle.contract_cli.specs.CheckText.{AreAllAccepted}
-use Rattle.contract_cli.specs.FlowLists.{AreTables, LinesKnown}
-use Rattle.contract_cli.specs.FlowsText.{AreAllFixed, AreLines, missing_of}
+use Rattle.contract_cli.specs.CheckPromise.{AreAllAccepted}
+use Rattle.contract_cli.specs.FlowsParts.{AreTables, LinesKnown}
+use Rattle.contract_cli.specs.FlowsPromise.{AreAllFixed, AreLines, missing_of}
 use Rattle.contract_cli.proofs.CheckFacts.{total_small}
 
 same_day : (n : ℤ) → n ≡ n +ℤ pos 0

@@ -15,16 +15,16 @@ use Rattle.payoff_lang.specs.Meaning.{CodeMeans, Counting, Remaining}
 use Rattle.payoff_lang.proofs.OneCode.{one_code_text}
 use Rattle.command_words.specs.Commands.{AdvanceAsked, PayoffAsked, ValueAsked}
 use Rattle.contract_cli.specs.AdvanceLaws.{IsTextOfRest}
-use Rattle.contract_cli.specs.AdvanceText.{IsRestBook}
-use Rattle.contract_cli.specs.CheckText.{AreAllAccepted, IsChecked, all_accepted, some_refused}
+use Rattle.contract_cli.specs.AdvancePromise.{IsRestBook}
+use Rattle.contract_cli.specs.CheckPromise.{AreAllAccepted, IsCheckText, all_accepted, some_refused}
 use Rattle.contract_cli.specs.Headline.{HasAdvanced, HasCompiled, HasValued}
 use Rattle.contract_cli.specs.PayoffLaws.{counted}
 use Rattle.contract_cli.specs.RunLaws.{IsCarriedBook, IsOrNoMemory}
-use Rattle.contract_cli.specs.Runs.{Edge, SinkLeft, WasRead, WritesAll, WritesNothing}
+use Rattle.contract_cli.specs.RunPromise.{Edge, SinkLeft, WasRead, WritesAll, WritesNothing}
 use Rattle.contract_cli.specs.TwoRuns.{AdvancedTextsAdvance, AdvancedTextsAreAccepted, IsAcceptedAtNumbers, Passes, Printed, PrintedCodeIsTaken, PrintedCodeIsValued}
-use Rattle.contract_cli.specs.Used.{used}
+use Rattle.contract_cli.specs.UsedContracts.{used}
 use Rattle.contract_cli.specs.ValueLaws.{CodeIsRefused, IsAcceptedAtSetting}
-use Rattle.contract_cli.specs.ValueText.{setting_by}
+use Rattle.contract_cli.specs.ValuePromise.{setting_by}
 use Rattle.contract_cli.specs.declared.status.Status.{Status}
 use Rattle.contract_cli.specs.declared.status.Status.TheVariants as status
 use Rattle.contract_cli.proofs.ComposeFacts.{advances_compose}
@@ -123,12 +123,12 @@ advanced_texts_advance words more first second asked later one two p =
     }
 
 -- a portfolio whose contracts are all accepted is not refused
-all_done : (b : Book) (s : Status) (text : List ℕ) → AreAllAccepted b.declarations (used None b) → IsChecked b s text → s ≡ status.Done
+all_done : (b : Book) (s : Status) (text : List ℕ) → AreAllAccepted b.declarations (used None b) → IsCheckText b s text → s ≡ status.Done
 all_done b s text all (all_accepted e every lines) = e
 all_done b s text all (some_refused e none lines) = absurd (none all)
 
 check_ends : (b : Book) (edge : Edge) (s : Status) → AreAllAccepted b.declarations (used None b)
-    → ((text : List ℕ) × IsChecked b s text × WritesAll edge.sink text) ⊎ ((s ≡ status.NoMemory) × WritesNothing edge.sink)
+    → ((text : List ℕ) × IsCheckText b s text × WritesAll edge.sink text) ⊎ ((s ≡ status.NoMemory) × WritesNothing edge.sink)
     → IsOrNoMemory status.Done s
 check_ends b edge s all (inl h) = inl (all_done b s h.0 all h.1)
 check_ends b edge s all (inr h) = inr h.0

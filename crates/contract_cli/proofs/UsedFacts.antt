@@ -19,8 +19,8 @@ use Rattle.term_core.proofs.InstanceFacts.{defaults_suit, instances_have_numbers
 use Rattle.contract_parse.specs.Texts.{Text}
 use Rattle.contract_parse.proofs.TextClosed.{contracts_closed}
 use Rattle.contract_parse.proofs.TextSizes.{nodes_fit}
-use Rattle.contract_cli.specs.Used.{at_defaults, is_asked}
-use Rattle.contract_cli.specs.Using.{IsSound, IsTriable, entries_of, entry_of, trees}
+use Rattle.contract_cli.specs.UsedContracts.{at_defaults, is_asked}
+use Rattle.contract_cli.specs.UsedParts.{IsSound, IsTriable, entries_of, entry_of, trees}
 use Rattle.contract_cli.specs.declared.used.Used.{Used}
 
 -- ---- an instance

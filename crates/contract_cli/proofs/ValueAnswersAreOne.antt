@@ -18,9 +18,9 @@ use Rattle.report.specs.declared.fault_lines.Fault.{Fault}
 use Rattle.report.specs.declared.fault_lines.Fault.TheVariants as fault
 use Rattle.command_words.specs.Commands.{ValueAsked}
 use Rattle.contract_cli.specs.Statuses.{status_of}
-use Rattle.contract_cli.specs.ValueAnswers.{ValueAnswers, ValueStops, no_code, on_code, value_stopped, value_told}
+use Rattle.contract_cli.specs.FilesPromise.{ValueAnswers, StopsValueOnBytes, no_code, on_code, value_stopped, value_told}
 use Rattle.contract_cli.specs.ValueLaws.{ValueAnswersAreOne}
-use Rattle.contract_cli.specs.ValueText.{IsValueText, StopsValue, ValueInputs}
+use Rattle.contract_cli.specs.ValuePromise.{IsValueText, StopsValue, ValueInputs}
 use Rattle.contract_cli.specs.declared.status.Status.{Status}
 use Rattle.contract_cli.proofs.AnswersAreOne.{same_fault}
 use Rattle.contract_cli.proofs.ValueStages.{one_stop, one_value_text, stop_or_end}
@@ -54,7 +54,7 @@ one_code_fault bytes f g h k =
 -- ---- one answer
 
 module _ (asked : ValueAsked) (inputs : ValueInputs) where
-  one_stopped : (f g : Fault) → ValueStops asked inputs f → ValueStops asked inputs g → f ≡ g
+  one_stopped : (f g : Fault) → StopsValueOnBytes asked inputs f → StopsValueOnBytes asked inputs g → f ≡ g
   one_stopped f g (no_code h) (no_code k) =
       h.fault_is ∙ ap (λ (x : TextFault). fault.Text x) (one_code_fault inputs.code h.first k.first h.is_first k.is_first) ∙ sym k.fault_is
   one_stopped f g (no_code h) (on_code b spelled k) = absurd (h.no_code b spelled)
@@ -62,7 +62,7 @@ module _ (asked : ValueAsked) (inputs : ValueInputs) where
   one_stopped f g (on_code b spelled h) (on_code c other k) =
       one_stop b asked inputs f g h (subst (λ (x : CodeBook). StopsValue x asked inputs g) (one_code_text inputs.code c b other spelled) k)
 
-  never_both : (f : Fault) (b : CodeBook) (t : List ℕ) → ValueStops asked inputs f → CodeText inputs.code b → IsValueText b asked inputs t → ⊥
+  never_both : (f : Fault) (b : CodeBook) (t : List ℕ) → StopsValueOnBytes asked inputs f → CodeText inputs.code b → IsValueText b asked inputs t → ⊥
   never_both f b t (no_code h) spelled told = h.no_code b spelled
   never_both f b t (on_code c other h) spelled told =
       stop_or_end b asked inputs f (subst (λ (x : CodeBook). StopsValue x asked inputs f) (one_code_text inputs.code c b other spelled) h) told.can

@@ -4,10 +4,10 @@ use Rattle.report.specs.declared.fault_lines.Fault.{Fault}
 use Rattle.report.specs.declared.fault_lines.Fault.TheVariants as fault
 use Rattle.payoff_lang.specs.CodeBooks.{CodeBook}
 use Rattle.command_words.specs.Commands.{ValueAsked}
-use Rattle.contract_cli.specs.Runs.{NamesValue}
+use Rattle.contract_cli.specs.RunPromise.{NamesValue}
 use Rattle.contract_cli.specs.Statuses.{status_of}
-use Rattle.contract_cli.specs.ValueAnswers.{ValueAnswers, ValueStops, no_code, on_code, value_stopped, value_told}
-use Rattle.contract_cli.specs.ValueText.{StopsValue, ValueInputs, curve_refused, day_out, name_unknown, not_accepted, read_missing, row_refused}
+use Rattle.contract_cli.specs.FilesPromise.{ValueAnswers, StopsValueOnBytes, no_code, on_code, value_stopped, value_told}
+use Rattle.contract_cli.specs.ValuePromise.{StopsValue, ValueInputs, curve_refused, day_out, name_unknown, not_accepted, read_missing, row_refused}
 use Rattle.contract_cli.specs.declared.status.Status.{Status}
 use Rattle.contract_cli.specs.declared.status.Status.TheVariants as status
 
@@ -29,7 +29,7 @@ no_stop wanted h b asked inputs f (row_refused day fit accepted row first is) e 
 no_stop wanted h b asked inputs f (curve_refused day fit accepted fixings are row first is) e = h.row (sym (ap status_of is) ∙ e)
 no_stop wanted h b asked inputs f (read_missing day fit accepted fixings are curve holds flow between place first is) e = h.missing (sym (ap status_of is) ∙ e)
 
-no_fault : (wanted : Status) → IsNone wanted → (asked : ValueAsked) (inputs : ValueInputs) (f : Fault) → ValueStops asked inputs f → status_of f ≡ wanted → ⊥
+no_fault : (wanted : Status) → IsNone wanted → (asked : ValueAsked) (inputs : ValueInputs) (f : Fault) → StopsValueOnBytes asked inputs f → status_of f ≡ wanted → ⊥
 no_fault wanted h asked inputs f (no_code bad) e = h.bad_text (sym (ap status_of bad.fault_is) ∙ e)
 no_fault wanted h asked inputs f (on_code b spelled stops) e = no_stop wanted h b asked inputs f stops e
 

@@ -7,14 +7,14 @@ use Rattle.payoff_lang.specs.CodeFiles.{CodeText}
 use Rattle.payoff_lang.proofs.OneCode.{one_code_text}
 use Rattle.command_words.specs.Commands.{ValueAsked}
 use Rattle.contract_cli.specs.RunLaws.{ComesExactlyWhere}
-use Rattle.contract_cli.specs.Runs.{Edge, Meets, WritesAll, WritesNothing}
+use Rattle.contract_cli.specs.RunPromise.{Edge, Meets, WritesAll, WritesNothing}
 use Rattle.contract_cli.specs.Statuses.{status_of}
-use Rattle.contract_cli.specs.ValueAnswers.{IsNoCode, ValueAnswers, no_code, on_code, value_stopped, value_told}
+use Rattle.contract_cli.specs.FilesPromise.{IsNoCode, ValueAnswers, no_code, on_code, value_stopped, value_told}
 use Rattle.contract_cli.specs.ValueLaws.{BadCodeIsExact, CauseOnCode, IsCodeWhere, IsExactOnCode, IsReadWholeForValue}
 use Rattle.contract_cli.specs.ValueLaws.{IsLongForValueAt, long_code, long_curve, long_fixings, IsTooLongForValue}
 use Rattle.contract_cli.specs.ValueLaws.{DeclaredNamesHavePlaces, TooLongForValueIs, TooLongForValueIsExact, ValueIsComplete, ValueRefusalsAreExact}
-use Rattle.contract_cli.specs.ValueText.{CanValue, IsValueText, Naming, StopsValue, ValueInputs, first_unknown_of, names_set}
-use Rattle.contract_cli.specs.Valuing.{AreShortForValue}
+use Rattle.contract_cli.specs.ValuePromise.{CanValue, IsValueText, Naming, StopsValue, ValueInputs, first_unknown_of, names_set}
+use Rattle.contract_cli.specs.ValueParts.{AreShortForValue}
 use Rattle.contract_cli.specs.declared.status.Status.{Status}
 use Rattle.contract_cli.specs.declared.status.Status.TheVariants as status
 use Rattle.contract_cli.proofs.LawFacts.{apart}

@@ -15,11 +15,11 @@ use Rattle.payoff_lang.specs.CodeBooks.{CodeBook}
 use Rattle.report.specs.declared.fault_lines.Fault.{Fault}
 use Rattle.report.specs.declared.fault_lines.Fault.TheVariants as fault
 use Rattle.command_words.specs.Commands.{Between, ValueAsked}
-use Rattle.contract_cli.specs.FlowLists.{IsRowFault, IsStopOf, IsWordFault}
-use Rattle.contract_cli.specs.FlowsText.{IsDayAsked, greatest_day}
+use Rattle.contract_cli.specs.FlowsParts.{IsRowFault, IsStopOf, IsWordFault}
+use Rattle.contract_cli.specs.FlowsPromise.{IsDayAsked, greatest_day}
 use Rattle.contract_cli.specs.Stopping.{AnswersBy}
-use Rattle.contract_cli.specs.ValueText.{AreBetween, IsValueText, Naming, StopsValue, ValueInputs, WordsFitCode, curve_refused, day_out, first_unknown, first_unknown_of, name_unknown, names_between, names_set, not_accepted, question, read_missing, row_refused, setting_by}
-use Rattle.contract_cli.specs.Valuing.{Inquiry, IsCurveFault, IsFirstUnknown, IsMissingBy, IsQuestionOf, IsUndeclared, IsUnknownBetween, IsUnknownOfValue, IsUnknownSetting, IsWorthOver, KnowsNames, StopsAtSetting, StopsByCurve, StopsByTables, TellsAtSetting, by_curve, by_tables, flow_of, missing_by, no_code, no_curve, no_read, no_row, settings_are_known}
+use Rattle.contract_cli.specs.ValuePromise.{AreBetween, IsValueText, Naming, StopsValue, ValueInputs, WordsFitCode, curve_refused, day_out, first_unknown, first_unknown_of, name_unknown, names_between, names_set, not_accepted, question, read_missing, row_refused, setting_by}
+use Rattle.contract_cli.specs.ValueParts.{Inquiry, IsCurveFault, IsFirstUnknown, IsMissingBy, IsQuestionOf, IsUndeclared, IsUnknownBetween, IsUnknownOfValue, IsUnknownSetting, IsWorthOver, KnowsNames, StopsAtSetting, StopsByCurve, StopsByTables, TellsAtSetting, by_curve, by_tables, flow_of, missing_by, no_code, no_curve, no_read, no_row, settings_are_known}
 use Rattle.contract_cli.specs.declared.stop.Stop.{Stop}
 use Rattle.contract_cli.specs.declared.value_names.Parties.{Parties}
 

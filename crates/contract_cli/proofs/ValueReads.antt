@@ -9,7 +9,7 @@ use Rattle.payoff_lang.specs.CodeBooks.{CodeBook}
 use Rattle.payoff_lang.specs.CodeReads.{reads_of_code}
 use Rattle.payoff_lang.specs.CodeValues.{Asked as Question}
 use Rattle.payoff_lang.proofs.CodeAlikeFacts.{code_alike}
-use Rattle.contract_cli.specs.ValueText.{IsValue, missing_of_code}
+use Rattle.contract_cli.specs.ValuePromise.{IsValue, missing_of_code}
 use Rattle.contract_cli.proofs.FlowsAreOne.{HoldSame, extends_same, same_unfixed, unfixed_up_to}
 
 -- code reads the same in an environment that extends fixings, up to the first place that they do not hold

@@ -22,13 +22,13 @@ use Rattle.report.specs.ValueLines.{value_text}
 use Rattle.report.specs.declared.fault_lines.Fault.{Fault}
 use Rattle.report.specs.declared.fault_lines.Fault.TheVariants as fault
 use Rattle.command_words.specs.Commands.{Between, ValueAsked}
-use Rattle.contract_cli.specs.FlowsText.{IsDayAsked, IsOutOfRange, greatest_day, label_name}
+use Rattle.contract_cli.specs.FlowsPromise.{IsDayAsked, IsOutOfRange, greatest_day, label_name}
 use Rattle.contract_cli.specs.Statuses.{status_of}
 use Rattle.contract_cli.specs.ValueLaws.{CauseOnCode, HasBadRow, of_curve, of_fixings}
-use Rattle.contract_cli.specs.ValueText.{AreBetween, CanValue, IsValue, IsValueText, StopsValue, ValueInputs, WordsFitCode}
-use Rattle.contract_cli.specs.ValueText.{curve_refused, day_out, name_unknown, not_accepted, read_missing, row_refused}
-use Rattle.contract_cli.specs.ValueText.{first_unknown, missing_of_code, question, setting_by}
-use Rattle.contract_cli.specs.Valuing.{IsCurveFault, IsRefusedCode}
+use Rattle.contract_cli.specs.ValuePromise.{AreBetween, CanValue, IsValue, IsValueText, StopsValue, ValueInputs, WordsFitCode}
+use Rattle.contract_cli.specs.ValuePromise.{curve_refused, day_out, name_unknown, not_accepted, read_missing, row_refused}
+use Rattle.contract_cli.specs.ValuePromise.{first_unknown, missing_of_code, question, setting_by}
+use Rattle.contract_cli.specs.ValueParts.{IsCurveFault, IsRefusedCode}
 use Rattle.contract_cli.specs.declared.status.Status.{Status}
 use Rattle.contract_cli.specs.declared.status.Status.TheVariants as status
 use Rattle.contract_cli.proofs.FlowsAreOne.{HoldSame, in_range_or_not}

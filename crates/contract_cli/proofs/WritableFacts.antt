@@ -16,7 +16,7 @@ use Rattle.term_core.proofs.TimeFacts.{whole_passes}
 use Rattle.contract_print.specs.Writable.{IsWritable, IsWritableContract, IsWritableTerm}
 use Rattle.specialise.specs.Literals.{HasLiterals, HasLiteralsIn}
 use Rattle.advance_step.specs.Advancing.{IsResidual}
-use Rattle.contract_cli.specs.AdvanceText.{AreResiduals}
+use Rattle.contract_cli.specs.AdvancePromise.{AreResiduals}
 
 low_within : (h n days far back steps : ℕ) → IsTrue (within_limits h n days far back steps) → h ≤ 200
 low_within h n days far back steps p = grind (arith, nat_tests)

@@ -17,12 +17,12 @@ use Rattle.payoff_lang.specs.PresentValues.{present_value}
 use Rattle.report.specs.ValueLines.{value_text}
 use Rattle.command_words.specs.Commands.{Advance, AdvanceAsked, Asked, Check, Payoff, PayoffAsked, ValueAsked}
 use Rattle.contract_cli.specs.AdvanceLaws.{IsTextOfRest}
-use Rattle.contract_cli.specs.AdvanceText.{IsAdvanceText}
-use Rattle.contract_cli.specs.Answers.{Inputs}
-use Rattle.contract_cli.specs.CheckText.{IsChecked}
+use Rattle.contract_cli.specs.AdvancePromise.{IsAdvanceText}
+use Rattle.contract_cli.specs.FilesPromise.{Inputs}
+use Rattle.contract_cli.specs.CheckPromise.{IsCheckText}
 use Rattle.contract_cli.specs.PayoffLaws.{IsTextOfCode}
-use Rattle.contract_cli.specs.Runs.{Edge, Names, NamesValue, WereRead, WereReadForValue, WritesAll}
-use Rattle.contract_cli.specs.ValueText.{CanValue, ValueInputs, question, setting_by}
+use Rattle.contract_cli.specs.RunPromise.{Edge, Names, NamesValue, WereRead, WereReadForValue, WritesAll}
+use Rattle.contract_cli.specs.ValuePromise.{CanValue, ValueInputs, question, setting_by}
 use Rattle.contract_cli.specs.declared.status.Status.{Status}
 use Rattle.contract_cli.specs.declared.status.Status.TheVariants as status
 
@@ -39,7 +39,7 @@ pub record HasChecked (edge : Edge) (file : List ℕ) (s : Status) : Type 0 wher
   pub inputs : Inputs
   pub text : List ℕ
   pub ran : Ran edge (Check file) book inputs text
-  pub verdicts : IsChecked book s text
+  pub verdicts : IsCheckText book s text
 
 -- `advance` has written what is due before the new day, and a text of contracts that are accepted, reduced, and carry the old
 -- ones to that day

@@ -3,9 +3,9 @@ use Rattle.std.specs.Prelude.{ℕ, List, Result}
 use Rattle.std.specs.Global.{Vec}
 use Rattle.term_core.specs.Books.{Book}
 use Rattle.command_words.specs.Commands.{PayoffAsked}
-use Rattle.contract_cli.specs.PayoffText.{IsPayoffText, StopsPayoff}
+use Rattle.contract_cli.specs.PayoffPromise.{IsPayoffText, StopsPayoff}
 use Rattle.contract_cli.specs.Stopping.{AnswersBy}
-use Rattle.contract_cli.specs.Using.{IsNamed, NamesNone}
+use Rattle.contract_cli.specs.UsedParts.{IsNamed, NamesNone}
 use Rattle.contract_cli.specs.declared.stop.Stop.{Stop}
 use Rattle.contract_cli.specs.declared.used.Written.{Written}
 

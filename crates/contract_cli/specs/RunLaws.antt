@@ -14,16 +14,15 @@ use Rattle.fixing_files.specs.Tables.{IsFirstFault, table_of}
 use Rattle.fixing_files.specs.declared.faults.RowFault.{RowFault}
 use Rattle.report.specs.FaultLines.{fault_text}
 use Rattle.report.specs.declared.fault_lines.Fault.TheVariants as fault
-use Rattle.sample.specs.Summary.{IsSummary}
-use Rattle.contract_cli.specs.Answers.{Answers, Inputs, IsNoText}
-use Rattle.contract_cli.specs.Answering.{AreShort}
-use Rattle.contract_cli.specs.AdvanceText.{CanAdvance, IsAdvanceText, IsNewDay, IsNoNewDay, IsRestBook, last_gone, rest_declarations}
-use Rattle.contract_cli.specs.CheckText.{AreAllAccepted, IsChecked}
+use Rattle.contract_cli.specs.FilesPromise.{Answers, Inputs, IsNoText}
+use Rattle.contract_cli.specs.RunParts.{AreShort}
+use Rattle.contract_cli.specs.AdvancePromise.{CanAdvance, IsAdvanceText, IsNewDay, IsNoNewDay, IsRestBook, last_gone, rest_declarations}
+use Rattle.contract_cli.specs.CheckPromise.{AreAllAccepted, IsCheckText}
 use Rattle.command_words.specs.Commands.{Advance, AdvanceAsked, Asked, Check, Flows, FlowsAsked, Payoff, PayoffAsked, fixings_file, portfolio_file}
-use Rattle.contract_cli.specs.FlowsText.{AreAllFixed, AreFixings, CanGo, IsFlowsText, IsOutOfRange, WordsFit, greatest_day}
-use Rattle.contract_cli.specs.PayoffText.{CanCompile, IsAcceptedAtDefaults, IsPayoffText}
-use Rattle.contract_cli.specs.Runs.{NamesSample, Edge, FilesSeen, IsNextByWords, Meets, Names, WritesAll, WritesNothing, longest_file}
-use Rattle.contract_cli.specs.Used.{contract_named, is_known, used}
+use Rattle.contract_cli.specs.FlowsPromise.{AreAllFixed, AreFixings, CanListFlows, IsFlowsText, IsOutOfRange, WordsFit, greatest_day}
+use Rattle.contract_cli.specs.PayoffPromise.{CanCompile, IsAcceptedAtDefaults, IsPayoffText}
+use Rattle.contract_cli.specs.RunPromise.{Edge, FilesSeen, IsNextByWords, Meets, Names, WritesAll, WritesNothing, longest_file}
+use Rattle.contract_cli.specs.UsedContracts.{contract_named, is_known, used}
 use Rattle.command_words.specs.Words.{request_of}
 use Rattle.contract_cli.specs.declared.status.Status.{Status}
 use Rattle.contract_cli.specs.declared.status.Status.TheVariants as status
@@ -241,10 +240,6 @@ DueLinesAreOne =
     (b : Book) (asked : AdvanceAsked) (table : Option (List ℕ)) (one other : List ℕ)
     (h : IsAdvanceText b asked table one) (k : IsAdvanceText b asked table other) → (h.due ≡ k.due) × (h.day ≡ k.day)
 
--- the sample of so many contracts has one summary
-abbrev pub SummariesAreOne : Type 0
-SummariesAreOne = (count : ℕ) (one other : List ℕ) → IsSummary count one → IsSummary count other → one ≡ other
-
 -- words of no form have just the line of that fault
 abbrev pub UsageWritesItsLine : Type 0
 UsageWritesItsLine = (words : List (List ℕ)) (edge : Edge) → Meets words edge status.Usage → WritesAll edge.sink (fault_text fault.Usage)
@@ -256,14 +251,14 @@ abbrev pub CheckIsComplete : Type 0
 CheckIsComplete =
     (words : List (List ℕ)) (edge : Edge) (s : Status) (file : List ℕ) (inputs : Inputs) (b : Book)
     → Meets words edge s → IsReadWhole words edge (Check file) inputs → Text inputs.portfolio b
-    → ((text : List ℕ) × IsChecked b s text × WritesAll edge.sink text) ⊎ ((s ≡ status.NoMemory) × WritesNothing edge.sink)
+    → ((text : List ℕ) × IsCheckText b s text × WritesAll edge.sink text) ⊎ ((s ≡ status.NoMemory) × WritesNothing edge.sink)
 
 -- `flows` where names are known, the day is in range, the contracts that are used are accepted, the rows are taken and each
 -- read is fixed: the flow lines are written
 abbrev pub FlowsAreComplete : Type 0
 FlowsAreComplete =
     (words : List (List ℕ)) (edge : Edge) (s : Status) (flows : FlowsAsked) (inputs : Inputs) (b : Book) (last : ℤ) (fixings : Environment)
-    → Meets words edge s → IsReadWhole words edge (Flows flows) inputs → Text inputs.portfolio b → CanGo b flows inputs.fixings last fixings
+    → Meets words edge s → IsReadWhole words edge (Flows flows) inputs → Text inputs.portfolio b → CanListFlows b flows inputs.fixings last fixings
     → ((text : List ℕ) × (s ≡ status.Done) × IsFlowsText b flows inputs.fixings text × WritesAll edge.sink text)
     ⊎ ((s ≡ status.NoMemory) × WritesNothing edge.sink)
 
@@ -303,21 +298,3 @@ abbrev pub AdvancesCompose : Type 0
 AdvancesCompose =
     (b rest last : Book) (fixings more : Environment) (day later : ℕ) → b.declarations.start ≤ day → day ≤ later → Extends fixings more
     → IsRestBook b fixings day rest → IsRestBook rest more later last → IsCarriedBook b more later last
-
--- ---- the sample
-
--- `sample` ends with its summary written, or with a failed write, or for want of memory; it has no other status
-pub data SampleEnds (edge : Edge) (count : ℕ) (s : Status) : Type 0 where
-  summarized : s ≡ status.Done → (text : List ℕ) → IsSummary count text → WritesAll edge.sink text → SampleEnds edge count s
-  unwritten : s ≡ status.WriteFault → Rose edge.sink.faults_before edge.sink.faults_after → SampleEnds edge count s
-  no_memory : s ≡ status.NoMemory → WritesNothing edge.sink → SampleEnds edge count s
-
-abbrev pub SampleHasThreeEnds : Type 0
-SampleHasThreeEnds = (words : List (List ℕ)) (edge : Edge) (s : Status) (count : ℕ) → Meets words edge s → NamesSample words count → SampleEnds edge count s
-
--- `sample` where no write failed: its summary is written
-abbrev pub SampleIsComplete : Type 0
-SampleIsComplete =
-    (words : List (List ℕ)) (edge : Edge) (s : Status) (count : ℕ)
-    → Meets words edge s → NamesSample words count → WritesSucceed edge
-    → ((text : List ℕ) × (s ≡ status.Done) × IsSummary count text × WritesAll edge.sink text) ⊎ ((s ≡ status.NoMemory) × WritesNothing edge.sink)

@@ -12,12 +12,12 @@ use Rattle.payoff_lang.specs.CodeValues.{Asked as Question}
 use Rattle.payoff_lang.specs.Meaning.{counting}
 use Rattle.payoff_lang.specs.PresentValues.{present_value}
 use Rattle.command_words.specs.Commands.{Advance, AdvanceAsked, Check, Payoff, PayoffAsked, ValueAsked}
-use Rattle.contract_cli.specs.Answers.{Inputs}
+use Rattle.contract_cli.specs.FilesPromise.{Inputs}
 use Rattle.contract_cli.specs.Headline.{HasAdvanced, HasCompiled, HasValued}
 use Rattle.contract_cli.specs.RunLaws.{IsCarriedBook, IsOrNoMemory, IsReadWhole}
-use Rattle.contract_cli.specs.Runs.{Edge, Meets, Names, NamesValue, SinkLeft}
+use Rattle.contract_cli.specs.RunPromise.{Edge, Meets, Names, NamesValue, SinkLeft}
 use Rattle.contract_cli.specs.ValueLaws.{IsReadWholeForValue}
-use Rattle.contract_cli.specs.ValueText.{CanValue, ValueInputs, question, setting_by}
+use Rattle.contract_cli.specs.ValuePromise.{CanValue, ValueInputs, question, setting_by}
 use Rattle.contract_cli.specs.declared.status.Status.{Status}
 use Rattle.contract_cli.specs.declared.status.Status.TheVariants as status
 

@@ -16,13 +16,13 @@ use Rattle.payoff_lang.specs.CodeValues.{Asked as Question}
 use Rattle.report.specs.FaultLines.{fault_text}
 use Rattle.report.specs.declared.fault_lines.Fault.TheVariants as fault
 use Rattle.command_words.specs.Commands.{ValueAsked}
-use Rattle.contract_cli.specs.FlowsText.{IsOutOfRange, greatest_day}
+use Rattle.contract_cli.specs.FlowsPromise.{IsOutOfRange, greatest_day}
 use Rattle.contract_cli.specs.RunLaws.{ComesExactlyWhere, IsTold, WritesSucceed}
-use Rattle.contract_cli.specs.Runs.{Edge, Meets, NamesValue, WritesAll, WritesNothing, longest_file}
-use Rattle.contract_cli.specs.ValueAnswers.{IsNoCode, ValueAnswers}
-use Rattle.contract_cli.specs.ValueText.{AreBetween, CanValue, IsValueText, ValueInputs, WordsFitCode}
-use Rattle.contract_cli.specs.ValueText.{first_unknown, missing_of_code, question, setting_by}
-use Rattle.contract_cli.specs.Valuing.{AreShortForValue}
+use Rattle.contract_cli.specs.RunPromise.{Edge, Meets, NamesValue, WritesAll, WritesNothing, longest_file}
+use Rattle.contract_cli.specs.FilesPromise.{IsNoCode, ValueAnswers}
+use Rattle.contract_cli.specs.ValuePromise.{AreBetween, CanValue, IsValueText, ValueInputs, WordsFitCode}
+use Rattle.contract_cli.specs.ValuePromise.{first_unknown, missing_of_code, question, setting_by}
+use Rattle.contract_cli.specs.ValueParts.{AreShortForValue}
 use Rattle.contract_cli.specs.declared.status.Status.{Status}
 use Rattle.contract_cli.specs.declared.status.Status.TheVariants as status
 

@@ -2,8 +2,8 @@
 
 ghost use Rattle.std.specs.List.{All};
 ghost use Rattle.term_core.specs.Declarations.{declarations};
-ghost use Rattle.contract_cli.specs.FlowLists.{AnswersAccepted, AnswersAcceptedOne};
-ghost use Rattle.contract_cli.specs.Using.{IsTriable, entries_of, entry_of};
+ghost use Rattle.contract_cli.specs.FlowsParts.{AnswersAccepted, AnswersAcceptedOne};
+ghost use Rattle.contract_cli.specs.UsedParts.{IsTriable, entries_of, entry_of};
 
 use crate::check_text::verdict;
 use crate::stop::Stop;

@@ -11,11 +11,11 @@ ghost use Rattle.contract_parse.specs.Names.{is_declared};
 ghost use Rattle.contract_print.specs.Spellable.{are_names};
 ghost use Rattle.contract_print.specs.Writable.{IsWritableTerm};
 ghost use Rattle.flow_eval.specs.Tables.{IsDueRow};
-ghost use Rattle.contract_cli.specs.AdvanceLists.{AnswersAdvance, AnswersNewDay, AnswersRest, AnswersRests, AppendsComments, AppendsDue, IsRestText};
-ghost use Rattle.contract_cli.specs.AdvanceText.{rest_declarations};
-ghost use Rattle.contract_cli.specs.CheckText.{AreAllAccepted};
-ghost use Rattle.contract_cli.specs.FlowLists.{IsShortTable};
-ghost use Rattle.contract_cli.specs.Using.{IsSound, IsTriable, entries_of, entry_of, trees};
+ghost use Rattle.contract_cli.specs.AdvanceParts.{AnswersAdvance, AnswersNewDay, AnswersRest, AnswersRests, AppendsComments, AppendsDue, IsRestText};
+ghost use Rattle.contract_cli.specs.AdvancePromise.{rest_declarations};
+ghost use Rattle.contract_cli.specs.CheckPromise.{AreAllAccepted};
+ghost use Rattle.contract_cli.specs.FlowsParts.{IsShortTable};
+ghost use Rattle.contract_cli.specs.UsedParts.{IsSound, IsTriable, entries_of, entry_of, trees};
 ghost use Rattle.command_words.specs.Words.{advance_by};
 
 use crate::accepting::accept_all;

@@ -6,12 +6,12 @@ ghost use Rattle.contract_parse.specs.Texts.{Text};
 ghost use Rattle.report.specs.FaultLines.{fault_text};
 ghost use Rattle.sample.specs.Summary.{IsSummary};
 ghost use Rattle.term_core.specs.Books.{book};
-ghost use Rattle.contract_cli.specs.Answering.{AnswersBytes, AreShort, inputs_by};
-ghost use Rattle.contract_cli.specs.Answers.{IsBadText};
-ghost use Rattle.contract_cli.specs.CheckText.{IsChecked};
+ghost use Rattle.contract_cli.specs.RunParts.{AnswersBytes, AreShort, inputs_by};
+ghost use Rattle.contract_cli.specs.FilesPromise.{IsBadText};
+ghost use Rattle.contract_cli.specs.CheckPromise.{IsCheckText};
 ghost use Rattle.contract_cli.specs.Statuses.{status_of};
 ghost use Rattle.contract_cli.specs.Stopping.{AnswersBy};
-ghost use Rattle.contract_cli.specs.Using.{IsSound};
+ghost use Rattle.contract_cli.specs.UsedParts.{IsSound};
 ghost use Rattle.command_words.specs.Words.{asked_by};
 ghost use Rattle.contract_cli.specs.declared.status.Status.TheVariants.{Done as done};
 
@@ -70,7 +70,7 @@ fn portfolio_of(alloc: Global, bytes: &[u8]) -> Result<Portfolio, Stop>
 // The verdicts on the contracts of a portfolio.
 fn check_answer(alloc: Global, portfolio: &Portfolio) -> Result<Answer, NoMemory>
     requires { All (λ entry. IsSound (book portfolio.now).declarations entry.1) (book portfolio.now).contracts }
-    ensures { IfOk result (λ answer. IsChecked (book portfolio.now) answer.status answer.text.items) }
+    ensures { IfOk result (λ answer. IsCheckText (book portfolio.now) answer.status answer.text.items) }
 {
     let ones = used_contracts(alloc, portfolio, None)?;
     let check = check_text(alloc, &portfolio.decls, &ones)?;

@@ -4,8 +4,8 @@ ghost use Rattle.std.specs.Prelude.{◌≡◌, true, [], IfOk};
 ghost use Rattle.std.specs.List.{All};
 ghost use Rattle.term_core.specs.Declarations.{declarations};
 ghost use Rattle.term_core.specs.Terms.{contract};
-ghost use Rattle.contract_cli.specs.Checking.{AppendsVerdict, AppendsVerdicts, IsVerdictOf};
-ghost use Rattle.contract_cli.specs.Using.{IsTriable, entries_of, entry_of};
+ghost use Rattle.contract_cli.specs.CheckParts.{AppendsVerdict, AppendsVerdicts, IsVerdictOf};
+ghost use Rattle.contract_cli.specs.UsedParts.{IsTriable, entries_of, entry_of};
 
 use crate::used::Used;
 use contract_check::{Facts, check};

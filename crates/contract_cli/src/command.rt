@@ -1,11 +1,11 @@
 //! The commands.
 
 ghost use Rattle.std.specs.Prelude.{◌≡◌, ℕ, List, map, option_map, IfOk};
-ghost use Rattle.contract_cli.specs.Answering.{AnswersFile, AnswersInputs, AnswersValueInputs, AnswersWords};
+ghost use Rattle.contract_cli.specs.RunParts.{AnswersFile, AnswersInputs, AnswersValueInputs, AnswersWords};
 ghost use Rattle.edge_io.specs.Files.{CountsOnly};
-ghost use Rattle.contract_cli.specs.Valuing.{AreShortForValue, value_inputs_by};
+ghost use Rattle.contract_cli.specs.ValueParts.{AreShortForValue, value_inputs_by};
 ghost use Rattle.contract_cli.specs.Headline.{Headline};
-ghost use Rattle.contract_cli.specs.Runs.{Cause, CountsOnlyBy, CountsOnlyNamed, CountsOnlyValued, Meets, Names, NamesValue};
+ghost use Rattle.contract_cli.specs.RunPromise.{Cause, CountsOnlyBy, CountsOnlyNamed, CountsOnlyValued, Meets, Names, NamesValue};
 ghost use Rattle.command_words.specs.Commands.{ValueAsked, fixings_file, portfolio_file};
 ghost use Rattle.command_words.specs.Words.{asked_by, files_by, value_by};
 

@@ -9,11 +9,11 @@ ghost use Rattle.term_core.specs.Environments.{IsAdmitted};
 ghost use Rattle.term_core.specs.Terms.{contract};
 ghost use Rattle.flow_eval.specs.FlowAnswers.{AreKnownFlows};
 ghost use Rattle.flow_eval.specs.Tables.{IsDueRow};
-ghost use Rattle.contract_cli.specs.CheckText.{AreAllAccepted};
-ghost use Rattle.contract_cli.specs.FlowLists.{AnswersLines, AnswersTables, AppendsLines, CanBeLast, IsDayFault, IsMissingOf, IsMissingOne, IsShortTable, LinesKnown};
-ghost use Rattle.contract_cli.specs.FlowsText.{IsFlowsText, StopsFlows};
+ghost use Rattle.contract_cli.specs.CheckPromise.{AreAllAccepted};
+ghost use Rattle.contract_cli.specs.FlowsParts.{AnswersLines, AnswersTables, AppendsLines, CanBeLast, IsDayFault, IsMissingOf, IsMissingOne, IsShortTable, LinesKnown};
+ghost use Rattle.contract_cli.specs.FlowsPromise.{IsFlowsText, StopsFlows};
 ghost use Rattle.contract_cli.specs.Stopping.{AnswersBy};
-ghost use Rattle.contract_cli.specs.Using.{IsSound, entries_of};
+ghost use Rattle.contract_cli.specs.UsedParts.{IsSound, entries_of};
 ghost use Rattle.command_words.specs.Words.{flows_by};
 
 use crate::accepting::accept_all;

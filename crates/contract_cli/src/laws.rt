@@ -2,7 +2,8 @@
 
 ghost use Rattle.contract_cli.specs.AdvanceLaws.{AdvanceTextsAreTexts};
 ghost use Rattle.contract_cli.specs.PayoffLaws.{PayoffTextsMean};
-ghost use Rattle.contract_cli.specs.RunLaws.{AdvanceIsComplete, AdvancesCompose, AnswersAreOne, BadTextIsExact, CheckIsComplete, DueLinesAreOne, FlowsAreComplete, PayoffIsComplete, ReadFaultsHaveCauses, RefusalsAreExact, SampleHasThreeEnds, SampleIsComplete, StatusesAreOne, SummariesAreOne, TooLongIsExact, UsageIsExact, UsageWritesItsLine, WriteFaultsHaveCauses};
+ghost use Rattle.contract_cli.specs.RunLaws.{AdvanceIsComplete, AdvancesCompose, AnswersAreOne, BadTextIsExact, CheckIsComplete, DueLinesAreOne, FlowsAreComplete, PayoffIsComplete, ReadFaultsHaveCauses, RefusalsAreExact, StatusesAreOne, TooLongIsExact, UsageIsExact, UsageWritesItsLine, WriteFaultsHaveCauses};
+ghost use Rattle.contract_cli.specs.SampleLaws.{SampleHasThreeEnds, SampleIsComplete, SummariesAreOne};
 ghost use Rattle.contract_cli.specs.TwoRuns.{AdvancedTextsAdvance, AdvancedTextsAreAccepted, PrintedCodeIsTaken, PrintedCodeIsValued};
 ghost use Rattle.contract_cli.specs.ValueLaws.{BadCodeIsExact, DeclaredNamesHavePlaces, TooLongForValueIsExact, ValueAnswersAreOne, ValueIsComplete, ValueRefusalsAreExact};
 

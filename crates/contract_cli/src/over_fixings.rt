@@ -3,8 +3,8 @@
 
 ghost use Rattle.std.specs.Prelude.{◌≡◌, ◌≤◌, pos, option_map};
 ghost use Rattle.term_core.specs.Declarations.{declarations};
-ghost use Rattle.contract_cli.specs.FlowLists.{AnswersDay, AnswersFixings, IsShortTable, IsStopOf, day_in_range};
-ghost use Rattle.contract_cli.specs.FlowsText.{label_name};
+ghost use Rattle.contract_cli.specs.FlowsParts.{AnswersDay, AnswersFixings, IsShortTable, IsStopOf, day_in_range};
+ghost use Rattle.contract_cli.specs.FlowsPromise.{label_name};
 
 use crate::check_text::verdict;
 use crate::stop::Stop;

@@ -11,11 +11,11 @@ ghost use Rattle.payoff_lang.specs.Code.{payoff_code};
 ghost use Rattle.payoff_lang.specs.CodeBooks.{code_book};
 ghost use Rattle.payoff_lang.specs.CodeCanon.{IsCanonOfCode};
 ghost use Rattle.payoff_lang.specs.WritableCode.{IsWritableCode};
-ghost use Rattle.contract_cli.specs.FlowLists.{AnswersAcceptedOne};
+ghost use Rattle.contract_cli.specs.FlowsParts.{AnswersAcceptedOne};
 ghost use Rattle.contract_cli.specs.PayoffParts.{AnswersPayoff};
-ghost use Rattle.contract_cli.specs.PayoffText.{IsAcceptedAtDefaults, code_asked, file_of};
-ghost use Rattle.contract_cli.specs.Used.{at_defaults};
-ghost use Rattle.contract_cli.specs.Using.{IsSound};
+ghost use Rattle.contract_cli.specs.PayoffPromise.{IsAcceptedAtDefaults, code_asked, file_of};
+ghost use Rattle.contract_cli.specs.UsedContracts.{at_defaults};
+ghost use Rattle.contract_cli.specs.UsedParts.{IsSound};
 ghost use Rattle.command_words.specs.Words.{payoff_by};
 
 use crate::accepting::accept;

@@ -8,8 +8,8 @@ ghost use Rattle.term_core.specs.Instances.{HasNumbers, declared_numbers, instan
 ghost use Rattle.term_core.specs.Terms.{contract};
 ghost use Rattle.contract_cli.specs.PayoffParts.{AnswersNamed};
 ghost use Rattle.contract_cli.specs.Stopping.{AnswersBy};
-ghost use Rattle.contract_cli.specs.Used.{is_asked, is_known, used};
-ghost use Rattle.contract_cli.specs.Using.{IsSound, IsTriable, IsUnknownName, entries_of, tree_of};
+ghost use Rattle.contract_cli.specs.UsedContracts.{is_asked, is_known, used};
+ghost use Rattle.contract_cli.specs.UsedParts.{IsSound, IsTriable, IsUnknownName, entries_of, tree_of};
 
 use crate::stop::Stop;
 use decimal::NoMemory;

@@ -6,8 +6,8 @@ ghost use Rattle.term_core.specs.Declarations.{declarations};
 ghost use Rattle.contract_parse.specs.Names.{place_in};
 ghost use Rattle.command_words.specs.Words.{between_by, value_by};
 ghost use Rattle.contract_cli.specs.Stopping.{AnswersBy};
-ghost use Rattle.contract_cli.specs.ValueText.{AreBetween, setting_by};
-ghost use Rattle.contract_cli.specs.Valuing.{IsUndeclared, IsUnknownBetween, IsUnknownOfValue, IsUnknownSetting, KnowsNames, flow_of, settings_are_known};
+ghost use Rattle.contract_cli.specs.ValuePromise.{AreBetween, setting_by};
+ghost use Rattle.contract_cli.specs.ValueParts.{IsUndeclared, IsUnknownBetween, IsUnknownOfValue, IsUnknownSetting, KnowsNames, flow_of, settings_are_known};
 
 use crate::stop::Stop;
 use command_words::{Between, Value};

@@ -12,10 +12,10 @@ ghost use Rattle.payoff_lang.specs.CodeBooks.{code_book};
 ghost use Rattle.payoff_eval.specs.Questions.{HasNumberForEach};
 ghost use Rattle.report.specs.ValueLines.{value_text};
 ghost use Rattle.command_words.specs.Words.{value_by};
-ghost use Rattle.contract_cli.specs.FlowLists.{IsStopOf};
+ghost use Rattle.contract_cli.specs.FlowsParts.{IsStopOf};
 ghost use Rattle.contract_cli.specs.Stopping.{AnswersBy};
-ghost use Rattle.contract_cli.specs.ValueText.{IsValueText, StopsValue};
-ghost use Rattle.contract_cli.specs.Valuing.{AreShortForValue, IsCurveFault, IsMissingBy, IsQuestionOf, IsReadable, IsRefusedCode, IsWorthOver, MayAsk, StopsAtSetting, StopsByCurve, StopsByTables, TellsAtSetting, TellsByCurve, TellsByTables, inquiry_of, value_inputs_by};
+ghost use Rattle.contract_cli.specs.ValuePromise.{IsValueText, StopsValue};
+ghost use Rattle.contract_cli.specs.ValueParts.{AreShortForValue, IsCurveFault, IsMissingBy, IsQuestionOf, IsReadable, IsRefusedCode, IsWorthOver, MayAsk, StopsAtSetting, StopsByCurve, StopsByTables, TellsAtSetting, TellsByCurve, TellsByTables, inquiry_of, value_inputs_by};
 
 use crate::over_fixings::{day_asked, fixings_of, stop_of};
 use crate::stop::Stop;

@@ -1,7 +1,7 @@
 use Rattle.std.proofs.Common.{subst, sym}
 use Rattle.term_core.specs.Declarations.{declarations}
 use Rattle.term_core.specs.Terms.{Contract}
-use Rattle.contract_cli.specs.Using.{IsTriable}
+use Rattle.contract_cli.specs.UsedParts.{IsTriable}
 use Rattle.contract_cli.proofs.accepting.accept.Goals as goal
 
 pub verdict-requires : goal.verdict-requires

@@ -4,10 +4,10 @@ use Rattle.term_core.specs.declared.name.Name.{Name}
 use Rattle.term_core.specs.Acceptance.{IsAccepted}
 use Rattle.term_core.specs.Declarations.{declarations}
 use Rattle.term_core.specs.Terms.{Contract}
-use Rattle.contract_cli.specs.CheckText.{AreAllAccepted}
-use Rattle.contract_cli.specs.FlowLists.{IsRefusedOf, IsRefusedOne}
+use Rattle.contract_cli.specs.CheckPromise.{AreAllAccepted}
+use Rattle.contract_cli.specs.FlowsParts.{IsRefusedOf, IsRefusedOne}
 use Rattle.contract_cli.specs.Stopping.{AnswersBy}
-use Rattle.contract_cli.specs.Using.{IsTriable, entries_of, entry_of}
+use Rattle.contract_cli.specs.UsedParts.{IsTriable, entries_of, entry_of}
 use Rattle.contract_cli.proofs.LineFacts.{accepted_behind, accepted_none, refused_first}
 use Rattle.contract_cli.proofs.StopFacts.{handed_on}
 use Rattle.contract_cli.proofs.UsedFacts.{item_has, left_more, left_none}

@@ -1,9 +1,9 @@
 use Rattle.std.specs.Prelude.{Result, drop}
 use Rattle.term_core.specs.Declarations.{declarations}
-use Rattle.contract_cli.specs.CheckText.{AreAllAccepted}
-use Rattle.contract_cli.specs.FlowLists.{IsRefusedOf}
+use Rattle.contract_cli.specs.CheckPromise.{AreAllAccepted}
+use Rattle.contract_cli.specs.FlowsParts.{IsRefusedOf}
 use Rattle.contract_cli.specs.Stopping.{AnswersBy}
-use Rattle.contract_cli.specs.Using.{entries_of}
+use Rattle.contract_cli.specs.UsedParts.{entries_of}
 use Rattle.contract_cli.specs.declared.stop.Stop.{Stop}
 use Rattle.contract_cli.proofs.accepting.accept_all.Given as goal
 

@@ -7,10 +7,10 @@ use Rattle.term_core.specs.Declarations.{declarations}
 use Rattle.term_core.specs.Terms.{Contract}
 use Rattle.contract_parse.specs.Names.{is_declared}
 use Rattle.contract_print.specs.Spellable.{are_new}
-use Rattle.contract_cli.specs.AdvanceLists.{AnswersRests, AppendsRest, AppendsRests}
-use Rattle.contract_cli.specs.AdvanceText.{last_gone}
-use Rattle.contract_cli.specs.FlowLists.{IsMissingOf, IsMissingOne}
-use Rattle.contract_cli.specs.Using.{IsTriable, entries_of, entry_of, trees}
+use Rattle.contract_cli.specs.AdvanceParts.{AnswersRests, AppendsRest, AppendsRests}
+use Rattle.contract_cli.specs.AdvancePromise.{last_gone}
+use Rattle.contract_cli.specs.FlowsParts.{IsMissingOf, IsMissingOne}
+use Rattle.contract_cli.specs.UsedParts.{IsTriable, entries_of, entry_of, trees}
 use Rattle.contract_cli.specs.declared.advance_text.Left.{Left}
 use Rattle.contract_cli.proofs.AdvanceFacts.{first_is_new, keys_of_trees, names_behind, rest_behind, rests_of_none}
 use Rattle.contract_cli.proofs.LineFacts.{missing_first}

@@ -2,8 +2,8 @@ use Rattle.std.specs.Prelude.{◌≡◌, true, [], Result, drop}
 use Rattle.std.specs.Map.{keys_of}
 use Rattle.term_core.specs.Declarations.{declarations}
 use Rattle.contract_print.specs.Spellable.{are_new}
-use Rattle.contract_cli.specs.AdvanceLists.{AnswersRests}
-use Rattle.contract_cli.specs.Using.{entries_of, trees}
+use Rattle.contract_cli.specs.AdvanceParts.{AnswersRests}
+use Rattle.contract_cli.specs.UsedParts.{entries_of, trees}
 use Rattle.contract_cli.specs.declared.advance_text.Left.{Left}
 use Rattle.contract_cli.specs.declared.stop.Stop.{Stop}
 use Rattle.contract_cli.proofs.advance_text.advance_all.Given as goal

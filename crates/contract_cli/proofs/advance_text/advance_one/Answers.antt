@@ -1,7 +1,7 @@
 use Rattle.std.proofs.Common.{refl}
 use Rattle.term_core.specs.Declarations.{declarations}
 use Rattle.term_core.specs.Terms.{contract}
-use Rattle.contract_cli.specs.Using.{entry_of}
+use Rattle.contract_cli.specs.UsedParts.{entry_of}
 use Rattle.contract_cli.proofs.AdvanceFacts.{appends_rest, no_rest}
 use Rattle.contract_cli.proofs.advance_text.advance_one.Goals as goal
 

@@ -7,12 +7,12 @@ use Rattle.term_core.specs.Books.{book}
 use Rattle.term_core.specs.Terms.{Contract}
 use Rattle.contract_print.specs.Spellable.{are_names}
 use Rattle.contract_print.specs.Writable.{IsWritableTerm}
-use Rattle.contract_cli.specs.AdvanceLists.{AppendsRests}
-use Rattle.contract_cli.specs.AdvanceText.{IsAdvanceText, IsNewDay, StopsAdvance, greatest_new_day, last_gone}
-use Rattle.contract_cli.specs.CheckText.{AreAllAccepted}
-use Rattle.contract_cli.specs.FlowLists.{HoldsFixings, IsMissingOf, IsRefusedOf, IsRowFault, IsWordFault}
-use Rattle.contract_cli.specs.Used.{used}
-use Rattle.contract_cli.specs.Using.{entries_of}
+use Rattle.contract_cli.specs.AdvanceParts.{AppendsRests}
+use Rattle.contract_cli.specs.AdvancePromise.{IsAdvanceText, IsNewDay, StopsAdvance, greatest_new_day, last_gone}
+use Rattle.contract_cli.specs.CheckPromise.{AreAllAccepted}
+use Rattle.contract_cli.specs.FlowsParts.{HoldsFixings, IsMissingOf, IsRefusedOf, IsRowFault, IsWordFault}
+use Rattle.contract_cli.specs.UsedContracts.{used}
+use Rattle.contract_cli.specs.UsedParts.{entries_of}
 use Rattle.command_words.specs.Words.{advance_by}
 use Rattle.contract_cli.specs.declared.advance_text.Left.{Left}
 use Rattle.contract_cli.specs.declared.used.Used.{Used}

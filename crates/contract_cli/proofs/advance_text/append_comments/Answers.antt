@@ -3,7 +3,7 @@ use Rattle.std.specs.Prelude.{codes}
 use Rattle.std.proofs.lemmas.List.{take_more}
 use Rattle.term_core.specs.Declarations.{declarations}
 use Rattle.report.specs.FlowLines.{AppendsFlowLine}
-use Rattle.contract_cli.specs.AdvanceLists.{AppendsComments}
+use Rattle.contract_cli.specs.AdvanceParts.{AppendsComments}
 use Rattle.flow_eval.specs.declared.flow_table.FlowRow.{FlowRow}
 use Rattle.contract_cli.proofs.AdvanceFacts.{appends_comment}
 use Rattle.contract_cli.proofs.advance_text.append_comments.Goals as goal

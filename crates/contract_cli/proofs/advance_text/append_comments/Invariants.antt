@@ -1,6 +1,6 @@
 use Rattle.std.proofs.Common.{take}
 use Rattle.term_core.specs.Declarations.{declarations}
-use Rattle.contract_cli.specs.AdvanceLists.{AppendsComments}
+use Rattle.contract_cli.specs.AdvanceParts.{AppendsComments}
 use Rattle.contract_cli.proofs.advance_text.append_comments.Given as goal
 
 abbrev pub invariant-loop-row : goal.invariant-loop-row

@@ -2,7 +2,7 @@ use Rattle.std.proofs.Common.{ℕ, List, Bor, ap, refl}
 use Rattle.std.specs.Prelude.{Option, option_map}
 use Rattle.term_core.specs.Books.{book}
 use Rattle.contract_print.proofs.TextSpellable.{texts_spellable, texts_writable}
-use Rattle.contract_cli.specs.Answering.{inputs_by}
+use Rattle.contract_cli.specs.RunParts.{inputs_by}
 use Rattle.command_words.specs.Words.{advance_by, asked_by, flows_by, payoff_by}
 use Rattle.contract_cli.specs.declared.status.Status.TheVariants as status
 use Rattle.contract_cli.proofs.AnswerFacts.{advance_stopped, advance_told, check_told, flows_stopped, flows_told, lacks_memory, payoff_stopped, payoff_told}

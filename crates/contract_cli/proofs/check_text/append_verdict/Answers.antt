@@ -1,8 +1,8 @@
 use Rattle.std.proofs.Common.{subst, sym}
 use Rattle.term_core.specs.Declarations.{declarations}
 use Rattle.term_core.specs.Terms.{Contract, contract}
-use Rattle.contract_cli.specs.Checking.{IsVerdictOf}
-use Rattle.contract_cli.specs.Using.{IsTriable, entry_of}
+use Rattle.contract_cli.specs.CheckParts.{IsVerdictOf}
+use Rattle.contract_cli.specs.UsedParts.{IsTriable, entry_of}
 use Rattle.contract_cli.proofs.CheckFacts.{one_verdict, verdict_small}
 use Rattle.contract_cli.proofs.check_text.append_verdict.Goals as goal
 

@@ -2,8 +2,8 @@ use Rattle.std.proofs.Common.{◌≡◌, ◌∙◌, ◌∷◌, ◌+◌, ◌&&◌
 use Rattle.term_core.specs.declared.name.Name.{Name}
 use Rattle.term_core.specs.Declarations.{Declarations, declarations}
 use Rattle.term_core.specs.Terms.{Contract}
-use Rattle.contract_cli.specs.Checking.{AppendsVerdict, AppendsVerdicts}
-use Rattle.contract_cli.specs.Using.{IsTriable, entries_of, entry_of}
+use Rattle.contract_cli.specs.CheckParts.{AppendsVerdict, AppendsVerdicts}
+use Rattle.contract_cli.specs.UsedParts.{IsTriable, entries_of, entry_of}
 use Rattle.contract_cli.proofs.CheckFacts.{verdicts_more, verdicts_none}
 use Rattle.contract_cli.proofs.UsedFacts.{item_has, left_more, left_none}
 use Rattle.contract_cli.proofs.check_text.check_text.Goals as goal

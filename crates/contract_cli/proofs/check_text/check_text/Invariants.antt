@@ -1,7 +1,7 @@
 use Rattle.std.specs.Prelude.{Bool, List, ℕ, [], true, drop}
 use Rattle.term_core.specs.Declarations.{declarations}
-use Rattle.contract_cli.specs.Checking.{AppendsVerdicts}
-use Rattle.contract_cli.specs.Using.{entries_of}
+use Rattle.contract_cli.specs.CheckParts.{AppendsVerdicts}
+use Rattle.contract_cli.specs.UsedParts.{entries_of}
 use Rattle.contract_cli.proofs.check_text.check_text.Given as goal
 
 -- the verdicts on the contracts that are left, behind those so far, are the verdicts on all

@@ -2,9 +2,9 @@ use Rattle.std.proofs.Common.{◌≡◌, ◌∙◌, ℕ, List, Bor, ap, refl, ru
 use Rattle.std.specs.Prelude.{Err, Some, map}
 use Rattle.report.specs.FaultLines.{fault_text}
 use Rattle.report.specs.declared.fault_lines.Fault.TheVariants as fault
-use Rattle.contract_cli.specs.Answering.{inputs_by}
-use Rattle.contract_cli.specs.Answers.{Answers, Stops, stopped as stops_on}
-use Rattle.contract_cli.specs.Runs.{Cause, answered, sampled, stopped, no_form, FilesSeen, Names, NamesSample, StopsRun, WereRead}
+use Rattle.contract_cli.specs.RunParts.{inputs_by}
+use Rattle.contract_cli.specs.FilesPromise.{Answers, Stops, stopped as stops_on}
+use Rattle.contract_cli.specs.RunPromise.{Cause, answered, sampled, stopped, no_form, FilesSeen, Names, NamesSample, StopsRun, WereRead}
 use Rattle.contract_cli.specs.Statuses.{status_of}
 use Rattle.command_words.specs.Words.{IsRequestOf, asked_by, requested_by}
 use Rattle.contract_cli.specs.declared.answers.Answer.{Answer}

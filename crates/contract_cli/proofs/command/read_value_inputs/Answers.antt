@@ -1,8 +1,8 @@
 use Rattle.std.proofs.Common.{◌≡◌, ◌∙◌, ◌≤◌, ℕ, List, ap, arith, refl, subst, sym}
 use Rattle.std.specs.Global.{Vec}
 use Rattle.command_words.specs.Commands.{ValueFiles}
-use Rattle.contract_cli.specs.Runs.{FileFault, FilesSeen, StopsRun, WasRead, WereReadForValue}
-use Rattle.contract_cli.specs.Valuing.{value_inputs_by}
+use Rattle.contract_cli.specs.RunPromise.{FileFault, FilesSeen, StopsRun, WasRead, WereReadForValue}
+use Rattle.contract_cli.specs.ValueParts.{value_inputs_by}
 use Rattle.contract_cli.specs.declared.value_inputs.ValueInputs.{ValueInputs as Kept}
 use Rattle.contract_cli.proofs.ReadFacts.{seen_told, stopped_at_code, stopped_at_curve, stopped_at_fixings}
 use Rattle.contract_cli.proofs.StopFacts.{handed_on}

@@ -1,4 +1,4 @@
-use Rattle.contract_cli.specs.Runs.{written, broken}
+use Rattle.contract_cli.specs.RunPromise.{written, broken}
 use Rattle.std.proofs.Common.{refl}
 use Rattle.contract_cli.proofs.HeadlineFacts.{headline}
 use Rattle.contract_cli.proofs.command.run.Goals as goal

@@ -2,7 +2,7 @@ use Rattle.std.proofs.Common.{◌<◌, List, arith, get_or, length, pos, subst, 
 use Rattle.std.proofs.lemmas.List.{take_more}
 use Rattle.term_core.specs.Declarations.{declarations}
 use Rattle.report.specs.FlowLines.{AppendsFlowLine}
-use Rattle.contract_cli.specs.FlowLists.{AppendsLines}
+use Rattle.contract_cli.specs.FlowsParts.{AppendsLines}
 use Rattle.flow_eval.specs.declared.flow_table.FlowRow.{FlowRow}
 use Rattle.contract_cli.proofs.LineFacts.{appends_line}
 use Rattle.contract_cli.proofs.flows_text.append_table.Goals as goal

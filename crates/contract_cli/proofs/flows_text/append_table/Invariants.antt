@@ -1,6 +1,6 @@
 use Rattle.std.proofs.Common.{take}
 use Rattle.term_core.specs.Declarations.{declarations}
-use Rattle.contract_cli.specs.FlowLists.{AppendsLines}
+use Rattle.contract_cli.specs.FlowsParts.{AppendsLines}
 use Rattle.contract_cli.proofs.flows_text.append_table.Given as goal
 
 abbrev pub invariant-loop-row : goal.invariant-loop-row

@@ -5,12 +5,12 @@ use Rattle.std.proofs.lemmas.Int.{to_z-of_z}
 use Rattle.term_core.specs.declared.name.Name.{Name}
 use Rattle.term_core.specs.Books.{book}
 use Rattle.term_core.specs.Terms.{Contract}
-use Rattle.contract_cli.specs.CheckText.{AreAllAccepted}
-use Rattle.contract_cli.specs.FlowLists.{CanBeLast, HoldsFixings, IsDayFault, IsMissingOf, IsRefusedOf, IsRowFault, LinesKnown}
-use Rattle.contract_cli.specs.FlowsText.{IsFlowsText, StopsFlows, WordsFit}
+use Rattle.contract_cli.specs.CheckPromise.{AreAllAccepted}
+use Rattle.contract_cli.specs.FlowsParts.{CanBeLast, HoldsFixings, IsDayFault, IsMissingOf, IsRefusedOf, IsRowFault, LinesKnown}
+use Rattle.contract_cli.specs.FlowsPromise.{IsFlowsText, StopsFlows, WordsFit}
 use Rattle.contract_cli.specs.Stopping.{AnswersBy}
-use Rattle.contract_cli.specs.Used.{is_known, used}
-use Rattle.contract_cli.specs.Using.{IsUnknownName, entries_of}
+use Rattle.contract_cli.specs.UsedContracts.{is_known, used}
+use Rattle.contract_cli.specs.UsedParts.{IsUnknownName, entries_of}
 use Rattle.command_words.specs.Words.{flows_by}
 use Rattle.contract_cli.specs.declared.used.Used.{Used}
 use Rattle.contract_cli.proofs.DayFacts.{fits_day}

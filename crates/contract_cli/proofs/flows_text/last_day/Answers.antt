@@ -1,8 +1,8 @@
 use Rattle.std.proofs.Common.{ℕ, List, ap, subst, sym}
 use Rattle.std.specs.Prelude.{Option, Some, option_map}
 use Rattle.term_core.specs.Declarations.{declarations}
-use Rattle.contract_cli.specs.FlowLists.{CanBeLast, IsDayFault, IsWordFault}
-use Rattle.contract_cli.specs.FlowsText.{IsDayAsked, greatest_day}
+use Rattle.contract_cli.specs.FlowsParts.{CanBeLast, IsDayFault, IsWordFault}
+use Rattle.contract_cli.specs.FlowsPromise.{IsDayAsked, greatest_day}
 use Rattle.contract_cli.specs.Stopping.{AnswersBy}
 use Rattle.command_words.specs.declared.day_words.DayWord.{DayWord}
 use Rattle.contract_cli.proofs.DayFacts.{is_last, no_last}

@@ -7,8 +7,8 @@ use Rattle.term_core.specs.Declarations.{declarations}
 use Rattle.term_core.specs.Terms.{Contract, contract}
 use Rattle.flow_eval.specs.FlowAnswers.{AreKnownFlows}
 use Rattle.flow_eval.specs.declared.flow_table.FlowTable.{FlowTable}
-use Rattle.contract_cli.specs.FlowLists.{AnswersLines, AppendsAll, IsMissingOf, IsMissingOne}
-use Rattle.contract_cli.specs.Using.{entries_of, entry_of}
+use Rattle.contract_cli.specs.FlowsParts.{AnswersLines, AppendsAll, IsMissingOf, IsMissingOne}
+use Rattle.contract_cli.specs.UsedParts.{entries_of, entry_of}
 use Rattle.contract_cli.proofs.LineFacts.{lines_behind, lines_of_none, missing_first, rows_writable}
 use Rattle.contract_cli.proofs.StopFacts.{handed_on}
 use Rattle.contract_cli.proofs.UsedFacts.{item_has, left_more, left_none}

@@ -1,8 +1,8 @@
 use Rattle.std.specs.Prelude.{ℕ, [], Result, drop}
 use Rattle.std.specs.Global.{Vec}
 use Rattle.term_core.specs.Declarations.{declarations}
-use Rattle.contract_cli.specs.FlowLists.{AnswersLines}
-use Rattle.contract_cli.specs.Using.{entries_of}
+use Rattle.contract_cli.specs.FlowsParts.{AnswersLines}
+use Rattle.contract_cli.specs.UsedParts.{entries_of}
 use Rattle.contract_cli.specs.declared.stop.Stop.{Stop}
 use Rattle.contract_cli.proofs.flows_text.lines_of.Given as goal
 

@@ -6,9 +6,9 @@ use Rattle.term_core.specs.Declarations.{Declarations, declarations}
 use Rattle.term_core.specs.Environments.{Environment}
 use Rattle.term_core.specs.Terms.{Contract}
 use Rattle.flow_eval.specs.declared.flow_table.FlowTable.{FlowTable}
-use Rattle.contract_cli.specs.FlowLists.{AppendsLines, AppendsTables, AreTables}
-use Rattle.contract_cli.specs.FlowsText.{AreLines}
-use Rattle.contract_cli.specs.Using.{entries_of, entry_of}
+use Rattle.contract_cli.specs.FlowsParts.{AppendsLines, AppendsTables, AreTables}
+use Rattle.contract_cli.specs.FlowsPromise.{AreLines}
+use Rattle.contract_cli.specs.UsedParts.{entries_of, entry_of}
 use Rattle.contract_cli.proofs.LineFacts.{rows_writable}
 use Rattle.contract_cli.proofs.SumLineFacts.{all_summable, as_many, sum_due, sum_known}
 use Rattle.contract_cli.proofs.flows_text.sum_lines.Goals as goal

@@ -2,8 +2,8 @@ use Rattle.std.specs.Prelude.{[], Result, drop}
 use Rattle.std.specs.Global.{Vec}
 use Rattle.term_core.specs.Declarations.{declarations}
 use Rattle.flow_eval.specs.declared.flow_table.FlowTable.{FlowTable}
-use Rattle.contract_cli.specs.FlowLists.{AnswersTables}
-use Rattle.contract_cli.specs.Using.{entries_of}
+use Rattle.contract_cli.specs.FlowsParts.{AnswersTables}
+use Rattle.contract_cli.specs.UsedParts.{entries_of}
 use Rattle.contract_cli.specs.declared.stop.Stop.{Stop}
 use Rattle.contract_cli.proofs.flows_text.tables_of.Given as goal
 

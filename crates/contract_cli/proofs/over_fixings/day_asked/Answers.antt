@@ -4,8 +4,8 @@ use Rattle.std.proofs.lemmas.Int.{ints, to_z-of_z}
 use Rattle.term_core.specs.Declarations.{declarations}
 use Rattle.fixing_files.specs.Days.{placed_day}
 use Rattle.report.specs.declared.fault_lines.Fault.TheVariants as fault
-use Rattle.contract_cli.specs.FlowLists.{day_in_range}
-use Rattle.contract_cli.specs.FlowsText.{IsDayAsked}
+use Rattle.contract_cli.specs.FlowsParts.{day_in_range}
+use Rattle.contract_cli.specs.FlowsPromise.{IsDayAsked}
 use Rattle.contract_cli.proofs.DayFacts.{asked_first, fits_day, is_asked_day, is_out}
 use Rattle.contract_cli.proofs.over_fixings.day_asked.Goals as goal
 

@@ -2,7 +2,7 @@ use Rattle.std.proofs.Common.{◌∙◌, ℕ, List, ap, subst, sym}
 use Rattle.term_core.specs.Declarations.{declarations}
 use Rattle.term_core.specs.Instances.{HasNumbers, instance}
 use Rattle.term_core.specs.Terms.{Contract, contract}
-use Rattle.contract_cli.specs.Using.{IsTriable}
+use Rattle.contract_cli.specs.UsedParts.{IsTriable}
 use Rattle.contract_cli.proofs.UsedFacts.{numbers_given, triable}
 use Rattle.contract_cli.proofs.payoff_text.accept_at_defaults.Goals as goal
 

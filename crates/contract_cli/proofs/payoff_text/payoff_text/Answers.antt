@@ -5,10 +5,10 @@ use Rattle.term_core.specs.Terms.{contract}
 use Rattle.contract_print.specs.Writable.{IsWritableTerm}
 use Rattle.payoff_lang.specs.Code.{PayoffCode, payoff_code}
 use Rattle.payoff_lang.specs.WritableCode.{IsWritableCode}
-use Rattle.contract_cli.specs.FlowLists.{IsRefusedOne}
-use Rattle.contract_cli.specs.PayoffText.{IsAcceptedAtDefaults, IsPayoffText, StopsPayoff}
-use Rattle.contract_cli.specs.Used.{at_defaults}
-use Rattle.contract_cli.specs.Using.{IsSound}
+use Rattle.contract_cli.specs.FlowsParts.{IsRefusedOne}
+use Rattle.contract_cli.specs.PayoffPromise.{IsAcceptedAtDefaults, IsPayoffText, StopsPayoff}
+use Rattle.contract_cli.specs.UsedContracts.{at_defaults}
+use Rattle.contract_cli.specs.UsedParts.{IsSound}
 use Rattle.command_words.specs.Words.{payoff_by}
 use Rattle.contract_cli.proofs.PayoffFacts.{code_writable, contract_stops, named_has, whole_text}
 use Rattle.contract_cli.proofs.StopFacts.{handed_on}

@@ -8,7 +8,7 @@ use Rattle.term_core.specs.declared.portfolio.Portfolio.{Portfolio}
 use Rattle.term_core.specs.declared.terms.Contr.{Contr}
 use Rattle.term_core.specs.Books.{book}
 use Rattle.report.specs.declared.fault_lines.Fault.TheVariants as fault
-use Rattle.contract_cli.specs.Used.{is_known}
+use Rattle.contract_cli.specs.UsedContracts.{is_known}
 use Rattle.contract_cli.proofs.UsedFacts.{any_name}
 use Rattle.contract_cli.proofs.used.know.Goals as goal
 

@@ -1,6 +1,6 @@
 use Rattle.std.specs.Prelude.{◌≡◌, ◌++◌, All, option_map}
 use Rattle.term_core.specs.Declarations.{declarations}
-use Rattle.contract_cli.specs.Using.{IsSound, entries_of, trees}
+use Rattle.contract_cli.specs.UsedParts.{IsSound, entries_of, trees}
 use Rattle.contract_cli.proofs.UsedFacts.{used_of}
 use Rattle.contract_cli.proofs.used.used_contracts.Given as goal
 

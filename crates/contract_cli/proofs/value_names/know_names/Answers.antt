@@ -1,8 +1,8 @@
 use Rattle.std.proofs.Common.{◌≡◌}
 use Rattle.term_core.specs.Declarations.{declarations}
 use Rattle.command_words.specs.Words.{value_by}
-use Rattle.contract_cli.specs.ValueText.{AreBetween}
-use Rattle.contract_cli.specs.Valuing.{IsUnknownBetween, IsUnknownOfValue, IsUnknownSetting, KnowsNames, flow_of, settings_are_known}
+use Rattle.contract_cli.specs.ValuePromise.{AreBetween}
+use Rattle.contract_cli.specs.ValueParts.{IsUnknownBetween, IsUnknownOfValue, IsUnknownSetting, KnowsNames, flow_of, settings_are_known}
 use Rattle.contract_cli.specs.declared.value_names.Parties.{Parties}
 use Rattle.contract_cli.proofs.StopFacts.{handed_on}
 use Rattle.contract_cli.proofs.ValueParts.{between_stops, knows, setting_stops}

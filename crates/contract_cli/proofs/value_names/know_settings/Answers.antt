@@ -5,7 +5,7 @@ use Rattle.term_core.specs.declared.name.Name.{Name}
 use Rattle.term_core.specs.Declarations.{declarations}
 use Rattle.report.specs.declared.fault_lines.Fault.TheVariants as fault
 use Rattle.contract_parse.specs.Names.{place_in}
-use Rattle.contract_cli.specs.ValueText.{first_unknown_of, names_set}
+use Rattle.contract_cli.specs.ValuePromise.{first_unknown_of, names_set}
 use Rattle.contract_cli.proofs.value_names.know_settings.Goals as goal
 
 pub returns-then-is_none : goal.returns-then-is_none

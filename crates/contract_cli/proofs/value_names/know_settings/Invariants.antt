@@ -1,6 +1,6 @@
 use Rattle.std.specs.Prelude.{◌≡◌}
 use Rattle.term_core.specs.Declarations.{declarations}
-use Rattle.contract_cli.specs.ValueText.{first_unknown_of, names_set}
+use Rattle.contract_cli.specs.ValuePromise.{first_unknown_of, names_set}
 use Rattle.contract_cli.proofs.value_names.know_settings.Given as goal
 
 -- the first unknown name of the settings that are left is that of all

@@ -3,8 +3,8 @@ use Rattle.std.specs.Prelude.{Some}
 use Rattle.term_core.specs.Declarations.{declarations}
 use Rattle.contract_parse.specs.Names.{place_in}
 use Rattle.command_words.specs.Words.{between_by}
-use Rattle.contract_cli.specs.ValueText.{AreBetween}
-use Rattle.contract_cli.specs.Valuing.{IsUndeclared, IsUnknownBetween, flow_of}
+use Rattle.contract_cli.specs.ValuePromise.{AreBetween}
+use Rattle.contract_cli.specs.ValueParts.{IsUndeclared, IsUnknownBetween, flow_of}
 use Rattle.contract_cli.specs.declared.value_names.Parties.{Parties}
 use Rattle.contract_cli.proofs.StopFacts.{handed_on}
 use Rattle.contract_cli.proofs.ValueParts.{no_asset, no_payer, no_receiver}

@@ -1,7 +1,7 @@
 use Rattle.std.proofs.Common.{◌≡◌, ◌∙◌, ◌++◌, ◌∷◌, [], ℕ, List, ap, map, rules, sym}
 use Rattle.std.proofs.lemmas.List.{append_assoc}
 use Rattle.term_core.specs.declared.name.Name.{Name}
-use Rattle.contract_cli.specs.ValueText.{number_set}
+use Rattle.contract_cli.specs.ValuePromise.{number_set}
 use Rattle.contract_cli.proofs.value_names.setting_of.Goals as goal
 
 pub loop-name-preserved : goal.loop-name-preserved

@@ -1,6 +1,6 @@
 use Rattle.std.specs.Prelude.{◌≡◌, ◌++◌, map}
 use Rattle.term_core.specs.Declarations.{declarations}
-use Rattle.contract_cli.specs.ValueText.{number_set, setting_by}
+use Rattle.contract_cli.specs.ValuePromise.{number_set, setting_by}
 use Rattle.contract_cli.proofs.value_names.setting_of.Given as goal
 
 -- the numbers so far and those of the templates that are left are those of all

@@ -1,7 +1,7 @@
 use Rattle.std.proofs.Common.{ℕ}
 use Rattle.std.specs.Global.{Vec}
 use Rattle.payoff_lang.specs.CodeAcceptance.{IsAcceptedCode}
-use Rattle.contract_cli.specs.Valuing.{IsRefusedCode, StopsAtSetting, StopsByTables, TellsAtSetting, TellsByTables, by_tables, inquiry_of, no_code, value_inputs_by}
+use Rattle.contract_cli.specs.ValueParts.{IsRefusedCode, StopsAtSetting, StopsByTables, TellsAtSetting, TellsByTables, by_tables, inquiry_of, no_code, value_inputs_by}
 use Rattle.contract_cli.proofs.StopFacts.{answers_too, handed_on}
 use Rattle.contract_cli.proofs.value_text.at_setting.Goals as goal
 

@@ -7,7 +7,7 @@ use Rattle.fixing_files.specs.CurveTables.{HoldsCurve}
 use Rattle.fixing_files.specs.Tables.{table_of}
 use Rattle.contract_parse.proofs.NumberFacts.{fits_wide}
 use Rattle.report.specs.ValueLines.{value_text}
-use Rattle.contract_cli.specs.Valuing.{IsCurveFault, IsMissingBy, IsWorthOver, StopsByCurve, TellsByCurve, inquiry_of, no_curve, no_read}
+use Rattle.contract_cli.specs.ValueParts.{IsCurveFault, IsMissingBy, IsWorthOver, StopsByCurve, TellsByCurve, inquiry_of, no_curve, no_read}
 use Rattle.contract_cli.proofs.StopFacts.{handed_on}
 use Rattle.contract_cli.proofs.value_text.by_curve.Goals as goal
 

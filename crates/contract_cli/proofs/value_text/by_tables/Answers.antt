@@ -3,9 +3,9 @@ use Rattle.std.specs.Prelude.{Some, Err}
 use Rattle.std.specs.Global.{Vec}
 use Rattle.term_core.specs.Environments.{Environment}
 use Rattle.fixing_files.specs.Tables.{Holds, table_of}
-use Rattle.contract_cli.specs.FlowLists.{HoldsFixings, IsRowFault}
+use Rattle.contract_cli.specs.FlowsParts.{HoldsFixings, IsRowFault}
 use Rattle.contract_cli.specs.Stopping.{AnswersBy}
-use Rattle.contract_cli.specs.Valuing.{StopsByCurve, StopsByTables, TellsByCurve, TellsByTables, by_curve, inquiry_of, no_row, value_inputs_by}
+use Rattle.contract_cli.specs.ValueParts.{StopsByCurve, StopsByTables, TellsByCurve, TellsByTables, by_curve, inquiry_of, no_row, value_inputs_by}
 use Rattle.contract_cli.proofs.StopFacts.{answers_too, handed_on}
 use Rattle.contract_cli.proofs.value_text.by_tables.Goals as goal
 

@@ -3,11 +3,11 @@ use Rattle.std.specs.Global.{Vec}
 use Rattle.std.proofs.lemmas.Int.{to_z-of_z}
 use Rattle.payoff_lang.specs.CodeBooks.{code_book}
 use Rattle.command_words.specs.Words.{value_by}
-use Rattle.contract_cli.specs.FlowLists.{IsWordFault}
-use Rattle.contract_cli.specs.FlowsText.{IsDayAsked, greatest_day}
+use Rattle.contract_cli.specs.FlowsParts.{IsWordFault}
+use Rattle.contract_cli.specs.FlowsPromise.{IsDayAsked, greatest_day}
 use Rattle.contract_cli.specs.Stopping.{AnswersBy}
-use Rattle.contract_cli.specs.ValueText.{IsValueText, StopsValue, WordsFitCode}
-use Rattle.contract_cli.specs.Valuing.{Inquiry, IsUnknownOfValue, KnowsNames, StopsAtSetting, TellsAtSetting, flow_of, value_inputs_by}
+use Rattle.contract_cli.specs.ValuePromise.{IsValueText, StopsValue, WordsFitCode}
+use Rattle.contract_cli.specs.ValueParts.{Inquiry, IsUnknownOfValue, KnowsNames, StopsAtSetting, TellsAtSetting, flow_of, value_inputs_by}
 use Rattle.contract_cli.proofs.DayFacts.{asked_first, fits_day}
 use Rattle.contract_cli.proofs.StopFacts.{answers_too, handed_on}
 use Rattle.contract_cli.proofs.ValueParts.{day_stops, name_stops, setting_stops_too, setting_tells}

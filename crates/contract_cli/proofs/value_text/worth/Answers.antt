@@ -5,8 +5,8 @@ use Rattle.term_core.specs.Declarations.{declarations}
 use Rattle.expr_eval.specs.Standing.{place_of}
 use Rattle.payoff_lang.specs.Code.{payoff_code}
 use Rattle.payoff_eval.specs.Questions.{IsQuestion, asked_on}
-use Rattle.contract_cli.specs.ValueText.{missing_of_code}
-use Rattle.contract_cli.specs.Valuing.{inquiry_of}
+use Rattle.contract_cli.specs.ValuePromise.{missing_of_code}
+use Rattle.contract_cli.specs.ValueParts.{inquiry_of}
 use Rattle.contract_cli.proofs.DayFacts.{fits_day}
 use Rattle.contract_cli.proofs.ValueParts.{without_value}
 use Rattle.contract_cli.proofs.value_text.worth.Goals as goal

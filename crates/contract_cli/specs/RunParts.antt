@@ -2,13 +2,13 @@
 use Rattle.std.specs.Prelude.{◌≤◌, ℕ, List, option_map, Result, length}
 use Rattle.std.specs.Global.{Vec}
 use Rattle.report.specs.FaultLines.{fault_text}
-use Rattle.contract_cli.specs.Answers.{Answers, Inputs, Stops}
+use Rattle.contract_cli.specs.FilesPromise.{Answers, Inputs, Stops}
 use Rattle.command_words.specs.Commands.{Asked, ValueAsked}
-use Rattle.contract_cli.specs.FlowLists.{IsShortTable}
-use Rattle.contract_cli.specs.Runs.{Cause, FilesSeen, StopsRun, FileFault, WasRead, WereRead, WereReadForValue}
+use Rattle.contract_cli.specs.FlowsParts.{IsShortTable}
+use Rattle.contract_cli.specs.RunPromise.{Cause, FilesSeen, StopsRun, FileFault, WasRead, WereRead, WereReadForValue}
 use Rattle.contract_cli.specs.Statuses.{status_of}
 use Rattle.contract_cli.specs.Stopping.{AnswersBy}
-use Rattle.contract_cli.specs.Valuing.{value_inputs_by}
+use Rattle.contract_cli.specs.ValueParts.{value_inputs_by}
 use Rattle.contract_cli.specs.declared.answers.Answer.{Answer}
 use Rattle.contract_cli.specs.declared.answers.Inputs.{Inputs as Kept}
 use Rattle.contract_cli.specs.declared.stop.Stop.{Stop}

@@ -11,7 +11,7 @@ use Rattle.term_core.specs.Terms.{Contract}
 use Rattle.term_core.specs.Acceptance.{Facts, IsAccepted, AreFacts, IsRefusal}
 use Rattle.term_core.specs.Causality.{IsCausal}
 use Rattle.report.specs.CheckLines.{accepted_line, refused_line}
-use Rattle.contract_cli.specs.Used.{used}
+use Rattle.contract_cli.specs.UsedContracts.{used}
 use Rattle.contract_cli.specs.declared.status.Status.{Status}
 use Rattle.contract_cli.specs.declared.status.Status.TheVariants as status
 
@@ -32,6 +32,6 @@ abbrev pub AreAllAccepted : Declarations → List (Name × Contract) → Type 0
 AreAllAccepted d entries = All (λ entry. IsAccepted d entry.1) entries
 
 -- the status and the text of `check` of a portfolio: it has the lines of all contracts also where some are refused
-pub data IsChecked (b : Book) (s : Status) (text : List ℕ) : Type 0 where
-  all_accepted : s ≡ status.Done → AreAllAccepted b.declarations (used None b) → AreCheckLines b.declarations (used None b) text → IsChecked b s text
-  some_refused : s ≡ status.Refused → (AreAllAccepted b.declarations (used None b) → ⊥) → AreCheckLines b.declarations (used None b) text → IsChecked b s text
+pub data IsCheckText (b : Book) (s : Status) (text : List ℕ) : Type 0 where
+  all_accepted : s ≡ status.Done → AreAllAccepted b.declarations (used None b) → AreCheckLines b.declarations (used None b) text → IsCheckText b s text
+  some_refused : s ≡ status.Refused → (AreAllAccepted b.declarations (used None b) → ⊥) → AreCheckLines b.declarations (used None b) text → IsCheckText b s text

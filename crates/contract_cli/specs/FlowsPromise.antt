@@ -24,9 +24,9 @@ use Rattle.report.specs.FlowLines.{IsFlowLine}
 use Rattle.report.specs.SumTables.{together}
 use Rattle.report.specs.declared.fault_lines.Fault.{Fault}
 use Rattle.report.specs.declared.fault_lines.Fault.TheVariants as fault
-use Rattle.contract_cli.specs.CheckText.{AreAllAccepted}
+use Rattle.contract_cli.specs.CheckPromise.{AreAllAccepted}
 use Rattle.command_words.specs.Commands.{FlowsAsked}
-use Rattle.contract_cli.specs.Used.{is_known, used}
+use Rattle.contract_cli.specs.UsedContracts.{is_known, used}
 
 -- the greatest day that can be asked for
 abbrev pub greatest_day : ℤ
@@ -121,7 +121,7 @@ pub record WordsFit (b : Book) (flows : FlowsAsked) (last : ℤ) : Type 0 where
   pub is_last : IsLastDay b.declarations flows.until last
 
 -- nothing stops the command: the contracts are accepted, the rows are taken and each read is fixed
-pub record CanGo (b : Book) (flows : FlowsAsked) (table : Option (List ℕ)) (last : ℤ) (fixings : Environment) : Type 0 where
+pub record CanListFlows (b : Book) (flows : FlowsAsked) (table : Option (List ℕ)) (last : ℤ) (fixings : Environment) : Type 0 where
   pub fit : WordsFit b flows last
   pub accepted : AreAllAccepted b.declarations (used flows.contract b)
   pub are_fixings : AreFixings b.declarations table fixings
@@ -131,7 +131,7 @@ pub record CanGo (b : Book) (flows : FlowsAsked) (table : Option (List ℕ)) (la
 pub record IsFlowsText (b : Book) (flows : FlowsAsked) (table : Option (List ℕ)) (text : List ℕ) : Type 0 where
   pub last : ℤ
   pub fixings : Environment
-  pub can : CanGo b flows table last fixings
+  pub can : CanListFlows b flows table last fixings
   pub lines : AreLinesAsked flows.net b.declarations fixings last (used flows.contract b) text
 
 -- what stops it

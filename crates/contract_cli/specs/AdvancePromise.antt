@@ -20,10 +20,10 @@ use Rattle.advance_step.specs.Advancing.{IsResidual}
 use Rattle.report.specs.FlowLines.{IsFlowLine}
 use Rattle.report.specs.declared.fault_lines.Fault.{Fault}
 use Rattle.report.specs.declared.fault_lines.Fault.TheVariants as fault
-use Rattle.contract_cli.specs.CheckText.{AreAllAccepted}
+use Rattle.contract_cli.specs.CheckPromise.{AreAllAccepted}
 use Rattle.command_words.specs.Commands.{AdvanceAsked}
-use Rattle.contract_cli.specs.FlowsText.{AreAllFixed, AreFixings, IsFirstMissing, IsFirstNotAccepted, IsOutOfRange, label_name}
-use Rattle.contract_cli.specs.Used.{used}
+use Rattle.contract_cli.specs.FlowsPromise.{AreAllFixed, AreFixings, IsFirstMissing, IsFirstNotAccepted, IsOutOfRange, label_name}
+use Rattle.contract_cli.specs.UsedContracts.{used}
 
 -- ---- the new day
 

@@ -20,9 +20,9 @@ use Rattle.report.specs.ValueLines.{value_text}
 use Rattle.report.specs.declared.fault_lines.Fault.{Fault}
 use Rattle.report.specs.declared.fault_lines.Fault.TheVariants as fault
 use Rattle.command_words.specs.Commands.{Between, ValueAsked}
-use Rattle.contract_cli.specs.FlowLists.{IsRowFault}
-use Rattle.contract_cli.specs.FlowsText.{label_name}
-use Rattle.contract_cli.specs.ValueText.{AreBetween, IsValue, ValueInputs, first_unknown, first_unknown_of, missing_of_code, names_between, names_set, question}
+use Rattle.contract_cli.specs.FlowsParts.{IsRowFault}
+use Rattle.contract_cli.specs.FlowsPromise.{label_name}
+use Rattle.contract_cli.specs.ValuePromise.{AreBetween, IsValue, ValueInputs, first_unknown, first_unknown_of, missing_of_code, names_between, names_set, question}
 use Rattle.contract_cli.specs.declared.value_names.Parties.{Parties}
 use Rattle.contract_cli.specs.declared.value_text.Asking.{Asking}
 use Rattle.contract_cli.specs.declared.value_inputs.ValueInputs.{ValueInputs as Kept}

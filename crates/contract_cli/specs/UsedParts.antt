@@ -9,7 +9,7 @@ use Rattle.term_core.specs.Sizes.{height_of_contract, nodes_of_contract}
 use Rattle.term_core.specs.WellFormed.{HasOnlyNumbers, IsClosed}
 use Rattle.report.specs.declared.fault_lines.Fault.{Fault}
 use Rattle.report.specs.declared.fault_lines.Fault.TheVariants as fault
-use Rattle.contract_cli.specs.Used.{contract_named, is_known}
+use Rattle.contract_cli.specs.UsedContracts.{contract_named, is_known}
 use Rattle.contract_cli.specs.declared.used.Instance.{Instance}
 use Rattle.contract_cli.specs.declared.used.Instance.TheVariants.{Lent, Made}
 use Rattle.contract_cli.specs.declared.used.Used.{Used}

@@ -1,4 +1,4 @@
--- What the trial of contracts makes on the way: the line of each behind those before it, and whether all of them were
+-- What the parts of `check` answer: the line of each behind those before it, and whether all of them were
 -- accepted so far.
 use Rattle.std.specs.Prelude.{◌≡◌, ◌↔◌, ℕ, Bool, IsTrue, List, ◌++◌, Result, Ok, Err}
 use Rattle.term_core.specs.declared.name.Name.{Name}
@@ -8,7 +8,7 @@ use Rattle.term_core.specs.Terms.{Contract}
 use Rattle.term_core.specs.Acceptance.{IsAccepted, IsRefusal}
 use Rattle.contract_check.specs.Checks.{IsGranted}
 use Rattle.contract_check.specs.declared.checks.Facts.{Facts}
-use Rattle.contract_cli.specs.CheckText.{AreAllAccepted, AreCheckLines, IsCheckLine}
+use Rattle.contract_cli.specs.CheckPromise.{AreAllAccepted, AreCheckLines, IsCheckLine}
 
 abbrev pub IsVerdictOf : Declarations → Contract → Result Facts RuleFault → Type 0
 IsVerdictOf d c (Ok facts) = IsGranted d c facts

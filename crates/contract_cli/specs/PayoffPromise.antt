@@ -16,7 +16,7 @@ use Rattle.payoff_lang.specs.Compiled.{code_of, cut_code}
 use Rattle.report.specs.declared.fault_lines.Fault.{Fault}
 use Rattle.report.specs.declared.fault_lines.Fault.TheVariants as fault
 use Rattle.command_words.specs.Commands.{PayoffAsked}
-use Rattle.contract_cli.specs.Used.{contract_named}
+use Rattle.contract_cli.specs.UsedContracts.{contract_named}
 
 -- a contract with the defaults for its templates is accepted, or refused by a rule at a node
 abbrev pub IsAcceptedAtDefaults : Declarations → Contract → Type 0

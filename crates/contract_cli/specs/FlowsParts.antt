@@ -17,8 +17,8 @@ use Rattle.flow_eval.specs.declared.flow_table.FlowRow.{FlowRow}
 use Rattle.flow_eval.specs.declared.flow_table.FlowTable.{FlowTable}
 use Rattle.report.specs.declared.fault_lines.Fault.{Fault}
 use Rattle.report.specs.declared.fault_lines.Fault.TheVariants as fault
-use Rattle.contract_cli.specs.CheckText.{AreAllAccepted}
-use Rattle.contract_cli.specs.FlowsText.{AreAllFixed, AreAllLines, AreFixings, AreLines, AreLinesAsked, IsFirstMissing, IsDayAsked, IsFirstNotAccepted, IsLastDay, IsOutOfRange, greatest_day, label_name, missing_of}
+use Rattle.contract_cli.specs.CheckPromise.{AreAllAccepted}
+use Rattle.contract_cli.specs.FlowsPromise.{AreAllFixed, AreAllLines, AreFixings, AreLines, AreLinesAsked, IsFirstMissing, IsDayAsked, IsFirstNotAccepted, IsLastDay, IsOutOfRange, greatest_day, label_name, missing_of}
 use Rattle.contract_cli.specs.Stopping.{AnswersBy}
 use Rattle.contract_cli.specs.declared.stop.Stop.{Stop}
 use Rattle.contract_cli.specs.declared.stop.Stop.TheVariants as stop

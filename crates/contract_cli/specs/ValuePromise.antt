@@ -26,7 +26,7 @@ use Rattle.report.specs.ValueLines.{value_text}
 use Rattle.report.specs.declared.fault_lines.Fault.{Fault}
 use Rattle.report.specs.declared.fault_lines.Fault.TheVariants as fault
 use Rattle.command_words.specs.Commands.{Between, ValueAsked}
-use Rattle.contract_cli.specs.FlowsText.{IsDayAsked, IsOutOfRange, greatest_day, label_name}
+use Rattle.contract_cli.specs.FlowsPromise.{IsDayAsked, IsOutOfRange, greatest_day, label_name}
 
 -- the bytes of the files of `value`
 pub record ValueInputs : Type 0 where

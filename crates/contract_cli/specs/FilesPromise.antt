@@ -1,20 +1,26 @@
--- What a command answers to the bytes of its files: a status and a text. A command that a fault stops answers the fault's
--- status and its line.
+-- What each command promises of the bytes of its files: its answer, a status and a text. A command that a fault stops answers
+-- the fault's status and its line.
 use Rattle.std.specs.Prelude.{◌≡◌, ℕ, List, Option}
 use Rattle.term_core.specs.Books.{Book}
 use Rattle.contract_parse.specs.Texts.{IsFault, Text}
 use Rattle.contract_parse.specs.declared.faults.TextFault.{TextFault}
+use Rattle.payoff_lang.specs.CodeAnswers.{IsCodeFault}
+use Rattle.payoff_lang.specs.CodeBooks.{CodeBook}
+use Rattle.payoff_lang.specs.CodeFiles.{CodeText}
 use Rattle.report.specs.FaultLines.{fault_text}
 use Rattle.report.specs.declared.fault_lines.Fault.{Fault}
 use Rattle.report.specs.declared.fault_lines.Fault.TheVariants as fault
-use Rattle.contract_cli.specs.AdvanceText.{IsAdvanceText, StopsAdvance}
-use Rattle.contract_cli.specs.CheckText.{IsChecked}
-use Rattle.command_words.specs.Commands.{Advance, Asked, Check, Flows, Payoff}
-use Rattle.contract_cli.specs.FlowsText.{IsFlowsText, StopsFlows}
-use Rattle.contract_cli.specs.PayoffText.{IsPayoffText, StopsPayoff}
+use Rattle.command_words.specs.Commands.{Advance, Asked, Check, Flows, Payoff, ValueAsked}
+use Rattle.contract_cli.specs.AdvancePromise.{IsAdvanceText, StopsAdvance}
+use Rattle.contract_cli.specs.CheckPromise.{IsCheckText}
+use Rattle.contract_cli.specs.FlowsPromise.{IsFlowsText, StopsFlows}
+use Rattle.contract_cli.specs.PayoffPromise.{IsPayoffText, StopsPayoff}
 use Rattle.contract_cli.specs.Statuses.{status_of}
+use Rattle.contract_cli.specs.ValuePromise.{IsValueText, StopsValue, ValueInputs}
 use Rattle.contract_cli.specs.declared.status.Status.{Status}
 use Rattle.contract_cli.specs.declared.status.Status.TheVariants as status
+
+-- ---- the commands on a portfolio
 
 -- the bytes of a command's files
 pub record Inputs : Type 0 where
@@ -41,7 +47,7 @@ StopsOn (Payoff payoff) b table f = StopsPayoff b payoff f
 
 -- what a command tells of a portfolio that nothing stops
 abbrev pub Tells : Asked → Book → Option (List ℕ) → Status → List ℕ → Type 0
-Tells (Check file) b table s text = IsChecked b s text
+Tells (Check file) b table s text = IsCheckText b s text
 Tells (Flows flows) b table s text = (s ≡ status.Done) × IsFlowsText b flows table text
 Tells (Advance advance) b table s text = (s ≡ status.Done) × IsAdvanceText b advance table text
 Tells (Payoff payoff) b table s text = (s ≡ status.Done) × IsPayoffText b payoff text
@@ -54,3 +60,25 @@ pub data Stops (asked : Asked) (inputs : Inputs) (f : Fault) : Type 0 where
 pub data Answers (asked : Asked) (inputs : Inputs) (s : Status) (text : List ℕ) : Type 0 where
   stopped : (f : Fault) → Stops asked inputs f → s ≡ status_of f → text ≡ fault_text f → Answers asked inputs s text
   told : (b : Book) → Text inputs.portfolio b → Tells asked b inputs.fixings s text → Answers asked inputs s text
+
+-- ---- `value`
+
+-- the bytes are no code file's text
+abbrev pub IsNoCode : List ℕ → Type 0
+IsNoCode bytes = (b : CodeBook) → CodeText bytes b → ⊥
+
+-- the bytes are no code file's text, and the fault is their first
+pub record IsBadCode (bytes : List ℕ) (f : Fault) : Type 0 where
+  pub first : TextFault
+  pub is_first : IsCodeFault bytes first
+  pub no_code : IsNoCode bytes
+  pub fault_is : f ≡ fault.Text first
+
+-- what stops `value` on the bytes of its files
+pub data StopsValueOnBytes (asked : ValueAsked) (inputs : ValueInputs) (f : Fault) : Type 0 where
+  no_code : IsBadCode inputs.code f → StopsValueOnBytes asked inputs f
+  on_code : (b : CodeBook) → CodeText inputs.code b → StopsValue b asked inputs f → StopsValueOnBytes asked inputs f
+
+pub data ValueAnswers (asked : ValueAsked) (inputs : ValueInputs) (s : Status) (text : List ℕ) : Type 0 where
+  value_stopped : (f : Fault) → StopsValueOnBytes asked inputs f → s ≡ status_of f → text ≡ fault_text f → ValueAnswers asked inputs s text
+  value_told : (b : CodeBook) → CodeText inputs.code b → s ≡ status.Done → IsValueText b asked inputs text → ValueAnswers asked inputs s text

@@ -10,12 +10,12 @@ use Rattle.contract_print.specs.Canon.{IsCanon}
 use Rattle.flow_eval.specs.FlowAnswers.{AreKnownFlows}
 use Rattle.flow_eval.specs.declared.flow_table.FlowRow.{FlowRow}
 use Rattle.advance_step.specs.Advancing.{IsResidual}
-use Rattle.contract_cli.specs.AdvanceText.{AreComments, AreDueLines, AreResiduals, IsAdvanceText, IsNewDay, StopsAdvance, greatest_new_day, last_gone, rest_declarations}
+use Rattle.contract_cli.specs.AdvancePromise.{AreComments, AreDueLines, AreResiduals, IsAdvanceText, IsNewDay, StopsAdvance, greatest_new_day, last_gone, rest_declarations}
 use Rattle.command_words.specs.Commands.{AdvanceAsked}
-use Rattle.contract_cli.specs.FlowLists.{IsMissingOf, IsMissingOne, IsWordFault}
-use Rattle.contract_cli.specs.FlowsText.{AreAllFixed}
+use Rattle.contract_cli.specs.FlowsParts.{IsMissingOf, IsMissingOne, IsWordFault}
+use Rattle.contract_cli.specs.FlowsPromise.{AreAllFixed}
 use Rattle.contract_cli.specs.Stopping.{AnswersBy}
-use Rattle.contract_cli.specs.Using.{trees}
+use Rattle.contract_cli.specs.UsedParts.{trees}
 use Rattle.contract_cli.specs.declared.advance_text.Left.{Left}
 use Rattle.contract_cli.specs.declared.stop.Stop.{Stop}
 
