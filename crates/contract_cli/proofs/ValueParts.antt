@@ -19,7 +19,7 @@ use Rattle.contract_cli.specs.FlowsParts.{IsRowFault, IsStopOf, IsWordFault}
 use Rattle.contract_cli.specs.FlowsPromise.{IsDayAsked, greatest_day}
 use Rattle.contract_cli.specs.Stopping.{AnswersBy}
 use Rattle.contract_cli.specs.ValuePromise.{AreBetween, IsValueText, Naming, StopsValue, ValueInputs, WordsFitCode, curve_refused, day_out, first_unknown, first_unknown_of, name_unknown, names_between, names_set, not_accepted, question, read_missing, row_refused, setting_by}
-use Rattle.contract_cli.specs.ValueParts.{Inquiry, IsCurveFault, IsFirstUnknown, IsMissingBy, IsQuestionOf, IsUndeclared, IsUnknownBetween, IsUnknownOfValue, IsUnknownSetting, IsWorthOver, KnowsNames, StopsAtSetting, StopsByCurve, StopsByTables, TellsAtSetting, by_curve, by_tables, flow_of, missing_by, no_code, no_curve, no_read, no_row, settings_are_known}
+use Rattle.contract_cli.specs.ValueParts.{Inquiry, IsCurveFault, IsFirstUnknown, IsMissingBy, IsQuestionOf, IsUndeclared, IsUnknownBetween, IsUnknownOfValue, IsUnknownSetting, IsWorthOver, KnowsNames, StopsAtSetting, StopsByCurve, StopsByTables, TellsAtSetting, by_curve, by_tables, flow_of, missing_by, no_code, no_curve, no_read, no_row, SettingsAreKnown}
 use Rattle.contract_cli.specs.declared.stop.Stop.{Stop}
 use Rattle.contract_cli.specs.declared.value_names.Parties.{Parties}
 
@@ -81,7 +81,7 @@ module _ (d : Declarations) (asked : ValueAsked) where
   setting_stops flow are f h =
       record { name = h.name; is_first = behind (names_between d asked.between) (names_set d asked.settings) (known_between d asked.between flow are) ∙ h.is_first; fault_is = h.fault_is }
 
-  pub knows : (parties : Parties) → AreBetween d asked.between (flow_of parties) → settings_are_known d asked.settings → KnowsNames d asked parties
+  pub knows : (parties : Parties) → AreBetween d asked.between (flow_of parties) → SettingsAreKnown d asked.settings → KnowsNames d asked parties
   knows parties are known =
       record { between = are; known = behind (names_between d asked.between) (names_set d asked.settings) (known_between d asked.between (flow_of parties) are) ∙ known }
 

@@ -47,7 +47,8 @@ AnswersRest d fixings day entry before after r =
     AnswersBy (λ _. AppendsRest d fixings day entry before after) (IsMissingOne d fixings (last_gone day) entry.1) r
 
 -- the same of contracts
-pub record AppendsRests (d : Declarations) (fixings : Environment) (day : ℕ) (entries : List (Name × Contract)) (due : List ℕ) (contracts : List (Name × Contract)) (left : Left) : Type 0 where
+pub record AppendsRests (d : Declarations) (fixings : Environment) (day : ℕ) (entries : List (Name × Contract))
+    (due : List ℕ) (contracts : List (Name × Contract)) (left : Left) : Type 0 where
   pub fixed : AreAllFixed d fixings (last_gone day) entries
   pub text : List ℕ
   pub lines : AreDueLines d fixings (last_gone day) entries text
@@ -56,7 +57,8 @@ pub record AppendsRests (d : Declarations) (fixings : Environment) (day : ℕ) (
   pub residuals : AreResiduals d fixings day entries rest
   pub kept : trees left.contracts.entries ≡ contracts ++ rest
 
-abbrev pub AnswersRests : Declarations → Environment → ℕ → List (Name × Contract) → List ℕ → List (Name × Contract) → Result Left Stop → Type 0
+abbrev pub AnswersRests :
+    Declarations → Environment → ℕ → List (Name × Contract) → List ℕ → List (Name × Contract) → Result Left Stop → Type 0
 AnswersRests d fixings day entries due contracts r =
     AnswersBy (λ left. AppendsRests d fixings day entries due contracts left) (IsMissingOf d fixings (last_gone day) entries) r
 

@@ -67,7 +67,8 @@ pub record IsDueText (d : Declarations) (fixings : Environment) (last : ℤ) (na
 abbrev pub AreDueLines : Declarations → Environment → ℤ → List (Name × Contract) → List ℕ → Type 0
 AreDueLines d fixings last [] text = text ≡ []
 AreDueLines d fixings last (entry ∷ entries) text =
-    (first : List ℕ) × (rest : List ℕ) × IsDueText d fixings last entry.0 entry.1 first × AreDueLines d fixings last entries rest × (text ≡ first ++ rest)
+    (first : List ℕ) × (rest : List ℕ) × IsDueText d fixings last entry.0 entry.1 first
+    × AreDueLines d fixings last entries rest × (text ≡ first ++ rest)
 
 -- ---- what is left
 
@@ -115,8 +116,8 @@ pub data StopsAdvance (b : Book) (asked : AdvanceAsked) (table : Option (List �
   day_out : IsNoNewDay b.declarations asked.to → f ≡ fault.Day asked.to → StopsAdvance b asked table f
   not_accepted :
       (day : ℕ) → IsNewDay b.declarations asked.to day
-      → (name : List ℕ) (rule : Rule) (node : ℕ) → IsFirstNotAccepted b.declarations (used None b) name rule node → f ≡ fault.Refused name rule node
-      → StopsAdvance b asked table f
+      → (name : List ℕ) (rule : Rule) (node : ℕ) → IsFirstNotAccepted b.declarations (used None b) name rule node
+      → f ≡ fault.Refused name rule node → StopsAdvance b asked table f
   row_refused :
       (day : ℕ) → IsNewDay b.declarations asked.to day → AreAllAccepted b.declarations (used None b)
       → (bytes : List ℕ) → table ≡ Some bytes → (row : RowFault) → IsFirstFault b.declarations (table_of bytes) row → f ≡ fault.Row 2 row
@@ -124,5 +125,5 @@ pub data StopsAdvance (b : Book) (asked : AdvanceAsked) (table : Option (List �
   read_missing :
       (day : ℕ) → IsNewDay b.declarations asked.to day → AreAllAccepted b.declarations (used None b)
       → (fixings : Environment) → AreFixings b.declarations table fixings
-      → (place : Place) → IsFirstMissing b.declarations fixings (last_gone day) (used None b) place → f ≡ fault.Missing (label_name b.declarations place.label) place.day
-      → StopsAdvance b asked table f
+      → (place : Place) → IsFirstMissing b.declarations fixings (last_gone day) (used None b) place
+      → f ≡ fault.Missing (label_name b.declarations place.label) place.day → StopsAdvance b asked table f

@@ -1,6 +1,6 @@
 -- What the parts of `check` answer: the line of each behind those before it, and whether all of them were
 -- accepted so far.
-use Rattle.std.specs.Prelude.{◌≡◌, ◌↔◌, ℕ, Bool, IsTrue, List, ◌++◌, Result, Ok, Err}
+use Rattle.std.specs.Prelude.{◌≡◌, ◌↔◌, ℕ, Bool, true, IsTrue, List, [], ◌++◌, Result, Ok, Err}
 use Rattle.term_core.specs.declared.name.Name.{Name}
 use Rattle.term_core.specs.declared.rules.RuleFault.{RuleFault}
 use Rattle.term_core.specs.Declarations.{Declarations}
@@ -9,6 +9,7 @@ use Rattle.term_core.specs.Acceptance.{IsAccepted, IsRefusal}
 use Rattle.contract_check.specs.Checks.{IsGranted}
 use Rattle.contract_check.specs.declared.checks.Facts.{Facts}
 use Rattle.contract_cli.specs.CheckPromise.{AreAllAccepted, AreCheckLines, IsCheckLine}
+use Rattle.contract_cli.specs.declared.check_text.CheckText.{CheckText}
 
 abbrev pub IsVerdictOf : Declarations → Contract → Result Facts RuleFault → Type 0
 IsVerdictOf d c (Ok facts) = IsGranted d c facts
@@ -27,3 +28,7 @@ pub record AppendsVerdicts (d : Declarations) (entries : List (Name × Contract)
   pub lines : AreCheckLines d entries text
   pub appended : after ≡ before ++ text
   pub decides : IsTrue all ↔ (IsTrue so_far × AreAllAccepted d entries)
+
+-- the verdicts on contracts, with nothing before them
+abbrev pub AreVerdicts : Declarations → List (Name × Contract) → CheckText → Type 0
+AreVerdicts d entries check = AppendsVerdicts d entries true check.all_accepted [] check.text.items

@@ -33,5 +33,9 @@ AreAllAccepted d entries = All (λ entry. IsAccepted d entry.1) entries
 
 -- the status and the text of `check` of a portfolio: it has the lines of all contracts also where some are refused
 pub data IsCheckText (b : Book) (s : Status) (text : List ℕ) : Type 0 where
-  all_accepted : s ≡ status.Done → AreAllAccepted b.declarations (used None b) → AreCheckLines b.declarations (used None b) text → IsCheckText b s text
-  some_refused : s ≡ status.Refused → (AreAllAccepted b.declarations (used None b) → ⊥) → AreCheckLines b.declarations (used None b) text → IsCheckText b s text
+  all_accepted :
+      s ≡ status.Done → AreAllAccepted b.declarations (used None b) → AreCheckLines b.declarations (used None b) text
+      → IsCheckText b s text
+  some_refused :
+      s ≡ status.Refused → (AreAllAccepted b.declarations (used None b) → ⊥) → AreCheckLines b.declarations (used None b) text
+      → IsCheckText b s text

@@ -80,5 +80,9 @@ pub data StopsValueOnBytes (asked : ValueAsked) (inputs : ValueInputs) (f : Faul
   on_code : (b : CodeBook) → CodeText inputs.code b → StopsValue b asked inputs f → StopsValueOnBytes asked inputs f
 
 pub data ValueAnswers (asked : ValueAsked) (inputs : ValueInputs) (s : Status) (text : List ℕ) : Type 0 where
-  value_stopped : (f : Fault) → StopsValueOnBytes asked inputs f → s ≡ status_of f → text ≡ fault_text f → ValueAnswers asked inputs s text
-  value_told : (b : CodeBook) → CodeText inputs.code b → s ≡ status.Done → IsValueText b asked inputs text → ValueAnswers asked inputs s text
+  value_stopped :
+      (f : Fault) → StopsValueOnBytes asked inputs f → s ≡ status_of f → text ≡ fault_text f
+      → ValueAnswers asked inputs s text
+  value_told :
+      (b : CodeBook) → CodeText inputs.code b → s ≡ status.Done → IsValueText b asked inputs text
+      → ValueAnswers asked inputs s text

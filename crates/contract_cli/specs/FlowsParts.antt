@@ -3,6 +3,7 @@ use Rattle.std.specs.Prelude.{◌≡◌, ◌⊎◌, ◌≤◌, ◌≤ℤ◌, ℕ
 use Rattle.std.specs.Global.{Vec}
 use Rattle.term_core.specs.declared.name.Name.{Name}
 use Rattle.term_core.specs.declared.rules.Rule.{Rule}
+use Rattle.term_core.specs.Books.{Book}
 use Rattle.term_core.specs.Declarations.{Declarations}
 use Rattle.term_core.specs.Environments.{Environment, IsAdmitted, Place}
 use Rattle.term_core.specs.Terms.{Contract}
@@ -17,8 +18,9 @@ use Rattle.flow_eval.specs.declared.flow_table.FlowRow.{FlowRow}
 use Rattle.flow_eval.specs.declared.flow_table.FlowTable.{FlowTable}
 use Rattle.report.specs.declared.fault_lines.Fault.{Fault}
 use Rattle.report.specs.declared.fault_lines.Fault.TheVariants as fault
+use Rattle.command_words.specs.Commands.{FlowsAsked}
 use Rattle.contract_cli.specs.CheckPromise.{AreAllAccepted}
-use Rattle.contract_cli.specs.FlowsPromise.{AreAllFixed, AreAllLines, AreFixings, AreLines, AreLinesAsked, IsFirstMissing, IsDayAsked, IsFirstNotAccepted, IsLastDay, IsOutOfRange, greatest_day, label_name, missing_of}
+use Rattle.contract_cli.specs.FlowsPromise.{AreAllFixed, AreAllLines, AreFixings, AreLines, AreLinesAsked, IsFirstMissing, IsDayAsked, IsFirstNotAccepted, IsFlowsText, IsLastDay, IsOutOfRange, StopsFlows, greatest_day, label_name, missing_of}
 use Rattle.contract_cli.specs.Stopping.{AnswersBy}
 use Rattle.contract_cli.specs.declared.stop.Stop.{Stop}
 use Rattle.contract_cli.specs.declared.stop.Stop.TheVariants as stop
@@ -54,6 +56,9 @@ pub record IsDayFault (d : Declarations) (until : Option (List ℕ)) (f : Fault)
   pub given : until ≡ Some word
   pub out : IsOutOfRange d greatest_day word
   pub fault_is : f ≡ fault.Day word
+
+abbrev pub AnswersLastDay : Declarations → Option (List ℕ) → Result ℤ Stop → Type 0
+AnswersLastDay d until r = AnswersBy (CanBeLast d until) (IsDayFault d until) r
 
 -- ---- the fixings
 
@@ -119,31 +124,51 @@ pub record IsMissingOf (d : Declarations) (fixings : Environment) (last : ℤ) (
   pub first : IsFirstMissing d fixings last entries place
   pub fault_is : f ≡ fault.Missing (label_name d place.label) place.day
 
+-- the flow table of a contract
+abbrev pub AnswersTable : Declarations → Contract → Environment → ℤ → Result FlowTable Stop → Type 0
+AnswersTable d c fixings last r =
+    AnswersBy (λ table. AreKnownFlows d c fixings (pos d.start) last table.rows.items) (IsMissingOne d fixings last c) r
+
 -- each read is fixed, and these are the lines
-pub record LinesKnown (net : Bool) (d : Declarations) (fixings : Environment) (last : ℤ) (entries : List (Name × Contract)) (text : List ℕ) : Type 0 where
+pub record LinesKnown (net : Bool) (d : Declarations) (fixings : Environment) (last : ℤ)
+    (entries : List (Name × Contract)) (text : List ℕ) : Type 0 where
   pub fixed : AreAllFixed d fixings last entries
   pub lines : AreLinesAsked net d fixings last entries text
 
+abbrev pub AnswersLinesAsked : Bool → Declarations → Environment → ℤ → List (Name × Contract) → Result (Vec ℕ) Stop → Type 0
+AnswersLinesAsked net d fixings last entries r =
+    AnswersBy (λ text. LinesKnown net d fixings last entries text.items) (IsMissingOf d fixings last entries) r
+
 -- the lines of contracts, behind what was there before
-pub record AppendsAll (d : Declarations) (fixings : Environment) (last : ℤ) (entries : List (Name × Contract)) (before after : List ℕ) : Type 0 where
+pub record AppendsAll (d : Declarations) (fixings : Environment) (last : ℤ)
+    (entries : List (Name × Contract)) (before after : List ℕ) : Type 0 where
   pub fixed : AreAllFixed d fixings last entries
   pub text : List ℕ
   pub lines : AreAllLines d fixings last entries text
   pub appended : after ≡ before ++ text
 
 abbrev pub AnswersLines : Declarations → Environment → ℤ → List (Name × Contract) → List ℕ → Result (Vec ℕ) Stop → Type 0
-AnswersLines d fixings last entries before r = AnswersBy (λ text. AppendsAll d fixings last entries before text.items) (IsMissingOf d fixings last entries) r
+AnswersLines d fixings last entries before r =
+    AnswersBy (λ text. AppendsAll d fixings last entries before text.items) (IsMissingOf d fixings last entries) r
 
 -- the tables are those of the flows of contracts, one after another
 abbrev pub AreTables : Declarations → Environment → ℤ → List (Name × Contract) → List FlowTable → Type 0
 AreTables d fixings last [] [] = Unit {0}
-AreTables d fixings last (entry ∷ entries) (table ∷ tables) = AreKnownFlows d entry.1 fixings (pos d.start) last table.rows.items × AreTables d fixings last entries tables
+AreTables d fixings last (entry ∷ entries) (table ∷ tables) =
+    AreKnownFlows d entry.1 fixings (pos d.start) last table.rows.items × AreTables d fixings last entries tables
 AreTables d fixings last _ _ = ⊥
 
-pub record AppendsTables (d : Declarations) (fixings : Environment) (last : ℤ) (entries : List (Name × Contract)) (before after : List FlowTable) : Type 0 where
+pub record AppendsTables (d : Declarations) (fixings : Environment) (last : ℤ)
+    (entries : List (Name × Contract)) (before after : List FlowTable) : Type 0 where
   pub tables : List FlowTable
   pub are_tables : AreTables d fixings last entries tables
   pub appended : after ≡ before ++ tables
 
 abbrev pub AnswersTables : Declarations → Environment → ℤ → List (Name × Contract) → List FlowTable → Result (Vec FlowTable) Stop → Type 0
-AnswersTables d fixings last entries before r = AnswersBy (λ tables. AppendsTables d fixings last entries before tables.items) (IsMissingOf d fixings last entries) r
+AnswersTables d fixings last entries before r =
+    AnswersBy (λ tables. AppendsTables d fixings last entries before tables.items) (IsMissingOf d fixings last entries) r
+
+-- ---- the whole answer, or what stops the command
+
+abbrev pub AnswersFlows : Book → FlowsAsked → Option (List ℕ) → Result (Vec ℕ) Stop → Type 0
+AnswersFlows b flows table r = AnswersBy (λ text. IsFlowsText b flows table text.items) (StopsFlows b flows table) r

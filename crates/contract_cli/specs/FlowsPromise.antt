@@ -74,7 +74,8 @@ pub record IsFirstNotAccepted (d : Declarations) (entries : List (Name × Contra
   pub refused : IsRefusal d contr rule node
 
 -- the first read that is not fixed, of the first contract that has one
-pub record IsFirstMissing (d : Declarations) (fixings : Environment) (last : ℤ) (entries : List (Name × Contract)) (place : Place) : Type 0 where
+pub record IsFirstMissing (d : Declarations) (fixings : Environment) (last : ℤ)
+    (entries : List (Name × Contract)) (place : Place) : Type 0 where
   pub before : List (Name × Contract)
   pub entry : Name × Contract
   pub after : List (Name × Contract)
@@ -98,14 +99,16 @@ pub record AreFlowLines (d : Declarations) (fixings : Environment) (last : ℤ) 
 abbrev pub AreAllLines : Declarations → Environment → ℤ → List (Name × Contract) → List ℕ → Type 0
 AreAllLines d fixings last [] text = text ≡ []
 AreAllLines d fixings last (entry ∷ entries) text =
-    (first : List ℕ) × (rest : List ℕ) × AreFlowLines d fixings last entry.0 entry.1 first × AreAllLines d fixings last entries rest × (text ≡ first ++ rest)
+    (first : List ℕ) × (rest : List ℕ) × AreFlowLines d fixings last entry.0 entry.1 first
+    × AreAllLines d fixings last entries rest × (text ≡ first ++ rest)
 
 -- what contracts that stand on the start pay together on a day from one party to another in an asset
 abbrev pub paid_together : Declarations → List (Name × Contract) → Environment → ℤ → Flow → ℤ
 paid_together d entries env = together (map (λ entry. paid_by d entry.1 env (pos d.start)) entries)
 
 -- the lines of what contracts pay together, under the name *, the same in every environment that extends the fixings
-pub record AreSumLines (d : Declarations) (fixings : Environment) (last : ℤ) (entries : List (Name × Contract)) (text : List ℕ) : Type 0 where
+pub record AreSumLines (d : Declarations) (fixings : Environment) (last : ℤ)
+    (entries : List (Name × Contract)) (text : List ℕ) : Type 0 where
   pub rows : List FlowRow
   pub table : (env : Environment) → Extends fixings env → IsTable (paid_together d entries env) (pos d.start) last rows
   pub lines : AreLines d (codes "*") rows text
@@ -145,8 +148,8 @@ pub data StopsFlows (b : Book) (flows : FlowsAsked) (table : Option (List ℕ)) 
       → StopsFlows b flows table f
   not_accepted :
       (last : ℤ) → WordsFit b flows last
-      → (name : List ℕ) (rule : Rule) (node : ℕ) → IsFirstNotAccepted b.declarations (used flows.contract b) name rule node → f ≡ fault.Refused name rule node
-      → StopsFlows b flows table f
+      → (name : List ℕ) (rule : Rule) (node : ℕ) → IsFirstNotAccepted b.declarations (used flows.contract b) name rule node
+      → f ≡ fault.Refused name rule node → StopsFlows b flows table f
   row_refused :
       (last : ℤ) → WordsFit b flows last → AreAllAccepted b.declarations (used flows.contract b)
       → (bytes : List ℕ) → table ≡ Some bytes → (row : RowFault) → IsFirstFault b.declarations (table_of bytes) row → f ≡ fault.Row 2 row
@@ -154,5 +157,5 @@ pub data StopsFlows (b : Book) (flows : FlowsAsked) (table : Option (List ℕ)) 
   read_missing :
       (last : ℤ) → WordsFit b flows last → AreAllAccepted b.declarations (used flows.contract b)
       → (fixings : Environment) → AreFixings b.declarations table fixings
-      → (place : Place) → IsFirstMissing b.declarations fixings last (used flows.contract b) place → f ≡ fault.Missing (label_name b.declarations place.label) place.day
-      → StopsFlows b flows table f
+      → (place : Place) → IsFirstMissing b.declarations fixings last (used flows.contract b) place
+      → f ≡ fault.Missing (label_name b.declarations place.label) place.day → StopsFlows b flows table f

@@ -1,5 +1,6 @@
 pub mod Statuses
 pub mod Stopping
+pub mod Given
 pub mod UsedContracts
 pub mod UsedParts
 pub mod CheckPromise

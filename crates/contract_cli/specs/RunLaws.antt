@@ -66,7 +66,9 @@ pub record IsReadWhole (words : List (List ℕ)) (edge : Edge) (asked : Asked) (
 -- the first file with more bytes than the limit is at this place
 pub data IsLongAt (inputs : Inputs) (place : ℕ) : Type 0 where
   long_portfolio : place ≡ 1 → longest_file < length inputs.portfolio → IsLongAt inputs place
-  long_table : place ≡ 2 → length inputs.portfolio ≤ longest_file → (bytes : List ℕ) → inputs.fixings ≡ Some bytes → longest_file < length bytes → IsLongAt inputs place
+  long_table :
+      place ≡ 2 → length inputs.portfolio ≤ longest_file
+      → (bytes : List ℕ) → inputs.fixings ≡ Some bytes → longest_file < length bytes → IsLongAt inputs place
 
 -- a named file has more bytes than the limit
 abbrev pub IsTooLong : Inputs → Type 0
@@ -168,7 +170,8 @@ CauseOnBook _ asked table b = ⊥
 -- words of no form are a fault of usage, and no other words are
 abbrev pub UsageIsExact : Type 0
 UsageIsExact =
-    (words : List (List ℕ)) (edge : Edge) (s : Status) → Meets words edge s → WritesSucceed edge → ComesExactlyWhere (request_of words ≡ None) status.Usage s
+    (words : List (List ℕ)) (edge : Edge) (s : Status)
+    → Meets words edge s → WritesSucceed edge → ComesExactlyWhere (request_of words ≡ None) status.Usage s
 
 -- a read is at fault only where the count of a named file rose, whose place is the line's
 pub record ReadFaultIs (words : List (List ℕ)) (edge : Edge) : Type 0 where
@@ -193,7 +196,8 @@ pub record TooLongIs (inputs : Inputs) (edge : Edge) (s : Status) : Type 0 where
 
 abbrev pub TooLongIsExact : Type 0
 TooLongIsExact =
-    (words : List (List ℕ)) (edge : Edge) (s : Status) (asked : Asked) (inputs : Inputs) → Meets words edge s → IsRead words edge asked inputs → TooLongIs inputs edge s
+    (words : List (List ℕ)) (edge : Edge) (s : Status) (asked : Asked) (inputs : Inputs)
+    → Meets words edge s → IsRead words edge asked inputs → TooLongIs inputs edge s
 
 -- a text is bad exactly where it is in no portfolio's grammar
 abbrev pub BadTextIsExact : Type 0
@@ -258,7 +262,8 @@ CheckIsComplete =
 abbrev pub FlowsAreComplete : Type 0
 FlowsAreComplete =
     (words : List (List ℕ)) (edge : Edge) (s : Status) (flows : FlowsAsked) (inputs : Inputs) (b : Book) (last : ℤ) (fixings : Environment)
-    → Meets words edge s → IsReadWhole words edge (Flows flows) inputs → Text inputs.portfolio b → CanListFlows b flows inputs.fixings last fixings
+    → Meets words edge s → IsReadWhole words edge (Flows flows) inputs → Text inputs.portfolio b
+    → CanListFlows b flows inputs.fixings last fixings
     → ((text : List ℕ) × (s ≡ status.Done) × IsFlowsText b flows inputs.fixings text × WritesAll edge.sink text)
     ⊎ ((s ≡ status.NoMemory) × WritesNothing edge.sink)
 
@@ -267,7 +272,8 @@ FlowsAreComplete =
 abbrev pub AdvanceIsComplete : Type 0
 AdvanceIsComplete =
     (words : List (List ℕ)) (edge : Edge) (s : Status) (asked : AdvanceAsked) (inputs : Inputs) (b : Book) (day : ℕ) (fixings : Environment)
-    → Meets words edge s → IsReadWhole words edge (Advance asked) inputs → Text inputs.portfolio b → CanAdvance b asked inputs.fixings day fixings
+    → Meets words edge s → IsReadWhole words edge (Advance asked) inputs → Text inputs.portfolio b
+    → CanAdvance b asked inputs.fixings day fixings
     → ((text : List ℕ) × (s ≡ status.Done) × IsAdvanceText b asked inputs.fixings text × WritesAll edge.sink text)
     ⊎ ((s ≡ status.NoMemory) × WritesNothing edge.sink)
 

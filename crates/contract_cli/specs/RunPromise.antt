@@ -28,12 +28,19 @@ pub record FilesSeen : Type 0 where
   pub faults_before : List ℕ → ℕ
   pub faults_after : List ℕ → ℕ
 
+abbrev pub seen : (List ℕ → Option (List ℕ)) → (List ℕ → ℕ) → (List ℕ → ℕ) → FilesSeen
+seen contents before after = record { contents = contents; faults_before = before; faults_after = after }
+
 -- what a run leaves in a sink: the bytes taken, where those are told, and the counts of its faults before and after it
 pub record SinkLeft : Type 0 where
   pub taken_before : Option (List ℕ)
   pub taken_after : Option (List ℕ)
   pub faults_before : ℕ
   pub faults_after : ℕ
+
+abbrev pub sink_left : Option (List ℕ) → Option (List ℕ) → ℕ → ℕ → SinkLeft
+sink_left taken_before taken_after faults_before faults_after =
+    record { taken_before = taken_before; taken_after = taken_after; faults_before = faults_before; faults_after = faults_after }
 
 pub record Edge : Type 0 where
   pub files : FilesSeen
@@ -53,6 +60,10 @@ NamesSample words count = request_of words ≡ Some (Sample count)
 
 -- ---- the files of a command
 
+-- the count of faults of a file stays, where its contents are told
+abbrev pub Stays : FilesSeen → List ℕ → Type 0
+Stays files file = IsSome (files.contents file) → files.faults_after file ≡ files.faults_before file
+
 -- the command does not name a file
 pub record IsUnnamed (asked : Asked) (file : List ℕ) : Type 0 where
   pub other_portfolio : file ≢ portfolio_file asked
@@ -61,7 +72,7 @@ pub record IsUnnamed (asked : Asked) (file : List ℕ) : Type 0 where
 -- no count of faults falls, and that of a told file that the command does not name stays
 pub record CountsOnlyNamed (asked : Asked) (files : FilesSeen) : Type 0 where
   pub later : (file : List ℕ) → files.faults_before file ≤ files.faults_after file
-  pub others : (file : List ℕ) → IsUnnamed asked file → IsSome (files.contents file) → files.faults_after file ≡ files.faults_before file
+  pub others : (file : List ℕ) → IsUnnamed asked file → Stays files file
 
 -- `value` does not name a file
 pub record IsUnnamedByValue (asked : ValueAsked) (file : List ℕ) : Type 0 where
@@ -72,7 +83,7 @@ pub record IsUnnamedByValue (asked : ValueAsked) (file : List ℕ) : Type 0 wher
 -- the same of what `value` names
 pub record CountsOnlyValued (asked : ValueAsked) (files : FilesSeen) : Type 0 where
   pub later : (file : List ℕ) → files.faults_before file ≤ files.faults_after file
-  pub others : (file : List ℕ) → IsUnnamedByValue asked file → IsSome (files.contents file) → files.faults_after file ≡ files.faults_before file
+  pub others : (file : List ℕ) → IsUnnamedByValue asked file → Stays files file
 
 -- words do not name a file: words of no command, and of `sample`, name none
 pub record IsUnnamedByWords (words : List (List ℕ)) (file : List ℕ) : Type 0 where
@@ -82,7 +93,7 @@ pub record IsUnnamedByWords (words : List (List ℕ)) (file : List ℕ) : Type 0
 -- the same of the command of words
 pub record CountsOnlyBy (words : List (List ℕ)) (files : FilesSeen) : Type 0 where
   pub later : (file : List ℕ) → files.faults_before file ≤ files.faults_after file
-  pub others : (file : List ℕ) → IsUnnamedByWords words file → IsSome (files.contents file) → files.faults_after file ≡ files.faults_before file
+  pub others : (file : List ℕ) → IsUnnamedByWords words file → Stays files file
 
 -- these bytes were read of a file: its contents, where they are told
 pub record WasRead (files : FilesSeen) (file bytes : List ℕ) : Type 0 where
@@ -109,7 +120,9 @@ pub record WereReadForValue (files : FilesSeen) (asked : ValueAsked) (inputs : V
 -- the file at a place of a command, where those before it were read
 pub data IsNext (files : FilesSeen) (asked : Asked) (file : List ℕ) (place : ℕ) : Type 0 where
   is_first : place ≡ 1 → file ≡ portfolio_file asked → IsNext files asked file place
-  is_second : place ≡ 2 → fixings_file asked ≡ Some file → (bytes : List ℕ) → WasRead files (portfolio_file asked) bytes → IsNext files asked file place
+  is_second :
+      place ≡ 2 → fixings_file asked ≡ Some file → (bytes : List ℕ) → WasRead files (portfolio_file asked) bytes
+      → IsNext files asked file place
 
 -- the same of `value`
 pub data IsNextOfValue (files : FilesSeen) (asked : ValueAsked) (file : List ℕ) (place : ℕ) : Type 0 where
@@ -145,7 +158,8 @@ WritesAll sink text = Appends sink.taken_before sink.taken_after text
 -- a write failed, and a proper prefix of the text was written before it
 abbrev pub WritesPart : SinkLeft → List ℕ → Type 0
 WritesPart sink text =
-    Rose sink.faults_before sink.faults_after × (written : ℕ) × (written < length text) × Appends sink.taken_before sink.taken_after (take written text)
+    Rose sink.faults_before sink.faults_after
+    × (written : ℕ) × (written < length text) × Appends sink.taken_before sink.taken_after (take written text)
 
 -- ---- the end of a run
 
@@ -169,5 +183,7 @@ pub data Cause (words : List (List ℕ)) (files : FilesSeen) (s : Status) (text 
 -- how a run ends with a status
 pub data Meets (words : List (List ℕ)) (edge : Edge) (s : Status) : Type 0 where
   written : (text : List ℕ) → Cause words edge.files s text → WritesAll edge.sink text → Meets words edge s
-  broken : s ≡ status.WriteFault → (due : Status) (text : List ℕ) → Cause words edge.files due text → WritesPart edge.sink text → Meets words edge s
+  broken :
+      s ≡ status.WriteFault → (due : Status) (text : List ℕ) → Cause words edge.files due text → WritesPart edge.sink text
+      → Meets words edge s
   lacking : s ≡ status.NoMemory → WritesNothing edge.sink → Meets words edge s

@@ -19,11 +19,14 @@ pub data SampleEnds (edge : Edge) (count : ℕ) (s : Status) : Type 0 where
   no_memory : s ≡ status.NoMemory → WritesNothing edge.sink → SampleEnds edge count s
 
 abbrev pub SampleHasThreeEnds : Type 0
-SampleHasThreeEnds = (words : List (List ℕ)) (edge : Edge) (s : Status) (count : ℕ) → Meets words edge s → NamesSample words count → SampleEnds edge count s
+SampleHasThreeEnds =
+    (words : List (List ℕ)) (edge : Edge) (s : Status) (count : ℕ)
+    → Meets words edge s → NamesSample words count → SampleEnds edge count s
 
 -- `sample` where no write failed: its summary is written
 abbrev pub SampleIsComplete : Type 0
 SampleIsComplete =
     (words : List (List ℕ)) (edge : Edge) (s : Status) (count : ℕ)
     → Meets words edge s → NamesSample words count → WritesSucceed edge
-    → ((text : List ℕ) × (s ≡ status.Done) × IsSummary count text × WritesAll edge.sink text) ⊎ ((s ≡ status.NoMemory) × WritesNothing edge.sink)
+    → ((text : List ℕ) × (s ≡ status.Done) × IsSummary count text × WritesAll edge.sink text)
+    ⊎ ((s ≡ status.NoMemory) × WritesNothing edge.sink)

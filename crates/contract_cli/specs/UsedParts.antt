@@ -1,5 +1,6 @@
 -- The contracts that a command uses, as the program keeps them, and what is asked of one before it is tried.
-use Rattle.std.specs.Prelude.{◌≡◌, ◌≤◌, ◌<◌, ◌^◌, ℕ, false, map, List, Option, Some, None}
+use Rattle.std.specs.Prelude.{◌≡◌, ◌≤◌, ◌<◌, ◌^◌, ℕ, true, false, map, List, Option, Some, None, Result}
+use Rattle.std.specs.List.{All}
 use Rattle.term_core.specs.declared.name.Name.{Name}
 use Rattle.term_core.specs.declared.terms.Contr.{Contr}
 use Rattle.term_core.specs.Books.{Book}
@@ -9,7 +10,9 @@ use Rattle.term_core.specs.Sizes.{height_of_contract, nodes_of_contract}
 use Rattle.term_core.specs.WellFormed.{HasOnlyNumbers, IsClosed}
 use Rattle.report.specs.declared.fault_lines.Fault.{Fault}
 use Rattle.report.specs.declared.fault_lines.Fault.TheVariants as fault
+use Rattle.contract_cli.specs.Stopping.{AnswersBy}
 use Rattle.contract_cli.specs.UsedContracts.{contract_named, is_known}
+use Rattle.contract_cli.specs.declared.stop.Stop.{Stop}
 use Rattle.contract_cli.specs.declared.used.Instance.{Instance}
 use Rattle.contract_cli.specs.declared.used.Instance.TheVariants.{Lent, Made}
 use Rattle.contract_cli.specs.declared.used.Used.{Used}
@@ -35,6 +38,10 @@ pub record IsSound (d : Declarations) (c : Contract) : Type 0 where
   pub low : height_of_contract c ≤ 200
   pub small : nodes_of_contract c < 2 ^ 32
 
+-- all contracts of a portfolio are those of a text
+abbrev pub HasSoundContracts : Book → Type 0
+HasSoundContracts b = All (λ entry. IsSound b.declarations entry.1) b.contracts
+
 -- a contract without names of templates that can be tried
 pub record IsTriable (d : Declarations) (c : Contract) : Type 0 where
   pub closed : IsClosed d c
@@ -42,12 +49,18 @@ pub record IsTriable (d : Declarations) (c : Contract) : Type 0 where
   pub low : height_of_contract c ≤ 1_000
   pub small : nodes_of_contract c < 2 ^ 32
 
+abbrev pub AreTriable : Declarations → List (Name × Contract) → Type 0
+AreTriable d entries = All (λ entry. IsTriable d entry.1) entries
+
 -- a name that is asked for is that of no contract, and the fault says so
 pub record IsUnknownName (b : Book) (only : Option (List ℕ)) (f : Fault) : Type 0 where
   pub name : List ℕ
   pub given : only ≡ Some name
   pub unknown : is_known only b ≡ false
   pub fault_is : f ≡ fault.UnknownName name
+
+abbrev pub AnswersKnown : Book → Option (List ℕ) → Result (Unit {0}) Stop → Type 0
+AnswersKnown b only r = AnswersBy (λ _. is_known only b ≡ true) (IsUnknownName b only) r
 
 -- the contract of a name, as the program keeps it
 pub record IsNamed (b : Book) (name : List ℕ) (one : Written) : Type 0 where

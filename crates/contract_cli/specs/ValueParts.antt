@@ -1,5 +1,6 @@
 -- What the parts of `value` answer, each that of its own or the fault that stops the command.
-use Rattle.std.specs.Prelude.{◌≡◌, ◌≤◌, ◌<◌, ◌+◌, ◌^◌, ℕ, ℤ, List, Option, Some, None, length, unsigned_abs}
+use Rattle.std.specs.Prelude.{◌≡◌, ◌≤◌, ◌<◌, ◌+◌, ◌^◌, ℕ, ℤ, List, Option, Some, None, Result, length, unsigned_abs}
+use Rattle.std.specs.Global.{Vec}
 use Rattle.term_core.specs.Declarations.{Declarations}
 use Rattle.term_core.specs.Environments.{Environment, Place}
 use Rattle.term_core.specs.Factors.{CurveRow}
@@ -22,7 +23,9 @@ use Rattle.report.specs.declared.fault_lines.Fault.TheVariants as fault
 use Rattle.command_words.specs.Commands.{Between, ValueAsked}
 use Rattle.contract_cli.specs.FlowsParts.{IsRowFault}
 use Rattle.contract_cli.specs.FlowsPromise.{label_name}
-use Rattle.contract_cli.specs.ValuePromise.{AreBetween, IsValue, ValueInputs, first_unknown, first_unknown_of, missing_of_code, names_between, names_set, question}
+use Rattle.contract_cli.specs.Stopping.{AnswersBy}
+use Rattle.contract_cli.specs.ValuePromise.{AreBetween, IsValue, IsValueText, StopsValue, ValueInputs, first_unknown, first_unknown_of, missing_of_code, names_between, names_set, question}
+use Rattle.contract_cli.specs.declared.stop.Stop.{Stop}
 use Rattle.contract_cli.specs.declared.value_names.Parties.{Parties}
 use Rattle.contract_cli.specs.declared.value_text.Asking.{Asking}
 use Rattle.contract_cli.specs.declared.value_inputs.ValueInputs.{ValueInputs as Kept}
@@ -46,11 +49,17 @@ pub record IsFirstUnknown (first : List ℕ → Type 0) (f : Fault) : Type 0 whe
 abbrev pub IsUnknownBetween : Declarations → Between → Fault → Type 0
 IsUnknownBetween d between f = IsFirstUnknown (λ name. first_unknown_of (names_between d between) ≡ Some name) f
 
-abbrev pub settings_are_known : Declarations → List (List ℕ × ℕ) → Type 0
-settings_are_known d settings = first_unknown_of (names_set d settings) ≡ None
+abbrev pub AnswersParties : Declarations → Between → Result Parties Stop → Type 0
+AnswersParties d between r = AnswersBy (λ parties. AreBetween d between (flow_of parties)) (IsUnknownBetween d between) r
+
+abbrev pub SettingsAreKnown : Declarations → List (List ℕ × ℕ) → Type 0
+SettingsAreKnown d settings = first_unknown_of (names_set d settings) ≡ None
 
 abbrev pub IsUnknownSetting : Declarations → List (List ℕ × ℕ) → Fault → Type 0
 IsUnknownSetting d settings f = IsFirstUnknown (λ name. first_unknown_of (names_set d settings) ≡ Some name) f
+
+abbrev pub AnswersSettings : Declarations → List (List ℕ × ℕ) → Result (Unit {0}) Stop → Type 0
+AnswersSettings d settings r = AnswersBy (λ _. SettingsAreKnown d settings) (IsUnknownSetting d settings) r
 
 -- all names are declared, and these are the parties and the asset
 pub record KnowsNames (d : Declarations) (asked : ValueAsked) (parties : Parties) : Type 0 where
@@ -59,6 +68,9 @@ pub record KnowsNames (d : Declarations) (asked : ValueAsked) (parties : Parties
 
 abbrev pub IsUnknownOfValue : Declarations → ValueAsked → Fault → Type 0
 IsUnknownOfValue d asked f = IsFirstUnknown (λ name. first_unknown d asked ≡ Some name) f
+
+abbrev pub AnswersNames : Declarations → ValueAsked → Result Parties Stop → Type 0
+AnswersNames d asked r = AnswersBy (KnowsNames d asked) (IsUnknownOfValue d asked) r
 
 -- ---- the code, and the tables
 
@@ -101,6 +113,9 @@ pub record IsRefusedCode (b : CodeBook) (setting : List ℕ) (f : Fault) : Type 
   pub refusal : IsCodeRefusal b.declarations setting b.code rule node
   pub fault_is : f ≡ fault.Refused b.name rule node
 
+abbrev pub AnswersAcceptedCode : CodeBook → List ℕ → Result (Unit {0}) Stop → Type 0
+AnswersAcceptedCode b setting r = AnswersBy (λ _. IsAcceptedCode b.declarations setting b.code) (IsRefusedCode b setting) r
+
 -- a row of the curve is refused, and the fault says which
 pub record IsCurveFault (bytes : List ℕ) (f : Fault) : Type 0 where
   pub row : RowFault
@@ -123,6 +138,9 @@ pub record IsWorthOver (q : Inquiry) (fixings : Environment) (curve : List Curve
   pub is_value : IsValue q.book q.setting fixings (question q.day curve q.flow) amount
   pub small : unsigned_abs amount ≤ 10 ^ 37
 
+abbrev pub AnswersWorth : Inquiry → Environment → List CurveRow → Result ℤ Stop → Type 0
+AnswersWorth q fixings curve r = AnswersBy (IsWorthOver q fixings curve) (IsMissingBy q fixings curve) r
+
 -- the line of a value, over fixings and the curve of a table
 pub record TellsByCurve (q : Inquiry) (fixings : Environment) (bytes text : List ℕ) : Type 0 where
   pub curve : List CurveRow
@@ -134,6 +152,9 @@ pub record TellsByCurve (q : Inquiry) (fixings : Environment) (bytes text : List
 pub data StopsByCurve (q : Inquiry) (fixings : Environment) (bytes : List ℕ) (f : Fault) : Type 0 where
   no_curve : IsCurveFault bytes f → StopsByCurve q fixings bytes f
   no_read : (curve : List CurveRow) → HoldsCurve (table_of bytes) curve → IsMissingBy q fixings curve f → StopsByCurve q fixings bytes f
+
+abbrev pub AnswersByCurve : Inquiry → Environment → List ℕ → Result (Vec ℕ) Stop → Type 0
+AnswersByCurve q fixings bytes r = AnswersBy (λ text. TellsByCurve q fixings bytes text.items) (StopsByCurve q fixings bytes) r
 
 -- the same over the fixings of another table
 pub record TellsByTables (q : Inquiry) (inputs : ValueInputs) (text : List ℕ) : Type 0 where
@@ -147,6 +168,9 @@ pub data StopsByTables (q : Inquiry) (inputs : ValueInputs) (f : Fault) : Type 0
       (fixings : Environment) → Holds q.book.declarations (table_of inputs.fixings) fixings → StopsByCurve q fixings inputs.curve f
       → StopsByTables q inputs f
 
+abbrev pub AnswersByTables : Inquiry → ValueInputs → Result (Vec ℕ) Stop → Type 0
+AnswersByTables q inputs r = AnswersBy (λ text. TellsByTables q inputs text.items) (StopsByTables q inputs) r
+
 -- the same where the code is accepted at the setting
 pub record TellsAtSetting (q : Inquiry) (inputs : ValueInputs) (text : List ℕ) : Type 0 where
   pub accepted : IsAcceptedCode q.book.declarations q.setting q.book.code
@@ -155,6 +179,15 @@ pub record TellsAtSetting (q : Inquiry) (inputs : ValueInputs) (text : List ℕ)
 pub data StopsAtSetting (q : Inquiry) (inputs : ValueInputs) (f : Fault) : Type 0 where
   no_code : IsRefusedCode q.book q.setting f → StopsAtSetting q inputs f
   by_tables : IsAcceptedCode q.book.declarations q.setting q.book.code → StopsByTables q inputs f → StopsAtSetting q inputs f
+
+abbrev pub AnswersAtSetting : Inquiry → ValueInputs → Result (Vec ℕ) Stop → Type 0
+AnswersAtSetting q inputs r = AnswersBy (λ text. TellsAtSetting q inputs text.items) (StopsAtSetting q inputs) r
+
+-- the whole answer, or what stops the command
+abbrev pub AnswersValue : CodeBook → ValueAsked → ValueInputs → Result (Vec ℕ) Stop → Type 0
+AnswersValue b asked inputs r = AnswersBy (λ text. IsValueText b asked inputs text.items) (StopsValue b asked inputs) r
+
+-- ---- the files
 
 -- no file is longer than the limit
 pub record AreShortForValue (inputs : ValueInputs) : Type 0 where

@@ -136,5 +136,6 @@ pub data StopsValue (b : CodeBook) (asked : ValueAsked) (inputs : ValueInputs) (
       → (fixings : Environment) → Holds b.declarations (table_of inputs.fixings) fixings
       → (curve : List CurveRow) → HoldsCurve (table_of inputs.curve) curve
       → (flow : Flow) → AreBetween b.declarations asked.between flow
-      → (place : Place) → missing_of_code b.declarations b.code (setting_by b.declarations asked.settings) fixings (question day curve flow) ≡ Some place
+      → (place : Place)
+      → missing_of_code b.declarations b.code (setting_by b.declarations asked.settings) fixings (question day curve flow) ≡ Some place
       → f ≡ fault.Missing (label_name b.declarations place.label) place.day → StopsValue b asked inputs f

@@ -1,9 +1,8 @@
 //! Contracts that are accepted, or what stops a command that uses one that is not.
 
-ghost use Rattle.std.specs.List.{All};
 ghost use Rattle.term_core.specs.Declarations.{declarations};
 ghost use Rattle.contract_cli.specs.FlowsParts.{AnswersAccepted, AnswersAcceptedOne};
-ghost use Rattle.contract_cli.specs.UsedParts.{IsTriable, entries_of, entry_of};
+ghost use Rattle.contract_cli.specs.UsedParts.{AreTriable, IsTriable, entries_of, entry_of};
 
 use crate::check_text::verdict;
 use crate::stop::Stop;
@@ -32,7 +31,7 @@ pub fn accept(alloc: Global, decls: &Decls, one: &Used<'_>) -> Result<(), Stop>
 
 /// Stops at the first contract that is not accepted.
 pub fn accept_all(alloc: Global, decls: &Decls, ones: &[Used<'_>]) -> Result<(), Stop>
-    requires { All (λ entry. IsTriable (declarations decls.now) entry.1) (entries_of ones.now) }
+    requires { AreTriable (declarations decls.now) (entries_of ones.now) }
     ensures { AnswersAccepted (declarations decls.now) (entries_of ones.now) result }
 {
     for one in ones {

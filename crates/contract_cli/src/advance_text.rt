@@ -1,6 +1,6 @@
 //! The text of the command `advance`.
 
-ghost use Rattle.std.specs.Prelude.{◌≡◌, ◌≤◌, ◌∷◌, ◌++◌, [], pos, true, false, All, IfOk, OnOk, option_map};
+ghost use Rattle.std.specs.Prelude.{◌≡◌, ◌≤◌, ◌∷◌, ◌++◌, [], pos, true, false, All, IfOk, OnOk};
 ghost use Rattle.std.specs.Map.{keys_of};
 ghost use Rattle.indexmap.specs.IndexMap.{keys};
 ghost use Rattle.term_core.specs.Acceptance.{IsAccepted};
@@ -15,7 +15,8 @@ ghost use Rattle.contract_cli.specs.AdvanceParts.{AnswersAdvance, AnswersNewDay,
 ghost use Rattle.contract_cli.specs.AdvancePromise.{rest_declarations};
 ghost use Rattle.contract_cli.specs.CheckPromise.{AreAllAccepted};
 ghost use Rattle.contract_cli.specs.FlowsParts.{IsShortTable};
-ghost use Rattle.contract_cli.specs.UsedParts.{IsSound, IsTriable, entries_of, entry_of, trees};
+ghost use Rattle.contract_cli.specs.Given.{given};
+ghost use Rattle.contract_cli.specs.UsedParts.{AreTriable, HasSoundContracts, IsTriable, entries_of, entry_of, trees};
 ghost use Rattle.command_words.specs.Words.{advance_by};
 
 use crate::accepting::accept_all;
@@ -107,7 +108,8 @@ fn advance_one(
     requires first { course.now.decls.now.start ≤ course.now.day }
     requires last { course.now.day ≤ 1_000_000 }
     requires name { is_declared (keys left.old.contracts) (entry_of one.now).0 ≡ false }
-    ensures { AnswersRest (declarations course.now.decls.now) course.now.fixings.now course.now.day (entry_of one.now) left.old left.new result }
+    ensures { AnswersRest (declarations course.now.decls.now) course.now.fixings.now course.now.day
+        (entry_of one.now) left.old left.new result }
 {
     let days = course.day - course.decls.start;
     match advance(alloc, course.decls, one.contr.contr(), course.fixings, days) {
@@ -122,7 +124,7 @@ fn advance_one(
 // Advances contracts, in their order.
 fn advance_all(alloc: Global, course: &Course<'_>, ones: &[Used<'_>]) -> Result<Left, Stop>
     requires accepted { AreAllAccepted (declarations course.now.decls.now) (entries_of ones.now) }
-    requires triable { All (λ entry. IsTriable (declarations course.now.decls.now) entry.1) (entries_of ones.now) }
+    requires triable { AreTriable (declarations course.now.decls.now) (entries_of ones.now) }
     requires admitted { IsAdmitted (declarations course.now.decls.now) course.now.fixings.now }
     requires first { course.now.decls.now.start ≤ course.now.day }
     requires last { course.now.day ≤ 1_000_000 }
@@ -172,10 +174,10 @@ pub fn advance_text(
     asked: &Advance<'_>,
     table: Option<&[u8]>,
 ) -> Result<Vec<u8>, Stop>
-    requires sound { All (λ entry. IsSound (book portfolio.now).declarations entry.1) (book portfolio.now).contracts }
+    requires sound { HasSoundContracts (book portfolio.now) }
     requires names { are_names (keys_of (book portfolio.now).contracts) ≡ true }
-    requires table { IsShortTable (option_map (λ bytes. bytes.now) table) }
-    ensures { AnswersAdvance (book portfolio.now) (advance_by asked.now) (option_map (λ bytes. bytes.now) table.entry) result }
+    requires table { IsShortTable (given table) }
+    ensures { AnswersAdvance (book portfolio.now) (advance_by asked.now) (given table.entry) result }
 {
     let day = new_day(alloc, &portfolio.decls, asked.to)?;
     let ones = used_contracts(alloc, portfolio, None)?;

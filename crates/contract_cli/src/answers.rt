@@ -1,7 +1,6 @@
 //! What a run answers: the text that it is to write, and the status with which it then ends.
 
 ghost use Rattle.std.specs.Prelude.{◌≡◌, ◌≤◌, length, option_map, IfOk};
-ghost use Rattle.std.specs.List.{All};
 ghost use Rattle.contract_parse.specs.Texts.{Text};
 ghost use Rattle.report.specs.FaultLines.{fault_text};
 ghost use Rattle.sample.specs.Summary.{IsSummary};
@@ -9,9 +8,10 @@ ghost use Rattle.term_core.specs.Books.{book};
 ghost use Rattle.contract_cli.specs.RunParts.{AnswersBytes, AreShort, inputs_by};
 ghost use Rattle.contract_cli.specs.FilesPromise.{IsBadText};
 ghost use Rattle.contract_cli.specs.CheckPromise.{IsCheckText};
+ghost use Rattle.contract_cli.specs.Given.{given};
 ghost use Rattle.contract_cli.specs.Statuses.{status_of};
 ghost use Rattle.contract_cli.specs.Stopping.{AnswersBy};
-ghost use Rattle.contract_cli.specs.UsedParts.{IsSound};
+ghost use Rattle.contract_cli.specs.UsedParts.{HasSoundContracts};
 ghost use Rattle.command_words.specs.Words.{asked_by};
 ghost use Rattle.contract_cli.specs.declared.status.Status.TheVariants.{Done as done};
 
@@ -69,7 +69,7 @@ fn portfolio_of(alloc: Global, bytes: &[u8]) -> Result<Portfolio, Stop>
 
 // The verdicts on the contracts of a portfolio.
 fn check_answer(alloc: Global, portfolio: &Portfolio) -> Result<Answer, NoMemory>
-    requires { All (λ entry. IsSound (book portfolio.now).declarations entry.1) (book portfolio.now).contracts }
+    requires { HasSoundContracts (book portfolio.now) }
     ensures { IfOk result (λ answer. IsCheckText (book portfolio.now) answer.status answer.text.items) }
 {
     let ones = used_contracts(alloc, portfolio, None)?;
@@ -98,7 +98,7 @@ pub fn sample_answer(alloc: Global, size: SampleSize) -> Result<Answer, NoMemory
 }
 
 fn lent(table: &Option<Vec<u8>>) -> Option<&[u8]>
-    ensures { option_map (λ bytes. bytes.now) result ≡ option_map (λ bytes. bytes.items) table.now }
+    ensures { given result ≡ option_map (λ bytes. bytes.items) table.now }
 {
     match table {
         Some(bytes) => Some(bytes.as_slice()),

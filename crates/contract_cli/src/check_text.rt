@@ -1,11 +1,10 @@
 //! The text of the command `check`.
 
-ghost use Rattle.std.specs.Prelude.{◌≡◌, true, [], IfOk};
-ghost use Rattle.std.specs.List.{All};
+ghost use Rattle.std.specs.Prelude.{IfOk};
 ghost use Rattle.term_core.specs.Declarations.{declarations};
 ghost use Rattle.term_core.specs.Terms.{contract};
-ghost use Rattle.contract_cli.specs.CheckParts.{AppendsVerdict, AppendsVerdicts, IsVerdictOf};
-ghost use Rattle.contract_cli.specs.UsedParts.{IsTriable, entries_of, entry_of};
+ghost use Rattle.contract_cli.specs.CheckParts.{AppendsVerdict, AreVerdicts, IsVerdictOf};
+ghost use Rattle.contract_cli.specs.UsedParts.{AreTriable, IsTriable, entries_of, entry_of};
 
 use crate::used::Used;
 use contract_check::{Facts, check};
@@ -54,8 +53,8 @@ fn append_verdict(
 
 /// The verdicts on contracts, in their order.
 pub fn check_text(alloc: Global, decls: &Decls, ones: &[Used<'_>]) -> Result<CheckText, NoMemory>
-    requires { All (λ entry. IsTriable (declarations decls.now) entry.1) (entries_of ones.now) }
-    ensures { IfOk result (λ check. AppendsVerdicts (declarations decls.now) (entries_of ones.now) true check.all_accepted [] check.text.items) }
+    requires { AreTriable (declarations decls.now) (entries_of ones.now) }
+    ensures { IfOk result (AreVerdicts (declarations decls.now) (entries_of ones.now)) }
 {
     let mut text = Vec::new(alloc);
     let mut all_accepted = true;

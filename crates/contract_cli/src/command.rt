@@ -1,12 +1,13 @@
 //! The commands.
 
-ghost use Rattle.std.specs.Prelude.{◌≡◌, ℕ, List, map, option_map, IfOk};
-ghost use Rattle.contract_cli.specs.RunParts.{AnswersFile, AnswersInputs, AnswersValueInputs, AnswersWords};
+ghost use Rattle.std.specs.Prelude.{◌≡◌, ℕ, List, option_map, IfOk};
+ghost use Rattle.clap.specs.Walk.{texts};
+ghost use Rattle.contract_cli.specs.RunParts.{AnswersFile, AnswersInputs, AnswersValueInputs, AnswersValueWords, AnswersWords, CountsOnlyForValue, HasCause};
 ghost use Rattle.edge_io.specs.Files.{CountsOnly};
 ghost use Rattle.contract_cli.specs.ValueParts.{AreShortForValue, value_inputs_by};
 ghost use Rattle.contract_cli.specs.Headline.{Headline};
-ghost use Rattle.contract_cli.specs.RunPromise.{Cause, CountsOnlyBy, CountsOnlyNamed, CountsOnlyValued, Meets, Names, NamesValue};
-ghost use Rattle.command_words.specs.Commands.{ValueAsked, fixings_file, portfolio_file};
+ghost use Rattle.contract_cli.specs.RunPromise.{CountsOnlyBy, CountsOnlyNamed, CountsOnlyValued, Meets, seen, sink_left};
+ghost use Rattle.command_words.specs.Commands.{fixings_file, portfolio_file};
 ghost use Rattle.command_words.specs.Words.{asked_by, files_by, value_by};
 
 use crate::answers::{Answer, Inputs, answer_bytes, fault_answer, sample_answer};
@@ -24,7 +25,7 @@ const LONGEST_FILE: u64 = 16_777_216;
 
 // The bytes of the file at a place of the command.
 fn read_file<F: Files>(alloc: Global, files: &mut F, name: &str, place: u8) -> Result<Vec<u8>, Stop>
-    ensures answer { AnswersFile (record { contents = F.contents files.old; faults_before = F.faults files.old; faults_after = F.faults files.new }) name.now place result }
+    ensures answer { AnswersFile (seen (F.contents files.old) (F.faults files.old) (F.faults files.new)) name.now place result }
     ensures kept { (other : List ℕ) → F.contents files.new other ≡ F.contents files.old other }
     ensures counts { CountsOnly (F.contents files.old) (F.faults files.old) (F.faults files.new) name.now }
 {
@@ -73,9 +74,9 @@ fn read_inputs<F: Files>(
     command: &Command<'_>,
     files: &mut F,
 ) -> Result<Inputs, Stop>
-    ensures answer { (words : List (List ℕ)) → Names words (asked_by command.now) → AnswersInputs words (record { contents = F.contents files.old; faults_before = F.faults files.old; faults_after = F.faults files.new }) (asked_by command.now) result }
+    ensures answer { AnswersInputs (seen (F.contents files.old) (F.faults files.old) (F.faults files.new)) (asked_by command.now) result }
     ensures kept { (other : List ℕ) → F.contents files.new other ≡ F.contents files.old other }
-    ensures counts { CountsOnlyNamed (asked_by command.now) (record { contents = F.contents files.old; faults_before = F.faults files.old; faults_after = F.faults files.new }) }
+    ensures counts { CountsOnlyNamed (asked_by command.now) (seen (F.contents files.old) (F.faults files.old) (F.faults files.new)) }
 {
     let named = named_files(command);
     let portfolio = read_file(alloc, files, named.portfolio, 1)?;
@@ -92,10 +93,11 @@ fn read_value_inputs<F: Files>(
     named: &ValueFiles<'_>,
     files: &mut F,
 ) -> Result<ValueInputs, Stop>
-    ensures answer { (words : List (List ℕ)) (asked : ValueAsked) → asked.files ≡ files_by named.now → NamesValue words asked → AnswersValueInputs words (record { contents = F.contents files.old; faults_before = F.faults files.old; faults_after = F.faults files.new }) asked result }
+    ensures answer { AnswersValueInputs (seen (F.contents files.old) (F.faults files.old) (F.faults files.new))
+        (files_by named.now) result }
     ensures kept { (other : List ℕ) → F.contents files.new other ≡ F.contents files.old other }
     ensures short { IfOk result (λ inputs. AreShortForValue (value_inputs_by inputs)) }
-    ensures counts { (asked : ValueAsked) → asked.files ≡ files_by named.now → CountsOnlyValued asked (record { contents = F.contents files.old; faults_before = F.faults files.old; faults_after = F.faults files.new }) }
+    ensures counts { CountsOnlyForValue (files_by named.now) (seen (F.contents files.old) (F.faults files.old) (F.faults files.new)) }
 {
     let code = read_file(alloc, files, named.code, 1)?;
     let fixings = read_file(alloc, files, named.fixings, 2)?;
@@ -109,9 +111,9 @@ fn read_value_inputs<F: Files>(
 
 // Reads the files of `value`, and makes the text of its answer.
 fn answer_on_code<F: Files>(alloc: Global, value: &Value<'_>, files: &mut F) -> Result<Answer, Stop>
-    ensures answer { (words : List (List ℕ)) → NamesValue words (value_by value.now) → AnswersWords words (record { contents = F.contents files.old; faults_before = F.faults files.old; faults_after = F.faults files.new }) result }
+    ensures answer { AnswersValueWords (seen (F.contents files.old) (F.faults files.old) (F.faults files.new)) (value_by value.now) result }
     ensures kept { (other : List ℕ) → F.contents files.new other ≡ F.contents files.old other }
-    ensures counts { CountsOnlyValued (value_by value.now) (record { contents = F.contents files.old; faults_before = F.faults files.old; faults_after = F.faults files.new }) }
+    ensures counts { CountsOnlyValued (value_by value.now) (seen (F.contents files.old) (F.faults files.old) (F.faults files.new)) }
 {
     let inputs = read_value_inputs(alloc, &value.files, files)?;
     answer_value(alloc, value, &inputs)
@@ -123,9 +125,9 @@ fn answer_words<'a, F: Files>(
     words: &'a [&'a str],
     files: &mut F,
 ) -> Result<Answer, Stop>
-    ensures answer { AnswersWords (map (λ word. word.now) words.entry.now) (record { contents = F.contents files.old; faults_before = F.faults files.old; faults_after = F.faults files.new }) result }
+    ensures answer { AnswersWords (texts words.entry.now) (seen (F.contents files.old) (F.faults files.old) (F.faults files.new)) result }
     ensures kept { (other : List ℕ) → F.contents files.new other ≡ F.contents files.old other }
-    ensures counts { CountsOnlyBy (map (λ word. word.now) words.entry.now) (record { contents = F.contents files.old; faults_before = F.faults files.old; faults_after = F.faults files.new }) }
+    ensures counts { CountsOnlyBy (texts words.entry.now) (seen (F.contents files.old) (F.faults files.old) (F.faults files.new)) }
 {
     let request = match request_of(alloc, words) {
         Ok(request) => request,
@@ -151,9 +153,10 @@ fn prepare<'a, F: Files>(
     words: &'a [&'a str],
     files: &mut F,
 ) -> Result<Answer, NoMemory>
-    ensures answer { IfOk result (λ answer. Cause (map (λ word. word.now) words.entry.now) (record { contents = F.contents files.old; faults_before = F.faults files.old; faults_after = F.faults files.new }) answer.status answer.text.items) }
+    ensures answer { IfOk result (HasCause (texts words.entry.now)
+        (seen (F.contents files.old) (F.faults files.old) (F.faults files.new))) }
     ensures kept { (other : List ℕ) → F.contents files.new other ≡ F.contents files.old other }
-    ensures counts { CountsOnlyBy (map (λ word. word.now) words.entry.now) (record { contents = F.contents files.old; faults_before = F.faults files.old; faults_after = F.faults files.new }) }
+    ensures counts { CountsOnlyBy (texts words.entry.now) (seen (F.contents files.old) (F.faults files.old) (F.faults files.new)) }
 {
     match answer_words(alloc, words, files) {
         Ok(answer) => Ok(answer),
@@ -177,16 +180,16 @@ pub fn run<'a, F: Files, S: Sink>(
     files: &mut F,
     out: &mut S,
 ) -> Status
-    ensures meets { Meets (map (λ word. word.now) words.entry.now) (record {
-      files = record { contents = F.contents files.old; faults_before = F.faults files.old; faults_after = F.faults files.new };
-      sink = record { taken_before = S.taken out.old; taken_after = S.taken out.new; faults_before = S.faults out.old; faults_after = S.faults out.new };
+    ensures meets { Meets (texts words.entry.now) (record {
+      files = seen (F.contents files.old) (F.faults files.old) (F.faults files.new);
+      sink = sink_left (S.taken out.old) (S.taken out.new) (S.faults out.old) (S.faults out.new);
     }) result }
-    ensures headline { Headline (map (λ word. word.now) words.entry.now) (record {
-      files = record { contents = F.contents files.old; faults_before = F.faults files.old; faults_after = F.faults files.new };
-      sink = record { taken_before = S.taken out.old; taken_after = S.taken out.new; faults_before = S.faults out.old; faults_after = S.faults out.new };
+    ensures headline { Headline (texts words.entry.now) (record {
+      files = seen (F.contents files.old) (F.faults files.old) (F.faults files.new);
+      sink = sink_left (S.taken out.old) (S.taken out.new) (S.faults out.old) (S.faults out.new);
     }) result }
     ensures kept { (other : List ℕ) → F.contents files.new other ≡ F.contents files.old other }
-    ensures counts { CountsOnlyBy (map (λ word. word.now) words.entry.now) (record { contents = F.contents files.old; faults_before = F.faults files.old; faults_after = F.faults files.new }) }
+    ensures counts { CountsOnlyBy (texts words.entry.now) (seen (F.contents files.old) (F.faults files.old) (F.faults files.new)) }
 {
     let answer = match prepare(alloc, words, files) {
         Ok(answer) => answer,

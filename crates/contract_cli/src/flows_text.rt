@@ -1,19 +1,17 @@
 //! The text of the command `flows`.
 
-ghost use Rattle.std.specs.Prelude.{◌≡◌, ◌≤ℤ◌, ◌≤◌, pos, true, [], OnOk, length, option_map};
+ghost use Rattle.std.specs.Prelude.{◌≤ℤ◌, ◌≤◌, pos, true, [], OnOk, length, option_map};
 ghost use Rattle.std.specs.List.{All};
 ghost use Rattle.term_core.specs.Acceptance.{IsAccepted};
 ghost use Rattle.term_core.specs.Books.{book};
 ghost use Rattle.term_core.specs.Declarations.{declarations};
 ghost use Rattle.term_core.specs.Environments.{IsAdmitted};
 ghost use Rattle.term_core.specs.Terms.{contract};
-ghost use Rattle.flow_eval.specs.FlowAnswers.{AreKnownFlows};
 ghost use Rattle.flow_eval.specs.Tables.{IsDueRow};
 ghost use Rattle.contract_cli.specs.CheckPromise.{AreAllAccepted};
-ghost use Rattle.contract_cli.specs.FlowsParts.{AnswersLines, AnswersTables, AppendsLines, CanBeLast, IsDayFault, IsMissingOf, IsMissingOne, IsShortTable, LinesKnown};
-ghost use Rattle.contract_cli.specs.FlowsPromise.{IsFlowsText, StopsFlows};
-ghost use Rattle.contract_cli.specs.Stopping.{AnswersBy};
-ghost use Rattle.contract_cli.specs.UsedParts.{IsSound, entries_of};
+ghost use Rattle.contract_cli.specs.FlowsParts.{AnswersFlows, AnswersLastDay, AnswersLines, AnswersLinesAsked, AnswersTable, AnswersTables, AppendsLines, IsShortTable};
+ghost use Rattle.contract_cli.specs.Given.{given};
+ghost use Rattle.contract_cli.specs.UsedParts.{HasSoundContracts, entries_of};
 ghost use Rattle.command_words.specs.Words.{flows_by};
 
 use crate::accepting::accept_all;
@@ -32,7 +30,7 @@ const LAST_DAY: u32 = 1_100_000;
 
 // The day of a word, or of none the last that there is.
 fn last_day(alloc: Global, decls: &Decls, until: Option<DayWord<'_>>) -> Result<i64, Stop>
-    ensures { AnswersBy (CanBeLast (declarations decls.now) (option_map (λ day. day.word.now) until.entry)) (IsDayFault (declarations decls.now) (option_map (λ day. day.word.now) until.entry)) result }
+    ensures { AnswersLastDay (declarations decls.now) (option_map (λ day. day.word.now) until.entry) result }
 {
     match until {
         Some(asked) => day_asked(alloc, decls, asked, LAST_DAY),
@@ -75,7 +73,7 @@ fn table_of(
     requires admitted { IsAdmitted (declarations decls.now) course.now.fixings.now }
     requires first { pos 0 ≤ℤ course.now.last }
     requires last { course.now.last ≤ℤ pos 1_100_000 }
-    ensures { AnswersBy (λ table. AreKnownFlows (declarations decls.now) (contract contr.now) course.now.fixings.now (pos decls.now.start) course.now.last table.rows.items) (IsMissingOne (declarations decls.now) course.now.fixings.now course.now.last (contract contr.now)) result }
+    ensures { AnswersTable (declarations decls.now) (contract contr.now) course.now.fixings.now course.now.last result }
 {
     match flows(alloc, decls, contr, course.fixings, course.last) {
         Ok(table) => Ok(table),
@@ -136,7 +134,7 @@ fn sum_lines(
     requires admitted { IsAdmitted (declarations decls.now) course.now.fixings.now }
     requires first { pos 0 ≤ℤ course.now.last }
     requires last { course.now.last ≤ℤ pos 1_100_000 }
-    ensures { AnswersBy (λ text. LinesKnown true (declarations decls.now) course.now.fixings.now course.now.last (entries_of ones.now) text.items) (IsMissingOf (declarations decls.now) course.now.fixings.now course.now.last (entries_of ones.now)) result }
+    ensures { AnswersLinesAsked true (declarations decls.now) course.now.fixings.now course.now.last (entries_of ones.now) result }
 {
     let tables = tables_of(alloc, decls, ones, course)?;
     let sum = net(alloc, &tables)?;
@@ -158,7 +156,7 @@ fn lines_asked(
     requires admitted { IsAdmitted (declarations decls.now) course.now.fixings.now }
     requires first { pos 0 ≤ℤ course.now.last }
     requires last { course.now.last ≤ℤ pos 1_100_000 }
-    ensures { AnswersBy (λ text. LinesKnown net (declarations decls.now) course.now.fixings.now course.now.last (entries_of ones.now) text.items) (IsMissingOf (declarations decls.now) course.now.fixings.now course.now.last (entries_of ones.now)) result }
+    ensures { AnswersLinesAsked net (declarations decls.now) course.now.fixings.now course.now.last (entries_of ones.now) result }
 {
     if net {
         sum_lines(alloc, decls, ones, course)
@@ -175,10 +173,10 @@ pub fn flows_text(
     asked: &Flows<'_>,
     table: Option<&[u8]>,
 ) -> Result<Vec<u8>, Stop>
-    requires sound { All (λ entry. IsSound (book portfolio.now).declarations entry.1) (book portfolio.now).contracts }
+    requires sound { HasSoundContracts (book portfolio.now) }
     requires few { length (book portfolio.now).contracts ≤ 16_777_216 }
-    requires table { IsShortTable (option_map (λ bytes. bytes.now) table) }
-    ensures { AnswersBy (λ text. IsFlowsText (book portfolio.now) (flows_by asked.now) (option_map (λ bytes. bytes.now) table.entry) text.items) (StopsFlows (book portfolio.now) (flows_by asked.now) (option_map (λ bytes. bytes.now) table.entry)) result }
+    requires table { IsShortTable (given table) }
+    ensures { AnswersFlows (book portfolio.now) (flows_by asked.now) (given table.entry) result }
 {
     know(alloc, portfolio, asked.contract)?;
     let last = last_day(alloc, &portfolio.decls, asked.until)?;

@@ -1,10 +1,11 @@
 //! Commands over fixings: the day that a word asks for, the fixings of a table, and what stops a command that lacks one of
 //! these.
 
-ghost use Rattle.std.specs.Prelude.{◌≡◌, ◌≤◌, pos, option_map};
+ghost use Rattle.std.specs.Prelude.{◌≡◌, ◌≤◌, pos};
 ghost use Rattle.term_core.specs.Declarations.{declarations};
 ghost use Rattle.contract_cli.specs.FlowsParts.{AnswersDay, AnswersFixings, IsShortTable, IsStopOf, day_in_range};
 ghost use Rattle.contract_cli.specs.FlowsPromise.{label_name};
+ghost use Rattle.contract_cli.specs.Given.{given};
 
 use crate::check_text::verdict;
 use crate::stop::Stop;
@@ -47,8 +48,8 @@ pub fn day_asked(
 
 /// The fixings of a table, or none where none is named.
 pub fn fixings_of(alloc: Global, decls: &Decls, table: Option<&[u8]>) -> Result<Fixings, Stop>
-    requires { IsShortTable (option_map (λ bytes. bytes.now) table) }
-    ensures { AnswersFixings (declarations decls.now) (option_map (λ bytes. bytes.now) table.entry) result }
+    requires { IsShortTable (given table) }
+    ensures { AnswersFixings (declarations decls.now) (given table.entry) result }
 {
     let Some(bytes) = table else {
         return Ok(Fixings::none(alloc));

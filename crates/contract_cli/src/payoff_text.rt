@@ -15,7 +15,7 @@ ghost use Rattle.contract_cli.specs.FlowsParts.{AnswersAcceptedOne};
 ghost use Rattle.contract_cli.specs.PayoffParts.{AnswersPayoff};
 ghost use Rattle.contract_cli.specs.PayoffPromise.{IsAcceptedAtDefaults, code_asked, file_of};
 ghost use Rattle.contract_cli.specs.UsedContracts.{at_defaults};
-ghost use Rattle.contract_cli.specs.UsedParts.{IsSound};
+ghost use Rattle.contract_cli.specs.UsedParts.{HasSoundContracts, IsSound};
 ghost use Rattle.command_words.specs.Words.{payoff_by};
 
 use crate::accepting::accept;
@@ -89,7 +89,7 @@ pub fn payoff_text(
     portfolio: &Portfolio,
     asked: &Payoff<'_>,
 ) -> Result<Vec<u8>, Stop>
-    requires sound { All (λ entry. IsSound (book portfolio.now).declarations entry.1) (book portfolio.now).contracts }
+    requires sound { HasSoundContracts (book portfolio.now) }
     requires writable { All (λ entry. IsWritableTerm entry.1) (book portfolio.now).contracts }
     ensures { AnswersPayoff (book portfolio.now) (payoff_by asked.now) result }
 {

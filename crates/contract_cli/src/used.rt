@@ -1,15 +1,14 @@
 //! The contracts that a command uses.
 
-ghost use Rattle.std.specs.Prelude.{◌≡◌, true, IfOk, option_map};
-ghost use Rattle.std.specs.List.{All};
+ghost use Rattle.std.specs.Prelude.{◌≡◌, IfOk};
 ghost use Rattle.term_core.specs.Books.{book};
 ghost use Rattle.term_core.specs.Declarations.{declarations};
 ghost use Rattle.term_core.specs.Instances.{HasNumbers, declared_numbers, instance};
 ghost use Rattle.term_core.specs.Terms.{contract};
+ghost use Rattle.contract_cli.specs.Given.{given};
 ghost use Rattle.contract_cli.specs.PayoffParts.{AnswersNamed};
-ghost use Rattle.contract_cli.specs.Stopping.{AnswersBy};
-ghost use Rattle.contract_cli.specs.UsedContracts.{is_asked, is_known, used};
-ghost use Rattle.contract_cli.specs.UsedParts.{IsSound, IsTriable, IsUnknownName, entries_of, tree_of};
+ghost use Rattle.contract_cli.specs.UsedContracts.{is_asked, used};
+ghost use Rattle.contract_cli.specs.UsedParts.{AnswersKnown, AreTriable, HasSoundContracts, entries_of, tree_of};
 
 use crate::stop::Stop;
 use decimal::NoMemory;
@@ -67,7 +66,7 @@ pub fn instance_of<'a>(
 }
 
 fn is_asked(name: &Name, only: Option<&str>) -> bool
-    ensures { result ≡ is_asked (option_map (λ word. word.now) only.entry) name.now }
+    ensures { result ≡ is_asked (given only.entry) name.now }
 {
     match only {
         Some(word) => word.as_bytes() == name.text(),
@@ -82,9 +81,9 @@ pub fn used_contracts<'a>(
     portfolio: &'a Portfolio,
     only: Option<&str>,
 ) -> Result<Vec<Used<'a>>, NoMemory>
-    requires { All (λ entry. IsSound (book portfolio.now).declarations entry.1) (book portfolio.now).contracts }
-    ensures used { IfOk result (λ ones. entries_of ones.items ≡ used (option_map (λ word. word.now) only.entry) (book portfolio.entry.now)) }
-    ensures triable { IfOk result (λ ones. All (λ entry. IsTriable (book portfolio.entry.now).declarations entry.1) (entries_of ones.items)) }
+    requires { HasSoundContracts (book portfolio.now) }
+    ensures used { IfOk result (λ ones. entries_of ones.items ≡ used (given only.entry) (book portfolio.entry.now)) }
+    ensures triable { IfOk result (λ ones. AreTriable (book portfolio.entry.now).declarations (entries_of ones.items)) }
 {
     let setting = defaults(alloc, &portfolio.decls)?;
     let mut ones = Vec::new(alloc);
@@ -99,7 +98,7 @@ pub fn used_contracts<'a>(
 
 /// Stops at a name that is that of no contract.
 pub fn know(alloc: Global, portfolio: &Portfolio, only: Option<&str>) -> Result<(), Stop>
-    ensures { AnswersBy (λ _. is_known (option_map (λ word. word.now) only.entry) (book portfolio.now) ≡ true) (IsUnknownName (book portfolio.now) (option_map (λ word. word.now) only.entry)) result }
+    ensures { AnswersKnown (book portfolio.now) (given only.entry) result }
 {
     let Some(word) = only else {
         return Ok(());

@@ -5,7 +5,7 @@ ghost use Rattle.payoff_lang.specs.CodeBooks.{code_book};
 ghost use Rattle.payoff_lang.specs.CodeFiles.{CodeText};
 ghost use Rattle.command_words.specs.Words.{value_by};
 ghost use Rattle.contract_cli.specs.Stopping.{AnswersBy};
-ghost use Rattle.contract_cli.specs.FilesPromise.{IsBadCode, ValueAnswers, StopsValueOnBytes};
+ghost use Rattle.contract_cli.specs.FilesPromise.{IsBadCode};
 ghost use Rattle.contract_cli.specs.ValueParts.{AreShortForValue, IsReadable, IsReadFrom, value_inputs_by};
 
 use crate::answers::Answer;
@@ -34,7 +34,7 @@ fn code_of(alloc: Global, bytes: &[u8]) -> Result<CodeFile, Stop>
 /// What `value` answers to the bytes of its files.
 pub fn answer_value(alloc: Global, value: &Value<'_>, inputs: &ValueInputs) -> Result<Answer, Stop>
     requires { AreShortForValue (value_inputs_by inputs.now) }
-    ensures { AnswersBy (λ answer. ValueAnswers (value_by value.now) (value_inputs_by inputs.now) answer.status answer.text.items) (StopsValueOnBytes (value_by value.now) (value_inputs_by inputs.now)) result }
+    ensures { AnswersValueBytes (value_by value.now) (value_inputs_by inputs.now) result }
 {
     let file = code_of(alloc, &inputs.code)?;
     let text = value_text(alloc, &file, value, inputs)?;

@@ -6,8 +6,8 @@ ghost use Rattle.term_core.specs.Declarations.{declarations};
 ghost use Rattle.contract_parse.specs.Names.{place_in};
 ghost use Rattle.command_words.specs.Words.{between_by, value_by};
 ghost use Rattle.contract_cli.specs.Stopping.{AnswersBy};
-ghost use Rattle.contract_cli.specs.ValuePromise.{AreBetween, setting_by};
-ghost use Rattle.contract_cli.specs.ValueParts.{IsUndeclared, IsUnknownBetween, IsUnknownOfValue, IsUnknownSetting, KnowsNames, flow_of, settings_are_known};
+ghost use Rattle.contract_cli.specs.ValuePromise.{setting_by};
+ghost use Rattle.contract_cli.specs.ValueParts.{AnswersNames, AnswersParties, AnswersSettings, IsUndeclared};
 
 use crate::stop::Stop;
 use command_words::{Between, Value};
@@ -41,7 +41,7 @@ fn place_of(alloc: Global, names: &IndexSet<Name>, word: &str) -> Result<u32, St
 
 // The parties and the asset.
 fn parties_of(alloc: Global, decls: &Decls, between: &Between<'_>) -> Result<Parties, Stop>
-    ensures { AnswersBy (λ parties. AreBetween (declarations decls.now) (between_by between.now) (flow_of parties)) (IsUnknownBetween (declarations decls.now) (between_by between.now)) result }
+    ensures { AnswersParties (declarations decls.now) (between_by between.now) result }
 {
     let from = place_of(alloc, &decls.parties, between.from)?;
     let to = place_of(alloc, &decls.parties, between.to)?;
@@ -51,7 +51,7 @@ fn parties_of(alloc: Global, decls: &Decls, between: &Between<'_>) -> Result<Par
 
 // Stops at the first name that is set and is that of no template.
 fn know_settings(alloc: Global, decls: &Decls, settings: &IndexMap<Name, u32>) -> Result<(), Stop>
-    ensures { AnswersBy (λ _. settings_are_known (declarations decls.now) settings.now.entries) (IsUnknownSetting (declarations decls.now) settings.now.entries) result }
+    ensures { AnswersSettings (declarations decls.now) settings.now.entries result }
 {
     for (name, _) in settings {
         if decls.templates.get_index_of(name.text()).is_none() {
@@ -64,7 +64,7 @@ fn know_settings(alloc: Global, decls: &Decls, settings: &IndexMap<Name, u32>) -
 
 /// The parties and the asset, where these and the templates that are set are declared.
 pub fn know_names(alloc: Global, decls: &Decls, value: &Value<'_>) -> Result<Parties, Stop>
-    ensures { AnswersBy (KnowsNames (declarations decls.now) (value_by value.now)) (IsUnknownOfValue (declarations decls.now) (value_by value.now)) result }
+    ensures { AnswersNames (declarations decls.now) (value_by value.now) result }
 {
     let parties = parties_of(alloc, decls, &value.between)?;
     know_settings(alloc, decls, &value.settings)?;

@@ -6,16 +6,13 @@ ghost use Rattle.term_core.specs.Environments.{IsAdmitted};
 ghost use Rattle.fixing_files.specs.CurveTables.{HoldsCurve};
 ghost use Rattle.fixing_files.specs.Tables.{table_of};
 ghost use Rattle.flow_eval.specs.declared.faults.FlowErr.TheVariants as flow;
-ghost use Rattle.payoff_lang.specs.Code.{payoff_code};
-ghost use Rattle.payoff_lang.specs.CodeAcceptance.{IsAcceptedCode};
 ghost use Rattle.payoff_lang.specs.CodeBooks.{code_book};
 ghost use Rattle.payoff_eval.specs.Questions.{HasNumberForEach};
 ghost use Rattle.report.specs.ValueLines.{value_text};
 ghost use Rattle.command_words.specs.Words.{value_by};
 ghost use Rattle.contract_cli.specs.FlowsParts.{IsStopOf};
 ghost use Rattle.contract_cli.specs.Stopping.{AnswersBy};
-ghost use Rattle.contract_cli.specs.ValuePromise.{IsValueText, StopsValue};
-ghost use Rattle.contract_cli.specs.ValueParts.{AreShortForValue, IsCurveFault, IsMissingBy, IsQuestionOf, IsReadable, IsRefusedCode, IsWorthOver, MayAsk, StopsAtSetting, StopsByCurve, StopsByTables, TellsAtSetting, TellsByCurve, TellsByTables, inquiry_of, value_inputs_by};
+ghost use Rattle.contract_cli.specs.ValueParts.{AnswersAcceptedCode, AnswersAtSetting, AnswersByCurve, AnswersByTables, AnswersValue, AnswersWorth, AreShortForValue, IsCurveFault, IsQuestionOf, IsReadable, MayAsk, inquiry_of, value_inputs_by};
 
 use crate::over_fixings::{day_asked, fixings_of, stop_of};
 use crate::stop::Stop;
@@ -45,7 +42,7 @@ struct Asking<'a> {
 // Stops where the code is not accepted at the setting.
 fn accept_code(alloc: Global, file: &CodeFile, setting: &Setting) -> Result<(), Stop>
     requires readable { IsReadable (code_book file.now) }
-    ensures { AnswersBy (λ _. IsAcceptedCode (declarations file.now.decls) setting.now.days.items (payoff_code file.now.code)) (IsRefusedCode (code_book file.now) setting.now.days.items) result }
+    ensures { AnswersAcceptedCode (code_book file.now) setting.now.days.items result }
 {
     match check_code(alloc, file, setting) {
         Ok(_) => Ok(()),
@@ -88,7 +85,7 @@ fn worth(
     requires readable { IsReadable (code_book file.now) }
     requires asks { MayAsk (inquiry_of file.now asking.now) }
     requires admitted { IsAdmitted (declarations file.now.decls) fixings.now }
-    ensures { AnswersBy (IsWorthOver (inquiry_of file.now asking.now) fixings.now curve.now) (IsMissingBy (inquiry_of file.now asking.now) fixings.now curve.now) result }
+    ensures { AnswersWorth (inquiry_of file.now asking.now) fixings.now curve.now result }
 {
     let parties = asking.parties;
     let mut scratch = value_scratch(alloc, file)?;
@@ -131,7 +128,7 @@ fn by_curve(
     requires asks { MayAsk (inquiry_of file.now asking.now) }
     requires admitted { IsAdmitted (declarations file.now.decls) fixings.now }
     requires short { length bytes.now ≤ 16_777_216 }
-    ensures { AnswersBy (λ text. TellsByCurve (inquiry_of file.now asking.now) fixings.now bytes.now text.items) (StopsByCurve (inquiry_of file.now asking.now) fixings.now bytes.now) result }
+    ensures { AnswersByCurve (inquiry_of file.now asking.now) fixings.now bytes.now result }
 {
     let curve = curve_of(alloc, bytes)?;
     let amount = worth(alloc, file, asking, fixings, &curve)?;
@@ -149,7 +146,7 @@ fn by_tables(
     requires readable { IsReadable (code_book file.now) }
     requires asks { MayAsk (inquiry_of file.now asking.now) }
     requires short { AreShortForValue (value_inputs_by inputs.now) }
-    ensures { AnswersBy (λ text. TellsByTables (inquiry_of file.now asking.now) (value_inputs_by inputs.now) text.items) (StopsByTables (inquiry_of file.now asking.now) (value_inputs_by inputs.now)) result }
+    ensures { AnswersByTables (inquiry_of file.now asking.now) (value_inputs_by inputs.now) result }
 {
     let fixings = fixings_of(alloc, &file.decls, Some(&inputs.fixings))?;
     by_curve(alloc, file, asking, &fixings, &inputs.curve)
@@ -166,7 +163,7 @@ fn at_setting(
     requires setting { HasNumberForEach (declarations file.now.decls) asking.now.setting.now.days.items }
     requires question { IsQuestionOf (inquiry_of file.now asking.now) }
     requires short { AreShortForValue (value_inputs_by inputs.now) }
-    ensures { AnswersBy (λ text. TellsAtSetting (inquiry_of file.now asking.now) (value_inputs_by inputs.now) text.items) (StopsAtSetting (inquiry_of file.now asking.now) (value_inputs_by inputs.now)) result }
+    ensures { AnswersAtSetting (inquiry_of file.now asking.now) (value_inputs_by inputs.now) result }
 {
     accept_code(alloc, file, asking.setting)?;
     by_tables(alloc, file, asking, inputs)
@@ -181,7 +178,7 @@ pub fn value_text(
 ) -> Result<Vec<u8>, Stop>
     requires readable { IsReadable (code_book file.now) }
     requires short { AreShortForValue (value_inputs_by inputs.now) }
-    ensures { AnswersBy (λ text. IsValueText (code_book file.now) (value_by value.now) (value_inputs_by inputs.now) text.items) (StopsValue (code_book file.now) (value_by value.now) (value_inputs_by inputs.now)) result }
+    ensures { AnswersValue (code_book file.now) (value_by value.now) (value_inputs_by inputs.now) result }
 {
     let parties = know_names(alloc, &file.decls, value)?;
     let day = day_asked(alloc, &file.decls, value.at, LAST_DAY)?;

@@ -2,7 +2,7 @@ use Rattle.std.proofs.Common.{◌≡◌}
 use Rattle.term_core.specs.Declarations.{declarations}
 use Rattle.command_words.specs.Words.{value_by}
 use Rattle.contract_cli.specs.ValuePromise.{AreBetween}
-use Rattle.contract_cli.specs.ValueParts.{IsUnknownBetween, IsUnknownOfValue, IsUnknownSetting, KnowsNames, flow_of, settings_are_known}
+use Rattle.contract_cli.specs.ValueParts.{IsUnknownBetween, IsUnknownOfValue, IsUnknownSetting, KnowsNames, flow_of, SettingsAreKnown}
 use Rattle.contract_cli.specs.declared.value_names.Parties.{Parties}
 use Rattle.contract_cli.proofs.StopFacts.{handed_on}
 use Rattle.contract_cli.proofs.ValueParts.{between_stops, knows, setting_stops}
@@ -19,7 +19,7 @@ pub returns-in_err-know_settings : goal.returns-in_err-know_settings
 returns-in_err-know_settings c =
     let d = declarations c.args.decls.now in
     let asked = value_by c.args.value.now in
-    handed_on (λ (u : Unit {0}). settings_are_known d asked.settings) (KnowsNames d asked) (IsUnknownSetting d asked.settings) (IsUnknownOfValue d asked)
+    handed_on (λ (u : Unit {0}). SettingsAreKnown d asked.settings) (KnowsNames d asked) (IsUnknownSetting d asked.settings) (IsUnknownOfValue d asked)
     (setting_stops d asked (flow_of c.in_ok-parties.parties) c.in_ok-parties.ensures) c.in_err-know_settings.field-0.0 c.from_residual-in_err-know_settings.result c.in_err-know_settings.ensures c.from_residual-in_err-know_settings.ensures.1
 
 pub returns : goal.returns
