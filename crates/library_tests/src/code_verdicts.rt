@@ -80,7 +80,8 @@ fn accepted_rows() -> [Row; 10] {
         (
             H,
             &[],
-            "loop (model(FX, 90) > 1.1000) upto 0 then scale(round(half_even, 2, ((model(FX, 90) - 1.1000) * 100000.00)), cut(90, pay(90, EUR, A, B))) else none",
+            "loop (model(FX, 90) > 1.1000) upto 0 then \
+                scale(round(half_even, 2, ((model(FX, 90) - 1.1000) * 100000.00)), cut(90, pay(90, EUR, A, B))) else none",
             accepted(11, 90_000_000_000_000_000),
         ),
         (

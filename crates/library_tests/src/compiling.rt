@@ -55,15 +55,19 @@ fn rows() -> [(&'static str, &'static str, bool, &'static str); 7] {
         ),
         (
             H,
-            "after(90, if (obs(FX, 0) > 1.1000) within 0 then scale(round(half_even, 2, ((obs(FX, 0) - 1.1000) * 100000.00)), pay(EUR, A, B)) else zero)",
+            "after(90, if (obs(FX, 0) > 1.1000) within 0 then \
+                scale(round(half_even, 2, ((obs(FX, 0) - 1.1000) * 100000.00)), pay(EUR, A, B)) else zero)",
             true,
-            "loop (model(FX, 90) > 1.1000) upto 0 then scale(round(half_even, 2, ((model(FX, 90) - 1.1000) * 100000.00)), cut(90, pay(90, EUR, A, B))) else none",
+            "loop (model(FX, 90) > 1.1000) upto 0 then \
+                scale(round(half_even, 2, ((model(FX, 90) - 1.1000) * 100000.00)), cut(90, pay(90, EUR, A, B))) else none",
         ),
         (
             TS,
-            "after(5, let x = obs(FX, -7) in if (x > obs(FX, 0)) within T then pay(EUR, A, B) else after(S, after(T, scale(acc(y, (y + obs(FX, -1)), 3, x), pay(EUR, B, A)))))",
+            "after(5, let x = obs(FX, -7) in if (x > obs(FX, 0)) within T then pay(EUR, A, B) else \
+                after(S, after(T, scale(acc(y, (y + obs(FX, -1)), 3, x), pay(EUR, B, A)))))",
             true,
-            "let x = model(FX, -2) in loop (x > model(FX, 5)) upto 0 + T then cut(5, pay(5, EUR, A, B)) else scale(acc(y, (y + model(FX, 4 + T + T + S)), 3, x), cut(5 + T + T + S, pay(5 + T + T + S, EUR, B, A)))",
+            "let x = model(FX, -2) in loop (x > model(FX, 5)) upto 0 + T then cut(5, pay(5, EUR, A, B)) else \
+                scale(acc(y, (y + model(FX, 4 + T + T + S)), 3, x), cut(5 + T + T + S, pay(5 + T + T + S, EUR, B, A)))",
         ),
         (P, "after(7, zero)", true, "none"),
     ]
@@ -90,7 +94,8 @@ fn assert_accepted_at_defaults(
     c: &Contr,
 ) -> Result<(), Fail>
     requires { IsClosed (declarations decls.now) (contract c.now) }
-    ensures { IfOk result (λ _. IsAccepted (declarations decls.now) (instance (declared_numbers (declarations decls.now)) (contract c.now))) }
+    ensures { IfOk result (λ _. IsAccepted (declarations decls.now)
+        (instance (declared_numbers (declarations decls.now)) (contract c.now))) }
 {
     settings_suit();
     defaults_suit();

@@ -76,9 +76,13 @@ num N : 0 in 0 .. 100;
 flag D;
 template T = 90;
 template S = 0;
-contract numbers = let v0 = if((neg(obs(FX, -3)) <= -1.5), min(1, 2), max((3 + 4), (5 - -6))) in let v1 = acc(v1, widen(4, (v1 * v0)), 5, round(half_away, 2, div(floor, 3, v0, 7))) in scale(v1, after(T, pay(EUR, A, v0)));
-contract truths = if if(not((obs(D, 1) | false)), (((1 < 2) & (3 > 2)) | ((3 >= 3) & (1 = 1))), (true & (0 != 0.00))) within 3 then zero else both(zero, after(2, pay(USD, v0, A)));
-contract modes = let v0 = round(half_even, 0, 0.5) in let v1 = round(ceil, 1, 2.55) in scale(acc(v2, (v2 + acc(v3, (v3 - v2), 2, v1)), 3, v0), if (v0 > v1) within S then pay(EUR, A, A) else zero);
+contract numbers = let v0 = if((neg(obs(FX, -3)) <= -1.5), min(1, 2), max((3 + 4), (5 - -6))) in \
+    let v1 = acc(v1, widen(4, (v1 * v0)), 5, round(half_away, 2, div(floor, 3, v0, 7))) in \
+    scale(v1, after(T, pay(EUR, A, v0)));
+contract truths = if if(not((obs(D, 1) | false)), (((1 < 2) & (3 > 2)) | ((3 >= 3) & (1 = 1))), (true & (0 != 0.00))) \
+    within 3 then zero else both(zero, after(2, pay(USD, v0, A)));
+contract modes = let v0 = round(half_even, 0, 0.5) in let v1 = round(ceil, 1, 2.55) in \
+    scale(acc(v2, (v2 + acc(v3, (v3 - v2), 2, v1)), 3, v0), if (v0 > v1) within S then pay(EUR, A, A) else zero);
 ";
 
 // What may be written in more than one way: blanks, lists of names, zeros, bounds, names that hide others.

@@ -22,9 +22,35 @@ const FX: &[u8] =
 // The greatest numbers and the longest name that a text may have, and each form of a term.
 fn read_texts() -> [&'static [u8]; 3] {
     [
-        b"# Positions of the treasury desk\nportfolio 1;\namounts 2;\norigin 2024-01-15;\nparty A, B, C;\nasset EUR, USD;\nnum FX : 4 in 0.5000 .. 2.0000;\nflag Default_B;\ntemplate T = 90;\n\ncontract loan = both(scale(100.00, pay(EUR, A, B)),\n  after(T, scale(105.00, pay(EUR, B, A))));\ncontract guarded = if obs(Default_B, 0) within T\n  then scale(40.00, pay(EUR, C, A))\n  else scale(100.00, pay(EUR, B, A));\n",
-        b"portfolio 01; amounts 12; origin 1900-01-01; start 1000000; party A; party B; asset EUR; flag f; num R : 18 in 0 .. 1; template T = 100000; contract c1 = zero; contract c2 = after(100000, zero); contract c3 = scale(obs(R, -1000000), zero); contract c4 = scale(obs(R, 1000000), zero); contract c5 = scale(widen(27, 1), zero); contract c6 = scale(0.000000000000000000000000001, zero); contract c7 = scale(-10000000000000000000000000000000000000, zero); contract c8 = scale(round(floor, 27, 1), zero); contract c9 = scale(div(ceil, 27, 1, 2), zero); contract c10 = scale(acc(x, x, 100000, 1), zero); contract aaaaaaaaaaaaaaaaaaaaaaaaaaaaaaaaaaaaaaaaaaaaaaaaaaaaaaaaaaaaaaaa = zero;",
-        b"portfolio 1; amounts 2; origin 2999-12-31; flag f; template T = 90; contract a = after(T, if obs(f, -3) within T then both(zero, zero) else let x = (1 + -2.5) in scale(x, zero)); contract b = scale(acc(x, if((x < acc(x, (x - 1), 3, 2)), x, 4), 100000, div(floor, 27, 1, round(ceil, 0, min(1, max(2, widen(3, neg(4))))))), if not((true & false)) within 3 then zero else zero);",
+        b"# Positions of the treasury desk
+portfolio 1;
+amounts 2;
+origin 2024-01-15;
+party A, B, C;
+asset EUR, USD;
+num FX : 4 in 0.5000 .. 2.0000;
+flag Default_B;
+template T = 90;
+
+contract loan = both(scale(100.00, pay(EUR, A, B)),
+  after(T, scale(105.00, pay(EUR, B, A))));
+contract guarded = if obs(Default_B, 0) within T
+  then scale(40.00, pay(EUR, C, A))
+  else scale(100.00, pay(EUR, B, A));
+",
+        b"portfolio 01; amounts 12; origin 1900-01-01; start 1000000; party A; party B; asset EUR; flag f; \
+            num R : 18 in 0 .. 1; template T = 100000; contract c1 = zero; contract c2 = after(100000, zero); \
+            contract c3 = scale(obs(R, -1000000), zero); contract c4 = scale(obs(R, 1000000), zero); \
+            contract c5 = scale(widen(27, 1), zero); contract c6 = scale(0.000000000000000000000000001, zero); \
+            contract c7 = scale(-10000000000000000000000000000000000000, zero); \
+            contract c8 = scale(round(floor, 27, 1), zero); contract c9 = scale(div(ceil, 27, 1, 2), zero); \
+            contract c10 = scale(acc(x, x, 100000, 1), zero); \
+            contract aaaaaaaaaaaaaaaaaaaaaaaaaaaaaaaaaaaaaaaaaaaaaaaaaaaaaaaaaaaaaaaa = zero;",
+        b"portfolio 1; amounts 2; origin 2999-12-31; flag f; template T = 90; \
+            contract a = after(T, if obs(f, -3) within T then both(zero, zero) else let x = (1 + -2.5) in scale(x, zero)); \
+            contract b = scale(acc(x, if((x < acc(x, (x - 1), 3, 2)), x, 4), 100000, \
+            div(floor, 27, 1, round(ceil, 0, min(1, max(2, widen(3, neg(4))))))), \
+            if not((true & false)) within 3 then zero else zero);",
     ]
 }
 
@@ -301,8 +327,13 @@ fn terms_are_read_to_a_depth_of_200(rt: HostRuntime) -> Result<(), AllocError> {
 }
 
 // Characters of two and three bytes stand in comments before tokens, and semicolons stand in comments behind lines.
-const TEXT: &[u8] =
-    b"payoff 1; # caf\xc3\xa9 \xe2\x82\xac\n# \xc3\xa9\n\t amounts 2; start 07;\nparty A, B; # A; B;\nasset EUR; num FX : 4 in -0.5 .. 2; # ;\n\r\n  code c <= 2024-01-15\n# \xc3\xa9";
+const TEXT: &[u8] = b"payoff 1; # caf\xc3\xa9 \xe2\x82\xac
+# \xc3\xa9
+\t amounts 2; start 07;
+party A, B; # A; B;
+asset EUR; num FX : 4 in -0.5 .. 2; # ;
+\r\n  code c <= 2024-01-15
+# \xc3\xa9";
 
 fn token(kind: TokenKind, from: u32, to: u32, line: u32, column: u32) -> Token {
     Token {
