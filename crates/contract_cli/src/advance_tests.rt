@@ -1,34 +1,18 @@
 // What `advance` prints, and what stops it.
 
-use crate::tests::{HALF, LOAN, RISING, ROOM, TOUCH, two_files};
-use crate::{Status, run};
-use edge_io::MemorySink;
-use std::alloc::Global;
-use std::process::Abort;
+use crate::Status;
+use crate::test_runs::{HALF, LOAN, NOTHING_FIXED, RISING, TOUCH, TREASURY, prints, two_files};
 use std::test::Fail;
 
-// What `advance` prints of a portfolio over fixings to a day, and its status.
+// Words, which stand between `|`, what they print of a portfolio over fixings, and the status.
 #[derive(Clone, Copy)]
 struct Advanced {
     text: &'static [u8],
     table: &'static [u8],
-    to: &'static str,
+    words: &'static str,
     output: &'static [u8],
     status: Status,
 }
-
-// Runs `advance` on a row's files.
-fn advances(rt: &impl Abort, alloc: Global, row: &Advanced) -> Result<(), Fail> {
-    let mut files = two_files(alloc, row.text, row.table, &[3])?;
-    let mut out = MemorySink::new(alloc, Vec::new(alloc), ROOM, ROOM)?;
-    let words = ["advance", "desk.txt", "fix.csv", "--to", row.to];
-    let status = run(alloc, &words, &mut files, &mut out);
-    assert_eq!(rt; out.taken(), row.output);
-    assert!(rt; status == row.status);
-    Ok(())
-}
-
-const NOTHING_FIXED: &[u8] = b"label,day,value\n";
 
 const TOUCH_ON_DAY_2: &[u8] = b"portfolio 1;
 amounts 2;
@@ -43,24 +27,6 @@ const FIXED_ON_DAY_30: &[u8] =
     b"portfolio 1; amounts 2; party A, B, C; asset EUR; num FX : 4 in 0.5000 .. 2.0000;
 contract c = let x = round(half_even, 2, obs(FX, 30)) in after(30, scale(x, pay(EUR, A, B)));";
 
-const TREASURY: &[u8] = b"# Positions of the treasury desk
-portfolio 1;
-amounts 2;
-origin 2024-01-15;
-party A, B, C;
-asset EUR, USD;
-num FX : 4 in 0.5000 .. 2.0000;
-flag Default_B;
-template T = 90;
-
-contract loan = both(scale(100.00, pay(EUR, A, B)),
-                     after(T, scale(105.00, pay(EUR, B, A))));
-
-contract guarded = if obs(Default_B, 0) within T
-                   then scale(40.00, pay(EUR, C, A))
-                   else scale(100.00, pay(EUR, B, A));
-";
-
 #[test]
 fn advances_portfolios(rt: HostRuntime) -> Result<(), Fail> {
     let alloc = rt.alloc();
@@ -68,7 +34,7 @@ fn advances_portfolios(rt: HostRuntime) -> Result<(), Fail> {
         Advanced {
             text: TOUCH,
             table: RISING,
-            to: "2",
+            words: "advance|desk.txt|fix.csv|--to|2",
             output: TOUCH_ON_DAY_2,
             status: Status::Done,
         },
@@ -76,7 +42,7 @@ fn advances_portfolios(rt: HostRuntime) -> Result<(), Fail> {
         Advanced {
             text: TOUCH_ON_DAY_2,
             table: RISING,
-            to: "4",
+            words: "advance|desk.txt|fix.csv|--to|4",
             output: b"# touch,3,A,B,EUR,1.00
 portfolio 1;
 amounts 2;
@@ -92,7 +58,7 @@ contract touch = zero;
         Advanced {
             text: TOUCH,
             table: NOTHING_FIXED,
-            to: "0",
+            words: "advance|desk.txt|fix.csv|--to|0",
             output: b"portfolio 1;
 amounts 2;
 start 0;
@@ -107,7 +73,7 @@ contract touch = if (obs(FX, 0) > 1.1000) within 3 then scale(1.00, pay(EUR, A, 
         Advanced {
             text: FIXED_ON_DAY_30,
             table: NOTHING_FIXED,
-            to: "1",
+            words: "advance|desk.txt|fix.csv|--to|1",
             output: b"portfolio 1;
 amounts 2;
 start 1;
@@ -121,7 +87,7 @@ contract c = let v0 = round(half_even, 2, obs(FX, 29)) in after(29, scale(v0, pa
         Advanced {
             text: FIXED_ON_DAY_30,
             table: b"label,day,value\nFX,30,1.2345\n",
-            to: "30",
+            words: "advance|desk.txt|fix.csv|--to|30",
             output: b"portfolio 1;
 amounts 2;
 start 30;
@@ -135,7 +101,7 @@ contract c = scale(1.23, pay(EUR, A, B));
         Advanced {
             text: LOAN,
             table: NOTHING_FIXED,
-            to: "30",
+            words: "advance|desk.txt|fix.csv|--to|30",
             output: b"# loan,0,A,B,EUR,100.00
 portfolio 1;
 amounts 2;
@@ -151,7 +117,7 @@ contract loan = after(60, scale(105.00, pay(EUR, B, A)));
             text: b"portfolio 1; amounts 2; party A, B, C; asset EUR;
 contract c = after(1, scale(acc(x, (x + 0.01), 3, if(true, 1, 0.00)), pay(EUR, A, B)));",
             table: NOTHING_FIXED,
-            to: "0",
+            words: "advance|desk.txt|fix.csv|--to|0",
             output: b"portfolio 1;
 amounts 2;
 start 0;
@@ -163,9 +129,9 @@ contract c = after(1, scale(1.03, pay(EUR, A, B)));
         },
         // Days count from the origin, and the templates' names give way to their defaults.
         Advanced {
-            text: TREASURY,
+            text: TREASURY.as_bytes(),
             table: b"label,day,value\nDefault_B,0,false\nDefault_B,1,false\nDefault_B,2,false\nDefault_B,3,false\nDefault_B,4,false\n",
-            to: "5",
+            words: "advance|desk.txt|fix.csv|--to|5",
             output: b"# loan,2024-01-15,A,B,EUR,100.00
 portfolio 1;
 amounts 2;
@@ -183,7 +149,8 @@ contract guarded = if obs(Default_B, 0) within 85 then scale(40.00, pay(EUR, C, 
         },
     ];
     for row in &rows {
-        advances(&rt, alloc, row)?;
+        let files = two_files(alloc, row.text, row.table, &[3])?;
+        prints(&rt, alloc, row.words, files, row.output, row.status)?;
     }
     Ok(())
 }
@@ -195,28 +162,28 @@ fn says_what_stops_advance(rt: HostRuntime) -> Result<(), Fail> {
         Advanced {
             text: TOUCH,
             table: NOTHING_FIXED,
-            to: "1",
+            words: "advance|desk.txt|fix.csv|--to|1",
             output: b"fault missing FX 0\n",
             status: Status::Missing,
         },
         Advanced {
             text: TOUCH_ON_DAY_2,
             table: RISING,
-            to: "1",
+            words: "advance|desk.txt|fix.csv|--to|1",
             output: b"fault day 1\n",
             status: Status::DayRange,
         },
         Advanced {
             text: TOUCH,
             table: RISING,
-            to: "1000001",
+            words: "advance|desk.txt|fix.csv|--to|1000001",
             output: b"fault day 1000001\n",
             status: Status::DayRange,
         },
         Advanced {
             text: TOUCH,
             table: RISING,
-            to: "2024-01-15",
+            words: "advance|desk.txt|fix.csv|--to|2024-01-15",
             output: b"fault day 2024-01-15\n",
             status: Status::DayRange,
         },
@@ -224,27 +191,28 @@ fn says_what_stops_advance(rt: HostRuntime) -> Result<(), Fail> {
         Advanced {
             text: HALF,
             table: b"",
-            to: "1000001",
+            words: "advance|desk.txt|fix.csv|--to|1000001",
             output: b"fault day 1000001\n",
             status: Status::DayRange,
         },
         Advanced {
             text: HALF,
             table: b"",
-            to: "1",
+            words: "advance|desk.txt|fix.csv|--to|1",
             output: b"fault refused bad sort node 0\n",
             status: Status::Refused,
         },
         Advanced {
             text: TOUCH,
             table: b"label,day,value\nFX,1,9.0000\n",
-            to: "1",
+            words: "advance|desk.txt|fix.csv|--to|1",
             output: b"fault row file 2 record 2 bounds\n",
             status: Status::BadRow,
         },
     ];
     for row in &rows {
-        advances(&rt, alloc, row)?;
+        let files = two_files(alloc, row.text, row.table, &[3])?;
+        prints(&rt, alloc, row.words, files, row.output, row.status)?;
     }
     Ok(())
 }

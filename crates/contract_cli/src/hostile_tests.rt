@@ -1,40 +1,14 @@
 // Files that cannot be read, sinks that fail, texts that are cut off, and the limits at their last good and first bad numbers.
 
-use crate::tests::{ROOM, one_file};
+use crate::test_runs::{
+    CURVE, LOAN, LOAN_CODE, NOTHING_FIXED, ROOM, TREASURY, entry, one_file, prints, ran,
+};
 use crate::{Status, run};
-use edge_io::{Entry, MemoryFiles, MemorySink};
+use edge_io::{MemoryFiles, MemorySink};
 use std::alloc::{AllocError, Global};
-use std::process::Abort;
 use std::test::Fail;
 
-const LOAN: &[u8] = b"portfolio 1;
-amounts 2;
-party A, B, C;
-asset EUR;
-contract loan = both(scale(100.00, pay(EUR, A, B)), after(90, scale(105.00, pay(EUR, B, A))));
-";
-
-const CODE: &str = "payoff 1;
-amounts 2;
-start 0;
-party A, B, C;
-asset EUR;
-code loan = add(scale(100.00, cut(0, pay(0, EUR, A, B))), scale(105.00, cut(90, pay(90, EUR, B, A))));
-";
-
-const CURVE: &[u8] = b"offset,factor\n0,1.000000000\n90,0.990000000\n";
-
-const NOTHING_FIXED: &[u8] = b"label,day,value\n";
-
 const PRESENT: &str = "value|code|table|curve|--at|0|--from|A|--to|B|--asset|EUR";
-
-fn entry(alloc: Global, name: &str, bytes: &[u8]) -> Result<Entry, AllocError> {
-    Ok(Entry {
-        name: name.as_bytes().to_vec(alloc)?,
-        bytes: bytes.to_vec(alloc)?,
-        faults: 0,
-    })
-}
 
 // A portfolio, code, a table and a curve; the numbered read fails.
 fn desk(
@@ -54,17 +28,6 @@ fn desk(
     Ok(MemoryFiles::new(entries, fail))
 }
 
-// What these words, which stand between `|`, print, and their status.
-fn ran(alloc: Global, line: &str, mut files: MemoryFiles) -> Result<(Status, MemorySink), Fail> {
-    let mut words = Vec::new(alloc);
-    for word in line.split('|') {
-        words.push(word)?;
-    }
-    let mut out = MemorySink::new(alloc, Vec::new(alloc), ROOM, ROOM)?;
-    let status = run(alloc, &words, &mut files, &mut out);
-    Ok((status, out))
-}
-
 #[test]
 fn says_of_each_command_which_read_fails(rt: HostRuntime) -> Result<(), Fail> {
     let alloc = rt.alloc();
@@ -78,13 +41,11 @@ fn says_of_each_command_which_read_fails(rt: HostRuntime) -> Result<(), Fail> {
     ];
     for (line, count) in rows {
         for read in 1..=count {
-            let files = desk(alloc, LOAN, CODE.as_bytes(), NOTHING_FIXED, read)?;
-            let (status, out) = ran(alloc, line, files)?;
+            let files = desk(alloc, LOAN, LOAN_CODE, NOTHING_FIXED, read)?;
             let fault = format!(in alloc; "fault read {read}\n")?;
-            assert_eq!(rt; out.taken(), fault.as_bytes());
-            assert!(rt; status == Status::ReadFault);
+            prints(&rt, alloc, line, files, fault.as_bytes(), Status::ReadFault)?;
         }
-        let files = desk(alloc, LOAN, CODE.as_bytes(), NOTHING_FIXED, count + 1)?;
+        let files = desk(alloc, LOAN, LOAN_CODE, NOTHING_FIXED, count + 1)?;
         let (status, _) = ran(alloc, line, files)?;
         assert!(rt; status == Status::Done);
     }
@@ -97,7 +58,7 @@ fn writes_a_part_where_the_sink_fails(rt: HostRuntime) -> Result<(), Fail> {
     let alloc = rt.alloc();
     let whole = b"loan,0,A,B,EUR,100.00\nloan,90,B,A,EUR,105.00\n".as_slice();
     for write in 1..=6usize {
-        let mut files = one_file(alloc, b"book", LOAN, &[])?;
+        let mut files = one_file(alloc, "book", LOAN, &[])?;
         let mut fail = Vec::new(alloc);
         fail.push(write as u64)?;
         let mut out = MemorySink::new(alloc, fail, 10, ROOM)?;
@@ -121,24 +82,6 @@ fn writes_a_part_where_the_sink_fails(rt: HostRuntime) -> Result<(), Fail> {
     Ok(())
 }
 
-const TREASURY: &str = "# Positions of the treasury desk
-portfolio 1;
-amounts 2;
-origin 2024-01-15;
-party A, B, C;
-asset EUR, USD;
-num FX : 4 in 0.5000 .. 2.0000;
-flag Default_B;
-template T = 90;
-
-contract loan = both(scale(100.00, pay(EUR, A, B)),
-                     after(T, scale(105.00, pay(EUR, B, A))));
-
-contract guarded = if obs(Default_B, 0) within T
-                   then scale(40.00, pay(EUR, C, A))
-                   else scale(100.00, pay(EUR, B, A));
-";
-
 // A portfolio ends with its amounts, or with any sentence behind them.
 #[test]
 fn checks_what_is_cut_off(rt: HostRuntime) -> Result<(), Fail> {
@@ -148,11 +91,8 @@ fn checks_what_is_cut_off(rt: HostRuntime) -> Result<(), Fail> {
         assert!(rt; front.is_some());
         let text = front.unwrap_or("");
         let whole = text.contains("amounts 2;") && text.trim_end().ends_with(';');
-        let (status, _) = ran(
-            alloc,
-            "check|book",
-            one_file(alloc, b"book", text.as_bytes(), &[])?,
-        )?;
+        let files = one_file(alloc, "book", text.as_bytes(), &[])?;
+        let (status, _) = ran(alloc, "check|book", files)?;
         assert!(rt; status == if whole { Status::Done } else { Status::BadText });
     }
     Ok(())
@@ -162,11 +102,10 @@ fn checks_what_is_cut_off(rt: HostRuntime) -> Result<(), Fail> {
 #[test]
 fn values_nothing_that_is_cut_off(rt: HostRuntime) -> Result<(), Fail> {
     let alloc = rt.alloc();
-    let code = CODE.as_bytes();
-    for length in 0..code.len() {
-        let files = desk(alloc, LOAN, &code[..length], NOTHING_FIXED, 4)?;
+    for length in 0..LOAN_CODE.len() {
+        let files = desk(alloc, LOAN, &LOAN_CODE[..length], NOTHING_FIXED, 4)?;
         let (status, _) = ran(alloc, PRESENT, files)?;
-        let whole = length + 1 == code.len();
+        let whole = length + 1 == LOAN_CODE.len();
         assert!(rt; status == if whole { Status::Done } else { Status::BadText });
     }
     Ok(())
@@ -218,13 +157,8 @@ fn reads_texts_of_depth_200(rt: HostRuntime) -> Result<(), Fail> {
             times,
             "zero",
         )?;
-        let (status, out) = ran(
-            alloc,
-            "check|book",
-            one_file(alloc, b"book", text.as_bytes(), &[])?,
-        )?;
-        assert_eq!(rt; out.taken(), output.as_bytes());
-        assert!(rt; status == wanted);
+        let files = one_file(alloc, "book", text.as_bytes(), &[])?;
+        prints(&rt, alloc, "check|book", files, output.as_bytes(), wanted)?;
     }
     Ok(())
 }
@@ -239,9 +173,7 @@ fn reads_code_of_depth_400(rt: HostRuntime) -> Result<(), Fail> {
     for (times, wanted, output) in rows {
         let text = nested(alloc, "payoff 1;", "code c = ", "add(none, ", times, "none")?;
         let files = desk(alloc, LOAN, text.as_bytes(), NOTHING_FIXED, 4)?;
-        let (status, out) = ran(alloc, PRESENT, files)?;
-        assert_eq!(rt; out.taken(), output.as_bytes());
-        assert!(rt; status == wanted);
+        prints(&rt, alloc, PRESENT, files, output.as_bytes(), wanted)?;
     }
     Ok(())
 }
@@ -273,13 +205,8 @@ fn checks_contracts_at_the_limits(rt: HostRuntime) -> Result<(), Fail> {
     ];
     for (contract, wanted, output) in rows {
         let text = format!(in alloc; "portfolio 1;\n{HEADER}contract c = {contract};\n")?;
-        let (status, out) = ran(
-            alloc,
-            "check|book",
-            one_file(alloc, b"book", text.as_bytes(), &[])?,
-        )?;
-        assert_eq!(rt; out.taken(), output.as_bytes());
-        assert!(rt; status == wanted);
+        let files = one_file(alloc, "book", text.as_bytes(), &[])?;
+        prints(&rt, alloc, "check|book", files, output.as_bytes(), wanted)?;
     }
     Ok(())
 }
@@ -300,9 +227,14 @@ fn refuses_code_beyond_the_limits(rt: HostRuntime) -> Result<(), Fail> {
     for (code, output) in rows {
         let text = format!(in alloc; "payoff 1;\n{HEADER}code c = {code};\n")?;
         let files = desk(alloc, LOAN, text.as_bytes(), NOTHING_FIXED, 4)?;
-        let (status, out) = ran(alloc, PRESENT, files)?;
-        assert_eq!(rt; out.taken(), output.as_bytes());
-        assert!(rt; status == Status::Refused);
+        prints(
+            &rt,
+            alloc,
+            PRESENT,
+            files,
+            output.as_bytes(),
+            Status::Refused,
+        )?;
     }
     Ok(())
 }
@@ -312,12 +244,14 @@ fn refuses_a_fixing_of_38_digits(rt: HostRuntime) -> Result<(), Fail> {
     let alloc = rt.alloc();
     let book = format!(in alloc; "portfolio 1;\n{HEADER}num FX : 4 in 0.5000 .. 2.0000;\n")?;
     let table = b"label,day,value\nFX,0,99999999999999999999999999999999999999\n";
-    let files = desk(alloc, book.as_bytes(), CODE.as_bytes(), table, 3)?;
-    let (status, out) = ran(alloc, "flows|book|table", files)?;
-    assert_eq!(rt;
-        out.taken(),
-        b"fault row file 2 record 2 value\n".as_slice()
-    );
-    assert!(rt; status == Status::BadRow);
-    Ok(())
+    let files = desk(alloc, book.as_bytes(), LOAN_CODE, table, 3)?;
+    let output = b"fault row file 2 record 2 value\n";
+    prints(
+        &rt,
+        alloc,
+        "flows|book|table",
+        files,
+        output,
+        Status::BadRow,
+    )
 }

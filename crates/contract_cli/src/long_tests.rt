@@ -1,12 +1,11 @@
 // A book of 65,541 nodes, of which one part changes on each of 80,000 days and the others on none.
 
-use crate::{Status, run};
-use edge_io::{Entry, MemoryFiles, MemorySink};
+use crate::Status;
+use crate::test_runs::{ran, two_files};
+use edge_io::MemorySink;
 use std::alloc::{AllocError, Global};
 use std::process::Abort;
 use std::test::Fail;
-
-const ROOM: usize = 4_194_304;
 
 // A balanced tree over 16,384 copies of a contract.
 fn tree_of(alloc: Global, leaf: &str) -> Result<String, AllocError> {
@@ -27,29 +26,16 @@ fn never_up(alloc: Global) -> Result<String, AllocError> {
     Ok(table)
 }
 
-// A file of this name.
-fn entry(alloc: Global, name: &str, text: &[u8]) -> Result<Entry, AllocError> {
-    Ok(Entry {
-        name: name.as_bytes().to_vec(alloc)?,
-        bytes: text.to_vec(alloc)?,
-        faults: 0,
-    })
-}
-
-// What a command prints of a book and a table.
+// What the words of a line print of a book and a table.
 fn printed(
     rt: &impl Abort,
     alloc: Global,
+    line: &str,
     book: &[u8],
     table: &[u8],
-    words: &[&str],
 ) -> Result<MemorySink, Fail> {
-    let mut entries = Vec::new(alloc);
-    entries.push(entry(alloc, "book", book)?)?;
-    entries.push(entry(alloc, "table", table)?)?;
-    let mut files = MemoryFiles::new(entries, Vec::new(alloc));
-    let mut out = MemorySink::new(alloc, Vec::new(alloc), ROOM, ROOM)?;
-    assert!(rt; run(alloc, words, &mut files, &mut out) == Status::Done);
+    let (status, out) = ran(alloc, line, two_files(alloc, book, table, &[])?)?;
+    assert!(rt; status == Status::Done);
     Ok(out)
 }
 
@@ -60,11 +46,11 @@ fn advances(rt: &impl Abort, alloc: Global, contract: &str, begins: &str) -> Res
         "portfolio 1; amounts 2; party A, B, C; asset EUR; flag F;
 contract b = both(if obs(F, 0) within 90000 then zero else pay(EUR, A, B), {contract});"
     )?;
-    let words = ["advance", "book", "table", "--to", "80000"];
-    let left = printed(rt, alloc, book.as_bytes(), table.as_bytes(), &words)?;
+    let line = "advance|desk.txt|fix.csv|--to|80000";
+    let left = printed(rt, alloc, line, book.as_bytes(), table.as_bytes())?;
     assert!(rt; left.taken().starts_with(begins.as_bytes()));
-    let words = ["flows", "book", "table"];
-    let flows = printed(rt, alloc, left.taken(), table.as_bytes(), &words)?;
+    let line = "flows|desk.txt|fix.csv";
+    let flows = printed(rt, alloc, line, left.taken(), table.as_bytes())?;
     assert!(rt; flows.taken() == b"b,90000,A,B,EUR,16385.00\n".as_slice());
     Ok(())
 }

@@ -32,6 +32,8 @@ mod payoff_text;
 mod status;
 mod stop;
 #[cfg(test)]
+mod test_runs;
+#[cfg(test)]
 mod tests;
 mod used;
 mod value_answers;

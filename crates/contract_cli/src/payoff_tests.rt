@@ -1,10 +1,7 @@
 // What `payoff` prints, and what stops it.
 
-use crate::tests::{HALF, LOAN, ROOM, TOUCH, one_file};
-use crate::{Status, run};
-use edge_io::MemorySink;
-use std::alloc::Global;
-use std::process::Abort;
+use crate::Status;
+use crate::test_runs::{HALF, LOAN, LOAN_CODE, TOUCH, one_file, prints};
 use std::test::Fail;
 
 // Words, which stand between `|`, what they print of a text, and the status.
@@ -14,20 +11,6 @@ struct Compiled {
     text: &'static [u8],
     output: &'static [u8],
     status: Status,
-}
-
-// Runs a row's words on its text, of which nothing is read twice.
-fn compiles(rt: &impl Abort, alloc: Global, row: &Compiled) -> Result<(), Fail> {
-    let mut words = Vec::new(alloc);
-    for word in row.words.split('|') {
-        words.push(word)?;
-    }
-    let mut files = one_file(alloc, b"desk.txt", row.text, &[2])?;
-    let mut out = MemorySink::new(alloc, Vec::new(alloc), ROOM, ROOM)?;
-    let status = run(alloc, &words, &mut files, &mut out);
-    assert_eq!(rt; out.taken(), row.output);
-    assert!(rt; status == row.status);
-    Ok(())
 }
 
 const NAMED_LOAN: &[u8] = b"portfolio 1; amounts 2; party A, B, C; asset EUR; template T = 90;
@@ -53,13 +36,7 @@ fn prints_code(rt: HostRuntime) -> Result<(), Fail> {
         Compiled {
             words: "payoff|desk.txt|--contract|loan",
             text: LOAN,
-            output: b"payoff 1;
-amounts 2;
-start 0;
-party A, B, C;
-asset EUR;
-code loan = add(scale(100.00, cut(0, pay(0, EUR, A, B))), scale(105.00, cut(90, pay(90, EUR, B, A))));
-",
+            output: LOAN_CODE,
             status: Status::Done,
         },
         // The names of templates stay.
@@ -111,7 +88,8 @@ start 0;
 party A, B, C;
 asset EUR;
 num FX : 4 in 0.5000 .. 2.0000;
-code option = loop (model(FX, 90) > 1.1000) upto 0 then scale(round(half_even, 2, ((model(FX, 90) - 1.1000) * 100000.00)), cut(90, pay(90, EUR, A, B))) else none;
+code option = loop (model(FX, 90) > 1.1000) upto 0 then \
+                scale(round(half_even, 2, ((model(FX, 90) - 1.1000) * 100000.00)), cut(90, pay(90, EUR, A, B))) else none;
 ",
             status: Status::Done,
         },
@@ -145,7 +123,8 @@ code good = cut(0, pay(0, EUR, A, B));
         },
     ];
     for row in &rows {
-        compiles(&rt, alloc, row)?;
+        let files = one_file(alloc, "desk.txt", row.text, &[2])?;
+        prints(&rt, alloc, row.words, files, row.output, row.status)?;
     }
     Ok(())
 }
@@ -200,7 +179,8 @@ fn says_what_stops_payoff(rt: HostRuntime) -> Result<(), Fail> {
         },
     ];
     for row in &rows {
-        compiles(&rt, alloc, row)?;
+        let files = one_file(alloc, "desk.txt", row.text, &[2])?;
+        prints(&rt, alloc, row.words, files, row.output, row.status)?;
     }
     Ok(())
 }

@@ -1,29 +1,11 @@
+// What each command prints, but for those that have files of their own, and which fault comes first.
+
+use crate::test_runs::{
+    HALF, LOAN, NOTHING_FIXED, RISING, ROOM, TOUCH, one_file, prints, two_files,
+};
 use crate::{Status, run};
-use edge_io::{Entry, MemoryFiles, MemorySink};
-use std::alloc::{AllocError, Global};
-use std::process::Abort;
+use edge_io::MemorySink;
 use std::test::Fail;
-
-pub const ROOM: usize = 4_194_304;
-
-// One file by this name, of which the numbered reads fail.
-pub fn one_file(
-    alloc: Global,
-    name: &[u8],
-    text: &[u8],
-    fail: &[u64],
-) -> Result<MemoryFiles, AllocError> {
-    let mut entries = Vec::new(alloc);
-    entries.push(Entry {
-        name: name.to_vec(alloc)?,
-        bytes: text.to_vec(alloc)?,
-        faults: 0,
-    })?;
-    Ok(MemoryFiles::new(entries, fail.to_vec(alloc)?))
-}
-
-pub const LOAN: &[u8] = b"portfolio 1; amounts 2; party A, B, C; asset EUR;
-contract loan = both(scale(100.00, pay(EUR, A, B)), after(90, scale(105.00, pay(EUR, B, A))));";
 
 // What a command prints of a text, of which it reads nothing twice, and its status.
 #[derive(Clone, Copy)]
@@ -95,11 +77,8 @@ contract c = scale(obs(FX, 0), pay(EUR, A, B));",
         },
     ];
     for row in &rows {
-        let mut files = one_file(alloc, b"loan.txt", row.text, &[2])?;
-        let mut out = MemorySink::new(alloc, Vec::new(alloc), ROOM, ROOM)?;
-        let status = run(alloc, &["flows", "loan.txt"], &mut files, &mut out);
-        assert_eq!(rt; out.taken(), row.output);
-        assert!(rt; status == row.status);
+        let files = one_file(alloc, "loan.txt", row.text, &[2])?;
+        prints(&rt, alloc, "flows|loan.txt", files, row.output, row.status)?;
     }
     Ok(())
 }
@@ -201,20 +180,17 @@ contract c = scale(y, pay(EUR, A, B));",
         },
     ];
     for row in &rows {
-        let mut files = one_file(alloc, b"desk.txt", row.text, &[2])?;
-        let mut out = MemorySink::new(alloc, Vec::new(alloc), ROOM, ROOM)?;
-        let status = run(alloc, &["check", "desk.txt"], &mut files, &mut out);
-        assert_eq!(rt; out.taken(), row.output);
-        assert!(rt; status == row.status);
+        let files = one_file(alloc, "desk.txt", row.text, &[2])?;
+        prints(&rt, alloc, "check|desk.txt", files, row.output, row.status)?;
     }
     Ok(())
 }
 
-// What `flows` prints of a text with these words behind the file, and its status.
+// Words, which stand between `|`, what they print of a text, and the status.
 #[derive(Clone, Copy)]
 struct Asked {
     text: &'static [u8],
-    words: [&'static str; 3],
+    words: &'static str,
     output: &'static [u8],
     status: Status,
 }
@@ -222,83 +198,71 @@ struct Asked {
 const MUTUAL: &[u8] = b"portfolio 1; amounts 2; party A, B, C; asset EUR;
 contract a = scale(5.00, pay(EUR, A, B)); contract b = scale(2.00, pay(EUR, B, A));";
 
-pub const HALF: &[u8] = b"portfolio 1; amounts 2; party A, B; asset EUR;
-contract good = pay(EUR, A, B); contract bad = scale(true, pay(EUR, A, B));";
-
 #[test]
 fn prints_what_is_asked_for(rt: HostRuntime) -> Result<(), Fail> {
     let alloc = rt.alloc();
     let rows = [
         Asked {
             text: LOAN,
-            words: ["--until", "89", "--"],
+            words: "flows|desk.txt|--until|89|--",
             output: b"loan,0,A,B,EUR,100.00\n",
             status: Status::Done,
         },
         Asked {
             text: LOAN,
-            words: ["--contract", "nope", "--"],
+            words: "flows|desk.txt|--contract|nope|--",
             output: b"fault unknown nope\n",
             status: Status::UnknownName,
         },
         // What contracts pay each other is netted, and what comes to nothing is no row.
         Asked {
             text: MUTUAL,
-            words: ["--net", "--until", "0"],
+            words: "flows|desk.txt|--net|--until|0",
             output: b"*,0,A,B,EUR,3.00\n",
             status: Status::Done,
         },
         Asked {
             text: MUTUAL,
-            words: ["--net", "--contract", "b"],
+            words: "flows|desk.txt|--net|--contract|b",
             output: b"*,0,B,A,EUR,2.00\n",
             status: Status::Done,
         },
         Asked {
             text: MUTUAL,
-            words: ["--contract", "b", "--"],
+            words: "flows|desk.txt|--contract|b|--",
             output: b"b,0,B,A,EUR,2.00\n",
             status: Status::Done,
         },
         Asked {
             text: b"portfolio 1; amounts 2; party A, B; asset EUR;
 contract a = scale(5.00, pay(EUR, A, B)); contract b = scale(5.00, pay(EUR, B, A));",
-            words: ["--net", "--until", "0"],
+            words: "flows|desk.txt|--net|--until|0",
             output: b"",
             status: Status::Done,
         },
         // No other contract is tried.
         Asked {
             text: HALF,
-            words: ["--contract", "good", "--"],
+            words: "flows|desk.txt|--contract|good|--",
             output: b"good,0,A,B,EUR,1.00\n",
             status: Status::Done,
         },
         Asked {
             text: HALF,
-            words: ["--contract", "bad", "--"],
+            words: "flows|desk.txt|--contract|bad|--",
             output: b"fault refused bad sort node 0\n",
             status: Status::Refused,
         },
         Asked {
             text: HALF,
-            words: ["--contract=nope", "--until", "1100001"],
+            words: "flows|desk.txt|--contract=nope|--until|1100001",
             output: b"fault unknown nope\n",
             status: Status::UnknownName,
         },
     ];
     for row in &rows {
-        let mut files = one_file(alloc, b"desk.txt", row.text, &[2])?;
-        let mut out = MemorySink::new(alloc, Vec::new(alloc), ROOM, ROOM)?;
-        let [one, two, three] = row.words;
-        let status = run(
-            alloc,
-            &["flows", "desk.txt", one, two, three],
-            &mut files,
-            &mut out,
-        );
-        assert_eq!(rt; out.taken(), row.output);
-        assert!(rt; status == row.status);
+        let files = one_file(alloc, "desk.txt", row.text, &[2])?;
+        prints(&rt, alloc, row.words, files, row.output, row.status)?;
     }
     Ok(())
 }
@@ -308,7 +272,7 @@ fn tells_faults_of_files_and_sink_apart(rt: HostRuntime) -> Result<(), Fail> {
     let alloc = rt.alloc();
     let words = ["flows", "loan.txt"];
     let mut out = MemorySink::new(alloc, [2].to_vec(alloc)?, 10, ROOM)?;
-    let mut files = one_file(alloc, b"loan.txt", LOAN, &[2])?;
+    let mut files = one_file(alloc, "loan.txt", LOAN, &[2])?;
     assert!(rt; run(alloc, &words, &mut files, &mut out) == Status::WriteFault);
     assert_eq!(rt; out.taken(), b"loan,0,A,B".as_slice());
     assert!(rt; run(alloc, &words, &mut files, &mut out) == Status::ReadFault);
@@ -319,16 +283,22 @@ fn tells_faults_of_files_and_sink_apart(rt: HostRuntime) -> Result<(), Fail> {
 #[test]
 fn says_which_file_cannot_be_read(rt: HostRuntime) -> Result<(), Fail> {
     let alloc = rt.alloc();
-    let mut files = one_file(alloc, b"loan.txt", LOAN, &[])?;
-    let mut out = MemorySink::new(alloc, Vec::new(alloc), ROOM, ROOM)?;
-    assert!(rt; run(alloc, &["check", "other.txt"], &mut files, &mut out) == Status::ReadFault);
-    assert_eq!(rt; out.taken(), b"fault read 1\n".as_slice());
+    let files = one_file(alloc, "loan.txt", LOAN, &[])?;
+    prints(
+        &rt,
+        alloc,
+        "check|other.txt",
+        files,
+        b"fault read 1\n",
+        Status::ReadFault,
+    )?;
     // Where the line of a fault cannot be written, the write is the fault.
+    let mut files = one_file(alloc, "loan.txt", LOAN, &[])?;
     let mut out = MemorySink::new(alloc, [1].to_vec(alloc)?, ROOM, ROOM)?;
     assert!(rt; run(alloc, &["check", "other.txt"], &mut files, &mut out) == Status::WriteFault);
     assert_eq!(rt; out.taken(), b"".as_slice());
     // An empty text is no write, so a sink that would fail is not asked.
-    let mut files = one_file(alloc, b"empty.txt", b"portfolio 1; amounts 2;", &[])?;
+    let mut files = one_file(alloc, "empty.txt", b"portfolio 1; amounts 2;", &[])?;
     let mut out = MemorySink::new(alloc, [1].to_vec(alloc)?, ROOM, ROOM)?;
     assert!(rt; run(alloc, &["check", "empty.txt"], &mut files, &mut out) == Status::Done);
     assert_eq!(rt; out.taken(), b"".as_slice());
@@ -346,73 +316,21 @@ fn refuses_a_file_past_the_limit(rt: HostRuntime) -> Result<(), Fail> {
     for (length, status, output) in rows {
         let mut text = b"portfolio 1; amounts 2;".to_vec(alloc)?;
         text.resize(length, b' ')?;
-        let mut files = one_file(alloc, b"long.txt", &text, &[])?;
-        let mut out = MemorySink::new(alloc, Vec::new(alloc), ROOM, ROOM)?;
-        assert!(rt; run(alloc, &["flows", "long.txt"], &mut files, &mut out) == status);
-        assert_eq!(rt; out.taken(), output);
+        let files = one_file(alloc, "long.txt", &text, &[])?;
+        prints(&rt, alloc, "flows|long.txt", files, output, status)?;
     }
     Ok(())
 }
 
-// Two files, of which the numbered reads fail.
-pub fn two_files(
-    alloc: Global,
-    portfolio: &[u8],
-    table: &[u8],
-    fail: &[u64],
-) -> Result<MemoryFiles, AllocError> {
-    let mut entries = Vec::new(alloc);
-    entries.push(Entry {
-        name: b"desk.txt".to_vec(alloc)?,
-        bytes: portfolio.to_vec(alloc)?,
-        faults: 0,
-    })?;
-    entries.push(Entry {
-        name: b"fix.csv".to_vec(alloc)?,
-        bytes: table.to_vec(alloc)?,
-        faults: 0,
-    })?;
-    Ok(MemoryFiles::new(entries, fail.to_vec(alloc)?))
-}
-
-// What `flows` prints of a portfolio over fixings, with these words behind the files, and its status.
+// Words, which stand between `|`, what they print of a portfolio over fixings, and the status.
 #[derive(Clone, Copy)]
 struct Fixed {
     text: &'static [u8],
     table: &'static [u8],
-    until: Option<&'static str>,
+    words: &'static str,
     output: &'static [u8],
     status: Status,
 }
-
-// Runs `flows` on a row's files, with its day where it has one.
-fn prints(rt: &impl Abort, alloc: Global, row: &Fixed) -> Result<(), Fail> {
-    let mut files = two_files(alloc, row.text, row.table, &[3])?;
-    let mut out = MemorySink::new(alloc, Vec::new(alloc), ROOM, ROOM)?;
-    let status = match row.until {
-        None => run(
-            alloc,
-            &["flows", "desk.txt", "fix.csv"],
-            &mut files,
-            &mut out,
-        ),
-        Some(day) => run(
-            alloc,
-            &["flows", "desk.txt", "fix.csv", "--until", day],
-            &mut files,
-            &mut out,
-        ),
-    };
-    assert_eq!(rt; out.taken(), row.output);
-    assert!(rt; status == row.status);
-    Ok(())
-}
-
-pub const TOUCH: &[u8] =
-    b"portfolio 1; amounts 2; party A, B, C; asset EUR; num FX : 4 in 0.5000 .. 2.0000;
-contract touch = if (obs(FX, 0) > 1.1000) within 3 then scale(1.00, pay(EUR, A, B)) else scale(2.00, pay(EUR, B, A));";
-
-pub const RISING: &[u8] = b"label,day,value\nFX,0,1.0000\nFX,1,1.0000\nFX,2,1.0000\nFX,3,1.2000\n";
 
 const LEVEL: &[u8] = b"label,day,value\nFX,0,1.0000\nFX,1,1.0000\nFX,2,1.0000\nFX,3,1.0000\n";
 
@@ -425,14 +343,14 @@ fn prints_flows_over_fixings(rt: HostRuntime) -> Result<(), Fail> {
         Fixed {
             text: TOUCH,
             table: RISING,
-            until: None,
+            words: "flows|desk.txt|fix.csv",
             output: b"touch,3,A,B,EUR,1.00\n",
             status: Status::Done,
         },
         Fixed {
             text: TOUCH,
             table: LEVEL,
-            until: None,
+            words: "flows|desk.txt|fix.csv",
             output: b"touch,3,B,A,EUR,2.00\n",
             status: Status::Done,
         },
@@ -440,14 +358,14 @@ fn prints_flows_over_fixings(rt: HostRuntime) -> Result<(), Fail> {
         Fixed {
             text: TOUCH,
             table: SHORT,
-            until: Some("2"),
+            words: "flows|desk.txt|fix.csv|--until|2",
             output: b"",
             status: Status::Done,
         },
         Fixed {
             text: TOUCH,
             table: SHORT,
-            until: Some("000000003"),
+            words: "flows|desk.txt|fix.csv|--until|000000003",
             output: b"fault missing FX 3\n",
             status: Status::Missing,
         },
@@ -456,7 +374,7 @@ fn prints_flows_over_fixings(rt: HostRuntime) -> Result<(), Fail> {
             text: b"portfolio 1; amounts 2; party A, B; asset EUR; num FX : 4 in 0.5000 .. 2.0000;
 contract avg = after(3, scale(div(half_even, 2, acc(x, (x + obs(FX, 0)), 3, 0.0000), 3), pay(EUR, A, B)));",
             table: b"label,day,value\nFX,1,1.0000\nFX,2,1.1000\nFX,3,1.2000\n",
-            until: None,
+            words: "flows|desk.txt|fix.csv",
             output: b"avg,3,A,B,EUR,1.10\n",
             status: Status::Done,
         },
@@ -465,7 +383,7 @@ contract avg = after(3, scale(div(half_even, 2, acc(x, (x + obs(FX, 0)), 3, 0.00
 contract option = after(90, if (obs(FX, 0) > 1.1000) within 0
     then scale(round(half_even, 2, ((obs(FX, 0) - 1.1000) * 100000.00)), pay(EUR, A, B)) else zero);",
             table: b"label,day,value\nFX,90,1.1234\n",
-            until: None,
+            words: "flows|desk.txt|fix.csv",
             output: b"option,90,A,B,EUR,2340.00\n",
             status: Status::Done,
         },
@@ -473,24 +391,24 @@ contract option = after(90, if (obs(FX, 0) > 1.1000) within 0
         Fixed {
             text: b"portfolio 1; amounts 2; party A, B; asset EUR; num FX : 4 in 0.5000 .. 2.0000;
 contract c = if true within 0 then pay(EUR, A, B) else scale(round(half_even, 2, obs(FX, 0)), pay(EUR, A, B));",
-            table: b"label,day,value\n",
-            until: None,
+            table: NOTHING_FIXED,
+            words: "flows|desk.txt|fix.csv",
             output: b"c,0,A,B,EUR,1.00\n",
             status: Status::Done,
         },
         Fixed {
             text: b"portfolio 1; amounts 2; party A, B; asset EUR; num FX : 4 in 0.5000 .. 2.0000;
 contract c = scale(round(half_even, 2, obs(FX, 0)), after(5, pay(EUR, A, B)));",
-            table: b"label,day,value\n",
-            until: Some("4"),
+            table: NOTHING_FIXED,
+            words: "flows|desk.txt|fix.csv|--until|4",
             output: b"",
             status: Status::Done,
         },
         Fixed {
             text: b"portfolio 1; amounts 2; party A, B; asset EUR; num FX : 4 in 0.5000 .. 2.0000;
 contract c = scale(round(half_even, 2, obs(FX, 0)), after(5, pay(EUR, A, B)));",
-            table: b"label,day,value\n",
-            until: Some("5"),
+            table: NOTHING_FIXED,
+            words: "flows|desk.txt|fix.csv|--until|5",
             output: b"fault missing FX 0\n",
             status: Status::Missing,
         },
@@ -499,7 +417,7 @@ contract c = scale(round(half_even, 2, obs(FX, 0)), after(5, pay(EUR, A, B)));",
             text: b"portfolio 1; amounts 2; party A, B; asset EUR; num FX : 4 in 0.5000 .. 2.0000;
 contract c = both(scale(round(half_even, 2, obs(FX, 0)), pay(EUR, A, B)), scale(round(half_even, 2, obs(FX, -1)), pay(EUR, B, A)));",
             table: b"label,day,value\nFX,0,1.0000\n",
-            until: None,
+            words: "flows|desk.txt|fix.csv",
             output: b"fault missing FX -1\n",
             status: Status::Missing,
         },
@@ -508,13 +426,14 @@ contract c = both(scale(round(half_even, 2, obs(FX, 0)), pay(EUR, A, B)), scale(
             text: b"portfolio 1; amounts 2; origin 2024-01-15; start 0; party A, B, C; asset EUR; flag Default_B; template T = 90;
 contract guarded = if obs(Default_B, 0) within T then scale(40.00, pay(EUR, C, A)) else scale(100.00, pay(EUR, B, A));",
             table: b"label,day,value\nDefault_B,2024-01-15,false\nDefault_B,1,false\nDefault_B,2024-01-17,true\n",
-            until: Some("2024-01-17"),
+            words: "flows|desk.txt|fix.csv|--until|2024-01-17",
             output: b"guarded,2024-01-17,C,A,EUR,40.00\n",
             status: Status::Done,
         },
     ];
     for row in &rows {
-        prints(&rt, alloc, row)?;
+        let files = two_files(alloc, row.text, row.table, &[3])?;
+        prints(&rt, alloc, row.words, files, row.output, row.status)?;
     }
     Ok(())
 }
@@ -526,7 +445,7 @@ fn says_what_stops_flows(rt: HostRuntime) -> Result<(), Fail> {
         Fixed {
             text: TOUCH,
             table: b"label,day,value\nFX,0,1.0000\nFX,0,1.1\n",
-            until: None,
+            words: "flows|desk.txt|fix.csv",
             output: b"fault row file 2 record 3 conflict with 2\n",
             status: Status::BadRow,
         },
@@ -534,57 +453,57 @@ fn says_what_stops_flows(rt: HostRuntime) -> Result<(), Fail> {
         Fixed {
             text: TOUCH,
             table: b"label,day,value\nFX,5,1.0\nFX,0,1.0\nFX,5,1.1\nFX,0,9.0\n",
-            until: None,
+            words: "flows|desk.txt|fix.csv",
             output: b"fault row file 2 record 4 conflict with 2\n",
             status: Status::BadRow,
         },
         Fixed {
             text: TOUCH,
             table: b"label,day,value\nFX,5,1.0\nFX,0,1.0\nFX,0,9.0\nFX,5,1.1\n",
-            until: None,
+            words: "flows|desk.txt|fix.csv",
             output: b"fault row file 2 record 4 bounds\n",
             status: Status::BadRow,
         },
         Fixed {
             text: TOUCH,
             table: b"label,day,value\nFX,0,2.0001\n",
-            until: None,
+            words: "flows|desk.txt|fix.csv",
             output: b"fault row file 2 record 2 bounds\n",
             status: Status::BadRow,
         },
         Fixed {
             text: TOUCH,
             table: b"",
-            until: None,
+            words: "flows|desk.txt|fix.csv",
             output: b"fault row file 2 record 1 shape\n",
             status: Status::BadRow,
         },
         // A day below the start, above the last, or a date without an origin.
         Fixed {
             text: b"portfolio 1; amounts 2; start 5; party A, B; asset EUR; contract c = pay(EUR, A, B);",
-            table: b"label,day,value\n",
-            until: Some("4"),
+            table: NOTHING_FIXED,
+            words: "flows|desk.txt|fix.csv|--until|4",
             output: b"fault day 4\n",
             status: Status::DayRange,
         },
         Fixed {
             text: b"portfolio 1; amounts 2; start 5; party A, B; asset EUR; contract c = pay(EUR, A, B);",
-            table: b"label,day,value\n",
-            until: Some("5"),
+            table: NOTHING_FIXED,
+            words: "flows|desk.txt|fix.csv|--until|5",
             output: b"c,5,A,B,EUR,1.00\n",
             status: Status::Done,
         },
         Fixed {
             text: TOUCH,
             table: LEVEL,
-            until: Some("1100001"),
+            words: "flows|desk.txt|fix.csv|--until|1100001",
             output: b"fault day 1100001\n",
             status: Status::DayRange,
         },
         Fixed {
             text: TOUCH,
             table: LEVEL,
-            until: Some("2024-01-15"),
+            words: "flows|desk.txt|fix.csv|--until|2024-01-15",
             output: b"fault day 2024-01-15\n",
             status: Status::DayRange,
         },
@@ -592,7 +511,7 @@ fn says_what_stops_flows(rt: HostRuntime) -> Result<(), Fail> {
         Fixed {
             text: b"portfolio 1;\namounts 2;\nparty A, B",
             table: b"",
-            until: Some("1100001"),
+            words: "flows|desk.txt|fix.csv|--until|1100001",
             output: b"fault text syntax line 3 column 11\n",
             status: Status::BadText,
         },
@@ -600,20 +519,21 @@ fn says_what_stops_flows(rt: HostRuntime) -> Result<(), Fail> {
             text: b"portfolio 1; amounts 2; party A, B; asset EUR; num FX : 4 in 0.5000 .. 2.0000;
 contract a = pay(EUR, A, B); contract b = scale(obs(FX, 1), pay(EUR, A, B)); contract c = scale(true, pay(EUR, A, B));",
             table: b"",
-            until: None,
+            words: "flows|desk.txt|fix.csv",
             output: b"fault refused b time node 0\n",
             status: Status::Refused,
         },
         Fixed {
             text: TOUCH,
             table: b"label,day,value\nEUR,0,1\n",
-            until: None,
+            words: "flows|desk.txt|fix.csv",
             output: b"fault row file 2 record 2 label\n",
             status: Status::BadRow,
         },
     ];
     for row in &rows {
-        prints(&rt, alloc, row)?;
+        let files = two_files(alloc, row.text, row.table, &[3])?;
+        prints(&rt, alloc, row.words, files, row.output, row.status)?;
     }
     Ok(())
 }
@@ -621,28 +541,30 @@ contract a = pay(EUR, A, B); contract b = scale(obs(FX, 1), pay(EUR, A, B)); con
 #[test]
 fn says_which_of_two_files_fails(rt: HostRuntime) -> Result<(), Fail> {
     let alloc = rt.alloc();
-    let words = ["flows", "desk.txt", "fix.csv"];
+    let line = "flows|desk.txt|fix.csv";
     let rows: [(u64, &[u8]); 2] = [(1, b"fault read 1\n"), (2, b"fault read 2\n")];
     for (fails, output) in rows {
-        let mut files = two_files(alloc, TOUCH, RISING, &[fails])?;
-        let mut out = MemorySink::new(alloc, Vec::new(alloc), ROOM, ROOM)?;
-        assert!(rt; run(alloc, &words, &mut files, &mut out) == Status::ReadFault);
-        assert_eq!(rt; out.taken(), output);
+        let files = two_files(alloc, TOUCH, RISING, &[fails])?;
+        prints(&rt, alloc, line, files, output, Status::ReadFault)?;
     }
     // A file that is too long is told before a text that is none.
-    let mut long = b"label,day,value\n".to_vec(alloc)?;
+    let mut long = NOTHING_FIXED.to_vec(alloc)?;
     long.resize(16_777_217, b'\n')?;
-    let mut files = two_files(alloc, b"no text", &long, &[])?;
-    let mut out = MemorySink::new(alloc, Vec::new(alloc), ROOM, ROOM)?;
-    assert!(rt; run(alloc, &words, &mut files, &mut out) == Status::TooLong);
-    assert_eq!(rt; out.taken(), b"fault too long 2\n".as_slice());
-    Ok(())
+    let files = two_files(alloc, b"no text", &long, &[])?;
+    prints(
+        &rt,
+        alloc,
+        line,
+        files,
+        b"fault too long 2\n",
+        Status::TooLong,
+    )
 }
 
-// What `sample` prints, where no file can be read, and its status.
+// What the words of `sample` print, where no file can be read, and their status.
 #[derive(Clone, Copy)]
 struct Sampled {
-    number: &'static str,
+    words: &'static str,
     output: &'static [u8],
     status: Status,
 }
@@ -652,40 +574,37 @@ fn summarizes_the_sample(rt: HostRuntime) -> Result<(), Fail> {
     let alloc = rt.alloc();
     let rows = [
         Sampled {
-            number: "1",
+            words: "sample|1",
             output: b"contracts 1\nlines 1\nA,B,EUR,120.02\n",
             status: Status::Done,
         },
         Sampled {
-            number: "2",
+            words: "sample|2",
             output: b"contracts 2\nlines 2\nA,B,EUR,240.04\n",
             status: Status::Done,
         },
         Sampled {
-            number: "50",
+            words: "sample|50",
             output: b"contracts 50\nlines 50\nA,B,EUR,6315.62\n",
             status: Status::Done,
         },
         Sampled {
-            number: "0",
+            words: "sample|0",
             output: b"fault usage\n",
             status: Status::Usage,
         },
         Sampled {
-            number: "10001",
+            words: "sample|10001",
             output: b"fault usage\n",
             status: Status::Usage,
         },
     ];
     for row in &rows {
-        let mut files = one_file(alloc, b"loan.txt", LOAN, &[1])?;
-        let mut out = MemorySink::new(alloc, Vec::new(alloc), ROOM, ROOM)?;
-        let status = run(alloc, &["sample", row.number], &mut files, &mut out);
-        assert_eq!(rt; out.taken(), row.output);
-        assert!(rt; status == row.status);
+        let files = one_file(alloc, "loan.txt", LOAN, &[1])?;
+        prints(&rt, alloc, row.words, files, row.output, row.status)?;
     }
     // On a sink that fails at once, the status is that of the write.
-    let mut files = one_file(alloc, b"loan.txt", LOAN, &[1])?;
+    let mut files = one_file(alloc, "loan.txt", LOAN, &[1])?;
     let mut out = MemorySink::new(alloc, [1].to_vec(alloc)?, ROOM, ROOM)?;
     let status = run(alloc, &["sample", "1"], &mut files, &mut out);
     assert!(rt; out.taken().is_empty());

@@ -1,8 +1,8 @@
 // What `value` prints, and what stops it.
 
-use crate::tests::ROOM;
-use crate::{Status, run};
-use edge_io::{Entry, MemoryFiles, MemorySink};
+use crate::Status;
+use crate::test_runs::{CURVE, LOAN_CODE, NOTHING_FIXED, entry, prints};
+use edge_io::MemoryFiles;
 use std::alloc::{AllocError, Global};
 use std::process::Abort;
 use std::test::Fail;
@@ -18,52 +18,23 @@ struct Valued {
     status: Status,
 }
 
-fn entry(alloc: Global, name: &[u8], bytes: &[u8]) -> Result<Entry, AllocError> {
-    Ok(Entry {
-        name: name.to_vec(alloc)?,
-        bytes: bytes.to_vec(alloc)?,
-        faults: 0,
-    })
-}
-
 // The files of a row, of which no fourth is read.
 fn files_of(alloc: Global, row: &Valued) -> Result<MemoryFiles, AllocError> {
     let mut entries = Vec::new(alloc);
-    entries.push(entry(alloc, b"code.txt", row.code)?)?;
-    entries.push(entry(alloc, b"fix.csv", row.table)?)?;
-    entries.push(entry(alloc, b"curve.csv", row.curve)?)?;
+    entries.push(entry(alloc, "code.txt", row.code)?)?;
+    entries.push(entry(alloc, "fix.csv", row.table)?)?;
+    entries.push(entry(alloc, "curve.csv", row.curve)?)?;
     let mut fail = Vec::new(alloc);
     fail.push(4)?;
     Ok(MemoryFiles::new(entries, fail))
 }
 
+// A row's words, behind those of its files.
 fn values(rt: &impl Abort, alloc: Global, row: &Valued) -> Result<(), Fail> {
-    let mut words = Vec::new(alloc);
-    for word in ["value", "code.txt", "fix.csv", "curve.csv"] {
-        words.push(word)?;
-    }
-    for word in row.words.split('|') {
-        words.push(word)?;
-    }
-    let mut files = files_of(alloc, row)?;
-    let mut out = MemorySink::new(alloc, Vec::new(alloc), ROOM, ROOM)?;
-    let status = run(alloc, &words, &mut files, &mut out);
-    assert_eq!(rt; out.taken(), row.output);
-    assert!(rt; status == row.status);
-    Ok(())
+    let line = format!(in alloc; "value|code.txt|fix.csv|curve.csv|{}", row.words)?;
+    let files = files_of(alloc, row)?;
+    prints(rt, alloc, &line, files, row.output, row.status)
 }
-
-const NOTHING_FIXED: &[u8] = b"label,day,value\n";
-
-const CURVE: &[u8] = b"offset,factor\n0,1.000000000\n90,0.990000000\n";
-
-const LOAN: &[u8] = b"payoff 1;
-amounts 2;
-start 0;
-party A, B, C;
-asset EUR;
-code loan = add(scale(100.00, cut(0, pay(0, EUR, A, B))), scale(105.00, cut(90, pay(90, EUR, B, A))));
-";
 
 const NAMED_LOAN: &[u8] = b"payoff 1; amounts 2; party A, B, C; asset EUR; template T = 90;
 code loan = add(scale(100.00, cut(0, pay(0, EUR, A, B))), scale(105.00, cut(0 + T, pay(0 + T, EUR, B, A))));";
@@ -103,29 +74,29 @@ const fn worth(code: &'static [u8], words: &'static str, output: &'static [u8]) 
 fn values_code(rt: HostRuntime) -> Result<(), Fail> {
     let alloc = rt.alloc();
     let rows = [
-        worth(LOAN, PRESENT, b"-3.95000000000\n"),
+        worth(LOAN_CODE, PRESENT, b"-3.95000000000\n"),
         worth(
-            LOAN,
+            LOAN_CODE,
             "--at|1|--from|A|--to|B|--asset|EUR",
             b"-105.00000000000\n",
         ),
         worth(
-            LOAN,
+            LOAN_CODE,
             "--at|90|--from|A|--to|B|--asset|EUR",
             b"-105.00000000000\n",
         ),
         worth(
-            LOAN,
+            LOAN_CODE,
             "--at|91|--from|A|--to|B|--asset|EUR",
             b"0.00000000000\n",
         ),
         worth(
-            LOAN,
+            LOAN_CODE,
             "--at|0|--from|B|--to|A|--asset|EUR",
             b"3.95000000000\n",
         ),
         worth(
-            LOAN,
+            LOAN_CODE,
             "--at|0|--from|A|--to|A|--asset|EUR",
             b"0.00000000000\n",
         ),
@@ -188,12 +159,12 @@ fn values_are_refused(rt: HostRuntime) -> Result<(), Fail> {
         Valued {
             curve: b"offset,factor\n",
             status: Status::BadRow,
-            ..worth(LOAN, PRESENT, b"fault row file 3 record 2 zero\n")
+            ..worth(LOAN_CODE, PRESENT, b"fault row file 3 record 2 zero\n")
         },
         Valued {
             curve: b"offset,factor\n0,1\n0,0.5\n",
             status: Status::BadRow,
-            ..worth(LOAN, PRESENT, b"fault row file 3 record 3 rising\n")
+            ..worth(LOAN_CODE, PRESENT, b"fault row file 3 record 3 rising\n")
         },
         // The rows of the fixings come before those of the curve.
         Valued {
@@ -206,7 +177,7 @@ fn values_are_refused(rt: HostRuntime) -> Result<(), Fail> {
         Valued {
             status: Status::UnknownName,
             ..worth(
-                LOAN,
+                LOAN_CODE,
                 "S=1|--at|2000000|--from|A|--to|Z|--asset|USD",
                 b"fault unknown Z\n",
             )
@@ -214,7 +185,7 @@ fn values_are_refused(rt: HostRuntime) -> Result<(), Fail> {
         Valued {
             status: Status::UnknownName,
             ..worth(
-                LOAN,
+                LOAN_CODE,
                 "S=1|--at|2000000|--from|A|--to|B|--asset|USD",
                 b"fault unknown USD\n",
             )
@@ -230,7 +201,7 @@ fn values_are_refused(rt: HostRuntime) -> Result<(), Fail> {
         Valued {
             status: Status::DayRange,
             ..worth(
-                LOAN,
+                LOAN_CODE,
                 "--at|2000000|--from|A|--to|B|--asset|EUR",
                 b"fault day 2000000\n",
             )
@@ -238,7 +209,7 @@ fn values_are_refused(rt: HostRuntime) -> Result<(), Fail> {
         Valued {
             status: Status::DayRange,
             ..worth(
-                LOAN,
+                LOAN_CODE,
                 "--at|2024-01-15|--from|A|--to|B|--asset|EUR",
                 b"fault day 2024-01-15\n",
             )
@@ -248,7 +219,7 @@ fn values_are_refused(rt: HostRuntime) -> Result<(), Fail> {
             code: b"payoff 1; amounts 2; party A, B, C; asset EUR; code c = loop true upto -1 then none else none;",
             curve: b"",
             status: Status::Refused,
-            ..worth(LOAN, PRESENT, b"fault refused c size node 0\n")
+            ..worth(LOAN_CODE, PRESENT, b"fault refused c size node 0\n")
         },
         Valued {
             status: Status::Usage,
@@ -260,12 +231,12 @@ fn values_are_refused(rt: HostRuntime) -> Result<(), Fail> {
         },
         Valued {
             status: Status::Usage,
-            ..worth(LOAN, "--at|0|--from|A|--to|B", b"fault usage\n")
+            ..worth(LOAN_CODE, "--at|0|--from|A|--to|B", b"fault usage\n")
         },
         Valued {
             code: b"portfolio 1; amounts 2;",
             status: Status::BadText,
-            ..worth(LOAN, PRESENT, b"fault text syntax line 1 column 1\n")
+            ..worth(LOAN_CODE, PRESENT, b"fault text syntax line 1 column 1\n")
         },
     ];
     for row in &rows {

@@ -1,42 +1,37 @@
+// The words of each command: lines that are refused, and lines that are taken.
+
+use crate::test_runs::{CURVE, NOTHING_FIXED, ROOM, entry, ran};
 use crate::{Status, run};
-use edge_io::{Entry, MemoryFiles, MemorySink};
+use edge_io::{MemoryFiles, MemorySink};
 use std::alloc::{AllocError, Global};
 use std::process::Abort;
 use std::test::Fail;
 
-const ROOM: usize = 4_096;
-
-const LOAN: &[u8] = b"portfolio 1; amounts 2; origin 2024-01-15; party A, B, C; asset EUR;
+const DATED_LOAN: &[u8] = b"portfolio 1; amounts 2; origin 2024-01-15; party A, B, C; asset EUR;
 contract loan = both(scale(100.00, pay(EUR, A, B)), after(90, scale(105.00, pay(EUR, B, A))));";
 
-// The loan by several names, and a table of no fixings.
+const DATED_CODE: &[u8] =
+    b"payoff 1; amounts 2; origin 2024-01-15; party A, B, C; asset EUR; template T = 90;
+code loan = add(scale(100.00, cut(0, pay(0, EUR, A, B))), scale(105.00, cut(0 + T, pay(0 + T, EUR, B, A))));";
+
+// The loan by several names, its code by two, and a table and a curve by one.
 fn desk(alloc: Global) -> Result<MemoryFiles, AllocError> {
     let mut entries = Vec::new(alloc);
     for name in ["loan.txt", "", "-", "-x", "--", "--until", "prêt.txt"] {
-        entries.push(Entry {
-            name: name.as_bytes().to_vec(alloc)?,
-            bytes: LOAN.to_vec(alloc)?,
-            faults: 0,
-        })?;
+        entries.push(entry(alloc, name, DATED_LOAN)?)?;
     }
-    entries.push(Entry {
-        name: b"fix.csv".to_vec(alloc)?,
-        bytes: b"label,day,value\n".to_vec(alloc)?,
-        faults: 0,
-    })?;
+    for name in ["code.txt", "T=30"] {
+        entries.push(entry(alloc, name, DATED_CODE)?)?;
+    }
+    entries.push(entry(alloc, "fix.csv", NOTHING_FIXED)?)?;
+    entries.push(entry(alloc, "curve.csv", CURVE)?)?;
     Ok(MemoryFiles::new(entries, Vec::new(alloc)))
 }
 
 // Runs each line's words, which stand between `|`: all print this.
 fn print_all(rt: &impl Abort, alloc: Global, lines: &str, output: &[u8]) -> Result<(), Fail> {
     for line in lines.split('\n') {
-        let mut words = Vec::new(alloc);
-        for word in line.split('|') {
-            words.push(word)?;
-        }
-        let mut files = desk(alloc)?;
-        let mut out = MemorySink::new(alloc, Vec::new(alloc), ROOM, ROOM)?;
-        run(alloc, &words, &mut files, &mut out);
+        let (_, out) = ran(alloc, line, desk(alloc)?)?;
         assert_eq!(rt; out.taken(), output);
     }
     Ok(())
@@ -134,6 +129,67 @@ sample|--net|1
 sample|1|--net
 sample|--help";
 
+// `value` is given three files, in their order and before its settings, each option once, and a number for a name once. A number
+// that is set is digits, of at most 100,000; behind `--` every word is a file or a setting.
+const VALUE_REFUSED: &str = "value
+value|--help
+value|--at|0|--from|A|--to|B|--asset|EUR
+value|code.txt|--at|0|--from|A|--to|B|--asset|EUR
+value|code.txt|fix.csv|--at|0|--from|A|--to|B|--asset|EUR
+value|code.txt|fix.csv|curve.csv
+value|code.txt|fix.csv|curve.csv|--from|A|--to|B|--asset|EUR
+value|code.txt|fix.csv|curve.csv|--at|0|--to|B|--asset|EUR
+value|code.txt|fix.csv|curve.csv|--at|0|--from|A|--asset|EUR
+value|code.txt|fix.csv|curve.csv|--at|0|--from|A|--to|B
+value|code.txt|fix.csv|curve.csv|--at|0|--from|A|--to|B|--asset|EUR|--at|0
+value|code.txt|fix.csv|curve.csv|--at|0|--from|A|--to|B|--asset|EUR|--from|A
+value|code.txt|fix.csv|curve.csv|--at|0|--from|A|--to|B|--asset|EUR|--to|B
+value|code.txt|fix.csv|curve.csv|--at|0|--from|A|--to|B|--asset|EUR|--asset|EUR
+value|code.txt|fix.csv|curve.csv|T=1|T=1|--at|0|--from|A|--to|B|--asset|EUR
+value|code.txt|fix.csv|curve.csv|T=1|--at|0|--from|A|--to|B|--asset|EUR|T=2
+value|code.txt|fix.csv|curve.csv|--from|A|--to|B|--asset|EUR|--at
+value|code.txt|fix.csv|curve.csv|--at|0|--to|B|--asset|EUR|--from
+value|code.txt|fix.csv|curve.csv|--at|0|--from|A|--asset|EUR|--to
+value|code.txt|fix.csv|curve.csv|--at|0|--from|A|--to|B|--asset
+value|code.txt|fix.csv|curve.csv|--at|--from|A|--to|B|--asset|EUR
+value|code.txt|fix.csv|curve.csv|--at=|--from|A|--to|B|--asset|EUR
+value|code.txt|fix.csv|curve.csv|--at||--from|A|--to|B|--asset|EUR
+value|code.txt|fix.csv|curve.csv|--at|0|--from=|--to|B|--asset|EUR
+value|code.txt|fix.csv|curve.csv|--at|0|--from|A|--to||--asset|EUR
+value|code.txt|fix.csv|curve.csv|--at|2024-02-30|--from|A|--to|B|--asset|EUR
+value|code.txt|fix.csv|curve.csv|--at|-1|--from|A|--to|B|--asset|EUR
+value|code.txt|fix.csv|curve.csv|--at|+1|--from|A|--to|B|--asset|EUR
+value|code.txt|fix.csv|curve.csv|--at|0000000000|--from|A|--to|B|--asset|EUR
+value|code.txt|fix.csv|curve.csv|--at|demain|--from|A|--to|B|--asset|EUR
+value|code.txt|fix.csv|curve.csv|--at=-1|--from|A|--to|B|--asset|EUR
+value|code.txt|fix.csv|curve.csv|--at|0|--from|1a|--to|B|--asset|EUR
+value|code.txt|fix.csv|curve.csv|--at|0|--from|A|--to|pay|--asset|EUR
+value|code.txt|fix.csv|curve.csv|--at|0|--from|A|--to|B|--asset|prêt
+value|code.txt|fix.csv|curve.csv|--at|0|--from|aaaaaaaaaaaaaaaaaaaaaaaaaaaaaaaaaaaaaaaaaaaaaaaaaaaaaaaaaaaaaaaaa|--to|B|--asset|EUR
+value|code.txt|fix.csv|curve.csv|--at|0|--from|A|--to|B|--asset|EUR|--on|0
+value|code.txt|fix.csv|curve.csv|--at|0|--from|A|--to|B|--asset|EUR|--until|1
+value|code.txt|fix.csv|curve.csv|--at|0|--from|A|--to|B|--asset|EUR|--net
+value|code.txt|fix.csv|curve.csv|--at|0|--from|A|--to|B|--asset|EUR|--plain
+value|code.txt|fix.csv|curve.csv|--at|0|--from|A|--to|B|--asset|EUR|--setting|T=1
+value|code.txt|fix.csv|--curve|curve.csv|--at|0|--from|A|--to|B|--asset|EUR
+value|code.txt|--fixings|fix.csv|curve.csv|--at|0|--from|A|--to|B|--asset|EUR
+value|code.txt|fix.csv|curve.csv|--fro|A|--at|0|--to|B|--asset|EUR
+value|code.txt|fix.csv|curve.csv|-a|0|--from|A|--to|B|--asset|EUR
+value|code.txt|fix.csv|curve.csv|--|--at|0|--from|A|--to|B|--asset|EUR
+value|code.txt|fix.csv|curve.csv|curve.csv|--at|0|--from|A|--to|B|--asset|EUR
+value|code.txt|fix.csv|curve.csv|T|--at|0|--from|A|--to|B|--asset|EUR
+value|code.txt|fix.csv|curve.csv|T=|--at|0|--from|A|--to|B|--asset|EUR
+value|code.txt|fix.csv|curve.csv|=1|--at|0|--from|A|--to|B|--asset|EUR
+value|code.txt|fix.csv|curve.csv|T=x|--at|0|--from|A|--to|B|--asset|EUR
+value|code.txt|fix.csv|curve.csv|T=-1|--at|0|--from|A|--to|B|--asset|EUR
+value|code.txt|fix.csv|curve.csv|T=+1|--at|0|--from|A|--to|B|--asset|EUR
+value|code.txt|fix.csv|curve.csv|T=1=1|--at|0|--from|A|--to|B|--asset|EUR
+value|code.txt|fix.csv|curve.csv|T=100001|--at|0|--from|A|--to|B|--asset|EUR
+value|code.txt|fix.csv|curve.csv|1a=1|--at|0|--from|A|--to|B|--asset|EUR
+value|code.txt|fix.csv|curve.csv|pay=1|--at|0|--from|A|--to|B|--asset|EUR
+value|code.txt|fix.csv|curve.csv|T:1|--at|0|--from|A|--to|B|--asset|EUR
+value|code.txt|fix.csv|curve.csv||--at|0|--from|A|--to|B|--asset|EUR";
+
 const CHECKED: &str = "check|loan.txt
 check|--|loan.txt
 check|-
@@ -170,6 +226,25 @@ advance|--to=000000030|--|-x|fix.csv";
 const COMPILED: &str = "payoff|loan.txt|--contract|loan
 payoff|--contract=loan|loan.txt
 payoff|--contract|loan|--|-x";
+
+// The code at 90, the declared number. The first three words that are no options are the files, whatever they look like.
+const VALUED_AT_90: &str = "value|code.txt|fix.csv|curve.csv|--at|0|--from|A|--to|B|--asset|EUR
+value|code.txt|fix.csv|curve.csv|T=90|--at|0|--from|A|--to|B|--asset|EUR
+value|code.txt|fix.csv|curve.csv|--at|0|--from|A|--to|B|--asset|EUR|T=90
+value|code.txt|fix.csv|curve.csv|--at|0|--from|A|T=90|--to|B|--asset|EUR
+value|code.txt|fix.csv|curve.csv|T=0000000000090|--at|0|--from|A|--to|B|--asset|EUR
+value|--at|0|--from|A|--to|B|--asset|EUR|code.txt|fix.csv|curve.csv
+value|--asset|EUR|--to|B|code.txt|--from|A|fix.csv|--at|0|curve.csv
+value|--at=0|code.txt|--from=A|fix.csv|--to=B|curve.csv|--asset=EUR
+value|code.txt|fix.csv|curve.csv|--at|000000000|--from|A|--to|B|--asset|EUR
+value|code.txt|fix.csv|curve.csv|--at|2024-01-15|--from|A|--to|B|--asset|EUR
+value|--at|0|--from|A|--to|B|--asset|EUR|--|T=30|fix.csv|curve.csv
+value|T=30|fix.csv|curve.csv|T=90|--at|0|--from|A|--to|B|--asset|EUR";
+
+const VALUED_AT_30: &str = "value|code.txt|fix.csv|curve.csv|T=30|--at|0|--from|A|--to|B|--asset|EUR
+value|code.txt|fix.csv|curve.csv|--at|0|--from|A|--to|B|--asset|EUR|T=30
+value|T=30|fix.csv|curve.csv|T=30|--at|0|--from|A|--to|B|--asset|EUR
+value|--at|0|--from|A|--to|B|--asset|EUR|--|code.txt|fix.csv|curve.csv|T=30";
 
 const SAMPLE_OF_7: &str = "sample|7
 sample|007
@@ -208,8 +283,10 @@ code loan = add(scale(100.00, cut(0, pay(0, EUR, A, B))), scale(105.00, cut(90, 
     print_all(&rt, alloc, COMPILED, code)?;
     let sums = b"contracts 7\nlines 7\nA,B,EUR,840.14\n";
     print_all(&rt, alloc, SAMPLE_OF_7, sums)?;
-    let mut files = desk(alloc)?;
+    print_all(&rt, alloc, VALUE_REFUSED, b"fault usage\n")?;
+    print_all(&rt, alloc, VALUED_AT_90, b"-3.95000000000\n")?;
+    print_all(&rt, alloc, VALUED_AT_30, b"-5.00000000000\n")?;
     let mut out = MemorySink::new(alloc, Vec::new(alloc), ROOM, ROOM)?;
-    assert!(rt; run(alloc, &[], &mut files, &mut out) == Status::Usage);
+    assert!(rt; run(alloc, &[], &mut desk(alloc)?, &mut out) == Status::Usage);
     Ok(())
 }
