@@ -13,7 +13,7 @@ use Rattle.report.specs.declared.fault_lines.Fault.{Fault}
 use Rattle.command_words.specs.Commands.{Advance, AdvanceAsked, Asked, Check, Flows, OnCode, OnFiles, Payoff, PayoffAsked, Sample, ValueAsked}
 use Rattle.command_words.specs.Words.{request_of}
 use Rattle.contract_cli.specs.FilesPromise.{Answers, Inputs, Stops, ValueAnswers, not_spelled, on_portfolio, stopped as stops_on, told, value_stopped, value_told}
-use Rattle.contract_cli.specs.Headline.{HasAdvanced, HasChecked, HasCompiled, HasValued, Headline, IsWorthOfContract, Judged}
+use Rattle.contract_cli.specs.Headline.{HasAdvanced, HasChecked, HasCompiled, HasValued, Headline, IsPresentValue, Judged}
 use Rattle.contract_cli.specs.RunPromise.{Cause, stopped, answered, valued, sampled, Edge, FileFault, read_failed, read_long, FilesSeen, by_command, by_value, Meets, written, broken, lacking, Names, NamesValue, StopsRun, no_form, at_file, WereRead, WereReadForValue, WritesAll}
 use Rattle.contract_cli.specs.Statuses.{status_of}
 use Rattle.contract_cli.specs.ValuePromise.{CanValue, IsValueText, ValueInputs, question, setting_by}
@@ -161,7 +161,8 @@ module _ (b : CodeBook) (asked : ValueAsked) (inputs : ValueInputs) (can : CanVa
     asset = place_within b.declarations.assets asked.between.asset can.flow.asset can.between.asset;
   }
 
-worth_of : (b : CodeBook) (asked : ValueAsked) (inputs : ValueInputs) (text : List ℕ) (h : IsValueText b asked inputs text) (c : Contract) → IsWorthOfContract b asked inputs h.can h.amount c
+worth_of : (b : CodeBook) (asked : ValueAsked) (inputs : ValueInputs) (text : List ℕ) (h : IsValueText b asked inputs text) (c : Contract)
+    → CodeMeans b.declarations b.code c Remaining → IsPresentValue b asked inputs h.can h.amount c
 worth_of b asked inputs text h c means accepted env admitted extends =
     sym (h.is_value env extends)
     ∙ means.values (setting_by b.declarations asked.settings) env (question h.can.day h.can.curve h.can.flow) (may_be_asked b asked inputs h.can c env accepted admitted)

@@ -17,11 +17,11 @@ use Rattle.command_words.specs.Commands.{AdvanceAsked, PayoffAsked, ValueAsked}
 use Rattle.contract_cli.specs.AdvanceLaws.{IsTextOfRest}
 use Rattle.contract_cli.specs.AdvancePromise.{IsRestBook}
 use Rattle.contract_cli.specs.CheckPromise.{AreAllAccepted, IsCheckText, all_accepted, some_refused}
-use Rattle.contract_cli.specs.Headline.{HasAdvanced, HasCompiled, HasValued}
+use Rattle.contract_cli.specs.Headline.{HasAdvanced, HasCompiled, HasValued, IsAcceptedAtNumbers}
 use Rattle.contract_cli.specs.PayoffLaws.{counted}
 use Rattle.contract_cli.specs.RunLaws.{IsCarriedBook, IsOrNoMemory}
 use Rattle.contract_cli.specs.RunPromise.{Edge, SinkLeft, WasRead, WritesAll, WritesNothing}
-use Rattle.contract_cli.specs.TwoRuns.{AdvancedTextsAdvance, AdvancedTextsAreAccepted, IsAcceptedAtNumbers, Passes, Printed, PrintedCodeIsTaken, PrintedCodeIsValued}
+use Rattle.contract_cli.specs.TwoRuns.{AdvancedTextsAdvance, AdvancedTextsAreAccepted, Passes, Printed, PrintedCodeIsTaken, PrintedCodeIsValued}
 use Rattle.contract_cli.specs.UsedContracts.{used}
 use Rattle.contract_cli.specs.ValueLaws.{CodeIsRefused, IsAcceptedAtSetting}
 use Rattle.contract_cli.specs.ValuePromise.{setting_by}

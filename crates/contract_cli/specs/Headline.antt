@@ -3,15 +3,17 @@
 -- flows are those of the first, shifted, in every admitted environment that extends the fixings. `payoff` writes code that
 -- means its contract. And `value`, on code that means a contract, writes the discounted sum of what the contract still pays
 -- between two parties (Bahr, Berthold and Elsman, ICFP 2015; Annenkov and Elsman, PPDP 2018).
-use Rattle.std.specs.Prelude.{◌≡◌, ◌+◌, ◌⊎◌, ℕ, ℤ, pos, List, Option}
+use Rattle.std.specs.Prelude.{◌≡◌, ◌+◌, ◌⊎◌, ℕ, ℤ, pos, List}
 use Rattle.term_core.specs.Acceptance.{IsAccepted}
 use Rattle.term_core.specs.Books.{Book}
+use Rattle.term_core.specs.Declarations.{Declarations}
 use Rattle.term_core.specs.Environments.{Environment, Extends, IsAdmitted}
 use Rattle.term_core.specs.Instances.{instance}
 use Rattle.term_core.specs.Terms.{Contract}
 use Rattle.contract_parse.specs.Texts.{Text}
 use Rattle.payoff_lang.specs.CodeBooks.{CodeBook}
 use Rattle.payoff_lang.specs.CodeFiles.{CodeText}
+use Rattle.payoff_lang.specs.CodeValues.{Asked as Question}
 use Rattle.payoff_lang.specs.Meaning.{CodeMeans, Remaining, counting}
 use Rattle.payoff_lang.specs.PresentValues.{present_value}
 use Rattle.report.specs.ValueLines.{value_text}
@@ -59,17 +61,29 @@ pub record HasCompiled (edge : Edge) (asked : PayoffAsked) : Type 0 where
   pub ran : Ran edge (Payoff asked) book inputs text
   pub code : IsTextOfCode book asked text
 
--- a number is what a contract is worth that the code means with what is left to pay: at a setting at which the contract is
--- accepted, the sum of what it still pays from the one party to the other in the asset, each day with its discount factor, in
--- every admitted environment that extends the fixings
-abbrev pub IsWorthOfContract : (b : CodeBook) (asked : ValueAsked) (inputs : ValueInputs) → CanValue b asked inputs → ℤ → Contract → Type 0
-IsWorthOfContract b asked inputs can amount c =
-    CodeMeans b.declarations b.code c Remaining → IsAccepted b.declarations (instance (setting_by b.declarations asked.settings) c)
-    → (env : Environment) → IsAdmitted b.declarations env → Extends can.fixings env
-    → amount ≡ present_value b.declarations (instance (setting_by b.declarations asked.settings) c) env (pos b.declarations.start)
-    (counting (pos 0) (question can.day can.curve can.flow))
+-- a contract at the numbers that are set for `value`
+abbrev pub at_numbers : ValueAsked → Declarations → Contract → Contract
+at_numbers asked d c = instance (setting_by d asked.settings) c
 
--- `value` has written the value of every contract that the code means
+-- it is accepted there
+abbrev pub IsAcceptedAtNumbers : ValueAsked → Declarations → Contract → Type 0
+IsAcceptedAtNumbers asked d c = IsAccepted d (at_numbers asked d c)
+
+-- what a contract that stands on the start is worth, at the numbers that are set, where payments gone by count nothing
+abbrev pub value_left : CodeBook → ValueAsked → Contract → Environment → Question → ℤ
+value_left b asked c env asks =
+    present_value b.declarations (at_numbers asked b.declarations c) env (pos b.declarations.start) (counting (pos 0) asks)
+
+-- a number is the present value of a contract, where this one is accepted at the numbers that are set: the sum of what it still
+-- pays from the one party to the other in the asset, each day with its discount factor, in every admitted environment that
+-- extends the fixings
+abbrev pub IsPresentValue : (b : CodeBook) (asked : ValueAsked) (inputs : ValueInputs) → CanValue b asked inputs → ℤ → Contract → Type 0
+IsPresentValue b asked inputs can amount c =
+    IsAcceptedAtNumbers asked b.declarations c
+    → (env : Environment) → IsAdmitted b.declarations env → Extends can.fixings env
+    → amount ≡ value_left b asked c env (question can.day can.curve can.flow)
+
+-- `value` has written the present value of every contract that the code means with what is left to pay
 pub record HasValued (edge : Edge) (asked : ValueAsked) : Type 0 where
   pub book : CodeBook
   pub inputs : ValueInputs
@@ -77,7 +91,7 @@ pub record HasValued (edge : Edge) (asked : ValueAsked) : Type 0 where
   pub spelled : CodeText inputs.code book
   pub can : CanValue book asked inputs
   pub amount : ℤ
-  pub worth : (c : Contract) → IsWorthOfContract book asked inputs can amount c
+  pub worth : (c : Contract) → CodeMeans book.declarations book.code c Remaining → IsPresentValue book asked inputs can amount c
   pub written : WritesAll edge.sink (value_text amount (book.declarations.amounts + 9))
 
 -- the status says that the verdicts were written

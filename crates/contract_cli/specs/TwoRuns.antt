@@ -1,23 +1,15 @@
 -- Laws of two runs, of which the second reads what the first has printed. Code that `payoff` prints has by `value` the present
 -- value of the contract (Annenkov and Elsman, PPDP 2018); and a portfolio that `advance` prints is left by a later `advance` with
 -- contracts that carry the first ones (Bahr, Berthold and Elsman, ICFP 2015).
-use Rattle.std.specs.Prelude.{◌≡◌, ◌++◌, ℕ, ℤ, pos, false, List, Some}
-use Rattle.term_core.specs.Acceptance.{IsAccepted}
-use Rattle.term_core.specs.Declarations.{Declarations}
-use Rattle.term_core.specs.Environments.{Environment, Extends, IsAdmitted}
-use Rattle.term_core.specs.Instances.{instance}
-use Rattle.term_core.specs.Terms.{Contract}
-use Rattle.payoff_lang.specs.CodeBooks.{CodeBook}
-use Rattle.payoff_lang.specs.CodeValues.{Asked as Question}
-use Rattle.payoff_lang.specs.Meaning.{counting}
-use Rattle.payoff_lang.specs.PresentValues.{present_value}
+use Rattle.std.specs.Prelude.{◌≡◌, ◌++◌, ℕ, false, List, Some}
+use Rattle.term_core.specs.Environments.{Extends}
 use Rattle.command_words.specs.Commands.{Advance, AdvanceAsked, Check, Payoff, PayoffAsked, ValueAsked}
 use Rattle.contract_cli.specs.FilesPromise.{Inputs}
-use Rattle.contract_cli.specs.Headline.{HasAdvanced, HasCompiled, HasValued}
+use Rattle.contract_cli.specs.Headline.{HasAdvanced, HasCompiled, HasValued, IsAcceptedAtNumbers, IsPresentValue}
 use Rattle.contract_cli.specs.RunLaws.{IsCarriedBook, IsOrNoMemory, IsReadWhole}
 use Rattle.contract_cli.specs.RunPromise.{Edge, Meets, Names, NamesValue, SinkLeft}
 use Rattle.contract_cli.specs.ValueLaws.{IsReadWholeForValue}
-use Rattle.contract_cli.specs.ValuePromise.{CanValue, ValueInputs, question, setting_by}
+use Rattle.contract_cli.specs.ValuePromise.{ValueInputs}
 use Rattle.contract_cli.specs.declared.status.Status.{Status}
 use Rattle.contract_cli.specs.declared.status.Status.TheVariants as status
 
@@ -44,28 +36,6 @@ pub record Compiles (words : List (List ℕ)) (edge : Edge) (asked : PayoffAsked
 pub record Values (words : List (List ℕ)) (edge : Edge) (asked : ValueAsked) : Type 0 where
   pub named : NamesValue words asked
   pub done : Meets words edge status.Done
-
--- a contract at the numbers that are set for `value`
-abbrev pub at_numbers : ValueAsked → Declarations → Contract → Contract
-at_numbers asked d c = instance (setting_by d asked.settings) c
-
--- it is accepted there
-abbrev pub IsAcceptedAtNumbers : ValueAsked → Declarations → Contract → Type 0
-IsAcceptedAtNumbers asked d c = IsAccepted d (at_numbers asked d c)
-
--- what a contract that stands on the start is worth, at the numbers that are set, where payments gone by count nothing
-abbrev pub value_left : CodeBook → ValueAsked → Contract → Environment → Question → ℤ
-value_left b asked c env asks =
-    present_value b.declarations (at_numbers asked b.declarations c) env (pos b.declarations.start) (counting (pos 0) asks)
-
--- a number is the present value of a contract, where this one is accepted at the numbers that are set: the sum of what it still
--- pays from the one party to the other in the asset, each day with its discount factor, in every admitted environment that
--- extends the fixings
-abbrev pub IsPresentValue : (b : CodeBook) (asked : ValueAsked) (inputs : ValueInputs) → CanValue b asked inputs → ℤ → Contract → Type 0
-IsPresentValue b asked inputs can amount c =
-    IsAcceptedAtNumbers asked b.declarations c
-    → (env : Environment) → IsAdmitted b.declarations env → Extends can.fixings env
-    → amount ≡ value_left b asked c env (question can.day can.curve can.flow)
 
 -- the code that `value` has read is that which `payoff` has written, on the declarations of the portfolio, and the number that
 -- `value` has written is the present value of the named contract of the portfolio
