@@ -12,11 +12,11 @@ use Rattle.term_core.specs.Acceptance.{IsAccepted}
 use Rattle.term_core.specs.Declarations.{Declarations}
 use Rattle.term_core.specs.Environments.{Environment}
 use Rattle.term_core.specs.Instances.{declared_numbers}
-use Rattle.term_core.specs.Terms.{Expression, Lit, Yes, Var, Obs, Neg, Num, Cmp, Not, Logic, Cond, Widen, Round, Div, Acc, Contract, Zero, Pay, Both, Scale, After, Let, Within}
+use Rattle.term_core.specs.Terms.{Contract}
 use Rattle.term_core.specs.WellFormed.{HasOnlyNumbers}
 use Rattle.contract_parse.specs.Texts.{Text}
 use Rattle.contract_print.specs.Comments.{IsComments}
-use Rattle.contract_print.specs.Rests.{ContractHasLiteralsOfTexts, HasLiteralsOfTexts, IsRestOf, IsSoundRest}
+use Rattle.contract_print.specs.Rests.{IsRestOf, IsSoundRest}
 use Rattle.contract_print.specs.Spellable.{AreSpellable}
 use Rattle.contract_print.proofs.CommentFacts.{comments_append, comments_change_nothing, no_comments, one_comment}
 use Rattle.contract_print.proofs.DateTokens.{is_date_text}
@@ -24,7 +24,6 @@ use Rattle.contract_print.proofs.LinesSpelled.{book_spelled}
 use Rattle.contract_print.proofs.PlainFacts.{IsPlain, date_plain, names_plain, number_plain, plain_append, plain_comment}
 use Rattle.contract_print.proofs.RestFacts.{rest_accepted, rest_spellable}
 use Rattle.contract_print.proofs.TextSpellable.{texts_spellable}
-use Rattle.specialise.specs.Literals.{HasLiterals, HasLiteralsIn}
 use Rattle.flow_eval.specs.declared.flow_table.FlowRow.{FlowRow}
 use Rattle.report.specs.CheckLines.{line_feed}
 use Rattle.report.specs.FlowLines.{IsDayText, IsFlowLine, field, name_at}
@@ -32,33 +31,7 @@ use Rattle.contract_cli.specs.AdvanceLaws.{AdvanceTextsAreTexts}
 use Rattle.contract_cli.specs.AdvancePromise.{AreComments, AreDueLines, AreResiduals, commented, last_gone}
 use Rattle.contract_cli.specs.UsedContracts.{at_defaults, is_asked, used}
 use Rattle.contract_cli.proofs.UsedFacts.{own_instance}
-
--- ---- literals, as texts limit them
-
-literals : (e : Expression) → HasLiterals e → HasLiteralsOfTexts e
-literals (Lit m s) h = h
-literals (Yes b) h = tt
-literals (Var back) h = tt
-literals (Obs l t) h = tt
-literals (Neg e) h = literals e h
-literals (Num op a b) h = (literals a h.0, literals b h.1)
-literals (Cmp op a b) h = (literals a h.0, literals b h.1)
-literals (Not e) h = literals e h
-literals (Logic op a b) h = (literals a h.0, literals b h.1)
-literals (Cond t a b) h = (literals t h.0, literals a h.1, literals b h.2)
-literals (Widen s e) h = literals e h
-literals (Round mode s e) h = literals e h
-literals (Div mode s a b) h = (literals a h.0, literals b h.1)
-literals (Acc body n first) h = (literals body h.0, literals first h.1)
-
-pub literals_of_texts : (c : Contract) → HasLiteralsIn c → ContractHasLiteralsOfTexts c
-literals_of_texts Zero h = tt
-literals_of_texts (Pay a p q) h = tt
-literals_of_texts (Both a b) h = (literals_of_texts a h.0, literals_of_texts b h.1)
-literals_of_texts (Scale e c) h = (literals e h.0, literals_of_texts c h.1)
-literals_of_texts (After n c) h = literals_of_texts c h
-literals_of_texts (Let e c) h = (literals e h.0, literals_of_texts c h.1)
-literals_of_texts (Within e n a b) h = (literals e h.0, literals_of_texts a h.1, literals_of_texts b h.2)
+use Rattle.contract_cli.proofs.WritableFacts.{left_sound}
 
 -- ---- a flow line may be a comment
 
@@ -135,12 +108,6 @@ module _ (d : Declarations) (fixings : Environment) (day : ℕ) where
   left_names [] [] is = refl
   left_names (entry ∷ entries) (left ∷ rest) is = ap₂ (λ (name : Name) (names : List Name). name ∷ names) is.0 (left_names entries rest is.2)
   left_names _ _ is = absurd is
-
-  left_sound : (entries rest : List (Name × Contract)) → AreResiduals d fixings day entries rest → AllByRecursion (λ (entry : Name × Contract). IsSoundRest d entry.1) rest
-  left_sound [] [] is = tt
-  left_sound (entry ∷ entries) (left ∷ rest) is =
-      (record { accepted = is.1.accepted; closed = is.1.closed; literals = literals_of_texts left.1 is.1.literals }, left_sound entries rest is.2)
-  left_sound _ _ is = absurd is
 
   left_numbers : (entries rest : List (Name × Contract)) → AreResiduals d fixings day entries rest → AllByRecursion (λ (entry : Name × Contract). HasOnlyNumbers entry.1) rest
   left_numbers [] [] is = tt

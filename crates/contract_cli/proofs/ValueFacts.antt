@@ -1,5 +1,5 @@
 -- What the answers of `value` are: its statuses.
-use Rattle.std.proofs.Common.{◌≡◌, ◌∙◌, ℕ, List, ap, sym}
+use Rattle.std.proofs.Common.{◌≡◌, ◌∙◌, ℕ, Bool, false, true, List, ap, refl, sym}
 use Rattle.report.specs.declared.fault_lines.Fault.{Fault}
 use Rattle.report.specs.declared.fault_lines.Fault.TheVariants as fault
 use Rattle.payoff_lang.specs.CodeBooks.{CodeBook}
@@ -11,75 +11,53 @@ use Rattle.contract_cli.specs.ValuePromise.{StopsValue, ValueInputs, curve_refus
 use Rattle.contract_cli.specs.declared.status.Status.{Status}
 use Rattle.contract_cli.specs.declared.status.Status.TheVariants as status
 
--- a status that no answer of `value` has
-pub record IsNone (wanted : Status) : Type 0 where
-  pub done : status.Done ≡ wanted → ⊥
-  pub bad_text : status.BadText ≡ wanted → ⊥
-  pub unknown : status.UnknownName ≡ wanted → ⊥
-  pub day : status.DayRange ≡ wanted → ⊥
-  pub refused : status.Refused ≡ wanted → ⊥
-  pub row : status.BadRow ≡ wanted → ⊥
-  pub missing : status.Missing ≡ wanted → ⊥
+-- the statuses that answers of `value` have
+abbrev value_gives : Status → Bool
+value_gives status.Done = true
+value_gives status.BadText = true
+value_gives status.UnknownName = true
+value_gives status.DayRange = true
+value_gives status.Refused = true
+value_gives status.BadRow = true
+value_gives status.Missing = true
+value_gives _ = false
 
-no_stop : (wanted : Status) → IsNone wanted → (b : CodeBook) (asked : ValueAsked) (inputs : ValueInputs) (f : Fault) → StopsValue b asked inputs f → status_of f ≡ wanted → ⊥
-no_stop wanted h b asked inputs f (name_unknown name first is) e = h.unknown (sym (ap status_of is) ∙ e)
-no_stop wanted h b asked inputs f (day_out known out is) e = h.day (sym (ap status_of is) ∙ e)
-no_stop wanted h b asked inputs f (not_accepted day fit rule node refusal is) e = h.refused (sym (ap status_of is) ∙ e)
-no_stop wanted h b asked inputs f (row_refused day fit accepted row first is) e = h.row (sym (ap status_of is) ∙ e)
-no_stop wanted h b asked inputs f (curve_refused day fit accepted fixings are row first is) e = h.row (sym (ap status_of is) ∙ e)
-no_stop wanted h b asked inputs f (read_missing day fit accepted fixings are curve holds flow between place first is) e = h.missing (sym (ap status_of is) ∙ e)
+abbrev fault_gives : Fault → Bool
+fault_gives f = value_gives (status_of f)
 
-no_fault : (wanted : Status) → IsNone wanted → (asked : ValueAsked) (inputs : ValueInputs) (f : Fault) → StopsValueOnBytes asked inputs f → status_of f ≡ wanted → ⊥
-no_fault wanted h asked inputs f (no_code bad) e = h.bad_text (sym (ap status_of bad.fault_is) ∙ e)
-no_fault wanted h asked inputs f (on_code b spelled stops) e = no_stop wanted h b asked inputs f stops e
+stop_gives : (b : CodeBook) (asked : ValueAsked) (inputs : ValueInputs) (f : Fault) → StopsValue b asked inputs f → fault_gives f ≡ true
+stop_gives b asked inputs f (name_unknown name first is) = ap fault_gives is
+stop_gives b asked inputs f (day_out known out is) = ap fault_gives is
+stop_gives b asked inputs f (not_accepted day fit rule node refusal is) = ap fault_gives is
+stop_gives b asked inputs f (row_refused day fit accepted row first is) = ap fault_gives is
+stop_gives b asked inputs f (curve_refused day fit accepted fixings are row first is) = ap fault_gives is
+stop_gives b asked inputs f (read_missing day fit accepted fixings are curve holds flow between place first is) = ap fault_gives is
 
-pub no_value : (wanted : Status) → IsNone wanted → (asked : ValueAsked) (inputs : ValueInputs) (s : Status) (text : List ℕ) → ValueAnswers asked inputs s text → s ≡ wanted → ⊥
-no_value wanted h asked inputs s text (value_stopped f stops e line) is = no_fault wanted h asked inputs f stops (sym e ∙ is)
-no_value wanted h asked inputs s text (value_told b spelled e told) is = h.done (sym e ∙ is)
+answer_gives : (asked : ValueAsked) (inputs : ValueInputs) (s : Status) (text : List ℕ) → ValueAnswers asked inputs s text → value_gives s ≡ true
+answer_gives asked inputs s text (value_stopped f (no_code bad) e line) = ap value_gives e ∙ ap fault_gives bad.fault_is
+answer_gives asked inputs s text (value_stopped f (on_code b spelled stops) e line) = ap value_gives e ∙ stop_gives b asked inputs f stops
+answer_gives asked inputs s text (value_told b spelled e told) = ap value_gives e
 
-pub no_value_usage : (asked : ValueAsked) (inputs : ValueInputs) (s : Status) (text : List ℕ) → ValueAnswers asked inputs s text → s ≡ status.Usage → ⊥
-no_value_usage = no_value status.Usage (record {
-  done = λ (x : status.Done ≡ status.Usage). cc;
-  bad_text = λ (x : status.BadText ≡ status.Usage). cc;
-  unknown = λ (x : status.UnknownName ≡ status.Usage). cc;
-  day = λ (x : status.DayRange ≡ status.Usage). cc;
-  refused = λ (x : status.Refused ≡ status.Usage). cc;
-  row = λ (x : status.BadRow ≡ status.Usage). cc;
-  missing = λ (x : status.Missing ≡ status.Usage). cc;
-})
+-- an answer of `value` has no other status
+abbrev pub NeverOfValue : Status → Type 0
+NeverOfValue other = (asked : ValueAsked) (inputs : ValueInputs) (s : Status) (text : List ℕ) → ValueAnswers asked inputs s text → s ≡ other → ⊥
 
-pub no_value_read_fault : (asked : ValueAsked) (inputs : ValueInputs) (s : Status) (text : List ℕ) → ValueAnswers asked inputs s text → s ≡ status.ReadFault → ⊥
-no_value_read_fault = no_value status.ReadFault (record {
-  done = λ (x : status.Done ≡ status.ReadFault). cc;
-  bad_text = λ (x : status.BadText ≡ status.ReadFault). cc;
-  unknown = λ (x : status.UnknownName ≡ status.ReadFault). cc;
-  day = λ (x : status.DayRange ≡ status.ReadFault). cc;
-  refused = λ (x : status.Refused ≡ status.ReadFault). cc;
-  row = λ (x : status.BadRow ≡ status.ReadFault). cc;
-  missing = λ (x : status.Missing ≡ status.ReadFault). cc;
-})
+never : (other : Status) → value_gives other ≡ false → NeverOfValue other
+never other none asked inputs s text a is =
+    let both : false ≡ true = sym none ∙ ap value_gives (sym is) ∙ answer_gives asked inputs s text a in
+    cc
 
-pub no_value_write_fault : (asked : ValueAsked) (inputs : ValueInputs) (s : Status) (text : List ℕ) → ValueAnswers asked inputs s text → s ≡ status.WriteFault → ⊥
-no_value_write_fault = no_value status.WriteFault (record {
-  done = λ (x : status.Done ≡ status.WriteFault). cc;
-  bad_text = λ (x : status.BadText ≡ status.WriteFault). cc;
-  unknown = λ (x : status.UnknownName ≡ status.WriteFault). cc;
-  day = λ (x : status.DayRange ≡ status.WriteFault). cc;
-  refused = λ (x : status.Refused ≡ status.WriteFault). cc;
-  row = λ (x : status.BadRow ≡ status.WriteFault). cc;
-  missing = λ (x : status.Missing ≡ status.WriteFault). cc;
-})
+pub no_value_usage : NeverOfValue status.Usage
+no_value_usage = never status.Usage refl
 
-pub no_value_long : (asked : ValueAsked) (inputs : ValueInputs) (s : Status) (text : List ℕ) → ValueAnswers asked inputs s text → s ≡ status.TooLong → ⊥
-no_value_long = no_value status.TooLong (record {
-  done = λ (x : status.Done ≡ status.TooLong). cc;
-  bad_text = λ (x : status.BadText ≡ status.TooLong). cc;
-  unknown = λ (x : status.UnknownName ≡ status.TooLong). cc;
-  day = λ (x : status.DayRange ≡ status.TooLong). cc;
-  refused = λ (x : status.Refused ≡ status.TooLong). cc;
-  row = λ (x : status.BadRow ≡ status.TooLong). cc;
-  missing = λ (x : status.Missing ≡ status.TooLong). cc;
-})
+pub no_value_read_fault : NeverOfValue status.ReadFault
+no_value_read_fault = never status.ReadFault refl
+
+pub no_value_write_fault : NeverOfValue status.WriteFault
+no_value_write_fault = never status.WriteFault refl
+
+pub no_value_long : NeverOfValue status.TooLong
+no_value_long = never status.TooLong refl
 
 -- no fault has the status of the end
 pub no_fault_done : (f : Fault) → status_of f ≡ status.Done → ⊥

@@ -2,11 +2,10 @@
 
 ghost use Rattle.std.specs.Prelude.{◌≤◌, length};
 ghost use Rattle.payoff_lang.specs.CodeBooks.{code_book};
-ghost use Rattle.payoff_lang.specs.CodeFiles.{CodeText};
 ghost use Rattle.command_words.specs.Words.{value_by};
 ghost use Rattle.contract_cli.specs.Stopping.{AnswersBy};
 ghost use Rattle.contract_cli.specs.FilesPromise.{IsBadCode};
-ghost use Rattle.contract_cli.specs.ValueParts.{AreShortForValue, IsReadable, IsReadFrom, value_inputs_by};
+ghost use Rattle.contract_cli.specs.ValueParts.{AreShortForValue, IsReadFrom, value_inputs_by};
 
 use crate::answers::Answer;
 use crate::status::Status;
