@@ -105,7 +105,8 @@ declared_at bytes at = run nothing_declared (decls_places (AnyTokens ∷ [])) (t
 pub record TakesDecls (bytes : List ℕ) (old : Position) (d : Declarations) (new : Position) : Type 0 where
   pub taken : declared_at bytes old.at ≡ Open (AnyTokens ∷ [])
   pub spelled : decls d (tokens_at bytes old.at) (tokens_at bytes new.at)
-  pub whole : (ps : List Place) → run nothing_declared (decls_places ps) (tokens_at bytes old.at) ≡ run (scope_of d []) ps (tokens_at bytes new.at)
+  pub whole : (ps : List Place)
+      → run nothing_declared (decls_places ps) (tokens_at bytes old.at) ≡ run (scope_of d []) ps (tokens_at bytes new.at)
   pub ends : EndsLine bytes old.at new.at
 
 -- a token of a declaration is refused, and the fault stands at its first byte

@@ -24,19 +24,27 @@ pub data IsAmong {X : Type 0} : X → List X → Type 0 where
 -- the parts, each whole, one after another: from the first tokens to those after them
 pub data Whole {N : Type 0} (forms : Grammar N) : Form N → List Tok → List Tok → Type 0 where
   done : {ts : List Tok} → Whole forms [] ts ts
-  token : {test : Tok → Bool} {parts : Form N} {t : Tok} {ts rest : List Tok} → test t ≡ true → Whole forms parts ts rest → Whole forms (Terminal test ∷ parts) (t ∷ ts) rest
-  form : {symbol : N} {form parts : Form N} {ts between rest : List Tok} → IsAmong form (forms symbol) → Whole forms form ts between → Whole forms parts between rest → Whole forms (Nonterminal symbol ∷ parts) ts rest
+  token : {test : Tok → Bool} {parts : Form N} {t : Tok} {ts rest : List Tok} → test t ≡ true → Whole forms parts ts rest
+      → Whole forms (Terminal test ∷ parts) (t ∷ ts) rest
+  form : {symbol : N} {form parts : Form N} {ts between rest : List Tok} → IsAmong form (forms symbol)
+      → Whole forms form ts between → Whole forms parts between rest → Whole forms (Nonterminal symbol ∷ parts) ts rest
   absent : {symbol : N} {parts : Form N} {ts rest : List Tok} → Whole forms parts ts rest → Whole forms (Optional symbol ∷ parts) ts rest
-  present : {symbol : N} {parts : Form N} {ts rest : List Tok} → Whole forms (Nonterminal symbol ∷ parts) ts rest → Whole forms (Optional symbol ∷ parts) ts rest
+  present : {symbol : N} {parts : Form N} {ts rest : List Tok} → Whole forms (Nonterminal symbol ∷ parts) ts rest
+      → Whole forms (Optional symbol ∷ parts) ts rest
   enough : {symbol : N} {parts : Form N} {ts rest : List Tok} → Whole forms parts ts rest → Whole forms (Repeated symbol ∷ parts) ts rest
-  again : {symbol : N} {parts : Form N} {ts rest : List Tok} → Whole forms (Nonterminal symbol ∷ Repeated symbol ∷ parts) ts rest → Whole forms (Repeated symbol ∷ parts) ts rest
+  again : {symbol : N} {parts : Form N} {ts rest : List Tok} → Whole forms (Nonterminal symbol ∷ Repeated symbol ∷ parts) ts rest
+      → Whole forms (Repeated symbol ∷ parts) ts rest
 
 -- any number of leading parts, none included, each whole, and then a front of the next part: of a token's place the
 -- empty list or that token, of a symbol a front of one of its forms
 pub data Front {N : Type 0} (forms : Grammar N) : Form N → List Tok → Type 0 where
   empty : {parts : Form N} → Front forms parts []
   at_token : {test : Tok → Bool} {parts : Form N} {t : Tok} → test t ≡ true → Front forms (Terminal test ∷ parts) (t ∷ [])
-  in_form : {symbol : N} {form parts : Form N} {ts : List Tok} → IsAmong form (forms symbol) → Front forms form ts → Front forms (Nonterminal symbol ∷ parts) ts
-  in_optional : {symbol : N} {parts : Form N} {ts : List Tok} → Front forms (Nonterminal symbol ∷ []) ts → Front forms (Optional symbol ∷ parts) ts
-  in_repeated : {symbol : N} {parts : Form N} {ts : List Tok} → Front forms (Nonterminal symbol ∷ Repeated symbol ∷ []) ts → Front forms (Repeated symbol ∷ parts) ts
-  beyond : {part : Part N} {parts : Form N} {ts between : List Tok} → Whole forms (part ∷ []) ts between → Front forms parts between → Front forms (part ∷ parts) ts
+  in_form : {symbol : N} {form parts : Form N} {ts : List Tok} → IsAmong form (forms symbol) → Front forms form ts
+      → Front forms (Nonterminal symbol ∷ parts) ts
+  in_optional : {symbol : N} {parts : Form N} {ts : List Tok} → Front forms (Nonterminal symbol ∷ []) ts
+      → Front forms (Optional symbol ∷ parts) ts
+  in_repeated : {symbol : N} {parts : Form N} {ts : List Tok} → Front forms (Nonterminal symbol ∷ Repeated symbol ∷ []) ts
+      → Front forms (Repeated symbol ∷ parts) ts
+  beyond : {part : Part N} {parts : Form N} {ts between : List Tok} → Whole forms (part ∷ []) ts between → Front forms parts between
+      → Front forms (part ∷ parts) ts

@@ -55,7 +55,8 @@ is_one_of texts is t = list_any (λ text. is text t) texts
 
 abbrev pub operator_marks : List Bytes
 operator_marks =
-    codes "+" ∷ codes "-" ∷ codes "*" ∷ codes "<" ∷ codes "<=" ∷ codes ">" ∷ codes ">=" ∷ codes "=" ∷ codes "!=" ∷ codes "&" ∷ codes "|" ∷ []
+    codes "+" ∷ codes "-" ∷ codes "*" ∷ codes "<" ∷ codes "<=" ∷ codes ">" ∷ codes ">=" ∷ codes "=" ∷ codes "!="
+    ∷ codes "&" ∷ codes "|" ∷ []
 
 abbrev pub mode_words : List Bytes
 mode_words = codes "half_even" ∷ codes "half_away" ∷ codes "floor" ∷ codes "ceil" ∷ []
@@ -120,7 +121,8 @@ declared_forms PartyLine = names_form (codes "party") ∷ []
 declared_forms AssetLine = names_form (codes "asset") ∷ []
 declared_forms FurtherName = (the_mark (codes ",") ∷ a_name ∷ []) ∷ []
 declared_forms LabelLine =
-    (the_word (codes "num") ∷ a_name ∷ the_mark (codes ":") ∷ an_integer ∷ the_word (codes "in") ∷ Nonterminal (Declaration Bound) ∷ the_mark (codes "..") ∷ Nonterminal (Declaration Bound) ∷ the_mark (codes ";") ∷ [])
+    (the_word (codes "num") ∷ a_name ∷ the_mark (codes ":") ∷ an_integer ∷ the_word (codes "in") ∷ Nonterminal (Declaration Bound)
+    ∷ the_mark (codes "..") ∷ Nonterminal (Declaration Bound) ∷ the_mark (codes ";") ∷ [])
     ∷ (the_word (codes "flag") ∷ a_name ∷ the_mark (codes ";") ∷ [])
     ∷ []
 declared_forms Bound = signed_forms a_number
@@ -130,7 +132,8 @@ abbrev pub declarations_form : Form Symbol → Form Symbol
 declarations_form behind =
     the_word (codes "amounts") ∷ an_integer ∷ the_mark (codes ";")
     ∷ Optional (Declaration OriginLine) ∷ Optional (Declaration StartLine)
-    ∷ Repeated (Declaration PartyLine) ∷ Repeated (Declaration AssetLine) ∷ Repeated (Declaration LabelLine) ∷ Repeated (Declaration TemplateLine)
+    ∷ Repeated (Declaration PartyLine) ∷ Repeated (Declaration AssetLine) ∷ Repeated (Declaration LabelLine)
+    ∷ Repeated (Declaration TemplateLine)
     ∷ behind
 
 -- ---- terms

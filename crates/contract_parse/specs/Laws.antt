@@ -29,25 +29,31 @@ ExpressionIsTaken =
 
 abbrev pub ContractIsTaken : Type 0
 ContractIsTaken =
-    (s : Scope) (names : List Bytes) (c : Contract) (depth : ℕ) (ps : List Place) (ts rest : List Tok) → depth + height_of_contract c ≤ 201 → contr s names c ts rest → run s (ContrAt depth names ∷ ps) ts ≡ run s ps rest
+    (s : Scope) (names : List Bytes) (c : Contract) (depth : ℕ) (ps : List Place) (ts rest : List Tok)
+    → depth + height_of_contract c ≤ 201 → contr s names c ts rest → run s (ContrAt depth names ∷ ps) ts ≡ run s ps rest
 
 -- one reading of the tokens of an expression, and of those after it
 abbrev pub OneExpression : Type 0
 OneExpression =
-    (l : Language) (s : Scope) (names : List Bytes) (e e' : Expression) (ts rest rest' : List Tok) → expr l s names e ts rest → expr l s names e' ts rest' → (e ≡ e') × (rest ≡ rest')
+    (l : Language) (s : Scope) (names : List Bytes) (e e' : Expression) (ts rest rest' : List Tok) → expr l s names e ts rest
+    → expr l s names e' ts rest' → (e ≡ e') × (rest ≡ rest')
 
 -- a date of payoff code is taken up to a token that is no plus
 abbrev pub DateIsTaken : Type 0
 DateIsTaken =
-    (s : Scope) (days : ℤ) (written : List ℕ) (ps : List Place) (ts rest : List Tok) → LacksMark (codes "+") rest → dated_part s.templates days written ts rest → run s (date_places ps) ts ≡ run s ps rest
+    (s : Scope) (days : ℤ) (written : List ℕ) (ps : List Place) (ts rest : List Tok) → LacksMark (codes "+") rest
+    → dated_part s.templates days written ts rest → run s (date_places ps) ts ≡ run s ps rest
 
 -- what stands behind declarations: a contract, payoff code or the end
 abbrev pub IsBehindDeclarations : List Tok → Type 0
-IsBehindDeclarations ts = (t : Tok) × (more : List Tok) × (ts ≡ t ∷ more) × ((is_the_word (codes "contract") t || (is_the_word (codes "code") t || is_end t)) ≡ true)
+IsBehindDeclarations ts =
+    (t : Tok) × (more : List Tok) × (ts ≡ t ∷ more)
+    × ((is_the_word (codes "contract") t || (is_the_word (codes "code") t || is_end t)) ≡ true)
 
 abbrev pub DeclarationsAreTaken : Type 0
 DeclarationsAreTaken =
-    (d : Declarations) (ps : List Place) (ts rest : List Tok) → decls d ts rest → IsBehindDeclarations rest → run nothing_declared (decls_places ps) ts ≡ run (scope_of d []) ps rest
+    (d : Declarations) (ps : List Place) (ts rest : List Tok) → decls d ts rest → IsBehindDeclarations rest
+    → run nothing_declared (decls_places ps) ts ≡ run (scope_of d []) ps rest
 
 abbrev pub TextIsTaken : Type 0
 TextIsTaken = (bytes : List ℕ) (b : Book) → Text bytes b → run nothing_declared text_places (tokens bytes) ≡ Open []
@@ -77,7 +83,8 @@ NamesFitText = (bytes : List ℕ) (b : Book) → Text bytes b → NamesFit bytes
 -- a contract of a text names only what is declared or bound round it, and at most 200 terms are open at one place
 abbrev pub ContractsAreClosed : Type 0
 ContractsAreClosed =
-    (bytes : List ℕ) (b : Book) → Text bytes b → All (λ entry. IsClosed b.declarations entry.1 × (height_of_contract entry.1 ≤ 200)) b.contracts
+    (bytes : List ℕ) (b : Book) → Text bytes b
+    → All (λ entry. IsClosed b.declarations entry.1 × (height_of_contract entry.1 ≤ 200)) b.contracts
 
 -- `pay(E,A,B)` takes 10 bytes, and each further payment a `both(`, `,` and `)` or more
 abbrev pub PaymentsFitText : Type 0
@@ -85,7 +92,8 @@ PaymentsFitText = (bytes : List ℕ) (b : Book) → Text bytes b → All (λ ent
 
 -- 16 MiB is the most that a text may have
 abbrev pub PaymentsAreBounded : Type 0
-PaymentsAreBounded = (bytes : List ℕ) (b : Book) → Text bytes b → length bytes ≤ 16_777_216 → All (λ entry. payments_in entry.1 < 1_000_000) b.contracts
+PaymentsAreBounded =
+    (bytes : List ℕ) (b : Book) → Text bytes b → length bytes ≤ 16_777_216 → All (λ entry. payments_in entry.1 < 1_000_000) b.contracts
 
 -- a text that stands for a portfolio
 abbrev pub SampleIsText : Type 0

@@ -10,6 +10,7 @@ pub mod Statements
 pub mod Places
 pub mod Texts
 pub mod Reading
+pub mod Readers
 pub mod Forms
 pub mod Fronts
 pub mod FrontLaws

@@ -91,9 +91,11 @@ term_at Language.Code d names = AmountAt d names
 
 -- what follows a name that is bound
 abbrev pub binder_places : Binder → Language → ℕ → List Bytes → Bytes → List Place → List Place
-binder_places binder.Let l d names name ps = TheMark (codes "=") ∷ ExprAt l (d + 1) names ∷ TheWord (codes "in") ∷ term_at l (d + 1) (name ∷ names) ∷ ps
+binder_places binder.Let l d names name ps =
+    TheMark (codes "=") ∷ ExprAt l (d + 1) names ∷ TheWord (codes "in") ∷ term_at l (d + 1) (name ∷ names) ∷ ps
 binder_places binder.Acc l d names name ps =
-    TheMark (codes ",") ∷ ExprAt l (d + 1) (name ∷ names) ∷ TheMark (codes ",") ∷ IntegerAt 100_000 ∷ TheMark (codes ",") ∷ ExprAt l (d + 1) names ∷ TheMark (codes ")") ∷ ps
+    TheMark (codes ",") ∷ ExprAt l (d + 1) (name ∷ names) ∷ TheMark (codes ",") ∷ IntegerAt 100_000 ∷ TheMark (codes ",")
+    ∷ ExprAt l (d + 1) names ∷ TheMark (codes ")") ∷ ps
 
 abbrev pub date_places : List Place → List Place
 date_places ps = DateAt ∷ MoreTemplates ∷ ps
@@ -124,36 +126,46 @@ expr_places s l d names First.Not ps = operand_places (ExprAt l (d + 1) names) p
 expr_places s l d names First.Min ps = pair_places (ExprAt l (d + 1) names) (ExprAt l (d + 1) names) ps
 expr_places s l d names First.Max ps = pair_places (ExprAt l (d + 1) names) (ExprAt l (d + 1) names) ps
 expr_places s l d names First.If ps =
-    TheMark (codes "(") ∷ ExprAt l (d + 1) names ∷ TheMark (codes ",") ∷ ExprAt l (d + 1) names ∷ TheMark (codes ",") ∷ ExprAt l (d + 1) names ∷ TheMark (codes ")") ∷ ps
+    TheMark (codes "(") ∷ ExprAt l (d + 1) names ∷ TheMark (codes ",") ∷ ExprAt l (d + 1) names ∷ TheMark (codes ",")
+    ∷ ExprAt l (d + 1) names ∷ TheMark (codes ")") ∷ ps
 expr_places s l d names First.Widen ps = pair_places (IntegerAt 27) (ExprAt l (d + 1) names) ps
-expr_places s l d names First.Round ps = TheMark (codes "(") ∷ ModeAt ∷ TheMark (codes ",") ∷ IntegerAt 27 ∷ TheMark (codes ",") ∷ ExprAt l (d + 1) names ∷ TheMark (codes ")") ∷ ps
+expr_places s l d names First.Round ps =
+    TheMark (codes "(") ∷ ModeAt ∷ TheMark (codes ",") ∷ IntegerAt 27 ∷ TheMark (codes ",")
+    ∷ ExprAt l (d + 1) names ∷ TheMark (codes ")") ∷ ps
 expr_places s l d names First.Div ps =
-    TheMark (codes "(") ∷ ModeAt ∷ TheMark (codes ",") ∷ IntegerAt 27 ∷ TheMark (codes ",") ∷ ExprAt l (d + 1) names ∷ TheMark (codes ",") ∷ ExprAt l (d + 1) names ∷ TheMark (codes ")") ∷ ps
+    TheMark (codes "(") ∷ ModeAt ∷ TheMark (codes ",") ∷ IntegerAt 27 ∷ TheMark (codes ",") ∷ ExprAt l (d + 1) names ∷ TheMark (codes ",")
+    ∷ ExprAt l (d + 1) names ∷ TheMark (codes ")") ∷ ps
 expr_places s l d names First.Acc ps = TheMark (codes "(") ∷ BinderAt binder.Acc l d names ∷ ps
 
 -- what follows the first token of a contract
 abbrev pub contr_places : Scope → ℕ → List Bytes → Head → List Place → List Place
 contr_places s d names Head.Zero ps = ps
 contr_places s d names Head.Pay ps =
-    TheMark (codes "(") ∷ UseOf s.assets ∷ TheMark (codes ",") ∷ UseOf s.parties ∷ TheMark (codes ",") ∷ UseOf s.parties ∷ TheMark (codes ")") ∷ ps
+    TheMark (codes "(") ∷ UseOf s.assets ∷ TheMark (codes ",") ∷ UseOf s.parties ∷ TheMark (codes ",") ∷ UseOf s.parties
+    ∷ TheMark (codes ")") ∷ ps
 contr_places s d names Head.Both ps = pair_places (ContrAt (d + 1) names) (ContrAt (d + 1) names) ps
 contr_places s d names Head.Scale ps = pair_places (ExprAt Language.Contracts (d + 1) names) (ContrAt (d + 1) names) ps
 contr_places s d names Head.After ps = pair_places (DaysAt s.templates) (ContrAt (d + 1) names) ps
 contr_places s d names Head.Let ps = BinderAt binder.Let Language.Contracts d names ∷ ps
 contr_places s d names Head.If ps =
-    ExprAt Language.Contracts (d + 1) names ∷ TheWord (codes "within") ∷ DaysAt s.templates ∷ TheWord (codes "then") ∷ ContrAt (d + 1) names ∷ TheWord (codes "else") ∷ ContrAt (d + 1) names ∷ ps
+    ExprAt Language.Contracts (d + 1) names ∷ TheWord (codes "within") ∷ DaysAt s.templates ∷ TheWord (codes "then")
+    ∷ ContrAt (d + 1) names ∷ TheWord (codes "else") ∷ ContrAt (d + 1) names ∷ ps
 
 -- what follows the first token of an amount of payoff code
 abbrev pub amount_places : Scope → ℕ → List Bytes → AmountHead → List Place → List Place
 amount_places s d names AmountHead.None ps = ps
 amount_places s d names AmountHead.Pay ps =
-    TheMark (codes "(") ∷ date_places (TheMark (codes ",") ∷ UseOf s.assets ∷ TheMark (codes ",") ∷ UseOf s.parties ∷ TheMark (codes ",") ∷ UseOf s.parties ∷ TheMark (codes ")") ∷ ps)
+    TheMark (codes "(") ∷ date_places
+    (TheMark (codes ",") ∷ UseOf s.assets ∷ TheMark (codes ",") ∷ UseOf s.parties ∷ TheMark (codes ",") ∷ UseOf s.parties
+    ∷ TheMark (codes ")") ∷ ps)
 amount_places s d names AmountHead.Add ps = pair_places (AmountAt (d + 1) names) (AmountAt (d + 1) names) ps
 amount_places s d names AmountHead.Scale ps = pair_places (ExprAt Language.Code (d + 1) names) (AmountAt (d + 1) names) ps
 amount_places s d names AmountHead.Let ps = BinderAt binder.Let Language.Code d names ∷ ps
 amount_places s d names AmountHead.Loop ps =
-    ExprAt Language.Code (d + 1) names ∷ TheWord (codes "upto") ∷ date_places (TheWord (codes "then") ∷ AmountAt (d + 1) names ∷ TheWord (codes "else") ∷ AmountAt (d + 1) names ∷ ps)
-amount_places s d names AmountHead.Cut ps = TheMark (codes "(") ∷ date_places (TheMark (codes ",") ∷ AmountAt (d + 1) names ∷ TheMark (codes ")") ∷ ps)
+    ExprAt Language.Code (d + 1) names ∷ TheWord (codes "upto")
+    ∷ date_places (TheWord (codes "then") ∷ AmountAt (d + 1) names ∷ TheWord (codes "else") ∷ AmountAt (d + 1) names ∷ ps)
+amount_places s d names AmountHead.Cut ps =
+    TheMark (codes "(") ∷ date_places (TheMark (codes ",") ∷ AmountAt (d + 1) names ∷ TheMark (codes ")") ∷ ps)
 
 -- the lines of declarations
 abbrev pub number_label_places : List Place → List Place
@@ -189,16 +201,19 @@ step s (NewIn set ∷ ps) t = judged (new_at (names_of set s) t) (λ name. Next 
 step s (MoreNames set ∷ ps) t = judged (separator_at t) (λ comma. Next s (list_places set comma ps))
 step s (ScaleAt ∷ ps) t = judged (integer_at 18 t) (λ scale. Next s (range_places scale ps))
 step s (BoundAt scale low ∷ ps) t =
-    if is_the_mark (codes "-") t then Next s (BoundNumber true scale low ∷ ps) else judged (bound_at false scale low t) (λ m. Next s (bound_places scale low m ps))
+    if is_the_mark (codes "-") t then Next s (BoundNumber true scale low ∷ ps)
+    else judged (bound_at false scale low t) (λ m. Next s (bound_places scale low m ps))
 step s (BoundNumber negative scale low ∷ ps) t = judged (bound_at negative scale low t) (λ m. Next s (bound_places scale low m ps))
 step s (UseOf names ∷ ps) t = judged (use_at names t) (λ i. Next s ps)
-step s (OffsetAt ∷ ps) t = if is_the_mark (codes "-") t then Next s (OffsetNumber true ∷ ps) else judged (offset_at false t) (λ n. Next s ps)
+step s (OffsetAt ∷ ps) t =
+    if is_the_mark (codes "-") t then Next s (OffsetNumber true ∷ ps) else judged (offset_at false t) (λ n. Next s ps)
 step s (OffsetNumber negative ∷ ps) t = judged (offset_at negative t) (λ n. Next s ps)
 step s (LiteralNumber negative ∷ ps) t = judged (literal_at negative t) (λ d. Next s ps)
 step s (DaysAt templates ∷ ps) t = judged (days_at templates t) (λ d. Next s ps)
 step s (ModeAt ∷ ps) t = judged (mode_at t) (λ m. Next s ps)
 step s (OperatorAt ∷ ps) t = judged (operator_at t) (λ op. Next s ps)
-step s (DateAt ∷ ps) t = if is_the_mark (codes "-") t then Next s (DateNumber true ∷ ps) else judged (date_number_at false t) (λ n. Next s ps)
+step s (DateAt ∷ ps) t =
+    if is_the_mark (codes "-") t then Next s (DateNumber true ∷ ps) else judged (date_number_at false t) (λ n. Next s ps)
 step s (DateNumber negative ∷ ps) t = judged (date_number_at negative t) (λ n. Next s ps)
 step s (MoreTemplates ∷ ps) t = if is_the_mark (codes "+") t then Next s (UseOf s.templates ∷ MoreTemplates ∷ ps) else step s ps t
 step s (BinderAt binder l d names ∷ ps) t = judged (binder_at t) (λ name. Next s (binder_places binder l d names name ps))
@@ -218,7 +233,8 @@ run s ps (t ∷ ts) = elim (step s ps t) [ Next s2 qs ↦ run s2 qs ts | Refuse 
 
 -- the places of declarations, and those of whole texts
 abbrev pub line_places : List Place → List Place
-line_places ps = OriginLine ∷ StartLine ∷ NameLines (codes "party") Party ∷ NameLines (codes "asset") Asset ∷ LabelLines ∷ TemplateLines ∷ ps
+line_places ps =
+    OriginLine ∷ StartLine ∷ NameLines (codes "party") Party ∷ NameLines (codes "asset") Asset ∷ LabelLines ∷ TemplateLines ∷ ps
 
 abbrev pub decls_places : List Place → List Place
 decls_places ps = TheWord (codes "amounts") ∷ IntegerAt 12 ∷ TheMark (codes ";") ∷ line_places ps
@@ -229,7 +245,8 @@ text_places = TheWord (codes "portfolio") ∷ TheVersion ∷ TheMark (codes ";")
 -- the text of a code file, whose name is alone in its set
 abbrev pub code_text_places : List Place
 code_text_places =
-    TheWord (codes "payoff") ∷ TheVersion ∷ TheMark (codes ";") ∷ decls_places (TheWord (codes "code") ∷ NewIn Contract ∷ TheMark (codes "=") ∷ AmountAt 1 [] ∷ TheMark (codes ";") ∷ TheEnd ∷ [])
+    TheWord (codes "payoff") ∷ TheVersion ∷ TheMark (codes ";")
+    ∷ decls_places (TheWord (codes "code") ∷ NewIn Contract ∷ TheMark (codes "=") ∷ AmountAt 1 [] ∷ TheMark (codes ";") ∷ TheEnd ∷ [])
 
 -- the places of a text of the language
 abbrev pub places_of : Language → List Place

@@ -86,19 +86,25 @@ expr_with leaf names (Num op l r) = infixed (expr_with leaf names l) (valued ope
 expr_with leaf names (Cmp op l r) = infixed (expr_with leaf names l) (valued operator_at (Comparison op)) (expr_with leaf names r)
 expr_with leaf names (Logic op l r) = infixed (expr_with leaf names l) (valued operator_at (Connective op)) (expr_with leaf names r)
 expr_with leaf names (Cond t a b) =
-    word (codes "if") ⨟ mark (codes "(") ⨟ expr_with leaf names t ⨟ mark (codes ",") ⨟ expr_with leaf names a ⨟ mark (codes ",") ⨟ expr_with leaf names b ⨟ mark (codes ")")
+    word (codes "if") ⨟ mark (codes "(") ⨟ expr_with leaf names t ⨟ mark (codes ",") ⨟ expr_with leaf names a ⨟ mark (codes ",")
+    ⨟ expr_with leaf names b ⨟ mark (codes ")")
 expr_with leaf names (Widen k e) = word (codes "widen") ⨟ pair (valued (integer_at 27) k) (expr_with leaf names e)
 expr_with leaf names (Round m k e) =
-    word (codes "round") ⨟ mark (codes "(") ⨟ valued mode_at m ⨟ mark (codes ",") ⨟ valued (integer_at 27) k ⨟ mark (codes ",") ⨟ expr_with leaf names e ⨟ mark (codes ")")
+    word (codes "round") ⨟ mark (codes "(") ⨟ valued mode_at m ⨟ mark (codes ",") ⨟ valued (integer_at 27) k ⨟ mark (codes ",")
+    ⨟ expr_with leaf names e ⨟ mark (codes ")")
 expr_with leaf names (Div m k a b) =
-    word (codes "div") ⨟ mark (codes "(") ⨟ valued mode_at m ⨟ mark (codes ",") ⨟ valued (integer_at 27) k ⨟ mark (codes ",") ⨟ expr_with leaf names a ⨟ mark (codes ",") ⨟ expr_with leaf names b ⨟ mark (codes ")")
+    word (codes "div") ⨟ mark (codes "(") ⨟ valued mode_at m ⨟ mark (codes ",") ⨟ valued (integer_at 27) k ⨟ mark (codes ",")
+    ⨟ expr_with leaf names a ⨟ mark (codes ",") ⨟ expr_with leaf names b ⨟ mark (codes ")")
 -- the name is bound in the body, which comes before the start
 expr_with leaf names (Acc body n first) =
-    SomeName (λ name. word (codes "acc") ⨟ mark (codes "(") ⨟ valued binder_at name ⨟ mark (codes ",") ⨟ expr_with leaf (name ∷ names) body ⨟ mark (codes ",") ⨟ valued (integer_at 100_000) n ⨟ mark (codes ",") ⨟ expr_with leaf names first ⨟ mark (codes ")"))
+    SomeName (λ name. word (codes "acc") ⨟ mark (codes "(") ⨟ valued binder_at name ⨟ mark (codes ",")
+    ⨟ expr_with leaf (name ∷ names) body ⨟ mark (codes ",") ⨟ valued (integer_at 100_000) n ⨟ mark (codes ",")
+    ⨟ expr_with leaf names first ⨟ mark (codes ")"))
 
 -- `obs(label, offset)`
 abbrev pub obs_leaf : Scope → Leaf
-obs_leaf s label offset = word (codes "obs") ⨟ pair (valued (use_at s.labels) label) (Signed (λ negative. valued (offset_at negative) offset))
+obs_leaf s label offset =
+    word (codes "obs") ⨟ pair (valued (use_at s.labels) label) (Signed (λ negative. valued (offset_at negative) offset))
 
 -- `+ NAME` for each template
 abbrev pub templates_part : List Bytes → List ℕ → Part
@@ -145,12 +151,15 @@ expr l s = expr_with (leaf_of l s)
 abbrev pub contr : Scope → List Bytes → Contract → Part
 contr s names Zero = word (codes "zero")
 contr s names (Pay asset from to) =
-    word (codes "pay") ⨟ mark (codes "(") ⨟ valued (use_at s.assets) asset ⨟ mark (codes ",") ⨟ valued (use_at s.parties) from ⨟ mark (codes ",") ⨟ valued (use_at s.parties) to ⨟ mark (codes ")")
+    word (codes "pay") ⨟ mark (codes "(") ⨟ valued (use_at s.assets) asset ⨟ mark (codes ",") ⨟ valued (use_at s.parties) from
+    ⨟ mark (codes ",") ⨟ valued (use_at s.parties) to ⨟ mark (codes ")")
 contr s names (Both a b) = word (codes "both") ⨟ pair (contr s names a) (contr s names b)
 contr s names (Scale e c) = word (codes "scale") ⨟ pair (expr Language.Contracts s names e) (contr s names c)
 contr s names (After n c) = word (codes "after") ⨟ pair (valued (days_at s.templates) n) (contr s names c)
 -- the name is bound in the contract and not in its own expression
 contr s names (Let e c) =
-    SomeName (λ name. word (codes "let") ⨟ valued binder_at name ⨟ mark (codes "=") ⨟ expr Language.Contracts s names e ⨟ word (codes "in") ⨟ contr s (name ∷ names) c)
+    SomeName (λ name. word (codes "let") ⨟ valued binder_at name ⨟ mark (codes "=") ⨟ expr Language.Contracts s names e
+    ⨟ word (codes "in") ⨟ contr s (name ∷ names) c)
 contr s names (Within e n a b) =
-    word (codes "if") ⨟ expr Language.Contracts s names e ⨟ word (codes "within") ⨟ valued (days_at s.templates) n ⨟ word (codes "then") ⨟ contr s names a ⨟ word (codes "else") ⨟ contr s names b
+    word (codes "if") ⨟ expr Language.Contracts s names e ⨟ word (codes "within") ⨟ valued (days_at s.templates) n ⨟ word (codes "then")
+    ⨟ contr s names a ⨟ word (codes "else") ⨟ contr s names b

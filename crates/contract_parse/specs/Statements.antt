@@ -41,7 +41,8 @@ abbrev pub name_lines : Bytes → List Bytes → Part
 name_lines w names = Repeat (name_line w) [] names
 
 -- an entry with a new name, at the end of the entries before it
-pub record Entry {V : Type 0} (line : List (Bytes × V) → Bytes → V → Part) (before after : List (Bytes × V)) (ts rest : List Tok) : Type 0 where
+pub record Entry {V : Type 0}
+    (line : List (Bytes × V) → Bytes → V → Part) (before after : List (Bytes × V)) (ts rest : List Tok) : Type 0 where
   pub name : Bytes
   pub value : V
   pub is : after ≡ before ++ (name, value) ∷ []
@@ -54,21 +55,24 @@ new_name before name = valued (new_at (keys_of before)) name
 -- `: scale in low .. high`
 abbrev pub range : ℕ → ℤ → ℤ → Part
 range scale low high =
-    mark (codes ":") ⨟ valued (integer_at 18) scale ⨟ word (codes "in") ⨟ Signed (λ negative. valued (bound_at negative scale None) low) ⨟ mark (codes "..") ⨟ Signed (λ negative. valued (bound_at negative scale (Some low)) high)
+    mark (codes ":") ⨟ valued (integer_at 18) scale ⨟ word (codes "in") ⨟ Signed (λ negative. valued (bound_at negative scale None) low)
+    ⨟ mark (codes "..") ⨟ Signed (λ negative. valued (bound_at negative scale (Some low)) high)
 
 abbrev pub label_line : List (Bytes × Label) → Bytes → Label → Part
 label_line before name (label.Number scale low high) = word (codes "num") ⨟ new_name before name ⨟ range scale low high ⨟ mark (codes ";")
 label_line before name label.Flag = word (codes "flag") ⨟ new_name before name ⨟ mark (codes ";")
 
 abbrev pub template_line : List (Bytes × ℕ) → Bytes → ℕ → Part
-template_line before name days = word (codes "template") ⨟ new_name before name ⨟ mark (codes "=") ⨟ valued (integer_at 100_000) days ⨟ mark (codes ";")
+template_line before name days =
+    word (codes "template") ⨟ new_name before name ⨟ mark (codes "=") ⨟ valued (integer_at 100_000) days ⨟ mark (codes ";")
 
 -- the depth of a contract is 1, and at most 200 terms are open at one place
 abbrev pub shallow : Contract → Part
 shallow c ts rest = (ts ≡ rest) × (height_of_contract c ≤ 200)
 
 abbrev pub contract_line : Scope → List (Bytes × Contract) → Bytes → Contract → Part
-contract_line s before name c = word (codes "contract") ⨟ new_name before name ⨟ mark (codes "=") ⨟ contr s [] c ⨟ shallow c ⨟ mark (codes ";")
+contract_line s before name c =
+    word (codes "contract") ⨟ new_name before name ⨟ mark (codes "=") ⨟ contr s [] c ⨟ shallow c ⨟ mark (codes ";")
 
 abbrev pub origin_line : Option ℤ → Part
 origin_line None = nothing
@@ -80,8 +84,11 @@ start_line day ts rest = ((day ≡ 0) × (ts ≡ rest)) ⊎ (word (codes "start"
 
 abbrev pub decls : Declarations → Part
 decls d =
-    word (codes "amounts") ⨟ valued (integer_at 12) d.amounts ⨟ mark (codes ";") ⨟ origin_line d.origin ⨟ start_line d.start ⨟ name_lines (codes "party") d.parties ⨟ name_lines (codes "asset") d.assets ⨟ Repeat (Entry label_line) [] d.labels ⨟ Repeat (Entry template_line) [] d.templates
+    word (codes "amounts") ⨟ valued (integer_at 12) d.amounts ⨟ mark (codes ";") ⨟ origin_line d.origin ⨟ start_line d.start
+    ⨟ name_lines (codes "party") d.parties ⨟ name_lines (codes "asset") d.assets ⨟ Repeat (Entry label_line) [] d.labels
+    ⨟ Repeat (Entry template_line) [] d.templates
 
 abbrev pub portfolio : Book → Part
 portfolio b =
-    word (codes "portfolio") ⨟ one is_version ⨟ mark (codes ";") ⨟ decls b.declarations ⨟ Repeat (Entry (contract_line (scope_of b.declarations []))) [] b.contracts ⨟ end
+    word (codes "portfolio") ⨟ one is_version ⨟ mark (codes ";") ⨟ decls b.declarations
+    ⨟ Repeat (Entry (contract_line (scope_of b.declarations []))) [] b.contracts ⨟ end

@@ -23,7 +23,8 @@ pub record Text (bytes : List ℕ) (b : Book) : Type 0 where
 -- prefix that is; else it is the first token that the places refuse
 pub data FirstFault (bytes : List ℕ) : TextKind → ℕ → Type 0 where
   no_utf8 : {at : ℕ} → (IsUtf8 bytes → ⊥) → IsValidUpTo bytes at → FirstFault bytes Utf8 at
-  refused : {kind : TextKind} {left : ℕ} → IsUtf8 bytes → run nothing_declared text_places (tokens bytes) ≡ Stops kind left → FirstFault bytes kind (length bytes - left)
+  refused : {kind : TextKind} {left : ℕ} → IsUtf8 bytes
+      → run nothing_declared text_places (tokens bytes) ≡ Stops kind left → FirstFault bytes kind (length bytes - left)
 
 -- the first fault of the bytes, with its line and column
 pub record IsFault (bytes : List ℕ) (f : TextFault) : Type 0 where

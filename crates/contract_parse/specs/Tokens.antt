@@ -63,7 +63,8 @@ is_long_mark a b = (((a == 60) || (a == 62) || (a == 33)) && (b == 61)) || ((a =
 -- `;` `,` `:` `=` `(` `)` `+` `-` `*` `<` `>` `&` `|`
 abbrev pub is_short_mark : ℕ → Bool
 is_short_mark a =
-    (a == 59) || (a == 44) || (a == 58) || (a == 61) || (a == 40) || (a == 41) || (a == 43) || (a == 45) || (a == 42) || (a == 60) || (a == 62) || (a == 38) || (a == 124)
+    (a == 59) || (a == 44) || (a == 58) || (a == 61) || (a == 40) || (a == 41) || (a == 43) || (a == 45) || (a == 42) || (a == 60)
+    || (a == 62) || (a == 38) || (a == 124)
 
 abbrev pub mark_len : List ℕ → ℕ
 mark_len [] = 0
@@ -107,7 +108,8 @@ is_last Mark = false
 
 unfoldable pub tokens_from : ℕ → List ℕ → List Tok
 tokens_from zero bytes = []
-tokens_from (suc fuel) bytes = (next_token bytes).0 ∷ (if is_last (next_token bytes).0.kind then [] else tokens_from fuel (next_token bytes).1)
+tokens_from (suc fuel) bytes =
+    (next_token bytes).0 ∷ (if is_last (next_token bytes).0.kind then [] else tokens_from fuel (next_token bytes).1)
 
 -- the tokens of a text, up to the end or to the byte at which none begins
 unfoldable pub tokens : List ℕ → List Tok

@@ -74,19 +74,23 @@ reserved_of_two = codes "in" ∷ codes "if" ∷ []
 
 abbrev pub reserved_of_three : List Bytes
 reserved_of_three =
-    codes "num" ∷ codes "pay" ∷ codes "let" ∷ codes "obs" ∷ codes "neg" ∷ codes "not" ∷ codes "min" ∷ codes "max" ∷ codes "div" ∷ codes "acc" ∷ codes "add" ∷ codes "cut" ∷ []
+    codes "num" ∷ codes "pay" ∷ codes "let" ∷ codes "obs" ∷ codes "neg" ∷ codes "not" ∷ codes "min" ∷ codes "max" ∷ codes "div"
+    ∷ codes "acc" ∷ codes "add" ∷ codes "cut" ∷ []
 
 abbrev pub reserved_of_four : List Bytes
 reserved_of_four =
-    codes "flag" ∷ codes "code" ∷ codes "zero" ∷ codes "both" ∷ codes "then" ∷ codes "else" ∷ codes "true" ∷ codes "none" ∷ codes "loop" ∷ codes "upto" ∷ codes "ceil" ∷ []
+    codes "flag" ∷ codes "code" ∷ codes "zero" ∷ codes "both" ∷ codes "then" ∷ codes "else" ∷ codes "true" ∷ codes "none" ∷ codes "loop"
+    ∷ codes "upto" ∷ codes "ceil" ∷ []
 
 abbrev pub reserved_of_five : List Bytes
 reserved_of_five =
-    codes "start" ∷ codes "party" ∷ codes "asset" ∷ codes "scale" ∷ codes "after" ∷ codes "false" ∷ codes "widen" ∷ codes "round" ∷ codes "model" ∷ codes "floor" ∷ []
+    codes "start" ∷ codes "party" ∷ codes "asset" ∷ codes "scale" ∷ codes "after" ∷ codes "false" ∷ codes "widen" ∷ codes "round"
+    ∷ codes "model" ∷ codes "floor" ∷ []
 
 abbrev pub reserved_of_more : List Bytes
 reserved_of_more =
-    codes "payoff" ∷ codes "origin" ∷ codes "within" ∷ codes "amounts" ∷ codes "template" ∷ codes "contract" ∷ codes "portfolio" ∷ codes "half_even" ∷ codes "half_away" ∷ []
+    codes "payoff" ∷ codes "origin" ∷ codes "within" ∷ codes "amounts" ∷ codes "template" ∷ codes "contract" ∷ codes "portfolio"
+    ∷ codes "half_even" ∷ codes "half_away" ∷ []
 
 -- the reserved words, by their length
 abbrev pub reserved : List Bytes

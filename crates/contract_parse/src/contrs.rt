@@ -4,13 +4,13 @@ ghost use Rattle.indexmap.specs.IndexMap.{index_map_len, keys};
 ghost use Rattle.indexmap.specs.IndexSet.{index_set_len};
 ghost use Rattle.term_core.specs.Terms.{contract, expression};
 ghost use Rattle.term_core.specs.Sizes.{height, height_of_contract};
-ghost use Rattle.contract_parse.specs.Tokens.{Tok, tokens};
 ghost use Rattle.contract_parse.specs.Words.{Bytes};
-ghost use Rattle.contract_parse.specs.Names.{Scope, names_in};
+ghost use Rattle.contract_parse.specs.Names.{names_in};
 ghost use Rattle.contract_parse.specs.Judgements.{days_at, use_at};
-ghost use Rattle.contract_parse.specs.Spelling.{contr, expr, mark, valued, word, ◌⨟◌};
-ghost use Rattle.contract_parse.specs.Places.{ContrAt, DaysAt, ExprAt, Leaves, Place, TheMark, TheWord, UseOf, contr_places, run};
+ghost use Rattle.contract_parse.specs.Spelling.{contr, mark, valued, word, ◌⨟◌};
+ghost use Rattle.contract_parse.specs.Places.{ContrAt, DaysAt, ExprAt, TheMark, TheWord, UseOf, contr_places};
 ghost use Rattle.contract_parse.specs.Reading.{scope_in};
+ghost use Rattle.contract_parse.specs.Readers.{Passes, PassesAnywhere, Spelled, SpelledBehind, behind_head, contract_in, expression_in};
 ghost use Rattle.contract_parse.specs.declared.heads.Language.{Language};
 
 use crate::exprs::read_expr;
@@ -32,8 +32,8 @@ fn read_use_behind<'a>(
     rest: &'a [u8],
 ) -> Result<(u32, &'a [u8]), ReadErr>
     requires { index_set_len names.now < 2 ^ 32 }
-    ensures follows { (s : Scope) (ps : List Place) → Leaves (λ r. run s ps (tokens r.1.now)) result (run s (TheMark wanted.now ∷ UseOf names.now.keys ∷ ps) (tokens rest.now)) }
-    ensures spelled { IfOk result (λ r. (mark wanted.now ⨟ valued (use_at names.now.keys) r.0) (tokens rest.now) (tokens r.1.now)) }
+    ensures follows { PassesAnywhere (λ r. r.1.now) (λ ps. TheMark wanted.now ∷ UseOf names.now.keys ∷ ps) rest.now result }
+    ensures spelled { IfOk result (λ r. Spelled (mark wanted.now ⨟ valued (use_at names.now.keys) r.0) rest.now r.1.now) }
     ensures shorter { IfOk result (λ r. length r.1.now ≤ length rest.now) }
 {
     let rest = skip_mark(rest, wanted)?;
@@ -47,8 +47,8 @@ fn read_days_within<'a>(
     rest: &'a [u8],
 ) -> Result<(Days, &'a [u8]), ReadErr>
     requires { index_map_len templates.now < 2 ^ 32 }
-    ensures follows { (s : Scope) (ps : List Place) → Leaves (λ r. run s ps (tokens r.1.now)) result (run s (TheWord (codes "within") ∷ DaysAt (keys templates.now) ∷ ps) (tokens rest.now)) }
-    ensures spelled { IfOk result (λ r. (word (codes "within") ⨟ valued (days_at (keys templates.now)) r.0) (tokens rest.now) (tokens r.1.now)) }
+    ensures follows { PassesAnywhere (λ r. r.1.now) (λ ps. TheWord (codes "within") ∷ DaysAt (keys templates.now) ∷ ps) rest.now result }
+    ensures spelled { IfOk result (λ r. Spelled (word (codes "within") ⨟ valued (days_at (keys templates.now)) r.0) rest.now r.1.now) }
     ensures shorter { IfOk result (λ r. length r.1.now ≤ length rest.now) }
 {
     let rest = skip_word(rest, b"within")?;
@@ -58,8 +58,10 @@ fn read_days_within<'a>(
 // What stands behind `pay`.
 #[tactic(auto, using(crate::proofs::Parts::followed_by))]
 fn read_pay<'a>(decls: &Decls, rest: &'a [u8]) -> Result<(Contr, &'a [u8]), ReadErr>
-    ensures follows { (cs : List Bytes) (depth : ℕ) (names : List Bytes) (ps : List Place) → Leaves (λ r. run (scope_in decls.now cs) ps (tokens r.1.now)) result (run (scope_in decls.now cs) (contr_places (scope_in decls.now cs) depth names Head.Pay ps) (tokens rest.now)) }
-    ensures spelled { IfOk result (λ r. (names : List Bytes) (ts : List Tok) → word (codes "pay") ts (tokens rest.now) → contr (scope_in decls.now []) names (contract r.0) ts (tokens r.1.now)) }
+    ensures follows { (depth : ℕ) (names : List Bytes) →
+        Passes decls.now (λ r. r.1.now) (λ s ps. contr_places s depth names Head.Pay ps) rest.now result }
+    ensures spelled { IfOk result (λ r. (names : List Bytes) →
+        SpelledBehind (codes "pay") (contr (scope_in decls.now []) names (contract r.0)) rest.now r.1.now) }
     ensures high { IfOk result (λ r. height_of_contract (contract r.0) ≡ 1) }
     ensures shorter { IfOk result (λ r. length r.1.now ≤ length rest.now) }
 {
@@ -81,8 +83,10 @@ fn read_factor<'a>(
 ) -> Result<(Expr, &'a [u8]), ReadErr>
     requires shallow { depth ≤ 200 }
     requires bound { length (names_in bound.now) < depth }
-    ensures follows { (cs : List Bytes) (ps : List Place) → Leaves (λ r. run (scope_in decls.now cs) ps (tokens r.1.now)) result (run (scope_in decls.now cs) (TheMark (codes "(") ∷ ExprAt Language.Contracts (depth + 1) (names_in bound.now) ∷ ps) (tokens rest.now)) }
-    ensures spelled { IfOk result (λ r. (mark (codes "(") ⨟ expr Language.Contracts (scope_in decls.now []) (names_in bound.now) (expression r.0)) (tokens rest.now) (tokens r.1.now)) }
+    ensures follows { Passes decls.now (λ r. r.1.now)
+        (λ s ps. TheMark (codes "(") ∷ ExprAt Language.Contracts (depth + 1) (names_in bound.now) ∷ ps) rest.now result }
+    ensures spelled { IfOk result
+        (λ r. Spelled (mark (codes "(") ⨟ expression_in Language.Contracts decls.now bound.now r.0) rest.now r.1.now) }
     ensures high { IfOk result (λ r. height (expression r.0) + depth ≤ 200) }
     ensures shorter { IfOk result (λ r. length r.1.now ≤ length rest.now) }
 {
@@ -101,8 +105,8 @@ fn read_boxed<'a>(
 ) -> Result<(Box<Contr>, &'a [u8]), ReadErr>
     requires shallow { depth ≤ 200 }
     requires bound { length (names_in bound.now) ≤ depth }
-    ensures follows { (cs : List Bytes) (ps : List Place) → Leaves (λ r. run (scope_in decls.now cs) ps (tokens r.1.now)) result (run (scope_in decls.now cs) (ContrAt (depth + 1) (names_in bound.now) ∷ ps) (tokens rest.now)) }
-    ensures spelled { IfOk result (λ r. contr (scope_in decls.now []) (names_in bound.now) (contract r.0.value) (tokens rest.now) (tokens r.1.now)) }
+    ensures follows { Passes decls.now (λ r. r.1.now) (λ s ps. ContrAt (depth + 1) (names_in bound.now) ∷ ps) rest.now result }
+    ensures spelled { IfOk result (λ r. Spelled (contract_in decls.now bound.now r.0.value) rest.now r.1.now) }
     ensures high { IfOk result (λ r. height_of_contract (contract r.0.value) + depth ≤ 200) }
     ensures shorter { IfOk result (λ r. length r.1.now ≤ length rest.now) }
 {
@@ -124,8 +128,9 @@ fn read_behind_mark<'a>(
 ) -> Result<(Box<Contr>, &'a [u8]), ReadErr>
     requires shallow { depth ≤ 200 }
     requires bound { length (names_in bound.now) ≤ depth }
-    ensures follows { (cs : List Bytes) (ps : List Place) → Leaves (λ r. run (scope_in decls.now cs) ps (tokens r.1.now)) result (run (scope_in decls.now cs) (TheMark wanted.now ∷ ContrAt (depth + 1) (names_in bound.now) ∷ ps) (tokens rest.now)) }
-    ensures spelled { IfOk result (λ r. (mark wanted.now ⨟ contr (scope_in decls.now []) (names_in bound.now) (contract r.0.value)) (tokens rest.now) (tokens r.1.now)) }
+    ensures follows { Passes decls.now (λ r. r.1.now)
+        (λ s ps. TheMark wanted.now ∷ ContrAt (depth + 1) (names_in bound.now) ∷ ps) rest.now result }
+    ensures spelled { IfOk result (λ r. Spelled (mark wanted.now ⨟ contract_in decls.now bound.now r.0.value) rest.now r.1.now) }
     ensures high { IfOk result (λ r. height_of_contract (contract r.0.value) + depth ≤ 200) }
     ensures shorter { IfOk result (λ r. length r.1.now ≤ length rest.now) }
 {
@@ -146,8 +151,9 @@ fn read_behind_word<'a>(
 ) -> Result<(Box<Contr>, &'a [u8]), ReadErr>
     requires shallow { depth ≤ 200 }
     requires bound { length (names_in bound.now) ≤ depth }
-    ensures follows { (cs : List Bytes) (ps : List Place) → Leaves (λ r. run (scope_in decls.now cs) ps (tokens r.1.now)) result (run (scope_in decls.now cs) (TheWord wanted.now ∷ ContrAt (depth + 1) (names_in bound.now) ∷ ps) (tokens rest.now)) }
-    ensures spelled { IfOk result (λ r. (word wanted.now ⨟ contr (scope_in decls.now []) (names_in bound.now) (contract r.0.value)) (tokens rest.now) (tokens r.1.now)) }
+    ensures follows { Passes decls.now (λ r. r.1.now)
+        (λ s ps. TheWord wanted.now ∷ ContrAt (depth + 1) (names_in bound.now) ∷ ps) rest.now result }
+    ensures spelled { IfOk result (λ r. Spelled (word wanted.now ⨟ contract_in decls.now bound.now r.0.value) rest.now r.1.now) }
     ensures high { IfOk result (λ r. height_of_contract (contract r.0.value) + depth ≤ 200) }
     ensures shorter { IfOk result (λ r. length r.1.now ≤ length rest.now) }
 {
@@ -167,9 +173,14 @@ fn read_branches<'a>(
 ) -> Result<(Box<Contr>, Box<Contr>, &'a [u8]), ReadErr>
     requires shallow { depth ≤ 200 }
     requires bound { length (names_in bound.now) ≤ depth }
-    ensures follows { (cs : List Bytes) (ps : List Place) → Leaves (λ r. run (scope_in decls.now cs) ps (tokens r.2.now)) result (run (scope_in decls.now cs) (TheWord (codes "then") ∷ ContrAt (depth + 1) (names_in bound.now) ∷ TheWord (codes "else") ∷ ContrAt (depth + 1) (names_in bound.now) ∷ ps) (tokens rest.now)) }
-    ensures spelled { IfOk result (λ r. (word (codes "then") ⨟ contr (scope_in decls.now []) (names_in bound.now) (contract r.0.value) ⨟ word (codes "else") ⨟ contr (scope_in decls.now []) (names_in bound.now) (contract r.1.value)) (tokens rest.now) (tokens r.2.now)) }
-    ensures high { IfOk result (λ r. max (height_of_contract (contract r.0.value)) (height_of_contract (contract r.1.value)) + depth ≤ 200) }
+    ensures follows { Passes decls.now (λ r. r.2.now)
+        (λ s ps. TheWord (codes "then") ∷ ContrAt (depth + 1) (names_in bound.now)
+        ∷ TheWord (codes "else") ∷ ContrAt (depth + 1) (names_in bound.now) ∷ ps) rest.now result }
+    ensures spelled { IfOk result
+        (λ r. Spelled (word (codes "then") ⨟ contract_in decls.now bound.now r.0.value
+        ⨟ word (codes "else") ⨟ contract_in decls.now bound.now r.1.value) rest.now r.2.now) }
+    ensures high { IfOk result
+        (λ r. max (height_of_contract (contract r.0.value)) (height_of_contract (contract r.1.value)) + depth ≤ 200) }
     ensures shorter { IfOk result (λ r. length r.2.now ≤ length rest.now) }
 {
     let (hit, rest) = read_behind_word(alloc, decls, bound, depth, b"then", rest)?;
@@ -189,8 +200,8 @@ fn read_both<'a>(
 ) -> Result<(Contr, &'a [u8]), ReadErr>
     requires shallow { depth ≤ 200 }
     requires bound { length (names_in bound.now) < depth }
-    ensures follows { (cs : List Bytes) (ps : List Place) → Leaves (λ r. run (scope_in decls.now cs) ps (tokens r.1.now)) result (run (scope_in decls.now cs) (contr_places (scope_in decls.now cs) depth (names_in bound.now) Head.Both ps) (tokens rest.now)) }
-    ensures spelled { IfOk result (λ r. (ts : List Tok) → word (codes "both") ts (tokens rest.now) → contr (scope_in decls.now []) (names_in bound.now) (contract r.0) ts (tokens r.1.now)) }
+    ensures follows { Passes decls.now (λ r. r.1.now) (behind_head depth bound.now Head.Both) rest.now result }
+    ensures spelled { IfOk result (λ r. SpelledBehind (codes "both") (contract_in decls.now bound.now r.0) rest.now r.1.now) }
     ensures high { IfOk result (λ r. height_of_contract (contract r.0) + depth ≤ 201) }
     ensures shorter { IfOk result (λ r. length r.1.now ≤ length rest.now) }
 {
@@ -212,8 +223,8 @@ fn read_scaled<'a>(
 ) -> Result<(Contr, &'a [u8]), ReadErr>
     requires shallow { depth ≤ 200 }
     requires bound { length (names_in bound.now) < depth }
-    ensures follows { (cs : List Bytes) (ps : List Place) → Leaves (λ r. run (scope_in decls.now cs) ps (tokens r.1.now)) result (run (scope_in decls.now cs) (contr_places (scope_in decls.now cs) depth (names_in bound.now) Head.Scale ps) (tokens rest.now)) }
-    ensures spelled { IfOk result (λ r. (ts : List Tok) → word (codes "scale") ts (tokens rest.now) → contr (scope_in decls.now []) (names_in bound.now) (contract r.0) ts (tokens r.1.now)) }
+    ensures follows { Passes decls.now (λ r. r.1.now) (behind_head depth bound.now Head.Scale) rest.now result }
+    ensures spelled { IfOk result (λ r. SpelledBehind (codes "scale") (contract_in decls.now bound.now r.0) rest.now r.1.now) }
     ensures high { IfOk result (λ r. height_of_contract (contract r.0) + depth ≤ 201) }
     ensures shorter { IfOk result (λ r. length r.1.now ≤ length rest.now) }
 {
@@ -235,8 +246,8 @@ fn read_after<'a>(
 ) -> Result<(Contr, &'a [u8]), ReadErr>
     requires shallow { depth ≤ 200 }
     requires bound { length (names_in bound.now) < depth }
-    ensures follows { (cs : List Bytes) (ps : List Place) → Leaves (λ r. run (scope_in decls.now cs) ps (tokens r.1.now)) result (run (scope_in decls.now cs) (contr_places (scope_in decls.now cs) depth (names_in bound.now) Head.After ps) (tokens rest.now)) }
-    ensures spelled { IfOk result (λ r. (ts : List Tok) → word (codes "after") ts (tokens rest.now) → contr (scope_in decls.now []) (names_in bound.now) (contract r.0) ts (tokens r.1.now)) }
+    ensures follows { Passes decls.now (λ r. r.1.now) (behind_head depth bound.now Head.After) rest.now result }
+    ensures spelled { IfOk result (λ r. SpelledBehind (codes "after") (contract_in decls.now bound.now r.0) rest.now r.1.now) }
     ensures high { IfOk result (λ r. height_of_contract (contract r.0) + depth ≤ 201) }
     ensures shorter { IfOk result (λ r. length r.1.now ≤ length rest.now) }
 {
@@ -259,8 +270,8 @@ fn read_let<'a>(
 ) -> Result<(Contr, &'a [u8]), ReadErr>
     requires shallow { depth ≤ 200 }
     requires bound { length (names_in bound.now) < depth }
-    ensures follows { (cs : List Bytes) (ps : List Place) → Leaves (λ r. run (scope_in decls.now cs) ps (tokens r.1.now)) result (run (scope_in decls.now cs) (contr_places (scope_in decls.now cs) depth (names_in bound.now) Head.Let ps) (tokens rest.now)) }
-    ensures spelled { IfOk result (λ r. (ts : List Tok) → word (codes "let") ts (tokens rest.now) → contr (scope_in decls.now []) (names_in bound.now) (contract r.0) ts (tokens r.1.now)) }
+    ensures follows { Passes decls.now (λ r. r.1.now) (behind_head depth bound.now Head.Let) rest.now result }
+    ensures spelled { IfOk result (λ r. SpelledBehind (codes "let") (contract_in decls.now bound.now r.0) rest.now r.1.now) }
     ensures high { IfOk result (λ r. height_of_contract (contract r.0) + depth ≤ 201) }
     ensures shorter { IfOk result (λ r. length r.1.now ≤ length rest.now) }
 {
@@ -287,8 +298,8 @@ fn read_within<'a>(
 ) -> Result<(Contr, &'a [u8]), ReadErr>
     requires shallow { depth ≤ 200 }
     requires bound { length (names_in bound.now) < depth }
-    ensures follows { (cs : List Bytes) (ps : List Place) → Leaves (λ r. run (scope_in decls.now cs) ps (tokens r.1.now)) result (run (scope_in decls.now cs) (contr_places (scope_in decls.now cs) depth (names_in bound.now) Head.If ps) (tokens rest.now)) }
-    ensures spelled { IfOk result (λ r. (ts : List Tok) → word (codes "if") ts (tokens rest.now) → contr (scope_in decls.now []) (names_in bound.now) (contract r.0) ts (tokens r.1.now)) }
+    ensures follows { Passes decls.now (λ r. r.1.now) (behind_head depth bound.now Head.If) rest.now result }
+    ensures spelled { IfOk result (λ r. SpelledBehind (codes "if") (contract_in decls.now bound.now r.0) rest.now r.1.now) }
     ensures high { IfOk result (λ r. height_of_contract (contract r.0) + depth ≤ 201) }
     ensures shorter { IfOk result (λ r. length r.1.now ≤ length rest.now) }
 {
@@ -318,8 +329,8 @@ pub fn read_contr<'a>(
 ) -> Result<(Contr, &'a [u8]), ReadErr>
     requires shallow { depth ≤ 201 }
     requires bound { length (names_in bound.now) < depth }
-    ensures follows { (cs : List Bytes) (ps : List Place) → Leaves (λ r. run (scope_in decls.now cs) ps (tokens r.1.now)) result (run (scope_in decls.now cs) (ContrAt depth (names_in bound.now) ∷ ps) (tokens rest.now)) }
-    ensures spelled { IfOk result (λ r. contr (scope_in decls.now []) (names_in bound.now) (contract r.0) (tokens rest.now) (tokens r.1.now)) }
+    ensures follows { Passes decls.now (λ r. r.1.now) (λ s ps. ContrAt depth (names_in bound.now) ∷ ps) rest.now result }
+    ensures spelled { IfOk result (λ r. Spelled (contract_in decls.now bound.now r.0) rest.now r.1.now) }
     ensures high { IfOk result (λ r. height_of_contract (contract r.0) + depth ≤ 201) }
     ensures shorter { IfOk result (λ r. length r.1.now ≤ length rest.now) }
 {

@@ -175,7 +175,9 @@ fn is_last(kind: Kind) -> bool
 fn after_tokens(start: Cursor, bytes: &[u8], stop: usize) -> Cursor
     requires small { length bytes.now ≤ 16_777_216 }
     requires fits { Fits bytes.now start }
-    ensures passed { (before : List Tok) (last next : Tok) (rest : List Tok) → tokens_at bytes.now start.at ≡ before ++ last ∷ next ∷ rest → length bytes.now - next.left ≡ stop → IsAfter bytes.now last (next ∷ rest) result.at }
+    ensures passed { (before : List Tok) (last next : Tok) (rest : List Tok)
+        → tokens_at bytes.now start.at ≡ before ++ last ∷ next ∷ rest → length bytes.now - next.left ≡ stop
+        → IsAfter bytes.now last (next ∷ rest) result.at }
     ensures fits { Fits bytes.now result }
 {
     let mut cursor = start;

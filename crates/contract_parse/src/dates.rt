@@ -1,11 +1,9 @@
 //! Dates of payoff code, which are passed over: whoever wants one reads it where it stands.
-ghost use Rattle.std.specs.Prelude.{◌≡◌, ◌≤◌, ◌∷◌, List, IfOk, length, pos};
+ghost use Rattle.std.specs.Prelude.{◌≡◌, ◌≤◌, ◌∷◌, IfOk, length, pos};
 ghost use Rattle.indexmap.specs.IndexMap.{keys};
-ghost use Rattle.contract_parse.specs.Tokens.{tokens};
-ghost use Rattle.contract_parse.specs.Words.{Bytes};
 ghost use Rattle.contract_parse.specs.Spelling.{DateFrom, SomeDate, SomeTemplates};
-ghost use Rattle.contract_parse.specs.Places.{Leaves, MoreTemplates, Place, date_places, run};
-ghost use Rattle.contract_parse.specs.Reading.{scope_in};
+ghost use Rattle.contract_parse.specs.Places.{MoreTemplates, date_places};
+ghost use Rattle.contract_parse.specs.Readers.{Passes, Spelled};
 
 use crate::faults::ReadErr;
 use crate::readers::{after_mark, read_date_number, read_use_of_map};
@@ -15,8 +13,8 @@ use term_core::Decls;
 
 // The templates of a date, as many as stand here.
 fn skip_templates<'a>(decls: &Decls, rest: &'a [u8]) -> Result<&'a [u8], ReadErr>
-    ensures follows { (cs : List Bytes) (ps : List Place) → Leaves (λ r. run (scope_in decls.now cs) ps (tokens r.now)) result (run (scope_in decls.now cs) (MoreTemplates ∷ ps) (tokens rest.now)) }
-    ensures spelled { IfOk result (λ r. SomeTemplates (keys decls.now.templates) (tokens rest.now) (tokens r.now)) }
+    ensures follows { Passes decls.now (λ r. r.now) (λ s ps. MoreTemplates ∷ ps) rest.now result }
+    ensures spelled { IfOk result (λ r. Spelled (SomeTemplates (keys decls.now.templates)) rest.now r.now) }
     ensures shorter { IfOk result (λ r. length r.now ≤ length rest.now) }
 {
     let mut rest = rest;
@@ -29,8 +27,8 @@ fn skip_templates<'a>(decls: &Decls, rest: &'a [u8]) -> Result<&'a [u8], ReadErr
 
 /// The text behind a date.
 pub fn skip_date<'a>(decls: &Decls, rest: &'a [u8]) -> Result<&'a [u8], ReadErr>
-    ensures follows { (cs : List Bytes) (ps : List Place) → Leaves (λ r. run (scope_in decls.now cs) ps (tokens r.now)) result (run (scope_in decls.now cs) (date_places ps) (tokens rest.now)) }
-    ensures spelled { IfOk result (λ r. SomeDate (keys decls.now.templates) (tokens rest.now) (tokens r.now)) }
+    ensures follows { Passes decls.now (λ r. r.now) (λ s ps. date_places ps) rest.now result }
+    ensures spelled { IfOk result (λ r. Spelled (SomeDate (keys decls.now.templates)) rest.now r.now) }
     ensures shorter { IfOk result (λ r. length r.now ≤ length rest.now) }
 {
     let (_, rest) = read_date_number(rest)?;
@@ -50,8 +48,8 @@ fn place_of(left: usize) -> Result<i32, NoMemory>
 
 /// The place of a date, and the text behind it.
 pub fn read_place_of_date<'a>(decls: &Decls, rest: &'a [u8]) -> Result<(i32, &'a [u8]), ReadErr>
-    ensures follows { (cs : List Bytes) (ps : List Place) → Leaves (λ r. run (scope_in decls.now cs) ps (tokens r.1.now)) result (run (scope_in decls.now cs) (date_places ps) (tokens rest.now)) }
-    ensures spelled { IfOk result (λ r. DateFrom (keys decls.now.templates) r.0 (tokens rest.now) (tokens r.1.now)) }
+    ensures follows { Passes decls.now (λ r. r.1.now) (λ s ps. date_places ps) rest.now result }
+    ensures spelled { IfOk result (λ r. Spelled (DateFrom (keys decls.now.templates) r.0) rest.now r.1.now) }
     ensures shorter { IfOk result (λ r. length r.1.now ≤ length rest.now) }
 {
     let (token, _) = next(rest);

@@ -4,13 +4,14 @@ ghost use Rattle.indexmap.specs.IndexMap.{index_map_len, keys};
 ghost use Rattle.indexmap.specs.IndexSet.{index_set_len};
 ghost use Rattle.term_core.specs.Limits.{are_numbers, is_origin};
 ghost use Rattle.term_core.specs.Declarations.{declarations};
-ghost use Rattle.contract_parse.specs.Tokens.{Tok, tokens};
+ghost use Rattle.contract_parse.specs.Tokens.{tokens};
 ghost use Rattle.contract_parse.specs.Names.{Scope, nothing_declared, scope_of, with_names};
 ghost use Rattle.contract_parse.specs.Spelling.{mark, valued, word, ◌⨟◌};
 ghost use Rattle.contract_parse.specs.Judgements.{integer_at};
 ghost use Rattle.contract_parse.specs.Statements.{Entry, NameList, Repeat, decls, name_lines, origin_line, start_line, template_line};
 ghost use Rattle.contract_parse.specs.Places.{IntegerAt, Leaves, MoreNames, NameLines, NewIn, OriginLine, Place, StartLine, TemplateLines, TheMark, TheWord, decls_places, run, template_places};
 ghost use Rattle.contract_parse.specs.Reading.{tokens_ahead};
+ghost use Rattle.contract_parse.specs.Readers.{Declares, DeclaresLines, PassesAnywhere, PassesLine, Spelled, SpelledBehind};
 ghost use Rattle.contract_parse.specs.declared.names.NameSet.{NameSet};
 ghost use Rattle.contract_parse.specs.declared.names.NameSet.TheVariants.{Asset, Party, Template};
 
@@ -26,7 +27,7 @@ use std::alloc::Global;
 use term_core::{Decls, Name};
 
 fn read_origin<'a>(ahead: &Lookahead<'a>) -> Result<(Option<i64>, Lookahead<'a>), ReadErr>
-    ensures follows { (s : Scope) (ps : List Place) → Leaves (λ r. run s ps (tokens_ahead r.1)) result (run s (OriginLine ∷ ps) (tokens_ahead ahead.now)) }
+    ensures follows { PassesLine (λ r. r.1) OriginLine ahead.now result }
     ensures spelled { IfOk result (λ r. origin_line r.0 (tokens_ahead ahead.now) (tokens_ahead r.1)) }
     ensures shorter { IfOk result (λ r. length r.1.after.now ≤ length ahead.now.after.now) }
     ensures limits { IfOk result (λ r. is_origin r.0 ≡ true) }
@@ -42,7 +43,7 @@ fn read_origin<'a>(ahead: &Lookahead<'a>) -> Result<(Option<i64>, Lookahead<'a>)
 }
 
 fn read_start<'a>(ahead: &Lookahead<'a>) -> Result<(u32, Lookahead<'a>), ReadErr>
-    ensures follows { (s : Scope) (ps : List Place) → Leaves (λ r. run s ps (tokens_ahead r.1)) result (run s (StartLine ∷ ps) (tokens_ahead ahead.now)) }
+    ensures follows { PassesLine (λ r. r.1) StartLine ahead.now result }
     ensures spelled { IfOk result (λ r. start_line r.0 (tokens_ahead ahead.now) (tokens_ahead r.1)) }
     ensures shorter { IfOk result (λ r. length r.1.after.now ≤ length ahead.now.after.now) }
     ensures limits { IfOk result (λ r. r.0 ≤ 1_000_000) }
@@ -63,8 +64,9 @@ fn read_name_list<'a>(
     names: &mut IndexSet<Name>,
     rest: &'a [u8],
 ) -> Result<&'a [u8], ReadErr>
-    ensures follows { (set : NameSet) (s : Scope) (ps : List Place) → Leaves (λ r. run (with_names set names.new.keys s) ps (tokens r.now)) result (run (with_names set names.old.keys s) (NewIn set ∷ MoreNames set ∷ ps) (tokens rest.now)) }
-    ensures spelled { IfOk result (λ r. NameList names.old.keys names.new.keys (tokens rest.now) (tokens r.now)) }
+    ensures follows { (set : NameSet) →
+        Declares set names.old.keys (λ r. names.new.keys) (λ r. r.now) (λ ps. NewIn set ∷ MoreNames set ∷ ps) rest.now result }
+    ensures spelled { IfOk result (λ r. Spelled (NameList names.old.keys names.new.keys) rest.now r.now) }
     ensures shorter { IfOk result (λ r. length r.now < length rest.now) }
     ensures few { IfOk result (λ r. index_set_len names.new + length r.now ≤ index_set_len names.old + length rest.now) }
 {
@@ -84,7 +86,7 @@ fn read_names<'a>(
     word: &[u8],
     ahead: &Lookahead<'a>,
 ) -> Result<(IndexSet<Name>, Lookahead<'a>), ReadErr>
-    ensures follows { (set : NameSet) (s : Scope) (ps : List Place) → Leaves (λ r. run (with_names set r.0.keys s) ps (tokens_ahead r.1)) result (run (with_names set [] s) (NameLines word.now set ∷ ps) (tokens_ahead ahead.now)) }
+    ensures follows { (set : NameSet) → DeclaresLines set (λ r. r.0.keys) (λ r. r.1) (NameLines word.now set) ahead.now result }
     ensures spelled { IfOk result (λ r. name_lines word.now r.0.keys (tokens_ahead ahead.now) (tokens_ahead r.1)) }
     ensures few { IfOk result (λ r. index_set_len r.0 + length r.1.after.now ≤ length ahead.now.after.now) }
 {
@@ -100,8 +102,9 @@ fn read_names<'a>(
 // The number of a template, from behind its name to the end of its line.
 #[tactic(auto, using(crate::proofs::Parts::followed_by))]
 fn read_template_days(rest: &[u8]) -> Result<(u32, &[u8]), ReadErr>
-    ensures follows { (s : Scope) (ps : List Place) → Leaves (λ r. run s ps (tokens r.1.now)) result (run s (TheMark (codes "=") ∷ IntegerAt 100_000 ∷ TheMark (codes ";") ∷ ps) (tokens rest.now)) }
-    ensures spelled { IfOk result (λ r. (mark (codes "=") ⨟ valued (integer_at 100_000) r.0 ⨟ mark (codes ";")) (tokens rest.now) (tokens r.1.now)) }
+    ensures follows { PassesAnywhere (λ r. r.1.now)
+        (λ ps. TheMark (codes "=") ∷ IntegerAt 100_000 ∷ TheMark (codes ";") ∷ ps) rest.now result }
+    ensures spelled { IfOk result (λ r. Spelled (mark (codes "=") ⨟ valued (integer_at 100_000) r.0 ⨟ mark (codes ";")) rest.now r.1.now) }
     ensures shorter { IfOk result (λ r. length r.1.now < length rest.now) }
     ensures most { IfOk result (λ r. r.0 ≤ 100_000) }
 {
@@ -118,8 +121,9 @@ fn read_template<'a>(
     rest: &'a [u8],
 ) -> Result<&'a [u8], ReadErr>
     requires { are_numbers templates.old.entries ≡ true }
-    ensures follows { (s : Scope) (ps : List Place) → Leaves (λ r. run (with_names Template (keys templates.new) s) ps (tokens r.now)) result (run (with_names Template (keys templates.old) s) (template_places ps) (tokens rest.now)) }
-    ensures spelled { IfOk result (λ r. (ts : List Tok) → word (codes "template") ts (tokens rest.now) → Entry template_line templates.old.entries templates.new.entries ts (tokens r.now)) }
+    ensures follows { Declares Template (keys templates.old) (λ r. keys templates.new) (λ r. r.now) template_places rest.now result }
+    ensures spelled { IfOk result
+        (λ r. SpelledBehind (codes "template") (Entry template_line templates.old.entries templates.new.entries) rest.now r.now) }
     ensures shorter { IfOk result (λ r. length r.now < length rest.now) }
     ensures few { IfOk result (λ r. index_map_len templates.new + length r.now ≤ index_map_len templates.old + length rest.now) }
     ensures limits { IfOk result (λ r. are_numbers templates.new.entries ≡ true) }
@@ -134,7 +138,7 @@ fn read_templates<'a>(
     alloc: Global,
     ahead: &Lookahead<'a>,
 ) -> Result<(IndexMap<Name, u32>, Lookahead<'a>), ReadErr>
-    ensures follows { (s : Scope) (ps : List Place) → Leaves (λ r. run (with_names Template (keys r.0) s) ps (tokens_ahead r.1)) result (run (with_names Template [] s) (TemplateLines ∷ ps) (tokens_ahead ahead.now)) }
+    ensures follows { DeclaresLines Template (λ r. keys r.0) (λ r. r.1) TemplateLines ahead.now result }
     ensures spelled { IfOk result (λ r. Repeat (Entry template_line) [] r.0.entries (tokens_ahead ahead.now) (tokens_ahead r.1)) }
     ensures few { IfOk result (λ r. index_map_len r.0 + length r.1.after.now ≤ length ahead.now.after.now) }
     ensures limits { IfOk result (λ r. are_numbers r.0.entries ≡ true) }
@@ -151,8 +155,10 @@ fn read_templates<'a>(
 // The number of decimals of amounts, and the token behind it.
 #[tactic(auto, using(crate::proofs::Parts::followed_by))]
 fn read_amounts(rest: &[u8]) -> Result<(u8, Lookahead<'_>), ReadErr>
-    ensures follows { (s : Scope) (ps : List Place) → Leaves (λ r. run s ps (tokens_ahead r.1)) result (run s (TheWord (codes "amounts") ∷ IntegerAt 12 ∷ TheMark (codes ";") ∷ ps) (tokens rest.now)) }
-    ensures spelled { IfOk result (λ r. (word (codes "amounts") ⨟ valued (integer_at 12) r.0 ⨟ mark (codes ";")) (tokens rest.now) (tokens_ahead r.1)) }
+    ensures follows { (s : Scope) (ps : List Place) → Leaves (λ r. run s ps (tokens_ahead r.1)) result
+        (run s (TheWord (codes "amounts") ∷ IntegerAt 12 ∷ TheMark (codes ";") ∷ ps) (tokens rest.now)) }
+    ensures spelled { IfOk result
+        (λ r. (word (codes "amounts") ⨟ valued (integer_at 12) r.0 ⨟ mark (codes ";")) (tokens rest.now) (tokens_ahead r.1)) }
     ensures shorter { IfOk result (λ r. length r.1.after.now ≤ length rest.now) }
     ensures most { IfOk result (λ r. r.0 ≤ 12) }
 {
@@ -165,8 +171,11 @@ fn read_amounts(rest: &[u8]) -> Result<(u8, Lookahead<'_>), ReadErr>
 // The lines of numbers with which declarations begin.
 #[tactic(auto, using(crate::proofs::Parts::followed_by))]
 fn read_heading(rest: &[u8]) -> Result<(u8, Option<i64>, u32, Lookahead<'_>), ReadErr>
-    ensures follows { (s : Scope) (ps : List Place) → Leaves (λ r. run s ps (tokens_ahead r.3)) result (run s (TheWord (codes "amounts") ∷ IntegerAt 12 ∷ TheMark (codes ";") ∷ OriginLine ∷ StartLine ∷ ps) (tokens rest.now)) }
-    ensures spelled { IfOk result (λ r. (word (codes "amounts") ⨟ valued (integer_at 12) r.0 ⨟ mark (codes ";") ⨟ origin_line r.1 ⨟ start_line r.2) (tokens rest.now) (tokens_ahead r.3)) }
+    ensures follows { (s : Scope) (ps : List Place) → Leaves (λ r. run s ps (tokens_ahead r.3)) result
+        (run s (TheWord (codes "amounts") ∷ IntegerAt 12 ∷ TheMark (codes ";") ∷ OriginLine ∷ StartLine ∷ ps) (tokens rest.now)) }
+    ensures spelled { IfOk result
+        (λ r. (word (codes "amounts") ⨟ valued (integer_at 12) r.0 ⨟ mark (codes ";") ⨟ origin_line r.1 ⨟ start_line r.2)
+        (tokens rest.now) (tokens_ahead r.3)) }
     ensures shorter { IfOk result (λ r. length r.3.after.now ≤ length rest.now) }
     ensures amounts { IfOk result (λ r. r.0 ≤ 12) }
     ensures origin { IfOk result (λ r. is_origin r.1 ≡ true) }
@@ -184,8 +193,11 @@ fn read_owners<'a>(
     alloc: Global,
     ahead: &Lookahead<'a>,
 ) -> Result<(IndexSet<Name>, IndexSet<Name>, Lookahead<'a>), ReadErr>
-    ensures follows { (ps : List Place) → Leaves (λ r. run (with_names Asset r.1.keys (with_names Party r.0.keys nothing_declared)) ps (tokens_ahead r.2)) result (run nothing_declared (NameLines (codes "party") Party ∷ NameLines (codes "asset") Asset ∷ ps) (tokens_ahead ahead.now)) }
-    ensures spelled { IfOk result (λ r. (name_lines (codes "party") r.0.keys ⨟ name_lines (codes "asset") r.1.keys) (tokens_ahead ahead.now) (tokens_ahead r.2)) }
+    ensures follows { (ps : List Place) →
+        Leaves (λ r. run (with_names Asset r.1.keys (with_names Party r.0.keys nothing_declared)) ps (tokens_ahead r.2)) result
+        (run nothing_declared (NameLines (codes "party") Party ∷ NameLines (codes "asset") Asset ∷ ps) (tokens_ahead ahead.now)) }
+    ensures spelled { IfOk result
+        (λ r. (name_lines (codes "party") r.0.keys ⨟ name_lines (codes "asset") r.1.keys) (tokens_ahead ahead.now) (tokens_ahead r.2)) }
     ensures few { IfOk result (λ r. index_set_len r.0 + (index_set_len r.1 + length r.2.after.now) ≤ length ahead.now.after.now) }
 {
     let (parties, ahead) = read_names(alloc, b"party", ahead)?;
@@ -196,7 +208,8 @@ fn read_owners<'a>(
 /// The declarations that stand here, up to the last line that may belong to them, and the token that comes next.
 pub fn read_decls<'a>(alloc: Global, rest: &'a [u8]) -> Result<(Decls, Lookahead<'a>), ReadErr>
     requires { length rest.now ≤ 16_777_216 }
-    ensures follows { (ps : List Place) → Leaves (λ r. run (scope_of (declarations r.0) []) ps (tokens_ahead r.1)) result (run nothing_declared (decls_places ps) (tokens rest.now)) }
+    ensures follows { (ps : List Place) → Leaves (λ r. run (scope_of (declarations r.0) []) ps (tokens_ahead r.1)) result
+        (run nothing_declared (decls_places ps) (tokens rest.now)) }
     ensures spelled { IfOk result (λ r. decls (declarations r.0) (tokens rest.now) (tokens_ahead r.1)) }
 {
     let (amounts, origin, start, ahead) = read_heading(rest)?;

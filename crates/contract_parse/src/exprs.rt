@@ -2,14 +2,14 @@
 ghost use Rattle.std.specs.Prelude.{◌≡◌, ◌≤◌, ◌<◌, ◌+◌, ◌∷◌, [], ℕ, List, IfOk, codes, length, max, true};
 ghost use Rattle.term_core.specs.Terms.{Lit, expression};
 ghost use Rattle.term_core.specs.Sizes.{height};
-ghost use Rattle.contract_parse.specs.Tokens.{Tok, tokens};
 ghost use Rattle.contract_parse.specs.Words.{Bytes};
 ghost use Rattle.contract_parse.specs.Names.{Scope, names_in};
 ghost use Rattle.contract_parse.specs.Judgements.{binder_at, integer_at, mode_at};
-ghost use Rattle.contract_parse.specs.Spelling.{expr, mark, pair, valued, word, ◌⨟◌};
-ghost use Rattle.contract_parse.specs.Places.{BinderAt, ExprAt, IntegerAt, Leaves, LiteralNumber, ModeAt, Place, TheMark, binder_places, expr_places, leaf_places, operand_places, pair_places, run};
+ghost use Rattle.contract_parse.specs.Spelling.{expr, mark, pair, valued, ◌⨟◌};
+ghost use Rattle.contract_parse.specs.Places.{BinderAt, ExprAt, IntegerAt, LiteralNumber, ModeAt, TheMark, binder_places, leaf_places, operand_places, pair_places};
 ghost use Rattle.contract_parse.specs.Reading.{joined, scope_in};
 ghost use Rattle.contract_parse.specs.Heads.{greatest_depth, leaf_word};
+ghost use Rattle.contract_parse.specs.Readers.{LeadsOn, Passes, PassesAnywhere, Spelled, SpelledBehind, SpelledBehindMark, behind_first, expression_in};
 ghost use Rattle.contract_parse.specs.declared.heads.Binder.{Binder};
 ghost use Rattle.contract_parse.specs.declared.heads.Language.{Language};
 
@@ -49,8 +49,8 @@ fn literal(number: Decimal) -> Expr
 // The scale behind a mark, in `widen`, `round` and `div`.
 #[tactic(auto, using(crate::proofs::Parts::followed_by))]
 fn read_scale<'a>(wanted: &[u8], rest: &'a [u8]) -> Result<(u8, &'a [u8]), ReadErr>
-    ensures follows { (s : Scope) (ps : List Place) → Leaves (λ r. run s ps (tokens r.1.now)) result (run s (TheMark wanted.now ∷ IntegerAt 27 ∷ ps) (tokens rest.now)) }
-    ensures spelled { IfOk result (λ r. (mark wanted.now ⨟ valued (integer_at 27) r.0) (tokens rest.now) (tokens r.1.now)) }
+    ensures follows { PassesAnywhere (λ r. r.1.now) (λ ps. TheMark wanted.now ∷ IntegerAt 27 ∷ ps) rest.now result }
+    ensures spelled { IfOk result (λ r. Spelled (mark wanted.now ⨟ valued (integer_at 27) r.0) rest.now r.1.now) }
     ensures shorter { IfOk result (λ r. length r.1.now ≤ length rest.now) }
 {
     let rest = skip_mark(rest, wanted)?;
@@ -61,8 +61,10 @@ fn read_scale<'a>(wanted: &[u8], rest: &'a [u8]) -> Result<(u8, &'a [u8]), ReadE
 // The mode and the scale in `round` and `div`.
 #[tactic(auto, using(crate::proofs::Parts::followed_by))]
 fn read_rounding(rest: &[u8]) -> Result<(Mode, u8, &[u8]), ReadErr>
-    ensures follows { (s : Scope) (ps : List Place) → Leaves (λ r. run s ps (tokens r.2.now)) result (run s (TheMark (codes "(") ∷ ModeAt ∷ TheMark (codes ",") ∷ IntegerAt 27 ∷ ps) (tokens rest.now)) }
-    ensures spelled { IfOk result (λ r. (mark (codes "(") ⨟ valued mode_at r.0 ⨟ mark (codes ",") ⨟ valued (integer_at 27) r.1) (tokens rest.now) (tokens r.2.now)) }
+    ensures follows { PassesAnywhere (λ r. r.2.now)
+        (λ ps. TheMark (codes "(") ∷ ModeAt ∷ TheMark (codes ",") ∷ IntegerAt 27 ∷ ps) rest.now result }
+    ensures spelled { IfOk result
+        (λ r. Spelled (mark (codes "(") ⨟ valued mode_at r.0 ⨟ mark (codes ",") ⨟ valued (integer_at 27) r.1) rest.now r.2.now) }
     ensures shorter { IfOk result (λ r. length r.2.now ≤ length rest.now) }
 {
     let rest = skip_mark(rest, b"(")?;
@@ -74,8 +76,10 @@ fn read_rounding(rest: &[u8]) -> Result<(Mode, u8, &[u8]), ReadErr>
 // The name that `acc` binds.
 #[tactic(auto, using(crate::proofs::Parts::followed_by))]
 fn read_bound_name(rest: &[u8]) -> Result<(&[u8], &[u8]), ReadErr>
-    ensures follows { (binder : Binder) (l : Language) (d : ℕ) (names : List Bytes) (s : Scope) (ps : List Place) → Leaves (λ r. run s (binder_places binder l d names r.0.now ps) (tokens r.1.now)) result (run s (TheMark (codes "(") ∷ BinderAt binder l d names ∷ ps) (tokens rest.now)) }
-    ensures spelled { IfOk result (λ r. (mark (codes "(") ⨟ valued binder_at r.0.now) (tokens rest.now) (tokens r.1.now)) }
+    ensures follows { (binder : Binder) (l : Language) (d : ℕ) (names : List Bytes) →
+        LeadsOn (λ r. r.1.now) (λ ps. TheMark (codes "(") ∷ BinderAt binder l d names ∷ ps)
+        (λ r ps. binder_places binder l d names r.0.now ps) rest.now result }
+    ensures spelled { IfOk result (λ r. Spelled (mark (codes "(") ⨟ valued binder_at r.0.now) rest.now r.1.now) }
     ensures shorter { IfOk result (λ r. length r.1.now ≤ length rest.now) }
 {
     let rest = skip_mark(rest, b"(")?;
@@ -85,8 +89,8 @@ fn read_bound_name(rest: &[u8]) -> Result<(&[u8], &[u8]), ReadErr>
 // The number of days of `acc`.
 #[tactic(auto, using(crate::proofs::Parts::followed_by))]
 fn read_days_back(rest: &[u8]) -> Result<(u32, &[u8]), ReadErr>
-    ensures follows { (s : Scope) (ps : List Place) → Leaves (λ r. run s ps (tokens r.1.now)) result (run s (TheMark (codes ",") ∷ IntegerAt 100_000 ∷ ps) (tokens rest.now)) }
-    ensures spelled { IfOk result (λ r. (mark (codes ",") ⨟ valued (integer_at 100_000) r.0) (tokens rest.now) (tokens r.1.now)) }
+    ensures follows { PassesAnywhere (λ r. r.1.now) (λ ps. TheMark (codes ",") ∷ IntegerAt 100_000 ∷ ps) rest.now result }
+    ensures spelled { IfOk result (λ r. Spelled (mark (codes ",") ⨟ valued (integer_at 100_000) r.0) rest.now r.1.now) }
     ensures shorter { IfOk result (λ r. length r.1.now ≤ length rest.now) }
 {
     let rest = skip_mark(rest, b",")?;
@@ -95,8 +99,9 @@ fn read_days_back(rest: &[u8]) -> Result<(u32, &[u8]), ReadErr>
 
 // A literal behind its sign.
 fn read_negative(rest: &[u8]) -> Result<(Expr, &[u8]), ReadErr>
-    ensures follows { (s : Scope) (ps : List Place) → Leaves (λ r. run s ps (tokens r.1.now)) result (run s (LiteralNumber true ∷ ps) (tokens rest.now)) }
-    ensures spelled { IfOk result (λ r. (l : Language) (s : Scope) (names : List Bytes) (ts : List Tok) → mark (codes "-") ts (tokens rest.now) → expr l s names (expression r.0) ts (tokens r.1.now)) }
+    ensures follows { PassesAnywhere (λ r. r.1.now) (λ ps. LiteralNumber true ∷ ps) rest.now result }
+    ensures spelled { IfOk result (λ r. (l : Language) (s : Scope) (names : List Bytes) →
+        SpelledBehindMark (codes "-") (expr l s names (expression r.0)) rest.now r.1.now) }
     ensures high { IfOk result (λ r. height (expression r.0) ≡ 1) }
     ensures shorter { IfOk result (λ r. length r.1.now ≤ length rest.now) }
 {
@@ -106,8 +111,9 @@ fn read_negative(rest: &[u8]) -> Result<(Expr, &[u8]), ReadErr>
 
 // What stands behind `obs`.
 fn read_observed<'a>(decls: &Decls, rest: &'a [u8]) -> Result<(Expr, &'a [u8]), ReadErr>
-    ensures follows { (cs : List Bytes) (ps : List Place) → Leaves (λ r. run (scope_in decls.now cs) ps (tokens r.1.now)) result (run (scope_in decls.now cs) (leaf_places (scope_in decls.now cs) Language.Contracts ps) (tokens rest.now)) }
-    ensures spelled { IfOk result (λ r. (names : List Bytes) (ts : List Tok) → word (codes "obs") ts (tokens rest.now) → expr Language.Contracts (scope_in decls.now []) names (expression r.0) ts (tokens r.1.now)) }
+    ensures follows { Passes decls.now (λ r. r.1.now) (λ s ps. leaf_places s Language.Contracts ps) rest.now result }
+    ensures spelled { IfOk result (λ r. (names : List Bytes) →
+        SpelledBehind (codes "obs") (expr Language.Contracts (scope_in decls.now []) names (expression r.0)) rest.now r.1.now) }
     ensures high { IfOk result (λ r. height (expression r.0) ≡ 1) }
     ensures shorter { IfOk result (λ r. length r.1.now ≤ length rest.now) }
 {
@@ -121,8 +127,9 @@ fn read_observed<'a>(decls: &Decls, rest: &'a [u8]) -> Result<(Expr, &'a [u8]), 
 
 // What stands behind `model`: the place of its date is its offset.
 fn read_modelled<'a>(decls: &Decls, rest: &'a [u8]) -> Result<(Expr, &'a [u8]), ReadErr>
-    ensures follows { (cs : List Bytes) (ps : List Place) → Leaves (λ r. run (scope_in decls.now cs) ps (tokens r.1.now)) result (run (scope_in decls.now cs) (leaf_places (scope_in decls.now cs) Language.Code ps) (tokens rest.now)) }
-    ensures spelled { IfOk result (λ r. (names : List Bytes) (ts : List Tok) → word (codes "model") ts (tokens rest.now) → expr Language.Code (scope_in decls.now []) names (expression r.0) ts (tokens r.1.now)) }
+    ensures follows { Passes decls.now (λ r. r.1.now) (λ s ps. leaf_places s Language.Code ps) rest.now result }
+    ensures spelled { IfOk result (λ r. (names : List Bytes) →
+        SpelledBehind (codes "model") (expr Language.Code (scope_in decls.now []) names (expression r.0)) rest.now r.1.now) }
     ensures high { IfOk result (λ r. height (expression r.0) ≡ 1) }
     ensures shorter { IfOk result (λ r. length r.1.now ≤ length rest.now) }
 {
@@ -140,8 +147,9 @@ fn read_observable<'a>(
     decls: &Decls,
     rest: &'a [u8],
 ) -> Result<(Expr, &'a [u8]), ReadErr>
-    ensures follows { (cs : List Bytes) (ps : List Place) → Leaves (λ r. run (scope_in decls.now cs) ps (tokens r.1.now)) result (run (scope_in decls.now cs) (leaf_places (scope_in decls.now cs) language ps) (tokens rest.now)) }
-    ensures spelled { IfOk result (λ r. (names : List Bytes) (ts : List Tok) → word (leaf_word language) ts (tokens rest.now) → expr language (scope_in decls.now []) names (expression r.0) ts (tokens r.1.now)) }
+    ensures follows { Passes decls.now (λ r. r.1.now) (λ s ps. leaf_places s language ps) rest.now result }
+    ensures spelled { IfOk result (λ r. (names : List Bytes) →
+        SpelledBehind (leaf_word language) (expr language (scope_in decls.now []) names (expression r.0)) rest.now r.1.now) }
     ensures high { IfOk result (λ r. height (expression r.0) ≡ 1) }
     ensures shorter { IfOk result (λ r. length r.1.now ≤ length rest.now) }
 {
@@ -163,8 +171,8 @@ fn read_boxed<'a>(
 ) -> Result<(Box<Expr>, &'a [u8]), ReadErr>
     requires shallow { depth ≤ greatest_depth language }
     requires bound { length (names_in bound.now) ≤ depth }
-    ensures follows { (cs : List Bytes) (ps : List Place) → Leaves (λ r. run (scope_in decls.now cs) ps (tokens r.1.now)) result (run (scope_in decls.now cs) (ExprAt language (depth + 1) (names_in bound.now) ∷ ps) (tokens rest.now)) }
-    ensures spelled { IfOk result (λ r. expr language (scope_in decls.now []) (names_in bound.now) (expression r.0.value) (tokens rest.now) (tokens r.1.now)) }
+    ensures follows { Passes decls.now (λ r. r.1.now) (λ s ps. ExprAt language (depth + 1) (names_in bound.now) ∷ ps) rest.now result }
+    ensures spelled { IfOk result (λ r. Spelled (expression_in language decls.now bound.now r.0.value) rest.now r.1.now) }
     ensures high { IfOk result (λ r. height (expression r.0.value) + depth ≤ greatest_depth language) }
     ensures shorter { IfOk result (λ r. length r.1.now ≤ length rest.now) }
 {
@@ -187,8 +195,9 @@ fn read_behind<'a>(
 ) -> Result<(Box<Expr>, &'a [u8]), ReadErr>
     requires shallow { depth ≤ greatest_depth language }
     requires bound { length (names_in bound.now) ≤ depth }
-    ensures follows { (cs : List Bytes) (ps : List Place) → Leaves (λ r. run (scope_in decls.now cs) ps (tokens r.1.now)) result (run (scope_in decls.now cs) (TheMark wanted.now ∷ ExprAt language (depth + 1) (names_in bound.now) ∷ ps) (tokens rest.now)) }
-    ensures spelled { IfOk result (λ r. (mark wanted.now ⨟ expr language (scope_in decls.now []) (names_in bound.now) (expression r.0.value)) (tokens rest.now) (tokens r.1.now)) }
+    ensures follows { Passes decls.now (λ r. r.1.now)
+        (λ s ps. TheMark wanted.now ∷ ExprAt language (depth + 1) (names_in bound.now) ∷ ps) rest.now result }
+    ensures spelled { IfOk result (λ r. Spelled (mark wanted.now ⨟ expression_in language decls.now bound.now r.0.value) rest.now r.1.now) }
     ensures high { IfOk result (λ r. height (expression r.0.value) + depth ≤ greatest_depth language) }
     ensures shorter { IfOk result (λ r. length r.1.now ≤ length rest.now) }
 {
@@ -209,8 +218,10 @@ fn read_operand<'a>(
 ) -> Result<(Box<Expr>, &'a [u8]), ReadErr>
     requires shallow { depth ≤ greatest_depth language }
     requires bound { length (names_in bound.now) < depth }
-    ensures follows { (cs : List Bytes) (ps : List Place) → Leaves (λ r. run (scope_in decls.now cs) ps (tokens r.1.now)) result (run (scope_in decls.now cs) (operand_places (ExprAt language (depth + 1) (names_in bound.now)) ps) (tokens rest.now)) }
-    ensures spelled { IfOk result (λ r. (mark (codes "(") ⨟ expr language (scope_in decls.now []) (names_in bound.now) (expression r.0.value) ⨟ mark (codes ")")) (tokens rest.now) (tokens r.1.now)) }
+    ensures follows { Passes decls.now (λ r. r.1.now)
+        (λ s ps. operand_places (ExprAt language (depth + 1) (names_in bound.now)) ps) rest.now result }
+    ensures spelled { IfOk result
+        (λ r. Spelled (mark (codes "(") ⨟ expression_in language decls.now bound.now r.0.value ⨟ mark (codes ")")) rest.now r.1.now) }
     ensures high { IfOk result (λ r. height (expression r.0.value) + depth ≤ greatest_depth language) }
     ensures shorter { IfOk result (λ r. length r.1.now ≤ length rest.now) }
 {
@@ -232,8 +243,8 @@ fn read_neg<'a>(
 ) -> Result<(Expr, &'a [u8]), ReadErr>
     requires shallow { depth ≤ greatest_depth language }
     requires bound { length (names_in bound.now) < depth }
-    ensures follows { (cs : List Bytes) (ps : List Place) → Leaves (λ r. run (scope_in decls.now cs) ps (tokens r.1.now)) result (run (scope_in decls.now cs) (expr_places (scope_in decls.now cs) language depth (names_in bound.now) First.Neg ps) (tokens rest.now)) }
-    ensures spelled { IfOk result (λ r. (ts : List Tok) → word (codes "neg") ts (tokens rest.now) → expr language (scope_in decls.now []) (names_in bound.now) (expression r.0) ts (tokens r.1.now)) }
+    ensures follows { Passes decls.now (λ r. r.1.now) (behind_first language depth bound.now First.Neg) rest.now result }
+    ensures spelled { IfOk result (λ r. SpelledBehind (codes "neg") (expression_in language decls.now bound.now r.0) rest.now r.1.now) }
     ensures high { IfOk result (λ r. height (expression r.0) + depth ≤ greatest_depth language + 1) }
     ensures shorter { IfOk result (λ r. length r.1.now ≤ length rest.now) }
 {
@@ -254,8 +265,8 @@ fn read_not<'a>(
 ) -> Result<(Expr, &'a [u8]), ReadErr>
     requires shallow { depth ≤ greatest_depth language }
     requires bound { length (names_in bound.now) < depth }
-    ensures follows { (cs : List Bytes) (ps : List Place) → Leaves (λ r. run (scope_in decls.now cs) ps (tokens r.1.now)) result (run (scope_in decls.now cs) (expr_places (scope_in decls.now cs) language depth (names_in bound.now) First.Not ps) (tokens rest.now)) }
-    ensures spelled { IfOk result (λ r. (ts : List Tok) → word (codes "not") ts (tokens rest.now) → expr language (scope_in decls.now []) (names_in bound.now) (expression r.0) ts (tokens r.1.now)) }
+    ensures follows { Passes decls.now (λ r. r.1.now) (behind_first language depth bound.now First.Not) rest.now result }
+    ensures spelled { IfOk result (λ r. SpelledBehind (codes "not") (expression_in language decls.now bound.now r.0) rest.now r.1.now) }
     ensures high { IfOk result (λ r. height (expression r.0) + depth ≤ greatest_depth language + 1) }
     ensures shorter { IfOk result (λ r. length r.1.now ≤ length rest.now) }
 {
@@ -276,9 +287,14 @@ fn read_pair<'a>(
 ) -> Result<(Box<Expr>, Box<Expr>, &'a [u8]), ReadErr>
     requires shallow { depth ≤ greatest_depth language }
     requires bound { length (names_in bound.now) < depth }
-    ensures follows { (cs : List Bytes) (ps : List Place) → Leaves (λ r. run (scope_in decls.now cs) ps (tokens r.2.now)) result (run (scope_in decls.now cs) (pair_places (ExprAt language (depth + 1) (names_in bound.now)) (ExprAt language (depth + 1) (names_in bound.now)) ps) (tokens rest.now)) }
-    ensures spelled { IfOk result (λ r. pair (expr language (scope_in decls.now []) (names_in bound.now) (expression r.0.value)) (expr language (scope_in decls.now []) (names_in bound.now) (expression r.1.value)) (tokens rest.now) (tokens r.2.now)) }
-    ensures high { IfOk result (λ r. max (height (expression r.0.value)) (height (expression r.1.value)) + depth ≤ greatest_depth language) }
+    ensures follows { Passes decls.now (λ r. r.2.now)
+        (λ s ps. pair_places (ExprAt language (depth + 1) (names_in bound.now))
+        (ExprAt language (depth + 1) (names_in bound.now)) ps) rest.now result }
+    ensures spelled { IfOk result
+        (λ r. Spelled (pair (expression_in language decls.now bound.now r.0.value)
+        (expression_in language decls.now bound.now r.1.value)) rest.now r.2.now) }
+    ensures high { IfOk result
+        (λ r. max (height (expression r.0.value)) (height (expression r.1.value)) + depth ≤ greatest_depth language) }
     ensures shorter { IfOk result (λ r. length r.2.now ≤ length rest.now) }
 {
     let (left, rest) = read_behind(alloc, language, decls, bound, depth, b"(", rest)?;
@@ -300,8 +316,8 @@ fn read_min<'a>(
 ) -> Result<(Expr, &'a [u8]), ReadErr>
     requires shallow { depth ≤ greatest_depth language }
     requires bound { length (names_in bound.now) < depth }
-    ensures follows { (cs : List Bytes) (ps : List Place) → Leaves (λ r. run (scope_in decls.now cs) ps (tokens r.1.now)) result (run (scope_in decls.now cs) (expr_places (scope_in decls.now cs) language depth (names_in bound.now) First.Min ps) (tokens rest.now)) }
-    ensures spelled { IfOk result (λ r. (ts : List Tok) → word (codes "min") ts (tokens rest.now) → expr language (scope_in decls.now []) (names_in bound.now) (expression r.0) ts (tokens r.1.now)) }
+    ensures follows { Passes decls.now (λ r. r.1.now) (behind_first language depth bound.now First.Min) rest.now result }
+    ensures spelled { IfOk result (λ r. SpelledBehind (codes "min") (expression_in language decls.now bound.now r.0) rest.now r.1.now) }
     ensures high { IfOk result (λ r. height (expression r.0) + depth ≤ greatest_depth language + 1) }
     ensures shorter { IfOk result (λ r. length r.1.now ≤ length rest.now) }
 {
@@ -323,8 +339,8 @@ fn read_max<'a>(
 ) -> Result<(Expr, &'a [u8]), ReadErr>
     requires shallow { depth ≤ greatest_depth language }
     requires bound { length (names_in bound.now) < depth }
-    ensures follows { (cs : List Bytes) (ps : List Place) → Leaves (λ r. run (scope_in decls.now cs) ps (tokens r.1.now)) result (run (scope_in decls.now cs) (expr_places (scope_in decls.now cs) language depth (names_in bound.now) First.Max ps) (tokens rest.now)) }
-    ensures spelled { IfOk result (λ r. (ts : List Tok) → word (codes "max") ts (tokens rest.now) → expr language (scope_in decls.now []) (names_in bound.now) (expression r.0) ts (tokens r.1.now)) }
+    ensures follows { Passes decls.now (λ r. r.1.now) (behind_first language depth bound.now First.Max) rest.now result }
+    ensures spelled { IfOk result (λ r. SpelledBehind (codes "max") (expression_in language decls.now bound.now r.0) rest.now r.1.now) }
     ensures high { IfOk result (λ r. height (expression r.0) + depth ≤ greatest_depth language + 1) }
     ensures shorter { IfOk result (λ r. length r.1.now ≤ length rest.now) }
 {
@@ -346,8 +362,8 @@ fn read_infix<'a>(
 ) -> Result<(Expr, &'a [u8]), ReadErr>
     requires shallow { depth ≤ greatest_depth language }
     requires bound { length (names_in bound.now) < depth }
-    ensures follows { (cs : List Bytes) (ps : List Place) → Leaves (λ r. run (scope_in decls.now cs) ps (tokens r.1.now)) result (run (scope_in decls.now cs) (expr_places (scope_in decls.now cs) language depth (names_in bound.now) First.Open ps) (tokens rest.now)) }
-    ensures spelled { IfOk result (λ r. (ts : List Tok) → mark (codes "(") ts (tokens rest.now) → expr language (scope_in decls.now []) (names_in bound.now) (expression r.0) ts (tokens r.1.now)) }
+    ensures follows { Passes decls.now (λ r. r.1.now) (behind_first language depth bound.now First.Open) rest.now result }
+    ensures spelled { IfOk result (λ r. SpelledBehindMark (codes "(") (expression_in language decls.now bound.now r.0) rest.now r.1.now) }
     ensures high { IfOk result (λ r. height (expression r.0) + depth ≤ greatest_depth language + 1) }
     ensures shorter { IfOk result (λ r. length r.1.now ≤ length rest.now) }
 {
@@ -371,8 +387,8 @@ fn read_choice<'a>(
 ) -> Result<(Expr, &'a [u8]), ReadErr>
     requires shallow { depth ≤ greatest_depth language }
     requires bound { length (names_in bound.now) < depth }
-    ensures follows { (cs : List Bytes) (ps : List Place) → Leaves (λ r. run (scope_in decls.now cs) ps (tokens r.1.now)) result (run (scope_in decls.now cs) (expr_places (scope_in decls.now cs) language depth (names_in bound.now) First.If ps) (tokens rest.now)) }
-    ensures spelled { IfOk result (λ r. (ts : List Tok) → word (codes "if") ts (tokens rest.now) → expr language (scope_in decls.now []) (names_in bound.now) (expression r.0) ts (tokens r.1.now)) }
+    ensures follows { Passes decls.now (λ r. r.1.now) (behind_first language depth bound.now First.If) rest.now result }
+    ensures spelled { IfOk result (λ r. SpelledBehind (codes "if") (expression_in language decls.now bound.now r.0) rest.now r.1.now) }
     ensures high { IfOk result (λ r. height (expression r.0) + depth ≤ greatest_depth language + 1) }
     ensures shorter { IfOk result (λ r. length r.1.now ≤ length rest.now) }
 {
@@ -396,8 +412,8 @@ fn read_widen<'a>(
 ) -> Result<(Expr, &'a [u8]), ReadErr>
     requires shallow { depth ≤ greatest_depth language }
     requires bound { length (names_in bound.now) < depth }
-    ensures follows { (cs : List Bytes) (ps : List Place) → Leaves (λ r. run (scope_in decls.now cs) ps (tokens r.1.now)) result (run (scope_in decls.now cs) (expr_places (scope_in decls.now cs) language depth (names_in bound.now) First.Widen ps) (tokens rest.now)) }
-    ensures spelled { IfOk result (λ r. (ts : List Tok) → word (codes "widen") ts (tokens rest.now) → expr language (scope_in decls.now []) (names_in bound.now) (expression r.0) ts (tokens r.1.now)) }
+    ensures follows { Passes decls.now (λ r. r.1.now) (behind_first language depth bound.now First.Widen) rest.now result }
+    ensures spelled { IfOk result (λ r. SpelledBehind (codes "widen") (expression_in language decls.now bound.now r.0) rest.now r.1.now) }
     ensures high { IfOk result (λ r. height (expression r.0) + depth ≤ greatest_depth language + 1) }
     ensures shorter { IfOk result (λ r. length r.1.now ≤ length rest.now) }
 {
@@ -420,8 +436,8 @@ fn read_round<'a>(
 ) -> Result<(Expr, &'a [u8]), ReadErr>
     requires shallow { depth ≤ greatest_depth language }
     requires bound { length (names_in bound.now) < depth }
-    ensures follows { (cs : List Bytes) (ps : List Place) → Leaves (λ r. run (scope_in decls.now cs) ps (tokens r.1.now)) result (run (scope_in decls.now cs) (expr_places (scope_in decls.now cs) language depth (names_in bound.now) First.Round ps) (tokens rest.now)) }
-    ensures spelled { IfOk result (λ r. (ts : List Tok) → word (codes "round") ts (tokens rest.now) → expr language (scope_in decls.now []) (names_in bound.now) (expression r.0) ts (tokens r.1.now)) }
+    ensures follows { Passes decls.now (λ r. r.1.now) (behind_first language depth bound.now First.Round) rest.now result }
+    ensures spelled { IfOk result (λ r. SpelledBehind (codes "round") (expression_in language decls.now bound.now r.0) rest.now r.1.now) }
     ensures high { IfOk result (λ r. height (expression r.0) + depth ≤ greatest_depth language + 1) }
     ensures shorter { IfOk result (λ r. length r.1.now ≤ length rest.now) }
 {
@@ -444,8 +460,8 @@ fn read_div<'a>(
 ) -> Result<(Expr, &'a [u8]), ReadErr>
     requires shallow { depth ≤ greatest_depth language }
     requires bound { length (names_in bound.now) < depth }
-    ensures follows { (cs : List Bytes) (ps : List Place) → Leaves (λ r. run (scope_in decls.now cs) ps (tokens r.1.now)) result (run (scope_in decls.now cs) (expr_places (scope_in decls.now cs) language depth (names_in bound.now) First.Div ps) (tokens rest.now)) }
-    ensures spelled { IfOk result (λ r. (ts : List Tok) → word (codes "div") ts (tokens rest.now) → expr language (scope_in decls.now []) (names_in bound.now) (expression r.0) ts (tokens r.1.now)) }
+    ensures follows { Passes decls.now (λ r. r.1.now) (behind_first language depth bound.now First.Div) rest.now result }
+    ensures spelled { IfOk result (λ r. SpelledBehind (codes "div") (expression_in language decls.now bound.now r.0) rest.now r.1.now) }
     ensures high { IfOk result (λ r. height (expression r.0) + depth ≤ greatest_depth language + 1) }
     ensures shorter { IfOk result (λ r. length r.1.now ≤ length rest.now) }
 {
@@ -477,8 +493,8 @@ fn read_acc<'a>(
 ) -> Result<(Expr, &'a [u8]), ReadErr>
     requires shallow { depth ≤ greatest_depth language }
     requires bound { length (names_in bound.now) < depth }
-    ensures follows { (cs : List Bytes) (ps : List Place) → Leaves (λ r. run (scope_in decls.now cs) ps (tokens r.1.now)) result (run (scope_in decls.now cs) (expr_places (scope_in decls.now cs) language depth (names_in bound.now) First.Acc ps) (tokens rest.now)) }
-    ensures spelled { IfOk result (λ r. (ts : List Tok) → word (codes "acc") ts (tokens rest.now) → expr language (scope_in decls.now []) (names_in bound.now) (expression r.0) ts (tokens r.1.now)) }
+    ensures follows { Passes decls.now (λ r. r.1.now) (behind_first language depth bound.now First.Acc) rest.now result }
+    ensures spelled { IfOk result (λ r. SpelledBehind (codes "acc") (expression_in language decls.now bound.now r.0) rest.now r.1.now) }
     ensures high { IfOk result (λ r. height (expression r.0) + depth ≤ greatest_depth language + 1) }
     ensures shorter { IfOk result (λ r. length r.1.now ≤ length rest.now) }
 {
@@ -507,8 +523,8 @@ pub fn read_expr<'a>(
 ) -> Result<(Expr, &'a [u8]), ReadErr>
     requires shallow { depth ≤ greatest_depth language + 1 }
     requires bound { length (names_in bound.now) < depth }
-    ensures follows { (cs : List Bytes) (ps : List Place) → Leaves (λ r. run (scope_in decls.now cs) ps (tokens r.1.now)) result (run (scope_in decls.now cs) (ExprAt language depth (names_in bound.now) ∷ ps) (tokens rest.now)) }
-    ensures spelled { IfOk result (λ r. expr language (scope_in decls.now []) (names_in bound.now) (expression r.0) (tokens rest.now) (tokens r.1.now)) }
+    ensures follows { Passes decls.now (λ r. r.1.now) (λ s ps. ExprAt language depth (names_in bound.now) ∷ ps) rest.now result }
+    ensures spelled { IfOk result (λ r. Spelled (expression_in language decls.now bound.now r.0) rest.now r.1.now) }
     ensures high { IfOk result (λ r. height (expression r.0) + depth ≤ greatest_depth language + 1) }
     ensures shorter { IfOk result (λ r. length r.1.now ≤ length rest.now) }
 {

@@ -1,14 +1,12 @@
 //! Declarations of labels.
-ghost use Rattle.std.specs.Prelude.{◌≡◌, ◌≤◌, ◌<◌, ◌+◌, ◌∷◌, [], List, IfOk, codes, length, true};
+ghost use Rattle.std.specs.Prelude.{◌≡◌, ◌≤◌, ◌<◌, ◌+◌, ◌∷◌, [], IfOk, codes, length, true};
 ghost use Rattle.indexmap.specs.IndexMap.{index_map_len, keys};
 ghost use Rattle.term_core.specs.Limits.{are_labels, is_label};
-ghost use Rattle.contract_parse.specs.Tokens.{Tok, tokens};
-ghost use Rattle.contract_parse.specs.Names.{Scope, with_names};
-ghost use Rattle.contract_parse.specs.Spelling.{word};
 ghost use Rattle.contract_parse.specs.Statements.{Entry, Repeat, label_line};
 ghost use Rattle.contract_parse.specs.DeclarationReading.{label_range};
-ghost use Rattle.contract_parse.specs.Places.{LabelLines, Leaves, Place, ScaleAt, TheMark, flag_places, number_label_places, run};
+ghost use Rattle.contract_parse.specs.Places.{LabelLines, ScaleAt, TheMark, flag_places, number_label_places};
 ghost use Rattle.contract_parse.specs.Reading.{tokens_ahead};
+ghost use Rattle.contract_parse.specs.Readers.{Declares, DeclaresLines, PassesAnywhere, Spelled, SpelledBehind};
 ghost use Rattle.contract_parse.specs.declared.names.NameSet.TheVariants.{Label as LabelSet};
 
 use crate::faults::ReadErr;
@@ -22,8 +20,8 @@ use term_core::{Label, Name};
 
 // What stands behind the name of a number label.
 fn read_range(rest: &[u8]) -> Result<(Label, &[u8]), ReadErr>
-    ensures follows { (s : Scope) (ps : List Place) → Leaves (λ r. run s ps (tokens r.1.now)) result (run s (TheMark (codes ":") ∷ ScaleAt ∷ ps) (tokens rest.now)) }
-    ensures spelled { IfOk result (λ r. label_range r.0 (tokens rest.now) (tokens r.1.now)) }
+    ensures follows { PassesAnywhere (λ r. r.1.now) (λ ps. TheMark (codes ":") ∷ ScaleAt ∷ ps) rest.now result }
+    ensures spelled { IfOk result (λ r. Spelled (label_range r.0) rest.now r.1.now) }
     ensures shorter { IfOk result (λ r. length r.1.now < length rest.now) }
     ensures limits { IfOk result (λ r. is_label r.0 ≡ true) }
 {
@@ -43,8 +41,9 @@ fn read_number_label<'a>(
     rest: &'a [u8],
 ) -> Result<&'a [u8], ReadErr>
     requires { are_labels labels.old.entries ≡ true }
-    ensures follows { (s : Scope) (ps : List Place) → Leaves (λ r. run (with_names LabelSet (keys labels.new) s) ps (tokens r.now)) result (run (with_names LabelSet (keys labels.old) s) (number_label_places ps) (tokens rest.now)) }
-    ensures spelled { IfOk result (λ r. (ts : List Tok) → word (codes "num") ts (tokens rest.now) → Entry label_line labels.old.entries labels.new.entries ts (tokens r.now)) }
+    ensures follows { Declares LabelSet (keys labels.old) (λ r. keys labels.new) (λ r. r.now) number_label_places rest.now result }
+    ensures spelled { IfOk result
+        (λ r. SpelledBehind (codes "num") (Entry label_line labels.old.entries labels.new.entries) rest.now r.now) }
     ensures shorter { IfOk result (λ r. length r.now < length rest.now) }
     ensures few { IfOk result (λ r. index_map_len labels.new + length r.now ≤ index_map_len labels.old + length rest.now) }
     ensures limits { IfOk result (λ r. are_labels labels.new.entries ≡ true) }
@@ -63,8 +62,9 @@ fn read_flag<'a>(
     rest: &'a [u8],
 ) -> Result<&'a [u8], ReadErr>
     requires { are_labels labels.old.entries ≡ true }
-    ensures follows { (s : Scope) (ps : List Place) → Leaves (λ r. run (with_names LabelSet (keys labels.new) s) ps (tokens r.now)) result (run (with_names LabelSet (keys labels.old) s) (flag_places ps) (tokens rest.now)) }
-    ensures spelled { IfOk result (λ r. (ts : List Tok) → word (codes "flag") ts (tokens rest.now) → Entry label_line labels.old.entries labels.new.entries ts (tokens r.now)) }
+    ensures follows { Declares LabelSet (keys labels.old) (λ r. keys labels.new) (λ r. r.now) flag_places rest.now result }
+    ensures spelled { IfOk result
+        (λ r. SpelledBehind (codes "flag") (Entry label_line labels.old.entries labels.new.entries) rest.now r.now) }
     ensures shorter { IfOk result (λ r. length r.now < length rest.now) }
     ensures few { IfOk result (λ r. index_map_len labels.new + length r.now ≤ index_map_len labels.old + length rest.now) }
     ensures limits { IfOk result (λ r. are_labels labels.new.entries ≡ true) }
@@ -80,7 +80,7 @@ pub fn read_labels<'a>(
     alloc: Global,
     ahead: &Lookahead<'a>,
 ) -> Result<(IndexMap<Name, Label>, Lookahead<'a>), ReadErr>
-    ensures follows { (s : Scope) (ps : List Place) → Leaves (λ r. run (with_names LabelSet (keys r.0) s) ps (tokens_ahead r.1)) result (run (with_names LabelSet [] s) (LabelLines ∷ ps) (tokens_ahead ahead.now)) }
+    ensures follows { DeclaresLines LabelSet (λ r. keys r.0) (λ r. r.1) LabelLines ahead.now result }
     ensures spelled { IfOk result (λ r. Repeat (Entry label_line) [] r.0.entries (tokens_ahead ahead.now) (tokens_ahead r.1)) }
     ensures few { IfOk result (λ r. index_map_len r.0 + length r.1.after.now ≤ length ahead.now.after.now) }
     ensures limits { IfOk result (λ r. are_labels r.0.entries ≡ true) }

@@ -1,19 +1,19 @@
 //! Portfolios from texts.
-ghost use Rattle.std.specs.Prelude.{◌≡◌, ◌≤◌, ◌<◌, ◌-◌, ◌∷◌, [], List, IfNone, IfOk, IfSome, codes, length};
+ghost use Rattle.std.specs.Prelude.{◌≤◌, ◌<◌, ◌∷◌, [], List, IfOk, codes, length};
 ghost use Rattle.indexmap.specs.IndexMap.{keys};
 ghost use Rattle.term_core.specs.Books.{book};
 ghost use Rattle.term_core.specs.Sizes.{height_of_contract};
 ghost use Rattle.term_core.specs.Terms.{contract};
-ghost use Rattle.contract_parse.specs.Tokens.{Tok, tokens};
-ghost use Rattle.contract_parse.specs.Names.{Scope, nothing_declared};
+ghost use Rattle.contract_parse.specs.Tokens.{tokens};
+ghost use Rattle.contract_parse.specs.Names.{nothing_declared};
 ghost use Rattle.contract_parse.specs.Judgements.{is_version};
-ghost use Rattle.contract_parse.specs.Words.{Bytes};
 ghost use Rattle.contract_parse.specs.Spelling.{contr, mark, one, word, ◌⨟◌};
 ghost use Rattle.contract_parse.specs.Statements.{Entry, Repeat, contract_line, portfolio};
 ghost use Rattle.contract_parse.specs.Places.{ContrAt, ContractLines, Leaves, Open, Place, TheMark, TheVersion, TheWord, contract_places, run, text_places};
 ghost use Rattle.contract_parse.specs.Reading.{scope_in, tokens_ahead};
 ghost use Rattle.contract_parse.specs.ContractReading.{trees};
 ghost use Rattle.contract_parse.specs.Texts.{Answers};
+ghost use Rattle.contract_parse.specs.Readers.{Passes, PassesAnywhere, Spelled, SpelledBehind};
 
 use crate::contrs::read_contr;
 use crate::cursor::start_text;
@@ -34,8 +34,10 @@ fn read_definition<'a>(
     decls: &Decls,
     rest: &'a [u8],
 ) -> Result<(Contr, &'a [u8]), ReadErr>
-    ensures follows { (cs : List Bytes) (ps : List Place) → Leaves (λ r. run (scope_in decls.now cs) ps (tokens r.1.now)) result (run (scope_in decls.now cs) (TheMark (codes "=") ∷ ContrAt 1 [] ∷ TheMark (codes ";") ∷ ps) (tokens rest.now)) }
-    ensures spelled { IfOk result (λ r. (mark (codes "=") ⨟ contr (scope_in decls.now []) [] (contract r.0) ⨟ mark (codes ";")) (tokens rest.now) (tokens r.1.now)) }
+    ensures follows { Passes decls.now (λ r. r.1.now)
+        (λ s ps. TheMark (codes "=") ∷ ContrAt 1 [] ∷ TheMark (codes ";") ∷ ps) rest.now result }
+    ensures spelled { IfOk result
+        (λ r. Spelled (mark (codes "=") ⨟ contr (scope_in decls.now []) [] (contract r.0) ⨟ mark (codes ";")) rest.now r.1.now) }
     ensures high { IfOk result (λ r. height_of_contract (contract r.0) ≤ 200) }
     ensures shorter { IfOk result (λ r. length r.1.now < length rest.now) }
 {
@@ -52,8 +54,10 @@ fn read_contract<'a>(
     contracts: &mut IndexMap<Name, Contr>,
     rest: &'a [u8],
 ) -> Result<&'a [u8], ReadErr>
-    ensures follows { (ps : List Place) → Leaves (λ r. run (scope_in decls.now (keys contracts.new)) ps (tokens r.now)) result (run (scope_in decls.now (keys contracts.old)) (contract_places ps) (tokens rest.now)) }
-    ensures spelled { IfOk result (λ r. (ts : List Tok) → word (codes "contract") ts (tokens rest.now) → Entry (contract_line (scope_in decls.now [])) (trees contracts.old.entries) (trees contracts.new.entries) ts (tokens r.now)) }
+    ensures follows { (ps : List Place) → Leaves (λ r. run (scope_in decls.now (keys contracts.new)) ps (tokens r.now)) result
+        (run (scope_in decls.now (keys contracts.old)) (contract_places ps) (tokens rest.now)) }
+    ensures spelled { IfOk result (λ r. SpelledBehind (codes "contract")
+        (Entry (contract_line (scope_in decls.now [])) (trees contracts.old.entries) (trees contracts.new.entries)) rest.now r.now) }
     ensures shorter { IfOk result (λ r. length r.now < length rest.now) }
 {
     let (name, rest) = read_new_name(alloc, contracts, rest)?;
@@ -67,8 +71,10 @@ fn read_contracts<'a>(
     decls: &Decls,
     ahead: &Lookahead<'a>,
 ) -> Result<(IndexMap<Name, Contr>, Lookahead<'a>), ReadErr>
-    ensures follows { (ps : List Place) → Leaves (λ r. run (scope_in decls.now (keys r.0)) ps (tokens_ahead r.1)) result (run (scope_in decls.now []) (ContractLines ∷ ps) (tokens_ahead ahead.now)) }
-    ensures spelled { IfOk result (λ r. Repeat (Entry (contract_line (scope_in decls.now []))) [] (trees r.0.entries) (tokens_ahead ahead.now) (tokens_ahead r.1)) }
+    ensures follows { (ps : List Place) → Leaves (λ r. run (scope_in decls.now (keys r.0)) ps (tokens_ahead r.1)) result
+        (run (scope_in decls.now []) (ContractLines ∷ ps) (tokens_ahead ahead.now)) }
+    ensures spelled { IfOk result
+        (λ r. Repeat (Entry (contract_line (scope_in decls.now []))) [] (trees r.0.entries) (tokens_ahead ahead.now) (tokens_ahead r.1)) }
 {
     let mut contracts = IndexMap::new(alloc);
     let mut ahead = *ahead;
@@ -82,8 +88,9 @@ fn read_contracts<'a>(
 // The first line.
 #[tactic(auto, using(crate::proofs::Parts::followed_by))]
 fn skip_first_line(rest: &[u8]) -> Result<&[u8], ReadErr>
-    ensures follows { (s : Scope) (ps : List Place) → Leaves (λ r. run s ps (tokens r.now)) result (run s (TheWord (codes "portfolio") ∷ TheVersion ∷ TheMark (codes ";") ∷ ps) (tokens rest.now)) }
-    ensures spelled { IfOk result (λ r. (word (codes "portfolio") ⨟ one is_version ⨟ mark (codes ";")) (tokens rest.now) (tokens r.now)) }
+    ensures follows { PassesAnywhere (λ r. r.now)
+        (λ ps. TheWord (codes "portfolio") ∷ TheVersion ∷ TheMark (codes ";") ∷ ps) rest.now result }
+    ensures spelled { IfOk result (λ r. Spelled (word (codes "portfolio") ⨟ one is_version ⨟ mark (codes ";")) rest.now r.now) }
     ensures shorter { IfOk result (λ r. length r.now ≤ length rest.now) }
 {
     let rest = skip_word(rest, b"portfolio")?;

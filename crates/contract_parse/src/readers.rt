@@ -5,12 +5,13 @@ ghost use Rattle.indexmap.specs.IndexSet.{index_set_len};
 ghost use Rattle.term_core.specs.Limits.{is_origin};
 ghost use Rattle.contract_parse.specs.Tokens.{tokens};
 ghost use Rattle.contract_parse.specs.Words.{Bytes};
-ghost use Rattle.contract_parse.specs.Names.{Scope, with_names};
+ghost use Rattle.contract_parse.specs.Names.{Scope};
 ghost use Rattle.contract_parse.specs.Judgements.{binder_at, bound_at, date_number_at, days_at, integer_at, is_version, literal_at, mode_at, new_at, offset_at, operator_at, origin_at, separator_at, use_at};
 ghost use Rattle.contract_parse.specs.Spelling.{Signed, end, mark, one, valued, word};
 ghost use Rattle.contract_parse.specs.Statements.{Added};
 ghost use Rattle.contract_parse.specs.Places.{BinderAt, BoundAt, BoundNumber, DateAt, DateNumber, DaysAt, IntegerAt, Leaves, LiteralNumber, ModeAt, MoreNames, NewIn, OffsetAt, OffsetNumber, Open, OperatorAt, OriginDate, Place, ScaleAt, TheEnd, TheMark, TheVersion, TheWord, UseOf, binder_places, bound_places, list_places, range_places, run};
-ghost use Rattle.contract_parse.specs.Reading.{IsBetween, IsBound, Lacks, LacksMark, tok_of, tokens_ahead};
+ghost use Rattle.contract_parse.specs.Reading.{IsBetween, IsBound, Lacks, LacksMark, tokens_ahead};
+ghost use Rattle.contract_parse.specs.Readers.{Declares, LeadsOn, PassesAnywhere, Spelled};
 ghost use Rattle.contract_parse.specs.declared.names.NameSet.{NameSet};
 ghost use Rattle.contract_parse.specs.declared.heads.Binder.{Binder};
 ghost use Rattle.contract_parse.specs.declared.heads.Language.{Language};
@@ -30,8 +31,8 @@ use term_core::{Days, Name};
 
 /// This mark.
 pub fn skip_mark<'a>(rest: &'a [u8], wanted: &[u8]) -> Result<&'a [u8], ReadErr>
-    ensures follows { (s : Scope) (ps : List Place) → Leaves (λ r. run s ps (tokens r.now)) result (run s (TheMark wanted.now ∷ ps) (tokens rest.now)) }
-    ensures spelled { IfOk result (λ r. mark wanted.now (tokens rest.now) (tokens r.now)) }
+    ensures follows { PassesAnywhere (λ r. r.now) (λ ps. TheMark wanted.now ∷ ps) rest.now result }
+    ensures spelled { IfOk result (λ r. Spelled (mark wanted.now) rest.now r.now) }
     ensures shorter { IfOk result (λ r. length r.now < length rest.now) }
 {
     let (token, after) = next(rest);
@@ -44,8 +45,8 @@ pub fn skip_mark<'a>(rest: &'a [u8], wanted: &[u8]) -> Result<&'a [u8], ReadErr>
 
 /// This word.
 pub fn skip_word<'a>(rest: &'a [u8], wanted: &[u8]) -> Result<&'a [u8], ReadErr>
-    ensures follows { (s : Scope) (ps : List Place) → Leaves (λ r. run s ps (tokens r.now)) result (run s (TheWord wanted.now ∷ ps) (tokens rest.now)) }
-    ensures spelled { IfOk result (λ r. word wanted.now (tokens rest.now) (tokens r.now)) }
+    ensures follows { PassesAnywhere (λ r. r.now) (λ ps. TheWord wanted.now ∷ ps) rest.now result }
+    ensures spelled { IfOk result (λ r. Spelled (word wanted.now) rest.now r.now) }
     ensures shorter { IfOk result (λ r. length r.now < length rest.now) }
 {
     let (token, after) = next(rest);
@@ -58,8 +59,8 @@ pub fn skip_word<'a>(rest: &'a [u8], wanted: &[u8]) -> Result<&'a [u8], ReadErr>
 
 /// The version of the format, which is 1.
 pub fn skip_version(rest: &[u8]) -> Result<&[u8], ReadErr>
-    ensures follows { (s : Scope) (ps : List Place) → Leaves (λ r. run s ps (tokens r.now)) result (run s (TheVersion ∷ ps) (tokens rest.now)) }
-    ensures spelled { IfOk result (λ r. one is_version (tokens rest.now) (tokens r.now)) }
+    ensures follows { PassesAnywhere (λ r. r.now) (λ ps. TheVersion ∷ ps) rest.now result }
+    ensures spelled { IfOk result (λ r. Spelled (one is_version) rest.now r.now) }
     ensures shorter { IfOk result (λ r. length r.now < length rest.now) }
 {
     let (token, after) = next(rest);
@@ -113,8 +114,8 @@ pub fn after_mark<'a>(rest: &'a [u8], wanted: &[u8]) -> Option<&'a [u8]>
 pub fn read_integer(most: u32, rest: &[u8]) -> Result<(u32, &[u8]), ReadErr>
     requires { most ≤ 2_000_000 }
     ensures most { IfOk result (λ r. r.0 ≤ most) }
-    ensures follows { (s : Scope) (ps : List Place) → Leaves (λ r. run s ps (tokens r.1.now)) result (run s (IntegerAt most ∷ ps) (tokens rest.now)) }
-    ensures spelled { IfOk result (λ r. valued (integer_at most) r.0 (tokens rest.now) (tokens r.1.now)) }
+    ensures follows { PassesAnywhere (λ r. r.1.now) (λ ps. IntegerAt most ∷ ps) rest.now result }
+    ensures spelled { IfOk result (λ r. Spelled (valued (integer_at most) r.0) rest.now r.1.now) }
     ensures shorter { IfOk result (λ r. length r.1.now < length rest.now) }
 {
     let (token, after) = next(rest);
@@ -127,8 +128,8 @@ pub fn read_integer(most: u32, rest: &[u8]) -> Result<(u32, &[u8]), ReadErr>
 /// The scale of a label.
 pub fn read_label_scale(rest: &[u8]) -> Result<(u8, &[u8]), ReadErr>
     ensures most { IfOk result (λ r. r.0 ≤ 18) }
-    ensures follows { (s : Scope) (ps : List Place) → Leaves (λ r. run s (range_places r.0 ps) (tokens r.1.now)) result (run s (ScaleAt ∷ ps) (tokens rest.now)) }
-    ensures spelled { IfOk result (λ r. valued (integer_at 18) r.0 (tokens rest.now) (tokens r.1.now)) }
+    ensures follows { LeadsOn (λ r. r.1.now) (λ ps. ScaleAt ∷ ps) (λ r ps. range_places r.0 ps) rest.now result }
+    ensures spelled { IfOk result (λ r. Spelled (valued (integer_at 18) r.0) rest.now r.1.now) }
     ensures shorter { IfOk result (λ r. length r.1.now < length rest.now) }
 {
     let (token, after) = next(rest);
@@ -141,8 +142,8 @@ pub fn read_label_scale(rest: &[u8]) -> Result<(u8, &[u8]), ReadErr>
 /// A date from 1900-01-01 to 2999-12-31, as an epoch day.
 pub fn read_origin_date(rest: &[u8]) -> Result<(i64, &[u8]), ReadErr>
     ensures limits { IfOk result (λ r. is_origin (Some r.0) ≡ true) }
-    ensures follows { (s : Scope) (ps : List Place) → Leaves (λ r. run s ps (tokens r.1.now)) result (run s (OriginDate ∷ ps) (tokens rest.now)) }
-    ensures spelled { IfOk result (λ r. valued origin_at r.0 (tokens rest.now) (tokens r.1.now)) }
+    ensures follows { PassesAnywhere (λ r. r.1.now) (λ ps. OriginDate ∷ ps) rest.now result }
+    ensures spelled { IfOk result (λ r. Spelled (valued origin_at r.0) rest.now r.1.now) }
     ensures shorter { IfOk result (λ r. length r.1.now < length rest.now) }
 {
     let (token, after) = next(rest);
@@ -154,8 +155,8 @@ pub fn read_origin_date(rest: &[u8]) -> Result<(i64, &[u8]), ReadErr>
 
 /// Whether a comma stands here, or the semicolon that ends a list.
 pub fn read_separator(rest: &[u8]) -> Result<(bool, &[u8]), ReadErr>
-    ensures follows { (set : NameSet) (s : Scope) (ps : List Place) → Leaves (λ r. run s (list_places set r.0 ps) (tokens r.1.now)) result (run s (MoreNames set ∷ ps) (tokens rest.now)) }
-    ensures spelled { IfOk result (λ r. valued separator_at r.0 (tokens rest.now) (tokens r.1.now)) }
+    ensures follows { (set : NameSet) → LeadsOn (λ r. r.1.now) (λ ps. MoreNames set ∷ ps) (λ r ps. list_places set r.0 ps) rest.now result }
+    ensures spelled { IfOk result (λ r. Spelled (valued separator_at r.0) rest.now r.1.now) }
     ensures shorter { IfOk result (λ r. length r.1.now < length rest.now) }
 {
     let (token, after) = next(rest);
@@ -174,8 +175,9 @@ fn read_bound_number(
 ) -> Result<(i128, &[u8]), ReadErr>
     requires { scale ≤ 18 }
     ensures limits { IfOk result (λ r. IsBound low r.0) }
-    ensures follows { (s : Scope) (ps : List Place) → Leaves (λ r. run s (bound_places scale low r.0 ps) (tokens r.1.now)) result (run s (BoundNumber negative scale low ∷ ps) (tokens rest.now)) }
-    ensures spelled { IfOk result (λ r. valued (bound_at negative scale low) r.0 (tokens rest.now) (tokens r.1.now)) }
+    ensures follows { LeadsOn (λ r. r.1.now) (λ ps. BoundNumber negative scale low ∷ ps)
+        (λ r ps. bound_places scale low r.0 ps) rest.now result }
+    ensures spelled { IfOk result (λ r. Spelled (valued (bound_at negative scale low) r.0) rest.now r.1.now) }
     ensures shorter { IfOk result (λ r. length r.1.now < length rest.now) }
 {
     let (token, after) = next(rest);
@@ -189,8 +191,8 @@ fn read_bound_number(
 pub fn read_bound(scale: u8, low: Option<i128>, rest: &[u8]) -> Result<(i128, &[u8]), ReadErr>
     requires { scale ≤ 18 }
     ensures limits { IfOk result (λ r. IsBound low r.0) }
-    ensures follows { (s : Scope) (ps : List Place) → Leaves (λ r. run s (bound_places scale low r.0 ps) (tokens r.1.now)) result (run s (BoundAt scale low ∷ ps) (tokens rest.now)) }
-    ensures spelled { IfOk result (λ r. Signed (λ negative. valued (bound_at negative scale low) r.0) (tokens rest.now) (tokens r.1.now)) }
+    ensures follows { LeadsOn (λ r. r.1.now) (λ ps. BoundAt scale low ∷ ps) (λ r ps. bound_places scale low r.0 ps) rest.now result }
+    ensures spelled { IfOk result (λ r. Spelled (Signed (λ negative. valued (bound_at negative scale low) r.0)) rest.now r.1.now) }
     ensures shorter { IfOk result (λ r. length r.1.now < length rest.now) }
 {
     let (token, after) = next(rest);
@@ -205,8 +207,8 @@ pub fn read_bound(scale: u8, low: Option<i128>, rest: &[u8]) -> Result<(i128, &[
 
 // The offset of an observable behind its sign.
 fn read_offset_number(negative: bool, rest: &[u8]) -> Result<(i32, &[u8]), ReadErr>
-    ensures follows { (s : Scope) (ps : List Place) → Leaves (λ r. run s ps (tokens r.1.now)) result (run s (OffsetNumber negative ∷ ps) (tokens rest.now)) }
-    ensures spelled { IfOk result (λ r. valued (offset_at negative) r.0 (tokens rest.now) (tokens r.1.now)) }
+    ensures follows { PassesAnywhere (λ r. r.1.now) (λ ps. OffsetNumber negative ∷ ps) rest.now result }
+    ensures spelled { IfOk result (λ r. Spelled (valued (offset_at negative) r.0) rest.now r.1.now) }
     ensures shorter { IfOk result (λ r. length r.1.now ≤ length rest.now) }
 {
     let (token, after) = next(rest);
@@ -218,8 +220,8 @@ fn read_offset_number(negative: bool, rest: &[u8]) -> Result<(i32, &[u8]), ReadE
 
 /// The offset of an observable.
 pub fn read_offset(rest: &[u8]) -> Result<(i32, &[u8]), ReadErr>
-    ensures follows { (s : Scope) (ps : List Place) → Leaves (λ r. run s ps (tokens r.1.now)) result (run s (OffsetAt ∷ ps) (tokens rest.now)) }
-    ensures spelled { IfOk result (λ r. Signed (λ negative. valued (offset_at negative) r.0) (tokens rest.now) (tokens r.1.now)) }
+    ensures follows { PassesAnywhere (λ r. r.1.now) (λ ps. OffsetAt ∷ ps) rest.now result }
+    ensures spelled { IfOk result (λ r. Spelled (Signed (λ negative. valued (offset_at negative) r.0)) rest.now r.1.now) }
     ensures shorter { IfOk result (λ r. length r.1.now ≤ length rest.now) }
 {
     let (token, after) = next(rest);
@@ -234,8 +236,8 @@ pub fn read_offset(rest: &[u8]) -> Result<(i32, &[u8]), ReadErr>
 
 // The number of a date behind its sign.
 fn read_days_behind_sign(negative: bool, rest: &[u8]) -> Result<(i32, &[u8]), ReadErr>
-    ensures follows { (s : Scope) (ps : List Place) → Leaves (λ r. run s ps (tokens r.1.now)) result (run s (DateNumber negative ∷ ps) (tokens rest.now)) }
-    ensures spelled { IfOk result (λ r. valued (date_number_at negative) r.0 (tokens rest.now) (tokens r.1.now)) }
+    ensures follows { PassesAnywhere (λ r. r.1.now) (λ ps. DateNumber negative ∷ ps) rest.now result }
+    ensures spelled { IfOk result (λ r. Spelled (valued (date_number_at negative) r.0) rest.now r.1.now) }
     ensures shorter { IfOk result (λ r. length r.1.now ≤ length rest.now) }
 {
     let (token, after) = next(rest);
@@ -247,8 +249,8 @@ fn read_days_behind_sign(negative: bool, rest: &[u8]) -> Result<(i32, &[u8]), Re
 
 /// The number of a date of payoff code.
 pub fn read_date_number(rest: &[u8]) -> Result<(i32, &[u8]), ReadErr>
-    ensures follows { (s : Scope) (ps : List Place) → Leaves (λ r. run s ps (tokens r.1.now)) result (run s (DateAt ∷ ps) (tokens rest.now)) }
-    ensures spelled { IfOk result (λ r. Signed (λ negative. valued (date_number_at negative) r.0) (tokens rest.now) (tokens r.1.now)) }
+    ensures follows { PassesAnywhere (λ r. r.1.now) (λ ps. DateAt ∷ ps) rest.now result }
+    ensures spelled { IfOk result (λ r. Spelled (Signed (λ negative. valued (date_number_at negative) r.0)) rest.now r.1.now) }
     ensures shorter { IfOk result (λ r. length r.1.now ≤ length rest.now) }
 {
     let (token, after) = next(rest);
@@ -263,8 +265,8 @@ pub fn read_date_number(rest: &[u8]) -> Result<(i32, &[u8]), ReadErr>
 
 /// The number of a literal behind its sign.
 pub fn read_literal(negative: bool, rest: &[u8]) -> Result<(Decimal, &[u8]), ReadErr>
-    ensures follows { (s : Scope) (ps : List Place) → Leaves (λ r. run s ps (tokens r.1.now)) result (run s (LiteralNumber negative ∷ ps) (tokens rest.now)) }
-    ensures spelled { IfOk result (λ r. valued (literal_at negative) r.0 (tokens rest.now) (tokens r.1.now)) }
+    ensures follows { PassesAnywhere (λ r. r.1.now) (λ ps. LiteralNumber negative ∷ ps) rest.now result }
+    ensures spelled { IfOk result (λ r. Spelled (valued (literal_at negative) r.0) rest.now r.1.now) }
     ensures shorter { IfOk result (λ r. length r.1.now ≤ length rest.now) }
 {
     let (token, after) = next(rest);
@@ -276,8 +278,9 @@ pub fn read_literal(negative: bool, rest: &[u8]) -> Result<(Decimal, &[u8]), Rea
 
 /// A name that a binder binds.
 pub fn read_binder(rest: &[u8]) -> Result<(&[u8], &[u8]), ReadErr>
-    ensures follows { (binder : Binder) (l : Language) (d : ℕ) (names : List Bytes) (s : Scope) (ps : List Place) → Leaves (λ r. run s (binder_places binder l d names r.0.now ps) (tokens r.1.now)) result (run s (BinderAt binder l d names ∷ ps) (tokens rest.now)) }
-    ensures spelled { IfOk result (λ r. valued binder_at r.0.now (tokens rest.now) (tokens r.1.now)) }
+    ensures follows { (binder : Binder) (l : Language) (d : ℕ) (names : List Bytes) →
+        LeadsOn (λ r. r.1.now) (λ ps. BinderAt binder l d names ∷ ps) (λ r ps. binder_places binder l d names r.0.now ps) rest.now result }
+    ensures spelled { IfOk result (λ r. Spelled (valued binder_at r.0.now) rest.now r.1.now) }
     ensures shorter { IfOk result (λ r. length r.1.now ≤ length rest.now) }
 {
     let (token, after) = next(rest);
@@ -289,8 +292,8 @@ pub fn read_binder(rest: &[u8]) -> Result<(&[u8], &[u8]), ReadErr>
 
 /// How a number is rounded.
 pub fn read_mode(rest: &[u8]) -> Result<(Mode, &[u8]), ReadErr>
-    ensures follows { (s : Scope) (ps : List Place) → Leaves (λ r. run s ps (tokens r.1.now)) result (run s (ModeAt ∷ ps) (tokens rest.now)) }
-    ensures spelled { IfOk result (λ r. valued mode_at r.0 (tokens rest.now) (tokens r.1.now)) }
+    ensures follows { PassesAnywhere (λ r. r.1.now) (λ ps. ModeAt ∷ ps) rest.now result }
+    ensures spelled { IfOk result (λ r. Spelled (valued mode_at r.0) rest.now r.1.now) }
     ensures shorter { IfOk result (λ r. length r.1.now ≤ length rest.now) }
 {
     let (token, after) = next(rest);
@@ -302,8 +305,8 @@ pub fn read_mode(rest: &[u8]) -> Result<(Mode, &[u8]), ReadErr>
 
 /// An operator between two expressions.
 pub fn read_operator(rest: &[u8]) -> Result<(Operator, &[u8]), ReadErr>
-    ensures follows { (s : Scope) (ps : List Place) → Leaves (λ r. run s ps (tokens r.1.now)) result (run s (OperatorAt ∷ ps) (tokens rest.now)) }
-    ensures spelled { IfOk result (λ r. valued operator_at r.0 (tokens rest.now) (tokens r.1.now)) }
+    ensures follows { PassesAnywhere (λ r. r.1.now) (λ ps. OperatorAt ∷ ps) rest.now result }
+    ensures spelled { IfOk result (λ r. Spelled (valued operator_at r.0) rest.now r.1.now) }
     ensures between { IfOk result (λ r. IsBetween r.0) }
     ensures shorter { IfOk result (λ r. length r.1.now ≤ length rest.now) }
 {
@@ -320,8 +323,8 @@ pub fn read_use_of_set<'a>(
     rest: &'a [u8],
 ) -> Result<(u32, &'a [u8]), ReadErr>
     requires { index_set_len names.now < 2 ^ 32 }
-    ensures follows { (s : Scope) (ps : List Place) → Leaves (λ r. run s ps (tokens r.1.now)) result (run s (UseOf names.now.keys ∷ ps) (tokens rest.now)) }
-    ensures spelled { IfOk result (λ r. valued (use_at names.now.keys) r.0 (tokens rest.now) (tokens r.1.now)) }
+    ensures follows { PassesAnywhere (λ r. r.1.now) (λ ps. UseOf names.now.keys ∷ ps) rest.now result }
+    ensures spelled { IfOk result (λ r. Spelled (valued (use_at names.now.keys) r.0) rest.now r.1.now) }
     ensures shorter { IfOk result (λ r. length r.1.now ≤ length rest.now) }
 {
     let (token, after) = next(rest);
@@ -340,8 +343,8 @@ pub fn read_use_of_map<'a, V>(
     rest: &'a [u8],
 ) -> Result<(u32, &'a [u8]), ReadErr>
     requires { index_map_len names.now < 2 ^ 32 }
-    ensures follows { (s : Scope) (ps : List Place) → Leaves (λ r. run s ps (tokens r.1.now)) result (run s (UseOf (keys names.now) ∷ ps) (tokens rest.now)) }
-    ensures spelled { IfOk result (λ r. valued (use_at (keys names.now)) r.0 (tokens rest.now) (tokens r.1.now)) }
+    ensures follows { PassesAnywhere (λ r. r.1.now) (λ ps. UseOf (keys names.now) ∷ ps) rest.now result }
+    ensures spelled { IfOk result (λ r. Spelled (valued (use_at (keys names.now)) r.0) rest.now r.1.now) }
     ensures shorter { IfOk result (λ r. length r.1.now ≤ length rest.now) }
 {
     let (token, after) = next(rest);
@@ -360,8 +363,8 @@ pub fn read_days<'a>(
     rest: &'a [u8],
 ) -> Result<(Days, &'a [u8]), ReadErr>
     requires { index_map_len templates.now < 2 ^ 32 }
-    ensures follows { (s : Scope) (ps : List Place) → Leaves (λ r. run s ps (tokens r.1.now)) result (run s (DaysAt (keys templates.now) ∷ ps) (tokens rest.now)) }
-    ensures spelled { IfOk result (λ r. valued (days_at (keys templates.now)) r.0 (tokens rest.now) (tokens r.1.now)) }
+    ensures follows { PassesAnywhere (λ r. r.1.now) (λ ps. DaysAt (keys templates.now) ∷ ps) rest.now result }
+    ensures spelled { IfOk result (λ r. Spelled (valued (days_at (keys templates.now)) r.0) rest.now r.1.now) }
     ensures shorter { IfOk result (λ r. length r.1.now ≤ length rest.now) }
 {
     let (token, after) = next(rest);
@@ -386,8 +389,9 @@ pub fn declare<'a>(
     names: &mut IndexSet<Name>,
     rest: &'a [u8],
 ) -> Result<&'a [u8], ReadErr>
-    ensures follows { (set : NameSet) (s : Scope) (ps : List Place) → Leaves (λ r. run (with_names set names.new.keys s) ps (tokens r.now)) result (run (with_names set names.old.keys s) (NewIn set ∷ ps) (tokens rest.now)) }
-    ensures spelled { IfOk result (λ r. Added names.old.keys names.new.keys (tokens rest.now) (tokens r.now)) }
+    ensures follows { (set : NameSet) →
+        Declares set names.old.keys (λ r. names.new.keys) (λ r. r.now) (λ ps. NewIn set ∷ ps) rest.now result }
+    ensures spelled { IfOk result (λ r. Spelled (Added names.old.keys names.new.keys) rest.now r.now) }
     ensures shorter { IfOk result (λ r. length r.now < length rest.now) }
     ensures few { IfOk result (λ r. index_set_len names.new + length r.now ≤ index_set_len names.old + length rest.now) }
 {
@@ -409,8 +413,9 @@ pub fn read_new_name<'a, V>(
     names: &IndexMap<Name, V>,
     rest: &'a [u8],
 ) -> Result<(Name, &'a [u8]), ReadErr>
-    ensures follows { (set : NameSet) (s : Scope) (ps : List Place) → Leaves (λ r. run (with_names set (keys names.now ++ r.0 ∷ []) s) ps (tokens r.1.now)) result (run (with_names set (keys names.now) s) (NewIn set ∷ ps) (tokens rest.now)) }
-    ensures spelled { IfOk result (λ r. valued (new_at (keys names.now)) r.0 (tokens rest.now) (tokens r.1.now)) }
+    ensures follows { (set : NameSet) →
+        Declares set (keys names.now) (λ r. keys names.now ++ r.0 ∷ []) (λ r. r.1.now) (λ ps. NewIn set ∷ ps) rest.now result }
+    ensures spelled { IfOk result (λ r. Spelled (valued (new_at (keys names.now)) r.0) rest.now r.1.now) }
     ensures shorter { IfOk result (λ r. length r.1.now < length rest.now) }
 {
     let (token, after) = next(rest);

@@ -24,7 +24,7 @@ pub read_contr-returns-in-Zero-clause-spelled : goal.read_contr-returns-in-Zero-
 read_contr-returns-in-Zero-clause-spelled t c = let value = rw c.in-Zero.is at c.in-Ok.ensures in (tok_of c.next.result.0, takes (head_at c.args.depth) (λ text left. (refl, refl)) Head.Zero (tok_of c.next.result.0) c.args.rest.now c.next.result.1.now c.next.ensures.starts value, heads (tok_of c.next.result.0) c.args.depth Head.Zero value)
 
 pub read_contr-returns-in-Pay-clause-follows : goal.read_contr-returns-in-Pay-clause-follows
-read_contr-returns-in-Pay-clause-follows t c cs ps = let value = rw c.in-Pay.is at c.in-Ok.ensures in rw (passes (head_at c.args.depth) (λ text left. (refl, refl)) (scope_in c.args.decls.now cs) (scope_in c.args.decls.now cs) (ContrAt c.args.depth (names_in c.args.bound.now) ∷ ps) (contr_places (scope_in c.args.decls.now cs) c.args.depth (names_in c.args.bound.now) Head.Pay ps) (λ head. Next (scope_in c.args.decls.now cs) (contr_places (scope_in c.args.decls.now cs) c.args.depth (names_in c.args.bound.now) head ps)) Head.Pay (tok_of c.next.result.0) c.args.rest.now c.next.result.1.now c.next.ensures.starts value refl refl) (c.read_pay.ensures.follows cs c.args.depth (names_in c.args.bound.now) ps)
+read_contr-returns-in-Pay-clause-follows t c cs ps = let value = rw c.in-Pay.is at c.in-Ok.ensures in rw (passes (head_at c.args.depth) (λ text left. (refl, refl)) (scope_in c.args.decls.now cs) (scope_in c.args.decls.now cs) (ContrAt c.args.depth (names_in c.args.bound.now) ∷ ps) (contr_places (scope_in c.args.decls.now cs) c.args.depth (names_in c.args.bound.now) Head.Pay ps) (λ head. Next (scope_in c.args.decls.now cs) (contr_places (scope_in c.args.decls.now cs) c.args.depth (names_in c.args.bound.now) head ps)) Head.Pay (tok_of c.next.result.0) c.args.rest.now c.next.result.1.now c.next.ensures.starts value refl refl) (c.read_pay.ensures.follows c.args.depth (names_in c.args.bound.now) cs ps)
 
 pub read_contr-returns-in-Pay-clause-spelled : goal.read_contr-returns-in-Pay-clause-spelled
 read_contr-returns-in-Pay-clause-spelled t c = let value = rw c.in-Pay.is at c.in-Ok.ensures in IfOk-weaker c.read_pay.result _ _ (λ r h. h (names_in c.args.bound.now) (tokens c.args.rest.now) (tok_of c.next.result.0, takes (head_at c.args.depth) (λ text left. (refl, refl)) Head.Pay (tok_of c.next.result.0) c.args.rest.now c.next.result.1.now c.next.ensures.starts value, heads (tok_of c.next.result.0) c.args.depth Head.Pay value)) c.read_pay.ensures.spelled
