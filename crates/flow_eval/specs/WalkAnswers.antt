@@ -43,7 +43,7 @@ abbrev pub IsFirstDayFor : Course → Expression → Standing → Room → ℕ �
 IsFirstDayFor course test here r days answer =
     (g : List Entry) (bs : List (List Place)) → StandFor course.fixings.now r.entries g bs
     → answer ≡ first_tried (days_to_try course.until here.day days)
-        (λ i. answer_of (declarations course.decls.now) test g bs course.fixings.now (here.day +ℤ pos i))
+    (λ i. answer_of (declarations course.decls.now) test g bs course.fixings.now (here.day +ℤ pos i))
 
 -- the payments of the walk are noted behind those before, or the place that it lacks is answered
 abbrev pub Notes : Course → Contract → Standing → Room → List Payment → List Payment → Result (Unit {0}) FlowErr → Type 0
