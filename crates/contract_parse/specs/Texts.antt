@@ -7,12 +7,13 @@ use Rattle.contract_parse.specs.Tokens.{tokens}
 use Rattle.contract_parse.specs.Lines.{line_at, column_at}
 use Rattle.contract_parse.specs.Names.{nothing_declared}
 use Rattle.contract_parse.specs.Statements.{portfolio}
-use Rattle.contract_parse.specs.Places.{Stops, run, text_places}
+use Rattle.contract_parse.specs.Places.{Stops, places_of, run}
 use Rattle.contract_parse.specs.declared.faults.TextKind.{TextKind}
 use Rattle.contract_parse.specs.declared.faults.TextKind.TheVariants.{Utf8}
 use Rattle.contract_parse.specs.declared.faults.TextFault.{TextFault}
 use Rattle.contract_parse.specs.declared.faults.ParseErr.{ParseErr}
 use Rattle.contract_parse.specs.declared.faults.ParseErr.TheVariants as err
+use Rattle.contract_parse.specs.declared.heads.Language.{Language}
 
 -- the bytes are a text of this portfolio
 pub record Text (bytes : List ℕ) (b : Book) : Type 0 where
@@ -20,18 +21,25 @@ pub record Text (bytes : List ℕ) (b : Book) : Type 0 where
   pub spelled : portfolio b (tokens bytes) []
 
 -- the kind and the place of the first fault: what is no UTF-8 comes before all, at the first byte after the longest
--- prefix that is; else it is the first token that the places refuse
-pub data FirstFault (bytes : List ℕ) : TextKind → ℕ → Type 0 where
-  no_utf8 : {at : ℕ} → (IsUtf8 bytes → ⊥) → IsValidUpTo bytes at → FirstFault bytes Utf8 at
+-- prefix that is; else it is the first token that the places of the language refuse
+pub data FirstTextFault (l : Language) (bytes : List ℕ) : TextKind → ℕ → Type 0 where
+  no_utf8 : {at : ℕ} → (IsUtf8 bytes → ⊥) → IsValidUpTo bytes at → FirstTextFault l bytes Utf8 at
   refused : {kind : TextKind} {left : ℕ} → IsUtf8 bytes
-      → run nothing_declared text_places (tokens bytes) ≡ Stops kind left → FirstFault bytes kind (length bytes - left)
+      → run nothing_declared (places_of l) (tokens bytes) ≡ Stops kind left → FirstTextFault l bytes kind (length bytes - left)
 
 -- the first fault of the bytes, with its line and column
-pub record IsFault (bytes : List ℕ) (f : TextFault) : Type 0 where
+pub record IsTextFault (l : Language) (bytes : List ℕ) (f : TextFault) : Type 0 where
   pub at : ℕ
-  pub first : FirstFault bytes f.kind at
+  pub first : FirstTextFault l bytes f.kind at
   pub line : f.line ≡ line_at bytes at
   pub column : f.column ≡ column_at bytes at
+
+-- of a portfolio
+abbrev pub FirstFault : List ℕ → TextKind → ℕ → Type 0
+FirstFault bytes kind at = FirstTextFault Language.Contracts bytes kind at
+
+abbrev pub IsFault : List ℕ → TextFault → Type 0
+IsFault bytes f = IsTextFault Language.Contracts bytes f
 
 -- the portfolio of the text, or, just where the bytes are no text, their first fault
 abbrev pub Answers : List ℕ → Result Portfolio ParseErr → Type 0

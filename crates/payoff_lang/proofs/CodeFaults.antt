@@ -7,6 +7,8 @@ use Rattle.contract_parse.specs.Cursors.{IsNoUtf8, fault_at}
 use Rattle.contract_parse.specs.Names.{Scope, nothing_declared}
 use Rattle.contract_parse.specs.Places.{Next, Place, Refuse, Stops, TheWord, code_text_places, run}
 use Rattle.contract_parse.specs.Reading.{Lacks}
+use Rattle.contract_parse.specs.Texts.{FirstTextFault, no_utf8, refused}
+use Rattle.contract_parse.specs.declared.heads.Language.{Language}
 use Rattle.contract_parse.specs.declared.faults.TextKind.{TextKind}
 use Rattle.contract_parse.specs.declared.faults.TextKind.TheVariants.{Syntax, Utf8}
 use Rattle.contract_parse.specs.declared.faults.TextFault.{TextFault}
@@ -14,7 +16,7 @@ use Rattle.contract_parse.proofs.OneToken.{tail_same}
 use Rattle.contract_parse.proofs.Steps.{run-refuse}
 use Rattle.payoff_lang.specs.CodeBooks.{CodeBook}
 use Rattle.payoff_lang.specs.CodeFiles.{CodeText}
-use Rattle.payoff_lang.specs.CodeAnswers.{FirstCodeFault, IsCodeFault, no_utf8, refused}
+use Rattle.payoff_lang.specs.CodeAnswers.{IsCodeFault}
 use Rattle.payoff_lang.proofs.CodeTaken.{file_taken}
 
 -- another word than the one that is to stand here
@@ -23,14 +25,14 @@ word_refused s w ps t ts lacks =
     let other : is_the_word w t ≡ false = ap (λ (u : Tok). is_the_word w u) (tail_same t lacks.first (t ∷ ts) ts lacks.after refl lacks.is).0 ∙ lacks.other in
     run-refuse s (TheWord w ∷ ps) Syntax t ts (ap (λ (b : Bool). cond b (Next s ps) (Refuse Syntax)) other)
 
-no_first_fault : (bytes : List ℕ) (b : CodeBook) (kind : TextKind) (at : ℕ) → CodeText bytes b → FirstCodeFault bytes kind at → ⊥
+no_first_fault : (bytes : List ℕ) (b : CodeBook) (kind : TextKind) (at : ℕ) → CodeText bytes b → FirstTextFault Language.Code bytes kind at → ⊥
 no_first_fault bytes b kind at text (no_utf8 not_utf8 valid) = not_utf8 text.utf8
 no_first_fault bytes b kind at text (refused utf8 stops) = let taken = file_taken bytes b text in absurd cc
 
 pub no_code_fault : (bytes : List ℕ) (b : CodeBook) (f : TextFault) → CodeText bytes b → IsCodeFault bytes f → ⊥
 no_code_fault bytes b f text fault = no_first_fault bytes b f.kind fault.at text fault.first
 
-is_fault : (bytes : List ℕ) (kind : TextKind) (at : ℕ) (f : TextFault) → f ≡ fault_at bytes kind at → FirstCodeFault bytes kind at → IsCodeFault bytes f
+is_fault : (bytes : List ℕ) (kind : TextKind) (at : ℕ) (f : TextFault) → f ≡ fault_at bytes kind at → FirstTextFault Language.Code bytes kind at → IsCodeFault bytes f
 is_fault bytes kind at f is first =
     let fault : IsCodeFault bytes (fault_at bytes kind at) = record { at = at; first = first; line = refl; column = refl } in
     subst (λ (g : TextFault). IsCodeFault bytes g) (sym is) fault
@@ -41,6 +43,6 @@ not_code_utf8 bytes f bad = (is_fault bytes Utf8 bad.at f bad.is (no_utf8 bad.no
 pub not_code : (bytes : List ℕ) (kind : TextKind) (left at : ℕ) (f : TextFault) → f ≡ fault_at bytes kind at → at ≡ length bytes - left → IsUtf8 bytes → run nothing_declared code_text_places (tokens bytes) ≡ Stops kind left
     → IsCodeFault bytes f × ((b : CodeBook) → CodeText bytes b → ⊥)
 not_code bytes kind left at f is place utf8 stops =
-    let first = subst (λ (n : ℕ). FirstCodeFault bytes kind n) (sym place) (refused utf8 stops) in
+    let first = subst (λ (n : ℕ). FirstTextFault Language.Code bytes kind n) (sym place) (refused utf8 stops) in
     let fault = is_fault bytes kind at f is first in
     (fault, λ b text. no_code_fault bytes b f text fault)

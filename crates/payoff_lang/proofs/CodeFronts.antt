@@ -6,15 +6,16 @@ use Rattle.contract_parse.specs.Lines.{line_at, column_at}
 use Rattle.contract_parse.specs.Fronts.{IsWhole}
 use Rattle.contract_parse.specs.FrontLaws.{FaultyToken}
 use Rattle.contract_parse.specs.declared.heads.Language.{Language}
+use Rattle.contract_parse.specs.Texts.{FirstTextFault, no_utf8, refused}
 use Rattle.contract_parse.specs.declared.faults.TextKind.{TextKind}
 use Rattle.contract_parse.specs.declared.faults.TextFault.{TextFault}
 use Rattle.contract_parse.proofs.FrontRuns.{refusals_end_fronts, taken_texts_are_whole}
 use Rattle.payoff_lang.specs.CodeBooks.{CodeBook}
 use Rattle.payoff_lang.specs.CodeFiles.{CodeText}
-use Rattle.payoff_lang.specs.CodeAnswers.{FirstCodeFault, IsCodeFault, no_utf8, refused}
+use Rattle.payoff_lang.specs.CodeAnswers.{IsCodeFault}
 use Rattle.payoff_lang.proofs.CodeTaken.{file_taken}
 
-first_ends : (bytes : List ℕ) (k : TextKind) (at line column : ℕ) → IsUtf8 bytes → FirstCodeFault bytes k at → line ≡ line_at bytes at → column ≡ column_at bytes at
+first_ends : (bytes : List ℕ) (k : TextKind) (at line column : ℕ) → IsUtf8 bytes → FirstTextFault Language.Code bytes k at → line ≡ line_at bytes at → column ≡ column_at bytes at
     → FaultyToken Language.Code bytes (record { kind = k; line = line; column = column })
 first_ends bytes k at line column utf8 (no_utf8 none place) is_line is_column = absurd (none utf8)
 first_ends bytes k at line column utf8 (refused {left = left} ok e) is_line is_column =
