@@ -34,7 +34,7 @@ use Rattle.payoff_lang.specs.CodeSizes.{height_of_code}
 use Rattle.payoff_lang.specs.CodeTotals.{range_at, total_of_code}
 use Rattle.payoff_lang.specs.CodeAcceptance.{IsAcceptedCode}
 use Rattle.payoff_lang.specs.WellFormedCode.{IsWellFormedValue, IsWellFormedCode, IsClosedCode}
-use Rattle.payoff_lang.proofs.Products.{mul-assoc}
+use Rattle.term_core.proofs.Products.{mul-assoc}
 use Rattle.payoff_eval.specs.declared.walk.Worth.{Worth}
 use Rattle.payoff_eval.specs.Walks.{unless}
 use Rattle.payoff_eval.specs.CodeRules.{CodeMeetsRules, FactorsFit}

@@ -24,7 +24,7 @@ use Rattle.payoff_lang.specs.Code.{ValueExpression, PayoffCode, Nothing, PayOn, 
 use Rattle.payoff_lang.specs.CodeValues.{Asked, factor_on, value_at, entry_at, first_true_at, code_value, scale_of_code}
 use Rattle.payoff_lang.specs.CodeTotals.{range_at, total_of_code}
 use Rattle.payoff_lang.specs.Meaning.{face_value}
-use Rattle.payoff_lang.proofs.Products.{mul-assoc, raised-raised, parts_raised}
+use Rattle.term_core.proofs.Products.{mul-assoc, raised-raised, parts_raised}
 use Rattle.payoff_lang.proofs.DateFreeFacts.{kind_any, interval_any}
 use Rattle.payoff_eval.specs.CodeRules.{CodeMeetsRules, FactorsFit}
 

@@ -16,7 +16,7 @@ use Rattle.payoff_lang.specs.Dating.{plain}
 use Rattle.payoff_lang.specs.Code.{PayoffCode, Nothing, PayOn, Add, ScaleBy, LetBe, Loop, Cut}
 use Rattle.payoff_lang.specs.CodeValues.{Asked, value_at, entry_at, first_upto, first_true_at, code_value, scale_of_code}
 use Rattle.payoff_lang.specs.CodeReads.{value_reads, upto_first, reaches_payment, reads_of_code}
-use Rattle.payoff_lang.proofs.Products.{mul-assoc, raised-raised, parts_raised}
+use Rattle.term_core.proofs.Products.{mul-assoc, raised-raised, parts_raised}
 use Rattle.payoff_lang.proofs.CodeAlikeFacts.{unreached}
 use Rattle.payoff_eval.specs.declared.walk.Worth.{Worth}
 use Rattle.payoff_eval.specs.Walks.{nothing_reached, unless, answer_at, tries, then_added, then_scaled, then_branch, walk_of}

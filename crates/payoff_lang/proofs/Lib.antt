@@ -1,4 +1,3 @@
-pub mod Products
 pub mod DateFacts
 pub mod DatingFacts
 pub mod SumFacts
