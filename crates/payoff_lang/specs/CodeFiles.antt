@@ -26,7 +26,8 @@ code_line s name k =
 
 abbrev pub code_file : CodeBook → Part
 code_file b =
-    word (codes "payoff") ⨟ one is_version ⨟ mark (codes ";") ⨟ decls b.declarations ⨟ code_line (code_scope b.declarations) b.name b.code ⨟ end
+    word (codes "payoff") ⨟ one is_version ⨟ mark (codes ";") ⨟ decls b.declarations
+    ⨟ code_line (code_scope b.declarations) b.name b.code ⨟ end
 
 -- the bytes are a text of this code file
 pub record CodeText (bytes : List ℕ) (b : CodeBook) : Type 0 where

@@ -32,26 +32,34 @@ value_part s names (Num op v w) = infixed (value_part s names v) (valued operato
 value_part s names (Cmp op v w) = infixed (value_part s names v) (valued operator_at (Comparison op)) (value_part s names w)
 value_part s names (Logic op v w) = infixed (value_part s names v) (valued operator_at (Connective op)) (value_part s names w)
 value_part s names (Cond t v w) =
-    word (codes "if") ⨟ mark (codes "(") ⨟ value_part s names t ⨟ mark (codes ",") ⨟ value_part s names v ⨟ mark (codes ",") ⨟ value_part s names w ⨟ mark (codes ")")
+    word (codes "if") ⨟ mark (codes "(") ⨟ value_part s names t ⨟ mark (codes ",") ⨟ value_part s names v ⨟ mark (codes ",")
+    ⨟ value_part s names w ⨟ mark (codes ")")
 value_part s names (Widen k v) = word (codes "widen") ⨟ pair (valued (integer_at 27) k) (value_part s names v)
 value_part s names (Round m k v) =
-    word (codes "round") ⨟ mark (codes "(") ⨟ valued mode_at m ⨟ mark (codes ",") ⨟ valued (integer_at 27) k ⨟ mark (codes ",") ⨟ value_part s names v ⨟ mark (codes ")")
+    word (codes "round") ⨟ mark (codes "(") ⨟ valued mode_at m ⨟ mark (codes ",") ⨟ valued (integer_at 27) k ⨟ mark (codes ",")
+    ⨟ value_part s names v ⨟ mark (codes ")")
 value_part s names (Div m k v w) =
-    word (codes "div") ⨟ mark (codes "(") ⨟ valued mode_at m ⨟ mark (codes ",") ⨟ valued (integer_at 27) k ⨟ mark (codes ",") ⨟ value_part s names v ⨟ mark (codes ",") ⨟ value_part s names w ⨟ mark (codes ")")
+    word (codes "div") ⨟ mark (codes "(") ⨟ valued mode_at m ⨟ mark (codes ",") ⨟ valued (integer_at 27) k ⨟ mark (codes ",")
+    ⨟ value_part s names v ⨟ mark (codes ",") ⨟ value_part s names w ⨟ mark (codes ")")
 -- the name is bound in the body, which comes before the start
 value_part s names (Acc body n first) =
-    SomeName (λ name. word (codes "acc") ⨟ mark (codes "(") ⨟ valued binder_at name ⨟ mark (codes ",") ⨟ value_part s (name ∷ names) body ⨟ mark (codes ",") ⨟ valued (integer_at 100_000) n ⨟ mark (codes ",") ⨟ value_part s names first ⨟ mark (codes ")"))
+    SomeName (λ name. word (codes "acc") ⨟ mark (codes "(") ⨟ valued binder_at name ⨟ mark (codes ",")
+    ⨟ value_part s (name ∷ names) body ⨟ mark (codes ",") ⨟ valued (integer_at 100_000) n ⨟ mark (codes ",")
+    ⨟ value_part s names first ⨟ mark (codes ")"))
 
 -- code
 abbrev pub code_part : Scope → List Bytes → PayoffCode → Part
 code_part s names Nothing = word (codes "none")
 code_part s names (PayOn x asset from to) =
-    word (codes "pay") ⨟ mark (codes "(") ⨟ DatePart s x ⨟ mark (codes ",") ⨟ valued (use_at s.assets) asset ⨟ mark (codes ",") ⨟ valued (use_at s.parties) from ⨟ mark (codes ",") ⨟ valued (use_at s.parties) to ⨟ mark (codes ")")
+    word (codes "pay") ⨟ mark (codes "(") ⨟ DatePart s x ⨟ mark (codes ",") ⨟ valued (use_at s.assets) asset
+    ⨟ mark (codes ",") ⨟ valued (use_at s.parties) from ⨟ mark (codes ",") ⨟ valued (use_at s.parties) to ⨟ mark (codes ")")
 code_part s names (Add k l) = word (codes "add") ⨟ pair (code_part s names k) (code_part s names l)
 code_part s names (ScaleBy v k) = word (codes "scale") ⨟ pair (value_part s names v) (code_part s names k)
 -- the name is bound in the code and not in its own expression
 code_part s names (LetBe v k) =
-    SomeName (λ name. word (codes "let") ⨟ valued binder_at name ⨟ mark (codes "=") ⨟ value_part s names v ⨟ word (codes "in") ⨟ code_part s (name ∷ names) k)
+    SomeName (λ name. word (codes "let") ⨟ valued binder_at name ⨟ mark (codes "=") ⨟ value_part s names v
+    ⨟ word (codes "in") ⨟ code_part s (name ∷ names) k)
 code_part s names (Loop v x k l) =
-    word (codes "loop") ⨟ value_part s names v ⨟ word (codes "upto") ⨟ DatePart s x ⨟ word (codes "then") ⨟ code_part s names k ⨟ word (codes "else") ⨟ code_part s names l
+    word (codes "loop") ⨟ value_part s names v ⨟ word (codes "upto") ⨟ DatePart s x
+    ⨟ word (codes "then") ⨟ code_part s names k ⨟ word (codes "else") ⨟ code_part s names l
 code_part s names (Cut x k) = word (codes "cut") ⨟ pair (DatePart s x) (code_part s names k)

@@ -46,7 +46,8 @@ value_text s n (Round m k v) =
 value_text s n (Div m k v w) =
     codes "div(" ⊕ mode_text m ⊕ codes ", " ⊕ number_text k ⊕ codes ", " ⊕ value_text s n v ⊕ codes ", " ⊕ value_text s n w ⊕ codes ")"
 value_text s n (Acc body days first) =
-    codes "acc(" ⊕ bound_name n ⊕ codes ", " ⊕ value_text s (suc n) body ⊕ codes ", " ⊕ number_text days ⊕ codes ", " ⊕ value_text s n first ⊕ codes ")"
+    codes "acc(" ⊕ bound_name n ⊕ codes ", " ⊕ value_text s (suc n) body ⊕ codes ", " ⊕ number_text days ⊕ codes ", "
+    ⊕ value_text s n first ⊕ codes ")"
 
 -- what is paid, by whom and to whom
 abbrev pub transfer_text : Scope → ℕ → ℕ → ℕ → Bytes
