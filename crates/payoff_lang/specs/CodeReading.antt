@@ -1,6 +1,6 @@
 -- What the readers of payoff code make of a text. An expression that is read as one of code has for the offset of each
 -- observable the place of its date, as how many bytes of the text are left there; here the dates are put in.
-use Rattle.std.specs.Prelude.{◌≡◌, ◌-◌, ℕ, ℤ, pos, negsuc, false, true, List, [], ◌∷◌, ◌++◌, Option, Some, None, Result, codes, drop, length, if◌then◌else◌}
+use Rattle.std.specs.Prelude.{◌≡◌, ◌-◌, ℕ, ℤ, pos, negsuc, false, true, List, [], ◌∷◌, ◌++◌, Option, Some, None, codes, drop, length, if◌then◌else◌}
 use Rattle.decimal.specs.DecimalText.{signed}
 use Rattle.term_core.specs.Terms.{Expression, Lit as Lit', Yes as Yes', Var as Var', Obs as Obs', Neg as Neg', Num as Num', Cmp as Cmp', Not as Not', Logic as Logic', Cond as Cond', Widen as Widen', Round as Round', Div as Div', Acc as Acc'}
 use Rattle.contract_parse.specs.Tokens.{Tok, tokens}
@@ -8,11 +8,11 @@ use Rattle.contract_parse.specs.Words.{Bytes, is_the_mark}
 use Rattle.term_core.specs.declared.decls.Decls.{Decls}
 use Rattle.contract_parse.specs.Names.{Scope, names_in, place_in}
 use Rattle.contract_parse.specs.Judgements.{whole}
-use Rattle.contract_parse.specs.Spelling.{Part, templates_part, word}
-use Rattle.contract_parse.specs.Places.{Leaves, Place, run}
+use Rattle.contract_parse.specs.Spelling.{Part, templates_part}
+use Rattle.contract_parse.specs.Places.{Place, amount_places}
 use Rattle.contract_parse.specs.Reading.{scope_in}
 use Rattle.contract_parse.specs.declared.names.Bound.{Bound}
-use Rattle.contract_parse.specs.declared.faults.ReadErr.{ReadErr}
+use Rattle.contract_parse.specs.declared.heads.AmountHead.{AmountHead}
 use Rattle.payoff_lang.specs.declared.code.DateExpr.{DateExpr}
 use Rattle.payoff_lang.specs.declared.code.Vx.{Vx}
 use Rattle.payoff_lang.specs.declared.code.Code.{Code}
@@ -32,12 +32,6 @@ pub record RisingTemplates (templates : List Bytes) (names : List ℕ) (ts rest 
   pub is : names ≡ insert_names written []
   pub spelled : templates_part templates written ts rest
 
--- a reader passes the places that stand before others: whatever these are and whatever contracts are declared, the tokens
--- go on behind it as they do from its bytes, or their fault is the one that it names
-abbrev pub Passes : {X : Type 0} → Decls → (X → List ℕ) → (Scope → List Place → List Place) → List ℕ → Result X ReadErr → Type 0
-Passes d behind places bytes result =
-    (cs : List Bytes) (ps : List Place) → Leaves (λ r. run (scope_in d cs) ps (tokens (behind r))) result (run (scope_in d cs) (places (scope_in d cs) ps) (tokens bytes))
-
 -- the grammar's parts of the program's values, over declared names and under those that are bound
 abbrev pub date_in : Decls → DateExpr → Part
 date_in d x = DatePart (scope_in d []) (date x)
@@ -48,9 +42,9 @@ value_in d bound v = value_part (scope_in d []) (names_in bound) (value_expressi
 abbrev pub code_in : Decls → Bound → Code → Part
 code_in d bound k = code_part (scope_in d []) (names_in bound) (payoff_code k)
 
--- with this word before the bytes, they spell the part, up to other bytes
-abbrev pub SpelledBehind : Bytes → Part → List ℕ → List ℕ → Type 0
-SpelledBehind w part bytes behind = (ts : List Tok) → word w ts (tokens bytes) → part ts (tokens behind)
+-- what stands behind the word that an amount begins with
+abbrev pub behind_amount_head : ℕ → Bound → AmountHead → Scope → List Place → List Place
+behind_amount_head depth bound head s ps = amount_places s depth (names_in bound) head ps
 
 -- the number of the first token
 abbrev pub number_first : List Tok → ℕ

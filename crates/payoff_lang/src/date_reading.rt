@@ -5,8 +5,9 @@ ghost use Rattle.indexmap.specs.IndexMap.{keys};
 ghost use Rattle.contract_parse.specs.Tokens.{tokens};
 ghost use Rattle.contract_parse.specs.Places.{MoreTemplates, date_places};
 ghost use Rattle.contract_parse.specs.Reading.{LacksMark};
+ghost use Rattle.contract_parse.specs.Readers.{Passes, Spelled};
 ghost use Rattle.payoff_lang.specs.TemplateDates.{date};
-ghost use Rattle.payoff_lang.specs.CodeReading.{AddsTemplates, Passes, RisingTemplates, date_first, date_in};
+ghost use Rattle.payoff_lang.specs.CodeReading.{AddsTemplates, RisingTemplates, date_first, date_in};
 
 use crate::code::DateExpr;
 use crate::dates::put_in_order;
@@ -23,7 +24,7 @@ fn push_templates<'a>(
 ) -> Result<&'a [u8], ReadErr>
     ensures follows { Passes decls.now (λ r. r.now) (λ s ps. MoreTemplates ∷ ps) rest.now result }
     ensures spelled { IfOk result
-        (λ r. AddsTemplates (keys decls.now.templates) names.old.items names.new.items (tokens rest.now) (tokens r.now)) }
+        (λ r. Spelled (AddsTemplates (keys decls.now.templates) names.old.items names.new.items) rest.now r.now) }
     ensures ends { IfOk result (λ r. LacksMark (codes "+") (tokens r.now)) }
     ensures shorter { IfOk result (λ r. length r.now ≤ length rest.now) }
 {
@@ -43,7 +44,7 @@ fn read_templates<'a>(
     rest: &'a [u8],
 ) -> Result<(Vec<u32>, &'a [u8]), ReadErr>
     ensures follows { Passes decls.now (λ r. r.1.now) (λ s ps. MoreTemplates ∷ ps) rest.now result }
-    ensures spelled { IfOk result (λ r. RisingTemplates (keys decls.now.templates) r.0.items (tokens rest.now) (tokens r.1.now)) }
+    ensures spelled { IfOk result (λ r. Spelled (RisingTemplates (keys decls.now.templates) r.0.items) rest.now r.1.now) }
     ensures ends { IfOk result (λ r. LacksMark (codes "+") (tokens r.1.now)) }
     ensures shorter { IfOk result (λ r. length r.1.now ≤ length rest.now) }
 {
@@ -60,7 +61,7 @@ pub fn read_date<'a>(
     rest: &'a [u8],
 ) -> Result<(DateExpr, &'a [u8]), ReadErr>
     ensures follows { Passes decls.now (λ r. r.1.now) (λ s ps. date_places ps) rest.now result }
-    ensures spelled { IfOk result (λ r. date_in decls.now r.0 (tokens rest.now) (tokens r.1.now)) }
+    ensures spelled { IfOk result (λ r. Spelled (date_in decls.now r.0) rest.now r.1.now) }
     ensures ends { IfOk result (λ r. LacksMark (codes "+") (tokens r.1.now)) }
     ensures shorter { IfOk result (λ r. length r.1.now ≤ length rest.now) }
 {

@@ -2,11 +2,12 @@
 ghost use Rattle.std.specs.Prelude.{◌≤◌, ◌<◌, ◌∷◌, [], List, IfOk, codes, length};
 ghost use Rattle.term_core.specs.Declarations.{declarations};
 ghost use Rattle.contract_parse.specs.Tokens.{tokens};
-ghost use Rattle.contract_parse.specs.Names.{Scope, nothing_declared, with_names};
+ghost use Rattle.contract_parse.specs.Names.{nothing_declared};
 ghost use Rattle.contract_parse.specs.Judgements.{is_version, new_at};
 ghost use Rattle.contract_parse.specs.Spelling.{end, mark, one, valued, word, ◌⨟◌};
 ghost use Rattle.contract_parse.specs.Places.{AmountAt, Leaves, NewIn, Open, Place, TheEnd, TheMark, TheVersion, TheWord, code_text_places, run};
 ghost use Rattle.contract_parse.specs.Reading.{scope_in, tokens_ahead};
+ghost use Rattle.contract_parse.specs.Readers.{Declares, Passes, PassesAnywhere, Spelled, SpelledBehind};
 ghost use Rattle.contract_parse.specs.declared.names.NameSet.TheVariants.{Contract};
 ghost use Rattle.payoff_lang.specs.Code.{payoff_code};
 ghost use Rattle.payoff_lang.specs.CodeSizes.{height_of_code, nodes_of_code};
@@ -17,7 +18,6 @@ ghost use Rattle.payoff_lang.specs.CodeTexts.{code_scope};
 ghost use Rattle.payoff_lang.specs.CodeAnswers.{CodeAnswers};
 ghost use Rattle.payoff_lang.specs.WellFormedCode.{IsClosedCode};
 ghost use Rattle.payoff_lang.specs.PrintableCode.{CodeHasNumbersOfTexts};
-ghost use Rattle.payoff_lang.specs.CodeReading.{Passes, SpelledBehind};
 
 use crate::code::Code;
 use crate::code_file::CodeFile;
@@ -32,9 +32,8 @@ use term_core::{Decls, Name};
 
 // The name of the code, which is alone in its set.
 fn read_name(alloc: Global, rest: &[u8]) -> Result<(Name, &[u8]), ReadErr>
-    ensures follows { (s : Scope) (ps : List Place) → Leaves (λ r. run (with_names Contract (r.0 ∷ []) s) ps (tokens r.1.now)) result
-        (run (with_names Contract [] s) (NewIn Contract ∷ ps) (tokens rest.now)) }
-    ensures spelled { IfOk result (λ r. valued (new_at []) r.0 (tokens rest.now) (tokens r.1.now)) }
+    ensures follows { Declares Contract [] (λ r. r.0 ∷ []) (λ r. r.1.now) (λ ps. NewIn Contract ∷ ps) rest.now result }
+    ensures spelled { IfOk result (λ r. Spelled (valued (new_at []) r.0) rest.now r.1.now) }
     ensures shorter { IfOk result (λ r. length r.1.now < length rest.now) }
 {
     let others: IndexMap<Name, u32> = IndexMap::new(alloc);
@@ -51,8 +50,7 @@ fn read_definition<'a>(
     ensures follows { Passes decls.now (λ r. r.1.now)
         (λ s ps. TheMark (codes "=") ∷ AmountAt 1 [] ∷ TheMark (codes ";") ∷ ps) rest.now result }
     ensures spelled { IfOk result
-        (λ r. (mark (codes "=") ⨟ code_part (scope_in decls.now []) [] (payoff_code r.0)
-        ⨟ mark (codes ";")) (tokens rest.now) (tokens r.1.now)) }
+        (λ r. Spelled (mark (codes "=") ⨟ code_part (scope_in decls.now []) [] (payoff_code r.0) ⨟ mark (codes ";")) rest.now r.1.now) }
     ensures high { IfOk result (λ r. height_of_code (payoff_code r.0) ≤ 400) }
     ensures shorter { IfOk result (λ r. length r.1.now < length rest.now) }
 {
@@ -117,9 +115,9 @@ fn read_code<'a>(
 // The first line.
 #[tactic(auto, using(contract_parse::proofs::Parts::followed_by))]
 fn skip_first_line(rest: &[u8]) -> Result<&[u8], ReadErr>
-    ensures follows { (s : Scope) (ps : List Place) → Leaves (λ r. run s ps (tokens r.now)) result
-        (run s (TheWord (codes "payoff") ∷ TheVersion ∷ TheMark (codes ";") ∷ ps) (tokens rest.now)) }
-    ensures spelled { IfOk result (λ r. (word (codes "payoff") ⨟ one is_version ⨟ mark (codes ";")) (tokens rest.now) (tokens r.now)) }
+    ensures follows { PassesAnywhere (λ r. r.now)
+        (λ ps. TheWord (codes "payoff") ∷ TheVersion ∷ TheMark (codes ";") ∷ ps) rest.now result }
+    ensures spelled { IfOk result (λ r. Spelled (word (codes "payoff") ⨟ one is_version ⨟ mark (codes ";")) rest.now r.now) }
     ensures shorter { IfOk result (λ r. length r.now ≤ length rest.now) }
 {
     let rest = skip_word(rest, b"payoff")?;

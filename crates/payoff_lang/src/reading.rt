@@ -1,13 +1,13 @@
 //! Amounts of payoff code from texts.
 ghost use Rattle.std.specs.Prelude.{◌≡◌, ◌≤◌, ◌<◌, ◌+◌, ◌^◌, ◌∷◌, [], ℕ, List, IfOk, codes, length, max};
 ghost use Rattle.indexmap.specs.IndexSet.{index_set_len};
-ghost use Rattle.contract_parse.specs.Tokens.{tokens};
 ghost use Rattle.contract_parse.specs.Words.{Bytes};
-ghost use Rattle.contract_parse.specs.Names.{Scope, names_in};
+ghost use Rattle.contract_parse.specs.Names.{names_in};
 ghost use Rattle.contract_parse.specs.Judgements.{use_at};
 ghost use Rattle.contract_parse.specs.Spelling.{mark, valued, word, ◌⨟◌};
-ghost use Rattle.contract_parse.specs.Places.{AmountAt, ExprAt, Leaves, Place, TheMark, TheWord, UseOf, amount_places, date_places, run};
+ghost use Rattle.contract_parse.specs.Places.{AmountAt, ExprAt, TheMark, TheWord, UseOf, amount_places, date_places};
 ghost use Rattle.contract_parse.specs.Reading.{scope_in};
+ghost use Rattle.contract_parse.specs.Readers.{Passes, PassesAnywhere, Spelled, SpelledBehind};
 ghost use Rattle.contract_parse.specs.declared.heads.Language.{Language};
 ghost use Rattle.contract_parse.specs.declared.heads.AmountHead.{AmountHead};
 ghost use Rattle.payoff_lang.specs.TemplateDates.{date};
@@ -16,7 +16,7 @@ ghost use Rattle.payoff_lang.specs.Dating.{plain};
 ghost use Rattle.payoff_lang.specs.CodeSizes.{height_of_code};
 ghost use Rattle.payoff_lang.specs.CodeSpelling.{code_part};
 ghost use Rattle.term_core.specs.Sizes.{height};
-ghost use Rattle.payoff_lang.specs.CodeReading.{Passes, SpelledBehind, code_in, date_in, value_in};
+ghost use Rattle.payoff_lang.specs.CodeReading.{behind_amount_head, code_in, date_in, value_in};
 
 use crate::code::{Code, DateExpr, Vx};
 use crate::date_reading::read_date;
@@ -37,9 +37,8 @@ fn read_use_behind<'a>(
     rest: &'a [u8],
 ) -> Result<(u32, &'a [u8]), ReadErr>
     requires { index_set_len names.now < 2 ^ 32 }
-    ensures follows { (s : Scope) (ps : List Place) → Leaves (λ r. run s ps (tokens r.1.now)) result
-        (run s (TheMark wanted.now ∷ UseOf names.now.keys ∷ ps) (tokens rest.now)) }
-    ensures spelled { IfOk result (λ r. (mark wanted.now ⨟ valued (use_at names.now.keys) r.0) (tokens rest.now) (tokens r.1.now)) }
+    ensures follows { PassesAnywhere (λ r. r.1.now) (λ ps. TheMark wanted.now ∷ UseOf names.now.keys ∷ ps) rest.now result }
+    ensures spelled { IfOk result (λ r. Spelled (mark wanted.now ⨟ valued (use_at names.now.keys) r.0) rest.now r.1.now) }
     ensures shorter { IfOk result (λ r. length r.1.now ≤ length rest.now) }
 {
     let rest = skip_mark(rest, wanted)?;
@@ -53,9 +52,9 @@ fn read_transfer<'a>(decls: &Decls, rest: &'a [u8]) -> Result<(u32, u32, u32, &'
         (λ s ps. TheMark (codes ",") ∷ UseOf s.assets ∷ TheMark (codes ",") ∷ UseOf s.parties ∷ TheMark (codes ",") ∷ UseOf s.parties
         ∷ TheMark (codes ")") ∷ ps) rest.now result }
     ensures spelled { IfOk result
-        (λ r. (mark (codes ",") ⨟ valued (use_at (scope_in decls.now []).assets) r.0 ⨟ mark (codes ",")
+        (λ r. Spelled (mark (codes ",") ⨟ valued (use_at (scope_in decls.now []).assets) r.0 ⨟ mark (codes ",")
         ⨟ valued (use_at (scope_in decls.now []).parties) r.1 ⨟ mark (codes ",")
-        ⨟ valued (use_at (scope_in decls.now []).parties) r.2 ⨟ mark (codes ")")) (tokens rest.now) (tokens r.3.now)) }
+        ⨟ valued (use_at (scope_in decls.now []).parties) r.2 ⨟ mark (codes ")")) rest.now r.3.now) }
     ensures shorter { IfOk result (λ r. length r.3.now ≤ length rest.now) }
 {
     let (asset, rest) = read_use_behind(b",", &decls.assets, rest)?;
@@ -74,7 +73,7 @@ fn read_date_behind_mark<'a>(
     rest: &'a [u8],
 ) -> Result<(DateExpr, &'a [u8]), ReadErr>
     ensures follows { Passes decls.now (λ r. r.1.now) (λ s ps. TheMark wanted.now ∷ date_places ps) rest.now result }
-    ensures spelled { IfOk result (λ r. (mark wanted.now ⨟ date_in decls.now r.0) (tokens rest.now) (tokens r.1.now)) }
+    ensures spelled { IfOk result (λ r. Spelled (mark wanted.now ⨟ date_in decls.now r.0) rest.now r.1.now) }
     ensures shorter { IfOk result (λ r. length r.1.now ≤ length rest.now) }
 {
     let rest = skip_mark(rest, wanted)?;
@@ -90,7 +89,7 @@ fn read_date_behind_word<'a>(
     rest: &'a [u8],
 ) -> Result<(DateExpr, &'a [u8]), ReadErr>
     ensures follows { Passes decls.now (λ r. r.1.now) (λ s ps. TheWord wanted.now ∷ date_places ps) rest.now result }
-    ensures spelled { IfOk result (λ r. (word wanted.now ⨟ date_in decls.now r.0) (tokens rest.now) (tokens r.1.now)) }
+    ensures spelled { IfOk result (λ r. Spelled (word wanted.now ⨟ date_in decls.now r.0) rest.now r.1.now) }
     ensures shorter { IfOk result (λ r. length r.1.now ≤ length rest.now) }
 {
     let rest = skip_word(rest, wanted)?;
@@ -131,7 +130,7 @@ fn read_value<'a>(
     requires shallow { depth ≤ 401 }
     requires bound { length (names_in bound.now) < depth }
     ensures follows { Passes decls.now (λ r. r.1.now) (λ s ps. ExprAt Language.Code depth (names_in bound.now) ∷ ps) rest.now result }
-    ensures spelled { IfOk result (λ r. (value_in decls.now bound.now r.0) (tokens rest.now) (tokens r.1.now)) }
+    ensures spelled { IfOk result (λ r. Spelled (value_in decls.now bound.now r.0) rest.now r.1.now) }
     ensures high { IfOk result (λ r. height (plain (value_expression r.0)) + depth ≤ 401) }
     ensures shorter { IfOk result (λ r. length r.1.now ≤ length rest.now) }
 {
@@ -154,7 +153,7 @@ fn read_value_behind<'a>(
     requires bound { length (names_in bound.now) ≤ depth }
     ensures follows { Passes decls.now (λ r. r.1.now)
         (λ s ps. TheMark wanted.now ∷ ExprAt Language.Code (depth + 1) (names_in bound.now) ∷ ps) rest.now result }
-    ensures spelled { IfOk result (λ r. (mark wanted.now ⨟ value_in decls.now bound.now r.0) (tokens rest.now) (tokens r.1.now)) }
+    ensures spelled { IfOk result (λ r. Spelled (mark wanted.now ⨟ value_in decls.now bound.now r.0) rest.now r.1.now) }
     ensures high { IfOk result (λ r. height (plain (value_expression r.0)) + depth ≤ 400) }
     ensures shorter { IfOk result (λ r. length r.1.now ≤ length rest.now) }
 {
@@ -176,7 +175,7 @@ fn read_test<'a>(
     ensures follows { Passes decls.now (λ r. r.2.now)
         (λ s ps. ExprAt Language.Code (depth + 1) (names_in bound.now) ∷ TheWord (codes "upto") ∷ date_places ps) rest.now result }
     ensures spelled { IfOk result
-        (λ r. (value_in decls.now bound.now r.0 ⨟ word (codes "upto") ⨟ date_in decls.now r.1) (tokens rest.now) (tokens r.2.now)) }
+        (λ r. Spelled (value_in decls.now bound.now r.0 ⨟ word (codes "upto") ⨟ date_in decls.now r.1) rest.now r.2.now) }
     ensures high { IfOk result (λ r. height (plain (value_expression r.0)) + depth ≤ 400) }
     ensures shorter { IfOk result (λ r. length r.2.now ≤ length rest.now) }
 {
@@ -197,7 +196,7 @@ fn read_boxed<'a>(
     requires shallow { depth ≤ 400 }
     requires bound { length (names_in bound.now) ≤ depth }
     ensures follows { Passes decls.now (λ r. r.1.now) (λ s ps. AmountAt (depth + 1) (names_in bound.now) ∷ ps) rest.now result }
-    ensures spelled { IfOk result (λ r. (code_in decls.now bound.now r.0.value) (tokens rest.now) (tokens r.1.now)) }
+    ensures spelled { IfOk result (λ r. Spelled (code_in decls.now bound.now r.0.value) rest.now r.1.now) }
     ensures high { IfOk result (λ r. height_of_code (payoff_code r.0.value) + depth ≤ 400) }
     ensures shorter { IfOk result (λ r. length r.1.now ≤ length rest.now) }
 {
@@ -221,7 +220,7 @@ fn read_behind_mark<'a>(
     requires bound { length (names_in bound.now) ≤ depth }
     ensures follows { Passes decls.now (λ r. r.1.now)
         (λ s ps. TheMark wanted.now ∷ AmountAt (depth + 1) (names_in bound.now) ∷ ps) rest.now result }
-    ensures spelled { IfOk result (λ r. (mark wanted.now ⨟ code_in decls.now bound.now r.0.value) (tokens rest.now) (tokens r.1.now)) }
+    ensures spelled { IfOk result (λ r. Spelled (mark wanted.now ⨟ code_in decls.now bound.now r.0.value) rest.now r.1.now) }
     ensures high { IfOk result (λ r. height_of_code (payoff_code r.0.value) + depth ≤ 400) }
     ensures shorter { IfOk result (λ r. length r.1.now ≤ length rest.now) }
 {
@@ -244,7 +243,7 @@ fn read_behind_word<'a>(
     requires bound { length (names_in bound.now) ≤ depth }
     ensures follows { Passes decls.now (λ r. r.1.now)
         (λ s ps. TheWord wanted.now ∷ AmountAt (depth + 1) (names_in bound.now) ∷ ps) rest.now result }
-    ensures spelled { IfOk result (λ r. (word wanted.now ⨟ code_in decls.now bound.now r.0.value) (tokens rest.now) (tokens r.1.now)) }
+    ensures spelled { IfOk result (λ r. Spelled (word wanted.now ⨟ code_in decls.now bound.now r.0.value) rest.now r.1.now) }
     ensures high { IfOk result (λ r. height_of_code (payoff_code r.0.value) + depth ≤ 400) }
     ensures shorter { IfOk result (λ r. length r.1.now ≤ length rest.now) }
 {
@@ -268,8 +267,8 @@ fn read_branches<'a>(
         (λ s ps. TheWord (codes "then") ∷ AmountAt (depth + 1) (names_in bound.now) ∷ TheWord (codes "else")
         ∷ AmountAt (depth + 1) (names_in bound.now) ∷ ps) rest.now result }
     ensures spelled { IfOk result
-        (λ r. (word (codes "then") ⨟ code_in decls.now bound.now r.0.value ⨟ word (codes "else")
-        ⨟ code_in decls.now bound.now r.1.value) (tokens rest.now) (tokens r.2.now)) }
+        (λ r. Spelled (word (codes "then") ⨟ code_in decls.now bound.now r.0.value ⨟ word (codes "else")
+        ⨟ code_in decls.now bound.now r.1.value) rest.now r.2.now) }
     ensures high { IfOk result (λ r. max (height_of_code (payoff_code r.0.value)) (height_of_code (payoff_code r.1.value)) + depth ≤ 400) }
     ensures shorter { IfOk result (λ r. length r.2.now ≤ length rest.now) }
 {
@@ -290,8 +289,7 @@ fn read_add<'a>(
 ) -> Result<(Code, &'a [u8]), ReadErr>
     requires shallow { depth ≤ 400 }
     requires bound { length (names_in bound.now) < depth }
-    ensures follows { Passes decls.now (λ r. r.1.now)
-        (λ s ps. amount_places s depth (names_in bound.now) AmountHead.Add ps) rest.now result }
+    ensures follows { Passes decls.now (λ r. r.1.now) (behind_amount_head depth bound.now AmountHead.Add) rest.now result }
     ensures spelled { IfOk result (λ r. SpelledBehind (codes "add") (code_in decls.now bound.now r.0) rest.now r.1.now) }
     ensures high { IfOk result (λ r. height_of_code (payoff_code r.0) + depth ≤ 401) }
     ensures shorter { IfOk result (λ r. length r.1.now ≤ length rest.now) }
@@ -314,8 +312,7 @@ fn read_scaled<'a>(
 ) -> Result<(Code, &'a [u8]), ReadErr>
     requires shallow { depth ≤ 400 }
     requires bound { length (names_in bound.now) < depth }
-    ensures follows { Passes decls.now (λ r. r.1.now)
-        (λ s ps. amount_places s depth (names_in bound.now) AmountHead.Scale ps) rest.now result }
+    ensures follows { Passes decls.now (λ r. r.1.now) (behind_amount_head depth bound.now AmountHead.Scale) rest.now result }
     ensures spelled { IfOk result (λ r. SpelledBehind (codes "scale") (code_in decls.now bound.now r.0) rest.now r.1.now) }
     ensures high { IfOk result (λ r. height_of_code (payoff_code r.0) + depth ≤ 401) }
     ensures shorter { IfOk result (λ r. length r.1.now ≤ length rest.now) }
@@ -338,8 +335,7 @@ fn read_let<'a>(
 ) -> Result<(Code, &'a [u8]), ReadErr>
     requires shallow { depth ≤ 400 }
     requires bound { length (names_in bound.now) < depth }
-    ensures follows { Passes decls.now (λ r. r.1.now)
-        (λ s ps. amount_places s depth (names_in bound.now) AmountHead.Let ps) rest.now result }
+    ensures follows { Passes decls.now (λ r. r.1.now) (behind_amount_head depth bound.now AmountHead.Let) rest.now result }
     ensures spelled { IfOk result (λ r. SpelledBehind (codes "let") (code_in decls.now bound.now r.0) rest.now r.1.now) }
     ensures high { IfOk result (λ r. height_of_code (payoff_code r.0) + depth ≤ 401) }
     ensures shorter { IfOk result (λ r. length r.1.now ≤ length rest.now) }
@@ -366,8 +362,7 @@ fn read_loop<'a>(
 ) -> Result<(Code, &'a [u8]), ReadErr>
     requires shallow { depth ≤ 400 }
     requires bound { length (names_in bound.now) < depth }
-    ensures follows { Passes decls.now (λ r. r.1.now)
-        (λ s ps. amount_places s depth (names_in bound.now) AmountHead.Loop ps) rest.now result }
+    ensures follows { Passes decls.now (λ r. r.1.now) (behind_amount_head depth bound.now AmountHead.Loop) rest.now result }
     ensures spelled { IfOk result (λ r. SpelledBehind (codes "loop") (code_in decls.now bound.now r.0) rest.now r.1.now) }
     ensures high { IfOk result (λ r. height_of_code (payoff_code r.0) + depth ≤ 401) }
     ensures shorter { IfOk result (λ r. length r.1.now ≤ length rest.now) }
@@ -397,8 +392,7 @@ fn read_cut<'a>(
 ) -> Result<(Code, &'a [u8]), ReadErr>
     requires shallow { depth ≤ 400 }
     requires bound { length (names_in bound.now) < depth }
-    ensures follows { Passes decls.now (λ r. r.1.now)
-        (λ s ps. amount_places s depth (names_in bound.now) AmountHead.Cut ps) rest.now result }
+    ensures follows { Passes decls.now (λ r. r.1.now) (behind_amount_head depth bound.now AmountHead.Cut) rest.now result }
     ensures spelled { IfOk result (λ r. SpelledBehind (codes "cut") (code_in decls.now bound.now r.0) rest.now r.1.now) }
     ensures high { IfOk result (λ r. height_of_code (payoff_code r.0) + depth ≤ 401) }
     ensures shorter { IfOk result (λ r. length r.1.now ≤ length rest.now) }
@@ -422,7 +416,7 @@ pub fn read_amount<'a>(
     requires shallow { depth ≤ 401 }
     requires bound { length (names_in bound.now) < depth }
     ensures follows { Passes decls.now (λ r. r.1.now) (λ s ps. AmountAt depth (names_in bound.now) ∷ ps) rest.now result }
-    ensures spelled { IfOk result (λ r. (code_in decls.now bound.now r.0) (tokens rest.now) (tokens r.1.now)) }
+    ensures spelled { IfOk result (λ r. Spelled (code_in decls.now bound.now r.0) rest.now r.1.now) }
     ensures high { IfOk result (λ r. height_of_code (payoff_code r.0) + depth ≤ 401) }
     ensures shorter { IfOk result (λ r. length r.1.now ≤ length rest.now) }
 {
