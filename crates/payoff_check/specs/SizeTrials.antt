@@ -29,8 +29,11 @@ abbrev pub over_two : ValueSize → ValueSize → ValueSize
 over_two a b = record { height = max a.height b.height + 1; nodes = a.nodes + b.nodes + 1; work = 1 + (a.work + b.work) }
 
 abbrev pub over_three : ValueSize → ValueSize → ValueSize → ValueSize
-over_three t a b =
-    record { height = max t.height (max a.height b.height) + 1; nodes = t.nodes + a.nodes + b.nodes + 1; work = 1 + (t.work + a.work + b.work) }
+over_three t a b = record {
+  height = max t.height (max a.height b.height) + 1;
+  nodes = t.nodes + a.nodes + b.nodes + 1;
+  work = 1 + (t.work + a.work + b.work);
+}
 
 -- an accumulator over n days
 abbrev pub over_days : ValueSize → ℕ → ValueSize → ValueSize
@@ -119,8 +122,12 @@ over a = record { height = a.height + 1; nodes = a.nodes + 1; work = a.work; day
 
 -- a test that is tried on n days after the first
 abbrev pub looped : ValueSize → ℕ → CodeSize → CodeSize → CodeSize
-looped u n a b =
-    record { height = max u.height (max a.height b.height) + 1; nodes = u.nodes + a.nodes + b.nodes + 1; work = (n + 1) * u.work + a.work + b.work; days = max (n + a.days) b.days }
+looped u n a b = record {
+  height = max u.height (max a.height b.height) + 1;
+  nodes = u.nodes + a.nodes + b.nodes + 1;
+  work = (n + 1) * u.work + a.work + b.work;
+  days = max (n + a.days) b.days;
+}
 
 abbrev pub code_fits : CodeSize → Bool
 code_fits s = within_code_limits s.height s.nodes s.work && nat_le s.days 100_000

@@ -40,7 +40,9 @@ code_tried w (ScaleBy v k) g n =
 code_tried w (LetBe v k) g n =
     then_do (w.value v g (n + 1)) (λ u. then_do (code_tried w k (w.enter u g) (n + 1 + nodes (plain v))) (λ a. w.bound u a n))
 code_tried w (Loop v x k l) g n =
-    then_do (w.value v g (n + 1)) (λ u. then_do (code_tried w k g (n + 1 + nodes (plain v))) (λ a. then_do (code_tried w l g (n + 1 + nodes (plain v) + nodes_of_code k)) (λ b. w.looped u x a b n)))
+    then_do (w.value v g (n + 1))
+    (λ u. then_do (code_tried w k g (n + 1 + nodes (plain v)))
+    (λ a. then_do (code_tried w l g (n + 1 + nodes (plain v) + nodes_of_code k)) (λ b. w.looped u x a b n)))
 code_tried w (Cut x k) g n = then_do (code_tried w k g (n + 1)) (λ a. w.cut x a n)
 
 -- a call answers as a trial does, but for want of memory, where what it finds stands for something

@@ -4,13 +4,14 @@
 
 ghost use Rattle.std.specs.Prelude.{◌≡◌, ◌<◌, ◌≤◌, ◌+◌, ◌^◌, IfOk, IfErr};
 ghost use Rattle.term_core.specs.Sizes.{nodes};
-ghost use Rattle.term_core.specs.Trying.{moved};
+ghost use Rattle.term_core.specs.Trying.{IsWithin, moved};
 ghost use Rattle.payoff_check.specs.Trials.{plain_value};
 ghost use Rattle.payoff_check.specs.SizeTrials.{IsLimited, acc_tried, nodes_at, one_tried, three_tried, tried_at, two_tried};
 
 use crate::days::{day_at, is_date};
 use crate::part_sizes::ValueSize;
 use payoff_lang::Vx;
+use term_core::behind_node;
 
 /// The nodes of a value expression.
 pub fn nodes_in_value(v: &Vx) -> u32
@@ -41,7 +42,7 @@ pub fn size_of_value(setting: &[u32], e: &Vx) -> Result<ValueSize, u32>
     requires { nodes_at setting.now e.now < 2 ^ 32 }
     ensures size { result ≡ tried_at setting.now e.now }
     ensures limits { IfOk result IsLimited }
-    ensures below { IfErr result (λ place. place < nodes_at setting.now e.now) }
+    ensures below { IsWithin (nodes_at setting.now e.now) result }
 {
     match e {
         Vx::Lit { .. } => ValueSize::leaf().limited(0),
@@ -67,92 +68,81 @@ fn size_over_one(setting: &[u32], of: &Vx) -> Result<ValueSize, u32>
     requires { nodes_at setting.now of.now + 1 < 2 ^ 32 }
     ensures size { result ≡ one_tried (tried_at setting.now of.now) }
     ensures limits { IfOk result IsLimited }
-    ensures below { IfErr result (λ place. place < nodes_at setting.now of.now + 1) }
+    ensures below { IsWithin (nodes_at setting.now of.now + 1) result }
 {
-    let part = size_of_first(setting, of)?;
+    let part = behind_node(size_of_value(setting, of))?;
     part.over_one().limited(0)
 }
 
 // Of an operator on two operands.
 #[cycle(sizing)]
+#[tactic(auto, using(crate::proofs::DateFreeFacts::nodes_plain))]
 fn size_over_two(setting: &[u32], left: &Vx, right: &Vx) -> Result<ValueSize, u32>
     requires { nodes_at setting.now left.now + nodes_at setting.now right.now + 1 < 2 ^ 32 }
     ensures size { result ≡ two_tried (nodes_at setting.now left.now) (tried_at setting.now left.now) (tried_at setting.now right.now) }
     ensures limits { IfOk result IsLimited }
-    ensures below { IfErr result (λ place. place < nodes_at setting.now left.now + nodes_at setting.now right.now + 1) }
+    ensures below { IsWithin (nodes_at setting.now left.now + nodes_at setting.now right.now + 1) result }
 {
-    let left_size = size_of_first(setting, left)?;
-    let right_size = size_of_second(setting, left, right)?;
+    let left_size = behind_node(size_of_value(setting, left))?;
+    let right_size = behind_value(left, size_of_value(setting, right))?;
     left_size.over_two(right_size).limited(0)
 }
 
 // Of an `if`.
 #[cycle(sizing)]
+#[tactic(auto, using(crate::proofs::DateFreeFacts::nodes_plain))]
 fn size_over_three(setting: &[u32], test: &Vx, yes: &Vx, no: &Vx) -> Result<ValueSize, u32>
     requires { nodes_at setting.now test.now + nodes_at setting.now yes.now + nodes_at setting.now no.now + 1 < 2 ^ 32 }
-    ensures size { result ≡ three_tried (nodes_at setting.now test.now) (nodes_at setting.now yes.now) (tried_at setting.now test.now) (tried_at setting.now yes.now) (tried_at setting.now no.now) }
+    ensures size { result ≡ three_tried (nodes_at setting.now test.now) (nodes_at setting.now yes.now)
+        (tried_at setting.now test.now) (tried_at setting.now yes.now) (tried_at setting.now no.now) }
     ensures limits { IfOk result IsLimited }
-    ensures below { IfErr result (λ place. place < nodes_at setting.now test.now + nodes_at setting.now yes.now + nodes_at setting.now no.now + 1) }
+    ensures below { IsWithin (nodes_at setting.now test.now + nodes_at setting.now yes.now + nodes_at setting.now no.now + 1) result }
 {
-    let test_size = size_of_first(setting, test)?;
-    let yes_size = size_of_second(setting, test, yes)?;
-    let no_size = size_of_third(setting, test, yes, no)?;
+    let test_size = behind_node(size_of_value(setting, test))?;
+    let yes_size = behind_value(test, size_of_value(setting, yes))?;
+    let no_size = behind_two_values(test, yes, size_of_value(setting, no))?;
     test_size.over_three(yes_size, no_size).limited(0)
 }
 
 // Of an accumulator, whose start is tried before its body.
 #[cycle(sizing)]
+#[tactic(auto, using(crate::proofs::DateFreeFacts::nodes_plain))]
 fn size_over_days(setting: &[u32], body: &Vx, days: u32, first: &Vx) -> Result<ValueSize, u32>
     requires { nodes_at setting.now body.now + nodes_at setting.now first.now + 1 < 2 ^ 32 }
-    ensures size { result ≡ acc_tried (nodes_at setting.now body.now) days (tried_at setting.now first.now) (tried_at setting.now body.now) }
+    ensures size { result ≡ acc_tried (nodes_at setting.now body.now) days
+        (tried_at setting.now first.now) (tried_at setting.now body.now) }
     ensures limits { IfOk result IsLimited }
-    ensures below { IfErr result (λ place. place < nodes_at setting.now body.now + nodes_at setting.now first.now + 1) }
+    ensures below { IsWithin (nodes_at setting.now body.now + nodes_at setting.now first.now + 1) result }
 {
-    let first_size = size_of_second(setting, body, first)?;
-    let body_size = size_of_first(setting, body)?;
+    let first_size = behind_value(body, size_of_value(setting, first))?;
+    let body_size = behind_node(size_of_value(setting, body))?;
     body_size.over_days(days, first_size).limited(days)
 }
 
-// Of the part that follows its node.
-#[cycle(sizing)]
-fn size_of_first(setting: &[u32], e: &Vx) -> Result<ValueSize, u32>
-    requires { nodes_at setting.now e.now + 1 < 2 ^ 32 }
-    ensures size { result ≡ moved 1 (tried_at setting.now e.now) }
-    ensures limits { IfOk result IsLimited }
-    ensures below { IfErr result (λ place. place < nodes_at setting.now e.now + 1) }
+// The answer of the part that follows a value expression.
+fn behind_value(before: &Vx, answer: Result<ValueSize, u32>) -> Result<ValueSize, u32>
+    requires small { nodes (plain_value before.now) < 2 ^ 32 }
+    requires room { IfErr answer (λ place. 1 + nodes (plain_value before.now) + place < 2 ^ 32) }
+    ensures { result ≡ moved (1 + nodes (plain_value before.now)) answer }
 {
-    match size_of_value(setting, e) {
-        Ok(size) => Ok(size),
-        Err(place) => Err(1 + place),
-    }
-}
-
-// Of the part that follows the first.
-#[cycle(sizing)]
-#[tactic(auto, using(crate::proofs::DateFreeFacts::nodes_plain))]
-fn size_of_second(setting: &[u32], before: &Vx, e: &Vx) -> Result<ValueSize, u32>
-    requires { nodes_at setting.now before.now + nodes_at setting.now e.now + 1 < 2 ^ 32 }
-    ensures size { result ≡ moved (1 + nodes_at setting.now before.now) (tried_at setting.now e.now) }
-    ensures limits { IfOk result IsLimited }
-    ensures below { IfErr result (λ place. place < nodes_at setting.now before.now + nodes_at setting.now e.now + 1) }
-{
-    match size_of_value(setting, e) {
+    match answer {
         Ok(size) => Ok(size),
         Err(place) => Err(1 + nodes_in_value(before) + place),
     }
 }
 
-// Of the part that follows the second.
-#[cycle(sizing)]
-#[tactic(auto, using(crate::proofs::DateFreeFacts::nodes_plain))]
-fn size_of_third(setting: &[u32], first: &Vx, second: &Vx, e: &Vx) -> Result<ValueSize, u32>
-    requires { nodes_at setting.now first.now + nodes_at setting.now second.now + nodes_at setting.now e.now + 1 < 2 ^ 32 }
-    ensures size { result ≡ moved (nodes_at setting.now first.now) (moved (1 + nodes_at setting.now second.now) (tried_at setting.now e.now)) }
-    ensures limits { IfOk result IsLimited }
-    ensures below { IfErr result (λ place. place < nodes_at setting.now first.now + nodes_at setting.now second.now + nodes_at setting.now e.now + 1) }
+// The answer of the part that follows two value expressions.
+fn behind_two_values(
+    first: &Vx,
+    second: &Vx,
+    answer: Result<ValueSize, u32>,
+) -> Result<ValueSize, u32>
+    requires small { nodes (plain_value first.now) + nodes (plain_value second.now) < 2 ^ 32 }
+    requires room { IfErr answer (λ place. nodes (plain_value first.now) + (1 + nodes (plain_value second.now) + place) < 2 ^ 32) }
+    ensures { result ≡ moved (nodes (plain_value first.now)) (moved (1 + nodes (plain_value second.now)) answer) }
 {
-    match size_of_second(setting, second, e) {
+    match answer {
         Ok(size) => Ok(size),
-        Err(place) => Err(nodes_in_value(first) + place),
+        Err(place) => Err(nodes_in_value(first) + (1 + nodes_in_value(second) + place)),
     }
 }
