@@ -7,7 +7,7 @@ use Rattle.term_core.specs.Terms.{Expression, Contract, Zero, Pay, Both, Scale, 
 use Rattle.term_core.specs.Flows.{count_of}
 use Rattle.term_core.specs.Sizes.{nodes, nodes_of_contract, reach}
 use Rattle.term_core.specs.Smallness.{is_small}
-use Rattle.term_core.specs.Sites.{Site, Layer, Naming, Later, Undated, Once, sites_of, sites_of_contract, sites, contract_at}
+use Rattle.term_core.specs.Sites.{Layer, Naming, Later, Undated, Once, sites_of, sites_of_contract, sites, contract_at}
 use Rattle.term_core.specs.Acceptance.{Meets, FailsAt}
 use Rattle.term_core.proofs.Trials.{first_failing-is, FaultIs}
 use Rattle.scale_check.specs.declared.part_sizes.Size.{Size}
