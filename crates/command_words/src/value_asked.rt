@@ -1,6 +1,7 @@
 //! What `value` is asked for.
 
-ghost use Rattle.command_words.specs.Commands.{AreSettings};
+ghost use Rattle.std.specs.Prelude.{◌≤◌};
+ghost use Rattle.std.specs.List.{All};
 
 use crate::day_words::DayWord;
 use indexmap::IndexMap;
@@ -29,5 +30,5 @@ pub struct Value<'a> {
     pub at: DayWord<'a>,
     pub between: Between<'a>,
     pub settings: IndexMap<Name, u32>,
-    pub ghost few: { AreSettings settings.entries },
+    pub ghost few: { All (λ setting. setting.1 ≤ 100_000) settings.entries },
 }
