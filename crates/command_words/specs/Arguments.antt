@@ -15,13 +15,13 @@ use Rattle.command_words.specs.declared.arguments.WordsErr.TheVariants.{Usage, N
 
 -- the texts of words; of a word that may be given, and of words
 abbrev pub texts : List (Bor Text) → List Text
-texts words = map (λ (word : Bor Text). word.now) words
+texts words = map (λ word. word.now) words
 
 abbrev pub given_text : Option (Bor Text) → Option Text
-given_text word = option_map (λ (w : Bor Text). w.now) word
+given_text word = option_map (λ word. word.now) word
 
 abbrev pub given_texts : Option (Bor (List (Bor Text))) → Option (List Text)
-given_texts words = option_map (λ (ws : Bor (List (Bor Text))). texts ws.now) words
+given_texts words = option_map (λ words. texts words.now) words
 
 -- a word that has to be given
 abbrev pub required : Text → Rule

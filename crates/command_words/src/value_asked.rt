@@ -1,7 +1,6 @@
 //! What `value` is asked for.
 
-ghost use Rattle.std.specs.Prelude.{◌≤◌};
-ghost use Rattle.std.specs.List.{All};
+ghost use Rattle.command_words.specs.Commands.{AreSettings};
 
 use crate::day_words::DayWord;
 use indexmap::IndexMap;
@@ -30,5 +29,5 @@ pub struct Value<'a> {
     pub at: DayWord<'a>,
     pub between: Between<'a>,
     pub settings: IndexMap<Name, u32>,
-    pub ghost few: { All (λ setting. setting.1 ≤ 100_000) settings.entries },
+    pub ghost few: { AreSettings settings.entries },
 }
