@@ -6,7 +6,7 @@ use Rattle.payoff_lang.specs.CodeBooks.{CodeBook}
 use Rattle.command_words.specs.Commands.{ValueAsked}
 use Rattle.contract_cli.specs.RunPromise.{NamesValue}
 use Rattle.contract_cli.specs.Statuses.{status_of}
-use Rattle.contract_cli.specs.FilesPromise.{ValueAnswers, StopsValueOnBytes, no_code, on_code, value_stopped, value_told}
+use Rattle.contract_cli.specs.FilesPromise.{ValueAnswers, no_code, on_code, value_stopped, value_told}
 use Rattle.contract_cli.specs.ValuePromise.{StopsValue, ValueInputs, curve_refused, day_out, name_unknown, not_accepted, read_missing, row_refused}
 use Rattle.contract_cli.specs.declared.status.Status.{Status}
 use Rattle.contract_cli.specs.declared.status.Status.TheVariants as status
