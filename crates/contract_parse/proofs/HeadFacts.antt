@@ -12,7 +12,7 @@ use Rattle.contract_parse.specs.declared.heads.AmountHead.{AmountHead}
 use Rattle.contract_parse.specs.Tokens.{Tok}
 use Rattle.contract_parse.specs.Words.{Bytes, is_name, is_number, is_the_mark, is_the_word}
 use Rattle.contract_parse.specs.Judgements.{literal_at, variable_at}
-use Rattle.contract_parse.specs.Heads.{amount_head_at, amount_head_of, first_at, first_name, first_number, first_of, first_word, greatest_depth, head_at, head_of, is_before_depth, leaf_word, within_depth}
+use Rattle.contract_parse.specs.Heads.{Begins, BeginsAmount, BeginsContract, amount_head_at, amount_head_of, first_at, first_name, first_number, first_of, first_word, greatest_depth, head_at, head_of, is_before_depth, leaf_word, within_depth}
 
 -- ---- from the judgement to the token
 
@@ -33,25 +33,6 @@ depth_ok language d (Err k) x e = absurd (never_ok x k (is_before_depth k) (nat_
 pub depth_small : (language : Language) → greatest_depth language ≤ 400
 depth_small Language.Contracts = omega arith
 depth_small Language.Code = omega arith
-
--- what the token is that an expression begins with
-abbrev pub Begins : Language → List Bytes → Tok → First → Type 0
-Begins language names t (First.Number d) = literal_at false t ≡ Ok d
-Begins language names t (First.Name back) = variable_at names t ≡ Ok back
-Begins language names t First.True = is_the_word (codes "true") t ≡ true
-Begins language names t First.False = is_the_word (codes "false") t ≡ true
-Begins language names t First.Minus = is_the_mark (codes "-") t ≡ true
-Begins language names t First.Open = is_the_mark (codes "(") t ≡ true
-Begins language names t First.Obs = is_the_word (leaf_word language) t ≡ true
-Begins language names t First.Neg = is_the_word (codes "neg") t ≡ true
-Begins language names t First.Not = is_the_word (codes "not") t ≡ true
-Begins language names t First.Min = is_the_word (codes "min") t ≡ true
-Begins language names t First.Max = is_the_word (codes "max") t ≡ true
-Begins language names t First.If = is_the_word (codes "if") t ≡ true
-Begins language names t First.Widen = is_the_word (codes "widen") t ≡ true
-Begins language names t First.Round = is_the_word (codes "round") t ≡ true
-Begins language names t First.Div = is_the_word (codes "div") t ≡ true
-Begins language names t First.Acc = is_the_word (codes "acc") t ≡ true
 
 ok_same : {X : Type 0} (x y : X) (r s : Result X TextKind) → r ≡ Ok x → s ≡ Ok y → r ≡ s → x ≡ y
 ok_same x y r s p q e = cc
@@ -100,26 +81,16 @@ module _ (language : Language) (names : List Bytes) (t : Tok) where
   pub begins : (d : ℕ) (f : First) → Ok f ≡ first_at language d names t → Begins language names t f
   begins d f e = of_begins f (depth_ok language d (first_of language names t) f e).0
 
--- what the token is that a contract begins with
-abbrev pub Heads : Tok → Head → Type 0
-Heads t Head.Zero = is_the_word (codes "zero") t ≡ true
-Heads t Head.Pay = is_the_word (codes "pay") t ≡ true
-Heads t Head.Both = is_the_word (codes "both") t ≡ true
-Heads t Head.Scale = is_the_word (codes "scale") t ≡ true
-Heads t Head.After = is_the_word (codes "after") t ≡ true
-Heads t Head.Let = is_the_word (codes "let") t ≡ true
-Heads t Head.If = is_the_word (codes "if") t ≡ true
-
 module _ (t : Tok) where
-  choose_head : (b : Bool) (x f : Head) (rest : Result Head TextKind) → Ok f ≡ cond b (Ok x) rest → (b ≡ true → Heads t x) → (Ok f ≡ rest → Heads t f) → Heads t f
-  choose_head true x f rest e hit miss = subst (λ g. Heads t g) (sym (ok_same f x (Ok f) (Ok x) refl refl e)) (hit refl)
+  choose_head : (b : Bool) (x f : Head) (rest : Result Head TextKind) → Ok f ≡ cond b (Ok x) rest → (b ≡ true → BeginsContract t x) → (Ok f ≡ rest → BeginsContract t f) → BeginsContract t f
+  choose_head true x f rest e hit miss = subst (λ g. BeginsContract t g) (sym (ok_same f x (Ok f) (Ok x) refl refl e)) (hit refl)
   choose_head false x f rest e hit miss = miss e
 
   -- the token that a contract was found to begin with
-  pub heads : (d : ℕ) (f : Head) → Ok f ≡ head_at d t → Heads t f
+  pub heads : (d : ℕ) (f : Head) → Ok f ≡ head_at d t → BeginsContract t f
   heads d f e = of_head (depth_ok Language.Contracts d (head_of t) f e).0
     where
-      of_head : Ok f ≡ head_of t → Heads t f
+      of_head : Ok f ≡ head_of t → BeginsContract t f
       of_head e =
           choose_head (is_the_word (codes "zero") t) Head.Zero f _ e (λ h. h) (λ e.
           choose_head (is_the_word (codes "pay") t) Head.Pay f _ e (λ h. h) (λ e.
@@ -130,26 +101,16 @@ module _ (t : Tok) where
           choose_head (is_the_word (codes "if") t) Head.If f _ e (λ h. h) (λ e.
           absurd cc)))))))
 
--- what the token is that an amount of payoff code begins with
-abbrev pub AmountHeads : Tok → AmountHead → Type 0
-AmountHeads t AmountHead.None = is_the_word (codes "none") t ≡ true
-AmountHeads t AmountHead.Pay = is_the_word (codes "pay") t ≡ true
-AmountHeads t AmountHead.Add = is_the_word (codes "add") t ≡ true
-AmountHeads t AmountHead.Scale = is_the_word (codes "scale") t ≡ true
-AmountHeads t AmountHead.Let = is_the_word (codes "let") t ≡ true
-AmountHeads t AmountHead.Loop = is_the_word (codes "loop") t ≡ true
-AmountHeads t AmountHead.Cut = is_the_word (codes "cut") t ≡ true
-
 module _ (t : Tok) where
-  choose_amount : (b : Bool) (x f : AmountHead) (rest : Result AmountHead TextKind) → Ok f ≡ cond b (Ok x) rest → (b ≡ true → AmountHeads t x) → (Ok f ≡ rest → AmountHeads t f) → AmountHeads t f
-  choose_amount true x f rest e hit miss = subst (λ g. AmountHeads t g) (sym (ok_same f x (Ok f) (Ok x) refl refl e)) (hit refl)
+  choose_amount : (b : Bool) (x f : AmountHead) (rest : Result AmountHead TextKind) → Ok f ≡ cond b (Ok x) rest → (b ≡ true → BeginsAmount t x) → (Ok f ≡ rest → BeginsAmount t f) → BeginsAmount t f
+  choose_amount true x f rest e hit miss = subst (λ g. BeginsAmount t g) (sym (ok_same f x (Ok f) (Ok x) refl refl e)) (hit refl)
   choose_amount false x f rest e hit miss = miss e
 
   -- the token that an amount was found to begin with
-  pub amount_heads : (d : ℕ) (f : AmountHead) → Ok f ≡ amount_head_at d t → AmountHeads t f
+  pub amount_heads : (d : ℕ) (f : AmountHead) → Ok f ≡ amount_head_at d t → BeginsAmount t f
   amount_heads d f e = of_head (depth_ok Language.Code d (amount_head_of t) f e).0
     where
-      of_head : Ok f ≡ amount_head_of t → AmountHeads t f
+      of_head : Ok f ≡ amount_head_of t → BeginsAmount t f
       of_head e =
           choose_amount (is_the_word (codes "none") t) AmountHead.None f _ e (λ h. h) (λ e.
           choose_amount (is_the_word (codes "pay") t) AmountHead.Pay f _ e (λ h. h) (λ e.

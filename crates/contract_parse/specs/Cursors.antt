@@ -21,7 +21,7 @@ use Rattle.contract_parse.specs.declared.faults.TextFault.{TextFault}
 use Rattle.contract_parse.specs.declared.faults.ParseErr.{ParseErr}
 use Rattle.contract_parse.specs.declared.faults.ParseErr.TheVariants.{Text, NoMemory}
 
--- a byte's place in a text, with its line and its column
+-- a byte's position in a text, with its line and its column
 pub record Position : Type 0 where
   pub at : ℕ
   pub line : ℕ
@@ -48,7 +48,7 @@ pub record IsNoUtf8 (bytes : List ℕ) (f : TextFault) : Type 0 where
   pub longest : IsValidUpTo bytes at
   pub is : f ≡ fault_at bytes Utf8 at
 
--- the tokens from a place on
+-- the tokens from a position on
 abbrev pub tokens_at : List ℕ → ℕ → List Tok
 tokens_at bytes at = tokens (drop at bytes)
 
@@ -59,11 +59,11 @@ kind_of Date = kind.Date
 kind_of Mark = kind.Mark
 kind_of End = kind.End
 
--- the token of a kind that has the bytes from one place to before another
+-- the token of a kind that has the bytes from one position to before another
 abbrev pub token_between : List ℕ → Kind → ℕ → ℕ → Tok
 token_between bytes k from to = record { kind = k; text = take (to - from) (drop from bytes); left = length bytes - from }
 
--- a token of this kind comes next from a place on, and has these bytes
+-- a token of this kind comes next from a position on, and has these bytes
 pub record NextToken (bytes : List ℕ) (at : ℕ) (k : Kind) (from to : ℕ) : Type 0 where
   pub tokens : tokens_at bytes at ≡ token_between bytes k from to ∷ tokens_after k (drop to bytes)
   pub behind : at ≤ from
@@ -88,7 +88,7 @@ pub record IsAfter (bytes : List ℕ) (last : Tok) (rest : List Tok) (at : ℕ) 
   pub tokens : tokens_at bytes at ≡ rest
   pub place : at + last.left ≡ length bytes + length last.text
 
--- the tokens from one place to another, of which the last is a semicolon that ends directly at the other
+-- the tokens from one position to another, of which the last is a semicolon that ends directly at the other
 pub record EndsLine (bytes : List ℕ) (from to : ℕ) : Type 0 where
   pub before : List Tok
   pub last : Tok
@@ -96,7 +96,7 @@ pub record EndsLine (bytes : List ℕ) (from to : ℕ) : Type 0 where
   pub semicolon : is_the_mark (codes ";") last ≡ true
   pub after : to + last.left ≡ length bytes + 1
 
--- what the places of declarations make of the tokens from a place on: they take all, or refuse one of a declaration
+-- what the places of declarations make of the tokens from a position on: they take all, or refuse one of a declaration
 abbrev pub declared_at : List ℕ → ℕ → Outcome
 declared_at bytes at = run nothing_declared (decls_places (AnyTokens ∷ [])) (tokens_at bytes at)
 

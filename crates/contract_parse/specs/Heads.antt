@@ -1,6 +1,6 @@
 -- What a term begins with: the first token decides its form. Contracts and payoff code differ in the word that reads an
--- observable, and in how many terms may be open at one place.
-use Rattle.std.specs.Prelude.{ℕ, Bool, true, false, List, Result, Ok, Err, codes, nat_lt, if◌then◌else◌}
+-- observable, and in how many terms may be open at once.
+use Rattle.std.specs.Prelude.{◌≡◌, ℕ, Bool, true, false, List, Result, Ok, Err, codes, nat_lt, if◌then◌else◌}
 use Rattle.decimal.specs.declared.Decimal.{Decimal}
 use Rattle.contract_parse.specs.Tokens.{Tok}
 use Rattle.contract_parse.specs.Words.{Bytes, is_the_word, is_the_mark, is_name, is_number}
@@ -103,3 +103,42 @@ amount_head_of t =
 
 abbrev pub amount_head_at : ℕ → Tok → Result AmountHead TextKind
 amount_head_at depth t = within_depth Language.Code depth (amount_head_of t)
+
+-- what the token is that an expression begins with
+abbrev pub Begins : Language → List Bytes → Tok → First → Type 0
+Begins language names t (First.Number d) = literal_at false t ≡ Ok d
+Begins language names t (First.Name back) = variable_at names t ≡ Ok back
+Begins language names t First.True = is_the_word (codes "true") t ≡ true
+Begins language names t First.False = is_the_word (codes "false") t ≡ true
+Begins language names t First.Minus = is_the_mark (codes "-") t ≡ true
+Begins language names t First.Open = is_the_mark (codes "(") t ≡ true
+Begins language names t First.Obs = is_the_word (leaf_word language) t ≡ true
+Begins language names t First.Neg = is_the_word (codes "neg") t ≡ true
+Begins language names t First.Not = is_the_word (codes "not") t ≡ true
+Begins language names t First.Min = is_the_word (codes "min") t ≡ true
+Begins language names t First.Max = is_the_word (codes "max") t ≡ true
+Begins language names t First.If = is_the_word (codes "if") t ≡ true
+Begins language names t First.Widen = is_the_word (codes "widen") t ≡ true
+Begins language names t First.Round = is_the_word (codes "round") t ≡ true
+Begins language names t First.Div = is_the_word (codes "div") t ≡ true
+Begins language names t First.Acc = is_the_word (codes "acc") t ≡ true
+
+-- what the token is that a contract begins with
+abbrev pub BeginsContract : Tok → Head → Type 0
+BeginsContract t Head.Zero = is_the_word (codes "zero") t ≡ true
+BeginsContract t Head.Pay = is_the_word (codes "pay") t ≡ true
+BeginsContract t Head.Both = is_the_word (codes "both") t ≡ true
+BeginsContract t Head.Scale = is_the_word (codes "scale") t ≡ true
+BeginsContract t Head.After = is_the_word (codes "after") t ≡ true
+BeginsContract t Head.Let = is_the_word (codes "let") t ≡ true
+BeginsContract t Head.If = is_the_word (codes "if") t ≡ true
+
+-- what the token is that an amount of payoff code begins with
+abbrev pub BeginsAmount : Tok → AmountHead → Type 0
+BeginsAmount t AmountHead.None = is_the_word (codes "none") t ≡ true
+BeginsAmount t AmountHead.Pay = is_the_word (codes "pay") t ≡ true
+BeginsAmount t AmountHead.Add = is_the_word (codes "add") t ≡ true
+BeginsAmount t AmountHead.Scale = is_the_word (codes "scale") t ≡ true
+BeginsAmount t AmountHead.Let = is_the_word (codes "let") t ≡ true
+BeginsAmount t AmountHead.Loop = is_the_word (codes "loop") t ≡ true
+BeginsAmount t AmountHead.Cut = is_the_word (codes "cut") t ≡ true

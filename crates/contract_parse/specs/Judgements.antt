@@ -97,7 +97,7 @@ binder_at t = if is_name t then Ok t.text else Err Syntax
 abbrev pub new_at : List Bytes → Tok → Result Bytes TextKind
 new_at names t = if is_name t then (if is_declared names t.text then Err Twice else Ok t.text) else Err Syntax
 
--- a declared name, by its place
+-- a declared name, by its index
 abbrev pub use_at : List Bytes → Tok → Result ℕ TextKind
 use_at names t = if is_name t then or_fault Unknown (place_in names t.text) else Err Syntax
 

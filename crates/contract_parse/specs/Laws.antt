@@ -21,7 +21,7 @@ use Rattle.contract_parse.specs.Sample.{sample_book, sample_text}
 use Rattle.contract_parse.specs.declared.heads.Language.{Language}
 use Rattle.contract_parse.specs.declared.faults.TextFault.{TextFault}
 
--- at most 200 terms are open at one place, and 400 in payoff code; the term's own depth is counted
+-- at most 200 terms are open at once, and 400 in payoff code; the term's own depth is counted
 abbrev pub ExpressionIsTaken : Type 0
 ExpressionIsTaken =
     (l : Language) (s : Scope) (names : List Bytes) (e : Expression) (depth : ℕ) (ps : List Place) (ts rest : List Tok)
@@ -80,7 +80,7 @@ pub record NamesFit (bytes : List ℕ) (d : Declarations) : Type 0 where
 abbrev pub NamesFitText : Type 0
 NamesFitText = (bytes : List ℕ) (b : Book) → Text bytes b → NamesFit bytes b.declarations
 
--- a contract of a text names only what is declared or bound round it, and at most 200 terms are open at one place
+-- a contract of a text names only what is declared or bound round it, and at most 200 terms are open at once
 abbrev pub ContractsAreClosed : Type 0
 ContractsAreClosed =
     (bytes : List ℕ) (b : Book) → Text bytes b

@@ -1,4 +1,4 @@
--- The line and the column of a place in a text. Lines are counted from 1 and end with a line feed; the column counts
+-- The line and the column of a position in a text. Lines are counted from 1 and end with a line feed; the column counts
 -- the bytes of the line from 1.
 use Rattle.std.specs.Prelude.{ℕ, ◌+◌, ◌==◌, List, take, count_by, reverse, not}
 use Rattle.std.specs.List.{prefix_len}

@@ -1,4 +1,4 @@
--- Sets of declared names, and the names that are bound round a place.
+-- Sets of declared names, and the names that are bound round a term.
 use Rattle.std.specs.Prelude.{ℕ, suc, Bool, List, [], ◌∷◌, Option, Some, None, option_map, position, if◌then◌else◌}
 use Rattle.std.specs.List.{list_any}
 use Rattle.std.specs.Map.{keys_of}
@@ -10,7 +10,7 @@ use Rattle.contract_parse.specs.declared.names.Bound.{Bound}
 use Rattle.contract_parse.specs.declared.names.Bound.TheVariants as bound
 use Rattle.term_core.specs.Declarations.{Declarations}
 
--- the place of a name in declared order
+-- the index of a name in declared order
 abbrev pub place_in : List Bytes → Bytes → Option ℕ
 place_in names text = position (λ name. bytes_eq text name) names
 

@@ -1,13 +1,14 @@
 -- What the readers promise of the bytes that they are given, and of those that they leave behind what they read.
-use Rattle.std.specs.Prelude.{ℕ, List, [], ◌∷◌, Result}
+use Rattle.std.specs.Prelude.{◌≡◌, ℕ, List, [], ◌∷◌, Result}
 use Rattle.term_core.specs.Terms.{contract, expression}
 use Rattle.term_core.specs.declared.decls.Decls.{Decls}
 use Rattle.term_core.specs.declared.terms.Contr.{Contr}
 use Rattle.term_core.specs.declared.terms.Expr.{Expr}
 use Rattle.contract_parse.specs.Tokens.{Tok, tokens}
 use Rattle.contract_parse.specs.Words.{Bytes}
+use Rattle.contract_parse.specs.Heads.{Begins, BeginsContract}
 use Rattle.contract_parse.specs.Names.{Scope, names_in, with_names}
-use Rattle.contract_parse.specs.Spelling.{Part, contr, expr, mark, word}
+use Rattle.contract_parse.specs.Spelling.{Part, contr, expr, word}
 use Rattle.contract_parse.specs.Places.{Leaves, Place, contr_places, expr_places, run}
 use Rattle.contract_parse.specs.Reading.{scope_in, tokens_ahead}
 use Rattle.contract_parse.specs.declared.faults.ReadErr.{ReadErr}
@@ -63,7 +64,14 @@ expression_in l d bound e = expr l (scope_in d []) (names_in bound) (expression 
 abbrev pub contract_in : Decls → Bound → Contr → Part
 contract_in d bound c = contr (scope_in d []) (names_in bound) (contract c)
 
--- what stands behind the first token of an expression, and of a contract
+-- the first token of an expression, and of a contract
+abbrev pub first_token : Language → List Bytes → First → Part
+first_token l names first ts rest = (t : Tok) × (ts ≡ t ∷ rest) × Begins l names t first
+
+abbrev pub first_token_of_contract : Head → Part
+first_token_of_contract head ts rest = (t : Tok) × (ts ≡ t ∷ rest) × BeginsContract t head
+
+-- what stands behind it
 abbrev pub behind_first : Language → ℕ → Bound → First → Scope → List Place → List Place
 behind_first l depth bound first s ps = expr_places s l depth (names_in bound) first ps
 
@@ -74,10 +82,10 @@ behind_head depth bound head s ps = contr_places s depth (names_in bound) head p
 abbrev pub Spelled : Part → List ℕ → List ℕ → Type 0
 Spelled part bytes behind = part (tokens bytes) (tokens behind)
 
--- with this word before the bytes, they spell the part, up to other bytes
+-- with this part before the bytes, they spell the other one, up to other bytes
+abbrev pub SpelledBehindPart : Part → Part → List ℕ → List ℕ → Type 0
+SpelledBehindPart first part bytes behind = (ts : List Tok) → first ts (tokens bytes) → part ts (tokens behind)
+
+-- the same with this word
 abbrev pub SpelledBehind : Bytes → Part → List ℕ → List ℕ → Type 0
 SpelledBehind w part bytes behind = (ts : List Tok) → word w ts (tokens bytes) → part ts (tokens behind)
-
--- the same with this mark
-abbrev pub SpelledBehindMark : Bytes → Part → List ℕ → List ℕ → Type 0
-SpelledBehindMark m part bytes behind = (ts : List Tok) → mark m ts (tokens bytes) → part ts (tokens behind)

@@ -126,18 +126,18 @@ pub record SomeDate (templates : List Bytes) (ts rest : List Tok) : Type 0 where
   pub spelled : dated_part templates days written ts rest
 
 -- some date, whose first token begins where so many bytes are left
-pub record DateFrom (templates : List Bytes) (place : ℤ) (ts rest : List Tok) : Type 0 where
+pub record DateFrom (templates : List Bytes) (offset : ℤ) (ts rest : List Tok) : Type 0 where
   pub days : ℤ
   pub written : List ℕ
   pub first : Tok
   pub behind : List Tok
   pub is : ts ≡ first ∷ behind
-  pub left : place ≡ pos first.left
+  pub left : offset ≡ pos first.left
   pub spelled : dated_part templates days written ts rest
 
--- `model(label, date)`: for its offset the observable has the place of its date in the text
+-- `model(label, date)`: the offset of the observable is how many bytes of the text are left where its date begins
 abbrev pub model_leaf : Scope → Leaf
-model_leaf s label place = word (codes "model") ⨟ pair (valued (use_at s.labels) label) (DateFrom s.templates place)
+model_leaf s label offset = word (codes "model") ⨟ pair (valued (use_at s.labels) label) (DateFrom s.templates offset)
 
 abbrev pub leaf_of : Language → Scope → Leaf
 leaf_of Language.Contracts s = obs_leaf s

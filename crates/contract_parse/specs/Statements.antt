@@ -66,7 +66,7 @@ abbrev pub template_line : List (Bytes × ℕ) → Bytes → ℕ → Part
 template_line before name days =
     word (codes "template") ⨟ new_name before name ⨟ mark (codes "=") ⨟ valued (integer_at 100_000) days ⨟ mark (codes ";")
 
--- the depth of a contract is 1, and at most 200 terms are open at one place
+-- the depth of a contract is 1, and at most 200 terms are open at once
 abbrev pub shallow : Contract → Part
 shallow c ts rest = (ts ≡ rest) × (height_of_contract c ≤ 200)
 

@@ -20,7 +20,7 @@ pub record Text (bytes : List ℕ) (b : Book) : Type 0 where
   pub utf8 : IsUtf8 bytes
   pub spelled : portfolio b (tokens bytes) []
 
--- the kind and the place of the first fault: what is no UTF-8 comes before all, at the first byte after the longest
+-- the kind and the position of the first fault: what is no UTF-8 comes before all, at the first byte after the longest
 -- prefix that is; else it is the first token that the places of the language refuse
 pub data FirstTextFault (l : Language) (bytes : List ℕ) : TextKind → ℕ → Type 0 where
   no_utf8 : {at : ℕ} → (IsUtf8 bytes → ⊥) → IsValidUpTo bytes at → FirstTextFault l bytes Utf8 at

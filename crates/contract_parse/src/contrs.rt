@@ -10,7 +10,7 @@ ghost use Rattle.contract_parse.specs.Judgements.{days_at, use_at};
 ghost use Rattle.contract_parse.specs.Spelling.{contr, mark, valued, word, ◌⨟◌};
 ghost use Rattle.contract_parse.specs.Places.{ContrAt, DaysAt, ExprAt, TheMark, TheWord, UseOf, contr_places};
 ghost use Rattle.contract_parse.specs.Reading.{scope_in};
-ghost use Rattle.contract_parse.specs.Readers.{Passes, PassesAnywhere, Spelled, SpelledBehind, behind_head, contract_in, expression_in};
+ghost use Rattle.contract_parse.specs.Readers.{Passes, PassesAnywhere, Spelled, SpelledBehind, SpelledBehindPart, behind_head, contract_in, expression_in, first_token_of_contract};
 ghost use Rattle.contract_parse.specs.declared.heads.Language.{Language};
 
 use crate::exprs::read_expr;
@@ -317,9 +317,37 @@ fn read_within<'a>(
     ))
 }
 
+// What stands behind the first token.
+#[cycle(contr)]
+fn read_behind_head<'a>(
+    head: Head,
+    alloc: Global,
+    decls: &Decls,
+    bound: &Bound<'_>,
+    depth: u32,
+    rest: &'a [u8],
+) -> Result<(Contr, &'a [u8]), ReadErr>
+    requires shallow { depth ≤ 200 }
+    requires bound { length (names_in bound.now) < depth }
+    ensures follows { Passes decls.now (λ r. r.1.now) (behind_head depth bound.now head) rest.now result }
+    ensures spelled { IfOk result
+        (λ r. SpelledBehindPart (first_token_of_contract head) (contract_in decls.now bound.now r.0) rest.now r.1.now) }
+    ensures high { IfOk result (λ r. height_of_contract (contract r.0) + depth ≤ 201) }
+    ensures shorter { IfOk result (λ r. length r.1.now ≤ length rest.now) }
+{
+    match head {
+        Head::Zero => Ok((Contr::Zero, rest)),
+        Head::Pay => read_pay(decls, rest),
+        Head::Both => read_both(alloc, decls, bound, depth, rest),
+        Head::Scale => read_scaled(alloc, decls, bound, depth, rest),
+        Head::After => read_after(alloc, decls, bound, depth, rest),
+        Head::Let => read_let(alloc, decls, bound, depth, rest),
+        Head::If => read_within(alloc, decls, bound, depth, rest),
+    }
+}
+
 /// A contract of a depth under bound names, and the text after it.
 #[cycle(contr)]
-#[tactic(auto, using(crate::proofs::Parts::followed_by))]
 pub fn read_contr<'a>(
     alloc: Global,
     decls: &Decls,
@@ -335,17 +363,8 @@ pub fn read_contr<'a>(
     ensures shorter { IfOk result (λ r. length r.1.now ≤ length rest.now) }
 {
     let (token, after) = next(rest);
-    let head = match head_at(depth, &token) {
-        Ok(head) => head,
-        Err(kind) => return Err(refuse(kind, &token)),
-    };
-    match head {
-        Head::Zero => Ok((Contr::Zero, after)),
-        Head::Pay => read_pay(decls, after),
-        Head::Both => read_both(alloc, decls, bound, depth, after),
-        Head::Scale => read_scaled(alloc, decls, bound, depth, after),
-        Head::After => read_after(alloc, decls, bound, depth, after),
-        Head::Let => read_let(alloc, decls, bound, depth, after),
-        Head::If => read_within(alloc, decls, bound, depth, after),
+    match head_at(depth, &token) {
+        Ok(head) => read_behind_head(head, alloc, decls, bound, depth, after),
+        Err(kind) => Err(refuse(kind, &token)),
     }
 }

@@ -16,7 +16,7 @@ use std::marker::Model;
 use std::str;
 use term_core::Decls;
 
-/// A place in a text, with its line and its column, both from 1 and the column in bytes.
+/// A position in a text, with its line and its column, both from 1 and the column in bytes.
 #[derive(Clone, Copy, Debug)]
 pub struct Cursor {
     at: usize,
@@ -42,7 +42,7 @@ struct Span {
     to: usize,
 }
 
-// The place of the first byte after the longest prefix that is UTF-8, if that is not the whole text.
+// The position of the first byte after the longest prefix that is UTF-8, if that is not the whole text.
 fn first_bad_byte(bytes: &[u8]) -> Option<usize>
     ensures good { IfNone result (IsUtf8 bytes.now) }
     ensures bad { IfSome result (λ at. (IsUtf8 bytes.now → ⊥) × IsValidUpTo bytes.now at) }
@@ -97,7 +97,7 @@ fn moved(cursor: Cursor, bytes: &[u8], to: usize) -> Cursor
     }
 }
 
-// The token that comes next from a place on.
+// The token that comes next from a position on.
 fn next_span(bytes: &[u8], at: usize) -> Span
     requires { at ≤ length bytes.now }
     ensures next { NextToken bytes.now at result.kind result.from result.to }
@@ -206,8 +206,8 @@ pub fn parse_decls(alloc: Global, cursor: &mut Cursor, bytes: &[u8]) -> Result<D
             Ok(decls)
         }
         Err(ReadErr::Refused(refusal)) => {
-            let place = moved(*cursor, bytes, bytes.len() - refusal.left);
-            Err(ParseErr::Text(fault_here(refusal.kind, place)))
+            let position = moved(*cursor, bytes, bytes.len() - refusal.left);
+            Err(ParseErr::Text(fault_here(refusal.kind, position)))
         }
         Err(ReadErr::NoMemory) => Err(ParseErr::NoMemory),
     }

@@ -35,9 +35,9 @@ pub fn skip_date<'a>(decls: &Decls, rest: &'a [u8]) -> Result<&'a [u8], ReadErr>
     skip_templates(decls, rest)
 }
 
-// A place of a text, as how many bytes are left there; a text has fewer bytes than there are such numbers.
-fn place_of(left: usize) -> Result<i32, NoMemory>
-    ensures { IfOk result (λ place. place ≡ pos left) }
+// How many bytes of a text are left, as an offset; a text has fewer bytes than there are such numbers.
+fn as_offset(left: usize) -> Result<i32, NoMemory>
+    ensures { IfOk result (λ offset. offset ≡ pos left) }
 {
     if left <= 2_147_483_647 {
         Ok(left as i32)
@@ -46,14 +46,17 @@ fn place_of(left: usize) -> Result<i32, NoMemory>
     }
 }
 
-/// The place of a date, and the text behind it.
-pub fn read_place_of_date<'a>(decls: &Decls, rest: &'a [u8]) -> Result<(i32, &'a [u8]), ReadErr>
+/// How many bytes are left where a date begins, and the text behind it.
+pub fn read_bytes_left_at_date<'a>(
+    decls: &Decls,
+    rest: &'a [u8],
+) -> Result<(i32, &'a [u8]), ReadErr>
     ensures follows { Passes decls.now (λ r. r.1.now) (λ s ps. date_places ps) rest.now result }
     ensures spelled { IfOk result (λ r. Spelled (DateFrom (keys decls.now.templates) r.0) rest.now r.1.now) }
     ensures shorter { IfOk result (λ r. length r.1.now ≤ length rest.now) }
 {
     let (token, _) = next(rest);
-    let place = place_of(token.left)?;
+    let left = as_offset(token.left)?;
     let rest = skip_date(decls, rest)?;
-    Ok((place, rest))
+    Ok((left, rest))
 }

@@ -9,11 +9,11 @@ ghost use Rattle.contract_parse.specs.Spelling.{expr, mark, pair, valued, ◌⨟
 ghost use Rattle.contract_parse.specs.Places.{BinderAt, ExprAt, IntegerAt, LiteralNumber, ModeAt, TheMark, binder_places, leaf_places, operand_places, pair_places};
 ghost use Rattle.contract_parse.specs.Reading.{joined, scope_in};
 ghost use Rattle.contract_parse.specs.Heads.{greatest_depth, leaf_word};
-ghost use Rattle.contract_parse.specs.Readers.{LeadsOn, Passes, PassesAnywhere, Spelled, SpelledBehind, SpelledBehindMark, behind_first, expression_in};
+ghost use Rattle.contract_parse.specs.Readers.{LeadsOn, Passes, PassesAnywhere, Spelled, SpelledBehind, SpelledBehindPart, behind_first, expression_in, first_token};
 ghost use Rattle.contract_parse.specs.declared.heads.Binder.{Binder};
 ghost use Rattle.contract_parse.specs.declared.heads.Language.{Language};
 
-use crate::dates::read_place_of_date;
+use crate::dates::read_bytes_left_at_date;
 use crate::faults::ReadErr;
 use crate::heads::{First, Language, Operator, first_at};
 use crate::judges::refuse;
@@ -101,7 +101,7 @@ fn read_days_back(rest: &[u8]) -> Result<(u32, &[u8]), ReadErr>
 fn read_negative(rest: &[u8]) -> Result<(Expr, &[u8]), ReadErr>
     ensures follows { PassesAnywhere (λ r. r.1.now) (λ ps. LiteralNumber true ∷ ps) rest.now result }
     ensures spelled { IfOk result (λ r. (l : Language) (s : Scope) (names : List Bytes) →
-        SpelledBehindMark (codes "-") (expr l s names (expression r.0)) rest.now r.1.now) }
+        SpelledBehindPart (mark (codes "-")) (expr l s names (expression r.0)) rest.now r.1.now) }
     ensures high { IfOk result (λ r. height (expression r.0) ≡ 1) }
     ensures shorter { IfOk result (λ r. length r.1.now ≤ length rest.now) }
 {
@@ -125,7 +125,7 @@ fn read_observed<'a>(decls: &Decls, rest: &'a [u8]) -> Result<(Expr, &'a [u8]), 
     Ok((Expr::Obs { label, offset }, rest))
 }
 
-// What stands behind `model`: the place of its date is its offset.
+// What stands behind `model`: its offset is how many bytes are left where its date begins.
 fn read_modelled<'a>(decls: &Decls, rest: &'a [u8]) -> Result<(Expr, &'a [u8]), ReadErr>
     ensures follows { Passes decls.now (λ r. r.1.now) (λ s ps. leaf_places s Language.Code ps) rest.now result }
     ensures spelled { IfOk result (λ r. (names : List Bytes) →
@@ -136,7 +136,7 @@ fn read_modelled<'a>(decls: &Decls, rest: &'a [u8]) -> Result<(Expr, &'a [u8]), 
     let rest = skip_mark(rest, b"(")?;
     let (label, rest) = read_use_of_map(&decls.labels, rest)?;
     let rest = skip_mark(rest, b",")?;
-    let (offset, rest) = read_place_of_date(decls, rest)?;
+    let (offset, rest) = read_bytes_left_at_date(decls, rest)?;
     let rest = skip_mark(rest, b")")?;
     Ok((Expr::Obs { label, offset }, rest))
 }
@@ -363,7 +363,8 @@ fn read_infix<'a>(
     requires shallow { depth ≤ greatest_depth language }
     requires bound { length (names_in bound.now) < depth }
     ensures follows { Passes decls.now (λ r. r.1.now) (behind_first language depth bound.now First.Open) rest.now result }
-    ensures spelled { IfOk result (λ r. SpelledBehindMark (codes "(") (expression_in language decls.now bound.now r.0) rest.now r.1.now) }
+    ensures spelled { IfOk result
+        (λ r. SpelledBehindPart (mark (codes "(")) (expression_in language decls.now bound.now r.0) rest.now r.1.now) }
     ensures high { IfOk result (λ r. height (expression r.0) + depth ≤ greatest_depth language + 1) }
     ensures shorter { IfOk result (λ r. length r.1.now ≤ length rest.now) }
 {
@@ -510,9 +511,47 @@ fn read_acc<'a>(
     Ok((Expr::Acc { body, days, first }, rest))
 }
 
+// What stands behind the first token.
+#[cycle(expr)]
+fn read_behind_first<'a>(
+    first: First,
+    alloc: Global,
+    language: Language,
+    decls: &Decls,
+    bound: &Bound<'_>,
+    depth: u32,
+    rest: &'a [u8],
+) -> Result<(Expr, &'a [u8]), ReadErr>
+    requires shallow { depth ≤ greatest_depth language }
+    requires bound { length (names_in bound.now) < depth }
+    ensures follows { Passes decls.now (λ r. r.1.now) (behind_first language depth bound.now first) rest.now result }
+    ensures spelled { IfOk result (λ r. SpelledBehindPart (first_token language (names_in bound.now) first)
+        (expression_in language decls.now bound.now r.0) rest.now r.1.now) }
+    ensures high { IfOk result (λ r. height (expression r.0) + depth ≤ greatest_depth language + 1) }
+    ensures shorter { IfOk result (λ r. length r.1.now ≤ length rest.now) }
+{
+    match first {
+        First::Number { number } => Ok((literal(number), rest)),
+        First::Name { back } => Ok((Expr::Var { back }, rest)),
+        First::True => Ok((Expr::Yes { value: true }, rest)),
+        First::False => Ok((Expr::Yes { value: false }, rest)),
+        First::Minus => read_negative(rest),
+        First::Open => read_infix(alloc, language, decls, bound, depth, rest),
+        First::Obs => read_observable(language, decls, rest),
+        First::Neg => read_neg(alloc, language, decls, bound, depth, rest),
+        First::Not => read_not(alloc, language, decls, bound, depth, rest),
+        First::Min => read_min(alloc, language, decls, bound, depth, rest),
+        First::Max => read_max(alloc, language, decls, bound, depth, rest),
+        First::If => read_choice(alloc, language, decls, bound, depth, rest),
+        First::Widen => read_widen(alloc, language, decls, bound, depth, rest),
+        First::Round => read_round(alloc, language, decls, bound, depth, rest),
+        First::Div => read_div(alloc, language, decls, bound, depth, rest),
+        First::Acc => read_acc(alloc, language, decls, bound, depth, rest),
+    }
+}
+
 /// An expression of a depth under bound names, and the text after it.
 #[cycle(expr)]
-#[tactic(auto, using(crate::proofs::Parts::followed_by))]
 pub fn read_expr<'a>(
     alloc: Global,
     language: Language,
@@ -529,26 +568,8 @@ pub fn read_expr<'a>(
     ensures shorter { IfOk result (λ r. length r.1.now ≤ length rest.now) }
 {
     let (token, after) = next(rest);
-    let first = match first_at(language, bound, depth, &token) {
-        Ok(first) => first,
-        Err(kind) => return Err(refuse(kind, &token)),
-    };
-    match first {
-        First::Number { number } => Ok((literal(number), after)),
-        First::Name { back } => Ok((Expr::Var { back }, after)),
-        First::True => Ok((Expr::Yes { value: true }, after)),
-        First::False => Ok((Expr::Yes { value: false }, after)),
-        First::Minus => read_negative(after),
-        First::Open => read_infix(alloc, language, decls, bound, depth, after),
-        First::Obs => read_observable(language, decls, after),
-        First::Neg => read_neg(alloc, language, decls, bound, depth, after),
-        First::Not => read_not(alloc, language, decls, bound, depth, after),
-        First::Min => read_min(alloc, language, decls, bound, depth, after),
-        First::Max => read_max(alloc, language, decls, bound, depth, after),
-        First::If => read_choice(alloc, language, decls, bound, depth, after),
-        First::Widen => read_widen(alloc, language, decls, bound, depth, after),
-        First::Round => read_round(alloc, language, decls, bound, depth, after),
-        First::Div => read_div(alloc, language, decls, bound, depth, after),
-        First::Acc => read_acc(alloc, language, decls, bound, depth, after),
+    match first_at(language, bound, depth, &token) {
+        Ok(first) => read_behind_first(first, alloc, language, decls, bound, depth, after),
+        Err(kind) => Err(refuse(kind, &token)),
     }
 }

@@ -9,13 +9,13 @@ ghost use Rattle.contract_parse.specs.Reading.{tok_of};
 use crate::faults::TextKind;
 use crate::judges::{literal_at, variable_at};
 use crate::names::Bound;
-use crate::token::Lexeme;
+use crate::token::{Kind, Lexeme};
 use crate::words::{is_name, is_number, is_the_mark, is_the_word};
 use decimal::Decimal;
 use term_core::{CmpOp, LogicOp, NumOp};
 
 /// The language whose terms are read: contracts, or payoff code. They differ in the word that reads an observable, and in
-/// how many terms may be open at one place.
+/// how many terms may be open at once.
 #[derive(Clone, Copy)]
 pub enum Language {
     Contracts,
@@ -187,22 +187,18 @@ pub fn first_at(
 fn head_of(token: &Lexeme<'_>) -> Result<Head, TextKind>
     ensures { result ≡ head_of (tok_of token.now) }
 {
-    if is_the_word(token, b"zero") {
-        Ok(Head::Zero)
-    } else if is_the_word(token, b"pay") {
-        Ok(Head::Pay)
-    } else if is_the_word(token, b"both") {
-        Ok(Head::Both)
-    } else if is_the_word(token, b"scale") {
-        Ok(Head::Scale)
-    } else if is_the_word(token, b"after") {
-        Ok(Head::After)
-    } else if is_the_word(token, b"let") {
-        Ok(Head::Let)
-    } else if is_the_word(token, b"if") {
-        Ok(Head::If)
-    } else {
-        Err(TextKind::Syntax)
+    if !matches!(token.kind, Kind::Word) {
+        return Err(TextKind::Syntax);
+    }
+    match token.text {
+        b"zero" => Ok(Head::Zero),
+        b"pay" => Ok(Head::Pay),
+        b"both" => Ok(Head::Both),
+        b"scale" => Ok(Head::Scale),
+        b"after" => Ok(Head::After),
+        b"let" => Ok(Head::Let),
+        b"if" => Ok(Head::If),
+        _ => Err(TextKind::Syntax),
     }
 }
 
@@ -221,22 +217,18 @@ pub fn head_at(depth: u32, token: &Lexeme<'_>) -> Result<Head, TextKind>
 fn amount_head_of(token: &Lexeme<'_>) -> Result<AmountHead, TextKind>
     ensures { result ≡ amount_head_of (tok_of token.now) }
 {
-    if is_the_word(token, b"none") {
-        Ok(AmountHead::None)
-    } else if is_the_word(token, b"pay") {
-        Ok(AmountHead::Pay)
-    } else if is_the_word(token, b"add") {
-        Ok(AmountHead::Add)
-    } else if is_the_word(token, b"scale") {
-        Ok(AmountHead::Scale)
-    } else if is_the_word(token, b"let") {
-        Ok(AmountHead::Let)
-    } else if is_the_word(token, b"loop") {
-        Ok(AmountHead::Loop)
-    } else if is_the_word(token, b"cut") {
-        Ok(AmountHead::Cut)
-    } else {
-        Err(TextKind::Syntax)
+    if !matches!(token.kind, Kind::Word) {
+        return Err(TextKind::Syntax);
+    }
+    match token.text {
+        b"none" => Ok(AmountHead::None),
+        b"pay" => Ok(AmountHead::Pay),
+        b"add" => Ok(AmountHead::Add),
+        b"scale" => Ok(AmountHead::Scale),
+        b"let" => Ok(AmountHead::Let),
+        b"loop" => Ok(AmountHead::Loop),
+        b"cut" => Ok(AmountHead::Cut),
+        _ => Err(TextKind::Syntax),
     }
 }
 

@@ -9,7 +9,7 @@ use crate::faults::{ReadErr, Refusal, TextKind};
 use crate::heads::Operator;
 use crate::names::{Bound, back_to};
 use crate::numbers::{whole_number, with_sign};
-use crate::token::Lexeme;
+use crate::token::{Kind, Lexeme};
 use crate::words::{is_date, is_integer, is_name, is_number, is_the_mark, is_the_word};
 use decimal::{Decimal, Mode, decimal_of, widen};
 use term_core::{CmpOp, LogicOp, NumOp, epoch_day};
@@ -193,31 +193,23 @@ pub fn operator_at(token: &Lexeme<'_>) -> Result<Operator, TextKind>
     ensures value { result ≡ operator_at (tok_of token.now) }
     ensures between { IfOk result (λ op. IsBetween op) }
 {
-    if is_the_mark(token, b"+") {
-        Ok(Operator::Arithmetic { op: NumOp::Plus })
-    } else if is_the_mark(token, b"-") {
-        Ok(Operator::Arithmetic { op: NumOp::Minus })
-    } else if is_the_mark(token, b"*") {
-        Ok(Operator::Arithmetic { op: NumOp::Times })
-    } else if is_the_mark(token, b"<") {
-        Ok(Operator::Comparison { op: CmpOp::Less })
-    } else if is_the_mark(token, b"<=") {
-        Ok(Operator::Comparison { op: CmpOp::LessEq })
-    } else if is_the_mark(token, b">") {
-        Ok(Operator::Comparison { op: CmpOp::Greater })
-    } else if is_the_mark(token, b">=") {
-        Ok(Operator::Comparison {
+    if !matches!(token.kind, Kind::Mark) {
+        return Err(TextKind::Syntax);
+    }
+    match token.text {
+        b"+" => Ok(Operator::Arithmetic { op: NumOp::Plus }),
+        b"-" => Ok(Operator::Arithmetic { op: NumOp::Minus }),
+        b"*" => Ok(Operator::Arithmetic { op: NumOp::Times }),
+        b"<" => Ok(Operator::Comparison { op: CmpOp::Less }),
+        b"<=" => Ok(Operator::Comparison { op: CmpOp::LessEq }),
+        b">" => Ok(Operator::Comparison { op: CmpOp::Greater }),
+        b">=" => Ok(Operator::Comparison {
             op: CmpOp::GreaterEq,
-        })
-    } else if is_the_mark(token, b"=") {
-        Ok(Operator::Comparison { op: CmpOp::Equal })
-    } else if is_the_mark(token, b"!=") {
-        Ok(Operator::Comparison { op: CmpOp::Unequal })
-    } else if is_the_mark(token, b"&") {
-        Ok(Operator::Logic { op: LogicOp::And })
-    } else if is_the_mark(token, b"|") {
-        Ok(Operator::Logic { op: LogicOp::Or })
-    } else {
-        Err(TextKind::Syntax)
+        }),
+        b"=" => Ok(Operator::Comparison { op: CmpOp::Equal }),
+        b"!=" => Ok(Operator::Comparison { op: CmpOp::Unequal }),
+        b"&" => Ok(Operator::Logic { op: LogicOp::And }),
+        b"|" => Ok(Operator::Logic { op: LogicOp::Or }),
+        _ => Err(TextKind::Syntax),
     }
 }

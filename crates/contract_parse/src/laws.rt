@@ -54,7 +54,7 @@ pub fn nodes_fit_text()
     ensures { NodesFitText }
 {}
 
-/// A contract of a text names only what is declared or bound round it, and at most 200 terms are open at one place.
+/// A contract of a text names only what is declared or bound round it, and at most 200 terms are open at once.
 pub fn contracts_are_closed()
     ensures { ContractsAreClosed }
 {}

@@ -6,7 +6,7 @@ ghost use Rattle.contract_parse.specs.Cursors.{fault_at};
 
 use crate::faults::{TextFault, TextKind};
 
-/// The line of a place, from 1.
+/// The line of a position, from 1.
 pub fn line_at(bytes: &[u8], at: usize) -> u32
     requires within { at ≤ length bytes.now }
     requires small { length bytes.now ≤ 16_777_216 }
@@ -23,7 +23,7 @@ fn last_line_len(bytes: &[u8]) -> usize
     bytes.iter().rev().take_while(|b| **b != 10).count()
 }
 
-/// The column of a place, from 1.
+/// The column of a position, from 1.
 pub fn column_at(bytes: &[u8], at: usize) -> u32
     requires within { at ≤ length bytes.now }
     requires small { length bytes.now ≤ 16_777_216 }
@@ -32,7 +32,7 @@ pub fn column_at(bytes: &[u8], at: usize) -> u32
     1 + last_line_len(&bytes[..at]) as u32
 }
 
-/// The fault of a kind at a place.
+/// The fault of a kind at a position.
 pub fn fault_at(bytes: &[u8], kind: TextKind, at: usize) -> TextFault
     requires within { at ≤ length bytes.now }
     requires small { length bytes.now ≤ 16_777_216 }

@@ -1,4 +1,4 @@
-//! Names: those that a text declares, and those that are bound round a place.
+//! Names: those that a text declares, and those that are bound round a term.
 ghost use Rattle.std.specs.Prelude.{◌≡◌, ◌≤◌, ◌<◌, ◌^◌, IfSome, length};
 ghost use Rattle.indexmap.specs.IndexMap.{index_map_len, keys};
 ghost use Rattle.indexmap.specs.IndexSet.{index_set_len};
@@ -17,7 +17,7 @@ pub enum NameSet {
     Contract,
 }
 
-/// The names that are bound round a place, the innermost first.
+/// The names that are bound round a term, the innermost first.
 #[derive(Clone, Copy)]
 pub enum Bound<'a> {
     Outermost,
@@ -48,24 +48,24 @@ pub fn back_to(bound: &Bound<'_>, name: &[u8]) -> Option<u32>
     }
 }
 
-/// The place of a name in a set.
-pub fn place_in_set(names: &IndexSet<Name>, text: &[u8]) -> Option<u32>
+/// The index of a name in a set.
+pub fn index_in_set(names: &IndexSet<Name>, text: &[u8]) -> Option<u32>
     requires { index_set_len names.now < 2 ^ 32 }
     ensures { result ≡ place_in names.now.keys text.now }
 {
     match names.get_index_of(text) {
-        Some(place) => Some(place as u32),
+        Some(index) => Some(index as u32),
         None => None,
     }
 }
 
-/// The place of a name in a map.
-pub fn place_in_map<V>(names: &IndexMap<Name, V>, text: &[u8]) -> Option<u32>
+/// The index of a name in a map.
+pub fn index_in_map<V>(names: &IndexMap<Name, V>, text: &[u8]) -> Option<u32>
     requires { index_map_len names.now < 2 ^ 32 }
     ensures { result ≡ place_in (keys names.now) text.now }
 {
     match names.get_index_of(text) {
-        Some(place) => Some(place as u32),
+        Some(index) => Some(index as u32),
         None => None,
     }
 }

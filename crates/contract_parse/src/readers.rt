@@ -22,7 +22,7 @@ use crate::judges::{
     binder_at, bound_at, date_number_at, integer_at, is_version, literal_at, mode_at, offset_at,
     operator_at, origin_at, refuse, separator_at,
 };
-use crate::names::{place_in_map, place_in_set};
+use crate::names::{index_in_map, index_in_set};
 use crate::words::{Lookahead, is_end, is_integer, is_name, is_the_mark, is_the_word, next};
 use decimal::{Decimal, Mode};
 use indexmap::{IndexMap, IndexSet};
@@ -317,7 +317,7 @@ pub fn read_operator(rest: &[u8]) -> Result<(Operator, &[u8]), ReadErr>
     }
 }
 
-/// The place of a declared name of a set.
+/// The index of a declared name of a set.
 pub fn read_use_of_set<'a>(
     names: &IndexSet<Name>,
     rest: &'a [u8],
@@ -331,13 +331,13 @@ pub fn read_use_of_set<'a>(
     if !is_name(&token) {
         return Err(refuse(TextKind::Syntax, &token));
     }
-    match place_in_set(names, token.text) {
-        Some(place) => Ok((place, after)),
+    match index_in_set(names, token.text) {
+        Some(index) => Ok((index, after)),
         None => Err(refuse(TextKind::Unknown, &token)),
     }
 }
 
-/// The place of a declared name of a map.
+/// The index of a declared name of a map.
 pub fn read_use_of_map<'a, V>(
     names: &IndexMap<Name, V>,
     rest: &'a [u8],
@@ -351,8 +351,8 @@ pub fn read_use_of_map<'a, V>(
     if !is_name(&token) {
         return Err(refuse(TextKind::Syntax, &token));
     }
-    match place_in_map(names, token.text) {
-        Some(place) => Ok((place, after)),
+    match index_in_map(names, token.text) {
+        Some(index) => Ok((index, after)),
         None => Err(refuse(TextKind::Unknown, &token)),
     }
 }
@@ -377,7 +377,7 @@ pub fn read_days<'a>(
     if !is_name(&token) {
         return Err(refuse(TextKind::Syntax, &token));
     }
-    match place_in_map(templates, token.text) {
+    match index_in_map(templates, token.text) {
         Some(template) => Ok((Days::Named { template }, after)),
         None => Err(refuse(TextKind::Unknown, &token)),
     }

@@ -25,8 +25,8 @@ overflow_sub-bytes-in-Err-Refused c =
     let rest = length-take (length c.args.bytes.now - c.cursor.inside.at) (drop c.cursor.inside.at c.args.bytes.now) in
     omega (arith, inside, rest)
 
-pub moved-place-requires-clause-forward : goal.moved-place-requires-clause-forward
-moved-place-requires-clause-forward c =
+pub moved-position-requires-clause-forward : goal.moved-position-requires-clause-forward
+moved-position-requires-clause-forward c =
     let stops = rw c.in-Err-Refused.field-0-is at (c.in-Err-Refused.ensures.follows (AnyTokens ∷ [])) in
     let inside = stop_inside (take (length c.args.bytes.now - c.cursor.inside.at) (drop c.cursor.inside.at c.args.bytes.now)) nothing_declared (decls_places (AnyTokens ∷ [])) c.in-Err-Refused.refusal.kind c.in-Err-Refused.refusal.left stops in
     let rest = length-take (length c.args.bytes.now - c.cursor.inside.at) (drop c.cursor.inside.at c.args.bytes.now) in

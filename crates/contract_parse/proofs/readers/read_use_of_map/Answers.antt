@@ -12,10 +12,10 @@ pub returns-then-not-is_name-clause-follows : goal.returns-then-not-is_name-clau
 returns-then-not-is_name-clause-follows g c s ps = rw c.refuse.ensures (refuses (use_at (keys c.args.names.now)) s (UseOf (keys c.args.names.now) ∷ ps) (λ i. Next s ps) Syntax (tok_of c.next.result.0) c.args.rest.now c.next.result.1.now c.next.ensures.starts (use_none (keys c.args.names.now) (tok_of c.next.result.0) c.if-not-is_name.ensures) refl)
 
 pub returns-in-Some-clause-follows : goal.returns-in-Some-clause-follows
-returns-in-Some-clause-follows g c s ps = passes (use_at (keys c.args.names.now)) (λ text left. (refl, refl)) s s (UseOf (keys c.args.names.now) ∷ ps) ps (λ i. Next s ps) c.in-Some.place (tok_of c.next.result.0) c.args.rest.now c.next.result.1.now c.next.ensures.starts (use_some (keys c.args.names.now) (tok_of c.next.result.0) c.in-Some.place c.if-not-is_name.ensures c.in-Some.ensures) refl refl
+returns-in-Some-clause-follows g c s ps = passes (use_at (keys c.args.names.now)) (λ text left. (refl, refl)) s s (UseOf (keys c.args.names.now) ∷ ps) ps (λ i. Next s ps) c.in-Some.index (tok_of c.next.result.0) c.args.rest.now c.next.result.1.now c.next.ensures.starts (use_some (keys c.args.names.now) (tok_of c.next.result.0) c.in-Some.index c.if-not-is_name.ensures c.in-Some.ensures) refl refl
 
 pub returns-in-Some-clause-spelled : goal.returns-in-Some-clause-spelled
-returns-in-Some-clause-spelled g c = spells (use_at (keys c.args.names.now)) (λ text left. (refl, refl)) c.in-Some.place (tok_of c.next.result.0) c.args.rest.now c.next.result.1.now c.next.ensures.starts (use_some (keys c.args.names.now) (tok_of c.next.result.0) c.in-Some.place c.if-not-is_name.ensures c.in-Some.ensures)
+returns-in-Some-clause-spelled g c = spells (use_at (keys c.args.names.now)) (λ text left. (refl, refl)) c.in-Some.index (tok_of c.next.result.0) c.args.rest.now c.next.result.1.now c.next.ensures.starts (use_some (keys c.args.names.now) (tok_of c.next.result.0) c.in-Some.index c.if-not-is_name.ensures c.in-Some.ensures)
 
 pub returns-in-None-clause-follows : goal.returns-in-None-clause-follows
 returns-in-None-clause-follows g c s ps = rw c.refuse-in-None.ensures (refuses (use_at (keys c.args.names.now)) s (UseOf (keys c.args.names.now) ∷ ps) (λ i. Next s ps) Unknown (tok_of c.next.result.0) c.args.rest.now c.next.result.1.now c.next.ensures.starts (use_unknown (keys c.args.names.now) (tok_of c.next.result.0) c.if-not-is_name.ensures c.in-None.ensures) refl)
