@@ -3,6 +3,7 @@
 use Rattle.std.proofs.Common.{◌≡◌, ℕ, zero, ◌+◌, ◌≤◌, Bool, true, ◌&&◌, List, [], ◌∷◌, ◌++◌, Option, Some, None, nat_le, is_some, arith}
 use Rattle.std.proofs.lemmas.Bool.{false≢true}
 use Rattle.std.proofs.lemmas.Bool.Decides.{nat_tests}
+use Rattle.term_core.specs.Literals.{HasLiterals, HasLiteralsIn}
 use Rattle.term_core.specs.Acceptance.{IsAccepted, Passes}
 use Rattle.term_core.specs.Declarations.{Declarations}
 use Rattle.term_core.specs.Flows.{count_of}
@@ -19,7 +20,6 @@ use Rattle.term_core.specs.declared.values.Kind.{Kind}
 use Rattle.term_core.specs.declared.values.Kind.TheVariants.{Truth, Number}
 use Rattle.term_core.proofs.Trials.{AllPass-left, AllPass-right}
 use Rattle.contract_parse.proofs.Passing.{and_parts}
-use Rattle.contract_print.specs.Rests.{ContractHasLiteralsOfTexts, HasLiteralsOfTexts}
 use Rattle.contract_print.specs.Spellable.{ContractHasNumbersOfTexts, HasNumbersOfTexts, IsCountOfTexts}
 
 -- ---- one node
@@ -103,7 +103,7 @@ module _ (d : Declarations) where
       let q = three ys zs s (AllPass-right (PassesThree d) xs (ys ++ (zs ++ s ∷ [])) h) in
       record { first = AllPass-left (PassesThree d) xs (ys ++ (zs ++ s ∷ [])) h; second = q.left; third = q.right; whole = q.whole }
 
-  numbers : (e : Expression) (r : List Layer) (k : ℕ) → All3 (sites_of Once e r k) → HasLiteralsOfTexts e → HasNumbersOfTexts e
+  numbers : (e : Expression) (r : List Layer) (k : ℕ) → All3 (sites_of Once e r k) → HasLiterals e → HasNumbersOfTexts e
   numbers (Lit m s) r k h l = l
   numbers (Yes b) r k h l = tt
   numbers (Var back) r k h l = tt
@@ -142,7 +142,7 @@ module _ (d : Declarations) where
   limits_of : (k : ℕ) (r : List Layer) (c : Contract) → PassesThree d (contract_at k r c) → Limits (height_of_contract c) (days_of_contract c)
   limits_of k r c h = limits (height_of_contract c) (nodes_of_contract c) (days_of_contract c) (reach c) (past_of_contract c) (work_of_contract c) h.small
 
-  contract_numbers : (c : Contract) (r : List Layer) (k : ℕ) → All3 (sites_of_contract Once c r k) → ContractHasLiteralsOfTexts c → ContractHasNumbersOfTexts c
+  contract_numbers : (c : Contract) (r : List Layer) (k : ℕ) → All3 (sites_of_contract Once c r k) → HasLiteralsIn c → ContractHasNumbersOfTexts c
   contract_numbers Zero r k h l = tt
   contract_numbers (Pay a p q) r k h l = tt
   contract_numbers (Both a b) r k h l =
@@ -183,7 +183,7 @@ module _ (d : Declarations) where
   all_nodes : (c : Contract) → IsAccepted d c → All3 (sites Once c)
   all_nodes c is = all_three (sites Once c) is.sorts is.scales is.sizes
 
-  pub accepted_numbers : (c : Contract) → IsAccepted d c → ContractHasLiteralsOfTexts c → ContractHasNumbersOfTexts c
+  pub accepted_numbers : (c : Contract) → IsAccepted d c → HasLiteralsIn c → ContractHasNumbersOfTexts c
   accepted_numbers c is l = contract_numbers c [] 0 (all_nodes c is) l
 
   pub accepted_low : (c : Contract) → IsAccepted d c → height_of_contract c ≤ 200

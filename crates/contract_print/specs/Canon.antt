@@ -74,12 +74,15 @@ contract_text s name c = codes "contract " ⊕ name ⊕ codes " = " ⊕ contr_te
 abbrev pub contracts_text : Scope → List (Bytes × Contract) → Bytes
 contracts_text s contracts = flat_map (λ entry. contract_text s entry.0 entry.1) contracts
 
+-- the contracts of a portfolio
+abbrev pub book_contracts_text : Book → Bytes
+book_contracts_text b = contracts_text (scope_of b.declarations []) b.contracts
+
 unfoldable pub header_text : Bytes
 header_text = codes "portfolio 1" ⊕ line
 
 abbrev pub book_text : Bytes → Book → Bytes
-book_text date b =
-    header_text ⊕ decls_text date b.declarations ⊕ contracts_text (scope_of b.declarations []) b.contracts
+book_text date b = header_text ⊕ decls_text date b.declarations ⊕ book_contracts_text b
 
 -- the text of the origin's date, where there is one; a day has one text
 abbrev pub IsOriginText : Option ℤ → Bytes → Type 0

@@ -23,12 +23,14 @@ use Rattle.contract_print.specs.Writable.{IsWritableTerm}
 -- the canonical text of a term spells it wherever it stands before a stop; names of fewer than 1,000 binders are words
 abbrev pub ExpressionIsSpelled : Type 0
 ExpressionIsSpelled =
-    (d : Declarations) (n : ℕ) (e : Expression) → are_names (keys_of d.labels) ≡ true → IsWellFormed d n e → HasNumbersOfTexts e → n + height e ≤ 999
+    (d : Declarations) (n : ℕ) (e : Expression)
+    → are_names (keys_of d.labels) ≡ true → IsWellFormed d n e → HasNumbersOfTexts e → n + height e ≤ 999
     → Spells stops (expr_text (observed (keys_of d.labels)) n e) (expr Language.Contracts (scope_of d []) (bound_names n) e)
 
 abbrev pub ContractIsSpelled : Type 0
 ContractIsSpelled =
-    (d : Declarations) (n : ℕ) (c : Contract) → AreSpellable d → IsWellFormedContract d n c → ContractHasNumbersOfTexts c → n + height_of_contract c ≤ 999
+    (d : Declarations) (n : ℕ) (c : Contract)
+    → AreSpellable d → IsWellFormedContract d n c → ContractHasNumbersOfTexts c → n + height_of_contract c ≤ 999
     → Spells stops (contr_text (scope_of d []) n c) (contr (scope_of d []) (bound_names n) c)
 
 -- the canonical text of a portfolio is a text of it

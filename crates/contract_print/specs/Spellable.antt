@@ -72,7 +72,8 @@ ContractHasNumbersOfTexts (Both a b) = ContractHasNumbersOfTexts a × ContractHa
 ContractHasNumbersOfTexts (Scale e c) = HasNumbersOfTexts e × ContractHasNumbersOfTexts c
 ContractHasNumbersOfTexts (After n c) = IsCountOfTexts n × ContractHasNumbersOfTexts c
 ContractHasNumbersOfTexts (Let e c) = HasNumbersOfTexts e × ContractHasNumbersOfTexts c
-ContractHasNumbersOfTexts (Within e n a b) = HasNumbersOfTexts e × IsCountOfTexts n × ContractHasNumbersOfTexts a × ContractHasNumbersOfTexts b
+ContractHasNumbersOfTexts (Within e n a b) =
+    HasNumbersOfTexts e × IsCountOfTexts n × ContractHasNumbersOfTexts a × ContractHasNumbersOfTexts b
 
 -- the numbers and names of declarations are within the limits of texts
 pub record AreSpellable (d : Declarations) : Type 0 where

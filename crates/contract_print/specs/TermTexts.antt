@@ -90,7 +90,8 @@ expr_text leaf n (Round m k e) =
 expr_text leaf n (Div m k a b) =
     codes "div(" ⊕ mode_text m ⊕ codes ", " ⊕ number_text k ⊕ codes ", " ⊕ expr_text leaf n a ⊕ codes ", " ⊕ expr_text leaf n b ⊕ codes ")"
 expr_text leaf n (Acc body days first) =
-    codes "acc(" ⊕ bound_name n ⊕ codes ", " ⊕ expr_text leaf (suc n) body ⊕ codes ", " ⊕ number_text days ⊕ codes ", " ⊕ expr_text leaf n first ⊕ codes ")"
+    codes "acc(" ⊕ bound_name n ⊕ codes ", " ⊕ expr_text leaf (suc n) body
+    ⊕ codes ", " ⊕ number_text days ⊕ codes ", " ⊕ expr_text leaf n first ⊕ codes ")"
 
 -- the last operand of a form, and the last two with what stands between them
 abbrev pub last_text : (ℕ → ℤ → Bytes) → ℕ → Expression → Bytes
@@ -115,4 +116,5 @@ contr_text s n (After d c) = codes "after(" ⊕ days_text s d ⊕ codes ", " ⊕
 contr_text s n (Let e c) =
     codes "let " ⊕ bound_name n ⊕ codes " = " ⊕ expr_text (observed s.labels) n e ⊕ codes " in " ⊕ contr_text s (suc n) c
 contr_text s n (Within e d a b) =
-    codes "if " ⊕ expr_text (observed s.labels) n e ⊕ codes " within " ⊕ days_text s d ⊕ codes " then " ⊕ contr_text s n a ⊕ codes " else " ⊕ contr_text s n b
+    codes "if " ⊕ expr_text (observed s.labels) n e ⊕ codes " within " ⊕ days_text s d
+    ⊕ codes " then " ⊕ contr_text s n a ⊕ codes " else " ⊕ contr_text s n b

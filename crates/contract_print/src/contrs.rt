@@ -103,7 +103,8 @@ fn append_observing(
 ) -> Result<(), NoMemory>
     requires writable { IsWritable binders (expression e.now) }
     requires low { binders + height (expression e.now) ≤ 1_000 }
-    ensures { OnOk result (out.new.items ≡ out.old.items ++ expr_text (observed (keys_of decls.now.labels.entries)) binders (expression e.now)) }
+    ensures { OnOk result (out.new.items ≡ out.old.items
+        ++ expr_text (observed (keys_of decls.now.labels.entries)) binders (expression e.now)) }
 {
     let leaf = Observables {
         labels: &decls.labels,

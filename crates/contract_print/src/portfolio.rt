@@ -5,7 +5,7 @@ ghost use Rattle.term_core.specs.Books.{book};
 ghost use Rattle.term_core.specs.Declarations.{declarations};
 ghost use Rattle.term_core.specs.Terms.{contract};
 ghost use Rattle.contract_parse.specs.Names.{scope_of};
-ghost use Rattle.contract_print.specs.Canon.{AppendsBook, book_text, contract_text, contracts_text, header_text};
+ghost use Rattle.contract_print.specs.Canon.{AppendsBook, book_contracts_text, book_text, contract_text, header_text};
 ghost use Rattle.contract_print.specs.Writable.{IsWritableTerm};
 
 use crate::contrs::append_contr;
@@ -24,7 +24,8 @@ fn append_contract(
     c: &Contr,
 ) -> Result<(), NoMemory>
     requires { IsWritableTerm (contract c.now) }
-    ensures { OnOk result (out.new.items ≡ out.old.items ++ contract_text (scope_of (declarations decls.now) []) name.now (contract c.now)) }
+    ensures { OnOk result (out.new.items ≡ out.old.items
+        ++ contract_text (scope_of (declarations decls.now) []) name.now (contract c.now)) }
 {
     append(out, b"contract ")?;
     append(out, name)?;
@@ -36,7 +37,7 @@ fn append_contract(
 // The lines of contracts.
 fn append_contracts(alloc: Global, out: &mut Vec<u8>, portfolio: &Portfolio) -> Result<(), NoMemory>
     requires { All (λ entry. IsWritableTerm entry.1) (book portfolio.now).contracts }
-    ensures { OnOk result (out.new.items ≡ out.old.items ++ contracts_text (scope_of (declarations portfolio.now.decls) []) (book portfolio.now).contracts) }
+    ensures { OnOk result (out.new.items ≡ out.old.items ++ book_contracts_text (book portfolio.now)) }
 {
     for (name, c) in &portfolio.contracts {
         append_contract(alloc, out, &portfolio.decls, name.text(), c)?;
