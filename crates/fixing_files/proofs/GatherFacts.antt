@@ -1,5 +1,5 @@
 -- A table after one record more, and at the end: the rows that were gathered, and the first record that breaks a rule.
-use Rattle.std.proofs.Common.{◌≡◌, ◌≢◌, ◌∙◌, ◌⊎◌, inl, inr, ℕ, zero, suc, ◌+◌, ◌<◌, ◌≤◌, ◌==◌, ℤ, ◌&&◌, true, false, List, [], ◌∷◌, ◌++◌, length, Option, Some, None, Result, Ok, Err, refl, sym, ap, ap₂, subst, arith}
+use Rattle.std.proofs.Common.{◌≡◌, ◌≢◌, ◌∙◌, ◌⊎◌, inl, inr, ℕ, zero, suc, ◌+◌, ◌<◌, ◌≤◌, ◌==◌, ℤ, ◌&&◌, true, false, List, [], ◌∷◌, length, Option, Some, None, Result, Ok, Err, refl, sym, ap, ap₂, subst, arith}
 use Rattle.std.specs.Prelude.{codes}
 use Rattle.std.specs.Str.{bytes_eq}
 use Rattle.std.specs.declared.vec.Vec.{Vec}
@@ -7,10 +7,6 @@ use Rattle.std.specs.declared.alloc.Global.{Global}
 use Rattle.std.proofs.lemmas.Bool.{and_parts, cases_Bool, cases_lt}
 use Rattle.std.proofs.lemmas.Bool.Decides.{nat_tests}
 use Rattle.std.proofs.lemmas.Slice.Eq.{bytes_eq-Decides}
-use Rattle.csv.specs.Machine.{next_record}
-use Rattle.csv.specs.Reading.{Reached, default_config, records}
-use Rattle.csv.specs.declared.parser.State.{State}
-use Rattle.csv.specs.declared.parser.State.TheVariants as st
 use Rattle.term_core.specs.Declarations.{Declarations}
 use Rattle.term_core.specs.Environments.{Place}
 use Rattle.term_core.specs.declared.values.Value.{Value}
@@ -31,8 +27,7 @@ use Rattle.fixing_files.specs.declared.runs.FixedDay.{FixedDay}
 use Rattle.fixing_files.proofs.LawFacts.{same_saying}
 use Rattle.fixing_files.proofs.RunFacts.{found_in, held_in, held_values}
 use Rattle.fixing_files.specs.declared.folds.AllSettled.TheVariants.{Runs, Clashes as AllClashing}
-use Rattle.fixing_files.proofs.ReachedFacts.{are_all, are_first, follows_last}
-use Rattle.fixing_files.proofs.TableFacts.{record_seam, record_within}
+use Rattle.fixing_files.proofs.TableFacts.{record_within}
 use Rattle.fixing_files.proofs.ValueFacts.{differ, same_from}
 
 -- the header
@@ -333,15 +328,3 @@ gathers_holds d table runs days g s = gathered_holds d table runs days.items g.e
 
 pub settled_rise : (runs : List Run) (days : Vec (Vec FixedDay Global) Global) → SettlesAll runs (Runs days) → AreRising days.items
 settled_rise runs days s l = (s.0 l).rising
-
--- the records that were read
-
-pub reached_next : (xs : List ℕ) (t : Table) (f : Fields) (s : State) (ys : List ℕ) (n : ℕ) → Reached default_config st.StartRecord xs (t ++ f ∷ []) s ys → n ≡ length t → record_at (records default_config xs) (n + 1) ≡ Some f
-reached_next xs t f s ys n h is =
-    let first = are_first default_config xs (t ++ f ∷ []) s ys h in
-    let all = follows_last t f (records default_config xs) first in
-    let stands : record_at (records default_config xs) (length t + 1) ≡ Some f = ap (λ (table : Table). record_at table (length t + 1)) all ∙ record_seam t f first.rest in
-    subst (λ (k : ℕ). record_at (records default_config xs) (k + 1) ≡ Some f) (sym is) stands
-
-pub reached_end : (xs : List ℕ) (t : Table) (s : State) (ys : List ℕ) (n : ℕ) → Reached default_config st.StartRecord xs t s ys → next_record default_config s [] [] ys ≡ None → n ≡ length t → n ≡ length (records default_config xs)
-reached_end xs t s ys n h none is = is ∙ ap length (are_all default_config xs t s ys h none)

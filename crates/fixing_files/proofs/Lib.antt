@@ -10,6 +10,7 @@ pub mod LawFacts
 pub mod DecimalFacts
 pub mod RecordFacts
 pub mod ReachedFacts
+pub mod ReaderFacts
 pub mod CurveFacts
 pub mod CurveRecordFacts
 pub mod CurveTableFacts

@@ -1,5 +1,5 @@
 -- Worked rows: what single records of a table of discount factors say, and what whole tables hold.
-use Rattle.std.proofs.Common.{◌≡◌, ℕ, ℤ, pos, inl, inr, List, [], ◌∷◌, Result, Ok, Err, refl, arith}
+use Rattle.std.proofs.Common.{◌≡◌, ℕ, ℤ, pos, inl, inr, List, [], ◌∷◌, map, Result, Ok, Err, refl, arith}
 use Rattle.std.specs.Prelude.{codes}
 use Rattle.std.proofs.lemmas.Int.{ints}
 use Rattle.csv.specs.Machine.{next_record}
@@ -17,63 +17,30 @@ use Rattle.fixing_files.proofs.CurveTableFacts.{next_is_first}
 
 -- single records
 
-unfoldable says : List ℕ → List ℕ → Result CurveRow RowKind
-says offset factor = row_said (offset ∷ factor ∷ [])
-
 abbrev row : ℕ → ℤ → CurveRow
 row o v = record { offset = o; factor = v }
 
-one : says (codes "0") (codes "1.000000000") ≡ Ok (row 0 (pos 1_000_000_000))
-unfolding says row_said read_of
-one = refl
+-- the two fields of a record, and what it says
+abbrev two_fields : List (List ℕ × List ℕ × Result CurveRow RowKind)
+two_fields =
+    (codes "0", codes "1.000000000", Ok (row 0 (pos 1_000_000_000)))
+    ∷ (codes "90", codes "0.990000000", Ok (row 90 (pos 990_000_000)))
+    ∷ (codes "90", codes "10", Ok (row 90 (pos 10_000_000_000)))
+    ∷ (codes "90", codes "10.000000001", Err Factor)
+    ∷ (codes "90", codes "11", Err Factor)
+    ∷ (codes "90", codes "-0.000000001", Err Factor)
+    ∷ (codes "90", codes "-0", Ok (row 90 (pos 0)))
+    ∷ (codes "90", codes "1.0000000000", Err Factor)
+    ∷ (codes "2000000", codes "1", Ok (row 2_000_000 (pos 1_000_000_000)))
+    ∷ (codes "2000001", codes "1", Err Day)
+    ∷ (codes "000000001", codes "1", Ok (row 1 (pos 1_000_000_000)))
+    ∷ (codes "0000000001", codes "1", Err Day)
+    ∷ (codes "-1", codes "x", Err Day)
+    ∷ []
 
-below_one : says (codes "90") (codes "0.990000000") ≡ Ok (row 90 (pos 990_000_000))
-unfolding says row_said read_of
-below_one = refl
-
-no_decimals : says (codes "90") (codes "10") ≡ Ok (row 90 (pos 10_000_000_000))
-unfolding says row_said read_of
-no_decimals = refl
-
-above_ten : says (codes "90") (codes "10.000000001") ≡ Err Factor
-unfolding says row_said read_of
-above_ten = refl
-
-eleven : says (codes "90") (codes "11") ≡ Err Factor
-unfolding says row_said read_of
-eleven = refl
-
-negative : says (codes "90") (codes "-0.000000001") ≡ Err Factor
-unfolding says row_said read_of
-negative = refl
-
-minus_zero : says (codes "90") (codes "-0") ≡ Ok (row 90 (pos 0))
-unfolding says row_said read_of
-minus_zero = refl
-
-ten_decimals : says (codes "90") (codes "1.0000000000") ≡ Err Factor
-unfolding says row_said read_of
-ten_decimals = refl
-
-last_offset : says (codes "2000000") (codes "1") ≡ Ok (row 2_000_000 (pos 1_000_000_000))
-unfolding says row_said read_of
-last_offset = refl
-
-past_last_offset : says (codes "2000001") (codes "1") ≡ Err Day
-unfolding says row_said read_of
-past_last_offset = refl
-
-nine_digits : says (codes "000000001") (codes "1") ≡ Ok (row 1 (pos 1_000_000_000))
-unfolding says row_said read_of
-nine_digits = refl
-
-ten_digits : says (codes "0000000001") (codes "1") ≡ Err Day
-unfolding says row_said read_of
-ten_digits = refl
-
-negative_offset : says (codes "-1") (codes "x") ≡ Err Day
-unfolding says row_said read_of
-negative_offset = refl
+says : map (λ r. row_said (r.0 ∷ r.1 ∷ [])) two_fields ≡ map (λ r. r.2) two_fields
+unfolding row_said read_of
+says = refl
 
 three_fields : row_said (codes "0" ∷ codes "1" ∷ [] ∷ []) ≡ Err Shape
 unfolding row_said

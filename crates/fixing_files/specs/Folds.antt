@@ -45,10 +45,14 @@ abbrev pub lesser : Option Clash → Clash → Clash
 lesser None c = c
 lesser (Some b) c = if nat_le b.number c.number then b else c
 
+-- a row is of this day and says this value
+abbrev pub IsSaid : (Row → Type 0) → ℤ → Value → Type 0
+IsSaid In t v = (n : ℕ) × In (record { day = t; number = n; value = v })
+
 -- the days are those of the rows, each with its value
 pub record HoldsDays (In : Row → Type 0) (days : List FixedDay) : Type 0 where
   pub rising : IsRising days
-  pub holds : (t : ℤ) (v : Value) → Contains days (record { day = t; value = v }) ↔ ((n : ℕ) × In (record { day = t; number = n; value = v }))
+  pub holds : (t : ℤ) (v : Value) → Contains days (record { day = t; value = v }) ↔ IsSaid In t v
 
 abbrev pub Settles : (Row → Type 0) → Settled → Type 0
 Settles In (Days days) = HoldsDays In days.items × IsLeast In None
@@ -98,7 +102,10 @@ pub record Folds (rows : List Row) (days : List FixedDay) (head : Option Row) (l
 
 -- the next row is taken
 abbrev pub Advances : Folding → Folding → Row → Type 0
-Advances before after row = (rows : List Row) → Comes rows row → Folds rows before.days.items before.first before.least → Folds (rows ++ row ∷ []) after.days.items after.first after.least
+Advances before after row =
+    (rows : List Row) → Comes rows row
+    → Folds rows before.days.items before.first before.least
+    → Folds (rows ++ row ∷ []) after.days.items after.first after.least
 
 -- the label of this number clashes
 pub record ClashesAt (runs : List Run) (n e : ℕ) : Type 0 where

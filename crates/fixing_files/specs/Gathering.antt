@@ -25,7 +25,9 @@ AddsSaid (Err kind) n before after = ⊥
 
 -- record n is the header, or what it says is added
 abbrev pub TakesOn : Declarations → ℕ → Fields → List Run → List Run → Type 0
-TakesOn d n fields before after = ((n ≡ 1) × (is_header fields ≡ true) × SameRows before after) ⊎ ((2 ≤ n) × AddsSaid (said d fields) n before after)
+TakesOn d n fields before after =
+    ((n ≡ 1) × (is_header fields ≡ true) × SameRows before after)
+    ⊎ ((2 ≤ n) × AddsSaid (said d fields) n before after)
 
 -- record n breaks a rule by itself
 abbrev pub StopsAt : Declarations → ℕ → Fields → RowKind → Type 0

@@ -15,11 +15,14 @@ FaultsAreUnique =
     (d : Declarations) (table : Table) (one other : RowFault) → IsFirstFault d table one → IsFirstFault d table other → one ≡ other
 
 abbrev pub FaultyTablesHoldNothing : Type 0
-FaultyTablesHoldNothing = (d : Declarations) (table : Table) (fault : RowFault) (env : Environment) → IsFirstFault d table fault → ¬ (Holds d table env)
+FaultyTablesHoldNothing =
+    (d : Declarations) (table : Table) (fault : RowFault) (env : Environment)
+    → IsFirstFault d table fault → ¬ (Holds d table env)
 
 abbrev pub TablesHoldOneMap : Type 0
 TablesHoldOneMap =
-    (d : Declarations) (table : Table) (one other : Environment) → Holds d table one → Holds d table other → (q : Place) → held one q ≡ held other q
+    (d : Declarations) (table : Table) (one other : Environment)
+    → Holds d table one → Holds d table other → (q : Place) → held one q ≡ held other q
 
 -- a text writes a decimal with no more decimals than the scale, and m is its mantissa there, within the limit
 pub record Writes (text : List ℕ) (scale : ℕ) (m : ℤ) : Type 0 where

@@ -3,6 +3,7 @@ pub mod Runs
 pub mod RunPlaces
 pub mod Records
 pub mod Tables
+pub mod Readers
 pub mod Steps
 pub mod Rows
 pub mod Folds

@@ -49,7 +49,9 @@ values_of runs = values_from 0 runs
 
 -- a run has a day with a value exactly where the map holds it at the label
 abbrev pub LendsDays : Environment → ℕ → List FixedDay → Type 0
-LendsDays env l run = (t : ℤ) (v : Value) → Contains run (record { day = t; value = v }) ↔ (held env (record { label = l; day = t }) ≡ Some v)
+LendsDays env l run =
+    (t : ℤ) (v : Value)
+    → Contains run (record { day = t; value = v }) ↔ (held env (record { label = l; day = t }) ≡ Some v)
 
 -- a pair is added to a map, and nothing else changes
 abbrev pub AddsPair : Environment → Environment → Place → Value → Type 0

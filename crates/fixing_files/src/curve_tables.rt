@@ -10,8 +10,8 @@ ghost use Rattle.fixing_files.specs.Tables.{table_of};
 use crate::curve_records::{is_curve_header, step_of};
 use crate::curves::{Curve, CurveStep};
 use crate::faults::{RowErr, RowKind, refused};
-use crate::tables::MOST_READS;
-use csv::{ByteRecord, ReaderBuilder};
+use crate::reader::{MOST_READS, reader_of};
+use csv::ByteRecord;
 use std::alloc::Global;
 
 // The last row.
@@ -84,10 +84,7 @@ pub fn read_curve(alloc: Global, bytes: &[u8]) -> Result<Curve, RowErr>
     requires { length bytes.now ≤ 16_777_216 }
     ensures { AnswersCurve (table_of bytes.now) result }
 {
-    let mut reader = ReaderBuilder::new()
-        .has_headers(false)
-        .flexible(true)
-        .from_reader(alloc, bytes);
+    let mut reader = reader_of(alloc, bytes);
     let mut record = ByteRecord::new(alloc);
     let mut steps = Vec::new(alloc);
     for read in 0..MOST_READS {

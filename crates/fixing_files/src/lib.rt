@@ -19,6 +19,7 @@ mod faults;
 mod fixings;
 mod folds;
 mod laws;
+mod reader;
 mod records;
 mod rows;
 mod runs;

@@ -11,9 +11,10 @@ ghost use Rattle.fixing_files.specs.Tables.{Answers, IsPlaced, table_of};
 use crate::faults::{RowErr, RowFault, RowKind, refused};
 use crate::fixings::Fixings;
 use crate::folds::{AllSettled, settle_all};
+use crate::reader::{MOST_READS, reader_of};
 use crate::records::{entry_of, is_header};
 use crate::rows::{Row, Run, take_row};
-use csv::{ByteRecord, ReaderBuilder};
+use csv::ByteRecord;
 use decimal::NoMemory;
 use std::alloc::Global;
 use term_core::Decls;
@@ -50,9 +51,6 @@ fn take(
     }
 }
 
-/// More than the records of a table, of which there are at most one more than bytes.
-pub const MOST_READS: u32 = 16_777_218;
-
 // The fault of a table without records.
 fn missing(records: u32) -> Option<RowFault>
     ensures { result ≡ missing records }
@@ -79,10 +77,7 @@ fn gather(alloc: Global, bytes: &[u8], decls: &Decls) -> Result<Gathered, NoMemo
     requires { length bytes.now ≤ 16_777_216 }
     ensures { IfOk result (λ g. Gathers (declarations decls.now) (table_of bytes.now) g.runs.items g.fault) }
 {
-    let mut reader = ReaderBuilder::new()
-        .has_headers(false)
-        .flexible(true)
-        .from_reader(alloc, bytes);
+    let mut reader = reader_of(alloc, bytes);
     let mut record = ByteRecord::new(alloc);
     let mut runs = Vec::new(alloc);
     for read in 0..MOST_READS {
