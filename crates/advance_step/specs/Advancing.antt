@@ -14,7 +14,7 @@ use Rattle.flow_eval.specs.FlowAnswers.{AreKnownFlows, reads_until}
 use Rattle.flow_eval.specs.declared.faults.FlowErr.{FlowErr}
 use Rattle.flow_eval.specs.declared.flow_table.FlowRow.{FlowRow}
 use Rattle.flow_eval.specs.declared.faults.FlowErr.TheVariants.{Missing, NoMemory}
-use Rattle.specialise.specs.Literals.{HasLiteralsIn}
+use Rattle.term_core.specs.Literals.{HasLiteralsIn}
 use Rattle.advance_step.specs.declared.advancing.Advanced.{Advanced}
 use Rattle.advance_step.specs.Residual.{IsLeftAfter}
 

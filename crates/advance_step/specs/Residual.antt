@@ -10,7 +10,7 @@ use Rattle.term_core.specs.Residuals.{Carries}
 use Rattle.term_core.specs.Sizes.{reach}
 use Rattle.term_core.specs.WellFormed.{IsClosed}
 use Rattle.flow_eval.specs.FlowAnswers.{reads_until}
-use Rattle.specialise.specs.Literals.{HasLiteralsIn}
+use Rattle.term_core.specs.Literals.{HasLiteralsIn}
 
 -- each place is fixed that c, which stands on the first day, reads up to the last
 abbrev pub ReadsAreFixed : Declarations → Contract → Environment → ℤ → ℤ → Type 0

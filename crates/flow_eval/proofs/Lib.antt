@@ -5,7 +5,6 @@ pub mod SumFacts
 pub mod SortFacts
 pub mod RowFacts
 pub mod TableFacts
-pub mod Products
 pub mod PaidFacts
 pub mod PaymentFacts
 pub mod PaymentSums

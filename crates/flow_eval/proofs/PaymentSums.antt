@@ -15,7 +15,7 @@ use Rattle.flow_eval.specs.Netting.{same_slot}
 use Rattle.flow_eval.specs.Payments.{multiplied, payments_of}
 use Rattle.flow_eval.proofs.SumFacts.{share, sum_at, sum_at-append}
 use Rattle.term_core.proofs.FlowFacts.{mul-neg}
-use Rattle.flow_eval.proofs.Products.{by_sign, mul-swap, parts_raised, raised-raised, sum-mul}
+use Rattle.term_core.proofs.Products.{by_sign, mul-swap, parts_raised, raised-raised, sum-mul}
 use Rattle.flow_eval.proofs.PaidFacts.{flow_at, times_one, sum_at-paid}
 
 share_by : (b : Bool) (x v : ℤ) → (if b then x *ℤ v else pos 0) ≡ (if b then x else pos 0) *ℤ v

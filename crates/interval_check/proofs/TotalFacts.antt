@@ -1,5 +1,6 @@
 -- The trial of totals by structure finds the first node in the order of trial that breaks the rule on bounds, and else
 -- the total and the scale of the model.
+use Rattle.term_core.specs.Bounds.{range_of as right_range}
 use Rattle.std.proofs.Common.{◌≡◌, ℕ, ◌+◌, ◌*◌, Bool, true, false, if◌then◌else◌, List, [], ◌∷◌, ◌++◌, Option, Some, None, Result, Ok, Err, refl, ap, ◌∙◌, sym, subst, arith, zero-add}
 use Rattle.term_core.specs.declared.terms.Days.{Days}
 use Rattle.term_core.specs.declared.values.Kind.{Kind}
@@ -67,9 +68,6 @@ ended p xs s k n t (Ok u) e h =
 ended p xs s k n t (Err j) e h = stops p xs (s ∷ []) (k + j) h
 
 -- Expressions.
-
-abbrev pub right_range : Declarations → Expression → List Range → Range
-right_range d e g = record { interval = interval_of d e g; kind = kind_or (kind_of d e (range_kinds g)) }
 
 any : Range → Type 0
 any r = Unit {0}

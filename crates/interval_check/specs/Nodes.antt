@@ -1,6 +1,7 @@
 -- A rule by structure: what it asks of each node of an expression or a contract, among names of known ranges. The body
 -- of an accumulator is tried as in `Sites`: once, with the range of the start for its name; or for each of its days, with
 -- the range of the value after the days before, and then the accumulator of the days so far.
+pub use Rattle.term_core.specs.Bounds.{range_of, range_after}
 use Rattle.std.specs.Prelude.{ℕ, suc, ◌<◌, Bool, true, ◌&&◌, nat_le, is_some, IsTrue, List, ◌∷◌}
 use Rattle.term_core.specs.Declarations.{Declarations}
 use Rattle.term_core.specs.declared.values.Kind.{Kind}
@@ -13,15 +14,6 @@ use Rattle.term_core.specs.Sites.{Trial, Once, EachDay, Part, OfExpression, OfCo
 use Rattle.term_core.specs.Sorts.{is_number, is_truth}
 use Rattle.term_core.specs.Scales.{greatest_scale}
 use Rattle.term_core.specs.Bounds.{Range, range_kinds, interval_of, part_is_bounded}
-
--- what a name that is bound to an expression has
-abbrev pub range_of : Declarations → Expression → List Range → Range
-range_of d e g = record { interval = interval_of d e g; kind = kind_or (kind_of d e (range_kinds g)) }
-
--- what the name of an accumulator has in its body, after some days
-abbrev pub range_after : Declarations → Expression → ℕ → Expression → List Range → Range
-range_after d body i first g =
-    record { interval = interval_of d (Acc body i first) g; kind = kind_or (kind_of d first (range_kinds g)) }
 
 -- the body of an accumulator of n days, and the accumulator
 abbrev pub InRounds : Trial → ℕ → (ℕ → Type 0) → (ℕ → Type 0) → Type 0

@@ -1,5 +1,6 @@
 -- What is added up over days: the sizes of flows; and the turnover, which is the sizes of all single payments, in both
 -- directions and before any is netted against another.
+pub use Rattle.term_core.specs.Values.{entry_of}
 use Rattle.std.specs.Prelude.{ℕ, zero, suc, ℤ, pos, ◌+ℤ◌, ◌+◌, ◌-◌, ◌*◌, ◌^◌, max, unsigned_abs, List, ◌∷◌, Some, None}
 use Rattle.term_core.specs.Declarations.{Declarations}
 use Rattle.term_core.specs.Terms.{Expression, Contract, Zero, Pay, Both, Scale, After, Let, Within}
@@ -20,10 +21,6 @@ sum_of_flows d c es env f m n w = sum_of_sizes n (λ i. flow_of d c es env f (m 
 -- the same of a closed contract at the portfolio's decimals
 abbrev pub sum_of_amounts : Declarations → Contract → Environment → ℤ → ℤ → ℕ → Flow → ℕ
 sum_of_amounts d c env f m n w = sum_of_sizes n (λ i. amount_of d c env f (m +ℤ pos i) w)
-
--- what a name that is bound to an expression has
-abbrev pub entry_of : Declarations → Expression → List Entry → Environment → ℤ → Entry
-entry_of d e es env f = record { value = value_of d e es env f; kind = kind_or (kind_of d e (kinds es)) }
 
 -- the sizes of all single payments between two parties in an asset
 abbrev pub turnover_of : Declarations → Contract → List Entry → Environment → ℤ → Flow → ℕ

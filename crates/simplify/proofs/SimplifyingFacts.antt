@@ -30,7 +30,7 @@ use Rattle.specialise.proofs.SpecialRules.{round_rules}
 use Rattle.simplify.specs.Turning.{HasNoPlain}
 use Rattle.simplify.specs.TurningContracts.{turned_in, HasNoPlainIn, IsTurnIn}
 use Rattle.simplify.specs.TurnableContracts.{CanTurnIn}
-use Rattle.specialise.specs.Literals.{HasLiterals, HasLiteralsIn}
+use Rattle.term_core.specs.Literals.{HasLiterals, HasLiteralsIn}
 use Rattle.simplify.specs.Simplified.{PaysTheSame, ReadsNoMore, HasNoPlainRedex}
 use Rattle.rewriting.specs.Keeping.{IsNoLargerIn}
 use Rattle.simplify.proofs.ContractRuleStands.{root_in}

@@ -8,7 +8,7 @@ ghost use Rattle.term_core.specs.SharedTerms.{shared, StoresOffsets};
 ghost use Rattle.term_core.specs.WellFormed.{IsClosed, HasOnlyNumbers};
 ghost use Rattle.rewriting.specs.Keeping.{IsNoLargerIn, StaysClosed};
 ghost use Rattle.rewriting.specs.RebuildingContracts.{IsLessIn, StoresNew};
-ghost use Rattle.specialise.specs.Literals.{HasLiteralsIn};
+ghost use Rattle.term_core.specs.Literals.{HasLiteralsIn};
 ghost use Rattle.simplify.specs.Simplified.{PaysTheSame, ReadsNoMore, HasNoPlainRedex};
 ghost use Rattle.simplify.specs.TurnAnswers.{IsTurnOfContract};
 

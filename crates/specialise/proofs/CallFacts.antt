@@ -16,7 +16,7 @@ use Rattle.specialise.specs.Specialising.{specialised, specialised_in}
 use Rattle.specialise.specs.Specialisable.{IsPartOfAccepted}
 use Rattle.rewriting.specs.Keeping.{IsNoLarger, IsNoLargerIn}
 use Rattle.specialise.specs.Specialised.{HasItsKind, HasItsValue, ReadsNoMore, HasNoTold, PaysTheSameOn, ReadsNoMoreOn, HasNoToldIn}
-use Rattle.specialise.specs.Literals.{HasLiteralsIn}
+use Rattle.term_core.specs.Literals.{HasLiteralsIn}
 use Rattle.specialise.proofs.SpecialValues.{special_kind, special_value}
 use Rattle.specialise.proofs.SpecialReads.{special_reads}
 use Rattle.specialise.proofs.SpecialSizes.{special_smaller}

@@ -18,7 +18,7 @@ use Rattle.interval_check.specs.Nodes.{IsScaled, IsBounded, IsScaledContract, Is
 use Rattle.interval_check.specs.Replacing.{literal_of}
 use Rattle.interval_check.proofs.GuaranteeFacts.{accepted_meet_rules}
 use Rattle.specialise.specs.Specialising.{specialised, specialised_in}
-use Rattle.specialise.specs.Literals.{HasLiterals, HasLiteralsIn}
+use Rattle.term_core.specs.Literals.{HasLiterals, HasLiteralsIn}
 use Rattle.specialise.proofs.ToldFacts.{told_cases}
 use Rattle.specialise.proofs.SpecialSizes.{nothing_told}
 

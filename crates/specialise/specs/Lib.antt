@@ -1,7 +1,6 @@
 pub mod Specialising
 pub mod Specialisable
 pub mod WalkAnswers
-pub mod Literals
 pub mod LawsSpecial
 pub mod LawsSpecialContracts
 pub mod LawsAccepted

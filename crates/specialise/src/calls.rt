@@ -10,7 +10,7 @@ ghost use Rattle.term_core.specs.SharedTerms.{shared, HasOffsets, StoresOffsets}
 ghost use Rattle.term_core.specs.WellFormed.{HasOnlyNumbers, IsClosed};
 ghost use Rattle.rewriting.specs.Keeping.{IsNoLarger, IsNoLargerIn, StaysClosed};
 ghost use Rattle.specialise.specs.Specialisable.{IsPartOfAccepted};
-ghost use Rattle.specialise.specs.Literals.{HasLiteralsIn};
+ghost use Rattle.term_core.specs.Literals.{HasLiteralsIn};
 ghost use Rattle.specialise.specs.Specialised.{day_of, HasItsKind, HasItsValue, HasNoTold, HasNoToldIn, IsNear, IsSpecialised, IsSpecialisedOn, PaysTheSameOn, ReadsNoMore, ReadsNoMoreOn};
 ghost use Rattle.specialise.specs.WalkAnswers.{TakesItsPlace};
 

@@ -6,7 +6,7 @@ use Rattle.term_core.specs.Terms.{Contract}
 use Rattle.rewriting.specs.Measures.{size_in}
 use Rattle.simplify.specs.TurningContracts.{HasNoPlainIn}
 use Rattle.simplify.specs.TurnableContracts.{CanTurnIn}
-use Rattle.specialise.specs.Literals.{HasLiteralsIn}
+use Rattle.term_core.specs.Literals.{HasLiteralsIn}
 use Rattle.simplify.specs.Simplified.{HasNoPlainRedex}
 use Rattle.simplify.proofs.SimplifyingFacts.{accepted_turns, accepted_through, next_is, next_less, next_stores, still_is, pays_then, reads_then, closed_then, nothing_plain, nothing_left, literals_fit}
 use Rattle.simplify.proofs.simplifying.+simplify_shared.Goals as goal

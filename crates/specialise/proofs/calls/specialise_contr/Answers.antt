@@ -8,7 +8,7 @@ use Rattle.term_core.specs.WellFormed.{IsClosed, HasOnlyNumbers}
 use Rattle.specialise.specs.Specialising.{specialised_in}
 use Rattle.rewriting.specs.Keeping.{IsNoLargerIn}
 use Rattle.specialise.specs.Specialised.{PaysTheSameOn, ReadsNoMoreOn, HasNoToldIn}
-use Rattle.specialise.specs.Literals.{HasLiteralsIn}
+use Rattle.term_core.specs.Literals.{HasLiteralsIn}
 use Rattle.specialise.proofs.CallFacts.{on_ok, accepted_kept, flows_kept, reads_kept_in, none_kept_in, smaller_kept_in, literals_kept_in, formed_kept}
 use Rattle.specialise.proofs.calls.specialise_contr.Goals as goal
 
