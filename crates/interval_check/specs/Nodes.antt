@@ -13,7 +13,7 @@ use Rattle.term_core.specs.Flows.{scale_of_contract}
 use Rattle.term_core.specs.Sites.{Trial, Once, EachDay, Part, OfExpression, OfContract}
 use Rattle.term_core.specs.Sorts.{is_number, is_truth}
 use Rattle.term_core.specs.Scales.{greatest_scale}
-use Rattle.term_core.specs.Bounds.{Range, range_kinds, interval_of, part_is_bounded}
+use Rattle.term_core.specs.Bounds.{Range, range_kinds, part_is_bounded}
 
 -- the body of an accumulator of n days, and the accumulator
 abbrev pub InRounds : Trial → ℕ → (ℕ → Type 0) → (ℕ → Type 0) → Type 0

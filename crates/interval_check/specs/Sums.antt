@@ -5,8 +5,7 @@ use Rattle.std.specs.Prelude.{ℕ, zero, suc, ℤ, pos, ◌+ℤ◌, ◌+◌, ◌
 use Rattle.term_core.specs.Declarations.{Declarations}
 use Rattle.term_core.specs.Terms.{Expression, Contract, Zero, Pay, Both, Scale, After, Let, Within}
 use Rattle.term_core.specs.Environments.{Environment}
-use Rattle.term_core.specs.Kinds.{kind_of}
-use Rattle.term_core.specs.Values.{Entry, kinds, num, kind_or, value_of, first_true}
+use Rattle.term_core.specs.Values.{Entry, kinds, num, value_of, first_true}
 use Rattle.term_core.specs.Flows.{Flow, count_of, scale_of_contract, unit_flow, flow_of, amount_of}
 
 -- the sizes of n numbers, from the first on

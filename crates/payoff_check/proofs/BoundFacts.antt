@@ -16,7 +16,8 @@ use Rattle.interval_check.specs.RangeTrials.{range_tried, kind_found, scale_in, 
 use Rattle.interval_check.proofs.KindsFound.{has_kind}
 use Rattle.interval_check.proofs.RootFacts.{Has}
 use Rattle.interval_check.proofs.ScaledFacts.{scales_follow}
-use Rattle.interval_check.proofs.TotalFacts.{right_range, finds_range}
+use Rattle.interval_check.proofs.TotalFacts.{finds_range}
+use Rattle.term_core.specs.Bounds.{range_of as right_range}
 use Rattle.interval_check.proofs.TotalFacts as found
 use Rattle.payoff_lang.specs.Dating.{plain}
 use Rattle.payoff_lang.specs.Code.{ValueExpression, PayoffCode, Nothing, PayOn, Add, ScaleBy, LetBe, Loop, Cut}
