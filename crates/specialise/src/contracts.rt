@@ -50,8 +50,7 @@ fn stored_at(
     ensures tree { IfOk result (λ new. TakesItsPlaceLater (declarations decls.now) fixings.now day moved e.now new) }
     ensures stores { IfOk result (λ new. HasOffsets (after (expression e.now.value) new)) }
 {
-    let new = specialise_at(alloc, decls, e, fixings, day_moved(day, moved))?;
-    Ok(new)
+    specialise_at(alloc, decls, e, fixings, day_moved(day, moved))
 }
 
 /// What takes the place of a contract on a day, with what the fixings tell; none where nothing changes. Tests and the
