@@ -47,7 +47,7 @@ LacksRead d c bs fixings f j (Missing label day) =
     (g : List Entry) (ps : List (List Place)) → StandFor fixings bs g ps → IsUnfixedRead d c g ps fixings f j (place_at label day)
 LacksRead d c bs fixings f j NoMemory = Unit {0}
 
--- both, on a course
+-- what is left, and what a fault names, on a course
 abbrev pub IsLeftOn : Course → List Binding → ℤ → ℕ → Contract → Contract → Type 0
 IsLeftOn course bs f j c rest = IsLeft (declarations course.decls.now) c bs course.fixings.now f j rest
 

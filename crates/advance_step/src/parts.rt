@@ -10,15 +10,10 @@ ghost use Rattle.advance_step.specs.WhatIsLeft as model;
 ghost use Rattle.advance_step.specs.CarryingWalk.{CanMove};
 
 use decimal::NoMemory;
+use simplify::is_nothing;
 use std::alloc::Global;
 use std::rc::Rc;
 use term_core::{Expr, SharedContr};
-
-fn is_nothing(s: &SharedContr) -> bool
-    ensures { result ≡ is_nothing (shared s.now) }
-{
-    matches!(s, SharedContr::Zero)
-}
 
 /// What is left of two parts.
 pub fn both_left(

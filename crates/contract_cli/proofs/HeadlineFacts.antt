@@ -12,7 +12,7 @@ use Rattle.payoff_lang.specs.Meaning.{CodeMeans, MayBeAsked, Remaining}
 use Rattle.report.specs.declared.fault_lines.Fault.{Fault}
 use Rattle.command_words.specs.Commands.{Advance, AdvanceAsked, Asked, Check, Flows, OnCode, OnFiles, Payoff, PayoffAsked, Sample, ValueAsked}
 use Rattle.command_words.specs.Words.{request_of}
-use Rattle.contract_cli.specs.FilesPromise.{Answers, Inputs, Stops, ValueAnswers, not_spelled, on_portfolio, stopped as stops_on, told, value_stopped, value_told}
+use Rattle.contract_cli.specs.FilesPromise.{Answers, Inputs, Stops, AnswersOnCode, not_spelled, on_portfolio, stopped as stops_on, told, value_stopped, value_told}
 use Rattle.contract_cli.specs.Headline.{HasAdvanced, HasChecked, HasCompiled, HasValued, Headline, IsPresentValue, Judged}
 use Rattle.contract_cli.specs.RunPromise.{Cause, stopped, answered, valued, sampled, Edge, FileFault, read_failed, read_long, FilesSeen, by_command, by_value, Meets, written, broken, lacking, Names, NamesValue, StopsRun, no_form, at_file, WereRead, WereReadForValue, WritesAll}
 use Rattle.contract_cli.specs.Statuses.{status_of}
@@ -62,7 +62,7 @@ record AnsweredValue (edge : Edge) (asked : ValueAsked) (s : Status) : Type 0 wh
   inputs : ValueInputs
   text : List ℕ
   read : WereReadForValue edge.files asked inputs
-  answers : ValueAnswers asked inputs s text
+  answers : AnswersOnCode asked inputs s text
   all_written : WritesAll edge.sink text
 
 module _ (words : List (List ℕ)) (edge : Edge) (s : Status) (judged : Judged s) where
@@ -97,7 +97,7 @@ module _ (words : List (List ℕ)) (edge : Edge) (s : Status) (judged : Judged s
         inputs = inputs;
         text = text;
         read = subst (λ (a : ValueAsked). WereReadForValue edge.files a inputs) one read;
-        answers = subst (λ (a : ValueAsked). ValueAnswers a inputs s text) one h;
+        answers = subst (λ (a : ValueAsked). AnswersOnCode a inputs s text) one h;
         all_written = w;
       }
   value_by_cause asked named text (sampled count names e h) w =
@@ -168,7 +168,7 @@ worth_of b asked inputs text h c means accepted env admitted extends =
     ∙ means.values (setting_by b.declarations asked.settings) env (question h.can.day h.can.curve h.can.flow) (may_be_asked b asked inputs h.can c env accepted admitted)
 
 module _ (edge : Edge) (asked : ValueAsked) (inputs : ValueInputs) where
-  has_valued : (text : List ℕ) (s : Status) → s ≡ status.Done → WereReadForValue edge.files asked inputs → WritesAll edge.sink text → ValueAnswers asked inputs s text → HasValued edge asked
+  has_valued : (text : List ℕ) (s : Status) → s ≡ status.Done → WereReadForValue edge.files asked inputs → WritesAll edge.sink text → AnswersOnCode asked inputs s text → HasValued edge asked
   has_valued text s is read w (value_stopped f h e line) = absurd (no_fault_done f (sym e ∙ is))
   has_valued text s is read w (value_told b spelled e h) = record {
     book = b;

@@ -6,7 +6,7 @@ use Rattle.payoff_lang.specs.CodeBooks.{CodeBook}
 use Rattle.command_words.specs.Commands.{ValueAsked}
 use Rattle.contract_cli.specs.RunPromise.{NamesValue}
 use Rattle.contract_cli.specs.Statuses.{status_of}
-use Rattle.contract_cli.specs.FilesPromise.{ValueAnswers, no_code, on_code, value_stopped, value_told}
+use Rattle.contract_cli.specs.FilesPromise.{AnswersOnCode, no_code, on_code, value_stopped, value_told}
 use Rattle.contract_cli.specs.ValuePromise.{StopsValue, ValueInputs, curve_refused, day_out, name_unknown, not_accepted, read_missing, row_refused}
 use Rattle.contract_cli.specs.declared.status.Status.{Status}
 use Rattle.contract_cli.specs.declared.status.Status.TheVariants as status
@@ -33,14 +33,14 @@ stop_gives b asked inputs f (row_refused day fit accepted row first is) = ap fau
 stop_gives b asked inputs f (curve_refused day fit accepted fixings are row first is) = ap fault_gives is
 stop_gives b asked inputs f (read_missing day fit accepted fixings are curve holds flow between place first is) = ap fault_gives is
 
-answer_gives : (asked : ValueAsked) (inputs : ValueInputs) (s : Status) (text : List ℕ) → ValueAnswers asked inputs s text → value_gives s ≡ true
+answer_gives : (asked : ValueAsked) (inputs : ValueInputs) (s : Status) (text : List ℕ) → AnswersOnCode asked inputs s text → value_gives s ≡ true
 answer_gives asked inputs s text (value_stopped f (no_code bad) e line) = ap value_gives e ∙ ap fault_gives bad.fault_is
 answer_gives asked inputs s text (value_stopped f (on_code b spelled stops) e line) = ap value_gives e ∙ stop_gives b asked inputs f stops
 answer_gives asked inputs s text (value_told b spelled e told) = ap value_gives e
 
 -- an answer of `value` has no other status
 abbrev pub NeverOfValue : Status → Type 0
-NeverOfValue other = (asked : ValueAsked) (inputs : ValueInputs) (s : Status) (text : List ℕ) → ValueAnswers asked inputs s text → s ≡ other → ⊥
+NeverOfValue other = (asked : ValueAsked) (inputs : ValueInputs) (s : Status) (text : List ℕ) → AnswersOnCode asked inputs s text → s ≡ other → ⊥
 
 never : (other : Status) → value_gives other ≡ false → NeverOfValue other
 never other none asked inputs s text a is =

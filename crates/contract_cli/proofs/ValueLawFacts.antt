@@ -9,7 +9,7 @@ use Rattle.command_words.specs.Commands.{ValueAsked}
 use Rattle.contract_cli.specs.RunLaws.{ComesExactlyWhere}
 use Rattle.contract_cli.specs.RunPromise.{Edge, Meets, WritesAll, WritesNothing}
 use Rattle.contract_cli.specs.Statuses.{status_of}
-use Rattle.contract_cli.specs.FilesPromise.{IsNoCode, ValueAnswers, no_code, on_code, value_stopped, value_told}
+use Rattle.contract_cli.specs.FilesPromise.{IsNoCode, AnswersOnCode, no_code, on_code, value_stopped, value_told}
 use Rattle.contract_cli.specs.ValueLaws.{BadCodeIsExact, CauseOnCode, IsCodeWhere, IsExactOnCode, IsReadWholeForValue}
 use Rattle.contract_cli.specs.ValueLaws.{IsLongForValueAt, long_code, long_curve, long_fixings, IsTooLongForValue}
 use Rattle.contract_cli.specs.ValueLaws.{DeclaredNamesHavePlaces, TooLongForValueIs, TooLongForValueIsExact, ValueIsComplete, ValueRefusalsAreExact}
@@ -50,7 +50,7 @@ data AnswerIs (asked : ValueAsked) (inputs : ValueInputs) (s : Status) : Type 0 
   caused : IsCodeWhere inputs.code (CauseOnCode s asked inputs) → AnswerIs asked inputs s
   done : s ≡ status.Done → AnswerIs asked inputs s
 
-answer_is : (asked : ValueAsked) (inputs : ValueInputs) (s : Status) (text : List ℕ) → ValueAnswers asked inputs s text → AnswerIs asked inputs s
+answer_is : (asked : ValueAsked) (inputs : ValueInputs) (s : Status) (text : List ℕ) → AnswersOnCode asked inputs s text → AnswerIs asked inputs s
 answer_is asked inputs s text (value_stopped f (no_code h) e line) = no_text (e ∙ ap status_of h.fault_is) h.no_code
 answer_is asked inputs s text (value_stopped f (on_code b spelled h) e line) =
     caused (record {
@@ -64,7 +64,7 @@ answer_is asked inputs s text (value_told b spelled e told) = done e
 
 module _ (words : List (List ℕ)) (edge : Edge) (s : Status) (asked : ValueAsked) (inputs : ValueInputs) (m : Meets words edge s) (r : IsReadWholeForValue words edge asked inputs) where
   -- what a run ends with that has read its files whole
-  by_answer : (P : Type 0) → ((text : List ℕ) → ValueAnswers asked inputs s text → WritesAll edge.sink text → P) → (s ≡ status.NoMemory → WritesNothing edge.sink → P) → P
+  by_answer : (P : Type 0) → ((text : List ℕ) → AnswersOnCode asked inputs s text → WritesAll edge.sink text → P) → (s ≡ status.NoMemory → WritesNothing edge.sink → P) → P
   by_answer P given none = by (value_ends words edge asked inputs r.read s m)
     where
       by : ValueEnds edge asked inputs s → P
@@ -72,7 +72,7 @@ module _ (words : List (List ℕ)) (edge : Edge) (s : Status) (asked : ValueAske
       by (with_answer text short a w) = given text a w
       by (with_nothing e w) = none e w
 
-  exact : (wanted : Status) (P : Type 0) → (status.NoMemory ≡ wanted → ⊥) → ((text : List ℕ) → ValueAnswers asked inputs s text → s ≡ wanted → P) → ((text : List ℕ) → ValueAnswers asked inputs s text → P → s ≡ wanted) → ComesExactlyWhere P wanted s
+  exact : (wanted : Status) (P : Type 0) → (status.NoMemory ≡ wanted → ⊥) → ((text : List ℕ) → AnswersOnCode asked inputs s text → s ≡ wanted → P) → ((text : List ℕ) → AnswersOnCode asked inputs s text → P → s ≡ wanted) → ComesExactlyWhere P wanted s
   exact wanted P differ gives forces =
       by_answer (ComesExactlyWhere P wanted s) (λ text a w. record { comes = λ cause. inl (forces text a cause); only = λ is. gives text a is })
       (λ e w. record { comes = λ _. inr e; only = λ is. absurd (differ (sym e ∙ is)) })
@@ -84,7 +84,7 @@ bad_gives asked inputs s (no_text e h) is = h
 bad_gives asked inputs s (caused h) is = absurd (let k : ⊥ = subst (λ (x : Status). CauseOnCode x asked inputs h.book) is h.holds in k)
 bad_gives asked inputs s (done e) is = apart (IsNoCode inputs.code) (λ (x : status.Done ≡ status.BadText). cc) e is
 
-bad_forces : (asked : ValueAsked) (inputs : ValueInputs) (s : Status) (text : List ℕ) → ValueAnswers asked inputs s text → IsNoCode inputs.code → s ≡ status.BadText
+bad_forces : (asked : ValueAsked) (inputs : ValueInputs) (s : Status) (text : List ℕ) → AnswersOnCode asked inputs s text → IsNoCode inputs.code → s ≡ status.BadText
 bad_forces asked inputs s text (value_stopped f (no_code h) e line) none = e ∙ ap status_of h.fault_is
 bad_forces asked inputs s text (value_stopped f (on_code b spelled h) e line) none = absurd (none b spelled)
 bad_forces asked inputs s text (value_told b spelled e told) none = absurd (none b spelled)
@@ -102,7 +102,7 @@ gives_cause wanted no_bad no_done asked inputs s (caused h) is =
     record { book = h.book; spelled = h.spelled; holds = subst (λ (x : Status). CauseOnCode x asked inputs h.book) is h.holds }
 gives_cause wanted no_bad no_done asked inputs s (done e) is = absurd (no_done (sym e ∙ is))
 
-forces_cause : (wanted : Status) (asked : ValueAsked) (inputs : ValueInputs) (s : Status) (text : List ℕ) → ValueAnswers asked inputs s text → IsCodeWhere inputs.code (CauseOnCode wanted asked inputs) → s ≡ wanted
+forces_cause : (wanted : Status) (asked : ValueAsked) (inputs : ValueInputs) (s : Status) (text : List ℕ) → AnswersOnCode asked inputs s text → IsCodeWhere inputs.code (CauseOnCode wanted asked inputs) → s ≡ wanted
 forces_cause wanted asked inputs s text (value_stopped f (no_code h) e line) cause = absurd (h.no_code cause.book cause.spelled)
 forces_cause wanted asked inputs s text (value_stopped f (on_code b spelled h) e line) cause =
     let c = subst (λ (x : CodeBook). CauseOnCode wanted asked inputs x) (one_code_text inputs.code cause.book b cause.spelled spelled) cause.holds in
@@ -128,7 +128,7 @@ value_refusals_are_exact = record {
 
 -- ---- completeness
 
-value_whole : (asked : ValueAsked) (inputs : ValueInputs) (b : CodeBook) (s : Status) (text : List ℕ) → CodeText inputs.code b → CanValue b asked inputs → ValueAnswers asked inputs s text → (s ≡ status.Done) × IsValueText b asked inputs text
+value_whole : (asked : ValueAsked) (inputs : ValueInputs) (b : CodeBook) (s : Status) (text : List ℕ) → CodeText inputs.code b → CanValue b asked inputs → AnswersOnCode asked inputs s text → (s ≡ status.Done) × IsValueText b asked inputs text
 value_whole asked inputs b s text spelled can (value_stopped f (no_code h) e line) = absurd (h.no_code b spelled)
 value_whole asked inputs b s text spelled can (value_stopped f (on_code c other h) e line) =
     absurd (stop_or_end b asked inputs f (subst (λ (x : CodeBook). StopsValue x asked inputs f) (one_code_text inputs.code c b other spelled) h) can)

@@ -11,7 +11,7 @@ use Rattle.contract_cli.specs.RunPromise.{Cause, stopped, answered, valued, samp
 use Rattle.contract_cli.specs.RunPromise.{IsNextOfValue, is_code, is_fixings, is_curve, by_command, by_value, Meets, written, broken, lacking}
 use Rattle.contract_cli.specs.RunPromise.{NamesValue, StopsRun, no_form, at_file, WasRead, WereReadForValue, WritesAll, WritesNothing, longest_file}
 use Rattle.contract_cli.specs.Statuses.{status_of}
-use Rattle.contract_cli.specs.FilesPromise.{ValueAnswers}
+use Rattle.contract_cli.specs.FilesPromise.{AnswersOnCode}
 use Rattle.contract_cli.specs.ValueLaws.{IsLongForValueAt, long_code, long_fixings, long_curve, IsReadForValue}
 use Rattle.contract_cli.specs.ValuePromise.{ValueInputs}
 use Rattle.contract_cli.specs.ValueParts.{AreShortForValue}
@@ -45,7 +45,7 @@ pub data ValueEnds (edge : Edge) (asked : ValueAsked) (inputs : ValueInputs) (s 
   long :
       s ≡ status.TooLong → (place : ℕ) → IsLongForValueAt inputs place → WritesAll edge.sink (fault_text (fault.TooLong place))
       → ValueEnds edge asked inputs s
-  with_answer : (text : List ℕ) → AreShortForValue inputs → ValueAnswers asked inputs s text → WritesAll edge.sink text → ValueEnds edge asked inputs s
+  with_answer : (text : List ℕ) → AreShortForValue inputs → AnswersOnCode asked inputs s text → WritesAll edge.sink text → ValueEnds edge asked inputs s
   with_nothing : s ≡ status.NoMemory → WritesNothing edge.sink → ValueEnds edge asked inputs s
 
 -- words that ask for a value ask for nothing else
@@ -85,14 +85,14 @@ module _ (words : List (List ℕ)) (edge : Edge) (asked : ValueAsked) (inputs : 
   by_stop f s text (at_file file place (by_value a named next) h) e line w =
       by_file file place f s text (subst (λ (x : ValueAsked). IsNextOfValue edge.files x file place) (same_asked a named) next) h e line w
 
-  by_answer : (read : ValueInputs) (s : Status) (text : List ℕ) → WereReadForValue edge.files asked read → ValueAnswers asked read s text → WritesAll edge.sink text → ValueEnds edge asked inputs s
+  by_answer : (read : ValueInputs) (s : Status) (text : List ℕ) → WereReadForValue edge.files asked read → AnswersOnCode asked read s text → WritesAll edge.sink text → ValueEnds edge asked inputs s
   by_answer read s text were ans w =
       let code = same_bytes edge.files asked.files.code read.code inputs.code were.code r.code.told in
       let fixings = same_bytes edge.files asked.files.fixings read.fixings inputs.fixings were.fixings r.fixings.told in
       let curve = same_bytes edge.files asked.files.curve read.curve inputs.curve were.curve r.curve.told in
       let same = same_inputs read inputs code fixings curve in
       with_answer text (subst (λ (i : ValueInputs). AreShortForValue i) same (were_short edge.files asked read were))
-      (subst (λ (i : ValueInputs). ValueAnswers asked i s text) same ans) w
+      (subst (λ (i : ValueInputs). AnswersOnCode asked i s text) same ans) w
 
   by_cause : (s : Status) (text : List ℕ) → Cause words edge.files s text → WritesAll edge.sink text → ValueEnds edge asked inputs s
   by_cause s text (stopped f h e line) w = by_stop f s text h e line w
@@ -101,7 +101,7 @@ module _ (words : List (List ℕ)) (edge : Edge) (asked : ValueAsked) (inputs : 
   by_cause s text (valued a named read were ans) w =
       let one = same_asked a named in
       by_answer read s text (subst (λ (x : ValueAsked). WereReadForValue edge.files x read) one were)
-      (subst (λ (x : ValueAsked). ValueAnswers x read s text) one ans) w
+      (subst (λ (x : ValueAsked). AnswersOnCode x read s text) one ans) w
   by_cause s text (sampled count sample e sum) w =
       absurd (let x : request_of words ≡ Some (OnCode asked) = r.named in let y : request_of words ≡ Some (Sample count) = sample in cc)
 

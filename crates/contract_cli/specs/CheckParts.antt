@@ -1,4 +1,4 @@
--- What the parts of `check` answer: the line of each behind those before it, and whether all of them were
+-- What the parts of `check` answer: the line of each contract behind those before it, and whether all of them were
 -- accepted so far.
 use Rattle.std.specs.Prelude.{◌≡◌, ◌↔◌, ℕ, Bool, true, IsTrue, List, [], ◌++◌, Result, Ok, Err}
 use Rattle.term_core.specs.declared.name.Name.{Name}

@@ -75,14 +75,14 @@ pub record IsBadCode (bytes : List ℕ) (f : Fault) : Type 0 where
   pub fault_is : f ≡ fault.Text first
 
 -- what stops `value` on the bytes of its files
-pub data StopsValueOnBytes (asked : ValueAsked) (inputs : ValueInputs) (f : Fault) : Type 0 where
-  no_code : IsBadCode inputs.code f → StopsValueOnBytes asked inputs f
-  on_code : (b : CodeBook) → CodeText inputs.code b → StopsValue b asked inputs f → StopsValueOnBytes asked inputs f
+pub data StopsOnCode (asked : ValueAsked) (inputs : ValueInputs) (f : Fault) : Type 0 where
+  no_code : IsBadCode inputs.code f → StopsOnCode asked inputs f
+  on_code : (b : CodeBook) → CodeText inputs.code b → StopsValue b asked inputs f → StopsOnCode asked inputs f
 
-pub data ValueAnswers (asked : ValueAsked) (inputs : ValueInputs) (s : Status) (text : List ℕ) : Type 0 where
+pub data AnswersOnCode (asked : ValueAsked) (inputs : ValueInputs) (s : Status) (text : List ℕ) : Type 0 where
   value_stopped :
-      (f : Fault) → StopsValueOnBytes asked inputs f → s ≡ status_of f → text ≡ fault_text f
-      → ValueAnswers asked inputs s text
+      (f : Fault) → StopsOnCode asked inputs f → s ≡ status_of f → text ≡ fault_text f
+      → AnswersOnCode asked inputs s text
   value_told :
       (b : CodeBook) → CodeText inputs.code b → s ≡ status.Done → IsValueText b asked inputs text
-      → ValueAnswers asked inputs s text
+      → AnswersOnCode asked inputs s text

@@ -1,6 +1,5 @@
 pub mod Statuses
 pub mod Stopping
-pub mod Given
 pub mod UsedContracts
 pub mod UsedParts
 pub mod CheckPromise

@@ -2,7 +2,7 @@
 use Rattle.std.specs.Prelude.{◌≡◌, ◌≤◌, ℕ, List, option_map, Result, length}
 use Rattle.std.specs.Global.{Vec}
 use Rattle.report.specs.FaultLines.{fault_text}
-use Rattle.contract_cli.specs.FilesPromise.{Answers, Inputs, Stops, StopsValueOnBytes, ValueAnswers}
+use Rattle.contract_cli.specs.FilesPromise.{Answers, Inputs, Stops, StopsOnCode, AnswersOnCode}
 use Rattle.command_words.specs.Commands.{Asked, ValueAsked, ValueFiles}
 use Rattle.contract_cli.specs.FlowsParts.{IsShortTable}
 use Rattle.contract_cli.specs.RunPromise.{Cause, CountsOnlyValued, FileFault, FilesSeen, Names, NamesValue, StopsRun, WasRead, WereRead, WereReadForValue}
@@ -29,7 +29,7 @@ AnswersBytes asked inputs r = AnswersBy (λ answer. Answers asked inputs answer.
 
 abbrev pub AnswersValueBytes : ValueAsked → ValueInputs → Result Answer Stop → Type 0
 AnswersValueBytes asked inputs r =
-    AnswersBy (λ answer. ValueAnswers asked inputs answer.status answer.text.items) (StopsValueOnBytes asked inputs) r
+    AnswersBy (λ answer. AnswersOnCode asked inputs answer.status answer.text.items) (StopsOnCode asked inputs) r
 
 -- the bytes of the file at a place, or why there are none
 abbrev pub AnswersFile : FilesSeen → List ℕ → ℕ → Result (Vec ℕ) Stop → Type 0

@@ -9,7 +9,7 @@ use Rattle.report.specs.FaultLines.{fault_text}
 use Rattle.report.specs.declared.fault_lines.Fault.{Fault}
 use Rattle.report.specs.declared.fault_lines.Fault.TheVariants as fault
 use Rattle.sample.specs.Summary.{IsSummary}
-use Rattle.contract_cli.specs.FilesPromise.{Answers, Inputs, ValueAnswers}
+use Rattle.contract_cli.specs.FilesPromise.{Answers, Inputs, AnswersOnCode}
 use Rattle.command_words.specs.Commands.{Asked, OnCode, OnFiles, Sample, ValueAsked, fixings_file, portfolio_file}
 use Rattle.contract_cli.specs.Statuses.{status_of}
 use Rattle.contract_cli.specs.ValuePromise.{ValueInputs}
@@ -28,6 +28,7 @@ pub record FilesSeen : Type 0 where
   pub faults_before : List ℕ → ℕ
   pub faults_after : List ℕ → ℕ
 
+-- the files as a run sees them, from what they hold and the counts before and after it
 abbrev pub seen : (List ℕ → Option (List ℕ)) → (List ℕ → ℕ) → (List ℕ → ℕ) → FilesSeen
 seen contents before after = record { contents = contents; faults_before = before; faults_after = after }
 
@@ -38,6 +39,7 @@ pub record SinkLeft : Type 0 where
   pub faults_before : ℕ
   pub faults_after : ℕ
 
+-- the sink as a run leaves it
 abbrev pub sink_left : Option (List ℕ) → Option (List ℕ) → ℕ → ℕ → SinkLeft
 sink_left taken_before taken_after faults_before faults_after =
     record { taken_before = taken_before; taken_after = taken_after; faults_before = faults_before; faults_after = faults_after }
@@ -61,8 +63,8 @@ NamesSample words count = request_of words ≡ Some (Sample count)
 -- ---- the files of a command
 
 -- the count of faults of a file stays, where its contents are told
-abbrev pub Stays : FilesSeen → List ℕ → Type 0
-Stays files file = IsSome (files.contents file) → files.faults_after file ≡ files.faults_before file
+abbrev pub KeepsCount : FilesSeen → List ℕ → Type 0
+KeepsCount files file = IsSome (files.contents file) → files.faults_after file ≡ files.faults_before file
 
 -- the command does not name a file
 pub record IsUnnamed (asked : Asked) (file : List ℕ) : Type 0 where
@@ -72,7 +74,7 @@ pub record IsUnnamed (asked : Asked) (file : List ℕ) : Type 0 where
 -- no count of faults falls, and that of a told file that the command does not name stays
 pub record CountsOnlyNamed (asked : Asked) (files : FilesSeen) : Type 0 where
   pub later : (file : List ℕ) → files.faults_before file ≤ files.faults_after file
-  pub others : (file : List ℕ) → IsUnnamed asked file → Stays files file
+  pub others : (file : List ℕ) → IsUnnamed asked file → KeepsCount files file
 
 -- `value` does not name a file
 pub record IsUnnamedByValue (asked : ValueAsked) (file : List ℕ) : Type 0 where
@@ -83,7 +85,7 @@ pub record IsUnnamedByValue (asked : ValueAsked) (file : List ℕ) : Type 0 wher
 -- the same of what `value` names
 pub record CountsOnlyValued (asked : ValueAsked) (files : FilesSeen) : Type 0 where
   pub later : (file : List ℕ) → files.faults_before file ≤ files.faults_after file
-  pub others : (file : List ℕ) → IsUnnamedByValue asked file → Stays files file
+  pub others : (file : List ℕ) → IsUnnamedByValue asked file → KeepsCount files file
 
 -- words do not name a file: words of no command, and of `sample`, name none
 pub record IsUnnamedByWords (words : List (List ℕ)) (file : List ℕ) : Type 0 where
@@ -93,7 +95,7 @@ pub record IsUnnamedByWords (words : List (List ℕ)) (file : List ℕ) : Type 0
 -- the same of the command of words
 pub record CountsOnlyBy (words : List (List ℕ)) (files : FilesSeen) : Type 0 where
   pub later : (file : List ℕ) → files.faults_before file ≤ files.faults_after file
-  pub others : (file : List ℕ) → IsUnnamedByWords words file → Stays files file
+  pub others : (file : List ℕ) → IsUnnamedByWords words file → KeepsCount files file
 
 -- these bytes were read of a file: its contents, where they are told
 pub record WasRead (files : FilesSeen) (file bytes : List ℕ) : Type 0 where
@@ -177,7 +179,7 @@ pub data Cause (words : List (List ℕ)) (files : FilesSeen) (s : Status) (text 
       → Cause words files s text
   valued :
       (asked : ValueAsked) → NamesValue words asked → (inputs : ValueInputs) → WereReadForValue files asked inputs
-      → ValueAnswers asked inputs s text → Cause words files s text
+      → AnswersOnCode asked inputs s text → Cause words files s text
   sampled : (count : ℕ) → NamesSample words count → s ≡ status.Done → IsSummary count text → Cause words files s text
 
 -- how a run ends with a status

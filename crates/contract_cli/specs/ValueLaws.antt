@@ -19,7 +19,7 @@ use Rattle.command_words.specs.Commands.{ValueAsked}
 use Rattle.contract_cli.specs.FlowsPromise.{IsOutOfRange, greatest_day}
 use Rattle.contract_cli.specs.RunLaws.{ComesExactlyWhere, IsTold, WritesSucceed}
 use Rattle.contract_cli.specs.RunPromise.{Edge, Meets, NamesValue, WritesAll, WritesNothing, longest_file}
-use Rattle.contract_cli.specs.FilesPromise.{IsNoCode, ValueAnswers}
+use Rattle.contract_cli.specs.FilesPromise.{IsNoCode, AnswersOnCode}
 use Rattle.contract_cli.specs.ValuePromise.{AreBetween, CanValue, IsValueText, ValueInputs, WordsFitCode}
 use Rattle.contract_cli.specs.ValuePromise.{first_unknown, missing_of_code, question, setting_by}
 use Rattle.contract_cli.specs.ValueParts.{AreShortForValue}
@@ -168,4 +168,4 @@ DeclaredNamesHavePlaces =
 abbrev pub ValueAnswersAreOne : Type 0
 ValueAnswersAreOne =
     (asked : ValueAsked) (inputs : ValueInputs) (s t : Status) (one other : List ℕ)
-    → ValueAnswers asked inputs s one → ValueAnswers asked inputs t other → (s ≡ t) × (one ≡ other)
+    → AnswersOnCode asked inputs s one → AnswersOnCode asked inputs t other → (s ≡ t) × (one ≡ other)

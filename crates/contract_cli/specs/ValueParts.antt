@@ -58,6 +58,7 @@ SettingsAreKnown d settings = first_unknown_of (names_set d settings) ≡ None
 abbrev pub IsUnknownSetting : Declarations → List (List ℕ × ℕ) → Fault → Type 0
 IsUnknownSetting d settings f = IsFirstUnknown (λ name. first_unknown_of (names_set d settings) ≡ Some name) f
 
+-- nothing, where the names of all settings are declared; else the first that is not
 abbrev pub AnswersSettings : Declarations → List (List ℕ × ℕ) → Result (Unit {0}) Stop → Type 0
 AnswersSettings d settings r = AnswersBy (λ _. SettingsAreKnown d settings) (IsUnknownSetting d settings) r
 
@@ -69,6 +70,7 @@ pub record KnowsNames (d : Declarations) (asked : ValueAsked) (parties : Parties
 abbrev pub IsUnknownOfValue : Declarations → ValueAsked → Fault → Type 0
 IsUnknownOfValue d asked f = IsFirstUnknown (λ name. first_unknown d asked ≡ Some name) f
 
+-- the parties and the asset, where all names are declared; else the first that is not
 abbrev pub AnswersNames : Declarations → ValueAsked → Result Parties Stop → Type 0
 AnswersNames d asked r = AnswersBy (KnowsNames d asked) (IsUnknownOfValue d asked) r
 
@@ -85,7 +87,7 @@ abbrev pub inquiry_of : CodeFile → Asking → Inquiry
 inquiry_of file asking =
     record { book = code_book file; setting = asking.setting.now.days.items; day = asking.day; flow = flow_of asking.parties }
 
--- what a text gives: closed code of which at most 400 terms are open at one place, with fewer nodes than can be counted
+-- what a text gives: closed code of which at most 400 terms are open at once, with fewer nodes than can be counted
 pub record IsReadable (b : CodeBook) : Type 0 where
   pub closed : IsClosedCode b.declarations b.code
   pub low : height_of_code b.code ≤ 400

@@ -15,7 +15,7 @@ ghost use Rattle.contract_cli.specs.AdvanceParts.{AnswersAdvance, AnswersNewDay,
 ghost use Rattle.contract_cli.specs.AdvancePromise.{rest_declarations};
 ghost use Rattle.contract_cli.specs.CheckPromise.{AreAllAccepted};
 ghost use Rattle.contract_cli.specs.FlowsParts.{IsShortTable};
-ghost use Rattle.contract_cli.specs.Given.{given};
+ghost use Rattle.command_words.specs.Arguments.{given_text};
 ghost use Rattle.contract_cli.specs.UsedParts.{AreTriable, HasSoundContracts, IsTriable, entries_of, entry_of, trees};
 ghost use Rattle.command_words.specs.Words.{advance_by};
 
@@ -176,8 +176,8 @@ pub fn advance_text(
 ) -> Result<Vec<u8>, Stop>
     requires sound { HasSoundContracts (book portfolio.now) }
     requires names { are_names (keys_of (book portfolio.now).contracts) ≡ true }
-    requires table { IsShortTable (given table) }
-    ensures { AnswersAdvance (book portfolio.now) (advance_by asked.now) (given table.entry) result }
+    requires table { IsShortTable (given_text table) }
+    ensures { AnswersAdvance (book portfolio.now) (advance_by asked.now) (given_text table.entry) result }
 {
     let day = new_day(alloc, &portfolio.decls, asked.to)?;
     let ones = used_contracts(alloc, portfolio, None)?;

@@ -8,7 +8,7 @@ ghost use Rattle.term_core.specs.Books.{book};
 ghost use Rattle.contract_cli.specs.RunParts.{AnswersBytes, AreShort, inputs_by};
 ghost use Rattle.contract_cli.specs.FilesPromise.{IsBadText};
 ghost use Rattle.contract_cli.specs.CheckPromise.{IsCheckText};
-ghost use Rattle.contract_cli.specs.Given.{given};
+ghost use Rattle.command_words.specs.Arguments.{given_text};
 ghost use Rattle.contract_cli.specs.Statuses.{status_of};
 ghost use Rattle.contract_cli.specs.Stopping.{AnswersBy};
 ghost use Rattle.contract_cli.specs.UsedParts.{HasSoundContracts};
@@ -98,7 +98,7 @@ pub fn sample_answer(alloc: Global, size: SampleSize) -> Result<Answer, NoMemory
 }
 
 fn lent(table: &Option<Vec<u8>>) -> Option<&[u8]>
-    ensures { given result ≡ option_map (λ bytes. bytes.items) table.now }
+    ensures { given_text result ≡ option_map (λ bytes. bytes.items) table.now }
 {
     match table {
         Some(bytes) => Some(bytes.as_slice()),

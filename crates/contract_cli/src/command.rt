@@ -1,12 +1,13 @@
 //! The commands.
 
-ghost use Rattle.std.specs.Prelude.{◌≡◌, ℕ, List, option_map, IfOk};
+ghost use Rattle.std.specs.Prelude.{◌≡◌, ℕ, List, IfOk};
 ghost use Rattle.clap.specs.Walk.{texts};
 ghost use Rattle.contract_cli.specs.RunParts.{AnswersFile, AnswersInputs, AnswersValueInputs, AnswersValueWords, AnswersWords, CountsOnlyForValue, HasCause};
 ghost use Rattle.edge_io.specs.Files.{CountsOnly};
 ghost use Rattle.contract_cli.specs.ValueParts.{AreShortForValue, value_inputs_by};
 ghost use Rattle.contract_cli.specs.Headline.{Headline};
 ghost use Rattle.contract_cli.specs.RunPromise.{CountsOnlyBy, CountsOnlyNamed, CountsOnlyValued, Meets, seen, sink_left};
+ghost use Rattle.command_words.specs.Arguments.{given_text};
 ghost use Rattle.command_words.specs.Commands.{fixings_file, portfolio_file};
 ghost use Rattle.command_words.specs.Words.{asked_by, files_by, value_by};
 
@@ -46,7 +47,7 @@ struct Named<'a> {
 
 fn named_files<'a>(command: &Command<'a>) -> Named<'a>
     ensures portfolio { result.portfolio.now ≡ portfolio_file (asked_by command.now) }
-    ensures fixings { option_map (λ word. word.now) result.fixings ≡ fixings_file (asked_by command.now) }
+    ensures fixings { given_text result.fixings ≡ fixings_file (asked_by command.now) }
 {
     match command {
         Command::Check { portfolio } => Named {

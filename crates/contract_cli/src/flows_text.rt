@@ -10,7 +10,7 @@ ghost use Rattle.term_core.specs.Terms.{contract};
 ghost use Rattle.flow_eval.specs.Tables.{IsDueRow};
 ghost use Rattle.contract_cli.specs.CheckPromise.{AreAllAccepted};
 ghost use Rattle.contract_cli.specs.FlowsParts.{AnswersFlows, AnswersLastDay, AnswersLines, AnswersLinesAsked, AnswersTable, AnswersTables, AppendsLines, IsShortTable};
-ghost use Rattle.contract_cli.specs.Given.{given};
+ghost use Rattle.command_words.specs.Arguments.{given_text};
 ghost use Rattle.contract_cli.specs.UsedParts.{HasSoundContracts, entries_of};
 ghost use Rattle.command_words.specs.Words.{flows_by};
 
@@ -175,8 +175,8 @@ pub fn flows_text(
 ) -> Result<Vec<u8>, Stop>
     requires sound { HasSoundContracts (book portfolio.now) }
     requires few { length (book portfolio.now).contracts ≤ 16_777_216 }
-    requires table { IsShortTable (given table) }
-    ensures { AnswersFlows (book portfolio.now) (flows_by asked.now) (given table.entry) result }
+    requires table { IsShortTable (given_text table) }
+    ensures { AnswersFlows (book portfolio.now) (flows_by asked.now) (given_text table.entry) result }
 {
     know(alloc, portfolio, asked.contract)?;
     let last = last_day(alloc, &portfolio.decls, asked.until)?;

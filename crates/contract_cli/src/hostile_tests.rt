@@ -1,7 +1,7 @@
 // Files that cannot be read, sinks that fail, texts that are cut off, and the limits at their last good and first bad numbers.
 
 use crate::test_runs::{
-    CURVE, LOAN, LOAN_CODE, NOTHING_FIXED, ROOM, TREASURY, entry, one_file, prints, ran,
+    CURVE, LOAN_BY_LINES, LOAN_CODE, NOTHING_FIXED, ROOM, TREASURY, entry, one_file, prints, ran,
 };
 use crate::{Status, run};
 use edge_io::{MemoryFiles, MemorySink};
@@ -41,11 +41,11 @@ fn says_of_each_command_which_read_fails(rt: HostRuntime) -> Result<(), Fail> {
     ];
     for (line, count) in rows {
         for read in 1..=count {
-            let files = desk(alloc, LOAN, LOAN_CODE, NOTHING_FIXED, read)?;
+            let files = desk(alloc, LOAN_BY_LINES, LOAN_CODE, NOTHING_FIXED, read)?;
             let fault = format!(in alloc; "fault read {read}\n")?;
             prints(&rt, alloc, line, files, fault.as_bytes(), Status::ReadFault)?;
         }
-        let files = desk(alloc, LOAN, LOAN_CODE, NOTHING_FIXED, count + 1)?;
+        let files = desk(alloc, LOAN_BY_LINES, LOAN_CODE, NOTHING_FIXED, count + 1)?;
         let (status, _) = ran(alloc, line, files)?;
         assert!(rt; status == Status::Done);
     }
@@ -58,7 +58,7 @@ fn writes_a_part_where_the_sink_fails(rt: HostRuntime) -> Result<(), Fail> {
     let alloc = rt.alloc();
     let whole = b"loan,0,A,B,EUR,100.00\nloan,90,B,A,EUR,105.00\n".as_slice();
     for write in 1..=6usize {
-        let mut files = one_file(alloc, "book", LOAN, &[])?;
+        let mut files = one_file(alloc, "book", LOAN_BY_LINES, &[])?;
         let mut fail = Vec::new(alloc);
         fail.push(write as u64)?;
         let mut out = MemorySink::new(alloc, fail, 10, ROOM)?;
@@ -103,7 +103,7 @@ fn checks_what_is_cut_off(rt: HostRuntime) -> Result<(), Fail> {
 fn values_nothing_that_is_cut_off(rt: HostRuntime) -> Result<(), Fail> {
     let alloc = rt.alloc();
     for length in 0..LOAN_CODE.len() {
-        let files = desk(alloc, LOAN, &LOAN_CODE[..length], NOTHING_FIXED, 4)?;
+        let files = desk(alloc, LOAN_BY_LINES, &LOAN_CODE[..length], NOTHING_FIXED, 4)?;
         let (status, _) = ran(alloc, PRESENT, files)?;
         let whole = length + 1 == LOAN_CODE.len();
         assert!(rt; status == if whole { Status::Done } else { Status::BadText });
@@ -172,7 +172,7 @@ fn reads_code_of_depth_400(rt: HostRuntime) -> Result<(), Fail> {
     ];
     for (times, wanted, output) in rows {
         let text = nested(alloc, "payoff 1;", "code c = ", "add(none, ", times, "none")?;
-        let files = desk(alloc, LOAN, text.as_bytes(), NOTHING_FIXED, 4)?;
+        let files = desk(alloc, LOAN_BY_LINES, text.as_bytes(), NOTHING_FIXED, 4)?;
         prints(&rt, alloc, PRESENT, files, output.as_bytes(), wanted)?;
     }
     Ok(())
@@ -226,7 +226,7 @@ fn refuses_code_beyond_the_limits(rt: HostRuntime) -> Result<(), Fail> {
     ];
     for (code, output) in rows {
         let text = format!(in alloc; "payoff 1;\n{HEADER}code c = {code};\n")?;
-        let files = desk(alloc, LOAN, text.as_bytes(), NOTHING_FIXED, 4)?;
+        let files = desk(alloc, LOAN_BY_LINES, text.as_bytes(), NOTHING_FIXED, 4)?;
         prints(
             &rt,
             alloc,

@@ -1,13 +1,13 @@
-//! Tilugba, the manager for financial contracts between parties: the commands on portfolios, the run of one
-//! command, and `main`.
+//! Tilugba, the manager for financial contracts between parties: the commands on portfolios, on code files and
+//! on the sample, the run of one command, and `main`.
 //!
 //! ```text
 //! let status = run(alloc, &words, &mut files, &mut out);
 //! ```
 //!
-//! Promised: each status of `run` has its cause and its text (`Meets`), and what is written means what the
-//! written rules and the model say (`Headline`); `laws` has when each status comes and what two runs say
-//! together.
+//! Promised: each status of `run` has its cause and its text (`Meets`), and what `check`, `advance`, `payoff` and
+//! `value` write means what the written rules and the model say (`Headline`); `laws` has when each status comes
+//! and what two runs say together.
 //! Only tested: that each file is read once and in order (`src/tests.rt`, `src/hostile_tests.rt`). Neither:
 //! that the words which `main` passes are those that were typed.
 #![tactic(auto)]

@@ -5,7 +5,7 @@ ghost use Rattle.std.specs.Prelude.{◌≡◌, ◌≤◌, pos};
 ghost use Rattle.term_core.specs.Declarations.{declarations};
 ghost use Rattle.contract_cli.specs.FlowsParts.{AnswersDay, AnswersFixings, IsShortTable, IsStopOf, day_in_range};
 ghost use Rattle.contract_cli.specs.FlowsPromise.{label_name};
-ghost use Rattle.contract_cli.specs.Given.{given};
+ghost use Rattle.command_words.specs.Arguments.{given_text};
 
 use crate::check_text::verdict;
 use crate::stop::Stop;
@@ -48,8 +48,8 @@ pub fn day_asked(
 
 /// The fixings of a table, or none where none is named.
 pub fn fixings_of(alloc: Global, decls: &Decls, table: Option<&[u8]>) -> Result<Fixings, Stop>
-    requires { IsShortTable (given table) }
-    ensures { AnswersFixings (declarations decls.now) (given table.entry) result }
+    requires { IsShortTable (given_text table) }
+    ensures { AnswersFixings (declarations decls.now) (given_text table.entry) result }
 {
     let Some(bytes) = table else {
         return Ok(Fixings::none(alloc));

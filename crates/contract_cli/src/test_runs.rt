@@ -12,6 +12,14 @@ pub const ROOM: usize = 4_194_304;
 pub const LOAN: &[u8] = b"portfolio 1; amounts 2; party A, B, C; asset EUR;
 contract loan = both(scale(100.00, pay(EUR, A, B)), after(90, scale(105.00, pay(EUR, B, A))));";
 
+/// The loan with a line for each declaration, and a line feed at its end.
+pub const LOAN_BY_LINES: &[u8] = b"portfolio 1;
+amounts 2;
+party A, B, C;
+asset EUR;
+contract loan = both(scale(100.00, pay(EUR, A, B)), after(90, scale(105.00, pay(EUR, B, A))));
+";
+
 /// The code of the loan, as it is printed.
 pub const LOAN_CODE: &[u8] = b"payoff 1;
 amounts 2;

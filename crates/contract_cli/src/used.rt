@@ -5,7 +5,7 @@ ghost use Rattle.term_core.specs.Books.{book};
 ghost use Rattle.term_core.specs.Declarations.{declarations};
 ghost use Rattle.term_core.specs.Instances.{HasNumbers, declared_numbers, instance};
 ghost use Rattle.term_core.specs.Terms.{contract};
-ghost use Rattle.contract_cli.specs.Given.{given};
+ghost use Rattle.command_words.specs.Arguments.{given_text};
 ghost use Rattle.contract_cli.specs.PayoffParts.{AnswersNamed};
 ghost use Rattle.contract_cli.specs.UsedContracts.{is_asked, used};
 ghost use Rattle.contract_cli.specs.UsedParts.{AnswersKnown, AreTriable, HasSoundContracts, entries_of, tree_of};
@@ -66,7 +66,7 @@ pub fn instance_of<'a>(
 }
 
 fn is_asked(name: &Name, only: Option<&str>) -> bool
-    ensures { result ≡ is_asked (given only.entry) name.now }
+    ensures { result ≡ is_asked (given_text only.entry) name.now }
 {
     match only {
         Some(word) => word.as_bytes() == name.text(),
@@ -82,7 +82,7 @@ pub fn used_contracts<'a>(
     only: Option<&str>,
 ) -> Result<Vec<Used<'a>>, NoMemory>
     requires { HasSoundContracts (book portfolio.now) }
-    ensures used { IfOk result (λ ones. entries_of ones.items ≡ used (given only.entry) (book portfolio.entry.now)) }
+    ensures used { IfOk result (λ ones. entries_of ones.items ≡ used (given_text only.entry) (book portfolio.entry.now)) }
     ensures triable { IfOk result (λ ones. AreTriable (book portfolio.entry.now).declarations (entries_of ones.items)) }
 {
     let setting = defaults(alloc, &portfolio.decls)?;
@@ -98,7 +98,7 @@ pub fn used_contracts<'a>(
 
 /// Stops at a name that is that of no contract.
 pub fn know(alloc: Global, portfolio: &Portfolio, only: Option<&str>) -> Result<(), Stop>
-    ensures { AnswersKnown (book portfolio.now) (given only.entry) result }
+    ensures { AnswersKnown (book portfolio.now) (given_text only.entry) result }
 {
     let Some(word) = only else {
         return Ok(());

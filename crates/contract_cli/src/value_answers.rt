@@ -5,6 +5,7 @@ ghost use Rattle.payoff_lang.specs.CodeBooks.{code_book};
 ghost use Rattle.command_words.specs.Words.{value_by};
 ghost use Rattle.contract_cli.specs.Stopping.{AnswersBy};
 ghost use Rattle.contract_cli.specs.FilesPromise.{IsBadCode};
+ghost use Rattle.contract_cli.specs.RunParts.{AnswersValueBytes};
 ghost use Rattle.contract_cli.specs.ValueParts.{AreShortForValue, IsReadFrom, value_inputs_by};
 
 use crate::answers::Answer;

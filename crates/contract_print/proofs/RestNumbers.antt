@@ -1,5 +1,5 @@
 -- What the rules of acceptance say of the numbers of a contract: scales are at most 27, day counts at most 100,000, and at
--- most 200 terms are open at one place. With the literals these are all that texts limit.
+-- most 200 terms are open at once. With the literals these are all that texts limit.
 use Rattle.std.proofs.Common.{◌≡◌, ℕ, zero, ◌+◌, ◌≤◌, Bool, true, ◌&&◌, List, [], ◌∷◌, ◌++◌, Option, Some, None, nat_le, is_some, arith}
 use Rattle.std.proofs.lemmas.Bool.{false≢true}
 use Rattle.std.proofs.lemmas.Bool.Decides.{nat_tests}

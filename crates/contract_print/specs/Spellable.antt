@@ -87,7 +87,7 @@ pub record AreSpellable (d : Declarations) : Type 0 where
   pub bounds : are_labels d.labels ≡ true
   pub days : are_numbers d.templates ≡ true
 
--- a closed contract with numbers within the limits, of which at most 200 terms are open at one place
+-- a closed contract with numbers within the limits, of which at most 200 terms are open at once
 pub record IsSpellable (d : Declarations) (c : Contract) : Type 0 where
   pub closed : IsClosed d c
   pub numbers : ContractHasNumbersOfTexts c

@@ -33,7 +33,7 @@ IsWritableContract n (After d c) = IsWritableContract n c
 IsWritableContract n (Let e c) = IsWritable n e × IsWritableContract (suc n) c
 IsWritableContract n (Within e d a b) = IsWritable n e × IsWritableContract n a × IsWritableContract n b
 
--- a contract of which at most 200 terms are open at one place
+-- a contract of which at most 200 terms are open at once
 pub record IsWritableTerm (c : Contract) : Type 0 where
   pub writable : IsWritableContract 0 c
   pub shallow : height_of_contract c ≤ 200

@@ -22,9 +22,9 @@ payment_on day t m =
       amount = if nat_lt t.from t.to then m else neg_ℤ m;
     }
 
--- no amount of a contract's payment is larger
-abbrev pub IsPayable : ℤ → Type 0
-IsPayable m = unsigned_abs m ≤ 10 ^ 30
+-- an amount of which as many as a contract has payments can be added up
+abbrev pub HasRoomToSum : ℤ → Type 0
+HasRoomToSum m = unsigned_abs m ≤ 10 ^ 30
 
 -- the payment of an amount, if it counts
 abbrev pub paid : ℤ → ℤ → Transfer → ℤ → List Payment
@@ -35,7 +35,7 @@ abbrev pub times : ℤ → Payment → Payment
 times v p = record p { amount = p.amount *ℤ v }
 
 abbrev pub CanBeMultiplied : ℤ → List Payment → Type 0
-CanBeMultiplied v ps = All (λ p. IsPayable (p.amount *ℤ v)) ps
+CanBeMultiplied v ps = All (λ p. HasRoomToSum (p.amount *ℤ v)) ps
 
 abbrev pub multiplied : ℤ → List Payment → List Payment
 multiplied v ps = map (times v) ps

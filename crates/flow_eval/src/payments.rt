@@ -2,7 +2,7 @@
 
 ghost use Rattle.std.specs.Prelude.{◌≡◌, ◌≤◌, ◌*ℤ◌, ◌++◌, neg_ℤ, OnOk, length, take, drop};
 ghost use Rattle.flow_eval.specs.Tables.{FitsLine};
-ghost use Rattle.flow_eval.specs.Payments.{CanBeMultiplied, IsPayable, multiplied, paid, payment_on, times};
+ghost use Rattle.flow_eval.specs.Payments.{CanBeMultiplied, HasRoomToSum, multiplied, paid, payment_on, times};
 
 use crate::flow_table::Slot;
 use decimal::NoMemory;
@@ -32,7 +32,7 @@ pub fn opposite(amount: i128) -> i128
 
 /// The payment of an amount by a transfer on a day.
 pub fn payment_on(day: i64, transfer: Transfer, amount: i128) -> Payment
-    requires { IsPayable amount }
+    requires { HasRoomToSum amount }
     ensures { result ≡ payment_on day transfer amount }
 {
     Payment {
@@ -58,7 +58,7 @@ pub fn pay(
     transfer: Transfer,
     amount: i128,
 ) -> Result<(), NoMemory>
-    requires { IsPayable amount }
+    requires { HasRoomToSum amount }
     ensures { OnOk result (out.new.items ≡ out.old.items ++ paid until day transfer amount) }
 {
     if until < day || transfer.from == transfer.to {
@@ -70,7 +70,7 @@ pub fn pay(
 
 // A payment times a factor.
 fn times(payment: Payment, factor: i128) -> Payment
-    requires { IsPayable (payment.amount *ℤ factor) }
+    requires { HasRoomToSum (payment.amount *ℤ factor) }
     ensures { result ≡ times factor payment }
 {
     Payment {

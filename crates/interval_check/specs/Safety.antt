@@ -11,7 +11,7 @@ use Rattle.term_core.specs.Terms.{Expression, Lit, Yes, Var, Obs, Neg, Num, Cmp,
 use Rattle.term_core.specs.Limits.{greatest_mantissa}
 use Rattle.term_core.specs.Environments.{Environment}
 use Rattle.term_core.specs.Kinds.{kind_of, scale_of, scale_of_kind}
-use Rattle.term_core.specs.Values.{Entry, kinds, num, of_num, kind_or, widened, days_run, value_of}
+use Rattle.term_core.specs.Values.{Entry, kinds, num, of_num, kind_or, widened, days_run, value_of, entry_after as entry_of_days}
 use Rattle.term_core.specs.LawsKinds.{IsOfKind}
 use Rattle.term_core.specs.Scales.{greatest_scale}
 
@@ -75,13 +75,7 @@ ScalesFit d (Acc body n first) ks =
 
 -- what the name of an accumulator of n days has in its body after i of them, on day f
 abbrev pub entry_after : Declarations → Expression → ℕ → Expression → List Entry → Environment → ℤ → ℕ → Entry
-entry_after d body n first es env f i =
-    let k = kind_or (kind_of d first (kinds es)) in
-    record {
-      value = days_run i (λ j v. widened (scale_of d body (k ∷ kinds es)) (scale_of_kind k)
-          (value_of d body (record { value = v; kind = k } ∷ es) env (f -ℤ pos n +ℤ pos j))) (value_of d first es env (f -ℤ pos n));
-      kind = k;
-    }
+entry_after d body n first es env f i = entry_of_days d body first (kind_or (kind_of d first (kinds es))) es env (f -ℤ pos n) i
 
 -- the parts of an expression have safe values, and fit under its operator
 abbrev pub HasSafeParts : Declarations → Expression → List Entry → Environment → ℤ → Type 0

@@ -1,5 +1,4 @@
 -- What the trials find of the program's terms among the names of a scope, and that their scales are right there.
-use Rattle.std.specs.Prelude.{List}
 use Rattle.term_core.specs.declared.decls.Decls.{Decls}
 use Rattle.term_core.specs.declared.terms.Expr.{Expr}
 use Rattle.term_core.specs.declared.terms.Contr.{Contr}

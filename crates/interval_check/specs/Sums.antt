@@ -3,7 +3,7 @@
 pub use Rattle.term_core.specs.Values.{entry_of}
 use Rattle.std.specs.Prelude.{ℕ, zero, suc, ℤ, pos, ◌+ℤ◌, ◌+◌, ◌-◌, ◌*◌, ◌^◌, max, unsigned_abs, List, ◌∷◌, Some, None}
 use Rattle.term_core.specs.Declarations.{Declarations}
-use Rattle.term_core.specs.Terms.{Expression, Contract, Zero, Pay, Both, Scale, After, Let, Within}
+use Rattle.term_core.specs.Terms.{Contract, Zero, Pay, Both, Scale, After, Let, Within}
 use Rattle.term_core.specs.Environments.{Environment}
 use Rattle.term_core.specs.Values.{Entry, kinds, num, value_of, first_true}
 use Rattle.term_core.specs.Flows.{Flow, count_of, scale_of_contract, unit_flow, flow_of, amount_of}

@@ -1,6 +1,6 @@
 //! The rule on bounds: every end point and every aligned operand is at most 10^37 in size, no divisor's interval holds
 //! 0, and every total is at most 10^27, as it is and at the portfolio's decimals. The trial of a contract answers its
-//! total, or the place of the node at fault counted from the contract's own first node; nodes before it are counted
+//! total, or the number of the node at fault, counted from the contract's own first node; nodes before it are counted
 //! only on the way up from a fault, so that no part is visited more than twice.
 
 ghost use Rattle.std.specs.Prelude.{◌≡◌, ◌<◌, ◌+◌, ◌^◌, pos, [], IfErr, IfOk};
@@ -32,7 +32,7 @@ pub fn total_of(decls: &Decls, c: &Contr, scope: &Scope<Range>) -> Result<Total,
     requires nodes { nodes_of_contract (contract c.now) < 2 ^ 32 }
     requires scaled { PaysScaledAmong decls.now c.now scope.now }
     ensures total { total_found result ≡ total_among decls.now c.now scope.now }
-    ensures below { IfErr result (λ place. place < nodes_of_contract (contract c.now)) }
+    ensures below { IfErr result (λ node. node < nodes_of_contract (contract c.now)) }
     ensures fits { IfOk result (λ t. IsTotal decls.now.amounts t) }
 {
     match c {
@@ -73,7 +73,7 @@ fn total_of_scale(
         (range_kinds (ranges_in scope.now)) }
     ensures total { total_found result ≡ total_tried (declarations decls.now)
         (Scale (expression factor.now) (contract body.now)) (ranges_in scope.now) }
-    ensures below { IfErr result (λ place. place < nodes (expression factor.now) + nodes_of_contract (contract body.now) + 1) }
+    ensures below { IfErr result (λ node. node < nodes (expression factor.now) + nodes_of_contract (contract body.now) + 1) }
     ensures fits { IfOk result (λ t. IsTotal decls.now.amounts t) }
 {
     let range = behind_node(range_of(decls, factor, scope))?;
@@ -94,7 +94,7 @@ fn total_of_let(
         (range_kinds (ranges_in scope.now)) }
     ensures total { total_found result ≡ total_tried (declarations decls.now)
         (Let (expression bound.now) (contract body.now)) (ranges_in scope.now) }
-    ensures below { IfErr result (λ place. place < nodes (expression bound.now) + nodes_of_contract (contract body.now) + 1) }
+    ensures below { IfErr result (λ node. node < nodes (expression bound.now) + nodes_of_contract (contract body.now) + 1) }
     ensures fits { IfOk result (λ t. IsTotal decls.now.amounts t) }
 {
     let range = behind_node(range_of(decls, bound, scope))?;

@@ -16,7 +16,7 @@ pub mod intervals;
 mod laws;
 mod quotients;
 pub mod range_rule;
-pub mod range_scopes;
+mod range_scopes;
 pub mod ranges;
 mod totals;
 

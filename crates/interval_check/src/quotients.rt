@@ -83,7 +83,7 @@ pub fn divided(mode: Mode, scale: u8, top: Range, below: Range) -> Result<Range,
     requires below { IsFit (range below) }
     requires scale { scale ≤ 27 }
     ensures range { range_found result ≡ tried.quotient mode scale (range top) (range below) }
-    ensures here { IfErr result (λ place. place ≡ 0) }
+    ensures here { IfErr result (λ node. node ≡ 0) }
     ensures fit { IfOk result (λ r. IsFit (range r)) }
 {
     let by = Division {

@@ -1,5 +1,5 @@
-//! The ranges of expressions, by the rule on bounds. The trial of an expression answers its range, or the place of the
-//! node at fault counted from the expression's own first node; nodes before it are counted only on the way up from a
+//! The ranges of expressions, by the rule on bounds. The trial of an expression answers its range, or the number of
+//! the node at fault, counted from the expression's own first node; nodes before it are counted only on the way up from a
 //! fault. So no part is visited more than twice, but for the body of an accumulator, which is tried anew for each day
 //! until a day changes nothing.
 
@@ -23,14 +23,14 @@ use crate::ranges::{
 };
 use term_core::{Decls, Expr, Kind, Scope, behind, behind_node, nodes_in};
 
-/// The range of an expression whose sorts and scales are right, among names of these ranges, or the place of its first node
+/// The range of an expression whose sorts and scales are right, among names of these ranges, or the number of its first node
 /// that breaks the rule on bounds, counted from the expression's own first node.
 #[cycle(ranging)]
 pub fn range_of(decls: &Decls, e: &Expr, scope: &Scope<Range>) -> Result<Range, u32>
     requires nodes { nodes (expression e.now) < 2 ^ 32 }
     requires scaled { IsScaledAmong decls.now e.now scope.now }
     ensures range { range_found result ≡ range_among decls.now e.now scope.now }
-    ensures below { IfErr result (λ place. place < nodes (expression e.now)) }
+    ensures below { IfErr result (λ node. node < nodes (expression e.now)) }
     ensures fit { IfOk result (λ r. IsFit (range r)) }
 {
     match e {
@@ -103,7 +103,7 @@ fn ranges_of(
     requires right { IsScaledAmong decls.now right.now scope.now }
     ensures ranges { operands_found result ≡ operands (nodes (expression left.now))
         (range_among decls.now left.now scope.now) (range_among decls.now right.now scope.now) }
-    ensures below { IfErr result (λ place. place < nodes (expression left.now) + nodes (expression right.now) + 1) }
+    ensures below { IfErr result (λ node. node < nodes (expression left.now) + nodes (expression right.now) + 1) }
     ensures left { IfOk result (λ p. IsFit (range p.left)) }
     ensures right { IfOk result (λ p. IsFit (range p.right)) }
 {
@@ -130,13 +130,13 @@ fn ranges_after(
     ensures ranges { operands_found result ≡ moved (nodes (expression before.now)) (operands (nodes (expression left.now))
         (range_among decls.now left.now scope.now) (range_among decls.now right.now scope.now)) }
     ensures below { IfErr result
-        (λ place. place < nodes (expression before.now) + nodes (expression left.now) + nodes (expression right.now) + 1) }
+        (λ node. node < nodes (expression before.now) + nodes (expression left.now) + nodes (expression right.now) + 1) }
     ensures left { IfOk result (λ p. IsFit (range p.left)) }
     ensures right { IfOk result (λ p. IsFit (range p.right)) }
 {
     match ranges_of(decls, left, right, scope) {
         Ok(both) => Ok(both),
-        Err(place) => Err(nodes_in(before) + place),
+        Err(node) => Err(nodes_in(before) + node),
     }
 }
 
@@ -154,7 +154,7 @@ fn range_of_acc(
         (range_kinds (ranges_in scope.now)) }
     ensures range { range_found result ≡ range_tried (declarations decls.now) (Acc (expression body.now) days (expression first.now))
         (ranges_in scope.now) }
-    ensures below { IfErr result (λ place. place < nodes (expression body.now) + nodes (expression first.now) + 1) }
+    ensures below { IfErr result (λ node. node < nodes (expression body.now) + nodes (expression first.now) + 1) }
     ensures fit { IfOk result (λ r. IsFit (range r)) }
 {
     let start = behind(body, range_of(decls, first, scope))?;
@@ -176,7 +176,7 @@ fn accumulated(
     requires start { IsFit (range start) }
     ensures range { range_found result ≡ days_tried days
         (day_tried (λ g. range_tried (declarations decls.now) (expression body.now) g) (ranges_in scope.now)) (range start) }
-    ensures below { IfErr result (λ place. place < nodes (expression body.now) + 1) }
+    ensures below { IfErr result (λ node. node < nodes (expression body.now) + 1) }
     ensures fit { IfOk result (λ r. IsFit (range r)) }
 {
     let mut so_far = start;
@@ -203,7 +203,7 @@ fn range_of_day(
     requires so_far { IsFit (range so_far) }
     ensures range { range_found result ≡ day_tried (λ g. range_tried (declarations decls.now) (expression body.now) g)
         (ranges_in scope.now) (range so_far) }
-    ensures below { IfErr result (λ place. place < nodes (expression body.now) + 1) }
+    ensures below { IfErr result (λ node. node < nodes (expression body.now) + 1) }
     ensures fit { IfOk result (λ r. IsFit (range r)) }
     ensures kind { IfOk result (λ r. r.kind ≡ so_far.kind) }
 {

@@ -34,7 +34,7 @@ pub fn range_at(scope: &Scope<Range>, back: u32) -> Range
 /// The range of what is observed, by its declared bounds.
 pub fn range_observed(decls: &Decls, label: u32) -> Result<Range, u32>
     ensures range { range_found result ≡ observed (label_of (declarations decls.now) label) }
-    ensures here { IfErr result (λ place. place ≡ 0) }
+    ensures here { IfErr result (λ node. node ≡ 0) }
     ensures fit { IfOk result (λ r. IsFit (range r)) }
 {
     match decls.label(label) {

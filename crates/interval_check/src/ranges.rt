@@ -54,7 +54,7 @@ pub fn is_same(a: Range, b: Range) -> bool
 pub fn checked(i: Interval, kind: Kind) -> Result<Range, u32>
     requires { scale_of_kind kind ≤ 27 }
     ensures range { range_found result ≡ tried.ranged (fitting (interval i)) kind }
-    ensures here { IfErr result (λ place. place ≡ 0) }
+    ensures here { IfErr result (λ node. node ≡ 0) }
     ensures fit { IfOk result (λ r. IsFit (range r)) }
 {
     if fits_in(i) {
@@ -68,7 +68,7 @@ pub fn checked(i: Interval, kind: Kind) -> Result<Range, u32>
 pub fn negated(of: Range) -> Result<Range, u32>
     requires { IsFit (range of) }
     ensures range { range_found result ≡ tried.negated (range of) }
-    ensures here { IfErr result (λ place. place ≡ 0) }
+    ensures here { IfErr result (λ node. node ≡ 0) }
     ensures fit { IfOk result (λ r. IsFit (range r)) }
 {
     let scale = of.kind.scale();
@@ -79,7 +79,7 @@ pub fn negated(of: Range) -> Result<Range, u32>
 pub fn widened(kind: Kind, of: Range) -> Result<Range, u32>
     requires { scale_of_kind kind ≤ 27 }
     ensures range { range_found result ≡ tried.widened kind (range of) }
-    ensures here { IfErr result (λ place. place ≡ 0) }
+    ensures here { IfErr result (λ node. node ≡ 0) }
     ensures fit { IfOk result (λ r. IsFit (range r)) }
     ensures kind { IfOk result (λ r. r.kind ≡ kind) }
 {
@@ -95,7 +95,7 @@ pub fn rounded(mode: Mode, scale: u8, of: Range) -> Result<Range, u32>
     requires fit { IsFit (range of) }
     requires scale { scale ≤ 27 }
     ensures range { range_found result ≡ tried.rounded mode scale (range of) }
-    ensures here { IfErr result (λ place. place ≡ 0) }
+    ensures here { IfErr result (λ node. node ≡ 0) }
     ensures fit { IfOk result (λ r. IsFit (range r)) }
 {
     let from = of.kind.scale();
@@ -120,7 +120,7 @@ fn shared_with(other: Range, of: Range) -> Option<Interval>
 // The intervals of two numbers at the greater of their scales.
 fn align_both(left: Range, right: Range) -> Result<Shared, u32>
     ensures shared { shared_found result ≡ tried.aligned_both (range left) (range right) }
-    ensures here { IfErr result (λ place. place ≡ 0) }
+    ensures here { IfErr result (λ node. node ≡ 0) }
     ensures left { IfOk result (λ p. IsSmall (interval p.left)) }
     ensures right { IfOk result (λ p. IsSmall (interval p.right)) }
 {
@@ -134,7 +134,7 @@ fn align_both(left: Range, right: Range) -> Result<Shared, u32>
 fn multiplied(left: Range, right: Range) -> Result<Range, u32>
     requires { tried.scale_in (range left) + tried.scale_in (range right) ≤ 27 }
     ensures range { range_found result ≡ tried.combined NumOp.Times (range left) (range right) }
-    ensures here { IfErr result (λ place. place ≡ 0) }
+    ensures here { IfErr result (λ node. node ≡ 0) }
     ensures fit { IfOk result (λ r. IsFit (range r)) }
 {
     let scale = left.kind.scale() + right.kind.scale();
@@ -153,7 +153,7 @@ pub fn combined(op: NumOp, left: Range, right: Range) -> Result<Range, u32>
     requires right { IsFit (range right) }
     requires scale { scale_of_op op (tried.scale_in (range left)) (tried.scale_in (range right)) ≤ 27 }
     ensures range { range_found result ≡ tried.combined op (range left) (range right) }
-    ensures here { IfErr result (λ place. place ≡ 0) }
+    ensures here { IfErr result (λ node. node ≡ 0) }
     ensures fit { IfOk result (λ r. IsFit (range r)) }
 {
     let kind = Kind::Number {
@@ -183,7 +183,7 @@ pub fn combined(op: NumOp, left: Range, right: Range) -> Result<Range, u32>
 /// The range of a comparison, whose operands have to be mantissas at their shared scale.
 pub fn compared(left: Range, right: Range) -> Result<Range, u32>
     ensures range { range_found result ≡ tried.compared (range left) (range right) }
-    ensures here { IfErr result (λ place. place ≡ 0) }
+    ensures here { IfErr result (λ node. node ≡ 0) }
     ensures fit { IfOk result (λ r. IsFit (range r)) }
 {
     align_both(left, right)?;
@@ -195,7 +195,7 @@ pub fn either(yes: Range, no: Range) -> Result<Range, u32>
     requires yes { IsFit (range yes) }
     requires no { IsFit (range no) }
     ensures range { range_found result ≡ tried.either (range yes) (range no) }
-    ensures here { IfErr result (λ place. place ≡ 0) }
+    ensures here { IfErr result (λ node. node ≡ 0) }
     ensures fit { IfOk result (λ r. IsFit (range r)) }
 {
     let both = align_both(yes, no)?;

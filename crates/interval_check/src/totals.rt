@@ -56,7 +56,7 @@ pub fn checked_total(decimals: u8, amount: u128, scale: u8) -> Result<Total, u32
     requires decimals { decimals ≤ 12 }
     requires scale { scale ≤ decimals }
     ensures total { total_found result ≡ tried.total_here decimals (record { amount = amount; scale = scale }) }
-    ensures here { IfErr result (λ place. place ≡ 0) }
+    ensures here { IfErr result (λ node. node ≡ 0) }
     ensures fits { IfOk result (λ t. IsTotal decimals t) }
 {
     let of = Total { amount, scale };
@@ -73,7 +73,7 @@ pub fn total_of_both(decimals: u8, left: Total, right: Total) -> Result<Total, u
     requires left { IsTotal decimals left }
     requires right { IsTotal decimals right }
     ensures total { total_found result ≡ tried.total_here decimals (tried.of_both (total left) (total right)) }
-    ensures here { IfErr result (λ place. place ≡ 0) }
+    ensures here { IfErr result (λ node. node ≡ 0) }
     ensures fits { IfOk result (λ t. IsTotal decimals t) }
 {
     let scale = left.scale.max(right.scale);
@@ -90,7 +90,7 @@ pub fn total_of_either(decimals: u8, hit: Total, miss: Total) -> Result<Total, u
     requires hit { IsTotal decimals hit }
     requires miss { IsTotal decimals miss }
     ensures total { total_found result ≡ tried.total_here decimals (tried.of_either (total hit) (total miss)) }
-    ensures here { IfErr result (λ place. place ≡ 0) }
+    ensures here { IfErr result (λ node. node ≡ 0) }
     ensures fits { IfOk result (λ t. IsTotal decimals t) }
 {
     let scale = hit.scale.max(miss.scale);
@@ -113,7 +113,7 @@ pub fn total_of_scaled(decimals: u8, factor: Range, body: Total) -> Result<Total
     requires decimals { decimals ≤ 12 }
     requires scale { scale_in (range factor) + body.scale ≤ decimals }
     ensures total { total_found result ≡ tried.total_here decimals (tried.of_scaled (range factor) (total body)) }
-    ensures here { IfErr result (λ place. place ≡ 0) }
+    ensures here { IfErr result (λ node. node ≡ 0) }
     ensures fits { IfOk result (λ t. IsTotal decimals t) }
 {
     let scale = factor.kind.scale() + body.scale;

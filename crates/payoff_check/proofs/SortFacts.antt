@@ -10,8 +10,8 @@ use Rattle.term_core.specs.Sizes.{nodes}
 use Rattle.term_core.specs.Sorts.{is_number, is_truth}
 use Rattle.term_core.specs.Sites.{Layer, Site, Once, sites_of, kinds_round}
 use Rattle.term_core.specs.Trying.{then_do, moved}
-use Rattle.time_types.specs.declared.sort_kinds.Sort.{Sort}
-use Rattle.time_types.specs.declared.sort_kinds.Sort.TheVariants.{Truth, Number}
+use Rattle.time_types.specs.declared.observed_sorts.Sort.{Sort}
+use Rattle.time_types.specs.declared.observed_sorts.Sort.TheVariants.{Truth, Number}
 use Rattle.time_types.specs.SortKinds.{sort_of_kind, sort_of}
 use Rattle.time_types.specs.SortTrials.{sort_tried}
 use Rattle.time_types.specs.SortTrials as expressions

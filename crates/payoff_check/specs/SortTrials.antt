@@ -5,8 +5,8 @@ use Rattle.term_core.specs.Declarations.{Declarations}
 use Rattle.term_core.specs.Terms.{Expression}
 use Rattle.term_core.specs.Sizes.{nodes}
 use Rattle.term_core.specs.Trying.{then_do, moved}
-use Rattle.time_types.specs.declared.sort_kinds.Sort.{Sort}
-use Rattle.time_types.specs.declared.sort_kinds.Sort.TheVariants.{Truth, Number}
+use Rattle.time_types.specs.declared.observed_sorts.Sort.{Sort}
+use Rattle.time_types.specs.declared.observed_sorts.Sort.TheVariants.{Truth, Number}
 use Rattle.time_types.specs.SortTrials.{sort_tried}
 use Rattle.payoff_lang.specs.Dating.{plain}
 use Rattle.payoff_lang.specs.Code.{PayoffCode}

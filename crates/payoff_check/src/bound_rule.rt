@@ -49,7 +49,7 @@ fn range_of_plain(decls: &Decls, e: &Expr, scope: &Scope<Range>, node: u32) -> R
             range,
             nodes: nodes_in(e),
         }),
-        Err(place) => Err(Fault::At { node: node + place }),
+        Err(part) => Err(Fault::At { node: node + part }),
     }
 }
 

@@ -37,7 +37,7 @@ impl ValueSize {
     pub fn dated(in_range: bool) -> Result<ValueSize, u32>
         ensures size { result ≡ dated in_range }
         ensures limits { IfOk result IsLimited }
-        ensures here { IfErr result (λ place. place ≡ 0) }
+        ensures here { IfErr result (λ node. node ≡ 0) }
     {
         if in_range {
             Ok(ValueSize::leaf())
@@ -102,7 +102,7 @@ impl ValueSize {
     pub fn limited(self, days: u32) -> Result<ValueSize, u32>
         ensures size { result ≡ limited days self }
         ensures limits { IfOk result IsLimited }
-        ensures here { IfErr result (λ place. place ≡ 0) }
+        ensures here { IfErr result (λ node. node ≡ 0) }
     {
         if self.height <= MOST_HEIGHT
             && self.nodes <= MOST_NODES

@@ -41,7 +41,7 @@ fn scale_of_plain(decls: &Decls, e: &Expr, scope: &Scope<u8>, node: u32) -> Resu
             scale,
             nodes: nodes_in(e),
         }),
-        Err(place) => Err(Fault::At { node: node + place }),
+        Err(part) => Err(Fault::At { node: node + part }),
     }
 }
 

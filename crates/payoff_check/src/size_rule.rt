@@ -29,7 +29,7 @@ fn size_at(setting: &[u32], v: &Vx, node: u32) -> Result<ValueSize, u32>
 {
     match size_of_value(setting, v) {
         Ok(size) => Ok(size),
-        Err(place) => Err(node + place),
+        Err(part) => Err(node + part),
     }
 }
 

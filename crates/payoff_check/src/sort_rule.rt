@@ -19,7 +19,7 @@ use decimal::NoMemory;
 use payoff_lang::{Code, Vx};
 use std::alloc::Global;
 use term_core::{CheckErr, Decls, Expr, Rule, Scope, Setting, nodes_in};
-use time_types::sort_kinds::Sort;
+use time_types::observed_sorts::Sort;
 use time_types::sort_rule::sort_of_expr;
 
 /// The sort of a value expression, and its nodes.
@@ -40,7 +40,7 @@ fn sort_of_plain(decls: &Decls, e: &Expr, scope: &Scope<Sort>, node: u32) -> Res
             sort,
             nodes: nodes_in(e),
         }),
-        Err(place) => Err(Fault::At { node: node + place }),
+        Err(part) => Err(Fault::At { node: node + part }),
     }
 }
 

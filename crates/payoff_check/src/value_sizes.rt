@@ -35,7 +35,7 @@ pub fn nodes_in_value(v: &Vx) -> u32
     }
 }
 
-/// The size of a value expression at a setting, or the place of its first node that breaks the rule on sizes, counted from
+/// The size of a value expression at a setting, or the number of its first node that breaks the rule on sizes, counted from
 /// its own first node.
 #[cycle(sizing)]
 pub fn size_of_value(setting: &[u32], e: &Vx) -> Result<ValueSize, u32>
@@ -122,12 +122,12 @@ fn size_over_days(setting: &[u32], body: &Vx, days: u32, first: &Vx) -> Result<V
 // The answer of the part that follows a value expression.
 fn behind_value(before: &Vx, answer: Result<ValueSize, u32>) -> Result<ValueSize, u32>
     requires small { nodes (plain_value before.now) < 2 ^ 32 }
-    requires room { IfErr answer (λ place. 1 + nodes (plain_value before.now) + place < 2 ^ 32) }
+    requires room { IfErr answer (λ node. 1 + nodes (plain_value before.now) + node < 2 ^ 32) }
     ensures { result ≡ moved (1 + nodes (plain_value before.now)) answer }
 {
     match answer {
         Ok(size) => Ok(size),
-        Err(place) => Err(1 + nodes_in_value(before) + place),
+        Err(node) => Err(1 + nodes_in_value(before) + node),
     }
 }
 
@@ -138,11 +138,11 @@ fn behind_two_values(
     answer: Result<ValueSize, u32>,
 ) -> Result<ValueSize, u32>
     requires small { nodes (plain_value first.now) + nodes (plain_value second.now) < 2 ^ 32 }
-    requires room { IfErr answer (λ place. nodes (plain_value first.now) + (1 + nodes (plain_value second.now) + place) < 2 ^ 32) }
+    requires room { IfErr answer (λ node. nodes (plain_value first.now) + (1 + nodes (plain_value second.now) + node) < 2 ^ 32) }
     ensures { result ≡ moved (nodes (plain_value first.now)) (moved (1 + nodes (plain_value second.now)) answer) }
 {
     match answer {
         Ok(size) => Ok(size),
-        Err(place) => Err(nodes_in_value(first) + (1 + nodes_in_value(second) + place)),
+        Err(node) => Err(nodes_in_value(first) + (1 + nodes_in_value(second) + node)),
     }
 }

@@ -69,6 +69,7 @@ abbrev pub OnFactor : ValueOrMissing → (ℤ → Type 0) → Type 0
 OnFactor (Ok v) P = P (num v)
 OnFactor (Err m) P = Unit {0}
 
+-- what is found, if anything, is small
 abbrev pub IsSmallWorth : WorthOrMissing → Type 0
 IsSmallWorth found = OnWorth found (λ w. IsSmall w.amount)
 

@@ -1,4 +1,4 @@
--- The code of a text names only what is declared or bound round it, and at most 400 terms are open at one place.
+-- The code of a text names only what is declared or bound round it, and at most 400 terms are open at once.
 use Rattle.std.proofs.Common.{ℕ, suc, ◌+◌, ◌<◌, ◌≤◌, List, [], ◌∷◌, length, add-one, arith, sym, subst}
 use Rattle.std.proofs.lemmas.List.{length-map}
 use Rattle.term_core.specs.Declarations.{Declarations}

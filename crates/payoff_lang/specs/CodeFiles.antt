@@ -16,7 +16,7 @@ use Rattle.payoff_lang.specs.CodeSpelling.{code_part}
 use Rattle.payoff_lang.specs.CodeTexts.{code_scope}
 use Rattle.payoff_lang.specs.PrintableCode.{IsPrintableCode}
 
--- the depth of code is 1, and at most 400 terms are open at one place
+-- the depth of code is 1, and at most 400 terms are open at once
 abbrev pub shallow_code : PayoffCode → Part
 shallow_code k ts rest = (ts ≡ rest) × (height_of_code k ≤ 400)
 

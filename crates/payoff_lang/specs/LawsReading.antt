@@ -35,7 +35,7 @@ abbrev pub OneCodeReading : Type 0
 OneCodeReading = (bytes : List ℕ) (b b' : CodeBook) → CodeText bytes b → CodeText bytes b' → b ≡ b'
 
 -- the code names only what is declared or bound round it, its dates have their templates in order, and at most 400 terms
--- are open at one place
+-- are open at once
 abbrev pub CodeOfTextIsClosed : Type 0
 CodeOfTextIsClosed =
     (bytes : List ℕ) (b : CodeBook) → CodeText bytes b → IsClosedCode b.declarations b.code × (height_of_code b.code ≤ 400)

@@ -1,5 +1,5 @@
 -- What a text can stand for: closed code whose numbers are within the limits of texts and of which at most 400 terms are
--- open at one place. A date has a number of at most 2,000,000 days either way, a literal a mantissa of at most 10^37 in
+-- open at once. A date has a number of at most 2,000,000 days either way, a literal a mantissa of at most 10^37 in
 -- size, a scale is at most 27, and an accumulator runs over at most 100,000 days.
 use Rattle.std.specs.Prelude.{◌≤◌, ◌^◌, unsigned_abs}
 use Rattle.term_core.specs.Declarations.{Declarations}

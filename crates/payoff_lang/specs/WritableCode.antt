@@ -33,7 +33,7 @@ IsWritableUnder n (LetBe v k) = IsWritableValue n v × IsWritableUnder (suc n) k
 IsWritableUnder n (Loop v x k l) = IsWritableValue n v × HasNumberOfTexts x × IsWritableUnder n k × IsWritableUnder n l
 IsWritableUnder n (Cut x k) = HasNumberOfTexts x × IsWritableUnder n k
 
--- code of which at most 400 terms are open at one place
+-- code of which at most 400 terms are open at once
 pub record IsWritableCode (k : PayoffCode) : Type 0 where
   pub writable : IsWritableUnder 0 k
   pub shallow : height_of_code k ≤ 400

@@ -81,7 +81,7 @@ pub fn one_code_reading()
     ensures { OneCodeReading }
 {}
 
-/// The code of a text names only what is declared or bound round it, and at most 400 terms are open at one place.
+/// The code of a text names only what is declared or bound round it, and at most 400 terms are open at once.
 pub fn code_of_text_is_closed()
     ensures { CodeOfTextIsClosed }
 {}

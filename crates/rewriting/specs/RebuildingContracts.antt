@@ -80,7 +80,7 @@ IfTermAndBodyAreLess e one body two P = IsLess one (expression e.value) → IsLe
 abbrev pub IfTestAndBranchesAreLess : Rc Expr Global → Option Expr → SharedPart → NewPart → SharedPart → NewPart → Type 0 → Type 0
 IfTestAndBranchesAreLess test one hit two miss three P = IsLess one (expression test.value) → IfBothAreLessIn hit two miss three P
 
--- a claim, where the offsets that parts store, and what took their places, are within the limit
+-- a claim, where the offsets that parts, and what took their places, store are within the limit
 abbrev pub IfBothStore : SharedPart → NewPart → SharedPart → NewPart → Type 0 → Type 0
 IfBothStore left one right two P = StoresOffsets left.value → StoresOffsets right.value → StoresNew one → StoresNew two → P
 

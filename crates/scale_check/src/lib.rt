@@ -14,7 +14,7 @@
 
 mod part_sizes;
 pub mod scale_rule;
-pub mod scale_scopes;
+mod scale_scopes;
 mod size_rule;
 
 pub use scale_rule::scales;

@@ -189,7 +189,7 @@ impl Size {
         requires { self.past < 2 ^ 63 }
         ensures size { result ≡ limited days self }
         ensures limits { IfOk result IsLimited }
-        ensures here { IfErr result (λ place. place ≡ 0) }
+        ensures here { IfErr result (λ node. node ≡ 0) }
     {
         if self.is_within(days) {
             Ok(self)

@@ -1,6 +1,6 @@
 //! The rule on scales: every scale is at most 27, `widen` goes to no lower scale, an accumulator's body has at most the
 //! scale of its start, and every contract has at most the decimals of the portfolio's amounts. The trial of a part
-//! answers its scale, or the place of the node at fault counted from the part's own first node; nodes before it are
+//! answers its scale, or the number of the node at fault, counted from the part's own first node; nodes before it are
 //! counted only on the way up from a fault, so that no part is visited more than twice. Where sorts are right a truth
 //! value has scale 0, so that scales alone decide, and no sum of two leaves its integer, since parts come before wholes.
 
@@ -31,7 +31,7 @@ const GREATEST: u8 = 27;
 fn keep(greatest: u8, scale: u8) -> Result<u8, u32>
     ensures scale { result ≡ at_most greatest scale }
     ensures within { IfOk result (λ kept. kept ≤ greatest) }
-    ensures here { IfErr result (λ place. place ≡ 0) }
+    ensures here { IfErr result (λ node. node ≡ 0) }
 {
     if scale <= greatest { Ok(scale) } else { Err(0) }
 }
@@ -40,7 +40,7 @@ fn keep(greatest: u8, scale: u8) -> Result<u8, u32>
 fn take(part: u8, whole: u8) -> Result<u8, u32>
     ensures scale { result ≡ not_above part whole }
     ensures within { IfOk result (λ kept. kept ≤ 27) }
-    ensures here { IfErr result (λ place. place ≡ 0) }
+    ensures here { IfErr result (λ node. node ≡ 0) }
 {
     if part <= whole {
         keep(GREATEST, whole)
@@ -64,14 +64,14 @@ fn scale_of_answer(op: NumOp, left: u8, right: u8) -> u8
     }
 }
 
-/// The scale of an expression whose sorts are right, among names of these scales, or the place of its first node that
+/// The scale of an expression whose sorts are right, among names of these scales, or the number of its first node that
 /// breaks the rule on scales, counted from the expression's own first node.
 #[cycle(scaling)]
 pub fn scale_of_expr(decls: &Decls, e: &Expr, scope: &Scope<u8>) -> Result<u8, u32>
     requires { nodes (expression e.now) < 2 ^ 32 }
     ensures scale { result ≡ scale_tried (declarations decls.now) (expression e.now) (held_in scope.now) }
     ensures within { IfOk result (λ scale. scale ≤ 27) }
-    ensures below { IfErr result (λ place. place < nodes (expression e.now)) }
+    ensures below { IfErr result (λ node. node < nodes (expression e.now)) }
 {
     match e {
         Expr::Lit { scale, .. } => keep(GREATEST, *scale),
@@ -120,7 +120,7 @@ fn try_two(
         (scale_tried (declarations decls.now) (expression left.now) (held_in scope.now))
         (scale_tried (declarations decls.now) (expression right.now) (held_in scope.now)) }
     ensures within { IfOk result (λ scale. scale ≤ 27) }
-    ensures below { IfErr result (λ place. place < nodes (expression left.now) + nodes (expression right.now) + 1) }
+    ensures below { IfErr result (λ node. node < nodes (expression left.now) + nodes (expression right.now) + 1) }
 {
     behind_node(scale_of_expr(decls, left, scope))?;
     behind(left, scale_of_expr(decls, right, scope))?;
@@ -143,7 +143,7 @@ fn scale_of_choice(
         (scale_tried (declarations decls.now) (expression no.now) (held_in scope.now)) }
     ensures within { IfOk result (λ scale. scale ≤ 27) }
     ensures below { IfErr result
-        (λ place. place < nodes (expression test.now) + nodes (expression yes.now) + nodes (expression no.now) + 1) }
+        (λ node. node < nodes (expression test.now) + nodes (expression yes.now) + nodes (expression no.now) + 1) }
 {
     behind_node(scale_of_expr(decls, test, scope))?;
     let yes_scale = behind(test, scale_of_expr(decls, yes, scope))?;
@@ -159,7 +159,7 @@ fn scale_of_run(decls: &Decls, body: &Expr, first: &Expr, scope: &Scope<u8>) -> 
         (scale_tried (declarations decls.now) (expression first.now) (held_in scope.now))
         (λ s. scale_tried (declarations decls.now) (expression body.now) (s ∷ held_in scope.now)) }
     ensures within { IfOk result (λ scale. scale ≤ 27) }
-    ensures below { IfErr result (λ place. place < nodes (expression body.now) + nodes (expression first.now) + 1) }
+    ensures below { IfErr result (λ node. node < nodes (expression body.now) + nodes (expression first.now) + 1) }
 {
     let scale = behind(body, scale_of_expr(decls, first, scope))?;
     let inner = Scope::Bound {
@@ -175,7 +175,7 @@ fn try_scale(decls: &Decls, c: &Contr, scope: &Scope<u8>) -> Result<u8, u32>
     requires { nodes_of_contract (contract c.now) < 2 ^ 32 }
     ensures scale { result ≡ contract_tried (declarations decls.now) (contract c.now) (held_in scope.now) }
     ensures within { IfOk result (λ scale. scale ≤ decls.now.amounts) }
-    ensures below { IfErr result (λ place. place < nodes_of_contract (contract c.now)) }
+    ensures below { IfErr result (λ node. node < nodes_of_contract (contract c.now)) }
 {
     match c {
         Contr::Zero => Ok(0),

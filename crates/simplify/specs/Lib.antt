@@ -5,7 +5,6 @@ pub mod LawsTurnsAccepted
 pub mod LawsRulesStand
 pub mod LawsTurnShifts
 pub mod LawsTurnsStand
-pub mod ScopeKinds
 pub mod Folding
 pub mod Turnable
 pub mod TurnAnswers

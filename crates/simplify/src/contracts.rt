@@ -13,21 +13,21 @@ ghost use Rattle.rewriting.specs.Rebuilding.{after};
 ghost use Rattle.rewriting.specs.RebuildingContracts.{after_in, part_after, both_over, both_after, scale_over, scale_after, after_over, let_over, let_after, within_over, within_after};
 ghost use Rattle.rewriting.specs.RebuildingContracts.{IfBothAreLessIn, IfBothStore, IfTermAndBodyAreLess, IfTermAndBodyStore, IfTestAndBranchesAreLess, IfTestAndBranchesStore, IsLessIn, StoresNew};
 ghost use Rattle.rewriting.specs.Substituting.{substituted_in};
-ghost use Rattle.simplify.specs.ScopeKinds.{kinds_in};
+ghost use Rattle.term_core.specs.Scopes.{held_in};
 ghost use Rattle.simplify.specs.TurningContracts as model;
 ghost use Rattle.simplify.specs.TurningContracts.{rule_in};
 ghost use Rattle.simplify.specs.TurnAnswers.{IsTurnOfContract};
 ghost use Rattle.simplify.specs.TurnableContracts.{joined, joined_days, DecidesTest, CanTurnIn};
 
-use crate::names::Names;
 use crate::turns::{truth_after, turn};
 use decimal::NoMemory;
 use rewriting::{both_of, kept, kept_part, let_of, scale_of, substituted_in, uses_in, within_of};
 use std::alloc::Global;
 use std::rc::Rc;
-use term_core::{Decls, Expr, SharedContr};
+use term_core::{Decls, Expr, Kind, Scope, SharedContr};
 
-fn is_nothing(s: &SharedContr) -> bool
+/// Whether a contract is the one that transfers nothing, as it stands.
+pub fn is_nothing(s: &SharedContr) -> bool
     ensures { result ≡ model.is_nothing (shared s.now) }
 {
     matches!(s, SharedContr::Zero)
@@ -296,10 +296,10 @@ pub fn turn_in(
     alloc: Global,
     decls: &Decls,
     s: &SharedContr,
-    names: &Names,
+    names: &Scope<Kind>,
 ) -> Result<Option<Rc<SharedContr>>, NoMemory>
-    requires { CanTurnIn (declarations decls.now) s.now (kinds_in names.now) }
-    ensures same { IfOk result (λ r. IsTurnOfContract (declarations decls.now) (kinds_in names.now) s.now r) }
+    requires { CanTurnIn (declarations decls.now) s.now (held_in names.now) }
+    ensures same { IfOk result (λ r. IsTurnOfContract (declarations decls.now) (held_in names.now) s.now r) }
     ensures less { IfOk result (λ r. IsLessIn r (shared s.now)) }
     ensures offsets { IfOk result (λ r. StoresOffsets s.now → StoresNew r) }
 {
@@ -325,8 +325,8 @@ pub fn turn_in(
         }
         SharedContr::Let { bound, moved, body } => {
             let one = turn(alloc, decls, bound, names)?;
-            let inner = Names::Bound {
-                kind: one.kind,
+            let inner = Scope::Bound {
+                held: one.kind,
                 outer: &*names,
             };
             let two = turn_in(alloc, decls, body, &inner)?;

@@ -6,7 +6,7 @@
 //! ```
 //!
 //! Promised: what `simplify` answers is accepted, pays the same (`PaysTheSame`), has no such redex
-//! (`HasNoPlainRedex`) and is no larger (`IsNoLarger`).
+//! (`HasNoPlainRedex`) and is no larger (`IsNoLargerIn`).
 //! Only tested: which of several such contracts it answers, and that it does where there is memory
 //! (`library_tests/src/simplifying.rt`).
 #![tactic(auto)]
@@ -18,4 +18,5 @@ mod names;
 mod simplifying;
 mod turns;
 
+pub use contracts::is_nothing;
 pub use simplifying::{simplify, simplify_shared, turn_shared};

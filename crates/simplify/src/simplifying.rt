@@ -13,11 +13,10 @@ ghost use Rattle.simplify.specs.Simplified.{PaysTheSame, ReadsNoMore, HasNoPlain
 ghost use Rattle.simplify.specs.TurnAnswers.{IsTurnOfContract};
 
 use crate::contracts::turn_in;
-use crate::names::Names;
 use decimal::NoMemory;
 use std::alloc::Global;
 use std::rc::Rc;
-use term_core::{Contr, Decls, SharedContr, share, unshare};
+use term_core::{Contr, Decls, Scope, SharedContr, share, unshare};
 
 /// One turn of the simplifier: what takes the contract's place, which is smaller, or nothing where no redex is left that asks
 /// for no frame.
@@ -32,7 +31,7 @@ pub fn turn_shared(
     ensures less { IfOk result (λ r. IsLessIn r (shared s.now.value)) }
     ensures offsets { IfOk result (λ r. StoresNew r) }
 {
-    turn_in(alloc, decls, s, &Names::Empty)
+    turn_in(alloc, decls, s, &Scope::Empty)
 }
 
 /// The contract without redexes that ask for no frame: it pays the same on every frame, reads no more and is accepted.
@@ -53,7 +52,7 @@ pub fn simplify_shared(
     ensures closed { IfOk result (λ r. StaysClosed (declarations decls.now) (shared r.value) (shared s.now.value)) }
     ensures literals { IfOk result (λ r. HasLiteralsIn (shared r.value)) }
 {
-    match turn_in(alloc, decls, s, &Names::Empty)? {
+    match turn_in(alloc, decls, s, &Scope::Empty)? {
         Some(next) => simplify_shared(alloc, decls, &next),
         None => Ok(s.clone()?),
     }

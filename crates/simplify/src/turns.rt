@@ -8,18 +8,18 @@ ghost use Rattle.interval_check.specs.RangeTrials.{kind_found};
 ghost use Rattle.interval_check.specs.Replacing.{branch_at};
 ghost use Rattle.rewriting.specs.Measures.{size};
 ghost use Rattle.rewriting.specs.Rebuilding.{after, IfAllAreLess, IfBothAreLess, IsLess};
-ghost use Rattle.simplify.specs.ScopeKinds.{kinds_in};
+ghost use Rattle.term_core.specs.Scopes.{held_in};
 ghost use Rattle.simplify.specs.Turnable.{CanTurn, truth_literal};
 ghost use Rattle.simplify.specs.TurnAnswers.{decided_after, logic_after, IsTurnOf};
 
 use crate::folding::ruled;
-use crate::names::{Names, kind_at};
+use crate::names::kind_at;
 use decimal::NoMemory;
 use expr_eval::kind_observed;
 use expr_eval::operations::{is_decided, scale_of_both};
 use rewriting::{kept, of_one, of_three, of_two};
 use std::alloc::Global;
-use term_core::{Decls, Expr, Kind, LogicOp};
+use term_core::{Decls, Expr, Kind, LogicOp, Scope};
 
 /// What an expression turns into, and nothing where it stays as it is; and its kind, which a turn keeps.
 #[derive(Drop)]
@@ -115,10 +115,10 @@ fn turn_choice(
 }
 
 /// What an expression turns into, among names of these kinds.
-pub fn turn(alloc: Global, decls: &Decls, e: &Expr, names: &Names) -> Result<Turned, NoMemory>
-    requires { CanTurn (declarations decls.now) (expression e.now) (kinds_in names.now) }
-    ensures same { IfOk result (λ r. IsTurnOf (declarations decls.now) (kinds_in names.now) e.now r.new) }
-    ensures kind { IfOk result (λ r. r.kind ≡ kind_found (declarations decls.now) (expression e.now) (kinds_in names.now)) }
+pub fn turn(alloc: Global, decls: &Decls, e: &Expr, names: &Scope<Kind>) -> Result<Turned, NoMemory>
+    requires { CanTurn (declarations decls.now) (expression e.now) (held_in names.now) }
+    ensures same { IfOk result (λ r. IsTurnOf (declarations decls.now) (held_in names.now) e.now r.new) }
+    ensures kind { IfOk result (λ r. r.kind ≡ kind_found (declarations decls.now) (expression e.now) (held_in names.now)) }
     ensures less { IfOk result (λ r. IsLess r.new (expression e.now)) }
 {
     match e {
@@ -232,8 +232,8 @@ pub fn turn(alloc: Global, decls: &Decls, e: &Expr, names: &Names) -> Result<Tur
                     new: Some(first),
                 });
             }
-            let inner = Names::Bound {
-                kind,
+            let inner = Scope::Bound {
+                held: kind,
                 outer: &*names,
             };
             let two = turn(alloc, decls, body, &inner)?;

@@ -30,7 +30,7 @@ abbrev pub IsAccumulator : Expression → Type 0
 IsAccumulator (Acc body n first) = Unit {0}
 IsAccumulator _ = ⊥
 
--- of an accumulator that is not told its start alone changes
+-- where an accumulator is not told, its start alone changes
 abbrev pub steps_left : Declarations → Environment → ℤ → Expression → Expression
 steps_left d fixings f (Acc body n first) = Acc body n (specialised d fixings (Some (f -ℤ pos n)) first)
 steps_left d fixings f e = e

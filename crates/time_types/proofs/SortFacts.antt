@@ -15,8 +15,8 @@ use Rattle.term_core.specs.Sites.{Site, Layer, Naming, Counting, Later, Earlier,
 use Rattle.term_core.specs.Sorts.{is_sorted, is_number, is_truth}
 use Rattle.term_core.specs.Acceptance.{Meets, FailsAt}
 use Rattle.term_core.proofs.Trials.{or_else, first_failing-append, first_failing-is, FaultIs}
-use Rattle.time_types.specs.declared.sort_kinds.Sort.{Sort}
-use Rattle.time_types.specs.declared.sort_kinds.Sort.TheVariants.{Truth, Number}
+use Rattle.time_types.specs.declared.observed_sorts.Sort.{Sort}
+use Rattle.time_types.specs.declared.observed_sorts.Sort.TheVariants.{Truth, Number}
 use Rattle.term_core.specs.Trying.{then_do, moved, or_here}
 use Rattle.time_types.specs.SortKinds.{sort_of_kind, sort_of}
 use Rattle.time_types.specs.SortTrials.{Answer, expected, one_tried, two_tried, sort_tried, Sorted, required, sorts_tried}

@@ -2,8 +2,8 @@
 use Rattle.std.specs.Prelude.{Option, Some, None}
 use Rattle.term_core.specs.declared.values.Kind.{Kind}
 use Rattle.term_core.specs.declared.values.Kind.TheVariants.{Truth as TruthKind, Number as NumberKind}
-use Rattle.time_types.specs.declared.sort_kinds.Sort.{Sort}
-use Rattle.time_types.specs.declared.sort_kinds.Sort.TheVariants.{Truth, Number}
+use Rattle.time_types.specs.declared.observed_sorts.Sort.{Sort}
+use Rattle.time_types.specs.declared.observed_sorts.Sort.TheVariants.{Truth, Number}
 
 abbrev pub sort_of_kind : Kind → Sort
 sort_of_kind TruthKind = Truth

@@ -8,8 +8,8 @@ use Rattle.term_core.specs.Terms.{Contract, Zero, Pay, Both, Scale, After, Let, 
 use Rattle.term_core.specs.Environments.{label_of}
 use Rattle.term_core.specs.Kinds.{kind_of_label}
 use Rattle.term_core.specs.Sizes.{nodes, nodes_of_contract}
-use Rattle.time_types.specs.declared.sort_kinds.Sort.{Sort}
-use Rattle.time_types.specs.declared.sort_kinds.Sort.TheVariants.{Truth, Number}
+use Rattle.time_types.specs.declared.observed_sorts.Sort.{Sort}
+use Rattle.time_types.specs.declared.observed_sorts.Sort.TheVariants.{Truth, Number}
 use Rattle.time_types.specs.SortKinds.{sort_of}
 use Rattle.term_core.specs.Trying.{then_do, moved, or_here}
 

@@ -13,7 +13,7 @@
 #![tactic(auto)]
 
 mod laws;
-pub mod sort_kinds;
+pub mod observed_sorts;
 pub mod sort_rule;
 mod starts;
 mod time_rule;

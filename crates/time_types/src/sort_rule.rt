@@ -1,5 +1,5 @@
 //! The rule on sorts: every expression is a number or a truth value, every factor is a number and every test is a
-//! truth value. The trial of a part answers its sort, or the place of the node at fault counted from the part's own
+//! truth value. The trial of a part answers its sort, or the number of the node at fault, counted from the part's own
 //! first node; nodes before it are counted only on the way up from a fault, so that no part is visited more than twice.
 
 ghost use Rattle.std.specs.Prelude.{◌≡◌, ◌<◌, ◌≤◌, ◌+◌, ◌^◌, IfErr};
@@ -12,7 +12,7 @@ ghost use Rattle.term_core.specs.Trying.{or_here};
 ghost use Rattle.time_types.specs.SortTrials.{expected, required, one_tried, two_tried, sort_tried, sorts_tried};
 ghost use Rattle.term_core.specs.Verdicts.{IsVerdict};
 
-use crate::sort_kinds::{Sort, sort_observed};
+use crate::observed_sorts::{Sort, sort_observed};
 use std::alloc::Global;
 use term_core::{
     CheckErr, Contr, Decls, Expr, Rule, Scope, behind, behind_both, behind_contract, behind_node,
@@ -22,7 +22,7 @@ use term_core::{
 // The answer where a sort is as wanted, else a fault here.
 fn expect(wanted: Sort, found: Sort, answer: Sort) -> Result<Sort, u32>
     ensures sort { result ≡ expected wanted found answer }
-    ensures here { IfErr result (λ place. place ≡ 0) }
+    ensures here { IfErr result (λ node. node ≡ 0) }
 {
     match (wanted, found) {
         (Sort::Truth, Sort::Truth) => Ok(answer),
@@ -35,7 +35,7 @@ fn expect(wanted: Sort, found: Sort, answer: Sort) -> Result<Sort, u32>
 // A sort that was looked for, else a fault here.
 fn found(sort: Option<Sort>) -> Result<Sort, u32>
     ensures sort { result ≡ or_here sort }
-    ensures here { IfErr result (λ place. place ≡ 0) }
+    ensures here { IfErr result (λ node. node ≡ 0) }
 {
     match sort {
         Some(sort) => Ok(sort),
@@ -43,13 +43,13 @@ fn found(sort: Option<Sort>) -> Result<Sort, u32>
     }
 }
 
-/// The sort of an expression among names of these sorts, or the place of its first node that has none, counted from the
+/// The sort of an expression among names of these sorts, or the number of its first node that has none, counted from the
 /// expression's own first node.
 #[cycle(sorting)]
 pub fn sort_of_expr(decls: &Decls, e: &Expr, scope: &Scope<Sort>) -> Result<Sort, u32>
     requires { nodes (expression e.now) < 2 ^ 32 }
     ensures sort { result ≡ sort_tried (declarations decls.now) (expression e.now) (held_in scope.now) }
-    ensures below { IfErr result (λ place. place < nodes (expression e.now)) }
+    ensures below { IfErr result (λ node. node < nodes (expression e.now)) }
 {
     match e {
         Expr::Lit { .. } => Ok(Sort::Number),
@@ -102,7 +102,7 @@ fn sort_of_one(
 ) -> Result<Sort, u32>
     requires { nodes (expression of.now) + 1 < 2 ^ 32 }
     ensures sort { result ≡ one_tried wanted answer (sort_tried (declarations decls.now) (expression of.now) (held_in scope.now)) }
-    ensures below { IfErr result (λ place. place < nodes (expression of.now) + 1) }
+    ensures below { IfErr result (λ node. node < nodes (expression of.now) + 1) }
 {
     let sort = behind_node(sort_of_expr(decls, of, scope))?;
     expect(wanted, sort, answer)
@@ -122,7 +122,7 @@ fn sort_of_two(
     ensures sort { result ≡ two_tried wanted answer (nodes (expression left.now))
         (sort_tried (declarations decls.now) (expression left.now) (held_in scope.now))
         (sort_tried (declarations decls.now) (expression right.now) (held_in scope.now)) }
-    ensures below { IfErr result (λ place. place < nodes (expression left.now) + nodes (expression right.now) + 1) }
+    ensures below { IfErr result (λ node. node < nodes (expression left.now) + nodes (expression right.now) + 1) }
 {
     let left_sort = behind_node(sort_of_expr(decls, left, scope))?;
     let right_sort = behind(left, sort_of_expr(decls, right, scope))?;
@@ -133,17 +133,17 @@ fn sort_of_two(
 // A sort that has to be one, else a fault here.
 fn require(wanted: Sort, sort: Sort) -> Result<(), u32>
     ensures sort { result ≡ required wanted sort }
-    ensures here { IfErr result (λ place. place ≡ 0) }
+    ensures here { IfErr result (λ node. node ≡ 0) }
 {
     expect(wanted, sort, sort)?;
     Ok(())
 }
 
-// The place of a contract's first node at fault, among names of these sorts.
+// The number of a contract's first node at fault, among names of these sorts.
 fn try_sorts(decls: &Decls, c: &Contr, scope: &Scope<Sort>) -> Result<(), u32>
     requires { nodes_of_contract (contract c.now) < 2 ^ 32 }
     ensures sorts { result ≡ sorts_tried (declarations decls.now) (contract c.now) (held_in scope.now) }
-    ensures below { IfErr result (λ place. place < nodes_of_contract (contract c.now)) }
+    ensures below { IfErr result (λ node. node < nodes_of_contract (contract c.now)) }
 {
     match c {
         Contr::Zero => Ok(()),

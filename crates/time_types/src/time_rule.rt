@@ -1,5 +1,5 @@
 //! The rule on times: a factor is known when its contract starts, and a test on the day on which it is first tried.
-//! The trial of a contract answers its start, or the place of the node at fault counted from the contract's own first
+//! The trial of a contract answers its start, or the number of the node at fault, counted from the contract's own first
 //! node; nodes before it are counted only on the way up from a fault, so that no part is visited more than twice.
 
 ghost use Rattle.std.specs.Prelude.{◌≡◌, ◌<◌, ◌≤◌, ◌+◌, ◌^◌, pos, ◌+ℤ◌, ◌-ℤ◌, unsigned_abs, IfErr, slice_get};
@@ -128,7 +128,7 @@ fn known_both(left: &Expr, right: &Expr, scope: &Scope<Option<i64>>, day: PartDa
 // The answer where an expression is known at a start, else a fault here.
 fn allow(known: Option<i64>, at: Start, answer: Start) -> Result<Start, u32>
     ensures start { result ≡ in_time known at answer }
-    ensures here { IfErr result (λ place. place ≡ 0) }
+    ensures here { IfErr result (λ node. node ≡ 0) }
 {
     if is_known(known, at) {
         Ok(answer)
@@ -137,12 +137,12 @@ fn allow(known: Option<i64>, at: Start, answer: Start) -> Result<Start, u32>
     }
 }
 
-// The start of a contract that stands on a day, or the place of the fault.
+// The start of a contract that stands on a day, or the number of the node at fault.
 fn try_start(c: &Contr, scope: &Scope<Option<i64>>, day: PartDay) -> Result<Start, u32>
     requires small { nodes_of_contract (contract c.now) < 2 ^ 32 }
     requires room { HasRoom (height_of_contract (contract c.now)) day.number }
     ensures start { result ≡ start_tried day.number (held_in scope.now) (contract c.now) }
-    ensures below { IfErr result (λ place. place < nodes_of_contract (contract c.now)) }
+    ensures below { IfErr result (λ node. node < nodes_of_contract (contract c.now)) }
 {
     match c {
         Contr::Zero => Ok(Start::Always),

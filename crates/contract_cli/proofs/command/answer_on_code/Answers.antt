@@ -3,7 +3,7 @@ use Rattle.report.specs.FaultLines.{fault_text}
 use Rattle.command_words.specs.Words.{value_by}
 use Rattle.contract_cli.specs.RunPromise.{Cause, FilesSeen, StopsRun, WereReadForValue, stopped, valued}
 use Rattle.contract_cli.specs.Statuses.{status_of}
-use Rattle.contract_cli.specs.FilesPromise.{ValueAnswers, StopsValueOnBytes, value_stopped}
+use Rattle.contract_cli.specs.FilesPromise.{AnswersOnCode, StopsOnCode, value_stopped}
 use Rattle.contract_cli.specs.ValueParts.{value_inputs_by}
 use Rattle.contract_cli.specs.declared.answers.Answer.{Answer}
 use Rattle.contract_cli.specs.declared.value_inputs.ValueInputs.{ValueInputs as Kept}
@@ -23,5 +23,5 @@ returns-clause-answer g c = λ words names.
     let files : FilesSeen = record { contents = g.F.Files.contents c.args.files.now; faults_before = g.F.Files.faults c.args.files.now; faults_after = g.F.Files.faults c.read_value_inputs.new.files } in
     let inputs = value_inputs_by c.in_ok-inputs.inputs in
     let read = c.in_ok-inputs.ensures.answer words asked refl names in
-    answers_too (λ (a : Answer). ValueAnswers asked inputs a.status a.text.items) (λ (a : Answer). Cause words files a.status a.text.items) (StopsValueOnBytes asked inputs) (λ f. Cause words files (status_of f) (fault_text f))
+    answers_too (λ (a : Answer). AnswersOnCode asked inputs a.status a.text.items) (λ (a : Answer). Cause words files a.status a.text.items) (StopsOnCode asked inputs) (λ f. Cause words files (status_of f) (fault_text f))
     (λ a h. valued asked names inputs read h) (λ f h. valued asked names inputs read (value_stopped f h refl refl)) c.answer_value.result c.answer_value.ensures

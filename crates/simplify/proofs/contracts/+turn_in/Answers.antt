@@ -11,7 +11,7 @@ use Rattle.term_core.specs.Values.{kind_or}
 use Rattle.interval_check.specs.RangeTrials.{kind_found}
 use Rattle.rewriting.specs.Rebuilding.{after}
 use Rattle.rewriting.specs.RebuildingContracts.{after_in, StoresNew}
-use Rattle.simplify.specs.ScopeKinds.{kinds_in}
+use Rattle.term_core.specs.Scopes.{held_in}
 use Rattle.simplify.specs.Turning.{turned}
 use Rattle.simplify.specs.TurningContracts.{turned_in}
 use Rattle.simplify.specs.TurnableContracts.{CanTurnIn}
@@ -21,7 +21,7 @@ use Rattle.simplify.proofs.contracts.+turn_in.Goals as goal
 pub returns-in_ok-two-in-Scale-clause-same : goal.returns-in_ok-two-in-Scale-clause-same
 returns-in_ok-two-in-Scale-clause-same t c =
     let d = declarations c.args.decls.now in
-    let ks = kinds_in c.args.names.now in
+    let ks = held_in c.args.names.now in
     let e = expression c.in-Scale.factor.value in
     let b = shared c.in-Scale.body.value in
     let p : after e c.in_ok-one-in-Scale.one.new ≡ turned d ks e =
@@ -34,7 +34,7 @@ returns-in_ok-two-in-Scale-clause-same t c =
 pub returns-in_ok-two-in-Let-clause-same : goal.returns-in_ok-two-in-Let-clause-same
 returns-in_ok-two-in-Let-clause-same t c =
     let d = declarations c.args.decls.now in
-    let ks = kinds_in c.args.names.now in
+    let ks = held_in c.args.names.now in
     let e = expression c.in-Let.bound.value in
     let b = shared c.in-Let.body.value in
     let k = c.in_ok-one-in-Let.one.kind in
@@ -51,7 +51,7 @@ returns-in_ok-two-in-Let-clause-same t c =
 pub returns-in_ok-two-in-Scale-clause-offsets : goal.returns-in_ok-two-in-Scale-clause-offsets
 returns-in_ok-two-in-Scale-clause-offsets t c =
     let d = declarations c.args.decls.now in
-    let ks = kinds_in c.args.names.now in
+    let ks = held_in c.args.names.now in
     let e = expression c.in-Scale.factor.value in
     let p : after e c.in_ok-one-in-Scale.one.new ≡ turned d ks e =
     subst (λ (v : Expr). after (expression v) c.in_ok-one-in-Scale.one.new ≡ turned d ks (expression v)) c.deref-in-Scale.ensures c.in_ok-one-in-Scale.ensures.same in
@@ -62,7 +62,7 @@ returns-in_ok-two-in-Scale-clause-offsets t c =
 pub returns-in_ok-two-in-Let-clause-offsets : goal.returns-in_ok-two-in-Let-clause-offsets
 returns-in_ok-two-in-Let-clause-offsets t c =
     let d = declarations c.args.decls.now in
-    let ks = kinds_in c.args.names.now in
+    let ks = held_in c.args.names.now in
     let e = expression c.in-Let.bound.value in
     let p : after e c.in_ok-one-in-Let.one.new ≡ turned d ks e =
     subst (λ (v : Expr). after (expression v) c.in_ok-one-in-Let.one.new ≡ turned d ks (expression v)) c.deref-in-Let.ensures c.in_ok-one-in-Let.ensures.same in
@@ -73,7 +73,7 @@ returns-in_ok-two-in-Let-clause-offsets t c =
 pub returns-in_ok-three-in-Within-clause-offsets : goal.returns-in_ok-three-in-Within-clause-offsets
 returns-in_ok-three-in-Within-clause-offsets t c =
     let d = declarations c.args.decls.now in
-    let ks = kinds_in c.args.names.now in
+    let ks = held_in c.args.names.now in
     let e = expression c.in-Within.test.value in
     let p : after e c.in_ok-one-in-Within.one.new ≡ turned d ks e =
     subst (λ (v : Expr). after (expression v) c.in_ok-one-in-Within.one.new ≡ turned d ks (expression v)) c.deref-in-Within.ensures c.in_ok-one-in-Within.ensures.same in
