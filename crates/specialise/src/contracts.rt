@@ -50,7 +50,8 @@ fn stored_at(
     ensures tree { IfOk result (λ new. TakesItsPlaceLater (declarations decls.now) fixings.now day moved e.now new) }
     ensures stores { IfOk result (λ new. HasOffsets (after (expression e.now.value) new)) }
 {
-    specialise_at(alloc, decls, e, fixings, day_moved(day, moved))
+    let new = specialise_at(alloc, decls, e, fixings, day_moved(day, moved))?;
+    Ok(new)
 }
 
 /// What takes the place of a contract on a day, with what the fixings tell; none where nothing changes. Tests and the
