@@ -13,7 +13,7 @@ use Rattle.std.specs.List.{position_or_len}
 use Rattle.std.specs.Char.{digit_value}
 use Rattle.std.specs.Str.Parse.{IsNumeral, AllDigits, digits_value, digits_value_after}
 use Rattle.decimal.specs.DecimalText.{minus_sign, after_point, signed, IsDecimalText, Reads}
-use Rattle.decimal.specs.Reading.{is_digit, all_digits, is_number, number_after, is_negative, after_sign, parts_of, at_point, unsigned_read, read_of}
+use Rattle.decimal.specs.Reading.{is_digit, all_digits, is_number, number_after, up_to, number_up_to, is_negative, after_sign, parts_of, at_point, unsigned_read, read_of}
 use Rattle.decimal.specs.declared.reading.Decimal.{Decimal}
 use Rattle.decimal.specs.declared.reading.DecFault.{DecFault}
 use Rattle.decimal.specs.declared.reading.DecFault.TheVariants.{NotDecimal, TooWide}
@@ -58,6 +58,9 @@ number_after_is : (n : ℕ) (ds : List ℕ) → AllDigits 10 ds → number_after
 number_after_is n [] h = refl
 number_after_is n (d ∷ ds) h =
     ap (λ (x : ℕ). number_after (n * 10 + x) ds) (sym (value_of_digit d h.0)) ∙ number_after_is (n * 10 + digit_value d) ds h.1
+
+pub number_up_to_is : (most : ℕ) (text : List ℕ) → is_number text ≡ true → number_up_to most text ≡ up_to most (number_after 0 text)
+number_up_to_is most text h = rw (h, number_after_is 0 text (numeral_from_test text h).1) refl
 
 pub value_after_append : (n : ℕ) (xs ys : List ℕ) → digits_value_after 10 n (xs ++ ys) ≡ digits_value_after 10 (digits_value_after 10 n xs) ys
 value_after_append n [] ys = refl
