@@ -1,4 +1,3 @@
-pub mod DayFacts
 pub mod ValueFacts
 pub mod RunFacts
 pub mod FoldFacts

@@ -1,21 +1,16 @@
 -- The day that a text names: a number of days after the origin, as an optional minus and one to nine digits, or a civil
 -- date `dddd-dd-dd`, whose day is its distance from the origin.
-use Rattle.std.specs.Prelude.{ℕ, ℤ, pos, neg_ℤ, ◌-ℤ◌, ◌==◌, ◌&&◌, nat_le, List, [], ◌∷◌, length, Option, Some, None, option_map, Result, Ok, Err, if◌then◌else◌}
-use Rattle.std.specs.List.{list_all}
-use Rattle.std.specs.Str.Parse.{digits_value}
-use Rattle.term_core.specs.Dates.{is_digit, epoch_day_of}
+use Rattle.std.specs.Prelude.{ℕ, ℤ, pos, neg_ℤ, ◌-ℤ◌, ◌==◌, nat_le, List, [], ◌∷◌, length, Option, Some, None, option_map, Result, Ok, Err, if◌then◌else◌}
+use Rattle.decimal.specs.Reading.{digits_of}
+use Rattle.term_core.specs.Dates.{epoch_day_of}
 use Rattle.fixing_files.specs.declared.days.DayFault.{DayFault}
 use Rattle.fixing_files.specs.declared.days.DayFault.TheVariants.{NotDay, NoOrigin}
 use Rattle.fixing_files.specs.declared.days.NamedDay.{NamedDay}
 use Rattle.fixing_files.specs.declared.days.NamedDay.TheVariants.{Number, Date}
 
--- the number that digits write
-abbrev pub digits_of : List ℕ → Option ℕ
-digits_of text = if list_all is_digit text then Some (digits_value 10 text) else None
-
--- of one to nine digits
+-- the number of one to nine digits
 abbrev pub count_of : List ℕ → Option ℕ
-count_of text = if nat_le 1 (length text) && nat_le (length text) 9 then digits_of text else None
+count_of text = if nat_le (length text) 9 then digits_of text else None
 
 -- the same with an optional minus before them
 abbrev pub number_of : List ℕ → Option ℤ

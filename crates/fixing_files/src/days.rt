@@ -1,11 +1,12 @@
 //! Days as tables and command lines give them.
 
-ghost use Rattle.std.specs.Prelude.{◌≡◌, ◌≤◌, ◌<◌, ◌^◌, true, length, IfSome, option_map};
+ghost use Rattle.std.specs.Prelude.{◌≡◌, ◌<◌, ◌^◌, true, IfSome, option_map};
 ghost use Rattle.term_core.specs.Dates.{epoch_day_of};
 ghost use Rattle.term_core.specs.Limits.{is_origin};
-ghost use Rattle.fixing_files.specs.Days.{count_of, day_named, day_of, digits_of, number_of, placed_day};
+ghost use Rattle.fixing_files.specs.Days.{count_of, day_named, day_of, number_of, placed_day};
 ghost use Rattle.fixing_files.specs.declared.days.NamedDay.TheVariants.{Date};
 
+use decimal::number_up_to;
 use term_core::epoch_day;
 use term_core::laws::days_of_texts_are_civil;
 
@@ -16,31 +17,15 @@ pub enum DayFault {
     NoOrigin,
 }
 
-// The number that digits write.
-fn digits(text: &[u8]) -> Option<u32>
-    requires { length text.now ≤ 9 }
-    ensures value { result ≡ digits_of text.now }
-    ensures small { IfSome result (λ n. n < 10 ^ 9) }
-{
-    let mut n = 0;
-    for b in text {
-        if !b.is_ascii_digit() {
-            return None;
-        }
-        n = n * 10 + (*b - b'0') as u32;
-    }
-    Some(n)
-}
-
 /// The number that one to nine digits write.
 pub fn count(text: &[u8]) -> Option<u32>
     ensures value { result ≡ count_of text.now }
     ensures small { IfSome result (λ n. n < 10 ^ 9) }
 {
-    if text.is_empty() || text.len() > 9 {
+    if text.len() > 9 {
         return None;
     }
-    digits(text)
+    number_up_to(999_999_999, text)
 }
 
 // The number of an optional minus and one to nine digits.

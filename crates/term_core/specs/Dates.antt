@@ -1,6 +1,7 @@
 -- Days of the calendar as texts `dddd-dd-dd`, by the number of days since 1970-01-01. A text has a day where it names a
 -- date of the proleptic Gregorian calendar in the years 0001 to 9999; which dates there are, jiff decides.
 use Rattle.std.specs.Prelude.{ℕ, ◌+◌, ◌*◌, ◌-◌, ◌==◌, ◌&&◌, Bool, List, [], ◌∷◌, Option, Some, None, option_and_then, nat_le, if◌then◌else◌, ℤ, pos}
+pub use Rattle.decimal.specs.Reading.{is_digit}
 use Rattle.jiff_core.specs.Calendar.{days_from_civil, days_in_month}
 
 -- a year, a month and a day
@@ -8,9 +9,6 @@ pub record Parts : Type 0 where
   pub year : ℕ
   pub month : ℕ
   pub day : ℕ
-
-abbrev pub is_digit : ℕ → Bool
-is_digit b = nat_le 48 b && nat_le b 57
 
 infixl 10 ◌>>=◌
 abbrev pub ◌>>=◌ : {A B : Type 0} → Option A → (A → Option B) → Option B
