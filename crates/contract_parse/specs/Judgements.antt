@@ -1,12 +1,13 @@
 -- What one token is at a place of the grammar, or the kind of its fault. At one token the first rule counts: Syntax,
 -- Number, Date, Deep, Range, Twice, Unknown.
-use Rattle.std.specs.Prelude.{ℕ, ℤ, neg_ℤ, int_lt, ◌-◌, ◌==◌, ◌&&◌, Bool, true, false, List, Option, Some, None, Result, Ok, Err, codes, nat_lt, nat_le, if◌then◌else◌}
+use Rattle.std.specs.Prelude.{ℕ, ℤ, neg_ℤ, int_lt, ◌-◌, ◌==◌, ◌&&◌, Bool, true, false, List, Option, Some, None, Result, Ok, Err, codes, nat_lt, if◌then◌else◌}
 use Rattle.decimal.specs.declared.Mode.{Mode}
 use Rattle.decimal.specs.declared.Mode.TheVariants.{HalfEven, HalfAway, Floor, Ceil}
 use Rattle.decimal.specs.declared.Decimal.{Decimal}
 use Rattle.decimal.specs.DecimalText.{signed}
 use Rattle.decimal.specs.Mantissas.{mantissa, decimal_of}
 use Rattle.decimal.specs.Reading.{number_after}
+pub use Rattle.decimal.specs.Reading.{up_to}
 use Rattle.decimal.specs.Rounding.{raised}
 use Rattle.term_core.specs.Dates.{epoch_day_of}
 use Rattle.term_core.specs.Limits.{is_origin}
@@ -31,9 +32,6 @@ or_fault kind (Some x) = Ok x
 abbrev pub whole : Tok → ℕ
 whole t = number_after 0 t.text
 
-abbrev pub up_to : ℕ → ℕ → Option ℕ
-up_to most n = if nat_le n most then Some n else None
-
 -- INT
 abbrev pub integer_at : ℕ → Tok → Result ℕ TextKind
 integer_at most t = if is_integer t then or_fault Number (up_to most (whole t)) else Err Syntax
@@ -46,12 +44,15 @@ abbrev pub signed_result : Bool → Result ℕ TextKind → Result ℤ TextKind
 signed_result negative (Ok n) = Ok (signed negative n)
 signed_result negative (Err kind) = Err kind
 
+abbrev pub signed_integer_at : ℕ → Bool → Tok → Result ℤ TextKind
+signed_integer_at most negative t = signed_result negative (integer_at most t)
+
 abbrev pub offset_at : Bool → Tok → Result ℤ TextKind
-offset_at negative t = signed_result negative (integer_at 1_000_000 t)
+offset_at negative t = signed_integer_at 1_000_000 negative t
 
 -- the number of a date of payoff code, behind its sign
 abbrev pub date_number_at : Bool → Tok → Result ℤ TextKind
-date_number_at negative t = signed_result negative (integer_at 2_000_000 t)
+date_number_at negative t = signed_integer_at 2_000_000 negative t
 
 abbrev pub with_sign : Bool → Decimal → Decimal
 with_sign negative d = record { mant = if negative then neg_ℤ d.mant else d.mant; scale = d.scale }

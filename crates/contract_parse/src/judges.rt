@@ -1,17 +1,16 @@
 //! What one token is at a place of the grammar, or the kind of its fault.
-ghost use Rattle.std.specs.Prelude.{◌≡◌, ◌≤◌, ◌-◌, ◌^◌, IfErr, IfOk, length, true, unsigned_abs};
+ghost use Rattle.std.specs.Prelude.{◌≡◌, ◌≤◌, ◌<◌, ◌-◌, ◌^◌, IfErr, IfOk, length, true, unsigned_abs};
 ghost use Rattle.term_core.specs.Limits.{is_origin};
 ghost use Rattle.contract_parse.specs.Names.{names_in};
-ghost use Rattle.contract_parse.specs.Judgements.{above, binder_at, bound_at, date_number_at, integer_at, is_version, literal_at, mode_at, offset_at, operator_at, origin_at, separator_at, variable_at};
+ghost use Rattle.contract_parse.specs.Judgements.{above, binder_at, bound_at, integer_at, is_version, literal_at, mode_at, operator_at, origin_at, separator_at, signed_integer_at, variable_at, with_sign};
 ghost use Rattle.contract_parse.specs.Reading.{IsBetween, IsBound, tok_of};
 
 use crate::faults::{ReadErr, Refusal, TextKind};
 use crate::heads::Operator;
 use crate::names::{Bound, back_to};
-use crate::numbers::{whole_number, with_sign};
 use crate::token::{Kind, Lexeme};
 use crate::words::{is_date, is_integer, is_name, is_number, is_the_mark, is_the_word};
-use decimal::{Decimal, Mode, decimal_of, widen};
+use decimal::{Decimal, Mode, decimal_of, whole_number, widen};
 use term_core::{CmpOp, LogicOp, NumOp, epoch_day};
 
 /// The fault of this kind at a token.
@@ -26,12 +25,11 @@ pub fn refuse(kind: TextKind, token: &Lexeme<'_>) -> ReadErr
 
 /// A number without a point, of at most `most`.
 pub fn integer_at(most: u32, token: &Lexeme<'_>) -> Result<u32, TextKind>
-    requires { most ≤ 2_000_000 }
     ensures value { result ≡ integer_at most (tok_of token.now) }
     ensures most { IfOk result (λ n. n ≤ most) }
 {
     if is_integer(token) {
-        match whole_number(token.text, most) {
+        match whole_number(most, token.text) {
             Some(number) => Ok(number),
             None => Err(TextKind::Number),
         }
@@ -44,25 +42,32 @@ pub fn integer_at(most: u32, token: &Lexeme<'_>) -> Result<u32, TextKind>
 pub fn is_version(token: &Lexeme<'_>) -> bool
     ensures { result ≡ is_version (tok_of token.now) }
 {
-    is_integer(token) && matches!(whole_number(token.text, 1), Some(1))
+    is_integer(token) && matches!(whole_number(1, token.text), Some(1))
 }
 
-/// The offset of an observable, behind its sign.
-pub fn offset_at(negative: bool, token: &Lexeme<'_>) -> Result<i32, TextKind>
-    ensures value { result ≡ offset_at negative (tok_of token.now) }
-    ensures small { IfOk result (λ n. unsigned_abs n ≤ 1_000_000) }
+/// A number without a point behind its sign, of at most `most` in size.
+pub fn signed_integer_at(most: u32, negative: bool, token: &Lexeme<'_>) -> Result<i32, TextKind>
+    requires { most < 2 ^ 31 }
+    ensures value { result ≡ signed_integer_at most negative (tok_of token.now) }
+    ensures small { IfOk result (λ n. unsigned_abs n ≤ most) }
 {
-    let number = integer_at(1_000_000, token)? as i32;
+    let number = integer_at(most, token)? as i32;
     Ok(if negative { -number } else { number })
 }
 
-/// The number of a date of payoff code, behind its sign.
-pub fn date_number_at(negative: bool, token: &Lexeme<'_>) -> Result<i32, TextKind>
-    ensures value { result ≡ date_number_at negative (tok_of token.now) }
-    ensures small { IfOk result (λ n. unsigned_abs n ≤ 2_000_000) }
+// The number with its sign.
+fn with_sign(negative: bool, number: Decimal) -> Decimal
+    requires { unsigned_abs number.mant ≤ 10 ^ 37 }
+    ensures { result ≡ with_sign negative number }
 {
-    let number = integer_at(2_000_000, token)? as i32;
-    Ok(if negative { -number } else { number })
+    if negative {
+        Decimal {
+            mant: -number.mant,
+            scale: number.scale,
+        }
+    } else {
+        number
+    }
 }
 
 /// A decimal behind its sign.

@@ -24,7 +24,6 @@ pub mod laws;
 mod lines;
 mod name_texts;
 mod names;
-mod numbers;
 mod portfolio;
 mod readers;
 mod token;

@@ -19,8 +19,8 @@ ghost use Rattle.contract_parse.specs.declared.heads.Language.{Language};
 use crate::faults::{ReadErr, TextKind};
 use crate::heads::Operator;
 use crate::judges::{
-    binder_at, bound_at, date_number_at, integer_at, is_version, literal_at, mode_at, offset_at,
-    operator_at, origin_at, refuse, separator_at,
+    binder_at, bound_at, integer_at, is_version, literal_at, mode_at, operator_at, origin_at,
+    refuse, separator_at, signed_integer_at,
 };
 use crate::names::{index_in_map, index_in_set};
 use crate::words::{Lookahead, is_end, is_integer, is_name, is_the_mark, is_the_word, next};
@@ -112,7 +112,6 @@ pub fn after_mark<'a>(rest: &'a [u8], wanted: &[u8]) -> Option<&'a [u8]>
 
 /// A number without a point, of at most `most`.
 pub fn read_integer(most: u32, rest: &[u8]) -> Result<(u32, &[u8]), ReadErr>
-    requires { most ≤ 2_000_000 }
     ensures most { IfOk result (λ r. r.0 ≤ most) }
     ensures follows { PassesAnywhere (λ r. r.1.now) (λ ps. IntegerAt most ∷ ps) rest.now result }
     ensures spelled { IfOk result (λ r. Spelled (valued (integer_at most) r.0) rest.now r.1.now) }
@@ -212,7 +211,7 @@ fn read_offset_number(negative: bool, rest: &[u8]) -> Result<(i32, &[u8]), ReadE
     ensures shorter { IfOk result (λ r. length r.1.now ≤ length rest.now) }
 {
     let (token, after) = next(rest);
-    match offset_at(negative, &token) {
+    match signed_integer_at(1_000_000, negative, &token) {
         Ok(offset) => Ok((offset, after)),
         Err(kind) => Err(refuse(kind, &token)),
     }
@@ -228,7 +227,7 @@ pub fn read_offset(rest: &[u8]) -> Result<(i32, &[u8]), ReadErr>
     if is_the_mark(&token, b"-") {
         return read_offset_number(true, after);
     }
-    match offset_at(false, &token) {
+    match signed_integer_at(1_000_000, false, &token) {
         Ok(offset) => Ok((offset, after)),
         Err(kind) => Err(refuse(kind, &token)),
     }
@@ -241,7 +240,7 @@ fn read_days_behind_sign(negative: bool, rest: &[u8]) -> Result<(i32, &[u8]), Re
     ensures shorter { IfOk result (λ r. length r.1.now ≤ length rest.now) }
 {
     let (token, after) = next(rest);
-    match date_number_at(negative, &token) {
+    match signed_integer_at(2_000_000, negative, &token) {
         Ok(days) => Ok((days, after)),
         Err(kind) => Err(refuse(kind, &token)),
     }
@@ -257,7 +256,7 @@ pub fn read_date_number(rest: &[u8]) -> Result<(i32, &[u8]), ReadErr>
     if is_the_mark(&token, b"-") {
         return read_days_behind_sign(true, after);
     }
-    match date_number_at(false, &token) {
+    match signed_integer_at(2_000_000, false, &token) {
         Ok(days) => Ok((days, after)),
         Err(kind) => Err(refuse(kind, &token)),
     }
