@@ -2,14 +2,15 @@
 -- by the arguments that are declared for the command: files in their order, options and flags. A day is one to nine
 -- digits or a civil date, names are those of the grammar of texts, a number that is set for a template is digits with a value
 -- of at most 100,000, and a sample has 1 to 10,000 contracts.
-use Rattle.std.specs.Prelude.{ℕ, Bool, false, ◌==◌, ◌&&◌, nat_le, List, [], ◌∷◌, ◌++◌, Option, Some, None, is_some, option_and_then, option_map, length, nat_lt, Result, codes, if◌then◌else◌}
+use Rattle.std.specs.Prelude.{ℕ, Bool, false, ◌==◌, ◌&&◌, List, [], ◌∷◌, ◌++◌, Option, Some, None, is_some, option_and_then, option_map, length, nat_lt, Result, codes, if◌then◌else◌}
 use Rattle.std.specs.List.{after_first, before_first, position_or_len}
 use Rattle.std.specs.Map.{keys_of}
 use Rattle.std.specs.Str.{bytes_eq}
 use Rattle.clap.specs.Words.{App, Row, Text, all_of, first_of}
+use Rattle.decimal.specs.Reading.{number_up_to}
 use Rattle.contract_parse.specs.Names.{is_declared}
 use Rattle.contract_parse.specs.NameTexts.{is_name_text}
-use Rattle.fixing_files.specs.Days.{day_named, digits_of}
+use Rattle.fixing_files.specs.Days.{day_named}
 use Rattle.fixing_files.specs.declared.days.NamedDay.{NamedDay}
 use Rattle.command_words.specs.Arguments.{IsAnswer, asked_of, declared, flag, given_text, is_set, optional, repeated, required, taken, valued}
 use Rattle.command_words.specs.Commands.{Asked, Check, Flows, FlowsAsked, Advance, AdvanceAsked, Between, Payoff, PayoffAsked, ValueAsked, ValueFiles, Request, OnFiles, OnCode, Sample}
@@ -84,14 +85,6 @@ is_day word = is_some (day_of_word word)
 abbrev pub if_given : (Text → Bool) → Option Text → Option (Option Text)
 if_given has_its_form None = Some None
 if_given has_its_form (Some word) = if has_its_form word then Some (Some word) else None
-
--- the number that digits write, where it is none above a greatest
-abbrev pub at_most : ℕ → Option ℕ → Option ℕ
-at_most most None = None
-at_most most (Some n) = if nat_le n most then Some n else None
-
-abbrev pub number_up_to : ℕ → Text → Option ℕ
-number_up_to most word = at_most most (digits_of word)
 
 abbrev pub above_zero : Option ℕ → Option ℕ
 above_zero None = None
@@ -201,13 +194,8 @@ parted word =
     if nat_lt (position_or_len is_equals word) (length word) then Some (before_first is_equals word, after_first is_equals word)
     else None
 
--- a number that is set for a template, by one digit or more
-abbrev pub setting_number : Text → Option ℕ
-setting_number [] = None
-setting_number (first ∷ rest) = number_up_to 100_000 (first ∷ rest)
-
 abbrev pub setting_of_parts : Text × Text → Option (Text × ℕ)
-setting_of_parts parts = if is_name_text parts.0 then option_map (λ n. (parts.0, n)) (setting_number parts.1) else None
+setting_of_parts parts = if is_name_text parts.0 then option_map (λ n. (parts.0, n)) (number_up_to 100_000 parts.1) else None
 
 -- the template that a word names, and the number that it sets for it
 abbrev pub setting_of_word : Text → Option (Text × ℕ)

@@ -13,7 +13,6 @@
 mod arguments;
 mod day_words;
 mod forms;
-mod numbers;
 mod sample_size;
 mod value_asked;
 mod value_words;

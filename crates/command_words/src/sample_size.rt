@@ -2,7 +2,7 @@
 
 ghost use Rattle.std.specs.Prelude.{◌≤◌};
 
-use crate::numbers::number_up_to;
+use decimal::number_up_to;
 
 /// How many contracts the sample has: from 1 to 10,000.
 #[derive(Clone, Copy)]

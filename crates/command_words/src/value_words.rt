@@ -7,32 +7,20 @@ ghost use Rattle.contract_parse.specs.Names.{is_declared};
 ghost use Rattle.contract_parse.specs.NameTexts.{is_name_text};
 ghost use Rattle.command_words.specs.Arguments.{IsAnswer, given_texts, texts};
 ghost use Rattle.command_words.specs.Commands.{AreSettings};
-ghost use Rattle.command_words.specs.Words.{between_by, files_by, one_more_setting, setting_number, setting_of_word, settings_after, settings_of, value_between, value_by, value_files, value_of, with_form};
+ghost use Rattle.command_words.specs.Words.{between_by, files_by, one_more_setting, setting_of_word, settings_after, settings_of, value_between, value_by, value_files, value_of, with_form};
 
 use crate::arguments::{Argument, WordsErr, matches_of};
 use crate::day_words::DayWord;
 use crate::forms::{day_given, given, name_given};
-use crate::numbers::number_up_to;
 use crate::value_asked::{Between, Value, ValueFiles};
 use clap::ArgMatches;
 use contract_parse::is_name_text;
-use decimal::NoMemory;
+use decimal::{NoMemory, number_up_to};
 use indexmap::IndexMap;
 use std::alloc::Global;
 use term_core::Name;
 
-// A number that is set for a template: digits, with a value of at most 100,000.
-fn setting_number(text: &[u8]) -> Option<u32>
-    ensures value { result ≡ setting_number text.now }
-    ensures few { IfSome result (λ n. n ≤ 100_000) }
-{
-    if text.is_empty() {
-        return None;
-    }
-    number_up_to(100_000, text)
-}
-
-// The template that a word names, and the number that it sets for it.
+// The template that a word names, and the number that it sets for it, which is at most 100,000.
 fn setting_of_word(word: &str) -> Option<(&[u8], u32)>
     ensures value { option_map (λ setting. (setting.0.now, setting.1)) result ≡ setting_of_word word.now }
     ensures few { IfSome result (λ setting. setting.1 ≤ 100_000) }
@@ -41,7 +29,7 @@ fn setting_of_word(word: &str) -> Option<(&[u8], u32)>
     if !is_name_text(name.as_bytes()) {
         return None;
     }
-    let number = setting_number(number.as_bytes())?;
+    let number = number_up_to(100_000, number.as_bytes())?;
     Some((name.as_bytes(), number))
 }
 
