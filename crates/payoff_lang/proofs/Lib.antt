@@ -14,7 +14,6 @@ pub mod CodeCanonFacts
 pub mod CodeSpelled
 pub mod CodeFileSpelled
 pub mod PlaceFacts
-pub mod AmountHeads
 pub mod OrderFacts
 pub mod TokensStand
 pub mod DateReading

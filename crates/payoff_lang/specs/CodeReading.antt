@@ -5,6 +5,7 @@ use Rattle.decimal.specs.DecimalText.{signed}
 use Rattle.term_core.specs.Terms.{Expression, Lit as Lit', Yes as Yes', Var as Var', Obs as Obs', Neg as Neg', Num as Num', Cmp as Cmp', Not as Not', Logic as Logic', Cond as Cond', Widen as Widen', Round as Round', Div as Div', Acc as Acc'}
 use Rattle.contract_parse.specs.Tokens.{Tok, tokens}
 use Rattle.contract_parse.specs.Words.{Bytes, is_the_mark}
+use Rattle.contract_parse.specs.Heads.{BeginsAmount}
 use Rattle.term_core.specs.declared.decls.Decls.{Decls}
 use Rattle.contract_parse.specs.Names.{Scope, names_in, place_in}
 use Rattle.contract_parse.specs.Judgements.{whole}
@@ -42,7 +43,11 @@ value_in d bound v = value_part (scope_in d []) (names_in bound) (value_expressi
 abbrev pub code_in : Decls → Bound → Code → Part
 code_in d bound k = code_part (scope_in d []) (names_in bound) (payoff_code k)
 
--- what stands behind the word that an amount begins with
+-- the first token of an amount
+abbrev pub first_token_of_amount : AmountHead → Part
+first_token_of_amount head ts rest = (t : Tok) × (ts ≡ t ∷ rest) × BeginsAmount t head
+
+-- what stands behind it
 abbrev pub behind_amount_head : ℕ → Bound → AmountHead → Scope → List Place → List Place
 behind_amount_head depth bound head s ps = amount_places s depth (names_in bound) head ps
 

@@ -7,7 +7,7 @@ ghost use Rattle.contract_parse.specs.Judgements.{use_at};
 ghost use Rattle.contract_parse.specs.Spelling.{mark, valued, word, ◌⨟◌};
 ghost use Rattle.contract_parse.specs.Places.{AmountAt, ExprAt, TheMark, TheWord, UseOf, amount_places, date_places};
 ghost use Rattle.contract_parse.specs.Reading.{scope_in};
-ghost use Rattle.contract_parse.specs.Readers.{Passes, PassesAnywhere, Spelled, SpelledBehind};
+ghost use Rattle.contract_parse.specs.Readers.{Passes, PassesAnywhere, Spelled, SpelledBehind, SpelledBehindPart};
 ghost use Rattle.contract_parse.specs.declared.heads.Language.{Language};
 ghost use Rattle.contract_parse.specs.declared.heads.AmountHead.{AmountHead};
 ghost use Rattle.payoff_lang.specs.TemplateDates.{date};
@@ -16,7 +16,7 @@ ghost use Rattle.payoff_lang.specs.Dating.{plain};
 ghost use Rattle.payoff_lang.specs.CodeSizes.{height_of_code};
 ghost use Rattle.payoff_lang.specs.CodeSpelling.{code_part};
 ghost use Rattle.term_core.specs.Sizes.{height};
-ghost use Rattle.payoff_lang.specs.CodeReading.{behind_amount_head, code_in, date_in, value_in};
+ghost use Rattle.payoff_lang.specs.CodeReading.{behind_amount_head, code_in, date_in, first_token_of_amount, value_in};
 
 use crate::code::{Code, DateExpr, Vx};
 use crate::date_reading::read_date;
@@ -403,9 +403,37 @@ fn read_cut<'a>(
     Ok((Code::Cut { date, body }, rest))
 }
 
+// What stands behind the first token.
+#[cycle(amount)]
+fn read_behind_amount<'a>(
+    head: AmountHead,
+    alloc: Global,
+    decls: &Decls,
+    bound: &Bound<'_>,
+    depth: u32,
+    rest: &'a [u8],
+) -> Result<(Code, &'a [u8]), ReadErr>
+    requires shallow { depth ≤ 400 }
+    requires bound { length (names_in bound.now) < depth }
+    ensures follows { Passes decls.now (λ r. r.1.now) (behind_amount_head depth bound.now head) rest.now result }
+    ensures spelled { IfOk result
+        (λ r. SpelledBehindPart (first_token_of_amount head) (code_in decls.now bound.now r.0) rest.now r.1.now) }
+    ensures high { IfOk result (λ r. height_of_code (payoff_code r.0) + depth ≤ 401) }
+    ensures shorter { IfOk result (λ r. length r.1.now ≤ length rest.now) }
+{
+    match head {
+        AmountHead::None => Ok((Code::None, rest)),
+        AmountHead::Pay => read_pay(alloc, decls, rest),
+        AmountHead::Add => read_add(alloc, decls, bound, depth, rest),
+        AmountHead::Scale => read_scaled(alloc, decls, bound, depth, rest),
+        AmountHead::Let => read_let(alloc, decls, bound, depth, rest),
+        AmountHead::Loop => read_loop(alloc, decls, bound, depth, rest),
+        AmountHead::Cut => read_cut(alloc, decls, bound, depth, rest),
+    }
+}
+
 /// An amount of a depth under bound names, and the text after it.
 #[cycle(amount)]
-#[tactic(auto, using(contract_parse::proofs::Parts::followed_by))]
 pub fn read_amount<'a>(
     alloc: Global,
     decls: &Decls,
@@ -421,17 +449,8 @@ pub fn read_amount<'a>(
     ensures shorter { IfOk result (λ r. length r.1.now ≤ length rest.now) }
 {
     let (token, after) = next(rest);
-    let head = match amount_head_at(depth, &token) {
-        Ok(head) => head,
-        Err(kind) => return Err(refuse(kind, &token)),
-    };
-    match head {
-        AmountHead::None => Ok((Code::None, after)),
-        AmountHead::Pay => read_pay(alloc, decls, after),
-        AmountHead::Add => read_add(alloc, decls, bound, depth, after),
-        AmountHead::Scale => read_scaled(alloc, decls, bound, depth, after),
-        AmountHead::Let => read_let(alloc, decls, bound, depth, after),
-        AmountHead::Loop => read_loop(alloc, decls, bound, depth, after),
-        AmountHead::Cut => read_cut(alloc, decls, bound, depth, after),
+    match amount_head_at(depth, &token) {
+        Ok(head) => read_behind_amount(head, alloc, decls, bound, depth, after),
+        Err(kind) => Err(refuse(kind, &token)),
     }
 }
