@@ -31,7 +31,7 @@ fn day_at(setting: &[u32], x: &DateExpr) -> i64
 }
 
 /// The day of a date at a base.
-pub fn day_on(asking: &Asking, base: i64, x: &DateExpr) -> i64
+pub fn day_of(asking: &Asking, base: i64, x: &DateExpr) -> i64
     requires base { IsDay base }
     requires date { DateFits asking.now.setting.now (date x.now) }
     ensures day { result ≡ base +ℤ day_of asking.now.setting.now (date x.now) }

@@ -6,7 +6,7 @@ ghost use Rattle.expr_eval.specs.Fits.{IsDay};
 ghost use Rattle.payoff_eval.specs.CodeEvaluations.{DayFitsOn, DaysFitOn, FitsOn, HasDates, both_on, branches, dated, day_run_on, days_run_on, run_on, sides};
 
 use crate::asking::Asking;
-use crate::dates::day_on;
+use crate::dates::day_of;
 use crate::kinds::kind_in;
 use expr_eval::evaluation::{day_after, day_before, value_bound, value_observed};
 use expr_eval::operations::{
@@ -32,7 +32,7 @@ pub fn evaluate(asking: &Asking, e: &Vx, scope: &Scope, day: i64) -> Result<Type
             value_observed(
                 asking.decls,
                 *label,
-                day_on(asking, day, date),
+                day_of(asking, day, date),
                 asking.fixings,
             )
         }

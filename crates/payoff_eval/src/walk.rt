@@ -1,6 +1,6 @@
 //! The walk over code at a base: what it is worth, or the first place that is not fixed.
 
-ghost use Rattle.std.specs.Prelude.{◌≡◌, ◌≤◌, ◌+◌, ◌*ℤ◌, ◌+ℤ◌, pos, int_lt, true, unsigned_abs, IfOk, Ok};
+ghost use Rattle.std.specs.Prelude.{◌≡◌, ◌≤◌, ◌+◌, ◌*ℤ◌, ◌+ℤ◌, int_lt, true, unsigned_abs, IfOk, Ok};
 ghost use Rattle.term_core.specs.Values.{num};
 ghost use Rattle.term_core.specs.Flows.{unit_flow};
 ghost use Rattle.interval_check.specs.Safety.{IsSmall};
@@ -18,11 +18,11 @@ ghost use Rattle.payoff_eval.specs.CodeEvaluations.{EvaluatesFrom, EvaluatesOn, 
 ghost use Rattle.payoff_eval.specs.CodeEvaluations.{kind_on, let_code, loop_code, scale_code, worth_on};
 
 use crate::asking::Asking;
-use crate::dates::{count, day_on};
+use crate::dates::{count, day_of};
 use crate::evaluation::evaluate;
 use crate::kinds::kind_in;
 use decimal::align;
-use expr_eval::evaluation::without_kind;
+use expr_eval::evaluation::{day_on, without_kind};
 use expr_eval::scopes::Scope;
 use expr_eval::{Held, Scratch};
 use payoff_lang::{Code, DateExpr, Vx};
@@ -129,14 +129,6 @@ fn value_on(asking: &Asking, scratch: &Scratch, base: i64, v: &Vx) -> Result<Val
     without_kind(evaluate(asking, v, &scope, base))
 }
 
-// The base some days later.
-fn later(base: i64, days: u32) -> i64
-    requires { IsDay base }
-    ensures { result ≡ base +ℤ pos days }
-{
-    base + days as i64
-}
-
 // The days until a test is first true, of the days 0 to `days`.
 fn first_day(
     asking: &Asking,
@@ -152,7 +144,7 @@ fn first_day(
     ensures day { result ≡ first_from asking.now (value_expression test.now) scratch.now.entries base (days + 1) }
 {
     for i in 0..days + 1 {
-        let value = value_on(asking, scratch, later(base, i), test)?;
+        let value = value_on(asking, scratch, day_on(base, i), test)?;
         if value.is_true() {
             return Ok(Some(i));
         }
@@ -188,7 +180,7 @@ fn is_gone(asking: &Asking, base: i64, x: &DateExpr) -> bool
     requires { DayFits asking.now.setting.now (date x.now) base }
     ensures { result ≡ int_lt (base +ℤ day_of asking.now.setting.now (date x.now)) asking.now.today }
 {
-    day_on(asking, base, x) < asking.today
+    day_of(asking, base, x) < asking.today
 }
 
 /// What code is worth at a base, at so many decimals, or the first place that it reads and that is not fixed.
@@ -213,7 +205,7 @@ pub fn walk(
             asset,
             from,
             to,
-        } => Ok(pay(asking, room, day_on(asking, base, date), *asset, *from, *to)),
+        } => Ok(pay(asking, room, day_of(asking, base, date), *asset, *from, *to)),
         Code::Add { left, right } => {
             let left = walk(asking, scratch, base, room, left)?;
             let right = walk(asking, scratch, base, room, right)?;
@@ -305,7 +297,7 @@ fn walk_loop(
 {
     let days = count(asking, upto);
     match first_day(asking, scratch, base, test, days)? {
-        Some(first) => walk(asking, scratch, later(base, first), room, hit),
+        Some(first) => walk(asking, scratch, day_on(base, first), room, hit),
         None => walk(asking, scratch, base, room, miss),
     }
 }
