@@ -13,9 +13,8 @@ ghost use Rattle.payoff_compile.specs.DateLimits.{CodeDatesFit};
 ghost use Rattle.payoff_compile.specs.CompiledCode.{IsPlainCode};
 
 use crate::dates::{copied, date_of, later};
-use crate::values::compile_value;
 use decimal::NoMemory;
-use payoff_lang::{Code, DateExpr};
+use payoff_lang::{Code, DateExpr, dated};
 use std::alloc::Global;
 use term_core::{Contr, Decls};
 
@@ -41,7 +40,7 @@ fn compile_at(alloc: Global, c: &Contr, on: &DateExpr) -> Result<Code, NoMemory>
             Ok(Code::Add { left, right })
         }
         Contr::Scale { factor, body } => {
-            let factor = compile_value(alloc, factor, on)?;
+            let factor = dated(alloc, on, factor)?;
             let body = Box::new(alloc, compile_at(alloc, body, on)?)?;
             Ok(Code::Scale { factor, body })
         }
@@ -50,7 +49,7 @@ fn compile_at(alloc: Global, c: &Contr, on: &DateExpr) -> Result<Code, NoMemory>
             compile_at(alloc, body, &delayed)
         }
         Contr::Let { bound, body } => {
-            let bound = compile_value(alloc, bound, on)?;
+            let bound = dated(alloc, on, bound)?;
             let body = Box::new(alloc, compile_at(alloc, body, on)?)?;
             Ok(Code::Let { bound, body })
         }
@@ -60,7 +59,7 @@ fn compile_at(alloc: Global, c: &Contr, on: &DateExpr) -> Result<Code, NoMemory>
             hit,
             miss,
         } => {
-            let test = compile_value(alloc, test, on)?;
+            let test = dated(alloc, on, test)?;
             let upto = date_of(alloc, *days)?;
             let hit = Box::new(alloc, compile_at(alloc, hit, on)?)?;
             let last = later(alloc, on, *days)?;

@@ -1,11 +1,11 @@
 //! Dates of code: later ones, and those of day counts.
 
-ghost use Rattle.std.specs.Prelude.{◌≡◌, ◌≤◌, ◌+ℤ◌, IfOk, unsigned_abs};
+ghost use Rattle.std.specs.Prelude.{◌≡◌, ◌≤◌, IfOk, unsigned_abs};
 ghost use Rattle.term_core.specs.Flows.{count_of};
-ghost use Rattle.payoff_lang.specs.TemplateDates.{date, plus, plus_days, date_of_days};
+ghost use Rattle.payoff_lang.specs.TemplateDates.{date, plus, date_of_days};
 
 use decimal::NoMemory;
-use payoff_lang::{DateExpr, with_name};
+use payoff_lang::{DateExpr, Dating, with_name};
 use std::alloc::Global;
 use term_core::Days;
 
@@ -20,18 +20,6 @@ pub fn copied(alloc: Global, on: &DateExpr) -> Result<DateExpr, NoMemory>
     })
 }
 
-/// The date that many days later; its templates stay.
-pub fn moved(alloc: Global, on: &DateExpr, by: i32) -> Result<DateExpr, NoMemory>
-    requires { unsigned_abs (on.now.days +ℤ by) ≤ 2_000_000 }
-    ensures { IfOk result (λ r. date r ≡ plus_days (date on.now) by) }
-{
-    let names = Vec::from_slice(alloc, on.names.as_slice())?;
-    Ok(DateExpr {
-        days: on.days + by,
-        names,
-    })
-}
-
 /// The date as many days later as a day count has.
 pub fn later(alloc: Global, on: &DateExpr, days: Days) -> Result<DateExpr, NoMemory>
     requires count { count_of days ≤ 100_000 }
@@ -39,7 +27,7 @@ pub fn later(alloc: Global, on: &DateExpr, days: Days) -> Result<DateExpr, NoMem
     ensures { IfOk result (λ r. date r ≡ plus (date on.now) (date_of_days days)) }
 {
     match days {
-        Days::Num { days } => moved(alloc, on, days as i32),
+        Days::Num { days } => on.date_at(alloc, days as i32),
         Days::Named { template } => {
             let names = with_name(alloc, on.names.as_slice(), template)?;
             Ok(DateExpr {

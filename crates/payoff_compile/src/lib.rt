@@ -15,7 +15,6 @@ mod compiling;
 mod cutting;
 mod dates;
 pub mod laws;
-mod values;
 
 pub use compiling::compile;
 pub use cutting::cut;

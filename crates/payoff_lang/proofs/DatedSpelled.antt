@@ -13,12 +13,29 @@ use Rattle.contract_parse.specs.declared.heads.Language.{Language}
 use Rattle.contract_parse.specs.declared.heads.Operator.TheVariants.{Arithmetic, Comparison, Logic as Connective}
 use Rattle.contract_parse.proofs.Passing.{mark_lacks}
 use Rattle.payoff_lang.specs.TemplateDates.{Date, insert_names}
-use Rattle.payoff_lang.specs.Dating.{plain}
+use Rattle.payoff_lang.specs.Dating.{HaveDates, plain, with_date}
 use Rattle.payoff_lang.specs.CodeSpelling.{DatePart, value_part}
-use Rattle.payoff_lang.specs.CodeReading.{date_at, date_first, with_date}
+use Rattle.payoff_lang.specs.CodeReading.{date_at, date_first}
 use Rattle.payoff_lang.proofs.TokensStand.{StandsIn, stands_in}
 use Rattle.payoff_lang.proofs.Standing.{Turns, ◌▹◌, behind_first, close_stays, comma_stays, date_stays, open_stays, signed_stays, value_stays, word_stays}
 use Rattle.payoff_lang.proofs.DateReading.{date_is}
+
+-- where every offset has a date, those of an expression do
+pub have_dates : (has : ℤ → Type 0) → ((t : ℤ) → has t) → (e : Expression) → HaveDates has e
+have_dates has all (Lit m k) = tt
+have_dates has all (Yes b) = tt
+have_dates has all (Var back) = tt
+have_dates has all (Obs l t) = all t
+have_dates has all (Neg e) = have_dates has all e
+have_dates has all (Num op a b) = (have_dates has all a, have_dates has all b)
+have_dates has all (Cmp op a b) = (have_dates has all a, have_dates has all b)
+have_dates has all (Not e) = have_dates has all e
+have_dates has all (Logic op a b) = (have_dates has all a, have_dates has all b)
+have_dates has all (Cond t a b) = (have_dates has all t, have_dates has all a, have_dates has all b)
+have_dates has all (Widen k e) = have_dates has all e
+have_dates has all (Round m k e) = have_dates has all e
+have_dates has all (Div m k a b) = (have_dates has all a, have_dates has all b)
+have_dates has all (Acc body n first) = (have_dates has all body, have_dates has all first)
 
 -- dates have no part in the height
 pub height_dated : (on : ℤ → Date) (e : Expression) → height (plain (with_date on e)) ≡ height e

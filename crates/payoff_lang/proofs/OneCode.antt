@@ -22,7 +22,8 @@ use Rattle.contract_parse.proofs.OneTerm.{date_one, one_expr}
 use Rattle.contract_parse.proofs.OneText.{one_decls}
 use Rattle.payoff_lang.specs.TemplateDates.{Date, insert_names}
 use Rattle.payoff_lang.specs.Code.{ValueExpression, PayoffCode, Nothing, PayOn, Add, ScaleBy, LetBe, Loop, Cut}
-use Rattle.payoff_lang.specs.CodeReading.{date_at, with_date}
+use Rattle.payoff_lang.specs.Dating.{with_date}
+use Rattle.payoff_lang.specs.CodeReading.{date_at}
 use Rattle.payoff_lang.specs.CodeSpelling.{DatePart, code_part, value_part}
 use Rattle.payoff_lang.specs.CodeBooks.{CodeBook}
 use Rattle.payoff_lang.specs.CodeFiles.{CodeText}

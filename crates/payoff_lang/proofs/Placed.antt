@@ -16,7 +16,8 @@ use Rattle.payoff_lang.specs.TemplateDates.{Date}
 use Rattle.payoff_lang.specs.Code.{ValueExpression, Lit, Yes, Var, Model, Neg, Num, Cmp, Not, Logic, Cond, Widen, Round, Div, Acc}
 use Rattle.payoff_lang.specs.Dating.{plain}
 use Rattle.payoff_lang.specs.CodeSpelling.{DatePart, value_part}
-use Rattle.payoff_lang.specs.CodeReading.{date_at, with_date}
+use Rattle.payoff_lang.specs.Dating.{with_date}
+use Rattle.payoff_lang.specs.CodeReading.{date_at}
 use Rattle.payoff_lang.proofs.Standing.{Turns, ◌▹◌, behind_first, close_stays, comma_stays, date_stays, open_stays, signed_stays, value_stays, word_stays}
 use Rattle.payoff_lang.proofs.DateReading.{date_is}
 use Rattle.payoff_lang.proofs.DatedSpelled.{height_dated, place_is}

@@ -2,7 +2,6 @@
 -- observable the place of its date, as how many bytes of the text are left there; here the dates are put in.
 use Rattle.std.specs.Prelude.{◌≡◌, ◌-◌, ℕ, ℤ, pos, negsuc, false, true, List, [], ◌∷◌, ◌++◌, Option, Some, None, codes, drop, length, if◌then◌else◌}
 use Rattle.decimal.specs.DecimalText.{signed}
-use Rattle.term_core.specs.Terms.{Expression, Lit as Lit', Yes as Yes', Var as Var', Obs as Obs', Neg as Neg', Num as Num', Cmp as Cmp', Not as Not', Logic as Logic', Cond as Cond', Widen as Widen', Round as Round', Div as Div', Acc as Acc'}
 use Rattle.contract_parse.specs.Tokens.{Tok, tokens}
 use Rattle.contract_parse.specs.Words.{Bytes, is_the_mark}
 use Rattle.contract_parse.specs.Heads.{BeginsAmount}
@@ -19,7 +18,7 @@ use Rattle.payoff_lang.specs.declared.code.Vx.{Vx}
 use Rattle.payoff_lang.specs.declared.code.Code.{Code}
 use Rattle.payoff_lang.specs.TemplateDates.{Date, date, insert_names}
 use Rattle.payoff_lang.specs.CodeSpelling.{DatePart, code_part, value_part}
-use Rattle.payoff_lang.specs.Code.{payoff_code, value_expression, ValueExpression, Lit, Yes, Var, Model, Neg, Num, Cmp, Not, Logic, Cond, Widen, Round, Div, Acc}
+use Rattle.payoff_lang.specs.Code.{payoff_code, value_expression}
 
 -- some templates are written, and these stand behind those that were there
 pub record AddsTemplates (templates : List Bytes) (before after : List ℕ) (ts rest : List Tok) : Type 0 where
@@ -91,20 +90,3 @@ last_bytes text (negsuc n) = []
 -- the date at a place of a text
 abbrev pub date_at : List Bytes → List ℕ → ℤ → Date
 date_at templates text place = date_first templates (tokens (last_bytes text place))
-
--- the value expression of an expression, by the dates that its places have
-abbrev pub with_date : (ℤ → Date) → Expression → ValueExpression
-with_date on (Lit' m s) = Lit m s
-with_date on (Yes' b) = Yes b
-with_date on (Var' back) = Var back
-with_date on (Obs' l place) = Model l (on place)
-with_date on (Neg' e) = Neg (with_date on e)
-with_date on (Num' op a b) = Num op (with_date on a) (with_date on b)
-with_date on (Cmp' op a b) = Cmp op (with_date on a) (with_date on b)
-with_date on (Not' e) = Not (with_date on e)
-with_date on (Logic' op a b) = Logic op (with_date on a) (with_date on b)
-with_date on (Cond' t a b) = Cond (with_date on t) (with_date on a) (with_date on b)
-with_date on (Widen' s e) = Widen s (with_date on e)
-with_date on (Round' mode s e) = Round mode s (with_date on e)
-with_date on (Div' mode s a b) = Div mode s (with_date on a) (with_date on b)
-with_date on (Acc' body n first) = Acc (with_date on body) n (with_date on first)

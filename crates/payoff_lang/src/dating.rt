@@ -1,17 +1,52 @@
-//! Value expressions from expressions whose dates stand in a text.
+//! Value expressions from expressions, for every way in which an offset gives a date.
 
-ghost use Rattle.std.specs.Prelude.{◌≡◌, IfOk};
+ghost use Rattle.std.specs.Prelude.{◌≡◌, ℤ, IfOk};
 ghost use Rattle.indexmap.specs.IndexMap.{keys};
 ghost use Rattle.term_core.specs.Terms.{expression};
-ghost use Rattle.payoff_lang.specs.TemplateDates.{date};
+ghost use Rattle.payoff_lang.specs.TemplateDates.{Date, date, plus_days};
+ghost use Rattle.payoff_lang.specs.Dating.{HaveDates, MayMove, with_date};
 ghost use Rattle.payoff_lang.specs.Code.{value_expression};
-ghost use Rattle.payoff_lang.specs.CodeReading.{date_at, last_bytes, with_date};
+ghost use Rattle.payoff_lang.specs.CodeReading.{date_at, last_bytes};
 
 use crate::code::{DateExpr, Vx};
 use crate::date_reading::written_date;
 use decimal::NoMemory;
 use std::alloc::Global;
 use term_core::{Decls, Expr};
+
+/// How the offset of an observable gives the date on which it is read.
+pub trait Dating {
+    ghost has: { Self → ℤ → Type 0 };
+
+    ghost on: { Self → ℤ → Date };
+
+    /// The date at an offset.
+    fn date_at(&self, alloc: Global, offset: i32) -> Result<DateExpr, NoMemory>
+        requires { has self.now offset }
+        ensures { IfOk result (λ x. date x ≡ on self.now offset) };
+}
+
+// So many days later; the templates stay.
+impl Dating for DateExpr {
+    ghost has = { λ x t. MayMove x.days t };
+
+    ghost on = { λ x t. plus_days (date x) t };
+
+    fn date_at(&self, alloc: Global, offset: i32) -> Result<DateExpr, NoMemory> {
+        let names = Vec::from_slice(alloc, self.names.as_slice())?;
+        Ok(DateExpr {
+            days: self.days + offset,
+            names,
+        })
+    }
+}
+
+/// The dates of a text. An expression that was read as one of code has the place of each as its offset.
+#[derive(Clone, Copy)]
+pub struct Written<'a> {
+    pub decls: &'a Decls,
+    pub text: &'a [u8],
+}
 
 // The last bytes of a text, so many.
 fn last_bytes(text: &[u8], place: i32) -> &[u8]
@@ -23,16 +58,20 @@ fn last_bytes(text: &[u8], place: i32) -> &[u8]
     }
 }
 
-// The date at a place of a text.
-fn dated_at(alloc: Global, decls: &Decls, text: &[u8], place: i32) -> Result<DateExpr, NoMemory>
-    ensures { IfOk result (λ x. date x ≡ date_at (keys decls.now.templates) text.now place) }
-{
-    written_date(alloc, decls, last_bytes(text, place))
+impl<'a> Dating for Written<'a> {
+    ghost has = { λ w place. Unit {0} };
+
+    ghost on = { λ w place. date_at (keys w.decls.now.templates) w.text.now place };
+
+    fn date_at(&self, alloc: Global, offset: i32) -> Result<DateExpr, NoMemory> {
+        written_date(alloc, self.decls, last_bytes(self.text, offset))
+    }
 }
 
-/// The value expression of an expression that was read as one of code: the place of each date is its offset.
-pub fn dated(alloc: Global, decls: &Decls, text: &[u8], e: &Expr) -> Result<Vx, NoMemory>
-    ensures { IfOk result (λ v. value_expression v ≡ with_date (date_at (keys decls.now.templates) text.now) (expression e.now)) }
+/// The value expression of an expression, by the dates of its offsets.
+pub fn dated<D: Dating>(alloc: Global, dates: &D, e: &Expr) -> Result<Vx, NoMemory>
+    requires { HaveDates (D.has dates.now) (expression e.now) }
+    ensures { IfOk result (λ v. value_expression v ≡ with_date (D.on dates.now) (expression e.now)) }
 {
     match e {
         Expr::Lit { mant, scale } => Ok(Vx::Lit {
@@ -42,19 +81,19 @@ pub fn dated(alloc: Global, decls: &Decls, text: &[u8], e: &Expr) -> Result<Vx, 
         Expr::Yes { value } => Ok(Vx::Yes { value: *value }),
         Expr::Var { back } => Ok(Vx::Var { back: *back }),
         Expr::Obs { label, offset } => {
-            let date = dated_at(alloc, decls, text, *offset)?;
+            let date = dates.date_at(alloc, *offset)?;
             Ok(Vx::Model {
                 label: *label,
                 date,
             })
         }
         Expr::Neg { of } => {
-            let of = Box::new(alloc, dated(alloc, decls, text, of)?)?;
+            let of = Box::new(alloc, dated(alloc, dates, of)?)?;
             Ok(Vx::Neg { of })
         }
         Expr::Num { op, left, right } => {
-            let left = Box::new(alloc, dated(alloc, decls, text, left)?)?;
-            let right = Box::new(alloc, dated(alloc, decls, text, right)?)?;
+            let left = Box::new(alloc, dated(alloc, dates, left)?)?;
+            let right = Box::new(alloc, dated(alloc, dates, right)?)?;
             Ok(Vx::Num {
                 op: *op,
                 left,
@@ -62,8 +101,8 @@ pub fn dated(alloc: Global, decls: &Decls, text: &[u8], e: &Expr) -> Result<Vx, 
             })
         }
         Expr::Cmp { op, left, right } => {
-            let left = Box::new(alloc, dated(alloc, decls, text, left)?)?;
-            let right = Box::new(alloc, dated(alloc, decls, text, right)?)?;
+            let left = Box::new(alloc, dated(alloc, dates, left)?)?;
+            let right = Box::new(alloc, dated(alloc, dates, right)?)?;
             Ok(Vx::Cmp {
                 op: *op,
                 left,
@@ -71,12 +110,12 @@ pub fn dated(alloc: Global, decls: &Decls, text: &[u8], e: &Expr) -> Result<Vx, 
             })
         }
         Expr::Not { of } => {
-            let of = Box::new(alloc, dated(alloc, decls, text, of)?)?;
+            let of = Box::new(alloc, dated(alloc, dates, of)?)?;
             Ok(Vx::Not { of })
         }
         Expr::Logic { op, left, right } => {
-            let left = Box::new(alloc, dated(alloc, decls, text, left)?)?;
-            let right = Box::new(alloc, dated(alloc, decls, text, right)?)?;
+            let left = Box::new(alloc, dated(alloc, dates, left)?)?;
+            let right = Box::new(alloc, dated(alloc, dates, right)?)?;
             Ok(Vx::Logic {
                 op: *op,
                 left,
@@ -84,17 +123,17 @@ pub fn dated(alloc: Global, decls: &Decls, text: &[u8], e: &Expr) -> Result<Vx, 
             })
         }
         Expr::Cond { test, yes, no } => {
-            let test = Box::new(alloc, dated(alloc, decls, text, test)?)?;
-            let yes = Box::new(alloc, dated(alloc, decls, text, yes)?)?;
-            let no = Box::new(alloc, dated(alloc, decls, text, no)?)?;
+            let test = Box::new(alloc, dated(alloc, dates, test)?)?;
+            let yes = Box::new(alloc, dated(alloc, dates, yes)?)?;
+            let no = Box::new(alloc, dated(alloc, dates, no)?)?;
             Ok(Vx::Cond { test, yes, no })
         }
         Expr::Widen { scale, of } => {
-            let of = Box::new(alloc, dated(alloc, decls, text, of)?)?;
+            let of = Box::new(alloc, dated(alloc, dates, of)?)?;
             Ok(Vx::Widen { scale: *scale, of })
         }
         Expr::Round { mode, scale, of } => {
-            let of = Box::new(alloc, dated(alloc, decls, text, of)?)?;
+            let of = Box::new(alloc, dated(alloc, dates, of)?)?;
             Ok(Vx::Round {
                 mode: *mode,
                 scale: *scale,
@@ -107,8 +146,8 @@ pub fn dated(alloc: Global, decls: &Decls, text: &[u8], e: &Expr) -> Result<Vx, 
             top,
             below,
         } => {
-            let top = Box::new(alloc, dated(alloc, decls, text, top)?)?;
-            let below = Box::new(alloc, dated(alloc, decls, text, below)?)?;
+            let top = Box::new(alloc, dated(alloc, dates, top)?)?;
+            let below = Box::new(alloc, dated(alloc, dates, below)?)?;
             Ok(Vx::Div {
                 mode: *mode,
                 scale: *scale,
@@ -117,8 +156,8 @@ pub fn dated(alloc: Global, decls: &Decls, text: &[u8], e: &Expr) -> Result<Vx, 
             })
         }
         Expr::Acc { body, days, first } => {
-            let body = Box::new(alloc, dated(alloc, decls, text, body)?)?;
-            let first = Box::new(alloc, dated(alloc, decls, text, first)?)?;
+            let body = Box::new(alloc, dated(alloc, dates, body)?)?;
+            let first = Box::new(alloc, dated(alloc, dates, first)?)?;
             Ok(Vx::Acc {
                 body,
                 days: *days,

@@ -20,7 +20,7 @@ ghost use Rattle.payoff_lang.specs.CodeReading.{behind_amount_head, code_in, dat
 
 use crate::code::{Code, DateExpr, Vx};
 use crate::date_reading::read_date;
-use crate::dating::dated;
+use crate::dating::{Written, dated};
 use contract_parse::{
     AmountHead, Bound, Language, ReadErr, amount_head_at, next, read_binder, read_expr,
     read_use_of_set, refuse, skip_mark, skip_word,
@@ -135,7 +135,7 @@ fn read_value<'a>(
     ensures shorter { IfOk result (λ r. length r.1.now ≤ length rest.now) }
 {
     let (e, after) = read_expr(alloc, Language::Code, decls, bound, depth, rest)?;
-    let v = dated(alloc, decls, rest, &e)?;
+    let v = dated(alloc, &Written { decls, text: rest }, &e)?;
     Ok((v, after))
 }
 

@@ -9,8 +9,11 @@ use Rattle.payoff_lang.specs.Code.{ValueExpression}
 use Rattle.payoff_lang.specs.Dating.{plain}
 use Rattle.payoff_lang.specs.CodeReading.{date_at}
 use Rattle.payoff_lang.specs.CodeSpelling.{value_part}
-use Rattle.payoff_lang.proofs.DatedSpelled.{dated_spelled, height_dated}
+use Rattle.payoff_lang.proofs.DatedSpelled.{dated_spelled, have_dates, height_dated}
 use Rattle.payoff_lang.proofs.reading.read_value.Goals as goal
+
+pub dated-requires : goal.dated-requires
+dated-requires c = have_dates (λ place. Unit {0}) (λ place. tt) (expression c.in_ok-e.e)
 
 pub returns-clause-spelled : goal.returns-clause-spelled
 returns-clause-spelled c =
