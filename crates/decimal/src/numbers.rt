@@ -1,4 +1,4 @@
-// Whole numbers from text.
+//! Whole numbers from text.
 
 ghost use Rattle.std.specs.Prelude.{◌≡◌, ◌≤◌, ◌-◌, IfSome};
 ghost use Rattle.decimal.specs.Reading.{number_after, number_up_to, up_to};
