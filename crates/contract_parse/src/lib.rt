@@ -1,6 +1,6 @@
 //! Portfolios from their texts: tokens, the grammar of declarations and contracts, and the first fault of a
-//! text that is none. A cursor lends tokens and declarations to other grammars; payoff code has its
-//! expressions from here.
+//! text that is none. Payoff code is read with the same readers; a cursor lends tokens and declarations to
+//! whoever embeds them in a grammar of their own.
 //!
 //! ```text
 //! let portfolio = parse_portfolio(alloc, &bytes)?; // of at most 16,777,216 bytes

@@ -109,7 +109,7 @@ fn total_of_let(
 /// and an asset, in units of ten to the minus those decimals. `Refused` names the first node in the order of trial that
 /// breaks the rule on bounds: a mantissa or an aligned operand of more than 10^37 in size, a divisor that may be 0, or a
 /// total of more than 10^27, as it is or at the portfolio's decimals. An accumulator's body is tried anew for each of
-/// its days. It takes no memory today; a caller provides for want of it.
+/// its days. It takes no memory, which its clause leaves open.
 pub fn bounds(alloc: Global, decls: &Decls, c: &Contr) -> Result<i128, CheckErr>
     requires sorted { Meets (declarations decls.now) Rule.Sort (contract c.now) }
     requires scaled { Meets (declarations decls.now) Rule.Scale (contract c.now) }

@@ -8,8 +8,8 @@
 //!
 //! Promised: `scales` answers the scale and `sizes` the reach, or the first node at which the rule fails
 //! (`IsVerdict`, `IsSizeVerdict`).
-//! Only tested: that `scales` answers where there is memory (by `contract_check`, in
-//! `library_tests/src/verdicts.rt`).
+//! Only tested: that `scales` answers, since the clauses leave want of memory open, which never comes (by
+//! `contract_check`, in `library_tests/src/verdicts.rt`).
 #![tactic(auto)]
 
 mod part_sizes;

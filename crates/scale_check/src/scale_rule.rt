@@ -215,7 +215,7 @@ fn try_scale(decls: &Decls, c: &Contr, scope: &Scope<u8>) -> Result<u8, u32>
 
 /// The scale of a contract, the decimals that its flows have, where the rule on scales holds everywhere in it. Where it
 /// fails, the answer has the first node at fault, in the order in which the rules of acceptance try nodes. It takes no
-/// memory today; a caller provides for want of it.
+/// memory, which its clause leaves open.
 pub fn scales(alloc: Global, decls: &Decls, c: &Contr) -> Result<u8, CheckErr>
     requires low { height_of_contract (contract c.now) ≤ 1_000 }
     requires small { nodes_of_contract (contract c.now) < 2 ^ 32 }

@@ -8,8 +8,8 @@
 //!
 //! Promised: `sorts` and `times` answer that their rule holds, `times` with the start, or the first node at
 //! which it fails (`IsVerdict`).
-//! Only tested: that they answer where there is memory (by `contract_check`, in
-//! `library_tests/src/verdicts.rt`).
+//! Only tested: that they answer, since the clauses leave want of memory open, which never comes (by
+//! `contract_check`, in `library_tests/src/verdicts.rt`).
 #![tactic(auto)]
 
 mod laws;

@@ -181,7 +181,7 @@ fn try_sorts(decls: &Decls, c: &Contr, scope: &Scope<Sort>) -> Result<(), u32>
 }
 
 /// Whether the rule on sorts holds everywhere in a contract. Where it fails, the answer has the first node at fault, in
-/// the order in which the rules of acceptance try nodes. It takes no memory today; a caller provides for want of it.
+/// the order in which the rules of acceptance try nodes. It takes no memory, which its clause leaves open.
 pub fn sorts(alloc: Global, decls: &Decls, c: &Contr) -> Result<(), CheckErr>
     requires low { height_of_contract (contract c.now) ≤ 1_000 }
     requires small { nodes_of_contract (contract c.now) < 2 ^ 32 }

@@ -190,7 +190,7 @@ fn try_start(c: &Contr, scope: &Scope<Option<i64>>, day: PartDay) -> Result<Star
 /// The start of a contract, where the rule on times holds everywhere in it. Where it fails, the answer has the first
 /// node at fault, in the order in which the rules of acceptance try nodes: a `scale` whose factor is not known when its
 /// body starts, or an `if .. within` whose test is not known on the first day (after the typing of times of Bahr,
-/// Berthold and Elsman, ICFP 2015). It takes no memory today; a caller provides for want of it.
+/// Berthold and Elsman, ICFP 2015). It takes no memory, which its clause leaves open.
 pub fn times(alloc: Global, decls: &Decls, c: &Contr) -> Result<Start, CheckErr>
     requires low { height_of_contract (contract c.now) ≤ 1_000 }
     requires small { nodes_of_contract (contract c.now) < 2 ^ 32 }
