@@ -1,4 +1,4 @@
-// What `advance` prints, and what stops it.
+//! What `advance` prints, and what stops it.
 
 use crate::Status;
 use crate::test_runs::{HALF, LOAN, NOTHING_FIXED, RISING, TOUCH, TREASURY, prints, two_files};

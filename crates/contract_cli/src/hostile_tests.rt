@@ -1,4 +1,4 @@
-// Files that cannot be read, sinks that fail, texts that are cut off, and the limits at their last good and first bad numbers.
+//! Files that cannot be read, sinks that fail, texts that are cut off, and the limits at their last good and first bad numbers.
 
 use crate::test_runs::{
     CURVE, LOAN_BY_LINES, LOAN_CODE, NOTHING_FIXED, ROOM, TREASURY, entry, one_file, prints, ran,

@@ -1,4 +1,4 @@
-// A book of 65,541 nodes, of which one part changes on each of 80,000 days and the others on none.
+//! A book of 65,541 nodes, of which one part changes on each of 80,000 days and the others on none.
 
 use crate::Status;
 use crate::test_runs::{ran, two_files};

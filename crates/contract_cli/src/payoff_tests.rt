@@ -1,4 +1,4 @@
-// What `payoff` prints, and what stops it.
+//! What `payoff` prints, and what stops it.
 
 use crate::Status;
 use crate::test_runs::{HALF, LOAN, LOAN_CODE, TOUCH, one_file, prints};

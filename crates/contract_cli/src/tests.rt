@@ -1,4 +1,4 @@
-// What each command prints, but for those that have files of their own, and which fault comes first.
+//! What each command prints, but for those that have files of their own, and which fault comes first.
 
 use crate::test_runs::{
     HALF, LOAN, NOTHING_FIXED, RISING, ROOM, TOUCH, one_file, prints, two_files,

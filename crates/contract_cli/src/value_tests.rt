@@ -1,4 +1,4 @@
-// What `value` prints, and what stops it.
+//! What `value` prints, and what stops it.
 
 use crate::Status;
 use crate::test_runs::{CURVE, LOAN_CODE, NOTHING_FIXED, entry, prints};

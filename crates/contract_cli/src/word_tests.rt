@@ -1,4 +1,4 @@
-// The words of each command: lines that are refused, and lines that are taken.
+//! The words of each command: lines that are refused, and lines that are taken.
 
 use crate::test_runs::{CURVE, NOTHING_FIXED, ROOM, entry, ran};
 use crate::{Status, run};

@@ -32,14 +32,14 @@ or_fault kind (Some x) = Ok x
 abbrev pub whole : Tok → ℕ
 whole t = number_after 0 t.text
 
--- INT
+-- a whole number: a number without a point, up to a greatest
 abbrev pub integer_at : ℕ → Tok → Result ℕ TextKind
 integer_at most t = if is_integer t then or_fault Number (up_to most (whole t)) else Err Syntax
 
 abbrev pub is_version : Tok → Bool
 is_version t = is_integer t && (whole t == 1)
 
--- SINT, behind its sign
+-- a whole number behind its sign
 abbrev pub signed_result : Bool → Result ℕ TextKind → Result ℤ TextKind
 signed_result negative (Ok n) = Ok (signed negative n)
 signed_result negative (Err kind) = Err kind
@@ -61,7 +61,7 @@ abbrev pub signed_decimal : Bool → Option Decimal → Result Decimal TextKind
 signed_decimal negative None = Err Number
 signed_decimal negative (Some d) = Ok (with_sign negative d)
 
--- DEC, behind its sign
+-- a decimal behind its sign
 abbrev pub literal_at : Bool → Tok → Result Decimal TextKind
 literal_at negative t = if is_number t then signed_decimal negative (decimal_of t.text) else Err Syntax
 

@@ -31,6 +31,7 @@ pub struct Extent {
 
 const LONGEST_WORD: usize = 64;
 
+/// Whether a byte is a letter or `_`, with which words begin.
 pub fn is_letter(b: u8) -> bool
     ensures { result ≡ is_letter b }
 {
@@ -43,6 +44,7 @@ fn is_digit(b: u8) -> bool
     48 <= b && b <= 57
 }
 
+/// Whether a byte may stand in a word: a letter, `_` or a digit.
 pub fn is_word_byte(b: u8) -> bool
     ensures { result ≡ is_word_byte b }
 {
@@ -55,7 +57,7 @@ fn is_blank(b: u8) -> bool
     b == 32 || b == 9 || b == 13 || b == 10
 }
 
-// The bytes after the blanks and the comments.
+/// The bytes after the blanks and the comments.
 pub fn after_gap(bytes: &[u8]) -> &[u8]
     ensures rest { result.now ≡ after_gap false bytes.now }
     ensures within { length result.now ≤ length bytes.now }

@@ -83,7 +83,7 @@ fn is_reserved_of_more(text: &[u8]) -> bool
         || text == b"half_away".as_slice()
 }
 
-// By the length of the word first: it tells most names from the reserved words.
+/// Whether a word is reserved, and so no name. The length is looked at first: it tells most names from the reserved words.
 pub fn is_reserved(text: &[u8]) -> bool
     ensures { result ≡ is_reserved text.now }
 {
@@ -115,24 +115,28 @@ pub fn look(rest: &[u8]) -> Lookahead<'_>
     Lookahead { token, after }
 }
 
+/// Whether a token is this word.
 pub fn is_the_word(token: &Lexeme<'_>, word: &[u8]) -> bool
     ensures { result ≡ is_the_word word.now (tok_of token.now) }
 {
     matches!(token.kind, Kind::Word) && token.text == word
 }
 
+/// Whether a token is this mark.
 pub fn is_the_mark(token: &Lexeme<'_>, mark: &[u8]) -> bool
     ensures { result ≡ is_the_mark mark.now (tok_of token.now) }
 {
     matches!(token.kind, Kind::Mark) && token.text == mark
 }
 
+/// Whether a token is a name: a word that is not reserved.
 pub fn is_name(token: &Lexeme<'_>) -> bool
     ensures { result ≡ is_name (tok_of token.now) }
 {
     matches!(token.kind, Kind::Word) && !is_reserved(token.text)
 }
 
+/// Whether a token is a number, with a point or without.
 pub fn is_number(token: &Lexeme<'_>) -> bool
     ensures { result ≡ is_number (tok_of token.now) }
 {
@@ -152,12 +156,14 @@ pub fn is_integer(token: &Lexeme<'_>) -> bool
     matches!(token.kind, Kind::Number) && has_no_point(token.text)
 }
 
+/// Whether a token is a date, `dddd-dd-dd` by its form.
 pub fn is_date(token: &Lexeme<'_>) -> bool
     ensures { result ≡ is_date (tok_of token.now) }
 {
     matches!(token.kind, Kind::Date)
 }
 
+/// Whether a token is the end of the text.
 pub fn is_end(token: &Lexeme<'_>) -> bool
     ensures { result ≡ is_end (tok_of token.now) }
 {

@@ -1,4 +1,4 @@
-// Powers of ten, and mantissas brought to a greater scale.
+//! Powers of ten, and mantissas brought to a greater scale.
 
 ghost use Rattle.std.specs.Prelude.{◌≡◌, ◌^◌, ◌≤◌, ◌-◌, pos, unsigned_abs, nat_le, IfSome};
 ghost use Rattle.decimal.specs.Rounding.{raised};

@@ -1,4 +1,4 @@
-// Rounding to fewer decimals, and quotients rounded to a scale.
+//! Rounding to fewer decimals, and quotients rounded to a scale.
 
 ghost use Rattle.std.specs.Prelude.{◌≡◌, ◌≢◌, ◌+◌, ◌^◌, ◌≤◌, ◌-◌, pos, ◌+ℤ◌, ◌≤ℤ◌, ◌<ℤ◌, neg_ℤ, unsigned_abs};
 ghost use Rattle.decimal.specs.Rounding.{raised, rounded, at_scale, nearest, quotient, divided, DivFits};

@@ -1,4 +1,4 @@
-// Contracts from their texts.
+//! Contracts from their texts.
 
 ghost use Rattle.std.specs.Prelude.{◌≤◌, ◌<◌, IfOk};
 ghost use Rattle.term_core.specs.Declarations.{declarations};

@@ -1,6 +1,6 @@
-// The first faults of texts of payoff code, place by place of the grammar. Most tables have a text in two parts: the token
-// at fault begins the second, which stands on a line of its own. Each table is a function, so that the proof of what walks
-// it does not read its rows.
+//! The first faults of texts of payoff code, place by place of the grammar. Most tables have a text in two parts: the token
+//! at fault begins the second, which stands on a line of its own. Each table is a function, so that the proof of what walks
+//! it does not read its rows.
 
 use contract_parse::{ParseErr, TextFault, TextKind, parse_portfolio};
 use payoff_lang::parse_code;

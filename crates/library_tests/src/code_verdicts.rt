@@ -1,4 +1,4 @@
-// Verdicts on payoff code at settings. Every rule of acceptance takes part.
+//! Verdicts on payoff code at settings. Every rule of acceptance takes part.
 
 ghost use Rattle.std.specs.Prelude.{◌≤◌, ◌<◌, ◌+◌, IfOk};
 ghost use Rattle.payoff_lang.specs.Code.{payoff_code};

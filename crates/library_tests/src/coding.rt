@@ -1,4 +1,4 @@
-// Code files that are read and printed.
+//! Code files that are read and printed.
 
 use crate::printing::{Outcome, outcome_of};
 use contract_parse::ParseErr;

@@ -1,4 +1,4 @@
-// Contracts that are compiled to payoff code, against the code as it is written.
+//! Contracts that are compiled to payoff code, against the code as it is written.
 
 ghost use Rattle.std.specs.Prelude.{IfOk};
 ghost use Rattle.term_core.specs.Acceptance.{IsAccepted};

@@ -1,4 +1,4 @@
-// Tables of discount factors, the factors that they say, and the lines of values, by hand.
+//! Tables of discount factors, the factors that they say, and the lines of values, by hand.
 
 use fixing_files::{RowErr, RowFault, RowKind, read_curve};
 use report::value_line;

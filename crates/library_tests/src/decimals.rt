@@ -1,4 +1,4 @@
-// Worked values, by hand.
+//! Worked values, by hand.
 
 use decimal::{DecFault, Decimal, Mode, align, div_to, pow10, read, round_to, write};
 

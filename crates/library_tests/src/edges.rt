@@ -1,3 +1,5 @@
+//! Files and sinks in memory and of the system: what they answer, what they hold, and what they count.
+
 use decimal::NoMemory;
 use edge_io::{
     Entry, Files, MemoryFiles, MemorySink, ReadErr, RealFiles, RealSink, Sink, WriteErr,

@@ -1,4 +1,4 @@
-// Tables of fixings, runs of days, and days, by hand.
+//! Tables of fixings, runs of days, and days, by hand.
 
 use fixing_files::{DayFault, Fixings, RowErr, RowFault, RowKind, day_of_text, read_fixings};
 use indexmap::{IndexMap, IndexSet};

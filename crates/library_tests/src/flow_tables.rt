@@ -1,4 +1,4 @@
-// Flows of accepted contracts, over tables of fixings, and sums of flow tables.
+//! Flows of accepted contracts, over tables of fixings, and sums of flow tables.
 
 ghost use Rattle.std.specs.Prelude.{◌≤◌, ◌<◌, ◌≤ℤ◌, ◌^◌, pos, length, unsigned_abs, IfOk, IfSome, IsTrue};
 ghost use Rattle.term_core.specs.Acceptance.{IsAccepted};

@@ -1,4 +1,4 @@
-// Lines of verdicts, faults and flows.
+//! Lines of verdicts, faults and flows.
 
 ghost use Rattle.std.specs.Prelude.{◌≤◌, ◌^◌, pos, unsigned_abs, IsTrue, IfOk};
 ghost use Rattle.flow_eval.specs.Tables.{IsDueRow};

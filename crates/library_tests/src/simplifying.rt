@@ -1,5 +1,5 @@
-// What the simplifier answers to accepted contracts. A portfolio of `examples` has each redex that asks for no frame at a
-// root, in a factor, in a test, in a branch, under a name, and in the start and the body of an accumulator.
+//! What the simplifier answers to accepted contracts. A portfolio of `examples` has each redex that asks for no frame at a
+//! root, in a factor, in a test, in a branch, under a name, and in the start and the body of an accumulator.
 
 ghost use Rattle.std.specs.Prelude.{◌≤◌, ◌<◌};
 ghost use Rattle.term_core.specs.Declarations.{declarations};

@@ -1,4 +1,4 @@
-// What the specialiser makes of expressions and contracts over fixings.
+//! What the specialiser makes of expressions and contracts over fixings.
 
 ghost use Rattle.std.specs.Prelude.{◌≤◌, ◌<◌};
 ghost use Rattle.term_core.specs.Declarations.{declarations};

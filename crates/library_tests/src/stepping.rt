@@ -1,4 +1,4 @@
-// What a step of a day leaves of accepted contracts.
+//! What a step of a day leaves of accepted contracts.
 
 ghost use Rattle.std.specs.Prelude.{◌≤◌, ◌<◌};
 ghost use Rattle.term_core.specs.Declarations.{declarations};

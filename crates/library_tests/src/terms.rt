@@ -1,4 +1,4 @@
-// Terms, declarations and dates, and what is made of them.
+//! Terms, declarations and dates, and what is made of them.
 
 use crate::cases::{H, case_of, portfolio_of};
 use decimal::Mode;

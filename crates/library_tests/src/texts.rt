@@ -1,5 +1,5 @@
-// Texts of portfolios, the first faults of the others, and the tokens of a text one at a time. Each table is a function,
-// so that the proof of what walks it does not read its rows.
+//! Texts of portfolios, the first faults of the others, and the tokens of a text one at a time. Each table is a function,
+//! so that the proof of what walks it does not read its rows.
 
 ghost use Rattle.std.specs.Prelude.{◌≤◌, length};
 ghost use Rattle.contract_parse.specs.Cursors.{Fits};

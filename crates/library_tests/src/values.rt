@@ -1,4 +1,4 @@
-// Values of expressions in accepted contracts, over tables of fixings.
+//! Values of expressions in accepted contracts, over tables of fixings.
 
 ghost use Rattle.std.specs.Prelude.{◌≡◌, ◌≤◌, ◌<◌, ◌^◌, length, unsigned_abs};
 ghost use Rattle.term_core.specs.Declarations.{declarations};

@@ -1,4 +1,4 @@
-// Verdicts on contracts, as lines. Every rule of acceptance takes part.
+//! Verdicts on contracts, as lines. Every rule of acceptance takes part.
 
 ghost use Rattle.std.specs.Prelude.{◌≤◌, ◌<◌};
 ghost use Rattle.term_core.specs.Declarations.{declarations};

@@ -3,6 +3,7 @@
 
 ghost use Rattle.std.specs.Prelude.{◌≡◌, ◌+◌, ◌≤◌, ◌<◌, ◌^◌, IfOk, IfErr};
 
+// The limits of the rule on sizes of payoff code: nodes on a path, nodes, days of one loop or window, steps.
 const MOST_HEIGHT: u32 = 400;
 
 const MOST_NODES: u32 = 200_000;

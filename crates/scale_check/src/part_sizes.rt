@@ -15,6 +15,7 @@ pub struct Size {
     pub work: u64,
 }
 
+// The limits of the rule on sizes: nodes on a path, nodes, days of one delay or test, reach, reach and past together, steps.
 const MOST_HEIGHT: u64 = 200;
 
 const MOST_NODES: u64 = 100_000;

@@ -45,7 +45,7 @@ fn plain(v: Typed) -> Expr
     literal(v.kind, v.value)
 }
 
-// What an operator on literals comes to, and nothing where it is none.
+/// What an operator on literals comes to, and nothing where it is none.
 #[tactic(auto, using(rewriting::proofs::SizeFacts::some_size))]
 pub fn fold(e: &Expr) -> Option<Expr>
     requires { CanFold (expression e.now) }
