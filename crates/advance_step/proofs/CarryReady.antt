@@ -1,12 +1,12 @@
 -- Every part of an accepted contract can be carried.
-use Rattle.std.proofs.Common.{◌≡◌, ◌≤◌, ℕ, ℤ, List, [], ◌∷◌, Result, refl, inl, inr, ap, sym, subst, arith}
+use Rattle.std.proofs.Common.{◌≡◌, ◌≤◌, ℕ, ℤ, List, [], ◌∷◌, Result, inl, inr, ap, sym, subst, arith}
 use Rattle.term_core.specs.Declarations.{Declarations}
 use Rattle.term_core.specs.declared.values.Value.{Value}
 use Rattle.term_core.specs.declared.values.Missing.{Missing}
 use Rattle.term_core.specs.declared.shared.SharedContr.{SharedContr}
 use Rattle.term_core.specs.declared.shared.SharedContr.TheVariants.{Zero as Zero', Pay as Pay', Both', Scale', After', Let', Within'}
 use Rattle.term_core.specs.Terms.{expression}
-use Rattle.term_core.specs.Terms.{Expression, Lit, Yes, Var, Obs, Neg, Num, Cmp, Not, Logic, Cond, Widen, Round, Div, Acc}
+use Rattle.term_core.specs.Terms.{Expression}
 use Rattle.term_core.specs.Terms.{Contract, Let}
 use Rattle.term_core.specs.Values.{kind_or}
 use Rattle.term_core.specs.Bounds.{Range}
@@ -15,20 +15,16 @@ use Rattle.term_core.specs.SharedTerms.{shared, StoresOffsets}
 use Rattle.term_core.specs.Sizes.{past, height_of_contract}
 use Rattle.term_core.specs.Acceptance.{IsAccepted}
 use Rattle.interval_check.specs.Nodes.{range_of}
-use Rattle.interval_check.specs.Parts.{IsPart, IsPartHere, StandsIn}
+use Rattle.interval_check.specs.Parts.{StandsIn}
 use Rattle.rewriting.proofs.LookFacts.{Look}
 use Rattle.rewriting.proofs.ShiftedRules.{unshifted_alike}
 use Rattle.expr_eval.specs.declared.scratch.Binding.{Binding}
 use Rattle.expr_eval.specs.Evaluable.{MayEvaluate, MayEvaluateIn, Suits}
 use Rattle.expr_eval.specs.Answers.{entry_from, SuitsBinding}
-use Rattle.expr_eval.proofs.PartFacts.{accepted_may_evaluate, parts_of_parts_may_evaluate}
+use Rattle.expr_eval.proofs.PartFacts.{accepted_may_evaluate, parts_of_parts_may_evaluate, here}
 use Rattle.expr_eval.proofs.EvaluableFacts.{past_of_standing, past_limited}
 use Rattle.flow_eval.proofs.RootFacts.{limits_of}
-use Rattle.specialise.proofs.PartFacts.{part_of_itself}
 use Rattle.advance_step.specs.CarryingWalk.{CanCarry, IsEntry, WithEntry}
-
-here : (e : Expression) (g : List Range) → IsPartHere e g e g
-here e g = record { part = part_of_itself e; ranges = refl }
 
 -- an expression that stands in an accepted contract reads not too far back
 recent : (d : Declarations) (c : Contract) (e : Expression) (bs : List Binding) (h : MayEvaluateIn d c bs) → StandsIn d e h.ranges c h.ranges → past e ≤ 1_000_000

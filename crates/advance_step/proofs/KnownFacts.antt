@@ -18,7 +18,7 @@ use Rattle.term_core.specs.Smallness.{is_small}
 use Rattle.term_core.specs.WellFormed.{IsClosed, HasOnlyNumbers}
 use Rattle.term_core.proofs.TimeFacts.{whole_passes}
 use Rattle.interval_check.specs.Within.{KeepsLimits}
-use Rattle.simplify.proofs.SimplifyingFacts.{shared_numbers}
+use Rattle.simplify.proofs.SimplifyingFacts.{right_scale}
 use Rattle.flow_eval.specs.FlowAnswers.{reads_until}
 use Rattle.flow_eval.specs.Faults.{lacks_memory}
 use Rattle.flow_eval.specs.declared.faults.FlowErr.{FlowErr}
@@ -31,7 +31,7 @@ use Rattle.advance_step.proofs.LeftAcceptedFacts.{left_accepted}
 use Rattle.advance_step.proofs.LeftForms.{left_formed}
 use Rattle.advance_step.proofs.LeftSizes.{gone}
 use Rattle.advance_step.proofs.LeftSmall.{contract_limits}
-use Rattle.advance_step.proofs.ReducingFacts.{right_scale}
+use Rattle.specialise.proofs.CallFacts.{shared_numbers}
 
 -- ---- nothing is missing
 

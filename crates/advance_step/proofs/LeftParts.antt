@@ -2,45 +2,30 @@
 use Rattle.rewriting.proofs.Choices.{if_cases}
 use Rattle.rewriting.specs.Worth.{Worth}
 use Rattle.rewriting.proofs.Worth.{worth_zero, worth_nothing, worth_is, worth_more, both_worth, under_nothing}
-use Rattle.std.proofs.Common.{◌≡◌, ℕ, ℤ, pos, ◌+ℤ◌, ◌*ℤ◌, ◌+◌, ◌-◌, max, true, if◌then◌else◌, refl, ap, ap₂, sym, subst, ◌∙◌, List, ◌∷◌, arith}
+use Rattle.std.proofs.Common.{◌≡◌, ℕ, ℤ, ◌+ℤ◌, ◌*ℤ◌, ◌+◌, ◌-◌, max, if◌then◌else◌, ap, ap₂, sym, subst, ◌∙◌, List, ◌∷◌, arith}
 use Rattle.std.proofs.Math.IntN.{*ℤ-zero}
-use Rattle.std.proofs.lemmas.Int.{ints}
 use Rattle.decimal.specs.Rounding.{raised}
 use Rattle.term_core.specs.Declarations.{Declarations}
-use Rattle.term_core.specs.Terms.{Expression, Contract, Zero, Pay, Both, Scale, After, Let, Within}
+use Rattle.term_core.specs.Terms.{Expression, Contract, Zero, Both, Scale, Let}
 use Rattle.term_core.specs.Environments.{Environment}
 use Rattle.term_core.specs.Kinds.{kind_of, scale_of}
 use Rattle.term_core.specs.Values.{Entry, kinds, num, kind_or, value_of}
 use Rattle.term_core.specs.Flows.{Flow, flow_of, scale_of_contract}
 use Rattle.term_core.proofs.FlowFacts.{one_zero}
 use Rattle.simplify.specs.TurningContracts.{is_nothing}
+use Rattle.simplify.proofs.RuleFlows.{nothing_is, left_gone, right_gone}
 use Rattle.advance_step.specs.WhatIsLeft.{both_left, scale_left, let_left}
 use Rattle.rewriting.proofs.RaisedFacts.{raised-times}
 
-zero_is : (c : Contract) → is_nothing c ≡ true → c ≡ Zero
-zero_is Zero h = refl
-zero_is (Pay a p q) h = absurd (cc)
-zero_is (Both a b) h = absurd (cc)
-zero_is (Scale e c) h = absurd (cc)
-zero_is (After n c) h = absurd (cc)
-zero_is (Let e c) h = absurd (cc)
-zero_is (Within e n a b) h = absurd (cc)
-
 pub both_cases : (P : Contract → Type 0) (a b : Contract) → (a ≡ Zero → P b) → (b ≡ Zero → P a) → P (Both a b) → P (both_left a b)
 both_cases P a b left right both =
-    if_cases P (is_nothing a) b (if is_nothing b then a else Both a b) (λ e. left (zero_is a e)) (λ _. if_cases P (is_nothing b) a (Both a b) (λ e. right (zero_is b e)) (λ _. both))
+    if_cases P (is_nothing a) b (if is_nothing b then a else Both a b) (λ e. left (nothing_is a e)) (λ _. if_cases P (is_nothing b) a (Both a b) (λ e. right (nothing_is b e)) (λ _. both))
 
 pub scale_cases : (P : Contract → Type 0) (e : Expression) (c : Contract) → (c ≡ Zero → P Zero) → P (Scale e c) → P (scale_left e c)
-scale_cases P e c none some = if_cases P (is_nothing c) Zero (Scale e c) (λ h. none (zero_is c h)) (λ _. some)
+scale_cases P e c none some = if_cases P (is_nothing c) Zero (Scale e c) (λ h. none (nothing_is c h)) (λ _. some)
 
 pub let_cases : (P : Contract → Type 0) (e : Expression) (c : Contract) → (c ≡ Zero → P Zero) → P (Let e c) → P (let_left e c)
-let_cases P e c none some = if_cases P (is_nothing c) Zero (Let e c) (λ h. none (zero_is c h)) (λ _. some)
-
-none_left : (x y : ℤ) → x ≡ pos 0 → y ≡ x +ℤ y
-none_left x y h = omega (arith, ints)
-
-none_right : (x y : ℤ) → y ≡ pos 0 → x ≡ x +ℤ y
-none_right x y h = omega (arith, ints)
+let_cases P e c none some = if_cases P (is_nothing c) Zero (Let e c) (λ h. none (nothing_is c h)) (λ _. some)
 
 module _ (d : Declarations) (g : List Entry) (env : Environment) (f x : ℤ) (w : Flow) where
   pub worth_both : (s t : ℕ) (u v : ℤ) (a b : Contract) → Worth d g env f x w s u a → Worth d g env f x w t v b → Worth d g env f x w (max s t) (raised u (max s t - s) +ℤ raised v (max s t - t)) (both_left a b)
@@ -48,8 +33,8 @@ module _ (d : Declarations) (g : List Entry) (env : Environment) (f x : ℤ) (w 
       let one = worth_more d g env f x w s (max s t) u a (omega arith) h in
       let other = worth_more d g env f x w t (max s t) v b (omega arith) k in
       both_cases (Worth d g env f x w (max s t) (raised u (max s t - s) +ℤ raised v (max s t - t))) a b
-      (λ e. worth_is d g env f x w (max s t) (raised v (max s t - t)) _ b (none_left (raised u (max s t - s)) (raised v (max s t - t)) (one_zero u (max s t - s) (worth_nothing d g env f x w s u a e h))) other)
-      (λ e. worth_is d g env f x w (max s t) (raised u (max s t - s)) _ a (none_right (raised u (max s t - s)) (raised v (max s t - t)) (one_zero v (max s t - t) (worth_nothing d g env f x w t v b e k))) one)
+      (λ e. worth_is d g env f x w (max s t) (raised v (max s t - t)) _ b (left_gone (raised u (max s t - s)) (raised v (max s t - t)) (one_zero u (max s t - s) (worth_nothing d g env f x w s u a e h))) other)
+      (λ e. worth_is d g env f x w (max s t) (raised u (max s t - s)) _ a (right_gone (raised u (max s t - s)) (raised v (max s t - t)) (one_zero v (max s t - t) (worth_nothing d g env f x w t v b e k))) one)
       (both_worth d g env f x w s t u v a b h k)
 
   pub worth_scale : (s i : ℕ) (v m : ℤ) (e : Expression) (c : Contract) → scale_of d e (kinds g) ≡ i → num (value_of d e g env f) ≡ m → Worth d g env f x w s v c → Worth d g env f x w (i + s) (m *ℤ v) (scale_left e c)

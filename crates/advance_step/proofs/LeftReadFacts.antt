@@ -1,10 +1,10 @@
 -- What is left of a contract transfers on later days only where the contract does, and reads nothing that the contract
 -- does not read.
-use Rattle.std.proofs.Common.{◌≡◌, ℕ, zero, suc, ℤ, pos, negsuc, ◌+ℤ◌, ◌-ℤ◌, ◌<ℤ◌, ◌≤ℤ◌, ◌+◌, ◌-◌, ◌≤◌, ◌<◌, min, Bool, true, false, ◌||◌, if◌then◌else◌, nat_le, int_lt, refl, ap, ap₂, sym, subst, ◌∙◌, Option, Some, None, List, [], ◌∷◌, ◌++◌, inl, inr, arith}
+use Rattle.std.proofs.Common.{◌≡◌, ℕ, zero, suc, ℤ, pos, negsuc, ◌+ℤ◌, ◌-ℤ◌, ◌<ℤ◌, ◌≤ℤ◌, ◌+◌, ◌-◌, ◌≤◌, ◌<◌, min, Bool, false, ◌||◌, if◌then◌else◌, nat_le, int_lt, refl, ap, ap₂, sym, subst, ◌∙◌, Option, Some, None, List, [], ◌∷◌, ◌++◌, inl, inr, arith}
 use Rattle.std.proofs.lemmas.Int.{ints, by_lt_z}
 use Rattle.term_core.specs.Declarations.{Declarations}
 use Rattle.term_core.specs.declared.terms.Days.TheVariants.{Num as Count}
-use Rattle.term_core.specs.Terms.{Expression, Contract, Zero, Pay, Both, Scale, After, Let, Within}
+use Rattle.term_core.specs.Terms.{Contract, Zero, Pay, Both, Scale, After, Let, Within}
 use Rattle.term_core.specs.Environments.{Environment, Place}
 use Rattle.term_core.specs.Values.{Entry, first_true}
 use Rattle.term_core.specs.Flows.{count_of}
@@ -21,28 +21,8 @@ use Rattle.advance_step.proofs.LeftFlowFacts.{le_of, lt_of, rest_frame, rest_day
 use Rattle.term_core.proofs.ReadShiftFacts.{reads-shifted, same_steps}
 use Rattle.rewriting.specs.Keeping.{AreAmong}
 use Rattle.rewriting.proofs.Among.{among_none, among_same, among_left, among_right, among_both, among_if, among_later}
-
--- one is true only where the other is
-abbrev pub OnlyIf : Bool → Bool → Type 0
-OnlyIf b c = b ≡ true → c ≡ true
-
-never : (c : Bool) → OnlyIf false c
-never c h = absurd (cc)
-
-same_test : (b c : Bool) → b ≡ c → OnlyIf b c
-same_test b c e h = sym e ∙ h
-
-pub either : (b c s t : Bool) → OnlyIf b s → OnlyIf c t → OnlyIf (b || c) (s || t)
-either true c s t h k e = rw (h refl) refl
-either false c true t h k e = refl
-either false c false t h k e = k e
-
-one_side : (b s t : Bool) → OnlyIf b s → OnlyIf b (s || t)
-one_side b s t h e = rw (h e) refl
-
-other_side : (b s t : Bool) → OnlyIf b t → OnlyIf b (s || t)
-other_side b true t h e = refl
-other_side b false t h e = h e
+use Rattle.simplify.proofs.RuleReads.{OnlyIf, below_is, live_moved, never, not_below, on_one_side, on_other_side, reads_moved, same_only}
+use Rattle.simplify.proofs.ContractTurnReads.{either}
 
 hit_test : (o : Option ℕ) (k : ℕ) (hit : ℕ → Bool) (miss : Bool) → o ≡ Some k → branch_test o hit miss ≡ hit k
 hit_test o k hit miss e = ap (λ (u : Option ℕ). branch_test u hit miss) e
@@ -54,15 +34,12 @@ later_branch : (m : ℕ) (o : Option ℕ) (hit late : ℕ → Bool) (miss other 
 later_branch m (Some k) hit late miss other h e = h k
 later_branch m None hit late miss other h e = e
 
-moved_live : (d : Declarations) (c : Contract) (g : List Entry) (env : Environment) (f h a b u v : ℤ) → f ≡ h → a ≡ u → b ≡ v → live d c g env f a b ≡ live d c g env h u v
-moved_live d c g env f h a b u v e i j = ap₂ (λ (x y : ℤ). live d c g env x y b) e i ∙ ap (live d c g env h u) j
-
 delayed_live : (d : Declarations) (n : ℕ) (c : Contract) (g : List Entry) (env : Environment) (f a b : ℤ) → live d (delayed n c) g env f a b ≡ live d c g env (f +ℤ pos n) (a -ℤ pos n) (b -ℤ pos n)
-delayed_live d zero c g env f a b = moved_live d c g env _ _ _ _ _ _ (omega (arith, ints)) (omega (arith, ints)) (omega (arith, ints))
+delayed_live d zero c g env f a b = live_moved d c g env _ _ _ _ _ _ (omega (arith, ints)) (omega (arith, ints)) (omega (arith, ints))
 delayed_live d (suc n) c g env f a b = refl
 
 moved_only : (d : Declarations) (c l : Contract) (g : List Entry) (env : Environment) (f h k a b s t u v : ℤ) → f ≡ h → s ≡ u → t ≡ v → OnlyIf (live d l g env f a b) (live d c g env k s t) → OnlyIf (live d l g env h a b) (live d c g env k u v)
-moved_only d c l g env f h k a b s t u v e i j p x = sym (moved_live d c g env k k s t u v refl i j) ∙ p (moved_live d l g env f h a b a b e refl refl ∙ x)
+moved_only d c l g env f h k a b s t u v e i j p x = sym (live_moved d c g env k k s t u v refl i j) ∙ p (live_moved d l g env f h a b a b e refl refl ∙ x)
 
 pub left_live : (d : Declarations) (c : Contract) (g : List Entry) (env : Environment) (f : ℤ) (j : ℕ) (a b : ℤ) → OnlyIf (live d (left_of d c g env f j) g env (f +ℤ pos (suc j)) a b) (live d c g env f (pos (suc j) +ℤ a) (pos (suc j) +ℤ b))
 left_live d Zero g env f j a b = never false
@@ -71,7 +48,7 @@ left_live d (Both x y) g env f j a b =
     let one = left_live d x g env f j a b in
     let other = left_live d y g env f j a b in
     both_cases (λ l. OnlyIf (live d l g env (f +ℤ pos (suc j)) a b) (live d (Both x y) g env f (pos (suc j) +ℤ a) (pos (suc j) +ℤ b))) (left_of d x g env f j) (left_of d y g env f j)
-    (λ _. other_side _ _ _ other) (λ _. one_side _ _ _ one) (either _ _ _ _ one other)
+    (λ _. on_other_side _ _ _ other) (λ _. on_one_side _ _ _ one) (either _ _ _ _ one other)
 left_live d (Scale e c) g env f j a b =
     scale_cases (λ l. OnlyIf (live d l g env (f +ℤ pos (suc j)) a b) (live d c g env f (pos (suc j) +ℤ a) (pos (suc j) +ℤ b))) (shifted (negsuc j) e) (left_of d c g env f j)
     (λ _. never _) (left_live d c g env f j a b)
@@ -79,7 +56,7 @@ left_live d (After m c) g env f j a b =
     let n = count_of m in
     if_cases (λ l. OnlyIf (live d l g env (f +ℤ pos (suc j)) a b) (live d c g env (f +ℤ pos n) (pos (suc j) +ℤ a -ℤ pos n) (pos (suc j) +ℤ b -ℤ pos n))) (nat_le n j) (left_of d c g env (f +ℤ pos n) (j - n)) (delayed (n - suc j) c)
     (λ t. moved_only d c (left_of d c g env (f +ℤ pos n) (j - n)) g env _ _ (f +ℤ pos n) a b _ _ _ _ (into_frame f j n (le_of n j t)) (into_day a j n (le_of n j t)) (into_day b j n (le_of n j t)) (left_live d c g env (f +ℤ pos n) (j - n) a b))
-    (λ t. same_test _ _ (delayed_live d (n - suc j) c g env (f +ℤ pos (suc j)) a b ∙ moved_live d c g env _ _ _ _ _ _ (rest_frame f j n (lt_of n j t)) (rest_day a j n (lt_of n j t)) (rest_day b j n (lt_of n j t))))
+    (λ t. same_only _ _ (delayed_live d (n - suc j) c g env (f +ℤ pos (suc j)) a b ∙ live_moved d c g env _ _ _ _ _ _ (rest_frame f j n (lt_of n j t)) (rest_day a j n (lt_of n j t)) (rest_day b j n (lt_of n j t))))
 left_live d (Let e c) g env f j a b =
     let_cases (λ l. OnlyIf (live d l g env (f +ℤ pos (suc j)) a b) (live d c (bound_to d e g env f ∷ g) env f (pos (suc j) +ℤ a) (pos (suc j) +ℤ b))) (shifted (negsuc j) e) (left_of d c (bound_to d e g env f ∷ g) env f j)
     (λ _. never _)
@@ -100,30 +77,21 @@ left_live d (Within e m x y) g env f j a b =
     let all : min n j ≡ n = omega (arith, le) in
     λ t. miss_test (first_true d e g env f n) hit miss (ap (λ (i : ℕ). first_true d e g env f i) (sym all) ∙ none)
     ∙ moved_only d y (left_of d y g env (f +ℤ pos n) (j - n)) g env _ _ (f +ℤ pos n) a b _ _ _ _ (into_frame f j n le) (into_day a j n le) (into_day b j n le) (left_live d y g env (f +ℤ pos n) (j - n) a b) t)
-    (λ t'. same_test _ _
+    (λ t'. same_only _ _
     (later_branch (suc j) (first_true d e g env (f +ℤ pos (suc j)) (n - suc j)) _ hit _ miss
-    (λ k. moved_live d x g env _ _ _ _ _ _ (omega (arith, ints)) (omega (arith, ints)) (omega (arith, ints)))
-    (moved_live d y g env _ _ _ _ _ _ (rest_frame f j n (lt_of n j t')) (rest_day a j n (lt_of n j t')) (rest_day b j n (lt_of n j t')))
+    (λ k. live_moved d x g env _ _ _ _ _ _ (omega (arith, ints)) (omega (arith, ints)) (omega (arith, ints)))
+    (live_moved d y g env _ _ _ _ _ _ (rest_frame f j n (lt_of n j t')) (rest_day a j n (lt_of n j t')) (rest_day b j n (lt_of n j t')))
     ∙ ap (λ (o : Option ℕ). branch_test o hit miss) (sym (still_first d e g env f j n (lt_of n j t') none)))))
 
 -- ---- what is read
 
-moved_reads : (d : Declarations) (c : Contract) (g : List Entry) (bs : List (List Place)) (env : Environment) (f h a b u v : ℤ) → f ≡ h → a ≡ u → b ≡ v → reads_of_contract d c g bs env f a b ≡ reads_of_contract d c g bs env h u v
-moved_reads d c g bs env f h a b u v e i j = ap₂ (λ (x y : ℤ). reads_of_contract d c g bs env x y b) e i ∙ ap (reads_of_contract d c g bs env h u) j
-
 delayed_reads : (d : Declarations) (n : ℕ) (c : Contract) (g : List Entry) (bs : List (List Place)) (env : Environment) (f a b : ℤ) → reads_of_contract d (delayed n c) g bs env f a b ≡ reads_of_contract d c g bs env (f +ℤ pos n) (a -ℤ pos n) (b -ℤ pos n)
-delayed_reads d zero c g bs env f a b = moved_reads d c g bs env _ _ _ _ _ _ (omega (arith, ints)) (omega (arith, ints)) (omega (arith, ints))
+delayed_reads d zero c g bs env f a b = reads_moved d c g bs env _ _ _ _ _ _ (omega (arith, ints)) (omega (arith, ints)) (omega (arith, ints))
 delayed_reads d (suc n) c g bs env f a b = refl
 
 moved_among : (d : Declarations) (c l : Contract) (g : List Entry) (bs : List (List Place)) (env : Environment) (f h k a b s t u v : ℤ) → f ≡ h → s ≡ u → t ≡ v → AreAmong (reads_of_contract d l g bs env f a b) (reads_of_contract d c g bs env k s t) → AreAmong (reads_of_contract d l g bs env h a b) (reads_of_contract d c g bs env k u v)
 moved_among d c l g bs env f h k a b s t u v e i j p q x =
-    among_same _ _ (moved_reads d c g bs env k k s t u v refl i j) q (p q (among_same _ _ (sym (moved_reads d l g bs env f h a b a b e refl refl)) q x))
-
-pub is_below : (a b : ℤ) → a <ℤ b → int_lt a b ≡ true
-is_below a b h = grind (arith, ints)
-
-pub not_below : (a b : ℤ) → b ≤ℤ a → int_lt a b ≡ false
-not_below a b h = grind (arith, ints)
+    among_same _ _ (reads_moved d c g bs env k k s t u v refl i j) q (p q (among_same _ _ (sym (reads_moved d l g bs env f h a b a b e refl refl)) q x))
 
 hit_reads : (o : Option ℕ) (k n : ℕ) (b : ℤ) (hit : ℕ → List Place) (miss : List Place) → o ≡ Some k → pos k ≤ℤ b → branch_reads o n b hit miss ≡ hit k
 hit_reads o k n b hit miss e le = ap (λ (u : Option ℕ). branch_reads u n b hit miss) e ∙ ap (λ (t : Bool). if t then [] else hit k) (not_below b (pos k) le)
@@ -134,7 +102,7 @@ miss_reads o n b hit miss e le = ap (λ (u : Option ℕ). branch_reads u n b hit
 same_below : (m k n : ℕ) (b : ℤ) → n ≡ m + k → int_lt b (pos k) ≡ int_lt (pos m +ℤ b) (pos n)
 same_below m k n b e =
     elim (by_lt_z b (pos k) (λ p. inl p) (λ p. inr p)) [
-      | inl lt ↦ is_below b (pos k) lt ∙ sym (is_below (pos m +ℤ b) (pos n) (omega (arith, ints)))
+      | inl lt ↦ below_is b (pos k) lt ∙ sym (below_is (pos m +ℤ b) (pos n) (omega (arith, ints)))
       | inr ge ↦ not_below b (pos k) ge ∙ sym (not_below (pos m +ℤ b) (pos n) (omega (arith, ints)))
     ]
 
@@ -178,7 +146,7 @@ left_reads d (After m c) g bs env f j a b =
     let n = count_of m in
     if_cases (ReadsLeft d (After m c) g bs env f j a b) (nat_le n j) (left_of d c g env (f +ℤ pos n) (j - n)) (delayed (n - suc j) c)
     (λ t. moved_among d c (left_of d c g env (f +ℤ pos n) (j - n)) g bs env _ _ (f +ℤ pos n) a (pos b) _ _ _ _ (into_frame f j n (le_of n j t)) (into_day a j n (le_of n j t)) (into_day (pos b) j n (le_of n j t)) (left_reads d c g bs env (f +ℤ pos n) (j - n) a b))
-    (λ t. among_same _ _ (delayed_reads d (n - suc j) c g bs env (f +ℤ pos (suc j)) a (pos b) ∙ moved_reads d c g bs env _ _ _ _ _ _ (rest_frame f j n (lt_of n j t)) (rest_day a j n (lt_of n j t)) (rest_day (pos b) j n (lt_of n j t))))
+    (λ t. among_same _ _ (delayed_reads d (n - suc j) c g bs env (f +ℤ pos (suc j)) a (pos b) ∙ reads_moved d c g bs env _ _ _ _ _ _ (rest_frame f j n (lt_of n j t)) (rest_day a j n (lt_of n j t)) (rest_day (pos b) j n (lt_of n j t))))
 left_reads d (Let e c) g bs env f j a b =
     let was = bound_to d e g env f in
     let places = reads_of d e g bs env f in
@@ -213,8 +181,8 @@ left_reads d (Within e m x y) g bs env f j a b =
     let same : later_by (suc j) later ≡ first = sym (still_first d e g env f j n lt none) in
     let branch : branch_reads later (n - suc j) (pos b) (λ k. reads_of_contract d x g bs env (f +ℤ pos (suc j) +ℤ pos k) (a -ℤ pos k) (pos b -ℤ pos k)) (reads_of_contract d y g bs env (f +ℤ pos (suc j) +ℤ pos (n - suc j)) (a -ℤ pos (n - suc j)) (pos b -ℤ pos (n - suc j))) ≡ branch_reads first n last hit miss =
     later_reads (suc j) later (n - suc j) n (pos b) _ hit _ miss (omega arith)
-    (λ k. moved_reads d x g bs env _ _ _ _ _ _ (omega (arith, ints)) (omega (arith, ints)) (omega (arith, ints)))
-    (moved_reads d y g bs env _ _ _ _ _ _ (rest_frame f j n lt) (rest_day a j n lt) (rest_day (pos b) j n lt))
+    (λ k. reads_moved d x g bs env _ _ _ _ _ _ (omega (arith, ints)) (omega (arith, ints)) (omega (arith, ints)))
+    (reads_moved d y g bs env _ _ _ _ _ _ (rest_frame f j n lt) (rest_day a j n lt) (rest_day (pos b) j n lt))
     ∙ ap (λ (o : Option ℕ). branch_reads o n last hit miss) same in
     let count : tested first n last ≡ suc j + tested later (n - suc j) (pos b) = ap₂ (λ (o : Option ℕ) (y : ℤ). tested o n y) (sym same) (omega (arith, ints)) ∙ later_tested j n b later lt in
     λ q c. among_same _ _ opened q

@@ -1,9 +1,9 @@
 -- The rules on sorts, scales and bounds hold of what is left: each part of it may stand for the part that it is left of.
-use Rattle.std.proofs.Common.{ℕ, zero, suc, ℤ, pos, negsuc, ◌+ℤ◌, ◌-◌, min, nat_le, if◌then◌else◌, List, ◌∷◌, refl, ap, sym, subst, inl, inr}
+use Rattle.std.proofs.Common.{ℕ, zero, suc, ℤ, pos, negsuc, ◌+ℤ◌, ◌-◌, min, nat_le, if◌then◌else◌, List, ◌∷◌, refl, ap, sym, subst, inr}
 use Rattle.term_core.specs.Declarations.{Declarations}
 use Rattle.term_core.specs.declared.terms.Days.{Days}
 use Rattle.term_core.specs.declared.terms.Days.TheVariants.{Num as Count}
-use Rattle.term_core.specs.Terms.{Expression, Lit, Yes, Var, Obs, Neg, Num, Cmp, Not, Logic, Cond, Widen, Round, Div, Acc}
+use Rattle.term_core.specs.Terms.{Expression}
 use Rattle.term_core.specs.Terms.{Contract, Zero, Pay, Both, Scale, After, Let, Within}
 use Rattle.term_core.specs.Values.{first_true}
 use Rattle.term_core.specs.Flows.{count_of}
@@ -12,9 +12,9 @@ use Rattle.term_core.specs.Bounds.{Interval, Range, interval_of}
 use Rattle.interval_check.specs.Nodes.{MeetsRules, ContractMeetsRules, range_of}
 use Rattle.interval_check.specs.Narrowing.{IsNarrower, AreNarrower}
 use Rattle.interval_check.specs.Within.{KeepsLimits}
-use Rattle.interval_check.specs.Replacing.{Replaces, ReplacesContract, IsRewritten, IsRewrittenContract}
+use Rattle.interval_check.specs.Replacing.{Replaces, ReplacesContract}
 use Rattle.interval_check.proofs.NarrowerFacts.{stays_tight, narrower_let}
-use Rattle.interval_check.proofs.RewritingContracts.{rewritten_contract_replaces, parts_stand_for_themselves, replacements_compose}
+use Rattle.interval_check.proofs.RewritingContracts.{rewritten_contract_replaces, parts_stand_for_themselves}
 use Rattle.interval_check.proofs.StandingFacts.{contract_parts_replace}
 use Rattle.advance_step.specs.WhatIsLeft.{left_of, delayed}
 use Rattle.rewriting.specs.Bindings.{bound_to}
@@ -24,17 +24,10 @@ use Rattle.rewriting.proofs.LookFacts.{Look}
 use Rattle.rewriting.proofs.ShiftedRules.{shifted_alike}
 use Rattle.specialise.proofs.SpecialRules.{by_whole}
 use Rattle.advance_step.specs.LawsLeftRules.{LeftReplaces}
+use Rattle.simplify.proofs.TurnReplaces.{by_whole_in}
+use Rattle.simplify.proofs.ContractRuleStands.{then_replaces}
 
 -- what may stand for a whole is the whole rewritten
-by_whole_contract : (d : Declarations) (c k : Contract) (g : List Range) → ReplacesContract d k c g → IsRewrittenContract d c k g
-by_whole_contract d Zero k g r = r
-by_whole_contract d (Pay a p q) k g r = r
-by_whole_contract d (Both a b) k g r = inl r
-by_whole_contract d (Scale e c) k g r = inl r
-by_whole_contract d (After n c) k g r = inl r
-by_whole_contract d (Let e c) k g r = inl r
-by_whole_contract d (Within e n a b) k g r = inl r
-
 -- a shifted expression may stand for the expression
 pub shifted_replaces : (d : Declarations) → KeepsLimits d → (e : Expression) (k : ℤ) (g : List Range) → AreNarrower g g → MeetsRules d e g → Replaces d (shifted k e) e g
 shifted_replaces d limits e k g ordered r =
@@ -48,14 +41,11 @@ shifted_replaces d limits e k g ordered r =
 same_contract : (d : Declarations) → KeepsLimits d → (c : Contract) (g : List Range) → AreNarrower g g → ContractMeetsRules d c g → ReplacesContract d c c g
 same_contract d limits c g ordered h = (parts_stand_for_themselves d g limits ordered).1 c h
 
-then_replaces : (d : Declarations) (g : List Range) (c b a : Contract) → ReplacesContract d c b g → ReplacesContract d b a g → ReplacesContract d c a g
-then_replaces d g c b a p q = (replacements_compose d g).1 c b a p q
-
 delayed_replaces : (d : Declarations) → KeepsLimits d → (r : ℕ) (n : Days) (c : Contract) (g : List Range) → AreNarrower g g → ContractMeetsRules d (After n c) g → ReplacesContract d (delayed r c) (After n c) g
 delayed_replaces d limits zero n c g ordered h = (contract_parts_replace d g).2 n c h
 delayed_replaces d limits (suc r) n c g ordered h =
     let body : ContractMeetsRules d c g = record { sorts = h.sorts.0; scales = h.scales.0; bounds = h.bounds.0 } in
-    rewritten_contract_replaces d (After n c) (After (Count (suc r)) c) g limits ordered h (inr (Count (suc r), c, refl, by_whole_contract d c c g (same_contract d limits c g ordered body)))
+    rewritten_contract_replaces d (After n c) (After (Count (suc r)) c) g limits ordered h (inr (Count (suc r), c, refl, by_whole_in d c c g (same_contract d limits c g ordered body)))
 
 pub left_replaces : LeftReplaces
 left_replaces d Zero es env f j g limits ordered h = same_contract d limits Zero g ordered h
@@ -69,7 +59,7 @@ left_replaces d (Both a b) es env f j g limits ordered h =
     both_cases (λ l. ReplacesContract d l (Both a b) g) a' b'
     (λ _. then_replaces d g b' b (Both a b) q parts.1)
     (λ _. then_replaces d g a' a (Both a b) p parts.0)
-    (rewritten_contract_replaces d (Both a b) (Both a' b') g limits ordered h (inr (a', b', refl, by_whole_contract d a a' g p, by_whole_contract d b b' g q)))
+    (rewritten_contract_replaces d (Both a b) (Both a' b') g limits ordered h (inr (a', b', refl, by_whole_in d a a' g p, by_whole_in d b b' g q)))
 left_replaces d (Scale e c) es env f j g limits ordered h =
     let e' = shifted (negsuc j) e in
     let c' = left_of d c es env f j in
@@ -77,7 +67,7 @@ left_replaces d (Scale e c) es env f j g limits ordered h =
     let q = left_replaces d c es env f j g limits ordered (record { sorts = h.sorts.1; scales = h.scales.1; bounds = h.bounds.1 }) in
     scale_cases (λ l. ReplacesContract d l (Scale e c) g) e' c'
     (λ _. (contract_parts_replace d g).0 (Scale e c))
-    (rewritten_contract_replaces d (Scale e c) (Scale e' c') g limits ordered h (inr (e', c', refl, by_whole d e e' g p, by_whole_contract d c c' g q)))
+    (rewritten_contract_replaces d (Scale e c) (Scale e' c') g limits ordered h (inr (e', c', refl, by_whole d e e' g p, by_whole_in d c c' g q)))
 left_replaces d (After m c) es env f j g limits ordered h =
     let n = count_of m in
     let body : ContractMeetsRules d c g = record { sorts = h.sorts.0; scales = h.scales.0; bounds = h.bounds.0 } in
@@ -93,7 +83,7 @@ left_replaces d (Let e c) es env f j g limits ordered h =
     let q = left_replaces d c (bound_to d e es env f ∷ es) env f j (range_of d e g ∷ g) limits inner (record { sorts = h.sorts.1; scales = h.scales.1; bounds = h.bounds.1 }) in
     let_cases (λ l. ReplacesContract d l (Let e c) g) e' c'
     (λ _. (contract_parts_replace d g).0 (Let e c))
-    (rewritten_contract_replaces d (Let e c) (Let e' c') g limits ordered h (inr (e', c', refl, by_whole d e e' g p, by_whole_contract d c c' (range_of d e g ∷ g) q)))
+    (rewritten_contract_replaces d (Let e c) (Let e' c') g limits ordered h (inr (e', c', refl, by_whole d e e' g p, by_whole_in d c c' (range_of d e g ∷ g) q)))
 left_replaces d (Within e m a b) es env f j g limits ordered h =
     let n = count_of m in
     let test : MeetsRules d e g = record { sorts = h.sorts.0; scales = h.scales.0; bounds = h.bounds.0 } in
@@ -105,4 +95,4 @@ left_replaces d (Within e m a b) es env f j g limits ordered h =
     (λ _. if_cases (λ l. ReplacesContract d l (Within e m a b) g) (nat_le n j) (left_of d b es env (f +ℤ pos n) (j - n)) (Within e (Count (n - suc j)) a b)
     (λ _. then_replaces d g (left_of d b es env (f +ℤ pos n) (j - n)) b (Within e m a b) (left_replaces d b es env (f +ℤ pos n) (j - n) g limits ordered miss) parts.1)
     (λ _. rewritten_contract_replaces d (Within e m a b) (Within e (Count (n - suc j)) a b) g limits ordered h
-    (inr (e, Count (n - suc j), a, b, refl, by_whole d e e g ((parts_stand_for_themselves d g limits ordered).0 e test), by_whole_contract d a a g (same_contract d limits a g ordered hit), by_whole_contract d b b g (same_contract d limits b g ordered miss)))))
+    (inr (e, Count (n - suc j), a, b, refl, by_whole d e e g ((parts_stand_for_themselves d g limits ordered).0 e test), by_whole_in d a a g (same_contract d limits a g ordered hit), by_whole_in d b b g (same_contract d limits b g ordered miss)))))

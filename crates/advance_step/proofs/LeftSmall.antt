@@ -16,6 +16,7 @@ use Rattle.term_core.specs.Sites.{Once, OfExpression, OfContract}
 use Rattle.term_core.specs.Bounds.{Range}
 use Rattle.interval_check.specs.Nodes.{EachNode, EachContractNode, range_of, range_after}
 use Rattle.simplify.specs.TurningContracts.{is_nothing}
+use Rattle.simplify.proofs.TurnSmall.{anywhere}
 use Rattle.advance_step.specs.WhatIsLeft.{both_left, scale_left, let_left, left_of, delayed}
 use Rattle.rewriting.specs.Bindings.{bound_to}
 use Rattle.rewriting.proofs.Choices.{if_cases, option_cases}
@@ -23,7 +24,7 @@ use Rattle.advance_step.proofs.LeftSizes.{near, past_back, past_left, nodes_left
 use Rattle.specialise.specs.Specialising.{specialised_in}
 use Rattle.specialise.proofs.SpecialSizes.{nothing_told}
 use Rattle.rewriting.proofs.SmallFacts.{Small}
-use Rattle.specialise.proofs.SpecialSmall.{special_small, contract_small}
+use Rattle.specialise.proofs.SpecialSmall.{contract_small}
 use Rattle.advance_step.proofs.LeftLarge.{AsLarge, shifted_large, left_large}
 
 -- a contract that is left as it is, by any ranges
@@ -35,9 +36,6 @@ untold_in d (Scale e c) = ap₂ Scale (nothing_told d [] e) (untold_in d c)
 untold_in d (After n c) = ap (After n) (untold_in d c)
 untold_in d (Let e c) = ap₂ Let (nothing_told d [] e) (untold_in d c)
 untold_in d (Within e n a b) = ap₂ (λ (x : Expression) (y : Contract). Within x n y (specialised_in d [] None b)) (nothing_told d [] e) (untold_in d a) ∙ ap (Within e n a) (untold_in d b)
-
-anywhere : (d : Declarations) (e : Expression) (g h : List Range) → EachNode Small Once d e g → EachNode Small Once d e h
-anywhere d e g h r = subst (λ (x : Expression). EachNode Small Once d x h) (nothing_told d [] e) (special_small d [] None e g h r)
 
 anywhere_in : (d : Declarations) (c : Contract) (g h : List Range) → EachContractNode Small Once d c g → EachContractNode Small Once d c h
 anywhere_in d c g h r = subst (λ (x : Contract). EachContractNode Small Once d x h) (untold_in d c) (contract_small d [] None c g h r)

@@ -3,38 +3,31 @@ use Rattle.std.proofs.Common.{◌≡◌, ℕ, zero, suc, ℤ, pos, ◌+ℤ◌, �
 use Rattle.std.proofs.lemmas.Int.{ints}
 use Rattle.std.proofs.lemmas.Bool.Decides.{nat_tests}
 use Rattle.term_core.specs.Declarations.{Declarations}
-use Rattle.term_core.specs.Terms.{Contract, Zero, Pay, Both, Scale, After, Let, Within}
+use Rattle.term_core.specs.Terms.{Contract, Zero}
 use Rattle.term_core.specs.Environments.{Environment}
-use Rattle.term_core.specs.Flows.{scale_of_contract}
 use Rattle.term_core.specs.Residuals.{Carries}
 use Rattle.term_core.specs.Redexes.{EmptyLeft, EmptyRight, ScaledNothing, ZeroFactor, NoDelay, TwoDelays, DelayedNothing, UnusedName, LiteralName, NothingEither, DecidedTest, LiteralOperands, DecidedChoice, FixedPlace, NoSteps, FixedSteps, HasNone, IsReduced}
 use Rattle.term_core.specs.Acceptance.{IsAccepted}
-use Rattle.term_core.specs.Sites.{Once}
 use Rattle.term_core.proofs.ResidualFacts.{carries_composes}
-use Rattle.interval_check.specs.Nodes.{IsScaledPart}
-use Rattle.interval_check.proofs.GuaranteeFacts.{accepted_meet_rules}
 use Rattle.advance_step.specs.WhatIsLeft.{left_of}
 use Rattle.advance_step.proofs.CarryFacts.{left_carries}
 use Rattle.advance_step.proofs.LeftSizes.{gone}
 use Rattle.rewriting.specs.Measures.{size_in}
 use Rattle.simplify.specs.TurningContracts.{turned_in, HasNoPlainIn}
-use Rattle.simplify.proofs.ContractTurns.{contract_turns_end}
+use Rattle.simplify.proofs.ContractTurns.{contract_turns_end, some_size_in}
 use Rattle.simplify.proofs.PlainFacts.{plain_leaves_none}
 use Rattle.specialise.specs.Specialising.{specialised_in}
 use Rattle.specialise.proofs.SpecialContracts.{special_carries, contract_smaller}
 use Rattle.specialise.proofs.SpecialRedexes.{special_leaves_none}
 use Rattle.specialise.proofs.AcceptedFacts.{special_accepted}
 use Rattle.simplify.proofs.ContractTurnReads.{turns_carry}
-use Rattle.simplify.proofs.ContractRuleStands.{root_in}
 use Rattle.simplify.proofs.TurnAccepted.{turn_accepted}
+use Rattle.simplify.proofs.SimplifyingFacts.{right_scale}
 use Rattle.advance_step.proofs.LeftAcceptedFacts.{left_accepted}
 use Rattle.advance_step.specs.LawsReducing.{reduced_once, reduced_times, ReducingOnce, ReducingEnds, ResidualsHold}
 
 at_most : (a b : ℕ) → nat_le a b ≡ true → a ≤ b
 at_most a b h = grind (arith, nat_tests)
-
-pub right_scale : (d : Declarations) (c : Contract) → IsAccepted d c → scale_of_contract d c [] ≤ d.amounts
-right_scale d c h = at_most (scale_of_contract d c []) d.amounts (root_in (IsScaledPart d) Once d c [] (accepted_meet_rules d c h).scales)
 
 -- over no more days
 pub then_carries : (d : Declarations) (c r s : Contract) (f : ℤ) (F : Environment) (m : ℕ) → Carries d c f F m r → Carries d r (f +ℤ pos m) F 0 s → Carries d c f F m s
@@ -83,22 +76,13 @@ reducing_once d F f c limits a h =
       round_ends d F f c s k (contract_smaller d F (Some f) c) (contract_turns_end d s []) (special_leaves_none d c F (Some f) FixedPlace tt a h.sorts) (special_leaves_none d c F (Some f) FixedSteps tt a h.sorts),
     )
 
-some_size : (c : Contract) → 1 ≤ size_in c
-some_size Zero = omega arith
-some_size (Pay a p q) = omega arith
-some_size (Both a b) = omega arith
-some_size (Scale e c) = omega arith
-some_size (After n c) = omega arith
-some_size (Let e c) = omega arith
-some_size (Within e n a b) = omega arith
-
 -- what one round leaves as it is, all rounds do
 stays : (d : Declarations) (F : Environment) (f : ℤ) (c : Contract) (n : ℕ) → reduced_once d F f c ≡ c → reduced_times d F f n c ≡ c
 stays d F f c zero e = refl
 stays d F f c (suc n) e = ap (reduced_times d F f n) e ∙ stays d F f c n e
 
 pub reducing_ends : ReducingEnds
-reducing_ends d F f c zero limits a h le = absurd (omega (arith, some_size c, le))
+reducing_ends d F f c zero limits a h le = absurd (omega (arith, some_size_in c, le))
 reducing_ends d F f c (suc n) limits a h le =
     let once = reducing_once d F f c limits a h in
     let k = reduced_once d F f c in

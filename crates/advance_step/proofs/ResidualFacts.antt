@@ -15,11 +15,11 @@ use Rattle.term_core.specs.WellFormed.{IsClosed}
 use Rattle.term_core.proofs.MeaningFacts.{one_meaning}
 use Rattle.term_core.proofs.ResidualFacts.{carries_composes}
 use Rattle.term_core.proofs.VerdictFacts.{one_verdict}
-use Rattle.simplify.proofs.SimplifyingFacts.{shared_numbers}
 use Rattle.advance_step.specs.Advancing.{IsResidual}
 use Rattle.advance_step.specs.LawsAdvancing.{RunsCompose}
 use Rattle.advance_step.specs.Residual.{IsLeftAfter, IsReducedFrom}
 use Rattle.advance_step.proofs.ReducingFacts.{then_carries}
+use Rattle.specialise.proofs.CallFacts.{shared_numbers}
 
 pub residual_is : (d : Declarations) (F : Environment) (f : ℤ) (n : ℕ) (s l r : SharedContr) → IsClosed d (shared s) → IsLeftAfter d F f n (shared s) (shared l) → IsReducedFrom d F (f +ℤ pos n) (shared l) (shared r) → IsResidual d F f n (shared s) (shared r)
 residual_is d F f n s l r w left p =

@@ -19,9 +19,10 @@ use Rattle.specialise.proofs.AcceptedFacts.{special_accepted}
 use Rattle.specialise.proofs.SpecialContracts.{special_carries}
 use Rattle.specialise.proofs.SpecialForms.{contract_formed}
 use Rattle.specialise.proofs.SpecialRedexes.{special_leaves_none}
+use Rattle.specialise.proofs.CallFacts.{shared_numbers}
 use Rattle.simplify.specs.TurningContracts.{turned_in}
 use Rattle.simplify.proofs.TurnForms.{turns_keep_forms}
-use Rattle.simplify.proofs.SimplifyingFacts.{literals_fit, nothing_plain, shared_numbers}
+use Rattle.simplify.proofs.SimplifyingFacts.{literals_fit, nothing_plain}
 use Rattle.advance_step.specs.LawsReducing.{reduced_once}
 use Rattle.advance_step.specs.Residual.{IsReducedFrom}
 use Rattle.advance_step.proofs.ReducingFacts.{each_kind, from_here, reducing_once}

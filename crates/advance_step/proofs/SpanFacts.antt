@@ -10,12 +10,13 @@ use Rattle.term_core.specs.Reads.{reads_of, reads_of_contract, live, upto, teste
 use Rattle.rewriting.specs.Bindings.{bound_to}
 use Rattle.rewriting.specs.Keeping.{AreAmong}
 use Rattle.rewriting.proofs.Among.{among_none, among_same, among_both, among_if, among_unless, among_branches}
-use Rattle.advance_step.proofs.LeftReadFacts.{OnlyIf, either, is_below, not_below}
+use Rattle.simplify.proofs.RuleReads.{OnlyIf, below_is, not_below}
+use Rattle.simplify.proofs.ContractTurnReads.{either}
 
 below_sooner : (x a b : ℤ) → a ≤ℤ b → int_lt x b ≡ false → int_lt x a ≡ false
 below_sooner x a b le h =
     elim (by_lt_z x b (λ p. inl p) (λ p. inr p)) [
-      | inl lt ↦ absurd (cc (is_below x b lt))
+      | inl lt ↦ absurd (cc (below_is x b lt))
       | inr ge ↦ not_below x a (omega (arith, ints))
     ]
 

@@ -21,9 +21,9 @@ use Rattle.rewriting.specs.Bindings.{bound_to}
 use Rattle.advance_step.specs.WhatIsLeft.{delayed, left_of, let_left}
 use Rattle.advance_step.specs.CarryingWalk.{Enters, IsLeft, IsLeftEverywhere, LacksRead, NamesUnfixedRead}
 use Rattle.advance_step.proofs.LaterFirst.{more_days}
-use Rattle.advance_step.proofs.LeftReadFacts.{not_below}
 use Rattle.rewriting.proofs.Branches.{branch_reads}
 use Rattle.advance_step.proofs.TestFacts.{first_is, first_lacks, is_tested, lacked_is_read, steps_hold}
+use Rattle.simplify.proofs.RuleReads.{not_below}
 
 -- ---- two parts, and a factor
 

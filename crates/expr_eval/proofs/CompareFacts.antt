@@ -13,6 +13,7 @@ use Rattle.term_core.specs.Values.{cmp_op, kinds}
 use Rattle.interval_check.specs.Safety.{IsSmall}
 use Rattle.interval_check.specs.Within.{KeepsLimits}
 use Rattle.interval_check.proofs.KindsFound.{two_numbers, has_kind, scale_is}
+use Rattle.interval_check.proofs.SuitedFacts.{nothing_fixed}
 use Rattle.expr_eval.specs.declared.scratch.Binding.{Binding}
 use Rattle.expr_eval.specs.declared.operations.Typed.{Typed}
 use Rattle.expr_eval.specs.declared.trials.Factors.{Factors}
@@ -26,7 +27,7 @@ use Rattle.expr_eval.specs.Comparing.{AreBrought, ComparesOn, SidesFit, factors,
 use Rattle.expr_eval.proofs.RunValues.{run_is_value, same_kinds}
 use Rattle.expr_eval.proofs.RunReads.{self_extends}
 use Rattle.expr_eval.proofs.FitFacts.{kind_fits}
-use Rattle.expr_eval.proofs.EvaluableFacts.{kind_for, may_run, nothing_fixed, safe_entries}
+use Rattle.expr_eval.proofs.EvaluableFacts.{kind_for, may_run, safe_entries}
 
 -- a side that lacks a place
 

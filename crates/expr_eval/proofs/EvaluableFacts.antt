@@ -17,17 +17,16 @@ use Rattle.term_core.specs.Acceptance.{IsAccepted}
 use Rattle.term_core.specs.Sizes.{past, past_of_contract, height_of_contract, nodes_of_contract, reach, work_of_contract}
 use Rattle.term_core.specs.Smallness.{is_small, within_limits, days_of_contract}
 use Rattle.term_core.proofs.TimeFacts.{whole_passes}
-use Rattle.interval_check.specs.Nodes.{ContractMeetsRules, range_of}
+use Rattle.interval_check.specs.Nodes.{range_of}
 use Rattle.interval_check.specs.Within.{IsIn, OnNumber, IsWithin, AreWithin, IsSuited, AreSuited, KeepsLimits}
-use Rattle.interval_check.specs.Parts.{IsPart, IsPartHere, StandsIn}
+use Rattle.interval_check.specs.Parts.{IsPart, StandsIn}
 use Rattle.interval_check.specs.Safety.{ScalesFit, CanEvaluate}
 use Rattle.interval_check.specs.RangeTrials.{kind_found}
-use Rattle.interval_check.specs.Sums.{entry_of}
 use Rattle.term_core.specs.Shifts.{shifted}
-use Rattle.interval_check.proofs.GuaranteeFacts.{accepted_meet_rules, bindings_lie_within, parts_meet_rules, expressions_are_safe}
+use Rattle.interval_check.proofs.GuaranteeFacts.{accepted_meet_rules, parts_meet_rules, expressions_are_safe}
 use Rattle.interval_check.proofs.GuaranteeFacts.{values_lie_in_intervals}
 use Rattle.rewriting.proofs.ShiftedRules.{rules_see_no_offsets}
-use Rattle.interval_check.proofs.SuitedFacts.{suited_are_within}
+use Rattle.interval_check.proofs.SuitedFacts.{suited_are_within, entries_round, nothing_fixed}
 use Rattle.interval_check.proofs.KindsFound.{has_kind}
 use Rattle.interval_check.proofs.ClosedFacts.{closed_need_no_names}
 use Rattle.expr_eval.specs.declared.scratch.Held.{Held}
@@ -41,40 +40,7 @@ use Rattle.expr_eval.proofs.RunValues.{HasValue, HaveValues, same_kinds}
 use Rattle.expr_eval.proofs.SpanFacts.{span, span-shifted, span-past}
 use Rattle.expr_eval.proofs.FitFacts.{InDays, kind_fits, run_fits}
 
--- some entries lie within the ranges round an expression: the values where nothing is fixed
-
-abbrev HasEntries : List Range → Type 0
-HasEntries g = (es : List Entry) × AreWithin g es
-
-pub nothing_fixed : (d : Declarations) → IsAdmitted d []
-nothing_fixed d q v e = absurd (cc)
-
-entries_of_part : (h : List Range) (e x : Expression) (g : List Range) → IsPartHere e h x g → HasEntries g → HasEntries h
-entries_of_part h e x g p some = (some.0, subst (λ (k : List Range). AreWithin k some.0) (sym p.ranges) some.1)
-
-entries_round : (d : Declarations) → KeepsLimits d → (e : Expression) (h : List Range) (c : Contract) (g : List Range) → StandsIn d e h c g → ContractMeetsRules d c g → HasEntries g → HasEntries h
-entries_round d limits e h Zero g p rules some = absurd p
-entries_round d limits e h (Pay a x y) g p rules some = absurd p
-entries_round d limits e h (Both a b) g (inl p) rules some =
-    entries_round d limits e h a g p (record { sorts = rules.sorts.0; scales = rules.scales.0; bounds = rules.bounds.0 }) some
-entries_round d limits e h (Both a b) g (inr p) rules some =
-    entries_round d limits e h b g p (record { sorts = rules.sorts.1; scales = rules.scales.1; bounds = rules.bounds.1 }) some
-entries_round d limits e h (Scale x c) g (inl p) rules some = entries_of_part h e x g p some
-entries_round d limits e h (Scale x c) g (inr p) rules some =
-    entries_round d limits e h c g p (record { sorts = rules.sorts.1; scales = rules.scales.1; bounds = rules.bounds.1 }) some
-entries_round d limits e h (After n c) g p rules some =
-    entries_round d limits e h c g p (record { sorts = rules.sorts.0; scales = rules.scales.0; bounds = rules.bounds.0 }) some
-entries_round d limits e h (Let x c) g (inl p) rules some = entries_of_part h e x g p some
-entries_round d limits e h (Let x c) g (inr p) rules some =
-    let bound = bindings_lie_within d x g some.0 [] (pos 0) limits (record { sorts = rules.sorts.0; scales = rules.scales.0; bounds = rules.bounds.0 }) some.1 (nothing_fixed d) in
-    entries_round d limits e h c (range_of d x g ∷ g) p (record { sorts = rules.sorts.1; scales = rules.scales.1; bounds = rules.bounds.1 }) (entry_of d x some.0 [] (pos 0) ∷ some.0, bound)
-entries_round d limits e h (Within x n a b) g (inl p) rules some = entries_of_part h e x g p some
-entries_round d limits e h (Within x n a b) g (inr (inl p)) rules some =
-    entries_round d limits e h a g p (record { sorts = rules.sorts.1; scales = rules.scales.1; bounds = rules.bounds.1 }) some
-entries_round d limits e h (Within x n a b) g (inr (inr p)) rules some =
-    entries_round d limits e h b g p (record { sorts = rules.sorts.2; scales = rules.scales.2; bounds = rules.bounds.2 }) some
-
--- the known values in the place of those, which suit the ranges
+-- entries that lie within the ranges round an expression, with the known values in the place of theirs
 
 pub on_number : (k : Kind) (P : Type 0) → P → OnNumber k P
 on_number TruthKind P p = tt

@@ -15,7 +15,7 @@ use Rattle.expr_eval.specs.Answers.{entry_from, SuitsBinding}
 use Rattle.expr_eval.specs.LawsEntries.{AcceptedMayEvaluate, PartsOfPartsMayEvaluate}
 use Rattle.term_core.proofs.ShiftedFacts.{shifted_zero}
 
-part_of_itself : (e : Expression) → IsPart e e
+pub part_of_itself : (e : Expression) → IsPart e e
 part_of_itself (Lit m s) = refl
 part_of_itself (Yes b) = refl
 part_of_itself (Var back) = refl

@@ -7,6 +7,7 @@ use Rattle.term_core.specs.Terms.{Expression}
 use Rattle.term_core.specs.Environments.{Environment, Place}
 use Rattle.term_core.specs.Values.{Entry, value_of}
 use Rattle.interval_check.specs.Within.{KeepsLimits}
+use Rattle.interval_check.proofs.SuitedFacts.{nothing_fixed}
 use Rattle.expr_eval.specs.declared.scratch.Binding.{Binding}
 use Rattle.expr_eval.specs.Runs.{run_of, untyped}
 use Rattle.expr_eval.specs.Fits.{IsDay}
@@ -15,7 +16,7 @@ use Rattle.expr_eval.specs.Evaluable.{MayEvaluate}
 use Rattle.expr_eval.specs.Answers.{IsAnswer}
 use Rattle.expr_eval.specs.Trials.{DayOrMissing, IsFirstTrue, ValueOrMissing, answer_of, first_tried, value_unless}
 use Rattle.expr_eval.proofs.AnswerFacts.{is_answer}
-use Rattle.expr_eval.proofs.EvaluableFacts.{kind_for, nothing_fixed, safe_entries}
+use Rattle.expr_eval.proofs.EvaluableFacts.{kind_for, safe_entries}
 use Rattle.expr_eval.proofs.TriedFacts.{first_same}
 
 answer_by : (d : Declarations) (e : Expression) (es : List Binding) (F : Environment) (f : ℤ) (g : List Entry) (bs : List (List Place)) (r : ValueOrMissing) → StandFor F es g bs → IsAnswer d e es F f r → r ≡ answer_of d e g bs F f

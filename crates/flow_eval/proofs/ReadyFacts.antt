@@ -8,7 +8,7 @@ use Rattle.term_core.specs.declared.values.Kind.{Kind}
 use Rattle.term_core.specs.declared.values.Value.{Value}
 use Rattle.term_core.specs.Terms.{Expression, Contract, Scale, Let, Within}
 use Rattle.term_core.specs.Environments.{Environment, Place}
-use Rattle.term_core.specs.Kinds.{kind_of, scale_of, scale_of_kind, scale_or_zero}
+use Rattle.term_core.specs.Kinds.{kind_of, scale_of, scale_of_kind}
 use Rattle.term_core.specs.Values.{Entry, kinds, kind_or, num, value_of}
 use Rattle.term_core.specs.LawsKinds.{IsOfKind}
 use Rattle.term_core.specs.declared.values.Kind.TheVariants.{Truth as TruthKind, Number}
@@ -23,6 +23,7 @@ use Rattle.interval_check.specs.Parts.{StandsIn}
 use Rattle.interval_check.specs.Within.{AreWithin, IsIn, IsWithin, OnNumber}
 use Rattle.interval_check.specs.Sums.{entry_of}
 use Rattle.interval_check.proofs.GuaranteeFacts.{bindings_lie_within}
+use Rattle.interval_check.proofs.NodeTests.{scale_of_some}
 use Rattle.expr_eval.specs.declared.scratch.Held.{Held}
 use Rattle.expr_eval.specs.declared.scratch.Held.TheVariants.{Known, Lacking}
 use Rattle.expr_eval.specs.declared.scratch.Binding.{Binding}
@@ -138,14 +139,10 @@ kinds_stand F [] [] (ps ∷ bs) h = absurd h
 kinds_stand F (b ∷ es) [] bs h = absurd h
 kinds_stand F (b ∷ es) (e ∷ g) [] h = absurd h
 
-scale_known : (o : Option Kind) → scale_of_kind (kind_or o) ≡ scale_or_zero o
-scale_known None = refl
-scale_known (Some k) = refl
-
 -- the decimals of a factor, by its kind among the entries
 pub factor_scale : (d : Declarations) (e : Expression) (F : Environment) (es : List Binding) (g : List Entry) (bs : List (List Place)) (k : Kind) (s : ℕ) → StandFor F es g bs → k ≡ kind_or (kind_of d e (kinds_of es)) → s ≡ scale_of_kind k → s ≡ scale_of d e (kinds g)
 factor_scale d e F es g bs k s stand known is =
-    is ∙ ap (λ (x : Kind). scale_of_kind x) known ∙ scale_known (kind_of d e (kinds_of es)) ∙ ap (λ (ks : List Kind). scale_of d e ks) (kinds_stand F es g bs stand)
+    is ∙ ap (λ (x : Kind). scale_of_kind x) known ∙ scale_of_some (kind_of d e (kinds_of es)) ∙ ap (λ (ks : List Kind). scale_of d e ks) (kinds_stand F es g bs stand)
 
 pub ready_body : (d : Declarations) (e : Expression) (c : Contract) (room : ℕ) (r : Room) (F : Environment) (s : ℕ) (h : CanWalk d (Scale e c) room r F) → s ≡ scale_of d e (kinds h.values) → CanWalk d c (room - s) r F
 ready_body d e c room r F s h is =

@@ -137,7 +137,7 @@ replaces_div d mode s a' b' a b g r q h =
 
 -- an accumulator
 
-acc_kind : (o o' : Option Kind) (f f' : Kind → Option Kind) → o' ≡ o → f' (kind_or o) ≡ f (kind_or o) → of_acc o' f' ≡ of_acc o f
+pub acc_kind : (o o' : Option Kind) (f f' : Kind → Option Kind) → o' ≡ o → f' (kind_or o) ≡ f (kind_or o) → of_acc o' f' ≡ of_acc o f
 acc_kind o o' f f' e e' = ap (λ (u : Option Kind). of_acc u f') e ∙ by o e'
   where
     by : (u : Option Kind) → f' (kind_or u) ≡ f (kind_or u) → of_acc u f' ≡ of_acc u f

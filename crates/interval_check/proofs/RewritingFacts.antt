@@ -16,13 +16,13 @@ fewer_days : (d : Declarations) (body : Expression) (n i : ℕ) (first : Express
 fewer_days d body n i first g l h = (h.0, λ j m. h.1 j (omega arith))
 
 -- the names of its body in a round are in order
-ordered_round : (d : Declarations) → KeepsLimits d → (body : Expression) (n i : ℕ) (first : Expression) (g : List Range) → AreNarrower g g → i < n → IsBounded d (Acc body n first) g → AreNarrower (range_after d body i first g ∷ g) (range_after d body i first g ∷ g)
+pub ordered_round : (d : Declarations) → KeepsLimits d → (body : Expression) (n i : ℕ) (first : Expression) (g : List Range) → AreNarrower g g → i < n → IsBounded d (Acc body n first) g → AreNarrower (range_after d body i first g ∷ g) (range_after d body i first g ∷ g)
 ordered_round d limits body n i first g ordered l h =
     let known = stays_tight d limits (Acc body i first) g g ordered (fewer_days d body n i first g (omega arith) h) in
     (record { same_kind = refl; inside = known.inside }, ordered)
 
 -- and the body meets the rules there
-round_rules : (d : Declarations) (body : Expression) (n i : ℕ) (first : Expression) (g : List Range) → i < n → MeetsRules d (Acc body n first) g → MeetsRules d body (range_after d body i first g ∷ g)
+pub round_rules : (d : Declarations) (body : Expression) (n i : ℕ) (first : Expression) (g : List Range) → i < n → MeetsRules d (Acc body n first) g → MeetsRules d body (range_after d body i first g ∷ g)
 round_rules d body n i first g l h =
     record {
       sorts = kinds_are_enough (λ ks part. IsTrue (is_sorted_part d ks part)) d body (range_after d body 0 first g ∷ g) (range_after d body i first g ∷ g) refl h.sorts.1.0;

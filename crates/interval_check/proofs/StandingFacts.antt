@@ -67,7 +67,7 @@ raised_none m k h = ap (raised m) h ∙ once m
     once (negsuc a) = omega (arith, ints)
 
 -- a branch beside the whole: two truth values, or numbers of scales i and s
-abbrev BesideWhole : Option Kind → Option Kind → ℕ → ℕ → Type 0
+abbrev pub BesideWhole : Option Kind → Option Kind → ℕ → ℕ → Type 0
 BesideWhole o w i s = ((o ≡ Some TruthKind) × (w ≡ Some TruthKind) × (i ≡ 0) × (s ≡ 0)) ⊎ ((o ≡ Some (Number i)) × (w ≡ Some (Number s)))
 
 whole_kind : (t w : Option Kind) → IsTrue (is_some (on_truth t w)) → on_truth t w ≡ w
@@ -75,7 +75,7 @@ whole_kind None w h = absurd (cc)
 whole_kind (Some TruthKind) w h = refl
 whole_kind (Some (Number s)) w h = absurd (cc)
 
-left_beside : (o u : Option Kind) → IsTrue (is_some (joined o u)) → BesideWhole o (joined o u) (scale_or_zero o) (max (scale_or_zero o) (scale_or_zero u))
+pub left_beside : (o u : Option Kind) → IsTrue (is_some (joined o u)) → BesideWhole o (joined o u) (scale_or_zero o) (max (scale_or_zero o) (scale_or_zero u))
 left_beside None u h = absurd (cc)
 left_beside (Some TruthKind) None h = absurd (cc)
 left_beside (Some TruthKind) (Some TruthKind) h = inl (refl, refl, refl, refl)
@@ -84,7 +84,7 @@ left_beside (Some (Number r)) None h = absurd (cc)
 left_beside (Some (Number r)) (Some TruthKind) h = absurd (cc)
 left_beside (Some (Number r)) (Some (Number s)) h = inr (refl, refl)
 
-right_beside : (o u : Option Kind) → IsTrue (is_some (joined o u)) → BesideWhole u (joined o u) (scale_or_zero u) (max (scale_or_zero o) (scale_or_zero u))
+pub right_beside : (o u : Option Kind) → IsTrue (is_some (joined o u)) → BesideWhole u (joined o u) (scale_or_zero u) (max (scale_or_zero o) (scale_or_zero u))
 right_beside None u h = absurd (cc)
 right_beside (Some TruthKind) None h = absurd (cc)
 right_beside (Some TruthKind) (Some TruthKind) h = inl (refl, refl, refl, refl)
@@ -97,7 +97,7 @@ right_beside (Some (Number r)) (Some (Number s)) h = inr (refl, refl)
 beside : (o w v : Option Kind) (i s r : ℕ) → w ≡ v → s ≡ r → BesideWhole o w i s → BesideWhole o v i r
 beside o w v i s r e f h = subst (λ (x : Option Kind). BesideWhole o x i r) e (subst (λ (n : ℕ). BesideWhole o w i n) f h)
 
-joined_scale : (o u : Option Kind) → IsTrue (is_some (joined o u)) → scale_or_zero (joined o u) ≡ max (scale_or_zero o) (scale_or_zero u)
+pub joined_scale : (o u : Option Kind) → IsTrue (is_some (joined o u)) → scale_or_zero (joined o u) ≡ max (scale_or_zero o) (scale_or_zero u)
 joined_scale None u h = absurd (cc)
 joined_scale (Some TruthKind) None h = absurd (cc)
 joined_scale (Some TruthKind) (Some TruthKind) h = refl

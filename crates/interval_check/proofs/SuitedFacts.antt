@@ -47,18 +47,16 @@ all_within (r ∷ g) (x ∷ xs) [] h s = absurd s
 all_within (r ∷ g) (x ∷ xs) (e ∷ es) h s = (one_within r e x h.0 s.0, all_within g xs es h.1 s.1)
 
 -- some entries lie within the ranges: the values where nothing is fixed
-HasEntries : List Range → Type 0
+abbrev pub HasEntries : List Range → Type 0
 HasEntries g = (es : List Entry) × AreWithin g es
 
-nothing_fixed : (d : Declarations) → IsAdmitted d []
+pub nothing_fixed : (d : Declarations) → IsAdmitted d []
 nothing_fixed d q v e = absurd (cc)
 
 entries_of_part : (h : List Range) (e x : Expression) (g : List Range) → IsPartHere e h x g → HasEntries g → HasEntries h
-unfolding HasEntries
 entries_of_part h e x g p some = (some.0, subst (λ (k : List Range). AreWithin k some.0) (sym p.ranges) some.1)
 
-entries_round : (d : Declarations) → KeepsLimits d → (e : Expression) (h : List Range) (c : Contract) (g : List Range) → StandsIn d e h c g → ContractMeetsRules d c g → HasEntries g → HasEntries h
-unfolding HasEntries
+pub entries_round : (d : Declarations) → KeepsLimits d → (e : Expression) (h : List Range) (c : Contract) (g : List Range) → StandsIn d e h c g → ContractMeetsRules d c g → HasEntries g → HasEntries h
 entries_round d limits e h Zero g p rules some = absurd p
 entries_round d limits e h (Pay a x y) g p rules some = absurd p
 entries_round d limits e h (Both a b) g (inl p) rules some =
@@ -81,7 +79,6 @@ entries_round d limits e h (Within x n a b) g (inr (inr p)) rules some =
     entries_round d limits e h b g p (record { sorts = rules.sorts.2; scales = rules.scales.2; bounds = rules.bounds.2 }) some
 
 pub suited_are_within : (d : Declarations) → KeepsLimits d → (e : Expression) (h : List Range) (c : Contract) (es : List Entry) → StandsIn d e h c [] → ContractMeetsRules d c [] → AreSuited h es → AreWithin h es
-unfolding HasEntries
 suited_are_within d limits e h c es stands rules suited =
     let some = entries_round d limits e h c [] stands rules ([], tt) in
     all_within h some.0 es some.1 suited

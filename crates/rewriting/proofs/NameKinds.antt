@@ -1,23 +1,16 @@
 -- Kinds without a name.
-use Rattle.std.proofs.Common.{◌≡◌, ℕ, suc, ◌+◌, Bool, true, ◌||◌, ◌==◌, Option, Some, None, List, ◌∷◌, slice_get, refl, ap, ap₂, sym, subst, ◌∙◌, arith}
+use Rattle.std.proofs.Common.{◌≡◌, ℕ, suc, ◌+◌, Bool, true, ◌||◌, ◌==◌, Option, Some, List, ◌∷◌, slice_get, refl, ap, ap₂, sym, subst, ◌∙◌, arith}
 use Rattle.term_core.specs.Declarations.{Declarations}
 use Rattle.term_core.specs.declared.values.Kind.{Kind}
 use Rattle.term_core.specs.declared.values.Kind.TheVariants.{Truth as TruthKind, Number}
 use Rattle.term_core.specs.Terms.{Expression, Lit, Yes, Var, Obs, Neg, Num, Cmp, Not, Logic, Cond, Widen, Round, Div, Acc}
-use Rattle.term_core.specs.Kinds.{kind_of, scale_of, scale_or_zero, on_number, on_numbers, on_truth, joined, of_acc, scale_of_op}
+use Rattle.term_core.specs.Kinds.{kind_of, scale_of, scale_or_zero, on_number, on_numbers, on_truth, joined, scale_of_op}
 use Rattle.term_core.specs.Values.{Entry, kinds}
 use Rattle.term_core.specs.Redexes.{uses}
+use Rattle.term_core.proofs.ShiftFacts.{same_acc}
 use Rattle.rewriting.specs.Substituting.{substituted, without}
 use Rattle.rewriting.specs.LawsNames.{HasKindOf, KindsWithoutName}
 use Rattle.rewriting.proofs.NameLists.{get_before, get_past, kinds-without, name_cases, on_left, on_right, eq_is}
-
-acc_of : (o : Option Kind) (p q : Kind → Option Kind) → ((k : Kind) → p k ≡ q k) → of_acc o p ≡ of_acc o q
-acc_of None p q h = refl
-acc_of (Some TruthKind) p q h = ap (λ (r : Option Kind). on_truth r (Some TruthKind)) (h TruthKind)
-acc_of (Some (Number s)) p q h = ap (on_number (λ _. Some (Number s))) (h (Number s))
-
-same_acc : (o u : Option Kind) (p q : Kind → Option Kind) → o ≡ u → ((k : Kind) → p k ≡ q k) → of_acc o p ≡ of_acc u q
-same_acc o u p q e h = subst (λ (r : Option Kind). of_acc o p ≡ of_acc r q) e (acc_of o p q h)
 
 -- a name in the body of an accumulator
 pub in_body : {P : Type 0} (j : ℕ) (body : Expression) (rest : Bool) → ((uses (j + 1) body || rest) ≡ true → P) → uses (suc j) body ≡ true → P

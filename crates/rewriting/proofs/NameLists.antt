@@ -4,6 +4,7 @@ use Rattle.std.proofs.lemmas.Bool.Decides.{nat_tests}
 use Rattle.term_core.specs.Terms.{Expression, Var}
 use Rattle.term_core.specs.Values.{Entry, kinds}
 use Rattle.rewriting.specs.Substituting.{name_without, without}
+use Rattle.rewriting.proofs.Choices.{if_cases}
 
 pub get_before : {A : Type 0} (j back : ℕ) (xs : List A) → back < j → slice_get (without j xs) back ≡ slice_get xs back
 get_before j back [] h = refl
@@ -50,10 +51,6 @@ where_eq a b h = grind (arith, nat_tests)
 
 pub where_not : (a b : ℕ) → nat_lt a b ≡ false → (a == b) ≡ false → b < a
 where_not a b h k = grind (arith, nat_tests)
-
-pub if_cases : {A : Type 0} (P : A → Type 0) (b : Bool) (x y : A) → (b ≡ true → P x) → (b ≡ false → P y) → P (if b then x else y)
-if_cases P true x y h k = h refl
-if_cases P false x y h k = k refl
 
 -- the name is used on a side of two
 pub on_left : {P : Type 0} (a b : Bool) → ((a || b) ≡ true → P) → a ≡ true → P

@@ -1,5 +1,5 @@
 -- Reads without a name.
-use Rattle.std.proofs.Common.{◌≡◌, ℕ, zero, suc, ℤ, pos, ◌+ℤ◌, ◌-ℤ◌, ◌+◌, Bool, true, ◌||◌, ◌==◌, if◌then◌else◌, int_lt, Option, Some, None, List, [], ◌∷◌, ◌++◌, slice_get, refl, ap, ap₂, sym, ◌∙◌}
+use Rattle.std.proofs.Common.{◌≡◌, ℕ, suc, ℤ, pos, ◌+ℤ◌, ◌-ℤ◌, ◌+◌, Bool, true, ◌||◌, ◌==◌, if◌then◌else◌, int_lt, Option, Some, None, List, [], ◌∷◌, ◌++◌, slice_get, refl, ap, ap₂, sym, ◌∙◌}
 use Rattle.term_core.specs.Declarations.{Declarations}
 use Rattle.term_core.specs.declared.values.Kind.{Kind}
 use Rattle.term_core.specs.declared.values.Value.{Value}
@@ -11,23 +11,15 @@ use Rattle.term_core.specs.Values.{Entry, kinds, truth, widened, kind_or, value_
 use Rattle.term_core.specs.Flows.{count_of}
 use Rattle.term_core.specs.Reads.{reads_of, reads_of_contract, live, places_or, steps_before, decides, upto, tested}
 use Rattle.term_core.specs.Redexes.{uses, uses_in_contract}
+use Rattle.term_core.proofs.ReadShiftFacts.{same_steps, appended, chosen}
+use Rattle.term_core.proofs.ShiftFacts.{same_days}
 use Rattle.rewriting.specs.Substituting.{substituted, substituted_in, without}
 use Rattle.rewriting.specs.LawsNames.{HasKindOf, HasValueOf, ReadsWithoutName, ContractReadsWithoutName}
 use Rattle.rewriting.proofs.NameLists.{get_before, get_past, name_cases, on_left, on_right, eq_is}
 use Rattle.rewriting.proofs.NameKinds.{in_body, kind_here, scale_here}
-use Rattle.rewriting.proofs.NameValues.{value_without, same_days}
+use Rattle.rewriting.proofs.NameValues.{value_without}
 use Rattle.rewriting.proofs.Branches.{same_test, branch_reads}
 use Rattle.rewriting.proofs.NameFlows.{under, first_without, entry_without}
-
-same_steps : (n : ℕ) (f g : ℕ → List Place) → ((i : ℕ) → f i ≡ g i) → steps_before n f ≡ steps_before n g
-same_steps zero f g h = refl
-same_steps (suc n) f g h = ap₂ (λ (xs ys : List Place). xs ++ ys) (same_steps n f g h) (h n)
-
-appended : (xs xs' ys ys' : List Place) → xs ≡ xs' → ys ≡ ys' → xs ++ ys ≡ xs' ++ ys'
-appended xs xs' ys ys' h k = ap₂ (λ (us vs : List Place). us ++ vs) h k
-
-chosen : (b c : Bool) (xs xs' ys ys' : List Place) → b ≡ c → xs ≡ xs' → ys ≡ ys' → (if b then xs else ys) ≡ (if c then xs' else ys')
-chosen b c xs xs' ys ys' e h k = ap₂ (λ (us vs : List Place). if b then us else vs) h k ∙ ap (λ (t : Bool). if t then xs' else ys') e
 
 pub reads_without : ReadsWithoutName
 reads_without d (Lit m s) j x g bs env f h v r = refl

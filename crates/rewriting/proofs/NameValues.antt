@@ -1,5 +1,5 @@
 -- Values without a name.
-use Rattle.std.proofs.Common.{◌≡◌, ℕ, zero, suc, pos, ◌+ℤ◌, ◌-ℤ◌, neg_ℤ, ◌+◌, max, not, true, ◌||◌, ◌==◌, if◌then◌else◌, Option, List, ◌∷◌, slice_get, refl, ap, ap₂, sym, ◌∙◌}
+use Rattle.std.proofs.Common.{◌≡◌, ℕ, suc, pos, ◌+ℤ◌, ◌-ℤ◌, neg_ℤ, ◌+◌, max, not, true, ◌||◌, ◌==◌, if◌then◌else◌, Option, List, ◌∷◌, slice_get, refl, ap, ap₂, sym, ◌∙◌}
 use Rattle.decimal.specs.Rounding.{at_scale, divided}
 use Rattle.term_core.specs.Declarations.{Declarations}
 use Rattle.term_core.specs.declared.values.Kind.{Kind}
@@ -9,17 +9,11 @@ use Rattle.term_core.specs.Terms.{Expression, Lit, Yes, Var, Obs, Neg, Num, Cmp,
 use Rattle.term_core.specs.Kinds.{kind_of, scale_of, scale_of_kind}
 use Rattle.term_core.specs.Values.{Entry, kinds, num, truth, of_num, of_cmp, logic_op, widened, kind_or, value_of, value_of_entry, days_run}
 use Rattle.term_core.specs.Redexes.{uses}
+use Rattle.term_core.proofs.ShiftFacts.{same_days, of_two}
 use Rattle.rewriting.specs.Substituting.{substituted, without}
 use Rattle.rewriting.specs.LawsNames.{HasKindOf, ValuesWithoutName}
 use Rattle.rewriting.proofs.NameLists.{get_before, get_past, name_cases, on_left, on_right, eq_is}
 use Rattle.rewriting.proofs.NameKinds.{in_body, kind_here, scale_here}
-
-pub same_days : (n : ℕ) (step go : ℕ → Value → Value) (v w : Value) → v ≡ w → ((i : ℕ) (x : Value) → step i x ≡ go i x) → days_run n step v ≡ days_run n go w
-same_days zero step go v w e h = e
-same_days (suc n) step go v w e h = ap (step (suc n)) (same_days n step go v w e h) ∙ h (suc n) (days_run n go w)
-
-of_two : {A : Type 0} (F : ℕ → Value → ℕ → Value → A) (i i' j j' : ℕ) (v v' w w' : Value) → i ≡ i' → v ≡ v' → j ≡ j' → w ≡ w' → F i v j w ≡ F i' v' j' w'
-of_two F i i' j j' v v' w w' a b c e = ap₂ (λ (x : ℕ) (y : Value). F x y j w) a b ∙ ap₂ (λ (x : ℕ) (y : Value). F i' v' x y) c e
 
 -- the two sides of an operator
 left_kind : (d : Declarations) (a b : Expression) (j : ℕ) (x : Expression) (g : List Entry) → ((uses j a || uses j b) ≡ true → HasKindOf d x (kinds g) j) → scale_of d (substituted j x a) (kinds (without j g)) ≡ scale_of d a (kinds g)

@@ -8,13 +8,14 @@ use Rattle.term_core.specs.Terms.{Contract, Zero, Pay, Both, Scale, After, Let, 
 use Rattle.term_core.specs.Flows.{count_of, scale_of_contract}
 use Rattle.term_core.specs.Redexes.{is_literal, uses_in_contract}
 use Rattle.term_core.specs.Bounds.{Range, range_kinds, aligned_total, total_of}
-use Rattle.term_core.specs.Sites.{Trial, Once, EachDay, Part, OfContract}
-use Rattle.interval_check.specs.Nodes.{EachContractNode, IsScaledPart, IsBoundedPart, MeetsRules, ContractMeetsRules, range_of}
+use Rattle.term_core.specs.Sites.{Once, EachDay}
+use Rattle.interval_check.specs.Nodes.{IsScaledPart, IsBoundedPart, MeetsRules, ContractMeetsRules, range_of}
 use Rattle.interval_check.specs.Narrowing.{AreNarrower}
 use Rattle.interval_check.specs.Within.{KeepsLimits}
 use Rattle.interval_check.specs.Replacing.{ReplacesContract, IsRewrittenContract}
 use Rattle.interval_check.proofs.RewritingContracts.{rewritten_contract_replaces, parts_stand_for_themselves, replacements_compose}
 use Rattle.interval_check.proofs.StandingFacts.{contract_parts_replace}
+use Rattle.interval_check.proofs.ContractSafeFacts.{contract_at_root}
 use Rattle.rewriting.specs.Substituting.{substituted_in}
 use Rattle.rewriting.specs.LawsRules.{IsRangeOf}
 use Rattle.rewriting.proofs.NamedRules.{named_contract}
@@ -70,7 +71,7 @@ days_stand d limits n m c g ordered h =
     let body : ContractMeetsRules d c g = record { sorts = h.sorts.0; scales = h.scales.0; bounds = h.bounds.0 } in
     rewritten_contract_replaces d (After n c) (After m c) g limits ordered h (inr (m, c, refl, same_contract d limits c g ordered body))
 
-then_replaces : (d : Declarations) (g : List Range) (c b a : Contract) → ReplacesContract d c b g → ReplacesContract d b a g → ReplacesContract d c a g
+pub then_replaces : (d : Declarations) (g : List Range) (c b a : Contract) → ReplacesContract d c b g → ReplacesContract d b a g → ReplacesContract d c a g
 then_replaces d g c b a p q = (replacements_compose d g).1 c b a p q
 
 joined_stands : (d : Declarations) → KeepsLimits d → (n : Days) (c : Contract) (g : List Range) → AreNarrower g g → is_later c ≡ true → ContractMeetsRules d (After n c) g → ReplacesContract d (after_both n c) (After n c) g
@@ -85,20 +86,11 @@ joined_stands d limits n (Let e c) g ordered p h = absurd (cc)
 joined_stands d limits n (Within e m a b) g ordered p h = absurd (cc)
 
 -- the property of a contract itself
-pub root_in : (P : List Range → Part → Type 0) (w : Trial) (d : Declarations) (c : Contract) (g : List Range) → EachContractNode P w d c g → P g (OfContract c)
-root_in P w d Zero g h = h
-root_in P w d (Pay a x y) g h = h
-root_in P w d (Both a b) g h = h.2
-root_in P w d (Scale e c) g h = h.2
-root_in P w d (After n c) g h = h.1
-root_in P w d (Let e c) g h = h.2
-root_in P w d (Within e n a b) g h = h.3
-
 -- days before a part that has none
 delayed_stands : (d : Declarations) (n : Days) (c : Contract) (g : List Range) → ContractMeetsRules d c g → ReplacesContract d (After n c) c g
 delayed_stands d n c g h =
     record {
-      rules = record { sorts = (h.sorts, refl); scales = (h.scales, root_in (IsScaledPart d) Once d c g h.scales); bounds = (h.bounds, root_in (IsBoundedPart d) EachDay d c g h.bounds) };
+      rules = record { sorts = (h.sorts, refl); scales = (h.scales, contract_at_root (IsScaledPart d) Once d c g h.scales); bounds = (h.bounds, contract_at_root (IsBoundedPart d) EachDay d c g h.bounds) };
       scale = omega arith;
       total = omega arith;
     }

@@ -25,7 +25,7 @@ use Rattle.simplify.proofs.TurnFlows.{entry_has, same_entry, same_test, sorts_he
 then_only : (b c e : Bool) → OnlyIf b c → OnlyIf c e → OnlyIf b e
 then_only b c e h k p = k (h p)
 
-either : (b c s t : Bool) → OnlyIf b s → OnlyIf c t → OnlyIf (b || c) (s || t)
+pub either : (b c s t : Bool) → OnlyIf b s → OnlyIf c t → OnlyIf (b || c) (s || t)
 either true c s t h k e = rw (h refl) refl
 either false c true t h k e = refl
 either false c false t h k e = k e

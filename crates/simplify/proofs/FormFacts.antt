@@ -7,7 +7,7 @@ use Rattle.term_core.specs.declared.values.Kind.{Kind}
 use Rattle.term_core.specs.declared.values.Kind.TheVariants.{Truth as TruthKind, Number}
 use Rattle.term_core.specs.declared.values.Value.{Value}
 use Rattle.term_core.specs.Terms.{Expression, Lit, Yes, Logic, Cond, Widen, Acc}
-use Rattle.term_core.specs.Kinds.{kind_of, scale_of, scale_or_zero, on_number, on_truth, joined}
+use Rattle.term_core.specs.Kinds.{kind_of, scale_of, scale_or_zero, on_number, on_truth}
 use Rattle.term_core.specs.Values.{kind_or, value_of}
 use Rattle.term_core.specs.Reads.{decides}
 use Rattle.term_core.specs.Redexes.{has_literal_operands}
@@ -17,13 +17,10 @@ use Rattle.term_core.specs.Bounds.{Range, range_kinds}
 use Rattle.interval_check.specs.Nodes.{IsSortedPart, IsScaledPart, IsSorted, IsScaled, has_scaled_parts}
 use Rattle.interval_check.specs.Replacing.{KeepsForm, literal_of, branch_at}
 use Rattle.interval_check.proofs.KindsFound.{truth_then, days}
-use Rattle.interval_check.proofs.NodeTests.{at_root}
+use Rattle.interval_check.proofs.NodeTests.{at_root, some_kind}
+use Rattle.interval_check.proofs.StandingFacts.{BesideWhole, left_beside, right_beside}
 use Rattle.simplify.specs.Turning.{is_chosen, resolved, choice, rule}
 use Rattle.simplify.proofs.TurnTimes.{if_cases_of}
-
-some_kind : (o : Option Kind) → IsTrue (is_some o) → o ≡ Some (kind_or o)
-some_kind (Some k) h = refl
-some_kind None h = absurd (cc)
 
 pub root_kind : (d : Declarations) (x : Expression) (g : List Range) → IsSorted d x g → kind_of d x (range_kinds g) ≡ Some (kind_or (kind_of d x (range_kinds g)))
 root_kind d x g s = some_kind (kind_of d x (range_kinds g)) (at_root (IsSortedPart d) d x g s)
@@ -47,28 +44,6 @@ literal_form d (Number s) v x g e c =
     let most : nat_le s greatest_scale ≡ true = subst (λ (o : Option Kind). nat_le (scale_or_zero o) greatest_scale ≡ true) e (most_scale d x g c) in
     record { sorts = refl; scales = and_from _ _ most refl; same_kind = sym e }
 
--- a branch beside the whole: two truth values, or numbers of scales i and s
-abbrev Beside : Option Kind → Option Kind → ℕ → ℕ → Type 0
-Beside o w i s = ((o ≡ Some TruthKind) × (w ≡ Some TruthKind) × (i ≡ 0) × (s ≡ 0)) ⊎ ((o ≡ Some (Number i)) × (w ≡ Some (Number s)))
-
-left_beside : (o u : Option Kind) → IsTrue (is_some (joined o u)) → Beside o (joined o u) (scale_or_zero o) (max (scale_or_zero o) (scale_or_zero u))
-left_beside None u h = absurd (cc)
-left_beside (Some TruthKind) None h = absurd (cc)
-left_beside (Some TruthKind) (Some TruthKind) h = inl (refl, refl, refl, refl)
-left_beside (Some TruthKind) (Some (Number s)) h = absurd (cc)
-left_beside (Some (Number r)) None h = absurd (cc)
-left_beside (Some (Number r)) (Some TruthKind) h = absurd (cc)
-left_beside (Some (Number r)) (Some (Number s)) h = inr (refl, refl)
-
-right_beside : (o u : Option Kind) → IsTrue (is_some (joined o u)) → Beside u (joined o u) (scale_or_zero u) (max (scale_or_zero o) (scale_or_zero u))
-right_beside None u h = absurd (cc)
-right_beside (Some TruthKind) None h = absurd (cc)
-right_beside (Some TruthKind) (Some TruthKind) h = inl (refl, refl, refl, refl)
-right_beside (Some TruthKind) (Some (Number s)) h = absurd (cc)
-right_beside (Some (Number r)) None h = absurd (cc)
-right_beside (Some (Number r)) (Some TruthKind) h = absurd (cc)
-right_beside (Some (Number r)) (Some (Number s)) h = inr (refl, refl)
-
 less_of : (a b : ℕ) → nat_lt a b ≡ true → a < b
 less_of a b h = grind (arith, nat_tests)
 
@@ -78,7 +53,7 @@ least_of a b h = grind (arith, nat_tests)
 le_is : (a b : ℕ) → a ≤ b → nat_le a b ≡ true
 le_is a b h = grind (arith, nat_tests)
 
-branch_form : (d : Declarations) (y x : Expression) (g : List Range) (s : ℕ) → Beside (kind_of d y (range_kinds g)) (kind_of d x (range_kinds g)) (scale_of d y (range_kinds g)) s → scale_of d y (range_kinds g) ≤ s → IsSorted d y g → IsScaled d y g → IsScaled d x g → KeepsForm d (branch_at (scale_of d y (range_kinds g)) s y) x g
+branch_form : (d : Declarations) (y x : Expression) (g : List Range) (s : ℕ) → BesideWhole (kind_of d y (range_kinds g)) (kind_of d x (range_kinds g)) (scale_of d y (range_kinds g)) s → scale_of d y (range_kinds g) ≤ s → IsSorted d y g → IsScaled d y g → IsScaled d x g → KeepsForm d (branch_at (scale_of d y (range_kinds g)) s y) x g
 branch_form d y x g s (inl both) order sorts scales whole =
     if_cases_of (λ z. KeepsForm d z x g) (nat_lt (scale_of d y (range_kinds g)) s) (Widen s y) y
     (λ h. let less = less_of (scale_of d y (range_kinds g)) s h in absurd (omega (arith, less, both.3)))

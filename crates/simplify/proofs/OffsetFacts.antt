@@ -2,19 +2,14 @@
 use Rattle.std.proofs.Common.{pos, [], max, nat_lt, Bool, true, false, if◌then◌else◌, ℕ, List, ◌∷◌}
 use Rattle.term_core.specs.Declarations.{Declarations}
 use Rattle.term_core.specs.declared.values.Kind.{Kind}
-use Rattle.term_core.specs.declared.values.Kind.TheVariants.{Truth as TruthKind, Number}
-use Rattle.term_core.specs.declared.values.Value.{Value}
 use Rattle.term_core.specs.Terms.{Expression, Lit, Yes, Var, Obs, Neg, Num, Cmp, Not, Logic, Cond, Widen, Round, Div, Acc}
 use Rattle.term_core.specs.Kinds.{kind_of, scale_of}
 use Rattle.term_core.specs.Values.{kind_or, value_of}
 use Rattle.term_core.specs.Redexes.{has_literal_operands}
 use Rattle.term_core.specs.SharedTerms.{HasOffsets}
-use Rattle.interval_check.specs.Replacing.{literal_of, branch_at}
+use Rattle.interval_check.specs.Replacing.{branch_at}
 use Rattle.simplify.specs.Turning.{resolved, choice, is_chosen, rule, turned}
-
-literal_offsets : (k : Kind) (v : Value) → HasOffsets (literal_of k v)
-literal_offsets TruthKind v = tt
-literal_offsets (Number s) v = tt
+use Rattle.specialise.proofs.StoredFacts.{literal_offsets}
 
 either_offsets : (b : Bool) (x y : Expression) → HasOffsets x → HasOffsets y → HasOffsets (if b then x else y)
 either_offsets true x y h k = h

@@ -17,6 +17,7 @@ use Rattle.term_core.specs.Values.{Entry, kinds, num, value_of, first_of, first_
 use Rattle.term_core.specs.Flows.{Flow, flow_of, count_of, scale_of_contract}
 use Rattle.term_core.specs.Redexes.{is_literal, is_zero_literal, uses_in_contract}
 use Rattle.term_core.proofs.FlowFacts.{one_zero}
+use Rattle.term_core.proofs.AlikeFacts.{and_left, and_right}
 use Rattle.rewriting.specs.LawsNames.{HasKindOf, HasValueOf}
 use Rattle.rewriting.specs.Substituting.{substituted_in}
 use Rattle.rewriting.proofs.NameFlows.{scale_without, flow_without}
@@ -59,10 +60,10 @@ if_cases_in P false x y h k = k refl
 pub is_zero_count : (n : ℕ) → (n == 0) ≡ true → n ≡ 0
 is_zero_count n h = grind (arith, nat_tests)
 
-left_gone : (x y : ℤ) → x ≡ pos 0 → y ≡ x +ℤ y
+pub left_gone : (x y : ℤ) → x ≡ pos 0 → y ≡ x +ℤ y
 left_gone x y h = omega (arith, ints)
 
-right_gone : (x y : ℤ) → y ≡ pos 0 → x ≡ x +ℤ y
+pub right_gone : (x y : ℤ) → y ≡ pos 0 → x ≡ x +ℤ y
 right_gone x y h = omega (arith, ints)
 
 zero_times : (x y : ℤ) → x ≡ pos 0 → x *ℤ y ≡ pos 0
@@ -116,14 +117,6 @@ zero_factor d (Widen s e) g env f h = absurd (cc)
 zero_factor d (Round mode s e) g env f h = absurd (cc)
 zero_factor d (Div mode s a b) g env f h = absurd (cc)
 zero_factor d (Acc body n first) g env f h = absurd (cc)
-
-pub left_true : (a b : Bool) → (a && b) ≡ true → a ≡ true
-left_true true b h = refl
-left_true false b h = absurd (cc)
-
-pub right_true : (a b : Bool) → (a && b) ≡ true → b ≡ true
-right_true true b h = h
-right_true false b h = absurd (cc)
 
 pub other_of : (a b : Bool) → (a || b) ≡ true → a ≡ false → b ≡ true
 other_of true b h e = absurd (cc)
@@ -248,7 +241,7 @@ module _ (d : Declarations) (g : List Entry) (env : Environment) where
   made_in_place (Within e n a b) t h =
       if_cases_in (λ y. InPlace d g env y (Within e n a b)) (is_literal e) (decided e n a b) Zero (λ l. decided_in_place e n a b l t) (λ l.
       let both = other_of (is_literal e) (is_nothing a && is_nothing b) h l in
-      neither e n a b (nothing_is a (left_true (is_nothing a) (is_nothing b) both)) (nothing_is b (right_true (is_nothing a) (is_nothing b) both)))
+      neither e n a b (nothing_is a (and_left (is_nothing a) (is_nothing b) both)) (nothing_is b (and_right (is_nothing a) (is_nothing b) both)))
 
   pub rule_in_place : (x : Contract) → HasTest d x (kinds g) → InPlace d g env (rule_in x) x
   rule_in_place x t = if_cases_in (λ y. InPlace d g env y x) (is_contract_redex x) (made x) x (made_in_place x t) (λ _. in_its_place d g env x)

@@ -37,7 +37,7 @@ pub on_other_side : (b s t : Bool) → OnlyIf b t → OnlyIf b (s || t)
 on_other_side b true t h e = refl
 on_other_side b false t h e = h e
 
-never : (c : Bool) → OnlyIf false c
+pub never : (c : Bool) → OnlyIf false c
 never c h = absurd (cc)
 
 pub below_is : (a b : ℤ) → a <ℤ b → int_lt a b ≡ true

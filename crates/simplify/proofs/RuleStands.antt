@@ -1,14 +1,13 @@
 -- What the rule makes of an expression may stand in its place.
-use Rattle.std.proofs.Common.{◌≡◌, ℕ, pos, max, ◌&&◌, Bool, true, false, if◌then◌else◌, IsTrue, is_some, Option, Some, None, List, ◌∷◌, [], refl, ap, sym, subst, ◌∙◌}
+use Rattle.std.proofs.Common.{◌≡◌, ℕ, pos, ◌&&◌, Bool, true, false, if◌then◌else◌, Option, Some, List, ◌∷◌, [], refl, ap, sym, subst, ◌∙◌}
 use Rattle.term_core.specs.Declarations.{Declarations}
 use Rattle.term_core.specs.declared.terms.LogicOp.{LogicOp}
 use Rattle.term_core.specs.declared.terms.LogicOp.TheVariants.{And, Or}
 use Rattle.term_core.specs.declared.values.Kind.{Kind}
-use Rattle.term_core.specs.declared.values.Kind.TheVariants.{Truth as TruthKind, Number}
+use Rattle.term_core.specs.declared.values.Kind.TheVariants.{Truth as TruthKind}
 use Rattle.term_core.specs.declared.values.Value.{Value}
 use Rattle.term_core.specs.Terms.{Expression, Lit, Yes, Var, Obs, Neg, Num, Cmp, Not, Logic, Cond, Widen, Round, Div, Acc}
-use Rattle.term_core.specs.Environments.{IsAdmitted}
-use Rattle.term_core.specs.Kinds.{kind_of, scale_of, scale_or_zero, on_truth, joined}
+use Rattle.term_core.specs.Kinds.{kind_of, scale_of, on_truth}
 use Rattle.term_core.specs.Values.{Entry, kind_or, value_of}
 use Rattle.term_core.specs.Redexes.{is_literal, has_literal_operands, names_within}
 use Rattle.term_core.specs.Bounds.{Interval, Range, range_kinds, single, interval_of}
@@ -19,21 +18,15 @@ use Rattle.interval_check.specs.Replacing.{Replaces, literal_of, branch_at}
 use Rattle.interval_check.proofs.KindsFound.{truth_then, days}
 use Rattle.interval_check.proofs.NarrowFacts.{narrower_same}
 use Rattle.interval_check.proofs.NarrowerFacts.{stays_tight}
-use Rattle.interval_check.proofs.NodeTests.{at_root}
-use Rattle.interval_check.proofs.StandingFacts.{values_replace, branches_replace}
+use Rattle.interval_check.proofs.NodeTests.{at_root, some_kind}
+use Rattle.interval_check.proofs.StandingFacts.{values_replace, branches_replace, joined_scale}
+use Rattle.interval_check.proofs.SuitedFacts.{nothing_fixed}
 use Rattle.simplify.specs.Turning.{is_chosen, resolved, choice}
 use Rattle.specialise.proofs.ClosedFacts.{value_among, both_none}
 use Rattle.specialise.proofs.SpecialRules.{itself}
 use Rattle.simplify.proofs.RuleFlows.{is_zero_count}
 use Rattle.simplify.specs.LawsRulesStand.{TruthsAreNothing, RuleReplaces}
 use Rattle.simplify.proofs.TruthIntervals.{truths_have_nothing}
-
-nothing_fixed : (d : Declarations) → IsAdmitted d []
-nothing_fixed d q v e = absurd (cc)
-
-some_kind : (o : Option Kind) → IsTrue (is_some o) → o ≡ Some (kind_or o)
-some_kind (Some k) h = refl
-some_kind None h = absurd (cc)
 
 root_kind : (d : Declarations) (x : Expression) (g : List Range) → MeetsRules d x g → kind_of d x (range_kinds g) ≡ Some (kind_or (kind_of d x (range_kinds g)))
 root_kind d x g r = some_kind (kind_of d x (range_kinds g)) (at_root (IsSortedPart d) d x g r.sorts)
@@ -111,15 +104,6 @@ resolved_stands d (Var back) g es limits within t r h = absurd (cc)
 resolved_stands d (Obs l u) g es limits within t r h = absurd (cc)
 resolved_stands d (Cond c x y) g es limits within t r h = absurd (cc)
 resolved_stands d (Acc body n first) g es limits within t r h = absurd (cc)
-
-joined_scale : (o u : Option Kind) → IsTrue (is_some (joined o u)) → scale_or_zero (joined o u) ≡ max (scale_or_zero o) (scale_or_zero u)
-joined_scale None u h = absurd (cc)
-joined_scale (Some TruthKind) None h = absurd (cc)
-joined_scale (Some TruthKind) (Some TruthKind) h = refl
-joined_scale (Some TruthKind) (Some (Number s)) h = absurd (cc)
-joined_scale (Some (Number r)) None h = absurd (cc)
-joined_scale (Some (Number r)) (Some TruthKind) h = absurd (cc)
-joined_scale (Some (Number r)) (Some (Number s)) h = refl
 
 -- the start of an accumulator of no days
 start_stands : (d : Declarations) (body first : Expression) (n : ℕ) (g : List Range) → KeepsLimits d → AreNarrower g g → n ≡ 0 → MeetsRules d (Acc body n first) g → Replaces d first (Acc body n first) g

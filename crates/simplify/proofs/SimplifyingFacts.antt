@@ -4,7 +4,6 @@ use Rattle.std.proofs.lemmas.Bool.{and_parts}
 use Rattle.std.proofs.lemmas.Bool.Decides.{nat_tests}
 use Rattle.term_core.specs.Declarations.{Declarations}
 use Rattle.term_core.specs.declared.shared.SharedContr.{SharedContr}
-use Rattle.term_core.specs.declared.shared.SharedContr.TheVariants.{Zero as Zero', Pay as Pay', Both', Scale', After', Let', Within'}
 use Rattle.term_core.specs.SharedTerms.{shared, StoresOffsets}
 use Rattle.term_core.specs.declared.terms.Contr.{Contr}
 use Rattle.std.specs.declared.rc.Rc.{Rc}
@@ -17,31 +16,33 @@ use Rattle.term_core.specs.Sites.{Once}
 use Rattle.term_core.specs.Sizes.{height_of_contract, nodes_of_contract, reach}
 use Rattle.term_core.specs.Smallness.{days_of_contract}
 use Rattle.term_core.specs.Values.{Entry}
-use Rattle.term_core.specs.WellFormed.{IsClosed, HasOnlyNumbers}
+use Rattle.term_core.specs.WellFormed.{IsClosed}
 use Rattle.term_core.specs.Bounds.{Range}
 use Rattle.interval_check.specs.Nodes.{IsScaledPart, MeetsRules, ContractMeetsRules, range_of, range_after}
 use Rattle.interval_check.specs.Sums.{entry_of}
 use Rattle.interval_check.specs.Within.{AreWithin, KeepsLimits}
 use Rattle.interval_check.proofs.GuaranteeFacts.{accepted_meet_rules, bindings_lie_within, expressions_are_safe}
+use Rattle.interval_check.proofs.SuitedFacts.{nothing_fixed}
+use Rattle.interval_check.proofs.RewritingFacts.{round_rules}
+use Rattle.interval_check.proofs.ContractSafeFacts.{contract_at_root}
 use Rattle.rewriting.specs.Measures.{size_in}
 use Rattle.rewriting.specs.RebuildingContracts.{after_in, IsLessIn, StoresNew}
 use Rattle.rewriting.proofs.SmallFacts.{Small, nodes_are_small}
-use Rattle.specialise.proofs.SpecialRules.{round_rules}
 use Rattle.simplify.specs.Turning.{HasNoPlain}
 use Rattle.simplify.specs.TurningContracts.{turned_in, HasNoPlainIn, IsTurnIn}
 use Rattle.simplify.specs.TurnableContracts.{CanTurnIn}
 use Rattle.term_core.specs.Literals.{HasLiterals, HasLiteralsIn}
 use Rattle.simplify.specs.Simplified.{PaysTheSame, ReadsNoMore, HasNoPlainRedex}
 use Rattle.rewriting.specs.Keeping.{IsNoLargerIn}
-use Rattle.simplify.proofs.ContractRuleStands.{root_in}
 use Rattle.simplify.proofs.ContractTurns.{contract_turns_end}
 use Rattle.simplify.proofs.ContractTurnReads.{contract_turn_reads}
 use Rattle.simplify.proofs.PlainFacts.{plain_leaves_none}
 use Rattle.simplify.proofs.TurnAccepted.{turn_accepted}
 use Rattle.simplify.proofs.TurnFlows.{sorts_here, turns_keep_amounts}
 use Rattle.simplify.proofs.TurnForms.{turns_keep_forms}
-use Rattle.simplify.proofs.TurnReplaces.{nothing_fixed, round_within}
+use Rattle.simplify.proofs.TurnReplaces.{round_within}
 use Rattle.simplify.proofs.TurnableInFacts.{can_turn_in}
+use Rattle.specialise.proofs.CallFacts.{shared_numbers}
 
 at_most : (a b : ℕ) → nat_le a b ≡ true → a ≤ b
 at_most a b h = grind (arith, nat_tests)
@@ -49,7 +50,7 @@ at_most a b h = grind (arith, nat_tests)
 -- ---- one turn
 
 pub right_scale : (d : Declarations) (c : Contract) → IsAccepted d c → scale_of_contract d c [] ≤ d.amounts
-right_scale d c h = at_most (scale_of_contract d c []) d.amounts (root_in (IsScaledPart d) Once d c [] (accepted_meet_rules d c h).scales)
+right_scale d c h = at_most (scale_of_contract d c []) d.amounts (contract_at_root (IsScaledPart d) Once d c [] (accepted_meet_rules d c h).scales)
 
 pub turn_pays : (d : Declarations) (c : Contract) → IsAccepted d c → PaysTheSame d (turned_in d [] c) c
 turn_pays d c h env f n w a = turns_keep_amounts d c env f n w a h.sorts (right_scale d c h)
@@ -66,7 +67,7 @@ pub record IsLow (c : Contract) : Type 0 where
 
 pub accepted_low : (d : Declarations) (c : Contract) → IsAccepted d c → IsLow c
 accepted_low d c h =
-    let root = root_in Small Once d c [] (nodes_are_small d c h.sizes) in
+    let root = contract_at_root Small Once d c [] (nodes_are_small d c h.sizes) in
     let one = and_parts (nat_le (height_of_contract c) 200) _ root in
     let two = and_parts (nat_le (nodes_of_contract c) 100_000) _ one.1 in
     let three = and_parts (nat_le (days_of_contract c) 100_000) _ two.1 in
@@ -144,15 +145,6 @@ pub nothing_left : (d : Declarations) (c : Contract) → HasNoPlainIn c → HasN
 nothing_left d c h fixings f kind p = plain_leaves_none d c fixings f kind p h
 
 -- ---- forms
-
-pub shared_numbers : (s : SharedContr) → HasOnlyNumbers (shared s)
-shared_numbers Zero' = tt
-shared_numbers (Pay' x p q) = tt
-shared_numbers (Both' p a q b) = (shared_numbers a, shared_numbers b)
-shared_numbers (Scale' e k q c) = shared_numbers c
-shared_numbers (After' n p c) = (tt, shared_numbers c)
-shared_numbers (Let' e k q c) = shared_numbers c
-shared_numbers (Within' e n q a r b) = (tt, shared_numbers a, shared_numbers b)
 
 pub closed_through : (d : Declarations) (k : Contract) (s : SharedContr) → k ≡ turned_in d [] (shared s) → IsClosed d (shared s) → IsClosed d k
 closed_through d k s e h = subst (λ (x : Contract). IsClosed d x) (sym e) (turns_keep_forms d (shared s) [] 0 h (shared_numbers s)).0

@@ -3,22 +3,14 @@ use Rattle.rewriting.proofs.SizeFacts.{some_size}
 use Rattle.std.proofs.Common.{◌≡◌, ℕ, ◌+◌, ◌<◌, ◌≤◌, ◌||◌, Bool, true, false, max, nat_lt, List, ◌∷◌, if◌then◌else◌, refl, ap, ap₂, sym, subst, ◌∙◌, inl, inr, ◌⊎◌, arith}
 use Rattle.term_core.specs.Declarations.{Declarations}
 use Rattle.term_core.specs.declared.values.Kind.{Kind}
-use Rattle.term_core.specs.declared.values.Kind.TheVariants.{Truth as TruthKind, Number}
-use Rattle.term_core.specs.declared.values.Value.{Value}
 use Rattle.term_core.specs.Terms.{Expression, Lit, Yes, Var, Obs, Neg, Num, Cmp, Not, Logic, Cond, Widen, Round, Div, Acc}
 use Rattle.term_core.specs.Kinds.{kind_of, scale_of}
 use Rattle.term_core.specs.Values.{kind_or}
 use Rattle.term_core.specs.Redexes.{has_literal_operands}
-use Rattle.interval_check.specs.Replacing.{literal_of, branch_at}
+use Rattle.interval_check.specs.Replacing.{branch_at}
 use Rattle.rewriting.specs.Measures.{size}
 use Rattle.simplify.specs.Turning.{is_chosen, is_plain_redex, resolved, choice, rule, HasNoPlain, IsTurn, TurnsEnd}
-
-literal_size : (k : Kind) (v : Value) → size (literal_of k v) ≡ 1
-literal_size TruthKind v = refl
-literal_size (Number s) v = refl
-
-small : (k : Kind) (v : Value) (n : ℕ) → 2 ≤ n → size (literal_of k v) < n
-small k v n h = omega (arith, literal_size k v, h)
+use Rattle.specialise.proofs.SpecialSizes.{literal_is_less}
 
 if_size : (b : Bool) (x y : Expression) (n : ℕ) → size x < n → size y < n → size (if b then x else y) < n
 if_size true x y n h k = h
@@ -36,16 +28,16 @@ resolved_size d ks (Lit m s) h = absurd (cc)
 resolved_size d ks (Yes b) h = absurd (cc)
 resolved_size d ks (Var back) h = absurd (cc)
 resolved_size d ks (Obs l t) h = absurd (cc)
-resolved_size d ks (Neg e) h = small _ _ _ (omega (arith, some_size e))
-resolved_size d ks (Num op a b) h = small _ _ _ (omega (arith, some_size a, some_size b))
-resolved_size d ks (Cmp op a b) h = small _ _ _ (omega (arith, some_size a, some_size b))
-resolved_size d ks (Not e) h = small _ _ _ (omega (arith, some_size e))
+resolved_size d ks (Neg e) h = literal_is_less _ _ _ (omega (arith, some_size e))
+resolved_size d ks (Num op a b) h = literal_is_less _ _ _ (omega (arith, some_size a, some_size b))
+resolved_size d ks (Cmp op a b) h = literal_is_less _ _ _ (omega (arith, some_size a, some_size b))
+resolved_size d ks (Not e) h = literal_is_less _ _ _ (omega (arith, some_size e))
 resolved_size d ks (Logic op (Yes v) b) h = if_size _ (Yes v) b _ (omega (arith, some_size b)) (omega arith)
 resolved_size d ks (Logic op a b) h = omega (arith, some_size a)
 resolved_size d ks (Cond t a b) h = absurd (cc)
-resolved_size d ks (Widen s e) h = small _ _ _ (omega (arith, some_size e))
-resolved_size d ks (Round mode s e) h = small _ _ _ (omega (arith, some_size e))
-resolved_size d ks (Div mode s a b) h = small _ _ _ (omega (arith, some_size a, some_size b))
+resolved_size d ks (Widen s e) h = literal_is_less _ _ _ (omega (arith, some_size e))
+resolved_size d ks (Round mode s e) h = literal_is_less _ _ _ (omega (arith, some_size e))
+resolved_size d ks (Div mode s a b) h = literal_is_less _ _ _ (omega (arith, some_size a, some_size b))
 resolved_size d ks (Acc body n first) h = absurd (cc)
 
 choice_size : (d : Declarations) (ks : List Kind) (e : Expression) → is_chosen e ≡ true → size (choice d ks e) < size e

@@ -76,7 +76,7 @@ some_kind : (o : Option Kind) → IsTrue (is_some o) → (k : Kind) × (o ≡ So
 some_kind (Some k) h = (k, refl)
 some_kind None h = absurd (cc)
 
-truth_kind : (o : Option Kind) → IsTrue (is_truth o) → o ≡ Some TruthKind
+pub truth_kind : (o : Option Kind) → IsTrue (is_truth o) → o ≡ Some TruthKind
 truth_kind (Some TruthKind) h = refl
 truth_kind (Some (Number s)) h = absurd (cc)
 truth_kind None h = absurd (cc)

@@ -1,16 +1,17 @@
 -- A turn keeps the form of an expression.
-use Rattle.std.proofs.Common.{◌≡◌, ℕ, IsTrue, nat_le, Option, Some, None, List, ◌∷◌, refl, ap, ap₂, sym, subst, ◌∙◌}
+use Rattle.std.proofs.Common.{◌≡◌, ℕ, IsTrue, nat_le, Option, Some, List, ◌∷◌, refl, ap, ap₂, sym, subst, ◌∙◌}
 use Rattle.term_core.specs.Declarations.{Declarations}
 use Rattle.term_core.specs.declared.values.Kind.{Kind}
 use Rattle.term_core.specs.declared.values.Kind.TheVariants.{Truth as TruthKind, Number}
 use Rattle.term_core.specs.Terms.{Expression, Lit, Yes, Var, Obs, Neg, Num, Cmp, Not, Logic, Cond, Widen, Round, Div, Acc}
-use Rattle.term_core.specs.Kinds.{kind_of, scale_of, scale_or_zero, scale_of_op, on_number, on_numbers, on_truth, joined, of_acc}
+use Rattle.term_core.specs.Kinds.{kind_of, scale_of, scale_or_zero, scale_of_op, on_number, on_numbers, on_truth, joined}
 use Rattle.term_core.specs.Values.{kind_or}
 use Rattle.term_core.specs.Bounds.{Range, range_kinds}
 use Rattle.interval_check.specs.Nodes.{IsSorted, IsScaled, is_sorted_part, is_scaled_part, range_after}
 use Rattle.interval_check.specs.Replacing.{KeepsForm}
 use Rattle.interval_check.proofs.KindsEnough.{kinds_are_enough}
 use Rattle.interval_check.proofs.NodeTests.{scaled_parts}
+use Rattle.interval_check.proofs.ReplacingFacts.{acc_kind}
 use Rattle.simplify.specs.Turning.{rule, turned}
 use Rattle.simplify.specs.LawsTurnsStand.{TurnsKeepForm}
 use Rattle.simplify.proofs.FormFacts.{sorted_root, scaled_root, rule_form}
@@ -22,14 +23,6 @@ ruled : (d : Declarations) (x e : Expression) (g : List Range) → KeepsForm d x
 ruled d x e g p =
     let q = rule_form d x g p.sorts p.scales in
     record { sorts = q.sorts; scales = q.scales; same_kind = q.same_kind ∙ p.same_kind }
-
-acc_kind : (o o' : Option Kind) (f f' : Kind → Option Kind) → o' ≡ o → f' (kind_or o) ≡ f (kind_or o) → of_acc o' f' ≡ of_acc o f
-acc_kind o o' f f' e e' = ap (λ (u : Option Kind). of_acc u f') e ∙ by o e'
-  where
-    by : (u : Option Kind) → f' (kind_or u) ≡ f (kind_or u) → of_acc u f' ≡ of_acc u f
-    by None p = refl
-    by (Some TruthKind) p = ap (λ (x : Option Kind). on_truth x (Some TruthKind)) p
-    by (Some (Number s)) p = ap (on_number (λ _. Some (Number s))) p
 
 pub turn_form : TurnsKeepForm
 turn_form d (Lit m s) g h c = itself d (Lit m s) g h c

@@ -17,9 +17,12 @@ use Rattle.term_core.specs.Values.{Entry, kinds, num, truth, of_num, of_cmp, log
 use Rattle.term_core.specs.LawsKinds.{IsOfKind, AreOfKinds}
 use Rattle.term_core.specs.Redexes.{has_literal_operands}
 use Rattle.term_core.proofs.KindFacts.{values_have_kinds}
+use Rattle.term_core.proofs.ShiftFacts.{of_two}
 use Rattle.interval_check.specs.Replacing.{branch_at}
 use Rattle.interval_check.proofs.KindsFound.{one_number, two_numbers, truth_then, branches, days}
 use Rattle.simplify.specs.Turning.{is_chosen, resolved, choice, rule, turned}
+use Rattle.simplify.proofs.RuleFlows.{is_zero_count}
+use Rattle.rewriting.proofs.RaisedFacts.{raised-none}
 
 -- y has kind k, and the value of x
 abbrev pub Means : Declarations → Expression → Expression → List Entry → Environment → ℤ → Kind → Type 0
@@ -66,14 +69,11 @@ resolved_means d (Acc body n first) g env f k a h e t = absurd (cc)
 
 -- ---- choices
 
-raised_by_none : (x : ℤ) → raised x 0 ≡ x
-raised_by_none x = omega (arith, ints)
-
 widened_same : (i m : ℕ) (v : Value) → i ≡ m → widened i m v ≡ v
 widened_same i m (Truth b) e = refl
 widened_same i m (Amount x) e =
     let none : m - i ≡ 0 = omega (arith, e) in
-    ap (λ (n : ℕ). Amount (raised x n)) none ∙ ap (λ (y : ℤ). Amount y) (raised_by_none x)
+    ap (λ (n : ℕ). Amount (raised x n)) none ∙ ap (λ (y : ℤ). Amount y) (raised-none x)
 
 -- a branch of kind o beside one of scale j: it is widened, or it has the kind of the whole
 pub record Wide (o : Option Kind) (m : ℕ) (k : Kind) : Type 0 where
@@ -147,9 +147,6 @@ no_days d body first n g env f e = none ∙ ap (λ (m : ℕ). value_of d (Acc bo
     none : value_of d first g env f ≡ value_of d (Acc body zero first) g env f
     none = ap (value_of d first g env) (omega (arith, ints))
 
-is_none : (n : ℕ) → (n == 0) ≡ true → n ≡ 0
-is_none n h = grind (arith, nat_tests)
-
 choice_means : (d : Declarations) (x : Expression) (g : List Entry) (env : Environment) (f : ℤ) (k : Kind) → kind_of d x (kinds g) ≡ Some k → is_chosen x ≡ true → Means d (choice d (kinds g) x) x g env f k
 choice_means d (Cond (Yes true) a b) g env f k e t =
     branch_means d a (max (scale_of d a (kinds g)) (scale_of d b (kinds g))) g env f k (left_wide (kind_of d a (kinds g)) (kind_of d b (kinds g)) k e) (left_fit (kind_of d a (kinds g)) (kind_of d b (kinds g)) k e)
@@ -157,7 +154,7 @@ choice_means d (Cond (Yes false) a b) g env f k e t =
     branch_means d b (max (scale_of d a (kinds g)) (scale_of d b (kinds g))) g env f k (right_wide (kind_of d a (kinds g)) (kind_of d b (kinds g)) k e) (right_fit (kind_of d a (kinds g)) (kind_of d b (kinds g)) k e)
 choice_means d (Cond c a b) g env f k e t = absurd (cc)
 choice_means d (Acc body n first) g env f k e t =
-    ((days (kind_of d first (kinds g)) (λ j. kind_of d body (j ∷ kinds g)) k e).first, no_days d body first n g env f (is_none n t))
+    ((days (kind_of d first (kinds g)) (λ j. kind_of d body (j ∷ kinds g)) k e).first, no_days d body first n g env f (is_zero_count n t))
 choice_means d (Lit m s) g env f k e t = absurd (cc)
 choice_means d (Yes b) g env f k e t = absurd (cc)
 choice_means d (Var back) g env f k e t = absurd (cc)
@@ -185,9 +182,6 @@ then_rule : (d : Declarations) (x e : Expression) (g : List Entry) (env : Enviro
 then_rule d x e g env f k a h same is kind =
     let m = rule_means d x g env f k a h (same ∙ kind) in
     (m.0, m.1 ∙ is)
-
-of_two : {A : Type 0} (F : ℕ → Value → ℕ → Value → A) (i i' j j' : ℕ) (v v' w w' : Value) → i ≡ i' → v ≡ v' → j ≡ j' → w ≡ w' → F i v j w ≡ F i' v' j' w'
-of_two F i i' j j' v v' w w' a b c e = ap₂ (λ (x : ℕ) (y : Value). F x y j w) a b ∙ ap₂ (λ (x : ℕ) (y : Value). F i' v' x y) c e
 
 -- steps that are the same at each value on the way
 pub same_run : (n : ℕ) (step go : ℕ → Value → Value) (v w : Value) → v ≡ w → ((i : ℕ) → step (suc i) (days_run i go w) ≡ go (suc i) (days_run i go w)) → days_run n step v ≡ days_run n go w

@@ -1,5 +1,5 @@
 -- A turn of an expression reads nothing that the expression does not read.
-use Rattle.std.proofs.Common.{◌≡◌, ℕ, zero, suc, ℤ, pos, ◌+ℤ◌, ◌-ℤ◌, max, nat_lt, Bool, true, false, if◌then◌else◌, Option, Some, None, List, ◌∷◌, [], ◌++◌, refl, ap, ap₂, sym, subst, ◌∙◌, arith}
+use Rattle.std.proofs.Common.{◌≡◌, ℕ, zero, suc, ℤ, pos, ◌+ℤ◌, ◌-ℤ◌, max, nat_lt, Bool, true, false, if◌then◌else◌, Option, Some, List, ◌∷◌, [], ◌++◌, refl, ap, ap₂, sym, subst, ◌∙◌, arith}
 use Rattle.std.proofs.lemmas.Int.{ints}
 use Rattle.term_core.specs.Declarations.{Declarations}
 use Rattle.term_core.specs.declared.terms.LogicOp.{LogicOp}
@@ -8,25 +8,21 @@ use Rattle.term_core.specs.declared.values.Kind.{Kind}
 use Rattle.term_core.specs.declared.values.Kind.TheVariants.{Truth as TruthKind, Number}
 use Rattle.term_core.specs.declared.values.Value.{Value}
 use Rattle.term_core.specs.Terms.{Expression, Lit, Yes, Var, Obs, Neg, Num, Cmp, Not, Logic, Cond, Widen, Round, Div, Acc}
-use Rattle.term_core.specs.Environments.{Environment, Place, IsAdmitted}
-use Rattle.term_core.specs.Kinds.{kind_of, scale_of, scale_of_kind, scale_or_zero, scale_of_op, on_number, on_numbers, on_truth, joined, of_acc}
+use Rattle.term_core.specs.Environments.{Environment, Place}
+use Rattle.term_core.specs.Kinds.{kind_of, scale_of, scale_of_kind, scale_or_zero, scale_of_op, on_number, on_numbers, on_truth, joined}
 use Rattle.term_core.specs.Values.{Entry, kinds, truth, widened, kind_or, value_of, days_run}
-use Rattle.term_core.specs.LawsKinds.{IsOfKind, AreOfKinds}
+use Rattle.term_core.specs.LawsKinds.{IsOfKind}
 use Rattle.term_core.specs.Reads.{reads_of, steps_before, decides}
 use Rattle.term_core.specs.Redexes.{has_literal_operands}
-use Rattle.term_core.proofs.KindFacts.{values_have_kinds}
-use Rattle.interval_check.specs.Replacing.{literal_of, branch_at}
+use Rattle.interval_check.specs.Replacing.{branch_at}
 use Rattle.interval_check.proofs.KindsFound.{one_number, two_numbers, truth_then, branches, days}
 use Rattle.rewriting.proofs.Among.{among_none, among_same, among_both, among_left, then_among, among_steps, among_chosen, one_name_more}
 use Rattle.simplify.specs.Turning.{is_chosen, resolved, choice, rule, turned}
 use Rattle.simplify.proofs.TurnMeaning.{same_run, on_the_way, acc_at, turn_means}
 use Rattle.rewriting.specs.Keeping.{AreAmong}
-use Rattle.specialise.proofs.ToldFacts.{literal_reads}
+use Rattle.specialise.proofs.SpecialReads.{literal_among}
 use Rattle.simplify.specs.LawsTurnsKeep.{TurnsReadLess}
 use Rattle.simplify.proofs.RuleFlows.{is_zero_count}
-
-literal_among : (d : Declarations) (k : Kind) (v : Value) (g : List Entry) (bs : List (List Place)) (env : Environment) (f : ℤ) (ys : List Place) → AreAmong (reads_of d (literal_of k v) g bs env f) ys
-literal_among d k v g bs env f ys = then_among (reads_of d (literal_of k v) g bs env f) [] ys (among_same _ [] (literal_reads d k v g bs env f)) (among_none ys)
 
 all_of : (xs : List Place) → AreAmong xs xs
 all_of xs q c = c

@@ -4,7 +4,6 @@ use Rattle.term_core.specs.Declarations.{Declarations}
 use Rattle.term_core.specs.declared.values.Kind.{Kind}
 use Rattle.term_core.specs.Terms.{Expression, Lit, Yes, Var, Obs, Neg, Num, Cmp, Not, Logic, Cond, Widen, Round, Div, Acc}
 use Rattle.term_core.specs.Terms.{Contract, Zero, Pay, Both, Scale, After, Let, Within}
-use Rattle.term_core.specs.Environments.{IsAdmitted}
 use Rattle.term_core.specs.Kinds.{kind_of}
 use Rattle.term_core.specs.Values.{Entry, kind_or}
 use Rattle.term_core.specs.Bounds.{Range, range_kinds, interval_of}
@@ -18,9 +17,11 @@ use Rattle.interval_check.proofs.KindsFound.{days}
 use Rattle.interval_check.proofs.NarrowerFacts.{stays_tight, narrower_let}
 use Rattle.interval_check.proofs.ReplacingFacts.{replaces_neg, replaces_num, replaces_cmp, replaces_not, replaces_logic, replaces_cond, replaces_widen, replaces_round, replaces_div, replaces_acc}
 use Rattle.interval_check.proofs.RewritingContracts.{rewritten_contract_replaces, parts_stand_for_themselves, replacements_compose}
+use Rattle.interval_check.proofs.SuitedFacts.{nothing_fixed}
+use Rattle.interval_check.proofs.RewritingFacts.{ordered_round, round_rules}
 use Rattle.simplify.specs.Turning.{rule, turned}
 use Rattle.simplify.specs.TurningContracts.{rule_in, turned_in}
-use Rattle.specialise.proofs.SpecialRules.{itself, by_whole, ordered_round, round_rules}
+use Rattle.specialise.proofs.SpecialRules.{itself, by_whole}
 use Rattle.simplify.specs.LawsRulesStand.{TruthsAreNothing}
 use Rattle.simplify.proofs.TruthIntervals.{truths_have_nothing}
 use Rattle.simplify.proofs.RuleStands.{rule_replaces}
@@ -28,9 +29,6 @@ use Rattle.simplify.proofs.ContractRuleStands.{contract_rule_replaces}
 use Rattle.simplify.specs.LawsTurnsStand.{TurnsReplace, ContractTurnsReplace}
 use Rattle.simplify.proofs.FormFacts.{root_kind}
 use Rattle.simplify.proofs.TurnForm.{turn_form}
-
-pub nothing_fixed : (d : Declarations) → IsAdmitted d []
-nothing_fixed d q v e = absurd (cc)
 
 -- the rule, once the parts are turned
 ruled : (d : Declarations) (x e : Expression) (g : List Range) (es : List Entry) → KeepsLimits d → AreNarrower g g → AreWithin g es → TruthsAreNothing g → Replaces d x e g → Replaces d (rule d (range_kinds g) x) e g
@@ -90,7 +88,7 @@ turn_replaces d (Acc body n first) g es limits ordered within t r =
 
 -- ---- contracts
 
-by_whole_in : (d : Declarations) (c k : Contract) (g : List Range) → ReplacesContract d k c g → IsRewrittenContract d c k g
+pub by_whole_in : (d : Declarations) (c k : Contract) (g : List Range) → ReplacesContract d k c g → IsRewrittenContract d c k g
 by_whole_in d Zero k g r = r
 by_whole_in d (Pay a p q) k g r = r
 by_whole_in d (Both a b) k g r = inl r

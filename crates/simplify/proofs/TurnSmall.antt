@@ -59,7 +59,7 @@ some_height (Div mode s a b) = (omega arith, omega arith, omega arith)
 some_height (Acc body n first) = (omega arith, omega arith, omega arith)
 
 -- by any ranges
-anywhere : (d : Declarations) (e : Expression) (g h : List Range) → EachNode Small Once d e g → EachNode Small Once d e h
+pub anywhere : (d : Declarations) (e : Expression) (g h : List Range) → EachNode Small Once d e g → EachNode Small Once d e h
 anywhere d e g h r = subst (λ (x : Expression). EachNode Small Once d x h) (nothing_told d [] e) (special_small d [] None e g h r)
 
 -- ---- the rule at an expression: what it makes is no larger, and its nodes are small

@@ -22,12 +22,13 @@ use Rattle.interval_check.proofs.GuaranteeFacts.{expressions_are_safe, suits}
 use Rattle.interval_check.proofs.KindsFound.{has_kind, scale_is}
 use Rattle.interval_check.proofs.ValueFacts.{same_kinds}
 use Rattle.interval_check.proofs.ReplacingFacts.{replaces_neg, replaces_num, replaces_cmp, replaces_not, replaces_logic, replaces_cond, replaces_widen, replaces_round, replaces_div}
-use Rattle.specialise.proofs.SpecialRules.{ordered_round, round_rules}
+use Rattle.interval_check.proofs.SuitedFacts.{nothing_fixed}
+use Rattle.interval_check.proofs.RewritingFacts.{ordered_round, round_rules}
 use Rattle.simplify.specs.LawsRulesStand.{TruthsAreNothing}
 use Rattle.simplify.specs.Turning.{turned}
 use Rattle.simplify.specs.Turnable.{FoldsTo, DecidesLogic, DecidesChoice, scale_found, CanTurn}
 use Rattle.simplify.proofs.FormFacts.{root_kind}
-use Rattle.simplify.proofs.TurnReplaces.{nothing_fixed, turn_replaces, round_within, round_truths}
+use Rattle.simplify.proofs.TurnReplaces.{turn_replaces, round_within, round_truths}
 
 -- ---- at a node whose parts are turned
 

@@ -1,15 +1,14 @@
 -- What meets the rules can be turned, over contracts with shared parts.
-use Rattle.std.proofs.Common.{◌≡◌, ℕ, pos, ◌+◌, ◌<◌, ◌≤◌, ◌^◌, Option, Some, None, IsTrue, ℤ, true, false, List, ◌∷◌, [], refl, ap, subst, ◌∙◌, arith}
+use Rattle.std.proofs.Common.{◌≡◌, ℕ, pos, ◌+◌, ◌<◌, ◌≤◌, ◌^◌, Option, Some, ℤ, true, false, List, ◌∷◌, [], refl, ap, subst, ◌∙◌, arith}
 use Rattle.term_core.specs.Declarations.{Declarations}
 use Rattle.term_core.specs.declared.values.Kind.{Kind}
-use Rattle.term_core.specs.declared.values.Kind.TheVariants.{Truth as TruthKind, Number}
+use Rattle.term_core.specs.declared.values.Kind.TheVariants.{Truth as TruthKind}
 use Rattle.term_core.specs.declared.shared.SharedContr.{SharedContr}
 use Rattle.term_core.specs.declared.shared.SharedContr.TheVariants.{Zero as Zero', Pay as Pay', Both', Scale', After', Let', Within'}
 use Rattle.term_core.specs.SharedTerms.{shared}
 use Rattle.term_core.specs.Shifts.{shifted}
 use Rattle.term_core.specs.Terms.{Expression, expression, Lit, Yes, Contract, Zero, Pay, Both, Scale, After, Let, Within}
 use Rattle.term_core.specs.Kinds.{kind_of}
-use Rattle.term_core.specs.Sorts.{is_truth}
 use Rattle.term_core.specs.Sizes.{height_of_contract, reach}
 use Rattle.term_core.specs.Values.{Entry, kind_or}
 use Rattle.term_core.specs.Bounds.{Range, range_kinds}
@@ -21,6 +20,7 @@ use Rattle.interval_check.specs.Sums.{entry_of}
 use Rattle.interval_check.specs.Within.{AreWithin, KeepsLimits}
 use Rattle.interval_check.proofs.GuaranteeFacts.{bindings_lie_within}
 use Rattle.interval_check.proofs.NarrowerFacts.{stays_tight, narrower_let}
+use Rattle.interval_check.proofs.SuitedFacts.{nothing_fixed}
 use Rattle.rewriting.proofs.ShiftedRules.{rules_see_no_offsets}
 use Rattle.simplify.specs.LawsRulesStand.{TruthsAreNothing}
 use Rattle.simplify.specs.Turning.{turned}
@@ -28,14 +28,10 @@ use Rattle.simplify.specs.TurningContracts.{turned_in}
 use Rattle.simplify.specs.TurnableContracts.{joined_days, DecidesTest, CanTurnIn}
 use Rattle.simplify.proofs.FormFacts.{root_kind}
 use Rattle.simplify.proofs.TruthIntervals.{truths_have_nothing}
-use Rattle.simplify.proofs.TurnReplaces.{nothing_fixed, turn_replaces}
+use Rattle.simplify.proofs.TurnReplaces.{turn_replaces}
 use Rattle.simplify.proofs.TurnSmall.{turn_lesser_in}
 use Rattle.simplify.proofs.TurnableFacts.{can_turn, kind_is}
-
-truth_kind : (o : Option Kind) → IsTrue (is_truth o) → o ≡ Some TruthKind
-truth_kind None h = absurd (cc)
-truth_kind (Some TruthKind) h = refl
-truth_kind (Some (Number s)) h = absurd (cc)
+use Rattle.simplify.proofs.TurnFlows.{truth_kind}
 
 decides_test : (d : Declarations) (x : Expression) (ks : List Kind) → kind_of d x ks ≡ Some TruthKind → DecidesTest x
 decides_test d (Lit m s) ks h n a b = absurd (cc)

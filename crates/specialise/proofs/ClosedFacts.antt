@@ -1,6 +1,6 @@
 -- What an expression is asks only of the names that it uses: where k of them agree, and every name is among the k nearest,
 -- its kind and its value are the same.
-use Rattle.std.proofs.Common.{◌≡◌, ℕ, zero, suc, ℤ, pos, ◌+ℤ◌, ◌-ℤ◌, neg_ℤ, ◌+◌, ◌<◌, ◌≤◌, max, not, Bool, true, ◌&&◌, if◌then◌else◌, nat_lt, Option, Some, None, List, ◌∷◌, slice_get, refl, ap, ap₂, ◌∙◌, arith}
+use Rattle.std.proofs.Common.{◌≡◌, ℕ, zero, suc, ℤ, pos, ◌+ℤ◌, ◌-ℤ◌, neg_ℤ, ◌+◌, ◌<◌, ◌≤◌, max, not, Bool, true, ◌&&◌, if◌then◌else◌, nat_lt, Option, Some, List, ◌∷◌, slice_get, refl, ap, ap₂, ◌∙◌, arith}
 use Rattle.std.proofs.lemmas.Bool.Decides.{nat_tests}
 use Rattle.decimal.specs.Rounding.{at_scale, divided}
 use Rattle.term_core.specs.Declarations.{Declarations}
@@ -10,11 +10,11 @@ use Rattle.term_core.specs.declared.values.Value.{Value}
 use Rattle.term_core.specs.declared.values.Value.TheVariants.{Num as Amount, Truth}
 use Rattle.term_core.specs.Terms.{Expression, Lit, Yes, Var, Obs, Neg, Num, Cmp, Not, Logic, Cond, Widen, Round, Div, Acc}
 use Rattle.term_core.specs.Environments.{Environment}
-use Rattle.term_core.specs.Kinds.{kind_of, scale_of, scale_of_kind, scale_or_zero, on_number, on_numbers, on_truth, joined, of_acc, scale_of_op}
+use Rattle.term_core.specs.Kinds.{kind_of, scale_of, scale_of_kind, scale_or_zero, on_number, on_numbers, on_truth, joined, scale_of_op}
 use Rattle.term_core.specs.Values.{Entry, kinds, num, truth, of_num, of_cmp, logic_op, widened, kind_or, value_of, value_of_entry, days_run}
 use Rattle.term_core.specs.Redexes.{names_within}
 use Rattle.term_core.proofs.AlikeFacts.{and_left, and_right}
-use Rattle.rewriting.proofs.NameValues.{same_days}
+use Rattle.term_core.proofs.ShiftFacts.{same_acc, same_days, of_two}
 
 -- the first k names are the same
 abbrev pub Agree : {A : Type 0} → ℕ → List A → List A → Type 0
@@ -32,17 +32,6 @@ below a b h = grind (arith, nat_tests)
 
 is_below : (a b : ℕ) → a < b → nat_lt a b ≡ true
 is_below a b h = grind (arith, nat_tests)
-
-pub same_acc : (o u : Option Kind) (p q : Kind → Option Kind) → o ≡ u → ((k : Kind) → p k ≡ q k) → of_acc o p ≡ of_acc u q
-same_acc o u p q e h = ap (λ (r : Option Kind). of_acc r p) e ∙ at u
-  where
-    at : (r : Option Kind) → of_acc r p ≡ of_acc r q
-    at None = refl
-    at (Some TruthKind) = ap (λ (r : Option Kind). on_truth r (Some TruthKind)) (h TruthKind)
-    at (Some (Number s)) = ap (on_number (λ _. Some (Number s))) (h (Number s))
-
-pub of_two : {A : Type 0} (F : ℕ → Value → ℕ → Value → A) (i i' j j' : ℕ) (v v' w w' : Value) → i ≡ i' → v ≡ v' → j ≡ j' → w ≡ w' → F i v j w ≡ F i' v' j' w'
-of_two F i i' j j' v v' w w' a b c e = ap₂ (λ (x : ℕ) (y : Value). F x y j w) a b ∙ ap₂ (λ (x : ℕ) (y : Value). F i' v' x y) c e
 
 pub kind_among : (d : Declarations) (e : Expression) (k : ℕ) (ks js : List Kind) → names_within k e ≡ true → Agree k ks js → kind_of d e ks ≡ kind_of d e js
 kind_among d (Lit m s) k ks js n h = refl

@@ -1,5 +1,5 @@
 -- Parts of what may be specialised may be specialised.
-use Rattle.std.proofs.Common.{◌≡◌, inl, inr, refl, subst, sym, ℤ, pos, List, [], ◌∷◌}
+use Rattle.std.proofs.Common.{◌≡◌, inl, inr, subst, sym, ℤ, pos, List, [], ◌∷◌}
 use Rattle.term_core.specs.Declarations.{Declarations}
 use Rattle.term_core.specs.Terms.{Expression, Lit, Yes, Var, Obs, Neg, Num, Cmp, Not, Logic, Cond, Widen, Round, Div, Acc}
 use Rattle.term_core.specs.Terms.{Contract, Zero, Pay, Both, Scale, After, Let, Within}
@@ -11,22 +11,7 @@ use Rattle.interval_check.specs.Nodes.{range_of}
 use Rattle.interval_check.specs.Parts.{IsPart, IsPartHere, StandsIn}
 use Rattle.specialise.specs.LawsParts.{AcceptedMaySpecialise, PartsOfPartsMaySpecialise}
 use Rattle.specialise.specs.Specialisable.{IsPartOfAccepted, MaySpecialise, MaySpecialiseIn}
-
-pub part_of_itself : (e : Expression) → IsPart e e
-part_of_itself (Lit m s) = refl
-part_of_itself (Yes b) = refl
-part_of_itself (Var back) = refl
-part_of_itself (Obs l t) = refl
-part_of_itself (Neg e) = inl refl
-part_of_itself (Num op a b) = inl refl
-part_of_itself (Cmp op a b) = inl refl
-part_of_itself (Not e) = inl refl
-part_of_itself (Logic op a b) = inl refl
-part_of_itself (Cond t a b) = inl refl
-part_of_itself (Widen s e) = inl refl
-part_of_itself (Round mode s e) = inl refl
-part_of_itself (Div mode s a b) = inl refl
-part_of_itself (Acc body n first) = inl refl
+use Rattle.expr_eval.proofs.PartFacts.{here, part_of_itself}
 
 by_whole : (x e y : Expression) → IsPart x e → e ≡ y → IsPart x y
 by_whole x e y p h = subst (λ (z : Expression). IsPart x z) h p
@@ -151,9 +136,6 @@ one_stands d c e h p = record { contract = h.contract; ranges = h.ranges; accept
 one_inside : (d : Declarations) (c part : Contract) → (h : MaySpecialiseIn d c) → ((e : Expression) (inner : List Range) → StandsIn d e inner part h.ranges → StandsIn d e inner c h.ranges) → MaySpecialiseIn d part
 one_inside d c part h p =
     record { contract = h.contract; ranges = h.ranges; accepted = h.accepted; inside = λ e inner q. h.inside e inner (p e inner q) }
-
-here : (e : Expression) (g : List Range) → IsPartHere e g e g
-here e g = record { part = part_of_itself e; ranges = refl }
 
 pub parts_inside : PartsOfPartsMaySpecialise
 parts_inside d Zero h = tt

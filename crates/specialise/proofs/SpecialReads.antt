@@ -10,7 +10,7 @@ use Rattle.term_core.specs.Kinds.{kind_of, scale_of, scale_of_kind}
 use Rattle.term_core.specs.Values.{Entry, kinds, truth, widened, kind_or, value_of, days_run}
 use Rattle.term_core.specs.Reads.{reads_of, steps_before, decides}
 use Rattle.term_core.specs.Redexes.{moved}
-use Rattle.rewriting.proofs.NameValues.{same_days}
+use Rattle.term_core.proofs.ShiftFacts.{same_days}
 use Rattle.rewriting.proofs.Among.{among_none, among_same, among_both, then_among, among_steps, one_name_more, among_chosen}
 use Rattle.interval_check.specs.Replacing.{literal_of}
 use Rattle.specialise.specs.Specialising.{specialised}
@@ -31,8 +31,8 @@ special_run d F o body first n j g env f a i =
     let entry : Entry = record { value = v; kind = kind } in
     ap₂ (λ (s : ℕ) (u : Value). widened s (scale_of_kind kind) u) (special_scale d F None body (kind ∷ kinds g)) (special_value d F None body (entry ∷ g) env (f -ℤ pos n +ℤ pos l) a tt))
 
-nothing_read : (d : Declarations) (k : Kind) (v : Value) (g : List Entry) (bs : List (List Place)) (env : Environment) (f : ℤ) (ys : List Place) → AreAmong (reads_of d (literal_of k v) g bs env f) ys
-nothing_read d k v g bs env f ys = then_among _ [] ys (among_same _ [] (literal_reads d k v g bs env f)) (among_none ys)
+pub literal_among : (d : Declarations) (k : Kind) (v : Value) (g : List Entry) (bs : List (List Place)) (env : Environment) (f : ℤ) (ys : List Place) → AreAmong (reads_of d (literal_of k v) g bs env f) ys
+literal_among d k v g bs env f ys = then_among _ [] ys (among_same _ [] (literal_reads d k v g bs env f)) (among_none ys)
 
 -- an expression with fewer places for its names
 pub special_reads : SpecialisedReads
@@ -40,7 +40,7 @@ special_reads d F o (Lit m s) g bs cs env f a i h = among_none []
 special_reads d F o (Yes b) g bs cs env f a i h = among_none []
 special_reads d F o (Var back) g bs cs env f a i h = h back
 special_reads d F o (Obs l t) g bs cs env f a i h =
-    told_cases (λ y. AreAmong (reads_of d y g bs env f) (reads_of d (Obs l t) g cs env f)) d F o (Obs l t) (Obs l t) (λ h k e. nothing_read d k (value_of d (Obs l t) [] F h) g bs env f (reads_of d (Obs l t) g cs env f)) (λ _. among_same (reads_of d (Obs l t) g bs env f) (reads_of d (Obs l t) g cs env f) refl)
+    told_cases (λ y. AreAmong (reads_of d y g bs env f) (reads_of d (Obs l t) g cs env f)) d F o (Obs l t) (Obs l t) (λ h k e. literal_among d k (value_of d (Obs l t) [] F h) g bs env f (reads_of d (Obs l t) g cs env f)) (λ _. among_same (reads_of d (Obs l t) g bs env f) (reads_of d (Obs l t) g cs env f) refl)
 special_reads d F o (Neg e) g bs cs env f a i h = special_reads d F o e g bs cs env f a i h
 special_reads d F o (Num op x y) g bs cs env f a i h = among_both _ _ _ _ (special_reads d F o x g bs cs env f a i h) (special_reads d F o y g bs cs env f a i h)
 special_reads d F o (Cmp op x y) g bs cs env f a i h = among_both _ _ _ _ (special_reads d F o x g bs cs env f a i h) (special_reads d F o y g bs cs env f a i h)
@@ -60,7 +60,7 @@ special_reads d F o (Acc body n first) g bs cs env f a i h =
     let before : Kind → ℕ → Value = λ kind j. days_run j (λ i v. widened (scale_of d body' (kind ∷ ks)) (scale_of_kind kind) (value_of d body' (record { value = v; kind = kind } ∷ g) env (from +ℤ pos i))) (value_of d first' g env from) in
     let run : Option Kind → List Place = λ r. reads_of d first' g bs env from ++ steps_before n (λ j. reads_of d body' (record { value = before (kind_or r) j; kind = kind_or r } ∷ g) ([] ∷ bs) env (from +ℤ pos (suc j))) in
     let kind = kind_or (kind_of d first ks) in
-    told_cases (λ y. AreAmong (reads_of d y g bs env f) (reads_of d (Acc body n first) g cs env f)) d F o (Acc body n first) (Acc body' n first') (λ h k e. nothing_read d k (value_of d (Acc body n first) [] F h) g bs env f (reads_of d (Acc body n first) g cs env f))
+    told_cases (λ y. AreAmong (reads_of d y g bs env f) (reads_of d (Acc body n first) g cs env f)) d F o (Acc body n first) (Acc body' n first') (λ h k e. literal_among d k (value_of d (Acc body n first) [] F h) g bs env f (reads_of d (Acc body n first) g cs env f))
     (λ _. then_among _ _ _ (among_same _ _ (ap run (special_kind d F (moved (pos 0 -ℤ pos n) o) first ks)))
     (among_both _ _ _ _ (special_reads d F (moved (pos 0 -ℤ pos n) o) first g bs cs env from a (on_moved o f _ _ (omega (arith, ints)) i) h)
     (among_steps n _ _ (λ j.

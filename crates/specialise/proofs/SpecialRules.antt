@@ -1,5 +1,5 @@
 -- The rules on sorts, scales and bounds hold of what is specialised.
-use Rattle.std.proofs.Common.{◌≡◌, ℕ, ℤ, pos, ◌-ℤ◌, ◌<◌, ◌≤◌, IsTrue, Option, None, List, ◌∷◌, [], refl, sym, subst, ◌∙◌, inl, inr, arith}
+use Rattle.std.proofs.Common.{◌≡◌, ℕ, ℤ, pos, ◌-ℤ◌, ◌<◌, ◌≤◌, Option, None, List, ◌∷◌, [], refl, sym, subst, ◌∙◌, inl, inr}
 use Rattle.term_core.specs.Declarations.{Declarations}
 use Rattle.term_core.specs.declared.values.Kind.{Kind}
 use Rattle.term_core.specs.declared.values.Value.{Value}
@@ -10,7 +10,7 @@ use Rattle.term_core.specs.Values.{Entry, value_of}
 use Rattle.term_core.specs.Flows.{count_of}
 use Rattle.term_core.specs.Redexes.{moved}
 use Rattle.term_core.specs.Bounds.{Range, range_kinds}
-use Rattle.interval_check.specs.Nodes.{IsBounded, is_sorted_part, is_scaled_part, MeetsRules, ContractMeetsRules, range_of, range_after}
+use Rattle.interval_check.specs.Nodes.{MeetsRules, ContractMeetsRules, range_of, range_after}
 use Rattle.interval_check.specs.Narrowing.{AreNarrower}
 use Rattle.interval_check.specs.Within.{AreWithin, KeepsLimits}
 use Rattle.interval_check.specs.Sums.{entry_of}
@@ -18,9 +18,9 @@ use Rattle.interval_check.specs.Replacing.{Replaces, IsRewritten, IsRewrittenCon
 use Rattle.interval_check.proofs.GuaranteeFacts.{bindings_lie_within}
 use Rattle.interval_check.proofs.NarrowerFacts.{stays_tight, narrower_let}
 use Rattle.interval_check.proofs.ReplacingFacts.{replaces_neg, replaces_num, replaces_cmp, replaces_not, replaces_logic, replaces_cond, replaces_widen, replaces_round, replaces_div, replaces_acc}
-use Rattle.interval_check.proofs.KindsEnough.{kinds_are_enough}
 use Rattle.interval_check.proofs.RewritingContracts.{parts_stand_for_themselves}
 use Rattle.interval_check.proofs.StandingFacts.{values_replace}
+use Rattle.interval_check.proofs.RewritingFacts.{ordered_round, round_rules}
 use Rattle.specialise.specs.Specialising.{specialised, specialised_in}
 use Rattle.specialise.proofs.ClosedFacts.{kind_among, value_among, agree_none, both_none}
 use Rattle.specialise.proofs.ToldFacts.{IsTold, told_cases}
@@ -34,23 +34,6 @@ told_replaces d F o e f k g es limits a within r t =
 
 pub itself : (d : Declarations) → KeepsLimits d → (e : Expression) (g : List Range) → AreNarrower g g → MeetsRules d e g → Replaces d e e g
 itself d limits e g ordered r = (parts_stand_for_themselves d g limits ordered).0 e r
-
--- an accumulator of fewer days, the names of its body in a round, and the rules there
-fewer_days : (d : Declarations) (body : Expression) (n i : ℕ) (first : Expression) (g : List Range) → i ≤ n → IsBounded d (Acc body n first) g → IsBounded d (Acc body i first) g
-fewer_days d body n i first g l h = (h.0, λ j m. h.1 j (omega arith))
-
-pub ordered_round : (d : Declarations) → KeepsLimits d → (body : Expression) (n i : ℕ) (first : Expression) (g : List Range) → AreNarrower g g → i < n → IsBounded d (Acc body n first) g → AreNarrower (range_after d body i first g ∷ g) (range_after d body i first g ∷ g)
-ordered_round d limits body n i first g ordered l h =
-    let known = stays_tight d limits (Acc body i first) g g ordered (fewer_days d body n i first g (omega arith) h) in
-    (record { same_kind = refl; inside = known.inside }, ordered)
-
-pub round_rules : (d : Declarations) (body : Expression) (n i : ℕ) (first : Expression) (g : List Range) → i < n → MeetsRules d (Acc body n first) g → MeetsRules d body (range_after d body i first g ∷ g)
-round_rules d body n i first g l h =
-    record {
-      sorts = kinds_are_enough (λ ks part. IsTrue (is_sorted_part d ks part)) d body (range_after d body 0 first g ∷ g) (range_after d body i first g ∷ g) refl h.sorts.1.0;
-      scales = kinds_are_enough (λ ks part. IsTrue (is_scaled_part d ks part)) d body (range_after d body 0 first g ∷ g) (range_after d body i first g ∷ g) refl h.scales.1.0;
-      bounds = (h.bounds.1 i l).0;
-    }
 
 -- an accumulator with another start
 acc_replaces : (d : Declarations) → KeepsLimits d → (body' body first' first : Expression) (n : ℕ) (g : List Range) → body' ≡ body → AreNarrower g g → Replaces d first' first g → MeetsRules d (Acc body n first) g → Replaces d (Acc body' n first') (Acc body n first) g

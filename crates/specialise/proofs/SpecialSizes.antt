@@ -14,12 +14,12 @@ use Rattle.specialise.specs.Specialising.{specialised, told_or}
 use Rattle.specialise.specs.LawsSpecial.{SpecialisedIsSmaller, NothingIsTold}
 use Rattle.specialise.proofs.ToldFacts.{told_cases}
 
-literal_size : (k : Kind) (v : Value) → size (literal_of k v) ≡ 1
+pub literal_size : (k : Kind) (v : Value) → size (literal_of k v) ≡ 1
 literal_size TruthKind v = refl
 literal_size (Number s) v = refl
 
-small : (k : Kind) (v : Value) (n : ℕ) → 2 ≤ n → size (literal_of k v) < n
-small k v n h = omega (arith, literal_size k v, h)
+pub literal_is_less : (k : Kind) (v : Value) (n : ℕ) → 2 ≤ n → size (literal_of k v) < n
+literal_is_less k v n h = omega (arith, literal_size k v, h)
 
 abbrev pub IsLess : {A : Type 0} → (A → ℕ) → A → A → Type 0
 IsLess w y e = (y ≡ e) ⊎ (w y < w e)
@@ -50,7 +50,7 @@ pub special_smaller : SpecialisedIsSmaller
 special_smaller d F o (Lit m s) = inl refl
 special_smaller d F o (Yes b) = inl refl
 special_smaller d F o (Var back) = inl refl
-special_smaller d F o (Obs l t) = told_cases (λ y. IsLess size y (Obs l t)) d F o (Obs l t) (Obs l t) (λ f k e. inr (small k _ _ (omega arith))) (λ _. inl refl)
+special_smaller d F o (Obs l t) = told_cases (λ y. IsLess size y (Obs l t)) d F o (Obs l t) (Obs l t) (λ f k e. inr (literal_is_less k _ _ (omega arith))) (λ _. inl refl)
 special_smaller d F o (Neg e) = less_one size size Neg 1 (λ _. refl) _ e (special_smaller d F o e)
 special_smaller d F o (Num op a b) = less_two size size size (Num op) 1 (λ _ _. refl) _ a _ b (special_smaller d F o a) (special_smaller d F o b)
 special_smaller d F o (Cmp op a b) = less_two size size size (Cmp op) 1 (λ _ _. refl) _ a _ b (special_smaller d F o a) (special_smaller d F o b)
@@ -61,7 +61,7 @@ special_smaller d F o (Widen s e) = less_one size size (Widen s) 1 (λ _. refl) 
 special_smaller d F o (Round mode s e) = less_one size size (Round mode s) 1 (λ _. refl) _ e (special_smaller d F o e)
 special_smaller d F o (Div mode s a b) = less_two size size size (Div mode s) 1 (λ _ _. refl) _ a _ b (special_smaller d F o a) (special_smaller d F o b)
 special_smaller d F o (Acc body n first) =
-    told_cases (λ y. IsLess size y (Acc body n first)) d F o (Acc body n first) _ (λ f k e. inr (small k _ _ (omega (arith, some_size body)))) (λ _.
+    told_cases (λ y. IsLess size y (Acc body n first)) d F o (Acc body n first) _ (λ f k e. inr (literal_is_less k _ _ (omega (arith, some_size body)))) (λ _.
     less_two size size size (λ x y. Acc x n y) 1 (λ _ _. refl) _ body _ first (special_smaller d F None body) (special_smaller d F (moved (pos 0 -ℤ pos n) o) first))
 
 -- on no frame nothing is told

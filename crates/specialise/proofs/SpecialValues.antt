@@ -12,11 +12,10 @@ use Rattle.term_core.specs.Environments.{Environment}
 use Rattle.term_core.specs.Kinds.{kind_of, scale_of, scale_of_kind, scale_or_zero, on_number, on_numbers, on_truth, joined, scale_of_op}
 use Rattle.term_core.specs.Values.{Entry, kinds, num, truth, of_num, of_cmp, logic_op, widened, kind_or, value_of, days_run}
 use Rattle.term_core.specs.Redexes.{moved}
-use Rattle.rewriting.proofs.NameValues.{same_days}
+use Rattle.term_core.proofs.ShiftFacts.{same_acc, same_days, of_two}
 use Rattle.specialise.specs.Specialising.{specialised}
 use Rattle.specialise.specs.LawsSpecial.{SpecialisedKinds, SpecialisedValues}
 use Rattle.specialise.specs.Specialised.{IsOn}
-use Rattle.specialise.proofs.ClosedFacts.{same_acc, of_two}
 use Rattle.specialise.proofs.ToldFacts.{told_cases, told_kind, told_value}
 
 pub special_kind : SpecialisedKinds

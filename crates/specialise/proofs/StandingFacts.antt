@@ -1,5 +1,5 @@
 -- What stands in an accepted contract is low, and may be evaluated where it uses no name from outside.
-use Rattle.std.proofs.Common.{◌≡◌, ◌≤◌, ◌+◌, ◌<◌, ℕ, zero, suc, ℤ, max, true, IsTrue, inl, inr, Option, Some, None, is_some, List, [], ◌∷◌, length, slice_get, refl, ap, ap₂, arith}
+use Rattle.std.proofs.Common.{◌≡◌, ◌≤◌, ◌+◌, ◌<◌, ℕ, zero, suc, ℤ, true, IsTrue, inl, inr, Option, Some, None, is_some, List, [], ◌∷◌, length, slice_get, refl, ap, arith}
 use Rattle.std.proofs.lemmas.Bool.Decides.{nat_tests}
 use Rattle.term_core.specs.Declarations.{Declarations}
 use Rattle.term_core.specs.declared.name.Name.{Name}
@@ -24,22 +24,7 @@ use Rattle.interval_check.specs.Parts.{IsPart, StandsIn}
 use Rattle.expr_eval.specs.declared.scratch.Binding.{Binding}
 use Rattle.expr_eval.specs.Evaluable.{MayEvaluate}
 use Rattle.specialise.specs.Specialisable.{MaySpecialise}
-
-height-shifted : (k : ℤ) (e : Expression) → height (shifted k e) ≡ height e
-height-shifted k (Lit m s) = refl
-height-shifted k (Yes b) = refl
-height-shifted k (Var back) = refl
-height-shifted k (Obs l t) = refl
-height-shifted k (Neg e) = ap (λ (n : ℕ). n + 1) (height-shifted k e)
-height-shifted k (Num op a b) = ap₂ (λ (m n : ℕ). max m n + 1) (height-shifted k a) (height-shifted k b)
-height-shifted k (Cmp op a b) = ap₂ (λ (m n : ℕ). max m n + 1) (height-shifted k a) (height-shifted k b)
-height-shifted k (Not e) = ap (λ (n : ℕ). n + 1) (height-shifted k e)
-height-shifted k (Logic op a b) = ap₂ (λ (m n : ℕ). max m n + 1) (height-shifted k a) (height-shifted k b)
-height-shifted k (Cond t a b) = ap₂ (λ (m n : ℕ). max m n + 1) (height-shifted k t) (ap₂ max (height-shifted k a) (height-shifted k b))
-height-shifted k (Widen s e) = ap (λ (n : ℕ). n + 1) (height-shifted k e)
-height-shifted k (Round mode s e) = ap (λ (n : ℕ). n + 1) (height-shifted k e)
-height-shifted k (Div mode s a b) = ap₂ (λ (m n : ℕ). max m n + 1) (height-shifted k a) (height-shifted k b)
-height-shifted k (Acc body n first) = ap₂ (λ (x y : ℕ). max x y + 1) (height-shifted k body) (height-shifted k first)
+use Rattle.rewriting.proofs.ShiftedSizes.{shifted_height}
 
 height_of_part : (e x : Expression) → IsPart e x → height e ≤ height x
 height_of_part e (Lit m s) p = let q = ap height p in omega arith
@@ -98,7 +83,7 @@ pub is_low : (d : Declarations) (e : Expression) → MaySpecialise d e → heigh
 is_low d e h =
     let whole = low_contract d h.part.contract h.part.accepted in
     let here = height_of_standing d (shifted h.moved e) h.part.ranges h.part.contract [] h.part.stands in
-    let same = height-shifted h.moved e in
+    let same = shifted_height h.moved e in
     omega (arith, whole, here, same)
 
 -- a label of a kind is declared

@@ -43,7 +43,7 @@ waiting_special d F o e n a b =
 pub stored_special : (d : Declarations) (F : Environment) (f : ℤ) (k : ℤ) (e x : Expression) → x ≡ specialised d F (Some (f +ℤ k)) e → shifted k x ≡ specialised d F (Some f) (shifted k e)
 stored_special d F f k e x h = ap (shifted k) h ∙ sym (special_shifts d F (Some f) e k)
 
-literal_offsets : (k : Kind) (v : Value) → HasOffsets (literal_of k v)
+pub literal_offsets : (k : Kind) (v : Value) → HasOffsets (literal_of k v)
 literal_offsets TruthKind v = tt
 literal_offsets (Number s) v = tt
 

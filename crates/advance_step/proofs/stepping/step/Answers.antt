@@ -5,8 +5,7 @@ use Rattle.term_core.specs.SharedTerms.{shared, HasOffsetsIn}
 use Rattle.term_core.specs.Terms.{Contract, contract}
 use Rattle.term_core.specs.WellFormed.{HasOnlyNumbers, IsClosed}
 use Rattle.term_core.proofs.ShiftedFacts.{formed_offsets_in}
-use Rattle.simplify.proofs.SimplifyingFacts.{shared_numbers}
-use Rattle.specialise.proofs.CallFacts.{offsets_shared}
+use Rattle.specialise.proofs.CallFacts.{offsets_shared, shared_numbers}
 use Rattle.advance_step.proofs.stepping.step.Goals as goal
 
 pub step_shared-requires-clause-offsets : goal.step_shared-requires-clause-offsets

@@ -9,10 +9,10 @@ use Rattle.term_core.specs.Terms.{Contract}
 use Rattle.term_core.specs.declared.terms.Expr.{Expr}
 use Rattle.term_core.specs.declared.shared.SharedContr.{SharedContr}
 use Rattle.term_core.specs.SharedTerms.{shared}
-use Rattle.expr_eval.specs.declared.scratch.Binding.{Binding}
 use Rattle.expr_eval.specs.Rooms.{Room}
 use Rattle.expr_eval.specs.Trials.{DayOrMissing}
 use Rattle.flow_eval.specs.Faults.{lacks_place}
+use Rattle.flow_eval.proofs.ReadyFacts.{entered_in}
 use Rattle.advance_step.proofs.CarryReady.{entered_ready}
 use Rattle.advance_step.proofs.WalkFacts.{after_faults, after_left, bound_faults, bound_is_left, hit_faults, hit_left, left_faults, miss_faults, miss_left, right_faults, scale_faults, test_faults, waits_left}
 use Rattle.advance_step.proofs.walk.+carrying.Goals as goal
@@ -20,10 +20,6 @@ use Rattle.advance_step.proofs.walk.+carrying.Goals as goal
 -- the tree of a shared contract
 abbrev tree : Rc SharedContr Global → Contract
 tree r = shared r.value
-
--- the entries after one more
-entered_in : (r r' r'' : Room) (b : Binding) → r' ≡ r → r''.entries ≡ b ∷ r'.entries → r''.entries ≡ b ∷ r.entries
-entered_in r r' r'' b e h = h ∙ ap (λ (x : Room). b ∷ x.entries) e
 
 abbrev some_day : Option ℕ → DayOrMissing
 some_day o = Ok o

@@ -6,8 +6,9 @@ use Rattle.term_core.specs.Terms.{contract, Contract}
 use Rattle.term_core.specs.WellFormed.{IsClosed, HasOnlyNumbers}
 use Rattle.term_core.proofs.ShiftedFacts.{formed_offsets_in, stores_offsets}
 use Rattle.simplify.specs.Simplified.{ReadsNoMore, HasNoPlainRedex}
-use Rattle.simplify.proofs.SimplifyingFacts.{plain_then, shared_numbers}
+use Rattle.simplify.proofs.SimplifyingFacts.{plain_then}
 use Rattle.simplify.proofs.simplifying.simplify.Goals as goal
+use Rattle.specialise.proofs.CallFacts.{shared_numbers}
 
 pub simplify_shared-requires-clause-offsets : goal.simplify_shared-requires-clause-offsets
 simplify_shared-requires-clause-offsets c =
