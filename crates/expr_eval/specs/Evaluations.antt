@@ -1,5 +1,5 @@
 -- The evaluator by the program's values: what it answers of an expression on a day, over fixings and among the names of a
--- scope, and what it needs so that numbers fit 128 bits and days 64.
+-- names, and what it needs so that numbers fit 128 bits and days 64.
 use Rattle.std.specs.Prelude.{ℕ, ℤ, pos, ◌+ℤ◌, List}
 use Rattle.term_core.specs.Declarations.{declarations}
 use Rattle.term_core.specs.declared.decls.Decls.{Decls}
@@ -9,10 +9,10 @@ use Rattle.term_core.specs.declared.values.Kind.{Kind}
 use Rattle.term_core.specs.Terms.{Expression, expression, Cmp, Logic, Cond}
 use Rattle.term_core.specs.Environments.{Environment}
 use Rattle.interval_check.specs.RangeTrials.{kind_found}
-use Rattle.expr_eval.specs.declared.scopes.Scope.{Scope}
+use Rattle.expr_eval.specs.declared.bindings.Bindings.{Bindings}
 use Rattle.expr_eval.specs.declared.trials.Comparison.{Comparison}
 use Rattle.expr_eval.specs.Rooms.{kinds_of}
-use Rattle.expr_eval.specs.Scopes.{bindings}
+use Rattle.expr_eval.specs.Bindings.{bindings}
 use Rattle.expr_eval.specs.KindScales.{KindFits}
 use Rattle.expr_eval.specs.Runs.{Answer, run_of, untyped}
 use Rattle.expr_eval.specs.Fits.{Fits}
@@ -20,22 +20,22 @@ use Rattle.expr_eval.specs.Comparing.{ComparesOn}
 use Rattle.expr_eval.specs.Trials.{DayOrMissing, first_tried}
 
 -- the value of an expression with its kind, or the first place that is not fixed
-abbrev pub answer_in : Decls → Expression → Scope → Environment → ℤ → Answer
-answer_in decls e scope fixings day = run_of (declarations decls) e (bindings scope) fixings day
+abbrev pub answer_in : Decls → Expression → Bindings → Environment → ℤ → Answer
+answer_in decls e names fixings day = run_of (declarations decls) e (bindings names) fixings day
 
-abbrev pub FitsIn : Decls → Expression → Scope → Environment → ℤ → Type 0
-FitsIn decls e scope fixings day = Fits (declarations decls) e (bindings scope) fixings day
+abbrev pub FitsIn : Decls → Expression → Bindings → Environment → ℤ → Type 0
+FitsIn decls e names fixings day = Fits (declarations decls) e (bindings names) fixings day
 
 -- ---- kinds, by the forms of expressions
 
-abbrev pub kinds_in : Scope → List Kind
-kinds_in scope = kinds_of (bindings scope)
+abbrev pub kinds_in : Bindings → List Kind
+kinds_in names = kinds_of (bindings names)
 
-abbrev pub kind_in : Decls → Expression → Scope → Kind
-kind_in decls e scope = kind_found (declarations decls) e (kinds_in scope)
+abbrev pub kind_in : Decls → Expression → Bindings → Kind
+kind_in decls e names = kind_found (declarations decls) e (kinds_in names)
 
-abbrev pub KindFitsIn : Decls → Expression → Scope → Type 0
-KindFitsIn decls e scope = KindFits (declarations decls) e (kinds_in scope)
+abbrev pub KindFitsIn : Decls → Expression → Bindings → Type 0
+KindFitsIn decls e names = KindFits (declarations decls) e (kinds_in names)
 
 -- ---- the forms whose parts are evaluated apart
 
@@ -51,11 +51,11 @@ comparison test = Cmp test.op (expression test.left.now) (expression test.right.
 -- ---- tests, day after day
 
 -- both sides of a comparison fit on a day, and so do their numbers
-abbrev pub ComparesIn : Decls → Comparison → Scope → Environment → ℤ → Type 0
-ComparesIn decls test scope fixings day =
-    ComparesOn (declarations decls) (expression test.left.now) (expression test.right.now) test.by (bindings scope) fixings day
+abbrev pub ComparesIn : Decls → Comparison → Bindings → Environment → ℤ → Type 0
+ComparesIn decls test names fixings day =
+    ComparesOn (declarations decls) (expression test.left.now) (expression test.right.now) test.by (bindings names) fixings day
 
 -- the first of n days, from one on, on which a test is true
-abbrev pub first_in : Decls → Expression → Scope → Environment → ℤ → ℕ → DayOrMissing
-first_in decls test scope fixings from n =
-    first_tried n (λ i. untyped (answer_in decls test scope fixings (from +ℤ pos i)))
+abbrev pub first_in : Decls → Expression → Bindings → Environment → ℤ → ℕ → DayOrMissing
+first_in decls test names fixings from n =
+    first_tried n (λ i. untyped (answer_in decls test names fixings (from +ℤ pos i)))

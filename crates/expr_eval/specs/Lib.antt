@@ -1,5 +1,5 @@
 pub mod Rooms
-pub mod Scopes
+pub mod Bindings
 pub mod Operations
 pub mod KindScales
 pub mod Runs

@@ -3,25 +3,25 @@
 ghost use Rattle.std.specs.Prelude.{◌≡◌, ◌+◌, ◌+ℤ◌, ◌-ℤ◌, pos, slice_get};
 ghost use Rattle.term_core.specs.Declarations.{declarations};
 ghost use Rattle.term_core.specs.Terms.{expression};
-ghost use Rattle.expr_eval.specs.Scopes.{bindings};
+ghost use Rattle.expr_eval.specs.Bindings.{bindings};
 ghost use Rattle.expr_eval.specs.Runs.{both_run, day_run, days_run, observation, of_binding, run_of, untyped};
 ghost use Rattle.expr_eval.specs.Fits.{DayFitsIn, DaysFitIn, Fits, IsDay};
 ghost use Rattle.expr_eval.specs.Evaluations.{branches, sides};
 
+use crate::bindings::{Bindings, binding_at};
 use crate::kinds::{kind_in, kind_observed};
 use crate::operations::{
     Operands, Typed, at_kind, combine, compare, divide, is_decided, negate, number, round, verdict,
 };
-use crate::scopes::{Scope, binding_at};
 use crate::scratch::{Binding, Held};
 use fixing_files::Fixings;
 use term_core::{Decls, Expr, Kind, LogicOp, Missing, Value};
 
 /// The value of the name that is bound `back` binders further out than the innermost.
-pub fn value_bound(scope: &Scope, back: u32) -> Result<Typed, Missing>
-    ensures { result ≡ of_binding (slice_get (bindings scope.now) back) }
+pub fn value_bound(names: &Bindings, back: u32) -> Result<Typed, Missing>
+    ensures { result ≡ of_binding (slice_get (bindings names.now) back) }
 {
-    match binding_at(scope, back) {
+    match binding_at(names, back) {
         Some(binding) => match binding.held {
             Held::Known { value } => Ok(Typed {
                 kind: binding.kind,
@@ -98,46 +98,46 @@ pub fn without_kind(found: Result<Typed, Missing>) -> Result<Value, Missing>
 pub fn evaluate(
     decls: &Decls,
     e: &Expr,
-    scope: &Scope,
+    names: &Bindings,
     fixings: &Fixings,
     day: i64,
 ) -> Result<Typed, Missing>
-    requires { Fits (declarations decls.now) (expression e.now) (bindings scope.now) fixings.now day }
-    ensures { result ≡ run_of (declarations decls.now) (expression e.now) (bindings scope.now) fixings.now day }
+    requires { Fits (declarations decls.now) (expression e.now) (bindings names.now) fixings.now day }
+    ensures { result ≡ run_of (declarations decls.now) (expression e.now) (bindings names.now) fixings.now day }
 {
     match e {
         Expr::Lit { mant, scale } => Ok(number(*scale, *mant)),
         Expr::Yes { value } => Ok(verdict(*value)),
-        Expr::Var { back } => value_bound(scope, *back),
+        Expr::Var { back } => value_bound(names, *back),
         Expr::Obs { label, offset } => value_observed(decls, *label, day_at(day, *offset), fixings),
         Expr::Neg { of } => {
-            let of = evaluate(decls, of, scope, fixings, day)?;
+            let of = evaluate(decls, of, names, fixings, day)?;
             Ok(negate(of))
         }
         Expr::Num { op, left, right } => {
-            let both = evaluate_both(decls, left, right, scope, fixings, day)?;
+            let both = evaluate_both(decls, left, right, names, fixings, day)?;
             Ok(combine(*op, both))
         }
         Expr::Cmp { op, left, right } => {
-            let both = evaluate_both(decls, left, right, scope, fixings, day)?;
+            let both = evaluate_both(decls, left, right, names, fixings, day)?;
             Ok(compare(*op, both))
         }
         Expr::Not { of } => {
-            let of = evaluate(decls, of, scope, fixings, day)?;
+            let of = evaluate(decls, of, names, fixings, day)?;
             Ok(verdict(!of.value.is_true()))
         }
         Expr::Logic { op, left, right } => {
-            evaluate_logic(decls, *op, left, right, scope, fixings, day)
+            evaluate_logic(decls, *op, left, right, names, fixings, day)
         }
         Expr::Cond { test, yes, no } => {
-            evaluate_branches(decls, test, yes, no, scope, fixings, day)
+            evaluate_branches(decls, test, yes, no, names, fixings, day)
         }
         Expr::Widen { scale, of } => {
-            let of = evaluate(decls, of, scope, fixings, day)?;
+            let of = evaluate(decls, of, names, fixings, day)?;
             Ok(at_kind(Kind::Number { scale: *scale }, of))
         }
         Expr::Round { mode, scale, of } => {
-            let of = evaluate(decls, of, scope, fixings, day)?;
+            let of = evaluate(decls, of, names, fixings, day)?;
             Ok(round(*mode, *scale, of))
         }
         Expr::Div {
@@ -146,13 +146,13 @@ pub fn evaluate(
             top,
             below,
         } => {
-            let both = evaluate_both(decls, top, below, scope, fixings, day)?;
+            let both = evaluate_both(decls, top, below, names, fixings, day)?;
             Ok(divide(*mode, *scale, both))
         }
         Expr::Acc { body, days, first } => {
             let from = day_before(day, *days);
-            let start = evaluate(decls, first, scope, fixings, from);
-            evaluate_days(decls, body, *days, start, scope, fixings, from)
+            let start = evaluate(decls, first, names, fixings, from);
+            evaluate_days(decls, body, *days, start, names, fixings, from)
         }
     }
 }
@@ -163,16 +163,16 @@ fn evaluate_both(
     decls: &Decls,
     left: &Expr,
     right: &Expr,
-    scope: &Scope,
+    names: &Bindings,
     fixings: &Fixings,
     day: i64,
 ) -> Result<Operands, Missing>
-    requires left { Fits (declarations decls.now) (expression left.now) (bindings scope.now) fixings.now day }
-    requires right { Fits (declarations decls.now) (expression right.now) (bindings scope.now) fixings.now day }
-    ensures { result ≡ both_run (declarations decls.now) (expression left.now) (expression right.now) (bindings scope.now) fixings.now day }
+    requires left { Fits (declarations decls.now) (expression left.now) (bindings names.now) fixings.now day }
+    requires right { Fits (declarations decls.now) (expression right.now) (bindings names.now) fixings.now day }
+    ensures { result ≡ both_run (declarations decls.now) (expression left.now) (expression right.now) (bindings names.now) fixings.now day }
 {
-    let left = evaluate(decls, left, scope, fixings, day)?;
-    let right = evaluate(decls, right, scope, fixings, day)?;
+    let left = evaluate(decls, left, names, fixings, day)?;
+    let right = evaluate(decls, right, names, fixings, day)?;
     Ok(Operands { left, right })
 }
 
@@ -183,18 +183,18 @@ fn evaluate_logic(
     op: LogicOp,
     left: &Expr,
     right: &Expr,
-    scope: &Scope,
+    names: &Bindings,
     fixings: &Fixings,
     day: i64,
 ) -> Result<Typed, Missing>
-    requires { Fits (declarations decls.now) (sides op left.now right.now) (bindings scope.now) fixings.now day }
-    ensures { result ≡ run_of (declarations decls.now) (sides op left.now right.now) (bindings scope.now) fixings.now day }
+    requires { Fits (declarations decls.now) (sides op left.now right.now) (bindings names.now) fixings.now day }
+    ensures { result ≡ run_of (declarations decls.now) (sides op left.now right.now) (bindings names.now) fixings.now day }
 {
-    let left = evaluate(decls, left, scope, fixings, day)?.value.is_true();
+    let left = evaluate(decls, left, names, fixings, day)?.value.is_true();
     if is_decided(op, left) {
         return Ok(verdict(left));
     }
-    let right = evaluate(decls, right, scope, fixings, day)?.value.is_true();
+    let right = evaluate(decls, right, names, fixings, day)?.value.is_true();
     Ok(verdict(right))
 }
 
@@ -205,21 +205,21 @@ fn evaluate_branches(
     test: &Expr,
     yes: &Expr,
     no: &Expr,
-    scope: &Scope,
+    names: &Bindings,
     fixings: &Fixings,
     day: i64,
 ) -> Result<Typed, Missing>
-    requires { Fits (declarations decls.now) (branches test.now yes.now no.now) (bindings scope.now) fixings.now day }
-    ensures { result ≡ run_of (declarations decls.now) (branches test.now yes.now no.now) (bindings scope.now) fixings.now day }
+    requires { Fits (declarations decls.now) (branches test.now yes.now no.now) (bindings names.now) fixings.now day }
+    ensures { result ≡ run_of (declarations decls.now) (branches test.now yes.now no.now) (bindings names.now) fixings.now day }
 {
-    let test = evaluate(decls, test, scope, fixings, day)?;
+    let test = evaluate(decls, test, names, fixings, day)?;
     if test.value.is_true() {
-        let taken = evaluate(decls, yes, scope, fixings, day)?;
-        let kind = taken.kind.either(kind_in(decls, no, scope));
+        let taken = evaluate(decls, yes, names, fixings, day)?;
+        let kind = taken.kind.either(kind_in(decls, no, names));
         Ok(at_kind(kind, taken))
     } else {
-        let taken = evaluate(decls, no, scope, fixings, day)?;
-        let kind = kind_in(decls, yes, scope).either(taken.kind);
+        let taken = evaluate(decls, no, names, fixings, day)?;
+        let kind = kind_in(decls, yes, names).either(taken.kind);
         Ok(at_kind(kind, taken))
     }
 }
@@ -231,18 +231,18 @@ fn evaluate_days(
     body: &Expr,
     days: u32,
     start: Result<Typed, Missing>,
-    scope: &Scope,
+    names: &Bindings,
     fixings: &Fixings,
     from: i64,
 ) -> Result<Typed, Missing>
-    requires fits { DaysFitIn (declarations decls.now) (expression body.now) (bindings scope.now) fixings.now from days start }
+    requires fits { DaysFitIn (declarations decls.now) (expression body.now) (bindings names.now) fixings.now from days start }
     requires first { IsDay from }
-    ensures { result ≡ days_run (declarations decls.now) (expression body.now) (bindings scope.now) fixings.now from days start }
+    ensures { result ≡ days_run (declarations decls.now) (expression body.now) (bindings names.now) fixings.now from days start }
 {
     let mut value = start?;
     for i in 0..days {
         let day = day_after(from, i);
-        value = evaluate_day(decls, body, value, scope, fixings, day)?;
+        value = evaluate_day(decls, body, value, names, fixings, day)?;
     }
     Ok(value)
 }
@@ -253,20 +253,20 @@ fn evaluate_day(
     decls: &Decls,
     body: &Expr,
     value: Typed,
-    scope: &Scope,
+    names: &Bindings,
     fixings: &Fixings,
     day: i64,
 ) -> Result<Typed, Missing>
-    requires fits { DayFitsIn (declarations decls.now) (expression body.now) (bindings scope.now) fixings.now day value }
-    ensures { result ≡ day_run (declarations decls.now) (expression body.now) (bindings scope.now) fixings.now day value }
+    requires fits { DayFitsIn (declarations decls.now) (expression body.now) (bindings names.now) fixings.now day value }
+    ensures { result ≡ day_run (declarations decls.now) (expression body.now) (bindings names.now) fixings.now day value }
 {
     let held = Held::Known { value: value.value };
-    let inner = Scope::Inner {
+    let inner = Bindings::Inner {
         binding: Binding {
             kind: value.kind,
             held,
         },
-        outer: &*scope,
+        outer: &*names,
     };
     let next = evaluate(decls, body, &inner, fixings, day)?;
     Ok(at_kind(value.kind, next))

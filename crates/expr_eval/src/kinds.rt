@@ -9,8 +9,8 @@ ghost use Rattle.expr_eval.specs.Runs.{kind_observed};
 ghost use Rattle.expr_eval.specs.Evaluations.{KindFitsIn, kind_in};
 ghost use Rattle.expr_eval.specs.Evaluable.{MayEvaluate};
 
+use crate::bindings::{Bindings, kind_at};
 use crate::operations::scale_of_both;
-use crate::scopes::{Scope, kind_at};
 use crate::scratch::Scratch;
 use term_core::{Decls, Expr, Kind, Label};
 
@@ -25,34 +25,34 @@ pub fn kind_observed(decls: &Decls, label: u32) -> Kind
 }
 
 /// The kind of an expression whose sorts are in order. It looks only at the parts on which the kind depends.
-pub fn kind_in(decls: &Decls, e: &Expr, scope: &Scope) -> Kind
-    requires { KindFitsIn decls.now (expression e.now) scope.now }
-    ensures { result ≡ kind_in decls.now (expression e.now) scope.now }
+pub fn kind_in(decls: &Decls, e: &Expr, names: &Bindings) -> Kind
+    requires { KindFitsIn decls.now (expression e.now) names.now }
+    ensures { result ≡ kind_in decls.now (expression e.now) names.now }
 {
     match e {
         Expr::Lit { scale, .. } => Kind::Number { scale: *scale },
-        Expr::Var { back } => kind_at(scope, *back),
+        Expr::Var { back } => kind_at(names, *back),
         Expr::Obs { label, .. } => kind_observed(decls, *label),
         Expr::Yes { .. } | Expr::Cmp { .. } | Expr::Not { .. } | Expr::Logic { .. } => Kind::Truth,
         Expr::Neg { of } => Kind::Number {
-            scale: kind_in(decls, of, scope).scale(),
+            scale: kind_in(decls, of, names).scale(),
         },
         Expr::Num { op, left, right } => {
-            let left = kind_in(decls, left, scope);
-            let right = kind_in(decls, right, scope);
+            let left = kind_in(decls, left, names);
+            let right = kind_in(decls, right, names);
             Kind::Number {
                 scale: scale_of_both(*op, left, right),
             }
         }
         Expr::Cond { yes, no, .. } => {
-            let yes = kind_in(decls, yes, scope);
-            let no = kind_in(decls, no, scope);
+            let yes = kind_in(decls, yes, names);
+            let no = kind_in(decls, no, names);
             yes.either(no)
         }
         Expr::Widen { scale, .. } => Kind::Number { scale: *scale },
         Expr::Round { scale, .. } => Kind::Number { scale: *scale },
         Expr::Div { scale, .. } => Kind::Number { scale: *scale },
-        Expr::Acc { first, .. } => kind_in(decls, first, scope),
+        Expr::Acc { first, .. } => kind_in(decls, first, names),
     }
 }
 
@@ -61,6 +61,6 @@ pub fn kind_of(decls: &Decls, e: &Expr, scratch: &Scratch) -> Kind
     requires place { MayEvaluate (declarations decls.now) (expression e.now) scratch.now.entries }
     ensures kind { model.kind_of (declarations decls.now) (expression e.now) (kinds_of scratch.now.entries) ≡ Some result }
 {
-    let scope = Scope::Base { scratch: &*scratch };
-    kind_in(decls, e, &scope)
+    let names = Bindings::Lent { scratch: &*scratch };
+    kind_in(decls, e, &names)
 }

@@ -16,7 +16,7 @@ mod heights;
 pub mod kinds;
 mod laws;
 pub mod operations;
-pub mod scopes;
+pub mod bindings;
 mod scratch;
 mod trials;
 mod values;

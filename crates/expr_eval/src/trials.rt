@@ -13,10 +13,10 @@ ghost use Rattle.expr_eval.specs.Comparing as found;
 ghost use Rattle.expr_eval.specs.Comparing.{factors_found, mantissa_held, number_found, truth_found, OnDays, SidesFit};
 ghost use Rattle.expr_eval.specs.Trials.{IsFirstTrue, IsOneOf};
 
+use crate::bindings::Bindings;
 use crate::evaluation::{day_at, day_on, evaluate};
 use crate::kinds::kind_in;
 use crate::operations::compare_aligned;
-use crate::scopes::Scope;
 use crate::scratch::Scratch;
 use decimal::pow10;
 use fixing_files::Fixings;
@@ -52,12 +52,12 @@ fn factors_of(i: u8, j: u8) -> Factors
 }
 
 // The factors of two sides, which are the same on each day.
-fn factors_between(decls: &Decls, left: &Expr, right: &Expr, scope: &Scope) -> Factors
-    requires { SidesFit (declarations decls.now) (expression left.now) (expression right.now) (kinds_in scope.now) }
-    ensures { result ≡ factors_found (declarations decls.now) (expression left.now) (expression right.now) (kinds_in scope.now) }
+fn factors_between(decls: &Decls, left: &Expr, right: &Expr, names: &Bindings) -> Factors
+    requires { SidesFit (declarations decls.now) (expression left.now) (expression right.now) (kinds_in names.now) }
+    ensures { result ≡ factors_found (declarations decls.now) (expression left.now) (expression right.now) (kinds_in names.now) }
 {
-    let i = kind_in(decls, left, scope).scale();
-    let j = kind_in(decls, right, scope).scale();
+    let i = kind_in(decls, left, names).scale();
+    let j = kind_in(decls, right, names).scale();
     factors_of(i, j)
 }
 
@@ -75,18 +75,18 @@ fn mantissa_observed(label: u32, day: i64, fixings: &Fixings) -> Result<i128, Mi
 fn mantissa_of(
     decls: &Decls,
     e: &Expr,
-    scope: &Scope,
+    names: &Bindings,
     fixings: &Fixings,
     day: i64,
 ) -> Result<i128, Missing>
-    requires { FitsIn decls.now (expression e.now) scope.now fixings.now day }
-    ensures { result ≡ number_found (answer_in decls.now (expression e.now) scope.now fixings.now day) }
+    requires { FitsIn decls.now (expression e.now) names.now fixings.now day }
+    ensures { result ≡ number_found (answer_in decls.now (expression e.now) names.now fixings.now day) }
 {
     match e {
         Expr::Lit { mant, .. } => Ok(*mant),
         Expr::Obs { label, offset } => mantissa_observed(*label, day_at(day, *offset), fixings),
         _ => {
-            let found = evaluate(decls, e, scope, fixings, day)?;
+            let found = evaluate(decls, e, names, fixings, day)?;
             Ok(found.value.number())
         }
     }
@@ -115,15 +115,15 @@ fn compare_brought(op: CmpOp, x: i128, y: i128, by: Factors) -> bool
 fn compares_on(
     decls: &Decls,
     test: &Comparison,
-    scope: &Scope,
+    names: &Bindings,
     fixings: &Fixings,
     day: i64,
 ) -> Result<bool, Missing>
-    requires { ComparesIn decls.now test.now scope.now fixings.now day }
-    ensures { result ≡ truth_found (answer_in decls.now (comparison test.now) scope.now fixings.now day) }
+    requires { ComparesIn decls.now test.now names.now fixings.now day }
+    ensures { result ≡ truth_found (answer_in decls.now (comparison test.now) names.now fixings.now day) }
 {
-    let x = mantissa_of(decls, test.left, scope, fixings, day)?;
-    let y = mantissa_of(decls, test.right, scope, fixings, day)?;
+    let x = mantissa_of(decls, test.left, names, fixings, day)?;
+    let y = mantissa_of(decls, test.right, names, fixings, day)?;
     Ok(compare_brought(test.op, x, y, test.by))
 }
 
@@ -131,14 +131,14 @@ fn compares_on(
 fn holds_on(
     decls: &Decls,
     test: &Expr,
-    scope: &Scope,
+    names: &Bindings,
     fixings: &Fixings,
     day: i64,
 ) -> Result<bool, Missing>
-    requires { FitsIn decls.now (expression test.now) scope.now fixings.now day }
-    ensures { result ≡ truth_found (answer_in decls.now (expression test.now) scope.now fixings.now day) }
+    requires { FitsIn decls.now (expression test.now) names.now fixings.now day }
+    ensures { result ≡ truth_found (answer_in decls.now (expression test.now) names.now fixings.now day) }
 {
-    let found = evaluate(decls, test, scope, fixings, day)?;
+    let found = evaluate(decls, test, names, fixings, day)?;
     Ok(found.value.is_true())
 }
 
@@ -146,19 +146,19 @@ fn holds_on(
 fn first_compared(
     decls: &Decls,
     test: &Comparison,
-    scope: &Scope,
+    names: &Bindings,
     fixings: &Fixings,
     from: i64,
     days: u32,
 ) -> Result<Option<u32>, Missing>
     requires first { IsDay from }
-    requires fits { OnDays (λ day. ComparesIn decls.now test.now scope.now fixings.now day) from days }
-    ensures days { result ≡ first_in decls.now (comparison test.now) scope.now fixings.now from days }
+    requires fits { OnDays (λ day. ComparesIn decls.now test.now names.now fixings.now day) from days }
+    ensures days { result ≡ first_in decls.now (comparison test.now) names.now fixings.now from days }
     ensures found { IfOk result (λ first. IsOneOf days first) }
 {
     for i in 0..days {
         let day = day_on(from, i);
-        let holds = compares_on(decls, test, scope, fixings, day)?;
+        let holds = compares_on(decls, test, names, fixings, day)?;
         if holds {
             return Ok(Some(i));
         }
@@ -170,19 +170,19 @@ fn first_compared(
 fn first_held(
     decls: &Decls,
     test: &Expr,
-    scope: &Scope,
+    names: &Bindings,
     fixings: &Fixings,
     from: i64,
     days: u32,
 ) -> Result<Option<u32>, Missing>
     requires first { IsDay from }
-    requires fits { OnDays (λ day. FitsIn decls.now (expression test.now) scope.now fixings.now day) from days }
-    ensures days { result ≡ first_in decls.now (expression test.now) scope.now fixings.now from days }
+    requires fits { OnDays (λ day. FitsIn decls.now (expression test.now) names.now fixings.now day) from days }
+    ensures days { result ≡ first_in decls.now (expression test.now) names.now fixings.now from days }
     ensures found { IfOk result (λ first. IsOneOf days first) }
 {
     for i in 0..days {
         let day = day_on(from, i);
-        let holds = holds_on(decls, test, scope, fixings, day)?;
+        let holds = holds_on(decls, test, names, fixings, day)?;
         if holds {
             return Ok(Some(i));
         }
@@ -207,18 +207,18 @@ pub fn first_true(
     ensures answer { IsFirstTrue (declarations decls.now) (expression test.now) scratch.now.entries fixings.now from days result }
     ensures found { IfOk result (λ first. IsOneOf days first) }
 {
-    let scope = Scope::Base { scratch };
+    let names = Bindings::Lent { scratch };
     match test {
         Expr::Cmp { op, left, right } => {
-            let by = factors_between(decls, left, right, &scope);
+            let by = factors_between(decls, left, right, &names);
             let test = Comparison {
                 op: *op,
                 left: &**left,
                 right: &**right,
                 by,
             };
-            first_compared(decls, &test, &scope, fixings, from, days)
+            first_compared(decls, &test, &names, fixings, from, days)
         }
-        _ => first_held(decls, test, &scope, fixings, from, days),
+        _ => first_held(decls, test, &names, fixings, from, days),
     }
 }

@@ -7,8 +7,8 @@ ghost use Rattle.term_core.specs.Environments.{IsAdmitted};
 ghost use Rattle.expr_eval.specs.Evaluable.{MayEvaluate};
 ghost use Rattle.expr_eval.specs.Answers.{IsAnswer, HasKind, SuitsBinding};
 
+use crate::bindings::Bindings;
 use crate::evaluation::{evaluate, without_kind};
-use crate::scopes::Scope;
 use crate::scratch::Scratch;
 use fixing_files::Fixings;
 use term_core::{Decls, Expr, Missing, Value};
@@ -32,6 +32,6 @@ pub fn eval(
     ensures suits { SuitsBinding (declarations decls.now) (expression e.now) scratch.old.entries result }
     ensures same { scratch.new ≡ scratch.old }
 {
-    let scope = Scope::Base { scratch: &*scratch };
-    without_kind(evaluate(decls, e, &scope, fixings, day))
+    let names = Bindings::Lent { scratch: &*scratch };
+    without_kind(evaluate(decls, e, &names, fixings, day))
 }

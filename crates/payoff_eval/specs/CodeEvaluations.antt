@@ -8,11 +8,11 @@ use Rattle.term_core.specs.declared.terms.LogicOp.{LogicOp}
 use Rattle.term_core.specs.Terms.{Expression, Logic, Cond}
 use Rattle.expr_eval.specs.declared.operations.Operands.{Operands}
 use Rattle.expr_eval.specs.declared.operations.Typed.{Typed}
-use Rattle.expr_eval.specs.declared.scopes.Scope.{Scope}
+use Rattle.expr_eval.specs.declared.bindings.Bindings.{Bindings}
 use Rattle.expr_eval.specs.declared.scratch.Binding.{Binding}
 use Rattle.expr_eval.specs.Fits.{Fits, DayFitsIn, DaysFitIn}
 use Rattle.expr_eval.specs.Runs.{Answer, run_of, both_run, day_run, days_run}
-use Rattle.expr_eval.specs.Scopes.{bindings}
+use Rattle.expr_eval.specs.Bindings.{bindings}
 use Rattle.expr_eval.specs.Trials.{DayOrMissing, ValueOrMissing, first_tried}
 use Rattle.expr_eval.specs.KindScales.{KindFits}
 use Rattle.expr_eval.specs.Rooms.{kinds_of}
@@ -42,14 +42,14 @@ abbrev pub HasDates : Asking → Vx → Type 0
 HasDates q e = DatesFit q.setting.now (value_expression e)
 
 -- an evaluation of an expression on a day
-abbrev pub run_on : Asking → Expression → Scope → ℤ → Answer
-run_on q e scope f = run_of (declarations q.decls.now) e (bindings scope) q.fixings.now f
+abbrev pub run_on : Asking → Expression → Bindings → ℤ → Answer
+run_on q e names f = run_of (declarations q.decls.now) e (bindings names) q.fixings.now f
 
-abbrev pub FitsOn : Asking → Expression → Scope → ℤ → Type 0
-FitsOn q e scope f = Fits (declarations q.decls.now) e (bindings scope) q.fixings.now f
+abbrev pub FitsOn : Asking → Expression → Bindings → ℤ → Type 0
+FitsOn q e names f = Fits (declarations q.decls.now) e (bindings names) q.fixings.now f
 
-abbrev pub both_on : Asking → Expression → Expression → Scope → ℤ → Result Operands Missing
-both_on q x y scope f = both_run (declarations q.decls.now) x y (bindings scope) q.fixings.now f
+abbrev pub both_on : Asking → Expression → Expression → Bindings → ℤ → Result Operands Missing
+both_on q x y names f = both_run (declarations q.decls.now) x y (bindings names) q.fixings.now f
 
 -- the forms whose parts are evaluated apart
 abbrev pub sides : Asking → LogicOp → Vx → Vx → Expression
@@ -59,17 +59,17 @@ abbrev pub branches : Asking → Vx → Vx → Vx → Expression
 branches q t x y = Cond (dated q t) (dated q x) (dated q y)
 
 -- a day of an accumulator with this body, and its first n days
-abbrev pub day_run_on : Asking → Expression → Scope → ℤ → Typed → Answer
-day_run_on q body scope at v = day_run (declarations q.decls.now) body (bindings scope) q.fixings.now at v
+abbrev pub day_run_on : Asking → Expression → Bindings → ℤ → Typed → Answer
+day_run_on q body names at v = day_run (declarations q.decls.now) body (bindings names) q.fixings.now at v
 
-abbrev pub DayFitsOn : Asking → Expression → Scope → ℤ → Typed → Type 0
-DayFitsOn q body scope at v = DayFitsIn (declarations q.decls.now) body (bindings scope) q.fixings.now at v
+abbrev pub DayFitsOn : Asking → Expression → Bindings → ℤ → Typed → Type 0
+DayFitsOn q body names at v = DayFitsIn (declarations q.decls.now) body (bindings names) q.fixings.now at v
 
-abbrev pub days_run_on : Asking → Expression → Scope → ℤ → ℕ → Answer → Answer
-days_run_on q body scope from n start = days_run (declarations q.decls.now) body (bindings scope) q.fixings.now from n start
+abbrev pub days_run_on : Asking → Expression → Bindings → ℤ → ℕ → Answer → Answer
+days_run_on q body names from n start = days_run (declarations q.decls.now) body (bindings names) q.fixings.now from n start
 
-abbrev pub DaysFitOn : Asking → Expression → Scope → ℤ → ℕ → Answer → Type 0
-DaysFitOn q body scope from n start = DaysFitIn (declarations q.decls.now) body (bindings scope) q.fixings.now from n start
+abbrev pub DaysFitOn : Asking → Expression → Bindings → ℤ → ℕ → Answer → Type 0
+DaysFitOn q body names from n start = DaysFitIn (declarations q.decls.now) body (bindings names) q.fixings.now from n start
 
 -- an evaluation of a value expression at a base
 abbrev pub answer : Asking → ValueExpression → List Binding → ℤ → ValueOrMissing

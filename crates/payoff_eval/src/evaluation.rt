@@ -8,26 +8,26 @@ ghost use Rattle.payoff_eval.specs.CodeEvaluations.{DayFitsOn, DaysFitOn, FitsOn
 use crate::asking::Asking;
 use crate::dates::day_of;
 use crate::kinds::kind_in;
+use expr_eval::bindings::Bindings;
 use expr_eval::evaluation::{day_after, day_before, value_bound, value_observed};
 use expr_eval::operations::{
     Operands, Typed, at_kind, combine, compare, divide, is_decided, negate, number, round, verdict,
 };
-use expr_eval::scopes::Scope;
 use expr_eval::{Binding, Held};
 use payoff_lang::Vx;
 use term_core::{Kind, LogicOp, Missing};
 
 /// The value of an expression with its kind, or the first place that is not fixed.
 #[cycle(evaluation)]
-pub fn evaluate(asking: &Asking, e: &Vx, scope: &Scope, day: i64) -> Result<Typed, Missing>
+pub fn evaluate(asking: &Asking, e: &Vx, names: &Bindings, day: i64) -> Result<Typed, Missing>
     requires dates { HasDates asking.now e.now }
-    requires fits { FitsOn asking.now (dated asking.now e.now) scope.now day }
-    ensures { result ≡ run_on asking.now (dated asking.now e.now) scope.now day }
+    requires fits { FitsOn asking.now (dated asking.now e.now) names.now day }
+    ensures { result ≡ run_on asking.now (dated asking.now e.now) names.now day }
 {
     match e {
         Vx::Lit { mant, scale } => Ok(number(*scale, *mant)),
         Vx::Yes { value } => Ok(verdict(*value)),
-        Vx::Var { back } => value_bound(scope, *back),
+        Vx::Var { back } => value_bound(names, *back),
         Vx::Model { label, date } => {
             value_observed(
                 asking.decls,
@@ -37,29 +37,29 @@ pub fn evaluate(asking: &Asking, e: &Vx, scope: &Scope, day: i64) -> Result<Type
             )
         }
         Vx::Neg { of } => {
-            let of = evaluate(asking, of, scope, day)?;
+            let of = evaluate(asking, of, names, day)?;
             Ok(negate(of))
         }
         Vx::Num { op, left, right } => {
-            let both = evaluate_both(asking, left, right, scope, day)?;
+            let both = evaluate_both(asking, left, right, names, day)?;
             Ok(combine(*op, both))
         }
         Vx::Cmp { op, left, right } => {
-            let both = evaluate_both(asking, left, right, scope, day)?;
+            let both = evaluate_both(asking, left, right, names, day)?;
             Ok(compare(*op, both))
         }
         Vx::Not { of } => {
-            let of = evaluate(asking, of, scope, day)?;
+            let of = evaluate(asking, of, names, day)?;
             Ok(verdict(!of.value.is_true()))
         }
-        Vx::Logic { op, left, right } => { evaluate_logic(asking, *op, left, right, scope, day) }
-        Vx::Cond { test, yes, no } => { evaluate_branches(asking, test, yes, no, scope, day) }
+        Vx::Logic { op, left, right } => { evaluate_logic(asking, *op, left, right, names, day) }
+        Vx::Cond { test, yes, no } => { evaluate_branches(asking, test, yes, no, names, day) }
         Vx::Widen { scale, of } => {
-            let of = evaluate(asking, of, scope, day)?;
+            let of = evaluate(asking, of, names, day)?;
             Ok(at_kind(Kind::Number { scale: *scale }, of))
         }
         Vx::Round { mode, scale, of } => {
-            let of = evaluate(asking, of, scope, day)?;
+            let of = evaluate(asking, of, names, day)?;
             Ok(round(*mode, *scale, of))
         }
         Vx::Div {
@@ -68,13 +68,13 @@ pub fn evaluate(asking: &Asking, e: &Vx, scope: &Scope, day: i64) -> Result<Type
             top,
             below,
         } => {
-            let both = evaluate_both(asking, top, below, scope, day)?;
+            let both = evaluate_both(asking, top, below, names, day)?;
             Ok(divide(*mode, *scale, both))
         }
         Vx::Acc { body, days, first } => {
             let from = day_before(day, *days);
-            let start = evaluate(asking, first, scope, from);
-            evaluate_days(asking, body, *days, start, scope, from)
+            let start = evaluate(asking, first, names, from);
+            evaluate_days(asking, body, *days, start, names, from)
         }
     }
 }
@@ -85,16 +85,16 @@ fn evaluate_both(
     asking: &Asking,
     left: &Vx,
     right: &Vx,
-    scope: &Scope,
+    names: &Bindings,
     day: i64,
 ) -> Result<Operands, Missing>
     requires dates { HasDates asking.now left.now × HasDates asking.now right.now }
-    requires left { FitsOn asking.now (dated asking.now left.now) scope.now day }
-    requires right { FitsOn asking.now (dated asking.now right.now) scope.now day }
-    ensures { result ≡ both_on asking.now (dated asking.now left.now) (dated asking.now right.now) scope.now day }
+    requires left { FitsOn asking.now (dated asking.now left.now) names.now day }
+    requires right { FitsOn asking.now (dated asking.now right.now) names.now day }
+    ensures { result ≡ both_on asking.now (dated asking.now left.now) (dated asking.now right.now) names.now day }
 {
-    let left = evaluate(asking, left, scope, day)?;
-    let right = evaluate(asking, right, scope, day)?;
+    let left = evaluate(asking, left, names, day)?;
+    let right = evaluate(asking, right, names, day)?;
     Ok(Operands { left, right })
 }
 
@@ -105,18 +105,18 @@ fn evaluate_logic(
     op: LogicOp,
     left: &Vx,
     right: &Vx,
-    scope: &Scope,
+    names: &Bindings,
     day: i64,
 ) -> Result<Typed, Missing>
     requires dates { HasDates asking.now left.now × HasDates asking.now right.now }
-    requires fits { FitsOn asking.now (sides asking.now op left.now right.now) scope.now day }
-    ensures { result ≡ run_on asking.now (sides asking.now op left.now right.now) scope.now day }
+    requires fits { FitsOn asking.now (sides asking.now op left.now right.now) names.now day }
+    ensures { result ≡ run_on asking.now (sides asking.now op left.now right.now) names.now day }
 {
-    let left = evaluate(asking, left, scope, day)?.value.is_true();
+    let left = evaluate(asking, left, names, day)?.value.is_true();
     if is_decided(op, left) {
         return Ok(verdict(left));
     }
-    let right = evaluate(asking, right, scope, day)?.value.is_true();
+    let right = evaluate(asking, right, names, day)?.value.is_true();
     Ok(verdict(right))
 }
 
@@ -127,21 +127,21 @@ fn evaluate_branches(
     test: &Vx,
     yes: &Vx,
     no: &Vx,
-    scope: &Scope,
+    names: &Bindings,
     day: i64,
 ) -> Result<Typed, Missing>
     requires dates { HasDates asking.now test.now × HasDates asking.now yes.now × HasDates asking.now no.now }
-    requires fits { FitsOn asking.now (branches asking.now test.now yes.now no.now) scope.now day }
-    ensures { result ≡ run_on asking.now (branches asking.now test.now yes.now no.now) scope.now day }
+    requires fits { FitsOn asking.now (branches asking.now test.now yes.now no.now) names.now day }
+    ensures { result ≡ run_on asking.now (branches asking.now test.now yes.now no.now) names.now day }
 {
-    let test = evaluate(asking, test, scope, day)?;
+    let test = evaluate(asking, test, names, day)?;
     if test.value.is_true() {
-        let taken = evaluate(asking, yes, scope, day)?;
-        let kind = taken.kind.either(kind_in(asking, no, scope));
+        let taken = evaluate(asking, yes, names, day)?;
+        let kind = taken.kind.either(kind_in(asking, no, names));
         Ok(at_kind(kind, taken))
     } else {
-        let taken = evaluate(asking, no, scope, day)?;
-        let kind = kind_in(asking, yes, scope).either(taken.kind);
+        let taken = evaluate(asking, no, names, day)?;
+        let kind = kind_in(asking, yes, names).either(taken.kind);
         Ok(at_kind(kind, taken))
     }
 }
@@ -153,18 +153,18 @@ fn evaluate_days(
     body: &Vx,
     days: u32,
     start: Result<Typed, Missing>,
-    scope: &Scope,
+    names: &Bindings,
     from: i64,
 ) -> Result<Typed, Missing>
     requires dates { HasDates asking.now body.now }
-    requires fits { DaysFitOn asking.now (dated asking.now body.now) scope.now from days start }
+    requires fits { DaysFitOn asking.now (dated asking.now body.now) names.now from days start }
     requires first { IsDay from }
-    ensures { result ≡ days_run_on asking.now (dated asking.now body.now) scope.now from days start }
+    ensures { result ≡ days_run_on asking.now (dated asking.now body.now) names.now from days start }
 {
     let mut value = start?;
     for i in 0..days {
         let day = day_after(from, i);
-        value = evaluate_day(asking, body, value, scope, day)?;
+        value = evaluate_day(asking, body, value, names, day)?;
     }
     Ok(value)
 }
@@ -175,20 +175,20 @@ fn evaluate_day(
     asking: &Asking,
     body: &Vx,
     value: Typed,
-    scope: &Scope,
+    names: &Bindings,
     day: i64,
 ) -> Result<Typed, Missing>
     requires dates { HasDates asking.now body.now }
-    requires fits { DayFitsOn asking.now (dated asking.now body.now) scope.now day value }
-    ensures { result ≡ day_run_on asking.now (dated asking.now body.now) scope.now day value }
+    requires fits { DayFitsOn asking.now (dated asking.now body.now) names.now day value }
+    ensures { result ≡ day_run_on asking.now (dated asking.now body.now) names.now day value }
 {
     let held = Held::Known { value: value.value };
-    let inner = Scope::Inner {
+    let inner = Bindings::Inner {
         binding: Binding {
             kind: value.kind,
             held,
         },
-        outer: &*scope,
+        outer: &*names,
     };
     let next = evaluate(asking, body, &inner, day)?;
     Ok(at_kind(value.kind, next))

@@ -22,8 +22,8 @@ use crate::dates::{count, day_of};
 use crate::evaluation::evaluate;
 use crate::kinds::kind_in;
 use decimal::align;
+use expr_eval::bindings::Bindings;
 use expr_eval::evaluation::{day_on, without_kind};
-use expr_eval::scopes::Scope;
 use expr_eval::{Held, Scratch};
 use payoff_lang::{Code, DateExpr, Vx};
 use term_core::{Kind, Missing, Value};
@@ -116,8 +116,8 @@ fn kind_of(asking: &Asking, scratch: &Scratch, v: &Vx) -> Kind
     requires { HasKindOn asking.now (value_expression v.now) scratch.now.entries }
     ensures { result ≡ kind_on asking.now (value_expression v.now) scratch.now.entries }
 {
-    let scope = Scope::Base { scratch };
-    kind_in(asking, v, &scope)
+    let names = Bindings::Lent { scratch };
+    kind_in(asking, v, &names)
 }
 
 // The value of a value expression at a base, or the first place that it reads and that is not fixed.
@@ -125,8 +125,8 @@ fn value_on(asking: &Asking, scratch: &Scratch, base: i64, v: &Vx) -> Result<Val
     requires { EvaluatesOn asking.now (value_expression v.now) scratch.now.entries base }
     ensures { result ≡ answer asking.now (value_expression v.now) scratch.now.entries base }
 {
-    let scope = Scope::Base { scratch };
-    without_kind(evaluate(asking, v, &scope, base))
+    let names = Bindings::Lent { scratch };
+    without_kind(evaluate(asking, v, &names, base))
 }
 
 // The days until a test is first true, of the days 0 to `days`.

@@ -3,7 +3,7 @@ use Rattle.std.proofs.lemmas.Int.{to_z-of_z}
 use Rattle.term_core.specs.declared.terms.Expr.{Expr}
 use Rattle.term_core.specs.Declarations.{declarations}
 use Rattle.term_core.specs.Terms.{expression, Div, Acc}
-use Rattle.expr_eval.specs.Scopes.{bindings}
+use Rattle.expr_eval.specs.Bindings.{bindings}
 use Rattle.expr_eval.specs.Runs.{run_of, both_of}
 use Rattle.expr_eval.specs.Fits.{Fits}
 use Rattle.expr_eval.specs.Operations.{DividesTo}
@@ -20,7 +20,7 @@ evaluate_days-returns-in_err-value-2 t c = grind (arith, to_z-of_z, days_tried-s
 pub evaluate-divide-requires : goal.evaluate-divide-requires
 evaluate-divide-requires t c =
     let d = declarations c.args.decls.now in
-    let g = bindings c.args.scope.now in
+    let g = bindings c.args.names.now in
     let env = c.args.fixings.now in
     let f = c.args.day in
     let s = c.in-Div.scale in
@@ -33,7 +33,7 @@ evaluate-divide-requires t c =
 pub evaluate-returns-in-Acc : goal.evaluate-returns-in-Acc
 evaluate-returns-in-Acc t c =
     let d = declarations c.args.decls.now in
-    let g = bindings c.args.scope.now in
+    let g = bindings c.args.names.now in
     let env = c.args.fixings.now in
     let f = c.args.day in
     let fits : FitsSigned w64 c.day_before-from.result = search rules in

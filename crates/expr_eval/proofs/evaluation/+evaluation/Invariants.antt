@@ -2,7 +2,7 @@ use Rattle.std.proofs.Common.{◌≡◌, ◌+◌, ◌*◌, max, Ok}
 use Rattle.term_core.specs.declared.terms.Expr.{size-Expr}
 use Rattle.term_core.specs.Declarations.{declarations}
 use Rattle.term_core.specs.Terms.{expression}
-use Rattle.expr_eval.specs.Scopes.{bindings}
+use Rattle.expr_eval.specs.Bindings.{bindings}
 use Rattle.expr_eval.specs.Runs.{days_run}
 use Rattle.expr_eval.proofs.evaluation.+evaluation.Given as goal
 
@@ -26,4 +26,4 @@ decreases-evaluate_day l = 3 * size-Expr l.body.now + 1
 
 abbrev pub invariant-evaluate_days-loop-i : goal.invariant-evaluate_days-loop-i
 invariant-evaluate_days-loop-i l =
-    days_run (declarations l.decls) (expression l.body) (bindings l.scope) l.fixings l.from l.i l.fn.start ≡ Ok l.value
+    days_run (declarations l.decls) (expression l.body) (bindings l.names) l.fixings l.from l.i l.fn.start ≡ Ok l.value

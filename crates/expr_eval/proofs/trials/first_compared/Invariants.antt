@@ -1,11 +1,11 @@
 use Rattle.std.proofs.Common.{◌≡◌, ◌+ℤ◌, pos, Ok, None}
 use Rattle.term_core.specs.Declarations.{declarations}
 use Rattle.term_core.specs.Terms.{expression, Cmp}
-use Rattle.expr_eval.specs.Scopes.{bindings}
+use Rattle.expr_eval.specs.Bindings.{bindings}
 use Rattle.expr_eval.specs.Runs.{run_of, untyped}
 use Rattle.expr_eval.specs.Trials.{first_tried}
 use Rattle.expr_eval.proofs.trials.first_compared.Given as goal
 
 abbrev pub invariant-loop-i : goal.invariant-loop-i
 invariant-loop-i l =
-    first_tried l.i (λ i. untyped (run_of (declarations l.fn.decls) (Cmp l.fn.test.op (expression l.fn.test.left.now) (expression l.fn.test.right.now)) (bindings l.fn.scope) l.fn.fixings (l.fn.from +ℤ pos i))) ≡ Ok None
+    first_tried l.i (λ i. untyped (run_of (declarations l.fn.decls) (Cmp l.fn.test.op (expression l.fn.test.left.now) (expression l.fn.test.right.now)) (bindings l.fn.names) l.fn.fixings (l.fn.from +ℤ pos i))) ≡ Ok None

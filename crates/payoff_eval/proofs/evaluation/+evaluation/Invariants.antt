@@ -3,7 +3,7 @@ use Rattle.payoff_lang.specs.declared.code.Vx.{size-Vx}
 use Rattle.term_core.specs.Declarations.{declarations}
 use Rattle.payoff_lang.specs.Code.{value_expression}
 use Rattle.payoff_lang.specs.Dating.{at_setting}
-use Rattle.expr_eval.specs.Scopes.{bindings}
+use Rattle.expr_eval.specs.Bindings.{bindings}
 use Rattle.expr_eval.specs.Runs.{days_run}
 use Rattle.payoff_eval.proofs.evaluation.+evaluation.Given as goal
 
@@ -27,4 +27,4 @@ decreases-evaluate_day l = 3 * size-Vx l.body.now + 1
 
 abbrev pub invariant-evaluate_days-loop-i : goal.invariant-evaluate_days-loop-i
 invariant-evaluate_days-loop-i l =
-    days_run (declarations l.asking.decls.now) (at_setting l.asking.setting.now (value_expression l.body)) (bindings l.scope) l.asking.fixings.now l.from l.i l.fn.start ≡ Ok l.value
+    days_run (declarations l.asking.decls.now) (at_setting l.asking.setting.now (value_expression l.body)) (bindings l.names) l.asking.fixings.now l.from l.i l.fn.start ≡ Ok l.value
