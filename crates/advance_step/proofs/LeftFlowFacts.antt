@@ -10,13 +10,12 @@ use Rattle.term_core.specs.declared.terms.Days.TheVariants.{Num as Count}
 use Rattle.term_core.specs.Terms.{Expression, Contract, Zero, Pay, Both, Scale, After, Let, Within}
 use Rattle.term_core.specs.Environments.{Environment}
 use Rattle.term_core.specs.Kinds.{scale_or_zero}
-use Rattle.term_core.specs.Values.{Entry, kinds, num, truth, kind_or, value_of, first_true}
+use Rattle.term_core.specs.Values.{Entry, kinds, num, truth, kind_or, value_of, first_true, entry_of}
 use Rattle.term_core.specs.Flows.{Flow, flow_of, count_of, unit_flow, on_day_zero, scale_of_contract}
 use Rattle.term_core.specs.Shifts.{shifted}
 use Rattle.term_core.proofs.FlowFacts.{differs, first_within}
 use Rattle.term_core.proofs.ShiftFacts.{kind-shifted, value-shifted}
 use Rattle.advance_step.specs.WhatIsLeft.{left_of, delayed}
-use Rattle.rewriting.specs.Bindings.{bound_to}
 use Rattle.advance_step.specs.LawsLeft.{LeftScales, LeftFlows}
 use Rattle.rewriting.specs.Worth.{Worth}
 use Rattle.rewriting.proofs.Worth.{worth_zero, worth_is, worth_more, worth_same}
@@ -53,7 +52,7 @@ not_today (negsuc n) u h = absurd (omega (arith, ints))
 pub shifted_back : (d : Declarations) (e : Expression) (g : List Entry) (env : Environment) (f : ℤ) (j : ℕ) → value_of d (shifted (negsuc j) e) g env (f +ℤ pos (suc j)) ≡ value_of d e g env f
 shifted_back d e g env f j = value-shifted d e (negsuc j) g env (f +ℤ pos (suc j)) ∙ ap (value_of d e g env) (omega (arith, ints))
 
-pub bound_back : (d : Declarations) (e : Expression) (g : List Entry) (env : Environment) (f : ℤ) (j : ℕ) → bound_to d (shifted (negsuc j) e) g env (f +ℤ pos (suc j)) ≡ bound_to d e g env f
+pub bound_back : (d : Declarations) (e : Expression) (g : List Entry) (env : Environment) (f : ℤ) (j : ℕ) → entry_of d (shifted (negsuc j) e) g env (f +ℤ pos (suc j)) ≡ entry_of d e g env f
 bound_back d e g env f j =
     ap₂ (λ (v : Value) (k : Option Kind). let entry : Entry = record { value = v; kind = kind_or k } in entry) (shifted_back d e g env f j) (kind-shifted d e (negsuc j) (kinds g))
 
@@ -118,7 +117,7 @@ left_worth d (After m c) g env f j x w h =
     (λ t. moved_worth d g env c (left_of d c g env (f +ℤ pos n) (j - n)) s w _ _ x _ _ (into_frame f j n (le_of n j t)) (into_day x j n (le_of n j t)) (f +ℤ pos n) (left_worth d c g env (f +ℤ pos n) (j - n) x w h))
     (λ t. worth_same d g env (f +ℤ pos (suc j)) x w s _ (delayed (n - suc j) c) (delayed_scale d (n - suc j) c (kinds g)) (delayed_flow d (n - suc j) c g env (f +ℤ pos (suc j)) x w ∙ ap₂ (λ (h y : ℤ). flow_of d c g env h y w) (rest_frame f j n (lt_of n j t)) (rest_day x j n (lt_of n j t))))
 left_worth d (Let e c) g env f j x w h =
-    worth_let d g env (f +ℤ pos (suc j)) x w _ _ (shifted (negsuc j) e) (left_of d c (bound_to d e g env f ∷ g) env f j) (bound_to d e g env f) (bound_back d e g env f j) (left_worth d c (bound_to d e g env f ∷ g) env f j x w h)
+    worth_let d g env (f +ℤ pos (suc j)) x w _ _ (shifted (negsuc j) e) (left_of d c (entry_of d e g env f ∷ g) env f j) (entry_of d e g env f) (bound_back d e g env f j) (left_worth d c (entry_of d e g env f ∷ g) env f j x w h)
 left_worth d (Within e m a b) g env f j x w h =
     let n = count_of m in
     let s = scale_of_contract d a (kinds g) in

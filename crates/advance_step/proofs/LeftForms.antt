@@ -7,14 +7,13 @@ use Rattle.term_core.specs.Limits.{IsOffset}
 use Rattle.term_core.specs.Terms.{Expression, Lit, Yes, Var, Obs, Neg, Num, Cmp, Not, Logic, Cond, Widen, Round, Div, Acc}
 use Rattle.term_core.specs.Terms.{Contract, Zero, Pay, Both, Scale, After, Let, Within}
 use Rattle.term_core.specs.Environments.{Environment}
-use Rattle.term_core.specs.Values.{Entry, first_true}
+use Rattle.term_core.specs.Values.{Entry, first_true, entry_of}
 use Rattle.term_core.specs.Flows.{count_of}
 use Rattle.term_core.specs.Shifts.{shifted}
 use Rattle.term_core.specs.Sizes.{days_before, past, reach, past_of_contract}
 use Rattle.term_core.specs.WellFormed.{IsWellFormed, IsWellFormedContract, HasOnlyNumbers}
 use Rattle.simplify.specs.TurningContracts.{is_nothing}
 use Rattle.advance_step.specs.WhatIsLeft.{left_of, delayed}
-use Rattle.rewriting.specs.Bindings.{bound_to}
 use Rattle.rewriting.proofs.Choices.{if_cases, option_cases}
 use Rattle.advance_step.proofs.LeftParts.{both_cases}
 use Rattle.advance_step.specs.LawsLeftAccepted.{LeftIsWellFormed}
@@ -64,10 +63,10 @@ formed d (After m c) g env f j k h w =
     if_cases (IsFormed d k) (nat_le n j) (left_of d c g env (f +ℤ pos n) (j - n)) (delayed (n - suc j) c)
     (λ _. formed d c g env (f +ℤ pos n) (j - n) k (omega (arith, h)) (w.0.1, w.1.1)) (λ _. delayed_formed d k (n - suc j) c (w.0.1, w.1.1))
 formed d (Let e c) g env f j k h w =
-    let c' = left_of d c (bound_to d e g env f ∷ g) env f j in
-    let y = formed d c (bound_to d e g env f ∷ g) env f j (k + 1) (omega (arith, h)) (w.0.1, w.1) in
+    let c' = left_of d c (entry_of d e g env f ∷ g) env f j in
+    let y = formed d c (entry_of d e g env f ∷ g) env f j (k + 1) (omega (arith, h)) (w.0.1, w.1) in
     if_cases (IsFormed d k) (is_nothing c') Zero (Let (shifted (negsuc j) e) c') (λ _. (tt, tt))
-    (λ z. ((shifted_formed d e j k (omega (arith, h, in_reach d c (bound_to d e g env f ∷ g) env f j z)) w.0.0, y.0), y.1))
+    (λ z. ((shifted_formed d e j k (omega (arith, h, in_reach d c (entry_of d e g env f ∷ g) env f j z)) w.0.0, y.0), y.1))
 formed d (Within e m a b) g env f j k h w =
     let n = count_of m in
     option_cases (IsFormed d k) (first_true d e g env f (min n j)) (λ i. left_of d a g env (f +ℤ pos i) (j - i)) (if nat_le n j then left_of d b g env (f +ℤ pos n) (j - n) else Within e (Count (n - suc j)) a b)

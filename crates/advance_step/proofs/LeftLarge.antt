@@ -6,12 +6,11 @@ use Rattle.term_core.specs.declared.terms.Days.TheVariants.{Num as Count}
 use Rattle.term_core.specs.Terms.{Expression, Lit, Yes, Var, Obs, Neg, Num, Cmp, Not, Logic, Cond, Widen, Round, Div, Acc}
 use Rattle.term_core.specs.Terms.{Contract, Zero, Pay, Both, Scale, After, Let, Within}
 use Rattle.term_core.specs.Environments.{Environment}
-use Rattle.term_core.specs.Values.{Entry, first_true}
+use Rattle.term_core.specs.Values.{Entry, first_true, entry_of}
 use Rattle.term_core.specs.Flows.{count_of}
 use Rattle.term_core.specs.Shifts.{shifted}
 use Rattle.term_core.specs.Sizes.{height, nodes, work, height_of_contract, work_of_contract}
 use Rattle.advance_step.specs.WhatIsLeft.{left_of, delayed}
-use Rattle.rewriting.specs.Bindings.{bound_to}
 use Rattle.rewriting.proofs.Choices.{if_cases, option_cases}
 use Rattle.advance_step.proofs.LeftParts.{both_cases, scale_cases, let_cases}
 
@@ -107,8 +106,8 @@ left_large d (After n c) g env f j =
     (λ _. larger _ _ _ _ _ (omega arith) (omega arith) (left_large d c g env (f +ℤ pos (count_of n)) (j - count_of n))) (λ _. delayed_large (count_of n - suc j) n c)
 left_large d (Let e c) g env f j =
     let l = shifted_large e (negsuc j) in
-    let m = left_large d c (bound_to d e g env f ∷ g) env f j in
-    let_cases (NoLarger (height_of_contract (Let e c)) (work_of_contract (Let e c))) (shifted (negsuc j) e) (left_of d c (bound_to d e g env f ∷ g) env f j)
+    let m = left_large d c (entry_of d e g env f ∷ g) env f j in
+    let_cases (NoLarger (height_of_contract (Let e c)) (work_of_contract (Let e c))) (shifted (negsuc j) e) (left_of d c (entry_of d e g env f ∷ g) env f j)
     (λ _. zero_large _ _ (some_height (Let e c))) (omega (arith, l.heights, m.0), omega (arith, l.works, m.1))
 left_large d (Within e m a b) g env f j =
     let n = count_of m in

@@ -6,13 +6,12 @@ use Rattle.term_core.specs.Declarations.{Declarations}
 use Rattle.term_core.specs.declared.terms.Days.TheVariants.{Num as Count}
 use Rattle.term_core.specs.Terms.{Contract, Zero, Pay, Both, Scale, After, Let, Within}
 use Rattle.term_core.specs.Environments.{Environment, Place}
-use Rattle.term_core.specs.Values.{Entry, first_true}
+use Rattle.term_core.specs.Values.{Entry, first_true, entry_of}
 use Rattle.term_core.specs.Flows.{count_of}
 use Rattle.term_core.specs.Reads.{reads_of, reads_of_contract, live, upto, tested, steps_before}
 use Rattle.term_core.specs.Shifts.{shifted}
 use Rattle.term_core.proofs.FlowFacts.{first_within}
 use Rattle.advance_step.specs.WhatIsLeft.{left_of, delayed}
-use Rattle.rewriting.specs.Bindings.{bound_to}
 use Rattle.rewriting.proofs.Branches.{branch_test, branch_reads, test_reads}
 use Rattle.rewriting.proofs.Choices.{if_cases, option_cases}
 use Rattle.advance_step.proofs.LeftParts.{both_cases, scale_cases, let_cases}
@@ -58,9 +57,9 @@ left_live d (After m c) g env f j a b =
     (λ t. moved_only d c (left_of d c g env (f +ℤ pos n) (j - n)) g env _ _ (f +ℤ pos n) a b _ _ _ _ (into_frame f j n (le_of n j t)) (into_day a j n (le_of n j t)) (into_day b j n (le_of n j t)) (left_live d c g env (f +ℤ pos n) (j - n) a b))
     (λ t. same_only _ _ (delayed_live d (n - suc j) c g env (f +ℤ pos (suc j)) a b ∙ live_moved d c g env _ _ _ _ _ _ (rest_frame f j n (lt_of n j t)) (rest_day a j n (lt_of n j t)) (rest_day b j n (lt_of n j t))))
 left_live d (Let e c) g env f j a b =
-    let_cases (λ l. OnlyIf (live d l g env (f +ℤ pos (suc j)) a b) (live d c (bound_to d e g env f ∷ g) env f (pos (suc j) +ℤ a) (pos (suc j) +ℤ b))) (shifted (negsuc j) e) (left_of d c (bound_to d e g env f ∷ g) env f j)
+    let_cases (λ l. OnlyIf (live d l g env (f +ℤ pos (suc j)) a b) (live d c (entry_of d e g env f ∷ g) env f (pos (suc j) +ℤ a) (pos (suc j) +ℤ b))) (shifted (negsuc j) e) (left_of d c (entry_of d e g env f ∷ g) env f j)
     (λ _. never _)
-    (subst (λ (entry : Entry). OnlyIf (live d (left_of d c (bound_to d e g env f ∷ g) env f j) (entry ∷ g) env (f +ℤ pos (suc j)) a b) (live d c (bound_to d e g env f ∷ g) env f (pos (suc j) +ℤ a) (pos (suc j) +ℤ b))) (sym (bound_back d e g env f j)) (left_live d c (bound_to d e g env f ∷ g) env f j a b))
+    (subst (λ (entry : Entry). OnlyIf (live d (left_of d c (entry_of d e g env f ∷ g) env f j) (entry ∷ g) env (f +ℤ pos (suc j)) a b) (live d c (entry_of d e g env f ∷ g) env f (pos (suc j) +ℤ a) (pos (suc j) +ℤ b))) (sym (bound_back d e g env f j)) (left_live d c (entry_of d e g env f ∷ g) env f j a b))
 left_live d (Within e m x y) g env f j a b =
     let n = count_of m in
     let hit : ℕ → Bool = λ k. live d x g env (f +ℤ pos k) (pos (suc j) +ℤ a -ℤ pos k) (pos (suc j) +ℤ b -ℤ pos k) in
@@ -148,12 +147,12 @@ left_reads d (After m c) g bs env f j a b =
     (λ t. moved_among d c (left_of d c g env (f +ℤ pos n) (j - n)) g bs env _ _ (f +ℤ pos n) a (pos b) _ _ _ _ (into_frame f j n (le_of n j t)) (into_day a j n (le_of n j t)) (into_day (pos b) j n (le_of n j t)) (left_reads d c g bs env (f +ℤ pos n) (j - n) a b))
     (λ t. among_same _ _ (delayed_reads d (n - suc j) c g bs env (f +ℤ pos (suc j)) a (pos b) ∙ reads_moved d c g bs env _ _ _ _ _ _ (rest_frame f j n (lt_of n j t)) (rest_day a j n (lt_of n j t)) (rest_day (pos b) j n (lt_of n j t))))
 left_reads d (Let e c) g bs env f j a b =
-    let was = bound_to d e g env f in
+    let was = entry_of d e g env f in
     let places = reads_of d e g bs env f in
     let here : reads_of d (shifted (negsuc j) e) g bs env (f +ℤ pos (suc j)) ≡ places = reads-shifted d e (negsuc j) g bs env (f +ℤ pos (suc j)) ∙ ap (reads_of d e g bs env) (omega (arith, ints)) in
     let_cases (ReadsLeft d (Let e c) g bs env f j a b) (shifted (negsuc j) e) (left_of d c (was ∷ g) env f j)
     (λ _. among_none _)
-    (subst (λ (ps : List Place). AreAmong (reads_of_contract d (left_of d c (was ∷ g) env f j) (bound_to d (shifted (negsuc j) e) g env (f +ℤ pos (suc j)) ∷ g) (ps ∷ bs) env (f +ℤ pos (suc j)) a (pos b)) (reads_of_contract d c (was ∷ g) (places ∷ bs) env f (pos (suc j) +ℤ a) (pos (suc j) +ℤ pos b))) (sym here)
+    (subst (λ (ps : List Place). AreAmong (reads_of_contract d (left_of d c (was ∷ g) env f j) (entry_of d (shifted (negsuc j) e) g env (f +ℤ pos (suc j)) ∷ g) (ps ∷ bs) env (f +ℤ pos (suc j)) a (pos b)) (reads_of_contract d c (was ∷ g) (places ∷ bs) env f (pos (suc j) +ℤ a) (pos (suc j) +ℤ pos b))) (sym here)
     (subst (λ (entry : Entry). AreAmong (reads_of_contract d (left_of d c (was ∷ g) env f j) (entry ∷ g) (places ∷ bs) env (f +ℤ pos (suc j)) a (pos b)) (reads_of_contract d c (was ∷ g) (places ∷ bs) env f (pos (suc j) +ℤ a) (pos (suc j) +ℤ pos b))) (sym (bound_back d e g env f j))
     (left_reads d c (was ∷ g) (places ∷ bs) env f j a b)))
 left_reads d (Within e m x y) g bs env f j a b =

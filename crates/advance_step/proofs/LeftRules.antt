@@ -5,7 +5,7 @@ use Rattle.term_core.specs.declared.terms.Days.{Days}
 use Rattle.term_core.specs.declared.terms.Days.TheVariants.{Num as Count}
 use Rattle.term_core.specs.Terms.{Expression}
 use Rattle.term_core.specs.Terms.{Contract, Zero, Pay, Both, Scale, After, Let, Within}
-use Rattle.term_core.specs.Values.{first_true}
+use Rattle.term_core.specs.Values.{first_true, entry_of}
 use Rattle.term_core.specs.Flows.{count_of}
 use Rattle.term_core.specs.Shifts.{shifted}
 use Rattle.term_core.specs.Bounds.{Interval, Range, interval_of}
@@ -17,7 +17,6 @@ use Rattle.interval_check.proofs.NarrowerFacts.{stays_tight, narrower_let}
 use Rattle.interval_check.proofs.RewritingContracts.{rewritten_contract_replaces, parts_stand_for_themselves}
 use Rattle.interval_check.proofs.StandingFacts.{contract_parts_replace}
 use Rattle.advance_step.specs.WhatIsLeft.{left_of, delayed}
-use Rattle.rewriting.specs.Bindings.{bound_to}
 use Rattle.rewriting.proofs.Choices.{if_cases, option_cases}
 use Rattle.advance_step.proofs.LeftParts.{both_cases, scale_cases, let_cases}
 use Rattle.rewriting.proofs.LookFacts.{Look}
@@ -76,11 +75,11 @@ left_replaces d (After m c) es env f j g limits ordered h =
     (λ _. delayed_replaces d limits (n - suc j) m c g ordered h)
 left_replaces d (Let e c) es env f j g limits ordered h =
     let e' = shifted (negsuc j) e in
-    let c' = left_of d c (bound_to d e es env f ∷ es) env f j in
+    let c' = left_of d c (entry_of d e es env f ∷ es) env f j in
     let bound : MeetsRules d e g = record { sorts = h.sorts.0; scales = h.scales.0; bounds = h.bounds.0 } in
     let p = shifted_replaces d limits e (negsuc j) g ordered bound in
     let inner = narrower_let d e g g ordered (stays_tight d limits e g g ordered h.bounds.0).inside in
-    let q = left_replaces d c (bound_to d e es env f ∷ es) env f j (range_of d e g ∷ g) limits inner (record { sorts = h.sorts.1; scales = h.scales.1; bounds = h.bounds.1 }) in
+    let q = left_replaces d c (entry_of d e es env f ∷ es) env f j (range_of d e g ∷ g) limits inner (record { sorts = h.sorts.1; scales = h.scales.1; bounds = h.bounds.1 }) in
     let_cases (λ l. ReplacesContract d l (Let e c) g) e' c'
     (λ _. (contract_parts_replace d g).0 (Let e c))
     (rewritten_contract_replaces d (Let e c) (Let e' c') g limits ordered h (inr (e', c', refl, by_whole d e e' g p, by_whole_in d c c' (range_of d e g ∷ g) q)))

@@ -4,13 +4,12 @@ use Rattle.std.proofs.lemmas.Int.{ints}
 use Rattle.term_core.specs.declared.terms.Days.TheVariants.{Num as Count}
 use Rattle.term_core.specs.Terms.{Expression, Lit, Yes, Var, Obs, Neg, Num, Cmp, Not, Logic, Cond, Widen, Round, Div, Acc}
 use Rattle.term_core.specs.Terms.{Contract, Zero, Pay, Both, Scale, After, Let, Within}
-use Rattle.term_core.specs.Values.{first_true}
+use Rattle.term_core.specs.Values.{first_true, entry_of}
 use Rattle.term_core.specs.Flows.{count_of}
 use Rattle.term_core.specs.Shifts.{shifted}
 use Rattle.term_core.specs.Sizes.{reach, past, past_of_contract, days_before, nodes, nodes_of_contract}
 use Rattle.term_core.proofs.FlowFacts.{first_within}
 use Rattle.advance_step.specs.WhatIsLeft.{left_of, delayed, both_left, scale_left, let_left}
-use Rattle.rewriting.specs.Bindings.{bound_to}
 use Rattle.rewriting.proofs.Choices.{if_cases, option_cases}
 use Rattle.advance_step.proofs.LeftParts.{both_cases, scale_cases, let_cases}
 use Rattle.advance_step.proofs.LeftFlowFacts.{le_of, lt_of, test_at}
@@ -26,7 +25,7 @@ gone d (After m c) g env f j h =
     if_cases (λ l. l ≡ Zero) (nat_le n j) (left_of d c g env (f +ℤ pos n) (j - n)) (delayed (n - suc j) c)
     (λ t. gone d c g env (f +ℤ pos n) (j - n) (omega (arith, h)))
     (λ t. absurd (omega (arith, h, lt_of n j t)))
-gone d (Let e c) g env f j h = ap (let_left (shifted (negsuc j) e)) (gone d c (bound_to d e g env f ∷ g) env f j h)
+gone d (Let e c) g env f j h = ap (let_left (shifted (negsuc j) e)) (gone d c (entry_of d e g env f ∷ g) env f j h)
 gone d (Within e m a b) g env f j h =
     let n = count_of m in
     option_cases (λ l. l ≡ Zero) (first_true d e g env f (min n j)) (λ k. left_of d a g env (f +ℤ pos k) (j - k)) (if nat_le n j then left_of d b g env (f +ℤ pos n) (j - n) else Within e (Count (n - suc j)) a b)
@@ -91,7 +90,7 @@ near d (After m c) g env f j =
     if_cases (Less (n + reach c) j) (nat_le n j) (left_of d c g env (f +ℤ pos n) (j - n)) (delayed (n - suc j) c)
     (λ t. less_far (reach c) (n + reach c) j (j - n) (left_of d c g env (f +ℤ pos n) (j - n)) (omega (arith, le_of n j t)) (near d c g env (f +ℤ pos n) (j - n)))
     (λ t. inr (omega (arith, delayed_reach (n - suc j) c, lt_of n j t)))
-near d (Let e c) g env f j = let_near (reach c) j (shifted (negsuc j) e) (left_of d c (bound_to d e g env f ∷ g) env f j) (near d c (bound_to d e g env f ∷ g) env f j)
+near d (Let e c) g env f j = let_near (reach c) j (shifted (negsuc j) e) (left_of d c (entry_of d e g env f ∷ g) env f j) (near d c (entry_of d e g env f ∷ g) env f j)
 near d (Within e m a b) g env f j =
     let n = count_of m in
     let far = n + max (reach a) (reach b) in
@@ -148,8 +147,8 @@ past_left d (After m c) g env f j =
     (λ t. omega (arith, le_of n j t, past_left d c g env (f +ℤ pos n) (j - n))) (λ t. omega (arith, delayed_past (n - suc j) c))
 past_left d (Let e c) g env f j =
     let p = past_back e j in
-    let q = past_left d c (bound_to d e g env f ∷ g) env f j in
-    let_cases (λ l. past_of_contract l ≤ max (past e) (past_of_contract c) + suc j) (shifted (negsuc j) e) (left_of d c (bound_to d e g env f ∷ g) env f j) (λ _. omega arith) (omega (arith, p, q))
+    let q = past_left d c (entry_of d e g env f ∷ g) env f j in
+    let_cases (λ l. past_of_contract l ≤ max (past e) (past_of_contract c) + suc j) (shifted (negsuc j) e) (left_of d c (entry_of d e g env f ∷ g) env f j) (λ _. omega arith) (omega (arith, p, q))
 past_left d (Within e m a b) g env f j =
     let n = count_of m in
     let most = max (past e) (max (past_of_contract a) (past_of_contract b)) + suc j in
@@ -195,8 +194,8 @@ nodes_left d (After m c) g env f j =
     if_cases (λ l. nodes_of_contract l ≤ nodes_of_contract c + 1) (nat_le n j) (left_of d c g env (f +ℤ pos n) (j - n)) (delayed (n - suc j) c)
     (λ t. omega (arith, nodes_left d c g env (f +ℤ pos n) (j - n))) (λ t. delayed_nodes (n - suc j) c)
 nodes_left d (Let e c) g env f j =
-    let q = nodes_left d c (bound_to d e g env f ∷ g) env f j in
-    let_cases (λ l. nodes_of_contract l ≤ nodes_of_contract (Let e c)) (shifted (negsuc j) e) (left_of d c (bound_to d e g env f ∷ g) env f j) (λ _. omega arith) (omega (arith, nodes_back e (negsuc j), q))
+    let q = nodes_left d c (entry_of d e g env f ∷ g) env f j in
+    let_cases (λ l. nodes_of_contract l ≤ nodes_of_contract (Let e c)) (shifted (negsuc j) e) (left_of d c (entry_of d e g env f ∷ g) env f j) (λ _. omega arith) (omega (arith, nodes_back e (negsuc j), q))
 nodes_left d (Within e m a b) g env f j =
     let n = count_of m in
     let most = nodes_of_contract (Within e m a b) in

@@ -7,7 +7,7 @@ use Rattle.term_core.specs.declared.terms.Days.TheVariants.{Num as Count}
 use Rattle.term_core.specs.Terms.{Expression, Lit, Yes, Var, Obs, Neg, Num, Cmp, Not, Logic, Cond, Widen, Round, Div, Acc}
 use Rattle.term_core.specs.Terms.{Contract, Zero, Pay, Both, Scale, After, Let, Within}
 use Rattle.term_core.specs.Environments.{Environment}
-use Rattle.term_core.specs.Values.{Entry, first_true}
+use Rattle.term_core.specs.Values.{Entry, first_true, entry_of}
 use Rattle.term_core.specs.Flows.{count_of}
 use Rattle.term_core.specs.Shifts.{shifted}
 use Rattle.term_core.specs.Sizes.{height, nodes, past, work, height_of_contract, nodes_of_contract, past_of_contract, work_of_contract, reach}
@@ -18,7 +18,6 @@ use Rattle.interval_check.specs.Nodes.{EachNode, EachContractNode, range_of, ran
 use Rattle.simplify.specs.TurningContracts.{is_nothing}
 use Rattle.simplify.proofs.TurnSmall.{anywhere}
 use Rattle.advance_step.specs.WhatIsLeft.{both_left, scale_left, let_left, left_of, delayed}
-use Rattle.rewriting.specs.Bindings.{bound_to}
 use Rattle.rewriting.proofs.Choices.{if_cases, option_cases}
 use Rattle.advance_step.proofs.LeftSizes.{near, past_back, past_left, nodes_left}
 use Rattle.specialise.specs.Specialising.{specialised_in}
@@ -185,12 +184,12 @@ left_small d (After m c) es env f j g h r =
     (λ _ _. left_small d c es env (f +ℤ pos n) (j - n) g h r.0) (λ _ root. delayed_small d (n - suc j) c h (anywhere_in d c g h r.0) root)
     (left_node d (After m c) es env f j r.1)
 left_small d (Let e c) es env f j g h r =
-    let c' = left_of d c (bound_to d e es env f ∷ es) env f j in
+    let c' = left_of d c (entry_of d e es env f ∷ es) env f j in
     let e' = shifted (negsuc j) e in
     let root = left_node d (Let e c) es env f j r.2 in
     let l = contract_limits (Let e c) r.2 in
     if_cases (λ k. EachContractNode Small Once d k h) (is_nothing c') Zero (Let e' c') (λ _. refl)
-    (λ z. (shifted_small d e j g h (omega (arith, l.both, in_reach d c (bound_to d e es env f ∷ es) env f j z)) r.0, left_small d c (bound_to d e es env f ∷ es) env f j (range_of d e g ∷ g) (range_of d e' h ∷ h) r.1, subst Root (let_left_is e' c' z) root))
+    (λ z. (shifted_small d e j g h (omega (arith, l.both, in_reach d c (entry_of d e es env f ∷ es) env f j z)) r.0, left_small d c (entry_of d e es env f ∷ es) env f j (range_of d e g ∷ g) (range_of d e' h ∷ h) r.1, subst Root (let_left_is e' c' z) root))
 left_small d (Within e m a b) es env f j g h r =
     let n = count_of m in
     let P : Contract → Type 0 = λ k. Root k → EachContractNode Small Once d k h in

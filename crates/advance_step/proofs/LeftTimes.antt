@@ -4,7 +4,7 @@ use Rattle.std.proofs.lemmas.Int.{ints}
 use Rattle.term_core.specs.declared.terms.Days.TheVariants.{Num as Count}
 use Rattle.term_core.specs.Terms.{Expression, Lit, Yes, Var, Obs, Neg, Num, Cmp, Not, Logic, Cond, Widen, Round, Div, Acc}
 use Rattle.term_core.specs.Terms.{Contract, Zero, Pay, Both, Scale, After, Let, Within}
-use Rattle.term_core.specs.Values.{first_true}
+use Rattle.term_core.specs.Values.{first_true, entry_of}
 use Rattle.term_core.specs.Flows.{count_of}
 use Rattle.term_core.specs.Shifts.{shifted}
 use Rattle.term_core.specs.Times.{AtMost, Typed, TypedContract, raised_by, lowered_by}
@@ -12,7 +12,6 @@ use Rattle.term_core.proofs.FlowFacts.{first_within}
 use Rattle.time_types.specs.TypingLaws.{AreNoLater}
 use Rattle.time_types.proofs.TypingFacts.{expressions_rise, contracts_fall}
 use Rattle.advance_step.specs.WhatIsLeft.{left_of, delayed}
-use Rattle.rewriting.specs.Bindings.{bound_to}
 use Rattle.rewriting.proofs.Choices.{if_cases, option_cases}
 use Rattle.advance_step.proofs.LeftParts.{both_cases, scale_cases, let_cases}
 use Rattle.advance_step.proofs.LeftFlowFacts.{le_of, lt_of, test_at}
@@ -91,8 +90,8 @@ left_typed d (After m c) es env f j g t h =
     delayed_typed (n - suc j) c j n g t (omega (arith, lt)) h)
 left_typed d (Let e c) es env f j g t h =
     let s : ℤ = h.0 in
-    let_cases (λ l. TypedContract (lowered_by (suc j) g) l (t -ℤ pos (suc j))) (shifted (negsuc j) e) (left_of d c (bound_to d e es env f ∷ es) env f j) (λ _. tt)
-    (s -ℤ pos (suc j), typed_back e j g s h.1, left_typed d c (bound_to d e es env f ∷ es) env f j (s ∷ g) t h.2)
+    let_cases (λ l. TypedContract (lowered_by (suc j) g) l (t -ℤ pos (suc j))) (shifted (negsuc j) e) (left_of d c (entry_of d e es env f ∷ es) env f j) (λ _. tt)
+    (s -ℤ pos (suc j), typed_back e j g s h.1, left_typed d c (entry_of d e es env f ∷ es) env f j (s ∷ g) t h.2)
 left_typed d (Within e m a b) es env f j g t h =
     let n = count_of m in
     let typed : Contract → Type 0 = λ l. TypedContract (lowered_by (suc j) g) l (t -ℤ pos (suc j)) in

@@ -4,10 +4,9 @@ use Rattle.std.proofs.lemmas.Int.{ints, by_lt_z}
 use Rattle.term_core.specs.Declarations.{Declarations}
 use Rattle.term_core.specs.Terms.{Contract, Zero, Pay, Both, Scale, After, Let, Within}
 use Rattle.term_core.specs.Environments.{Environment, Place}
-use Rattle.term_core.specs.Values.{Entry, first_true}
+use Rattle.term_core.specs.Values.{Entry, first_true, entry_of}
 use Rattle.term_core.specs.Flows.{count_of}
 use Rattle.term_core.specs.Reads.{reads_of, reads_of_contract, live, upto, tested}
-use Rattle.rewriting.specs.Bindings.{bound_to}
 use Rattle.rewriting.specs.Keeping.{AreAmong}
 use Rattle.rewriting.proofs.Among.{among_none, among_same, among_both, among_if, among_unless, among_branches}
 use Rattle.simplify.proofs.RuleReads.{OnlyIf, below_is, not_below}
@@ -37,7 +36,7 @@ live_longer d (Both x y) g env f s a b le = either _ _ _ _ (live_longer d x g en
 live_longer d (Scale e c) g env f s a b le = live_longer d c g env f s a b le
 live_longer d (After m c) g env f s a b le =
     live_longer d c g env (f +ℤ pos (count_of m)) (s -ℤ pos (count_of m)) (a -ℤ pos (count_of m)) (b -ℤ pos (count_of m)) (omega (arith, ints))
-live_longer d (Let e c) g env f s a b le = live_longer d c (bound_to d e g env f ∷ g) env f s a b le
+live_longer d (Let e c) g env f s a b le = live_longer d c (entry_of d e g env f ∷ g) env f s a b le
 live_longer d (Within e m x y) g env f s a b le =
     branch_only (first_true d e g env f (count_of m)) _ _ _ _ (λ k. live_longer d x g env (f +ℤ pos k) (s -ℤ pos k) (a -ℤ pos k) (b -ℤ pos k) (omega (arith, ints))) (live_longer d y g env (f +ℤ pos (count_of m)) (s -ℤ pos (count_of m)) (a -ℤ pos (count_of m)) (b -ℤ pos (count_of m)) (omega (arith, ints)))
 
@@ -49,7 +48,7 @@ reads_longer d (Scale e c) g bs env f s a b le =
     among_both _ _ _ _ (reads_longer d c g bs env f s a b le) (among_if _ _ _ _ (live_longer d c g env f s a b le) (among_same (reads_of d e g bs env f) _ refl))
 reads_longer d (After m c) g bs env f s a b le =
     reads_longer d c g bs env (f +ℤ pos (count_of m)) (s -ℤ pos (count_of m)) (a -ℤ pos (count_of m)) (b -ℤ pos (count_of m)) (omega (arith, ints))
-reads_longer d (Let e c) g bs env f s a b le = reads_longer d c (bound_to d e g env f ∷ g) (reads_of d e g bs env f ∷ bs) env f s a b le
+reads_longer d (Let e c) g bs env f s a b le = reads_longer d c (entry_of d e g env f ∷ g) (reads_of d e g bs env f ∷ bs) env f s a b le
 reads_longer d (Within e m x y) g bs env f s a b le =
     let n = count_of m in
     let first = first_true d e g env f n in

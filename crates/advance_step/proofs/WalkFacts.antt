@@ -8,7 +8,7 @@ use Rattle.term_core.specs.declared.values.Missing.{Missing as MissingPlace}
 use Rattle.term_core.specs.declared.terms.Days.TheVariants.{Num as Count}
 use Rattle.term_core.specs.Terms.{Expression, Contract, Both, Scale, After, Let, Within}
 use Rattle.term_core.specs.Environments.{Environment, Place, Extends}
-use Rattle.term_core.specs.Values.{Entry, first_true}
+use Rattle.term_core.specs.Values.{Entry, first_true, entry_of}
 use Rattle.term_core.specs.Reads.{reads_of, reads_of_contract, upto, tested}
 use Rattle.term_core.specs.Shifts.{shifted}
 use Rattle.expr_eval.specs.declared.scratch.Binding.{Binding}
@@ -17,7 +17,6 @@ use Rattle.expr_eval.specs.Trials.{DayOrMissing, IsFirstTrue, answer_of, first_t
 use Rattle.flow_eval.specs.declared.faults.FlowErr.{FlowErr}
 use Rattle.flow_eval.specs.declared.faults.FlowErr.TheVariants.{Missing, NoMemory}
 use Rattle.flow_eval.specs.Faults.{lacks_place}
-use Rattle.rewriting.specs.Bindings.{bound_to}
 use Rattle.advance_step.specs.WhatIsLeft.{delayed, left_of, let_left}
 use Rattle.advance_step.specs.CarryingWalk.{Enters, IsLeft, IsLeftEverywhere, LacksRead, NamesUnfixedRead}
 use Rattle.advance_step.proofs.LaterFirst.{more_days}
@@ -83,7 +82,7 @@ bound_is_left d F es es' b e e' k k' k'' f f' f'' c c' l r j hk hk' he hf hf' hc
     let entered : Enters d x es F f b = subst (λ (y : Expression). Enters d y es F f b) (ap₂ shifted hk he) (subst (λ (h : ℤ). Enters d (shifted k' e') es F h b) hf enters) in
     let here = entered g g ps env stand stand ext in
     let body : IsLeft d c (b ∷ es) F f j l = subst (λ (y : Contract). IsLeft d y (b ∷ es) F f j l) hc (subst (λ (h : ℤ). IsLeft d c' (b ∷ es) F h j l) hf' (subst (λ (bs : List Binding). IsLeft d c' bs F f'' j l) hb left)) in
-    is ∙ ap (λ (i : ℤ). let_left (shifted (negsuc j) (shifted i e)) l) hk' ∙ ap (λ (y : Contract). let_left (shifted (negsuc j) x) y) (body (bound_to d x g env f ∷ g) (reads_of d x g ps F f ∷ ps) env here ext)
+    is ∙ ap (λ (i : ℤ). let_left (shifted (negsuc j) (shifted i e)) l) hk' ∙ ap (λ (y : Contract). let_left (shifted (negsuc j) x) y) (body (entry_of d x g env f ∷ g) (reads_of d x g ps F f ∷ ps) env here ext)
 
 pub bound_lacks : (d : Declarations) (F : Environment) (es es' : List Binding) (b : Binding) (e e' : Expression) (k k' : ℤ) (f f' f'' : ℤ) (c c' : Contract) (j : ℕ) (y : FlowErr)
     → k' ≡ k → e' ≡ e → f' ≡ f → f'' ≡ f → c' ≡ c → es' ≡ b ∷ es
@@ -93,7 +92,7 @@ bound_lacks d F es es' b e e' k k' f f' f'' c c' j (Missing l t) hk he hf hf' hc
     let entered : Enters d x es F f b = subst (λ (y : Expression). Enters d y es F f b) (ap₂ shifted hk he) (subst (λ (h : ℤ). Enters d (shifted k' e') es F h b) hf enters) in
     let here = entered g g ps F stand stand (λ q w h. h) in
     let body : LacksRead d c (b ∷ es) F f j (Missing l t) = subst (λ (y : Contract). LacksRead d y (b ∷ es) F f j (Missing l t)) hc (subst (λ (h : ℤ). LacksRead d c' (b ∷ es) F h j (Missing l t)) hf' (subst (λ (bs : List Binding). LacksRead d c' bs F f'' j (Missing l t)) hb lacks)) in
-    let r = body (bound_to d x g F f ∷ g) (reads_of d x g ps F f ∷ ps) here in
+    let r = body (entry_of d x g F f ∷ g) (reads_of d x g ps F f ∷ ps) here in
     record { read = r.read; unfixed = r.unfixed }
 bound_lacks d F es es' b e e' k k' f f' f'' c c' j NoMemory hk he hf hf' hc hb enters lacks = tt
 

@@ -10,7 +10,7 @@ use Rattle.term_core.specs.declared.shared.SharedContr.TheVariants.{Zero as Zero
 use Rattle.term_core.specs.Terms.{expression}
 use Rattle.term_core.specs.Terms.{Expression, Contract}
 use Rattle.term_core.specs.Environments.{Environment, Place, Extends}
-use Rattle.term_core.specs.Values.{Entry}
+use Rattle.term_core.specs.Values.{Entry, entry_of}
 use Rattle.term_core.specs.Reads.{reads_of, reads_of_contract, is_fixed}
 use Rattle.term_core.specs.Shifts.{shifted}
 use Rattle.term_core.specs.SharedTerms.{HasOffsets}
@@ -21,7 +21,6 @@ use Rattle.expr_eval.specs.Evaluable.{MayEvaluate}
 use Rattle.expr_eval.specs.Answers.{entry_from, SuitsBinding}
 use Rattle.flow_eval.specs.declared.faults.FlowErr.{FlowErr}
 use Rattle.flow_eval.specs.declared.faults.FlowErr.TheVariants.{Missing, NoMemory}
-use Rattle.rewriting.specs.Bindings.{bound_to}
 use Rattle.advance_step.specs.declared.course.Course.{Course}
 use Rattle.advance_step.specs.WhatIsLeft.{left_of}
 
@@ -59,7 +58,7 @@ abbrev pub Enters : Declarations → Expression → List Binding → Environment
 Enters d e bs fixings f b =
     (g known : List Entry) (ps : List (List Place)) (env : Environment)
     → StandFor fixings bs g ps → StandFor fixings bs known ps → Extends fixings env
-    → StandFor fixings (b ∷ bs) (bound_to d e g env f ∷ g) (reads_of d e known ps fixings f ∷ ps)
+    → StandFor fixings (b ∷ bs) (entry_of d e g env f ∷ g) (reads_of d e known ps fixings f ∷ ps)
 
 -- it is made of an answer that suits the body of the `let`
 pub record IsEntry (d : Declarations) (e : Expression) (bs : List Binding) (b : Binding) : Type 0 where

@@ -1,12 +1,11 @@
 -- What is left of a contract after some days, on the path that an environment chooses: what is paid before is gone, what
 -- stands later stands sooner, and what is read at the start keeps its day.
-use Rattle.rewriting.specs.Bindings.{bound_to}
 use Rattle.std.specs.Prelude.{ℕ, zero, suc, ℤ, pos, negsuc, ◌+ℤ◌, ◌-◌, min, if◌then◌else◌, nat_le, List, ◌∷◌, Some, None}
 use Rattle.term_core.specs.Declarations.{Declarations}
 use Rattle.term_core.specs.declared.terms.Days.TheVariants.{Num as Count}
 use Rattle.term_core.specs.Terms.{Expression, Contract, Zero, Pay, Both, Scale, After, Let, Within}
 use Rattle.term_core.specs.Environments.{Environment}
-use Rattle.term_core.specs.Values.{Entry, first_true}
+use Rattle.term_core.specs.Values.{Entry, first_true, entry_of}
 use Rattle.term_core.specs.Flows.{count_of}
 use Rattle.term_core.specs.Shifts.{shifted}
 use Rattle.simplify.specs.TurningContracts.{is_nothing}
@@ -35,7 +34,7 @@ left_of d (Both a b) g env f j = both_left (left_of d a g env f j) (left_of d b 
 left_of d (Scale e c) g env f j = scale_left (shifted (negsuc j) e) (left_of d c g env f j)
 left_of d (After m c) g env f j =
     if nat_le (count_of m) j then left_of d c g env (f +ℤ pos (count_of m)) (j - count_of m) else delayed (count_of m - suc j) c
-left_of d (Let e c) g env f j = let_left (shifted (negsuc j) e) (left_of d c (bound_to d e g env f ∷ g) env f j)
+left_of d (Let e c) g env f j = let_left (shifted (negsuc j) e) (left_of d c (entry_of d e g env f ∷ g) env f j)
 left_of d (Within e m a b) g env f j =
     elim (first_true d e g env f (min (count_of m) j)) [
       | Some k ↦ left_of d a g env (f +ℤ pos k) (j - k)

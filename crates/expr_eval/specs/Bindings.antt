@@ -1,4 +1,4 @@
--- The entries of a names, innermost first: those of accumulators before those of the scratch.
+-- The entries of bindings, innermost first: those of accumulators before those of the scratch.
 use Rattle.std.specs.Prelude.{List, ◌∷◌}
 use Rattle.expr_eval.specs.declared.scratch.Binding.{Binding}
 use Rattle.expr_eval.specs.declared.bindings.Bindings.{Bindings}

@@ -1,4 +1,4 @@
--- The evaluator by the program's values: what it answers of an expression on a day, over fixings and among the names of a
+-- The evaluator by the program's values: what it answers of an expression on a day, over fixings and among bound
 -- names, and what it needs so that numbers fit 128 bits and days 64.
 use Rattle.std.specs.Prelude.{ℕ, ℤ, pos, ◌+ℤ◌, List}
 use Rattle.term_core.specs.Declarations.{declarations}

@@ -8,8 +8,8 @@ ghost use Rattle.expr_eval.specs.Bindings.{bindings};
 use crate::scratch::{Binding, Scratch};
 use term_core::Kind;
 
-/// The names that are bound around an expression, innermost first: those of accumulators lie on the stack, round those
-/// of a scratch.
+/// The names that are bound around an expression, innermost first: those of accumulators lie on the stack, inside those
+/// of a scratch that is lent.
 #[derive(Clone, Copy)]
 pub enum Bindings<'a> {
     Lent {

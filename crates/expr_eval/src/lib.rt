@@ -11,12 +11,12 @@
 //! none.
 #![tactic(auto)]
 
+pub mod bindings;
 pub mod evaluation;
 mod heights;
 pub mod kinds;
 mod laws;
 pub mod operations;
-pub mod bindings;
 mod scratch;
 mod trials;
 mod values;

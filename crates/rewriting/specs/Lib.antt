@@ -1,7 +1,6 @@
 pub mod Measures
 pub mod Keeping
 pub mod Worth
-pub mod Bindings
 pub mod Substituting
 pub mod LawsNames
 pub mod LawsRules

@@ -6,11 +6,10 @@ use Rattle.term_core.specs.declared.values.Kind.TheVariants.{Truth as TruthKind}
 use Rattle.term_core.specs.Terms.{Contract, Zero, Pay, Both, Scale, After, Let, Within}
 use Rattle.term_core.specs.Environments.{Environment, Place}
 use Rattle.term_core.specs.Kinds.{kind_of}
-use Rattle.term_core.specs.Values.{Entry, kinds, kind_or, first_true}
+use Rattle.term_core.specs.Values.{Entry, kinds, kind_or, first_true, entry_of}
 use Rattle.term_core.specs.Flows.{count_of, amount_of}
 use Rattle.term_core.specs.Reads.{reads_of, reads_of_contract, live, upto, tested}
 use Rattle.interval_check.proofs.GuaranteeFacts.{rules_are_by_structure}
-use Rattle.rewriting.specs.Bindings.{bound_to}
 use Rattle.rewriting.proofs.Among.{among_none, among_same, among_both, among_if, then_among, among_steps, one_name_more, among_unless, among_branches}
 use Rattle.simplify.specs.Turning.{turned}
 use Rattle.simplify.specs.TurningContracts.{rule_in, turned_in}
@@ -58,7 +57,7 @@ turn_transfers d (Let e c) g env f a b m h s =
     let c' = turned_in d (kind_or (kind_of d e (kinds g)) ∷ kinds g) c in
     let x' = Let (turned d (kinds g) e) c' in
     transfers_then d g env x' f a b (live d (Let e c) g env f a b) (rule_reads_in d g [] env x' tt)
-    (subst (λ (entry : Entry). OnlyIf (live d c' (entry ∷ g) env f a b) (live d (Let e c) g env f a b)) (sym (same_entry d e g env f m h s.0)) (turn_transfers d c (bound_to d e g env f ∷ g) env f a b m (entry_has d e g env f m h s.0) s.1))
+    (subst (λ (entry : Entry). OnlyIf (live d c' (entry ∷ g) env f a b) (live d (Let e c) g env f a b)) (sym (same_entry d e g env f m h s.0)) (turn_transfers d c (entry_of d e g env f ∷ g) env f a b m (entry_has d e g env f m h s.0) s.1))
 turn_transfers d (Within e n x y) g env f a b m h s =
     let c = count_of n in
     let e' = turned d (kinds g) e in
@@ -93,7 +92,7 @@ contract_turn_reads d (Let e c) g bs cs env f a b m h s less =
     let ps = reads_of d e' g bs env f in
     reads_then d g bs env (Let e' c') f a b (reads_of_contract d (Let e c) g cs env f a b) (rule_reads_in d g bs env (Let e' c') tt)
     (subst (λ (entry : Entry). AreAmong (reads_of_contract d c' (entry ∷ g) (ps ∷ bs) env f a b) (reads_of_contract d (Let e c) g cs env f a b)) (sym (same_entry d e g env f m h s.0))
-    (contract_turn_reads d c (bound_to d e g env f ∷ g) (ps ∷ bs) (reads_of d e g cs env f ∷ cs) env f a b m (entry_has d e g env f m h s.0) s.1 (one_name_more ps (reads_of d e g cs env f) bs cs (turn_reads d e g bs cs env f s.0.0 m h s.0.1 less) less)))
+    (contract_turn_reads d c (entry_of d e g env f ∷ g) (ps ∷ bs) (reads_of d e g cs env f ∷ cs) env f a b m (entry_has d e g env f m h s.0) s.1 (one_name_more ps (reads_of d e g cs env f) bs cs (turn_reads d e g bs cs env f s.0.0 m h s.0.1 less) less)))
 contract_turn_reads d (Within e n x y) g bs cs env f a b m h s less =
     let c = count_of n in
     let e' = turned d (kinds g) e in

@@ -13,7 +13,7 @@ use Rattle.term_core.specs.Terms.{Expression, Lit, Yes, Var, Obs, Neg, Num, Cmp,
 use Rattle.term_core.specs.Terms.{Contract, Zero, Pay, Both, Scale, After, Let, Within}
 use Rattle.term_core.specs.Environments.{Environment}
 use Rattle.term_core.specs.Kinds.{kind_of}
-use Rattle.term_core.specs.Values.{Entry, kinds, num, value_of, first_of, first_true}
+use Rattle.term_core.specs.Values.{Entry, kinds, num, value_of, first_of, first_true, entry_of}
 use Rattle.term_core.specs.Flows.{Flow, flow_of, count_of, scale_of_contract}
 use Rattle.term_core.specs.Redexes.{is_literal, is_zero_literal, uses_in_contract}
 use Rattle.term_core.proofs.FlowFacts.{one_zero}
@@ -21,7 +21,6 @@ use Rattle.term_core.proofs.AlikeFacts.{and_left, and_right}
 use Rattle.rewriting.specs.LawsNames.{HasKindOf, HasValueOf}
 use Rattle.rewriting.specs.Substituting.{substituted_in}
 use Rattle.rewriting.proofs.NameFlows.{scale_without, flow_without}
-use Rattle.rewriting.specs.Bindings.{bound_to}
 use Rattle.rewriting.proofs.Worth.{worth_zero, worth_is, worth_more}
 use Rattle.rewriting.proofs.Branches.{branch}
 use Rattle.simplify.specs.TurningContracts.{is_nothing, is_later, is_contract_redex, after_both, decided, made, rule_in}
@@ -70,7 +69,7 @@ zero_times : (x y : ℤ) → x ≡ pos 0 → x *ℤ y ≡ pos 0
 zero_times x y h = ap (λ (z : ℤ). z *ℤ y) h ∙ *ℤ_comm (pos 0) y ∙ *ℤ-zero y
 
 -- a literal that is bound to a name has its kind and its value
-pub literal_has_kind : (d : Declarations) (e : Expression) (g : List Entry) (env : Environment) (f : ℤ) → is_literal e ≡ true → HasKindOf d e (kinds (bound_to d e g env f ∷ g)) 0
+pub literal_has_kind : (d : Declarations) (e : Expression) (g : List Entry) (env : Environment) (f : ℤ) → is_literal e ≡ true → HasKindOf d e (kinds (entry_of d e g env f ∷ g)) 0
 literal_has_kind d (Lit m s) g env f h hs = refl
 literal_has_kind d (Yes b) g env f h hs = refl
 literal_has_kind d (Var back) g env f h hs = absurd (cc)
@@ -86,7 +85,7 @@ literal_has_kind d (Round mode s e) g env f h hs = absurd (cc)
 literal_has_kind d (Div mode s a b) g env f h hs = absurd (cc)
 literal_has_kind d (Acc body n first) g env f h hs = absurd (cc)
 
-pub literal_has_value : (d : Declarations) (e : Expression) (g : List Entry) (env : Environment) (f : ℤ) → is_literal e ≡ true → HasValueOf d e (bound_to d e g env f ∷ g) 0
+pub literal_has_value : (d : Declarations) (e : Expression) (g : List Entry) (env : Environment) (f : ℤ) → is_literal e ≡ true → HasValueOf d e (entry_of d e g env f ∷ g) 0
 literal_has_value d (Lit m s) g env f h hs other day = refl
 literal_has_value d (Yes b) g env f h hs other day = refl
 literal_has_value d (Var back) g env f h hs other day = absurd (cc)
@@ -163,14 +162,14 @@ module _ (d : Declarations) (g : List Entry) (env : Environment) where
   let_named : (e : Expression) (c : Contract) → is_literal e ≡ true → InPlace d g env (substituted_in 0 e c) (Let e c)
   let_named e c h =
       equal_in_place d g env (substituted_in 0 e c) (Let e c)
-      (scale_without d c 0 e (kinds (bound_to d e g env (pos 0) ∷ g)) (λ _. literal_has_kind d e g env (pos 0) h))
-      (λ f n w. flow_without d c 0 e (bound_to d e g env f ∷ g) env f n w (λ _. literal_has_kind d e g env f h) (λ _. literal_has_value d e g env f h))
+      (scale_without d c 0 e (kinds (entry_of d e g env (pos 0) ∷ g)) (λ _. literal_has_kind d e g env (pos 0) h))
+      (λ f n w. flow_without d c 0 e (entry_of d e g env f ∷ g) env f n w (λ _. literal_has_kind d e g env f h) (λ _. literal_has_value d e g env f h))
 
   let_unused : (e x : Expression) (c : Contract) → uses_in_contract 0 c ≡ false → InPlace d g env (substituted_in 0 x c) (Let e c)
   let_unused e x c h =
       equal_in_place d g env (substituted_in 0 x c) (Let e c)
-      (scale_without d c 0 x (kinds (bound_to d e g env (pos 0) ∷ g)) (λ u. absurd (cc (sym h ∙ u))))
-      (λ f n w. flow_without d c 0 x (bound_to d e g env f ∷ g) env f n w (λ u. absurd (cc (sym h ∙ u))) (λ u. absurd (cc (sym h ∙ u))))
+      (scale_without d c 0 x (kinds (entry_of d e g env (pos 0) ∷ g)) (λ u. absurd (cc (sym h ∙ u))))
+      (λ f n w. flow_without d c 0 x (entry_of d e g env f ∷ g) env f n w (λ u. absurd (cc (sym h ∙ u))) (λ u. absurd (cc (sym h ∙ u))))
 
   taken : (m : Days) (a b : Contract) → InPlace d g env a (Within (Yes true) m a b)
   taken m a b f n w =

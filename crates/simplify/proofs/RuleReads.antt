@@ -9,7 +9,7 @@ use Rattle.term_core.specs.Terms.{Expression, Lit, Yes, Var, Obs, Neg, Num, Cmp,
 use Rattle.term_core.specs.Terms.{Contract, Zero, Pay, Both, Scale, After, Let, Within}
 use Rattle.term_core.specs.Environments.{Environment, Place}
 use Rattle.term_core.specs.Kinds.{kind_of}
-use Rattle.term_core.specs.Values.{Entry, kinds, first_of, first_true}
+use Rattle.term_core.specs.Values.{Entry, kinds, first_of, first_true, entry_of}
 use Rattle.term_core.specs.Flows.{count_of}
 use Rattle.term_core.specs.Reads.{reads_of, reads_of_contract, live, upto, tested}
 use Rattle.term_core.specs.Redexes.{is_literal, uses_in_contract}
@@ -17,7 +17,6 @@ use Rattle.term_core.proofs.ContractReadFacts.{dead_before}
 use Rattle.rewriting.specs.LawsNames.{HasReadsOf}
 use Rattle.rewriting.specs.Substituting.{substituted_in}
 use Rattle.rewriting.proofs.NameReads.{live_without, contract_reads_without}
-use Rattle.rewriting.specs.Bindings.{bound_to}
 use Rattle.rewriting.proofs.Among.{among_none, among_same, among_left, among_right, then_among}
 use Rattle.rewriting.specs.Keeping.{AreAmong}
 use Rattle.rewriting.proofs.Branches.{branch_test, branch_reads}
@@ -65,7 +64,7 @@ reads_before d (Pay x p q) g bs env f a b h = refl
 reads_before d (Both x y) g bs env f a b h = nothing_joined _ _ (reads_before d x g bs env f a b h) (reads_before d y g bs env f a b h)
 reads_before d (Scale e c) g bs env f a b h = nothing_joined _ _ (reads_before d c g bs env f a b h) (dead_factor (live d c g env f a b) (reads_of d e g bs env f) (dead_before d c g env f a b h))
 reads_before d (After m c) g bs env f a b h = reads_before d c g bs env (f +ℤ pos (count_of m)) (a -ℤ pos (count_of m)) (b -ℤ pos (count_of m)) (omega (arith, ints))
-reads_before d (Let e c) g bs env f a b h = reads_before d c (bound_to d e g env f ∷ g) (reads_of d e g bs env f ∷ bs) env f a b h
+reads_before d (Let e c) g bs env f a b h = reads_before d c (entry_of d e g env f ∷ g) (reads_of d e g bs env f ∷ bs) env f a b h
 reads_before d (Within e m x y) g bs env f a b h = shut (int_lt b (pos 0)) _ (below_is b (pos 0) h)
 
 pub reads_moved : (d : Declarations) (c : Contract) (g : List Entry) (bs : List (List Place)) (env : Environment) (f h a b u v : ℤ) → f ≡ h → a ≡ u → b ≡ v → reads_of_contract d c g bs env f a b ≡ reads_of_contract d c g bs env h u v
@@ -133,14 +132,14 @@ module _ (d : Declarations) (g : List Entry) (bs : List (List Place)) (env : Env
   named_reads : (e : Expression) (c : Contract) → is_literal e ≡ true → ReadsInPlace d g bs env (substituted_in 0 e c) (Let e c)
   named_reads e c h =
       equal_reads (substituted_in 0 e c) (Let e c)
-      (λ f a b. live_without d c 0 e (bound_to d e g env f ∷ g) env f a b (λ _. literal_has_kind d e g env f h) (λ _. literal_has_value d e g env f h))
-      (λ f a b. contract_reads_without d c 0 e (bound_to d e g env f ∷ g) (reads_of d e g bs env f ∷ bs) env f a b (λ _. literal_has_kind d e g env f h) (λ _. literal_has_value d e g env f h) (λ _. literal_has_reads d e g bs env f h))
+      (λ f a b. live_without d c 0 e (entry_of d e g env f ∷ g) env f a b (λ _. literal_has_kind d e g env f h) (λ _. literal_has_value d e g env f h))
+      (λ f a b. contract_reads_without d c 0 e (entry_of d e g env f ∷ g) (reads_of d e g bs env f ∷ bs) env f a b (λ _. literal_has_kind d e g env f h) (λ _. literal_has_value d e g env f h) (λ _. literal_has_reads d e g bs env f h))
 
   unused_reads : (e x : Expression) (c : Contract) → uses_in_contract 0 c ≡ false → ReadsInPlace d g bs env (substituted_in 0 x c) (Let e c)
   unused_reads e x c h =
       equal_reads (substituted_in 0 x c) (Let e c)
-      (λ f a b. live_without d c 0 x (bound_to d e g env f ∷ g) env f a b (λ u. absurd (cc (sym h ∙ u))) (λ u. absurd (cc (sym h ∙ u))))
-      (λ f a b. contract_reads_without d c 0 x (bound_to d e g env f ∷ g) (reads_of d e g bs env f ∷ bs) env f a b (λ u. absurd (cc (sym h ∙ u))) (λ u. absurd (cc (sym h ∙ u))) (λ u. absurd (cc (sym h ∙ u))))
+      (λ f a b. live_without d c 0 x (entry_of d e g env f ∷ g) env f a b (λ u. absurd (cc (sym h ∙ u))) (λ u. absurd (cc (sym h ∙ u))))
+      (λ f a b. contract_reads_without d c 0 x (entry_of d e g env f ∷ g) (reads_of d e g bs env f ∷ bs) env f a b (λ u. absurd (cc (sym h ∙ u))) (λ u. absurd (cc (sym h ∙ u))) (λ u. absurd (cc (sym h ∙ u))))
 
   -- the reads of a branch are among those of the whole, where its day comes
   into_whole : (e : Expression) (m : Days) (x y : Contract) (f a b : ℤ) (ps : List Place) → (b <ℤ pos 0 → ps ≡ []) → (pos 0 ≤ℤ b → AreAmong ps (branch_reads (first_true d e g env f (count_of m)) (count_of m) b (λ k. reads_of_contract d x g bs env (f +ℤ pos k) (a -ℤ pos k) (b -ℤ pos k)) (reads_of_contract d y g bs env (f +ℤ pos (count_of m)) (a -ℤ pos (count_of m)) (b -ℤ pos (count_of m))))) → AreAmong ps (reads_of_contract d (Within e m x y) g bs env f a b)

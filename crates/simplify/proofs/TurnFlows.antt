@@ -8,7 +8,7 @@ use Rattle.term_core.specs.declared.values.Value.{Value}
 use Rattle.term_core.specs.Terms.{Expression, Contract, Zero, Pay, Both, Scale, After, Let, Within}
 use Rattle.term_core.specs.Environments.{Environment, IsAdmitted}
 use Rattle.term_core.specs.Kinds.{kind_of, scale_or_zero}
-use Rattle.term_core.specs.Values.{Entry, kinds, truth, kind_or, value_of, first_true}
+use Rattle.term_core.specs.Values.{Entry, kinds, truth, kind_or, value_of, first_true, entry_of}
 use Rattle.term_core.specs.Flows.{flow_of, count_of, scale_of_contract}
 use Rattle.term_core.specs.LawsKinds.{IsOfKind, AreOfKinds}
 use Rattle.term_core.specs.Sorts.{is_truth}
@@ -18,7 +18,6 @@ use Rattle.interval_check.specs.Nodes.{IsSortedPart, IsSortedContract, range_of}
 use Rattle.interval_check.proofs.GuaranteeFacts.{rules_are_by_structure}
 use Rattle.interval_check.proofs.NodeTests.{at_root}
 use Rattle.rewriting.proofs.NameFlows.{same_first}
-use Rattle.rewriting.specs.Bindings.{bound_to}
 use Rattle.rewriting.proofs.RaisedFacts.{raised_by}
 use Rattle.simplify.specs.Turning.{turned}
 use Rattle.simplify.specs.TurningContracts.{rule_in, turned_in}
@@ -28,11 +27,11 @@ use Rattle.simplify.proofs.WorthFacts.{InPlace, in_its_place, then_in_place, bot
 use Rattle.simplify.proofs.RuleFlows.{rule_in_place}
 
 -- the entry of a name whose expression has a kind
-pub entry_has : (d : Declarations) (e : Expression) (g : List Entry) (env : Environment) (f : ℤ) → IsAdmitted d env → AreOfKinds g → HasSomeKind d e (kinds g) → AreOfKinds (bound_to d e g env f ∷ g)
+pub entry_has : (d : Declarations) (e : Expression) (g : List Entry) (env : Environment) (f : ℤ) → IsAdmitted d env → AreOfKinds g → HasSomeKind d e (kinds g) → AreOfKinds (entry_of d e g env f ∷ g)
 entry_has d e g env f a h k =
     (subst (λ (o : Option Kind). IsOfKind (kind_or o) (value_of d e g env f)) (sym k.1) (values_have_kinds d e g env f k.0 a h k.1), h)
 
-pub same_entry : (d : Declarations) (e : Expression) (g : List Entry) (env : Environment) (f : ℤ) → IsAdmitted d env → AreOfKinds g → HasSomeKind d e (kinds g) → bound_to d (turned d (kinds g) e) g env f ≡ bound_to d e g env f
+pub same_entry : (d : Declarations) (e : Expression) (g : List Entry) (env : Environment) (f : ℤ) → IsAdmitted d env → AreOfKinds g → HasSomeKind d e (kinds g) → entry_of d (turned d (kinds g) e) g env f ≡ entry_of d e g env f
 same_entry d e g env f a h k =
     let m = turn_means d e g env f k.0 a h k.1 in
     ap₂ (λ (v : Value) (o : Option Kind). let entry : Entry = record { value = v; kind = kind_or o } in entry) m.1 (m.0 ∙ sym k.1)
@@ -59,7 +58,7 @@ turn_in_place d (Let e c) g env a h s =
     let e' = turned d (kinds g) e in
     let c' = turned_in d (kind_or (kind_of d e (kinds g)) ∷ kinds g) c in
     then_in_place d g env (rule_in (Let e' c')) (Let e' c') (Let e c) (rule_in_place d g env (Let e' c') tt)
-    (let_in_place d g env e' e c' c (λ f. same_entry d e g env f a h s.0) (λ f. turn_in_place d c (bound_to d e g env f ∷ g) env a (entry_has d e g env f a h s.0) s.1))
+    (let_in_place d g env e' e c' c (λ f. same_entry d e g env f a h s.0) (λ f. turn_in_place d c (entry_of d e g env f ∷ g) env a (entry_has d e g env f a h s.0) s.1))
 turn_in_place d (Within e n x y) g env a h s =
     let e' = turned d (kinds g) e in
     let x' = turned_in d (kinds g) x in
