@@ -1,6 +1,6 @@
 //! What the walk asks of evaluations, and the days that it counts.
 
-ghost use Rattle.std.specs.Prelude.{◌≡◌, ◌≤◌, ◌+◌, ◌+ℤ◌, ◌*◌, ◌^◌, pos, min, unsigned_abs};
+ghost use Rattle.std.specs.Prelude.{◌≡◌, ◌≤◌, ◌+◌, ◌^◌, min, unsigned_abs};
 ghost use Rattle.term_core.specs.Declarations.{declarations};
 ghost use Rattle.term_core.specs.Terms.{expression};
 ghost use Rattle.term_core.specs.Environments.{IsAdmitted};
@@ -10,6 +10,7 @@ ghost use Rattle.advance_step.specs.CarryingWalk.{Enters, IsEntry};
 
 use expr_eval::{Binding, Held, Scratch, eval, kind_of};
 use fixing_files::Fixings;
+use specialise::day_moved;
 use term_core::{Decls, Expr};
 
 /// What a walk goes by: the declarations and the fixings.
@@ -19,29 +20,12 @@ pub struct Course<'a> {
     pub fixings: &'a Fixings,
 }
 
-/// A day some days later.
-pub fn later(day: i64, days: u32) -> i64
-    requires { unsigned_abs day ≤ 10 ^ 11 }
-    ensures { result ≡ day +ℤ pos days }
-{
-    day + days as i64
-}
-
 /// On how many days a test of so many days is tried, of the first `last + 1`.
 pub fn days_tried(days: u32, last: u32) -> u32
     requires { last ≤ 1_200_000 }
     ensures { result ≡ min days last + 1 }
 {
     days.min(last) + 1
-}
-
-// The day on which an expression is read that is read later than it stands, or sooner.
-fn day_moved(day: i64, moved: i32) -> i64
-    requires { unsigned_abs day ≤ 10 ^ 11 }
-    ensures day { result ≡ day +ℤ moved }
-    ensures near { unsigned_abs result ≤ 2 * 10 ^ 11 }
-{
-    day + moved as i64
 }
 
 /// The entry of a name that is bound to an expression, which is read `moved` days later than it stands.

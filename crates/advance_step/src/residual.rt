@@ -11,12 +11,12 @@ ghost use Rattle.flow_eval.specs.Faults.{lacks_memory};
 ghost use Rattle.advance_step.specs.Advancing.{IsResidual, day_before};
 ghost use Rattle.advance_step.specs.Residual.{IsLeftAfter, ReadsAreFixed};
 
-use crate::course::later;
 use crate::known::carry_known;
 use crate::reducing::reduce;
 use decimal::NoMemory;
 use fixing_files::Fixings;
 use flow_eval::FlowErr;
+use specialise::day_after;
 use std::alloc::Global;
 use std::rc::Rc;
 use term_core::{Contr, Decls, SharedContr, share, unshare};
@@ -74,7 +74,7 @@ fn reduced_after(
     ensures memory { IfErr result (λ e. e ≡ lacks_memory) }
 {
     let left = left_after(alloc, decls, s, fixings, day, days)?;
-    Ok(reduce(alloc, decls, &left, fixings, later(day, days))?)
+    Ok(reduce(alloc, decls, &left, fixings, day_after(day, days))?)
 }
 
 /// The residual of a contract after some days whose reads are fixed.

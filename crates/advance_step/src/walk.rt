@@ -12,10 +12,11 @@ ghost use Rattle.expr_eval.specs.Evaluable.{MayEvaluate};
 ghost use Rattle.rewriting.specs.RebuildingContracts.{after_over, let_over, within_over};
 ghost use Rattle.advance_step.specs.CarryingWalk.{CanCarry, CanMove, IsLeftOn, LacksReadOn, WithEntry};
 
-use crate::course::{Course, days_tried, entry_for, later};
+use crate::course::{Course, days_tried, entry_for};
 use crate::parts::{both_left, delayed, let_left, nothing, scale_left, still_waiting};
 use expr_eval::{Scratch, first_true};
 use flow_eval::FlowErr;
+use specialise::day_after;
 use std::alloc::Global;
 use std::rc::Rc;
 use term_core::{Expr, SharedContr};
@@ -96,7 +97,14 @@ fn carry_after(
     ensures same { scratch.new ≡ scratch.old }
 {
     if days <= last {
-        carry_in(alloc, course, scratch, body, later(day, days), last - days)
+        carry_in(
+            alloc,
+            course,
+            scratch,
+            body,
+            day_after(day, days),
+            last - days,
+        )
     } else {
         Ok(delayed(alloc, days - last - 1, body)?)
     }
@@ -168,13 +176,20 @@ fn carry_within(
 {
     let tried = days_tried(days, last);
     match first_true(course.decls, test, &*scratch, course.fixings, day, tried)? {
-        Some(first) => carry_in(alloc, course, scratch, hit, later(day, first), last - first),
+        Some(first) => carry_in(
+            alloc,
+            course,
+            scratch,
+            hit,
+            day_after(day, first),
+            last - first,
+        ),
         None if days <= last => carry_in(
             alloc,
             course,
             scratch,
             miss,
-            later(day, days),
+            day_after(day, days),
             last - days,
         ),
         None => Ok(still_waiting(alloc, test, days - last - 1, hit, miss)?),

@@ -1,6 +1,6 @@
 //! The walk of the specialiser over contracts with shared parts. A part that does not change is handed on.
 
-ghost use Rattle.std.specs.Prelude.{◌≡◌, ◌+ℤ◌, pos, ◌≤◌, ◌*◌, ◌^◌, IfOk, Some, unsigned_abs};
+ghost use Rattle.std.specs.Prelude.{IfOk, Some};
 ghost use Rattle.term_core.specs.Declarations.{declarations};
 ghost use Rattle.term_core.specs.Terms.{expression};
 ghost use Rattle.term_core.specs.Environments.{IsAdmitted};
@@ -10,6 +10,7 @@ ghost use Rattle.rewriting.specs.RebuildingContracts.{StoresNew};
 ghost use Rattle.specialise.specs.Specialisable.{CanTellIn, CanTellLater};
 ghost use Rattle.specialise.specs.WalkAnswers.{TakesItsPlaceIn, TakesItsPlaceLater};
 
+use crate::days::{day_after, day_moved};
 use crate::expressions::specialise_at;
 use decimal::NoMemory;
 use fixing_files::Fixings;
@@ -17,23 +18,6 @@ use rewriting::{after_of, both_of, let_of, scale_of, within_of};
 use std::alloc::Global;
 use std::rc::Rc;
 use term_core::{Decls, Expr, SharedContr};
-
-// The day `days` days after a day.
-fn day_after(day: i64, days: u32) -> i64
-    requires { unsigned_abs day ≤ 10 ^ 11 }
-    ensures { result ≡ day +ℤ pos days }
-{
-    day + days as i64
-}
-
-// The day on which an expression is read that is read later than it stands, or sooner.
-fn day_moved(day: i64, moved: i32) -> i64
-    requires { unsigned_abs day ≤ 10 ^ 11 }
-    ensures day { result ≡ day +ℤ moved }
-    ensures near { unsigned_abs result ≤ 2 * 10 ^ 11 }
-{
-    day + moved as i64
-}
 
 // What takes the place of a stored expression that is read some days later.
 #[tactic(auto, using(crate::proofs::StoredFacts::stored_special, crate::proofs::StoredFacts::special_offsets))]

@@ -12,10 +12,12 @@
 
 mod calls;
 mod contracts;
+mod days;
 mod expressions;
 mod frames;
 pub mod laws;
 mod literals;
 
 pub use calls::{specialise_contr, specialise_expr, specialise_shared};
+pub use days::{day_after, day_moved};
 pub use frames::Frame;
