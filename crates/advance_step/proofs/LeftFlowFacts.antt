@@ -17,7 +17,7 @@ use Rattle.term_core.proofs.FlowFacts.{differs, first_within}
 use Rattle.term_core.proofs.ShiftFacts.{kind-shifted, value-shifted}
 use Rattle.advance_step.specs.WhatIsLeft.{left_of, delayed}
 use Rattle.advance_step.specs.LawsLeft.{LeftScales, LeftFlows}
-use Rattle.rewriting.specs.Worth.{Worth}
+use Rattle.rewriting.specs.Worth.{IsWorth}
 use Rattle.rewriting.proofs.Worth.{worth_zero, worth_is, worth_more, worth_same}
 use Rattle.rewriting.proofs.Branches.{branch}
 use Rattle.rewriting.proofs.Choices.{if_cases, option_cases}
@@ -57,9 +57,9 @@ bound_back d e g env f j =
     ap₂ (λ (v : Value) (k : Option Kind). let entry : Entry = record { value = v; kind = kind_or k } in entry) (shifted_back d e g env f j) (kind-shifted d e (negsuc j) (kinds g))
 
 -- the same at another frame and day
-moved_worth : (d : Declarations) (g : List Entry) (env : Environment) (c l : Contract) (s : ℕ) (w : Flow) (f h x y z : ℤ) → f ≡ h → y ≡ z → (k : ℤ) → Worth d g env f x w s (flow_of d c g env k y w) l → Worth d g env h x w s (flow_of d c g env k z w) l
+moved_worth : (d : Declarations) (g : List Entry) (env : Environment) (c l : Contract) (s : ℕ) (w : Flow) (f h x y z : ℤ) → f ≡ h → y ≡ z → (k : ℤ) → IsWorth d g env f x w s (flow_of d c g env k y w) l → IsWorth d g env h x w s (flow_of d c g env k z w) l
 moved_worth d g env c l s w f h x y z e i k p =
-    subst (λ (u : ℤ). Worth d g env u x w s (flow_of d c g env k z w) l) e (subst (λ (u : ℤ). Worth d g env f x w s (flow_of d c g env k u w) l) i p)
+    subst (λ (u : ℤ). IsWorth d g env u x w s (flow_of d c g env k z w) l) e (subst (λ (u : ℤ). IsWorth d g env f x w s (flow_of d c g env k u w) l) i p)
 
 delayed_scale : (d : Declarations) (n : ℕ) (c : Contract) (ks : List Kind) → scale_of_contract d (delayed n c) ks ≡ scale_of_contract d c ks
 delayed_scale d zero c ks = refl
@@ -102,7 +102,7 @@ within_later d e n a b g env f j x w s t lt none =
     (ap₂ (λ (h y : ℤ). raised (flow_of d b g env h y w) t) (rest_frame f j n lt) (rest_day x j n lt))
     ∙ ap (λ (o : Option ℕ). branch o (λ k. raised (flow_of d a g env (f +ℤ pos k) (pos (suc j) +ℤ x -ℤ pos k) w) s) (raised (flow_of d b g env (f +ℤ pos n) (pos (suc j) +ℤ x -ℤ pos n) w) t)) (sym (still_first d e g env f j n lt none))
 
-pub left_worth : (d : Declarations) (c : Contract) (g : List Entry) (env : Environment) (f : ℤ) (j : ℕ) (x : ℤ) (w : Flow) → pos 0 ≤ℤ x → Worth d g env (f +ℤ pos (suc j)) x w (scale_of_contract d c (kinds g)) (flow_of d c g env f (pos (suc j) +ℤ x) w) (left_of d c g env f j)
+pub left_worth : (d : Declarations) (c : Contract) (g : List Entry) (env : Environment) (f : ℤ) (j : ℕ) (x : ℤ) (w : Flow) → pos 0 ≤ℤ x → IsWorth d g env (f +ℤ pos (suc j)) x w (scale_of_contract d c (kinds g)) (flow_of d c g env f (pos (suc j) +ℤ x) w) (left_of d c g env f j)
 left_worth d Zero g env f j x w h = worth_zero d g env (f +ℤ pos (suc j)) x w 0 (pos 0) refl
 left_worth d (Pay a p q) g env f j x w h =
     worth_zero d g env (f +ℤ pos (suc j)) x w 0 (on_day_zero (pos (suc j) +ℤ x) (unit_flow a p q w)) (not_today (pos (suc j) +ℤ x) (unit_flow a p q w) (omega (arith, ints)))
@@ -113,7 +113,7 @@ left_worth d (Scale e c) g env f j x w h =
 left_worth d (After m c) g env f j x w h =
     let n = count_of m in
     let s = scale_of_contract d c (kinds g) in
-    if_cases (Worth d g env (f +ℤ pos (suc j)) x w s (flow_of d c g env (f +ℤ pos n) (pos (suc j) +ℤ x -ℤ pos n) w)) (nat_le n j) (left_of d c g env (f +ℤ pos n) (j - n)) (delayed (n - suc j) c)
+    if_cases (IsWorth d g env (f +ℤ pos (suc j)) x w s (flow_of d c g env (f +ℤ pos n) (pos (suc j) +ℤ x -ℤ pos n) w)) (nat_le n j) (left_of d c g env (f +ℤ pos n) (j - n)) (delayed (n - suc j) c)
     (λ t. moved_worth d g env c (left_of d c g env (f +ℤ pos n) (j - n)) s w _ _ x _ _ (into_frame f j n (le_of n j t)) (into_day x j n (le_of n j t)) (f +ℤ pos n) (left_worth d c g env (f +ℤ pos n) (j - n) x w h))
     (λ t. worth_same d g env (f +ℤ pos (suc j)) x w s _ (delayed (n - suc j) c) (delayed_scale d (n - suc j) c (kinds g)) (delayed_flow d (n - suc j) c g env (f +ℤ pos (suc j)) x w ∙ ap₂ (λ (h y : ℤ). flow_of d c g env h y w) (rest_frame f j n (lt_of n j t)) (rest_day x j n (lt_of n j t))))
 left_worth d (Let e c) g env f j x w h =
@@ -124,7 +124,7 @@ left_worth d (Within e m a b) g env f j x w h =
     let t = scale_of_contract d b (kinds g) in
     let hit : ℕ → ℤ = λ k. raised (flow_of d a g env (f +ℤ pos k) (pos (suc j) +ℤ x -ℤ pos k) w) (max s t - s) in
     let miss : ℤ = raised (flow_of d b g env (f +ℤ pos n) (pos (suc j) +ℤ x -ℤ pos n) w) (max s t - t) in
-    let worth = Worth d g env (f +ℤ pos (suc j)) x w (max s t) (branch (first_true d e g env f n) hit miss) in
+    let worth = IsWorth d g env (f +ℤ pos (suc j)) x w (max s t) (branch (first_true d e g env f n) hit miss) in
     option_cases worth (first_true d e g env f (min n j)) (λ k. left_of d a g env (f +ℤ pos k) (j - k)) (if nat_le n j then left_of d b g env (f +ℤ pos n) (j - n) else Within e (Count (n - suc j)) a b)
     (λ k first.
     let le : k ≤ j = omega (arith, first_within (min n j) (test_at d e g env f) k first) in

@@ -1,6 +1,6 @@
 -- What is worth so much on a day, at a scale: the parts of what is left, put together.
 use Rattle.rewriting.proofs.Choices.{if_cases}
-use Rattle.rewriting.specs.Worth.{Worth}
+use Rattle.rewriting.specs.Worth.{IsWorth}
 use Rattle.rewriting.proofs.Worth.{worth_zero, worth_nothing, worth_is, worth_more, both_worth, under_nothing}
 use Rattle.std.proofs.Common.{◌≡◌, ℕ, ℤ, ◌+ℤ◌, ◌*ℤ◌, ◌+◌, ◌-◌, max, if◌then◌else◌, ap, ap₂, sym, subst, ◌∙◌, List, ◌∷◌, arith}
 use Rattle.std.proofs.Math.IntN.{*ℤ-zero}
@@ -28,28 +28,28 @@ pub let_cases : (P : Contract → Type 0) (e : Expression) (c : Contract) → (c
 let_cases P e c none some = if_cases P (is_nothing c) Zero (Let e c) (λ h. none (nothing_is c h)) (λ _. some)
 
 module _ (d : Declarations) (g : List Entry) (env : Environment) (f x : ℤ) (w : Flow) where
-  pub worth_both : (s t : ℕ) (u v : ℤ) (a b : Contract) → Worth d g env f x w s u a → Worth d g env f x w t v b → Worth d g env f x w (max s t) (raised u (max s t - s) +ℤ raised v (max s t - t)) (both_left a b)
+  pub worth_both : (s t : ℕ) (u v : ℤ) (a b : Contract) → IsWorth d g env f x w s u a → IsWorth d g env f x w t v b → IsWorth d g env f x w (max s t) (raised u (max s t - s) +ℤ raised v (max s t - t)) (both_left a b)
   worth_both s t u v a b h k =
       let one = worth_more d g env f x w s (max s t) u a (omega arith) h in
       let other = worth_more d g env f x w t (max s t) v b (omega arith) k in
-      both_cases (Worth d g env f x w (max s t) (raised u (max s t - s) +ℤ raised v (max s t - t))) a b
+      both_cases (IsWorth d g env f x w (max s t) (raised u (max s t - s) +ℤ raised v (max s t - t))) a b
       (λ e. worth_is d g env f x w (max s t) (raised v (max s t - t)) _ b (left_gone (raised u (max s t - s)) (raised v (max s t - t)) (one_zero u (max s t - s) (worth_nothing d g env f x w s u a e h))) other)
       (λ e. worth_is d g env f x w (max s t) (raised u (max s t - s)) _ a (right_gone (raised u (max s t - s)) (raised v (max s t - t)) (one_zero v (max s t - t) (worth_nothing d g env f x w t v b e k))) one)
       (both_worth d g env f x w s t u v a b h k)
 
-  pub worth_scale : (s i : ℕ) (v m : ℤ) (e : Expression) (c : Contract) → scale_of d e (kinds g) ≡ i → num (value_of d e g env f) ≡ m → Worth d g env f x w s v c → Worth d g env f x w (i + s) (m *ℤ v) (scale_left e c)
+  pub worth_scale : (s i : ℕ) (v m : ℤ) (e : Expression) (c : Contract) → scale_of d e (kinds g) ≡ i → num (value_of d e g env f) ≡ m → IsWorth d g env f x w s v c → IsWorth d g env f x w (i + s) (m *ℤ v) (scale_left e c)
   worth_scale s i v m e c se ve h =
       let j = scale_of_contract d c (kinds g) in
       let y = flow_of d c g env f x w in
       let same : (i + s) - (scale_of d e (kinds g) + j) ≡ s - j = omega (arith, se, h.0) in
-      scale_cases (Worth d g env f x w (i + s) (m *ℤ v)) e c
+      scale_cases (IsWorth d g env f x w (i + s) (m *ℤ v)) e c
       (λ z. worth_zero d g env f x w (i + s) (m *ℤ v) (ap (λ (r : ℤ). m *ℤ r) (worth_nothing d g env f x w s v c z h) ∙ *ℤ-zero m)) (
         omega (arith, se, h.0),
         ap (raised (num (value_of d e g env f) *ℤ y)) same ∙ raised-times (num (value_of d e g env f)) y (s - j) ∙ ap₂ (λ (p q : ℤ). p *ℤ q) ve h.1,
       )
 
   -- a body under a name, whose entry is the same
-  pub worth_let : (s : ℕ) (v : ℤ) (e : Expression) (c : Contract) (entry : Entry) → record { value = value_of d e g env f; kind = kind_or (kind_of d e (kinds g)) } ≡ entry → Worth d (entry ∷ g) env f x w s v c → Worth d g env f x w s v (let_left e c)
+  pub worth_let : (s : ℕ) (v : ℤ) (e : Expression) (c : Contract) (entry : Entry) → record { value = value_of d e g env f; kind = kind_or (kind_of d e (kinds g)) } ≡ entry → IsWorth d (entry ∷ g) env f x w s v c → IsWorth d g env f x w s v (let_left e c)
   worth_let s v e c entry same h =
-      let there : Worth d (record { value = value_of d e g env f; kind = kind_or (kind_of d e (kinds g)) } ∷ g) env f x w s v c = subst (λ (b : Entry). Worth d (b ∷ g) env f x w s v c) (sym same) h in
-      let_cases (Worth d g env f x w s v) e c (λ z. worth_zero d g env f x w s v (under_nothing d g env f x w s v c entry z h)) there
+      let there : IsWorth d (record { value = value_of d e g env f; kind = kind_or (kind_of d e (kinds g)) } ∷ g) env f x w s v c = subst (λ (b : Entry). IsWorth d (b ∷ g) env f x w s v c) (sym same) h in
+      let_cases (IsWorth d g env f x w s v) e c (λ z. worth_zero d g env f x w s v (under_nothing d g env f x w s v c entry z h)) there

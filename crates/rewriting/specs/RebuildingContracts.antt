@@ -20,10 +20,10 @@ abbrev pub IsLessIn : Option (Rc SharedContr Global) → Contract → Type 0
 IsLessIn None c = Unit {0}
 IsLessIn (Some r) c = size_in (shared r.value) < size_in c
 
--- the offsets that it stores are within the limit
-abbrev pub StoresNew : Option (Rc SharedContr Global) → Type 0
-StoresNew None = Unit {0}
-StoresNew (Some r) = StoresOffsets r.value
+-- what took its place stores offsets within the limit
+abbrev pub NewStoresOffsets : Option (Rc SharedContr Global) → Type 0
+NewStoresOffsets None = Unit {0}
+NewStoresOffsets (Some r) = StoresOffsets r.value
 
 -- a part as it is shared, and what took its place
 abbrev SharedPart : Type 0
@@ -81,11 +81,14 @@ abbrev pub IfTestAndBranchesAreLess : Rc Expr Global → Option Expr → SharedP
 IfTestAndBranchesAreLess test one hit two miss three P = IsLess one (expression test.value) → IfBothAreLessIn hit two miss three P
 
 -- a claim, where the offsets that parts, and what took their places, store are within the limit
-abbrev pub IfBothStore : SharedPart → NewPart → SharedPart → NewPart → Type 0 → Type 0
-IfBothStore left one right two P = StoresOffsets left.value → StoresOffsets right.value → StoresNew one → StoresNew two → P
+abbrev pub IfBothStoreOffsets : SharedPart → NewPart → SharedPart → NewPart → Type 0 → Type 0
+IfBothStoreOffsets left one right two P =
+    StoresOffsets left.value → StoresOffsets right.value → NewStoresOffsets one → NewStoresOffsets two → P
 
-abbrev pub IfTermAndBodyStore : Rc Expr Global → Option Expr → SharedPart → NewPart → Type 0 → Type 0
-IfTermAndBodyStore e one body two P = HasOffsets (after (expression e.value) one) → StoresOffsets body.value → StoresNew two → P
+abbrev pub IfTermAndBodyStoreOffsets : Rc Expr Global → Option Expr → SharedPart → NewPart → Type 0 → Type 0
+IfTermAndBodyStoreOffsets e one body two P =
+    HasOffsets (after (expression e.value) one) → StoresOffsets body.value → NewStoresOffsets two → P
 
-abbrev pub IfTestAndBranchesStore : Rc Expr Global → Option Expr → SharedPart → NewPart → SharedPart → NewPart → Type 0 → Type 0
-IfTestAndBranchesStore test one hit two miss three P = HasOffsets (after (expression test.value) one) → IfBothStore hit two miss three P
+abbrev pub IfTestAndBranchesStoreOffsets : Rc Expr Global → Option Expr → SharedPart → NewPart → SharedPart → NewPart → Type 0 → Type 0
+IfTestAndBranchesStoreOffsets test one hit two miss three P =
+    HasOffsets (after (expression test.value) one) → IfBothStoreOffsets hit two miss three P

@@ -12,9 +12,9 @@ abbrev pub flow_at_scale : Declarations → List Entry → Environment → ℤ �
 flow_at_scale d g env f x w s c = raised (flow_of d c g env f x w) (s - scale_of_contract d c (kinds g))
 
 -- at scale s it pays v
-abbrev pub Worth : Declarations → List Entry → Environment → ℤ → ℤ → Flow → ℕ → ℤ → Contract → Type 0
-Worth d g env f x w s v c = (scale_of_contract d c (kinds g) ≤ s) × (flow_at_scale d g env f x w s c ≡ v)
+abbrev pub IsWorth : Declarations → List Entry → Environment → ℤ → ℤ → Flow → ℕ → ℤ → Contract → Type 0
+IsWorth d g env f x w s v c = (scale_of_contract d c (kinds g) ≤ s) × (flow_at_scale d g env f x w s c ≡ v)
 
 -- at the scale of c another contract pays what c pays
 abbrev pub IsWorthTheSame : Declarations → List Entry → Environment → ℤ → ℤ → Flow → Contract → Contract → Type 0
-IsWorthTheSame d g env f x w r c = Worth d g env f x w (scale_of_contract d c (kinds g)) (flow_of d c g env f x w) r
+IsWorthTheSame d g env f x w r c = IsWorth d g env f x w (scale_of_contract d c (kinds g)) (flow_of d c g env f x w) r

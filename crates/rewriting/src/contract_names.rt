@@ -5,7 +5,7 @@ ghost use Rattle.term_core.specs.Terms.{expression};
 ghost use Rattle.term_core.specs.Sizes.{height_of_contract};
 ghost use Rattle.term_core.specs.Redexes.{is_literal, uses_in_contract};
 ghost use Rattle.term_core.specs.SharedTerms.{shared, StoresOffsets};
-ghost use Rattle.rewriting.specs.RebuildingContracts.{after_in, StoresNew};
+ghost use Rattle.rewriting.specs.RebuildingContracts.{after_in, NewStoresOffsets};
 ghost use Rattle.rewriting.specs.Substituting.{substituted_in};
 
 use crate::contracts::{after_of, both_of, let_of, scale_of, within_of};
@@ -47,7 +47,7 @@ pub fn substituted_in(
     requires low { back + height_of_contract (shared s.now) ≤ 2 ^ 31 }
     requires literal { is_literal (expression other.now) ≡ true }
     ensures same { IfOk result (λ r. after_in (shared s.now) r ≡ substituted_in back (expression other.now) (shared s.now)) }
-    ensures offsets { IfOk result (λ r. StoresOffsets s.now → StoresNew r) }
+    ensures offsets { IfOk result (λ r. StoresOffsets s.now → NewStoresOffsets r) }
 {
     match s {
         SharedContr::Zero | SharedContr::Pay { .. } => Ok(None),

@@ -6,7 +6,7 @@ ghost use Rattle.term_core.specs.declared.terms.Days.TheVariants.{Num as Count};
 ghost use Rattle.term_core.specs.SharedTerms.{shared, StoresOffsets};
 ghost use Rattle.rewriting.specs.Rebuilding.{after};
 ghost use Rattle.rewriting.specs.RebuildingContracts.{after_in, part_after, both_over, both_after, scale_over, scale_after, after_over, let_over, let_after, within_over, within_after};
-ghost use Rattle.rewriting.specs.RebuildingContracts.{IfBothAreLessIn, IfBothStore, IfTermAndBodyAreLess, IfTermAndBodyStore, IfTestAndBranchesAreLess, IfTestAndBranchesStore, IsLessIn, StoresNew};
+ghost use Rattle.rewriting.specs.RebuildingContracts.{IfBothAreLessIn, IfBothStoreOffsets, IfTermAndBodyAreLess, IfTermAndBodyStoreOffsets, IfTestAndBranchesAreLess, IfTestAndBranchesStoreOffsets, IsLessIn, NewStoresOffsets};
 
 use decimal::NoMemory;
 use std::alloc::Global;
@@ -19,7 +19,7 @@ pub fn kept_part(
     new: Option<Rc<SharedContr>>,
 ) -> Result<Rc<SharedContr>, NoMemory>
     ensures same { IfOk result (λ r. shared r.value ≡ part_after part.now new) }
-    ensures offsets { IfOk result (λ r. StoresOffsets part.now.value → StoresNew new → StoresOffsets r.value) }
+    ensures offsets { IfOk result (λ r. StoresOffsets part.now.value → NewStoresOffsets new → StoresOffsets r.value) }
 {
     match new {
         Some(new) => Ok(new),
@@ -53,7 +53,7 @@ pub fn both_of(
     requires { shared s.now ≡ both_over left.now right.now }
     ensures same { IfOk result (λ r. after_in (shared s.now) r ≡ both_after left.now one right.now two) }
     ensures less { IfOk result (λ r. IfBothAreLessIn left.now one right.now two (IsLessIn r (shared s.now))) }
-    ensures offsets { IfOk result (λ r. IfBothStore left.now one right.now two (StoresNew r)) }
+    ensures offsets { IfOk result (λ r. IfBothStoreOffsets left.now one right.now two (NewStoresOffsets r)) }
 {
     if one.is_none() && two.is_none() {
         return Ok(None);
@@ -77,7 +77,7 @@ pub fn scale_of(
     requires { shared s.now ≡ scale_over moved factor.now body.now }
     ensures same { IfOk result (λ r. after_in (shared s.now) r ≡ scale_after moved factor.now one body.now two) }
     ensures less { IfOk result (λ r. IfTermAndBodyAreLess factor.now one body.now two (IsLessIn r (shared s.now))) }
-    ensures offsets { IfOk result (λ r. IfTermAndBodyStore factor.now one body.now two (StoresNew r)) }
+    ensures offsets { IfOk result (λ r. IfTermAndBodyStoreOffsets factor.now one body.now two (NewStoresOffsets r)) }
 {
     if one.is_none() && two.is_none() {
         return Ok(None);
@@ -105,7 +105,7 @@ pub fn after_of(
     requires { shared s.now ≡ after_over days body.now }
     ensures same { IfOk result (λ r. after_in (shared s.now) r ≡ After (Count days) (part_after body.now new)) }
     ensures less { IfOk result (λ r. IsLessIn new (shared body.now.value) → IsLessIn r (shared s.now)) }
-    ensures offsets { IfOk result (λ r. StoresNew new → StoresNew r) }
+    ensures offsets { IfOk result (λ r. NewStoresOffsets new → NewStoresOffsets r) }
 {
     match new {
         Some(body) => Ok(Some(Rc::new(alloc, SharedContr::After { days, body })?)),
@@ -127,7 +127,7 @@ pub fn let_of(
     requires { shared s.now ≡ let_over moved bound.now body.now }
     ensures same { IfOk result (λ r. after_in (shared s.now) r ≡ let_after moved bound.now one body.now two) }
     ensures less { IfOk result (λ r. IfTermAndBodyAreLess bound.now one body.now two (IsLessIn r (shared s.now))) }
-    ensures offsets { IfOk result (λ r. IfTermAndBodyStore bound.now one body.now two (StoresNew r)) }
+    ensures offsets { IfOk result (λ r. IfTermAndBodyStoreOffsets bound.now one body.now two (NewStoresOffsets r)) }
 {
     if one.is_none() && two.is_none() {
         return Ok(None);
@@ -152,7 +152,7 @@ pub fn within_of(
     requires { shared s.now ≡ within_over test.now days hit.now miss.now }
     ensures same { IfOk result (λ r. after_in (shared s.now) r ≡ within_after test.now one days hit.now two miss.now three) }
     ensures less { IfOk result (λ r. IfTestAndBranchesAreLess test.now one hit.now two miss.now three (IsLessIn r (shared s.now))) }
-    ensures offsets { IfOk result (λ r. IfTestAndBranchesStore test.now one hit.now two miss.now three (StoresNew r)) }
+    ensures offsets { IfOk result (λ r. IfTestAndBranchesStoreOffsets test.now one hit.now two miss.now three (NewStoresOffsets r)) }
 {
     if one.is_none() && two.is_none() && three.is_none() {
         return Ok(None);

@@ -26,7 +26,7 @@ use Rattle.interval_check.proofs.SuitedFacts.{nothing_fixed}
 use Rattle.interval_check.proofs.RewritingFacts.{round_rules}
 use Rattle.interval_check.proofs.ContractSafeFacts.{contract_at_root}
 use Rattle.rewriting.specs.Measures.{size_in}
-use Rattle.rewriting.specs.RebuildingContracts.{after_in, IsLessIn, StoresNew}
+use Rattle.rewriting.specs.RebuildingContracts.{after_in, IsLessIn, NewStoresOffsets}
 use Rattle.rewriting.proofs.SmallFacts.{Small, nodes_are_small}
 use Rattle.simplify.specs.Turning.{HasNoPlain}
 use Rattle.simplify.specs.TurningContracts.{turned_in, HasNoPlainIn, IsTurnIn}
@@ -114,8 +114,8 @@ next_less v w o next e i h =
     subst (λ (x : SharedContr). size_in (shared next.value) < size_in (shared x)) e
     (subst (λ (a : Option (Rc SharedContr Global)). IsLessIn a (shared v)) i h)
 
-pub next_stores : (v w : SharedContr) (o : Option (Rc SharedContr Global)) (next : Rc SharedContr Global) → v ≡ w → o ≡ Some next → (StoresOffsets v → StoresNew o) → StoresOffsets w → StoresOffsets next.value
-next_stores v w o next e i h p = subst (λ (a : Option (Rc SharedContr Global)). StoresNew a) i (h (subst (λ (x : SharedContr). StoresOffsets x) (sym e) p))
+pub next_stores : (v w : SharedContr) (o : Option (Rc SharedContr Global)) (next : Rc SharedContr Global) → v ≡ w → o ≡ Some next → (StoresOffsets v → NewStoresOffsets o) → StoresOffsets w → StoresOffsets next.value
+next_stores v w o next e i h p = subst (λ (a : Option (Rc SharedContr Global)). NewStoresOffsets a) i (h (subst (λ (x : SharedContr). StoresOffsets x) (sym e) p))
 
 pub still_is : (d : Declarations) (v w : SharedContr) (o : Option (Rc SharedContr Global)) → v ≡ w → o ≡ None → after_in (shared v) o ≡ turned_in d [] (shared v) → shared w ≡ turned_in d [] (shared w)
 still_is d v w o e i h =

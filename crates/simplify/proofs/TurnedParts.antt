@@ -10,7 +10,7 @@ use Rattle.term_core.specs.Shifts.{shifted}
 use Rattle.term_core.specs.Terms.{Expression, Contract, Scale, Let}
 use Rattle.term_core.specs.Values.{kind_or}
 use Rattle.term_core.specs.SharedTerms.{HasOffsets, StoresOffsets}
-use Rattle.rewriting.specs.RebuildingContracts.{after_in, StoresNew}
+use Rattle.rewriting.specs.RebuildingContracts.{after_in, NewStoresOffsets}
 use Rattle.simplify.specs.Turning.{turned}
 use Rattle.simplify.specs.TurningContracts.{rule_in, turned_in}
 use Rattle.simplify.proofs.OffsetFacts.{offsets_turned}
@@ -43,16 +43,16 @@ module _ {E : Type 0} (d : Declarations) (ks : List Kind) (k k' : ℤ) (e y : Ex
 
 -- the offsets that a turned node stores
 module _ {E : Type 0} (d : Declarations) (ks : List Kind) (e y : Expression) (s b : SharedContr) (two : Option (Rc SharedContr Global)) (o : Result (Option (Rc SharedContr Global)) E) where
-  pub factor_stores : (StoresOffsets s → HasOffsets e × StoresOffsets b) → y ≡ turned d ks e → (StoresOffsets b → StoresNew two) → IfOk o (λ r. HasOffsets y → StoresOffsets b → StoresNew two → StoresNew r) → IfOk o (λ r. StoresOffsets s → StoresNew r)
+  pub factor_stores : (StoresOffsets s → HasOffsets e × StoresOffsets b) → y ≡ turned d ks e → (StoresOffsets b → NewStoresOffsets two) → IfOk o (λ r. HasOffsets y → StoresOffsets b → NewStoresOffsets two → NewStoresOffsets r) → IfOk o (λ r. StoresOffsets s → NewStoresOffsets r)
   factor_stores f p q h = at o h
     where
-      at : (a : Result (Option (Rc SharedContr Global)) E) → IfOk a (λ r. HasOffsets y → StoresOffsets b → StoresNew two → StoresNew r) → IfOk a (λ r. StoresOffsets s → StoresNew r)
+      at : (a : Result (Option (Rc SharedContr Global)) E) → IfOk a (λ r. HasOffsets y → StoresOffsets b → NewStoresOffsets two → NewStoresOffsets r) → IfOk a (λ r. StoresOffsets s → NewStoresOffsets r)
       at (Err m) g = tt
       at (Ok r) g = λ n. g (subst (λ (x : Expression). HasOffsets x) (sym p) (offsets_turned d ks e (f n).0)) (f n).1 (q (f n).1)
 
-  pub test_stores : (c : SharedContr) (three : Option (Rc SharedContr Global)) → (StoresOffsets s → HasOffsets e × StoresOffsets b × StoresOffsets c) → y ≡ turned d ks e → (StoresOffsets b → StoresNew two) → (StoresOffsets c → StoresNew three) → IfOk o (λ r. HasOffsets y → StoresOffsets b → StoresOffsets c → StoresNew two → StoresNew three → StoresNew r) → IfOk o (λ r. StoresOffsets s → StoresNew r)
+  pub test_stores : (c : SharedContr) (three : Option (Rc SharedContr Global)) → (StoresOffsets s → HasOffsets e × StoresOffsets b × StoresOffsets c) → y ≡ turned d ks e → (StoresOffsets b → NewStoresOffsets two) → (StoresOffsets c → NewStoresOffsets three) → IfOk o (λ r. HasOffsets y → StoresOffsets b → StoresOffsets c → NewStoresOffsets two → NewStoresOffsets three → NewStoresOffsets r) → IfOk o (λ r. StoresOffsets s → NewStoresOffsets r)
   test_stores c three f p q u h = at o h
     where
-      at : (a : Result (Option (Rc SharedContr Global)) E) → IfOk a (λ r. HasOffsets y → StoresOffsets b → StoresOffsets c → StoresNew two → StoresNew three → StoresNew r) → IfOk a (λ r. StoresOffsets s → StoresNew r)
+      at : (a : Result (Option (Rc SharedContr Global)) E) → IfOk a (λ r. HasOffsets y → StoresOffsets b → StoresOffsets c → NewStoresOffsets two → NewStoresOffsets three → NewStoresOffsets r) → IfOk a (λ r. StoresOffsets s → NewStoresOffsets r)
       at (Err m) g = tt
       at (Ok r) g = λ n. g (subst (λ (x : Expression). HasOffsets x) (sym p) (offsets_turned d ks e (f n).0)) (f n).1 (f n).2 (q (f n).1) (u (f n).2)

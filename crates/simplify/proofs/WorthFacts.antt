@@ -10,12 +10,12 @@ use Rattle.term_core.specs.Kinds.{scale_of}
 use Rattle.term_core.specs.Values.{Entry, kinds, num, value_of, first_true, entry_of}
 use Rattle.term_core.specs.Flows.{Flow, flow_of, count_of, scale_of_contract}
 use Rattle.rewriting.proofs.RaisedFacts.{raised_by, raised-sum, raised-times}
-use Rattle.rewriting.specs.Worth.{Worth}
+use Rattle.rewriting.specs.Worth.{IsWorth}
 use Rattle.rewriting.proofs.Worth.{worth_is, worth_more, worth_same}
 use Rattle.rewriting.proofs.Branches.{branch}
 
 abbrev pub InPlace : Declarations → List Entry → Environment → Contract → Contract → Type 0
-InPlace d g env k c = (f n : ℤ) (w : Flow) → Worth d g env f n w (scale_of_contract d c (kinds g)) (flow_of d c g env f n w) k
+InPlace d g env k c = (f n : ℤ) (w : Flow) → IsWorth d g env f n w (scale_of_contract d c (kinds g)) (flow_of d c g env f n w) k
 
 module _ (d : Declarations) (g : List Entry) (env : Environment) where
   pub in_its_place : (c : Contract) → InPlace d g env c c
@@ -63,9 +63,9 @@ module _ (d : Declarations) (g : List Entry) (env : Environment) where
   -- a body under the entry of its own frame
   pub let_in_place : (x e : Expression) (k c : Contract) → ((f : ℤ) → entry_of d x g env f ≡ entry_of d e g env f) → ((f : ℤ) → InPlace d (entry_of d e g env f ∷ g) env k c) → InPlace d g env (Let x k) (Let e c)
   let_in_place x e k c same h f n w =
-      subst (λ (b : Entry). Worth d (b ∷ g) env f n w (scale_of_contract d c (kinds (entry_of d e g env f ∷ g))) (flow_of d c (entry_of d e g env f ∷ g) env f n w) k) (sym (same f)) (h f f n w)
+      subst (λ (b : Entry). IsWorth d (b ∷ g) env f n w (scale_of_contract d c (kinds (entry_of d e g env f ∷ g))) (flow_of d c (entry_of d e g env f ∷ g) env f n w) k) (sym (same f)) (h f f n w)
 
-  one_raised : (s i m k : ℕ) (u v : ℤ) (y : Contract) (f n : ℤ) (w : Flow) → Worth d g env f n w s v y → i ≡ scale_of_contract d y (kinds g) → u ≡ flow_of d y g env f n w → i ≤ k → s ≤ m → k ≤ m → raised (raised u (k - i)) (m - k) ≡ raised v (m - s)
+  one_raised : (s i m k : ℕ) (u v : ℤ) (y : Contract) (f n : ℤ) (w : Flow) → IsWorth d g env f n w s v y → i ≡ scale_of_contract d y (kinds g) → u ≡ flow_of d y g env f n w → i ≤ k → s ≤ m → k ≤ m → raised (raised u (k - i)) (m - k) ≡ raised v (m - s)
   one_raised s i m k u v y f n w h e r le sm km =
       let there = worth_more d g env f n w s m v y sm h in
       sym (raised_by u i k m le km) ∙ ap₂ (λ (z : ℤ) (j : ℕ). raised z (m - j)) r e ∙ there.1

@@ -11,7 +11,7 @@ ghost use Rattle.term_core.specs.SharedTerms.{shared, StoresOffsets};
 ghost use Rattle.rewriting.specs.Measures.{size_in};
 ghost use Rattle.rewriting.specs.Rebuilding.{after};
 ghost use Rattle.rewriting.specs.RebuildingContracts.{after_in, part_after, both_over, both_after, scale_over, scale_after, after_over, let_over, let_after, within_over, within_after};
-ghost use Rattle.rewriting.specs.RebuildingContracts.{IfBothAreLessIn, IfBothStore, IfTermAndBodyAreLess, IfTermAndBodyStore, IfTestAndBranchesAreLess, IfTestAndBranchesStore, IsLessIn, StoresNew};
+ghost use Rattle.rewriting.specs.RebuildingContracts.{IfBothAreLessIn, IfBothStoreOffsets, IfTermAndBodyAreLess, IfTermAndBodyStoreOffsets, IfTestAndBranchesAreLess, IfTestAndBranchesStoreOffsets, IsLessIn, NewStoresOffsets};
 ghost use Rattle.rewriting.specs.Substituting.{substituted_in};
 ghost use Rattle.term_core.specs.Scopes.{held_in};
 ghost use Rattle.simplify.specs.TurningContracts as model;
@@ -58,7 +58,7 @@ fn are_nothing(
 fn nothing(alloc: Global) -> Result<Option<Rc<SharedContr>>, NoMemory>
     ensures same { IfOk result (λ r. (c : Contract) → after_in c r ≡ Zero) }
     ensures less { IfOk result (λ r. (c : Contract) → 1 < size_in c → IsLessIn r c) }
-    ensures offsets { IfOk result (λ r. StoresNew r) }
+    ensures offsets { IfOk result (λ r. NewStoresOffsets r) }
 {
     Ok(Some(Rc::new(alloc, SharedContr::Zero)?))
 }
@@ -76,7 +76,7 @@ fn turn_both(
     requires { shared s.now ≡ both_over left.now right.now }
     ensures same { IfOk result (λ r. after_in (shared s.now) r ≡ rule_in (both_after left.now one right.now two)) }
     ensures less { IfOk result (λ r. IfBothAreLessIn left.now one right.now two (IsLessIn r (shared s.now))) }
-    ensures offsets { IfOk result (λ r. IfBothStore left.now one right.now two (StoresNew r)) }
+    ensures offsets { IfOk result (λ r. IfBothStoreOffsets left.now one right.now two (NewStoresOffsets r)) }
 {
     if is_nothing_after(left, &one) {
         Ok(Some(kept_part(right, two)?))
@@ -119,7 +119,7 @@ fn turn_scale(
     requires { shared s.now ≡ scale_over moved factor.now body.now }
     ensures same { IfOk result (λ r. after_in (shared s.now) r ≡ rule_in (scale_after moved factor.now one body.now two)) }
     ensures less { IfOk result (λ r. IfTermAndBodyAreLess factor.now one body.now two (IsLessIn r (shared s.now))) }
-    ensures offsets { IfOk result (λ r. IfTermAndBodyStore factor.now one body.now two (StoresNew r)) }
+    ensures offsets { IfOk result (λ r. IfTermAndBodyStoreOffsets factor.now one body.now two (NewStoresOffsets r)) }
 {
     if is_nothing_after(body, &two) {
         nothing(alloc)
@@ -139,7 +139,7 @@ fn joined_delay(
     requires { joined_days days (shared body.now) < 2 ^ 32 }
     ensures same { IfOk result (λ r. after_in (After (Count days) (shared body.now)) r ≡ joined days (shared body.now)) }
     ensures less { IfOk result (λ r. IsLessIn r (After (Count days) (shared body.now))) }
-    ensures offsets { IfOk result (λ r. StoresOffsets body.now → StoresNew r) }
+    ensures offsets { IfOk result (λ r. StoresOffsets body.now → NewStoresOffsets r) }
 {
     match body {
         SharedContr::After { days: more, body } => {
@@ -164,7 +164,7 @@ fn turn_after(
     requires days { joined_days days (part_after body.now new) < 2 ^ 32 }
     ensures same { IfOk result (λ r. after_in (shared s.now) r ≡ rule_in (After (Count days) (part_after body.now new))) }
     ensures less { IfOk result (λ r. IsLessIn new (shared body.now.value) → IsLessIn r (shared s.now)) }
-    ensures offsets { IfOk result (λ r. StoresOffsets body.now.value → StoresNew new → StoresNew r) }
+    ensures offsets { IfOk result (λ r. StoresOffsets body.now.value → NewStoresOffsets new → NewStoresOffsets r) }
 {
     if is_nothing_after(body, &new) {
         return Ok(Some(kept_part(body, new)?));
@@ -240,7 +240,7 @@ fn turn_let(
     requires low { height_of_contract (part_after body.now two) ≤ 2 ^ 30 }
     ensures same { IfOk result (λ r. after_in (shared s.now) r ≡ rule_in (let_after moved bound.now one body.now two)) }
     ensures less { IfOk result (λ r. IfTermAndBodyAreLess bound.now one body.now two (IsLessIn r (shared s.now))) }
-    ensures offsets { IfOk result (λ r. IfTermAndBodyStore bound.now one body.now two (StoresNew r)) }
+    ensures offsets { IfOk result (λ r. IfTermAndBodyStoreOffsets bound.now one body.now two (NewStoresOffsets r)) }
 {
     if is_literal_after(bound, &one) {
         let bound = kept(alloc, bound, one)?;
@@ -272,7 +272,7 @@ fn turn_within(
     requires test { DecidesTest (after (expression test.now.value) one) }
     ensures same { IfOk result (λ r. after_in (shared s.now) r ≡ rule_in (within_after test.now one days hit.now two miss.now three)) }
     ensures less { IfOk result (λ r. IfTestAndBranchesAreLess test.now one hit.now two miss.now three (IsLessIn r (shared s.now))) }
-    ensures offsets { IfOk result (λ r. IfTestAndBranchesStore test.now one hit.now two miss.now three (StoresNew r)) }
+    ensures offsets { IfOk result (λ r. IfTestAndBranchesStoreOffsets test.now one hit.now two miss.now three (NewStoresOffsets r)) }
 {
     match truth_after(test, &one) {
         Some(true) => Ok(Some(kept_part(hit, two)?)),
@@ -301,7 +301,7 @@ pub fn turn_in(
     requires { CanTurnIn (declarations decls.now) s.now (held_in names.now) }
     ensures same { IfOk result (λ r. IsTurnOfContract (declarations decls.now) (held_in names.now) s.now r) }
     ensures less { IfOk result (λ r. IsLessIn r (shared s.now)) }
-    ensures offsets { IfOk result (λ r. StoresOffsets s.now → StoresNew r) }
+    ensures offsets { IfOk result (λ r. StoresOffsets s.now → NewStoresOffsets r) }
 {
     match s {
         SharedContr::Zero | SharedContr::Pay { .. } => Ok(None),

@@ -7,7 +7,7 @@ ghost use Rattle.term_core.specs.Acceptance.{IsAccepted};
 ghost use Rattle.term_core.specs.SharedTerms.{shared, StoresOffsets};
 ghost use Rattle.term_core.specs.WellFormed.{IsClosed, HasOnlyNumbers};
 ghost use Rattle.rewriting.specs.Keeping.{IsNoLargerIn, StaysClosed};
-ghost use Rattle.rewriting.specs.RebuildingContracts.{IsLessIn, StoresNew};
+ghost use Rattle.rewriting.specs.RebuildingContracts.{IsLessIn, NewStoresOffsets};
 ghost use Rattle.term_core.specs.Literals.{HasLiteralsIn};
 ghost use Rattle.simplify.specs.Simplified.{PaysTheSame, ReadsNoMore, HasNoPlainRedex};
 ghost use Rattle.simplify.specs.TurnAnswers.{IsTurnOfContract};
@@ -29,7 +29,7 @@ pub fn turn_shared(
     requires offsets { StoresOffsets s.now.value }
     ensures same { IfOk result (λ r. IsTurnOfContract (declarations decls.now) [] s.now.value r) }
     ensures less { IfOk result (λ r. IsLessIn r (shared s.now.value)) }
-    ensures offsets { IfOk result (λ r. StoresNew r) }
+    ensures offsets { IfOk result (λ r. NewStoresOffsets r) }
 {
     turn_in(alloc, decls, s, &Scope::Empty)
 }

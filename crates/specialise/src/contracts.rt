@@ -6,7 +6,7 @@ ghost use Rattle.term_core.specs.Terms.{expression};
 ghost use Rattle.term_core.specs.Environments.{IsAdmitted};
 ghost use Rattle.term_core.specs.SharedTerms.{HasOffsets, StoresOffsets};
 ghost use Rattle.rewriting.specs.Rebuilding.{after};
-ghost use Rattle.rewriting.specs.RebuildingContracts.{StoresNew};
+ghost use Rattle.rewriting.specs.RebuildingContracts.{NewStoresOffsets};
 ghost use Rattle.specialise.specs.Specialisable.{CanTellIn, CanTellLater};
 ghost use Rattle.specialise.specs.WalkAnswers.{TakesItsPlaceIn, TakesItsPlaceLater};
 
@@ -52,7 +52,7 @@ pub fn specialise_from(
     requires stored { StoresOffsets s.now }
     requires admitted { IsAdmitted (declarations decls.now) fixings.now }
     ensures tree { IfOk result (λ new. TakesItsPlaceIn (declarations decls.now) fixings.now (Some day) s.now new) }
-    ensures stores { IfOk result (λ new. StoresNew new) }
+    ensures stores { IfOk result (λ new. NewStoresOffsets new) }
 {
     match s {
         SharedContr::Zero | SharedContr::Pay { .. } => Ok(None),

@@ -10,7 +10,7 @@ use Rattle.term_core.specs.SharedTerms.{shared, StoresOffsets}
 use Rattle.term_core.specs.Values.{kind_or}
 use Rattle.interval_check.specs.RangeTrials.{kind_found}
 use Rattle.rewriting.specs.Rebuilding.{after}
-use Rattle.rewriting.specs.RebuildingContracts.{after_in, StoresNew}
+use Rattle.rewriting.specs.RebuildingContracts.{after_in, NewStoresOffsets}
 use Rattle.term_core.specs.Scopes.{held_in}
 use Rattle.simplify.specs.Turning.{turned}
 use Rattle.simplify.specs.TurningContracts.{turned_in}
@@ -55,8 +55,8 @@ returns-in_ok-two-in-Scale-clause-offsets t c =
     let e = expression c.in-Scale.factor.value in
     let p : after e c.in_ok-one-in-Scale.one.new ≡ turned d ks e =
     subst (λ (v : Expr). after (expression v) c.in_ok-one-in-Scale.one.new ≡ turned d ks (expression v)) c.deref-in-Scale.ensures c.in_ok-one-in-Scale.ensures.same in
-    let q : StoresOffsets c.in-Scale.body.value → StoresNew c.in_ok-two-in-Scale.two =
-    subst (λ (v : SharedContr). StoresOffsets v → StoresNew c.in_ok-two-in-Scale.two) c.deref-in-Scale-2.ensures c.in_ok-two-in-Scale.ensures.offsets in
+    let q : StoresOffsets c.in-Scale.body.value → NewStoresOffsets c.in_ok-two-in-Scale.two =
+    subst (λ (v : SharedContr). StoresOffsets v → NewStoresOffsets c.in_ok-two-in-Scale.two) c.deref-in-Scale-2.ensures c.in_ok-two-in-Scale.ensures.offsets in
     factor_stores d ks e (after e c.in_ok-one-in-Scale.one.new) c.args.s.now c.in-Scale.body.value c.in_ok-two-in-Scale.two c.turn_scale.result (subst (λ (v : SharedContr). StoresOffsets v) c.in-Scale.is) p q c.turn_scale.ensures.offsets
 
 pub returns-in_ok-two-in-Let-clause-offsets : goal.returns-in_ok-two-in-Let-clause-offsets
@@ -66,8 +66,8 @@ returns-in_ok-two-in-Let-clause-offsets t c =
     let e = expression c.in-Let.bound.value in
     let p : after e c.in_ok-one-in-Let.one.new ≡ turned d ks e =
     subst (λ (v : Expr). after (expression v) c.in_ok-one-in-Let.one.new ≡ turned d ks (expression v)) c.deref-in-Let.ensures c.in_ok-one-in-Let.ensures.same in
-    let q : StoresOffsets c.in-Let.body.value → StoresNew c.in_ok-two-in-Let.two =
-    subst (λ (v : SharedContr). StoresOffsets v → StoresNew c.in_ok-two-in-Let.two) c.deref-in-Let-2.ensures c.in_ok-two-in-Let.ensures.offsets in
+    let q : StoresOffsets c.in-Let.body.value → NewStoresOffsets c.in_ok-two-in-Let.two =
+    subst (λ (v : SharedContr). StoresOffsets v → NewStoresOffsets c.in_ok-two-in-Let.two) c.deref-in-Let-2.ensures c.in_ok-two-in-Let.ensures.offsets in
     factor_stores d ks e (after e c.in_ok-one-in-Let.one.new) c.args.s.now c.in-Let.body.value c.in_ok-two-in-Let.two c.turn_let.result (subst (λ (v : SharedContr). StoresOffsets v) c.in-Let.is) p q c.turn_let.ensures.offsets
 
 pub returns-in_ok-three-in-Within-clause-offsets : goal.returns-in_ok-three-in-Within-clause-offsets
@@ -77,8 +77,8 @@ returns-in_ok-three-in-Within-clause-offsets t c =
     let e = expression c.in-Within.test.value in
     let p : after e c.in_ok-one-in-Within.one.new ≡ turned d ks e =
     subst (λ (v : Expr). after (expression v) c.in_ok-one-in-Within.one.new ≡ turned d ks (expression v)) c.deref-in-Within.ensures c.in_ok-one-in-Within.ensures.same in
-    let q : StoresOffsets c.in-Within.hit.value → StoresNew c.in_ok-two-in-Within.two =
-    subst (λ (v : SharedContr). StoresOffsets v → StoresNew c.in_ok-two-in-Within.two) c.deref-in-Within-2.ensures c.in_ok-two-in-Within.ensures.offsets in
-    let u : StoresOffsets c.in-Within.miss.value → StoresNew c.in_ok-three-in-Within.three =
-    subst (λ (v : SharedContr). StoresOffsets v → StoresNew c.in_ok-three-in-Within.three) c.deref-in-Within-3.ensures c.in_ok-three-in-Within.ensures.offsets in
+    let q : StoresOffsets c.in-Within.hit.value → NewStoresOffsets c.in_ok-two-in-Within.two =
+    subst (λ (v : SharedContr). StoresOffsets v → NewStoresOffsets c.in_ok-two-in-Within.two) c.deref-in-Within-2.ensures c.in_ok-two-in-Within.ensures.offsets in
+    let u : StoresOffsets c.in-Within.miss.value → NewStoresOffsets c.in_ok-three-in-Within.three =
+    subst (λ (v : SharedContr). StoresOffsets v → NewStoresOffsets c.in_ok-three-in-Within.three) c.deref-in-Within-3.ensures c.in_ok-three-in-Within.ensures.offsets in
     test_stores d ks e (after e c.in_ok-one-in-Within.one.new) c.args.s.now c.in-Within.hit.value c.in_ok-two-in-Within.two c.turn_within.result c.in-Within.miss.value c.in_ok-three-in-Within.three (subst (λ (v : SharedContr). StoresOffsets v) c.in-Within.is) p q u c.turn_within.ensures.offsets
