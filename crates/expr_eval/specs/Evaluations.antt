@@ -39,11 +39,11 @@ KindFitsIn decls e names = KindFits (declarations decls) e (kinds_in names)
 
 -- ---- the forms whose parts are evaluated apart
 
-abbrev pub sides : LogicOp → Expr → Expr → Expression
-sides op left right = Logic op (expression left) (expression right)
+abbrev pub logic_over : LogicOp → Expr → Expr → Expression
+logic_over op left right = Logic op (expression left) (expression right)
 
-abbrev pub branches : Expr → Expr → Expr → Expression
-branches t a b = Cond (expression t) (expression a) (expression b)
+abbrev pub conditional_over : Expr → Expr → Expr → Expression
+conditional_over t a b = Cond (expression t) (expression a) (expression b)
 
 abbrev pub comparison : Comparison → Expression
 comparison test = Cmp test.op (expression test.left.now) (expression test.right.now)

@@ -6,7 +6,7 @@ ghost use Rattle.term_core.specs.Terms.{expression};
 ghost use Rattle.expr_eval.specs.Bindings.{bindings};
 ghost use Rattle.expr_eval.specs.Runs.{both_run, day_run, days_run, observation, of_binding, run_of, untyped};
 ghost use Rattle.expr_eval.specs.Fits.{DayFitsIn, DaysFitIn, Fits, IsDay};
-ghost use Rattle.expr_eval.specs.Evaluations.{branches, sides};
+ghost use Rattle.expr_eval.specs.Evaluations.{conditional_over, logic_over};
 
 use crate::bindings::{Bindings, binding_at};
 use crate::kinds::{kind_in, kind_observed};
@@ -187,8 +187,8 @@ fn evaluate_logic(
     fixings: &Fixings,
     day: i64,
 ) -> Result<Typed, Missing>
-    requires { Fits (declarations decls.now) (sides op left.now right.now) (bindings names.now) fixings.now day }
-    ensures { result ≡ run_of (declarations decls.now) (sides op left.now right.now) (bindings names.now) fixings.now day }
+    requires { Fits (declarations decls.now) (logic_over op left.now right.now) (bindings names.now) fixings.now day }
+    ensures { result ≡ run_of (declarations decls.now) (logic_over op left.now right.now) (bindings names.now) fixings.now day }
 {
     let left = evaluate(decls, left, names, fixings, day)?.value.is_true();
     if is_decided(op, left) {
@@ -209,8 +209,8 @@ fn evaluate_branches(
     fixings: &Fixings,
     day: i64,
 ) -> Result<Typed, Missing>
-    requires { Fits (declarations decls.now) (branches test.now yes.now no.now) (bindings names.now) fixings.now day }
-    ensures { result ≡ run_of (declarations decls.now) (branches test.now yes.now no.now) (bindings names.now) fixings.now day }
+    requires { Fits (declarations decls.now) (conditional_over test.now yes.now no.now) (bindings names.now) fixings.now day }
+    ensures { result ≡ run_of (declarations decls.now) (conditional_over test.now yes.now no.now) (bindings names.now) fixings.now day }
 {
     let test = evaluate(decls, test, names, fixings, day)?;
     if test.value.is_true() {

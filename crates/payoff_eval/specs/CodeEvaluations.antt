@@ -52,11 +52,11 @@ abbrev pub both_on : Asking → Expression → Expression → Bindings → ℤ �
 both_on q x y names f = both_run (declarations q.decls.now) x y (bindings names) q.fixings.now f
 
 -- the forms whose parts are evaluated apart
-abbrev pub sides : Asking → LogicOp → Vx → Vx → Expression
-sides q op x y = Logic op (dated q x) (dated q y)
+abbrev pub logic_over : Asking → LogicOp → Vx → Vx → Expression
+logic_over q op x y = Logic op (dated q x) (dated q y)
 
-abbrev pub branches : Asking → Vx → Vx → Vx → Expression
-branches q t x y = Cond (dated q t) (dated q x) (dated q y)
+abbrev pub conditional_over : Asking → Vx → Vx → Vx → Expression
+conditional_over q t x y = Cond (dated q t) (dated q x) (dated q y)
 
 -- a day of an accumulator with this body, and its first n days
 abbrev pub day_run_on : Asking → Expression → Bindings → ℤ → Typed → Answer

@@ -3,7 +3,7 @@
 
 ghost use Rattle.std.specs.Prelude.{◌≡◌};
 ghost use Rattle.expr_eval.specs.Fits.{IsDay};
-ghost use Rattle.payoff_eval.specs.CodeEvaluations.{DayFitsOn, DaysFitOn, FitsOn, HasDates, both_on, branches, dated, day_run_on, days_run_on, run_on, sides};
+ghost use Rattle.payoff_eval.specs.CodeEvaluations.{DayFitsOn, DaysFitOn, FitsOn, HasDates, both_on, conditional_over, dated, day_run_on, days_run_on, logic_over, run_on};
 
 use crate::asking::Asking;
 use crate::dates::day_of;
@@ -109,8 +109,8 @@ fn evaluate_logic(
     day: i64,
 ) -> Result<Typed, Missing>
     requires dates { HasDates asking.now left.now × HasDates asking.now right.now }
-    requires fits { FitsOn asking.now (sides asking.now op left.now right.now) names.now day }
-    ensures { result ≡ run_on asking.now (sides asking.now op left.now right.now) names.now day }
+    requires fits { FitsOn asking.now (logic_over asking.now op left.now right.now) names.now day }
+    ensures { result ≡ run_on asking.now (logic_over asking.now op left.now right.now) names.now day }
 {
     let left = evaluate(asking, left, names, day)?.value.is_true();
     if is_decided(op, left) {
@@ -131,8 +131,8 @@ fn evaluate_branches(
     day: i64,
 ) -> Result<Typed, Missing>
     requires dates { HasDates asking.now test.now × HasDates asking.now yes.now × HasDates asking.now no.now }
-    requires fits { FitsOn asking.now (branches asking.now test.now yes.now no.now) names.now day }
-    ensures { result ≡ run_on asking.now (branches asking.now test.now yes.now no.now) names.now day }
+    requires fits { FitsOn asking.now (conditional_over asking.now test.now yes.now no.now) names.now day }
+    ensures { result ≡ run_on asking.now (conditional_over asking.now test.now yes.now no.now) names.now day }
 {
     let test = evaluate(asking, test, names, day)?;
     if test.value.is_true() {
