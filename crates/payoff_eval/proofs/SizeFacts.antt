@@ -54,7 +54,7 @@ sum_within v w t u i j n hi hj hv hw =
     let most = size_plus (raised v (n - i)) (raised w (n - j)) in
     subst (λ (z : ℤ). unsigned_abs z ≤ (t * 10 ^ (max i j - i) + u * 10 ^ (max i j - j)) * 10 ^ (n - max i j)) (parts_raised v w n i j hi hj) (omega arith)
 
-raised_up : (v : ℤ) (i m n : ℕ) → i ≤ m → m ≤ n → raised (raised v (m - i)) (n - m) ≡ raised v (n - i)
+pub raised_up : (v : ℤ) (i m n : ℕ) → i ≤ m → m ≤ n → raised (raised v (m - i)) (n - m) ≡ raised v (n - i)
 raised_up v i m n le lt =
     let steps : (m - i) + (n - m) ≡ n - i = omega arith in
     raised-raised v (m - i) (n - m) ∙ ap (λ (e : ℕ). raised v e) steps
