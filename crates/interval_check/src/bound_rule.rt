@@ -3,12 +3,13 @@
 //! total, or the number of the node at fault, counted from the contract's own first node; nodes before it are counted
 //! only on the way up from a fault, so that no part is visited more than twice.
 
-ghost use Rattle.std.specs.Prelude.{◌≡◌, ◌<◌, ◌+◌, ◌^◌, pos, [], IfErr, IfOk};
+ghost use Rattle.std.specs.Prelude.{◌≡◌, ◌<◌, ◌+◌, ◌^◌, pos, [], IfOk};
 ghost use Rattle.term_core.specs.Declarations.{declarations};
 ghost use Rattle.term_core.specs.declared.rules.Rule.{Rule};
 ghost use Rattle.term_core.specs.Terms.{expression, contract, Scale, Let};
 ghost use Rattle.term_core.specs.Sizes.{nodes, nodes_of_contract};
 ghost use Rattle.term_core.specs.Bounds.{range_kinds, aligned_total};
+ghost use Rattle.term_core.specs.Trying.{FaultIsWithin};
 ghost use Rattle.term_core.specs.Acceptance.{Meets};
 ghost use Rattle.term_core.specs.Verdicts.{IsVerdict};
 ghost use Rattle.interval_check.specs.RangeScopes.{ranges_in};
@@ -32,7 +33,7 @@ pub fn total_of(decls: &Decls, c: &Contr, scope: &Scope<Range>) -> Result<Total,
     requires nodes { nodes_of_contract (contract c.now) < 2 ^ 32 }
     requires scaled { PaysScaledAmong decls.now c.now scope.now }
     ensures total { total_found result ≡ total_among decls.now c.now scope.now }
-    ensures below { IfErr result (λ node. node < nodes_of_contract (contract c.now)) }
+    ensures below { FaultIsWithin (nodes_of_contract (contract c.now)) result }
     ensures fits { IfOk result (λ t. IsTotal decls.now.amounts t) }
 {
     match c {
@@ -73,7 +74,7 @@ fn total_of_scale(
         (range_kinds (ranges_in scope.now)) }
     ensures total { total_found result ≡ total_tried (declarations decls.now)
         (Scale (expression factor.now) (contract body.now)) (ranges_in scope.now) }
-    ensures below { IfErr result (λ node. node < nodes (expression factor.now) + nodes_of_contract (contract body.now) + 1) }
+    ensures below { FaultIsWithin (nodes (expression factor.now) + nodes_of_contract (contract body.now) + 1) result }
     ensures fits { IfOk result (λ t. IsTotal decls.now.amounts t) }
 {
     let range = behind_node(range_of(decls, factor, scope))?;
@@ -94,7 +95,7 @@ fn total_of_let(
         (range_kinds (ranges_in scope.now)) }
     ensures total { total_found result ≡ total_tried (declarations decls.now)
         (Let (expression bound.now) (contract body.now)) (ranges_in scope.now) }
-    ensures below { IfErr result (λ node. node < nodes (expression bound.now) + nodes_of_contract (contract body.now) + 1) }
+    ensures below { FaultIsWithin (nodes (expression bound.now) + nodes_of_contract (contract body.now) + 1) result }
     ensures fits { IfOk result (λ t. IsTotal decls.now.amounts t) }
 {
     let range = behind_node(range_of(decls, bound, scope))?;

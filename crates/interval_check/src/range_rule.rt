@@ -3,12 +3,12 @@
 //! fault. So no part is visited more than twice, but for the body of an accumulator, which is tried anew for each day
 //! until a day changes nothing.
 
-ghost use Rattle.std.specs.Prelude.{◌≡◌, ◌<◌, ◌+◌, ◌^◌, ◌∷◌, IfErr, IfOk};
+ghost use Rattle.std.specs.Prelude.{◌≡◌, ◌<◌, ◌+◌, ◌^◌, ◌∷◌, IfOk};
 ghost use Rattle.term_core.specs.Declarations.{declarations};
 ghost use Rattle.term_core.specs.Terms.{expression, Acc};
 ghost use Rattle.term_core.specs.Sizes.{nodes};
 ghost use Rattle.term_core.specs.Bounds.{range_kinds, single};
-ghost use Rattle.term_core.specs.Trying.{moved};
+ghost use Rattle.term_core.specs.Trying.{FaultIsWithin, moved};
 ghost use Rattle.interval_check.specs.Intervals.{interval};
 ghost use Rattle.interval_check.specs.Ranges.{range, range_found, operands_found, IsFit};
 ghost use Rattle.interval_check.specs.RangeScopes.{ranges_in};
@@ -30,7 +30,7 @@ pub fn range_of(decls: &Decls, e: &Expr, scope: &Scope<Range>) -> Result<Range, 
     requires nodes { nodes (expression e.now) < 2 ^ 32 }
     requires scaled { IsScaledAmong decls.now e.now scope.now }
     ensures range { range_found result ≡ range_among decls.now e.now scope.now }
-    ensures below { IfErr result (λ node. node < nodes (expression e.now)) }
+    ensures below { FaultIsWithin (nodes (expression e.now)) result }
     ensures fit { IfOk result (λ r. IsFit (range r)) }
 {
     match e {
@@ -103,7 +103,7 @@ fn ranges_of(
     requires right { IsScaledAmong decls.now right.now scope.now }
     ensures ranges { operands_found result ≡ operands (nodes (expression left.now))
         (range_among decls.now left.now scope.now) (range_among decls.now right.now scope.now) }
-    ensures below { IfErr result (λ node. node < nodes (expression left.now) + nodes (expression right.now) + 1) }
+    ensures below { FaultIsWithin (nodes (expression left.now) + nodes (expression right.now) + 1) result }
     ensures left { IfOk result (λ p. IsFit (range p.left)) }
     ensures right { IfOk result (λ p. IsFit (range p.right)) }
 {
@@ -129,8 +129,7 @@ fn ranges_after(
     requires right { IsScaledAmong decls.now right.now scope.now }
     ensures ranges { operands_found result ≡ moved (nodes (expression before.now)) (operands (nodes (expression left.now))
         (range_among decls.now left.now scope.now) (range_among decls.now right.now scope.now)) }
-    ensures below { IfErr result
-        (λ node. node < nodes (expression before.now) + nodes (expression left.now) + nodes (expression right.now) + 1) }
+    ensures below { FaultIsWithin (nodes (expression before.now) + nodes (expression left.now) + nodes (expression right.now) + 1) result }
     ensures left { IfOk result (λ p. IsFit (range p.left)) }
     ensures right { IfOk result (λ p. IsFit (range p.right)) }
 {
@@ -154,7 +153,7 @@ fn range_of_acc(
         (range_kinds (ranges_in scope.now)) }
     ensures range { range_found result ≡ range_tried (declarations decls.now) (Acc (expression body.now) days (expression first.now))
         (ranges_in scope.now) }
-    ensures below { IfErr result (λ node. node < nodes (expression body.now) + nodes (expression first.now) + 1) }
+    ensures below { FaultIsWithin (nodes (expression body.now) + nodes (expression first.now) + 1) result }
     ensures fit { IfOk result (λ r. IsFit (range r)) }
 {
     let start = behind(body, range_of(decls, first, scope))?;
@@ -176,7 +175,7 @@ fn accumulated(
     requires start { IsFit (range start) }
     ensures range { range_found result ≡ days_tried days
         (day_tried (λ g. range_tried (declarations decls.now) (expression body.now) g) (ranges_in scope.now)) (range start) }
-    ensures below { IfErr result (λ node. node < nodes (expression body.now) + 1) }
+    ensures below { FaultIsWithin (nodes (expression body.now) + 1) result }
     ensures fit { IfOk result (λ r. IsFit (range r)) }
 {
     let mut so_far = start;
@@ -203,7 +202,7 @@ fn range_of_day(
     requires so_far { IsFit (range so_far) }
     ensures range { range_found result ≡ day_tried (λ g. range_tried (declarations decls.now) (expression body.now) g)
         (ranges_in scope.now) (range so_far) }
-    ensures below { IfErr result (λ node. node < nodes (expression body.now) + 1) }
+    ensures below { FaultIsWithin (nodes (expression body.now) + 1) result }
     ensures fit { IfOk result (λ r. IsFit (range r)) }
     ensures kind { IfOk result (λ r. r.kind ≡ so_far.kind) }
 {

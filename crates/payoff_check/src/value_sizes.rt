@@ -4,7 +4,7 @@
 
 ghost use Rattle.std.specs.Prelude.{◌≡◌, ◌<◌, ◌≤◌, ◌+◌, ◌^◌, IfOk, IfErr};
 ghost use Rattle.term_core.specs.Sizes.{nodes};
-ghost use Rattle.term_core.specs.Trying.{IsWithin, moved};
+ghost use Rattle.term_core.specs.Trying.{FaultIsWithin, moved};
 ghost use Rattle.payoff_check.specs.Trials.{plain_value};
 ghost use Rattle.payoff_check.specs.SizeTrials.{IsLimited, acc_tried, nodes_at, one_tried, three_tried, tried_at, two_tried};
 
@@ -42,7 +42,7 @@ pub fn size_of_value(setting: &[u32], e: &Vx) -> Result<ValueSize, u32>
     requires { nodes_at setting.now e.now < 2 ^ 32 }
     ensures size { result ≡ tried_at setting.now e.now }
     ensures limits { IfOk result IsLimited }
-    ensures below { IsWithin (nodes_at setting.now e.now) result }
+    ensures below { FaultIsWithin (nodes_at setting.now e.now) result }
 {
     match e {
         Vx::Lit { .. } => ValueSize::leaf().limited(0),
@@ -68,7 +68,7 @@ fn size_over_one(setting: &[u32], of: &Vx) -> Result<ValueSize, u32>
     requires { nodes_at setting.now of.now + 1 < 2 ^ 32 }
     ensures size { result ≡ one_tried (tried_at setting.now of.now) }
     ensures limits { IfOk result IsLimited }
-    ensures below { IsWithin (nodes_at setting.now of.now + 1) result }
+    ensures below { FaultIsWithin (nodes_at setting.now of.now + 1) result }
 {
     let part = behind_node(size_of_value(setting, of))?;
     part.over_one().limited(0)
@@ -81,7 +81,7 @@ fn size_over_two(setting: &[u32], left: &Vx, right: &Vx) -> Result<ValueSize, u3
     requires { nodes_at setting.now left.now + nodes_at setting.now right.now + 1 < 2 ^ 32 }
     ensures size { result ≡ two_tried (nodes_at setting.now left.now) (tried_at setting.now left.now) (tried_at setting.now right.now) }
     ensures limits { IfOk result IsLimited }
-    ensures below { IsWithin (nodes_at setting.now left.now + nodes_at setting.now right.now + 1) result }
+    ensures below { FaultIsWithin (nodes_at setting.now left.now + nodes_at setting.now right.now + 1) result }
 {
     let left_size = behind_node(size_of_value(setting, left))?;
     let right_size = behind_value(left, size_of_value(setting, right))?;
@@ -96,7 +96,7 @@ fn size_over_three(setting: &[u32], test: &Vx, yes: &Vx, no: &Vx) -> Result<Valu
     ensures size { result ≡ three_tried (nodes_at setting.now test.now) (nodes_at setting.now yes.now)
         (tried_at setting.now test.now) (tried_at setting.now yes.now) (tried_at setting.now no.now) }
     ensures limits { IfOk result IsLimited }
-    ensures below { IsWithin (nodes_at setting.now test.now + nodes_at setting.now yes.now + nodes_at setting.now no.now + 1) result }
+    ensures below { FaultIsWithin (nodes_at setting.now test.now + nodes_at setting.now yes.now + nodes_at setting.now no.now + 1) result }
 {
     let test_size = behind_node(size_of_value(setting, test))?;
     let yes_size = behind_value(test, size_of_value(setting, yes))?;
@@ -112,7 +112,7 @@ fn size_over_days(setting: &[u32], body: &Vx, days: u32, first: &Vx) -> Result<V
     ensures size { result ≡ acc_tried (nodes_at setting.now body.now) days
         (tried_at setting.now first.now) (tried_at setting.now body.now) }
     ensures limits { IfOk result IsLimited }
-    ensures below { IsWithin (nodes_at setting.now body.now + nodes_at setting.now first.now + 1) result }
+    ensures below { FaultIsWithin (nodes_at setting.now body.now + nodes_at setting.now first.now + 1) result }
 {
     let first_size = behind_value(body, size_of_value(setting, first))?;
     let body_size = behind_node(size_of_value(setting, body))?;

@@ -14,6 +14,7 @@ ghost use Rattle.term_core.specs.Sizes.{nodes, nodes_of_contract, height_of_cont
 ghost use Rattle.term_core.specs.WellFormed.{IsClosed};
 ghost use Rattle.term_core.specs.Acceptance.{Meets};
 ghost use Rattle.term_core.specs.Scopes.{held_in};
+ghost use Rattle.term_core.specs.Trying.{FaultIsWithin};
 ghost use Rattle.term_core.specs.Verdicts.{IsVerdict};
 ghost use Rattle.scale_check.specs.ScaleTrials.{at_most, not_above, two_tried, scale_tried, acc_tried, choice_tried, contract_tried};
 
@@ -71,7 +72,7 @@ pub fn scale_of_expr(decls: &Decls, e: &Expr, scope: &Scope<u8>) -> Result<u8, u
     requires { nodes (expression e.now) < 2 ^ 32 }
     ensures scale { result ≡ scale_tried (declarations decls.now) (expression e.now) (held_in scope.now) }
     ensures within { IfOk result (λ scale. scale ≤ 27) }
-    ensures below { IfErr result (λ node. node < nodes (expression e.now)) }
+    ensures below { FaultIsWithin (nodes (expression e.now)) result }
 {
     match e {
         Expr::Lit { scale, .. } => keep(GREATEST, *scale),
@@ -120,7 +121,7 @@ fn try_two(
         (scale_tried (declarations decls.now) (expression left.now) (held_in scope.now))
         (scale_tried (declarations decls.now) (expression right.now) (held_in scope.now)) }
     ensures within { IfOk result (λ scale. scale ≤ 27) }
-    ensures below { IfErr result (λ node. node < nodes (expression left.now) + nodes (expression right.now) + 1) }
+    ensures below { FaultIsWithin (nodes (expression left.now) + nodes (expression right.now) + 1) result }
 {
     behind_node(scale_of_expr(decls, left, scope))?;
     behind(left, scale_of_expr(decls, right, scope))?;
@@ -142,8 +143,7 @@ fn scale_of_choice(
         (scale_tried (declarations decls.now) (expression yes.now) (held_in scope.now))
         (scale_tried (declarations decls.now) (expression no.now) (held_in scope.now)) }
     ensures within { IfOk result (λ scale. scale ≤ 27) }
-    ensures below { IfErr result
-        (λ node. node < nodes (expression test.now) + nodes (expression yes.now) + nodes (expression no.now) + 1) }
+    ensures below { FaultIsWithin (nodes (expression test.now) + nodes (expression yes.now) + nodes (expression no.now) + 1) result }
 {
     behind_node(scale_of_expr(decls, test, scope))?;
     let yes_scale = behind(test, scale_of_expr(decls, yes, scope))?;
@@ -159,7 +159,7 @@ fn scale_of_run(decls: &Decls, body: &Expr, first: &Expr, scope: &Scope<u8>) -> 
         (scale_tried (declarations decls.now) (expression first.now) (held_in scope.now))
         (λ s. scale_tried (declarations decls.now) (expression body.now) (s ∷ held_in scope.now)) }
     ensures within { IfOk result (λ scale. scale ≤ 27) }
-    ensures below { IfErr result (λ node. node < nodes (expression body.now) + nodes (expression first.now) + 1) }
+    ensures below { FaultIsWithin (nodes (expression body.now) + nodes (expression first.now) + 1) result }
 {
     let scale = behind(body, scale_of_expr(decls, first, scope))?;
     let inner = Scope::Bound {
@@ -175,7 +175,7 @@ fn try_scale(decls: &Decls, c: &Contr, scope: &Scope<u8>) -> Result<u8, u32>
     requires { nodes_of_contract (contract c.now) < 2 ^ 32 }
     ensures scale { result ≡ contract_tried (declarations decls.now) (contract c.now) (held_in scope.now) }
     ensures within { IfOk result (λ scale. scale ≤ decls.now.amounts) }
-    ensures below { IfErr result (λ node. node < nodes_of_contract (contract c.now)) }
+    ensures below { FaultIsWithin (nodes_of_contract (contract c.now)) result }
 {
     match c {
         Contr::Zero => Ok(0),

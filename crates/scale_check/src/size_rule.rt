@@ -3,9 +3,10 @@
 //! 10,000,000. The trial of a part answers its size, or the number of the node at fault, counted from the part's own
 //! first node; nodes before it are counted only on the way up from a fault, so that no part is visited more than twice.
 
-ghost use Rattle.std.specs.Prelude.{◌≡◌, ◌<◌, ◌≤◌, ◌+◌, ◌^◌, IfOk, IfErr};
+ghost use Rattle.std.specs.Prelude.{◌≡◌, ◌<◌, ◌≤◌, ◌+◌, ◌^◌, IfOk};
 ghost use Rattle.term_core.specs.Terms.{expression, contract};
 ghost use Rattle.term_core.specs.Sizes.{nodes, nodes_of_contract, height_of_contract};
+ghost use Rattle.term_core.specs.Trying.{FaultIsWithin};
 ghost use Rattle.term_core.specs.WellFormed.{HasOnlyNumbers};
 ghost use Rattle.scale_check.specs.PartSizes.{IsLimited};
 ghost use Rattle.scale_check.specs.SizeTrials.{one_tried, two_tried, three_tried, acc_tried, size_tried, behind_tried, contract_tried};
@@ -22,7 +23,7 @@ fn size_of_expr(e: &Expr) -> Result<Size, u32>
     requires { nodes (expression e.now) < 2 ^ 32 }
     ensures size { result ≡ size_tried (expression e.now) }
     ensures limits { IfOk result IsLimited }
-    ensures below { IfErr result (λ node. node < nodes (expression e.now)) }
+    ensures below { FaultIsWithin (nodes (expression e.now)) result }
 {
     match e {
         Expr::Lit { .. } => Size::leaf(0).limited(0),
@@ -48,7 +49,7 @@ fn size_over_one(of: &Expr) -> Result<Size, u32>
     requires { nodes (expression of.now) + 1 < 2 ^ 32 }
     ensures size { result ≡ one_tried (size_tried (expression of.now)) }
     ensures limits { IfOk result IsLimited }
-    ensures below { IfErr result (λ node. node < nodes (expression of.now) + 1) }
+    ensures below { FaultIsWithin (nodes (expression of.now) + 1) result }
 {
     let part = behind_node(size_of_expr(of))?;
     Size::over_one(part).limited(0)
@@ -60,7 +61,7 @@ fn size_over_two(left: &Expr, right: &Expr) -> Result<Size, u32>
     requires { nodes (expression left.now) + nodes (expression right.now) + 1 < 2 ^ 32 }
     ensures size { result ≡ two_tried (nodes (expression left.now)) (size_tried (expression left.now)) (size_tried (expression right.now)) }
     ensures limits { IfOk result IsLimited }
-    ensures below { IfErr result (λ node. node < nodes (expression left.now) + nodes (expression right.now) + 1) }
+    ensures below { FaultIsWithin (nodes (expression left.now) + nodes (expression right.now) + 1) result }
 {
     let left_size = behind_node(size_of_expr(left))?;
     let right_size = behind(left, size_of_expr(right))?;
@@ -74,8 +75,7 @@ fn size_over_three(test: &Expr, yes: &Expr, no: &Expr) -> Result<Size, u32>
     ensures size { result ≡ three_tried (nodes (expression test.now)) (nodes (expression yes.now))
         (size_tried (expression test.now)) (size_tried (expression yes.now)) (size_tried (expression no.now)) }
     ensures limits { IfOk result IsLimited }
-    ensures below { IfErr result
-        (λ node. node < nodes (expression test.now) + nodes (expression yes.now) + nodes (expression no.now) + 1) }
+    ensures below { FaultIsWithin (nodes (expression test.now) + nodes (expression yes.now) + nodes (expression no.now) + 1) result }
 {
     let test_size = behind_node(size_of_expr(test))?;
     let yes_size = behind(test, size_of_expr(yes))?;
@@ -90,7 +90,7 @@ fn size_over_days(body: &Expr, days: u32, first: &Expr) -> Result<Size, u32>
     ensures size { result ≡ acc_tried (nodes (expression body.now)) days
         (size_tried (expression first.now)) (size_tried (expression body.now)) }
     ensures limits { IfOk result IsLimited }
-    ensures below { IfErr result (λ node. node < nodes (expression body.now) + nodes (expression first.now) + 1) }
+    ensures below { FaultIsWithin (nodes (expression body.now) + nodes (expression first.now) + 1) result }
 {
     let first_size = behind(body, size_of_expr(first))?;
     let body_size = behind_node(size_of_expr(body))?;
@@ -103,7 +103,7 @@ fn try_size(c: &Contr) -> Result<Size, u32>
     requires { nodes_of_contract (contract c.now) < 2 ^ 32 }
     ensures size { result ≡ contract_tried (contract c.now) }
     ensures limits { IfOk result IsLimited }
-    ensures below { IfErr result (λ node. node < nodes_of_contract (contract c.now)) }
+    ensures below { FaultIsWithin (nodes_of_contract (contract c.now)) result }
 {
     match c {
         Contr::Zero => Size::unit().limited(0),
@@ -141,7 +141,7 @@ fn try_behind(e: &Expr, c: &Contr) -> Result<Size, u32>
     requires { nodes (expression e.now) + nodes_of_contract (contract c.now) + 1 < 2 ^ 32 }
     ensures size { result ≡ behind_tried (nodes (expression e.now)) (size_tried (expression e.now)) (contract_tried (contract c.now)) }
     ensures limits { IfOk result IsLimited }
-    ensures below { IfErr result (λ node. node < nodes (expression e.now) + nodes_of_contract (contract c.now) + 1) }
+    ensures below { FaultIsWithin (nodes (expression e.now) + nodes_of_contract (contract c.now) + 1) result }
 {
     let expr_size = behind_node(size_of_expr(e))?;
     let contr_size = behind(e, try_size(c))?;

@@ -18,5 +18,5 @@ or_here None = Err 0
 or_here (Some a) = Ok a
 
 -- a fault is one of the first n nodes
-abbrev pub IsWithin : {A : Type 0} → ℕ → Result A ℕ → Type 0
-IsWithin n answer = IfErr answer (λ node. node < n)
+abbrev pub FaultIsWithin : {A : Type 0} → ℕ → Result A ℕ → Type 0
+FaultIsWithin n answer = IfErr answer (λ node. node < n)

@@ -8,7 +8,7 @@ ghost use Rattle.term_core.specs.declared.rules.Rule.{Rule};
 ghost use Rattle.term_core.specs.Terms.{expression, contract};
 ghost use Rattle.term_core.specs.Sizes.{nodes, nodes_of_contract, height_of_contract};
 ghost use Rattle.term_core.specs.Scopes.{held_in};
-ghost use Rattle.term_core.specs.Trying.{or_here};
+ghost use Rattle.term_core.specs.Trying.{FaultIsWithin, or_here};
 ghost use Rattle.time_types.specs.SortTrials.{expected, required, one_tried, two_tried, sort_tried, sorts_tried};
 ghost use Rattle.term_core.specs.Verdicts.{IsVerdict};
 
@@ -49,7 +49,7 @@ fn found(sort: Option<Sort>) -> Result<Sort, u32>
 pub fn sort_of_expr(decls: &Decls, e: &Expr, scope: &Scope<Sort>) -> Result<Sort, u32>
     requires { nodes (expression e.now) < 2 ^ 32 }
     ensures sort { result ≡ sort_tried (declarations decls.now) (expression e.now) (held_in scope.now) }
-    ensures below { IfErr result (λ node. node < nodes (expression e.now)) }
+    ensures below { FaultIsWithin (nodes (expression e.now)) result }
 {
     match e {
         Expr::Lit { .. } => Ok(Sort::Number),
@@ -102,7 +102,7 @@ fn sort_of_one(
 ) -> Result<Sort, u32>
     requires { nodes (expression of.now) + 1 < 2 ^ 32 }
     ensures sort { result ≡ one_tried wanted answer (sort_tried (declarations decls.now) (expression of.now) (held_in scope.now)) }
-    ensures below { IfErr result (λ node. node < nodes (expression of.now) + 1) }
+    ensures below { FaultIsWithin (nodes (expression of.now) + 1) result }
 {
     let sort = behind_node(sort_of_expr(decls, of, scope))?;
     expect(wanted, sort, answer)
@@ -122,7 +122,7 @@ fn sort_of_two(
     ensures sort { result ≡ two_tried wanted answer (nodes (expression left.now))
         (sort_tried (declarations decls.now) (expression left.now) (held_in scope.now))
         (sort_tried (declarations decls.now) (expression right.now) (held_in scope.now)) }
-    ensures below { IfErr result (λ node. node < nodes (expression left.now) + nodes (expression right.now) + 1) }
+    ensures below { FaultIsWithin (nodes (expression left.now) + nodes (expression right.now) + 1) result }
 {
     let left_sort = behind_node(sort_of_expr(decls, left, scope))?;
     let right_sort = behind(left, sort_of_expr(decls, right, scope))?;
@@ -143,7 +143,7 @@ fn require(wanted: Sort, sort: Sort) -> Result<(), u32>
 fn try_sorts(decls: &Decls, c: &Contr, scope: &Scope<Sort>) -> Result<(), u32>
     requires { nodes_of_contract (contract c.now) < 2 ^ 32 }
     ensures sorts { result ≡ sorts_tried (declarations decls.now) (contract c.now) (held_in scope.now) }
-    ensures below { IfErr result (λ node. node < nodes_of_contract (contract c.now)) }
+    ensures below { FaultIsWithin (nodes_of_contract (contract c.now)) result }
 {
     match c {
         Contr::Zero => Ok(()),

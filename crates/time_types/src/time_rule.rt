@@ -11,6 +11,7 @@ ghost use Rattle.term_core.specs.Times.{IsStart};
 ghost use Rattle.term_core.specs.WellFormed.{IsClosed, HasOnlyNumbers};
 ghost use Rattle.term_core.specs.Acceptance.{Meets};
 ghost use Rattle.term_core.specs.Scopes.{held_in};
+ghost use Rattle.term_core.specs.Trying.{FaultIsWithin};
 ghost use Rattle.time_types.specs.Starts.{start_day};
 ghost use Rattle.time_types.specs.TimeTrials.{HasRoom, later, name_known, known_from, in_time, start_tried};
 ghost use Rattle.term_core.specs.Verdicts.{IsVerdict};
@@ -142,7 +143,7 @@ fn try_start(c: &Contr, scope: &Scope<Option<i64>>, day: PartDay) -> Result<Star
     requires small { nodes_of_contract (contract c.now) < 2 ^ 32 }
     requires room { HasRoom (height_of_contract (contract c.now)) day.number }
     ensures start { result ≡ start_tried day.number (held_in scope.now) (contract c.now) }
-    ensures below { IfErr result (λ node. node < nodes_of_contract (contract c.now)) }
+    ensures below { FaultIsWithin (nodes_of_contract (contract c.now)) result }
 {
     match c {
         Contr::Zero => Ok(Start::Always),
