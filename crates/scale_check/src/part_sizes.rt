@@ -29,7 +29,8 @@ const MOST_REACH_AND_PAST: u64 = 1_000_000;
 const MOST_WORK: u64 = 10_000_000;
 
 impl Size {
-    ghost use Rattle.scale_check.specs.PartSizes.{IsLimited, is_within, limited, leaf, unit, over_one, over_two, over_three, over_days, together, delayed, tested};
+    ghost use Rattle.scale_check.specs.PartSizes.{IsLimited, is_within, limited};
+    ghost use Rattle.scale_check.specs.PartSizes.{delayed, leaf, over_days, over_one, over_three, over_two, tested, together, unit};
 
     /// A contract without parts.
     pub fn unit() -> Size
