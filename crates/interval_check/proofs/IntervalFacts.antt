@@ -5,7 +5,7 @@ use Rattle.std.specs.Int.{int_min, int_max}
 use Rattle.std.proofs.lemmas.Bool.Decides.{nat_tests}
 use Rattle.std.proofs.lemmas.Int.{ints, clamps}
 use Rattle.term_core.specs.Bounds.{Interval, single, hull, corners}
-use Rattle.interval_check.specs.Intervals.{mantissa, fitting, IsSmall}
+use Rattle.interval_check.specs.Intervals.{mantissa, fitting, EndsFit}
 
 size_between : (l m h : ℤ) (n : ℕ) → l ≤ℤ m → m ≤ℤ h → unsigned_abs l ≤ n → unsigned_abs h ≤ n → unsigned_abs m ≤ n
 size_between l m h n a b c d = omega (arith, ints)
@@ -71,7 +71,7 @@ hull_there i j x y e f =
     ∙ ap (λ (t : Interval). Some (hull t j)) (sym (fitting_is i x e))
     ∙ ap (λ (t : Interval). Some (hull x t)) (sym (fitting_is j y f))
 
-pub hull_small : (i j : Interval) → IsSmall i → IsSmall j → IsSmall (hull i j)
+pub hull_small : (i j : Interval) → EndsFit i → EndsFit j → EndsFit (hull i j)
 hull_small i j p q = record { low = omega (arith, ints, clamps); high = omega (arith, ints, clamps) }
 
 -- the products of two intervals, from those of each end point of the first

@@ -5,6 +5,7 @@ use Rattle.std.proofs.lemmas.Int.{ints}
 use Rattle.decimal.specs.Rounding.{raised, DivFits}
 use Rattle.term_core.specs.Limits.{greatest_mantissa}
 use Rattle.term_core.specs.Bounds.{Interval, lifted, aligned, fits, fit_aligned, fit_divided, has_zero}
+use Rattle.interval_check.specs.Intervals.{EndsFit}
 use Rattle.interval_check.specs.Within.{IsIn}
 use Rattle.interval_check.specs.Safety.{IsSmall, AlignSafely}
 use Rattle.interval_check.proofs.InclusionFacts.{in_raised, in_aligned_left, in_aligned_right}
@@ -12,11 +13,6 @@ use Rattle.interval_check.proofs.DivisionFacts.{HasSign}
 
 pub small_between : (lo hi m : ℤ) (most : ℕ) → unsigned_abs lo ≤ most → unsigned_abs hi ≤ most → lo ≤ℤ m → m ≤ℤ hi → unsigned_abs m ≤ most
 small_between lo hi m most h k below above = omega (arith, ints)
-
--- end points that fit
-pub record EndsFit (i : Interval) : Type 0 where
-  pub low : IsSmall i.low
-  pub high : IsSmall i.high
 
 pub ends_fit : (i : Interval) → IsTrue (fits i) → EndsFit i
 ends_fit i h =

@@ -1,8 +1,9 @@
 -- The program's intervals as those of the model; and a mantissa, or an interval, where it is at most 10^37 in size.
 pub use Rattle.decimal.specs.Mantissas.{mantissa}
-use Rattle.std.specs.Prelude.{◌≤◌, ◌^◌, Option, Some, None, unsigned_abs, if◌then◌else◌}
+use Rattle.std.specs.Prelude.{Option, Some, None, if◌then◌else◌}
 use Rattle.term_core.specs.Bounds.{Interval, fits}
 use Rattle.interval_check.specs.declared.intervals.Interval.{Interval as Ends}
+use Rattle.interval_check.specs.Safety.{IsSmall}
 
 abbrev pub interval : Ends → Interval
 interval i = record { low = i.low; high = i.high }
@@ -15,6 +16,6 @@ abbrev pub fitting : Interval → Option Interval
 fitting i = if fits i then Some i else None
 
 -- both end points are at most 10^37 in size
-pub record IsSmall (i : Interval) : Type 0 where
-  pub low : unsigned_abs i.low ≤ 10 ^ 37
-  pub high : unsigned_abs i.high ≤ 10 ^ 37
+pub record EndsFit (i : Interval) : Type 0 where
+  pub low : IsSmall i.low
+  pub high : IsSmall i.high

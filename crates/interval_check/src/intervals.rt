@@ -4,7 +4,7 @@ ghost use Rattle.std.specs.Prelude.{◌≡◌, ◌≤◌, ◌^◌, unsigned_abs,
 ghost use Rattle.decimal.specs.Rounding.{raised};
 ghost use Rattle.term_core.specs.declared.terms.NumOp.TheVariants.{Plus, Minus, Times, Min, Max};
 ghost use Rattle.term_core.specs.Bounds.{fits, lifted, swapped, single, hull, on_intervals};
-ghost use Rattle.interval_check.specs.Intervals.{interval, found, mantissa, fitting, IsSmall};
+ghost use Rattle.interval_check.specs.Intervals.{interval, found, mantissa, fitting, EndsFit};
 
 use decimal::{is_mantissa, widen};
 
@@ -34,7 +34,7 @@ fn product(a: i128, b: i128) -> Option<i128>
 /// The interval at `by` more decimals, where its end points are mantissas.
 pub fn raise_ends(i: Interval, by: u8) -> Option<Interval>
     ensures interval { found result ≡ fitting (lifted (λ m. raised m by) (interval i)) }
-    ensures small { IfSome result (λ i. IsSmall (interval i)) }
+    ensures small { IfSome result (λ i. EndsFit (interval i)) }
 {
     let low = widen(i.low, by)?;
     let high = widen(i.high, by)?;
@@ -43,7 +43,7 @@ pub fn raise_ends(i: Interval, by: u8) -> Option<Interval>
 
 /// The interval of the negative.
 pub fn opposite_of(i: Interval) -> Interval
-    requires { IsSmall (interval i) }
+    requires { EndsFit (interval i) }
     ensures { interval result ≡ lifted neg_ℤ (swapped (interval i)) }
 {
     Interval {
@@ -54,8 +54,8 @@ pub fn opposite_of(i: Interval) -> Interval
 
 /// The interval of the sum of two numbers.
 pub fn sum_of(i: Interval, j: Interval) -> Interval
-    requires left { IsSmall (interval i) }
-    requires right { IsSmall (interval j) }
+    requires left { EndsFit (interval i) }
+    requires right { EndsFit (interval j) }
     ensures { interval result ≡ on_intervals Plus (interval i) (interval j) }
 {
     Interval {
@@ -66,8 +66,8 @@ pub fn sum_of(i: Interval, j: Interval) -> Interval
 
 /// The interval of the difference of two numbers.
 pub fn difference_of(i: Interval, j: Interval) -> Interval
-    requires left { IsSmall (interval i) }
-    requires right { IsSmall (interval j) }
+    requires left { EndsFit (interval i) }
+    requires right { EndsFit (interval j) }
     ensures { interval result ≡ on_intervals Minus (interval i) (interval j) }
 {
     Interval {
@@ -109,7 +109,7 @@ pub fn hull_of(i: Interval, j: Interval) -> Interval
 // The products of a number and the end points of an interval, as an interval where they are mantissas.
 fn products(m: i128, i: Interval) -> Option<Interval>
     ensures interval { found result ≡ fitting (hull (single (m *ℤ i.low)) (single (m *ℤ i.high))) }
-    ensures small { IfSome result (λ i. IsSmall (interval i)) }
+    ensures small { IfSome result (λ i. EndsFit (interval i)) }
 {
     let by_low = product(m, i.low)?;
     let by_high = product(m, i.high)?;
@@ -122,7 +122,7 @@ fn products(m: i128, i: Interval) -> Option<Interval>
 /// The interval of the products of two numbers, where its end points are mantissas.
 pub fn product_of(i: Interval, j: Interval) -> Option<Interval>
     ensures interval { found result ≡ fitting (on_intervals Times (interval i) (interval j)) }
-    ensures small { IfSome result (λ i. IsSmall (interval i)) }
+    ensures small { IfSome result (λ i. EndsFit (interval i)) }
 {
     let of_low = products(i.low, j)?;
     let of_high = products(i.high, j)?;

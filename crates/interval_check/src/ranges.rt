@@ -5,7 +5,7 @@ ghost use Rattle.std.specs.Prelude.{◌≡◌, ◌↔◌, ◌≤◌, ◌+◌, If
 ghost use Rattle.term_core.specs.declared.terms.NumOp.{NumOp};
 ghost use Rattle.term_core.specs.Kinds.{scale_of_kind, scale_of_op};
 ghost use Rattle.term_core.specs.Bounds.{aligned};
-ghost use Rattle.interval_check.specs.Intervals.{interval, found, fitting, IsSmall};
+ghost use Rattle.interval_check.specs.Intervals.{interval, found, fitting, EndsFit};
 ghost use Rattle.interval_check.specs.Ranges.{range, range_found, shared_found, IsFit};
 ghost use Rattle.interval_check.specs.RangeTrials as tried;
 
@@ -111,7 +111,7 @@ pub fn rounded(mode: Mode, scale: u8, of: Range) -> Result<Range, u32>
 // The interval of a number at the scale that it shares with another, where its end points are mantissas.
 fn shared_with(other: Range, of: Range) -> Option<Interval>
     ensures interval { found result ≡ fitting (aligned (tried.scale_in (range of)) (tried.scale_in (range other)) (interval of.interval)) }
-    ensures small { IfSome result (λ i. IsSmall (interval i)) }
+    ensures small { IfSome result (λ i. EndsFit (interval i)) }
 {
     let scale = of.kind.scale();
     raise_ends(of.interval, scale.max(other.kind.scale()) - scale)
@@ -121,8 +121,8 @@ fn shared_with(other: Range, of: Range) -> Option<Interval>
 fn align_both(left: Range, right: Range) -> Result<Shared, u32>
     ensures shared { shared_found result ≡ tried.aligned_both (range left) (range right) }
     ensures here { IfErr result (λ node. node ≡ 0) }
-    ensures left { IfOk result (λ p. IsSmall (interval p.left)) }
-    ensures right { IfOk result (λ p. IsSmall (interval p.right)) }
+    ensures left { IfOk result (λ p. EndsFit (interval p.left)) }
+    ensures right { IfOk result (λ p. EndsFit (interval p.right)) }
 {
     match (shared_with(right, left), shared_with(left, right)) {
         (Some(left), Some(right)) => Ok(Shared { left, right }),

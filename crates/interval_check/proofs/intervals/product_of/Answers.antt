@@ -4,7 +4,7 @@ use Rattle.std.proofs.lemmas.Int.{to_z-of_z}
 use mir.Syntax.{w128}
 use mir.Val.{SFits}
 use Rattle.term_core.specs.Bounds.{Interval}
-use Rattle.interval_check.specs.Intervals.{interval, IsSmall}
+use Rattle.interval_check.specs.Intervals.{interval, EndsFit}
 use Rattle.interval_check.proofs.IntervalFacts.{no_lower, no_upper, products_there, hull_small}
 use Rattle.interval_check.proofs.intervals.product_of.Goals as goal
 
@@ -22,4 +22,4 @@ returns-clause-interval c =
 
 pub returns-clause-small : goal.returns-clause-small
 returns-clause-small c =
-    subst (λ (i : Interval). IsSmall i) (sym c.hull_of.ensures) (hull_small (interval c.in_ok-of_low.of_low) (interval c.in_ok-of_high.of_high) c.in_ok-of_low.ensures.small c.in_ok-of_high.ensures.small)
+    subst (λ (i : Interval). EndsFit i) (sym c.hull_of.ensures) (hull_small (interval c.in_ok-of_low.of_low) (interval c.in_ok-of_high.of_high) c.in_ok-of_low.ensures.small c.in_ok-of_high.ensures.small)
