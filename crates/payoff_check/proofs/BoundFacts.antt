@@ -11,7 +11,7 @@ use Rattle.term_core.specs.Sizes.{nodes}
 use Rattle.term_core.specs.Sites.{Layer, Naming, Counting, Later, Earlier, Undated, Site, Once, EachDay, sites_of, kinds_round}
 use Rattle.term_core.specs.Bounds.{Range, range_kinds, ranges_round, greatest_size}
 use Rattle.term_core.specs.Trying.{then_do, moved}
-use Rattle.scale_check.proofs.KindParts.{kind_sorted}
+use Rattle.scale_check.proofs.SortedKinds.{kind_sorted}
 use Rattle.interval_check.specs.RangeTrials.{range_tried, kind_found, scale_in, AreScaled}
 use Rattle.interval_check.proofs.KindsFound.{has_kind}
 use Rattle.interval_check.proofs.RootFacts.{Has}

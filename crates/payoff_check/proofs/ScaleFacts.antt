@@ -10,7 +10,7 @@ use Rattle.term_core.specs.Sites.{Layer, Site, Once, sites_of, kinds_round}
 use Rattle.term_core.specs.Trying.{then_do, moved}
 use Rattle.scale_check.specs.ScaleTrials.{scale_tried}
 use Rattle.scale_check.proofs.Finding as found
-use Rattle.scale_check.proofs.KindParts.{kind_sorted}
+use Rattle.scale_check.proofs.SortedKinds.{kind_sorted}
 use Rattle.scale_check.proofs.ExprScaleFacts.{IsScale, scales_round, scale_finds}
 use Rattle.payoff_lang.specs.Dating.{plain}
 use Rattle.payoff_lang.specs.Code.{ValueExpression, PayoffCode, Nothing, PayOn, Add, ScaleBy, LetBe, Loop, Cut}

@@ -1,5 +1,6 @@
 -- The trial of the scale of an expression whose sorts are right finds the first node that breaks the rule on scales.
-use Rattle.std.proofs.Common.{◌≡◌, ℕ, zero, suc, ◌+◌, ◌≤◌, max, Bool, true, false, leb-true, le-leb, ◌&&◌, nat_le, List, [], ◌∷◌, ◌++◌, map, Option, Some, Ok, refl, ap, ap₂, sym, subst, ◌∙◌, arith, slice_get}
+use Rattle.std.proofs.Common.{◌≡◌, ℕ, zero, suc, ◌+◌, ◌≤◌, max, Bool, true, leb-true, le-leb, ◌&&◌, nat_le, List, [], ◌∷◌, ◌++◌, map, Option, Some, Ok, refl, ap, ap₂, sym, subst, ◌∙◌, arith, slice_get}
+use Rattle.std.proofs.Math.Bool.{and-true}
 use Rattle.term_core.specs.Declarations.{Declarations}
 use Rattle.term_core.specs.declared.values.Kind.{Kind}
 use Rattle.term_core.specs.declared.values.Kind.TheVariants.{Truth, Number}
@@ -14,10 +15,10 @@ use Rattle.term_core.specs.Sizes.{nodes}
 use Rattle.term_core.specs.Scales.{greatest_scale, is_scaled}
 use Rattle.term_core.specs.Sites.{Site, Layer, Counting, Earlier, Once, sites_of, expression_at, kinds_round}
 use Rattle.term_core.specs.Trying.{then_do, moved}
+use Rattle.term_core.proofs.KindParts.{one_number, two_numbers, truth_then, branches, days, scale_either}
 use Rattle.scale_check.specs.ScaleScopes.{found_scale}
 use Rattle.scale_check.specs.ScaleTrials.{Answer, at_most, not_above, two_tried, scale_tried}
 use Rattle.scale_check.proofs.Finding.{Finds, shift, seq, fine, ends, here, here_twice}
-use Rattle.scale_check.proofs.KindParts.{one_number, two_numbers, after_truth, two_branches, over_start}
 
 -- a scale that was found is that of the kind, and at most the greatest
 pub record IsScale (x : Kind) (s : ℕ) : Type 0 where
@@ -31,14 +32,10 @@ abbrev pub ScaleFinds : Declarations → Expression → Type 0
 ScaleFinds d e =
     (r : List Layer) (k : ℕ) (x : Kind) → kind_of d e (kinds_round d r) ≡ Some x → Finds (is_scaled d) (sites_of Once e r k) k (IsScale x) (scale_tried d e (scales_round d r))
 
-and_true : (b : Bool) → (b && true) ≡ b
-and_true true = refl
-and_true false = refl
-
 -- the test of a node whose operator asks nothing of its parts
 plain : (v : Option Kind) (x : Kind) → v ≡ Some x → (nat_le (scale_or_zero v) greatest_scale && true) ≡ nat_le (scale_of_kind x) greatest_scale
 plain v x h =
-    ap (λ (o : Option Kind). nat_le (scale_or_zero o) greatest_scale && true) h ∙ and_true (nat_le (scale_of_kind x) greatest_scale)
+    ap (λ (o : Option Kind). nat_le (scale_or_zero o) greatest_scale && true) h ∙ and-true (nat_le (scale_of_kind x) greatest_scale)
 
 -- a node of such an operator, whose answer has a scale of its own
 keeps : (d : Declarations) (s : Site) (k : ℕ) (v : Option Kind) (x : Kind) (w : ℕ) → s.number ≡ k → is_scaled d s ≡ (nat_le (scale_or_zero v) greatest_scale && true) → v ≡ Some x → w ≡ scale_of_kind x → Finds (is_scaled d) (s ∷ []) k (IsScale x) (at_most greatest_scale w)
@@ -89,61 +86,54 @@ name_scale (y ∷ ks) (suc back) x h = name_scale ks back x h
 
 neg_finds : (d : Declarations) (e : Expression) → ScaleFinds d e → ScaleFinds d (Neg e)
 neg_finds d e h r k x q =
-    let p = one_number (λ s. Some (Number s)) (kind_of d e (kinds_round d r)) x q in
-    let same : Number p.scale ≡ x = let w : Some (Number p.scale) ≡ Some x = p.whole in cc in
-    ends (is_scaled d) (sites_of Once e r (k + 1)) (expression_at k r (Neg e)) k (IsScale (Number p.scale)) (IsScale x) (moved 1 (scale_tried d e (scales_round d r))) (first_part d e r k (Number p.scale) h p.part)
-    (λ i hi. passes_on d (expression_at k r (Neg e)) (kind_of d (Neg e) (kinds_round d r)) x i refl q (hi.same ∙ ap (λ (u : Kind). scale_of_kind u) same) hi.small)
+    let p = one_number (λ s. Number s) (kind_of d e (kinds_round d r)) x q in
+    ends (is_scaled d) (sites_of Once e r (k + 1)) (expression_at k r (Neg e)) k (IsScale (Number p.scale)) (IsScale x) (moved 1 (scale_tried d e (scales_round d r))) (first_part d e r k (Number p.scale) h p.operand)
+    (λ i hi. passes_on d (expression_at k r (Neg e)) (kind_of d (Neg e) (kinds_round d r)) x i refl q (hi.same ∙ ap (λ (u : Kind). scale_of_kind u) p.whole) hi.small)
 
 not_finds : (d : Declarations) (e : Expression) → ScaleFinds d e → ScaleFinds d (Not e)
 not_finds d e h r k x q =
-    let p = after_truth (kind_of d e (kinds_round d r)) (Some Truth) x q in
+    let p = truth_then (kind_of d e (kinds_round d r)) (Some Truth) x q in
     let same : Truth ≡ x = let w : Some Truth ≡ Some x = p.rest in cc in
-    ends (is_scaled d) (sites_of Once e r (k + 1)) (expression_at k r (Not e)) k (IsScale Truth) (IsScale x) (moved 1 (scale_tried d e (scales_round d r))) (first_part d e r k Truth h p.test)
+    ends (is_scaled d) (sites_of Once e r (k + 1)) (expression_at k r (Not e)) k (IsScale Truth) (IsScale x) (moved 1 (scale_tried d e (scales_round d r))) (first_part d e r k Truth h p.first)
     (λ i hi. passes_on d (expression_at k r (Not e)) (kind_of d (Not e) (kinds_round d r)) x i refl q (hi.same ∙ ap (λ (u : Kind). scale_of_kind u) same) hi.small)
 
 round_finds : (d : Declarations) (mode : Mode) (s : ℕ) (e : Expression) → ScaleFinds d e → ScaleFinds d (Round mode s e)
 round_finds d mode s e h r k x q =
-    let p = one_number (λ _. Some (Number s)) (kind_of d e (kinds_round d r)) x q in
-    let same : Number s ≡ x = let w : Some (Number s) ≡ Some x = p.whole in cc in
+    let p = one_number (λ _. Number s) (kind_of d e (kinds_round d r)) x q in
     let node : Site = expression_at k r (Round mode s e) in
-    seq (is_scaled d) (sites_of Once e r (k + 1)) (node ∷ []) k (IsScale (Number p.scale)) (IsScale x) (moved 1 (scale_tried d e (scales_round d r))) (λ _. at_most greatest_scale s) (first_part d e r k (Number p.scale) h p.part)
-    (λ i hi. keeps d node k (kind_of d (Round mode s e) (kinds_round d r)) x s refl refl q (ap (λ (u : Kind). scale_of_kind u) same))
+    seq (is_scaled d) (sites_of Once e r (k + 1)) (node ∷ []) k (IsScale (Number p.scale)) (IsScale x) (moved 1 (scale_tried d e (scales_round d r))) (λ _. at_most greatest_scale s) (first_part d e r k (Number p.scale) h p.operand)
+    (λ i hi. keeps d node k (kind_of d (Round mode s e) (kinds_round d r)) x s refl refl q (ap (λ (u : Kind). scale_of_kind u) p.whole))
 
 widen_finds : (d : Declarations) (s : ℕ) (e : Expression) → ScaleFinds d e → ScaleFinds d (Widen s e)
 widen_finds d s e h r k x q =
-    let p = one_number (λ _. Some (Number s)) (kind_of d e (kinds_round d r)) x q in
-    let same : Number s ≡ x = let w : Some (Number s) ≡ Some x = p.whole in cc in
-    let whole : s ≡ scale_of_kind x = ap (λ (u : Kind). scale_of_kind u) same in
+    let p = one_number (λ _. Number s) (kind_of d e (kinds_round d r)) x q in
+    let whole : s ≡ scale_of_kind x = ap (λ (u : Kind). scale_of_kind u) p.whole in
     let node : Site = expression_at k r (Widen s e) in
-    seq (is_scaled d) (sites_of Once e r (k + 1)) (node ∷ []) k (IsScale (Number p.scale)) (IsScale x) (moved 1 (scale_tried d e (scales_round d r))) (λ t. not_above t s) (first_part d e r k (Number p.scale) h p.part)
+    seq (is_scaled d) (sites_of Once e r (k + 1)) (node ∷ []) k (IsScale (Number p.scale)) (IsScale x) (moved 1 (scale_tried d e (scales_round d r))) (λ t. not_above t s) (first_part d e r k (Number p.scale) h p.operand)
     (λ i hi. takes d node k x i s refl
-    (ap₂ (λ (o u : Option Kind). nat_le (scale_or_zero o) greatest_scale && nat_le (scale_or_zero u) s) q p.part
+    (ap₂ (λ (o u : Option Kind). nat_le (scale_or_zero o) greatest_scale && nat_le (scale_or_zero u) s) q p.operand
     ∙ ap₂ (λ (w j : ℕ). nat_le w greatest_scale && nat_le j s) (sym whole) (sym hi.same)) whole)
 
 num_finds : (d : Declarations) (op : NumOp) (a b : Expression) → ScaleFinds d a → ScaleFinds d b → ScaleFinds d (Num op a b)
 num_finds d op a b ha hb r k x q =
-    let f : ℕ → ℕ → Option Kind = λ s t. Some (Number (scale_of_op op s t)) in
-    let p = two_numbers f (kind_of d a (kinds_round d r)) (kind_of d b (kinds_round d r)) x q in
-    let same : Number (scale_of_op op p.left_scale p.right_scale) ≡ x =
-    let w : Some (Number (scale_of_op op p.left_scale p.right_scale)) ≡ Some x = p.whole in cc in
+    let p = two_numbers (λ s t. Number (scale_of_op op s t)) (kind_of d a (kinds_round d r)) (kind_of d b (kinds_round d r)) x q in
     two d a b r k (expression_at k r (Num op a b)) (Number p.left_scale) (Number p.right_scale) x (λ i j. at_most greatest_scale (scale_of_op op i j)) ha hb p.left p.right
     (λ i j hi hj. keeps d (expression_at k r (Num op a b)) k (kind_of d (Num op a b) (kinds_round d r)) x (scale_of_op op i j) refl refl q
-    (ap₂ (λ (s t : ℕ). scale_of_op op s t) hi.same hj.same ∙ ap (λ (u : Kind). scale_of_kind u) same))
+    (ap₂ (λ (s t : ℕ). scale_of_op op s t) hi.same hj.same ∙ ap (λ (u : Kind). scale_of_kind u) p.whole))
 
 -- an operator on two numbers whose answer has a scale of its own
 fixed_finds : (d : Declarations) (a b whole : Expression) (r : List Layer) (k w : ℕ) (o x : Kind) → is_scaled d (expression_at k r whole) ≡ (nat_le (scale_of d whole (kinds_round d r)) greatest_scale && true) → kind_of d whole (kinds_round d r) ≡ Some x → w ≡ scale_of_kind o → ScaleFinds d a → ScaleFinds d b → on_numbers (λ _ _. Some o) (kind_of d a (kinds_round d r)) (kind_of d b (kinds_round d r)) ≡ Some x → Finds (is_scaled d) (sites_of Once a r (k + 1) ++ (sites_of Once b r (k + 1 + nodes a) ++ expression_at k r whole ∷ [])) k (IsScale x) (two_tried w (nodes a) (scale_tried d a (scales_round d r)) (scale_tried d b (scales_round d r)))
 fixed_finds d a b whole r k w o x e q v ha hb m =
-    let p = two_numbers (λ _ _. Some o) (kind_of d a (kinds_round d r)) (kind_of d b (kinds_round d r)) x m in
-    let same : o ≡ x = let u : Some o ≡ Some x = p.whole in cc in
+    let p = two_numbers (λ _ _. o) (kind_of d a (kinds_round d r)) (kind_of d b (kinds_round d r)) x m in
     two d a b r k (expression_at k r whole) (Number p.left_scale) (Number p.right_scale) x (λ _ _. at_most greatest_scale w) ha hb p.left p.right
-    (λ i j hi hj. keeps d (expression_at k r whole) k (kind_of d whole (kinds_round d r)) x w refl e q (v ∙ ap (λ (u : Kind). scale_of_kind u) same))
+    (λ i j hi hj. keeps d (expression_at k r whole) k (kind_of d whole (kinds_round d r)) x w refl e q (v ∙ ap (λ (u : Kind). scale_of_kind u) p.whole))
 
 logic_finds : (d : Declarations) (op : LogicOp) (a b : Expression) → ScaleFinds d a → ScaleFinds d b → ScaleFinds d (Logic op a b)
 logic_finds d op a b ha hb r k x q =
-    let p = after_truth (kind_of d a (kinds_round d r)) (on_truth (kind_of d b (kinds_round d r)) (Some Truth)) x q in
-    let m = after_truth (kind_of d b (kinds_round d r)) (Some Truth) x p.rest in
+    let p = truth_then (kind_of d a (kinds_round d r)) (on_truth (kind_of d b (kinds_round d r)) (Some Truth)) x q in
+    let m = truth_then (kind_of d b (kinds_round d r)) (Some Truth) x p.rest in
     let same : Truth ≡ x = let u : Some Truth ≡ Some x = m.rest in cc in
-    two d a b r k (expression_at k r (Logic op a b)) Truth Truth x (λ _ _. at_most greatest_scale 0) ha hb p.test m.test
+    two d a b r k (expression_at k r (Logic op a b)) Truth Truth x (λ _ _. at_most greatest_scale 0) ha hb p.first m.first
     (λ i j hi hj. keeps d (expression_at k r (Logic op a b)) k (kind_of d (Logic op a b) (kinds_round d r)) x 0 refl refl q (ap (λ (u : Kind). scale_of_kind u) same))
 
 greater : (i j n : ℕ) → i ≤ n → j ≤ n → max i j ≤ n
@@ -154,17 +144,18 @@ cond_finds d t a b ht ha hb r k x q =
     let ks : List Kind = kinds_round d r in
     let ss : List ℕ = scales_round d r in
     let node : Site = expression_at k r (Cond t a b) in
-    let p = after_truth (kind_of d t ks) (joined (kind_of d a ks) (kind_of d b ks)) x q in
-    let m = two_branches (kind_of d a ks) (kind_of d b ks) x p.rest in
+    let p = truth_then (kind_of d t ks) (joined (kind_of d a ks) (kind_of d b ks)) x q in
+    let m = branches (kind_of d a ks) (kind_of d b ks) x p.rest in
     let ys : List Site = sites_of Once a r (k + 1 + nodes t) in
     let zs : List Site = sites_of Once b r (k + 1 + nodes t + nodes a) in
     let ta : Answer = moved (1 + nodes t) (scale_tried d a ss) in
     let tb : Answer = moved (nodes t) (moved (1 + nodes a) (scale_tried d b ss)) in
-    seq (is_scaled d) (sites_of Once t r (k + 1)) (ys ++ (zs ++ node ∷ [])) k (IsScale Truth) (IsScale x) (moved 1 (scale_tried d t ss)) (λ _. then_do ta (λ i. then_do tb (λ j. Ok (max i j)))) (first_part d t r k Truth ht p.test)
+    seq (is_scaled d) (sites_of Once t r (k + 1)) (ys ++ (zs ++ node ∷ [])) k (IsScale Truth) (IsScale x) (moved 1 (scale_tried d t ss)) (λ _. then_do ta (λ i. then_do tb (λ j. Ok (max i j)))) (first_part d t r k Truth ht p.first)
     (λ u hu. seq (is_scaled d) ys (zs ++ node ∷ []) k (IsScale m.yes_kind) (IsScale x) ta (λ i. then_do tb (λ j. Ok (max i j))) (second_part d a r k (nodes t) m.yes_kind ha m.yes)
     (λ i hi. seq (is_scaled d) zs (node ∷ []) k (IsScale m.no_kind) (IsScale x) tb (λ j. Ok (max i j)) (third_part d b r k (nodes t) (nodes a) m.no_kind hb m.no)
     (λ j hj.
-    let g = passes_on d node (kind_of d (Cond t a b) ks) x (max i j) refl q (ap₂ (λ (v w : ℕ). max v w) hi.same hj.same ∙ m.scale) (greater i j greatest_scale hi.small hj.small) in
+    let scale = ap₂ (λ (v w : ℕ). max v w) hi.same hj.same ∙ (sym (scale_either m.yes_kind m.no_kind) ∙ ap (λ (u : Kind). scale_of_kind u) m.whole) in
+    let g = passes_on d node (kind_of d (Cond t a b) ks) x (max i j) refl q scale (greater i j greatest_scale hi.small hj.small) in
     fine (is_scaled d) node k (IsScale x) (max i j) g.0 g.1)))
 
 acc_finds : (d : Declarations) (body : Expression) (n : ℕ) (first : Expression) → ScaleFinds d body → ScaleFinds d first → ScaleFinds d (Acc body n first)
@@ -172,11 +163,11 @@ acc_finds d body n first hb hf r k x q =
     let ks : List Kind = kinds_round d r in
     let ss : List ℕ = scales_round d r in
     let node : Site = expression_at k r (Acc body n first) in
-    let p = over_start (kind_of d first ks) (λ u. kind_of d body (u ∷ ks)) x q in
-    let named : kind_or (kind_of d first ks) ≡ x = ap (λ (o : Option Kind). kind_or o) p.start in
+    let p = days (kind_of d first ks) (λ u. kind_of d body (u ∷ ks)) x q in
+    let named : kind_or (kind_of d first ks) ≡ x = ap (λ (o : Option Kind). kind_or o) p.first in
     let kinded : kind_of d body (kind_or (kind_of d first ks) ∷ ks) ≡ Some p.body_kind = ap (λ (u : Kind). kind_of d body (u ∷ ks)) named ∙ p.body in
     let ys : List Site = sites_of Once body (Counting body zero first ∷ r) (k + 1) in
-    seq (is_scaled d) (sites_of Once first (Earlier n ∷ r) (k + 1 + nodes body)) (ys ++ node ∷ []) k (IsScale x) (IsScale x) (moved (1 + nodes body) (scale_tried d first ss)) (λ s. then_do (moved 1 (scale_tried d body (s ∷ ss))) (λ t. not_above t s)) (second_part d first (Earlier n ∷ r) k (nodes body) x hf p.start)
+    seq (is_scaled d) (sites_of Once first (Earlier n ∷ r) (k + 1 + nodes body)) (ys ++ node ∷ []) k (IsScale x) (IsScale x) (moved (1 + nodes body) (scale_tried d first ss)) (λ s. then_do (moved 1 (scale_tried d body (s ∷ ss))) (λ t. not_above t s)) (second_part d first (Earlier n ∷ r) k (nodes body) x hf p.first)
     (λ s hs.
     let same : scale_of_kind (kind_or (kind_of d first ks)) ≡ s = ap (λ (u : Kind). scale_of_kind u) named ∙ sym hs.same in
     let h : Finds (is_scaled d) ys k (IsScale p.body_kind) (moved 1 (scale_tried d body (s ∷ ss))) =
@@ -184,7 +175,7 @@ acc_finds d body n first hb hf r k x q =
     seq (is_scaled d) ys (node ∷ []) k (IsScale p.body_kind) (IsScale x) (moved 1 (scale_tried d body (s ∷ ss))) (λ t. not_above t s) h
     (λ t ht. takes d node k x t s refl
     (ap₂ (λ (o u : Option Kind). nat_le (scale_or_zero o) greatest_scale && nat_le (scale_or_zero u) (scale_of d first ks)) q kinded
-    ∙ ap (λ (o : Option Kind). nat_le (scale_of_kind x) greatest_scale && nat_le (scale_of_kind p.body_kind) (scale_or_zero o)) p.start
+    ∙ ap (λ (o : Option Kind). nat_le (scale_of_kind x) greatest_scale && nat_le (scale_of_kind p.body_kind) (scale_or_zero o)) p.first
     ∙ ap₂ (λ (w j : ℕ). nat_le w greatest_scale && nat_le j w) (sym hs.same) (sym ht.same)) hs.same))
 
 pub scale_finds : (d : Declarations) (e : Expression) → ScaleFinds d e

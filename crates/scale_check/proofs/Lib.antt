@@ -1,5 +1,5 @@
 pub mod Finding
-pub mod KindParts
+pub mod SortedKinds
 pub mod ExprScaleFacts
 pub mod ScaleFacts
 pub mod Measuring

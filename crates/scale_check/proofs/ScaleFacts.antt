@@ -16,7 +16,7 @@ use Rattle.term_core.specs.Trying.{then_do, moved}
 use Rattle.term_core.proofs.Trials.{AllPass-left, AllPass-right, first_failing-is, FaultIs}
 use Rattle.scale_check.specs.ScaleTrials.{Answer, at_most, scale_tried, contract_tried}
 use Rattle.scale_check.proofs.Finding.{Finds, shift, seq, fine, ends, here}
-use Rattle.scale_check.proofs.KindParts.{kind_sorted}
+use Rattle.scale_check.proofs.SortedKinds.{kind_sorted}
 use Rattle.scale_check.proofs.ExprScaleFacts.{IsScale, scales_round, scale_finds}
 
 -- a scale that was found is the contract's, and at most the decimals of amounts

@@ -11,6 +11,7 @@ use Rattle.term_core.specs.Environments.{Place, IsValueOf, held, label_of, least
 use Rattle.term_core.specs.Kinds.{kind_of, kind_of_label, on_number, on_numbers, on_truth, joined, of_acc, scale_of_op, scale_of, scale_of_kind}
 use Rattle.term_core.specs.Values.{Entry, kinds, truth, widened, kind_or, value_of, value_of_entry, days_run}
 use Rattle.term_core.specs.LawsKinds.{IsOfKind, AreOfKinds, ValuesHaveKinds}
+use Rattle.term_core.proofs.KindParts.{one_number, two_numbers, truth_then}
 
 -- an equation of kinds, taken along
 along : (j k : Kind) (v : Value) → Some j ≡ Some k → IsOfKind j v → IsOfKind k v
@@ -41,29 +42,13 @@ observed_has label (Some v) k h e = held_has label v k (h v refl) e
 
 -- what has a number for its kind
 number_one : (o : Option Kind) (s : ℕ → ℕ) (k : Kind) (m : ℤ) → on_number (λ i. Some (Number (s i))) o ≡ Some k → IsOfKind k (Amount m)
-number_one None s k m e = absurd (cc)
-number_one (Some TruthKind) s k m e = absurd (cc)
-number_one (Some (Number i)) s k m e = along (Number (s i)) k (Amount m) e tt
+number_one o s k m e = subst (λ (j : Kind). IsOfKind j (Amount m)) (one_number (λ i. Number (s i)) o k e).whole tt
 
 number_two : (o u : Option Kind) (s : ℕ → ℕ → ℕ) (k : Kind) (m : ℤ) → on_numbers (λ i j. Some (Number (s i j))) o u ≡ Some k → IsOfKind k (Amount m)
-number_two None u s k m e = absurd (cc)
-number_two (Some TruthKind) u s k m e = absurd (cc)
-number_two (Some (Number i)) None s k m e = absurd (cc)
-number_two (Some (Number i)) (Some TruthKind) s k m e = absurd (cc)
-number_two (Some (Number i)) (Some (Number j)) s k m e = along (Number (s i j)) k (Amount m) e tt
+number_two o u s k m e = subst (λ (j : Kind). IsOfKind j (Amount m)) (two_numbers (λ i j. Number (s i j)) o u k e).whole tt
 
 truth_two : (o u : Option Kind) (k : Kind) (b : Bool) → on_numbers (λ i j. Some TruthKind) o u ≡ Some k → IsOfKind k (Truth b)
-truth_two None u k b e = absurd (cc)
-truth_two (Some TruthKind) u k b e = absurd (cc)
-truth_two (Some (Number i)) None k b e = absurd (cc)
-truth_two (Some (Number i)) (Some TruthKind) k b e = absurd (cc)
-truth_two (Some (Number i)) (Some (Number j)) k b e = along TruthKind k (Truth b) e tt
-
--- what is behind a truth value
-behind : (o u : Option Kind) (k : Kind) → on_truth o u ≡ Some k → u ≡ Some k
-behind None u k e = absurd (cc)
-behind (Some TruthKind) u k e = e
-behind (Some (Number s)) u k e = absurd (cc)
+truth_two o u k b e = subst (λ (j : Kind). IsOfKind j (Truth b)) (two_numbers (λ _ _. TruthKind) o u k e).whole tt
 
 widened_has : (i j : ℕ) (s t : ℕ) (v : Value) → IsOfKind (Number s) v → IsOfKind (Number t) (widened i j v)
 widened_has i j s t (Amount m) h = tt
@@ -92,27 +77,17 @@ days_have : (k : Kind) (n : ℕ) (step : ℕ → Value → Value) (v : Value) �
 days_have k zero step v h s = h
 days_have k (suc n) step v h s = s (suc n) (days_run n step v) (days_have k n step v h s)
 
-number_body : (o : Option Kind) (s : ℕ) (k : Kind) → on_number (λ _. Some (Number s)) o ≡ Some k → (t : ℕ) × (o ≡ Some (Number t)) × (Number s ≡ k)
-number_body None s k e = absurd (cc)
-number_body (Some TruthKind) s k e = absurd (cc)
-number_body (Some (Number t)) s k e = (t, refl, cc)
-
-truth_body : (o : Option Kind) (k : Kind) → on_truth o (Some TruthKind) ≡ Some k → (o ≡ Some TruthKind) × (TruthKind ≡ k)
-truth_body None k e = absurd (cc)
-truth_body (Some TruthKind) k e = (refl, cc)
-truth_body (Some (Number s)) k e = absurd (cc)
-
 -- an accumulator, from its start and its body
 acc_has : (o : Option Kind) (body : Kind → Option Kind) (k : Kind) (n : ℕ) (scale : Kind → ℕ) (step : Kind → ℕ → Value → Value) (v : Value) → ((a : Kind) → o ≡ Some a → IsOfKind a v) → ((a b : Kind) (i : ℕ) (x : Value) → IsOfKind a x → body a ≡ Some b → IsOfKind b (step a i x)) → of_acc o body ≡ Some k → IsOfKind k (days_run n (λ i x. widened (scale (kind_or o)) (scale_of_kind (kind_or o)) (step (kind_or o) i x)) v)
 acc_has None body k n scale step v h s e = absurd (cc)
 acc_has (Some TruthKind) body k n scale step v h s e =
-    let known = truth_body (body TruthKind) k e in
-    subst (λ (j : Kind). IsOfKind j (days_run n (λ i x. widened (scale TruthKind) 0 (step TruthKind i x)) v)) known.1
-    (days_have TruthKind n (λ i x. widened (scale TruthKind) 0 (step TruthKind i x)) v (h TruthKind refl) (λ i x p. widened_truth (scale TruthKind) 0 (step TruthKind i x) (s TruthKind TruthKind i x p known.0)))
+    let known = truth_then (body TruthKind) (Some TruthKind) k e in
+    along TruthKind k (days_run n (λ i x. widened (scale TruthKind) 0 (step TruthKind i x)) v) known.rest
+    (days_have TruthKind n (λ i x. widened (scale TruthKind) 0 (step TruthKind i x)) v (h TruthKind refl) (λ i x p. widened_truth (scale TruthKind) 0 (step TruthKind i x) (s TruthKind TruthKind i x p known.first)))
 acc_has (Some (Number a)) body k n scale step v h s e =
-    let known = number_body (body (Number a)) a k e in
-    subst (λ (j : Kind). IsOfKind j (days_run n (λ i x. widened (scale (Number a)) a (step (Number a) i x)) v)) known.2
-    (days_have (Number a) n (λ i x. widened (scale (Number a)) a (step (Number a) i x)) v (h (Number a) refl) (λ i x p. widened_has (scale (Number a)) a known.0 a (step (Number a) i x) (s (Number a) (Number known.0) i x p known.1)))
+    let known = one_number (λ _. Number a) (body (Number a)) k e in
+    subst (λ (j : Kind). IsOfKind j (days_run n (λ i x. widened (scale (Number a)) a (step (Number a) i x)) v)) known.whole
+    (days_have (Number a) n (λ i x. widened (scale (Number a)) a (step (Number a) i x)) v (h (Number a) refl) (λ i x p. widened_has (scale (Number a)) a known.scale a (step (Number a) i x) (s (Number a) (Number known.scale) i x p known.operand)))
 
 pub values_have_kinds : ValuesHaveKinds
 values_have_kinds d (Lit m s) g env f k a h e = along (Number s) k (Amount m) e tt
@@ -124,15 +99,15 @@ values_have_kinds d (Obs l t) g env f k a h e =
 values_have_kinds d (Neg x) g env f k a h e = number_one (kind_of d x (kinds g)) (λ s. s) k _ e
 values_have_kinds d (Num op x y) g env f k a h e = number_two (kind_of d x (kinds g)) (kind_of d y (kinds g)) (λ s t. scale_of_op op s t) k _ e
 values_have_kinds d (Cmp op x y) g env f k a h e = truth_two (kind_of d x (kinds g)) (kind_of d y (kinds g)) k _ e
-values_have_kinds d (Not x) g env f k a h e = along TruthKind k _ (behind (kind_of d x (kinds g)) (Some TruthKind) k e) tt
+values_have_kinds d (Not x) g env f k a h e = along TruthKind k _ (truth_then (kind_of d x (kinds g)) (Some TruthKind) k e).rest tt
 values_have_kinds d (Logic op x y) g env f k a h e =
-    along TruthKind k _ (behind (kind_of d y (kinds g)) (Some TruthKind) k (behind (kind_of d x (kinds g)) _ k e)) tt
+    along TruthKind k _ (truth_then (kind_of d y (kinds g)) (Some TruthKind) k (truth_then (kind_of d x (kinds g)) _ k e).rest).rest tt
 values_have_kinds d (Cond t x y) g env f k a h e =
-    joined_has (kind_of d x (kinds g)) (kind_of d y (kinds g)) k (truth (value_of d t g env f)) _ _ _ _ (value_of d x g env f) (value_of d y g env f) (λ j p. values_have_kinds d x g env f j a h p) (λ j p. values_have_kinds d y g env f j a h p) (behind (kind_of d t (kinds g)) _ k e)
+    joined_has (kind_of d x (kinds g)) (kind_of d y (kinds g)) k (truth (value_of d t g env f)) _ _ _ _ (value_of d x g env f) (value_of d y g env f) (λ j p. values_have_kinds d x g env f j a h p) (λ j p. values_have_kinds d y g env f j a h p) (truth_then (kind_of d t (kinds g)) _ k e).rest
 values_have_kinds d (Widen s x) g env f k a h e =
-    let known = number_body (kind_of d x (kinds g)) s k e in
-    subst (λ (j : Kind). IsOfKind j (widened (scale_of d x (kinds g)) s (value_of d x g env f))) known.2
-    (widened_has (scale_of d x (kinds g)) s known.0 s (value_of d x g env f) (values_have_kinds d x g env f (Number known.0) a h known.1))
+    let known = one_number (λ _. Number s) (kind_of d x (kinds g)) k e in
+    subst (λ (j : Kind). IsOfKind j (widened (scale_of d x (kinds g)) s (value_of d x g env f))) known.whole
+    (widened_has (scale_of d x (kinds g)) s known.scale s (value_of d x g env f) (values_have_kinds d x g env f (Number known.scale) a h known.operand))
 values_have_kinds d (Round mode s x) g env f k a h e = number_one (kind_of d x (kinds g)) (λ _. s) k _ e
 values_have_kinds d (Div mode s x y) g env f k a h e = number_two (kind_of d x (kinds g)) (kind_of d y (kinds g)) (λ _ _. s) k _ e
 values_have_kinds d (Acc body n first) g env f k a h e =

@@ -2,6 +2,7 @@ pub mod DateFacts
 pub mod Trials
 pub mod RefusalFacts
 pub mod TimeFacts
+pub mod KindParts
 pub mod KindFacts
 pub mod BinderFacts
 pub mod InstanceFacts
