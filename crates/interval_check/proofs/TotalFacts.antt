@@ -11,11 +11,11 @@ use Rattle.term_core.specs.Flows.{count_of, scale_of_contract}
 use Rattle.term_core.specs.Kinds.{kind_of, scale_or_zero, scale_of_kind}
 use Rattle.term_core.specs.Values.{kind_or}
 use Rattle.term_core.specs.Sizes.{nodes, nodes_of_contract}
-use Rattle.term_core.specs.Sites.{Site, Layer, Naming, Later, Undated, EachDay, sites_of, sites_of_contract, sites, contract_at, first_failing}
+use Rattle.term_core.specs.Sites.{Site, Layer, Naming, Later, Undated, EachDay, sites_of, sites_of_contract, sites, contract_at}
 use Rattle.term_core.specs.Bounds.{Interval, Range, range_kinds, interval_of, ranges_round, is_bounded, greatest_size, total_of, aligned_total}
 use Rattle.term_core.specs.Acceptance.{Meets, FailsAt}
 use Rattle.term_core.specs.Trying.{then_do, moved}
-use Rattle.term_core.proofs.Trials.{or_else, first_failing-append, first_failing-is, FaultIs}
+use Rattle.term_core.proofs.Trials.{or_else, first_failing, first_failing-append, first_failing-is, FaultIs}
 use Rattle.term_core.proofs.BoundTrials.{Tried, outcome, tried_in_order}
 use Rattle.interval_check.specs.RangeTrials.{Answer, range_tried}
 use Rattle.interval_check.specs.TotalTrials.{Total, at_decimals, total_fits, total_here, of_both, of_either, of_scaled, total_tried}

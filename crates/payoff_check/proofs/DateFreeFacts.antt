@@ -1,11 +1,16 @@
 -- The size of a value expression, whatever its dates.
 use Rattle.std.proofs.Common.{◌≡◌, ℕ, ℤ, pos, refl, ap, ap₂, ◌∙◌, List}
-use Rattle.term_core.specs.Sizes.{nodes}
+use Rattle.term_core.specs.Terms.{Expression}
+use Rattle.term_core.specs.Sizes.{nodes, height, work}
 use Rattle.payoff_lang.specs.TemplateDates.{Date, day_of}
 use Rattle.payoff_lang.specs.Dating.{dated_by, at_setting, plain}
 use Rattle.payoff_lang.specs.Code.{ValueExpression, Lit, Yes, Var, Model, Neg, Num, Cmp, Not, Logic, Cond, Widen, Round, Div, Acc}
 use Rattle.payoff_check.specs.declared.part_sizes.ValueSize.{ValueSize}
-use Rattle.payoff_check.specs.SizeTrials.{size_of, over_one, over_two, over_three, over_days}
+use Rattle.payoff_check.specs.SizeTrials.{over_one, over_two, over_three, over_days}
+
+-- the size of an expression
+abbrev pub size_of : Expression → ValueSize
+size_of e = record { height = height e; nodes = nodes e; work = work e }
 
 pub size_any : (day more : Date → ℤ) (v : ValueExpression) → size_of (dated_by day v) ≡ size_of (dated_by more v)
 size_any day more (Lit m s) = refl

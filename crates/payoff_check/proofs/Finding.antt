@@ -3,9 +3,9 @@
 use Rattle.std.proofs.Common.{◌≡◌, ℕ, ℤ, ◌+◌, Bool, true, false, if◌then◌else◌, List, [], ◌∷◌, ◌++◌, map, Option, Some, None, Result, Ok, Err, IsTrue, refl, ap, sym, subst, ◌∙◌, inl, inr}
 use Rattle.term_core.specs.Sizes.{nodes}
 use Rattle.term_core.specs.Sites.{Trial, Layer, Naming, Site, sites_of, AllPass}
-use Rattle.term_core.specs.Sites as expressions
 use Rattle.term_core.specs.Trying.{then_do}
 use Rattle.term_core.proofs.Trials.{or_else}
+use Rattle.term_core.proofs.Trials as expressions
 use Rattle.payoff_lang.specs.TemplateDates.{Date}
 use Rattle.payoff_lang.specs.Dating.{dated_by, plain}
 use Rattle.payoff_lang.specs.Code.{ValueExpression, PayoffCode, Nothing, PayOn, Add, ScaleBy, LetBe, Loop, Cut}

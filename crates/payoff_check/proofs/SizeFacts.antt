@@ -8,15 +8,19 @@ use Rattle.scale_check.proofs.Finding as found
 use Rattle.payoff_lang.specs.TemplateDates.{day_of}
 use Rattle.payoff_lang.specs.Dating.{at_setting, plain}
 use Rattle.payoff_lang.specs.Code.{ValueExpression, PayoffCode, Nothing, PayOn, Add, ScaleBy, LetBe, Loop, Cut}
-use Rattle.payoff_lang.specs.CodeSizes.{as_count}
+use Rattle.payoff_lang.specs.CodeSizes.{nodes_of_code, height_of_code, work_of_code, loop_days, as_count}
 use Rattle.payoff_lang.specs.CodeSites.{CodeSite, InValue, AtCode, number_of, sites_of_code}
 use Rattle.payoff_lang.specs.CodeAcceptance.{code_is_small, dates_in_range, within_code_limits, MeetsInCode, FailsInCode}
 use Rattle.payoff_check.specs.declared.part_sizes.ValueSize.{ValueSize}
 use Rattle.payoff_check.specs.declared.part_sizes.CodeSize.{CodeSize}
-use Rattle.payoff_check.specs.SizeTrials.{size_of, size_tried, size_of_code, unit, together, behind, over, looped, dated_code, sizing, sizes_tried}
+use Rattle.payoff_check.specs.SizeTrials.{size_tried, unit, together, behind, over, looped, dated_code, sizing, sizes_tried}
 use Rattle.payoff_check.proofs.Finding.{Finds, first_failing-map, fine, faulty, Follows, code_finds, each_any, meets, fails}
-use Rattle.payoff_check.proofs.DateFreeFacts.{size_any}
+use Rattle.payoff_check.proofs.DateFreeFacts.{size_of, size_any}
 use Rattle.payoff_check.proofs.ValueSizeFacts.{size_finds}
+
+-- the size of code at a setting
+abbrev pub size_of_code : List ℕ → PayoffCode → CodeSize
+size_of_code xs k = record { height = height_of_code k; nodes = nodes_of_code k; work = work_of_code xs k; days = loop_days xs k }
 
 abbrev pub IsValueSize : ValueExpression → ValueSize → Type 0
 IsValueSize v u = u ≡ size_of (plain v)

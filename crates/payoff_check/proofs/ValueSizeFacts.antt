@@ -1,6 +1,7 @@
 -- The trial of the size of a value expression at a setting finds the first node that breaks the rule on sizes, and else its
 -- size.
-use Rattle.std.proofs.Common.{◌≡◌, ℕ, zero, ◌+◌, Bool, true, false, ◌&&◌, nat_le, List, [], ◌∷◌, ◌++◌, Ok, refl, ap, subst, arith}
+use Rattle.std.proofs.Common.{◌≡◌, ℕ, zero, ◌+◌, Bool, ◌&&◌, nat_le, List, [], ◌∷◌, ◌++◌, Ok, refl, ap, subst, arith}
+use Rattle.std.proofs.Math.Bool.{and-true}
 use Rattle.term_core.specs.Terms.{Expression, Lit, Yes, Var, Obs, Neg, Num, Cmp, Not, Logic, Cond, Widen, Round, Div, Acc}
 use Rattle.term_core.specs.Sizes.{nodes}
 use Rattle.term_core.specs.Sites.{Site, Layer, Counting, Earlier, Once, sites_of, expression_at}
@@ -8,7 +9,8 @@ use Rattle.scale_check.proofs.Finding.{Finds, here}
 use Rattle.scale_check.proofs.Measuring.{Is, node, one_finds, two_find, three_find}
 use Rattle.payoff_lang.specs.CodeAcceptance.{value_is_small, is_date}
 use Rattle.payoff_check.specs.declared.part_sizes.ValueSize.{ValueSize}
-use Rattle.payoff_check.specs.SizeTrials.{Answer, size_of, leaf, over_one, over_two, over_three, over_days, value_fits, one_tried, two_tried, size_tried}
+use Rattle.payoff_check.proofs.DateFreeFacts.{size_of}
+use Rattle.payoff_check.specs.SizeTrials.{Answer, leaf, over_one, over_two, over_three, over_days, value_fits, one_tried, two_tried, size_tried}
 
 abbrev pub is_small : Site → Bool
 is_small s = value_is_small s.part
@@ -16,10 +18,6 @@ is_small s = value_is_small s.part
 -- what the rule asks of a size with a count of days
 abbrev pub is_within : ℕ → ValueSize → Bool
 is_within days s = value_fits s && nat_le days 100_000
-
-and_true : (b : Bool) → (b && true) ≡ b
-and_true true = refl
-and_true false = refl
 
 abbrev pub SizeFinds : Expression → Type 0
 SizeFinds e = (r : List Layer) (k : ℕ) → Finds is_small (sites_of Once e r k) k (Is (size_of e)) (size_tried e)
@@ -48,7 +46,7 @@ over_some_days body n first hb hf r k =
     let e : Expression = Acc body n first in
     let l : List Layer = Counting body zero first ∷ r in
     two_find is_small (is_within n) (λ (x y : ValueSize). over_days y n x) (sites_of Once first (Earlier n ∷ r) i) (sites_of Once body l (k + 1)) (expression_at k r e) k i (k + 1) (1 + nodes body) 1 (size_of first) (size_of body) (size_of e) (size_tried first) (size_tried body)
-    refl (ap (λ (b : Bool). value_fits (size_of e) && b) (and_true (nat_le n 100_000))) refl (omega arith) refl (hf (Earlier n ∷ r) i) (hb l (k + 1))
+    refl (ap (λ (b : Bool). value_fits (size_of e) && b) (and-true (nat_le n 100_000))) refl (omega arith) refl (hf (Earlier n ∷ r) i) (hb l (k + 1))
 
 pub size_finds : (e : Expression) → SizeFinds e
 size_finds (Lit m s) r k = node is_small (is_within 0) (expression_at k r (Lit m s)) k leaf leaf refl refl refl

@@ -2,12 +2,12 @@
 -- expression the node is told by its place, counted from the expression's own first node.
 use Rattle.std.specs.Prelude.{ℕ, ◌+◌, ◌*◌, ◌≤◌, max, nat_le, ◌&&◌, Bool, List, Result, Ok, Err, if◌then◌else◌}
 use Rattle.term_core.specs.Terms.{Expression, Lit, Yes, Var, Obs, Neg, Num, Cmp, Not, Logic, Cond, Widen, Round, Div, Acc}
-use Rattle.term_core.specs.Sizes.{nodes, height, work}
+use Rattle.term_core.specs.Sizes.{nodes}
 use Rattle.term_core.specs.Trying.{then_do, moved}
 use Rattle.payoff_lang.specs.TemplateDates.{day_of}
 use Rattle.payoff_lang.specs.Dating.{at_setting}
 use Rattle.payoff_lang.specs.Code.{PayoffCode, value_expression}
-use Rattle.payoff_lang.specs.CodeSizes.{nodes_of_code, height_of_code, work_of_code, loop_days, as_count}
+use Rattle.payoff_lang.specs.CodeSizes.{as_count}
 use Rattle.payoff_lang.specs.CodeAcceptance.{within_code_limits, is_date, is_upto}
 use Rattle.payoff_lang.specs.declared.code.Vx.{Vx}
 use Rattle.payoff_check.specs.declared.part_sizes.ValueSize.{ValueSize}
@@ -15,9 +15,6 @@ use Rattle.payoff_check.specs.declared.part_sizes.CodeSize.{CodeSize}
 use Rattle.payoff_check.specs.Trials.{Steps, code_tried}
 
 -- Value expressions.
-
-abbrev pub size_of : Expression → ValueSize
-size_of e = record { height = height e; nodes = nodes e; work = work e }
 
 abbrev pub leaf : ValueSize
 leaf = record { height = 1; nodes = 1; work = 1 }
@@ -102,9 +99,6 @@ pub record IsLimited (s : ValueSize) : Type 0 where
   pub work_in : s.work ≤ 10_000_000
 
 -- Code.
-
-abbrev pub size_of_code : List ℕ → PayoffCode → CodeSize
-size_of_code xs k = record { height = height_of_code k; nodes = nodes_of_code k; work = work_of_code xs k; days = loop_days xs k }
 
 abbrev pub unit : CodeSize
 unit = record { height = 1; nodes = 1; work = 0; days = 0 }

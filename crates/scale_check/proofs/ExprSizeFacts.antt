@@ -1,14 +1,18 @@
 -- The trial of the size of an expression finds the first node that breaks the rule on sizes.
 use Rattle.std.proofs.Common.{◌≡◌, ℕ, zero, ◌+◌, List, [], ◌∷◌, ◌++◌, refl, arith}
 use Rattle.term_core.specs.Terms.{Expression, Lit, Yes, Var, Obs, Neg, Num, Cmp, Not, Logic, Cond, Widen, Round, Div, Acc}
-use Rattle.term_core.specs.Sizes.{nodes, days_before}
+use Rattle.term_core.specs.Sizes.{height, nodes, past, work, days_before}
 use Rattle.term_core.specs.Smallness.{is_small}
 use Rattle.term_core.specs.Sites.{Layer, Counting, Earlier, Once, sites_of, expression_at}
 use Rattle.scale_check.specs.declared.part_sizes.Size.{Size}
-use Rattle.scale_check.specs.PartSizes.{size_of, leaf, over_one, over_two, over_three, over_days, is_within}
+use Rattle.scale_check.specs.PartSizes.{leaf, over_one, over_two, over_three, over_days, is_within}
 use Rattle.scale_check.specs.SizeTrials.{one_tried, two_tried, size_tried}
 use Rattle.scale_check.proofs.Finding.{Finds}
 use Rattle.scale_check.proofs.Measuring.{Is, node, one_finds, two_find, three_find}
+
+-- the size of an expression
+abbrev pub size_of : Expression → Size
+size_of e = record { height = height e; nodes = nodes e; reach = 0; past = past e; work = work e }
 
 abbrev pub SizeFinds : Expression → Type 0
 SizeFinds e = (r : List Layer) (k : ℕ) → Finds is_small (sites_of Once e r k) k (Is (size_of e)) (size_tried e)

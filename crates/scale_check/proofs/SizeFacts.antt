@@ -5,17 +5,28 @@ use Rattle.term_core.specs.declared.terms.Days.{Days}
 use Rattle.term_core.specs.declared.rules.Rule.TheVariants.{Size as SizeRule}
 use Rattle.term_core.specs.Terms.{Expression, Contract, Zero, Pay, Both, Scale, After, Let, Within}
 use Rattle.term_core.specs.Flows.{count_of}
-use Rattle.term_core.specs.Sizes.{nodes, nodes_of_contract, reach}
+use Rattle.term_core.specs.Sizes.{nodes, height_of_contract, nodes_of_contract, reach, past_of_contract, work_of_contract}
 use Rattle.term_core.specs.Smallness.{is_small}
 use Rattle.term_core.specs.Sites.{Layer, Naming, Later, Undated, Once, sites_of, sites_of_contract, sites, contract_at}
 use Rattle.term_core.specs.Acceptance.{Meets, FailsAt}
 use Rattle.term_core.proofs.Trials.{first_failing-is, FaultIs}
 use Rattle.scale_check.specs.declared.part_sizes.Size.{Size}
-use Rattle.scale_check.specs.PartSizes.{size_of, size_of_contract, unit, together, delayed, tested, is_within}
+use Rattle.scale_check.specs.PartSizes.{unit, together, delayed, tested, is_within}
 use Rattle.scale_check.specs.SizeTrials.{Answer, size_tried, behind_tried, contract_tried}
 use Rattle.scale_check.proofs.Finding.{Finds}
 use Rattle.scale_check.proofs.Measuring.{Is, node, one_finds, two_find, three_find}
-use Rattle.scale_check.proofs.ExprSizeFacts.{size_finds}
+use Rattle.scale_check.proofs.ExprSizeFacts.{size_of, size_finds}
+
+-- the size of a contract
+abbrev pub size_of_contract : Contract → Size
+size_of_contract c =
+    record {
+      height = height_of_contract c;
+      nodes = nodes_of_contract c;
+      reach = reach c;
+      past = past_of_contract c;
+      work = work_of_contract c;
+    }
 
 abbrev pub ContractFinds : Contract → Type 0
 ContractFinds c =

@@ -1,23 +1,7 @@
--- How large a part is: an expression and a contract by the model's numbers, and a whole from the sizes of its parts.
--- The limits are those of the rule on sizes.
+-- How large a whole is, from the sizes of its parts. The limits are those of the rule on sizes.
 use Rattle.std.specs.Prelude.{ℕ, ◌+◌, ◌-◌, ◌*◌, ◌≤◌, max, Bool, Result, Ok, Err, if◌then◌else◌}
-use Rattle.term_core.specs.Terms.{Expression, Contract}
-use Rattle.term_core.specs.Sizes.{height, nodes, past, work, height_of_contract, nodes_of_contract, reach, past_of_contract, work_of_contract}
 use Rattle.term_core.specs.Smallness.{within_limits}
 use Rattle.scale_check.specs.declared.part_sizes.Size.{Size}
-
-abbrev pub size_of : Expression → Size
-size_of e = record { height = height e; nodes = nodes e; reach = 0; past = past e; work = work e }
-
-abbrev pub size_of_contract : Contract → Size
-size_of_contract c =
-    record {
-      height = height_of_contract c;
-      nodes = nodes_of_contract c;
-      reach = reach c;
-      past = past_of_contract c;
-      work = work_of_contract c;
-    }
 
 -- an expression without parts
 abbrev pub leaf : ℕ → Size

@@ -10,7 +10,12 @@ use Rattle.term_core.specs.declared.terms.Days.TheVariants.{Num as Count, Named}
 use Rattle.term_core.specs.Terms.{Expression, Lit, Yes, Var, Obs, Neg, Num, Cmp, Not, Logic, Cond, Widen, Round, Div, Acc}
 use Rattle.term_core.specs.Terms.{Contract, Zero, Pay, Both, Scale, After, Let, Within}
 use Rattle.term_core.specs.WellFormed.{IsWellFormed, IsWellFormedContract, IsDeclared, IsClosed}
-use Rattle.term_core.specs.Binders.{AreWithin, around, if_declared, is_declared, is_offset, more_of, wanted, wanted_by_contract}
+use Rattle.term_core.specs.Binders.{around, if_declared, is_declared, is_offset, more_of, wanted, wanted_by_contract}
+
+-- what a term wants is there, and no more than so many binders
+abbrev pub AreWithin : Option ℕ → ℕ → Type 0
+AreWithin None k = ⊥
+AreWithin (Some n) k = n ≤ k
 
 both_within : (m n : Option ℕ) (k : ℕ) → AreWithin m k → AreWithin n k → AreWithin (more_of m n) k
 both_within None n k h g = absurd h

@@ -8,9 +8,9 @@ use Rattle.term_core.specs.Environments.{label_of}
 use Rattle.term_core.specs.Kinds.{kind_of, scale_of, scale_of_kind}
 use Rattle.term_core.specs.Values.{kind_or}
 use Rattle.term_core.specs.Sizes.{nodes}
-use Rattle.term_core.specs.Sites.{Layer, Counting, Earlier, EachDay, Site, sites_of, days_tried, expression_at, first_failing}
+use Rattle.term_core.specs.Sites.{Layer, Counting, Earlier, EachDay, Site, sites_of, days_tried, expression_at}
 use Rattle.term_core.specs.Bounds.{Interval, Range, range_kinds, single, lifted, swapped, hull, corners, aligned, of_op, interval_of_label, interval_of_range, interval_of, stepped, ranges_round, fits, fit_aligned, fit_operands, fit_divided, is_bounded}
-use Rattle.term_core.proofs.Trials.{or_else, first_failing-append}
+use Rattle.term_core.proofs.Trials.{or_else, first_failing, first_failing-append}
 
 -- an interval, or the node at fault
 abbrev pub Tried : Type 0

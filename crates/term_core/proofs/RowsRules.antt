@@ -10,7 +10,8 @@ use Rattle.term_core.specs.declared.terms.Days.TheVariants.{Num as Count}
 use Rattle.term_core.specs.declared.rules.Rule.TheVariants.{Time}
 use Rattle.term_core.specs.Terms.{Lit, Yes, Var, Obs, Num, Cmp, Div, Round, Acc, Contract, Zero, Scale, After, Within}
 use Rattle.term_core.specs.Sizes.{work_of_contract}
-use Rattle.term_core.specs.Sites.{Later, Naming, OfContract, Once, EachDay, sites, first_failing}
+use Rattle.term_core.specs.Sites.{Later, Naming, OfContract, Once, EachDay, sites}
+use Rattle.term_core.proofs.Trials.{first_failing}
 use Rattle.term_core.specs.Sorts.{is_sorted}
 use Rattle.term_core.specs.Times.{PartIsTimed, AtMost, IsStart, lowered_by}
 use Rattle.term_core.specs.Scales.{is_scaled}

@@ -1,7 +1,12 @@
 -- The order of trial against code that goes by structure: the first fault of one list after another, and the first
 -- fault by a test that computes.
 use Rattle.std.proofs.Common.{◌≡◌, ℕ, Bool, true, false, List, [], ◌∷◌, ◌++◌, Option, Some, None, if◌then◌else◌, IsTrue, refl, ap, sym, ◌∙◌, inl, inr}
-use Rattle.term_core.specs.Sites.{Site, AllPass, FirstFault, first_failing}
+use Rattle.term_core.specs.Sites.{Site, AllPass, FirstFault}
+
+-- the number of the first site that fails a test that computes
+abbrev pub first_failing : (Site → Bool) → List Site → Option ℕ
+first_failing p [] = None
+first_failing p (s ∷ rest) = if p s then first_failing p rest else Some s.number
 
 -- what is found first, or else the other
 abbrev pub or_else : {A : Type 0} → Option A → Option A → Option A

@@ -1,6 +1,6 @@
 -- How many binders a term wants around it, by structure, or none where it holds an index that is not declared or an
 -- offset past the limit. proofs/BinderFacts shows that a term is well formed under no fewer.
-use Rattle.std.specs.Prelude.{ℕ, ℤ, ◌+◌, ◌-◌, ◌≤◌, ◌&&◌, max, Bool, true, pos, neg_ℤ, int_le, nat_lt, length, Option, Some, None, if◌then◌else◌}
+use Rattle.std.specs.Prelude.{ℕ, ℤ, ◌+◌, ◌-◌, ◌&&◌, max, Bool, true, pos, neg_ℤ, int_le, nat_lt, length, Option, Some, None, if◌then◌else◌}
 use Rattle.term_core.specs.Declarations.{Declarations}
 use Rattle.term_core.specs.declared.terms.Days.{Days}
 use Rattle.term_core.specs.declared.terms.Days.TheVariants.{Num as Count, Named}
@@ -57,8 +57,3 @@ wanted_by_contract d (After n c) = if_declared (is_declared d n) (wanted_by_cont
 wanted_by_contract d (Let e c) = more_of (wanted d e) (around (wanted_by_contract d c))
 wanted_by_contract d (Within e n a b) =
     if_declared (is_declared d n) (more_of (wanted d e) (more_of (wanted_by_contract d a) (wanted_by_contract d b)))
-
--- as many as that, or more
-abbrev pub AreWithin : Option ℕ → ℕ → Type 0
-AreWithin None k = ⊥
-AreWithin (Some n) k = n ≤ k

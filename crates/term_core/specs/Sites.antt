@@ -1,10 +1,11 @@
 -- The nodes of a contract in the order in which the rules of acceptance try them: parts before wholes, parts in
 -- written order, but an accumulator's start before its body. A node has the number of its first byte's place among all
 -- nodes, from 0. All five rules share this one list: a rule is a test on a site, and the node at fault is the number of
--- the first site that fails. To prove code that goes by structure against it, use `first_failing-append` and
--- `first_failing-is` of proofs/Trials, or for a rule that does not compute `AllPass-append`, `FirstFault-left` and
--- `FirstFault-right`. proofs/BoundTrials is a whole such proof, for the rule on bounds and its accumulators.
-use Rattle.std.specs.Prelude.{ℕ, zero, suc, ◌+◌, ◌≡◌, ◌⊎◌, Bool, List, [], ◌∷◌, ◌++◌, Option, Some, None, if◌then◌else◌}
+-- the first site that fails. To prove code that goes by structure against it, use `first_failing`,
+-- `first_failing-append` and `first_failing-is` of proofs/Trials, or for a rule that does not compute `AllPass-append`,
+-- `FirstFault-left` and `FirstFault-right`. proofs/BoundTrials is a whole such proof, for the rule on bounds and its
+-- accumulators.
+use Rattle.std.specs.Prelude.{ℕ, zero, suc, ◌+◌, ◌≡◌, ◌⊎◌, List, [], ◌∷◌, ◌++◌}
 use Rattle.term_core.specs.Declarations.{Declarations}
 use Rattle.term_core.specs.declared.values.Kind.{Kind}
 use Rattle.term_core.specs.Terms.{Expression, Lit, Yes, Var, Obs, Neg, Num, Cmp, Not, Logic, Cond, Widen, Round, Div, Acc}
@@ -122,8 +123,3 @@ AllPass P (s ∷ rest) = P s × AllPass P rest
 abbrev pub FirstFault : (Site → Type 0) → List Site → ℕ → Type 0
 FirstFault P [] k = ⊥
 FirstFault P (s ∷ rest) k = ((P s → ⊥) × (s.number ≡ k)) ⊎ (P s × FirstFault P rest k)
-
--- the number of the first site that fails a test that computes
-abbrev pub first_failing : (Site → Bool) → List Site → Option ℕ
-first_failing p [] = None
-first_failing p (s ∷ rest) = if p s then first_failing p rest else Some s.number

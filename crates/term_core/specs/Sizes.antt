@@ -123,29 +123,3 @@ work_of_contract (Scale e c) = work e + work_of_contract c
 work_of_contract (After n c) = work_of_contract c
 work_of_contract (Let e c) = work e + work_of_contract c
 work_of_contract (Within e n a b) = (count_of n + 1) * work e + work_of_contract a + work_of_contract b
-
--- the observables that stand in an expression, and in a contract
-abbrev pub observables : Expression → ℕ
-observables (Lit m s) = 0
-observables (Yes b) = 0
-observables (Var back) = 0
-observables (Obs l t) = 1
-observables (Neg e) = observables e
-observables (Num op a b) = observables a + observables b
-observables (Cmp op a b) = observables a + observables b
-observables (Not e) = observables e
-observables (Logic op a b) = observables a + observables b
-observables (Cond t a b) = observables t + observables a + observables b
-observables (Widen s e) = observables e
-observables (Round mode s e) = observables e
-observables (Div mode s a b) = observables a + observables b
-observables (Acc body n first) = observables body + observables first
-
-abbrev pub observables_of_contract : Contract → ℕ
-observables_of_contract Zero = 0
-observables_of_contract (Pay a p q) = 0
-observables_of_contract (Both a b) = observables_of_contract a + observables_of_contract b
-observables_of_contract (Scale e c) = observables e + observables_of_contract c
-observables_of_contract (After n c) = observables_of_contract c
-observables_of_contract (Let e c) = observables e + observables_of_contract c
-observables_of_contract (Within e n a b) = observables e + observables_of_contract a + observables_of_contract b

@@ -11,10 +11,10 @@ use Rattle.term_core.specs.Flows.{count_of}
 use Rattle.term_core.specs.Kinds.{kind_of, kind_of_label, scale_of_op, on_number, on_numbers, on_truth, joined, of_acc}
 use Rattle.term_core.specs.Values.{kind_or}
 use Rattle.term_core.specs.Sizes.{nodes, nodes_of_contract}
-use Rattle.term_core.specs.Sites.{Site, Layer, Naming, Counting, Later, Earlier, Undated, Once, sites_of, sites_of_contract, sites, expression_at, contract_at, kinds_round, first_failing}
+use Rattle.term_core.specs.Sites.{Site, Layer, Naming, Counting, Later, Earlier, Undated, Once, sites_of, sites_of_contract, sites, expression_at, contract_at, kinds_round}
 use Rattle.term_core.specs.Sorts.{is_sorted, is_number, is_truth}
 use Rattle.term_core.specs.Acceptance.{Meets, FailsAt}
-use Rattle.term_core.proofs.Trials.{or_else, first_failing-append, first_failing-is, FaultIs}
+use Rattle.term_core.proofs.Trials.{or_else, first_failing, first_failing-append, first_failing-is, FaultIs}
 use Rattle.time_types.specs.declared.observed_sorts.Sort.{Sort}
 use Rattle.time_types.specs.declared.observed_sorts.Sort.TheVariants.{Truth, Number}
 use Rattle.term_core.specs.Trying.{then_do, moved, or_here}
