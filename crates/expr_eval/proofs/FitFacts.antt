@@ -11,6 +11,7 @@ use Rattle.term_core.specs.Environments.{Environment}
 use Rattle.term_core.specs.Kinds.{kind_of, scale_of, scale_of_kind, scale_of_op, on_truth, joined}
 use Rattle.term_core.specs.Scales.{greatest_scale}
 use Rattle.term_core.specs.Values.{Entry, kinds, num, value_of, widened, days_run, kind_or}
+use Rattle.term_core.proofs.KindParts.{scale_either}
 use Rattle.interval_check.specs.Safety.{IsSmall, AlignSafely, OperateSafely, WidensSafely, RoundsSafely, DivideSafely, HasSafeValue, HasSafeParts, ScalesFit}
 use Rattle.interval_check.specs.RangeTrials.{kind_found, kind_of_either}
 use Rattle.interval_check.proofs.KindsFound.{one_number, two_numbers, truth_then, branches, days, has_kind, scale_is}
@@ -21,7 +22,7 @@ use Rattle.expr_eval.specs.Operations.{Negates, Combines, Compares, FitsKind, Ro
 use Rattle.expr_eval.specs.KindScales.{KindFits}
 use Rattle.expr_eval.specs.Runs.{Answer, run_of, bound_to, days_tried, day_step}
 use Rattle.expr_eval.specs.Fits.{OnValue, OnValues, IsDay, Fits, DayFits}
-use Rattle.expr_eval.proofs.RunValues.{typed, HaveValues, run_is_value, same_kinds, scale_either, days_value, by_one}
+use Rattle.expr_eval.proofs.RunValues.{typed, HaveValues, run_is_value, same_kinds, days_value, by_one}
 use Rattle.expr_eval.proofs.RunReads.{self_extends}
 use Rattle.expr_eval.proofs.SpanFacts.{span}
 

@@ -13,6 +13,7 @@ use Rattle.term_core.specs.Environments.{Environment, held, observed, value_or, 
 use Rattle.term_core.specs.Kinds.{kind_of, kind_of_label, scale_of, scale_or_zero, scale_of_kind, scale_of_op, joined}
 use Rattle.term_core.specs.Values.{Entry, kinds, num, truth, of_num, of_cmp, widened, kind_or, value_of, logic_op, days_run, value_of_entry}
 use Rattle.term_core.specs.Reads.{decides}
+use Rattle.term_core.proofs.KindParts.{scale_either}
 use Rattle.interval_check.specs.RangeTrials.{kind_found, kind_of_either}
 use Rattle.interval_check.proofs.KindsFound.{OneNumber, TwoNumbers, one_number, two_numbers, truth_then, branches, days, has_kind, scale_is}
 use Rattle.expr_eval.specs.declared.scratch.Held.{Held}
@@ -106,12 +107,6 @@ by_test : (a y n : Answer) (t : Typed) (z u : Value) (k : Kind) (v : Typed) → 
 by_test (Err m) y n t z u k v p q r h = cc
 by_test (Ok x) y n t z u k v p q r h =
     test_value (truth_in x) y n z u k v q r h ∙ ap (λ (o : Typed). typed k (if truth_in o then z else u)) (p x refl)
-
-pub scale_either : (a b : Kind) → scale_of_kind (kind_of_either a b) ≡ max (scale_of_kind a) (scale_of_kind b)
-scale_either TruthKind TruthKind = refl
-scale_either TruthKind (Number t) = refl
-scale_either (Number s) TruthKind = refl
-scale_either (Number s) (Number t) = refl
 
 -- a taken branch of kind i, at the kind of both
 branch_typed : (i j k : Kind) (a b : Option Kind) (w : Value) → kind_of_either i j ≡ k → a ≡ Some i → b ≡ Some j → at_kind (kind_of_either i j) (typed i w) ≡ typed k (widened (scale_or_zero a) (max (scale_or_zero a) (scale_or_zero b)) w)
