@@ -4,7 +4,8 @@ ghost use Rattle.std.specs.Prelude.{◌≡◌, ◌++◌, IfOk, OnOk, OnErr};
 ghost use Rattle.decimal.specs.Appending.{AppendsPart};
 ghost use Rattle.decimal.specs.Text.{text_of};
 ghost use Rattle.time_types.specs.Starts.{start_day};
-ghost use Rattle.report.specs.Pieces.{piece_text, HasFewDigits, IsWritable};
+ghost use Rattle.interval_check.specs.Safety.{IsSmall};
+ghost use Rattle.report.specs.Pieces.{piece_text, IsWritable};
 ghost use Rattle.report.specs.CheckLines.{rule_text, start_text, verdict_line};
 
 use crate::pieces::{Piece, append, whole};
@@ -42,7 +43,7 @@ fn start_piece<'a>(start: Start) -> Piece<'a>
 
 // The total at the portfolio's decimals.
 fn total_piece<'a>(decls: &Decls, facts: &Facts) -> Piece<'a>
-    requires { HasFewDigits facts.now.total }
+    requires { IsSmall facts.now.total }
     ensures text { piece_text result ≡ text_of facts.now.total decls.now.amounts }
     ensures writable { IsWritable result }
 {
@@ -62,7 +63,7 @@ pub fn check_line(
     name: &[u8],
     verdict: &Result<Facts, RuleFault>,
 ) -> Result<(), NoMemory>
-    requires { IfOk verdict.now (λ facts. HasFewDigits facts.total) }
+    requires { IfOk verdict.now (λ facts. IsSmall facts.total) }
     ensures ok { OnOk result (out.new.items ≡ out.old.items ++ verdict_line decls.now.amounts name.now verdict.now) }
     ensures err { OnErr result (AppendsPart out.old.items (verdict_line decls.now.amounts name.now verdict.now) out.new.items) }
 {

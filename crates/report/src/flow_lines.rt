@@ -4,7 +4,8 @@ ghost use Rattle.std.specs.Prelude.{◌≡◌, ◌≤ℤ◌, ◌+ℤ◌, ◌++�
 ghost use Rattle.decimal.specs.Appending.{AppendsPart};
 ghost use Rattle.term_core.specs.Dates.{epoch_day_of};
 ghost use Rattle.term_core.specs.Declarations.{declarations};
-ghost use Rattle.report.specs.Pieces.{piece_text, HasFewDigits, IsWritable};
+ghost use Rattle.interval_check.specs.Safety.{IsSmall};
+ghost use Rattle.report.specs.Pieces.{piece_text, IsWritable};
 ghost use Rattle.report.specs.FlowLines.{AppendsFlowLine, AppendsPartOfLine, IsOrigin, line_on, name_at};
 
 use crate::pieces::{Piece, append};
@@ -35,7 +36,7 @@ fn append_line<'a>(
     row: &FlowRow,
 ) -> Result<(), NoMemory>
     requires day { IsWritable day }
-    requires amount { HasFewDigits row.now.amount }
+    requires amount { IsSmall row.now.amount }
     ensures ok { OnOk result (out.new.items ≡ out.old.items ++ line_on decls.now name.now day.entry row.now) }
     ensures err { OnErr result (AppendsPart out.old.items (line_on decls.now name.now day.entry row.now) out.new.items) }
 {
@@ -82,7 +83,7 @@ pub fn flow_line(
 ) -> Result<(), NoMemory>
     requires first { pos 0 ≤ℤ row.now.day }
     requires last { row.now.day ≤ℤ pos 1_100_000 }
-    requires amount { HasFewDigits row.now.amount }
+    requires amount { IsSmall row.now.amount }
     ensures ok { OnOk result (AppendsFlowLine (declarations decls.now) name.now row.now out.old.items out.new.items) }
     ensures err { OnErr result (AppendsPartOfLine (declarations decls.now) name.now row.now out.old.items out.new.items) }
 {

@@ -4,10 +4,10 @@ ghost use Rattle.std.specs.Prelude.{◌≡◌, ◌≤◌, ◌^◌, ◌++◌, IfO
 ghost use Rattle.std.specs.List.{flat_map};
 ghost use Rattle.decimal.specs.Text.{text_of};
 ghost use Rattle.term_core.specs.Declarations.{declarations};
+ghost use Rattle.interval_check.specs.Safety.{IsSmall};
 ghost use Rattle.flow_eval.specs.Tables.{FitsLine};
 ghost use Rattle.report.specs.CheckLines.{line_feed};
 ghost use Rattle.report.specs.FlowLines.{field, name_at};
-ghost use Rattle.report.specs.Pieces.{HasFewDigits};
 ghost use Rattle.sample.specs.Days.{AreUndated};
 ghost use Rattle.sample.specs.Sample.{sample_declarations};
 ghost use Rattle.sample.specs.Summary.{sum_line, summary_text};
@@ -25,7 +25,7 @@ fn append_number(
     word: &[u8],
     number: i128,
 ) -> Result<(), NoMemory>
-    requires { HasFewDigits number }
+    requires { IsSmall number }
     ensures { OnOk result (out.new.items ≡ out.old.items ++ (word.now ++ (text_of number 0 ++ line_feed))) }
 {
     out.extend_from_slice(word)?;
@@ -59,7 +59,7 @@ fn append_amount(
     amount: i128,
     decimals: u8,
 ) -> Result<(), NoMemory>
-    requires amount { HasFewDigits amount }
+    requires amount { IsSmall amount }
     requires decimals { decimals ≤ 27 }
     ensures { OnOk result (out.new.items ≡ out.old.items ++ (field (text_of amount decimals) ++ line_feed)) }
 {
