@@ -1,6 +1,9 @@
 //! Worked values, by hand.
 
-use decimal::{DecFault, Decimal, Mode, align, div_to, pow10, read, round_to, write};
+use decimal::{
+    DecFault, Decimal, Mode, align, div_to, number_up_to, pow10, read, round_to, whole_number,
+    write,
+};
 
 const MOST: i128 = 10_000_000_000_000_000_000_000_000_000_000_000_000;
 
@@ -97,4 +100,59 @@ fn raises_exactly(rt: HostRuntime) {
     assert_eq!(rt; pow10(38), 10 * MOST);
     assert_eq!(rt; align(-125, 3, 5), -12500);
     assert_eq!(rt; round_to(Mode::Floor, -125, 3, 5), -12500);
+}
+
+// Digits, and the number that they write where it is at most the greatest that is asked for.
+#[test]
+fn reads_whole_numbers(rt: HostRuntime) {
+    for (most, text, number) in [
+        (0u32, "0", Some(0u32)),
+        (0, "1", None),
+        (9, "7", Some(7)),
+        (9, "9", Some(9)),
+        (9, "10", None),
+        (9, "0000000000000000000000009", Some(9)),
+        (9, "0000000000000000000000010", None),
+        (10_000, "10000", Some(10_000)),
+        (10_000, "10001", None),
+        (u32::MAX, "4294967295", Some(u32::MAX)),
+        (u32::MAX, "4294967296", None),
+        (u32::MAX, "99999999999999999999999999999999999999999", None),
+    ] {
+        assert_eq!(rt; number_up_to(most, text.as_bytes()), number, "at {text}");
+        assert_eq!(rt; whole_number(most, text.as_bytes()), number, "at {text}");
+    }
+}
+
+// Texts that write no number. Where it is not asked whether they do, none is 0, and any byte counts for what it is above
+// the digit 0.
+#[test]
+fn tells_numbers_from_other_texts(rt: HostRuntime) {
+    for (text, counted) in [
+        ("", 0u32),
+        ("/", 0),
+        (":", 10),
+        ("a", 49),
+        ("-5", 5),
+        ("+5", 5),
+        (" 5", 5),
+        ("5 ", 50),
+        ("1.5", 105),
+        ("0x5", 725),
+        ("\u{e9}", 1591),
+    ] {
+        assert_eq!(rt; number_up_to(1_000_000, text.as_bytes()), None, "at {text}");
+        assert_eq!(rt;
+            whole_number(counted, text.as_bytes()),
+            Some(counted),
+            "at {text}"
+        );
+        if counted > 0 {
+            assert_eq!(rt;
+                whole_number(counted - 1, text.as_bytes()),
+                None,
+                "at {text}"
+            );
+        }
+    }
 }
