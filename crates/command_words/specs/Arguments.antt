@@ -1,10 +1,11 @@
 -- What words mean to a command that is declared by its name and its arguments: the matches that the crate `clap` states
 -- for it, where it takes the words.
-use Rattle.std.specs.Prelude.{◌≡◌, Bool, true, false, List, [], ◌∷◌, Option, Some, None, Result, Ok, Err, codes, fold, map, option_map, if◌then◌else◌}
+use Rattle.std.specs.Prelude.{◌≡◌, Bool, true, false, List, [], ◌∷◌, Option, Some, None, Result, Ok, Err, codes, fold, option_map, if◌then◌else◌}
 use Rattle.std.specs.Borrow.{Bor}
 use Rattle.std.specs.Str.{bytes_eq}
 use Rattle.clap.specs.Words.{App, Kinds, Row, Rule, Text, all_of, fault_of, first_of, first_value, found_of, matched_of, matches_of, new_app, new_rule, raw_values, with_rule}
 use Rattle.clap.specs.Simple.{on_top}
+use Rattle.clap.specs.Walk.{texts}
 use Rattle.clap.specs.declared.builder.ArgAction.TheVariants.{Append, Set, SetTrue}
 use Rattle.clap.specs.declared.parser.matches.ArgMatches.{ArgMatches}
 use Rattle.command_words.specs.Commands.{Request}
@@ -13,10 +14,7 @@ use Rattle.command_words.specs.declared.arguments.Argument.TheVariants.{Required
 use Rattle.command_words.specs.declared.arguments.WordsErr.{WordsErr}
 use Rattle.command_words.specs.declared.arguments.WordsErr.TheVariants.{Usage, NoMemory}
 
--- the texts of words; of a word that may be given, and of words
-abbrev pub texts : List (Bor Text) → List Text
-texts words = map (λ word. word.now) words
-
+-- the text of a word that may be given, and the texts of words that may be
 abbrev pub given_text : Option (Bor Text) → Option Text
 given_text word = option_map (λ word. word.now) word
 

@@ -3,7 +3,8 @@
 
 ghost use Rattle.std.specs.Prelude.{◌≡◌, IfOk, false, map, true};
 ghost use Rattle.clap.specs.Words.{app_of, is_simple_and_free, rule_of};
-ghost use Rattle.command_words.specs.Arguments.{HasMatches, bare_app, declared, given_text, is_set, rule_by, texts};
+ghost use Rattle.clap.specs.Walk.{texts};
+ghost use Rattle.command_words.specs.Arguments.{HasMatches, bare_app, declared, given_text, is_set, rule_by};
 ghost use Rattle.command_words.specs.declared.arguments.WordsErr.TheVariants.{NoMemory as lacks_memory};
 
 use clap::error::ErrorKind;

@@ -3,9 +3,10 @@
 ghost use Rattle.std.specs.Prelude.{◌≡◌, ◌≤◌, ◌++◌, ◌∷◌, IfOk, IfSome, OnOk, Some, [], false, option_map};
 ghost use Rattle.std.specs.Map.{keys_of};
 ghost use Rattle.clap.specs.Words.{first_value, found_of};
+ghost use Rattle.clap.specs.Walk.{texts};
 ghost use Rattle.contract_parse.specs.Names.{is_declared};
 ghost use Rattle.contract_parse.specs.NameTexts.{is_name_text};
-ghost use Rattle.command_words.specs.Arguments.{IsAnswer, given_texts, texts};
+ghost use Rattle.command_words.specs.Arguments.{IsAnswer, given_texts};
 ghost use Rattle.command_words.specs.Commands.{AreSettings};
 ghost use Rattle.command_words.specs.Words.{between_by, files_by, one_more_setting, setting_of_word, settings_after, settings_of, value_between, value_by, value_files, value_of, with_form};
 

@@ -1,6 +1,7 @@
 //! The words of the command line.
 
-ghost use Rattle.command_words.specs.Arguments.{IsAnswer, texts};
+ghost use Rattle.clap.specs.Walk.{texts};
+ghost use Rattle.command_words.specs.Arguments.{IsAnswer};
 ghost use Rattle.command_words.specs.Words.{IsRequestOf, advance_of, check_of, flows_of, payoff_of, requested_by, sample_of};
 
 use crate::arguments::{Argument, WordsErr, is_set, matches_of};

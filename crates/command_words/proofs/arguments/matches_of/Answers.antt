@@ -1,6 +1,7 @@
 use Rattle.std.proofs.Common.{◌≡◌, ◌∙◌, ap, map, sym, true}
 use Rattle.clap.specs.Words.{App, app_of, is_simple_and_free, matches_of}
-use Rattle.command_words.specs.Arguments.{declared, rule_by, taken, texts}
+use Rattle.clap.specs.Walk.{texts}
+use Rattle.command_words.specs.Arguments.{declared, rule_by, taken}
 use Rattle.command_words.proofs.Taken.{holds, refuses, simple, takes}
 use Rattle.command_words.proofs.arguments.matches_of.Goals as goal
 

@@ -1,5 +1,5 @@
 use Rattle.std.proofs.Common.{◌≡◌, Some, drop, []}
-use Rattle.command_words.specs.Arguments.{texts}
+use Rattle.clap.specs.Walk.{texts}
 use Rattle.command_words.specs.Commands.{AreSettings}
 use Rattle.command_words.specs.Words.{settings_after}
 use Rattle.command_words.proofs.value_words.settings_of.Given as goal

@@ -4,7 +4,8 @@ use Rattle.std.proofs.lemmas.Result.{err_from_is_err_and}
 use Rattle.std.specs.declared.random_state.RandomState.{RandomState}
 use Rattle.indexmap.specs.IndexMap.{IndexMap}
 use Rattle.clap.specs.Words.{Text, first_value, found_of, matched_of, raw_values}
-use Rattle.command_words.specs.Arguments.{IsAnswer, given_text, given_texts, texts}
+use Rattle.clap.specs.Walk.{texts}
+use Rattle.command_words.specs.Arguments.{IsAnswer, given_text, given_texts}
 use Rattle.command_words.specs.Words.{between_by, files_by, is_day, settings_of, value_between, value_by, value_files, value_from, value_of, with_form}
 use Rattle.command_words.specs.declared.arguments.WordsErr.{WordsErr}
 use Rattle.command_words.specs.declared.day_words.DayWord.{DayWord}

@@ -2,8 +2,9 @@ use Rattle.std.proofs.Common.{◌∙◌, Bor, ap, subst, sym}
 use Rattle.std.specs.Prelude.{Result, Err}
 use Rattle.std.proofs.lemmas.Result.{err_from_is_err_and}
 use Rattle.clap.specs.Words.{Text, first_value, found_of}
+use Rattle.clap.specs.Walk.{texts}
 use Rattle.contract_parse.specs.NameTexts.{is_name_text}
-use Rattle.command_words.specs.Arguments.{IsAnswer, given_text, is_set, texts}
+use Rattle.command_words.specs.Arguments.{IsAnswer, given_text, is_set}
 use Rattle.command_words.specs.Words.{payoff_app, payoff_from, payoff_of, requested_by, with_form}
 use Rattle.command_words.specs.declared.arguments.WordsErr.{WordsErr}
 use Rattle.command_words.specs.declared.words.Request.{Request}

@@ -2,7 +2,8 @@ use Rattle.std.proofs.Common.{◌∙◌, ℕ, Bor, ap, subst, sym}
 use Rattle.std.specs.Prelude.{Option, Result, Err, option_map}
 use Rattle.std.proofs.lemmas.Result.{err_from_is_err_and}
 use Rattle.clap.specs.Words.{Text, first_value, found_of}
-use Rattle.command_words.specs.Arguments.{IsAnswer, given_text, texts}
+use Rattle.clap.specs.Walk.{texts}
+use Rattle.command_words.specs.Arguments.{IsAnswer, given_text}
 use Rattle.command_words.specs.Words.{requested_by, sample_app, sample_from, sample_of}
 use Rattle.command_words.specs.declared.arguments.WordsErr.{WordsErr}
 use Rattle.command_words.specs.declared.sample_size.SampleSize.{SampleSize}
