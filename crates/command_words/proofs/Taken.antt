@@ -1,6 +1,6 @@
 -- The answer of a parse, by what the command line crate states of it.
 use Rattle.std.proofs.Common.{◌≡◌, ◌∙◌, List, [], ◌∷◌, Bool, true, false, ◌&&◌, Some, None, refl, sym, ap, inl, inr}
-use Rattle.clap.specs.Words.{App, Text, is_simple, is_simple_and_free, fault_of, matches_of, rows_of, first_value, first_of, all_of, found_of, kind_of}
+use Rattle.clap.specs.Words.{App, Text, is_simple, is_simple_and_free, fault_of, matches_of, rows_of, first_of, all_of, found_of, kind_of}
 use Rattle.clap.specs.Kinds.{Kinds, IsAmong, HasKind}
 use Rattle.clap.specs.declared.parser.matches.ArgMatches.{ArgMatches}
 use Rattle.clap.specs.declared.error.kind.ErrorKind.{ErrorKind}

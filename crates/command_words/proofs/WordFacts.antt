@@ -1,33 +1,42 @@
 -- What a command makes of the words that are found for its arguments.
-use Rattle.std.proofs.Common.{◌≡◌, ◌∙◌, ℕ, Bool, true, false, List, [], ◌∷◌, ◌++◌, Option, Some, None, Err, codes, ap, refl, sym}
+use Rattle.std.proofs.Common.{◌≡◌, ◌∙◌, ℕ, Bool, true, false, List, [], ◌∷◌, ◌++◌, Option, Some, None, Ok, Err, codes, ap, refl, subst, sym}
 use Rattle.std.proofs.Math.Path.{fun_ext}
-use Rattle.std.specs.Prelude.{option_map}
+use Rattle.std.proofs.lemmas.Result.{err_from_is_err_and}
+use Rattle.std.specs.Prelude.{Result, IsErrAnd, option_map}
 use Rattle.std.specs.Map.{keys_of}
-use Rattle.clap.specs.Words.{App, Row, Text, all_of, first_of}
+use Rattle.clap.specs.Words.{App, Row, Text, all_of, first_value, found_of, matched_of, raw_values}
+use Rattle.clap.specs.declared.parser.matches.ArgMatches.{ArgMatches}
 use Rattle.contract_parse.specs.Names.{is_declared}
 use Rattle.contract_parse.specs.NameTexts.{is_name_text}
 use Rattle.command_words.specs.Arguments.{HasMatches, IsAnswer, Reading, asked_of, is_set, read_rows, taken}
-use Rattle.command_words.specs.Commands.{Advance, Between, Check, Flows, Payoff, Request, OnFiles, Sample, ValueAsked, ValueFiles}
-use Rattle.command_words.specs.Words.{advance_from, advance_with, check_from, flows_from, flows_with, if_given, is_day, one_more_setting, payoff_from, payoff_with, requested_by, sample_from, sample_size, settings_of, value_app, value_between, value_by, value_files, value_from, value_of, value_of_rows, value_with, with_form}
+use Rattle.command_words.specs.Commands.{Advance, Between, Check, Flows, Payoff, OnFiles, Sample, ValueFiles}
+use Rattle.command_words.specs.Words.{advance_from, advance_with, check_from, flows_from, flows_with, if_given, is_day, one_more_setting, payoff_from, payoff_with, sample_from, sample_size, settings_of, value_app, value_between, value_files, value_from, value_of, value_of_rows, value_with, with_form}
 use Rattle.command_words.specs.declared.arguments.WordsErr.{WordsErr}
 use Rattle.command_words.specs.declared.arguments.WordsErr.TheVariants.{Usage, NoMemory}
 
--- words that are taken are read by what is found in them
-pub reads : (app : App) (reading : Reading) (words : List Text) (rows : List Row) (found : Text → Option Text)
-    → taken app words ≡ Some rows → ((name : Text) → found name ≡ first_of name rows) → asked_of app reading words ≡ reading found
-reads app reading words rows found is holds =
-    ap (read_rows reading) is ∙ ap reading (fun_ext (λ name. sym (holds name)))
+-- where `?` hands an error on
+pub handed_on : {X Y : Type 0} (view : X → Y) (wanted : Option Y) (e : WordsErr) (result : Result X WordsErr) → IsAnswer view wanted (Err e) → IsErrAnd result (λ other. other ≡ e) → IsAnswer view wanted result
+handed_on view wanted e result answer given =
+    let p = err_from_is_err_and result given in
+    subst (IsAnswer view wanted) (sym (p.1 ∙ ap (λ (x : WordsErr). Err x) p.2)) answer
+
+-- an error of a part is one of the whole, where the whole lacks what the part lacks
+pub lacks : {X Y V W : Type 0} (view : X → Y) (part : Option Y) (wanted_by : V → W) (wanted : Option W) (e : WordsErr)
+    → (part ≡ None → wanted ≡ None) → IsAnswer view part (Err e) → IsAnswer wanted_by wanted (Err e)
+lacks view part wanted_by wanted Usage none h = none h
+lacks view part wanted_by wanted NoMemory none h = tt
 
 -- words that are not taken ask for nothing
-pub refused : (app : App) (reading : Reading) (words : List Text) (e : WordsErr) → HasMatches app words (Err e) → IsAnswer requested_by (asked_of app reading words) (Err e)
-refused app reading words Usage none = ap (read_rows reading) none
-refused app reading words NoMemory none = tt
+pub refused : {X Y : Type 0} (view : X → Y) (read : Option (List Row) → Option Y) (app : App) (words : List Text) (e : WordsErr)
+    → read None ≡ None → HasMatches app words (Err e) → IsAnswer view (read (taken app words)) (Err e)
+refused view read app words Usage nothing none = ap read none ∙ nothing
+refused view read app words NoMemory nothing none = tt
 
-module _ {X Y : Type 0} (view : X → Y) where
-  -- an error of a part is one of the whole, where the whole lacks what the part lacks
-  pub lacks : (part : Option Y) (whole : Option Request) (e : WordsErr) → (part ≡ None → whole ≡ None) → IsAnswer view part (Err e) → IsAnswer requested_by whole (Err e)
-  lacks part whole Usage none h = none h
-  lacks part whole NoMemory none h = tt
+-- words that are taken are read by what is found in them
+pub reads : (app : App) (reading : Reading) (words : List Text) (matches : ArgMatches) → HasMatches app words (Ok matches)
+    → asked_of app reading words ≡ reading (first_value (found_of matches))
+reads app reading words matches h =
+    ap (read_rows reading) h.1 ∙ ap reading (fun_ext (λ name. sym (h.2.first name)))
 
 -- ---- `check`
 
@@ -126,23 +135,12 @@ sample_reads found number size is same = rw (is, same) refl
 -- ---- `value`
 
 -- words that are taken are read by what is found in them
-pub value_reads : (words : List Text) (rows : List Row) (word : Text → Option Text) (all : Text → Option (List Text))
-    → taken value_app words ≡ Some rows → ((name : Text) → word name ≡ first_of name rows) → ((name : Text) → all name ≡ all_of name rows)
-    → value_of words ≡ value_from word all
-value_reads words rows word all is one every =
-    ap value_of_rows is
-    ∙ ap (λ (f : Text → Option Text). value_from f (λ name. all_of name rows)) (fun_ext (λ name. sym (one name)))
-    ∙ ap (value_from word) (fun_ext (λ name. sym (every name)))
-
--- words that are not taken ask for nothing
-pub value_refused : (words : List Text) (e : WordsErr) → HasMatches value_app words (Err e) → IsAnswer value_by (value_of words) (Err e)
-value_refused words Usage none = ap value_of_rows none
-value_refused words NoMemory none = tt
-
--- an error of a part is one of the whole, where the whole lacks what the part lacks
-pub value_lacks : {X Y : Type 0} (view : X → Y) (part : Option Y) (whole : Option ValueAsked) (e : WordsErr) → (part ≡ None → whole ≡ None) → IsAnswer view part (Err e) → IsAnswer value_by whole (Err e)
-value_lacks view part whole Usage none h = none h
-value_lacks view part whole NoMemory none h = tt
+pub value_reads : (words : List Text) (matches : ArgMatches) → HasMatches value_app words (Ok matches)
+    → value_of words ≡ value_from (first_value (found_of matches)) (λ name. option_map raw_values (matched_of (found_of matches) name))
+value_reads words matches h =
+    ap value_of_rows h.1
+    ∙ ap (λ (f : Text → Option Text). value_from f (λ name. all_of name h.0)) (fun_ext (λ name. sym (h.2.first name)))
+    ∙ ap (value_from (first_value (found_of matches))) (fun_ext (λ name. sym (h.2.all name)))
 
 with_no_word : (files : Option ValueFiles) (between : Option Between) (settings : Option (List (Text × ℕ))) → value_with files None between settings ≡ None
 with_no_word None between settings = refl

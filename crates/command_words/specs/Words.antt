@@ -2,7 +2,7 @@
 -- by the arguments that are declared for the command: files in their order, options and flags. A day is one to nine
 -- digits or a civil date, names are those of the grammar of texts, a number that is set for a template is digits with a value
 -- of at most 100,000, and a sample has 1 to 10,000 contracts.
-use Rattle.std.specs.Prelude.{ℕ, Bool, false, ◌==◌, ◌&&◌, List, [], ◌∷◌, ◌++◌, Option, Some, None, is_some, option_and_then, option_map, length, nat_lt, Result, codes, if◌then◌else◌}
+use Rattle.std.specs.Prelude.{ℕ, Bool, false, ◌==◌, List, [], ◌∷◌, ◌++◌, Option, Some, None, is_some, option_and_then, option_map, length, nat_lt, Result, codes, if◌then◌else◌}
 use Rattle.std.specs.List.{after_first, before_first, position_or_len}
 use Rattle.std.specs.Map.{keys_of}
 use Rattle.std.specs.Str.{bytes_eq}
