@@ -23,7 +23,18 @@ pub enum Outcome {
     NoMemory,
 }
 
-const DESK: &[u8] = b"# Positions of the treasury desk
+impl Outcome {
+    /// What printing showed of a text that was not read.
+    pub fn unread(err: ParseErr) -> Outcome {
+        match err {
+            ParseErr::Text(_) => Outcome::NotRead,
+            ParseErr::NoMemory => Outcome::NoMemory,
+        }
+    }
+}
+
+/// The portfolio of a desk, as a user writes it.
+pub const DESK: &[u8] = b"# Positions of the treasury desk
 portfolio 1;
 amounts 2;
 origin 2024-01-15;
@@ -141,8 +152,7 @@ fn printing(alloc: Global, text: &[u8], printed: &[u8]) -> Outcome {
             let result = print_portfolio(alloc, &mut out, &portfolio);
             outcome_of(result, &out, printed)
         }
-        Err(ParseErr::Text(_)) => Outcome::NotRead,
-        Err(ParseErr::NoMemory) => Outcome::NoMemory,
+        Err(err) => Outcome::unread(err),
     }
 }
 
@@ -156,8 +166,7 @@ fn printing_decls(alloc: Global, text: &[u8], printed: &[u8]) -> Outcome {
             let result = print_decls(alloc, &mut out, &portfolio.decls);
             outcome_of(result, &out, printed)
         }
-        Err(ParseErr::Text(_)) => Outcome::NotRead,
-        Err(ParseErr::NoMemory) => Outcome::NoMemory,
+        Err(err) => Outcome::unread(err),
     }
 }
 

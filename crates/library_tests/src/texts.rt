@@ -4,6 +4,7 @@
 ghost use Rattle.std.specs.Prelude.{◌≤◌, length};
 ghost use Rattle.contract_parse.specs.Cursors.{Fits};
 
+use crate::printing::DESK;
 use contract_parse::{
     Cursor, ParseErr, TextFault, TextKind, Token, TokenKind, next_token, parse_decls,
     parse_portfolio, start_text,
@@ -19,25 +20,10 @@ const P: &[u8] = b"portfolio 1;\namounts 2;\nparty A, B, C;\nasset EUR;\n";
 const FX: &[u8] =
     b"portfolio 1;\namounts 2;\nparty A, B, C;\nasset EUR;\nnum FX : 4 in 0.5000 .. 2.0000;\n";
 
-// The greatest numbers and the longest name that a text may have, and each form of a term.
+// The portfolio of a desk, the greatest numbers and the longest name that a text may have, and each form of a term.
 fn read_texts() -> [&'static [u8]; 3] {
     [
-        b"# Positions of the treasury desk
-portfolio 1;
-amounts 2;
-origin 2024-01-15;
-party A, B, C;
-asset EUR, USD;
-num FX : 4 in 0.5000 .. 2.0000;
-flag Default_B;
-template T = 90;
-
-contract loan = both(scale(100.00, pay(EUR, A, B)),
-  after(T, scale(105.00, pay(EUR, B, A))));
-contract guarded = if obs(Default_B, 0) within T
-  then scale(40.00, pay(EUR, C, A))
-  else scale(100.00, pay(EUR, B, A));
-",
+        DESK,
         b"portfolio 01; amounts 12; origin 1900-01-01; start 1000000; party A; party B; asset EUR; flag f; \
             num R : 18 in 0 .. 1; template T = 100000; contract c1 = zero; contract c2 = after(100000, zero); \
             contract c3 = scale(obs(R, -1000000), zero); contract c4 = scale(obs(R, 1000000), zero); \
