@@ -1,7 +1,6 @@
 //! Code files that are read and printed.
 
 use crate::printing::{Outcome, outcome_of};
-use contract_parse::ParseErr;
 use payoff_lang::laws::{code_of_text_is_printable, printable_is_writable};
 use payoff_lang::{parse_code, print_code};
 use std::alloc::{AllocError, Global};
@@ -171,8 +170,7 @@ fn printing(alloc: Global, text: &[u8], printed: &[u8]) -> Outcome {
             let result = print_code(alloc, &mut out, &file);
             outcome_of(result, &out, printed)
         }
-        Err(ParseErr::Text(_)) => Outcome::NotRead,
-        Err(ParseErr::NoMemory) => Outcome::NoMemory,
+        Err(err) => Outcome::unread(err),
     }
 }
 
