@@ -4,7 +4,7 @@ use Rattle.std.specs.Prelude.{◌↔◌, codes}
 use Rattle.std.specs.Str.{IsUtf8}
 use Rattle.contract_parse.specs.Tokens.{Tok, tokens}
 use Rattle.contract_parse.specs.Lines.{line_at, column_at}
-use Rattle.contract_parse.specs.Names.{Scope, nothing_declared}
+use Rattle.contract_parse.specs.Names.{DeclaredNames, nothing_declared}
 use Rattle.contract_parse.specs.Forms.{Form, Whole, done, Front, empty}
 use Rattle.contract_parse.specs.Fronts.{IsFront, IsWhole, Symbol, text_form, text_forms}
 use Rattle.contract_parse.specs.FrontLaws.{EndsFront, FaultyToken, FaultsEndFronts, FrontsEndInSyntax, RefusalsEndFronts, RefusedTokensEndFronts, TakenTextsAreWhole, TakenTokensAreFronts, TextsAreWhole}
@@ -93,11 +93,11 @@ onto parts next t ts (Stops k left) takes x = record {
   fault = faulty_as next parts (x.before ++ x.at ∷ []) (t ∷ x.before ++ x.at ∷ []) k (λ none y. none (takes.on (x.before ++ x.at ∷ []) y)) (λ y. takes.back (x.before ++ x.at ∷ []) y) x.fault;
 }
 
-pub ran : (ts : List Tok) (s : Scope) (ps : List Place) → Decided ps → Ran (all_parts ps) ts (run s ps ts)
+pub ran : (ts : List Tok) (s : DeclaredNames) (ps : List Place) → Decided ps → Ran (all_parts ps) ts (run s ps ts)
 ran [] s ps decided = subst (λ o. Ran (all_parts ps) [] o) (sym (run-end s ps)) (record { decided = decided; on = λ us x. x; back = λ us x. x; whole = λ us rest w. w })
 ran (t ∷ ts) s ps decided = go (step s ps t) refl (stepped s ps t decided) (λ s2 qs d. ran ts s2 qs d)
   where
-    go : (st : Step) → step s ps t ≡ st → Stepped (all_parts ps) t st → ((s2 : Scope) (qs : List Place) → Decided qs → Ran (all_parts qs) ts (run s2 qs ts)) → Ran (all_parts ps) (t ∷ ts) (run s ps (t ∷ ts))
+    go : (st : Step) → step s ps t ≡ st → Stepped (all_parts ps) t st → ((s2 : DeclaredNames) (qs : List Place) → Decided qs → Ran (all_parts qs) ts (run s2 qs ts)) → Ran (all_parts ps) (t ∷ ts) (run s ps (t ∷ ts))
     go (Next s2 qs) e x next = subst (λ o. Ran (all_parts ps) (t ∷ ts) o) (sym (run-next s s2 ps qs t ts e)) (onto (all_parts ps) (all_parts qs) t ts (run s2 qs ts) x.1 (next s2 qs x.0))
     go (Refuse k) e x next =
         subst (λ o. Ran (all_parts ps) (t ∷ ts) o) (sym (run-refuse s ps k t ts e))
@@ -215,7 +215,7 @@ first_ends bytes k at line column utf8 (refused {left = left} ok e) is_line is_c
 pub faults_end_fronts : FaultsEndFronts
 faults_end_fronts bytes f utf8 fault = first_ends bytes f.kind fault.at f.line f.column utf8 fault.first fault.line fault.column
 
-onward : (before : List Tok) (s : Scope) (ps : List Place) (t : Tok) (after : List Tok) (qs : List Place) → Decided ps → run s ps before ≡ Open qs → (Front text_forms (all_parts ps) (before ++ t ∷ []) → ⊥)
+onward : (before : List Tok) (s : DeclaredNames) (ps : List Place) (t : Tok) (after : List Tok) (qs : List Place) → Decided ps → run s ps before ≡ Open qs → (Front text_forms (all_parts ps) (before ++ t ∷ []) → ⊥)
     → run s ps (before ++ t ∷ after) ≡ Stops kind.Syntax t.left
 onward [] s ps t after qs decided opens none = go (step s ps t) refl (stepped s ps t decided)
   where
@@ -235,7 +235,7 @@ onward [] s ps t after qs decided opens none = go (step s ps t) refl (stepped s 
 onward (b ∷ before) s ps t after qs decided opens none = go (step s ps b) refl (stepped s ps b decided) (λ s2 rs d o n. onward before s2 rs t after qs d o n)
   where
     go : (st : Step) → step s ps b ≡ st → Stepped (all_parts ps) b st
-        → ((s2 : Scope) (rs : List Place) → Decided rs → run s2 rs before ≡ Open qs → (Front text_forms (all_parts rs) (before ++ t ∷ []) → ⊥) → run s2 rs (before ++ t ∷ after) ≡ Stops kind.Syntax t.left)
+        → ((s2 : DeclaredNames) (rs : List Place) → Decided rs → run s2 rs before ≡ Open qs → (Front text_forms (all_parts rs) (before ++ t ∷ []) → ⊥) → run s2 rs (before ++ t ∷ after) ≡ Stops kind.Syntax t.left)
         → run s ps (b ∷ before ++ t ∷ after) ≡ Stops kind.Syntax t.left
     go (Next s2 rs) e x next = run-next s s2 ps rs b (before ++ t ∷ after) e ∙ next s2 rs x.0 (sym (run-next s s2 ps rs b before e) ∙ opens) (λ y. none (x.1.back (before ++ t ∷ []) y))
     go (Refuse k) e x next = let stop : Stops k b.left ≡ Open qs = sym (run-refuse s ps k b before e) ∙ opens in absurd cc

@@ -3,7 +3,7 @@ use Rattle.std.proofs.Common.{◌≡◌, Bool, true, false, cond, Some, None, Li
 use Rattle.std.specs.Prelude.{codes}
 use Rattle.contract_parse.specs.Tokens.{Tok}
 use Rattle.contract_parse.specs.Words.{is_date, is_end, is_integer, is_name, is_number, is_the_mark, is_the_word}
-use Rattle.contract_parse.specs.Names.{Scope, names_of}
+use Rattle.contract_parse.specs.Names.{DeclaredNames, names_of}
 use Rattle.contract_parse.specs.Judgements.{binder_at, bound_at, date_number_at, days_at, integer_at, is_version, literal_at, mode_at, new_at, offset_at, operator_at, origin_at, use_at}
 use Rattle.contract_parse.specs.Forms.{Terminal, Nonterminal, Repeated, Form}
 use Rattle.contract_parse.specs.Fronts.{Declared, Declaration, ContractLine, Contract, SignedInteger, FurtherTemplate, Symbol, a_date, a_name, a_number, an_integer, is_one_of, mode_words, operator_marks, text_forms, the_mark}
@@ -25,7 +25,7 @@ one_form rest test t b e = ap (λ c. cond c (rest ∷ []) []) e
 plain_sign : (test : Tok → Bool) (t : Tok) → is_the_mark (codes "-") t ≡ false → rests ((Terminal test ∷ []) ∷ (the_mark (codes "-") ∷ Terminal test ∷ []) ∷ []) t ≡ cond (test t) ([] ∷ []) []
 plain_sign test t miss = ap (λ c. cond (test t) ([] ∷ cond c ((Terminal test ∷ []) ∷ []) []) (cond c ((Terminal test ∷ []) ∷ []) [])) miss
 
-pub stepped : (s : Scope) (ps : List Place) (t : Tok) → Decided ps → Stepped (all_parts ps) t (step s ps t)
+pub stepped : (s : DeclaredNames) (ps : List Place) (t : Tok) → Decided ps → Stepped (all_parts ps) t (step s ps t)
 stepped s [] t decided = nothing_bars text_forms t
 stepped s (TheWord w ∷ ps) t decided = by_test (is_the_word w) (all_parts ps) t (Next s ps) (λ takes. (decided, takes))
 stepped s (TheMark m ∷ ps) t decided = by_test (is_the_mark m) (all_parts ps) t (Next s ps) (λ takes. (decided, takes))

@@ -7,7 +7,7 @@ use Rattle.std.proofs.lemmas.Slice.Eq.{bytes_eq-Decides}
 use Rattle.decimal.specs.declared.Decimal.{Decimal}
 use Rattle.contract_parse.specs.Tokens.{Tok}
 use Rattle.contract_parse.specs.Words.{Bytes, is_name, is_number, is_reserved, is_the_mark, is_the_word, is_word_kind}
-use Rattle.contract_parse.specs.Names.{Scope, back_to}
+use Rattle.contract_parse.specs.Names.{DeclaredNames, back_to}
 use Rattle.decimal.specs.Mantissas.{decimal_of}
 use Rattle.contract_parse.specs.Judgements.{literal_at, or_fault, signed_decimal, variable_at}
 use Rattle.contract_parse.specs.Heads.{amount_head_at, amount_head_of, first_at, first_name, first_number, first_of, head_at, head_of, leaf_word, within_depth}
@@ -82,11 +82,11 @@ leaf_begins : (l : Language) (left : ℕ) → rests (text_forms (Expression l)) 
 leaf_begins Language.Contracts left = refl
 leaf_begins Language.Code left = refl
 
-leaf_parts : (l : Language) (s : Scope) (ps : List Place) → read_rest l ++ all_parts ps ≡ all_parts (leaf_places s l ps)
+leaf_parts : (l : Language) (s : DeclaredNames) (ps : List Place) → read_rest l ++ all_parts ps ≡ all_parts (leaf_places s l ps)
 leaf_parts Language.Contracts s ps = refl
 leaf_parts Language.Code s ps = refl
 
-leaf_decided : (l : Language) (s : Scope) (ps : List Place) → Decided ps → Decided (leaf_places s l ps)
+leaf_decided : (l : Language) (s : DeclaredNames) (ps : List Place) → Decided ps → Decided (leaf_places s l ps)
 leaf_decided Language.Contracts s ps decided = decided
 leaf_decided Language.Code s ps decided = (mark_ends (codes ")") _ refl, decided)
 
@@ -97,7 +97,7 @@ in_both : (P : Language → Type 0) → P Language.Contracts → P Language.Code
 in_both P contracts code Language.Contracts = contracts
 in_both P contracts code Language.Code = code
 
-module _ (l : Language) (s : Scope) (d : ℕ) (names : List Bytes) (ps : List Place) (decided : Decided ps) (t : Tok) where
+module _ (l : Language) (s : DeclaredNames) (d : ℕ) (names : List Bytes) (ps : List Place) (decided : Decided ps) (t : Tok) where
   abbrev P : Step → Type 0
   P st = Stepped (an_expression l ∷ all_parts ps) t st
 
@@ -184,7 +184,7 @@ module _ (l : Language) (s : Scope) (d : ℕ) (names : List Bytes) (ps : List Pl
 
 -- ---- contracts
 
-module _ (s : Scope) (d : ℕ) (names : List Bytes) (ps : List Place) (decided : Decided ps) (t : Tok) where
+module _ (s : DeclaredNames) (d : ℕ) (names : List Bytes) (ps : List Place) (decided : Decided ps) (t : Tok) where
   abbrev a_contract : Part Symbol
   a_contract = Nonterminal Contract
 

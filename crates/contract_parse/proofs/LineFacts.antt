@@ -7,7 +7,7 @@ use Rattle.std.proofs.lemmas.Bool.{false≢true}
 use Rattle.indexmap.specs.IndexMap.{insert_entry}
 use Rattle.contract_parse.specs.Tokens.{Tok}
 use Rattle.contract_parse.specs.Words.{Bytes, is_name, is_the_mark, is_the_word}
-use Rattle.contract_parse.specs.Names.{Scope, is_declared}
+use Rattle.contract_parse.specs.Names.{DeclaredNames, is_declared}
 use Rattle.contract_parse.specs.Judgements.{new_at, separator_at}
 use Rattle.contract_parse.specs.Spelling.{mark, valued, word}
 use Rattle.contract_parse.specs.Statements.{label_line}
@@ -21,7 +21,7 @@ use Rattle.contract_parse.specs.declared.faults.TextKind.TheVariants.{Syntax, Tw
 use Rattle.contract_parse.proofs.Steps.{run-next, run-same}
 
 -- a place of lines that begin with a word, what follows the word, and what stands behind the lines
-module _ (s : Scope) (w : Bytes) (line inside behind : List Place) (shape : (t : Tok) → step s line t ≡ cond (is_the_word w t) (Next s inside) (step s behind t)) where
+module _ (s : DeclaredNames) (w : Bytes) (line inside behind : List Place) (shape : (t : Tok) → step s line t ≡ cond (is_the_word w t) (Next s inside) (step s behind t)) where
   pub line_opens : (ts rest : List Tok) → word w ts rest → run s line ts ≡ run s inside rest
   line_opens ts rest (t, is, passes) = rw is (run-next s s line inside t rest (shape t ∙ ap (λ b. cond b (Next s inside) (step s behind t)) passes))
 
@@ -29,7 +29,7 @@ module _ (s : Scope) (w : Bytes) (line inside behind : List Place) (shape : (t :
   line_absent ts x = rw x.is (run-same s line behind x.first x.after (shape x.first ∙ ap (λ b. cond b (Next s inside) (step s behind x.first)) x.other))
 
 -- labels are of two kinds
-module _ (s : Scope) (ps : List Place) where
+module _ (s : DeclaredNames) (ps : List Place) where
   flag_step : (t : Tok) → is_the_word (codes "num") t ≡ false → step s (LabelLines ∷ ps) t ≡ cond (is_the_word (codes "flag") t) (Next s (flag_places (LabelLines ∷ ps))) (step s ps t)
   flag_step t other = ap (λ b. cond b (Next s (number_label_places (LabelLines ∷ ps))) (cond (is_the_word (codes "flag") t) (Next s (flag_places (LabelLines ∷ ps))) (step s ps t))) other
 

@@ -12,7 +12,7 @@ use Rattle.term_core.specs.Declarations.{Declarations}
 use Rattle.term_core.specs.Books.{Book}
 use Rattle.contract_parse.specs.Tokens.{Tok}
 use Rattle.contract_parse.specs.Words.{Bytes, is_end, is_number, is_the_mark, is_the_word}
-use Rattle.contract_parse.specs.Names.{Scope, names_of, nothing_declared, scope_of, with_names}
+use Rattle.contract_parse.specs.Names.{DeclaredNames, declared_by, names_of, nothing_declared, with_names}
 use Rattle.contract_parse.specs.Judgements.{bound_at, integer_at, is_version, new_at, origin_at, separator_at}
 use Rattle.contract_parse.specs.Spelling.{Part, ◌⨟◌, mark, sign, valued, word}
 use Rattle.contract_parse.specs.Statements.{Added, Entry, Repeat, none, more, comma_name, contract_line, decls, label_line, name_line, new_name, origin_line, portfolio, range, start_line, template_line}
@@ -64,28 +64,28 @@ heads_repeat line ws a b ts rest first last none = last
 heads_repeat line ws a b ts rest first last (more x xs) = first _ _ _ _ x
 
 -- a line that is absent
-absent : (s : Scope) (v : Bytes) (ws : List Bytes) (p : Place) (ps : List Place) (ts : List Tok) → ((t : Tok) → is_the_word v t ≡ false → step s (p ∷ ps) t ≡ step s ps t) → list_all (λ w. not (bytes_eq w v)) ws ≡ true → Heads ws ts → run s (p ∷ ps) ts ≡ run s ps ts
+absent : (s : DeclaredNames) (v : Bytes) (ws : List Bytes) (p : Place) (ps : List Place) (ts : List Tok) → ((t : Tok) → is_the_word v t ≡ false → step s (p ∷ ps) t ≡ step s ps t) → list_all (λ w. not (bytes_eq w v)) ws ≡ true → Heads ws ts → run s (p ∷ ps) ts ≡ run s ps ts
 absent s v ws p ps ts skips other (t, rest, is, e) = rw is (run-same s (p ∷ ps) ps t rest (skips t (leads_other v ws t other e)))
 
 -- ---- new names
 
-names_with : (set : NameSet) (ns : List Bytes) (s : Scope) → names_of set (with_names set ns s) ≡ ns
+names_with : (set : NameSet) (ns : List Bytes) (s : DeclaredNames) → names_of set (with_names set ns s) ≡ ns
 names_with Party ns s = refl
 names_with Asset ns s = refl
 names_with LabelSet ns s = refl
 names_with Template ns s = refl
 names_with ContractSet ns s = refl
 
-with_with : (set : NameSet) (ms ns : List Bytes) (s : Scope) → with_names set ms (with_names set ns s) ≡ with_names set ms s
+with_with : (set : NameSet) (ms ns : List Bytes) (s : DeclaredNames) → with_names set ms (with_names set ns s) ≡ with_names set ms s
 with_with Party ms ns s = refl
 with_with Asset ms ns s = refl
 with_with LabelSet ms ns s = refl
 with_with Template ms ns s = refl
 with_with ContractSet ms ns s = refl
 
-module _ (s : Scope) (set : NameSet) where
-  -- the scope with these names in its set
-  abbrev W : List Bytes → Scope
+module _ (s : DeclaredNames) (set : NameSet) where
+  -- the declared names with these in the set
+  abbrev W : List Bytes → DeclaredNames
   W ns = with_names set ns s
 
   new_taken : (ns : List Bytes) (name : Bytes) (ps : List Place) (ts rest : List Tok) → valued (new_at ns) name ts rest → run (W ns) (NewIn set ∷ ps) ts ≡ run (W (ns ++ name ∷ [])) ps rest
@@ -120,8 +120,8 @@ module _ (s : Scope) (set : NameSet) where
       ∙ commas_taken x.two.first _ (NameLines w set ∷ ps) _ _ _ x.two.spelled.two.one x.two.spelled.two.two
       ∙ names_taken w ws _ b ps _ rest other heads xs
 
-  -- the scope with the names of these entries
-  abbrev E : {V : Type 0} → List (Bytes × V) → Scope
+  -- the same with the names of these entries
+  abbrev E : {V : Type 0} → List (Bytes × V) → DeclaredNames
   E es = W (map (λ entry. entry.0) es)
 
   entry_taken : {V : Type 0} (es : List (Bytes × V)) (name : Bytes) (v : V) (ps : List Place) (ts rest : List Tok) → new_name es name ts rest → run (E es) (NewIn set ∷ ps) ts ≡ run (E (es ++ (name, v) ∷ [])) ps rest
@@ -136,7 +136,7 @@ number_of_bound negative scale low t m e = elim (cases_Bool (is_number t)) [
   | inr other ↦ let h = rw other at e in absurd cc
 ]
 
-bound_signed : (s : Scope) (scale : ℕ) (low : Option ℤ) (m : ℤ) (negative : Bool) (ps : List Place) (ts rest : List Tok) → (sign negative ⨟ valued (bound_at negative scale low) m) ts rest → run s (BoundAt scale low ∷ ps) ts ≡ run s (bound_places scale low m ps) rest
+bound_signed : (s : DeclaredNames) (scale : ℕ) (low : Option ℤ) (m : ℤ) (negative : Bool) (ps : List Place) (ts rest : List Tok) → (sign negative ⨟ valued (bound_at negative scale low) m) ts rest → run s (BoundAt scale low ∷ ps) ts ≡ run s (bound_places scale low m ps) rest
 bound_signed s scale low m true ps ts rest x =
     test_taken s s (BoundAt scale low ∷ ps) (BoundNumber true scale low ∷ ps) (is_the_mark (codes "-")) ts x.between
     (λ t e. ap (λ b. cond b (Next s (BoundNumber true scale low ∷ ps)) (judged (bound_at false scale low t) (λ (m : ℤ). Next s (bound_places scale low m ps)))) e) x.one
@@ -146,7 +146,7 @@ bound_signed s scale low m false ps ts rest x =
     (λ t e. ap (λ b. cond b (Next s (BoundNumber true scale low ∷ ps)) (judged (bound_at false scale low t) (λ (m : ℤ). Next s (bound_places scale low m ps)))) (number_no_mark (codes "-") t (number_of_bound false scale low t m e))
     ∙ ap (λ v. judged v (λ (m : ℤ). Next s (bound_places scale low m ps))) e) x.two)
 
-range_taken : (s : Scope) (scale : ℕ) (low high : ℤ) (ps : List Place) (ts rest : List Tok) → range scale low high ts rest → run s (TheMark (codes ":") ∷ ScaleAt ∷ ps) ts ≡ run s ps rest
+range_taken : (s : DeclaredNames) (scale : ℕ) (low high : ℤ) (ps : List Place) (ts rest : List Tok) → range scale low high ts rest → run s (TheMark (codes ":") ∷ ScaleAt ∷ ps) ts ≡ run s ps rest
 range_taken s scale low high ps ts rest x =
     mark_taken s (codes ":") _ _ _ x.one
     ∙ value_taken s s (ScaleAt ∷ ps) (range_places scale ps) (integer_at 18) scale _ _ (λ t e. ap (λ v. judged v (λ (scale : ℕ). Next s (range_places scale ps))) e) x.two.one
@@ -155,15 +155,15 @@ range_taken s scale low high ps ts rest x =
     ∙ mark_taken s (codes "..") _ _ _ x.two.two.two.two.one
     ∙ bound_signed s scale (Some low) high x.two.two.two.two.two.negative _ _ _ x.two.two.two.two.two.spelled
 
-module _ (s : Scope) where
-  abbrev L : List (Bytes × Label) → Scope
+module _ (s : DeclaredNames) where
+  abbrev L : List (Bytes × Label) → DeclaredNames
   L es = with_names LabelSet (map (λ entry. entry.0) es) s
 
-  num_step : (S : Scope) (ps : List Place) (t : Tok) → is_the_word (codes "num") t ≡ true → step S (LabelLines ∷ ps) t ≡ Next S (number_label_places (LabelLines ∷ ps))
+  num_step : (S : DeclaredNames) (ps : List Place) (t : Tok) → is_the_word (codes "num") t ≡ true → step S (LabelLines ∷ ps) t ≡ Next S (number_label_places (LabelLines ∷ ps))
   num_step S ps t e =
       ap (λ b. cond b (Next S (number_label_places (LabelLines ∷ ps))) (cond (is_the_word (codes "flag") t) (Next S (flag_places (LabelLines ∷ ps))) (step S ps t))) e
 
-  no_num_step : (S : Scope) (ps : List Place) (t : Tok) (b : Bool) → is_the_word (codes "num") t ≡ false → is_the_word (codes "flag") t ≡ b → step S (LabelLines ∷ ps) t ≡ cond b (Next S (flag_places (LabelLines ∷ ps))) (step S ps t)
+  no_num_step : (S : DeclaredNames) (ps : List Place) (t : Tok) (b : Bool) → is_the_word (codes "num") t ≡ false → is_the_word (codes "flag") t ≡ b → step S (LabelLines ∷ ps) t ≡ cond b (Next S (flag_places (LabelLines ∷ ps))) (step S ps t)
   no_num_step S ps t b e f =
       ap (λ b. cond b (Next S (number_label_places (LabelLines ∷ ps))) (cond (is_the_word (codes "flag") t) (Next S (flag_places (LabelLines ∷ ps))) (step S ps t))) e
       ∙ ap (λ b. cond b (Next S (flag_places (LabelLines ∷ ps))) (step S ps t)) f
@@ -187,7 +187,7 @@ module _ (s : Scope) where
 
   -- ---- templates
 
-  abbrev T : List (Bytes × ℕ) → Scope
+  abbrev T : List (Bytes × ℕ) → DeclaredNames
   T es = with_names Template (map (λ entry. entry.0) es) s
 
   template_taken : (es : List (Bytes × ℕ)) (name : Bytes) (days : ℕ) (ps : List Place) (ts rest : List Tok) → template_line es name days ts rest → run (T es) (TemplateLines ∷ ps) ts ≡ run (T (es ++ (name, days) ∷ [])) (TemplateLines ∷ ps) rest
@@ -207,7 +207,7 @@ module _ (s : Scope) where
 
   -- ---- contracts
 
-  abbrev C : List (Bytes × Contract) → Scope
+  abbrev C : List (Bytes × Contract) → DeclaredNames
   C es = with_names ContractSet (map (λ entry. entry.0) es) s
 
   contract_taken : (es : List (Bytes × Contract)) (name : Bytes) (c : Contract) (ps : List Place) (ts rest : List Tok) → contract_line s es name c ts rest → run (C es) (ContractLines ∷ ps) ts ≡ run (C (es ++ (name, c) ∷ [])) (ContractLines ∷ ps) rest
@@ -239,7 +239,7 @@ pub start_heads : (day : ℕ) (ws : List Bytes) (ts rest : List Tok) → Heads w
 start_heads day ws ts rest heads (inl x) = heads_more (codes "start") ws ts (subst (λ z. Heads ws z) (sym x.1) heads)
 start_heads day ws ts rest heads (inr x) = heads_word (codes "start") ws ts x.between x.one
 
-module _ (s : Scope) (ps : List Place) (ts rest : List Tok) (ws : List Bytes) where
+module _ (s : DeclaredNames) (ps : List Place) (ts rest : List Tok) (ws : List Bytes) where
   start_taken : (day : ℕ) → list_all (λ v. not (bytes_eq v (codes "start"))) ws ≡ true → Heads ws rest → start_line day ts rest → run s (StartLine ∷ ps) ts ≡ run s ps rest
   start_taken day other heads (inl x) =
       absent s (codes "start") ws StartLine ps ts (λ t e. ap (λ b. cond b (Next s (IntegerAt 1_000_000 ∷ TheMark (codes ";") ∷ ps)) (step s ps t)) e) other (subst (λ z. Heads ws z) (sym x.1) heads) ∙ ap (run s ps) x.1
@@ -275,7 +275,7 @@ behind_start = codes "party" ∷ behind_parties
 abbrev pub behind_origin : List Bytes
 behind_origin = codes "start" ∷ behind_start
 
-pub at_contracts : (s : Scope) (a b : List (Bytes × Contract)) (ts rest : List Tok) → Heads [] rest → Repeat (Entry (contract_line s)) a b ts rest → Heads behind_templates ts
+pub at_contracts : (s : DeclaredNames) (a b : List (Bytes × Contract)) (ts rest : List Tok) → Heads [] rest → Repeat (Entry (contract_line s)) a b ts rest → Heads behind_templates ts
 at_contracts s a b ts rest heads x = heads_repeat (Entry (contract_line s)) behind_templates a b ts rest (λ a b ts rest e. heads_word (codes "contract") (codes "code" ∷ []) ts e.spelled.between e.spelled.one) (heads_more (codes "contract") (codes "code" ∷ []) rest (heads_more (codes "code") [] rest heads)) x
 
 pub at_templates : (a b : List (Bytes × ℕ)) (ts rest : List Tok) → Heads behind_templates rest → Repeat (Entry template_line) a b ts rest → Heads behind_labels ts
@@ -288,7 +288,7 @@ at_labels a b ts rest heads x =
 pub at_names : (w : Bytes) (ws : List Bytes) (a b : List Bytes) (ts rest : List Tok) → Heads ws rest → Repeat (name_line w) a b ts rest → Heads (w ∷ ws) ts
 at_names w ws a b ts rest heads x = heads_repeat (name_line w) (w ∷ ws) a b ts rest (λ a b ts rest e. heads_word w ws ts e.between e.one) (heads_more w ws rest heads) x
 
-pub decls_taken : (d : Declarations) (ps : List Place) (ts rest : List Tok) → decls d ts rest → Heads behind_templates rest → run nothing_declared (decls_places ps) ts ≡ run (scope_of d []) ps rest
+pub decls_taken : (d : Declarations) (ps : List Place) (ts rest : List Tok) → decls d ts rest → Heads behind_templates rest → run nothing_declared (decls_places ps) ts ≡ run (declared_by d []) ps rest
 decls_taken d ps ts rest x heads =
     let o = x.two.two.two in
     let templates = at_templates [] d.templates _ rest heads o.two.two.two.two.two in
@@ -311,7 +311,7 @@ decls_taken d ps ts rest x heads =
 
 pub portfolio_taken : (b : Book) (ts : List Tok) → portfolio b ts [] → run nothing_declared text_places ts ≡ Open []
 portfolio_taken b ts x =
-    let s = scope_of b.declarations [] in
+    let s = declared_by b.declarations [] in
     let s2 = with_names ContractSet (map (λ entry. entry.0) b.contracts) s in
     let y = x.two.two.two in
     let at_end : Heads [] y.two.between = (y.two.two.0, [], y.two.two.1, y.two.two.2) in

@@ -9,7 +9,7 @@ use Rattle.std.specs.Str.{bytes_eq}
 use Rattle.indexmap.specs.IndexSet.{insert_key}
 use Rattle.contract_parse.specs.Tokens.{Tok}
 use Rattle.contract_parse.specs.Words.{Bytes, is_integer, is_name}
-use Rattle.contract_parse.specs.Names.{Scope, is_declared, names_of, place_in, with_names}
+use Rattle.contract_parse.specs.Names.{DeclaredNames, is_declared, names_of, place_in, with_names}
 use Rattle.contract_parse.specs.Judgements.{counted, days_at, integer_at, named, new_at, or_fault, up_to, use_at, whole}
 use Rattle.term_core.specs.declared.terms.Days.TheVariants.{Num as Count, Named}
 
@@ -61,14 +61,14 @@ module _ (templates : List Bytes) (t : Tok) where
   days_none kind is e = rw (sym is) (named_err (use_at templates t) kind e)
 
 -- the names of a set that was given its names
-pub names_given : (set : NameSet) (names : List Bytes) (s : Scope) → names_of set (with_names set names s) ≡ names
+pub names_given : (set : NameSet) (names : List Bytes) (s : DeclaredNames) → names_of set (with_names set names s) ≡ names
 names_given Party names s = refl
 names_given Asset names s = refl
 names_given Label names s = refl
 names_given Template names s = refl
 names_given Contract names s = refl
 
-pub given_again : (set : NameSet) (names more : List Bytes) (s : Scope) → with_names set more (with_names set names s) ≡ with_names set more s
+pub given_again : (set : NameSet) (names more : List Bytes) (s : DeclaredNames) → with_names set more (with_names set names s) ≡ with_names set more s
 given_again Party names more s = refl
 given_again Asset names more s = refl
 given_again Label names more s = refl

@@ -7,7 +7,7 @@ use Rattle.term_core.specs.Terms.{Expression, Lit, Yes, Var, Obs, Neg, Num, Cmp,
 use Rattle.term_core.specs.declared.terms.NumOp.TheVariants.{Plus, Minus, Times, Min, Max}
 use Rattle.contract_parse.specs.Tokens.{Tok}
 use Rattle.contract_parse.specs.Words.{Bytes, is_the_mark, is_the_word}
-use Rattle.contract_parse.specs.Names.{Scope}
+use Rattle.contract_parse.specs.Names.{DeclaredNames}
 use Rattle.contract_parse.specs.Judgements.{binder_at, date_number_at, days_at, integer_at, literal_at, mode_at, offset_at, operator_at, use_at, variable_at}
 use Rattle.contract_parse.specs.Heads.{first_name, first_number, first_of, head_of}
 use Rattle.contract_parse.specs.Spelling.{DateFrom, ◌⨟◌, contr, dated_part, expr, infixed, leaf_of, mark, sign, templates_part, valued, word}
@@ -81,11 +81,11 @@ literal_form language names false d ts rest x =
     let v : valued (literal_at false) d ts rest = subst (λ k. valued (literal_at false) d k rest) (sym x.one) x.two in
     (v.0, rest, v.1, ap form_in (first_is_number language names v.0 (number_of_literal false v.0 d v.2) ∙ ap first_number v.2))
 
-leaf_form : (language : Language) (s : Scope) (label : ℕ) (n : ℤ) (names : List Bytes) (ts rest : List Tok) → leaf_of language s label n ts rest → HasForm language names 3 ts
+leaf_form : (language : Language) (s : DeclaredNames) (label : ℕ) (n : ℤ) (names : List Bytes) (ts rest : List Tok) → leaf_of language s label n ts rest → HasForm language names 3 ts
 leaf_form Language.Contracts s label n names ts rest x = word_form Language.Contracts names (codes "obs") 3 ts x.between (λ left. refl) x.one
 leaf_form Language.Code s label n names ts rest x = word_form Language.Code names (codes "model") 3 ts x.between (λ left. refl) x.one
 
-has_form : (language : Language) (s : Scope) (names : List Bytes) (e : Expression) (ts rest : List Tok) → expr language s names e ts rest → HasForm language names (form e) ts
+has_form : (language : Language) (s : DeclaredNames) (names : List Bytes) (e : Expression) (ts rest : List Tok) → expr language s names e ts rest → HasForm language names (form e) ts
 has_form language s names (Lit m k) ts rest x = literal_form language names x.negative _ ts rest x.spelled
 has_form language s names (Yes true) ts rest x = word_form language names (codes "true") 1 ts rest (λ left. refl) x
 has_form language s names (Yes false) ts rest x = word_form language names (codes "false") 1 ts rest (λ left. refl) x
@@ -108,7 +108,7 @@ form_one : (language : Language) (names : List Bytes) (m n : ℕ) (ts : List Tok
 form_one language names m n ts (t, a, is, f) (u, b, is', f') = sym f ∙ ap (λ z. form_in (first_of language names z)) (tail_same t u ts a b is is').0 ∙ f'
 
 -- expressions of other forms have no tokens in common
-differ : (language : Language) (s : Scope) (names : List Bytes) (e e' : Expression) (ts a b : List Tok) → (form e == form e') ≡ false → expr language s names e ts a → expr language s names e' ts b → ⊥
+differ : (language : Language) (s : DeclaredNames) (names : List Bytes) (e e' : Expression) (ts a b : List Tok) → (form e == form e') ≡ false → expr language s names e ts a → expr language s names e' ts b → ⊥
 differ language s names e e' ts a b other x y =
     false≢true (sym other ∙ eq-eqb (form e) (form e') (form_one language names (form e) (form e') ts (has_form language s names e ts a x) (has_form language s names e' ts b y)))
 
@@ -127,14 +127,14 @@ build (Comparison op) l r = Cmp op l r
 build (Connective op) l r = Logic op l r
 
 -- an expression in parentheses, as one with an operator
-record Infix (language : Language) (s : Scope) (names : List Bytes) (e : Expression) (ts rest : List Tok) : Type 0 where
+record Infix (language : Language) (s : DeclaredNames) (names : List Bytes) (e : Expression) (ts rest : List Tok) : Type 0 where
   op : Operator
   left : Expression
   right : Expression
   is : e ≡ build op left right
   spelled : infixed (expr language s names left) (valued operator_at op) (expr language s names right) ts rest
 
-is_infix : (language : Language) (s : Scope) (names : List Bytes) (e : Expression) (ts rest : List Tok) → form e ≡ 8 → expr language s names e ts rest → Infix language s names e ts rest
+is_infix : (language : Language) (s : DeclaredNames) (names : List Bytes) (e : Expression) (ts rest : List Tok) → form e ≡ 8 → expr language s names e ts rest → Infix language s names e ts rest
 is_infix language s names (Num Plus a b) ts rest f x = record { op = Arithmetic Plus; left = a; right = b; is = refl; spelled = x }
 is_infix language s names (Num Minus a b) ts rest f x = record { op = Arithmetic Minus; left = a; right = b; is = refl; spelled = x }
 is_infix language s names (Num Times a b) ts rest f x = record { op = Arithmetic Times; left = a; right = b; is = refl; spelled = x }
@@ -167,7 +167,7 @@ date_one templates days days' written written' ts a b p q x y =
 place_one : (templates : List Bytes) (n n' : ℤ) (ts a b : List Tok) → DateFrom templates n ts a → DateFrom templates n' ts b → n ≡ n'
 place_one templates n n' ts a b x y = x.left ∙ ap (λ (t : Tok). pos t.left) (tail_same x.first y.first ts x.behind y.behind x.is y.is).0 ∙ sym y.left
 
-leaf_one : (language : Language) (s : Scope) (l l' : ℕ) (n n' : ℤ) (ts a b : List Tok) → leaf_of language s l n ts a → leaf_of language s l' n' ts b → (Obs l n ≡ Obs l' n') × (a ≡ b)
+leaf_one : (language : Language) (s : DeclaredNames) (l l' : ℕ) (n n' : ℤ) (ts a b : List Tok) → leaf_of language s l n ts a → leaf_of language s l' n' ts b → (Obs l n ≡ Obs l' n') × (a ≡ b)
 leaf_one Language.Contracts s l l' n n' ts a b x y =
     test_case _ _ ts a b x y (λ k x y. test_case _ _ k a b x y (λ k x y.
     value_case (use_at s.labels) l l' k a b x y (λ l_same k x y. test_case _ _ k a b x y (λ k x y.
@@ -180,7 +180,7 @@ leaf_one Language.Code s l l' n n' ts a b x y =
     let behind = date_one s.templates _ _ _ _ k x.between y.between (mark_lacks (codes ")") (codes "+") x.between a refl x.two) (mark_lacks (codes ")") (codes "+") y.between b refl y.two) x.one.spelled y.one.spelled in
     (λ i. Obs (l_same i) (n_same i), one_one _ _ x.between a b x.two (subst (λ k. mark (codes ")") k b) (sym behind.2) y.two))))))
 
-module _ (language : Language) (s : Scope) where
+module _ (language : Language) (s : DeclaredNames) where
   infix_one : (names : List Bytes) (op op' : Operator) (l l' r r' : Expression) (ts a b : List Tok)
       → ((k m n : List Tok) → expr language s names l k m → expr language s names l' k n → (l ≡ l') × (m ≡ n)) → ((k m n : List Tok) → expr language s names r k m → expr language s names r' k n → (r ≡ r') × (m ≡ n))
       → infixed (expr language s names l) (valued operator_at op) (expr language s names r) ts a → infixed (expr language s names l') (valued operator_at op') (expr language s names r') ts b → (build op l r ≡ build op' l' r') × (a ≡ b)
@@ -281,7 +281,7 @@ HasContractForm n ts = (t : Tok) × (rest : List Tok) × (ts ≡ t ∷ rest) × 
 contract_word_form : (w : Bytes) (n : ℕ) (ts rest : List Tok) → ((left : ℕ) → contract_form_in (head_of (record { kind = Word; text = w; left = left })) ≡ n) → word w ts rest → HasContractForm n ts
 contract_word_form w n ts rest is (t, e, passes) = (t, rest, e, of_word (λ z. contract_form_in (head_of z) ≡ n) w t passes (is t.left))
 
-has_contract_form : (s : Scope) (names : List Bytes) (c : Contract) (ts rest : List Tok) → contr s names c ts rest → HasContractForm (contract_form c) ts
+has_contract_form : (s : DeclaredNames) (names : List Bytes) (c : Contract) (ts rest : List Tok) → contr s names c ts rest → HasContractForm (contract_form c) ts
 has_contract_form s names Zero ts rest x = contract_word_form (codes "zero") 0 ts rest (λ left. refl) x
 has_contract_form s names (Pay asset from to) ts rest x = contract_word_form (codes "pay") 1 ts x.between (λ left. refl) x.one
 has_contract_form s names (Both a b) ts rest x = contract_word_form (codes "both") 2 ts x.between (λ left. refl) x.one
@@ -294,11 +294,11 @@ contract_form_one : (m n : ℕ) (ts : List Tok) → HasContractForm m ts → Has
 contract_form_one m n ts (t, a, is, f) (u, b, is', f') = sym f ∙ ap (λ z. contract_form_in (head_of z)) (tail_same t u ts a b is is').0 ∙ f'
 
 -- contracts of other forms have no tokens in common
-contracts_differ : (s : Scope) (names : List Bytes) (c c' : Contract) (ts a b : List Tok) → (contract_form c == contract_form c') ≡ false → contr s names c ts a → contr s names c' ts b → ⊥
+contracts_differ : (s : DeclaredNames) (names : List Bytes) (c c' : Contract) (ts a b : List Tok) → (contract_form c == contract_form c') ≡ false → contr s names c ts a → contr s names c' ts b → ⊥
 contracts_differ s names c c' ts a b other x y =
     false≢true (sym other ∙ eq-eqb (contract_form c) (contract_form c') (contract_form_one (contract_form c) (contract_form c') ts (has_contract_form s names c ts a x) (has_contract_form s names c' ts b y)))
 
-module _ (s : Scope) where
+module _ (s : DeclaredNames) where
   pub one_contr : (names : List Bytes) (c c' : Contract) (ts a b : List Tok) → contr s names c ts a → contr s names c' ts b → (c ≡ c') × (a ≡ b)
   one_contr names Zero Zero ts a b x y = (refl, one_one _ _ ts a b x y)
   one_contr names (Pay asset from to) (Pay asset' from' to') ts a b x y =

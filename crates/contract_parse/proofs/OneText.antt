@@ -11,7 +11,7 @@ use Rattle.term_core.specs.Declarations.{Declarations}
 use Rattle.term_core.specs.Books.{Book}
 use Rattle.contract_parse.specs.Tokens.{Tok, tokens}
 use Rattle.contract_parse.specs.Words.{Bytes, is_the_mark, is_the_word}
-use Rattle.contract_parse.specs.Names.{Scope, scope_of}
+use Rattle.contract_parse.specs.Names.{DeclaredNames, declared_by}
 use Rattle.contract_parse.specs.Judgements.{bound_at, integer_at, new_at, origin_at}
 use Rattle.contract_parse.specs.Spelling.{Part, Then, ◌⨟◌, Signed, end, mark, valued, word}
 use Rattle.contract_parse.specs.Statements.{Added, Entry, NameList, Repeat, none, more, comma_name, contract_line, decls, label_line, name_line, name_lines, origin_line, portfolio, range, start_line, template_line}
@@ -101,7 +101,7 @@ one_template es name name' days days' ts m n x y =
     test_case _ _ ts m n x y (λ k x y. part_case k m n (value_one _ name name' k) x y (λ name_same k x y. test_case _ _ k m n x y (λ k x y.
     value_case (integer_at 100_000) days days' k m n x y (λ days_same k x y. ((name_same, days_same), one_one _ _ k m n x y)))))
 
-one_contract : (s : Scope) (es : List (Bytes × Contract)) (name name' : Bytes) (c c' : Contract) (ts m n : List Tok) → contract_line s es name c ts m → contract_line s es name' c' ts n → ((name ≡ name') × (c ≡ c')) × (m ≡ n)
+one_contract : (s : DeclaredNames) (es : List (Bytes × Contract)) (name name' : Bytes) (c c' : Contract) (ts m n : List Tok) → contract_line s es name c ts m → contract_line s es name' c' ts n → ((name ≡ name') × (c ≡ c')) × (m ≡ n)
 one_contract s es name name' c c' ts m n x y =
     test_case _ _ ts m n x y (λ k x y. part_case k m n (value_one _ name name' k) x y (λ name_same k x y. test_case _ _ k m n x y (λ k x y.
     part_case k m n (one_contr s [] c c' k) x y (λ c_same k x y.
@@ -179,11 +179,11 @@ one_portfolio : (b b' : Book) (ts : List Tok) → portfolio b ts [] → portfoli
 one_portfolio b b' ts x y =
     test_case _ _ ts [] [] x y (λ k x y. test_case _ _ k [] [] x y (λ k x y. test_case _ _ k [] [] x y (λ k x y.
     line_case (Heads behind_templates) k [] []
-    (λ k x. at_contracts (scope_of b.declarations []) [] b.contracts k x.between (end_heads x.between [] x.two) x.one)
-    (λ k y. at_contracts (scope_of b'.declarations []) [] b'.contracts k y.between (end_heads y.between [] y.two) y.one)
+    (λ k x. at_contracts (declared_by b.declarations []) [] b.contracts k x.between (end_heads x.between [] x.two) x.one)
+    (λ k y. at_contracts (declared_by b'.declarations []) [] b'.contracts k y.between (end_heads y.between [] y.two) y.one)
     (λ m n g h x y. one_decls b.declarations b'.declarations m n g h k x y) x y (λ declared k x y.
-    let s = scope_of b.declarations [] in
-    let y = subst (λ d. (Repeat (Entry (contract_line (scope_of d []))) [] b'.contracts ⨟ end) k []) (sym declared) y in
+    let s = declared_by b.declarations [] in
+    let y = subst (λ d. (Repeat (Entry (contract_line (declared_by d []))) [] b'.contracts ⨟ end) k []) (sym declared) y in
     line_case (Heads []) k [] [] (λ k x. end_heads k [] x) (λ k x. end_heads k [] x)
     (λ m n g h x y. one_repeat (Entry (contract_line s)) (Heads []) (one_entry (contract_line s) (one_contract s)) (λ a b ts m heads x. no_line (codes "contract") [] ts x.spelled.between refl heads x.spelled.one) [] b.contracts b'.contracts k m n g h x y) x y (λ contracts k x y.
     λ i. record { declarations = declared i; contracts = contracts i })))))

@@ -5,7 +5,7 @@ use Rattle.std.proofs.lemmas.Slice.Eq.{bytes_eq-Decides}
 use Rattle.std.proofs.lemmas.Bool.{false≢true}
 use Rattle.contract_parse.specs.Tokens.{Tok}
 use Rattle.contract_parse.specs.Words.{Bytes, is_end, is_end_kind, is_mark_kind, is_name, is_number, is_number_kind, is_the_mark, is_the_word, is_word_kind}
-use Rattle.contract_parse.specs.Names.{Scope}
+use Rattle.contract_parse.specs.Names.{DeclaredNames}
 use Rattle.contract_parse.specs.Spelling.{mark, one, valued, word}
 use Rattle.contract_parse.specs.Places.{Place, TheMark, TheWord, Next, Open, run, step}
 use Rattle.contract_parse.specs.Reading.{LacksMark}
@@ -14,7 +14,7 @@ use Rattle.contract_parse.specs.declared.token.Kind.{Kind}
 use Rattle.contract_parse.specs.declared.token.Kind.TheVariants.{Word, Number, Date, Mark, End, Stray}
 use Rattle.contract_parse.specs.declared.faults.TextKind.{TextKind}
 
-pub run-end : (s : Scope) (ps : List Place) → run s ps [] ≡ Open ps
+pub run-end : (s : DeclaredNames) (ps : List Place) → run s ps [] ≡ Open ps
 unfolding run
 run-end s ps = refl
 
@@ -86,16 +86,16 @@ of_mark P m t e h =
 
 -- ---- one token at its place
 
-pub word_taken : (s : Scope) (w : Bytes) (ps : List Place) (ts rest : List Tok) → word w ts rest → run s (TheWord w ∷ ps) ts ≡ run s ps rest
+pub word_taken : (s : DeclaredNames) (w : Bytes) (ps : List Place) (ts rest : List Tok) → word w ts rest → run s (TheWord w ∷ ps) ts ≡ run s ps rest
 word_taken s w ps ts rest (t, is, passes) = rw is (run-next s s (TheWord w ∷ ps) ps t rest (rw passes refl))
 
-pub mark_taken : (s : Scope) (m : Bytes) (ps : List Place) (ts rest : List Tok) → mark m ts rest → run s (TheMark m ∷ ps) ts ≡ run s ps rest
+pub mark_taken : (s : DeclaredNames) (m : Bytes) (ps : List Place) (ts rest : List Tok) → mark m ts rest → run s (TheMark m ∷ ps) ts ≡ run s ps rest
 mark_taken s m ps ts rest (t, is, passes) = rw is (run-next s s (TheMark m ∷ ps) ps t rest (rw passes refl))
 
-pub value_taken : {X : Type 0} (s s2 : Scope) (ps qs : List Place) (judge : Tok → Result X TextKind) (x : X) (ts rest : List Tok) → ((t : Tok) → judge t ≡ Ok x → step s ps t ≡ Next s2 qs) → valued judge x ts rest → run s ps ts ≡ run s2 qs rest
+pub value_taken : {X : Type 0} (s s2 : DeclaredNames) (ps qs : List Place) (judge : Tok → Result X TextKind) (x : X) (ts rest : List Tok) → ((t : Tok) → judge t ≡ Ok x → step s ps t ≡ Next s2 qs) → valued judge x ts rest → run s ps ts ≡ run s2 qs rest
 value_taken s s2 ps qs judge x ts rest next (t, is, passes) = rw is (run-next s s2 ps qs t rest (next t passes))
 
-pub test_taken : (s s2 : Scope) (ps qs : List Place) (test : Tok → Bool) (ts rest : List Tok) → ((t : Tok) → test t ≡ true → step s ps t ≡ Next s2 qs) → one test ts rest → run s ps ts ≡ run s2 qs rest
+pub test_taken : (s s2 : DeclaredNames) (ps qs : List Place) (test : Tok → Bool) (ts rest : List Tok) → ((t : Tok) → test t ≡ true → step s ps t ≡ Next s2 qs) → one test ts rest → run s ps ts ≡ run s2 qs rest
 test_taken s s2 ps qs test ts rest next (t, is, passes) = rw is (run-next s s2 ps qs t rest (next t passes))
 
 -- ---- other tokens

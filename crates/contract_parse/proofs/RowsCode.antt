@@ -4,7 +4,7 @@ use Rattle.std.specs.Prelude.{codes}
 use Rattle.term_core.specs.Terms.{Obs}
 use Rattle.contract_parse.specs.Tokens.{Tok}
 use Rattle.contract_parse.specs.Words.{Bytes}
-use Rattle.contract_parse.specs.Names.{Scope, nothing_declared}
+use Rattle.contract_parse.specs.Names.{DeclaredNames, nothing_declared}
 use Rattle.contract_parse.specs.Judgements.{date_number_at}
 use Rattle.contract_parse.specs.Spelling.{expr}
 use Rattle.contract_parse.specs.Places.{AmountAt, ExprAt, Open, Stops, code_text_places, run}
@@ -83,7 +83,7 @@ unfolding run
 too_deep_contract = refl
 
 -- an observable of payoff code has for its offset the place of its date in the text
-abbrev declared : Scope
+abbrev declared : DeclaredNames
 declared = record { parties = []; assets = []; labels = codes "D" ∷ []; templates = codes "T" ∷ []; contracts = [] }
 
 the_read : expr Language.Code declared [] (Obs 0 (pos 71)) read_of_d []

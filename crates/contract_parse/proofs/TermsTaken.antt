@@ -10,7 +10,7 @@ use Rattle.term_core.specs.declared.terms.Days.{Days}
 use Rattle.term_core.specs.declared.terms.NumOp.TheVariants.{Plus, Minus, Times, Min, Max}
 use Rattle.contract_parse.specs.Tokens.{Tok}
 use Rattle.contract_parse.specs.Words.{Bytes, is_name, is_number, is_the_mark, is_the_word, is_number_kind}
-use Rattle.contract_parse.specs.Names.{Scope}
+use Rattle.contract_parse.specs.Names.{DeclaredNames}
 use Rattle.contract_parse.specs.Judgements.{binder_at, date_number_at, days_at, integer_at, literal_at, mode_at, offset_at, operator_at, use_at, variable_at}
 use Rattle.contract_parse.specs.Heads.{amount_head_of, first_name, first_number, first_of, greatest_depth, head_of, within_depth}
 use Rattle.contract_parse.specs.Spelling.{Part, ◌⨟◌, Signed, contr, dated_part, expr, infixed, leaf_of, mark, pair, sign, templates_part, valued, word}
@@ -31,7 +31,7 @@ use Rattle.contract_parse.proofs.Passing.{mark_lacks, mark_taken, number_no_mark
 
 -- ---- values of one token
 
-module _ (s : Scope) (ps : List Place) (ts rest : List Tok) where
+module _ (s : DeclaredNames) (ps : List Place) (ts rest : List Tok) where
   pub use_taken : (names : List Bytes) (i : ℕ) → valued (use_at names) i ts rest → run s (UseOf names ∷ ps) ts ≡ run s ps rest
   use_taken names i x = value_taken s s (UseOf names ∷ ps) ps (use_at names) i ts rest (λ t e. ap (λ v. judged v (λ (i : ℕ). Next s ps)) e) x
 
@@ -85,15 +85,15 @@ first_is_name language names t n = rw (ap is_number_kind (the_name t n)) (rw n r
 
 -- ---- what a term begins with
 
--- a scope with other contracts
-abbrev pub with_contracts : List Bytes → Scope → Scope
+-- declared names with other contracts
+abbrev pub with_contracts : List Bytes → DeclaredNames → DeclaredNames
 with_contracts ks s = record s { contracts = ks }
 
 -- a part is taken at a place
-abbrev pub Takes : Scope → Place → Part → Type 0
+abbrev pub Takes : DeclaredNames → Place → Part → Type 0
 Takes s p part = (ps : List Place) (ts rest : List Tok) → part ts rest → run s (p ∷ ps) ts ≡ run s ps rest
 
-module _ (language : Language) (s : Scope) (d : ℕ) (names : List Bytes) (ps : List Place) (shallow : d ≤ greatest_depth language) where
+module _ (language : Language) (s : DeclaredNames) (d : ℕ) (names : List Bytes) (ps : List Place) (shallow : d ≤ greatest_depth language) where
   expr_begins : (f : First) (t : Tok) → first_of language names t ≡ Ok f → step s (ExprAt language d names ∷ ps) t ≡ Next s (expr_places s language d names f ps)
   expr_begins f t e =
       ap (λ r. judged (within_depth language d r) (λ (first : First). Next s (expr_places s language d names first ps))) e
@@ -120,7 +120,7 @@ module _ (language : Language) (s : Scope) (d : ℕ) (names : List Bytes) (ps : 
       value_taken s s (ExprAt language d names ∷ ps) ps (variable_at names) back ts rest
       (λ t e. expr_begins (First.Name back) t (first_is_name language names t (name_of_variable names t back e) ∙ ap first_name e)) y
 
-module _ (s : Scope) (d : ℕ) (names : List Bytes) (ps : List Place) (shallow : d ≤ 200) where
+module _ (s : DeclaredNames) (d : ℕ) (names : List Bytes) (ps : List Place) (shallow : d ≤ 200) where
   contr_begins : (h : Head) (t : Tok) → head_of t ≡ Ok h → step s (ContrAt d names ∷ ps) t ≡ Next s (contr_places s d names h ps)
   contr_begins h t e =
       ap (λ r. judged (within_depth Language.Contracts d r) (λ (head : Head). Next s (contr_places s d names head ps))) e
@@ -130,7 +130,7 @@ module _ (s : Scope) (d : ℕ) (names : List Bytes) (ps : List Place) (shallow :
   contr_word w h ts rest is x =
       test_taken s s (ContrAt d names ∷ ps) (contr_places s d names h ps) (is_the_word w) ts rest (λ t e. contr_begins h t (of_word (λ z. head_of z ≡ Ok h) w t e (is t.left))) x
 
-module _ (s : Scope) (d : ℕ) (names : List Bytes) (ps : List Place) (shallow : d ≤ 400) where
+module _ (s : DeclaredNames) (d : ℕ) (names : List Bytes) (ps : List Place) (shallow : d ≤ 400) where
   amount_begins : (h : AmountHead) (t : Tok) → amount_head_of t ≡ Ok h → step s (AmountAt d names ∷ ps) t ≡ Next s (amount_places s d names h ps)
   amount_begins h t e =
       ap (λ r. judged (within_depth Language.Code d r) (λ (head : AmountHead). Next s (amount_places s d names head ps))) e
@@ -143,7 +143,7 @@ module _ (s : Scope) (d : ℕ) (names : List Bytes) (ps : List Place) (shallow :
 
 -- ---- parts
 
-offset_signed : (s : Scope) (n : ℤ) (negative : Bool) → Takes s OffsetAt (sign negative ⨟ valued (offset_at negative) n)
+offset_signed : (s : DeclaredNames) (n : ℤ) (negative : Bool) → Takes s OffsetAt (sign negative ⨟ valued (offset_at negative) n)
 offset_signed s n true ps ts rest x =
     test_taken s s (OffsetAt ∷ ps) (OffsetNumber true ∷ ps) (is_the_mark (codes "-")) ts x.between
     (λ t e. ap (λ b. cond b (Next s (OffsetNumber true ∷ ps)) (judged (offset_at false t) (λ (n : ℤ). Next s ps))) e) x.one
@@ -152,11 +152,11 @@ offset_signed s n false ps ts rest x =
     rw x.one (value_taken s s (OffsetAt ∷ ps) ps (offset_at false) n x.between rest
     (λ t e. ap (λ b. cond b (Next s (OffsetNumber true ∷ ps)) (judged (offset_at false t) (λ (n : ℤ). Next s ps))) (number_no_mark (codes "-") t (number_of_offset false t n e)) ∙ ap (λ v. judged v (λ (n : ℤ). Next s ps)) e) x.two)
 
-offset_taken : (s : Scope) (n : ℤ) → Takes s OffsetAt (Signed (λ negative. valued (offset_at negative) n))
+offset_taken : (s : DeclaredNames) (n : ℤ) → Takes s OffsetAt (Signed (λ negative. valued (offset_at negative) n))
 offset_taken s n ps ts rest x = offset_signed s n x.negative ps ts rest x.spelled
 
 -- the number of a date
-date_signed : (s : Scope) (n : ℤ) (negative : Bool) → Takes s DateAt (sign negative ⨟ valued (date_number_at negative) n)
+date_signed : (s : DeclaredNames) (n : ℤ) (negative : Bool) → Takes s DateAt (sign negative ⨟ valued (date_number_at negative) n)
 date_signed s n true ps ts rest x =
     test_taken s s (DateAt ∷ ps) (DateNumber true ∷ ps) (is_the_mark (codes "-")) ts x.between
     (λ t e. ap (λ b. cond b (Next s (DateNumber true ∷ ps)) (judged (date_number_at false t) (λ (n : ℤ). Next s ps))) e) x.one
@@ -166,19 +166,19 @@ date_signed s n false ps ts rest x =
     (λ t e. ap (λ b. cond b (Next s (DateNumber true ∷ ps)) (judged (date_number_at false t) (λ (n : ℤ). Next s ps))) (number_no_mark (codes "-") t (number_of_date false t n e)) ∙ ap (λ v. judged v (λ (n : ℤ). Next s ps)) e) x.two)
 
 -- templates are taken up to a token that is no plus
-pub templates_taken : (s : Scope) (written : List ℕ) (ps : List Place) (ts rest : List Tok) → LacksMark (codes "+") rest → templates_part s.templates written ts rest → run s (MoreTemplates ∷ ps) ts ≡ run s ps rest
+pub templates_taken : (s : DeclaredNames) (written : List ℕ) (ps : List Place) (ts rest : List Tok) → LacksMark (codes "+") rest → templates_part s.templates written ts rest → run s (MoreTemplates ∷ ps) ts ≡ run s ps rest
 templates_taken s [] ps ts rest lacks x = rw x (plus_lacks s ps rest lacks)
 templates_taken s (t ∷ written) ps ts rest lacks x =
     plus_opens s ps ts x.between x.one
     ∙ use_taken s (MoreTemplates ∷ ps) x.between x.two.between s.templates t x.two.one
     ∙ templates_taken s written ps x.two.between rest lacks x.two.two
 
-pub date_taken : (s : Scope) (days : ℤ) (written : List ℕ) (ps : List Place) (ts rest : List Tok) → LacksMark (codes "+") rest → dated_part s.templates days written ts rest → run s (date_places ps) ts ≡ run s ps rest
+pub date_taken : (s : DeclaredNames) (days : ℤ) (written : List ℕ) (ps : List Place) (ts rest : List Tok) → LacksMark (codes "+") rest → dated_part s.templates days written ts rest → run s (date_places ps) ts ≡ run s ps rest
 date_taken s days written ps ts rest lacks x =
     date_signed s days x.one.negative (MoreTemplates ∷ ps) ts x.between x.one.spelled
     ∙ templates_taken s written ps x.between rest lacks x.two
 
-module _ (s : Scope) (ps : List Place) (ts rest : List Tok) where
+module _ (s : DeclaredNames) (ps : List Place) (ts rest : List Tok) where
   pub operand_taken : (p : Place) (L : Part) → Takes s p L → (mark (codes "(") ⨟ L ⨟ mark (codes ")")) ts rest → run s (operand_places p ps) ts ≡ run s ps rest
   operand_taken p L left x =
       mark_taken s (codes "(") _ ts x.between x.one ∙ left _ x.between x.two.between x.two.one ∙ mark_taken s (codes ")") ps x.two.between rest x.two.two
@@ -217,7 +217,7 @@ tall (Div m k a b) = omega arith
 tall (Acc body n first) = omega arith
 
 -- an observable, by its language
-leaf_taken : (language : Language) (s : Scope) (ks : List Bytes) (label : ℕ) (n : ℤ) (d : ℕ) (names : List Bytes) (ps : List Place) → d ≤ greatest_depth language → (ts rest : List Tok) → leaf_of language s label n ts rest
+leaf_taken : (language : Language) (s : DeclaredNames) (ks : List Bytes) (label : ℕ) (n : ℤ) (d : ℕ) (names : List Bytes) (ps : List Place) → d ≤ greatest_depth language → (ts rest : List Tok) → leaf_of language s label n ts rest
     → run (with_contracts ks s) (ExprAt language d names ∷ ps) ts ≡ run (with_contracts ks s) ps rest
 leaf_taken Language.Contracts s ks label n d names ps shallow ts rest x =
     let here = with_contracts ks s in
@@ -233,8 +233,8 @@ leaf_taken Language.Code s ks label n d names ps shallow ts rest x =
     ∙ date_taken here date.days date.written (TheMark (codes ")") ∷ ps) _ _ (mark_lacks (codes ")") (codes "+") _ rest refl x.two.two.two.two.two) date.spelled
     ∙ mark_taken here (codes ")") _ _ _ x.two.two.two.two.two
 
-module _ (language : Language) (s : Scope) (ks : List Bytes) where
-  abbrev here : Scope
+module _ (language : Language) (s : DeclaredNames) (ks : List Bytes) where
+  abbrev here : DeclaredNames
   here = with_contracts ks s
 
   pub expr_taken : (names : List Bytes) (e : Expression) (d : ℕ) → d + height e ≤ greatest_depth language + 1 → Takes here (ExprAt language d names) (expr language s names e)
@@ -319,8 +319,8 @@ tall_contract (After n c) = omega arith
 tall_contract (Let e c) = omega arith
 tall_contract (Within e n a b) = omega arith
 
-module _ (s : Scope) (ks : List Bytes) where
-  abbrev there : Scope
+module _ (s : DeclaredNames) (ks : List Bytes) where
+  abbrev there : DeclaredNames
   there = with_contracts ks s
 
   pub contr_taken : (names : List Bytes) (c : Contract) (d : ℕ) → d + height_of_contract c ≤ 201 → Takes there (ContrAt d names) (contr s names c)

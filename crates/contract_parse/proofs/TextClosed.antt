@@ -19,7 +19,7 @@ use Rattle.term_core.specs.declared.terms.Days.TheVariants.{Num as Count, Named}
 use Rattle.term_core.specs.declared.terms.NumOp.TheVariants.{Plus, Minus, Times, Min, Max}
 use Rattle.contract_parse.specs.Tokens.{Tok}
 use Rattle.contract_parse.specs.Words.{Bytes, is_name, is_integer}
-use Rattle.contract_parse.specs.Names.{back_to, place_in, scope_of}
+use Rattle.contract_parse.specs.Names.{back_to, declared_by, place_in}
 use Rattle.contract_parse.specs.Judgements.{counted, days_at, integer_at, named, offset_at, or_fault, signed_result, up_to, use_at, variable_at, whole}
 use Rattle.contract_parse.specs.Spelling.{contr, expr, valued}
 use Rattle.contract_parse.specs.declared.heads.Language.{Language}
@@ -96,31 +96,31 @@ offset_within negative t m e = by_result (integer_at 1_000_000 t) refl e
     by_result (Ok n) is h = let at : m ≡ signed negative n = cc in rw at (signed_within negative n (integer_within 1_000_000 t n is))
     by_result (Err kind) is h = absurd cc
 
-days_within : (d : Declarations) (contracts : List Bytes) (t : Tok) (n : Days) → days_at (scope_of d contracts).templates t ≡ Ok n → IsDeclared d n
+days_within : (d : Declarations) (contracts : List Bytes) (t : Tok) (n : Days) → days_at (declared_by d contracts).templates t ≡ Ok n → IsDeclared d n
 days_within d contracts t (Count n) e = tt
 days_within d contracts t (Named i) e = elim (cases_Bool (is_integer t)) [
   | inl is ↦ let h : counted (up_to 100_000 (whole t)) ≡ Ok (Named i) = rw is at e in absurd (by_count (up_to 100_000 (whole t)) h)
   | inr other ↦
-      let h : named (use_at (scope_of d contracts).templates t) ≡ Ok (Named i) = rw other at e in
-      by_name (use_at (scope_of d contracts).templates t) refl h
+      let h : named (use_at (declared_by d contracts).templates t) ≡ Ok (Named i) = rw other at e in
+      by_name (use_at (declared_by d contracts).templates t) refl h
 ]
   where
     by_count : (o : Option ℕ) → counted o ≡ Ok (Named i) → ⊥
     by_count None h = cc
     by_count (Some m) h = cc
 
-    by_name : (r : Result ℕ TextKind) → use_at (scope_of d contracts).templates t ≡ r → named r ≡ Ok (Named i) → i < length d.templates
+    by_name : (r : Result ℕ TextKind) → use_at (declared_by d contracts).templates t ≡ r → named r ≡ Ok (Named i) → i < length d.templates
     by_name (Err kind) is h = absurd cc
     by_name (Ok j) is h =
         let at : i ≡ j = cc in
-        let within = use_within (scope_of d contracts).templates t j is in
+        let within = use_within (declared_by d contracts).templates t j is in
         omega (arith, at, within, length-map d.templates (λ entry. entry.0))
 
 -- ---- terms
 
 abbrev ExpressionIsClosed : Declarations → Expression → Type 0
 ExpressionIsClosed d e =
-    (contracts names : List Bytes) (ts rest : List Tok) → expr Language.Contracts (scope_of d contracts) names e ts rest → IsWellFormed d (length names) e
+    (contracts names : List Bytes) (ts rest : List Tok) → expr Language.Contracts (declared_by d contracts) names e ts rest → IsWellFormed d (length names) e
 
 under : (d : Declarations) (n : ℕ) (e : Expression) → IsWellFormed d (suc n) e → IsWellFormed d (n + 1) e
 under d n e h = rw add-one h
@@ -130,7 +130,7 @@ closed_expression d (Lit m k) cs ns ts rest x = tt
 closed_expression d (Yes b) cs ns ts rest x = tt
 closed_expression d (Var back) cs ns ts rest x = by_value (variable_at ns) back _ ts rest (λ t e. variable_within ns t back e) x
 closed_expression d (Obs l n) cs ns ts rest x =
-    let s = scope_of d cs in
+    let s = declared_by d cs in
     let label = x.two.two.one in
     let offset = x.two.two.two.two.one in
     let within = by_value (use_at s.labels) l _ _ _ (λ t e. use_within s.labels t l e) label in
@@ -156,7 +156,7 @@ closed_expression d (Acc body n first) cs ns ts rest x =
 
 abbrev ContractIsClosed : Declarations → Contract → Type 0
 ContractIsClosed d c =
-    (contracts names : List Bytes) (ts rest : List Tok) → contr (scope_of d contracts) names c ts rest → IsWellFormedContract d (length names) c
+    (contracts names : List Bytes) (ts rest : List Tok) → contr (declared_by d contracts) names c ts rest → IsWellFormedContract d (length names) c
 
 under_contract : (d : Declarations) (n : ℕ) (c : Contract) → IsWellFormedContract d (suc n) c → IsWellFormedContract d (n + 1) c
 under_contract d n c h = rw add-one h
@@ -165,7 +165,7 @@ closed_contract : (d : Declarations) (c : Contract) → ContractIsClosed d c
 closed_contract d Zero cs ns ts rest x = tt
 closed_contract d (Pay a p q) cs ns ts rest x =
     let y = x.two.two in
-    let s = scope_of d cs in (
+    let s = declared_by d cs in (
       by_value (use_at s.assets) a _ _ _ (λ t e. use_within s.assets t a e) y.one,
       by_value (use_at s.parties) p _ _ _ (λ t e. use_within s.parties t p e) y.two.two.one,
       by_value (use_at s.parties) q _ _ _ (λ t e. use_within s.parties t q e) y.two.two.two.two.one,
@@ -173,14 +173,14 @@ closed_contract d (Pay a p q) cs ns ts rest x =
 closed_contract d (Both a b) cs ns ts rest x = (closed_contract d a cs ns _ _ x.two.two.one, closed_contract d b cs ns _ _ x.two.two.two.two.one)
 closed_contract d (Scale e c) cs ns ts rest x = (closed_expression d e cs ns _ _ x.two.two.one, closed_contract d c cs ns _ _ x.two.two.two.two.one)
 closed_contract d (After n c) cs ns ts rest x =
-    (by_value (days_at (scope_of d cs).templates) n _ _ _ (λ t e. days_within d cs t n e) x.two.two.one, closed_contract d c cs ns _ _ x.two.two.two.two.one)
+    (by_value (days_at (declared_by d cs).templates) n _ _ _ (λ t e. days_within d cs t n e) x.two.two.one, closed_contract d c cs ns _ _ x.two.two.two.two.one)
 closed_contract d (Let e c) cs ns ts rest x =
     let y = x.spelled.two.two.two in
     (closed_expression d e cs ns _ _ y.one, under_contract d (length ns) c (closed_contract d c cs (x.name ∷ ns) _ _ y.two.two))
 closed_contract d (Within e n a b) cs ns ts rest x =
     let y = x.two in (
       closed_expression d e cs ns _ _ y.one,
-      by_value (days_at (scope_of d cs).templates) n _ _ _ (λ t f. days_within d cs t n f) y.two.two.one,
+      by_value (days_at (declared_by d cs).templates) n _ _ _ (λ t f. days_within d cs t n f) y.two.two.one,
       closed_contract d a cs ns _ _ y.two.two.two.two.one,
       closed_contract d b cs ns _ _ y.two.two.two.two.two.two,
     )
@@ -191,7 +191,7 @@ closed_contract d (Within e n a b) cs ns ts rest x =
 abbrev IsSound : Declarations → Bytes × Contract → Type 0
 IsSound d entry = IsClosed d entry.1 × (height_of_contract entry.1 ≤ 200)
 
-lines_sound : (d : Declarations) (a b : List (Bytes × Contract)) (ts rest : List Tok) → All (IsSound d) a → Repeat (Entry (contract_line (scope_of d []))) a b ts rest → All (IsSound d) b
+lines_sound : (d : Declarations) (a b : List (Bytes × Contract)) (ts rest : List Tok) → All (IsSound d) a → Repeat (Entry (contract_line (declared_by d []))) a b ts rest → All (IsSound d) b
 lines_sound d a b ts rest all none = all
 lines_sound d a b ts rest all (more {b = c} {between = k} x xs) =
     let y = x.spelled.two.two.two in

@@ -13,7 +13,7 @@ use Rattle.term_core.specs.Declarations.{Declarations}
 use Rattle.term_core.specs.Books.{Book}
 use Rattle.contract_parse.specs.Tokens.{Tok, is_last, tokens}
 use Rattle.contract_parse.specs.Words.{Bytes, is_name}
-use Rattle.contract_parse.specs.Names.{Scope, scope_of}
+use Rattle.contract_parse.specs.Names.{DeclaredNames, declared_by}
 use Rattle.contract_parse.specs.Judgements.{bound_at, integer_at, is_version, new_at, origin_at}
 use Rattle.contract_parse.specs.Spelling.{Part, contr, mark, one, valued}
 use Rattle.contract_parse.specs.Statements.{Added, Entry, Repeat, none, more, comma_name, contract_line, decls, label_line, name_line, origin_line, range, shallow, start_line, template_line}
@@ -102,7 +102,7 @@ template_least es name days =
 shallow_least : (c : Contract) → AtLeast 0 (shallow c)
 shallow_least c = record { least = λ ts rest x. rw (x.0) (omega arith) }
 
-line_least : (n : ℕ) (s : Scope) (es : List (Bytes × Contract)) (name : Bytes) (c : Contract) → AtLeast n (contr s [] c) → AtLeast (n + 1) (contract_line s es name c)
+line_least : (n : ℕ) (s : DeclaredNames) (es : List (Bytes × Contract)) (name : Bytes) (c : Contract) → AtLeast n (contr s [] c) → AtLeast (n + 1) (contract_line s es name c)
 line_least n s es name c least =
     lighter (word_least (codes "contract") 1 (omega arith) ▹ new_least _ name ▹ mark_least (codes "=") (omega arith) ▹ least ▹ shallow_least c ▹ semicolon_least) (omega arith)
 
@@ -144,7 +144,7 @@ decls_weigh d ts rest x =
 pub record ContractLines (bytes : List ℕ) (b : Book) : Type 0 where
   pub before : List Tok
   pub behind : List Tok
-  pub spelled : Repeat (Entry (contract_line (scope_of b.declarations []))) [] b.contracts before behind
+  pub spelled : Repeat (Entry (contract_line (declared_by b.declarations []))) [] b.contracts before behind
   light : weight before ≤ length bytes
   names : NamesFit bytes b.declarations
 
@@ -170,7 +170,7 @@ names_fit bytes b text = (contract_lines bytes b text).names
 
 pub contracts_fit : (bytes : List ℕ) (b : Book) → Text bytes b → length b.contracts ≤ length bytes
 contracts_fit bytes b text =
-    let s = scope_of b.declarations [] in
+    let s = declared_by b.declarations [] in
     let l = contract_lines bytes b text in
     omega (arith, l.light, repeat_grows length (Entry (contract_line s)) (entry_grows length (λ e. 1) (contract_line s) length_push (λ es name c. lighter (line_least (nodes_of_contract c) s es name c (contr_least s [] c)) (omega arith))) [] b.contracts l.before l.behind l.spelled)
 
@@ -179,7 +179,7 @@ all_nodes es = sum_by (λ entry. nodes_of_contract entry.1) es
 
 pub nodes_fit : (bytes : List ℕ) (b : Book) → Text bytes b → sum_by (λ entry. nodes_of_contract entry.1) b.contracts ≤ length bytes
 nodes_fit bytes b text =
-    let s = scope_of b.declarations [] in
+    let s = declared_by b.declarations [] in
     let l = contract_lines bytes b text in
     omega (
       arith,
@@ -190,7 +190,7 @@ nodes_fit bytes b text =
 
 pub payments_fit : (bytes : List ℕ) (b : Book) → Text bytes b → All (λ entry. 17 * payments_in entry.1 ≤ length bytes + 7) b.contracts
 payments_fit bytes b text =
-    let s = scope_of b.declarations [] in
+    let s = declared_by b.declarations [] in
     let l = contract_lines bytes b text in
     repeat_all (λ entry. 17 * payments_in entry.1 ≤ length bytes + 7) (length bytes) (contract_line s)
     (λ es name c ts rest light x. (omega (arith, (line_least (17 * payments_in c - 7) s es name c (payments_least s [] c)).least ts rest x), omega (arith, (line_least (17 * payments_in c - 7) s es name c (payments_least s [] c)).least ts rest x)))

@@ -4,7 +4,7 @@ use Rattle.std.proofs.lemmas.Bool.{cases_Bool}
 use Rattle.std.proofs.lemmas.List.{append_assoc, length-take-le}
 use Rattle.contract_parse.specs.declared.token.Kind.{Kind}
 use Rattle.contract_parse.specs.declared.faults.TextKind.{TextKind}
-use Rattle.contract_parse.specs.Names.{Scope}
+use Rattle.contract_parse.specs.Names.{DeclaredNames}
 use Rattle.contract_parse.specs.Tokens.{Tok, is_last, next_token, tokens, tokens_from}
 use Rattle.contract_parse.specs.Places.{AnyTokens, Next, Open, Place, Refuse, Step, Stops, run, step}
 use Rattle.contract_parse.specs.Reading.{tokens_after}
@@ -66,22 +66,22 @@ later_left bytes u xs t ts is =
 
 -- ---- a fault stands at a token
 
-by_step : (n : ℕ) (kind : TextKind) (left : ℕ) (t : Tok) (ts : List Tok) (s : Scope) (ps : List Place) (next : Step) → step s ps t ≡ next → t.left ≤ n → ((s2 : Scope) (qs : List Place) → run s2 qs ts ≡ Stops kind left → left ≤ n) → run s ps (t ∷ ts) ≡ Stops kind left → left ≤ n
+by_step : (n : ℕ) (kind : TextKind) (left : ℕ) (t : Tok) (ts : List Tok) (s : DeclaredNames) (ps : List Place) (next : Step) → step s ps t ≡ next → t.left ≤ n → ((s2 : DeclaredNames) (qs : List Place) → run s2 qs ts ≡ Stops kind left → left ≤ n) → run s ps (t ∷ ts) ≡ Stops kind left → left ≤ n
 by_step n kind left t ts s ps (Next s2 qs) is small more stops = more s2 qs (sym (run-next s s2 ps qs t ts is) ∙ stops)
 by_step n kind left t ts s ps (Refuse k) is small more stops =
     let same : Stops k t.left ≡ Stops kind left = sym (run-refuse s ps k t ts is) ∙ stops in
     let left_same : t.left ≡ left = cc in
     omega (arith, small, left_same)
 
-stops_within : (n : ℕ) (kind : TextKind) (left : ℕ) (ts : List Tok) → LeftWithin n ts → (s : Scope) (ps : List Place) → run s ps ts ≡ Stops kind left → left ≤ n
+stops_within : (n : ℕ) (kind : TextKind) (left : ℕ) (ts : List Tok) → LeftWithin n ts → (s : DeclaredNames) (ps : List Place) → run s ps ts ≡ Stops kind left → left ≤ n
 stops_within n kind left [] h s ps stops = let open_ : Open ps ≡ Stops kind left = sym (run-end s ps) ∙ stops in absurd cc
 stops_within n kind left (t ∷ ts) h s ps stops = by_step n kind left t ts s ps (step s ps t) refl h.0 (λ s2 qs. stops_within n kind left ts h.1 s2 qs) stops
 
-pub stop_inside : (bytes : List ℕ) (s : Scope) (ps : List Place) (kind : TextKind) (left : ℕ) → run s ps (tokens bytes) ≡ Stops kind left → left ≤ length bytes
+pub stop_inside : (bytes : List ℕ) (s : DeclaredNames) (ps : List Place) (kind : TextKind) (left : ℕ) → run s ps (tokens bytes) ≡ Stops kind left → left ≤ length bytes
 stop_inside bytes s ps kind left stops = stops_within (length bytes) kind left (tokens bytes) (tokens_within bytes) s ps stops
 
 -- another grammar takes all
-pub any_taken : (s : Scope) (ps : List Place) (ts : List Tok) → run s (AnyTokens ∷ ps) ts ≡ Open (AnyTokens ∷ ps)
+pub any_taken : (s : DeclaredNames) (ps : List Place) (ts : List Tok) → run s (AnyTokens ∷ ps) ts ≡ Open (AnyTokens ∷ ps)
 any_taken s ps [] = run-end s (AnyTokens ∷ ps)
 any_taken s ps (t ∷ ts) = run-next s s (AnyTokens ∷ ps) (AnyTokens ∷ ps) t ts refl ∙ any_taken s ps ts
 

@@ -9,7 +9,7 @@ use Rattle.term_core.specs.Sizes.{nodes, nodes_of_contract}
 use Rattle.term_core.specs.declared.terms.NumOp.TheVariants.{Min, Max}
 use Rattle.contract_parse.specs.Tokens.{Tok, after_gap, extent_at, is_last, next_token, tokens, tokens_from}
 use Rattle.contract_parse.specs.Words.{Bytes, is_name}
-use Rattle.contract_parse.specs.Names.{Scope}
+use Rattle.contract_parse.specs.Names.{DeclaredNames}
 use Rattle.contract_parse.specs.Judgements.{date_number_at, days_at, integer_at, literal_at, mode_at, offset_at, operator_at, binder_at, use_at, variable_at}
 use Rattle.contract_parse.specs.Spelling.{DateFrom, Part, ◌⨟◌, SomeName, Signed, contr, dated_part, expr, leaf_of, mark, sign, templates_part, valued, word}
 use Rattle.contract_parse.specs.declared.heads.Language.{Language}
@@ -134,14 +134,14 @@ templates_least templates (t ∷ written) = lighter (mark_least (codes "+") (ome
 pub date_least : (templates : List Bytes) (days : ℤ) (written : List ℕ) → AtLeast 0 (dated_part templates days written)
 date_least templates days written = signed_least _ (λ negative. value_least (date_number_at negative) days) ▹ templates_least templates written
 
-leaf_least : (language : Language) (s : Scope) (label : ℕ) (n : ℤ) → AtLeast 1 (leaf_of language s label n)
+leaf_least : (language : Language) (s : DeclaredNames) (label : ℕ) (n : ℤ) → AtLeast 1 (leaf_of language s label n)
 leaf_least Language.Contracts s label n =
     lighter (word_least (codes "obs") 1 (omega arith) ▹ open_least ▹ value_least (use_at s.labels) label ▹ comma_least ▹ signed_least _ (λ negative. value_least (offset_at negative) n) ▹ close_least) (omega arith)
 leaf_least Language.Code s label n =
     let date : AtLeast 0 (DateFrom s.templates n) = record { least = λ ts rest x. (date_least s.templates x.days x.written).least ts rest x.spelled } in
     lighter (word_least (codes "model") 1 (omega arith) ▹ open_least ▹ value_least (use_at s.labels) label ▹ comma_least ▹ date ▹ close_least) (omega arith)
 
-pub expr_least : (language : Language) (s : Scope) (names : List Bytes) (e : Expression) → AtLeast (nodes e) (expr language s names e)
+pub expr_least : (language : Language) (s : DeclaredNames) (names : List Bytes) (e : Expression) → AtLeast (nodes e) (expr language s names e)
 expr_least language s names (Lit m k) = signed_least _ (λ negative. byte_least (literal_at negative) _ (λ t e. literal_more negative t _ e))
 expr_least language s names (Yes true) = word_least (codes "true") 1 (omega arith)
 expr_least language s names (Yes false) = word_least (codes "false") 1 (omega arith)
@@ -164,7 +164,7 @@ expr_least language s names (Div m k a b) =
 expr_least language s names (Acc body n first) =
     some_least _ (λ name. lighter (word_least (codes "acc") 1 (omega arith) ▹ open_least ▹ value_least binder_at name ▹ comma_least ▹ expr_least language s (name ∷ names) body ▹ comma_least ▹ value_least (integer_at 100_000) n ▹ comma_least ▹ expr_least language s names first ▹ close_least) (omega arith))
 
-pub contr_least : (s : Scope) (names : List Bytes) (c : Contract) → AtLeast (nodes_of_contract c) (contr s names c)
+pub contr_least : (s : DeclaredNames) (names : List Bytes) (c : Contract) → AtLeast (nodes_of_contract c) (contr s names c)
 contr_least s names Zero = word_least (codes "zero") 1 (omega arith)
 contr_least s names (Pay asset from to) =
     lighter (word_least (codes "pay") 1 (omega arith) ▹ open_least ▹ value_least (use_at s.assets) asset ▹ comma_least ▹ value_least (use_at s.parties) from ▹ comma_least ▹ value_least (use_at s.parties) to ▹ close_least) (omega arith)
@@ -177,7 +177,7 @@ contr_least s names (Within e n a b) =
     lighter (word_least (codes "if") 1 (omega arith) ▹ expr_least Language.Contracts s names e ▹ word_least (codes "within") 1 (omega arith) ▹ value_least (days_at s.templates) n ▹ word_least (codes "then") 1 (omega arith) ▹ contr_least s names a ▹ word_least (codes "else") 1 (omega arith) ▹ contr_least s names b) (omega arith)
 
 -- a payment takes 10 bytes, and two contracts 7 more
-pub payments_least : (s : Scope) (names : List Bytes) (c : Contract) → AtLeast (17 * payments_in c - 7) (contr s names c)
+pub payments_least : (s : DeclaredNames) (names : List Bytes) (c : Contract) → AtLeast (17 * payments_in c - 7) (contr s names c)
 payments_least s names Zero = word_least (codes "zero") 0 (omega arith)
 payments_least s names (Pay asset from to) =
     lighter (word_least (codes "pay") 3 (omega arith) ▹ open_least ▹ byte_least (use_at s.assets) asset (λ t e. use_more s.assets t asset e) ▹ comma_least ▹ byte_least (use_at s.parties) from (λ t e. use_more s.parties t from e) ▹ comma_least ▹ byte_least (use_at s.parties) to (λ t e. use_more s.parties t to e) ▹ close_least) (omega arith)

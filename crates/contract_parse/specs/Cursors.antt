@@ -6,7 +6,7 @@ use Rattle.term_core.specs.Declarations.{Declarations}
 use Rattle.contract_parse.specs.Tokens.{Tok, tokens}
 use Rattle.contract_parse.specs.Words.{is_the_mark}
 use Rattle.contract_parse.specs.Lines.{line_at, column_at}
-use Rattle.contract_parse.specs.Names.{nothing_declared, scope_of}
+use Rattle.contract_parse.specs.Names.{declared_by, nothing_declared}
 use Rattle.contract_parse.specs.Statements.{decls}
 use Rattle.contract_parse.specs.Places.{AnyTokens, Open, Outcome, Place, Stops, decls_places, run}
 use Rattle.contract_parse.specs.Reading.{tokens_after}
@@ -106,7 +106,7 @@ pub record TakesDecls (bytes : List ℕ) (old : Position) (d : Declarations) (ne
   pub taken : declared_at bytes old.at ≡ Open (AnyTokens ∷ [])
   pub spelled : decls d (tokens_at bytes old.at) (tokens_at bytes new.at)
   pub whole : (ps : List Place)
-      → run nothing_declared (decls_places ps) (tokens_at bytes old.at) ≡ run (scope_of d []) ps (tokens_at bytes new.at)
+      → run nothing_declared (decls_places ps) (tokens_at bytes old.at) ≡ run (declared_by d []) ps (tokens_at bytes new.at)
   pub ends : EndsLine bytes old.at new.at
 
 -- a token of a declaration is refused, and the fault stands at its first byte

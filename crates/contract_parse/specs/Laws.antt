@@ -9,7 +9,7 @@ use Rattle.term_core.specs.Books.{Book}
 use Rattle.term_core.specs.WellFormed.{IsClosed}
 use Rattle.contract_parse.specs.Tokens.{Tok, tokens}
 use Rattle.contract_parse.specs.Words.{Bytes, is_the_word, is_end}
-use Rattle.contract_parse.specs.Names.{Scope, nothing_declared, scope_of}
+use Rattle.contract_parse.specs.Names.{DeclaredNames, declared_by, nothing_declared}
 use Rattle.contract_parse.specs.Heads.{greatest_depth}
 use Rattle.contract_parse.specs.Spelling.{expr, contr, dated_part}
 use Rattle.contract_parse.specs.Statements.{decls}
@@ -24,24 +24,24 @@ use Rattle.contract_parse.specs.declared.faults.TextFault.{TextFault}
 -- at most 200 terms are open at once, and 400 in payoff code; the term's own depth is counted
 abbrev pub ExpressionIsTaken : Type 0
 ExpressionIsTaken =
-    (l : Language) (s : Scope) (names : List Bytes) (e : Expression) (depth : ℕ) (ps : List Place) (ts rest : List Tok)
+    (l : Language) (s : DeclaredNames) (names : List Bytes) (e : Expression) (depth : ℕ) (ps : List Place) (ts rest : List Tok)
     → depth + height e ≤ greatest_depth l + 1 → expr l s names e ts rest → run s (ExprAt l depth names ∷ ps) ts ≡ run s ps rest
 
 abbrev pub ContractIsTaken : Type 0
 ContractIsTaken =
-    (s : Scope) (names : List Bytes) (c : Contract) (depth : ℕ) (ps : List Place) (ts rest : List Tok)
+    (s : DeclaredNames) (names : List Bytes) (c : Contract) (depth : ℕ) (ps : List Place) (ts rest : List Tok)
     → depth + height_of_contract c ≤ 201 → contr s names c ts rest → run s (ContrAt depth names ∷ ps) ts ≡ run s ps rest
 
 -- one reading of the tokens of an expression, and of those after it
 abbrev pub OneExpression : Type 0
 OneExpression =
-    (l : Language) (s : Scope) (names : List Bytes) (e e' : Expression) (ts rest rest' : List Tok) → expr l s names e ts rest
+    (l : Language) (s : DeclaredNames) (names : List Bytes) (e e' : Expression) (ts rest rest' : List Tok) → expr l s names e ts rest
     → expr l s names e' ts rest' → (e ≡ e') × (rest ≡ rest')
 
 -- a date of payoff code is taken up to a token that is no plus
 abbrev pub DateIsTaken : Type 0
 DateIsTaken =
-    (s : Scope) (days : ℤ) (written : List ℕ) (ps : List Place) (ts rest : List Tok) → LacksMark (codes "+") rest
+    (s : DeclaredNames) (days : ℤ) (written : List ℕ) (ps : List Place) (ts rest : List Tok) → LacksMark (codes "+") rest
     → dated_part s.templates days written ts rest → run s (date_places ps) ts ≡ run s ps rest
 
 -- what stands behind declarations: a contract, payoff code or the end
@@ -53,7 +53,7 @@ IsBehindDeclarations ts =
 abbrev pub DeclarationsAreTaken : Type 0
 DeclarationsAreTaken =
     (d : Declarations) (ps : List Place) (ts rest : List Tok) → decls d ts rest → IsBehindDeclarations rest
-    → run nothing_declared (decls_places ps) ts ≡ run (scope_of d []) ps rest
+    → run nothing_declared (decls_places ps) ts ≡ run (declared_by d []) ps rest
 
 abbrev pub TextIsTaken : Type 0
 TextIsTaken = (bytes : List ℕ) (b : Book) → Text bytes b → run nothing_declared text_places (tokens bytes) ≡ Open []

@@ -28,24 +28,24 @@ names_in bound.Outermost = []
 names_in (bound.In' name p outer) = name.now ∷ names_in outer
 
 -- the five sets of names that a text declares
-pub record Scope : Type 0 where
+pub record DeclaredNames : Type 0 where
   pub parties : List Bytes
   pub assets : List Bytes
   pub labels : List Bytes
   pub templates : List Bytes
   pub contracts : List Bytes
 
-abbrev pub nothing_declared : Scope
+abbrev pub nothing_declared : DeclaredNames
 nothing_declared = record { parties = []; assets = []; labels = []; templates = []; contracts = [] }
 
-abbrev pub names_of : NameSet → Scope → List Bytes
+abbrev pub names_of : NameSet → DeclaredNames → List Bytes
 names_of Party s = s.parties
 names_of Asset s = s.assets
 names_of Label s = s.labels
 names_of Template s = s.templates
 names_of Contract s = s.contracts
 
-abbrev pub with_names : NameSet → List Bytes → Scope → Scope
+abbrev pub with_names : NameSet → List Bytes → DeclaredNames → DeclaredNames
 with_names Party names s = record s { parties = names }
 with_names Asset names s = record s { assets = names }
 with_names Label names s = record s { labels = names }
@@ -53,6 +53,6 @@ with_names Template names s = record s { templates = names }
 with_names Contract names s = record s { contracts = names }
 
 -- the names of declarations, and of contracts that stand below them
-abbrev pub scope_of : Declarations → List Bytes → Scope
-scope_of d contracts =
+abbrev pub declared_by : Declarations → List Bytes → DeclaredNames
+declared_by d contracts =
     record { parties = d.parties; assets = d.assets; labels = keys_of d.labels; templates = keys_of d.templates; contracts = contracts }

@@ -4,7 +4,7 @@
 use Rattle.std.specs.Prelude.{◌≡◌, ℕ, ℤ, ◌+◌, Bool, true, false, List, [], ◌∷◌, ◌++◌, Option, Some, None, Result, Ok, Err, codes, if◌then◌else◌}
 use Rattle.contract_parse.specs.Tokens.{Tok}
 use Rattle.contract_parse.specs.Words.{Bytes, is_the_word, is_the_mark, is_end}
-use Rattle.contract_parse.specs.Names.{Scope, names_of, with_names}
+use Rattle.contract_parse.specs.Names.{DeclaredNames, names_of, with_names}
 use Rattle.contract_parse.specs.Judgements.{binder_at, bound_at, date_number_at, days_at, integer_at, is_version, literal_at, mode_at, new_at, offset_at, operator_at, origin_at, separator_at, use_at}
 use Rattle.contract_parse.specs.Heads.{amount_head_at, first_at, head_at}
 use Rattle.contract_parse.specs.declared.names.NameSet.{NameSet}
@@ -64,7 +64,7 @@ pub data Place : Type 0 where
 
 -- a token goes on to these places, or is at fault
 pub data Step : Type 0 where
-  Next : (scope : Scope) (places : List Place) → Step
+  Next : (declared : DeclaredNames) (places : List Place) → Step
   Refuse : (kind : TextKind) → Step
 
 abbrev pub judged : {X : Type 0} → Result X TextKind → (X → Step) → Step
@@ -108,12 +108,12 @@ abbrev pub pair_places : Place → Place → List Place → List Place
 pair_places p q ps = TheMark (codes "(") ∷ p ∷ TheMark (codes ",") ∷ q ∷ TheMark (codes ")") ∷ ps
 
 -- what follows the word that reads an observable
-abbrev pub leaf_places : Scope → Language → List Place → List Place
+abbrev pub leaf_places : DeclaredNames → Language → List Place → List Place
 leaf_places s Language.Contracts ps = pair_places (UseOf s.labels) OffsetAt ps
 leaf_places s Language.Code ps = TheMark (codes "(") ∷ UseOf s.labels ∷ TheMark (codes ",") ∷ date_places (TheMark (codes ")") ∷ ps)
 
 -- what follows the first token of an expression
-abbrev pub expr_places : Scope → Language → ℕ → List Bytes → First → List Place → List Place
+abbrev pub expr_places : DeclaredNames → Language → ℕ → List Bytes → First → List Place → List Place
 expr_places s l d names (First.Number number) ps = ps
 expr_places s l d names (First.Name back) ps = ps
 expr_places s l d names First.True ps = ps
@@ -138,7 +138,7 @@ expr_places s l d names First.Div ps =
 expr_places s l d names First.Acc ps = TheMark (codes "(") ∷ BinderAt binder.Acc l d names ∷ ps
 
 -- what follows the first token of a contract
-abbrev pub contr_places : Scope → ℕ → List Bytes → Head → List Place → List Place
+abbrev pub contr_places : DeclaredNames → ℕ → List Bytes → Head → List Place → List Place
 contr_places s d names Head.Zero ps = ps
 contr_places s d names Head.Pay ps =
     TheMark (codes "(") ∷ UseOf s.assets ∷ TheMark (codes ",") ∷ UseOf s.parties ∷ TheMark (codes ",") ∷ UseOf s.parties
@@ -152,7 +152,7 @@ contr_places s d names Head.If ps =
     ∷ ContrAt (d + 1) names ∷ TheWord (codes "else") ∷ ContrAt (d + 1) names ∷ ps
 
 -- what follows the first token of an amount of payoff code
-abbrev pub amount_places : Scope → ℕ → List Bytes → AmountHead → List Place → List Place
+abbrev pub amount_places : DeclaredNames → ℕ → List Bytes → AmountHead → List Place → List Place
 amount_places s d names AmountHead.None ps = ps
 amount_places s d names AmountHead.Pay ps =
     TheMark (codes "(") ∷ date_places
@@ -180,7 +180,7 @@ template_places ps = NewIn Template ∷ TheMark (codes "=") ∷ IntegerAt 100_00
 abbrev pub contract_places : List Place → List Place
 contract_places ps = NewIn Contract ∷ TheMark (codes "=") ∷ ContrAt 1 [] ∷ TheMark (codes ";") ∷ ps
 
-abbrev pub step : Scope → List Place → Tok → Step
+abbrev pub step : DeclaredNames → List Place → Tok → Step
 step s [] t = Refuse Syntax
 step s (TheWord w ∷ ps) t = if is_the_word w t then Next s ps else Refuse Syntax
 step s (TheMark m ∷ ps) t = if is_the_mark m t then Next s ps else Refuse Syntax
@@ -227,7 +227,7 @@ pub data Outcome : Type 0 where
   Open : (places : List Place) → Outcome
   Stops : (kind : TextKind) (left : ℕ) → Outcome
 
-unfoldable pub run : Scope → List Place → List Tok → Outcome
+unfoldable pub run : DeclaredNames → List Place → List Tok → Outcome
 run s ps [] = Open ps
 run s ps (t ∷ ts) = elim (step s ps t) [ Next s2 qs ↦ run s2 qs ts | Refuse kind ↦ Stops kind t.left ]
 

@@ -6,7 +6,7 @@ use Rattle.term_core.specs.declared.decls.Decls.{Decls}
 use Rattle.term_core.specs.declared.terms.NumOp.TheVariants.{Plus, Minus, Times, Min, Max}
 use Rattle.contract_parse.specs.Tokens.{Tok, is_last, tokens}
 use Rattle.contract_parse.specs.Words.{Bytes, is_the_mark, is_the_word}
-use Rattle.contract_parse.specs.Names.{Scope, scope_of}
+use Rattle.contract_parse.specs.Names.{DeclaredNames, declared_by}
 use Rattle.contract_parse.specs.declared.heads.Operator.{Operator}
 use Rattle.contract_parse.specs.declared.heads.Operator.TheVariants as operator
 use Rattle.contract_parse.specs.declared.token.Kind.{Kind}
@@ -29,8 +29,8 @@ IsBound None m = unsigned_abs m ≤ 10 ^ 37
 IsBound (Some low) m = (unsigned_abs m ≤ 10 ^ 37) × (low ≤ℤ m)
 
 -- the names that are declared where contracts stand
-abbrev pub scope_in : Decls → List Bytes → Scope
-scope_in d contracts = scope_of (declarations d) contracts
+abbrev pub declared_in : Decls → List Bytes → DeclaredNames
+declared_in d contracts = declared_by (declarations d) contracts
 
 -- another token than this word stands next
 pub record Lacks (w : Bytes) (ts : List Tok) : Type 0 where

@@ -1,11 +1,11 @@
 -- The grammar of terms: which tokens spell which term. A part relates the tokens where it begins to those after it;
--- declared names are those of a scope, and bound names are listed innermost first.
+-- the names that a text declares come with the part, and bound names are listed innermost first.
 use Rattle.std.specs.Prelude.{◌≡◌, ℕ, ℤ, pos, Bool, true, false, List, [], ◌∷◌, Result, Ok, codes}
 use Rattle.term_core.specs.Terms.{Expression, Lit, Yes, Var, Obs, Neg, Num, Cmp, Not, Logic, Cond, Widen, Round, Div, Acc, Contract, Zero, Pay, Both, Scale, After, Let, Within}
 use Rattle.term_core.specs.declared.terms.NumOp.TheVariants.{Min, Max}
 use Rattle.contract_parse.specs.Tokens.{Tok}
 use Rattle.contract_parse.specs.Words.{Bytes, is_the_word, is_the_mark, is_end}
-use Rattle.contract_parse.specs.Names.{Scope}
+use Rattle.contract_parse.specs.Names.{DeclaredNames}
 use Rattle.contract_parse.specs.Judgements.{binder_at, date_number_at, days_at, integer_at, literal_at, mode_at, offset_at, operator_at, use_at, variable_at}
 use Rattle.contract_parse.specs.declared.faults.TextKind.{TextKind}
 use Rattle.contract_parse.specs.declared.heads.Language.{Language}
@@ -102,7 +102,7 @@ expr_with leaf names (Acc body n first) =
     ⨟ expr_with leaf names first ⨟ mark (codes ")"))
 
 -- `obs(label, offset)`
-abbrev pub obs_leaf : Scope → Leaf
+abbrev pub obs_leaf : DeclaredNames → Leaf
 obs_leaf s label offset =
     word (codes "obs") ⨟ pair (valued (use_at s.labels) label) (Signed (λ negative. valued (offset_at negative) offset))
 
@@ -136,19 +136,19 @@ pub record DateFrom (templates : List Bytes) (offset : ℤ) (ts rest : List Tok)
   pub spelled : dated_part templates days written ts rest
 
 -- `model(label, date)`: the offset of the observable is how many bytes of the text are left where its date begins
-abbrev pub model_leaf : Scope → Leaf
+abbrev pub model_leaf : DeclaredNames → Leaf
 model_leaf s label offset = word (codes "model") ⨟ pair (valued (use_at s.labels) label) (DateFrom s.templates offset)
 
-abbrev pub leaf_of : Language → Scope → Leaf
+abbrev pub leaf_of : Language → DeclaredNames → Leaf
 leaf_of Language.Contracts s = obs_leaf s
 leaf_of Language.Code s = model_leaf s
 
 -- an expression of a contract, or of payoff code
-abbrev pub expr : Language → Scope → List Bytes → Expression → Part
+abbrev pub expr : Language → DeclaredNames → List Bytes → Expression → Part
 expr l s = expr_with (leaf_of l s)
 
 -- a contract
-abbrev pub contr : Scope → List Bytes → Contract → Part
+abbrev pub contr : DeclaredNames → List Bytes → Contract → Part
 contr s names Zero = word (codes "zero")
 contr s names (Pay asset from to) =
     word (codes "pay") ⨟ mark (codes "(") ⨟ valued (use_at s.assets) asset ⨟ mark (codes ",") ⨟ valued (use_at s.parties) from

@@ -9,7 +9,7 @@ use Rattle.term_core.specs.declared.label.Label.{Label}
 use Rattle.term_core.specs.declared.label.Label.TheVariants as label
 use Rattle.contract_parse.specs.Tokens.{Tok}
 use Rattle.contract_parse.specs.Words.{Bytes}
-use Rattle.contract_parse.specs.Names.{Scope, scope_of}
+use Rattle.contract_parse.specs.Names.{DeclaredNames, declared_by}
 use Rattle.contract_parse.specs.Judgements.{bound_at, integer_at, is_version, new_at, origin_at}
 use Rattle.contract_parse.specs.Spelling.{Part, Signed, ◌⨟◌, contr, end, mark, nothing, one, valued, word}
 
@@ -70,7 +70,7 @@ template_line before name days =
 abbrev pub shallow : Contract → Part
 shallow c ts rest = (ts ≡ rest) × (height_of_contract c ≤ 200)
 
-abbrev pub contract_line : Scope → List (Bytes × Contract) → Bytes → Contract → Part
+abbrev pub contract_line : DeclaredNames → List (Bytes × Contract) → Bytes → Contract → Part
 contract_line s before name c =
     word (codes "contract") ⨟ new_name before name ⨟ mark (codes "=") ⨟ contr s [] c ⨟ shallow c ⨟ mark (codes ";")
 
@@ -91,4 +91,4 @@ decls d =
 abbrev pub portfolio : Book → Part
 portfolio b =
     word (codes "portfolio") ⨟ one is_version ⨟ mark (codes ";") ⨟ decls b.declarations
-    ⨟ Repeat (Entry (contract_line (scope_of b.declarations []))) [] b.contracts ⨟ end
+    ⨟ Repeat (Entry (contract_line (declared_by b.declarations []))) [] b.contracts ⨟ end

@@ -9,7 +9,7 @@ ghost use Rattle.contract_parse.specs.Names.{names_in};
 ghost use Rattle.contract_parse.specs.Judgements.{days_at, use_at};
 ghost use Rattle.contract_parse.specs.Spelling.{contr, mark, valued, word, ◌⨟◌};
 ghost use Rattle.contract_parse.specs.Places.{ContrAt, DaysAt, ExprAt, TheMark, TheWord, UseOf, contr_places};
-ghost use Rattle.contract_parse.specs.Reading.{scope_in};
+ghost use Rattle.contract_parse.specs.Reading.{declared_in};
 ghost use Rattle.contract_parse.specs.Readers.{Passes, PassesAnywhere, Spelled, SpelledBehind, SpelledBehindPart, behind_head, contract_in, expression_in, first_token_of_contract};
 ghost use Rattle.contract_parse.specs.declared.heads.Language.{Language};
 
@@ -61,7 +61,7 @@ fn read_pay<'a>(decls: &Decls, rest: &'a [u8]) -> Result<(Contr, &'a [u8]), Read
     ensures follows { (depth : ℕ) (names : List Bytes) →
         Passes decls.now (λ r. r.1.now) (λ s ps. contr_places s depth names Head.Pay ps) rest.now result }
     ensures spelled { IfOk result (λ r. (names : List Bytes) →
-        SpelledBehind (codes "pay") (contr (scope_in decls.now []) names (contract r.0)) rest.now r.1.now) }
+        SpelledBehind (codes "pay") (contr (declared_in decls.now []) names (contract r.0)) rest.now r.1.now) }
     ensures high { IfOk result (λ r. height_of_contract (contract r.0) ≡ 1) }
     ensures shorter { IfOk result (λ r. length r.1.now ≤ length rest.now) }
 {

@@ -5,7 +5,7 @@ ghost use Rattle.indexmap.specs.IndexSet.{index_set_len};
 ghost use Rattle.term_core.specs.Limits.{are_numbers, is_origin};
 ghost use Rattle.term_core.specs.Declarations.{declarations};
 ghost use Rattle.contract_parse.specs.Tokens.{tokens};
-ghost use Rattle.contract_parse.specs.Names.{Scope, nothing_declared, scope_of, with_names};
+ghost use Rattle.contract_parse.specs.Names.{DeclaredNames, declared_by, nothing_declared, with_names};
 ghost use Rattle.contract_parse.specs.Spelling.{mark, valued, word, ◌⨟◌};
 ghost use Rattle.contract_parse.specs.Judgements.{integer_at};
 ghost use Rattle.contract_parse.specs.Statements.{Entry, NameList, Repeat, decls, name_lines, origin_line, start_line, template_line};
@@ -155,7 +155,7 @@ fn read_templates<'a>(
 // The number of decimals of amounts, and the token behind it.
 #[tactic(auto, using(crate::proofs::Parts::followed_by))]
 fn read_amounts(rest: &[u8]) -> Result<(u8, Lookahead<'_>), ReadErr>
-    ensures follows { (s : Scope) (ps : List Place) → Leaves (λ r. run s ps (tokens_ahead r.1)) result
+    ensures follows { (s : DeclaredNames) (ps : List Place) → Leaves (λ r. run s ps (tokens_ahead r.1)) result
         (run s (TheWord (codes "amounts") ∷ IntegerAt 12 ∷ TheMark (codes ";") ∷ ps) (tokens rest.now)) }
     ensures spelled { IfOk result
         (λ r. (word (codes "amounts") ⨟ valued (integer_at 12) r.0 ⨟ mark (codes ";")) (tokens rest.now) (tokens_ahead r.1)) }
@@ -171,7 +171,7 @@ fn read_amounts(rest: &[u8]) -> Result<(u8, Lookahead<'_>), ReadErr>
 // The lines of numbers with which declarations begin.
 #[tactic(auto, using(crate::proofs::Parts::followed_by))]
 fn read_heading(rest: &[u8]) -> Result<(u8, Option<i64>, u32, Lookahead<'_>), ReadErr>
-    ensures follows { (s : Scope) (ps : List Place) → Leaves (λ r. run s ps (tokens_ahead r.3)) result
+    ensures follows { (s : DeclaredNames) (ps : List Place) → Leaves (λ r. run s ps (tokens_ahead r.3)) result
         (run s (TheWord (codes "amounts") ∷ IntegerAt 12 ∷ TheMark (codes ";") ∷ OriginLine ∷ StartLine ∷ ps) (tokens rest.now)) }
     ensures spelled { IfOk result
         (λ r. (word (codes "amounts") ⨟ valued (integer_at 12) r.0 ⨟ mark (codes ";") ⨟ origin_line r.1 ⨟ start_line r.2)
@@ -208,7 +208,7 @@ fn read_owners<'a>(
 /// The declarations that stand here, up to the last line that may belong to them, and the token that comes next.
 pub fn read_decls<'a>(alloc: Global, rest: &'a [u8]) -> Result<(Decls, Lookahead<'a>), ReadErr>
     requires { length rest.now ≤ 16_777_216 }
-    ensures follows { (ps : List Place) → Leaves (λ r. run (scope_of (declarations r.0) []) ps (tokens_ahead r.1)) result
+    ensures follows { (ps : List Place) → Leaves (λ r. run (declared_by (declarations r.0) []) ps (tokens_ahead r.1)) result
         (run nothing_declared (decls_places ps) (tokens rest.now)) }
     ensures spelled { IfOk result (λ r. decls (declarations r.0) (tokens rest.now) (tokens_ahead r.1)) }
 {

@@ -3,11 +3,11 @@ ghost use Rattle.std.specs.Prelude.{◌≡◌, ◌≤◌, ◌<◌, ◌+◌, ◌�
 ghost use Rattle.term_core.specs.Terms.{Lit, expression};
 ghost use Rattle.term_core.specs.Sizes.{height};
 ghost use Rattle.contract_parse.specs.Words.{Bytes};
-ghost use Rattle.contract_parse.specs.Names.{Scope, names_in};
+ghost use Rattle.contract_parse.specs.Names.{DeclaredNames, names_in};
 ghost use Rattle.contract_parse.specs.Judgements.{binder_at, integer_at, mode_at};
 ghost use Rattle.contract_parse.specs.Spelling.{expr, mark, pair, valued, ◌⨟◌};
 ghost use Rattle.contract_parse.specs.Places.{BinderAt, ExprAt, IntegerAt, LiteralNumber, ModeAt, TheMark, binder_places, leaf_places, operand_places, pair_places};
-ghost use Rattle.contract_parse.specs.Reading.{joined, scope_in};
+ghost use Rattle.contract_parse.specs.Reading.{declared_in, joined};
 ghost use Rattle.contract_parse.specs.Heads.{greatest_depth, leaf_word};
 ghost use Rattle.contract_parse.specs.Readers.{LeadsOn, Passes, PassesAnywhere, Spelled, SpelledBehind, SpelledBehindPart, behind_first, expression_in, first_token};
 ghost use Rattle.contract_parse.specs.declared.heads.Binder.{Binder};
@@ -100,7 +100,7 @@ fn read_days_back(rest: &[u8]) -> Result<(u32, &[u8]), ReadErr>
 // A literal behind its sign.
 fn read_negative(rest: &[u8]) -> Result<(Expr, &[u8]), ReadErr>
     ensures follows { PassesAnywhere (λ r. r.1.now) (λ ps. LiteralNumber true ∷ ps) rest.now result }
-    ensures spelled { IfOk result (λ r. (l : Language) (s : Scope) (names : List Bytes) →
+    ensures spelled { IfOk result (λ r. (l : Language) (s : DeclaredNames) (names : List Bytes) →
         SpelledBehindPart (mark (codes "-")) (expr l s names (expression r.0)) rest.now r.1.now) }
     ensures high { IfOk result (λ r. height (expression r.0) ≡ 1) }
     ensures shorter { IfOk result (λ r. length r.1.now ≤ length rest.now) }
@@ -113,7 +113,7 @@ fn read_negative(rest: &[u8]) -> Result<(Expr, &[u8]), ReadErr>
 fn read_observed<'a>(decls: &Decls, rest: &'a [u8]) -> Result<(Expr, &'a [u8]), ReadErr>
     ensures follows { Passes decls.now (λ r. r.1.now) (λ s ps. leaf_places s Language.Contracts ps) rest.now result }
     ensures spelled { IfOk result (λ r. (names : List Bytes) →
-        SpelledBehind (codes "obs") (expr Language.Contracts (scope_in decls.now []) names (expression r.0)) rest.now r.1.now) }
+        SpelledBehind (codes "obs") (expr Language.Contracts (declared_in decls.now []) names (expression r.0)) rest.now r.1.now) }
     ensures high { IfOk result (λ r. height (expression r.0) ≡ 1) }
     ensures shorter { IfOk result (λ r. length r.1.now ≤ length rest.now) }
 {
@@ -129,7 +129,7 @@ fn read_observed<'a>(decls: &Decls, rest: &'a [u8]) -> Result<(Expr, &'a [u8]), 
 fn read_modelled<'a>(decls: &Decls, rest: &'a [u8]) -> Result<(Expr, &'a [u8]), ReadErr>
     ensures follows { Passes decls.now (λ r. r.1.now) (λ s ps. leaf_places s Language.Code ps) rest.now result }
     ensures spelled { IfOk result (λ r. (names : List Bytes) →
-        SpelledBehind (codes "model") (expr Language.Code (scope_in decls.now []) names (expression r.0)) rest.now r.1.now) }
+        SpelledBehind (codes "model") (expr Language.Code (declared_in decls.now []) names (expression r.0)) rest.now r.1.now) }
     ensures high { IfOk result (λ r. height (expression r.0) ≡ 1) }
     ensures shorter { IfOk result (λ r. length r.1.now ≤ length rest.now) }
 {
@@ -149,7 +149,7 @@ fn read_observable<'a>(
 ) -> Result<(Expr, &'a [u8]), ReadErr>
     ensures follows { Passes decls.now (λ r. r.1.now) (λ s ps. leaf_places s language ps) rest.now result }
     ensures spelled { IfOk result (λ r. (names : List Bytes) →
-        SpelledBehind (leaf_word language) (expr language (scope_in decls.now []) names (expression r.0)) rest.now r.1.now) }
+        SpelledBehind (leaf_word language) (expr language (declared_in decls.now []) names (expression r.0)) rest.now r.1.now) }
     ensures high { IfOk result (λ r. height (expression r.0) ≡ 1) }
     ensures shorter { IfOk result (λ r. length r.1.now ≤ length rest.now) }
 {

@@ -10,7 +10,7 @@ ghost use Rattle.contract_parse.specs.Judgements.{is_version};
 ghost use Rattle.contract_parse.specs.Spelling.{contr, mark, one, word, ◌⨟◌};
 ghost use Rattle.contract_parse.specs.Statements.{Entry, Repeat, contract_line, portfolio};
 ghost use Rattle.contract_parse.specs.Places.{ContrAt, ContractLines, Leaves, Open, Place, TheMark, TheVersion, TheWord, contract_places, run, text_places};
-ghost use Rattle.contract_parse.specs.Reading.{scope_in, tokens_ahead};
+ghost use Rattle.contract_parse.specs.Reading.{declared_in, tokens_ahead};
 ghost use Rattle.contract_parse.specs.ContractReading.{trees};
 ghost use Rattle.contract_parse.specs.Texts.{Answers};
 ghost use Rattle.contract_parse.specs.Readers.{Passes, PassesAnywhere, Spelled, SpelledBehind};
@@ -37,7 +37,7 @@ fn read_definition<'a>(
     ensures follows { Passes decls.now (λ r. r.1.now)
         (λ s ps. TheMark (codes "=") ∷ ContrAt 1 [] ∷ TheMark (codes ";") ∷ ps) rest.now result }
     ensures spelled { IfOk result
-        (λ r. Spelled (mark (codes "=") ⨟ contr (scope_in decls.now []) [] (contract r.0) ⨟ mark (codes ";")) rest.now r.1.now) }
+        (λ r. Spelled (mark (codes "=") ⨟ contr (declared_in decls.now []) [] (contract r.0) ⨟ mark (codes ";")) rest.now r.1.now) }
     ensures high { IfOk result (λ r. height_of_contract (contract r.0) ≤ 200) }
     ensures shorter { IfOk result (λ r. length r.1.now < length rest.now) }
 {
@@ -54,10 +54,10 @@ fn read_contract<'a>(
     contracts: &mut IndexMap<Name, Contr>,
     rest: &'a [u8],
 ) -> Result<&'a [u8], ReadErr>
-    ensures follows { (ps : List Place) → Leaves (λ r. run (scope_in decls.now (keys contracts.new)) ps (tokens r.now)) result
-        (run (scope_in decls.now (keys contracts.old)) (contract_places ps) (tokens rest.now)) }
+    ensures follows { (ps : List Place) → Leaves (λ r. run (declared_in decls.now (keys contracts.new)) ps (tokens r.now)) result
+        (run (declared_in decls.now (keys contracts.old)) (contract_places ps) (tokens rest.now)) }
     ensures spelled { IfOk result (λ r. SpelledBehind (codes "contract")
-        (Entry (contract_line (scope_in decls.now [])) (trees contracts.old.entries) (trees contracts.new.entries)) rest.now r.now) }
+        (Entry (contract_line (declared_in decls.now [])) (trees contracts.old.entries) (trees contracts.new.entries)) rest.now r.now) }
     ensures shorter { IfOk result (λ r. length r.now < length rest.now) }
 {
     let (name, rest) = read_new_name(alloc, contracts, rest)?;
@@ -71,10 +71,10 @@ fn read_contracts<'a>(
     decls: &Decls,
     ahead: &Lookahead<'a>,
 ) -> Result<(IndexMap<Name, Contr>, Lookahead<'a>), ReadErr>
-    ensures follows { (ps : List Place) → Leaves (λ r. run (scope_in decls.now (keys r.0)) ps (tokens_ahead r.1)) result
-        (run (scope_in decls.now []) (ContractLines ∷ ps) (tokens_ahead ahead.now)) }
-    ensures spelled { IfOk result
-        (λ r. Repeat (Entry (contract_line (scope_in decls.now []))) [] (trees r.0.entries) (tokens_ahead ahead.now) (tokens_ahead r.1)) }
+    ensures follows { (ps : List Place) → Leaves (λ r. run (declared_in decls.now (keys r.0)) ps (tokens_ahead r.1)) result
+        (run (declared_in decls.now []) (ContractLines ∷ ps) (tokens_ahead ahead.now)) }
+    ensures spelled { IfOk result (λ r.
+        Repeat (Entry (contract_line (declared_in decls.now []))) [] (trees r.0.entries) (tokens_ahead ahead.now) (tokens_ahead r.1)) }
 {
     let mut contracts = IndexMap::new(alloc);
     let mut ahead = *ahead;

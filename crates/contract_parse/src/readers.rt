@@ -5,7 +5,7 @@ ghost use Rattle.indexmap.specs.IndexSet.{index_set_len};
 ghost use Rattle.term_core.specs.Limits.{is_origin};
 ghost use Rattle.contract_parse.specs.Tokens.{tokens};
 ghost use Rattle.contract_parse.specs.Words.{Bytes};
-ghost use Rattle.contract_parse.specs.Names.{Scope};
+ghost use Rattle.contract_parse.specs.Names.{DeclaredNames};
 ghost use Rattle.contract_parse.specs.Judgements.{binder_at, bound_at, date_number_at, days_at, integer_at, is_version, literal_at, mode_at, new_at, offset_at, operator_at, origin_at, separator_at, use_at};
 ghost use Rattle.contract_parse.specs.Spelling.{Signed, end, mark, one, valued, word};
 ghost use Rattle.contract_parse.specs.Statements.{Added};
@@ -73,7 +73,7 @@ pub fn skip_version(rest: &[u8]) -> Result<&[u8], ReadErr>
 
 /// The end of the text.
 pub fn read_end(ahead: &Lookahead<'_>) -> Result<(), ReadErr>
-    ensures follows { (s : Scope) (ps : List Place) → Leaves (λ _. Open ps) result (run s (TheEnd ∷ ps) (tokens_ahead ahead.now)) }
+    ensures follows { (s : DeclaredNames) (ps : List Place) → Leaves (λ _. Open ps) result (run s (TheEnd ∷ ps) (tokens_ahead ahead.now)) }
     ensures spelled { OnOk result (end (tokens_ahead ahead.now) []) }
 {
     if is_end(&ahead.token) {

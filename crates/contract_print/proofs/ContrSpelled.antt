@@ -12,7 +12,7 @@ use Rattle.term_core.specs.declared.terms.Days.TheVariants.{Num as Count, Named}
 use Rattle.contract_parse.specs.declared.token.Kind.TheVariants.{Word, Mark, Number}
 use Rattle.contract_parse.specs.Tokens.{extent_at}
 use Rattle.contract_parse.specs.Words.{Bytes}
-use Rattle.contract_parse.specs.Names.{Scope, scope_of}
+use Rattle.contract_parse.specs.Names.{DeclaredNames, declared_by}
 use Rattle.contract_parse.specs.Judgements.{days_at}
 use Rattle.contract_parse.specs.Spelling.{Part, ◌⨟◌, contr, mark, valued}
 use Rattle.contract_parse.proofs.NameFacts.{days_named, days_number}
@@ -35,8 +35,8 @@ pub equals_then : {ends : Bytes → Bool} {a : Bytes} {p : Part} → Spells ends
 equals_then x = mark_then (mark (codes "=")) (codes "=") (ascii_of (codes "=") refl) (λ bs. (token Mark (codes "=") (suc (suc (length bs))), is_first (61 ∷ []) (32 ∷ bs) Mark 1 refl refl (extent_equals bs) refl, refl)) x
 
 module _ (d : Declarations) (contracts : List Bytes) (names : AreSpellable d) where
-  abbrev s : Scope
-  s = scope_of d contracts
+  abbrev s : DeclaredNames
+  s = declared_by d contracts
 
   days_spells : (n : Days) → IsDeclared d n → IsCountOfTexts n → Spells stops (days_text s n) (valued (days_at s.templates) n)
   days_spells (Count n) declared small =

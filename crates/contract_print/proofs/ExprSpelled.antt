@@ -10,7 +10,7 @@ use Rattle.term_core.specs.WellFormed.{IsWellFormed}
 use Rattle.term_core.specs.Terms.{Expression, Lit, Yes, Var, Obs, Neg, Num, Cmp, Not, Logic, Cond, Widen, Round, Div, Acc}
 use Rattle.term_core.specs.declared.terms.NumOp.TheVariants.{Plus, Minus, Times, Min, Max}
 use Rattle.contract_parse.specs.Words.{Bytes}
-use Rattle.contract_parse.specs.Names.{Scope, scope_of}
+use Rattle.contract_parse.specs.Names.{DeclaredNames, declared_by}
 use Rattle.contract_parse.specs.Judgements.{literal_at, offset_at, variable_at}
 use Rattle.contract_parse.specs.Spelling.{Leaf, expr, expr_with, obs_leaf}
 use Rattle.contract_parse.specs.declared.heads.Language.{Language}
@@ -53,7 +53,7 @@ module _ (leaf : Leaf) (text : ℕ → ℤ → Bytes) (Fits : ℕ → ℤ → Ty
 offset_small : (t : ℤ) → IsOffset t → unsigned_abs t ≤ 1_000_000
 offset_small t h = grind arith
 
-observed_spells : (s : Scope) (l : ℕ) (t : ℤ) → are_names s.labels ≡ true → l < length s.labels → IsOffset t → Spells stops (observed s.labels l t) (obs_leaf s l t)
+observed_spells : (s : DeclaredNames) (l : ℕ) (t : ℤ) → are_names s.labels ≡ true → l < length s.labels → IsOffset t → Spells stops (observed s.labels l t) (obs_leaf s l t)
 observed_spells s l t names within offset =
     called (codes "obs") refl (follow (name_spells s.labels l names within) (comma_then (follow (signed_valued offset_at t t 0 (λ left. offset_judged t left (offset_small t offset))) closing)))
 
@@ -76,7 +76,7 @@ spellable_with d n (Acc body days first) wf h =
     (h.0, spellable_with d (suc n) body (subst (λ k. IsWellFormed d k body) (add-one n) wf.0) h.1, spellable_with d n first wf.1 h.2)
 
 pub expr_spelled : (d : Declarations) (contracts : List Bytes) (n : ℕ) (e : Expression) → are_names (keys_of d.labels) ≡ true → IsWellFormed d n e → HasNumbersOfTexts e → n + height e ≤ 999
-    → Spells stops (expr_text (observed (keys_of d.labels)) n e) (expr Language.Contracts (scope_of d contracts) (bound_names n) e)
+    → Spells stops (expr_text (observed (keys_of d.labels)) n e) (expr Language.Contracts (declared_by d contracts) (bound_names n) e)
 expr_spelled d contracts n e names wf h low =
-    let s = scope_of d contracts in
+    let s = declared_by d contracts in
     expr_spelled_with (obs_leaf s) (observed s.labels) (IsObservable d) (λ l t fits. observed_spells s l t names (omega (arith, fits.0, length-map d.labels (λ entry. entry.0))) fits.1) n e (spellable_with d n e wf h) low

@@ -27,7 +27,7 @@ use Rattle.contract_parse.specs.declared.token.Kind.TheVariants.{Date, End, Mark
 use Rattle.contract_parse.specs.declared.faults.TextKind.TheVariants as kind
 use Rattle.contract_parse.specs.Tokens.{Tok, extent_at, next_token, tokens, tokens_from}
 use Rattle.contract_parse.specs.Words.{Bytes}
-use Rattle.contract_parse.specs.Names.{is_declared, scope_of}
+use Rattle.contract_parse.specs.Names.{declared_by, is_declared}
 use Rattle.contract_parse.specs.Judgements.{above, above_limited, bound_at, day_in, integer_at, is_version, new_at, origin_at, widened}
 use Rattle.contract_parse.specs.Spelling.{Part, ◌⨟◌, end, mark, one, valued, word}
 use Rattle.contract_parse.specs.Statements.{Entry, Repeat, comma_name, contract_line, decls, label_line, more, name_lines, none, origin_line, range, shallow, start_line, template_line}
@@ -218,7 +218,7 @@ decls_spelled date d fits is =
     (before (entries_spelled label_line label_text (λ v. is_label v ≡ true) label_spelled [] d.labels fits.labels (by_test is_label d.labels fits.bounds))
     (entries_spelled template_line template_text (λ n. nat_le n 100_000 ≡ true) template_spelled [] d.templates fits.templates (by_test (λ n. nat_le n 100_000) d.templates fits.days))))))
 
-contract_spelled : (d : Declarations) → AreSpellable d → (es : List (Bytes × Contract)) (name : Bytes) (c : Contract) → is_name_text name ≡ true → is_declared (keys_of es) name ≡ false → IsSpellable d c → Spells anywhere (contract_text (scope_of d []) name c) (contract_line (scope_of d []) es name c)
+contract_spelled : (d : Declarations) → AreSpellable d → (es : List (Bytes × Contract)) (name : Bytes) (c : Contract) → is_name_text name ≡ true → is_declared (keys_of es) name ≡ false → IsSpellable d c → Spells anywhere (contract_text (declared_by d []) name c) (contract_line (declared_by d []) es name c)
 contract_spelled d names es name c is new fits =
     let term = contr_spelled d [] names 0 c fits.closed fits.numbers (omega (arith, fits.shallow)) in
     let low : Follows anywhere line (shallow c ⨟ mark (codes ";")) = record {
@@ -240,10 +240,10 @@ header_spelled = word_then (codes "portfolio") refl (follow version_spells line_
 
 -- all but the end
 lines_spelled : (date : Bytes) (b : Book) → IsSpellableBook b → IsOriginText b.declarations.origin date
-    → Spells anywhere (book_text date b) (word (codes "portfolio") ⨟ one is_version ⨟ mark (codes ";") ⨟ decls b.declarations ⨟ Repeat (Entry (contract_line (scope_of b.declarations []))) [] b.contracts)
+    → Spells anywhere (book_text date b) (word (codes "portfolio") ⨟ one is_version ⨟ mark (codes ";") ⨟ decls b.declarations ⨟ Repeat (Entry (contract_line (declared_by b.declarations []))) [] b.contracts)
 lines_spelled date b fits is =
     let d = b.declarations in
-    let s = scope_of d [] in
+    let s = declared_by d [] in
     taken_as (λ ts to x. followed_by x.one.between x.one.one (followed_by x.one.two.between x.one.two.one (followed_by x.between x.one.two.two x.two)))
     (before header_spelled
     (before (decls_spelled date d fits.declarations is)
@@ -254,7 +254,7 @@ text_of_book : (date : Bytes) (b : Book) → IsSpellableBook b → IsOriginText 
 text_of_book date b fits is =
     let text = book_text date b in
     let d = b.declarations in
-    let lines = word (codes "portfolio") ⨟ one is_version ⨟ mark (codes ";") ⨟ decls d ⨟ Repeat (Entry (contract_line (scope_of d []))) [] b.contracts in
+    let lines = word (codes "portfolio") ⨟ one is_version ⨟ mark (codes ";") ⨟ decls d ⨟ Repeat (Entry (contract_line (declared_by d []))) [] b.contracts in
     let s = lines_spelled date b fits is in
     let x = subst (λ (bytes : Bytes). lines (tokens bytes) (tokens [])) (append-nil text) (s.here [] refl) in
     record {

@@ -6,7 +6,7 @@ use Rattle.term_core.specs.Declarations.{Declarations}
 use Rattle.term_core.specs.declared.terms.NumOp.TheVariants.{Plus, Minus, Times, Min, Max}
 use Rattle.contract_parse.specs.Tokens.{Tok}
 use Rattle.contract_parse.specs.Words.{Bytes}
-use Rattle.contract_parse.specs.Names.{Scope}
+use Rattle.contract_parse.specs.Names.{DeclaredNames}
 use Rattle.contract_parse.specs.Judgements.{days_at, integer_at, literal_at}
 use Rattle.contract_parse.specs.Spelling.{Leaf, contr, expr_with, obs_leaf}
 use Rattle.contract_print.specs.Spellable.{ContractHasNumbersOfTexts, HasNumbersOfTexts, IsObservable, IsSpellable, IsSpellableWith}
@@ -39,7 +39,7 @@ numbers leaf ns (Acc body n first) ts rest x =
     let y = x.spelled.two.two.two.two in
     (by_value (integer_at 100_000) n _ _ _ (λ t e. integer_within 100_000 t n e) y.two.two.one, numbers leaf (x.name ∷ ns) body _ _ y.one, numbers leaf ns first _ _ y.two.two.two.two.one)
 
-pub numbers_of_contract : (s : Scope) (ns : List Bytes) (c : Contract) (ts rest : List Tok) → contr s ns c ts rest → ContractHasNumbersOfTexts c
+pub numbers_of_contract : (s : DeclaredNames) (ns : List Bytes) (c : Contract) (ts rest : List Tok) → contr s ns c ts rest → ContractHasNumbersOfTexts c
 numbers_of_contract s ns Zero ts rest x = tt
 numbers_of_contract s ns (Pay a p q) ts rest x = tt
 numbers_of_contract s ns (Both a b) ts rest x = (numbers_of_contract s ns a _ _ x.two.two.one, numbers_of_contract s ns b _ _ x.two.two.two.two.one)

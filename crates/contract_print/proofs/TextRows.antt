@@ -10,17 +10,17 @@ use Rattle.term_core.specs.declared.label.Label.TheVariants as label
 use Rattle.term_core.specs.declared.terms.CmpOp.TheVariants.{Greater}
 use Rattle.term_core.specs.declared.terms.NumOp.TheVariants.{Plus, Times, Max}
 use Rattle.term_core.specs.declared.terms.Days.TheVariants.{Named}
-use Rattle.contract_parse.specs.Names.{Scope}
+use Rattle.contract_parse.specs.Names.{DeclaredNames}
 use Rattle.contract_print.specs.Comments.{IsCommentText, IsComments}
 use Rattle.contract_print.specs.TermTexts.{◌⊕◌, contr_text, expr_text, observed}
 use Rattle.contract_print.specs.Canon.{amounts_text, book_text, header_text, start_text}
 use Rattle.contract_print.proofs.PlainFacts.{plain_comment}
 
-abbrev scope : Scope
-scope =
+abbrev declared : DeclaredNames
+declared =
     record { parties = codes "A" ∷ codes "B" ∷ []; assets = codes "EUR" ∷ []; labels = codes "FX" ∷ []; templates = codes "T" ∷ []; contracts = [] }
 
-guarded_rate : contr_text scope 0 (Let (Round HalfEven 2 (Obs 0 (negsuc 2))) (Within (Cmp Greater (Var 0) (Lit (pos 100) 2)) (Named 0) (Scale (Var 0) (Pay 0 0 1)) Zero))
+guarded_rate : contr_text declared 0 (Let (Round HalfEven 2 (Obs 0 (negsuc 2))) (Within (Cmp Greater (Var 0) (Lit (pos 100) 2)) (Named 0) (Scale (Var 0) (Pay 0 0 1)) Zero))
     ≡ codes "let v0 = round(half_even, 2, obs(FX, -3)) in if (v0 > 1.00) within T then scale(v0, pay(EUR, A, B)) else zero"
 unfolding text_of
 guarded_rate = refl

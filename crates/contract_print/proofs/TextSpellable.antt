@@ -15,7 +15,7 @@ use Rattle.term_core.specs.declared.label.Label.{Label}
 use Rattle.term_core.specs.declared.label.Label.TheVariants as label
 use Rattle.contract_parse.specs.Tokens.{Tok, tokens}
 use Rattle.contract_parse.specs.Words.{Bytes, is_name, is_reserved, is_word_kind}
-use Rattle.contract_parse.specs.Names.{is_declared, scope_of}
+use Rattle.contract_parse.specs.Names.{declared_by, is_declared}
 use Rattle.contract_parse.specs.Judgements.{bound_at, integer_at, is_version, new_at, origin_at}
 use Rattle.contract_parse.specs.Spelling.{Part, valued}
 use Rattle.contract_parse.specs.Statements.{Added, Entry, Repeat, comma_name, contract_line, decls, label_line, more, name_line, none, origin_line, start_line, template_line}
@@ -37,11 +37,11 @@ use Rattle.contract_print.proofs.WordsKept.{Keeps, Words, ◌▹◌, contr_keeps
 abbrev HasNumbers : Bytes × Contract → Type 0
 HasNumbers entry = ContractHasNumbersOfTexts entry.1
 
-lines_numbers : (d : Declarations) (a b : List (Bytes × Contract)) (ts rest : List Tok) → All HasNumbers a → Repeat (Entry (contract_line (scope_of d []))) a b ts rest → All HasNumbers b
+lines_numbers : (d : Declarations) (a b : List (Bytes × Contract)) (ts rest : List Tok) → All HasNumbers a → Repeat (Entry (contract_line (declared_by d []))) a b ts rest → All HasNumbers b
 lines_numbers d a b ts rest all none = all
 lines_numbers d a b ts rest all (more {b = c} {between = k} x xs) =
     let y = x.spelled.two.two.two in
-    lines_numbers d c b k rest (subst (λ es. All HasNumbers es) (sym x.is) (All-push HasNumbers a (x.name, x.value) all (numbers_of_contract (scope_of d []) [] x.value _ _ y.one))) xs
+    lines_numbers d c b k rest (subst (λ es. All HasNumbers es) (sym x.is) (All-push HasNumbers a (x.name, x.value) all (numbers_of_contract (declared_by d []) [] x.value _ _ y.one))) xs
 
 contracts_spellable : (bytes : List ℕ) (b : Book) → Text bytes b → All (λ entry. IsSpellable b.declarations entry.1) b.contracts
 contracts_spellable bytes b text =
@@ -184,11 +184,11 @@ template_is es name days ts rest x words =
       words = (mark_keeps (codes "=") ▹ value_keeps (integer_at 100_000) days ▹ mark_keeps (codes ";")).keeps x.two.between rest x.two.two n.words;
     }
 
-contract_is : (d : Declarations) (es : List (Bytes × Contract)) (name : Bytes) (c : Contract) (ts rest : List Tok) → contract_line (scope_of d []) es name c ts rest → Words ts → LineIs (λ c. true) es name c rest
+contract_is : (d : Declarations) (es : List (Bytes × Contract)) (name : Bytes) (c : Contract) (ts rest : List Tok) → contract_line (declared_by d []) es name c ts rest → Words ts → LineIs (λ c. true) es name c rest
 contract_is d es name c ts rest x words =
     let n = new_then (keys_of es) name x.between x.two.between x.two.one ((word_keeps (codes "contract")).keeps ts x.between x.one words) in
     let y = x.two.two.two in
-    let behind = (mark_keeps (codes "=") ▹ contr_keeps (scope_of d []) [] c).keeps x.two.between y.between (record { between = x.two.two.between; one = x.two.two.one; two = y.one }) n.words in
+    let behind = (mark_keeps (codes "=") ▹ contr_keeps (declared_by d []) [] c).keeps x.two.between y.between (record { between = x.two.two.between; one = x.two.two.one; two = y.one }) n.words in
     let same = y.two.one.0 in
     record { new = n.first; passes = refl; words = (mark_keeps (codes ";")).keeps y.two.between rest y.two.two (subst (λ (l : List Tok). Words l) same behind) }
 
@@ -238,7 +238,7 @@ pub texts_spellable : TextsAreSpellable
 texts_spellable bytes b text =
     let x = text.spelled in
     let d = b.declarations in
-    let line = contract_line (scope_of d []) in
+    let line = contract_line (declared_by d []) in
     let lines = x.two.two.two in
     let at_declarations = three_keep (word_keeps (codes "portfolio")) (test_keeps is_version) (mark_keeps (codes ";")) (tokens bytes) x.between x.two.between x.two.two.between x.one x.two.one x.two.two.one (words_are_words bytes) in
     let declared = decls_is d x.two.two.between lines.between lines.one at_declarations in

@@ -7,7 +7,7 @@ use Rattle.term_core.specs.Terms.{Expression, Lit, Yes, Var, Obs, Neg, Num, Cmp,
 use Rattle.term_core.specs.declared.terms.NumOp.TheVariants.{Plus, Minus, Times, Min, Max}
 use Rattle.contract_parse.specs.Tokens.{Tok}
 use Rattle.contract_parse.specs.Words.{Bytes, is_the_mark, is_the_word}
-use Rattle.contract_parse.specs.Names.{Scope}
+use Rattle.contract_parse.specs.Names.{DeclaredNames}
 use Rattle.contract_parse.specs.Judgements.{binder_at, bound_at, days_at, integer_at, literal_at, mode_at, offset_at, operator_at, origin_at, use_at, variable_at}
 use Rattle.contract_parse.specs.Spelling.{Leaf, Part, Signed, SomeName, ◌⨟◌, contr, expr_with, infixed, mark, obs_leaf, one, pair, sign, valued, word}
 use Rattle.contract_parse.specs.Statements.{origin_line, range, start_line}
@@ -94,7 +94,7 @@ module _ (leaf : Leaf) (leaf_keeps : (l : ℕ) (t : ℤ) → Keeps (leaf l t)) w
       named_keeps (λ name. word_keeps (codes "acc") ▹ mark_keeps (codes "(") ▹ value_keeps binder_at name ▹ mark_keeps (codes ",") ▹ expr_keeps (name ∷ names) body ▹ mark_keeps (codes ",")
       ▹ value_keeps (integer_at 100_000) n ▹ mark_keeps (codes ",") ▹ expr_keeps names first ▹ mark_keeps (codes ")"))
 
-module _ (s : Scope) where
+module _ (s : DeclaredNames) where
   obs_keeps : (l : ℕ) (t : ℤ) → Keeps (obs_leaf s l t)
   obs_keeps l t = word_keeps (codes "obs") ▹ pair_keeps (value_keeps (use_at s.labels) l) (signed_keeps _ (λ negative. value_keeps (offset_at negative) t))
 

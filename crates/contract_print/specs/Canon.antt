@@ -10,7 +10,7 @@ use Rattle.term_core.specs.Terms.{Contract}
 use Rattle.term_core.specs.declared.label.Label.{Label}
 use Rattle.term_core.specs.declared.label.Label.TheVariants as label
 use Rattle.contract_parse.specs.Words.{Bytes}
-use Rattle.contract_parse.specs.Names.{Scope, scope_of}
+use Rattle.contract_parse.specs.Names.{DeclaredNames, declared_by}
 use Rattle.contract_print.specs.TermTexts.{◌⊕◌, contr_text, number_text}
 
 -- the end of a statement
@@ -67,16 +67,16 @@ table_lines d =
 abbrev pub decls_text : Bytes → Declarations → Bytes
 decls_text date d = first_lines date d ⊕ table_lines d
 
-abbrev pub contract_text : Scope → Bytes → Contract → Bytes
+abbrev pub contract_text : DeclaredNames → Bytes → Contract → Bytes
 contract_text s name c = codes "contract " ⊕ name ⊕ codes " = " ⊕ contr_text s 0 c ⊕ line
 
 -- contracts, in their order
-abbrev pub contracts_text : Scope → List (Bytes × Contract) → Bytes
+abbrev pub contracts_text : DeclaredNames → List (Bytes × Contract) → Bytes
 contracts_text s contracts = flat_map (λ entry. contract_text s entry.0 entry.1) contracts
 
 -- the contracts of a portfolio
 abbrev pub book_contracts_text : Book → Bytes
-book_contracts_text b = contracts_text (scope_of b.declarations []) b.contracts
+book_contracts_text b = contracts_text (declared_by b.declarations []) b.contracts
 
 unfoldable pub header_text : Bytes
 header_text = codes "portfolio 1" ⊕ line

@@ -8,7 +8,7 @@ use Rattle.term_core.specs.Declarations.{Declarations}
 use Rattle.term_core.specs.Acceptance.{IsAccepted}
 use Rattle.term_core.specs.Books.{Book}
 use Rattle.term_core.specs.WellFormed.{IsWellFormed, IsWellFormedContract}
-use Rattle.contract_parse.specs.Names.{scope_of}
+use Rattle.contract_parse.specs.Names.{declared_by}
 use Rattle.contract_parse.specs.Spelling.{expr, contr}
 use Rattle.contract_parse.specs.declared.heads.Language.{Language}
 use Rattle.contract_parse.specs.Texts.{Text}
@@ -25,13 +25,13 @@ abbrev pub ExpressionIsSpelled : Type 0
 ExpressionIsSpelled =
     (d : Declarations) (n : ℕ) (e : Expression)
     → are_names (keys_of d.labels) ≡ true → IsWellFormed d n e → HasNumbersOfTexts e → n + height e ≤ 999
-    → Spells stops (expr_text (observed (keys_of d.labels)) n e) (expr Language.Contracts (scope_of d []) (bound_names n) e)
+    → Spells stops (expr_text (observed (keys_of d.labels)) n e) (expr Language.Contracts (declared_by d []) (bound_names n) e)
 
 abbrev pub ContractIsSpelled : Type 0
 ContractIsSpelled =
     (d : Declarations) (n : ℕ) (c : Contract)
     → AreSpellable d → IsWellFormedContract d n c → ContractHasNumbersOfTexts c → n + height_of_contract c ≤ 999
-    → Spells stops (contr_text (scope_of d []) n c) (contr (scope_of d []) (bound_names n) c)
+    → Spells stops (contr_text (declared_by d []) n c) (contr (declared_by d []) (bound_names n) c)
 
 -- the canonical text of a portfolio is a text of it
 abbrev pub CanonIsText : Type 0

@@ -14,7 +14,7 @@ use Rattle.term_core.specs.declared.terms.LogicOp.TheVariants.{And, Or}
 use Rattle.term_core.specs.declared.terms.Days.{Days}
 use Rattle.term_core.specs.declared.terms.Days.TheVariants.{Num as Count, Named}
 use Rattle.contract_parse.specs.Words.{Bytes}
-use Rattle.contract_parse.specs.Names.{Scope}
+use Rattle.contract_parse.specs.Names.{DeclaredNames}
 
 -- one text, and then the next
 infixr 5 ◌⊕◌
@@ -101,12 +101,12 @@ abbrev pub last_two_text : (ℕ → ℤ → Bytes) → ℕ → Expression → By
 last_two_text leaf n left between right = expr_text leaf n left ⊕ between ⊕ last_text leaf n right
 
 -- a count of days
-abbrev pub days_text : Scope → Days → Bytes
+abbrev pub days_text : DeclaredNames → Days → Bytes
 days_text s (Count n) = number_text n
 days_text s (Named i) = name_at s.templates i
 
 -- a contract under n binders
-abbrev pub contr_text : Scope → ℕ → Contract → Bytes
+abbrev pub contr_text : DeclaredNames → ℕ → Contract → Bytes
 contr_text s n Zero = codes "zero"
 contr_text s n (Pay asset from to) =
     codes "pay(" ⊕ name_at s.assets asset ⊕ codes ", " ⊕ name_at s.parties from ⊕ codes ", " ⊕ name_at s.parties to ⊕ codes ")"

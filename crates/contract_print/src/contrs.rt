@@ -5,7 +5,7 @@ ghost use Rattle.std.specs.Map.{keys_of};
 ghost use Rattle.term_core.specs.Declarations.{declarations};
 ghost use Rattle.term_core.specs.Terms.{contract, expression};
 ghost use Rattle.term_core.specs.Sizes.{height, height_of_contract};
-ghost use Rattle.contract_parse.specs.Names.{scope_of};
+ghost use Rattle.contract_parse.specs.Names.{declared_by};
 ghost use Rattle.contract_print.specs.TermTexts.{contr_text, days_text, expr_text, name_at, observed};
 ghost use Rattle.contract_print.specs.Writable.{IsWritable, IsWritableContract};
 
@@ -85,7 +85,7 @@ pub fn append_days(
     decls: &Decls,
     days: Days,
 ) -> Result<(), NoMemory>
-    ensures { OnOk result (out.new.items ≡ out.old.items ++ days_text (scope_of (declarations decls.now) []) days) }
+    ensures { OnOk result (out.new.items ≡ out.old.items ++ days_text (declared_by (declarations decls.now) []) days) }
 {
     match days {
         Days::Num { days } => append_number(alloc, out, days),
@@ -122,7 +122,7 @@ pub fn append_contr(
 ) -> Result<(), NoMemory>
     requires writable { IsWritableContract binders (contract c.now) }
     requires low { binders + height_of_contract (contract c.now) ≤ 1_000 }
-    ensures { OnOk result (out.new.items ≡ out.old.items ++ contr_text (scope_of (declarations decls.now) []) binders (contract c.now)) }
+    ensures { OnOk result (out.new.items ≡ out.old.items ++ contr_text (declared_by (declarations decls.now) []) binders (contract c.now)) }
 {
     match c {
         Contr::Zero => append(out, b"zero"),

@@ -4,7 +4,7 @@ ghost use Rattle.std.specs.Prelude.{◌≡◌, ◌++◌, [], All, OnOk, OnErr};
 ghost use Rattle.term_core.specs.Books.{book};
 ghost use Rattle.term_core.specs.Declarations.{declarations};
 ghost use Rattle.term_core.specs.Terms.{contract};
-ghost use Rattle.contract_parse.specs.Names.{scope_of};
+ghost use Rattle.contract_parse.specs.Names.{declared_by};
 ghost use Rattle.contract_print.specs.Canon.{AppendsBook, book_contracts_text, book_text, contract_text, header_text};
 ghost use Rattle.contract_print.specs.Writable.{IsWritableTerm};
 
@@ -25,7 +25,7 @@ fn append_contract(
 ) -> Result<(), NoMemory>
     requires { IsWritableTerm (contract c.now) }
     ensures { OnOk result (out.new.items ≡ out.old.items
-        ++ contract_text (scope_of (declarations decls.now) []) name.now (contract c.now)) }
+        ++ contract_text (declared_by (declarations decls.now) []) name.now (contract c.now)) }
 {
     append(out, b"contract ")?;
     append(out, name)?;

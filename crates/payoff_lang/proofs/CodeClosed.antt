@@ -14,37 +14,37 @@ use Rattle.payoff_lang.specs.CodeSizes.{height_of_code}
 use Rattle.payoff_lang.specs.CodeSpelling.{DatePart, code_part, value_part}
 use Rattle.payoff_lang.specs.CodeBooks.{CodeBook}
 use Rattle.payoff_lang.specs.CodeFiles.{CodeText}
-use Rattle.payoff_lang.specs.CodeTexts.{code_scope}
+use Rattle.payoff_lang.specs.CodeTexts.{declared_for_code}
 use Rattle.payoff_lang.specs.WellFormedCode.{AreTemplates, IsClosedCode, IsWellFormedCode, IsWellFormedDate, IsWellFormedValue}
 use Rattle.payoff_lang.proofs.RisingFacts.{inserts_declared, inserts_in_order}
 
 module _ (d : Declarations) where
-  asset_declared : (i : ℕ) (ts rest : List Tok) → valued (use_at (code_scope d).assets) i ts rest → i < length d.assets
-  asset_declared i ts rest x = by_value (use_at (code_scope d).assets) i _ ts rest (λ t e. use_within (code_scope d).assets t i e) x
+  asset_declared : (i : ℕ) (ts rest : List Tok) → valued (use_at (declared_for_code d).assets) i ts rest → i < length d.assets
+  asset_declared i ts rest x = by_value (use_at (declared_for_code d).assets) i _ ts rest (λ t e. use_within (declared_for_code d).assets t i e) x
 
-  party_declared : (i : ℕ) (ts rest : List Tok) → valued (use_at (code_scope d).parties) i ts rest → i < length d.parties
-  party_declared i ts rest x = by_value (use_at (code_scope d).parties) i _ ts rest (λ t e. use_within (code_scope d).parties t i e) x
+  party_declared : (i : ℕ) (ts rest : List Tok) → valued (use_at (declared_for_code d).parties) i ts rest → i < length d.parties
+  party_declared i ts rest x = by_value (use_at (declared_for_code d).parties) i _ ts rest (λ t e. use_within (declared_for_code d).parties t i e) x
 
-  label_declared : (i : ℕ) (ts rest : List Tok) → valued (use_at (code_scope d).labels) i ts rest → i < length d.labels
+  label_declared : (i : ℕ) (ts rest : List Tok) → valued (use_at (declared_for_code d).labels) i ts rest → i < length d.labels
   label_declared i ts rest x =
-      by_value (use_at (code_scope d).labels) i _ ts rest (λ t e. omega (arith, use_within (code_scope d).labels t i e, length-map d.labels (λ entry. entry.0))) x
+      by_value (use_at (declared_for_code d).labels) i _ ts rest (λ t e. omega (arith, use_within (declared_for_code d).labels t i e, length-map d.labels (λ entry. entry.0))) x
 
-  template_declared : (i : ℕ) (ts rest : List Tok) → valued (use_at (code_scope d).templates) i ts rest → i < length d.templates
+  template_declared : (i : ℕ) (ts rest : List Tok) → valued (use_at (declared_for_code d).templates) i ts rest → i < length d.templates
   template_declared i ts rest x =
-      by_value (use_at (code_scope d).templates) i _ ts rest (λ t e. omega (arith, use_within (code_scope d).templates t i e, length-map d.templates (λ entry. entry.0))) x
+      by_value (use_at (declared_for_code d).templates) i _ ts rest (λ t e. omega (arith, use_within (declared_for_code d).templates t i e, length-map d.templates (λ entry. entry.0))) x
 
-  templates_declared : (written : List ℕ) (ts rest : List Tok) → templates_part (code_scope d).templates written ts rest → AreTemplates d written
+  templates_declared : (written : List ℕ) (ts rest : List Tok) → templates_part (declared_for_code d).templates written ts rest → AreTemplates d written
   templates_declared [] ts rest x = tt
   templates_declared (i ∷ is) ts rest x = (template_declared i _ _ x.two.one, templates_declared is _ _ x.two.two)
 
-  date_formed : (q : Date) (ts rest : List Tok) → DatePart (code_scope d) q ts rest → IsWellFormedDate d q
+  date_formed : (q : Date) (ts rest : List Tok) → DatePart (declared_for_code d) q ts rest → IsWellFormedDate d q
   date_formed q ts rest x =
       let declared = inserts_declared d x.written [] (templates_declared x.written _ _ x.spelled.two) tt in
       let rising = inserts_in_order x.written [] tt in
       subst (λ (names : List ℕ). AreTemplates d names × AreInOrder names) (sym x.is) (declared, rising)
 
   abbrev ValueIsClosed : ValueExpression → Type 0
-  ValueIsClosed v = (names : List Bytes) (ts rest : List Tok) → value_part (code_scope d) names v ts rest → IsWellFormedValue d (length names) v
+  ValueIsClosed v = (names : List Bytes) (ts rest : List Tok) → value_part (declared_for_code d) names v ts rest → IsWellFormedValue d (length names) v
 
   under : (n : ℕ) (v : ValueExpression) → IsWellFormedValue d (suc n) v → IsWellFormedValue d (n + 1) v
   under n v h = rw add-one h
@@ -75,7 +75,7 @@ module _ (d : Declarations) where
       (under (length ns) body (closed_value body (x.name ∷ ns) _ _ y.one), closed_value first ns _ _ y.two.two.two.two.one)
 
   abbrev CodeIsClosed : PayoffCode → Type 0
-  CodeIsClosed k = (names : List Bytes) (ts rest : List Tok) → code_part (code_scope d) names k ts rest → IsWellFormedCode d (length names) k
+  CodeIsClosed k = (names : List Bytes) (ts rest : List Tok) → code_part (declared_for_code d) names k ts rest → IsWellFormedCode d (length names) k
 
   under_code : (n : ℕ) (k : PayoffCode) → IsWellFormedCode d (suc n) k → IsWellFormedCode d (n + 1) k
   under_code n k h = rw add-one h

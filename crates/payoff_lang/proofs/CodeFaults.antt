@@ -4,7 +4,7 @@ use Rattle.std.specs.Str.{IsUtf8}
 use Rattle.contract_parse.specs.Tokens.{Tok, tokens}
 use Rattle.contract_parse.specs.Words.{Bytes, is_the_word}
 use Rattle.contract_parse.specs.Cursors.{IsNoUtf8, fault_at}
-use Rattle.contract_parse.specs.Names.{Scope, nothing_declared}
+use Rattle.contract_parse.specs.Names.{DeclaredNames, nothing_declared}
 use Rattle.contract_parse.specs.Places.{Next, Place, Refuse, Stops, TheWord, code_text_places, run}
 use Rattle.contract_parse.specs.Reading.{Lacks}
 use Rattle.contract_parse.specs.Texts.{FirstTextFault, no_utf8, refused}
@@ -20,7 +20,7 @@ use Rattle.payoff_lang.specs.CodeAnswers.{IsCodeFault}
 use Rattle.payoff_lang.proofs.CodeTaken.{file_taken}
 
 -- another word than the one that is to stand here
-pub word_refused : (s : Scope) (w : Bytes) (ps : List Place) (t : Tok) (ts : List Tok) → Lacks w (t ∷ ts) → run s (TheWord w ∷ ps) (t ∷ ts) ≡ Stops Syntax t.left
+pub word_refused : (s : DeclaredNames) (w : Bytes) (ps : List Place) (t : Tok) (ts : List Tok) → Lacks w (t ∷ ts) → run s (TheWord w ∷ ps) (t ∷ ts) ≡ Stops Syntax t.left
 word_refused s w ps t ts lacks =
     let other : is_the_word w t ≡ false = ap (λ (u : Tok). is_the_word w u) (tail_same t lacks.first (t ∷ ts) ts lacks.after refl lacks.is).0 ∙ lacks.other in
     run-refuse s (TheWord w ∷ ps) Syntax t ts (ap (λ (b : Bool). cond b (Next s ps) (Refuse Syntax)) other)

@@ -23,7 +23,7 @@ use Rattle.contract_print.proofs.ExprPieces.{ascii_of}
 use Rattle.contract_print.proofs.ContrSpelled.{equals_then}
 use Rattle.payoff_lang.specs.Code.{PayoffCode}
 use Rattle.payoff_lang.specs.CodeBooks.{CodeBook}
-use Rattle.payoff_lang.specs.CodeTexts.{code_scope}
+use Rattle.payoff_lang.specs.CodeTexts.{declared_for_code}
 use Rattle.payoff_lang.specs.CodeCanon.{IsCanonOfCode, code_book_text, code_header_text, code_line_text}
 use Rattle.payoff_lang.specs.CodeFiles.{CodeText, IsPrintableFile, code_line, shallow_code}
 use Rattle.payoff_lang.specs.PrintableCode.{IsPrintableCode}
@@ -40,7 +40,7 @@ at_end : end (tokens []) []
 unfolding tokens tokens_from next_token extent_at
 at_end = (token End [] 0, refl, refl)
 
-line_spelled : (d : Declarations) (name : Bytes) (k : PayoffCode) → AreSpellable d → is_name_text name ≡ true → IsPrintableCode d k → Spells anywhere (code_line_text (code_scope d) name k) (code_line (code_scope d) name k)
+line_spelled : (d : Declarations) (name : Bytes) (k : PayoffCode) → AreSpellable d → is_name_text name ≡ true → IsPrintableCode d k → Spells anywhere (code_line_text (declared_for_code d) name k) (code_line (declared_for_code d) name k)
 line_spelled d name k names is fits =
     let term = code_spelled d names 0 k fits.closed fits.numbers (omega (arith, fits.shallow)) in
     let low : Follows anywhere line (shallow_code k ⨟ mark (codes ";")) = record {
@@ -53,7 +53,7 @@ line_spelled d name k names is fits =
 module _ (decls_spelled : (date : Bytes) (d : Declarations) → AreSpellable d → IsOriginText d.origin date → Spells anywhere (decls_text date d) (decls d)) where
   -- all but the end
   lines_spelled : (date : Bytes) (b : CodeBook) → IsPrintableFile b → IsOriginText b.declarations.origin date
-      → Spells anywhere (code_book_text date b) (word (codes "payoff") ⨟ one is_version ⨟ mark (codes ";") ⨟ decls b.declarations ⨟ code_line (code_scope b.declarations) b.name b.code)
+      → Spells anywhere (code_book_text date b) (word (codes "payoff") ⨟ one is_version ⨟ mark (codes ";") ⨟ decls b.declarations ⨟ code_line (declared_for_code b.declarations) b.name b.code)
   lines_spelled date b fits is =
       taken_as (λ ts to x. followed_by x.one.between x.one.one (followed_by x.one.two.between x.one.two.one (followed_by x.between x.one.two.two x.two)))
       (before header_spelled
@@ -62,7 +62,7 @@ module _ (decls_spelled : (date : Bytes) (d : Declarations) → AreSpellable d �
   text_of_file : (date : Bytes) (b : CodeBook) → IsPrintableFile b → IsOriginText b.declarations.origin date → CodeText (code_book_text date b) b
   text_of_file date b fits is =
       let text = code_book_text date b in
-      let lines = word (codes "payoff") ⨟ one is_version ⨟ mark (codes ";") ⨟ decls b.declarations ⨟ code_line (code_scope b.declarations) b.name b.code in
+      let lines = word (codes "payoff") ⨟ one is_version ⨟ mark (codes ";") ⨟ decls b.declarations ⨟ code_line (declared_for_code b.declarations) b.name b.code in
       let s = lines_spelled date b fits is in
       let x = subst (λ (bytes : Bytes). lines (tokens bytes) (tokens [])) (append-nil text) (s.here [] refl) in
       record {

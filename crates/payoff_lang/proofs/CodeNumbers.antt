@@ -4,7 +4,7 @@ use Rattle.decimal.specs.DecimalText.{signed}
 use Rattle.term_core.specs.declared.terms.NumOp.TheVariants.{Plus, Minus, Times, Min, Max}
 use Rattle.contract_parse.specs.Tokens.{Tok}
 use Rattle.contract_parse.specs.Words.{Bytes}
-use Rattle.contract_parse.specs.Names.{Scope}
+use Rattle.contract_parse.specs.Names.{DeclaredNames}
 use Rattle.contract_parse.specs.Judgements.{date_number_at, integer_at, literal_at, signed_result}
 use Rattle.contract_parse.specs.declared.faults.TextKind.{TextKind}
 use Rattle.contract_print.proofs.NumbersWithin.{by_value, integer_within, literal_within}
@@ -13,7 +13,7 @@ use Rattle.payoff_lang.specs.Code.{ValueExpression, Lit, Yes, Var, Model, Neg, N
 use Rattle.payoff_lang.specs.CodeSpelling.{DatePart, code_part, value_part}
 use Rattle.payoff_lang.specs.CodeBooks.{CodeBook}
 use Rattle.payoff_lang.specs.CodeFiles.{CodeText}
-use Rattle.payoff_lang.specs.CodeTexts.{code_scope}
+use Rattle.payoff_lang.specs.CodeTexts.{declared_for_code}
 use Rattle.payoff_lang.specs.PrintableCode.{CodeHasNumbersOfTexts, HasNumberOfTexts, IsPrintableCode, ValueHasNumbersOfTexts}
 use Rattle.payoff_lang.proofs.CodeClosed.{code_of_text_closed}
 
@@ -31,7 +31,7 @@ date_within negative t days e = by_result (integer_at 2_000_000 t) refl e
     by_result (Ok n) is h = let at : days ≡ signed negative n = cc in rw at (omega (arith, size_signed negative n, integer_within 2_000_000 t n is))
     by_result (Err kind) is h = absurd cc
 
-module _ (s : Scope) where
+module _ (s : DeclaredNames) where
   date_number : (q : Date) (ts rest : List Tok) → DatePart s q ts rest → HasNumberOfTexts q
   date_number q ts rest x =
       let number = x.spelled.one in
@@ -83,4 +83,4 @@ pub code_of_text_printable : (bytes : List ℕ) (b : CodeBook) → CodeText byte
 code_of_text_printable bytes b text =
     let closed = code_of_text_closed bytes b text in
     let l = text.spelled.two.two.two.two.one.two.two.two in
-    record { closed = closed.0; numbers = code_numbers (code_scope b.declarations) _ b.code _ _ l.one; shallow = closed.1 }
+    record { closed = closed.0; numbers = code_numbers (declared_for_code b.declarations) _ b.code _ _ l.one; shallow = closed.1 }

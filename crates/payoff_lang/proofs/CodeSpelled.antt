@@ -10,7 +10,7 @@ use Rattle.term_core.specs.declared.terms.NumOp.TheVariants.{Plus, Minus, Times,
 use Rattle.contract_parse.specs.declared.token.Kind.TheVariants.{Mark, Number}
 use Rattle.contract_parse.specs.Tokens.{extent_at}
 use Rattle.contract_parse.specs.Words.{Bytes}
-use Rattle.contract_parse.specs.Names.{Scope}
+use Rattle.contract_parse.specs.Names.{DeclaredNames}
 use Rattle.contract_parse.specs.Judgements.{date_number_at, literal_at, signed_result, use_at, variable_at}
 use Rattle.contract_parse.specs.Spelling.{Part, Signed, ◌⨟◌, mark, templates_part, valued, word}
 use Rattle.contract_parse.proofs.Parts.{followed_by}
@@ -26,7 +26,7 @@ use Rattle.payoff_lang.specs.TemplateDates.{Date, AreInOrderFrom, insert_name, i
 use Rattle.payoff_lang.specs.Dating.{plain}
 use Rattle.payoff_lang.specs.CodeSizes.{height_of_code}
 use Rattle.payoff_lang.specs.Code.{ValueExpression, Lit, Yes, Var, Model, Neg, Num, Cmp, Not, Logic, Cond, Widen, Round, Div, Acc, PayoffCode, Nothing, PayOn, Add, ScaleBy, LetBe, Loop, Cut}
-use Rattle.payoff_lang.specs.CodeTexts.{code_scope, code_text, date_text, names_text, test_text, value_text}
+use Rattle.payoff_lang.specs.CodeTexts.{code_text, date_text, declared_for_code, names_text, test_text, value_text}
 use Rattle.payoff_lang.specs.CodeSpelling.{DatePart, code_part, value_part}
 use Rattle.payoff_lang.specs.PrintableCode.{HasNumberOfTexts, ValueHasNumbersOfTexts, CodeHasNumbersOfTexts}
 use Rattle.payoff_lang.specs.WellFormedCode.{AreTemplates, IsWellFormedDate, IsWellFormedValue, IsWellFormedCode}
@@ -57,8 +57,8 @@ in_place low [] h = refl
 in_place low (t ∷ ts) h = ap (λ (us : List ℕ). insert_name t us) (in_place t ts h.1) ∙ first_stays t ts h.1
 
 module _ (d : Declarations) (names : AreSpellable d) where
-  abbrev s : Scope
-  s = code_scope d
+  abbrev s : DeclaredNames
+  s = declared_for_code d
 
   template_spells : (t : ℕ) → t < length d.templates → Spells stops (name_at s.templates t) (valued (use_at s.templates) t)
   template_spells t within =

@@ -4,7 +4,7 @@ use Rattle.std.specs.Prelude.{codes}
 use Rattle.term_core.specs.Declarations.{Declarations}
 use Rattle.contract_parse.specs.Tokens.{Tok}
 use Rattle.contract_parse.specs.Words.{Bytes}
-use Rattle.contract_parse.specs.Names.{Scope}
+use Rattle.contract_parse.specs.Names.{DeclaredNames}
 use Rattle.contract_parse.specs.Judgements.{binder_at, new_at, use_at}
 use Rattle.contract_parse.specs.Spelling.{Part, SomeName, ◌⨟◌, mark, pair, valued, word}
 use Rattle.contract_parse.specs.Statements.{decls}
@@ -24,7 +24,7 @@ Stood text p ts rest = StandsIn text ts × p ts rest
 stood : {text : List ℕ} {p : Part} → Turns text p p → Turns text p (Stood text p)
 stood t = record { turns = λ ts rest stands x. ((stands, x), (t.turns ts rest stands x).1) }
 
-module _ (text : List ℕ) (s : Scope) where
+module _ (text : List ℕ) (s : DeclaredNames) where
   date_part_stays : (x : Date) → Turns text (DatePart s x) (DatePart s x)
   date_part_stays x = record { turns = λ ts rest stands y. (y, ((date_stays {text = text} s.templates x.days y.written).turns ts rest stands y.spelled).1) }
 

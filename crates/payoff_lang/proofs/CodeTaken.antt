@@ -4,7 +4,7 @@ use Rattle.std.specs.Prelude.{codes}
 use Rattle.term_core.specs.Sizes.{height}
 use Rattle.contract_parse.specs.Tokens.{Tok, tokens}
 use Rattle.contract_parse.specs.Words.{Bytes, is_end}
-use Rattle.contract_parse.specs.Names.{Scope, nothing_declared, scope_of, with_names}
+use Rattle.contract_parse.specs.Names.{DeclaredNames, declared_by, nothing_declared, with_names}
 use Rattle.contract_parse.specs.Judgements.{is_version, new_at}
 use Rattle.contract_parse.specs.Places.{AmountAt, ExprAt, NewIn, Next, Open, Place, TheEnd, TheMark, TheWord, code_text_places, date_places, judged, run}
 use Rattle.contract_parse.specs.Reading.{LacksMark}
@@ -27,8 +27,8 @@ use Rattle.payoff_lang.proofs.Standing.{mark_stays, test_stays, word_stays}
 use Rattle.payoff_lang.proofs.Placed.{placed_height, value_placed}
 use Rattle.payoff_lang.proofs.CodeStanding.{Stood, behind_decls, code_stood, line_stood}
 
-module _ (text : List ℕ) (s : Scope) (ks : List Bytes) where
-  abbrev here : Scope
+module _ (text : List ℕ) (s : DeclaredNames) (ks : List Bytes) where
+  abbrev here : DeclaredNames
   here = with_contracts ks s
 
   value_part_taken : (names : List Bytes) (v : ValueExpression) (d : ℕ) → d + height (plain v) ≤ 401 → Takes here (ExprAt Language.Code d names) (Stood text (value_part s names v))
@@ -104,13 +104,13 @@ line_stands bytes b text =
     behind_decls bytes b.declarations x.two.two.between x.two.two.two.between third x.two.two.two.one
 
 -- behind declarations stands the word of code
-pub heads_code : (s : Scope) (name : Bytes) (k : PayoffCode) (ts rest : List Tok) → code_line s name k ts rest → Heads behind_templates ts
+pub heads_code : (s : DeclaredNames) (name : Bytes) (k : PayoffCode) (ts rest : List Tok) → code_line s name k ts rest → Heads behind_templates ts
 heads_code s name k ts rest x = heads_more (codes "contract") (codes "code" ∷ []) ts (heads_word (codes "code") [] ts x.between x.one)
 
 pub file_taken : (bytes : List ℕ) (b : CodeBook) → CodeText bytes b → run nothing_declared code_text_places (tokens bytes) ≡ Open []
 file_taken bytes b text =
-    let s = scope_of b.declarations [] in
-    let s2 = scope_of b.declarations (b.name ∷ []) in
+    let s = declared_by b.declarations [] in
+    let s2 = declared_by b.declarations (b.name ∷ []) in
     let x = text.spelled in
     let l = ((line_stood bytes s b.name b.code).turns x.two.two.two.between x.two.two.two.two.between (line_stands bytes b text) x.two.two.two.two.one).0 in
     let code = l.two.two.two in

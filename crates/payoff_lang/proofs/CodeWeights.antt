@@ -4,7 +4,7 @@ use Rattle.std.specs.Prelude.{codes}
 use Rattle.term_core.specs.Sizes.{nodes}
 use Rattle.contract_parse.specs.Tokens.{Tok, tokens}
 use Rattle.contract_parse.specs.Words.{Bytes}
-use Rattle.contract_parse.specs.Names.{Scope}
+use Rattle.contract_parse.specs.Names.{DeclaredNames}
 use Rattle.contract_parse.specs.Judgements.{binder_at, is_version, new_at, use_at}
 use Rattle.contract_parse.specs.Spelling.{one}
 use Rattle.contract_parse.specs.Laws.{NamesFit}
@@ -18,12 +18,12 @@ use Rattle.payoff_lang.specs.CodeSizes.{nodes_of_code}
 use Rattle.payoff_lang.specs.CodeSpelling.{DatePart, code_part, value_part}
 use Rattle.payoff_lang.specs.CodeBooks.{CodeBook}
 use Rattle.payoff_lang.specs.CodeFiles.{CodeText, shallow_code}
-use Rattle.payoff_lang.specs.CodeTexts.{code_scope}
+use Rattle.payoff_lang.specs.CodeTexts.{declared_for_code}
 use Rattle.payoff_lang.proofs.Placed.{placed_nodes, value_placed}
 use Rattle.payoff_lang.proofs.CodeStanding.{Stood, code_stood, line_stood}
 use Rattle.payoff_lang.proofs.CodeTaken.{line_stands}
 
-module _ (text : List ℕ) (s : Scope) where
+module _ (text : List ℕ) (s : DeclaredNames) where
   value_weighs : (names : List Bytes) (v : ValueExpression) → AtLeast (nodes (plain v)) (Stood text (value_part s names v))
   value_weighs names v = record {
     least = λ ts rest x.
@@ -77,8 +77,8 @@ shallow_weighs k = record { least = λ ts rest x. rw (x.0) (omega arith) }
 
 -- what stands before the line of code, and that line, within the bytes
 module _ (bytes : List ℕ) (b : CodeBook) (text : CodeText bytes b) where
-  abbrev s : Scope
-  s = code_scope b.declarations
+  abbrev s : DeclaredNames
+  s = declared_for_code b.declarations
 
   -- `payoff` has six bytes
   declared_within : weight text.spelled.two.two.between + 6 ≤ length bytes

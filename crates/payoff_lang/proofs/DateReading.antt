@@ -5,7 +5,7 @@ use Rattle.std.proofs.lemmas.Bool.{cases_Bool}
 use Rattle.decimal.specs.DecimalText.{signed}
 use Rattle.contract_parse.specs.Tokens.{Tok}
 use Rattle.contract_parse.specs.Words.{Bytes, is_integer, is_name, is_the_mark}
-use Rattle.contract_parse.specs.Names.{Scope, place_in}
+use Rattle.contract_parse.specs.Names.{DeclaredNames, place_in}
 use Rattle.contract_parse.specs.Judgements.{date_number_at, or_fault, use_at, whole}
 use Rattle.contract_parse.specs.Spelling.{◌⨟◌, mark, sign, templates_part, valued}
 use Rattle.contract_parse.specs.Reading.{LacksMark}
@@ -73,7 +73,7 @@ number_is false d ts rest x = by_token x.two
         let is : ts ≡ t ∷ rest = x.one ∙ f in
         rw (is, number_no_mark (codes "-") t (number_of_date false t d v)) (number_value false t d v, refl)
 
-pub date_is : (s : Scope) (x : Date) (ts rest : List Tok) → DatePart s x ts rest → LacksMark (codes "+") rest → date_first s.templates ts ≡ x
+pub date_is : (s : DeclaredNames) (x : Date) (ts rest : List Tok) → DatePart s x ts rest → LacksMark (codes "+") rest → date_first s.templates ts ≡ x
 date_is s x ts rest part ends =
     let number = number_is part.spelled.one.negative x.days ts part.spelled.between part.spelled.one.spelled in
     let names : insert_names (templates_first s.templates (behind_days ts)) [] ≡ x.names =

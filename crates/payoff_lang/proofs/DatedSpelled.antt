@@ -6,7 +6,7 @@ use Rattle.term_core.specs.Sizes.{height}
 use Rattle.term_core.specs.declared.terms.NumOp.TheVariants.{Plus, Minus, Times, Min, Max}
 use Rattle.contract_parse.specs.Tokens.{Tok, tokens}
 use Rattle.contract_parse.specs.Words.{Bytes}
-use Rattle.contract_parse.specs.Names.{Scope}
+use Rattle.contract_parse.specs.Names.{DeclaredNames}
 use Rattle.contract_parse.specs.Judgements.{binder_at, integer_at, literal_at, mode_at, operator_at, use_at, variable_at}
 use Rattle.contract_parse.specs.Spelling.{DateFrom, ◌⨟◌, expr, mark}
 use Rattle.contract_parse.specs.declared.heads.Language.{Language}
@@ -54,7 +54,7 @@ height_dated on (Round m k e) = omega (arith, height_dated on e)
 height_dated on (Div m k a b) = omega (arith, height_dated on a, height_dated on b)
 height_dated on (Acc body n first) = omega (arith, height_dated on body, height_dated on first)
 
-module _ (text : List ℕ) (s : Scope) where
+module _ (text : List ℕ) (s : DeclaredNames) where
   abbrev on : ℤ → Date
   on = date_at s.templates text
 
@@ -102,5 +102,5 @@ module _ (text : List ℕ) (s : Scope) where
         (record { name = x.name; spelled = a.0 }, a.1);
   }
 
-pub dated_spelled : (text : List ℕ) (s : Scope) (names : List Bytes) (e : Expression) (rest : List Tok) → expr Language.Code s names e (tokens text) rest → value_part s names (with_date (date_at s.templates text) e) (tokens text) rest
+pub dated_spelled : (text : List ℕ) (s : DeclaredNames) (names : List Bytes) (e : Expression) (rest : List Tok) → expr Language.Code s names e (tokens text) rest → value_part s names (with_date (date_at s.templates text) e) (tokens text) rest
 dated_spelled text s names e rest x = ((expr_turns text s names e).turns (tokens text) rest (stands_in text) x).0

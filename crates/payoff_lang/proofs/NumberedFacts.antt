@@ -2,7 +2,7 @@
 -- value expression may.
 use Rattle.std.proofs.Common.{◌≡◌, ◌∙◌, ℕ, suc, pos, true, false, List, [], ◌∷◌, ◌++◌, length, Option, Some, None, refl, ap, ap₂, append_assoc, arith}
 use Rattle.std.specs.Prelude.{slice_get}
-use Rattle.contract_parse.specs.Names.{Scope}
+use Rattle.contract_parse.specs.Names.{DeclaredNames}
 use Rattle.term_core.specs.Sizes.{height}
 use Rattle.term_core.specs.Terms.{Expression}
 use Rattle.contract_print.specs.TermTexts.{expr_text}
@@ -57,12 +57,12 @@ found_in : (all dates more : List Date) (x : Date) → all ≡ (dates ++ x ∷ [
 found_in all dates more x is = ap (λ (us : List Date). slice_get us (length dates)) is ∙ found dates more x
 
 -- the date at the place of a leaf
-leaf_written : (s : Scope) (all dates : List Date) (l : ℕ) (x : Date) → Leads (dates ++ x ∷ []) all → modelled_at s all l (pos (length dates)) ≡ modelled s l (date_text s x)
+leaf_written : (s : DeclaredNames) (all dates : List Date) (l : ℕ) (x : Date) → Leads (dates ++ x ∷ []) all → modelled_at s all l (pos (length dates)) ≡ modelled s l (date_text s x)
 leaf_written s all dates l x front =
     ap (λ (o : Option Date). modelled s l (elim o [ Some y ↦ date_text s y | None ↦ [] ])) (found_in all dates front.0 x front.1)
 
 -- over a list in which its dates stand, the expression is written as the value expression
-pub written : (s : Scope) (all : List Date) (n : ℕ) (dates : List Date) (v : ValueExpression) → Leads (with_dates dates v) all → expr_text (modelled_at s all) n (numbered dates v) ≡ value_text s n v
+pub written : (s : DeclaredNames) (all : List Date) (n : ℕ) (dates : List Date) (v : ValueExpression) → Leads (with_dates dates v) all → expr_text (modelled_at s all) n (numbered dates v) ≡ value_text s n v
 written s all n dates (Lit m k) front = refl
 written s all n dates (Yes true) front = refl
 written s all n dates (Yes false) front = refl
@@ -108,7 +108,7 @@ written s all n dates (Acc body days first) front =
 pub written_whole : ValuesAreWrittenAsExpressions
 written_whole s n v = written s (with_dates [] v) n [] v (stay (with_dates [] v))
 
-pub written_as : (s : Scope) (n : ℕ) (v : ValueExpression) (e : Expression) (dates : List Date) → e ≡ numbered [] v → dates ≡ with_dates [] v → expr_text (modelled_at s dates) n e ≡ value_text s n v
+pub written_as : (s : DeclaredNames) (n : ℕ) (v : ValueExpression) (e : Expression) (dates : List Date) → e ≡ numbered [] v → dates ≡ with_dates [] v → expr_text (modelled_at s dates) n e ≡ value_text s n v
 written_as s n v e dates p q = ap₂ (λ (us : List Date) (x : Expression). expr_text (modelled_at s us) n x) q p ∙ written_whole s n v
 
 -- dates have no part in the height

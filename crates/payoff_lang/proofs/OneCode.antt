@@ -6,7 +6,7 @@ use Rattle.term_core.specs.Terms.{Expression}
 use Rattle.term_core.specs.Declarations.{Declarations}
 use Rattle.contract_parse.specs.Tokens.{Tok, tokens}
 use Rattle.contract_parse.specs.Words.{Bytes}
-use Rattle.contract_parse.specs.Names.{Scope}
+use Rattle.contract_parse.specs.Names.{DeclaredNames}
 use Rattle.contract_parse.specs.Judgements.{binder_at, is_version, new_at, use_at}
 use Rattle.contract_parse.specs.Heads.{amount_head_of}
 use Rattle.contract_parse.specs.Spelling.{Part, Then, ◌⨟◌, mark, one, word}
@@ -27,7 +27,7 @@ use Rattle.payoff_lang.specs.CodeReading.{date_at}
 use Rattle.payoff_lang.specs.CodeSpelling.{DatePart, code_part, value_part}
 use Rattle.payoff_lang.specs.CodeBooks.{CodeBook}
 use Rattle.payoff_lang.specs.CodeFiles.{CodeText}
-use Rattle.payoff_lang.specs.CodeTexts.{code_scope}
+use Rattle.payoff_lang.specs.CodeTexts.{declared_for_code}
 use Rattle.payoff_lang.proofs.Placed.{value_placed}
 use Rattle.payoff_lang.proofs.CodeStanding.{Stood, code_stood, line_stood, stood_line}
 use Rattle.payoff_lang.proofs.CodeTaken.{heads_code, line_stands}
@@ -62,7 +62,7 @@ HasCodeForm n ts = (t : Tok) × (rest : List Tok) × (ts ≡ t ∷ rest) × (cod
 code_word_form : (w : Bytes) (n : ℕ) (ts rest : List Tok) → ((left : ℕ) → code_form_in (amount_head_of (record { kind = Word; text = w; left = left })) ≡ n) → word w ts rest → HasCodeForm n ts
 code_word_form w n ts rest is (t, e, passes) = (t, rest, e, of_word (λ z. code_form_in (amount_head_of z) ≡ n) w t passes (is t.left))
 
-has_code_form : (s : Scope) (names : List Bytes) (k : PayoffCode) (ts rest : List Tok) → code_part s names k ts rest → HasCodeForm (code_form k) ts
+has_code_form : (s : DeclaredNames) (names : List Bytes) (k : PayoffCode) (ts rest : List Tok) → code_part s names k ts rest → HasCodeForm (code_form k) ts
 has_code_form s names Nothing ts rest x = code_word_form (codes "none") 0 ts rest (λ left. refl) x
 has_code_form s names (PayOn q a p r) ts rest x = code_word_form (codes "pay") 1 ts x.between (λ left. refl) x.one
 has_code_form s names (Add k l) ts rest x = code_word_form (codes "add") 2 ts x.between (λ left. refl) x.one
@@ -75,14 +75,14 @@ code_form_one : (m n : ℕ) (ts : List Tok) → HasCodeForm m ts → HasCodeForm
 code_form_one m n ts (t, a, is, f) (u, b, is', f') = sym f ∙ ap (λ z. code_form_in (amount_head_of z)) (tail_same t u ts a b is is').0 ∙ f'
 
 -- amounts of other forms have no tokens in common
-codes_differ : (s : Scope) (names : List Bytes) (k k' : PayoffCode) (ts a b : List Tok) → (code_form k == code_form k') ≡ false → code_part s names k ts a → code_part s names k' ts b → ⊥
+codes_differ : (s : DeclaredNames) (names : List Bytes) (k k' : PayoffCode) (ts a b : List Tok) → (code_form k == code_form k') ≡ false → code_part s names k ts a → code_part s names k' ts b → ⊥
 codes_differ s names k k' ts a b other x y =
     false≢true (sym other ∙ eq-eqb (code_form k) (code_form k') (code_form_one (code_form k) (code_form k') ts (has_code_form s names k ts a x) (has_code_form s names k' ts b y)))
 
 -- ---- dates and value expressions
 
 -- a date before a mark or a word that is no plus
-date_case : {S S' : Part} {G : Type 0} (s : Scope) (q q' : Date) (ts a b : List Tok) → ((m : List Tok) → S m a → LacksMark (codes "+") m) → ((m : List Tok) → S' m b → LacksMark (codes "+") m)
+date_case : {S S' : Part} {G : Type 0} (s : DeclaredNames) (q q' : Date) (ts a b : List Tok) → ((m : List Tok) → S m a → LacksMark (codes "+") m) → ((m : List Tok) → S' m b → LacksMark (codes "+") m)
     → Then (DatePart s q) S ts a → Then (DatePart s q') S' ts b → (q ≡ q' → (k : List Tok) → S k a → S' k b → G) → G
 date_case {S' = S'} s q q' ts a b ends ends' x y next =
     let p = date_one s.templates q.days q'.days x.one.written y.one.written ts x.between y.between (ends x.between x.two) (ends' y.between y.two) x.one.spelled y.one.spelled in
@@ -95,7 +95,7 @@ comma_ends a m x = mark_lacks (codes ",") (codes "+") m x.between refl x.one
 then_ends : {S : Part} (a m : List Tok) → (word (codes "then") ⨟ S) m a → LacksMark (codes "+") m
 then_ends a m x = word_lacks (codes "then") (codes "+") m x.between x.one
 
-module _ (text : List ℕ) (s : Scope) where
+module _ (text : List ℕ) (s : DeclaredNames) where
   one_value : (names : List Bytes) (v v' : ValueExpression) (ts a b : List Tok) → Stood text (value_part s names v) ts a → Stood text (value_part s names v') ts b → (v ≡ v') × (a ≡ b)
   one_value names v v' ts a b x y =
       let p = ((value_placed text s names v).turns ts a x.0 x.1).0 in
@@ -163,10 +163,10 @@ one_code_text bytes b b' text text' =
     let first = one_one _ _ (tokens bytes) x.between y.between x.one y.one in
     let second = one_one _ _ x.between x.two.between y.two.between x.two.one (subst (λ (k : List Tok). one is_version k y.two.between) (sym first) y.two.one) in
     let third = one_one _ _ x.two.between x.two.two.between y.two.two.between x.two.two.one (subst (λ (k : List Tok). mark (codes ";") k y.two.two.between) (sym second) y.two.two.one) in
-    let d = one_decls b.declarations b'.declarations m n (heads_code (code_scope b.declarations) b.name b.code m behind.between behind.one) (heads_code (code_scope b'.declarations) b'.name b'.code n behind'.between behind'.one) x.two.two.between x.two.two.two.one (subst (λ (k : List Tok). decls b'.declarations k n) (sym third) y.two.two.two.one) in
-    let line = ((line_stood bytes (code_scope b.declarations) b.name b.code).turns m behind.between (line_stands bytes b text) behind.one).0 in
-    let line' = ((line_stood bytes (code_scope b'.declarations) b'.name b'.code).turns n behind'.between (line_stands bytes b' text') behind'.one).0 in
-    let same' = subst (λ (e : Declarations). stood_line bytes (code_scope e) b'.name b'.code n behind'.between) (sym d.0) line' in
-    let here' = subst (λ (k : List Tok). stood_line bytes (code_scope b.declarations) b'.name b'.code k behind'.between) (sym d.1) same' in
-    let p = one_line bytes (code_scope b.declarations) b.name b'.name b.code b'.code m behind.between behind'.between line here' in
+    let d = one_decls b.declarations b'.declarations m n (heads_code (declared_for_code b.declarations) b.name b.code m behind.between behind.one) (heads_code (declared_for_code b'.declarations) b'.name b'.code n behind'.between behind'.one) x.two.two.between x.two.two.two.one (subst (λ (k : List Tok). decls b'.declarations k n) (sym third) y.two.two.two.one) in
+    let line = ((line_stood bytes (declared_for_code b.declarations) b.name b.code).turns m behind.between (line_stands bytes b text) behind.one).0 in
+    let line' = ((line_stood bytes (declared_for_code b'.declarations) b'.name b'.code).turns n behind'.between (line_stands bytes b' text') behind'.one).0 in
+    let same' = subst (λ (e : Declarations). stood_line bytes (declared_for_code e) b'.name b'.code n behind'.between) (sym d.0) line' in
+    let here' = subst (λ (k : List Tok). stood_line bytes (declared_for_code b.declarations) b'.name b'.code k behind'.between) (sym d.1) same' in
+    let p = one_line bytes (declared_for_code b.declarations) b.name b'.name b.code b'.code m behind.between behind'.between line here' in
     λ i. record { declarations = d.0 i; name = p.0.0 i; code = p.0.1 i }

@@ -6,7 +6,7 @@ use Rattle.term_core.specs.Sizes.{height, nodes}
 use Rattle.term_core.specs.declared.terms.NumOp.TheVariants.{Plus, Minus, Times, Min, Max}
 use Rattle.contract_parse.specs.Tokens.{Tok}
 use Rattle.contract_parse.specs.Words.{Bytes}
-use Rattle.contract_parse.specs.Names.{Scope}
+use Rattle.contract_parse.specs.Names.{DeclaredNames}
 use Rattle.contract_parse.specs.Judgements.{binder_at, date_number_at, integer_at, literal_at, mode_at, operator_at, use_at, variable_at}
 use Rattle.contract_parse.specs.Spelling.{DateFrom, Part, ◌⨟◌, expr, mark, sign, valued}
 use Rattle.contract_parse.specs.declared.heads.Language.{Language}
@@ -22,13 +22,13 @@ use Rattle.payoff_lang.proofs.Standing.{Turns, ◌▹◌, behind_first, close_st
 use Rattle.payoff_lang.proofs.DateReading.{date_is}
 use Rattle.payoff_lang.proofs.DatedSpelled.{height_dated, place_is}
 
-pub record Placed (text : List ℕ) (s : Scope) (names : List Bytes) (v : ValueExpression) (ts rest : List Tok) : Type 0 where
+pub record Placed (text : List ℕ) (s : DeclaredNames) (names : List Bytes) (v : ValueExpression) (ts rest : List Tok) : Type 0 where
   pub e : Expression
   pub spelled : expr Language.Code s names e ts rest
   pub is : with_date (date_at s.templates text) e ≡ v
 
 -- a date with its place
-record Located (text : List ℕ) (s : Scope) (x : Date) (ts rest : List Tok) : Type 0 where
+record Located (text : List ℕ) (s : DeclaredNames) (x : Date) (ts rest : List Tok) : Type 0 where
   place : ℤ
   from : DateFrom s.templates place ts rest
   is : date_at s.templates text place ≡ x
@@ -65,7 +65,7 @@ date_begins : (negative : Bool) (days : ℤ) (ts rest : List Tok) → (sign nega
 date_begins true days ts rest x = (x.one.0, x.between, x.one.1)
 date_begins false days ts rest x = (x.two.0, rest, x.one ∙ x.two.1)
 
-module _ (text : List ℕ) (s : Scope) where
+module _ (text : List ℕ) (s : DeclaredNames) where
   located : (x : Date) → Turns text (DatePart s x ⨟ mark (codes ")")) (Located text s x ⨟ mark (codes ")"))
   located x = record {
     turns = λ ts rest stands y.
@@ -170,8 +170,8 @@ nodes_dated on (Round' m k e) = omega (arith, nodes_dated on e)
 nodes_dated on (Div' m k a b) = omega (arith, nodes_dated on a, nodes_dated on b)
 nodes_dated on (Acc' body n first) = omega (arith, nodes_dated on body, nodes_dated on first)
 
-pub placed_height : (text : List ℕ) (s : Scope) (names : List Bytes) (v : ValueExpression) (ts rest : List Tok) (p : Placed text s names v ts rest) → height (plain v) ≡ height p.e
+pub placed_height : (text : List ℕ) (s : DeclaredNames) (names : List Bytes) (v : ValueExpression) (ts rest : List Tok) (p : Placed text s names v ts rest) → height (plain v) ≡ height p.e
 placed_height text s names v ts rest p = sym (ap (λ (u : ValueExpression). height (plain u)) p.is) ∙ height_dated (date_at s.templates text) p.e
 
-pub placed_nodes : (text : List ℕ) (s : Scope) (names : List Bytes) (v : ValueExpression) (ts rest : List Tok) (p : Placed text s names v ts rest) → nodes (plain v) ≡ nodes p.e
+pub placed_nodes : (text : List ℕ) (s : DeclaredNames) (names : List Bytes) (v : ValueExpression) (ts rest : List Tok) (p : Placed text s names v ts rest) → nodes (plain v) ≡ nodes p.e
 placed_nodes text s names v ts rest p = sym (ap (λ (u : ValueExpression). nodes (plain u)) p.is) ∙ nodes_dated (date_at s.templates text) p.e

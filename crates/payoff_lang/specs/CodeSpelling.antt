@@ -1,10 +1,10 @@
 -- The grammar of payoff code: which tokens spell which code. A part relates the tokens where it begins to those after it;
--- declared names are those of a scope, and bound names are listed innermost first.
+-- the names that a text declares come with the part, and bound names are listed innermost first.
 use Rattle.std.specs.Prelude.{◌≡◌, ℕ, true, false, List, [], ◌∷◌, codes}
 use Rattle.term_core.specs.declared.terms.NumOp.TheVariants.{Min, Max}
 use Rattle.contract_parse.specs.Tokens.{Tok}
 use Rattle.contract_parse.specs.Words.{Bytes}
-use Rattle.contract_parse.specs.Names.{Scope}
+use Rattle.contract_parse.specs.Names.{DeclaredNames}
 use Rattle.contract_parse.specs.Judgements.{binder_at, integer_at, literal_at, mode_at, operator_at, use_at, variable_at}
 use Rattle.contract_parse.specs.Spelling.{Part, Signed, SomeName, ◌⨟◌, dated_part, infixed, mark, pair, valued, word}
 use Rattle.contract_parse.specs.declared.heads.Operator.TheVariants.{Arithmetic, Comparison, Logic as Connective}
@@ -12,13 +12,13 @@ use Rattle.payoff_lang.specs.TemplateDates.{Date, insert_names}
 use Rattle.payoff_lang.specs.Code.{ValueExpression, Lit, Yes, Var, Model, Neg, Num, Cmp, Not, Logic, Cond, Widen, Round, Div, Acc, PayoffCode, Nothing, PayOn, Add, ScaleBy, LetBe, Loop, Cut}
 
 -- a date: its number, and its templates in any order
-pub record DatePart (s : Scope) (x : Date) (ts rest : List Tok) : Type 0 where
+pub record DatePart (s : DeclaredNames) (x : Date) (ts rest : List Tok) : Type 0 where
   pub written : List ℕ
   pub is : x.names ≡ insert_names written []
   pub spelled : dated_part s.templates x.days written ts rest
 
 -- a value expression
-abbrev pub value_part : Scope → List Bytes → ValueExpression → Part
+abbrev pub value_part : DeclaredNames → List Bytes → ValueExpression → Part
 value_part s names (Lit m k) = Signed (λ negative. valued (literal_at negative) (record { mant = m; scale = k }))
 value_part s names (Yes true) = word (codes "true")
 value_part s names (Yes false) = word (codes "false")
@@ -48,7 +48,7 @@ value_part s names (Acc body n first) =
     ⨟ value_part s names first ⨟ mark (codes ")"))
 
 -- code
-abbrev pub code_part : Scope → List Bytes → PayoffCode → Part
+abbrev pub code_part : DeclaredNames → List Bytes → PayoffCode → Part
 code_part s names Nothing = word (codes "none")
 code_part s names (PayOn x asset from to) =
     word (codes "pay") ⨟ mark (codes "(") ⨟ DatePart s x ⨟ mark (codes ",") ⨟ valued (use_at s.assets) asset

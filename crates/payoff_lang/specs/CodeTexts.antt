@@ -4,30 +4,30 @@ use Rattle.std.specs.Prelude.{ℕ, suc, ◌-◌, true, false, List, [], ◌∷�
 use Rattle.decimal.specs.Text.{text_of}
 use Rattle.term_core.specs.Declarations.{Declarations}
 use Rattle.contract_parse.specs.Words.{Bytes}
-use Rattle.contract_parse.specs.Names.{Scope, scope_of}
+use Rattle.contract_parse.specs.Names.{DeclaredNames, declared_by}
 use Rattle.contract_print.specs.TermTexts.{◌⊕◌, bound_name, comparison_text, connective_text, mode_text, name_at, number_text, operation_head, operation_text}
 use Rattle.payoff_lang.specs.TemplateDates.{Date}
 use Rattle.payoff_lang.specs.Code.{ValueExpression, Lit, Yes, Var, Model, Neg, Num, Cmp, Not, Logic, Cond, Widen, Round, Div, Acc, PayoffCode, Nothing, PayOn, Add, ScaleBy, LetBe, Loop, Cut}
 
 -- the names that code can use
-abbrev pub code_scope : Declarations → Scope
-code_scope d = scope_of d []
+abbrev pub declared_for_code : Declarations → DeclaredNames
+declared_for_code d = declared_by d []
 
 -- the templates of a date, each as often as it stands there
-abbrev pub names_text : Scope → List ℕ → Bytes
+abbrev pub names_text : DeclaredNames → List ℕ → Bytes
 names_text s [] = []
 names_text s (t ∷ ts) = codes " + " ⊕ name_at s.templates t ⊕ names_text s ts
 
 -- a date: its number, and then its templates
-unfoldable pub date_text : Scope → Date → Bytes
+unfoldable pub date_text : DeclaredNames → Date → Bytes
 date_text s x = text_of x.days 0 ⊕ names_text s x.names
 
 -- an observable, on a date of that text
-abbrev pub modelled : Scope → ℕ → Bytes → Bytes
+abbrev pub modelled : DeclaredNames → ℕ → Bytes → Bytes
 modelled s label date = codes "model(" ⊕ name_at s.labels label ⊕ codes ", " ⊕ date ⊕ codes ")"
 
 -- a value expression under n binders
-abbrev pub value_text : Scope → ℕ → ValueExpression → Bytes
+abbrev pub value_text : DeclaredNames → ℕ → ValueExpression → Bytes
 value_text s n (Lit m k) = text_of m k
 value_text s n (Yes true) = codes "true"
 value_text s n (Yes false) = codes "false"
@@ -50,16 +50,16 @@ value_text s n (Acc body days first) =
     ⊕ value_text s n first ⊕ codes ")"
 
 -- what is paid, by whom and to whom
-abbrev pub transfer_text : Scope → ℕ → ℕ → ℕ → Bytes
+abbrev pub transfer_text : DeclaredNames → ℕ → ℕ → ℕ → Bytes
 transfer_text s a p q =
     name_at s.assets a ⊕ codes ", " ⊕ name_at s.parties p ⊕ codes ", " ⊕ name_at s.parties q ⊕ codes ")"
 
 -- what a loop tests, and up to which date
-unfoldable pub test_text : Scope → ℕ → ValueExpression → Date → Bytes
+unfoldable pub test_text : DeclaredNames → ℕ → ValueExpression → Date → Bytes
 test_text s n v x = value_text s n v ⊕ codes " upto " ⊕ date_text s x
 
 -- code under n binders
-abbrev pub code_text : Scope → ℕ → PayoffCode → Bytes
+abbrev pub code_text : DeclaredNames → ℕ → PayoffCode → Bytes
 code_text s n Nothing = codes "none"
 code_text s n (PayOn x a p q) = codes "pay(" ⊕ date_text s x ⊕ codes ", " ⊕ transfer_text s a p q
 code_text s n (Add k l) = codes "add(" ⊕ code_text s n k ⊕ codes ", " ⊕ code_text s n l ⊕ codes ")"

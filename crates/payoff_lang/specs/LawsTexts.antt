@@ -1,13 +1,13 @@
 -- The laws of the canonical texts of code.
 use Rattle.std.specs.Prelude.{ℕ, ◌≡◌, ◌+◌, ◌≤◌, List, []}
 use Rattle.term_core.specs.Declarations.{Declarations}
-use Rattle.contract_parse.specs.Names.{Scope}
+use Rattle.contract_parse.specs.Names.{DeclaredNames}
 use Rattle.contract_print.specs.TermTexts.{expr_text}
 use Rattle.contract_print.specs.Spellable.{AreSpellable}
 use Rattle.contract_print.specs.Spelled.{Spells, bound_names, stops}
 use Rattle.payoff_lang.specs.Code.{ValueExpression, PayoffCode}
 use Rattle.payoff_lang.specs.CodeBooks.{CodeBook}
-use Rattle.payoff_lang.specs.CodeTexts.{code_scope, code_text, value_text}
+use Rattle.payoff_lang.specs.CodeTexts.{code_text, declared_for_code, value_text}
 use Rattle.payoff_lang.specs.CodeSizes.{height_of_code}
 use Rattle.payoff_lang.specs.CodeSpelling.{code_part}
 use Rattle.payoff_lang.specs.CodeCanon.{IsCanonOfCode}
@@ -20,7 +20,7 @@ use Rattle.payoff_lang.specs.WritableCode.{IsWritableCode}
 -- value expressions are written as expressions are, but for the leaf
 abbrev pub ValuesAreWrittenAsExpressions : Type 0
 ValuesAreWrittenAsExpressions =
-    (s : Scope) (n : ℕ) (v : ValueExpression) → expr_text (modelled_at s (with_dates [] v)) n (numbered [] v) ≡ value_text s n v
+    (s : DeclaredNames) (n : ℕ) (v : ValueExpression) → expr_text (modelled_at s (with_dates [] v)) n (numbered [] v) ≡ value_text s n v
 
 -- a code file has a canonical text
 abbrev pub CodeCanonExists : Type 0
@@ -38,7 +38,7 @@ PrintableIsWritable = (d : Declarations) (k : PayoffCode) → IsPrintableCode d 
 abbrev pub CodeIsSpelled : Type 0
 CodeIsSpelled =
     (d : Declarations) (n : ℕ) (k : PayoffCode) → AreSpellable d → IsWellFormedCode d n k → CodeHasNumbersOfTexts k
-    → n + height_of_code k ≤ 999 → Spells stops (code_text (code_scope d) n k) (code_part (code_scope d) (bound_names n) k)
+    → n + height_of_code k ≤ 999 → Spells stops (code_text (declared_for_code d) n k) (code_part (declared_for_code d) (bound_names n) k)
 
 -- the canonical text of a code file is a text of it
 abbrev pub CodeCanonIsText : Type 0

@@ -3,7 +3,7 @@
 use Rattle.std.specs.Prelude.{ℕ, ℤ, pos, negsuc, List, [], ◌∷◌, ◌++◌, length, map, Some, None, slice_get}
 use denote.Ref.{Bor}
 use Rattle.contract_parse.specs.Words.{Bytes}
-use Rattle.contract_parse.specs.Names.{Scope}
+use Rattle.contract_parse.specs.Names.{DeclaredNames}
 use Rattle.term_core.specs.Terms.{Expression, Lit as Lit', Yes as Yes', Var as Var', Obs as Obs', Neg as Neg', Num as Num', Cmp as Cmp', Not as Not', Logic as Logic', Cond as Cond', Widen as Widen', Round as Round', Div as Div', Acc as Acc'}
 use Rattle.payoff_lang.specs.declared.code.DateExpr.{DateExpr}
 use Rattle.payoff_lang.specs.TemplateDates.{Date, date}
@@ -50,10 +50,10 @@ numbered dates (Div m k v w) = Div' m k (numbered dates v) (numbered (with_dates
 numbered dates (Acc body days first) = Acc' (numbered dates body) days (numbered (with_dates dates body) first)
 
 -- the text of the date at a place
-abbrev pub text_at : Scope → List Date → ℤ → Bytes
+abbrev pub text_at : DeclaredNames → List Date → ℤ → Bytes
 text_at s dates (pos i) = elim (slice_get dates i) [ Some x ↦ date_text s x | None ↦ [] ]
 text_at s dates (negsuc i) = []
 
 -- an observable, with the date at a place
-abbrev pub modelled_at : Scope → List Date → ℕ → ℤ → Bytes
+abbrev pub modelled_at : DeclaredNames → List Date → ℕ → ℤ → Bytes
 modelled_at s dates label place = modelled s label (text_at s dates place)

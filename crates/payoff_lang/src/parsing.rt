@@ -6,7 +6,7 @@ ghost use Rattle.contract_parse.specs.Names.{nothing_declared};
 ghost use Rattle.contract_parse.specs.Judgements.{is_version, new_at};
 ghost use Rattle.contract_parse.specs.Spelling.{end, mark, one, valued, word, ◌⨟◌};
 ghost use Rattle.contract_parse.specs.Places.{AmountAt, Leaves, NewIn, Open, Place, TheEnd, TheMark, TheVersion, TheWord, code_text_places, run};
-ghost use Rattle.contract_parse.specs.Reading.{scope_in, tokens_ahead};
+ghost use Rattle.contract_parse.specs.Reading.{declared_in, tokens_ahead};
 ghost use Rattle.contract_parse.specs.Readers.{Declares, Passes, PassesAnywhere, Spelled, SpelledBehind};
 ghost use Rattle.contract_parse.specs.declared.names.NameSet.TheVariants.{Contract};
 ghost use Rattle.payoff_lang.specs.Code.{payoff_code};
@@ -14,7 +14,7 @@ ghost use Rattle.payoff_lang.specs.CodeSizes.{height_of_code, nodes_of_code};
 ghost use Rattle.payoff_lang.specs.CodeBooks.{code_book};
 ghost use Rattle.payoff_lang.specs.CodeFiles.{code_file, code_line};
 ghost use Rattle.payoff_lang.specs.CodeSpelling.{code_part};
-ghost use Rattle.payoff_lang.specs.CodeTexts.{code_scope};
+ghost use Rattle.payoff_lang.specs.CodeTexts.{declared_for_code};
 ghost use Rattle.payoff_lang.specs.CodeAnswers.{CodeAnswers};
 ghost use Rattle.payoff_lang.specs.WellFormedCode.{IsClosedCode};
 ghost use Rattle.payoff_lang.specs.PrintableCode.{CodeHasNumbersOfTexts};
@@ -50,7 +50,7 @@ fn read_definition<'a>(
     ensures follows { Passes decls.now (λ r. r.1.now)
         (λ s ps. TheMark (codes "=") ∷ AmountAt 1 [] ∷ TheMark (codes ";") ∷ ps) rest.now result }
     ensures spelled { IfOk result
-        (λ r. Spelled (mark (codes "=") ⨟ code_part (scope_in decls.now []) [] (payoff_code r.0) ⨟ mark (codes ";")) rest.now r.1.now) }
+        (λ r. Spelled (mark (codes "=") ⨟ code_part (declared_in decls.now []) [] (payoff_code r.0) ⨟ mark (codes ";")) rest.now r.1.now) }
     ensures high { IfOk result (λ r. height_of_code (payoff_code r.0) ≤ 400) }
     ensures shorter { IfOk result (λ r. length r.1.now < length rest.now) }
 {
@@ -66,10 +66,11 @@ fn read_named_code<'a>(
     decls: &Decls,
     rest: &'a [u8],
 ) -> Result<(Name, Code, &'a [u8]), ReadErr>
-    ensures follows { (ps : List Place) → Leaves (λ r. run (scope_in decls.now (r.0 ∷ [])) ps (tokens r.2.now)) result
-        (run (scope_in decls.now []) (NewIn Contract ∷ TheMark (codes "=") ∷ AmountAt 1 [] ∷ TheMark (codes ";") ∷ ps) (tokens rest.now)) }
+    ensures follows { (ps : List Place) → Leaves (λ r. run (declared_in decls.now (r.0 ∷ [])) ps (tokens r.2.now)) result
+        (run (declared_in decls.now []) (NewIn Contract ∷ TheMark (codes "=") ∷ AmountAt 1 [] ∷ TheMark (codes ";") ∷ ps)
+        (tokens rest.now)) }
     ensures spelled { IfOk result (λ r.
-        SpelledBehind (codes "code") (code_line (code_scope (declarations decls.now)) r.0 (payoff_code r.1)) rest.now r.2.now) }
+        SpelledBehind (codes "code") (code_line (declared_for_code (declarations decls.now)) r.0 (payoff_code r.1)) rest.now r.2.now) }
     ensures shorter { IfOk result (λ r. length r.2.now < length rest.now) }
 {
     let (name, rest) = read_name(alloc, rest)?;
@@ -83,11 +84,11 @@ fn read_code_line<'a>(
     decls: &Decls,
     ahead: &Lookahead<'a>,
 ) -> Result<(Name, Code, &'a [u8]), ReadErr>
-    ensures follows { (ps : List Place) → Leaves (λ r. run (scope_in decls.now (r.0 ∷ [])) ps (tokens r.2.now)) result
-        (run (scope_in decls.now []) (TheWord (codes "code") ∷ NewIn Contract ∷ TheMark (codes "=") ∷ AmountAt 1 []
+    ensures follows { (ps : List Place) → Leaves (λ r. run (declared_in decls.now (r.0 ∷ [])) ps (tokens r.2.now)) result
+        (run (declared_in decls.now []) (TheWord (codes "code") ∷ NewIn Contract ∷ TheMark (codes "=") ∷ AmountAt 1 []
         ∷ TheMark (codes ";") ∷ ps) (tokens_ahead ahead.now)) }
     ensures spelled { IfOk result
-        (λ r. code_line (code_scope (declarations decls.now)) r.0 (payoff_code r.1) (tokens_ahead ahead.now) (tokens r.2.now)) }
+        (λ r. code_line (declared_for_code (declarations decls.now)) r.0 (payoff_code r.1) (tokens_ahead ahead.now) (tokens r.2.now)) }
 {
     match after_word(ahead, b"code") {
         Some(rest) => read_named_code(alloc, decls, rest),
@@ -102,10 +103,10 @@ fn read_code<'a>(
     ahead: &Lookahead<'a>,
 ) -> Result<(Name, Code), ReadErr>
     ensures follows { Leaves (λ r. Open []) result
-        (run (scope_in decls.now []) (TheWord (codes "code") ∷ NewIn Contract ∷ TheMark (codes "=") ∷ AmountAt 1 []
+        (run (declared_in decls.now []) (TheWord (codes "code") ∷ NewIn Contract ∷ TheMark (codes "=") ∷ AmountAt 1 []
         ∷ TheMark (codes ";") ∷ TheEnd ∷ []) (tokens_ahead ahead.now)) }
     ensures spelled { IfOk result
-        (λ r. (code_line (code_scope (declarations decls.now)) r.0 (payoff_code r.1) ⨟ end) (tokens_ahead ahead.now) []) }
+        (λ r. (code_line (declared_for_code (declarations decls.now)) r.0 (payoff_code r.1) ⨟ end) (tokens_ahead ahead.now) []) }
 {
     let (name, code, rest) = read_code_line(alloc, decls, ahead)?;
     read_end(&look(rest))?;

@@ -8,7 +8,7 @@ ghost use Rattle.payoff_lang.specs.Dating.{plain};
 ghost use Rattle.payoff_lang.specs.Code.{value_expression, payoff_code};
 ghost use Rattle.payoff_lang.specs.CodeBooks.{code_book};
 ghost use Rattle.payoff_lang.specs.CodeSizes.{height_of_code};
-ghost use Rattle.payoff_lang.specs.CodeTexts.{code_scope, code_text, date_text, names_text, test_text, transfer_text, value_text};
+ghost use Rattle.payoff_lang.specs.CodeTexts.{code_text, date_text, declared_for_code, names_text, test_text, transfer_text, value_text};
 ghost use Rattle.payoff_lang.specs.CodeCanon.{AppendsCode, code_book_text, code_header_text, code_line_text};
 ghost use Rattle.payoff_lang.specs.Numbered.{dates_lent, modelled_at, text_at};
 ghost use Rattle.payoff_lang.specs.WritableCode.{IsWritableCode, IsWritableUnder, IsWritableValue};
@@ -26,7 +26,7 @@ use term_core::Decls;
 
 // The templates of a date.
 fn append_templates(out: &mut Vec<u8>, decls: &Decls, names: &[u32]) -> Result<(), NoMemory>
-    ensures { OnOk result (out.new.items ≡ out.old.items ++ names_text (code_scope (declarations decls.now)) names.now) }
+    ensures { OnOk result (out.new.items ≡ out.old.items ++ names_text (declared_for_code (declarations decls.now)) names.now) }
 {
     for name in names {
         append(out, b" + ")?;
@@ -43,7 +43,7 @@ fn append_date(
     decls: &Decls,
     on: &DateExpr,
 ) -> Result<(), NoMemory>
-    ensures { OnOk result (out.new.items ≡ out.old.items ++ date_text (code_scope (declarations decls.now)) (date on.now)) }
+    ensures { OnOk result (out.new.items ≡ out.old.items ++ date_text (declared_for_code (declarations decls.now)) (date on.now)) }
 {
     write(alloc, out, on.days as i128, 0)?;
     append_templates(out, decls, &on.names)
@@ -64,7 +64,7 @@ fn append_date_at(
     place: i32,
 ) -> Result<(), NoMemory>
     ensures { OnOk result (out.new.items ≡ out.old.items
-        ++ text_at (code_scope (declarations models.now.decls.now)) (dates_lent models.now.dates.now) place) }
+        ++ text_at (declared_for_code (declarations models.now.decls.now)) (dates_lent models.now.dates.now) place) }
 {
     let Ok(place) = usize::try_from(place) else {
         return Ok(());
@@ -76,7 +76,7 @@ fn append_date_at(
 }
 
 impl<'a> Leaf for Models<'a> {
-    ghost text = { λ m label place. modelled_at (code_scope (declarations m.decls.now)) (dates_lent m.dates.now) label place };
+    ghost text = { λ m label place. modelled_at (declared_for_code (declarations m.decls.now)) (dates_lent m.dates.now) label place };
 
     fn append_leaf(
         &self,
@@ -104,7 +104,7 @@ fn append_value(
     requires writable { IsWritableValue binders (value_expression v.now) }
     requires low { binders + height (plain (value_expression v.now)) ≤ 1_000 }
     ensures { OnOk result (out.new.items ≡ out.old.items
-        ++ value_text (code_scope (declarations decls.now)) binders (value_expression v.now)) }
+        ++ value_text (declared_for_code (declarations decls.now)) binders (value_expression v.now)) }
 {
     let mut dates = Vec::new(alloc);
     let e = number_dates(alloc, v, &mut dates)?;
@@ -123,7 +123,7 @@ fn append_transfer(
     from: u32,
     to: u32,
 ) -> Result<(), NoMemory>
-    ensures { OnOk result (out.new.items ≡ out.old.items ++ transfer_text (code_scope (declarations decls.now)) asset from to) }
+    ensures { OnOk result (out.new.items ≡ out.old.items ++ transfer_text (declared_for_code (declarations decls.now)) asset from to) }
 {
     append_name(out, &decls.assets, asset)?;
     append(out, b", ")?;
@@ -146,7 +146,7 @@ fn append_test(
     requires writable { IsWritableValue binders (value_expression test.now) }
     requires low { binders + height (plain (value_expression test.now)) ≤ 1_000 }
     ensures { OnOk result (out.new.items ≡ out.old.items
-        ++ test_text (code_scope (declarations decls.now)) binders (value_expression test.now) (date upto.now)) }
+        ++ test_text (declared_for_code (declarations decls.now)) binders (value_expression test.now) (date upto.now)) }
 {
     append_value(alloc, out, decls, binders, test)?;
     append(out, b" upto ")?;
@@ -164,7 +164,7 @@ fn append_code(
     requires writable { IsWritableUnder binders (payoff_code code.now) }
     requires low { binders + height_of_code (payoff_code code.now) ≤ 1_000 }
     ensures { OnOk result (out.new.items ≡ out.old.items
-        ++ code_text (code_scope (declarations decls.now)) binders (payoff_code code.now)) }
+        ++ code_text (declared_for_code (declarations decls.now)) binders (payoff_code code.now)) }
 {
     match code {
         Code::None => append(out, b"none"),
@@ -236,7 +236,7 @@ fn append_header(out: &mut Vec<u8>) -> Result<(), NoMemory>
 fn append_code_line(alloc: Global, out: &mut Vec<u8>, file: &CodeFile) -> Result<(), NoMemory>
     requires { IsWritableCode (code_book file.now).code }
     ensures { OnOk result (out.new.items ≡ out.old.items
-        ++ code_line_text (code_scope (code_book file.now).declarations) (code_book file.now).name (code_book file.now).code) }
+        ++ code_line_text (declared_for_code (code_book file.now).declarations) (code_book file.now).name (code_book file.now).code) }
 {
     append(out, b"code ")?;
     append(out, file.name.text())?;

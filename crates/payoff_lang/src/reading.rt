@@ -6,7 +6,7 @@ ghost use Rattle.contract_parse.specs.Names.{names_in};
 ghost use Rattle.contract_parse.specs.Judgements.{use_at};
 ghost use Rattle.contract_parse.specs.Spelling.{mark, valued, word, ◌⨟◌};
 ghost use Rattle.contract_parse.specs.Places.{AmountAt, ExprAt, TheMark, TheWord, UseOf, amount_places, date_places};
-ghost use Rattle.contract_parse.specs.Reading.{scope_in};
+ghost use Rattle.contract_parse.specs.Reading.{declared_in};
 ghost use Rattle.contract_parse.specs.Readers.{Passes, PassesAnywhere, Spelled, SpelledBehind, SpelledBehindPart};
 ghost use Rattle.contract_parse.specs.declared.heads.Language.{Language};
 ghost use Rattle.contract_parse.specs.declared.heads.AmountHead.{AmountHead};
@@ -52,9 +52,9 @@ fn read_transfer<'a>(decls: &Decls, rest: &'a [u8]) -> Result<(u32, u32, u32, &'
         (λ s ps. TheMark (codes ",") ∷ UseOf s.assets ∷ TheMark (codes ",") ∷ UseOf s.parties ∷ TheMark (codes ",") ∷ UseOf s.parties
         ∷ TheMark (codes ")") ∷ ps) rest.now result }
     ensures spelled { IfOk result
-        (λ r. Spelled (mark (codes ",") ⨟ valued (use_at (scope_in decls.now []).assets) r.0 ⨟ mark (codes ",")
-        ⨟ valued (use_at (scope_in decls.now []).parties) r.1 ⨟ mark (codes ",")
-        ⨟ valued (use_at (scope_in decls.now []).parties) r.2 ⨟ mark (codes ")")) rest.now r.3.now) }
+        (λ r. Spelled (mark (codes ",") ⨟ valued (use_at (declared_in decls.now []).assets) r.0 ⨟ mark (codes ",")
+        ⨟ valued (use_at (declared_in decls.now []).parties) r.1 ⨟ mark (codes ",")
+        ⨟ valued (use_at (declared_in decls.now []).parties) r.2 ⨟ mark (codes ")")) rest.now r.3.now) }
     ensures shorter { IfOk result (λ r. length r.3.now ≤ length rest.now) }
 {
     let (asset, rest) = read_use_behind(b",", &decls.assets, rest)?;
@@ -102,7 +102,7 @@ fn read_pay<'a>(alloc: Global, decls: &Decls, rest: &'a [u8]) -> Result<(Code, &
     ensures follows { (depth : ℕ) (names : List Bytes) → Passes decls.now (λ r. r.1.now)
         (λ s ps. amount_places s depth names AmountHead.Pay ps) rest.now result }
     ensures spelled { IfOk result (λ r. (names : List Bytes) →
-        SpelledBehind (codes "pay") (code_part (scope_in decls.now []) names (payoff_code r.0)) rest.now r.1.now) }
+        SpelledBehind (codes "pay") (code_part (declared_in decls.now []) names (payoff_code r.0)) rest.now r.1.now) }
     ensures high { IfOk result (λ r. height_of_code (payoff_code r.0) ≡ 1) }
     ensures shorter { IfOk result (λ r. length r.1.now ≤ length rest.now) }
 {

@@ -5,7 +5,7 @@ use Rattle.contract_parse.specs.Tokens.{tokens}
 use Rattle.contract_parse.specs.Names.{names_in}
 use Rattle.contract_parse.specs.Heads.{head_at}
 use Rattle.contract_parse.specs.Places.{ContrAt, DaysAt, ExprAt, Next, TheMark, TheWord, contr_places}
-use Rattle.contract_parse.specs.Reading.{scope_in, tok_of}
+use Rattle.contract_parse.specs.Reading.{declared_in, tok_of}
 use Rattle.contract_parse.specs.declared.heads.Head.TheVariants as Head
 use Rattle.contract_parse.specs.declared.heads.Language.{Language}
 use Rattle.contract_parse.specs.declared.heads.Binder.TheVariants as binder
@@ -15,11 +15,11 @@ use Rattle.contract_parse.proofs.Steps.{passes, refuses, takes}
 use Rattle.contract_parse.proofs.contrs.+contr.Goals as goal
 
 pub read_contr-returns-in-Err-clause-follows : goal.read_contr-returns-in-Err-clause-follows
-read_contr-returns-in-Err-clause-follows t c cs ps = rw c.refuse.ensures (refuses (head_at c.args.depth) (scope_in c.args.decls.now cs) (ContrAt c.args.depth (names_in c.args.bound.now) ∷ ps) (λ head. Next (scope_in c.args.decls.now cs) (contr_places (scope_in c.args.decls.now cs) c.args.depth (names_in c.args.bound.now) head ps)) c.in-Err.kind (tok_of c.next.result.0) c.args.rest.now c.next.result.1.now c.next.ensures.starts c.in-Err.ensures refl)
+read_contr-returns-in-Err-clause-follows t c cs ps = rw c.refuse.ensures (refuses (head_at c.args.depth) (declared_in c.args.decls.now cs) (ContrAt c.args.depth (names_in c.args.bound.now) ∷ ps) (λ head. Next (declared_in c.args.decls.now cs) (contr_places (declared_in c.args.decls.now cs) c.args.depth (names_in c.args.bound.now) head ps)) c.in-Err.kind (tok_of c.next.result.0) c.args.rest.now c.next.result.1.now c.next.ensures.starts c.in-Err.ensures refl)
 
 pub read_contr-returns-in-Ok-clause-follows : goal.read_contr-returns-in-Ok-clause-follows
 read_contr-returns-in-Ok-clause-follows t c cs ps =
-    let s = scope_in c.args.decls.now cs in
+    let s = declared_in c.args.decls.now cs in
     let names = names_in c.args.bound.now in
     rw (passes (head_at c.args.depth) (λ text left. (refl, refl)) s s (ContrAt c.args.depth names ∷ ps)
     (contr_places s c.args.depth names c.in-Ok.head ps) (λ head. Next s (contr_places s c.args.depth names head ps)) c.in-Ok.head
@@ -60,10 +60,10 @@ read_boxed-returns-clause-spelled t c =
 pub read_behind_mark-returns-in_err-rest-clause-follows : goal.read_behind_mark-returns-in_err-rest-clause-follows
 read_behind_mark-returns-in_err-rest-clause-follows t c cs ps =
     let p = err_from_is_err_and c.from_residual.result c.from_residual.ensures.1 in
-    rw (p.1, p.2) (c.in_err-rest.ensures.follows (scope_in c.args.decls.now cs) (ContrAt (c.args.depth + 1) (names_in c.args.bound.now) ∷ ps))
+    rw (p.1, p.2) (c.in_err-rest.ensures.follows (declared_in c.args.decls.now cs) (ContrAt (c.args.depth + 1) (names_in c.args.bound.now) ∷ ps))
 
 pub read_behind_mark-returns-clause-follows : goal.read_behind_mark-returns-clause-follows
-read_behind_mark-returns-clause-follows t c cs ps = rw (c.in_ok-rest.ensures.follows (scope_in c.args.decls.now cs) (ContrAt (c.args.depth + 1) (names_in c.args.bound.now) ∷ ps)) (c.read_boxed.ensures.follows cs ps)
+read_behind_mark-returns-clause-follows t c cs ps = rw (c.in_ok-rest.ensures.follows (declared_in c.args.decls.now cs) (ContrAt (c.args.depth + 1) (names_in c.args.bound.now) ∷ ps)) (c.read_boxed.ensures.follows cs ps)
 
 pub read_behind_mark-returns-clause-spelled : goal.read_behind_mark-returns-clause-spelled
 read_behind_mark-returns-clause-spelled t c = IfOk-weaker c.read_boxed.result _ _ (λ r h. followed_by (tokens c.in_ok-rest.rest.now) c.in_ok-rest.ensures.spelled h) c.read_boxed.ensures.spelled
@@ -71,10 +71,10 @@ read_behind_mark-returns-clause-spelled t c = IfOk-weaker c.read_boxed.result _ 
 pub read_behind_word-returns-in_err-rest-clause-follows : goal.read_behind_word-returns-in_err-rest-clause-follows
 read_behind_word-returns-in_err-rest-clause-follows t c cs ps =
     let p = err_from_is_err_and c.from_residual.result c.from_residual.ensures.1 in
-    rw (p.1, p.2) (c.in_err-rest.ensures.follows (scope_in c.args.decls.now cs) (ContrAt (c.args.depth + 1) (names_in c.args.bound.now) ∷ ps))
+    rw (p.1, p.2) (c.in_err-rest.ensures.follows (declared_in c.args.decls.now cs) (ContrAt (c.args.depth + 1) (names_in c.args.bound.now) ∷ ps))
 
 pub read_behind_word-returns-clause-follows : goal.read_behind_word-returns-clause-follows
-read_behind_word-returns-clause-follows t c cs ps = rw (c.in_ok-rest.ensures.follows (scope_in c.args.decls.now cs) (ContrAt (c.args.depth + 1) (names_in c.args.bound.now) ∷ ps)) (c.read_boxed.ensures.follows cs ps)
+read_behind_word-returns-clause-follows t c cs ps = rw (c.in_ok-rest.ensures.follows (declared_in c.args.decls.now cs) (ContrAt (c.args.depth + 1) (names_in c.args.bound.now) ∷ ps)) (c.read_boxed.ensures.follows cs ps)
 
 pub read_behind_word-returns-clause-spelled : goal.read_behind_word-returns-clause-spelled
 read_behind_word-returns-clause-spelled t c = IfOk-weaker c.read_boxed.result _ _ (λ r h. followed_by (tokens c.in_ok-rest.rest.now) c.in_ok-rest.ensures.spelled h) c.read_boxed.ensures.spelled
@@ -118,13 +118,13 @@ read_both-returns-in_err-rest-clause-follows t c cs ps =
     let before =
     c.in_ok-left.ensures.follows cs (TheMark (codes ",") ∷ ContrAt (c.args.depth + 1) (names_in c.args.bound.now) ∷ TheMark (codes ")") ∷ ps)
     ∙ c.in_ok-right.ensures.follows cs (TheMark (codes ")") ∷ ps) in
-    rw (p.1, p.2, before) (c.in_err-rest.ensures.follows (scope_in c.args.decls.now cs) ps)
+    rw (p.1, p.2, before) (c.in_err-rest.ensures.follows (declared_in c.args.decls.now cs) ps)
 
 pub read_both-returns-clause-follows : goal.read_both-returns-clause-follows
 read_both-returns-clause-follows t c cs ps =
     c.in_ok-left.ensures.follows cs (TheMark (codes ",") ∷ ContrAt (c.args.depth + 1) (names_in c.args.bound.now) ∷ TheMark (codes ")") ∷ ps)
     ∙ c.in_ok-right.ensures.follows cs (TheMark (codes ")") ∷ ps)
-    ∙ c.in_ok-rest.ensures.follows (scope_in c.args.decls.now cs) ps
+    ∙ c.in_ok-rest.ensures.follows (declared_in c.args.decls.now cs) ps
 
 pub read_both-returns-clause-spelled : goal.read_both-returns-clause-spelled
 read_both-returns-clause-spelled t c ts first =
@@ -150,13 +150,13 @@ read_scaled-returns-in_err-rest-clause-follows t c cs ps =
     let before =
     c.in_ok-factor.ensures.follows cs (TheMark (codes ",") ∷ ContrAt (c.args.depth + 1) (names_in c.args.bound.now) ∷ TheMark (codes ")") ∷ ps)
     ∙ c.in_ok-body.ensures.follows cs (TheMark (codes ")") ∷ ps) in
-    rw (p.1, p.2, before) (c.in_err-rest.ensures.follows (scope_in c.args.decls.now cs) ps)
+    rw (p.1, p.2, before) (c.in_err-rest.ensures.follows (declared_in c.args.decls.now cs) ps)
 
 pub read_scaled-returns-clause-follows : goal.read_scaled-returns-clause-follows
 read_scaled-returns-clause-follows t c cs ps =
     c.in_ok-factor.ensures.follows cs (TheMark (codes ",") ∷ ContrAt (c.args.depth + 1) (names_in c.args.bound.now) ∷ TheMark (codes ")") ∷ ps)
     ∙ c.in_ok-body.ensures.follows cs (TheMark (codes ")") ∷ ps)
-    ∙ c.in_ok-rest.ensures.follows (scope_in c.args.decls.now cs) ps
+    ∙ c.in_ok-rest.ensures.follows (declared_in c.args.decls.now cs) ps
 
 pub read_scaled-returns-clause-spelled : goal.read_scaled-returns-clause-spelled
 read_scaled-returns-clause-spelled t c ts first =
@@ -167,38 +167,38 @@ read_scaled-returns-clause-spelled t c ts first =
 pub read_after-returns-in_err-rest-clause-follows : goal.read_after-returns-in_err-rest-clause-follows
 read_after-returns-in_err-rest-clause-follows t c cs ps =
     let p = err_from_is_err_and c.from_residual.result c.from_residual.ensures.1 in
-    rw (p.1, p.2) (c.in_err-rest.ensures.follows (scope_in c.args.decls.now cs) (DaysAt (scope_in c.args.decls.now cs).templates ∷ TheMark (codes ",") ∷ ContrAt (c.args.depth + 1) (names_in c.args.bound.now) ∷ TheMark (codes ")") ∷ ps))
+    rw (p.1, p.2) (c.in_err-rest.ensures.follows (declared_in c.args.decls.now cs) (DaysAt (declared_in c.args.decls.now cs).templates ∷ TheMark (codes ",") ∷ ContrAt (c.args.depth + 1) (names_in c.args.bound.now) ∷ TheMark (codes ")") ∷ ps))
 
 pub read_after-returns-in_err-days-clause-follows : goal.read_after-returns-in_err-days-clause-follows
 read_after-returns-in_err-days-clause-follows t c cs ps =
     let p = err_from_is_err_and c.from_residual-in_err-days.result c.from_residual-in_err-days.ensures.1 in
     let before =
-    c.in_ok-rest.ensures.follows (scope_in c.args.decls.now cs) (DaysAt (scope_in c.args.decls.now cs).templates ∷ TheMark (codes ",") ∷ ContrAt (c.args.depth + 1) (names_in c.args.bound.now) ∷ TheMark (codes ")") ∷ ps) in
-    rw (p.1, p.2, before) (c.in_err-days.ensures.follows (scope_in c.args.decls.now cs) (TheMark (codes ",") ∷ ContrAt (c.args.depth + 1) (names_in c.args.bound.now) ∷ TheMark (codes ")") ∷ ps))
+    c.in_ok-rest.ensures.follows (declared_in c.args.decls.now cs) (DaysAt (declared_in c.args.decls.now cs).templates ∷ TheMark (codes ",") ∷ ContrAt (c.args.depth + 1) (names_in c.args.bound.now) ∷ TheMark (codes ")") ∷ ps) in
+    rw (p.1, p.2, before) (c.in_err-days.ensures.follows (declared_in c.args.decls.now cs) (TheMark (codes ",") ∷ ContrAt (c.args.depth + 1) (names_in c.args.bound.now) ∷ TheMark (codes ")") ∷ ps))
 
 pub read_after-returns-in_err-body-clause-follows : goal.read_after-returns-in_err-body-clause-follows
 read_after-returns-in_err-body-clause-follows t c cs ps =
     let p = err_from_is_err_and c.from_residual-in_err-body.result c.from_residual-in_err-body.ensures.1 in
     let before =
-    c.in_ok-rest.ensures.follows (scope_in c.args.decls.now cs) (DaysAt (scope_in c.args.decls.now cs).templates ∷ TheMark (codes ",") ∷ ContrAt (c.args.depth + 1) (names_in c.args.bound.now) ∷ TheMark (codes ")") ∷ ps)
-    ∙ c.in_ok-days.ensures.follows (scope_in c.args.decls.now cs) (TheMark (codes ",") ∷ ContrAt (c.args.depth + 1) (names_in c.args.bound.now) ∷ TheMark (codes ")") ∷ ps) in
+    c.in_ok-rest.ensures.follows (declared_in c.args.decls.now cs) (DaysAt (declared_in c.args.decls.now cs).templates ∷ TheMark (codes ",") ∷ ContrAt (c.args.depth + 1) (names_in c.args.bound.now) ∷ TheMark (codes ")") ∷ ps)
+    ∙ c.in_ok-days.ensures.follows (declared_in c.args.decls.now cs) (TheMark (codes ",") ∷ ContrAt (c.args.depth + 1) (names_in c.args.bound.now) ∷ TheMark (codes ")") ∷ ps) in
     rw (p.1, p.2, before) (c.in_err-body.ensures.follows cs (TheMark (codes ")") ∷ ps))
 
 pub read_after-returns-in_err-rest-2-clause-follows : goal.read_after-returns-in_err-rest-2-clause-follows
 read_after-returns-in_err-rest-2-clause-follows t c cs ps =
     let p = err_from_is_err_and c.from_residual-in_err-rest-2.result c.from_residual-in_err-rest-2.ensures.1 in
     let before =
-    c.in_ok-rest.ensures.follows (scope_in c.args.decls.now cs) (DaysAt (scope_in c.args.decls.now cs).templates ∷ TheMark (codes ",") ∷ ContrAt (c.args.depth + 1) (names_in c.args.bound.now) ∷ TheMark (codes ")") ∷ ps)
-    ∙ c.in_ok-days.ensures.follows (scope_in c.args.decls.now cs) (TheMark (codes ",") ∷ ContrAt (c.args.depth + 1) (names_in c.args.bound.now) ∷ TheMark (codes ")") ∷ ps)
+    c.in_ok-rest.ensures.follows (declared_in c.args.decls.now cs) (DaysAt (declared_in c.args.decls.now cs).templates ∷ TheMark (codes ",") ∷ ContrAt (c.args.depth + 1) (names_in c.args.bound.now) ∷ TheMark (codes ")") ∷ ps)
+    ∙ c.in_ok-days.ensures.follows (declared_in c.args.decls.now cs) (TheMark (codes ",") ∷ ContrAt (c.args.depth + 1) (names_in c.args.bound.now) ∷ TheMark (codes ")") ∷ ps)
     ∙ c.in_ok-body.ensures.follows cs (TheMark (codes ")") ∷ ps) in
-    rw (p.1, p.2, before) (c.in_err-rest-2.ensures.follows (scope_in c.args.decls.now cs) ps)
+    rw (p.1, p.2, before) (c.in_err-rest-2.ensures.follows (declared_in c.args.decls.now cs) ps)
 
 pub read_after-returns-clause-follows : goal.read_after-returns-clause-follows
 read_after-returns-clause-follows t c cs ps =
-    c.in_ok-rest.ensures.follows (scope_in c.args.decls.now cs) (DaysAt (scope_in c.args.decls.now cs).templates ∷ TheMark (codes ",") ∷ ContrAt (c.args.depth + 1) (names_in c.args.bound.now) ∷ TheMark (codes ")") ∷ ps)
-    ∙ c.in_ok-days.ensures.follows (scope_in c.args.decls.now cs) (TheMark (codes ",") ∷ ContrAt (c.args.depth + 1) (names_in c.args.bound.now) ∷ TheMark (codes ")") ∷ ps)
+    c.in_ok-rest.ensures.follows (declared_in c.args.decls.now cs) (DaysAt (declared_in c.args.decls.now cs).templates ∷ TheMark (codes ",") ∷ ContrAt (c.args.depth + 1) (names_in c.args.bound.now) ∷ TheMark (codes ")") ∷ ps)
+    ∙ c.in_ok-days.ensures.follows (declared_in c.args.decls.now cs) (TheMark (codes ",") ∷ ContrAt (c.args.depth + 1) (names_in c.args.bound.now) ∷ TheMark (codes ")") ∷ ps)
     ∙ c.in_ok-body.ensures.follows cs (TheMark (codes ")") ∷ ps)
-    ∙ c.in_ok-rest-2.ensures.follows (scope_in c.args.decls.now cs) ps
+    ∙ c.in_ok-rest-2.ensures.follows (declared_in c.args.decls.now cs) ps
 
 pub read_after-returns-clause-spelled : goal.read_after-returns-clause-spelled
 read_after-returns-clause-spelled t c ts first =
@@ -210,36 +210,36 @@ read_after-returns-clause-spelled t c ts first =
 pub read_let-returns-in_err-name-clause-follows : goal.read_let-returns-in_err-name-clause-follows
 read_let-returns-in_err-name-clause-follows t c cs ps =
     let p = err_from_is_err_and c.from_residual.result c.from_residual.ensures.1 in
-    rw (p.1, p.2) (c.in_err-name.ensures.follows binder.Let Language.Contracts c.args.depth (names_in c.args.bound.now) (scope_in c.args.decls.now cs) ps)
+    rw (p.1, p.2) (c.in_err-name.ensures.follows binder.Let Language.Contracts c.args.depth (names_in c.args.bound.now) (declared_in c.args.decls.now cs) ps)
 
 pub read_let-returns-in_err-rest-clause-follows : goal.read_let-returns-in_err-rest-clause-follows
 read_let-returns-in_err-rest-clause-follows t c cs ps =
     let p = err_from_is_err_and c.from_residual-in_err-rest.result c.from_residual-in_err-rest.ensures.1 in
     let before =
-    c.in_ok-name.ensures.follows binder.Let Language.Contracts c.args.depth (names_in c.args.bound.now) (scope_in c.args.decls.now cs) ps in
-    rw (p.1, p.2, before) (c.in_err-rest.ensures.follows (scope_in c.args.decls.now cs) (ExprAt Language.Contracts (c.args.depth + 1) (names_in c.args.bound.now) ∷ TheWord (codes "in") ∷ ContrAt (c.args.depth + 1) (c.in_ok-name.name.now ∷ (names_in c.args.bound.now)) ∷ ps))
+    c.in_ok-name.ensures.follows binder.Let Language.Contracts c.args.depth (names_in c.args.bound.now) (declared_in c.args.decls.now cs) ps in
+    rw (p.1, p.2, before) (c.in_err-rest.ensures.follows (declared_in c.args.decls.now cs) (ExprAt Language.Contracts (c.args.depth + 1) (names_in c.args.bound.now) ∷ TheWord (codes "in") ∷ ContrAt (c.args.depth + 1) (c.in_ok-name.name.now ∷ (names_in c.args.bound.now)) ∷ ps))
 
 pub read_let-returns-in_err-value-clause-follows : goal.read_let-returns-in_err-value-clause-follows
 read_let-returns-in_err-value-clause-follows t c cs ps =
     let p = err_from_is_err_and c.from_residual-in_err-value.result c.from_residual-in_err-value.ensures.1 in
     let before =
-    c.in_ok-name.ensures.follows binder.Let Language.Contracts c.args.depth (names_in c.args.bound.now) (scope_in c.args.decls.now cs) ps
-    ∙ c.in_ok-rest.ensures.follows (scope_in c.args.decls.now cs) (ExprAt Language.Contracts (c.args.depth + 1) (names_in c.args.bound.now) ∷ TheWord (codes "in") ∷ ContrAt (c.args.depth + 1) (c.in_ok-name.name.now ∷ (names_in c.args.bound.now)) ∷ ps) in
+    c.in_ok-name.ensures.follows binder.Let Language.Contracts c.args.depth (names_in c.args.bound.now) (declared_in c.args.decls.now cs) ps
+    ∙ c.in_ok-rest.ensures.follows (declared_in c.args.decls.now cs) (ExprAt Language.Contracts (c.args.depth + 1) (names_in c.args.bound.now) ∷ TheWord (codes "in") ∷ ContrAt (c.args.depth + 1) (c.in_ok-name.name.now ∷ (names_in c.args.bound.now)) ∷ ps) in
     rw (p.1, p.2, before) (c.in_err-value.ensures.follows cs (TheWord (codes "in") ∷ ContrAt (c.args.depth + 1) (c.in_ok-name.name.now ∷ (names_in c.args.bound.now)) ∷ ps))
 
 pub read_let-returns-in_err-body-clause-follows : goal.read_let-returns-in_err-body-clause-follows
 read_let-returns-in_err-body-clause-follows t c cs ps =
     let p = err_from_is_err_and c.from_residual-in_err-body.result c.from_residual-in_err-body.ensures.1 in
     let before =
-    c.in_ok-name.ensures.follows binder.Let Language.Contracts c.args.depth (names_in c.args.bound.now) (scope_in c.args.decls.now cs) ps
-    ∙ c.in_ok-rest.ensures.follows (scope_in c.args.decls.now cs) (ExprAt Language.Contracts (c.args.depth + 1) (names_in c.args.bound.now) ∷ TheWord (codes "in") ∷ ContrAt (c.args.depth + 1) (c.in_ok-name.name.now ∷ (names_in c.args.bound.now)) ∷ ps)
+    c.in_ok-name.ensures.follows binder.Let Language.Contracts c.args.depth (names_in c.args.bound.now) (declared_in c.args.decls.now cs) ps
+    ∙ c.in_ok-rest.ensures.follows (declared_in c.args.decls.now cs) (ExprAt Language.Contracts (c.args.depth + 1) (names_in c.args.bound.now) ∷ TheWord (codes "in") ∷ ContrAt (c.args.depth + 1) (c.in_ok-name.name.now ∷ (names_in c.args.bound.now)) ∷ ps)
     ∙ c.in_ok-value.ensures.follows cs (TheWord (codes "in") ∷ ContrAt (c.args.depth + 1) (c.in_ok-name.name.now ∷ (names_in c.args.bound.now)) ∷ ps) in
     rw (p.1, p.2, before) (c.in_err-body.ensures.follows cs ps)
 
 pub read_let-returns-clause-follows : goal.read_let-returns-clause-follows
 read_let-returns-clause-follows t c cs ps =
-    c.in_ok-name.ensures.follows binder.Let Language.Contracts c.args.depth (names_in c.args.bound.now) (scope_in c.args.decls.now cs) ps
-    ∙ c.in_ok-rest.ensures.follows (scope_in c.args.decls.now cs) (ExprAt Language.Contracts (c.args.depth + 1) (names_in c.args.bound.now) ∷ TheWord (codes "in") ∷ ContrAt (c.args.depth + 1) (c.in_ok-name.name.now ∷ (names_in c.args.bound.now)) ∷ ps)
+    c.in_ok-name.ensures.follows binder.Let Language.Contracts c.args.depth (names_in c.args.bound.now) (declared_in c.args.decls.now cs) ps
+    ∙ c.in_ok-rest.ensures.follows (declared_in c.args.decls.now cs) (ExprAt Language.Contracts (c.args.depth + 1) (names_in c.args.bound.now) ∷ TheWord (codes "in") ∷ ContrAt (c.args.depth + 1) (c.in_ok-name.name.now ∷ (names_in c.args.bound.now)) ∷ ps)
     ∙ c.in_ok-value.ensures.follows cs (TheWord (codes "in") ∷ ContrAt (c.args.depth + 1) (c.in_ok-name.name.now ∷ (names_in c.args.bound.now)) ∷ ps)
     ∙ c.in_ok-body.ensures.follows cs ps
 
@@ -256,27 +256,27 @@ read_let-returns-clause-spelled t c ts first =
 pub read_within-returns-in_err-test-clause-follows : goal.read_within-returns-in_err-test-clause-follows
 read_within-returns-in_err-test-clause-follows t c cs ps =
     let p = err_from_is_err_and c.from_residual.result c.from_residual.ensures.1 in
-    rw (p.1, p.2) (c.in_err-test.ensures.follows cs (TheWord (codes "within") ∷ DaysAt (scope_in c.args.decls.now cs).templates ∷ TheWord (codes "then") ∷ ContrAt (c.args.depth + 1) (names_in c.args.bound.now) ∷ TheWord (codes "else") ∷ ContrAt (c.args.depth + 1) (names_in c.args.bound.now) ∷ ps))
+    rw (p.1, p.2) (c.in_err-test.ensures.follows cs (TheWord (codes "within") ∷ DaysAt (declared_in c.args.decls.now cs).templates ∷ TheWord (codes "then") ∷ ContrAt (c.args.depth + 1) (names_in c.args.bound.now) ∷ TheWord (codes "else") ∷ ContrAt (c.args.depth + 1) (names_in c.args.bound.now) ∷ ps))
 
 pub read_within-returns-in_err-days-clause-follows : goal.read_within-returns-in_err-days-clause-follows
 read_within-returns-in_err-days-clause-follows t c cs ps =
     let p = err_from_is_err_and c.from_residual-in_err-days.result c.from_residual-in_err-days.ensures.1 in
     let before =
-    c.in_ok-test.ensures.follows cs (TheWord (codes "within") ∷ DaysAt (scope_in c.args.decls.now cs).templates ∷ TheWord (codes "then") ∷ ContrAt (c.args.depth + 1) (names_in c.args.bound.now) ∷ TheWord (codes "else") ∷ ContrAt (c.args.depth + 1) (names_in c.args.bound.now) ∷ ps) in
-    rw (p.1, p.2, before) (c.in_err-days.ensures.follows (scope_in c.args.decls.now cs) (TheWord (codes "then") ∷ ContrAt (c.args.depth + 1) (names_in c.args.bound.now) ∷ TheWord (codes "else") ∷ ContrAt (c.args.depth + 1) (names_in c.args.bound.now) ∷ ps))
+    c.in_ok-test.ensures.follows cs (TheWord (codes "within") ∷ DaysAt (declared_in c.args.decls.now cs).templates ∷ TheWord (codes "then") ∷ ContrAt (c.args.depth + 1) (names_in c.args.bound.now) ∷ TheWord (codes "else") ∷ ContrAt (c.args.depth + 1) (names_in c.args.bound.now) ∷ ps) in
+    rw (p.1, p.2, before) (c.in_err-days.ensures.follows (declared_in c.args.decls.now cs) (TheWord (codes "then") ∷ ContrAt (c.args.depth + 1) (names_in c.args.bound.now) ∷ TheWord (codes "else") ∷ ContrAt (c.args.depth + 1) (names_in c.args.bound.now) ∷ ps))
 
 pub read_within-returns-in_err-hit-clause-follows : goal.read_within-returns-in_err-hit-clause-follows
 read_within-returns-in_err-hit-clause-follows t c cs ps =
     let p = err_from_is_err_and c.from_residual-in_err-hit.result c.from_residual-in_err-hit.ensures.1 in
     let before =
-    c.in_ok-test.ensures.follows cs (TheWord (codes "within") ∷ DaysAt (scope_in c.args.decls.now cs).templates ∷ TheWord (codes "then") ∷ ContrAt (c.args.depth + 1) (names_in c.args.bound.now) ∷ TheWord (codes "else") ∷ ContrAt (c.args.depth + 1) (names_in c.args.bound.now) ∷ ps)
-    ∙ c.in_ok-days.ensures.follows (scope_in c.args.decls.now cs) (TheWord (codes "then") ∷ ContrAt (c.args.depth + 1) (names_in c.args.bound.now) ∷ TheWord (codes "else") ∷ ContrAt (c.args.depth + 1) (names_in c.args.bound.now) ∷ ps) in
+    c.in_ok-test.ensures.follows cs (TheWord (codes "within") ∷ DaysAt (declared_in c.args.decls.now cs).templates ∷ TheWord (codes "then") ∷ ContrAt (c.args.depth + 1) (names_in c.args.bound.now) ∷ TheWord (codes "else") ∷ ContrAt (c.args.depth + 1) (names_in c.args.bound.now) ∷ ps)
+    ∙ c.in_ok-days.ensures.follows (declared_in c.args.decls.now cs) (TheWord (codes "then") ∷ ContrAt (c.args.depth + 1) (names_in c.args.bound.now) ∷ TheWord (codes "else") ∷ ContrAt (c.args.depth + 1) (names_in c.args.bound.now) ∷ ps) in
     rw (p.1, p.2, before) (c.in_err-hit.ensures.follows cs ps)
 
 pub read_within-returns-clause-follows : goal.read_within-returns-clause-follows
 read_within-returns-clause-follows t c cs ps =
-    c.in_ok-test.ensures.follows cs (TheWord (codes "within") ∷ DaysAt (scope_in c.args.decls.now cs).templates ∷ TheWord (codes "then") ∷ ContrAt (c.args.depth + 1) (names_in c.args.bound.now) ∷ TheWord (codes "else") ∷ ContrAt (c.args.depth + 1) (names_in c.args.bound.now) ∷ ps)
-    ∙ c.in_ok-days.ensures.follows (scope_in c.args.decls.now cs) (TheWord (codes "then") ∷ ContrAt (c.args.depth + 1) (names_in c.args.bound.now) ∷ TheWord (codes "else") ∷ ContrAt (c.args.depth + 1) (names_in c.args.bound.now) ∷ ps)
+    c.in_ok-test.ensures.follows cs (TheWord (codes "within") ∷ DaysAt (declared_in c.args.decls.now cs).templates ∷ TheWord (codes "then") ∷ ContrAt (c.args.depth + 1) (names_in c.args.bound.now) ∷ TheWord (codes "else") ∷ ContrAt (c.args.depth + 1) (names_in c.args.bound.now) ∷ ps)
+    ∙ c.in_ok-days.ensures.follows (declared_in c.args.decls.now cs) (TheWord (codes "then") ∷ ContrAt (c.args.depth + 1) (names_in c.args.bound.now) ∷ TheWord (codes "else") ∷ ContrAt (c.args.depth + 1) (names_in c.args.bound.now) ∷ ps)
     ∙ c.in_ok-hit.ensures.follows cs ps
 
 pub read_within-returns-clause-spelled : goal.read_within-returns-clause-spelled

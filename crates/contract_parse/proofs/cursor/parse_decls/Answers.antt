@@ -2,7 +2,7 @@ use Rattle.std.proofs.Common.{◌≡◌, ◌-◌, ℕ, List, [], ◌∷◌, leng
 use Rattle.std.proofs.lemmas.List.{length-take, take_rest}
 use Rattle.term_core.specs.Declarations.{declarations}
 use Rattle.contract_parse.specs.Tokens.{tokens}
-use Rattle.contract_parse.specs.Names.{nothing_declared, scope_of}
+use Rattle.contract_parse.specs.Names.{declared_by, nothing_declared}
 use Rattle.contract_parse.specs.Statements.{decls}
 use Rattle.contract_parse.specs.Places.{AnyTokens, Place, decls_places, run}
 use Rattle.contract_parse.specs.Cursors.{Position, TakesDecls}
@@ -40,8 +40,8 @@ returns-in-Ok-clause-taken c =
     let old : Position = record { at = c.cursor.inside.at; line = c.cursor.inside.line; column = c.cursor.inside.column } in
     let rest = take_rest bytes c.cursor.inside.at in
     let spelled = subst (λ (l : List ℕ). decls d (tokens l) (tokens_ahead c.in-Ok.ahead)) rest c.in-Ok.ensures.spelled in
-    let whole : (ps : List Place) → run nothing_declared (decls_places ps) (tokens (drop c.cursor.inside.at bytes)) ≡ run (scope_of d []) ps (tokens_ahead c.in-Ok.ahead) =
-    λ ps. subst (λ (l : List ℕ). run nothing_declared (decls_places ps) (tokens l) ≡ run (scope_of d []) ps (tokens_ahead c.in-Ok.ahead)) rest (c.in-Ok.ensures.follows ps) in
+    let whole : (ps : List Place) → run nothing_declared (decls_places ps) (tokens (drop c.cursor.inside.at bytes)) ≡ run (declared_by d []) ps (tokens_ahead c.in-Ok.ahead) =
+    λ ps. subst (λ (l : List ℕ). run nothing_declared (decls_places ps) (tokens l) ≡ run (declared_by d []) ps (tokens_ahead c.in-Ok.ahead)) rest (c.in-Ok.ensures.follows ps) in
     let taken = decls_taken bytes old c.after_tokens.result d (tok_of c.in-Ok.ahead.token) (tokens_after c.in-Ok.ahead.token.kind c.in-Ok.ahead.after.now) spelled whole c.after_tokens.ensures.passed in
     subst (λ (p : Position). TakesDecls bytes p d (the_view c.cursor-in-Ok.inside)) c.cursor.view_is
     (subst (λ (p : Position). TakesDecls bytes old d p) (sym c.cursor-in-Ok.view_is) taken)

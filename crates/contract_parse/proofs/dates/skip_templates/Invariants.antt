@@ -4,12 +4,12 @@ use Rattle.contract_parse.specs.Tokens.{Tok, tokens}
 use Rattle.contract_parse.specs.Words.{Bytes}
 use Rattle.contract_parse.specs.Spelling.{SomeTemplates}
 use Rattle.contract_parse.specs.Places.{MoreTemplates, Place, run}
-use Rattle.contract_parse.specs.Reading.{scope_in}
+use Rattle.contract_parse.specs.Reading.{declared_in}
 use Rattle.contract_parse.proofs.dates.skip_templates.Given as goal
 
 abbrev pub invariant-loop-after : goal.invariant-loop-after
 invariant-loop-after l = record {
-  follows : (cs : List Bytes) (ps : List Place) → run (scope_in l.decls cs) (MoreTemplates ∷ ps) (tokens l.fn.rest) ≡ run (scope_in l.decls cs) (MoreTemplates ∷ ps) (tokens l.rest);
+  follows : (cs : List Bytes) (ps : List Place) → run (declared_in l.decls cs) (MoreTemplates ∷ ps) (tokens l.fn.rest) ≡ run (declared_in l.decls cs) (MoreTemplates ∷ ps) (tokens l.rest);
   spelled : (end : List Tok) → SomeTemplates (keys l.decls.templates) (tokens l.rest) end → SomeTemplates (keys l.decls.templates) (tokens l.fn.rest) end;
   shorter : length l.rest ≤ length l.fn.rest;
 }

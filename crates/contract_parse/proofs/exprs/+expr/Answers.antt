@@ -6,7 +6,7 @@ use Rattle.contract_parse.specs.Tokens.{tokens}
 use Rattle.contract_parse.specs.Names.{names_in}
 use Rattle.contract_parse.specs.Heads.{first_at}
 use Rattle.contract_parse.specs.Places.{ExprAt, IntegerAt, Next, OperatorAt, TheMark, expr_places}
-use Rattle.contract_parse.specs.Reading.{scope_in, tok_of}
+use Rattle.contract_parse.specs.Reading.{declared_in, tok_of}
 use Rattle.contract_parse.specs.declared.heads.First.TheVariants as First
 use Rattle.contract_parse.specs.declared.heads.Binder.TheVariants as binder
 use Rattle.contract_parse.proofs.HeadFacts.{begins}
@@ -16,11 +16,11 @@ use Rattle.contract_parse.proofs.Steps.{passes, refuses, takes}
 use Rattle.contract_parse.proofs.exprs.+expr.Goals as goal
 
 pub read_expr-returns-in-Err-clause-follows : goal.read_expr-returns-in-Err-clause-follows
-read_expr-returns-in-Err-clause-follows t c cs ps = rw c.refuse.ensures (refuses (first_at c.args.language c.args.depth (names_in c.args.bound.now)) (scope_in c.args.decls.now cs) (ExprAt c.args.language c.args.depth (names_in c.args.bound.now) ∷ ps) (λ first. Next (scope_in c.args.decls.now cs) (expr_places (scope_in c.args.decls.now cs) c.args.language c.args.depth (names_in c.args.bound.now) first ps)) c.in-Err.kind (tok_of c.next.result.0) c.args.rest.now c.next.result.1.now c.next.ensures.starts c.in-Err.ensures refl)
+read_expr-returns-in-Err-clause-follows t c cs ps = rw c.refuse.ensures (refuses (first_at c.args.language c.args.depth (names_in c.args.bound.now)) (declared_in c.args.decls.now cs) (ExprAt c.args.language c.args.depth (names_in c.args.bound.now) ∷ ps) (λ first. Next (declared_in c.args.decls.now cs) (expr_places (declared_in c.args.decls.now cs) c.args.language c.args.depth (names_in c.args.bound.now) first ps)) c.in-Err.kind (tok_of c.next.result.0) c.args.rest.now c.next.result.1.now c.next.ensures.starts c.in-Err.ensures refl)
 
 pub read_expr-returns-in-Ok-clause-follows : goal.read_expr-returns-in-Ok-clause-follows
 read_expr-returns-in-Ok-clause-follows t c cs ps =
-    let s = scope_in c.args.decls.now cs in
+    let s = declared_in c.args.decls.now cs in
     let names = names_in c.args.bound.now in
     rw (passes (first_at c.args.language c.args.depth names) (λ text left. (refl, refl)) s s (ExprAt c.args.language c.args.depth names ∷ ps)
     (expr_places s c.args.language c.args.depth names c.in-Ok.first ps)
@@ -63,10 +63,10 @@ read_boxed-returns-clause-spelled t c =
 pub read_behind-returns-in_err-rest-clause-follows : goal.read_behind-returns-in_err-rest-clause-follows
 read_behind-returns-in_err-rest-clause-follows t c cs ps =
     let p = err_from_is_err_and c.from_residual.result c.from_residual.ensures.1 in
-    rw (p.1, p.2) (c.in_err-rest.ensures.follows (scope_in c.args.decls.now cs) (ExprAt c.args.language (c.args.depth + 1) (names_in c.args.bound.now) ∷ ps))
+    rw (p.1, p.2) (c.in_err-rest.ensures.follows (declared_in c.args.decls.now cs) (ExprAt c.args.language (c.args.depth + 1) (names_in c.args.bound.now) ∷ ps))
 
 pub read_behind-returns-clause-follows : goal.read_behind-returns-clause-follows
-read_behind-returns-clause-follows t c cs ps = rw (c.in_ok-rest.ensures.follows (scope_in c.args.decls.now cs) (ExprAt c.args.language (c.args.depth + 1) (names_in c.args.bound.now) ∷ ps)) (c.read_boxed.ensures.follows cs ps)
+read_behind-returns-clause-follows t c cs ps = rw (c.in_ok-rest.ensures.follows (declared_in c.args.decls.now cs) (ExprAt c.args.language (c.args.depth + 1) (names_in c.args.bound.now) ∷ ps)) (c.read_boxed.ensures.follows cs ps)
 
 pub read_behind-returns-clause-spelled : goal.read_behind-returns-clause-spelled
 read_behind-returns-clause-spelled t c = IfOk-weaker c.read_boxed.result _ _ (λ r h. followed_by (tokens c.in_ok-rest.rest.now) c.in_ok-rest.ensures.spelled h) c.read_boxed.ensures.spelled
@@ -81,12 +81,12 @@ read_operand-returns-in_err-rest-clause-follows t c cs ps =
     let p = err_from_is_err_and c.from_residual-in_err-rest.result c.from_residual-in_err-rest.ensures.1 in
     let before =
     c.in_ok-of.ensures.follows cs (TheMark (codes ")") ∷ ps) in
-    rw (p.1, p.2, before) (c.in_err-rest.ensures.follows (scope_in c.args.decls.now cs) ps)
+    rw (p.1, p.2, before) (c.in_err-rest.ensures.follows (declared_in c.args.decls.now cs) ps)
 
 pub read_operand-returns-clause-follows : goal.read_operand-returns-clause-follows
 read_operand-returns-clause-follows t c cs ps =
     c.in_ok-of.ensures.follows cs (TheMark (codes ")") ∷ ps)
-    ∙ c.in_ok-rest.ensures.follows (scope_in c.args.decls.now cs) ps
+    ∙ c.in_ok-rest.ensures.follows (declared_in c.args.decls.now cs) ps
 
 pub read_operand-returns-clause-spelled : goal.read_operand-returns-clause-spelled
 read_operand-returns-clause-spelled t c =
@@ -110,13 +110,13 @@ read_pair-returns-in_err-rest-clause-follows t c cs ps =
     let before =
     c.in_ok-left.ensures.follows cs (TheMark (codes ",") ∷ ExprAt c.args.language (c.args.depth + 1) (names_in c.args.bound.now) ∷ TheMark (codes ")") ∷ ps)
     ∙ c.in_ok-right.ensures.follows cs (TheMark (codes ")") ∷ ps) in
-    rw (p.1, p.2, before) (c.in_err-rest.ensures.follows (scope_in c.args.decls.now cs) ps)
+    rw (p.1, p.2, before) (c.in_err-rest.ensures.follows (declared_in c.args.decls.now cs) ps)
 
 pub read_pair-returns-clause-follows : goal.read_pair-returns-clause-follows
 read_pair-returns-clause-follows t c cs ps =
     c.in_ok-left.ensures.follows cs (TheMark (codes ",") ∷ ExprAt c.args.language (c.args.depth + 1) (names_in c.args.bound.now) ∷ TheMark (codes ")") ∷ ps)
     ∙ c.in_ok-right.ensures.follows cs (TheMark (codes ")") ∷ ps)
-    ∙ c.in_ok-rest.ensures.follows (scope_in c.args.decls.now cs) ps
+    ∙ c.in_ok-rest.ensures.follows (declared_in c.args.decls.now cs) ps
 
 pub read_pair-returns-clause-spelled : goal.read_pair-returns-clause-spelled
 read_pair-returns-clause-spelled t c =
@@ -133,14 +133,14 @@ read_infix-returns-in_err-operator-clause-follows t c cs ps =
     let p = err_from_is_err_and c.from_residual-in_err-operator.result c.from_residual-in_err-operator.ensures.1 in
     let before =
     c.in_ok-left.ensures.follows cs (OperatorAt ∷ ExprAt c.args.language (c.args.depth + 1) (names_in c.args.bound.now) ∷ TheMark (codes ")") ∷ ps) in
-    rw (p.1, p.2, before) (c.in_err-operator.ensures.follows (scope_in c.args.decls.now cs) (ExprAt c.args.language (c.args.depth + 1) (names_in c.args.bound.now) ∷ TheMark (codes ")") ∷ ps))
+    rw (p.1, p.2, before) (c.in_err-operator.ensures.follows (declared_in c.args.decls.now cs) (ExprAt c.args.language (c.args.depth + 1) (names_in c.args.bound.now) ∷ TheMark (codes ")") ∷ ps))
 
 pub read_infix-returns-in_err-right-clause-follows : goal.read_infix-returns-in_err-right-clause-follows
 read_infix-returns-in_err-right-clause-follows t c cs ps =
     let p = err_from_is_err_and c.from_residual-in_err-right.result c.from_residual-in_err-right.ensures.1 in
     let before =
     c.in_ok-left.ensures.follows cs (OperatorAt ∷ ExprAt c.args.language (c.args.depth + 1) (names_in c.args.bound.now) ∷ TheMark (codes ")") ∷ ps)
-    ∙ c.in_ok-operator.ensures.follows (scope_in c.args.decls.now cs) (ExprAt c.args.language (c.args.depth + 1) (names_in c.args.bound.now) ∷ TheMark (codes ")") ∷ ps) in
+    ∙ c.in_ok-operator.ensures.follows (declared_in c.args.decls.now cs) (ExprAt c.args.language (c.args.depth + 1) (names_in c.args.bound.now) ∷ TheMark (codes ")") ∷ ps) in
     rw (p.1, p.2, before) (c.in_err-right.ensures.follows cs (TheMark (codes ")") ∷ ps))
 
 pub read_infix-returns-in_err-rest-clause-follows : goal.read_infix-returns-in_err-rest-clause-follows
@@ -148,21 +148,21 @@ read_infix-returns-in_err-rest-clause-follows t c cs ps =
     let p = err_from_is_err_and c.from_residual-in_err-rest.result c.from_residual-in_err-rest.ensures.1 in
     let before =
     c.in_ok-left.ensures.follows cs (OperatorAt ∷ ExprAt c.args.language (c.args.depth + 1) (names_in c.args.bound.now) ∷ TheMark (codes ")") ∷ ps)
-    ∙ c.in_ok-operator.ensures.follows (scope_in c.args.decls.now cs) (ExprAt c.args.language (c.args.depth + 1) (names_in c.args.bound.now) ∷ TheMark (codes ")") ∷ ps)
+    ∙ c.in_ok-operator.ensures.follows (declared_in c.args.decls.now cs) (ExprAt c.args.language (c.args.depth + 1) (names_in c.args.bound.now) ∷ TheMark (codes ")") ∷ ps)
     ∙ c.in_ok-right.ensures.follows cs (TheMark (codes ")") ∷ ps) in
-    rw (p.1, p.2, before) (c.in_err-rest.ensures.follows (scope_in c.args.decls.now cs) ps)
+    rw (p.1, p.2, before) (c.in_err-rest.ensures.follows (declared_in c.args.decls.now cs) ps)
 
 pub read_infix-returns-clause-follows : goal.read_infix-returns-clause-follows
 read_infix-returns-clause-follows t c cs ps =
     c.in_ok-left.ensures.follows cs (OperatorAt ∷ ExprAt c.args.language (c.args.depth + 1) (names_in c.args.bound.now) ∷ TheMark (codes ")") ∷ ps)
-    ∙ c.in_ok-operator.ensures.follows (scope_in c.args.decls.now cs) (ExprAt c.args.language (c.args.depth + 1) (names_in c.args.bound.now) ∷ TheMark (codes ")") ∷ ps)
+    ∙ c.in_ok-operator.ensures.follows (declared_in c.args.decls.now cs) (ExprAt c.args.language (c.args.depth + 1) (names_in c.args.bound.now) ∷ TheMark (codes ")") ∷ ps)
     ∙ c.in_ok-right.ensures.follows cs (TheMark (codes ")") ∷ ps)
-    ∙ c.in_ok-rest.ensures.follows (scope_in c.args.decls.now cs) ps
+    ∙ c.in_ok-rest.ensures.follows (declared_in c.args.decls.now cs) ps
 
 pub read_infix-returns-clause-spelled : goal.read_infix-returns-clause-spelled
 read_infix-returns-clause-spelled t c ts first =
     rw (c.joined.ensures)
-    (infix_spelled c.args.language (scope_in c.args.decls.now []) (names_in c.args.bound.now) c.in_ok-operator.operator (expression c.in_ok-left.left.value) (expression c.in_ok-right.right.value) ts (tokens c.args.rest.now) (tokens c.in_ok-left.rest.now) (tokens c.in_ok-operator.rest.now) (tokens c.in_ok-right.rest.now) (tokens c.in_ok-rest.rest.now) c.in_ok-operator.ensures.between first c.in_ok-left.ensures.spelled c.in_ok-operator.ensures.spelled c.in_ok-right.ensures.spelled c.in_ok-rest.ensures.spelled)
+    (infix_spelled c.args.language (declared_in c.args.decls.now []) (names_in c.args.bound.now) c.in_ok-operator.operator (expression c.in_ok-left.left.value) (expression c.in_ok-right.right.value) ts (tokens c.args.rest.now) (tokens c.in_ok-left.rest.now) (tokens c.in_ok-operator.rest.now) (tokens c.in_ok-right.rest.now) (tokens c.in_ok-rest.rest.now) c.in_ok-operator.ensures.between first c.in_ok-left.ensures.spelled c.in_ok-operator.ensures.spelled c.in_ok-right.ensures.spelled c.in_ok-rest.ensures.spelled)
 
 pub read_choice-returns-in_err-test-clause-follows : goal.read_choice-returns-in_err-test-clause-follows
 read_choice-returns-in_err-test-clause-follows t c cs ps =
@@ -191,14 +191,14 @@ read_choice-returns-in_err-rest-clause-follows t c cs ps =
     c.in_ok-test.ensures.follows cs (TheMark (codes ",") ∷ ExprAt c.args.language (c.args.depth + 1) (names_in c.args.bound.now) ∷ TheMark (codes ",") ∷ ExprAt c.args.language (c.args.depth + 1) (names_in c.args.bound.now) ∷ TheMark (codes ")") ∷ ps)
     ∙ c.in_ok-yes.ensures.follows cs (TheMark (codes ",") ∷ ExprAt c.args.language (c.args.depth + 1) (names_in c.args.bound.now) ∷ TheMark (codes ")") ∷ ps)
     ∙ c.in_ok-no.ensures.follows cs (TheMark (codes ")") ∷ ps) in
-    rw (p.1, p.2, before) (c.in_err-rest.ensures.follows (scope_in c.args.decls.now cs) ps)
+    rw (p.1, p.2, before) (c.in_err-rest.ensures.follows (declared_in c.args.decls.now cs) ps)
 
 pub read_choice-returns-clause-follows : goal.read_choice-returns-clause-follows
 read_choice-returns-clause-follows t c cs ps =
     c.in_ok-test.ensures.follows cs (TheMark (codes ",") ∷ ExprAt c.args.language (c.args.depth + 1) (names_in c.args.bound.now) ∷ TheMark (codes ",") ∷ ExprAt c.args.language (c.args.depth + 1) (names_in c.args.bound.now) ∷ TheMark (codes ")") ∷ ps)
     ∙ c.in_ok-yes.ensures.follows cs (TheMark (codes ",") ∷ ExprAt c.args.language (c.args.depth + 1) (names_in c.args.bound.now) ∷ TheMark (codes ")") ∷ ps)
     ∙ c.in_ok-no.ensures.follows cs (TheMark (codes ")") ∷ ps)
-    ∙ c.in_ok-rest.ensures.follows (scope_in c.args.decls.now cs) ps
+    ∙ c.in_ok-rest.ensures.follows (declared_in c.args.decls.now cs) ps
 
 pub read_choice-returns-clause-spelled : goal.read_choice-returns-clause-spelled
 read_choice-returns-clause-spelled t c ts first =
@@ -210,28 +210,28 @@ read_choice-returns-clause-spelled t c ts first =
 pub read_widen-returns-in_err-scale-clause-follows : goal.read_widen-returns-in_err-scale-clause-follows
 read_widen-returns-in_err-scale-clause-follows t c cs ps =
     let p = err_from_is_err_and c.from_residual.result c.from_residual.ensures.1 in
-    rw (p.1, p.2) (c.in_err-scale.ensures.follows (scope_in c.args.decls.now cs) (TheMark (codes ",") ∷ ExprAt c.args.language (c.args.depth + 1) (names_in c.args.bound.now) ∷ TheMark (codes ")") ∷ ps))
+    rw (p.1, p.2) (c.in_err-scale.ensures.follows (declared_in c.args.decls.now cs) (TheMark (codes ",") ∷ ExprAt c.args.language (c.args.depth + 1) (names_in c.args.bound.now) ∷ TheMark (codes ")") ∷ ps))
 
 pub read_widen-returns-in_err-of-clause-follows : goal.read_widen-returns-in_err-of-clause-follows
 read_widen-returns-in_err-of-clause-follows t c cs ps =
     let p = err_from_is_err_and c.from_residual-in_err-of.result c.from_residual-in_err-of.ensures.1 in
     let before =
-    c.in_ok-scale.ensures.follows (scope_in c.args.decls.now cs) (TheMark (codes ",") ∷ ExprAt c.args.language (c.args.depth + 1) (names_in c.args.bound.now) ∷ TheMark (codes ")") ∷ ps) in
+    c.in_ok-scale.ensures.follows (declared_in c.args.decls.now cs) (TheMark (codes ",") ∷ ExprAt c.args.language (c.args.depth + 1) (names_in c.args.bound.now) ∷ TheMark (codes ")") ∷ ps) in
     rw (p.1, p.2, before) (c.in_err-of.ensures.follows cs (TheMark (codes ")") ∷ ps))
 
 pub read_widen-returns-in_err-rest-clause-follows : goal.read_widen-returns-in_err-rest-clause-follows
 read_widen-returns-in_err-rest-clause-follows t c cs ps =
     let p = err_from_is_err_and c.from_residual-in_err-rest.result c.from_residual-in_err-rest.ensures.1 in
     let before =
-    c.in_ok-scale.ensures.follows (scope_in c.args.decls.now cs) (TheMark (codes ",") ∷ ExprAt c.args.language (c.args.depth + 1) (names_in c.args.bound.now) ∷ TheMark (codes ")") ∷ ps)
+    c.in_ok-scale.ensures.follows (declared_in c.args.decls.now cs) (TheMark (codes ",") ∷ ExprAt c.args.language (c.args.depth + 1) (names_in c.args.bound.now) ∷ TheMark (codes ")") ∷ ps)
     ∙ c.in_ok-of.ensures.follows cs (TheMark (codes ")") ∷ ps) in
-    rw (p.1, p.2, before) (c.in_err-rest.ensures.follows (scope_in c.args.decls.now cs) ps)
+    rw (p.1, p.2, before) (c.in_err-rest.ensures.follows (declared_in c.args.decls.now cs) ps)
 
 pub read_widen-returns-clause-follows : goal.read_widen-returns-clause-follows
 read_widen-returns-clause-follows t c cs ps =
-    c.in_ok-scale.ensures.follows (scope_in c.args.decls.now cs) (TheMark (codes ",") ∷ ExprAt c.args.language (c.args.depth + 1) (names_in c.args.bound.now) ∷ TheMark (codes ")") ∷ ps)
+    c.in_ok-scale.ensures.follows (declared_in c.args.decls.now cs) (TheMark (codes ",") ∷ ExprAt c.args.language (c.args.depth + 1) (names_in c.args.bound.now) ∷ TheMark (codes ")") ∷ ps)
     ∙ c.in_ok-of.ensures.follows cs (TheMark (codes ")") ∷ ps)
-    ∙ c.in_ok-rest.ensures.follows (scope_in c.args.decls.now cs) ps
+    ∙ c.in_ok-rest.ensures.follows (declared_in c.args.decls.now cs) ps
 
 pub read_widen-returns-clause-spelled : goal.read_widen-returns-clause-spelled
 read_widen-returns-clause-spelled t c ts first =
@@ -242,28 +242,28 @@ read_widen-returns-clause-spelled t c ts first =
 pub read_round-returns-in_err-mode-clause-follows : goal.read_round-returns-in_err-mode-clause-follows
 read_round-returns-in_err-mode-clause-follows t c cs ps =
     let p = err_from_is_err_and c.from_residual.result c.from_residual.ensures.1 in
-    rw (p.1, p.2) (c.in_err-mode.ensures.follows (scope_in c.args.decls.now cs) (TheMark (codes ",") ∷ ExprAt c.args.language (c.args.depth + 1) (names_in c.args.bound.now) ∷ TheMark (codes ")") ∷ ps))
+    rw (p.1, p.2) (c.in_err-mode.ensures.follows (declared_in c.args.decls.now cs) (TheMark (codes ",") ∷ ExprAt c.args.language (c.args.depth + 1) (names_in c.args.bound.now) ∷ TheMark (codes ")") ∷ ps))
 
 pub read_round-returns-in_err-of-clause-follows : goal.read_round-returns-in_err-of-clause-follows
 read_round-returns-in_err-of-clause-follows t c cs ps =
     let p = err_from_is_err_and c.from_residual-in_err-of.result c.from_residual-in_err-of.ensures.1 in
     let before =
-    c.in_ok-mode.ensures.follows (scope_in c.args.decls.now cs) (TheMark (codes ",") ∷ ExprAt c.args.language (c.args.depth + 1) (names_in c.args.bound.now) ∷ TheMark (codes ")") ∷ ps) in
+    c.in_ok-mode.ensures.follows (declared_in c.args.decls.now cs) (TheMark (codes ",") ∷ ExprAt c.args.language (c.args.depth + 1) (names_in c.args.bound.now) ∷ TheMark (codes ")") ∷ ps) in
     rw (p.1, p.2, before) (c.in_err-of.ensures.follows cs (TheMark (codes ")") ∷ ps))
 
 pub read_round-returns-in_err-rest-clause-follows : goal.read_round-returns-in_err-rest-clause-follows
 read_round-returns-in_err-rest-clause-follows t c cs ps =
     let p = err_from_is_err_and c.from_residual-in_err-rest.result c.from_residual-in_err-rest.ensures.1 in
     let before =
-    c.in_ok-mode.ensures.follows (scope_in c.args.decls.now cs) (TheMark (codes ",") ∷ ExprAt c.args.language (c.args.depth + 1) (names_in c.args.bound.now) ∷ TheMark (codes ")") ∷ ps)
+    c.in_ok-mode.ensures.follows (declared_in c.args.decls.now cs) (TheMark (codes ",") ∷ ExprAt c.args.language (c.args.depth + 1) (names_in c.args.bound.now) ∷ TheMark (codes ")") ∷ ps)
     ∙ c.in_ok-of.ensures.follows cs (TheMark (codes ")") ∷ ps) in
-    rw (p.1, p.2, before) (c.in_err-rest.ensures.follows (scope_in c.args.decls.now cs) ps)
+    rw (p.1, p.2, before) (c.in_err-rest.ensures.follows (declared_in c.args.decls.now cs) ps)
 
 pub read_round-returns-clause-follows : goal.read_round-returns-clause-follows
 read_round-returns-clause-follows t c cs ps =
-    c.in_ok-mode.ensures.follows (scope_in c.args.decls.now cs) (TheMark (codes ",") ∷ ExprAt c.args.language (c.args.depth + 1) (names_in c.args.bound.now) ∷ TheMark (codes ")") ∷ ps)
+    c.in_ok-mode.ensures.follows (declared_in c.args.decls.now cs) (TheMark (codes ",") ∷ ExprAt c.args.language (c.args.depth + 1) (names_in c.args.bound.now) ∷ TheMark (codes ")") ∷ ps)
     ∙ c.in_ok-of.ensures.follows cs (TheMark (codes ")") ∷ ps)
-    ∙ c.in_ok-rest.ensures.follows (scope_in c.args.decls.now cs) ps
+    ∙ c.in_ok-rest.ensures.follows (declared_in c.args.decls.now cs) ps
 
 pub read_round-returns-clause-spelled : goal.read_round-returns-clause-spelled
 read_round-returns-clause-spelled t c ts first =
@@ -274,20 +274,20 @@ read_round-returns-clause-spelled t c ts first =
 pub read_div-returns-in_err-mode-clause-follows : goal.read_div-returns-in_err-mode-clause-follows
 read_div-returns-in_err-mode-clause-follows t c cs ps =
     let p = err_from_is_err_and c.from_residual.result c.from_residual.ensures.1 in
-    rw (p.1, p.2) (c.in_err-mode.ensures.follows (scope_in c.args.decls.now cs) (TheMark (codes ",") ∷ ExprAt c.args.language (c.args.depth + 1) (names_in c.args.bound.now) ∷ TheMark (codes ",") ∷ ExprAt c.args.language (c.args.depth + 1) (names_in c.args.bound.now) ∷ TheMark (codes ")") ∷ ps))
+    rw (p.1, p.2) (c.in_err-mode.ensures.follows (declared_in c.args.decls.now cs) (TheMark (codes ",") ∷ ExprAt c.args.language (c.args.depth + 1) (names_in c.args.bound.now) ∷ TheMark (codes ",") ∷ ExprAt c.args.language (c.args.depth + 1) (names_in c.args.bound.now) ∷ TheMark (codes ")") ∷ ps))
 
 pub read_div-returns-in_err-top-clause-follows : goal.read_div-returns-in_err-top-clause-follows
 read_div-returns-in_err-top-clause-follows t c cs ps =
     let p = err_from_is_err_and c.from_residual-in_err-top.result c.from_residual-in_err-top.ensures.1 in
     let before =
-    c.in_ok-mode.ensures.follows (scope_in c.args.decls.now cs) (TheMark (codes ",") ∷ ExprAt c.args.language (c.args.depth + 1) (names_in c.args.bound.now) ∷ TheMark (codes ",") ∷ ExprAt c.args.language (c.args.depth + 1) (names_in c.args.bound.now) ∷ TheMark (codes ")") ∷ ps) in
+    c.in_ok-mode.ensures.follows (declared_in c.args.decls.now cs) (TheMark (codes ",") ∷ ExprAt c.args.language (c.args.depth + 1) (names_in c.args.bound.now) ∷ TheMark (codes ",") ∷ ExprAt c.args.language (c.args.depth + 1) (names_in c.args.bound.now) ∷ TheMark (codes ")") ∷ ps) in
     rw (p.1, p.2, before) (c.in_err-top.ensures.follows cs (TheMark (codes ",") ∷ ExprAt c.args.language (c.args.depth + 1) (names_in c.args.bound.now) ∷ TheMark (codes ")") ∷ ps))
 
 pub read_div-returns-in_err-below-clause-follows : goal.read_div-returns-in_err-below-clause-follows
 read_div-returns-in_err-below-clause-follows t c cs ps =
     let p = err_from_is_err_and c.from_residual-in_err-below.result c.from_residual-in_err-below.ensures.1 in
     let before =
-    c.in_ok-mode.ensures.follows (scope_in c.args.decls.now cs) (TheMark (codes ",") ∷ ExprAt c.args.language (c.args.depth + 1) (names_in c.args.bound.now) ∷ TheMark (codes ",") ∷ ExprAt c.args.language (c.args.depth + 1) (names_in c.args.bound.now) ∷ TheMark (codes ")") ∷ ps)
+    c.in_ok-mode.ensures.follows (declared_in c.args.decls.now cs) (TheMark (codes ",") ∷ ExprAt c.args.language (c.args.depth + 1) (names_in c.args.bound.now) ∷ TheMark (codes ",") ∷ ExprAt c.args.language (c.args.depth + 1) (names_in c.args.bound.now) ∷ TheMark (codes ")") ∷ ps)
     ∙ c.in_ok-top.ensures.follows cs (TheMark (codes ",") ∷ ExprAt c.args.language (c.args.depth + 1) (names_in c.args.bound.now) ∷ TheMark (codes ")") ∷ ps) in
     rw (p.1, p.2, before) (c.in_err-below.ensures.follows cs (TheMark (codes ")") ∷ ps))
 
@@ -295,17 +295,17 @@ pub read_div-returns-in_err-rest-clause-follows : goal.read_div-returns-in_err-r
 read_div-returns-in_err-rest-clause-follows t c cs ps =
     let p = err_from_is_err_and c.from_residual-in_err-rest.result c.from_residual-in_err-rest.ensures.1 in
     let before =
-    c.in_ok-mode.ensures.follows (scope_in c.args.decls.now cs) (TheMark (codes ",") ∷ ExprAt c.args.language (c.args.depth + 1) (names_in c.args.bound.now) ∷ TheMark (codes ",") ∷ ExprAt c.args.language (c.args.depth + 1) (names_in c.args.bound.now) ∷ TheMark (codes ")") ∷ ps)
+    c.in_ok-mode.ensures.follows (declared_in c.args.decls.now cs) (TheMark (codes ",") ∷ ExprAt c.args.language (c.args.depth + 1) (names_in c.args.bound.now) ∷ TheMark (codes ",") ∷ ExprAt c.args.language (c.args.depth + 1) (names_in c.args.bound.now) ∷ TheMark (codes ")") ∷ ps)
     ∙ c.in_ok-top.ensures.follows cs (TheMark (codes ",") ∷ ExprAt c.args.language (c.args.depth + 1) (names_in c.args.bound.now) ∷ TheMark (codes ")") ∷ ps)
     ∙ c.in_ok-below.ensures.follows cs (TheMark (codes ")") ∷ ps) in
-    rw (p.1, p.2, before) (c.in_err-rest.ensures.follows (scope_in c.args.decls.now cs) ps)
+    rw (p.1, p.2, before) (c.in_err-rest.ensures.follows (declared_in c.args.decls.now cs) ps)
 
 pub read_div-returns-clause-follows : goal.read_div-returns-clause-follows
 read_div-returns-clause-follows t c cs ps =
-    c.in_ok-mode.ensures.follows (scope_in c.args.decls.now cs) (TheMark (codes ",") ∷ ExprAt c.args.language (c.args.depth + 1) (names_in c.args.bound.now) ∷ TheMark (codes ",") ∷ ExprAt c.args.language (c.args.depth + 1) (names_in c.args.bound.now) ∷ TheMark (codes ")") ∷ ps)
+    c.in_ok-mode.ensures.follows (declared_in c.args.decls.now cs) (TheMark (codes ",") ∷ ExprAt c.args.language (c.args.depth + 1) (names_in c.args.bound.now) ∷ TheMark (codes ",") ∷ ExprAt c.args.language (c.args.depth + 1) (names_in c.args.bound.now) ∷ TheMark (codes ")") ∷ ps)
     ∙ c.in_ok-top.ensures.follows cs (TheMark (codes ",") ∷ ExprAt c.args.language (c.args.depth + 1) (names_in c.args.bound.now) ∷ TheMark (codes ")") ∷ ps)
     ∙ c.in_ok-below.ensures.follows cs (TheMark (codes ")") ∷ ps)
-    ∙ c.in_ok-rest.ensures.follows (scope_in c.args.decls.now cs) ps
+    ∙ c.in_ok-rest.ensures.follows (declared_in c.args.decls.now cs) ps
 
 pub read_div-returns-clause-spelled : goal.read_div-returns-clause-spelled
 read_div-returns-clause-spelled t c ts first =
@@ -317,49 +317,49 @@ read_div-returns-clause-spelled t c ts first =
 pub read_acc-returns-in_err-name-clause-follows : goal.read_acc-returns-in_err-name-clause-follows
 read_acc-returns-in_err-name-clause-follows t c cs ps =
     let p = err_from_is_err_and c.from_residual.result c.from_residual.ensures.1 in
-    rw (p.1, p.2) (c.in_err-name.ensures.follows binder.Acc c.args.language c.args.depth (names_in c.args.bound.now) (scope_in c.args.decls.now cs) ps)
+    rw (p.1, p.2) (c.in_err-name.ensures.follows binder.Acc c.args.language c.args.depth (names_in c.args.bound.now) (declared_in c.args.decls.now cs) ps)
 
 pub read_acc-returns-in_err-body-clause-follows : goal.read_acc-returns-in_err-body-clause-follows
 read_acc-returns-in_err-body-clause-follows t c cs ps =
     let p = err_from_is_err_and c.from_residual-in_err-body.result c.from_residual-in_err-body.ensures.1 in
     let before =
-    c.in_ok-name.ensures.follows binder.Acc c.args.language c.args.depth (names_in c.args.bound.now) (scope_in c.args.decls.now cs) ps in
+    c.in_ok-name.ensures.follows binder.Acc c.args.language c.args.depth (names_in c.args.bound.now) (declared_in c.args.decls.now cs) ps in
     rw (p.1, p.2, before) (c.in_err-body.ensures.follows cs (TheMark (codes ",") ∷ IntegerAt 100_000 ∷ TheMark (codes ",") ∷ ExprAt c.args.language (c.args.depth + 1) (names_in c.args.bound.now) ∷ TheMark (codes ")") ∷ ps))
 
 pub read_acc-returns-in_err-days-clause-follows : goal.read_acc-returns-in_err-days-clause-follows
 read_acc-returns-in_err-days-clause-follows t c cs ps =
     let p = err_from_is_err_and c.from_residual-in_err-days.result c.from_residual-in_err-days.ensures.1 in
     let before =
-    c.in_ok-name.ensures.follows binder.Acc c.args.language c.args.depth (names_in c.args.bound.now) (scope_in c.args.decls.now cs) ps
+    c.in_ok-name.ensures.follows binder.Acc c.args.language c.args.depth (names_in c.args.bound.now) (declared_in c.args.decls.now cs) ps
     ∙ c.in_ok-body.ensures.follows cs (TheMark (codes ",") ∷ IntegerAt 100_000 ∷ TheMark (codes ",") ∷ ExprAt c.args.language (c.args.depth + 1) (names_in c.args.bound.now) ∷ TheMark (codes ")") ∷ ps) in
-    rw (p.1, p.2, before) (c.in_err-days.ensures.follows (scope_in c.args.decls.now cs) (TheMark (codes ",") ∷ ExprAt c.args.language (c.args.depth + 1) (names_in c.args.bound.now) ∷ TheMark (codes ")") ∷ ps))
+    rw (p.1, p.2, before) (c.in_err-days.ensures.follows (declared_in c.args.decls.now cs) (TheMark (codes ",") ∷ ExprAt c.args.language (c.args.depth + 1) (names_in c.args.bound.now) ∷ TheMark (codes ")") ∷ ps))
 
 pub read_acc-returns-in_err-first-clause-follows : goal.read_acc-returns-in_err-first-clause-follows
 read_acc-returns-in_err-first-clause-follows t c cs ps =
     let p = err_from_is_err_and c.from_residual-in_err-first.result c.from_residual-in_err-first.ensures.1 in
     let before =
-    c.in_ok-name.ensures.follows binder.Acc c.args.language c.args.depth (names_in c.args.bound.now) (scope_in c.args.decls.now cs) ps
+    c.in_ok-name.ensures.follows binder.Acc c.args.language c.args.depth (names_in c.args.bound.now) (declared_in c.args.decls.now cs) ps
     ∙ c.in_ok-body.ensures.follows cs (TheMark (codes ",") ∷ IntegerAt 100_000 ∷ TheMark (codes ",") ∷ ExprAt c.args.language (c.args.depth + 1) (names_in c.args.bound.now) ∷ TheMark (codes ")") ∷ ps)
-    ∙ c.in_ok-days.ensures.follows (scope_in c.args.decls.now cs) (TheMark (codes ",") ∷ ExprAt c.args.language (c.args.depth + 1) (names_in c.args.bound.now) ∷ TheMark (codes ")") ∷ ps) in
+    ∙ c.in_ok-days.ensures.follows (declared_in c.args.decls.now cs) (TheMark (codes ",") ∷ ExprAt c.args.language (c.args.depth + 1) (names_in c.args.bound.now) ∷ TheMark (codes ")") ∷ ps) in
     rw (p.1, p.2, before) (c.in_err-first.ensures.follows cs (TheMark (codes ")") ∷ ps))
 
 pub read_acc-returns-in_err-rest-clause-follows : goal.read_acc-returns-in_err-rest-clause-follows
 read_acc-returns-in_err-rest-clause-follows t c cs ps =
     let p = err_from_is_err_and c.from_residual-in_err-rest.result c.from_residual-in_err-rest.ensures.1 in
     let before =
-    c.in_ok-name.ensures.follows binder.Acc c.args.language c.args.depth (names_in c.args.bound.now) (scope_in c.args.decls.now cs) ps
+    c.in_ok-name.ensures.follows binder.Acc c.args.language c.args.depth (names_in c.args.bound.now) (declared_in c.args.decls.now cs) ps
     ∙ c.in_ok-body.ensures.follows cs (TheMark (codes ",") ∷ IntegerAt 100_000 ∷ TheMark (codes ",") ∷ ExprAt c.args.language (c.args.depth + 1) (names_in c.args.bound.now) ∷ TheMark (codes ")") ∷ ps)
-    ∙ c.in_ok-days.ensures.follows (scope_in c.args.decls.now cs) (TheMark (codes ",") ∷ ExprAt c.args.language (c.args.depth + 1) (names_in c.args.bound.now) ∷ TheMark (codes ")") ∷ ps)
+    ∙ c.in_ok-days.ensures.follows (declared_in c.args.decls.now cs) (TheMark (codes ",") ∷ ExprAt c.args.language (c.args.depth + 1) (names_in c.args.bound.now) ∷ TheMark (codes ")") ∷ ps)
     ∙ c.in_ok-first.ensures.follows cs (TheMark (codes ")") ∷ ps) in
-    rw (p.1, p.2, before) (c.in_err-rest.ensures.follows (scope_in c.args.decls.now cs) ps)
+    rw (p.1, p.2, before) (c.in_err-rest.ensures.follows (declared_in c.args.decls.now cs) ps)
 
 pub read_acc-returns-clause-follows : goal.read_acc-returns-clause-follows
 read_acc-returns-clause-follows t c cs ps =
-    c.in_ok-name.ensures.follows binder.Acc c.args.language c.args.depth (names_in c.args.bound.now) (scope_in c.args.decls.now cs) ps
+    c.in_ok-name.ensures.follows binder.Acc c.args.language c.args.depth (names_in c.args.bound.now) (declared_in c.args.decls.now cs) ps
     ∙ c.in_ok-body.ensures.follows cs (TheMark (codes ",") ∷ IntegerAt 100_000 ∷ TheMark (codes ",") ∷ ExprAt c.args.language (c.args.depth + 1) (names_in c.args.bound.now) ∷ TheMark (codes ")") ∷ ps)
-    ∙ c.in_ok-days.ensures.follows (scope_in c.args.decls.now cs) (TheMark (codes ",") ∷ ExprAt c.args.language (c.args.depth + 1) (names_in c.args.bound.now) ∷ TheMark (codes ")") ∷ ps)
+    ∙ c.in_ok-days.ensures.follows (declared_in c.args.decls.now cs) (TheMark (codes ",") ∷ ExprAt c.args.language (c.args.depth + 1) (names_in c.args.bound.now) ∷ TheMark (codes ")") ∷ ps)
     ∙ c.in_ok-first.ensures.follows cs (TheMark (codes ")") ∷ ps)
-    ∙ c.in_ok-rest.ensures.follows (scope_in c.args.decls.now cs) ps
+    ∙ c.in_ok-rest.ensures.follows (declared_in c.args.decls.now cs) ps
 
 pub read_acc-returns-clause-spelled : goal.read_acc-returns-clause-spelled
 read_acc-returns-clause-spelled t c ts first =

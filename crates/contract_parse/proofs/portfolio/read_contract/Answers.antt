@@ -9,7 +9,7 @@ use Rattle.contract_parse.specs.Names.{with_names}
 use Rattle.contract_parse.specs.Judgements.{new_at}
 use Rattle.contract_parse.specs.Spelling.{valued}
 use Rattle.contract_parse.specs.Places.{ContrAt, TheMark, run}
-use Rattle.contract_parse.specs.Reading.{scope_in}
+use Rattle.contract_parse.specs.Reading.{declared_in}
 use Rattle.contract_parse.specs.ContractReading.{trees}
 use Rattle.contract_parse.specs.declared.names.NameSet.TheVariants.{Contract}
 use Rattle.contract_parse.proofs.Parts.{followed_by}
@@ -20,17 +20,17 @@ use Rattle.contract_parse.proofs.portfolio.read_contract.Goals as goal
 pub returns-in_err-name-clause-follows : goal.returns-in_err-name-clause-follows
 returns-in_err-name-clause-follows c ps =
     let p = err_from_is_err_and c.from_residual.result c.from_residual.ensures.1 in
-    rw (p.1, p.2) (c.in_err-name.ensures.follows Contract (scope_in c.args.decls.now []) (TheMark (codes "=") ∷ ContrAt 1 [] ∷ TheMark (codes ";") ∷ ps))
+    rw (p.1, p.2) (c.in_err-name.ensures.follows Contract (declared_in c.args.decls.now []) (TheMark (codes "=") ∷ ContrAt 1 [] ∷ TheMark (codes ";") ∷ ps))
 
 pub returns-in_err-contract-clause-follows : goal.returns-in_err-contract-clause-follows
 returns-in_err-contract-clause-follows c ps =
     let p = err_from_is_err_and c.from_residual-in_err-contract.result c.from_residual-in_err-contract.ensures.1 in
     let names = keys_of c.args.contracts.now.entries ++ c.in_ok-name.name ∷ [] in
-    rw (p.1, p.2, c.in_ok-name.ensures.follows Contract (scope_in c.args.decls.now []) (TheMark (codes "=") ∷ ContrAt 1 [] ∷ TheMark (codes ";") ∷ ps)) (c.in_err-contract.ensures.follows names ps)
+    rw (p.1, p.2, c.in_ok-name.ensures.follows Contract (declared_in c.args.decls.now []) (TheMark (codes "=") ∷ ContrAt 1 [] ∷ TheMark (codes ";") ∷ ps)) (c.in_err-contract.ensures.follows names ps)
 
 pub returns-clause-follows : goal.returns-clause-follows
 returns-clause-follows c ps =
-    let s = scope_in c.args.decls.now [] in
+    let s = declared_in c.args.decls.now [] in
     let names = keys_of c.args.contracts.now.entries ++ c.in_ok-name.name ∷ [] in
     c.in_ok-name.ensures.follows Contract s (TheMark (codes "=") ∷ ContrAt 1 [] ∷ TheMark (codes ";") ∷ ps)
     ∙ c.in_ok-contract.ensures.follows names ps

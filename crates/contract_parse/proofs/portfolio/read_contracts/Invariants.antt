@@ -5,14 +5,14 @@ use Rattle.contract_parse.specs.Tokens.{Tok}
 use Rattle.contract_parse.specs.Words.{Bytes}
 use Rattle.contract_parse.specs.Statements.{Entry, Repeat, contract_line}
 use Rattle.contract_parse.specs.Places.{ContractLines, Place, run}
-use Rattle.contract_parse.specs.Reading.{scope_in, tokens_ahead}
+use Rattle.contract_parse.specs.Reading.{declared_in, tokens_ahead}
 use Rattle.contract_parse.specs.ContractReading.{trees}
 use Rattle.contract_parse.proofs.portfolio.read_contracts.Given as goal
 
 abbrev pub invariant-loop-after : goal.invariant-loop-after
 invariant-loop-after l = record {
-  follows : (ps : List Place) → run (scope_in l.decls []) (ContractLines ∷ ps) (tokens_ahead l.fn.ahead) ≡ run (scope_in l.decls (keys l.contracts)) (ContractLines ∷ ps) (tokens_ahead l.ahead);
-  spelled : (after : List (Bytes × Contract)) (end : List Tok) → Repeat (Entry (contract_line (scope_in l.decls []))) (trees l.contracts.entries) after (tokens_ahead l.ahead) end → Repeat (Entry (contract_line (scope_in l.decls []))) [] after (tokens_ahead l.fn.ahead) end;
+  follows : (ps : List Place) → run (declared_in l.decls []) (ContractLines ∷ ps) (tokens_ahead l.fn.ahead) ≡ run (declared_in l.decls (keys l.contracts)) (ContractLines ∷ ps) (tokens_ahead l.ahead);
+  spelled : (after : List (Bytes × Contract)) (end : List Tok) → Repeat (Entry (contract_line (declared_in l.decls []))) (trees l.contracts.entries) after (tokens_ahead l.ahead) end → Repeat (Entry (contract_line (declared_in l.decls []))) [] after (tokens_ahead l.fn.ahead) end;
 }
 
 abbrev pub decreases-loop-after : goal.decreases-loop-after

@@ -4,7 +4,7 @@ use Rattle.indexmap.specs.IndexMap.{keys}
 use Rattle.contract_parse.specs.Tokens.{tokens}
 use Rattle.contract_parse.specs.Names.{nothing_declared}
 use Rattle.contract_parse.specs.Places.{ContractLines, TheEnd, decls_places}
-use Rattle.contract_parse.specs.Reading.{scope_in, tokens_ahead}
+use Rattle.contract_parse.specs.Reading.{declared_in, tokens_ahead}
 use Rattle.contract_parse.proofs.Parts.{followed_by, three_then}
 use Rattle.contract_parse.proofs.portfolio.read_portfolio.Goals as goal
 
@@ -35,14 +35,14 @@ returns-in_err-read_end-clause-follows c =
     c.in_ok-rest.ensures.follows nothing_declared (decls_places (ContractLines ∷ TheEnd ∷ []))
     ∙ c.in_ok-decls.ensures.follows (ContractLines ∷ TheEnd ∷ [])
     ∙ c.in_ok-contracts.ensures.follows (TheEnd ∷ []) in
-    rw (p.1, p.2, before) (c.in_err-read_end.ensures.follows (scope_in c.in_ok-decls.decls (keys c.in_ok-contracts.contracts)) [])
+    rw (p.1, p.2, before) (c.in_err-read_end.ensures.follows (declared_in c.in_ok-decls.decls (keys c.in_ok-contracts.contracts)) [])
 
 pub returns-clause-follows : goal.returns-clause-follows
 returns-clause-follows c =
     c.in_ok-rest.ensures.follows nothing_declared (decls_places (ContractLines ∷ TheEnd ∷ []))
     ∙ c.in_ok-decls.ensures.follows (ContractLines ∷ TheEnd ∷ [])
     ∙ c.in_ok-contracts.ensures.follows (TheEnd ∷ [])
-    ∙ c.in_ok-read_end.ensures.follows (scope_in c.in_ok-decls.decls (keys c.in_ok-contracts.contracts)) []
+    ∙ c.in_ok-read_end.ensures.follows (declared_in c.in_ok-decls.decls (keys c.in_ok-contracts.contracts)) []
 
 pub returns-clause-spelled : goal.returns-clause-spelled
 returns-clause-spelled c =

@@ -1,6 +1,6 @@
 use Rattle.std.proofs.Common.{ap, List, [], subst}
 use Rattle.term_core.specs.Declarations.{declarations}
-use Rattle.contract_parse.specs.Names.{scope_of}
+use Rattle.contract_parse.specs.Names.{declared_by}
 use Rattle.contract_print.specs.Canon.{contract_text}
 use Rattle.contract_print.proofs.AppendFacts.{lines_on}
 use Rattle.std.specs.Prelude.{All}
@@ -26,6 +26,6 @@ loop-name-preserved c =
     let all = subst (λ (xs : List (Name × Contr)). All (λ (entry : Name × Contract). IsWritableTerm entry.1) (trees xs)) left c.loop-name.invariant.writable in
     let next : Name × Contract = (c.in-Some.name.now, contract c.in-Some.c.now) in
     record {
-      lines = lines_on (λ (entry : Name × Contract). contract_text (scope_of d []) entry.0 entry.1) (trees c.loop-name.name-iterator) (trees c.next.new.self) next c.loop-name.out.items c.append_contract.new.out.items _ (ap trees left) (rw c.text.ensures at c.in_ok-append_contract.ensures) c.loop-name.invariant.lines;
+      lines = lines_on (λ (entry : Name × Contract). contract_text (declared_by d []) entry.0 entry.1) (trees c.loop-name.name-iterator) (trees c.next.new.self) next c.loop-name.out.items c.append_contract.new.out.items _ (ap trees left) (rw c.text.ensures at c.in_ok-append_contract.ensures) c.loop-name.invariant.lines;
       writable = All-tail (λ (entry : Name × Contract). IsWritableTerm entry.1) next (trees c.next.new.self) all;
     }

@@ -1,7 +1,7 @@
 use Rattle.std.proofs.Common.{◌≡◌, ◌++◌, []}
 use Rattle.std.specs.Prelude.{All}
 use Rattle.term_core.specs.Declarations.{declarations}
-use Rattle.contract_parse.specs.Names.{scope_of}
+use Rattle.contract_parse.specs.Names.{declared_by}
 use Rattle.contract_print.specs.Canon.{contracts_text}
 use Rattle.contract_print.specs.Writable.{IsWritableTerm, trees}
 use Rattle.contract_print.proofs.portfolio.append_contracts.Given as goal
@@ -9,6 +9,6 @@ use Rattle.contract_print.proofs.portfolio.append_contracts.Given as goal
 -- what stands, and the lines of what is left, are what stood and all lines
 abbrev pub invariant-loop-name : goal.invariant-loop-name
 invariant-loop-name l = record {
-  lines : l.out.items ++ contracts_text (scope_of (declarations l.portfolio.decls) []) (trees l.name-iterator) ≡ l.initial.out.items ++ contracts_text (scope_of (declarations l.portfolio.decls) []) (trees l.portfolio.contracts.entries);
+  lines : l.out.items ++ contracts_text (declared_by (declarations l.portfolio.decls) []) (trees l.name-iterator) ≡ l.initial.out.items ++ contracts_text (declared_by (declarations l.portfolio.decls) []) (trees l.portfolio.contracts.entries);
   writable : All (λ entry. IsWritableTerm entry.1) (trees l.name-iterator);
 }

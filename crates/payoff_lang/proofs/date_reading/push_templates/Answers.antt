@@ -3,7 +3,7 @@ use Rattle.std.proofs.lemmas.List.{append-nil}
 use Rattle.std.proofs.lemmas.Result.{err_from_is_err_and}
 use Rattle.contract_parse.specs.Tokens.{tokens}
 use Rattle.contract_parse.specs.Places.{MoreTemplates}
-use Rattle.contract_parse.specs.Reading.{scope_in}
+use Rattle.contract_parse.specs.Reading.{declared_in}
 use Rattle.contract_parse.proofs.Parts.{followed_by}
 use Rattle.contract_parse.proofs.PlusFacts.{plus_lacks, plus_opens}
 use Rattle.payoff_lang.proofs.date_reading.push_templates.Goals as goal
@@ -13,15 +13,15 @@ returns-in_err-name-clause-follows c cs ps =
     let p = err_from_is_err_and c.from_residual.result c.from_residual.ensures.1 in
     let before =
     c.loop-after.invariant.follows cs ps
-    ∙ plus_opens (scope_in c.args.decls.now cs) ps (tokens c.loop-after.rest.now) (tokens c.in-Some.after.now) c.in-Some.ensures.found in
-    rw (p.1, p.2, before) (c.in_err-name.ensures.follows (scope_in c.args.decls.now cs) (MoreTemplates ∷ ps))
+    ∙ plus_opens (declared_in c.args.decls.now cs) ps (tokens c.loop-after.rest.now) (tokens c.in-Some.after.now) c.in-Some.ensures.found in
+    rw (p.1, p.2, before) (c.in_err-name.ensures.follows (declared_in c.args.decls.now cs) (MoreTemplates ∷ ps))
 
 pub loop-after-preserved : goal.loop-after-preserved
 loop-after-preserved c = record {
   follows = λ cs ps.
       c.loop-after.invariant.follows cs ps
-      ∙ plus_opens (scope_in c.args.decls.now cs) ps (tokens c.loop-after.rest.now) (tokens c.in-Some.after.now) c.in-Some.ensures.found
-      ∙ c.in_ok-name.ensures.follows (scope_in c.args.decls.now cs) (MoreTemplates ∷ ps);
+      ∙ plus_opens (declared_in c.args.decls.now cs) ps (tokens c.loop-after.rest.now) (tokens c.in-Some.after.now) c.in-Some.ensures.found
+      ∙ c.in_ok-name.ensures.follows (declared_in c.args.decls.now cs) (MoreTemplates ∷ ps);
   spelled = λ after end x.
       c.loop-after.invariant.spelled after end
       (record {
@@ -35,7 +35,7 @@ loop-after-preserved c = record {
 pub returns-clause-follows : goal.returns-clause-follows
 returns-clause-follows c cs ps =
     c.loop-after.invariant.follows cs ps
-    ∙ plus_lacks (scope_in c.args.decls.now cs) ps (tokens c.loop-after.rest.now) c.in_default.ensures.lacks
+    ∙ plus_lacks (declared_in c.args.decls.now cs) ps (tokens c.loop-after.rest.now) c.in_default.ensures.lacks
 
 pub returns-clause-spelled : goal.returns-clause-spelled
 returns-clause-spelled c = c.loop-after.invariant.spelled c.loop-after.names.items (tokens c.loop-after.rest.now) (record { written = []; is = sym (append-nil c.loop-after.names.items); spelled = refl })

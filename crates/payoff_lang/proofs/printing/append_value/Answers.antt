@@ -3,7 +3,7 @@ use Rattle.term_core.specs.Declarations.{declarations}
 use Rattle.term_core.specs.Terms.{Expression, expression}
 use Rattle.contract_print.specs.Writable.{IsWritable}
 use Rattle.payoff_lang.specs.Code.{value_expression}
-use Rattle.payoff_lang.specs.CodeTexts.{code_scope}
+use Rattle.payoff_lang.specs.CodeTexts.{declared_for_code}
 use Rattle.payoff_lang.specs.Numbered.{dates_lent, numbered, with_dates}
 use Rattle.payoff_lang.proofs.NumberedFacts.{height_numbered, writable_numbered, written_as}
 use Rattle.payoff_lang.proofs.printing.append_value.Goals as goal
@@ -23,7 +23,7 @@ append_expr-requires-clause-low c =
 pub returns : goal.returns
 returns c =
     let v = value_expression c.args.v.now in
-    let s = code_scope (declarations c.args.decls.now) in
+    let s = declared_for_code (declarations c.args.decls.now) in
     let tree : expression c.in_ok-e.e ≡ numbered [] v = rw c.new-dates.ensures.items at c.in_ok-e.ensures.expression in
     let dates : dates_lent c.deref.result.now ≡ with_dates [] v = rw c.deref.ensures.value (rw c.new-dates.ensures.items at c.in_ok-e.ensures.dates) in
     let text = written_as s c.args.binders v (expression c.in_ok-e.e) (dates_lent c.deref.result.now) tree dates in

@@ -4,14 +4,14 @@ use Rattle.contract_parse.specs.Tokens.{tokens}
 use Rattle.contract_parse.specs.Names.{names_in}
 use Rattle.contract_parse.specs.Heads.{amount_head_at}
 use Rattle.contract_parse.specs.Places.{AmountAt, Next, amount_places}
-use Rattle.contract_parse.specs.Reading.{scope_in, tok_of}
+use Rattle.contract_parse.specs.Reading.{declared_in, tok_of}
 use Rattle.contract_parse.proofs.HeadFacts.{amount_heads}
 use Rattle.contract_parse.proofs.Steps.{passes, refuses, takes}
 use Rattle.payoff_lang.proofs.reading.+amount.Goals as goal
 
 pub read_amount-returns-in-Err-clause-follows : goal.read_amount-returns-in-Err-clause-follows
 read_amount-returns-in-Err-clause-follows t c cs ps =
-    let s = scope_in c.args.decls.now cs in
+    let s = declared_in c.args.decls.now cs in
     let names = names_in c.args.bound.now in
     rw c.refuse.ensures (refuses (amount_head_at c.args.depth) s (AmountAt c.args.depth names ∷ ps)
     (λ head. Next s (amount_places s c.args.depth names head ps)) c.in-Err.kind (tok_of c.next.result.0) c.args.rest.now
@@ -19,7 +19,7 @@ read_amount-returns-in-Err-clause-follows t c cs ps =
 
 pub read_amount-returns-in-Ok-clause-follows : goal.read_amount-returns-in-Ok-clause-follows
 read_amount-returns-in-Ok-clause-follows t c cs ps =
-    let s = scope_in c.args.decls.now cs in
+    let s = declared_in c.args.decls.now cs in
     let names = names_in c.args.bound.now in
     rw (passes (amount_head_at c.args.depth) (λ text left. (refl, refl)) s s (AmountAt c.args.depth names ∷ ps)
     (amount_places s c.args.depth names c.in-Ok.head ps) (λ head. Next s (amount_places s c.args.depth names head ps)) c.in-Ok.head

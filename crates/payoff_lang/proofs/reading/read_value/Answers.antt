@@ -4,7 +4,7 @@ use Rattle.term_core.specs.Sizes.{height}
 use Rattle.term_core.specs.Terms.{expression}
 use Rattle.contract_parse.specs.Tokens.{tokens}
 use Rattle.contract_parse.specs.Names.{names_in}
-use Rattle.contract_parse.specs.Reading.{scope_in}
+use Rattle.contract_parse.specs.Reading.{declared_in}
 use Rattle.payoff_lang.specs.Code.{ValueExpression}
 use Rattle.payoff_lang.specs.Dating.{plain}
 use Rattle.payoff_lang.specs.CodeReading.{date_at}
@@ -17,7 +17,7 @@ dated-requires c = have_dates (λ place. Unit {0}) (λ place. tt) (expression c.
 
 pub returns-clause-spelled : goal.returns-clause-spelled
 returns-clause-spelled c =
-    let s = scope_in c.args.decls.now [] in
+    let s = declared_in c.args.decls.now [] in
     subst (λ (v : ValueExpression). value_part s (names_in c.args.bound.now) v (tokens c.args.rest.now) (tokens c.in_ok-e.after.now)) (sym c.in_ok-v.ensures)
     (dated_spelled c.args.rest.now s (names_in c.args.bound.now) (expression c.in_ok-e.e) (tokens c.in_ok-e.after.now) c.in_ok-e.ensures.spelled)
 
