@@ -1,14 +1,15 @@
 -- Sets of declared names, and the names that are bound round a term.
-use Rattle.std.specs.Prelude.{ℕ, suc, Bool, List, [], ◌∷◌, Option, Some, None, option_map, position, if◌then◌else◌}
+use Rattle.std.specs.Prelude.{ℕ, suc, Bool, List, [], ◌∷◌, Option, Some, None, map, option_map, position, if◌then◌else◌}
+use Rattle.std.specs.Borrow.{Bor}
 use Rattle.std.specs.List.{list_any}
 use Rattle.std.specs.Map.{keys_of}
 use Rattle.std.specs.Str.{bytes_eq}
 use Rattle.contract_parse.specs.Words.{Bytes}
 use Rattle.contract_parse.specs.declared.names.NameSet.{NameSet}
 use Rattle.contract_parse.specs.declared.names.NameSet.TheVariants.{Party, Asset, Label, Template, Contract}
-use Rattle.contract_parse.specs.declared.names.Bound.{Bound}
-use Rattle.contract_parse.specs.declared.names.Bound.TheVariants as bound
 use Rattle.term_core.specs.Declarations.{Declarations}
+use Rattle.term_core.specs.Scopes.{held_in}
+use Rattle.term_core.specs.declared.scope.Scope.{Scope}
 
 -- the index of a name in declared order
 abbrev pub place_in : List Bytes → Bytes → Option ℕ
@@ -22,10 +23,13 @@ abbrev pub back_to : List Bytes → Bytes → Option ℕ
 back_to [] name = None
 back_to (inner ∷ outer) name = if bytes_eq inner name then Some 0 else option_map (λ back. suc back) (back_to outer name)
 
--- the names that are bound, innermost first
-abbrev pub names_in : Bound → List Bytes
-names_in bound.Outermost = []
-names_in (bound.In' name p outer) = name.now ∷ names_in outer
+-- the names that are bound round a term, as the program has them
+abbrev pub BoundNames : Type 0
+BoundNames = Scope (Bor Bytes)
+
+-- the same, innermost first
+abbrev pub names_in : BoundNames → List Bytes
+names_in bound = map (λ name. name.now) (held_in bound)
 
 -- the five sets of names that a text declares
 pub record DeclaredNames : Type 0 where

@@ -7,7 +7,7 @@ use Rattle.term_core.specs.declared.terms.Expr.{Expr}
 use Rattle.contract_parse.specs.Tokens.{Tok, tokens}
 use Rattle.contract_parse.specs.Words.{Bytes}
 use Rattle.contract_parse.specs.Heads.{Begins, BeginsContract}
-use Rattle.contract_parse.specs.Names.{DeclaredNames, names_in, with_names}
+use Rattle.contract_parse.specs.Names.{BoundNames, DeclaredNames, names_in, with_names}
 use Rattle.contract_parse.specs.Spelling.{Part, contr, expr, word}
 use Rattle.contract_parse.specs.Places.{Leaves, Place, contr_places, expr_places, run}
 use Rattle.contract_parse.specs.Reading.{declared_in, tokens_ahead}
@@ -15,7 +15,6 @@ use Rattle.contract_parse.specs.declared.faults.ReadErr.{ReadErr}
 use Rattle.contract_parse.specs.declared.heads.First.{First}
 use Rattle.contract_parse.specs.declared.heads.Head.{Head}
 use Rattle.contract_parse.specs.declared.heads.Language.{Language}
-use Rattle.contract_parse.specs.declared.names.Bound.{Bound}
 use Rattle.contract_parse.specs.declared.names.NameSet.{NameSet}
 use Rattle.contract_parse.specs.declared.words.Lookahead.{Lookahead}
 
@@ -59,10 +58,10 @@ DeclaresLines set names behind lines ahead result =
     (run (with_names set [] s) (lines ∷ ps) (tokens_ahead ahead))
 
 -- the grammar's parts of the program's values, over declared names and under those that are bound
-abbrev pub expression_in : Language → Decls → Bound → Expr → Part
+abbrev pub expression_in : Language → Decls → BoundNames → Expr → Part
 expression_in l d bound e = expr l (declared_in d []) (names_in bound) (expression e)
 
-abbrev pub contract_in : Decls → Bound → Contr → Part
+abbrev pub contract_in : Decls → BoundNames → Contr → Part
 contract_in d bound c = contr (declared_in d []) (names_in bound) (contract c)
 
 -- the first token of an expression, and of a contract
@@ -73,10 +72,10 @@ abbrev pub first_token_of_contract : Head → Part
 first_token_of_contract head ts rest = (t : Tok) × (ts ≡ t ∷ rest) × BeginsContract t head
 
 -- what stands behind it
-abbrev pub behind_first : Language → ℕ → Bound → First → DeclaredNames → List Place → List Place
+abbrev pub behind_first : Language → ℕ → BoundNames → First → DeclaredNames → List Place → List Place
 behind_first l depth bound first s ps = expr_places s l depth (names_in bound) first ps
 
-abbrev pub behind_head : ℕ → Bound → Head → DeclaredNames → List Place → List Place
+abbrev pub behind_head : ℕ → BoundNames → Head → DeclaredNames → List Place → List Place
 behind_head depth bound head s ps = contr_places s depth (names_in bound) head ps
 
 -- the bytes spell the part, up to other bytes

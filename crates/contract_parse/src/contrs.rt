@@ -17,12 +17,11 @@ use crate::exprs::read_expr;
 use crate::faults::ReadErr;
 use crate::heads::{Head, Language, head_at};
 use crate::judges::refuse;
-use crate::names::Bound;
 use crate::readers::{read_binder, read_days, read_use_of_set, skip_mark, skip_word};
 use crate::words::next;
 use indexmap::{IndexMap, IndexSet};
 use std::alloc::Global;
-use term_core::{Contr, Days, Decls, Expr, Name};
+use term_core::{Contr, Days, Decls, Expr, Name, Scope};
 
 // A declared name of a set behind a mark.
 #[tactic(auto, using(crate::proofs::Parts::followed_by))]
@@ -77,7 +76,7 @@ fn read_pay<'a>(decls: &Decls, rest: &'a [u8]) -> Result<(Contr, &'a [u8]), Read
 fn read_factor<'a>(
     alloc: Global,
     decls: &Decls,
-    bound: &Bound<'_>,
+    bound: &Scope<&[u8]>,
     depth: u32,
     rest: &'a [u8],
 ) -> Result<(Expr, &'a [u8]), ReadErr>
@@ -99,7 +98,7 @@ fn read_factor<'a>(
 fn read_boxed<'a>(
     alloc: Global,
     decls: &Decls,
-    bound: &Bound<'_>,
+    bound: &Scope<&[u8]>,
     depth: u32,
     rest: &'a [u8],
 ) -> Result<(Box<Contr>, &'a [u8]), ReadErr>
@@ -121,7 +120,7 @@ fn read_boxed<'a>(
 fn read_behind_mark<'a>(
     alloc: Global,
     decls: &Decls,
-    bound: &Bound<'_>,
+    bound: &Scope<&[u8]>,
     depth: u32,
     wanted: &[u8],
     rest: &'a [u8],
@@ -144,7 +143,7 @@ fn read_behind_mark<'a>(
 fn read_behind_word<'a>(
     alloc: Global,
     decls: &Decls,
-    bound: &Bound<'_>,
+    bound: &Scope<&[u8]>,
     depth: u32,
     wanted: &[u8],
     rest: &'a [u8],
@@ -167,7 +166,7 @@ fn read_behind_word<'a>(
 fn read_branches<'a>(
     alloc: Global,
     decls: &Decls,
-    bound: &Bound<'_>,
+    bound: &Scope<&[u8]>,
     depth: u32,
     rest: &'a [u8],
 ) -> Result<(Box<Contr>, Box<Contr>, &'a [u8]), ReadErr>
@@ -194,7 +193,7 @@ fn read_branches<'a>(
 fn read_both<'a>(
     alloc: Global,
     decls: &Decls,
-    bound: &Bound<'_>,
+    bound: &Scope<&[u8]>,
     depth: u32,
     rest: &'a [u8],
 ) -> Result<(Contr, &'a [u8]), ReadErr>
@@ -217,7 +216,7 @@ fn read_both<'a>(
 fn read_scaled<'a>(
     alloc: Global,
     decls: &Decls,
-    bound: &Bound<'_>,
+    bound: &Scope<&[u8]>,
     depth: u32,
     rest: &'a [u8],
 ) -> Result<(Contr, &'a [u8]), ReadErr>
@@ -240,7 +239,7 @@ fn read_scaled<'a>(
 fn read_after<'a>(
     alloc: Global,
     decls: &Decls,
-    bound: &Bound<'_>,
+    bound: &Scope<&[u8]>,
     depth: u32,
     rest: &'a [u8],
 ) -> Result<(Contr, &'a [u8]), ReadErr>
@@ -264,7 +263,7 @@ fn read_after<'a>(
 fn read_let<'a>(
     alloc: Global,
     decls: &Decls,
-    bound: &Bound<'_>,
+    bound: &Scope<&[u8]>,
     depth: u32,
     rest: &'a [u8],
 ) -> Result<(Contr, &'a [u8]), ReadErr>
@@ -278,8 +277,8 @@ fn read_let<'a>(
     let (name, rest) = read_binder(rest)?;
     let rest = skip_mark(rest, b"=")?;
     let (value, rest) = read_expr(alloc, Language::Contracts, decls, bound, depth + 1, rest)?;
-    let inner = Bound::In {
-        name,
+    let inner = Scope::Bound {
+        held: name,
         outer: &*bound,
     };
     let (body, rest) = read_behind_word(alloc, decls, &inner, depth, b"in", rest)?;
@@ -292,7 +291,7 @@ fn read_let<'a>(
 fn read_within<'a>(
     alloc: Global,
     decls: &Decls,
-    bound: &Bound<'_>,
+    bound: &Scope<&[u8]>,
     depth: u32,
     rest: &'a [u8],
 ) -> Result<(Contr, &'a [u8]), ReadErr>
@@ -323,7 +322,7 @@ fn read_behind_head<'a>(
     head: Head,
     alloc: Global,
     decls: &Decls,
-    bound: &Bound<'_>,
+    bound: &Scope<&[u8]>,
     depth: u32,
     rest: &'a [u8],
 ) -> Result<(Contr, &'a [u8]), ReadErr>
@@ -351,7 +350,7 @@ fn read_behind_head<'a>(
 pub fn read_contr<'a>(
     alloc: Global,
     decls: &Decls,
-    bound: &Bound<'_>,
+    bound: &Scope<&[u8]>,
     depth: u32,
     rest: &'a [u8],
 ) -> Result<(Contr, &'a [u8]), ReadErr>

@@ -17,7 +17,6 @@ use crate::dates::read_bytes_left_at_date;
 use crate::faults::ReadErr;
 use crate::heads::{First, Language, Operator, first_at};
 use crate::judges::refuse;
-use crate::names::Bound;
 use crate::readers::{
     read_binder, read_integer, read_literal, read_mode, read_offset, read_operator,
     read_use_of_map, skip_mark,
@@ -25,7 +24,7 @@ use crate::readers::{
 use crate::words::next;
 use decimal::{Decimal, Mode};
 use std::alloc::Global;
-use term_core::{Decls, Expr, NumOp};
+use term_core::{Decls, Expr, NumOp, Scope};
 
 fn joined(operator: Operator, left: Box<Expr>, right: Box<Expr>) -> Expr
     ensures { expression result ≡ joined operator (expression left.value) (expression right.value) }
@@ -165,7 +164,7 @@ fn read_boxed<'a>(
     alloc: Global,
     language: Language,
     decls: &Decls,
-    bound: &Bound<'_>,
+    bound: &Scope<&[u8]>,
     depth: u32,
     rest: &'a [u8],
 ) -> Result<(Box<Expr>, &'a [u8]), ReadErr>
@@ -188,7 +187,7 @@ fn read_behind<'a>(
     alloc: Global,
     language: Language,
     decls: &Decls,
-    bound: &Bound<'_>,
+    bound: &Scope<&[u8]>,
     depth: u32,
     wanted: &[u8],
     rest: &'a [u8],
@@ -212,7 +211,7 @@ fn read_operand<'a>(
     alloc: Global,
     language: Language,
     decls: &Decls,
-    bound: &Bound<'_>,
+    bound: &Scope<&[u8]>,
     depth: u32,
     rest: &'a [u8],
 ) -> Result<(Box<Expr>, &'a [u8]), ReadErr>
@@ -237,7 +236,7 @@ fn read_neg<'a>(
     alloc: Global,
     language: Language,
     decls: &Decls,
-    bound: &Bound<'_>,
+    bound: &Scope<&[u8]>,
     depth: u32,
     rest: &'a [u8],
 ) -> Result<(Expr, &'a [u8]), ReadErr>
@@ -259,7 +258,7 @@ fn read_not<'a>(
     alloc: Global,
     language: Language,
     decls: &Decls,
-    bound: &Bound<'_>,
+    bound: &Scope<&[u8]>,
     depth: u32,
     rest: &'a [u8],
 ) -> Result<(Expr, &'a [u8]), ReadErr>
@@ -281,7 +280,7 @@ fn read_pair<'a>(
     alloc: Global,
     language: Language,
     decls: &Decls,
-    bound: &Bound<'_>,
+    bound: &Scope<&[u8]>,
     depth: u32,
     rest: &'a [u8],
 ) -> Result<(Box<Expr>, Box<Expr>, &'a [u8]), ReadErr>
@@ -310,7 +309,7 @@ fn read_min<'a>(
     alloc: Global,
     language: Language,
     decls: &Decls,
-    bound: &Bound<'_>,
+    bound: &Scope<&[u8]>,
     depth: u32,
     rest: &'a [u8],
 ) -> Result<(Expr, &'a [u8]), ReadErr>
@@ -333,7 +332,7 @@ fn read_max<'a>(
     alloc: Global,
     language: Language,
     decls: &Decls,
-    bound: &Bound<'_>,
+    bound: &Scope<&[u8]>,
     depth: u32,
     rest: &'a [u8],
 ) -> Result<(Expr, &'a [u8]), ReadErr>
@@ -356,7 +355,7 @@ fn read_infix<'a>(
     alloc: Global,
     language: Language,
     decls: &Decls,
-    bound: &Bound<'_>,
+    bound: &Scope<&[u8]>,
     depth: u32,
     rest: &'a [u8],
 ) -> Result<(Expr, &'a [u8]), ReadErr>
@@ -382,7 +381,7 @@ fn read_choice<'a>(
     alloc: Global,
     language: Language,
     decls: &Decls,
-    bound: &Bound<'_>,
+    bound: &Scope<&[u8]>,
     depth: u32,
     rest: &'a [u8],
 ) -> Result<(Expr, &'a [u8]), ReadErr>
@@ -407,7 +406,7 @@ fn read_widen<'a>(
     alloc: Global,
     language: Language,
     decls: &Decls,
-    bound: &Bound<'_>,
+    bound: &Scope<&[u8]>,
     depth: u32,
     rest: &'a [u8],
 ) -> Result<(Expr, &'a [u8]), ReadErr>
@@ -431,7 +430,7 @@ fn read_round<'a>(
     alloc: Global,
     language: Language,
     decls: &Decls,
-    bound: &Bound<'_>,
+    bound: &Scope<&[u8]>,
     depth: u32,
     rest: &'a [u8],
 ) -> Result<(Expr, &'a [u8]), ReadErr>
@@ -455,7 +454,7 @@ fn read_div<'a>(
     alloc: Global,
     language: Language,
     decls: &Decls,
-    bound: &Bound<'_>,
+    bound: &Scope<&[u8]>,
     depth: u32,
     rest: &'a [u8],
 ) -> Result<(Expr, &'a [u8]), ReadErr>
@@ -488,7 +487,7 @@ fn read_acc<'a>(
     alloc: Global,
     language: Language,
     decls: &Decls,
-    bound: &Bound<'_>,
+    bound: &Scope<&[u8]>,
     depth: u32,
     rest: &'a [u8],
 ) -> Result<(Expr, &'a [u8]), ReadErr>
@@ -500,8 +499,8 @@ fn read_acc<'a>(
     ensures shorter { IfOk result (λ r. length r.1.now ≤ length rest.now) }
 {
     let (name, rest) = read_bound_name(rest)?;
-    let inner = Bound::In {
-        name,
+    let inner = Scope::Bound {
+        held: name,
         outer: &*bound,
     };
     let (body, rest) = read_behind(alloc, language, decls, &inner, depth, b",", rest)?;
@@ -518,7 +517,7 @@ fn read_behind_first<'a>(
     alloc: Global,
     language: Language,
     decls: &Decls,
-    bound: &Bound<'_>,
+    bound: &Scope<&[u8]>,
     depth: u32,
     rest: &'a [u8],
 ) -> Result<(Expr, &'a [u8]), ReadErr>
@@ -556,7 +555,7 @@ pub fn read_expr<'a>(
     alloc: Global,
     language: Language,
     decls: &Decls,
-    bound: &Bound<'_>,
+    bound: &Scope<&[u8]>,
     depth: u32,
     rest: &'a [u8],
 ) -> Result<(Expr, &'a [u8]), ReadErr>

@@ -8,11 +8,10 @@ ghost use Rattle.contract_parse.specs.Reading.{tok_of};
 
 use crate::faults::TextKind;
 use crate::judges::{literal_at, variable_at};
-use crate::names::Bound;
 use crate::token::{Kind, Lexeme};
 use crate::words::{is_name, is_number, is_the_mark, is_the_word};
 use decimal::Decimal;
-use term_core::{CmpOp, LogicOp, NumOp};
+use term_core::{CmpOp, LogicOp, NumOp, Scope};
 
 /// The language whose terms are read: contracts, or payoff code. They differ in the word that reads an observable, and in
 /// how many terms may be open at once.
@@ -141,7 +140,7 @@ fn first_number(token: &Lexeme<'_>) -> Result<First, TextKind>
     Ok(First::Number { number })
 }
 
-fn first_name(bound: &Bound<'_>, token: &Lexeme<'_>) -> Result<First, TextKind>
+fn first_name(bound: &Scope<&[u8]>, token: &Lexeme<'_>) -> Result<First, TextKind>
     requires { length (names_in bound.now) ≤ 401 }
     ensures { result ≡ first_name (variable_at (names_in bound.now) (tok_of token.now)) }
 {
@@ -149,7 +148,7 @@ fn first_name(bound: &Bound<'_>, token: &Lexeme<'_>) -> Result<First, TextKind>
     Ok(First::Name { back })
 }
 
-fn first_of(language: Language, bound: &Bound<'_>, token: &Lexeme<'_>) -> Result<First, TextKind>
+fn first_of(language: Language, bound: &Scope<&[u8]>, token: &Lexeme<'_>) -> Result<First, TextKind>
     requires { length (names_in bound.now) ≤ 401 }
     ensures { result ≡ first_of language (names_in bound.now) (tok_of token.now) }
 {
@@ -169,7 +168,7 @@ fn first_of(language: Language, bound: &Bound<'_>, token: &Lexeme<'_>) -> Result
 /// How an expression of a depth begins at a token, or the kind of the token's fault.
 pub fn first_at(
     language: Language,
-    bound: &Bound<'_>,
+    bound: &Scope<&[u8]>,
     depth: u32,
     token: &Lexeme<'_>,
 ) -> Result<First, TextKind>

@@ -7,11 +7,11 @@ ghost use Rattle.contract_parse.specs.Reading.{IsBetween, IsBound, tok_of};
 
 use crate::faults::{ReadErr, Refusal, TextKind};
 use crate::heads::Operator;
-use crate::names::{Bound, back_to};
+use crate::names::back_to;
 use crate::token::{Kind, Lexeme};
 use crate::words::{is_date, is_integer, is_name, is_number, is_the_mark, is_the_word};
 use decimal::{Decimal, Mode, decimal_of, whole_number, widen};
-use term_core::{CmpOp, LogicOp, NumOp, epoch_day};
+use term_core::{CmpOp, LogicOp, NumOp, Scope, epoch_day};
 
 /// The fault of this kind at a token.
 pub fn refuse(kind: TextKind, token: &Lexeme<'_>) -> ReadErr
@@ -149,7 +149,7 @@ pub fn binder_at<'a>(token: &Lexeme<'a>) -> Result<&'a [u8], TextKind>
 }
 
 /// A bound name, by the binders between it and its own.
-pub fn variable_at(bound: &Bound<'_>, token: &Lexeme<'_>) -> Result<u32, TextKind>
+pub fn variable_at(bound: &Scope<&[u8]>, token: &Lexeme<'_>) -> Result<u32, TextKind>
     requires { length (names_in bound.now) ≤ 401 }
     ensures { result ≡ variable_at (names_in bound.now) (tok_of token.now) }
 {

@@ -44,7 +44,6 @@ pub use faults::{ReadErr, Refusal};
 pub use heads::{AmountHead, Language, amount_head_at};
 pub use judges::refuse;
 pub use lines::fault_at;
-pub use names::Bound;
 pub use readers::{
     after_mark, after_word, read_binder, read_date_number, read_end, read_new_name,
     read_use_of_map, read_use_of_set, skip_mark, skip_version, skip_word,

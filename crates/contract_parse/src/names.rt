@@ -5,7 +5,7 @@ ghost use Rattle.indexmap.specs.IndexSet.{index_set_len};
 ghost use Rattle.contract_parse.specs.Names.{back_to, is_declared, names_in, place_in};
 
 use indexmap::{IndexMap, IndexSet};
-use term_core::Name;
+use term_core::{Name, Scope};
 
 /// The sets of names that a text declares.
 #[derive(Clone, Copy)]
@@ -17,25 +17,15 @@ pub enum NameSet {
     Contract,
 }
 
-/// The names that are bound round a term, the innermost first.
-#[derive(Clone, Copy)]
-pub enum Bound<'a> {
-    Outermost,
-    In {
-        name: &'a [u8],
-        outer: &'a Bound<'a>,
-    },
-}
-
 /// How many binders stand between a name and its own.
-pub fn back_to(bound: &Bound<'_>, name: &[u8]) -> Option<u32>
+pub fn back_to(bound: &Scope<&[u8]>, name: &[u8]) -> Option<u32>
     requires { length (names_in bound.now) ≤ 401 }
     ensures value { result ≡ back_to (names_in bound.now) name.now }
     ensures within { IfSome result (λ back. back < length (names_in bound.now)) }
 {
     match bound {
-        Bound::Outermost => None,
-        Bound::In { name: inner, outer } => {
+        Scope::Empty => None,
+        Scope::Bound { held: inner, outer } => {
             if *inner == name {
                 Some(0)
             } else {

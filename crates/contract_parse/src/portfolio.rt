@@ -20,12 +20,11 @@ use crate::cursor::start_text;
 use crate::decls::read_decls;
 use crate::faults::{ParseErr, ReadErr};
 use crate::lines::fault_at;
-use crate::names::Bound;
 use crate::readers::{after_word, read_end, read_new_name, skip_mark, skip_version, skip_word};
 use crate::words::{Lookahead, look};
 use indexmap::IndexMap;
 use std::alloc::Global;
-use term_core::{Contr, Decls, Name, Portfolio};
+use term_core::{Contr, Decls, Name, Portfolio, Scope};
 
 // A contract behind its name, to the end of its line.
 #[tactic(auto, using(crate::proofs::Parts::followed_by))]
@@ -42,7 +41,7 @@ fn read_definition<'a>(
     ensures shorter { IfOk result (λ r. length r.1.now < length rest.now) }
 {
     let rest = skip_mark(rest, b"=")?;
-    let (body, rest) = read_contr(alloc, decls, &Bound::Outermost, 1, rest)?;
+    let (body, rest) = read_contr(alloc, decls, &Scope::Empty, 1, rest)?;
     let rest = skip_mark(rest, b";")?;
     Ok((body, rest))
 }

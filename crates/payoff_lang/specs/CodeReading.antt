@@ -6,12 +6,11 @@ use Rattle.contract_parse.specs.Tokens.{Tok, tokens}
 use Rattle.contract_parse.specs.Words.{Bytes, is_the_mark}
 use Rattle.contract_parse.specs.Heads.{BeginsAmount}
 use Rattle.term_core.specs.declared.decls.Decls.{Decls}
-use Rattle.contract_parse.specs.Names.{DeclaredNames, names_in, place_in}
+use Rattle.contract_parse.specs.Names.{BoundNames, DeclaredNames, names_in, place_in}
 use Rattle.contract_parse.specs.Judgements.{whole}
 use Rattle.contract_parse.specs.Spelling.{Part, templates_part}
 use Rattle.contract_parse.specs.Places.{Place, amount_places}
 use Rattle.contract_parse.specs.Reading.{declared_in}
-use Rattle.contract_parse.specs.declared.names.Bound.{Bound}
 use Rattle.contract_parse.specs.declared.heads.AmountHead.{AmountHead}
 use Rattle.payoff_lang.specs.declared.code.DateExpr.{DateExpr}
 use Rattle.payoff_lang.specs.declared.code.Vx.{Vx}
@@ -36,10 +35,10 @@ pub record RisingTemplates (templates : List Bytes) (names : List ℕ) (ts rest 
 abbrev pub date_in : Decls → DateExpr → Part
 date_in d x = DatePart (declared_in d []) (date x)
 
-abbrev pub value_in : Decls → Bound → Vx → Part
+abbrev pub value_in : Decls → BoundNames → Vx → Part
 value_in d bound v = value_part (declared_in d []) (names_in bound) (value_expression v)
 
-abbrev pub code_in : Decls → Bound → Code → Part
+abbrev pub code_in : Decls → BoundNames → Code → Part
 code_in d bound k = code_part (declared_in d []) (names_in bound) (payoff_code k)
 
 -- the first token of an amount
@@ -47,7 +46,7 @@ abbrev pub first_token_of_amount : AmountHead → Part
 first_token_of_amount head ts rest = (t : Tok) × (ts ≡ t ∷ rest) × BeginsAmount t head
 
 -- what stands behind it
-abbrev pub behind_amount_head : ℕ → Bound → AmountHead → DeclaredNames → List Place → List Place
+abbrev pub behind_amount_head : ℕ → BoundNames → AmountHead → DeclaredNames → List Place → List Place
 behind_amount_head depth bound head s ps = amount_places s depth (names_in bound) head ps
 
 -- the number of the first token

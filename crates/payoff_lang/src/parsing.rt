@@ -23,12 +23,12 @@ use crate::code::Code;
 use crate::code_file::CodeFile;
 use crate::reading::read_amount;
 use contract_parse::{
-    Bound, Lookahead, ParseErr, ReadErr, TextKind, after_word, fault_at, look, read_decls,
-    read_end, read_new_name, refuse, skip_mark, skip_version, skip_word, start_text,
+    Lookahead, ParseErr, ReadErr, TextKind, after_word, fault_at, look, read_decls, read_end,
+    read_new_name, refuse, skip_mark, skip_version, skip_word, start_text,
 };
 use indexmap::IndexMap;
 use std::alloc::Global;
-use term_core::{Decls, Name};
+use term_core::{Decls, Name, Scope};
 
 // The name of the code, which is alone in its set.
 fn read_name(alloc: Global, rest: &[u8]) -> Result<(Name, &[u8]), ReadErr>
@@ -55,7 +55,7 @@ fn read_definition<'a>(
     ensures shorter { IfOk result (λ r. length r.1.now < length rest.now) }
 {
     let rest = skip_mark(rest, b"=")?;
-    let (code, rest) = read_amount(alloc, decls, &Bound::Outermost, 1, rest)?;
+    let (code, rest) = read_amount(alloc, decls, &Scope::Empty, 1, rest)?;
     let rest = skip_mark(rest, b";")?;
     Ok((code, rest))
 }

@@ -22,12 +22,12 @@ use crate::code::{Code, DateExpr, Vx};
 use crate::date_reading::read_date;
 use crate::dating::{Written, dated};
 use contract_parse::{
-    AmountHead, Bound, Language, ReadErr, amount_head_at, next, read_binder, read_expr,
-    read_use_of_set, refuse, skip_mark, skip_word,
+    AmountHead, Language, ReadErr, amount_head_at, next, read_binder, read_expr, read_use_of_set,
+    refuse, skip_mark, skip_word,
 };
 use indexmap::IndexSet;
 use std::alloc::Global;
-use term_core::{Decls, Name};
+use term_core::{Decls, Name, Scope};
 
 // A declared name of a set behind a mark.
 #[tactic(auto, using(contract_parse::proofs::Parts::followed_by))]
@@ -123,7 +123,7 @@ fn read_pay<'a>(alloc: Global, decls: &Decls, rest: &'a [u8]) -> Result<(Code, &
 fn read_value<'a>(
     alloc: Global,
     decls: &Decls,
-    bound: &Bound<'_>,
+    bound: &Scope<&[u8]>,
     depth: u32,
     rest: &'a [u8],
 ) -> Result<(Vx, &'a [u8]), ReadErr>
@@ -144,7 +144,7 @@ fn read_value<'a>(
 fn read_value_behind<'a>(
     alloc: Global,
     decls: &Decls,
-    bound: &Bound<'_>,
+    bound: &Scope<&[u8]>,
     depth: u32,
     wanted: &[u8],
     rest: &'a [u8],
@@ -166,7 +166,7 @@ fn read_value_behind<'a>(
 fn read_test<'a>(
     alloc: Global,
     decls: &Decls,
-    bound: &Bound<'_>,
+    bound: &Scope<&[u8]>,
     depth: u32,
     rest: &'a [u8],
 ) -> Result<(Vx, DateExpr, &'a [u8]), ReadErr>
@@ -189,7 +189,7 @@ fn read_test<'a>(
 fn read_boxed<'a>(
     alloc: Global,
     decls: &Decls,
-    bound: &Bound<'_>,
+    bound: &Scope<&[u8]>,
     depth: u32,
     rest: &'a [u8],
 ) -> Result<(Box<Code>, &'a [u8]), ReadErr>
@@ -211,7 +211,7 @@ fn read_boxed<'a>(
 fn read_behind_mark<'a>(
     alloc: Global,
     decls: &Decls,
-    bound: &Bound<'_>,
+    bound: &Scope<&[u8]>,
     depth: u32,
     wanted: &[u8],
     rest: &'a [u8],
@@ -234,7 +234,7 @@ fn read_behind_mark<'a>(
 fn read_behind_word<'a>(
     alloc: Global,
     decls: &Decls,
-    bound: &Bound<'_>,
+    bound: &Scope<&[u8]>,
     depth: u32,
     wanted: &[u8],
     rest: &'a [u8],
@@ -257,7 +257,7 @@ fn read_behind_word<'a>(
 fn read_branches<'a>(
     alloc: Global,
     decls: &Decls,
-    bound: &Bound<'_>,
+    bound: &Scope<&[u8]>,
     depth: u32,
     rest: &'a [u8],
 ) -> Result<(Box<Code>, Box<Code>, &'a [u8]), ReadErr>
@@ -283,7 +283,7 @@ fn read_branches<'a>(
 fn read_add<'a>(
     alloc: Global,
     decls: &Decls,
-    bound: &Bound<'_>,
+    bound: &Scope<&[u8]>,
     depth: u32,
     rest: &'a [u8],
 ) -> Result<(Code, &'a [u8]), ReadErr>
@@ -306,7 +306,7 @@ fn read_add<'a>(
 fn read_scaled<'a>(
     alloc: Global,
     decls: &Decls,
-    bound: &Bound<'_>,
+    bound: &Scope<&[u8]>,
     depth: u32,
     rest: &'a [u8],
 ) -> Result<(Code, &'a [u8]), ReadErr>
@@ -329,7 +329,7 @@ fn read_scaled<'a>(
 fn read_let<'a>(
     alloc: Global,
     decls: &Decls,
-    bound: &Bound<'_>,
+    bound: &Scope<&[u8]>,
     depth: u32,
     rest: &'a [u8],
 ) -> Result<(Code, &'a [u8]), ReadErr>
@@ -342,8 +342,8 @@ fn read_let<'a>(
 {
     let (name, rest) = read_binder(rest)?;
     let (value, rest) = read_value_behind(alloc, decls, bound, depth, b"=", rest)?;
-    let inner = Bound::In {
-        name,
+    let inner = Scope::Bound {
+        held: name,
         outer: &*bound,
     };
     let (body, rest) = read_behind_word(alloc, decls, &inner, depth, b"in", rest)?;
@@ -356,7 +356,7 @@ fn read_let<'a>(
 fn read_loop<'a>(
     alloc: Global,
     decls: &Decls,
-    bound: &Bound<'_>,
+    bound: &Scope<&[u8]>,
     depth: u32,
     rest: &'a [u8],
 ) -> Result<(Code, &'a [u8]), ReadErr>
@@ -386,7 +386,7 @@ fn read_loop<'a>(
 fn read_cut<'a>(
     alloc: Global,
     decls: &Decls,
-    bound: &Bound<'_>,
+    bound: &Scope<&[u8]>,
     depth: u32,
     rest: &'a [u8],
 ) -> Result<(Code, &'a [u8]), ReadErr>
@@ -409,7 +409,7 @@ fn read_behind_amount<'a>(
     head: AmountHead,
     alloc: Global,
     decls: &Decls,
-    bound: &Bound<'_>,
+    bound: &Scope<&[u8]>,
     depth: u32,
     rest: &'a [u8],
 ) -> Result<(Code, &'a [u8]), ReadErr>
@@ -437,7 +437,7 @@ fn read_behind_amount<'a>(
 pub fn read_amount<'a>(
     alloc: Global,
     decls: &Decls,
-    bound: &Bound<'_>,
+    bound: &Scope<&[u8]>,
     depth: u32,
     rest: &'a [u8],
 ) -> Result<(Code, &'a [u8]), ReadErr>
