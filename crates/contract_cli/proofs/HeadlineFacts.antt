@@ -23,7 +23,7 @@ use Rattle.contract_cli.proofs.AdvanceTexts.{advance_texts_are_texts}
 use Rattle.contract_cli.proofs.PayoffTexts.{payoff_texts_mean}
 use Rattle.contract_cli.proofs.RunFacts.{one_command}
 use Rattle.contract_cli.proofs.ValueFacts.{no_fault_done, one_value}
-use Rattle.contract_cli.proofs.ValueParts.{place_within}
+use Rattle.contract_cli.proofs.ValueParts.{index_within}
 
 -- ---- a run that did what its words ask for
 
@@ -156,9 +156,9 @@ module _ (b : CodeBook) (asked : ValueAsked) (inputs : ValueInputs) (can : CanVa
     curve = can.is_curve.curve;
     begun = can.fit.is_day.1;
     near = can.fit.is_day.2;
-    payer = place_within b.declarations.parties asked.between.from can.flow.from can.between.from;
-    receiver = place_within b.declarations.parties asked.between.to can.flow.to can.between.to;
-    asset = place_within b.declarations.assets asked.between.asset can.flow.asset can.between.asset;
+    payer = index_within b.declarations.parties asked.between.from can.flow.from can.between.from;
+    receiver = index_within b.declarations.parties asked.between.to can.flow.to can.between.to;
+    asset = index_within b.declarations.assets asked.between.asset can.flow.asset can.between.asset;
   }
 
 worth_of : (b : CodeBook) (asked : ValueAsked) (inputs : ValueInputs) (text : List ℕ) (h : IsValueText b asked inputs text) (c : Contract)

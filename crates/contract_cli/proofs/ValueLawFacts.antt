@@ -1,7 +1,7 @@
 -- The laws of the status of `value`, over how a run ends.
 use Rattle.std.proofs.Common.{◌≡◌, ◌∙◌, inl, inr, ℕ, List, ◌∷◌, ap, arith, refl, subst, sym}
 use Rattle.std.specs.Prelude.{Option, Some, None}
-use Rattle.contract_parse.specs.Names.{place_in}
+use Rattle.contract_parse.specs.Names.{index_in}
 use Rattle.payoff_lang.specs.CodeBooks.{CodeBook}
 use Rattle.payoff_lang.specs.CodeFiles.{CodeText}
 use Rattle.payoff_lang.proofs.OneCode.{one_code_text}
@@ -11,7 +11,7 @@ use Rattle.contract_cli.specs.RunPromise.{Edge, Meets, WritesAll, WritesNothing}
 use Rattle.contract_cli.specs.Statuses.{status_of}
 use Rattle.contract_cli.specs.FilesPromise.{IsNoCode, AnswersOnCode, no_code, on_code, value_stopped, value_told}
 use Rattle.contract_cli.specs.ValueLaws.{BadCodeIsExact, CauseOnCode, IsCodeWhere, IsExactOnCode, IsReadWholeForValue}
-use Rattle.contract_cli.specs.ValueLaws.{IsLongForValueAt, long_code, long_curve, long_fixings, IsTooLongForValue}
+use Rattle.contract_cli.specs.ValueLaws.{IsLongForValueAt, IsTooLongForValue, long_code, long_curve, long_fixings}
 use Rattle.contract_cli.specs.ValueLaws.{DeclaredNamesHavePlaces, TooLongForValueIs, TooLongForValueIsExact, ValueIsComplete, ValueRefusalsAreExact}
 use Rattle.contract_cli.specs.ValuePromise.{CanValue, IsValueText, Naming, StopsValue, ValueInputs, first_unknown_of, names_set}
 use Rattle.contract_cli.specs.ValueParts.{AreShortForValue}
@@ -140,9 +140,9 @@ value_is_complete words edge s asked inputs b m r spelled can =
     by_answer words edge s asked inputs m r _ (λ text a w. let h = value_whole asked inputs b s text spelled can a in inl (text, h.0, h.1, w)) (λ e w. inr (e, w))
 
 -- the first of names that are all declared has a place, and the others are declared
-first_place : (n : Naming) (ns : List Naming) (o : Option ℕ) → place_in n.among n.name ≡ o → first_unknown_of (n ∷ ns) ≡ None → ((k : ℕ) × (o ≡ Some k)) × (first_unknown_of ns ≡ None)
-first_place n ns None is none = absurd (let no : Some n.name ≡ None = sym (rw is refl) ∙ none in cc)
-first_place n ns (Some k) is none = ((k, refl), sym (rw is refl) ∙ none)
+first_index : (n : Naming) (ns : List Naming) (o : Option ℕ) → index_in n.among n.name ≡ o → first_unknown_of (n ∷ ns) ≡ None → ((k : ℕ) × (o ≡ Some k)) × (first_unknown_of ns ≡ None)
+first_index n ns None is none = absurd (let no : Some n.name ≡ None = sym (rw is refl) ∙ none in cc)
+first_index n ns (Some k) is none = ((k, refl), sym (rw is refl) ∙ none)
 
 pub declared_names_have_places : DeclaredNamesHavePlaces
 declared_names_have_places d asked none =
@@ -150,7 +150,7 @@ declared_names_have_places d asked none =
     let to : Naming = record { name = asked.between.to; among = d.parties } in
     let asset : Naming = record { name = asked.between.asset; among = d.assets } in
     let set = names_set d asked.settings in
-    let payer = first_place from (to ∷ asset ∷ set) (place_in d.parties asked.between.from) refl none in
-    let receiver = first_place to (asset ∷ set) (place_in d.parties asked.between.to) refl payer.1 in
-    let third = first_place asset set (place_in d.assets asked.between.asset) refl receiver.1 in
+    let payer = first_index from (to ∷ asset ∷ set) (index_in d.parties asked.between.from) refl none in
+    let receiver = first_index to (asset ∷ set) (index_in d.parties asked.between.to) refl payer.1 in
+    let third = first_index asset set (index_in d.assets asked.between.asset) refl receiver.1 in
     (record { from = payer.0.0; to = receiver.0.0; asset = third.0.0 }, record { from = payer.0.1; to = receiver.0.1; asset = third.0.1 })

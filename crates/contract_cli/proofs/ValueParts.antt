@@ -8,7 +8,7 @@ use Rattle.term_core.specs.Declarations.{Declarations}
 use Rattle.term_core.specs.Environments.{Environment}
 use Rattle.term_core.specs.Factors.{CurveRow}
 use Rattle.term_core.specs.Flows.{Flow}
-use Rattle.contract_parse.specs.Names.{place_in}
+use Rattle.contract_parse.specs.Names.{index_in}
 use Rattle.fixing_files.specs.Tables.{IsFirstFault, table_of}
 use Rattle.flow_eval.specs.declared.faults.FlowErr.TheVariants as flow
 use Rattle.payoff_lang.specs.CodeBooks.{CodeBook}
@@ -28,24 +28,24 @@ within_by : (n m k : ℕ) (b : Bool) → nat_lt n m ≡ b → cond b (Some n) No
 within_by n m k true lt e = let same : n ≡ k = cc in grind (arith, nat_tests)
 within_by n m k false lt e = absurd cc
 
-pub place_within : (names : List (List ℕ)) (name : List ℕ) (k : ℕ) → place_in names name ≡ Some k → k < length names
-place_within names name k is =
+pub index_within : (names : List (List ℕ)) (name : List ℕ) (k : ℕ) → index_in names name ≡ Some k → k < length names
+index_within names name k is =
     within_by (position_or_len (λ (n : List ℕ). bytes_eq name n) names) (length names) k
     (nat_lt (position_or_len (λ (n : List ℕ). bytes_eq name n) names) (length names)) refl is
 
 -- ---- names
 
 abbrev absent : Naming → Bool
-absent n = is_none (place_in n.among n.name)
+absent n = is_none (index_in n.among n.name)
 
 module _ (d : Declarations) (between : Between) where
   pub no_payer : (f : Fault) → IsUndeclared d.parties between.from f → IsUnknownBetween d between f
   no_payer f h = record { name = between.from; is_first = rw h.absent refl; fault_is = h.fault_is }
 
-  pub no_receiver : (from : ℕ) → place_in d.parties between.from ≡ Some from → (f : Fault) → IsUndeclared d.parties between.to f → IsUnknownBetween d between f
+  pub no_receiver : (from : ℕ) → index_in d.parties between.from ≡ Some from → (f : Fault) → IsUndeclared d.parties between.to f → IsUnknownBetween d between f
   no_receiver from one f h = record { name = between.to; is_first = rw (one, h.absent) refl; fault_is = h.fault_is }
 
-  pub no_asset : (from to : ℕ) → place_in d.parties between.from ≡ Some from → place_in d.parties between.to ≡ Some to → (f : Fault) → IsUndeclared d.assets between.asset f → IsUnknownBetween d between f
+  pub no_asset : (from to : ℕ) → index_in d.parties between.from ≡ Some from → index_in d.parties between.to ≡ Some to → (f : Fault) → IsUndeclared d.assets between.asset f → IsUnknownBetween d between f
   no_asset from to one two f h = record { name = between.asset; is_first = rw (one, two, h.absent) refl; fault_is = h.fault_is }
 
   pub known_between : (flow : Flow) → AreBetween d between flow → first_unknown_of (names_between d between) ≡ None
@@ -101,9 +101,9 @@ pub question_of : (b : CodeBook) (asked : ValueAsked) (setting : List ℕ) (day 
 question_of b asked setting day flow is are curve = record {
   begun = is.1;
   near = is.2;
-  payer = place_within b.declarations.parties asked.between.from flow.from are.from;
-  receiver = place_within b.declarations.parties asked.between.to flow.to are.to;
-  asset = place_within b.declarations.assets asked.between.asset flow.asset are.asset;
+  payer = index_within b.declarations.parties asked.between.from flow.from are.from;
+  receiver = index_within b.declarations.parties asked.between.to flow.to are.to;
+  asset = index_within b.declarations.assets asked.between.asset flow.asset are.asset;
 }
 
 -- ---- the whole

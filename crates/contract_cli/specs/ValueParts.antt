@@ -6,7 +6,7 @@ use Rattle.term_core.specs.Environments.{Environment, Place}
 use Rattle.term_core.specs.Factors.{CurveRow}
 use Rattle.term_core.specs.Flows.{Flow}
 use Rattle.term_core.specs.declared.rules.Rule.{Rule}
-use Rattle.contract_parse.specs.Names.{place_in}
+use Rattle.contract_parse.specs.Names.{index_in}
 use Rattle.fixing_files.specs.CurveTables.{HoldsCurve, IsFirstCurveFault}
 use Rattle.fixing_files.specs.Tables.{Holds, table_of}
 use Rattle.fixing_files.specs.declared.faults.RowFault.{RowFault}
@@ -37,7 +37,7 @@ flow_of parties = record { from = parties.from; to = parties.to; asset = parties
 
 -- a word is none of some names, and the fault says so
 pub record IsUndeclared (names : List (List ℕ)) (word : List ℕ) (f : Fault) : Type 0 where
-  pub absent : place_in names word ≡ None
+  pub absent : index_in names word ≡ None
   pub fault_is : f ≡ fault.UnknownName word
 
 -- the fault names the first name that is not declared

@@ -11,7 +11,7 @@ use Rattle.term_core.specs.Environments.{Environment, Extends, Place}
 use Rattle.term_core.specs.Factors.{CurveRow}
 use Rattle.term_core.specs.Flows.{Flow}
 use Rattle.term_core.specs.Reads.{first_unfixed}
-use Rattle.contract_parse.specs.Names.{place_in}
+use Rattle.contract_parse.specs.Names.{index_in}
 use Rattle.fixing_files.specs.CurveTables.{HoldsCurve, IsFirstCurveFault}
 use Rattle.fixing_files.specs.Tables.{Holds, IsFirstFault, table_of}
 use Rattle.fixing_files.specs.declared.faults.RowFault.{RowFault}
@@ -62,16 +62,16 @@ names_set d settings = map (λ setting. let n : Naming = record { name = setting
 
 -- the first that is not declared
 abbrev pub first_unknown_of : List Naming → Option (List ℕ)
-first_unknown_of names = option_map (λ n. n.name) (find (λ n. is_none (place_in n.among n.name)) names)
+first_unknown_of names = option_map (λ n. n.name) (find (λ n. is_none (index_in n.among n.name)) names)
 
 abbrev pub first_unknown : Declarations → ValueAsked → Option (List ℕ)
 first_unknown d asked = first_unknown_of (names_between d asked.between ++ names_set d asked.settings)
 
 -- the parties and the asset, by their places
 pub record AreBetween (d : Declarations) (between : Between) (flow : Flow) : Type 0 where
-  pub from : place_in d.parties between.from ≡ Some flow.from
-  pub to : place_in d.parties between.to ≡ Some flow.to
-  pub asset : place_in d.assets between.asset ≡ Some flow.asset
+  pub from : index_in d.parties between.from ≡ Some flow.from
+  pub to : index_in d.parties between.to ≡ Some flow.to
+  pub asset : index_in d.assets between.asset ≡ Some flow.asset
 
 -- the names are declared, and the day is in range
 pub record WordsFitCode (d : Declarations) (asked : ValueAsked) (day : ℤ) : Type 0 where

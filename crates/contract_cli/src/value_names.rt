@@ -3,7 +3,7 @@
 ghost use Rattle.std.specs.Prelude.{◌≡◌, ◌<◌, ◌^◌, IfOk, Some};
 ghost use Rattle.indexmap.specs.IndexSet.{index_set_len};
 ghost use Rattle.term_core.specs.Declarations.{declarations};
-ghost use Rattle.contract_parse.specs.Names.{place_in};
+ghost use Rattle.contract_parse.specs.Names.{index_in};
 ghost use Rattle.command_words.specs.Words.{between_by, value_by};
 ghost use Rattle.contract_cli.specs.Stopping.{AnswersBy};
 ghost use Rattle.contract_cli.specs.ValuePromise.{setting_by};
@@ -28,7 +28,7 @@ pub struct Parties {
 // The place of a name, or the fault that it is not declared.
 fn place_of(alloc: Global, names: &IndexSet<Name>, word: &str) -> Result<u32, Stop>
     requires { index_set_len names.now < 2 ^ 32 }
-    ensures { AnswersBy (λ place. place_in names.now.keys word.now ≡ Some place) (IsUndeclared names.now.keys word.now) result }
+    ensures { AnswersBy (λ index. index_in names.now.keys word.now ≡ Some index) (IsUndeclared names.now.keys word.now) result }
 {
     match names.get_index_of(word.as_bytes()) {
         Some(place) => Ok(place as u32),

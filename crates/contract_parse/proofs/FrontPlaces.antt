@@ -6,7 +6,7 @@ use Rattle.term_core.specs.Dates.{epoch_day_of}
 use Rattle.term_core.specs.Limits.{is_origin}
 use Rattle.contract_parse.specs.Tokens.{Tok}
 use Rattle.contract_parse.specs.Words.{Bytes, is_date, is_end, is_integer, is_name, is_number, is_the_mark, is_the_word}
-use Rattle.contract_parse.specs.Names.{is_declared, place_in}
+use Rattle.contract_parse.specs.Names.{index_in, is_declared}
 use Rattle.decimal.specs.Mantissas.{decimal_of}
 use Rattle.contract_parse.specs.Judgements.{above_limited, binder_at, bound_at, counted, date_number_at, days_at, integer_at, is_version, literal_at, mode_at, named, new_at, offset_at, operator_at, or_fault, origin_at, signed_decimal, signed_result, up_to, use_at, whole, widened}
 use Rattle.contract_parse.specs.Forms.{Part, Terminal, Nonterminal, Optional, Repeated, Form}
@@ -195,7 +195,7 @@ pub new_formed : (names : List Bytes) (t : Tok) → is_name t ≡ formed (new_at
 new_formed names t = if_formed (is_name t) _ (twice_formed (is_declared names t.text) t.text)
 
 pub use_formed : (names : List Bytes) (t : Tok) → is_name t ≡ formed (use_at names t)
-use_formed names t = if_formed (is_name t) _ (fault_formed Unknown (place_in names t.text) refl)
+use_formed names t = if_formed (is_name t) _ (fault_formed Unknown (index_in names t.text) refl)
 
 count_formed : (o : Option ℕ) → formed (counted o) ≡ true
 count_formed None = refl

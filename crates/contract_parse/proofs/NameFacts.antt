@@ -9,7 +9,7 @@ use Rattle.std.specs.Str.{bytes_eq}
 use Rattle.indexmap.specs.IndexSet.{insert_key}
 use Rattle.contract_parse.specs.Tokens.{Tok}
 use Rattle.contract_parse.specs.Words.{Bytes, is_integer, is_name}
-use Rattle.contract_parse.specs.Names.{DeclaredNames, is_declared, names_of, place_in, with_names}
+use Rattle.contract_parse.specs.Names.{DeclaredNames, index_in, is_declared, names_of, with_names}
 use Rattle.contract_parse.specs.Judgements.{counted, days_at, integer_at, named, new_at, or_fault, up_to, use_at, whole}
 use Rattle.term_core.specs.declared.terms.Days.TheVariants.{Num as Count, Named}
 
@@ -17,10 +17,10 @@ module _ (names : List Bytes) (t : Tok) where
   pub use_none : false ≡ is_name t → Err Syntax ≡ use_at names t
   use_none is = rw (sym is) refl
 
-  pub use_some : (i : ℕ) → true ≡ is_name t → Some i ≡ place_in names t.text → Ok i ≡ use_at names t
+  pub use_some : (i : ℕ) → true ≡ is_name t → Some i ≡ index_in names t.text → Ok i ≡ use_at names t
   use_some i is there = rw (sym is, sym there) refl
 
-  pub use_unknown : true ≡ is_name t → None ≡ place_in names t.text → Err Unknown ≡ use_at names t
+  pub use_unknown : true ≡ is_name t → None ≡ index_in names t.text → Err Unknown ≡ use_at names t
   use_unknown is absent = rw (sym is, sym absent) refl
 
   pub new_none : false ≡ is_name t → Err Syntax ≡ new_at names t

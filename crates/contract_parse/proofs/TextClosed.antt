@@ -19,7 +19,7 @@ use Rattle.term_core.specs.declared.terms.Days.TheVariants.{Num as Count, Named}
 use Rattle.term_core.specs.declared.terms.NumOp.TheVariants.{Plus, Minus, Times, Min, Max}
 use Rattle.contract_parse.specs.Tokens.{Tok}
 use Rattle.contract_parse.specs.Words.{Bytes, is_name, is_integer}
-use Rattle.contract_parse.specs.Names.{back_to, declared_by, place_in}
+use Rattle.contract_parse.specs.Names.{back_to, declared_by, index_in}
 use Rattle.contract_parse.specs.Judgements.{counted, days_at, integer_at, named, offset_at, or_fault, signed_result, up_to, use_at, variable_at, whole}
 use Rattle.contract_parse.specs.Spelling.{contr, expr, valued}
 use Rattle.contract_parse.specs.declared.heads.Language.{Language}
@@ -39,8 +39,8 @@ found kind (Some y) x e = cc
 pub use_within : (names : List Bytes) (t : Tok) (k : ℕ) → use_at names t ≡ Ok k → k < length names
 use_within names t k e = elim (cases_Bool (is_name t)) [
   | inl is ↦
-      let h : or_fault Unknown (place_in names t.text) ≡ Ok k = rw is at e in
-      (position-Some (λ name. bytes_eq t.text name) names k [] (found Unknown (place_in names t.text) k h)).0
+      let h : or_fault Unknown (index_in names t.text) ≡ Ok k = rw is at e in
+      (position-Some (λ name. bytes_eq t.text name) names k [] (found Unknown (index_in names t.text) k h)).0
   | inr other ↦ let h = rw other at e in absurd cc
 ]
 

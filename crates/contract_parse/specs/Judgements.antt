@@ -18,7 +18,7 @@ use Rattle.term_core.specs.declared.terms.Days.{Days}
 use Rattle.term_core.specs.declared.terms.Days.TheVariants.{Num as Count, Named}
 use Rattle.contract_parse.specs.Tokens.{Tok}
 use Rattle.contract_parse.specs.Words.{Bytes, is_the_word, is_the_mark, is_name, is_number, is_integer, is_date}
-use Rattle.contract_parse.specs.Names.{place_in, is_declared, back_to}
+use Rattle.contract_parse.specs.Names.{index_in, is_declared, back_to}
 use Rattle.contract_parse.specs.declared.faults.TextKind.{TextKind}
 use Rattle.contract_parse.specs.declared.faults.TextKind.TheVariants.{Syntax, Number, Date, Range, Twice, Unknown}
 use Rattle.contract_parse.specs.declared.heads.Operator.{Operator}
@@ -100,7 +100,7 @@ new_at names t = if is_name t then (if is_declared names t.text then Err Twice e
 
 -- a declared name, by its index
 abbrev pub use_at : List Bytes → Tok → Result ℕ TextKind
-use_at names t = if is_name t then or_fault Unknown (place_in names t.text) else Err Syntax
+use_at names t = if is_name t then or_fault Unknown (index_in names t.text) else Err Syntax
 
 -- a bound name, by the binders between it and its own
 abbrev pub variable_at : List Bytes → Tok → Result ℕ TextKind

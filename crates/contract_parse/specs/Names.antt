@@ -12,8 +12,8 @@ use Rattle.term_core.specs.Scopes.{held_in}
 use Rattle.term_core.specs.declared.scope.Scope.{Scope}
 
 -- the index of a name in declared order
-abbrev pub place_in : List Bytes → Bytes → Option ℕ
-place_in names text = position (λ name. bytes_eq text name) names
+abbrev pub index_in : List Bytes → Bytes → Option ℕ
+index_in names text = position (λ name. bytes_eq text name) names
 
 abbrev pub is_declared : List Bytes → Bytes → Bool
 is_declared names text = list_any (λ name. bytes_eq text name) names

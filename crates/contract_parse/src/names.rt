@@ -2,7 +2,7 @@
 ghost use Rattle.std.specs.Prelude.{◌≡◌, ◌≤◌, ◌<◌, ◌^◌, IfSome, length};
 ghost use Rattle.indexmap.specs.IndexMap.{index_map_len, keys};
 ghost use Rattle.indexmap.specs.IndexSet.{index_set_len};
-ghost use Rattle.contract_parse.specs.Names.{back_to, is_declared, names_in, place_in};
+ghost use Rattle.contract_parse.specs.Names.{back_to, index_in, is_declared, names_in};
 
 use indexmap::{IndexMap, IndexSet};
 use term_core::{Name, Scope};
@@ -41,7 +41,7 @@ pub fn back_to(bound: &Scope<&[u8]>, name: &[u8]) -> Option<u32>
 /// The index of a name in a set.
 pub fn index_in_set(names: &IndexSet<Name>, text: &[u8]) -> Option<u32>
     requires { index_set_len names.now < 2 ^ 32 }
-    ensures { result ≡ place_in names.now.keys text.now }
+    ensures { result ≡ index_in names.now.keys text.now }
 {
     match names.get_index_of(text) {
         Some(index) => Some(index as u32),
@@ -52,7 +52,7 @@ pub fn index_in_set(names: &IndexSet<Name>, text: &[u8]) -> Option<u32>
 /// The index of a name in a map.
 pub fn index_in_map<V>(names: &IndexMap<Name, V>, text: &[u8]) -> Option<u32>
     requires { index_map_len names.now < 2 ^ 32 }
-    ensures { result ≡ place_in (keys names.now) text.now }
+    ensures { result ≡ index_in (keys names.now) text.now }
 {
     match names.get_index_of(text) {
         Some(index) => Some(index as u32),

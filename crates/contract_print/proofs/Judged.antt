@@ -18,7 +18,7 @@ use Rattle.contract_parse.specs.declared.token.Kind.TheVariants.{Word, Number}
 use Rattle.contract_parse.specs.declared.faults.TextKind.TheVariants as kind
 use Rattle.contract_parse.specs.Tokens.{is_word_byte, is_digit}
 use Rattle.contract_parse.specs.Words.{Bytes, is_integer, is_reserved}
-use Rattle.contract_parse.specs.Names.{back_to, is_declared, place_in}
+use Rattle.contract_parse.specs.Names.{back_to, index_in, is_declared}
 use Rattle.contract_parse.specs.Judgements.{binder_at, integer_at, literal_at, new_at, offset_at, or_fault, signed_decimal, signed_result, up_to, use_at, variable_at}
 use Rattle.contract_parse.specs.NameTexts.{is_name_text, is_word_text}
 use Rattle.contract_parse.proofs.Passing.{and_parts}
@@ -156,8 +156,8 @@ name_is names i h = ap (λ (o : Option Bytes). elim o [ Some name ↦ name | Non
 position-some : {X : Type 0} (p : X → Bool) (xs : List X) (k : ℕ) → position_or_len p xs ≡ k → k < length xs → position p xs ≡ Some k
 position-some p xs k e h = grind (arith, nat_tests)
 
-place_judged : (names : List Bytes) (i : ℕ) → are_names names ≡ true → i < length names → place_in names (get_or names i []) ≡ Some i
-place_judged names i all h =
+index_judged : (names : List Bytes) (i : ℕ) → are_names names ≡ true → i < length names → index_in names (get_or names i []) ≡ Some i
+index_judged names i all h =
     let text = get_or names i [] in
     let new = new_names [] names i all h in
     position-some (λ name. bytes_eq text name) names i
@@ -180,5 +180,5 @@ new_judged names name left is new =
 pub use_judged : (names : List Bytes) (i left : ℕ) → are_names names ≡ true → i < length names → use_at names (token Word (name_at names i) left) ≡ Ok i
 use_judged names i left all h =
     let text = name_at names i in
-    ap (λ (b : Bool). cond b (or_fault kind.Unknown (place_in names text)) (Err kind.Syntax)) (and_parts (is_word_text text) (not (is_reserved text)) (declared_name names i all h)).1
-    ∙ ap (or_fault kind.Unknown) (ap (place_in names) (name_is names i h) ∙ place_judged names i all h)
+    ap (λ (b : Bool). cond b (or_fault kind.Unknown (index_in names text)) (Err kind.Syntax)) (and_parts (is_word_text text) (not (is_reserved text)) (declared_name names i all h)).1
+    ∙ ap (or_fault kind.Unknown) (ap (index_in names) (name_is names i h) ∙ index_judged names i all h)

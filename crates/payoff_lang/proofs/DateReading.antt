@@ -5,7 +5,7 @@ use Rattle.std.proofs.lemmas.Bool.{cases_Bool}
 use Rattle.decimal.specs.DecimalText.{signed}
 use Rattle.contract_parse.specs.Tokens.{Tok}
 use Rattle.contract_parse.specs.Words.{Bytes, is_integer, is_name, is_the_mark}
-use Rattle.contract_parse.specs.Names.{DeclaredNames, place_in}
+use Rattle.contract_parse.specs.Names.{DeclaredNames, index_in}
 use Rattle.contract_parse.specs.Judgements.{date_number_at, or_fault, use_at, whole}
 use Rattle.contract_parse.specs.Spelling.{◌⨟◌, mark, sign, templates_part, valued}
 use Rattle.contract_parse.specs.Reading.{LacksMark}
@@ -27,13 +27,13 @@ number_value negative t d e = elim (cases_Bool (is_integer t)) [
   | inr other ↦ let h = rw other at e in absurd cc
 ]
 
-place_value : (place : Option ℕ) (i : ℕ) → or_fault Unknown place ≡ Ok i → or_first place ≡ i
-place_value (Some n) i e = cc
-place_value None i e = absurd cc
+index_value : (index : Option ℕ) (i : ℕ) → or_fault Unknown index ≡ Ok i → or_first index ≡ i
+index_value (Some n) i e = cc
+index_value None i e = absurd cc
 
-template_value : (templates : List Bytes) (t : Tok) (i : ℕ) → use_at templates t ≡ Ok i → or_first (place_in templates t.text) ≡ i
+template_value : (templates : List Bytes) (t : Tok) (i : ℕ) → use_at templates t ≡ Ok i → or_first (index_in templates t.text) ≡ i
 template_value templates t i e = elim (cases_Bool (is_name t)) [
-  | inl is ↦ place_value (place_in templates t.text) i (rw is at e)
+  | inl is ↦ index_value (index_in templates t.text) i (rw is at e)
   | inr other ↦ let h = rw other at e in absurd cc
 ]
 
@@ -43,7 +43,7 @@ none_first : (templates : List Bytes) (t : Tok) (ts : List Tok) → is_the_mark 
 none_first templates t [] other = refl
 none_first templates t (u ∷ us) other = rw other refl
 
-one_first : (templates : List Bytes) (plus t : Tok) (ts : List Tok) → is_the_mark (codes "+") plus ≡ true → templates_first templates (plus ∷ t ∷ ts) ≡ or_first (place_in templates t.text) ∷ templates_first templates ts
+one_first : (templates : List Bytes) (plus t : Tok) (ts : List Tok) → is_the_mark (codes "+") plus ≡ true → templates_first templates (plus ∷ t ∷ ts) ≡ or_first (index_in templates t.text) ∷ templates_first templates ts
 one_first templates plus t ts is = rw is refl
 
 more_first : (templates : List Bytes) (i : ℕ) (ts between rest : List Tok) → mark (codes "+") ts between → valued (use_at templates) i between rest → templates_first templates ts ≡ i ∷ templates_first templates rest

@@ -6,7 +6,7 @@ use Rattle.contract_parse.specs.Tokens.{Tok, tokens}
 use Rattle.contract_parse.specs.Words.{Bytes, is_the_mark}
 use Rattle.contract_parse.specs.Heads.{BeginsAmount}
 use Rattle.term_core.specs.declared.decls.Decls.{Decls}
-use Rattle.contract_parse.specs.Names.{BoundNames, DeclaredNames, names_in, place_in}
+use Rattle.contract_parse.specs.Names.{BoundNames, DeclaredNames, index_in, names_in}
 use Rattle.contract_parse.specs.Judgements.{whole}
 use Rattle.contract_parse.specs.Spelling.{Part, templates_part}
 use Rattle.contract_parse.specs.Places.{Place, amount_places}
@@ -74,7 +74,7 @@ or_first None = 0
 -- the templates that follow, as long as each has a `+` before it
 abbrev pub templates_first : List Bytes → List Tok → List ℕ
 templates_first templates (plus ∷ t ∷ ts) =
-    if is_the_mark (codes "+") plus then or_first (place_in templates t.text) ∷ templates_first templates ts else []
+    if is_the_mark (codes "+") plus then or_first (index_in templates t.text) ∷ templates_first templates ts else []
 templates_first templates _ = []
 
 -- the date that tokens begin with
