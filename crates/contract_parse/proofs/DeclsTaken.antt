@@ -30,7 +30,7 @@ decls_taken bytes old new d next more spelled whole passed =
         last = end.last;
         tokens = end.are ∙ ap (λ (ts : List Tok). end.before ++ end.last ∷ ts) (sym at.tokens);
         semicolon = end.semicolon;
-        after = omega (arith, at.place, one);
+        after = omega (arith, at.adjacent, one);
       };
     }
 

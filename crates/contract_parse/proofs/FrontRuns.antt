@@ -47,7 +47,7 @@ pub record Failed (parts : Form Symbol) (ts : List Tok) (kind : TextKind) (left 
   pub at : Tok
   pub after : List Tok
   pub are : ts ≡ before ++ at ∷ after
-  pub place : at.left ≡ left
+  pub bytes_left : at.left ≡ left
   pub front : Front text_forms parts before
   pub fault : Faulty parts (before ++ at ∷ []) kind
 
@@ -88,7 +88,7 @@ onto parts next t ts (Stops k left) takes x = record {
   at = x.at;
   after = x.after;
   are = ap (λ l. t ∷ l) x.are;
-  place = x.place;
+  bytes_left = x.bytes_left;
   front = takes.back x.before x.front;
   fault = faulty_as next parts (x.before ++ x.at ∷ []) (t ∷ x.before ++ x.at ∷ []) k (λ none y. none (takes.on (x.before ++ x.at ∷ []) y)) (λ y. takes.back (x.before ++ x.at ∷ []) y) x.fault;
 }
@@ -101,7 +101,7 @@ ran (t ∷ ts) s ps decided = go (step s ps t) refl (stepped s ps t decided) (λ
     go (Next s2 qs) e x next = subst (λ o. Ran (all_parts ps) (t ∷ ts) o) (sym (run-next s s2 ps qs t ts e)) (onto (all_parts ps) (all_parts qs) t ts (run s2 qs ts) x.1 (next s2 qs x.0))
     go (Refuse k) e x next =
         subst (λ o. Ran (all_parts ps) (t ∷ ts) o) (sym (run-refuse s ps k t ts e))
-        (record { before = []; at = t; after = ts; are = refl; place = refl; front = empty; fault = first_faulty (all_parts ps) t k x })
+        (record { before = []; at = t; after = ts; are = refl; bytes_left = refl; front = empty; fault = first_faulty (all_parts ps) t k x })
 
 -- ---- the places of a text
 
@@ -196,14 +196,14 @@ refusals_end_fronts l bytes k left e =
       token = x.at;
       after = x.after;
       are = x.are;
-      place = x.place;
+      bytes_left = x.bytes_left;
       ends = record { front = x.front; syntax = by_kind l (x.before ++ x.at ∷ []) k x.fault };
     }
 
 pub refused_tokens_end_fronts : RefusedTokensEndFronts
 refused_tokens_end_fronts l bytes before after t k are e =
     let x = refusals_end_fronts l bytes k t.left e in
-    let same = one_split x.before before bytes x.token t x.after after x.are are x.place in
+    let same = one_split x.before before bytes x.token t x.after after x.are are x.bytes_left in
     subst (λ u. EndsFront l before u k) same.1 (subst (λ ts. EndsFront l ts x.token k) same.0 x.ends)
 
 first_ends : (bytes : List ℕ) (k : TextKind) (at line column : ℕ) → IsUtf8 bytes → FirstFault bytes k at → line ≡ line_at bytes at → column ≡ column_at bytes at

@@ -79,5 +79,5 @@ behind_other bytes here at to i same inside other =
 
 pub fits_at : (bytes : List ℕ) (at : ℕ) (p : Position) → p ≡ position_of bytes at → IsUtf8 bytes → IsCharBoundary bytes at → Fits bytes p
 fits_at bytes at p is utf8 boundary =
-    let here : Fits bytes (position_of bytes at) = record { utf8 = utf8; boundary = boundary; place = refl } in
+    let here : Fits bytes (position_of bytes at) = record { utf8 = utf8; boundary = boundary; position = refl } in
     subst (λ (q : Position). Fits bytes q) (sym is) here

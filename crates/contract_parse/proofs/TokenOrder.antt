@@ -104,7 +104,7 @@ by_before bytes at k from to last next rest [] n more is =
     let same = tail_same (token_between bytes k from to) last (tokens_at bytes at) (tokens_at bytes to) (next ∷ rest) (behind_next bytes at k from to n more) is in
     let left : length bytes - from ≡ last.left = ap (λ (t : Tok). t.left) same.0 in
     let size : to - from ≡ length last.text = sym (text_length bytes k from to n.forward n.within) ∙ ap (λ (t : Tok). length t.text) same.0 in
-    inr (record { tokens = same.1; place = omega (arith, left, size, n.forward, n.within) })
+    inr (record { tokens = same.1; adjacent = omega (arith, left, size, n.forward, n.within) })
 by_before bytes at k from to last next rest (x ∷ before) n more is =
     inl (before, (tail_same (token_between bytes k from to) x (tokens_at bytes at) (tokens_at bytes to) (before ++ last ∷ next ∷ rest) (behind_next bytes at k from to n more) is).1)
 

@@ -35,7 +35,7 @@ position_of bytes at = record { at = at; line = line_at bytes at; column = colum
 pub record Fits (bytes : List ℕ) (p : Position) : Type 0 where
   pub utf8 : IsUtf8 bytes
   pub boundary : IsCharBoundary bytes p.at
-  pub place : p ≡ position_of bytes p.at
+  pub position : p ≡ position_of bytes p.at
 
 -- the fault of a kind at a byte
 abbrev pub fault_at : List ℕ → TextKind → ℕ → TextFault
@@ -86,7 +86,7 @@ pub record LacksToken (bytes : List ℕ) (old : Position) (f : TextFault) : Type
 -- directly behind a token, with these tokens from there on
 pub record IsAfter (bytes : List ℕ) (last : Tok) (rest : List Tok) (at : ℕ) : Type 0 where
   pub tokens : tokens_at bytes at ≡ rest
-  pub place : at + last.left ≡ length bytes + length last.text
+  pub adjacent : at + last.left ≡ length bytes + length last.text
 
 -- the tokens from one position to another, of which the last is a semicolon that ends directly at the other
 pub record EndsLine (bytes : List ℕ) (from to : ℕ) : Type 0 where

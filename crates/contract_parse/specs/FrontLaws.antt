@@ -31,7 +31,7 @@ pub record RefusedToken (l : Language) (bytes : List ℕ) (kind : TextKind) (lef
   pub token : Tok
   pub after : List Tok
   pub are : tokens bytes ≡ before ++ token ∷ after
-  pub place : token.left ≡ left
+  pub bytes_left : token.left ≡ left
   pub ends : EndsFront l before token kind
 
 -- what is refused is one of the text's tokens

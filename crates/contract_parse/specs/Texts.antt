@@ -1,4 +1,5 @@
--- Which bytes are the text of which portfolio, and the first fault of the others.
+-- Which bytes are the text of which portfolio; and the first fault of bytes, as a text of portfolios or as one of payoff
+-- code.
 use Rattle.std.specs.Prelude.{◌≡◌, ◌-◌, ℕ, List, [], Result, Ok, Err, length}
 use Rattle.std.specs.Str.{IsUtf8, IsValidUpTo}
 use Rattle.term_core.specs.Books.{Book, book}
@@ -34,7 +35,7 @@ pub record IsTextFault (l : Language) (bytes : List ℕ) (f : TextFault) : Type 
   pub line : f.line ≡ line_at bytes at
   pub column : f.column ≡ column_at bytes at
 
--- of a portfolio
+-- the same as a text of a portfolio
 abbrev pub FirstFault : List ℕ → TextKind → ℕ → Type 0
 FirstFault bytes kind at = FirstTextFault Language.Contracts bytes kind at
 
