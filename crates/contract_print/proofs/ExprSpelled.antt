@@ -1,6 +1,6 @@
 -- The canonical text of an expression is a text of it: for every leaf whose own texts spell it, and so for observables.
 use Rattle.std.proofs.Common.{◌≡◌, ℕ, suc, ◌+◌, ◌-◌, ◌≤◌, ◌<◌, ℤ, true, false, List, length, refl, subst, arith, add-one, unsigned_abs}
-use Rattle.std.specs.Prelude.{codes}
+use Rattle.std.specs.Prelude.{◌^◌, codes}
 use Rattle.std.specs.Map.{keys_of}
 use Rattle.std.proofs.lemmas.List.{length-map}
 use Rattle.term_core.specs.Limits.{IsOffset}
@@ -15,11 +15,32 @@ use Rattle.contract_parse.specs.Judgements.{literal_at, offset_at, variable_at}
 use Rattle.contract_parse.specs.Spelling.{Leaf, expr, expr_with, obs_leaf}
 use Rattle.contract_parse.specs.declared.heads.Language.{Language}
 use Rattle.contract_print.specs.TermTexts.{bound_name, expr_text, observed}
-use Rattle.contract_print.specs.Spellable.{HasNumbersOfTexts, IsObservable, IsSpellableWith, are_names}
+use Rattle.contract_print.specs.Spellable.{HasNumbersOfTexts, are_names}
 use Rattle.contract_print.specs.Spelled.{Spells, bound_names, stops}
 use Rattle.contract_print.proofs.Joining.{called, closing, comma_then, follow, opened, signed_valued, word_spells, word_valued}
 use Rattle.contract_print.proofs.Judged.{bound_word, literal_judged, offset_judged, variable_judged}
 use Rattle.contract_print.proofs.ExprPieces.{binder_spells, comparison_then, connective_then, integer_spells, minus_then, mode_spells, name_spells, plus_then, times_then}
+
+-- a label that is declared, at an offset within its limit
+abbrev pub IsObservable : Declarations → ℕ → ℤ → Type 0
+IsObservable d label offset = (label < length d.labels) × IsOffset offset
+
+-- an expression under k binders, with numbers within the limits of texts and leaves that fit
+abbrev pub IsSpellableWith : (ℕ → ℤ → Type 0) → ℕ → Expression → Type 0
+IsSpellableWith Fits k (Lit m s) = (unsigned_abs m ≤ 10 ^ 37) × (s ≤ 27)
+IsSpellableWith Fits k (Yes b) = Unit {0}
+IsSpellableWith Fits k (Var back) = back < k
+IsSpellableWith Fits k (Obs l t) = Fits l t
+IsSpellableWith Fits k (Neg e) = IsSpellableWith Fits k e
+IsSpellableWith Fits k (Num op a b) = IsSpellableWith Fits k a × IsSpellableWith Fits k b
+IsSpellableWith Fits k (Cmp op a b) = IsSpellableWith Fits k a × IsSpellableWith Fits k b
+IsSpellableWith Fits k (Not e) = IsSpellableWith Fits k e
+IsSpellableWith Fits k (Logic op a b) = IsSpellableWith Fits k a × IsSpellableWith Fits k b
+IsSpellableWith Fits k (Cond t a b) = IsSpellableWith Fits k t × IsSpellableWith Fits k a × IsSpellableWith Fits k b
+IsSpellableWith Fits k (Widen s e) = (s ≤ 27) × IsSpellableWith Fits k e
+IsSpellableWith Fits k (Round mode s e) = (s ≤ 27) × IsSpellableWith Fits k e
+IsSpellableWith Fits k (Div mode s a b) = (s ≤ 27) × IsSpellableWith Fits k a × IsSpellableWith Fits k b
+IsSpellableWith Fits k (Acc body n first) = (n ≤ 100_000) × IsSpellableWith Fits (suc k) body × IsSpellableWith Fits k first
 
 module _ (leaf : Leaf) (text : ℕ → ℤ → Bytes) (Fits : ℕ → ℤ → Type 0) (leaf_spells : (l : ℕ) (t : ℤ) → Fits l t → Spells stops (text l t) (leaf l t)) where
   pub expr_spelled_with : (n : ℕ) (e : Expression) → IsSpellableWith Fits n e → n + height e ≤ 999 → Spells stops (expr_text text n e) (expr_with leaf (bound_names n) e)

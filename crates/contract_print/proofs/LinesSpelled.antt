@@ -38,10 +38,10 @@ use Rattle.contract_parse.proofs.Passing.{and_parts}
 use Rattle.contract_print.specs.Canon.{IsOriginText, amounts_text, book_text, contract_text, decls_text, header_text, label_text, line, more_names_text, names_text, origin_text, range_text, start_text, template_text}
 use Rattle.contract_print.specs.Laws.{CanonIsText, OneCanon}
 use Rattle.contract_print.specs.Spellable.{AreSpellable, IsSpellable, IsSpellableBook, are_names, are_new}
-use Rattle.contract_print.specs.Spelled.{Spells, anywhere, stops}
+use Rattle.contract_print.specs.Spelled.{Spells, stops}
 use Rattle.contract_print.proofs.DateTokens.{date_ascii, date_token, is_date_text}
 use Rattle.contract_print.proofs.TokenTexts.{is_first, number_token, token}
-use Rattle.contract_print.proofs.Joining.{Follows, before, between_words, comma_then, follow, is_below, line_end, mark_then, signed_valued, taken_as, word_then, word_valued}
+use Rattle.contract_print.proofs.Joining.{Follows, anywhere, before, between_words, comma_then, follow, is_below, line_end, mark_then, signed_valued, taken_as, word_then, word_valued}
 use Rattle.contract_print.proofs.Judged.{literal_judged, new_judged}
 use Rattle.contract_print.proofs.ExprPieces.{ascii_of, integer_spells}
 use Rattle.contract_print.proofs.ContrSpelled.{contr_spelled, equals_then}

@@ -9,9 +9,9 @@ use Rattle.contract_parse.specs.Words.{Bytes}
 use Rattle.contract_parse.specs.Names.{DeclaredNames}
 use Rattle.contract_parse.specs.Judgements.{days_at, integer_at, literal_at}
 use Rattle.contract_parse.specs.Spelling.{Leaf, contr, expr_with, obs_leaf}
-use Rattle.contract_print.specs.Spellable.{ContractHasNumbersOfTexts, HasNumbersOfTexts, IsObservable, IsSpellable, IsSpellableWith}
+use Rattle.contract_print.specs.Spellable.{ContractHasNumbersOfTexts, HasNumbersOfTexts, IsSpellable}
 use Rattle.contract_print.specs.Writable.{IsWritable, IsWritableContract, IsWritableTerm}
-use Rattle.contract_print.proofs.ExprSpelled.{spellable_with}
+use Rattle.contract_print.proofs.ExprSpelled.{IsObservable, IsSpellableWith, spellable_with}
 use Rattle.contract_print.proofs.NumbersWithin.{by_value, count_within, integer_within, literal_within}
 
 -- ---- what is spelled

@@ -1,9 +1,9 @@
 -- What a text can stand for: numbers and depths within the limits of texts, contracts that are closed, and names that
 -- are words and not reserved, of which none is declared twice in its set.
-use Rattle.std.specs.Prelude.{◌≡◌, ◌≤◌, ◌<◌, ◌^◌, ℕ, ℤ, unsigned_abs, Bool, true, ◌&&◌, not, List, [], ◌∷◌, ◌++◌, length, suc}
+use Rattle.std.specs.Prelude.{◌≡◌, ◌≤◌, ◌^◌, unsigned_abs, Bool, true, ◌&&◌, not, List, [], ◌∷◌, ◌++◌}
 use Rattle.std.specs.List.{All}
 use Rattle.std.specs.Map.{keys_of}
-use Rattle.term_core.specs.Limits.{IsOffset, are_labels, are_numbers, is_origin}
+use Rattle.term_core.specs.Limits.{are_labels, are_numbers, is_origin}
 use Rattle.term_core.specs.Declarations.{Declarations}
 use Rattle.term_core.specs.Books.{Book}
 use Rattle.term_core.specs.Sizes.{height_of_contract}
@@ -39,27 +39,6 @@ HasNumbersOfTexts (Widen k e) = (k ≤ 27) × HasNumbersOfTexts e
 HasNumbersOfTexts (Round mode k e) = (k ≤ 27) × HasNumbersOfTexts e
 HasNumbersOfTexts (Div mode k a b) = (k ≤ 27) × HasNumbersOfTexts a × HasNumbersOfTexts b
 HasNumbersOfTexts (Acc body n first) = (n ≤ 100_000) × HasNumbersOfTexts body × HasNumbersOfTexts first
-
--- a label that is declared, at an offset within its limit
-abbrev pub IsObservable : Declarations → ℕ → ℤ → Type 0
-IsObservable d label offset = (label < length d.labels) × IsOffset offset
-
--- an expression under k binders, with numbers within the limits of texts and leaves that fit
-abbrev pub IsSpellableWith : (ℕ → ℤ → Type 0) → ℕ → Expression → Type 0
-IsSpellableWith Fits k (Lit m s) = (unsigned_abs m ≤ 10 ^ 37) × (s ≤ 27)
-IsSpellableWith Fits k (Yes b) = Unit {0}
-IsSpellableWith Fits k (Var back) = back < k
-IsSpellableWith Fits k (Obs l t) = Fits l t
-IsSpellableWith Fits k (Neg e) = IsSpellableWith Fits k e
-IsSpellableWith Fits k (Num op a b) = IsSpellableWith Fits k a × IsSpellableWith Fits k b
-IsSpellableWith Fits k (Cmp op a b) = IsSpellableWith Fits k a × IsSpellableWith Fits k b
-IsSpellableWith Fits k (Not e) = IsSpellableWith Fits k e
-IsSpellableWith Fits k (Logic op a b) = IsSpellableWith Fits k a × IsSpellableWith Fits k b
-IsSpellableWith Fits k (Cond t a b) = IsSpellableWith Fits k t × IsSpellableWith Fits k a × IsSpellableWith Fits k b
-IsSpellableWith Fits k (Widen s e) = (s ≤ 27) × IsSpellableWith Fits k e
-IsSpellableWith Fits k (Round mode s e) = (s ≤ 27) × IsSpellableWith Fits k e
-IsSpellableWith Fits k (Div mode s a b) = (s ≤ 27) × IsSpellableWith Fits k a × IsSpellableWith Fits k b
-IsSpellableWith Fits k (Acc body n first) = (n ≤ 100_000) × IsSpellableWith Fits (suc k) body × IsSpellableWith Fits k first
 
 abbrev pub IsCountOfTexts : Days → Type 0
 IsCountOfTexts (Count n) = n ≤ 100_000

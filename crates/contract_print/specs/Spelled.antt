@@ -15,9 +15,6 @@ abbrev pub stops : Bytes → Bool
 stops [] = false
 stops (b ∷ bs) = is_stop b
 
-abbrev pub anywhere : Bytes → Bool
-anywhere bytes = true
-
 -- before whatever passes
 pub record Spells (ends : Bytes → Bool) (text : Bytes) (part : Part) : Type 0 where
   pub ascii : IsAscii text

@@ -15,9 +15,9 @@ use Rattle.contract_parse.proofs.Parts.{followed_by}
 use Rattle.contract_parse.proofs.Passing.{and_parts}
 use Rattle.contract_print.specs.Canon.{IsOriginText, decls_text, line}
 use Rattle.contract_print.specs.Spellable.{AreSpellable}
-use Rattle.contract_print.specs.Spelled.{Spells, anywhere, stops}
+use Rattle.contract_print.specs.Spelled.{Spells, stops}
 use Rattle.contract_print.proofs.TokenTexts.{number_token, token}
-use Rattle.contract_print.proofs.Joining.{Follows, before, follow, line_end, taken_as, word_then, word_valued}
+use Rattle.contract_print.proofs.Joining.{Follows, anywhere, before, follow, line_end, taken_as, word_then, word_valued}
 use Rattle.contract_print.proofs.Judged.{new_judged}
 use Rattle.contract_print.proofs.ExprPieces.{ascii_of}
 use Rattle.contract_print.proofs.ContrSpelled.{equals_then}
