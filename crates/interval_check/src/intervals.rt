@@ -3,7 +3,7 @@
 ghost use Rattle.std.specs.Prelude.{◌≡◌, ◌≤◌, ◌^◌, unsigned_abs, ◌*ℤ◌, neg_ℤ, IfSome};
 ghost use Rattle.decimal.specs.Rounding.{raised};
 ghost use Rattle.term_core.specs.declared.terms.NumOp.TheVariants.{Plus, Minus, Times, Min, Max};
-ghost use Rattle.term_core.specs.Bounds.{fits, lifted, swapped, single, hull, on_intervals};
+ghost use Rattle.term_core.specs.Bounds.{fits, greatest_size, lifted, swapped, single, hull, on_intervals};
 ghost use Rattle.interval_check.specs.Intervals.{interval, found, mantissa, fitting, EndsFit};
 
 use decimal::{is_mantissa, widen};
@@ -20,6 +20,13 @@ pub fn fits_in(i: Interval) -> bool
     ensures { result ≡ fits (interval i) }
 {
     is_mantissa(i.low) && is_mantissa(i.high)
+}
+
+/// The greatest size among the mantissas of an interval.
+pub fn greatest_size_in(i: Interval) -> u128
+    ensures { result ≡ greatest_size (interval i) }
+{
+    i.low.unsigned_abs().max(i.high.unsigned_abs())
 }
 
 // The product, where it is a mantissa.

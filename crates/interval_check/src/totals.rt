@@ -7,9 +7,9 @@ ghost use Rattle.interval_check.specs.Ranges.{range};
 ghost use Rattle.interval_check.specs.Totals.{total, total_found, IsTotal};
 ghost use Rattle.interval_check.specs.RangeTrials.{scale_in};
 ghost use Rattle.interval_check.specs.TotalTrials as tried;
-ghost use Rattle.term_core.specs.Bounds.{greatest_size, greatest_total};
+ghost use Rattle.term_core.specs.Bounds.{greatest_total};
 
-use crate::intervals::Interval;
+use crate::intervals::greatest_size_in;
 use crate::ranges::Range;
 use decimal::pow10;
 
@@ -99,13 +99,6 @@ pub fn total_of_either(decimals: u8, hit: Total, miss: Total) -> Result<Total, u
         amount_at(scale, hit).max(amount_at(scale, miss)),
         scale,
     )
-}
-
-// The greatest size among the mantissas of an interval.
-fn greatest_size_in(i: Interval) -> u128
-    ensures { result ≡ greatest_size (interval i) }
-{
-    i.low.unsigned_abs().max(i.high.unsigned_abs())
 }
 
 /// The total of a contract that is multiplied by a number.

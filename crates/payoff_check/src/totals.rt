@@ -2,7 +2,6 @@
 //! nine more decimals than the portfolio's.
 
 ghost use Rattle.std.specs.Prelude.{◌≡◌, ◌≤◌, ◌<◌, ◌+◌, ◌-◌, ◌*◌, ◌^◌, nat_le, IfOk};
-ghost use Rattle.term_core.specs.Bounds.{greatest_size};
 ghost use Rattle.term_core.specs.Limits.{greatest_mantissa};
 ghost use Rattle.interval_check.specs.Intervals.{interval};
 ghost use Rattle.interval_check.specs.Ranges.{IsFit, range};
@@ -12,7 +11,7 @@ ghost use Rattle.payoff_check.specs.BoundTrials.{IsFitting, at_decimals, total_h
 use crate::bound_rule::Ranged;
 use crate::faults::Fault;
 use decimal::pow10;
-use interval_check::intervals::Interval;
+use interval_check::greatest_size_in;
 
 // The greatest total, 10^37.
 const GREATEST: u128 = 10_000_000_000_000_000_000_000_000_000_000_000_000;
@@ -118,13 +117,6 @@ pub fn greater_of(
         nodes: count + hit.nodes + miss.nodes + 1,
     };
     checked(decimals, of, node)
-}
-
-// The greatest size among the mantissas of an interval.
-fn greatest_size_in(i: Interval) -> u128
-    ensures { result ≡ greatest_size (interval i) }
-{
-    i.low.unsigned_abs().max(i.high.unsigned_abs())
 }
 
 /// The total of a part that is multiplied by a number.
