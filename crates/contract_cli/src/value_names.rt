@@ -17,7 +17,7 @@ use report::Fault;
 use std::alloc::Global;
 use term_core::{Decls, Name, Setting};
 
-/// Two parties and an asset, by their places.
+/// Two parties and an asset, by their indices.
 #[derive(Clone, Copy)]
 pub struct Parties {
     pub from: u32,
@@ -25,13 +25,13 @@ pub struct Parties {
     pub asset: u32,
 }
 
-// The place of a name, or the fault that it is not declared.
-fn place_of(alloc: Global, names: &IndexSet<Name>, word: &str) -> Result<u32, Stop>
+// The index of a name, or the fault that it is not declared.
+fn index_of(alloc: Global, names: &IndexSet<Name>, word: &str) -> Result<u32, Stop>
     requires { index_set_len names.now < 2 ^ 32 }
     ensures { AnswersBy (λ index. index_in names.now.keys word.now ≡ Some index) (IsUndeclared names.now.keys word.now) result }
 {
     match names.get_index_of(word.as_bytes()) {
-        Some(place) => Ok(place as u32),
+        Some(index) => Ok(index as u32),
         None => {
             let name = Name::new(alloc, word.as_bytes())?;
             Err(Stop::Fault(Fault::UnknownName { name }))
@@ -43,9 +43,9 @@ fn place_of(alloc: Global, names: &IndexSet<Name>, word: &str) -> Result<u32, St
 fn parties_of(alloc: Global, decls: &Decls, between: &Between<'_>) -> Result<Parties, Stop>
     ensures { AnswersParties (declarations decls.now) (between_by between.now) result }
 {
-    let from = place_of(alloc, &decls.parties, between.from)?;
-    let to = place_of(alloc, &decls.parties, between.to)?;
-    let asset = place_of(alloc, &decls.assets, between.asset)?;
+    let from = index_of(alloc, &decls.parties, between.from)?;
+    let to = index_of(alloc, &decls.parties, between.to)?;
+    let asset = index_of(alloc, &decls.assets, between.asset)?;
     Ok(Parties { from, to, asset })
 }
 

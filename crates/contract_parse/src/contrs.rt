@@ -1,14 +1,13 @@
 //! Contracts from texts.
 ghost use Rattle.std.specs.Prelude.{◌≡◌, ◌≤◌, ◌<◌, ◌+◌, ◌^◌, ◌∷◌, [], ℕ, List, IfOk, codes, length, max};
 ghost use Rattle.indexmap.specs.IndexMap.{index_map_len, keys};
-ghost use Rattle.indexmap.specs.IndexSet.{index_set_len};
 ghost use Rattle.term_core.specs.Terms.{contract, expression};
 ghost use Rattle.term_core.specs.Sizes.{height, height_of_contract};
 ghost use Rattle.contract_parse.specs.Words.{Bytes};
 ghost use Rattle.contract_parse.specs.Names.{names_in};
-ghost use Rattle.contract_parse.specs.Judgements.{days_at, use_at};
+ghost use Rattle.contract_parse.specs.Judgements.{days_at};
 ghost use Rattle.contract_parse.specs.Spelling.{contr, mark, valued, word, ◌⨟◌};
-ghost use Rattle.contract_parse.specs.Places.{ContrAt, DaysAt, ExprAt, TheMark, TheWord, UseOf, contr_places};
+ghost use Rattle.contract_parse.specs.Places.{ContrAt, DaysAt, ExprAt, TheMark, TheWord, contr_places};
 ghost use Rattle.contract_parse.specs.Reading.{declared_in};
 ghost use Rattle.contract_parse.specs.Readers.{Passes, PassesAnywhere, Spelled, SpelledBehind, SpelledBehindPart, behind_head, contract_in, expression_in, first_token_of_contract};
 ghost use Rattle.contract_parse.specs.declared.heads.Language.{Language};
@@ -17,27 +16,11 @@ use crate::exprs::read_expr;
 use crate::faults::ReadErr;
 use crate::heads::{Head, Language, head_at};
 use crate::judges::refuse;
-use crate::readers::{read_binder, read_days, read_use_of_set, skip_mark, skip_word};
+use crate::readers::{read_binder, read_days, read_use_behind, skip_mark, skip_word};
 use crate::words::next;
-use indexmap::{IndexMap, IndexSet};
+use indexmap::IndexMap;
 use std::alloc::Global;
 use term_core::{Contr, Days, Decls, Expr, Name, Scope};
-
-// A declared name of a set behind a mark.
-#[tactic(auto, using(crate::proofs::Parts::followed_by))]
-fn read_use_behind<'a>(
-    wanted: &[u8],
-    names: &IndexSet<Name>,
-    rest: &'a [u8],
-) -> Result<(u32, &'a [u8]), ReadErr>
-    requires { index_set_len names.now < 2 ^ 32 }
-    ensures follows { PassesAnywhere (λ r. r.1.now) (λ ps. TheMark wanted.now ∷ UseOf names.now.keys ∷ ps) rest.now result }
-    ensures spelled { IfOk result (λ r. Spelled (mark wanted.now ⨟ valued (use_at names.now.keys) r.0) rest.now r.1.now) }
-    ensures shorter { IfOk result (λ r. length r.1.now ≤ length rest.now) }
-{
-    let rest = skip_mark(rest, wanted)?;
-    read_use_of_set(names, rest)
-}
 
 // The days of `within`.
 #[tactic(auto, using(crate::proofs::Parts::followed_by))]

@@ -3,7 +3,6 @@ ghost use Rattle.std.specs.Prelude.{◌≡◌, ◌≤◌, ◌<◌, ◌-◌, ◌+
 ghost use Rattle.std.specs.Str.{IsCharBoundary, IsUtf8, IsValidUpTo};
 ghost use Rattle.term_core.specs.Declarations.{declarations};
 ghost use Rattle.contract_parse.specs.Tokens.{Tok, is_last};
-ghost use Rattle.contract_parse.specs.Lines.{column_at, line_at};
 ghost use Rattle.contract_parse.specs.Cursors.{Fits, IsNoUtf8, LacksDecls, LacksToken, IsAfter, NextToken, TakesDecls, TakesToken, fault_at, kind_of, position_of, tokens_at};
 
 use crate::decls::read_decls;

@@ -46,7 +46,7 @@ pub use judges::refuse;
 pub use lines::fault_at;
 pub use readers::{
     after_mark, after_word, read_binder, read_date_number, read_end, read_new_name,
-    read_use_of_map, read_use_of_set, skip_mark, skip_version, skip_word,
+    read_use_behind, read_use_of_map, skip_mark, skip_version, skip_word,
 };
 pub use token::{Kind, Lexeme};
 pub use words::{Lookahead, look, next};

@@ -2,7 +2,7 @@
 ghost use Rattle.std.specs.Prelude.{◌≡◌, ◌≤◌, ◌<◌, ◌^◌, IfSome, length};
 ghost use Rattle.indexmap.specs.IndexMap.{index_map_len, keys};
 ghost use Rattle.indexmap.specs.IndexSet.{index_set_len};
-ghost use Rattle.contract_parse.specs.Names.{back_to, index_in, is_declared, names_in};
+ghost use Rattle.contract_parse.specs.Names.{back_to, index_in, names_in};
 
 use indexmap::{IndexMap, IndexSet};
 use term_core::{Name, Scope};

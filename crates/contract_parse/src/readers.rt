@@ -7,7 +7,7 @@ ghost use Rattle.contract_parse.specs.Tokens.{tokens};
 ghost use Rattle.contract_parse.specs.Words.{Bytes};
 ghost use Rattle.contract_parse.specs.Names.{DeclaredNames};
 ghost use Rattle.contract_parse.specs.Judgements.{binder_at, bound_at, date_number_at, days_at, integer_at, is_version, literal_at, mode_at, new_at, offset_at, operator_at, origin_at, separator_at, use_at};
-ghost use Rattle.contract_parse.specs.Spelling.{Signed, end, mark, one, valued, word};
+ghost use Rattle.contract_parse.specs.Spelling.{Signed, end, mark, one, valued, word, ◌⨟◌};
 ghost use Rattle.contract_parse.specs.Statements.{Added};
 ghost use Rattle.contract_parse.specs.Places.{BinderAt, BoundAt, BoundNumber, DateAt, DateNumber, DaysAt, IntegerAt, Leaves, LiteralNumber, ModeAt, MoreNames, NewIn, OffsetAt, OffsetNumber, Open, OperatorAt, OriginDate, Place, ScaleAt, TheEnd, TheMark, TheVersion, TheWord, UseOf, binder_places, bound_places, list_places, range_places, run};
 ghost use Rattle.contract_parse.specs.Reading.{IsBetween, IsBound, Lacks, LacksMark, tokens_ahead};
@@ -334,6 +334,22 @@ pub fn read_use_of_set<'a>(
         Some(index) => Ok((index, after)),
         None => Err(refuse(TextKind::Unknown, &token)),
     }
+}
+
+/// A declared name of a set behind a mark.
+#[tactic(auto, using(crate::proofs::Parts::followed_by))]
+pub fn read_use_behind<'a>(
+    wanted: &[u8],
+    names: &IndexSet<Name>,
+    rest: &'a [u8],
+) -> Result<(u32, &'a [u8]), ReadErr>
+    requires { index_set_len names.now < 2 ^ 32 }
+    ensures follows { PassesAnywhere (λ r. r.1.now) (λ ps. TheMark wanted.now ∷ UseOf names.now.keys ∷ ps) rest.now result }
+    ensures spelled { IfOk result (λ r. Spelled (mark wanted.now ⨟ valued (use_at names.now.keys) r.0) rest.now r.1.now) }
+    ensures shorter { IfOk result (λ r. length r.1.now ≤ length rest.now) }
+{
+    let rest = skip_mark(rest, wanted)?;
+    read_use_of_set(names, rest)
 }
 
 /// The index of a declared name of a map.

@@ -13,7 +13,7 @@ pub mod NumberedFacts
 pub mod CodeCanonFacts
 pub mod CodeSpelled
 pub mod CodeFileSpelled
-pub mod PlaceFacts
+pub mod IndexFacts
 pub mod OrderFacts
 pub mod TokensStand
 pub mod DateReading

@@ -6,10 +6,10 @@ ghost use Rattle.payoff_lang.specs.TemplateDates.{insert_name, insert_names};
 use decimal::NoMemory;
 use std::alloc::Global;
 
-// The place of a template among others in rising order.
-fn place_of(names: &[u32], name: u32) -> usize
+// The index of a template among others in rising order.
+fn index_of(names: &[u32], name: u32) -> usize
     ensures within { result ≤ length names.now }
-    ensures place { insert names.now result name ≡ insert_name name names.now }
+    ensures inserts { insert names.now result name ≡ insert_name name names.now }
 {
     for i in 0..names.len() {
         if name <= names[i] {
@@ -24,7 +24,7 @@ pub fn with_name(alloc: Global, names: &[u32], name: u32) -> Result<Vec<u32>, No
     ensures { IfOk result (λ v. v.items ≡ insert_name name names.now) }
 {
     let mut more = Vec::from_slice(alloc, names)?;
-    more.insert(place_of(names, name), name)?;
+    more.insert(index_of(names, name), name)?;
     Ok(more)
 }
 

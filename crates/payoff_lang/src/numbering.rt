@@ -10,14 +10,14 @@ use decimal::NoMemory;
 use std::alloc::Global;
 use term_core::Expr;
 
-// The place of the next date. An offset has room for 2^31 of them: where one expression has more, memory is wanting.
-fn next_place(dates: &[&DateExpr]) -> Result<i32, NoMemory>
-    ensures { IfOk result (λ place. place ≡ pos (length dates.now)) }
+// The index of the next date. An offset has room for 2^31 of them: where one expression has more, memory is wanting.
+fn next_index(dates: &[&DateExpr]) -> Result<i32, NoMemory>
+    ensures { IfOk result (λ index. index ≡ pos (length dates.now)) }
 {
     i32::try_from(dates.len()).map_err(|_| NoMemory)
 }
 
-/// The expression of a value expression, in which each observable has the place of its date for an offset. The dates are
+/// The expression of a value expression, in which each observable has the index of its date for an offset. The dates are
 /// lent to the list, behind those that stand there.
 pub fn number_dates<'a>(
     alloc: Global,
@@ -35,7 +35,7 @@ pub fn number_dates<'a>(
         Vx::Yes { value } => Ok(Expr::Yes { value: *value }),
         Vx::Var { back } => Ok(Expr::Var { back: *back }),
         Vx::Model { label, date } => {
-            let offset = next_place(dates)?;
+            let offset = next_index(dates)?;
             dates.push(date)?;
             Ok(Expr::Obs {
                 label: *label,

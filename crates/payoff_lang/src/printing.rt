@@ -49,34 +49,34 @@ fn append_date(
     append_templates(out, decls, &on.names)
 }
 
-// The observables of code: `model(NAME, DATE)`, with the date at a place.
+// The observables of code: `model(NAME, DATE)`, with the date of an index.
 #[derive(Clone, Copy)]
 struct Models<'a> {
     decls: &'a Decls,
     dates: &'a [&'a DateExpr],
 }
 
-// The date at a place.
+// The date of an index.
 fn append_date_at(
     alloc: Global,
     out: &mut Vec<u8>,
     models: &Models,
-    place: i32,
+    index: i32,
 ) -> Result<(), NoMemory>
     ensures { OnOk result (out.new.items ≡ out.old.items
-        ++ text_at (declared_for_code (declarations models.now.decls.now)) (dates_lent models.now.dates.now) place) }
+        ++ text_at (declared_for_code (declarations models.now.decls.now)) (dates_lent models.now.dates.now) index) }
 {
-    let Ok(place) = usize::try_from(place) else {
+    let Ok(index) = usize::try_from(index) else {
         return Ok(());
     };
-    match models.dates.get(place) {
+    match models.dates.get(index) {
         Some(on) => append_date(alloc, out, models.decls, on),
         None => Ok(()),
     }
 }
 
 impl<'a> Leaf for Models<'a> {
-    ghost text = { λ m label place. modelled_at (declared_for_code (declarations m.decls.now)) (dates_lent m.dates.now) label place };
+    ghost text = { λ m label index. modelled_at (declared_for_code (declarations m.decls.now)) (dates_lent m.dates.now) label index };
 
     fn append_leaf(
         &self,

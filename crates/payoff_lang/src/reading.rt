@@ -1,13 +1,12 @@
 //! Amounts of payoff code from texts.
 ghost use Rattle.std.specs.Prelude.{◌≡◌, ◌≤◌, ◌<◌, ◌+◌, ◌^◌, ◌∷◌, [], ℕ, List, IfOk, codes, length, max};
-ghost use Rattle.indexmap.specs.IndexSet.{index_set_len};
 ghost use Rattle.contract_parse.specs.Words.{Bytes};
 ghost use Rattle.contract_parse.specs.Names.{names_in};
 ghost use Rattle.contract_parse.specs.Judgements.{use_at};
 ghost use Rattle.contract_parse.specs.Spelling.{mark, valued, word, ◌⨟◌};
 ghost use Rattle.contract_parse.specs.Places.{AmountAt, ExprAt, TheMark, TheWord, UseOf, amount_places, date_places};
 ghost use Rattle.contract_parse.specs.Reading.{declared_in};
-ghost use Rattle.contract_parse.specs.Readers.{Passes, PassesAnywhere, Spelled, SpelledBehind, SpelledBehindPart};
+ghost use Rattle.contract_parse.specs.Readers.{Passes, Spelled, SpelledBehind, SpelledBehindPart};
 ghost use Rattle.contract_parse.specs.declared.heads.Language.{Language};
 ghost use Rattle.contract_parse.specs.declared.heads.AmountHead.{AmountHead};
 ghost use Rattle.payoff_lang.specs.TemplateDates.{date};
@@ -22,28 +21,11 @@ use crate::code::{Code, DateExpr, Vx};
 use crate::date_reading::read_date;
 use crate::dating::{Written, dated};
 use contract_parse::{
-    AmountHead, Language, ReadErr, amount_head_at, next, read_binder, read_expr, read_use_of_set,
+    AmountHead, Language, ReadErr, amount_head_at, next, read_binder, read_expr, read_use_behind,
     refuse, skip_mark, skip_word,
 };
-use indexmap::IndexSet;
 use std::alloc::Global;
-use term_core::{Decls, Name, Scope};
-
-// A declared name of a set behind a mark.
-#[tactic(auto, using(contract_parse::proofs::Parts::followed_by))]
-fn read_use_behind<'a>(
-    wanted: &[u8],
-    names: &IndexSet<Name>,
-    rest: &'a [u8],
-) -> Result<(u32, &'a [u8]), ReadErr>
-    requires { index_set_len names.now < 2 ^ 32 }
-    ensures follows { PassesAnywhere (λ r. r.1.now) (λ ps. TheMark wanted.now ∷ UseOf names.now.keys ∷ ps) rest.now result }
-    ensures spelled { IfOk result (λ r. Spelled (mark wanted.now ⨟ valued (use_at names.now.keys) r.0) rest.now r.1.now) }
-    ensures shorter { IfOk result (λ r. length r.1.now ≤ length rest.now) }
-{
-    let rest = skip_mark(rest, wanted)?;
-    read_use_of_set(names, rest)
-}
+use term_core::{Decls, Scope};
 
 // What is paid, by whom and to whom, behind the date.
 #[tactic(auto, using(contract_parse::proofs::Parts::followed_by))]
