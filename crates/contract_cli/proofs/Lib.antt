@@ -11,6 +11,7 @@ pub mod CheckFacts
 pub mod SumLineFacts
 pub mod OneCheckText
 pub mod FlowsAreOne
+pub mod StageOrder
 pub mod Stages
 pub mod FlowsStages
 pub mod DueAreOne

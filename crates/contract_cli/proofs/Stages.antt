@@ -1,8 +1,7 @@
 -- The stages of a command over fixings: names, the day, contracts, rows, reads, and the end. A command stops at the first
 -- stage that fails, and so at one stage alone.
-use Rattle.std.proofs.Common.{◌≡◌, ◌∙◌, ◌<◌, inl, inr, ℕ, zero, suc, ℤ, true, false, List, ap, arith, refl, subst, sym}
+use Rattle.std.proofs.Common.{◌≡◌, ◌∙◌, ℕ, zero, suc, ℤ, true, false, List, ap, refl, subst, sym}
 use Rattle.std.specs.Prelude.{Option, Some}
-use Rattle.std.proofs.lemmas.Bool.{cases_lt}
 use Rattle.term_core.specs.declared.rules.Rule.{Rule}
 use Rattle.term_core.specs.Books.{Book}
 use Rattle.term_core.specs.Environments.{Environment, Place}
@@ -20,6 +19,7 @@ use Rattle.contract_cli.specs.UsedParts.{IsUnknownName}
 use Rattle.contract_cli.specs.declared.status.Status.{Status}
 use Rattle.contract_cli.specs.declared.status.Status.TheVariants as status
 use Rattle.contract_cli.proofs.FlowsAreOne.{accepted_or_not, fixed_or_not, hold_same, one_missing, one_not_accepted, same_fixed}
+use Rattle.contract_cli.proofs.StageOrder.{AllBefore, one_fails}
 
 pub some_same : {A : Type 0} (x y : A) → Some x ≡ Some y → x ≡ y
 some_same x y e = cc
@@ -80,8 +80,7 @@ module _ (b : Book) (only : Option (List ℕ)) (days : Days) (table : Option (Li
   Passes _ = ⊥
 
   abbrev pub Below : ℕ → Type 0
-  Below zero = Unit {0}
-  Below (suc i) = Passes i × Below i
+  Below i = AllBefore Passes i
 
   -- the fault of a stage
   abbrev pub FaultAt : ℕ → Fault → Type 0
@@ -107,17 +106,8 @@ module _ (b : Book) (only : Option (List ℕ)) (days : Days) (table : Option (Li
       h.holds (same_fixed b.declarations h.last (used only b) h.fixings k.fixings same (used only b) (subst (λ (x : ℤ). Fixed x k.fixings) end k.holds))
   clash (suc (suc (suc (suc (suc i))))) h k = k
 
-  passes_below : (i k : ℕ) → k < i → Below i → Passes k
-  passes_below zero k lt h = absurd (omega arith)
-  passes_below (suc i) k lt h =
-      elim (cases_lt k i) [ inl l ↦ passes_below i k l h.1 | inr l ↦ (let e : i ≡ k = omega arith in subst Passes e h.0) ]
-
   pub one_stage : (i j : ℕ) → Fails i → Below i → Fails j → Below j → i ≡ j
-  one_stage i j h k f g =
-      elim (cases_lt i j) [
-        | inl l ↦ absurd (clash i h (passes_below j i l g))
-        | inr l ↦ elim (cases_lt j i) [ inl m ↦ absurd (clash j f (passes_below i j m k)) | inr m ↦ omega arith ]
-      ]
+  one_stage = one_fails Passes Fails clash
 
   weaker : (i : ℕ) (f : Fault) → FaultAt i f → Fails i
   weaker zero f h = h.unknown

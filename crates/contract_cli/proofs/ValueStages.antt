@@ -1,8 +1,7 @@
 -- The stages of `value`: names, the day, the code, the rows of the fixings, those of the curve, reads, and the end. The command
 -- stops at the first stage that fails, and so at one stage alone.
-use Rattle.std.proofs.Common.{◌≡◌, ◌∙◌, ◌<◌, ◌+◌, inl, inr, ℕ, zero, suc, ℤ, List, ap, arith, refl, subst, sym}
+use Rattle.std.proofs.Common.{◌≡◌, ◌∙◌, ◌+◌, ℕ, zero, suc, ℤ, List, ap, refl, subst, sym}
 use Rattle.std.specs.Prelude.{Option, Some, None}
-use Rattle.std.proofs.lemmas.Bool.{cases_lt}
 use Rattle.term_core.specs.declared.rules.Rule.{Rule}
 use Rattle.term_core.specs.Declarations.{Declarations}
 use Rattle.term_core.specs.Environments.{Environment, Place}
@@ -32,11 +31,10 @@ use Rattle.contract_cli.specs.ValueParts.{IsCurveFault, IsRefusedCode}
 use Rattle.contract_cli.specs.declared.status.Status.{Status}
 use Rattle.contract_cli.specs.declared.status.Status.TheVariants as status
 use Rattle.contract_cli.proofs.FlowsAreOne.{HoldSame, in_range_or_not}
+use Rattle.contract_cli.proofs.StageOrder.{AllBefore, one_fails}
 use Rattle.contract_cli.proofs.Stages.{some_same}
 use Rattle.contract_cli.proofs.ValueReads.{same_missing_of_code, same_value}
-
-none_or_some : {A : Type 0} (o : Option A) (x : A) → o ≡ None → o ≡ Some x → ⊥
-none_or_some o x none some = cc
+use Rattle.contract_cli.proofs.PayoffStages.{none_or_some}
 
 -- ---- what is one
 
@@ -123,8 +121,7 @@ module _ (b : CodeBook) (asked : ValueAsked) (inputs : ValueInputs) where
   Passes _ = ⊥
 
   abbrev pub Below : ℕ → Type 0
-  Below zero = Unit {0}
-  Below (suc i) = Passes i × Below i
+  Below i = AllBefore Passes i
 
   -- the fault of a stage
   abbrev pub FaultAt : ℕ → Fault → Type 0
@@ -161,17 +158,8 @@ module _ (b : CodeBook) (asked : ValueAsked) (inputs : ValueInputs) where
   clash (suc (suc (suc (suc (suc zero))))) h k = h.holds (missing_same Unfixed Fixed h k ∙ k.holds)
   clash (suc (suc (suc (suc (suc (suc i)))))) h k = k
 
-  passes_below : (i k : ℕ) → k < i → Below i → Passes k
-  passes_below zero k lt h = absurd (omega arith)
-  passes_below (suc i) k lt h =
-      elim (cases_lt k i) [ inl l ↦ passes_below i k l h.1 | inr l ↦ (let e : i ≡ k = omega arith in subst Passes e h.0) ]
-
   pub one_stage : (i j : ℕ) → Fails i → Below i → Fails j → Below j → i ≡ j
-  one_stage i j h k f g =
-      elim (cases_lt i j) [
-        | inl l ↦ absurd (clash i h (passes_below j i l g))
-        | inr l ↦ elim (cases_lt j i) [ inl m ↦ absurd (clash j f (passes_below i j m k)) | inr m ↦ omega arith ]
-      ]
+  one_stage = one_fails Passes Fails clash
 
   weaker : (i : ℕ) (f : Fault) → FaultAt i f → Fails i
   weaker zero f h = (h.name, h.first)

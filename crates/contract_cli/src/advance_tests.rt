@@ -1,18 +1,10 @@
 //! What `advance` prints, and what stops it.
 
 use crate::Status;
-use crate::test_runs::{HALF, LOAN, NOTHING_FIXED, RISING, TOUCH, TREASURY, prints, two_files};
+use crate::test_runs::{
+    HALF, LOAN, NOTHING_FIXED, OverFixings, RISING, TOUCH, TREASURY, print_over_fixings,
+};
 use std::test::Fail;
-
-// Words, which stand between `|`, what they print of a portfolio over fixings, and the status.
-#[derive(Clone, Copy)]
-struct Advanced {
-    text: &'static [u8],
-    table: &'static [u8],
-    words: &'static str,
-    output: &'static [u8],
-    status: Status,
-}
 
 const TOUCH_ON_DAY_2: &[u8] = b"portfolio 1;
 amounts 2;
@@ -31,7 +23,7 @@ contract c = let x = round(half_even, 2, obs(FX, 30)) in after(30, scale(x, pay(
 fn advances_portfolios(rt: HostRuntime) -> Result<(), Fail> {
     let alloc = rt.alloc();
     let rows = [
-        Advanced {
+        OverFixings {
             text: TOUCH,
             table: RISING,
             words: "advance|desk.txt|fix.csv|--to|2",
@@ -39,7 +31,7 @@ fn advances_portfolios(rt: HostRuntime) -> Result<(), Fail> {
             status: Status::Done,
         },
         // What it prints is a portfolio. A contract of which nothing is left stays.
-        Advanced {
+        OverFixings {
             text: TOUCH_ON_DAY_2,
             table: RISING,
             words: "advance|desk.txt|fix.csv|--to|4",
@@ -55,7 +47,7 @@ contract touch = zero;
             status: Status::Done,
         },
         // A test that waits keeps its parts, also where nothing is fixed.
-        Advanced {
+        OverFixings {
             text: TOUCH,
             table: NOTHING_FIXED,
             words: "advance|desk.txt|fix.csv|--to|0",
@@ -70,7 +62,7 @@ contract touch = if (obs(FX, 0) > 1.1000) within 3 then scale(1.00, pay(EUR, A, 
             status: Status::Done,
         },
         // A name is bound to what is read so many days sooner.
-        Advanced {
+        OverFixings {
             text: FIXED_ON_DAY_30,
             table: NOTHING_FIXED,
             words: "advance|desk.txt|fix.csv|--to|1",
@@ -84,7 +76,7 @@ contract c = let v0 = round(half_even, 2, obs(FX, 29)) in after(29, scale(v0, pa
 ",
             status: Status::Done,
         },
-        Advanced {
+        OverFixings {
             text: FIXED_ON_DAY_30,
             table: b"label,day,value\nFX,30,1.2345\n",
             words: "advance|desk.txt|fix.csv|--to|30",
@@ -98,7 +90,7 @@ contract c = scale(1.23, pay(EUR, A, B));
 ",
             status: Status::Done,
         },
-        Advanced {
+        OverFixings {
             text: LOAN,
             table: NOTHING_FIXED,
             words: "advance|desk.txt|fix.csv|--to|30",
@@ -113,7 +105,7 @@ contract loan = after(60, scale(105.00, pay(EUR, B, A)));
             status: Status::Done,
         },
         // What needs no fixing is worked out.
-        Advanced {
+        OverFixings {
             text: b"portfolio 1; amounts 2; party A, B, C; asset EUR;
 contract c = after(1, scale(acc(x, (x + 0.01), 3, if(true, 1, 0.00)), pay(EUR, A, B)));",
             table: NOTHING_FIXED,
@@ -128,7 +120,7 @@ contract c = after(1, scale(1.03, pay(EUR, A, B)));
             status: Status::Done,
         },
         // Days count from the origin, and the templates' names give way to their defaults.
-        Advanced {
+        OverFixings {
             text: TREASURY.as_bytes(),
             table: b"label,day,value\nDefault_B,0,false\nDefault_B,1,false\nDefault_B,2,false\nDefault_B,3,false\nDefault_B,4,false\n",
             words: "advance|desk.txt|fix.csv|--to|5",
@@ -148,39 +140,35 @@ contract guarded = if obs(Default_B, 0) within 85 then scale(40.00, pay(EUR, C, 
             status: Status::Done,
         },
     ];
-    for row in &rows {
-        let files = two_files(alloc, row.text, row.table, &[3])?;
-        prints(&rt, alloc, row.words, files, row.output, row.status)?;
-    }
-    Ok(())
+    print_over_fixings(&rt, alloc, &rows)
 }
 
 #[test]
 fn says_what_stops_advance(rt: HostRuntime) -> Result<(), Fail> {
     let alloc = rt.alloc();
     let rows = [
-        Advanced {
+        OverFixings {
             text: TOUCH,
             table: NOTHING_FIXED,
             words: "advance|desk.txt|fix.csv|--to|1",
             output: b"fault missing FX 0\n",
             status: Status::Missing,
         },
-        Advanced {
+        OverFixings {
             text: TOUCH_ON_DAY_2,
             table: RISING,
             words: "advance|desk.txt|fix.csv|--to|1",
             output: b"fault day 1\n",
             status: Status::DayRange,
         },
-        Advanced {
+        OverFixings {
             text: TOUCH,
             table: RISING,
             words: "advance|desk.txt|fix.csv|--to|1000001",
             output: b"fault day 1000001\n",
             status: Status::DayRange,
         },
-        Advanced {
+        OverFixings {
             text: TOUCH,
             table: RISING,
             words: "advance|desk.txt|fix.csv|--to|2024-01-15",
@@ -188,21 +176,21 @@ fn says_what_stops_advance(rt: HostRuntime) -> Result<(), Fail> {
             status: Status::DayRange,
         },
         // A day before a contract, of which all are tried, a contract before a row, a row before a read.
-        Advanced {
+        OverFixings {
             text: HALF,
             table: b"",
             words: "advance|desk.txt|fix.csv|--to|1000001",
             output: b"fault day 1000001\n",
             status: Status::DayRange,
         },
-        Advanced {
+        OverFixings {
             text: HALF,
             table: b"",
             words: "advance|desk.txt|fix.csv|--to|1",
             output: b"fault refused bad sort node 0\n",
             status: Status::Refused,
         },
-        Advanced {
+        OverFixings {
             text: TOUCH,
             table: b"label,day,value\nFX,1,9.0000\n",
             words: "advance|desk.txt|fix.csv|--to|1",
@@ -210,9 +198,5 @@ fn says_what_stops_advance(rt: HostRuntime) -> Result<(), Fail> {
             status: Status::BadRow,
         },
     ];
-    for row in &rows {
-        let files = two_files(alloc, row.text, row.table, &[3])?;
-        prints(&rt, alloc, row.words, files, row.output, row.status)?;
-    }
-    Ok(())
+    print_over_fixings(&rt, alloc, &rows)
 }

@@ -1,17 +1,8 @@
 //! What `payoff` prints, and what stops it.
 
 use crate::Status;
-use crate::test_runs::{HALF, LOAN, LOAN_CODE, TOUCH, one_file, prints};
+use crate::test_runs::{HALF, LOAN, LOAN_CODE, OnText, TOUCH, print_texts};
 use std::test::Fail;
-
-// Words, which stand between `|`, what they print of a text, and the status.
-#[derive(Clone, Copy)]
-struct Compiled {
-    words: &'static str,
-    text: &'static [u8],
-    output: &'static [u8],
-    status: Status,
-}
 
 const NAMED_LOAN: &[u8] = b"portfolio 1; amounts 2; party A, B, C; asset EUR; template T = 90;
 contract loan = both(scale(100.00, pay(EUR, A, B)), after(T, scale(105.00, pay(EUR, B, A))));";
@@ -33,14 +24,14 @@ contract c = let x = round(half_even, 2, obs(FX, 30)) in after(T, scale(x, pay(E
 fn prints_code(rt: HostRuntime) -> Result<(), Fail> {
     let alloc = rt.alloc();
     let rows = [
-        Compiled {
+        OnText {
             words: "payoff|desk.txt|--contract|loan",
             text: LOAN,
             output: LOAN_CODE,
             status: Status::Done,
         },
         // The names of templates stay.
-        Compiled {
+        OnText {
             words: "payoff|desk.txt|--contract|loan",
             text: NAMED_LOAN,
             output: b"payoff 1;
@@ -53,7 +44,7 @@ code loan = add(scale(100.00, cut(0, pay(0, EUR, A, B))), scale(105.00, cut(0 + 
 ",
             status: Status::Done,
         },
-        Compiled {
+        OnText {
             words: "payoff|desk.txt|--contract|touch",
             text: TOUCH,
             output: b"payoff 1;
@@ -66,7 +57,7 @@ code touch = loop (model(FX, 0) > 1.1000) upto 3 then scale(1.00, cut(0, pay(0, 
 ",
             status: Status::Done,
         },
-        Compiled {
+        OnText {
             words: "payoff|--plain|desk.txt|--contract=touch",
             text: TOUCH,
             output: b"payoff 1;
@@ -79,7 +70,7 @@ code touch = loop (model(FX, 0) > 1.1000) upto 3 then scale(1.00, pay(0, EUR, A,
 ",
             status: Status::Done,
         },
-        Compiled {
+        OnText {
             words: "payoff|desk.txt|--contract|option",
             text: OPTION,
             output: b"payoff 1;
@@ -94,7 +85,7 @@ code option = loop (model(FX, 90) > 1.1000) upto 0 then \
             status: Status::Done,
         },
         // A contract that is accepted at the defaults alone is compiled as it is written.
-        Compiled {
+        OnText {
             words: "payoff|desk.txt|--contract|c",
             text: FIXED_BY_THEN,
             output: b"payoff 1;
@@ -109,7 +100,7 @@ code c = let v0 = round(half_even, 2, model(FX, 30)) in scale(v0, cut(0 + T, pay
             status: Status::Done,
         },
         // The other contracts are not looked at.
-        Compiled {
+        OnText {
             words: "payoff|desk.txt|--contract|good",
             text: HALF,
             output: b"payoff 1;
@@ -122,65 +113,57 @@ code good = cut(0, pay(0, EUR, A, B));
             status: Status::Done,
         },
     ];
-    for row in &rows {
-        let files = one_file(alloc, "desk.txt", row.text, &[2])?;
-        prints(&rt, alloc, row.words, files, row.output, row.status)?;
-    }
-    Ok(())
+    print_texts(&rt, alloc, &rows)
 }
 
 #[test]
 fn says_what_stops_payoff(rt: HostRuntime) -> Result<(), Fail> {
     let alloc = rt.alloc();
     let rows = [
-        Compiled {
+        OnText {
             words: "payoff|desk.txt",
             text: LOAN,
             output: b"fault usage\n",
             status: Status::Usage,
         },
-        Compiled {
+        OnText {
             words: "payoff|desk.txt|--contract|loan|--plain|--plain",
             text: LOAN,
             output: b"fault usage\n",
             status: Status::Usage,
         },
-        Compiled {
+        OnText {
             words: "payoff|other.txt|--contract|nope",
             text: LOAN,
             output: b"fault read 1\n",
             status: Status::ReadFault,
         },
         // A text before a name, a name before a contract.
-        Compiled {
+        OnText {
             words: "payoff|desk.txt|--contract|nope",
             text: b"portfolio 1; amounts 2; party A, B",
             output: b"fault text syntax line 1 column 35\n",
             status: Status::BadText,
         },
-        Compiled {
+        OnText {
             words: "payoff|desk.txt|--contract|nope",
             text: HALF,
             output: b"fault unknown nope\n",
             status: Status::UnknownName,
         },
-        Compiled {
+        OnText {
             words: "payoff|desk.txt|--contract|bad",
             text: HALF,
             output: b"fault refused bad sort node 0\n",
             status: Status::Refused,
         },
         // It is the defaults at which a contract is tried.
-        Compiled {
+        OnText {
             words: "payoff|desk.txt|--contract|c|--plain",
             text: FIXED_LATER,
             output: b"fault refused c time node 4\n",
             status: Status::Refused,
         },
     ];
-    for row in &rows {
-        let files = one_file(alloc, "desk.txt", row.text, &[2])?;
-        prints(&rt, alloc, row.words, files, row.output, row.status)?;
-    }
-    Ok(())
+    print_texts(&rt, alloc, &rows)
 }

@@ -125,3 +125,44 @@ pub fn prints(
     assert!(rt; status == wanted);
     Ok(())
 }
+
+/// Words, which stand between `|`, what they print of a portfolio, and their status.
+#[derive(Clone, Copy)]
+pub struct OnText {
+    pub text: &'static [u8],
+    pub words: &'static str,
+    pub output: &'static [u8],
+    pub status: Status,
+}
+
+/// Each row prints what it says, and reads no file twice.
+pub fn print_texts(rt: &impl Abort, alloc: Global, rows: &[OnText]) -> Result<(), Fail> {
+    for row in rows {
+        let files = one_file(alloc, "desk.txt", row.text, &[2])?;
+        prints(rt, alloc, row.words, files, row.output, row.status)?;
+    }
+    Ok(())
+}
+
+/// Words, which stand between `|`, what they print of a portfolio over fixings, and their status.
+#[derive(Clone, Copy)]
+pub struct OverFixings {
+    pub text: &'static [u8],
+    pub table: &'static [u8],
+    pub words: &'static str,
+    pub output: &'static [u8],
+    pub status: Status,
+}
+
+/// Each row prints what it says, and reads no file twice.
+pub fn print_over_fixings(
+    rt: &impl Abort,
+    alloc: Global,
+    rows: &[OverFixings],
+) -> Result<(), Fail> {
+    for row in rows {
+        let files = two_files(alloc, row.text, row.table, &[3])?;
+        prints(rt, alloc, row.words, files, row.output, row.status)?;
+    }
+    Ok(())
+}

@@ -1,7 +1,8 @@
 //! What each command prints, but for those that have files of their own, and which fault comes first.
 
 use crate::test_runs::{
-    HALF, LOAN, NOTHING_FIXED, RISING, ROOM, TOUCH, one_file, prints, two_files,
+    HALF, LOAN, NOTHING_FIXED, OnText, OverFixings, RISING, ROOM, TOUCH, one_file,
+    print_over_fixings, print_texts, prints, two_files,
 };
 use crate::{Status, run};
 use edge_io::MemorySink;
@@ -186,15 +187,6 @@ contract c = scale(y, pay(EUR, A, B));",
     Ok(())
 }
 
-// Words, which stand between `|`, what they print of a text, and the status.
-#[derive(Clone, Copy)]
-struct Asked {
-    text: &'static [u8],
-    words: &'static str,
-    output: &'static [u8],
-    status: Status,
-}
-
 const MUTUAL: &[u8] = b"portfolio 1; amounts 2; party A, B, C; asset EUR;
 contract a = scale(5.00, pay(EUR, A, B)); contract b = scale(2.00, pay(EUR, B, A));";
 
@@ -202,38 +194,38 @@ contract a = scale(5.00, pay(EUR, A, B)); contract b = scale(2.00, pay(EUR, B, A
 fn prints_what_is_asked_for(rt: HostRuntime) -> Result<(), Fail> {
     let alloc = rt.alloc();
     let rows = [
-        Asked {
+        OnText {
             text: LOAN,
             words: "flows|desk.txt|--until|89|--",
             output: b"loan,0,A,B,EUR,100.00\n",
             status: Status::Done,
         },
-        Asked {
+        OnText {
             text: LOAN,
             words: "flows|desk.txt|--contract|nope|--",
             output: b"fault unknown nope\n",
             status: Status::UnknownName,
         },
         // What contracts pay each other is netted, and what comes to nothing is no row.
-        Asked {
+        OnText {
             text: MUTUAL,
             words: "flows|desk.txt|--net|--until|0",
             output: b"*,0,A,B,EUR,3.00\n",
             status: Status::Done,
         },
-        Asked {
+        OnText {
             text: MUTUAL,
             words: "flows|desk.txt|--net|--contract|b",
             output: b"*,0,B,A,EUR,2.00\n",
             status: Status::Done,
         },
-        Asked {
+        OnText {
             text: MUTUAL,
             words: "flows|desk.txt|--contract|b|--",
             output: b"b,0,B,A,EUR,2.00\n",
             status: Status::Done,
         },
-        Asked {
+        OnText {
             text: b"portfolio 1; amounts 2; party A, B; asset EUR;
 contract a = scale(5.00, pay(EUR, A, B)); contract b = scale(5.00, pay(EUR, B, A));",
             words: "flows|desk.txt|--net|--until|0",
@@ -241,30 +233,26 @@ contract a = scale(5.00, pay(EUR, A, B)); contract b = scale(5.00, pay(EUR, B, A
             status: Status::Done,
         },
         // No other contract is tried.
-        Asked {
+        OnText {
             text: HALF,
             words: "flows|desk.txt|--contract|good|--",
             output: b"good,0,A,B,EUR,1.00\n",
             status: Status::Done,
         },
-        Asked {
+        OnText {
             text: HALF,
             words: "flows|desk.txt|--contract|bad|--",
             output: b"fault refused bad sort node 0\n",
             status: Status::Refused,
         },
-        Asked {
+        OnText {
             text: HALF,
             words: "flows|desk.txt|--contract=nope|--until|1100001",
             output: b"fault unknown nope\n",
             status: Status::UnknownName,
         },
     ];
-    for row in &rows {
-        let files = one_file(alloc, "desk.txt", row.text, &[2])?;
-        prints(&rt, alloc, row.words, files, row.output, row.status)?;
-    }
-    Ok(())
+    print_texts(&rt, alloc, &rows)
 }
 
 #[test]
@@ -322,16 +310,6 @@ fn refuses_a_file_past_the_limit(rt: HostRuntime) -> Result<(), Fail> {
     Ok(())
 }
 
-// Words, which stand between `|`, what they print of a portfolio over fixings, and the status.
-#[derive(Clone, Copy)]
-struct Fixed {
-    text: &'static [u8],
-    table: &'static [u8],
-    words: &'static str,
-    output: &'static [u8],
-    status: Status,
-}
-
 const LEVEL: &[u8] = b"label,day,value\nFX,0,1.0000\nFX,1,1.0000\nFX,2,1.0000\nFX,3,1.0000\n";
 
 const SHORT: &[u8] = b"label,day,value\nFX,0,1.0000\nFX,1,1.0000\nFX,2,1.0000\n";
@@ -340,14 +318,14 @@ const SHORT: &[u8] = b"label,day,value\nFX,0,1.0000\nFX,1,1.0000\nFX,2,1.0000\n"
 fn prints_flows_over_fixings(rt: HostRuntime) -> Result<(), Fail> {
     let alloc = rt.alloc();
     let rows = [
-        Fixed {
+        OverFixings {
             text: TOUCH,
             table: RISING,
             words: "flows|desk.txt|fix.csv",
             output: b"touch,3,A,B,EUR,1.00\n",
             status: Status::Done,
         },
-        Fixed {
+        OverFixings {
             text: TOUCH,
             table: LEVEL,
             words: "flows|desk.txt|fix.csv",
@@ -355,14 +333,14 @@ fn prints_flows_over_fixings(rt: HostRuntime) -> Result<(), Fail> {
             status: Status::Done,
         },
         // No day after the last is read.
-        Fixed {
+        OverFixings {
             text: TOUCH,
             table: SHORT,
             words: "flows|desk.txt|fix.csv|--until|2",
             output: b"",
             status: Status::Done,
         },
-        Fixed {
+        OverFixings {
             text: TOUCH,
             table: SHORT,
             words: "flows|desk.txt|fix.csv|--until|000000003",
@@ -370,7 +348,7 @@ fn prints_flows_over_fixings(rt: HostRuntime) -> Result<(), Fail> {
             status: Status::Missing,
         },
         // The mean of three days.
-        Fixed {
+        OverFixings {
             text: b"portfolio 1; amounts 2; party A, B; asset EUR; num FX : 4 in 0.5000 .. 2.0000;
 contract avg = after(3, scale(div(half_even, 2, acc(x, (x + obs(FX, 0)), 3, 0.0000), 3), pay(EUR, A, B)));",
             table: b"label,day,value\nFX,1,1.0000\nFX,2,1.1000\nFX,3,1.2000\n",
@@ -378,7 +356,7 @@ contract avg = after(3, scale(div(half_even, 2, acc(x, (x + obs(FX, 0)), 3, 0.00
             output: b"avg,3,A,B,EUR,1.10\n",
             status: Status::Done,
         },
-        Fixed {
+        OverFixings {
             text: b"portfolio 1; amounts 2; party A, B; asset EUR; num FX : 4 in 0.5000 .. 2.0000;
 contract option = after(90, if (obs(FX, 0) > 1.1000) within 0
     then scale(round(half_even, 2, ((obs(FX, 0) - 1.1000) * 100000.00)), pay(EUR, A, B)) else zero);",
@@ -388,7 +366,7 @@ contract option = after(90, if (obs(FX, 0) > 1.1000) within 0
             status: Status::Done,
         },
         // A branch that is not taken is not read, and a factor only where its body pays.
-        Fixed {
+        OverFixings {
             text: b"portfolio 1; amounts 2; party A, B; asset EUR; num FX : 4 in 0.5000 .. 2.0000;
 contract c = if true within 0 then pay(EUR, A, B) else scale(round(half_even, 2, obs(FX, 0)), pay(EUR, A, B));",
             table: NOTHING_FIXED,
@@ -396,7 +374,7 @@ contract c = if true within 0 then pay(EUR, A, B) else scale(round(half_even, 2,
             output: b"c,0,A,B,EUR,1.00\n",
             status: Status::Done,
         },
-        Fixed {
+        OverFixings {
             text: b"portfolio 1; amounts 2; party A, B; asset EUR; num FX : 4 in 0.5000 .. 2.0000;
 contract c = scale(round(half_even, 2, obs(FX, 0)), after(5, pay(EUR, A, B)));",
             table: NOTHING_FIXED,
@@ -404,7 +382,7 @@ contract c = scale(round(half_even, 2, obs(FX, 0)), after(5, pay(EUR, A, B)));",
             output: b"",
             status: Status::Done,
         },
-        Fixed {
+        OverFixings {
             text: b"portfolio 1; amounts 2; party A, B; asset EUR; num FX : 4 in 0.5000 .. 2.0000;
 contract c = scale(round(half_even, 2, obs(FX, 0)), after(5, pay(EUR, A, B)));",
             table: NOTHING_FIXED,
@@ -413,7 +391,7 @@ contract c = scale(round(half_even, 2, obs(FX, 0)), after(5, pay(EUR, A, B)));",
             status: Status::Missing,
         },
         // The first in written order.
-        Fixed {
+        OverFixings {
             text: b"portfolio 1; amounts 2; party A, B; asset EUR; num FX : 4 in 0.5000 .. 2.0000;
 contract c = both(scale(round(half_even, 2, obs(FX, 0)), pay(EUR, A, B)), scale(round(half_even, 2, obs(FX, -1)), pay(EUR, B, A)));",
             table: b"label,day,value\nFX,0,1.0000\n",
@@ -422,7 +400,7 @@ contract c = both(scale(round(half_even, 2, obs(FX, 0)), pay(EUR, A, B)), scale(
             status: Status::Missing,
         },
         // Dates, and days counted from the origin.
-        Fixed {
+        OverFixings {
             text: b"portfolio 1; amounts 2; origin 2024-01-15; start 0; party A, B, C; asset EUR; flag Default_B; template T = 90;
 contract guarded = if obs(Default_B, 0) within T then scale(40.00, pay(EUR, C, A)) else scale(100.00, pay(EUR, B, A));",
             table: b"label,day,value\nDefault_B,2024-01-15,false\nDefault_B,1,false\nDefault_B,2024-01-17,true\n",
@@ -431,18 +409,14 @@ contract guarded = if obs(Default_B, 0) within T then scale(40.00, pay(EUR, C, A
             status: Status::Done,
         },
     ];
-    for row in &rows {
-        let files = two_files(alloc, row.text, row.table, &[3])?;
-        prints(&rt, alloc, row.words, files, row.output, row.status)?;
-    }
-    Ok(())
+    print_over_fixings(&rt, alloc, &rows)
 }
 
 #[test]
 fn says_what_stops_flows(rt: HostRuntime) -> Result<(), Fail> {
     let alloc = rt.alloc();
     let rows = [
-        Fixed {
+        OverFixings {
             text: TOUCH,
             table: b"label,day,value\nFX,0,1.0000\nFX,0,1.1\n",
             words: "flows|desk.txt|fix.csv",
@@ -450,28 +424,28 @@ fn says_what_stops_flows(rt: HostRuntime) -> Result<(), Fail> {
             status: Status::BadRow,
         },
         // Of two records that are refused, the first; a conflict names the first record of its place.
-        Fixed {
+        OverFixings {
             text: TOUCH,
             table: b"label,day,value\nFX,5,1.0\nFX,0,1.0\nFX,5,1.1\nFX,0,9.0\n",
             words: "flows|desk.txt|fix.csv",
             output: b"fault row file 2 record 4 conflict with 2\n",
             status: Status::BadRow,
         },
-        Fixed {
+        OverFixings {
             text: TOUCH,
             table: b"label,day,value\nFX,5,1.0\nFX,0,1.0\nFX,0,9.0\nFX,5,1.1\n",
             words: "flows|desk.txt|fix.csv",
             output: b"fault row file 2 record 4 bounds\n",
             status: Status::BadRow,
         },
-        Fixed {
+        OverFixings {
             text: TOUCH,
             table: b"label,day,value\nFX,0,2.0001\n",
             words: "flows|desk.txt|fix.csv",
             output: b"fault row file 2 record 2 bounds\n",
             status: Status::BadRow,
         },
-        Fixed {
+        OverFixings {
             text: TOUCH,
             table: b"",
             words: "flows|desk.txt|fix.csv",
@@ -479,28 +453,28 @@ fn says_what_stops_flows(rt: HostRuntime) -> Result<(), Fail> {
             status: Status::BadRow,
         },
         // A day below the start, above the last, or a date without an origin.
-        Fixed {
+        OverFixings {
             text: b"portfolio 1; amounts 2; start 5; party A, B; asset EUR; contract c = pay(EUR, A, B);",
             table: NOTHING_FIXED,
             words: "flows|desk.txt|fix.csv|--until|4",
             output: b"fault day 4\n",
             status: Status::DayRange,
         },
-        Fixed {
+        OverFixings {
             text: b"portfolio 1; amounts 2; start 5; party A, B; asset EUR; contract c = pay(EUR, A, B);",
             table: NOTHING_FIXED,
             words: "flows|desk.txt|fix.csv|--until|5",
             output: b"c,5,A,B,EUR,1.00\n",
             status: Status::Done,
         },
-        Fixed {
+        OverFixings {
             text: TOUCH,
             table: LEVEL,
             words: "flows|desk.txt|fix.csv|--until|1100001",
             output: b"fault day 1100001\n",
             status: Status::DayRange,
         },
-        Fixed {
+        OverFixings {
             text: TOUCH,
             table: LEVEL,
             words: "flows|desk.txt|fix.csv|--until|2024-01-15",
@@ -508,14 +482,14 @@ fn says_what_stops_flows(rt: HostRuntime) -> Result<(), Fail> {
             status: Status::DayRange,
         },
         // A text before a day, a day before a contract, a contract before a row, a row before a read.
-        Fixed {
+        OverFixings {
             text: b"portfolio 1;\namounts 2;\nparty A, B",
             table: b"",
             words: "flows|desk.txt|fix.csv|--until|1100001",
             output: b"fault text syntax line 3 column 11\n",
             status: Status::BadText,
         },
-        Fixed {
+        OverFixings {
             text: b"portfolio 1; amounts 2; party A, B; asset EUR; num FX : 4 in 0.5000 .. 2.0000;
 contract a = pay(EUR, A, B); contract b = scale(obs(FX, 1), pay(EUR, A, B)); contract c = scale(true, pay(EUR, A, B));",
             table: b"",
@@ -523,7 +497,7 @@ contract a = pay(EUR, A, B); contract b = scale(obs(FX, 1), pay(EUR, A, B)); con
             output: b"fault refused b time node 0\n",
             status: Status::Refused,
         },
-        Fixed {
+        OverFixings {
             text: TOUCH,
             table: b"label,day,value\nEUR,0,1\n",
             words: "flows|desk.txt|fix.csv",
@@ -531,11 +505,7 @@ contract a = pay(EUR, A, B); contract b = scale(obs(FX, 1), pay(EUR, A, B)); con
             status: Status::BadRow,
         },
     ];
-    for row in &rows {
-        let files = two_files(alloc, row.text, row.table, &[3])?;
-        prints(&rt, alloc, row.words, files, row.output, row.status)?;
-    }
-    Ok(())
+    print_over_fixings(&rt, alloc, &rows)
 }
 
 #[test]
