@@ -23,6 +23,7 @@ use Rattle.rewriting.proofs.Branches.{branch}
 use Rattle.rewriting.proofs.Choices.{if_cases, option_cases}
 use Rattle.advance_step.proofs.LeftParts.{worth_both, worth_scale, worth_let}
 use Rattle.advance_step.proofs.LaterFirst.{more_days, later_by, first_later}
+use Rattle.term_core.proofs.ContractReadFacts.{test_at}
 
 pub le_of : (n j : ℕ) → nat_le n j ≡ true → n ≤ j
 le_of n j h = grind (arith, nat_tests)
@@ -78,9 +79,6 @@ miss_is o hit miss e = ap (λ (u : Option ℕ). branch u hit miss) e
 branch_later : (m : ℕ) (o : Option ℕ) (hit late : ℕ → ℤ) (miss other : ℤ) → ((k : ℕ) → hit k ≡ late (m + k)) → miss ≡ other → branch o hit miss ≡ branch (later_by m o) late other
 branch_later m (Some k) hit late miss other h e = h k
 branch_later m None hit late miss other h e = e
-
-abbrev pub test_at : Declarations → Expression → List Entry → Environment → ℤ → ℕ → Bool
-test_at d e g env f i = truth (value_of d e g env (f +ℤ pos i))
 
 later_test : (d : Declarations) (e : Expression) (g : List Entry) (env : Environment) (f : ℤ) (j i : ℕ) → test_at d e g env f (suc j + i) ≡ test_at d e g env (f +ℤ pos (suc j)) i
 later_test d e g env f j i = ap (λ (h : ℤ). truth (value_of d e g env h)) (omega (arith, ints))

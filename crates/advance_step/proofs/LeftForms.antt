@@ -11,13 +11,14 @@ use Rattle.term_core.specs.Values.{Entry, first_true, entry_of}
 use Rattle.term_core.specs.Flows.{count_of}
 use Rattle.term_core.specs.Shifts.{shifted}
 use Rattle.term_core.specs.Sizes.{days_before, past, reach, past_of_contract}
-use Rattle.term_core.specs.WellFormed.{IsWellFormed, IsWellFormedContract, HasOnlyNumbers}
+use Rattle.term_core.specs.WellFormed.{IsWellFormed}
 use Rattle.simplify.specs.TurningContracts.{is_nothing}
 use Rattle.advance_step.specs.WhatIsLeft.{left_of, delayed}
 use Rattle.rewriting.proofs.Choices.{if_cases, option_cases}
 use Rattle.advance_step.proofs.LeftParts.{both_cases}
 use Rattle.advance_step.specs.LawsLeftAccepted.{LeftIsWellFormed}
 use Rattle.advance_step.proofs.LeftSmall.{in_reach}
+use Rattle.simplify.proofs.TurnForms.{IsFormed}
 
 offset_sooner : (t : ℤ) (j : ℕ) → days_before t + suc j ≤ 1_000_000 → IsOffset t → IsOffset (t +ℤ negsuc j)
 offset_sooner (pos n) j h o = (omega (arith, ints, h), omega (arith, ints, o.1))
@@ -38,9 +39,6 @@ shifted_formed d (Widen s e) j k h w = shifted_formed d e j k h w
 shifted_formed d (Round mode s e) j k h w = shifted_formed d e j k h w
 shifted_formed d (Div mode s a b) j k h w = (shifted_formed d a j k (omega (arith, h)) w.0, shifted_formed d b j k (omega (arith, h)) w.1)
 shifted_formed d (Acc body n first) j k h w = (shifted_formed d body j (k + 1) (omega (arith, h)) w.0, shifted_formed d first j k (omega (arith, h)) w.1)
-
-abbrev IsFormed : Declarations → ℕ → Contract → Type 0
-IsFormed d k c = IsWellFormedContract d k c × HasOnlyNumbers c
 
 delayed_formed : (d : Declarations) (k r : ℕ) (c : Contract) → IsFormed d k c → IsFormed d k (delayed r c)
 delayed_formed d k zero c p = p

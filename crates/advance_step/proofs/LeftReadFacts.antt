@@ -12,11 +12,13 @@ use Rattle.term_core.specs.Reads.{reads_of, reads_of_contract, live, upto, teste
 use Rattle.term_core.specs.Shifts.{shifted}
 use Rattle.term_core.proofs.FlowFacts.{first_within}
 use Rattle.advance_step.specs.WhatIsLeft.{left_of, delayed}
-use Rattle.rewriting.proofs.Branches.{branch_test, branch_reads, test_reads}
+use Rattle.rewriting.proofs.Branches.{branch_test, branch_reads}
+use Rattle.term_core.proofs.ContractReadFacts.{test_reads}
 use Rattle.rewriting.proofs.Choices.{if_cases, option_cases}
 use Rattle.advance_step.proofs.LeftParts.{both_cases, scale_cases, let_cases}
 use Rattle.advance_step.proofs.LaterFirst.{more_days, later_by}
-use Rattle.advance_step.proofs.LeftFlowFacts.{le_of, lt_of, rest_frame, rest_day, into_frame, into_day, bound_back, test_at, still_first}
+use Rattle.advance_step.proofs.LeftFlowFacts.{le_of, lt_of, rest_frame, rest_day, into_frame, into_day, bound_back, still_first}
+use Rattle.term_core.proofs.ContractReadFacts.{test_at}
 use Rattle.term_core.proofs.ReadShiftFacts.{reads-shifted, same_steps}
 use Rattle.rewriting.specs.Keeping.{AreAmong}
 use Rattle.rewriting.proofs.Among.{among_none, among_same, among_left, among_right, among_both, among_if, among_later}

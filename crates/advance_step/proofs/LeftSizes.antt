@@ -12,7 +12,8 @@ use Rattle.term_core.proofs.FlowFacts.{first_within}
 use Rattle.advance_step.specs.WhatIsLeft.{left_of, delayed, both_left, scale_left, let_left}
 use Rattle.rewriting.proofs.Choices.{if_cases, option_cases}
 use Rattle.advance_step.proofs.LeftParts.{both_cases, scale_cases, let_cases}
-use Rattle.advance_step.proofs.LeftFlowFacts.{le_of, lt_of, test_at}
+use Rattle.advance_step.proofs.LeftFlowFacts.{le_of, lt_of}
+use Rattle.term_core.proofs.ContractReadFacts.{test_at}
 use Rattle.advance_step.specs.LawsLeftRules.{NothingIsLeft, ReachIsLess, PastIsMore, NodesAreNoMore}
 
 pub gone : NothingIsLeft

@@ -39,9 +39,6 @@ untold_in d (Within e n a b) = ap₂ (λ (x : Expression) (y : Contract). Within
 anywhere_in : (d : Declarations) (c : Contract) (g h : List Range) → EachContractNode Small Once d c g → EachContractNode Small Once d c h
 anywhere_in d c g h r = subst (λ (x : Contract). EachContractNode Small Once d x h) (untold_in d c) (contract_small d [] None c g h r)
 
-below : (a b c : ℕ) → a ≤ b → nat_le b c ≡ true → nat_le a c ≡ true
-below a b c h p = grind (arith, nat_tests)
-
 at_most : (a b : ℕ) → nat_le a b ≡ true → a ≤ b
 at_most a b p = grind (arith, nat_tests)
 

@@ -14,7 +14,8 @@ use Rattle.time_types.proofs.TypingFacts.{expressions_rise, contracts_fall}
 use Rattle.advance_step.specs.WhatIsLeft.{left_of, delayed}
 use Rattle.rewriting.proofs.Choices.{if_cases, option_cases}
 use Rattle.advance_step.proofs.LeftParts.{both_cases, scale_cases, let_cases}
-use Rattle.advance_step.proofs.LeftFlowFacts.{le_of, lt_of, test_at}
+use Rattle.advance_step.proofs.LeftFlowFacts.{le_of, lt_of}
+use Rattle.term_core.proofs.ContractReadFacts.{test_at}
 use Rattle.advance_step.specs.LawsLeftRules.{LeftIsTyped}
 
 name_back : (m back : ℕ) (g : List ℤ) (t : ℤ) → AtMost (slice_get g back) t → AtMost (slice_get (lowered_by m g) back) (t -ℤ pos m)

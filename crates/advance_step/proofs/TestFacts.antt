@@ -13,7 +13,7 @@ use Rattle.term_core.proofs.ReadFacts.{SameNames, reads_alike}
 use Rattle.term_core.proofs.ReadLawFacts.{all_fixed, extension_reads}
 use Rattle.expr_eval.specs.Standing.{place_of}
 use Rattle.expr_eval.specs.Trials.{DayOrMissing, ValueOrMissing, answer_of, first_tried, missing_at, or_next, tried_on, value_unless}
-use Rattle.advance_step.proofs.LaterFirst.{or_last}
+use Rattle.term_core.proofs.FirstFacts.{or_last}
 
 -- ---- the first true day
 

@@ -8,7 +8,7 @@ ghost use Rattle.contract_parse.specs.Names.{is_declared};
 ghost use Rattle.contract_parse.specs.NameTexts.{is_name_text};
 ghost use Rattle.command_words.specs.Arguments.{IsAnswer, given_texts};
 ghost use Rattle.command_words.specs.Commands.{AreSettings};
-ghost use Rattle.command_words.specs.Words.{between_by, files_by, one_more_setting, setting_of_word, settings_after, settings_of, value_between, value_by, value_files, value_of, with_form};
+ghost use Rattle.command_words.specs.Words.{between_by, files_by, one_more_setting, setting_of_word, settings_after, settings_of, value_between, value_by, value_files, value_of};
 
 use crate::arguments::{Argument, WordsErr, matches_of};
 use crate::day_words::DayWord;

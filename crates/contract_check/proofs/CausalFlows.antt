@@ -17,6 +17,7 @@ use Rattle.contract_check.proofs.KnownNames.{SameNames, same_kinds, sooner, lowe
 use Rattle.contract_check.proofs.KnownValues.{values_known}
 use Rattle.contract_check.proofs.FirstDays.{IsLate, SameOrLate, first_same}
 use Rattle.contract_check.proofs.QuietDays.{flow_quiet}
+use Rattle.term_core.proofs.ContractReadFacts.{branch_flow}
 
 -- by how many decimals a part is below the whole of two contracts, by the kinds of their names
 abbrev below : Declarations → Contract → Contract → Contract → List Kind → ℕ
@@ -31,22 +32,18 @@ product_same : (n s x y v w : ℤ) → (n <ℤ s → v ≡ pos 0) → (n <ℤ s 
 product_same n s x y v w h j k e =
     by_lt_z n s (λ i. ap (λ (z : ℤ). x *ℤ z) (h i) ∙ grind (arith, ints) ∙ sym (ap (λ (z : ℤ). y *ℤ z) (j i))) (λ i. ap₂ (λ (a b : ℤ). a *ℤ b) (k i) e)
 
--- the branch that is entered, at the scale of both
-abbrev entered : Option ℕ → (ℕ → ℤ) → ℤ → ℕ → ℕ → ℤ
-entered o x y k l = elim o [ Some i ↦ raised (x i) k | None ↦ raised y l ]
-
--- a branch that is entered late pays nothing yet
-entered_late : (n m : ℕ) (o : Option ℕ) (x : ℕ → ℤ) (y : ℤ) (k l : ℕ) → IsLate n m o → ((i : ℕ) → n < i → x i ≡ pos 0) → (n < m → y ≡ pos 0) → entered o x y k l ≡ pos 0
+-- a branch that is branch_flow late pays nothing yet
+entered_late : (n m : ℕ) (o : Option ℕ) (x : ℕ → ℤ) (y : ℤ) (k l : ℕ) → IsLate n m o → ((i : ℕ) → n < i → x i ≡ pos 0) → (n < m → y ≡ pos 0) → branch_flow o x y k l ≡ pos 0
 entered_late n m (Some i) x y k l h p q = one_zero (x i) k (p i h)
 entered_late n m None x y k l h p q = one_zero y l (q h)
 
-entered_same : (o : Option ℕ) (F G : List Kind → ℕ) (ks js : List Kind) (x v : ℕ → ℤ) (y w : ℤ) → ks ≡ js → ((i : ℕ) → x i ≡ v i) → y ≡ w → entered o x y (F ks) (G ks) ≡ entered o v w (F js) (G js)
+entered_same : (o : Option ℕ) (F G : List Kind → ℕ) (ks js : List Kind) (x v : ℕ → ℤ) (y w : ℤ) → ks ≡ js → ((i : ℕ) → x i ≡ v i) → y ≡ w → branch_flow o x y (F ks) (G ks) ≡ branch_flow o v w (F js) (G js)
 entered_same (Some i) F G ks js x v y w e h k = ap₂ (λ (j : List Kind) (a : ℤ). raised a (F j)) e (h i)
 entered_same None F G ks js x v y w e h k = ap₂ (λ (j : List Kind) (a : ℤ). raised a (G j)) e k
 
-branch_same : (n m : ℕ) (o u : Option ℕ) (F G : List Kind → ℕ) (ks js : List Kind) (x v : ℕ → ℤ) (y w : ℤ) → SameOrLate n m o u → ks ≡ js → ((i : ℕ) → x i ≡ v i) → y ≡ w → ((i : ℕ) → n < i → x i ≡ pos 0) → (n < m → y ≡ pos 0) → entered o x y (F ks) (G ks) ≡ entered u v w (F js) (G js)
+branch_same : (n m : ℕ) (o u : Option ℕ) (F G : List Kind → ℕ) (ks js : List Kind) (x v : ℕ → ℤ) (y w : ℤ) → SameOrLate n m o u → ks ≡ js → ((i : ℕ) → x i ≡ v i) → y ≡ w → ((i : ℕ) → n < i → x i ≡ pos 0) → (n < m → y ≡ pos 0) → branch_flow o x y (F ks) (G ks) ≡ branch_flow u v w (F js) (G js)
 branch_same n m o u F G ks js x v y w (inl same) e h k p q =
-    ap (λ (a : Option ℕ). entered a x y (F ks) (G ks)) same ∙ entered_same u F G ks js x v y w e h k
+    ap (λ (a : Option ℕ). branch_flow a x y (F ks) (G ks)) same ∙ entered_same u F G ks js x v y w e h k
 branch_same n m o u F G ks js x v y w (inr late) e h k p q =
     entered_late n m o x y (F ks) (G ks) late.0 p q
     ∙ sym (entered_late n m u v w (F js) (G js) late.1 (λ i lt. sym (h i) ∙ p i lt) (λ lt. sym k ∙ q lt))

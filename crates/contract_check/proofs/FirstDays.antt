@@ -2,6 +2,7 @@
 use Rattle.std.proofs.Common.{◌≡◌, ℕ, zero, suc, ◌≤◌, ◌<◌, Bool, true, false, if◌then◌else◌, Option, Some, None, refl, ap, ap₂, inl, inr, ◌⊎◌, arith}
 use Rattle.std.proofs.lemmas.Bool.{cases_lt}
 use Rattle.term_core.specs.Values.{first_of}
+use Rattle.term_core.proofs.FirstFacts.{or_last}
 
 -- no first day up to day n, among the days up to m
 abbrev pub IsLate : ℕ → ℕ → Option ℕ → Type 0
@@ -10,10 +11,6 @@ IsLate n m None = n < m
 
 abbrev pub SameOrLate : ℕ → ℕ → Option ℕ → Option ℕ → Type 0
 SameOrLate n m o u = (o ≡ u) ⊎ (IsLate n m o × IsLate n m u)
-
--- one day more
-abbrev or_last : Option ℕ → ℕ → Bool → Option ℕ
-or_last o n b = elim o [ Some i ↦ Some i | None ↦ if b then Some n else None ]
 
 late_last : (n m : ℕ) (b : Bool) → n < m → IsLate n m (if b then Some m else None)
 late_last n m true h = h

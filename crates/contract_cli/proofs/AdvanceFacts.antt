@@ -31,13 +31,14 @@ use Rattle.contract_cli.specs.FlowsParts.{IsMissingOf, IsMissingOne, IsRefusedOf
 use Rattle.contract_cli.specs.FlowsPromise.{AreFixings}
 use Rattle.contract_cli.specs.Stopping.{AnswersBy}
 use Rattle.contract_cli.specs.UsedContracts.{used}
-use Rattle.contract_cli.specs.UsedParts.{trees}
 use Rattle.contract_cli.specs.declared.advance_text.Left.{Left}
 use Rattle.contract_cli.specs.declared.stop.Stop.{Stop}
 use Rattle.contract_cli.specs.declared.stop.Stop.TheVariants as stop
-use Rattle.contract_cli.proofs.LineFacts.{IsFixedEntry, missing_behind, none_and, some_and, without_flows}
+use Rattle.contract_cli.proofs.LineFacts.{missing_behind, none_and, some_and, without_flows}
+use Rattle.contract_cli.proofs.FlowsAreOne.{IsFixedEntry}
 use Rattle.contract_cli.proofs.StopFacts.{by_stop}
 use Rattle.contract_cli.proofs.UsedFacts.{used_of}
+use Rattle.contract_parse.specs.ContractReading.{trees}
 
 -- ---- one more comment
 
@@ -55,9 +56,6 @@ appends_comment d name rows row before middle marked after some mark more = reco
       ∙ append_assoc (before ++ some.text) (codes "# ") more.line
       ∙ append_assoc before some.text (commented more.line);
 }
-
-pub appends_no_comment : (d : Declarations) (name before : List ℕ) → AppendsComments d name [] before before
-appends_no_comment d name before = record { text = []; comments = refl; appended = sym (append-nil before) }
 
 -- ---- names
 

@@ -20,7 +20,7 @@ use Rattle.contract_check.specs.Checks.{IsGranted, told}
 use Rattle.contract_check.specs.declared.checks.Facts.{Facts}
 use Rattle.report.specs.CheckLines.{accepted_line, verdict_line}
 use Rattle.time_types.specs.Starts.{start_day}
-use Rattle.contract_cli.specs.CheckPromise.{AreCheckLines, IsCheckLine, accepted, refused, IsCheckText, all_accepted, some_refused}
+use Rattle.contract_cli.specs.CheckPromise.{AreCheckLines, IsCheckLine, accepted, refused, IsCheckText, all_accepted}
 use Rattle.contract_cli.specs.CheckParts.{AppendsVerdict, AppendsVerdicts, IsVerdictOf}
 use Rattle.contract_cli.specs.UsedContracts.{used}
 use Rattle.contract_cli.specs.declared.status.Status.{Status}
@@ -55,7 +55,7 @@ one_verdict d entry (Err fault) ok before after r is appended = record {
 
 -- ---- one verdict behind another
 
-abbrev IsAcceptedEntry : Declarations → Name × Contract → Type 0
+abbrev pub IsAcceptedEntry : Declarations → Name × Contract → Type 0
 IsAcceptedEntry d entry = IsAccepted d entry.1
 
 pub verdicts_none : (d : Declarations) (all : Bool) (text : List ℕ) → AppendsVerdicts d [] all all text text
@@ -90,7 +90,3 @@ lines_all d entries so_far all text vs = subst (λ (t : List ℕ). AreCheckLines
 
 pub all_done : (b : Book) (all : Bool) (text : List ℕ) (s : Status) → AppendsVerdicts b.declarations (used None b) true all [] text → all ≡ true → s ≡ status.Done → IsCheckText b s text
 all_done b all text s vs every e = all_accepted e (vs.decides.0 every).1 (lines_all b.declarations (used None b) true all text vs)
-
-pub some_not : (b : Book) (all : Bool) (text : List ℕ) (s : Status) → AppendsVerdicts b.declarations (used None b) true all [] text → all ≡ false → s ≡ status.Refused → IsCheckText b s text
-some_not b all text s vs fails e =
-    some_refused e (λ every. let yes : all ≡ true = vs.decides.1 (refl, every) in let h : false ≡ true = sym fails ∙ yes in cc) (lines_all b.declarations (used None b) true all text vs)

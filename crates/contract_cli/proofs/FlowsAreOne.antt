@@ -10,7 +10,7 @@ use Rattle.term_core.specs.Declarations.{Declarations}
 use Rattle.term_core.specs.Environments.{Environment, Extends, Place, held}
 use Rattle.term_core.specs.Reads.{first_unfixed, is_fixed, up_to_first}
 use Rattle.term_core.specs.Terms.{Contract}
-use Rattle.term_core.specs.Acceptance.{IsAccepted, IsRefusal}
+use Rattle.term_core.specs.Acceptance.{IsRefusal}
 use Rattle.term_core.proofs.DateTextFacts.{texts_unique}
 use Rattle.term_core.proofs.ReadLawFacts.{reads_stay}
 use Rattle.term_core.proofs.RefusalFacts.{accepted_not_refused, refusals_unique}
@@ -23,6 +23,7 @@ use Rattle.flow_eval.proofs.TableFacts.{tables_are_one}
 use Rattle.report.specs.FlowLines.{IsDayText, IsFlowLine, line_with}
 use Rattle.contract_cli.specs.CheckPromise.{AreAllAccepted}
 use Rattle.contract_cli.specs.FlowsPromise.{AreAllFixed, AreAllLines, AreFixings, AreFlowLines, AreLines, AreLinesAsked, AreSumLines, IsDayAsked, IsFirstMissing, IsFirstNotAccepted, IsLastDay, IsOutOfRange, no_origin, too_early, too_late, missing_of, paid_together}
+use Rattle.contract_cli.proofs.CheckFacts.{IsAcceptedEntry}
 
 -- ---- the last day
 
@@ -59,9 +60,6 @@ record IsRefusedEntry (d : Declarations) (entry : Name × Contract) : Type 0 whe
   rule : Rule
   node : ℕ
   refused : IsRefusal d entry.1 rule node
-
-abbrev IsAcceptedEntry : Declarations → Name × Contract → Type 0
-IsAcceptedEntry d entry = IsAccepted d entry.1
 
 not_both : (d : Declarations) (entry : Name × Contract) → IsAcceptedEntry d entry → IsRefusedEntry d entry → ⊥
 not_both d entry a r = accepted_not_refused d entry.1 r.rule r.node a r.refused
@@ -111,7 +109,7 @@ same_missing d one other last c same =
 
 -- ---- reads that are not fixed
 
-abbrev IsFixedEntry : Declarations → Environment → ℤ → Name × Contract → Type 0
+abbrev pub IsFixedEntry : Declarations → Environment → ℤ → Name × Contract → Type 0
 IsFixedEntry d fixings last entry = missing_of d fixings last entry.1 ≡ None
 
 record IsMissingEntry (d : Declarations) (fixings : Environment) (last : ℤ) (entry : Name × Contract) : Type 0 where

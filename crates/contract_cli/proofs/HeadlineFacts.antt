@@ -1,20 +1,19 @@
 -- What a run shows, from how it ends.
-use Rattle.std.proofs.Common.{◌≡◌, ◌∙◌, ◌⊎◌, inl, inr, ℕ, ℤ, List, ap, subst, sym}
-use Rattle.std.specs.Prelude.{Some, None}
+use Rattle.std.proofs.Common.{◌≡◌, ◌∙◌, ◌⊎◌, inl, inr, ℕ, List, ap, subst, sym}
+use Rattle.std.specs.Prelude.{Some}
 use Rattle.std.proofs.lemmas.List.{length-map}
 use Rattle.term_core.specs.Acceptance.{IsAccepted}
-use Rattle.term_core.specs.Declarations.{Declarations}
-use Rattle.term_core.specs.Environments.{Environment, Extends, IsAdmitted}
+use Rattle.term_core.specs.Environments.{Environment, IsAdmitted}
 use Rattle.term_core.specs.Instances.{instance}
 use Rattle.term_core.specs.Terms.{Contract}
 use Rattle.payoff_lang.specs.CodeBooks.{CodeBook}
 use Rattle.payoff_lang.specs.Meaning.{CodeMeans, MayBeAsked, Remaining}
 use Rattle.report.specs.declared.fault_lines.Fault.{Fault}
-use Rattle.command_words.specs.Commands.{Advance, AdvanceAsked, Asked, Check, Flows, OnCode, OnFiles, Payoff, PayoffAsked, Sample, ValueAsked}
+use Rattle.command_words.specs.Commands.{Advance, AdvanceAsked, Asked, Check, OnCode, OnFiles, Payoff, PayoffAsked, Sample, ValueAsked}
 use Rattle.command_words.specs.Words.{request_of}
-use Rattle.contract_cli.specs.FilesPromise.{Answers, Inputs, Stops, AnswersOnCode, not_spelled, on_portfolio, stopped as stops_on, told, value_stopped, value_told}
+use Rattle.contract_cli.specs.FilesPromise.{Answers, Inputs, AnswersOnCode, not_spelled, on_portfolio, stopped as stops_on, told, value_stopped, value_told}
 use Rattle.contract_cli.specs.Headline.{HasAdvanced, HasChecked, HasCompiled, HasValued, Headline, IsPresentValue, Judged}
-use Rattle.contract_cli.specs.RunPromise.{Cause, stopped, answered, valued, sampled, Edge, FileFault, read_failed, read_long, FilesSeen, by_command, by_value, Meets, written, broken, lacking, Names, NamesValue, StopsRun, no_form, at_file, WereRead, WereReadForValue, WritesAll}
+use Rattle.contract_cli.specs.RunPromise.{Cause, stopped, answered, valued, sampled, Edge, FileFault, read_failed, read_long, FilesSeen, Meets, written, broken, lacking, Names, NamesValue, StopsRun, no_form, at_file, WereRead, WereReadForValue, WritesAll}
 use Rattle.contract_cli.specs.Statuses.{status_of}
 use Rattle.contract_cli.specs.ValuePromise.{CanValue, IsValueText, ValueInputs, question, setting_by}
 use Rattle.contract_cli.specs.declared.status.Status.{Status}

@@ -1,6 +1,6 @@
 -- One more line, one more contract, and the parts of `flows` put together.
 use Rattle.std.proofs.Common.{◌≡◌, ◌∙◌, ◌≤ℤ◌, ◌⊎◌, inl, inr, ℕ, ℤ, pos, List, [], ◌∷◌, ◌++◌, append_assoc, ap, arith, refl, subst, sym}
-use Rattle.std.specs.Prelude.{All, Some, None, Result, Ok, Err}
+use Rattle.std.specs.Prelude.{All, Some, Result, Ok, Err}
 use Rattle.std.specs.Global.{Vec}
 use Rattle.std.proofs.lemmas.Int.{ints}
 use Rattle.std.proofs.lemmas.List.{append-nil}
@@ -25,6 +25,8 @@ use Rattle.contract_cli.specs.FlowsPromise.{AreLines, IsFirstNotAccepted, missin
 use Rattle.contract_cli.specs.Stopping.{AnswersBy}
 use Rattle.contract_cli.specs.declared.stop.Stop.{Stop}
 use Rattle.contract_cli.specs.declared.stop.Stop.TheVariants as stop
+use Rattle.contract_cli.proofs.FlowsAreOne.{IsFixedEntry}
+use Rattle.contract_cli.proofs.CheckFacts.{IsAcceptedEntry}
 
 -- ---- one more line
 
@@ -43,13 +45,7 @@ pub appends_line : (d : Declarations) (name : List ℕ) (rows : List FlowRow) (r
 appends_line d name rows row before middle after some more =
     record { text = some.text ++ more.line; lines = lines_more d name rows some.text row more.line some.lines more.is_line; appended = more.appended ∙ ap (λ (t : List ℕ). t ++ more.line) some.appended ∙ append_assoc before some.text more.line }
 
-pub appends_no_line : (d : Declarations) (name : List ℕ) (before : List ℕ) → AppendsLines d name [] before before
-appends_no_line d name before = record { text = []; lines = refl; appended = sym (append-nil before) }
-
 -- ---- one more contract that is accepted
-
-abbrev IsAcceptedEntry : Declarations → Name × Contract → Type 0
-IsAcceptedEntry d entry = IsAccepted d entry.1
 
 not_accepted_behind : (d : Declarations) (entry : Name × Contract) (entries : List (Name × Contract)) (name : List ℕ) (rule : Rule) (node : ℕ) → IsAcceptedEntry d entry → IsFirstNotAccepted d entries name rule node → IsFirstNotAccepted d (entry ∷ entries) name rule node
 not_accepted_behind d entry entries name rule node a n = record {
@@ -80,9 +76,6 @@ pub accepted_none : (d : Declarations) → AreAllAccepted d []
 accepted_none d = All-nil (IsAcceptedEntry d)
 
 -- ---- one more contract with its lines
-
-abbrev pub IsFixedEntry : Declarations → Environment → ℤ → Name × Contract → Type 0
-IsFixedEntry d fixings last entry = missing_of d fixings last entry.1 ≡ None
 
 module _ (d : Declarations) (fixings : Environment) (last : ℤ) where
   pub missing_behind : (entry : Name × Contract) (entries : List (Name × Contract)) (f : Fault) → IsFixedEntry d fixings last entry → IsMissingOf d fixings last entries f → IsMissingOf d fixings last (entry ∷ entries) f

@@ -27,8 +27,9 @@ use Rattle.command_words.specs.Commands.{PayoffAsked}
 use Rattle.contract_cli.specs.FlowsParts.{IsRefusedOne}
 use Rattle.contract_cli.specs.PayoffPromise.{IsAcceptedAtDefaults, IsPayoffText, StopsPayoff, name_unknown, not_accepted, code_asked, file_of}
 use Rattle.contract_cli.specs.UsedContracts.{at_defaults, contract_named}
-use Rattle.contract_cli.specs.UsedParts.{IsNamed, NamesNone, trees}
+use Rattle.contract_cli.specs.UsedParts.{IsNamed, NamesNone}
 use Rattle.contract_cli.specs.declared.used.Written.{Written}
+use Rattle.contract_parse.specs.ContractReading.{trees}
 
 -- ---- the contract of a name
 

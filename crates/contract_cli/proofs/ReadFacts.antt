@@ -1,11 +1,11 @@
 -- What is read of the files of a command, one after another, and what stops a run at one of them.
-use Rattle.std.proofs.Common.{◌≡◌, ◌∙◌, ◌≤◌, ◌<◌, ℕ, List, length, ap, arith, refl, subst, sym}
-use Rattle.std.specs.Prelude.{Option, Some, IfSome, IsSome}
+use Rattle.std.proofs.Common.{◌≡◌, ◌∙◌, ◌≤◌, ◌<◌, ℕ, List, length, arith, refl, subst}
+use Rattle.std.specs.Prelude.{Option, Some, IfSome}
 use Rattle.edge_io.specs.Counts.{Rose}
 use Rattle.edge_io.specs.Files.{CountsOnly}
 use Rattle.report.specs.declared.fault_lines.Fault.{Fault}
 use Rattle.command_words.specs.Commands.{Asked, ValueAsked, fixings_file, portfolio_file}
-use Rattle.contract_cli.specs.RunPromise.{CountsOnlyBy, CountsOnlyNamed, CountsOnlyValued, FilesSeen, FileFault, read_failed, read_long, by_command, by_value, is_code, is_curve, is_fixings, is_first, is_second, Names, NamesValue, StopsRun, at_file, WasRead, longest_file}
+use Rattle.contract_cli.specs.RunPromise.{CountsOnlyBy, CountsOnlyNamed, FilesSeen, FileFault, read_failed, read_long, by_command, by_value, is_code, is_curve, is_fixings, is_first, is_second, Names, NamesValue, StopsRun, at_file, WasRead, longest_file}
 
 -- a file that was read in a part of a run
 pub seen_told : (one two : FilesSeen) (file bytes : List ℕ) → two.contents file ≡ one.contents file → WasRead two file bytes → WasRead one file bytes
@@ -40,16 +40,6 @@ pub counts_of_one : (asked : Asked) (files : FilesSeen) (name : List ℕ) → na
 counts_of_one asked files name is h =
     record { later = h.later; others = λ file unnamed told. h.others file (λ e. unnamed.other_portfolio (e ∙ is)) told }
 
--- two reads, one after the other
-pub counts_of_two : (asked : Asked) (files : FilesSeen) (told : List ℕ → Option (List ℕ)) (middle : List ℕ → ℕ) (name file : List ℕ) → name ≡ portfolio_file asked → fixings_file asked ≡ Some file → ((other : List ℕ) → told other ≡ files.contents other) → CountsOnly files.contents files.faults_before middle name → CountsOnly told middle files.faults_after file → CountsOnlyNamed asked files
-counts_of_two asked files told middle name file is given kept h k = record {
-  later = λ other. omega (arith, h.later other, k.later other);
-  others = λ other unnamed seen.
-      both_stay (files.faults_before other) (middle other) (files.faults_after other)
-      (h.others other (λ e. unnamed.other_portfolio (e ∙ is)) seen)
-      (k.others other (λ e. unnamed.other_fixings (given ∙ ap (λ (x : List ℕ). Some x) (sym e))) (subst (λ (o : Option (List ℕ)). IsSome o) (sym (kept other)) seen));
-}
-
 -- what the command does not name its words do not
 pub counts_by_words : (words : List (List ℕ)) (asked : Asked) (files : FilesSeen) → Names words asked → CountsOnlyNamed asked files → CountsOnlyBy words files
 counts_by_words words asked files named h = record { later = h.later; others = λ file unnamed told. h.others file (unnamed.by_command asked named) told }
@@ -67,7 +57,3 @@ stopped_at_fixings words one two asked code f named read told less after h =
 pub stopped_at_curve : (words : List (List ℕ)) (one two : FilesSeen) (asked : ValueAsked) (code fixings : List ℕ) (f : Fault) → NamesValue words asked → WasRead one asked.files.code code → WasRead one asked.files.fixings fixings → two.contents asked.files.curve ≡ one.contents asked.files.curve → one.faults_before asked.files.curve ≤ two.faults_before asked.files.curve → two.faults_after asked.files.curve ≡ one.faults_after asked.files.curve → FileFault two asked.files.curve 3 f → StopsRun words one f
 stopped_at_curve words one two asked code fixings f named read also told less after h =
     at_file asked.files.curve 3 (by_value asked named (is_curve refl refl code read fixings also)) (fault_seen one two asked.files.curve 3 f told less after h)
-
--- what `value` does not name its words do not
-pub counts_by_value_words : (words : List (List ℕ)) (asked : ValueAsked) (files : FilesSeen) → NamesValue words asked → CountsOnlyValued asked files → CountsOnlyBy words files
-counts_by_value_words words asked files named h = record { later = h.later; others = λ file unnamed told. h.others file (unnamed.by_value asked named) told }

@@ -9,7 +9,7 @@ use Rattle.contract_cli.specs.RunParts.{AreShort}
 use Rattle.command_words.specs.Commands.{Asked, OnCode, OnFiles, Sample, fixings_file, portfolio_file}
 use Rattle.contract_cli.specs.FlowsParts.{IsShortTable}
 use Rattle.command_words.specs.Words.{request_of}
-use Rattle.contract_cli.specs.RunPromise.{Cause, stopped, answered, valued, sampled, Edge, FilesSeen, FileFault, read_failed, read_long, IsNext, is_first, is_second, IsNextByWords, by_command, by_value, Meets, written, broken, lacking, Names, StopsRun, no_form, at_file, WasRead, WasReadIfNamed, WereRead, WritesAll, WritesNothing, longest_file}
+use Rattle.contract_cli.specs.RunPromise.{Cause, stopped, answered, valued, sampled, Edge, FilesSeen, FileFault, read_failed, read_long, IsNext, is_first, is_second, by_command, by_value, Meets, written, broken, lacking, Names, StopsRun, no_form, at_file, WasRead, WasReadIfNamed, WereRead, WritesAll, WritesNothing, longest_file}
 use Rattle.contract_cli.specs.RunLaws.{IsLongAt, long_portfolio, long_table, IsRead, IsTold, IsToldIfNamed}
 use Rattle.contract_cli.specs.Statuses.{status_of}
 use Rattle.contract_cli.specs.declared.status.Status.{Status}

@@ -20,8 +20,9 @@ use Rattle.contract_parse.specs.Texts.{Text}
 use Rattle.contract_parse.proofs.TextClosed.{contracts_closed}
 use Rattle.contract_parse.proofs.TextSizes.{nodes_fit}
 use Rattle.contract_cli.specs.UsedContracts.{at_defaults, is_asked}
-use Rattle.contract_cli.specs.UsedParts.{IsSound, IsTriable, entries_of, entry_of, trees}
+use Rattle.contract_cli.specs.UsedParts.{IsSound, IsTriable, entries_of, entry_of}
 use Rattle.contract_cli.specs.declared.used.Used.{Used}
+use Rattle.contract_parse.specs.ContractReading.{trees}
 
 -- ---- an instance
 

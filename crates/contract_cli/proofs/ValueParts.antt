@@ -15,11 +15,11 @@ use Rattle.payoff_lang.specs.CodeBooks.{CodeBook}
 use Rattle.report.specs.declared.fault_lines.Fault.{Fault}
 use Rattle.report.specs.declared.fault_lines.Fault.TheVariants as fault
 use Rattle.command_words.specs.Commands.{Between, ValueAsked}
-use Rattle.contract_cli.specs.FlowsParts.{IsRowFault, IsStopOf, IsWordFault}
-use Rattle.contract_cli.specs.FlowsPromise.{IsDayAsked, greatest_day}
+use Rattle.contract_cli.specs.FlowsParts.{IsStopOf, IsWordFault}
+use Rattle.contract_cli.specs.FlowsPromise.{greatest_day}
 use Rattle.contract_cli.specs.Stopping.{AnswersBy}
-use Rattle.contract_cli.specs.ValuePromise.{AreBetween, IsValueText, Naming, StopsValue, ValueInputs, WordsFitCode, curve_refused, day_out, first_unknown, first_unknown_of, name_unknown, names_between, names_set, not_accepted, question, read_missing, row_refused, setting_by}
-use Rattle.contract_cli.specs.ValueParts.{Inquiry, IsCurveFault, IsFirstUnknown, IsMissingBy, IsQuestionOf, IsUndeclared, IsUnknownBetween, IsUnknownOfValue, IsUnknownSetting, IsWorthOver, KnowsNames, StopsAtSetting, StopsByCurve, StopsByTables, TellsAtSetting, by_curve, by_tables, flow_of, missing_by, no_code, no_curve, no_read, no_row, SettingsAreKnown}
+use Rattle.contract_cli.specs.ValuePromise.{AreBetween, IsValueText, Naming, StopsValue, ValueInputs, WordsFitCode, curve_refused, day_out, first_unknown, first_unknown_of, name_unknown, names_between, names_set, not_accepted, read_missing, row_refused, setting_by}
+use Rattle.contract_cli.specs.ValueParts.{Inquiry, IsMissingBy, IsUndeclared, IsUnknownBetween, IsUnknownOfValue, IsUnknownSetting, IsValueOver, KnowsNames, StopsAtSetting, TellsAtSetting, by_curve, by_tables, flow_of, missing_by, no_code, no_curve, no_read, no_row, SettingsAreKnown}
 use Rattle.contract_cli.specs.declared.stop.Stop.{Stop}
 use Rattle.contract_cli.specs.declared.value_names.Parties.{Parties}
 
@@ -88,23 +88,14 @@ module _ (d : Declarations) (asked : ValueAsked) where
 -- ---- a read that is not fixed
 
 module _ (q : Inquiry) (fixings : Environment) (curve : List CurveRow) where
-  pub without_value : (label : ℕ) (day : ℤ) (s : Stop) → missing_by q fixings curve ≡ Some (record { label = label; day = day }) → IsStopOf q.book.declarations (flow.Missing label day) s → AnswersBy (IsWorthOver q fixings curve) (IsMissingBy q fixings curve) (Err s)
+  pub without_value : (label : ℕ) (day : ℤ) (s : Stop) → missing_by q fixings curve ≡ Some (record { label = label; day = day }) → IsStopOf q.book.declarations (flow.Missing label day) s → AnswersBy (IsValueOver q fixings curve) (IsMissingBy q fixings curve) (Err s)
   without_value label day s missing (inl is) =
-      subst (λ (x : Stop). AnswersBy (IsWorthOver q fixings curve) (IsMissingBy q fixings curve) (Err x)) (sym is)
+      subst (λ (x : Stop). AnswersBy (IsValueOver q fixings curve) (IsMissingBy q fixings curve) (Err x)) (sym is)
       (record { place = record { label = label; day = day }; first = missing; fault_is = refl })
   without_value label day s missing (inr is) =
-      subst (λ (x : Stop). AnswersBy (IsWorthOver q fixings curve) (IsMissingBy q fixings curve) (Err x)) (sym is) tt
+      subst (λ (x : Stop). AnswersBy (IsValueOver q fixings curve) (IsMissingBy q fixings curve) (Err x)) (sym is) tt
 
 -- ---- what may be asked
-
-pub question_of : (b : CodeBook) (asked : ValueAsked) (setting : List ℕ) (day : ℤ) (flow : Flow) → IsDayAsked b.declarations greatest_day asked.at day → AreBetween b.declarations asked.between flow → IsQuestionOf (record { book = b; setting = setting; day = day; flow = flow })
-question_of b asked setting day flow is are curve = record {
-  begun = is.1;
-  near = is.2;
-  payer = index_within b.declarations.parties asked.between.from flow.from are.from;
-  receiver = index_within b.declarations.parties asked.between.to flow.to are.to;
-  asset = index_within b.declarations.assets asked.between.asset flow.asset are.asset;
-}
 
 -- ---- the whole
 

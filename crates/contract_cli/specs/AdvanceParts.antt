@@ -15,9 +15,9 @@ use Rattle.command_words.specs.Commands.{AdvanceAsked}
 use Rattle.contract_cli.specs.FlowsParts.{IsMissingOf, IsMissingOne, IsWordFault}
 use Rattle.contract_cli.specs.FlowsPromise.{AreAllFixed}
 use Rattle.contract_cli.specs.Stopping.{AnswersBy}
-use Rattle.contract_cli.specs.UsedParts.{trees}
 use Rattle.contract_cli.specs.declared.advance_text.Left.{Left}
 use Rattle.contract_cli.specs.declared.stop.Stop.{Stop}
+use Rattle.contract_parse.specs.ContractReading.{trees}
 
 -- the new day of a word
 abbrev pub AnswersNewDay : Declarations → List ℕ → Result ℕ Stop → Type 0

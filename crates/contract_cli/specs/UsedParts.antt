@@ -2,7 +2,6 @@
 use Rattle.std.specs.Prelude.{◌≡◌, ◌≤◌, ◌<◌, ◌^◌, ℕ, true, false, map, List, Option, Some, None, Result}
 use Rattle.std.specs.List.{All}
 use Rattle.term_core.specs.declared.name.Name.{Name}
-use Rattle.term_core.specs.declared.terms.Contr.{Contr}
 use Rattle.term_core.specs.Books.{Book}
 use Rattle.term_core.specs.Declarations.{Declarations}
 use Rattle.term_core.specs.Terms.{Contract, contract}
@@ -27,10 +26,6 @@ entry_of one = (one.name.now, tree_of one.contr)
 
 abbrev pub entries_of : List Used → List (Name × Contract)
 entries_of ones = map entry_of ones
-
--- the contracts of a portfolio by their contents
-abbrev pub trees : List (Name × Contr) → List (Name × Contract)
-trees entries = map (λ entry. (entry.0, contract entry.1)) entries
 
 -- a contract of a text
 pub record IsSound (d : Declarations) (c : Contract) : Type 0 where

@@ -135,20 +135,20 @@ pub record IsMissingBy (q : Inquiry) (fixings : Environment) (curve : List Curve
   pub fault_is : f ≡ fault.Missing (label_name q.book.declarations place.label) place.day
 
 -- what the code is worth, where each read is fixed
-pub record IsWorthOver (q : Inquiry) (fixings : Environment) (curve : List CurveRow) (amount : ℤ) : Type 0 where
+pub record IsValueOver (q : Inquiry) (fixings : Environment) (curve : List CurveRow) (amount : ℤ) : Type 0 where
   pub fixed : missing_by q fixings curve ≡ None
   pub is_value : IsValue q.book q.setting fixings (question q.day curve q.flow) amount
   pub small : unsigned_abs amount ≤ 10 ^ 37
 
-abbrev pub AnswersWorth : Inquiry → Environment → List CurveRow → Result ℤ Stop → Type 0
-AnswersWorth q fixings curve r = AnswersBy (IsWorthOver q fixings curve) (IsMissingBy q fixings curve) r
+abbrev pub AnswersValueOver : Inquiry → Environment → List CurveRow → Result ℤ Stop → Type 0
+AnswersValueOver q fixings curve r = AnswersBy (IsValueOver q fixings curve) (IsMissingBy q fixings curve) r
 
 -- the line of a value, over fixings and the curve of a table
 pub record TellsByCurve (q : Inquiry) (fixings : Environment) (bytes text : List ℕ) : Type 0 where
   pub curve : List CurveRow
   pub is_curve : HoldsCurve (table_of bytes) curve
   pub amount : ℤ
-  pub worth : IsWorthOver q fixings curve amount
+  pub worth : IsValueOver q fixings curve amount
   pub line : text ≡ value_text amount (q.book.declarations.amounts + 9)
 
 pub data StopsByCurve (q : Inquiry) (fixings : Environment) (bytes : List ℕ) (f : Fault) : Type 0 where

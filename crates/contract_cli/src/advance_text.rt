@@ -16,8 +16,9 @@ ghost use Rattle.contract_cli.specs.AdvancePromise.{rest_declarations};
 ghost use Rattle.contract_cli.specs.CheckPromise.{AreAllAccepted};
 ghost use Rattle.contract_cli.specs.FlowsParts.{IsShortTable};
 ghost use Rattle.command_words.specs.Arguments.{given_text};
-ghost use Rattle.contract_cli.specs.UsedParts.{AreTriable, HasSoundContracts, IsTriable, entries_of, entry_of, trees};
+ghost use Rattle.contract_cli.specs.UsedParts.{AreTriable, HasSoundContracts, IsTriable, entries_of, entry_of};
 ghost use Rattle.command_words.specs.Words.{advance_by};
+ghost use Rattle.contract_parse.specs.ContractReading.{trees};
 
 use crate::accepting::accept_all;
 use crate::over_fixings::{day_asked, fixings_of, stop_of};

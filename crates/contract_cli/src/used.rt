@@ -3,7 +3,7 @@
 ghost use Rattle.std.specs.Prelude.{◌≡◌, IfOk};
 ghost use Rattle.term_core.specs.Books.{book};
 ghost use Rattle.term_core.specs.Declarations.{declarations};
-ghost use Rattle.term_core.specs.Instances.{HasNumbers, declared_numbers, instance};
+ghost use Rattle.term_core.specs.Instances.{HasNumbers, instance};
 ghost use Rattle.term_core.specs.Terms.{contract};
 ghost use Rattle.command_words.specs.Arguments.{given_text};
 ghost use Rattle.contract_cli.specs.PayoffParts.{AnswersNamed};

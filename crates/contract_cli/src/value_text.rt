@@ -12,7 +12,7 @@ ghost use Rattle.report.specs.ValueLines.{value_text};
 ghost use Rattle.command_words.specs.Words.{value_by};
 ghost use Rattle.contract_cli.specs.FlowsParts.{IsStopOf};
 ghost use Rattle.contract_cli.specs.Stopping.{AnswersBy};
-ghost use Rattle.contract_cli.specs.ValueParts.{AnswersAcceptedCode, AnswersAtSetting, AnswersByCurve, AnswersByTables, AnswersValue, AnswersWorth, AreShortForValue, IsCurveFault, IsQuestionOf, IsReadable, MayAsk, inquiry_of, value_inputs_by};
+ghost use Rattle.contract_cli.specs.ValueParts.{AnswersAcceptedCode, AnswersAtSetting, AnswersByCurve, AnswersByTables, AnswersValue, AnswersValueOver, AreShortForValue, IsCurveFault, IsQuestionOf, IsReadable, MayAsk, inquiry_of, value_inputs_by};
 
 use crate::over_fixings::{day_asked, fixings_of, stop_of};
 use crate::stop::Stop;
@@ -85,7 +85,7 @@ fn worth(
     requires readable { IsReadable (code_book file.now) }
     requires asks { MayAsk (inquiry_of file.now asking.now) }
     requires admitted { IsAdmitted (declarations file.now.decls) fixings.now }
-    ensures { AnswersWorth (inquiry_of file.now asking.now) fixings.now curve.now result }
+    ensures { AnswersValueOver (inquiry_of file.now asking.now) fixings.now curve.now result }
 {
     let parties = asking.parties;
     let mut scratch = value_scratch(alloc, file)?;

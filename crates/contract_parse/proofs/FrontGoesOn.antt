@@ -10,7 +10,7 @@ use Rattle.contract_parse.specs.FrontLaws.{FrontsGoOn}
 use Rattle.contract_parse.specs.declared.heads.Language.{Language}
 use Rattle.contract_parse.specs.declared.token.Kind.{Kind}
 use Rattle.contract_parse.specs.declared.token.Kind.TheVariants as kind
-use Rattle.contract_parse.proofs.Passing.{and_parts}
+use Rattle.contract_parse.proofs.EntryFacts.{and_parts}
 use Rattle.contract_parse.proofs.FrontFacts.{chain, join, optional_from, repeated_from, to_token}
 
 -- the parts end within the first tokens

@@ -7,7 +7,7 @@ use Rattle.contract_parse.specs.Fronts.{IsFront, IsWhole, Symbol, text_form, tex
 use Rattle.contract_parse.specs.FrontRows.{EndsAt, FrontRows, at_left, begun, code_begun, great_loop}
 use Rattle.contract_parse.specs.declared.heads.Language.{Language}
 use Rattle.contract_parse.specs.declared.token.Kind.TheVariants.{Word, Number, Mark, End}
-use Rattle.contract_parse.proofs.Passing.{and_parts}
+use Rattle.contract_parse.proofs.EntryFacts.{and_parts}
 use Rattle.contract_parse.proofs.FrontTakes.{BeginWithTokens, Takes, barred, bars, is_nil, nil_is, one_takes, optional_skips, optional_takes, repeated_skips, repeated_takes, rests, symbol_takes}
 use Rattle.contract_parse.proofs.FrontChoices.{starts}
 

@@ -4,7 +4,7 @@ use Rattle.std.specs.Prelude.{not}
 use Rattle.std.proofs.lemmas.Bool.{false≢true}
 use Rattle.contract_parse.specs.Tokens.{Tok}
 use Rattle.contract_parse.specs.Forms.{Terminal, Nonterminal, Optional, Repeated, Form, Grammar, IsAmong, here, later, Whole, done, token, absent, present, enough, again, Front, beyond}
-use Rattle.contract_parse.proofs.Passing.{and_parts}
+use Rattle.contract_parse.proofs.EntryFacts.{and_parts}
 use Rattle.contract_parse.proofs.FrontFacts.{of_token, to_token, optional_from, repeated_from, to_symbol, whole_symbol, of_symbol, of_optional, of_repeated}
 
 -- the token takes what may stand to what may stand behind it
@@ -85,7 +85,7 @@ barred forms (Nonterminal symbol ∷ parts) t = is_nil (rests (forms symbol) t)
 barred forms (Optional symbol ∷ parts) t = is_nil (rests (forms symbol) t) && barred forms parts t
 barred forms (Repeated symbol ∷ parts) t = is_nil (rests (forms symbol) t) && barred forms parts t
 
-not_true : (b : Bool) → not b ≡ true → b ≡ false
+pub not_true : (b : Bool) → not b ≡ true → b ≡ false
 not_true true e = absurd (false≢true e)
 not_true false e = refl
 

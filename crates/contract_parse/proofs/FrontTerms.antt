@@ -21,7 +21,8 @@ use Rattle.contract_parse.specs.declared.heads.AmountHead.{AmountHead}
 use Rattle.contract_parse.specs.declared.faults.TextKind.TheVariants as kind
 use Rattle.contract_parse.specs.declared.token.Kind.{Kind}
 use Rattle.contract_parse.specs.declared.token.Kind.TheVariants.{Word, Number, Mark}
-use Rattle.contract_parse.proofs.Passing.{and_parts, of_mark, the_name, the_number}
+use Rattle.contract_parse.proofs.Passing.{of_mark, the_name, the_number}
+use Rattle.contract_parse.proofs.EntryFacts.{and_parts}
 use Rattle.contract_parse.proofs.FrontTakes.{Bars, Takes, one_bars, rests}
 use Rattle.contract_parse.proofs.FrontPlaces.{an_expression, Decided, all_parts}
 use Rattle.contract_parse.proofs.FrontChoices.{Stepped, either}
@@ -32,9 +33,6 @@ use Rattle.contract_parse.proofs.TermsTaken.{first_is_name, first_is_number}
 
 of_number : (P : Tok → Type 0) (t : Tok) → is_number t ≡ true → P (record { kind = Number; text = t.text; left = t.left }) → P t
 of_number P t e h = let same : record { kind = Number; text = t.text; left = t.left } ≡ t = λ i. record { kind = sym (the_number t e) i; text = t.text; left = t.left } in subst P same h
-
-of_name : (P : Tok → Type 0) (t : Tok) → is_name t ≡ true → P (record { kind = Word; text = t.text; left = t.left }) → P t
-of_name P t e h = let same : record { kind = Word; text = t.text; left = t.left } ≡ t = λ i. record { kind = sym (the_name t e) i; text = t.text; left = t.left } in subst P same h
 
 not_reserved : (text w : Bytes) → not (is_reserved text) ≡ true → is_reserved w ≡ true → bytes_eq text w ≡ false
 not_reserved text w name word =

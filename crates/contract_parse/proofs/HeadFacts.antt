@@ -29,11 +29,6 @@ pub depth_ok : {X : Type 0} (language : Language) (d : ℕ) (r : Result X TextKi
 depth_ok language d (Ok y) x e = shallow_ok (greatest_depth language) d (nat_lt (greatest_depth language) d) x (Err kind.Deep) (Ok y) refl refl e
 depth_ok language d (Err k) x e = absurd (never_ok x k (is_before_depth k) (nat_lt (greatest_depth language) d) (Err kind.Deep) (Err k) refl refl e)
 
--- a depth is a small number
-pub depth_small : (language : Language) → greatest_depth language ≤ 400
-depth_small Language.Contracts = omega arith
-depth_small Language.Code = omega arith
-
 ok_same : {X : Type 0} (x y : X) (r s : Result X TextKind) → r ≡ Ok x → s ≡ Ok y → r ≡ s → x ≡ y
 ok_same x y r s p q e = cc
 

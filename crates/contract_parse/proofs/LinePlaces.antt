@@ -3,14 +3,11 @@ use Rattle.std.proofs.Common.{◌≡◌, ◌+◌, ◌-◌, ◌<◌, ◌≤◌, �
 use Rattle.std.specs.Prelude.{◌==◌, not, reverse}
 use Rattle.std.specs.List.{prefix_len}
 use Rattle.std.proofs.lemmas.List.{get_or-drop, get_or-take, length-take, length-reverse, reverse-append, take_more}
-use Rattle.std.proofs.lemmas.List.Sums.{count_by-le-length, count_by_more_no, count_by_more_yes, prefix_len-le-length}
+use Rattle.std.proofs.lemmas.List.Sums.{count_by_more_no, count_by_more_yes, prefix_len-le-length}
 use Rattle.std.proofs.lemmas.Bool.Decides.{nat_tests}
 use Rattle.std.specs.Str.{IsCharBoundary, IsUtf8}
 use Rattle.contract_parse.specs.Lines.{column_at, line_at}
 use Rattle.contract_parse.specs.Cursors.{Fits, Position, position_of}
-
-pub line_small : (bytes : List ℕ) (at : ℕ) → line_at bytes at ≤ 1 + at
-line_small bytes at = omega (arith, count_by-le-length (λ b. b == 10) (take at bytes), length-take at bytes)
 
 pub column_small : (bytes : List ℕ) (at : ℕ) → column_at bytes at ≤ 1 + at
 column_small bytes at =

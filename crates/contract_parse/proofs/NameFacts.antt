@@ -2,14 +2,12 @@
 use Rattle.std.proofs.Common.{◌≡◌, ℕ, Bool, true, false, cond, Option, Some, None, Result, Ok, Err, List, [], ◌∷◌, ◌++◌, refl, sym, ap, ◌∙◌}
 use Rattle.contract_parse.specs.declared.faults.TextKind.{TextKind}
 use Rattle.contract_parse.specs.declared.faults.TextKind.TheVariants.{Syntax, Number, Twice, Unknown}
-use Rattle.contract_parse.specs.declared.names.NameSet.{NameSet}
-use Rattle.contract_parse.specs.declared.names.NameSet.TheVariants.{Party, Asset, Label, Template, Contract}
 use Rattle.std.specs.Prelude.{not}
 use Rattle.std.specs.Str.{bytes_eq}
 use Rattle.indexmap.specs.IndexSet.{insert_key}
 use Rattle.contract_parse.specs.Tokens.{Tok}
 use Rattle.contract_parse.specs.Words.{Bytes, is_integer, is_name}
-use Rattle.contract_parse.specs.Names.{DeclaredNames, index_in, is_declared, names_of, with_names}
+use Rattle.contract_parse.specs.Names.{index_in, is_declared}
 use Rattle.contract_parse.specs.Judgements.{counted, days_at, integer_at, named, new_at, or_fault, up_to, use_at, whole}
 use Rattle.term_core.specs.declared.terms.Days.TheVariants.{Num as Count, Named}
 
@@ -59,21 +57,6 @@ module _ (templates : List Bytes) (t : Tok) where
 
   pub days_none : (kind : TextKind) → false ≡ is_integer t → Err kind ≡ use_at templates t → Err kind ≡ days_at templates t
   days_none kind is e = rw (sym is) (named_err (use_at templates t) kind e)
-
--- the names of a set that was given its names
-pub names_given : (set : NameSet) (names : List Bytes) (s : DeclaredNames) → names_of set (with_names set names s) ≡ names
-names_given Party names s = refl
-names_given Asset names s = refl
-names_given Label names s = refl
-names_given Template names s = refl
-names_given Contract names s = refl
-
-pub given_again : (set : NameSet) (names more : List Bytes) (s : DeclaredNames) → with_names set more (with_names set names s) ≡ with_names set more s
-given_again Party names more s = refl
-given_again Asset names more s = refl
-given_again Label names more s = refl
-given_again Template names more s = refl
-given_again Contract names more s = refl
 
 -- what `insert` says of a name
 pub is_new : (b : Bool) → true ≡ not b → false ≡ b

@@ -5,11 +5,7 @@ use Rattle.contract_parse.specs.Tokens.{Tok, is_last, next_token, tokens}
 use Rattle.contract_parse.specs.Reading.{tokens_after}
 use Rattle.contract_parse.proofs.OneToken.{tail_same}
 use Rattle.contract_parse.proofs.TokenFacts.{tokens_next}
-use Rattle.contract_parse.proofs.TokenOrder.{later_left}
-
-no_token : (xs : List Tok) (t : Tok) (ts : List Tok) → [] ≡ xs ++ t ∷ ts → ⊥
-no_token [] t ts e = cc
-no_token (x ∷ xs) t ts e = cc
+use Rattle.contract_parse.proofs.TokenOrder.{later_left, no_token}
 
 -- the tokens behind the first are those of the bytes behind it
 behind_first : (bytes : List ℕ) (u : Tok) (xs : List Tok) (t : Tok) (ts : List Tok) → tokens bytes ≡ u ∷ xs ++ t ∷ ts → tokens (next_token bytes).1 ≡ xs ++ t ∷ ts

@@ -13,16 +13,13 @@ use Rattle.contract_parse.proofs.Steps.{run-next}
 use Rattle.contract_parse.specs.declared.token.Kind.{Kind}
 use Rattle.contract_parse.specs.declared.token.Kind.TheVariants.{Word, Number, Date, Mark, End, Stray}
 use Rattle.contract_parse.specs.declared.faults.TextKind.{TextKind}
+use Rattle.contract_parse.proofs.EntryFacts.{and_parts}
 
 pub run-end : (s : DeclaredNames) (ps : List Place) → run s ps [] ≡ Open ps
 unfolding run
 run-end s ps = refl
 
 -- ---- what a token is
-
-pub and_parts : (a b : Bool) → (a && b) ≡ true → (a ≡ true) × (b ≡ true)
-and_parts true b e = (refl, e)
-and_parts false b e = absurd (false≢true e)
 
 word_kind : (k : Kind) → is_word_kind k ≡ true → k ≡ Word
 word_kind Word e = refl

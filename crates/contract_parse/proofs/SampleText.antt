@@ -15,7 +15,7 @@ use Rattle.contract_parse.specs.Sample.{sample_book, sample_contract, sample_tex
 use Rattle.contract_parse.specs.declared.token.Kind.{Kind}
 use Rattle.contract_parse.specs.declared.token.Kind.TheVariants.{Word, Number, Mark, End}
 use Rattle.contract_parse.proofs.Parts.{followed_by}
-use Rattle.contract_parse.proofs.Passing.{and_parts}
+use Rattle.contract_parse.proofs.EntryFacts.{and_parts}
 
 ascii : (bs : List ℕ) → list_all (λ b. nat_lt b 128) bs ≡ true → IsAscii bs
 ascii [] e = IsAscii-nil

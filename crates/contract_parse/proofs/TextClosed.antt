@@ -31,7 +31,7 @@ use Rattle.contract_parse.proofs.TextSizes.{contract_lines}
 
 -- ---- names
 
-found : {X : Type 0} (kind : TextKind) (o : Option X) (x : X) → or_fault kind o ≡ Ok x → o ≡ Some x
+pub found : {X : Type 0} (kind : TextKind) (o : Option X) (x : X) → or_fault kind o ≡ Ok x → o ≡ Some x
 found kind None x e = absurd cc
 found kind (Some y) x e = cc
 
@@ -74,7 +74,7 @@ by_value judge x P ts rest go (t, is, e) = go t e
 
 -- ---- numbers
 
-small : (most m n : ℕ) → up_to most m ≡ Some n → n ≤ most
+pub small : (most m n : ℕ) → up_to most m ≡ Some n → n ≤ most
 small most m n e = grind (arith, nat_tests)
 
 integer_within : (most : ℕ) (t : Tok) (n : ℕ) → integer_at most t ≡ Ok n → n ≤ most

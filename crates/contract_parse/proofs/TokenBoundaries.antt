@@ -12,14 +12,14 @@ use Rattle.contract_parse.specs.declared.token.Kind.{Kind}
 use Rattle.contract_parse.specs.declared.token.Kind.TheVariants.{Word, Number, Date, Mark, End, Stray}
 use Rattle.contract_parse.specs.declared.token.Extent.{Extent}
 use Rattle.contract_parse.specs.Tokens.{Tok, are_digits, begins_with_date, begins_with_digit, digits_extent, extent_at, fraction_len, is_date_part, is_digit, is_last, is_letter, is_long_mark, is_short_mark, is_word_byte, mark_extent, mark_len, next_token, number_len, word_extent}
-use Rattle.contract_parse.proofs.Passing.{and_parts}
+use Rattle.contract_parse.proofs.EntryFacts.{and_parts}
 use Rattle.contract_parse.specs.Cursors.{NextToken}
 use Rattle.contract_parse.proofs.TokenFacts.{has_byte, shorter}
 use Rattle.contract_parse.proofs.TokenPlaces.{behind, behind_rest, is_next, rest_place, rest_short, start, start_rest}
 
 -- ---- the bytes of tokens are ASCII
 
-word_small : (b : ℕ) → is_word_byte b ≡ true → b < 128
+pub word_small : (b : ℕ) → is_word_byte b ≡ true → b < 128
 word_small b e = grind (arith, nat_tests)
 
 digit_small : (b : ℕ) → is_digit b ≡ true → b < 128

@@ -48,7 +48,7 @@ within_at n (x ∷ xs) t ts h = within_at n xs t ts h.1
 pub left_inside : (bytes : List ℕ) (xs : List Tok) (t : Tok) (ts : List Tok) → tokens bytes ≡ xs ++ t ∷ ts → t.left ≤ length bytes
 left_inside bytes xs t ts is = within_at (length bytes) xs t ts (subst (λ (l : List Tok). LeftWithin (length bytes) l) is (tokens_within bytes))
 
-no_token : (xs : List Tok) (t : Tok) (ts : List Tok) → [] ≡ xs ++ t ∷ ts → ⊥
+pub no_token : (xs : List Tok) (t : Tok) (ts : List Tok) → [] ≡ xs ++ t ∷ ts → ⊥
 no_token [] t ts e = cc
 no_token (x ∷ xs) t ts e = cc
 

@@ -8,9 +8,9 @@ use Rattle.std.specs.Int.Digits.{digits_of}
 use Rattle.std.specs.Str.Parse.{IsNumeral, AllDigits, digits_value}
 use Rattle.decimal.specs.DecimalText.{after_point}
 use Rattle.decimal.specs.Reading.{read_of}
-use Rattle.decimal.specs.Text.{last_digits, plain_digits, whole_digits, unsigned_text, text_of}
+use Rattle.decimal.specs.Text.{last_digits, whole_digits, unsigned_text, text_of}
 use Rattle.decimal.proofs.ReadingFacts.{reads}
-use Rattle.decimal.proofs.TextLawFacts.{last_numeral, reads_back, unsigned_spelled, unsigned_value, whole_numeral}
+use Rattle.decimal.proofs.TextLawFacts.{last_numeral, reads_back, unsigned_spelled, unsigned_value, whole_numeral, whole_some, whole_none}
 
 -- the text of n at s decimals is digits, and perhaps a point and digits
 pub record Digits (text : List ℕ) (n s : ℕ) : Type 0 where
@@ -47,12 +47,6 @@ read_unsigned n s size scale =
 length-written : (ds : List ℕ) → length (map (λ d. 48 + d) ds) ≡ length ds
 length-written [] = refl
 length-written (d ∷ ds) = ap suc (length-written ds)
-
-whole_some : (n : ℕ) → 0 < n → whole_digits n ≡ plain_digits n
-whole_some n h = grind (arith, nat_tests)
-
-whole_none : (n : ℕ) → n ≤ 0 → whole_digits n ≡ 48 ∷ []
-whole_none n h = grind (arith, nat_tests)
 
 pub few_digits : (n : ℕ) → n < 1000 → length (whole_digits n) ≤ 3
 few_digits n h = by (cases_lt 0 n)

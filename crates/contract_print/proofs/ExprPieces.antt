@@ -19,7 +19,7 @@ use Rattle.contract_parse.specs.Tokens.{Tok, after_gap, extent_at}
 use Rattle.contract_parse.specs.Words.{Bytes}
 use Rattle.contract_parse.specs.Judgements.{binder_at, integer_at, mode_at, operator_at, use_at}
 use Rattle.contract_parse.specs.Spelling.{Part, ◌⨟◌, valued}
-use Rattle.contract_parse.proofs.Passing.{and_parts}
+use Rattle.contract_parse.proofs.EntryFacts.{and_parts}
 use Rattle.contract_print.specs.TermTexts.{bound_name, comparison_text, connective_text, mode_text, name_at, number_text}
 use Rattle.contract_print.specs.Spellable.{are_names}
 use Rattle.contract_print.specs.Spelled.{Spells, stops}

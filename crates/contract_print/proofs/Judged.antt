@@ -21,13 +21,14 @@ use Rattle.contract_parse.specs.Words.{Bytes, is_integer, is_reserved}
 use Rattle.contract_parse.specs.Names.{back_to, index_in, is_declared}
 use Rattle.contract_parse.specs.Judgements.{binder_at, integer_at, literal_at, new_at, offset_at, or_fault, signed_decimal, signed_result, up_to, use_at, variable_at}
 use Rattle.contract_parse.specs.NameTexts.{is_name_text, is_word_text}
-use Rattle.contract_parse.proofs.Passing.{and_parts}
+use Rattle.contract_parse.proofs.EntryFacts.{and_parts}
 use Rattle.contract_print.specs.TermTexts.{bound_name, name_at, number_text}
 use Rattle.contract_print.specs.Spellable.{are_names, are_new}
 use Rattle.contract_print.specs.Spelled.{bound_names}
 use Rattle.contract_print.proofs.DigitFacts.{digits_of_text, few_digits, read_unsigned, unsigned}
 use Rattle.contract_print.proofs.TokenTexts.{all_digits, token}
 use Rattle.contract_print.proofs.Joining.{is_below, same_text}
+use Rattle.contract_parse.proofs.FrontTakes.{not_true}
 
 -- ---- numbers
 
@@ -112,9 +113,6 @@ bound_word n few =
     let short : nat_lt (length text) 64 ≡ true = grind (arith, nat_tests) in
     subst (λ (t : Bytes). is_word_text (118 ∷ t) ≡ true) (sym (number_is n)) (rw (all, short) refl)
 
-pub bound_free : (n : ℕ) → is_reserved (bound_name n) ≡ false
-bound_free n = refl
-
 pub variable_judged : (n back left : ℕ) → back < n → variable_at (bound_names n) (token Word (bound_name (n - suc back)) left) ≡ Ok back
 variable_judged n back left h = ap (or_fault kind.Unknown) (back_judged n back h)
 
@@ -126,10 +124,6 @@ binder_judged n left = refl
 record NewName (before names : List Bytes) (i : ℕ) : Type 0 where
   is_name' : is_name_text (get_or names i []) ≡ true
   is_new : is_declared (before ++ take i names) (get_or names i []) ≡ false
-
-not_true : (b : Bool) → not b ≡ true → b ≡ false
-not_true true e = absurd (false≢true e)
-not_true false e = refl
 
 new_names : (before names : List Bytes) (i : ℕ) → are_new before names ≡ true → i < length names → NewName before names i
 new_names before [] i all h = absurd (let no' : i < 0 = h in omega arith)

@@ -34,7 +34,7 @@ use Rattle.contract_parse.specs.Statements.{Entry, Repeat, comma_name, contract_
 use Rattle.contract_parse.specs.Texts.{Text}
 use Rattle.contract_parse.specs.NameTexts.{is_name_text, is_word_text}
 use Rattle.contract_parse.proofs.Parts.{followed_by}
-use Rattle.contract_parse.proofs.Passing.{and_parts}
+use Rattle.contract_parse.proofs.EntryFacts.{and_parts}
 use Rattle.contract_print.specs.Canon.{IsOriginText, amounts_text, book_text, contract_text, decls_text, header_text, label_text, line, more_names_text, names_text, origin_text, range_text, start_text, template_text}
 use Rattle.contract_print.specs.Laws.{CanonIsText, OneCanon}
 use Rattle.contract_print.specs.Spellable.{AreSpellable, IsSpellable, IsSpellableBook, are_names, are_new}
@@ -45,15 +45,12 @@ use Rattle.contract_print.proofs.Joining.{Follows, anywhere, before, between_wor
 use Rattle.contract_print.proofs.Judged.{literal_judged, new_judged}
 use Rattle.contract_print.proofs.ExprPieces.{ascii_of, integer_spells}
 use Rattle.contract_print.proofs.ContrSpelled.{contr_spelled, equals_then}
+use Rattle.contract_parse.proofs.FrontTakes.{not_true}
 
 -- ---- nothing, and repeated lines
 
 empty : {p : Part} → ((ts : List Tok) → p ts ts) → Spells anywhere [] p
 empty same = record { ascii = IsAscii-nil; here = λ more' stop. same (tokens more') }
-
-not_true : (b : Bool) → not b ≡ true → b ≡ false
-not_true true e = absurd (false≢true e)
-not_true false e = refl
 
 -- what `are_new` says of the first name
 record FirstNew (names : List Bytes) (name : Bytes) (rest : List Bytes) : Type 0 where

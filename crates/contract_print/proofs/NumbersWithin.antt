@@ -18,20 +18,10 @@ use Rattle.term_core.specs.declared.terms.Days.TheVariants.{Num as Count, Named}
 use Rattle.contract_parse.specs.Tokens.{Tok}
 use Rattle.contract_parse.specs.Words.{Bytes, is_date, is_number, is_integer}
 use Rattle.contract_parse.specs.Judgements.{above, above_limited, bound_at, counted, day_in, days_at, integer_at, literal_at, named, or_fault, origin_at, signed_decimal, up_to, use_at, whole, widened, with_sign}
-use Rattle.contract_parse.specs.Spelling.{valued}
 use Rattle.contract_parse.specs.declared.faults.TextKind.{TextKind}
 use Rattle.contract_parse.specs.declared.faults.TextKind.TheVariants.{Date, Number}
 use Rattle.contract_print.specs.Spellable.{IsCountOfTexts}
-
-pub found : {X : Type 0} (kind : TextKind) (o : Option X) (x : X) → or_fault kind o ≡ Ok x → o ≡ Some x
-found kind None x e = absurd cc
-found kind (Some y) x e = cc
-
-small : (most m n : ℕ) → up_to most m ≡ Some n → n ≤ most
-small most m n e = grind (arith, nat_tests)
-
-pub by_value : {X : Type 0} (judge : Tok → Result X TextKind) (x : X) (P : Type 0) (ts rest : List Tok) → ((t : Tok) → judge t ≡ Ok x → P) → valued judge x ts rest → P
-by_value judge x P ts rest go (t, is, e) = go t e
+use Rattle.contract_parse.proofs.TextClosed.{small, found}
 
 pub integer_within : (most : ℕ) (t : Tok) (n : ℕ) → integer_at most t ≡ Ok n → n ≤ most
 integer_within most t n e = elim (cases_Bool (is_integer t)) [

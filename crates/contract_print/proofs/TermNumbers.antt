@@ -12,7 +12,8 @@ use Rattle.contract_parse.specs.Spelling.{Leaf, contr, expr_with, obs_leaf}
 use Rattle.contract_print.specs.Spellable.{ContractHasNumbersOfTexts, HasNumbersOfTexts, IsSpellable}
 use Rattle.contract_print.specs.Writable.{IsWritable, IsWritableContract, IsWritableTerm}
 use Rattle.contract_print.proofs.ExprSpelled.{IsObservable, IsSpellableWith, spellable_with}
-use Rattle.contract_print.proofs.NumbersWithin.{by_value, count_within, integer_within, literal_within}
+use Rattle.contract_print.proofs.NumbersWithin.{count_within, integer_within, literal_within}
+use Rattle.contract_parse.proofs.TextClosed.{by_value}
 
 -- ---- what is spelled
 

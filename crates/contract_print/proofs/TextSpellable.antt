@@ -22,12 +22,13 @@ use Rattle.contract_parse.specs.Statements.{Added, Entry, Repeat, comma_name, co
 use Rattle.contract_parse.specs.Texts.{Text}
 use Rattle.contract_parse.specs.declared.faults.TextKind.TheVariants.{Twice}
 use Rattle.contract_parse.specs.NameTexts.{is_name_text}
-use Rattle.contract_parse.proofs.Passing.{and_parts}
+use Rattle.contract_parse.proofs.EntryFacts.{and_parts}
 use Rattle.contract_parse.proofs.TextSizes.{contract_lines}
 use Rattle.contract_parse.proofs.TextClosed.{contracts_closed}
 use Rattle.contract_print.specs.Laws.{TextsAreSpellable, TextsAreWritable}
 use Rattle.contract_print.specs.Spellable.{AreSpellable, ContractHasNumbersOfTexts, IsSpellable, are_names, are_new}
-use Rattle.contract_print.proofs.NumbersWithin.{bound_within, by_value, integer_within, label_within, origin_within}
+use Rattle.contract_print.proofs.NumbersWithin.{bound_within, integer_within, label_within, origin_within}
+use Rattle.contract_parse.proofs.TextClosed.{by_value}
 use Rattle.contract_print.proofs.TermNumbers.{numbers_of_contract, spellable_written}
 use Rattle.contract_print.proofs.WordTexts.{IsWordToken, words_are_words}
 use Rattle.contract_print.proofs.WordsKept.{Keeps, Words, ◌▹◌, contr_keeps, mark_keeps, origin_keeps, range_keeps, start_keeps, test_keeps, value_keeps, word_keeps}

@@ -1,9 +1,7 @@
 -- What printing asks of a contract: literals within the limits of decimals, names under their binders, and a depth of at
 -- most 200. It asks less than that a text can stand for it: a name that is not declared is written as nothing.
-use Rattle.std.specs.Prelude.{ℕ, suc, List, map, ◌≤◌, ◌<◌, ◌^◌, unsigned_abs}
+use Rattle.std.specs.Prelude.{ℕ, suc, ◌≤◌, ◌<◌, ◌^◌, unsigned_abs}
 use Rattle.term_core.specs.Sizes.{height_of_contract}
-use Rattle.term_core.specs.declared.name.Name.{Name}
-use Rattle.term_core.specs.declared.terms.Contr.{Contr}
 use Rattle.term_core.specs.Terms.{contract, Expression, Lit, Yes, Var, Obs, Neg, Num, Cmp, Not, Logic, Cond, Widen, Round, Div, Acc, Contract, Zero, Pay, Both, Scale, After, Let, Within}
 
 -- an expression under n binders
@@ -37,7 +35,3 @@ IsWritableContract n (Within e d a b) = IsWritable n e × IsWritableContract n a
 pub record IsWritableTerm (c : Contract) : Type 0 where
   pub writable : IsWritableContract 0 c
   pub shallow : height_of_contract c ≤ 200
-
--- contracts by their contents
-abbrev pub trees : List (Name × Contr) → List (Name × Contract)
-trees entries = map (λ entry. (entry.0, contract entry.1)) entries

@@ -1,11 +1,6 @@
 -- Parts of a text that was appended in pieces.
-use Rattle.std.proofs.Common.{◌≡◌, ℕ, List, [], ◌++◌, Result, Ok, Err, OnErr, refl, sym, ap, ◌∙◌, append_assoc}
-use Rattle.std.proofs.lemmas.List.{append-nil}
+use Rattle.std.proofs.Common.{◌≡◌, ℕ, List, [], ◌++◌, Result, Ok, Err, OnErr, sym, ap, ◌∙◌, append_assoc}
 use Rattle.decimal.specs.Appending.{AppendsPart}
-
--- nothing was appended yet
-pub appends_none : (old text new : List ℕ) → new ≡ old → AppendsPart old text new
-appends_none old text new e = record { part = []; rest = text; splits = refl; grows = e ∙ sym (append-nil old) }
 
 -- it stopped in the first of two pieces
 pub appends_front : (old a b new : List ℕ) → AppendsPart old a new → AppendsPart old (a ++ b) new

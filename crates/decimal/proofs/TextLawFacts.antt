@@ -73,10 +73,10 @@ not_empty : (xs : List ℕ) → 0 < get_or xs 0 0 → 0 < length (map (λ d. 48 
 not_empty [] h = absurd (omega arith)
 not_empty (x ∷ xs) h = omega arith
 
-whole_some : (n : ℕ) → 0 < n → whole_digits n ≡ plain_digits n
+pub whole_some : (n : ℕ) → 0 < n → whole_digits n ≡ plain_digits n
 whole_some n h = grind (arith, nat_tests)
 
-whole_none : (n : ℕ) → n ≤ 0 → whole_digits n ≡ 48 ∷ []
+pub whole_none : (n : ℕ) → n ≤ 0 → whole_digits n ≡ 48 ∷ []
 whole_none n h = grind (arith, nat_tests)
 
 pub whole_numeral : (n : ℕ) → IsNumeral 10 (whole_digits n) × (digits_value 10 (whole_digits n) ≡ n)

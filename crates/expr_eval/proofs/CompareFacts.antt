@@ -1,5 +1,5 @@
 -- Comparisons on one day after another: their sides have the scales that their forms tell, and fit.
-use Rattle.std.proofs.Common.{◌≡◌, ℕ, ◌≤◌, ◌^◌, ℤ, pos, ◌*ℤ◌, unsigned_abs, Bool, refl, ap, ap₂, sym, subst, ◌∙◌, Ok, Err, Some, List, []}
+use Rattle.std.proofs.Common.{◌≡◌, ℕ, ◌≤◌, ◌^◌, ℤ, pos, ◌*ℤ◌, unsigned_abs, refl, ap, ap₂, sym, subst, ◌∙◌, Ok, Err, Some, List, []}
 use Rattle.term_core.specs.Declarations.{Declarations}
 use Rattle.term_core.specs.declared.terms.CmpOp.{CmpOp}
 use Rattle.term_core.specs.declared.values.Kind.{Kind}
@@ -9,7 +9,7 @@ use Rattle.term_core.specs.Terms.{Expression, Cmp}
 use Rattle.term_core.specs.Environments.{Environment, IsAdmitted}
 use Rattle.term_core.specs.Kinds.{kind_of, scale_of, scale_of_kind}
 use Rattle.term_core.specs.Scales.{greatest_scale}
-use Rattle.term_core.specs.Values.{cmp_op, kinds}
+use Rattle.term_core.specs.Values.{kinds}
 use Rattle.interval_check.specs.Safety.{IsSmall}
 use Rattle.interval_check.specs.Within.{KeepsLimits}
 use Rattle.interval_check.proofs.KindsFound.{two_numbers, has_kind, scale_is}
@@ -19,7 +19,7 @@ use Rattle.expr_eval.specs.declared.operations.Typed.{Typed}
 use Rattle.expr_eval.specs.declared.trials.Factors.{Factors}
 use Rattle.expr_eval.specs.Rooms.{kinds_of}
 use Rattle.expr_eval.specs.KindScales.{KindFits}
-use Rattle.expr_eval.specs.Operations.{Compares, compared, number_in, scale_in}
+use Rattle.expr_eval.specs.Operations.{Compares, number_in, scale_in}
 use Rattle.expr_eval.specs.Runs.{Answer, both_of, on_both, run_of}
 use Rattle.expr_eval.specs.Fits.{OnValues}
 use Rattle.expr_eval.specs.Evaluable.{MayEvaluate}
@@ -39,30 +39,6 @@ pub right_lacks : (a b : Answer) (go : Typed → Typed → Typed) (x : ℤ) (m :
 right_lacks (Ok v) (Ok w) go x m p h = cc
 right_lacks (Ok v) (Err n) go x m p h = cc
 right_lacks (Err n) b go x m p h = cc
-
--- two sides that have values
-
-pub record BroughtFit (by : Factors) (x y : ℤ) : Type 0 where
-  pub left : unsigned_abs (x *ℤ by.left) ≤ 10 ^ 37
-  pub right : unsigned_abs (y *ℤ by.right) ≤ 10 ^ 37
-
-pub brought_fit : (by : Factors) (a b : Answer) (x y : ℤ) → OnValues a b (AreBrought by) → number_found a ≡ Ok x → number_found b ≡ Ok y → BroughtFit by x y
-brought_fit by (Ok v) (Ok w) x y h p q =
-    let e : number_in v ≡ x = cc in
-    let f : number_in w ≡ y = cc in
-    record { left = subst (λ (n : ℤ). IsSmall (n *ℤ by.left)) e h.left; right = subst (λ (n : ℤ). IsSmall (n *ℤ by.right)) f h.right }
-brought_fit by (Ok v) (Err n) x y h p q = absurd (cc)
-brought_fit by (Err n) b x y h p q = absurd (cc)
-
-pub both_compared : (op : CmpOp) (by : Factors) (a b : Answer) (x y : ℤ) (r : Bool) → OnValues a b (AreBrought by) → number_found a ≡ Ok x → number_found b ≡ Ok y → r ≡ cmp_op op (x *ℤ by.left) (y *ℤ by.right) → Ok r ≡ truth_found (on_both (both_of a b) (compared op))
-both_compared op by (Ok v) (Ok w) x y r h p q e =
-    let i : x ≡ number_in v = cc in
-    let j : y ≡ number_in w = cc in
-    ap (λ (t : Bool). Ok t) (e
-    ∙ ap₂ (λ (m n : ℤ). cmp_op op (m *ℤ by.left) (n *ℤ by.right)) i j
-    ∙ ap (λ (c : Factors). cmp_op op (number_in v *ℤ c.left) (number_in w *ℤ c.right)) (sym h.factors))
-both_compared op by (Ok v) (Err n) x y r h p q e = absurd (cc)
-both_compared op by (Err n) b x y r h p q e = absurd (cc)
 
 -- the scales of both sides
 

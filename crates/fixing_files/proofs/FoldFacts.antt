@@ -283,10 +283,6 @@ pub not_true : (b : Bool) → not b ≡ true → b ≡ false
 not_true true h = absurd (cc)
 not_true false h = refl
 
-pub not_false : (b : Bool) → not b ≡ false → b ≡ true
-not_false true h = refl
-not_false false h = absurd (cc)
-
 -- the next of rows in order
 
 in_take : (n : ℕ) (rows : List Row) (x : Row) → Contains (take n rows) x → Contains rows x

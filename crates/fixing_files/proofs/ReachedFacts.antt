@@ -3,7 +3,7 @@
 use Rattle.std.proofs.Common.{◌≡◌, ℕ, zero, suc, ◌+◌, ◌<◌, ◌≤◌, ◌⊎◌, Bool, true, false, cond, List, [], ◌∷◌, ◌++◌, length, Some, None, refl, sym, ap, ◌∙◌, inl, inr, arith, append_assoc}
 use Rattle.std.proofs.lemmas.Bool.{cases_Bool}
 use Rattle.csv.specs.Machine.{Read, ends_at_end, field_after, fields_after, is_end, next_record, step}
-use Rattle.csv.specs.Reading.{Reached, records, records_from, strip_bom, is_bom}
+use Rattle.csv.specs.Reading.{Reached, records, records_from}
 use Rattle.csv.specs.declared.parser.Config.{Config}
 use Rattle.csv.specs.declared.parser.State.{State}
 use Rattle.csv.specs.declared.parser.State.TheVariants as st
@@ -77,28 +77,6 @@ reached_first cfg (suc n) s xs (r ∷ rs) s2 ys enough h =
 
 pub are_first : (cfg : Config) (xs : List ℕ) (rows : Table) (s2 : State) (ys : List ℕ) → Reached cfg st.StartRecord xs rows s2 ys → Follows rows (records cfg xs)
 are_first cfg xs rows s2 ys h = reached_first cfg (length xs + 1) st.StartRecord xs rows s2 ys (omega arith) h
-
-pub reached_few : (cfg : Config) (s : State) (xs : List ℕ) (rows : Table) (s2 : State) (ys : List ℕ) → Reached cfg s xs rows s2 ys → length rows + length ys ≤ length xs + 1
-unfolding Reached
-reached_few cfg s xs [] s2 ys h = omega (arith, ap length h.1)
-reached_few cfg s xs (r ∷ rs) s2 ys h =
-    let p = h.0 in
-    elim (consumes cfg s [] [] xs p h.1) [
-      | inl shorter ↦ omega (arith, reached_few cfg p.1 p.2 rs s2 ys h.3)
-      | inr last ↦ let none = no_more cfg rs s2 ys (rw (last.1, last.2) at h.3) in omega (arith, ap length none.0, ap length none.1)
-    ]
-
-stripped : (b : Bool) (a c e : ℕ) (rest : List ℕ) → length (cond b rest (a ∷ c ∷ e ∷ rest)) ≤ length rest + 3
-stripped true a c e rest = omega arith
-stripped false a c e rest = omega arith
-
--- a byte order mark is taken off, and no byte is added
-pub strip_within : (xs : List ℕ) → length (strip_bom xs) ≤ length xs
-unfolding strip_bom
-strip_within [] = omega arith
-strip_within (a ∷ []) = omega arith
-strip_within (a ∷ b ∷ []) = omega arith
-strip_within (a ∷ b ∷ c ∷ rest) = omega (arith, stripped (is_bom a b c) a b c rest)
 
 -- the last record that was reached, and those that follow
 pub follows_last : (t : Table) (f : Fields) (all : Table) (h : Follows (t ++ f ∷ []) all) → all ≡ t ++ f ∷ h.rest

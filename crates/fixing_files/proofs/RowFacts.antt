@@ -133,12 +133,6 @@ module _ (before after : Run) (row : Row) (run : IsRun before) where
 
 -- no rows
 
-pub new_run : (run : Run) → run.days.items ≡ [] → run.numbers.items ≡ [] → IsRun run
-new_run run days numbers = record {
-  rising = λ i j lt within. absurd (omega (arith, within, ap length days));
-  numbered = omega (arith, ap length days, ap length numbers);
-}
-
 pub new_none : (run : Run) → run.days.items ≡ [] → run.late.items ≡ [] → HasNoRow run
 new_none run days late x (inl h) = omega (arith, h.within, ap length days)
 new_none run days late x (inr i) = omega (arith, i.1, ap length late)
@@ -179,13 +173,6 @@ runs_push [] run all one zero r h = let same : run ≡ r = cc in subst IsRun sam
 runs_push [] run all one (suc l) r h = absurd (cc)
 runs_push (q ∷ runs) run all one zero r h = all zero r h
 runs_push (q ∷ runs) run all one (suc l) r h = runs_push runs run (λ k. all (suc k)) one l r h
-
-pub runs_set : (runs : List Run) (l : ℕ) (run : Run) → AreRuns runs → IsRun run → AreRuns (set runs l run)
-runs_set [] l run all one k r h = absurd (cc)
-runs_set (q ∷ runs) zero run all one zero r h = let same : run ≡ r = cc in subst IsRun same one
-runs_set (q ∷ runs) zero run all one (suc k) r h = all (suc k) r h
-runs_set (q ∷ runs) (suc l) run all one zero r h = all zero r h
-runs_set (q ∷ runs) (suc l) run all one (suc k) r h = runs_set runs l run (λ k. all (suc k)) one k r h
 
 apart_suc : {A : Type 0} (l k : ℕ) → (l ≡ k) × A → (suc l ≡ suc k) × A
 apart_suc l k p = (omega (arith, p.0), p.1)

@@ -52,10 +52,6 @@ rising_tail f run h i j lt within = h (suc i) (suc j) (omega arith) (omega arith
 head_below : (f : FixedDay) (run : Run) → IsRising (f ∷ run) → (k : ℕ) → k < length run → f.day <ℤ day_at run k
 head_below f run h k within = h 0 (suc k) (omega arith) (omega arith)
 
--- the day and the value of an element, whatever is read past the end
-abbrev read_at : Run → ℕ → FixedDay → FixedDay
-read_at run k d = get_or run k d
-
 pub same_read : (run : Run) (k : ℕ) (d e : FixedDay) → k < length run → get_or run k d ≡ get_or run k e
 same_read [] k d e h = absurd (omega (arith, h))
 same_read (f ∷ run) zero d e h = refl
@@ -226,14 +222,6 @@ pub run_of : (runs : Runs) (l : ℕ) (run : Vec FixedDay Global) → slice_get r
 run_of [] l run h = absurd (cc)
 run_of (r ∷ runs) zero run h = let same : r ≡ run = cc in ap (λ (x : Vec FixedDay Global). x.items) same
 run_of (r ∷ runs) (suc l) run h = run_of runs l run h
-
-pub no_run_of : (runs : Runs) (l : ℕ) → slice_get runs l ≡ None → run_at runs l ≡ []
-no_run_of [] l h = refl
-no_run_of (r ∷ runs) zero h = absurd (cc)
-no_run_of (r ∷ runs) (suc l) h = no_run_of runs l h
-
-pub rising_none : IsRising []
-rising_none i j lt within = absurd (omega (arith, within))
 
 -- a label whose run is changed
 

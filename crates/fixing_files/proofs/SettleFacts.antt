@@ -227,12 +227,6 @@ pub record SettlesFront (runs : List Run) (days : List (Vec FixedDay Global)) (l
   pub days_hold : least ≡ None → (length days ≡ length runs) × ((l : ℕ) → HoldsDays (RowAt runs l) (run_at days l))
   pub least_is : IsLeastOf runs least
 
-pub front_none : SettlesFront [] [] None
-front_none = record {
-  days_hold = λ e. (refl, λ l. record { rising = λ i j lt within. absurd (omega (arith, within)); holds = λ t v. ((λ i. absurd (omega (arith, i.1))), (λ p. absurd p.1)) });
-  least_is = λ n e c. c.clash.has;
-}
-
 run_left : (days : List (Vec FixedDay Global)) (day : Vec FixedDay Global) (l : ℕ) → l < length days → run_at (days ++ day ∷ []) l ≡ run_at days l
 run_left [] day l h = absurd (omega (arith, h))
 run_left (r ∷ days) day zero h = refl

@@ -1,7 +1,6 @@
 -- Records of a table that goes on: what holds of a record in the front part holds in the whole.
-use Rattle.std.proofs.Common.{◌≡◌, ◌∙◌, inl, inr, ℕ, zero, suc, ◌+◌, ◌≤◌, ◌<◌, [], ◌∷◌, ◌++◌, length, Some, slice_get, refl, sym, ap, arith, add-one}
+use Rattle.std.proofs.Common.{◌≡◌, ◌∙◌, inl, inr, ℕ, zero, suc, ◌+◌, ◌≤◌, ◌<◌, [], ◌∷◌, ◌++◌, length, Some, slice_get, refl, sym, arith, add-one}
 use Rattle.std.proofs.lemmas.Option.{slice_get_within}
-use Rattle.std.proofs.lemmas.List.{length-append}
 use Rattle.term_core.specs.Declarations.{Declarations}
 use Rattle.term_core.specs.Environments.{Place}
 use Rattle.term_core.specs.declared.values.Value.{Value}
@@ -68,13 +67,3 @@ module _ (d : Declarations) (t more : Table) where
   breaks_back n k (inr (inl h)) within =
       inr (inl (record { fields = h.fields; at = stands_back t more n h.fields h.at within; meaning = h.meaning }))
   breaks_back n k (inr (inr h)) within = inr (inr (h.0, h.1, conflict_back n h.0 h.2 within))
-
--- the record that stands behind the front part
-pub at_seam : (t : Table) (r : Fields) (more : Table) (n : ℕ) (f : Fields) → StandsAt (t ++ r ∷ more) n f → n ≡ length t + 1 → r ≡ f
-at_seam t r more n f h is =
-    let e = sym (record_seam t r more) ∙ ap (record_at (t ++ r ∷ more)) (sym is) ∙ h.stands in
-    cc
-
--- no record stands behind the last
-pub within_next : (t : Table) (r : Fields) (n : ℕ) (f : Fields) → StandsAt (t ++ r ∷ []) n f → n ≤ length t + 1
-within_next t r n f h = omega (arith, record_within (t ++ r ∷ []) n f h.stands, length-append t (r ∷ []))

@@ -22,11 +22,9 @@ use Rattle.expr_eval.specs.Trials.{DayOrMissing, ValueOrMissing, answer_of, firs
 use Rattle.flow_eval.specs.Walks.{PaymentsOrMissing, days_to_try, payments_unless, then_branch, then_factor, then_others, walk_of}
 use Rattle.flow_eval.specs.Gathering.{Gathers, appended}
 use Rattle.flow_eval.proofs.WalkFacts.{walk_is}
+use Rattle.flow_eval.proofs.PaymentFacts.{still_after}
 
 -- ---- a walk that is over
-
-still_over : (last f : ℤ) (n : ℕ) → int_lt last f ≡ true → int_lt last (f +ℤ pos n) ≡ true
-still_over last f n h = grind (arith, ints)
 
 paid_over : (late same : Bool) (p : Payment) → late ≡ true → ◌≡◌ {A = PaymentsOrMissing} (Ok (if late || same then [] else p ∷ [])) (Ok [])
 paid_over true same p h = refl
@@ -43,7 +41,7 @@ walk_over d F last (Both x y) g bs room f h =
     ap (λ (w : PaymentsOrMissing). then_others w (walk_of d room y g bs F f last)) (walk_over d F last x g bs room f h) ∙ ap (then_others (Ok [])) (walk_over d F last y g bs room f h)
 walk_over d F last (Scale e c) g bs room f h =
     ap (λ (w : PaymentsOrMissing). then_factor w (answer_of d e g bs F f)) (walk_over d F last c g bs (room - scale_of d e (kinds g)) f h)
-walk_over d F last (After n c) g bs room f h = walk_over d F last c g bs room (f +ℤ pos (count_of n)) (still_over last f (count_of n) h)
+walk_over d F last (After n c) g bs room f h = walk_over d F last c g bs room (f +ℤ pos (count_of n)) (still_after last f (count_of n) h)
 walk_over d F last (Let e c) g bs room f h = walk_over d F last c (record { value = value_of d e g F f; kind = kind_or (kind_of d e (kinds g)) } ∷ g) (reads_of d e g bs F f ∷ bs) room f h
 walk_over d F last (Within e n x y) g bs room f h =
     within_over (int_lt last f) (then_branch (first_tried (days_to_try last f (count_of n)) (λ i. answer_of d e g bs F (f +ℤ pos i))) last f (count_of n) (λ k. walk_of d room x g bs F (f +ℤ pos k) last) (walk_of d room y g bs F (f +ℤ pos (count_of n)) last)) h

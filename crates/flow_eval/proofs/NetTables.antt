@@ -20,16 +20,13 @@ use Rattle.flow_eval.specs.declared.flow_table.Slot.{Slot}
 use Rattle.flow_eval.specs.declared.payments.Payment.{Payment}
 use Rattle.flow_eval.specs.Payments.{payments_of}
 use Rattle.flow_eval.specs.Netting.{AreInOrder, row_of, rows_of}
-use Rattle.flow_eval.specs.Tables.{IsPaid, IsTable, flow_in, paid_by, row_for}
+use Rattle.flow_eval.specs.Tables.{IsPaid, IsTable, flow_in, paid_by, row_for, IsMutual}
 use Rattle.flow_eval.proofs.PaidFacts.{flow_at}
 use Rattle.flow_eval.proofs.PaymentFacts.{Counts, payments_count}
 use Rattle.flow_eval.proofs.PaymentSums.{sum_at-payments_of}
 use Rattle.flow_eval.proofs.RowFacts.{AreNet, IsNet, net_none, row_at, rows_net}
 use Rattle.flow_eval.proofs.SumFacts.{sum_at, sum_at-permutation}
-
--- amounts that are opposite the other way
-abbrev pub AreOpposite : (ℤ → Flow → ℤ) → Type 0
-AreOpposite pays = (day : ℤ) (w : Flow) → pays day (reversed w) ≡ neg_ℤ (pays day w)
+use Rattle.interval_check.proofs.NarrowFacts.{is_above}
 
 above : (x : ℤ) → int_lt (pos 0) x ≡ true → pos 0 <ℤ x
 above x h = grind (arith, ints)
@@ -37,13 +34,13 @@ above x h = grind (arith, ints)
 below : (x : ℤ) → int_lt (pos 0) x ≡ false → (x ≡ pos 0 → ⊥) → pos 0 <ℤ neg_ℤ x
 below x h some = grind (arith, ints)
 
-paid_at : (pays : ℤ → Flow → ℤ) → AreOpposite pays → (first last : ℤ) (s : Slot) (x : ℤ) (up : Bool) → Counts first last s → x ≡ pays s.day (flow_at s) → (up ≡ true → pos 0 <ℤ x) → (up ≡ false → pos 0 <ℤ neg_ℤ x)
+paid_at : (pays : ℤ → Flow → ℤ) → IsMutual pays → (first last : ℤ) (s : Slot) (x : ℤ) (up : Bool) → Counts first last s → x ≡ pays s.day (flow_at s) → (up ≡ true → pos 0 <ℤ x) → (up ≡ false → pos 0 <ℤ neg_ℤ x)
     → IsPaid pays first last (if up then record { day = s.day; asset = s.asset; from = s.lower; to = s.higher; amount = x } else record { day = s.day; asset = s.asset; from = s.higher; to = s.lower; amount = neg_ℤ x })
 paid_at pays opposite first last s x true counts is f g = record { no_sooner = counts.0; no_later = counts.1; some = f refl; exact = is }
 paid_at pays opposite first last s x false counts is f g = record { no_sooner = counts.0; no_later = counts.1; some = g refl; exact = ap neg_ℤ is ∙ sym (opposite s.day (flow_at s)) }
 
 -- a row of a sum is paid
-net_paid : (pays : ℤ → Flow → ℤ) → AreOpposite pays → (first last : ℤ) (total : Slot → ℤ) → ((s : Slot) → s.lower < s.higher → first ≤ℤ s.day → s.day ≤ℤ last → total s ≡ pays s.day (flow_at s))
+net_paid : (pays : ℤ → Flow → ℤ) → IsMutual pays → (first last : ℤ) (total : Slot → ℤ) → ((s : Slot) → s.lower < s.higher → first ≤ℤ s.day → s.day ≤ℤ last → total s ≡ pays s.day (flow_at s))
     → (row : FlowRow) → IsNet (Counts first last) total row → IsPaid pays first last row
 net_paid pays opposite first last total same row net =
     let x = total net.slot in
@@ -58,9 +55,6 @@ row_down : (s : Slot) (x : ℤ) (up : Bool) → up ≡ false
     → (if up then record { day = s.day; asset = s.asset; from = s.lower; to = s.higher; amount = x } else record { day = s.day; asset = s.asset; from = s.higher; to = s.lower; amount = neg_ℤ x }) ≡ row_for s.day (reversed (flow_at s)) (neg_ℤ x)
 row_down s x true h = absurd (cc)
 row_down s x false h = refl
-
-above_is : (x : ℤ) → pos 0 <ℤ x → int_lt (pos 0) x ≡ true
-above_is x h = grind (arith, ints)
 
 below_is : (x : ℤ) → pos 0 <ℤ x → int_lt (pos 0) (neg_ℤ x) ≡ false
 below_is x h = grind (arith, ints)
@@ -77,7 +71,7 @@ no_opposite x e h = omega (arith, ints)
 -- what goes from a lower party to a higher one is held
 held_up : (rows : List FlowRow) (total : Slot → ℤ) (s : Slot) (x : ℤ) → pos 0 <ℤ x → total s ≡ x → ((total s ≡ pos 0 → ⊥) → Contains rows (row_at total s)) → Contains rows (row_for s.day (flow_at s) x)
 held_up rows total s x h e whole =
-    subst (Contains rows) (ap (λ (y : ℤ). row_of (record { slot = s; amount = y })) e ∙ row_up s x (int_lt (pos 0) x) (above_is x h)) (whole (not_zero (total s) x h e))
+    subst (Contains rows) (ap (λ (y : ℤ). row_of (record { slot = s; amount = y })) e ∙ row_up s x (int_lt (pos 0) x) (is_above x h)) (whole (not_zero (total s) x h e))
 
 -- and what goes back
 held_down : (rows : List FlowRow) (total : Slot → ℤ) (s : Slot) (x : ℤ) → pos 0 <ℤ x → total s ≡ neg_ℤ x → ((total s ≡ pos 0 → ⊥) → Contains rows (row_at total s)) → Contains rows (row_for s.day (reversed (flow_at s)) x)
@@ -90,13 +84,13 @@ by_order P p q f g h = elim (cases_lt p q) [ inl l ↦ f l | inr l ↦ elim (cas
     level : (p q : ℕ) → q ≤ p → p ≤ q → p ≡ q
     level p q l m = omega arith
 
-pub to_itself : (pays : ℤ → Flow → ℤ) → AreOpposite pays → (day : ℤ) (w : Flow) → w.from ≡ w.to → pos 0 <ℤ pays day w → ⊥
+pub to_itself : (pays : ℤ → Flow → ℤ) → IsMutual pays → (day : ℤ) (w : Flow) → w.from ≡ w.to → pos 0 <ℤ pays day w → ⊥
 to_itself pays opposite day w same some =
     let turned : reversed w ≡ w = ap (λ (x : ℕ). let v : Flow = record { from = x; to = w.from; asset = w.asset } in v) (sym same) ∙ ap (λ (x : ℕ). let v : Flow = record { from = w.from; to = x; asset = w.asset } in v) same in
     no_opposite (pays day w) (sym (ap (pays day) turned) ∙ opposite day w) some
 
 -- rows that net what is paid are the table of it
-pub table_from_net : (pays : ℤ → Flow → ℤ) → AreOpposite pays → (first last : ℤ) (from : Slot) (total : Slot → ℤ) (rows : List FlowRow) → ((s : Slot) → s.lower < s.higher → first ≤ℤ s.day → s.day ≤ℤ last → total s ≡ pays s.day (flow_at s))
+pub table_from_net : (pays : ℤ → Flow → ℤ) → IsMutual pays → (first last : ℤ) (from : Slot) (total : Slot → ℤ) (rows : List FlowRow) → ((s : Slot) → s.lower < s.higher → first ≤ℤ s.day → s.day ≤ℤ last → total s ≡ pays s.day (flow_at s))
     → AreNet (Counts first last) from total rows → IsTable pays first last rows
 table_from_net pays opposite first last from total rows same net = record {
   ordered = net.ordered;

@@ -122,7 +122,7 @@ after_last last f b h = grind (arith, ints)
 not_before : (a : ℤ) → a ≤ℤ pos 0 → int_lt (pos 0) a ≡ false
 not_before a h = grind (arith, ints)
 
-lower : (a : ℤ) (n : ℕ) → a ≤ℤ pos 0 → (a -ℤ pos n) ≤ℤ pos 0
+pub lower : (a : ℤ) (n : ℕ) → a ≤ℤ pos 0 → (a -ℤ pos n) ≤ℤ pos 0
 lower a n h = omega (arith, ints)
 
 pub shorter : (last f b : ℤ) (n : ℕ) → b ≡ last -ℤ f → b -ℤ pos n ≡ last -ℤ (f +ℤ pos n)
@@ -152,7 +152,7 @@ branch_none : (o : Option ℕ) (hit : ℕ → List Payment) (miss : List Payment
 branch_none (Some k) hit miss one other = one k
 branch_none None hit miss one other = other
 
-still_after : (last f : ℤ) (n : ℕ) → int_lt last f ≡ true → int_lt last (f +ℤ pos n) ≡ true
+pub still_after : (last f : ℤ) (n : ℕ) → int_lt last f ≡ true → int_lt last (f +ℤ pos n) ≡ true
 still_after last f n h = grind (arith, ints)
 
 paid_late : (late same : Bool) (p : Payment) → late ≡ true → (if late || same then [] else p ∷ []) ≡ []

@@ -15,19 +15,16 @@ use Rattle.flow_eval.specs.Netting.{same_slot}
 use Rattle.flow_eval.specs.Payments.{multiplied, payments_of}
 use Rattle.flow_eval.proofs.SumFacts.{share, sum_at, sum_at-append}
 use Rattle.term_core.proofs.FlowFacts.{mul-neg}
-use Rattle.term_core.proofs.Products.{by_sign, mul-swap, parts_raised, raised-raised, sum-mul}
+use Rattle.term_core.proofs.Products.{by_sign, mul-swap, parts_raised, raised-raised, sum-mul, neg_sum}
 use Rattle.flow_eval.proofs.PaidFacts.{flow_at, times_one, sum_at-paid}
 
 share_by : (b : Bool) (x v : ℤ) → (if b then x *ℤ v else pos 0) ≡ (if b then x else pos 0) *ℤ v
 share_by true x v = refl
 share_by false x v = sym (zero-*ℤ v)
 
-negated : (x y : ℤ) → neg_ℤ x +ℤ neg_ℤ y ≡ neg_ℤ (x +ℤ y)
-negated x y = omega (arith, ints)
-
 sum-mul-all : (x y v : ℤ) → (x +ℤ y) *ℤ v ≡ x *ℤ v +ℤ y *ℤ v
 sum-mul-all x y v =
-    by_sign (λ z. (x +ℤ y) *ℤ z) (λ z. x *ℤ z +ℤ y *ℤ z) (sum-mul x y) (mul-neg (x +ℤ y)) (λ z. ap (λ (w : ℤ). w +ℤ y *ℤ neg_ℤ z) (mul-neg x z) ∙ ap (λ (w : ℤ). neg_ℤ (x *ℤ z) +ℤ w) (mul-neg y z) ∙ negated (x *ℤ z) (y *ℤ z)) v
+    by_sign (λ z. (x +ℤ y) *ℤ z) (λ z. x *ℤ z +ℤ y *ℤ z) (sum-mul x y) (mul-neg (x +ℤ y)) (λ z. ap (λ (w : ℤ). w +ℤ y *ℤ neg_ℤ z) (mul-neg x z) ∙ ap (λ (w : ℤ). neg_ℤ (x *ℤ z) +ℤ w) (mul-neg y z) ∙ neg_sum (x *ℤ z) (y *ℤ z)) v
 
 -- what payments times a factor come to
 pub sum_at-multiplied : (s : Slot) (v : ℤ) (ps : List Payment) → sum_at s (multiplied v ps) ≡ v *ℤ sum_at s ps

@@ -96,11 +96,11 @@ close_none Counts sum next total rows before h zero =
       whole = h.whole;
     })
 
-by_test : (P : Type 0) (t : Bool) → (t ≡ true → P) → (t ≡ false → P) → P
+pub by_test : (P : Type 0) (t : Bool) → (t ≡ true → P) → (t ≡ false → P) → P
 by_test P true f g = f refl
 by_test P false f g = g refl
 
-differs : (a b : Slot) → same_slot a b ≡ false → a ≡ b → ⊥
+pub differs : (a b : Slot) → same_slot a b ≡ false → a ≡ b → ⊥
 differs a b h e =
     let same : same_slot a b ≡ true = (same_slot_decides a b).1 e in
     cc

@@ -37,7 +37,7 @@ fits_next sum p ps h = λ s.
     let all = h s in
     omega arith
 
-chosen : (b : Bool) (n : ℕ) → b ≡ true → (if b then n else 0) ≡ n
+pub chosen : (b : Bool) (n : ℕ) → b ≡ true → (if b then n else 0) ≡ n
 chosen true n h = refl
 chosen false n h = absurd cc
 

@@ -39,7 +39,7 @@ pub sum_at-append : (s : Slot) (ps qs : List Payment) → sum_at s (ps ++ qs) �
 sum_at-append s [] qs = sym (+ℤ_idl (sum_at s qs))
 sum_at-append s (p ∷ ps) qs = ap (λ (x : ℤ). share s p +ℤ x) (sum_at-append s ps qs) ∙ sym (+ℤ_assoc (share s p) (sum_at s ps) (sum_at s qs))
 
-zero_and : (x y : ℤ) → x ≡ pos 0 → y ≡ pos 0 → x +ℤ y ≡ pos 0
+pub zero_and : (x y : ℤ) → x ≡ pos 0 → y ≡ pos 0 → x +ℤ y ≡ pos 0
 zero_and x y h k = omega (arith, ints)
 
 -- there is nothing at a slot that no payment has

@@ -15,7 +15,8 @@ use Rattle.flow_eval.specs.declared.payments.Payment.{Payment}
 use Rattle.flow_eval.specs.Payments.{multiplied, payments_of, some_paid}
 use Rattle.expr_eval.specs.Trials.{DayOrMissing, ValueOrMissing, answer_of, first_tried, missing_at, or_next, value_unless}
 use Rattle.flow_eval.specs.Walks.{PaymentsOrMissing, days_to_try, payments_unless, then_branch, then_factor, then_others, walk_of}
-use Rattle.flow_eval.proofs.PaymentFacts.{after_last, payments_live, payments_none, shorter}
+use Rattle.flow_eval.proofs.PaymentFacts.{after_last, payments_live, payments_none, shorter, lower}
+use Rattle.term_core.proofs.FirstFacts.{or_last}
 
 -- ---- the first place that is not fixed
 
@@ -104,16 +105,13 @@ IsCut m (Some k) None = m < k
 IsCut m None (Some i) = ⊥
 IsCut m None None = Unit {0}
 
-abbrev or_later : Option ℕ → ℕ → Bool → Option ℕ
-or_later o n b = elim o [ Some i ↦ Some i | None ↦ if b then Some n else None ]
-
-cut_more : (m n : ℕ) (o u : Option ℕ) (b : Bool) → m < n → IsCut m o u → IsCut m (or_later o n b) u
+cut_more : (m n : ℕ) (o u : Option ℕ) (b : Bool) → m < n → IsCut m o u → IsCut m (or_last o n b) u
 cut_more m n (Some k) u b h is = is
 cut_more m n None (Some i) b h is = absurd is
 cut_more m n None None true h is = h
 cut_more m n None None false h is = tt
 
-most_of : (n : ℕ) (o : Option ℕ) (b : Bool) (m : ℕ) → n < m → IsCut n o o → IsCut m (or_later o m b) (or_later o m b)
+most_of : (n : ℕ) (o : Option ℕ) (b : Bool) (m : ℕ) → n < m → IsCut n o o → IsCut m (or_last o m b) (or_last o m b)
 most_of n (Some k) b m h is = (refl, omega (arith, is.1))
 most_of n None true m h is = (refl, omega arith)
 most_of n None false m h is = tt
@@ -217,9 +215,6 @@ within_unless F last f b true walk rs ps e is h none =
     ap (λ (t : Bool). if t then Ok [] else walk) e ∙ ap (λ (x : List Payment). Ok x) (sym (none refl)) ∙ ap (λ (t : Bool). payments_unless (first_unfixed F (if t then [] else rs)) ps) (sym (sym (after_last last f b is) ∙ e))
 within_unless F last f b false walk rs ps e is h none =
     ap (λ (t : Bool). if t then Ok [] else walk) e ∙ h refl ∙ ap (λ (t : Bool). payments_unless (first_unfixed F (if t then [] else rs)) ps) (sym (sym (after_last last f b is) ∙ e))
-
-lower : (a : ℤ) (n : ℕ) → a ≤ℤ pos 0 → (a -ℤ pos n) ≤ℤ pos 0
-lower a n h = omega (arith, ints)
 
 -- the walk of a contract on frame f, for its own days a to b
 abbrev pub WalkIs : Declarations → Environment → ℤ → Contract → Type 0

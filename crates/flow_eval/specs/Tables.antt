@@ -1,12 +1,13 @@
 -- The flow table of what is paid from a first to a last day: a row for each day, asset and two parties between whom the
 -- amount is not 0, in the direction in which it is above 0. The rows stand in order of day, asset, lower party and
 -- higher party; the places of assets and parties are those of the declarations.
-use Rattle.std.specs.Prelude.{ℤ, pos, ◌-ℤ◌, ◌<ℤ◌, ◌≤ℤ◌, ◌<◌, ◌≤◌, ◌^◌, ◌≡◌, unsigned_abs, ◌⊎◌, min, max, List, [], ◌∷◌}
+use Rattle.std.specs.Prelude.{ℤ, pos, neg_ℤ, ◌-ℤ◌, ◌<ℤ◌, ◌≤ℤ◌, ◌<◌, ◌≤◌, ◌^◌, ◌≡◌, unsigned_abs, ◌⊎◌, min, max, List, [], ◌∷◌}
 use Rattle.std.specs.List.{All, Contains}
 use Rattle.term_core.specs.Declarations.{Declarations}
 use Rattle.term_core.specs.Terms.{Contract}
 use Rattle.term_core.specs.Environments.{Environment}
 use Rattle.term_core.specs.Flows.{Flow, amount_of}
+use Rattle.term_core.specs.LawsFlows.{reversed}
 use Rattle.flow_eval.specs.declared.flow_table.FlowRow.{FlowRow}
 use Rattle.flow_eval.specs.declared.flow_table.Slot.{Slot}
 
@@ -31,6 +32,10 @@ flow_in row = record { from = row.from; to = row.to; asset = row.asset }
 
 abbrev pub row_for : ℤ → Flow → ℤ → FlowRow
 row_for day w amount = record { day = day; asset = w.asset; from = w.from; to = w.to; amount = amount }
+
+-- what is paid back is the negative of what is paid
+abbrev pub IsMutual : (ℤ → Flow → ℤ) → Type 0
+IsMutual pays = (day : ℤ) (w : Flow) → pays day (reversed w) ≡ neg_ℤ (pays day w)
 
 -- a row on a day from the first to the last, of just what is paid, which is above 0
 pub record IsPaid (pays : ℤ → Flow → ℤ) (first last : ℤ) (row : FlowRow) : Type 0 where

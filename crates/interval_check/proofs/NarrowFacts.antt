@@ -102,7 +102,7 @@ narrower_fit_operands Minus a b i j k l h g t = narrower_fit_aligned a b i j k l
 narrower_fit_operands Min a b i j k l h g t = narrower_fit_aligned a b i j k l h g t
 narrower_fit_operands Max a b i j k l h g t = narrower_fit_aligned a b i j k l h g t
 
-is_above : (x : ℤ) → pos 0 <ℤ x → int_lt (pos 0) x ≡ true
+pub is_above : (x : ℤ) → pos 0 <ℤ x → int_lt (pos 0) x ≡ true
 is_above x h = grind (arith, ints)
 
 is_below : (x : ℤ) → x <ℤ pos 0 → int_lt x (pos 0) ≡ true

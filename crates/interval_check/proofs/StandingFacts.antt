@@ -1,7 +1,6 @@
 -- What may stand for a whole: the value of an expression, a branch of an `if`, a part of a contract.
-use Rattle.std.proofs.Common.{◌≡◌, ℕ, ◌-◌, max, ◌≤◌, ◌<◌, ◌⊎◌, inl, inr, ℤ, pos, negsuc, ◌*ℤ◌, Bool, nat_le, IsTrue, is_some, if◌then◌else◌, List, Option, Some, None, refl, ap, sym, subst, ◌∙◌, arith}
+use Rattle.std.proofs.Common.{◌≡◌, ℕ, ◌-◌, max, ◌≤◌, ◌<◌, ◌⊎◌, inl, inr, ℤ, pos, ◌*ℤ◌, Bool, nat_le, IsTrue, is_some, if◌then◌else◌, List, Option, Some, None, refl, ap, sym, subst, ◌∙◌, arith}
 use Rattle.std.proofs.lemmas.Bool.{and_parts, and_from, le-leb, lt-ltb, le-ltb, cases_lt}
-use Rattle.std.proofs.lemmas.Int.{ints}
 use Rattle.decimal.specs.Rounding.{raised}
 use Rattle.term_core.specs.Declarations.{Declarations}
 use Rattle.term_core.specs.declared.terms.Days.{Days}
@@ -32,6 +31,7 @@ use Rattle.interval_check.proofs.ValueFacts.{same_kinds}
 use Rattle.interval_check.proofs.SafeFacts.{value_is_safe}
 use Rattle.interval_check.proofs.RewritingContracts.{contract_scale_fits}
 use Rattle.interval_check.proofs.AlignedFacts.{sum_raised_twice, max_raised_twice}
+use Rattle.decimal.proofs.RoundedFacts.{raised_none}
 
 -- values
 
@@ -58,13 +58,6 @@ values_replace d e g es env f k limits rules within admitted same =
     literal_replaces d e g k (value_of d e es env f) same (subst (λ (j : Kind). IsOfKind j (value_of d e es env f)) kind value.of_kind) inside value.small (scale_fits d e g rules.scales)
 
 -- branches of an `if`
-
-raised_none : (m : ℤ) (k : ℕ) → k ≡ 0 → raised m k ≡ m
-raised_none m k h = ap (raised m) h ∙ once m
-  where
-    once : (z : ℤ) → z *ℤ pos 1 ≡ z
-    once (pos a) = omega (arith, ints)
-    once (negsuc a) = omega (arith, ints)
 
 -- a branch beside the whole: two truth values, or numbers of scales i and s
 abbrev pub BesideWhole : Option Kind → Option Kind → ℕ → ℕ → Type 0

@@ -8,7 +8,7 @@ use Rattle.term_core.specs.declared.rules.Rule.TheVariants.{Sort, Bound}
 use Rattle.term_core.specs.Declarations.{Declarations}
 use Rattle.term_core.specs.Terms.{Expression, Contract, Zero, Pay, Both, Scale, After, Let, Within}
 use Rattle.term_core.specs.Flows.{count_of, scale_of_contract}
-use Rattle.term_core.specs.Kinds.{kind_of, scale_or_zero, scale_of_kind}
+use Rattle.term_core.specs.Kinds.{kind_of}
 use Rattle.term_core.specs.Values.{kind_or}
 use Rattle.term_core.specs.Sizes.{nodes, nodes_of_contract}
 use Rattle.term_core.specs.Sites.{Site, Layer, Naming, Later, Undated, EachDay, sites_of, sites_of_contract, sites, contract_at}
@@ -24,6 +24,7 @@ use Rattle.interval_check.proofs.KindsFound.{has_kind}
 use Rattle.interval_check.proofs.RangeKinds.{kind_is_found}
 use Rattle.interval_check.proofs.RangeFacts.{from, range_stands}
 use Rattle.interval_check.proofs.RootFacts.{Has, HaveKinds, sorted_kinds}
+use Rattle.interval_check.proofs.NodeTests.{scale_of_some}
 
 -- What a trial of the nodes from number k on answers: what is right, with what else holds of it, where all pass, or
 -- else the first node that does not.
@@ -111,10 +112,6 @@ made d c r k t e =
     subst (λ (v : Total). Finds (is_bounded d) (contract_at k r c ∷ []) k x (FitsIn d.amounts) (total_here d.amounts v)) (sym e)
     (node (is_bounded d) (contract_at k r c) k d.amounts x (total_fits d.amounts x) refl refl refl)
 
-kind_scale : (o : Option Kind) → scale_of_kind (kind_or o) ≡ scale_or_zero o
-kind_scale None = refl
-kind_scale (Some k) = refl
-
 both_finds : (d : Declarations) (a b : Contract) → TotalFinds d a → TotalFinds d b → TotalFinds d (Both a b)
 both_finds d a b ha hb r k p =
     let g = ranges_round d r in
@@ -133,7 +130,7 @@ scale_finds d e c h r k p =
     let s : Site = contract_at k r (Scale e c) in
     let ys = sites_of_contract EachDay c r (k + 1 + nodes e) in
     let same : ◌≡◌ {A = Total} (of_scaled (right_range d e g) (right_total d c g)) (right_total d (Scale e c) g) =
-    ap (λ (n : ℕ). let v : Total = record { amount = total_of d c g * greatest_size (interval_of d e g); scale = n + scale_of_contract d c (range_kinds g) } in v) (kind_scale (kind_of d e (range_kinds g))) in
+    ap (λ (n : ℕ). let v : Total = record { amount = total_of d c g * greatest_size (interval_of d e g); scale = n + scale_of_contract d c (range_kinds g) } in v) (scale_of_some (kind_of d e (range_kinds g))) in
     seq (is_bounded d) (sites_of EachDay e r (k + 1)) (ys ++ s ∷ []) k (right_range d e g) (λ _. Unit {0}) _ _ (moved 1 (range_tried d e g)) _ (first_range d e r k p.0)
     (λ x ex _. seq (is_bounded d) ys (s ∷ []) k (right_total d c g) (FitsIn d.amounts) _ _ (moved (1 + nodes e) (total_tried d c g)) _
     (shift (is_bounded d) ys k (k + 1 + nodes e) (1 + nodes e) _ _ (total_tried d c g) (omega arith) (h r (k + 1 + nodes e) p.1))

@@ -8,7 +8,7 @@ use Rattle.term_core.specs.Kinds.{kind_of}
 use Rattle.term_core.specs.Values.{kind_or}
 use Rattle.term_core.specs.Limits.{greatest_mantissa}
 use Rattle.term_core.specs.Sizes.{nodes}
-use Rattle.term_core.specs.Sites.{Layer, Naming, Counting, Later, Earlier, Undated, Site, Once, EachDay, sites_of, kinds_round}
+use Rattle.term_core.specs.Sites.{Layer, Naming, Site, Once, EachDay, sites_of, kinds_round}
 use Rattle.term_core.specs.Bounds.{Range, range_kinds, ranges_round, greatest_size}
 use Rattle.term_core.specs.Trying.{then_do, moved}
 use Rattle.scale_check.proofs.SortedKinds.{kind_sorted}
@@ -30,7 +30,9 @@ use Rattle.payoff_check.specs.declared.totals.CodeTotal.{CodeTotal}
 use Rattle.payoff_check.specs.BoundTrials.{Found, value_tried, total_fits, total_here, of_nothing, of_payment, of_sum, of_product, of_branches, of_part, bounding, bounds_tried, AreValuesScaled}
 use Rattle.payoff_check.proofs.Finding.{Finds, first_failing-map, fine, faulty, EachNode, Follows, code_finds, meets, fails}
 use Rattle.payoff_check.proofs.Passing.{PassesInValue, each_passes, each_of_two}
-use Rattle.payoff_check.proofs.ScaleFacts.{IsSortedValue, IsSortedNode, kind_scale}
+use Rattle.payoff_check.proofs.ScaleFacts.{IsSortedValue, IsSortedNode}
+use Rattle.interval_check.proofs.NodeTests.{scale_of_some as kind_scale}
+use Rattle.interval_check.proofs.RuleFacts.{kinds_of_ranges}
 
 -- What the rules on sorts and scales tell.
 
@@ -74,14 +76,6 @@ are_values_scaled d xs k h i = values_scaled d k [] 0 (sorted_nodes d xs k h) (s
 
 -- Value expressions.
 
-range_kinds_round : (d : Declarations) (r : List Layer) → kinds_round d r ≡ range_kinds (ranges_round d r)
-range_kinds_round d [] = refl
-range_kinds_round d (Naming e ∷ r) = ap (λ (ks : List Kind). kind_or (kind_of d e ks) ∷ ks) (range_kinds_round d r)
-range_kinds_round d (Counting body n first ∷ r) = ap (λ (ks : List Kind). kind_or (kind_of d first ks) ∷ ks) (range_kinds_round d r)
-range_kinds_round d (Later n ∷ r) = range_kinds_round d r
-range_kinds_round d (Earlier n ∷ r) = range_kinds_round d r
-range_kinds_round d (Undated ∷ r) = range_kinds_round d r
-
 value_found : (p : CodeSite → Bool) (xs : List Site) (n m : ℕ) (x : Range) (a : Result Range ℕ) → found.Finds (λ s. p (InValue s)) xs n x (λ _. Unit {0}) a → Finds p (map (λ s. InValue s) xs) (λ (u : Found). u.range ≡ x) (then_do (moved n a) (λ s. Ok (record { range = s; nodes = m })))
 value_found p xs n m x (Ok s) h = (first_failing-map p xs ∙ h.0, h.1)
 value_found p xs n m x (Err j) h = first_failing-map p xs ∙ h
@@ -94,7 +88,7 @@ value_range d v r n h =
     let e = plain v in
     let g = ranges_round d r in
     let x = kind_sorted d e r n h in
-    let has : Has d e (range_kinds g) = record { kind = x.kind; is = subst (λ (ks : List Kind). kind_of d e ks ≡ Some x.kind) (range_kinds_round d r) x.has } in
+    let has : Has d e (range_kinds g) = record { kind = x.kind; is = subst (λ (ks : List Kind). kind_of d e ks ≡ Some x.kind) (kinds_of_ranges d r) x.has } in
     value_found (code_is_bounded d) (sites_of EachDay e r n) n (nodes e) (right_range d e g) (range_tried d e g) (finds_range d e r n has)
 
 -- Code.
@@ -115,7 +109,7 @@ found_here p s S false c t e f h = absurd (cc)
 
 scale_there : (d : Declarations) (k : PayoffCode) (r : List Layer) (n : ℕ) (t : CodeTotal) → IsCodeTotal d k r t → IsScaledNode d k r n → nat_le t.scale (d.amounts + 9) ≡ true
 scale_there d k r n t h i =
-    ap (λ (s : ℕ). nat_le s (d.amounts + 9)) (h.1 ∙ ap (λ (ks : List Kind). scale_of_code d k ks) (sym (range_kinds_round d r))) ∙ i
+    ap (λ (s : ℕ). nat_le s (d.amounts + 9)) (h.1 ∙ ap (λ (ks : List Kind). scale_of_code d k ks) (sym (kinds_of_ranges d r))) ∙ i
 
 node : (d : Declarations) (k : PayoffCode) (r : List Layer) (n : ℕ) (t : CodeTotal) → IsCodeTotal d k r t → IsScaledNode d k r n → Finds (code_is_bounded d) (AtCode n k r ∷ []) (λ (a : CodeTotal). IsCodeTotal d k r a) (total_here (d.amounts + 9) t n)
 node d k r n t h i =

@@ -2,7 +2,7 @@
 -- a trial finds the first fault where its steps do: this goes by structure once for all rules.
 use Rattle.std.proofs.Common.{◌≡◌, ℕ, ℤ, ◌+◌, Bool, true, false, if◌then◌else◌, List, [], ◌∷◌, ◌++◌, map, Option, Some, None, Result, Ok, Err, IsTrue, refl, ap, sym, subst, ◌∙◌, inl, inr}
 use Rattle.term_core.specs.Sizes.{nodes}
-use Rattle.term_core.specs.Sites.{Trial, Layer, Naming, Site, sites_of, AllPass}
+use Rattle.term_core.specs.Sites.{Trial, Layer, Naming, Site}
 use Rattle.term_core.specs.Trying.{then_do}
 use Rattle.term_core.proofs.Trials.{or_else}
 use Rattle.term_core.proofs.Trials as expressions

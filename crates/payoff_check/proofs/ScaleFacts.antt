@@ -1,9 +1,9 @@
 -- The trial of the rule on scales of code whose sorts are right finds the first node that breaks it, and else the scale.
-use Rattle.std.proofs.Common.{◌≡◌, ℕ, pos, ◌+◌, max, nat_le, Bool, List, [], ◌∷◌, map, Option, Some, None, Result, Ok, Err, IsTrue, refl, ap, ap₂, sym, ◌∙◌}
+use Rattle.std.proofs.Common.{◌≡◌, ℕ, pos, ◌+◌, max, nat_le, Bool, List, [], ◌∷◌, map, Option, Result, Ok, Err, IsTrue, refl, ap, ap₂, sym, ◌∙◌}
 use Rattle.term_core.specs.Declarations.{Declarations}
 use Rattle.term_core.specs.declared.values.Kind.{Kind}
 use Rattle.term_core.specs.declared.rules.Rule.TheVariants.{Sort as SortRule, Scale as ScaleRule}
-use Rattle.term_core.specs.Kinds.{kind_of, scale_of_kind, scale_or_zero}
+use Rattle.term_core.specs.Kinds.{kind_of, scale_of_kind}
 use Rattle.term_core.specs.Values.{kind_or}
 use Rattle.term_core.specs.Sizes.{nodes}
 use Rattle.term_core.specs.Sites.{Layer, Site, Once, sites_of, kinds_round}
@@ -21,6 +21,7 @@ use Rattle.payoff_check.specs.declared.scale_rule.Scaled.{Scaled}
 use Rattle.payoff_check.specs.ScaleTrials.{value_tried, kept, scaling, scales_tried}
 use Rattle.payoff_check.proofs.Finding.{Finds, first_failing-map, here, Follows, code_finds, meets, fails}
 use Rattle.payoff_check.proofs.Passing.{PassesInValue, each_passes}
+use Rattle.interval_check.proofs.NodeTests.{scale_of_some}
 
 -- the scale that is found of a value expression is that of its kind
 abbrev pub IsValueScale : Declarations → ValueExpression → List Layer → Scaled → Type 0
@@ -50,10 +51,6 @@ node : (d : Declarations) (k : PayoffCode) (r : List Layer) (n s count : ℕ) �
 node d k r n s count h =
     here (code_is_scaled d) (AtCode n k r) (λ (a : Scaled). IsCodeScale d k r a) (nat_le s (d.amounts + 9)) (record { scale = s; nodes = count }) (ap (λ (i : ℕ). nat_le i (d.amounts + 9)) (sym h)) (λ _. h)
 
-pub kind_scale : (o : Option Kind) → scale_of_kind (kind_or o) ≡ scale_or_zero o
-kind_scale None = refl
-kind_scale (Some k) = refl
-
 scale_follows : (d : Declarations) → Follows (scaling d) Once (λ _. pos 0) (code_is_scaled d) (λ r. scales_round d r) (λ v r u. IsValueScale d v r u) (λ k r a. IsCodeScale d k r a) (λ v r n. IsSortedValue d v r n) (λ k r n. IsSortedNode d k r n)
 scale_follows d = record {
   values = λ v r n h. value_scale d v r n h;
@@ -61,7 +58,7 @@ scale_follows d = record {
   nothings = λ r n _. node d Nothing r n 0 1 refl;
   payments = λ x a b c r n _. node d (PayOn x a b c) r n 9 1 refl;
   sums = λ k l r n a b ha hb _. node d (Add k l) r n (max a.scale b.scale) (a.nodes + b.nodes + 1) (ap₂ max ha hb);
-  factors = λ v k r n u a hu ha _. node d (ScaleBy v k) r n (u.scale + a.scale) (u.nodes + a.nodes + 1) (ap₂ (λ (i j : ℕ). i + j) (hu ∙ kind_scale (kind_of d (plain v) (kinds_round d r))) ha);
+  factors = λ v k r n u a hu ha _. node d (ScaleBy v k) r n (u.scale + a.scale) (u.nodes + a.nodes + 1) (ap₂ (λ (i j : ℕ). i + j) (hu ∙ scale_of_some (kind_of d (plain v) (kinds_round d r))) ha);
   binders = λ v k r n u a _ ha _. node d (LetBe v k) r n a.scale (u.nodes + a.nodes + 1) ha;
   loops = λ v x k l r n u a b _ ha hb _. node d (Loop v x k l) r n (max a.scale b.scale) (u.nodes + a.nodes + b.nodes + 1) (ap₂ max ha hb);
   cuts = λ x k r n a ha _. node d (Cut x k) r n a.scale (a.nodes + 1) ha;

@@ -1,7 +1,7 @@
 //! The rule on sizes at a setting: a height of at most 400, at most 200,000 nodes, a work of at most 10,000,000, loops of at
 //! most 100,000 days one within another, and every date within its range.
 
-ghost use Rattle.std.specs.Prelude.{◌≡◌, ◌<◌, ◌≤◌, ◌+◌, ◌^◌, IfOk, true};
+ghost use Rattle.std.specs.Prelude.{◌≡◌, ◌<◌, ◌≤◌, ◌+◌, ◌^◌, IfOk};
 ghost use Rattle.term_core.specs.Declarations.{declarations};
 ghost use Rattle.term_core.specs.declared.rules.Rule.{Rule};
 ghost use Rattle.term_core.specs.Sizes.{nodes};

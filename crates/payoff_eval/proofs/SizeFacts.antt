@@ -24,9 +24,10 @@ use Rattle.payoff_lang.specs.Code.{ValueExpression, PayoffCode, Nothing, PayOn, 
 use Rattle.payoff_lang.specs.CodeValues.{Asked, factor_on, value_at, entry_at, first_true_at, code_value, scale_of_code}
 use Rattle.payoff_lang.specs.CodeTotals.{range_at, total_of_code}
 use Rattle.payoff_lang.specs.Meaning.{face_value}
-use Rattle.term_core.proofs.Products.{mul-assoc, raised-raised, parts_raised}
+use Rattle.term_core.proofs.Products.{mul-assoc, parts_raised}
 use Rattle.payoff_lang.proofs.DateFreeFacts.{kind_any, interval_any}
 use Rattle.payoff_eval.specs.CodeRules.{CodeMeetsRules, FactorsFit}
+use Rattle.payoff_lang.proofs.ValueFacts.{raised_up}
 
 pub size_plus : (x y : ℤ) → unsigned_abs (x +ℤ y) ≤ unsigned_abs x + unsigned_abs y
 size_plus (pos a) (pos b) = omega (arith, ints)
@@ -53,11 +54,6 @@ sum_within v w t u i j n hi hj hv hw =
     let whole = sum_raised_twice t u i j n hi hj in
     let most = size_plus (raised v (n - i)) (raised w (n - j)) in
     subst (λ (z : ℤ). unsigned_abs z ≤ (t * 10 ^ (max i j - i) + u * 10 ^ (max i j - j)) * 10 ^ (n - max i j)) (parts_raised v w n i j hi hj) (omega arith)
-
-pub raised_up : (v : ℤ) (i m n : ℕ) → i ≤ m → m ≤ n → raised (raised v (m - i)) (n - m) ≡ raised v (n - i)
-raised_up v i m n le lt =
-    let steps : (m - i) + (n - m) ≡ n - i = omega arith in
-    raised-raised v (m - i) (n - m) ∙ ap (λ (e : ℕ). raised v e) steps
 
 abbrev either : Option ℕ → (ℕ → ℤ) → ℤ → ℤ
 either o x y = elim o [ Some k ↦ x k | None ↦ y ]

@@ -17,10 +17,10 @@ use Rattle.payoff_lang.specs.Code.{PayoffCode, Nothing, PayOn, Add, ScaleBy, Let
 use Rattle.payoff_lang.specs.CodeValues.{Asked, value_at, entry_at, first_upto, first_true_at, code_value, scale_of_code}
 use Rattle.payoff_lang.specs.CodeReads.{value_reads, upto_first, reaches_payment, reads_of_code}
 use Rattle.term_core.proofs.Products.{mul-assoc, parts_raised}
-use Rattle.payoff_lang.proofs.CodeAlikeFacts.{unreached}
+use Rattle.payoff_lang.proofs.CodeAlikeFacts.{unreached, either}
 use Rattle.payoff_eval.specs.declared.walk.Worth.{Worth}
 use Rattle.payoff_eval.specs.Walks.{nothing_reached, unless, answer_at, tries, then_added, then_scaled, then_branch, walk_of}
-use Rattle.payoff_eval.proofs.SizeFacts.{raised_up}
+use Rattle.payoff_lang.proofs.ValueFacts.{raised_up}
 
 -- ---- the first place that is not fixed, of two lists
 
@@ -111,9 +111,6 @@ tests_are F r v (pos n) =
 tests_are F r v (negsuc n) = refl
 
 -- ---- the branch that is entered
-
-abbrev either : {A : Type 0} → Option ℕ → (ℕ → A) → A → A
-either o x y = elim o [ Some k ↦ x k | None ↦ y ]
 
 branch_unless : (F : Environment) (room i j : ℕ) (o : Option ℕ) (ts : List Place) (rx : ℕ → List Place) (ry : List Place) (v : ℕ → ℤ) (w : ℤ) (r : ℕ → Bool) (s : Bool) (hit : ℕ → Result Worth Missing) (miss : Result Worth Missing)
     → max i j ≤ room → ((n : ℕ) → hit n ≡ unless (first_unfixed F (rx n)) (worth (raised (v n) (room - i)) (r n))) → miss ≡ unless (first_unfixed F ry) (worth (raised w (room - j)) s)

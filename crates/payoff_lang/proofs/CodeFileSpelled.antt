@@ -12,7 +12,7 @@ use Rattle.contract_parse.specs.Judgements.{is_version, new_at}
 use Rattle.contract_parse.specs.Spelling.{◌⨟◌, end, mark, one, word}
 use Rattle.contract_parse.specs.Statements.{decls}
 use Rattle.contract_parse.proofs.Parts.{followed_by}
-use Rattle.contract_parse.proofs.Passing.{and_parts}
+use Rattle.contract_parse.proofs.EntryFacts.{and_parts}
 use Rattle.contract_print.specs.Canon.{IsOriginText, decls_text, line}
 use Rattle.contract_print.specs.Spellable.{AreSpellable}
 use Rattle.contract_print.specs.Spelled.{Spells, stops}

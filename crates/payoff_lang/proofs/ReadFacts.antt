@@ -25,6 +25,7 @@ use Rattle.payoff_lang.proofs.DatingFacts.{dated_shifted, entry_compiled}
 use Rattle.term_core.proofs.ReadShiftFacts.{reads-shifted}
 use Rattle.payoff_lang.proofs.CutFacts.{not_below}
 use Rattle.payoff_lang.proofs.ValueFacts.{first_compiled}
+use Rattle.payoff_lang.proofs.CodeAlikeFacts.{either}
 
 -- the reads of a compiled expression at a base are those of the expression on the frame
 pub reads_compiled : (d : Declarations) (x : Date) (e : Expression) (g : List Entry) (bs : List (List Place)) (env : Environment) (xs : List ℕ) (b f : ℤ) → f ≡ b +ℤ day_of xs x → value_reads d (compiled_value x e) g bs env xs b ≡ reads_of d e g bs env f
@@ -93,9 +94,6 @@ or_both : (r s l m : Bool) → (r ≡ true → l ≡ true) → (s ≡ true → m
 or_both true s l m h k e = rw (h refl) refl
 or_both false s true m h k e = refl
 or_both false s false m h k e = k e
-
-abbrev either : {A : Type 0} → Option ℕ → (ℕ → A) → A → A
-either o x y = elim o [ Some k ↦ x k | None ↦ y ]
 
 branch_live : (o : Option ℕ) (r : ℕ → Bool) (s : Bool) (l : ℕ → Bool) (m : Bool) → ((k : ℕ) → o ≡ Some k → r k ≡ true → l k ≡ true) → (s ≡ true → m ≡ true) → either o r s ≡ true → either o l m ≡ true
 branch_live (Some k) r s l m h i e = h k refl e

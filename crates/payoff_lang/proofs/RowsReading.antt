@@ -15,7 +15,7 @@ use Rattle.contract_parse.specs.Statements.{none, more}
 use Rattle.contract_parse.specs.declared.token.Kind.{Kind}
 use Rattle.contract_parse.specs.declared.token.Kind.TheVariants.{Word, Number, Mark, End}
 use Rattle.contract_parse.proofs.Parts.{followed_by}
-use Rattle.contract_parse.proofs.Passing.{and_parts}
+use Rattle.contract_parse.proofs.EntryFacts.{and_parts}
 use Rattle.payoff_lang.specs.Code.{Model, Nothing, PayOn, Add, ScaleBy, Cut}
 use Rattle.payoff_lang.specs.CodeBooks.{CodeBook}
 use Rattle.payoff_lang.specs.CodeFiles.{CodeText, code_file}

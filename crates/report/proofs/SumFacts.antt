@@ -1,8 +1,7 @@
 -- The payments of flow tables can be netted, and come at each slot to what the tables are those of.
-use Rattle.std.proofs.Common.{◌≡◌, ℕ, ◌+◌, ◌*◌, ◌^◌, ◌≤◌, ◌<◌, ℤ, pos, neg_ℤ, ◌+ℤ◌, ◌≤ℤ◌, ◌<ℤ◌, min, max, nat_lt, Bool, true, false, if◌then◌else◌, inl, inr, ◌⊎◌, drop, get_or, map, List, [], ◌∷◌, ◌++◌, length, refl, ap, sym, ◌∙◌, subst, arith, unsigned_abs}
+use Rattle.std.proofs.Common.{◌≡◌, ℕ, ◌+◌, ◌*◌, ◌^◌, ◌≤◌, ◌<◌, ℤ, pos, neg_ℤ, ◌+ℤ◌, ◌≤ℤ◌, ◌<ℤ◌, min, max, nat_lt, Bool, true, false, if◌then◌else◌, inl, inr, ◌⊎◌, map, List, [], ◌∷◌, ◌++◌, length, refl, ap, sym, ◌∙◌, subst, arith, unsigned_abs}
 use Rattle.std.specs.Prelude.{IfOk, Result, Ok, Err}
 use Rattle.std.proofs.Math.IntN.{neg_ℤ-neg_ℤ}
-use Rattle.std.proofs.lemmas.List.{append_assoc, drop_more}
 use Rattle.std.specs.List.{All, Contains, sum_by}
 use Rattle.std.proofs.lemmas.Int.{ints}
 use Rattle.std.proofs.lemmas.Bool.{cases_lt}
@@ -13,7 +12,7 @@ use Rattle.std.proofs.lemmas.List.Sorted.{All-permutation}
 use Rattle.term_core.specs.Flows.{Flow}
 use Rattle.term_core.specs.LawsFlows.{reversed}
 use Rattle.flow_eval.specs.Netting.{AreDue, CanBeNetted, Nets, same_slot, size_at}
-use Rattle.flow_eval.specs.Tables.{AreOrdered, IsDueRow, IsPaid, IsTable, Precedes, flow_in, row_for, slot_of}
+use Rattle.flow_eval.specs.Tables.{AreOrdered, IsDueRow, IsPaid, IsTable, Precedes, flow_in, row_for, slot_of, IsMutual}
 use Rattle.flow_eval.specs.declared.flow_table.FlowRow.{FlowRow}
 use Rattle.flow_eval.specs.declared.flow_table.FlowTable.{FlowTable}
 use Rattle.flow_eval.specs.declared.flow_table.Slot.{Slot}
@@ -22,10 +21,11 @@ use Rattle.flow_eval.proofs.NettingFacts.{rows_due}
 use Rattle.flow_eval.proofs.NetTables.{rows_net_of, table_from_net, to_itself}
 use Rattle.flow_eval.proofs.PaidFacts.{flow_at}
 use Rattle.flow_eval.proofs.PaymentFacts.{Counts}
-use Rattle.flow_eval.proofs.SizeFacts.{fits_moved}
+use Rattle.flow_eval.proofs.SizeFacts.{fits_moved, chosen}
 use Rattle.flow_eval.proofs.SlotFacts.{not_itself, same_from_parts, same_slot_decides}
-use Rattle.flow_eval.proofs.SumFacts.{share, share-other, share-same, sum_at, sum_at-append, sum_at-permutation}
-use Rattle.report.specs.SumTables.{AreTablesOf, IsMutual, IsSummable, IsSumOf, payment_of, payments_of, together}
+use Rattle.flow_eval.proofs.SumFacts.{share, share-other, share-same, sum_at, sum_at-append, sum_at-permutation, zero_and}
+use Rattle.report.specs.SumTables.{AreTablesOf, IsSummable, IsSumOf, payment_of, payments_of, together}
+use Rattle.flow_eval.proofs.RowFacts.{by_test, differs}
 
 abbrev sizes : Slot → List FlowRow → ℕ
 sizes s rows = sum_by (size_at s) (map payment_of rows)
@@ -34,9 +34,6 @@ abbrev IsElsewhere : Slot → FlowRow → Type 0
 IsElsewhere s row = s ≡ slot_of row → ⊥
 
 -- ---- the rows at a slot: none, or one
-
-zero_and : (x y : ℤ) → x ≡ pos 0 → y ≡ pos 0 → x +ℤ y ≡ pos 0
-zero_and x y h k = omega (arith, ints)
 
 and_zero : (x y : ℤ) → y ≡ pos 0 → x +ℤ y ≡ x
 and_zero x y h = omega (arith, ints)
@@ -48,15 +45,11 @@ no_size : (b : Bool) (n : ℕ) → (b ≡ true → ⊥) → (if b then n else 0)
 no_size true n h = absurd (h refl)
 no_size false n h = refl
 
-some_size : (b : Bool) (n : ℕ) → b ≡ true → (if b then n else 0) ≡ n
-some_size true n h = refl
-some_size false n h = absurd cc
-
 size_elsewhere : (s : Slot) (row : FlowRow) → IsElsewhere s row → size_at s (payment_of row) ≡ 0
 size_elsewhere s row h = no_size (same_slot s (slot_of row)) (unsigned_abs (payment_of row).amount) (λ e. h ((same_slot_decides s (slot_of row)).0 e))
 
 size_here : (s : Slot) (row : FlowRow) → s ≡ slot_of row → size_at s (payment_of row) ≡ unsigned_abs (payment_of row).amount
-size_here s row h = some_size (same_slot s (slot_of row)) (unsigned_abs (payment_of row).amount) ((same_slot_decides s (slot_of row)).1 h)
+size_here s row h = chosen (same_slot s (slot_of row)) (unsigned_abs (payment_of row).amount) ((same_slot_decides s (slot_of row)).1 h)
 
 sum_elsewhere : (s : Slot) (rows : List FlowRow) → All (IsElsewhere s) rows → sum_at s (map payment_of rows) ≡ pos 0
 sum_elsewhere s [] h = refl
@@ -74,10 +67,6 @@ sizes_elsewhere s (row ∷ rows) h =
 data AtSlot (s : Slot) (rows : List FlowRow) : Type 0 where
   none : All (IsElsewhere s) rows → AtSlot s rows
   one : (row : FlowRow) → Contains rows row → s ≡ slot_of row → sum_at s (map payment_of rows) ≡ (payment_of row).amount → sizes s rows ≡ unsigned_abs (payment_of row).amount → AtSlot s rows
-
-by_test : (P : Type 0) (t : Bool) → (t ≡ true → P) → (t ≡ false → P) → P
-by_test P true f g = f refl
-by_test P false f g = g refl
 
 others_elsewhere : (s : Slot) (row : FlowRow) (rows : List FlowRow) → s ≡ slot_of row → All (λ next. Precedes (slot_of row) (slot_of next)) rows → All (IsElsewhere s) rows
 others_elsewhere s row rows h before =
@@ -97,15 +86,10 @@ at_later s row rows h (one other held e sum size) =
     (zero_before (share s (payment_of row)) (sum_at s (map payment_of rows)) (share-other s (payment_of row) h) ∙ sum)
     (let first = sum_by-cons (size_at s) (payment_of row) (map payment_of rows) in let here = size_elsewhere s row h in omega arith)
 
-not_here : (a b : Slot) → same_slot a b ≡ false → a ≡ b → ⊥
-not_here a b h e =
-    let same : same_slot a b ≡ true = (same_slot_decides a b).1 e in
-    cc
-
 at_slot : (s : Slot) (rows : List FlowRow) → AreOrdered rows → AtSlot s rows
 at_slot s [] order = none (All-nil (IsElsewhere s))
 at_slot s (row ∷ rows) order =
-    by_test (AtSlot s (row ∷ rows)) (same_slot s (slot_of row)) (λ h. at_first s row rows ((same_slot_decides s (slot_of row)).0 h) order.0) (λ h. at_later s row rows (not_here s (slot_of row) h) (at_slot s rows order.1))
+    by_test (AtSlot s (row ∷ rows)) (same_slot s (slot_of row)) (λ h. at_first s row rows ((same_slot_decides s (slot_of row)).0 h) order.0) (λ h. at_later s row rows (differs s (slot_of row) h) (at_slot s rows order.1))
 
 -- ---- sizes
 
@@ -241,9 +225,3 @@ net_answers tables ps (Ok sum) e few small h = sum_of_tables tables sum.rows.ite
 net_answers tables ps (Err x) e few small h = tt
 
 -- ---- one table after another
-
-pub one_more_table : (tables : List FlowTable) (i : ℕ) (d : FlowTable) (before after : List Payment) → i < length tables → after ≡ before ++ map payment_of (get_or tables i d).rows.items → after ++ payments_of (drop (i + 1) tables) ≡ before ++ payments_of (drop i tables)
-one_more_table tables i d before after lt is =
-    ap (λ (ps : List Payment). ps ++ payments_of (drop (i + 1) tables)) is
-    ∙ append_assoc before (map payment_of (get_or tables i d).rows.items) (payments_of (drop (i + 1) tables))
-    ∙ ap (λ (ts : List FlowTable). before ++ payments_of ts) (sym (drop_more tables i d lt))

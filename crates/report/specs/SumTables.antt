@@ -1,18 +1,13 @@
 -- The sum of flow tables: where each table is that of what something pays, the rows are the table of what they pay
 -- together: a row for each day, asset and two parties between whom the sum is not 0, in the direction in which it is above 0.
-use Rattle.std.specs.Prelude.{◌≡◌, ℤ, pos, neg_ℤ, ◌+ℤ◌, ◌≤◌, ◌^◌, unsigned_abs, map, List, [], ◌∷◌, ◌++◌}
+use Rattle.std.specs.Prelude.{◌≡◌, ℤ, pos, ◌+ℤ◌, ◌≤◌, ◌^◌, unsigned_abs, map, List, [], ◌∷◌, ◌++◌}
 use Rattle.std.specs.List.{All}
 use Rattle.term_core.specs.Flows.{Flow}
-use Rattle.term_core.specs.LawsFlows.{reversed}
 use Rattle.flow_eval.specs.Payments.{payment_on}
-use Rattle.flow_eval.specs.Tables.{AreOrdered, IsDueRow, IsTable}
+use Rattle.flow_eval.specs.Tables.{AreOrdered, IsDueRow, IsTable, IsMutual}
 use Rattle.flow_eval.specs.declared.flow_table.FlowRow.{FlowRow}
 use Rattle.flow_eval.specs.declared.flow_table.FlowTable.{FlowTable}
 use Rattle.flow_eval.specs.declared.payments.Payment.{Payment}
-
--- what is paid back is the negative of what is paid
-abbrev pub IsMutual : (ℤ → Flow → ℤ) → Type 0
-IsMutual pays = (day : ℤ) (w : Flow) → pays day (reversed w) ≡ neg_ℤ (pays day w)
 
 -- what all of them pay on a day from one party to another in an asset
 abbrev pub together : List (ℤ → Flow → ℤ) → ℤ → Flow → ℤ

@@ -23,25 +23,8 @@ kinds-without j [] = refl
 kinds-without zero (e ∷ g) = refl
 kinds-without (suc j) (e ∷ g) = ap (λ (ks : List _). e.kind ∷ ks) (kinds-without j g)
 
-pub if_true : {A : Type 0} (b : Bool) (x y : A) → b ≡ true → (if b then x else y) ≡ x
-if_true true x y h = refl
-if_true false x y h = absurd (cc)
-
-pub if_false : {A : Type 0} (b : Bool) (x y : A) → b ≡ false → (if b then x else y) ≡ y
-if_false true x y h = absurd (cc)
-if_false false x y h = refl
-
-pub lt_is : (a b : ℕ) → a < b → nat_lt a b ≡ true
-lt_is a b h = grind (arith, nat_tests)
-
-pub lt_not : (a b : ℕ) → b ≤ a → nat_lt a b ≡ false
-lt_not a b h = grind (arith, nat_tests)
-
 pub eq_is : (a : ℕ) → (a == a) ≡ true
 eq_is a = grind (arith, nat_tests)
-
-pub eq_not : (a b : ℕ) → b < a → (a == b) ≡ false
-eq_not a b h = grind (arith, nat_tests)
 
 pub where_lt : (a b : ℕ) → nat_lt a b ≡ true → a < b
 where_lt a b h = grind (arith, nat_tests)

@@ -1,5 +1,5 @@
 -- A literal for a name in a node whose expression is read later: it takes the name's place in what is stored.
-use Rattle.std.proofs.Common.{◌≡◌, ℕ, suc, ◌+◌, ℤ, true, Option, Result, Ok, Err, IfOk, ap, ap₂, sym, ◌∙◌, add-one}
+use Rattle.std.proofs.Common.{◌≡◌, ℕ, ◌+◌, ℤ, true, Option, Result, Ok, Err, IfOk, ap, ap₂, sym, ◌∙◌, add-one}
 use Rattle.std.specs.declared.rc.Rc.{Rc}
 use Rattle.std.specs.Global.{Global}
 use Rattle.term_core.specs.declared.shared.SharedContr.{SharedContr}

@@ -1,6 +1,6 @@
 -- An expression that is read later has the size and the height of the expression, uses the same names, and is a literal
 -- where the expression is one.
-use Rattle.std.proofs.Common.{◌≡◌, ℕ, suc, ℤ, ◌+◌, max, ◌||◌, Bool, true, false, ◌-◌, if◌then◌else◌, refl, ap, ap₂, sym, nat_lt, ◌==◌}
+use Rattle.std.proofs.Common.{◌≡◌, ℕ, suc, ℤ, ◌+◌, ◌||◌, Bool, true, false, ◌-◌, if◌then◌else◌, refl, ap, ap₂, sym, nat_lt, ◌==◌}
 use Rattle.term_core.specs.Terms.{Expression, Lit, Yes, Var, Obs, Neg, Num, Cmp, Not, Logic, Cond, Widen, Round, Div, Acc}
 use Rattle.term_core.specs.Sizes.{height}
 use Rattle.term_core.specs.Redexes.{is_literal, is_zero_literal, uses}

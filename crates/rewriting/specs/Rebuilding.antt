@@ -1,7 +1,7 @@
 -- An expression of which parts are replaced: what took the place of a part, or the part where nothing did.
 use Rattle.std.specs.Prelude.{◌+◌, ◌<◌, ◌≡◌, Option, Some, None}
 use Rattle.term_core.specs.declared.terms.Expr.{Expr}
-use Rattle.term_core.specs.Terms.{Expression, expression, Lit, Yes, Var, Obs, Neg, Num, Cmp, Not, Logic, Cond, Widen, Round, Div, Acc}
+use Rattle.term_core.specs.Terms.{Expression, expression, Neg, Num, Cmp, Not, Logic, Cond, Widen, Round, Div, Acc}
 use Rattle.rewriting.specs.Measures.{size}
 
 abbrev pub after : Expression → Option Expr → Expression

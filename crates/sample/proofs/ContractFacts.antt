@@ -14,9 +14,9 @@ use Rattle.term_core.proofs.FlowFacts.{amounts_opposite}
 use Rattle.interval_check.specs.Sums.{sum_of_amounts, sum_of_sizes}
 use Rattle.interval_check.proofs.GuaranteeFacts.{amounts_add_up_to_total}
 use Rattle.flow_eval.specs.FlowAnswers.{AreKnownFlows, reads_until}
-use Rattle.flow_eval.specs.Tables.{IsPaid, IsTable, flow_in, paid_by}
+use Rattle.flow_eval.specs.Tables.{IsPaid, IsTable, flow_in, paid_by, IsMutual}
 use Rattle.flow_eval.specs.declared.flow_table.FlowRow.{FlowRow}
-use Rattle.report.specs.SumTables.{IsMutual, IsSummable}
+use Rattle.report.specs.SumTables.{IsSummable}
 use Rattle.sample.specs.Sample.{HoldSame, IsOfSample, sample_contract, sample_declarations, sample_fixings}
 use Rattle.sample.specs.Days.{last_day, over_days, sum_before}
 use Rattle.sample.specs.Summary.{AreRowsOf, paid_of}
@@ -45,9 +45,6 @@ module _ (d : Declarations) (is_d : d ≡ sample_declarations) where
     pub rows_known : (env : Environment) (rows : List FlowRow) → HoldSame env sample_fixings → AreKnownFlows d c env (pos d.start) (pos last_day) rows → AreRowsOf c rows
     rows_known env rows same known =
         subst (λ (x : Declarations). IsTable (paid_by x c sample_fixings (pos x.start)) (pos x.start) (pos last_day) rows) is_d (known.table sample_fixings (same_extends env sample_fixings same))
-
-pub rows_of_number : (number : ℕ) (c : Contract) (rows : List FlowRow) → c ≡ sample_contract number → AreRowsOf c rows → AreRowsOf (sample_contract number) rows
-rows_of_number number c rows is h = subst (λ (x : Contract). AreRowsOf x rows) is h
 
 -- ---- sizes
 

@@ -6,9 +6,7 @@ use Rattle.std.proofs.lemmas.Bool.{cases_lt}
 use Rattle.std.proofs.lemmas.Bool.Decides.{Decides-int_eq}
 use Rattle.interval_check.specs.Sums.{sum_of_sizes}
 use Rattle.sample.specs.Days.{sum_before}
-
-zero_and : (x y : ℤ) → x ≡ pos 0 → y ≡ pos 0 → x +ℤ y ≡ pos 0
-zero_and x y h k = omega (arith, ints)
+use Rattle.flow_eval.proofs.SumFacts.{zero_and}
 
 and_zero : (x y z : ℤ) → x ≡ z → y ≡ pos 0 → x +ℤ y ≡ z
 and_zero x y z h k = omega (arith, ints)

@@ -8,10 +8,10 @@ use Rattle.std.proofs.lemmas.Bool.Decides.{Decides-int_eq}
 use Rattle.term_core.specs.declared.values.Value.{Value}
 use Rattle.term_core.specs.declared.values.Value.TheVariants.{Num as Amount}
 use Rattle.term_core.specs.Declarations.{Declarations}
-use Rattle.term_core.specs.Environments.{Environment, Extends, IsAdmitted, IsValueOf, held, label_of, same_place}
+use Rattle.term_core.specs.Environments.{Environment, Extends, IsAdmitted, held, same_place}
 use Rattle.term_core.specs.Reads.{is_fixed}
 use Rattle.fixing_files.specs.Runs.{AddsPair}
-use Rattle.sample.specs.Sample.{HoldSame, fixings_before, rate_on, sample_declarations, sample_factor, sample_fixings}
+use Rattle.sample.specs.Sample.{HoldSame, fixings_before, rate_on, sample_factor, sample_fixings}
 use Rattle.sample.proofs.ReadFacts.{AreDaysFixed}
 
 level : (n day : ℕ) → n ≤ day → day < suc n → n ≡ day
@@ -76,11 +76,6 @@ low x = omega (arith, ints)
 
 high : (x : ℕ) → pos (8_000 + x % 8_001) ≤ℤ pos 20_000
 high x = omega (arith, ints)
-
--- the value of a day is one of FX
-pub is_rate : (d : Declarations) (day : ℕ) → d ≡ sample_declarations → IsValueOf (label_of d 0) (Amount (pos (sample_factor day)))
-is_rate d day e =
-    subst (λ (x : Declarations). IsValueOf (label_of x 0) (Amount (pos (sample_factor day)))) (sym e) (low ((7 * day * day + 13 * day) % 8_001), high (7 * day * day + 13 * day))
 
 -- ---- fixings that hold the same
 

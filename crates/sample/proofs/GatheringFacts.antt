@@ -1,14 +1,14 @@
 -- One contract after another is gathered.
 use Rattle.std.proofs.Common.{◌≡◌, ◌∙◌, ℕ, suc, ◌+◌, ◌*◌, ◌^◌, ◌≤◌, ℤ, pos, List, [], ◌∷◌, ◌++◌, length, refl, ap, sym, subst, arith}
-use Rattle.std.proofs.lemmas.List.Elements.{All-nil, All-push}
+use Rattle.std.proofs.lemmas.List.Elements.{All-push}
 use Rattle.std.specs.Prelude.{IfOk, Result, Ok, Err}
 use Rattle.std.specs.Global.{Vec}
 use Rattle.term_core.specs.Environments.{IsAdmitted}
 use Rattle.term_core.specs.Flows.{Flow}
-use Rattle.flow_eval.specs.Tables.{IsTable}
+use Rattle.flow_eval.specs.Tables.{IsTable, IsMutual}
 use Rattle.flow_eval.specs.declared.flow_table.FlowRow.{FlowRow}
 use Rattle.flow_eval.specs.declared.flow_table.FlowTable.{FlowTable}
-use Rattle.report.specs.SumTables.{AreTablesOf, IsMutual, IsSummable, IsSumOf}
+use Rattle.report.specs.SumTables.{AreTablesOf, IsSummable, IsSumOf}
 use Rattle.sample.specs.Days.{IsOverDays, over_days}
 use Rattle.sample.specs.Gathering.{IsGathered}
 use Rattle.sample.specs.Summary.{AreRowsOf, IsSummary, paid_of, paid_over_days, summary_text}
@@ -28,9 +28,6 @@ length_push (t ∷ tables) table = ap (λ (n : ℕ). suc n) (length_push tables 
 
 few_on : (n m number : ℕ) → n ≤ number * 2 ^ 64 → m ≤ 2 ^ 64 → n + m ≤ suc number * 2 ^ 64
 few_on n m number h k = omega arith
-
-pub nothing_gathered : IsGathered 0 0 []
-nothing_gathered = record { counted = refl; few = omega arith; are_tables = tt; summable = All-nil (λ (t : FlowTable). IsSummable t.rows.items); as_many = refl }
 
 gathered_suc : (number lines : ℕ) (tables : List FlowTable) (rows : List FlowRow) (sums : FlowTable) → IsGathered number lines tables → AreRowsOf (sample_contract number) rows → length rows ≤ 2 ^ 64 → IsTable (over_days (paid_of (sample_contract number))) (pos 0) (pos 0) sums.rows.items → IsSummable sums.rows.items
     → IsGathered (suc number) (lines + length rows) (tables ++ sums ∷ [])

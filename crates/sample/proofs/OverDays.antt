@@ -10,7 +10,7 @@ use Rattle.std.proofs.lemmas.List.Sorted.{All-permutation}
 use Rattle.term_core.specs.Flows.{Flow}
 use Rattle.term_core.specs.LawsFlows.{reversed}
 use Rattle.flow_eval.specs.Netting.{CanBeNetted, Nets, same_slot, size_at}
-use Rattle.flow_eval.specs.Tables.{IsDueRow, IsPaid, IsTable}
+use Rattle.flow_eval.specs.Tables.{IsDueRow, IsPaid, IsTable, IsMutual}
 use Rattle.flow_eval.specs.declared.flow_table.FlowRow.{FlowRow}
 use Rattle.flow_eval.specs.declared.flow_table.FlowTable.{FlowTable}
 use Rattle.flow_eval.specs.declared.flow_table.Slot.{Slot}
@@ -19,7 +19,7 @@ use Rattle.flow_eval.proofs.NetTables.{rows_net_of, table_from_net}
 use Rattle.flow_eval.proofs.PaidFacts.{flow_at}
 use Rattle.flow_eval.proofs.PaymentFacts.{Counts}
 use Rattle.flow_eval.proofs.SumFacts.{share, sum_at, sum_at-permutation}
-use Rattle.report.specs.SumTables.{IsMutual, IsSummable, payment_of}
+use Rattle.report.specs.SumTables.{IsSummable, payment_of}
 use Rattle.report.proofs.SumFacts.{rows_count, sum_is, tables_sizes}
 use Rattle.sample.specs.Days.{IsOverDays, last_day, over_days, sum_before, undated}
 use Rattle.sample.proofs.DaySums.{on_one_day, sum_before-most, sum_before-neg, sum_before-plus, sum_before-same, sum_before-zero}

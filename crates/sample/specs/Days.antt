@@ -4,10 +4,9 @@ use Rattle.std.specs.Prelude.{ℕ, zero, suc, ℤ, pos, ◌+ℤ◌, List}
 use Rattle.std.specs.List.{All}
 use Rattle.term_core.specs.Flows.{Flow}
 use Rattle.flow_eval.specs.Payments.{payment_on}
-use Rattle.flow_eval.specs.Tables.{IsDueRow, IsTable}
+use Rattle.flow_eval.specs.Tables.{IsDueRow, IsTable, IsMutual}
 use Rattle.flow_eval.specs.declared.flow_table.FlowRow.{FlowRow}
 use Rattle.flow_eval.specs.declared.payments.Payment.{Payment}
-use Rattle.report.specs.SumTables.{IsMutual}
 
 -- the sum of the first n numbers
 unfoldable pub sum_before : ℕ → (ℕ → ℤ) → ℤ

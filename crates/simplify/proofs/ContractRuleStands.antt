@@ -20,7 +20,8 @@ use Rattle.rewriting.specs.Substituting.{substituted_in}
 use Rattle.rewriting.specs.LawsRules.{IsRangeOf}
 use Rattle.rewriting.proofs.NamedRules.{named_contract}
 use Rattle.simplify.specs.TurningContracts.{is_nothing, is_later, is_contract_redex, after_both, decided, made}
-use Rattle.simplify.proofs.RuleFlows.{if_cases_in, other_of, not_true}
+use Rattle.simplify.proofs.RuleFlows.{if_cases_in, other_of}
+use Rattle.fixing_files.proofs.FoldFacts.{not_true}
 use Rattle.simplify.specs.LawsRulesStand.{ContractRuleReplaces}
 
 -- a literal that meets the rules does so among any names, and has the kind and the interval of its name

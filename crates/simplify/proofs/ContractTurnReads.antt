@@ -15,7 +15,8 @@ use Rattle.simplify.specs.Turning.{turned}
 use Rattle.simplify.specs.TurningContracts.{rule_in, turned_in}
 use Rattle.simplify.proofs.TurnMeaning.{turn_means}
 use Rattle.rewriting.specs.Keeping.{AreAmong}
-use Rattle.rewriting.proofs.Branches.{branch_test, branch_reads, test_reads}
+use Rattle.rewriting.proofs.Branches.{branch_test, branch_reads}
+use Rattle.term_core.proofs.ContractReadFacts.{test_reads}
 use Rattle.simplify.specs.LawsTurnsKeep.{TurnsTransferLess, ContractTurnsReadLess, TurnsCarry}
 use Rattle.simplify.proofs.RuleReads.{OnlyIf, ReadsInPlace, rule_reads_in}
 use Rattle.simplify.proofs.TurnReads.{turn_reads}

@@ -21,6 +21,7 @@ use Rattle.interval_check.proofs.NodeTests.{at_root, some_kind}
 use Rattle.interval_check.proofs.StandingFacts.{BesideWhole, left_beside, right_beside}
 use Rattle.simplify.specs.Turning.{is_chosen, resolved, choice, rule}
 use Rattle.simplify.proofs.TurnTimes.{if_cases_of}
+use Rattle.rewriting.proofs.NameLists.{where_lt}
 
 pub root_kind : (d : Declarations) (x : Expression) (g : List Range) → IsSorted d x g → kind_of d x (range_kinds g) ≡ Some (kind_or (kind_of d x (range_kinds g)))
 root_kind d x g s = some_kind (kind_of d x (range_kinds g)) (at_root (IsSortedPart d) d x g s)
@@ -44,9 +45,6 @@ literal_form d (Number s) v x g e c =
     let most : nat_le s greatest_scale ≡ true = subst (λ (o : Option Kind). nat_le (scale_or_zero o) greatest_scale ≡ true) e (most_scale d x g c) in
     record { sorts = refl; scales = and_from _ _ most refl; same_kind = sym e }
 
-less_of : (a b : ℕ) → nat_lt a b ≡ true → a < b
-less_of a b h = grind (arith, nat_tests)
-
 least_of : (a b : ℕ) → nat_lt a b ≡ false → b ≤ a
 least_of a b h = grind (arith, nat_tests)
 
@@ -56,7 +54,7 @@ le_is a b h = grind (arith, nat_tests)
 branch_form : (d : Declarations) (y x : Expression) (g : List Range) (s : ℕ) → BesideWhole (kind_of d y (range_kinds g)) (kind_of d x (range_kinds g)) (scale_of d y (range_kinds g)) s → scale_of d y (range_kinds g) ≤ s → IsSorted d y g → IsScaled d y g → IsScaled d x g → KeepsForm d (branch_at (scale_of d y (range_kinds g)) s y) x g
 branch_form d y x g s (inl both) order sorts scales whole =
     if_cases_of (λ z. KeepsForm d z x g) (nat_lt (scale_of d y (range_kinds g)) s) (Widen s y) y
-    (λ h. let less = less_of (scale_of d y (range_kinds g)) s h in absurd (omega (arith, less, both.3)))
+    (λ h. let less = where_lt (scale_of d y (range_kinds g)) s h in absurd (omega (arith, less, both.3)))
     (λ h. record { sorts = sorts; scales = scales; same_kind = both.0 ∙ sym both.1 })
 branch_form d y x g s (inr both) order sorts scales whole =
     if_cases_of (λ z. KeepsForm d z x g) (nat_lt (scale_of d y (range_kinds g)) s) (Widen s y) y

@@ -25,6 +25,7 @@ use Rattle.rewriting.proofs.Worth.{worth_zero, worth_is, worth_more}
 use Rattle.rewriting.proofs.Branches.{branch}
 use Rattle.simplify.specs.TurningContracts.{is_nothing, is_later, is_contract_redex, after_both, decided, made, rule_in}
 use Rattle.simplify.proofs.WorthFacts.{InPlace, in_its_place, equal_in_place}
+use Rattle.fixing_files.proofs.FoldFacts.{not_true}
 
 pub nothing_is : (c : Contract) → is_nothing c ≡ true → c ≡ Zero
 nothing_is Zero h = refl
@@ -120,10 +121,6 @@ zero_factor d (Acc body n first) g env f h = absurd (cc)
 pub other_of : (a b : Bool) → (a || b) ≡ true → a ≡ false → b ≡ true
 other_of true b h e = absurd (cc)
 other_of false b h e = h
-
-pub not_true : (b : Bool) → not b ≡ true → b ≡ false
-not_true true h = absurd (cc)
-not_true false h = refl
 
 module _ (d : Declarations) (g : List Entry) (env : Environment) where
   nothing_flows : (c : Contract) (f n : ℤ) (w : Flow) → c ≡ Zero → flow_of d c g env f n w ≡ pos 0

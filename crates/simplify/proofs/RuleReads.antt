@@ -21,7 +21,8 @@ use Rattle.rewriting.proofs.Among.{among_none, among_same, among_left, among_rig
 use Rattle.rewriting.specs.Keeping.{AreAmong}
 use Rattle.rewriting.proofs.Branches.{branch_test, branch_reads}
 use Rattle.simplify.specs.TurningContracts.{is_nothing, is_later, is_contract_redex, after_both, decided, made, rule_in}
-use Rattle.simplify.proofs.RuleFlows.{HasTest, first_at_once, first_never, if_cases_in, is_zero_count, literal_has_kind, literal_has_value, other_of, not_true}
+use Rattle.simplify.proofs.RuleFlows.{HasTest, first_at_once, first_never, if_cases_in, is_zero_count, literal_has_kind, literal_has_value, other_of}
+use Rattle.fixing_files.proofs.FoldFacts.{not_true}
 
 abbrev pub OnlyIf : Bool → Bool → Type 0
 OnlyIf b c = b ≡ true → c ≡ true

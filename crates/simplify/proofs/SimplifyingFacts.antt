@@ -33,7 +33,7 @@ use Rattle.simplify.specs.TurningContracts.{turned_in, HasNoPlainIn, IsTurnIn}
 use Rattle.simplify.specs.TurnableContracts.{CanTurnIn}
 use Rattle.term_core.specs.Literals.{HasLiterals, HasLiteralsIn}
 use Rattle.simplify.specs.Simplified.{PaysTheSame, ReadsNoMore, HasNoPlainRedex}
-use Rattle.rewriting.specs.Keeping.{IsNoLargerIn}
+use Rattle.specialise.proofs.CallFacts.{shared_numbers}
 use Rattle.simplify.proofs.ContractTurns.{contract_turns_end}
 use Rattle.simplify.proofs.ContractTurnReads.{contract_turn_reads}
 use Rattle.simplify.proofs.PlainFacts.{plain_leaves_none}
@@ -42,7 +42,6 @@ use Rattle.simplify.proofs.TurnFlows.{sorts_here, turns_keep_amounts}
 use Rattle.simplify.proofs.TurnForms.{turns_keep_forms}
 use Rattle.simplify.proofs.TurnReplaces.{round_within}
 use Rattle.simplify.proofs.TurnableInFacts.{can_turn_in}
-use Rattle.specialise.proofs.CallFacts.{shared_numbers}
 
 at_most : (a b : ℕ) → nat_le a b ≡ true → a ≤ b
 at_most a b h = grind (arith, nat_tests)
@@ -86,10 +85,6 @@ pays_on d r k c h j env f n w a = h env f n w a ∙ j env f n w a
 
 pub reads_on : (d : Declarations) (r k c : Contract) → ReadsNoMore d r k → ReadsNoMore d k c → ReadsNoMore d r c
 reads_on d r k c h j env f b a q e = j env f b a q (h env f b a q e)
-
-pub smaller_on : (r k c : Contract) → IsNoLargerIn r k → size_in k < size_in c → IsNoLargerIn r c
-smaller_on r k c (inl e) l = inr (omega (arith, ap (λ (x : Contract). size_in x) e, l))
-smaller_on r k c (inr m) l = inr (omega (arith, m, l))
 
 -- of a contract k that is a turn of c
 

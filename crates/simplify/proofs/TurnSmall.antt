@@ -73,9 +73,6 @@ literal_made d ks x g =
     let some = some_height x in
     record { lesser = literal_lesser (kind_or (kind_of d x ks)) (value_of d x [] [] (pos 0)) x some.0 some.1 some.2; small = λ _. literal_small d (kind_or (kind_of d x ks)) (value_of d x [] [] (pos 0)) g }
 
-right_lesser : (F : Expression → Expression) (b e : Expression) → height b ≤ height e → nodes b ≤ nodes e → past b ≤ past e → work b ≤ work e → Lesser b e
-right_lesser F b e h n p w = record { heights = h; counts = n; pasts = p; works = w }
-
 resolved_made : (d : Declarations) (ks : List Kind) (e : Expression) (g : List Range) → Made d (resolved d ks e) e g
 resolved_made d ks (Logic op (Yes v) b) g =
     if_cases_of (λ y. Made d y (Logic op (Yes v) b) g) (decides op v) (Yes v) b

@@ -26,9 +26,10 @@ use Rattle.interval_check.proofs.SuitedFacts.{nothing_fixed}
 use Rattle.interval_check.proofs.RewritingFacts.{ordered_round, round_rules}
 use Rattle.simplify.specs.LawsRulesStand.{TruthsAreNothing}
 use Rattle.simplify.specs.Turning.{turned}
-use Rattle.simplify.specs.Turnable.{FoldsTo, DecidesLogic, DecidesChoice, scale_found, CanTurn}
+use Rattle.simplify.specs.Turnable.{FoldsTo, DecidesLogic, DecidesChoice, CanTurn}
 use Rattle.simplify.proofs.FormFacts.{root_kind}
 use Rattle.simplify.proofs.TurnReplaces.{turn_replaces, round_within, round_truths}
+use Rattle.expr_eval.specs.Comparing.{scale_found}
 
 -- ---- at a node whose parts are turned
 

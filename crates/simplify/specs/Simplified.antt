@@ -6,8 +6,7 @@ use Rattle.term_core.specs.Environments.{Environment, IsAdmitted}
 use Rattle.term_core.specs.Flows.{Flow, amount_of}
 use Rattle.term_core.specs.Reads.{reads_of_contract}
 use Rattle.term_core.specs.Redexes.{Redex, HasNone}
-use Rattle.term_core.specs.Acceptance.{IsAccepted}
-use Rattle.rewriting.specs.Keeping.{AreAmong, IsNoLargerIn}
+use Rattle.rewriting.specs.Keeping.{AreAmong}
 use Rattle.simplify.specs.TurningContracts.{IsPlainKind}
 
 -- it pays the same on every frame in every admitted environment
@@ -23,10 +22,3 @@ ReadsNoMore d k c =
 -- no redex that asks for no frame stands in it, on any frame and under any fixings
 abbrev pub HasNoPlainRedex : Declarations → Contract → Type 0
 HasNoPlainRedex d k = (fixings : Environment) (f : Option ℤ) (kind : Redex) → IsPlainKind kind → HasNone d fixings f kind k
-
--- what turns keep of a contract
-pub record IsTurnedFrom (d : Declarations) (k c : Contract) : Type 0 where
-  pub accepted : IsAccepted d k
-  pub flows : PaysTheSame d k c
-  pub reads : ReadsNoMore d k c
-  pub smaller : IsNoLargerIn k c

@@ -5,7 +5,7 @@ use Rattle.term_core.specs.declared.terms.LogicOp.{LogicOp}
 use Rattle.term_core.specs.Declarations.{Declarations}
 use Rattle.term_core.specs.declared.values.Kind.{Kind}
 use Rattle.term_core.specs.Terms.{Expression, Yes, Neg, Num, Cmp, Not, Logic, Cond, Widen, Round, Div, Acc}
-use Rattle.term_core.specs.Kinds.{kind_of, scale_of_kind, scale_of_op}
+use Rattle.term_core.specs.Kinds.{kind_of, scale_of_op}
 use Rattle.term_core.specs.Values.{kind_or}
 use Rattle.term_core.specs.Reads.{decides}
 use Rattle.term_core.specs.Scales.{greatest_scale}
@@ -13,6 +13,7 @@ use Rattle.interval_check.specs.RangeTrials.{kind_found}
 use Rattle.interval_check.specs.Replacing.{branch_at}
 use Rattle.simplify.specs.Turning.{turned, rule}
 use Rattle.simplify.specs.Folding.{folded, CanFold}
+use Rattle.expr_eval.specs.Comparing.{scale_found}
 
 -- the rule at a node is that an operator on literals becomes the literal of its value, and this fits
 pub record FoldsTo (d : Declarations) (ks : List Kind) (x : Expression) : Type 0 where
@@ -33,10 +34,6 @@ of_logic op (Some v) b other = if decides op v then Yes v else b
 abbrev pub of_choice : Option Bool → ℕ → ℕ → Expression → Expression → Expression → Expression
 of_choice None i j a b other = other
 of_choice (Some v) i j a b other = if v then branch_at i (max i j) a else branch_at j (max i j) b
-
--- the scale that is found
-abbrev pub scale_found : Declarations → Expression → List Kind → ℕ
-scale_found d e ks = scale_of_kind (kind_found d e ks)
 
 abbrev pub DecidesLogic : Declarations → List Kind → LogicOp → Expression → Expression → Type 0
 DecidesLogic d ks op x y = rule d ks (Logic op x y) ≡ of_logic op (truth_literal x) y (Logic op x y)

@@ -15,6 +15,7 @@ use Rattle.term_core.specs.Values.{Entry, kinds, num, truth, of_num, of_cmp, log
 use Rattle.term_core.specs.Redexes.{names_within}
 use Rattle.term_core.proofs.AlikeFacts.{and_left, and_right}
 use Rattle.term_core.proofs.ShiftFacts.{same_acc, same_days, of_two}
+use Rattle.rewriting.proofs.NameLists.{where_lt}
 
 -- the first k names are the same
 abbrev pub Agree : {A : Type 0} → ℕ → List A → List A → Type 0
@@ -27,16 +28,13 @@ agree_more k x xs ys h (suc i) lt = h i (omega arith)
 pub agree_none : {A : Type 0} (xs ys : List A) → Agree 0 xs ys
 agree_none xs ys i lt = absurd (omega arith)
 
-below : (a b : ℕ) → nat_lt a b ≡ true → a < b
-below a b h = grind (arith, nat_tests)
-
 is_below : (a b : ℕ) → a < b → nat_lt a b ≡ true
 is_below a b h = grind (arith, nat_tests)
 
 pub kind_among : (d : Declarations) (e : Expression) (k : ℕ) (ks js : List Kind) → names_within k e ≡ true → Agree k ks js → kind_of d e ks ≡ kind_of d e js
 kind_among d (Lit m s) k ks js n h = refl
 kind_among d (Yes b) k ks js n h = refl
-kind_among d (Var back) k ks js n h = h back (below back k n)
+kind_among d (Var back) k ks js n h = h back (where_lt back k n)
 kind_among d (Obs l t) k ks js n h = refl
 kind_among d (Neg e) k ks js n h = ap (on_number (λ s. Some (Number s))) (kind_among d e k ks js n h)
 kind_among d (Num op a b) k ks js n h = ap₂ (on_numbers (λ s t. Some (Number (scale_of_op op s t)))) (kind_among d a k ks js (and_left _ _ n) h) (kind_among d b k ks js (and_right _ _ n) h)
@@ -69,7 +67,7 @@ both_none g h = record { same_kinds = agree_none (kinds g) (kinds h); entries = 
 pub value_among : (d : Declarations) (e : Expression) (k : ℕ) (g h : List Entry) (env : Environment) (f : ℤ) → names_within k e ≡ true → AgreeBoth k g h → value_of d e g env f ≡ value_of d e h env f
 value_among d (Lit m s) k g h env f n a = refl
 value_among d (Yes b) k g h env f n a = refl
-value_among d (Var back) k g h env f n a = ap value_of_entry (a.entries back (below back k n))
+value_among d (Var back) k g h env f n a = ap value_of_entry (a.entries back (where_lt back k n))
 value_among d (Obs l t) k g h env f n a = refl
 value_among d (Neg e) k g h env f n a = ap (λ (v : Value). Amount (neg_ℤ (num v))) (value_among d e k g h env f n a)
 value_among d (Num op x y) k g h env f n a =
@@ -113,7 +111,7 @@ value_among d (Acc body m first) k g h env f n a =
 pub names_more : (e : Expression) (j k : ℕ) → j ≤ k → names_within j e ≡ true → names_within k e ≡ true
 names_more (Lit m s) j k le n = refl
 names_more (Yes b) j k le n = refl
-names_more (Var back) j k le n = is_below back k (omega (arith, le, below back j n))
+names_more (Var back) j k le n = is_below back k (omega (arith, le, where_lt back j n))
 names_more (Obs l t) j k le n = refl
 names_more (Neg e) j k le n = names_more e j k le n
 names_more (Num op a b) j k le n = both (names_more a j k le (and_left _ _ n)) (names_more b j k le (and_right _ _ n))

@@ -1,5 +1,5 @@
 -- A specialised expression reads nothing that the expression does not read.
-use Rattle.std.proofs.Common.{◌≡◌, ℕ, zero, suc, ℤ, pos, ◌+ℤ◌, ◌-ℤ◌, Bool, true, false, if◌then◌else◌, Option, None, List, ◌∷◌, [], ◌++◌, refl, ap, ap₂, subst, arith}
+use Rattle.std.proofs.Common.{◌≡◌, ℕ, suc, ℤ, pos, ◌+ℤ◌, ◌-ℤ◌, if◌then◌else◌, Option, None, List, ◌∷◌, [], ◌++◌, refl, ap, ap₂, arith}
 use Rattle.std.proofs.lemmas.Int.{ints}
 use Rattle.term_core.specs.Declarations.{Declarations}
 use Rattle.term_core.specs.declared.values.Kind.{Kind}
@@ -16,7 +16,7 @@ use Rattle.interval_check.specs.Replacing.{literal_of}
 use Rattle.specialise.specs.Specialising.{specialised}
 use Rattle.specialise.specs.LawsSpecial.{SpecialisedReads}
 use Rattle.specialise.specs.Specialised.{IsOn, MayCome}
-use Rattle.rewriting.specs.Keeping.{AreAmong, NamesReadLess}
+use Rattle.rewriting.specs.Keeping.{AreAmong}
 use Rattle.specialise.proofs.ToldFacts.{told_cases, literal_reads}
 use Rattle.specialise.proofs.SpecialValues.{special_kind, special_scale, special_value, on_moved}
 

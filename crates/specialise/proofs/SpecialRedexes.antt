@@ -35,7 +35,7 @@ literal_names : (k : Kind) (v : Value) (j : ℕ) → names_within j (literal_of 
 literal_names TruthKind v j = refl
 literal_names (Number s) v j = refl
 
-and_same : (a b c e : Bool) → a ≡ c → b ≡ e → (a && b) ≡ (c && e)
+pub and_same : (a b c e : Bool) → a ≡ c → b ≡ e → (a && b) ≡ (c && e)
 and_same a b c e h k = ap₂ (λ (x y : Bool). x && y) h k
 
 -- what is specialised holds a name bound outside it only where the other does

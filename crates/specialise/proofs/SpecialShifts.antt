@@ -17,9 +17,7 @@ use Rattle.term_core.proofs.ShiftFacts.{kind-shifted, value-shifted}
 use Rattle.term_core.proofs.ReadShiftFacts.{reads-shifted}
 use Rattle.specialise.specs.Specialising.{is_known, literal_or, told, told_or, specialised}
 use Rattle.specialise.specs.LawsSpecial.{SpecialisedShifts}
-
-and_same : (a b c e : Bool) → a ≡ c → b ≡ e → (a && b) ≡ (c && e)
-and_same a b c e h k = ap₂ (λ (x y : Bool). x && y) h k
+use Rattle.specialise.proofs.SpecialRedexes.{and_same}
 
 pub names-shifted : (e : Expression) (k : ℤ) (j : ℕ) → names_within j (shifted k e) ≡ names_within j e
 names-shifted (Lit m s) k j = refl

@@ -8,7 +8,6 @@ use Rattle.term_core.specs.declared.values.Value.{Value}
 use Rattle.term_core.specs.Terms.{Expression, Lit, Yes, Var, Obs, Neg, Num, Cmp, Not, Logic, Cond, Widen, Round, Div, Acc}
 use Rattle.term_core.specs.Terms.{Contract, Zero, Pay, Both, Scale, After, Let, Within}
 use Rattle.term_core.specs.Environments.{Environment}
-use Rattle.term_core.specs.Flows.{count_of}
 use Rattle.term_core.specs.Limits.{IsOffset}
 use Rattle.term_core.specs.Shifts.{shifted}
 use Rattle.term_core.specs.SharedTerms.{HasOffsets}
@@ -33,11 +32,6 @@ nothing_told_in d F (After n c) = ap (After n) (nothing_told_in d F c)
 nothing_told_in d F (Let e c) = ap₂ Let (nothing_told d F e) (nothing_told_in d F c)
 nothing_told_in d F (Within e n a b) =
     ap₂ (λ (x : Expression) (y : Contract). Within x n y (specialised_in d F None b)) (nothing_told d F e) (nothing_told_in d F a) ∙ ap (Within e n a) (nothing_told_in d F b)
-
--- of a `within` its second branch alone changes
-pub waiting_special : (d : Declarations) (F : Environment) (o : Option ℤ) (e : Expression) (n : _) (a b : Contract) → specialised_in d F o (Within e n a b) ≡ Within e n a (specialised_in d F (moved (pos (count_of n)) o) b)
-waiting_special d F o e n a b =
-    ap₂ (λ (x : Expression) (y : Contract). Within x n y (specialised_in d F (moved (pos (count_of n)) o) b)) (nothing_told d F e) (nothing_told_in d F a)
 
 -- where it is stored, it is specialised on the day on which it is read
 pub stored_special : (d : Declarations) (F : Environment) (f : ℤ) (k : ℤ) (e x : Expression) → x ≡ specialised d F (Some (f +ℤ k)) e → shifted k x ≡ specialised d F (Some f) (shifted k e)

@@ -31,7 +31,7 @@ and_false : (x y : Bool) → y ≡ false → (x && y) ≡ false
 and_false true y h = h
 and_false false y h = refl
 
-or_false : (x y : Bool) → (x || y) ≡ false → (x ≡ false) × (y ≡ false)
+pub or_false : (x y : Bool) → (x || y) ≡ false → (x ≡ false) × (y ≡ false)
 or_false true y h = absurd (cc)
 or_false false y h = (refl, h)
 
@@ -74,7 +74,7 @@ dead_pay (pos zero) a b x p q w h low high =
 dead_pay (pos (suc n)) a b x p q w h low high = rw (differs (suc n) (omega arith)) refl
 dead_pay (negsuc n) a b x p q w h low high = refl
 
-sum_zero : (x y : ℤ) (k l : ℕ) → x ≡ pos 0 → y ≡ pos 0 → raised x k +ℤ raised y l ≡ pos 0
+pub sum_zero : (x y : ℤ) (k l : ℕ) → x ≡ pos 0 → y ≡ pos 0 → raised x k +ℤ raised y l ≡ pos 0
 sum_zero x y k l h h' = ap₂ (λ (s t : ℤ). s +ℤ t) (one_zero x k h) (one_zero y l h')
 
 branch_dead : (o : Option ℕ) (lx : ℕ → Bool) (ly : Bool) (x : ℕ → ℤ) (y : ℤ) (k l : ℕ) → elim o [ Some i ↦ lx i | None ↦ ly ] ≡ false → ((i : ℕ) → lx i ≡ false → x i ≡ pos 0) → (ly ≡ false → y ≡ pos 0) → elim o [ Some i ↦ raised (x i) k | None ↦ raised y l ] ≡ pos 0
@@ -149,10 +149,10 @@ branch_alike {ok} o u m b rx sx ry sy lx kx ly ky (inr late) dx dy hx hy =
 tried_reads : (t : Bool) (xs ys zs : List Place) → t ≡ false → xs ≡ ys → (if t then [] else (xs ++ zs)) ≡ ys ++ zs
 tried_reads t xs ys zs h e = rw h (ap (λ (us : List Place). us ++ zs) e)
 
-abbrev test_reads : Declarations → Expression → List Entry → List (List Place) → Environment → ℤ → ℕ → List Place
+abbrev pub test_reads : Declarations → Expression → List Entry → List (List Place) → Environment → ℤ → ℕ → List Place
 test_reads d e g bs env f i = reads_of d e g bs env (f +ℤ pos i)
 
-abbrev test_at : Declarations → Expression → List Entry → Environment → ℤ → ℕ → Bool
+abbrev pub test_at : Declarations → Expression → List Entry → Environment → ℤ → ℕ → Bool
 test_at d e g env f i = truth (value_of d e g env (f +ℤ pos i))
 
 abbrev hit_reads : Declarations → Contract → List Entry → List (List Place) → Environment → ℤ → ℤ → ℕ → ℕ → List Place
@@ -228,7 +228,7 @@ scaled_same {ok} {xs} {ys} {v} {w} true x y h e dead p = ap₂ (λ (i j : ℤ). 
 scaled_same {ok} {xs} {ys} {v} {w} false x y h e dead p =
     ap (λ (i : ℤ). num v *ℤ i) (dead refl) ∙ *ℤ-zero (num v) ∙ sym (*ℤ-zero (num w)) ∙ ap (λ (i : ℤ). num w *ℤ i) (sym (dead refl) ∙ e)
 
-abbrev branch_flow : Option ℕ → (ℕ → ℤ) → ℤ → ℕ → ℕ → ℤ
+abbrev pub branch_flow : Option ℕ → (ℕ → ℤ) → ℤ → ℕ → ℕ → ℤ
 branch_flow o x y k l = elim o [ Some i ↦ raised (x i) k | None ↦ raised y l ]
 
 late_flow : (o : Option ℕ) (m b : ℕ) (x : ℕ → ℤ) (y : ℤ) (k l : ℕ) → IsAfter m b o → ((i : ℕ) → b < i → x i ≡ pos 0) → (b < m → y ≡ pos 0) → branch_flow o x y k l ≡ pos 0

@@ -8,7 +8,7 @@ use Rattle.term_core.proofs.FlowFacts.{first_within}
 use Rattle.term_core.proofs.AlikeFacts.{Alike, then_alike, same_alike, other_alike}
 
 -- one day more
-abbrev or_last : Option ℕ → ℕ → Bool → Option ℕ
+abbrev pub or_last : Option ℕ → ℕ → Bool → Option ℕ
 or_last o n b = elim o [ Some i ↦ Some i | None ↦ if b then Some n else None ]
 
 -- a first day is one among more days

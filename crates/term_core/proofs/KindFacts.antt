@@ -8,7 +8,7 @@ use Rattle.term_core.specs.declared.values.Value.{Value}
 use Rattle.term_core.specs.declared.values.Value.TheVariants.{Num as Amount, Truth}
 use Rattle.term_core.specs.Terms.{Lit, Yes, Var, Obs, Neg, Num, Cmp, Not, Logic, Cond, Widen, Round, Div, Acc}
 use Rattle.term_core.specs.Environments.{Place, IsValueOf, held, label_of, least, value_or}
-use Rattle.term_core.specs.Kinds.{kind_of, kind_of_label, on_number, on_numbers, on_truth, joined, of_acc, scale_of_op, scale_of, scale_of_kind}
+use Rattle.term_core.specs.Kinds.{kind_of, kind_of_label, on_number, on_numbers, joined, of_acc, scale_of_op, scale_of, scale_of_kind}
 use Rattle.term_core.specs.Values.{Entry, kinds, truth, widened, kind_or, value_of, value_of_entry, days_run}
 use Rattle.term_core.specs.LawsKinds.{IsOfKind, AreOfKinds, ValuesHaveKinds}
 use Rattle.term_core.proofs.KindParts.{one_number, two_numbers, truth_then}

@@ -14,7 +14,7 @@ use Rattle.term_core.specs.Values.{Entry, kinds, num, truth, of_num, of_cmp, log
 use Rattle.term_core.specs.Shifts.{shifted}
 use Rattle.term_core.specs.LawsShifts.{ShiftsMoveTheDay}
 
-acc_of : (o : Option Kind) (p q : Kind → Option Kind) → ((k : Kind) → p k ≡ q k) → of_acc o p ≡ of_acc o q
+pub acc_of : (o : Option Kind) (p q : Kind → Option Kind) → ((k : Kind) → p k ≡ q k) → of_acc o p ≡ of_acc o q
 acc_of None p q h = refl
 acc_of (Some TruthKind) p q h = ap (λ (r : Option Kind). on_truth r (Some TruthKind)) (h TruthKind)
 acc_of (Some (Number s)) p q h = ap (on_number (λ _. Some (Number s))) (h (Number s))

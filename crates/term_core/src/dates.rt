@@ -2,7 +2,7 @@
 ghost use Rattle.std.specs.Prelude.{◌≡◌, ◌≤◌, ◌≤ℤ◌, IfSome, Some, neg_ℤ, option_map, pos};
 ghost use Rattle.jiff_core.specs.Calendar.{IsBetween};
 ghost use Rattle.jiff_core.specs.Date.{epoch_day};
-ghost use Rattle.term_core.specs.Dates.{Parts, day_of, epoch_day_of, digit_of, parts_of, two_of};
+ghost use Rattle.term_core.specs.Dates.{day_of, epoch_day_of, digit_of, parts_of, two_of};
 
 use jiff::civil::Date;
 use jiff_core::civil;

@@ -10,13 +10,14 @@ use Rattle.contract_print.specs.Spellable.{are_new}
 use Rattle.contract_cli.specs.AdvanceParts.{AnswersRests, AppendsRest, AppendsRests}
 use Rattle.contract_cli.specs.AdvancePromise.{last_gone}
 use Rattle.contract_cli.specs.FlowsParts.{IsMissingOf, IsMissingOne}
-use Rattle.contract_cli.specs.UsedParts.{IsTriable, entries_of, entry_of, trees}
+use Rattle.contract_cli.specs.UsedParts.{IsTriable, entries_of, entry_of}
 use Rattle.contract_cli.specs.declared.advance_text.Left.{Left}
 use Rattle.contract_cli.proofs.AdvanceFacts.{first_is_new, keys_of_trees, names_behind, rest_behind, rests_of_none}
 use Rattle.contract_cli.proofs.LineFacts.{missing_first}
 use Rattle.contract_cli.proofs.StopFacts.{handed_on}
 use Rattle.contract_cli.proofs.UsedFacts.{item_has, left_more, left_none}
 use Rattle.contract_cli.proofs.advance_text.advance_all.Goals as goal
+use Rattle.contract_parse.specs.ContractReading.{trees}
 
 pub advance_one-requires-clause-accepted : goal.advance_one-requires-clause-accepted
 advance_one-requires-clause-accepted c =

@@ -3,10 +3,11 @@ use Rattle.std.specs.Map.{keys_of}
 use Rattle.term_core.specs.Declarations.{declarations}
 use Rattle.contract_print.specs.Spellable.{are_new}
 use Rattle.contract_cli.specs.AdvanceParts.{AnswersRests}
-use Rattle.contract_cli.specs.UsedParts.{entries_of, trees}
+use Rattle.contract_cli.specs.UsedParts.{entries_of}
 use Rattle.contract_cli.specs.declared.advance_text.Left.{Left}
 use Rattle.contract_cli.specs.declared.stop.Stop.{Stop}
 use Rattle.contract_cli.proofs.advance_text.advance_all.Given as goal
+use Rattle.contract_parse.specs.ContractReading.{trees}
 
 -- the names of the contracts that are left are new behind those so far, and the answer for them is that for all
 abbrev pub invariant-loop-one : goal.invariant-loop-one

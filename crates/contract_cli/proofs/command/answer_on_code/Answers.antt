@@ -1,4 +1,4 @@
-use Rattle.std.proofs.Common.{ℕ, List, refl}
+use Rattle.std.proofs.Common.{refl}
 use Rattle.report.specs.FaultLines.{fault_text}
 use Rattle.command_words.specs.Words.{value_by}
 use Rattle.contract_cli.specs.RunPromise.{Cause, FilesSeen, StopsRun, WereReadForValue, stopped, valued}

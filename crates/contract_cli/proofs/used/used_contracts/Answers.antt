@@ -7,10 +7,11 @@ use Rattle.term_core.specs.declared.terms.Contr.{Contr}
 use Rattle.term_core.specs.Declarations.{declarations}
 use Rattle.term_core.specs.Instances.{HasNumbers, instance}
 use Rattle.term_core.specs.Terms.{Contract, contract}
-use Rattle.contract_cli.specs.UsedParts.{IsSound, IsTriable, entries_of, trees}
+use Rattle.contract_cli.specs.UsedParts.{IsSound, IsTriable, entries_of}
 use Rattle.contract_cli.specs.declared.used.Used.{Used}
 use Rattle.contract_cli.proofs.UsedFacts.{more_used, none_used, numbers_given, used_of, used_triable}
 use Rattle.contract_cli.proofs.used.used_contracts.Goals as goal
+use Rattle.contract_parse.specs.ContractReading.{trees}
 
 pub instance_of-requires : goal.instance_of-requires
 instance_of-requires c =

@@ -1,8 +1,9 @@
 use Rattle.std.specs.Prelude.{◌≡◌, ◌++◌, All, option_map}
 use Rattle.term_core.specs.Declarations.{declarations}
-use Rattle.contract_cli.specs.UsedParts.{IsSound, entries_of, trees}
+use Rattle.contract_cli.specs.UsedParts.{IsSound, entries_of}
 use Rattle.contract_cli.proofs.UsedFacts.{used_of}
 use Rattle.contract_cli.proofs.used.used_contracts.Given as goal
+use Rattle.contract_parse.specs.ContractReading.{trees}
 
 -- those so far and those that are asked for of the contracts that are left are those of all
 abbrev pub invariant-loop-name : goal.invariant-loop-name

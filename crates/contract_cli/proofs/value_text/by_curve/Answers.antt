@@ -7,7 +7,7 @@ use Rattle.fixing_files.specs.CurveTables.{HoldsCurve}
 use Rattle.fixing_files.specs.Tables.{table_of}
 use Rattle.contract_parse.proofs.NumberFacts.{fits_wide}
 use Rattle.report.specs.ValueLines.{value_text}
-use Rattle.contract_cli.specs.ValueParts.{IsCurveFault, IsMissingBy, IsWorthOver, StopsByCurve, TellsByCurve, inquiry_of, no_curve, no_read}
+use Rattle.contract_cli.specs.ValueParts.{IsCurveFault, IsMissingBy, IsValueOver, StopsByCurve, TellsByCurve, inquiry_of, no_curve, no_read}
 use Rattle.contract_cli.proofs.StopFacts.{handed_on}
 use Rattle.contract_cli.proofs.value_text.by_curve.Goals as goal
 
@@ -25,7 +25,7 @@ returns-in_err-amount c =
     let fixings = c.args.fixings.now in
     let bytes = c.args.bytes.now in
     let curve = c.in_ok-curve.curve in
-    handed_on (IsWorthOver q fixings curve) (λ (text : Vec ℕ). TellsByCurve q fixings bytes text.items) (IsMissingBy q fixings curve) (StopsByCurve q fixings bytes)
+    handed_on (IsValueOver q fixings curve) (λ (text : Vec ℕ). TellsByCurve q fixings bytes text.items) (IsMissingBy q fixings curve) (StopsByCurve q fixings bytes)
     (λ f h. no_read curve c.in_ok-curve.ensures h) c.in_err-amount.field-0.0 c.from_residual-in_err-amount.result c.in_err-amount.ensures c.from_residual-in_err-amount.ensures.1
 
 pub returns : goal.returns

@@ -1,7 +1,6 @@
 use Rattle.std.proofs.Common.{ℕ, List, subst}
 use Rattle.std.specs.Prelude.{Some, Err}
 use Rattle.std.specs.Global.{Vec}
-use Rattle.term_core.specs.Environments.{Environment}
 use Rattle.fixing_files.specs.Tables.{Holds, table_of}
 use Rattle.contract_cli.specs.FlowsParts.{HoldsFixings, IsRowFault}
 use Rattle.contract_cli.specs.Stopping.{AnswersBy}

@@ -1,4 +1,4 @@
-use Rattle.std.proofs.Common.{◌≡◌, ℤ, arith, of_z, pos, subst, sym, to_z, w64}
+use Rattle.std.proofs.Common.{◌≡◌, ℤ, arith, of_z, subst, sym, to_z, w64}
 use Rattle.std.specs.Prelude.{Some}
 use Rattle.std.proofs.lemmas.Int.{ints, to_z-of_z}
 use Rattle.term_core.specs.Declarations.{declarations}

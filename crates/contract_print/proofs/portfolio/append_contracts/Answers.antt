@@ -10,8 +10,9 @@ use Rattle.std.proofs.lemmas.List.Elements.{All-head, All-tail}
 use Rattle.term_core.specs.declared.name.Name.{Name}
 use Rattle.term_core.specs.declared.terms.Contr.{Contr}
 use Rattle.term_core.specs.Terms.{Contract, contract}
-use Rattle.contract_print.specs.Writable.{IsWritableTerm, trees}
+use Rattle.contract_print.specs.Writable.{IsWritableTerm}
 use Rattle.contract_print.proofs.portfolio.append_contracts.Goals as goal
+use Rattle.contract_parse.specs.ContractReading.{trees}
 
 pub append_contract-requires : goal.append_contract-requires
 append_contract-requires c =

@@ -3,8 +3,9 @@ use Rattle.std.specs.Prelude.{All}
 use Rattle.term_core.specs.Declarations.{declarations}
 use Rattle.contract_parse.specs.Names.{declared_by}
 use Rattle.contract_print.specs.Canon.{contracts_text}
-use Rattle.contract_print.specs.Writable.{IsWritableTerm, trees}
+use Rattle.contract_print.specs.Writable.{IsWritableTerm}
 use Rattle.contract_print.proofs.portfolio.append_contracts.Given as goal
+use Rattle.contract_parse.specs.ContractReading.{trees}
 
 -- what stands, and the lines of what is left, are what stood and all lines
 abbrev pub invariant-loop-name : goal.invariant-loop-name
