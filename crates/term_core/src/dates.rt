@@ -19,8 +19,8 @@ fn digit(b: u8) -> Option<u8>
     ensures value { result ≡ digit_of b }
     ensures bound { IfSome result (λ x. x ≤ 9) }
 {
-    if 48 <= b && b <= 57 {
-        Some(b - 48)
+    if b.is_ascii_digit() {
+        Some(b - b'0')
     } else {
         None
     }
@@ -46,7 +46,7 @@ fn ten_parts(text: &[u8; 10]) -> Option<Ymd>
     let low = two(c, d)?;
     let month = two(e, f)?;
     let day = two(g, j)?;
-    if h == 45 && i == 45 {
+    if h == b'-' && i == b'-' {
         Some(Ymd {
             year: 100 * high as u16 + low as u16,
             month,
@@ -98,7 +98,7 @@ fn digits(n: u8) -> (u8, u8)
     requires { n ≤ 99 }
     ensures { two_of result.0 result.1 ≡ Some n }
 {
-    (48 + n / 10, 48 + n % 10)
+    (b'0' + n / 10, b'0' + n % 10)
 }
 
 // The text of three numbers.
