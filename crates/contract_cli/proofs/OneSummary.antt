@@ -3,7 +3,7 @@ use Rattle.std.proofs.Common.{◌≡◌, ◌∙◌, ℕ, zero, suc, pos, ◌+◌
 use Rattle.flow_eval.specs.declared.flow_table.FlowRow.{FlowRow}
 use Rattle.flow_eval.proofs.TableFacts.{tables_are_one}
 use Rattle.report.specs.SumTables.{together}
-use Rattle.sample.specs.Days.{last_day}
+use Rattle.flow_eval.specs.Readiness.{last_day}
 use Rattle.sample.specs.Sample.{sample_contract}
 use Rattle.sample.specs.Summary.{CountsLines, paid_of, paid_over_days, summary_text}
 use Rattle.contract_cli.specs.SampleLaws.{SummariesAreOne}

@@ -17,6 +17,7 @@ use Rattle.fixing_files.specs.Days.{day_of}
 use Rattle.fixing_files.specs.Tables.{Holds, IsFirstFault, table_of}
 use Rattle.fixing_files.specs.declared.days.DayFault.TheVariants.{NoOrigin}
 use Rattle.fixing_files.specs.declared.faults.RowFault.{RowFault}
+use Rattle.flow_eval.specs.Readiness.{last_day}
 use Rattle.flow_eval.specs.FlowAnswers.{AreKnownFlows, reads_until}
 use Rattle.flow_eval.specs.Tables.{IsTable, paid_by}
 use Rattle.flow_eval.specs.declared.flow_table.FlowRow.{FlowRow}
@@ -30,7 +31,7 @@ use Rattle.contract_cli.specs.UsedContracts.{is_known, used}
 
 -- the greatest day that can be asked for
 abbrev pub greatest_day : ℤ
-greatest_day = pos 1_100_000
+greatest_day = pos last_day
 
 -- the day that a word names, from the start to a greatest
 abbrev pub IsDayAsked : Declarations → ℤ → List ℕ → ℤ → Type 0

@@ -10,6 +10,7 @@ ghost use Rattle.term_core.specs.Environments.{IsAdmitted};
 ghost use Rattle.contract_parse.specs.Names.{is_declared};
 ghost use Rattle.contract_print.specs.Spellable.{are_names};
 ghost use Rattle.contract_print.specs.Writable.{IsWritableTerm};
+ghost use Rattle.flow_eval.specs.Readiness.{last_day};
 ghost use Rattle.flow_eval.specs.Tables.{IsDueRow};
 ghost use Rattle.contract_cli.specs.AdvanceParts.{AnswersAdvance, AnswersNewDay, AnswersRest, AnswersRests, AppendsComments, AppendsDue, IsRestText};
 ghost use Rattle.contract_cli.specs.AdvancePromise.{rest_declarations};
@@ -53,7 +54,7 @@ fn append_comments(
     name: &[u8],
     table: &FlowTable,
 ) -> Result<(), NoMemory>
-    requires { All (IsDueRow (pos 0) (pos 1_100_000)) table.now.rows.items }
+    requires { All (IsDueRow (pos 0) (pos last_day)) table.now.rows.items }
     ensures { OnOk result (AppendsComments (declarations decls.now) name.now table.now.rows.items out.old.items out.new.items) }
 {
     for row in &table.rows {
@@ -86,7 +87,7 @@ fn keep(
     advanced: Advanced,
     left: &mut Left,
 ) -> Result<(), NoMemory>
-    requires due { All (IsDueRow (pos 0) (pos 1_100_000)) advanced.due.rows.items }
+    requires due { All (IsDueRow (pos 0) (pos last_day)) advanced.due.rows.items }
     requires name { is_declared (keys left.old.contracts) name.now ≡ false }
     ensures due { OnOk result (AppendsDue (declarations decls.now) name.now advanced.due.rows.items left.old left.new) }
     ensures rest { OnOk result (left.new.contracts.entries ≡ left.old.contracts.entries ++ (name.now, advanced.rest) ∷ []) }

@@ -7,6 +7,7 @@ ghost use Rattle.term_core.specs.Books.{book};
 ghost use Rattle.term_core.specs.Declarations.{declarations};
 ghost use Rattle.term_core.specs.Environments.{IsAdmitted};
 ghost use Rattle.term_core.specs.Terms.{contract};
+ghost use Rattle.flow_eval.specs.Readiness.{last_day};
 ghost use Rattle.flow_eval.specs.Tables.{IsDueRow};
 ghost use Rattle.contract_cli.specs.CheckPromise.{AreAllAccepted};
 ghost use Rattle.contract_cli.specs.FlowsParts.{AnswersFlows, AnswersLastDay, AnswersLines, AnswersLinesAsked, AnswersTable, AnswersTables, AppendsLines, IsShortTable};
@@ -21,12 +22,10 @@ use crate::used::{Used, know, used_contracts};
 use command_words::{DayWord, Flows};
 use decimal::NoMemory;
 use fixing_files::Fixings;
-use flow_eval::{FlowTable, flows};
+use flow_eval::{FlowTable, LAST_DAY, flows};
 use report::{flow_line, net};
 use std::alloc::Global;
 use term_core::{Contr, Decls, Portfolio};
-
-const LAST_DAY: u32 = 1_100_000;
 
 // The day of a word, or of none the last that there is.
 fn last_day(alloc: Global, decls: &Decls, until: Option<DayWord<'_>>) -> Result<i64, Stop>
@@ -46,7 +45,7 @@ fn append_table(
     name: &[u8],
     table: &FlowTable,
 ) -> Result<(), NoMemory>
-    requires { All (IsDueRow (pos 0) (pos 1_100_000)) table.now.rows.items }
+    requires { All (IsDueRow (pos 0) (pos last_day)) table.now.rows.items }
     ensures { OnOk result (AppendsLines (declarations decls.now) name.now table.now.rows.items out.old.items out.new.items) }
 {
     for row in &table.rows {
@@ -72,7 +71,7 @@ fn table_of(
     requires accepted { IsAccepted (declarations decls.now) (contract contr.now) }
     requires admitted { IsAdmitted (declarations decls.now) course.now.fixings.now }
     requires first { pos 0 ≤ℤ course.now.last }
-    requires last { course.now.last ≤ℤ pos 1_100_000 }
+    requires last { course.now.last ≤ℤ pos last_day }
     ensures { AnswersTable (declarations decls.now) (contract contr.now) course.now.fixings.now course.now.last result }
 {
     match flows(alloc, decls, contr, course.fixings, course.last) {
@@ -91,7 +90,7 @@ fn lines_of(
     requires accepted { AreAllAccepted (declarations decls.now) (entries_of ones.now) }
     requires admitted { IsAdmitted (declarations decls.now) course.now.fixings.now }
     requires first { pos 0 ≤ℤ course.now.last }
-    requires last { course.now.last ≤ℤ pos 1_100_000 }
+    requires last { course.now.last ≤ℤ pos last_day }
     ensures { AnswersLines (declarations decls.now) course.now.fixings.now course.now.last (entries_of ones.now) [] result }
 {
     let mut text = Vec::new(alloc);
@@ -112,7 +111,7 @@ fn tables_of(
     requires accepted { AreAllAccepted (declarations decls.now) (entries_of ones.now) }
     requires admitted { IsAdmitted (declarations decls.now) course.now.fixings.now }
     requires first { pos 0 ≤ℤ course.now.last }
-    requires last { course.now.last ≤ℤ pos 1_100_000 }
+    requires last { course.now.last ≤ℤ pos last_day }
     ensures { AnswersTables (declarations decls.now) course.now.fixings.now course.now.last (entries_of ones.now) [] result }
 {
     let mut tables = Vec::new(alloc);
@@ -133,7 +132,7 @@ fn sum_lines(
     requires accepted { AreAllAccepted (declarations decls.now) (entries_of ones.now) }
     requires admitted { IsAdmitted (declarations decls.now) course.now.fixings.now }
     requires first { pos 0 ≤ℤ course.now.last }
-    requires last { course.now.last ≤ℤ pos 1_100_000 }
+    requires last { course.now.last ≤ℤ pos last_day }
     ensures { AnswersLinesAsked true (declarations decls.now) course.now.fixings.now course.now.last (entries_of ones.now) result }
 {
     let tables = tables_of(alloc, decls, ones, course)?;
@@ -155,7 +154,7 @@ fn lines_asked(
     requires accepted { AreAllAccepted (declarations decls.now) (entries_of ones.now) }
     requires admitted { IsAdmitted (declarations decls.now) course.now.fixings.now }
     requires first { pos 0 ≤ℤ course.now.last }
-    requires last { course.now.last ≤ℤ pos 1_100_000 }
+    requires last { course.now.last ≤ℤ pos last_day }
     ensures { AnswersLinesAsked net (declarations decls.now) course.now.fixings.now course.now.last (entries_of ones.now) result }
 {
     if net {

@@ -3,6 +3,7 @@
 
 ghost use Rattle.std.specs.Prelude.{◌≡◌, ◌≤◌, pos};
 ghost use Rattle.term_core.specs.Declarations.{declarations};
+ghost use Rattle.flow_eval.specs.Readiness.{last_day};
 ghost use Rattle.contract_cli.specs.FlowsParts.{AnswersDay, AnswersFixings, IsShortTable, IsStopOf, day_in_range};
 ghost use Rattle.contract_cli.specs.FlowsPromise.{label_name};
 ghost use Rattle.command_words.specs.Arguments.{given_text};
@@ -34,7 +35,7 @@ pub fn day_asked(
     asked: DayWord<'_>,
     greatest: u32,
 ) -> Result<i64, Stop>
-    requires { greatest ≤ 1_100_000 }
+    requires { greatest ≤ last_day }
     ensures { AnswersDay (declarations decls.now) (pos greatest) asked.entry.word.now result }
 {
     match day_in_range(decls, place_day(decls.origin, asked.named), greatest) {

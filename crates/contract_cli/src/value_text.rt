@@ -21,15 +21,13 @@ use crate::value_names::{Parties, know_names, setting_of};
 use command_words::Value;
 use decimal::NoMemory;
 use fixing_files::{Curve, Fixings, RowErr, read_curve};
-use flow_eval::FlowErr;
+use flow_eval::{FlowErr, LAST_DAY};
 use payoff_check::check_code;
 use payoff_eval::{value, value_scratch};
 use payoff_lang::CodeFile;
 use report::{Fault, value_line};
 use std::alloc::Global;
 use term_core::{CheckErr, Decls, Missing, Setting};
-
-const LAST_DAY: u32 = 1_100_000;
 
 // What is asked of a code file: at which setting, on which day, between whom.
 #[derive(Clone, Copy)]

@@ -26,4 +26,4 @@ pub use laws::{one_answer, one_table};
 pub use netting::netted;
 pub use payments::{Payment, Transfer, payment_on};
 pub use shared_tables::flows_shared;
-pub use tables::{flows, flows_on};
+pub use tables::{LAST_DAY, flows, flows_on};

@@ -18,6 +18,9 @@ use fixing_files::Fixings;
 use std::alloc::Global;
 use term_core::{Contr, Decls};
 
+/// The last day that a contract on a day can reach.
+pub const LAST_DAY: u32 = 1_100_000;
+
 // The payments up to the last day of a contract that stands on a day.
 fn payments_on(
     alloc: Global,

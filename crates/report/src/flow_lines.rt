@@ -5,6 +5,7 @@ ghost use Rattle.decimal.specs.Appending.{AppendsPart};
 ghost use Rattle.term_core.specs.Dates.{epoch_day_of};
 ghost use Rattle.term_core.specs.Declarations.{declarations};
 ghost use Rattle.interval_check.specs.Safety.{IsSmall};
+ghost use Rattle.flow_eval.specs.Readiness.{last_day};
 ghost use Rattle.report.specs.Pieces.{piece_text, IsWritable};
 ghost use Rattle.report.specs.FlowLines.{AppendsFlowLine, AppendsPartOfLine, IsOrigin, line_on, name_at};
 
@@ -65,7 +66,7 @@ fn append_line<'a>(
 fn date_of(origin: i64, day: i64) -> [u8; 10]
     requires origin { IsOrigin origin }
     requires first { pos 0 ≤ℤ day }
-    requires last { day ≤ℤ pos 1_100_000 }
+    requires last { day ≤ℤ pos last_day }
     ensures { epoch_day_of result ≡ Some (origin +ℤ day) }
 {
     date_text(origin + day)
@@ -82,7 +83,7 @@ pub fn flow_line(
     row: &FlowRow,
 ) -> Result<(), NoMemory>
     requires first { pos 0 ≤ℤ row.now.day }
-    requires last { row.now.day ≤ℤ pos 1_100_000 }
+    requires last { row.now.day ≤ℤ pos last_day }
     requires amount { IsSmall row.now.amount }
     ensures ok { OnOk result (AppendsFlowLine (declarations decls.now) name.now row.now out.old.items out.new.items) }
     ensures err { OnErr result (AppendsPartOfLine (declarations decls.now) name.now row.now out.old.items out.new.items) }

@@ -18,7 +18,8 @@ use Rattle.flow_eval.specs.Tables.{IsPaid, IsTable, flow_in, paid_by, IsMutual}
 use Rattle.flow_eval.specs.declared.flow_table.FlowRow.{FlowRow}
 use Rattle.report.specs.SumTables.{IsSummable}
 use Rattle.sample.specs.Sample.{HoldSame, IsOfSample, sample_contract, sample_declarations, sample_fixings}
-use Rattle.sample.specs.Days.{last_day, over_days, sum_before}
+use Rattle.flow_eval.specs.Readiness.{last_day}
+use Rattle.sample.specs.Days.{over_days, sum_before}
 use Rattle.sample.specs.Summary.{AreRowsOf, paid_of}
 use Rattle.sample.proofs.AcceptedFacts.{sample_accepted}
 use Rattle.sample.proofs.DaySums.{sum_before-size}

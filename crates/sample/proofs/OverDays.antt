@@ -21,7 +21,8 @@ use Rattle.flow_eval.proofs.PaymentFacts.{Counts}
 use Rattle.flow_eval.proofs.SumFacts.{share, sum_at, sum_at-permutation}
 use Rattle.report.specs.SumTables.{IsSummable, payment_of}
 use Rattle.report.proofs.SumFacts.{rows_count, sum_is, tables_sizes}
-use Rattle.sample.specs.Days.{IsOverDays, last_day, over_days, sum_before, undated}
+use Rattle.flow_eval.specs.Readiness.{last_day}
+use Rattle.sample.specs.Days.{IsOverDays, over_days, sum_before, undated}
 use Rattle.sample.proofs.DaySums.{on_one_day, sum_before-most, sum_before-neg, sum_before-plus, sum_before-same, sum_before-zero}
 
 -- what payments come to at a slot, by what each amount counts for

@@ -3,6 +3,7 @@
 use Rattle.std.specs.Prelude.{ℕ, zero, suc, ℤ, pos, ◌+ℤ◌, List}
 use Rattle.std.specs.List.{All}
 use Rattle.term_core.specs.Flows.{Flow}
+use Rattle.flow_eval.specs.Readiness.{last_day}
 use Rattle.flow_eval.specs.Payments.{payment_on}
 use Rattle.flow_eval.specs.Tables.{IsDueRow, IsTable, IsMutual}
 use Rattle.flow_eval.specs.declared.flow_table.FlowRow.{FlowRow}
@@ -12,10 +13,6 @@ use Rattle.flow_eval.specs.declared.payments.Payment.{Payment}
 unfoldable pub sum_before : ℕ → (ℕ → ℤ) → ℤ
 sum_before zero f = pos 0
 sum_before (suc n) f = sum_before n f +ℤ f n
-
--- the last day on which something can be paid
-abbrev pub last_day : ℕ
-last_day = 1_100_000
 
 -- rows on the days from 0 to the last; and rows of what is paid over all, on day 0
 abbrev pub AreDue : List FlowRow → Type 0

@@ -13,7 +13,8 @@ use Rattle.report.specs.FlowLines.{behind_payer, name_at}
 use Rattle.report.specs.Pieces.{number_text}
 use Rattle.report.specs.SumTables.{together}
 use Rattle.sample.specs.Sample.{sample_contract, sample_declarations, sample_fixings}
-use Rattle.sample.specs.Days.{last_day, over_days}
+use Rattle.flow_eval.specs.Readiness.{last_day}
+use Rattle.sample.specs.Days.{over_days}
 
 -- what a contract of the sample pays on a day from one party to another in an asset
 abbrev pub paid_of : Contract → ℤ → Flow → ℤ

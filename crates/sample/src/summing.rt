@@ -16,12 +16,10 @@ use crate::fixed::sample_fixings;
 use crate::lines::summary_text;
 use decimal::NoMemory;
 use fixing_files::Fixings;
-use flow_eval::{FlowErr, FlowTable, flows};
+use flow_eval::{FlowErr, FlowTable, LAST_DAY, flows};
 use report::net;
 use std::alloc::Global;
 use term_core::{Contr, Decls};
-
-const LAST_DAY: i64 = 1_100_000;
 
 // The flow table of a contract of the sample. No read of it lacks a fixing.
 fn table_of(
@@ -37,7 +35,7 @@ fn table_of(
     ensures rows { IfOk result (λ table. AreRowsOf (contract contr.now) table.rows.items) }
     ensures due { IfOk result (λ table. AreDue table.rows.items) }
 {
-    match flows(alloc, decls, contr, fixings, LAST_DAY) {
+    match flows(alloc, decls, contr, fixings, LAST_DAY as i64) {
         Ok(table) => Ok(table),
         Err(FlowErr::NoMemory) => Err(NoMemory),
         Err(FlowErr::Missing { .. }) => unreachable!(),
