@@ -12,7 +12,7 @@ pub fn line_at(bytes: &[u8], at: usize) -> u32
     requires small { length bytes.now ≤ 16_777_216 }
     ensures { result ≡ line_at bytes.now at }
 {
-    let before = bytes[..at].iter().filter(|b| **b == 10).count();
+    let before = bytes[..at].iter().filter(|b| **b == b'\n').count();
     1 + before as u32
 }
 
@@ -20,7 +20,7 @@ fn last_line_len(bytes: &[u8]) -> usize
     ensures value { result ≡ prefix_len (λ b. not (b == 10)) (reverse bytes.now) }
     ensures within { result ≤ length bytes.now }
 {
-    bytes.iter().rev().take_while(|b| **b != 10).count()
+    bytes.iter().rev().take_while(|b| **b != b'\n').count()
 }
 
 /// The column of a position, from 1.

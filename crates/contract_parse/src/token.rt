@@ -35,13 +35,13 @@ const LONGEST_WORD: usize = 64;
 pub fn is_letter(b: u8) -> bool
     ensures { result ≡ is_letter b }
 {
-    (97 <= b && b <= 122) || (65 <= b && b <= 90) || b == 95
+    b.is_ascii_alphabetic() || b == b'_'
 }
 
 fn is_digit(b: u8) -> bool
     ensures { result ≡ is_digit b }
 {
-    48 <= b && b <= 57
+    b.is_ascii_digit()
 }
 
 /// Whether a byte may stand in a word: a letter, `_` or a digit.
@@ -54,7 +54,7 @@ pub fn is_word_byte(b: u8) -> bool
 fn is_blank(b: u8) -> bool
     ensures { result ≡ is_blank b }
 {
-    b == 32 || b == 9 || b == 13 || b == 10
+    matches!(b, b' ' | b'\t' | b'\r' | b'\n')
 }
 
 /// The bytes after the blanks and the comments.

@@ -146,7 +146,7 @@ pub fn is_number(token: &Lexeme<'_>) -> bool
 fn has_no_point(text: &[u8]) -> bool
     ensures { result ≡ list_all (λ b. not (b == 46)) text.now }
 {
-    text.iter().all(|b| *b != 46)
+    text.iter().all(|b| *b != b'.')
 }
 
 /// A number without a point.
