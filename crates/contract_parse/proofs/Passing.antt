@@ -1,19 +1,32 @@
 -- What is spelled as one token is taken at its place.
-use Rattle.std.proofs.Common.{◌≡◌, Bool, true, false, ◌&&◌, Result, Ok, List, [], ◌∷◌, refl, sym, ap, subst}
+use Rattle.std.proofs.Common.{◌≡◌, Bool, true, false, ◌&&◌, Result, Ok, Err, IsErrAnd, List, [], ◌∷◌, refl, sym, ap, subst}
 use Rattle.std.specs.Str.{bytes_eq}
 use Rattle.std.proofs.lemmas.Slice.Eq.{bytes_eq-Decides}
 use Rattle.std.proofs.lemmas.Bool.{false≢true}
+use Rattle.std.proofs.lemmas.Result.{err_from_is_err_and}
 use Rattle.contract_parse.specs.Tokens.{Tok}
 use Rattle.contract_parse.specs.Words.{Bytes, is_end, is_end_kind, is_mark_kind, is_name, is_number, is_number_kind, is_the_mark, is_the_word, is_word_kind}
 use Rattle.contract_parse.specs.Names.{DeclaredNames}
-use Rattle.contract_parse.specs.Spelling.{mark, one, valued, word}
+use Rattle.contract_parse.specs.Spelling.{Part, mark, one, valued, word}
 use Rattle.contract_parse.specs.Places.{Place, TheMark, TheWord, Next, Open, run, step}
 use Rattle.contract_parse.specs.Reading.{LacksMark}
+use Rattle.contract_parse.specs.Readers.{Ahead, Going, ReadsAhead}
+use Rattle.contract_parse.specs.declared.faults.ReadErr.{ReadErr}
 use Rattle.contract_parse.proofs.Steps.{run-next}
 use Rattle.contract_parse.specs.declared.token.Kind.{Kind}
 use Rattle.contract_parse.specs.declared.token.Kind.TheVariants.{Word, Number, Date, Mark, End, Stray}
 use Rattle.contract_parse.specs.declared.faults.TextKind.{TextKind}
 use Rattle.contract_parse.proofs.EntryFacts.{and_parts}
+
+-- a reader that stops at a fault keeps its promise by the fault alone
+pub stopped : {X : Type 0} {Goes : Going X} {part : X → Part} {behind : X → Ahead} {from : Ahead} {e : ReadErr}
+    → Goes (λ r. (behind r).toks) from.toks (Err e) → ReadsAhead Goes part behind from (Err e)
+stopped follows = record { follows = follows; spelled = tt; shorter = tt }
+
+-- the same of a fault that is handed on
+pub stopped_at : {X : Type 0} {Goes : Going X} {part : X → Part} {behind : X → Ahead} {from : Ahead} (e : ReadErr) (result : Result X ReadErr)
+    → IsErrAnd result (λ y. y ≡ e) → Goes (λ r. (behind r).toks) from.toks (Err e) → ReadsAhead Goes part behind from result
+stopped_at e result is follows = let p = err_from_is_err_and result is in rw (p.1, p.2) (stopped follows)
 
 pub run-end : (s : DeclaredNames) (ps : List Place) → run s ps [] ≡ Open ps
 unfolding run

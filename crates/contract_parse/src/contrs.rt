@@ -9,7 +9,7 @@ ghost use Rattle.contract_parse.specs.Judgements.{days_at};
 ghost use Rattle.contract_parse.specs.Spelling.{contr, mark, valued, word, ◌⨟◌};
 ghost use Rattle.contract_parse.specs.Places.{ContrAt, DaysAt, ExprAt, TheMark, TheWord, contr_places};
 ghost use Rattle.contract_parse.specs.Reading.{declared_in};
-ghost use Rattle.contract_parse.specs.Readers.{Passes, PassesAnywhere, Spelled, SpelledBehind, SpelledBehindPart, behind_head, contract_in, expression_in, first_token_of_contract};
+ghost use Rattle.contract_parse.specs.Readers.{ForEach, Passes, PassesAnywhere, Reads, behind_head, behind_part, behind_word, contract_in, each, expression_in, first_token_of_contract};
 ghost use Rattle.contract_parse.specs.declared.heads.Language.{Language};
 
 use crate::exprs::read_expr;
@@ -29,9 +29,8 @@ fn read_days_within<'a>(
     rest: &'a [u8],
 ) -> Result<(Days, &'a [u8]), ReadErr>
     requires { index_map_len templates.now < 2 ^ 32 }
-    ensures follows { PassesAnywhere (λ r. r.1.now) (λ ps. TheWord (codes "within") ∷ DaysAt (keys templates.now) ∷ ps) rest.now result }
-    ensures spelled { IfOk result (λ r. Spelled (word (codes "within") ⨟ valued (days_at (keys templates.now)) r.0) rest.now r.1.now) }
-    ensures shorter { IfOk result (λ r. length r.1.now ≤ length rest.now) }
+    ensures reads { Reads (PassesAnywhere (λ ps. TheWord (codes "within") ∷ DaysAt (keys templates.now) ∷ ps))
+        (λ r. word (codes "within") ⨟ valued (days_at (keys templates.now)) r.0) (λ r. r.1.now) rest.now result }
 {
     let rest = skip_word(rest, b"within")?;
     read_days(templates, rest)
@@ -40,12 +39,11 @@ fn read_days_within<'a>(
 // What stands behind `pay`.
 #[tactic(auto, using(crate::proofs::Parts::followed_by))]
 fn read_pay<'a>(decls: &Decls, rest: &'a [u8]) -> Result<(Contr, &'a [u8]), ReadErr>
-    ensures follows { (depth : ℕ) (names : List Bytes) →
-        Passes decls.now (λ r. r.1.now) (λ s ps. contr_places s depth names Head.Pay ps) rest.now result }
-    ensures spelled { IfOk result (λ r. (names : List Bytes) →
-        SpelledBehind (codes "pay") (contr (declared_in decls.now []) names (contract r.0)) rest.now r.1.now) }
+    ensures reads { Reads (ForEach (λ (depth : ℕ). ForEach (λ (names : List Bytes).
+        Passes decls.now (λ s ps. contr_places s depth names Head.Pay ps))))
+        (λ r. each (λ (names : List Bytes). behind_word (codes "pay") (contr (declared_in decls.now []) names (contract r.0))))
+        (λ r. r.1.now) rest.now result }
     ensures high { IfOk result (λ r. height_of_contract (contract r.0) ≡ 1) }
-    ensures shorter { IfOk result (λ r. length r.1.now ≤ length rest.now) }
 {
     let (asset, rest) = read_use_behind(b"(", &decls.assets, rest)?;
     let (from, rest) = read_use_behind(b",", &decls.parties, rest)?;
@@ -65,12 +63,9 @@ fn read_factor<'a>(
 ) -> Result<(Expr, &'a [u8]), ReadErr>
     requires shallow { depth ≤ 200 }
     requires bound { length (names_in bound.now) < depth }
-    ensures follows { Passes decls.now (λ r. r.1.now)
-        (λ s ps. TheMark (codes "(") ∷ ExprAt Language.Contracts (depth + 1) (names_in bound.now) ∷ ps) rest.now result }
-    ensures spelled { IfOk result
-        (λ r. Spelled (mark (codes "(") ⨟ expression_in Language.Contracts decls.now bound.now r.0) rest.now r.1.now) }
+    ensures reads { Reads (Passes decls.now (λ s ps. TheMark (codes "(") ∷ ExprAt Language.Contracts (depth + 1) (names_in bound.now) ∷ ps))
+        (λ r. mark (codes "(") ⨟ expression_in Language.Contracts decls.now bound.now r.0) (λ r. r.1.now) rest.now result }
     ensures high { IfOk result (λ r. height (expression r.0) + depth ≤ 200) }
-    ensures shorter { IfOk result (λ r. length r.1.now ≤ length rest.now) }
 {
     let rest = skip_mark(rest, b"(")?;
     read_expr(alloc, Language::Contracts, decls, bound, depth + 1, rest)
@@ -87,10 +82,9 @@ fn read_boxed<'a>(
 ) -> Result<(Box<Contr>, &'a [u8]), ReadErr>
     requires shallow { depth ≤ 200 }
     requires bound { length (names_in bound.now) ≤ depth }
-    ensures follows { Passes decls.now (λ r. r.1.now) (λ s ps. ContrAt (depth + 1) (names_in bound.now) ∷ ps) rest.now result }
-    ensures spelled { IfOk result (λ r. Spelled (contract_in decls.now bound.now r.0.value) rest.now r.1.now) }
+    ensures reads { Reads (Passes decls.now (λ s ps. ContrAt (depth + 1) (names_in bound.now) ∷ ps))
+        (λ r. contract_in decls.now bound.now r.0.value) (λ r. r.1.now) rest.now result }
     ensures high { IfOk result (λ r. height_of_contract (contract r.0.value) + depth ≤ 200) }
-    ensures shorter { IfOk result (λ r. length r.1.now ≤ length rest.now) }
 {
     let (of, rest) = read_contr(alloc, decls, bound, depth + 1, rest)?;
     let of = Box::new(alloc, of)?;
@@ -110,11 +104,9 @@ fn read_behind_mark<'a>(
 ) -> Result<(Box<Contr>, &'a [u8]), ReadErr>
     requires shallow { depth ≤ 200 }
     requires bound { length (names_in bound.now) ≤ depth }
-    ensures follows { Passes decls.now (λ r. r.1.now)
-        (λ s ps. TheMark wanted.now ∷ ContrAt (depth + 1) (names_in bound.now) ∷ ps) rest.now result }
-    ensures spelled { IfOk result (λ r. Spelled (mark wanted.now ⨟ contract_in decls.now bound.now r.0.value) rest.now r.1.now) }
+    ensures reads { Reads (Passes decls.now (λ s ps. TheMark wanted.now ∷ ContrAt (depth + 1) (names_in bound.now) ∷ ps))
+        (λ r. mark wanted.now ⨟ contract_in decls.now bound.now r.0.value) (λ r. r.1.now) rest.now result }
     ensures high { IfOk result (λ r. height_of_contract (contract r.0.value) + depth ≤ 200) }
-    ensures shorter { IfOk result (λ r. length r.1.now ≤ length rest.now) }
 {
     let rest = skip_mark(rest, wanted)?;
     read_boxed(alloc, decls, bound, depth, rest)
@@ -133,11 +125,9 @@ fn read_behind_word<'a>(
 ) -> Result<(Box<Contr>, &'a [u8]), ReadErr>
     requires shallow { depth ≤ 200 }
     requires bound { length (names_in bound.now) ≤ depth }
-    ensures follows { Passes decls.now (λ r. r.1.now)
-        (λ s ps. TheWord wanted.now ∷ ContrAt (depth + 1) (names_in bound.now) ∷ ps) rest.now result }
-    ensures spelled { IfOk result (λ r. Spelled (word wanted.now ⨟ contract_in decls.now bound.now r.0.value) rest.now r.1.now) }
+    ensures reads { Reads (Passes decls.now (λ s ps. TheWord wanted.now ∷ ContrAt (depth + 1) (names_in bound.now) ∷ ps))
+        (λ r. word wanted.now ⨟ contract_in decls.now bound.now r.0.value) (λ r. r.1.now) rest.now result }
     ensures high { IfOk result (λ r. height_of_contract (contract r.0.value) + depth ≤ 200) }
-    ensures shorter { IfOk result (λ r. length r.1.now ≤ length rest.now) }
 {
     let rest = skip_word(rest, wanted)?;
     read_boxed(alloc, decls, bound, depth, rest)
@@ -155,15 +145,13 @@ fn read_branches<'a>(
 ) -> Result<(Box<Contr>, Box<Contr>, &'a [u8]), ReadErr>
     requires shallow { depth ≤ 200 }
     requires bound { length (names_in bound.now) ≤ depth }
-    ensures follows { Passes decls.now (λ r. r.2.now)
-        (λ s ps. TheWord (codes "then") ∷ ContrAt (depth + 1) (names_in bound.now)
-        ∷ TheWord (codes "else") ∷ ContrAt (depth + 1) (names_in bound.now) ∷ ps) rest.now result }
-    ensures spelled { IfOk result
-        (λ r. Spelled (word (codes "then") ⨟ contract_in decls.now bound.now r.0.value
-        ⨟ word (codes "else") ⨟ contract_in decls.now bound.now r.1.value) rest.now r.2.now) }
+    ensures reads { Reads (Passes decls.now (λ s ps. TheWord (codes "then") ∷ ContrAt (depth + 1) (names_in bound.now)
+        ∷ TheWord (codes "else") ∷ ContrAt (depth + 1) (names_in bound.now) ∷ ps))
+        (λ r. word (codes "then") ⨟ contract_in decls.now bound.now r.0.value
+        ⨟ word (codes "else") ⨟ contract_in decls.now bound.now r.1.value)
+        (λ r. r.2.now) rest.now result }
     ensures high { IfOk result
         (λ r. max (height_of_contract (contract r.0.value)) (height_of_contract (contract r.1.value)) + depth ≤ 200) }
-    ensures shorter { IfOk result (λ r. length r.2.now ≤ length rest.now) }
 {
     let (hit, rest) = read_behind_word(alloc, decls, bound, depth, b"then", rest)?;
     let (miss, rest) = read_behind_word(alloc, decls, bound, depth, b"else", rest)?;
@@ -182,10 +170,9 @@ fn read_both<'a>(
 ) -> Result<(Contr, &'a [u8]), ReadErr>
     requires shallow { depth ≤ 200 }
     requires bound { length (names_in bound.now) < depth }
-    ensures follows { Passes decls.now (λ r. r.1.now) (behind_head depth bound.now Head.Both) rest.now result }
-    ensures spelled { IfOk result (λ r. SpelledBehind (codes "both") (contract_in decls.now bound.now r.0) rest.now r.1.now) }
+    ensures reads { Reads (Passes decls.now (behind_head depth bound.now Head.Both))
+        (λ r. behind_word (codes "both") (contract_in decls.now bound.now r.0)) (λ r. r.1.now) rest.now result }
     ensures high { IfOk result (λ r. height_of_contract (contract r.0) + depth ≤ 201) }
-    ensures shorter { IfOk result (λ r. length r.1.now ≤ length rest.now) }
 {
     let (left, rest) = read_behind_mark(alloc, decls, bound, depth, b"(", rest)?;
     let (right, rest) = read_behind_mark(alloc, decls, bound, depth, b",", rest)?;
@@ -205,10 +192,9 @@ fn read_scaled<'a>(
 ) -> Result<(Contr, &'a [u8]), ReadErr>
     requires shallow { depth ≤ 200 }
     requires bound { length (names_in bound.now) < depth }
-    ensures follows { Passes decls.now (λ r. r.1.now) (behind_head depth bound.now Head.Scale) rest.now result }
-    ensures spelled { IfOk result (λ r. SpelledBehind (codes "scale") (contract_in decls.now bound.now r.0) rest.now r.1.now) }
+    ensures reads { Reads (Passes decls.now (behind_head depth bound.now Head.Scale))
+        (λ r. behind_word (codes "scale") (contract_in decls.now bound.now r.0)) (λ r. r.1.now) rest.now result }
     ensures high { IfOk result (λ r. height_of_contract (contract r.0) + depth ≤ 201) }
-    ensures shorter { IfOk result (λ r. length r.1.now ≤ length rest.now) }
 {
     let (factor, rest) = read_factor(alloc, decls, bound, depth, rest)?;
     let (body, rest) = read_behind_mark(alloc, decls, bound, depth, b",", rest)?;
@@ -228,10 +214,9 @@ fn read_after<'a>(
 ) -> Result<(Contr, &'a [u8]), ReadErr>
     requires shallow { depth ≤ 200 }
     requires bound { length (names_in bound.now) < depth }
-    ensures follows { Passes decls.now (λ r. r.1.now) (behind_head depth bound.now Head.After) rest.now result }
-    ensures spelled { IfOk result (λ r. SpelledBehind (codes "after") (contract_in decls.now bound.now r.0) rest.now r.1.now) }
+    ensures reads { Reads (Passes decls.now (behind_head depth bound.now Head.After))
+        (λ r. behind_word (codes "after") (contract_in decls.now bound.now r.0)) (λ r. r.1.now) rest.now result }
     ensures high { IfOk result (λ r. height_of_contract (contract r.0) + depth ≤ 201) }
-    ensures shorter { IfOk result (λ r. length r.1.now ≤ length rest.now) }
 {
     let rest = skip_mark(rest, b"(")?;
     let (days, rest) = read_days(&decls.templates, rest)?;
@@ -252,10 +237,9 @@ fn read_let<'a>(
 ) -> Result<(Contr, &'a [u8]), ReadErr>
     requires shallow { depth ≤ 200 }
     requires bound { length (names_in bound.now) < depth }
-    ensures follows { Passes decls.now (λ r. r.1.now) (behind_head depth bound.now Head.Let) rest.now result }
-    ensures spelled { IfOk result (λ r. SpelledBehind (codes "let") (contract_in decls.now bound.now r.0) rest.now r.1.now) }
+    ensures reads { Reads (Passes decls.now (behind_head depth bound.now Head.Let))
+        (λ r. behind_word (codes "let") (contract_in decls.now bound.now r.0)) (λ r. r.1.now) rest.now result }
     ensures high { IfOk result (λ r. height_of_contract (contract r.0) + depth ≤ 201) }
-    ensures shorter { IfOk result (λ r. length r.1.now ≤ length rest.now) }
 {
     let (name, rest) = read_binder(rest)?;
     let rest = skip_mark(rest, b"=")?;
@@ -280,10 +264,9 @@ fn read_within<'a>(
 ) -> Result<(Contr, &'a [u8]), ReadErr>
     requires shallow { depth ≤ 200 }
     requires bound { length (names_in bound.now) < depth }
-    ensures follows { Passes decls.now (λ r. r.1.now) (behind_head depth bound.now Head.If) rest.now result }
-    ensures spelled { IfOk result (λ r. SpelledBehind (codes "if") (contract_in decls.now bound.now r.0) rest.now r.1.now) }
+    ensures reads { Reads (Passes decls.now (behind_head depth bound.now Head.If))
+        (λ r. behind_word (codes "if") (contract_in decls.now bound.now r.0)) (λ r. r.1.now) rest.now result }
     ensures high { IfOk result (λ r. height_of_contract (contract r.0) + depth ≤ 201) }
-    ensures shorter { IfOk result (λ r. length r.1.now ≤ length rest.now) }
 {
     let (test, rest) = read_expr(alloc, Language::Contracts, decls, bound, depth + 1, rest)?;
     let (days, rest) = read_days_within(&decls.templates, rest)?;
@@ -311,11 +294,9 @@ fn read_behind_head<'a>(
 ) -> Result<(Contr, &'a [u8]), ReadErr>
     requires shallow { depth ≤ 200 }
     requires bound { length (names_in bound.now) < depth }
-    ensures follows { Passes decls.now (λ r. r.1.now) (behind_head depth bound.now head) rest.now result }
-    ensures spelled { IfOk result
-        (λ r. SpelledBehindPart (first_token_of_contract head) (contract_in decls.now bound.now r.0) rest.now r.1.now) }
+    ensures reads { Reads (Passes decls.now (behind_head depth bound.now head))
+        (λ r. behind_part (first_token_of_contract head) (contract_in decls.now bound.now r.0)) (λ r. r.1.now) rest.now result }
     ensures high { IfOk result (λ r. height_of_contract (contract r.0) + depth ≤ 201) }
-    ensures shorter { IfOk result (λ r. length r.1.now ≤ length rest.now) }
 {
     match head {
         Head::Zero => Ok((Contr::Zero, rest)),
@@ -339,10 +320,9 @@ pub fn read_contr<'a>(
 ) -> Result<(Contr, &'a [u8]), ReadErr>
     requires shallow { depth ≤ 201 }
     requires bound { length (names_in bound.now) < depth }
-    ensures follows { Passes decls.now (λ r. r.1.now) (λ s ps. ContrAt depth (names_in bound.now) ∷ ps) rest.now result }
-    ensures spelled { IfOk result (λ r. Spelled (contract_in decls.now bound.now r.0) rest.now r.1.now) }
+    ensures reads { Reads (Passes decls.now (λ s ps. ContrAt depth (names_in bound.now) ∷ ps))
+        (λ r. contract_in decls.now bound.now r.0) (λ r. r.1.now) rest.now result }
     ensures high { IfOk result (λ r. height_of_contract (contract r.0) + depth ≤ 201) }
-    ensures shorter { IfOk result (λ r. length r.1.now ≤ length rest.now) }
 {
     let (token, after) = next(rest);
     match head_at(depth, &token) {

@@ -3,7 +3,7 @@ ghost use Rattle.std.specs.Prelude.{◌≡◌, ◌≤◌, ◌∷◌, IfOk, lengt
 ghost use Rattle.indexmap.specs.IndexMap.{keys};
 ghost use Rattle.contract_parse.specs.Spelling.{DateFrom, SomeDate, SomeTemplates};
 ghost use Rattle.contract_parse.specs.Places.{MoreTemplates, date_places};
-ghost use Rattle.contract_parse.specs.Readers.{Passes, Spelled};
+ghost use Rattle.contract_parse.specs.Readers.{Passes, Reads};
 
 use crate::faults::ReadErr;
 use crate::readers::{after_mark, read_date_number, read_use_of_map};
@@ -13,9 +13,8 @@ use term_core::Decls;
 
 // The templates of a date, as many as stand here.
 fn skip_templates<'a>(decls: &Decls, rest: &'a [u8]) -> Result<&'a [u8], ReadErr>
-    ensures follows { Passes decls.now (λ r. r.now) (λ s ps. MoreTemplates ∷ ps) rest.now result }
-    ensures spelled { IfOk result (λ r. Spelled (SomeTemplates (keys decls.now.templates)) rest.now r.now) }
-    ensures shorter { IfOk result (λ r. length r.now ≤ length rest.now) }
+    ensures reads { Reads (Passes decls.now (λ s ps. MoreTemplates ∷ ps))
+        (λ r. SomeTemplates (keys decls.now.templates)) (λ r. r.now) rest.now result }
 {
     let mut rest = rest;
     while let Some(after) = after_mark(rest, b"+") {
@@ -27,9 +26,8 @@ fn skip_templates<'a>(decls: &Decls, rest: &'a [u8]) -> Result<&'a [u8], ReadErr
 
 /// The text behind a date.
 pub fn skip_date<'a>(decls: &Decls, rest: &'a [u8]) -> Result<&'a [u8], ReadErr>
-    ensures follows { Passes decls.now (λ r. r.now) (λ s ps. date_places ps) rest.now result }
-    ensures spelled { IfOk result (λ r. Spelled (SomeDate (keys decls.now.templates)) rest.now r.now) }
-    ensures shorter { IfOk result (λ r. length r.now ≤ length rest.now) }
+    ensures reads { Reads (Passes decls.now (λ s ps. date_places ps))
+        (λ r. SomeDate (keys decls.now.templates)) (λ r. r.now) rest.now result }
 {
     let (_, rest) = read_date_number(rest)?;
     skip_templates(decls, rest)
@@ -51,9 +49,8 @@ pub fn read_bytes_left_at_date<'a>(
     decls: &Decls,
     rest: &'a [u8],
 ) -> Result<(i32, &'a [u8]), ReadErr>
-    ensures follows { Passes decls.now (λ r. r.1.now) (λ s ps. date_places ps) rest.now result }
-    ensures spelled { IfOk result (λ r. Spelled (DateFrom (keys decls.now.templates) r.0) rest.now r.1.now) }
-    ensures shorter { IfOk result (λ r. length r.1.now ≤ length rest.now) }
+    ensures reads { Reads (Passes decls.now (λ s ps. date_places ps))
+        (λ r. DateFrom (keys decls.now.templates) r.0) (λ r. r.1.now) rest.now result }
 {
     let (token, _) = next(rest);
     let left = as_offset(token.left)?;

@@ -11,7 +11,7 @@ ghost use Rattle.contract_parse.specs.Judgements.{integer_at};
 ghost use Rattle.contract_parse.specs.Statements.{Entry, NameList, Repeat, decls, name_lines, origin_line, start_line, template_line};
 ghost use Rattle.contract_parse.specs.Places.{IntegerAt, Leaves, MoreNames, NameLines, NewIn, OriginLine, Place, StartLine, TemplateLines, TheMark, TheWord, decls_places, run, template_places};
 ghost use Rattle.contract_parse.specs.Reading.{tokens_ahead};
-ghost use Rattle.contract_parse.specs.Readers.{Declares, DeclaresLines, PassesAnywhere, PassesLine, Spelled, SpelledBehind};
+ghost use Rattle.contract_parse.specs.Readers.{Declares, Extends, ForEach, PassesAnywhere, Reads, ReadsAhead, ahead_from, ahead_in, behind_word};
 ghost use Rattle.contract_parse.specs.declared.names.NameSet.{NameSet};
 ghost use Rattle.contract_parse.specs.declared.names.NameSet.TheVariants.{Asset, Party, Template};
 
@@ -27,9 +27,8 @@ use std::alloc::Global;
 use term_core::{Decls, Name};
 
 fn read_origin<'a>(ahead: &Lookahead<'a>) -> Result<(Option<i64>, Lookahead<'a>), ReadErr>
-    ensures follows { PassesLine (λ r. r.1) OriginLine ahead.now result }
-    ensures spelled { IfOk result (λ r. origin_line r.0 (tokens_ahead ahead.now) (tokens_ahead r.1)) }
-    ensures shorter { IfOk result (λ r. length r.1.after.now ≤ length ahead.now.after.now) }
+    ensures reads { ReadsAhead (PassesAnywhere (λ ps. OriginLine ∷ ps))
+        (λ r. origin_line r.0) (λ r. ahead_from r.1) (ahead_from ahead.now) result }
     ensures limits { IfOk result (λ r. is_origin r.0 ≡ true) }
 {
     match after_word(ahead, b"origin") {
@@ -43,9 +42,8 @@ fn read_origin<'a>(ahead: &Lookahead<'a>) -> Result<(Option<i64>, Lookahead<'a>)
 }
 
 fn read_start<'a>(ahead: &Lookahead<'a>) -> Result<(u32, Lookahead<'a>), ReadErr>
-    ensures follows { PassesLine (λ r. r.1) StartLine ahead.now result }
-    ensures spelled { IfOk result (λ r. start_line r.0 (tokens_ahead ahead.now) (tokens_ahead r.1)) }
-    ensures shorter { IfOk result (λ r. length r.1.after.now ≤ length ahead.now.after.now) }
+    ensures reads { ReadsAhead (PassesAnywhere (λ ps. StartLine ∷ ps))
+        (λ r. start_line r.0) (λ r. ahead_from r.1) (ahead_from ahead.now) result }
     ensures limits { IfOk result (λ r. r.0 ≤ 1_000_000) }
 {
     match after_word(ahead, b"start") {
@@ -64,9 +62,10 @@ fn read_name_list<'a>(
     names: &mut IndexSet<Name>,
     rest: &'a [u8],
 ) -> Result<&'a [u8], ReadErr>
-    ensures follows { (set : NameSet) →
-        Declares set names.old.keys (λ r. names.new.keys) (λ r. r.now) (λ ps. NewIn set ∷ MoreNames set ∷ ps) rest.now result }
-    ensures spelled { IfOk result (λ r. Spelled (NameList names.old.keys names.new.keys) rest.now r.now) }
+    ensures reads { Reads (ForEach (λ (set : NameSet).
+        Declares set names.old.keys (λ r. names.new.keys) (λ ps. NewIn set ∷ MoreNames set ∷ ps)))
+        (λ r. NameList names.old.keys names.new.keys)
+        (λ r. r.now) rest.now result }
     ensures shorter { IfOk result (λ r. length r.now < length rest.now) }
     ensures few { IfOk result (λ r. index_set_len names.new + length r.now ≤ index_set_len names.old + length rest.now) }
 {
@@ -86,8 +85,8 @@ fn read_names<'a>(
     word: &[u8],
     ahead: &Lookahead<'a>,
 ) -> Result<(IndexSet<Name>, Lookahead<'a>), ReadErr>
-    ensures follows { (set : NameSet) → DeclaresLines set (λ r. r.0.keys) (λ r. r.1) (NameLines word.now set) ahead.now result }
-    ensures spelled { IfOk result (λ r. name_lines word.now r.0.keys (tokens_ahead ahead.now) (tokens_ahead r.1)) }
+    ensures reads { ReadsAhead (ForEach (λ (set : NameSet). Declares set [] (λ r. r.0.keys) (λ ps. NameLines word.now set ∷ ps)))
+        (λ r. name_lines word.now r.0.keys) (λ r. ahead_from r.1) (ahead_from ahead.now) result }
     ensures few { IfOk result (λ r. index_set_len r.0 + length r.1.after.now ≤ length ahead.now.after.now) }
 {
     let mut names = IndexSet::new(alloc);
@@ -102,9 +101,8 @@ fn read_names<'a>(
 // The number of a template, from behind its name to the end of its line.
 #[tactic(auto, using(crate::proofs::Parts::followed_by))]
 fn read_template_days(rest: &[u8]) -> Result<(u32, &[u8]), ReadErr>
-    ensures follows { PassesAnywhere (λ r. r.1.now)
-        (λ ps. TheMark (codes "=") ∷ IntegerAt 100_000 ∷ TheMark (codes ";") ∷ ps) rest.now result }
-    ensures spelled { IfOk result (λ r. Spelled (mark (codes "=") ⨟ valued (integer_at 100_000) r.0 ⨟ mark (codes ";")) rest.now r.1.now) }
+    ensures reads { Reads (PassesAnywhere (λ ps. TheMark (codes "=") ∷ IntegerAt 100_000 ∷ TheMark (codes ";") ∷ ps))
+        (λ r. mark (codes "=") ⨟ valued (integer_at 100_000) r.0 ⨟ mark (codes ";")) (λ r. r.1.now) rest.now result }
     ensures shorter { IfOk result (λ r. length r.1.now < length rest.now) }
     ensures most { IfOk result (λ r. r.0 ≤ 100_000) }
 {
@@ -121,9 +119,9 @@ fn read_template<'a>(
     rest: &'a [u8],
 ) -> Result<&'a [u8], ReadErr>
     requires { are_numbers templates.old.entries ≡ true }
-    ensures follows { Declares Template (keys templates.old) (λ r. keys templates.new) (λ r. r.now) template_places rest.now result }
-    ensures spelled { IfOk result
-        (λ r. SpelledBehind (codes "template") (Entry template_line templates.old.entries templates.new.entries) rest.now r.now) }
+    ensures reads { Reads (Declares Template (keys templates.old) (λ r. keys templates.new) template_places)
+        (λ r. behind_word (codes "template") (Entry template_line templates.old.entries templates.new.entries))
+        (λ r. r.now) rest.now result }
     ensures shorter { IfOk result (λ r. length r.now < length rest.now) }
     ensures few { IfOk result (λ r. index_map_len templates.new + length r.now ≤ index_map_len templates.old + length rest.now) }
     ensures limits { IfOk result (λ r. are_numbers templates.new.entries ≡ true) }
@@ -138,8 +136,8 @@ fn read_templates<'a>(
     alloc: Global,
     ahead: &Lookahead<'a>,
 ) -> Result<(IndexMap<Name, u32>, Lookahead<'a>), ReadErr>
-    ensures follows { DeclaresLines Template (λ r. keys r.0) (λ r. r.1) TemplateLines ahead.now result }
-    ensures spelled { IfOk result (λ r. Repeat (Entry template_line) [] r.0.entries (tokens_ahead ahead.now) (tokens_ahead r.1)) }
+    ensures reads { ReadsAhead (Declares Template [] (λ r. keys r.0) (λ ps. TemplateLines ∷ ps))
+        (λ r. Repeat (Entry template_line) [] r.0.entries) (λ r. ahead_from r.1) (ahead_from ahead.now) result }
     ensures few { IfOk result (λ r. index_map_len r.0 + length r.1.after.now ≤ length ahead.now.after.now) }
     ensures limits { IfOk result (λ r. are_numbers r.0.entries ≡ true) }
 {
@@ -155,11 +153,9 @@ fn read_templates<'a>(
 // The number of decimals of amounts, and the token behind it.
 #[tactic(auto, using(crate::proofs::Parts::followed_by))]
 fn read_amounts(rest: &[u8]) -> Result<(u8, Lookahead<'_>), ReadErr>
-    ensures follows { (s : DeclaredNames) (ps : List Place) → Leaves (λ r. run s ps (tokens_ahead r.1)) result
-        (run s (TheWord (codes "amounts") ∷ IntegerAt 12 ∷ TheMark (codes ";") ∷ ps) (tokens rest.now)) }
-    ensures spelled { IfOk result
-        (λ r. (word (codes "amounts") ⨟ valued (integer_at 12) r.0 ⨟ mark (codes ";")) (tokens rest.now) (tokens_ahead r.1)) }
-    ensures shorter { IfOk result (λ r. length r.1.after.now ≤ length rest.now) }
+    ensures reads { ReadsAhead (PassesAnywhere (λ ps. TheWord (codes "amounts") ∷ IntegerAt 12 ∷ TheMark (codes ";") ∷ ps))
+        (λ r. word (codes "amounts") ⨟ valued (integer_at 12) r.0 ⨟ mark (codes ";"))
+        (λ r. ahead_from r.1) (ahead_in rest.now) result }
     ensures most { IfOk result (λ r. r.0 ≤ 12) }
 {
     let rest = skip_word(rest, b"amounts")?;
@@ -171,12 +167,10 @@ fn read_amounts(rest: &[u8]) -> Result<(u8, Lookahead<'_>), ReadErr>
 // The lines of numbers with which declarations begin.
 #[tactic(auto, using(crate::proofs::Parts::followed_by))]
 fn read_heading(rest: &[u8]) -> Result<(u8, Option<i64>, u32, Lookahead<'_>), ReadErr>
-    ensures follows { (s : DeclaredNames) (ps : List Place) → Leaves (λ r. run s ps (tokens_ahead r.3)) result
-        (run s (TheWord (codes "amounts") ∷ IntegerAt 12 ∷ TheMark (codes ";") ∷ OriginLine ∷ StartLine ∷ ps) (tokens rest.now)) }
-    ensures spelled { IfOk result
-        (λ r. (word (codes "amounts") ⨟ valued (integer_at 12) r.0 ⨟ mark (codes ";") ⨟ origin_line r.1 ⨟ start_line r.2)
-        (tokens rest.now) (tokens_ahead r.3)) }
-    ensures shorter { IfOk result (λ r. length r.3.after.now ≤ length rest.now) }
+    ensures reads { ReadsAhead (PassesAnywhere
+        (λ ps. TheWord (codes "amounts") ∷ IntegerAt 12 ∷ TheMark (codes ";") ∷ OriginLine ∷ StartLine ∷ ps))
+        (λ r. word (codes "amounts") ⨟ valued (integer_at 12) r.0 ⨟ mark (codes ";") ⨟ origin_line r.1 ⨟ start_line r.2)
+        (λ r. ahead_from r.3) (ahead_in rest.now) result }
     ensures amounts { IfOk result (λ r. r.0 ≤ 12) }
     ensures origin { IfOk result (λ r. is_origin r.1 ≡ true) }
     ensures start { IfOk result (λ r. r.2 ≤ 1_000_000) }
@@ -193,11 +187,11 @@ fn read_owners<'a>(
     alloc: Global,
     ahead: &Lookahead<'a>,
 ) -> Result<(IndexSet<Name>, IndexSet<Name>, Lookahead<'a>), ReadErr>
-    ensures follows { (ps : List Place) →
-        Leaves (λ r. run (with_names Asset r.1.keys (with_names Party r.0.keys nothing_declared)) ps (tokens_ahead r.2)) result
-        (run nothing_declared (NameLines (codes "party") Party ∷ NameLines (codes "asset") Asset ∷ ps) (tokens_ahead ahead.now)) }
-    ensures spelled { IfOk result
-        (λ r. (name_lines (codes "party") r.0.keys ⨟ name_lines (codes "asset") r.1.keys) (tokens_ahead ahead.now) (tokens_ahead r.2)) }
+    ensures reads { ReadsAhead (Extends nothing_declared
+        (λ r. with_names Asset r.1.keys (with_names Party r.0.keys nothing_declared))
+        (λ ps. NameLines (codes "party") Party ∷ NameLines (codes "asset") Asset ∷ ps))
+        (λ r. name_lines (codes "party") r.0.keys ⨟ name_lines (codes "asset") r.1.keys)
+        (λ r. ahead_from r.2) (ahead_from ahead.now) result }
     ensures few { IfOk result (λ r. index_set_len r.0 + (index_set_len r.1 + length r.2.after.now) ≤ length ahead.now.after.now) }
 {
     let (parties, ahead) = read_names(alloc, b"party", ahead)?;
@@ -208,9 +202,8 @@ fn read_owners<'a>(
 /// The declarations that stand here, up to the last line that may belong to them, and the token that comes next.
 pub fn read_decls<'a>(alloc: Global, rest: &'a [u8]) -> Result<(Decls, Lookahead<'a>), ReadErr>
     requires { length rest.now ≤ 16_777_216 }
-    ensures follows { (ps : List Place) → Leaves (λ r. run (declared_by (declarations r.0) []) ps (tokens_ahead r.1)) result
-        (run nothing_declared (decls_places ps) (tokens rest.now)) }
-    ensures spelled { IfOk result (λ r. decls (declarations r.0) (tokens rest.now) (tokens_ahead r.1)) }
+    ensures reads { ReadsAhead (Extends nothing_declared (λ r. declared_by (declarations r.0) []) decls_places)
+        (λ r. decls (declarations r.0)) (λ r. ahead_from r.1) (ahead_in rest.now) result }
 {
     let (amounts, origin, start, ahead) = read_heading(rest)?;
     let (parties, assets, ahead) = read_owners(alloc, &ahead)?;

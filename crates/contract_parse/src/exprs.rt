@@ -9,7 +9,7 @@ ghost use Rattle.contract_parse.specs.Spelling.{expr, mark, pair, valued, ◌⨟
 ghost use Rattle.contract_parse.specs.Places.{BinderAt, ExprAt, IntegerAt, LiteralNumber, ModeAt, TheMark, binder_places, leaf_places, operand_places, pair_places};
 ghost use Rattle.contract_parse.specs.Reading.{declared_in, joined};
 ghost use Rattle.contract_parse.specs.Heads.{greatest_depth, leaf_word};
-ghost use Rattle.contract_parse.specs.Readers.{LeadsOn, Passes, PassesAnywhere, Spelled, SpelledBehind, SpelledBehindPart, behind_first, expression_in, first_token};
+ghost use Rattle.contract_parse.specs.Readers.{Binds, Passes, PassesAnywhere, Reads, behind_first, behind_leaf_word, behind_part, behind_sign, behind_word, expression_in, first_token};
 ghost use Rattle.contract_parse.specs.declared.heads.Binder.{Binder};
 ghost use Rattle.contract_parse.specs.declared.heads.Language.{Language};
 
@@ -48,9 +48,8 @@ fn literal(number: Decimal) -> Expr
 // The scale behind a mark, in `widen`, `round` and `div`.
 #[tactic(auto, using(crate::proofs::Parts::followed_by))]
 fn read_scale<'a>(wanted: &[u8], rest: &'a [u8]) -> Result<(u8, &'a [u8]), ReadErr>
-    ensures follows { PassesAnywhere (λ r. r.1.now) (λ ps. TheMark wanted.now ∷ IntegerAt 27 ∷ ps) rest.now result }
-    ensures spelled { IfOk result (λ r. Spelled (mark wanted.now ⨟ valued (integer_at 27) r.0) rest.now r.1.now) }
-    ensures shorter { IfOk result (λ r. length r.1.now ≤ length rest.now) }
+    ensures reads { Reads (PassesAnywhere (λ ps. TheMark wanted.now ∷ IntegerAt 27 ∷ ps))
+        (λ r. mark wanted.now ⨟ valued (integer_at 27) r.0) (λ r. r.1.now) rest.now result }
 {
     let rest = skip_mark(rest, wanted)?;
     let (scale, rest) = read_integer(27, rest)?;
@@ -60,11 +59,8 @@ fn read_scale<'a>(wanted: &[u8], rest: &'a [u8]) -> Result<(u8, &'a [u8]), ReadE
 // The mode and the scale in `round` and `div`.
 #[tactic(auto, using(crate::proofs::Parts::followed_by))]
 fn read_rounding(rest: &[u8]) -> Result<(Mode, u8, &[u8]), ReadErr>
-    ensures follows { PassesAnywhere (λ r. r.2.now)
-        (λ ps. TheMark (codes "(") ∷ ModeAt ∷ TheMark (codes ",") ∷ IntegerAt 27 ∷ ps) rest.now result }
-    ensures spelled { IfOk result
-        (λ r. Spelled (mark (codes "(") ⨟ valued mode_at r.0 ⨟ mark (codes ",") ⨟ valued (integer_at 27) r.1) rest.now r.2.now) }
-    ensures shorter { IfOk result (λ r. length r.2.now ≤ length rest.now) }
+    ensures reads { Reads (PassesAnywhere (λ ps. TheMark (codes "(") ∷ ModeAt ∷ TheMark (codes ",") ∷ IntegerAt 27 ∷ ps))
+        (λ r. mark (codes "(") ⨟ valued mode_at r.0 ⨟ mark (codes ",") ⨟ valued (integer_at 27) r.1) (λ r. r.2.now) rest.now result }
 {
     let rest = skip_mark(rest, b"(")?;
     let (mode, rest) = read_mode(rest)?;
@@ -75,11 +71,8 @@ fn read_rounding(rest: &[u8]) -> Result<(Mode, u8, &[u8]), ReadErr>
 // The name that `acc` binds.
 #[tactic(auto, using(crate::proofs::Parts::followed_by))]
 fn read_bound_name(rest: &[u8]) -> Result<(&[u8], &[u8]), ReadErr>
-    ensures follows { (binder : Binder) (l : Language) (d : ℕ) (names : List Bytes) →
-        LeadsOn (λ r. r.1.now) (λ ps. TheMark (codes "(") ∷ BinderAt binder l d names ∷ ps)
-        (λ r ps. binder_places binder l d names r.0.now ps) rest.now result }
-    ensures spelled { IfOk result (λ r. Spelled (mark (codes "(") ⨟ valued binder_at r.0.now) rest.now r.1.now) }
-    ensures shorter { IfOk result (λ r. length r.1.now ≤ length rest.now) }
+    ensures reads { Reads (Binds (λ r. r.0.now) (λ binder ps. TheMark (codes "(") ∷ binder ∷ ps))
+        (λ r. mark (codes "(") ⨟ valued binder_at r.0.now) (λ r. r.1.now) rest.now result }
 {
     let rest = skip_mark(rest, b"(")?;
     read_binder(rest)
@@ -88,9 +81,8 @@ fn read_bound_name(rest: &[u8]) -> Result<(&[u8], &[u8]), ReadErr>
 // The number of days of `acc`.
 #[tactic(auto, using(crate::proofs::Parts::followed_by))]
 fn read_days_back(rest: &[u8]) -> Result<(u32, &[u8]), ReadErr>
-    ensures follows { PassesAnywhere (λ r. r.1.now) (λ ps. TheMark (codes ",") ∷ IntegerAt 100_000 ∷ ps) rest.now result }
-    ensures spelled { IfOk result (λ r. Spelled (mark (codes ",") ⨟ valued (integer_at 100_000) r.0) rest.now r.1.now) }
-    ensures shorter { IfOk result (λ r. length r.1.now ≤ length rest.now) }
+    ensures reads { Reads (PassesAnywhere (λ ps. TheMark (codes ",") ∷ IntegerAt 100_000 ∷ ps))
+        (λ r. mark (codes ",") ⨟ valued (integer_at 100_000) r.0) (λ r. r.1.now) rest.now result }
 {
     let rest = skip_mark(rest, b",")?;
     read_integer(100_000, rest)
@@ -98,11 +90,8 @@ fn read_days_back(rest: &[u8]) -> Result<(u32, &[u8]), ReadErr>
 
 // A literal behind its sign.
 fn read_negative(rest: &[u8]) -> Result<(Expr, &[u8]), ReadErr>
-    ensures follows { PassesAnywhere (λ r. r.1.now) (λ ps. LiteralNumber true ∷ ps) rest.now result }
-    ensures spelled { IfOk result (λ r. (l : Language) (s : DeclaredNames) (names : List Bytes) →
-        SpelledBehindPart (mark (codes "-")) (expr l s names (expression r.0)) rest.now r.1.now) }
+    ensures reads { Reads (PassesAnywhere (λ ps. LiteralNumber true ∷ ps)) (λ r. behind_sign r.0) (λ r. r.1.now) rest.now result }
     ensures high { IfOk result (λ r. height (expression r.0) ≡ 1) }
-    ensures shorter { IfOk result (λ r. length r.1.now ≤ length rest.now) }
 {
     let (number, rest) = read_literal(true, rest)?;
     Ok((literal(number), rest))
@@ -110,11 +99,9 @@ fn read_negative(rest: &[u8]) -> Result<(Expr, &[u8]), ReadErr>
 
 // What stands behind `obs`.
 fn read_observed<'a>(decls: &Decls, rest: &'a [u8]) -> Result<(Expr, &'a [u8]), ReadErr>
-    ensures follows { Passes decls.now (λ r. r.1.now) (λ s ps. leaf_places s Language.Contracts ps) rest.now result }
-    ensures spelled { IfOk result (λ r. (names : List Bytes) →
-        SpelledBehind (codes "obs") (expr Language.Contracts (declared_in decls.now []) names (expression r.0)) rest.now r.1.now) }
+    ensures reads { Reads (Passes decls.now (λ s ps. leaf_places s Language.Contracts ps))
+        (λ r. behind_leaf_word Language.Contracts decls.now r.0) (λ r. r.1.now) rest.now result }
     ensures high { IfOk result (λ r. height (expression r.0) ≡ 1) }
-    ensures shorter { IfOk result (λ r. length r.1.now ≤ length rest.now) }
 {
     let rest = skip_mark(rest, b"(")?;
     let (label, rest) = read_use_of_map(&decls.labels, rest)?;
@@ -126,11 +113,9 @@ fn read_observed<'a>(decls: &Decls, rest: &'a [u8]) -> Result<(Expr, &'a [u8]), 
 
 // What stands behind `model`: its offset is how many bytes are left where its date begins.
 fn read_modelled<'a>(decls: &Decls, rest: &'a [u8]) -> Result<(Expr, &'a [u8]), ReadErr>
-    ensures follows { Passes decls.now (λ r. r.1.now) (λ s ps. leaf_places s Language.Code ps) rest.now result }
-    ensures spelled { IfOk result (λ r. (names : List Bytes) →
-        SpelledBehind (codes "model") (expr Language.Code (declared_in decls.now []) names (expression r.0)) rest.now r.1.now) }
+    ensures reads { Reads (Passes decls.now (λ s ps. leaf_places s Language.Code ps))
+        (λ r. behind_leaf_word Language.Code decls.now r.0) (λ r. r.1.now) rest.now result }
     ensures high { IfOk result (λ r. height (expression r.0) ≡ 1) }
-    ensures shorter { IfOk result (λ r. length r.1.now ≤ length rest.now) }
 {
     let rest = skip_mark(rest, b"(")?;
     let (label, rest) = read_use_of_map(&decls.labels, rest)?;
@@ -146,11 +131,9 @@ fn read_observable<'a>(
     decls: &Decls,
     rest: &'a [u8],
 ) -> Result<(Expr, &'a [u8]), ReadErr>
-    ensures follows { Passes decls.now (λ r. r.1.now) (λ s ps. leaf_places s language ps) rest.now result }
-    ensures spelled { IfOk result (λ r. (names : List Bytes) →
-        SpelledBehind (leaf_word language) (expr language (declared_in decls.now []) names (expression r.0)) rest.now r.1.now) }
+    ensures reads { Reads (Passes decls.now (λ s ps. leaf_places s language ps))
+        (λ r. behind_leaf_word language decls.now r.0) (λ r. r.1.now) rest.now result }
     ensures high { IfOk result (λ r. height (expression r.0) ≡ 1) }
-    ensures shorter { IfOk result (λ r. length r.1.now ≤ length rest.now) }
 {
     match language {
         Language::Contracts => read_observed(decls, rest),
@@ -170,10 +153,9 @@ fn read_boxed<'a>(
 ) -> Result<(Box<Expr>, &'a [u8]), ReadErr>
     requires shallow { depth ≤ greatest_depth language }
     requires bound { length (names_in bound.now) ≤ depth }
-    ensures follows { Passes decls.now (λ r. r.1.now) (λ s ps. ExprAt language (depth + 1) (names_in bound.now) ∷ ps) rest.now result }
-    ensures spelled { IfOk result (λ r. Spelled (expression_in language decls.now bound.now r.0.value) rest.now r.1.now) }
+    ensures reads { Reads (Passes decls.now (λ s ps. ExprAt language (depth + 1) (names_in bound.now) ∷ ps))
+        (λ r. expression_in language decls.now bound.now r.0.value) (λ r. r.1.now) rest.now result }
     ensures high { IfOk result (λ r. height (expression r.0.value) + depth ≤ greatest_depth language) }
-    ensures shorter { IfOk result (λ r. length r.1.now ≤ length rest.now) }
 {
     let (of, rest) = read_expr(alloc, language, decls, bound, depth + 1, rest)?;
     let of = Box::new(alloc, of)?;
@@ -194,11 +176,9 @@ fn read_behind<'a>(
 ) -> Result<(Box<Expr>, &'a [u8]), ReadErr>
     requires shallow { depth ≤ greatest_depth language }
     requires bound { length (names_in bound.now) ≤ depth }
-    ensures follows { Passes decls.now (λ r. r.1.now)
-        (λ s ps. TheMark wanted.now ∷ ExprAt language (depth + 1) (names_in bound.now) ∷ ps) rest.now result }
-    ensures spelled { IfOk result (λ r. Spelled (mark wanted.now ⨟ expression_in language decls.now bound.now r.0.value) rest.now r.1.now) }
+    ensures reads { Reads (Passes decls.now (λ s ps. TheMark wanted.now ∷ ExprAt language (depth + 1) (names_in bound.now) ∷ ps))
+        (λ r. mark wanted.now ⨟ expression_in language decls.now bound.now r.0.value) (λ r. r.1.now) rest.now result }
     ensures high { IfOk result (λ r. height (expression r.0.value) + depth ≤ greatest_depth language) }
-    ensures shorter { IfOk result (λ r. length r.1.now ≤ length rest.now) }
 {
     let rest = skip_mark(rest, wanted)?;
     read_boxed(alloc, language, decls, bound, depth, rest)
@@ -217,12 +197,9 @@ fn read_operand<'a>(
 ) -> Result<(Box<Expr>, &'a [u8]), ReadErr>
     requires shallow { depth ≤ greatest_depth language }
     requires bound { length (names_in bound.now) < depth }
-    ensures follows { Passes decls.now (λ r. r.1.now)
-        (λ s ps. operand_places (ExprAt language (depth + 1) (names_in bound.now)) ps) rest.now result }
-    ensures spelled { IfOk result
-        (λ r. Spelled (mark (codes "(") ⨟ expression_in language decls.now bound.now r.0.value ⨟ mark (codes ")")) rest.now r.1.now) }
+    ensures reads { Reads (Passes decls.now (λ s ps. operand_places (ExprAt language (depth + 1) (names_in bound.now)) ps))
+        (λ r. mark (codes "(") ⨟ expression_in language decls.now bound.now r.0.value ⨟ mark (codes ")")) (λ r. r.1.now) rest.now result }
     ensures high { IfOk result (λ r. height (expression r.0.value) + depth ≤ greatest_depth language) }
-    ensures shorter { IfOk result (λ r. length r.1.now ≤ length rest.now) }
 {
     let (of, rest) = read_behind(alloc, language, decls, bound, depth, b"(", rest)?;
     let rest = skip_mark(rest, b")")?;
@@ -242,10 +219,9 @@ fn read_neg<'a>(
 ) -> Result<(Expr, &'a [u8]), ReadErr>
     requires shallow { depth ≤ greatest_depth language }
     requires bound { length (names_in bound.now) < depth }
-    ensures follows { Passes decls.now (λ r. r.1.now) (behind_first language depth bound.now First.Neg) rest.now result }
-    ensures spelled { IfOk result (λ r. SpelledBehind (codes "neg") (expression_in language decls.now bound.now r.0) rest.now r.1.now) }
+    ensures reads { Reads (Passes decls.now (behind_first language depth bound.now First.Neg))
+        (λ r. behind_word (codes "neg") (expression_in language decls.now bound.now r.0)) (λ r. r.1.now) rest.now result }
     ensures high { IfOk result (λ r. height (expression r.0) + depth ≤ greatest_depth language + 1) }
-    ensures shorter { IfOk result (λ r. length r.1.now ≤ length rest.now) }
 {
     let (of, rest) = read_operand(alloc, language, decls, bound, depth, rest)?;
     Ok((Expr::Neg { of }, rest))
@@ -264,10 +240,9 @@ fn read_not<'a>(
 ) -> Result<(Expr, &'a [u8]), ReadErr>
     requires shallow { depth ≤ greatest_depth language }
     requires bound { length (names_in bound.now) < depth }
-    ensures follows { Passes decls.now (λ r. r.1.now) (behind_first language depth bound.now First.Not) rest.now result }
-    ensures spelled { IfOk result (λ r. SpelledBehind (codes "not") (expression_in language decls.now bound.now r.0) rest.now r.1.now) }
+    ensures reads { Reads (Passes decls.now (behind_first language depth bound.now First.Not))
+        (λ r. behind_word (codes "not") (expression_in language decls.now bound.now r.0)) (λ r. r.1.now) rest.now result }
     ensures high { IfOk result (λ r. height (expression r.0) + depth ≤ greatest_depth language + 1) }
-    ensures shorter { IfOk result (λ r. length r.1.now ≤ length rest.now) }
 {
     let (of, rest) = read_operand(alloc, language, decls, bound, depth, rest)?;
     Ok((Expr::Not { of }, rest))
@@ -286,15 +261,12 @@ fn read_pair<'a>(
 ) -> Result<(Box<Expr>, Box<Expr>, &'a [u8]), ReadErr>
     requires shallow { depth ≤ greatest_depth language }
     requires bound { length (names_in bound.now) < depth }
-    ensures follows { Passes decls.now (λ r. r.2.now)
-        (λ s ps. pair_places (ExprAt language (depth + 1) (names_in bound.now))
-        (ExprAt language (depth + 1) (names_in bound.now)) ps) rest.now result }
-    ensures spelled { IfOk result
-        (λ r. Spelled (pair (expression_in language decls.now bound.now r.0.value)
-        (expression_in language decls.now bound.now r.1.value)) rest.now r.2.now) }
+    ensures reads { Reads (Passes decls.now (λ s ps. pair_places (ExprAt language (depth + 1) (names_in bound.now))
+        (ExprAt language (depth + 1) (names_in bound.now)) ps))
+        (λ r. pair (expression_in language decls.now bound.now r.0.value) (expression_in language decls.now bound.now r.1.value))
+        (λ r. r.2.now) rest.now result }
     ensures high { IfOk result
         (λ r. max (height (expression r.0.value)) (height (expression r.1.value)) + depth ≤ greatest_depth language) }
-    ensures shorter { IfOk result (λ r. length r.2.now ≤ length rest.now) }
 {
     let (left, rest) = read_behind(alloc, language, decls, bound, depth, b"(", rest)?;
     let (right, rest) = read_behind(alloc, language, decls, bound, depth, b",", rest)?;
@@ -315,10 +287,9 @@ fn read_min<'a>(
 ) -> Result<(Expr, &'a [u8]), ReadErr>
     requires shallow { depth ≤ greatest_depth language }
     requires bound { length (names_in bound.now) < depth }
-    ensures follows { Passes decls.now (λ r. r.1.now) (behind_first language depth bound.now First.Min) rest.now result }
-    ensures spelled { IfOk result (λ r. SpelledBehind (codes "min") (expression_in language decls.now bound.now r.0) rest.now r.1.now) }
+    ensures reads { Reads (Passes decls.now (behind_first language depth bound.now First.Min))
+        (λ r. behind_word (codes "min") (expression_in language decls.now bound.now r.0)) (λ r. r.1.now) rest.now result }
     ensures high { IfOk result (λ r. height (expression r.0) + depth ≤ greatest_depth language + 1) }
-    ensures shorter { IfOk result (λ r. length r.1.now ≤ length rest.now) }
 {
     let (left, right, rest) = read_pair(alloc, language, decls, bound, depth, rest)?;
     let op = NumOp::Min;
@@ -338,10 +309,9 @@ fn read_max<'a>(
 ) -> Result<(Expr, &'a [u8]), ReadErr>
     requires shallow { depth ≤ greatest_depth language }
     requires bound { length (names_in bound.now) < depth }
-    ensures follows { Passes decls.now (λ r. r.1.now) (behind_first language depth bound.now First.Max) rest.now result }
-    ensures spelled { IfOk result (λ r. SpelledBehind (codes "max") (expression_in language decls.now bound.now r.0) rest.now r.1.now) }
+    ensures reads { Reads (Passes decls.now (behind_first language depth bound.now First.Max))
+        (λ r. behind_word (codes "max") (expression_in language decls.now bound.now r.0)) (λ r. r.1.now) rest.now result }
     ensures high { IfOk result (λ r. height (expression r.0) + depth ≤ greatest_depth language + 1) }
-    ensures shorter { IfOk result (λ r. length r.1.now ≤ length rest.now) }
 {
     let (left, right, rest) = read_pair(alloc, language, decls, bound, depth, rest)?;
     let op = NumOp::Max;
@@ -361,11 +331,9 @@ fn read_infix<'a>(
 ) -> Result<(Expr, &'a [u8]), ReadErr>
     requires shallow { depth ≤ greatest_depth language }
     requires bound { length (names_in bound.now) < depth }
-    ensures follows { Passes decls.now (λ r. r.1.now) (behind_first language depth bound.now First.Open) rest.now result }
-    ensures spelled { IfOk result
-        (λ r. SpelledBehindPart (mark (codes "(")) (expression_in language decls.now bound.now r.0) rest.now r.1.now) }
+    ensures reads { Reads (Passes decls.now (behind_first language depth bound.now First.Open))
+        (λ r. behind_part (mark (codes "(")) (expression_in language decls.now bound.now r.0)) (λ r. r.1.now) rest.now result }
     ensures high { IfOk result (λ r. height (expression r.0) + depth ≤ greatest_depth language + 1) }
-    ensures shorter { IfOk result (λ r. length r.1.now ≤ length rest.now) }
 {
     let (left, rest) = read_boxed(alloc, language, decls, bound, depth, rest)?;
     let (operator, rest) = read_operator(rest)?;
@@ -387,10 +355,9 @@ fn read_choice<'a>(
 ) -> Result<(Expr, &'a [u8]), ReadErr>
     requires shallow { depth ≤ greatest_depth language }
     requires bound { length (names_in bound.now) < depth }
-    ensures follows { Passes decls.now (λ r. r.1.now) (behind_first language depth bound.now First.If) rest.now result }
-    ensures spelled { IfOk result (λ r. SpelledBehind (codes "if") (expression_in language decls.now bound.now r.0) rest.now r.1.now) }
+    ensures reads { Reads (Passes decls.now (behind_first language depth bound.now First.If))
+        (λ r. behind_word (codes "if") (expression_in language decls.now bound.now r.0)) (λ r. r.1.now) rest.now result }
     ensures high { IfOk result (λ r. height (expression r.0) + depth ≤ greatest_depth language + 1) }
-    ensures shorter { IfOk result (λ r. length r.1.now ≤ length rest.now) }
 {
     let (test, rest) = read_behind(alloc, language, decls, bound, depth, b"(", rest)?;
     let (yes, rest) = read_behind(alloc, language, decls, bound, depth, b",", rest)?;
@@ -412,10 +379,9 @@ fn read_widen<'a>(
 ) -> Result<(Expr, &'a [u8]), ReadErr>
     requires shallow { depth ≤ greatest_depth language }
     requires bound { length (names_in bound.now) < depth }
-    ensures follows { Passes decls.now (λ r. r.1.now) (behind_first language depth bound.now First.Widen) rest.now result }
-    ensures spelled { IfOk result (λ r. SpelledBehind (codes "widen") (expression_in language decls.now bound.now r.0) rest.now r.1.now) }
+    ensures reads { Reads (Passes decls.now (behind_first language depth bound.now First.Widen))
+        (λ r. behind_word (codes "widen") (expression_in language decls.now bound.now r.0)) (λ r. r.1.now) rest.now result }
     ensures high { IfOk result (λ r. height (expression r.0) + depth ≤ greatest_depth language + 1) }
-    ensures shorter { IfOk result (λ r. length r.1.now ≤ length rest.now) }
 {
     let (scale, rest) = read_scale(b"(", rest)?;
     let (of, rest) = read_behind(alloc, language, decls, bound, depth, b",", rest)?;
@@ -436,10 +402,9 @@ fn read_round<'a>(
 ) -> Result<(Expr, &'a [u8]), ReadErr>
     requires shallow { depth ≤ greatest_depth language }
     requires bound { length (names_in bound.now) < depth }
-    ensures follows { Passes decls.now (λ r. r.1.now) (behind_first language depth bound.now First.Round) rest.now result }
-    ensures spelled { IfOk result (λ r. SpelledBehind (codes "round") (expression_in language decls.now bound.now r.0) rest.now r.1.now) }
+    ensures reads { Reads (Passes decls.now (behind_first language depth bound.now First.Round))
+        (λ r. behind_word (codes "round") (expression_in language decls.now bound.now r.0)) (λ r. r.1.now) rest.now result }
     ensures high { IfOk result (λ r. height (expression r.0) + depth ≤ greatest_depth language + 1) }
-    ensures shorter { IfOk result (λ r. length r.1.now ≤ length rest.now) }
 {
     let (mode, scale, rest) = read_rounding(rest)?;
     let (of, rest) = read_behind(alloc, language, decls, bound, depth, b",", rest)?;
@@ -460,10 +425,9 @@ fn read_div<'a>(
 ) -> Result<(Expr, &'a [u8]), ReadErr>
     requires shallow { depth ≤ greatest_depth language }
     requires bound { length (names_in bound.now) < depth }
-    ensures follows { Passes decls.now (λ r. r.1.now) (behind_first language depth bound.now First.Div) rest.now result }
-    ensures spelled { IfOk result (λ r. SpelledBehind (codes "div") (expression_in language decls.now bound.now r.0) rest.now r.1.now) }
+    ensures reads { Reads (Passes decls.now (behind_first language depth bound.now First.Div))
+        (λ r. behind_word (codes "div") (expression_in language decls.now bound.now r.0)) (λ r. r.1.now) rest.now result }
     ensures high { IfOk result (λ r. height (expression r.0) + depth ≤ greatest_depth language + 1) }
-    ensures shorter { IfOk result (λ r. length r.1.now ≤ length rest.now) }
 {
     let (mode, scale, rest) = read_rounding(rest)?;
     let (top, rest) = read_behind(alloc, language, decls, bound, depth, b",", rest)?;
@@ -493,10 +457,9 @@ fn read_acc<'a>(
 ) -> Result<(Expr, &'a [u8]), ReadErr>
     requires shallow { depth ≤ greatest_depth language }
     requires bound { length (names_in bound.now) < depth }
-    ensures follows { Passes decls.now (λ r. r.1.now) (behind_first language depth bound.now First.Acc) rest.now result }
-    ensures spelled { IfOk result (λ r. SpelledBehind (codes "acc") (expression_in language decls.now bound.now r.0) rest.now r.1.now) }
+    ensures reads { Reads (Passes decls.now (behind_first language depth bound.now First.Acc))
+        (λ r. behind_word (codes "acc") (expression_in language decls.now bound.now r.0)) (λ r. r.1.now) rest.now result }
     ensures high { IfOk result (λ r. height (expression r.0) + depth ≤ greatest_depth language + 1) }
-    ensures shorter { IfOk result (λ r. length r.1.now ≤ length rest.now) }
 {
     let (name, rest) = read_bound_name(rest)?;
     let inner = Scope::Bound {
@@ -523,11 +486,10 @@ fn read_behind_first<'a>(
 ) -> Result<(Expr, &'a [u8]), ReadErr>
     requires shallow { depth ≤ greatest_depth language }
     requires bound { length (names_in bound.now) < depth }
-    ensures follows { Passes decls.now (λ r. r.1.now) (behind_first language depth bound.now first) rest.now result }
-    ensures spelled { IfOk result (λ r. SpelledBehindPart (first_token language (names_in bound.now) first)
-        (expression_in language decls.now bound.now r.0) rest.now r.1.now) }
+    ensures reads { Reads (Passes decls.now (behind_first language depth bound.now first))
+        (λ r. behind_part (first_token language (names_in bound.now) first) (expression_in language decls.now bound.now r.0))
+        (λ r. r.1.now) rest.now result }
     ensures high { IfOk result (λ r. height (expression r.0) + depth ≤ greatest_depth language + 1) }
-    ensures shorter { IfOk result (λ r. length r.1.now ≤ length rest.now) }
 {
     match first {
         First::Number { number } => Ok((literal(number), rest)),
@@ -561,10 +523,9 @@ pub fn read_expr<'a>(
 ) -> Result<(Expr, &'a [u8]), ReadErr>
     requires shallow { depth ≤ greatest_depth language + 1 }
     requires bound { length (names_in bound.now) < depth }
-    ensures follows { Passes decls.now (λ r. r.1.now) (λ s ps. ExprAt language depth (names_in bound.now) ∷ ps) rest.now result }
-    ensures spelled { IfOk result (λ r. Spelled (expression_in language decls.now bound.now r.0) rest.now r.1.now) }
+    ensures reads { Reads (Passes decls.now (λ s ps. ExprAt language depth (names_in bound.now) ∷ ps))
+        (λ r. expression_in language decls.now bound.now r.0) (λ r. r.1.now) rest.now result }
     ensures high { IfOk result (λ r. height (expression r.0) + depth ≤ greatest_depth language + 1) }
-    ensures shorter { IfOk result (λ r. length r.1.now ≤ length rest.now) }
 {
     let (token, after) = next(rest);
     match first_at(language, bound, depth, &token) {

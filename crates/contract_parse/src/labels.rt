@@ -6,7 +6,7 @@ ghost use Rattle.contract_parse.specs.Statements.{Entry, Repeat, label_line};
 ghost use Rattle.contract_parse.specs.DeclarationReading.{label_range};
 ghost use Rattle.contract_parse.specs.Places.{LabelLines, ScaleAt, TheMark, flag_places, number_label_places};
 ghost use Rattle.contract_parse.specs.Reading.{tokens_ahead};
-ghost use Rattle.contract_parse.specs.Readers.{Declares, DeclaresLines, PassesAnywhere, Spelled, SpelledBehind};
+ghost use Rattle.contract_parse.specs.Readers.{Declares, PassesAnywhere, Reads, ReadsAhead, ahead_from, behind_word};
 ghost use Rattle.contract_parse.specs.declared.names.NameSet.TheVariants.{Label as LabelSet};
 
 use crate::faults::ReadErr;
@@ -20,8 +20,8 @@ use term_core::{Label, Name};
 
 // What stands behind the name of a number label.
 fn read_range(rest: &[u8]) -> Result<(Label, &[u8]), ReadErr>
-    ensures follows { PassesAnywhere (λ r. r.1.now) (λ ps. TheMark (codes ":") ∷ ScaleAt ∷ ps) rest.now result }
-    ensures spelled { IfOk result (λ r. Spelled (label_range r.0) rest.now r.1.now) }
+    ensures reads { Reads (PassesAnywhere (λ ps. TheMark (codes ":") ∷ ScaleAt ∷ ps))
+        (λ r. label_range r.0) (λ r. r.1.now) rest.now result }
     ensures shorter { IfOk result (λ r. length r.1.now < length rest.now) }
     ensures limits { IfOk result (λ r. is_label r.0 ≡ true) }
 {
@@ -41,9 +41,8 @@ fn read_number_label<'a>(
     rest: &'a [u8],
 ) -> Result<&'a [u8], ReadErr>
     requires { are_labels labels.old.entries ≡ true }
-    ensures follows { Declares LabelSet (keys labels.old) (λ r. keys labels.new) (λ r. r.now) number_label_places rest.now result }
-    ensures spelled { IfOk result
-        (λ r. SpelledBehind (codes "num") (Entry label_line labels.old.entries labels.new.entries) rest.now r.now) }
+    ensures reads { Reads (Declares LabelSet (keys labels.old) (λ r. keys labels.new) number_label_places)
+        (λ r. behind_word (codes "num") (Entry label_line labels.old.entries labels.new.entries)) (λ r. r.now) rest.now result }
     ensures shorter { IfOk result (λ r. length r.now < length rest.now) }
     ensures few { IfOk result (λ r. index_map_len labels.new + length r.now ≤ index_map_len labels.old + length rest.now) }
     ensures limits { IfOk result (λ r. are_labels labels.new.entries ≡ true) }
@@ -62,9 +61,8 @@ fn read_flag<'a>(
     rest: &'a [u8],
 ) -> Result<&'a [u8], ReadErr>
     requires { are_labels labels.old.entries ≡ true }
-    ensures follows { Declares LabelSet (keys labels.old) (λ r. keys labels.new) (λ r. r.now) flag_places rest.now result }
-    ensures spelled { IfOk result
-        (λ r. SpelledBehind (codes "flag") (Entry label_line labels.old.entries labels.new.entries) rest.now r.now) }
+    ensures reads { Reads (Declares LabelSet (keys labels.old) (λ r. keys labels.new) flag_places)
+        (λ r. behind_word (codes "flag") (Entry label_line labels.old.entries labels.new.entries)) (λ r. r.now) rest.now result }
     ensures shorter { IfOk result (λ r. length r.now < length rest.now) }
     ensures few { IfOk result (λ r. index_map_len labels.new + length r.now ≤ index_map_len labels.old + length rest.now) }
     ensures limits { IfOk result (λ r. are_labels labels.new.entries ≡ true) }
@@ -80,8 +78,8 @@ pub fn read_labels<'a>(
     alloc: Global,
     ahead: &Lookahead<'a>,
 ) -> Result<(IndexMap<Name, Label>, Lookahead<'a>), ReadErr>
-    ensures follows { DeclaresLines LabelSet (λ r. keys r.0) (λ r. r.1) LabelLines ahead.now result }
-    ensures spelled { IfOk result (λ r. Repeat (Entry label_line) [] r.0.entries (tokens_ahead ahead.now) (tokens_ahead r.1)) }
+    ensures reads { ReadsAhead (Declares LabelSet [] (λ r. keys r.0) (λ ps. LabelLines ∷ ps))
+        (λ r. Repeat (Entry label_line) [] r.0.entries) (λ r. ahead_from r.1) (ahead_from ahead.now) result }
     ensures few { IfOk result (λ r. index_map_len r.0 + length r.1.after.now ≤ length ahead.now.after.now) }
     ensures limits { IfOk result (λ r. are_labels r.0.entries ≡ true) }
 {

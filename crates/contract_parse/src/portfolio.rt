@@ -13,7 +13,7 @@ ghost use Rattle.contract_parse.specs.Places.{ContrAt, ContractLines, Leaves, Op
 ghost use Rattle.contract_parse.specs.Reading.{declared_in, tokens_ahead};
 ghost use Rattle.contract_parse.specs.ContractReading.{trees};
 ghost use Rattle.contract_parse.specs.Texts.{Answers};
-ghost use Rattle.contract_parse.specs.Readers.{Passes, PassesAnywhere, Spelled, SpelledBehind};
+ghost use Rattle.contract_parse.specs.Readers.{Extends, Passes, PassesAnywhere, Reads, ReadsAhead, ahead_from, behind_word};
 
 use crate::contrs::read_contr;
 use crate::cursor::start_text;
@@ -33,10 +33,8 @@ fn read_definition<'a>(
     decls: &Decls,
     rest: &'a [u8],
 ) -> Result<(Contr, &'a [u8]), ReadErr>
-    ensures follows { Passes decls.now (λ r. r.1.now)
-        (λ s ps. TheMark (codes "=") ∷ ContrAt 1 [] ∷ TheMark (codes ";") ∷ ps) rest.now result }
-    ensures spelled { IfOk result
-        (λ r. Spelled (mark (codes "=") ⨟ contr (declared_in decls.now []) [] (contract r.0) ⨟ mark (codes ";")) rest.now r.1.now) }
+    ensures reads { Reads (Passes decls.now (λ s ps. TheMark (codes "=") ∷ ContrAt 1 [] ∷ TheMark (codes ";") ∷ ps))
+        (λ r. mark (codes "=") ⨟ contr (declared_in decls.now []) [] (contract r.0) ⨟ mark (codes ";")) (λ r. r.1.now) rest.now result }
     ensures high { IfOk result (λ r. height_of_contract (contract r.0) ≤ 200) }
     ensures shorter { IfOk result (λ r. length r.1.now < length rest.now) }
 {
@@ -53,10 +51,11 @@ fn read_contract<'a>(
     contracts: &mut IndexMap<Name, Contr>,
     rest: &'a [u8],
 ) -> Result<&'a [u8], ReadErr>
-    ensures follows { (ps : List Place) → Leaves (λ r. run (declared_in decls.now (keys contracts.new)) ps (tokens r.now)) result
-        (run (declared_in decls.now (keys contracts.old)) (contract_places ps) (tokens rest.now)) }
-    ensures spelled { IfOk result (λ r. SpelledBehind (codes "contract")
-        (Entry (contract_line (declared_in decls.now [])) (trees contracts.old.entries) (trees contracts.new.entries)) rest.now r.now) }
+    ensures reads { Reads (Extends (declared_in decls.now (keys contracts.old))
+        (λ r. declared_in decls.now (keys contracts.new)) contract_places)
+        (λ r. behind_word (codes "contract")
+        (Entry (contract_line (declared_in decls.now [])) (trees contracts.old.entries) (trees contracts.new.entries)))
+        (λ r. r.now) rest.now result }
     ensures shorter { IfOk result (λ r. length r.now < length rest.now) }
 {
     let (name, rest) = read_new_name(alloc, contracts, rest)?;
@@ -70,10 +69,9 @@ fn read_contracts<'a>(
     decls: &Decls,
     ahead: &Lookahead<'a>,
 ) -> Result<(IndexMap<Name, Contr>, Lookahead<'a>), ReadErr>
-    ensures follows { (ps : List Place) → Leaves (λ r. run (declared_in decls.now (keys r.0)) ps (tokens_ahead r.1)) result
-        (run (declared_in decls.now []) (ContractLines ∷ ps) (tokens_ahead ahead.now)) }
-    ensures spelled { IfOk result (λ r.
-        Repeat (Entry (contract_line (declared_in decls.now []))) [] (trees r.0.entries) (tokens_ahead ahead.now) (tokens_ahead r.1)) }
+    ensures reads { ReadsAhead (Extends (declared_in decls.now []) (λ r. declared_in decls.now (keys r.0)) (λ ps. ContractLines ∷ ps))
+        (λ r. Repeat (Entry (contract_line (declared_in decls.now []))) [] (trees r.0.entries))
+        (λ r. ahead_from r.1) (ahead_from ahead.now) result }
 {
     let mut contracts = IndexMap::new(alloc);
     let mut ahead = *ahead;
@@ -87,10 +85,8 @@ fn read_contracts<'a>(
 // The first line.
 #[tactic(auto, using(crate::proofs::Parts::followed_by))]
 fn skip_first_line(rest: &[u8]) -> Result<&[u8], ReadErr>
-    ensures follows { PassesAnywhere (λ r. r.now)
-        (λ ps. TheWord (codes "portfolio") ∷ TheVersion ∷ TheMark (codes ";") ∷ ps) rest.now result }
-    ensures spelled { IfOk result (λ r. Spelled (word (codes "portfolio") ⨟ one is_version ⨟ mark (codes ";")) rest.now r.now) }
-    ensures shorter { IfOk result (λ r. length r.now ≤ length rest.now) }
+    ensures reads { Reads (PassesAnywhere (λ ps. TheWord (codes "portfolio") ∷ TheVersion ∷ TheMark (codes ";") ∷ ps))
+        (λ r. word (codes "portfolio") ⨟ one is_version ⨟ mark (codes ";")) (λ r. r.now) rest.now result }
 {
     let rest = skip_word(rest, b"portfolio")?;
     let rest = skip_version(rest)?;

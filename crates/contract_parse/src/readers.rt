@@ -11,7 +11,7 @@ ghost use Rattle.contract_parse.specs.Spelling.{Signed, end, mark, one, valued, 
 ghost use Rattle.contract_parse.specs.Statements.{Added};
 ghost use Rattle.contract_parse.specs.Places.{BinderAt, BoundAt, BoundNumber, DateAt, DateNumber, DaysAt, IntegerAt, Leaves, LiteralNumber, ModeAt, MoreNames, NewIn, OffsetAt, OffsetNumber, Open, OperatorAt, OriginDate, Place, ScaleAt, TheEnd, TheMark, TheVersion, TheWord, UseOf, binder_places, bound_places, list_places, range_places, run};
 ghost use Rattle.contract_parse.specs.Reading.{IsBetween, IsBound, Lacks, LacksMark, tokens_ahead};
-ghost use Rattle.contract_parse.specs.Readers.{Declares, LeadsOn, PassesAnywhere, Spelled};
+ghost use Rattle.contract_parse.specs.Readers.{Binds, Declares, ForEach, LeadsOn, PassesAnywhere, Reads};
 ghost use Rattle.contract_parse.specs.declared.names.NameSet.{NameSet};
 ghost use Rattle.contract_parse.specs.declared.heads.Binder.{Binder};
 ghost use Rattle.contract_parse.specs.declared.heads.Language.{Language};
@@ -31,8 +31,7 @@ use term_core::{Days, Name};
 
 /// This mark.
 pub fn skip_mark<'a>(rest: &'a [u8], wanted: &[u8]) -> Result<&'a [u8], ReadErr>
-    ensures follows { PassesAnywhere (λ r. r.now) (λ ps. TheMark wanted.now ∷ ps) rest.now result }
-    ensures spelled { IfOk result (λ r. Spelled (mark wanted.now) rest.now r.now) }
+    ensures reads { Reads (PassesAnywhere (λ ps. TheMark wanted.now ∷ ps)) (λ r. mark wanted.now) (λ r. r.now) rest.now result }
     ensures shorter { IfOk result (λ r. length r.now < length rest.now) }
 {
     let (token, after) = next(rest);
@@ -45,8 +44,7 @@ pub fn skip_mark<'a>(rest: &'a [u8], wanted: &[u8]) -> Result<&'a [u8], ReadErr>
 
 /// This word.
 pub fn skip_word<'a>(rest: &'a [u8], wanted: &[u8]) -> Result<&'a [u8], ReadErr>
-    ensures follows { PassesAnywhere (λ r. r.now) (λ ps. TheWord wanted.now ∷ ps) rest.now result }
-    ensures spelled { IfOk result (λ r. Spelled (word wanted.now) rest.now r.now) }
+    ensures reads { Reads (PassesAnywhere (λ ps. TheWord wanted.now ∷ ps)) (λ r. word wanted.now) (λ r. r.now) rest.now result }
     ensures shorter { IfOk result (λ r. length r.now < length rest.now) }
 {
     let (token, after) = next(rest);
@@ -59,8 +57,7 @@ pub fn skip_word<'a>(rest: &'a [u8], wanted: &[u8]) -> Result<&'a [u8], ReadErr>
 
 /// The version of the format, which is 1.
 pub fn skip_version(rest: &[u8]) -> Result<&[u8], ReadErr>
-    ensures follows { PassesAnywhere (λ r. r.now) (λ ps. TheVersion ∷ ps) rest.now result }
-    ensures spelled { IfOk result (λ r. Spelled (one is_version) rest.now r.now) }
+    ensures reads { Reads (PassesAnywhere (λ ps. TheVersion ∷ ps)) (λ r. one is_version) (λ r. r.now) rest.now result }
     ensures shorter { IfOk result (λ r. length r.now < length rest.now) }
 {
     let (token, after) = next(rest);
@@ -113,8 +110,7 @@ pub fn after_mark<'a>(rest: &'a [u8], wanted: &[u8]) -> Option<&'a [u8]>
 /// A number without a point, of at most `most`.
 pub fn read_integer(most: u32, rest: &[u8]) -> Result<(u32, &[u8]), ReadErr>
     ensures most { IfOk result (λ r. r.0 ≤ most) }
-    ensures follows { PassesAnywhere (λ r. r.1.now) (λ ps. IntegerAt most ∷ ps) rest.now result }
-    ensures spelled { IfOk result (λ r. Spelled (valued (integer_at most) r.0) rest.now r.1.now) }
+    ensures reads { Reads (PassesAnywhere (λ ps. IntegerAt most ∷ ps)) (λ r. valued (integer_at most) r.0) (λ r. r.1.now) rest.now result }
     ensures shorter { IfOk result (λ r. length r.1.now < length rest.now) }
 {
     let (token, after) = next(rest);
@@ -127,8 +123,8 @@ pub fn read_integer(most: u32, rest: &[u8]) -> Result<(u32, &[u8]), ReadErr>
 /// The scale of a label.
 pub fn read_label_scale(rest: &[u8]) -> Result<(u8, &[u8]), ReadErr>
     ensures most { IfOk result (λ r. r.0 ≤ 18) }
-    ensures follows { LeadsOn (λ r. r.1.now) (λ ps. ScaleAt ∷ ps) (λ r ps. range_places r.0 ps) rest.now result }
-    ensures spelled { IfOk result (λ r. Spelled (valued (integer_at 18) r.0) rest.now r.1.now) }
+    ensures reads { Reads (LeadsOn (λ ps. ScaleAt ∷ ps) (λ r ps. range_places r.0 ps))
+        (λ r. valued (integer_at 18) r.0) (λ r. r.1.now) rest.now result }
     ensures shorter { IfOk result (λ r. length r.1.now < length rest.now) }
 {
     let (token, after) = next(rest);
@@ -141,8 +137,7 @@ pub fn read_label_scale(rest: &[u8]) -> Result<(u8, &[u8]), ReadErr>
 /// A date from 1900-01-01 to 2999-12-31, as an epoch day.
 pub fn read_origin_date(rest: &[u8]) -> Result<(i64, &[u8]), ReadErr>
     ensures limits { IfOk result (λ r. is_origin (Some r.0) ≡ true) }
-    ensures follows { PassesAnywhere (λ r. r.1.now) (λ ps. OriginDate ∷ ps) rest.now result }
-    ensures spelled { IfOk result (λ r. Spelled (valued origin_at r.0) rest.now r.1.now) }
+    ensures reads { Reads (PassesAnywhere (λ ps. OriginDate ∷ ps)) (λ r. valued origin_at r.0) (λ r. r.1.now) rest.now result }
     ensures shorter { IfOk result (λ r. length r.1.now < length rest.now) }
 {
     let (token, after) = next(rest);
@@ -154,8 +149,8 @@ pub fn read_origin_date(rest: &[u8]) -> Result<(i64, &[u8]), ReadErr>
 
 /// Whether a comma stands here, or the semicolon that ends a list.
 pub fn read_separator(rest: &[u8]) -> Result<(bool, &[u8]), ReadErr>
-    ensures follows { (set : NameSet) → LeadsOn (λ r. r.1.now) (λ ps. MoreNames set ∷ ps) (λ r ps. list_places set r.0 ps) rest.now result }
-    ensures spelled { IfOk result (λ r. Spelled (valued separator_at r.0) rest.now r.1.now) }
+    ensures reads { Reads (ForEach (λ (set : NameSet). LeadsOn (λ ps. MoreNames set ∷ ps) (λ r ps. list_places set r.0 ps)))
+        (λ r. valued separator_at r.0) (λ r. r.1.now) rest.now result }
     ensures shorter { IfOk result (λ r. length r.1.now < length rest.now) }
 {
     let (token, after) = next(rest);
@@ -174,9 +169,8 @@ fn read_bound_number(
 ) -> Result<(i128, &[u8]), ReadErr>
     requires { scale ≤ 18 }
     ensures limits { IfOk result (λ r. IsBound low r.0) }
-    ensures follows { LeadsOn (λ r. r.1.now) (λ ps. BoundNumber negative scale low ∷ ps)
-        (λ r ps. bound_places scale low r.0 ps) rest.now result }
-    ensures spelled { IfOk result (λ r. Spelled (valued (bound_at negative scale low) r.0) rest.now r.1.now) }
+    ensures reads { Reads (LeadsOn (λ ps. BoundNumber negative scale low ∷ ps) (λ r ps. bound_places scale low r.0 ps))
+        (λ r. valued (bound_at negative scale low) r.0) (λ r. r.1.now) rest.now result }
     ensures shorter { IfOk result (λ r. length r.1.now < length rest.now) }
 {
     let (token, after) = next(rest);
@@ -190,8 +184,8 @@ fn read_bound_number(
 pub fn read_bound(scale: u8, low: Option<i128>, rest: &[u8]) -> Result<(i128, &[u8]), ReadErr>
     requires { scale ≤ 18 }
     ensures limits { IfOk result (λ r. IsBound low r.0) }
-    ensures follows { LeadsOn (λ r. r.1.now) (λ ps. BoundAt scale low ∷ ps) (λ r ps. bound_places scale low r.0 ps) rest.now result }
-    ensures spelled { IfOk result (λ r. Spelled (Signed (λ negative. valued (bound_at negative scale low) r.0)) rest.now r.1.now) }
+    ensures reads { Reads (LeadsOn (λ ps. BoundAt scale low ∷ ps) (λ r ps. bound_places scale low r.0 ps))
+        (λ r. Signed (λ negative. valued (bound_at negative scale low) r.0)) (λ r. r.1.now) rest.now result }
     ensures shorter { IfOk result (λ r. length r.1.now < length rest.now) }
 {
     let (token, after) = next(rest);
@@ -206,9 +200,8 @@ pub fn read_bound(scale: u8, low: Option<i128>, rest: &[u8]) -> Result<(i128, &[
 
 // The offset of an observable behind its sign.
 fn read_offset_number(negative: bool, rest: &[u8]) -> Result<(i32, &[u8]), ReadErr>
-    ensures follows { PassesAnywhere (λ r. r.1.now) (λ ps. OffsetNumber negative ∷ ps) rest.now result }
-    ensures spelled { IfOk result (λ r. Spelled (valued (offset_at negative) r.0) rest.now r.1.now) }
-    ensures shorter { IfOk result (λ r. length r.1.now ≤ length rest.now) }
+    ensures reads { Reads (PassesAnywhere (λ ps. OffsetNumber negative ∷ ps))
+        (λ r. valued (offset_at negative) r.0) (λ r. r.1.now) rest.now result }
 {
     let (token, after) = next(rest);
     match signed_integer_at(1_000_000, negative, &token) {
@@ -219,9 +212,8 @@ fn read_offset_number(negative: bool, rest: &[u8]) -> Result<(i32, &[u8]), ReadE
 
 /// The offset of an observable.
 pub fn read_offset(rest: &[u8]) -> Result<(i32, &[u8]), ReadErr>
-    ensures follows { PassesAnywhere (λ r. r.1.now) (λ ps. OffsetAt ∷ ps) rest.now result }
-    ensures spelled { IfOk result (λ r. Spelled (Signed (λ negative. valued (offset_at negative) r.0)) rest.now r.1.now) }
-    ensures shorter { IfOk result (λ r. length r.1.now ≤ length rest.now) }
+    ensures reads { Reads (PassesAnywhere (λ ps. OffsetAt ∷ ps))
+        (λ r. Signed (λ negative. valued (offset_at negative) r.0)) (λ r. r.1.now) rest.now result }
 {
     let (token, after) = next(rest);
     if is_the_mark(&token, b"-") {
@@ -235,9 +227,8 @@ pub fn read_offset(rest: &[u8]) -> Result<(i32, &[u8]), ReadErr>
 
 // The number of a date behind its sign.
 fn read_days_behind_sign(negative: bool, rest: &[u8]) -> Result<(i32, &[u8]), ReadErr>
-    ensures follows { PassesAnywhere (λ r. r.1.now) (λ ps. DateNumber negative ∷ ps) rest.now result }
-    ensures spelled { IfOk result (λ r. Spelled (valued (date_number_at negative) r.0) rest.now r.1.now) }
-    ensures shorter { IfOk result (λ r. length r.1.now ≤ length rest.now) }
+    ensures reads { Reads (PassesAnywhere (λ ps. DateNumber negative ∷ ps))
+        (λ r. valued (date_number_at negative) r.0) (λ r. r.1.now) rest.now result }
 {
     let (token, after) = next(rest);
     match signed_integer_at(2_000_000, negative, &token) {
@@ -248,9 +239,8 @@ fn read_days_behind_sign(negative: bool, rest: &[u8]) -> Result<(i32, &[u8]), Re
 
 /// The number of a date of payoff code.
 pub fn read_date_number(rest: &[u8]) -> Result<(i32, &[u8]), ReadErr>
-    ensures follows { PassesAnywhere (λ r. r.1.now) (λ ps. DateAt ∷ ps) rest.now result }
-    ensures spelled { IfOk result (λ r. Spelled (Signed (λ negative. valued (date_number_at negative) r.0)) rest.now r.1.now) }
-    ensures shorter { IfOk result (λ r. length r.1.now ≤ length rest.now) }
+    ensures reads { Reads (PassesAnywhere (λ ps. DateAt ∷ ps))
+        (λ r. Signed (λ negative. valued (date_number_at negative) r.0)) (λ r. r.1.now) rest.now result }
 {
     let (token, after) = next(rest);
     if is_the_mark(&token, b"-") {
@@ -264,9 +254,8 @@ pub fn read_date_number(rest: &[u8]) -> Result<(i32, &[u8]), ReadErr>
 
 /// The number of a literal behind its sign.
 pub fn read_literal(negative: bool, rest: &[u8]) -> Result<(Decimal, &[u8]), ReadErr>
-    ensures follows { PassesAnywhere (λ r. r.1.now) (λ ps. LiteralNumber negative ∷ ps) rest.now result }
-    ensures spelled { IfOk result (λ r. Spelled (valued (literal_at negative) r.0) rest.now r.1.now) }
-    ensures shorter { IfOk result (λ r. length r.1.now ≤ length rest.now) }
+    ensures reads { Reads (PassesAnywhere (λ ps. LiteralNumber negative ∷ ps))
+        (λ r. valued (literal_at negative) r.0) (λ r. r.1.now) rest.now result }
 {
     let (token, after) = next(rest);
     match literal_at(negative, &token) {
@@ -277,10 +266,7 @@ pub fn read_literal(negative: bool, rest: &[u8]) -> Result<(Decimal, &[u8]), Rea
 
 /// A name that a binder binds.
 pub fn read_binder(rest: &[u8]) -> Result<(&[u8], &[u8]), ReadErr>
-    ensures follows { (binder : Binder) (l : Language) (d : ℕ) (names : List Bytes) →
-        LeadsOn (λ r. r.1.now) (λ ps. BinderAt binder l d names ∷ ps) (λ r ps. binder_places binder l d names r.0.now ps) rest.now result }
-    ensures spelled { IfOk result (λ r. Spelled (valued binder_at r.0.now) rest.now r.1.now) }
-    ensures shorter { IfOk result (λ r. length r.1.now ≤ length rest.now) }
+    ensures reads { Reads (Binds (λ r. r.0.now) (λ binder ps. binder ∷ ps)) (λ r. valued binder_at r.0.now) (λ r. r.1.now) rest.now result }
 {
     let (token, after) = next(rest);
     match binder_at(&token) {
@@ -291,9 +277,7 @@ pub fn read_binder(rest: &[u8]) -> Result<(&[u8], &[u8]), ReadErr>
 
 /// How a number is rounded.
 pub fn read_mode(rest: &[u8]) -> Result<(Mode, &[u8]), ReadErr>
-    ensures follows { PassesAnywhere (λ r. r.1.now) (λ ps. ModeAt ∷ ps) rest.now result }
-    ensures spelled { IfOk result (λ r. Spelled (valued mode_at r.0) rest.now r.1.now) }
-    ensures shorter { IfOk result (λ r. length r.1.now ≤ length rest.now) }
+    ensures reads { Reads (PassesAnywhere (λ ps. ModeAt ∷ ps)) (λ r. valued mode_at r.0) (λ r. r.1.now) rest.now result }
 {
     let (token, after) = next(rest);
     match mode_at(&token) {
@@ -304,10 +288,8 @@ pub fn read_mode(rest: &[u8]) -> Result<(Mode, &[u8]), ReadErr>
 
 /// An operator between two expressions.
 pub fn read_operator(rest: &[u8]) -> Result<(Operator, &[u8]), ReadErr>
-    ensures follows { PassesAnywhere (λ r. r.1.now) (λ ps. OperatorAt ∷ ps) rest.now result }
-    ensures spelled { IfOk result (λ r. Spelled (valued operator_at r.0) rest.now r.1.now) }
+    ensures reads { Reads (PassesAnywhere (λ ps. OperatorAt ∷ ps)) (λ r. valued operator_at r.0) (λ r. r.1.now) rest.now result }
     ensures between { IfOk result (λ r. IsBetween r.0) }
-    ensures shorter { IfOk result (λ r. length r.1.now ≤ length rest.now) }
 {
     let (token, after) = next(rest);
     match operator_at(&token) {
@@ -322,9 +304,8 @@ pub fn read_use_of_set<'a>(
     rest: &'a [u8],
 ) -> Result<(u32, &'a [u8]), ReadErr>
     requires { index_set_len names.now < 2 ^ 32 }
-    ensures follows { PassesAnywhere (λ r. r.1.now) (λ ps. UseOf names.now.keys ∷ ps) rest.now result }
-    ensures spelled { IfOk result (λ r. Spelled (valued (use_at names.now.keys) r.0) rest.now r.1.now) }
-    ensures shorter { IfOk result (λ r. length r.1.now ≤ length rest.now) }
+    ensures reads { Reads (PassesAnywhere (λ ps. UseOf names.now.keys ∷ ps))
+        (λ r. valued (use_at names.now.keys) r.0) (λ r. r.1.now) rest.now result }
 {
     let (token, after) = next(rest);
     if !is_name(&token) {
@@ -344,9 +325,8 @@ pub fn read_use_behind<'a>(
     rest: &'a [u8],
 ) -> Result<(u32, &'a [u8]), ReadErr>
     requires { index_set_len names.now < 2 ^ 32 }
-    ensures follows { PassesAnywhere (λ r. r.1.now) (λ ps. TheMark wanted.now ∷ UseOf names.now.keys ∷ ps) rest.now result }
-    ensures spelled { IfOk result (λ r. Spelled (mark wanted.now ⨟ valued (use_at names.now.keys) r.0) rest.now r.1.now) }
-    ensures shorter { IfOk result (λ r. length r.1.now ≤ length rest.now) }
+    ensures reads { Reads (PassesAnywhere (λ ps. TheMark wanted.now ∷ UseOf names.now.keys ∷ ps))
+        (λ r. mark wanted.now ⨟ valued (use_at names.now.keys) r.0) (λ r. r.1.now) rest.now result }
 {
     let rest = skip_mark(rest, wanted)?;
     read_use_of_set(names, rest)
@@ -358,9 +338,8 @@ pub fn read_use_of_map<'a, V>(
     rest: &'a [u8],
 ) -> Result<(u32, &'a [u8]), ReadErr>
     requires { index_map_len names.now < 2 ^ 32 }
-    ensures follows { PassesAnywhere (λ r. r.1.now) (λ ps. UseOf (keys names.now) ∷ ps) rest.now result }
-    ensures spelled { IfOk result (λ r. Spelled (valued (use_at (keys names.now)) r.0) rest.now r.1.now) }
-    ensures shorter { IfOk result (λ r. length r.1.now ≤ length rest.now) }
+    ensures reads { Reads (PassesAnywhere (λ ps. UseOf (keys names.now) ∷ ps))
+        (λ r. valued (use_at (keys names.now)) r.0) (λ r. r.1.now) rest.now result }
 {
     let (token, after) = next(rest);
     if !is_name(&token) {
@@ -378,9 +357,8 @@ pub fn read_days<'a>(
     rest: &'a [u8],
 ) -> Result<(Days, &'a [u8]), ReadErr>
     requires { index_map_len templates.now < 2 ^ 32 }
-    ensures follows { PassesAnywhere (λ r. r.1.now) (λ ps. DaysAt (keys templates.now) ∷ ps) rest.now result }
-    ensures spelled { IfOk result (λ r. Spelled (valued (days_at (keys templates.now)) r.0) rest.now r.1.now) }
-    ensures shorter { IfOk result (λ r. length r.1.now ≤ length rest.now) }
+    ensures reads { Reads (PassesAnywhere (λ ps. DaysAt (keys templates.now) ∷ ps))
+        (λ r. valued (days_at (keys templates.now)) r.0) (λ r. r.1.now) rest.now result }
 {
     let (token, after) = next(rest);
     if is_integer(&token) {
@@ -404,9 +382,8 @@ pub fn declare<'a>(
     names: &mut IndexSet<Name>,
     rest: &'a [u8],
 ) -> Result<&'a [u8], ReadErr>
-    ensures follows { (set : NameSet) →
-        Declares set names.old.keys (λ r. names.new.keys) (λ r. r.now) (λ ps. NewIn set ∷ ps) rest.now result }
-    ensures spelled { IfOk result (λ r. Spelled (Added names.old.keys names.new.keys) rest.now r.now) }
+    ensures reads { Reads (ForEach (λ (set : NameSet). Declares set names.old.keys (λ r. names.new.keys) (λ ps. NewIn set ∷ ps)))
+        (λ r. Added names.old.keys names.new.keys) (λ r. r.now) rest.now result }
     ensures shorter { IfOk result (λ r. length r.now < length rest.now) }
     ensures few { IfOk result (λ r. index_set_len names.new + length r.now ≤ index_set_len names.old + length rest.now) }
 {
@@ -428,9 +405,10 @@ pub fn read_new_name<'a, V>(
     names: &IndexMap<Name, V>,
     rest: &'a [u8],
 ) -> Result<(Name, &'a [u8]), ReadErr>
-    ensures follows { (set : NameSet) →
-        Declares set (keys names.now) (λ r. keys names.now ++ r.0 ∷ []) (λ r. r.1.now) (λ ps. NewIn set ∷ ps) rest.now result }
-    ensures spelled { IfOk result (λ r. Spelled (valued (new_at (keys names.now)) r.0) rest.now r.1.now) }
+    ensures reads { Reads (ForEach (λ (set : NameSet).
+        Declares set (keys names.now) (λ r. keys names.now ++ r.0 ∷ []) (λ ps. NewIn set ∷ ps)))
+        (λ r. valued (new_at (keys names.now)) r.0)
+        (λ r. r.1.now) rest.now result }
     ensures shorter { IfOk result (λ r. length r.1.now < length rest.now) }
 {
     let (token, after) = next(rest);

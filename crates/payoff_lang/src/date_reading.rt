@@ -5,7 +5,7 @@ ghost use Rattle.indexmap.specs.IndexMap.{keys};
 ghost use Rattle.contract_parse.specs.Tokens.{tokens};
 ghost use Rattle.contract_parse.specs.Places.{MoreTemplates, date_places};
 ghost use Rattle.contract_parse.specs.Reading.{LacksMark};
-ghost use Rattle.contract_parse.specs.Readers.{Passes, Spelled};
+ghost use Rattle.contract_parse.specs.Readers.{Passes, Reads};
 ghost use Rattle.payoff_lang.specs.TemplateDates.{date};
 ghost use Rattle.payoff_lang.specs.CodeReading.{AddsTemplates, RisingTemplates, date_first, date_in};
 
@@ -22,11 +22,9 @@ fn push_templates<'a>(
     names: &mut Vec<u32>,
     rest: &'a [u8],
 ) -> Result<&'a [u8], ReadErr>
-    ensures follows { Passes decls.now (λ r. r.now) (λ s ps. MoreTemplates ∷ ps) rest.now result }
-    ensures spelled { IfOk result
-        (λ r. Spelled (AddsTemplates (keys decls.now.templates) names.old.items names.new.items) rest.now r.now) }
+    ensures reads { Reads (Passes decls.now (λ s ps. MoreTemplates ∷ ps))
+        (λ r. AddsTemplates (keys decls.now.templates) names.old.items names.new.items) (λ r. r.now) rest.now result }
     ensures ends { IfOk result (λ r. LacksMark (codes "+") (tokens r.now)) }
-    ensures shorter { IfOk result (λ r. length r.now ≤ length rest.now) }
 {
     let mut rest = rest;
     while let Some(after) = after_mark(rest, b"+") {
@@ -43,10 +41,9 @@ fn read_templates<'a>(
     decls: &Decls,
     rest: &'a [u8],
 ) -> Result<(Vec<u32>, &'a [u8]), ReadErr>
-    ensures follows { Passes decls.now (λ r. r.1.now) (λ s ps. MoreTemplates ∷ ps) rest.now result }
-    ensures spelled { IfOk result (λ r. Spelled (RisingTemplates (keys decls.now.templates) r.0.items) rest.now r.1.now) }
+    ensures reads { Reads (Passes decls.now (λ s ps. MoreTemplates ∷ ps))
+        (λ r. RisingTemplates (keys decls.now.templates) r.0.items) (λ r. r.1.now) rest.now result }
     ensures ends { IfOk result (λ r. LacksMark (codes "+") (tokens r.1.now)) }
-    ensures shorter { IfOk result (λ r. length r.1.now ≤ length rest.now) }
 {
     let mut names = Vec::new(alloc);
     let rest = push_templates(decls, &mut names, rest)?;
@@ -60,10 +57,8 @@ pub fn read_date<'a>(
     decls: &Decls,
     rest: &'a [u8],
 ) -> Result<(DateExpr, &'a [u8]), ReadErr>
-    ensures follows { Passes decls.now (λ r. r.1.now) (λ s ps. date_places ps) rest.now result }
-    ensures spelled { IfOk result (λ r. Spelled (date_in decls.now r.0) rest.now r.1.now) }
+    ensures reads { Reads (Passes decls.now (λ s ps. date_places ps)) (λ r. date_in decls.now r.0) (λ r. r.1.now) rest.now result }
     ensures ends { IfOk result (λ r. LacksMark (codes "+") (tokens r.1.now)) }
-    ensures shorter { IfOk result (λ r. length r.1.now ≤ length rest.now) }
 {
     let (days, rest) = read_date_number(rest)?;
     let (names, rest) = read_templates(alloc, decls, rest)?;

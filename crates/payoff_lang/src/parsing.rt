@@ -7,7 +7,7 @@ ghost use Rattle.contract_parse.specs.Judgements.{is_version, new_at};
 ghost use Rattle.contract_parse.specs.Spelling.{end, mark, one, valued, word, ◌⨟◌};
 ghost use Rattle.contract_parse.specs.Places.{AmountAt, Leaves, NewIn, Open, Place, TheEnd, TheMark, TheVersion, TheWord, code_text_places, run};
 ghost use Rattle.contract_parse.specs.Reading.{declared_in, tokens_ahead};
-ghost use Rattle.contract_parse.specs.Readers.{Declares, Passes, PassesAnywhere, Spelled, SpelledBehind};
+ghost use Rattle.contract_parse.specs.Readers.{Declares, Extends, Passes, PassesAnywhere, Reads, ReadsAhead, ahead_from, ahead_in, behind_word};
 ghost use Rattle.contract_parse.specs.declared.names.NameSet.TheVariants.{Contract};
 ghost use Rattle.payoff_lang.specs.Code.{payoff_code};
 ghost use Rattle.payoff_lang.specs.CodeSizes.{height_of_code, nodes_of_code};
@@ -32,8 +32,8 @@ use term_core::{Decls, Name, Scope};
 
 // The name of the code, which is alone in its set.
 fn read_name(alloc: Global, rest: &[u8]) -> Result<(Name, &[u8]), ReadErr>
-    ensures follows { Declares Contract [] (λ r. r.0 ∷ []) (λ r. r.1.now) (λ ps. NewIn Contract ∷ ps) rest.now result }
-    ensures spelled { IfOk result (λ r. Spelled (valued (new_at []) r.0) rest.now r.1.now) }
+    ensures reads { Reads (Declares Contract [] (λ r. r.0 ∷ []) (λ ps. NewIn Contract ∷ ps))
+        (λ r. valued (new_at []) r.0) (λ r. r.1.now) rest.now result }
     ensures shorter { IfOk result (λ r. length r.1.now < length rest.now) }
 {
     let others: IndexMap<Name, u32> = IndexMap::new(alloc);
@@ -47,10 +47,9 @@ fn read_definition<'a>(
     decls: &Decls,
     rest: &'a [u8],
 ) -> Result<(Code, &'a [u8]), ReadErr>
-    ensures follows { Passes decls.now (λ r. r.1.now)
-        (λ s ps. TheMark (codes "=") ∷ AmountAt 1 [] ∷ TheMark (codes ";") ∷ ps) rest.now result }
-    ensures spelled { IfOk result
-        (λ r. Spelled (mark (codes "=") ⨟ code_part (declared_in decls.now []) [] (payoff_code r.0) ⨟ mark (codes ";")) rest.now r.1.now) }
+    ensures reads { Reads (Passes decls.now (λ s ps. TheMark (codes "=") ∷ AmountAt 1 [] ∷ TheMark (codes ";") ∷ ps))
+        (λ r. mark (codes "=") ⨟ code_part (declared_in decls.now []) [] (payoff_code r.0) ⨟ mark (codes ";"))
+        (λ r. r.1.now) rest.now result }
     ensures high { IfOk result (λ r. height_of_code (payoff_code r.0) ≤ 400) }
     ensures shorter { IfOk result (λ r. length r.1.now < length rest.now) }
 {
@@ -66,11 +65,10 @@ fn read_named_code<'a>(
     decls: &Decls,
     rest: &'a [u8],
 ) -> Result<(Name, Code, &'a [u8]), ReadErr>
-    ensures follows { (ps : List Place) → Leaves (λ r. run (declared_in decls.now (r.0 ∷ [])) ps (tokens r.2.now)) result
-        (run (declared_in decls.now []) (NewIn Contract ∷ TheMark (codes "=") ∷ AmountAt 1 [] ∷ TheMark (codes ";") ∷ ps)
-        (tokens rest.now)) }
-    ensures spelled { IfOk result (λ r.
-        SpelledBehind (codes "code") (code_line (declared_for_code (declarations decls.now)) r.0 (payoff_code r.1)) rest.now r.2.now) }
+    ensures reads { Reads (Extends (declared_in decls.now []) (λ r. declared_in decls.now (r.0 ∷ []))
+        (λ ps. NewIn Contract ∷ TheMark (codes "=") ∷ AmountAt 1 [] ∷ TheMark (codes ";") ∷ ps))
+        (λ r. behind_word (codes "code") (code_line (declared_for_code (declarations decls.now)) r.0 (payoff_code r.1)))
+        (λ r. r.2.now) rest.now result }
     ensures shorter { IfOk result (λ r. length r.2.now < length rest.now) }
 {
     let (name, rest) = read_name(alloc, rest)?;
@@ -84,11 +82,10 @@ fn read_code_line<'a>(
     decls: &Decls,
     ahead: &Lookahead<'a>,
 ) -> Result<(Name, Code, &'a [u8]), ReadErr>
-    ensures follows { (ps : List Place) → Leaves (λ r. run (declared_in decls.now (r.0 ∷ [])) ps (tokens r.2.now)) result
-        (run (declared_in decls.now []) (TheWord (codes "code") ∷ NewIn Contract ∷ TheMark (codes "=") ∷ AmountAt 1 []
-        ∷ TheMark (codes ";") ∷ ps) (tokens_ahead ahead.now)) }
-    ensures spelled { IfOk result
-        (λ r. code_line (declared_for_code (declarations decls.now)) r.0 (payoff_code r.1) (tokens_ahead ahead.now) (tokens r.2.now)) }
+    ensures reads { ReadsAhead (Extends (declared_in decls.now []) (λ r. declared_in decls.now (r.0 ∷ []))
+        (λ ps. TheWord (codes "code") ∷ NewIn Contract ∷ TheMark (codes "=") ∷ AmountAt 1 [] ∷ TheMark (codes ";") ∷ ps))
+        (λ r. code_line (declared_for_code (declarations decls.now)) r.0 (payoff_code r.1))
+        (λ r. ahead_in r.2.now) (ahead_from ahead.now) result }
 {
     match after_word(ahead, b"code") {
         Some(rest) => read_named_code(alloc, decls, rest),
@@ -116,10 +113,8 @@ fn read_code<'a>(
 // The first line.
 #[tactic(auto, using(contract_parse::proofs::Parts::followed_by))]
 fn skip_first_line(rest: &[u8]) -> Result<&[u8], ReadErr>
-    ensures follows { PassesAnywhere (λ r. r.now)
-        (λ ps. TheWord (codes "payoff") ∷ TheVersion ∷ TheMark (codes ";") ∷ ps) rest.now result }
-    ensures spelled { IfOk result (λ r. Spelled (word (codes "payoff") ⨟ one is_version ⨟ mark (codes ";")) rest.now r.now) }
-    ensures shorter { IfOk result (λ r. length r.now ≤ length rest.now) }
+    ensures reads { Reads (PassesAnywhere (λ ps. TheWord (codes "payoff") ∷ TheVersion ∷ TheMark (codes ";") ∷ ps))
+        (λ r. word (codes "payoff") ⨟ one is_version ⨟ mark (codes ";")) (λ r. r.now) rest.now result }
 {
     let rest = skip_word(rest, b"payoff")?;
     let rest = skip_version(rest)?;

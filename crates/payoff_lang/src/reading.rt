@@ -6,7 +6,7 @@ ghost use Rattle.contract_parse.specs.Judgements.{use_at};
 ghost use Rattle.contract_parse.specs.Spelling.{mark, valued, word, ◌⨟◌};
 ghost use Rattle.contract_parse.specs.Places.{AmountAt, ExprAt, TheMark, TheWord, UseOf, amount_places, date_places};
 ghost use Rattle.contract_parse.specs.Reading.{declared_in};
-ghost use Rattle.contract_parse.specs.Readers.{Passes, Spelled, SpelledBehind, SpelledBehindPart};
+ghost use Rattle.contract_parse.specs.Readers.{ForEach, Passes, Reads, behind_part, behind_word, each};
 ghost use Rattle.contract_parse.specs.declared.heads.Language.{Language};
 ghost use Rattle.contract_parse.specs.declared.heads.AmountHead.{AmountHead};
 ghost use Rattle.payoff_lang.specs.TemplateDates.{date};
@@ -30,14 +30,12 @@ use term_core::{Decls, Scope};
 // What is paid, by whom and to whom, behind the date.
 #[tactic(auto, using(contract_parse::proofs::Parts::followed_by))]
 fn read_transfer<'a>(decls: &Decls, rest: &'a [u8]) -> Result<(u32, u32, u32, &'a [u8]), ReadErr>
-    ensures follows { Passes decls.now (λ r. r.3.now)
-        (λ s ps. TheMark (codes ",") ∷ UseOf s.assets ∷ TheMark (codes ",") ∷ UseOf s.parties ∷ TheMark (codes ",") ∷ UseOf s.parties
-        ∷ TheMark (codes ")") ∷ ps) rest.now result }
-    ensures spelled { IfOk result
-        (λ r. Spelled (mark (codes ",") ⨟ valued (use_at (declared_in decls.now []).assets) r.0 ⨟ mark (codes ",")
-        ⨟ valued (use_at (declared_in decls.now []).parties) r.1 ⨟ mark (codes ",")
-        ⨟ valued (use_at (declared_in decls.now []).parties) r.2 ⨟ mark (codes ")")) rest.now r.3.now) }
-    ensures shorter { IfOk result (λ r. length r.3.now ≤ length rest.now) }
+    ensures reads { Reads (Passes decls.now (λ s ps. TheMark (codes ",") ∷ UseOf s.assets ∷ TheMark (codes ",") ∷ UseOf s.parties
+        ∷ TheMark (codes ",") ∷ UseOf s.parties ∷ TheMark (codes ")") ∷ ps))
+        (λ r. mark (codes ",") ⨟ valued (use_at (declared_in decls.now []).assets) r.0
+        ⨟ mark (codes ",") ⨟ valued (use_at (declared_in decls.now []).parties) r.1
+        ⨟ mark (codes ",") ⨟ valued (use_at (declared_in decls.now []).parties) r.2 ⨟ mark (codes ")"))
+        (λ r. r.3.now) rest.now result }
 {
     let (asset, rest) = read_use_behind(b",", &decls.assets, rest)?;
     let (from, rest) = read_use_behind(b",", &decls.parties, rest)?;
@@ -54,9 +52,8 @@ fn read_date_behind_mark<'a>(
     wanted: &[u8],
     rest: &'a [u8],
 ) -> Result<(DateExpr, &'a [u8]), ReadErr>
-    ensures follows { Passes decls.now (λ r. r.1.now) (λ s ps. TheMark wanted.now ∷ date_places ps) rest.now result }
-    ensures spelled { IfOk result (λ r. Spelled (mark wanted.now ⨟ date_in decls.now r.0) rest.now r.1.now) }
-    ensures shorter { IfOk result (λ r. length r.1.now ≤ length rest.now) }
+    ensures reads { Reads (Passes decls.now (λ s ps. TheMark wanted.now ∷ date_places ps))
+        (λ r. mark wanted.now ⨟ date_in decls.now r.0) (λ r. r.1.now) rest.now result }
 {
     let rest = skip_mark(rest, wanted)?;
     read_date(alloc, decls, rest)
@@ -70,9 +67,8 @@ fn read_date_behind_word<'a>(
     wanted: &[u8],
     rest: &'a [u8],
 ) -> Result<(DateExpr, &'a [u8]), ReadErr>
-    ensures follows { Passes decls.now (λ r. r.1.now) (λ s ps. TheWord wanted.now ∷ date_places ps) rest.now result }
-    ensures spelled { IfOk result (λ r. Spelled (word wanted.now ⨟ date_in decls.now r.0) rest.now r.1.now) }
-    ensures shorter { IfOk result (λ r. length r.1.now ≤ length rest.now) }
+    ensures reads { Reads (Passes decls.now (λ s ps. TheWord wanted.now ∷ date_places ps))
+        (λ r. word wanted.now ⨟ date_in decls.now r.0) (λ r. r.1.now) rest.now result }
 {
     let rest = skip_word(rest, wanted)?;
     read_date(alloc, decls, rest)
@@ -81,12 +77,11 @@ fn read_date_behind_word<'a>(
 // What stands behind `pay`.
 #[tactic(auto, using(contract_parse::proofs::Parts::followed_by))]
 fn read_pay<'a>(alloc: Global, decls: &Decls, rest: &'a [u8]) -> Result<(Code, &'a [u8]), ReadErr>
-    ensures follows { (depth : ℕ) (names : List Bytes) → Passes decls.now (λ r. r.1.now)
-        (λ s ps. amount_places s depth names AmountHead.Pay ps) rest.now result }
-    ensures spelled { IfOk result (λ r. (names : List Bytes) →
-        SpelledBehind (codes "pay") (code_part (declared_in decls.now []) names (payoff_code r.0)) rest.now r.1.now) }
+    ensures reads { Reads (ForEach (λ (depth : ℕ). ForEach (λ (names : List Bytes).
+        Passes decls.now (λ s ps. amount_places s depth names AmountHead.Pay ps))))
+        (λ r. each (λ (names : List Bytes). behind_word (codes "pay") (code_part (declared_in decls.now []) names (payoff_code r.0))))
+        (λ r. r.1.now) rest.now result }
     ensures high { IfOk result (λ r. height_of_code (payoff_code r.0) ≡ 1) }
-    ensures shorter { IfOk result (λ r. length r.1.now ≤ length rest.now) }
 {
     let (date, rest) = read_date_behind_mark(alloc, decls, b"(", rest)?;
     let (asset, from, to, rest) = read_transfer(decls, rest)?;
@@ -111,10 +106,9 @@ fn read_value<'a>(
 ) -> Result<(Vx, &'a [u8]), ReadErr>
     requires shallow { depth ≤ 401 }
     requires bound { length (names_in bound.now) < depth }
-    ensures follows { Passes decls.now (λ r. r.1.now) (λ s ps. ExprAt Language.Code depth (names_in bound.now) ∷ ps) rest.now result }
-    ensures spelled { IfOk result (λ r. Spelled (value_in decls.now bound.now r.0) rest.now r.1.now) }
+    ensures reads { Reads (Passes decls.now (λ s ps. ExprAt Language.Code depth (names_in bound.now) ∷ ps))
+        (λ r. value_in decls.now bound.now r.0) (λ r. r.1.now) rest.now result }
     ensures high { IfOk result (λ r. height (plain (value_expression r.0)) + depth ≤ 401) }
-    ensures shorter { IfOk result (λ r. length r.1.now ≤ length rest.now) }
 {
     let (e, after) = read_expr(alloc, Language::Code, decls, bound, depth, rest)?;
     let v = dated(alloc, &Written { decls, text: rest }, &e)?;
@@ -133,11 +127,9 @@ fn read_value_behind<'a>(
 ) -> Result<(Vx, &'a [u8]), ReadErr>
     requires shallow { depth ≤ 400 }
     requires bound { length (names_in bound.now) ≤ depth }
-    ensures follows { Passes decls.now (λ r. r.1.now)
-        (λ s ps. TheMark wanted.now ∷ ExprAt Language.Code (depth + 1) (names_in bound.now) ∷ ps) rest.now result }
-    ensures spelled { IfOk result (λ r. Spelled (mark wanted.now ⨟ value_in decls.now bound.now r.0) rest.now r.1.now) }
+    ensures reads { Reads (Passes decls.now (λ s ps. TheMark wanted.now ∷ ExprAt Language.Code (depth + 1) (names_in bound.now) ∷ ps))
+        (λ r. mark wanted.now ⨟ value_in decls.now bound.now r.0) (λ r. r.1.now) rest.now result }
     ensures high { IfOk result (λ r. height (plain (value_expression r.0)) + depth ≤ 400) }
-    ensures shorter { IfOk result (λ r. length r.1.now ≤ length rest.now) }
 {
     let rest = skip_mark(rest, wanted)?;
     read_value(alloc, decls, bound, depth + 1, rest)
@@ -154,12 +146,10 @@ fn read_test<'a>(
 ) -> Result<(Vx, DateExpr, &'a [u8]), ReadErr>
     requires shallow { depth ≤ 400 }
     requires bound { length (names_in bound.now) < depth }
-    ensures follows { Passes decls.now (λ r. r.2.now)
-        (λ s ps. ExprAt Language.Code (depth + 1) (names_in bound.now) ∷ TheWord (codes "upto") ∷ date_places ps) rest.now result }
-    ensures spelled { IfOk result
-        (λ r. Spelled (value_in decls.now bound.now r.0 ⨟ word (codes "upto") ⨟ date_in decls.now r.1) rest.now r.2.now) }
+    ensures reads { Reads (Passes decls.now
+        (λ s ps. ExprAt Language.Code (depth + 1) (names_in bound.now) ∷ TheWord (codes "upto") ∷ date_places ps))
+        (λ r. value_in decls.now bound.now r.0 ⨟ word (codes "upto") ⨟ date_in decls.now r.1) (λ r. r.2.now) rest.now result }
     ensures high { IfOk result (λ r. height (plain (value_expression r.0)) + depth ≤ 400) }
-    ensures shorter { IfOk result (λ r. length r.2.now ≤ length rest.now) }
 {
     let (test, rest) = read_value(alloc, decls, bound, depth + 1, rest)?;
     let (upto, rest) = read_date_behind_word(alloc, decls, b"upto", rest)?;
@@ -177,10 +167,9 @@ fn read_boxed<'a>(
 ) -> Result<(Box<Code>, &'a [u8]), ReadErr>
     requires shallow { depth ≤ 400 }
     requires bound { length (names_in bound.now) ≤ depth }
-    ensures follows { Passes decls.now (λ r. r.1.now) (λ s ps. AmountAt (depth + 1) (names_in bound.now) ∷ ps) rest.now result }
-    ensures spelled { IfOk result (λ r. Spelled (code_in decls.now bound.now r.0.value) rest.now r.1.now) }
+    ensures reads { Reads (Passes decls.now (λ s ps. AmountAt (depth + 1) (names_in bound.now) ∷ ps))
+        (λ r. code_in decls.now bound.now r.0.value) (λ r. r.1.now) rest.now result }
     ensures high { IfOk result (λ r. height_of_code (payoff_code r.0.value) + depth ≤ 400) }
-    ensures shorter { IfOk result (λ r. length r.1.now ≤ length rest.now) }
 {
     let (of, rest) = read_amount(alloc, decls, bound, depth + 1, rest)?;
     let of = Box::new(alloc, of)?;
@@ -200,11 +189,9 @@ fn read_behind_mark<'a>(
 ) -> Result<(Box<Code>, &'a [u8]), ReadErr>
     requires shallow { depth ≤ 400 }
     requires bound { length (names_in bound.now) ≤ depth }
-    ensures follows { Passes decls.now (λ r. r.1.now)
-        (λ s ps. TheMark wanted.now ∷ AmountAt (depth + 1) (names_in bound.now) ∷ ps) rest.now result }
-    ensures spelled { IfOk result (λ r. Spelled (mark wanted.now ⨟ code_in decls.now bound.now r.0.value) rest.now r.1.now) }
+    ensures reads { Reads (Passes decls.now (λ s ps. TheMark wanted.now ∷ AmountAt (depth + 1) (names_in bound.now) ∷ ps))
+        (λ r. mark wanted.now ⨟ code_in decls.now bound.now r.0.value) (λ r. r.1.now) rest.now result }
     ensures high { IfOk result (λ r. height_of_code (payoff_code r.0.value) + depth ≤ 400) }
-    ensures shorter { IfOk result (λ r. length r.1.now ≤ length rest.now) }
 {
     let rest = skip_mark(rest, wanted)?;
     read_boxed(alloc, decls, bound, depth, rest)
@@ -223,11 +210,9 @@ fn read_behind_word<'a>(
 ) -> Result<(Box<Code>, &'a [u8]), ReadErr>
     requires shallow { depth ≤ 400 }
     requires bound { length (names_in bound.now) ≤ depth }
-    ensures follows { Passes decls.now (λ r. r.1.now)
-        (λ s ps. TheWord wanted.now ∷ AmountAt (depth + 1) (names_in bound.now) ∷ ps) rest.now result }
-    ensures spelled { IfOk result (λ r. Spelled (word wanted.now ⨟ code_in decls.now bound.now r.0.value) rest.now r.1.now) }
+    ensures reads { Reads (Passes decls.now (λ s ps. TheWord wanted.now ∷ AmountAt (depth + 1) (names_in bound.now) ∷ ps))
+        (λ r. word wanted.now ⨟ code_in decls.now bound.now r.0.value) (λ r. r.1.now) rest.now result }
     ensures high { IfOk result (λ r. height_of_code (payoff_code r.0.value) + depth ≤ 400) }
-    ensures shorter { IfOk result (λ r. length r.1.now ≤ length rest.now) }
 {
     let rest = skip_word(rest, wanted)?;
     read_boxed(alloc, decls, bound, depth, rest)
@@ -245,14 +230,11 @@ fn read_branches<'a>(
 ) -> Result<(Box<Code>, Box<Code>, &'a [u8]), ReadErr>
     requires shallow { depth ≤ 400 }
     requires bound { length (names_in bound.now) ≤ depth }
-    ensures follows { Passes decls.now (λ r. r.2.now)
-        (λ s ps. TheWord (codes "then") ∷ AmountAt (depth + 1) (names_in bound.now) ∷ TheWord (codes "else")
-        ∷ AmountAt (depth + 1) (names_in bound.now) ∷ ps) rest.now result }
-    ensures spelled { IfOk result
-        (λ r. Spelled (word (codes "then") ⨟ code_in decls.now bound.now r.0.value ⨟ word (codes "else")
-        ⨟ code_in decls.now bound.now r.1.value) rest.now r.2.now) }
+    ensures reads { Reads (Passes decls.now (λ s ps. TheWord (codes "then") ∷ AmountAt (depth + 1) (names_in bound.now)
+        ∷ TheWord (codes "else") ∷ AmountAt (depth + 1) (names_in bound.now) ∷ ps))
+        (λ r. word (codes "then") ⨟ code_in decls.now bound.now r.0.value ⨟ word (codes "else") ⨟ code_in decls.now bound.now r.1.value)
+        (λ r. r.2.now) rest.now result }
     ensures high { IfOk result (λ r. max (height_of_code (payoff_code r.0.value)) (height_of_code (payoff_code r.1.value)) + depth ≤ 400) }
-    ensures shorter { IfOk result (λ r. length r.2.now ≤ length rest.now) }
 {
     let (hit, rest) = read_behind_word(alloc, decls, bound, depth, b"then", rest)?;
     let (miss, rest) = read_behind_word(alloc, decls, bound, depth, b"else", rest)?;
@@ -271,10 +253,9 @@ fn read_add<'a>(
 ) -> Result<(Code, &'a [u8]), ReadErr>
     requires shallow { depth ≤ 400 }
     requires bound { length (names_in bound.now) < depth }
-    ensures follows { Passes decls.now (λ r. r.1.now) (behind_amount_head depth bound.now AmountHead.Add) rest.now result }
-    ensures spelled { IfOk result (λ r. SpelledBehind (codes "add") (code_in decls.now bound.now r.0) rest.now r.1.now) }
+    ensures reads { Reads (Passes decls.now (behind_amount_head depth bound.now AmountHead.Add))
+        (λ r. behind_word (codes "add") (code_in decls.now bound.now r.0)) (λ r. r.1.now) rest.now result }
     ensures high { IfOk result (λ r. height_of_code (payoff_code r.0) + depth ≤ 401) }
-    ensures shorter { IfOk result (λ r. length r.1.now ≤ length rest.now) }
 {
     let (left, rest) = read_behind_mark(alloc, decls, bound, depth, b"(", rest)?;
     let (right, rest) = read_behind_mark(alloc, decls, bound, depth, b",", rest)?;
@@ -294,10 +275,9 @@ fn read_scaled<'a>(
 ) -> Result<(Code, &'a [u8]), ReadErr>
     requires shallow { depth ≤ 400 }
     requires bound { length (names_in bound.now) < depth }
-    ensures follows { Passes decls.now (λ r. r.1.now) (behind_amount_head depth bound.now AmountHead.Scale) rest.now result }
-    ensures spelled { IfOk result (λ r. SpelledBehind (codes "scale") (code_in decls.now bound.now r.0) rest.now r.1.now) }
+    ensures reads { Reads (Passes decls.now (behind_amount_head depth bound.now AmountHead.Scale))
+        (λ r. behind_word (codes "scale") (code_in decls.now bound.now r.0)) (λ r. r.1.now) rest.now result }
     ensures high { IfOk result (λ r. height_of_code (payoff_code r.0) + depth ≤ 401) }
-    ensures shorter { IfOk result (λ r. length r.1.now ≤ length rest.now) }
 {
     let (factor, rest) = read_value_behind(alloc, decls, bound, depth, b"(", rest)?;
     let (body, rest) = read_behind_mark(alloc, decls, bound, depth, b",", rest)?;
@@ -317,10 +297,9 @@ fn read_let<'a>(
 ) -> Result<(Code, &'a [u8]), ReadErr>
     requires shallow { depth ≤ 400 }
     requires bound { length (names_in bound.now) < depth }
-    ensures follows { Passes decls.now (λ r. r.1.now) (behind_amount_head depth bound.now AmountHead.Let) rest.now result }
-    ensures spelled { IfOk result (λ r. SpelledBehind (codes "let") (code_in decls.now bound.now r.0) rest.now r.1.now) }
+    ensures reads { Reads (Passes decls.now (behind_amount_head depth bound.now AmountHead.Let))
+        (λ r. behind_word (codes "let") (code_in decls.now bound.now r.0)) (λ r. r.1.now) rest.now result }
     ensures high { IfOk result (λ r. height_of_code (payoff_code r.0) + depth ≤ 401) }
-    ensures shorter { IfOk result (λ r. length r.1.now ≤ length rest.now) }
 {
     let (name, rest) = read_binder(rest)?;
     let (value, rest) = read_value_behind(alloc, decls, bound, depth, b"=", rest)?;
@@ -344,10 +323,9 @@ fn read_loop<'a>(
 ) -> Result<(Code, &'a [u8]), ReadErr>
     requires shallow { depth ≤ 400 }
     requires bound { length (names_in bound.now) < depth }
-    ensures follows { Passes decls.now (λ r. r.1.now) (behind_amount_head depth bound.now AmountHead.Loop) rest.now result }
-    ensures spelled { IfOk result (λ r. SpelledBehind (codes "loop") (code_in decls.now bound.now r.0) rest.now r.1.now) }
+    ensures reads { Reads (Passes decls.now (behind_amount_head depth bound.now AmountHead.Loop))
+        (λ r. behind_word (codes "loop") (code_in decls.now bound.now r.0)) (λ r. r.1.now) rest.now result }
     ensures high { IfOk result (λ r. height_of_code (payoff_code r.0) + depth ≤ 401) }
-    ensures shorter { IfOk result (λ r. length r.1.now ≤ length rest.now) }
 {
     let (test, upto, rest) = read_test(alloc, decls, bound, depth, rest)?;
     let (hit, miss, rest) = read_branches(alloc, decls, bound, depth, rest)?;
@@ -374,10 +352,9 @@ fn read_cut<'a>(
 ) -> Result<(Code, &'a [u8]), ReadErr>
     requires shallow { depth ≤ 400 }
     requires bound { length (names_in bound.now) < depth }
-    ensures follows { Passes decls.now (λ r. r.1.now) (behind_amount_head depth bound.now AmountHead.Cut) rest.now result }
-    ensures spelled { IfOk result (λ r. SpelledBehind (codes "cut") (code_in decls.now bound.now r.0) rest.now r.1.now) }
+    ensures reads { Reads (Passes decls.now (behind_amount_head depth bound.now AmountHead.Cut))
+        (λ r. behind_word (codes "cut") (code_in decls.now bound.now r.0)) (λ r. r.1.now) rest.now result }
     ensures high { IfOk result (λ r. height_of_code (payoff_code r.0) + depth ≤ 401) }
-    ensures shorter { IfOk result (λ r. length r.1.now ≤ length rest.now) }
 {
     let (date, rest) = read_date_behind_mark(alloc, decls, b"(", rest)?;
     let (body, rest) = read_behind_mark(alloc, decls, bound, depth, b",", rest)?;
@@ -397,11 +374,9 @@ fn read_behind_amount<'a>(
 ) -> Result<(Code, &'a [u8]), ReadErr>
     requires shallow { depth ≤ 400 }
     requires bound { length (names_in bound.now) < depth }
-    ensures follows { Passes decls.now (λ r. r.1.now) (behind_amount_head depth bound.now head) rest.now result }
-    ensures spelled { IfOk result
-        (λ r. SpelledBehindPart (first_token_of_amount head) (code_in decls.now bound.now r.0) rest.now r.1.now) }
+    ensures reads { Reads (Passes decls.now (behind_amount_head depth bound.now head))
+        (λ r. behind_part (first_token_of_amount head) (code_in decls.now bound.now r.0)) (λ r. r.1.now) rest.now result }
     ensures high { IfOk result (λ r. height_of_code (payoff_code r.0) + depth ≤ 401) }
-    ensures shorter { IfOk result (λ r. length r.1.now ≤ length rest.now) }
 {
     match head {
         AmountHead::None => Ok((Code::None, rest)),
@@ -425,10 +400,9 @@ pub fn read_amount<'a>(
 ) -> Result<(Code, &'a [u8]), ReadErr>
     requires shallow { depth ≤ 401 }
     requires bound { length (names_in bound.now) < depth }
-    ensures follows { Passes decls.now (λ r. r.1.now) (λ s ps. AmountAt depth (names_in bound.now) ∷ ps) rest.now result }
-    ensures spelled { IfOk result (λ r. Spelled (code_in decls.now bound.now r.0) rest.now r.1.now) }
+    ensures reads { Reads (Passes decls.now (λ s ps. AmountAt depth (names_in bound.now) ∷ ps))
+        (λ r. code_in decls.now bound.now r.0) (λ r. r.1.now) rest.now result }
     ensures high { IfOk result (λ r. height_of_code (payoff_code r.0) + depth ≤ 401) }
-    ensures shorter { IfOk result (λ r. length r.1.now ≤ length rest.now) }
 {
     let (token, after) = next(rest);
     match amount_head_at(depth, &token) {

@@ -1,4 +1,4 @@
-use Rattle.std.proofs.Common.{◌≡◌, ◌∷◌, [], List, length}
+use Rattle.std.proofs.Common.{◌≡◌, ◌≤◌, ◌∷◌, [], List, length}
 use Rattle.indexmap.specs.IndexMap.{keys}
 use Rattle.term_core.specs.Terms.{Contract}
 use Rattle.contract_parse.specs.Tokens.{Tok}
@@ -13,6 +13,7 @@ abbrev pub invariant-loop-after : goal.invariant-loop-after
 invariant-loop-after l = record {
   follows : (ps : List Place) → run (declared_in l.decls []) (ContractLines ∷ ps) (tokens_ahead l.fn.ahead) ≡ run (declared_in l.decls (keys l.contracts)) (ContractLines ∷ ps) (tokens_ahead l.ahead);
   spelled : (after : List (Bytes × Contract)) (end : List Tok) → Repeat (Entry (contract_line (declared_in l.decls []))) (trees l.contracts.entries) after (tokens_ahead l.ahead) end → Repeat (Entry (contract_line (declared_in l.decls []))) [] after (tokens_ahead l.fn.ahead) end;
+  shorter : length l.ahead.after.now ≤ length l.fn.ahead.after.now;
 }
 
 abbrev pub decreases-loop-after : goal.decreases-loop-after

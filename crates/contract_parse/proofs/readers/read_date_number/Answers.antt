@@ -1,6 +1,6 @@
 use Rattle.std.proofs.lemmas.Int.{to_z-of_z}
 use Rattle.contract_parse.proofs.NumberFacts.{fits_days}
-use Rattle.std.proofs.Common.{w32, ◌≡◌, ◌∷◌, refl, sym, true, false}
+use Rattle.std.proofs.Common.{w32, ◌≡◌, ◌∷◌, refl, sym, true, false, rules}
 use Rattle.std.specs.Prelude.{codes}
 use Rattle.std.proofs.lemmas.Result.{IfOk-weaker}
 use Rattle.contract_parse.specs.Judgements.{date_number_at}
@@ -12,17 +12,29 @@ use Rattle.contract_parse.proofs.Steps.{passes, refuses, so_passes, so_spells, s
 use Rattle.contract_parse.proofs.Parts.{followed_by}
 use Rattle.contract_parse.proofs.readers.read_date_number.Goals as goal
 
-pub returns-then-is_the_mark-clause-follows : goal.returns-then-is_the_mark-clause-follows
-returns-then-is_the_mark-clause-follows c s ps = rw (so_passes (is_the_mark (codes "-")) (λ text left. (refl, refl)) s s (DateAt ∷ ps) (DateNumber true ∷ ps) (judged (date_number_at false (tok_of c.next.result.0)) (λ n. Next s ps)) (tok_of c.next.result.0) c.args.rest.now c.next.result.1.now c.next.ensures.starts c.if-is_the_mark.ensures refl) (c.read_days_behind_sign.ensures.follows s ps)
+pub returns-then-is_the_mark : goal.returns-then-is_the_mark
+returns-then-is_the_mark c = record {
+  reads = record {
+    follows = λ s ps. rw (so_passes (is_the_mark (codes "-")) (λ text left. (refl, refl)) s s (DateAt ∷ ps) (DateNumber true ∷ ps) (judged (date_number_at false (tok_of c.next.result.0)) (λ n. Next s ps)) (tok_of c.next.result.0) c.args.rest.now c.next.result.1.now c.next.ensures.starts c.if-is_the_mark.ensures refl) (c.read_days_behind_sign.ensures.reads.follows s ps);
+    spelled = IfOk-weaker c.read_days_behind_sign.result _ _ (λ r h. record { negative = true; spelled = followed_by (tokens c.next.result.1.now) (so_spells (is_the_mark (codes "-")) (λ text left. (refl, refl)) (tok_of c.next.result.0) c.args.rest.now c.next.result.1.now c.next.ensures.starts c.if-is_the_mark.ensures) h }) c.read_days_behind_sign.ensures.reads.spelled;
+    shorter = search rules;
+  };
+}
 
-pub returns-then-is_the_mark-clause-spelled : goal.returns-then-is_the_mark-clause-spelled
-returns-then-is_the_mark-clause-spelled c = IfOk-weaker c.read_days_behind_sign.result _ _ (λ r h. record { negative = true; spelled = followed_by (tokens c.next.result.1.now) (so_spells (is_the_mark (codes "-")) (λ text left. (refl, refl)) (tok_of c.next.result.0) c.args.rest.now c.next.result.1.now c.next.ensures.starts c.if-is_the_mark.ensures) h }) c.read_days_behind_sign.ensures.spelled
+pub returns-in-Ok : goal.returns-in-Ok
+returns-in-Ok c = record {
+  reads = record {
+    follows = λ s ps. let shape : step s (DateAt ∷ ps) (tok_of c.next.result.0) ≡ judged (date_number_at false (tok_of c.next.result.0)) (λ n. Next s ps) = rw (sym c.if-is_the_mark.ensures) refl in passes (date_number_at false) (λ text left. (refl, refl)) s s (DateAt ∷ ps) ps (λ n. Next s ps) c.in-Ok.days (tok_of c.next.result.0) c.args.rest.now c.next.result.1.now c.next.ensures.starts c.in-Ok.ensures.value shape refl;
+    spelled = let same = to_z-of_z w32 c.in-Ok.days (fits_days c.in-Ok.days c.in-Ok.ensures.small) in rw same (record { negative = false; spelled = followed_by (tokens c.args.rest.now) refl (spells (date_number_at false) (λ text left. (refl, refl)) c.in-Ok.days (tok_of c.next.result.0) c.args.rest.now c.next.result.1.now c.next.ensures.starts c.in-Ok.ensures.value) });
+    shorter = search rules;
+  };
+}
 
-pub returns-in-Ok-clause-follows : goal.returns-in-Ok-clause-follows
-returns-in-Ok-clause-follows c s ps = let shape : step s (DateAt ∷ ps) (tok_of c.next.result.0) ≡ judged (date_number_at false (tok_of c.next.result.0)) (λ n. Next s ps) = rw (sym c.if-is_the_mark.ensures) refl in passes (date_number_at false) (λ text left. (refl, refl)) s s (DateAt ∷ ps) ps (λ n. Next s ps) c.in-Ok.days (tok_of c.next.result.0) c.args.rest.now c.next.result.1.now c.next.ensures.starts c.in-Ok.ensures.value shape refl
-
-pub returns-in-Ok-clause-spelled : goal.returns-in-Ok-clause-spelled
-returns-in-Ok-clause-spelled c = let same = to_z-of_z w32 c.in-Ok.days (fits_days c.in-Ok.days c.in-Ok.ensures.small) in rw same (record { negative = false; spelled = followed_by (tokens c.args.rest.now) refl (spells (date_number_at false) (λ text left. (refl, refl)) c.in-Ok.days (tok_of c.next.result.0) c.args.rest.now c.next.result.1.now c.next.ensures.starts c.in-Ok.ensures.value) })
-
-pub returns-in-Err-clause-follows : goal.returns-in-Err-clause-follows
-returns-in-Err-clause-follows c s ps = let shape : step s (DateAt ∷ ps) (tok_of c.next.result.0) ≡ judged (date_number_at false (tok_of c.next.result.0)) (λ n. Next s ps) = rw (sym c.if-is_the_mark.ensures) refl in rw c.refuse.ensures (refuses (date_number_at false) s (DateAt ∷ ps) (λ n. Next s ps) c.in-Err.kind (tok_of c.next.result.0) c.args.rest.now c.next.result.1.now c.next.ensures.starts c.in-Err.ensures.value shape)
+pub returns-in-Err : goal.returns-in-Err
+returns-in-Err c = record {
+  reads = record {
+    follows = λ s ps. let shape : step s (DateAt ∷ ps) (tok_of c.next.result.0) ≡ judged (date_number_at false (tok_of c.next.result.0)) (λ n. Next s ps) = rw (sym c.if-is_the_mark.ensures) refl in rw c.refuse.ensures (refuses (date_number_at false) s (DateAt ∷ ps) (λ n. Next s ps) c.in-Err.kind (tok_of c.next.result.0) c.args.rest.now c.next.result.1.now c.next.ensures.starts c.in-Err.ensures.value shape);
+    spelled = search rules;
+    shorter = search rules;
+  };
+}

@@ -1,16 +1,18 @@
-use Rattle.std.proofs.Common.{◌∷◌, refl}
+use Rattle.std.proofs.Common.{◌∷◌, refl, rules}
 use Rattle.contract_parse.specs.Words.{is_the_word}
 use Rattle.contract_parse.specs.Places.{TheWord, Next, Refuse}
 use Rattle.contract_parse.specs.Reading.{tok_of}
+use Rattle.contract_parse.proofs.Passing.{stopped}
 use Rattle.contract_parse.proofs.Steps.{so_passes, so_refuses, so_spells}
 use Rattle.contract_parse.specs.declared.faults.TextKind.TheVariants.{Syntax}
 use Rattle.contract_parse.proofs.readers.skip_word.Goals as goal
 
-pub returns-then-is_the_word-clause-follows : goal.returns-then-is_the_word-clause-follows
-returns-then-is_the_word-clause-follows c s ps = so_passes (is_the_word c.args.wanted.now) (λ text left. (refl, refl)) s s (TheWord c.args.wanted.now ∷ ps) ps (Refuse Syntax) (tok_of c.next.result.0) c.args.rest.now c.next.result.1.now c.next.ensures.starts c.if-is_the_word.ensures refl
+pub returns-then-is_the_word-clause-reads : goal.returns-then-is_the_word-clause-reads
+returns-then-is_the_word-clause-reads c = record {
+  follows = λ s ps. so_passes (is_the_word c.args.wanted.now) (λ text left. (refl, refl)) s s (TheWord c.args.wanted.now ∷ ps) ps (Refuse Syntax) (tok_of c.next.result.0) c.args.rest.now c.next.result.1.now c.next.ensures.starts c.if-is_the_word.ensures refl;
+  spelled = so_spells (is_the_word c.args.wanted.now) (λ text left. (refl, refl)) (tok_of c.next.result.0) c.args.rest.now c.next.result.1.now c.next.ensures.starts c.if-is_the_word.ensures;
+  shorter = search rules;
+}
 
-pub returns-then-is_the_word-clause-spelled : goal.returns-then-is_the_word-clause-spelled
-returns-then-is_the_word-clause-spelled c = so_spells (is_the_word c.args.wanted.now) (λ text left. (refl, refl)) (tok_of c.next.result.0) c.args.rest.now c.next.result.1.now c.next.ensures.starts c.if-is_the_word.ensures
-
-pub returns-else-is_the_word-clause-follows : goal.returns-else-is_the_word-clause-follows
-returns-else-is_the_word-clause-follows c s ps = rw c.refuse.ensures (so_refuses (is_the_word c.args.wanted.now) s (TheWord c.args.wanted.now ∷ ps) (Next s ps) (tok_of c.next.result.0) c.args.rest.now c.next.result.1.now c.next.ensures.starts c.if-is_the_word.ensures refl)
+pub returns-else-is_the_word-clause-reads : goal.returns-else-is_the_word-clause-reads
+returns-else-is_the_word-clause-reads c = stopped (λ s ps. rw c.refuse.ensures (so_refuses (is_the_word c.args.wanted.now) s (TheWord c.args.wanted.now ∷ ps) (Next s ps) (tok_of c.next.result.0) c.args.rest.now c.next.result.1.now c.next.ensures.starts c.if-is_the_word.ensures refl))

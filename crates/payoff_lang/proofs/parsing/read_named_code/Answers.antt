@@ -1,23 +1,23 @@
-use Rattle.std.proofs.Common.{◌∙◌, ◌∷◌, []}
+use Rattle.std.proofs.Common.{◌∙◌, ◌∷◌, [], rules}
 use Rattle.std.specs.Prelude.{codes}
-use Rattle.std.proofs.lemmas.Result.{err_from_is_err_and}
 use Rattle.contract_parse.specs.Places.{AmountAt, TheMark}
 use Rattle.contract_parse.specs.Reading.{declared_in}
+use Rattle.contract_parse.proofs.Passing.{stopped_at}
 use Rattle.payoff_lang.proofs.parsing.read_named_code.Goals as goal
 
-pub returns-in_err-name-clause-follows : goal.returns-in_err-name-clause-follows
-returns-in_err-name-clause-follows c ps =
-    let p = err_from_is_err_and c.from_residual.result c.from_residual.ensures.1 in
-    rw (p.1, p.2) (c.in_err-name.ensures.follows (declared_in c.args.decls.now []) (TheMark (codes "=") ∷ AmountAt 1 [] ∷ TheMark (codes ";") ∷ ps))
+pub returns-in_err-name-clause-reads : goal.returns-in_err-name-clause-reads
+returns-in_err-name-clause-reads c = stopped_at _ c.from_residual.result c.from_residual.ensures.1 (λ ps. c.in_err-name.ensures.reads.follows (declared_in c.args.decls.now []) (TheMark (codes "=") ∷ AmountAt 1 [] ∷ TheMark (codes ";") ∷ ps))
 
-pub returns-in_err-code-clause-follows : goal.returns-in_err-code-clause-follows
-returns-in_err-code-clause-follows c ps =
-    let p = err_from_is_err_and c.from_residual-in_err-code.result c.from_residual-in_err-code.ensures.1 in
-    let before =
-    c.in_ok-name.ensures.follows (declared_in c.args.decls.now []) (TheMark (codes "=") ∷ AmountAt 1 [] ∷ TheMark (codes ";") ∷ ps) in
-    rw (p.1, p.2, before) (c.in_err-code.ensures.follows (c.in_ok-name.name ∷ []) ps)
+pub returns-in_err-code-clause-reads : goal.returns-in_err-code-clause-reads
+returns-in_err-code-clause-reads c = stopped_at _ c.from_residual-in_err-code.result c.from_residual-in_err-code.ensures.1 (λ ps.
+    rw (c.in_ok-name.ensures.reads.follows (declared_in c.args.decls.now []) (TheMark (codes "=") ∷ AmountAt 1 [] ∷ TheMark (codes ";") ∷ ps))
+    (c.in_err-code.ensures.reads.follows (c.in_ok-name.name ∷ []) ps))
 
-pub returns-clause-follows : goal.returns-clause-follows
-returns-clause-follows c ps =
-    c.in_ok-name.ensures.follows (declared_in c.args.decls.now []) (TheMark (codes "=") ∷ AmountAt 1 [] ∷ TheMark (codes ";") ∷ ps)
-    ∙ c.in_ok-code.ensures.follows (c.in_ok-name.name ∷ []) ps
+pub returns-clause-reads : goal.returns-clause-reads
+returns-clause-reads c = record {
+  follows = λ ps.
+      c.in_ok-name.ensures.reads.follows (declared_in c.args.decls.now []) (TheMark (codes "=") ∷ AmountAt 1 [] ∷ TheMark (codes ";") ∷ ps)
+      ∙ c.in_ok-code.ensures.reads.follows (c.in_ok-name.name ∷ []) ps;
+  spelled = search rules;
+  shorter = search rules;
+}

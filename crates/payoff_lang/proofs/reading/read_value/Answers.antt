@@ -1,4 +1,4 @@
-use Rattle.std.proofs.Common.{[], ap, arith, sym, subst}
+use Rattle.std.proofs.Common.{[], ap, arith, sym, subst, rules}
 use Rattle.indexmap.specs.IndexMap.{keys}
 use Rattle.term_core.specs.Sizes.{height}
 use Rattle.term_core.specs.Terms.{expression}
@@ -15,11 +15,15 @@ use Rattle.payoff_lang.proofs.reading.read_value.Goals as goal
 pub dated-requires : goal.dated-requires
 dated-requires c = have_dates (λ place. Unit {0}) (λ place. tt) (expression c.in_ok-e.e)
 
-pub returns-clause-spelled : goal.returns-clause-spelled
-returns-clause-spelled c =
-    let s = declared_in c.args.decls.now [] in
-    subst (λ (v : ValueExpression). value_part s (names_in c.args.bound.now) v (tokens c.args.rest.now) (tokens c.in_ok-e.after.now)) (sym c.in_ok-v.ensures)
-    (dated_spelled c.args.rest.now s (names_in c.args.bound.now) (expression c.in_ok-e.e) (tokens c.in_ok-e.after.now) c.in_ok-e.ensures.spelled)
+pub returns-clause-reads : goal.returns-clause-reads
+returns-clause-reads c = record {
+  follows = search rules;
+  spelled =
+      let s = declared_in c.args.decls.now [] in
+      subst (λ (v : ValueExpression). value_part s (names_in c.args.bound.now) v (tokens c.args.rest.now) (tokens c.in_ok-e.after.now)) (sym c.in_ok-v.ensures)
+      (dated_spelled c.args.rest.now s (names_in c.args.bound.now) (expression c.in_ok-e.e) (tokens c.in_ok-e.after.now) c.in_ok-e.ensures.reads.spelled);
+  shorter = search rules;
+}
 
 pub returns-clause-high : goal.returns-clause-high
 returns-clause-high c =
