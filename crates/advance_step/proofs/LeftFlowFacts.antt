@@ -1,5 +1,5 @@
 -- What is left of a contract after some days pays on later days what the contract pays.
-use Rattle.std.proofs.Common.{◌≡◌, ℕ, zero, suc, ℤ, pos, negsuc, ◌+ℤ◌, ◌-ℤ◌, ◌<ℤ◌, ◌≤ℤ◌, ◌+◌, ◌-◌, ◌≤◌, ◌<◌, min, max, Bool, true, false, if◌then◌else◌, nat_le, refl, ap, ap₂, sym, subst, ◌∙◌, Option, Some, None, List, ◌∷◌, arith}
+use Rattle.std.proofs.Common.{◌≡◌, ℕ, zero, suc, ℤ, pos, negsuc, ◌+ℤ◌, ◌-ℤ◌, ◌<ℤ◌, ◌≤ℤ◌, ◌+◌, ◌-◌, ◌≤◌, ◌<◌, min, max, true, false, if◌then◌else◌, nat_le, refl, ap, ap₂, sym, subst, ◌∙◌, Option, Some, None, List, ◌∷◌, arith}
 use Rattle.std.proofs.lemmas.Int.{ints}
 use Rattle.std.proofs.lemmas.Bool.Decides.{nat_tests}
 use Rattle.decimal.specs.Rounding.{raised}

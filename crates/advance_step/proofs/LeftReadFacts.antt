@@ -1,6 +1,6 @@
 -- What is left of a contract transfers on later days only where the contract does, and reads nothing that the contract
 -- does not read.
-use Rattle.std.proofs.Common.{◌≡◌, ℕ, zero, suc, ℤ, pos, negsuc, ◌+ℤ◌, ◌-ℤ◌, ◌<ℤ◌, ◌≤ℤ◌, ◌+◌, ◌-◌, ◌≤◌, ◌<◌, min, Bool, false, ◌||◌, if◌then◌else◌, nat_le, int_lt, refl, ap, ap₂, sym, subst, ◌∙◌, Option, Some, None, List, [], ◌∷◌, ◌++◌, inl, inr, arith}
+use Rattle.std.proofs.Common.{◌≡◌, ℕ, zero, suc, ℤ, pos, negsuc, ◌+ℤ◌, ◌-ℤ◌, ◌≤ℤ◌, ◌+◌, ◌-◌, ◌≤◌, ◌<◌, min, Bool, false, if◌then◌else◌, nat_le, int_lt, refl, ap, ap₂, sym, subst, ◌∙◌, Option, Some, None, List, [], ◌∷◌, ◌++◌, inl, inr, arith}
 use Rattle.std.proofs.lemmas.Int.{ints, by_lt_z}
 use Rattle.term_core.specs.Declarations.{Declarations}
 use Rattle.term_core.specs.declared.terms.Days.TheVariants.{Num as Count}

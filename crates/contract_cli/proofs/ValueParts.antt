@@ -13,7 +13,6 @@ use Rattle.fixing_files.specs.Tables.{IsFirstFault, table_of}
 use Rattle.flow_eval.specs.declared.faults.FlowErr.TheVariants as flow
 use Rattle.payoff_lang.specs.CodeBooks.{CodeBook}
 use Rattle.report.specs.declared.fault_lines.Fault.{Fault}
-use Rattle.report.specs.declared.fault_lines.Fault.TheVariants as fault
 use Rattle.command_words.specs.Commands.{Between, ValueAsked}
 use Rattle.contract_cli.specs.FlowsParts.{IsStopOf, IsWordFault}
 use Rattle.contract_cli.specs.FlowsPromise.{greatest_day}

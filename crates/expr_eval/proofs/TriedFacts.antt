@@ -1,5 +1,5 @@
 -- The days of a test, one after another.
-use Rattle.std.proofs.Common.{◌≡◌, ℕ, zero, suc, ◌≤◌, ◌<◌, ◌+◌, ℤ, pos, ◌+ℤ◌, Bool, true, Some, None, Result, Ok, Err, List, if◌then◌else◌, refl, ap, sym, ◌∙◌, subst, inl, inr, arith, eq-or-lt_of_le}
+use Rattle.std.proofs.Common.{◌≡◌, ℕ, zero, suc, ◌≤◌, ◌<◌, ℤ, pos, ◌+ℤ◌, Bool, true, Some, None, Result, Ok, Err, List, if◌then◌else◌, refl, ap, sym, ◌∙◌, subst, inl, inr, arith, eq-or-lt_of_le}
 use Rattle.term_core.specs.Declarations.{Declarations}
 use Rattle.term_core.specs.declared.values.Value.{Value}
 use Rattle.term_core.specs.declared.values.Missing.{Missing}

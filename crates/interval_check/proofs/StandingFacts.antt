@@ -1,5 +1,5 @@
 -- What may stand for a whole: the value of an expression, a branch of an `if`, a part of a contract.
-use Rattle.std.proofs.Common.{◌≡◌, ℕ, ◌-◌, max, ◌≤◌, ◌<◌, ◌⊎◌, inl, inr, ℤ, pos, ◌*ℤ◌, Bool, nat_le, IsTrue, is_some, if◌then◌else◌, List, Option, Some, None, refl, ap, sym, subst, ◌∙◌, arith}
+use Rattle.std.proofs.Common.{◌≡◌, ℕ, ◌-◌, max, ◌≤◌, ◌<◌, ◌⊎◌, inl, inr, ℤ, pos, Bool, nat_le, IsTrue, is_some, if◌then◌else◌, List, Option, Some, None, refl, ap, sym, subst, ◌∙◌, arith}
 use Rattle.std.proofs.lemmas.Bool.{and_parts, and_from, le-leb, lt-ltb, le-ltb, cases_lt}
 use Rattle.decimal.specs.Rounding.{raised}
 use Rattle.term_core.specs.Declarations.{Declarations}

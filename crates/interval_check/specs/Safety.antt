@@ -11,7 +11,7 @@ use Rattle.term_core.specs.Terms.{Expression, Lit, Yes, Var, Obs, Neg, Num, Cmp,
 use Rattle.term_core.specs.Limits.{greatest_mantissa}
 use Rattle.term_core.specs.Environments.{Environment}
 use Rattle.term_core.specs.Kinds.{kind_of, scale_of, scale_of_kind}
-use Rattle.term_core.specs.Values.{Entry, kinds, num, of_num, kind_or, widened, value_of, entry_after as entry_of_days}
+use Rattle.term_core.specs.Values.{Entry, kinds, num, of_num, kind_or, value_of, entry_after as entry_of_days}
 use Rattle.term_core.specs.LawsKinds.{IsOfKind}
 use Rattle.term_core.specs.Scales.{greatest_scale}
 

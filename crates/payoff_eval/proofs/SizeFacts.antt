@@ -1,5 +1,5 @@
 -- What code is worth is at most its total in size.
-use Rattle.std.proofs.Common.{◌≡◌, ℕ, ℤ, pos, negsuc, ◌+ℤ◌, ◌-ℤ◌, ◌*ℤ◌, ◌≤◌, ◌+◌, ◌-◌, ◌*◌, ◌^◌, max, unsigned_abs, Bool, true, false, if◌then◌else◌, ◌&&◌, not, ◌==◌, int_lt, List, ◌∷◌, Option, Some, None, ap, ap₂, subst, sym, ◌∙◌, arith}
+use Rattle.std.proofs.Common.{◌≡◌, ℕ, ℤ, pos, negsuc, ◌+ℤ◌, ◌-ℤ◌, ◌*ℤ◌, ◌≤◌, ◌+◌, ◌-◌, ◌*◌, ◌^◌, max, unsigned_abs, Bool, true, false, if◌then◌else◌, ◌&&◌, not, ◌==◌, int_lt, List, ◌∷◌, Option, Some, None, ap, ap₂, subst, sym, arith}
 use Rattle.std.proofs.lemmas.Int.{ints, unsigned_abs-mul}
 use Rattle.decimal.specs.Rounding.{raised}
 use Rattle.term_core.specs.Declarations.{Declarations}

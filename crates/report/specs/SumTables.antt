@@ -1,6 +1,6 @@
 -- The sum of flow tables: where each table is that of what something pays, the rows are the table of what they pay
 -- together: a row for each day, asset and two parties between whom the sum is not 0, in the direction in which it is above 0.
-use Rattle.std.specs.Prelude.{◌≡◌, ℤ, pos, ◌+ℤ◌, ◌≤◌, ◌^◌, unsigned_abs, map, List, [], ◌∷◌, ◌++◌}
+use Rattle.std.specs.Prelude.{ℤ, pos, ◌+ℤ◌, ◌≤◌, ◌^◌, unsigned_abs, map, List, [], ◌∷◌, ◌++◌}
 use Rattle.std.specs.List.{All}
 use Rattle.term_core.specs.Flows.{Flow}
 use Rattle.flow_eval.specs.Payments.{payment_on}

@@ -1,5 +1,5 @@
 -- The sites of a term and its frames.
-use Rattle.std.proofs.Common.{ℕ, zero, ℤ, ◌+◌, Option, List, [], ◌∷◌, ◌++◌}
+use Rattle.std.proofs.Common.{ℕ, zero, ℤ, ◌+◌, Option, List, [], ◌∷◌}
 use Rattle.term_core.specs.Terms.{Expression, Lit, Yes, Var, Obs, Neg, Num, Cmp, Not, Logic, Cond, Widen, Round, Div, Acc}
 use Rattle.term_core.specs.Terms.{Contract, Zero, Pay, Both, Scale, After, Let, Within}
 use Rattle.term_core.specs.Flows.{count_of}

@@ -1,5 +1,5 @@
 -- What the rule makes of an expression has its form.
-use Rattle.std.proofs.Common.{◌≡◌, ℕ, pos, ◌≤◌, ◌<◌, max, nat_lt, nat_le, true, false, if◌then◌else◌, IsTrue, is_some, Option, Some, None, List, ◌∷◌, [], refl, ap, ap₂, sym, subst, ◌∙◌, inl, inr, ◌⊎◌, arith}
+use Rattle.std.proofs.Common.{◌≡◌, ℕ, pos, ◌≤◌, max, nat_lt, nat_le, true, false, if◌then◌else◌, IsTrue, is_some, Option, Some, None, List, ◌∷◌, [], refl, ap, ap₂, sym, subst, ◌∙◌, inl, inr, arith}
 use Rattle.std.proofs.lemmas.Bool.{and_parts, and_from}
 use Rattle.std.proofs.lemmas.Bool.Decides.{nat_tests}
 use Rattle.term_core.specs.Declarations.{Declarations}

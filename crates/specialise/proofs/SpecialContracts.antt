@@ -1,5 +1,5 @@
 -- A specialised contract pays what the contract pays, on its frame, and reads nothing that the contract does not read.
-use Rattle.std.proofs.Common.{◌≡◌, ℕ, suc, ℤ, pos, ◌+ℤ◌, ◌-ℤ◌, ◌*ℤ◌, ◌+◌, ◌-◌, max, Bool, ◌||◌, if◌then◌else◌, int_lt, Option, Some, None, List, ◌∷◌, [], refl, ap, ap₂, ◌∙◌, inl, arith}
+use Rattle.std.proofs.Common.{◌≡◌, ℕ, suc, ℤ, pos, ◌+ℤ◌, ◌-ℤ◌, ◌*ℤ◌, ◌+◌, ◌-◌, max, Bool, ◌||◌, int_lt, Option, Some, None, List, ◌∷◌, [], refl, ap, ap₂, ◌∙◌, inl, arith}
 use Rattle.std.proofs.lemmas.Int.{ints}
 use Rattle.decimal.specs.Rounding.{raised}
 use Rattle.term_core.specs.Declarations.{Declarations}

@@ -1,5 +1,5 @@
 -- The rules on sorts, scales and bounds hold of what is specialised.
-use Rattle.std.proofs.Common.{◌≡◌, ℕ, ℤ, pos, ◌-ℤ◌, ◌<◌, ◌≤◌, Option, None, List, ◌∷◌, [], refl, sym, subst, ◌∙◌, inl, inr}
+use Rattle.std.proofs.Common.{◌≡◌, ℕ, ℤ, pos, ◌-ℤ◌, Option, None, List, ◌∷◌, [], refl, sym, subst, ◌∙◌, inl, inr}
 use Rattle.term_core.specs.Declarations.{Declarations}
 use Rattle.term_core.specs.declared.values.Kind.{Kind}
 use Rattle.term_core.specs.declared.values.Value.{Value}

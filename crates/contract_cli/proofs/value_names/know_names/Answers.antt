@@ -1,4 +1,3 @@
-use Rattle.std.proofs.Common.{◌≡◌}
 use Rattle.term_core.specs.Declarations.{declarations}
 use Rattle.command_words.specs.Words.{value_by}
 use Rattle.contract_cli.specs.ValuePromise.{AreBetween}

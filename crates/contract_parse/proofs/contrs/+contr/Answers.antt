@@ -6,7 +6,6 @@ use Rattle.contract_parse.specs.Names.{names_in}
 use Rattle.contract_parse.specs.Heads.{head_at}
 use Rattle.contract_parse.specs.Places.{ContrAt, DaysAt, ExprAt, Next, TheMark, TheWord, contr_places}
 use Rattle.contract_parse.specs.Reading.{declared_in, tok_of}
-use Rattle.contract_parse.specs.declared.heads.Head.TheVariants as Head
 use Rattle.contract_parse.specs.declared.heads.Language.{Language}
 use Rattle.contract_parse.specs.declared.heads.Binder.TheVariants as binder
 use Rattle.contract_parse.proofs.HeadFacts.{heads}

@@ -7,7 +7,6 @@ use Rattle.contract_parse.specs.Names.{names_in}
 use Rattle.contract_parse.specs.Heads.{first_at}
 use Rattle.contract_parse.specs.Places.{ExprAt, IntegerAt, Next, OperatorAt, TheMark, expr_places}
 use Rattle.contract_parse.specs.Reading.{declared_in, tok_of}
-use Rattle.contract_parse.specs.declared.heads.First.TheVariants as First
 use Rattle.contract_parse.specs.declared.heads.Binder.TheVariants as binder
 use Rattle.contract_parse.proofs.HeadFacts.{begins}
 use Rattle.contract_parse.proofs.InfixFacts.{infix_spelled}
