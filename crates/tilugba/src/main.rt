@@ -1,55 +1,18 @@
-//! Tilugba, the manager for financial contracts between parties: the commands on portfolios, on code files and
-//! on the sample, the run of one command, and `main`.
+//! Tilugba, the manager for financial contracts between parties: the program, which runs the command of its words over the
+//! files that they name.
 //!
 //! ```text
-//! let status = run(alloc, &words, &mut files, &mut out);
+//! tilugba flows loan.txt
 //! ```
 //!
-//! Promised: each status of `run` has its cause and its text (`Meets`), and what `check`, `advance`, `payoff` and
-//! `value` write means what the written rules and the model say (`Headline`); `laws` has when each status comes
-//! and what two runs say together.
-//! Only tested: that each file is read once and in order (`src/tests.rt`, `src/hostile_tests.rt`). Neither:
-//! that the words which `main` passes are those that were typed.
+//! Promised: what `contract_cli::run` promises, of the words that are passed on. Neither proved nor tested: that these are
+//! the words that were typed.
 #![tactic(auto)]
-
-mod accepting;
-#[cfg(test)]
-mod advance_tests;
-mod advance_text;
-mod answers;
-mod check_text;
-mod command;
-mod flows_text;
-#[cfg(test)]
-mod hostile_tests;
-pub mod laws;
-#[cfg(test)]
-mod long_tests;
-mod over_fixings;
-#[cfg(test)]
-mod payoff_tests;
-mod payoff_text;
-mod status;
-mod stop;
-#[cfg(test)]
-mod test_runs;
-#[cfg(test)]
-mod tests;
-mod used;
-mod value_answers;
-mod value_inputs;
-mod value_names;
-#[cfg(test)]
-mod value_tests;
-mod value_text;
-#[cfg(test)]
-mod word_tests;
 
 ghost use Rattle.std.specs.Prelude.{◌≡◌, map, string_bytes, IfOk};
 
-pub use command::run;
+use contract_cli::{Status, run};
 use edge_io::{RealFiles, RealSink};
-pub use status::Status;
 use std::alloc::{AllocError, Global};
 use std::env;
 use std::io::{Error, ErrorKind};
@@ -84,8 +47,6 @@ fn main(rt: HostRuntime) -> ExitCode {
         Err(error) if error.kind() == ErrorKind::OutOfMemory => {
             return ExitCode::from(Status::NoMemory.number());
         }
-        // A word that is not UTF-8 makes a faulty command line, as no word at all does.
-        Err(error) if error.kind() == ErrorKind::InvalidData => Vec::new(rt.alloc()),
         Err(_) => return ExitCode::from(NO_WORDS),
     };
     let words = match lent(rt.alloc(), &words) {

@@ -1,5 +1,5 @@
 use Rattle.std.proofs.Common.{◌≡◌, map, string_bytes, take}
-use Rattle.contract_cli.proofs.lent.Given as goal
+use Rattle.tilugba.proofs.lent.Given as goal
 
 -- the words lent so far are the first ones
 abbrev pub invariant-loop-word : goal.invariant-loop-word
