@@ -39,9 +39,10 @@ impl<R: RuntimeFiles + Drop> RealFiles<R> {
 // How many bytes are asked of the system at once.
 const PIECE: usize = 4096;
 
-// Reads to the end, or to the first byte past the limit: at most `max + 1` bytes, and each turn but
-// the last takes at least one.
-fn read_rest<S: Read>(alloc: Global, source: &mut S, max: u64) -> Result<Vec<u8>, ReadErr>
+/// Reads a source to its end, or to the first byte past the limit, in pieces: `RealFiles` reads each file by it. It takes at
+/// most `max + 1` bytes of the source, as far as these are known. `TooLong` where there are more than `max`, `Failed` where a
+/// read of the source fails.
+pub fn read_within<S: Read>(alloc: Global, source: &mut S, max: u64) -> Result<Vec<u8>, ReadErr>
     ensures answers { Answers (S.remaining source.old) max result }
     ensures most { IfOk result (λ bytes. length bytes.items ≤ max) }
     ensures taken { TakesAtMost (S.remaining source.old) (S.remaining source.new) (max + 1) }
@@ -87,7 +88,7 @@ impl<R: RuntimeFiles + Drop> Files for RealFiles<R> {
         ensures counted { self.new ≡ after_read result self.old }
     {
         let outcome = match fs::open(&self.rt, name) {
-            Ok(mut file) => read_rest(alloc, &mut file, max),
+            Ok(mut file) => read_within(alloc, &mut file, max),
             Err(_) => Err(ReadErr::Failed),
         };
         if let Err(ReadErr::Failed) = outcome {

@@ -15,18 +15,21 @@ use Rattle.interval_check.proofs.GuaranteeFacts.{accepted_meet_rules, parts_meet
 use Rattle.specialise.specs.Specialising.{specialised, specialised_in}
 use Rattle.specialise.specs.Specialisable.{IsPartOfAccepted}
 use Rattle.rewriting.specs.Keeping.{IsNoLarger, IsNoLargerIn}
-use Rattle.specialise.specs.Specialised.{HasItsKind, HasItsValue, ReadsNoMore, HasNoTold, PaysTheSameOn, ReadsNoMoreOn, HasNoToldIn}
+use Rattle.specialise.specs.Specialised.{StaysFormed, HasItsKind, HasItsValue, ReadsNoMore, HasNoTold, PaysTheSameOn, ReadsNoMoreOn, HasNoToldIn}
 use Rattle.term_core.specs.Literals.{HasLiteralsIn}
 use Rattle.specialise.proofs.SpecialValues.{special_kind, special_value}
 use Rattle.specialise.proofs.SpecialReads.{special_reads}
 use Rattle.specialise.proofs.SpecialSizes.{special_smaller}
 use Rattle.specialise.proofs.SpecialContracts.{contract_scale, contract_flow, contract_reads, contract_smaller}
 use Rattle.specialise.proofs.SpecialRedexes.{none_told, special_leaves_none}
-use Rattle.specialise.proofs.SpecialForms.{contract_formed}
+use Rattle.specialise.proofs.SpecialForms.{special_formed, contract_formed}
 use Rattle.specialise.proofs.AcceptedFacts.{special_accepted}
 use Rattle.specialise.proofs.LiteralFacts.{literals_stay}
 
 -- expressions
+
+pub formed_kept_of : (d : Declarations) (F : Environment) (o : Option ℤ) (r e : Expression) → r ≡ specialised d F o e → StaysFormed d r e
+formed_kept_of d F o r e h = subst (λ (x : Expression). StaysFormed d x e) (sym h) (λ names w. special_formed d F o e names w)
 
 pub kind_kept : (d : Declarations) (F : Environment) (o : Option ℤ) (r e : Expression) → r ≡ specialised d F o e → HasItsKind d r e
 kind_kept d F o r e h = subst (λ (x : Expression). HasItsKind d x e) (sym h) (λ ks. special_kind d F o e ks)

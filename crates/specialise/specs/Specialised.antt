@@ -3,6 +3,7 @@ use Rattle.std.specs.Prelude.{ℕ, ℤ, pos, ◌≤◌, ◌^◌, ◌≡◌, unsi
 use Rattle.term_core.specs.Declarations.{Declarations}
 use Rattle.term_core.specs.declared.values.Kind.{Kind}
 use Rattle.term_core.specs.Terms.{Expression, Contract}
+use Rattle.term_core.specs.WellFormed.{IsWellFormed}
 use Rattle.term_core.specs.Environments.{Environment, Place, IsAdmitted, Extends}
 use Rattle.term_core.specs.Kinds.{kind_of}
 use Rattle.term_core.specs.Values.{Entry, value_of}
@@ -47,6 +48,10 @@ HasItsKind d r e = (ks : List Kind) → kind_of d r ks ≡ kind_of d e ks
 abbrev pub HasItsValue : Declarations → Environment → Option ℤ → Expression → Expression → Type 0
 HasItsValue d fixings frame r e =
     (g : List Entry) (env : Environment) (f : ℤ) → MayCome d fixings env → IsOn frame f → value_of d r g env f ≡ value_of d e g env f
+
+-- it is well formed under as many names as e is
+abbrev pub StaysFormed : Declarations → Expression → Expression → Type 0
+StaysFormed d r e = (names : ℕ) → IsWellFormed d names e → IsWellFormed d names r
 
 -- there it reads only what e reads
 abbrev pub ReadsNoMore : Declarations → Environment → Option ℤ → Expression → Expression → Type 0

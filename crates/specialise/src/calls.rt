@@ -11,7 +11,7 @@ ghost use Rattle.term_core.specs.WellFormed.{HasOnlyNumbers, IsClosed};
 ghost use Rattle.rewriting.specs.Keeping.{IsNoLarger, IsNoLargerIn, StaysClosed};
 ghost use Rattle.specialise.specs.Specialisable.{IsPartOfAccepted};
 ghost use Rattle.term_core.specs.Literals.{HasLiteralsIn};
-ghost use Rattle.specialise.specs.Specialised.{day_of, HasItsKind, HasItsValue, HasNoTold, HasNoToldIn, IsNear, IsSpecialised, IsSpecialisedOn, PaysTheSameOn, ReadsNoMore, ReadsNoMoreOn};
+ghost use Rattle.specialise.specs.Specialised.{HasItsKind, HasItsValue, HasNoTold, HasNoToldIn, IsNear, IsSpecialised, IsSpecialisedOn, PaysTheSameOn, ReadsNoMore, ReadsNoMoreOn, StaysFormed, day_of};
 ghost use Rattle.specialise.specs.WalkAnswers.{TakesItsPlace};
 
 use crate::contracts::specialise_from;
@@ -123,6 +123,7 @@ pub fn specialise_expr(
     requires admitted { IsAdmitted (declarations decls.now) fixings.now }
     requires day { IsNear frame }
     ensures exact { IfOk result (λ r. IsSpecialised (declarations decls.now) fixings.now (day_of frame) (expression r) (expression e.now)) }
+    ensures formed { IfOk result (λ r. StaysFormed (declarations decls.now) (expression r) (expression e.now)) }
     ensures kind { IfOk result (λ r. HasItsKind (declarations decls.now) (expression r) (expression e.now)) }
     ensures value { IfOk result (λ r. HasItsValue (declarations decls.now) fixings.now (day_of frame) (expression r) (expression e.now)) }
     ensures reads { IfOk result (λ r. ReadsNoMore (declarations decls.now) fixings.now (day_of frame) (expression r) (expression e.now)) }
