@@ -28,10 +28,10 @@ use Rattle.flow_eval.specs.declared.flow_table.FlowRow.{FlowRow}
 use Rattle.report.specs.CheckLines.{line_feed}
 use Rattle.report.specs.FlowLines.{IsDayText, IsFlowLine, field, name_at}
 use Rattle.contract_cli.specs.AdvanceLaws.{AdvanceTextsAreTexts}
-use Rattle.contract_cli.specs.AdvancePromise.{AreComments, AreDueLines, AreResiduals, commented, last_gone}
-use Rattle.contract_cli.specs.UsedContracts.{at_defaults, is_asked, used}
-use Rattle.contract_cli.proofs.UsedFacts.{own_instance}
-use Rattle.contract_cli.proofs.WritableFacts.{left_sound}
+use Rattle.command_answers.specs.AdvancePromise.{AreComments, AreDueLines, AreResiduals, commented, last_gone}
+use Rattle.command_answers.specs.UsedContracts.{at_defaults, is_asked, used}
+use Rattle.command_answers.proofs.UsedFacts.{own_instance}
+use Rattle.command_answers.proofs.WritableFacts.{left_sound}
 
 -- ---- a flow line may be a comment
 

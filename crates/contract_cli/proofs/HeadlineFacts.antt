@@ -11,18 +11,18 @@ use Rattle.payoff_lang.specs.Meaning.{CodeMeans, MayBeAsked, Remaining}
 use Rattle.report.specs.declared.fault_lines.Fault.{Fault}
 use Rattle.command_words.specs.Commands.{Advance, AdvanceAsked, Asked, Check, OnCode, OnFiles, Payoff, PayoffAsked, Sample, ValueAsked}
 use Rattle.command_words.specs.Words.{request_of}
-use Rattle.contract_cli.specs.FilesPromise.{Answers, Inputs, AnswersOnCode, not_spelled, on_portfolio, stopped as stops_on, told, value_stopped, value_told}
+use Rattle.command_answers.specs.FilesPromise.{Answers, Inputs, AnswersOnCode, not_spelled, on_portfolio, stopped as stops_on, told, value_stopped, value_told}
 use Rattle.contract_cli.specs.Headline.{HasAdvanced, HasChecked, HasCompiled, HasValued, Headline, IsPresentValue, Judged}
 use Rattle.contract_cli.specs.RunPromise.{Cause, stopped, answered, valued, sampled, Edge, FileFault, read_failed, read_long, FilesSeen, Meets, written, broken, lacking, Names, NamesValue, StopsRun, no_form, at_file, WereRead, WereReadForValue, WritesAll}
-use Rattle.contract_cli.specs.Statuses.{status_of}
-use Rattle.contract_cli.specs.ValuePromise.{CanValue, IsValueText, ValueInputs, question, setting_by}
-use Rattle.contract_cli.specs.declared.status.Status.{Status}
-use Rattle.contract_cli.specs.declared.status.Status.TheVariants as status
+use Rattle.command_answers.specs.Statuses.{status_of}
+use Rattle.command_answers.specs.ValuePromise.{CanValue, IsValueText, ValueInputs, question, setting_by}
+use Rattle.command_answers.specs.declared.status.Status.{Status}
+use Rattle.command_answers.specs.declared.status.Status.TheVariants as status
 use Rattle.contract_cli.proofs.AdvanceTexts.{advance_texts_are_texts}
 use Rattle.contract_cli.proofs.PayoffTexts.{payoff_texts_mean}
-use Rattle.contract_cli.proofs.RunFacts.{one_command}
-use Rattle.contract_cli.proofs.ValueFacts.{no_fault_done, one_value}
-use Rattle.contract_cli.proofs.ValueParts.{index_within}
+use Rattle.contract_cli.proofs.RunFacts.{one_command, one_value}
+use Rattle.command_answers.proofs.ValueFacts.{no_fault_done}
+use Rattle.command_answers.proofs.ValueParts.{index_within}
 
 -- ---- a run that did what its words ask for
 

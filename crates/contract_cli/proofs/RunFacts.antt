@@ -4,21 +4,25 @@ use Rattle.std.specs.Prelude.{Option, Some, None, IfSome}
 use Rattle.report.specs.FaultLines.{fault_text}
 use Rattle.report.specs.declared.fault_lines.Fault.{Fault}
 use Rattle.report.specs.declared.fault_lines.Fault.TheVariants as fault
-use Rattle.contract_cli.specs.FilesPromise.{Answers, Inputs}
-use Rattle.contract_cli.specs.RunParts.{AreShort}
-use Rattle.command_words.specs.Commands.{Asked, OnCode, OnFiles, Sample, fixings_file, portfolio_file}
-use Rattle.contract_cli.specs.FlowsParts.{IsShortTable}
+use Rattle.command_answers.specs.AnswerParts.{AreShort}
+use Rattle.command_answers.specs.FilesPromise.{Answers, Inputs}
+use Rattle.command_words.specs.Commands.{Asked, OnCode, OnFiles, Sample, ValueAsked, fixings_file, portfolio_file}
+use Rattle.command_answers.specs.FlowsParts.{IsShortTable}
 use Rattle.command_words.specs.Words.{request_of}
-use Rattle.contract_cli.specs.RunPromise.{Cause, stopped, answered, valued, sampled, Edge, FilesSeen, FileFault, read_failed, read_long, IsNext, is_first, is_second, by_command, by_value, Meets, written, broken, lacking, Names, StopsRun, no_form, at_file, WasRead, WasReadIfNamed, WereRead, WritesAll, WritesNothing, longest_file}
+use Rattle.contract_cli.specs.RunPromise.{Cause, stopped, answered, valued, sampled, Edge, FilesSeen, FileFault, read_failed, read_long, IsNext, is_first, is_second, by_command, by_value, Meets, written, broken, lacking, Names, NamesValue, StopsRun, no_form, at_file, WasRead, WasReadIfNamed, WereRead, WritesAll, WritesNothing, longest_file}
 use Rattle.contract_cli.specs.RunLaws.{IsLongAt, long_portfolio, long_table, IsRead, IsTold, IsToldIfNamed}
-use Rattle.contract_cli.specs.Statuses.{status_of}
-use Rattle.contract_cli.specs.declared.status.Status.{Status}
-use Rattle.contract_cli.specs.declared.status.Status.TheVariants as status
+use Rattle.command_answers.specs.Statuses.{status_of}
+use Rattle.command_answers.specs.declared.status.Status.{Status}
+use Rattle.command_answers.specs.declared.status.Status.TheVariants as status
 
 -- ---- what was read
 
 pub one_command : (words : List (List ℕ)) (a b : Asked) → Names words a → Names words b → a ≡ b
 one_command words a b h k = cc
+
+-- words ask for the value of one code file
+pub one_value : (words : List (List ℕ)) (a b : ValueAsked) → NamesValue words a → NamesValue words b → a ≡ b
+one_value words a b h k = cc
 
 some_same : {A : Type 0} (x y : A) → Some x ≡ Some y → x ≡ y
 some_same x y e = cc

@@ -7,8 +7,8 @@ use Rattle.contract_cli.specs.RunPromise.{NamesSample, Cause, stopped, answered,
 use Rattle.contract_cli.specs.RunLaws.{WritesSucceed}
 use Rattle.contract_cli.specs.SampleLaws.{SampleEnds, summarized, unwritten, no_memory, SampleHasThreeEnds, SampleIsComplete}
 use Rattle.command_words.specs.Words.{request_of}
-use Rattle.contract_cli.specs.declared.status.Status.{Status}
-use Rattle.contract_cli.specs.declared.status.Status.TheVariants as status
+use Rattle.command_answers.specs.declared.status.Status.{Status}
+use Rattle.command_answers.specs.declared.status.Status.TheVariants as status
 
 module _ (words : List (List ℕ)) (edge : Edge) (count : ℕ) (sample : NamesSample words count) where
   by_cause : (s : Status) (text : List ℕ) → Cause words edge.files s text → WritesAll edge.sink text → SampleEnds edge count s

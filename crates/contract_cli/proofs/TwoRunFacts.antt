@@ -15,18 +15,18 @@ use Rattle.payoff_lang.specs.Meaning.{CodeMeans, Counting, Remaining}
 use Rattle.payoff_lang.proofs.OneCode.{one_code_text}
 use Rattle.command_words.specs.Commands.{AdvanceAsked, PayoffAsked, ValueAsked}
 use Rattle.contract_cli.specs.AdvanceLaws.{IsTextOfRest}
-use Rattle.contract_cli.specs.AdvancePromise.{IsRestBook}
-use Rattle.contract_cli.specs.CheckPromise.{AreAllAccepted, IsCheckText, all_accepted, some_refused}
+use Rattle.command_answers.specs.ValueCauses.{CodeIsRefused, IsAcceptedAtSetting}
+use Rattle.command_answers.specs.AdvancePromise.{IsRestBook}
+use Rattle.command_answers.specs.CheckPromise.{AreAllAccepted, IsCheckText, all_accepted, some_refused}
 use Rattle.contract_cli.specs.Headline.{HasAdvanced, HasCompiled, HasValued, IsAcceptedAtNumbers}
 use Rattle.contract_cli.specs.PayoffLaws.{counted}
 use Rattle.contract_cli.specs.RunLaws.{IsCarriedBook, IsOrNoMemory}
 use Rattle.contract_cli.specs.RunPromise.{Edge, SinkLeft, WasRead, WritesAll, WritesNothing}
 use Rattle.contract_cli.specs.TwoRuns.{AdvancedTextsAdvance, AdvancedTextsAreAccepted, Passes, Printed, PrintedCodeIsTaken, PrintedCodeIsValued}
-use Rattle.contract_cli.specs.UsedContracts.{used}
-use Rattle.contract_cli.specs.ValueLaws.{CodeIsRefused, IsAcceptedAtSetting}
-use Rattle.contract_cli.specs.ValuePromise.{setting_by}
-use Rattle.contract_cli.specs.declared.status.Status.{Status}
-use Rattle.contract_cli.specs.declared.status.Status.TheVariants as status
+use Rattle.command_answers.specs.UsedContracts.{used}
+use Rattle.command_answers.specs.ValuePromise.{setting_by}
+use Rattle.command_answers.specs.declared.status.Status.{Status}
+use Rattle.command_answers.specs.declared.status.Status.TheVariants as status
 use Rattle.contract_cli.proofs.ComposeFacts.{advances_compose}
 use Rattle.contract_cli.proofs.HeadlineFacts.{headline}
 use Rattle.contract_cli.proofs.LawFacts.{check_is_complete}

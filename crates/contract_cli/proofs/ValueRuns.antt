@@ -10,14 +10,14 @@ use Rattle.contract_cli.specs.RunLaws.{IsTold}
 use Rattle.contract_cli.specs.RunPromise.{Cause, stopped, answered, valued, sampled, Edge, FilesSeen, FileFault, read_failed, read_long}
 use Rattle.contract_cli.specs.RunPromise.{IsNextOfValue, is_code, is_fixings, is_curve, by_command, by_value, Meets, written, broken, lacking}
 use Rattle.contract_cli.specs.RunPromise.{NamesValue, StopsRun, no_form, at_file, WasRead, WereReadForValue, WritesAll, WritesNothing, longest_file}
-use Rattle.contract_cli.specs.Statuses.{status_of}
-use Rattle.contract_cli.specs.FilesPromise.{AnswersOnCode}
+use Rattle.command_answers.specs.Statuses.{status_of}
+use Rattle.command_answers.specs.FilesPromise.{AnswersOnCode}
 use Rattle.contract_cli.specs.ValueLaws.{IsLongForValueAt, long_code, long_fixings, long_curve, IsReadForValue}
-use Rattle.contract_cli.specs.ValuePromise.{ValueInputs}
-use Rattle.contract_cli.specs.ValueParts.{AreShortForValue}
-use Rattle.contract_cli.specs.declared.status.Status.{Status}
-use Rattle.contract_cli.specs.declared.status.Status.TheVariants as status
-use Rattle.contract_cli.proofs.ValueFacts.{one_value}
+use Rattle.command_answers.specs.ValuePromise.{ValueInputs}
+use Rattle.command_answers.specs.ValueParts.{AreShortForValue}
+use Rattle.command_answers.specs.declared.status.Status.{Status}
+use Rattle.command_answers.specs.declared.status.Status.TheVariants as status
+use Rattle.contract_cli.proofs.RunFacts.{one_value}
 
 -- ---- what was read
 

@@ -3,10 +3,10 @@ use Rattle.std.specs.Prelude.{ℕ, List, Option, None}
 use Rattle.term_core.specs.Books.{Book}
 use Rattle.term_core.specs.Environments.{Environment}
 use Rattle.contract_parse.specs.Texts.{Text}
-use Rattle.contract_cli.specs.AdvancePromise.{CanAdvance, IsAdvanceText, IsRestBook}
-use Rattle.contract_cli.specs.CheckPromise.{AreAllAccepted}
+use Rattle.command_answers.specs.AdvancePromise.{CanAdvance, IsAdvanceText, IsRestBook}
+use Rattle.command_answers.specs.CheckPromise.{AreAllAccepted}
 use Rattle.command_words.specs.Commands.{AdvanceAsked}
-use Rattle.contract_cli.specs.UsedContracts.{used}
+use Rattle.command_answers.specs.UsedContracts.{used}
 
 -- the bytes are a text of what is left of a portfolio on the new day, in which no contract is refused
 pub record IsTextOfRest (b : Book) (asked : AdvanceAsked) (table : Option (List ℕ)) (text : List ℕ) : Type 0 where

@@ -19,14 +19,14 @@ use Rattle.payoff_lang.specs.PresentValues.{present_value}
 use Rattle.report.specs.ValueLines.{value_text}
 use Rattle.command_words.specs.Commands.{Advance, AdvanceAsked, Asked, Check, Payoff, PayoffAsked, ValueAsked}
 use Rattle.contract_cli.specs.AdvanceLaws.{IsTextOfRest}
-use Rattle.contract_cli.specs.AdvancePromise.{IsAdvanceText}
-use Rattle.contract_cli.specs.FilesPromise.{Inputs}
-use Rattle.contract_cli.specs.CheckPromise.{IsCheckText}
+use Rattle.command_answers.specs.AdvancePromise.{IsAdvanceText}
+use Rattle.command_answers.specs.FilesPromise.{Inputs}
+use Rattle.command_answers.specs.CheckPromise.{IsCheckText}
 use Rattle.contract_cli.specs.PayoffLaws.{IsTextOfCode}
 use Rattle.contract_cli.specs.RunPromise.{Edge, Names, NamesValue, WereRead, WereReadForValue, WritesAll}
-use Rattle.contract_cli.specs.ValuePromise.{CanValue, ValueInputs, question, setting_by}
-use Rattle.contract_cli.specs.declared.status.Status.{Status}
-use Rattle.contract_cli.specs.declared.status.Status.TheVariants as status
+use Rattle.command_answers.specs.ValuePromise.{CanValue, ValueInputs, question, setting_by}
+use Rattle.command_answers.specs.declared.status.Status.{Status}
+use Rattle.command_answers.specs.declared.status.Status.TheVariants as status
 
 -- a command on a portfolio's file has read it and written a text
 pub record Ran (edge : Edge) (asked : Asked) (b : Book) (inputs : Inputs) (text : List ℕ) : Type 0 where

@@ -1,7 +1,7 @@
 -- Laws of the causes of a run's status: which status comes exactly where, in the order of the refusals, and that a run
 -- with nothing in its way writes the whole text of its command. An "exactly where" yields to want of memory, the one free
 -- answer, and to a failed write of the text.
-use Rattle.std.specs.Prelude.{◌≡◌, ◌≤◌, ◌<◌, ◌⊎◌, ◌-◌, ℕ, ℤ, pos, false, true, List, [], ◌∷◌, Option, Some, None, length}
+use Rattle.std.specs.Prelude.{◌≡◌, ◌≤◌, ◌<◌, ◌⊎◌, ◌-◌, ℕ, ℤ, pos, List, [], ◌∷◌, Option, Some, None, length}
 use Rattle.edge_io.specs.Counts.{Rose}
 use Rattle.term_core.specs.Books.{Book}
 use Rattle.term_core.specs.declared.name.Name.{Name}
@@ -10,22 +10,21 @@ use Rattle.term_core.specs.Environments.{Environment, Extends}
 use Rattle.term_core.specs.Residuals.{Carries}
 use Rattle.term_core.specs.Terms.{Contract}
 use Rattle.contract_parse.specs.Texts.{Text}
-use Rattle.fixing_files.specs.Tables.{IsFirstFault, table_of}
-use Rattle.fixing_files.specs.declared.faults.RowFault.{RowFault}
 use Rattle.report.specs.FaultLines.{fault_text}
 use Rattle.report.specs.declared.fault_lines.Fault.TheVariants as fault
-use Rattle.contract_cli.specs.FilesPromise.{Answers, Inputs, IsNoText}
-use Rattle.contract_cli.specs.RunParts.{AreShort}
-use Rattle.contract_cli.specs.AdvancePromise.{CanAdvance, IsAdvanceText, IsNewDay, IsNoNewDay, IsRestBook, last_gone, rest_declarations}
-use Rattle.contract_cli.specs.CheckPromise.{AreAllAccepted, IsCheckText}
+use Rattle.command_answers.specs.AnswerParts.{AreShort}
+use Rattle.command_answers.specs.FilesPromise.{Inputs, IsNoText}
+use Rattle.command_answers.specs.AdvancePromise.{CanAdvance, IsAdvanceText, IsRestBook, rest_declarations}
+use Rattle.command_answers.specs.CheckPromise.{IsCheckText}
+use Rattle.command_answers.specs.Causes.{CauseOnBook, IsTextWhere}
 use Rattle.command_words.specs.Commands.{Advance, AdvanceAsked, Asked, Check, Flows, FlowsAsked, Payoff, PayoffAsked, fixings_file, portfolio_file}
-use Rattle.contract_cli.specs.FlowsPromise.{AreAllFixed, AreFixings, CanListFlows, IsFlowsText, IsOutOfRange, WordsFit, greatest_day}
-use Rattle.contract_cli.specs.PayoffPromise.{CanCompile, IsAcceptedAtDefaults, IsPayoffText}
+use Rattle.command_answers.specs.FlowsPromise.{CanListFlows, IsFlowsText}
+use Rattle.command_answers.specs.PayoffPromise.{CanCompile, IsPayoffText}
 use Rattle.contract_cli.specs.RunPromise.{Edge, FilesSeen, IsNextByWords, Meets, Names, WritesAll, WritesNothing, longest_file}
-use Rattle.contract_cli.specs.UsedContracts.{contract_named, is_known, used}
+use Rattle.command_answers.specs.UsedContracts.{used}
 use Rattle.command_words.specs.Words.{request_of}
-use Rattle.contract_cli.specs.declared.status.Status.{Status}
-use Rattle.contract_cli.specs.declared.status.Status.TheVariants as status
+use Rattle.command_answers.specs.declared.status.Status.{Status}
+use Rattle.command_answers.specs.declared.status.Status.TheVariants as status
 
 -- this status, or want of memory
 abbrev pub IsOrNoMemory : Status → Status → Type 0
@@ -73,97 +72,6 @@ pub data IsLongAt (inputs : Inputs) (place : ℕ) : Type 0 where
 -- a named file has more bytes than the limit
 abbrev pub IsTooLong : Inputs → Type 0
 IsTooLong inputs = (place : ℕ) × IsLongAt inputs place
-
--- ---- what stops a command on a portfolio, where nothing before it does
-
--- the bytes are the text of a portfolio of which P holds
-pub record IsTextWhere (bytes : List ℕ) (P : Book → Type 0) : Type 0 where
-  pub book : Book
-  pub spelled : Text bytes book
-  pub holds : P book
-
--- a name of the words is that of no contract
-abbrev pub NameIsUnknown : FlowsAsked → Book → Type 0
-NameIsUnknown flows b = is_known flows.contract b ≡ false
-
--- names are known, and the day is out of range
-pub record DayIsOut (flows : FlowsAsked) (b : Book) : Type 0 where
-  pub known : is_known flows.contract b ≡ true
-  pub word : List ℕ
-  pub given : flows.until ≡ Some word
-  pub out : IsOutOfRange b.declarations greatest_day word
-
--- the words fit, and some contract that is used is not accepted
-pub record SomeIsRefused (flows : FlowsAsked) (b : Book) : Type 0 where
-  pub last : ℤ
-  pub fit : WordsFit b flows last
-  pub refused : AreAllAccepted b.declarations (used flows.contract b) → ⊥
-
--- the contracts that are used are accepted, and some row of the table is refused
-pub record SomeRowIsBad (flows : FlowsAsked) (table : Option (List ℕ)) (b : Book) : Type 0 where
-  pub last : ℤ
-  pub fit : WordsFit b flows last
-  pub accepted : AreAllAccepted b.declarations (used flows.contract b)
-  pub bytes : List ℕ
-  pub named : table ≡ Some bytes
-  pub row : RowFault
-  pub first : IsFirstFault b.declarations (table_of bytes) row
-
--- the contracts that are used are accepted and the rows are taken, and some read is not fixed
-pub record SomeReadIsMissing (flows : FlowsAsked) (table : Option (List ℕ)) (b : Book) : Type 0 where
-  pub last : ℤ
-  pub fit : WordsFit b flows last
-  pub accepted : AreAllAccepted b.declarations (used flows.contract b)
-  pub fixings : Environment
-  pub are_fixings : AreFixings b.declarations table fixings
-  pub unfixed : AreAllFixed b.declarations fixings last (used flows.contract b) → ⊥
-
--- the same of `advance`: the day is in range, and some contract is not accepted
-pub record AnyIsRefused (asked : AdvanceAsked) (b : Book) : Type 0 where
-  pub day : ℕ
-  pub is_day : IsNewDay b.declarations asked.to day
-  pub refused : AreAllAccepted b.declarations (used None b) → ⊥
-
--- the contracts are accepted, and some row of the table is refused
-pub record AnyRowIsBad (asked : AdvanceAsked) (table : Option (List ℕ)) (b : Book) : Type 0 where
-  pub day : ℕ
-  pub is_day : IsNewDay b.declarations asked.to day
-  pub accepted : AreAllAccepted b.declarations (used None b)
-  pub bytes : List ℕ
-  pub named : table ≡ Some bytes
-  pub row : RowFault
-  pub first : IsFirstFault b.declarations (table_of bytes) row
-
--- the contracts are accepted and the rows are taken, and some read of the days gone by is not fixed
-pub record AnyReadIsMissing (asked : AdvanceAsked) (table : Option (List ℕ)) (b : Book) : Type 0 where
-  pub day : ℕ
-  pub is_day : IsNewDay b.declarations asked.to day
-  pub accepted : AreAllAccepted b.declarations (used None b)
-  pub fixings : Environment
-  pub are_fixings : AreFixings b.declarations table fixings
-  pub unfixed : AreAllFixed b.declarations fixings (last_gone day) (used None b) → ⊥
-
--- the same of `payoff`: the name is that of a contract, and this one is not accepted
-pub record NamedIsRefused (asked : PayoffAsked) (b : Book) : Type 0 where
-  pub contr : Contract
-  pub named : contract_named asked.contract b ≡ Some contr
-  pub refused : IsAcceptedAtDefaults b.declarations contr → ⊥
-
--- the cause of a status of a command that has its portfolio; nothing but a contract that is not accepted refuses `check`
-abbrev pub CauseOnBook : Status → Asked → Option (List ℕ) → Book → Type 0
-CauseOnBook status.Refused (Check file) table b = AreAllAccepted b.declarations (used None b) → ⊥
-CauseOnBook status.UnknownName (Flows flows) table b = NameIsUnknown flows b
-CauseOnBook status.DayRange (Flows flows) table b = DayIsOut flows b
-CauseOnBook status.Refused (Flows flows) table b = SomeIsRefused flows b
-CauseOnBook status.BadRow (Flows flows) table b = SomeRowIsBad flows table b
-CauseOnBook status.Missing (Flows flows) table b = SomeReadIsMissing flows table b
-CauseOnBook status.DayRange (Advance asked) table b = IsNoNewDay b.declarations asked.to
-CauseOnBook status.Refused (Advance asked) table b = AnyIsRefused asked b
-CauseOnBook status.BadRow (Advance asked) table b = AnyRowIsBad asked table b
-CauseOnBook status.Missing (Advance asked) table b = AnyReadIsMissing asked table b
-CauseOnBook status.UnknownName (Payoff asked) table b = contract_named asked.contract b ≡ None
-CauseOnBook status.Refused (Payoff asked) table b = NamedIsRefused asked b
-CauseOnBook _ asked table b = ⊥
 
 -- ---- the laws
 
@@ -218,31 +126,6 @@ pub record RefusalsAreExact : Type 0 where
   pub refused : IsExactOnBook status.Refused
   pub bad_row : IsExactOnBook status.BadRow
   pub missing : IsExactOnBook status.Missing
-
--- a command whose text leaves nothing open: any but `advance`, which writes some contracts that are left of the old ones
-abbrev pub LeavesNothingOpen : Asked → Type 0
-LeavesNothingOpen (Check file) = Unit {0}
-LeavesNothingOpen (Flows flows) = Unit {0}
-LeavesNothingOpen (Advance asked) = ⊥
-LeavesNothingOpen (Payoff asked) = Unit {0}
-
--- the bytes of the files of such a command have one answer, a status and a text
-abbrev pub AnswersAreOne : Type 0
-AnswersAreOne =
-    (asked : Asked) (inputs : Inputs) (s t : Status) (one other : List ℕ) → LeavesNothingOpen asked
-    → Answers asked inputs s one → Answers asked inputs t other → (s ≡ t) × (one ≡ other)
-
--- those of any command have one status, and but for a command that is done one text
-abbrev pub StatusesAreOne : Type 0
-StatusesAreOne =
-    (asked : Asked) (inputs : Inputs) (s t : Status) (one other : List ℕ)
-    → Answers asked inputs s one → Answers asked inputs t other → (s ≡ t) × ((s ≡ status.Done → ⊥) → one ≡ other)
-
--- and two texts of `advance` begin with the same due lines, and go on with what is left on the same day
-abbrev pub DueLinesAreOne : Type 0
-DueLinesAreOne =
-    (b : Book) (asked : AdvanceAsked) (table : Option (List ℕ)) (one other : List ℕ)
-    (h : IsAdvanceText b asked table one) (k : IsAdvanceText b asked table other) → (h.due ≡ k.due) × (h.day ≡ k.day)
 
 -- words of no form have just the line of that fault
 abbrev pub UsageWritesItsLine : Type 0

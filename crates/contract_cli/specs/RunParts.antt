@@ -1,35 +1,17 @@
 -- What the parts of a run keep of a command's files, and what they answer.
-use Rattle.std.specs.Prelude.{◌≡◌, ◌≤◌, ℕ, List, option_map, Result, length}
+use Rattle.std.specs.Prelude.{◌≡◌, ℕ, List, Result}
 use Rattle.std.specs.Global.{Vec}
 use Rattle.report.specs.FaultLines.{fault_text}
-use Rattle.contract_cli.specs.FilesPromise.{Answers, Inputs, Stops, StopsOnCode, AnswersOnCode}
 use Rattle.command_words.specs.Commands.{Asked, ValueAsked, ValueFiles}
-use Rattle.contract_cli.specs.FlowsParts.{IsShortTable}
+use Rattle.command_answers.specs.AnswerParts.{inputs_by}
 use Rattle.contract_cli.specs.RunPromise.{Cause, CountsOnlyValued, FileFault, FilesSeen, Names, NamesValue, StopsRun, WasRead, WereRead, WereReadForValue}
-use Rattle.contract_cli.specs.Statuses.{status_of}
-use Rattle.contract_cli.specs.Stopping.{AnswersBy}
-use Rattle.contract_cli.specs.ValueParts.{value_inputs_by}
-use Rattle.contract_cli.specs.ValuePromise.{ValueInputs}
-use Rattle.contract_cli.specs.declared.answers.Answer.{Answer}
-use Rattle.contract_cli.specs.declared.answers.Inputs.{Inputs as Kept}
-use Rattle.contract_cli.specs.declared.stop.Stop.{Stop}
-use Rattle.contract_cli.specs.declared.value_inputs.ValueInputs.{ValueInputs as KeptForValue}
-
--- the bytes that a program keeps of a command's files
-abbrev pub inputs_by : Kept → Inputs
-inputs_by inputs = record { portfolio = inputs.portfolio.items; fixings = option_map (λ bytes. bytes.items) inputs.fixings }
-
--- no file is longer than the limit
-pub record AreShort (inputs : Inputs) : Type 0 where
-  pub portfolio : length inputs.portfolio ≤ 16_777_216
-  pub fixings : IsShortTable inputs.fixings
-
-abbrev pub AnswersBytes : Asked → Inputs → Result Answer Stop → Type 0
-AnswersBytes asked inputs r = AnswersBy (λ answer. Answers asked inputs answer.status answer.text.items) (Stops asked inputs) r
-
-abbrev pub AnswersValueBytes : ValueAsked → ValueInputs → Result Answer Stop → Type 0
-AnswersValueBytes asked inputs r =
-    AnswersBy (λ answer. AnswersOnCode asked inputs answer.status answer.text.items) (StopsOnCode asked inputs) r
+use Rattle.command_answers.specs.Statuses.{status_of}
+use Rattle.command_answers.specs.Stopping.{AnswersBy}
+use Rattle.command_answers.specs.ValueParts.{value_inputs_by}
+use Rattle.command_answers.specs.declared.answers.Answer.{Answer}
+use Rattle.command_answers.specs.declared.answers.Inputs.{Inputs as Kept}
+use Rattle.command_answers.specs.declared.stop.Stop.{Stop}
+use Rattle.command_answers.specs.declared.value_inputs.ValueInputs.{ValueInputs as KeptForValue}
 
 -- the bytes of the file at a place, or why there are none
 abbrev pub AnswersFile : FilesSeen → List ℕ → ℕ → Result (Vec ℕ) Stop → Type 0

@@ -9,13 +9,13 @@ use Rattle.report.specs.FaultLines.{fault_text}
 use Rattle.report.specs.declared.fault_lines.Fault.{Fault}
 use Rattle.report.specs.declared.fault_lines.Fault.TheVariants as fault
 use Rattle.sample.specs.Summary.{IsSummary}
-use Rattle.contract_cli.specs.FilesPromise.{Answers, Inputs, AnswersOnCode}
+use Rattle.command_answers.specs.FilesPromise.{Answers, Inputs, AnswersOnCode}
 use Rattle.command_words.specs.Commands.{Asked, OnCode, OnFiles, Sample, ValueAsked, fixings_file, portfolio_file}
-use Rattle.contract_cli.specs.Statuses.{status_of}
-use Rattle.contract_cli.specs.ValuePromise.{ValueInputs}
+use Rattle.command_answers.specs.Statuses.{status_of}
+use Rattle.command_answers.specs.ValuePromise.{ValueInputs}
 use Rattle.command_words.specs.Words.{request_of}
-use Rattle.contract_cli.specs.declared.status.Status.{Status}
-use Rattle.contract_cli.specs.declared.status.Status.TheVariants as status
+use Rattle.command_answers.specs.declared.status.Status.{Status}
+use Rattle.command_answers.specs.declared.status.Status.TheVariants as status
 
 -- the greatest length of a file, in bytes
 abbrev pub longest_file : ℕ

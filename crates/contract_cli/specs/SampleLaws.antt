@@ -5,8 +5,8 @@ use Rattle.edge_io.specs.Counts.{Rose}
 use Rattle.sample.specs.Summary.{IsSummary}
 use Rattle.contract_cli.specs.RunLaws.{WritesSucceed}
 use Rattle.contract_cli.specs.RunPromise.{Edge, Meets, NamesSample, WritesAll, WritesNothing}
-use Rattle.contract_cli.specs.declared.status.Status.{Status}
-use Rattle.contract_cli.specs.declared.status.Status.TheVariants as status
+use Rattle.command_answers.specs.declared.status.Status.{Status}
+use Rattle.command_answers.specs.declared.status.Status.TheVariants as status
 
 -- the sample of so many contracts has one summary
 abbrev pub SummariesAreOne : Type 0

@@ -4,14 +4,14 @@
 use Rattle.std.specs.Prelude.{◌≡◌, ◌++◌, ℕ, false, List, Some}
 use Rattle.term_core.specs.Environments.{Extends}
 use Rattle.command_words.specs.Commands.{Advance, AdvanceAsked, Check, Payoff, PayoffAsked, ValueAsked}
-use Rattle.contract_cli.specs.FilesPromise.{Inputs}
+use Rattle.command_answers.specs.FilesPromise.{Inputs}
 use Rattle.contract_cli.specs.Headline.{HasAdvanced, HasCompiled, HasValued, IsAcceptedAtNumbers, IsPresentValue}
 use Rattle.contract_cli.specs.RunLaws.{IsCarriedBook, IsOrNoMemory, IsReadWhole}
 use Rattle.contract_cli.specs.RunPromise.{Edge, Meets, Names, NamesValue, SinkLeft}
 use Rattle.contract_cli.specs.ValueLaws.{IsReadWholeForValue}
-use Rattle.contract_cli.specs.ValuePromise.{ValueInputs}
-use Rattle.contract_cli.specs.declared.status.Status.{Status}
-use Rattle.contract_cli.specs.declared.status.Status.TheVariants as status
+use Rattle.command_answers.specs.ValuePromise.{ValueInputs}
+use Rattle.command_answers.specs.declared.status.Status.{Status}
+use Rattle.command_answers.specs.declared.status.Status.TheVariants as status
 
 -- these bytes were written, where it is told what a sink holds
 pub record Printed (sink : SinkLeft) (text : List ℕ) : Type 0 where

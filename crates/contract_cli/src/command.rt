@@ -4,18 +4,17 @@ ghost use Rattle.std.specs.Prelude.{◌≡◌, ℕ, List, IfOk};
 ghost use Rattle.clap.specs.Walk.{texts};
 ghost use Rattle.contract_cli.specs.RunParts.{AnswersFile, AnswersInputs, AnswersValueInputs, AnswersValueWords, AnswersWords, CountsOnlyForValue, HasCause};
 ghost use Rattle.edge_io.specs.Files.{CountsOnly};
-ghost use Rattle.contract_cli.specs.ValueParts.{AreShortForValue, value_inputs_by};
+ghost use Rattle.command_answers.specs.ValueParts.{AreShortForValue, value_inputs_by};
 ghost use Rattle.contract_cli.specs.Headline.{Headline};
 ghost use Rattle.contract_cli.specs.RunPromise.{CountsOnlyBy, CountsOnlyNamed, CountsOnlyValued, Meets, seen, sink_left};
 ghost use Rattle.command_words.specs.Arguments.{given_text};
 ghost use Rattle.command_words.specs.Commands.{fixings_file, portfolio_file};
 ghost use Rattle.command_words.specs.Words.{asked_by, files_by, value_by};
 
-use crate::answers::{Answer, Inputs, answer_bytes, fault_answer, sample_answer};
-use crate::status::Status;
-use crate::stop::Stop;
-use crate::value_answers::answer_value;
-use crate::value_inputs::ValueInputs;
+use command_answers::{
+    Answer, Inputs, Status, Stop, ValueInputs, answer_bytes, answer_value, fault_answer,
+    sample_answer,
+};
 use command_words::{Command, Request, Value, ValueFiles, WordsErr, request_of};
 use decimal::NoMemory;
 use edge_io::{Files, ReadErr, Sink, write_whole};

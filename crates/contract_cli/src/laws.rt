@@ -2,10 +2,11 @@
 
 ghost use Rattle.contract_cli.specs.AdvanceLaws.{AdvanceTextsAreTexts};
 ghost use Rattle.contract_cli.specs.PayoffLaws.{PayoffTextsMean};
-ghost use Rattle.contract_cli.specs.RunLaws.{AdvanceIsComplete, AdvancesCompose, AnswersAreOne, BadTextIsExact, CheckIsComplete, DueLinesAreOne, FlowsAreComplete, PayoffIsComplete, ReadFaultsHaveCauses, RefusalsAreExact, StatusesAreOne, TooLongIsExact, UsageIsExact, UsageWritesItsLine, WriteFaultsHaveCauses};
+ghost use Rattle.contract_cli.specs.RunLaws.{AdvanceIsComplete, AdvancesCompose, BadTextIsExact, CheckIsComplete, FlowsAreComplete, PayoffIsComplete, ReadFaultsHaveCauses, RefusalsAreExact, TooLongIsExact, UsageIsExact, UsageWritesItsLine, WriteFaultsHaveCauses};
 ghost use Rattle.contract_cli.specs.SampleLaws.{SampleHasThreeEnds, SampleIsComplete, SummariesAreOne};
 ghost use Rattle.contract_cli.specs.TwoRuns.{AdvancedTextsAdvance, AdvancedTextsAreAccepted, PrintedCodeIsTaken, PrintedCodeIsValued};
-ghost use Rattle.contract_cli.specs.ValueLaws.{BadCodeIsExact, DeclaredNamesHavePlaces, TooLongForValueIsExact, ValueAnswersAreOne, ValueIsComplete, ValueRefusalsAreExact};
+ghost use Rattle.contract_cli.specs.ValueLaws.{BadCodeIsExact, TooLongForValueIsExact, ValueIsComplete, ValueRefusalsAreExact};
+ghost use Rattle.command_answers.specs.AnswerLaws.{AnswersAreOne, DueLinesAreOne, StatusesAreOne, DeclaredNamesHavePlaces, ValueAnswersAreOne};
 
 /// Usage comes exactly where the words are of no form, or memory is wanting, or the write of its line fails; and it has
 /// just that line.

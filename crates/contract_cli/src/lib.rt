@@ -1,4 +1,4 @@
-//! The commands on portfolios, on code files and on the sample, and the run of one command.
+//! A run of one command: it reads the named files, has the command answer to their bytes, and writes the answer.
 //!
 //! ```text
 //! let status = run(alloc, &words, &mut files, &mut out);
@@ -10,22 +10,8 @@
 //! Only tested: that each file is read once and in order.
 #![tactic(auto)]
 
-mod accepting;
-mod advance_text;
-mod answers;
-mod check_text;
 mod command;
-mod flows_text;
 pub mod laws;
-mod over_fixings;
-mod payoff_text;
-mod status;
-mod stop;
-mod used;
-mod value_answers;
-mod value_inputs;
-mod value_names;
-mod value_text;
 
 pub use command::run;
-pub use status::Status;
+pub use command_answers::Status;

@@ -2,12 +2,12 @@ use Rattle.std.proofs.Common.{refl}
 use Rattle.report.specs.FaultLines.{fault_text}
 use Rattle.command_words.specs.Words.{value_by}
 use Rattle.contract_cli.specs.RunPromise.{Cause, FilesSeen, StopsRun, WereReadForValue, stopped, valued}
-use Rattle.contract_cli.specs.Statuses.{status_of}
-use Rattle.contract_cli.specs.FilesPromise.{AnswersOnCode, StopsOnCode, value_stopped}
-use Rattle.contract_cli.specs.ValueParts.{value_inputs_by}
-use Rattle.contract_cli.specs.declared.answers.Answer.{Answer}
-use Rattle.contract_cli.specs.declared.value_inputs.ValueInputs.{ValueInputs as Kept}
-use Rattle.contract_cli.proofs.StopFacts.{answers_too, handed_on}
+use Rattle.command_answers.specs.Statuses.{status_of}
+use Rattle.command_answers.specs.FilesPromise.{AnswersOnCode, StopsOnCode, value_stopped}
+use Rattle.command_answers.specs.ValueParts.{value_inputs_by}
+use Rattle.command_answers.specs.declared.answers.Answer.{Answer}
+use Rattle.command_answers.specs.declared.value_inputs.ValueInputs.{ValueInputs as Kept}
+use Rattle.command_answers.proofs.StopFacts.{answers_too, handed_on}
 use Rattle.contract_cli.proofs.command.answer_on_code.Goals as goal
 
 pub returns-in_err-inputs-clause-answer : goal.returns-in_err-inputs-clause-answer

@@ -2,18 +2,18 @@ use Rattle.std.proofs.Common.{◌≡◌, ◌∙◌, ℕ, List, Bor, ap, refl, ru
 use Rattle.std.specs.Prelude.{Err, Some, map}
 use Rattle.report.specs.FaultLines.{fault_text}
 use Rattle.report.specs.declared.fault_lines.Fault.TheVariants as fault
-use Rattle.contract_cli.specs.RunParts.{inputs_by}
-use Rattle.contract_cli.specs.FilesPromise.{Answers, Stops, stopped as stops_on}
+use Rattle.command_answers.specs.AnswerParts.{inputs_by}
+use Rattle.command_answers.specs.FilesPromise.{Answers, Stops, stopped as stops_on}
 use Rattle.contract_cli.specs.RunPromise.{Cause, answered, sampled, stopped, no_form, FilesSeen, Names, NamesSample, StopsRun, WereRead}
-use Rattle.contract_cli.specs.Statuses.{status_of}
+use Rattle.command_answers.specs.Statuses.{status_of}
 use Rattle.command_words.specs.Words.{IsRequestOf, asked_by, requested_by}
-use Rattle.contract_cli.specs.declared.answers.Answer.{Answer}
+use Rattle.command_answers.specs.declared.answers.Answer.{Answer}
 use Rattle.command_words.specs.declared.arguments.WordsErr.{WordsErr}
 use Rattle.command_words.specs.declared.arguments.WordsErr.TheVariants as words_err
-use Rattle.contract_cli.specs.declared.answers.Inputs.{Inputs as Kept}
+use Rattle.command_answers.specs.declared.answers.Inputs.{Inputs as Kept}
 use Rattle.command_words.specs.declared.words.Request.{Request as Requested}
 use Rattle.contract_cli.proofs.ReadFacts.{counts_by_words}
-use Rattle.contract_cli.proofs.StopFacts.{answers_too, handed_on}
+use Rattle.command_answers.proofs.StopFacts.{answers_too, handed_on}
 use Rattle.contract_cli.proofs.command.answer_words.Goals as goal
 
 abbrev texts : List (Bor (List ℕ)) → List (List ℕ)

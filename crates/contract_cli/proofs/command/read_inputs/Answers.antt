@@ -1,13 +1,13 @@
 use Rattle.std.proofs.Common.{◌≡◌, ℕ, List, refl, rules, subst}
 use Rattle.std.specs.Prelude.{Some}
 use Rattle.std.specs.Global.{Vec}
-use Rattle.contract_cli.specs.RunParts.{inputs_by}
 use Rattle.command_words.specs.Commands.{fixings_file}
 use Rattle.contract_cli.specs.RunPromise.{FileFault, FilesSeen, StopsRun, WasRead, WereRead}
 use Rattle.command_words.specs.Words.{asked_by}
-use Rattle.contract_cli.specs.declared.answers.Inputs.{Inputs as Kept}
+use Rattle.command_answers.specs.AnswerParts.{inputs_by}
+use Rattle.command_answers.specs.declared.answers.Inputs.{Inputs as Kept}
 use Rattle.contract_cli.proofs.ReadFacts.{counts_of_one, seen_told, stopped_at_first, stopped_at_second}
-use Rattle.contract_cli.proofs.StopFacts.{handed_on}
+use Rattle.command_answers.proofs.StopFacts.{handed_on}
 use Rattle.contract_cli.proofs.command.read_inputs.Goals as goal
 
 pub returns-in_err-portfolio : goal.returns-in_err-portfolio

@@ -2,10 +2,10 @@ use Rattle.std.proofs.Common.{◌≡◌, ◌∙◌, ◌≤◌, ℕ, List, ap, ar
 use Rattle.std.specs.Global.{Vec}
 use Rattle.command_words.specs.Commands.{ValueFiles}
 use Rattle.contract_cli.specs.RunPromise.{FileFault, FilesSeen, StopsRun, WasRead, WereReadForValue}
-use Rattle.contract_cli.specs.ValueParts.{value_inputs_by}
-use Rattle.contract_cli.specs.declared.value_inputs.ValueInputs.{ValueInputs as Kept}
+use Rattle.command_answers.specs.ValueParts.{value_inputs_by}
+use Rattle.command_answers.specs.declared.value_inputs.ValueInputs.{ValueInputs as Kept}
 use Rattle.contract_cli.proofs.ReadFacts.{seen_told, stopped_at_code, stopped_at_curve, stopped_at_fixings}
-use Rattle.contract_cli.proofs.StopFacts.{handed_on}
+use Rattle.command_answers.proofs.StopFacts.{handed_on}
 use Rattle.contract_cli.proofs.command.read_value_inputs.Goals as goal
 
 pub returns-in_err-code-clause-answer : goal.returns-in_err-code-clause-answer

@@ -1,0 +1,17 @@
+use Rattle.std.proofs.Common.{ℕ, List, ap, subst, sym}
+use Rattle.std.specs.Prelude.{Option, Some, option_map}
+use Rattle.term_core.specs.Declarations.{declarations}
+use Rattle.command_answers.specs.FlowsParts.{CanBeLast, IsDayFault, IsWordFault}
+use Rattle.command_answers.specs.FlowsPromise.{IsDayAsked, greatest_day}
+use Rattle.command_answers.specs.Stopping.{AnswersBy}
+use Rattle.command_words.specs.declared.day_words.DayWord.{DayWord}
+use Rattle.command_answers.proofs.DayFacts.{is_last, no_last}
+use Rattle.command_answers.proofs.StopFacts.{answers_too}
+use Rattle.command_answers.proofs.flows_text.last_day.Goals as goal
+
+pub returns-in-Some : goal.returns-in-Some
+returns-in-Some c =
+    let d = declarations c.args.decls.now in
+    let word = c.in-Some.asked.word.now in
+    subst (λ (until : Option (List ℕ)). AnswersBy (CanBeLast d until) (IsDayFault d until) c.day_asked.result) (sym (ap (option_map (λ (day : DayWord). day.word.now)) c.in-Some.is))
+    (answers_too (IsDayAsked d greatest_day word) (CanBeLast d (Some word)) (IsWordFault d greatest_day word) (IsDayFault d (Some word)) (is_last d word) (no_last d word) c.day_asked.result c.day_asked.ensures)

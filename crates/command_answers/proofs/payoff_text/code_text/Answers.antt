@@ -1,0 +1,16 @@
+use Rattle.std.proofs.Common.{ℕ, ap, subst, sym}
+use Rattle.std.specs.Prelude.{IfOk}
+use Rattle.std.specs.Global.{Vec}
+use Rattle.payoff_lang.specs.Code.{PayoffCode}
+use Rattle.payoff_lang.specs.CodeBooks.{CodeBook}
+use Rattle.payoff_lang.specs.CodeCanon.{IsCanonOfCode}
+use Rattle.payoff_lang.specs.WritableCode.{IsWritableCode}
+use Rattle.command_answers.proofs.payoff_text.code_text.Goals as goal
+
+pub file_text-requires : goal.file_text-requires
+file_text-requires c =
+    subst (λ (k : PayoffCode). IsWritableCode k) (sym (ap (λ (f : CodeBook). f.code) c.in_ok-file.ensures)) c.requires
+
+pub returns : goal.returns
+returns c =
+    subst (λ (f : CodeBook). IfOk c.file_text.result (λ (text : Vec ℕ). IsCanonOfCode text.items f)) c.in_ok-file.ensures c.file_text.ensures

@@ -1,0 +1,63 @@
+use Rattle.std.proofs.Common.{◌≡◌, ◌∙◌, ◌++◌, List, ℕ, ap, subst, sym}
+use Rattle.std.specs.Prelude.{All, option_map}
+use Rattle.std.proofs.lemmas.List.{append-nil}
+use Rattle.std.proofs.lemmas.List.Elements.{All-head, All-tail}
+use Rattle.term_core.specs.declared.name.Name.{Name}
+use Rattle.term_core.specs.declared.terms.Contr.{Contr}
+use Rattle.term_core.specs.Declarations.{declarations}
+use Rattle.term_core.specs.Instances.{HasNumbers, instance}
+use Rattle.term_core.specs.Terms.{Contract, contract}
+use Rattle.command_answers.specs.UsedParts.{IsSound, IsTriable, entries_of}
+use Rattle.command_answers.specs.declared.used.Used.{Used}
+use Rattle.command_answers.proofs.UsedFacts.{more_used, none_used, numbers_given, used_of, used_triable}
+use Rattle.command_answers.proofs.used.used_contracts.Goals as goal
+use Rattle.contract_parse.specs.ContractReading.{trees}
+
+pub instance_of-requires : goal.instance_of-requires
+instance_of-requires c =
+    let d = declarations c.args.portfolio.now.decls in
+    let P : Name × Contract → Type 0 = λ entry. IsSound d entry.1 in
+    let contr = contract c.in-Some.contr.now in
+    let left = ap trees c.in-Some.ensures.steps in
+    let sound = All-head P (c.in-Some.name.now, contr) (trees c.next.new.self) (subst (All P) left c.loop-name.invariant.sound) in
+    subst (λ (numbers : List ℕ). HasNumbers numbers contr) (sym c.in_ok-setting.ensures) (numbers_given d contr sound)
+
+pub loop-name-preserved-in-Continue-branch-3 : goal.loop-name-preserved-in-Continue-branch-3
+loop-name-preserved-in-Continue-branch-3 c =
+    let d = declarations c.args.portfolio.now.decls in
+    let P : Name × Contract → Type 0 = λ entry. IsSound d entry.1 in
+    let only = option_map (λ word. word.now) c.args.only in
+    let contr = contract c.in-Some.contr.now in
+    let one : Used = record { name = c.in-Some.name; contr = c.in_ok-contr.contr } in
+    let steps = c.in-Some.ensures.steps in
+    let made = ap (λ (t : Contract). (c.in-Some.name.now, t)) (c.in_ok-contr.ensures ∙ ap (λ (numbers : List ℕ). instance numbers contr) c.in_ok-setting.ensures) in
+    record {
+      made = ap (λ (ones : List Used). entries_of ones ++ used_of only d (trees c.next.new.self)) c.in_ok-push.ensures.items
+          ∙ more_used only d c.loop-name.ones.items one c.loop-name.name-iterator c.next.new.self (c.in-Some.name.now, c.in-Some.contr.now) steps (sym c.if-is_asked.ensures) made
+          ∙ c.loop-name.invariant.made;
+      sound = All-tail P (c.in-Some.name.now, contr) (trees c.next.new.self) (subst (All P) (ap trees steps) c.loop-name.invariant.sound);
+    }
+
+pub loop-name-preserved : goal.loop-name-preserved
+loop-name-preserved c =
+    let d = declarations c.args.portfolio.now.decls in
+    let P : Name × Contract → Type 0 = λ entry. IsSound d entry.1 in
+    let only = option_map (λ word. word.now) c.args.only in
+    let steps = c.in-Some.ensures.steps in
+    record {
+      made = none_used only d c.loop-name.ones.items c.loop-name.name-iterator c.next.new.self (c.in-Some.name.now, c.in-Some.contr.now) steps (sym c.if-is_asked.ensures)
+          ∙ c.loop-name.invariant.made;
+      sound = All-tail P (c.in-Some.name.now, contract c.in-Some.contr.now) (trees c.next.new.self) (subst (All P) (ap trees steps) c.loop-name.invariant.sound);
+    }
+
+pub returns-clause-triable : goal.returns-clause-triable
+returns-clause-triable c =
+    let d = declarations c.args.portfolio.now.decls in
+    let only = option_map (λ word. word.now) c.args.only in
+    let ones = c.loop-name.ones.items in
+    let entries = c.args.portfolio.now.contracts.entries in
+    let all : entries_of ones ≡ used_of only d (trees entries) =
+    sym (append-nil (entries_of ones))
+    ∙ ap (λ (left : List (Name × Contr)). entries_of ones ++ used_of only d (trees left)) (sym c.in-None.ensures.steps.0)
+    ∙ c.loop-name.invariant.made in
+    subst (All (λ (entry : Name × Contract). IsTriable d entry.1)) (sym all) (used_triable only d (trees entries) c.requires)

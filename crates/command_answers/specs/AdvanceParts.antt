@@ -1,0 +1,73 @@
+-- What the parts of `advance` answer: the comments and the contracts that are left, behind those that were there before.
+use Rattle.std.specs.Prelude.{◌≡◌, ◌-◌, ℕ, pos, List, [], ◌∷◌, ◌++◌, Option, Result}
+use Rattle.std.specs.Global.{Vec}
+use Rattle.term_core.specs.declared.name.Name.{Name}
+use Rattle.term_core.specs.Books.{Book}
+use Rattle.term_core.specs.Declarations.{Declarations}
+use Rattle.term_core.specs.Environments.{Environment}
+use Rattle.term_core.specs.Terms.{Contract}
+use Rattle.contract_print.specs.Canon.{IsCanon}
+use Rattle.flow_eval.specs.FlowAnswers.{AreKnownFlows}
+use Rattle.flow_eval.specs.declared.flow_table.FlowRow.{FlowRow}
+use Rattle.advance_step.specs.Advancing.{IsResidual}
+use Rattle.command_answers.specs.AdvancePromise.{AreComments, AreDueLines, AreResiduals, IsAdvanceText, IsNewDay, StopsAdvance, greatest_new_day, last_gone, rest_declarations}
+use Rattle.command_words.specs.Commands.{AdvanceAsked}
+use Rattle.command_answers.specs.FlowsParts.{IsMissingOf, IsMissingOne, IsWordFault}
+use Rattle.command_answers.specs.FlowsPromise.{AreAllFixed}
+use Rattle.command_answers.specs.Stopping.{AnswersBy}
+use Rattle.command_answers.specs.declared.advance_text.Left.{Left}
+use Rattle.command_answers.specs.declared.stop.Stop.{Stop}
+use Rattle.contract_parse.specs.ContractReading.{trees}
+
+-- the new day of a word
+abbrev pub AnswersNewDay : Declarations → List ℕ → Result ℕ Stop → Type 0
+AnswersNewDay d word r = AnswersBy (IsNewDay d word) (IsWordFault d greatest_new_day word) r
+
+-- the comments of rows, behind what was there before
+pub record AppendsComments (d : Declarations) (name : List ℕ) (rows : List FlowRow) (before after : List ℕ) : Type 0 where
+  pub text : List ℕ
+  pub comments : AreComments d name rows text
+  pub appended : after ≡ before ++ text
+
+-- the same of what is due
+abbrev pub AppendsDue : Declarations → List ℕ → List FlowRow → Left → Left → Type 0
+AppendsDue d name rows before after = AppendsComments d name rows before.due.items after.due.items
+
+-- what is due of a contract and what is left of it, behind those of the contracts before it
+pub record AppendsRest (d : Declarations) (fixings : Environment) (day : ℕ) (entry : Name × Contract) (before after : Left) : Type 0 where
+  pub rows : List FlowRow
+  pub flows : AreKnownFlows d entry.1 fixings (pos d.start) (last_gone day) rows
+  pub comments : AppendsDue d entry.0 rows before after
+  pub rest : Contract
+  pub residual : IsResidual d fixings (pos d.start) (day - d.start) entry.1 rest
+  pub kept : trees after.contracts.entries ≡ trees before.contracts.entries ++ (entry.0, rest) ∷ []
+
+abbrev pub AnswersRest : Declarations → Environment → ℕ → Name × Contract → Left → Left → Result (Unit {0}) Stop → Type 0
+AnswersRest d fixings day entry before after r =
+    AnswersBy (λ _. AppendsRest d fixings day entry before after) (IsMissingOne d fixings (last_gone day) entry.1) r
+
+-- the same of contracts
+pub record AppendsRests (d : Declarations) (fixings : Environment) (day : ℕ) (entries : List (Name × Contract))
+    (due : List ℕ) (contracts : List (Name × Contract)) (left : Left) : Type 0 where
+  pub fixed : AreAllFixed d fixings (last_gone day) entries
+  pub text : List ℕ
+  pub lines : AreDueLines d fixings (last_gone day) entries text
+  pub due_is : left.due.items ≡ due ++ text
+  pub rest : List (Name × Contract)
+  pub residuals : AreResiduals d fixings day entries rest
+  pub kept : trees left.contracts.entries ≡ contracts ++ rest
+
+abbrev pub AnswersRests :
+    Declarations → Environment → ℕ → List (Name × Contract) → List ℕ → List (Name × Contract) → Result Left Stop → Type 0
+AnswersRests d fixings day entries due contracts r =
+    AnswersBy (λ left. AppendsRests d fixings day entries due contracts left) (IsMissingOf d fixings (last_gone day) entries) r
+
+-- the canonical text of what is left, behind what is due
+pub record IsRestText (d : Declarations) (day : ℕ) (contracts : List (Name × Contract)) (due text : List ℕ) : Type 0 where
+  pub canon : List ℕ
+  pub is_canon : IsCanon canon (record { declarations = rest_declarations d day; contracts = contracts })
+  pub is : text ≡ due ++ canon
+
+-- the whole answer, or what stops the command
+abbrev pub AnswersAdvance : Book → AdvanceAsked → Option (List ℕ) → Result (Vec ℕ) Stop → Type 0
+AnswersAdvance b asked table r = AnswersBy (λ text. IsAdvanceText b asked table text.items) (StopsAdvance b asked table) r

@@ -1,0 +1,41 @@
+-- What the command `check` writes of a portfolio: for each contract in its order, at the numbers that the templates are
+-- declared with, a line with the facts of the contract where it is accepted, and so is causal, or with the rule that
+-- refuses it and the first node at which that fails.
+use Rattle.std.specs.Prelude.{◌≡◌, ℕ, pos, List, [], ◌∷◌, ◌++◌, None}
+use Rattle.std.specs.List.{All}
+use Rattle.term_core.specs.declared.name.Name.{Name}
+use Rattle.term_core.specs.declared.rules.Rule.{Rule}
+use Rattle.term_core.specs.Books.{Book}
+use Rattle.term_core.specs.Declarations.{Declarations}
+use Rattle.term_core.specs.Terms.{Contract}
+use Rattle.term_core.specs.Acceptance.{Facts, IsAccepted, AreFacts, IsRefusal}
+use Rattle.term_core.specs.Causality.{IsCausal}
+use Rattle.report.specs.CheckLines.{accepted_line, refused_line}
+use Rattle.command_answers.specs.UsedContracts.{used}
+use Rattle.command_answers.specs.declared.status.Status.{Status}
+use Rattle.command_answers.specs.declared.status.Status.TheVariants as status
+
+-- the line of a named contract without names of templates
+pub data IsCheckLine (d : Declarations) (name : List ℕ) (c : Contract) (line : List ℕ) : Type 0 where
+  accepted :
+      (facts : Facts) → IsAccepted d c → AreFacts d c facts → IsCausal d c
+      → line ≡ accepted_line d.amounts name facts.start facts.scale (pos facts.total) facts.horizon → IsCheckLine d name c line
+  refused : (rule : Rule) (node : ℕ) → IsRefusal d c rule node → line ≡ refused_line name rule node → IsCheckLine d name c line
+
+-- the lines of contracts, one after another
+abbrev pub AreCheckLines : Declarations → List (Name × Contract) → List ℕ → Type 0
+AreCheckLines d [] text = text ≡ []
+AreCheckLines d (entry ∷ entries) text =
+    (first : List ℕ) × (rest : List ℕ) × IsCheckLine d entry.0 entry.1 first × AreCheckLines d entries rest × (text ≡ first ++ rest)
+
+abbrev pub AreAllAccepted : Declarations → List (Name × Contract) → Type 0
+AreAllAccepted d entries = All (λ entry. IsAccepted d entry.1) entries
+
+-- the status and the text of `check` of a portfolio: it has the lines of all contracts also where some are refused
+pub data IsCheckText (b : Book) (s : Status) (text : List ℕ) : Type 0 where
+  all_accepted :
+      s ≡ status.Done → AreAllAccepted b.declarations (used None b) → AreCheckLines b.declarations (used None b) text
+      → IsCheckText b s text
+  some_refused :
+      s ≡ status.Refused → (AreAllAccepted b.declarations (used None b) → ⊥) → AreCheckLines b.declarations (used None b) text
+      → IsCheckText b s text

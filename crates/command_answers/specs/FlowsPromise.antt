@@ -1,0 +1,162 @@
+-- What the command `flows` says of a portfolio over fixings: for each contract that is asked for, in order and at the
+-- numbers that the templates are declared with, a line for each row of its flow table from the start to a last day, or in
+-- their place the lines of what these contracts pay together; or what stops it, in this order: a name that is no
+-- contract's, a day that is out of range, a contract that is refused, a row that is refused, a read that is not fixed.
+use Rattle.std.specs.Prelude.{◌≡◌, ◌≤ℤ◌, ◌<ℤ◌, ℕ, ℤ, pos, Bool, true, false, List, [], ◌∷◌, ◌++◌, Option, Some, None, Ok, Err, codes, map, slice_get}
+use Rattle.std.specs.List.{All}
+use Rattle.term_core.specs.declared.name.Name.{Name}
+use Rattle.term_core.specs.declared.rules.Rule.{Rule}
+use Rattle.term_core.specs.Books.{Book}
+use Rattle.term_core.specs.Declarations.{Declarations}
+use Rattle.term_core.specs.Environments.{Environment, Extends, Place}
+use Rattle.term_core.specs.Flows.{Flow}
+use Rattle.term_core.specs.Terms.{Contract}
+use Rattle.term_core.specs.Acceptance.{IsRefusal}
+use Rattle.term_core.specs.Reads.{first_unfixed}
+use Rattle.fixing_files.specs.Days.{day_of}
+use Rattle.fixing_files.specs.Tables.{Holds, IsFirstFault, table_of}
+use Rattle.fixing_files.specs.declared.days.DayFault.TheVariants.{NoOrigin}
+use Rattle.fixing_files.specs.declared.faults.RowFault.{RowFault}
+use Rattle.flow_eval.specs.Readiness.{last_day}
+use Rattle.flow_eval.specs.FlowAnswers.{AreKnownFlows, reads_until}
+use Rattle.flow_eval.specs.Tables.{IsTable, paid_by}
+use Rattle.flow_eval.specs.declared.flow_table.FlowRow.{FlowRow}
+use Rattle.report.specs.FlowLines.{IsFlowLine}
+use Rattle.report.specs.SumTables.{together}
+use Rattle.report.specs.declared.fault_lines.Fault.{Fault}
+use Rattle.report.specs.declared.fault_lines.Fault.TheVariants as fault
+use Rattle.command_answers.specs.CheckPromise.{AreAllAccepted}
+use Rattle.command_words.specs.Commands.{FlowsAsked}
+use Rattle.command_answers.specs.UsedContracts.{is_known, used}
+
+-- the greatest day that can be asked for
+abbrev pub greatest_day : ℤ
+greatest_day = pos last_day
+
+-- the day that a word names, from the start to a greatest
+abbrev pub IsDayAsked : Declarations → ℤ → List ℕ → ℤ → Type 0
+IsDayAsked d greatest word day = (day_of d.origin word ≡ Ok day) × (pos d.start ≤ℤ day) × (day ≤ℤ greatest)
+
+-- the last day that is asked for: that of a word, or the greatest
+abbrev pub IsLastDay : Declarations → Option (List ℕ) → ℤ → Type 0
+IsLastDay d None last = last ≡ greatest_day
+IsLastDay d (Some word) last = IsDayAsked d greatest_day word last
+
+-- a word is a date where there is no origin, or names a day before the start or above a greatest
+pub data IsOutOfRange (d : Declarations) (greatest : ℤ) (word : List ℕ) : Type 0 where
+  no_origin : day_of d.origin word ≡ Err NoOrigin → IsOutOfRange d greatest word
+  too_early : (day : ℤ) → day_of d.origin word ≡ Ok day → day <ℤ pos d.start → IsOutOfRange d greatest word
+  too_late : (day : ℤ) → day_of d.origin word ≡ Ok day → greatest <ℤ day → IsOutOfRange d greatest word
+
+-- the fixings of a table, or none where none is named
+abbrev pub AreFixings : Declarations → Option (List ℕ) → Environment → Type 0
+AreFixings d None fixings = fixings ≡ []
+AreFixings d (Some bytes) fixings = Holds d (table_of bytes) fixings
+
+-- the name of a declared label
+abbrev pub label_name : Declarations → ℕ → List ℕ
+label_name d label = elim (slice_get d.labels label) [ Some entry ↦ entry.0 | None ↦ [] ]
+
+-- the first read of a contract that stands on the start that is not fixed
+abbrev pub missing_of : Declarations → Environment → ℤ → Contract → Option Place
+missing_of d fixings last c = first_unfixed fixings (reads_until d c fixings (pos d.start) last)
+
+-- each read of each contract is fixed
+abbrev pub AreAllFixed : Declarations → Environment → ℤ → List (Name × Contract) → Type 0
+AreAllFixed d fixings last entries = All (λ entry. missing_of d fixings last entry.1 ≡ None) entries
+
+-- the first contract that is not accepted
+pub record IsFirstNotAccepted (d : Declarations) (entries : List (Name × Contract)) (name : List ℕ) (rule : Rule) (node : ℕ) : Type 0 where
+  pub before : List (Name × Contract)
+  pub contr : Contract
+  pub after : List (Name × Contract)
+  pub split : entries ≡ before ++ (name, contr) ∷ after
+  pub accepted : AreAllAccepted d before
+  pub refused : IsRefusal d contr rule node
+
+-- the first read that is not fixed, of the first contract that has one
+pub record IsFirstMissing (d : Declarations) (fixings : Environment) (last : ℤ)
+    (entries : List (Name × Contract)) (place : Place) : Type 0 where
+  pub before : List (Name × Contract)
+  pub entry : Name × Contract
+  pub after : List (Name × Contract)
+  pub split : entries ≡ before ++ entry ∷ after
+  pub fixed : AreAllFixed d fixings last before
+  pub missing : missing_of d fixings last entry.1 ≡ Some place
+
+-- a line for each row of the named contract
+abbrev pub AreLines : Declarations → List ℕ → List FlowRow → List ℕ → Type 0
+AreLines d name [] text = text ≡ []
+AreLines d name (row ∷ rows) text =
+    (line : List ℕ) × (rest : List ℕ) × IsFlowLine d name row line × AreLines d name rows rest × (text ≡ line ++ rest)
+
+-- the lines of the flows of a contract that stands on the start, the same in every environment that extends the fixings
+pub record AreFlowLines (d : Declarations) (fixings : Environment) (last : ℤ) (name : List ℕ) (c : Contract) (text : List ℕ) : Type 0 where
+  pub rows : List FlowRow
+  pub flows : AreKnownFlows d c fixings (pos d.start) last rows
+  pub lines : AreLines d name rows text
+
+-- the lines of contracts, one contract after another
+abbrev pub AreAllLines : Declarations → Environment → ℤ → List (Name × Contract) → List ℕ → Type 0
+AreAllLines d fixings last [] text = text ≡ []
+AreAllLines d fixings last (entry ∷ entries) text =
+    (first : List ℕ) × (rest : List ℕ) × AreFlowLines d fixings last entry.0 entry.1 first
+    × AreAllLines d fixings last entries rest × (text ≡ first ++ rest)
+
+-- what contracts that stand on the start pay together on a day from one party to another in an asset
+abbrev pub paid_together : Declarations → List (Name × Contract) → Environment → ℤ → Flow → ℤ
+paid_together d entries env = together (map (λ entry. paid_by d entry.1 env (pos d.start)) entries)
+
+-- the lines of what contracts pay together, under the name *, the same in every environment that extends the fixings
+pub record AreSumLines (d : Declarations) (fixings : Environment) (last : ℤ)
+    (entries : List (Name × Contract)) (text : List ℕ) : Type 0 where
+  pub rows : List FlowRow
+  pub table : (env : Environment) → Extends fixings env → IsTable (paid_together d entries env) (pos d.start) last rows
+  pub lines : AreLines d (codes "*") rows text
+
+-- the lines of contracts, or of their sum
+abbrev pub AreLinesAsked : Bool → Declarations → Environment → ℤ → List (Name × Contract) → List ℕ → Type 0
+AreLinesAsked false d fixings last entries text = AreAllLines d fixings last entries text
+AreLinesAsked true d fixings last entries text = AreSumLines d fixings last entries text
+
+-- the words name a contract of the portfolio, where they name one, and a day in range
+pub record WordsFit (b : Book) (flows : FlowsAsked) (last : ℤ) : Type 0 where
+  pub known : is_known flows.contract b ≡ true
+  pub is_last : IsLastDay b.declarations flows.until last
+
+-- nothing stops the command: the contracts are accepted, the rows are taken and each read is fixed
+pub record CanListFlows (b : Book) (flows : FlowsAsked) (table : Option (List ℕ)) (last : ℤ) (fixings : Environment) : Type 0 where
+  pub fit : WordsFit b flows last
+  pub accepted : AreAllAccepted b.declarations (used flows.contract b)
+  pub are_fixings : AreFixings b.declarations table fixings
+  pub fixed : AreAllFixed b.declarations fixings last (used flows.contract b)
+
+-- the whole answer
+pub record IsFlowsText (b : Book) (flows : FlowsAsked) (table : Option (List ℕ)) (text : List ℕ) : Type 0 where
+  pub last : ℤ
+  pub fixings : Environment
+  pub can : CanListFlows b flows table last fixings
+  pub lines : AreLinesAsked flows.net b.declarations fixings last (used flows.contract b) text
+
+-- what stops it
+pub data StopsFlows (b : Book) (flows : FlowsAsked) (table : Option (List ℕ)) (f : Fault) : Type 0 where
+  name_unknown :
+      (name : List ℕ) → flows.contract ≡ Some name → is_known flows.contract b ≡ false → f ≡ fault.UnknownName name
+      → StopsFlows b flows table f
+  day_out :
+      is_known flows.contract b ≡ true
+      → (word : List ℕ) → flows.until ≡ Some word → IsOutOfRange b.declarations greatest_day word → f ≡ fault.Day word
+      → StopsFlows b flows table f
+  not_accepted :
+      (last : ℤ) → WordsFit b flows last
+      → (name : List ℕ) (rule : Rule) (node : ℕ) → IsFirstNotAccepted b.declarations (used flows.contract b) name rule node
+      → f ≡ fault.Refused name rule node → StopsFlows b flows table f
+  row_refused :
+      (last : ℤ) → WordsFit b flows last → AreAllAccepted b.declarations (used flows.contract b)
+      → (bytes : List ℕ) → table ≡ Some bytes → (row : RowFault) → IsFirstFault b.declarations (table_of bytes) row → f ≡ fault.Row 2 row
+      → StopsFlows b flows table f
+  read_missing :
+      (last : ℤ) → WordsFit b flows last → AreAllAccepted b.declarations (used flows.contract b)
+      → (fixings : Environment) → AreFixings b.declarations table fixings
+      → (place : Place) → IsFirstMissing b.declarations fixings last (used flows.contract b) place
+      → f ≡ fault.Missing (label_name b.declarations place.label) place.day → StopsFlows b flows table f

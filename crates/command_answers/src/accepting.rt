@@ -1,0 +1,41 @@
+//! Contracts that are accepted, or what stops a command that uses one that is not.
+
+ghost use Rattle.term_core.specs.Declarations.{declarations};
+ghost use Rattle.command_answers.specs.FlowsParts.{AnswersAccepted, AnswersAcceptedOne};
+ghost use Rattle.command_answers.specs.UsedParts.{AreTriable, IsTriable, entries_of, entry_of};
+
+use crate::check_text::verdict;
+use crate::stop::Stop;
+use crate::used::Used;
+use report::Fault;
+use std::alloc::Global;
+use term_core::{Decls, Name};
+
+/// Stops at a contract that is not accepted.
+pub fn accept(alloc: Global, decls: &Decls, one: &Used<'_>) -> Result<(), Stop>
+    requires { IsTriable (declarations decls.now) (entry_of one.now).1 }
+    ensures { AnswersAcceptedOne (declarations decls.now) (entry_of one.now) result }
+{
+    match verdict(alloc, decls, one.contr.contr())? {
+        Ok(_) => Ok(()),
+        Err(fault) => {
+            let name = Name::new(alloc, one.name.text())?;
+            Err(Stop::Fault(Fault::Refused {
+                name,
+                rule: fault.rule,
+                node: fault.node,
+            }))
+        }
+    }
+}
+
+/// Stops at the first contract that is not accepted.
+pub fn accept_all(alloc: Global, decls: &Decls, ones: &[Used<'_>]) -> Result<(), Stop>
+    requires { AreTriable (declarations decls.now) (entries_of ones.now) }
+    ensures { AnswersAccepted (declarations decls.now) (entries_of ones.now) result }
+{
+    for one in ones {
+        accept(alloc, decls, one)?;
+    }
+    Ok(())
+}

@@ -1,0 +1,196 @@
+//! The text of the command `advance`.
+
+ghost use Rattle.std.specs.Prelude.{◌≡◌, ◌≤◌, ◌∷◌, ◌++◌, [], pos, true, false, All, IfOk, OnOk};
+ghost use Rattle.std.specs.Map.{keys_of};
+ghost use Rattle.indexmap.specs.IndexMap.{keys};
+ghost use Rattle.term_core.specs.Acceptance.{IsAccepted};
+ghost use Rattle.term_core.specs.Books.{book};
+ghost use Rattle.term_core.specs.Declarations.{declarations};
+ghost use Rattle.term_core.specs.Environments.{IsAdmitted};
+ghost use Rattle.contract_parse.specs.Names.{is_declared};
+ghost use Rattle.contract_print.specs.Spellable.{are_names};
+ghost use Rattle.contract_print.specs.Writable.{IsWritableTerm};
+ghost use Rattle.flow_eval.specs.Readiness.{last_day};
+ghost use Rattle.flow_eval.specs.Tables.{IsDueRow};
+ghost use Rattle.command_answers.specs.AdvanceParts.{AnswersAdvance, AnswersNewDay, AnswersRest, AnswersRests, AppendsComments, AppendsDue, IsRestText};
+ghost use Rattle.command_answers.specs.AdvancePromise.{rest_declarations};
+ghost use Rattle.command_answers.specs.CheckPromise.{AreAllAccepted};
+ghost use Rattle.command_answers.specs.FlowsParts.{IsShortTable};
+ghost use Rattle.command_words.specs.Arguments.{given_text};
+ghost use Rattle.command_answers.specs.UsedParts.{AreTriable, HasSoundContracts, IsTriable, entries_of, entry_of};
+ghost use Rattle.command_words.specs.Words.{advance_by};
+ghost use Rattle.contract_parse.specs.ContractReading.{trees};
+
+use crate::accepting::accept_all;
+use crate::over_fixings::{day_asked, fixings_of, stop_of};
+use crate::stop::Stop;
+use crate::used::{Used, used_contracts};
+use advance_step::{Advanced, advance};
+use command_words::{Advance, DayWord};
+use contract_print::print_portfolio;
+use decimal::NoMemory;
+use fixing_files::Fixings;
+use flow_eval::FlowTable;
+use indexmap::IndexMap;
+use report::flow_line;
+use std::alloc::Global;
+use term_core::{Contr, Decls, Name, Portfolio};
+
+const LAST_NEW_DAY: u32 = 1_000_000;
+
+// The new day of a word.
+fn new_day(alloc: Global, decls: &Decls, to: DayWord<'_>) -> Result<u32, Stop>
+    ensures { AnswersNewDay (declarations decls.now) to.entry.word.now result }
+{
+    let day = day_asked(alloc, decls, to, LAST_NEW_DAY)?;
+    Ok(day as u32)
+}
+
+// Appends the lines of a flow table, each as a comment.
+fn append_comments(
+    alloc: Global,
+    out: &mut Vec<u8>,
+    decls: &Decls,
+    name: &[u8],
+    table: &FlowTable,
+) -> Result<(), NoMemory>
+    requires { All (IsDueRow (pos 0) (pos last_day)) table.now.rows.items }
+    ensures { OnOk result (AppendsComments (declarations decls.now) name.now table.now.rows.items out.old.items out.new.items) }
+{
+    for row in &table.rows {
+        out.extend_from_slice(b"# ")?;
+        flow_line(alloc, out, decls, name, row)?;
+    }
+    Ok(())
+}
+
+// What contracts are advanced over: their declarations, what is fixed, and the new day.
+#[derive(Clone, Copy)]
+struct Course<'a> {
+    decls: &'a Decls,
+    fixings: &'a Fixings,
+    day: u32,
+}
+
+/// What is due before the new day, and what is left of contracts.
+#[derive(Drop)]
+pub struct Left {
+    pub due: Vec<u8>,
+    pub contracts: IndexMap<Name, Contr>,
+}
+
+// Puts what is due of a contract and what is left of it behind those of the contracts before it.
+fn keep(
+    alloc: Global,
+    decls: &Decls,
+    name: &Name,
+    advanced: Advanced,
+    left: &mut Left,
+) -> Result<(), NoMemory>
+    requires due { All (IsDueRow (pos 0) (pos last_day)) advanced.due.rows.items }
+    requires name { is_declared (keys left.old.contracts) name.now ≡ false }
+    ensures due { OnOk result (AppendsDue (declarations decls.now) name.now advanced.due.rows.items left.old left.new) }
+    ensures rest { OnOk result (left.new.contracts.entries ≡ left.old.contracts.entries ++ (name.now, advanced.rest) ∷ []) }
+{
+    append_comments(alloc, &mut left.due, decls, name.text(), &advanced.due)?;
+    left.contracts.insert(name.clone()?, advanced.rest)?;
+    Ok(())
+}
+
+// Advances a contract behind those before it.
+fn advance_one(
+    alloc: Global,
+    course: &Course<'_>,
+    one: &Used<'_>,
+    left: &mut Left,
+) -> Result<(), Stop>
+    requires accepted { IsAccepted (declarations course.now.decls.now) (entry_of one.now).1 }
+    requires triable { IsTriable (declarations course.now.decls.now) (entry_of one.now).1 }
+    requires admitted { IsAdmitted (declarations course.now.decls.now) course.now.fixings.now }
+    requires first { course.now.decls.now.start ≤ course.now.day }
+    requires last { course.now.day ≤ 1_000_000 }
+    requires name { is_declared (keys left.old.contracts) (entry_of one.now).0 ≡ false }
+    ensures { AnswersRest (declarations course.now.decls.now) course.now.fixings.now course.now.day
+        (entry_of one.now) left.old left.new result }
+{
+    let days = course.day - course.decls.start;
+    match advance(alloc, course.decls, one.contr.contr(), course.fixings, days) {
+        Ok(advanced) => {
+            keep(alloc, course.decls, one.name, advanced, left)?;
+            Ok(())
+        }
+        Err(error) => Err(stop_of(alloc, course.decls, error)),
+    }
+}
+
+// Advances contracts, in their order.
+fn advance_all(alloc: Global, course: &Course<'_>, ones: &[Used<'_>]) -> Result<Left, Stop>
+    requires accepted { AreAllAccepted (declarations course.now.decls.now) (entries_of ones.now) }
+    requires triable { AreTriable (declarations course.now.decls.now) (entries_of ones.now) }
+    requires admitted { IsAdmitted (declarations course.now.decls.now) course.now.fixings.now }
+    requires first { course.now.decls.now.start ≤ course.now.day }
+    requires last { course.now.day ≤ 1_000_000 }
+    requires names { are_names (keys_of (entries_of ones.now)) ≡ true }
+    ensures { AnswersRests (declarations course.now.decls.now) course.now.fixings.now course.now.day (entries_of ones.now) [] [] result }
+{
+    let mut left = Left {
+        due: Vec::new(alloc),
+        contracts: IndexMap::new(alloc),
+    };
+    for one in ones {
+        advance_one(alloc, course, one, &mut left)?;
+    }
+    Ok(left)
+}
+
+// The declarations of what is left.
+fn rest_decls(alloc: Global, decls: &Decls, day: u32) -> Result<Decls, NoMemory>
+    requires { day ≤ 1_000_000 }
+    ensures { IfOk result (λ rest. declarations rest ≡ rest_declarations (declarations decls.now) day) }
+{
+    let mut rest = decls.copy(alloc)?;
+    rest.start = day;
+    Ok(rest)
+}
+
+// What is due, and behind it the text of what is left.
+fn rest_text(alloc: Global, decls: &Decls, day: u32, left: Left) -> Result<Vec<u8>, NoMemory>
+    requires day { day ≤ 1_000_000 }
+    requires writable { All (λ entry. IsWritableTerm entry.1) (trees left.contracts.entries) }
+    ensures { IfOk result (λ text. IsRestText (declarations decls.now) day (trees left.contracts.entries) left.due.items text.items) }
+{
+    let Left { due, contracts } = left;
+    let decls = rest_decls(alloc, decls, day)?;
+    let rest = Portfolio { decls, contracts };
+    let mut text = due;
+    print_portfolio(alloc, &mut text, &rest)?;
+    Ok(text)
+}
+
+/// What `advance` writes of a portfolio over the fixings of a table: the flow lines of the days before the new one, each a
+/// comment, and the portfolio that is left on it, of the contracts at the defaults; or what stops it. Each contract is gone
+/// through once, and its name is copied once.
+pub fn advance_text(
+    alloc: Global,
+    portfolio: &Portfolio,
+    asked: &Advance<'_>,
+    table: Option<&[u8]>,
+) -> Result<Vec<u8>, Stop>
+    requires sound { HasSoundContracts (book portfolio.now) }
+    requires names { are_names (keys_of (book portfolio.now).contracts) ≡ true }
+    requires table { IsShortTable (given_text table) }
+    ensures { AnswersAdvance (book portfolio.now) (advance_by asked.now) (given_text table.entry) result }
+{
+    let day = new_day(alloc, &portfolio.decls, asked.to)?;
+    let ones = used_contracts(alloc, portfolio, None)?;
+    accept_all(alloc, &portfolio.decls, &ones)?;
+    let fixings = fixings_of(alloc, &portfolio.decls, table)?;
+    let course = Course {
+        decls: &portfolio.decls,
+        fixings: &fixings,
+        day,
+    };
+    let left = advance_all(alloc, &course, &ones)?;
+    let text = rest_text(alloc, &portfolio.decls, day, left)?;
+    Ok(text)
+}

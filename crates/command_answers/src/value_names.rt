@@ -1,0 +1,88 @@
+//! The names of `value`: parties, an asset and templates that the declarations have.
+
+ghost use Rattle.std.specs.Prelude.{◌≡◌, ◌<◌, ◌^◌, IfOk, Some};
+ghost use Rattle.indexmap.specs.IndexSet.{index_set_len};
+ghost use Rattle.term_core.specs.Declarations.{declarations};
+ghost use Rattle.contract_parse.specs.Names.{index_in};
+ghost use Rattle.command_words.specs.Words.{between_by, value_by};
+ghost use Rattle.command_answers.specs.Stopping.{AnswersBy};
+ghost use Rattle.command_answers.specs.ValuePromise.{setting_by};
+ghost use Rattle.command_answers.specs.ValueParts.{AnswersNames, AnswersParties, AnswersSettings, IsUndeclared};
+
+use crate::stop::Stop;
+use command_words::{Between, Value};
+use decimal::NoMemory;
+use indexmap::{IndexMap, IndexSet};
+use report::Fault;
+use std::alloc::Global;
+use term_core::{Decls, Name, Setting};
+
+/// Two parties and an asset, by their indices.
+#[derive(Clone, Copy)]
+pub struct Parties {
+    pub from: u32,
+    pub to: u32,
+    pub asset: u32,
+}
+
+// The index of a name, or the fault that it is not declared.
+fn index_of(alloc: Global, names: &IndexSet<Name>, word: &str) -> Result<u32, Stop>
+    requires { index_set_len names.now < 2 ^ 32 }
+    ensures { AnswersBy (λ index. index_in names.now.keys word.now ≡ Some index) (IsUndeclared names.now.keys word.now) result }
+{
+    match names.get_index_of(word.as_bytes()) {
+        Some(index) => Ok(index as u32),
+        None => {
+            let name = Name::new(alloc, word.as_bytes())?;
+            Err(Stop::Fault(Fault::UnknownName { name }))
+        }
+    }
+}
+
+// The parties and the asset.
+fn parties_of(alloc: Global, decls: &Decls, between: &Between<'_>) -> Result<Parties, Stop>
+    ensures { AnswersParties (declarations decls.now) (between_by between.now) result }
+{
+    let from = index_of(alloc, &decls.parties, between.from)?;
+    let to = index_of(alloc, &decls.parties, between.to)?;
+    let asset = index_of(alloc, &decls.assets, between.asset)?;
+    Ok(Parties { from, to, asset })
+}
+
+// Stops at the first name that is set and is that of no template.
+fn know_settings(alloc: Global, decls: &Decls, settings: &IndexMap<Name, u32>) -> Result<(), Stop>
+    ensures { AnswersSettings (declarations decls.now) settings.now.entries result }
+{
+    for (name, _) in settings {
+        if decls.templates.get_index_of(name.text()).is_none() {
+            let name = Name::new(alloc, name.text())?;
+            return Err(Stop::Fault(Fault::UnknownName { name }));
+        }
+    }
+    Ok(())
+}
+
+/// The parties and the asset, where these and the templates that are set are declared.
+pub fn know_names(alloc: Global, decls: &Decls, value: &Value<'_>) -> Result<Parties, Stop>
+    ensures { AnswersNames (declarations decls.now) (value_by value.now) result }
+{
+    let parties = parties_of(alloc, decls, &value.between)?;
+    know_settings(alloc, decls, &value.settings)?;
+    Ok(parties)
+}
+
+/// A number for each template: the one that is set, or the declared one.
+pub fn setting_of(
+    alloc: Global,
+    decls: &Decls,
+    settings: &IndexMap<Name, u32>,
+) -> Result<Setting, NoMemory>
+    ensures { IfOk result (λ setting. setting.days.items ≡ setting_by (declarations decls.now) settings.now.entries) }
+{
+    let mut days = Vec::new(alloc);
+    for (name, declared) in &decls.templates {
+        let number = settings.get(name.text()).copied().unwrap_or(*declared);
+        days.push(number)?;
+    }
+    Ok(Setting { days })
+}

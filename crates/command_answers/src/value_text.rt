@@ -1,0 +1,190 @@
+//! The text of the command `value`.
+
+ghost use Rattle.std.specs.Prelude.{◌≡◌, ◌≤◌, ◌+◌, ◌^◌, IfOk, length, unsigned_abs};
+ghost use Rattle.term_core.specs.Declarations.{declarations};
+ghost use Rattle.term_core.specs.Environments.{IsAdmitted};
+ghost use Rattle.fixing_files.specs.CurveTables.{HoldsCurve};
+ghost use Rattle.fixing_files.specs.Tables.{table_of};
+ghost use Rattle.flow_eval.specs.declared.faults.FlowErr.TheVariants as flow;
+ghost use Rattle.payoff_lang.specs.CodeBooks.{code_book};
+ghost use Rattle.payoff_eval.specs.Questions.{HasNumberForEach};
+ghost use Rattle.report.specs.ValueLines.{value_text};
+ghost use Rattle.command_words.specs.Words.{value_by};
+ghost use Rattle.command_answers.specs.FlowsParts.{IsStopOf};
+ghost use Rattle.command_answers.specs.Stopping.{AnswersBy};
+ghost use Rattle.command_answers.specs.ValueParts.{AnswersAcceptedCode, AnswersAtSetting, AnswersByCurve, AnswersByTables, AnswersValue, AnswersValueOver, AreShortForValue, IsCurveFault, IsQuestionOf, IsReadable, MayAsk, inquiry_of, value_inputs_by};
+
+use crate::over_fixings::{day_asked, fixings_of, stop_of};
+use crate::stop::Stop;
+use crate::value_inputs::ValueInputs;
+use crate::value_names::{Parties, know_names, setting_of};
+use command_words::Value;
+use decimal::NoMemory;
+use fixing_files::{Curve, Fixings, RowErr, read_curve};
+use flow_eval::{FlowErr, LAST_DAY};
+use payoff_check::check_code;
+use payoff_eval::{value, value_scratch};
+use payoff_lang::CodeFile;
+use report::{Fault, value_line};
+use std::alloc::Global;
+use term_core::{CheckErr, Decls, Missing, Setting};
+
+// What is asked of a code file: at which setting, on which day, between whom.
+#[derive(Clone, Copy)]
+struct Asking<'a> {
+    setting: &'a Setting,
+    day: i64,
+    parties: Parties,
+}
+
+// Stops where the code is not accepted at the setting.
+fn accept_code(alloc: Global, file: &CodeFile, setting: &Setting) -> Result<(), Stop>
+    requires readable { IsReadable (code_book file.now) }
+    ensures { AnswersAcceptedCode (code_book file.now) setting.now.days.items result }
+{
+    match check_code(alloc, file, setting) {
+        Ok(_) => Ok(()),
+        Err(CheckErr::Refused { rule, node }) => {
+            let name = file.name.clone()?;
+            Err(Stop::Fault(Fault::Refused { name, rule, node }))
+        }
+        Err(CheckErr::NoMemory) => Err(Stop::NoMemory),
+    }
+}
+
+// The curve of a table.
+fn curve_of(alloc: Global, bytes: &[u8]) -> Result<Curve, Stop>
+    requires { length bytes.now ≤ 16_777_216 }
+    ensures { AnswersBy (HoldsCurve (table_of bytes.now)) (IsCurveFault bytes.now) result }
+{
+    match read_curve(alloc, bytes) {
+        Ok(curve) => Ok(curve),
+        Err(RowErr::Row(fault)) => Err(Stop::Fault(Fault::Row { place: 3, fault })),
+        Err(RowErr::NoMemory) => Err(Stop::NoMemory),
+    }
+}
+
+// What stops a command that lacks a place.
+fn stop_of_missing(alloc: Global, decls: &Decls, missing: Missing) -> Stop
+    ensures { IsStopOf (declarations decls.now) (flow.Missing missing.label missing.day) result }
+{
+    let Missing { label, day } = missing;
+    stop_of(alloc, decls, FlowErr::Missing { label, day })
+}
+
+// What the code is worth over what is fixed.
+fn worth(
+    alloc: Global,
+    file: &CodeFile,
+    asking: &Asking<'_>,
+    fixings: &Fixings,
+    curve: &Curve,
+) -> Result<i128, Stop>
+    requires readable { IsReadable (code_book file.now) }
+    requires asks { MayAsk (inquiry_of file.now asking.now) }
+    requires admitted { IsAdmitted (declarations file.now.decls) fixings.now }
+    ensures { AnswersValueOver (inquiry_of file.now asking.now) fixings.now curve.now result }
+{
+    let parties = asking.parties;
+    let mut scratch = value_scratch(alloc, file)?;
+    match value(
+        file,
+        asking.setting,
+        fixings,
+        curve,
+        asking.day,
+        parties.from,
+        parties.to,
+        parties.asset,
+        &mut scratch,
+    ) {
+        Ok(amount) => Ok(amount),
+        Err(missing) => Err(stop_of_missing(alloc, &file.decls, missing)),
+    }
+}
+
+// The line of a value, at nine decimals more than amounts.
+fn line_of(alloc: Global, amount: i128, amounts: u8) -> Result<Vec<u8>, NoMemory>
+    requires size { unsigned_abs amount ≤ 10 ^ 37 }
+    requires decimals { amounts ≤ 12 }
+    ensures { IfOk result (λ text. text.items ≡ value_text amount (amounts + 9)) }
+{
+    let mut text = Vec::new(alloc);
+    value_line(alloc, &mut text, amount, amounts + 9)?;
+    Ok(text)
+}
+
+// The line over what is fixed and the curve of a table.
+fn by_curve(
+    alloc: Global,
+    file: &CodeFile,
+    asking: &Asking<'_>,
+    fixings: &Fixings,
+    bytes: &[u8],
+) -> Result<Vec<u8>, Stop>
+    requires readable { IsReadable (code_book file.now) }
+    requires asks { MayAsk (inquiry_of file.now asking.now) }
+    requires admitted { IsAdmitted (declarations file.now.decls) fixings.now }
+    requires short { length bytes.now ≤ 16_777_216 }
+    ensures { AnswersByCurve (inquiry_of file.now asking.now) fixings.now bytes.now result }
+{
+    let curve = curve_of(alloc, bytes)?;
+    let amount = worth(alloc, file, asking, fixings, &curve)?;
+    let text = line_of(alloc, amount, file.decls.amounts)?;
+    Ok(text)
+}
+
+// The same over the fixings of another table.
+fn by_tables(
+    alloc: Global,
+    file: &CodeFile,
+    asking: &Asking<'_>,
+    inputs: &ValueInputs,
+) -> Result<Vec<u8>, Stop>
+    requires readable { IsReadable (code_book file.now) }
+    requires asks { MayAsk (inquiry_of file.now asking.now) }
+    requires short { AreShortForValue (value_inputs_by inputs.now) }
+    ensures { AnswersByTables (inquiry_of file.now asking.now) (value_inputs_by inputs.now) result }
+{
+    let fixings = fixings_of(alloc, &file.decls, Some(&inputs.fixings))?;
+    by_curve(alloc, file, asking, &fixings, &inputs.curve)
+}
+
+// The same where the code is accepted at the setting.
+fn at_setting(
+    alloc: Global,
+    file: &CodeFile,
+    asking: &Asking<'_>,
+    inputs: &ValueInputs,
+) -> Result<Vec<u8>, Stop>
+    requires readable { IsReadable (code_book file.now) }
+    requires setting { HasNumberForEach (declarations file.now.decls) asking.now.setting.now.days.items }
+    requires question { IsQuestionOf (inquiry_of file.now asking.now) }
+    requires short { AreShortForValue (value_inputs_by inputs.now) }
+    ensures { AnswersAtSetting (inquiry_of file.now asking.now) (value_inputs_by inputs.now) result }
+{
+    accept_code(alloc, file, asking.setting)?;
+    by_tables(alloc, file, asking, inputs)
+}
+
+/// The line of what a code file is worth, or what stops the command.
+pub fn value_text(
+    alloc: Global,
+    file: &CodeFile,
+    value: &Value<'_>,
+    inputs: &ValueInputs,
+) -> Result<Vec<u8>, Stop>
+    requires readable { IsReadable (code_book file.now) }
+    requires short { AreShortForValue (value_inputs_by inputs.now) }
+    ensures { AnswersValue (code_book file.now) (value_by value.now) (value_inputs_by inputs.now) result }
+{
+    let parties = know_names(alloc, &file.decls, value)?;
+    let day = day_asked(alloc, &file.decls, value.at, LAST_DAY)?;
+    let setting = setting_of(alloc, &file.decls, &value.settings)?;
+    let asking = Asking {
+        setting: &setting,
+        day,
+        parties,
+    };
+    at_setting(alloc, file, &asking, inputs)
+}
