@@ -2,6 +2,7 @@ pub mod RunFacts
 pub mod ReadFacts
 pub mod LawFacts
 pub mod ValueRuns
+pub mod FirstFileFacts
 pub mod ValueLawFacts
 pub mod ComposeFacts
 pub mod AdvanceTexts

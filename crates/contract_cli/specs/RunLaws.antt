@@ -1,7 +1,7 @@
 -- Laws of the causes of a run's status: which status comes exactly where, in the order of the refusals, and that a run
 -- with nothing in its way writes the whole text of its command. An "exactly where" yields to want of memory, the one free
 -- answer, and to a failed write of the text.
-use Rattle.std.specs.Prelude.{◌≡◌, ◌≤◌, ◌<◌, ◌⊎◌, ◌-◌, ℕ, ℤ, pos, List, [], ◌∷◌, Option, Some, None, length}
+use Rattle.std.specs.Prelude.{◌≡◌, ◌≤◌, ◌<◌, ◌↔◌, ◌⊎◌, ◌-◌, ℕ, ℤ, pos, List, [], ◌∷◌, Option, Some, None, length}
 use Rattle.edge_io.specs.Counts.{Rose}
 use Rattle.term_core.specs.Books.{Book}
 use Rattle.term_core.specs.declared.name.Name.{Name}
@@ -17,10 +17,10 @@ use Rattle.command_answers.specs.FilesPromise.{Inputs, IsNoText}
 use Rattle.command_answers.specs.AdvancePromise.{CanAdvance, IsAdvanceText, IsRestBook, rest_declarations}
 use Rattle.command_answers.specs.CheckPromise.{IsCheckText}
 use Rattle.command_answers.specs.Causes.{CauseOnBook, IsTextWhere}
-use Rattle.command_words.specs.Commands.{Advance, AdvanceAsked, Asked, Check, Flows, FlowsAsked, Payoff, PayoffAsked, fixings_file, portfolio_file}
+use Rattle.command_words.specs.Commands.{Advance, AdvanceAsked, Asked, Check, Flows, FlowsAsked, Payoff, PayoffAsked, ValueAsked, fixings_file, portfolio_file}
 use Rattle.command_answers.specs.FlowsPromise.{CanListFlows, IsFlowsText}
 use Rattle.command_answers.specs.PayoffPromise.{CanCompile, IsPayoffText}
-use Rattle.contract_cli.specs.RunPromise.{Edge, FilesSeen, IsNextByWords, Meets, Names, WritesAll, WritesNothing, longest_file}
+use Rattle.contract_cli.specs.RunPromise.{Edge, FilesSeen, IsNextByWords, Meets, Names, NamesValue, WritesAll, WritesNothing, longest_file}
 use Rattle.command_answers.specs.UsedContracts.{used}
 use Rattle.command_words.specs.Words.{request_of}
 use Rattle.command_answers.specs.declared.status.Status.{Status}
@@ -106,6 +106,24 @@ abbrev pub TooLongIsExact : Type 0
 TooLongIsExact =
     (words : List (List ℕ)) (edge : Edge) (s : Status) (asked : Asked) (inputs : Inputs)
     → Meets words edge s → IsRead words edge asked inputs → TooLongIs inputs edge s
+
+-- the first file that the words name
+pub data IsFirstFile (words : List (List ℕ)) (file : List ℕ) : Type 0 where
+  of_command : (asked : Asked) → Names words asked → file ≡ portfolio_file asked → IsFirstFile words file
+  of_value : (asked : ValueAsked) → NamesValue words asked → file ≡ asked.files.code → IsFirstFile words file
+
+-- the first file of a run is too long exactly where it has more bytes than the limit; else the line has another place
+pub record FirstTooLongIs (bytes : List ℕ) (edge : Edge) (s : Status) : Type 0 where
+  pub comes : longest_file < length bytes → IsOrNoMemory status.TooLong s
+  pub line :
+      s ≡ status.TooLong
+      → (place : ℕ) × ((place ≡ 1) ↔ (longest_file < length bytes)) × WritesAll edge.sink (fault_text (fault.TooLong place))
+
+-- of the files behind it nothing is asked: they may be untold or at fault
+abbrev pub FirstTooLongIsExact : Type 0
+FirstTooLongIsExact =
+    (words : List (List ℕ)) (edge : Edge) (s : Status) (file bytes : List ℕ)
+    → Meets words edge s → WritesSucceed edge → IsFirstFile words file → IsTold edge.files file bytes → FirstTooLongIs bytes edge s
 
 -- a text is bad exactly where it is in no portfolio's grammar
 abbrev pub BadTextIsExact : Type 0

@@ -1,6 +1,6 @@
 //! The commands.
 
-ghost use Rattle.std.specs.Prelude.{◌≡◌, ℕ, List, IfOk};
+ghost use Rattle.std.specs.Prelude.{◌≡◌, ◌≤◌, ℕ, List, IfOk};
 ghost use Rattle.clap.specs.Walk.{texts};
 ghost use Rattle.contract_cli.specs.RunParts.{AnswersFile, AnswersInputs, AnswersValueInputs, AnswersValueWords, AnswersWords, CountsOnlyForValue, HasCause};
 ghost use Rattle.edge_io.specs.Files.{CountsOnly};
@@ -190,6 +190,7 @@ pub fn run<'a, F: Files, S: Sink>(
     }) result }
     ensures kept { (other : List ℕ) → F.contents files.new other ≡ F.contents files.old other }
     ensures counts { CountsOnlyBy (texts words.entry.now) (seen (F.contents files.old) (F.faults files.old) (F.faults files.new)) }
+    ensures later { S.faults out.old ≤ S.faults out.new }
 {
     let answer = match prepare(alloc, words, files) {
         Ok(answer) => answer,

@@ -2,7 +2,7 @@
 
 ghost use Rattle.contract_cli.specs.AdvanceLaws.{AdvanceTextsAreTexts};
 ghost use Rattle.contract_cli.specs.PayoffLaws.{PayoffTextsMean};
-ghost use Rattle.contract_cli.specs.RunLaws.{AdvanceIsComplete, AdvancesCompose, BadTextIsExact, CheckIsComplete, FlowsAreComplete, PayoffIsComplete, ReadFaultsHaveCauses, RefusalsAreExact, TooLongIsExact, UsageIsExact, UsageWritesItsLine, WriteFaultsHaveCauses};
+ghost use Rattle.contract_cli.specs.RunLaws.{FirstTooLongIsExact, AdvanceIsComplete, AdvancesCompose, BadTextIsExact, CheckIsComplete, FlowsAreComplete, PayoffIsComplete, ReadFaultsHaveCauses, RefusalsAreExact, TooLongIsExact, UsageIsExact, UsageWritesItsLine, WriteFaultsHaveCauses};
 ghost use Rattle.contract_cli.specs.SampleLaws.{SampleHasThreeEnds, SampleIsComplete, SummariesAreOne};
 ghost use Rattle.contract_cli.specs.TwoRuns.{AdvancedTextsAdvance, AdvancedTextsAreAccepted, PrintedCodeIsTaken, PrintedCodeIsValued};
 ghost use Rattle.contract_cli.specs.ValueLaws.{BadCodeIsExact, TooLongForValueIsExact, ValueIsComplete, ValueRefusalsAreExact};
@@ -23,9 +23,11 @@ pub fn faults_have_causes()
 {}
 
 /// Of a command over a portfolio, a file is too long exactly where the told contents of a named file exceed the limit, and the
-/// line has the place of the first.
+/// line has the place of the first. Of any command the first file is too long exactly where its told contents exceed the limit,
+/// whatever is true of the files behind it.
 pub fn too_long_is_exact()
-    ensures { TooLongIsExact }
+    ensures files { TooLongIsExact }
+    ensures first { FirstTooLongIsExact }
 {}
 
 /// Of a command over a portfolio, a text is bad exactly where its told contents are no portfolio.
