@@ -5,14 +5,17 @@
 //! tilugba flows loan.txt
 //! ```
 //!
-//! Promised: what `contract_cli::run` promises, of the words that are passed on. Neither proved nor tested: that these are
-//! the words that were typed.
+//! Promised: the program ends with the number of a status that `contract_cli::run` may have of the words that are passed on
+//! (`EndsWithStatus`). Neither proved nor tested: that these are the words that were typed.
 #![tactic(auto)]
 
 ghost use Rattle.std.specs.Prelude.{◌≡◌, map, string_bytes, IfOk};
+ghost use Rattle.clap.specs.Walk.{texts};
+ghost use Rattle.contract_cli.specs.RunPromise.{seen, sink_left};
+ghost use Rattle.tilugba.specs.Ends.{EndsWithStatus};
 
 use contract_cli::{Status, run};
-use edge_io::{RealFiles, RealSink};
+use edge_io::{Files, RealFiles, RealSink, Sink};
 use std::alloc::{AllocError, Global};
 use std::env;
 use std::io::{Error, ErrorKind};
@@ -41,6 +44,22 @@ fn lent<'a>(alloc: Global, words: &'a [String]) -> Result<Vec<&'a str>, AllocErr
     Ok(lent)
 }
 
+// Runs the command of the words, and ends with the number of the run's status.
+fn end<'a, F: Files, S: Sink>(
+    alloc: Global,
+    words: &'a [&'a str],
+    files: &mut F,
+    out: &mut S,
+) -> ExitCode
+    ensures { EndsWithStatus (texts words.entry.now) (record {
+      files = seen (F.contents files.old) (F.faults files.old) (F.faults files.new);
+      sink = sink_left (S.taken out.old) (S.taken out.new) (S.faults out.old) (S.faults out.new);
+    }) result }
+{
+    let status = run(alloc, words, files, out);
+    ExitCode::from(status.number())
+}
+
 fn main(rt: HostRuntime) -> ExitCode {
     let words = match words_of(&rt) {
         Ok(words) => words,
@@ -55,6 +74,5 @@ fn main(rt: HostRuntime) -> ExitCode {
     };
     let mut files = RealFiles::new(rt);
     let mut out = RealSink::new(rt);
-    let status = run(rt.alloc(), &words, &mut files, &mut out);
-    ExitCode::from(status.number())
+    end(rt.alloc(), &words, &mut files, &mut out)
 }
