@@ -10,7 +10,7 @@
 //! run|flows|loan.txt
 //! ```
 //!
-//! prints, where `text loan` and lines of that text stand before it,
+//! prints, with `text loan` and the lines of that text above it,
 //!
 //! ```text
 //! == a loan pays today and after 90 days
@@ -19,7 +19,7 @@
 //! | loan,90,B,A,EUR,105.00
 //! ```
 //!
-//! A line of the rows is one of these; what it is about stands before it.
+//! A line of the rows is one of these. It refers only to what comes before it.
 //!
 //! | Line | Says |
 //! |---|---|
@@ -42,8 +42,8 @@
 //!
 //! In a piece, and in what is printed, a backslash and two hexadecimal digits are one byte: `\20` is a blank at the end of a
 //! line, `\0a` a line feed, `\5c` a backslash. A run prints its line with the number and the name of its status, and then
-//! what the sink holds, with `|` before a line and `+` before what stands behind the last line feed. A line that says
-//! none of this ends the program with status 1, and a message that has the line's number.
+//! what the sink holds, with `|` before a line and `+` before what comes after the last line feed. Any other line ends the
+//! program with status 1 and a message that has the line's number.
 #![tactic(auto)]
 
 mod answer;
