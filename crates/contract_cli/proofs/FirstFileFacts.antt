@@ -76,7 +76,7 @@ no_sample words file (of_value asked named is) count sample =
 module _ (words : List (List ℕ)) (edge : Edge) (s : Status) (file bytes : List ℕ) (named : IsFirstFile words file) (t : IsTold edge.files file bytes) where
   -- a run that is not stopped at the length of a file has read the first one
   short : length bytes ≤ longest_file → (s ≡ status.TooLong → ⊥) → FirstTooLongIs bytes edge s
-  short few never = record { comes = λ longer. omega (arith, few, longer); line = λ is. absurd (never is) }
+  short few never = record { comes = λ longer. absurd (omega (arith, few, longer)); line = λ is. absurd (never is) }
 
   by_length : (other : List ℕ) (place : ℕ) → FirstOrRead file bytes other place → IfSome (edge.files.contents other) (λ all. longest_file < length all) → s ≡ status.TooLong → WritesAll edge.sink (fault_text (fault.TooLong place)) → FirstTooLongIs bytes edge s
   by_length other place (first one is) longer e w =

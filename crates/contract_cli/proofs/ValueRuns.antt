@@ -25,10 +25,10 @@ use Rattle.contract_cli.proofs.RunFacts.{one_value}
 pub same_bytes : (files : FilesSeen) (file read told : List ℕ) → WasRead files file read → files.contents file ≡ Some told → read ≡ told
 same_bytes files file read told w is = subst (λ (o : Option (List ℕ)). IfSome o (λ xs. read ≡ xs)) is w.told
 
-told_fits : (files : FilesSeen) (file read told : List ℕ) → WasRead files file read → IsTold files file told → length told ≤ longest_file
+pub told_fits : (files : FilesSeen) (file read told : List ℕ) → WasRead files file read → IsTold files file told → length told ≤ longest_file
 told_fits files file read told w t = subst (λ (x : List ℕ). length x ≤ longest_file) (same_bytes files file read told w t.told) w.fits
 
-told_long : (files : FilesSeen) (file told : List ℕ) → IsTold files file told → IfSome (files.contents file) (λ all. longest_file < length all) → longest_file < length told
+pub told_long : (files : FilesSeen) (file told : List ℕ) → IsTold files file told → IfSome (files.contents file) (λ all. longest_file < length all) → longest_file < length told
 told_long files file told t longer = subst (λ (o : Option (List ℕ)). IfSome o (λ all. longest_file < length all)) t.told longer
 
 same_inputs : (read told : ValueInputs) → read.code ≡ told.code → read.fixings ≡ told.fixings → read.curve ≡ told.curve → read ≡ told
