@@ -1,0 +1,10 @@
+use Rattle.term_core.specs.Declarations.{declarations}
+use Rattle.payoff_lang.specs.Code.{payoff_code}
+use Rattle.payoff_lang.specs.CodeBooks.{code_book}
+use Rattle.library_rows.proofs.codes.print_text.Goals as goal
+
+pub print_code-requires : goal.print_code-requires
+print_code-requires c =
+    let file = c.in-Ok.file in
+    c.printable_is_writable.ensures (declarations file.decls) (payoff_code file.code)
+    (c.code_of_text_is_printable.ensures c.args.text.now (code_book file) c.in-Ok.ensures.answer)

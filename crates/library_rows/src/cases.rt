@@ -1,0 +1,128 @@
+//! Contracts of rows, and what the calls ask of them.
+
+ghost use Rattle.std.specs.Prelude.{◌≤◌, ◌<◌, IfOk};
+ghost use Rattle.term_core.specs.Acceptance.{IsAccepted};
+ghost use Rattle.term_core.specs.Declarations.{declarations};
+ghost use Rattle.term_core.specs.Environments.{IsAdmitted};
+ghost use Rattle.term_core.specs.Sizes.{height_of_contract, nodes_of_contract};
+ghost use Rattle.term_core.specs.Terms.{contract};
+ghost use Rattle.term_core.specs.WellFormed.{IsClosed, HasOnlyNumbers};
+
+use crate::above::Above;
+use crate::bad_row::BadRow;
+use contract_check::check;
+use contract_parse::parse_portfolio;
+use fixing_files::{Fixings, read_fixings};
+use std::alloc::Global;
+use term_core::{Contr, Decls, Portfolio, counts, has_only_numbers, is_closed};
+
+/// A contract, and the declarations under which it stands.
+#[derive(Drop)]
+pub struct Case {
+    pub decls: Decls,
+    pub contract: Contr,
+}
+
+/// The declarations above.
+pub fn declared(alloc: Global, above: &Above) -> Result<Decls, BadRow> {
+    let text = above.text(alloc, "")?;
+    match parse_portfolio(alloc, &text) {
+        Ok(portfolio) => Ok(portfolio.decls),
+        Err(_) => Err(BadRow::Text),
+    }
+}
+
+// A copy of the one contract of a portfolio, and of its declarations.
+fn only_in(alloc: Global, portfolio: &Portfolio) -> Result<Case, BadRow> {
+    let contract = match portfolio.contracts.get_index(0) {
+        Some((_, contract)) if portfolio.contracts.len() == 1 => contract.copy(alloc)?,
+        _ => return Err(BadRow::Text),
+    };
+    let decls = portfolio.decls.copy(alloc)?;
+    Ok(Case { decls, contract })
+}
+
+/// A copy of the one contract of a text, and of its declarations.
+pub fn only_of(alloc: Global, above: &Above, words: &str) -> Result<Case, BadRow> {
+    let text = above.sentence(alloc, "contract c = ", words)?;
+    match parse_portfolio(alloc, &text) {
+        Ok(portfolio) => only_in(alloc, &portfolio),
+        Err(_) => Err(BadRow::Text),
+    }
+}
+
+/// The same of a contract that names no template.
+pub fn case_of(alloc: Global, above: &Above, words: &str) -> Result<Case, BadRow>
+    ensures closed { IfOk result (λ case. IsClosed (declarations case.decls) (contract case.contract)) }
+    ensures numbers { IfOk result (λ case. HasOnlyNumbers (contract case.contract)) }
+    ensures low { IfOk result (λ case. height_of_contract (contract case.contract) ≤ 1_000) }
+    ensures small { IfOk result (λ case. nodes_of_contract (contract case.contract) < 1_000_000) }
+{
+    let case = only_of(alloc, above, words)?;
+    let size = counts(&case.contract);
+    if size.height > 1_000 || size.nodes >= 1_000_000 {
+        return Err(BadRow::Range);
+    }
+    if !is_closed(&case.decls, &case.contract) || !has_only_numbers(&case.contract) {
+        return Err(BadRow::Text);
+    }
+    Ok(case)
+}
+
+/// Stops at a contract that is not accepted.
+pub fn accept(alloc: Global, decls: &Decls, c: &Contr) -> Result<(), BadRow>
+    requires closed { IsClosed (declarations decls.now) (contract c.now) }
+    requires numbers { HasOnlyNumbers (contract c.now) }
+    requires low { height_of_contract (contract c.now) ≤ 1_000 }
+    requires small { nodes_of_contract (contract c.now) < 1_000_000 }
+    ensures { IfOk result (λ _. IsAccepted (declarations decls.now) (contract c.now)) }
+{
+    match check(alloc, decls, c) {
+        Ok(_) => Ok(()),
+        Err(_) => Err(BadRow::Refused),
+    }
+}
+
+// The fixings of the table above.
+fn fixings_of(alloc: Global, above: &Above, decls: &Decls) -> Result<Fixings, BadRow>
+    ensures { IfOk result (λ fixings. IsAdmitted (declarations decls.now) fixings) }
+{
+    let table = above.table()?;
+    match read_fixings(alloc, &table, decls) {
+        Ok(fixings) => Ok(fixings),
+        Err(_) => Err(BadRow::Table),
+    }
+}
+
+// The fixings of the table above, for a contract that is accepted.
+fn accepted_over(alloc: Global, above: &Above, decls: &Decls, c: &Contr) -> Result<Fixings, BadRow>
+    requires closed { IsClosed (declarations decls.now) (contract c.now) }
+    requires numbers { HasOnlyNumbers (contract c.now) }
+    requires low { height_of_contract (contract c.now) ≤ 1_000 }
+    requires small { nodes_of_contract (contract c.now) < 1_000_000 }
+    ensures accepted { IfOk result (λ _. IsAccepted (declarations decls.now) (contract c.now)) }
+    ensures admitted { IfOk result (λ fixings. IsAdmitted (declarations decls.now) fixings) }
+{
+    accept(alloc, decls, c)?;
+    fixings_of(alloc, above, decls)
+}
+
+/// A contract that is accepted, and the fixings of the table above.
+#[derive(Drop)]
+pub struct Ready {
+    pub case: Case,
+    pub fixings: Fixings,
+}
+
+/// The accepted contract of a text, over the table above.
+pub fn ready_of(alloc: Global, above: &Above, words: &str) -> Result<Ready, BadRow>
+    ensures accepted { IfOk result (λ r. IsAccepted (declarations r.case.decls) (contract r.case.contract)) }
+    ensures closed { IfOk result (λ r. IsClosed (declarations r.case.decls) (contract r.case.contract)) }
+    ensures numbers { IfOk result (λ r. HasOnlyNumbers (contract r.case.contract)) }
+    ensures low { IfOk result (λ r. height_of_contract (contract r.case.contract) ≤ 1_000) }
+    ensures admitted { IfOk result (λ r. IsAdmitted (declarations r.case.decls) r.fixings) }
+{
+    let case = case_of(alloc, above, words)?;
+    let fixings = accepted_over(alloc, above, &case.decls, &case.contract)?;
+    Ok(Ready { case, fixings })
+}

@@ -1,0 +1,101 @@
+//! Rows of payoff code: texts that are read, or have a first fault, canonical texts, and verdicts.
+
+ghost use Rattle.std.specs.Prelude.{◌≤◌, ◌<◌, ◌+◌, length, IfOk};
+ghost use Rattle.payoff_lang.specs.Code.{payoff_code};
+ghost use Rattle.payoff_lang.specs.CodeSizes.{height_of_code, nodes_of_code};
+
+use crate::above::Above;
+use crate::bad_row::{Answer, BadRow};
+use crate::printing::{append, append_decimal, say, say_check_fault, say_decimal, say_parse_fault};
+use decimal::NoMemory;
+use payoff_check::{CodeFacts, check_code};
+use payoff_lang::laws::{code_of_text_is_printable, printable_is_writable};
+use payoff_lang::{Code, CodeFile, parse_code, print_code};
+use std::alloc::Global;
+use term_core::Setting;
+
+/// `parse_code TEXT`: `read`, or the first fault.
+pub fn read_code(alloc: Global, above: &Above, words: &str, out: &mut Vec<u8>) -> Answer {
+    let text = above.text(alloc, words)?;
+    match parse_code(alloc, &text) {
+        Ok(_) => say(out, "read"),
+        Err(error) => say_parse_fault(alloc, error, out),
+    }
+}
+
+// The canonical text of the code of a text.
+fn print_text(alloc: Global, text: &[u8], out: &mut Vec<u8>) -> Answer
+    requires { length text.now ≤ 1_000_000 }
+{
+    match parse_code(alloc, text) {
+        Ok(file) => {
+            code_of_text_is_printable();
+            printable_is_writable();
+            print_code(alloc, out, &file)?;
+            Ok(())
+        }
+        Err(error) => say_parse_fault(alloc, error, out),
+    }
+}
+
+/// `print_code TEXT`: the canonical text.
+pub fn printed_code(alloc: Global, above: &Above, words: &str, out: &mut Vec<u8>) -> Answer {
+    let text = above.text(alloc, words)?;
+    print_text(alloc, &text, out)
+}
+
+// The code file of an amount.
+fn file_of(alloc: Global, above: &Above, amount: &str) -> Result<CodeFile, BadRow>
+    ensures low { IfOk result (λ file. height_of_code (payoff_code file.code) ≤ 400) }
+    ensures small { IfOk result (λ file. nodes_of_code (payoff_code file.code) < 1_000_000) }
+{
+    let text = above.sentence(alloc, "code c = ", amount)?;
+    match parse_code(alloc, &text) {
+        Ok(file) => Ok(file),
+        Err(_) => Err(BadRow::Text),
+    }
+}
+
+// The scale and the total of code, in units of this scale.
+fn say_facts(alloc: Global, facts: CodeFacts, out: &mut Vec<u8>) -> Answer {
+    append(out, "accepted scale ")?;
+    append_decimal(alloc, facts.scale as i128, 0, out)?;
+    append(out, " total ")?;
+    say_decimal(alloc, facts.total, 0, out)
+}
+
+// The verdict on code at the numbers of its templates.
+fn say_verdict(alloc: Global, file: &CodeFile, days: &[u32], out: &mut Vec<u8>) -> Answer
+    requires low { height_of_code (payoff_code file.now.code) ≤ 1_000 }
+    requires small { nodes_of_code (payoff_code file.now.code) < 2_000_000 }
+{
+    let days = Vec::from_slice(alloc, days)?;
+    match check_code(alloc, file, &Setting { days }) {
+        Ok(facts) => say_facts(alloc, facts, out),
+        Err(error) => say_check_fault(alloc, error, out),
+    }
+}
+
+/// `check_code AMOUNT`: the scale and the total of the code, in units of this scale, or the rule that it breaks.
+pub fn checked_code(alloc: Global, above: &Above, words: &str, out: &mut Vec<u8>) -> Answer {
+    let file = file_of(alloc, above, words)?;
+    say_verdict(alloc, &file, &above.days, out)
+}
+
+// Nothing and an amount.
+fn added(alloc: Global, code: Code) -> Result<Code, NoMemory>
+    ensures low { IfOk result (λ k. height_of_code (payoff_code k) ≤ height_of_code (payoff_code code) + 1) }
+    ensures small { IfOk result (λ k. nodes_of_code (payoff_code k) ≤ nodes_of_code (payoff_code code) + 2) }
+{
+    let left = Box::new(alloc, Code::None)?;
+    let right = Box::new(alloc, code)?;
+    Ok(Code::Add { left, right })
+}
+
+/// `check_code_added AMOUNT`: the verdict on the code of a text with one more term round it, since no text is higher than
+/// what is accepted.
+pub fn checked_added(alloc: Global, above: &Above, words: &str, out: &mut Vec<u8>) -> Answer {
+    let mut file = file_of(alloc, above, words)?;
+    file.code = added(alloc, file.code)?;
+    say_verdict(alloc, &file, &above.days, out)
+}

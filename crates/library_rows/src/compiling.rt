@@ -1,0 +1,120 @@
+//! Rows of contracts that are compiled to payoff code.
+
+ghost use Rattle.std.specs.Prelude.{◌≡◌, IfOk};
+ghost use Rattle.term_core.specs.Acceptance.{IsAccepted};
+ghost use Rattle.term_core.specs.Declarations.{declarations};
+ghost use Rattle.term_core.specs.Instances.{declared_numbers, instance};
+ghost use Rattle.term_core.specs.Terms.{contract};
+ghost use Rattle.term_core.specs.WellFormed.{IsClosed};
+ghost use Rattle.contract_print.specs.Writable.{IsWritableTerm};
+ghost use Rattle.payoff_lang.specs.Code.{payoff_code};
+ghost use Rattle.payoff_lang.specs.WritableCode.{IsWritableCode};
+
+use crate::above::Above;
+use crate::bad_row::{Answer, BadRow};
+use crate::cases::{accept, only_of};
+use crate::writable::{is_printable, say_behind};
+use decimal::NoMemory;
+use payoff_compile::laws::{plain_code_is_writable, writable_terms_have_small_literals};
+use payoff_compile::{compile, cut};
+use payoff_lang::{Code, CodeFile, print_code};
+use std::alloc::Global;
+use term_core::laws::{defaults_suit, settings_suit};
+use term_core::{Contr, Decls, Name, counts, defaults, has_only_numbers, instantiate, is_closed};
+
+// Stops at a contract that is not accepted, or has no numbers for its templates.
+fn accept_sized(alloc: Global, decls: &Decls, c: &Contr) -> Result<(), BadRow>
+    ensures { IfOk result (λ _. IsAccepted (declarations decls.now) (contract c.now)) }
+{
+    let size = counts(c);
+    if size.height > 1_000 || size.nodes >= 1_000_000 {
+        return Err(BadRow::Range);
+    }
+    if !is_closed(decls, c) || !has_only_numbers(c) {
+        return Err(BadRow::Text);
+    }
+    accept(alloc, decls, c)
+}
+
+// Stops at a contract that is not accepted at the defaults of its templates.
+fn accept_at_defaults(alloc: Global, decls: &Decls, c: &Contr) -> Result<(), BadRow>
+    requires { IsClosed (declarations decls.now) (contract c.now) }
+    ensures { IfOk result (λ _. IsAccepted (declarations decls.now)
+        (instance (declared_numbers (declarations decls.now)) (contract c.now))) }
+{
+    settings_suit();
+    defaults_suit();
+    let setting = defaults(alloc, decls)?;
+    let at_defaults = instantiate(alloc, c, &setting)?;
+    accept_sized(alloc, decls, &at_defaults)
+}
+
+// The code of a contract, with each payment cut or without.
+fn code_of(alloc: Global, decls: &Decls, c: &Contr, cuts: bool) -> Result<Code, NoMemory>
+    requires closed { IsClosed (declarations decls.now) (contract c.now) }
+    requires accepted { IsAccepted (declarations decls.now)
+        (instance (declared_numbers (declarations decls.now)) (contract c.now)) }
+    requires writable { IsWritableTerm (contract c.now) }
+    ensures { IfOk result (λ code. IsWritableCode (payoff_code code)) }
+{
+    plain_code_is_writable();
+    writable_terms_have_small_literals();
+    let code = compile(alloc, decls, c)?;
+    if cuts { cut(alloc, code) } else { Ok(code) }
+}
+
+// The file of code.
+fn file_of(alloc: Global, decls: &Decls, code: Code) -> Result<CodeFile, NoMemory>
+    ensures { IfOk result (λ file. payoff_code file.code ≡ payoff_code code) }
+{
+    let name = Name::new(alloc, b"c")?;
+    let decls = decls.copy(alloc)?;
+    Ok(CodeFile { decls, name, code })
+}
+
+// The canonical text of a code file.
+fn file_text(alloc: Global, file: &CodeFile) -> Result<Vec<u8>, NoMemory>
+    requires { IsWritableCode (payoff_code file.now.code) }
+{
+    let mut text = Vec::new(alloc);
+    print_code(alloc, &mut text, file)?;
+    Ok(text)
+}
+
+// Appends the line of the code of a code file.
+fn say_file(alloc: Global, file: &CodeFile, out: &mut Vec<u8>) -> Answer
+    requires { IsWritableCode (payoff_code file.now.code) }
+{
+    let text = file_text(alloc, file)?;
+    say_behind(alloc, b"payoff 1;\n", &file.decls, &text, out)
+}
+
+// Appends the line of code.
+fn say_code(alloc: Global, decls: &Decls, code: Code, out: &mut Vec<u8>) -> Answer
+    requires { IsWritableCode (payoff_code code) }
+{
+    let file = file_of(alloc, decls, code)?;
+    say_file(alloc, &file, out)
+}
+
+// Appends the line of the code of a contract, with each payment cut or without.
+fn say_code_of(alloc: Global, decls: &Decls, c: &Contr, cuts: bool, out: &mut Vec<u8>) -> Answer {
+    if !is_closed(decls, c) || !is_printable(c) {
+        return Err(BadRow::Text);
+    }
+    accept_at_defaults(alloc, decls, c)?;
+    let code = code_of(alloc, decls, c, cuts)?;
+    say_code(alloc, decls, code, out)
+}
+
+/// `compile CONTRACT`: the line of the contract's code.
+pub fn compiled(alloc: Global, above: &Above, words: &str, out: &mut Vec<u8>) -> Answer {
+    let case = only_of(alloc, above, words)?;
+    say_code_of(alloc, &case.decls, &case.contract, false, out)
+}
+
+/// `cut CONTRACT`: the same with each payment cut.
+pub fn compiled_and_cut(alloc: Global, above: &Above, words: &str, out: &mut Vec<u8>) -> Answer {
+    let case = only_of(alloc, above, words)?;
+    say_code_of(alloc, &case.decls, &case.contract, true, out)
+}

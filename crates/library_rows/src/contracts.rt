@@ -1,0 +1,131 @@
+//! Rows of contracts: verdicts, counts, copies and instances.
+
+ghost use Rattle.std.specs.Prelude.{◌≤◌, ◌<◌};
+ghost use Rattle.term_core.specs.Declarations.{declarations};
+ghost use Rattle.term_core.specs.Sizes.{height_of_contract, nodes_of_contract};
+ghost use Rattle.term_core.specs.Terms.{contract};
+ghost use Rattle.term_core.specs.WellFormed.{IsClosed, HasOnlyNumbers};
+
+use crate::above::Above;
+use crate::bad_row::{Answer, BadRow};
+use crate::cases::{Case, case_of, declared, only_of};
+use crate::lines::verdict_line;
+use crate::printing::{append, append_decimal, say, say_decimal};
+use crate::writable::say_contract;
+use contract_check::{Facts, check};
+use decimal::NoMemory;
+use std::alloc::Global;
+use term_core::laws::settings_suit;
+use term_core::{
+    CheckErr, Contr, Decls, RuleFault, Setting, counts, defaults, instantiate, is_closed,
+    nodes_in_contract,
+};
+
+// The verdict on a contract.
+fn verdict_of(alloc: Global, decls: &Decls, c: &Contr) -> Result<Result<Facts, RuleFault>, NoMemory>
+    requires closed { IsClosed (declarations decls.now) (contract c.now) }
+    requires numbers { HasOnlyNumbers (contract c.now) }
+    requires low { height_of_contract (contract c.now) ≤ 1_000 }
+    requires small { nodes_of_contract (contract c.now) < 1_000_000 }
+{
+    match check(alloc, decls, c) {
+        Ok(facts) => Ok(Ok(facts)),
+        Err(CheckErr::Refused { rule, node }) => Ok(Err(RuleFault { rule, node })),
+        Err(CheckErr::NoMemory) => Err(NoMemory),
+    }
+}
+
+// Appends the line of the verdict on a contract.
+fn say_verdict(alloc: Global, decls: &Decls, c: &Contr, out: &mut Vec<u8>) -> Answer
+    requires closed { IsClosed (declarations decls.now) (contract c.now) }
+    requires numbers { HasOnlyNumbers (contract c.now) }
+    requires low { height_of_contract (contract c.now) ≤ 1_000 }
+    requires small { nodes_of_contract (contract c.now) < 1_000_000 }
+{
+    let verdict = verdict_of(alloc, decls, c)?;
+    verdict_line(alloc, decls, &verdict, out)
+}
+
+/// `check CONTRACT`: the line of the verdict.
+pub fn checked(alloc: Global, above: &Above, words: &str, out: &mut Vec<u8>) -> Answer {
+    let case = case_of(alloc, above, words)?;
+    say_verdict(alloc, &case.decls, &case.contract, out)
+}
+
+// Appends the counts of a contract.
+fn say_counts(alloc: Global, c: &Contr, out: &mut Vec<u8>) -> Answer
+    requires { nodes_of_contract (contract c.now) < 1_000_000 }
+{
+    let size = counts(c);
+    if size.nodes != nodes_in_contract(c) {
+        return say(out, "two counts of nodes");
+    }
+    append(out, "height ")?;
+    append_decimal(alloc, size.height as i128, 0, out)?;
+    append(out, " nodes ")?;
+    say_decimal(alloc, size.nodes as i128, 0, out)
+}
+
+/// `counts CONTRACT`: its height and its nodes.
+pub fn counted(alloc: Global, above: &Above, words: &str, out: &mut Vec<u8>) -> Answer {
+    let case = case_of(alloc, above, words)?;
+    say_counts(alloc, &case.contract, out)
+}
+
+/// `copy CONTRACT`: the line of a copy.
+pub fn copied(alloc: Global, above: &Above, words: &str, out: &mut Vec<u8>) -> Answer {
+    let Case { decls, contract } = only_of(alloc, above, words)?;
+    say_contract(alloc, &decls, contract, out)
+}
+
+// Appends the line of a contract at the numbers of its templates.
+fn say_instance(
+    alloc: Global,
+    decls: &Decls,
+    c: &Contr,
+    setting: &Setting,
+    out: &mut Vec<u8>,
+) -> Answer {
+    if !is_closed(decls, c) || setting.days.len() != decls.templates.len() {
+        return Err(BadRow::Text);
+    }
+    settings_suit();
+    let instance = instantiate(alloc, c, setting)?;
+    say_contract(alloc, decls, instance, out)
+}
+
+// The numbers of templates.
+fn setting_of(alloc: Global, days: &[u32]) -> Result<Setting, BadRow> {
+    let days = Vec::from_slice(alloc, days)?;
+    Ok(Setting { days })
+}
+
+/// `instantiate CONTRACT`: the line of the contract at the numbers above.
+pub fn instance(alloc: Global, above: &Above, words: &str, out: &mut Vec<u8>) -> Answer {
+    let setting = setting_of(alloc, &above.days)?;
+    let case = only_of(alloc, above, words)?;
+    say_instance(alloc, &case.decls, &case.contract, &setting, out)
+}
+
+// Appends a line of each number.
+fn say_numbers(alloc: Global, numbers: &[u32], out: &mut Vec<u8>) -> Answer {
+    for number in numbers {
+        say_decimal(alloc, *number as i128, 0, out)?;
+    }
+    Ok(())
+}
+
+// Appends the numbers that declarations give their templates.
+fn say_defaults(alloc: Global, decls: &Decls, out: &mut Vec<u8>) -> Answer {
+    let setting = defaults(alloc, decls)?;
+    say_numbers(alloc, &setting.days, out)
+}
+
+/// `defaults`: the numbers that the declarations above give their templates, a line each.
+pub fn declared_numbers(alloc: Global, above: &Above, words: &str, out: &mut Vec<u8>) -> Answer {
+    if !words.is_empty() {
+        return Err(BadRow::Word);
+    }
+    let decls = declared(alloc, above)?;
+    say_defaults(alloc, &decls, out)
+}
