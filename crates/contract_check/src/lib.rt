@@ -6,7 +6,7 @@
 //!
 //! Promised: `check` answers the facts of an accepted contract, which is causal then, or the first rule that
 //! fails and the first node at which it does (`IsChecked`).
-//! Only tested: that it answers where there is memory (`library_tests/src/verdicts.rt`).
+//! Only tested: that it answers where there is memory (rows of `library_rows`).
 #![tactic(auto)]
 
 mod checks;

@@ -8,7 +8,7 @@
 //!
 //! Promised: `parse_portfolio` answers the portfolio exactly where the bytes are a text of it, and else the
 //! first fault (`Answers`); a text stands for one portfolio (`laws`).
-//! Only tested: that a text is read where there is memory (`library_tests/src/texts.rt`).
+//! Only tested: that a text is read where there is memory (rows of `library_rows`).
 #![tactic(auto)]
 
 mod contrs;

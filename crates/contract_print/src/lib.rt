@@ -7,7 +7,7 @@
 //!
 //! Promised: `print_portfolio` appends exactly that text (`AppendsBook`), or nothing; it reads back
 //! (`laws::canon_is_text`).
-//! Only tested: that it is printed where there is memory (`library_tests/src/printing.rt`).
+//! Only tested: that it is printed where there is memory (rows of `library_rows`).
 #![tactic(auto)]
 
 mod contrs;

@@ -7,7 +7,7 @@
 //!
 //! Promised: `eval` answers the value of the model, the same in every environment that extends the fixings,
 //! or the first read that is not fixed (`IsAnswer`).
-//! Only tested: that a scratch is made where there is memory (`library_tests/src/values.rt`); `eval` takes
+//! Only tested: that a scratch is made where there is memory (`library_tests/src/terms.rt`); `eval` takes
 //! none.
 #![tactic(auto)]
 

@@ -8,7 +8,7 @@
 //!
 //! Promised: `read_fixings` answers the map of what the records say, or the first record that breaks a rule
 //! (`Answers`); so does `read_curve` of a curve (`AnswersCurve`).
-//! Only tested: that tables are read where there is memory (`library_tests/src/fixings.rt`, `curves.rt`).
+//! Only tested: that tables are read where there is memory (rows of `library_rows`).
 #![tactic(auto)]
 
 mod curve_records;

@@ -7,7 +7,7 @@
 //!
 //! Promised: `flows` answers the table of the model, the same in every environment that extends the fixings,
 //! or the first read that is not fixed (`AreFlows`).
-//! Only tested: that it answers where there is memory (`library_tests/src/flow_tables.rt`).
+//! Only tested: that it answers where there is memory (rows of `library_rows`).
 #![tactic(auto)]
 
 mod faults;

@@ -8,7 +8,7 @@
 //! Promised: `bounds` answers the total, or the first node at which the rule fails (`IsVerdict`); the laws
 //! `accepted_contracts_are_safe` and `payments_add_up_to_total` say what follows.
 //! Only tested: that it answers, since the clauses leave want of memory open, which never comes (by
-//! `contract_check`, in `library_tests/src/verdicts.rt`).
+//! `contract_check`, in rows of `library_rows`).
 #![tactic(auto)]
 
 mod bound_rule;

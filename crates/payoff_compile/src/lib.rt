@@ -8,7 +8,7 @@
 //!
 //! Promised: `compile` answers code that means the contract at every setting at which it is accepted
 //! (`IsPlainCode`), and `cut` code that counts what is left to be paid (`CountsTheRest`).
-//! Only tested: that they answer where there is memory (`library_tests/src/compiling.rt`).
+//! Only tested: that they answer where there is memory (rows of `library_rows`).
 #![tactic(auto)]
 
 mod compiling;

@@ -9,7 +9,7 @@
 //!
 //! Promised: `parse_code` answers the code file of a text or the first fault (`CodeAnswers`); `print_code`
 //! appends exactly its canonical text (`AppendsCode`), or nothing.
-//! Only tested: that they succeed where there is memory (`library_tests/src/coding.rt`, `code_faults.rt`).
+//! Only tested: that they succeed where there is memory (rows of `library_rows`).
 #![tactic(auto)]
 
 mod code;

@@ -8,7 +8,7 @@
 //!
 //! Promised: `flow_line` appends exactly the line of a row (`IsFlowLine`), or a front part of it; `net`
 //! answers the table of what is paid together (`IsSumOf`).
-//! Only tested: that they succeed where there is memory (`library_tests/src/lines.rt`, `flow_tables.rt`).
+//! Only tested: that they succeed where there is memory (rows of `library_rows`).
 #![tactic(auto)]
 
 mod check_lines;

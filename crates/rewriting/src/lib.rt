@@ -9,7 +9,7 @@
 //!
 //! Promised: `substituted` answers the definition of its name (`specs/Substituting.antt`), and `kept` the
 //! part or what stands for it (`after`); `laws` says what rewriting keeps.
-//! Only tested: that it answers where there is memory (by `simplify`, in `library_tests/src/simplifying.rt`).
+//! Only tested: that it answers where there is memory (by `simplify`, in rows of `library_rows`).
 #![tactic(auto)]
 
 mod contract_names;

@@ -9,7 +9,7 @@
 //! Promised: `scales` answers the scale and `sizes` the reach, or the first node at which the rule fails
 //! (`IsVerdict`, `IsSizeVerdict`).
 //! Only tested: that `scales` answers, since the clauses leave want of memory open, which never comes (by
-//! `contract_check`, in `library_tests/src/verdicts.rt`).
+//! `contract_check`, in rows of `library_rows`).
 #![tactic(auto)]
 
 mod part_sizes;

@@ -8,7 +8,7 @@
 //! Promised: what `simplify` answers is accepted, pays the same (`PaysTheSame`), has no such redex
 //! (`HasNoPlainRedex`) and is no larger (`IsNoLargerIn`).
 //! Only tested: which of several such contracts it answers, and that it does where there is memory
-//! (`library_tests/src/simplifying.rt`).
+//! (rows of `library_rows`).
 #![tactic(auto)]
 
 mod contracts;

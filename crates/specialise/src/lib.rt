@@ -7,7 +7,7 @@
 //!
 //! Promised: `specialise_contr` answers exactly what `specialised_in` says, which on that day pays the same
 //! (`PaysTheSameOn`) and holds nothing that the fixings tell (`HasNoToldIn`).
-//! Only tested: that it answers where there is memory (`library_tests/src/specialising.rt`).
+//! Only tested: that it answers where there is memory (rows of `library_rows`).
 #![tactic(auto)]
 
 mod calls;

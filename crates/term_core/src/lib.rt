@@ -9,7 +9,7 @@
 //!
 //! Promised: `instantiate` puts a setting's numbers for the names of templates (`instance`), and the other
 //! calls are as exact by the model; `laws` has what follows of the definitions alone.
-//! Only tested: that calls succeed where there is memory (`library_tests/src/terms.rt`). That the definitions
+//! Only tested: that calls succeed where there is memory (rows of `library_rows`). That the definitions
 //! say what is meant no clause can say: the rows of `proofs` and `docs/MODEL.md` are for that.
 #![tactic(auto)]
 

@@ -9,7 +9,7 @@
 //! Promised: `sorts` and `times` answer that their rule holds, `times` with the start, or the first node at
 //! which it fails (`IsVerdict`).
 //! Only tested: that they answer, since the clauses leave want of memory open, which never comes (by
-//! `contract_check`, in `library_tests/src/verdicts.rt`).
+//! `contract_check`, in rows of `library_rows`).
 #![tactic(auto)]
 
 mod laws;
