@@ -47,7 +47,6 @@
 #![tactic(auto)]
 
 mod answer;
-mod line;
 mod row;
 mod row_err;
 mod rows;

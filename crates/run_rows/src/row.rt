@@ -1,8 +1,7 @@
 //! A row: its files and its sink, and a run over them.
 
-use crate::line::number_of;
 use crate::row_err::RowErr;
-use crate::text::Named;
+use crate::text::{Named, number_of};
 use contract_cli::{Status, run};
 use edge_io::{Entry, MemoryFiles, MemorySink};
 use std::alloc::{AllocError, Global};
@@ -59,6 +58,19 @@ fn entry_of(
     })
 }
 
+fn size_of(digits: &str) -> Result<usize, RowErr> {
+    Ok(number_of(digits)? as usize)
+}
+
+// Numbers, between which single blanks stand.
+fn numbers_of(alloc: Global, text: &str) -> Result<Vec<u64>, RowErr> {
+    let mut numbers = Vec::new(alloc);
+    for digits in text.split(' ') {
+        numbers.push(number_of(digits)?)?;
+    }
+    Ok(numbers)
+}
+
 impl<'a> Row<'a> {
     /// A row without files, in which nothing fails.
     pub fn new(alloc: Global) -> Row<'a> {
@@ -70,6 +82,21 @@ impl<'a> Row<'a> {
             room: ROOM,
             first: usize::MAX,
         }
+    }
+
+    /// Says what the reads, the writes or the sink do.
+    pub fn set(&mut self, alloc: Global, word: &str, rest: &str) -> Result<(), RowErr> {
+        match word {
+            "most" => self.most = size_of(rest)?,
+            "room" => self.room = size_of(rest)?,
+            "first" => self.first = size_of(rest)?,
+            _ => match rest.split_once(' ') {
+                Some(("reads", numbers)) => self.failing_reads = numbers_of(alloc, numbers)?,
+                Some(("writes", numbers)) => self.failing_writes = numbers_of(alloc, numbers)?,
+                _ => return Err(RowErr::Form),
+            },
+        }
+        Ok(())
     }
 
     /// Fresh files and a fresh sink, of which one file may be a front of itself.
@@ -104,13 +131,4 @@ impl Desk {
     pub fn taken(&self) -> &[u8] {
         self.sink.taken()
     }
-}
-
-/// Numbers, between which single blanks stand.
-pub fn numbers_of(alloc: Global, text: &str) -> Result<Vec<u64>, RowErr> {
-    let mut numbers = Vec::new(alloc);
-    for digits in text.split(' ') {
-        numbers.push(number_of(digits)?)?;
-    }
-    Ok(numbers)
 }

@@ -1,14 +1,13 @@
 //! The rows, line by line.
 
 use crate::answer::{push_answer, push_statuses};
-use crate::line::{Act, Line, Part, Setting, line_of};
-use crate::row::{Desk, Front, Row, numbers_of};
+use crate::row::{Desk, Front, Row};
 use crate::row_err::RowErr;
-use crate::text::{Named, find, piece_of, push_repeated, wrapped};
+use crate::text::{Named, counted, find, piece_of, push_repeated, wrapped};
 use std::alloc::Global;
 use std::mem;
 
-// What the parts of a text are put into.
+// What the pieces of a text are put into.
 #[derive(Clone, Copy)]
 enum Open<'a> {
     Nothing,
@@ -44,14 +43,43 @@ impl<'a> Rows<'a> {
 
     /// Does what the next line says, and appends what is to be printed.
     pub fn take(&mut self, line: &'a str, out: &mut String) -> Result<(), RowErr> {
-        match line_of(line)? {
-            Line::Remark => Ok(()),
-            Line::Part(part) => self.build(part),
-            Line::Row => self.begin_row(line, out),
-            Line::Text(name) => self.begin_text(name),
-            Line::File { name, text } => self.begin_file(name, text),
-            Line::Setting(setting) => self.set(setting),
-            Line::Act(act) => self.act(line, act, out),
+        if line.is_empty() || line.starts_with('#') {
+            return Ok(());
+        }
+        let (word, rest) = line.split_once(' ').unwrap_or((line, ""));
+        match word {
+            "|" => self.append(rest, "\n"),
+            "+" => self.append(rest, ""),
+            "add" => self.add(rest),
+            "repeat" => self.repeat(rest),
+            "wrap" => self.wrap(rest),
+            _ => {
+                self.close()?;
+                self.begin(line, word, rest, out)
+            }
+        }
+    }
+
+    // A line that is no part of a text.
+    fn begin(
+        &mut self,
+        line: &'a str,
+        word: &str,
+        rest: &'a str,
+        out: &mut String,
+    ) -> Result<(), RowErr> {
+        match word {
+            "==" => self.begin_row(line, out),
+            "text" => self.begin_text(rest),
+            "file" => self.begin_file(rest),
+            "files" if rest == "as before" => {
+                self.row.files = mem::replace(&mut self.before, Vec::new(self.alloc));
+                Ok(())
+            }
+            "failing" | "most" | "room" | "first" => self.row.set(self.alloc, word, rest),
+            "keep" => self.keep(rest),
+            "fronts" => self.run_fronts(line, rest, out),
+            _ => self.run(line, out),
         }
     }
 
@@ -69,7 +97,6 @@ impl<'a> Rows<'a> {
     }
 
     fn begin_row(&mut self, line: &str, out: &mut String) -> Result<(), RowErr> {
-        self.close()?;
         let row = mem::replace(&mut self.row, Row::new(self.alloc));
         self.before = row.files;
         self.desk = None;
@@ -78,7 +105,6 @@ impl<'a> Rows<'a> {
     }
 
     fn begin_text(&mut self, name: &'a str) -> Result<(), RowErr> {
-        self.close()?;
         if find(&self.texts, name).is_some() {
             return Err(RowErr::Twice);
         }
@@ -86,89 +112,72 @@ impl<'a> Rows<'a> {
         Ok(())
     }
 
-    fn begin_file(&mut self, name: &'a str, text: Option<&str>) -> Result<(), RowErr> {
-        self.close()?;
-        self.open = Open::File(name);
-        match text {
-            Some(text) => self.add(text),
-            None => Ok(()),
+    // `NAME`, or `NAME = TEXT`, where the name may be empty.
+    fn begin_file(&mut self, rest: &'a str) -> Result<(), RowErr> {
+        if let Some(text) = rest.strip_prefix("= ") {
+            self.open = Open::File("");
+            return self.add(text);
         }
-    }
-
-    // Appends the text of this name.
-    fn add(&mut self, name: &str) -> Result<(), RowErr> {
-        let text = find(&self.texts, name).ok_or(RowErr::NoText)?;
-        self.bytes.extend_from_slice(text)?;
+        if let Some((name, text)) = rest.split_once(" = ") {
+            self.open = Open::File(name);
+            return self.add(text);
+        }
+        self.open = Open::File(rest);
         Ok(())
     }
 
-    fn build(&mut self, part: Part<'_>) -> Result<(), RowErr> {
-        if matches!(self.open, Open::Nothing) {
-            return Err(RowErr::Closed);
-        }
-        match part {
-            Part::Whole(piece) => self.append(piece, "\n"),
-            Part::Piece(piece) => self.append(piece, ""),
-            Part::Add(name) => self.add(name),
-            Part::Repeat(times, piece) => self.repeat(times, piece),
-            Part::Wrap(times, piece) => self.wrap(times, piece),
+    fn check_open(&self) -> Result<(), RowErr> {
+        match self.open {
+            Open::Nothing => Err(RowErr::Closed),
+            Open::Text(_) | Open::File(_) => Ok(()),
         }
     }
 
     fn append(&mut self, piece: &str, end: &str) -> Result<(), RowErr> {
+        self.check_open()?;
         let piece = piece_of(self.alloc, piece)?;
         self.bytes.extend_from_slice(&piece)?;
         self.bytes.extend_from_slice(end.as_bytes())?;
         Ok(())
     }
 
-    fn repeat(&mut self, times: u64, piece: &str) -> Result<(), RowErr> {
-        let piece = piece_of(self.alloc, piece)?;
+    fn add(&mut self, name: &str) -> Result<(), RowErr> {
+        self.check_open()?;
+        let text = find(&self.texts, name).ok_or(RowErr::NoText)?;
+        self.bytes.extend_from_slice(text)?;
+        Ok(())
+    }
+
+    fn repeat(&mut self, rest: &str) -> Result<(), RowErr> {
+        self.check_open()?;
+        let (times, piece) = counted(self.alloc, rest)?;
         push_repeated(self.alloc, &mut self.bytes, times, &piece)?;
         Ok(())
     }
 
-    fn wrap(&mut self, times: u64, piece: &str) -> Result<(), RowErr> {
-        let piece = piece_of(self.alloc, piece)?;
+    fn wrap(&mut self, rest: &str) -> Result<(), RowErr> {
+        self.check_open()?;
+        let (times, piece) = counted(self.alloc, rest)?;
         let inner = mem::replace(&mut self.bytes, Vec::new(self.alloc));
         self.bytes = wrapped(self.alloc, inner, times, &piece)?;
         Ok(())
     }
 
-    fn set(&mut self, setting: Setting<'_>) -> Result<(), RowErr> {
-        self.close()?;
-        match setting {
-            Setting::FilesAsBefore => {
-                self.row.files = mem::replace(&mut self.before, Vec::new(self.alloc));
-            }
-            Setting::FailingReads(numbers) => {
-                self.row.failing_reads = numbers_of(self.alloc, numbers)?;
-            }
-            Setting::FailingWrites(numbers) => {
-                self.row.failing_writes = numbers_of(self.alloc, numbers)?;
-            }
-            Setting::Most(most) => self.row.most = most,
-            Setting::Room(room) => self.row.room = room,
-            Setting::First(first) => self.row.first = first,
+    // `run`, `run|WORD|WORD` or `again|WORD|WORD`.
+    fn run(&mut self, line: &str, out: &mut String) -> Result<(), RowErr> {
+        if let Some(words) = line.strip_prefix("again|") {
+            return self.answer(line, Some(words), out);
         }
-        Ok(())
-    }
-
-    fn act(&mut self, line: &str, act: Act<'a>, out: &mut String) -> Result<(), RowErr> {
-        self.close()?;
-        match act {
-            Act::Run(words) => {
-                self.desk = Some(self.row.desk(self.alloc, None)?);
-                self.run(line, words, out)
-            }
-            Act::Again(words) => self.run(line, Some(words), out),
-            Act::Fronts { file, words } => self.run_fronts(line, file, words, out),
-            Act::Keep(name) => self.keep(name),
+        let words = line.strip_prefix("run|");
+        if words.is_none() && line != "run" {
+            return Err(RowErr::Form);
         }
+        self.desk = Some(self.row.desk(self.alloc, None)?);
+        self.answer(line, words, out)
     }
 
     // A run over the files and the sink that are there.
-    fn run(&mut self, line: &str, words: Option<&str>, out: &mut String) -> Result<(), RowErr> {
+    fn answer(&mut self, line: &str, words: Option<&str>, out: &mut String) -> Result<(), RowErr> {
         let Some(desk) = &mut self.desk else {
             return Err(RowErr::NoRun);
         };
@@ -179,13 +188,9 @@ impl<'a> Rows<'a> {
         Ok(())
     }
 
-    fn run_fronts(
-        &self,
-        line: &str,
-        file: &str,
-        words: &str,
-        out: &mut String,
-    ) -> Result<(), RowErr> {
+    // `FILE|WORD|WORD`: a run for each proper front of the file.
+    fn run_fronts(&self, line: &str, rest: &str, out: &mut String) -> Result<(), RowErr> {
+        let (file, words) = rest.split_once('|').ok_or(RowErr::Form)?;
         let whole = find(&self.row.files, file).ok_or(RowErr::NoFile)?;
         let mut statuses = Vec::new(self.alloc);
         for length in 0..whole.len() {
@@ -202,10 +207,8 @@ impl<'a> Rows<'a> {
             return Err(RowErr::NoRun);
         };
         let bytes = desk.taken().to_vec(self.alloc)?;
-        if find(&self.texts, name).is_some() {
-            return Err(RowErr::Twice);
-        }
-        self.texts.push(Named { name, bytes })?;
+        self.begin_text(name)?;
+        self.bytes = bytes;
         Ok(())
     }
 }

@@ -1,4 +1,4 @@
-//! Texts with a name, and the parts that they are made of.
+//! Texts with a name, and the pieces that they are made of.
 
 use crate::row_err::RowErr;
 use std::alloc::{AllocError, Global};
@@ -19,6 +19,14 @@ pub fn find<'a>(list: &'a [Named<'_>], name: &str) -> Option<&'a [u8]> {
         .map(|named| named.bytes.as_slice())
 }
 
+/// A number in decimal digits.
+pub fn number_of(digits: &str) -> Result<u64, RowErr> {
+    if digits.starts_with('+') {
+        return Err(RowErr::Number);
+    }
+    digits.parse::<u64>().map_err(|_| RowErr::Number)
+}
+
 // The byte of two hexadecimal digits.
 fn byte_of(digits: &str) -> Option<u8> {
     if digits.starts_with('+') {
@@ -29,15 +37,11 @@ fn byte_of(digits: &str) -> Option<u8> {
 
 /// The bytes of a piece, in which a backslash and two hexadecimal digits are one byte.
 pub fn piece_of(alloc: Global, text: &str) -> Result<Vec<u8>, RowErr> {
-    let (plain, escaped) = match text.split_once('\\') {
-        Some((plain, escaped)) => (plain, Some(escaped)),
-        None => (text, None),
-    };
+    let mut parts = text.split('\\');
+    let plain = parts.next().unwrap_or("");
     let mut bytes = plain.as_bytes().to_vec(alloc)?;
-    if let Some(escaped) = escaped {
-        for part in escaped.split('\\') {
-            push_escaped(&mut bytes, part)?;
-        }
+    for part in parts {
+        push_escaped(&mut bytes, part)?;
     }
     Ok(bytes)
 }
@@ -49,6 +53,12 @@ fn push_escaped(bytes: &mut Vec<u8>, part: &str) -> Result<(), RowErr> {
     bytes.push(byte)?;
     bytes.extend_from_slice(plain.as_bytes())?;
     Ok(())
+}
+
+/// `N PIECE`: how many times, and the piece.
+pub fn counted(alloc: Global, rest: &str) -> Result<(u64, Vec<u8>), RowErr> {
+    let (times, piece) = rest.split_once(' ').ok_or(RowErr::Form)?;
+    Ok((number_of(times)?, piece_of(alloc, piece)?))
 }
 
 // Appends a piece, with a filling in the place of each `@`.
@@ -70,15 +80,14 @@ pub fn push_repeated(
     times: u64,
     piece: &[u8],
 ) -> Result<(), AllocError> {
-    if !piece.contains(&b'@') {
-        for _ in 0..times {
+    let has_number = piece.contains(&b'@');
+    for number in 0..times {
+        if has_number {
+            let digits = format!(in alloc; "{number}")?;
+            push_filled(bytes, piece, digits.as_bytes())?;
+        } else {
             bytes.extend_from_slice(piece)?;
         }
-        return Ok(());
-    }
-    for number in 0..times {
-        let digits = format!(in alloc; "{number}")?;
-        push_filled(bytes, piece, digits.as_bytes())?;
     }
     Ok(())
 }
