@@ -23,7 +23,10 @@ fn rounds_by_every_mode(rt: HostRuntime) {
 #[test]
 fn raises_exactly(rt: HostRuntime) {
     assert_eq!(rt; pow10(0), 1);
-    assert_eq!(rt; pow10(38), 100_000_000_000_000_000_000_000_000_000_000_000_000);
+    assert_eq!(rt;
+        pow10(38),
+        100_000_000_000_000_000_000_000_000_000_000_000_000
+    );
     assert_eq!(rt; align(-125, 3, 5), -12500);
     assert_eq!(rt; round_to(Mode::Floor, -125, 3, 5), -12500);
 }
