@@ -5,7 +5,7 @@ use std::alloc::{AllocError, AllocFailed};
 use thiserror::Error;
 
 /// What is wrong with a row.
-#[derive(Clone, Copy, Debug, PartialEq, Eq, Drop, Error)]
+#[derive(Clone, Copy, Debug, Drop, Error)]
 pub enum BadRow {
     #[error("no call has this name")]
     Call,

@@ -11,7 +11,7 @@ use crate::{
 use std::alloc::Global;
 
 /// What a row tries.
-#[derive(Clone, Copy, Debug, PartialEq, Eq)]
+#[derive(Clone, Copy)]
 enum Call {
     ParsePortfolio,
     PrintPortfolio,

@@ -1,6 +1,6 @@
 //! Rows of contracts that are compiled to payoff code.
 
-ghost use Rattle.std.specs.Prelude.{◌≡◌, IfOk};
+ghost use Rattle.std.specs.Prelude.{IfOk};
 ghost use Rattle.term_core.specs.Acceptance.{IsAccepted};
 ghost use Rattle.term_core.specs.Declarations.{declarations};
 ghost use Rattle.term_core.specs.Instances.{declared_numbers, instance};
@@ -9,6 +9,7 @@ ghost use Rattle.term_core.specs.WellFormed.{IsClosed};
 ghost use Rattle.contract_print.specs.Writable.{IsWritableTerm};
 ghost use Rattle.payoff_lang.specs.Code.{payoff_code};
 ghost use Rattle.payoff_lang.specs.WritableCode.{IsWritableCode};
+ghost use Rattle.payoff_lang.specs.Compiled.{cut_code};
 
 use crate::above::Above;
 use crate::bad_row::{Answer, BadRow};
@@ -49,23 +50,25 @@ fn accept_at_defaults(alloc: Global, decls: &Decls, c: &Contr) -> Result<(), Bad
     accept_sized(alloc, decls, &at_defaults)
 }
 
-// The code of a contract, with each payment cut or without.
-fn code_of(alloc: Global, decls: &Decls, c: &Contr, cuts: bool) -> Result<Code, NoMemory>
+// The code of a contract.
+fn code_of(alloc: Global, decls: &Decls, c: &Contr) -> Result<Code, NoMemory>
     requires closed { IsClosed (declarations decls.now) (contract c.now) }
     requires accepted { IsAccepted (declarations decls.now)
         (instance (declared_numbers (declarations decls.now)) (contract c.now)) }
     requires writable { IsWritableTerm (contract c.now) }
-    ensures { IfOk result (λ code. IsWritableCode (payoff_code code)) }
+    ensures plain { IfOk result (λ code. IsWritableCode (payoff_code code)) }
+    ensures cut { IfOk result (λ code. IsWritableCode (cut_code (payoff_code code))) }
 {
     plain_code_is_writable();
     writable_terms_have_small_literals();
     let code = compile(alloc, decls, c)?;
-    if cuts { cut(alloc, code) } else { Ok(code) }
+    Ok(code)
 }
 
 // The file of code.
 fn file_of(alloc: Global, decls: &Decls, code: Code) -> Result<CodeFile, NoMemory>
-    ensures { IfOk result (λ file. payoff_code file.code ≡ payoff_code code) }
+    requires { IsWritableCode (payoff_code code) }
+    ensures { IfOk result (λ file. IsWritableCode (payoff_code file.code)) }
 {
     let name = Name::new(alloc, b"c")?;
     let decls = decls.copy(alloc)?;
@@ -97,14 +100,36 @@ fn say_code(alloc: Global, decls: &Decls, code: Code, out: &mut Vec<u8>) -> Answ
     say_file(alloc, &file, out)
 }
 
-// Appends the line of the code of a contract, with each payment cut or without.
-fn say_code_of(alloc: Global, decls: &Decls, c: &Contr, cuts: bool, out: &mut Vec<u8>) -> Answer {
+// The same with each payment cut.
+fn say_cut(alloc: Global, decls: &Decls, code: Code, out: &mut Vec<u8>) -> Answer
+    requires { IsWritableCode (cut_code (payoff_code code)) }
+{
+    let code = cut(alloc, code)?;
+    say_code(alloc, decls, code, out)
+}
+
+// Stops at a contract that has no code, or none that can be printed.
+fn accept_written(alloc: Global, decls: &Decls, c: &Contr) -> Result<(), BadRow>
+    ensures closed { IfOk result (λ _. IsClosed (declarations decls.now) (contract c.now)) }
+    ensures accepted { IfOk result (λ _. IsAccepted (declarations decls.now)
+        (instance (declared_numbers (declarations decls.now)) (contract c.now))) }
+    ensures writable { IfOk result (λ _. IsWritableTerm (contract c.now)) }
+{
     if !is_closed(decls, c) || !is_printable(c) {
         return Err(BadRow::Text);
     }
-    accept_at_defaults(alloc, decls, c)?;
-    let code = code_of(alloc, decls, c, cuts)?;
-    say_code(alloc, decls, code, out)
+    accept_at_defaults(alloc, decls, c)
+}
+
+// Appends the line of the code of a contract, with each payment cut or without.
+fn say_code_of(alloc: Global, decls: &Decls, c: &Contr, cuts: bool, out: &mut Vec<u8>) -> Answer {
+    accept_written(alloc, decls, c)?;
+    let code = code_of(alloc, decls, c)?;
+    if cuts {
+        say_cut(alloc, decls, code, out)
+    } else {
+        say_code(alloc, decls, code, out)
+    }
 }
 
 /// `compile CONTRACT`: the line of the contract's code.

@@ -1,7 +1,6 @@
 //! Rows of lines: of verdicts, of faults, of flows and of values.
 
-ghost use Rattle.std.specs.Prelude.{◌≤◌, ◌^◌, pos, unsigned_abs, IsTrue, IfOk};
-ghost use Rattle.flow_eval.specs.Tables.{IsDueRow};
+ghost use Rattle.std.specs.Prelude.{◌≤◌, ◌^◌, unsigned_abs, IsTrue, IfOk};
 
 use crate::above::Above;
 use crate::bad_row::{Answer, BadRow};
@@ -197,13 +196,6 @@ pub fn line_of_fault(alloc: Global, words: &str, out: &mut Vec<u8>) -> Answer {
     say_fault(alloc, &fault, out)
 }
 
-// Whether a line can hold a row.
-fn can_be_written(row: &FlowRow) -> bool
-    ensures { IsTrue result → IsDueRow (pos 0) (pos 1_100_000) row.now }
-{
-    0 <= row.day && row.day <= 1_100_000 && row.amount.unsigned_abs() <= GREATEST_MANTISSA
-}
-
 /// Appends the line of a row.
 pub fn say_flow(
     alloc: Global,
@@ -212,7 +204,7 @@ pub fn say_flow(
     row: &FlowRow,
     out: &mut Vec<u8>,
 ) -> Answer {
-    if !can_be_written(row) {
+    if row.day < 0 || row.day > 1_100_000 || row.amount.unsigned_abs() > GREATEST_MANTISSA {
         return Err(BadRow::Range);
     }
     flow_line(alloc, out, decls, name.as_bytes(), row)?;

@@ -60,7 +60,7 @@ fn say_tokens(
     requires fits { Fits text.now cursor.old }
     ensures { Fits text.now cursor.new }
 {
-    for _token in 0..tokens {
+    for _ in 0..tokens {
         say_next(alloc, cursor, text, out)?;
     }
     Ok(())
