@@ -1,6 +1,6 @@
 -- One more comment, one more contract that is left, and the parts of `advance` put together.
 use Rattle.std.proofs.Common.{◌≡◌, ◌∙◌, ◌≤◌, ◌-◌, ◌&&◌, ℕ, ℤ, pos, Bool, true, false, List, [], ◌∷◌, ◌++◌, append_assoc, ap, arith, refl, subst, sym}
-use Rattle.std.specs.Prelude.{Option, None, Result, Ok, Err, codes, not}
+use Rattle.std.specs.Prelude.{None, Result, Ok, Err, codes, not}
 use Rattle.std.specs.Map.{keys_of}
 use Rattle.std.proofs.lemmas.Int.{ints}
 use Rattle.std.proofs.lemmas.List.{append-nil, map-append}
@@ -22,13 +22,9 @@ use Rattle.flow_eval.specs.declared.flow_table.FlowRow.{FlowRow}
 use Rattle.flow_eval.specs.declared.flow_table.FlowTable.{FlowTable}
 use Rattle.advance_step.specs.Advancing.{Advances, IsResidual, day_before}
 use Rattle.report.specs.FlowLines.{AppendsFlowLine, IsFlowLine}
-use Rattle.report.specs.declared.fault_lines.Fault.{Fault}
 use Rattle.command_answers.specs.AdvanceParts.{AnswersRests, AppendsComments, AppendsRest, AppendsRests, IsRestText}
-use Rattle.command_answers.specs.AdvancePromise.{AreComments, AreDueLines, AreResiduals, IsAdvanceText, IsNewDay, StopsAdvance, day_out, not_accepted, row_refused, read_missing, commented, greatest_new_day, last_gone, rest_declarations}
-use Rattle.command_answers.specs.CheckPromise.{AreAllAccepted}
-use Rattle.command_words.specs.Commands.{AdvanceAsked}
-use Rattle.command_answers.specs.FlowsParts.{IsMissingOf, IsMissingOne, IsRefusedOf, IsRowFault, IsStopOf, IsWordFault}
-use Rattle.command_answers.specs.FlowsPromise.{AreFixings}
+use Rattle.command_answers.specs.AdvancePromise.{AreComments, AreDueLines, AreResiduals, IsAdvanced, commented, last_gone, rest_declarations}
+use Rattle.command_answers.specs.FlowsParts.{IsMissingOne, IsStopOf}
 use Rattle.command_answers.specs.Stopping.{AnswersBy}
 use Rattle.command_answers.specs.UsedContracts.{used}
 use Rattle.command_answers.specs.declared.advance_text.Left.{Left}
@@ -157,30 +153,15 @@ module _ (d : Declarations) (fixings : Environment) (day : ℕ) where
 
 -- ---- the parts put together
 
-module _ (b : Book) (asked : AdvanceAsked) (table : Option (List ℕ)) where
-  pub day_stops : (f : Fault) → IsWordFault b.declarations greatest_new_day asked.to f → StopsAdvance b asked table f
-  day_stops f h = day_out h.out h.fault_is
-
-  pub contract_stops : (day : ℕ) → IsNewDay b.declarations asked.to day → (f : Fault) → IsRefusedOf b.declarations (used None b) f → StopsAdvance b asked table f
-  contract_stops day new f h = not_accepted day new h.name h.rule h.node h.first h.fault_is
-
-  pub row_stops : (day : ℕ) → IsNewDay b.declarations asked.to day → AreAllAccepted b.declarations (used None b) → (f : Fault) → IsRowFault b.declarations table f → StopsAdvance b asked table f
-  row_stops day new all f h = row_refused day new all h.bytes h.named h.row h.first h.fault_is
-
-  pub read_stops : (day : ℕ) → IsNewDay b.declarations asked.to day → AreAllAccepted b.declarations (used None b) → (fixings : Environment) → AreFixings b.declarations table fixings → (f : Fault) → IsMissingOf b.declarations fixings (last_gone day) (used None b) f → StopsAdvance b asked table f
-  read_stops day new all fixings are f h = read_missing day new all fixings are h.place h.first h.fault_is
-
-  pub whole_text : (day : ℕ) → IsNewDay b.declarations asked.to day → AreAllAccepted b.declarations (used None b) → (fixings : Environment) → AreFixings b.declarations table fixings
-      → (left : Left) (text : List ℕ) → AppendsRests b.declarations fixings day (used None b) [] [] left → IsRestText b.declarations day (trees left.contracts.entries) left.due.items text → IsAdvanceText b asked table text
-  whole_text day new all fixings are left text h k = record {
-    day = day;
-    fixings = fixings;
-    can = record { is_day = new; accepted = all; are_fixings = are; fixed = h.fixed };
-    due = left.due.items;
-    are_due = subst (λ (t : List ℕ). AreDueLines b.declarations fixings (last_gone day) (used None b) t) (sym h.due_is) h.lines;
-    rest = record { declarations = rest_declarations b.declarations day; contracts = trees left.contracts.entries };
-    is_rest = record { declarations = refl; contracts = subst (λ (es : List (Name × Contract)). AreResiduals b.declarations fixings day (used None b) es) (sym h.kept) h.residuals };
-    canon = k.canon;
-    is_canon = k.is_canon;
-    is = k.is;
-  }
+-- what is due and what is left of the contracts that are used is the text
+pub is_advanced : (b : Book) (day : ℕ) (fixings : Environment) (left : Left) (text : List ℕ) → AppendsRests b.declarations fixings day (used None b) [] [] left → IsRestText b.declarations day (trees left.contracts.entries) left.due.items text
+    → IsAdvanced b day fixings text
+is_advanced b day fixings left text h k = record {
+  due = left.due.items;
+  are_due = subst (λ (t : List ℕ). AreDueLines b.declarations fixings (last_gone day) (used None b) t) (sym h.due_is) h.lines;
+  rest = record { declarations = rest_declarations b.declarations day; contracts = trees left.contracts.entries };
+  is_rest = record { declarations = refl; contracts = subst (λ (es : List (Name × Contract)). AreResiduals b.declarations fixings day (used None b) es) (sym h.kept) h.residuals };
+  canon = k.canon;
+  is_canon = k.is_canon;
+  is = k.is;
+}

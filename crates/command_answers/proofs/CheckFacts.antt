@@ -1,5 +1,5 @@
 -- The verdicts on contracts: their lines one behind another, and the answer of `check`.
-use Rattle.std.proofs.Common.{◌≡◌, ◌∙◌, ◌≤◌, ◌^◌, ℕ, Bool, true, false, ◌&&◌, List, [], ◌∷◌, ◌++◌, append_assoc, ap, arith, refl, subst, sym, unsigned_abs}
+use Rattle.std.proofs.Common.{◌≡◌, ◌∙◌, ◌≤◌, ◌^◌, inl, inr, ℕ, Bool, true, false, ◌&&◌, List, [], ◌∷◌, ◌++◌, append_assoc, ap, arith, refl, subst, sym, unsigned_abs}
 use Rattle.std.specs.Prelude.{IfOk, None, Result, Ok, Err, is_ok}
 use Rattle.std.proofs.lemmas.Bool.{and_parts, and_from}
 use Rattle.std.proofs.lemmas.List.{append-nil}
@@ -20,7 +20,7 @@ use Rattle.contract_check.specs.Checks.{IsGranted, told}
 use Rattle.contract_check.specs.declared.checks.Facts.{Facts}
 use Rattle.report.specs.CheckLines.{accepted_line, verdict_line}
 use Rattle.time_types.specs.Starts.{start_day}
-use Rattle.command_answers.specs.CheckPromise.{AreCheckLines, IsCheckLine, accepted, refused, IsCheckText, all_accepted}
+use Rattle.command_answers.specs.CheckPromise.{AreCheckLines, IsCheckLine, accepted, refused, Verdict}
 use Rattle.command_answers.specs.CheckParts.{AppendsVerdict, AppendsVerdicts, IsVerdictOf}
 use Rattle.command_answers.specs.UsedContracts.{used}
 use Rattle.command_answers.specs.declared.status.Status.{Status}
@@ -85,8 +85,12 @@ verdicts_more d entry rest so_far one all before middle after v vs = record {
 
 -- ---- the answer of `check`
 
-lines_all : (d : Declarations) (entries : List (Name × Contract)) (so_far all : Bool) (text : List ℕ) → AppendsVerdicts d entries so_far all [] text → AreCheckLines d entries text
-lines_all d entries so_far all text vs = subst (λ (t : List ℕ). AreCheckLines d entries t) (sym vs.appended) vs.lines
+module _ (b : Book) (all : Bool) (text : List ℕ) (vs : AppendsVerdicts b.declarations (used None b) true all [] text) where
+  pub lines_all : AreCheckLines b.declarations (used None b) text
+  lines_all = subst (λ (t : List ℕ). AreCheckLines b.declarations (used None b) t) (sym vs.appended) vs.lines
 
-pub all_done : (b : Book) (all : Bool) (text : List ℕ) (s : Status) → AppendsVerdicts b.declarations (used None b) true all [] text → all ≡ true → s ≡ status.Done → IsCheckText b s text
-all_done b all text s vs every e = all_accepted e (vs.decides.0 every).1 (lines_all b.declarations (used None b) true all text vs)
+  pub verdict_done : (s : Status) → all ≡ true → s ≡ status.Done → Verdict b s
+  verdict_done s every is = inl (is, (vs.decides.0 every).1)
+
+  pub verdict_refused : (s : Status) → all ≡ false → s ≡ status.Refused → Verdict b s
+  verdict_refused s some is = inr (is, λ granted. let h : false ≡ true = sym some ∙ vs.decides.1 (refl, granted) in absurd cc)

@@ -10,8 +10,9 @@ use Rattle.fixing_files.specs.declared.days.NamedDay.{NamedDay}
 use Rattle.fixing_files.specs.declared.days.NamedDay.TheVariants.{Number, Date}
 use Rattle.report.specs.declared.fault_lines.Fault.{Fault}
 use Rattle.command_answers.specs.AdvancePromise.{IsNewDay, greatest_new_day}
-use Rattle.command_answers.specs.FlowsParts.{CanBeLast, IsDayFault, IsWordFault, day_in_range}
+use Rattle.command_answers.specs.FlowsParts.{CanBeLast, day_in_range}
 use Rattle.command_answers.specs.FlowsPromise.{IsDayAsked, IsOutOfRange, no_origin, too_early, too_late, greatest_day}
+use Rattle.command_answers.specs.Stages.{IsDayFault, IsWordFault}
 
 le_from : (a b : ℤ) → int_le a b ≡ true → a ≤ℤ b
 le_from a b h = grind (arith, ints)

@@ -39,7 +39,7 @@ in_range_or_not d greatest word last h (too_late day e more) = let same : last �
 -- ---- the first of a list
 
 module _ {X : Type 0} (P Q : X → Type 0) (differ : (x : X) → P x → Q x → ⊥) where
-  pub first_one : (b c : List X) (x y : X) (after other : List X) → b ++ x ∷ after ≡ c ++ y ∷ other → All P b → All P c → Q x → Q y → x ≡ y
+  first_one : (b c : List X) (x y : X) (after other : List X) → b ++ x ∷ after ≡ c ++ y ∷ other → All P b → All P c → Q x → Q y → x ≡ y
   first_one [] [] x y after other e p q here there = cc
   first_one [] (z ∷ c) x y after other e p q here there =
       let same : x ≡ z = cc in
@@ -102,7 +102,7 @@ same_unfixed one other same [] = refl
 same_unfixed one other same (q ∷ qs) =
     ap (λ (o : Option Value). if is_some o then first_unfixed one qs else Some q) (same q) ∙ ap (λ (r : Option Place). if is_fixed other q then r else Some q) (same_unfixed one other same qs)
 
-same_missing : (d : Declarations) (one other : Environment) (last : ℤ) (c : Contract) → HoldSame one other → missing_of d one last c ≡ missing_of d other last c
+pub same_missing : (d : Declarations) (one other : Environment) (last : ℤ) (c : Contract) → HoldSame one other → missing_of d one last c ≡ missing_of d other last c
 same_missing d one other last c same =
     let reads : Environment → List Place = λ env. reads_until d c env (pos d.start) last in
     unfixed_up_to one (reads one) ∙ ap (first_unfixed one) (sym (reads_stay d c one other (pos d.start) (pos 0) (last -ℤ pos d.start) (extends_same one other same))) ∙ sym (unfixed_up_to one (reads other)) ∙ same_unfixed one other same (reads other)
@@ -119,22 +119,21 @@ record IsMissingEntry (d : Declarations) (fixings : Environment) (last : ℤ) (e
 fixed_or_missing : (d : Declarations) (fixings : Environment) (last : ℤ) (entry : Name × Contract) → IsFixedEntry d fixings last entry → IsMissingEntry d fixings last entry → ⊥
 fixed_or_missing d fixings last entry h m = let e = sym h ∙ m.missing in cc
 
-module _ (d : Declarations) (last : ℤ) (entries : List (Name × Contract)) (one other : Environment) (same : HoldSame one other) where
-  pub same_fixed : (xs : List (Name × Contract)) → AreAllFixed d other last xs → AreAllFixed d one last xs
-  same_fixed xs all =
-      All-weaker (IsFixedEntry d other last) (IsFixedEntry d one last) (λ entry h. same_missing d one other last entry.1 same ∙ h) xs all
+pub same_fixed : (d : Declarations) (last : ℤ) (one other : Environment) → HoldSame one other → (entries : List (Name × Contract)) → AreAllFixed d other last entries → AreAllFixed d one last entries
+same_fixed d last one other same entries all =
+    All-weaker (IsFixedEntry d other last) (IsFixedEntry d one last) (λ entry h. same_missing d one other last entry.1 same ∙ h) entries all
 
-  pub fixed_or_not : (place : Place) → AreAllFixed d one last entries → IsFirstMissing d other last entries place → ⊥
+module _ (d : Declarations) (last : ℤ) (entries : List (Name × Contract)) (fixings : Environment) where
+  pub fixed_or_not : (place : Place) → AreAllFixed d fixings last entries → IsFirstMissing d fixings last entries place → ⊥
   fixed_or_not place all m =
-      let here : missing_of d one last m.entry.1 ≡ None = all_at (IsFixedEntry d one last) m.before m.entry m.after (subst (λ (xs : List (Name × Contract)). AreAllFixed d one last xs) m.split all) in
-      let e = sym here ∙ same_missing d one other last m.entry.1 same ∙ m.missing in
+      let here : missing_of d fixings last m.entry.1 ≡ None = all_at (IsFixedEntry d fixings last) m.before m.entry m.after (subst (λ (xs : List (Name × Contract)). AreAllFixed d fixings last xs) m.split all) in
+      let e = sym here ∙ m.missing in
       cc
 
-  pub one_missing : (place spot : Place) → IsFirstMissing d one last entries place → IsFirstMissing d other last entries spot → place ≡ spot
+  pub one_missing : (place spot : Place) → IsFirstMissing d fixings last entries place → IsFirstMissing d fixings last entries spot → place ≡ spot
   one_missing place spot n m =
-      let there : missing_of d one last m.entry.1 ≡ Some spot = same_missing d one other last m.entry.1 same ∙ m.missing in
-      let both = first_one (IsFixedEntry d one last) (IsMissingEntry d one last) (fixed_or_missing d one last) n.before m.before n.entry m.entry n.after m.after (sym n.split ∙ m.split) n.fixed (same_fixed m.before m.fixed) (record { place = place; missing = n.missing }) (record { place = spot; missing = there }) in
-      let e = sym n.missing ∙ ap (λ (x : Name × Contract). missing_of d one last x.1) both ∙ there in
+      let both = first_one (IsFixedEntry d fixings last) (IsMissingEntry d fixings last) (fixed_or_missing d fixings last) n.before m.before n.entry m.entry n.after m.after (sym n.split ∙ m.split) n.fixed m.fixed (record { place = place; missing = n.missing }) (record { place = spot; missing = m.missing }) in
+      let e = sym n.missing ∙ ap (λ (x : Name × Contract). missing_of d fixings last x.1) both ∙ m.missing in
       cc
 
 -- ---- lines

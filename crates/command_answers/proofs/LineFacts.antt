@@ -1,4 +1,4 @@
--- One more line, one more contract, and the parts of `flows` put together.
+-- One more line, one more contract, rows that can be written, and a contract without flows.
 use Rattle.std.proofs.Common.{◌≡◌, ◌∙◌, ◌≤ℤ◌, ◌⊎◌, inl, inr, ℕ, ℤ, pos, List, [], ◌∷◌, ◌++◌, append_assoc, ap, arith, refl, subst, sym}
 use Rattle.std.specs.Prelude.{All, Some, Result, Ok, Err}
 use Rattle.std.specs.Global.{Vec}
@@ -20,9 +20,10 @@ use Rattle.flow_eval.specs.declared.flow_table.FlowTable.{FlowTable}
 use Rattle.report.specs.FlowLines.{AppendsFlowLine, IsFlowLine}
 use Rattle.report.specs.declared.fault_lines.Fault.{Fault}
 use Rattle.command_answers.specs.CheckPromise.{AreAllAccepted}
-use Rattle.command_answers.specs.FlowsParts.{AnswersAccepted, AnswersLines, AnswersTables, AppendsLines, IsMissingOf, IsMissingOne, IsRefusedOf, IsRefusedOne, IsStopOf, missing_at}
+use Rattle.command_answers.specs.FlowsParts.{AnswersLines, AnswersTables, AppendsLines, IsMissingOne, IsRefusedOne, IsStopOf, missing_at}
 use Rattle.command_answers.specs.FlowsPromise.{AreLines, IsFirstNotAccepted, missing_of}
-use Rattle.command_answers.specs.Stopping.{AnswersBy}
+use Rattle.command_answers.specs.Stages.{IsMissingOf, IsRefusedOf, all_accepted}
+use Rattle.command_answers.specs.Stopping.{AnswersBy, AnswersStage}
 use Rattle.command_answers.specs.declared.stop.Stop.{Stop}
 use Rattle.command_answers.specs.declared.stop.Stop.TheVariants as stop
 use Rattle.command_answers.proofs.FlowsAreOne.{IsFixedEntry}
@@ -57,7 +58,7 @@ not_accepted_behind d entry entries name rule node a n = record {
   refused = n.refused;
 }
 
-pub accepted_behind : (d : Declarations) (entry : Name × Contract) (entries : List (Name × Contract)) (r : Result (Unit {0}) Stop) → IsAccepted d entry.1 → AnswersAccepted d entries r → AnswersAccepted d (entry ∷ entries) r
+pub accepted_behind : (d : Declarations) (entry : Name × Contract) (entries : List (Name × Contract)) (r : Result (Unit {0}) Stop) → IsAccepted d entry.1 → AnswersStage (all_accepted d entries) (λ (u : Unit {0}). tt) r → AnswersStage (all_accepted d (entry ∷ entries)) (λ (u : Unit {0}). tt) r
 accepted_behind d entry entries (Ok u) a rest = All-cons (IsAcceptedEntry d) entry entries a rest
 accepted_behind d entry entries (Err (stop.Fault f)) a rest =
     record { name = rest.name; rule = rest.rule; node = rest.node; first = not_accepted_behind d entry entries rest.name rest.rule rest.node a rest.first; fault_is = rest.fault_is }

@@ -1,18 +1,14 @@
--- A portfolio has one answer of `check`: each contract of it has one verdict, and the verdict one line.
+-- Contracts have one text of `check`: each has one verdict, and the verdict one line.
 use Rattle.std.proofs.Common.{◌≡◌, ◌∙◌, ℕ, List, [], ◌∷◌, ◌++◌, ap, pos, sym}
-use Rattle.std.specs.Prelude.{None}
 use Rattle.term_core.specs.declared.name.Name.{Name}
 use Rattle.term_core.specs.declared.rules.Rule.{Rule}
-use Rattle.term_core.specs.Books.{Book}
 use Rattle.term_core.specs.Declarations.{Declarations}
 use Rattle.term_core.specs.Terms.{Contract}
 use Rattle.term_core.specs.Acceptance.{Facts}
 use Rattle.term_core.proofs.RefusalFacts.{accepted_not_refused, refusals_unique}
 use Rattle.contract_check.proofs.CheckFacts.{facts_unique}
 use Rattle.report.specs.CheckLines.{accepted_line, refused_line}
-use Rattle.command_answers.specs.CheckPromise.{AreCheckLines, IsCheckLine, accepted, refused, IsCheckText, all_accepted, some_refused}
-use Rattle.command_answers.specs.UsedContracts.{used}
-use Rattle.command_answers.specs.declared.status.Status.{Status}
+use Rattle.command_answers.specs.CheckPromise.{AreCheckLines, IsCheckLine, accepted, refused}
 
 one_line : (d : Declarations) (name : List ℕ) (c : Contract) (l m : List ℕ) → IsCheckLine d name c l → IsCheckLine d name c m → l ≡ m
 one_line d name c l m (accepted f a right causal is) (accepted g b wrong also was) =
@@ -29,9 +25,3 @@ check_lines_one d (e ∷ es) t u is was =
     let first = one_line d e.0 e.1 is.0 was.0 is.2 was.2 in
     let rest = check_lines_one d es is.1 was.1 is.3 was.3 in
     is.4 ∙ ap (λ (x : List ℕ). x ++ is.1) first ∙ ap (λ (x : List ℕ). was.0 ++ x) rest ∙ sym was.4
-
-pub checked_one : (b : Book) (s r : Status) (t u : List ℕ) → IsCheckText b s t → IsCheckText b r u → (s ≡ r) × (t ≡ u)
-checked_one b s r t u (all_accepted e all is) (all_accepted f every was) = (e ∙ sym f, check_lines_one b.declarations (used None b) t u is was)
-checked_one b s r t u (all_accepted e all is) (some_refused f none was) = absurd (none all)
-checked_one b s r t u (some_refused e none is) (all_accepted f all was) = absurd (none all)
-checked_one b s r t u (some_refused e none is) (some_refused f nor was) = (e ∙ sym f, check_lines_one b.declarations (used None b) t u is was)

@@ -25,9 +25,10 @@ use Rattle.report.specs.declared.fault_lines.Fault.{Fault}
 use Rattle.report.specs.declared.fault_lines.Fault.TheVariants as fault
 use Rattle.command_words.specs.Commands.{PayoffAsked}
 use Rattle.command_answers.specs.FlowsParts.{IsRefusedOne}
-use Rattle.command_answers.specs.PayoffPromise.{IsAcceptedAtDefaults, IsPayoffText, StopsPayoff, name_unknown, not_accepted, code_asked, file_of}
+use Rattle.command_answers.specs.PayoffPromise.{IsAcceptedAtDefaults, code_asked, code_file_of, file_of}
+use Rattle.command_answers.specs.Stages.{IsRefusedNamed}
 use Rattle.command_answers.specs.UsedContracts.{at_defaults, contract_named}
-use Rattle.command_answers.specs.UsedParts.{IsNamed, NamesNone}
+use Rattle.command_answers.specs.UsedParts.{IsNamed}
 use Rattle.command_answers.specs.declared.used.Written.{Written}
 use Rattle.contract_parse.specs.ContractReading.{trees}
 
@@ -70,20 +71,14 @@ code_writable d c false closed accepted writable = (plain_writable d c (code_of 
 
 -- ---- the parts put together
 
-module _ (b : Book) (asked : PayoffAsked) where
-  pub name_stops : (f : Fault) → NamesNone b asked.contract f → StopsPayoff b asked f
-  name_stops f h = name_unknown h.none h.fault_is
+-- a refusal is that of the name that is asked for
+pub refused_named : (b : Book) (name : List ℕ) (one : Written) → IsNamed b name one → (f : Fault) → IsRefusedOne b.declarations (at_defaults b.declarations (one.name.now, contract one.contr.now)) f → IsRefusedNamed b.declarations name (contract one.contr.now) f
+refused_named b name one named f h =
+    record { rule = h.rule; node = h.node; refused = h.refused; fault_is = h.fault_is ∙ ap (λ (n : List ℕ). fault.Refused n h.rule h.node) named.same_name }
 
-  module _ (one : Written) (named : IsNamed b asked.contract one) where
-    pub contract_stops : (f : Fault) → IsRefusedOne b.declarations (at_defaults b.declarations (one.name.now, contract one.contr.now)) f → StopsPayoff b asked f
-    contract_stops f h =
-        not_accepted (contract one.contr.now) named.named h.rule h.node h.refused (h.fault_is ∙ ap (λ (n : List ℕ). fault.Refused n h.rule h.node) named.same_name)
-
-    pub whole_text : (code : PayoffCode) (text : List ℕ) → IsAcceptedAtDefaults b.declarations (contract one.contr.now) → code ≡ code_asked asked.plain (contract one.contr.now)
-        → IsCanonOfCode text (file_of b.declarations one.name.now code) → IsPayoffText b asked text
-    whole_text code text accepted same canon = record {
-      contr = contract one.contr.now;
-      can = record { named = named.named; accepted = accepted };
-      is_canon = subst (λ (f : CodeBook). IsCanonOfCode text f)
-          (ap (λ (n : List ℕ). file_of b.declarations n code) named.same_name ∙ ap (λ (k : PayoffCode). file_of b.declarations asked.contract k) same) canon;
-    }
+-- the text of the code is that of the file that is asked for
+pub canon_asked : (b : Book) (asked : PayoffAsked) (one : Written) (code : PayoffCode) (text : List ℕ) → IsNamed b asked.contract one → code ≡ code_asked asked.plain (contract one.contr.now)
+    → IsCanonOfCode text (file_of b.declarations one.name.now code) → IsCanonOfCode text (code_file_of b.declarations asked (contract one.contr.now))
+canon_asked b asked one code text named same canon =
+    subst (λ (f : CodeBook). IsCanonOfCode text f)
+    (ap (λ (n : List ℕ). file_of b.declarations n code) named.same_name ∙ ap (λ (k : PayoffCode). file_of b.declarations asked.contract k) same) canon

@@ -1,9 +1,16 @@
--- A fault that stops a part of a command stops the whole.
-use Rattle.std.proofs.Common.{◌≡◌, ◌∙◌, ap, subst, sym}
-use Rattle.std.specs.Prelude.{Result, Ok, Err, IsErrAnd}
+-- A fault that stops a part of a command stops the whole, and its line is the answer of the command.
+use Rattle.std.proofs.Common.{◌≡◌, ◌∙◌, ℕ, ap, subst, sym}
+use Rattle.std.specs.Prelude.{Result, Ok, Err, IsErrAnd, IfOk}
+use Rattle.std.specs.Global.{Vec}
 use Rattle.std.proofs.lemmas.Result.{err_from_is_err_and}
+use Rattle.decimal.specs.declared.errors.NoMemory.{NoMemory}
+use Rattle.report.specs.FaultLines.{fault_text}
 use Rattle.report.specs.declared.fault_lines.Fault.{Fault}
-use Rattle.command_answers.specs.Stopping.{AnswersBy}
+use Rattle.command_answers.specs.Course.{Course, Stage, Stops, Tells, stopped}
+use Rattle.command_answers.specs.Statuses.{status_of}
+use Rattle.command_answers.specs.Stopping.{AnswersBy, AnswersStage, Goes, GoesDone, IsAnswerOf}
+use Rattle.command_answers.specs.declared.answers.Answer.{Answer}
+use Rattle.command_answers.specs.declared.status.Status.TheVariants as status
 use Rattle.command_answers.specs.declared.stop.Stop.{Stop}
 use Rattle.command_answers.specs.declared.stop.Stop.TheVariants as stop
 
@@ -22,3 +29,25 @@ pub answers_too : {A : Type 0} (Good : A → Type 0) (Other : A → Type 0) (Sto
 answers_too Good Other Stopped Stops good pass (Ok a) h = good a h
 answers_too Good Other Stopped Stops good pass (Err (stop.Fault f)) h = pass f h
 answers_too Good Other Stopped Stops good pass (Err stop.NoMemory) h = tt
+
+-- the fault of a stage stops what is left of a course, in which it stands, that ends with Done
+pub hands_on_done : {A B : Type 0} (stage : Stage A) (view : B → A) (c : Course) → ((f : Fault) → stage.FaultIs f → Stops c f) → (e : Stop) (r : Result (Vec ℕ) Stop) → AnswersStage stage view (Err e) → IsErrAnd r (λ y. y ≡ e) → GoesDone c r
+hands_on_done stage view c pass e r h given =
+    handed_on (λ b. stage.Passes (view b)) (λ (text : Vec ℕ). Tells c status.Done text.items) stage.FaultIs (Stops c) pass e r h given
+
+-- what stops the rest of a course stops the whole
+pub hands_on_rest : (rest c : Course) → ((f : Fault) → Stops rest f → Stops c f) → (e : Stop) (r : Result Answer Stop) → GoesDone rest (Err e) → IsErrAnd r (λ y. y ≡ e) → Goes c r
+hands_on_rest rest c pass e r h given =
+    handed_on (λ (text : Vec ℕ). Tells rest status.Done text.items) (λ (answer : Answer). Tells c answer.status answer.text.items) (Stops rest) (Stops c) pass e r h given
+
+-- the line of a fault is the answer of a course that it stops
+pub line_answers : (c : Course) (f : Fault) (r : Result Answer NoMemory) → Stops c f → IfOk r (λ answer. answer.status ≡ status_of f) → IfOk r (λ answer. answer.text.items ≡ fault_text f)
+    → IfOk r (IsAnswerOf c)
+line_answers c f (Ok answer) h s t = stopped f h s t
+line_answers c f (Err e) h s t = tt
+
+-- want of memory stops every course
+pub lacks_memory : (c : Course) (r : Result Answer Stop) → IsErrAnd r (λ e. e ≡ stop.NoMemory) → Goes c r
+lacks_memory c r given =
+    let p = err_from_is_err_and r given in
+    subst (λ (x : Result Answer Stop). Goes c x) (sym (p.1 ∙ ap (λ (x : Stop). Err x) p.2)) tt

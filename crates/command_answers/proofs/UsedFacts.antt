@@ -19,7 +19,7 @@ use Rattle.term_core.proofs.InstanceFacts.{defaults_suit, instances_have_numbers
 use Rattle.contract_parse.specs.Texts.{Text}
 use Rattle.contract_parse.proofs.TextClosed.{contracts_closed}
 use Rattle.contract_parse.proofs.TextSizes.{nodes_fit}
-use Rattle.command_answers.specs.UsedContracts.{at_defaults, is_asked}
+use Rattle.command_answers.specs.UsedContracts.{at_defaults, is_asked, used}
 use Rattle.command_answers.specs.UsedParts.{IsSound, IsTriable, entries_of, entry_of}
 use Rattle.command_answers.specs.declared.used.Used.{Used}
 use Rattle.contract_parse.specs.ContractReading.{trees}
@@ -124,9 +124,17 @@ by_length : (b : Bool) (x : Name × Contract) (xs : List (Name × Contract)) (d 
 by_length true x xs d n h = omega arith
 by_length false x xs d n h = omega arith
 
-pub used_few : (only : Option (List ℕ)) (d : Declarations) (xs : List (Name × Contract)) → length (used_of only d xs) ≤ length xs
+used_few : (only : Option (List ℕ)) (d : Declarations) (xs : List (Name × Contract)) → length (used_of only d xs) ≤ length xs
 used_few only d [] = omega arith
 used_few only d (x ∷ xs) = by_length (is_asked only x.0) x (filter (λ entry. is_asked only entry.0) xs) d (length xs) (used_few only d xs)
+
+-- no more contracts are used than a portfolio has
+pub ones_few : (only : Option (List ℕ)) (b : Book) (ones : List Used) (most : ℕ) → entries_of ones ≡ used only b → length b.contracts ≤ most → length ones ≤ most
+ones_few only b ones most same few =
+    let kept : length (entries_of ones) ≡ length ones = length-map ones entry_of in
+    let as_many : length (entries_of ones) ≡ length (used only b) = ap (λ (es : List (Name × Contract)). length es) same in
+    let fewer : length (used only b) ≤ length b.contracts = used_few only b.declarations b.contracts in
+    omega (arith, kept, as_many, fewer, few)
 
 -- ---- names
 

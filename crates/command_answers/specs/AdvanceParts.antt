@@ -1,8 +1,6 @@
 -- What the parts of `advance` answer: the comments and the contracts that are left, behind those that were there before.
-use Rattle.std.specs.Prelude.{◌≡◌, ◌-◌, ℕ, pos, List, [], ◌∷◌, ◌++◌, Option, Result}
-use Rattle.std.specs.Global.{Vec}
+use Rattle.std.specs.Prelude.{◌≡◌, ◌-◌, ℕ, pos, List, [], ◌∷◌, ◌++◌, Result}
 use Rattle.term_core.specs.declared.name.Name.{Name}
-use Rattle.term_core.specs.Books.{Book}
 use Rattle.term_core.specs.Declarations.{Declarations}
 use Rattle.term_core.specs.Environments.{Environment}
 use Rattle.term_core.specs.Terms.{Contract}
@@ -10,10 +8,10 @@ use Rattle.contract_print.specs.Canon.{IsCanon}
 use Rattle.flow_eval.specs.FlowAnswers.{AreKnownFlows}
 use Rattle.flow_eval.specs.declared.flow_table.FlowRow.{FlowRow}
 use Rattle.advance_step.specs.Advancing.{IsResidual}
-use Rattle.command_answers.specs.AdvancePromise.{AreComments, AreDueLines, AreResiduals, IsAdvanceText, IsNewDay, StopsAdvance, greatest_new_day, last_gone, rest_declarations}
-use Rattle.command_words.specs.Commands.{AdvanceAsked}
-use Rattle.command_answers.specs.FlowsParts.{IsMissingOf, IsMissingOne, IsWordFault}
+use Rattle.command_answers.specs.AdvancePromise.{AreComments, AreDueLines, AreResiduals, IsNewDay, greatest_new_day, last_gone, rest_declarations}
+use Rattle.command_answers.specs.FlowsParts.{IsMissingOne}
 use Rattle.command_answers.specs.FlowsPromise.{AreAllFixed}
+use Rattle.command_answers.specs.Stages.{IsMissingOf, IsWordFault}
 use Rattle.command_answers.specs.Stopping.{AnswersBy}
 use Rattle.command_answers.specs.declared.advance_text.Left.{Left}
 use Rattle.command_answers.specs.declared.stop.Stop.{Stop}
@@ -67,7 +65,3 @@ pub record IsRestText (d : Declarations) (day : ℕ) (contracts : List (Name × 
   pub canon : List ℕ
   pub is_canon : IsCanon canon (record { declarations = rest_declarations d day; contracts = contracts })
   pub is : text ≡ due ++ canon
-
--- the whole answer, or what stops the command
-abbrev pub AnswersAdvance : Book → AdvanceAsked → Option (List ℕ) → Result (Vec ℕ) Stop → Type 0
-AnswersAdvance b asked table r = AnswersBy (λ text. IsAdvanceText b asked table text.items) (StopsAdvance b asked table) r

@@ -1,28 +1,22 @@
 -- What the command `advance` says of a portfolio over fixings and a new day: for each contract in order, at the numbers that
 -- the templates are declared with, a line for each row of its flow table from the start to the day before the new one, each
 -- line a comment; and then the canonical text of a portfolio that stands on the new day, with what is left of each contract
--- under its name. Or what stops it, in this order: a day that is out of range, a contract that is refused, a row that is
--- refused, a read of the days gone by that is not fixed.
-use Rattle.std.specs.Prelude.{◌≡◌, ◌≤◌, ◌-◌, ◌-ℤ◌, ℕ, ℤ, pos, List, [], ◌∷◌, ◌++◌, Option, Some, None, Ok, codes}
+-- under its name.
+use Rattle.std.specs.Prelude.{◌≡◌, ◌≤◌, ◌-◌, ◌-ℤ◌, ℕ, ℤ, pos, List, [], ◌∷◌, ◌++◌, Option, None, Ok, codes}
 use Rattle.term_core.specs.declared.name.Name.{Name}
-use Rattle.term_core.specs.declared.rules.Rule.{Rule}
 use Rattle.term_core.specs.Books.{Book}
 use Rattle.term_core.specs.Declarations.{Declarations}
-use Rattle.term_core.specs.Environments.{Environment, Place}
+use Rattle.term_core.specs.Environments.{Environment}
 use Rattle.term_core.specs.Terms.{Contract}
 use Rattle.contract_print.specs.Canon.{IsCanon}
 use Rattle.fixing_files.specs.Days.{day_of}
-use Rattle.fixing_files.specs.Tables.{IsFirstFault, table_of}
-use Rattle.fixing_files.specs.declared.faults.RowFault.{RowFault}
 use Rattle.flow_eval.specs.FlowAnswers.{AreKnownFlows}
 use Rattle.flow_eval.specs.declared.flow_table.FlowRow.{FlowRow}
 use Rattle.advance_step.specs.Advancing.{IsResidual}
 use Rattle.report.specs.FlowLines.{IsFlowLine}
-use Rattle.report.specs.declared.fault_lines.Fault.{Fault}
-use Rattle.report.specs.declared.fault_lines.Fault.TheVariants as fault
 use Rattle.command_answers.specs.CheckPromise.{AreAllAccepted}
 use Rattle.command_words.specs.Commands.{AdvanceAsked}
-use Rattle.command_answers.specs.FlowsPromise.{AreAllFixed, AreFixings, IsFirstMissing, IsFirstNotAccepted, IsOutOfRange, label_name}
+use Rattle.command_answers.specs.FlowsPromise.{AreAllFixed, AreFixings}
 use Rattle.command_answers.specs.UsedContracts.{used}
 
 -- ---- the new day
@@ -36,10 +30,6 @@ pub record IsNewDay (d : Declarations) (word : List ℕ) (day : ℕ) : Type 0 wh
   pub named : day_of d.origin word ≡ Ok (pos day)
   pub no_sooner : d.start ≤ day
   pub no_later : day ≤ 1_000_000
-
--- a word is a date where there is no origin, or names a day before the start or above the greatest
-abbrev pub IsNoNewDay : Declarations → List ℕ → Type 0
-IsNoNewDay d word = IsOutOfRange d greatest_new_day word
 
 -- the last of the days gone by
 abbrev pub last_gone : ℕ → ℤ
@@ -98,11 +88,8 @@ pub record CanAdvance (b : Book) (asked : AdvanceAsked) (table : Option (List �
   pub are_fixings : AreFixings b.declarations table fixings
   pub fixed : AreAllFixed b.declarations fixings (last_gone day) (used None b)
 
--- the whole answer
-pub record IsAdvanceText (b : Book) (asked : AdvanceAsked) (table : Option (List ℕ)) (text : List ℕ) : Type 0 where
-  pub day : ℕ
-  pub fixings : Environment
-  pub can : CanAdvance b asked table day fixings
+-- what is due before a day, and the text of what is left on it
+pub record IsAdvanced (b : Book) (day : ℕ) (fixings : Environment) (text : List ℕ) : Type 0 where
   pub due : List ℕ
   pub are_due : AreDueLines b.declarations fixings (last_gone day) (used None b) due
   pub rest : Book
@@ -111,19 +98,9 @@ pub record IsAdvanceText (b : Book) (asked : AdvanceAsked) (table : Option (List
   pub is_canon : IsCanon canon rest
   pub is : text ≡ due ++ canon
 
--- what stops it
-pub data StopsAdvance (b : Book) (asked : AdvanceAsked) (table : Option (List ℕ)) (f : Fault) : Type 0 where
-  day_out : IsNoNewDay b.declarations asked.to → f ≡ fault.Day asked.to → StopsAdvance b asked table f
-  not_accepted :
-      (day : ℕ) → IsNewDay b.declarations asked.to day
-      → (name : List ℕ) (rule : Rule) (node : ℕ) → IsFirstNotAccepted b.declarations (used None b) name rule node
-      → f ≡ fault.Refused name rule node → StopsAdvance b asked table f
-  row_refused :
-      (day : ℕ) → IsNewDay b.declarations asked.to day → AreAllAccepted b.declarations (used None b)
-      → (bytes : List ℕ) → table ≡ Some bytes → (row : RowFault) → IsFirstFault b.declarations (table_of bytes) row → f ≡ fault.Row 2 row
-      → StopsAdvance b asked table f
-  read_missing :
-      (day : ℕ) → IsNewDay b.declarations asked.to day → AreAllAccepted b.declarations (used None b)
-      → (fixings : Environment) → AreFixings b.declarations table fixings
-      → (place : Place) → IsFirstMissing b.declarations fixings (last_gone day) (used None b) place
-      → f ≡ fault.Missing (label_name b.declarations place.label) place.day → StopsAdvance b asked table f
+-- the whole answer
+pub record IsAdvanceText (b : Book) (asked : AdvanceAsked) (table : Option (List ℕ)) (text : List ℕ) : Type 0 where
+  pub day : ℕ
+  pub fixings : Environment
+  pub can : CanAdvance b asked table day fixings
+  pub advanced : IsAdvanced b day fixings text

@@ -1,7 +1,7 @@
 -- What the command `check` writes of a portfolio: for each contract in its order, at the numbers that the templates are
 -- declared with, a line with the facts of the contract where it is accepted, and so is causal, or with the rule that
 -- refuses it and the first node at which that fails.
-use Rattle.std.specs.Prelude.{◌≡◌, ℕ, pos, List, [], ◌∷◌, ◌++◌, None}
+use Rattle.std.specs.Prelude.{◌≡◌, ◌⊎◌, ℕ, pos, List, [], ◌∷◌, ◌++◌, None}
 use Rattle.std.specs.List.{All}
 use Rattle.term_core.specs.declared.name.Name.{Name}
 use Rattle.term_core.specs.declared.rules.Rule.{Rule}
@@ -31,11 +31,12 @@ AreCheckLines d (entry ∷ entries) text =
 abbrev pub AreAllAccepted : Declarations → List (Name × Contract) → Type 0
 AreAllAccepted d entries = All (λ entry. IsAccepted d entry.1) entries
 
+-- the verdict on a portfolio: all of its contracts are accepted, or some are not
+abbrev pub Verdict : Book → Status → Type 0
+Verdict b s =
+    ((s ≡ status.Done) × AreAllAccepted b.declarations (used None b))
+    ⊎ ((s ≡ status.Refused) × (AreAllAccepted b.declarations (used None b) → ⊥))
+
 -- the status and the text of `check` of a portfolio: it has the lines of all contracts also where some are refused
-pub data IsCheckText (b : Book) (s : Status) (text : List ℕ) : Type 0 where
-  all_accepted :
-      s ≡ status.Done → AreAllAccepted b.declarations (used None b) → AreCheckLines b.declarations (used None b) text
-      → IsCheckText b s text
-  some_refused :
-      s ≡ status.Refused → (AreAllAccepted b.declarations (used None b) → ⊥) → AreCheckLines b.declarations (used None b) text
-      → IsCheckText b s text
+abbrev pub IsCheckText : Book → Status → List ℕ → Type 0
+IsCheckText b s text = Verdict b s × AreCheckLines b.declarations (used None b) text

@@ -3,14 +3,11 @@ use Rattle.std.specs.Prelude.{◌≡◌, ◌⊎◌, ◌≤◌, ◌≤ℤ◌, ℕ
 use Rattle.std.specs.Global.{Vec}
 use Rattle.term_core.specs.declared.name.Name.{Name}
 use Rattle.term_core.specs.declared.rules.Rule.{Rule}
-use Rattle.term_core.specs.Books.{Book}
 use Rattle.term_core.specs.Declarations.{Declarations}
 use Rattle.term_core.specs.Environments.{Environment, IsAdmitted, Place}
 use Rattle.term_core.specs.Terms.{Contract}
 use Rattle.term_core.specs.Acceptance.{IsAccepted, IsRefusal}
-use Rattle.fixing_files.specs.Tables.{IsFirstFault, table_of}
 use Rattle.fixing_files.specs.declared.days.DayFault.{DayFault}
-use Rattle.fixing_files.specs.declared.faults.RowFault.{RowFault}
 use Rattle.flow_eval.specs.FlowAnswers.{AreKnownFlows}
 use Rattle.flow_eval.specs.declared.faults.FlowErr.{FlowErr}
 use Rattle.flow_eval.specs.declared.faults.FlowErr.TheVariants as flow
@@ -18,9 +15,8 @@ use Rattle.flow_eval.specs.declared.flow_table.FlowRow.{FlowRow}
 use Rattle.flow_eval.specs.declared.flow_table.FlowTable.{FlowTable}
 use Rattle.report.specs.declared.fault_lines.Fault.{Fault}
 use Rattle.report.specs.declared.fault_lines.Fault.TheVariants as fault
-use Rattle.command_words.specs.Commands.{FlowsAsked}
-use Rattle.command_answers.specs.CheckPromise.{AreAllAccepted}
-use Rattle.command_answers.specs.FlowsPromise.{AreAllFixed, AreAllLines, AreFixings, AreLines, AreLinesAsked, IsFirstMissing, IsDayAsked, IsFirstNotAccepted, IsFlowsText, IsLastDay, IsOutOfRange, StopsFlows, greatest_day, label_name, missing_of}
+use Rattle.command_answers.specs.FlowsPromise.{AreAllFixed, AreAllLines, AreFixings, AreLines, AreLinesAsked, IsDayAsked, IsLastDay, label_name, missing_of}
+use Rattle.command_answers.specs.Stages.{IsDayFault, IsMissingOf, IsRowFault, IsWordFault}
 use Rattle.command_answers.specs.Stopping.{AnswersBy}
 use Rattle.command_answers.specs.declared.stop.Stop.{Stop}
 use Rattle.command_answers.specs.declared.stop.Stop.TheVariants as stop
@@ -37,11 +33,6 @@ abbrev pub day_in_range : Declarations → ℤ → Result ℤ DayFault → Optio
 day_in_range d greatest (Ok day) = if int_le (pos d.start) day && int_le day greatest then Some day else None
 day_in_range d greatest (Err fault) = None
 
--- a word names no day in range, and the fault says so
-pub record IsWordFault (d : Declarations) (greatest : ℤ) (word : List ℕ) (f : Fault) : Type 0 where
-  pub out : IsOutOfRange d greatest word
-  pub fault_is : f ≡ fault.Day word
-
 -- the day of a word
 abbrev pub AnswersDay : Declarations → ℤ → List ℕ → Result ℤ Stop → Type 0
 AnswersDay d greatest word r = AnswersBy (IsDayAsked d greatest word) (IsWordFault d greatest word) r
@@ -50,12 +41,6 @@ pub record CanBeLast (d : Declarations) (until : Option (List ℕ)) (last : ℤ)
   pub is_last : IsLastDay d until last
   pub first : pos 0 ≤ℤ last
   pub within : last ≤ℤ pos 1_100_000
-
-pub record IsDayFault (d : Declarations) (until : Option (List ℕ)) (f : Fault) : Type 0 where
-  pub word : List ℕ
-  pub given : until ≡ Some word
-  pub out : IsOutOfRange d greatest_day word
-  pub fault_is : f ≡ fault.Day word
 
 abbrev pub AnswersLastDay : Declarations → Option (List ℕ) → Result ℤ Stop → Type 0
 AnswersLastDay d until r = AnswersBy (CanBeLast d until) (IsDayFault d until) r
@@ -66,15 +51,8 @@ pub record HoldsFixings (d : Declarations) (table : Option (List ℕ)) (fixings 
   pub are_fixings : AreFixings d table fixings
   pub admitted : IsAdmitted d fixings
 
-pub record IsRowFault (d : Declarations) (table : Option (List ℕ)) (f : Fault) : Type 0 where
-  pub bytes : List ℕ
-  pub named : table ≡ Some bytes
-  pub row : RowFault
-  pub first : IsFirstFault d (table_of bytes) row
-  pub fault_is : f ≡ fault.Row 2 row
-
 abbrev pub AnswersFixings : Declarations → Option (List ℕ) → Result Environment Stop → Type 0
-AnswersFixings d table r = AnswersBy (HoldsFixings d table) (IsRowFault d table) r
+AnswersFixings d table r = AnswersBy (HoldsFixings d table) (IsRowFault d table 2) r
 
 -- ---- acceptance
 
@@ -84,18 +62,8 @@ pub record IsRefusedOne (d : Declarations) (entry : Name × Contract) (f : Fault
   pub refused : IsRefusal d entry.1 rule node
   pub fault_is : f ≡ fault.Refused entry.0 rule node
 
-pub record IsRefusedOf (d : Declarations) (entries : List (Name × Contract)) (f : Fault) : Type 0 where
-  pub name : List ℕ
-  pub rule : Rule
-  pub node : ℕ
-  pub first : IsFirstNotAccepted d entries name rule node
-  pub fault_is : f ≡ fault.Refused name rule node
-
 abbrev pub AnswersAcceptedOne : Declarations → Name × Contract → Result (Unit {0}) Stop → Type 0
 AnswersAcceptedOne d entry r = AnswersBy (λ _. IsAccepted d entry.1) (IsRefusedOne d entry) r
-
-abbrev pub AnswersAccepted : Declarations → List (Name × Contract) → Result (Unit {0}) Stop → Type 0
-AnswersAccepted d entries r = AnswersBy (λ _. AreAllAccepted d entries) (IsRefusedOf d entries) r
 
 -- ---- flow lines
 
@@ -117,11 +85,6 @@ IsStopOf d flow.NoMemory s = s ≡ stop.NoMemory
 pub record IsMissingOne (d : Declarations) (fixings : Environment) (last : ℤ) (c : Contract) (f : Fault) : Type 0 where
   pub place : Place
   pub missing : missing_of d fixings last c ≡ Some place
-  pub fault_is : f ≡ fault.Missing (label_name d place.label) place.day
-
-pub record IsMissingOf (d : Declarations) (fixings : Environment) (last : ℤ) (entries : List (Name × Contract)) (f : Fault) : Type 0 where
-  pub place : Place
-  pub first : IsFirstMissing d fixings last entries place
   pub fault_is : f ≡ fault.Missing (label_name d place.label) place.day
 
 -- the flow table of a contract
@@ -167,8 +130,3 @@ pub record AppendsTables (d : Declarations) (fixings : Environment) (last : ℤ)
 abbrev pub AnswersTables : Declarations → Environment → ℤ → List (Name × Contract) → List FlowTable → Result (Vec FlowTable) Stop → Type 0
 AnswersTables d fixings last entries before r =
     AnswersBy (λ tables. AppendsTables d fixings last entries before tables.items) (IsMissingOf d fixings last entries) r
-
--- ---- the whole answer, or what stops the command
-
-abbrev pub AnswersFlows : Book → FlowsAsked → Option (List ℕ) → Result (Vec ℕ) Stop → Type 0
-AnswersFlows b flows table r = AnswersBy (λ text. IsFlowsText b flows table text.items) (StopsFlows b flows table) r

@@ -1,12 +1,10 @@
 -- What the command `flows` says of a portfolio over fixings: for each contract that is asked for, in order and at the
 -- numbers that the templates are declared with, a line for each row of its flow table from the start to a last day, or in
--- their place the lines of what these contracts pay together; or what stops it, in this order: a name that is no
--- contract's, a day that is out of range, a contract that is refused, a row that is refused, a read that is not fixed.
+-- their place the lines of what these contracts pay together.
 use Rattle.std.specs.Prelude.{◌≡◌, ◌≤ℤ◌, ◌<ℤ◌, ℕ, ℤ, pos, Bool, true, false, List, [], ◌∷◌, ◌++◌, Option, Some, None, Ok, Err, codes, map, slice_get}
 use Rattle.std.specs.List.{All}
 use Rattle.term_core.specs.declared.name.Name.{Name}
 use Rattle.term_core.specs.declared.rules.Rule.{Rule}
-use Rattle.term_core.specs.Books.{Book}
 use Rattle.term_core.specs.Declarations.{Declarations}
 use Rattle.term_core.specs.Environments.{Environment, Extends, Place}
 use Rattle.term_core.specs.Flows.{Flow}
@@ -14,20 +12,15 @@ use Rattle.term_core.specs.Terms.{Contract}
 use Rattle.term_core.specs.Acceptance.{IsRefusal}
 use Rattle.term_core.specs.Reads.{first_unfixed}
 use Rattle.fixing_files.specs.Days.{day_of}
-use Rattle.fixing_files.specs.Tables.{Holds, IsFirstFault, table_of}
+use Rattle.fixing_files.specs.Tables.{Holds, table_of}
 use Rattle.fixing_files.specs.declared.days.DayFault.TheVariants.{NoOrigin}
-use Rattle.fixing_files.specs.declared.faults.RowFault.{RowFault}
 use Rattle.flow_eval.specs.Readiness.{last_day}
 use Rattle.flow_eval.specs.FlowAnswers.{AreKnownFlows, reads_until}
 use Rattle.flow_eval.specs.Tables.{IsTable, paid_by}
 use Rattle.flow_eval.specs.declared.flow_table.FlowRow.{FlowRow}
 use Rattle.report.specs.FlowLines.{IsFlowLine}
 use Rattle.report.specs.SumTables.{together}
-use Rattle.report.specs.declared.fault_lines.Fault.{Fault}
-use Rattle.report.specs.declared.fault_lines.Fault.TheVariants as fault
 use Rattle.command_answers.specs.CheckPromise.{AreAllAccepted}
-use Rattle.command_words.specs.Commands.{FlowsAsked}
-use Rattle.command_answers.specs.UsedContracts.{is_known, used}
 
 -- the greatest day that can be asked for
 abbrev pub greatest_day : ℤ
@@ -118,45 +111,3 @@ pub record AreSumLines (d : Declarations) (fixings : Environment) (last : ℤ)
 abbrev pub AreLinesAsked : Bool → Declarations → Environment → ℤ → List (Name × Contract) → List ℕ → Type 0
 AreLinesAsked false d fixings last entries text = AreAllLines d fixings last entries text
 AreLinesAsked true d fixings last entries text = AreSumLines d fixings last entries text
-
--- the words name a contract of the portfolio, where they name one, and a day in range
-pub record WordsFit (b : Book) (flows : FlowsAsked) (last : ℤ) : Type 0 where
-  pub known : is_known flows.contract b ≡ true
-  pub is_last : IsLastDay b.declarations flows.until last
-
--- nothing stops the command: the contracts are accepted, the rows are taken and each read is fixed
-pub record CanListFlows (b : Book) (flows : FlowsAsked) (table : Option (List ℕ)) (last : ℤ) (fixings : Environment) : Type 0 where
-  pub fit : WordsFit b flows last
-  pub accepted : AreAllAccepted b.declarations (used flows.contract b)
-  pub are_fixings : AreFixings b.declarations table fixings
-  pub fixed : AreAllFixed b.declarations fixings last (used flows.contract b)
-
--- the whole answer
-pub record IsFlowsText (b : Book) (flows : FlowsAsked) (table : Option (List ℕ)) (text : List ℕ) : Type 0 where
-  pub last : ℤ
-  pub fixings : Environment
-  pub can : CanListFlows b flows table last fixings
-  pub lines : AreLinesAsked flows.net b.declarations fixings last (used flows.contract b) text
-
--- what stops it
-pub data StopsFlows (b : Book) (flows : FlowsAsked) (table : Option (List ℕ)) (f : Fault) : Type 0 where
-  name_unknown :
-      (name : List ℕ) → flows.contract ≡ Some name → is_known flows.contract b ≡ false → f ≡ fault.UnknownName name
-      → StopsFlows b flows table f
-  day_out :
-      is_known flows.contract b ≡ true
-      → (word : List ℕ) → flows.until ≡ Some word → IsOutOfRange b.declarations greatest_day word → f ≡ fault.Day word
-      → StopsFlows b flows table f
-  not_accepted :
-      (last : ℤ) → WordsFit b flows last
-      → (name : List ℕ) (rule : Rule) (node : ℕ) → IsFirstNotAccepted b.declarations (used flows.contract b) name rule node
-      → f ≡ fault.Refused name rule node → StopsFlows b flows table f
-  row_refused :
-      (last : ℤ) → WordsFit b flows last → AreAllAccepted b.declarations (used flows.contract b)
-      → (bytes : List ℕ) → table ≡ Some bytes → (row : RowFault) → IsFirstFault b.declarations (table_of bytes) row → f ≡ fault.Row 2 row
-      → StopsFlows b flows table f
-  read_missing :
-      (last : ℤ) → WordsFit b flows last → AreAllAccepted b.declarations (used flows.contract b)
-      → (fixings : Environment) → AreFixings b.declarations table fixings
-      → (place : Place) → IsFirstMissing b.declarations fixings last (used flows.contract b) place
-      → f ≡ fault.Missing (label_name b.declarations place.label) place.day → StopsFlows b flows table f

@@ -1,18 +1,12 @@
 -- What the parts of `payoff` answer, each that of its own or the fault that stops the command.
 use Rattle.std.specs.Prelude.{ℕ, List, Result}
-use Rattle.std.specs.Global.{Vec}
 use Rattle.term_core.specs.Books.{Book}
-use Rattle.command_words.specs.Commands.{PayoffAsked}
-use Rattle.command_answers.specs.PayoffPromise.{IsPayoffText, StopsPayoff}
+use Rattle.command_answers.specs.Stages.{NamesNone}
 use Rattle.command_answers.specs.Stopping.{AnswersBy}
-use Rattle.command_answers.specs.UsedParts.{IsNamed, NamesNone}
+use Rattle.command_answers.specs.UsedParts.{IsNamed}
 use Rattle.command_answers.specs.declared.stop.Stop.{Stop}
 use Rattle.command_answers.specs.declared.used.Written.{Written}
 
 -- the contract of a name
 abbrev pub AnswersNamed : Book → List ℕ → Result Written Stop → Type 0
 AnswersNamed b name r = AnswersBy (IsNamed b name) (NamesNone b name) r
-
--- the whole answer, or what stops the command
-abbrev pub AnswersPayoff : Book → PayoffAsked → Result (Vec ℕ) Stop → Type 0
-AnswersPayoff b asked r = AnswersBy (λ text. IsPayoffText b asked text.items) (StopsPayoff b asked) r

@@ -1,8 +1,7 @@
 -- What the command `payoff` says of the named contract of a portfolio: the canonical text of a code file that has the
 -- portfolio's declarations and the contract's name, and for code the cut code of the contract as it is written, with the names
--- of its templates, or its plain code where that is asked. Or what stops it, in this order: a name that is no contract's, and
--- a contract that is refused at the numbers that the templates are declared with.
-use Rattle.std.specs.Prelude.{◌≡◌, ℕ, Bool, true, false, List, Some, None}
+-- of its templates, or its plain code where that is asked.
+use Rattle.std.specs.Prelude.{◌≡◌, ℕ, Bool, true, false, List, Some}
 use Rattle.term_core.specs.declared.rules.Rule.{Rule}
 use Rattle.term_core.specs.Acceptance.{IsAccepted, IsRefusal}
 use Rattle.term_core.specs.Books.{Book}
@@ -13,8 +12,6 @@ use Rattle.payoff_lang.specs.Code.{PayoffCode}
 use Rattle.payoff_lang.specs.CodeBooks.{CodeBook}
 use Rattle.payoff_lang.specs.CodeCanon.{IsCanonOfCode}
 use Rattle.payoff_lang.specs.Compiled.{code_of, cut_code}
-use Rattle.report.specs.declared.fault_lines.Fault.{Fault}
-use Rattle.report.specs.declared.fault_lines.Fault.TheVariants as fault
 use Rattle.command_words.specs.Commands.{PayoffAsked}
 use Rattle.command_answers.specs.UsedContracts.{contract_named}
 
@@ -48,11 +45,3 @@ pub record IsPayoffText (b : Book) (asked : PayoffAsked) (text : List ℕ) : Typ
   pub contr : Contract
   pub can : CanCompile b asked contr
   pub is_canon : IsCanonOfCode text (code_file_of b.declarations asked contr)
-
--- what stops it
-pub data StopsPayoff (b : Book) (asked : PayoffAsked) (f : Fault) : Type 0 where
-  name_unknown : contract_named asked.contract b ≡ None → f ≡ fault.UnknownName asked.contract → StopsPayoff b asked f
-  not_accepted :
-      (c : Contract) → contract_named asked.contract b ≡ Some c
-      → (rule : Rule) (node : ℕ) → IsRefusedAtDefaults b.declarations c rule node → f ≡ fault.Refused asked.contract rule node
-      → StopsPayoff b asked f

@@ -1,34 +1,27 @@
 -- What the parts of `value` answer, each that of its own or the fault that stops the command.
-use Rattle.std.specs.Prelude.{◌≡◌, ◌≤◌, ◌<◌, ◌+◌, ◌^◌, ℕ, ℤ, List, Option, Some, None, Result, length, unsigned_abs}
-use Rattle.std.specs.Global.{Vec}
+use Rattle.std.specs.Prelude.{◌≡◌, ◌≤◌, ◌<◌, ◌^◌, ℕ, ℤ, List, Option, Some, None, Result, unsigned_abs}
 use Rattle.term_core.specs.Declarations.{Declarations}
 use Rattle.term_core.specs.Environments.{Environment, Place}
 use Rattle.term_core.specs.Factors.{CurveRow}
 use Rattle.term_core.specs.Flows.{Flow}
-use Rattle.term_core.specs.declared.rules.Rule.{Rule}
 use Rattle.contract_parse.specs.Names.{index_in}
-use Rattle.fixing_files.specs.CurveTables.{HoldsCurve, IsFirstCurveFault}
-use Rattle.fixing_files.specs.Tables.{Holds, table_of}
-use Rattle.fixing_files.specs.declared.faults.RowFault.{RowFault}
-use Rattle.payoff_lang.specs.CodeAcceptance.{IsAcceptedCode, IsCodeRefusal}
+use Rattle.payoff_lang.specs.CodeAcceptance.{IsAcceptedCode}
 use Rattle.payoff_lang.specs.CodeBooks.{CodeBook, code_book}
 use Rattle.payoff_lang.specs.CodeFiles.{CodeText}
 use Rattle.payoff_lang.specs.CodeSizes.{height_of_code, nodes_of_code}
 use Rattle.payoff_lang.specs.WellFormedCode.{IsClosedCode}
 use Rattle.payoff_lang.specs.declared.code_file.CodeFile.{CodeFile}
 use Rattle.payoff_eval.specs.Questions.{HasNumberForEach, IsQuestion}
-use Rattle.report.specs.ValueLines.{value_text}
 use Rattle.report.specs.declared.fault_lines.Fault.{Fault}
 use Rattle.report.specs.declared.fault_lines.Fault.TheVariants as fault
-use Rattle.command_words.specs.Commands.{Between, ValueAsked}
-use Rattle.command_answers.specs.FlowsParts.{IsRowFault}
-use Rattle.command_answers.specs.FlowsPromise.{label_name}
+use Rattle.command_words.specs.Commands.{Between}
+use Rattle.command_answers.specs.Course.{Course, behind, tells}
+use Rattle.command_answers.specs.Stages.{IsMissingOfCode, accepted_code, code_fixed, curve_of, fixed_by}
 use Rattle.command_answers.specs.Stopping.{AnswersBy}
-use Rattle.command_answers.specs.ValuePromise.{AreBetween, IsValue, IsValueText, StopsValue, ValueInputs, first_unknown, first_unknown_of, missing_of_code, names_between, names_set, question}
+use Rattle.command_answers.specs.ValuePromise.{AreBetween, IsValue, IsWorth, first_unknown_of, missing_of_code, names_between, names_set, question}
 use Rattle.command_answers.specs.declared.stop.Stop.{Stop}
 use Rattle.command_answers.specs.declared.value_names.Parties.{Parties}
 use Rattle.command_answers.specs.declared.value_text.Asking.{Asking}
-use Rattle.command_answers.specs.declared.value_inputs.ValueInputs.{ValueInputs as Kept}
 
 -- ---- the names
 
@@ -40,14 +33,14 @@ pub record IsUndeclared (names : List (List ℕ)) (word : List ℕ) (f : Fault) 
   pub absent : index_in names word ≡ None
   pub fault_is : f ≡ fault.UnknownName word
 
--- the fault names the first name that is not declared
-pub record IsFirstUnknown (first : List ℕ → Type 0) (f : Fault) : Type 0 where
+-- the fault names a name that is the first of some that is not declared
+pub record NamesUnknown (first : List ℕ → Type 0) (f : Fault) : Type 0 where
   pub name : List ℕ
   pub is_first : first name
   pub fault_is : f ≡ fault.UnknownName name
 
 abbrev pub IsUnknownBetween : Declarations → Between → Fault → Type 0
-IsUnknownBetween d between f = IsFirstUnknown (λ name. first_unknown_of (names_between d between) ≡ Some name) f
+IsUnknownBetween d between f = NamesUnknown (λ name. first_unknown_of (names_between d between) ≡ Some name) f
 
 abbrev pub AnswersParties : Declarations → Between → Result Parties Stop → Type 0
 AnswersParties d between r = AnswersBy (λ parties. AreBetween d between (flow_of parties)) (IsUnknownBetween d between) r
@@ -56,23 +49,11 @@ abbrev pub SettingsAreKnown : Declarations → List (List ℕ × ℕ) → Type 0
 SettingsAreKnown d settings = first_unknown_of (names_set d settings) ≡ None
 
 abbrev pub IsUnknownSetting : Declarations → List (List ℕ × ℕ) → Fault → Type 0
-IsUnknownSetting d settings f = IsFirstUnknown (λ name. first_unknown_of (names_set d settings) ≡ Some name) f
+IsUnknownSetting d settings f = NamesUnknown (λ name. first_unknown_of (names_set d settings) ≡ Some name) f
 
 -- nothing, where the names of all settings are declared; else the first that is not
 abbrev pub AnswersSettings : Declarations → List (List ℕ × ℕ) → Result (Unit {0}) Stop → Type 0
 AnswersSettings d settings r = AnswersBy (λ _. SettingsAreKnown d settings) (IsUnknownSetting d settings) r
-
--- all names are declared, and these are the parties and the asset
-pub record KnowsNames (d : Declarations) (asked : ValueAsked) (parties : Parties) : Type 0 where
-  pub between : AreBetween d asked.between (flow_of parties)
-  pub known : first_unknown d asked ≡ None
-
-abbrev pub IsUnknownOfValue : Declarations → ValueAsked → Fault → Type 0
-IsUnknownOfValue d asked f = IsFirstUnknown (λ name. first_unknown d asked ≡ Some name) f
-
--- the parties and the asset, where all names are declared; else the first that is not
-abbrev pub AnswersNames : Declarations → ValueAsked → Result Parties Stop → Type 0
-AnswersNames d asked r = AnswersBy (KnowsNames d asked) (IsUnknownOfValue d asked) r
 
 -- ---- the code, and the tables
 
@@ -108,31 +89,9 @@ pub record MayAsk (q : Inquiry) : Type 0 where
   pub accepted : IsAcceptedCode q.book.declarations q.setting q.book.code
   pub is_question : IsQuestionOf q
 
--- the code is refused at a setting, and the fault says by which rule and where
-pub record IsRefusedCode (b : CodeBook) (setting : List ℕ) (f : Fault) : Type 0 where
-  pub rule : Rule
-  pub node : ℕ
-  pub refusal : IsCodeRefusal b.declarations setting b.code rule node
-  pub fault_is : f ≡ fault.Refused b.name rule node
-
-abbrev pub AnswersAcceptedCode : CodeBook → List ℕ → Result (Unit {0}) Stop → Type 0
-AnswersAcceptedCode b setting r = AnswersBy (λ _. IsAcceptedCode b.declarations setting b.code) (IsRefusedCode b setting) r
-
--- a row of the curve is refused, and the fault says which
-pub record IsCurveFault (bytes : List ℕ) (f : Fault) : Type 0 where
-  pub row : RowFault
-  pub first : IsFirstCurveFault (table_of bytes) row
-  pub fault_is : f ≡ fault.Row 3 row
-
 -- the first read of the code that is not fixed
 abbrev pub missing_by : Inquiry → Environment → List CurveRow → Option Place
 missing_by q fixings curve = missing_of_code q.book.declarations q.book.code q.setting fixings (question q.day curve q.flow)
-
--- a read is not fixed, and the fault names the first
-pub record IsMissingBy (q : Inquiry) (fixings : Environment) (curve : List CurveRow) (f : Fault) : Type 0 where
-  pub place : Place
-  pub first : missing_by q fixings curve ≡ Some place
-  pub fault_is : f ≡ fault.Missing (label_name q.book.declarations place.label) place.day
 
 -- what the code is worth, where each read is fixed
 pub record IsValueOver (q : Inquiry) (fixings : Environment) (curve : List CurveRow) (amount : ℤ) : Type 0 where
@@ -140,63 +99,25 @@ pub record IsValueOver (q : Inquiry) (fixings : Environment) (curve : List Curve
   pub is_value : IsValue q.book q.setting fixings (question q.day curve q.flow) amount
   pub small : unsigned_abs amount ≤ 10 ^ 37
 
+-- a read is not fixed, and the fault names the first
+abbrev pub IsMissingBy : Inquiry → Environment → List CurveRow → Fault → Type 0
+IsMissingBy q fixings curve f = IsMissingOfCode q.book q.setting fixings (question q.day curve q.flow) f
+
 abbrev pub AnswersValueOver : Inquiry → Environment → List CurveRow → Result ℤ Stop → Type 0
 AnswersValueOver q fixings curve r = AnswersBy (IsValueOver q fixings curve) (IsMissingBy q fixings curve) r
 
--- the line of a value, over fixings and the curve of a table
-pub record TellsByCurve (q : Inquiry) (fixings : Environment) (bytes text : List ℕ) : Type 0 where
-  pub curve : List CurveRow
-  pub is_curve : HoldsCurve (table_of bytes) curve
-  pub amount : ℤ
-  pub worth : IsValueOver q fixings curve amount
-  pub line : text ≡ value_text amount (q.book.declarations.amounts + 9)
+-- ---- what is left of the course of `value`, behind its names and its day
 
-pub data StopsByCurve (q : Inquiry) (fixings : Environment) (bytes : List ℕ) (f : Fault) : Type 0 where
-  no_curve : IsCurveFault bytes f → StopsByCurve q fixings bytes f
-  no_read : (curve : List CurveRow) → HoldsCurve (table_of bytes) curve → IsMissingBy q fixings curve f → StopsByCurve q fixings bytes f
+-- behind the fixings
+abbrev pub by_curve : Inquiry → Environment → List ℕ → Course
+by_curve q fixings curve =
+    behind (curve_of curve 3) (λ factors.
+    behind (code_fixed q.book q.setting fixings (question q.day factors q.flow)) (λ _.
+    tells (IsWorth q.book q.setting fixings (question q.day factors q.flow))))
 
-abbrev pub AnswersByCurve : Inquiry → Environment → List ℕ → Result (Vec ℕ) Stop → Type 0
-AnswersByCurve q fixings bytes r = AnswersBy (λ text. TellsByCurve q fixings bytes text.items) (StopsByCurve q fixings bytes) r
+-- behind the setting, at which the code is accepted
+abbrev pub by_tables : Inquiry → List ℕ → List ℕ → Course
+by_tables q table curve = behind (fixed_by q.book.declarations (Some table) 2) (λ fixings. by_curve q fixings curve)
 
--- the same over the fixings of another table
-pub record TellsByTables (q : Inquiry) (inputs : ValueInputs) (text : List ℕ) : Type 0 where
-  pub fixings : Environment
-  pub are_fixings : Holds q.book.declarations (table_of inputs.fixings) fixings
-  pub by_curve : TellsByCurve q fixings inputs.curve text
-
-pub data StopsByTables (q : Inquiry) (inputs : ValueInputs) (f : Fault) : Type 0 where
-  no_row : IsRowFault q.book.declarations (Some inputs.fixings) f → StopsByTables q inputs f
-  by_curve :
-      (fixings : Environment) → Holds q.book.declarations (table_of inputs.fixings) fixings → StopsByCurve q fixings inputs.curve f
-      → StopsByTables q inputs f
-
-abbrev pub AnswersByTables : Inquiry → ValueInputs → Result (Vec ℕ) Stop → Type 0
-AnswersByTables q inputs r = AnswersBy (λ text. TellsByTables q inputs text.items) (StopsByTables q inputs) r
-
--- the same where the code is accepted at the setting
-pub record TellsAtSetting (q : Inquiry) (inputs : ValueInputs) (text : List ℕ) : Type 0 where
-  pub accepted : IsAcceptedCode q.book.declarations q.setting q.book.code
-  pub by_tables : TellsByTables q inputs text
-
-pub data StopsAtSetting (q : Inquiry) (inputs : ValueInputs) (f : Fault) : Type 0 where
-  no_code : IsRefusedCode q.book q.setting f → StopsAtSetting q inputs f
-  by_tables : IsAcceptedCode q.book.declarations q.setting q.book.code → StopsByTables q inputs f → StopsAtSetting q inputs f
-
-abbrev pub AnswersAtSetting : Inquiry → ValueInputs → Result (Vec ℕ) Stop → Type 0
-AnswersAtSetting q inputs r = AnswersBy (λ text. TellsAtSetting q inputs text.items) (StopsAtSetting q inputs) r
-
--- the whole answer, or what stops the command
-abbrev pub AnswersValue : CodeBook → ValueAsked → ValueInputs → Result (Vec ℕ) Stop → Type 0
-AnswersValue b asked inputs r = AnswersBy (λ text. IsValueText b asked inputs text.items) (StopsValue b asked inputs) r
-
--- ---- the files
-
--- no file is longer than the limit
-pub record AreShortForValue (inputs : ValueInputs) : Type 0 where
-  pub code : length inputs.code ≤ 16_777_216
-  pub fixings : length inputs.fixings ≤ 16_777_216
-  pub curve : length inputs.curve ≤ 16_777_216
-
--- the bytes that a program keeps of the files of `value`
-abbrev pub value_inputs_by : Kept → ValueInputs
-value_inputs_by inputs = record { code = inputs.code.items; fixings = inputs.fixings.items; curve = inputs.curve.items }
+abbrev pub at_setting : Inquiry → List ℕ → List ℕ → Course
+at_setting q table curve = behind (accepted_code q.book q.setting) (λ _. by_tables q table curve)

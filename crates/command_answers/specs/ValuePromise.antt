@@ -1,38 +1,26 @@
 -- What the command `value` says of a code file over fixings and discount factors: the line of what the code is worth on a day,
--- from one party to another in an asset, at the numbers that are set for templates and the declared ones of the others; or
--- what stops it, in this order: a name that is not declared, a day that is out of range, code that is refused, a row of the
--- fixings or of the curve that is refused, a read that is not fixed.
+-- from one party to another in an asset, at the numbers that are set for templates and the declared ones of the others.
 use Rattle.std.specs.Prelude.{◌≡◌, ◌+◌, ℕ, ℤ, pos, List, [], ◌∷◌, ◌++◌, Option, Some, None, find, is_none, map, option_map, unwrap_or}
 use Rattle.std.specs.Map.{keys_of, lookup}
 use Rattle.std.specs.Str.{bytes_eq}
-use Rattle.term_core.specs.declared.rules.Rule.{Rule}
 use Rattle.term_core.specs.Declarations.{Declarations}
 use Rattle.term_core.specs.Environments.{Environment, Extends, Place}
 use Rattle.term_core.specs.Factors.{CurveRow}
 use Rattle.term_core.specs.Flows.{Flow}
 use Rattle.term_core.specs.Reads.{first_unfixed}
 use Rattle.contract_parse.specs.Names.{index_in}
-use Rattle.fixing_files.specs.CurveTables.{HoldsCurve, IsFirstCurveFault}
-use Rattle.fixing_files.specs.Tables.{Holds, IsFirstFault, table_of}
-use Rattle.fixing_files.specs.declared.faults.RowFault.{RowFault}
+use Rattle.fixing_files.specs.CurveTables.{HoldsCurve}
+use Rattle.fixing_files.specs.Tables.{Holds, table_of}
 use Rattle.payoff_lang.specs.Code.{PayoffCode}
-use Rattle.payoff_lang.specs.CodeAcceptance.{IsAcceptedCode, IsCodeRefusal}
+use Rattle.payoff_lang.specs.CodeAcceptance.{IsAcceptedCode}
 use Rattle.payoff_lang.specs.CodeBooks.{CodeBook}
 use Rattle.payoff_lang.specs.CodeReads.{reads_of_code}
 use Rattle.payoff_lang.specs.CodeValues.{Asked as Question}
 use Rattle.payoff_lang.specs.Meaning.{face_value}
 use Rattle.payoff_eval.specs.CodeAnswers.{aligned_value}
 use Rattle.report.specs.ValueLines.{value_text}
-use Rattle.report.specs.declared.fault_lines.Fault.{Fault}
-use Rattle.report.specs.declared.fault_lines.Fault.TheVariants as fault
 use Rattle.command_words.specs.Commands.{Between, ValueAsked}
-use Rattle.command_answers.specs.FlowsPromise.{IsDayAsked, IsOutOfRange, greatest_day, label_name}
-
--- the bytes of the files of `value`
-pub record ValueInputs : Type 0 where
-  pub code : List ℕ
-  pub fixings : List ℕ
-  pub curve : List ℕ
+use Rattle.command_answers.specs.FlowsPromise.{IsDayAsked, greatest_day}
 
 -- ---- the setting
 
@@ -90,16 +78,16 @@ missing_of_code d k setting fixings asks = first_unfixed fixings (reads_of_code 
 
 -- nothing stops the command: names are known, the day is in range, the code is accepted, the rows are taken and each read is
 -- fixed
-pub record CanValue (b : CodeBook) (asked : ValueAsked) (inputs : ValueInputs) : Type 0 where
+pub record CanValue (b : CodeBook) (asked : ValueAsked) (table curve_table : List ℕ) : Type 0 where
   pub day : ℤ
   pub fit : WordsFitCode b.declarations asked day
   pub flow : Flow
   pub between : AreBetween b.declarations asked.between flow
   pub accepted : IsAcceptedCode b.declarations (setting_by b.declarations asked.settings) b.code
   pub fixings : Environment
-  pub are_fixings : Holds b.declarations (table_of inputs.fixings) fixings
+  pub are_fixings : Holds b.declarations (table_of table) fixings
   pub curve : List CurveRow
-  pub is_curve : HoldsCurve (table_of inputs.curve) curve
+  pub is_curve : HoldsCurve (table_of curve_table) curve
   pub fixed : missing_of_code b.declarations b.code (setting_by b.declarations asked.settings) fixings (question day curve flow) ≡ None
 
 -- the value, at nine decimals more than amounts, the same in every environment that extends the fixings
@@ -107,35 +95,13 @@ abbrev pub IsValue : CodeBook → List ℕ → Environment → Question → ℤ 
 IsValue b setting fixings asks m =
     (env : Environment) → Extends fixings env → aligned_value b.declarations b.code env setting asks (pos b.declarations.start) ≡ m
 
--- the whole answer
-pub record IsValueText (b : CodeBook) (asked : ValueAsked) (inputs : ValueInputs) (text : List ℕ) : Type 0 where
-  pub can : CanValue b asked inputs
+-- the line of the value
+pub record IsWorth (b : CodeBook) (setting : List ℕ) (fixings : Environment) (asks : Question) (text : List ℕ) : Type 0 where
   pub amount : ℤ
-  pub is_value : IsValue b (setting_by b.declarations asked.settings) can.fixings (question can.day can.curve can.flow) amount
+  pub is_value : IsValue b setting fixings asks amount
   pub line : text ≡ value_text amount (b.declarations.amounts + 9)
 
--- what stops it
-pub data StopsValue (b : CodeBook) (asked : ValueAsked) (inputs : ValueInputs) (f : Fault) : Type 0 where
-  name_unknown : (name : List ℕ) → first_unknown b.declarations asked ≡ Some name → f ≡ fault.UnknownName name → StopsValue b asked inputs f
-  day_out :
-      first_unknown b.declarations asked ≡ None → IsOutOfRange b.declarations greatest_day asked.at → f ≡ fault.Day asked.at
-      → StopsValue b asked inputs f
-  not_accepted :
-      (day : ℤ) → WordsFitCode b.declarations asked day
-      → (rule : Rule) (node : ℕ) → IsCodeRefusal b.declarations (setting_by b.declarations asked.settings) b.code rule node
-      → f ≡ fault.Refused b.name rule node → StopsValue b asked inputs f
-  row_refused :
-      (day : ℤ) → WordsFitCode b.declarations asked day → IsAcceptedCode b.declarations (setting_by b.declarations asked.settings) b.code
-      → (row : RowFault) → IsFirstFault b.declarations (table_of inputs.fixings) row → f ≡ fault.Row 2 row → StopsValue b asked inputs f
-  curve_refused :
-      (day : ℤ) → WordsFitCode b.declarations asked day → IsAcceptedCode b.declarations (setting_by b.declarations asked.settings) b.code
-      → (fixings : Environment) → Holds b.declarations (table_of inputs.fixings) fixings
-      → (row : RowFault) → IsFirstCurveFault (table_of inputs.curve) row → f ≡ fault.Row 3 row → StopsValue b asked inputs f
-  read_missing :
-      (day : ℤ) → WordsFitCode b.declarations asked day → IsAcceptedCode b.declarations (setting_by b.declarations asked.settings) b.code
-      → (fixings : Environment) → Holds b.declarations (table_of inputs.fixings) fixings
-      → (curve : List CurveRow) → HoldsCurve (table_of inputs.curve) curve
-      → (flow : Flow) → AreBetween b.declarations asked.between flow
-      → (place : Place)
-      → missing_of_code b.declarations b.code (setting_by b.declarations asked.settings) fixings (question day curve flow) ≡ Some place
-      → f ≡ fault.Missing (label_name b.declarations place.label) place.day → StopsValue b asked inputs f
+-- the whole answer
+pub record IsValueText (b : CodeBook) (asked : ValueAsked) (table curve_table text : List ℕ) : Type 0 where
+  pub can : CanValue b asked table curve_table
+  pub worth : IsWorth b (setting_by b.declarations asked.settings) can.fixings (question can.day can.curve can.flow) text

@@ -1,7 +1,9 @@
 //! Contracts that are accepted, or what stops a command that uses one that is not.
 
 ghost use Rattle.term_core.specs.Declarations.{declarations};
-ghost use Rattle.command_answers.specs.FlowsParts.{AnswersAccepted, AnswersAcceptedOne};
+ghost use Rattle.command_answers.specs.FlowsParts.{AnswersAcceptedOne};
+ghost use Rattle.command_answers.specs.Stages.{all_accepted};
+ghost use Rattle.command_answers.specs.Stopping.{AnswersStage};
 ghost use Rattle.command_answers.specs.UsedParts.{AreTriable, IsTriable, entries_of, entry_of};
 
 use crate::check_text::verdict;
@@ -32,7 +34,7 @@ pub fn accept(alloc: Global, decls: &Decls, one: &Used<'_>) -> Result<(), Stop>
 /// Stops at the first contract that is not accepted.
 pub fn accept_all(alloc: Global, decls: &Decls, ones: &[Used<'_>]) -> Result<(), Stop>
     requires { AreTriable (declarations decls.now) (entries_of ones.now) }
-    ensures { AnswersAccepted (declarations decls.now) (entries_of ones.now) result }
+    ensures { AnswersStage (all_accepted (declarations decls.now) (entries_of ones.now)) (λ _. tt) result }
 {
     for one in ones {
         accept(alloc, decls, one)?;

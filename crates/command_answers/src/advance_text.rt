@@ -12,11 +12,13 @@ ghost use Rattle.contract_print.specs.Spellable.{are_names};
 ghost use Rattle.contract_print.specs.Writable.{IsWritableTerm};
 ghost use Rattle.flow_eval.specs.Readiness.{last_day};
 ghost use Rattle.flow_eval.specs.Tables.{IsDueRow};
-ghost use Rattle.command_answers.specs.AdvanceParts.{AnswersAdvance, AnswersNewDay, AnswersRest, AnswersRests, AppendsComments, AppendsDue, IsRestText};
+ghost use Rattle.command_answers.specs.AdvanceCourse.{advance_on};
+ghost use Rattle.command_answers.specs.AdvanceParts.{AnswersNewDay, AnswersRest, AnswersRests, AppendsComments, AppendsDue, IsRestText};
 ghost use Rattle.command_answers.specs.AdvancePromise.{rest_declarations};
 ghost use Rattle.command_answers.specs.CheckPromise.{AreAllAccepted};
 ghost use Rattle.command_answers.specs.FlowsParts.{IsShortTable};
 ghost use Rattle.command_words.specs.Arguments.{given_text};
+ghost use Rattle.command_answers.specs.Stopping.{GoesDone};
 ghost use Rattle.command_answers.specs.UsedParts.{AreTriable, HasSoundContracts, IsTriable, entries_of, entry_of};
 ghost use Rattle.command_words.specs.Words.{advance_by};
 ghost use Rattle.contract_parse.specs.ContractReading.{trees};
@@ -179,7 +181,7 @@ pub fn advance_text(
     requires sound { HasSoundContracts (book portfolio.now) }
     requires names { are_names (keys_of (book portfolio.now).contracts) ≡ true }
     requires table { IsShortTable (given_text table) }
-    ensures { AnswersAdvance (book portfolio.now) (advance_by asked.now) (given_text table.entry) result }
+    ensures { GoesDone (advance_on (advance_by asked.now) (book portfolio.now) (given_text table.entry)) result }
 {
     let day = new_day(alloc, &portfolio.decls, asked.to)?;
     let ones = used_contracts(alloc, portfolio, None)?;

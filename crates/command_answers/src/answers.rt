@@ -1,41 +1,33 @@
-//! What a run answers: the text that it is to write, and the status with which it then ends.
+//! What a command answers to the bytes of its files: the text that a run is to write, and the status with which it then ends.
 
-ghost use Rattle.std.specs.Prelude.{◌≡◌, ◌≤◌, length, option_map, IfOk};
-ghost use Rattle.contract_parse.specs.Texts.{Text};
+ghost use Rattle.std.specs.Prelude.{◌≡◌, IfOk};
 ghost use Rattle.report.specs.FaultLines.{fault_text};
-ghost use Rattle.sample.specs.Summary.{IsSummary};
-ghost use Rattle.term_core.specs.Books.{book};
-ghost use Rattle.command_answers.specs.AnswerParts.{AnswersBytes, AreShort, inputs_by};
-ghost use Rattle.command_answers.specs.FilesPromise.{IsBadText};
-ghost use Rattle.command_answers.specs.CheckPromise.{IsCheckText};
 ghost use Rattle.command_words.specs.Arguments.{given_text};
+ghost use Rattle.command_words.specs.Words.{advance_by, flows_by, payoff_by, requested_by, value_by};
+ghost use Rattle.command_answers.specs.AdvanceCourse.{advance_course};
+ghost use Rattle.command_answers.specs.CheckCourse.{check_course};
+ghost use Rattle.command_answers.specs.Courses.{course_of, sample_course};
+ghost use Rattle.command_answers.specs.FlowsCourse.{flows_course, table_named};
+ghost use Rattle.command_answers.specs.Inputs.{AreShort, bytes_of};
+ghost use Rattle.command_answers.specs.PayoffCourse.{payoff_course};
 ghost use Rattle.command_answers.specs.Statuses.{status_of};
-ghost use Rattle.command_answers.specs.Stopping.{AnswersBy};
-ghost use Rattle.command_answers.specs.UsedParts.{HasSoundContracts};
-ghost use Rattle.command_words.specs.Words.{asked_by};
-ghost use Rattle.command_answers.specs.declared.status.Status.TheVariants.{Done as done};
+ghost use Rattle.command_answers.specs.Stopping.{Goes};
+ghost use Rattle.command_answers.specs.ValueCourse.{value_course};
 
 use crate::advance_text::advance_text;
 use crate::check_text::check_text;
 use crate::flows_text::flows_text;
+use crate::inputs::{code_of, file_at, portfolio_of};
 use crate::payoff_text::payoff_text;
 use crate::status::{Status, status_of};
 use crate::stop::Stop;
 use crate::used::used_contracts;
-use command_words::{Command, SampleSize};
-use contract_parse::{ParseErr, parse_portfolio};
+use crate::value_text::value_text;
+use command_words::{Advance, Flows, Payoff, Request, SampleSize, Value};
 use decimal::NoMemory;
 use report::{Fault, fault_line};
 use sample::summary;
 use std::alloc::Global;
-use term_core::Portfolio;
-
-/// The bytes of a command's files.
-#[derive(Drop)]
-pub struct Inputs {
-    pub portfolio: Vec<u8>,
-    pub fixings: Option<Vec<u8>>,
-}
 
 /// A text, and the status of a run that has written it.
 #[derive(Drop)]
@@ -55,24 +47,13 @@ pub fn fault_answer(alloc: Global, fault: &Fault) -> Result<Answer, NoMemory>
     Ok(Answer { status, text })
 }
 
-// The portfolio of a text.
-fn portfolio_of(alloc: Global, bytes: &[u8]) -> Result<Portfolio, Stop>
-    requires { length bytes.now ≤ 16_777_216 }
-    ensures { AnswersBy (λ portfolio. Text bytes.now (book portfolio)) (IsBadText bytes.now) result }
-{
-    match parse_portfolio(alloc, bytes) {
-        Ok(portfolio) => Ok(portfolio),
-        Err(ParseErr::Text(fault)) => Err(Stop::Fault(Fault::Text(fault))),
-        Err(ParseErr::NoMemory) => Err(Stop::NoMemory),
-    }
-}
-
 // The verdicts on the contracts of a portfolio.
-fn check_answer(alloc: Global, portfolio: &Portfolio) -> Result<Answer, NoMemory>
-    requires { HasSoundContracts (book portfolio.now) }
-    ensures { IfOk result (λ answer. IsCheckText (book portfolio.now) answer.status answer.text.items) }
+fn check_answer(alloc: Global, inputs: &[Vec<u8>]) -> Result<Answer, Stop>
+    requires { AreShort (bytes_of inputs.now) }
+    ensures { Goes (check_course (bytes_of inputs.now)) result }
 {
-    let ones = used_contracts(alloc, portfolio, None)?;
+    let portfolio = portfolio_of(alloc, file_at(inputs, 0))?;
+    let ones = used_contracts(alloc, &portfolio, None)?;
     let check = check_text(alloc, &portfolio.decls, &ones)?;
     let status = if check.all_accepted {
         Status::Done
@@ -85,10 +66,72 @@ fn check_answer(alloc: Global, portfolio: &Portfolio) -> Result<Answer, NoMemory
     })
 }
 
-/// The summary of the sample of so many contracts, or out of memory.
-pub fn sample_answer(alloc: Global, size: SampleSize) -> Result<Answer, NoMemory>
-    ensures status { IfOk result (λ answer. answer.status ≡ done) }
-    ensures text { IfOk result (λ answer. IsSummary size.contracts answer.text.items) }
+// The table of the fixings, if the words name one: the second file.
+fn table_named<'a>(asked: &Flows<'_>, inputs: &'a [Vec<u8>]) -> Option<&'a [u8]>
+    ensures { given_text result ≡ table_named (flows_by asked.now) (bytes_of inputs.entry.now) }
+{
+    match asked.fixings {
+        Some(_) => Some(file_at(inputs, 1)),
+        None => None,
+    }
+}
+
+// The flow lines of a portfolio.
+fn flows_answer(alloc: Global, asked: &Flows<'_>, inputs: &[Vec<u8>]) -> Result<Answer, Stop>
+    requires { AreShort (bytes_of inputs.now) }
+    ensures { Goes (flows_course (flows_by asked.now) (bytes_of inputs.now)) result }
+{
+    let portfolio = portfolio_of(alloc, file_at(inputs, 0))?;
+    let table = table_named(asked, inputs);
+    let text = flows_text(alloc, &portfolio, asked, table)?;
+    Ok(Answer {
+        status: Status::Done,
+        text,
+    })
+}
+
+// What is due of a portfolio before a day, and what is left of it then.
+fn advance_answer(alloc: Global, asked: &Advance<'_>, inputs: &[Vec<u8>]) -> Result<Answer, Stop>
+    requires { AreShort (bytes_of inputs.now) }
+    ensures { Goes (advance_course (advance_by asked.now) (bytes_of inputs.now)) result }
+{
+    let portfolio = portfolio_of(alloc, file_at(inputs, 0))?;
+    let text = advance_text(alloc, &portfolio, asked, Some(file_at(inputs, 1)))?;
+    Ok(Answer {
+        status: Status::Done,
+        text,
+    })
+}
+
+// The code of a contract of a portfolio.
+fn payoff_answer(alloc: Global, asked: &Payoff<'_>, inputs: &[Vec<u8>]) -> Result<Answer, Stop>
+    requires { AreShort (bytes_of inputs.now) }
+    ensures { Goes (payoff_course (payoff_by asked.now) (bytes_of inputs.now)) result }
+{
+    let portfolio = portfolio_of(alloc, file_at(inputs, 0))?;
+    let text = payoff_text(alloc, &portfolio, asked)?;
+    Ok(Answer {
+        status: Status::Done,
+        text,
+    })
+}
+
+// The line of what a code file is worth.
+fn value_answer(alloc: Global, asked: &Value<'_>, inputs: &[Vec<u8>]) -> Result<Answer, Stop>
+    requires { AreShort (bytes_of inputs.now) }
+    ensures { Goes (value_course (value_by asked.now) (bytes_of inputs.now)) result }
+{
+    let file = code_of(alloc, file_at(inputs, 0))?;
+    let text = value_text(alloc, &file, asked, file_at(inputs, 1), file_at(inputs, 2))?;
+    Ok(Answer {
+        status: Status::Done,
+        text,
+    })
+}
+
+// The summary of the sample of so many contracts.
+fn sample_answer(alloc: Global, size: SampleSize) -> Result<Answer, Stop>
+    ensures { Goes (sample_course size.contracts) result }
 {
     let text = summary(alloc, size.contracts)?;
     Ok(Answer {
@@ -97,48 +140,22 @@ pub fn sample_answer(alloc: Global, size: SampleSize) -> Result<Answer, NoMemory
     })
 }
 
-fn lent(table: &Option<Vec<u8>>) -> Option<&[u8]>
-    ensures { given_text result ≡ option_map (λ bytes. bytes.items) table.now }
+/// What a command answers to the bytes of its files, none of them longer than 16,777,216: what it tells at the end of its course,
+/// or the fault of the first stage that stops it, or out of memory.
+pub fn answer_request(
+    alloc: Global,
+    request: &Request<'_>,
+    inputs: &[Vec<u8>],
+) -> Result<Answer, Stop>
+    requires { AreShort (bytes_of inputs.now) }
+    ensures { Goes (course_of (requested_by request.now) (bytes_of inputs.now)) result }
 {
-    match table {
-        Some(bytes) => Some(bytes.as_slice()),
-        None => None,
-    }
-}
-
-/// What a command answers to the bytes of its files, none of them longer than 16,777,216. It stops at a text that does not parse
-/// as a portfolio, an unknown name, a day out of range, a refused contract, a bad row or a missing fixing.
-pub fn answer_bytes(alloc: Global, command: &Command<'_>, inputs: &Inputs) -> Result<Answer, Stop>
-    requires { AreShort (inputs_by inputs.now) }
-    ensures { AnswersBytes (asked_by command.now) (inputs_by inputs.now) result }
-{
-    let portfolio = portfolio_of(alloc, &inputs.portfolio)?;
-    let table = lent(&inputs.fixings);
-    match command {
-        Command::Check { .. } => {
-            let answer = check_answer(alloc, &portfolio)?;
-            Ok(answer)
-        }
-        Command::Flows(flows) => {
-            let text = flows_text(alloc, &portfolio, flows, table)?;
-            Ok(Answer {
-                status: Status::Done,
-                text,
-            })
-        }
-        Command::Advance(advance) => {
-            let text = advance_text(alloc, &portfolio, advance, table)?;
-            Ok(Answer {
-                status: Status::Done,
-                text,
-            })
-        }
-        Command::Payoff(payoff) => {
-            let text = payoff_text(alloc, &portfolio, payoff)?;
-            Ok(Answer {
-                status: Status::Done,
-                text,
-            })
-        }
+    match request {
+        Request::Check { .. } => check_answer(alloc, inputs),
+        Request::Flows(asked) => flows_answer(alloc, asked, inputs),
+        Request::Advance(asked) => advance_answer(alloc, asked, inputs),
+        Request::Payoff(asked) => payoff_answer(alloc, asked, inputs),
+        Request::Value(asked) => value_answer(alloc, asked, inputs),
+        Request::Sample(size) => sample_answer(alloc, *size),
     }
 }

@@ -10,9 +10,11 @@ ghost use Rattle.term_core.specs.Terms.{contract};
 ghost use Rattle.flow_eval.specs.Readiness.{last_day};
 ghost use Rattle.flow_eval.specs.Tables.{IsDueRow};
 ghost use Rattle.command_answers.specs.CheckPromise.{AreAllAccepted};
-ghost use Rattle.command_answers.specs.FlowsParts.{AnswersFlows, AnswersLastDay, AnswersLines, AnswersLinesAsked, AnswersTable, AnswersTables, AppendsLines, IsShortTable};
-ghost use Rattle.command_words.specs.Arguments.{given_text};
+ghost use Rattle.command_answers.specs.FlowsCourse.{flows_on};
+ghost use Rattle.command_answers.specs.FlowsParts.{AnswersLastDay, AnswersLines, AnswersLinesAsked, AnswersTable, AnswersTables, AppendsLines, IsShortTable};
+ghost use Rattle.command_answers.specs.Stopping.{GoesDone};
 ghost use Rattle.command_answers.specs.UsedParts.{HasSoundContracts, entries_of};
+ghost use Rattle.command_words.specs.Arguments.{given_text};
 ghost use Rattle.command_words.specs.Words.{flows_by};
 
 use crate::accepting::accept_all;
@@ -175,7 +177,7 @@ pub fn flows_text(
     requires sound { HasSoundContracts (book portfolio.now) }
     requires few { length (book portfolio.now).contracts ≤ 16_777_216 }
     requires table { IsShortTable (given_text table) }
-    ensures { AnswersFlows (book portfolio.now) (flows_by asked.now) (given_text table.entry) result }
+    ensures { GoesDone (flows_on (flows_by asked.now) (book portfolio.now) (given_text table.entry)) result }
 {
     know(alloc, portfolio, asked.contract)?;
     let last = last_day(alloc, &portfolio.decls, asked.until)?;

@@ -8,7 +8,6 @@ ghost use Rattle.command_answers.specs.FlowsParts.{AnswersDay, AnswersFixings, I
 ghost use Rattle.command_answers.specs.FlowsPromise.{label_name};
 ghost use Rattle.command_words.specs.Arguments.{given_text};
 
-use crate::check_text::verdict;
 use crate::stop::Stop;
 use command_words::DayWord;
 use decimal::NoMemory;

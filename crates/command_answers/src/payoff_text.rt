@@ -12,8 +12,9 @@ ghost use Rattle.payoff_lang.specs.CodeBooks.{code_book};
 ghost use Rattle.payoff_lang.specs.CodeCanon.{IsCanonOfCode};
 ghost use Rattle.payoff_lang.specs.WritableCode.{IsWritableCode};
 ghost use Rattle.command_answers.specs.FlowsParts.{AnswersAcceptedOne};
-ghost use Rattle.command_answers.specs.PayoffParts.{AnswersPayoff};
+ghost use Rattle.command_answers.specs.PayoffCourse.{payoff_on};
 ghost use Rattle.command_answers.specs.PayoffPromise.{IsAcceptedAtDefaults, code_asked, file_of};
+ghost use Rattle.command_answers.specs.Stopping.{GoesDone};
 ghost use Rattle.command_answers.specs.UsedContracts.{at_defaults};
 ghost use Rattle.command_answers.specs.UsedParts.{HasSoundContracts, IsSound};
 ghost use Rattle.command_words.specs.Words.{payoff_by};
@@ -91,7 +92,7 @@ pub fn payoff_text(
 ) -> Result<Vec<u8>, Stop>
     requires sound { HasSoundContracts (book portfolio.now) }
     requires writable { All (λ entry. IsWritableTerm entry.1) (book portfolio.now).contracts }
-    ensures { AnswersPayoff (book portfolio.now) (payoff_by asked.now) result }
+    ensures { GoesDone (payoff_on (payoff_by asked.now) (book portfolio.now)) result }
 {
     let one = contract_named(alloc, portfolio, asked.contract)?;
     accept_at_defaults(alloc, &portfolio.decls, &one)?;

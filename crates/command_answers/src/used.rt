@@ -8,7 +8,9 @@ ghost use Rattle.term_core.specs.Terms.{contract};
 ghost use Rattle.command_words.specs.Arguments.{given_text};
 ghost use Rattle.command_answers.specs.PayoffParts.{AnswersNamed};
 ghost use Rattle.command_answers.specs.UsedContracts.{is_asked, used};
-ghost use Rattle.command_answers.specs.UsedParts.{AnswersKnown, AreTriable, HasSoundContracts, entries_of, tree_of};
+ghost use Rattle.command_answers.specs.Stages.{known};
+ghost use Rattle.command_answers.specs.Stopping.{AnswersStage};
+ghost use Rattle.command_answers.specs.UsedParts.{AreTriable, HasSoundContracts, entries_of, tree_of};
 
 use crate::stop::Stop;
 use decimal::NoMemory;
@@ -98,7 +100,7 @@ pub fn used_contracts<'a>(
 
 /// Stops at a name that is that of no contract.
 pub fn know(alloc: Global, portfolio: &Portfolio, only: Option<&str>) -> Result<(), Stop>
-    ensures { AnswersKnown (book portfolio.now) (given_text only.entry) result }
+    ensures { AnswersStage (known (book portfolio.now) (given_text only.entry)) (λ _. tt) result }
 {
     let Some(word) = only else {
         return Ok(());

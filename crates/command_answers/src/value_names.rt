@@ -5,9 +5,10 @@ ghost use Rattle.indexmap.specs.IndexSet.{index_set_len};
 ghost use Rattle.term_core.specs.Declarations.{declarations};
 ghost use Rattle.contract_parse.specs.Names.{index_in};
 ghost use Rattle.command_words.specs.Words.{between_by, value_by};
-ghost use Rattle.command_answers.specs.Stopping.{AnswersBy};
+ghost use Rattle.command_answers.specs.Stages.{names_of_value};
+ghost use Rattle.command_answers.specs.Stopping.{AnswersBy, AnswersStage};
 ghost use Rattle.command_answers.specs.ValuePromise.{setting_by};
-ghost use Rattle.command_answers.specs.ValueParts.{AnswersNames, AnswersParties, AnswersSettings, IsUndeclared};
+ghost use Rattle.command_answers.specs.ValueParts.{AnswersParties, AnswersSettings, IsUndeclared, flow_of};
 
 use crate::stop::Stop;
 use command_words::{Between, Value};
@@ -64,7 +65,7 @@ fn know_settings(alloc: Global, decls: &Decls, settings: &IndexMap<Name, u32>) -
 
 /// The parties and the asset, where these and the templates that are set are declared.
 pub fn know_names(alloc: Global, decls: &Decls, value: &Value<'_>) -> Result<Parties, Stop>
-    ensures { AnswersNames (declarations decls.now) (value_by value.now) result }
+    ensures { AnswersStage (names_of_value (declarations decls.now) (value_by value.now)) flow_of result }
 {
     let parties = parties_of(alloc, decls, &value.between)?;
     know_settings(alloc, decls, &value.settings)?;

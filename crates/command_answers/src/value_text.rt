@@ -11,12 +11,13 @@ ghost use Rattle.payoff_eval.specs.Questions.{HasNumberForEach};
 ghost use Rattle.report.specs.ValueLines.{value_text};
 ghost use Rattle.command_words.specs.Words.{value_by};
 ghost use Rattle.command_answers.specs.FlowsParts.{IsStopOf};
-ghost use Rattle.command_answers.specs.Stopping.{AnswersBy};
-ghost use Rattle.command_answers.specs.ValueParts.{AnswersAcceptedCode, AnswersAtSetting, AnswersByCurve, AnswersByTables, AnswersValue, AnswersValueOver, AreShortForValue, IsCurveFault, IsQuestionOf, IsReadable, MayAsk, inquiry_of, value_inputs_by};
+ghost use Rattle.command_answers.specs.Stages.{IsCurveFault, accepted_code};
+ghost use Rattle.command_answers.specs.Stopping.{AnswersBy, AnswersStage, GoesDone};
+ghost use Rattle.command_answers.specs.ValueCourse.{value_on};
+ghost use Rattle.command_answers.specs.ValueParts.{AnswersValueOver, IsQuestionOf, IsReadable, MayAsk, at_setting, by_curve, by_tables, inquiry_of};
 
 use crate::over_fixings::{day_asked, fixings_of, stop_of};
 use crate::stop::Stop;
-use crate::value_inputs::ValueInputs;
 use crate::value_names::{Parties, know_names, setting_of};
 use command_words::Value;
 use decimal::NoMemory;
@@ -40,7 +41,7 @@ struct Asking<'a> {
 // Stops where the code is not accepted at the setting.
 fn accept_code(alloc: Global, file: &CodeFile, setting: &Setting) -> Result<(), Stop>
     requires readable { IsReadable (code_book file.now) }
-    ensures { AnswersAcceptedCode (code_book file.now) setting.now.days.items result }
+    ensures { AnswersStage (accepted_code (code_book file.now) setting.now.days.items) (λ _. tt) result }
 {
     match check_code(alloc, file, setting) {
         Ok(_) => Ok(()),
@@ -55,7 +56,7 @@ fn accept_code(alloc: Global, file: &CodeFile, setting: &Setting) -> Result<(), 
 // The curve of a table.
 fn curve_of(alloc: Global, bytes: &[u8]) -> Result<Curve, Stop>
     requires { length bytes.now ≤ 16_777_216 }
-    ensures { AnswersBy (HoldsCurve (table_of bytes.now)) (IsCurveFault bytes.now) result }
+    ensures { AnswersBy (HoldsCurve (table_of bytes.now)) (IsCurveFault bytes.now 3) result }
 {
     match read_curve(alloc, bytes) {
         Ok(curve) => Ok(curve),
@@ -120,15 +121,15 @@ fn by_curve(
     file: &CodeFile,
     asking: &Asking<'_>,
     fixings: &Fixings,
-    bytes: &[u8],
+    curve: &[u8],
 ) -> Result<Vec<u8>, Stop>
     requires readable { IsReadable (code_book file.now) }
     requires asks { MayAsk (inquiry_of file.now asking.now) }
     requires admitted { IsAdmitted (declarations file.now.decls) fixings.now }
-    requires short { length bytes.now ≤ 16_777_216 }
-    ensures { AnswersByCurve (inquiry_of file.now asking.now) fixings.now bytes.now result }
+    requires short { length curve.now ≤ 16_777_216 }
+    ensures { GoesDone (by_curve (inquiry_of file.now asking.now) fixings.now curve.now) result }
 {
-    let curve = curve_of(alloc, bytes)?;
+    let curve = curve_of(alloc, curve)?;
     let amount = worth(alloc, file, asking, fixings, &curve)?;
     let text = line_of(alloc, amount, file.decls.amounts)?;
     Ok(text)
@@ -139,15 +140,17 @@ fn by_tables(
     alloc: Global,
     file: &CodeFile,
     asking: &Asking<'_>,
-    inputs: &ValueInputs,
+    table: &[u8],
+    curve: &[u8],
 ) -> Result<Vec<u8>, Stop>
     requires readable { IsReadable (code_book file.now) }
     requires asks { MayAsk (inquiry_of file.now asking.now) }
-    requires short { AreShortForValue (value_inputs_by inputs.now) }
-    ensures { AnswersByTables (inquiry_of file.now asking.now) (value_inputs_by inputs.now) result }
+    requires table { length table.now ≤ 16_777_216 }
+    requires curve { length curve.now ≤ 16_777_216 }
+    ensures { GoesDone (by_tables (inquiry_of file.now asking.now) table.now curve.now) result }
 {
-    let fixings = fixings_of(alloc, &file.decls, Some(&inputs.fixings))?;
-    by_curve(alloc, file, asking, &fixings, &inputs.curve)
+    let fixings = fixings_of(alloc, &file.decls, Some(table))?;
+    by_curve(alloc, file, asking, &fixings, curve)
 }
 
 // The same where the code is accepted at the setting.
@@ -155,16 +158,18 @@ fn at_setting(
     alloc: Global,
     file: &CodeFile,
     asking: &Asking<'_>,
-    inputs: &ValueInputs,
+    table: &[u8],
+    curve: &[u8],
 ) -> Result<Vec<u8>, Stop>
     requires readable { IsReadable (code_book file.now) }
     requires setting { HasNumberForEach (declarations file.now.decls) asking.now.setting.now.days.items }
     requires question { IsQuestionOf (inquiry_of file.now asking.now) }
-    requires short { AreShortForValue (value_inputs_by inputs.now) }
-    ensures { AnswersAtSetting (inquiry_of file.now asking.now) (value_inputs_by inputs.now) result }
+    requires table { length table.now ≤ 16_777_216 }
+    requires curve { length curve.now ≤ 16_777_216 }
+    ensures { GoesDone (at_setting (inquiry_of file.now asking.now) table.now curve.now) result }
 {
     accept_code(alloc, file, asking.setting)?;
-    by_tables(alloc, file, asking, inputs)
+    by_tables(alloc, file, asking, table, curve)
 }
 
 /// The line of what a code file is worth, or what stops the command.
@@ -172,11 +177,13 @@ pub fn value_text(
     alloc: Global,
     file: &CodeFile,
     value: &Value<'_>,
-    inputs: &ValueInputs,
+    table: &[u8],
+    curve: &[u8],
 ) -> Result<Vec<u8>, Stop>
     requires readable { IsReadable (code_book file.now) }
-    requires short { AreShortForValue (value_inputs_by inputs.now) }
-    ensures { AnswersValue (code_book file.now) (value_by value.now) (value_inputs_by inputs.now) result }
+    requires table { length table.now ≤ 16_777_216 }
+    requires curve { length curve.now ≤ 16_777_216 }
+    ensures { GoesDone (value_on (value_by value.now) (code_book file.now) table.now curve.now) result }
 {
     let parties = know_names(alloc, &file.decls, value)?;
     let day = day_asked(alloc, &file.decls, value.at, LAST_DAY)?;
@@ -186,5 +193,5 @@ pub fn value_text(
         day,
         parties,
     };
-    at_setting(alloc, file, &asking, inputs)
+    at_setting(alloc, file, &asking, table, curve)
 }

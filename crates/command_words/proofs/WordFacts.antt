@@ -9,7 +9,7 @@ use Rattle.clap.specs.declared.parser.matches.ArgMatches.{ArgMatches}
 use Rattle.contract_parse.specs.Names.{is_declared}
 use Rattle.contract_parse.specs.NameTexts.{is_name_text}
 use Rattle.command_words.specs.Arguments.{HasMatches, IsAnswer, Reading, asked_of, is_set, read_rows, taken}
-use Rattle.command_words.specs.Commands.{Advance, Between, Check, Flows, Payoff, OnFiles, Sample, ValueFiles}
+use Rattle.command_words.specs.Commands.{Advance, Between, Check, Flows, Payoff, Sample, ValueFiles}
 use Rattle.command_words.specs.Words.{advance_from, advance_with, check_from, flows_from, flows_with, if_given, is_day, one_more_setting, payoff_from, payoff_with, sample_from, sample_size, settings_of, value_app, value_between, value_files, value_from, value_of, value_of_rows, value_with, with_form}
 use Rattle.command_words.specs.declared.arguments.WordsErr.{WordsErr}
 use Rattle.command_words.specs.declared.arguments.WordsErr.TheVariants.{Usage, NoMemory}
@@ -43,7 +43,7 @@ reads app reading words matches h =
 pub check_lacks : (found : Text → Option Text) → found (codes "portfolio") ≡ None → check_from found ≡ None
 check_lacks found none = rw none refl
 
-pub check_has : (found : Text → Option Text) (file : Text) → found (codes "portfolio") ≡ Some file → check_from found ≡ Some (OnFiles (Check file))
+pub check_has : (found : Text → Option Text) (file : Text) → found (codes "portfolio") ≡ Some file → check_from found ≡ Some (Check file)
 check_has found file is = rw is refl
 
 -- ---- `flows`
@@ -73,7 +73,7 @@ flows_no_name found none =
 pub flows_has : (found : Text → Option Text) (file : Text) (fixings until contract : Option Text) (net : Bool)
     → found (codes "portfolio") ≡ Some file → found (codes "fixings") ≡ fixings → if_given is_day (found (codes "until")) ≡ Some until
     → if_given is_name_text (found (codes "contract")) ≡ Some contract → is_set (found (codes "net")) ≡ net
-    → flows_from found ≡ Some (OnFiles (Flows (record { portfolio = file; fixings = fixings; until = until; contract = contract; net = net })))
+    → flows_from found ≡ Some (Flows (record { portfolio = file; fixings = fixings; until = until; contract = contract; net = net }))
 flows_has found file fixings until contract net a b c d e = rw (a, b, c, d, e) refl
 
 -- ---- `advance`
@@ -102,7 +102,7 @@ advance_no_day found none =
 
 pub advance_has : (found : Text → Option Text) (file fixings to : Text)
     → found (codes "portfolio") ≡ Some file → found (codes "fixings") ≡ Some fixings → with_form is_day (found (codes "to")) ≡ Some to
-    → advance_from found ≡ Some (OnFiles (Advance (record { portfolio = file; fixings = fixings; to = to })))
+    → advance_from found ≡ Some (Advance (record { portfolio = file; fixings = fixings; to = to }))
 advance_has found file fixings to a b c = rw (a, b, c) refl
 
 -- ---- `payoff`
@@ -121,7 +121,7 @@ payoff_no_name found none =
 
 pub payoff_has : (found : Text → Option Text) (file contract : Text) (plain : Bool)
     → found (codes "portfolio") ≡ Some file → with_form is_name_text (found (codes "contract")) ≡ Some contract → is_set (found (codes "plain")) ≡ plain
-    → payoff_from found ≡ Some (OnFiles (Payoff (record { portfolio = file; contract = contract; plain = plain })))
+    → payoff_from found ≡ Some (Payoff (record { portfolio = file; contract = contract; plain = plain }))
 payoff_has found file contract plain a b c = rw (a, b, c) refl
 
 -- ---- `sample`

@@ -6,14 +6,14 @@ use Rattle.clap.proofs.OnLiterals.{clap_on_literals}
 use Rattle.term_core.specs.Dates.{epoch_day_of, parts_of, two_of}
 use Rattle.fixing_files.specs.Days.{day_named, day_of}
 use Rattle.command_words.specs.Arguments.{taken}
-use Rattle.command_words.specs.Commands.{Advance, Flows, Payoff, Request, OnFiles, OnCode, Sample}
+use Rattle.command_words.specs.Commands.{Advance, Flows, Payoff, Request, Sample, Value}
 use Rattle.command_words.specs.Words.{request_of}
 
 abbrev flows : Text → Option Text → Option Text → Bool → Option Request
 flows file fixings contract net =
-    Some (OnFiles (Flows (record { portfolio = file; fixings = fixings; until = None; contract = contract; net = net })))
+    Some (Flows (record { portfolio = file; fixings = fixings; until = None; contract = contract; net = net }))
 
-day_in_one_word : request_of (codes "flows" ∷ codes "--until=89" ∷ codes "--" ∷ codes "loan.txt" ∷ []) ≡ Some (OnFiles (Flows (record { portfolio = codes "loan.txt"; fixings = None; until = Some (codes "89"); contract = None; net = false })))
+day_in_one_word : request_of (codes "flows" ∷ codes "--until=89" ∷ codes "--" ∷ codes "loan.txt" ∷ []) ≡ Some (Flows (record { portfolio = codes "loan.txt"; fixings = None; until = Some (codes "89"); contract = None; net = false }))
 unfolding clap_on_literals taken day_of day_named two_of parts_of epoch_day_of
 day_in_one_word = refl
 
@@ -60,7 +60,7 @@ empty_name : request_of (codes "flows" ∷ codes "a" ∷ codes "--contract=" ∷
 unfolding clap_on_literals taken
 empty_name = refl
 
-advance_to_a_day : request_of (codes "advance" ∷ codes "--to=2" ∷ codes "a" ∷ codes "b" ∷ []) ≡ Some (OnFiles (Advance (record { portfolio = codes "a"; fixings = codes "b"; to = codes "2" })))
+advance_to_a_day : request_of (codes "advance" ∷ codes "--to=2" ∷ codes "a" ∷ codes "b" ∷ []) ≡ Some (Advance (record { portfolio = codes "a"; fixings = codes "b"; to = codes "2" }))
 unfolding clap_on_literals taken day_of day_named two_of parts_of epoch_day_of
 advance_to_a_day = refl
 
@@ -72,7 +72,7 @@ no_fixings : request_of (codes "advance" ∷ codes "a" ∷ codes "--to" ∷ code
 unfolding clap_on_literals taken
 no_fixings = refl
 
-payoff_of_a_contract : request_of (codes "payoff" ∷ codes "--plain" ∷ codes "a" ∷ codes "--contract=c" ∷ []) ≡ Some (OnFiles (Payoff (record { portfolio = codes "a"; contract = codes "c"; plain = true })))
+payoff_of_a_contract : request_of (codes "payoff" ∷ codes "--plain" ∷ codes "a" ∷ codes "--contract=c" ∷ []) ≡ Some (Payoff (record { portfolio = codes "a"; contract = codes "c"; plain = true }))
 unfolding clap_on_literals taken
 payoff_of_a_contract = refl
 
@@ -99,7 +99,7 @@ no_digits = refl
 -- ---- `value`: settings stand behind the files, options between them
 
 abbrev valued : List (Text × ℕ) → Option Request
-valued settings = Some (OnCode (record {
+valued settings = Some (Value (record {
   files = record { code = codes "c"; fixings = codes "f"; curve = codes "k" };
   at = codes "0";
   between = record { from = codes "A"; to = codes "B"; asset = codes "E" };

@@ -1,10 +1,9 @@
--- What the commands are asked for. Those on files: `check` of a portfolio's file; or `flows` of a portfolio's file, over the fixings of
--- another file where one is named, up to a day where a word gives one, of one contract where its name is given, and with
--- the flows of all contracts summed where that is asked; or `advance` of a portfolio's file, over the fixings of another, to
--- the day of a word; or `payoff` of the contract of a name in a portfolio's file, with its payments uncut where that is asked.
--- `value` of a code file, over the fixings and the discount factors of two others. And `sample` of a number of contracts, which
--- has no file.
-use Rattle.std.specs.Prelude.{ℕ, ◌≤◌, Bool, List, Option, Some, None}
+-- What the commands are asked for: `check` of a portfolio's file; `flows` of a portfolio's file, over the fixings of another
+-- file where one is named, up to a day where a word gives one, of one contract where its name is given, and with the flows of
+-- all contracts summed where that is asked; `advance` of a portfolio's file, over the fixings of another, to the day of a word;
+-- `payoff` of the contract of a name in a portfolio's file, with its payments uncut where that is asked; `value` of a code file,
+-- over the fixings and the discount factors of two others; and `sample` of a number of contracts, which has no file.
+use Rattle.std.specs.Prelude.{ℕ, ◌≤◌, Bool, List, [], ◌∷◌, Option, Some, None}
 use Rattle.std.specs.List.{All}
 
 pub record FlowsAsked : Type 0 where
@@ -23,12 +22,6 @@ pub record PayoffAsked : Type 0 where
   pub portfolio : List ℕ
   pub contract : List ℕ
   pub plain : Bool
-
-pub data Asked : Type 0 where
-  Check : List ℕ → Asked
-  Flows : FlowsAsked → Asked
-  Advance : AdvanceAsked → Asked
-  Payoff : PayoffAsked → Asked
 
 -- numbers that are set for templates by their names, each of at most 100,000
 abbrev pub AreSettings : List (List ℕ × ℕ) → Type 0
@@ -53,23 +46,25 @@ pub record ValueAsked : Type 0 where
   pub between : Between
   pub settings : List (List ℕ × ℕ)
 
--- what words ask for: a command on a portfolio's file, or the value of a code file, or the summary of the sample of so many
--- contracts
+-- what words ask for
 pub data Request : Type 0 where
-  OnFiles : Asked → Request
-  OnCode : ValueAsked → Request
+  Check : List ℕ → Request
+  Flows : FlowsAsked → Request
+  Advance : AdvanceAsked → Request
+  Payoff : PayoffAsked → Request
+  Value : ValueAsked → Request
   Sample : ℕ → Request
 
--- the file of the portfolio
-abbrev pub portfolio_file : Asked → List ℕ
-portfolio_file (Check file) = file
-portfolio_file (Flows flows) = flows.portfolio
-portfolio_file (Advance advance) = advance.portfolio
-portfolio_file (Payoff payoff) = payoff.portfolio
+-- the file that a word names, if there is such a word
+abbrev pub file_if_named : Option (List ℕ) → List (List ℕ)
+file_if_named None = []
+file_if_named (Some file) = file ∷ []
 
--- the file of the fixings, if the command has one
-abbrev pub fixings_file : Asked → Option (List ℕ)
-fixings_file (Check file) = None
-fixings_file (Flows flows) = flows.fixings
-fixings_file (Advance advance) = Some advance.fixings
-fixings_file (Payoff payoff) = None
+-- the files of a request, in the order in which they are read
+abbrev pub files_of : Request → List (List ℕ)
+files_of (Check portfolio) = portfolio ∷ []
+files_of (Flows flows) = flows.portfolio ∷ file_if_named flows.fixings
+files_of (Advance advance) = advance.portfolio ∷ advance.fixings ∷ []
+files_of (Payoff payoff) = payoff.portfolio ∷ []
+files_of (Value value) = value.files.code ∷ value.files.fixings ∷ value.files.curve ∷ []
+files_of (Sample contracts) = []

@@ -13,9 +13,7 @@ use Rattle.contract_parse.specs.NameTexts.{is_name_text}
 use Rattle.fixing_files.specs.Days.{day_named}
 use Rattle.fixing_files.specs.declared.days.NamedDay.{NamedDay}
 use Rattle.command_words.specs.Arguments.{IsAnswer, asked_of, declared, flag, given_text, is_set, optional, repeated, required, taken, valued}
-use Rattle.command_words.specs.Commands.{Asked, Check, Flows, FlowsAsked, Advance, AdvanceAsked, Between, Payoff, PayoffAsked, ValueAsked, ValueFiles, Request, OnFiles, OnCode, Sample}
-use Rattle.command_words.specs.declared.words.Command.{Command}
-use Rattle.command_words.specs.declared.words.Command.TheVariants as command
+use Rattle.command_words.specs.Commands.{Advance, AdvanceAsked, Between, Check, Flows, FlowsAsked, Payoff, PayoffAsked, Request, Sample, Value, ValueAsked, ValueFiles}
 use Rattle.command_words.specs.declared.words.Advance.{Advance as AdvanceCommand}
 use Rattle.command_words.specs.declared.words.Flows.{Flows as FlowsCommand}
 use Rattle.command_words.specs.declared.words.Payoff.{Payoff as PayoffCommand}
@@ -42,12 +40,6 @@ advance_by advance = record { portfolio = advance.portfolio.now; fixings = advan
 abbrev pub payoff_by : PayoffCommand → PayoffAsked
 payoff_by payoff = record { portfolio = payoff.portfolio.now; contract = payoff.contract.now; plain = payoff.plain }
 
-abbrev pub asked_by : Command → Asked
-asked_by (command.Check portfolio) = Check portfolio.now
-asked_by (command.Flows flows) = Flows (flows_by flows)
-asked_by (command.Advance advance) = Advance (advance_by advance)
-asked_by (command.Payoff payoff) = Payoff (payoff_by payoff)
-
 abbrev pub files_by : FileWords → ValueFiles
 files_by files = record { code = files.code.now; fixings = files.fixings.now; curve = files.curve.now }
 
@@ -64,8 +56,11 @@ value_by value = record {
 
 -- what is requested of the program
 abbrev pub requested_by : Requested → Request
-requested_by (request.OnFiles command) = OnFiles (asked_by command)
-requested_by (request.OnCode value) = OnCode (value_by value)
+requested_by (request.Check portfolio) = Check portfolio.now
+requested_by (request.Flows flows) = Flows (flows_by flows)
+requested_by (request.Advance advance) = Advance (advance_by advance)
+requested_by (request.Payoff payoff) = Payoff (payoff_by payoff)
+requested_by (request.Value value) = Value (value_by value)
 requested_by (request.Sample size) = Sample size.contracts
 
 -- ---- the forms of words
@@ -104,7 +99,7 @@ abbrev pub check_app : App
 check_app = declared (codes "check") (required (codes "portfolio") ∷ [])
 
 abbrev pub check_from : (Text → Option Text) → Option Request
-check_from word = option_map (λ file. OnFiles (Check file)) (word (codes "portfolio"))
+check_from word = option_map (λ file. Check file) (word (codes "portfolio"))
 
 abbrev pub check_of : List Text → Option Request
 check_of words = asked_of check_app check_from words
@@ -118,7 +113,7 @@ flows_app = declared (codes "flows")
 
 abbrev pub flows_with : Option Text → Option Text → Option (Option Text) → Option (Option Text) → Bool → Option Request
 flows_with (Some file) fixings (Some until) (Some contract) net =
-    Some (OnFiles (Flows (record { portfolio = file; fixings = fixings; until = until; contract = contract; net = net })))
+    Some (Flows (record { portfolio = file; fixings = fixings; until = until; contract = contract; net = net }))
 flows_with _ fixings _ _ net = None
 
 abbrev pub flows_from : (Text → Option Text) → Option Request
@@ -143,7 +138,7 @@ with_form has_its_form None = None
 with_form has_its_form (Some word) = if has_its_form word then Some word else None
 
 abbrev pub advance_with : Option Text → Option Text → Option Text → Option Request
-advance_with (Some file) (Some fixings) (Some to) = Some (OnFiles (Advance (record { portfolio = file; fixings = fixings; to = to })))
+advance_with (Some file) (Some fixings) (Some to) = Some (Advance (record { portfolio = file; fixings = fixings; to = to }))
 advance_with _ _ _ = None
 
 abbrev pub advance_from : (Text → Option Text) → Option Request
@@ -169,7 +164,7 @@ abbrev pub payoff_app : App
 payoff_app = declared (codes "payoff") (required (codes "portfolio") ∷ valued (codes "contract") ∷ flag (codes "plain") ∷ [])
 
 abbrev pub payoff_with : Option Text → Option Text → Bool → Option Request
-payoff_with (Some file) (Some contract) plain = Some (OnFiles (Payoff (record { portfolio = file; contract = contract; plain = plain })))
+payoff_with (Some file) (Some contract) plain = Some (Payoff (record { portfolio = file; contract = contract; plain = plain }))
 payoff_with _ _ plain = None
 
 abbrev pub payoff_from : (Text → Option Text) → Option Request
@@ -258,7 +253,7 @@ request_of (name ∷ rest) =
     else if bytes_eq name (codes "flows") then flows_of rest
     else if bytes_eq name (codes "advance") then advance_of rest
     else if bytes_eq name (codes "payoff") then payoff_of rest
-    else if bytes_eq name (codes "value") then option_map OnCode (value_of rest)
+    else if bytes_eq name (codes "value") then option_map (λ value. Value value) (value_of rest)
     else if bytes_eq name (codes "sample") then sample_of rest
     else None
 

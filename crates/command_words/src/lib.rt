@@ -22,4 +22,4 @@ pub use arguments::WordsErr;
 pub use day_words::DayWord;
 pub use sample_size::SampleSize;
 pub use value_asked::{Between, Value, ValueFiles};
-pub use words::{Advance, Command, Flows, Payoff, Request, request_of};
+pub use words::{Advance, Flows, Payoff, Request, files_of, request_of};

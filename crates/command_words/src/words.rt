@@ -1,7 +1,9 @@
 //! The words of the command line.
 
+ghost use Rattle.std.specs.Prelude.{◌≡◌, IfOk};
 ghost use Rattle.clap.specs.Walk.{texts};
 ghost use Rattle.command_words.specs.Arguments.{IsAnswer};
+ghost use Rattle.command_words.specs.Commands.{files_of};
 ghost use Rattle.command_words.specs.Words.{IsRequestOf, advance_of, check_of, flows_of, payoff_of, requested_by, sample_of};
 
 use crate::arguments::{Argument, WordsErr, is_set, matches_of};
@@ -10,6 +12,7 @@ use crate::forms::{day_given, day_if_given, given, name_given, name_if_given};
 use crate::sample_size::SampleSize;
 use crate::value_asked::Value;
 use crate::value_words::value_of;
+use decimal::NoMemory;
 use std::alloc::Global;
 
 /// What the contracts of a portfolio's file pay: over the fixings of another file, up to a day, of one contract alone, and
@@ -40,9 +43,9 @@ pub struct Payoff<'a> {
     pub plain: bool,
 }
 
-/// A command, with what it is given.
-#[derive(Clone, Copy)]
-pub enum Command<'a> {
+/// What words ask for: a command, with what it is given.
+#[derive(Drop)]
+pub enum Request<'a> {
     /// Says of each contract of the file whether it is accepted.
     Check { portfolio: &'a str },
     /// Lists what the contracts pay.
@@ -51,15 +54,8 @@ pub enum Command<'a> {
     Advance(Advance<'a>),
     /// Compiles a contract to code.
     Payoff(Payoff<'a>),
-}
-
-/// What words ask for.
-#[derive(Drop)]
-pub enum Request<'a> {
-    /// A command on a portfolio's file.
-    OnFiles(Command<'a>),
     /// Values a code file.
-    OnCode(Value<'a>),
+    Value(Value<'a>),
     /// Summarizes what the sample of so many contracts pays.
     Sample(SampleSize),
 }
@@ -71,7 +67,7 @@ fn check_of<'a>(alloc: Global, words: &'a [&'a str]) -> Result<Request<'a>, Word
     let arguments = [Argument::Required("portfolio")];
     let matches = matches_of(alloc, "check", &arguments, words)?;
     let portfolio = given(matches.get_str("portfolio"))?;
-    Ok(Request::OnFiles(Command::Check { portfolio }))
+    Ok(Request::Check { portfolio })
 }
 
 // `flows PORTFOLIO [FIXINGS] [--until DAY] [--contract NAME] [--net]`, by the words behind the first.
@@ -89,13 +85,13 @@ fn flows_of<'a>(alloc: Global, words: &'a [&'a str]) -> Result<Request<'a>, Word
     let portfolio = given(matches.get_str("portfolio"))?;
     let until = day_if_given(matches.get_str("until"))?;
     let contract = name_if_given(matches.get_str("contract"))?;
-    Ok(Request::OnFiles(Command::Flows(Flows {
+    Ok(Request::Flows(Flows {
         portfolio,
         fixings: matches.get_str("fixings"),
         until,
         contract,
         net: is_set(matches.get_str("net")),
-    })))
+    }))
 }
 
 // `advance PORTFOLIO FIXINGS --to DAY`, by the words behind the first.
@@ -111,11 +107,11 @@ fn advance_of<'a>(alloc: Global, words: &'a [&'a str]) -> Result<Request<'a>, Wo
     let portfolio = given(matches.get_str("portfolio"))?;
     let fixings = given(matches.get_str("fixings"))?;
     let to = day_given(matches.get_str("to"))?;
-    Ok(Request::OnFiles(Command::Advance(Advance {
+    Ok(Request::Advance(Advance {
         portfolio,
         fixings,
         to,
-    })))
+    }))
 }
 
 // `payoff PORTFOLIO --contract NAME [--plain]`, by the words behind the first.
@@ -130,11 +126,11 @@ fn payoff_of<'a>(alloc: Global, words: &'a [&'a str]) -> Result<Request<'a>, Wor
     let matches = matches_of(alloc, "payoff", &arguments, words)?;
     let portfolio = given(matches.get_str("portfolio"))?;
     let contract = name_given(matches.get_str("contract"))?;
-    Ok(Request::OnFiles(Command::Payoff(Payoff {
+    Ok(Request::Payoff(Payoff {
         portfolio,
         contract,
         plain: is_set(matches.get_str("plain")),
-    })))
+    }))
 }
 
 // `sample NUMBER`, by the words behind the first.
@@ -168,10 +164,38 @@ pub fn request_of<'a>(alloc: Global, words: &'a [&'a str]) -> Result<Request<'a>
         payoff_of(alloc, rest)
     } else if *name == "value" {
         let value = value_of(alloc, rest)?;
-        Ok(Request::OnCode(value))
+        Ok(Request::Value(value))
     } else if *name == "sample" {
         sample_of(alloc, rest)
     } else {
         Err(WordsErr::Usage)
     }
+}
+
+/// The names of the files of a request, in the order in which they are read, or out of memory.
+pub fn files_of<'a>(alloc: Global, request: &Request<'a>) -> Result<Vec<&'a str>, NoMemory>
+    ensures { IfOk result (λ names. texts names.items ≡ files_of (requested_by request.now)) }
+{
+    let mut names = Vec::new(alloc);
+    match request {
+        Request::Check { portfolio } => names.push(*portfolio)?,
+        Request::Flows(flows) => {
+            names.push(flows.portfolio)?;
+            if let Some(fixings) = flows.fixings {
+                names.push(fixings)?;
+            }
+        }
+        Request::Advance(advance) => {
+            names.push(advance.portfolio)?;
+            names.push(advance.fixings)?;
+        }
+        Request::Payoff(payoff) => names.push(payoff.portfolio)?,
+        Request::Value(value) => {
+            names.push(value.files.code)?;
+            names.push(value.files.fixings)?;
+            names.push(value.files.curve)?;
+        }
+        Request::Sample(_) => {}
+    }
+    Ok(names)
 }

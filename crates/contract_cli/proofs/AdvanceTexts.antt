@@ -120,26 +120,27 @@ pub advance_texts_are_texts : AdvanceTextsAreTexts
 advance_texts_are_texts bytes b asked table text spelled is =
     let d = b.declarations in
     let entries = used None b in
-    let rest = is.rest in
+    let left_on = is.advanced in
+    let rest = left_on.rest in
     let fits = texts_spellable bytes b spelled in
     let names : keys_of entries ≡ keys_of b.contracts = used_names d b.contracts in
     let left : IsRestOf b rest = record {
       day = is.day;
       within = is.can.is_day.no_later;
-      declared = is.is_rest.declarations;
-      names = left_names d is.fixings is.day entries rest.contracts is.is_rest.contracts ∙ names;
-      each = All-from_recursion (λ (entry : Name × Contract). IsSoundRest d entry.1) rest.contracts (left_sound d is.fixings is.day entries rest.contracts is.is_rest.contracts);
+      declared = left_on.is_rest.declarations;
+      names = left_names d is.fixings is.day entries rest.contracts left_on.is_rest.contracts ∙ names;
+      each = All-from_recursion (λ (entry : Name × Contract). IsSoundRest d entry.1) rest.contracts (left_sound d is.fixings is.day entries rest.contracts left_on.is_rest.contracts);
     } in
     let plain = subst (λ (ns : List Name). AllByRecursion IsPlain ns) (sym names) (names_plain (keys_of b.contracts) fits.contracts) in
-    let due = due_comments d is.fixings (last_gone is.day) entries is.due fits.declarations plain is.are_due in
-    let canon = book_spelled is.canon rest (rest_spellable b rest fits left) is.is_canon in
-    let same = used_same rest.declarations rest.contracts (left_numbers d is.fixings is.day entries rest.contracts is.is_rest.contracts) in
+    let due = due_comments d is.fixings (last_gone is.day) entries left_on.due fits.declarations plain left_on.are_due in
+    let canon = book_spelled left_on.canon rest (rest_spellable b rest fits left) left_on.is_canon in
+    let same = used_same rest.declarations rest.contracts (left_numbers d is.fixings is.day entries rest.contracts left_on.is_rest.contracts) in
     record {
       day = is.day;
       fixings = is.fixings;
       can = is.can;
       rest = rest;
-      is_rest = is.is_rest;
-      spelled = subst (λ (bytes' : List ℕ). Text bytes' rest) (sym is.is) (comments_change_nothing is.due is.canon rest due canon);
+      is_rest = left_on.is_rest;
+      spelled = subst (λ (bytes' : List ℕ). Text bytes' rest) (sym left_on.is) (comments_change_nothing left_on.due left_on.canon rest due canon);
       accepted = subst (λ (es : List (Name × Contract)). All (λ entry. IsAccepted rest.declarations entry.1) es) (sym same) (rest_accepted b rest left);
     }

@@ -1,175 +1,273 @@
--- The laws of a run's status, over how a run ends.
-use Rattle.std.proofs.Common.{◌≡◌, ◌∙◌, inl, inr, ℕ, List, ap, arith, refl, subst, sym}
-use Rattle.std.specs.Prelude.{Option, Some, None}
-use Rattle.edge_io.specs.Counts.{Rose}
+-- The laws of a run's status, over its course.
+use Rattle.std.proofs.Common.{◌≡◌, ◌∙◌, ◌≤◌, inl, inr, ℕ, List, length, ap, arith, subst, sym}
+use Rattle.std.specs.Prelude.{None}
 use Rattle.report.specs.FaultLines.{fault_text}
 use Rattle.report.specs.declared.fault_lines.Fault.{Fault}
 use Rattle.report.specs.declared.fault_lines.Fault.TheVariants as fault
-use Rattle.command_answers.specs.Causes.{CauseOnBook, IsTextWhere}
-use Rattle.command_answers.specs.AnswerParts.{AreShort}
-use Rattle.command_answers.specs.FilesPromise.{Answers, Inputs, IsNoText}
-use Rattle.command_words.specs.Commands.{Advance, Asked, Check, Flows, OnCode, OnFiles, Payoff, Sample}
-use Rattle.command_answers.specs.FlowsParts.{IsShortTable}
-use Rattle.contract_cli.specs.RunPromise.{Cause, stopped as stops_run, answered, valued, sampled, Edge, FileFault, read_failed, read_long, FilesSeen, IsNextByWords, by_command, by_value, Meets, written, broken, lacking, no_form, at_file, WritesAll, WritesNothing}
-use Rattle.contract_cli.specs.RunLaws.{AdvanceIsComplete, BadTextIsExact, CheckIsComplete, ComesExactlyWhere, FlowsAreComplete, IsExactOnBook, IsLongAt, long_portfolio, long_table, IsReadWhole, IsTooLong, PayoffIsComplete, ReadFaultIs, ReadFaultsHaveCauses, RefusalsAreExact, TooLongIs, TooLongIsExact, UsageIsExact, UsageWritesItsLine, WriteFaultsHaveCauses}
-use Rattle.command_answers.specs.Statuses.{status_of}
+use Rattle.command_words.specs.Commands.{Request, files_of}
 use Rattle.command_words.specs.Words.{request_of}
+use Rattle.command_answers.specs.Course.{Answers, IsDue, Stops, Tells, stopped, told}
+use Rattle.command_answers.specs.Courses.{course_of}
+use Rattle.command_answers.specs.Statuses.{status_of}
 use Rattle.command_answers.specs.declared.status.Status.{Status}
 use Rattle.command_answers.specs.declared.status.Status.TheVariants as status
-use Rattle.command_answers.proofs.CauseFacts.{advance_whole, answer_is, apart, bad_forces, bad_gives, check_whole, flows_whole, forces_cause, gives_cause, no_long, no_read_fault, no_usage, no_write_fault, payoff_whole}
-use Rattle.contract_cli.proofs.RunFacts.{Ends, long, with_answer, with_nothing, ends}
-use Rattle.command_answers.proofs.ValueFacts.{no_value_read_fault, no_value_usage, no_value_write_fault}
+use Rattle.command_answers.proofs.CourseFacts.{answer_is_due, answers_stop, due_within, one_due, passed_is_told}
+use Rattle.command_answers.proofs.SoundCourses.{OfCommand, sound_course}
+use Rattle.command_answers.proofs.StageFacts.{none_or_some, some_same}
+use Rattle.contract_cli.specs.Reading.{FileFault, WereRead, read_failed, read_long, reading}
+use Rattle.contract_cli.specs.RunLaws.{AnswersHaveCauses, AreTold, AreWhole, Cause, no_form, unread, long, answered, DoneHasTold, IsNext}
+use Rattle.contract_cli.specs.RunLaws.{IsReadWhole, IsTold, IsUndisturbed, IsWritten, ReadFaultIs, ReadFaultsHaveCauses, RunIsComplete, StatusesAreExact}
+use Rattle.contract_cli.specs.RunLaws.{StatusesOverFilesAreExact, TooLongComes, TooLongHasACause, TooLongIs, UsageIsExact, UsageWritesItsLine, WriteFaultsHaveCauses}
+use Rattle.contract_cli.specs.RunPromise.{Meets, written, broken, lacking, Names, run_course}
+use Rattle.contract_cli.specs.Seen.{Edge, FilesSeen, WritesAll, longest_file}
+use Rattle.contract_cli.proofs.RunFacts.{stops_reading}
+use Rattle.contract_cli.proofs.RunSound.{Any, Behind, at_file, behind_files, due_behind, due_of_reading, file_of_stop, first_long_stops, first_long_told, sound_run}
+use Rattle.contract_cli.proofs.RunSound.{stop_of_reading, told_long, told_of_reading, whole_at, whole_read, whole_told}
+
+-- ---- every status
+
+pub statuses_are_exact : StatusesAreExact
+statuses_are_exact words edge s wanted (written text a w) calm no_memory =
+    let course = run_course words edge.files in
+    let sound = sound_run words edge.files calm.told in
+    let due = answer_is_due Any course sound s text a in
+    record {
+      comes = λ h. inl (one_due Any course sound s wanted due h);
+      only = λ is. (subst (λ (x : Status). IsDue course x) is due, (text, subst (λ (x : Status). Answers course x text) is a, w));
+    }
+statuses_are_exact words edge s wanted (broken e due text a w) calm no_memory = absurd (calm.no_write_fault w.0)
+statuses_are_exact words edge s wanted (lacking e w) calm no_memory = record { comes = λ _. inr e; only = λ is. absurd (no_memory (sym is ∙ e)) }
+
+pub run_is_complete : RunIsComplete
+run_is_complete words edge s (written text a w) calm passed =
+    inl (text, passed_is_told Any (run_course words edge.files) (sound_run words edge.files calm.told) passed s text a, w)
+run_is_complete words edge s (broken e due text a w) calm passed = absurd (calm.no_write_fault w.0)
+run_is_complete words edge s (lacking e w) calm passed = inr (e, w)
+
+-- ---- causes
+
+module _ (words : List (List ℕ)) (files : FilesSeen) (s : Status) (text : List ℕ) (request : Request) (named : Names words request) where
+  by_fault : (f : Fault) (file : List ℕ) (place : ℕ) → IsNext words files file place → FileFault files file place f → s ≡ status_of f → text ≡ fault_text f
+      → Cause words files s text
+  by_fault f file place next (read_failed is rose) e line = unread file place next rose (e ∙ ap status_of is) (line ∙ ap fault_text is)
+  by_fault f file place next (read_long is h) e line = long file place next h (e ∙ ap status_of is) (line ∙ ap fault_text is)
+
+  by_stop : (f : Fault) → Behind files (files_of request) 1 (λ read. Stops (course_of request read) f) f → s ≡ status_of f → text ≡ fault_text f
+      → Cause words files s text
+  by_stop f (at_file h) e line =
+      let at = file_of_stop files (files_of request) 1 f h in
+      let next : IsNext words files at.file at.at = record {
+        request = request;
+        named = named;
+        before = at.before;
+        after = at.after;
+        split = at.split;
+        read = at.read;
+        were = at.were;
+        at = at.at_is;
+      } in
+      by_fault f at.file at.at next at.fault_is e line
+  by_stop f (behind_files read were h) e line = answered request named read were (stopped f h e line)
+
+pub answers_have_causes : AnswersHaveCauses
+answers_have_causes words files s text (stopped f (inl h) e line) = no_form h.1 (e ∙ ap status_of h.0) (line ∙ ap fault_text h.0)
+answers_have_causes words files s text (stopped f (inr h) e line) =
+    by_stop words files s text h.0 h.1 f (stop_of_reading files (files_of h.0) 1 (course_of h.0) f h.2) e line
+answers_have_causes words files s text (told h) =
+    let rest = told_of_reading files (files_of h.0) 1 (course_of h.0) s text h.2 in
+    answered h.0 h.1 rest.0 rest.1 (told rest.2)
+
+-- what a command answers has a status of commands
+of_command : (request : Request) (inputs : List (List ℕ)) (s : Status) (text : List ℕ) → Answers (course_of request inputs) s text → OfCommand s
+of_command request inputs s text a =
+    let sound = sound_course request inputs in
+    due_within OfCommand (course_of request inputs) sound s (answer_is_due OfCommand (course_of request inputs) sound s text a)
+
+-- ---- over files that are told and not too long
+
+module _ (words : List (List ℕ)) (edge : Edge) (request : Request) (inputs : List (List ℕ)) (r : IsReadWhole words edge request inputs) where
+  same_request : (other : Request) → Names words other → request ≡ other
+  same_request other h = some_same request other (sym r.named ∙ h)
+
+  calm : IsUndisturbed words edge
+  calm = record {
+    told = λ other h. subst (λ (x : Request). AreTold edge.files (files_of x)) (same_request other h) (whole_told edge.files (files_of request) inputs r.whole);
+    no_write_fault = r.no_write_fault;
+  }
+
+  due_in_run : (s : Status) → IsDue (course_of request inputs) s → IsDue (run_course words edge.files) s
+  due_in_run s h = inr (request, r.named, due_behind edge.files (files_of request) inputs 1 (course_of request) s r.whole h)
+
+  due_of_run : (s : Status) → IsDue (run_course words edge.files) s → IsDue (course_of request inputs) s
+  due_of_run s (inl h) = absurd (h.1 request r.named)
+  due_of_run s (inr h) =
+      due_of_reading edge.files (files_of request) inputs 1 (course_of request) s r.whole
+      (subst (λ (x : Request). IsDue (reading edge.files (files_of x) 1 (course_of x)) s) (sym (same_request h.0 h.1)) h.2)
+
+  -- a file of the words is told, and not too long
+  next_whole : (file : List ℕ) (place : ℕ) → IsNext words edge.files file place → (bytes : List ℕ) × IsTold edge.files file bytes × (length bytes ≤ longest_file)
+  next_whole file place next =
+      let named = ap files_of (same_request next.request next.named) ∙ next.split in
+      whole_at edge.files next.before file next.after inputs (subst (λ (xs : List (List ℕ)). AreWhole edge.files xs inputs) named r.whole)
+
+  over_files : (s : Status) (text : List ℕ) → Cause words edge.files s text → Answers (course_of request inputs) s text
+  over_files s text (no_form none e line) = absurd (none_or_some (request_of words) request none r.named)
+  over_files s text (unread file place next rose e line) = absurd ((next_whole file place next).1.no_fault rose)
+  over_files s text (long file place next h e line) =
+      let told = next_whole file place next in
+      let longer = told_long edge.files file told.0 h told.1 in
+      let fits = told.2 in
+      absurd (omega (arith, longer, fits))
+  over_files s text (answered other named read were a) =
+      let same = same_request other named in
+      let here = subst (λ (x : Request). WereRead edge.files.contents (files_of x) read) (sym same) were in
+      let all = whole_read edge.files (files_of request) inputs read r.whole here in
+      subst (λ (xs : List (List ℕ)). Answers (course_of request xs) s text) all (subst (λ (x : Request). Answers (course_of x read) s text) (sym same) a)
+
+  written_over : (wanted : Status) → IsWritten (run_course words edge.files) edge wanted → IsWritten (course_of request inputs) edge wanted
+  written_over wanted h = (h.0, over_files wanted h.0 (answers_have_causes words edge.files wanted h.0 h.1), h.2)
+
+pub statuses_over_files_are_exact : StatusesOverFilesAreExact
+statuses_over_files_are_exact words edge s wanted request inputs m r no_memory =
+    let exact = statuses_are_exact words edge s wanted m (calm words edge request inputs r) no_memory in
+    record {
+      comes = λ h. exact.comes (due_in_run words edge request inputs r wanted h);
+      only = λ is. (due_of_run words edge request inputs r wanted (exact.only is).0, written_over words edge request inputs r wanted (exact.only is).1);
+    }
 
 -- ---- usage
 
-module _ (words : List (List ℕ)) (files : FilesSeen) where
-  -- the fault of a file is none of usage
-  file_not_usage : (file : List ℕ) (place : ℕ) (f : Fault) → FileFault files file place f → status_of f ≡ status.Usage → ⊥
-  file_not_usage file place f (read_failed is rose) e = apart ⊥ (λ (x : status.ReadFault ≡ status.Usage). cc) (ap status_of is) e
-  file_not_usage file place f (read_long is known) e = apart ⊥ (λ (x : status.TooLong ≡ status.Usage). cc) (ap status_of is) e
+module _ (words : List (List ℕ)) (files : FilesSeen) (text : List ℕ) where
+  usage_only : Cause words files status.Usage text → (request_of words ≡ None) × (text ≡ fault_text fault.Usage)
+  usage_only (no_form none e line) = (none, line)
+  usage_only (unread file place next rose e line) = absurd (let no : status.Usage ≡ status.ReadFault = e in cc)
+  usage_only (long file place next h e line) = absurd (let no : status.Usage ≡ status.TooLong = e in cc)
+  usage_only (answered request named inputs were a) = absurd (of_command request inputs status.Usage text a)
 
-  usage_only : (s : Status) (text : List ℕ) → Cause words files s text → s ≡ status.Usage → (request_of words ≡ None) × (text ≡ fault_text fault.Usage)
-  usage_only s text (stops_run f (no_form none is) e line) same = (none, line ∙ ap fault_text is)
-  usage_only s text (stops_run f (at_file file place next h) e line) same = absurd (file_not_usage file place f h (sym e ∙ same))
-  usage_only s text (answered asked named inputs read a) same = absurd (no_usage asked inputs s text a same)
-  usage_only s text (valued asked named inputs read a) same = absurd (no_value_usage asked inputs s text a same)
-  usage_only s text (sampled count sample e sum) same = absurd (apart ⊥ (λ (x : status.Done ≡ status.Usage). cc) e same)
-
-  usage_comes : (s : Status) (text : List ℕ) → Cause words files s text → request_of words ≡ None → s ≡ status.Usage
-  usage_comes s text (stops_run f (no_form none is) e line) h = e ∙ ap status_of is
-  usage_comes s text (stops_run f (at_file file place (by_command asked named next) k) e line) h = absurd (let x : request_of words ≡ Some (OnFiles asked) = named in cc)
-  usage_comes s text (stops_run f (at_file file place (by_value asked named next) k) e line) h = absurd (let x : request_of words ≡ Some (OnCode asked) = named in cc)
-  usage_comes s text (answered asked named inputs read a) h = absurd (let x : request_of words ≡ Some (OnFiles asked) = named in cc)
-  usage_comes s text (valued asked named inputs read a) h = absurd (let x : request_of words ≡ Some (OnCode asked) = named in cc)
-  usage_comes s text (sampled count sample e sum) h = absurd (let x : request_of words ≡ Some (Sample count) = sample in cc)
+  usage_comes : (s : Status) → Cause words files s text → request_of words ≡ None → s ≡ status.Usage
+  usage_comes s (no_form none e line) h = e
+  usage_comes s (unread file place next rose e line) h = absurd (none_or_some (request_of words) next.request h next.named)
+  usage_comes s (long file place next k e line) h = absurd (none_or_some (request_of words) next.request h next.named)
+  usage_comes s (answered request named inputs were a) h = absurd (none_or_some (request_of words) request h named)
 
 pub usage_is_exact : UsageIsExact
-usage_is_exact words edge s (written text cause w) calm = record { comes = λ none. inl (usage_comes words edge.files s text cause none); only = λ is. (usage_only words edge.files s text cause is).0 }
-usage_is_exact words edge s (broken e due text cause w) calm = absurd (calm w.0)
-usage_is_exact words edge s (lacking e w) calm = record { comes = λ none. inr e; only = λ is. apart (request_of words ≡ None) (λ (x : status.NoMemory ≡ status.Usage). cc) e is }
+usage_is_exact words edge s (written text a w) succeed =
+    let cause = answers_have_causes words edge.files s text a in
+    record {
+      comes = λ none. inl (usage_comes words edge.files text s cause none);
+      only = λ is. (usage_only words edge.files text (subst (λ (x : Status). Cause words edge.files x text) is cause)).0;
+    }
+usage_is_exact words edge s (broken e due text a w) succeed = absurd (succeed w.0)
+usage_is_exact words edge s (lacking e w) succeed =
+    record { comes = λ none. inr e; only = λ is. absurd (let no : status.NoMemory ≡ status.Usage = sym e ∙ is in cc) }
+
+-- ---- the line of a fault of words or of a file
 
 by_line : (edge : Edge) (text line : List ℕ) → text ≡ line → WritesAll edge.sink text → WritesAll edge.sink line
 by_line edge text line is w = subst (λ (t : List ℕ). WritesAll edge.sink t) is w
 
-usage_line : (words : List (List ℕ)) (edge : Edge) (s : Status) → s ≡ status.Usage → Meets words edge s → WritesAll edge.sink (fault_text fault.Usage)
-usage_line words edge s is (written text cause w) = by_line edge text (fault_text fault.Usage) (usage_only words edge.files s text cause is).1 w
-usage_line words edge s is (broken e due text cause w) = apart (WritesAll edge.sink (fault_text fault.Usage)) (λ (x : status.WriteFault ≡ status.Usage). cc) e is
-usage_line words edge s is (lacking e w) = apart (WritesAll edge.sink (fault_text fault.Usage)) (λ (x : status.NoMemory ≡ status.Usage). cc) e is
-
 pub usage_writes_its_line : UsageWritesItsLine
-usage_writes_its_line words edge m = usage_line words edge status.Usage refl m
+usage_writes_its_line words edge (written text a w) =
+    by_line edge text (fault_text fault.Usage) (usage_only words edge.files text (answers_have_causes words edge.files status.Usage text a)).1 w
+usage_writes_its_line words edge (broken e due text a w) = absurd (let no : status.Usage ≡ status.WriteFault = e in cc)
+usage_writes_its_line words edge (lacking e w) = absurd (let no : status.Usage ≡ status.NoMemory = e in cc)
 
--- ---- failed reads and writes
+module _ (words : List (List ℕ)) (edge : Edge) (text : List ℕ) (w : WritesAll edge.sink text) where
+  read_fault : Cause words edge.files status.ReadFault text → ReadFaultIs words edge
+  read_fault (no_form none e line) = absurd (let no : status.ReadFault ≡ status.Usage = e in cc)
+  read_fault (unread file place next rose e line) = record { file = file; place = place; next = next; rose = rose; line = by_line edge text _ line w }
+  read_fault (long file place next h e line) = absurd (let no : status.ReadFault ≡ status.TooLong = e in cc)
+  read_fault (answered request named inputs were a) = absurd (of_command request inputs status.ReadFault text a)
 
-module _ (words : List (List ℕ)) (edge : Edge) where
-  read_by_file : (file : List ℕ) (place : ℕ) (f : Fault) (s : Status) (text : List ℕ) → IsNextByWords words edge.files file place → FileFault edge.files file place f → s ≡ status_of f → s ≡ status.ReadFault → text ≡ fault_text f → WritesAll edge.sink text → ReadFaultIs words edge
-  read_by_file file place f s text next (read_failed is rose) e same line w =
-      record { file = file; place = place; next = next; rose = rose; line = by_line edge text (fault_text (fault.Read place)) (line ∙ ap fault_text is) w }
-  read_by_file file place f s text next (read_long is known) e same line w =
-      apart (ReadFaultIs words edge) (λ (x : status.TooLong ≡ status.ReadFault). cc) (e ∙ ap status_of is) same
-
-  read_by_cause : (s : Status) (text : List ℕ) → Cause words edge.files s text → s ≡ status.ReadFault → WritesAll edge.sink text → ReadFaultIs words edge
-  read_by_cause s text (stops_run f (no_form none is) e line) same w = apart (ReadFaultIs words edge) (λ (x : status.Usage ≡ status.ReadFault). cc) (e ∙ ap status_of is) same
-  read_by_cause s text (stops_run f (at_file file place next h) e line) same w = read_by_file file place f s text next h e same line w
-  read_by_cause s text (answered asked named inputs read a) same w = absurd (no_read_fault asked inputs s text a same)
-  read_by_cause s text (valued asked named inputs read a) same w = absurd (no_value_read_fault asked inputs s text a same)
-  read_by_cause s text (sampled count sample e sum) same w = apart (ReadFaultIs words edge) (λ (x : status.Done ≡ status.ReadFault). cc) e same
-
-  read_fault_by : (s : Status) → s ≡ status.ReadFault → Meets words edge s → ReadFaultIs words edge
-  read_fault_by s is (written text cause w) = read_by_cause s text cause is w
-  read_fault_by s is (broken e due text cause w) = apart (ReadFaultIs words edge) (λ (x : status.WriteFault ≡ status.ReadFault). cc) e is
-  read_fault_by s is (lacking e w) = apart (ReadFaultIs words edge) (λ (x : status.NoMemory ≡ status.ReadFault). cc) e is
+  too_long : Cause words edge.files status.TooLong text → TooLongIs words edge
+  too_long (no_form none e line) = absurd (let no : status.TooLong ≡ status.Usage = e in cc)
+  too_long (unread file place next rose e line) = absurd (let no : status.TooLong ≡ status.ReadFault = e in cc)
+  too_long (long file place next h e line) = record { file = file; place = place; next = next; long = h; line = by_line edge text _ line w }
+  too_long (answered request named inputs were a) = absurd (of_command request inputs status.TooLong text a)
 
 pub read_faults_have_causes : ReadFaultsHaveCauses
-read_faults_have_causes words edge m = read_fault_by words edge status.ReadFault refl m
+read_faults_have_causes words edge (written text a w) = read_fault words edge text w (answers_have_causes words edge.files status.ReadFault text a)
+read_faults_have_causes words edge (broken e due text a w) = absurd (let no : status.ReadFault ≡ status.WriteFault = e in cc)
+read_faults_have_causes words edge (lacking e w) = absurd (let no : status.ReadFault ≡ status.NoMemory = e in cc)
 
-no_write_cause : (words : List (List ℕ)) (files : FilesSeen) (s : Status) (text : List ℕ) → Cause words files s text → s ≡ status.WriteFault → ⊥
-no_write_cause words files s text (stops_run f (no_form none is) e line) same = apart ⊥ (λ (x : status.Usage ≡ status.WriteFault). cc) (e ∙ ap status_of is) same
-no_write_cause words files s text (stops_run f (at_file file place next (read_failed is rose)) e line) same = apart ⊥ (λ (x : status.ReadFault ≡ status.WriteFault). cc) (e ∙ ap status_of is) same
-no_write_cause words files s text (stops_run f (at_file file place next (read_long is known)) e line) same = apart ⊥ (λ (x : status.TooLong ≡ status.WriteFault). cc) (e ∙ ap status_of is) same
-no_write_cause words files s text (answered asked named inputs read a) same = no_write_fault asked inputs s text a same
-no_write_cause words files s text (valued asked named inputs read a) same = no_value_write_fault asked inputs s text a same
-no_write_cause words files s text (sampled count sample e sum) same = apart ⊥ (λ (x : status.Done ≡ status.WriteFault). cc) e same
+pub too_long_has_a_cause : TooLongHasACause
+too_long_has_a_cause words edge (written text a w) = too_long words edge text w (answers_have_causes words edge.files status.TooLong text a)
+too_long_has_a_cause words edge (broken e due text a w) = absurd (let no : status.TooLong ≡ status.WriteFault = e in cc)
+too_long_has_a_cause words edge (lacking e w) = absurd (let no : status.TooLong ≡ status.NoMemory = e in cc)
 
-write_fault_by : (words : List (List ℕ)) (edge : Edge) (s : Status) → s ≡ status.WriteFault → Meets words edge s → Rose edge.sink.faults_before edge.sink.faults_after
-write_fault_by words edge s is (written text cause w) = absurd (no_write_cause words edge.files s text cause is)
-write_fault_by words edge s is (broken e due text cause w) = w.0
-write_fault_by words edge s is (lacking e w) = apart (Rose edge.sink.faults_before edge.sink.faults_after) (λ (x : status.NoMemory ≡ status.WriteFault). cc) e is
+pub too_long_comes : TooLongComes
+too_long_comes words edge s request at (written text a w) succeed named h =
+    let told = λ (other : Request) (k : Names words other).
+    subst (λ (x : Request). AreTold edge.files (files_of x)) (some_same request other (sym named ∙ k)) (first_long_told edge.files (files_of request) 1 at h)
+    in
+    let stops = stops_reading edge.files (files_of request) 1 (course_of request) (fault.TooLong at) (first_long_stops edge.files (files_of request) 1 at h) in
+    let is = answers_stop Any (run_course words edge.files) (sound_run words edge.files told) (fault.TooLong at) s text (inr (request, named, stops)) a in
+    inl (is.0, by_line edge text (fault_text (fault.TooLong at)) is.1 w)
+too_long_comes words edge s request at (broken e due text a w) succeed named h = absurd (succeed w.0)
+too_long_comes words edge s request at (lacking e w) succeed named h = inr (e, w)
+
+-- ---- writes
+
+never_write_fault : (words : List (List ℕ)) (files : FilesSeen) (text : List ℕ) → Cause words files status.WriteFault text → ⊥
+never_write_fault words files text (no_form none e line) = let no : status.WriteFault ≡ status.Usage = e in cc
+never_write_fault words files text (unread file place next rose e line) = let no : status.WriteFault ≡ status.ReadFault = e in cc
+never_write_fault words files text (long file place next h e line) = let no : status.WriteFault ≡ status.TooLong = e in cc
+never_write_fault words files text (answered request named inputs were a) = of_command request inputs status.WriteFault text a
 
 pub write_faults_have_causes : WriteFaultsHaveCauses
-write_faults_have_causes words edge m = write_fault_by words edge status.WriteFault refl m
+write_faults_have_causes words edge (written text a w) = absurd (never_write_fault words edge.files text (answers_have_causes words edge.files status.WriteFault text a))
+write_faults_have_causes words edge (broken e due text a w) = w.0
+write_faults_have_causes words edge (lacking e w) = absurd (let no : status.WriteFault ≡ status.NoMemory = e in cc)
 
--- ---- lengths
+-- ---- what a command has answered
 
-long_or_short : (inputs : Inputs) (place : ℕ) → IsLongAt inputs place → AreShort inputs → ⊥
-long_or_short inputs place (long_portfolio p h) k = let short = k.portfolio in omega arith
-long_or_short inputs place (long_table p first bytes is h) k =
-    let short : IsShortTable (Some bytes) = subst (λ (t : Option (List ℕ)). IsShortTable t) is k.fixings in
-    omega arith
+-- the files of a command were read, and its answer to them was written
+pub record Answered (edge : Edge) (request : Request) (s : Status) : Type 0 where
+  pub inputs : List (List ℕ)
+  pub read : WereRead edge.files.contents (files_of request) inputs
+  pub text : List ℕ
+  pub answers : Answers (course_of request inputs) s text
+  pub line : WritesAll edge.sink text
 
-too_long_by : (edge : Edge) (asked : Asked) (inputs : Inputs) (s : Status) → Ends edge asked inputs s → TooLongIs inputs edge s
-too_long_by edge asked inputs s (long e place h w) = record { exact = record { comes = λ _. inl e; only = λ _. (place, h) }; line = λ _. (place, h, w) }
-too_long_by edge asked inputs s (with_nothing e w) = record {
-  exact = record { comes = λ _. inr e; only = λ is. apart (IsTooLong inputs) (λ (x : status.NoMemory ≡ status.TooLong). cc) e is };
-  line = λ is. absurd (apart ⊥ (λ (x : status.NoMemory ≡ status.TooLong). cc) e is);
-}
-too_long_by edge asked inputs s (with_answer text short a w) = record {
-  exact = record { comes = λ h. absurd (long_or_short inputs h.0 h.1 short); only = λ is. absurd (no_long asked inputs s text a is) };
-  line = λ is. absurd (no_long asked inputs s text a is);
-}
+-- so it is where the status is one that commands give
+module _ (words : List (List ℕ)) (edge : Edge) (request : Request) (named : Names words request) (s : Status) (given : OfCommand s) where
+  by_cause : (text : List ℕ) → Cause words edge.files s text → WritesAll edge.sink text → Answered edge request s
+  by_cause text (no_form none e line) w = absurd (subst OfCommand e given)
+  by_cause text (unread file place next rose e line) w = absurd (subst OfCommand e given)
+  by_cause text (long file place next h e line) w = absurd (subst OfCommand e given)
+  by_cause text (answered other is inputs were a) w =
+      let same = some_same other request (sym is ∙ named) in
+      record {
+        inputs = inputs;
+        read = subst (λ (x : Request). WereRead edge.files.contents (files_of x) inputs) same were;
+        text = text;
+        answers = subst (λ (x : Request). Answers (course_of x inputs) s text) same a;
+        line = w;
+      }
 
-pub too_long_is_exact : TooLongIsExact
-too_long_is_exact words edge s asked inputs m r = too_long_by edge asked inputs s (ends words edge asked inputs r s m)
+  pub answered_by : Meets words edge s → Answered edge request s
+  answered_by (written text a w) = by_cause text (answers_have_causes words edge.files s text a) w
+  answered_by (broken e due text a w) = absurd (subst OfCommand e given)
+  answered_by (lacking e w) = absurd (subst OfCommand e given)
 
--- ---- a status comes exactly where its cause stands
+-- no fault has the status of the end
+fault_not_done : (f : Fault) → status_of f ≡ status.Done → ⊥
+fault_not_done fault.Usage e = let no : status.Usage ≡ status.Done = e in cc
+fault_not_done (fault.Read place) e = let no : status.ReadFault ≡ status.Done = e in cc
+fault_not_done (fault.TooLong place) e = let no : status.TooLong ≡ status.Done = e in cc
+fault_not_done (fault.Text first) e = let no : status.BadText ≡ status.Done = e in cc
+fault_not_done (fault.UnknownName name) e = let no : status.UnknownName ≡ status.Done = e in cc
+fault_not_done (fault.Day word) e = let no : status.DayRange ≡ status.Done = e in cc
+fault_not_done (fault.Refused name rule node) e = let no : status.Refused ≡ status.Done = e in cc
+fault_not_done (fault.Row place row) e = let no : status.BadRow ≡ status.Done = e in cc
+fault_not_done (fault.Missing label day) e = let no : status.Missing ≡ status.Done = e in cc
 
-module _ (words : List (List ℕ)) (edge : Edge) (s : Status) (asked : Asked) (inputs : Inputs) (m : Meets words edge s) (r : IsReadWhole words edge asked inputs) where
-  -- what a run ends with that has read its files whole
-  by_answer : (P : Type 0) → ((text : List ℕ) → Answers asked inputs s text → WritesAll edge.sink text → P) → (s ≡ status.NoMemory → WritesNothing edge.sink → P) → P
-  by_answer P given none = by (ends words edge asked inputs r.read s m)
-    where
-      by : Ends edge asked inputs s → P
-      by (long e place h w) = absurd (long_or_short inputs place h r.short)
-      by (with_answer text short a w) = given text a w
-      by (with_nothing e w) = none e w
+done_told : (request : Request) (inputs : List (List ℕ)) (text : List ℕ) → Answers (course_of request inputs) status.Done text
+    → Tells (course_of request inputs) status.Done text
+done_told request inputs text (stopped f h e line) = absurd (fault_not_done f (sym e))
+done_told request inputs text (told h) = h
 
-  exact : (wanted : Status) (P : Type 0) → (status.NoMemory ≡ wanted → ⊥) → ((text : List ℕ) → Answers asked inputs s text → s ≡ wanted → P) → ((text : List ℕ) → Answers asked inputs s text → P → s ≡ wanted) → ComesExactlyWhere P wanted s
-  exact wanted P differ gives forces =
-      by_answer (ComesExactlyWhere P wanted s) (λ text a w. record { comes = λ cause. inl (forces text a cause); only = λ is. gives text a is }) (λ e w. record { comes = λ _. inr e; only = λ is. absurd (differ (sym e ∙ is)) })
-
-pub bad_text_is_exact : BadTextIsExact
-bad_text_is_exact words edge s asked inputs m r =
-    exact words edge s asked inputs m r status.BadText (IsNoText inputs.portfolio) (λ (x : status.NoMemory ≡ status.BadText). cc) (λ text a is. bad_gives asked inputs s (answer_is asked inputs s text a) is) (λ text a none. bad_forces asked inputs s text a none)
-
--- ---- the statuses that a portfolio gives
-
-exact_on_book : (wanted : Status) → (status.NoMemory ≡ wanted → ⊥) → (status.BadText ≡ wanted → ⊥) → (status.Done ≡ wanted → ⊥) → IsExactOnBook wanted
-exact_on_book wanted no_memory no_bad no_done words edge s asked inputs m r =
-    exact words edge s asked inputs m r wanted (IsTextWhere inputs.portfolio (CauseOnBook wanted asked inputs.fixings)) no_memory (λ text a is. gives_cause wanted no_bad no_done asked inputs s (answer_is asked inputs s text a) is) (λ text a cause. forces_cause wanted asked inputs s text a cause)
-
-pub refusals_are_exact : RefusalsAreExact
-refusals_are_exact = record {
-  unknown_name = exact_on_book status.UnknownName (λ (x : status.NoMemory ≡ status.UnknownName). cc) (λ (x : status.BadText ≡ status.UnknownName). cc) (λ (x : status.Done ≡ status.UnknownName). cc);
-  day_range = exact_on_book status.DayRange (λ (x : status.NoMemory ≡ status.DayRange). cc) (λ (x : status.BadText ≡ status.DayRange). cc) (λ (x : status.Done ≡ status.DayRange). cc);
-  refused = exact_on_book status.Refused (λ (x : status.NoMemory ≡ status.Refused). cc) (λ (x : status.BadText ≡ status.Refused). cc) (λ (x : status.Done ≡ status.Refused). cc);
-  bad_row = exact_on_book status.BadRow (λ (x : status.NoMemory ≡ status.BadRow). cc) (λ (x : status.BadText ≡ status.BadRow). cc) (λ (x : status.Done ≡ status.BadRow). cc);
-  missing = exact_on_book status.Missing (λ (x : status.NoMemory ≡ status.Missing). cc) (λ (x : status.BadText ≡ status.Missing). cc) (λ (x : status.Done ≡ status.Missing). cc);
-}
-
--- ---- completeness
-
-pub check_is_complete : CheckIsComplete
-check_is_complete words edge s file inputs b m r spelled =
-    by_answer words edge s (Check file) inputs m r _ (λ text a w. inl (text, check_whole file inputs b s text spelled a, w)) (λ e w. inr (e, w))
-
-pub flows_are_complete : FlowsAreComplete
-flows_are_complete words edge s flows inputs b last fixings m r spelled can =
-    by_answer words edge s (Flows flows) inputs m r _ (λ text a w. let h = flows_whole flows inputs b last fixings s text spelled can a in inl (text, h.0, h.1, w)) (λ e w. inr (e, w))
-
-pub advance_is_complete : AdvanceIsComplete
-advance_is_complete words edge s asked inputs b day fixings m r spelled can =
-    by_answer words edge s (Advance asked) inputs m r _ (λ text a w. let h = advance_whole asked inputs b day fixings s text spelled can a in inl (text, h.0, h.1, w)) (λ e w. inr (e, w))
-
-pub payoff_is_complete : PayoffIsComplete
-payoff_is_complete words edge s asked inputs b c m r spelled can =
-    by_answer words edge s (Payoff asked) inputs m r _ (λ text a w. let h = payoff_whole asked inputs b c s text spelled can a in inl (text, h.0, h.1, w)) (λ e w. inr (e, w))
+pub done_has_told : DoneHasTold
+done_has_told words edge request named m =
+    let a = answered_by words edge request named status.Done tt m in
+    record { inputs = a.inputs; read = a.read; text = a.text; told = done_told request a.inputs a.text a.answers; line = a.line }

@@ -1,13 +1,10 @@
-pub mod RunFacts
 pub mod ReadFacts
+pub mod RunFacts
+pub mod RunSound
 pub mod LawFacts
-pub mod ValueRuns
-pub mod FirstFileFacts
-pub mod ValueLawFacts
 pub mod ComposeFacts
 pub mod AdvanceTexts
 pub mod PayoffTexts
-pub mod OneSummary
 pub mod SampleLaws
 pub mod HeadlineFacts
 pub mod TwoRunFacts

@@ -1,59 +1,69 @@
 -- What is read of the files of a command, one after another, and what stops a run at one of them.
-use Rattle.std.proofs.Common.{◌≡◌, ◌∙◌, ◌≤◌, ◌<◌, ℕ, List, length, arith, refl, subst}
-use Rattle.std.specs.Prelude.{Option, Some, IfSome}
+use Rattle.std.proofs.Common.{◌≡◌, ◌≢◌, ◌∙◌, ◌≤◌, ◌<◌, ◌+◌, ℕ, suc, List, [], ◌∷◌, ◌++◌, Bor, inl, inr, length, take, drop, get_or, le_trans, ap, arith, subst, sym}
+use Rattle.std.specs.Prelude.{Option, IfSome, IsSome}
+use Rattle.std.specs.List.{All}
+use Rattle.std.proofs.lemmas.List.{take_more, get_or-map, append_assoc, take-append-drop, length-map}
+use Rattle.std.proofs.lemmas.List.Elements.{All-get_or}
 use Rattle.edge_io.specs.Counts.{Rose}
 use Rattle.edge_io.specs.Files.{CountsOnly}
+use Rattle.clap.specs.Walk.{texts}
 use Rattle.report.specs.declared.fault_lines.Fault.{Fault}
-use Rattle.command_words.specs.Commands.{Asked, ValueAsked, fixings_file, portfolio_file}
-use Rattle.contract_cli.specs.RunPromise.{CountsOnlyBy, CountsOnlyNamed, FilesSeen, FileFault, read_failed, read_long, by_command, by_value, is_code, is_curve, is_fixings, is_first, is_second, Names, NamesValue, StopsRun, at_file, WasRead, longest_file}
+use Rattle.contract_cli.specs.Reading.{FileFault, read_failed, read_long, StopsReading, WereRead}
+use Rattle.contract_cli.specs.Seen.{CountsOnlyOf, FilesSeen, WasRead, longest_file, seen}
 
--- a file that was read in a part of a run
-pub seen_told : (one two : FilesSeen) (file bytes : List ℕ) → two.contents file ≡ one.contents file → WasRead two file bytes → WasRead one file bytes
-seen_told one two file bytes same w = record { told = subst (λ (o : Option (List ℕ)). IfSome o (λ all. bytes ≡ all)) same w.told; fits = w.fits }
+-- ---- one file more
 
-rose_before : (a b c d : ℕ) → a ≤ b → c ≡ d → Rose b c → Rose a d
-rose_before a b c d less same rose = grind arith
+pub were_more : (contents : List ℕ → Option (List ℕ)) (names read : List (List ℕ)) (file bytes : List ℕ) → WereRead contents names read → WasRead contents file bytes
+    → WereRead contents (names ++ file ∷ []) (read ++ bytes ∷ [])
+were_more contents [] [] file bytes h w = (w, tt)
+were_more contents [] (x ∷ xs) file bytes h w = absurd h
+were_more contents (n ∷ ns) [] file bytes h w = absurd h
+were_more contents (n ∷ ns) (x ∷ xs) file bytes h w = (h.0, were_more contents ns xs file bytes h.1 w)
 
--- a fault in the last part of a run
-fault_seen : (one two : FilesSeen) (file : List ℕ) (place : ℕ) (f : Fault) → two.contents file ≡ one.contents file → one.faults_before file ≤ two.faults_before file → two.faults_after file ≡ one.faults_after file → FileFault two file place f → FileFault one file place f
-fault_seen one two file place f told less after (read_failed is rose) =
-    read_failed is (rose_before (one.faults_before file) (two.faults_before file) (two.faults_after file) (one.faults_after file) less after rose)
-fault_seen one two file place f told less after (read_long is long) =
-    read_long is (subst (λ (o : Option (List ℕ)). IfSome o (λ all. longest_file < length all)) told long)
+pub stops_behind : (files : FilesSeen) (names read : List (List ℕ)) (file : List ℕ) (more : List (List ℕ)) (place : ℕ) (f : Fault) → WereRead files.contents names read
+    → FileFault files file (place + length names) f → StopsReading files (names ++ file ∷ more) place f
+stops_behind files [] [] file more place f h k = inl (subst (λ (x : ℕ). FileFault files file x f) (omega arith) k)
+stops_behind files [] (x ∷ xs) file more place f h k = absurd h
+stops_behind files (n ∷ ns) [] file more place f h k = absurd h
+stops_behind files (n ∷ ns) (x ∷ xs) file more place f h k =
+    inr (x, h.0, stops_behind files ns xs file more (suc place) f h.1 (subst (λ (y : ℕ). FileFault files file y f) (omega arith) k))
 
--- a stop at the first file
-pub stopped_at_first : (words : List (List ℕ)) (files : FilesSeen) (asked : Asked) (f : Fault) → Names words asked → FileFault files (portfolio_file asked) 1 f → StopsRun words files f
-stopped_at_first words files asked f named h = at_file (portfolio_file asked) 1 (by_command asked named (is_first refl refl)) h
+-- ---- the name at an index
 
--- a stop at the second, behind the first
-pub stopped_at_second : (words : List (List ℕ)) (one two : FilesSeen) (asked : Asked) (file bytes : List ℕ) (f : Fault) → Names words asked → fixings_file asked ≡ Some file → WasRead one (portfolio_file asked) bytes → two.contents file ≡ one.contents file → one.faults_before file ≤ two.faults_before file → two.faults_after file ≡ one.faults_after file → FileFault two file 2 f → StopsRun words one f
-stopped_at_second words one two asked file bytes f named given read told less after h =
-    at_file file 2 (by_command asked named (is_second refl given bytes read)) (fault_seen one two file 2 f told less after h)
+pub texts_more : (names : List (Bor (List ℕ))) (i : ℕ) (d : Bor (List ℕ)) → i < length names → take (i + 1) (texts names) ≡ take i (texts names) ++ (get_or names i d).now ∷ []
+texts_more names i d lt =
+    take_more (texts names) i d.now (subst (λ (n : ℕ). i < n) (sym (length-map names (λ (word : Bor (List ℕ)). word.now))) lt)
+    ∙ ap (λ (x : List ℕ). take i (texts names) ++ x ∷ []) (get_or-map (λ (word : Bor (List ℕ)). word.now) names i d d.now lt)
 
--- ---- counts of faults
+pub texts_split : (names : List (Bor (List ℕ))) (i : ℕ) (d : Bor (List ℕ)) → i < length names
+    → texts names ≡ take i (texts names) ++ (get_or names i d).now ∷ drop (i + 1) (texts names)
+texts_split names i d lt =
+    sym (take-append-drop (i + 1) (texts names)) ∙ ap (λ (xs : List (List ℕ)). xs ++ drop (i + 1) (texts names)) (texts_more names i d lt)
+    ∙ append_assoc (take i (texts names)) ((get_or names i d).now ∷ []) (drop (i + 1) (texts names))
 
-both_stay : (a b c : ℕ) → b ≡ a → c ≡ b → c ≡ a
-both_stay a b c h k = k ∙ h
+pub other_name : (names : List (Bor (List ℕ))) (i : ℕ) (d : Bor (List ℕ)) → i < length names → (file : List ℕ) → All (λ name. file ≢ name) (texts names) → file ≢ (get_or names i d).now
+other_name names i d lt file all =
+    let there = All-get_or (λ (name : List ℕ). file ≢ name) (texts names) i d.now (subst (λ (n : ℕ). i < n) (sym (length-map names (λ (word : Bor (List ℕ)). word.now))) lt) all in
+    subst (λ (x : List ℕ). file ≢ x) (get_or-map (λ (word : Bor (List ℕ)). word.now) names i d d.now lt) there
 
--- one read, of the portfolio's file
-pub counts_of_one : (asked : Asked) (files : FilesSeen) (name : List ℕ) → name ≡ portfolio_file asked → CountsOnly files.contents files.faults_before files.faults_after name → CountsOnlyNamed asked files
-counts_of_one asked files name is h =
-    record { later = h.later; others = λ file unnamed told. h.others file (λ e. unnamed.other_portfolio (e ∙ is)) told }
+-- ---- a file that was read in a part of a run
 
--- what the command does not name its words do not
-pub counts_by_words : (words : List (List ℕ)) (asked : Asked) (files : FilesSeen) → Names words asked → CountsOnlyNamed asked files → CountsOnlyBy words files
-counts_by_words words asked files named h = record { later = h.later; others = λ file unnamed told. h.others file (unnamed.by_command asked named) told }
+module _ (contents middle : List ℕ → Option (List ℕ)) (before between after : List ℕ → ℕ) (kept : (file : List ℕ) → middle file ≡ contents file) where
+  pub seen_told : (file bytes : List ℕ) → WasRead middle file bytes → WasRead contents file bytes
+  seen_told file bytes w = record { told = subst (λ (o : Option (List ℕ)). IfSome o (λ all. bytes ≡ all)) (kept file) w.told; fits = w.fits }
 
--- ---- the files of `value`
+  rose_before : (a b c : ℕ) → a ≤ b → Rose b c → Rose a c
+  rose_before a b c less rose = grind arith
 
--- what is seen of three reads, one after another
-pub stopped_at_code : (words : List (List ℕ)) (files : FilesSeen) (asked : ValueAsked) (f : Fault) → NamesValue words asked → FileFault files asked.files.code 1 f → StopsRun words files f
-stopped_at_code words files asked f named h = at_file asked.files.code 1 (by_value asked named (is_code refl refl)) h
+  pub fault_seen : (file : List ℕ) (place : ℕ) (f : Fault) → before file ≤ between file → FileFault (seen middle between after) file place f
+      → FileFault (seen contents before after) file place f
+  fault_seen file place f less (read_failed is rose) = read_failed is (rose_before (before file) (between file) (after file) less rose)
+  fault_seen file place f less (read_long is long) =
+      read_long is (subst (λ (o : Option (List ℕ)). IfSome o (λ all. longest_file < length all)) (kept file) long)
 
-pub stopped_at_fixings : (words : List (List ℕ)) (one two : FilesSeen) (asked : ValueAsked) (code : List ℕ) (f : Fault) → NamesValue words asked → WasRead one asked.files.code code → two.contents asked.files.fixings ≡ one.contents asked.files.fixings → one.faults_before asked.files.fixings ≤ two.faults_before asked.files.fixings → two.faults_after asked.files.fixings ≡ one.faults_after asked.files.fixings → FileFault two asked.files.fixings 2 f → StopsRun words one f
-stopped_at_fixings words one two asked code f named read told less after h =
-    at_file asked.files.fixings 2 (by_value asked named (is_fixings refl refl code read)) (fault_seen one two asked.files.fixings 2 f told less after h)
-
-pub stopped_at_curve : (words : List (List ℕ)) (one two : FilesSeen) (asked : ValueAsked) (code fixings : List ℕ) (f : Fault) → NamesValue words asked → WasRead one asked.files.code code → WasRead one asked.files.fixings fixings → two.contents asked.files.curve ≡ one.contents asked.files.curve → one.faults_before asked.files.curve ≤ two.faults_before asked.files.curve → two.faults_after asked.files.curve ≡ one.faults_after asked.files.curve → FileFault two asked.files.curve 3 f → StopsRun words one f
-stopped_at_curve words one two asked code fixings f named read also told less after h =
-    at_file asked.files.curve 3 (by_value asked named (is_curve refl refl code read fixings also)) (fault_seen one two asked.files.curve 3 f told less after h)
+  pub counts_more : (names : List (List ℕ)) (name : List ℕ) → ((file : List ℕ) → All (λ n. file ≢ n) names → file ≢ name)
+      → CountsOnlyOf names (seen contents before between) → CountsOnly middle between after name → CountsOnlyOf names (seen contents before after)
+  counts_more names name apart h k = record {
+    later = λ file. le_trans (h.later file) (k.later file);
+    others = λ file unnamed told. k.others file (apart file unnamed) (subst (λ (o : Option (List ℕ)). IsSome o) (sym (kept file)) told) ∙ h.others file unnamed told;
+  }

@@ -1,43 +1,32 @@
 -- How a run of `sample` ends.
-use Rattle.std.proofs.Common.{◌≡◌, ◌∙◌, ◌⊎◌, inl, inr, ℕ, List, subst, sym}
-use Rattle.std.specs.Prelude.{Some}
-use Rattle.sample.specs.Summary.{IsSummary}
-use Rattle.command_words.specs.Commands.{OnCode, OnFiles, Sample}
-use Rattle.contract_cli.specs.RunPromise.{NamesSample, Cause, stopped, answered, valued, sampled, Edge, Meets, written, broken, lacking, no_form, at_file, by_command, by_value, WritesAll, WritesNothing}
-use Rattle.contract_cli.specs.RunLaws.{WritesSucceed}
-use Rattle.contract_cli.specs.SampleLaws.{SampleEnds, summarized, unwritten, no_memory, SampleHasThreeEnds, SampleIsComplete}
+use Rattle.std.proofs.Common.{◌∙◌, inl, inr, ℕ, List, subst, sym}
+use Rattle.command_words.specs.Commands.{Request, Sample, files_of}
 use Rattle.command_words.specs.Words.{request_of}
+use Rattle.command_answers.specs.Course.{Answers, Stops, Tells, stopped, told}
+use Rattle.command_answers.specs.Courses.{course_of}
 use Rattle.command_answers.specs.declared.status.Status.{Status}
-use Rattle.command_answers.specs.declared.status.Status.TheVariants as status
+use Rattle.command_answers.proofs.StageFacts.{none_or_some, some_same}
+use Rattle.contract_cli.specs.Reading.{reading}
+use Rattle.contract_cli.specs.RunPromise.{Meets, written, broken, lacking, Names, run_course}
+use Rattle.contract_cli.specs.SampleLaws.{SampleEnds, summarized, unwritten, no_memory, SampleHasThreeEnds}
+use Rattle.contract_cli.specs.Seen.{Edge, WritesAll}
 
-module _ (words : List (List ℕ)) (edge : Edge) (count : ℕ) (sample : NamesSample words count) where
-  by_cause : (s : Status) (text : List ℕ) → Cause words edge.files s text → WritesAll edge.sink text → SampleEnds edge count s
-  by_cause s text (stopped f (no_form none is) e line) w = absurd (let h : request_of words ≡ Some (Sample count) = sample in cc)
-  by_cause s text (stopped f (at_file file place (by_command asked named next) h) e line) w =
-      absurd (let a : request_of words ≡ Some (Sample count) = sample in let b : request_of words ≡ Some (OnFiles asked) = named in cc)
-  by_cause s text (stopped f (at_file file place (by_value asked named next) h) e line) w =
-      absurd (let a : request_of words ≡ Some (Sample count) = sample in let b : request_of words ≡ Some (OnCode asked) = named in cc)
-  by_cause s text (answered asked named inputs read h) w =
-      absurd (let a : request_of words ≡ Some (Sample count) = sample in let b : request_of words ≡ Some (OnFiles asked) = named in cc)
-  by_cause s text (valued asked named inputs read h) w =
-      absurd (let a : request_of words ≡ Some (Sample count) = sample in let b : request_of words ≡ Some (OnCode asked) = named in cc)
-  by_cause s text (sampled number asks e h) w =
-      let both : Some (Sample number) ≡ Some (Sample count) = sym asks ∙ sample in
-      let same : number ≡ count = cc in
-      summarized e text (subst (λ (n : ℕ). IsSummary n text) same h) w
+module _ (words : List (List ℕ)) (edge : Edge) (s : Status) (count : ℕ) (sample : Names words (Sample count)) where
+  -- what stands behind the words stands behind those of the sample
+  of_sample : (P : Request → Type 0) (request : Request) → Names words request → P request → P (Sample count)
+  of_sample P request named h = subst P (some_same request (Sample count) (sym named ∙ sample)) h
 
-  three_ends : (s : Status) → Meets words edge s → SampleEnds edge count s
-  three_ends s (written text cause w) = by_cause s text cause w
-  three_ends s (broken e due text cause w) = unwritten e w.0
-  three_ends s (lacking e w) = no_memory e w
+  by_answer : (text : List ℕ) → Answers (run_course words edge.files) s text → WritesAll edge.sink text → SampleEnds edge count s
+  by_answer text (stopped f (inl h) e line) w = absurd (none_or_some (request_of words) (Sample count) h.1 sample)
+  by_answer text (stopped f (inr h) e line) w = absurd (of_sample (λ request. Stops (reading edge.files (files_of request) 1 (course_of request)) f) h.0 h.1 h.2)
+  by_answer text (told h) w =
+      let here = of_sample (λ request. Tells (reading edge.files (files_of request) 1 (course_of request)) s text) h.0 h.1 h.2 in
+      summarized here.0 text here.1 w
+
+  three_ends : Meets words edge s → SampleEnds edge count s
+  three_ends (written text a w) = by_answer text a w
+  three_ends (broken e due text a w) = unwritten e w.0
+  three_ends (lacking e w) = no_memory e w
 
 pub sample_has_three_ends : SampleHasThreeEnds
-sample_has_three_ends words edge s count m sample = three_ends words edge count sample s m
-
-whole : (edge : Edge) (count : ℕ) (s : Status) → WritesSucceed edge → SampleEnds edge count s → ((text : List ℕ) × (s ≡ status.Done) × IsSummary count text × WritesAll edge.sink text) ⊎ ((s ≡ status.NoMemory) × WritesNothing edge.sink)
-whole edge count s calm (summarized e text h w) = inl (text, e, h, w)
-whole edge count s calm (unwritten e rose) = absurd (calm rose)
-whole edge count s calm (no_memory e w) = inr (e, w)
-
-pub sample_is_complete : SampleIsComplete
-sample_is_complete words edge s count m sample calm = whole edge count s calm (sample_has_three_ends words edge s count m sample)
+sample_has_three_ends words edge s count m sample = three_ends words edge s count sample m

@@ -1,5 +1,5 @@
 -- The laws of two runs, of which the second reads what the first has printed.
-use Rattle.std.proofs.Common.{◌≡◌, ◌∙◌, ◌⊎◌, inl, inr, ◌++◌, ◌≤◌, ℕ, List, ap, refl, subst, sym}
+use Rattle.std.proofs.Common.{◌≡◌, ◌∙◌, inl, inr, ◌++◌, ◌≤◌, ℕ, List, [], ◌∷◌, ap, refl, subst, sym}
 use Rattle.std.specs.Prelude.{Option, Some, None}
 use Rattle.std.specs.Io.KnownBytes.{Appends}
 use Rattle.std.proofs.lemmas.List.{append_cancel_left}
@@ -13,25 +13,26 @@ use Rattle.payoff_lang.specs.CodeBooks.{CodeBook}
 use Rattle.payoff_lang.specs.CodeFiles.{CodeText}
 use Rattle.payoff_lang.specs.Meaning.{CodeMeans, Counting, Remaining}
 use Rattle.payoff_lang.proofs.OneCode.{one_code_text}
-use Rattle.command_words.specs.Commands.{AdvanceAsked, PayoffAsked, ValueAsked}
-use Rattle.contract_cli.specs.AdvanceLaws.{IsTextOfRest}
-use Rattle.command_answers.specs.ValueCauses.{CodeIsRefused, IsAcceptedAtSetting}
+use Rattle.command_words.specs.Commands.{AdvanceAsked, Check, PayoffAsked, Value, ValueAsked}
 use Rattle.command_answers.specs.AdvancePromise.{IsRestBook}
-use Rattle.command_answers.specs.CheckPromise.{AreAllAccepted, IsCheckText, all_accepted, some_refused}
-use Rattle.contract_cli.specs.Headline.{HasAdvanced, HasCompiled, HasValued, IsAcceptedAtNumbers}
-use Rattle.contract_cli.specs.PayoffLaws.{counted}
-use Rattle.contract_cli.specs.RunLaws.{IsCarriedBook, IsOrNoMemory}
-use Rattle.contract_cli.specs.RunPromise.{Edge, SinkLeft, WasRead, WritesAll, WritesNothing}
-use Rattle.contract_cli.specs.TwoRuns.{AdvancedTextsAdvance, AdvancedTextsAreAccepted, Passes, Printed, PrintedCodeIsTaken, PrintedCodeIsValued}
-use Rattle.command_answers.specs.UsedContracts.{used}
+use Rattle.command_answers.specs.Course.{Answers, stopped, told}
+use Rattle.command_answers.specs.DueOfValue.{CauseOfValue, CodeIsRefused, IsAcceptedAtSetting}
+use Rattle.command_answers.specs.Inputs.{file_at}
+use Rattle.command_answers.specs.Statuses.{status_of}
+use Rattle.command_answers.specs.ValueCourse.{value_course}
 use Rattle.command_answers.specs.ValuePromise.{setting_by}
 use Rattle.command_answers.specs.declared.status.Status.{Status}
 use Rattle.command_answers.specs.declared.status.Status.TheVariants as status
+use Rattle.command_answers.proofs.DueFacts.{due_of_value}
+use Rattle.contract_cli.specs.AdvanceLaws.{IsCarriedBook, IsTextOfRest}
+use Rattle.contract_cli.specs.Headline.{HasAdvanced, HasCompiled, HasValued, IsAcceptedAtNumbers}
+use Rattle.contract_cli.specs.PayoffLaws.{counted}
+use Rattle.contract_cli.specs.Seen.{Edge, SinkLeft, WasRead, WritesAll}
+use Rattle.contract_cli.specs.TwoRuns.{AdvancedTextsAdvance, AdvancedTextsAreAccepted, Passes, Printed, PrintedCodeIsTaken, PrintedCodeIsValued}
 use Rattle.contract_cli.proofs.ComposeFacts.{advances_compose}
 use Rattle.contract_cli.proofs.HeadlineFacts.{headline}
-use Rattle.contract_cli.proofs.LawFacts.{check_is_complete}
-use Rattle.contract_cli.proofs.ValueLawFacts.{bad_code_is_exact, value_refusals_are_exact}
-use Rattle.contract_cli.proofs.ValueRuns.{same_bytes}
+use Rattle.contract_cli.proofs.LawFacts.{statuses_over_files_are_exact}
+use Rattle.contract_cli.proofs.RunSound.{first_read, first_told, same_bytes}
 
 -- ---- one text is passed on
 
@@ -43,8 +44,8 @@ grown_by before after text (Some xs) (Some ys) e f h =
     let last : ys ≡ after = cc in
     sym last ∙ h ∙ ap (λ (zs : List ℕ). zs ++ text) first
 
-told_same : (one other : List ℕ) (told : Option (List ℕ)) → told ≡ Some one → told ≡ Some other → one ≡ other
-told_same one other told e f = cc
+held_same : (one other : List ℕ) (held : Option (List ℕ)) → held ≡ Some one → held ≡ Some other → one ≡ other
+held_same one other held e f = cc
 
 -- what was written is what was printed
 was_printed : (sink : SinkLeft) (text written : List ℕ) → Printed sink text → WritesAll sink written → written ≡ text
@@ -53,15 +54,17 @@ was_printed sink text written p w =
     (sym (grown_by p.before (p.before ++ text) written sink.taken_before sink.taken_after p.held p.holds w))
 
 -- what the second run has read of the file is what the first has written
-pub was_passed : (first second : Edge) (file written read : List ℕ) → Passes first second file → WritesAll first.sink written → WasRead second.files file read → read ≡ written
+pub was_passed : (first second : Edge) (file written read : List ℕ) → Passes first second file → WritesAll first.sink written → WasRead second.files.contents file read → read ≡ written
 was_passed first second file written read p w r =
-    same_bytes second.files file read p.text r p.told ∙ sym (was_printed first.sink p.text written p.printed w)
+    same_bytes second.files.contents file read p.text r p.told ∙ sym (was_printed first.sink p.text written p.printed w)
 
 -- ---- `payoff`, and then `value`
 
-code_passed : (first second : Edge) (compiled : PayoffAsked) (asked : ValueAsked) (h : HasCompiled first compiled) (k : HasValued second asked) → Passes first second asked.files.code → k.book ≡ h.code.file
+code_passed : (first second : Edge) (compiled : PayoffAsked) (asked : ValueAsked) (h : HasCompiled first compiled) (k : HasValued second asked)
+    → Passes first second asked.files.code → k.book ≡ h.code.file
 code_passed first second compiled asked h k p =
-    let bytes = was_passed first second asked.files.code h.text k.inputs.code p h.ran.written k.read.code in
+    let code = first_read second.files.contents asked.files.code (asked.files.fixings ∷ asked.files.curve ∷ []) k.inputs k.read in
+    let bytes = was_passed first second asked.files.code h.text (file_at k.inputs 0) p h.ran.written code in
     one_code_text h.text k.book h.code.file (subst (λ (x : List ℕ). CodeText x k.book) bytes k.spelled) h.code.spelled
 
 pub printed_code_is_valued : PrintedCodeIsValued
@@ -76,34 +79,55 @@ printed_code_is_valued words more first second compiled asked one plain two p =
     let means = subst (λ (x : CodeBook). CodeMeans x.declarations x.code h.code.contr Remaining) (sym same) whole in
     record { compiling = h; valuing = k; same_code = same; worth = k.worth h.code.contr means }
 
+-- what `value` answers to a text of code, but the number, has its cause in the code file
+module _ (asked : ValueAsked) (inputs : List (List ℕ)) (b : CodeBook) (spelled : CodeText (file_at inputs 0) b) where
+  abbrev CauseOf : Status → CodeBook → Type 0
+  CauseOf s code = CauseOfValue s asked (file_at inputs 1) (file_at inputs 2) code
+
+  cause_of : (s : Status) (text : List ℕ) → (s ≡ status.Done → ⊥) → Answers (value_course asked inputs) s text → CauseOf s b
+  cause_of s text not_done (stopped f (inl bad) e line) = absurd (bad.no_code b spelled)
+  cause_of s text not_done (stopped f (inr h) e line) =
+      let cause : CauseOf (status_of f) h.0 = (due_of_value asked (file_at inputs 1) (file_at inputs 2) h.0).cause f h.2 in
+      subst (λ (code : CodeBook). CauseOf s code) (one_code_text (file_at inputs 0) h.0 b h.1 spelled) (subst (λ (x : Status). CauseOf x h.0) (sym e) cause)
+  cause_of s text not_done (told (code, is, (flow, names, (day, is_day, (_, accepted, (fixings, are, (factors, hold, (_, fixed, (done, worth))))))))) = absurd (not_done done)
+
 -- the code of the text is not refused where the contract is accepted
-never_refused : (first : Edge) (compiled : PayoffAsked) (asked : ValueAsked) (h : HasCompiled first compiled) → IsAcceptedAtNumbers asked h.book.declarations h.code.contr → (b : CodeBook) → b ≡ h.code.file → CodeIsRefused asked b → ⊥
-never_refused first compiled asked h accepted b same cause =
+never_refused : (first : Edge) (compiled : PayoffAsked) (asked : ValueAsked) (h : HasCompiled first compiled) → IsAcceptedAtNumbers asked h.book.declarations h.code.contr
+    → CodeIsRefused asked h.code.file → ⊥
+never_refused first compiled asked h accepted cause =
     let there = h.code.code.accepted (setting_by h.book.declarations asked.settings) accepted in
-    let here = subst (λ (d : Declarations). IsAcceptedCode d (setting_by d asked.settings) h.code.file.code) (sym h.code.declarations) there in
-    cause.refused (subst (λ (x : CodeBook). IsAcceptedAtSetting asked x) (sym same) here)
+    let here : IsAcceptedAtSetting asked h.code.file = subst (λ (d : Declarations). IsAcceptedCode d (setting_by d asked.settings) h.code.file.code) (sym h.code.declarations) there in
+    cause.refused here
 
 pub printed_code_is_taken : PrintedCodeIsTaken
 printed_code_is_taken words more first second s compiled asked inputs one m r p =
     let h = (headline words first status.Done one.done).compiles compiled one.named refl in
-    let bytes : inputs.code ≡ h.text = told_same inputs.code p.text _ r.read.code.told p.told ∙ sym (was_printed first.sink p.text h.text p.printed h.ran.written) in
-    let spelled : CodeText inputs.code h.code.file = subst (λ (x : List ℕ). CodeText x h.code.file) (sym bytes) h.code.spelled in
+    let file = file_at inputs 0 in
+    let held = first_told second.files asked.files.code (asked.files.fixings ∷ asked.files.curve ∷ []) inputs r.whole in
+    let bytes : file ≡ h.text = held_same file p.text _ held p.told ∙ sym (was_printed first.sink p.text h.text p.printed h.ran.written) in
+    let spelled : CodeText file h.code.file = subst (λ (x : List ℕ). CodeText x h.code.file) (sym bytes) h.code.spelled in
+    let exact = λ (wanted : Status). statuses_over_files_are_exact more second s wanted (Value asked) inputs m r in
     record {
       compiling = h;
-      is_code = λ is. (bad_code_is_exact more second s asked inputs m r).only is h.code.file spelled;
+      is_code = λ is.
+          (let a = ((exact status.BadText (λ (e : status.BadText ≡ status.NoMemory). cc)).only is).1 in
+          cause_of asked inputs h.code.file spelled status.BadText a.0 (λ (e : status.BadText ≡ status.Done). cc) a.1);
       not_refused = λ accepted is.
-          let cause = (value_refusals_are_exact.refused more second s asked inputs m r).only is in
-          never_refused first compiled asked h accepted cause.book (one_code_text inputs.code cause.book h.code.file cause.spelled spelled) cause.holds;
+          (let a = ((exact status.Refused (λ (e : status.Refused ≡ status.NoMemory). cc)).only is).1 in
+          never_refused first compiled asked h accepted (cause_of asked inputs h.code.file spelled status.Refused a.0 (λ (e : status.Refused ≡ status.Done). cc) a.1));
     }
 
 -- ---- `advance`, and then `advance`
 
-portfolio_passed : (first second : Edge) (asked later : AdvanceAsked) (h : HasAdvanced first asked) (k : HasAdvanced second later) → Passes first second later.portfolio → k.book ≡ h.rest.rest
+portfolio_passed : (first second : Edge) (asked later : AdvanceAsked) (h : HasAdvanced first asked) (k : HasAdvanced second later)
+    → Passes first second later.portfolio → k.book ≡ h.rest.rest
 portfolio_passed first second asked later h k p =
-    let bytes = was_passed first second later.portfolio h.text k.inputs.portfolio p h.ran.written k.ran.read.portfolio in
+    let portfolio = first_read second.files.contents later.portfolio (later.fixings ∷ []) k.inputs k.ran.read in
+    let bytes = was_passed first second later.portfolio h.text (file_at k.inputs 0) p h.ran.written portfolio in
     one_text h.text k.book h.rest.rest (subst (λ (x : List ℕ). Text x k.book) bytes k.ran.spelled) h.rest.spelled
 
-carried_on : (b next : Book) (asked later : AdvanceAsked) (table other : Option (List ℕ)) (text after : List ℕ) (h : IsTextOfRest b asked table text) (k : IsTextOfRest next later other after) → next ≡ h.rest → Extends h.fixings k.fixings → IsCarriedBook b k.fixings k.day k.rest
+carried_on : (b next : Book) (asked later : AdvanceAsked) (table other : Option (List ℕ)) (text after : List ℕ)
+    (h : IsTextOfRest b asked table text) (k : IsTextOfRest next later other after) → next ≡ h.rest → Extends h.fixings k.fixings → IsCarriedBook b k.fixings k.day k.rest
 carried_on b next asked later table other text after h k same extends =
     let left : IsRestBook h.rest k.fixings k.day k.rest = subst (λ (x : Book). IsRestBook x k.fixings k.day k.rest) same k.is_rest in
     let begun = ap (λ (x : Book). x.declarations.start) same ∙ ap (λ d. d.start) h.is_rest.declarations in
@@ -119,25 +143,15 @@ advanced_texts_advance words more first second asked later one two p =
       earlier = h;
       next = k;
       same_portfolio = same;
-      carries = carried_on h.book k.book asked later h.inputs.fixings k.inputs.fixings h.text k.text h.rest k.rest same;
+      carries = carried_on h.book k.book asked later (Some (file_at h.inputs 1)) (Some (file_at k.inputs 1)) h.text k.text h.rest k.rest same;
     }
-
--- a portfolio whose contracts are all accepted is not refused
-all_done : (b : Book) (s : Status) (text : List ℕ) → AreAllAccepted b.declarations (used None b) → IsCheckText b s text → s ≡ status.Done
-all_done b s text all (all_accepted e every lines) = e
-all_done b s text all (some_refused e none lines) = absurd (none all)
-
-check_ends : (b : Book) (edge : Edge) (s : Status) → AreAllAccepted b.declarations (used None b)
-    → ((text : List ℕ) × IsCheckText b s text × WritesAll edge.sink text) ⊎ ((s ≡ status.NoMemory) × WritesNothing edge.sink)
-    → IsOrNoMemory status.Done s
-check_ends b edge s all (inl h) = inl (all_done b s h.0 all h.1)
-check_ends b edge s all (inr h) = inr h.0
 
 pub advanced_texts_are_accepted : AdvancedTextsAreAccepted
 advanced_texts_are_accepted words more first second s asked file inputs one m r p =
     let h = (headline words first status.Done one.done).advances asked one.named refl in
-    let bytes : inputs.portfolio ≡ h.text =
-    told_same inputs.portfolio p.text _ r.read.portfolio.told p.told ∙ sym (was_printed first.sink p.text h.text p.printed h.ran.written)
-    in
-    let spelled : Text inputs.portfolio h.rest.rest = subst (λ (x : List ℕ). Text x h.rest.rest) (sym bytes) h.rest.spelled in
-    check_ends h.rest.rest second s h.rest.accepted (check_is_complete more second s file inputs h.rest.rest m r spelled)
+    let read = file_at inputs 0 in
+    let held = first_told second.files file [] inputs r.whole in
+    let bytes : read ≡ h.text = held_same read p.text _ held p.told ∙ sym (was_printed first.sink p.text h.text p.printed h.ran.written) in
+    let spelled : Text read h.rest.rest = subst (λ (x : List ℕ). Text x h.rest.rest) (sym bytes) h.rest.spelled in
+    let exact = statuses_over_files_are_exact more second s status.Done (Check file) inputs m r (λ (e : status.Done ≡ status.NoMemory). cc) in
+    exact.comes (inr (h.rest.rest, spelled, inl (refl, h.rest.accepted)))

@@ -3,7 +3,7 @@
 -- flows are those of the first, shifted, in every admitted environment that extends the fixings. `payoff` writes code that
 -- means its contract. And `value`, on code that means a contract, writes the discounted sum of what the contract still pays
 -- between two parties (Bahr, Berthold and Elsman, ICFP 2015; Annenkov and Elsman, PPDP 2018).
-use Rattle.std.specs.Prelude.{◌≡◌, ◌+◌, ◌⊎◌, ℕ, ℤ, pos, List}
+use Rattle.std.specs.Prelude.{◌≡◌, ◌+◌, ◌⊎◌, ℕ, ℤ, pos, List, Some}
 use Rattle.term_core.specs.Acceptance.{IsAccepted}
 use Rattle.term_core.specs.Books.{Book}
 use Rattle.term_core.specs.Declarations.{Declarations}
@@ -17,28 +17,30 @@ use Rattle.payoff_lang.specs.CodeValues.{Asked as Question}
 use Rattle.payoff_lang.specs.Meaning.{CodeMeans, Remaining, counting}
 use Rattle.payoff_lang.specs.PresentValues.{present_value}
 use Rattle.report.specs.ValueLines.{value_text}
-use Rattle.command_words.specs.Commands.{Advance, AdvanceAsked, Asked, Check, Payoff, PayoffAsked, ValueAsked}
-use Rattle.contract_cli.specs.AdvanceLaws.{IsTextOfRest}
+use Rattle.command_words.specs.Commands.{Advance, AdvanceAsked, Check, Payoff, PayoffAsked, Request, Value, ValueAsked, files_of}
 use Rattle.command_answers.specs.AdvancePromise.{IsAdvanceText}
-use Rattle.command_answers.specs.FilesPromise.{Inputs}
 use Rattle.command_answers.specs.CheckPromise.{IsCheckText}
-use Rattle.contract_cli.specs.PayoffLaws.{IsTextOfCode}
-use Rattle.contract_cli.specs.RunPromise.{Edge, Names, NamesValue, WereRead, WereReadForValue, WritesAll}
-use Rattle.command_answers.specs.ValuePromise.{CanValue, ValueInputs, question, setting_by}
+use Rattle.command_answers.specs.Inputs.{file_at}
+use Rattle.command_answers.specs.ValuePromise.{CanValue, question, setting_by}
 use Rattle.command_answers.specs.declared.status.Status.{Status}
 use Rattle.command_answers.specs.declared.status.Status.TheVariants as status
+use Rattle.contract_cli.specs.AdvanceLaws.{IsTextOfRest}
+use Rattle.contract_cli.specs.PayoffLaws.{IsTextOfCode}
+use Rattle.contract_cli.specs.Reading.{WereRead}
+use Rattle.contract_cli.specs.RunPromise.{Names}
+use Rattle.contract_cli.specs.Seen.{Edge, WritesAll}
 
--- a command on a portfolio's file has read it and written a text
-pub record Ran (edge : Edge) (asked : Asked) (b : Book) (inputs : Inputs) (text : List ℕ) : Type 0 where
-  pub read : WereRead edge.files asked inputs
-  pub spelled : Text inputs.portfolio b
+-- a command has read its files, of which the first is a portfolio's, and written a text
+pub record Ran (edge : Edge) (request : Request) (b : Book) (inputs : List (List ℕ)) (text : List ℕ) : Type 0 where
+  pub read : WereRead edge.files.contents (files_of request) inputs
+  pub spelled : Text (file_at inputs 0) b
   pub written : WritesAll edge.sink text
 
 -- `check` has written a verdict on each contract: it is accepted by the written rules, and then causal, or refused by the
 -- first of them that fails
 pub record HasChecked (edge : Edge) (file : List ℕ) (s : Status) : Type 0 where
   pub book : Book
-  pub inputs : Inputs
+  pub inputs : List (List ℕ)
   pub text : List ℕ
   pub ran : Ran edge (Check file) book inputs text
   pub verdicts : IsCheckText book s text
@@ -47,16 +49,16 @@ pub record HasChecked (edge : Edge) (file : List ℕ) (s : Status) : Type 0 wher
 -- ones to that day
 pub record HasAdvanced (edge : Edge) (asked : AdvanceAsked) : Type 0 where
   pub book : Book
-  pub inputs : Inputs
+  pub inputs : List (List ℕ)
   pub text : List ℕ
   pub ran : Ran edge (Advance asked) book inputs text
-  pub advanced : IsAdvanceText book asked inputs.fixings text
-  pub rest : IsTextOfRest book asked inputs.fixings text
+  pub advanced : IsAdvanceText book asked (Some (file_at inputs 1)) text
+  pub rest : IsTextOfRest book asked (Some (file_at inputs 1)) text
 
 -- `payoff` has written a text of code that means the contract, and is accepted at every setting at which the contract is
 pub record HasCompiled (edge : Edge) (asked : PayoffAsked) : Type 0 where
   pub book : Book
-  pub inputs : Inputs
+  pub inputs : List (List ℕ)
   pub text : List ℕ
   pub ran : Ran edge (Payoff asked) book inputs text
   pub code : IsTextOfCode book asked text
@@ -77,7 +79,8 @@ value_left b asked c env asks =
 -- a number is the present value of a contract, where this one is accepted at the numbers that are set: the sum of what it still
 -- pays from the one party to the other in the asset, each day with its discount factor, in every admitted environment that
 -- extends the fixings
-abbrev pub IsPresentValue : (b : CodeBook) (asked : ValueAsked) (inputs : ValueInputs) → CanValue b asked inputs → ℤ → Contract → Type 0
+abbrev pub IsPresentValue :
+    (b : CodeBook) (asked : ValueAsked) (inputs : List (List ℕ)) → CanValue b asked (file_at inputs 1) (file_at inputs 2) → ℤ → Contract → Type 0
 IsPresentValue b asked inputs can amount c =
     IsAcceptedAtNumbers asked b.declarations c
     → (env : Environment) → IsAdmitted b.declarations env → Extends can.fixings env
@@ -86,10 +89,10 @@ IsPresentValue b asked inputs can amount c =
 -- `value` has written the present value of every contract that the code means with what is left to pay
 pub record HasValued (edge : Edge) (asked : ValueAsked) : Type 0 where
   pub book : CodeBook
-  pub inputs : ValueInputs
-  pub read : WereReadForValue edge.files asked inputs
-  pub spelled : CodeText inputs.code book
-  pub can : CanValue book asked inputs
+  pub inputs : List (List ℕ)
+  pub read : WereRead edge.files.contents (files_of (Value asked)) inputs
+  pub spelled : CodeText (file_at inputs 0) book
+  pub can : CanValue book asked (file_at inputs 1) (file_at inputs 2)
   pub amount : ℤ
   pub worth : (c : Contract) → CodeMeans book.declarations book.code c Remaining → IsPresentValue book asked inputs can amount c
   pub written : WritesAll edge.sink (value_text amount (book.declarations.amounts + 9))
@@ -102,4 +105,4 @@ pub record Headline (words : List (List ℕ)) (edge : Edge) (s : Status) : Type 
   pub checks : (file : List ℕ) → Names words (Check file) → Judged s → HasChecked edge file s
   pub advances : (asked : AdvanceAsked) → Names words (Advance asked) → s ≡ status.Done → HasAdvanced edge asked
   pub compiles : (asked : PayoffAsked) → Names words (Payoff asked) → s ≡ status.Done → HasCompiled edge asked
-  pub values : (asked : ValueAsked) → NamesValue words asked → s ≡ status.Done → HasValued edge asked
+  pub values : (asked : ValueAsked) → Names words (Value asked) → s ≡ status.Done → HasValued edge asked

@@ -1,9 +1,9 @@
+pub mod Seen
+pub mod Reading
 pub mod RunPromise
-pub mod RunParts
 pub mod RunLaws
 pub mod AdvanceLaws
 pub mod PayoffLaws
-pub mod ValueLaws
 pub mod SampleLaws
 pub mod Headline
 pub mod TwoRuns

@@ -1,16 +1,12 @@
--- Laws of `sample`, whose promise is the summary of the crate `sample`: that a number of contracts has one summary, how a run
--- ends, and that a run with nothing in its way writes the summary.
-use Rattle.std.specs.Prelude.{◌≡◌, ◌⊎◌, ℕ, List}
+-- A law of `sample`, whose promise is the summary of the crate `sample`: how a run of it ends.
+use Rattle.std.specs.Prelude.{◌≡◌, ℕ, List}
 use Rattle.edge_io.specs.Counts.{Rose}
 use Rattle.sample.specs.Summary.{IsSummary}
-use Rattle.contract_cli.specs.RunLaws.{WritesSucceed}
-use Rattle.contract_cli.specs.RunPromise.{Edge, Meets, NamesSample, WritesAll, WritesNothing}
+use Rattle.command_words.specs.Commands.{Sample}
 use Rattle.command_answers.specs.declared.status.Status.{Status}
 use Rattle.command_answers.specs.declared.status.Status.TheVariants as status
-
--- the sample of so many contracts has one summary
-abbrev pub SummariesAreOne : Type 0
-SummariesAreOne = (count : ℕ) (one other : List ℕ) → IsSummary count one → IsSummary count other → one ≡ other
+use Rattle.contract_cli.specs.RunPromise.{Meets, Names}
+use Rattle.contract_cli.specs.Seen.{Edge, WritesAll, WritesNothing}
 
 -- `sample` ends with its summary written, or with a failed write, or for want of memory; it has no other status
 pub data SampleEnds (edge : Edge) (count : ℕ) (s : Status) : Type 0 where
@@ -21,12 +17,4 @@ pub data SampleEnds (edge : Edge) (count : ℕ) (s : Status) : Type 0 where
 abbrev pub SampleHasThreeEnds : Type 0
 SampleHasThreeEnds =
     (words : List (List ℕ)) (edge : Edge) (s : Status) (count : ℕ)
-    → Meets words edge s → NamesSample words count → SampleEnds edge count s
-
--- `sample` where no write failed: its summary is written
-abbrev pub SampleIsComplete : Type 0
-SampleIsComplete =
-    (words : List (List ℕ)) (edge : Edge) (s : Status) (count : ℕ)
-    → Meets words edge s → NamesSample words count → WritesSucceed edge
-    → ((text : List ℕ) × (s ≡ status.Done) × IsSummary count text × WritesAll edge.sink text)
-    ⊎ ((s ≡ status.NoMemory) × WritesNothing edge.sink)
+    → Meets words edge s → Names words (Sample count) → SampleEnds edge count s

@@ -3,13 +3,12 @@
 -- contracts that carry the first ones (Bahr, Berthold and Elsman, ICFP 2015).
 use Rattle.std.specs.Prelude.{◌≡◌, ◌++◌, ℕ, false, List, Some}
 use Rattle.term_core.specs.Environments.{Extends}
-use Rattle.command_words.specs.Commands.{Advance, AdvanceAsked, Check, Payoff, PayoffAsked, ValueAsked}
-use Rattle.command_answers.specs.FilesPromise.{Inputs}
+use Rattle.command_words.specs.Commands.{Advance, AdvanceAsked, Check, Payoff, PayoffAsked, Value, ValueAsked}
+use Rattle.contract_cli.specs.AdvanceLaws.{IsCarriedBook}
 use Rattle.contract_cli.specs.Headline.{HasAdvanced, HasCompiled, HasValued, IsAcceptedAtNumbers, IsPresentValue}
-use Rattle.contract_cli.specs.RunLaws.{IsCarriedBook, IsOrNoMemory, IsReadWhole}
-use Rattle.contract_cli.specs.RunPromise.{Edge, Meets, Names, NamesValue, SinkLeft}
-use Rattle.contract_cli.specs.ValueLaws.{IsReadWholeForValue}
-use Rattle.command_answers.specs.ValuePromise.{ValueInputs}
+use Rattle.contract_cli.specs.RunLaws.{IsOrNoMemory, IsReadWhole}
+use Rattle.contract_cli.specs.RunPromise.{Meets, Names}
+use Rattle.contract_cli.specs.Seen.{Edge, SinkLeft}
 use Rattle.command_answers.specs.declared.status.Status.{Status}
 use Rattle.command_answers.specs.declared.status.Status.TheVariants as status
 
@@ -34,7 +33,7 @@ pub record Compiles (words : List (List ℕ)) (edge : Edge) (asked : PayoffAsked
 
 -- `value` has printed a number
 pub record Values (words : List (List ℕ)) (edge : Edge) (asked : ValueAsked) : Type 0 where
-  pub named : NamesValue words asked
+  pub named : Names words (Value asked)
   pub done : Meets words edge status.Done
 
 -- the code that `value` has read is that which `payoff` has written, on the declarations of the portfolio, and the number that
@@ -59,8 +58,8 @@ pub record IsTakenByValue (first : Edge) (compiled : PayoffAsked) (asked : Value
 
 abbrev pub PrintedCodeIsTaken : Type 0
 PrintedCodeIsTaken =
-    (words more : List (List ℕ)) (first second : Edge) (s : Status) (compiled : PayoffAsked) (asked : ValueAsked) (inputs : ValueInputs)
-    → Compiles words first compiled → Meets more second s → IsReadWholeForValue more second asked inputs
+    (words more : List (List ℕ)) (first second : Edge) (s : Status) (compiled : PayoffAsked) (asked : ValueAsked) (inputs : List (List ℕ))
+    → Compiles words first compiled → Meets more second s → IsReadWhole more second (Value asked) inputs
     → Passes first second asked.files.code → IsTakenByValue first compiled asked s
 
 -- ---- `advance`, and then `advance`
@@ -87,6 +86,6 @@ AdvancedTextsAdvance =
 -- `check` accepts each contract of what `advance` has printed: it ends well, or for want of memory
 abbrev pub AdvancedTextsAreAccepted : Type 0
 AdvancedTextsAreAccepted =
-    (words more : List (List ℕ)) (first second : Edge) (s : Status) (asked : AdvanceAsked) (file : List ℕ) (inputs : Inputs)
+    (words more : List (List ℕ)) (first second : Edge) (s : Status) (asked : AdvanceAsked) (file : List ℕ) (inputs : List (List ℕ))
     → Advances words first asked → Meets more second s → IsReadWhole more second (Check file) inputs → Passes first second file
     → IsOrNoMemory status.Done s

@@ -1,12 +1,34 @@
-//! Laws of the causes of a run's status. Each is the contract of a function that does nothing.
+//! Laws of a run's status. Each is the contract of a function that does nothing.
 
-ghost use Rattle.contract_cli.specs.AdvanceLaws.{AdvanceTextsAreTexts};
+ghost use Rattle.command_answers.specs.AnswerLaws.{AnswersAreOne, DeclaredNamesHavePlaces, DueLinesAreOne, StatusesAreOne, SummariesAreOne};
+ghost use Rattle.command_answers.specs.DueOfFlows.{DueOfFlows};
+ghost use Rattle.command_answers.specs.DueOfValue.{DueOfValue};
+ghost use Rattle.contract_cli.specs.AdvanceLaws.{AdvanceTextsAreTexts, AdvancesCompose};
 ghost use Rattle.contract_cli.specs.PayoffLaws.{PayoffTextsMean};
-ghost use Rattle.contract_cli.specs.RunLaws.{FirstTooLongIsExact, AdvanceIsComplete, AdvancesCompose, BadTextIsExact, CheckIsComplete, FlowsAreComplete, PayoffIsComplete, ReadFaultsHaveCauses, RefusalsAreExact, TooLongIsExact, UsageIsExact, UsageWritesItsLine, WriteFaultsHaveCauses};
-ghost use Rattle.contract_cli.specs.SampleLaws.{SampleHasThreeEnds, SampleIsComplete, SummariesAreOne};
+ghost use Rattle.contract_cli.specs.RunLaws.{AnswersHaveCauses, DoneHasTold, ReadFaultsHaveCauses, RunIsComplete, StatusesAreExact, StatusesOverFilesAreExact, TooLongComes, TooLongHasACause, UsageIsExact, UsageWritesItsLine, WriteFaultsHaveCauses};
+ghost use Rattle.contract_cli.specs.SampleLaws.{SampleHasThreeEnds};
 ghost use Rattle.contract_cli.specs.TwoRuns.{AdvancedTextsAdvance, AdvancedTextsAreAccepted, PrintedCodeIsTaken, PrintedCodeIsValued};
-ghost use Rattle.contract_cli.specs.ValueLaws.{BadCodeIsExact, TooLongForValueIsExact, ValueIsComplete, ValueRefusalsAreExact};
-ghost use Rattle.command_answers.specs.AnswerLaws.{AnswersAreOne, DueLinesAreOne, StatusesAreOne, DeclaredNamesHavePlaces, ValueAnswersAreOne};
+
+/// Each status but out of memory comes exactly where it is due, or memory is wanting: that of the first stage of the run that
+/// passes nothing, or that of the end; and with it the text of the course is written. So of the whole run, where the files that it
+/// reads are told; and of the command over the bytes of files that are told and not too long.
+pub fn statuses_are_exact()
+    ensures run { StatusesAreExact }
+    ensures files { StatusesOverFilesAreExact }
+{}
+
+/// A run that each stage passes has written the whole text of its command, or wants memory; and one that is done has read its files
+/// and told its text.
+pub fn run_is_complete()
+    ensures complete { RunIsComplete }
+    ensures done { DoneHasTold }
+{}
+
+/// What answers a run has a cause: words of no form, a file that was not read, or what the command answers to the bytes of its
+/// files.
+pub fn answers_have_causes()
+    ensures { AnswersHaveCauses }
+{}
 
 /// Usage comes exactly where the words are of no form, or memory is wanting, or the write of its line fails; and it has
 /// just that line.
@@ -22,28 +44,23 @@ pub fn faults_have_causes()
     ensures writes { WriteFaultsHaveCauses }
 {}
 
-/// Of a command over a portfolio, a file is too long exactly where the told contents of a named file exceed the limit, and the
-/// line has the place of the first. Of any command the first file is too long exactly where its told contents exceed the limit,
-/// whatever is true of the files behind it.
+/// A file is too long only where it has more bytes than the limit; and the first that has is, with its place in the line, whatever
+/// is true of the files behind it.
 pub fn too_long_is_exact()
-    ensures files { TooLongIsExact }
-    ensures first { FirstTooLongIsExact }
+    ensures only { TooLongHasACause }
+    ensures comes { TooLongComes }
 {}
 
-/// Of a command over a portfolio, a text is bad exactly where its told contents are no portfolio.
-pub fn bad_text_is_exact()
-    ensures { BadTextIsExact }
+/// What the law of statuses says of `flows` and of `value`, status by status: where the cause of a status stands it is due, and
+/// what stops the command has its cause.
+pub fn causes_are_due()
+    ensures flows { DueOfFlows }
+    ensures value { DueOfValue }
 {}
 
-/// Of a command over a portfolio, a name is unknown, a day is out of range, a portfolio is refused, a row is bad and a read is
-/// missing each exactly where its cause stands and nothing before it, in this order, stops the command.
-pub fn refusals_are_exact()
-    ensures { RefusalsAreExact }
-{}
-
-/// The bytes of the files of `check`, `flows` and `payoff` have one answer, a status and a text. Those of `advance` have one
-/// status, one line of a fault and the same due lines; what is left of a contract may be written in more than one way. The
-/// sample of a number of contracts has one summary.
+/// The bytes of the files of any command but `advance` have one answer, a status and a text. Those of `advance` have one status,
+/// one line of a fault and the same due lines; what is left of a contract may be written in more than one way. The sample of a
+/// number of contracts has one summary.
 pub fn answers_are_one()
     ensures files { AnswersAreOne }
     ensures statuses { StatusesAreOne }
@@ -74,38 +91,9 @@ pub fn sample_has_three_ends()
     ensures { SampleHasThreeEnds }
 {}
 
-/// A run with nothing in its way has written the whole text of its command, or wants memory: `check` of any portfolio, and
-/// `flows` where names are known, the day is in range, contracts are accepted, rows are taken and reads are fixed, `advance`
-/// where the same holds of its day and of the reads of the days gone by, `payoff` where its name is known and this contract
-/// accepted, and `sample` of any number of contracts.
-pub fn run_is_complete()
-    ensures check { CheckIsComplete }
-    ensures flows { FlowsAreComplete }
-    ensures advance { AdvanceIsComplete }
-    ensures payoff { PayoffIsComplete }
-    ensures sample { SampleIsComplete }
-{}
-
-/// Of `value`, the first of the three files with more bytes than the limit is too long, and its place is in the line; a text is
-/// bad exactly where its told contents are no code file; and a name is unknown, a day is out of range, code is refused at the
-/// numbers that are set, a row of the fixings or then of the curve is bad and a read is missing each exactly where its cause
-/// stands and nothing before it, in this order, stops the command.
-pub fn value_refusals_are_exact()
-    ensures long { TooLongForValueIsExact }
-    ensures text { BadCodeIsExact }
-    ensures causes { ValueRefusalsAreExact }
-{}
-
-/// A run of `value` with nothing in its way has written the line of the value, or wants memory; and names that are declared have
-/// places to be asked for.
-pub fn value_is_complete()
-    ensures whole { ValueIsComplete }
-    ensures places { DeclaredNamesHavePlaces }
-{}
-
-/// The bytes of the files of `value` have one answer, a status and a text.
-pub fn value_answers_are_one()
-    ensures { ValueAnswersAreOne }
+/// The parties and the asset of `value`, where all names of the words are declared, have places to be asked for.
+pub fn declared_names_have_places()
+    ensures { DeclaredNamesHavePlaces }
 {}
 
 /// What `payoff` has printed is a text of code for `value`, which does not refuse it at a setting at which the contract is

@@ -12,6 +12,7 @@
 
 mod command;
 pub mod laws;
+mod reading;
 
 pub use command::run;
 pub use command_answers::Status;

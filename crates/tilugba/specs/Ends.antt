@@ -4,7 +4,8 @@ use Rattle.std.specs.Process.{exit_status}
 use Rattle.std.specs.declared.process.ExitCode.{ExitCode}
 use Rattle.command_answers.specs.Statuses.{number_of}
 use Rattle.command_answers.specs.declared.status.Status.{Status}
-use Rattle.contract_cli.specs.RunPromise.{Edge, Meets}
+use Rattle.contract_cli.specs.RunPromise.{Meets}
+use Rattle.contract_cli.specs.Seen.{Edge}
 
 -- the exit status is the number of a status with which the run of these words ends
 pub record EndsWithStatus (words : List (List ℕ)) (edge : Edge) (code : ExitCode) : Type 0 where

@@ -11,7 +11,7 @@
 
 ghost use Rattle.std.specs.Prelude.{◌≡◌, map, string_bytes, IfOk};
 ghost use Rattle.clap.specs.Walk.{texts};
-ghost use Rattle.contract_cli.specs.RunPromise.{seen, sink_left};
+ghost use Rattle.contract_cli.specs.Seen.{seen, sink_left};
 ghost use Rattle.tilugba.specs.Ends.{EndsWithStatus};
 
 use contract_cli::{Status, run};

@@ -9,7 +9,8 @@ use Rattle.contract_parse.specs.Names.{is_declared}
 use Rattle.contract_print.specs.Spellable.{are_new}
 use Rattle.command_answers.specs.AdvanceParts.{AnswersRests, AppendsRest, AppendsRests}
 use Rattle.command_answers.specs.AdvancePromise.{last_gone}
-use Rattle.command_answers.specs.FlowsParts.{IsMissingOf, IsMissingOne}
+use Rattle.command_answers.specs.FlowsParts.{IsMissingOne}
+use Rattle.command_answers.specs.Stages.{IsMissingOf}
 use Rattle.command_answers.specs.UsedParts.{IsTriable, entries_of, entry_of}
 use Rattle.command_answers.specs.declared.advance_text.Left.{Left}
 use Rattle.command_answers.proofs.AdvanceFacts.{first_is_new, keys_of_trees, names_behind, rest_behind, rests_of_none}

@@ -1,8 +1,9 @@
 use Rattle.std.proofs.Common.{ℕ, List, ap, subst, sym}
 use Rattle.std.specs.Prelude.{Option, Some, option_map}
 use Rattle.term_core.specs.Declarations.{declarations}
-use Rattle.command_answers.specs.FlowsParts.{CanBeLast, IsDayFault, IsWordFault}
+use Rattle.command_answers.specs.FlowsParts.{CanBeLast}
 use Rattle.command_answers.specs.FlowsPromise.{IsDayAsked, greatest_day}
+use Rattle.command_answers.specs.Stages.{IsDayFault, IsWordFault}
 use Rattle.command_answers.specs.Stopping.{AnswersBy}
 use Rattle.command_words.specs.declared.day_words.DayWord.{DayWord}
 use Rattle.command_answers.proofs.DayFacts.{is_last, no_last}

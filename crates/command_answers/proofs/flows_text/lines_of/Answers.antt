@@ -7,7 +7,8 @@ use Rattle.term_core.specs.Declarations.{declarations}
 use Rattle.term_core.specs.Terms.{Contract, contract}
 use Rattle.flow_eval.specs.FlowAnswers.{AreKnownFlows}
 use Rattle.flow_eval.specs.declared.flow_table.FlowTable.{FlowTable}
-use Rattle.command_answers.specs.FlowsParts.{AnswersLines, AppendsAll, IsMissingOf, IsMissingOne}
+use Rattle.command_answers.specs.FlowsParts.{AnswersLines, AppendsAll, IsMissingOne}
+use Rattle.command_answers.specs.Stages.{IsMissingOf}
 use Rattle.command_answers.specs.UsedParts.{entries_of, entry_of}
 use Rattle.command_answers.proofs.LineFacts.{lines_behind, lines_of_none, missing_first, rows_writable}
 use Rattle.command_answers.proofs.StopFacts.{handed_on}

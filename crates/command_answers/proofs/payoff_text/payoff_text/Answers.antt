@@ -1,16 +1,19 @@
-use Rattle.std.proofs.Common.{ℕ, subst, sym}
+use Rattle.std.proofs.Common.{ℕ, inl, inr, refl, subst, sym}
 use Rattle.std.specs.Global.{Vec}
 use Rattle.term_core.specs.Books.{book}
 use Rattle.term_core.specs.Terms.{contract}
 use Rattle.contract_print.specs.Writable.{IsWritableTerm}
 use Rattle.payoff_lang.specs.Code.{PayoffCode, payoff_code}
 use Rattle.payoff_lang.specs.WritableCode.{IsWritableCode}
+use Rattle.command_answers.specs.Course.{Stops, Tells}
 use Rattle.command_answers.specs.FlowsParts.{IsRefusedOne}
-use Rattle.command_answers.specs.PayoffPromise.{IsAcceptedAtDefaults, IsPayoffText, StopsPayoff}
+use Rattle.command_answers.specs.PayoffCourse.{payoff_on}
+use Rattle.command_answers.specs.PayoffPromise.{IsAcceptedAtDefaults}
 use Rattle.command_answers.specs.UsedContracts.{at_defaults}
 use Rattle.command_answers.specs.UsedParts.{IsSound}
 use Rattle.command_words.specs.Words.{payoff_by}
-use Rattle.command_answers.proofs.PayoffFacts.{code_writable, contract_stops, named_has, whole_text}
+use Rattle.command_answers.specs.declared.status.Status.TheVariants as status
+use Rattle.command_answers.proofs.PayoffFacts.{canon_asked, code_writable, named_has, refused_named}
 use Rattle.command_answers.proofs.StopFacts.{handed_on}
 use Rattle.command_answers.proofs.payoff_text.payoff_text.Goals as goal
 
@@ -25,8 +28,9 @@ returns-in_err-accept_at_defaults c =
     let asked = payoff_by c.args.asked.now in
     let one = c.in_ok-one.one in
     let contr = contract one.contr.now in
-    handed_on (λ (u : Unit {0}). IsAcceptedAtDefaults b.declarations contr) (λ (text : Vec ℕ). IsPayoffText b asked text.items) (IsRefusedOne b.declarations (at_defaults b.declarations (one.name.now, contr))) (StopsPayoff b asked)
-    (contract_stops b asked one c.in_ok-one.ensures) c.in_err-accept_at_defaults.field-0.0 c.from_residual-in_err-accept_at_defaults.result c.in_err-accept_at_defaults.ensures c.from_residual-in_err-accept_at_defaults.ensures.1
+    handed_on (λ (u : Unit {0}). IsAcceptedAtDefaults b.declarations contr) (λ (text : Vec ℕ). Tells (payoff_on asked b) status.Done text.items) (IsRefusedOne b.declarations (at_defaults b.declarations (one.name.now, contr))) (Stops (payoff_on asked b))
+    (λ f h. inr (contr, c.in_ok-one.ensures.named, inl (refused_named b asked.contract one c.in_ok-one.ensures f h)))
+    c.in_err-accept_at_defaults.field-0.0 c.from_residual-in_err-accept_at_defaults.result c.in_err-accept_at_defaults.ensures c.from_residual-in_err-accept_at_defaults.ensures.1
 
 pub code_asked-requires-clause-closed : goal.code_asked-requires-clause-closed
 code_asked-requires-clause-closed c =
@@ -46,4 +50,6 @@ code_text-requires c =
 pub returns : goal.returns
 returns c =
     let b = book c.args.portfolio.now in
-    whole_text b (payoff_by c.args.asked.now) c.in_ok-one.one c.in_ok-one.ensures (payoff_code c.in_ok-code.code) c.in_ok-text.text.items c.in_ok-accept_at_defaults.ensures c.in_ok-code.ensures c.in_ok-text.ensures
+    let one = c.in_ok-one.one in
+    let named = c.in_ok-one.ensures in
+    (contract one.contr.now, named.named, (tt, c.in_ok-accept_at_defaults.ensures, (refl, canon_asked b (payoff_by c.args.asked.now) one (payoff_code c.in_ok-code.code) c.in_ok-text.text.items named c.in_ok-code.ensures c.in_ok-text.ensures)))

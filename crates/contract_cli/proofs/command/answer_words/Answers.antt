@@ -1,61 +1,72 @@
-use Rattle.std.proofs.Common.{◌≡◌, ◌∙◌, ℕ, List, Bor, ap, refl, rules, subst}
-use Rattle.std.specs.Prelude.{Err, Some, map}
-use Rattle.report.specs.FaultLines.{fault_text}
-use Rattle.report.specs.declared.fault_lines.Fault.TheVariants as fault
-use Rattle.command_answers.specs.AnswerParts.{inputs_by}
-use Rattle.command_answers.specs.FilesPromise.{Answers, Stops, stopped as stops_on}
-use Rattle.contract_cli.specs.RunPromise.{Cause, answered, sampled, stopped, no_form, FilesSeen, Names, NamesSample, StopsRun, WereRead}
-use Rattle.command_answers.specs.Statuses.{status_of}
-use Rattle.command_words.specs.Words.{IsRequestOf, asked_by, requested_by}
-use Rattle.command_answers.specs.declared.answers.Answer.{Answer}
+use Rattle.std.proofs.Common.{◌≡◌, ◌∙◌, ◌≤◌, ℕ, inl, length, ap, refl, rules, subst, sym}
+use Rattle.std.specs.Prelude.{Err}
+use Rattle.std.specs.Global.{Vec}
+use Rattle.std.proofs.lemmas.List.{length-map}
+use Rattle.clap.specs.Walk.{texts}
+use Rattle.command_words.specs.Commands.{files_of}
+use Rattle.command_words.specs.Words.{IsRequestOf, requested_by}
 use Rattle.command_words.specs.declared.arguments.WordsErr.{WordsErr}
 use Rattle.command_words.specs.declared.arguments.WordsErr.TheVariants as words_err
-use Rattle.command_answers.specs.declared.answers.Inputs.{Inputs as Kept}
-use Rattle.command_words.specs.declared.words.Request.{Request as Requested}
-use Rattle.contract_cli.proofs.ReadFacts.{counts_by_words}
+use Rattle.command_answers.specs.Course.{Stops, Tells}
+use Rattle.command_answers.specs.Courses.{course_of}
+use Rattle.command_answers.specs.Inputs.{bytes_of}
+use Rattle.command_answers.specs.declared.answers.Answer.{Answer}
 use Rattle.command_answers.proofs.StopFacts.{answers_too, handed_on}
+use Rattle.contract_cli.specs.Reading.{StopsReading, WereRead}
+use Rattle.contract_cli.specs.RunPromise.{Names, run_course}
+use Rattle.contract_cli.specs.Seen.{seen}
+use Rattle.contract_cli.proofs.RunFacts.{counts_by_words, few_files, stops_behind_files, stops_run, tells_behind_files, were_short}
 use Rattle.contract_cli.proofs.command.answer_words.Goals as goal
-
-abbrev texts : List (Bor (List ℕ)) → List (List ℕ)
-texts words = map (λ (word : Bor (List ℕ)). word.now) words
-
-pub returns-in_err-inputs-in-OnFiles : goal.returns-in_err-inputs-in-OnFiles
-returns-in_err-inputs-in-OnFiles g c =
-    let words = texts c.args.words.now in
-    let asked = asked_by c.in-OnFiles.command in
-    let named : Names words asked = c.in-Ok.ensures ∙ ap (λ (r : Requested). Some (requested_by r)) c.in-OnFiles.is in
-    let files : FilesSeen = record { contents = g.F.Files.contents c.args.files.now; faults_before = g.F.Files.faults c.args.files.now; faults_after = g.F.Files.faults c.read_inputs.new.files } in
-    record {
-      answer = handed_on (λ (inputs : Kept). WereRead files asked (inputs_by inputs)) (λ (a : Answer). Cause words files a.status a.text.items) (StopsRun words files) (λ f. Cause words files (status_of f) (fault_text f))
-          (λ f h. stopped f h refl refl) c.in_err-inputs-in-OnFiles.field-0.0 c.from_residual.result (c.in_err-inputs-in-OnFiles.ensures.answer words named) c.from_residual.ensures.1;
-      kept = c.read_inputs.ensures.kept;
-      counts = counts_by_words words asked files named c.read_inputs.ensures.counts;
-    }
-
-pub returns-in_ok-inputs-in-OnFiles : goal.returns-in_ok-inputs-in-OnFiles
-returns-in_ok-inputs-in-OnFiles g c =
-    let words = texts c.args.words.now in
-    let asked = asked_by c.in-OnFiles.command in
-    let named : Names words asked = c.in-Ok.ensures ∙ ap (λ (r : Requested). Some (requested_by r)) c.in-OnFiles.is in
-    let files : FilesSeen = record { contents = g.F.Files.contents c.args.files.now; faults_before = g.F.Files.faults c.args.files.now; faults_after = g.F.Files.faults c.read_inputs.new.files } in
-    let inputs = inputs_by c.in_ok-inputs-in-OnFiles.inputs in
-    let read = c.in_ok-inputs-in-OnFiles.ensures.answer words named in
-    record {
-      answer = answers_too (λ (a : Answer). Answers asked inputs a.status a.text.items) (λ (a : Answer). Cause words files a.status a.text.items) (Stops asked inputs) (λ f. Cause words files (status_of f) (fault_text f))
-          (λ a h. answered asked named inputs read h) (λ f h. answered asked named inputs read (stops_on f h refl refl)) c.answer_bytes.result c.answer_bytes.ensures;
-      kept = c.read_inputs.ensures.kept;
-      counts = counts_by_words words asked files named c.read_inputs.ensures.counts;
-    }
 
 pub returns-in-Err-Usage-clause-answer : goal.returns-in-Err-Usage-clause-answer
 returns-in-Err-Usage-clause-answer g c =
     let usage : c.in-Err-Usage.field-0 ≡ words_err.Usage = search rules in
-    let none = subst (λ (e : WordsErr). IsRequestOf (texts c.args.words.now) (Err e)) usage c.in-Err-Usage.ensures in
-    stopped fault.Usage (no_form none refl) refl refl
+    inl (refl, subst (λ (e : WordsErr). IsRequestOf (texts c.args.words.now) (Err e)) usage c.in-Err-Usage.ensures)
 
-pub returns-in_ok-answer-in-Sample-clause-answer : goal.returns-in_ok-answer-in-Sample-clause-answer
-returns-in_ok-answer-in-Sample-clause-answer g c =
+pub read_files-requires : goal.read_files-requires
+read_files-requires g c =
+    let request = requested_by c.in-Ok.request in
+    let named : texts c.deref.result.now ≡ files_of request = ap texts c.deref.ensures.value ∙ c.in_ok-names.ensures in
+    let same : length c.deref.result.now ≡ length (files_of request) = sym (length-map c.deref.result.now _) ∙ ap length named in
+    subst (λ (n : ℕ). n ≤ 255) (sym same) (few_files request)
+
+pub returns-in_err-inputs-clause-answer : goal.returns-in_err-inputs-clause-answer
+returns-in_err-inputs-clause-answer g c =
     let words = texts c.args.words.now in
-    let count = c.in-Sample.size.contracts in
-    let named : NamesSample words count = c.in-Ok.ensures ∙ ap (λ (r : Requested). Some (requested_by r)) c.in-Sample.is in
-    sampled count named c.in_ok-answer-in-Sample.ensures.status c.in_ok-answer-in-Sample.ensures.text
+    let files = seen (g.F.Files.contents c.args.files.now) (g.F.Files.faults c.args.files.now) (g.F.Files.faults c.read_files.new.files) in
+    let request = requested_by c.in-Ok.request in
+    let formed : Names words request = c.in-Ok.ensures in
+    let names = texts c.deref.result.now in
+    let named : names ≡ files_of request = ap texts c.deref.ensures.value ∙ c.in_ok-names.ensures in
+    handed_on (λ (inputs : Vec (Vec ℕ)). WereRead files.contents names (bytes_of inputs.items))
+    (λ (answer : Answer). Tells (run_course words files) answer.status answer.text.items) (StopsReading files names 1) (Stops (run_course words files))
+    (stops_run words files request formed names named) c.in_err-inputs.field-0.0 c.from_residual-in_err-inputs.result c.in_err-inputs.ensures.answer c.from_residual-in_err-inputs.ensures.1
+
+pub returns-in_err-inputs-clause-counts : goal.returns-in_err-inputs-clause-counts
+returns-in_err-inputs-clause-counts g c =
+    let words = texts c.args.words.now in
+    let files = seen (g.F.Files.contents c.args.files.now) (g.F.Files.faults c.args.files.now) (g.F.Files.faults c.read_files.new.files) in
+    let request = requested_by c.in-Ok.request in
+    let formed : Names words request = c.in-Ok.ensures in
+    counts_by_words words files request formed (texts c.deref.result.now) (ap texts c.deref.ensures.value ∙ c.in_ok-names.ensures) c.read_files.ensures.counts
+
+pub answer_request-requires : goal.answer_request-requires
+answer_request-requires g c =
+    let contents = g.F.Files.contents c.args.files.now in
+    rw c.deref-2.ensures.value (were_short contents (texts c.deref.result.now) (bytes_of c.in_ok-inputs.inputs.items) c.in_ok-inputs.ensures.answer)
+
+pub returns-clause-answer : goal.returns-clause-answer
+returns-clause-answer g c =
+    let words = texts c.args.words.now in
+    let files = seen (g.F.Files.contents c.args.files.now) (g.F.Files.faults c.args.files.now) (g.F.Files.faults c.read_files.new.files) in
+    let request = requested_by c.in-Ok.request in
+    let formed : Names words request = c.in-Ok.ensures in
+    let names = texts c.deref.result.now in
+    let named : names ≡ files_of request = ap texts c.deref.ensures.value ∙ c.in_ok-names.ensures in
+    let read = bytes_of c.in_ok-inputs.inputs.items in
+    let course = course_of request read in
+    answers_too (λ (answer : Answer). Tells course answer.status answer.text.items) (λ (answer : Answer). Tells (run_course words files) answer.status answer.text.items)
+    (Stops course) (Stops (run_course words files))
+    (λ answer h. tells_behind_files words files request formed names named read c.in_ok-inputs.ensures.answer answer.status answer.text.items h)
+    (λ f h. stops_behind_files words files request formed names named read c.in_ok-inputs.ensures.answer f h)
+    c.answer_request.result (rw c.deref-2.ensures.value at c.answer_request.ensures)

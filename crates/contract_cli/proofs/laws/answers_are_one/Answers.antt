@@ -1,6 +1,4 @@
-use Rattle.command_answers.proofs.AnswersAreOne.{answers_are_one, statuses_are_one}
-use Rattle.command_answers.proofs.AdvanceStages.{due_are_one}
-use Rattle.contract_cli.proofs.OneSummary.{summaries_are_one}
+use Rattle.command_answers.proofs.AnswersAreOne.{answers_are_one, due_are_one, statuses_are_one, summaries_are_one}
 use Rattle.contract_cli.proofs.laws.answers_are_one.Goals as goal
 
 pub returns : goal.returns

@@ -1,0 +1,21 @@
+-- The course of each command, behind the bytes of its files. `sample NUMBER` has no file, and no stage: it tells its summary.
+use Rattle.std.specs.Prelude.{ℕ, List}
+use Rattle.sample.specs.Summary.{IsSummary}
+use Rattle.command_words.specs.Commands.{Advance, Check, Flows, Payoff, Request, Sample, Value}
+use Rattle.command_answers.specs.AdvanceCourse.{advance_course}
+use Rattle.command_answers.specs.CheckCourse.{check_course}
+use Rattle.command_answers.specs.Course.{Course, tells}
+use Rattle.command_answers.specs.FlowsCourse.{flows_course}
+use Rattle.command_answers.specs.PayoffCourse.{payoff_course}
+use Rattle.command_answers.specs.ValueCourse.{value_course}
+
+abbrev pub sample_course : ℕ → Course
+sample_course contracts = tells (IsSummary contracts)
+
+abbrev pub course_of : Request → List (List ℕ) → Course
+course_of (Check portfolio) inputs = check_course inputs
+course_of (Flows asked) inputs = flows_course asked inputs
+course_of (Advance asked) inputs = advance_course asked inputs
+course_of (Payoff asked) inputs = payoff_course asked inputs
+course_of (Value asked) inputs = value_course asked inputs
+course_of (Sample contracts) inputs = sample_course contracts

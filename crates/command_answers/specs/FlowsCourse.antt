@@ -1,0 +1,36 @@
+-- `flows PORTFOLIO [FIXINGS] [--until DAY] [--contract NAME] [--net]`: the portfolio of the text; a name, if one is asked for, that
+-- is a contract's; a day in range; contracts that are accepted; fixings of which each row is taken; reads that are fixed; and
+-- then the flow lines, or those of the sum.
+use Rattle.std.specs.Prelude.{ℕ, ℤ, List, Option, option_map}
+use Rattle.term_core.specs.Books.{Book}
+use Rattle.term_core.specs.Environments.{Environment}
+use Rattle.command_words.specs.Commands.{FlowsAsked}
+use Rattle.command_answers.specs.Course.{Course, behind, tells}
+use Rattle.command_answers.specs.FlowsPromise.{AreLinesAsked}
+use Rattle.command_answers.specs.Inputs.{file_at}
+use Rattle.command_answers.specs.Stages.{all_accepted, all_fixed, fixed_by, known, last_day, portfolio_of}
+use Rattle.command_answers.specs.UsedContracts.{used}
+
+-- what each command passes that lists what contracts pay to a last day
+abbrev pub over_fixings : Option (List ℕ) → Option (List ℕ) → Book → Option (List ℕ) → (ℤ → Environment → Course) → Course
+over_fixings only until b table next =
+    behind (known b only) (λ _.
+    behind (last_day b.declarations until) (λ last.
+    behind (all_accepted b.declarations (used only b)) (λ _.
+    behind (fixed_by b.declarations table 2) (λ fixings.
+    behind (all_fixed b.declarations fixings last (used only b)) (λ _.
+    next last fixings)))))
+
+-- the table of the fixings, if the words name one: the second file
+abbrev pub table_named : FlowsAsked → List (List ℕ) → Option (List ℕ)
+table_named asked inputs = option_map (λ _. file_at inputs 1) asked.fixings
+
+abbrev pub flows_on : FlowsAsked → Book → Option (List ℕ) → Course
+flows_on asked b table =
+    over_fixings asked.contract asked.until b table (λ last fixings.
+    tells (AreLinesAsked asked.net b.declarations fixings last (used asked.contract b)))
+
+abbrev pub flows_course : FlowsAsked → List (List ℕ) → Course
+flows_course asked inputs =
+    behind (portfolio_of (file_at inputs 0)) (λ b.
+    flows_on asked b (table_named asked inputs))

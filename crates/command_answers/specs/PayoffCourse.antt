@@ -1,0 +1,21 @@
+-- `payoff PORTFOLIO --contract NAME [--plain]`: the portfolio of the text; the contract of the name; that it is accepted at the
+-- defaults; and then the text of its code.
+use Rattle.std.specs.Prelude.{ℕ, List}
+use Rattle.term_core.specs.Books.{Book}
+use Rattle.payoff_lang.specs.CodeCanon.{IsCanonOfCode}
+use Rattle.command_words.specs.Commands.{PayoffAsked}
+use Rattle.command_answers.specs.Course.{Course, behind, tells}
+use Rattle.command_answers.specs.Inputs.{file_at}
+use Rattle.command_answers.specs.PayoffPromise.{code_file_of}
+use Rattle.command_answers.specs.Stages.{accepted_at_defaults, named, portfolio_of}
+
+abbrev pub payoff_on : PayoffAsked → Book → Course
+payoff_on asked b =
+    behind (named b asked.contract) (λ c.
+    behind (accepted_at_defaults b.declarations asked.contract c) (λ _.
+    tells (λ text. IsCanonOfCode text (code_file_of b.declarations asked c))))
+
+abbrev pub payoff_course : PayoffAsked → List (List ℕ) → Course
+payoff_course asked inputs =
+    behind (portfolio_of (file_at inputs 0)) (λ b.
+    payoff_on asked b)

@@ -1,0 +1,50 @@
+//! The bytes of a command's files, and the texts that they are.
+
+ghost use Rattle.std.specs.Prelude.{◌≡◌, ◌≤◌, length};
+ghost use Rattle.term_core.specs.Books.{book};
+ghost use Rattle.payoff_lang.specs.CodeBooks.{code_book};
+ghost use Rattle.command_answers.specs.Inputs.{bytes_of, file_at};
+ghost use Rattle.command_answers.specs.Stages.{IsBadCode, portfolio_of};
+ghost use Rattle.command_answers.specs.Stopping.{AnswersBy, AnswersStage};
+ghost use Rattle.command_answers.specs.ValueParts.{IsReadFrom};
+
+use crate::stop::Stop;
+use contract_parse::{ParseErr, parse_portfolio};
+use payoff_lang::{CodeFile, parse_code};
+use report::Fault;
+use std::alloc::Global;
+use term_core::Portfolio;
+
+/// The bytes of the file at an index, none where there is none.
+pub fn file_at(inputs: &[Vec<u8>], index: usize) -> &[u8]
+    ensures { result.now ≡ file_at (bytes_of inputs.now) index }
+{
+    match inputs.get(index) {
+        Some(bytes) => bytes.as_slice(),
+        None => &[],
+    }
+}
+
+/// The portfolio of a text.
+pub fn portfolio_of(alloc: Global, bytes: &[u8]) -> Result<Portfolio, Stop>
+    requires { length bytes.now ≤ 16_777_216 }
+    ensures { AnswersStage (portfolio_of bytes.now) book result }
+{
+    match parse_portfolio(alloc, bytes) {
+        Ok(portfolio) => Ok(portfolio),
+        Err(ParseErr::Text(fault)) => Err(Stop::Fault(Fault::Text(fault))),
+        Err(ParseErr::NoMemory) => Err(Stop::NoMemory),
+    }
+}
+
+/// The code file of a text.
+pub fn code_of(alloc: Global, bytes: &[u8]) -> Result<CodeFile, Stop>
+    requires { length bytes.now ≤ 16_777_216 }
+    ensures { AnswersBy (λ file. IsReadFrom bytes.now (code_book file)) (IsBadCode bytes.now) result }
+{
+    match parse_code(alloc, bytes) {
+        Ok(file) => Ok(file),
+        Err(ParseErr::Text(fault)) => Err(Stop::Fault(Fault::Text(fault))),
+        Err(ParseErr::NoMemory) => Err(Stop::NoMemory),
+    }
+}

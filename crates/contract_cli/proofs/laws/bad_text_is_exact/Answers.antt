@@ -1,5 +1,0 @@
-use Rattle.contract_cli.proofs.LawFacts.{bad_text_is_exact}
-use Rattle.contract_cli.proofs.laws.bad_text_is_exact.Goals as goal
-
-pub returns : goal.returns
-returns c = bad_text_is_exact

@@ -1,0 +1,5 @@
+use Rattle.command_answers.proofs.AnswersAreOne.{declared_names_have_places}
+use Rattle.contract_cli.proofs.laws.declared_names_have_places.Goals as goal
+
+pub returns : goal.returns
+returns c = declared_names_have_places
