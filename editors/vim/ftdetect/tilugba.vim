@@ -1,0 +1,14 @@
+" Knows a portfolio or payoff code by its first statement, which may have comments and blank lines before it.
+function! s:DetectTilugba() abort
+  for line in getline(1, 1000)
+    if line =~# '^\s*\%(#.*\)\=$'
+      continue
+    endif
+    if line =~# '^\s*\%(portfolio\|payoff\)\s\+1\s*;'
+      setlocal filetype=tilugba commentstring=#\ %s
+    endif
+    return
+  endfor
+endfunction
+
+autocmd BufNewFile,BufRead *.txt,*.code call s:DetectTilugba()
