@@ -1,0 +1,10 @@
+# Flow lines as a journal of beancount: awk -F , -f beancount.awk flows.csv > flows.beancount
+BEGIN { print "plugin \"beancount.plugins.auto_accounts\"" }
+{
+  # No name of beancount has a `_`, and assets are in capitals.
+  gsub("_", "-", $3)
+  gsub("_", "-", $4)
+  asset = toupper($5)
+  gsub("_", "-", asset)
+  printf "\n%s * \"%s\"\n  Equity:%s:%s -%s %s\n  Equity:%s:%s %s %s\n", $2, $1, $3, $4, $6, asset, $4, $3, $6, asset
+}
