@@ -1,0 +1,34 @@
+"""A bond, a swap and an option of QuantLib as files of the folder in which it is run: python3 desk.py"""
+
+import QuantLib as ql
+from bridge import Bridge, factors
+
+
+def dates(start, end, tenor):
+    rule = ql.ModifiedFollowing
+    return ql.Schedule(start, end, ql.Period(tenor), ql.TARGET(), rule, rule, ql.DateGeneration.Forward, False)
+
+
+today = ql.Date(5, 1, 2026)
+ql.Settings.instance().evaluationDate = today
+curve = ql.FlatForward(today, 0.021, ql.Actual365Fixed())
+euribor = ql.Euribor6M(ql.YieldTermStructureHandle(curve))
+# What is known of the rate; all later ones QuantLib takes from its curve.
+euribor.addFixing(ql.Date(13, 1, 2025), 0.02616)
+euribor.addFixing(ql.Date(11, 7, 2025), 0.02049)
+
+bond = ql.FixedRateBond(2, 1e6, dates(ql.Date(15, 1, 2025), ql.Date(15, 1, 2030), "1y"), [0.0325], ql.Thirty360(ql.Thirty360.BondBasis))
+halves = dates(ql.Date(15, 1, 2025), ql.Date(15, 1, 2028), "6m")
+swap = ql.VanillaSwap(ql.Swap.Payer, 5e6, halves, 0.024, ql.Thirty360(ql.Thirty360.BondBasis), halves, euribor, 0.0, ql.Actual360())
+call = ql.PlainVanillaPayoff(ql.Option.Call, 1.17)
+
+desk = Bridge(today, ["Desk", "Bank", "Issuer"], ["EUR"], rates=12)
+desk.contract("bond", (bond.cashflows(), "EUR", "Issuer", "Desk"))
+desk.contract("swap", (swap.fixedLeg(), "EUR", "Desk", "Bank"), (swap.floatingLeg(), "EUR", "Bank", "Desk"))
+desk.option("call", call, ql.Date(30, 6, 2026), desk.label("EURUSD", 4, ("0.5", "2.5")), 1e5, "EUR", "Bank", "Desk")
+
+paid = [flow.date() for leg in (bond.cashflows(), swap.fixedLeg(), swap.floatingLeg()) for flow in leg]
+for name, text in (("book.txt", desk.portfolio()), ("observed.csv", desk.table()), ("assumed.csv", desk.table(with_assumed=True)),
+                   ("curve.csv", factors(curve, today, paid))):
+    with open(name, "w", encoding="utf-8") as file:
+        file.write(text)
