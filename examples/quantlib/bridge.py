@@ -39,6 +39,8 @@ class Bridge:
         floating = ql.as_floating_rate_coupon(flow)
         coupon = floating or ql.as_fixed_rate_coupon(flow)
         if not coupon:
+            if ql.as_coupon(flow) or ql.as_indexed_cashflow(flow):
+                raise ValueError(f"the payment of {flow.date().ISO()} has an index that the bridge does not know")
             return f"after({day}, scale({rounded(flow.amount(), self.amounts)}, {pay}))"
         part = Fraction(coupon.accrualPeriod()).limit_denominator(366 * 365)
         rate = floating.gearing() * floating.indexFixing() + floating.spread() if floating else coupon.rate()

@@ -40,7 +40,7 @@ class Bench:
 
 def run(*words, folder=None, **more):
     """The status of a command and what it prints; what it says beside that is the third."""
-    done = subprocess.run(words, cwd=folder, stdin=subprocess.DEVNULL, capture_output=True, timeout=300, check=False, **more)
+    done = subprocess.run(words, cwd=folder, stdin=subprocess.DEVNULL, capture_output=True, timeout=900, check=False, **more)
     return done.returncode, done.stdout.decode("utf-8", "replace"), done.stderr.decode("utf-8", "replace")
 
 

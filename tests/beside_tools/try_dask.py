@@ -59,7 +59,7 @@ class Cluster:
 
     def is_up(self, client):
         names = lambda: {worker["name"] for worker in client.scheduler_info()["workers"].values()}
-        return processes.wait_for(lambda: names() == set(self.workers), 60)
+        return processes.wait_for(lambda: names() == set(self.workers), 300)
 
     def runs(self):
         """How often each book was run since this was asked last."""
@@ -160,9 +160,9 @@ def try_example_cluster(own, program, room, want):
     judge_night(own, "Dask, the example's cluster", want, night(room, f"tcp://127.0.0.1:{port}", want))
     own.same("Dask, where the example's cluster listens", {"loopback"}, processes.open_addresses())
     script.terminate()
-    own.same("Dask, the example's cluster is ended", 143, script.wait(60))
+    own.same("Dask, the example's cluster is ended", 143, script.wait(300))
     is_gone = lambda: processes.reap() or not processes.below(os.getpid())
-    own.judge(processes.wait_for(is_gone, 60), "Dask: the example's cluster leaves a process")
+    own.judge(processes.wait_for(is_gone, 300), "Dask: the example's cluster leaves a process")
 
 
 def try_lost_worker(own, cluster, room, client, want):
@@ -174,9 +174,9 @@ def try_lost_worker(own, cluster, room, client, want):
     words = [sys.executable, "-B", os.path.join(HERE, "night.py"), cluster.address, "fixings.csv", *want]
     script = subprocess.Popen(words, cwd=room, stdout=subprocess.PIPE, stderr=subprocess.PIPE)
     logged = lambda: os.path.exists(cluster.log) and read(cluster.log).count("\n") >= 20
-    own.judge(processes.wait_for(logged, 60), "Dask: no 20 runs")
+    own.judge(processes.wait_for(logged, 300), "Dask: no 20 runs")
     cluster.end("third")
-    out, said = script.communicate(timeout=240)
+    out, said = script.communicate(timeout=600)
     judge_night(own, "Dask, with a lost worker", want, (script.returncode, out.decode(), said_of_books(said.decode())))
     own.judge(sum(cluster.runs().values()) > 60, "Dask, with a lost worker: nothing was run again")
 
@@ -191,7 +191,7 @@ def main():
             cluster = Cluster(room, program)
             for name in ("first", "second"):
                 cluster.add(name)
-            with Client(cluster.address, timeout=60) as client:
+            with Client(cluster.address, timeout=300) as client:
                 if own.judge(cluster.is_up(client), "Dask: its two workers do not come up"):
                     own.same("Dask, where it listens", {"loopback"}, processes.open_addresses())
                     try_night(own, cluster, room, want)

@@ -74,10 +74,10 @@ def try_night(own, program):
         write("of another night\n", "out", name)
     write(made[names[3]].text + "contract half = scale(0.005, pay(EUR, Desk, Bank));\n", names[3])
     morning_text = "books/3.txt: fault refused half scale node 0 status 1\n"
-    own.same("the statuses of the night", [1, 1, 0, 0], [it.wait(120) for it in [task(program, number) for number in (0, 0, 1, 1)]])
+    own.same("the statuses of the night", [1, 1, 0, 0], [it.wait(600) for it in [task(program, number) for number in (0, 0, 1, 1)]])
     morning(own, "what the morning says", morning_text, [names[3]])
     write(made[names[3]].text, names[3])
-    own.same("a task is run again", 0, task(program, 0).wait(120))
+    own.same("a task is run again", 0, task(program, 0).wait(600))
     morning(own, "the next morning", "", [])
     own.same("the lines of the night", "".join(made[name].lines() for name in names), joined(names))
     done = {f"{os.path.basename(name)}.flows" for name in names}

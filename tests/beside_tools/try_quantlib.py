@@ -243,20 +243,27 @@ def try_bounds(own, program, page, dice):
 
 
 def try_refusals(own, index):
-    """A coupon with a formula of its own, which no contract of the bridge would pay, is refused."""
+    """What has a formula of its own, which no contract of the bridge would pay, is refused."""
     dates = schedule(ql.Date(15, 1, 2026), ql.Date(15, 1, 2028), "1y")
     compounded = ql.OvernightLeg([1e6], dates, ql.Estr(index.forwardingTermStructure()))
     capped = ql.IborLeg([1e6], dates, index, THIRTY, ql.Following, [2], [1.0], [0.0], [0.01])
-    for coupon, pricer in ((compounded, None), (capped, ql.BlackIborCouponPricer())):
-        if pricer:
-            volatility = ql.ConstantOptionletVolatility(ORIGIN, ql.TARGET(), ql.Following, 0.2, ql.Actual365Fixed())
-            pricer.setCapletVolatility(ql.OptionletVolatilityStructureHandle(volatility))
-            ql.setCouponPricer(coupon, pricer)
+    pricer = ql.BlackIborCouponPricer()
+    volatility = ql.ConstantOptionletVolatility(ORIGIN, ql.TARGET(), ql.Following, 0.2, ql.Actual365Fixed())
+    pricer.setCapletVolatility(ql.OptionletVolatilityStructureHandle(volatility))
+    ql.setCouponPricer(capped, pricer)
+    prices = ql.EUHICPXT()
+    for year in (2025, 2026):
+        prices.addFixing(ql.Date(1, 1, year), 100.0 + year % 10)
+    days = ql.Date(1, 4, 2025), ql.Date(1, 4, 2026), ql.Period("3m"), ql.Date(1, 7, 2026)
+    indexed = [ql.ZeroInflationCashFlow(1e6, prices, ql.CPI.Flat, *days)]
+    for title, leg in (("compounded", compounded), ("capped", capped), ("indexed", indexed)):
         try:
-            Bridge(ORIGIN, PARTIES, ["EUR"]).contract("leg", (coupon, *OUT))
-            own.judge(False, "QuantLib: a coupon of another formula is taken")
+            Bridge(ORIGIN, PARTIES, ["EUR"]).contract("leg", (leg, *OUT))
+            said = "it is taken"
         except ValueError as fault:
-            own.judge("is not nominal, rate and part of a year" in str(fault), f"QuantLib: {fault}")
+            said = str(fault)
+        is_refused = "is not nominal, rate and part of a year" in said or "has an index that the bridge does not know" in said
+        own.judge(is_refused, f"QuantLib, a leg that is {title}: {said}")
 
 
 def try_desk(own, program):
