@@ -42,11 +42,14 @@ class Refused(Exception):
 
 
 class Decls:
-    """What a text declares: labels are (name, (scale, low, high)) or (name, None) for a flag; templates are (name, days)."""
+    """What a text of a version declares: assets are (name, decimals); labels are (name, (scale, low, high)) or (name, None) for a flag;
+    templates are (name, days)."""
 
-    def __init__(self, amounts, origin, start, parties, assets, labels, templates):
-        self.amounts, self.origin, self.start = amounts, origin, start
-        self.parties, self.assets, self.labels, self.templates = parties, assets, labels, templates
+    def __init__(self, version, amounts, origin, start, parties, assets, labels, templates):
+        self.version, self.amounts, self.origin, self.start = version, amounts, origin, start
+        self.parties, self.labels, self.templates = parties, labels, templates
+        self.assets = [name for name, _ in assets]
+        self.decimals = dict(assets)
         self.label = dict(labels)
         self.days = dict(templates)
 
@@ -81,8 +84,30 @@ def quotient(mode, top, below):
 # ---- Texts
 
 
+def items_of(days):
+    """A number of days is a number, the name of a template, or the items of a sum, as they are written."""
+    return days if isinstance(days, tuple) else (days,)
+
+
 def days_text(days):
-    return str(days)
+    return " + ".join(str(item) for item in items_of(days))
+
+
+def days_number(days, setting):
+    return sum(setting.get(item, item) for item in items_of(days))
+
+
+def canonical_days(decls, days):
+    """The sum of the numbers, if it is not 0 or stands alone, and then the names in declared order."""
+    whole = sum(item for item in items_of(days) if isinstance(item, int))
+    names = sorted((item for item in items_of(days) if isinstance(item, str)), key=list(decls.days).index)
+    return tuple(([whole] if whole or not names else []) + names)
+
+
+def canonical(decls, c):
+    """The contract with each number of days as it is printed."""
+    of = canonical_days(decls, c.of) if c.op in ("after", "within") else c.of
+    return Term(c.op, of, [canonical(decls, part) for part in c.parts], c.name)
 
 
 def date_text(code_date):
@@ -150,16 +175,23 @@ def as_written(term, names):
     return term.name
 
 
-def decls_text(decls, word="portfolio", start=None):
-    """The canonical lines of the declarations."""
-    lines = [f"{word} 1;", f"amounts {decls.amounts};"]
+def asset_text(decls, name, version, bare):
+    """An asset with its decimals, which may be left out if they are those of amounts."""
+    decimals = decls.decimals[name]
+    return name if version == 1 or bare and decimals == decls.amounts else f"{name} : {decimals}"
+
+
+def decls_text(decls, word="portfolio", start=None, version=None, bare=False):
+    """The canonical lines of the declarations. Code files are of version 1."""
+    version = 1 if word == "payoff" else version or decls.version
+    lines = [f"{word} {version};", f"amounts {decls.amounts};"]
     if decls.origin is not None:
         lines.append(f"origin {decls.origin.isoformat()};")
     lines.append(f"start {decls.start if start is None else start};")
     if decls.parties:
         lines.append(f"party {', '.join(decls.parties)};")
     if decls.assets:
-        lines.append(f"asset {', '.join(decls.assets)};")
+        lines.append(f"asset {', '.join(asset_text(decls, name, version, bare) for name in decls.assets)};")
     for name, label in decls.labels:
         if label is None:
             lines.append(f"flag {name};")
@@ -173,8 +205,14 @@ def decls_text(decls, word="portfolio", start=None):
 
 def instance(c, days):
     """The contract with numbers for the names of templates."""
-    of = days.get(c.of, c.of) if c.op in ("after", "within") else c.of
+    of = days_number(c.of, days) if c.op in ("after", "within") else c.of
     return Term(c.op, of, [instance(part, days) for part in c.parts], c.name)
+
+
+def migrated_text(decls, contracts):
+    """The canonical text in version 2."""
+    lines = [f"contract {name} = {term_text(canonical(decls, c))};\n" for name, c in contracts]
+    return decls_text(decls, version=2) + "".join(lines)
 
 
 # ---- Acceptance
@@ -320,24 +358,37 @@ def expr_scale(e, names):
     return scale
 
 
-def scales(c, names, most):
-    """The rule on scales: the scale of a contract, or of code, each node of which has at most so many decimals."""
-    if c.op in ("zero", "pay", "none"):
-        scale = 0
+def scales(c, names, most, decimals=None):
+    """The rule on scales: the scale of a contract, or of code, each node of which has at most so many decimals; and its scale in each
+    asset that it pays, which has at most the decimals of the asset, where these are given."""
+    again = lambda parts: greatest([scales(part, names, most, decimals) for part in parts])
+    if c.op in ("zero", "none"):
+        scale, own = 0, {}
+    elif c.op == "pay":
+        scale, own = 0, {c.of[0]: 0}
     elif c.op == "payon":
-        scale = 9
+        scale, own = 9, {}
     elif c.op == "scale":
         factor = expr_scale(c.parts[0], names)
-        scale = factor + scales(c.parts[1], names, most)
+        scale, own = again(c.parts[1:])
+        scale, own = factor + scale, {asset: factor + one for asset, one in own.items()}
     elif c.op == "let":
-        scale = scales(c.parts[1], names.and_one(expr_scale(c.parts[0], names)), most)
+        scale, own = scales(c.parts[1], names.and_one(expr_scale(c.parts[0], names)), most, decimals)
     elif c.op in ("within", "loop"):
         expr_scale(c.parts[0], names)
-        scale = max([scales(part, names, most) for part in c.parts[1:]])
+        scale, own = again(c.parts[1:])
     else:
-        scale = max([scales(part, names, most) for part in c.parts])
-    need(scale <= most, "scale", c)
-    return scale
+        scale, own = again(c.parts)
+    need(scale <= most and all(one <= (decimals or {}).get(asset, one) for asset, one in own.items()), "scale", c)
+    return scale, own
+
+
+def greatest(found):
+    """The greatest of scales, and of those in each asset."""
+    own = {}
+    for _, parts in found:
+        own.update({asset: max(scale, own.get(asset, 0)) for asset, scale in parts.items()})
+    return max(scale for scale, _ in found), own
 
 
 EXPRESSIONS = {"lit", "yes", "var", "obs", "model", "neg", "not", "&", "|", "if", "widen", "round", "div", "acc"}
@@ -499,7 +550,7 @@ def check(decls, c):
     number(c)
     sorts(c, Names(decls))
     start = times(c, Names(decls))
-    scale = scales(c, Names(decls), decls.amounts)
+    scale, _ = scales(c, Names(decls), decls.amounts, decls.decimals)
     sizes(c, (200, 100_000, None))
     _, total = bounds(c, Names(decls), (10 ** 27, decls.amounts))
     return start, scale, total * 10 ** (decls.amounts - scale), horizon(c)
@@ -666,10 +717,11 @@ def flow_lines(decls, name, rows):
     for (day, asset, one, other), amount in rows.items():
         if amount < 0:
             one, other = other, one
-        whole, rest = divmod(abs(amount), 10 ** (27 - decls.amounts))
-        assert rest == 0, "an amount of more decimals than amounts have"
+        decimals = decls.decimals[decls.assets[asset]]
+        whole, rest = divmod(abs(amount), 10 ** (27 - decimals))
+        assert rest == 0, "an amount of more decimals than its asset has"
         words = name, day_text(decls, day), decls.parties[one], decls.parties[other], decls.assets[asset]
-        lines.append(",".join(words) + f",{decimal(whole, decls.amounts)}\n")
+        lines.append(",".join(words) + f",{decimal(whole, decimals)}\n")
     return "".join(lines)
 
 
@@ -890,10 +942,13 @@ def date_of(code_date, setting):
 def later(decls, code_date, days):
     """A date so many days later, its templates in declared order."""
     number_of, names = code_date
-    if isinstance(days, int):
-        return number_of + days, names
-    order = [name for name, _ in decls.templates]
-    return number_of, tuple(sorted(names + (days,), key=order.index))
+    order = list(decls.days)
+    for item in items_of(days):
+        if isinstance(item, int):
+            number_of += item
+        else:
+            names = tuple(sorted(names + (item,), key=order.index))
+    return number_of, names
 
 
 def compiled_expr(e, decls, when):

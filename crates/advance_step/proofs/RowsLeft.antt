@@ -11,9 +11,10 @@ use Rattle.term_core.specs.declared.label.Label.TheVariants.{Number}
 use Rattle.term_core.specs.declared.terms.CmpOp.TheVariants.{Greater}
 use Rattle.term_core.specs.declared.values.Value.{Value}
 use Rattle.term_core.specs.declared.values.Value.TheVariants.{Num as Amount}
-use Rattle.term_core.specs.declared.terms.Days.TheVariants.{Num as Count}
+use Rattle.term_core.specs.DayCounts.{Num as Count, Sum}
 use Rattle.term_core.specs.Terms.{Lit, Var, Obs, Cmp, Round, Contract, Zero, Pay, Both, Scale, After, Let, Within}
 use Rattle.term_core.specs.Environments.{Environment, Place, IsAdmitted, IsValueOf, Extends, held, label_of, same_place, value_or}
+use Rattle.term_core.specs.Instances.{instance}
 use Rattle.term_core.specs.Values.{num, of_cmp}
 use Rattle.term_core.specs.Residuals.{Carries}
 use Rattle.term_core.specs.Redexes.{IsReduced}
@@ -34,7 +35,7 @@ use Rattle.advance_step.proofs.ReducingFacts.{residuals_hold}
 -- amounts of 2 decimals, the parties A and B are 0 and 1, the asset EUR is 0, and FX, from 0.5000 to 2.0000, is label 0
 abbrev with_fx : Declarations
 with_fx =
-    record { amounts = 2; origin = None; start = 0; parties = codes "A" ∷ codes "B" ∷ []; assets = codes "EUR" ∷ []; labels = record { 0 = codes "FX"; 1 = Number 4 (pos 5000) (pos 20000) } ∷ []; templates = [] }
+    record { version = 1; amounts = 2; origin = None; start = 0; parties = codes "A" ∷ codes "B" ∷ []; assets = record { 0 = codes "EUR"; 1 = 2 } ∷ []; labels = record { 0 = codes "FX"; 1 = Number 4 (pos 5000) (pos 20000) } ∷ []; templates = [] }
 
 abbrev pay_ab : Contract
 pay_ab = Pay 0 0 1
@@ -215,3 +216,23 @@ told_residual =
 loan_residual : IsResidual loan (pos 0) [] 30 (After (Count 60) (Scale (Lit (pos 10500) 2) pay_ba))
 loan_residual =
     reduces [] (pos 0) loan (After (Count 60) (Scale (Lit (pos 10500) 2) pay_ba)) 29 4 admitted_none loan_accepted (λ env a x. refl) (omega arith)
+
+-- ---- a payment after 30 days and the days of a template, at 60 of these, of which 85 are left on day 5
+
+-- after(30 + T, scale(105.00, BA))
+abbrev delayed : Contract
+delayed = instance (60 ∷ []) (After (Sum 30 (0 ∷ [])) (Scale (Lit (pos 10500) 2) pay_ba))
+
+delayed_accepted : IsAccepted with_fx delayed
+delayed_accepted =
+    record {
+      sorts = first_failing-is (is_sorted with_fx) (sites Once delayed);
+      times = nodes_timed delayed [] 0 [] (pos 0) refl (pos 0, omega (arith, ints), tt, omega (arith, ints));
+      scales = first_failing-is (is_scaled with_fx) (sites Once delayed);
+      sizes = first_failing-is is_small (sites Once delayed);
+      bounds = first_failing-is (is_bounded with_fx) (sites EachDay delayed);
+    }
+
+delayed_residual : IsResidual delayed (pos 0) [] 5 (After (Count 85) (Scale (Lit (pos 10500) 2) pay_ba))
+delayed_residual =
+    reduces [] (pos 0) delayed (After (Count 85) (Scale (Lit (pos 10500) 2) pay_ba)) 4 4 admitted_none delayed_accepted (λ env a x. refl) (omega arith)

@@ -1,8 +1,9 @@
 -- The bytes of a command's files have one answer: a status, and but for what is left of contracts a text. And the places of names.
 use Rattle.std.proofs.Common.{◌≡◌, ◌∙◌, ◌⊎◌, inl, inr, ℕ, List, ◌∷◌, refl, subst, sym}
+use Rattle.std.specs.Map.{keys_of}
 use Rattle.std.specs.Prelude.{Option, Some, None}
 use Rattle.contract_parse.specs.Names.{index_in}
-use Rattle.command_words.specs.Commands.{Advance, Check, Flows, Payoff, Request, Sample, Value}
+use Rattle.command_words.specs.Commands.{Advance, Check, Flows, Migrate, Payoff, Request, Sample, Value}
 use Rattle.command_answers.specs.AdvancePromise.{AreDueLines, last_gone}
 use Rattle.command_answers.specs.AnswerLaws.{AnswersAreOne, DeclaredNamesHavePlaces, DueLinesAreOne, LeavesNothingOpen, StatusesAreOne, SummariesAreOne}
 use Rattle.command_answers.specs.Course.{Tells}
@@ -34,6 +35,7 @@ open_or_not (Flows asked) = inl tt
 open_or_not (Advance asked) = inr (λ h. h)
 open_or_not (Payoff asked) = inl tt
 open_or_not (Value asked) = inl tt
+open_or_not (Migrate portfolio) = inl tt
 open_or_not (Sample contracts) = inl tt
 
 module _ (request : Request) (inputs : List (List ℕ)) (s t : Status) (one other : List ℕ) where
@@ -73,9 +75,9 @@ pub declared_names_have_places : DeclaredNamesHavePlaces
 declared_names_have_places d asked none =
     let from : Naming = record { name = asked.between.from; among = d.parties } in
     let to : Naming = record { name = asked.between.to; among = d.parties } in
-    let asset : Naming = record { name = asked.between.asset; among = d.assets } in
+    let asset : Naming = record { name = asked.between.asset; among = keys_of d.assets } in
     let set = names_set d asked.settings in
     let payer = first_index from (to ∷ asset ∷ set) (index_in d.parties asked.between.from) refl none in
     let receiver = first_index to (asset ∷ set) (index_in d.parties asked.between.to) refl payer.1 in
-    let third = first_index asset set (index_in d.assets asked.between.asset) refl receiver.1 in
+    let third = first_index asset set (index_in (keys_of d.assets) asked.between.asset) refl receiver.1 in
     (record { from = payer.0.0; to = receiver.0.0; asset = third.0.0 }, record { from = payer.0.1; to = receiver.0.1; asset = third.0.1 })

@@ -1,12 +1,14 @@
 -- The bytes of a portfolio and of a table have one answer of `flows`: one thing stops it, or one text is written.
-use Rattle.std.proofs.Common.{◌≡◌, ◌∙◌, ◌+ℤ◌, ◌-ℤ◌, ℕ, ℤ, pos, Bool, true, false, List, [], ◌∷◌, ◌++◌, ap, arith, refl, subst, sym}
+use Rattle.std.proofs.Common.{◌≡◌, ◌∙◌, ◌-◌, ◌^◌, ◌+ℤ◌, ◌-ℤ◌, ℕ, ℤ, pos, Bool, true, false, List, [], ◌∷◌, ◌++◌, ap, arith, refl, subst, sym}
 use Rattle.std.specs.Prelude.{All, Option, Some, None, codes, is_some, if◌then◌else◌}
 use Rattle.std.proofs.lemmas.Int.{ints}
 use Rattle.std.proofs.lemmas.List.Elements.{All-head, All-tail, All-weaker}
+use Rattle.decimal.specs.Rounding.{raised}
+use Rattle.decimal.proofs.PowerFacts.{ten_above}
 use Rattle.term_core.specs.declared.name.Name.{Name}
 use Rattle.term_core.specs.declared.rules.Rule.{Rule}
 use Rattle.term_core.specs.declared.values.Value.{Value}
-use Rattle.term_core.specs.Declarations.{Declarations}
+use Rattle.term_core.specs.Declarations.{Declarations, decimals_of}
 use Rattle.term_core.specs.Environments.{Environment, Extends, Place, held}
 use Rattle.term_core.specs.Reads.{first_unfixed, is_fixed, up_to_first}
 use Rattle.term_core.specs.Terms.{Contract}
@@ -16,6 +18,7 @@ use Rattle.term_core.proofs.ReadLawFacts.{reads_stay}
 use Rattle.term_core.proofs.RefusalFacts.{accepted_not_refused, refusals_unique}
 use Rattle.fixing_files.specs.Tables.{table_of}
 use Rattle.fixing_files.proofs.LawFacts.{one_map}
+use Rattle.interval_check.proofs.MultipleFacts.{times-cancel}
 use Rattle.flow_eval.specs.FlowAnswers.{AreKnownFlows, reads_until}
 use Rattle.flow_eval.specs.Tables.{paid_by}
 use Rattle.flow_eval.specs.declared.flow_table.FlowRow.{FlowRow}
@@ -142,8 +145,19 @@ one_day_text : (origin : Option ℤ) (day : ℤ) (t u : List ℕ) → IsDayText 
 one_day_text None day t u h k = h ∙ sym k
 one_day_text (Some origin) day t u h k = texts_unique t u (origin +ℤ day) h k
 
+-- an amount is a multiple by one number
+one_amount : (amount m n : ℤ) (k : ℕ) → amount ≡ raised m k → amount ≡ raised n k → m ≡ n
+one_amount amount m n k h e =
+    let same : raised m k ≡ raised n k = sym h ∙ e in
+    let low = times-cancel m n (10 ^ k) (ten_above k) (omega (arith, ints, same)) in
+    let high = times-cancel n m (10 ^ k) (ten_above k) (omega (arith, ints, same)) in
+    omega (arith, ints, low, high)
+
 pub one_line : (d : Declarations) (name : List ℕ) (row : FlowRow) (t u : List ℕ) → IsFlowLine d name row t → IsFlowLine d name row u → t ≡ u
-one_line d name row t u h k = h.is_line ∙ ap (λ (day : List ℕ). line_with d name day row) (one_day_text d.origin row.day h.day k.day h.is_day k.is_day) ∙ sym k.is_line
+one_line d name row t u h k =
+    let days = one_day_text d.origin row.day h.day k.day h.is_day k.is_day in
+    let amounts = one_amount row.amount h.amount k.amount (d.amounts - decimals_of d row.asset) h.is_amount k.is_amount in
+    h.is_line ∙ ap (λ (day : List ℕ). line_with d name day row h.amount) days ∙ ap (λ (amount : ℤ). line_with d name k.day row amount) amounts ∙ sym k.is_line
 
 one_lines : (d : Declarations) (name : List ℕ) (rows : List FlowRow) (t u : List ℕ) → AreLines d name rows t → AreLines d name rows u → t ≡ u
 one_lines d name [] t u h k = h ∙ sym k

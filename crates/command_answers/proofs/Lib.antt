@@ -6,6 +6,7 @@ pub mod InputFacts
 pub mod WritableFacts
 pub mod AdvanceFacts
 pub mod PayoffFacts
+pub mod MigrateFacts
 pub mod CheckFacts
 pub mod SumLineFacts
 pub mod ValueParts

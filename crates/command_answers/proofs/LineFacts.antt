@@ -1,5 +1,5 @@
 -- One more line, one more contract, rows that can be written, and a contract without flows.
-use Rattle.std.proofs.Common.{◌≡◌, ◌∙◌, ◌≤ℤ◌, ◌⊎◌, inl, inr, ℕ, ℤ, pos, List, [], ◌∷◌, ◌++◌, append_assoc, ap, arith, refl, subst, sym}
+use Rattle.std.proofs.Common.{◌≡◌, ◌∙◌, ◌<◌, ◌≤ℤ◌, ◌-◌, ◌⊎◌, inl, inr, ℕ, ℤ, pos, List, [], ◌∷◌, ◌++◌, append_assoc, ap, arith, get_or, length, refl, subst, sym}
 use Rattle.std.specs.Prelude.{All, Some, Result, Ok, Err}
 use Rattle.std.specs.Global.{Vec}
 use Rattle.std.proofs.lemmas.Int.{ints}
@@ -7,17 +7,19 @@ use Rattle.std.proofs.lemmas.List.{append-nil}
 use Rattle.std.proofs.lemmas.List.Elements.{All-cons, All-nil, All-weaker}
 use Rattle.term_core.specs.declared.name.Name.{Name}
 use Rattle.term_core.specs.declared.rules.Rule.{Rule}
-use Rattle.term_core.specs.Declarations.{Declarations}
+use Rattle.term_core.specs.Declarations.{Declarations, decimals_of}
 use Rattle.term_core.specs.Environments.{Environment}
+use Rattle.term_core.specs.LawsScales.{IsMultiple}
 use Rattle.term_core.specs.Terms.{Contract}
 use Rattle.term_core.specs.Acceptance.{IsAccepted}
 use Rattle.flow_eval.specs.FlowAnswers.{AreFlows, AreKnownFlows}
-use Rattle.flow_eval.specs.Tables.{IsDueRow}
+use Rattle.flow_eval.specs.Tables.{IsDueRow, paid_by}
 use Rattle.flow_eval.specs.declared.faults.FlowErr.{FlowErr}
 use Rattle.flow_eval.specs.declared.faults.FlowErr.TheVariants as flow
 use Rattle.flow_eval.specs.declared.flow_table.FlowRow.{FlowRow}
 use Rattle.flow_eval.specs.declared.flow_table.FlowTable.{FlowTable}
-use Rattle.report.specs.FlowLines.{AppendsFlowLine, IsFlowLine}
+use Rattle.report.specs.FlowLines.{AppendsFlowLine, HaveLines, IsFlowLine}
+use Rattle.report.proofs.TableLines.{paid_in_assets, table_has_lines}
 use Rattle.report.specs.declared.fault_lines.Fault.{Fault}
 use Rattle.command_answers.specs.CheckPromise.{AreAllAccepted}
 use Rattle.command_answers.specs.FlowsParts.{AnswersLines, AnswersTables, AppendsLines, IsMissingOne, IsRefusedOne, IsStopOf, missing_at}
@@ -133,6 +135,15 @@ no_later last day h k = omega (arith, ints)
 pub rows_writable : (start : ℕ) (last : ℤ) (rows : List FlowRow) → last ≤ℤ pos 1_100_000 → All (IsDueRow (pos start) last) rows → All (IsDueRow (pos 0) (pos 1_100_000)) rows
 rows_writable start last rows h all =
     All-weaker (IsDueRow (pos start) last) (IsDueRow (pos 0) (pos 1_100_000)) (λ row due. (no_sooner (pos start) row.day (omega (arith, ints)) due.0, no_later last row.day h due.1, due.2)) rows all
+
+-- the rows of an accepted contract have lines
+pub rows_have_lines : (d : Declarations) (c : Contract) (fixings : Environment) (first last : ℤ) (rows : List FlowRow) → IsAccepted d c → AreKnownFlows d c fixings first last rows → HaveLines d rows
+rows_have_lines d c fixings first last rows accepted known =
+    table_has_lines d (paid_by d c fixings first) first last rows (paid_in_assets d c fixings first accepted) (known.table fixings (λ q v e. e))
+
+pub row_has_line : (d : Declarations) (rows seen : List FlowRow) (i : ℕ) (none : FlowRow) → HaveLines d rows → seen ≡ rows → i < length rows → IsMultiple (get_or seen i none).amount (d.amounts - decimals_of d (get_or seen i none).asset)
+row_has_line d rows seen i none lines same within =
+    subst (λ (xs : List FlowRow). IsMultiple (get_or xs i none).amount (d.amounts - decimals_of d (get_or xs i none).asset)) (sym same) (lines i none within)
 
 -- ---- a contract without flows
 

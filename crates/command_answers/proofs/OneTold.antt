@@ -7,6 +7,9 @@ use Rattle.term_core.specs.Factors.{CurveRow}
 use Rattle.term_core.specs.Flows.{Flow}
 use Rattle.term_core.specs.Terms.{Contract}
 use Rattle.contract_parse.proofs.OneText.{one_text}
+use Rattle.contract_print.specs.Canon.{IsCanon}
+use Rattle.contract_print.specs.Migrated.{migrated}
+use Rattle.contract_print.proofs.LinesSpelled.{one_canon}
 use Rattle.fixing_files.specs.Tables.{table_of}
 use Rattle.fixing_files.proofs.CurveLawFacts.{one_curve}
 use Rattle.payoff_lang.specs.CodeBooks.{CodeBook}
@@ -15,7 +18,7 @@ use Rattle.payoff_lang.specs.CodeValues.{Asked as Question}
 use Rattle.payoff_lang.proofs.CodeCanonFacts.{one_canon_of_code}
 use Rattle.payoff_lang.proofs.OneCode.{one_code_text}
 use Rattle.report.specs.ValueLines.{value_text}
-use Rattle.command_words.specs.Commands.{Advance, Check, Flows, FlowsAsked, Payoff, PayoffAsked, Request, Sample, Value, ValueAsked}
+use Rattle.command_words.specs.Commands.{Advance, Check, Flows, FlowsAsked, Migrate, Payoff, PayoffAsked, Request, Sample, Value, ValueAsked}
 use Rattle.command_answers.specs.AnswerLaws.{LeavesNothingOpen}
 use Rattle.command_answers.specs.CheckPromise.{AreCheckLines}
 use Rattle.command_answers.specs.Course.{Tells}
@@ -89,6 +92,8 @@ one_told (Payoff asked) inputs s t one other closed (b, p, h) (c, q, k) =
 one_told (Value asked) inputs s t one other closed (b, p, h) (c, q, k) =
     told_of_value asked b (file_at inputs 1) (file_at inputs 2) s t one other h
     (subst (λ (x : CodeBook). Tells (value_on asked x (file_at inputs 1) (file_at inputs 2)) t other) (one_code_text (file_at inputs 0) c b q p) k)
+one_told (Migrate portfolio) inputs s t one other closed (b, p, (done, canon)) (c, q, (ended, more)) =
+    one_canon one other (migrated b) canon (subst (λ (x : Book). IsCanon other (migrated x)) (one_text (file_at inputs 0) c b q p) more)
 one_told (Sample contracts) inputs s t one other closed h k = one_summary contracts one other h.1 k.1
 
 -- what is left open is the text of a command that is done
@@ -99,4 +104,5 @@ told_is_done (Flows asked) inputs s text open_end h = absurd (open_end tt)
 told_is_done (Advance asked) inputs s text open_end (b, p, (day, is, (a, all, (fixings, are, (e, fixed, (done, left)))))) = done
 told_is_done (Payoff asked) inputs s text open_end h = absurd (open_end tt)
 told_is_done (Value asked) inputs s text open_end h = absurd (open_end tt)
+told_is_done (Migrate portfolio) inputs s text open_end h = absurd (open_end tt)
 told_is_done (Sample contracts) inputs s text open_end h = absurd (open_end tt)

@@ -10,7 +10,7 @@ use Rattle.term_core.specs.declared.name.Name.{Name}
 use Rattle.term_core.specs.declared.terms.Contr.{Contr}
 use Rattle.term_core.specs.declared.portfolio.Portfolio.{Portfolio}
 use Rattle.term_core.specs.Books.{Book, book}
-use Rattle.term_core.specs.Declarations.{Declarations}
+use Rattle.term_core.specs.Declarations.{Declarations, at_one_scale}
 use Rattle.term_core.specs.Terms.{Contract, contract}
 use Rattle.term_core.specs.WellFormed.{IsClosed}
 use Rattle.contract_print.specs.Writable.{IsWritableTerm}
@@ -78,7 +78,7 @@ refused_named b name one named f h =
 
 -- the text of the code is that of the file that is asked for
 pub canon_asked : (b : Book) (asked : PayoffAsked) (one : Written) (code : PayoffCode) (text : List ℕ) → IsNamed b asked.contract one → code ≡ code_asked asked.plain (contract one.contr.now)
-    → IsCanonOfCode text (file_of b.declarations one.name.now code) → IsCanonOfCode text (code_file_of b.declarations asked (contract one.contr.now))
+    → IsCanonOfCode text (file_of (at_one_scale b.declarations) one.name.now code) → IsCanonOfCode text (code_file_of b.declarations asked (contract one.contr.now))
 canon_asked b asked one code text named same canon =
     subst (λ (f : CodeBook). IsCanonOfCode text f)
-    (ap (λ (n : List ℕ). file_of b.declarations n code) named.same_name ∙ ap (λ (k : PayoffCode). file_of b.declarations asked.contract k) same) canon
+    (ap (λ (n : List ℕ). file_of (at_one_scale b.declarations) n code) named.same_name ∙ ap (λ (k : PayoffCode). file_of (at_one_scale b.declarations) asked.contract k) same) canon

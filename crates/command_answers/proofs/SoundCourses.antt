@@ -10,6 +10,8 @@ use Rattle.term_core.specs.Factors.{CurveRow}
 use Rattle.term_core.specs.Flows.{Flow}
 use Rattle.term_core.specs.Terms.{Contract}
 use Rattle.contract_parse.proofs.OneText.{one_text}
+use Rattle.contract_print.specs.Canon.{IsCanon}
+use Rattle.contract_print.specs.Migrated.{migrated}
 use Rattle.fixing_files.specs.Tables.{table_of}
 use Rattle.fixing_files.proofs.CurveLawFacts.{one_curve}
 use Rattle.payoff_lang.specs.CodeBooks.{CodeBook}
@@ -17,7 +19,7 @@ use Rattle.payoff_lang.specs.CodeCanon.{IsCanonOfCode}
 use Rattle.payoff_lang.specs.CodeValues.{Asked as Question}
 use Rattle.payoff_lang.proofs.OneCode.{one_code_text}
 use Rattle.sample.specs.Summary.{IsSummary}
-use Rattle.command_words.specs.Commands.{Advance, AdvanceAsked, Between, Check, Flows, FlowsAsked, Payoff, PayoffAsked, Request, Sample, Value, ValueAsked}
+use Rattle.command_words.specs.Commands.{Advance, AdvanceAsked, Between, Check, Flows, FlowsAsked, Migrate, Payoff, PayoffAsked, Request, Sample, Value, ValueAsked}
 use Rattle.command_answers.specs.AdvanceCourse.{advance_course, to_a_day}
 use Rattle.command_answers.specs.AdvancePromise.{IsAdvanced, IsNewDay, last_gone}
 use Rattle.command_answers.specs.CheckCourse.{check_course}
@@ -27,6 +29,7 @@ use Rattle.command_answers.specs.Courses.{course_of}
 use Rattle.command_answers.specs.FlowsCourse.{flows_course, flows_on, over_fixings, table_named}
 use Rattle.command_answers.specs.FlowsPromise.{AreLinesAsked, IsDayAsked, IsFirstMissing, greatest_day}
 use Rattle.command_answers.specs.Inputs.{file_at}
+use Rattle.command_answers.specs.MigrateCourse.{migrate_course}
 use Rattle.command_answers.specs.PayoffCourse.{payoff_course}
 use Rattle.command_answers.specs.PayoffPromise.{code_file_of}
 use Rattle.command_answers.specs.Stages.{accepted_at_defaults, accepted_code, all_accepted, all_fixed, code_fixed, code_of, curve_of, day_of_word, fixed_by, known, last_day, named, names_of_value, new_day, portfolio_of}
@@ -201,10 +204,16 @@ sound_value_course asked inputs =
     let bytes = file_at inputs 0 in
     one_next OfCommand CodeBook (code_of bytes) _ tt (code_is bytes) (one_code_text bytes) (λ b p. sound_value asked b (file_at inputs 1) (file_at inputs 2))
 
+sound_migrate : (inputs : List (List ℕ)) → Sound OfCommand (migrate_course inputs)
+sound_migrate inputs =
+    let bytes = file_at inputs 0 in
+    one_next OfCommand Book (portfolio_of bytes) _ tt (portfolio_is bytes) (one_text bytes) (λ b p. sound_tells (λ text. IsCanon text (migrated b)))
+
 pub sound_course : (request : Request) (inputs : List (List ℕ)) → Sound OfCommand (course_of request inputs)
 sound_course (Check portfolio) inputs = sound_check inputs
 sound_course (Flows asked) inputs = sound_flows_course asked inputs
 sound_course (Advance asked) inputs = sound_advance asked inputs
 sound_course (Payoff asked) inputs = sound_payoff asked inputs
 sound_course (Value asked) inputs = sound_value_course asked inputs
+sound_course (Migrate portfolio) inputs = sound_migrate inputs
 sound_course (Sample contracts) inputs = sound_tells (IsSummary contracts)

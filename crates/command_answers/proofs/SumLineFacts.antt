@@ -16,7 +16,9 @@ use Rattle.flow_eval.specs.FlowAnswers.{AreKnownFlows}
 use Rattle.flow_eval.specs.Tables.{IsDueRow, IsPaid, flow_in, paid_by}
 use Rattle.flow_eval.specs.declared.flow_table.FlowRow.{FlowRow}
 use Rattle.flow_eval.specs.declared.flow_table.FlowTable.{FlowTable}
-use Rattle.report.specs.SumTables.{AreTablesOf, IsSummable, IsSumOf}
+use Rattle.report.specs.FlowLines.{HaveLines, PaysInAssets}
+use Rattle.report.specs.SumTables.{AreTablesOf, IsSummable, IsSumOf, together}
+use Rattle.report.proofs.TableLines.{paid_in_assets, table_has_lines, together_in_assets}
 use Rattle.command_answers.specs.CheckPromise.{AreAllAccepted}
 use Rattle.command_answers.specs.FlowsParts.{AreTables, LinesKnown}
 use Rattle.command_answers.specs.FlowsPromise.{AreAllFixed, AreLines, missing_of}
@@ -77,6 +79,20 @@ module _ (d : Declarations) (fixings : Environment) (last : ℤ) (limits : Keeps
 
   pub sum_due : (entries : List (Name × Contract)) (tables : List FlowTable) (rows : List FlowRow) → AreTables d fixings last entries tables → IsSumOf tables rows → All (IsDueRow (pos d.start) last) rows
   sum_due entries tables rows h sum = (sum _ (pos d.start) last (tables_in fixings itself entries tables h)).1
+
+  -- what accepted contracts pay together is paid at the decimals of the assets
+  all_in_assets : (entries : List (Name × Contract)) → AreAllAccepted d entries → All (PaysInAssets d) (map (λ (entry : Name × Contract). paid_by d entry.1 fixings (pos d.start)) entries)
+  all_in_assets [] all = All-nil (PaysInAssets d)
+  all_in_assets (entry ∷ entries) all =
+      let P : Name × Contract → Type 0 = λ e. IsAccepted d e.1 in
+      All-cons (PaysInAssets d) (paid_by d entry.1 fixings (pos d.start)) (map (λ (e : Name × Contract). paid_by d e.1 fixings (pos d.start)) entries)
+      (paid_in_assets d entry.1 fixings (pos d.start) (All-head P entry entries all)) (all_in_assets entries (All-tail P entry entries all))
+
+  -- so the rows of the sum have lines
+  pub sum_has_lines : (entries : List (Name × Contract)) (tables : List FlowTable) (rows : List FlowRow) → AreAllAccepted d entries → AreTables d fixings last entries tables → IsSumOf tables rows → HaveLines d rows
+  sum_has_lines entries tables rows all h sum =
+      let pays = map (λ (entry : Name × Contract). paid_by d entry.1 fixings (pos d.start)) entries in
+      table_has_lines d (together pays) (pos d.start) last rows (together_in_assets d pays (all_in_assets entries all)) (sum pays (pos d.start) last (tables_in fixings itself entries tables h)).0
 
   pub sum_known : (entries : List (Name × Contract)) (tables : List FlowTable) (rows : List FlowRow) (text : List ℕ) → AreTables d fixings last entries tables → IsSumOf tables rows → AreLines d (codes "*") rows text → LinesKnown true d fixings last entries text
   sum_known entries tables rows text h sum lines = record {

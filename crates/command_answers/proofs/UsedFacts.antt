@@ -1,23 +1,25 @@
--- The contracts that a command uses: one after another from the portfolio's, and each can be tried.
-use Rattle.std.proofs.Common.{◌≡◌, ◌∙◌, ◌≤◌, ◌<◌, ◌^◌, ◌+◌, ℕ, suc, Bool, true, false, cond, ◌||◌, List, [], ◌∷◌, ◌++◌, drop, get_or, map, length, ap, arith, refl, subst, sym}
+-- The contracts that a command uses: one after another from the portfolio's, and each can be tried; and the numbers that stand in
+-- place of the names of templates are small.
+use Rattle.std.proofs.Common.{◌≡◌, ◌∙◌, ◌≤◌, ◌<◌, ◌^◌, ◌+◌, ℕ, zero, suc, Bool, true, false, cond, ◌||◌, List, [], ◌∷◌, ◌++◌, drop, get_or, map, length, nat_le, leb-true, ap, arith, refl, subst, sym}
 use Rattle.std.specs.Prelude.{All, Option}
 use Rattle.std.specs.List.{filter, list_any, sum_by}
+use Rattle.std.proofs.lemmas.Bool.{and_parts}
 use Rattle.std.proofs.lemmas.List.{append_assoc, drop_all, drop_more, get_or-map, length-map, map-append}
 use Rattle.std.proofs.lemmas.List.Sums.{sum_by-cons}
 use Rattle.std.proofs.lemmas.List.Elements.{All-cons, All-head, All-nil, All-tail}
 use Rattle.term_core.specs.declared.name.Name.{Name}
 use Rattle.term_core.specs.declared.terms.Contr.{Contr}
-use Rattle.term_core.specs.declared.terms.Days.{Days}
-use Rattle.term_core.specs.declared.terms.Days.TheVariants.{Num as Count, Named}
 use Rattle.term_core.specs.Books.{Book}
+use Rattle.term_core.specs.DayCounts.{Days, Named, Num as Count, Sum}
 use Rattle.term_core.specs.Declarations.{Declarations}
 use Rattle.term_core.specs.Terms.{Contract, Zero, Pay, Both, Scale, After, Let, Within, contract}
 use Rattle.term_core.specs.Sizes.{height_of_contract, nodes_of_contract}
 use Rattle.term_core.specs.WellFormed.{HasOnlyNumbers, IsNumber}
-use Rattle.term_core.specs.Instances.{HasNumbers, declared_numbers, instance, with_number}
+use Rattle.term_core.specs.Instances.{HasNumbers, IsSetting, declared_numbers, instance, with_number}
+use Rattle.term_core.specs.Limits.{are_numbers}
 use Rattle.term_core.proofs.InstanceFacts.{defaults_suit, instances_have_numbers, instances_well_formed, settings_suit}
 use Rattle.contract_parse.specs.Texts.{Text}
-use Rattle.contract_parse.proofs.TextClosed.{contracts_closed}
+use Rattle.contract_parse.proofs.TextClosed.{contracts_closed, contracts_small}
 use Rattle.contract_parse.proofs.TextSizes.{nodes_fit}
 use Rattle.command_answers.specs.UsedContracts.{at_defaults, is_asked, used}
 use Rattle.command_answers.specs.UsedParts.{IsSound, IsTriable, entries_of, entry_of}
@@ -29,6 +31,7 @@ use Rattle.contract_parse.specs.ContractReading.{trees}
 same_number : (xs : List ℕ) (n : Days) → IsNumber n → with_number xs n ≡ n
 same_number xs (Count n) h = refl
 same_number xs (Named t) h = absurd h
+same_number xs (Sum n ts) h = absurd h
 
 -- what names no template is its own instance
 pub own_instance : (xs : List ℕ) (c : Contract) → HasOnlyNumbers c → instance xs c ≡ c
@@ -61,6 +64,15 @@ instance_nodes xs (Within e n a b) = rw (instance_nodes xs a, instance_nodes xs 
 
 pub numbers_given : (d : Declarations) (c : Contract) → IsSound d c → HasNumbers (declared_numbers d) c
 numbers_given d c s = settings_suit d 0 (declared_numbers d) c s.closed (defaults_suit d)
+
+numbers_small : (entries : List (Name × ℕ)) → are_numbers entries ≡ true → IsSetting (map (λ entry. entry.1) entries)
+numbers_small [] h t = omega arith
+numbers_small (e ∷ es) h zero = leb-true e.1 100_000 (and_parts (nat_le e.1 100_000) (are_numbers es) h).0
+numbers_small (e ∷ es) h (suc t) = numbers_small es (and_parts (nat_le e.1 100_000) (are_numbers es) h).1 t
+
+-- the defaults are a setting, where the templates keep to their limits
+pub defaults_small : (d : Declarations) (numbers : List ℕ) → are_numbers d.templates ≡ true → numbers ≡ declared_numbers d → IsSetting numbers
+defaults_small d numbers h same = subst IsSetting (sym same) (numbers_small d.templates h)
 
 pub triable : (d : Declarations) (c : Contract) → IsSound d c → IsTriable d (instance (declared_numbers d) c)
 triable d c s =
@@ -152,7 +164,7 @@ pub contracts_sound : (bytes : List ℕ) (b : Book) → Text bytes b → length 
 contracts_sound bytes b text short = λ k entry within.
     let closed = contracts_closed bytes b text k entry within in
     let few = each_at_most (λ (e : Name × Contract). nodes_of_contract e.1) b.contracts (length bytes) (nodes_fit bytes b text) k entry within in
-    record { closed = closed.0; low = closed.1; small = omega (arith, few, short) }
+    record { closed = closed.0; low = closed.1; small = omega (arith, few, short); sums = contracts_small bytes b text k entry within }
 
 some_nodes : (c : Contract) → 1 ≤ nodes_of_contract c
 some_nodes Zero = omega arith

@@ -4,6 +4,7 @@ use Rattle.std.proofs.Common.{◌≡◌, ◌∙◌, ◌<◌, inl, inr, ℕ, ℤ,
 use Rattle.std.specs.Prelude.{Some, None, Result, Err, is_none, nat_lt}
 use Rattle.std.specs.Global.{Vec}
 use Rattle.std.specs.List.{position_or_len}
+use Rattle.std.specs.Map.{keys_of}
 use Rattle.std.specs.Str.{bytes_eq}
 use Rattle.std.proofs.lemmas.Bool.Decides.{nat_tests}
 use Rattle.term_core.specs.Declarations.{Declarations}
@@ -49,7 +50,7 @@ module _ (d : Declarations) (between : Between) where
   pub no_receiver : (from : ℕ) → index_in d.parties between.from ≡ Some from → (f : Fault) → IsUndeclared d.parties between.to f → IsUnknownBetween d between f
   no_receiver from one f h = record { name = between.to; is_first = rw (one, h.absent) refl; fault_is = h.fault_is }
 
-  pub no_asset : (from to : ℕ) → index_in d.parties between.from ≡ Some from → index_in d.parties between.to ≡ Some to → (f : Fault) → IsUndeclared d.assets between.asset f → IsUnknownBetween d between f
+  pub no_asset : (from to : ℕ) → index_in d.parties between.from ≡ Some from → index_in d.parties between.to ≡ Some to → (f : Fault) → IsUndeclared (keys_of d.assets) between.asset f → IsUnknownBetween d between f
   no_asset from to one two f h = record { name = between.asset; is_first = rw (one, two, h.absent) refl; fault_is = h.fault_is }
 
   known_between : (flow : Flow) → AreBetween d between flow → first_unknown_of (names_between d between) ≡ None

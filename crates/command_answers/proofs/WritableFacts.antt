@@ -17,7 +17,7 @@ module _ (d : Declarations) (fixings : Environment) (day : ℕ) where
       → AllByRecursion (λ (entry : Name × Contract). IsSoundRest d entry.1) rest
   left_sound [] [] is = tt
   left_sound (entry ∷ entries) (left ∷ rest) is =
-      (record { accepted = is.1.accepted; closed = is.1.closed; literals = is.1.literals }, left_sound entries rest is.2)
+      (record { accepted = is.1.accepted; closed = is.1.closed; literals = is.1.literals; counts = is.1.numbers }, left_sound entries rest is.2)
   left_sound _ _ is = absurd is
 
   pub all_writable : (entries rest : List (Name × Contract)) → AreResiduals d fixings day entries rest → All (λ entry. IsWritableTerm entry.1) rest

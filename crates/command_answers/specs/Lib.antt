@@ -14,6 +14,7 @@ pub mod FlowsCourse
 pub mod AdvanceCourse
 pub mod PayoffCourse
 pub mod ValueCourse
+pub mod MigrateCourse
 pub mod Courses
 pub mod UsedParts
 pub mod CheckParts

@@ -1,11 +1,12 @@
 -- What the command `payoff` says of the named contract of a portfolio: the canonical text of a code file that has the
--- portfolio's declarations and the contract's name, and for code the cut code of the contract as it is written, with the names
--- of its templates, or its plain code where that is asked.
+-- portfolio's declarations in version 1 and the contract's name, and for code the cut code of the contract as it is written,
+-- with the names of its templates, or its plain code where that is asked. The contract is tried under the portfolio's own
+-- declarations.
 use Rattle.std.specs.Prelude.{◌≡◌, ℕ, Bool, true, false, List, Some}
 use Rattle.term_core.specs.declared.rules.Rule.{Rule}
 use Rattle.term_core.specs.Acceptance.{IsAccepted, IsRefusal}
 use Rattle.term_core.specs.Books.{Book}
-use Rattle.term_core.specs.Declarations.{Declarations}
+use Rattle.term_core.specs.Declarations.{Declarations, at_one_scale}
 use Rattle.term_core.specs.Instances.{instance, declared_numbers}
 use Rattle.term_core.specs.Terms.{Contract}
 use Rattle.payoff_lang.specs.Code.{PayoffCode}
@@ -31,9 +32,9 @@ code_asked false c = cut_code (code_of c)
 abbrev pub file_of : Declarations → List ℕ → PayoffCode → CodeBook
 file_of d name k = record { declarations = d; name = name; code = k }
 
--- the code file of a contract
+-- the code file of a contract: on the declarations in version 1, where each asset has the decimals of the amounts
 abbrev pub code_file_of : Declarations → PayoffAsked → Contract → CodeBook
-code_file_of d asked c = file_of d asked.contract (code_asked asked.plain c)
+code_file_of d asked c = file_of (at_one_scale d) asked.contract (code_asked asked.plain c)
 
 -- nothing stops the command: the name is that of a contract, and this one is accepted
 pub record CanCompile (b : Book) (asked : PayoffAsked) (c : Contract) : Type 0 where

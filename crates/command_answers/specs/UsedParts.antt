@@ -4,6 +4,7 @@ use Rattle.std.specs.List.{All}
 use Rattle.term_core.specs.declared.name.Name.{Name}
 use Rattle.term_core.specs.Books.{Book}
 use Rattle.term_core.specs.Declarations.{Declarations}
+use Rattle.term_core.specs.Instances.{HasSmallSums}
 use Rattle.term_core.specs.Terms.{Contract, contract}
 use Rattle.term_core.specs.Sizes.{height_of_contract, nodes_of_contract}
 use Rattle.term_core.specs.WellFormed.{HasOnlyNumbers, IsClosed}
@@ -28,6 +29,7 @@ pub record IsSound (d : Declarations) (c : Contract) : Type 0 where
   pub closed : IsClosed d c
   pub low : height_of_contract c ≤ 200
   pub small : nodes_of_contract c < 2 ^ 32
+  pub sums : HasSmallSums c
 
 -- all contracts of a portfolio are those of a text
 abbrev pub HasSoundContracts : Book → Type 0

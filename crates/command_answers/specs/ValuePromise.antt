@@ -43,7 +43,7 @@ pub record Naming : Type 0 where
 abbrev pub names_between : Declarations → Between → List Naming
 names_between d between =
     record { name = between.from; among = d.parties } ∷ record { name = between.to; among = d.parties }
-    ∷ record { name = between.asset; among = d.assets } ∷ []
+    ∷ record { name = between.asset; among = keys_of d.assets } ∷ []
 
 abbrev pub names_set : Declarations → List (List ℕ × ℕ) → List Naming
 names_set d settings = map (λ setting. let n : Naming = record { name = setting.0; among = keys_of d.templates } in n) settings
@@ -59,7 +59,7 @@ first_unknown d asked = first_unknown_of (names_between d asked.between ++ names
 pub record AreBetween (d : Declarations) (between : Between) (flow : Flow) : Type 0 where
   pub from : index_in d.parties between.from ≡ Some flow.from
   pub to : index_in d.parties between.to ≡ Some flow.to
-  pub asset : index_in d.assets between.asset ≡ Some flow.asset
+  pub asset : index_in (keys_of d.assets) between.asset ≡ Some flow.asset
 
 -- the names are declared, and the day is in range
 pub record WordsFitCode (d : Declarations) (asked : ValueAsked) (day : ℤ) : Type 0 where

@@ -12,6 +12,7 @@ ghost use Rattle.contract_print.specs.Spellable.{are_names};
 ghost use Rattle.contract_print.specs.Writable.{IsWritableTerm};
 ghost use Rattle.flow_eval.specs.Readiness.{last_day};
 ghost use Rattle.flow_eval.specs.Tables.{IsDueRow};
+ghost use Rattle.report.specs.FlowLines.{HaveLines};
 ghost use Rattle.command_answers.specs.AdvanceCourse.{advance_on};
 ghost use Rattle.command_answers.specs.AdvanceParts.{AnswersNewDay, AnswersRest, AnswersRests, AppendsComments, AppendsDue, IsRestText};
 ghost use Rattle.command_answers.specs.AdvancePromise.{rest_declarations};
@@ -56,7 +57,8 @@ fn append_comments(
     name: &[u8],
     table: &FlowTable,
 ) -> Result<(), NoMemory>
-    requires { All (IsDueRow (pos 0) (pos last_day)) table.now.rows.items }
+    requires due { All (IsDueRow (pos 0) (pos last_day)) table.now.rows.items }
+    requires lines { HaveLines (declarations decls.now) table.now.rows.items }
     ensures { OnOk result (AppendsComments (declarations decls.now) name.now table.now.rows.items out.old.items out.new.items) }
 {
     for row in &table.rows {
@@ -90,6 +92,7 @@ fn keep(
     left: &mut Left,
 ) -> Result<(), NoMemory>
     requires due { All (IsDueRow (pos 0) (pos last_day)) advanced.due.rows.items }
+    requires lines { HaveLines (declarations decls.now) advanced.due.rows.items }
     requires name { is_declared (keys left.old.contracts) name.now ≡ false }
     ensures due { OnOk result (AppendsDue (declarations decls.now) name.now advanced.due.rows.items left.old left.new) }
     ensures rest { OnOk result (left.new.contracts.entries ≡ left.old.contracts.entries ++ (name.now, advanced.rest) ∷ []) }

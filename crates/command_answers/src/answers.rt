@@ -9,6 +9,7 @@ ghost use Rattle.command_answers.specs.CheckCourse.{check_course};
 ghost use Rattle.command_answers.specs.Courses.{course_of, sample_course};
 ghost use Rattle.command_answers.specs.FlowsCourse.{flows_course, table_named};
 ghost use Rattle.command_answers.specs.Inputs.{AreShort, bytes_of};
+ghost use Rattle.command_answers.specs.MigrateCourse.{migrate_course};
 ghost use Rattle.command_answers.specs.PayoffCourse.{payoff_course};
 ghost use Rattle.command_answers.specs.Statuses.{status_of};
 ghost use Rattle.command_answers.specs.Stopping.{Goes};
@@ -18,6 +19,7 @@ use crate::advance_text::advance_text;
 use crate::check_text::check_text;
 use crate::flows_text::flows_text;
 use crate::inputs::{code_of, file_at, portfolio_of};
+use crate::migrate_text::migrated_text;
 use crate::payoff_text::payoff_text;
 use crate::status::{Status, status_of};
 use crate::stop::Stop;
@@ -129,6 +131,19 @@ fn value_answer(alloc: Global, asked: &Value<'_>, inputs: &[Vec<u8>]) -> Result<
     })
 }
 
+// The text of a portfolio in version 2.
+fn migrate_answer(alloc: Global, inputs: &[Vec<u8>]) -> Result<Answer, Stop>
+    requires { AreShort (bytes_of inputs.now) }
+    ensures { Goes (migrate_course (bytes_of inputs.now)) result }
+{
+    let portfolio = portfolio_of(alloc, file_at(inputs, 0))?;
+    let text = migrated_text(alloc, portfolio)?;
+    Ok(Answer {
+        status: Status::Done,
+        text,
+    })
+}
+
 // The summary of the sample of so many contracts.
 fn sample_answer(alloc: Global, size: SampleSize) -> Result<Answer, Stop>
     ensures { Goes (sample_course size.contracts) result }
@@ -156,6 +171,7 @@ pub fn answer_request(
         Request::Advance(asked) => advance_answer(alloc, asked, inputs),
         Request::Payoff(asked) => payoff_answer(alloc, asked, inputs),
         Request::Value(asked) => value_answer(alloc, asked, inputs),
+        Request::Migrate { .. } => migrate_answer(alloc, inputs),
         Request::Sample(size) => sample_answer(alloc, *size),
     }
 }

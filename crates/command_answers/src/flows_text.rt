@@ -9,6 +9,7 @@ ghost use Rattle.term_core.specs.Environments.{IsAdmitted};
 ghost use Rattle.term_core.specs.Terms.{contract};
 ghost use Rattle.flow_eval.specs.Readiness.{last_day};
 ghost use Rattle.flow_eval.specs.Tables.{IsDueRow};
+ghost use Rattle.report.specs.FlowLines.{HaveLines};
 ghost use Rattle.command_answers.specs.CheckPromise.{AreAllAccepted};
 ghost use Rattle.command_answers.specs.FlowsCourse.{flows_on};
 ghost use Rattle.command_answers.specs.FlowsParts.{AnswersLastDay, AnswersLines, AnswersLinesAsked, AnswersTable, AnswersTables, AppendsLines, IsShortTable};
@@ -47,7 +48,8 @@ fn append_table(
     name: &[u8],
     table: &FlowTable,
 ) -> Result<(), NoMemory>
-    requires { All (IsDueRow (pos 0) (pos last_day)) table.now.rows.items }
+    requires due { All (IsDueRow (pos 0) (pos last_day)) table.now.rows.items }
+    requires lines { HaveLines (declarations decls.now) table.now.rows.items }
     ensures { OnOk result (AppendsLines (declarations decls.now) name.now table.now.rows.items out.old.items out.new.items) }
 {
     for row in &table.rows {

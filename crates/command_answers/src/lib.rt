@@ -15,6 +15,7 @@ mod answers;
 mod check_text;
 mod flows_text;
 mod inputs;
+mod migrate_text;
 mod over_fixings;
 mod payoff_text;
 mod status;

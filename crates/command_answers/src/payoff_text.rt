@@ -3,7 +3,7 @@
 ghost use Rattle.std.specs.Prelude.{◌≡◌, IfOk};
 ghost use Rattle.std.specs.List.{All};
 ghost use Rattle.term_core.specs.Books.{book};
-ghost use Rattle.term_core.specs.Declarations.{declarations};
+ghost use Rattle.term_core.specs.Declarations.{at_one_scale, declarations};
 ghost use Rattle.term_core.specs.Terms.{contract};
 ghost use Rattle.term_core.specs.WellFormed.{IsClosed};
 ghost use Rattle.contract_print.specs.Writable.{IsWritableTerm};
@@ -54,18 +54,19 @@ fn code_asked(alloc: Global, decls: &Decls, contr: &Contr, plain: bool) -> Resul
     if plain { Ok(code) } else { cut(alloc, code) }
 }
 
-// Code under a name, on declarations.
+// Code under a name, on declarations in version 1.
 fn file_of(alloc: Global, decls: &Decls, name: &Name, code: Code) -> Result<CodeFile, NoMemory>
-    ensures { IfOk result (λ file. code_book file ≡ file_of (declarations decls.now) name.now (payoff_code code)) }
+    ensures { IfOk result (λ file. code_book file ≡ file_of (at_one_scale (declarations decls.now)) name.now (payoff_code code)) }
 {
-    let decls = decls.copy(alloc)?;
+    let decls = decls.at_one_scale(alloc)?;
     let name = name.clone()?;
     Ok(CodeFile { decls, name, code })
 }
 
 // The canonical text of a code file.
 fn file_text(alloc: Global, file: &CodeFile) -> Result<Vec<u8>, NoMemory>
-    requires { IsWritableCode (code_book file.now).code }
+    requires version { (code_book file.now).declarations.version ≡ 1 }
+    requires writable { IsWritableCode (code_book file.now).code }
     ensures { IfOk result (λ text. IsCanonOfCode text.items (code_book file.now)) }
 {
     let mut text = Vec::new(alloc);
@@ -76,7 +77,8 @@ fn file_text(alloc: Global, file: &CodeFile) -> Result<Vec<u8>, NoMemory>
 // The canonical text of the file of code.
 fn code_text(alloc: Global, decls: &Decls, name: &Name, code: Code) -> Result<Vec<u8>, NoMemory>
     requires { IsWritableCode (payoff_code code) }
-    ensures { IfOk result (λ text. IsCanonOfCode text.items (file_of (declarations decls.now) name.now (payoff_code code))) }
+    ensures { IfOk result (λ text.
+        IsCanonOfCode text.items (file_of (at_one_scale (declarations decls.now)) name.now (payoff_code code))) }
 {
     let file = file_of(alloc, decls, name, code)?;
     file_text(alloc, &file)

@@ -3,7 +3,7 @@
 ghost use Rattle.std.specs.Prelude.{◌≡◌, IfOk};
 ghost use Rattle.term_core.specs.Books.{book};
 ghost use Rattle.term_core.specs.Declarations.{declarations};
-ghost use Rattle.term_core.specs.Instances.{HasNumbers, instance};
+ghost use Rattle.term_core.specs.Instances.{HasNumbers, HasSmallSums, IsSetting, instance};
 ghost use Rattle.term_core.specs.Terms.{contract};
 ghost use Rattle.command_words.specs.Arguments.{given_text};
 ghost use Rattle.command_answers.specs.PayoffParts.{AnswersNamed};
@@ -57,7 +57,9 @@ pub fn instance_of<'a>(
     contr: &'a Contr,
     setting: &Setting,
 ) -> Result<Instance<'a>, NoMemory>
-    requires { HasNumbers setting.now.days.items (contract contr.now) }
+    requires numbers { HasNumbers setting.now.days.items (contract contr.now) }
+    requires sums { HasSmallSums (contract contr.now) }
+    requires small { IsSetting setting.now.days.items }
     ensures { IfOk result (λ made. tree_of made ≡ instance setting.now.days.items (contract contr.entry.now)) }
 {
     if has_only_numbers(contr) {

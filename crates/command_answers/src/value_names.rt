@@ -1,6 +1,8 @@
 //! The names of `value`: parties, an asset and templates that the declarations have.
 
 ghost use Rattle.std.specs.Prelude.{◌≡◌, ◌<◌, ◌^◌, IfOk, Some};
+ghost use Rattle.std.specs.Map.{keys_of};
+ghost use Rattle.indexmap.specs.IndexMap.{index_map_len};
 ghost use Rattle.indexmap.specs.IndexSet.{index_set_len};
 ghost use Rattle.term_core.specs.Declarations.{declarations};
 ghost use Rattle.contract_parse.specs.Names.{index_in};
@@ -40,13 +42,28 @@ fn index_of(alloc: Global, names: &IndexSet<Name>, word: &str) -> Result<u32, St
     }
 }
 
+// The same of an asset.
+fn index_of_asset(alloc: Global, assets: &IndexMap<Name, u8>, word: &str) -> Result<u32, Stop>
+    requires { index_map_len assets.now < 2 ^ 32 }
+    ensures { AnswersBy (λ index. index_in (keys_of assets.now.entries) word.now ≡ Some index)
+        (IsUndeclared (keys_of assets.now.entries) word.now) result }
+{
+    match assets.get_index_of(word.as_bytes()) {
+        Some(index) => Ok(index as u32),
+        None => {
+            let name = Name::new(alloc, word.as_bytes())?;
+            Err(Stop::Fault(Fault::UnknownName { name }))
+        }
+    }
+}
+
 // The parties and the asset.
 fn parties_of(alloc: Global, decls: &Decls, between: &Between<'_>) -> Result<Parties, Stop>
     ensures { AnswersParties (declarations decls.now) (between_by between.now) result }
 {
     let from = index_of(alloc, &decls.parties, between.from)?;
     let to = index_of(alloc, &decls.parties, between.to)?;
-    let asset = index_of(alloc, &decls.assets, between.asset)?;
+    let asset = index_of_asset(alloc, &decls.assets, between.asset)?;
     Ok(Parties { from, to, asset })
 }
 

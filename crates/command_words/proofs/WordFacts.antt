@@ -1,16 +1,19 @@
 -- What a command makes of the words that are found for its arguments.
-use Rattle.std.proofs.Common.{◌≡◌, ◌∙◌, ℕ, Bool, true, false, List, [], ◌∷◌, ◌++◌, Option, Some, None, Ok, Err, codes, ap, refl, subst, sym}
+use Rattle.std.proofs.Common.{◌≡◌, ◌∙◌, ◌≤◌, ◌-◌, ℕ, Bool, Bor, true, false, List, [], ◌∷◌, ◌++◌, Option, Some, None, Ok, Err, arith, codes, ap, drop, get_or, length, refl, subst, sym, take}
 use Rattle.std.proofs.Math.Path.{fun_ext}
+use Rattle.std.proofs.lemmas.List.{take_all}
 use Rattle.std.proofs.lemmas.Result.{err_from_is_err_and}
 use Rattle.std.specs.Prelude.{Result, IsErrAnd, option_map}
 use Rattle.std.specs.Map.{keys_of}
+use Rattle.std.specs.Str.{bytes_eq}
+use Rattle.clap.specs.Walk.{texts}
 use Rattle.clap.specs.Words.{App, Row, Text, all_of, first_value, found_of, matched_of, raw_values}
 use Rattle.clap.specs.declared.parser.matches.ArgMatches.{ArgMatches}
 use Rattle.contract_parse.specs.Names.{is_declared}
 use Rattle.contract_parse.specs.NameTexts.{is_name_text}
 use Rattle.command_words.specs.Arguments.{HasMatches, IsAnswer, Reading, asked_of, is_set, read_rows, taken}
-use Rattle.command_words.specs.Commands.{Advance, Between, Check, Flows, Payoff, Sample, ValueFiles}
-use Rattle.command_words.specs.Words.{advance_from, advance_with, check_from, flows_from, flows_with, if_given, is_day, one_more_setting, payoff_from, payoff_with, sample_from, sample_size, settings_of, value_app, value_between, value_files, value_from, value_of, value_of_rows, value_with, with_form}
+use Rattle.command_words.specs.Commands.{Advance, Between, Check, Flows, Migrate, Payoff, Sample, ValueFiles}
+use Rattle.command_words.specs.Words.{advance_from, advance_with, check_from, flows_from, flows_with, if_given, is_day, migrate_from, migrate_of, one_more_setting, payoff_from, payoff_with, request_of, sample_from, sample_of, sample_size, settings_of, value_app, value_between, value_files, value_from, value_of, value_of_rows, value_with, with_form}
 use Rattle.command_words.specs.declared.arguments.WordsErr.{WordsErr}
 use Rattle.command_words.specs.declared.arguments.WordsErr.TheVariants.{Usage, NoMemory}
 
@@ -45,6 +48,29 @@ check_lacks found none = rw none refl
 
 pub check_has : (found : Text → Option Text) (file : Text) → found (codes "portfolio") ≡ Some file → check_from found ≡ Some (Check file)
 check_has found file is = rw is refl
+
+-- ---- `migrate`
+
+pub migrate_lacks : (found : Text → Option Text) → found (codes "portfolio") ≡ None → migrate_from found ≡ None
+migrate_lacks found none = rw none refl
+
+pub migrate_has : (found : Text → Option Text) (file : Text) → found (codes "portfolio") ≡ Some file → migrate_from found ≡ Some (Migrate file)
+migrate_has found file is = rw is refl
+
+-- ---- the first word
+
+-- words of which there is one are the first and those behind it
+pub first_word : (words : List (Bor Text)) (none : Bor Text) → 1 ≤ length words → texts words ≡ (get_or words 0 none).now ∷ texts (take (length words - 1) (drop 1 words))
+first_word [] none h = absurd (omega arith)
+first_word (word ∷ words) none h = ap (λ (rest : List (Bor Text)). word.now ∷ texts rest) (sym (take_all (length (word ∷ words) - 1) words (omega arith)))
+
+module _ (name : Text) (rest : List Text) (no_check : false ≡ bytes_eq name (codes "check")) (no_flows : false ≡ bytes_eq name (codes "flows")) (no_advance : false ≡ bytes_eq name (codes "advance"))
+    (no_payoff : false ≡ bytes_eq name (codes "payoff")) (no_value : false ≡ bytes_eq name (codes "value")) where
+  pub migrate_asked : true ≡ bytes_eq name (codes "migrate") → request_of (name ∷ rest) ≡ migrate_of rest
+  migrate_asked is = rw (sym no_check, sym no_flows, sym no_advance, sym no_payoff, sym no_value, sym is) refl
+
+  pub sample_asked : false ≡ bytes_eq name (codes "migrate") → true ≡ bytes_eq name (codes "sample") → request_of (name ∷ rest) ≡ sample_of rest
+  sample_asked no_migrate is = rw (sym no_check, sym no_flows, sym no_advance, sym no_payoff, sym no_value, sym no_migrate, sym is) refl
 
 -- ---- `flows`
 

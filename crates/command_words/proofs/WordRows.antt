@@ -6,7 +6,7 @@ use Rattle.clap.proofs.OnLiterals.{clap_on_literals}
 use Rattle.term_core.specs.Dates.{epoch_day_of, parts_of, two_of}
 use Rattle.fixing_files.specs.Days.{day_named, day_of}
 use Rattle.command_words.specs.Arguments.{taken}
-use Rattle.command_words.specs.Commands.{Advance, Flows, Payoff, Request, Sample, Value}
+use Rattle.command_words.specs.Commands.{Advance, Flows, Migrate, Payoff, Request, Sample, Value}
 use Rattle.command_words.specs.Words.{request_of}
 
 abbrev flows : Text → Option Text → Option Text → Bool → Option Request
@@ -71,6 +71,14 @@ no_new_day = refl
 no_fixings : request_of (codes "advance" ∷ codes "a" ∷ codes "--to" ∷ codes "2" ∷ []) ≡ None
 unfolding clap_on_literals taken
 no_fixings = refl
+
+migrate_of_a_portfolio : request_of (codes "migrate" ∷ codes "book.txt" ∷ []) ≡ Some (Migrate (codes "book.txt"))
+unfolding clap_on_literals taken
+migrate_of_a_portfolio = refl
+
+one_portfolio_alone : request_of (codes "migrate" ∷ codes "a" ∷ codes "b" ∷ []) ≡ None
+unfolding clap_on_literals taken
+one_portfolio_alone = refl
 
 payoff_of_a_contract : request_of (codes "payoff" ∷ codes "--plain" ∷ codes "a" ∷ codes "--contract=c" ∷ []) ≡ Some (Payoff (record { portfolio = codes "a"; contract = codes "c"; plain = true }))
 unfolding clap_on_literals taken

@@ -2,7 +2,8 @@
 -- file where one is named, up to a day where a word gives one, of one contract where its name is given, and with the flows of
 -- all contracts summed where that is asked; `advance` of a portfolio's file, over the fixings of another, to the day of a word;
 -- `payoff` of the contract of a name in a portfolio's file, with its payments uncut where that is asked; `value` of a code file,
--- over the fixings and the discount factors of two others; and `sample` of a number of contracts, which has no file.
+-- over the fixings and the discount factors of two others; `migrate` of a portfolio's file; and `sample` of a number of contracts,
+-- which has no file.
 use Rattle.std.specs.Prelude.{ℕ, ◌≤◌, Bool, List, [], ◌∷◌, Option, Some, None}
 use Rattle.std.specs.List.{All}
 
@@ -53,6 +54,7 @@ pub data Request : Type 0 where
   Advance : AdvanceAsked → Request
   Payoff : PayoffAsked → Request
   Value : ValueAsked → Request
+  Migrate : List ℕ → Request
   Sample : ℕ → Request
 
 -- the file that a word names, if there is such a word
@@ -67,4 +69,5 @@ files_of (Flows flows) = flows.portfolio ∷ file_if_named flows.fixings
 files_of (Advance advance) = advance.portfolio ∷ advance.fixings ∷ []
 files_of (Payoff payoff) = payoff.portfolio ∷ []
 files_of (Value value) = value.files.code ∷ value.files.fixings ∷ value.files.curve ∷ []
+files_of (Migrate portfolio) = portfolio ∷ []
 files_of (Sample contracts) = []

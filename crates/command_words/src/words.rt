@@ -4,7 +4,7 @@ ghost use Rattle.std.specs.Prelude.{◌≡◌, IfOk};
 ghost use Rattle.clap.specs.Walk.{texts};
 ghost use Rattle.command_words.specs.Arguments.{IsAnswer};
 ghost use Rattle.command_words.specs.Commands.{files_of};
-ghost use Rattle.command_words.specs.Words.{IsRequestOf, advance_of, check_of, flows_of, payoff_of, requested_by, sample_of};
+ghost use Rattle.command_words.specs.Words.{IsRequestOf, advance_of, check_of, flows_of, migrate_of, payoff_of, requested_by, sample_of};
 
 use crate::arguments::{Argument, WordsErr, is_set, matches_of};
 use crate::day_words::DayWord;
@@ -56,6 +56,8 @@ pub enum Request<'a> {
     Payoff(Payoff<'a>),
     /// Values a code file.
     Value(Value<'a>),
+    /// Writes the portfolio in version 2.
+    Migrate { portfolio: &'a str },
     /// Summarizes what the sample of so many contracts pays.
     Sample(SampleSize),
 }
@@ -68,6 +70,16 @@ fn check_of<'a>(alloc: Global, words: &'a [&'a str]) -> Result<Request<'a>, Word
     let matches = matches_of(alloc, "check", &arguments, words)?;
     let portfolio = given(matches.get_str("portfolio"))?;
     Ok(Request::Check { portfolio })
+}
+
+// `migrate PORTFOLIO`, by the words behind the first.
+fn migrate_of<'a>(alloc: Global, words: &'a [&'a str]) -> Result<Request<'a>, WordsErr>
+    ensures { IsAnswer requested_by (migrate_of (texts words.entry.now)) result }
+{
+    let arguments = [Argument::Required("portfolio")];
+    let matches = matches_of(alloc, "migrate", &arguments, words)?;
+    let portfolio = given(matches.get_str("portfolio"))?;
+    Ok(Request::Migrate { portfolio })
 }
 
 // `flows PORTFOLIO [FIXINGS] [--until DAY] [--contract NAME] [--net]`, by the words behind the first.
@@ -165,6 +177,8 @@ pub fn request_of<'a>(alloc: Global, words: &'a [&'a str]) -> Result<Request<'a>
     } else if *name == "value" {
         let value = value_of(alloc, rest)?;
         Ok(Request::Value(value))
+    } else if *name == "migrate" {
+        migrate_of(alloc, rest)
     } else if *name == "sample" {
         sample_of(alloc, rest)
     } else {
@@ -178,7 +192,7 @@ pub fn files_of<'a>(alloc: Global, request: &Request<'a>) -> Result<Vec<&'a str>
 {
     let mut names = Vec::new(alloc);
     match request {
-        Request::Check { portfolio } => names.push(*portfolio)?,
+        Request::Check { portfolio } | Request::Migrate { portfolio } => names.push(*portfolio)?,
         Request::Flows(flows) => {
             names.push(flows.portfolio)?;
             if let Some(fixings) = flows.fixings {

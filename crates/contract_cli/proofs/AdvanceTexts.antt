@@ -9,7 +9,7 @@ use Rattle.std.proofs.lemmas.List.Elements.{All-from_recursion}
 use Rattle.decimal.specs.Text.{text_of}
 use Rattle.term_core.specs.declared.name.Name.{Name}
 use Rattle.term_core.specs.Acceptance.{IsAccepted}
-use Rattle.term_core.specs.Declarations.{Declarations}
+use Rattle.term_core.specs.Declarations.{Declarations, decimals_of}
 use Rattle.term_core.specs.Environments.{Environment}
 use Rattle.term_core.specs.Instances.{declared_numbers}
 use Rattle.term_core.specs.Terms.{Contract}
@@ -63,9 +63,10 @@ day_plain (Some origin) day text is = date_plain text (is_date_text text (origin
 flow_line : (d : Declarations) (name : List ℕ) (row : FlowRow) (line : List ℕ) → AreSpellable d → IsPlain name → IsFlowLine d name row line → IsOneLine line
 flow_line d name row line fits plain is =
     let parties = names_plain d.parties fits.parties in
-    let assets = names_plain d.assets fits.assets in
-    let amount = before_line (field (text_of row.amount d.amounts)) line_feed (number_plain row.amount d.amounts) line_end in
-    let asset = before_line (field (name_at d.assets row.asset)) _ (name_plain d.assets row.asset assets) amount in
+    let assets = names_plain (keys_of d.assets) fits.assets in
+    let decimals = decimals_of d row.asset in
+    let amount = before_line (field (text_of is.amount decimals)) line_feed (number_plain is.amount decimals) line_end in
+    let asset = before_line (field (name_at (keys_of d.assets) row.asset)) _ (name_plain (keys_of d.assets) row.asset assets) amount in
     let to = before_line (field (name_at d.parties row.to)) _ (name_plain d.parties row.to parties) asset in
     let «from» = before_line (field (name_at d.parties row.from)) _ (name_plain d.parties row.from parties) to in
     let day = before_line (field is.day) _ (day_plain d.origin row.day is.day is.is_day) «from» in

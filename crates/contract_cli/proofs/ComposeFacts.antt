@@ -23,7 +23,7 @@ module _ (d : Declarations) (fixings more : Environment) (day later : ℕ) (firs
   carried : (c rest last : Contract) → IsResidual d fixings (pos d.start) (day - d.start) c rest → IsResidual moved more (pos day) (later - day) (instance (declared_numbers moved) rest) last → Carries d c (pos d.start) more (later - d.start) last
   carried c rest last one two =
       let own = subst (λ (x : Contract). Carries moved x (pos day) more (later - day) last) (own_instance (declared_numbers moved) rest one.numbers) two.carries in
-      let same = (one_verdict moved d (record { amounts = refl; labels = refl })).carried rest (pos day) more (later - day) last own in
+      let same = (one_verdict moved d (record { amounts = refl; labels = refl }) (λ a. refl)).carried rest (pos day) more (later - day) last own in
       let at : pos day ≡ pos d.start +ℤ pos (day - d.start) = omega (arith, ints) in
       let there = subst (λ (f : ℤ). Carries d rest f more (later - day) last) at same in
       let whole = carries_composes d c rest last (pos d.start) fixings more (day - d.start) (later - day) one.carries there extends in

@@ -1,11 +1,12 @@
 -- What a run shows, from what its command has told.
-use Rattle.std.proofs.Common.{◌≡◌, ◌∙◌, inl, inr, ℕ, ℤ, List, ap, subst, sym}
+use Rattle.std.proofs.Common.{◌≡◌, ◌∙◌, ◌<◌, inl, inr, ℕ, ℤ, List, ap, subst, sym}
 use Rattle.std.specs.Prelude.{Some}
+use Rattle.std.specs.Map.{keys_of}
 use Rattle.std.proofs.lemmas.List.{length-map}
 use Rattle.term_core.specs.Acceptance.{IsAccepted}
 use Rattle.term_core.specs.Books.{Book}
 use Rattle.term_core.specs.Environments.{Environment, IsAdmitted}
-use Rattle.term_core.specs.Instances.{instance}
+use Rattle.term_core.specs.Instances.{IsSetting, instance}
 use Rattle.term_core.specs.Terms.{Contract}
 use Rattle.contract_parse.specs.Texts.{Text}
 use Rattle.payoff_lang.specs.CodeBooks.{CodeBook}
@@ -33,6 +34,7 @@ use Rattle.contract_cli.specs.Seen.{Edge, WritesAll}
 use Rattle.contract_cli.proofs.AdvanceTexts.{advance_texts_are_texts}
 use Rattle.contract_cli.proofs.LawFacts.{answered_by, done_has_told}
 use Rattle.contract_cli.proofs.PayoffTexts.{payoff_texts_mean}
+use Rattle.contract_cli.proofs.SettingFacts.{setting_small}
 
 -- ---- `check`, which a bad text alone stops
 
@@ -99,11 +101,12 @@ value_told asked inputs s text (b, spelled, (flow, names, (day, is_day, (_, acce
 
 -- ---- `value`: the number is the present value of what the code means
 
-module _ (b : CodeBook) (asked : ValueAsked) (inputs : List (List ℕ)) (can : CanValue b asked (file_at inputs 1) (file_at inputs 2)) where
+module _ (b : CodeBook) (asked : ValueAsked) (inputs : List (List ℕ)) (can : CanValue b asked (file_at inputs 1) (file_at inputs 2)) (small : IsSetting (setting_by b.declarations asked.settings)) where
   may_be_asked : (c : Contract) (env : Environment) → IsAccepted b.declarations (instance (setting_by b.declarations asked.settings) c) → IsAdmitted b.declarations env
       → MayBeAsked b.declarations c (setting_by b.declarations asked.settings) env (question can.day can.curve can.flow)
   may_be_asked c env accepted admitted = record {
     setting = length-map b.declarations.templates _;
+    small = small;
     accepted = accepted;
     admitted = admitted;
     curve = can.is_curve.curve;
@@ -111,11 +114,13 @@ module _ (b : CodeBook) (asked : ValueAsked) (inputs : List (List ℕ)) (can : C
     near = can.fit.is_day.2;
     payer = index_within b.declarations.parties asked.between.from can.flow.from can.between.from;
     receiver = index_within b.declarations.parties asked.between.to can.flow.to can.between.to;
-    asset = index_within b.declarations.assets asked.between.asset can.flow.asset can.between.asset;
+    asset =
+        subst (λ (n : ℕ). can.flow.asset < n) (length-map b.declarations.assets _)
+        (index_within (keys_of b.declarations.assets) asked.between.asset can.flow.asset can.between.asset);
   }
 
   present : (amount : ℤ) → IsValue b (setting_by b.declarations asked.settings) can.fixings (question can.day can.curve can.flow) amount
-      → (c : Contract) → CodeMeans b.declarations b.code c Remaining → IsPresentValue b asked inputs can amount c
+      → (c : Contract) → CodeMeans b.declarations b.code c Remaining → IsPresentValue b asked inputs can b.declarations amount c
   present amount is c means accepted env admitted extends =
       sym (is env extends)
       ∙ means.values (setting_by b.declarations asked.settings) env (question can.day can.curve can.flow) (may_be_asked c env accepted admitted)
@@ -146,8 +151,8 @@ module _ (words : List (List ℕ)) (edge : Edge) where
         code = payoff_texts_mean (file_at h.inputs 0) a.0 asked h.text a.1 a.2;
       }
 
-  has_valued : (asked : ValueAsked) → HasTold words edge (Value asked) status.Done → HasValued edge asked
-  has_valued asked h =
+  has_valued : (asked : ValueAsked) → Names words (Value asked) → HasTold words edge (Value asked) status.Done → HasValued edge asked
+  has_valued asked named h =
       let a = value_told asked h.inputs status.Done h.text h.told in
       record {
         book = a.0;
@@ -156,7 +161,7 @@ module _ (words : List (List ℕ)) (edge : Edge) where
         spelled = a.1;
         can = a.2.can;
         amount = a.2.worth.amount;
-        worth = present a.0 asked h.inputs a.2.can a.2.worth.amount a.2.worth.is_value;
+        worth = present a.0 asked h.inputs a.2.can (setting_small words asked (file_at h.inputs 0) a.0 named a.1) a.2.worth.amount a.2.worth.is_value;
         written = subst (λ (t : List ℕ). WritesAll edge.sink t) a.2.worth.line h.line;
       }
 
@@ -168,5 +173,5 @@ module _ (words : List (List ℕ)) (edge : Edge) where
     checks = λ file named judged. has_checked words edge s file named judged m;
     advances = λ asked named is. has_advanced asked (done (Advance asked) named s is m);
     compiles = λ asked named is. has_compiled asked (done (Payoff asked) named s is m);
-    values = λ asked named is. has_valued asked (done (Value asked) named s is m);
+    values = λ asked named is. has_valued asked named (done (Value asked) named s is m);
   }

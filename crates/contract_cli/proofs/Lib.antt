@@ -6,5 +6,7 @@ pub mod ComposeFacts
 pub mod AdvanceTexts
 pub mod PayoffTexts
 pub mod SampleLaws
+pub mod SettingFacts
 pub mod HeadlineFacts
+pub mod MigrateFacts
 pub mod TwoRunFacts

@@ -8,14 +8,18 @@ use Rattle.std.specs.Str.{bytes_eq}
 use Rattle.std.proofs.lemmas.Bool.{and_parts, cases_Bool}
 use Rattle.std.proofs.lemmas.Map.Made.{is_some-lookup}
 use Rattle.term_core.specs.Books.{Book}
-use Rattle.term_core.specs.Declarations.{Declarations}
+use Rattle.term_core.specs.Declarations.{Declarations, at_one_scale}
+use Rattle.term_core.specs.Instances.{declared_numbers, instance}
 use Rattle.term_core.specs.Terms.{Contract}
+use Rattle.term_core.proofs.FormedFacts.{closed_at_one_scale}
+use Rattle.term_core.proofs.VerdictFacts.{accepted_at_one_scale}
 use Rattle.contract_parse.specs.Names.{is_declared}
 use Rattle.contract_parse.specs.NameTexts.{is_name_text}
 use Rattle.contract_parse.specs.Words.{Bytes}
 use Rattle.contract_print.specs.Spellable.{IsSpellable, are_names, are_new}
 use Rattle.contract_print.specs.Writable.{IsWritableTerm}
 use Rattle.contract_print.proofs.LinesSpelled.{decls_spelled}
+use Rattle.contract_print.proofs.MigratedFacts.{one_scale_spellable}
 use Rattle.contract_print.proofs.TextSpellable.{texts_spellable, texts_writable}
 use Rattle.payoff_lang.specs.CodeFiles.{IsPrintableFile}
 use Rattle.payoff_lang.specs.Compiled.{code_of}
@@ -69,12 +73,14 @@ payoff_texts_mean bytes b asked text spelled is =
     let fits = texts_spellable bytes b spelled in
     let term = named_has (IsSpellable d) b asked.contract c is.can.named fits.each in
     let writable = named_has IsWritableTerm b asked.contract c is.can.named (texts_writable bytes b spelled) in
-    let code = code_plain d c term.closed is.can.accepted in
+    let o = at_one_scale d in
+    let code = code_plain o c (closed_at_one_scale d c term.closed) (accepted_at_one_scale d (instance (declared_numbers d) c) is.can.accepted) in
     let file = code_file_of d asked c in
     let file_fits : IsPrintableFile file = record {
-      declarations = fits.declarations;
+      declarations = one_scale_spellable d fits.declarations;
+      version = refl;
       name = name_fits b asked.contract c fits.contracts is.can.named;
-      code = printable d c code asked.plain (terms_small c writable);
+      code = printable o c code asked.plain (terms_small c writable);
     } in
     record {
       contr = c;
@@ -84,5 +90,5 @@ payoff_texts_mean bytes b asked text spelled is =
       spelled = file_spelled decls_spelled text file file_fits is.is_canon;
       declarations = refl;
       name = refl;
-      code = code_for d c code asked.plain;
+      code = code_for o c code asked.plain;
     }

@@ -1,37 +1,47 @@
 -- The laws of two runs, of which the second reads what the first has printed.
-use Rattle.std.proofs.Common.{◌≡◌, ◌∙◌, inl, inr, ◌++◌, ◌≤◌, ℕ, List, [], ◌∷◌, ap, refl, subst, sym}
+use Rattle.std.proofs.Common.{◌≡◌, ◌∙◌, inl, inr, ◌++◌, ◌≤◌, ◌*ℤ◌, ◌+ℤ◌, ℕ, suc, ℤ, pos, List, [], ◌∷◌, ap, refl, subst, sym}
 use Rattle.std.specs.Prelude.{Option, Some, None}
 use Rattle.std.specs.Io.KnownBytes.{Appends}
 use Rattle.std.proofs.lemmas.List.{append_cancel_left}
 use Rattle.term_core.specs.Books.{Book}
-use Rattle.term_core.specs.Declarations.{Declarations}
-use Rattle.term_core.specs.Environments.{Extends}
+use Rattle.term_core.specs.Declarations.{Declarations, at_one_scale}
+use Rattle.term_core.specs.Environments.{Environment, Extends}
+use Rattle.term_core.specs.Horizons.{horizon_of}
+use Rattle.term_core.specs.Terms.{Contract}
+use Rattle.term_core.proofs.MeaningFacts.{one_meaning}
+use Rattle.term_core.proofs.VerdictFacts.{accepted_at_one_scale}
 use Rattle.contract_parse.specs.Texts.{Text}
 use Rattle.contract_parse.proofs.OneText.{one_text}
+use Rattle.contract_print.proofs.LinesSpelled.{book_spelled}
+use Rattle.contract_print.proofs.MigratedFacts.{migrated_spellable}
+use Rattle.contract_print.proofs.TextSpellable.{texts_spellable}
+use Rattle.contract_print.specs.Migrated.{migrated}
 use Rattle.payoff_lang.specs.CodeAcceptance.{IsAcceptedCode}
 use Rattle.payoff_lang.specs.CodeBooks.{CodeBook}
 use Rattle.payoff_lang.specs.CodeFiles.{CodeText}
-use Rattle.payoff_lang.specs.Meaning.{CodeMeans, Counting, Remaining}
+use Rattle.payoff_lang.specs.CodeValues.{Asked as Question, factor_on}
+use Rattle.payoff_lang.specs.Meaning.{CodeMeans, Counting, Remaining, counting}
 use Rattle.payoff_lang.proofs.OneCode.{one_code_text}
-use Rattle.command_words.specs.Commands.{AdvanceAsked, Check, PayoffAsked, Value, ValueAsked}
+use Rattle.payoff_lang.proofs.SumFacts.{same_sum}
+use Rattle.command_words.specs.Commands.{AdvanceAsked, Check, Migrate, PayoffAsked, Value, ValueAsked}
 use Rattle.command_answers.specs.AdvancePromise.{IsRestBook}
 use Rattle.command_answers.specs.Course.{Answers, stopped, told}
 use Rattle.command_answers.specs.DueOfValue.{CauseOfValue, CodeIsRefused, IsAcceptedAtSetting}
 use Rattle.command_answers.specs.Inputs.{file_at}
 use Rattle.command_answers.specs.Statuses.{status_of}
 use Rattle.command_answers.specs.ValueCourse.{value_course}
-use Rattle.command_answers.specs.ValuePromise.{setting_by}
+use Rattle.command_answers.specs.ValuePromise.{question, setting_by}
 use Rattle.command_answers.specs.declared.status.Status.{Status}
 use Rattle.command_answers.specs.declared.status.Status.TheVariants as status
 use Rattle.command_answers.proofs.DueFacts.{due_of_value}
 use Rattle.contract_cli.specs.AdvanceLaws.{IsCarriedBook, IsTextOfRest}
-use Rattle.contract_cli.specs.Headline.{HasAdvanced, HasCompiled, HasValued, IsAcceptedAtNumbers}
+use Rattle.contract_cli.specs.Headline.{HasAdvanced, HasCompiled, HasValued, IsAcceptedAtNumbers, IsWorthOf, at_numbers, value_left}
 use Rattle.contract_cli.specs.PayoffLaws.{counted}
 use Rattle.contract_cli.specs.Seen.{Edge, SinkLeft, WasRead, WritesAll}
-use Rattle.contract_cli.specs.TwoRuns.{AdvancedTextsAdvance, AdvancedTextsAreAccepted, Passes, Printed, PrintedCodeIsTaken, PrintedCodeIsValued}
+use Rattle.contract_cli.specs.TwoRuns.{AdvancedTextsAdvance, AdvancedTextsAreAccepted, HasMigrated, MigratedTextsAreTexts, Migrates, Passes, Printed, PrintedCodeIsTaken, PrintedCodeIsValued}
 use Rattle.contract_cli.proofs.ComposeFacts.{advances_compose}
 use Rattle.contract_cli.proofs.HeadlineFacts.{headline}
-use Rattle.contract_cli.proofs.LawFacts.{statuses_over_files_are_exact}
+use Rattle.contract_cli.proofs.LawFacts.{done_has_told, statuses_over_files_are_exact}
 use Rattle.contract_cli.proofs.RunSound.{first_read, first_told, same_bytes}
 
 -- ---- one text is passed on
@@ -67,17 +77,37 @@ code_passed first second compiled asked h k p =
     let bytes = was_passed first second asked.files.code h.text (file_at k.inputs 0) p h.ran.written code in
     one_code_text h.text k.book h.code.file (subst (λ (x : List ℕ). CodeText x k.book) bytes k.spelled) h.code.spelled
 
+-- what a contract is worth where each asset has the decimals of the amounts it is worth under its own declarations
+same_left : (d : Declarations) (asked : ValueAsked) (c : Contract) (env : Environment) (asks : Question)
+    → value_left (at_one_scale d) asked c env asks ≡ value_left d asked c env asks
+same_left d asked c env asks =
+    let meaning = one_meaning (at_one_scale d) d (record { amounts = refl; labels = refl }) in
+    let left = at_numbers asked d c in
+    let past = counting (pos 0) asks in
+    let start = pos d.start in
+    same_sum (suc (horizon_of left)) _ _
+    (λ i before. ap (λ (m : ℤ). factor_on past (start +ℤ pos i) *ℤ m) (meaning.amounts left env start (pos i) past.flow))
+
+worth_at_own_scale : (d : Declarations) (asked : ValueAsked) (fixings : Environment) (asks : Question) (amount : ℤ) (c : Contract)
+    → IsWorthOf (at_one_scale d) asked fixings asks amount c → IsWorthOf d asked fixings asks amount c
+worth_at_own_scale d asked fixings asks amount c worth accepted env admitted extends =
+    worth (accepted_at_one_scale d (at_numbers asked d c) accepted) env admitted extends ∙ same_left d asked c env asks
+
 pub printed_code_is_valued : PrintedCodeIsValued
 printed_code_is_valued words more first second compiled asked one plain two p =
     let h = (headline words first status.Done one.done).compiles compiled one.named refl in
     let k = (headline more second status.Done two.done).values asked two.named refl in
     let same = code_passed first second compiled asked h k p in
-    let cut : CodeMeans h.book.declarations h.code.file.code h.code.contr Remaining =
-    subst (λ (x : Counting). CodeMeans h.book.declarations h.code.file.code h.code.contr x) (ap counted plain) h.code.code.means
+    let d = h.book.declarations in
+    let c = h.code.contr in
+    let cut : CodeMeans (at_one_scale d) h.code.file.code c Remaining =
+    subst (λ (x : Counting). CodeMeans (at_one_scale d) h.code.file.code c x) (ap counted plain) h.code.code.means
     in
-    let whole = subst (λ d. CodeMeans d h.code.file.code h.code.contr Remaining) (sym h.code.declarations) cut in
-    let means = subst (λ (x : CodeBook). CodeMeans x.declarations x.code h.code.contr Remaining) (sym same) whole in
-    record { compiling = h; valuing = k; same_code = same; worth = k.worth h.code.contr means }
+    let whole = subst (λ (x : Declarations). CodeMeans x h.code.file.code c Remaining) (sym h.code.declarations) cut in
+    let means = subst (λ (x : CodeBook). CodeMeans x.declarations x.code c Remaining) (sym same) whole in
+    let asks = question k.can.day k.can.curve k.can.flow in
+    let there = subst (λ (x : Declarations). IsWorthOf x asked k.can.fixings asks k.amount c) (ap (λ (x : CodeBook). x.declarations) same ∙ h.code.declarations) (k.worth c means) in
+    record { compiling = h; valuing = k; same_code = same; worth = worth_at_own_scale d asked k.can.fixings asks k.amount c there }
 
 -- what `value` answers to a text of code, but the number, has its cause in the code file
 module _ (asked : ValueAsked) (inputs : List (List ℕ)) (b : CodeBook) (spelled : CodeText (file_at inputs 0) b) where
@@ -95,7 +125,8 @@ module _ (asked : ValueAsked) (inputs : List (List ℕ)) (b : CodeBook) (spelled
 never_refused : (first : Edge) (compiled : PayoffAsked) (asked : ValueAsked) (h : HasCompiled first compiled) → IsAcceptedAtNumbers asked h.book.declarations h.code.contr
     → CodeIsRefused asked h.code.file → ⊥
 never_refused first compiled asked h accepted cause =
-    let there = h.code.code.accepted (setting_by h.book.declarations asked.settings) accepted in
+    let d = h.book.declarations in
+    let there = h.code.code.accepted (setting_by d asked.settings) (accepted_at_one_scale d (at_numbers asked d h.code.contr) accepted) in
     let here : IsAcceptedAtSetting asked h.code.file = subst (λ (d : Declarations). IsAcceptedCode d (setting_by d asked.settings) h.code.file.code) (sym h.code.declarations) there in
     cause.refused here
 
@@ -155,3 +186,24 @@ advanced_texts_are_accepted words more first second s asked file inputs one m r 
     let spelled : Text read h.rest.rest = subst (λ (x : List ℕ). Text x h.rest.rest) (sym bytes) h.rest.spelled in
     let exact = statuses_over_files_are_exact more second s status.Done (Check file) inputs m r (λ (e : status.Done ≡ status.NoMemory). cc) in
     exact.comes (inr (h.rest.rest, spelled, inl (refl, h.rest.accepted)))
+
+-- ---- `migrate`, and then any command
+
+has_migrated : (words : List (List ℕ)) (edge : Edge) (file : List ℕ) → Migrates words edge file → HasMigrated edge file
+has_migrated words edge file one =
+    let h = done_has_told words edge (Migrate file) one.named one.done in
+    let b = h.told.0 in
+    record {
+      book = b;
+      inputs = h.inputs;
+      text = h.text;
+      ran = record { read = h.read; spelled = h.told.1; written = h.line };
+      is_canon = h.told.2.1;
+    }
+
+pub migrated_texts_are_texts : MigratedTextsAreTexts
+migrated_texts_are_texts words first second file from one p =
+    let h = has_migrated words first file one in
+    let fits = migrated_spellable h.book (texts_spellable (file_at h.inputs 0) h.book h.ran.spelled) in
+    let spelled = book_spelled h.text (migrated h.book) fits h.is_canon in
+    record { migrating = h; spelled = subst (λ (x : List ℕ). Text x (migrated h.book)) (was_printed first.sink p.text h.text p.printed h.ran.written) spelled }

@@ -72,19 +72,22 @@ abbrev pub IsAcceptedAtNumbers : ValueAsked → Declarations → Contract → Ty
 IsAcceptedAtNumbers asked d c = IsAccepted d (at_numbers asked d c)
 
 -- what a contract that stands on the start is worth, at the numbers that are set, where payments gone by count nothing
-abbrev pub value_left : CodeBook → ValueAsked → Contract → Environment → Question → ℤ
-value_left b asked c env asks =
-    present_value b.declarations (at_numbers asked b.declarations c) env (pos b.declarations.start) (counting (pos 0) asks)
+abbrev pub value_left : Declarations → ValueAsked → Contract → Environment → Question → ℤ
+value_left d asked c env asks = present_value d (at_numbers asked d c) env (pos d.start) (counting (pos 0) asks)
 
--- a number is the present value of a contract, where this one is accepted at the numbers that are set: the sum of what it still
--- pays from the one party to the other in the asset, each day with its discount factor, in every admitted environment that
+-- a number is what a contract is worth by a curve, where the contract is accepted at the numbers that are set: the sum of what it
+-- still pays from the one party to the other in the asset, each day with its discount factor, in every admitted environment that
 -- extends the fixings
+abbrev pub IsWorthOf : Declarations → ValueAsked → Environment → Question → ℤ → Contract → Type 0
+IsWorthOf d asked fixings asks amount c =
+    IsAcceptedAtNumbers asked d c
+    → (env : Environment) → IsAdmitted d env → Extends fixings env → amount ≡ value_left d asked c env asks
+
+-- a number is the present value of a contract under some declarations, over the fixings and the curve that `value` has read
 abbrev pub IsPresentValue :
-    (b : CodeBook) (asked : ValueAsked) (inputs : List (List ℕ)) → CanValue b asked (file_at inputs 1) (file_at inputs 2) → ℤ → Contract → Type 0
-IsPresentValue b asked inputs can amount c =
-    IsAcceptedAtNumbers asked b.declarations c
-    → (env : Environment) → IsAdmitted b.declarations env → Extends can.fixings env
-    → amount ≡ value_left b asked c env (question can.day can.curve can.flow)
+    (b : CodeBook) (asked : ValueAsked) (inputs : List (List ℕ)) → CanValue b asked (file_at inputs 1) (file_at inputs 2)
+    → Declarations → ℤ → Contract → Type 0
+IsPresentValue b asked inputs can d amount c = IsWorthOf d asked can.fixings (question can.day can.curve can.flow) amount c
 
 -- `value` has written the present value of every contract that the code means with what is left to pay
 pub record HasValued (edge : Edge) (asked : ValueAsked) : Type 0 where
@@ -94,7 +97,9 @@ pub record HasValued (edge : Edge) (asked : ValueAsked) : Type 0 where
   pub spelled : CodeText (file_at inputs 0) book
   pub can : CanValue book asked (file_at inputs 1) (file_at inputs 2)
   pub amount : ℤ
-  pub worth : (c : Contract) → CodeMeans book.declarations book.code c Remaining → IsPresentValue book asked inputs can amount c
+  pub worth :
+      (c : Contract) → CodeMeans book.declarations book.code c Remaining
+      → IsPresentValue book asked inputs can book.declarations amount c
   pub written : WritesAll edge.sink (value_text amount (book.declarations.amounts + 9))
 
 -- the status says that the verdicts were written

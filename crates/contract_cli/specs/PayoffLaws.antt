@@ -2,7 +2,7 @@
 -- the code means the contract.
 use Rattle.std.specs.Prelude.{◌≡◌, ◌≤◌, ◌*◌, ℕ, Bool, true, false, List}
 use Rattle.term_core.specs.Books.{Book}
-use Rattle.term_core.specs.Declarations.{Declarations}
+use Rattle.term_core.specs.Declarations.{Declarations, at_one_scale}
 use Rattle.term_core.specs.Sizes.{nodes_of_contract}
 use Rattle.term_core.specs.Terms.{Contract}
 use Rattle.contract_parse.specs.Texts.{Text}
@@ -32,17 +32,17 @@ pub record IsCodeFor (d : Declarations) (c : Contract) (plain : Bool) (k : Payof
   pub accepted : IsAcceptedWith d c k
   pub few : nodes_of_code k ≤ most_nodes plain c
 
--- the bytes are the canonical text of a code file, and so a text of it: of the portfolio's declarations and the contract's
--- name, and with code for the contract
+-- the bytes are the canonical text of a code file, and so a text of it: of the portfolio's declarations in version 1, where each
+-- asset has the decimals of the amounts, and the contract's name, and with code for the contract
 pub record IsTextOfCode (b : Book) (asked : PayoffAsked) (text : List ℕ) : Type 0 where
   pub contr : Contract
   pub can : CanCompile b asked contr
   pub file : CodeBook
   pub is_canon : IsCanonOfCode text file
   pub spelled : CodeText text file
-  pub declarations : file.declarations ≡ b.declarations
+  pub declarations : file.declarations ≡ at_one_scale b.declarations
   pub name : file.name ≡ asked.contract
-  pub code : IsCodeFor b.declarations contr asked.plain file.code
+  pub code : IsCodeFor (at_one_scale b.declarations) contr asked.plain file.code
 
 abbrev pub PayoffTextsMean : Type 0
 PayoffTextsMean =

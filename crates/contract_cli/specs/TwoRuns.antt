@@ -1,11 +1,20 @@
 -- Laws of two runs, of which the second reads what the first has printed. Code that `payoff` prints has by `value` the present
 -- value of the contract (Annenkov and Elsman, PPDP 2018); and a portfolio that `advance` prints is left by a later `advance` with
--- contracts that carry the first ones (Bahr, Berthold and Elsman, ICFP 2015).
-use Rattle.std.specs.Prelude.{◌≡◌, ◌++◌, ℕ, false, List, Some}
-use Rattle.term_core.specs.Environments.{Extends}
-use Rattle.command_words.specs.Commands.{Advance, AdvanceAsked, Check, Payoff, PayoffAsked, Value, ValueAsked}
+-- contracts that carry the first ones (Bahr, Berthold and Elsman, ICFP 2015). What `migrate` prints is the same portfolio in
+-- version 2.
+use Rattle.std.specs.Prelude.{◌≡◌, ◌++◌, ℕ, ℤ, Bool, false, List, Option, Some}
+use Rattle.term_core.specs.Books.{Book}
+use Rattle.term_core.specs.Environments.{Environment, Extends}
+use Rattle.contract_parse.specs.Texts.{Text}
+use Rattle.contract_print.specs.Canon.{IsCanon}
+use Rattle.contract_print.specs.Migrated.{migrated}
+use Rattle.contract_print.specs.Spellable.{IsSpellableBook}
+use Rattle.command_answers.specs.CheckPromise.{IsCheckText}
+use Rattle.command_answers.specs.FlowsPromise.{AreLinesAsked}
+use Rattle.command_answers.specs.UsedContracts.{used}
+use Rattle.command_words.specs.Commands.{Advance, AdvanceAsked, Check, Migrate, Payoff, PayoffAsked, Value, ValueAsked}
 use Rattle.contract_cli.specs.AdvanceLaws.{IsCarriedBook}
-use Rattle.contract_cli.specs.Headline.{HasAdvanced, HasCompiled, HasValued, IsAcceptedAtNumbers, IsPresentValue}
+use Rattle.contract_cli.specs.Headline.{HasAdvanced, HasCompiled, HasValued, IsAcceptedAtNumbers, IsPresentValue, Ran}
 use Rattle.contract_cli.specs.RunLaws.{IsOrNoMemory, IsReadWhole}
 use Rattle.contract_cli.specs.RunPromise.{Meets, Names}
 use Rattle.contract_cli.specs.Seen.{Edge, SinkLeft}
@@ -37,12 +46,12 @@ pub record Values (words : List (List ℕ)) (edge : Edge) (asked : ValueAsked) :
   pub done : Meets words edge status.Done
 
 -- the code that `value` has read is that which `payoff` has written, on the declarations of the portfolio, and the number that
--- `value` has written is the present value of the named contract of the portfolio
+-- `value` has written is the present value of the named contract of the portfolio, under the portfolio's own declarations
 pub record ValuesContract (first : Edge) (compiled : PayoffAsked) (second : Edge) (asked : ValueAsked) : Type 0 where
   pub compiling : HasCompiled first compiled
   pub valuing : HasValued second asked
   pub same_code : valuing.book ≡ compiling.code.file
-  pub worth : IsPresentValue valuing.book asked valuing.inputs valuing.can valuing.amount compiling.code.contr
+  pub worth : IsPresentValue valuing.book asked valuing.inputs valuing.can compiling.book.declarations valuing.amount compiling.code.contr
 
 abbrev pub PrintedCodeIsValued : Type 0
 PrintedCodeIsValued =
@@ -89,3 +98,45 @@ AdvancedTextsAreAccepted =
     (words more : List (List ℕ)) (first second : Edge) (s : Status) (asked : AdvanceAsked) (file : List ℕ) (inputs : List (List ℕ))
     → Advances words first asked → Meets more second s → IsReadWhole more second (Check file) inputs → Passes first second file
     → IsOrNoMemory status.Done s
+
+-- ---- `migrate`, and then any command
+
+-- `migrate` has printed a portfolio
+pub record Migrates (words : List (List ℕ)) (edge : Edge) (file : List ℕ) : Type 0 where
+  pub named : Names words (Migrate file)
+  pub done : Meets words edge status.Done
+
+-- what `migrate` has read, and the portfolio of it
+pub record HasMigrated (edge : Edge) (file : List ℕ) : Type 0 where
+  pub book : Book
+  pub inputs : List (List ℕ)
+  pub text : List ℕ
+  pub ran : Ran edge (Migrate file) book inputs text
+  pub is_canon : IsCanon text (migrated book)
+
+-- what is printed is a text of the same portfolio in version 2
+pub record IsTextOfMigrated (first : Edge) (file : List ℕ) (printed : List ℕ) : Type 0 where
+  pub migrating : HasMigrated first file
+  pub spelled : Text printed (migrated migrating.book)
+
+abbrev pub MigratedTextsAreTexts : Type 0
+MigratedTextsAreTexts =
+    (words : List (List ℕ)) (first second : Edge) (file from : List ℕ)
+    → Migrates words first file → (passes : Passes first second from) → IsTextOfMigrated first file passes.text
+
+-- a portfolio in version 2 has the verdicts and the flow lines that it has as it is
+pub record SaysTheSame (b : Book) : Type 0 where
+  pub verdicts : (s : Status) (text : List ℕ) → IsCheckText b s text → IsCheckText (migrated b) s text
+  pub flows :
+      (net : Bool) (only : Option (List ℕ)) (fixings : Environment) (last : ℤ) (text : List ℕ)
+      → AreLinesAsked net b.declarations fixings last (used only b) text
+      → AreLinesAsked net (migrated b).declarations fixings last (used only (migrated b)) text
+
+abbrev pub MigratedSayTheSame : Type 0
+MigratedSayTheSame = (b : Book) → SaysTheSame b
+
+-- and the text of what was migrated is migrated to itself, where texts can stand for the portfolio
+abbrev pub MigratedStay : Type 0
+MigratedStay =
+    (b rest : Book) (text more : List ℕ)
+    → IsSpellableBook b → IsCanon text (migrated b) → Text text rest → IsCanon more (migrated rest) → more ≡ text

@@ -21,7 +21,8 @@ fn answer_words<'a, F: Files>(
     words: &'a [&'a str],
     files: &mut F,
 ) -> Result<Answer, Stop>
-    ensures answer { Goes (run_course (texts words.entry.now) (seen (F.contents files.old) (F.faults files.old) (F.faults files.new))) result }
+    ensures answer { Goes (run_course (texts words.entry.now)
+        (seen (F.contents files.old) (F.faults files.old) (F.faults files.new))) result }
     ensures kept { (other : List ℕ) → F.contents files.new other ≡ F.contents files.old other }
     ensures counts { CountsOnlyBy (texts words.entry.now) (seen (F.contents files.old) (F.faults files.old) (F.faults files.new)) }
 {
@@ -41,7 +42,8 @@ fn prepare<'a, F: Files>(
     words: &'a [&'a str],
     files: &mut F,
 ) -> Result<Answer, NoMemory>
-    ensures answer { IfOk result (IsAnswerOf (run_course (texts words.entry.now) (seen (F.contents files.old) (F.faults files.old) (F.faults files.new)))) }
+    ensures answer { IfOk result (IsAnswerOf (run_course (texts words.entry.now)
+        (seen (F.contents files.old) (F.faults files.old) (F.faults files.new)))) }
     ensures kept { (other : List ℕ) → F.contents files.new other ≡ F.contents files.old other }
     ensures counts { CountsOnlyBy (texts words.entry.now) (seen (F.contents files.old) (F.faults files.old) (F.faults files.new)) }
 {
@@ -59,8 +61,8 @@ fn prepare<'a, F: Files>(
 /// DAY` writes the flow lines of the days before the day as comments, and the portfolio that is left on it; `payoff PORT
 /// --contract NAME [--plain]` writes the code of the named contract, with its payments cut or plain; `value CODE FIX CURVE
 /// [T=N].. --at DAY --from P --to Q --asset A` writes the line of what the code is worth on the day between the two parties in
-/// the asset; `sample NUMBER` reads no file and writes the summary of the sample of so many contracts. What stops a command
-/// writes the line of its fault.
+/// the asset; `migrate PORT` writes the portfolio in version 2; `sample NUMBER` reads no file and writes the summary of the sample
+/// of so many contracts. What stops a command writes the line of its fault.
 pub fn run<'a, F: Files, S: Sink>(
     alloc: Global,
     words: &'a [&'a str],

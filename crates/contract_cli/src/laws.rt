@@ -7,7 +7,7 @@ ghost use Rattle.contract_cli.specs.AdvanceLaws.{AdvanceTextsAreTexts, AdvancesC
 ghost use Rattle.contract_cli.specs.PayoffLaws.{PayoffTextsMean};
 ghost use Rattle.contract_cli.specs.RunLaws.{AnswersHaveCauses, DoneHasTold, ReadFaultsHaveCauses, RunIsComplete, StatusesAreExact, StatusesOverFilesAreExact, TooLongComes, TooLongHasACause, UsageIsExact, UsageWritesItsLine, WriteFaultsHaveCauses};
 ghost use Rattle.contract_cli.specs.SampleLaws.{SampleHasThreeEnds};
-ghost use Rattle.contract_cli.specs.TwoRuns.{AdvancedTextsAdvance, AdvancedTextsAreAccepted, PrintedCodeIsTaken, PrintedCodeIsValued};
+ghost use Rattle.contract_cli.specs.TwoRuns.{AdvancedTextsAdvance, AdvancedTextsAreAccepted, MigratedSayTheSame, MigratedStay, MigratedTextsAreTexts, PrintedCodeIsTaken, PrintedCodeIsValued};
 
 /// Each status but out of memory comes exactly where it is due, or memory is wanting: that of the first stage of the run that
 /// passes nothing, or that of the end; and with it the text of the course is written. So of the whole run, where the files that it
@@ -80,8 +80,8 @@ pub fn advance_texts_are_texts()
     ensures { AdvanceTextsAreTexts }
 {}
 
-/// What `payoff` prints of a contract of a portfolio's text is a text of a code file on the portfolio's declarations, whose code
-/// means the contract, is accepted at every setting at which the contract is, and has few nodes.
+/// What `payoff` prints of a contract of a portfolio's text is a text of a code file on the portfolio's declarations in version 1,
+/// whose code means the contract, is accepted at every setting at which the contract is, and has few nodes.
 pub fn payoff_texts_mean()
     ensures { PayoffTextsMean }
 {}
@@ -108,4 +108,12 @@ pub fn printed_code_is_valued()
 pub fn advanced_texts_advance()
     ensures carried { AdvancedTextsAdvance }
     ensures accepted { AdvancedTextsAreAccepted }
+{}
+
+/// What `migrate` prints is a text of the same portfolio in version 2, which has the same verdicts and flow lines; and what was
+/// migrated is migrated to the same bytes.
+pub fn migrated_texts_say_the_same()
+    ensures texts { MigratedTextsAreTexts }
+    ensures same { MigratedSayTheSame }
+    ensures stay { MigratedStay }
 {}

@@ -14,6 +14,7 @@
 mod contrs;
 mod cursor;
 mod dates;
+mod days;
 mod decls;
 mod exprs;
 mod faults;

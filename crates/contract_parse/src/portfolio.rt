@@ -1,26 +1,28 @@
 //! Portfolios from texts.
-ghost use Rattle.std.specs.Prelude.{◌≤◌, ◌<◌, ◌∷◌, [], List, IfOk, codes, length};
+ghost use Rattle.std.specs.Prelude.{◌≡◌, ◌≤◌, ◌<◌, ◌∷◌, [], List, true, IfOk, codes, length};
 ghost use Rattle.indexmap.specs.IndexMap.{keys};
 ghost use Rattle.term_core.specs.Books.{book};
 ghost use Rattle.term_core.specs.Sizes.{height_of_contract};
 ghost use Rattle.term_core.specs.Terms.{contract};
 ghost use Rattle.contract_parse.specs.Tokens.{tokens};
 ghost use Rattle.contract_parse.specs.Names.{nothing_declared};
-ghost use Rattle.contract_parse.specs.Judgements.{is_version};
+ghost use Rattle.term_core.specs.Limits.{is_a_version};
+ghost use Rattle.contract_parse.specs.Versions.{version_of};
+ghost use Rattle.contract_parse.specs.Judgements.{is_the_version};
 ghost use Rattle.contract_parse.specs.Spelling.{contr, mark, one, word, ◌⨟◌};
 ghost use Rattle.contract_parse.specs.Statements.{Entry, Repeat, contract_line, portfolio};
-ghost use Rattle.contract_parse.specs.Places.{ContrAt, ContractLines, Leaves, Open, Place, TheMark, TheVersion, TheWord, contract_places, run, text_places};
+ghost use Rattle.contract_parse.specs.Places.{ContrAt, ContractLines, Leaves, Open, Place, TextVersion, TheMark, TheWord, contract_places, decls_places, run, text_places};
 ghost use Rattle.contract_parse.specs.Reading.{declared_in, tokens_ahead};
 ghost use Rattle.contract_parse.specs.ContractReading.{trees};
 ghost use Rattle.contract_parse.specs.Texts.{Answers};
-ghost use Rattle.contract_parse.specs.Readers.{Extends, Passes, PassesAnywhere, Reads, ReadsAhead, ahead_from, behind_word};
+ghost use Rattle.contract_parse.specs.Readers.{BeginsText, Extends, Passes, Reads, ReadsAhead, ahead_from, behind_word};
 
 use crate::contrs::read_contr;
 use crate::cursor::start_text;
 use crate::decls::read_decls;
 use crate::faults::{ParseErr, ReadErr};
 use crate::lines::fault_at;
-use crate::readers::{after_word, read_end, read_new_name, skip_mark, skip_version, skip_word};
+use crate::readers::{after_word, read_end, read_new_name, read_version, skip_mark, skip_word};
 use crate::words::{Lookahead, look};
 use indexmap::IndexMap;
 use std::alloc::Global;
@@ -33,7 +35,7 @@ fn read_definition<'a>(
     decls: &Decls,
     rest: &'a [u8],
 ) -> Result<(Contr, &'a [u8]), ReadErr>
-    ensures reads { Reads (Passes decls.now (λ s ps. TheMark (codes "=") ∷ ContrAt 1 [] ∷ TheMark (codes ";") ∷ ps))
+    ensures reads { Reads (Passes decls.now (λ s ps. TheMark (codes "=") ∷ ContrAt s.version 1 [] ∷ TheMark (codes ";") ∷ ps))
         (λ r. mark (codes "=") ⨟ contr (declared_in decls.now []) [] (contract r.0) ⨟ mark (codes ";")) (λ r. r.1.now) rest.now result }
     ensures high { IfOk result (λ r. height_of_contract (contract r.0) ≤ 200) }
     ensures shorter { IfOk result (λ r. length r.1.now < length rest.now) }
@@ -52,7 +54,7 @@ fn read_contract<'a>(
     rest: &'a [u8],
 ) -> Result<&'a [u8], ReadErr>
     ensures reads { Reads (Extends (declared_in decls.now (keys contracts.old))
-        (λ r. declared_in decls.now (keys contracts.new)) contract_places)
+        (λ r. declared_in decls.now (keys contracts.new)) (contract_places (version_of decls.now.version)))
         (λ r. behind_word (codes "contract")
         (Entry (contract_line (declared_in decls.now [])) (trees contracts.old.entries) (trees contracts.new.entries)))
         (λ r. r.now) rest.now result }
@@ -69,7 +71,8 @@ fn read_contracts<'a>(
     decls: &Decls,
     ahead: &Lookahead<'a>,
 ) -> Result<(IndexMap<Name, Contr>, Lookahead<'a>), ReadErr>
-    ensures reads { ReadsAhead (Extends (declared_in decls.now []) (λ r. declared_in decls.now (keys r.0)) (λ ps. ContractLines ∷ ps))
+    ensures reads { ReadsAhead (Extends (declared_in decls.now []) (λ r. declared_in decls.now (keys r.0))
+        (λ ps. ContractLines (version_of decls.now.version) ∷ ps))
         (λ r. Repeat (Entry (contract_line (declared_in decls.now []))) [] (trees r.0.entries))
         (λ r. ahead_from r.1) (ahead_from ahead.now) result }
 {
@@ -82,16 +85,18 @@ fn read_contracts<'a>(
     Ok((contracts, ahead))
 }
 
-// The first line.
+// The first line, which says the version.
 #[tactic(auto, using(crate::proofs::Parts::followed_by))]
-fn skip_first_line(rest: &[u8]) -> Result<&[u8], ReadErr>
-    ensures reads { Reads (PassesAnywhere (λ ps. TheWord (codes "portfolio") ∷ TheVersion ∷ TheMark (codes ";") ∷ ps))
-        (λ r. word (codes "portfolio") ⨟ one is_version ⨟ mark (codes ";")) (λ r. r.now) rest.now result }
+fn read_first_line(rest: &[u8]) -> Result<(u8, &[u8]), ReadErr>
+    ensures reads { Reads (BeginsText (λ r. version_of r.0) (λ ps. TheWord (codes "portfolio") ∷ TextVersion ∷ ps)
+        (λ v ps. decls_places v (ContractLines v ∷ ps)))
+        (λ r. word (codes "portfolio") ⨟ one (is_the_version r.0) ⨟ mark (codes ";")) (λ r. r.1.now) rest.now result }
+    ensures limits { IfOk result (λ r. is_a_version r.0 ≡ true) }
 {
     let rest = skip_word(rest, b"portfolio")?;
-    let rest = skip_version(rest)?;
+    let (version, rest) = read_version(rest)?;
     let rest = skip_mark(rest, b";")?;
-    Ok(rest)
+    Ok((version, rest))
 }
 
 fn read_portfolio(alloc: Global, bytes: &[u8]) -> Result<Portfolio, ReadErr>
@@ -99,8 +104,8 @@ fn read_portfolio(alloc: Global, bytes: &[u8]) -> Result<Portfolio, ReadErr>
     ensures follows { Leaves (λ r. Open []) result (run nothing_declared text_places (tokens bytes.now)) }
     ensures spelled { IfOk result (λ r. portfolio (book r) (tokens bytes.now) []) }
 {
-    let rest = skip_first_line(bytes)?;
-    let (decls, ahead) = read_decls(alloc, rest)?;
+    let (version, rest) = read_first_line(bytes)?;
+    let (decls, ahead) = read_decls(alloc, version, rest)?;
     let (contracts, ahead) = read_contracts(alloc, &decls, &ahead)?;
     read_end(&ahead)?;
     Ok(Portfolio { decls, contracts })

@@ -4,10 +4,11 @@ use Rattle.std.specs.Prelude.{All, ℕ, ◌+◌, ◌≤◌, ◌≡◌, true, Lis
 use Rattle.std.specs.Map.{keys_of}
 use Rattle.term_core.specs.Terms.{Expression, Contract}
 use Rattle.term_core.specs.Sizes.{height, height_of_contract}
-use Rattle.term_core.specs.Declarations.{Declarations}
+use Rattle.term_core.specs.Declarations.{Declarations, at_one_scale}
 use Rattle.term_core.specs.Acceptance.{IsAccepted}
 use Rattle.term_core.specs.Books.{Book}
 use Rattle.term_core.specs.WellFormed.{IsWellFormed, IsWellFormedContract}
+use Rattle.contract_parse.specs.Versions.{version_of}
 use Rattle.contract_parse.specs.Names.{declared_by}
 use Rattle.contract_parse.specs.Spelling.{expr, contr}
 use Rattle.contract_parse.specs.declared.heads.Language.{Language}
@@ -30,7 +31,7 @@ ExpressionIsSpelled =
 abbrev pub ContractIsSpelled : Type 0
 ContractIsSpelled =
     (d : Declarations) (n : ℕ) (c : Contract)
-    → AreSpellable d → IsWellFormedContract d n c → ContractHasNumbersOfTexts c → n + height_of_contract c ≤ 999
+    → AreSpellable d → IsWellFormedContract d n c → ContractHasNumbersOfTexts (version_of d.version) c → n + height_of_contract c ≤ 999
     → Spells stops (contr_text (declared_by d []) n c) (contr (declared_by d []) (bound_names n) c)
 
 -- the canonical text of a portfolio is a text of it
@@ -52,6 +53,10 @@ TextsAreWritable = (bytes : List ℕ) (b : Book) → Text bytes b → All (λ en
 -- the portfolio of a text is within the limits of texts, so it has a canonical text, which is a text of it
 abbrev pub TextsAreSpellable : Type 0
 TextsAreSpellable = (bytes : List ℕ) (b : Book) → Text bytes b → IsSpellableBook b
+
+-- declarations within the limits of texts are within them in version 1, where each asset has the decimals of the amounts
+abbrev pub OneScaleIsSpellable : Type 0
+OneScaleIsSpellable = (d : Declarations) → AreSpellable d → AreSpellable (at_one_scale d)
 
 -- comment lines before a text change nothing
 abbrev pub CommentsChangeNothing : Type 0

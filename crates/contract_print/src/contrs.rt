@@ -6,7 +6,8 @@ ghost use Rattle.term_core.specs.Declarations.{declarations};
 ghost use Rattle.term_core.specs.Terms.{contract, expression};
 ghost use Rattle.term_core.specs.Sizes.{height, height_of_contract};
 ghost use Rattle.contract_parse.specs.Names.{declared_by};
-ghost use Rattle.contract_print.specs.TermTexts.{contr_text, days_text, expr_text, name_at, observed};
+ghost use Rattle.term_core.specs.DayCounts.{day_count};
+ghost use Rattle.contract_print.specs.TermTexts.{contr_text, days_text, expr_text, more_days_text, name_at, observed, sum_text};
 ghost use Rattle.contract_print.specs.Writable.{IsWritable, IsWritableContract};
 
 use crate::exprs::{Leaf, append_expr};
@@ -22,6 +23,20 @@ pub fn append_name(out: &mut Vec<u8>, names: &IndexSet<Name>, place: u32) -> Res
 {
     match names.get_index(place as usize) {
         Some(name) => append(out, name.text()),
+        None => Ok(()),
+    }
+}
+
+/// Appends the name of an asset, by its place.
+pub fn append_asset_name(
+    out: &mut Vec<u8>,
+    assets: &IndexMap<Name, u8>,
+    place: u32,
+) -> Result<(), NoMemory>
+    ensures { OnOk result (out.new.items ≡ out.old.items ++ name_at (keys_of assets.now.entries) place) }
+{
+    match assets.get_index(place as usize) {
+        Some((name, _)) => append(out, name.text()),
         None => Ok(()),
     }
 }
@@ -78,18 +93,52 @@ impl<'a> Leaf for Observables<'a> {
     }
 }
 
-/// Appends a count of days: a number, or the name of a template.
+// Appends further templates of a sum.
+fn append_more_days(out: &mut Vec<u8>, decls: &Decls, names: &[u32]) -> Result<(), NoMemory>
+    ensures { OnOk result (out.new.items ≡ out.old.items ++ more_days_text (declared_by (declarations decls.now) []) names.now) }
+{
+    for name in names {
+        append(out, b" + ")?;
+        append_template_name(out, &decls.templates, *name)?;
+    }
+    Ok(())
+}
+
+// Appends a sum: its number where that is not 0, and its templates.
+fn append_sum(
+    alloc: Global,
+    out: &mut Vec<u8>,
+    decls: &Decls,
+    days: u32,
+    names: &[u32],
+) -> Result<(), NoMemory>
+    ensures { OnOk result (out.new.items ≡ out.old.items ++ sum_text (declared_by (declarations decls.now) []) days names.now) }
+{
+    match names.split_first() {
+        Some((name, rest)) if days == 0 => {
+            append_template_name(out, &decls.templates, *name)?;
+            append_more_days(out, decls, rest)
+        }
+        _ => {
+            append_number(alloc, out, days)?;
+            append_more_days(out, decls, names)
+        }
+    }
+}
+
+/// Appends a count of days: a number, the name of a template, or a sum of these.
 pub fn append_days(
     alloc: Global,
     out: &mut Vec<u8>,
     decls: &Decls,
-    days: Days,
+    days: &Days,
 ) -> Result<(), NoMemory>
-    ensures { OnOk result (out.new.items ≡ out.old.items ++ days_text (declared_by (declarations decls.now) []) days) }
+    ensures { OnOk result (out.new.items ≡ out.old.items ++ days_text (declared_by (declarations decls.now) []) (day_count days.now)) }
 {
     match days {
-        Days::Num { days } => append_number(alloc, out, days),
-        Days::Named { template } => append_template_name(out, &decls.templates, template),
+        Days::Num { days } => append_number(alloc, out, *days),
+        Days::Named { template } => append_template_name(out, &decls.templates, *template),
+        Days::Sum { sum } => append_sum(alloc, out, decls, sum.days, sum.names.as_slice()),
     }
 }
 
@@ -128,7 +177,7 @@ pub fn append_contr(
         Contr::Zero => append(out, b"zero"),
         Contr::Pay { asset, from, to } => {
             append(out, b"pay(")?;
-            append_name(out, &decls.assets, *asset)?;
+            append_asset_name(out, &decls.assets, *asset)?;
             append(out, b", ")?;
             append_name(out, &decls.parties, *from)?;
             append(out, b", ")?;
@@ -151,7 +200,7 @@ pub fn append_contr(
         }
         Contr::After { days, body } => {
             append(out, b"after(")?;
-            append_days(alloc, out, decls, *days)?;
+            append_days(alloc, out, decls, days)?;
             append(out, b", ")?;
             append_contr(alloc, out, decls, binders, body)?;
             append(out, b")")
@@ -173,7 +222,7 @@ pub fn append_contr(
             append(out, b"if ")?;
             append_observing(alloc, out, decls, binders, test)?;
             append(out, b" within ")?;
-            append_days(alloc, out, decls, *days)?;
+            append_days(alloc, out, decls, days)?;
             append(out, b" then ")?;
             append_contr(alloc, out, decls, binders, hit)?;
             append(out, b" else ")?;

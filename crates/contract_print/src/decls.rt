@@ -4,10 +4,12 @@ ghost use Rattle.std.specs.Prelude.{◌≡◌, ◌++◌, true, OnOk, OnErr};
 ghost use Rattle.term_core.specs.Declarations.{declarations};
 ghost use Rattle.term_core.specs.Limits.{are_labels, is_label};
 ghost use Rattle.term_core.specs.declared.label.Label.TheVariants.{Number};
-ghost use Rattle.contract_print.specs.Canon.{AppendsDecls, IsOriginText, amounts_text, decls_text, first_lines, label_text, labels_text, more_names_text, names_text, origin_text, range_text, start_text, table_lines, template_text, templates_text};
+ghost use Rattle.contract_parse.specs.Versions.{version_of};
+ghost use Rattle.contract_print.specs.Canon.{AppendsDecls, IsOriginText, amounts_text, asset_text, assets_text, decls_text, first_lines, label_text, labels_text, more_assets_text, more_names_text, names_text, origin_text, range_text, start_text, table_lines, template_text, templates_text};
 
 use crate::pieces::{append, append_number};
 use decimal::{NoMemory, write};
+use indexmap::map::Slice;
 use indexmap::{IndexMap, IndexSet};
 use std::alloc::Global;
 use term_core::{Decls, Label, Name, date_text};
@@ -34,6 +36,60 @@ fn append_names(out: &mut Vec<u8>, word: &[u8], names: &IndexSet<Name>) -> Resul
             append(out, b" ")?;
             append(out, first.text())?;
             append_more_names(out, rest)
+        }
+    }
+}
+
+// An asset, in version 2 with its decimals.
+fn append_asset(
+    alloc: Global,
+    out: &mut Vec<u8>,
+    version: u8,
+    name: &[u8],
+    decimals: u8,
+) -> Result<(), NoMemory>
+    ensures { OnOk result (out.new.items ≡ out.old.items ++ asset_text (version_of version) name.now decimals) }
+{
+    append(out, name)?;
+    if version == 2 {
+        append(out, b" : ")?;
+        append_number(alloc, out, decimals as u32)
+    } else {
+        Ok(())
+    }
+}
+
+// The further assets of their line.
+fn append_more_assets(
+    alloc: Global,
+    out: &mut Vec<u8>,
+    version: u8,
+    assets: &Slice<'_, Name, u8>,
+) -> Result<(), NoMemory>
+    ensures { OnOk result (out.new.items ≡ out.old.items ++ more_assets_text (version_of version) assets.now) }
+{
+    for (name, decimals) in assets {
+        append(out, b", ")?;
+        append_asset(alloc, out, version, name.text(), *decimals)?;
+    }
+    append(out, b";\n")
+}
+
+// One line with all assets, where there is one.
+fn append_assets(
+    alloc: Global,
+    out: &mut Vec<u8>,
+    version: u8,
+    assets: &IndexMap<Name, u8>,
+) -> Result<(), NoMemory>
+    ensures { OnOk result (out.new.items ≡ out.old.items ++ assets_text (version_of version) assets.now.entries) }
+{
+    match assets.as_slice().split_first() {
+        None => Ok(()),
+        Some(((name, decimals), rest)) => {
+            append(out, b"asset ")?;
+            append_asset(alloc, out, version, name.text(), *decimals)?;
+            append_more_assets(alloc, out, version, &rest)
         }
     }
 }
@@ -185,7 +241,7 @@ fn append_tables(alloc: Global, out: &mut Vec<u8>, decls: &Decls) -> Result<(), 
     ensures { OnOk result (out.new.items ≡ out.old.items ++ table_lines (declarations decls.now)) }
 {
     append_names(out, b"party", &decls.parties)?;
-    append_names(out, b"asset", &decls.assets)?;
+    append_assets(alloc, out, decls.version, &decls.assets)?;
     append_labels(alloc, out, &decls.labels)?;
     append_templates(alloc, out, &decls.templates)
 }

@@ -1,6 +1,7 @@
 //! Laws over the definitions of canonical texts: each function's contract is the law.
 ghost use Rattle.contract_print.specs.Laws.{CanonExists, CanonIsText, CommentsChangeNothing, ContractIsSpelled, ExpressionIsSpelled, OneCanon};
-ghost use Rattle.contract_print.specs.Laws.{RestsAreAccepted, RestsAreSpellable, RestsCanBeSpelled, RestsCanBeWritten, TextsAreSpellable, TextsAreWritable};
+ghost use Rattle.contract_print.specs.Migrated.{MigratedAreSpellable};
+ghost use Rattle.contract_print.specs.Laws.{OneScaleIsSpellable, RestsAreAccepted, RestsAreSpellable, RestsCanBeSpelled, RestsCanBeWritten, TextsAreSpellable, TextsAreWritable};
 
 /// The canonical text of an expression spells it wherever a comma, a bracket, a space or a semicolon follows.
 pub fn expression_is_spelled()
@@ -35,6 +36,17 @@ pub fn texts_are_writable()
 /// The portfolio of a text is within the limits of texts, so it has a canonical text, which is a text of it.
 pub fn texts_are_spellable()
     ensures { TextsAreSpellable }
+{}
+
+/// A portfolio within the limits of texts is within them in version 2 too, so it has a canonical text there.
+pub fn migrated_are_spellable()
+    ensures { MigratedAreSpellable }
+{}
+
+/// Declarations within the limits of texts are within them in version 1, where each asset has the decimals of the amounts,
+/// as those of code have.
+pub fn one_scale_is_spellable()
+    ensures { OneScaleIsSpellable }
 {}
 
 /// Comment lines before a text change nothing of what it stands for.

@@ -1,5 +1,5 @@
-//! The canonical text of portfolios: the one spelling of each that the program writes, which reads back as
-//! the same portfolio.
+//! The canonical text of portfolios, of either version: the one spelling of each that the program writes, which
+//! reads back as the same portfolio.
 //!
 //! ```text
 //! print_portfolio(alloc, &mut out, &portfolio)?;
@@ -18,7 +18,7 @@ mod pieces;
 mod portfolio;
 mod words;
 
-pub use contrs::{append_label_name, append_name, append_template_name};
+pub use contrs::{append_asset_name, append_label_name, append_name, append_template_name};
 pub use decls::{append_decls, origin_date, print_decls};
 pub use exprs::{Leaf, append_expr};
 pub use pieces::{append, append_bound_name};

@@ -1,4 +1,4 @@
--- Worked rows: what single records say.
+-- Worked rows: what a single record says by itself.
 use Rattle.std.proofs.Common.{◌≡◌, ℕ, ℤ, pos, neg_ℤ, List, [], ◌∷◌, Option, Some, None, Result, Ok, Err, true, false, refl}
 use Rattle.std.specs.Prelude.{codes}
 use Rattle.decimal.specs.Reading.{read_of}
@@ -16,6 +16,7 @@ use Rattle.fixing_files.specs.declared.faults.RowKind.TheVariants.{Shape, Label,
 abbrev with_origin : Option ℤ → Declarations
 with_origin origin =
     record {
+      version = 1;
       amounts = 2;
       origin = origin;
       start = 0;

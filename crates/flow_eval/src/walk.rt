@@ -2,6 +2,7 @@
 
 ghost use Rattle.std.specs.Prelude.{◌≡◌, ◌≤◌, ◌+◌, ◌-◌, ◌≤ℤ◌, ◌+ℤ◌, ◌-ℤ◌, pos, min, max, unsigned_abs, IfOk, int_lt};
 ghost use Rattle.term_core.specs.Terms.{contract, expression, Scale, Let, Within};
+ghost use Rattle.term_core.specs.DayCounts.{day_count};
 ghost use Rattle.term_core.specs.Flows.{count_of};
 ghost use Rattle.term_core.specs.Sizes.{reach};
 ghost use Rattle.flow_eval.specs.Readiness.{IsAmongDays, IsUpTo};
@@ -181,11 +182,12 @@ fn gather_within(
     hit: &Contr,
     miss: &Contr,
 ) -> Result<(), FlowErr>
-    requires ready { MayWalk course.now (Within (expression test.now) days.now (contract hit.now) (contract miss.now)) here scratch.old }
-    requires days { IsAmongDays here.day (count_of days.now + max (reach (contract hit.now)) (reach (contract miss.now))) }
+    requires ready { MayWalk course.now (Within (expression test.now) (day_count days.now) (contract hit.now) (contract miss.now))
+        here scratch.old }
+    requires days { IsAmongDays here.day (count_of (day_count days.now) + max (reach (contract hit.now)) (reach (contract miss.now))) }
     requires in_time { here.day ≤ℤ course.now.until }
-    ensures answer { Notes course.now (Within (expression test.now) days.now (contract hit.now) (contract miss.now)) here scratch.old
-        out.old.items out.new.items result }
+    ensures answer { Notes course.now (Within (expression test.now) (day_count days.now) (contract hit.now) (contract miss.now))
+        here scratch.old out.old.items out.new.items result }
     ensures same { scratch.new ≡ scratch.old }
 {
     let days = days.number();

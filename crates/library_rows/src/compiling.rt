@@ -1,6 +1,6 @@
 //! Rows of contracts that are compiled to payoff code.
 
-ghost use Rattle.std.specs.Prelude.{IfOk};
+ghost use Rattle.std.specs.Prelude.{◌≡◌, IfOk};
 ghost use Rattle.term_core.specs.Acceptance.{IsAccepted};
 ghost use Rattle.term_core.specs.Declarations.{declarations};
 ghost use Rattle.term_core.specs.Instances.{declared_numbers, instance};
@@ -14,6 +14,7 @@ ghost use Rattle.payoff_lang.specs.Compiled.{cut_code};
 use crate::above::Above;
 use crate::bad_row::{Answer, BadRow};
 use crate::cases::{accept, only_of};
+use crate::settings::{has_small_sums, is_setting};
 use crate::writable::{is_printable, say_behind};
 use decimal::NoMemory;
 use payoff_compile::laws::{plain_code_is_writable, writable_terms_have_small_literals};
@@ -46,6 +47,9 @@ fn accept_at_defaults(alloc: Global, decls: &Decls, c: &Contr) -> Result<(), Bad
     settings_suit();
     defaults_suit();
     let setting = defaults(alloc, decls)?;
+    if !has_small_sums(c) || !is_setting(&setting.days) {
+        return Err(BadRow::Range);
+    }
     let at_defaults = instantiate(alloc, c, &setting)?;
     accept_sized(alloc, decls, &at_defaults)
 }
@@ -65,19 +69,21 @@ fn code_of(alloc: Global, decls: &Decls, c: &Contr) -> Result<Code, NoMemory>
     Ok(code)
 }
 
-// The file of code.
+// The file of code, on the declarations in version 1.
 fn file_of(alloc: Global, decls: &Decls, code: Code) -> Result<CodeFile, NoMemory>
     requires { IsWritableCode (payoff_code code) }
-    ensures { IfOk result (λ file. IsWritableCode (payoff_code file.code)) }
+    ensures version { IfOk result (λ file. (declarations file.decls).version ≡ 1) }
+    ensures writable { IfOk result (λ file. IsWritableCode (payoff_code file.code)) }
 {
     let name = Name::new(alloc, b"c")?;
-    let decls = decls.copy(alloc)?;
+    let decls = decls.at_one_scale(alloc)?;
     Ok(CodeFile { decls, name, code })
 }
 
 // The canonical text of a code file.
 fn file_text(alloc: Global, file: &CodeFile) -> Result<Vec<u8>, NoMemory>
-    requires { IsWritableCode (payoff_code file.now.code) }
+    requires version { (declarations file.now.decls).version ≡ 1 }
+    requires writable { IsWritableCode (payoff_code file.now.code) }
 {
     let mut text = Vec::new(alloc);
     print_code(alloc, &mut text, file)?;
@@ -86,7 +92,8 @@ fn file_text(alloc: Global, file: &CodeFile) -> Result<Vec<u8>, NoMemory>
 
 // Appends the line of the code of a code file.
 fn say_file(alloc: Global, file: &CodeFile, out: &mut Vec<u8>) -> Answer
-    requires { IsWritableCode (payoff_code file.now.code) }
+    requires version { (declarations file.now.decls).version ≡ 1 }
+    requires writable { IsWritableCode (payoff_code file.now.code) }
 {
     let text = file_text(alloc, file)?;
     say_behind(alloc, b"payoff 1;\n", &file.decls, &text, out)

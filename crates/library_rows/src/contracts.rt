@@ -11,6 +11,7 @@ use crate::bad_row::{Answer, BadRow};
 use crate::cases::{Case, case_of, declared, only_of};
 use crate::lines::verdict_line;
 use crate::printing::{append, append_decimal, say, say_decimal};
+use crate::settings::{has_small_sums, is_setting};
 use crate::writable::say_contract;
 use contract_check::{Facts, check};
 use decimal::NoMemory;
@@ -88,6 +89,9 @@ fn say_instance(
 ) -> Answer {
     if !is_closed(decls, c) || setting.days.len() != decls.templates.len() {
         return Err(BadRow::Text);
+    }
+    if !has_small_sums(c) || !is_setting(&setting.days) {
+        return Err(BadRow::Range);
     }
     settings_suit();
     let instance = instantiate(alloc, c, setting)?;

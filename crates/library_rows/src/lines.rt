@@ -1,6 +1,8 @@
 //! Rows of lines: of verdicts, of faults, of flows and of values.
 
-ghost use Rattle.std.specs.Prelude.{◌≤◌, ◌^◌, unsigned_abs, IsTrue, IfOk};
+ghost use Rattle.std.specs.Prelude.{◌≤◌, ◌-◌, ◌^◌, unsigned_abs, IsTrue, IfOk};
+ghost use Rattle.term_core.specs.Declarations.{declarations, decimals_of};
+ghost use Rattle.term_core.specs.LawsScales.{IsMultiple};
 
 use crate::above::Above;
 use crate::bad_row::{Answer, BadRow};
@@ -9,7 +11,7 @@ use crate::printing::{append, say_fault};
 use crate::words::{count, day, first_word, integer, scale};
 use contract_check::Facts;
 use contract_parse::{TextFault, TextKind};
-use decimal::GREATEST_MANTISSA;
+use decimal::{GREATEST_MANTISSA, Mode, round_to, widen};
 use fixing_files::{RowFault, RowKind};
 use flow_eval::FlowRow;
 use report::{Fault, check_line, flow_line, value_line};
@@ -196,6 +198,20 @@ pub fn line_of_fault(alloc: Global, words: &str, out: &mut Vec<u8>) -> Answer {
     say_fault(alloc, &fault, out)
 }
 
+// Whether an amount is a whole number at the decimals of its asset.
+fn is_whole(decls: &Decls, row: &FlowRow) -> bool
+    requires { unsigned_abs row.now.amount ≤ 10 ^ 37 }
+    ensures { IsTrue result
+        → IsMultiple row.now.amount (decls.now.amounts - decimals_of (declarations decls.now) row.now.asset) }
+{
+    let decimals = decls.decimals(row.asset);
+    let amount = round_to(Mode::Floor, row.amount, decls.amounts, decimals);
+    match widen(amount, decls.amounts - decimals) {
+        Some(whole) => whole == row.amount,
+        None => false,
+    }
+}
+
 /// Appends the line of a row.
 pub fn say_flow(
     alloc: Global,
@@ -205,6 +221,9 @@ pub fn say_flow(
     out: &mut Vec<u8>,
 ) -> Answer {
     if row.day < 0 || row.day > 1_100_000 || row.amount.unsigned_abs() > GREATEST_MANTISSA {
+        return Err(BadRow::Range);
+    }
+    if !is_whole(decls, row) {
         return Err(BadRow::Range);
     }
     flow_line(alloc, out, decls, name.as_bytes(), row)?;

@@ -33,6 +33,7 @@ mod flows;
 mod lines;
 mod making;
 mod printing;
+mod settings;
 mod spelling;
 mod texts;
 mod tokens;

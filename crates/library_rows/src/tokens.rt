@@ -1,12 +1,13 @@
 //! Rows of tokens, read one at a time round declarations.
 
-ghost use Rattle.std.specs.Prelude.{◌≤◌, length};
+ghost use Rattle.std.specs.Prelude.{◌≡◌, ◌≤◌, length, true};
+ghost use Rattle.term_core.specs.Limits.{is_a_version};
 ghost use Rattle.contract_parse.specs.Cursors.{Fits};
 
 use crate::above::Above;
 use crate::bad_row::Answer;
 use crate::printing::{append, append_decimal, end, say_parse_fault, say_text_fault};
-use crate::words::{count, first_word};
+use crate::words::{count, first_word, version};
 use contract_parse::{Cursor, Token, TokenKind, next_token, parse_decls, start_text};
 use contract_print::print_decls;
 use std::alloc::Global;
@@ -66,39 +67,57 @@ fn say_tokens(
     Ok(())
 }
 
-// Appends the lines of the declarations at the cursor, or of their fault.
-fn say_decls(alloc: Global, cursor: &mut Cursor, text: &[u8], out: &mut Vec<u8>) -> Answer
+// Appends the lines of the declarations of a version at the cursor, or of their fault.
+fn say_decls(
+    alloc: Global,
+    cursor: &mut Cursor,
+    text: &[u8],
+    version: u8,
+    out: &mut Vec<u8>,
+) -> Answer
+    requires version { is_a_version version ≡ true }
     requires small { length text.now ≤ 1_000_000 }
     requires fits { Fits text.now cursor.old }
     ensures { Fits text.now cursor.new }
 {
-    match parse_decls(alloc, cursor, text) {
+    match parse_decls(alloc, cursor, text, version) {
         Ok(decls) => Ok(print_decls(alloc, out, &decls)?),
         Err(error) => say_parse_fault(alloc, error, out),
     }
 }
 
 // Appends the lines of so many tokens, of declarations, and of so many tokens behind them.
-fn say_all(alloc: Global, text: &[u8], before: u32, behind: u32, out: &mut Vec<u8>) -> Answer
-    requires { length text.now ≤ 1_000_000 }
+fn say_all(
+    alloc: Global,
+    text: &[u8],
+    version: u8,
+    before: u32,
+    behind: u32,
+    out: &mut Vec<u8>,
+) -> Answer
+    requires version { is_a_version version ≡ true }
+    requires small { length text.now ≤ 1_000_000 }
 {
     match start_text(text) {
         Ok(start) => {
             let mut cursor = start;
             say_tokens(alloc, &mut cursor, text, before, out)?;
-            say_decls(alloc, &mut cursor, text, out)?;
+            say_decls(alloc, &mut cursor, text, version, out)?;
             say_tokens(alloc, &mut cursor, text, behind, out)
         }
         Err(fault) => say_text_fault(alloc, fault, out),
     }
 }
 
-/// `parse_decls BEFORE BEHIND TEXT`: so many tokens, the declarations behind them, and so many tokens behind those.
+/// `parse_decls VERSION BEFORE BEHIND TEXT`: so many tokens, the declarations of the version behind them, and so many tokens behind
+/// those.
 pub fn read_decls(alloc: Global, above: &Above, words: &str, out: &mut Vec<u8>) -> Answer {
+    let (number, words) = first_word(words);
     let (before, words) = first_word(words);
     let (behind, words) = first_word(words);
+    let version = version(number)?;
     let before = count(before)?;
     let behind = count(behind)?;
     let text = above.text(alloc, words)?;
-    say_all(alloc, &text, before, behind, out)
+    say_all(alloc, &text, version, before, behind, out)
 }

@@ -1,5 +1,8 @@
 //! The words of a row.
 
+ghost use Rattle.std.specs.Prelude.{◌≡◌, true, IfOk};
+ghost use Rattle.term_core.specs.Limits.{is_a_version};
+
 use crate::bad_row::BadRow;
 use decimal::Mode;
 
@@ -40,5 +43,16 @@ pub fn scale(word: &str) -> Result<u8, BadRow> {
     match word.parse::<u8>() {
         Ok(number) => Ok(number),
         Err(_) => Err(BadRow::Word),
+    }
+}
+
+/// A version of portfolios.
+pub fn version(word: &str) -> Result<u8, BadRow>
+    ensures { IfOk result (λ version. is_a_version version ≡ true) }
+{
+    match word {
+        "1" => Ok(1),
+        "2" => Ok(2),
+        _ => Err(BadRow::Word),
     }
 }

@@ -134,7 +134,11 @@ fn say_book(alloc: Global, portfolio: &Portfolio, out: &mut Vec<u8>) -> Answer
     requires { All (λ entry. IsWritableTerm entry.1) (book portfolio.now).contracts }
 {
     let text = book_text(alloc, portfolio)?;
-    say_behind(alloc, b"portfolio 1;\n", &portfolio.decls, &text, out)
+    let first: &[u8] = match portfolio.decls.version {
+        1 => b"portfolio 1;\n",
+        _ => b"portfolio 2;\n",
+    };
+    say_behind(alloc, first, &portfolio.decls, &text, out)
 }
 
 /// Appends the canonical line of a contract.

@@ -5,11 +5,12 @@ use Rattle.decimal.specs.Rounding.{at_scale, divided}
 use Rattle.decimal.specs.declared.Mode.TheVariants.{HalfEven}
 use Rattle.term_core.specs.declared.terms.NumOp.TheVariants.{Plus, Minus, Times}
 use Rattle.term_core.specs.declared.terms.CmpOp.TheVariants.{Greater}
-use Rattle.term_core.specs.declared.terms.Days.{Days}
-use Rattle.term_core.specs.declared.terms.Days.TheVariants.{Num as Count, Named}
+use Rattle.term_core.specs.DayCounts.{Days}
+use Rattle.term_core.specs.DayCounts.{Num as Count, Named, Sum}
 use Rattle.term_core.specs.Terms.{Lit, Var, Obs, Num, Cmp, Round, Div, Acc, Contract, Zero, Pay, Both, Scale, After, Within}
 use Rattle.term_core.specs.Environments.{Environment}
 use Rattle.term_core.specs.Reads.{first_unfixed}
+use Rattle.payoff_lang.specs.TemplateDates.{Date}
 use Rattle.payoff_lang.specs.Code.{Lit as Lit', Model, Cmp as Cmp', PayoffCode, PayOn, Add, ScaleBy, Loop, Cut}
 use Rattle.payoff_lang.specs.CodeReads.{reads_of_code}
 use Rattle.payoff_lang.specs.Compiled.{code_of, cut_code}
@@ -55,6 +56,27 @@ named_30 = refl
 
 named_0 : worth named_loan [] (0 ∷ []) (pos 0) ≡ neg_ℤ (pos 500_000_000_000)
 named_0 = refl
+
+-- ---- a payment after 30 days and a template's days
+
+abbrev pub delayed : Contract
+delayed = After (Sum 30 (0 ∷ [])) (Scale (Lit (pos 10500) 2) (Pay 0 1 0))
+
+abbrev thirty_and_t : Date
+thirty_and_t = record { days = pos 30; names = 0 ∷ [] }
+
+delayed_code : cut_code (code_of delayed) ≡ ScaleBy (Lit' (pos 10500) 2) (Cut thirty_and_t (PayOn thirty_and_t 0 1 0))
+delayed_code = refl
+
+delayed_60 : worth (cut_code (code_of delayed)) [] (60 ∷ []) (pos 0) ≡ neg_ℤ (pos 10_395_000_000_000)
+delayed_60 = refl
+
+delayed_59 : worth (cut_code (code_of delayed)) [] (59 ∷ []) (pos 0) ≡ neg_ℤ (pos 10_500_000_000_000)
+delayed_59 = refl
+
+-- names in rising order, whatever the sum has
+sorted_code : code_of (After (Sum 0 (1 ∷ 0 ∷ 1 ∷ [])) (Pay 0 0 1)) ≡ PayOn (record { days = pos 0; names = 0 ∷ 1 ∷ 1 ∷ [] }) 0 0 1
+sorted_code = refl
 
 -- ---- a touch
 

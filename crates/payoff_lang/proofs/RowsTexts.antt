@@ -6,7 +6,7 @@ use Rattle.decimal.specs.declared.Mode.TheVariants.{Floor}
 use Rattle.term_core.specs.declared.terms.NumOp.TheVariants.{Plus, Max}
 use Rattle.term_core.specs.declared.terms.CmpOp.TheVariants.{Unequal}
 use Rattle.term_core.specs.declared.terms.LogicOp.TheVariants.{And}
-use Rattle.term_core.specs.declared.terms.Days.TheVariants.{Num as Count, Named}
+use Rattle.term_core.specs.DayCounts.{Num as Count, Named}
 use Rattle.contract_parse.specs.Names.{DeclaredNames}
 use Rattle.contract_print.specs.TermTexts.{◌⊕◌}
 use Rattle.contract_print.specs.Canon.{amounts_text, line, start_text}
@@ -16,7 +16,7 @@ use Rattle.payoff_lang.specs.CodeTexts.{code_text, date_text, declared_for_code,
 use Rattle.payoff_lang.specs.CodeCanon.{code_book_text, code_header_text, code_line_text}
 use Rattle.payoff_lang.specs.Compiled.{code_of, cut_code}
 use Rattle.payoff_lang.proofs.RowsSample.{days, decls}
-use Rattle.payoff_lang.proofs.RowsCode.{loan, option, touch}
+use Rattle.payoff_lang.proofs.RowsCode.{delayed, loan, option, touch}
 
 abbrev declared : DeclaredNames
 declared = declared_for_code decls
@@ -38,6 +38,12 @@ named_loan_line : code_line_text declared (codes "loan") (cut_code (code_of (loa
     ≡ codes "code loan = add(scale(100.00, cut(0, pay(0, EUR, A, B))), scale(105.00, cut(0 + T, pay(0 + T, EUR, B, A))))" ⊕ line
 unfolding text_of date_text
 named_loan_line = refl
+
+-- after 30 days and a template's days
+delayed_line : code_line_text declared (codes "c") (cut_code (code_of delayed))
+    ≡ codes "code c = scale(105.00, cut(30 + T, pay(30 + T, EUR, B, A)))" ⊕ line
+unfolding text_of date_text
+delayed_line = refl
 
 touch_line : code_line_text declared (codes "touch") (cut_code (code_of touch))
     ≡ codes "code touch = loop (model(FX, 0) > 1.1000) upto 3 then scale(1.00, cut(0, pay(0, EUR, A, B))) else scale(2.00, cut(3, pay(3, EUR, B, A)))" ⊕ line

@@ -8,7 +8,7 @@ use Rattle.term_core.specs.Declarations.{Declarations}
 use Rattle.term_core.specs.Terms.{Contract}
 use Rattle.term_core.specs.Environments.{Environment, Place, IsAdmitted}
 use Rattle.term_core.specs.Factors.{IsCurve}
-use Rattle.term_core.specs.Instances.{instance}
+use Rattle.term_core.specs.Instances.{instance, IsSetting}
 use Rattle.term_core.specs.Acceptance.{IsAccepted}
 use Rattle.term_core.specs.Reads.{reads_of_contract}
 use Rattle.payoff_lang.specs.CodeValues.{Asked, scale_of_code, code_value}
@@ -38,10 +38,12 @@ abbrev pub first_day : Counting → Declarations → ℤ → ℤ
 first_day Remaining d now = now -ℤ pos d.start
 first_day Everything d now = pos 0
 
--- what may be asked of code that means a contract: a setting at which the contract is accepted, an admitted environment,
--- a curve, a day from the start on, and parties and an asset that are declared
+-- what may be asked of code that means a contract: a setting, which has a number of at most 100,000 days for each
+-- template, at which the contract is accepted, an admitted environment, a curve, a day from the start on, and parties and
+-- an asset that are declared
 pub record MayBeAsked (d : Declarations) (c : Contract) (xs : List ℕ) (env : Environment) (a : Asked) : Type 0 where
   pub setting : length xs ≡ length d.templates
+  pub small : IsSetting xs
   pub accepted : IsAccepted d (instance xs c)
   pub admitted : IsAdmitted d env
   pub curve : IsCurve a.curve

@@ -25,7 +25,7 @@ mod reading;
 
 pub use code::{Code, DateExpr, Vx};
 pub use code_file::CodeFile;
-pub use dates::with_name;
+pub use dates::{put_in_order, with_name};
 pub use dating::{Dating, dated};
 pub use parsing::parse_code;
 pub use printing::print_code;

@@ -17,8 +17,8 @@ use crate::code::{Code, DateExpr, Vx};
 use crate::code_file::CodeFile;
 use crate::numbering::number_dates;
 use contract_print::{
-    Leaf, append, append_bound_name, append_decls, append_expr, append_label_name, append_name,
-    append_template_name, origin_date,
+    Leaf, append, append_asset_name, append_bound_name, append_decls, append_expr,
+    append_label_name, append_name, append_template_name, origin_date,
 };
 use decimal::{NoMemory, write};
 use std::alloc::Global;
@@ -125,7 +125,7 @@ fn append_transfer(
 ) -> Result<(), NoMemory>
     ensures { OnOk result (out.new.items ≡ out.old.items ++ transfer_text (declared_for_code (declarations decls.now)) asset from to) }
 {
-    append_name(out, &decls.assets, asset)?;
+    append_asset_name(out, &decls.assets, asset)?;
     append(out, b", ")?;
     append_name(out, &decls.parties, from)?;
     append(out, b", ")?;
@@ -263,7 +263,8 @@ fn append_file(
 /// Appends the canonical text of a code file. The text is made in memory of its own and appended at once: where memory runs
 /// out, nothing is appended. Code that a text can stand for may be printed (`laws::printable_is_writable`).
 pub fn print_code(alloc: Global, out: &mut Vec<u8>, file: &CodeFile) -> Result<(), NoMemory>
-    requires { IsWritableCode (code_book file.now).code }
+    requires version { (code_book file.now).declarations.version ≡ 1 }
+    requires writable { IsWritableCode (code_book file.now).code }
     ensures ok { OnOk result (AppendsCode (code_book file.now) out.old.items out.new.items) }
     ensures err { OnErr result (out.new.items ≡ out.old.items) }
 {

@@ -1,5 +1,5 @@
 -- The payments of flow tables can be netted, and come at each slot to what the tables are those of.
-use Rattle.std.proofs.Common.{◌≡◌, ℕ, ◌+◌, ◌*◌, ◌^◌, ◌≤◌, ◌<◌, ℤ, pos, neg_ℤ, ◌+ℤ◌, ◌≤ℤ◌, ◌<ℤ◌, min, max, nat_lt, Bool, true, false, if◌then◌else◌, inl, inr, ◌⊎◌, map, List, [], ◌∷◌, length, refl, ap, sym, ◌∙◌, subst, arith, unsigned_abs}
+use Rattle.std.proofs.Common.{◌≡◌, ℕ, ◌*◌, ◌^◌, ◌≤◌, ◌<◌, ℤ, pos, neg_ℤ, ◌+ℤ◌, ◌≤ℤ◌, ◌<ℤ◌, min, max, nat_lt, Bool, true, false, if◌then◌else◌, inl, inr, ◌⊎◌, map, List, [], ◌∷◌, length, refl, ap, sym, ◌∙◌, subst, arith, unsigned_abs}
 use Rattle.std.specs.Prelude.{IfOk, Result, Ok, Err}
 use Rattle.std.proofs.Math.IntN.{neg_ℤ-neg_ℤ}
 use Rattle.std.specs.List.{All, Contains, sum_by}

@@ -1,10 +1,15 @@
 -- The line of a flow: `NAME,DAY,FROM,TO,ASSET,AMOUNT`, with the day as a number, or as a date where the portfolio has
--- an origin, and the amount at the portfolio's decimals.
-use Rattle.std.specs.Prelude.{◌≡◌, ℕ, ℤ, pos, neg_ℤ, ◌+ℤ◌, ◌≤ℤ◌, List, [], ◌∷◌, ◌++◌, Option, Some, None, slice_get}
+-- an origin, and the amount at the asset's decimals.
+use Rattle.std.specs.Prelude.{◌≡◌, ℕ, ℤ, pos, neg_ℤ, ◌+ℤ◌, ◌-◌, ◌≤ℤ◌, List, [], ◌∷◌, ◌++◌, Option, Some, None, slice_get}
+use Rattle.std.specs.List.{All}
+use Rattle.std.specs.Map.{keys_of}
 use Rattle.decimal.specs.Appending.{AppendsPart}
+use Rattle.decimal.specs.Rounding.{raised}
 use Rattle.decimal.specs.Text.{text_of}
 use Rattle.term_core.specs.Dates.{epoch_day_of}
-use Rattle.term_core.specs.Declarations.{Declarations, declarations}
+use Rattle.term_core.specs.Declarations.{Declarations, declarations, decimals_of}
+use Rattle.term_core.specs.Flows.{Flow}
+use Rattle.term_core.specs.LawsScales.{IsMultiple}
 use Rattle.term_core.specs.declared.decls.Decls.{Decls}
 use Rattle.term_core.specs.declared.name.Name.{Name}
 use Rattle.flow_eval.specs.declared.flow_table.FlowRow.{FlowRow}
@@ -29,28 +34,43 @@ name_at names place = elim (slice_get names place) [ Some name ↦ name | None �
 abbrev pub field : List ℕ → List ℕ
 field text = 44 ∷ text
 
--- what stands behind the payer: whom it pays in what, and the amount at the portfolio's decimals
-abbrev pub behind_payer : Declarations → FlowRow → List ℕ
-behind_payer d row =
-    field (name_at d.parties row.to) ++ (field (name_at d.assets row.asset) ++ (field (text_of row.amount d.amounts) ++ line_feed))
+-- what stands behind the payer: whom it pays in what, and the amount at the asset's decimals
+abbrev pub behind_payer : Declarations → FlowRow → ℤ → List ℕ
+behind_payer d row amount =
+    field (name_at d.parties row.to)
+    ++ (field (name_at (keys_of d.assets) row.asset) ++ (field (text_of amount (decimals_of d row.asset)) ++ line_feed))
 
 -- and behind the day: who pays, and that
-abbrev pub terms_text : Declarations → FlowRow → List ℕ
-terms_text d row = field (name_at d.parties row.from) ++ behind_payer d row
+abbrev pub terms_text : Declarations → FlowRow → ℤ → List ℕ
+terms_text d row amount = field (name_at d.parties row.from) ++ behind_payer d row amount
 
 -- the line with a text for the day
-abbrev pub line_with : Declarations → List ℕ → List ℕ → FlowRow → List ℕ
-line_with d name day row = name ++ (field day ++ terms_text d row)
+abbrev pub line_with : Declarations → List ℕ → List ℕ → FlowRow → ℤ → List ℕ
+line_with d name day row amount = name ++ (field day ++ terms_text d row amount)
 
 -- the same by the program's values
-abbrev pub line_on : Decls → List ℕ → Piece → FlowRow → List ℕ
-line_on decls name day row = line_with (declarations decls) name (piece_text day) row
+abbrev pub line_on : Decls → List ℕ → Piece → FlowRow → ℤ → List ℕ
+line_on decls name day row amount = line_with (declarations decls) name (piece_text day) row amount
+
+-- the amount of a row in units of its asset's decimals
+abbrev pub IsAmountInAsset : Declarations → FlowRow → ℤ → Type 0
+IsAmountInAsset d row amount = row.amount ≡ raised amount (d.amounts - decimals_of d row.asset)
+
+-- what is paid in each asset is a whole number at the asset's decimals
+abbrev pub PaysInAssets : Declarations → (ℤ → Flow → ℤ) → Type 0
+PaysInAssets d pays = (day : ℤ) (w : Flow) → IsMultiple (pays day w) (d.amounts - decimals_of d w.asset)
+
+-- each row has an amount that a line can say
+abbrev pub HaveLines : Declarations → List FlowRow → Type 0
+HaveLines d rows = All (λ row. IsMultiple row.amount (d.amounts - decimals_of d row.asset)) rows
 
 -- the line of a row of the named contract
 pub record IsFlowLine (d : Declarations) (name : List ℕ) (row : FlowRow) (line : List ℕ) : Type 0 where
   pub day : List ℕ
   pub is_day : IsDayText d.origin row.day day
-  pub is_line : line ≡ line_with d name day row
+  pub amount : ℤ
+  pub is_amount : IsAmountInAsset d row amount
+  pub is_line : line ≡ line_with d name day row amount
 
 -- the text after is the text before and the line of the row
 pub record AppendsFlowLine (d : Declarations) (name : List ℕ) (row : FlowRow) (before after : List ℕ) : Type 0 where

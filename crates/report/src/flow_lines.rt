@@ -1,18 +1,20 @@
 //! The lines of flow tables.
 
-ghost use Rattle.std.specs.Prelude.{◌≡◌, ◌≤ℤ◌, ◌+ℤ◌, ◌++◌, pos, Some, OnOk, OnErr};
+ghost use Rattle.std.specs.Prelude.{◌≡◌, ◌-◌, ◌≤ℤ◌, ◌+ℤ◌, ◌++◌, pos, Some, OnOk, OnErr};
+ghost use Rattle.std.specs.Map.{keys_of};
 ghost use Rattle.decimal.specs.Appending.{AppendsPart};
 ghost use Rattle.term_core.specs.Dates.{epoch_day_of};
-ghost use Rattle.term_core.specs.Declarations.{declarations};
+ghost use Rattle.term_core.specs.Declarations.{declarations, decimals_of};
+ghost use Rattle.term_core.specs.LawsScales.{IsMultiple};
 ghost use Rattle.interval_check.specs.Safety.{IsSmall};
 ghost use Rattle.flow_eval.specs.Readiness.{last_day};
 ghost use Rattle.report.specs.Pieces.{piece_text, IsWritable};
-ghost use Rattle.report.specs.FlowLines.{AppendsFlowLine, AppendsPartOfLine, IsOrigin, line_on, name_at};
+ghost use Rattle.report.specs.FlowLines.{AppendsFlowLine, AppendsPartOfLine, IsAmountInAsset, IsOrigin, line_on, name_at};
 
 use crate::pieces::{Piece, append};
-use decimal::NoMemory;
+use decimal::{Mode, NoMemory, round_to};
 use flow_eval::FlowRow;
-use indexmap::IndexSet;
+use indexmap::{IndexMap, IndexSet};
 use std::alloc::Global;
 use term_core::{Decls, Name, date_text};
 
@@ -27,6 +29,17 @@ fn name_piece<'a>(names: &'a IndexSet<Name>, place: u32) -> Piece<'a>
     }
 }
 
+// The name of an asset.
+fn asset_piece<'a>(assets: &'a IndexMap<Name, u8>, place: u32) -> Piece<'a>
+    ensures text { piece_text result ≡ name_at (keys_of assets.now.entries) place }
+    ensures writable { IsWritable result }
+{
+    match assets.get_index(place as usize) {
+        Some((name, _)) => Piece::Words(name.text()),
+        None => Piece::Words(&[]),
+    }
+}
+
 // The line with these words or this number for the day.
 fn append_line<'a>(
     alloc: Global,
@@ -35,11 +48,12 @@ fn append_line<'a>(
     name: &'a [u8],
     day: Piece<'a>,
     row: &FlowRow,
+    amount: i128,
 ) -> Result<(), NoMemory>
     requires day { IsWritable day }
-    requires amount { IsSmall row.now.amount }
-    ensures ok { OnOk result (out.new.items ≡ out.old.items ++ line_on decls.now name.now day.entry row.now) }
-    ensures err { OnErr result (AppendsPart out.old.items (line_on decls.now name.now day.entry row.now) out.new.items) }
+    requires amount { IsSmall amount }
+    ensures ok { OnOk result (out.new.items ≡ out.old.items ++ line_on decls.now name.now day.entry row.now amount) }
+    ensures err { OnErr result (AppendsPart out.old.items (line_on decls.now name.now day.entry row.now amount) out.new.items) }
 {
     let comma = Piece::Words(b",");
     let pieces = [
@@ -51,15 +65,30 @@ fn append_line<'a>(
         comma,
         name_piece(&decls.parties, row.to),
         comma,
-        name_piece(&decls.assets, row.asset),
+        asset_piece(&decls.assets, row.asset),
         comma,
         Piece::Number {
-            mantissa: row.amount,
-            scale: decls.amounts,
+            mantissa: amount,
+            scale: decls.decimals(row.asset),
         },
         Piece::Words(b"\n"),
     ];
     append(alloc, out, &pieces)
+}
+
+// The amount of a row in units of its asset's decimals.
+fn amount_in_asset(decls: &Decls, row: &FlowRow) -> i128
+    requires small { IsSmall row.now.amount }
+    requires multiple { IsMultiple row.now.amount (decls.now.amounts - decimals_of (declarations decls.now) row.now.asset) }
+    ensures small { IsSmall result }
+    ensures exact { IsAmountInAsset (declarations decls.now) row.now result }
+{
+    round_to(
+        Mode::Floor,
+        row.amount,
+        decls.amounts,
+        decls.decimals(row.asset),
+    )
 }
 
 // The date of a day.
@@ -73,7 +102,7 @@ fn date_of(origin: i64, day: i64) -> [u8; 10]
 }
 
 /// Appends the line `NAME,DAY,FROM,TO,ASSET,AMOUNT` of a flow, with the day as a date where the portfolio has an
-/// origin, and the amount at the portfolio's decimals. Where memory runs out on the way, a front part of that line may
+/// origin, and the amount at the asset's decimals. Where memory runs out on the way, a front part of that line may
 /// stand in `out` already.
 pub fn flow_line(
     alloc: Global,
@@ -85,20 +114,22 @@ pub fn flow_line(
     requires first { pos 0 ≤ℤ row.now.day }
     requires last { row.now.day ≤ℤ pos last_day }
     requires amount { IsSmall row.now.amount }
+    requires multiple { IsMultiple row.now.amount (decls.now.amounts - decimals_of (declarations decls.now) row.now.asset) }
     ensures ok { OnOk result (AppendsFlowLine (declarations decls.now) name.now row.now out.old.items out.new.items) }
     ensures err { OnErr result (AppendsPartOfLine (declarations decls.now) name.now row.now out.old.items out.new.items) }
 {
+    let amount = amount_in_asset(decls, row);
     match decls.origin {
         None => {
             let day = Piece::Number {
                 mantissa: row.day as i128,
                 scale: 0,
             };
-            append_line(alloc, out, decls, name, day, row)
+            append_line(alloc, out, decls, name, day, row, amount)
         }
         Some(origin) => {
             let date = date_of(origin, row.day);
-            append_line(alloc, out, decls, name, Piece::Words(&date), row)
+            append_line(alloc, out, decls, name, Piece::Words(&date), row, amount)
         }
     }
 }

@@ -36,9 +36,9 @@ abbrev pub paid_over_days : ℕ → List (ℤ → Flow → ℤ)
 paid_over_days zero = []
 paid_over_days (suc number) = paid_over_days number ++ over_days (paid_of (sample_contract number)) ∷ []
 
--- FROM,TO,ASSET,AMOUNT
+-- FROM,TO,ASSET,AMOUNT, where the asset has the decimals of the amounts
 abbrev pub sum_line : Declarations → FlowRow → List ℕ
-sum_line d row = name_at d.parties row.from ++ behind_payer d row
+sum_line d row = name_at d.parties row.from ++ behind_payer d row row.amount
 
 -- a word and a number
 abbrev pub number_line : List ℕ → ℕ → List ℕ

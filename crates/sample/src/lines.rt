@@ -1,6 +1,7 @@
 //! The lines of a summary.
 
 ghost use Rattle.std.specs.Prelude.{◌≡◌, ◌≤◌, ◌^◌, ◌++◌, IfOk, OnOk};
+ghost use Rattle.std.specs.Map.{keys_of};
 ghost use Rattle.std.specs.List.{flat_map};
 ghost use Rattle.decimal.specs.Text.{text_of};
 ghost use Rattle.term_core.specs.Declarations.{declarations};
@@ -14,7 +15,7 @@ ghost use Rattle.sample.specs.Summary.{sum_line, summary_text};
 
 use decimal::{NoMemory, write};
 use flow_eval::FlowRow;
-use indexmap::IndexSet;
+use indexmap::{IndexMap, IndexSet};
 use std::alloc::Global;
 use term_core::{Decls, Name};
 
@@ -52,6 +53,28 @@ fn append_field(out: &mut Vec<u8>, names: &IndexSet<Name>, place: u32) -> Result
     append_name(out, names, place)
 }
 
+// Appends the name of an asset.
+fn append_asset_name(
+    out: &mut Vec<u8>,
+    assets: &IndexMap<Name, u8>,
+    place: u32,
+) -> Result<(), NoMemory>
+    ensures { OnOk result (out.new.items ≡ out.old.items ++ name_at (keys_of assets.now.entries) place) }
+{
+    if let Some((name, _)) = assets.get_index(place as usize) {
+        out.extend_from_slice(name.text())?;
+    }
+    Ok(())
+}
+
+// Appends a comma and the name of an asset.
+fn append_asset(out: &mut Vec<u8>, assets: &IndexMap<Name, u8>, place: u32) -> Result<(), NoMemory>
+    ensures { OnOk result (out.new.items ≡ out.old.items ++ field (name_at (keys_of assets.now.entries) place)) }
+{
+    out.push(b',')?;
+    append_asset_name(out, assets, place)
+}
+
 // Appends a comma and an amount, and ends the line.
 fn append_amount(
     alloc: Global,
@@ -81,8 +104,8 @@ fn append_sum(
 {
     append_name(out, &decls.parties, row.from)?;
     append_field(out, &decls.parties, row.to)?;
-    append_field(out, &decls.assets, row.asset)?;
-    append_amount(alloc, out, row.amount, decls.amounts)?;
+    append_asset(out, &decls.assets, row.asset)?;
+    append_amount(alloc, out, row.amount, decls.decimals(row.asset))?;
     Ok(())
 }
 

@@ -1,5 +1,6 @@
-//! Two rules of acceptance. Scales: a contract has no more decimals than the portfolio's amounts. Sizes: its
-//! nodes, its height, its days and the steps of its evaluation keep their limits.
+//! Two rules of acceptance. Scales: a contract has no more decimals than the portfolio's amounts, and what it pays in an
+//! asset no more than the asset has. Sizes: its nodes, its height, its days and the steps of its evaluation keep
+//! their limits.
 //!
 //! ```text
 //! let scale = scales(alloc, &portfolio.decls, &contr)?;
@@ -12,6 +13,7 @@
 //! `contract_check`, in rows of `library_rows`).
 #![tactic(auto)]
 
+mod contract_scales;
 mod part_sizes;
 pub mod scale_rule;
 mod scale_scopes;

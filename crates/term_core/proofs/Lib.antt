@@ -19,6 +19,10 @@ pub mod ShiftFacts
 pub mod ShiftedFacts
 pub mod ReadShiftFacts
 pub mod ReadGrowthFacts
+pub mod AssetFacts
+pub mod MultipleFacts
+pub mod FormedFacts
+pub mod OneScaleFacts
 pub mod MeaningFacts
 pub mod VerdictFacts
 pub mod HorizonFacts
@@ -29,6 +33,8 @@ mod RowsFlows
 mod RowsValues
 mod RowsRules
 mod RowsAcceptance
+mod RowsAssets
+mod RowsSums
 mod RowsReads
 mod RowsRedexes
 mod RowsResiduals

@@ -3,9 +3,10 @@
 
 ghost use Rattle.std.specs.Prelude.{◌≡◌, ◌≤◌, ◌^◌, ◌↔◌, IfSome, IsTrue, nat_lt};
 ghost use Rattle.term_core.specs.Declarations.{declarations};
+ghost use Rattle.term_core.specs.DayCounts.{day_count};
 ghost use Rattle.term_core.specs.Terms.{expression, contract};
 ghost use Rattle.term_core.specs.WellFormed.{IsClosed, HasOnlyNumbers};
-ghost use Rattle.term_core.specs.Binders.{around, is_declared, is_observable, is_offset, is_transfer, more_of, wanted, wanted_by_contract};
+ghost use Rattle.term_core.specs.Binders.{are_below, around, is_declared, is_observable, is_offset, is_transfer, more_of, wanted, wanted_by_contract};
 
 use crate::decls::Decls;
 use crate::terms::{Contr, Days, Expr};
@@ -93,12 +94,25 @@ fn is_transfer(decls: &Decls, asset: u32, from: u32, to: u32) -> bool
     is_among(asset, decls.assets.len()) && is_among(from, parties) && is_among(to, parties)
 }
 
-fn is_declared(decls: &Decls, days: Days) -> bool
-    ensures { result ≡ is_declared (declarations decls.now) days }
+// Whether each index is below a length.
+fn are_below(len: usize, names: &[u32]) -> bool
+    ensures { result ≡ are_below len names.now }
+{
+    for name in names {
+        if !is_among(*name, len) {
+            return false;
+        }
+    }
+    true
+}
+
+fn is_declared(decls: &Decls, days: &Days) -> bool
+    ensures { result ≡ is_declared (declarations decls.now) (day_count days.now) }
 {
     match days {
         Days::Num { .. } => true,
-        Days::Named { template } => is_among(template, decls.templates.len()),
+        Days::Named { template } => is_among(*template, decls.templates.len()),
+        Days::Sum { sum } => are_below(decls.templates.len(), sum.names.as_slice()),
     }
 }
 
@@ -124,7 +138,7 @@ fn wanted_by_contract(decls: &Decls, c: &Contr) -> Option<u64>
             more_of(wanted(decls, factor), wanted_by_contract(decls, body))
         }
         Contr::After { days, body } => {
-            if is_declared(decls, *days) {
+            if is_declared(decls, days) {
                 wanted_by_contract(decls, body)
             } else {
                 None
@@ -140,7 +154,7 @@ fn wanted_by_contract(decls: &Decls, c: &Contr) -> Option<u64>
             hit,
             miss,
         } => {
-            if is_declared(decls, *days) {
+            if is_declared(decls, days) {
                 let branches = more_of(
                     wanted_by_contract(decls, hit),
                     wanted_by_contract(decls, miss),
@@ -175,6 +189,7 @@ pub fn has_only_numbers(c: &Contr) -> bool
         Contr::After { days, body } => match days {
             Days::Num { .. } => has_only_numbers(body),
             Days::Named { .. } => false,
+            Days::Sum { .. } => false,
         },
         Contr::Within {
             days,
@@ -184,6 +199,7 @@ pub fn has_only_numbers(c: &Contr) -> bool
         } => match days {
             Days::Num { .. } => has_only_numbers(hit) && has_only_numbers(miss),
             Days::Named { .. } => false,
+            Days::Sum { .. } => false,
         },
     }
 }

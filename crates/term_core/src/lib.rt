@@ -50,6 +50,6 @@ pub use shared::SharedContr;
 pub use sharing::{share, unshare};
 pub use shifts::shift_obs;
 pub use sizes::counts;
-pub use terms::{CmpOp, Contr, Counts, Days, Expr, LogicOp, NumOp};
+pub use terms::{CmpOp, Contr, Counts, DaySum, Days, Expr, LogicOp, NumOp};
 pub use trying::{behind, behind_both, behind_contract, behind_node, behind_two};
 pub use values::{Kind, Missing, Value};

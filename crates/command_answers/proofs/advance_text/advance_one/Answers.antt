@@ -1,9 +1,17 @@
-use Rattle.std.proofs.Common.{refl}
+use Rattle.std.proofs.Common.{pos, refl, subst, sym}
+use Rattle.term_core.specs.Acceptance.{IsAccepted}
 use Rattle.term_core.specs.Declarations.{declarations}
-use Rattle.term_core.specs.Terms.{contract}
+use Rattle.term_core.specs.Terms.{Contract, contract}
 use Rattle.command_answers.specs.UsedParts.{entry_of}
 use Rattle.command_answers.proofs.AdvanceFacts.{appends_rest, no_rest}
+use Rattle.command_answers.proofs.LineFacts.{rows_have_lines}
 use Rattle.command_answers.proofs.advance_text.advance_one.Goals as goal
+
+pub keep-requires-clause-lines : goal.keep-requires-clause-lines
+keep-requires-clause-lines c =
+    let d = declarations c.args.course.now.decls.now in
+    let told = c.in-Ok.ensures in
+    rows_have_lines d (contract c.contr.result.now) c.args.course.now.fixings.now (pos d.start) _ c.in-Ok.advanced.due.rows.items (subst (λ (x : Contract). IsAccepted d x) (sym c.contr.ensures) c.requires.accepted) told.0
 
 pub returns-in_ok-keep-in-Ok : goal.returns-in_ok-keep-in-Ok
 returns-in_ok-keep-in-Ok c =

@@ -4,8 +4,13 @@ use Rattle.term_core.specs.Declarations.{declarations}
 use Rattle.report.specs.FlowLines.{AppendsFlowLine}
 use Rattle.command_answers.specs.FlowsParts.{AppendsLines}
 use Rattle.flow_eval.specs.declared.flow_table.FlowRow.{FlowRow}
-use Rattle.command_answers.proofs.LineFacts.{appends_line}
+use Rattle.command_answers.proofs.LineFacts.{appends_line, row_has_line}
 use Rattle.command_answers.proofs.flows_text.append_table.Goals as goal
+
+pub flow_line-requires-clause-multiple : goal.flow_line-requires-clause-multiple
+flow_line-requires-clause-multiple c =
+    row_has_line (declarations c.args.decls.now) c.args.table.now.rows.items c.deref-row-items.result.now c.loop-row.row-index (record { day = pos 0; asset = 0; from = 0; to = 0; amount = pos 0 })
+    c.requires.lines c.deref-row-items.ensures.value (omega arith)
 
 pub loop-row-preserved : goal.loop-row-preserved
 loop-row-preserved c =

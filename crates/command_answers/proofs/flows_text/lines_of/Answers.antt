@@ -10,7 +10,7 @@ use Rattle.flow_eval.specs.declared.flow_table.FlowTable.{FlowTable}
 use Rattle.command_answers.specs.FlowsParts.{AnswersLines, AppendsAll, IsMissingOne}
 use Rattle.command_answers.specs.Stages.{IsMissingOf}
 use Rattle.command_answers.specs.UsedParts.{entries_of, entry_of}
-use Rattle.command_answers.proofs.LineFacts.{lines_behind, lines_of_none, missing_first, rows_writable}
+use Rattle.command_answers.proofs.LineFacts.{lines_behind, lines_of_none, missing_first, rows_have_lines, rows_writable}
 use Rattle.command_answers.proofs.StopFacts.{handed_on}
 use Rattle.command_answers.proofs.UsedFacts.{item_has, left_more, left_none}
 use Rattle.command_answers.proofs.flows_text.lines_of.Goals as goal
@@ -20,8 +20,16 @@ table_of-requires-clause-accepted c =
     subst (λ (x : Contract). IsAccepted (declarations c.args.decls.now) x) (sym c.contr.ensures)
     (item_has (λ (entry : Name × Contract). IsAccepted (declarations c.args.decls.now) entry.1) c.args.ones.now c.loop-one.one-index c.one-item.result c.loop-one-test.true c.one-item.is c.requires.accepted)
 
-pub append_table-requires : goal.append_table-requires
-append_table-requires c = rows_writable c.args.decls.now.start c.args.course.now.last c.in_ok-table.table.rows.items c.requires.last c.in_ok-table.ensures.due
+pub append_table-requires-clause-due : goal.append_table-requires-clause-due
+append_table-requires-clause-due c = rows_writable c.args.decls.now.start c.args.course.now.last c.in_ok-table.table.rows.items c.requires.last c.in_ok-table.ensures.due
+
+pub append_table-requires-clause-lines : goal.append_table-requires-clause-lines
+append_table-requires-clause-lines c =
+    let d = declarations c.args.decls.now in
+    let contr = contract c.contr.result.now in
+    let accepted = item_has (λ (entry : Name × Contract). IsAccepted d entry.1) c.args.ones.now c.loop-one.one-index c.one-item.result c.loop-one-test.true c.one-item.is c.requires.accepted in
+    rows_have_lines d contr c.args.course.now.fixings.now (pos c.args.decls.now.start) c.args.course.now.last c.in_ok-table.table.rows.items
+    (subst (λ (x : Contract). IsAccepted d x) (sym c.contr.ensures) accepted) c.in_ok-table.ensures
 
 pub loop-one-preserved : goal.loop-one-preserved
 loop-one-preserved c = λ r rest.

@@ -10,7 +10,7 @@ use Rattle.command_answers.specs.FlowsParts.{AppendsLines, AppendsTables, AreTab
 use Rattle.command_answers.specs.FlowsPromise.{AreLines}
 use Rattle.command_answers.specs.UsedParts.{entries_of, entry_of}
 use Rattle.command_answers.proofs.LineFacts.{rows_writable}
-use Rattle.command_answers.proofs.SumLineFacts.{all_summable, as_many, sum_due, sum_known}
+use Rattle.command_answers.proofs.SumLineFacts.{all_summable, as_many, sum_due, sum_has_lines, sum_known}
 use Rattle.command_answers.proofs.flows_text.sum_lines.Goals as goal
 
 -- the tables behind no others are those of the contracts
@@ -36,8 +36,8 @@ net-requires-clause-summable c =
     let tables = are_tables d fixings last entries c.deref.result.now c.in_ok-tables.tables.items c.deref.ensures.value c.in_ok-tables.ensures in
     all_summable d fixings last c.args.decls.now.labels_in c.requires.admitted entries c.deref.result.now c.requires.accepted tables
 
-pub append_table-requires : goal.append_table-requires
-append_table-requires c =
+pub append_table-requires-clause-due : goal.append_table-requires-clause-due
+append_table-requires-clause-due c =
     let d = declarations c.args.decls.now in
     let fixings = c.args.course.now.fixings.now in
     let last = c.args.course.now.last in
@@ -46,6 +46,15 @@ append_table-requires c =
     let tables = are_tables d fixings last entries c.deref.result.now c.in_ok-tables.tables.items c.deref.ensures.value c.in_ok-tables.ensures in
     rows_writable c.args.decls.now.start last rows c.requires.last
     (sum_due d fixings last c.args.decls.now.labels_in c.requires.admitted entries c.deref.result.now rows tables c.in_ok-sum.ensures)
+
+pub append_table-requires-clause-lines : goal.append_table-requires-clause-lines
+append_table-requires-clause-lines c =
+    let d = declarations c.args.decls.now in
+    let fixings = c.args.course.now.fixings.now in
+    let last = c.args.course.now.last in
+    let entries = entries_of c.args.ones.now in
+    let tables = are_tables d fixings last entries c.deref.result.now c.in_ok-tables.tables.items c.deref.ensures.value c.in_ok-tables.ensures in
+    sum_has_lines d fixings last c.args.decls.now.labels_in c.requires.admitted entries c.deref.result.now c.in_ok-sum.sum.rows.items c.requires.accepted tables c.in_ok-sum.ensures
 
 pub returns : goal.returns
 returns c =

@@ -7,8 +7,11 @@ use Rattle.payoff_lang.specs.CodeCanon.{IsCanonOfCode}
 use Rattle.payoff_lang.specs.WritableCode.{IsWritableCode}
 use Rattle.command_answers.proofs.payoff_text.code_text.Goals as goal
 
-pub file_text-requires : goal.file_text-requires
-file_text-requires c =
+pub file_text-requires-clause-version : goal.file_text-requires-clause-version
+file_text-requires-clause-version c = ap (λ (f : CodeBook). f.declarations.version) c.in_ok-file.ensures
+
+pub file_text-requires-clause-writable : goal.file_text-requires-clause-writable
+file_text-requires-clause-writable c =
     subst (λ (k : PayoffCode). IsWritableCode k) (sym (ap (λ (f : CodeBook). f.code) c.in_ok-file.ensures)) c.requires
 
 pub returns : goal.returns

@@ -1,26 +1,39 @@
-use Rattle.std.proofs.Common.{◌≡◌, ◌∙◌, ◌++◌, List, ℕ, ap, subst, sym}
+use Rattle.std.proofs.Common.{◌≡◌, ◌∙◌, ◌∷◌, ◌++◌, List, ℕ, ap, subst, sym}
 use Rattle.std.specs.Prelude.{All, option_map}
 use Rattle.std.proofs.lemmas.List.{append-nil}
 use Rattle.std.proofs.lemmas.List.Elements.{All-head, All-tail}
 use Rattle.term_core.specs.declared.name.Name.{Name}
 use Rattle.term_core.specs.declared.terms.Contr.{Contr}
-use Rattle.term_core.specs.Declarations.{declarations}
+use Rattle.term_core.specs.Declarations.{Declarations, declarations}
 use Rattle.term_core.specs.Instances.{HasNumbers, instance}
 use Rattle.term_core.specs.Terms.{Contract, contract}
 use Rattle.command_answers.specs.UsedParts.{IsSound, IsTriable, entries_of}
 use Rattle.command_answers.specs.declared.used.Used.{Used}
-use Rattle.command_answers.proofs.UsedFacts.{more_used, none_used, numbers_given, used_of, used_triable}
+use Rattle.command_answers.proofs.UsedFacts.{defaults_small, more_used, none_used, numbers_given, used_of, used_triable}
 use Rattle.command_answers.proofs.used.used_contracts.Goals as goal
 use Rattle.contract_parse.specs.ContractReading.{trees}
 
-pub instance_of-requires : goal.instance_of-requires
-instance_of-requires c =
-    let d = declarations c.args.portfolio.now.decls in
+-- the next of the contracts that are left is sound
+next_sound : (d : Declarations) (name : Name) (contr : Contr) (before after : List (Name × Contr)) → before ≡ (name, contr) ∷ after → All (λ entry. IsSound d entry.1) (trees before) → IsSound d (contract contr)
+next_sound d name contr before after steps sound =
     let P : Name × Contract → Type 0 = λ entry. IsSound d entry.1 in
+    All-head P (name, contract contr) (trees after) (subst (All P) (ap trees steps) sound)
+
+pub instance_of-requires-clause-numbers : goal.instance_of-requires-clause-numbers
+instance_of-requires-clause-numbers c =
+    let d = declarations c.args.portfolio.now.decls in
     let contr = contract c.in-Some.contr.now in
-    let left = ap trees c.in-Some.ensures.steps in
-    let sound = All-head P (c.in-Some.name.now, contr) (trees c.next.new.self) (subst (All P) left c.loop-name.invariant.sound) in
+    let sound = next_sound d c.in-Some.name.now c.in-Some.contr.now c.loop-name.name-iterator c.next.new.self c.in-Some.ensures.steps c.loop-name.invariant.sound in
     subst (λ (numbers : List ℕ). HasNumbers numbers contr) (sym c.in_ok-setting.ensures) (numbers_given d contr sound)
+
+pub instance_of-requires-clause-sums : goal.instance_of-requires-clause-sums
+instance_of-requires-clause-sums c =
+    let sound = next_sound (declarations c.args.portfolio.now.decls) c.in-Some.name.now c.in-Some.contr.now c.loop-name.name-iterator c.next.new.self c.in-Some.ensures.steps c.loop-name.invariant.sound in
+    sound.sums
+
+pub instance_of-requires-clause-small : goal.instance_of-requires-clause-small
+instance_of-requires-clause-small c =
+    defaults_small (declarations c.args.portfolio.now.decls) c.in_ok-setting.setting.days.items c.args.portfolio.now.decls.templates_in c.in_ok-setting.ensures
 
 pub loop-name-preserved-in-Continue-branch-3 : goal.loop-name-preserved-in-Continue-branch-3
 loop-name-preserved-in-Continue-branch-3 c =

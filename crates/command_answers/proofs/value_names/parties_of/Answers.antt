@@ -1,4 +1,5 @@
 use Rattle.std.proofs.Common.{◌≡◌, ℕ}
+use Rattle.std.specs.Map.{keys_of}
 use Rattle.std.specs.Prelude.{Some}
 use Rattle.term_core.specs.Declarations.{declarations}
 use Rattle.contract_parse.specs.Names.{index_in}
@@ -28,5 +29,5 @@ pub returns-in_err-asset : goal.returns-in_err-asset
 returns-in_err-asset c =
     let d = declarations c.args.decls.now in
     let between = between_by c.args.between.now in
-    handed_on (λ (index : ℕ). index_in d.assets between.asset ≡ Some index) (λ (p : Parties). AreBetween d between (flow_of p)) (IsUndeclared d.assets between.asset) (IsUnknownBetween d between)
+    handed_on (λ (index : ℕ). index_in (keys_of d.assets) between.asset ≡ Some index) (λ (p : Parties). AreBetween d between (flow_of p)) (IsUndeclared (keys_of d.assets) between.asset) (IsUnknownBetween d between)
     (no_asset d between c.in_ok-from.from c.in_ok-to.to c.in_ok-from.ensures c.in_ok-to.ensures) c.in_err-asset.field-0.0 c.from_residual-in_err-asset.result c.in_err-asset.ensures c.from_residual-in_err-asset.ensures.1

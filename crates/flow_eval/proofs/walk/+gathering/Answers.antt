@@ -3,6 +3,7 @@ use Rattle.std.specs.Int.{w128}
 use Rattle.std.specs.List.{All}
 use Rattle.std.proofs.lemmas.Int.{to_z-of_z}
 use Rattle.term_core.specs.Declarations.{declarations}
+use Rattle.term_core.specs.DayCounts.{day_count}
 use Rattle.term_core.specs.Terms.{contract, expression, Within}
 use Rattle.term_core.specs.Values.{kinds, num}
 use Rattle.term_core.specs.Kinds.{scale_of}
@@ -29,33 +30,33 @@ gather-returns-then-is_over-clause-answer t c = λ g bs stand.
 pub gather_within-gather-requires : goal.gather_within-gather-requires
 gather_within-gather-requires t c = (
   search rules,
-  hit_ready (declarations c.args.course.now.decls.now) c.args.course.now.fixings.now c.args.here c.after.result c.args.scratch.now c.first_day.new.scratch (Within (expression c.args.test.now) c.args.days.now (contract c.args.hit.now) (contract c.args.miss.now)) (expression c.args.test.now) c.args.days.now (contract c.args.hit.now) (contract c.args.miss.now) (contract c.args.hit.now) c.in_ok-first.field-0 c.in-Some.first c.number-days.result
+  hit_ready (declarations c.args.course.now.decls.now) c.args.course.now.fixings.now c.args.here c.after.result c.args.scratch.now c.first_day.new.scratch (Within (expression c.args.test.now) (day_count c.args.days.now) (contract c.args.hit.now) (contract c.args.miss.now)) (expression c.args.test.now) (day_count c.args.days.now) (contract c.args.hit.now) (contract c.args.miss.now) (contract c.args.hit.now) c.in_ok-first.field-0 c.in-Some.first c.number-days.result
       refl c.number-days.ensures c.in_ok-first.ensures.found c.in-Some.is c.after.ensures refl c.first_day.ensures.same c.requires.ready c.requires.days,
 )
 
 pub gather_within-gather-requires-in-None : goal.gather_within-gather-requires-in-None
 gather_within-gather-requires-in-None t c = (
   search rules,
-  miss_ready (declarations c.args.course.now.decls.now) c.args.course.now.fixings.now c.args.here c.after-in-None.result c.args.scratch.now c.first_day.new.scratch (Within (expression c.args.test.now) c.args.days.now (contract c.args.hit.now) (contract c.args.miss.now)) (expression c.args.test.now) c.args.days.now (contract c.args.hit.now) (contract c.args.miss.now) (contract c.args.miss.now) c.number-days.result
+  miss_ready (declarations c.args.course.now.decls.now) c.args.course.now.fixings.now c.args.here c.after-in-None.result c.args.scratch.now c.first_day.new.scratch (Within (expression c.args.test.now) (day_count c.args.days.now) (contract c.args.hit.now) (contract c.args.miss.now)) (expression c.args.test.now) (day_count c.args.days.now) (contract c.args.hit.now) (contract c.args.miss.now) (contract c.args.miss.now) c.number-days.result
       refl c.number-days.ensures c.after-in-None.ensures refl c.first_day.ensures.same c.requires.ready c.requires.days,
 )
 
 pub gather_within-returns-in-Some-clause-answer : goal.gather_within-returns-in-Some-clause-answer
 gather_within-returns-in-Some-clause-answer t c = λ g bs stand.
-    hit_noted (declarations c.args.course.now.decls.now) c.args.course.now.fixings.now c.args.course.now.until c.args.here c.after.result (Within (expression c.args.test.now) c.args.days.now (contract c.args.hit.now) (contract c.args.miss.now)) (expression c.args.test.now) c.args.days.now (contract c.args.hit.now) (contract c.args.miss.now) (contract c.args.hit.now) g bs false c.first_day.result c.in_ok-first.field-0 c.in-Some.first c.number-days.result c.args.out.now.items c.gather.new.out.items c.gather.result
+    hit_noted (declarations c.args.course.now.decls.now) c.args.course.now.fixings.now c.args.course.now.until c.args.here c.after.result (Within (expression c.args.test.now) (day_count c.args.days.now) (contract c.args.hit.now) (contract c.args.miss.now)) (expression c.args.test.now) (day_count c.args.days.now) (contract c.args.hit.now) (contract c.args.miss.now) (contract c.args.hit.now) g bs false c.first_day.result c.in_ok-first.field-0 c.in-Some.first c.number-days.result c.args.out.now.items c.gather.new.out.items c.gather.result
     refl (not_over c.args.course.now.until c.args.here.day c.requires.in_time) refl c.number-days.ensures (c.first_day.ensures.answer g bs stand) c.in_ok-first.was c.in-Some.is c.after.ensures refl
     (c.gather.ensures.answer g bs (stand_in c.args.course.now.fixings.now c.args.scratch.now c.first_day.new.scratch g bs c.first_day.ensures.same stand))
 
 pub gather_within-returns-in-None-clause-answer : goal.gather_within-returns-in-None-clause-answer
 gather_within-returns-in-None-clause-answer t c = λ g bs stand.
-    miss_noted (declarations c.args.course.now.decls.now) c.args.course.now.fixings.now c.args.course.now.until c.args.here c.after-in-None.result (Within (expression c.args.test.now) c.args.days.now (contract c.args.hit.now) (contract c.args.miss.now)) (expression c.args.test.now) c.args.days.now (contract c.args.hit.now) (contract c.args.miss.now) (contract c.args.miss.now) g bs false c.first_day.result c.in_ok-first.field-0 c.number-days.result c.args.out.now.items c.gather-in-None.new.out.items c.gather-in-None.result
+    miss_noted (declarations c.args.course.now.decls.now) c.args.course.now.fixings.now c.args.course.now.until c.args.here c.after-in-None.result (Within (expression c.args.test.now) (day_count c.args.days.now) (contract c.args.hit.now) (contract c.args.miss.now)) (expression c.args.test.now) (day_count c.args.days.now) (contract c.args.hit.now) (contract c.args.miss.now) (contract c.args.miss.now) g bs false c.first_day.result c.in_ok-first.field-0 c.number-days.result c.args.out.now.items c.gather-in-None.new.out.items c.gather-in-None.result
     refl (not_over c.args.course.now.until c.args.here.day c.requires.in_time) refl c.number-days.ensures (c.first_day.ensures.answer g bs stand) c.in_ok-first.was c.in-None.is c.after-in-None.ensures refl
     (c.gather-in-None.ensures.answer g bs (stand_in c.args.course.now.fixings.now c.args.scratch.now c.first_day.new.scratch g bs c.first_day.ensures.same stand))
 
 pub gather_within-returns-in_err-first-clause-answer : goal.gather_within-returns-in_err-first-clause-answer
 gather_within-returns-in_err-first-clause-answer t c = λ g bs stand.
     let err : c.from_residual.result ≡ Err (lacks_place c.in_err-first.field-0.0) = grind (arith, c.from_residual.ensures) in
-    test_missing (declarations c.args.course.now.decls.now) c.args.course.now.fixings.now c.args.course.now.until c.args.here (Within (expression c.args.test.now) c.args.days.now (contract c.args.hit.now) (contract c.args.miss.now)) (expression c.args.test.now) c.args.days.now (contract c.args.hit.now) (contract c.args.miss.now) g bs false c.first_day.result c.in_err-first.field-0.0 c.number-days.result c.args.out.now.items c.args.out.now.items c.from_residual.result
+    test_missing (declarations c.args.course.now.decls.now) c.args.course.now.fixings.now c.args.course.now.until c.args.here (Within (expression c.args.test.now) (day_count c.args.days.now) (contract c.args.hit.now) (contract c.args.miss.now)) (expression c.args.test.now) (day_count c.args.days.now) (contract c.args.hit.now) (contract c.args.miss.now) g bs false c.first_day.result c.in_err-first.field-0.0 c.number-days.result c.args.out.now.items c.args.out.now.items c.from_residual.result
     refl (not_over c.args.course.now.until c.args.here.day c.requires.in_time) refl c.number-days.ensures (c.first_day.ensures.answer g bs stand) c.in_err-first.was err
 
 pub gather-returns-in_ok-gather-in-Both-clause-answer : goal.gather-returns-in_ok-gather-in-Both-clause-answer
@@ -65,7 +66,7 @@ gather-returns-in_ok-gather-in-Both-clause-answer t c = λ g bs stand.
     (c.gather-in-Both.ensures.answer g bs (stand_in c.args.course.now.fixings.now c.args.scratch.now c.gather.new.scratch g bs c.gather.ensures.same stand))
 
 pub gather_within-first_day-requires-clause-ready : goal.gather_within-first_day-requires-clause-ready
-gather_within-first_day-requires-clause-ready t c = ready_test (declarations c.args.course.now.decls.now) (expression c.args.test.now) c.args.days.now (contract c.args.hit.now) (contract c.args.miss.now) c.args.here.decimals c.args.scratch.now c.args.course.now.fixings.now c.requires.ready
+gather_within-first_day-requires-clause-ready t c = ready_test (declarations c.args.course.now.decls.now) (expression c.args.test.now) (day_count c.args.days.now) (contract c.args.hit.now) (contract c.args.miss.now) c.args.here.decimals c.args.scratch.now c.args.course.now.fixings.now c.requires.ready
 
 -- ---- a name
 

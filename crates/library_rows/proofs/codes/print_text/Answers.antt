@@ -6,5 +6,8 @@ use Rattle.library_rows.proofs.codes.print_text.Goals as goal
 pub print_code-requires : goal.print_code-requires
 print_code-requires c =
     let file = c.in-Ok.file in
-    c.printable_is_writable.ensures (declarations file.decls) (payoff_code file.code)
-    (c.code_of_text_is_printable.ensures c.args.text.now (code_book file) c.in-Ok.ensures.answer)
+    record {
+      version = c.in-Ok.ensures.answer.version;
+      writable = c.printable_is_writable.ensures (declarations file.decls) (payoff_code file.code)
+          (c.code_of_text_is_printable.ensures c.args.text.now (code_book file) c.in-Ok.ensures.answer);
+    }

@@ -1,0 +1,5 @@
+use Rattle.command_answers.proofs.MigrateFacts.{decimals_in_version_two}
+use Rattle.command_answers.proofs.migrate_text.in_version_two.Goals as goal
+
+pub invariant_of-result-clause-decimals_in : goal.invariant_of-result-clause-decimals_in
+invariant_of-result-clause-decimals_in c = decimals_in_version_two c.args.decls.version c.args.decls.amounts c.args.decls.assets.entries c.args.decls.decimals_in

@@ -1,0 +1,12 @@
+-- `migrate PORTFOLIO`: the portfolio of the text; and then its text in version 2, with all else equal.
+use Rattle.std.specs.Prelude.{ℕ, List}
+use Rattle.contract_print.specs.Canon.{IsCanon}
+use Rattle.contract_print.specs.Migrated.{migrated}
+use Rattle.command_answers.specs.Course.{Course, behind, tells}
+use Rattle.command_answers.specs.Inputs.{file_at}
+use Rattle.command_answers.specs.Stages.{portfolio_of}
+
+abbrev pub migrate_course : List (List ℕ) → Course
+migrate_course inputs =
+    behind (portfolio_of (file_at inputs 0)) (λ b.
+    tells (λ text. IsCanon text (migrated b)))
