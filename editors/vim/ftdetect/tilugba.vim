@@ -4,7 +4,7 @@ function! s:DetectTilugba() abort
     if line =~# '^\s*\%(#.*\)\=$'
       continue
     endif
-    if line =~# '^\s*\%(portfolio\|payoff\)\s\+1\s*;'
+    if line =~# '^\s*\%(portfolio\|payoff\)\s\+[12]\s*;'
       setlocal filetype=tilugba commentstring=#\ %s
     endif
     return

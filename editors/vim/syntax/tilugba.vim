@@ -1,5 +1,5 @@
 " Vim syntax file for Tilugba: portfolios and payoff code, by the tokens and the reserved words of docs/FORMATS.md.
-" Copy the folders below editors/vim to ~/.vim. A file is known by its first statement, `portfolio 1;` or `payoff 1;`.
+" Copy the folders below editors/vim to ~/.vim. A file is known by its first statement, such as `portfolio 1;`, `portfolio 2;` or `payoff 1;`.
 if exists("b:current_syntax")
   finish
 endif
