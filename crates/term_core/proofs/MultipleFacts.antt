@@ -1,5 +1,5 @@
 -- What an accepted contract pays in an asset is a whole number at the asset's decimals.
-use Rattle.std.proofs.Common.{◌≡◌, ℕ, ℤ, pos, negsuc, ◌++◌, nat_le, ◌+ℤ◌, ◌-ℤ◌, ◌*ℤ◌, ◌≤◌, ◌+◌, ◌-◌, ◌^◌, ◌==◌, max, ◌&&◌, not, Bool, true, false, if◌then◌else◌, List, [], ◌∷◌, Option, Some, None, inl, inr, refl, ap, ap₂, sym, subst, ◌∙◌, leb-true, arith}
+use Rattle.std.proofs.Common.{◌≡◌, ℕ, ℤ, pos, negsuc, nat_le, ◌+ℤ◌, ◌-ℤ◌, ◌*ℤ◌, ◌≤◌, ◌+◌, ◌-◌, ◌^◌, ◌==◌, max, ◌&&◌, not, Bool, true, false, if◌then◌else◌, List, [], ◌∷◌, Option, Some, None, inl, inr, ap, ap₂, sym, subst, ◌∙◌, leb-true, arith}
 use Rattle.std.specs.Ordering.{int_eq}
 use Rattle.std.proofs.lemmas.Bool.{cases_Bool, and_parts}
 use Rattle.std.proofs.lemmas.Bool.Decides.{nat_tests}
@@ -7,16 +7,15 @@ use Rattle.decimal.specs.Rounding.{raised}
 use Rattle.decimal.proofs.RoundedFacts.{raised_none}
 use Rattle.term_core.specs.Declarations.{Declarations, decimals_of}
 use Rattle.term_core.specs.declared.rules.Rule.TheVariants.{Scale as ScaleRule}
-use Rattle.term_core.specs.declared.values.Value.{Value}
 use Rattle.term_core.specs.Terms.{Contract, Zero, Pay, Both, Scale, After, Let, Within}
 use Rattle.term_core.specs.Environments.{Environment}
-use Rattle.term_core.specs.Kinds.{kind_of, scale_of}
-use Rattle.term_core.specs.Values.{Entry, kinds, num, kind_or, value_of, entry_of, first_true}
-use Rattle.term_core.specs.Flows.{Flow, flow_of, amount_of, count_of, scale_of_contract, unit_flow, on_day_zero}
+use Rattle.term_core.specs.Kinds.{scale_of}
+use Rattle.term_core.specs.Values.{Entry, kinds, num, value_of, entry_of, first_true}
+use Rattle.term_core.specs.Flows.{Flow, flow_of, count_of, scale_of_contract, unit_flow, on_day_zero}
 use Rattle.term_core.specs.Sizes.{nodes, nodes_of_contract}
 use Rattle.term_core.specs.AssetScales.{assets_are_scaled, payments_fit}
 use Rattle.term_core.specs.Sites.{Site, Layer, Naming, Later, Undated, Trial, Once, sites_of, sites_of_contract, contract_at, AllPass}
-use Rattle.term_core.specs.Acceptance.{IsAccepted, Passes}
+use Rattle.term_core.specs.Acceptance.{Passes}
 use Rattle.term_core.specs.LawsScales.{IsMultiple, AmountsAreMultiples}
 use Rattle.term_core.proofs.FlowFacts.{raised-zero}
 use Rattle.term_core.proofs.Products.{mul-assoc, raised-raised, sum-mul}

@@ -4,7 +4,7 @@ use Rattle.std.proofs.Common.{◌≡◌, ◌-◌, ℕ, ℤ, pos, [], ◌∷◌, 
 use Rattle.std.proofs.lemmas.Int.{ints}
 use Rattle.term_core.specs.Declarations.{Declarations, decimals_of, at_one_scale}
 use Rattle.term_core.specs.declared.rules.Rule.TheVariants.{Scale as ScaleRule, Time}
-use Rattle.term_core.specs.Terms.{Contract, Lit, Zero, Pay, Both, Scale}
+use Rattle.term_core.specs.Terms.{Contract, Lit, Pay, Both, Scale}
 use Rattle.term_core.specs.Flows.{Flow, amount_of, scale_of_contract}
 use Rattle.term_core.specs.AssetScales.{scale_in_asset}
 use Rattle.term_core.specs.Sites.{EachDay, Once, sites}

@@ -1,7 +1,7 @@
 -- The laws of scales in assets: what an accepted contract pays in an asset is a whole number at the asset's decimals; a
 -- part that has no greater scale, as a whole and in each asset, keeps the rule on scales; and what is accepted is
 -- accepted where each asset has the decimals of the amounts.
-use Rattle.std.specs.Prelude.{ℕ, ℤ, ◌≡◌, ◌≤◌, ◌-◌, ◌+◌, ◌∷◌, List, Bool, true, nat_le}
+use Rattle.std.specs.Prelude.{ℕ, ℤ, ◌≡◌, ◌≤◌, ◌-◌, ◌∷◌, List, true}
 use Rattle.decimal.specs.Rounding.{raised}
 use Rattle.term_core.specs.Declarations.{Declarations, decimals_of, at_one_scale}
 use Rattle.term_core.specs.declared.values.Kind.{Kind}
