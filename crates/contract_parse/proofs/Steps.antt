@@ -74,7 +74,7 @@ module _ (test : Tok → Bool) (fails : Fails test) where
   so_goes_on : (t : Tok) (rest : List ℕ) → true ≡ test t → t ∷ tokens_after t.kind rest ≡ t ∷ tokens rest
   so_goes_on t rest e = ap (λ b. t ∷ cond b [] (tokens rest)) (so_more t.kind t.text t.left (sym e))
 
-  so_takes : (t : Tok) (bytes rest : List ℕ) → tokens bytes ≡ t ∷ tokens_after t.kind rest → true ≡ test t → tokens bytes ≡ t ∷ tokens rest
+  pub so_takes : (t : Tok) (bytes rest : List ℕ) → tokens bytes ≡ t ∷ tokens_after t.kind rest → true ≡ test t → tokens bytes ≡ t ∷ tokens rest
   so_takes t bytes rest starts e = starts ∙ so_goes_on t rest e
 
   -- the same of a token that is read ahead

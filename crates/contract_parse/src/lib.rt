@@ -43,11 +43,13 @@ pub use decls::read_decls;
 pub use exprs::read_expr;
 pub use faults::{ReadErr, Refusal};
 pub use heads::{AmountHead, Language, amount_head_at};
-pub use judges::refuse;
+pub use judges::{integer_at, literal_at, refuse};
 pub use lines::fault_at;
+pub use names::index_in_map;
 pub use readers::{
-    after_mark, after_word, read_binder, read_date_number, read_end, read_new_name,
-    read_use_behind, read_use_of_map, skip_mark, skip_version, skip_word,
+    after_mark, after_word, read_binder, read_date_number, read_end, read_integer, read_literal,
+    read_mode, read_new_name, read_use_behind, read_use_of_map, read_use_of_set, skip_mark,
+    skip_version, skip_word,
 };
 pub use token::{Kind, Lexeme};
-pub use words::{Lookahead, look, next};
+pub use words::{Lookahead, is_name, is_the_mark, look, next};
