@@ -11,6 +11,7 @@ pub mod NodeTests
 pub mod SafeFacts
 pub mod SumFacts
 pub mod TurnoverFacts
+pub mod VolumeFacts
 pub mod ContractSafeFacts
 pub mod PartFacts
 pub mod GuaranteeFacts

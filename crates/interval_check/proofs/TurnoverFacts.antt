@@ -40,7 +40,7 @@ pub inside_let : (d : Declarations) (e : Expression) (g : List Range) (es : List
 inside_let d e g es env f inside h =
     (ap (λ (ks : List Kind). kind_or (kind_of d e ks)) (sym (same_kinds g es inside)), h, inside)
 
-both_at_most : (x y a b p q : ℕ) → x ≤ a → y ≤ b → x * p + y * q ≤ a * p + b * q
+pub both_at_most : (x y a b p q : ℕ) → x ≤ a → y ≤ b → x * p + y * q ≤ a * p + b * q
 both_at_most x y a b p q h g =
     let left = mul-le-mul_right p h in
     let right = mul-le-mul_right q g in
@@ -52,7 +52,7 @@ product_at_most x y a b h g =
     let two = mul-le-mul_left a g in
     omega arith
 
-branch_at_most : (o : Option ℕ) (x : ℕ → ℕ) (y a b p q : ℕ) → ((k : ℕ) → x k ≤ a) → y ≤ b → elim o [ Some k ↦ x k * p | None ↦ y * q ] ≤ max (a * p) (b * q)
+pub branch_at_most : (o : Option ℕ) (x : ℕ → ℕ) (y a b p q : ℕ) → ((k : ℕ) → x k ≤ a) → y ≤ b → elim o [ Some k ↦ x k * p | None ↦ y * q ] ≤ max (a * p) (b * q)
 branch_at_most (Some k) x y a b p q h g = let left = mul-le-mul_right p (h k) in omega arith
 branch_at_most None x y a b p q h g = let right = mul-le-mul_right q g in omega arith
 

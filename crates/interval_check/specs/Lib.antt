@@ -1,6 +1,7 @@
 pub mod Nodes
 pub mod Within
 pub mod Sums
+pub mod Volumes
 pub mod Safety
 pub mod ContractSafety
 pub mod Parts

@@ -2,6 +2,7 @@
 //! caller takes the law by calling it.
 
 ghost use Rattle.interval_check.specs.Guarantees.{DeclsKeepLimits, RulesAreByStructure, AcceptedMeetRules, PartsMeetRules, ClosedNeedNoNames, ValuesLieInIntervals, ExpressionsAreSafe, BindingsLieWithin, ContractsAreSafe, AcceptedAreSafe, PartsOfAcceptedAreSafe, ClosedPartsAreSafe, FlowsAddUpToTotal, AmountsAddUpToTotal};
+ghost use Rattle.interval_check.specs.Volumes.{AllFlowsAddUpToTotal, AllAmountsAddUpToTotal};
 ghost use Rattle.interval_check.specs.Narrowing.{IntervalsAreMonotone, TotalsAreMonotone, RulesAreMonotone, ContractRulesAreMonotone};
 ghost use Rattle.interval_check.specs.Replacing.{PartsStandForThemselves, ReplacementsCompose, RewrittenReplaces, RewrittenContractReplaces, RewrittenMeetRules, ValuesReplace, BranchesReplace, ContractPartsReplace};
 
@@ -44,6 +45,12 @@ pub fn accepted_contracts_are_safe()
 pub fn payments_add_up_to_total()
     ensures flows { FlowsAddUpToTotal }
     ensures amounts { AmountsAddUpToTotal }
+{}
+
+/// Over all days, pairs of parties and assets at once, what a contract pays adds up to at most its total.
+pub fn all_payments_add_up_to_total()
+    ensures flows { AllFlowsAddUpToTotal }
+    ensures amounts { AllAmountsAddUpToTotal }
 {}
 
 /// Where names have narrower ranges, expressions have narrower intervals and contracts no greater totals, and the rules
