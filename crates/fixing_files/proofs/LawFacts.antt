@@ -142,7 +142,7 @@ sound_at d (Some l) (Some t) text q v label day h =
     let parts = placed_is p q (value_said (label_of d l) text) v h in
     subst (λ (x : Place). IsSound d x v) parts.0 (record { label = label l refl; day = day t refl; value = value_in_label (label_of d l) text v parts.1 })
 
-said_sound : (d : Declarations) (fields : Fields) (q : Place) (v : Value) → said d fields ≡ Ok (q, v) → IsSound d q v
+pub said_sound : (d : Declarations) (fields : Fields) (q : Place) (v : Value) → said d fields ≡ Ok (q, v) → IsSound d q v
 unfolding said
 said_sound d [] q v h = absurd (cc)
 said_sound d (a ∷ []) q v h = absurd (cc)

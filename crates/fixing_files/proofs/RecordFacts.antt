@@ -33,6 +33,19 @@ three_is (a ∷ b ∷ c ∷ []) x y z three e f g =
     λ i. Some (one i, two i, last i)
 three_is (a ∷ b ∷ c ∷ d ∷ more) x y z three e f g = absurd (omega (arith, three))
 
+-- the three fields are the record's
+pub three_listed : (fs : Fields) (x y z : List ℕ) → Some (x, y, z) ≡ three_of fs → fs ≡ x ∷ y ∷ z ∷ []
+three_listed [] x y z e = absurd (cc)
+three_listed (a ∷ []) x y z e = absurd (cc)
+three_listed (a ∷ b ∷ []) x y z e = absurd (cc)
+three_listed (a ∷ b ∷ c ∷ []) x y z e =
+    let triple : (x, y, z) ≡ (a, b, c) = cc in
+    let one : a ≡ x = ap (λ (p : List ℕ × List ℕ × List ℕ). p.0) (sym triple) in
+    let two : b ≡ y = ap (λ (p : List ℕ × List ℕ × List ℕ). p.1) (sym triple) in
+    let last : c ≡ z = ap (λ (p : List ℕ × List ℕ × List ℕ). p.2) (sym triple) in
+    λ i. one i ∷ two i ∷ last i ∷ []
+three_listed (a ∷ b ∷ c ∷ d ∷ more) x y z e = absurd (cc)
+
 pub header_is : (fs : Fields) (x y z : List ℕ) → Some (x, y, z) ≡ three_of fs → true ≡ bytes_eq x (codes "label") → true ≡ bytes_eq y (codes "day") → bytes_eq z (codes "value") ≡ is_header fs
 header_is fs x y z three label day =
     let here : bytes_eq z (codes "value") ≡ are_header (Some (x, y, z)) = rw (sym label, sym day) refl in

@@ -1,6 +1,7 @@
 pub mod Days
 pub mod Runs
 pub mod RunPlaces
+pub mod Layers
 pub mod Records
 pub mod Tables
 pub mod Readers

@@ -4,7 +4,7 @@ use Rattle.std.specs.Prelude.{◌≡◌, ◌↔◌, ◌<◌, ◌<ℤ◌, ◌+◌
 use Rattle.std.specs.Ordering.{int_eq}
 use Rattle.std.specs.declared.vec.Vec.{Vec}
 use Rattle.std.specs.declared.alloc.Global.{Global}
-use Rattle.term_core.specs.Environments.{Environment, Place, same_place, held}
+use Rattle.term_core.specs.Environments.{Environment, Place, same_place, held, value_or}
 use Rattle.term_core.specs.declared.values.Value.{Value}
 use Rattle.term_core.specs.declared.values.Value.TheVariants.{Truth}
 use Rattle.fixing_files.specs.declared.runs.FixedDay.{FixedDay}
@@ -56,3 +56,8 @@ LendsDays env l run =
 -- a pair is added to a map, and nothing else changes
 abbrev pub AddsPair : Environment → Environment → Place → Value → Type 0
 AddsPair before after q v = (p : Place) → held after p ≡ (if same_place q p then Some v else held before p)
+
+-- a pair is added unless the place is held already, and nothing else changes
+abbrev pub AddsUnlessHeld : Environment → Environment → Place → Value → Type 0
+AddsUnlessHeld before after q v =
+    (p : Place) → held after p ≡ (if same_place q p then Some (value_or (held before q) v) else held before p)

@@ -4,7 +4,7 @@ ghost use Rattle.std.specs.Prelude.{◌≡◌, ◌<◌, ◌^◌, [], OnErr, OnOk
 ghost use Rattle.term_core.specs.Declarations.{declarations};
 ghost use Rattle.term_core.specs.Environments.{IsAdmitted, IsValueOf, held, label_of};
 ghost use Rattle.fixing_files.specs.Records.{IsFixingDay};
-ghost use Rattle.fixing_files.specs.Runs.{AddsPair, AreRising, IsRising, LendsDays, values_of};
+ghost use Rattle.fixing_files.specs.Runs.{AddsPair, AddsUnlessHeld, AreRising, IsRising, LendsDays, values_of};
 
 use crate::runs::{FixedDay, search, value_on};
 use decimal::NoMemory;
@@ -75,6 +75,21 @@ impl Fixings {
         }
     }
 
+    // Fixes a value at a place that is not fixed yet.
+    fn insert(&mut self, label: u32, day: i64, value: Value) -> Result<(), NoMemory>
+        requires absent { held self.old (record { label = label; day = day }) ≡ None }
+        ensures added { OnOk result (AddsPair self.old self.new (record { label = label; day = day }) value) }
+        ensures kept { OnErr result (self.new ≡ self.old) }
+    {
+        reach(self.alloc, &mut self.runs, label as usize)?;
+        let run = &mut self.runs[label as usize];
+        let Err(at) = search(run, day) else {
+            return Ok(());
+        };
+        run.insert(at, FixedDay { day, value })?;
+        Ok(())
+    }
+
     /// Fixes a value at a place that is not fixed yet: a declared label, by its number, and a day from 3,000,000 before
     /// the origin to 3,000,000 after it. The value lies within the label's declaration.
     pub fn put(&mut self, decls: &Decls, label: u32, day: i64, value: Value) -> Result<(), NoMemory>
@@ -85,12 +100,17 @@ impl Fixings {
         ensures kept { OnErr result (self.new ≡ self.old) }
         ensures admitted { OnOk result (IsAdmitted (declarations decls.now) self.old → IsAdmitted (declarations decls.now) self.new) }
     {
-        reach(self.alloc, &mut self.runs, label as usize)?;
-        let run = &mut self.runs[label as usize];
-        let Err(at) = search(run, day) else {
-            return Ok(());
-        };
-        run.insert(at, FixedDay { day, value })?;
-        Ok(())
+        self.insert(label, day, value)
+    }
+
+    // Fixes a value at a label, by its number, on a day, unless the place is fixed already.
+    pub(crate) fn add(&mut self, label: u32, day: i64, value: Value) -> Result<(), NoMemory>
+        ensures added { OnOk result (AddsUnlessHeld self.old self.new (record { label = label; day = day }) value) }
+        ensures kept { OnErr result (self.new ≡ self.old) }
+    {
+        match self.get(label, day) {
+            Some(_) => Ok(()),
+            None => self.insert(label, day, value),
+        }
     }
 }

@@ -1,6 +1,6 @@
 //! What one record says.
 
-ghost use Rattle.std.specs.Prelude.{◌≡◌, IfSome, Some, option_map, true};
+ghost use Rattle.std.specs.Prelude.{◌≡◌, ◌∷◌, [], IfSome, Some, option_map, true};
 ghost use Rattle.csv.specs.Records.{fields_of};
 ghost use Rattle.term_core.specs.Declarations.{declarations};
 ghost use Rattle.term_core.specs.Environments.{label_of};
@@ -18,7 +18,7 @@ use term_core::{Decls, Label, Value};
 const LAST_DAY: i64 = 3_000_000;
 
 /// A label, by its number among the declared ones, and a day of the portfolio.
-#[derive(Clone, Copy, Debug, PartialEq, Eq)]
+#[derive(Clone, Copy, Debug, PartialEq, Eq, PartialOrd, Ord, Drop)]
 pub struct Place {
     pub label: u32,
     pub day: i64,
@@ -70,14 +70,16 @@ fn day_said(origin: Option<i64>, text: &[u8]) -> Option<i64>
     }
 }
 
-/// The value that a record says is fixed, and the place, or the first rule that the record breaks.
+/// The value that the texts of a label, a day and a value say is fixed, and the place, or the first rule that they break.
 #[tactic(auto, unfolding(crate::specs::Records::said))]
-pub fn entry_of(decls: &Decls, record: &ByteRecord) -> Result<(Place, Value), RowKind>
-    ensures { Tells (said (declarations decls.now) (fields_of «record».now)) result }
+pub fn entry_at(
+    decls: &Decls,
+    name: &[u8],
+    day: &[u8],
+    value: &[u8],
+) -> Result<(Place, Value), RowKind>
+    ensures { Tells (said (declarations decls.now) (name.now ∷ day.now ∷ value.now ∷ [])) result }
 {
-    let Some((name, day, value)) = three(record) else {
-        return Err(RowKind::Shape);
-    };
     let Some((label, declared)) = label_named(decls, name) else {
         return Err(RowKind::Label);
     };
@@ -88,4 +90,15 @@ pub fn entry_of(decls: &Decls, record: &ByteRecord) -> Result<(Place, Value), Ro
         Ok(value) => Ok((Place { label, day }, value)),
         Err(kind) => Err(kind),
     }
+}
+
+/// The value that a record says is fixed, and the place, or the first rule that the record breaks.
+#[tactic(auto, unfolding(crate::specs::Records::said))]
+pub fn entry_of(decls: &Decls, record: &ByteRecord) -> Result<(Place, Value), RowKind>
+    ensures { Tells (said (declarations decls.now) (fields_of «record».now)) result }
+{
+    let Some((name, day, value)) = three(record) else {
+        return Err(RowKind::Shape);
+    };
+    entry_at(decls, name, day, value)
 }

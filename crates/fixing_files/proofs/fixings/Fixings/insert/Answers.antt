@@ -1,12 +1,11 @@
 use Rattle.std.proofs.Common.{◌≡◌, ◌∙◌, ℤ, set, sym, subst, arith, w64}
 use Rattle.std.specs.List.{insert}
 use Rattle.std.proofs.lemmas.Int.{to_z-of_z}
-use Rattle.term_core.specs.Declarations.{declarations}
 use Rattle.term_core.specs.Environments.{Environment}
 use Rattle.fixing_files.specs.Runs.{AddsPair, IsRising, run_at, values_of}
 use Rattle.fixing_files.specs.RunPlaces.{IsGapFor}
-use Rattle.fixing_files.proofs.RunFacts.{adds_pair, admitted_more, grown_label, not_on, on_err, rising-insert, run_read, runs_long, value_on-insert, values_of-kept}
-use Rattle.fixing_files.proofs.fixings.Fixings.put.Goals as goal
+use Rattle.fixing_files.proofs.RunFacts.{adds_pair, grown_label, not_on, on_err, rising-insert, run_read, runs_long, value_on-insert, values_of-kept}
+use Rattle.fixing_files.proofs.fixings.Fixings.insert.Goals as goal
 
 pub search-requires : goal.search-requires
 search-requires c =
@@ -54,7 +53,3 @@ returns-clause-added c =
     let items : c.insert.new.self.items ≡ insert run c.in-Err.at (record { day = c.args.day; value = c.args.value }) = rw (to_z-of_z w64 c.args.day c.ranges.day) at c.in_ok-insert.ensures.items in
     let added = adds_pair runs c.args.label c.insert.new.self c.args.day c.args.value (omega (arith, c.in_ok-reach.ensures.reached, runs_long c.reach.new.runs)) (λ (p : ℤ). rw (items, at) (value_on-insert run c.args.day c.args.value c.in-Err.at gap p)) in
     subst (λ (env : Environment). AddsPair env (values_of (set runs c.args.label c.insert.new.self)) (record { label = c.args.label; day = c.args.day }) c.args.value) (c.reach.ensures.same ∙ c.self.view_is) added
-
-pub returns-clause-admitted : goal.returns-clause-admitted
-returns-clause-admitted c =
-    admitted_more (declarations c.args.decls.now) c.args.self.now _ c.args.label c.args.day c.args.value (returns-clause-added c) c.requires.value
