@@ -1,0 +1,20 @@
+use Rattle.std.proofs.Common.{◌∷◌, refl, rules}
+use Rattle.contract_parse.specs.Reading.{tok_of}
+use Rattle.schedule_forms.specs.PlanJudgements.{times_at}
+use Rattle.contract_parse.proofs.Passing.{stopped}
+use Rattle.contract_parse.proofs.Steps.{spells}
+use Rattle.schedule_forms.specs.PlanPlaces.{TimesAt, Next}
+use Rattle.schedule_forms.proofs.PlanSteps.{plan_passes, plan_refuses}
+use Rattle.schedule_forms.proofs.readers.read_count.Goals as goal
+
+pub returns-in-Ok : goal.returns-in-Ok
+returns-in-Ok c = record {
+  reads = record {
+    follows = λ names ps. plan_passes (times_at c.args.most c.args.first c.args.every) (λ text left. (refl, refl)) names names (TimesAt c.args.most c.args.first c.args.every ∷ ps) (ps) (λ n. Next names ps) c.in-Ok.count (tok_of c.next.result.0) c.args.rest.now c.next.result.1.now c.next.ensures.starts c.in-Ok.ensures refl refl;
+    spelled = spells (times_at c.args.most c.args.first c.args.every) (λ text left. (refl, refl)) c.in-Ok.count (tok_of c.next.result.0) c.args.rest.now c.next.result.1.now c.next.ensures.starts c.in-Ok.ensures;
+    shorter = search rules;
+  };
+}
+
+pub returns-in-Err : goal.returns-in-Err
+returns-in-Err c = record { reads = stopped (λ names ps. rw c.refuse.ensures (plan_refuses (times_at c.args.most c.args.first c.args.every) names (TimesAt c.args.most c.args.first c.args.every ∷ ps) (λ n. Next names ps) c.in-Err.kind (tok_of c.next.result.0) c.args.rest.now c.next.result.1.now c.next.ensures.starts c.in-Err.ensures refl)) }
