@@ -4,7 +4,7 @@ ghost use Rattle.std.specs.Prelude.{◌≡◌, ◌+◌, ◌+ℤ◌, ◌-ℤ◌, 
 ghost use Rattle.term_core.specs.Declarations.{declarations};
 ghost use Rattle.term_core.specs.Terms.{expression};
 ghost use Rattle.expr_eval.specs.Bindings.{bindings};
-ghost use Rattle.expr_eval.specs.Runs.{both_run, day_run, days_run, observation, of_binding, run_of, untyped};
+ghost use Rattle.expr_eval.specs.Runs.{both_run, day_run, days_run, kind_observed, observation, of_binding, of_place, run_of, untyped};
 ghost use Rattle.expr_eval.specs.Fits.{DayFitsIn, DaysFitIn, Fits, IsDay};
 ghost use Rattle.expr_eval.specs.Evaluations.{conditional_over, logic_over};
 
@@ -33,6 +33,24 @@ pub fn value_bound(names: &Bindings, back: u32) -> Result<Typed, Missing>
     }
 }
 
+/// What was found at a label on a day, with its kind, or the place as one that is missing.
+pub fn value_found(
+    decls: &Decls,
+    label: u32,
+    day: i64,
+    found: Option<Value>,
+) -> Result<Typed, Missing>
+    ensures { result ≡ of_place (kind_observed (declarations decls.now) label) found label day }
+{
+    match found {
+        Some(value) => Ok(Typed {
+            kind: kind_observed(decls, label),
+            value,
+        }),
+        None => Err(Missing { label, day }),
+    }
+}
+
 /// The value of what is observed on a day.
 pub fn value_observed(
     decls: &Decls,
@@ -42,13 +60,7 @@ pub fn value_observed(
 ) -> Result<Typed, Missing>
     ensures { result ≡ observation (declarations decls.now) fixings.now label day }
 {
-    match fixings.get(label, day) {
-        Some(value) => Ok(Typed {
-            kind: kind_observed(decls, label),
-            value,
-        }),
-        None => Err(Missing { label, day }),
-    }
+    value_found(decls, label, day, fixings.get(label, day))
 }
 
 /// A day that many days later; an offset may be negative.
