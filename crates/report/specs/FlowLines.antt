@@ -34,11 +34,13 @@ name_at names place = elim (slice_get names place) [ Some name ↦ name | None �
 abbrev pub field : List ℕ → List ℕ
 field text = 44 ∷ text
 
--- what stands behind the payer: whom it pays in what, and the amount at the asset's decimals
+-- the end of a line: an asset, and an amount at its decimals
+abbrev pub amount_text : Declarations → ℕ → ℤ → List ℕ
+amount_text d asset amount = field (name_at (keys_of d.assets) asset) ++ (field (text_of amount (decimals_of d asset)) ++ line_feed)
+
+-- what stands behind the payer: whom it pays in what, and how much
 abbrev pub behind_payer : Declarations → FlowRow → ℤ → List ℕ
-behind_payer d row amount =
-    field (name_at d.parties row.to)
-    ++ (field (name_at (keys_of d.assets) row.asset) ++ (field (text_of amount (decimals_of d row.asset)) ++ line_feed))
+behind_payer d row amount = field (name_at d.parties row.to) ++ amount_text d row.asset amount
 
 -- and behind the day: who pays, and that
 abbrev pub terms_text : Declarations → FlowRow → ℤ → List ℕ
@@ -52,24 +54,28 @@ line_with d name day row amount = name ++ (field day ++ terms_text d row amount)
 abbrev pub line_on : Decls → List ℕ → Piece → FlowRow → ℤ → List ℕ
 line_on decls name day row amount = line_with (declarations decls) name (piece_text day) row amount
 
--- the amount of a row in units of its asset's decimals
-abbrev pub IsAmountInAsset : Declarations → FlowRow → ℤ → Type 0
-IsAmountInAsset d row amount = row.amount ≡ raised amount (d.amounts - decimals_of d row.asset)
+-- the same amount of an asset, in units of the portfolio's least decimal and in units of the asset's
+abbrev pub IsAmountInAsset : Declarations → ℕ → ℤ → ℤ → Type 0
+IsAmountInAsset d asset amount in_asset = amount ≡ raised in_asset (d.amounts - decimals_of d asset)
 
--- what is paid in each asset is a whole number at the asset's decimals
+-- an amount of an asset is a whole number at the asset's decimals
+abbrev pub IsWholeInAsset : Declarations → ℕ → ℤ → Type 0
+IsWholeInAsset d asset amount = IsMultiple amount (d.amounts - decimals_of d asset)
+
+-- what is paid in each asset is such an amount
 abbrev pub PaysInAssets : Declarations → (ℤ → Flow → ℤ) → Type 0
-PaysInAssets d pays = (day : ℤ) (w : Flow) → IsMultiple (pays day w) (d.amounts - decimals_of d w.asset)
+PaysInAssets d pays = (day : ℤ) (w : Flow) → IsWholeInAsset d w.asset (pays day w)
 
 -- each row has an amount that a line can say
 abbrev pub HaveLines : Declarations → List FlowRow → Type 0
-HaveLines d rows = All (λ row. IsMultiple row.amount (d.amounts - decimals_of d row.asset)) rows
+HaveLines d rows = All (λ row. IsWholeInAsset d row.asset row.amount) rows
 
 -- the line of a row of the named contract
 pub record IsFlowLine (d : Declarations) (name : List ℕ) (row : FlowRow) (line : List ℕ) : Type 0 where
   pub day : List ℕ
   pub is_day : IsDayText d.origin row.day day
   pub amount : ℤ
-  pub is_amount : IsAmountInAsset d row amount
+  pub is_amount : IsAmountInAsset d row.asset row.amount amount
   pub is_line : line ≡ line_with d name day row amount
 
 -- the text after is the text before and the line of the row

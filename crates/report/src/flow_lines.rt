@@ -1,15 +1,14 @@
 //! The lines of flow tables.
 
-ghost use Rattle.std.specs.Prelude.{◌≡◌, ◌-◌, ◌≤ℤ◌, ◌+ℤ◌, ◌++◌, pos, Some, OnOk, OnErr};
+ghost use Rattle.std.specs.Prelude.{◌≡◌, ◌≤ℤ◌, ◌+ℤ◌, ◌++◌, pos, Some, OnOk, OnErr};
 ghost use Rattle.std.specs.Map.{keys_of};
 ghost use Rattle.decimal.specs.Appending.{AppendsPart};
 ghost use Rattle.term_core.specs.Dates.{epoch_day_of};
-ghost use Rattle.term_core.specs.Declarations.{declarations, decimals_of};
-ghost use Rattle.term_core.specs.LawsScales.{IsMultiple};
+ghost use Rattle.term_core.specs.Declarations.{declarations};
 ghost use Rattle.interval_check.specs.Safety.{IsSmall};
 ghost use Rattle.flow_eval.specs.Readiness.{last_day};
 ghost use Rattle.report.specs.Pieces.{piece_text, IsWritable};
-ghost use Rattle.report.specs.FlowLines.{AppendsFlowLine, AppendsPartOfLine, IsAmountInAsset, IsOrigin, line_on, name_at};
+ghost use Rattle.report.specs.FlowLines.{AppendsFlowLine, AppendsPartOfLine, IsAmountInAsset, IsOrigin, IsWholeInAsset, line_on, name_at};
 
 use crate::pieces::{Piece, append};
 use decimal::{Mode, NoMemory, round_to};
@@ -18,8 +17,8 @@ use indexmap::{IndexMap, IndexSet};
 use std::alloc::Global;
 use term_core::{Decls, Name, date_text};
 
-// A declared name.
-fn name_piece<'a>(names: &'a IndexSet<Name>, place: u32) -> Piece<'a>
+/// A declared name.
+pub fn name_piece<'a>(names: &'a IndexSet<Name>, place: u32) -> Piece<'a>
     ensures text { piece_text result ≡ name_at names.now.keys place }
     ensures writable { IsWritable result }
 {
@@ -29,8 +28,8 @@ fn name_piece<'a>(names: &'a IndexSet<Name>, place: u32) -> Piece<'a>
     }
 }
 
-// The name of an asset.
-fn asset_piece<'a>(assets: &'a IndexMap<Name, u8>, place: u32) -> Piece<'a>
+/// The name of an asset.
+pub fn asset_piece<'a>(assets: &'a IndexMap<Name, u8>, place: u32) -> Piece<'a>
     ensures text { piece_text result ≡ name_at (keys_of assets.now.entries) place }
     ensures writable { IsWritable result }
 {
@@ -76,23 +75,18 @@ fn append_line<'a>(
     append(alloc, out, &pieces)
 }
 
-// The amount of a row in units of its asset's decimals.
-fn amount_in_asset(decls: &Decls, row: &FlowRow) -> i128
-    requires small { IsSmall row.now.amount }
-    requires multiple { IsMultiple row.now.amount (decls.now.amounts - decimals_of (declarations decls.now) row.now.asset) }
+/// An amount in units of its asset's decimals.
+pub fn amount_in_asset(decls: &Decls, asset: u32, amount: &i128) -> i128
+    requires small { IsSmall amount.now }
+    requires whole { IsWholeInAsset (declarations decls.now) asset amount.now }
     ensures small { IsSmall result }
-    ensures exact { IsAmountInAsset (declarations decls.now) row.now result }
+    ensures exact { IsAmountInAsset (declarations decls.now) asset amount.now result }
 {
-    round_to(
-        Mode::Floor,
-        row.amount,
-        decls.amounts,
-        decls.decimals(row.asset),
-    )
+    round_to(Mode::Floor, *amount, decls.amounts, decls.decimals(asset))
 }
 
-// The date of a day.
-fn date_of(origin: i64, day: i64) -> [u8; 10]
+/// The date of a day of a portfolio that has an origin.
+pub fn date_of(origin: i64, day: i64) -> [u8; 10]
     requires origin { IsOrigin origin }
     requires first { pos 0 ≤ℤ day }
     requires last { day ≤ℤ pos last_day }
@@ -114,11 +108,11 @@ pub fn flow_line(
     requires first { pos 0 ≤ℤ row.now.day }
     requires last { row.now.day ≤ℤ pos last_day }
     requires amount { IsSmall row.now.amount }
-    requires multiple { IsMultiple row.now.amount (decls.now.amounts - decimals_of (declarations decls.now) row.now.asset) }
+    requires multiple { IsWholeInAsset (declarations decls.now) row.now.asset row.now.amount }
     ensures ok { OnOk result (AppendsFlowLine (declarations decls.now) name.now row.now out.old.items out.new.items) }
     ensures err { OnErr result (AppendsPartOfLine (declarations decls.now) name.now row.now out.old.items out.new.items) }
 {
-    let amount = amount_in_asset(decls, row);
+    let amount = amount_in_asset(decls, row.asset, &row.amount);
     match decls.origin {
         None => {
             let day = Piece::Number {

@@ -20,6 +20,7 @@ mod value_lines;
 
 pub use check_lines::check_line;
 pub use fault_lines::{Fault, fault_line};
-pub use flow_lines::flow_line;
+pub use flow_lines::{amount_in_asset, asset_piece, date_of, flow_line, name_piece};
+pub use pieces::{Piece, append};
 pub use sums::net;
 pub use value_lines::value_line;
