@@ -1,0 +1,386 @@
+-- What follows of payments in turn: they pay just what is due; each settles one of its two parties, so they are few, and no
+-- two of them stand between the same two parties.
+use Rattle.std.proofs.Common.{◌≡◌, ℕ, zero, suc, ◌+◌, ◌-◌, ◌≤◌, ◌<◌, ℤ, pos, neg_ℤ, ◌+ℤ◌, ◌-ℤ◌, ◌<ℤ◌, ◌≤ℤ◌, unsigned_abs, min, max, Bool, true, false, ◌&&◌, ◌==◌, int_eq, cond, if◌then◌else◌, inl, inr, ◌⊎◌, List, [], ◌∷◌, length, get_or, refl, ap, sym, ◌∙◌, subst, arith}
+use Rattle.std.specs.Int.{int_min}
+use Rattle.std.specs.List.{All, Contains, count_by, filter}
+use Rattle.std.specs.List.Sorted.{IsPermutation, IsSortedByKey}
+use Rattle.std.specs.Ordering.{is_lt}
+use Rattle.std.specs.Fn.{Mut, Called, ComputesKey}
+use denote.Ref.{Bor}
+use Rattle.std.proofs.lemmas.Fn.{always_returns_same}
+use Rattle.std.proofs.lemmas.Int.{ints}
+use Rattle.std.proofs.lemmas.Bool.{eq-eqb, eqb-true}
+use Rattle.std.proofs.lemmas.List.Elements.{All-nil, All-cons, All-head, All-tail}
+use Rattle.std.proofs.lemmas.List.Sums.{sum_by-cons}
+use Rattle.std.proofs.lemmas.List.Sorted.{ranks_by, sorted_far, sum_by-IsPermutation}
+use Rattle.flow_eval.specs.declared.flow_table.FlowRow.{FlowRow}
+use Rattle.flow_eval.specs.declared.flow_table.Slot.{Slot}
+use Rattle.flow_eval.specs.Netting.{same_slot}
+use Rattle.flow_eval.specs.Tables.{AreOrdered, Precedes, slot_of}
+use Rattle.flow_eval.proofs.SlotFacts.{IsUpTo, same_slot_decides, slot_cmp, slot_cmp_total, upto_from_cmp}
+use Rattle.exposure.specs.Sums.{sum_over}
+use Rattle.exposure.specs.Positions.{is_on, brings}
+use Rattle.exposure.specs.Settlement.{IsTurn, PayInTurn, IsPayment, due_after}
+use Rattle.exposure.specs.Turns.{ArePairedOnce}
+use Rattle.exposure.proofs.RenamingFacts.{member, member_cases, by_member}
+use Rattle.exposure.proofs.AccountFacts.{by_test}
+
+-- ---- what is paid is what is due
+
+left_over : (b d : ℤ) (s : ℤ) → s ≡ d -ℤ b → b +ℤ s ≡ d
+left_over b d s h = omega (arith, ints)
+
+pub paid_total : (due : ℕ → ℤ) (rows : List FlowRow) → PayInTurn due rows → (p : ℕ) → sum_over rows (brings p) ≡ due p
+paid_total due [] h p = sym (h p)
+paid_total due (row ∷ rows) h p =
+    left_over (brings p row) (due p) (sum_over rows (brings p)) (paid_total (due_after due row) rows h.1 p)
+
+-- ---- each turn settles one of its two parties
+
+parties_differ : (due : ℕ → ℤ) (row : FlowRow) → IsTurn due row → row.from ≡ row.to → ⊥
+parties_differ due row h e = no (due row.from) (due row.to) (ap due e) h.payer.owes h.payee.owed
+  where
+    no : (x y : ℤ) → x ≡ y → x <ℤ pos 0 → pos 0 <ℤ y → ⊥
+    no x y e h k = omega (arith, ints)
+
+lesser_positive : (m x y : ℤ) → m ≡ int_min (neg_ℤ x) y → x <ℤ pos 0 → pos 0 <ℤ y → pos 0 <ℤ m
+lesser_positive m x y e h k = grind (arith, ints)
+
+pub turn_pays : (due : ℕ → ℤ) (row : FlowRow) → IsTurn due row → IsPayment row
+turn_pays due row h =
+    record { some = lesser_positive row.amount (due row.from) (due row.to) h.lesser h.payer.owes h.payee.owed; different = parties_differ due row h }
+
+payer_part : (to from : Bool) (m d : ℤ) → to ≡ false → from ≡ true → d -ℤ ((if to then m else pos 0) -ℤ (if from then m else pos 0)) ≡ d +ℤ m
+payer_part to from m d h k = rw (h, k) (omega (arith, ints))
+
+payee_part : (to from : Bool) (m d : ℤ) → to ≡ true → from ≡ false → d -ℤ ((if to then m else pos 0) -ℤ (if from then m else pos 0)) ≡ d -ℤ m
+payee_part to from m d h k = rw (h, k) (omega (arith, ints))
+
+pub other_part : (to from : Bool) (m d : ℤ) → to ≡ false → from ≡ false → d -ℤ ((if to then m else pos 0) -ℤ (if from then m else pos 0)) ≡ d
+other_part to from m d h k = rw (h, k) (omega (arith, ints))
+
+pub not_same : (p q : ℕ) → (p ≡ q → ⊥) → (p == q) ≡ false
+not_same p q h = by_test ((p == q) ≡ false) (p == q) (λ t. absurd (h (eqb-true p q t))) (λ t. t)
+
+payer_after : (due : ℕ → ℤ) (row : FlowRow) → IsTurn due row → due_after due row row.from ≡ due row.from +ℤ row.amount
+payer_after due row h =
+    payer_part (row.to == row.from) (row.from == row.from) row.amount (due row.from) (not_same row.to row.from (λ e. parties_differ due row h (sym e))) (eq-eqb row.from row.from refl)
+
+payee_after : (due : ℕ → ℤ) (row : FlowRow) → IsTurn due row → due_after due row row.to ≡ due row.to -ℤ row.amount
+payee_after due row h =
+    payee_part (row.to == row.to) (row.from == row.to) row.amount (due row.to) (eq-eqb row.to row.to refl) (not_same row.from row.to (parties_differ due row h))
+
+one_zero : (x y m a b : ℤ) → m ≡ int_min (neg_ℤ x) y → a ≡ x +ℤ m → b ≡ y -ℤ m → (a ≡ pos 0) ⊎ (b ≡ pos 0)
+one_zero x y m a b e h k = grind (arith, ints)
+
+pub one_settled : (due : ℕ → ℤ) (row : FlowRow) → IsTurn due row → (due_after due row row.from ≡ pos 0) ⊎ (due_after due row row.to ≡ pos 0)
+one_settled due row h =
+    one_zero (due row.from) (due row.to) row.amount (due_after due row row.from) (due_after due row row.to) h.lesser (payer_after due row h) (payee_after due row h)
+
+-- a party to which nothing is due takes no part
+abbrev IsNotOf : ℕ → FlowRow → Type 0
+IsNotOf z row = (row.from ≡ z → ⊥) × (row.to ≡ z → ⊥)
+
+below_not : (x : ℤ) → x <ℤ pos 0 → x ≡ pos 0 → ⊥
+below_not x h e = omega (arith, ints)
+
+above_not : (x : ℤ) → pos 0 <ℤ x → x ≡ pos 0 → ⊥
+above_not x h e = omega (arith, ints)
+
+not_of_turn : (due : ℕ → ℤ) (row : FlowRow) (z : ℕ) → IsTurn due row → due z ≡ pos 0 → IsNotOf z row
+not_of_turn due row z h e = (
+  (λ same. below_not (due row.from) h.payer.owes (ap due same ∙ e)),
+  (λ same. above_not (due row.to) h.payee.owed (ap due same ∙ e)),
+)
+
+still_nothing : (due : ℕ → ℤ) (row : FlowRow) (z : ℕ) → IsNotOf z row → due z ≡ pos 0 → due_after due row z ≡ pos 0
+still_nothing due row z h e =
+    other_part (row.to == z) (row.from == z) row.amount (due z) (not_same row.to z h.1) (not_same row.from z h.0) ∙ e
+
+silent : (due : ℕ → ℤ) (rows : List FlowRow) (z : ℕ) → PayInTurn due rows → due z ≡ pos 0 → All (IsNotOf z) rows
+silent due [] z h e = All-nil (IsNotOf z)
+silent due (row ∷ rows) z h e =
+    let here = not_of_turn due row z h.0 e in
+    All-cons (IsNotOf z) row rows here (silent (due_after due row) rows z h.1 (still_nothing due row z here e))
+
+-- ---- no payment is more than what is due at first
+
+lesser_within : (m x y : ℤ) (n : ℕ) → m ≡ int_min (neg_ℤ x) y → x <ℤ pos 0 → pos 0 <ℤ y → unsigned_abs y ≤ n → unsigned_abs m ≤ n
+lesser_within m x y n e h k l = let some = lesser_positive m x y e h k in let most = lesser_most m x y e in omega (arith, ints)
+  where
+    lesser_most : (m x y : ℤ) → m ≡ int_min (neg_ℤ x) y → m ≤ℤ y
+    lesser_most m x y e = grind (arith, ints)
+
+payer_within : (a x y m : ℤ) (n : ℕ) → m ≡ int_min (neg_ℤ x) y → x <ℤ pos 0 → pos 0 <ℤ y → a ≡ x +ℤ m → unsigned_abs x ≤ n → unsigned_abs a ≤ n
+payer_within a x y m n e h k s l = let some = lesser_positive m x y e h k in let most = lesser_most m x y e in omega (arith, ints)
+  where
+    lesser_most : (m x y : ℤ) → m ≡ int_min (neg_ℤ x) y → m ≤ℤ neg_ℤ x
+    lesser_most m x y e = grind (arith, ints)
+
+payee_within : (a x y m : ℤ) (n : ℕ) → m ≡ int_min (neg_ℤ x) y → x <ℤ pos 0 → pos 0 <ℤ y → a ≡ y -ℤ m → unsigned_abs y ≤ n → unsigned_abs a ≤ n
+payee_within a x y m n e h k s l = let some = lesser_positive m x y e h k in let most = lesser_most m x y e in omega (arith, ints)
+  where
+    lesser_most : (m x y : ℤ) → m ≡ int_min (neg_ℤ x) y → m ≤ℤ y
+    lesser_most m x y e = grind (arith, ints)
+
+-- nothing more is due than that
+abbrev IsDueWithin : ℕ → (ℕ → ℤ) → Type 0
+IsDueWithin n due = (p : ℕ) → unsigned_abs (due p) ≤ n
+
+due_within : (n : ℕ) (due : ℕ → ℤ) (row : FlowRow) → IsTurn due row → IsDueWithin n due → IsDueWithin n (due_after due row)
+due_within n due row h all p =
+    by_test (unsigned_abs (due_after due row p) ≤ n) (row.from == p)
+    (λ t. subst (λ (q : ℕ). unsigned_abs (due_after due row q) ≤ n) (eqb-true row.from p t) (payer_within (due_after due row row.from) (due row.from) (due row.to) row.amount n h.lesser h.payer.owes h.payee.owed (payer_after due row h) (all row.from)))
+    (λ t. by_test (unsigned_abs (due_after due row p) ≤ n) (row.to == p)
+    (λ u. subst (λ (q : ℕ). unsigned_abs (due_after due row q) ≤ n) (eqb-true row.to p u) (payee_within (due_after due row row.to) (due row.from) (due row.to) row.amount n h.lesser h.payer.owes h.payee.owed (payee_after due row h) (all row.to)))
+    (λ u. subst (λ (x : ℤ). unsigned_abs x ≤ n) (sym (other_part (row.to == p) (row.from == p) row.amount (due p) u t)) (all p)))
+
+pub paid_within : (n : ℕ) (due : ℕ → ℤ) (rows : List FlowRow) → PayInTurn due rows → IsDueWithin n due → All (λ row. unsigned_abs row.amount ≤ n) rows
+paid_within n due [] h all = All-nil (λ row. unsigned_abs row.amount ≤ n)
+paid_within n due (row ∷ rows) h all =
+    All-cons (λ r. unsigned_abs r.amount ≤ n) row rows (lesser_within row.amount (due row.from) (due row.to) n h.0.lesser h.0.payer.owes h.0.payee.owed (all row.to)) (paid_within n (due_after due row) rows h.1 (due_within n due row h.0 all))
+
+-- ---- few rows
+
+-- a list of parties without one
+abbrev without : ℕ → List ℕ → List ℕ
+without z [] = []
+without z (p ∷ ps) = if p == z then without z ps else p ∷ without z ps
+
+without_less : (b : Bool) (p : ℕ) (ps : List ℕ) (n : ℕ) → length ps ≤ n → length (if b then ps else p ∷ ps) ≤ suc n
+without_less true p ps n h = omega arith
+without_less false p ps n h = omega arith
+
+no_longer : (z : ℕ) (ps : List ℕ) → length (without z ps) ≤ length ps
+no_longer z [] = omega arith
+no_longer z (p ∷ ps) = without_less (p == z) p (without z ps) (length ps) (no_longer z ps)
+
+gone : (b : Bool) (p : ℕ) (ps : List ℕ) (n : ℕ) → b ≡ true → length ps ≤ n → length (if b then ps else p ∷ ps) + 1 ≤ suc n
+gone true p ps n e h = omega arith
+gone false p ps n e h = absurd (cc)
+
+gone_later : (b : Bool) (p : ℕ) (ps : List ℕ) (n : ℕ) → length ps + 1 ≤ n → length (if b then ps else p ∷ ps) + 1 ≤ suc n
+gone_later true p ps n h = omega arith
+gone_later false p ps n h = omega arith
+
+shorter : (z : ℕ) (ps : List ℕ) → Contains ps z → length (without z ps) + 1 ≤ length ps
+shorter z [] h = absurd (by_member z h)
+shorter z (p ∷ ps) h =
+    elim (member_cases z p ps h) [
+      | inl e ↦ gone (p == z) p (without z ps) (length ps) (eq-eqb p z e) (no_longer z ps)
+      | inr k ↦ gone_later (p == z) p (without z ps) (length ps) (shorter z ps k)
+    ]
+
+kept_here : (b : Bool) (p q : ℕ) (ps : List ℕ) → b ≡ false → p ≡ q → Contains (if b then ps else p ∷ ps) q
+kept_here true p q ps e h = absurd (cc)
+kept_here false p q ps e h = member q p ps (inl (sym h))
+
+kept_later : (b : Bool) (p q : ℕ) (ps : List ℕ) → Contains ps q → Contains (if b then ps else p ∷ ps) q
+kept_later true p q ps h = h
+kept_later false p q ps h = member q p ps (inr h)
+
+kept : (z q : ℕ) (ps : List ℕ) → (q ≡ z → ⊥) → Contains ps q → Contains (without z ps) q
+kept z q [] h k = k
+kept z q (p ∷ ps) h k =
+    elim (member_cases q p ps k) [
+      | inl e ↦ kept_here (p == z) p q (without z ps) (not_same p z (λ t. h (sym e ∙ t))) e
+      | inr l ↦ kept_later (p == z) p q (without z ps) (kept z q ps h l)
+    ]
+
+-- all parties to which something is due
+abbrev HoldsDue : (ℕ → ℤ) → List ℕ → Type 0
+HoldsDue due ps = (p : ℕ) → (due p ≡ pos 0 → ⊥) → Contains ps p
+
+not_held : (x : ℤ) (P : Type 0) → ((x ≡ pos 0 → ⊥) → P) → (P → ⊥) → x ≡ pos 0
+not_held x P f g = by_test (x ≡ pos 0) (int_eq x (pos 0)) (λ t. grind (arith, ints)) (λ t. absurd (g (f (λ e. no x t e))))
+  where
+    no : (x : ℤ) → int_eq x (pos 0) ≡ false → x ≡ pos 0 → ⊥
+    no x t e = grind (arith, ints)
+
+-- what is left is held without the party that is settled
+still_held : (due : ℕ → ℤ) (row : FlowRow) (z : ℕ) (ps : List ℕ) → IsTurn due row → due_after due row z ≡ pos 0 → HoldsDue due ps → HoldsDue (due_after due row) (without z ps)
+still_held due row z ps h e held = λ p some.
+    let apart : p ≡ z → ⊥ = λ same. some (ap (due_after due row) same ∙ e) in
+    kept z p ps apart (by p some)
+  where
+    of_row : (p : ℕ) → (p ≡ row.from) ⊎ (p ≡ row.to) → Contains ps p
+    of_row p (inl same) = held p (λ nothing. below_not (due row.from) h.payer.owes (ap due (sym same) ∙ nothing))
+    of_row p (inr same) = held p (λ nothing. above_not (due row.to) h.payee.owed (ap due (sym same) ∙ nothing))
+
+    by : (p : ℕ) → (due_after due row p ≡ pos 0 → ⊥) → Contains ps p
+    by p some =
+        by_test (Contains ps p) (row.from == p) (λ t. of_row p (inl (sym (eqb-true row.from p t))))
+        (λ t. by_test (Contains ps p) (row.to == p) (λ u. of_row p (inr (sym (eqb-true row.to p u))))
+        (λ u. held p (λ nothing. some (other_part (row.to == p) (row.from == p) row.amount (due p) u t ∙ nothing))))
+
+one_less : (n m k : ℕ) → n ≤ m - 1 → m + 1 ≤ k → 1 ≤ m → n + 1 ≤ k - 1
+one_less n m k h g l = omega arith
+
+has_one : (p : ℕ) (ps : List ℕ) → Contains ps p → 1 ≤ length ps
+has_one p [] h = absurd (by_member p h)
+has_one p (q ∷ ps) h = omega arith
+
+fewer : (due : ℕ → ℤ) (row : FlowRow) (rows : List FlowRow) (ps : List ℕ) (z y : ℕ) → IsTurn due row → due_after due row z ≡ pos 0 → HoldsDue due ps → Contains ps z → Contains ps y → (y ≡ z → ⊥) → length rows ≤ length (without z ps) - 1 → length (row ∷ rows) ≤ length ps - 1
+fewer due row rows ps z y h e held here there apart rest =
+    let less = shorter z ps here in
+    let one = has_one y (without z ps) (kept z y ps apart there) in
+    let all = one_less (length rows) (length (without z ps)) (length ps) rest less one in
+    omega arith
+
+pub few_turns : (due : ℕ → ℤ) (rows : List FlowRow) (ps : List ℕ) → PayInTurn due rows → HoldsDue due ps → length rows ≤ length ps - 1
+few_turns due [] ps h held = omega arith
+few_turns due (row ∷ rows) ps h held =
+    let payer : Contains ps row.from = held row.from (below_not (due row.from) h.0.payer.owes) in
+    let payee : Contains ps row.to = held row.to (above_not (due row.to) h.0.payee.owed) in
+    elim (one_settled due row h.0) [
+      | inl e ↦ fewer due row rows ps row.from row.to h.0 e held payer payee (λ same. parties_differ due row h.0 (sym same)) (few_turns (due_after due row) rows (without row.from ps) h.1 (still_held due row row.from ps h.0 e held))
+      | inr e ↦ fewer due row rows ps row.to row.from h.0 e held payee payer (parties_differ due row h.0) (few_turns (due_after due row) rows (without row.to ps) h.1 (still_held due row row.to ps h.0 e held))
+    ]
+
+-- ---- no two rows at one slot
+
+abbrev at_slot : Slot → FlowRow → Bool
+at_slot s row = same_slot s (slot_of row)
+
+count_cons : {X : Type 0} (p : X → Bool) (x : X) (xs : List X) → count_by p (x ∷ xs) ≡ cond (p x) 1 0 + count_by p xs
+count_cons p x xs = sum_by-cons (λ y. cond (p y) 1 0) x xs
+
+counted : (b : Bool) → b ≡ true → cond b 1 0 ≡ (let n : ℕ = 1 in n)
+counted true e = refl
+counted false e = absurd (cc)
+
+not_counted : (b : Bool) → b ≡ false → cond b 1 0 ≡ (let n : ℕ = 0 in n)
+not_counted true e = absurd (cc)
+not_counted false e = refl
+
+none_counted : {X : Type 0} (p : X → Bool) (xs : List X) → All (λ x. p x ≡ false) xs → count_by p xs ≡ 0
+none_counted p [] h = refl
+none_counted p (x ∷ xs) h =
+    omega (arith, count_cons p x xs, not_counted (p x) (All-head (λ y. p y ≡ false) x xs h), none_counted p xs (All-tail (λ y. p y ≡ false) x xs h))
+
+involved : (a b c d : ℕ) → min a b ≡ min c d → max a b ≡ max c d → (c ≡ a → ⊥) → (d ≡ a → ⊥) → ⊥
+involved a b c d low high h k =
+    by_test ⊥ (c == a) (λ t. h (eqb-true c a t)) (λ t. by_test ⊥ (d == a) (λ u. k (eqb-true d a u)) (λ u. no a b c d low high (apart c a t) (apart d a u)))
+  where
+    apart : (x y : ℕ) → (x == y) ≡ false → x ≡ y → ⊥
+    apart x y t e = let u : (x == y) ≡ true = eq-eqb x y e in cc
+
+    no : (a b c d : ℕ) → min a b ≡ min c d → max a b ≡ max c d → (c ≡ a → ⊥) → (d ≡ a → ⊥) → ⊥
+    no a b c d low high h k = omega arith
+
+swapped_min : (a b : ℕ) → min a b ≡ min b a
+swapped_min a b = omega arith
+
+swapped_max : (a b : ℕ) → max a b ≡ max b a
+swapped_max a b = omega arith
+
+other_slot : (row next : FlowRow) (z : ℕ) → (z ≡ row.from) ⊎ (z ≡ row.to) → IsNotOf z next → slot_of row ≡ slot_of next → ⊥
+other_slot row next z (inl e) h same =
+    involved row.from row.to next.from next.to (ap (λ (s : Slot). s.lower) same) (ap (λ (s : Slot). s.higher) same) (λ k. h.0 (k ∙ sym e)) (λ k. h.1 (k ∙ sym e))
+other_slot row next z (inr e) h same =
+    involved row.to row.from next.from next.to (swapped_min row.to row.from ∙ ap (λ (s : Slot). s.lower) same) (swapped_max row.to row.from ∙ ap (λ (s : Slot). s.higher) same) (λ k. h.0 (k ∙ sym e)) (λ k. h.1 (k ∙ sym e))
+
+none_at_slot : (s : Slot) (row : FlowRow) (z : ℕ) (rows : List FlowRow) → (z ≡ row.from) ⊎ (z ≡ row.to) → at_slot s row ≡ true → All (IsNotOf z) rows → All (λ next. at_slot s next ≡ false) rows
+none_at_slot s row z [] of h all = All-nil (λ next. at_slot s next ≡ false)
+none_at_slot s row z (next ∷ rows) of h all =
+    All-cons (λ r. at_slot s r ≡ false) next rows
+    (by_test (at_slot s next ≡ false) (at_slot s next) (λ t. absurd (other_slot row next z of (All-head (IsNotOf z) next rows all) (sym ((same_slot_decides s (slot_of row)).0 h) ∙ (same_slot_decides s (slot_of next)).0 t))) (λ t. t))
+    (none_at_slot s row z rows of h (All-tail (IsNotOf z) next rows all))
+
+one_and_no_more : (n m k : ℕ) → n ≡ m + k → m ≡ 1 → k ≡ 0 → n ≤ 1
+one_and_no_more n m k e h g = omega arith
+
+no_and_one : (n m k : ℕ) → n ≡ m + k → m ≡ 0 → k ≤ 1 → n ≤ 1
+no_and_one n m k e h g = omega arith
+
+pub once_in_turn : (s : Slot) (due : ℕ → ℤ) (rows : List FlowRow) → PayInTurn due rows → count_by (at_slot s) rows ≤ 1
+once_in_turn s due [] h = omega arith
+once_in_turn s due (row ∷ rows) h = by (at_slot s row) refl (once_in_turn s (due_after due row) rows h.1)
+  where
+    none : at_slot s row ≡ true → count_by (at_slot s) rows ≡ 0
+    none t =
+        elim (one_settled due row h.0) [
+          | inl e ↦ none_counted (at_slot s) rows (none_at_slot s row row.from rows (inl refl) t (silent (due_after due row) rows row.from h.1 e))
+          | inr e ↦ none_counted (at_slot s) rows (none_at_slot s row row.to rows (inr refl) t (silent (due_after due row) rows row.to h.1 e))
+        ]
+
+    by : (b : Bool) → at_slot s row ≡ b → count_by (at_slot s) rows ≤ 1 → count_by (at_slot s) (row ∷ rows) ≤ 1
+    by true t rest = one_and_no_more (count_by (at_slot s) (row ∷ rows)) (cond (at_slot s row) 1 0) (count_by (at_slot s) rows) (count_cons (at_slot s) row rows) (counted (at_slot s row) t) (none t)
+    by false t rest = no_and_one (count_by (at_slot s) (row ∷ rows)) (cond (at_slot s row) 1 0) (count_by (at_slot s) rows) (count_cons (at_slot s) row rows) (not_counted (at_slot s row) t) rest
+
+-- a row at a slot is on its day and in its asset
+on_its_day : (day asset rest : Bool) (o u : Bool) → day ≡ o → asset ≡ u → (o && u) ≡ false → (day && (asset && rest)) ≡ false
+on_its_day day asset rest true true e f h = absurd (cc)
+on_its_day day asset rest true false e f h = rw (e, f) refl
+on_its_day day asset rest false u e f h = rw e refl
+
+turned_int : (x y : ℤ) → int_eq x y ≡ int_eq y x
+turned_int x y = grind (arith, ints)
+
+turned : (x y : ℕ) → (x == y) ≡ (y == x)
+turned x y = grind arith
+
+elsewhere : (s : Slot) (row : FlowRow) → is_on s.day s.asset row ≡ false → at_slot s row ≡ false
+elsewhere s row h =
+    on_its_day (int_eq s.day row.day) (s.asset == row.asset) _ (int_eq row.day s.day) (row.asset == s.asset) (turned_int s.day row.day) (turned s.asset row.asset) h
+
+pub count_filtered : (s : Slot) (rows : List FlowRow) → count_by (at_slot s) rows ≡ count_by (at_slot s) (filter (is_on s.day s.asset) rows)
+count_filtered s [] = refl
+count_filtered s (row ∷ rows) = by (is_on s.day s.asset row) refl (count_filtered s rows)
+  where
+    none_before : (n : ℕ) → 0 + n ≡ n
+    none_before n = omega arith
+
+    by : (b : Bool) → is_on s.day s.asset row ≡ b → count_by (at_slot s) rows ≡ count_by (at_slot s) (filter (is_on s.day s.asset) rows) → count_by (at_slot s) (row ∷ rows) ≡ count_by (at_slot s) (filter (is_on s.day s.asset) (row ∷ rows))
+    by true t rest =
+        count_cons (at_slot s) row rows
+        ∙ ap (λ (n : ℕ). cond (at_slot s row) 1 0 + n) rest
+        ∙ sym (count_cons (at_slot s) row (filter (is_on s.day s.asset) rows))
+        ∙ ap (λ (b : Bool). count_by (at_slot s) (cond b (row ∷ filter (is_on s.day s.asset) rows) (filter (is_on s.day s.asset) rows))) (sym t)
+    by false t rest =
+        count_cons (at_slot s) row rows
+        ∙ ap (λ (n : ℕ). n + count_by (at_slot s) rows) (not_counted (at_slot s row) (elsewhere s row t))
+        ∙ none_before (count_by (at_slot s) rows)
+        ∙ rest
+        ∙ ap (λ (b : Bool). count_by (at_slot s) (cond b (row ∷ filter (is_on s.day s.asset) rows) (filter (is_on s.day s.asset) rows))) (sym t)
+
+-- ---- rows that are sorted, and paired once, are in order
+
+abbrev IsFar : List FlowRow → Type 0
+IsFar rows = (i j : ℕ) (d : FlowRow) → i ≤ j → j < length rows → is_lt (slot_cmp (slot_of (get_or rows j d)) (slot_of (get_or rows i d))) ≡ false
+
+pub counted_in : {X : Type 0} (p : X → Bool) (xs : List X) (k : ℕ) (d : X) → k < length xs → p (get_or xs k d) ≡ true → 1 ≤ count_by p xs
+counted_in p [] k d l h = absurd (omega arith)
+counted_in p (x ∷ xs) zero d l h = omega (arith, count_cons p x xs, counted (p x) h)
+counted_in p (x ∷ xs) (suc k) d l h = omega (arith, count_cons p x xs, counted_in p xs k d (omega arith) h)
+
+two_counted : (row : FlowRow) (rows : List FlowRow) (k : ℕ) (d : FlowRow) → k < length rows → slot_of row ≡ slot_of (get_or rows k d) → count_by (at_slot (slot_of row)) (row ∷ rows) ≤ 1 → ⊥
+two_counted row rows k d l e most =
+    let s = slot_of row in
+    let one = counted (at_slot s row) ((same_slot_decides s (slot_of row)).1 refl) in
+    let more = counted_in (at_slot s) rows k d l ((same_slot_decides s (slot_of (get_or rows k d))).1 e) in
+    omega (arith, count_cons (at_slot s) row rows)
+
+strictly : (row : FlowRow) (rows : List FlowRow) (k : ℕ) (d : FlowRow) → k < length rows → count_by (at_slot (slot_of row)) (row ∷ rows) ≤ 1 → IsUpTo (slot_of row) (slot_of (get_or rows k d)) → Precedes (slot_of row) (slot_of (get_or rows k d))
+strictly row rows k d l most (inl e) = absurd (two_counted row rows k d l e most)
+strictly row rows k d l most (inr h) = h
+
+paired_rest : (row : FlowRow) (rows : List FlowRow) → ArePairedOnce (row ∷ rows) → ArePairedOnce rows
+paired_rest row rows h = λ s. omega (arith, count_cons (at_slot s) row rows, h s)
+
+order_from_far : (rows : List FlowRow) → IsFar rows → ArePairedOnce rows → AreOrdered rows
+order_from_far [] far once = tt
+order_from_far (row ∷ rows) far once =
+    (λ k d l. strictly row rows k d l (once (slot_of row)) (upto_from_cmp (slot_of row) (slot_of (get_or rows k d)) (far 0 (suc k) d (omega arith) (omega arith))), order_from_far rows (λ i j d h l. far (suc i) (suc j) d (omega arith) (omega arith)) (paired_rest row rows once))
+
+order_from_sorted : (rows : List FlowRow) → IsSortedByKey slot_of slot_cmp rows → ArePairedOnce rows → AreOrdered rows
+order_from_sorted rows up once = order_from_far rows (sorted_far (λ a b. is_lt (slot_cmp (slot_of a) (slot_of b))) (ranks_by slot_cmp_total slot_of) rows up) once
+
+-- from what `sort_by_key` says, where each call gives the slot of the row
+pub order_from_sort_by_key : {F : Type 0} {g : Mut F (Bor FlowRow × Unit {0}) Slot} {f : F} (rows : List FlowRow) → ArePairedOnce rows → ((key : FlowRow → Slot) → ComputesKey g key f → IsSortedByKey key slot_cmp rows)
+    → ((a : Bor FlowRow × Unit {0}) (r : Slot) (f' : F) → Called g f a r f' → (r ≡ slot_of a.0.now) × (f' ≡ f)) → AreOrdered rows
+order_from_sort_by_key {g = g} {f = f} rows once up h = order_from_sorted rows (up slot_of (always_returns_same g (λ a r. r ≡ slot_of a.0.now) f h)) once
+
+pub paired_moved : (rows sorted : List FlowRow) → IsPermutation rows sorted → ArePairedOnce rows → ArePairedOnce sorted
+paired_moved rows sorted moved once =
+    λ s. subst (λ (n : ℕ). n ≤ 1) (sym (sum_by-IsPermutation (λ row. cond (at_slot s row) 1 0) rows sorted moved)) (once s)

@@ -1,0 +1,11 @@
+pub mod Sums
+pub mod LiteralLists
+pub mod Renaming
+pub mod Positions
+pub mod Entries
+pub mod Settlement
+pub mod Queues
+pub mod Turns
+pub mod PositionLines
+pub mod LawsTables
+pub mod LawsAnswers

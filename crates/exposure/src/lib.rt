@@ -1,0 +1,34 @@
+//! What parties come to by flow tables: their positions, payments that settle them, and the lines of positions; and
+//! contracts with one party in the place of another.
+//!
+//! ```text
+//! let found = positions(alloc, &tables)?;
+//! let settled = settle(alloc, &found)?; // a flow table with the same positions, in few rows
+//! position_line(alloc, &mut out, &portfolio.decls, row)?; // of a row of the positions
+//! let novated = rename(alloc, &contr, old, new)?;
+//! ```
+//!
+//! Promised: `positions` answers a row for each day, asset and party that does not come to 0, and no other
+//! (`ArePositions`); `settle` payments that leave each party there, one fewer than such parties at most (`Settles`), in a
+//! set order (`ArePaidInTurn`); `rename` the contract with the new party (`renamed`); `position_line` appends exactly the
+//! line of a row (`IsPositionLine`), or a front part of it.
+//! Neither promised nor tested: that they succeed where there is memory.
+#![tactic(auto)]
+
+mod accounts;
+mod entries;
+mod laws;
+mod position_lines;
+mod positioning;
+mod renaming;
+mod settlement;
+
+pub use accounts::{PositionRow, Positions};
+pub use laws::{
+    accepted_tables_add_up, one_settlement, renamed_contracts_pay_as_renamed, renaming_keeps_rules,
+    settlement_keeps_within_tables,
+};
+pub use position_lines::position_line;
+pub use positioning::positions;
+pub use renaming::rename;
+pub use settlement::settle;
