@@ -26,7 +26,8 @@ TablesAddUp =
 -- so those of many tables add up to at most so much for each
 abbrev pub ManyTablesAddUp : Type 0
 ManyTablesAddUp =
-    (tables : List FlowTable) → All (λ table. sizes_in table.rows.items ≤ 10 ^ 27) tables → sizes_of tables ≤ length tables * 10 ^ 27
+    (tables : List FlowTable)
+    → All (λ table. sizes_in table.rows.items ≤ 10 ^ 27) tables → sizes_of tables ≤ length tables * 10 ^ 27
 
 -- on a day from the first to the last
 abbrev pub IsDuring : ℤ → ℤ → ℤ → Type 0
@@ -49,12 +50,14 @@ SettledStandInTime =
 -- no payment of rows that settle in turn is more than the tables add up to
 abbrev pub SettledAreWithin : Type 0
 SettledAreWithin =
-    (tables : List FlowTable) (rows : List FlowRow) → ArePaidInTurn tables rows → All (λ row. unsigned_abs row.amount ≤ sizes_of tables) rows
+    (tables : List FlowTable) (rows : List FlowRow)
+    → ArePaidInTurn tables rows → All (λ row. unsigned_abs row.amount ≤ sizes_of tables) rows
 
 -- nor is a position
 abbrev pub PositionsAreWithin : Type 0
 PositionsAreWithin =
-    (tables : List FlowTable) (rows : List PositionRow) → ArePositions tables rows → All (λ row. unsigned_abs row.amount ≤ sizes_of tables) rows
+    (tables : List FlowTable) (rows : List PositionRow)
+    → ArePositions tables rows → All (λ row. unsigned_abs row.amount ≤ sizes_of tables) rows
 
 -- each amount of tables is a whole number at its asset's decimals
 abbrev pub AreWholeInAssets : Declarations → List FlowTable → Type 0

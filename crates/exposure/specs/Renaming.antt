@@ -113,7 +113,7 @@ RedexesAreKept =
 
 -- a renamed residual pays what the renamed contract pays on the days to come, and reads nothing that the contract does
 -- not read
-pub record CarriesRenamed (d : Declarations) (c : Contract) (f : ℤ) (fixings : Environment) (m : ℕ) (old new : ℕ) (rest : Contract) : Type 0 where
+pub record CarriesRenamed (d : Declarations) (c : Contract) (f : ℤ) (fixings : Environment) (m old new : ℕ) (rest : Contract) : Type 0 where
   pub amounts : (env : Environment) → IsAdmitted d env → Extends fixings env → (n : ℕ) (w : Flow)
       → amount_of d rest env (f +ℤ pos m) (pos n) w ≡ amount_of d (renamed old new c) env f (pos (m + n)) w
   pub reads : (env : Environment) → IsAdmitted d env → Extends fixings env → (b : ℕ) (q : Place)
