@@ -7,6 +7,7 @@ pub mod LiteralFacts
 pub mod AccountFacts
 pub mod EntryFacts
 pub mod JoinFacts
+pub mod FilterFacts
 pub mod TurnFacts
 pub mod QueueFacts
 pub mod StartFacts

@@ -8,7 +8,7 @@ use Rattle.term_core.specs.DayCounts.{Num as Count, Sum}
 use Rattle.term_core.specs.Terms.{Contract, Lit, Pay, Both, Scale, After}
 use Rattle.term_core.specs.Environments.{Environment}
 use Rattle.term_core.specs.Values.{Entry}
-use Rattle.term_core.specs.Flows.{Flow, flow_of, on_day_zero, unit_flow}
+use Rattle.term_core.specs.Flows.{Flow, flow_of, unit_flow}
 use Rattle.flow_eval.specs.declared.flow_table.FlowRow.{FlowRow}
 use Rattle.exposure.specs.declared.accounts.PositionRow.{PositionRow}
 use Rattle.exposure.specs.LiteralLists.{literals_in}

@@ -1,11 +1,11 @@
 -- Worked rows: payments among a few parties, and those that settle them, in turn, on a day in an asset. Parties are numbers
 -- in declared order, as 0 for A.
-use Rattle.std.proofs.Common.{◌≡◌, ℕ, ℤ, pos, true, List, [], ◌∷◌, refl}
+use Rattle.std.proofs.Common.{ℕ, pos, List, [], ◌∷◌, refl}
 use Rattle.std.specs.List.{filter}
 use Rattle.flow_eval.specs.declared.flow_table.FlowRow.{FlowRow}
 use Rattle.exposure.specs.Positions.{is_on, position_in}
 use Rattle.exposure.specs.Settlement.{PayInTurn, account}
-use Rattle.exposure.proofs.TurnTests.{settled_by_test, settles_in_turn}
+use Rattle.exposure.proofs.TurnTests.{settled_by_test}
 
 abbrev row : ℕ → ℕ → ℕ → ℕ → FlowRow
 row a p q m = record { day = pos 0; asset = a; from = p; to = q; amount = pos m }

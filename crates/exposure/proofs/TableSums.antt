@@ -3,11 +3,8 @@
 use Rattle.std.proofs.Common.{◌≡◌, ℕ, ◌+◌, ◌*◌, ◌^◌, ◌≤◌, ◌<◌, ℤ, pos, ◌-ℤ◌, ◌<ℤ◌, min, max, unsigned_abs, Bool, true, false, ◌&&◌, ◌==◌, int_eq, cond, if◌then◌else◌, inl, inr, ◌⊎◌, map, List, [], ◌∷◌, length, get_or, refl, ap, ap₂, sym, ◌∙◌, subst, arith}
 use Rattle.std.specs.List.{All, filter}
 use Rattle.std.proofs.lemmas.Int.{ints, by_lt_z}
-use Rattle.std.proofs.lemmas.Bool.{eq-eqb}
-use Rattle.std.proofs.lemmas.Bool.Decides.{Decides-int_eq}
 use Rattle.std.proofs.lemmas.List.Elements.{All-nil, All-cons, All-head, All-tail, All-weaker}
 use Rattle.std.proofs.lemmas.List.Sums.{sum_by-cons}
-use Rattle.std.proofs.lemmas.List.Sorted.{All-permutation}
 use Rattle.term_core.specs.Declarations.{Declarations}
 use Rattle.term_core.specs.Terms.{Contract}
 use Rattle.term_core.specs.Environments.{Environment}
@@ -28,6 +25,7 @@ use Rattle.exposure.specs.declared.accounts.Account.{Account}
 use Rattle.exposure.specs.Positions.{IsPosition, account_of, brings, brought, is_on, position, position_in, sizes_in, sizes_of}
 use Rattle.exposure.specs.Settlement.{Settles, account}
 use Rattle.exposure.specs.LawsTables.{AreDuring, IsDuring, ManyTablesAddUp, PositionsAreWithin, PositionsStandInTime, SettledAreWithin, SettledStandInTime, TablesAddUp}
+use Rattle.exposure.proofs.FilterFacts.{on_itself}
 use Rattle.exposure.proofs.SumFacts.{sum_none}
 use Rattle.exposure.proofs.TurnFacts.{counted_in, paid_within}
 use Rattle.exposure.proofs.StartFacts.{position_size}
@@ -133,9 +131,6 @@ pub positions_stand_in_time : PositionsStandInTime
 positions_stand_in_time tables rows first last during h =
     All-weaker (IsPosition tables) (λ row. IsDuring first last row.day) (λ row is. by_day first last row.day (λ out. is.some (is.exact ∙ none_out first last (account_of row) tables during out))) rows h.right
 
-on_itself : (row : FlowRow) → is_on row.day row.asset row ≡ true
-on_itself row = rw ((Decides-int_eq row.day row.day).1 refl, eq-eqb row.asset row.asset refl) refl
-
 settled_row : (tables : List FlowTable) (rows : List FlowRow) (first last : ℤ) → AreDuring first last tables → Settles tables rows → (k : ℕ) (z : FlowRow) → k < length rows → IsOut first last (get_or rows k z).day → ⊥
 settled_row tables rows first last during h k z l out =
     let row = get_or rows k z in
@@ -162,8 +157,7 @@ filtered_all P (row ∷ rows) h =
 
 pub settled_are_within : SettledAreWithin
 settled_are_within tables rows h =
-    let P : FlowRow → Type 0 = λ row. unsigned_abs row.amount ≤ sizes_of tables in
-    All-permutation P h.turns rows h.moved (filtered_all (λ a. P) h.turns (λ n a. paid_within (sizes_of tables) (λ p. position tables (account n a p)) (filter (is_on n a) h.turns) (h.each n a) (λ p. position_size tables (account n a p))))
+    filtered_all (λ a row. unsigned_abs row.amount ≤ sizes_of tables) rows (λ n a. paid_within (sizes_of tables) (λ p. position tables (account n a p)) (filter (is_on n a) rows) (h n a) (λ p. position_size tables (account n a p)))
 
 pub positions_are_within : PositionsAreWithin
 positions_are_within tables rows h =

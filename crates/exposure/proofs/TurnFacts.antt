@@ -1,27 +1,16 @@
--- What follows of payments in turn: they pay just what is due; each settles one of its two parties, so they are few, and no
--- two of them stand between the same two parties.
-use Rattle.std.proofs.Common.{◌≡◌, ℕ, zero, suc, ◌+◌, ◌-◌, ◌≤◌, ◌<◌, ℤ, pos, neg_ℤ, ◌+ℤ◌, ◌-ℤ◌, ◌<ℤ◌, ◌≤ℤ◌, unsigned_abs, min, max, Bool, true, false, ◌&&◌, ◌==◌, int_eq, cond, if◌then◌else◌, inl, inr, ◌⊎◌, List, [], ◌∷◌, length, get_or, refl, ap, sym, ◌∙◌, subst, arith}
+-- What follows of payments in turn: they pay just what is due; each settles one of its two parties, so they are few, no two of
+-- them have the same payer and the same payee, and neither payers nor payees go back.
+use Rattle.std.proofs.Common.{◌≡◌, ℕ, zero, suc, ◌+◌, ◌-◌, ◌≤◌, ◌<◌, ℤ, pos, neg_ℤ, ◌+ℤ◌, ◌-ℤ◌, ◌<ℤ◌, ◌≤ℤ◌, unsigned_abs, min, max, Bool, true, false, ◌==◌, int_eq, cond, if◌then◌else◌, inl, inr, ◌⊎◌, List, [], ◌∷◌, length, get_or, refl, ap, sym, ◌∙◌, subst, arith}
 use Rattle.std.specs.Int.{int_min}
-use Rattle.std.specs.List.{All, Contains, count_by, filter}
-use Rattle.std.specs.List.Sorted.{IsPermutation, IsSortedByKey}
-use Rattle.std.specs.Ordering.{is_lt}
-use Rattle.std.specs.Fn.{Mut, Called, ComputesKey}
-use denote.Ref.{Bor}
-use Rattle.std.proofs.lemmas.Fn.{always_returns_same}
+use Rattle.std.specs.List.{All, Contains, count_by}
 use Rattle.std.proofs.lemmas.Int.{ints}
-use Rattle.std.proofs.lemmas.Bool.{eq-eqb, eqb-true}
-use Rattle.std.proofs.lemmas.List.Elements.{All-nil, All-cons, All-head, All-tail}
+use Rattle.std.proofs.lemmas.Bool.{cases_lt, eq-eqb, eqb-true}
+use Rattle.std.proofs.lemmas.List.Elements.{All-nil, All-cons, All-contains}
 use Rattle.std.proofs.lemmas.List.Sums.{sum_by-cons}
-use Rattle.std.proofs.lemmas.List.Sorted.{ranks_by, sorted_far, sum_by-IsPermutation}
 use Rattle.flow_eval.specs.declared.flow_table.FlowRow.{FlowRow}
-use Rattle.flow_eval.specs.declared.flow_table.Slot.{Slot}
-use Rattle.flow_eval.specs.Netting.{same_slot}
-use Rattle.flow_eval.specs.Tables.{AreOrdered, Precedes, slot_of}
-use Rattle.flow_eval.proofs.SlotFacts.{IsUpTo, same_slot_decides, slot_cmp, slot_cmp_total, upto_from_cmp}
 use Rattle.exposure.specs.Sums.{sum_over}
-use Rattle.exposure.specs.Positions.{is_on, brings}
+use Rattle.exposure.specs.Positions.{brings}
 use Rattle.exposure.specs.Settlement.{IsTurn, PayInTurn, IsPayment, due_after}
-use Rattle.exposure.specs.Turns.{ArePairedOnce}
 use Rattle.exposure.proofs.RenamingFacts.{member, member_cases, by_member}
 use Rattle.exposure.proofs.AccountFacts.{by_test}
 
@@ -237,10 +226,7 @@ few_turns due (row ∷ rows) ps h held =
       | inr e ↦ fewer due row rows ps row.to row.from h.0 e held payee payer (parties_differ due row h.0) (few_turns (due_after due row) rows (without row.to ps) h.1 (still_held due row row.to ps h.0 e held))
     ]
 
--- ---- no two rows at one slot
-
-abbrev at_slot : Slot → FlowRow → Bool
-at_slot s row = same_slot s (slot_of row)
+-- ---- rows that are counted
 
 count_cons : {X : Type 0} (p : X → Bool) (x : X) (xs : List X) → count_by p (x ∷ xs) ≡ cond (p x) 1 0 + count_by p xs
 count_cons p x xs = sum_by-cons (λ y. cond (p y) 1 0) x xs
@@ -249,138 +235,72 @@ counted : (b : Bool) → b ≡ true → cond b 1 0 ≡ (let n : ℕ = 1 in n)
 counted true e = refl
 counted false e = absurd (cc)
 
-not_counted : (b : Bool) → b ≡ false → cond b 1 0 ≡ (let n : ℕ = 0 in n)
-not_counted true e = absurd (cc)
-not_counted false e = refl
-
-none_counted : {X : Type 0} (p : X → Bool) (xs : List X) → All (λ x. p x ≡ false) xs → count_by p xs ≡ 0
-none_counted p [] h = refl
-none_counted p (x ∷ xs) h =
-    omega (arith, count_cons p x xs, not_counted (p x) (All-head (λ y. p y ≡ false) x xs h), none_counted p xs (All-tail (λ y. p y ≡ false) x xs h))
-
-involved : (a b c d : ℕ) → min a b ≡ min c d → max a b ≡ max c d → (c ≡ a → ⊥) → (d ≡ a → ⊥) → ⊥
-involved a b c d low high h k =
-    by_test ⊥ (c == a) (λ t. h (eqb-true c a t)) (λ t. by_test ⊥ (d == a) (λ u. k (eqb-true d a u)) (λ u. no a b c d low high (apart c a t) (apart d a u)))
-  where
-    apart : (x y : ℕ) → (x == y) ≡ false → x ≡ y → ⊥
-    apart x y t e = let u : (x == y) ≡ true = eq-eqb x y e in cc
-
-    no : (a b c d : ℕ) → min a b ≡ min c d → max a b ≡ max c d → (c ≡ a → ⊥) → (d ≡ a → ⊥) → ⊥
-    no a b c d low high h k = omega arith
-
-swapped_min : (a b : ℕ) → min a b ≡ min b a
-swapped_min a b = omega arith
-
-swapped_max : (a b : ℕ) → max a b ≡ max b a
-swapped_max a b = omega arith
-
-other_slot : (row next : FlowRow) (z : ℕ) → (z ≡ row.from) ⊎ (z ≡ row.to) → IsNotOf z next → slot_of row ≡ slot_of next → ⊥
-other_slot row next z (inl e) h same =
-    involved row.from row.to next.from next.to (ap (λ (s : Slot). s.lower) same) (ap (λ (s : Slot). s.higher) same) (λ k. h.0 (k ∙ sym e)) (λ k. h.1 (k ∙ sym e))
-other_slot row next z (inr e) h same =
-    involved row.to row.from next.from next.to (swapped_min row.to row.from ∙ ap (λ (s : Slot). s.lower) same) (swapped_max row.to row.from ∙ ap (λ (s : Slot). s.higher) same) (λ k. h.0 (k ∙ sym e)) (λ k. h.1 (k ∙ sym e))
-
-none_at_slot : (s : Slot) (row : FlowRow) (z : ℕ) (rows : List FlowRow) → (z ≡ row.from) ⊎ (z ≡ row.to) → at_slot s row ≡ true → All (IsNotOf z) rows → All (λ next. at_slot s next ≡ false) rows
-none_at_slot s row z [] of h all = All-nil (λ next. at_slot s next ≡ false)
-none_at_slot s row z (next ∷ rows) of h all =
-    All-cons (λ r. at_slot s r ≡ false) next rows
-    (by_test (at_slot s next ≡ false) (at_slot s next) (λ t. absurd (other_slot row next z of (All-head (IsNotOf z) next rows all) (sym ((same_slot_decides s (slot_of row)).0 h) ∙ (same_slot_decides s (slot_of next)).0 t))) (λ t. t))
-    (none_at_slot s row z rows of h (All-tail (IsNotOf z) next rows all))
-
-one_and_no_more : (n m k : ℕ) → n ≡ m + k → m ≡ 1 → k ≡ 0 → n ≤ 1
-one_and_no_more n m k e h g = omega arith
-
-no_and_one : (n m k : ℕ) → n ≡ m + k → m ≡ 0 → k ≤ 1 → n ≤ 1
-no_and_one n m k e h g = omega arith
-
-pub once_in_turn : (s : Slot) (due : ℕ → ℤ) (rows : List FlowRow) → PayInTurn due rows → count_by (at_slot s) rows ≤ 1
-once_in_turn s due [] h = omega arith
-once_in_turn s due (row ∷ rows) h = by (at_slot s row) refl (once_in_turn s (due_after due row) rows h.1)
-  where
-    none : at_slot s row ≡ true → count_by (at_slot s) rows ≡ 0
-    none t =
-        elim (one_settled due row h.0) [
-          | inl e ↦ none_counted (at_slot s) rows (none_at_slot s row row.from rows (inl refl) t (silent (due_after due row) rows row.from h.1 e))
-          | inr e ↦ none_counted (at_slot s) rows (none_at_slot s row row.to rows (inr refl) t (silent (due_after due row) rows row.to h.1 e))
-        ]
-
-    by : (b : Bool) → at_slot s row ≡ b → count_by (at_slot s) rows ≤ 1 → count_by (at_slot s) (row ∷ rows) ≤ 1
-    by true t rest = one_and_no_more (count_by (at_slot s) (row ∷ rows)) (cond (at_slot s row) 1 0) (count_by (at_slot s) rows) (count_cons (at_slot s) row rows) (counted (at_slot s row) t) (none t)
-    by false t rest = no_and_one (count_by (at_slot s) (row ∷ rows)) (cond (at_slot s row) 1 0) (count_by (at_slot s) rows) (count_cons (at_slot s) row rows) (not_counted (at_slot s row) t) rest
-
--- a row at a slot is on its day and in its asset
-on_its_day : (day asset rest : Bool) (o u : Bool) → day ≡ o → asset ≡ u → (o && u) ≡ false → (day && (asset && rest)) ≡ false
-on_its_day day asset rest true true e f h = absurd (cc)
-on_its_day day asset rest true false e f h = rw (e, f) refl
-on_its_day day asset rest false u e f h = rw e refl
-
-turned_int : (x y : ℤ) → int_eq x y ≡ int_eq y x
-turned_int x y = grind (arith, ints)
-
-turned : (x y : ℕ) → (x == y) ≡ (y == x)
-turned x y = grind arith
-
-elsewhere : (s : Slot) (row : FlowRow) → is_on s.day s.asset row ≡ false → at_slot s row ≡ false
-elsewhere s row h =
-    on_its_day (int_eq s.day row.day) (s.asset == row.asset) _ (int_eq row.day s.day) (row.asset == s.asset) (turned_int s.day row.day) (turned s.asset row.asset) h
-
-pub count_filtered : (s : Slot) (rows : List FlowRow) → count_by (at_slot s) rows ≡ count_by (at_slot s) (filter (is_on s.day s.asset) rows)
-count_filtered s [] = refl
-count_filtered s (row ∷ rows) = by (is_on s.day s.asset row) refl (count_filtered s rows)
-  where
-    none_before : (n : ℕ) → 0 + n ≡ n
-    none_before n = omega arith
-
-    by : (b : Bool) → is_on s.day s.asset row ≡ b → count_by (at_slot s) rows ≡ count_by (at_slot s) (filter (is_on s.day s.asset) rows) → count_by (at_slot s) (row ∷ rows) ≡ count_by (at_slot s) (filter (is_on s.day s.asset) (row ∷ rows))
-    by true t rest =
-        count_cons (at_slot s) row rows
-        ∙ ap (λ (n : ℕ). cond (at_slot s row) 1 0 + n) rest
-        ∙ sym (count_cons (at_slot s) row (filter (is_on s.day s.asset) rows))
-        ∙ ap (λ (b : Bool). count_by (at_slot s) (cond b (row ∷ filter (is_on s.day s.asset) rows) (filter (is_on s.day s.asset) rows))) (sym t)
-    by false t rest =
-        count_cons (at_slot s) row rows
-        ∙ ap (λ (n : ℕ). n + count_by (at_slot s) rows) (not_counted (at_slot s row) (elsewhere s row t))
-        ∙ none_before (count_by (at_slot s) rows)
-        ∙ rest
-        ∙ ap (λ (b : Bool). count_by (at_slot s) (cond b (row ∷ filter (is_on s.day s.asset) rows) (filter (is_on s.day s.asset) rows))) (sym t)
-
--- ---- rows that are sorted, and paired once, are in order
-
-abbrev IsFar : List FlowRow → Type 0
-IsFar rows = (i j : ℕ) (d : FlowRow) → i ≤ j → j < length rows → is_lt (slot_cmp (slot_of (get_or rows j d)) (slot_of (get_or rows i d))) ≡ false
-
 pub counted_in : {X : Type 0} (p : X → Bool) (xs : List X) (k : ℕ) (d : X) → k < length xs → p (get_or xs k d) ≡ true → 1 ≤ count_by p xs
 counted_in p [] k d l h = absurd (omega arith)
 counted_in p (x ∷ xs) zero d l h = omega (arith, count_cons p x xs, counted (p x) h)
 counted_in p (x ∷ xs) (suc k) d l h = omega (arith, count_cons p x xs, counted_in p xs k d (omega arith) h)
 
-two_counted : (row : FlowRow) (rows : List FlowRow) (k : ℕ) (d : FlowRow) → k < length rows → slot_of row ≡ slot_of (get_or rows k d) → count_by (at_slot (slot_of row)) (row ∷ rows) ≤ 1 → ⊥
-two_counted row rows k d l e most =
-    let s = slot_of row in
-    let one = counted (at_slot s row) ((same_slot_decides s (slot_of row)).1 refl) in
-    let more = counted_in (at_slot s) rows k d l ((same_slot_decides s (slot_of (get_or rows k d))).1 e) in
-    omega (arith, count_cons (at_slot s) row rows)
+-- ---- a later payment
 
-strictly : (row : FlowRow) (rows : List FlowRow) (k : ℕ) (d : FlowRow) → k < length rows → count_by (at_slot (slot_of row)) (row ∷ rows) ≤ 1 → IsUpTo (slot_of row) (slot_of (get_or rows k d)) → Precedes (slot_of row) (slot_of (get_or rows k d))
-strictly row rows k d l most (inl e) = absurd (two_counted row rows k d l e most)
-strictly row rows k d l most (inr h) = h
+at_most_claim : (m x y : ℤ) → m ≡ int_min (neg_ℤ x) y → m ≤ℤ y
+at_most_claim m x y e = grind (arith, ints)
 
-paired_rest : (row : FlowRow) (rows : List FlowRow) → ArePairedOnce (row ∷ rows) → ArePairedOnce rows
-paired_rest row rows h = λ s. omega (arith, count_cons (at_slot s) row rows, h s)
+at_most_debt : (m x y : ℤ) → m ≡ int_min (neg_ℤ x) y → m ≤ℤ neg_ℤ x
+at_most_debt m x y e = grind (arith, ints)
 
-order_from_far : (rows : List FlowRow) → IsFar rows → ArePairedOnce rows → AreOrdered rows
-order_from_far [] far once = tt
-order_from_far (row ∷ rows) far once =
-    (λ k d l. strictly row rows k d l (once (slot_of row)) (upto_from_cmp (slot_of row) (slot_of (get_or rows k d)) (far 0 (suc k) d (omega arith) (omega arith))), order_from_far rows (λ i j d h l. far (suc i) (suc j) d (omega arith) (omega arith)) (paired_rest row rows once))
+never_below : (a y m : ℤ) → a ≡ y -ℤ m → m ≤ℤ y → a <ℤ pos 0 → ⊥
+never_below a y m e h k = omega (arith, ints)
 
-order_from_sorted : (rows : List FlowRow) → IsSortedByKey slot_of slot_cmp rows → ArePairedOnce rows → AreOrdered rows
-order_from_sorted rows up once = order_from_far rows (sorted_far (λ a b. is_lt (slot_cmp (slot_of a) (slot_of b))) (ranks_by slot_cmp_total slot_of) rows up) once
+never_above : (a x m : ℤ) → a ≡ x +ℤ m → m ≤ℤ neg_ℤ x → pos 0 <ℤ a → ⊥
+never_above a x m e h k = omega (arith, ints)
 
--- from what `sort_by_key` says, where each call gives the slot of the row
-pub order_from_sort_by_key : {F : Type 0} {g : Mut F (Bor FlowRow × Unit {0}) Slot} {f : F} (rows : List FlowRow) → ArePairedOnce rows → ((key : FlowRow → Slot) → ComputesKey g key f → IsSortedByKey key slot_cmp rows)
-    → ((a : Bor FlowRow × Unit {0}) (r : Slot) (f' : F) → Called g f a r f' → (r ≡ slot_of a.0.now) × (f' ≡ f)) → AreOrdered rows
-order_from_sort_by_key {g = g} {f = f} rows once up h = order_from_sorted rows (up slot_of (always_returns_same g (λ a r. r ≡ slot_of a.0.now) f h)) once
+-- who owes after a turn owed before it
+owed_before : (due : ℕ → ℤ) (row : FlowRow) (p : ℕ) → IsTurn due row → due_after due row p <ℤ pos 0 → due p <ℤ pos 0
+owed_before due row p h less =
+    by_test (due p <ℤ pos 0) (row.from == p) (λ t. subst (λ (q : ℕ). due q <ℤ pos 0) (eqb-true row.from p t) h.payer.owes)
+    (λ t. by_test (due p <ℤ pos 0) (row.to == p)
+    (λ u. absurd (never_below (due_after due row row.to) (due row.to) row.amount (payee_after due row h) (at_most_claim row.amount (due row.from) (due row.to) h.lesser) (subst (λ (q : ℕ). due_after due row q <ℤ pos 0) (sym (eqb-true row.to p u)) less)))
+    (λ u. subst (λ (x : ℤ). x <ℤ pos 0) (other_part (row.to == p) (row.from == p) row.amount (due p) u t) less))
 
-pub paired_moved : (rows sorted : List FlowRow) → IsPermutation rows sorted → ArePairedOnce rows → ArePairedOnce sorted
-paired_moved rows sorted moved once =
-    λ s. subst (λ (n : ℕ). n ≤ 1) (sym (sum_by-IsPermutation (λ row. cond (at_slot s row) 1 0) rows sorted moved)) (once s)
+-- and who is owed was owed
+claimed_before : (due : ℕ → ℤ) (row : FlowRow) (p : ℕ) → IsTurn due row → pos 0 <ℤ due_after due row p → pos 0 <ℤ due p
+claimed_before due row p h more =
+    by_test (pos 0 <ℤ due p) (row.to == p) (λ u. subst (λ (q : ℕ). pos 0 <ℤ due q) (eqb-true row.to p u) h.payee.owed)
+    (λ u. by_test (pos 0 <ℤ due p) (row.from == p)
+    (λ t. absurd (never_above (due_after due row row.from) (due row.from) row.amount (payer_after due row h) (at_most_debt row.amount (due row.from) (due row.to) h.lesser) (subst (λ (q : ℕ). pos 0 <ℤ due_after due row q) (sym (eqb-true row.from p t)) more)))
+    (λ t. subst (λ (x : ℤ). pos 0 <ℤ x) (other_part (row.to == p) (row.from == p) row.amount (due p) u t) more))
+
+-- each payer owed at first, and each payee was owed
+pub ends_due : (due : ℕ → ℤ) (rows : List FlowRow) (row : FlowRow) → PayInTurn due rows → Contains rows row → (due row.from <ℤ pos 0) × (pos 0 <ℤ due row.to)
+ends_due due [] row h held = absurd (by_member row held)
+ends_due due (first ∷ rows) row h held =
+    elim (member_cases row first rows held) [
+      | inl e ↦ subst (λ (r : FlowRow). (due r.from <ℤ pos 0) × (pos 0 <ℤ due r.to)) e (h.0.payer.owes, h.0.payee.owed)
+      | inr later ↦
+          let rest = ends_due (due_after due first) rows row h.1 later in
+          (owed_before due first row.from h.0 rest.0, claimed_before due first row.to h.0 rest.1)
+    ]
+
+-- the first one settles one of its two parties, so none that follows has the same payer and the same payee
+pub not_again : (due : ℕ → ℤ) (row next : FlowRow) (rows : List FlowRow) → PayInTurn due (row ∷ rows) → Contains rows next → (row.from ≡ next.from → ⊥) ⊎ (row.to ≡ next.to → ⊥)
+not_again due row next rows h held =
+    elim (one_settled due row h.0) [
+      | inl e ↦ inl (λ same. (All-contains (IsNotOf row.from) rows next (silent (due_after due row) rows row.from h.1 e) held).0 (sym same))
+      | inr e ↦ inr (λ same. (All-contains (IsNotOf row.to) rows next (silent (due_after due row) rows row.to h.1 e) held).1 (sym same))
+    ]
+
+-- ---- slots, where payers and payees come later
+
+same_low : (p q r s : ℕ) → p ≤ r → q ≤ s → min r s ≤ min p q → min p q ≡ min r s
+same_low p q r s h k l = omega arith
+
+higher : (p q r s : ℕ) → (p ≡ q → ⊥) → p ≤ r → q ≤ s → min r s ≤ min p q → (p ≡ r → ⊥) ⊎ (q ≡ s → ⊥) → max p q < max r s
+higher p q r s apart h k l (inl other) = omega arith
+higher p q r s apart h k l (inr other) = omega arith
+
+pub later_slot : (p q r s : ℕ) → (p ≡ q → ⊥) → p ≤ r → q ≤ s → (p ≡ r → ⊥) ⊎ (q ≡ s → ⊥) → (min p q < min r s) ⊎ ((min p q ≡ min r s) × (max p q < max r s))
+later_slot p q r s apart h k other =
+    elim (cases_lt (min p q) (min r s)) [
+      | inl l ↦ inl l
+      | inr l ↦ inr (same_low p q r s h k l, higher p q r s apart h k l other)
+    ]

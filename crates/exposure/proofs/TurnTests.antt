@@ -8,7 +8,7 @@ use Rattle.std.proofs.lemmas.Bool.Decides.{nat_tests}
 use Rattle.std.proofs.lemmas.List.Elements.{All-nil, All-cons}
 use Rattle.flow_eval.specs.declared.flow_table.FlowRow.{FlowRow}
 use Rattle.exposure.specs.Positions.{brings, brought, is_on, position_in}
-use Rattle.exposure.specs.Settlement.{IsFirstOwed, IsFirstOwing, IsTurn, PayInTurn, account, due_after}
+use Rattle.exposure.specs.Settlement.{IsFirstOwed, IsFirstOwing, PayInTurn, account, due_after}
 use Rattle.exposure.proofs.SumFacts.{sum_none}
 use Rattle.exposure.proofs.TurnFacts.{not_same, other_part}
 

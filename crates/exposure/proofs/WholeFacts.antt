@@ -6,7 +6,6 @@ use Rattle.std.specs.List.{All, filter}
 use Rattle.std.proofs.lemmas.Int.{ints}
 use Rattle.std.proofs.lemmas.Bool.{eqb-true}
 use Rattle.std.proofs.lemmas.List.Elements.{All-nil, All-cons, All-head, All-tail, All-weaker}
-use Rattle.std.proofs.lemmas.List.Sorted.{All-permutation}
 use Rattle.term_core.specs.Declarations.{Declarations, decimals_of}
 use Rattle.term_core.specs.LawsScales.{IsMultiple}
 use Rattle.term_core.proofs.FlowFacts.{raised-neg}
@@ -99,6 +98,4 @@ turns_multiple due (row ∷ rows) k turns h =
 
 pub settled_are_whole : SettledAreWhole
 settled_are_whole d tables rows h paid =
-    let P : ℕ → FlowRow → Type 0 = λ a row. IsWholeInAsset d a row.amount in
-    All-permutation (λ row. P row.asset row) paid.turns rows paid.moved
-    (filtered_all P paid.turns (λ n a. turns_multiple (λ p. position tables (account n a p)) (filter (is_on n a) paid.turns) (left_out d a) (paid.each n a) (λ p. position_whole d (account n a p) tables h)))
+    filtered_all (λ a row. IsWholeInAsset d a row.amount) rows (λ n a. turns_multiple (λ p. position tables (account n a p)) (filter (is_on n a) rows) (left_out d a) (paid n a) (λ p. position_whole d (account n a p) tables h))

@@ -5,7 +5,6 @@ pub mod Positions
 pub mod Entries
 pub mod Settlement
 pub mod Queues
-pub mod Turns
 pub mod PositionLines
 pub mod LawsTables
 pub mod LawsAnswers
