@@ -16,6 +16,7 @@ use Rattle.exposure.specs.PositionLines.{IsPositionLine, line_with}
 use Rattle.exposure.specs.Positions.{position_in}
 use Rattle.exposure.specs.Renaming.{renamed}
 use Rattle.exposure.specs.Settlement.{account}
+use Rattle.exposure.proofs.TurnTests.{nothing_chosen}
 
 pays : ℕ → ℕ → ℤ → FlowRow
 pays p q m = record { day = pos 0; asset = 0; from = p; to = q; amount = m }
@@ -107,11 +108,7 @@ no_unit w = by (0 == w.asset) _
     by true x = refl
     by false x = refl
 
-none_on_any_day : (b : Bool) (x : ℤ) → x ≡ pos 0 → (if b then x else pos 0) ≡ pos 0
-none_on_any_day true x h = h
-none_on_any_day false x h = refl
-
 -- which pays nothing to anyone on any day
 loan_to_itself_pays_nothing : (d : Declarations) (g : List Entry) (env : Environment) (f n : ℤ) (w : Flow) → flow_of d (renamed 0 1 loan) g env f n w ≡ pos 0
 loan_to_itself_pays_nothing d g env f n w =
-    ap (λ (z : ℤ). pos 10500 *ℤ z) (none_on_any_day (int_eq (n -ℤ pos 60) (pos 0)) (unit_flow 0 1 1 w) (no_unit w)) ∙ *ℤ-zero (pos 10500)
+    ap (λ (z : ℤ). pos 10500 *ℤ z) (nothing_chosen (int_eq (n -ℤ pos 60) (pos 0)) (unit_flow 0 1 1 w) (no_unit w)) ∙ *ℤ-zero (pos 10500)

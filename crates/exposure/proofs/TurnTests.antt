@@ -146,7 +146,7 @@ abbrev are_among : ℕ → List FlowRow → Bool
 are_among m [] = true
 are_among m (row ∷ rows) = (nat_lt row.from m && nat_lt row.to m) && are_among m rows
 
-nothing_chosen : (b : Bool) (x : ℤ) → x ≡ pos 0 → (if b then x else pos 0) ≡ pos 0
+pub nothing_chosen : (b : Bool) (x : ℤ) → x ≡ pos 0 → (if b then x else pos 0) ≡ pos 0
 nothing_chosen true x h = h
 nothing_chosen false x h = refl
 
