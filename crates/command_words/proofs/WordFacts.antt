@@ -12,8 +12,8 @@ use Rattle.clap.specs.declared.parser.matches.ArgMatches.{ArgMatches}
 use Rattle.contract_parse.specs.Names.{is_declared}
 use Rattle.contract_parse.specs.NameTexts.{is_name_text}
 use Rattle.command_words.specs.Arguments.{HasMatches, IsAnswer, Reading, asked_of, is_set, read_rows, taken}
-use Rattle.command_words.specs.Commands.{Advance, Between, Check, Flows, Migrate, Payoff, Sample, ValueFiles}
-use Rattle.command_words.specs.Words.{advance_from, advance_with, check_from, flows_from, flows_with, if_given, is_day, migrate_from, migrate_of, one_more_setting, payoff_from, payoff_with, request_of, sample_from, sample_of, sample_size, settings_of, value_app, value_between, value_files, value_from, value_of, value_of_rows, value_with, with_form}
+use Rattle.command_words.specs.Commands.{Advance, Between, Check, Expand, Flows, Migrate, Payoff, Sample, ValueFiles}
+use Rattle.command_words.specs.Words.{advance_from, advance_with, check_from, expand_from, expand_of, flows_from, flows_with, if_given, is_day, migrate_from, migrate_of, one_more_setting, payoff_from, payoff_with, request_of, sample_from, sample_of, sample_size, settings_of, value_app, value_between, value_files, value_from, value_of, value_of_rows, value_with, with_form}
 use Rattle.command_words.specs.declared.arguments.WordsErr.{WordsErr}
 use Rattle.command_words.specs.declared.arguments.WordsErr.TheVariants.{Usage, NoMemory}
 
@@ -57,6 +57,14 @@ migrate_lacks found none = rw none refl
 pub migrate_has : (found : Text → Option Text) (file : Text) → found (codes "portfolio") ≡ Some file → migrate_from found ≡ Some (Migrate file)
 migrate_has found file is = rw is refl
 
+-- ---- `expand`
+
+pub expand_lacks : (found : Text → Option Text) → found (codes "plans") ≡ None → expand_from found ≡ None
+expand_lacks found none = rw none refl
+
+pub expand_has : (found : Text → Option Text) (file : Text) → found (codes "plans") ≡ Some file → expand_from found ≡ Some (Expand file)
+expand_has found file is = rw is refl
+
 -- ---- the first word
 
 -- words of which there is one are the first and those behind it
@@ -69,8 +77,12 @@ module _ (name : Text) (rest : List Text) (no_check : false ≡ bytes_eq name (c
   pub migrate_asked : true ≡ bytes_eq name (codes "migrate") → request_of (name ∷ rest) ≡ migrate_of rest
   migrate_asked is = rw (sym no_check, sym no_flows, sym no_advance, sym no_payoff, sym no_value, sym is) refl
 
-  pub sample_asked : false ≡ bytes_eq name (codes "migrate") → true ≡ bytes_eq name (codes "sample") → request_of (name ∷ rest) ≡ sample_of rest
-  sample_asked no_migrate is = rw (sym no_check, sym no_flows, sym no_advance, sym no_payoff, sym no_value, sym no_migrate, sym is) refl
+  pub expand_asked : false ≡ bytes_eq name (codes "migrate") → true ≡ bytes_eq name (codes "expand") → request_of (name ∷ rest) ≡ expand_of rest
+  expand_asked no_migrate is = rw (sym no_check, sym no_flows, sym no_advance, sym no_payoff, sym no_value, sym no_migrate, sym is) refl
+
+  pub sample_asked : false ≡ bytes_eq name (codes "migrate") → false ≡ bytes_eq name (codes "expand") → true ≡ bytes_eq name (codes "sample") → request_of (name ∷ rest) ≡ sample_of rest
+  sample_asked no_migrate no_expand is =
+      rw (sym no_check, sym no_flows, sym no_advance, sym no_payoff, sym no_value, sym no_migrate, sym no_expand, sym is) refl
 
 -- ---- `flows`
 

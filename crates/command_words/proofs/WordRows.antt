@@ -6,7 +6,7 @@ use Rattle.clap.proofs.OnLiterals.{clap_on_literals}
 use Rattle.term_core.specs.Dates.{epoch_day_of, parts_of, two_of}
 use Rattle.fixing_files.specs.Days.{day_named, day_of}
 use Rattle.command_words.specs.Arguments.{taken}
-use Rattle.command_words.specs.Commands.{Advance, Flows, Migrate, Payoff, Request, Sample, Value}
+use Rattle.command_words.specs.Commands.{Advance, Expand, Flows, Migrate, Payoff, Request, Sample, Value}
 use Rattle.command_words.specs.Words.{request_of}
 
 abbrev flows : Text → Option Text → Option Text → Bool → Option Request
@@ -79,6 +79,18 @@ migrate_of_a_portfolio = refl
 one_portfolio_alone : request_of (codes "migrate" ∷ codes "a" ∷ codes "b" ∷ []) ≡ None
 unfolding clap_on_literals taken
 one_portfolio_alone = refl
+
+expand_of_plans : request_of (codes "expand" ∷ codes "--" ∷ codes "--plans" ∷ []) ≡ Some (Expand (codes "--plans"))
+unfolding clap_on_literals taken
+expand_of_plans = refl
+
+no_plans : request_of (codes "expand" ∷ []) ≡ None
+unfolding clap_on_literals taken
+no_plans = refl
+
+expand_takes_no_option : request_of (codes "expand" ∷ codes "a" ∷ codes "--until=1" ∷ []) ≡ None
+unfolding clap_on_literals taken
+expand_takes_no_option = refl
 
 payoff_of_a_contract : request_of (codes "payoff" ∷ codes "--plain" ∷ codes "a" ∷ codes "--contract=c" ∷ []) ≡ Some (Payoff (record { portfolio = codes "a"; contract = codes "c"; plain = true }))
 unfolding clap_on_literals taken

@@ -2,8 +2,8 @@
 -- file where one is named, up to a day where a word gives one, of one contract where its name is given, and with the flows of
 -- all contracts summed where that is asked; `advance` of a portfolio's file, over the fixings of another, to the day of a word;
 -- `payoff` of the contract of a name in a portfolio's file, with its payments uncut where that is asked; `value` of a code file,
--- over the fixings and the discount factors of two others; `migrate` of a portfolio's file; and `sample` of a number of contracts,
--- which has no file.
+-- over the fixings and the discount factors of two others; `migrate` of a portfolio's file; `expand` of a schedule file; and `sample`
+-- of a number of contracts, which has no file.
 use Rattle.std.specs.Prelude.{ℕ, ◌≤◌, Bool, List, [], ◌∷◌, Option, Some, None}
 use Rattle.std.specs.List.{All}
 
@@ -55,6 +55,7 @@ pub data Request : Type 0 where
   Payoff : PayoffAsked → Request
   Value : ValueAsked → Request
   Migrate : List ℕ → Request
+  Expand : List ℕ → Request
   Sample : ℕ → Request
 
 -- the file that a word names, if there is such a word
@@ -70,4 +71,5 @@ files_of (Advance advance) = advance.portfolio ∷ advance.fixings ∷ []
 files_of (Payoff payoff) = payoff.portfolio ∷ []
 files_of (Value value) = value.files.code ∷ value.files.fixings ∷ value.files.curve ∷ []
 files_of (Migrate portfolio) = portfolio ∷ []
+files_of (Expand plans) = plans ∷ []
 files_of (Sample contracts) = []

@@ -13,7 +13,7 @@ use Rattle.contract_parse.specs.NameTexts.{is_name_text}
 use Rattle.fixing_files.specs.Days.{day_named}
 use Rattle.fixing_files.specs.declared.days.NamedDay.{NamedDay}
 use Rattle.command_words.specs.Arguments.{IsAnswer, asked_of, declared, flag, given_text, is_set, optional, repeated, required, taken, valued}
-use Rattle.command_words.specs.Commands.{Advance, AdvanceAsked, Between, Check, Flows, FlowsAsked, Migrate, Payoff, PayoffAsked, Request, Sample, Value, ValueAsked, ValueFiles}
+use Rattle.command_words.specs.Commands.{Advance, AdvanceAsked, Between, Check, Expand, Flows, FlowsAsked, Migrate, Payoff, PayoffAsked, Request, Sample, Value, ValueAsked, ValueFiles}
 use Rattle.command_words.specs.declared.words.Advance.{Advance as AdvanceCommand}
 use Rattle.command_words.specs.declared.words.Flows.{Flows as FlowsCommand}
 use Rattle.command_words.specs.declared.words.Payoff.{Payoff as PayoffCommand}
@@ -62,6 +62,7 @@ requested_by (request.Advance advance) = Advance (advance_by advance)
 requested_by (request.Payoff payoff) = Payoff (payoff_by payoff)
 requested_by (request.Value value) = Value (value_by value)
 requested_by (request.Migrate portfolio) = Migrate portfolio.now
+requested_by (request.Expand plans) = Expand plans.now
 requested_by (request.Sample size) = Sample size.contracts
 
 -- ---- the forms of words
@@ -115,6 +116,17 @@ migrate_from word = option_map (λ file. Migrate file) (word (codes "portfolio")
 
 abbrev pub migrate_of : List Text → Option Request
 migrate_of words = asked_of migrate_app migrate_from words
+
+-- ---- `expand PLANS`
+
+abbrev pub expand_app : App
+expand_app = declared (codes "expand") (required (codes "plans") ∷ [])
+
+abbrev pub expand_from : (Text → Option Text) → Option Request
+expand_from word = option_map (λ file. Expand file) (word (codes "plans"))
+
+abbrev pub expand_of : List Text → Option Request
+expand_of words = asked_of expand_app expand_from words
 
 -- ---- `flows PORTFOLIO [FIXINGS] [--until DAY] [--contract NAME] [--net]`
 
@@ -267,6 +279,7 @@ request_of (name ∷ rest) =
     else if bytes_eq name (codes "payoff") then payoff_of rest
     else if bytes_eq name (codes "value") then option_map (λ value. Value value) (value_of rest)
     else if bytes_eq name (codes "migrate") then migrate_of rest
+    else if bytes_eq name (codes "expand") then expand_of rest
     else if bytes_eq name (codes "sample") then sample_of rest
     else None
 

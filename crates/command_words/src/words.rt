@@ -4,7 +4,7 @@ ghost use Rattle.std.specs.Prelude.{◌≡◌, IfOk};
 ghost use Rattle.clap.specs.Walk.{texts};
 ghost use Rattle.command_words.specs.Arguments.{IsAnswer};
 ghost use Rattle.command_words.specs.Commands.{files_of};
-ghost use Rattle.command_words.specs.Words.{IsRequestOf, advance_of, check_of, flows_of, migrate_of, payoff_of, requested_by, sample_of};
+ghost use Rattle.command_words.specs.Words.{IsRequestOf, advance_of, check_of, expand_of, flows_of, migrate_of, payoff_of, requested_by, sample_of};
 
 use crate::arguments::{Argument, WordsErr, is_set, matches_of};
 use crate::day_words::DayWord;
@@ -58,6 +58,8 @@ pub enum Request<'a> {
     Value(Value<'a>),
     /// Writes the portfolio in version 2.
     Migrate { portfolio: &'a str },
+    /// Writes the contracts that the plans of a schedule file stand for.
+    Expand { plans: &'a str },
     /// Summarizes what the sample of so many contracts pays.
     Sample(SampleSize),
 }
@@ -80,6 +82,16 @@ fn migrate_of<'a>(alloc: Global, words: &'a [&'a str]) -> Result<Request<'a>, Wo
     let matches = matches_of(alloc, "migrate", &arguments, words)?;
     let portfolio = given(matches.get_str("portfolio"))?;
     Ok(Request::Migrate { portfolio })
+}
+
+// `expand PLANS`, by the words behind the first.
+fn expand_of<'a>(alloc: Global, words: &'a [&'a str]) -> Result<Request<'a>, WordsErr>
+    ensures { IsAnswer requested_by (expand_of (texts words.entry.now)) result }
+{
+    let arguments = [Argument::Required("plans")];
+    let matches = matches_of(alloc, "expand", &arguments, words)?;
+    let plans = given(matches.get_str("plans"))?;
+    Ok(Request::Expand { plans })
 }
 
 // `flows PORTFOLIO [FIXINGS] [--until DAY] [--contract NAME] [--net]`, by the words behind the first.
@@ -179,6 +191,8 @@ pub fn request_of<'a>(alloc: Global, words: &'a [&'a str]) -> Result<Request<'a>
         Ok(Request::Value(value))
     } else if *name == "migrate" {
         migrate_of(alloc, rest)
+    } else if *name == "expand" {
+        expand_of(alloc, rest)
     } else if *name == "sample" {
         sample_of(alloc, rest)
     } else {
@@ -204,6 +218,7 @@ pub fn files_of<'a>(alloc: Global, request: &Request<'a>) -> Result<Vec<&'a str>
             names.push(advance.fixings)?;
         }
         Request::Payoff(payoff) => names.push(payoff.portfolio)?,
+        Request::Expand { plans } => names.push(*plans)?,
         Request::Value(value) => {
             names.push(value.files.code)?;
             names.push(value.files.fixings)?;
