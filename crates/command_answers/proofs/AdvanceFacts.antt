@@ -79,7 +79,7 @@ pub names_behind : (before after : List (Name × Contract)) (names : List Name) 
 names_behind before after names name c is new =
     subst (λ (ns : List Name). are_new ns names ≡ true) (sym (ap keys_of is ∙ keys_added before name c)) (first_is_new (keys_of before) names name new).1
 
-trees_more : (entries after : List (Name × Contr)) (name : Name) (c : Contr) → after ≡ entries ++ (name, c) ∷ [] → trees after ≡ trees entries ++ (name, contract c) ∷ []
+pub trees_more : (entries after : List (Name × Contr)) (name : Name) (c : Contr) → after ≡ entries ++ (name, c) ∷ [] → trees after ≡ trees entries ++ (name, contract c) ∷ []
 trees_more entries after name c is =
     ap (λ (es : List (Name × Contr)). trees es) is ∙ map-append (λ (entry : Name × Contr). (entry.0, contract entry.1)) entries ((name, c) ∷ [])
 

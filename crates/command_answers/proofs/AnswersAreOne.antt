@@ -3,7 +3,7 @@ use Rattle.std.proofs.Common.{◌≡◌, ◌∙◌, ◌⊎◌, inl, inr, ℕ, Li
 use Rattle.std.specs.Map.{keys_of}
 use Rattle.std.specs.Prelude.{Option, Some, None}
 use Rattle.contract_parse.specs.Names.{index_in}
-use Rattle.command_words.specs.Commands.{Advance, Check, Flows, Migrate, Payoff, Request, Sample, Value}
+use Rattle.command_words.specs.Commands.{Advance, Check, Expand, Flows, Migrate, Payoff, Request, Sample, Value}
 use Rattle.command_answers.specs.AdvancePromise.{AreDueLines, last_gone}
 use Rattle.command_answers.specs.AnswerLaws.{AnswersAreOne, DeclaredNamesHavePlaces, DueLinesAreOne, LeavesNothingOpen, StatusesAreOne, SummariesAreOne}
 use Rattle.command_answers.specs.Course.{Tells}
@@ -36,6 +36,7 @@ open_or_not (Advance asked) = inr (λ h. h)
 open_or_not (Payoff asked) = inl tt
 open_or_not (Value asked) = inl tt
 open_or_not (Migrate portfolio) = inl tt
+open_or_not (Expand plans) = inl tt
 open_or_not (Sample contracts) = inl tt
 
 module _ (request : Request) (inputs : List (List ℕ)) (s t : Status) (one other : List ℕ) where

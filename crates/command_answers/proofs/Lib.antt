@@ -7,6 +7,7 @@ pub mod WritableFacts
 pub mod AdvanceFacts
 pub mod PayoffFacts
 pub mod MigrateFacts
+pub mod ExpandFacts
 pub mod CheckFacts
 pub mod SumLineFacts
 pub mod ValueParts

@@ -17,8 +17,10 @@ use Rattle.payoff_lang.specs.CodeCanon.{IsCanonOfCode}
 use Rattle.payoff_lang.specs.CodeValues.{Asked as Question}
 use Rattle.payoff_lang.proofs.CodeCanonFacts.{one_canon_of_code}
 use Rattle.payoff_lang.proofs.OneCode.{one_code_text}
+use Rattle.schedule_forms.specs.PlanBooks.{PlanBook, expanded_book}
+use Rattle.schedule_forms.proofs.OnePlans.{one_plan_file}
 use Rattle.report.specs.ValueLines.{value_text}
-use Rattle.command_words.specs.Commands.{Advance, Check, Flows, FlowsAsked, Migrate, Payoff, PayoffAsked, Request, Sample, Value, ValueAsked}
+use Rattle.command_words.specs.Commands.{Advance, Check, Expand, Flows, FlowsAsked, Migrate, Payoff, PayoffAsked, Request, Sample, Value, ValueAsked}
 use Rattle.command_answers.specs.AnswerLaws.{LeavesNothingOpen}
 use Rattle.command_answers.specs.CheckPromise.{AreCheckLines}
 use Rattle.command_answers.specs.Course.{Tells}
@@ -94,6 +96,8 @@ one_told (Value asked) inputs s t one other closed (b, p, h) (c, q, k) =
     (subst (λ (x : CodeBook). Tells (value_on asked x (file_at inputs 1) (file_at inputs 2)) t other) (one_code_text (file_at inputs 0) c b q p) k)
 one_told (Migrate portfolio) inputs s t one other closed (b, p, (done, canon)) (c, q, (ended, more)) =
     one_canon one other (migrated b) canon (subst (λ (x : Book). IsCanon other (migrated x)) (one_text (file_at inputs 0) c b q p) more)
+one_told (Expand plans) inputs s t one other closed (b, p, (a, accepted, (done, canon))) (c, q, (x, accepts, (ended, more))) =
+    one_canon one other (expanded_book b) canon (subst (λ (x : PlanBook). IsCanon other (expanded_book x)) (one_plan_file (file_at inputs 0) c b q p) more)
 one_told (Sample contracts) inputs s t one other closed h k = one_summary contracts one other h.1 k.1
 
 -- what is left open is the text of a command that is done
@@ -105,4 +109,5 @@ told_is_done (Advance asked) inputs s text open_end (b, p, (day, is, (a, all, (f
 told_is_done (Payoff asked) inputs s text open_end h = absurd (open_end tt)
 told_is_done (Value asked) inputs s text open_end h = absurd (open_end tt)
 told_is_done (Migrate portfolio) inputs s text open_end h = absurd (open_end tt)
+told_is_done (Expand plans) inputs s text open_end h = absurd (open_end tt)
 told_is_done (Sample contracts) inputs s text open_end h = absurd (open_end tt)

@@ -18,21 +18,24 @@ use Rattle.payoff_lang.specs.CodeBooks.{CodeBook}
 use Rattle.payoff_lang.specs.CodeCanon.{IsCanonOfCode}
 use Rattle.payoff_lang.specs.CodeValues.{Asked as Question}
 use Rattle.payoff_lang.proofs.OneCode.{one_code_text}
+use Rattle.schedule_forms.specs.PlanBooks.{PlanBook, expanded_book}
+use Rattle.schedule_forms.proofs.OnePlans.{one_plan_file}
 use Rattle.sample.specs.Summary.{IsSummary}
-use Rattle.command_words.specs.Commands.{Advance, AdvanceAsked, Between, Check, Flows, FlowsAsked, Migrate, Payoff, PayoffAsked, Request, Sample, Value, ValueAsked}
+use Rattle.command_words.specs.Commands.{Advance, AdvanceAsked, Between, Check, Expand, Flows, FlowsAsked, Migrate, Payoff, PayoffAsked, Request, Sample, Value, ValueAsked}
 use Rattle.command_answers.specs.AdvanceCourse.{advance_course, to_a_day}
 use Rattle.command_answers.specs.AdvancePromise.{IsAdvanced, IsNewDay, last_gone}
 use Rattle.command_answers.specs.CheckCourse.{check_course}
 use Rattle.command_answers.specs.CheckPromise.{Verdict}
 use Rattle.command_answers.specs.Course.{Course, behind, tells}
 use Rattle.command_answers.specs.Courses.{course_of}
+use Rattle.command_answers.specs.ExpandCourse.{expand_course}
 use Rattle.command_answers.specs.FlowsCourse.{flows_course, flows_on, over_fixings, table_named}
 use Rattle.command_answers.specs.FlowsPromise.{AreLinesAsked, IsDayAsked, IsFirstMissing, greatest_day}
 use Rattle.command_answers.specs.Inputs.{file_at}
 use Rattle.command_answers.specs.MigrateCourse.{migrate_course}
 use Rattle.command_answers.specs.PayoffCourse.{payoff_course}
 use Rattle.command_answers.specs.PayoffPromise.{code_file_of}
-use Rattle.command_answers.specs.Stages.{accepted_at_defaults, accepted_code, all_accepted, all_fixed, code_fixed, code_of, curve_of, day_of_word, fixed_by, known, last_day, named, names_of_value, new_day, portfolio_of}
+use Rattle.command_answers.specs.Stages.{accepted_at_defaults, accepted_code, all_accepted, all_fixed, code_fixed, code_of, curve_of, day_of_word, fixed_by, known, last_day, named, names_of_value, new_day, plans_of, portfolio_of}
 use Rattle.command_answers.specs.UsedContracts.{used}
 use Rattle.command_answers.specs.ValueCourse.{numbers, value_course, value_on}
 use Rattle.command_answers.specs.ValuePromise.{AreBetween, IsWorth, question}
@@ -40,7 +43,7 @@ use Rattle.command_answers.specs.declared.status.Status.{Status}
 use Rattle.command_answers.specs.declared.status.Status.TheVariants as status
 use Rattle.command_answers.proofs.CourseFacts.{Alike, Sound, alike_behind, alike_ends, one_next, onward, same_stage}
 use Rattle.command_answers.proofs.FlowsAreOne.{HoldSame, hold_same, one_last, same_fixed, same_missing}
-use Rattle.command_answers.proofs.StageFacts.{accepted_at_defaults_is, accepted_code_is, all_accepted_is, all_fixed_is, code_fixed_is, code_is, curve_is, day_is, fixed_by_is, known_is, last_day_is, named_is, names_is, new_day_is, portfolio_is, some_same}
+use Rattle.command_answers.proofs.StageFacts.{accepted_at_defaults_is, accepted_code_is, all_accepted_is, all_fixed_is, code_fixed_is, code_is, curve_is, day_is, fixed_by_is, known_is, last_day_is, named_is, names_is, new_day_is, plans_is, portfolio_is, some_same}
 use Rattle.command_answers.proofs.ValueReads.{same_missing_of_code}
 
 -- the statuses that commands give
@@ -209,6 +212,13 @@ sound_migrate inputs =
     let bytes = file_at inputs 0 in
     one_next OfCommand Book (portfolio_of bytes) _ tt (portfolio_is bytes) (one_text bytes) (λ b p. sound_tells (λ text. IsCanon text (migrated b)))
 
+sound_expand : (inputs : List (List ℕ)) → Sound OfCommand (expand_course inputs)
+sound_expand inputs =
+    let bytes = file_at inputs 0 in
+    one_next OfCommand PlanBook (plans_of bytes) _ tt (plans_is bytes) (one_plan_file bytes) (λ b p.
+    onward OfCommand (all_accepted b.declarations (expanded_book b).contracts) (tells (λ text. IsCanon text (expanded_book b))) tt (all_accepted_is b.declarations (expanded_book b).contracts)
+    (sound_tells (λ text. IsCanon text (expanded_book b))))
+
 pub sound_course : (request : Request) (inputs : List (List ℕ)) → Sound OfCommand (course_of request inputs)
 sound_course (Check portfolio) inputs = sound_check inputs
 sound_course (Flows asked) inputs = sound_flows_course asked inputs
@@ -216,4 +226,5 @@ sound_course (Advance asked) inputs = sound_advance asked inputs
 sound_course (Payoff asked) inputs = sound_payoff asked inputs
 sound_course (Value asked) inputs = sound_value_course asked inputs
 sound_course (Migrate portfolio) inputs = sound_migrate inputs
+sound_course (Expand plans) inputs = sound_expand inputs
 sound_course (Sample contracts) inputs = sound_tells (IsSummary contracts)

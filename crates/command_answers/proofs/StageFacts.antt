@@ -21,11 +21,13 @@ use Rattle.fixing_files.proofs.LawFacts.{faults_unique, faulty_hold_nothing}
 use Rattle.payoff_lang.specs.CodeBooks.{CodeBook}
 use Rattle.payoff_lang.specs.CodeValues.{Asked as Question}
 use Rattle.payoff_check.proofs.VerdictFacts.{accepted_not_refused, refusals_unique}
+use Rattle.schedule_forms.specs.PlanBooks.{PlanBook}
+use Rattle.schedule_forms.proofs.FileFacts.{one_plan_fault}
 use Rattle.report.specs.declared.fault_lines.Fault.TheVariants as fault
 use Rattle.command_words.specs.Commands.{ValueAsked}
 use Rattle.command_answers.specs.AdvancePromise.{greatest_new_day}
 use Rattle.command_answers.specs.FlowsPromise.{AreFixings, IsLastDay, IsOutOfRange, greatest_day, label_name}
-use Rattle.command_answers.specs.Stages.{accepted_at_defaults, accepted_code, all_accepted, all_fixed, code_fixed, code_of, curve_of, day_of_word, fixed_by, known, last_day, named, names_of_value, new_day, portfolio_of}
+use Rattle.command_answers.specs.Stages.{accepted_at_defaults, accepted_code, all_accepted, all_fixed, code_fixed, code_of, curve_of, day_of_word, fixed_by, known, last_day, named, names_of_value, new_day, plans_of, portfolio_of}
 use Rattle.command_answers.specs.Statuses.{status_of}
 use Rattle.command_answers.specs.UsedContracts.{contract_named}
 use Rattle.command_answers.specs.ValuePromise.{first_unknown, missing_of_code}
@@ -53,6 +55,13 @@ pub code_is : (bytes : List ℕ) → IsStage CodeBook (code_of bytes)
 code_is bytes = record {
   excludes = λ b f p h. h.no_code b p;
   one_fault = λ f g h k. h.fault_is ∙ ap (λ (x : TextFault). fault.Text x) (one_text_fault Language.Code bytes h.first k.first h.is_first k.is_first) ∙ sym k.fault_is;
+  status_is = λ f h. ap status_of h.fault_is;
+}
+
+pub plans_is : (bytes : List ℕ) → IsStage PlanBook (plans_of bytes)
+plans_is bytes = record {
+  excludes = λ b f p h. h.no_plans b p;
+  one_fault = λ f g h k. h.fault_is ∙ ap (λ (x : TextFault). fault.Text x) (one_plan_fault bytes h.first k.first h.is_first k.is_first) ∙ sym k.fault_is;
   status_is = λ f h. ap status_of h.fault_is;
 }
 

@@ -1,10 +1,11 @@
 -- The course of each command, behind the bytes of its files. `sample NUMBER` has no file, and no stage: it tells its summary.
 use Rattle.std.specs.Prelude.{ℕ, List}
 use Rattle.sample.specs.Summary.{IsSummary}
-use Rattle.command_words.specs.Commands.{Advance, Check, Flows, Migrate, Payoff, Request, Sample, Value}
+use Rattle.command_words.specs.Commands.{Advance, Check, Expand, Flows, Migrate, Payoff, Request, Sample, Value}
 use Rattle.command_answers.specs.AdvanceCourse.{advance_course}
 use Rattle.command_answers.specs.CheckCourse.{check_course}
 use Rattle.command_answers.specs.Course.{Course, tells}
+use Rattle.command_answers.specs.ExpandCourse.{expand_course}
 use Rattle.command_answers.specs.FlowsCourse.{flows_course}
 use Rattle.command_answers.specs.MigrateCourse.{migrate_course}
 use Rattle.command_answers.specs.PayoffCourse.{payoff_course}
@@ -20,4 +21,5 @@ course_of (Advance asked) inputs = advance_course asked inputs
 course_of (Payoff asked) inputs = payoff_course asked inputs
 course_of (Value asked) inputs = value_course asked inputs
 course_of (Migrate portfolio) inputs = migrate_course inputs
+course_of (Expand plans) inputs = expand_course inputs
 course_of (Sample contracts) inputs = sample_course contracts

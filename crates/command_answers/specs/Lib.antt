@@ -15,11 +15,13 @@ pub mod AdvanceCourse
 pub mod PayoffCourse
 pub mod ValueCourse
 pub mod MigrateCourse
+pub mod ExpandCourse
 pub mod Courses
 pub mod UsedParts
 pub mod CheckParts
 pub mod FlowsParts
 pub mod AdvanceParts
+pub mod ExpandParts
 pub mod PayoffParts
 pub mod ValueParts
 pub mod DueOfFlows

@@ -18,6 +18,9 @@ use Rattle.payoff_lang.specs.CodeAnswers.{IsCodeFault}
 use Rattle.payoff_lang.specs.CodeBooks.{CodeBook}
 use Rattle.payoff_lang.specs.CodeFiles.{CodeText}
 use Rattle.payoff_lang.specs.CodeValues.{Asked as Question}
+use Rattle.schedule_forms.specs.PlanBooks.{PlanBook}
+use Rattle.schedule_forms.specs.PlanSpelling.{PlanText}
+use Rattle.schedule_forms.specs.PlanTexts.{IsPlanFault}
 use Rattle.report.specs.declared.fault_lines.Fault.{Fault}
 use Rattle.report.specs.declared.fault_lines.Fault.TheVariants as fault
 use Rattle.command_words.specs.Commands.{ValueAsked}
@@ -53,6 +56,17 @@ pub record IsBadCode (bytes : List ℕ) (f : Fault) : Type 0 where
 -- the code file of a text
 abbrev pub code_of : List ℕ → Stage CodeBook
 code_of bytes = record { status = status.BadText; Passes = CodeText bytes; FaultIs = IsBadCode bytes }
+
+-- the bytes are no schedule file's text, and the fault is their first
+pub record IsBadPlans (bytes : List ℕ) (f : Fault) : Type 0 where
+  pub first : TextFault
+  pub is_first : IsPlanFault bytes first
+  pub no_plans : (b : PlanBook) → PlanText bytes b → ⊥
+  pub fault_is : f ≡ fault.Text first
+
+-- the schedule file of a text
+abbrev pub plans_of : List ℕ → Stage PlanBook
+plans_of bytes = record { status = status.BadText; Passes = PlanText bytes; FaultIs = IsBadPlans bytes }
 
 -- ---- names
 

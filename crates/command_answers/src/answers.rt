@@ -7,6 +7,7 @@ ghost use Rattle.command_words.specs.Words.{advance_by, flows_by, payoff_by, req
 ghost use Rattle.command_answers.specs.AdvanceCourse.{advance_course};
 ghost use Rattle.command_answers.specs.CheckCourse.{check_course};
 ghost use Rattle.command_answers.specs.Courses.{course_of, sample_course};
+ghost use Rattle.command_answers.specs.ExpandCourse.{expand_course};
 ghost use Rattle.command_answers.specs.FlowsCourse.{flows_course, table_named};
 ghost use Rattle.command_answers.specs.Inputs.{AreShort, bytes_of};
 ghost use Rattle.command_answers.specs.MigrateCourse.{migrate_course};
@@ -17,8 +18,9 @@ ghost use Rattle.command_answers.specs.ValueCourse.{value_course};
 
 use crate::advance_text::advance_text;
 use crate::check_text::check_text;
+use crate::expand_text::expand_text;
 use crate::flows_text::flows_text;
-use crate::inputs::{code_of, file_at, portfolio_of};
+use crate::inputs::{code_of, file_at, plans_of, portfolio_of};
 use crate::migrate_text::migrated_text;
 use crate::payoff_text::payoff_text;
 use crate::status::{Status, status_of};
@@ -144,6 +146,19 @@ fn migrate_answer(alloc: Global, inputs: &[Vec<u8>]) -> Result<Answer, Stop>
     })
 }
 
+// The text of the portfolio that a schedule file stands for.
+fn expand_answer(alloc: Global, inputs: &[Vec<u8>]) -> Result<Answer, Stop>
+    requires { AreShort (bytes_of inputs.now) }
+    ensures { Goes (expand_course (bytes_of inputs.now)) result }
+{
+    let file = plans_of(alloc, file_at(inputs, 0))?;
+    let text = expand_text(alloc, file)?;
+    Ok(Answer {
+        status: Status::Done,
+        text,
+    })
+}
+
 // The summary of the sample of so many contracts.
 fn sample_answer(alloc: Global, size: SampleSize) -> Result<Answer, Stop>
     ensures { Goes (sample_course size.contracts) result }
@@ -172,6 +187,7 @@ pub fn answer_request(
         Request::Payoff(asked) => payoff_answer(alloc, asked, inputs),
         Request::Value(asked) => value_answer(alloc, asked, inputs),
         Request::Migrate { .. } => migrate_answer(alloc, inputs),
+        Request::Expand { .. } => expand_answer(alloc, inputs),
         Request::Sample(size) => sample_answer(alloc, *size),
     }
 }

@@ -4,7 +4,8 @@ ghost use Rattle.std.specs.Prelude.{◌≡◌, ◌≤◌, length};
 ghost use Rattle.term_core.specs.Books.{book};
 ghost use Rattle.payoff_lang.specs.CodeBooks.{code_book};
 ghost use Rattle.command_answers.specs.Inputs.{bytes_of, file_at};
-ghost use Rattle.command_answers.specs.Stages.{IsBadCode, portfolio_of};
+ghost use Rattle.schedule_forms.specs.PlanBooks.{plan_book};
+ghost use Rattle.command_answers.specs.Stages.{IsBadCode, plans_of, portfolio_of};
 ghost use Rattle.command_answers.specs.Stopping.{AnswersBy, AnswersStage};
 ghost use Rattle.command_answers.specs.ValueParts.{IsReadFrom};
 
@@ -12,6 +13,7 @@ use crate::stop::Stop;
 use contract_parse::{ParseErr, parse_portfolio};
 use payoff_lang::{CodeFile, parse_code};
 use report::Fault;
+use schedule_forms::{PlanFile, parse_plans};
 use std::alloc::Global;
 use term_core::Portfolio;
 
@@ -43,6 +45,18 @@ pub fn code_of(alloc: Global, bytes: &[u8]) -> Result<CodeFile, Stop>
     ensures { AnswersBy (λ file. IsReadFrom bytes.now (code_book file)) (IsBadCode bytes.now) result }
 {
     match parse_code(alloc, bytes) {
+        Ok(file) => Ok(file),
+        Err(ParseErr::Text(fault)) => Err(Stop::Fault(Fault::Text(fault))),
+        Err(ParseErr::NoMemory) => Err(Stop::NoMemory),
+    }
+}
+
+/// The schedule file of a text.
+pub fn plans_of(alloc: Global, bytes: &[u8]) -> Result<PlanFile, Stop>
+    requires { length bytes.now ≤ 16_777_216 }
+    ensures { AnswersStage (plans_of bytes.now) plan_book result }
+{
+    match parse_plans(alloc, bytes) {
         Ok(file) => Ok(file),
         Err(ParseErr::Text(fault)) => Err(Stop::Fault(Fault::Text(fault))),
         Err(ParseErr::NoMemory) => Err(Stop::NoMemory),

@@ -13,6 +13,7 @@ mod accepting;
 mod advance_text;
 mod answers;
 mod check_text;
+mod expand_text;
 mod flows_text;
 mod inputs;
 mod migrate_text;

@@ -1,0 +1,116 @@
+-- The expansions of plans: one more behind those so far; each can be tried and printed, and is used as it is.
+use Rattle.std.proofs.Common.{◌≡◌, ◌∙◌, ◌≤◌, ◌<◌, ◌^◌, ℕ, true, false, List, [], ◌∷◌, ◌++◌, append_assoc, map, ap, ap₂, arith, refl, subst, sym}
+use Rattle.std.specs.Prelude.{All, None}
+use Rattle.std.specs.Map.{keys_of}
+use Rattle.std.proofs.lemmas.List.Elements.{All-head, All-map, All-tail, All-weaker}
+use Rattle.term_core.specs.declared.name.Name.{Name}
+use Rattle.term_core.specs.declared.terms.Contr.{Contr}
+use Rattle.term_core.specs.DayCounts.{Days, Named, Num as Count, Sum}
+use Rattle.term_core.specs.Declarations.{Declarations}
+use Rattle.term_core.specs.Instances.{HasSmallSums, IsSmallSum, declared_numbers}
+use Rattle.term_core.specs.Terms.{Contract, Zero, Pay, Both, Scale, After, Let, Within}
+use Rattle.term_core.specs.WellFormed.{HasOnlyNumbers, IsNumber}
+use Rattle.contract_parse.specs.ContractReading.{trees}
+use Rattle.contract_parse.specs.Names.{is_declared}
+use Rattle.contract_print.specs.Spellable.{IsSpellable, are_new}
+use Rattle.contract_print.specs.Writable.{IsWritableTerm}
+use Rattle.contract_print.proofs.TermNumbers.{spellable_written}
+use Rattle.schedule_forms.specs.DeclaredPlans.{IsPlanOfTexts}
+use Rattle.schedule_forms.specs.Expansions.{expansion}
+use Rattle.schedule_forms.specs.declared.plans.Plan.{Plan}
+use Rattle.schedule_forms.proofs.PlanFacts.{expansions_closed}
+use Rattle.schedule_forms.proofs.SmallFacts.{expansions_small}
+use Rattle.command_answers.specs.ExpandParts.{expanded_entry}
+use Rattle.command_answers.specs.UsedParts.{IsSound}
+use Rattle.command_answers.proofs.AdvanceFacts.{first_is_new, keys_of_trees, names_behind}
+use Rattle.command_answers.proofs.UsedFacts.{own_instance, used_of}
+
+-- ---- one more contract
+
+module _ (before : List (Name × Contr)) (plans rest : List (Name × Plan)) (name : Name) (plan : Plan) (steps : plans ≡ (name, plan) ∷ rest)
+    (names : are_new (keys_of (trees before)) (keys_of plans) ≡ true) where
+  -- the name of the next plan is new, and those behind it are
+  new_names : are_new (keys_of (trees before)) (name ∷ keys_of rest) ≡ true
+  new_names = subst (λ (xs : List (Name × Plan)). are_new (keys_of (trees before)) (keys_of xs) ≡ true) steps names
+
+  pub next_is_new : is_declared (keys_of before) name ≡ false
+  next_is_new =
+      subst (λ (ns : List Name). is_declared ns name ≡ false) (keys_of_trees before)
+      (first_is_new (keys_of (trees before)) (keys_of rest) name new_names).0
+
+  module _ (after : List (Name × Contr)) (kept : trees after ≡ trees before ++ (name, expansion plan) ∷ []) where
+    pub names_go_on : are_new (keys_of (trees after)) (keys_of rest) ≡ true
+    names_go_on = names_behind (trees before) (trees after) (keys_of rest) name (expansion plan) kept new_names
+
+    pub expansions_more : trees after ++ map expanded_entry rest ≡ trees before ++ map expanded_entry plans
+    expansions_more =
+        ap (λ (es : List (Name × Contract)). es ++ map expanded_entry rest) kept
+        ∙ append_assoc (trees before) ((name, expansion plan) ∷ []) (map expanded_entry rest)
+        ∙ ap (λ (xs : List (Name × Plan)). trees before ++ map expanded_entry xs) (sym steps)
+
+-- the next plan of those that are left
+pub next_within : (P : Plan → Type 0) (plans rest : List (Name × Plan)) (name : Name) (plan : Plan) → plans ≡ (name, plan) ∷ rest
+    → All (λ (entry : Name × Plan). P entry.1) plans → P plan × All (λ (entry : Name × Plan). P entry.1) rest
+next_within P plans rest name plan steps all =
+    let Q : Name × Plan → Type 0 = λ entry. P entry.1 in
+    let here = subst (All Q) steps all in
+    (All-head Q (name, plan) rest here, All-tail Q (name, plan) rest here)
+
+-- ---- an expansion can be tried
+
+small_count : (n : Days) → IsNumber n → IsSmallSum n
+small_count (Count n) h = tt
+small_count (Named t) h = absurd h
+small_count (Sum n ts) h = absurd h
+
+-- what names no template has no sum that could be large
+numbers_small : (c : Contract) → HasOnlyNumbers c → HasSmallSums c
+numbers_small Zero h = tt
+numbers_small (Pay a p q) h = tt
+numbers_small (Both a b) h = (numbers_small a h.0, numbers_small b h.1)
+numbers_small (Scale e c) h = numbers_small c h
+numbers_small (After n c) h = (small_count n h.0, numbers_small c h.1)
+numbers_small (Let e c) h = numbers_small c h
+numbers_small (Within e n a b) h = (small_count n h.0, numbers_small a h.1, numbers_small b h.2)
+
+module _ (d : Declarations) (plan : Plan) (fits : IsPlanOfTexts d plan) where
+  pub expansion_numbers : HasOnlyNumbers (expansion plan)
+  expansion_numbers = (expansions_closed d plan fits.within fits.over).1
+
+  pub expansion_sound : IsSound d (expansion plan)
+  expansion_sound =
+      let small = expansions_small plan fits.within in
+      record {
+        closed = (expansions_closed d plan fits.within fits.over).0;
+        low = small.0;
+        small = omega (arith, small.1);
+        sums = numbers_small (expansion plan) expansion_numbers;
+      }
+
+-- ---- those of all plans
+
+module _ (d : Declarations) where
+  abbrev Fits : Name × Plan → Type 0
+  Fits entry = IsPlanOfTexts d entry.1
+
+  pub expansions_sound : (plans : List (Name × Plan)) → All Fits plans → All (λ (entry : Name × Contract). IsSound d entry.1) (map expanded_entry plans)
+  expansions_sound plans all =
+      All-map (λ (entry : Name × Contract). IsSound d entry.1) expanded_entry plans
+      (All-weaker Fits (λ (entry : Name × Plan). IsSound d (expansion entry.1)) (λ entry fits. expansion_sound d entry.1 fits) plans all)
+
+  pub expansions_writable : (entries : List (Name × Contract)) → All (λ (entry : Name × Contract). IsSpellable d entry.1) entries
+      → All (λ (entry : Name × Contract). IsWritableTerm entry.1) entries
+  expansions_writable entries all =
+      All-weaker (λ (entry : Name × Contract). IsSpellable d entry.1) (λ (entry : Name × Contract). IsWritableTerm entry.1) (λ entry fits. spellable_written d entry.1 fits) entries all
+
+  -- they name no template, so they are used as they are
+  pub expansions_used : (plans : List (Name × Plan)) → All Fits plans → used_of None d (map expanded_entry plans) ≡ map expanded_entry plans
+  expansions_used [] all = refl
+  expansions_used (entry ∷ plans) all =
+      ap₂ (λ (c : Contract) (es : List (Name × Contract)). (entry.0, c) ∷ es)
+      (own_instance (declared_numbers d) (expansion entry.1) (expansion_numbers d entry.1 (All-head Fits entry plans all)))
+      (expansions_used plans (All-tail Fits entry plans all))
+
+pub names_of_expansions : (plans : List (Name × Plan)) → keys_of (map expanded_entry plans) ≡ keys_of plans
+names_of_expansions [] = refl
+names_of_expansions (entry ∷ plans) = ap (λ (names : List Name). entry.0 ∷ names) (names_of_expansions plans)

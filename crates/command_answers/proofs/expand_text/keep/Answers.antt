@@ -1,0 +1,18 @@
+use Rattle.std.proofs.Common.{◌≡◌, ◌∙◌, ◌++◌, ◌∷◌, [], ℕ, List, ap, rules}
+use Rattle.std.specs.Str.{bytes_eq}
+use Rattle.indexmap.specs.IndexMap.{insert_entry}
+use Rattle.term_core.specs.Terms.{Contract}
+use Rattle.contract_parse.specs.ContractReading.{trees}
+use Rattle.contract_parse.proofs.LineFacts.{entry_added}
+use Rattle.command_answers.proofs.AdvanceFacts.{trees_more}
+use Rattle.command_answers.proofs.expand_text.keep.Goals as goal
+
+pub returns : goal.returns
+returns c =
+    let before = c.args.contracts.now.entries in
+    let name = c.args.name.now in
+    let contr = c.in_ok-contr.contr in
+    let same : c.in_ok-clone.field-0 ≡ name = search rules in
+    let kept = c.in_ok-insert.ensures.entries ∙ ap (λ (n : List ℕ). insert_entry bytes_eq before n contr) same ∙ entry_added before name contr c.requires.name in
+    trees_more before c.insert.new.self.entries name contr kept
+    ∙ ap (λ (t : Contract). trees before ++ (name, t) ∷ []) c.in_ok-contr.ensures.expansion
