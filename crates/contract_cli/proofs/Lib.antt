@@ -10,3 +10,4 @@ pub mod SettingFacts
 pub mod HeadlineFacts
 pub mod MigrateFacts
 pub mod TwoRunFacts
+pub mod ExpandTexts

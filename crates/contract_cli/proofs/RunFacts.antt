@@ -4,7 +4,7 @@ use Rattle.std.specs.Prelude.{Option, Some, None}
 use Rattle.std.specs.List.{All}
 use Rattle.std.proofs.lemmas.List.Elements.{All-cons, All-nil}
 use Rattle.report.specs.declared.fault_lines.Fault.{Fault}
-use Rattle.command_words.specs.Commands.{Advance, Check, Flows, Migrate, Payoff, Request, Sample, Value, file_if_named, files_of}
+use Rattle.command_words.specs.Commands.{Advance, Check, Expand, Flows, Migrate, Payoff, Request, Sample, Value, file_if_named, files_of}
 use Rattle.command_answers.specs.Course.{Course, Stops, Tells}
 use Rattle.command_answers.specs.Courses.{course_of}
 use Rattle.command_answers.specs.Inputs.{AreShort}
@@ -80,4 +80,5 @@ few_files (Advance advance) = omega arith
 few_files (Payoff payoff) = omega arith
 few_files (Value value) = omega arith
 few_files (Migrate portfolio) = omega arith
+few_files (Expand plans) = omega arith
 few_files (Sample contracts) = omega arith

@@ -20,8 +20,8 @@ use Rattle.contract_parse.proofs.TextNumbers.{by_value, integer_within}
 use Rattle.payoff_lang.specs.CodeBooks.{CodeBook}
 use Rattle.payoff_lang.specs.CodeFiles.{CodeText}
 use Rattle.command_words.specs.Arguments.{Reading, asked_of, read_rows, taken}
-use Rattle.command_words.specs.Commands.{AreSettings, Between, Check, Migrate, Request, Sample, Value, ValueAsked, ValueFiles}
-use Rattle.command_words.specs.Words.{advance_app, advance_from, advance_with, check_app, check_from, flows_app, flows_from, flows_with, migrate_app, migrate_from, migrate_of, payoff_app, payoff_from, payoff_with}
+use Rattle.command_words.specs.Commands.{AreSettings, Between, Check, Expand, Migrate, Request, Sample, Value, ValueAsked, ValueFiles}
+use Rattle.command_words.specs.Words.{advance_app, advance_from, advance_with, check_app, check_from, expand_app, expand_from, expand_of, flows_app, flows_from, flows_with, migrate_app, migrate_from, migrate_of, payoff_app, payoff_from, payoff_with}
 use Rattle.command_words.specs.Words.{one_more_setting, parted, sample_app, sample_from, sample_of, setting_of_parts, setting_of_word, settings_after, settings_of, size_if_given, value_app, value_of, value_of_rows, value_with}
 use Rattle.command_answers.specs.ValuePromise.{number_set, setting_by}
 use Rattle.command_answers.proofs.StageFacts.{some_same}
@@ -127,6 +127,12 @@ module _ (asked : ValueAsked) where
       let never : Migrate file.0 ≡ Value asked = file.2 in
       absurd cc
 
+  no_expand : (word : Text → Option Text) → AsksNone (expand_from word)
+  no_expand word e =
+      let file = map_some (λ (name : Text). Expand name) (word (codes "plans")) (Value asked) e in
+      let never : Expand file.0 ≡ Value asked = file.2 in
+      absurd cc
+
   no_sample : (word : Text → Option Text) → AsksNone (sample_from word)
   no_sample word e =
       let size = map_some (λ (n : ℕ). Sample n) (size_if_given (word (codes "number"))) (Value asked) e in
@@ -177,10 +183,12 @@ module _ (asked : ValueAsked) where
       cc
   value_word false one other never e = absurd (never e)
 
-  no_other : (name : Text) (rest : List Text) → AsksNone (if bytes_eq name (codes "migrate") then migrate_of rest else if bytes_eq name (codes "sample") then sample_of rest else None)
+  no_other : (name : Text) (rest : List Text)
+      → AsksNone (if bytes_eq name (codes "migrate") then migrate_of rest else if bytes_eq name (codes "expand") then expand_of rest else if bytes_eq name (codes "sample") then sample_of rest else None)
   no_other name rest =
       neither (bytes_eq name (codes "migrate")) _ _ (asks_none migrate_app migrate_from no_migrate rest)
-      (neither (bytes_eq name (codes "sample")) _ _ (asks_none sample_app sample_from no_sample rest) (λ (e : None ≡ Some (Value asked)). cc))
+      (neither (bytes_eq name (codes "expand")) _ _ (asks_none expand_app expand_from no_expand rest)
+      (neither (bytes_eq name (codes "sample")) _ _ (asks_none sample_app sample_from no_sample rest) (λ (e : None ≡ Some (Value asked)). cc)))
 
   -- numbers that words set are at most 100,000
   words_small : (words : List Text) → Names words (Value asked) → AreSettings asked.settings

@@ -54,11 +54,11 @@ grown_by before after text (Some xs) (Some ys) e f h =
     let last : ys ≡ after = cc in
     sym last ∙ h ∙ ap (λ (zs : List ℕ). zs ++ text) first
 
-held_same : (one other : List ℕ) (held : Option (List ℕ)) → held ≡ Some one → held ≡ Some other → one ≡ other
+pub held_same : (one other : List ℕ) (held : Option (List ℕ)) → held ≡ Some one → held ≡ Some other → one ≡ other
 held_same one other held e f = cc
 
 -- what was written is what was printed
-was_printed : (sink : SinkLeft) (text written : List ℕ) → Printed sink text → WritesAll sink written → written ≡ text
+pub was_printed : (sink : SinkLeft) (text written : List ℕ) → Printed sink text → WritesAll sink written → written ≡ text
 was_printed sink text written p w =
     append_cancel_left p.before written text
     (sym (grown_by p.before (p.before ++ text) written sink.taken_before sink.taken_after p.held p.holds w))

@@ -7,3 +7,4 @@ pub mod PayoffLaws
 pub mod SampleLaws
 pub mod Headline
 pub mod TwoRuns
+pub mod ExpandLaws

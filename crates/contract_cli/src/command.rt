@@ -61,8 +61,9 @@ fn prepare<'a, F: Files>(
 /// DAY` writes the flow lines of the days before the day as comments, and the portfolio that is left on it; `payoff PORT
 /// --contract NAME [--plain]` writes the code of the named contract, with its payments cut or plain; `value CODE FIX CURVE
 /// [T=N].. --at DAY --from P --to Q --asset A` writes the line of what the code is worth on the day between the two parties in
-/// the asset; `migrate PORT` writes the portfolio in version 2; `sample NUMBER` reads no file and writes the summary of the sample
-/// of so many contracts. What stops a command writes the line of its fault.
+/// the asset; `migrate PORT` writes the portfolio in version 2; `expand PLANS` writes the portfolio of the contracts that the plans
+/// of a schedule file are written for; `sample NUMBER` reads no file and writes the summary of the sample of so many contracts.
+/// What stops a command writes the line of its fault.
 pub fn run<'a, F: Files, S: Sink>(
     alloc: Global,
     words: &'a [&'a str],

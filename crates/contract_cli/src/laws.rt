@@ -4,6 +4,7 @@ ghost use Rattle.command_answers.specs.AnswerLaws.{AnswersAreOne, DeclaredNamesH
 ghost use Rattle.command_answers.specs.DueOfFlows.{DueOfFlows};
 ghost use Rattle.command_answers.specs.DueOfValue.{DueOfValue};
 ghost use Rattle.contract_cli.specs.AdvanceLaws.{AdvanceTextsAreTexts, AdvancesCompose};
+ghost use Rattle.contract_cli.specs.ExpandLaws.{ExpandedPlansAreListed, ExpandedTextsAreAccepted, ExpandedTextsAreTexts};
 ghost use Rattle.contract_cli.specs.PayoffLaws.{PayoffTextsMean};
 ghost use Rattle.contract_cli.specs.RunLaws.{AnswersHaveCauses, DoneHasTold, ReadFaultsHaveCauses, RunIsComplete, StatusesAreExact, StatusesOverFilesAreExact, TooLongComes, TooLongHasACause, UsageIsExact, UsageWritesItsLine, WriteFaultsHaveCauses};
 ghost use Rattle.contract_cli.specs.SampleLaws.{SampleHasThreeEnds};
@@ -116,4 +117,12 @@ pub fn migrated_texts_say_the_same()
     ensures texts { MigratedTextsAreTexts }
     ensures same { MigratedSayTheSame }
     ensures stay { MigratedStay }
+{}
+
+/// What `expand` prints of a schedule file is a text of the portfolio of its plans' contracts, which are accepted and pay what
+/// the plans say. So `check` accepts it, and what `flows` prints of it are the lines of what the plans pay.
+pub fn expanded_plans_pay()
+    ensures texts { ExpandedTextsAreTexts }
+    ensures accepted { ExpandedTextsAreAccepted }
+    ensures listed { ExpandedPlansAreListed }
 {}
