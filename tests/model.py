@@ -400,6 +400,87 @@ def reads(c, names, places, world, day, low, high):
     return found
 
 
+# ---- Plans of payments at regular days
+
+
+class Leg:
+    """A size is (mantissa, scale), or (mode, scale, label, lag, (mantissa, scale)); the days are the first, those between, and how many."""
+
+    def __init__(self, size, asset, payer, receiver, first, every, times):
+        self.size, self.asset, self.payer, self.receiver = size, asset, payer, receiver
+        self.first, self.every, self.times = first, every, times
+
+    def days(self):
+        return [self.first + index * self.every for index in range(self.times)]
+
+    def expr(self):
+        if len(self.size) == 2:
+            return Term("lit", self.size)
+        mode, scale, label, lag, notional = self.size
+        return Term("round", (mode, scale), [Term("*", None, [Term("obs", (label, -lag)), Term("lit", notional)])])
+
+    def payment(self):
+        return Term("scale", None, [self.expr(), Term("pay", (self.asset, self.payer, self.receiver))])
+
+    def text(self):
+        if len(self.size) == 2:
+            size = decimal(*self.size)
+        else:
+            mode, scale, label, lag, notional = self.size
+            size = f"round( {mode} , {scale} , {label} , {lag} , {decimal(*notional)} )"
+        route = f"of {self.asset} from {self.payer} to {self.receiver}"
+        return f"{size} {route} first {self.first} every {self.every} times {self.times}"
+
+
+class Plan:
+    """A leg, two legs against each other, or a leg that ends with a cover (mantissa, scale) on the first day on which a flag is true."""
+
+    def __init__(self, legs, flag=None, cover=None):
+        self.legs, self.flag, self.cover = legs, flag, cover
+
+    def text(self, name):
+        legs = " against ".join(leg.text() for leg in self.legs)
+        if self.flag is None:
+            return f"{'leg' if len(self.legs) == 1 else 'swap'} {name} = {legs} ;"
+        return f"guarded {name} = {legs} until {self.flag} covers {decimal(*self.cover)} ;"
+
+    def payments(self, world, start):
+        """All that the plan pays: (day, asset, from, to, amount)."""
+        paid = [
+            (start + day, leg.asset, leg.payer, leg.receiver, value(leg.expr(), [], world, start + day))
+            for leg in self.legs
+            for day in leg.days()
+        ]
+        if self.flag is None:
+            return paid
+        leg = self.legs[0]
+        raised = next((day for day in range(leg.days()[-1] + 1) if world.at((self.flag, start + day))), None)
+        if raised is None:
+            return paid
+        cover = start + raised, leg.asset, leg.receiver, leg.payer, value(Term("lit", self.cover), [], world, start)
+        return [line for line in paid if line[0] < start + raised] + [cover]
+
+    def contract(self):
+        """The contract that the plan is written for."""
+        if self.flag is None:
+            legs = [balanced([Term("after", day, [leg.payment()]) for day in leg.days()]) for leg in self.legs]
+            return balanced(legs)
+        leg, rest = self.legs[0], None
+        for index in reversed(range(leg.times)):
+            cover = Term("scale", None, [Term("lit", self.cover), Term("pay", (leg.asset, leg.receiver, leg.payer))])
+            miss = leg.payment() if rest is None else Term("both", None, [leg.payment(), rest])
+            rest = Term("within", leg.every if index else leg.first, [Term("obs", (self.flag, 0)), cover, miss])
+        return rest
+
+
+def balanced(contracts):
+    """All of them, of which the first half has the odd one."""
+    if len(contracts) == 1:
+        return contracts[0]
+    half = (len(contracts) + 1) // 2
+    return Term("both", None, [balanced(contracts[:half]), balanced(contracts[half:])])
+
+
 # ---- What is left of a contract
 
 
