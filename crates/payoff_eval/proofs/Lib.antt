@@ -8,3 +8,4 @@ pub mod FitFacts
 pub mod AnswerFacts
 pub mod LawFacts
 pub mod StepFacts
+pub mod SameFacts

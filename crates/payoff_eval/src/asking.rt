@@ -1,6 +1,6 @@
 //! What a value is asked of.
 
-use fixing_files::{Curve, Fixings};
+use fixing_files::{Curve, LayeredFixings};
 use term_core::Decls;
 
 /// The declarations, the setting, the fixings and the curve, the current day, the pair and the asset.
@@ -8,7 +8,7 @@ use term_core::Decls;
 pub struct Asking<'a> {
     pub decls: &'a Decls,
     pub setting: &'a [u32],
-    pub fixings: &'a Fixings,
+    pub fixings: &'a LayeredFixings<'a>,
     pub curve: &'a Curve,
     pub today: i64,
     pub from: u32,

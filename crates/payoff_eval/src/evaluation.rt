@@ -2,20 +2,29 @@
 //! evaluator of expressions answers of the expression that a value expression is at the setting.
 
 ghost use Rattle.std.specs.Prelude.{◌≡◌};
+ghost use Rattle.term_core.specs.Declarations.{declarations};
 ghost use Rattle.expr_eval.specs.Fits.{IsDay};
+ghost use Rattle.expr_eval.specs.Runs.{observation};
 ghost use Rattle.payoff_eval.specs.CodeEvaluations.{DayFitsOn, DaysFitOn, FitsOn, HasDates, both_on, conditional_over, dated, day_run_on, days_run_on, logic_over, run_on};
 
 use crate::asking::Asking;
 use crate::dates::day_of;
 use crate::kinds::kind_in;
 use expr_eval::bindings::Bindings;
-use expr_eval::evaluation::{day_after, day_before, value_bound, value_observed};
+use expr_eval::evaluation::{day_after, day_before, value_bound, value_found};
 use expr_eval::operations::{
     Operands, Typed, at_kind, combine, compare, divide, is_decided, negate, number, round, verdict,
 };
 use expr_eval::{Binding, Held};
 use payoff_lang::Vx;
 use term_core::{Kind, LogicOp, Missing};
+
+// The value of what is observed on a day.
+fn value_observed(asking: &Asking, label: u32, day: i64) -> Result<Typed, Missing>
+    ensures { result ≡ observation (declarations asking.now.decls.now) asking.now.fixings.now label day }
+{
+    value_found(asking.decls, label, day, asking.fixings.get(label, day))
+}
 
 /// The value of an expression with its kind, or the first place that is not fixed.
 #[cycle(evaluation)]
@@ -28,14 +37,7 @@ pub fn evaluate(asking: &Asking, e: &Vx, names: &Bindings, day: i64) -> Result<T
         Vx::Lit { mant, scale } => Ok(number(*scale, *mant)),
         Vx::Yes { value } => Ok(verdict(*value)),
         Vx::Var { back } => value_bound(names, *back),
-        Vx::Model { label, date } => {
-            value_observed(
-                asking.decls,
-                *label,
-                day_of(asking, day, date),
-                asking.fixings,
-            )
-        }
+        Vx::Model { label, date } => value_observed(asking, *label, day_of(asking, day, date)),
         Vx::Neg { of } => {
             let of = evaluate(asking, of, names, day)?;
             Ok(negate(of))

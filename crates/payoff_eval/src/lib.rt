@@ -23,4 +23,4 @@ mod values;
 mod walk;
 
 pub use scratch::{ValueScratch, value_scratch};
-pub use values::value;
+pub use values::{value, value_layered};

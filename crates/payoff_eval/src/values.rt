@@ -16,7 +16,7 @@ ghost use Rattle.payoff_eval.specs.CodeRuns.{amount_in};
 use crate::asking::Asking;
 use crate::scratch::ValueScratch;
 use crate::walk::{Worth, walk};
-use fixing_files::{Curve, Fixings};
+use fixing_files::{Curve, Fixings, LayeredFixings};
 use payoff_lang::CodeFile;
 use term_core::{Missing, Setting};
 
@@ -30,15 +30,12 @@ fn amount_of(found: Result<Worth, Missing>) -> Result<i128, Missing>
     }
 }
 
-/// What a file's code, which is accepted at the setting, is worth on the day `at` for what `from` owes `to` in an asset,
-/// in units of the least decimal of the portfolio's amounts times 10^-9. The base is the start of the file's declarations.
-/// A payment to come counts with the factor of the curve at its days from `at` on, one gone by at face value. The value is
-/// the same whatever else will be observed. It lacks a place exactly where the code reads one that is not fixed, and then
-/// answers the first. It takes no memory.
-pub fn value(
+/// What a file's code, which is accepted at the setting, is worth over fixings in two layers: `value` over the map that they are
+/// seen as. It takes no memory.
+pub fn value_layered(
     file: &CodeFile,
     setting: &Setting,
-    fixings: &Fixings,
+    fixings: &LayeredFixings<'_>,
     curve: &Curve,
     at: i64,
     from: u32,
@@ -70,4 +67,34 @@ pub fn value(
     let base = file.decls.start as i64;
     let room = file.decls.amounts + 9;
     amount_of(walk(&asking, &mut scratch.names, base, room, &file.code))
+}
+
+/// What a file's code, which is accepted at the setting, is worth on the day `at` for what `from` owes `to` in an asset,
+/// in units of the least decimal of the portfolio's amounts times 10^-9. The base is the start of the file's declarations.
+/// A payment to come counts with the factor of the curve at its days from `at` on, one gone by at face value. The value is
+/// the same whatever else will be observed. It lacks a place exactly where the code reads one that is not fixed, and then
+/// answers the first. It takes no memory.
+pub fn value(
+    file: &CodeFile,
+    setting: &Setting,
+    fixings: &Fixings,
+    curve: &Curve,
+    at: i64,
+    from: u32,
+    to: u32,
+    asset: u32,
+    scratch: &mut ValueScratch,
+) -> Result<i128, Missing>
+    requires setting { HasNumberForEach (declarations file.now.decls) setting.now.days.items }
+    requires formed { IsClosedCode (declarations file.now.decls) (payoff_code file.now.code) }
+    requires accepted { IsAcceptedCode (declarations file.now.decls) setting.now.days.items (payoff_code file.now.code) }
+    requires admitted { IsAdmitted (declarations file.now.decls) fixings.now }
+    requires question { IsQuestion (declarations file.now.decls) (asked_on curve.now at from to asset) }
+    requires room { height_of_code (payoff_code file.now.code) ≤ scratch.old }
+    ensures value { IsValueOf (code_book file.now) setting.now.days.items fixings.now (asked_on curve.now at from to asset) result }
+    ensures small { IfOk result IsSmall }
+    ensures room { scratch.new ≡ scratch.old }
+{
+    let fixings = LayeredFixings::of(fixings);
+    value_layered(file, setting, &fixings, curve, at, from, to, asset, scratch)
 }

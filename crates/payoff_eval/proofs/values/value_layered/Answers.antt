@@ -7,7 +7,7 @@ use Rattle.payoff_eval.specs.CodeAnswers.{IsCodeValue}
 use Rattle.payoff_eval.proofs.FitFacts.{accepted_code_fits}
 use Rattle.payoff_eval.proofs.LawFacts.{answered, asked_fits, value_is_small}
 use Rattle.payoff_eval.proofs.SizeFacts.{curve_fits, face_is_factor}
-use Rattle.payoff_eval.proofs.values.value.Goals as goal
+use Rattle.payoff_eval.proofs.values.value_layered.Goals as goal
 
 pub walk-requires-clause-fits : goal.walk-requires-clause-fits
 walk-requires-clause-fits c =
