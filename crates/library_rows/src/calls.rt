@@ -1,51 +1,30 @@
 //! The calls that rows try, by their names.
 
+ghost use Rattle.std.specs.Prelude.{◌≤◌, length};
+
 use crate::above::Above;
 use crate::bad_row::{Answer, BadRow};
+use crate::of_contracts::{OfContract, OfDay, OfDays, OfForm, OfWhole, OfWritten};
+use crate::of_decls::OfDecls;
 use crate::printing::say;
 use crate::words::first_word;
-use crate::{
-    codes, compiling, contracts, curves, decimals, evaluating, fixings, flows, lines, making,
-    texts, tokens,
-};
+use crate::{codes, curves, decimals, lines, texts, tokens};
 use std::alloc::Global;
 
-/// What a row tries.
+/// What a row tries, by what it stands on: its words alone, a text, what is above, the declarations above, a contract as it is
+/// written, or one that names no template.
 #[derive(Clone, Copy)]
 enum Call {
-    ParsePortfolio,
-    PrintPortfolio,
-    PrintDecls,
-    ParseDecls,
-    ParseCode,
-    PrintCode,
-    CheckCode,
-    CheckCodeAdded,
-    Check,
-    Counts,
-    Copy,
-    Defaults,
-    Instantiate,
-    Eval,
-    Flows,
-    FlowsOn,
-    FlowsShared,
-    Net,
-    Simplify,
-    SimplifyShared,
-    SpecialiseExpr,
-    SpecialiseContr,
-    SpecialiseShared,
-    Step,
-    StepShared,
-    Advance,
-    Compile,
-    Cut,
-    ReadFixings,
-    DaysOf,
-    Get,
-    Put,
-    DayOfText,
+    Words(OfWords),
+    Text(OfText),
+    Above(OfAbove),
+    Decls(OfDecls),
+    Written(OfWritten),
+    Contract(OfContract),
+}
+
+#[derive(Clone, Copy)]
+enum OfWords {
     ReadCurve,
     CurveAt,
     Write,
@@ -54,60 +33,98 @@ enum Call {
     WholeNumber,
     EpochDay,
     DateText,
-    CheckLine,
     FaultLine,
-    FlowLine,
     ValueLine,
+}
+
+#[derive(Clone, Copy)]
+enum OfText {
+    ParsePortfolio,
+    PrintPortfolio,
+    PrintDecls,
+    ParseCode,
+    PrintCode,
+}
+
+#[derive(Clone, Copy)]
+enum OfAbove {
+    ParseDecls,
+    CheckCode,
+    CheckCodeAdded,
 }
 
 // The name of each call.
 fn names() -> [(&'static str, Call); 45] {
     [
-        ("parse_portfolio", Call::ParsePortfolio),
-        ("print_portfolio", Call::PrintPortfolio),
-        ("print_decls", Call::PrintDecls),
-        ("parse_decls", Call::ParseDecls),
-        ("parse_code", Call::ParseCode),
-        ("print_code", Call::PrintCode),
-        ("check_code", Call::CheckCode),
-        ("check_code_added", Call::CheckCodeAdded),
-        ("check", Call::Check),
-        ("counts", Call::Counts),
-        ("copy", Call::Copy),
-        ("defaults", Call::Defaults),
-        ("instantiate", Call::Instantiate),
-        ("eval", Call::Eval),
-        ("flows", Call::Flows),
-        ("flows_on", Call::FlowsOn),
-        ("flows_shared", Call::FlowsShared),
-        ("net", Call::Net),
-        ("simplify", Call::Simplify),
-        ("simplify_shared", Call::SimplifyShared),
-        ("specialise_expr", Call::SpecialiseExpr),
-        ("specialise_contr", Call::SpecialiseContr),
-        ("specialise_shared", Call::SpecialiseShared),
-        ("step", Call::Step),
-        ("step_shared", Call::StepShared),
-        ("advance", Call::Advance),
-        ("compile", Call::Compile),
-        ("cut", Call::Cut),
-        ("read_fixings", Call::ReadFixings),
-        ("days_of", Call::DaysOf),
-        ("get", Call::Get),
-        ("put", Call::Put),
-        ("day_of_text", Call::DayOfText),
-        ("read_curve", Call::ReadCurve),
-        ("curve_at", Call::CurveAt),
-        ("write", Call::Write),
-        ("read", Call::Read),
-        ("number_up_to", Call::NumberUpTo),
-        ("whole_number", Call::WholeNumber),
-        ("epoch_day", Call::EpochDay),
-        ("date_text", Call::DateText),
-        ("check_line", Call::CheckLine),
-        ("fault_line", Call::FaultLine),
-        ("flow_line", Call::FlowLine),
-        ("value_line", Call::ValueLine),
+        ("parse_portfolio", Call::Text(OfText::ParsePortfolio)),
+        ("print_portfolio", Call::Text(OfText::PrintPortfolio)),
+        ("print_decls", Call::Text(OfText::PrintDecls)),
+        ("parse_decls", Call::Above(OfAbove::ParseDecls)),
+        ("parse_code", Call::Text(OfText::ParseCode)),
+        ("print_code", Call::Text(OfText::PrintCode)),
+        ("check_code", Call::Above(OfAbove::CheckCode)),
+        ("check_code_added", Call::Above(OfAbove::CheckCodeAdded)),
+        ("check", Call::Contract(OfContract::Form(OfForm::Check))),
+        ("counts", Call::Contract(OfContract::Form(OfForm::Counts))),
+        ("copy", Call::Written(OfWritten::Copy)),
+        ("defaults", Call::Decls(OfDecls::Defaults)),
+        ("instantiate", Call::Written(OfWritten::Instantiate)),
+        ("eval", Call::Contract(OfContract::Day(OfDay::Eval))),
+        ("flows", Call::Contract(OfContract::Day(OfDay::Flows))),
+        (
+            "flows_on",
+            Call::Contract(OfContract::Days(OfDays::FlowsOn)),
+        ),
+        (
+            "flows_shared",
+            Call::Contract(OfContract::Days(OfDays::FlowsShared)),
+        ),
+        ("net", Call::Decls(OfDecls::Net)),
+        (
+            "simplify",
+            Call::Contract(OfContract::Whole(OfWhole::Simplify)),
+        ),
+        (
+            "simplify_shared",
+            Call::Contract(OfContract::Whole(OfWhole::SimplifyShared)),
+        ),
+        (
+            "specialise_expr",
+            Call::Contract(OfContract::Day(OfDay::SpecialiseExpr)),
+        ),
+        (
+            "specialise_contr",
+            Call::Contract(OfContract::Day(OfDay::SpecialiseContr)),
+        ),
+        (
+            "specialise_shared",
+            Call::Contract(OfContract::Day(OfDay::SpecialiseShared)),
+        ),
+        ("step", Call::Contract(OfContract::Day(OfDay::Step))),
+        (
+            "step_shared",
+            Call::Contract(OfContract::Day(OfDay::StepShared)),
+        ),
+        ("advance", Call::Contract(OfContract::Day(OfDay::Advance))),
+        ("compile", Call::Written(OfWritten::Compile)),
+        ("cut", Call::Written(OfWritten::Cut)),
+        ("read_fixings", Call::Decls(OfDecls::ReadFixings)),
+        ("days_of", Call::Decls(OfDecls::DaysOf)),
+        ("get", Call::Decls(OfDecls::Get)),
+        ("put", Call::Decls(OfDecls::Put)),
+        ("day_of_text", Call::Decls(OfDecls::DayOfText)),
+        ("read_curve", Call::Words(OfWords::ReadCurve)),
+        ("curve_at", Call::Words(OfWords::CurveAt)),
+        ("write", Call::Words(OfWords::Write)),
+        ("read", Call::Words(OfWords::Read)),
+        ("number_up_to", Call::Words(OfWords::NumberUpTo)),
+        ("whole_number", Call::Words(OfWords::WholeNumber)),
+        ("epoch_day", Call::Words(OfWords::EpochDay)),
+        ("date_text", Call::Words(OfWords::DateText)),
+        ("check_line", Call::Decls(OfDecls::CheckLine)),
+        ("fault_line", Call::Words(OfWords::FaultLine)),
+        ("flow_line", Call::Decls(OfDecls::FlowLine)),
+        ("value_line", Call::Words(OfWords::ValueLine)),
     ]
 }
 
@@ -120,55 +137,66 @@ fn call_named(word: &str) -> Result<Call, BadRow> {
     Err(BadRow::Call)
 }
 
+impl OfWords {
+    // What the call answers to its words.
+    fn answer(self, alloc: Global, words: &str, out: &mut Vec<u8>) -> Answer {
+        match self {
+            OfWords::ReadCurve => curves::read_table(alloc, words, out),
+            OfWords::CurveAt => curves::factors_at(alloc, words, out),
+            OfWords::Write => decimals::written(alloc, words, out),
+            OfWords::Read => decimals::read_decimal(alloc, words, out),
+            OfWords::NumberUpTo => decimals::number_asked(alloc, words, out),
+            OfWords::WholeNumber => decimals::number_counted(alloc, words, out),
+            OfWords::EpochDay => decimals::day_of_date(alloc, words, out),
+            OfWords::DateText => decimals::date_of_day(words, out),
+            OfWords::FaultLine => lines::line_of_fault(alloc, words, out),
+            OfWords::ValueLine => lines::line_of_value(alloc, words, out),
+        }
+    }
+}
+
+impl OfText {
+    // What the call answers to a text.
+    fn answer(self, alloc: Global, text: &[u8], out: &mut Vec<u8>) -> Answer
+        requires { length text.now ≤ 1_000_000 }
+    {
+        match self {
+            OfText::ParsePortfolio => texts::read_portfolio(alloc, text, out),
+            OfText::PrintPortfolio => texts::printed_portfolio(alloc, text, out),
+            OfText::PrintDecls => texts::printed_decls(alloc, text, out),
+            OfText::ParseCode => codes::read_code(alloc, text, out),
+            OfText::PrintCode => codes::printed_code(alloc, text, out),
+        }
+    }
+
+    // What the call answers to the text above and that of a row.
+    fn answer_below(self, alloc: Global, above: &Above, text: &str, out: &mut Vec<u8>) -> Answer {
+        let text = above.text(alloc, text)?;
+        self.answer(alloc, &text, out)
+    }
+}
+
+impl OfAbove {
+    // What the call answers to its words, below the rows that are set.
+    fn answer(self, alloc: Global, above: &Above, words: &str, out: &mut Vec<u8>) -> Answer {
+        match self {
+            OfAbove::ParseDecls => tokens::read_decls(alloc, above, words, out),
+            OfAbove::CheckCode => codes::checked_code(alloc, above, words, out),
+            OfAbove::CheckCodeAdded => codes::checked_added(alloc, above, words, out),
+        }
+    }
+}
+
 impl Call {
     // What the call answers to its words, below the rows that are set.
     fn answer(self, alloc: Global, above: &Above, words: &str, out: &mut Vec<u8>) -> Answer {
         match self {
-            Call::ParsePortfolio => texts::read_portfolio(alloc, above, words, out),
-            Call::PrintPortfolio => texts::printed_portfolio(alloc, above, words, out),
-            Call::PrintDecls => texts::printed_decls(alloc, above, words, out),
-            Call::ParseDecls => tokens::read_decls(alloc, above, words, out),
-            Call::ParseCode => codes::read_code(alloc, above, words, out),
-            Call::PrintCode => codes::printed_code(alloc, above, words, out),
-            Call::CheckCode => codes::checked_code(alloc, above, words, out),
-            Call::CheckCodeAdded => codes::checked_added(alloc, above, words, out),
-            Call::Check => contracts::checked(alloc, above, words, out),
-            Call::Counts => contracts::counted(alloc, above, words, out),
-            Call::Copy => contracts::copied(alloc, above, words, out),
-            Call::Defaults => contracts::declared_numbers(alloc, above, words, out),
-            Call::Instantiate => contracts::instance(alloc, above, words, out),
-            Call::Eval => evaluating::evaluated(alloc, above, words, out),
-            Call::Flows => flows::flows_from_start(alloc, above, words, out),
-            Call::FlowsOn => flows::flows_from_day(alloc, above, words, out),
-            Call::FlowsShared => flows::flows_of_shared(alloc, above, words, out),
-            Call::Net => flows::netted(alloc, above, words, out),
-            Call::Simplify => making::simplified(alloc, above, words, out),
-            Call::SimplifyShared => making::simplified_shared(alloc, above, words, out),
-            Call::SpecialiseExpr => making::specialised_first(alloc, above, words, out),
-            Call::SpecialiseContr => making::specialised(alloc, above, words, out),
-            Call::SpecialiseShared => making::specialised_shared(alloc, above, words, out),
-            Call::Step => making::stepped(alloc, above, words, out),
-            Call::StepShared => making::stepped_shared(alloc, above, words, out),
-            Call::Advance => making::advanced(alloc, above, words, out),
-            Call::Compile => compiling::compiled(alloc, above, words, out),
-            Call::Cut => compiling::compiled_and_cut(alloc, above, words, out),
-            Call::ReadFixings => fixings::read_table(alloc, above, words, out),
-            Call::DaysOf => fixings::held_days(alloc, above, words, out),
-            Call::Get => fixings::held_value(alloc, above, words, out),
-            Call::Put => fixings::put_days(alloc, above, words, out),
-            Call::DayOfText => fixings::named_day(alloc, above, words, out),
-            Call::ReadCurve => curves::read_table(alloc, words, out),
-            Call::CurveAt => curves::factors_at(alloc, words, out),
-            Call::Write => decimals::written(alloc, words, out),
-            Call::Read => decimals::read_decimal(alloc, words, out),
-            Call::NumberUpTo => decimals::number_asked(alloc, words, out),
-            Call::WholeNumber => decimals::number_counted(alloc, words, out),
-            Call::EpochDay => decimals::day_of_date(alloc, words, out),
-            Call::DateText => decimals::date_of_day(words, out),
-            Call::CheckLine => lines::line_of_verdict(alloc, above, words, out),
-            Call::FaultLine => lines::line_of_fault(alloc, words, out),
-            Call::FlowLine => lines::line_of_flow(alloc, above, words, out),
-            Call::ValueLine => lines::line_of_value(alloc, words, out),
+            Call::Words(call) => call.answer(alloc, words, out),
+            Call::Text(call) => call.answer_below(alloc, above, words, out),
+            Call::Above(call) => call.answer(alloc, above, words, out),
+            Call::Decls(call) => call.answer_below(alloc, above, words, out),
+            Call::Written(call) => call.answer_below(alloc, above, words, out),
+            Call::Contract(call) => call.answer_below(alloc, above, words, out),
         }
     }
 }

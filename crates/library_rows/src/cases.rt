@@ -1,6 +1,6 @@
 //! Contracts of rows, and what the calls ask of them.
 
-ghost use Rattle.std.specs.Prelude.{◌≤◌, ◌<◌, IfOk};
+ghost use Rattle.std.specs.Prelude.{◌≤◌, ◌<◌, length, IfOk};
 ghost use Rattle.term_core.specs.Acceptance.{IsAccepted};
 ghost use Rattle.term_core.specs.Declarations.{declarations};
 ghost use Rattle.term_core.specs.Environments.{IsAdmitted};
@@ -23,13 +23,20 @@ pub struct Case {
     pub contract: Contr,
 }
 
-/// The declarations above.
-pub fn declared(alloc: Global, above: &Above) -> Result<Decls, BadRow> {
-    let text = above.text(alloc, "")?;
-    match parse_portfolio(alloc, &text) {
+// The declarations of a text.
+fn declared_in(alloc: Global, text: &[u8]) -> Result<Decls, BadRow>
+    requires { length text.now ≤ 1_000_000 }
+{
+    match parse_portfolio(alloc, text) {
         Ok(portfolio) => Ok(portfolio.decls),
         Err(_) => Err(BadRow::Text),
     }
+}
+
+/// The declarations above.
+pub fn declared(alloc: Global, above: &Above) -> Result<Decls, BadRow> {
+    let text = above.text(alloc, "")?;
+    declared_in(alloc, &text)
 }
 
 // A copy of the one contract of a portfolio, and of its declarations.
@@ -42,13 +49,37 @@ fn only_in(alloc: Global, portfolio: &Portfolio) -> Result<Case, BadRow> {
     Ok(Case { decls, contract })
 }
 
-/// A copy of the one contract of a text, and of its declarations.
-pub fn only_of(alloc: Global, above: &Above, words: &str) -> Result<Case, BadRow> {
-    let text = above.sentence(alloc, "contract c = ", words)?;
-    match parse_portfolio(alloc, &text) {
+// The same of a text.
+fn only_in_text(alloc: Global, text: &[u8]) -> Result<Case, BadRow>
+    requires { length text.now ≤ 1_000_000 }
+{
+    match parse_portfolio(alloc, text) {
         Ok(portfolio) => only_in(alloc, &portfolio),
         Err(_) => Err(BadRow::Text),
     }
+}
+
+/// A copy of the one contract of the sentence of a row, and of its declarations.
+pub fn only_of(alloc: Global, above: &Above, words: &str) -> Result<Case, BadRow> {
+    let text = above.sentence(alloc, "contract c = ", words)?;
+    only_in_text(alloc, &text)
+}
+
+/// Stops at a contract that is too large, is not closed, or names a template.
+pub fn try_form(decls: &Decls, c: &Contr) -> Result<(), BadRow>
+    ensures closed { IfOk result (λ _. IsClosed (declarations decls.now) (contract c.now)) }
+    ensures numbers { IfOk result (λ _. HasOnlyNumbers (contract c.now)) }
+    ensures low { IfOk result (λ _. height_of_contract (contract c.now) ≤ 1_000) }
+    ensures small { IfOk result (λ _. nodes_of_contract (contract c.now) < 1_000_000) }
+{
+    let size = counts(c);
+    if size.height > 1_000 || size.nodes >= 1_000_000 {
+        return Err(BadRow::Range);
+    }
+    if !is_closed(decls, c) || !has_only_numbers(c) {
+        return Err(BadRow::Text);
+    }
+    Ok(())
 }
 
 /// The same of a contract that names no template.
@@ -59,13 +90,7 @@ pub fn case_of(alloc: Global, above: &Above, words: &str) -> Result<Case, BadRow
     ensures small { IfOk result (λ case. nodes_of_contract (contract case.contract) < 1_000_000) }
 {
     let case = only_of(alloc, above, words)?;
-    let size = counts(&case.contract);
-    if size.height > 1_000 || size.nodes >= 1_000_000 {
-        return Err(BadRow::Range);
-    }
-    if !is_closed(&case.decls, &case.contract) || !has_only_numbers(&case.contract) {
-        return Err(BadRow::Text);
-    }
+    try_form(&case.decls, &case.contract)?;
     Ok(case)
 }
 
@@ -94,8 +119,13 @@ fn fixings_of(alloc: Global, above: &Above, decls: &Decls) -> Result<Fixings, Ba
     }
 }
 
-// The fixings of the table above, for a contract that is accepted.
-fn accepted_over(alloc: Global, above: &Above, decls: &Decls, c: &Contr) -> Result<Fixings, BadRow>
+/// The fixings of the table above, for a contract that is accepted.
+pub fn accepted_over(
+    alloc: Global,
+    above: &Above,
+    decls: &Decls,
+    c: &Contr,
+) -> Result<Fixings, BadRow>
     requires closed { IsClosed (declarations decls.now) (contract c.now) }
     requires numbers { HasOnlyNumbers (contract c.now) }
     requires low { height_of_contract (contract c.now) ≤ 1_000 }
@@ -105,24 +135,4 @@ fn accepted_over(alloc: Global, above: &Above, decls: &Decls, c: &Contr) -> Resu
 {
     accept(alloc, decls, c)?;
     fixings_of(alloc, above, decls)
-}
-
-/// A contract that is accepted, and the fixings of the table above.
-#[derive(Drop)]
-pub struct Ready {
-    pub case: Case,
-    pub fixings: Fixings,
-}
-
-/// The accepted contract of a text, over the table above.
-pub fn ready_of(alloc: Global, above: &Above, words: &str) -> Result<Ready, BadRow>
-    ensures accepted { IfOk result (λ r. IsAccepted (declarations r.case.decls) (contract r.case.contract)) }
-    ensures closed { IfOk result (λ r. IsClosed (declarations r.case.decls) (contract r.case.contract)) }
-    ensures numbers { IfOk result (λ r. HasOnlyNumbers (contract r.case.contract)) }
-    ensures low { IfOk result (λ r. height_of_contract (contract r.case.contract) ≤ 1_000) }
-    ensures admitted { IfOk result (λ r. IsAdmitted (declarations r.case.decls) r.fixings) }
-{
-    let case = case_of(alloc, above, words)?;
-    let fixings = accepted_over(alloc, above, &case.decls, &case.contract)?;
-    Ok(Ready { case, fixings })
 }

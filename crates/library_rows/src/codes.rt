@@ -1,12 +1,16 @@
 //! Rows of payoff code: texts that are read, or have a first fault, canonical texts, and verdicts.
 
-ghost use Rattle.std.specs.Prelude.{◌≤◌, ◌<◌, ◌+◌, length, IfOk};
+ghost use Rattle.std.specs.Prelude.{◌≡◌, ◌≤◌, ◌<◌, ◌+◌, length, IfOk};
+ghost use Rattle.term_core.specs.Declarations.{declarations};
 ghost use Rattle.payoff_lang.specs.Code.{payoff_code};
 ghost use Rattle.payoff_lang.specs.CodeSizes.{height_of_code, nodes_of_code};
+ghost use Rattle.payoff_lang.specs.WritableCode.{IsWritableCode};
 
 use crate::above::Above;
 use crate::bad_row::{Answer, BadRow};
-use crate::printing::{append, append_decimal, say, say_check_fault, say_decimal, say_parse_fault};
+use crate::printing::{
+    append, append_decimal, say_check_fault, say_decimal, say_parse_fault, say_read,
+};
 use decimal::NoMemory;
 use payoff_check::{CodeFacts, check_code};
 use payoff_lang::laws::{code_of_text_is_printable, printable_is_writable};
@@ -15,33 +19,46 @@ use std::alloc::Global;
 use term_core::Setting;
 
 /// `parse_code TEXT`: `read`, or the first fault.
-pub fn read_code(alloc: Global, above: &Above, words: &str, out: &mut Vec<u8>) -> Answer {
-    let text = above.text(alloc, words)?;
-    match parse_code(alloc, &text) {
-        Ok(_) => say(out, "read"),
-        Err(error) => say_parse_fault(alloc, error, out),
-    }
+pub fn read_code(alloc: Global, text: &[u8], out: &mut Vec<u8>) -> Answer
+    requires { length text.now ≤ 1_000_000 }
+{
+    let read = parse_code(alloc, text);
+    say_read(alloc, &read, out)
 }
 
-// The canonical text of the code of a text.
-fn print_text(alloc: Global, text: &[u8], out: &mut Vec<u8>) -> Answer
+// The canonical text of a code file.
+fn print_file(alloc: Global, file: &CodeFile, out: &mut Vec<u8>) -> Answer
+    requires version { (declarations file.now.decls).version ≡ 1 }
+    requires writable { IsWritableCode (payoff_code file.now.code) }
+{
+    print_code(alloc, out, file)?;
+    Ok(())
+}
+
+/// `print_code TEXT`: the canonical text.
+pub fn printed_code(alloc: Global, text: &[u8], out: &mut Vec<u8>) -> Answer
     requires { length text.now ≤ 1_000_000 }
 {
     match parse_code(alloc, text) {
         Ok(file) => {
             code_of_text_is_printable();
             printable_is_writable();
-            print_code(alloc, out, &file)?;
-            Ok(())
+            print_file(alloc, &file, out)
         }
         Err(error) => say_parse_fault(alloc, error, out),
     }
 }
 
-/// `print_code TEXT`: the canonical text.
-pub fn printed_code(alloc: Global, above: &Above, words: &str, out: &mut Vec<u8>) -> Answer {
-    let text = above.text(alloc, words)?;
-    print_text(alloc, &text, out)
+// The code file of a text.
+fn file_in(alloc: Global, text: &[u8]) -> Result<CodeFile, BadRow>
+    requires { length text.now ≤ 1_000_000 }
+    ensures low { IfOk result (λ file. height_of_code (payoff_code file.code) ≤ 400) }
+    ensures small { IfOk result (λ file. nodes_of_code (payoff_code file.code) < 1_000_000) }
+{
+    match parse_code(alloc, text) {
+        Ok(file) => Ok(file),
+        Err(_) => Err(BadRow::Text),
+    }
 }
 
 // The code file of an amount.
@@ -50,10 +67,7 @@ fn file_of(alloc: Global, above: &Above, amount: &str) -> Result<CodeFile, BadRo
     ensures small { IfOk result (λ file. nodes_of_code (payoff_code file.code) < 1_000_000) }
 {
     let text = above.sentence(alloc, "code c = ", amount)?;
-    match parse_code(alloc, &text) {
-        Ok(file) => Ok(file),
-        Err(_) => Err(BadRow::Text),
-    }
+    file_in(alloc, &text)
 }
 
 // The scale and the total of code, in units of this scale.
@@ -92,10 +106,21 @@ fn added(alloc: Global, code: Code) -> Result<Code, NoMemory>
     Ok(Code::Add { left, right })
 }
 
+// A code file with nothing and its amount.
+fn added_to(alloc: Global, file: CodeFile) -> Result<CodeFile, NoMemory>
+    requires low { height_of_code (payoff_code file.code) ≤ 400 }
+    requires small { nodes_of_code (payoff_code file.code) < 1_000_000 }
+    ensures low { IfOk result (λ whole. height_of_code (payoff_code whole.code) ≤ 1_000) }
+    ensures small { IfOk result (λ whole. nodes_of_code (payoff_code whole.code) < 2_000_000) }
+{
+    let CodeFile { decls, name, code } = file;
+    let code = added(alloc, code)?;
+    Ok(CodeFile { decls, name, code })
+}
+
 /// `check_code_added AMOUNT`: the verdict on the code of a text with one more term round it, since no text is higher than
 /// what is accepted.
 pub fn checked_added(alloc: Global, above: &Above, words: &str, out: &mut Vec<u8>) -> Answer {
-    let mut file = file_of(alloc, above, words)?;
-    file.code = added(alloc, file.code)?;
+    let file = added_to(alloc, file_of(alloc, above, words)?)?;
     say_verdict(alloc, &file, &above.days, out)
 }

@@ -11,9 +11,8 @@ ghost use Rattle.payoff_lang.specs.Code.{payoff_code};
 ghost use Rattle.payoff_lang.specs.WritableCode.{IsWritableCode};
 ghost use Rattle.payoff_lang.specs.Compiled.{cut_code};
 
-use crate::above::Above;
 use crate::bad_row::{Answer, BadRow};
-use crate::cases::{accept, only_of};
+use crate::cases::{accept, try_form};
 use crate::settings::{has_small_sums, is_setting};
 use crate::writable::{is_printable, say_behind};
 use decimal::NoMemory;
@@ -22,19 +21,13 @@ use payoff_compile::{compile, cut};
 use payoff_lang::{Code, CodeFile, print_code};
 use std::alloc::Global;
 use term_core::laws::{defaults_suit, settings_suit};
-use term_core::{Contr, Decls, Name, counts, defaults, has_only_numbers, instantiate, is_closed};
+use term_core::{Contr, Decls, Name, defaults, instantiate, is_closed};
 
 // Stops at a contract that is not accepted, or has no numbers for its templates.
 fn accept_sized(alloc: Global, decls: &Decls, c: &Contr) -> Result<(), BadRow>
     ensures { IfOk result (λ _. IsAccepted (declarations decls.now) (contract c.now)) }
 {
-    let size = counts(c);
-    if size.height > 1_000 || size.nodes >= 1_000_000 {
-        return Err(BadRow::Range);
-    }
-    if !is_closed(decls, c) || !has_only_numbers(c) {
-        return Err(BadRow::Text);
-    }
+    try_form(decls, c)?;
     accept(alloc, decls, c)
 }
 
@@ -69,15 +62,25 @@ fn code_of(alloc: Global, decls: &Decls, c: &Contr) -> Result<Code, NoMemory>
     Ok(code)
 }
 
+// The file of code under declarations.
+fn file_under(alloc: Global, decls: Decls, code: Code) -> Result<CodeFile, NoMemory>
+    requires version { (declarations decls).version ≡ 1 }
+    requires writable { IsWritableCode (payoff_code code) }
+    ensures version { IfOk result (λ file. (declarations file.decls).version ≡ 1) }
+    ensures writable { IfOk result (λ file. IsWritableCode (payoff_code file.code)) }
+{
+    let name = Name::new(alloc, b"c")?;
+    Ok(CodeFile { decls, name, code })
+}
+
 // The file of code, on the declarations in version 1.
 fn file_of(alloc: Global, decls: &Decls, code: Code) -> Result<CodeFile, NoMemory>
     requires { IsWritableCode (payoff_code code) }
     ensures version { IfOk result (λ file. (declarations file.decls).version ≡ 1) }
     ensures writable { IfOk result (λ file. IsWritableCode (payoff_code file.code)) }
 {
-    let name = Name::new(alloc, b"c")?;
     let decls = decls.at_one_scale(alloc)?;
-    Ok(CodeFile { decls, name, code })
+    file_under(alloc, decls, code)
 }
 
 // The canonical text of a code file.
@@ -128,8 +131,8 @@ fn accept_written(alloc: Global, decls: &Decls, c: &Contr) -> Result<(), BadRow>
     accept_at_defaults(alloc, decls, c)
 }
 
-// Appends the line of the code of a contract, with each payment cut or without.
-fn say_code_of(alloc: Global, decls: &Decls, c: &Contr, cuts: bool, out: &mut Vec<u8>) -> Answer {
+/// `compile CONTRACT` and `cut CONTRACT`: the line of the contract's code, with each payment cut or without.
+pub fn compiled(alloc: Global, decls: &Decls, c: &Contr, cuts: bool, out: &mut Vec<u8>) -> Answer {
     accept_written(alloc, decls, c)?;
     let code = code_of(alloc, decls, c)?;
     if cuts {
@@ -137,16 +140,4 @@ fn say_code_of(alloc: Global, decls: &Decls, c: &Contr, cuts: bool, out: &mut Ve
     } else {
         say_code(alloc, decls, code, out)
     }
-}
-
-/// `compile CONTRACT`: the line of the contract's code.
-pub fn compiled(alloc: Global, above: &Above, words: &str, out: &mut Vec<u8>) -> Answer {
-    let case = only_of(alloc, above, words)?;
-    say_code_of(alloc, &case.decls, &case.contract, false, out)
-}
-
-/// `cut CONTRACT`: the same with each payment cut.
-pub fn compiled_and_cut(alloc: Global, above: &Above, words: &str, out: &mut Vec<u8>) -> Answer {
-    let case = only_of(alloc, above, words)?;
-    say_code_of(alloc, &case.decls, &case.contract, true, out)
 }

@@ -6,9 +6,7 @@ ghost use Rattle.term_core.specs.Sizes.{height_of_contract, nodes_of_contract};
 ghost use Rattle.term_core.specs.Terms.{contract};
 ghost use Rattle.term_core.specs.WellFormed.{IsClosed, HasOnlyNumbers};
 
-use crate::above::Above;
 use crate::bad_row::{Answer, BadRow};
-use crate::cases::{Case, case_of, declared, only_of};
 use crate::lines::verdict_line;
 use crate::printing::{append, append_decimal, say, say_decimal};
 use crate::settings::{has_small_sums, is_setting};
@@ -36,8 +34,8 @@ fn verdict_of(alloc: Global, decls: &Decls, c: &Contr) -> Result<Result<Facts, R
     }
 }
 
-// Appends the line of the verdict on a contract.
-fn say_verdict(alloc: Global, decls: &Decls, c: &Contr, out: &mut Vec<u8>) -> Answer
+/// `check CONTRACT`: the line of the verdict.
+pub fn checked(alloc: Global, decls: &Decls, c: &Contr, out: &mut Vec<u8>) -> Answer
     requires closed { IsClosed (declarations decls.now) (contract c.now) }
     requires numbers { HasOnlyNumbers (contract c.now) }
     requires low { height_of_contract (contract c.now) ≤ 1_000 }
@@ -47,14 +45,8 @@ fn say_verdict(alloc: Global, decls: &Decls, c: &Contr, out: &mut Vec<u8>) -> An
     verdict_line(alloc, decls, &verdict, out)
 }
 
-/// `check CONTRACT`: the line of the verdict.
-pub fn checked(alloc: Global, above: &Above, words: &str, out: &mut Vec<u8>) -> Answer {
-    let case = case_of(alloc, above, words)?;
-    say_verdict(alloc, &case.decls, &case.contract, out)
-}
-
-// Appends the counts of a contract.
-fn say_counts(alloc: Global, c: &Contr, out: &mut Vec<u8>) -> Answer
+/// `counts CONTRACT`: its height and its nodes.
+pub fn counted(alloc: Global, c: &Contr, out: &mut Vec<u8>) -> Answer
     requires { nodes_of_contract (contract c.now) < 1_000_000 }
 {
     let size = counts(c);
@@ -67,16 +59,10 @@ fn say_counts(alloc: Global, c: &Contr, out: &mut Vec<u8>) -> Answer
     say_decimal(alloc, size.nodes as i128, 0, out)
 }
 
-/// `counts CONTRACT`: its height and its nodes.
-pub fn counted(alloc: Global, above: &Above, words: &str, out: &mut Vec<u8>) -> Answer {
-    let case = case_of(alloc, above, words)?;
-    say_counts(alloc, &case.contract, out)
-}
-
 /// `copy CONTRACT`: the line of a copy.
-pub fn copied(alloc: Global, above: &Above, words: &str, out: &mut Vec<u8>) -> Answer {
-    let Case { decls, contract } = only_of(alloc, above, words)?;
-    say_contract(alloc, &decls, contract, out)
+pub fn copied(alloc: Global, decls: &Decls, c: &Contr, out: &mut Vec<u8>) -> Answer {
+    let copy = c.copy(alloc)?;
+    say_contract(alloc, decls, copy, out)
 }
 
 // Appends the line of a contract at the numbers of its templates.
@@ -98,17 +84,16 @@ fn say_instance(
     say_contract(alloc, decls, instance, out)
 }
 
-// The numbers of templates.
-fn setting_of(alloc: Global, days: &[u32]) -> Result<Setting, BadRow> {
-    let days = Vec::from_slice(alloc, days)?;
-    Ok(Setting { days })
-}
-
 /// `instantiate CONTRACT`: the line of the contract at the numbers above.
-pub fn instance(alloc: Global, above: &Above, words: &str, out: &mut Vec<u8>) -> Answer {
-    let setting = setting_of(alloc, &above.days)?;
-    let case = only_of(alloc, above, words)?;
-    say_instance(alloc, &case.decls, &case.contract, &setting, out)
+pub fn instance(
+    alloc: Global,
+    decls: &Decls,
+    c: &Contr,
+    days: &[u32],
+    out: &mut Vec<u8>,
+) -> Answer {
+    let days = Vec::from_slice(alloc, days)?;
+    say_instance(alloc, decls, c, &Setting { days }, out)
 }
 
 // Appends a line of each number.
@@ -126,10 +111,9 @@ fn say_defaults(alloc: Global, decls: &Decls, out: &mut Vec<u8>) -> Answer {
 }
 
 /// `defaults`: the numbers that the declarations above give their templates, a line each.
-pub fn declared_numbers(alloc: Global, above: &Above, words: &str, out: &mut Vec<u8>) -> Answer {
+pub fn declared_numbers(alloc: Global, decls: &Decls, words: &str, out: &mut Vec<u8>) -> Answer {
     if !words.is_empty() {
         return Err(BadRow::Word);
     }
-    let decls = declared(alloc, above)?;
-    say_defaults(alloc, &decls, out)
+    say_defaults(alloc, decls, out)
 }

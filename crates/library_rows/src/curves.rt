@@ -2,7 +2,7 @@
 
 use crate::above::spelled;
 use crate::bad_row::{Answer, BadRow};
-use crate::printing::{append, append_decimal, say, say_decimal, say_row_fault};
+use crate::printing::{append, append_decimal, say_decimal, say_table_read};
 use crate::words::{day, first_word};
 use fixing_files::{Curve, read_curve};
 use std::alloc::Global;
@@ -10,10 +10,8 @@ use std::alloc::Global;
 /// `read_curve TABLE`: `read`, or the first fault.
 pub fn read_table(alloc: Global, words: &str, out: &mut Vec<u8>) -> Answer {
     let table = spelled(alloc, words)?;
-    match read_curve(alloc, &table) {
-        Ok(_) => say(out, "read"),
-        Err(error) => say_row_fault(alloc, error, out),
-    }
+    let read = read_curve(alloc, &table);
+    say_table_read(alloc, &read, out)
 }
 
 // Appends the line of an offset and its factor.

@@ -8,11 +8,9 @@ ghost use Rattle.term_core.specs.Environments.{IsAdmitted};
 ghost use Rattle.term_core.specs.Sizes.{height_of_contract};
 ghost use Rattle.expr_eval.specs.Evaluable.{MayEvaluateIn};
 
-use crate::above::Above;
 use crate::bad_row::{Answer, BadRow};
-use crate::cases::ready_of;
 use crate::printing::{append, append_decimal, say_missing, say_value};
-use crate::words::{day, first_word};
+use crate::words::day;
 use expr_eval::{Held, Scratch, eval, kind_of, parts_may_be_evaluated};
 use fixing_files::Fixings;
 use std::alloc::Global;
@@ -89,37 +87,22 @@ fn near(word: &str) -> Result<i64, BadRow>
     Ok(day)
 }
 
-// Appends what the factor of a contract answers.
-fn say_factor_of(
+/// `eval DAY CONTRACT`: the kind and the value of the factor of the innermost `scale`, or the first place that is not fixed.
+pub fn evaluated(
     alloc: Global,
     decls: &Decls,
     c: &Contr,
     fixings: &Fixings,
-    day: i64,
+    on: &str,
     out: &mut Vec<u8>,
 ) -> Answer
     requires accepted { IsAccepted (declarations decls.now) (contract c.now) }
     requires low { height_of_contract (contract c.now) ≤ 1_000 }
     requires admitted { IsAdmitted (declarations decls.now) fixings.now }
-    requires day { unsigned_abs day ≤ 10 ^ 12 }
 {
+    let day = near(on)?;
     parts_may_be_evaluated();
     let mut scratch = Scratch::for_contract(alloc, c)?;
     let found = factor_of(decls, c, &mut scratch, fixings, day);
     say_found(alloc, decls, found, out)
-}
-
-/// `eval DAY CONTRACT`: the kind and the value of the factor of the innermost `scale`, or the first place that is not fixed.
-pub fn evaluated(alloc: Global, above: &Above, words: &str, out: &mut Vec<u8>) -> Answer {
-    let (day, words) = first_word(words);
-    let day = near(day)?;
-    let ready = ready_of(alloc, above, words)?;
-    say_factor_of(
-        alloc,
-        &ready.case.decls,
-        &ready.case.contract,
-        &ready.fixings,
-        day,
-        out,
-    )
 }

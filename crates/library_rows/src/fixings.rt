@@ -2,10 +2,9 @@
 
 ghost use Rattle.std.specs.Prelude.{◌≤◌, length};
 
-use crate::above::{Above, spelled};
+use crate::above::spelled;
 use crate::bad_row::{Answer, BadRow};
-use crate::cases::declared;
-use crate::printing::{append, append_decimal, say, say_decimal, say_row_fault, say_value};
+use crate::printing::{append, append_decimal, say, say_decimal, say_table_read, say_value};
 use crate::words::{count, day, first_word, integer};
 use fixing_files::{DayFault, FixedDay, Fixings, day_of_text, read_fixings};
 use std::alloc::Global;
@@ -15,17 +14,14 @@ use term_core::{Decls, Label, Value};
 fn say_table(alloc: Global, decls: &Decls, table: &[u8], out: &mut Vec<u8>) -> Answer
     requires { length table.now ≤ 1_000_000 }
 {
-    match read_fixings(alloc, table, decls) {
-        Ok(_) => say(out, "read"),
-        Err(error) => say_row_fault(alloc, error, out),
-    }
+    let read = read_fixings(alloc, table, decls);
+    say_table_read(alloc, &read, out)
 }
 
 /// `read_fixings TABLE`: `read`, or the first fault.
-pub fn read_table(alloc: Global, above: &Above, words: &str, out: &mut Vec<u8>) -> Answer {
+pub fn read_table(alloc: Global, decls: &Decls, words: &str, out: &mut Vec<u8>) -> Answer {
     let table = spelled(alloc, words)?;
-    let decls = declared(alloc, above)?;
-    say_table(alloc, &decls, &table, out)
+    say_table(alloc, decls, &table, out)
 }
 
 // The scale of a label's numbers.
@@ -72,7 +68,7 @@ fn say_days(
 }
 
 // The fixings of a table, which are read.
-fn fixings_of(alloc: Global, decls: &Decls, table: &[u8]) -> Result<Fixings, BadRow>
+fn fixings_in(alloc: Global, decls: &Decls, table: &[u8]) -> Result<Fixings, BadRow>
     requires { length table.now ≤ 1_000_000 }
 {
     match read_fixings(alloc, table, decls) {
@@ -81,56 +77,36 @@ fn fixings_of(alloc: Global, decls: &Decls, table: &[u8]) -> Result<Fixings, Bad
     }
 }
 
-// Appends the days of a label in a table.
-fn say_held_days(
-    alloc: Global,
-    decls: &Decls,
-    table: &[u8],
-    label: u32,
-    out: &mut Vec<u8>,
-) -> Answer
-    requires { length table.now ≤ 1_000_000 }
-{
-    let fixings = fixings_of(alloc, decls, table)?;
-    say_days(alloc, decls, &fixings, label, out)
+// The same of what words spell.
+fn fixings_of(alloc: Global, decls: &Decls, words: &str) -> Result<Fixings, BadRow> {
+    let table = spelled(alloc, words)?;
+    fixings_in(alloc, decls, &table)
 }
 
 /// `days_of LABEL TABLE`: the days of a label, by its place, with their values.
-pub fn held_days(alloc: Global, above: &Above, words: &str, out: &mut Vec<u8>) -> Answer {
+pub fn held_days(alloc: Global, decls: &Decls, words: &str, out: &mut Vec<u8>) -> Answer {
     let (label, words) = first_word(words);
     let label = count(label)?;
-    let table = spelled(alloc, words)?;
-    let decls = declared(alloc, above)?;
-    say_held_days(alloc, &decls, &table, label, out)
+    let fixings = fixings_of(alloc, decls, words)?;
+    say_days(alloc, decls, &fixings, label, out)
 }
 
-// Appends the value of a place in a table.
-fn say_held_value(
-    alloc: Global,
-    decls: &Decls,
-    table: &[u8],
-    label: u32,
-    on: i64,
-    out: &mut Vec<u8>,
-) -> Answer
-    requires { length table.now ≤ 1_000_000 }
-{
-    let fixings = fixings_of(alloc, decls, table)?;
-    match fixings.get(label, on) {
-        Some(value) => say_value(alloc, value, scale_of(decls, label), out),
+// Appends a value, or that there is nothing.
+fn say_found(alloc: Global, found: Option<Value>, scale: u8, out: &mut Vec<u8>) -> Answer {
+    match found {
+        Some(value) => say_value(alloc, value, scale, out),
         None => say(out, "nothing"),
     }
 }
 
 /// `get LABEL DAY TABLE`: the value of a place, or nothing.
-pub fn held_value(alloc: Global, above: &Above, words: &str, out: &mut Vec<u8>) -> Answer {
+pub fn held_value(alloc: Global, decls: &Decls, words: &str, out: &mut Vec<u8>) -> Answer {
     let (label, words) = first_word(words);
     let (on, words) = first_word(words);
     let label = count(label)?;
     let on = day(on)?;
-    let table = spelled(alloc, words)?;
-    let decls = declared(alloc, above)?;
-    say_held_value(alloc, &decls, &table, label, on, out)
+    let fixings = fixings_of(alloc, decls, words)?;
+    say_found(alloc, fixings.get(label, on), scale_of(decls, label), out)
 }
 
 // Fixes a value, if it lies within its label and the place is not fixed.
@@ -170,22 +146,15 @@ fn put_all(alloc: Global, decls: &Decls, words: &str) -> Result<Fixings, BadRow>
     Ok(fixings)
 }
 
-// Appends their days.
-fn say_put(alloc: Global, decls: &Decls, words: &str, out: &mut Vec<u8>) -> Answer {
+/// `put DAY:MANTISSA ..`: the days of the first label, with values that are put one by one.
+pub fn put_days(alloc: Global, decls: &Decls, words: &str, out: &mut Vec<u8>) -> Answer {
     let fixings = put_all(alloc, decls, words)?;
     say_days(alloc, decls, &fixings, 0, out)
 }
 
-/// `put DAY:MANTISSA ..`: the days of the first label, with values that are put one by one.
-pub fn put_days(alloc: Global, above: &Above, words: &str, out: &mut Vec<u8>) -> Answer {
-    let decls = declared(alloc, above)?;
-    say_put(alloc, &decls, words, out)
-}
-
 /// `day_of_text TEXT`: the day that a text names.
-pub fn named_day(alloc: Global, above: &Above, words: &str, out: &mut Vec<u8>) -> Answer {
+pub fn named_day(alloc: Global, decls: &Decls, words: &str, out: &mut Vec<u8>) -> Answer {
     let text = spelled(alloc, words)?;
-    let decls = declared(alloc, above)?;
     match day_of_text(decls.origin, &text) {
         Ok(day) => say_decimal(alloc, day as i128, 0, out),
         Err(DayFault::NotDay) => say(out, "no day"),

@@ -8,9 +8,7 @@ ghost use Rattle.term_core.specs.Terms.{contract};
 ghost use Rattle.term_core.specs.WellFormed.{HasOnlyNumbers};
 ghost use Rattle.report.specs.SumTables.{IsSummable};
 
-use crate::above::Above;
 use crate::bad_row::{Answer, BadRow};
-use crate::cases::{declared, ready_of};
 use crate::lines::say_flow;
 use crate::printing::{say, say_missing};
 use crate::words::{day, first_word, integer};
@@ -77,71 +75,57 @@ pub fn frame(word: &str) -> Result<i64, BadRow>
 }
 
 /// `flows UNTIL CONTRACT`: the flow lines of a contract that stands on the start of its portfolio.
-pub fn flows_from_start(alloc: Global, above: &Above, words: &str, out: &mut Vec<u8>) -> Answer {
-    let (until, words) = first_word(words);
-    let until = day(until)?;
-    let ready = ready_of(alloc, above, words)?;
-    let decls = &ready.case.decls;
-    let answer = flows(alloc, decls, &ready.case.contract, &ready.fixings, until);
-    say_table(alloc, decls, &answer, out)
-}
-
-/// `flows_on DAY UNTIL CONTRACT`: those of a contract that stands on a day.
-pub fn flows_from_day(alloc: Global, above: &Above, words: &str, out: &mut Vec<u8>) -> Answer {
-    let (on, words) = first_word(words);
-    let (until, words) = first_word(words);
-    let on = frame(on)?;
-    let until = day(until)?;
-    let ready = ready_of(alloc, above, words)?;
-    let decls = &ready.case.decls;
-    let answer = flows_on(
-        alloc,
-        decls,
-        &ready.case.contract,
-        &ready.fixings,
-        on,
-        until,
-    );
-    say_table(alloc, decls, &answer, out)
-}
-
-// Appends the flows of a contract over shared parts.
-fn say_shared(
+pub fn flows_from_start(
     alloc: Global,
     decls: &Decls,
     c: &Contr,
     fixings: &Fixings,
-    on: i64,
-    until: i64,
+    until: &str,
+    out: &mut Vec<u8>,
+) -> Answer
+    requires accepted { IsAccepted (declarations decls.now) (contract c.now) }
+    requires admitted { IsAdmitted (declarations decls.now) fixings.now }
+{
+    let answer = flows(alloc, decls, c, fixings, day(until)?);
+    say_table(alloc, decls, &answer, out)
+}
+
+/// `flows_on DAY UNTIL CONTRACT`: those of a contract that stands on a day.
+pub fn flows_from_day(
+    alloc: Global,
+    decls: &Decls,
+    c: &Contr,
+    fixings: &Fixings,
+    on: &str,
+    until: &str,
+    out: &mut Vec<u8>,
+) -> Answer
+    requires accepted { IsAccepted (declarations decls.now) (contract c.now) }
+    requires admitted { IsAdmitted (declarations decls.now) fixings.now }
+{
+    let answer = flows_on(alloc, decls, c, fixings, frame(on)?, day(until)?);
+    say_table(alloc, decls, &answer, out)
+}
+
+/// `flows_shared DAY UNTIL CONTRACT`: those of the contract over shared parts.
+pub fn flows_of_shared(
+    alloc: Global,
+    decls: &Decls,
+    c: &Contr,
+    fixings: &Fixings,
+    on: &str,
+    until: &str,
     out: &mut Vec<u8>,
 ) -> Answer
     requires accepted { IsAccepted (declarations decls.now) (contract c.now) }
     requires numbers { HasOnlyNumbers (contract c.now) }
     requires admitted { IsAdmitted (declarations decls.now) fixings.now }
-    requires first { pos 0 ≤ℤ on }
-    requires last { on ≤ℤ pos 1_000_000 }
 {
+    let on = frame(on)?;
+    let until = day(until)?;
     let shared = share(alloc, c)?;
     let answer = flows_shared(alloc, decls, &shared, fixings, on, until);
     say_table(alloc, decls, &answer, out)
-}
-
-/// `flows_shared DAY UNTIL CONTRACT`: those of the contract over shared parts.
-pub fn flows_of_shared(alloc: Global, above: &Above, words: &str, out: &mut Vec<u8>) -> Answer {
-    let (on, words) = first_word(words);
-    let (until, words) = first_word(words);
-    let on = frame(on)?;
-    let until = day(until)?;
-    let ready = ready_of(alloc, above, words)?;
-    say_shared(
-        alloc,
-        &ready.case.decls,
-        &ready.case.contract,
-        &ready.fixings,
-        on,
-        until,
-        out,
-    )
 }
 
 // The table of what the first party pays the second one, or the second the first, on one day.
@@ -170,10 +154,7 @@ fn say_sum(alloc: Global, decls: &Decls, paid: i128, back: i128, out: &mut Vec<u
 }
 
 /// `net PAID BACK`: the lines of the sum of what the first party pays the second on a day, and of what it is paid back.
-pub fn netted(alloc: Global, above: &Above, words: &str, out: &mut Vec<u8>) -> Answer {
+pub fn netted(alloc: Global, decls: &Decls, words: &str, out: &mut Vec<u8>) -> Answer {
     let (paid, back) = first_word(words);
-    let paid = integer(paid)?;
-    let back = integer(back)?;
-    let decls = declared(alloc, above)?;
-    say_sum(alloc, &decls, paid, back, out)
+    say_sum(alloc, decls, integer(paid)?, integer(back)?, out)
 }

@@ -4,9 +4,7 @@ ghost use Rattle.std.specs.Prelude.{◌≤◌, ◌-◌, ◌^◌, unsigned_abs, I
 ghost use Rattle.term_core.specs.Declarations.{declarations, decimals_of};
 ghost use Rattle.term_core.specs.LawsScales.{IsMultiple};
 
-use crate::above::Above;
 use crate::bad_row::{Answer, BadRow};
-use crate::cases::declared;
 use crate::printing::{append, say_fault};
 use crate::words::{count, day, first_word, integer, scale};
 use contract_check::Facts;
@@ -91,11 +89,10 @@ fn verdict(words: &str) -> Result<Result<Facts, RuleFault>, BadRow> {
 }
 
 /// `check_line START SCALE TOTAL HORIZON` or `check_line refused RULE NODE`: the line of a verdict, behind a mark.
-pub fn line_of_verdict(alloc: Global, above: &Above, words: &str, out: &mut Vec<u8>) -> Answer {
+pub fn line_of_verdict(alloc: Global, decls: &Decls, words: &str, out: &mut Vec<u8>) -> Answer {
     let verdict = verdict(words)?;
     append(out, "> ")?;
-    let decls = declared(alloc, above)?;
-    verdict_line(alloc, &decls, &verdict, out)
+    verdict_line(alloc, decls, &verdict, out)
 }
 
 fn text_kind(word: &str) -> Result<TextKind, BadRow> {
@@ -245,12 +242,11 @@ fn flow(words: &str) -> Result<FlowRow, BadRow> {
 }
 
 /// `flow_line NAME DAY FROM TO AMOUNT`: the line of a flow, behind a mark.
-pub fn line_of_flow(alloc: Global, above: &Above, words: &str, out: &mut Vec<u8>) -> Answer {
+pub fn line_of_flow(alloc: Global, decls: &Decls, words: &str, out: &mut Vec<u8>) -> Answer {
     let (name, words) = first_word(words);
     let row = flow(words)?;
     append(out, "> ")?;
-    let decls = declared(alloc, above)?;
-    say_flow(alloc, &decls, name, &row, out)
+    say_flow(alloc, decls, name, &row, out)
 }
 
 /// `value_line MANTISSA SCALE`: the line of a value.

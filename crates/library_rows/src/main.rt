@@ -32,6 +32,8 @@ mod fixings;
 mod flows;
 mod lines;
 mod making;
+mod of_contracts;
+mod of_decls;
 mod printing;
 mod settings;
 mod spelling;

@@ -9,11 +9,9 @@ ghost use Rattle.term_core.specs.Terms.{contract};
 ghost use Rattle.term_core.specs.WellFormed.{HasOnlyNumbers, IsClosed};
 ghost use Rattle.specialise.specs.Specialised.{IsNear};
 
-use crate::above::Above;
 use crate::bad_row::{Answer, BadRow};
-use crate::cases::ready_of;
 use crate::flows::{frame, say_flow_fault, say_rows};
-use crate::words::{count, first_word};
+use crate::words::count;
 use crate::writable::{say_contract, say_factor};
 use advance_step::{Advanced, SharedAdvanced, advance, step, step_shared};
 use decimal::NoMemory;
@@ -47,20 +45,14 @@ fn say_shared(alloc: Global, decls: &Decls, s: &Rc<SharedContr>, out: &mut Vec<u
     say_contract(alloc, decls, c, out)
 }
 
-// Appends the line of the contract without redexes.
-fn say_simple(alloc: Global, decls: &Decls, c: &Contr, out: &mut Vec<u8>) -> Answer
+/// `simplify CONTRACT`: the contract without redexes that ask for no frame.
+pub fn simplified(alloc: Global, decls: &Decls, c: &Contr, out: &mut Vec<u8>) -> Answer
     requires accepted { IsAccepted (declarations decls.now) (contract c.now) }
     requires closed { IsClosed (declarations decls.now) (contract c.now) }
     requires numbers { HasOnlyNumbers (contract c.now) }
 {
     let simple = simplify(alloc, decls, c)?;
     say_contract(alloc, decls, simple, out)
-}
-
-/// `simplify CONTRACT`: the contract without redexes that ask for no frame.
-pub fn simplified(alloc: Global, above: &Above, words: &str, out: &mut Vec<u8>) -> Answer {
-    let ready = ready_of(alloc, above, words)?;
-    say_simple(alloc, &ready.case.decls, &ready.case.contract, out)
 }
 
 // The same of shared parts.
@@ -74,45 +66,31 @@ fn say_simple_parts(alloc: Global, decls: &Decls, s: &Rc<SharedContr>, out: &mut
 }
 
 /// `simplify_shared CONTRACT`: the same over shared parts.
-pub fn simplified_shared(alloc: Global, above: &Above, words: &str, out: &mut Vec<u8>) -> Answer {
-    let ready = ready_of(alloc, above, words)?;
-    let parts = shared_parts(alloc, &ready.case.decls, &ready.case.contract)?;
-    say_simple_parts(alloc, &ready.case.decls, &parts, out)
+pub fn simplified_shared(alloc: Global, decls: &Decls, c: &Contr, out: &mut Vec<u8>) -> Answer
+    requires accepted { IsAccepted (declarations decls.now) (contract c.now) }
+    requires closed { IsClosed (declarations decls.now) (contract c.now) }
+    requires numbers { HasOnlyNumbers (contract c.now) }
+{
+    let parts = shared_parts(alloc, decls, c)?;
+    say_simple_parts(alloc, decls, &parts, out)
 }
 
-// Appends the line of the contract with what is fixed told in it.
-fn say_special(
+/// `specialise_contr DAY CONTRACT`: the contract with what is fixed told in it.
+pub fn specialised(
     alloc: Global,
     decls: &Decls,
     c: &Contr,
     fixings: &Fixings,
-    on: i64,
+    on: &str,
     out: &mut Vec<u8>,
 ) -> Answer
     requires accepted { IsAccepted (declarations decls.now) (contract c.now) }
     requires closed { IsClosed (declarations decls.now) (contract c.now) }
     requires numbers { HasOnlyNumbers (contract c.now) }
     requires admitted { IsAdmitted (declarations decls.now) fixings.now }
-    requires first { pos 0 ≤ℤ on }
-    requires last { on ≤ℤ pos 1_000_000 }
 {
-    let special = specialise_contr(alloc, decls, c, fixings, on)?;
+    let special = specialise_contr(alloc, decls, c, fixings, frame(on)?)?;
     say_contract(alloc, decls, special, out)
-}
-
-/// `specialise_contr DAY CONTRACT`: the contract with what is fixed told in it.
-pub fn specialised(alloc: Global, above: &Above, words: &str, out: &mut Vec<u8>) -> Answer {
-    let (on, words) = first_word(words);
-    let on = frame(on)?;
-    let ready = ready_of(alloc, above, words)?;
-    say_special(
-        alloc,
-        &ready.case.decls,
-        &ready.case.contract,
-        &ready.fixings,
-        on,
-        out,
-    )
 }
 
 // The same of shared parts.
@@ -136,12 +114,22 @@ fn say_special_parts(
 }
 
 /// `specialise_shared DAY CONTRACT`: the same over shared parts.
-pub fn specialised_shared(alloc: Global, above: &Above, words: &str, out: &mut Vec<u8>) -> Answer {
-    let (on, words) = first_word(words);
+pub fn specialised_shared(
+    alloc: Global,
+    decls: &Decls,
+    c: &Contr,
+    fixings: &Fixings,
+    on: &str,
+    out: &mut Vec<u8>,
+) -> Answer
+    requires accepted { IsAccepted (declarations decls.now) (contract c.now) }
+    requires closed { IsClosed (declarations decls.now) (contract c.now) }
+    requires numbers { HasOnlyNumbers (contract c.now) }
+    requires admitted { IsAdmitted (declarations decls.now) fixings.now }
+{
     let on = frame(on)?;
-    let ready = ready_of(alloc, above, words)?;
-    let parts = shared_parts(alloc, &ready.case.decls, &ready.case.contract)?;
-    say_special_parts(alloc, &ready.case.decls, &parts, &ready.fixings, on, out)
+    let parts = shared_parts(alloc, decls, c)?;
+    say_special_parts(alloc, decls, &parts, fixings, on, out)
 }
 
 // What becomes on a frame of the expression that an accepted contract binds or tests.
@@ -176,12 +164,20 @@ fn day_or_unknown(word: &str) -> Result<Frame, BadRow>
 }
 
 /// `specialise_expr DAY CONTRACT`: the expression that a contract binds or tests, on a day or an unknown one.
-pub fn specialised_first(alloc: Global, above: &Above, words: &str, out: &mut Vec<u8>) -> Answer {
-    let (on, words) = first_word(words);
+pub fn specialised_first(
+    alloc: Global,
+    decls: &Decls,
+    c: &Contr,
+    fixings: &Fixings,
+    on: &str,
+    out: &mut Vec<u8>,
+) -> Answer
+    requires accepted { IsAccepted (declarations decls.now) (contract c.now) }
+    requires closed { IsClosed (declarations decls.now) (contract c.now) }
+    requires admitted { IsAdmitted (declarations decls.now) fixings.now }
+{
     let on = day_or_unknown(on)?;
-    let ready = ready_of(alloc, above, words)?;
-    let decls = &ready.case.decls;
-    let special = first_on(alloc, decls, &ready.case.contract, &ready.fixings, on)?;
+    let special = first_on(alloc, decls, c, fixings, on)?;
     say_factor(alloc, decls, special, out)
 }
 
@@ -202,12 +198,21 @@ fn say_advanced(
 }
 
 /// `step DAY CONTRACT`: the flow lines of a day, and the contract that is left on the next.
-pub fn stepped(alloc: Global, above: &Above, words: &str, out: &mut Vec<u8>) -> Answer {
-    let (on, words) = first_word(words);
+pub fn stepped(
+    alloc: Global,
+    decls: &Decls,
+    c: &Contr,
+    fixings: &Fixings,
+    on: &str,
+    out: &mut Vec<u8>,
+) -> Answer
+    requires accepted { IsAccepted (declarations decls.now) (contract c.now) }
+    requires closed { IsClosed (declarations decls.now) (contract c.now) }
+    requires numbers { HasOnlyNumbers (contract c.now) }
+    requires admitted { IsAdmitted (declarations decls.now) fixings.now }
+{
     let on = frame(on)?;
-    let ready = ready_of(alloc, above, words)?;
-    let decls = &ready.case.decls;
-    let answer = step(alloc, decls, &ready.case.contract, &ready.fixings, on);
+    let answer = step(alloc, decls, c, fixings, on);
     say_advanced(alloc, decls, answer, out)
 }
 
@@ -237,23 +242,42 @@ fn say_stepped_parts(
 }
 
 /// `step_shared DAY CONTRACT`: the same over shared parts.
-pub fn stepped_shared(alloc: Global, above: &Above, words: &str, out: &mut Vec<u8>) -> Answer {
-    let (on, words) = first_word(words);
+pub fn stepped_shared(
+    alloc: Global,
+    decls: &Decls,
+    c: &Contr,
+    fixings: &Fixings,
+    on: &str,
+    out: &mut Vec<u8>,
+) -> Answer
+    requires accepted { IsAccepted (declarations decls.now) (contract c.now) }
+    requires closed { IsClosed (declarations decls.now) (contract c.now) }
+    requires numbers { HasOnlyNumbers (contract c.now) }
+    requires admitted { IsAdmitted (declarations decls.now) fixings.now }
+{
     let on = frame(on)?;
-    let ready = ready_of(alloc, above, words)?;
-    let parts = shared_parts(alloc, &ready.case.decls, &ready.case.contract)?;
-    say_stepped_parts(alloc, &ready.case.decls, &parts, &ready.fixings, on, out)
+    let parts = shared_parts(alloc, decls, c)?;
+    say_stepped_parts(alloc, decls, &parts, fixings, on, out)
 }
 
 /// `advance DAYS CONTRACT`: the flow lines of so many days, and the contract that is left behind them.
-pub fn advanced(alloc: Global, above: &Above, words: &str, out: &mut Vec<u8>) -> Answer {
-    let (days, words) = first_word(words);
+pub fn advanced(
+    alloc: Global,
+    decls: &Decls,
+    c: &Contr,
+    fixings: &Fixings,
+    days: &str,
+    out: &mut Vec<u8>,
+) -> Answer
+    requires accepted { IsAccepted (declarations decls.now) (contract c.now) }
+    requires closed { IsClosed (declarations decls.now) (contract c.now) }
+    requires numbers { HasOnlyNumbers (contract c.now) }
+    requires admitted { IsAdmitted (declarations decls.now) fixings.now }
+{
     let days = count(days)?;
-    let ready = ready_of(alloc, above, words)?;
-    let decls = &ready.case.decls;
     if days > 1_000_000 || decls.start + days > 1_000_000 {
         return Err(BadRow::Range);
     }
-    let answer = advance(alloc, decls, &ready.case.contract, &ready.fixings, days);
+    let answer = advance(alloc, decls, c, fixings, days);
     say_advanced(alloc, decls, answer, out)
 }

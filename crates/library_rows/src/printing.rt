@@ -45,8 +45,24 @@ pub fn say_parse_fault(alloc: Global, error: ParseErr, out: &mut Vec<u8>) -> Ans
     }
 }
 
-/// Appends the line of the first fault of a table.
-pub fn say_row_fault(alloc: Global, error: RowErr, out: &mut Vec<u8>) -> Answer {
+/// Appends `read`, or the line of the first fault of a text.
+pub fn say_read<T>(alloc: Global, read: &Result<T, ParseErr>, out: &mut Vec<u8>) -> Answer {
+    match read {
+        Ok(_) => say(out, "read"),
+        Err(error) => say_parse_fault(alloc, *error, out),
+    }
+}
+
+/// Appends `read`, or the line of the first fault of a table.
+pub fn say_table_read<T>(alloc: Global, read: &Result<T, RowErr>, out: &mut Vec<u8>) -> Answer {
+    match read {
+        Ok(_) => say(out, "read"),
+        Err(error) => say_row_fault(alloc, *error, out),
+    }
+}
+
+// Appends the line of the first fault of a table.
+fn say_row_fault(alloc: Global, error: RowErr, out: &mut Vec<u8>) -> Answer {
     match error {
         RowErr::Row(fault) => say_fault(alloc, &Fault::Row { place: 2, fault }, out),
         RowErr::NoMemory => Err(BadRow::NoMemory),

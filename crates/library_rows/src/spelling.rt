@@ -81,8 +81,11 @@ impl Spelling {
         }
     }
 
-    // Writes a piece of the text, which begins with the sign of its escape.
-    fn piece(&mut self, alloc: Global, piece: &str) -> Result<(), BadRow> {
+    // Writes a piece of the text. Each but the first begins with the sign of its escape.
+    fn add(&mut self, alloc: Global, is_first: bool, piece: &str) -> Result<(), BadRow> {
+        if is_first {
+            return Ok(self.bytes.extend_from_slice(piece.as_bytes())?);
+        }
         if let Some(part) = piece.strip_prefix('[') {
             return self.begin(part);
         }
@@ -101,11 +104,7 @@ pub fn append_spelled(alloc: Global, bytes: Vec<u8>, text: &str) -> Result<Vec<u
         times: 0,
     };
     for (place, piece) in text.split('\\').enumerate() {
-        if place == 0 {
-            spelling.bytes.extend_from_slice(piece.as_bytes())?;
-        } else {
-            spelling.piece(alloc, piece)?;
-        }
+        spelling.add(alloc, place == 0, piece)?;
     }
     let Spelling { bytes, times, .. } = spelling;
     if times > 0 {

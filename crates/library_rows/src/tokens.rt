@@ -7,9 +7,9 @@ ghost use Rattle.contract_parse.specs.Cursors.{Fits};
 use crate::above::Above;
 use crate::bad_row::Answer;
 use crate::printing::{append, append_decimal, end, say_parse_fault, say_text_fault};
+use crate::texts;
 use crate::words::{count, first_word, version};
 use contract_parse::{Cursor, Token, TokenKind, next_token, parse_decls, start_text};
-use contract_print::print_decls;
 use std::alloc::Global;
 
 fn kind_word(kind: TokenKind) -> &'static str {
@@ -81,7 +81,7 @@ fn say_decls(
     ensures { Fits text.now cursor.new }
 {
     match parse_decls(alloc, cursor, text, version) {
-        Ok(decls) => Ok(print_decls(alloc, out, &decls)?),
+        Ok(decls) => texts::say_decls(alloc, &decls, out),
         Err(error) => say_parse_fault(alloc, error, out),
     }
 }

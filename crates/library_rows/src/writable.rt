@@ -78,24 +78,40 @@ pub fn is_printable(c: &Contr) -> bool
 }
 
 // One contract under a name.
-fn one_of(alloc: Global, c: Contr) -> Result<IndexMap<Name, Contr>, NoMemory>
+fn one_under(alloc: Global, name: Name, c: Contr) -> Result<IndexMap<Name, Contr>, NoMemory>
     requires { IsWritableTerm (contract c) }
     ensures { IfOk result (λ contracts. All (λ entry. IsWritableTerm (contract entry.1)) contracts.entries) }
 {
-    let name = Name::new(alloc, b"c")?;
     let mut contracts = IndexMap::new(alloc);
     contracts.insert(name, c)?;
     Ok(contracts)
 }
 
-// The portfolio of one contract.
+// The same under the name of rows.
+fn one_of(alloc: Global, c: Contr) -> Result<IndexMap<Name, Contr>, NoMemory>
+    requires { IsWritableTerm (contract c) }
+    ensures { IfOk result (λ contracts. All (λ entry. IsWritableTerm (contract entry.1)) contracts.entries) }
+{
+    let name = Name::new(alloc, b"c")?;
+    one_under(alloc, name, c)
+}
+
+// The portfolio of one contract under declarations.
+fn book_under(alloc: Global, decls: Decls, c: Contr) -> Result<Portfolio, NoMemory>
+    requires { IsWritableTerm (contract c) }
+    ensures { IfOk result (λ portfolio. All (λ entry. IsWritableTerm entry.1) (book portfolio).contracts) }
+{
+    let contracts = one_of(alloc, c)?;
+    Ok(Portfolio { decls, contracts })
+}
+
+// The same under a copy of declarations.
 fn book_of(alloc: Global, decls: &Decls, c: Contr) -> Result<Portfolio, NoMemory>
     requires { IsWritableTerm (contract c) }
     ensures { IfOk result (λ portfolio. All (λ entry. IsWritableTerm entry.1) (book portfolio).contracts) }
 {
     let decls = decls.copy(alloc)?;
-    let contracts = one_of(alloc, c)?;
-    Ok(Portfolio { decls, contracts })
+    book_under(alloc, decls, c)
 }
 
 // The canonical text of a portfolio.

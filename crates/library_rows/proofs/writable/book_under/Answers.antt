@@ -3,7 +3,7 @@ use Rattle.term_core.specs.declared.name.Name.{Name}
 use Rattle.term_core.specs.declared.terms.Contr.{Contr}
 use Rattle.term_core.specs.Terms.{Contract, contract}
 use Rattle.contract_print.specs.Writable.{IsWritableTerm}
-use Rattle.library_rows.proofs.writable.book_of.Goals as goal
+use Rattle.library_rows.proofs.writable.book_under.Goals as goal
 
 -- the portfolio's contracts are those of the map, as trees
 pub returns : goal.returns

@@ -1,10 +1,10 @@
 use Rattle.term_core.specs.Declarations.{declarations}
 use Rattle.payoff_lang.specs.Code.{payoff_code}
 use Rattle.payoff_lang.specs.CodeBooks.{code_book}
-use Rattle.library_rows.proofs.codes.print_text.Goals as goal
+use Rattle.library_rows.proofs.codes.printed_code.Goals as goal
 
-pub print_code-requires : goal.print_code-requires
-print_code-requires c =
+pub print_file-requires : goal.print_file-requires
+print_file-requires c =
     let file = c.in-Ok.file in
     record {
       version = c.in-Ok.ensures.answer.version;
