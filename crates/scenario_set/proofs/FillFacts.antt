@@ -1,7 +1,7 @@
 -- Rows are put where they belong: the first of each group at each place.
-use Rattle.std.proofs.Common.{◌≡◌, ◌≢◌, ◌∙◌, ◌↔◌, ◌⊎◌, inl, inr, ℕ, zero, suc, ◌<◌, ◌==◌, true, false, List, [], ◌∷◌, ◌++◌, length, get_or, Option, Some, None, slice_get, append_assoc, refl, sym, ap, ap₂, subst, arith}
+use Rattle.std.proofs.Common.{◌≡◌, ◌≢◌, ◌∙◌, ◌↔◌, ◌⊎◌, inl, inr, ℕ, zero, suc, ◌<◌, ◌==◌, true, false, List, [], ◌∷◌, ◌++◌, length, get_or, Some, slice_get, append_assoc, refl, sym, ap, subst, arith}
 use Rattle.std.specs.Prelude.{Contains, slice_set}
-use Rattle.std.specs.BTreeMap.{IsOrdered, get, is_at}
+use Rattle.std.specs.BTreeMap.{IsOrdered, is_at}
 use Rattle.std.specs.declared.cmp.Ordering.{Ordering}
 use Rattle.std.specs.declared.cmp.Ordering.TheVariants.{Equal, Less, Greater}
 use Rattle.std.specs.Ordering.{is_eq}

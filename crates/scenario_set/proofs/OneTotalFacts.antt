@@ -1,20 +1,19 @@
 -- What is asked of scenarios has one answer, and scenarios with the same names and maps have the same.
 use Rattle.std.proofs.Common.{◌≡◌, ◌∙◌, ℕ, zero, suc, ◌+◌, ◌-◌, ◌*◌, ◌^◌, ◌≤◌, ◌<◌, ℤ, pos, List, [], ◌∷◌, length, map, Option, Some, None, Result, Ok, Err, slice_get, refl, sym, ap, subst, inl, inr, arith}
-use Rattle.std.specs.Prelude.{◌≤ℤ◌, ◌<ℤ◌}
 use Rattle.std.proofs.lemmas.Bool.{cases_lt}
 use Rattle.std.proofs.lemmas.Int.{ints}
 use Rattle.std.proofs.lemmas.List.{length-map}
 use Rattle.std.proofs.lemmas.Option.{slice_get_within}
 use Rattle.decimal.specs.Rounding.{raised}
 use Rattle.term_core.specs.Declarations.{Declarations}
-use Rattle.term_core.specs.Environments.{Environment, Extends, IsAdmitted, Place}
+use Rattle.term_core.specs.Environments.{Environment, Extends, Place}
 use Rattle.fixing_files.specs.Layers.{HoldSame}
 use Rattle.payoff_lang.specs.CodeValues.{scale_of_code}
 use Rattle.payoff_lang.specs.LawsCode.{CodeValuesAreFixed}
 use Rattle.payoff_eval.proofs.SameFacts.{extends_same, same_lacked}
 use Rattle.scenario_set.specs.LawsTotals.{SameAnswer, SameTotals, TotalsAreOne}
 use Rattle.scenario_set.specs.Scenarios.{AreAdmitted, NamedMap, SameScenarios}
-use Rattle.scenario_set.specs.Totals.{AnswersTotals, AreFew, AreTotals, Inquiry, IsFirstGreatest, IsFirstLack, IsFirstLeast, IsFixedIn, LacksIn, lacked_in, most_worth, total_of, value_at, values_in, worth_in}
+use Rattle.scenario_set.specs.Totals.{AnswersTotals, AreFew, AreTotals, Inquiry, IsFirstGreatest, IsFirstLack, IsFirstLeast, IsFixedIn, LacksIn, lacked_in, most_worth, total_of, values_in, worth_in}
 use Rattle.scenario_set.specs.declared.outcomes.Totals.{Totals}
 use Rattle.scenario_set.specs.declared.outcomes.TotalsErr.{TotalsErr}
 use Rattle.scenario_set.specs.declared.outcomes.TotalsErr.TheVariants.{TooMany, Missing, NoMemory}

@@ -1,6 +1,6 @@
 -- Worked rows: what a single record of scenarios says by itself, the mean by each mode, the first of the least and of the
 -- greatest, and how many scenarios are too many.
-use Rattle.std.proofs.Common.{◌≡◌, ◌<◌, ◌≤◌, ◌*◌, ◌^◌, ℕ, zero, suc, ℤ, pos, List, [], ◌∷◌, Option, Some, None, Result, Ok, Err, refl, arith, subst, sym, true}
+use Rattle.std.proofs.Common.{◌≡◌, ◌<◌, ◌≤◌, ◌*◌, ◌^◌, ℕ, zero, suc, ℤ, pos, List, [], ◌∷◌, Some, None, Result, Ok, Err, refl, arith, subst, sym, true}
 use Rattle.std.specs.Prelude.{◌≤ℤ◌, ◌<ℤ◌, codes}
 use Rattle.std.proofs.lemmas.Int.{ints}
 use Rattle.decimal.specs.Reading.{read_of}

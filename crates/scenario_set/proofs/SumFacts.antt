@@ -11,7 +11,7 @@ use Rattle.std.proofs.lemmas.List.{map_more, take_all}
 use Rattle.std.proofs.lemmas.List.Elements.{All-nil, All-push}
 use Rattle.std.proofs.lemmas.Option.{slice_get-get_or}
 use Rattle.scenario_set.specs.Scenarios.{NamedMap}
-use Rattle.scenario_set.specs.Totals.{AreFew, AreSmallTotals, Inquiry, IsFixedIn, LacksIn, most_worth, total_of, values_in, worth_in}
+use Rattle.scenario_set.specs.Totals.{AreFew, Inquiry, IsFixedIn, LacksIn, most_worth, total_of, values_in, worth_in}
 use Rattle.scenario_set.specs.TotalSteps.{AnswersIn, AnswersSum, IsWorthIn, SumsUpTo, TakesValue}
 use Rattle.scenario_set.specs.declared.sums.Summed.{Summed}
 use Rattle.scenario_set.specs.declared.outcomes.TotalsErr.{TotalsErr}

@@ -1,20 +1,13 @@
 -- What code is worth over a map that holds what the map of a scenario holds.
-use Rattle.std.proofs.Common.{◌≡◌, ◌∙◌, ℕ, ℤ, pos, ◌≤◌, List, [], ◌∷◌, Bool, true, false, Option, Some, Result, Ok, Err, if◌then◌else◌, refl, ap, sym, subst}
-use Rattle.std.specs.Prelude.{is_some, unsigned_abs}
+use Rattle.std.proofs.Common.{◌≡◌, ◌∙◌, ℕ, ℤ, pos, ◌≤◌, List, Result, Ok, Err, refl, sym, subst}
+use Rattle.std.specs.Prelude.{unsigned_abs}
 use Rattle.term_core.specs.Declarations.{Declarations}
 use Rattle.term_core.specs.declared.values.Missing.{Missing}
-use Rattle.term_core.specs.declared.values.Value.{Value}
-use Rattle.term_core.specs.Environments.{Environment, Extends, IsAdmitted, Place}
+use Rattle.term_core.specs.Environments.{Environment, IsAdmitted}
 use Rattle.term_core.specs.Factors.{IsCurve, IsFactor}
-use Rattle.term_core.specs.Reads.{first_unfixed, is_fixed, up_to_first}
-use Rattle.term_core.proofs.ReadLawFacts.{extension_reads, no_names}
 use Rattle.interval_check.specs.Within.{KeepsLimits}
 use Rattle.expr_eval.specs.Standing.{place_of}
-use Rattle.payoff_lang.specs.Code.{PayoffCode}
 use Rattle.payoff_lang.specs.CodeAcceptance.{IsAcceptedCode}
-use Rattle.payoff_lang.specs.CodeReads.{reads_of_code}
-use Rattle.payoff_lang.specs.CodeValues.{Asked}
-use Rattle.payoff_lang.proofs.CodeAlikeFacts.{code_alike}
 use Rattle.payoff_eval.specs.CodeAnswers.{IsValueOf, aligned_value}
 use Rattle.payoff_eval.proofs.LawFacts.{values_are_within_totals}
 use Rattle.payoff_eval.proofs.SameFacts.{extends_same, same_lacked}

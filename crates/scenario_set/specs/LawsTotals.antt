@@ -15,7 +15,7 @@ use Rattle.scenario_set.specs.Scenarios.{NamedMap, SameScenarios}
 use Rattle.scenario_set.specs.Totals.{AnswersTotals, AreTotals, Inquiry, value_at}
 use Rattle.scenario_set.specs.declared.outcomes.Totals.{Totals}
 use Rattle.scenario_set.specs.declared.outcomes.TotalsErr.{TotalsErr}
-use Rattle.scenario_set.specs.declared.outcomes.TotalsErr.TheVariants.{TooMany, Missing, NoMemory}
+use Rattle.scenario_set.specs.declared.outcomes.TotalsErr.TheVariants.{NoMemory}
 
 -- a number is the value of a contract in a scenario, in every environment that extends the scenario's map
 abbrev pub IsWorthOf : CodeBook → List ℕ → Asked → Contract → Counting → NamedMap → ℤ → Type 0
