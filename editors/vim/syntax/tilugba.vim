@@ -1,5 +1,6 @@
-" Vim syntax file for Tilugba: portfolios and payoff code, by the tokens and the reserved words of docs/FORMATS.md.
-" Copy the folders below editors/vim to ~/.vim. A file is known by its first statement, such as `portfolio 1;`, `portfolio 2;` or `payoff 1;`.
+" Vim syntax file for Tilugba: portfolios, payoff code and schedule files, by the tokens and the reserved words of docs/FORMATS.md.
+" Copy the folders below editors/vim to ~/.vim. A file is known by its first statement, such as `portfolio 1;`, `portfolio 2;`,
+" `payoff 1;` or `schedules 1;`. The words of plans are reserved nowhere, so they have the colour of names.
 if exists("b:current_syntax")
   finish
 endif
