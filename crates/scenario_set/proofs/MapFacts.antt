@@ -10,7 +10,7 @@ use Rattle.term_core.specs.Environments.{Environment, Place, held, same_place}
 use Rattle.term_core.specs.declared.values.Value.{Value}
 use Rattle.scenario_set.specs.Collecting.{Names}
 use Rattle.scenario_set.specs.Scenarios.{NamedMap, map_of, maps_of, row_held, rows_held}
-use Rattle.scenario_set.specs.Settling.{Fills, IsFirst, Settles, names_of, rows_at}
+use Rattle.scenario_set.specs.Settling.{Fills, IsFirst, Settles, names_of, row_for, rows_at}
 use Rattle.scenario_set.specs.Watches.{Rows}
 use Rattle.scenario_set.specs.declared.scenarios.Scenario.{Scenario}
 use Rattle.scenario_set.specs.declared.scenarios.SetRow.{SetRow}
@@ -18,9 +18,6 @@ use Rattle.scenario_set.specs.declared.watches.Group.TheVariants.{Each, Of}
 use Rattle.fixing_files.proofs.LayerFacts.{same_is, same_itself}
 
 -- ---- the rows of a map
-
-abbrev row_for : Place → Value → SetRow
-row_for q v = record { label = q.label; day = q.day; value = v }
 
 abbrev row_back : Place × Value → SetRow
 row_back p = row_for p.0 p.1

@@ -63,10 +63,14 @@ pub record Fills (firsts : Rows) (common : List SetRow) (each : List Scenario) :
   pub common_is : (r : SetRow) → Contains common r ↔ IsFirst firsts Each r
   pub own_is : (i : ℕ) (r : SetRow) → Contains (rows_at each i) r ↔ IsFirst firsts (Of i) r
 
+-- the row of a place with a value
+abbrev pub row_for : Place → Value → SetRow
+row_for q v = record { label = q.label; day = q.day; value = v }
+
 -- the scenarios have these names, and their maps the first values
 pub record Settles (names : Names) (firsts : Rows) (set : List NamedMap) : Type 0 where
   pub names_are : map (λ s. s.name) set ≡ names
   pub holds :
       (i : ℕ) (s : NamedMap) → slice_get set i ≡ Some s → (q : Place) (v : Value)
       → Contains s.map (q, v)
-      ↔ (IsFirst firsts (Of i) (record { label = q.label; day = q.day; value = v }) ⊎ IsFirst firsts Each (record { label = q.label; day = q.day; value = v }))
+      ↔ (IsFirst firsts (Of i) (row_for q v) ⊎ IsFirst firsts Each (row_for q v))

@@ -6,6 +6,7 @@ use Rattle.decimal.specs.Text.{text_of}
 use Rattle.decimal.specs.declared.rounding.Mode.{Mode}
 use Rattle.scenario_set.specs.Scenarios.{NamedMap}
 use Rattle.scenario_set.specs.Totals.{mean_of, value_at}
+use Rattle.scenario_set.specs.declared.lines.NamedValue.{NamedValue}
 use Rattle.scenario_set.specs.declared.outcomes.Totals.{Totals}
 
 -- words and a comma
@@ -41,6 +42,9 @@ name_at set i = name_or_none (slice_get set i)
 -- the total and the mean
 abbrev pub sums_text : ℤ → ℤ → ℕ → List ℕ
 sums_text total mean scale = line_text (codes "total") total scale ++ line_text (codes "mean") mean scale
+
+abbrev pub valued : NamedValue → List ℕ × ℤ
+valued v = (v.name.now, v.value)
 
 -- the least and the greatest, each with its name
 abbrev pub ends_text : List ℕ × ℤ → List ℕ × ℤ → ℕ → List ℕ

@@ -1,7 +1,8 @@
 -- What code is worth in the scenarios of a set, the total of these values, and the first scenarios of the least and the
 -- greatest. Each value is that of the code at the start, by a curve, where payments gone by count with their face value, at
 -- nine decimals more than the portfolio's.
-use Rattle.std.specs.Prelude.{All, ◌≡◌, ◌≤◌, ◌<◌, ◌≤ℤ◌, ◌<ℤ◌, ◌+ℤ◌, ◌*◌, ℕ, ℤ, pos, List, [], ◌∷◌, length, map, Option, Some, None, Result, Ok, Err, slice_get, slice_index_or}
+use Rattle.std.specs.Prelude.{All, ◌≡◌, ◌≤◌, ◌<◌, ◌≤ℤ◌, ◌<ℤ◌, ◌+ℤ◌, ◌*◌, ℕ, ℤ, pos, List}
+use Rattle.std.specs.Prelude.{[], ◌∷◌, length, map, Option, Some, None, Result, Ok, Err, slice_get, slice_index_or}
 use Rattle.decimal.specs.declared.rounding.Mode.{Mode}
 use Rattle.decimal.specs.Rounding.{divided}
 use Rattle.term_core.specs.Environments.{Environment, Place}

@@ -5,7 +5,8 @@ ghost use Rattle.decimal.specs.Appending.{AppendsPart};
 ghost use Rattle.decimal.specs.Text.{text_of};
 ghost use Rattle.interval_check.specs.Safety.{IsSmall};
 ghost use Rattle.scenario_set.specs.Totals.{value_at};
-ghost use Rattle.scenario_set.specs.TotalLines.{ends_text, last_text, line_text, marked_text, name_at, sums_text, total_text, values_text, words_text};
+ghost use Rattle.scenario_set.specs.TotalLines.{ends_text, last_text, line_text, marked_text, name_at, sums_text};
+ghost use Rattle.scenario_set.specs.TotalLines.{total_text, valued, values_text, words_text};
 
 use crate::means::mean;
 use crate::outcomes::Totals;
@@ -145,8 +146,8 @@ fn append_ends(
     requires least { IsSmall least.now.value }
     requires greatest { IsSmall greatest.now.value }
     requires scale { scale ≤ 27 }
-    ensures ok { OnOk result (out.new.items ≡ out.old.items ++ ends_text (least.now.name.now, least.now.value) (greatest.now.name.now, greatest.now.value) scale) }
-    ensures err { OnErr result (AppendsPart out.old.items (ends_text (least.now.name.now, least.now.value) (greatest.now.name.now, greatest.now.value) scale) out.new.items) }
+    ensures ok { OnOk result (out.new.items ≡ out.old.items ++ ends_text (valued least.now) (valued greatest.now) scale) }
+    ensures err { OnErr result (AppendsPart out.old.items (ends_text (valued least.now) (valued greatest.now) scale) out.new.items) }
 {
     append_marked(alloc, out, b"least", least.name, least.value, scale)?;
     append_marked(

@@ -102,7 +102,7 @@ fn value_over(
     requires admitted { IsAdmitted (declarations file.now.decls) (rows_held own.now ++ common.now) }
     requires question { IsQuestion (declarations file.now.decls) (asked_on curve.now at from to asset) }
     requires room { height_of_code (payoff_code file.now.code) ≤ scratch.old }
-    ensures found { IfOk result (AnswersOver (inquiry_of file.now setting.now.days.items curve.now at from to asset) (rows_held own.now ++ common.now)) }
+    ensures found { IfOk result (AnswersOver (inquiry_of file.now setting.now curve.now at from to asset) own.now common.now) }
     ensures room { scratch.new ≡ scratch.old }
 {
     let few = held_by(alloc, own)?;
@@ -132,7 +132,7 @@ fn value_in(
     requires question { IsQuestion (declarations file.now.decls) (asked_on curve.now at from to asset) }
     requires room { height_of_code (payoff_code file.now.code) ≤ scratch.old }
     requires scenario { i < length each.now }
-    ensures worth { AnswersIn (inquiry_of file.now setting.now.days.items curve.now at from to asset) (maps_of common.now each.now) i result }
+    ensures worth { AnswersIn (inquiry_of file.now setting.now curve.now at from to asset) (maps_of common.now each.now) i result }
     ensures room { scratch.new ≡ scratch.old }
 {
     curve.rises();
@@ -182,9 +182,9 @@ fn sum(
     requires accepted { IsAcceptedCode (declarations file.now.decls) setting.now.days.items (payoff_code file.now.code) }
     requires admitted { AreAdmitted (declarations file.now.decls) (maps_of common.now each.now) }
     requires question { IsQuestion (declarations file.now.decls) (asked_on curve.now at from to asset) }
-    requires few { AreFew (inquiry_of file.now setting.now.days.items curve.now at from to asset) (maps_of common.now each.now) }
+    requires few { AreFew (inquiry_of file.now setting.now curve.now at from to asset) (maps_of common.now each.now) }
     requires numbered { length each.now < 2 ^ 32 }
-    ensures { AnswersSum (inquiry_of file.now setting.now.days.items curve.now at from to asset) (maps_of common.now each.now) result }
+    ensures { AnswersSum (inquiry_of file.now setting.now curve.now at from to asset) (maps_of common.now each.now) result }
 {
     let Ok(mut scratch) = value_scratch(alloc, file) else {
         return Err(TotalsErr::NoMemory);
@@ -239,10 +239,10 @@ fn totals_of(
     requires accepted { IsAcceptedCode (declarations file.now.decls) setting.now.days.items (payoff_code file.now.code) }
     requires admitted { AreAdmitted (declarations file.now.decls) (maps_of common.now each.now) }
     requires question { IsQuestion (declarations file.now.decls) (asked_on curve.now at from to asset) }
-    requires few { AreFew (inquiry_of file.now setting.now.days.items curve.now at from to asset) (maps_of common.now each.now) }
+    requires few { AreFew (inquiry_of file.now setting.now curve.now at from to asset) (maps_of common.now each.now) }
     requires some { 1 ≤ length each.now }
     requires numbered { length each.now < 2 ^ 32 }
-    ensures answer { AnswersTotals (inquiry_of file.now setting.now.days.items curve.now at from to asset) (maps_of common.now each.now) result }
+    ensures answer { AnswersTotals (inquiry_of file.now setting.now curve.now at from to asset) (maps_of common.now each.now) result }
     ensures small { IfOk result AreSmallTotals }
 {
     let Summed { values, total } = sum(
@@ -281,7 +281,7 @@ pub fn totals(
     requires bound { bound ≡ pos (aligned_code_total (declarations file.now.decls) (payoff_code file.now.code) []) }
     requires admitted { AreAdmitted (declarations file.now.decls) set.now }
     requires question { IsQuestion (declarations file.now.decls) (asked_on curve.now at from to asset) }
-    ensures answer { AnswersTotals (inquiry_of file.now setting.now.days.items curve.now at from to asset) set.now result }
+    ensures answer { AnswersTotals (inquiry_of file.now setting.now curve.now at from to asset) set.now result }
     ensures small { IfOk result AreSmallTotals }
 {
     let count = set.count();

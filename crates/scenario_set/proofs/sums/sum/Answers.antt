@@ -12,7 +12,7 @@ use Rattle.scenario_set.proofs.sums.sum.Goals as goal
 
 pub returns-in-Err : goal.returns-in-Err
 returns-in-Err c =
-    let asks : ℤ → Inquiry = λ at. inquiry_of c.args.file.now c.args.setting.now.days.items c.args.curve.now at c.args.from c.args.to c.args.asset in
+    let asks : ℤ → Inquiry = λ at. inquiry_of c.args.file.now c.args.setting.now c.args.curve.now at c.args.from c.args.to c.args.asset in
     let set = maps_of c.args.common.now c.args.each.now in
     let e = to_z-of_z w64 c.args.at c.ranges.at in
     let stopped = subst (λ (at : ℤ). AnswersIn (asks at) set c.loop-i.i (Err c.in-Err.stopped)) e c.in-Err.ensures.worth in
@@ -20,7 +20,7 @@ returns-in-Err c =
 
 pub loop-i-preserved : goal.loop-i-preserved
 loop-i-preserved c =
-    let q = inquiry_of c.args.file.now c.args.setting.now.days.items c.args.curve.now c.args.at c.args.from c.args.to c.args.asset in
+    let q = inquiry_of c.args.file.now c.args.setting.now c.args.curve.now c.args.at c.args.from c.args.to c.args.asset in
     let set = maps_of c.args.common.now c.args.each.now in
     let e = to_z-of_z w64 c.args.at c.ranges.at in
     let long = length-map c.args.each.now (map_of c.args.common.now) in

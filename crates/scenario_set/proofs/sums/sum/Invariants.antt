@@ -7,5 +7,5 @@ use Rattle.scenario_set.proofs.sums.sum.Given as goal
 
 abbrev pub invariant-loop-i : goal.invariant-loop-i
 invariant-loop-i l =
-    SumsUpTo (inquiry_of l.fn.file l.fn.setting.days.items l.fn.curve l.fn.at l.fn.from l.fn.to l.fn.asset) (maps_of l.fn.common l.fn.each) l.i l.summed.values.items l.summed.total
+    SumsUpTo (inquiry_of l.fn.file l.fn.setting l.fn.curve l.fn.at l.fn.from l.fn.to l.fn.asset) (maps_of l.fn.common l.fn.each) l.i l.summed.values.items l.summed.total
     × (height_of_code (payoff_code l.fn.file.code) ≤ l.scratch)

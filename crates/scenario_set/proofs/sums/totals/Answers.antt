@@ -26,7 +26,7 @@ totals_of-requires-clause-few c =
     let common : HoldSame c.in-Ok.common (rows_held rows) = subst (λ (l : List SetRow). HoldSame c.in-Ok.common (rows_held l)) c.deref.ensures.value c.in-Ok.ensures in
     let laid = laid_same rows c.set.inside.each.items c.args.set.now c.in-Ok.common c.set.view_is common in
     let same = subst (λ (each : List Scenario). SameScenarios (maps_of c.in-Ok.common each) c.args.set.now) (sym c.deref-2.ensures.value) laid in
-    let q = inquiry_of c.args.file.now c.args.setting.now.days.items c.args.curve.now c.args.at c.args.from c.args.to c.args.asset in
+    let q = inquiry_of c.args.file.now c.args.setting.now c.args.curve.now c.args.at c.args.from c.args.to c.args.asset in
     let set = maps_of c.in-Ok.common c.deref-2.result.now in
     let told = rw (to_z-of_z w128 c.args.bound c.ranges.bound) at c.is_too_many.ensures in
     are_few q set c.count-count.result c.args.bound (c.count-count.ensures.count ∙ sym (same_count set c.args.set.now same)) c.requires.bound (sym told ∙ c.if-is_too_many.false)
@@ -43,6 +43,6 @@ returns-clause-answer c =
     let common : HoldSame c.in-Ok.common (rows_held rows) = subst (λ (l : List SetRow). HoldSame c.in-Ok.common (rows_held l)) c.deref.ensures.value c.in-Ok.ensures in
     let laid = laid_same rows c.set.inside.each.items c.args.set.now c.in-Ok.common c.set.view_is common in
     let same = subst (λ (each : List Scenario). SameScenarios (maps_of c.in-Ok.common each) c.args.set.now) (sym c.deref-2.ensures.value) laid in
-    let q = inquiry_of c.args.file.now c.args.setting.now.days.items c.args.curve.now c.args.at c.args.from c.args.to c.args.asset in
+    let q = inquiry_of c.args.file.now c.args.setting.now c.args.curve.now c.args.at c.args.from c.args.to c.args.asset in
     answers_same c.code_values_are_fixed.ensures q (maps_of c.in-Ok.common c.deref-2.result.now) c.args.set.now c.totals_of.result same
     (rw (to_z-of_z w64 c.args.at c.ranges.at) at c.totals_of.ensures.answer)

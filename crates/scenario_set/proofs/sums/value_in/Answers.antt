@@ -23,7 +23,7 @@ value_over-requires-clause-admitted c =
 
 pub returns-clause-worth : goal.returns-clause-worth
 returns-clause-worth c =
-    let q = inquiry_of c.args.file.now c.args.setting.now.days.items c.args.curve.now c.args.at c.args.from c.args.to c.args.asset in
+    let q = inquiry_of c.args.file.now c.args.setting.now c.args.curve.now c.args.at c.args.from c.args.to c.args.asset in
     let common = c.args.common.now in
     let each = c.args.each.now in
     let env = rows_held c.deref.result.now ++ common in
