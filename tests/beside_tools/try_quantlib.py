@@ -185,7 +185,8 @@ def try_values(own, program, title, bridge, curve, days):
     amounts = [(ql.Date(int(day[8:]), int(day[5:7]), int(day[:4])), amount) for (_, day), amount in sorted(lines.items())]
     paid = [ql.SimpleCashFlow(amount / 100, date) for date, amount in amounts]
     for at in days:
-        write(factors(curve, at, [date for date, _ in amounts]), "curve.csv")
+        # The days round a payment have factors of their own, so that a payment on a wrong day is worth something else.
+        write(factors(curve, at, [date + step for date, _ in amounts for step in (-1, 0, 1)]), "curve.csv")
         rows = dict(row.split(",") for row in read("curve.csv").splitlines()[1:])
         words = "--at", at.ISO(), "--from", "Desk", "--to", "Bank", "--asset", "EUR"
         status, text, _ = run(program, "value", "leg.code", "table.csv", "curve.csv", *words)
