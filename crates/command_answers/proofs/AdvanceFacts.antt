@@ -1,14 +1,15 @@
 -- One more comment, one more contract that is left, and the parts of `advance` put together.
 use Rattle.std.proofs.Common.{◌≡◌, ◌∙◌, ◌≤◌, ◌-◌, ◌&&◌, ℕ, ℤ, pos, Bool, true, false, List, [], ◌∷◌, ◌++◌, append_assoc, ap, arith, refl, subst, sym}
-use Rattle.std.specs.Prelude.{None, Result, Ok, Err, codes, not}
+use Rattle.std.specs.Prelude.{Option, None, Result, Ok, Err, codes, not}
 use Rattle.std.specs.Map.{keys_of}
 use Rattle.std.proofs.lemmas.Int.{ints}
 use Rattle.std.proofs.lemmas.List.{append-nil, map-append}
 use Rattle.std.proofs.lemmas.List.Elements.{All-cons, All-nil}
 use Rattle.term_core.specs.declared.name.Name.{Name}
 use Rattle.term_core.specs.declared.terms.Contr.{Contr}
-use Rattle.term_core.specs.Books.{Book}
-use Rattle.term_core.specs.Declarations.{Declarations}
+use Rattle.term_core.specs.declared.decls.Decls.{Decls}
+use Rattle.term_core.specs.Books.{Book, book}
+use Rattle.term_core.specs.Declarations.{Declarations, declarations}
 use Rattle.term_core.specs.Environments.{Environment}
 use Rattle.term_core.specs.Terms.{Contract, contract}
 use Rattle.contract_parse.specs.Names.{is_declared}
@@ -22,12 +23,19 @@ use Rattle.flow_eval.specs.declared.flow_table.FlowRow.{FlowRow}
 use Rattle.flow_eval.specs.declared.flow_table.FlowTable.{FlowTable}
 use Rattle.advance_step.specs.Advancing.{Advances, IsResidual, day_before}
 use Rattle.report.specs.FlowLines.{AppendsFlowLine, IsFlowLine}
-use Rattle.command_answers.specs.AdvanceParts.{AnswersRests, AppendsComments, AppendsRest, AppendsRests, IsRestText}
-use Rattle.command_answers.specs.AdvancePromise.{AreComments, AreDueLines, AreResiduals, IsAdvanced, commented, last_gone, rest_declarations}
+use Rattle.command_words.specs.Commands.{AdvanceAsked}
+use Rattle.command_answers.specs.AdvanceCourse.{to_a_day}
+use Rattle.command_answers.specs.AdvanceParts.{AnswersRests, AppendsComments, AppendsRest, AppendsRests, IsCarried, IsRestText}
+use Rattle.command_answers.specs.AdvancePromise.{AreComments, AreDueLines, AreResiduals, IsAdvancedWith, IsNewDay, commented, last_gone, rest_declarations}
+use Rattle.command_answers.specs.CheckPromise.{AreAllAccepted}
+use Rattle.command_answers.specs.Course.{Tells, tells}
 use Rattle.command_answers.specs.FlowsParts.{IsMissingOne, IsStopOf}
+use Rattle.command_answers.specs.FlowsPromise.{AreFixings}
 use Rattle.command_answers.specs.Stopping.{AnswersBy}
 use Rattle.command_answers.specs.UsedContracts.{used}
+use Rattle.command_answers.specs.declared.advance_text.Carried.{Carried}
 use Rattle.command_answers.specs.declared.advance_text.Left.{Left}
+use Rattle.command_answers.specs.declared.status.Status.TheVariants as status
 use Rattle.command_answers.specs.declared.stop.Stop.{Stop}
 use Rattle.command_answers.specs.declared.stop.Stop.TheVariants as stop
 use Rattle.command_answers.proofs.LineFacts.{missing_behind, none_and, some_and, without_flows}
@@ -73,6 +81,13 @@ keys_of_trees (e ∷ es) = ap (λ (names : List Name). e.0 ∷ names) (keys_of_t
 pub used_names : (d : Declarations) (entries : List (Name × Contract)) → keys_of (used_of None d entries) ≡ keys_of entries
 used_names d [] = refl
 used_names d (e ∷ es) = ap (λ (names : List Name). e.0 ∷ names) (used_names d es)
+
+-- what is left has the names of the contracts
+pub left_names : (d : Declarations) (fixings : Environment) (day : ℕ) (entries rest : List (Name × Contract)) → AreResiduals d fixings day entries rest → keys_of rest ≡ keys_of entries
+left_names d fixings day [] [] is = refl
+left_names d fixings day (entry ∷ entries) (left ∷ rest) is =
+    ap (λ (n : Name). n ∷ keys_of rest) is.0 ∙ ap (λ (names : List Name). entry.0 ∷ names) (left_names d fixings day entries rest is.2)
+left_names d fixings day _ _ is = absurd is
 
 -- behind a contract that is put behind others, the other names are new
 pub names_behind : (before after : List (Name × Contract)) (names : List Name) (name : Name) (c : Contract) → after ≡ before ++ (name, c) ∷ [] → are_new (keys_of before) (name ∷ names) ≡ true → are_new (keys_of after) names ≡ true
@@ -153,15 +168,32 @@ module _ (d : Declarations) (fixings : Environment) (day : ℕ) where
 
 -- ---- the parts put together
 
--- what is due and what is left of the contracts that are used is the text
-pub is_advanced : (b : Book) (day : ℕ) (fixings : Environment) (left : Left) (text : List ℕ) → AppendsRests b.declarations fixings day (used None b) [] [] left → IsRestText b.declarations day (trees left.contracts.entries) left.due.items text
-    → IsAdvanced b day fixings text
-is_advanced b day fixings left text h k = record {
-  due = left.due.items;
-  are_due = subst (λ (t : List ℕ). AreDueLines b.declarations fixings (last_gone day) (used None b) t) (sym h.due_is) h.lines;
-  rest = record { declarations = rest_declarations b.declarations day; contracts = trees left.contracts.entries };
-  is_rest = record { declarations = refl; contracts = subst (λ (es : List (Name × Contract)). AreResiduals b.declarations fixings day (used None b) es) (sym h.kept) h.residuals };
-  canon = k.canon;
-  is_canon = k.is_canon;
-  is = k.is;
-}
+module _ (b : Book) (asked : AdvanceAsked) (table : Option (List ℕ)) where
+  -- where nothing stops on the way, what is due and what is left of the contracts that are used is the portfolio carried to the day
+  pub is_carried : (day : ℕ) (fixings : Environment) (left : Left) (decls : Decls) → IsNewDay b.declarations asked.to day → AreAllAccepted b.declarations (used None b) → AreFixings b.declarations table fixings
+      → AppendsRests b.declarations fixings day (used None b) [] [] left → declarations decls ≡ rest_declarations b.declarations day
+      → IsCarried b asked table (record { due = left.due; rest = record { decls = decls; contracts = left.contracts } })
+  is_carried day fixings left decls is_day accepted are_fixings h same = record {
+    day = day;
+    fixings = fixings;
+    can = record { is_day = is_day; accepted = accepted; are_fixings = are_fixings; fixed = h.fixed };
+    are_due = subst (λ (t : List ℕ). AreDueLines b.declarations fixings (last_gone day) (used None b) t) (sym h.due_is) h.lines;
+    is_rest = record { declarations = same; contracts = subst (λ (es : List (Name × Contract)). AreResiduals b.declarations fixings day (used None b) es) (sym h.kept) h.residuals };
+  }
+
+  module _ (carried : Carried) (is : IsCarried b asked table carried) where
+    -- its text, with a change
+    pub is_advanced : (change : Book → Book) (text : List ℕ) → IsRestText (change (book carried.rest)) carried.due.items text → IsAdvancedWith change b is.day is.fixings text
+    is_advanced change text k = record {
+      due = carried.due.items;
+      are_due = is.are_due;
+      rest = book carried.rest;
+      is_rest = is.is_rest;
+      canon = k.canon;
+      is_canon = k.is_canon;
+      is = k.is;
+    }
+
+    -- the command tells it
+    pub tells_on_day : (IsText : ℕ → Environment → List ℕ → Type 0) (text : List ℕ) → IsText is.day is.fixings text → Tells (to_a_day asked.to b table (λ day fixings. tells (IsText day fixings))) status.Done text
+    tells_on_day IsText text told = (is.day, is.can.is_day, (tt, is.can.accepted, (is.fixings, is.can.are_fixings, (tt, is.can.fixed, (refl, told)))))

@@ -3,9 +3,9 @@ use Rattle.std.proofs.Common.{◌≡◌, ◌∙◌, ◌⊎◌, inl, inr, ℕ, Li
 use Rattle.std.specs.Map.{keys_of}
 use Rattle.std.specs.Prelude.{Option, Some, None}
 use Rattle.contract_parse.specs.Names.{index_in}
-use Rattle.command_words.specs.Commands.{Advance, Check, Expand, Flows, Migrate, Payoff, Request, Sample, Value}
+use Rattle.command_words.specs.Commands.{Advance, Check, Expand, Flows, Migrate, Novate, Payoff, Positions, Request, Sample, Scenarios, Settle, Value}
 use Rattle.command_answers.specs.AdvancePromise.{AreDueLines, last_gone}
-use Rattle.command_answers.specs.AnswerLaws.{AnswersAreOne, DeclaredNamesHavePlaces, DueLinesAreOne, LeavesNothingOpen, StatusesAreOne, SummariesAreOne}
+use Rattle.command_answers.specs.AnswerLaws.{AnswersAreOne, DeclaredNamesHavePlaces, DueLinesAreOne, DueLinesOfNovateAreOne, LeavesNothingOpen, StatusesAreOne, SummariesAreOne}
 use Rattle.command_answers.specs.Course.{Tells}
 use Rattle.command_answers.specs.Courses.{course_of}
 use Rattle.command_answers.specs.UsedContracts.{used}
@@ -38,6 +38,10 @@ open_or_not (Value asked) = inl tt
 open_or_not (Migrate portfolio) = inl tt
 open_or_not (Expand plans) = inl tt
 open_or_not (Sample contracts) = inl tt
+open_or_not (Positions asked) = inl tt
+open_or_not (Settle asked) = inl tt
+open_or_not (Novate asked) = inr (λ h. h)
+open_or_not (Scenarios asked) = inl tt
 
 module _ (request : Request) (inputs : List (List ℕ)) (s t : Status) (one other : List ℕ) where
   abbrev Same : Type 0
@@ -61,6 +65,13 @@ due_are_one b asked table one other h k =
     let day = one_new_day b.declarations asked.to k.day h.day k.can.is_day h.can.is_day in
     let there = subst (λ (x : ℕ). AreDueLines b.declarations k.fixings (last_gone x) (used None b) k.advanced.due) day k.advanced.are_due in
     (one_due b.declarations (last_gone h.day) h.fixings k.fixings same (used None b) h.advanced.due k.advanced.due h.advanced.are_due there, sym day)
+
+pub due_of_novate_are_one : DueLinesOfNovateAreOne
+due_of_novate_are_one b asked table one other h k =
+    let same = hold_same b.declarations table h.fixings k.fixings h.can.are_fixings k.can.are_fixings in
+    let day = one_new_day b.declarations asked.advance.to k.day h.day k.can.is_day h.can.is_day in
+    let there = subst (λ (x : ℕ). AreDueLines b.declarations k.fixings (last_gone x) (used None b) k.novated.due) day k.novated.are_due in
+    (one_due b.declarations (last_gone h.day) h.fixings k.fixings same (used None b) h.novated.due k.novated.due h.novated.are_due there, sym day)
 
 pub summaries_are_one : SummariesAreOne
 summaries_are_one = one_summary

@@ -141,12 +141,12 @@ module _ (d : Declarations) (last : ℤ) (entries : List (Name × Contract)) (fi
 
 -- ---- lines
 
-one_day_text : (origin : Option ℤ) (day : ℤ) (t u : List ℕ) → IsDayText origin day t → IsDayText origin day u → t ≡ u
+pub one_day_text : (origin : Option ℤ) (day : ℤ) (t u : List ℕ) → IsDayText origin day t → IsDayText origin day u → t ≡ u
 one_day_text None day t u h k = h ∙ sym k
 one_day_text (Some origin) day t u h k = texts_unique t u (origin +ℤ day) h k
 
 -- an amount is a multiple by one number
-one_amount : (amount m n : ℤ) (k : ℕ) → amount ≡ raised m k → amount ≡ raised n k → m ≡ n
+pub one_amount : (amount m n : ℤ) (k : ℕ) → amount ≡ raised m k → amount ≡ raised n k → m ≡ n
 one_amount amount m n k h e =
     let same : raised m k ≡ raised n k = sym h ∙ e in
     let low = times-cancel m n (10 ^ k) (ten_above k) (omega (arith, ints, same)) in
@@ -159,7 +159,7 @@ one_line d name row t u h k =
     let amounts = one_amount row.amount h.amount k.amount (d.amounts - decimals_of d row.asset) h.is_amount k.is_amount in
     h.is_line ∙ ap (λ (day : List ℕ). line_with d name day row h.amount) days ∙ ap (λ (amount : ℤ). line_with d name k.day row amount) amounts ∙ sym k.is_line
 
-one_lines : (d : Declarations) (name : List ℕ) (rows : List FlowRow) (t u : List ℕ) → AreLines d name rows t → AreLines d name rows u → t ≡ u
+pub one_lines : (d : Declarations) (name : List ℕ) (rows : List FlowRow) (t u : List ℕ) → AreLines d name rows t → AreLines d name rows u → t ≡ u
 one_lines d name [] t u h k = h ∙ sym k
 one_lines d name (row ∷ rows) t u h k =
     h.4 ∙ ap (λ (x : List ℕ). x ++ h.1) (one_line d name row h.0 k.0 h.2 k.2) ∙ ap (λ (x : List ℕ). k.0 ++ x) (one_lines d name rows h.1 k.1 h.3 k.3) ∙ sym k.4

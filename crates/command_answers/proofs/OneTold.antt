@@ -17,27 +17,36 @@ use Rattle.payoff_lang.specs.CodeCanon.{IsCanonOfCode}
 use Rattle.payoff_lang.specs.CodeValues.{Asked as Question}
 use Rattle.payoff_lang.proofs.CodeCanonFacts.{one_canon_of_code}
 use Rattle.payoff_lang.proofs.OneCode.{one_code_text}
+use Rattle.scenario_set.specs.LawsTotals.{at_setting}
+use Rattle.scenario_set.specs.Totals.{Inquiry}
+use Rattle.scenario_set.proofs.TableLawFacts.{one_set}
 use Rattle.schedule_forms.specs.PlanBooks.{PlanBook, expanded_book}
 use Rattle.schedule_forms.proofs.OnePlans.{one_plan_file}
 use Rattle.report.specs.ValueLines.{value_text}
-use Rattle.command_words.specs.Commands.{Advance, Check, Expand, Flows, FlowsAsked, Migrate, Payoff, PayoffAsked, Request, Sample, Value, ValueAsked}
+use Rattle.command_words.specs.Commands.{Advance, Check, Expand, Flows, FlowsAsked, Migrate, Novate, Payoff, PayoffAsked, Positions, Request, Sample, Scenarios, ScenariosAsked, Settle, Value, ValueAsked}
 use Rattle.command_answers.specs.AnswerLaws.{LeavesNothingOpen}
 use Rattle.command_answers.specs.CheckPromise.{AreCheckLines}
 use Rattle.command_answers.specs.Course.{Tells}
 use Rattle.command_answers.specs.Courses.{course_of}
-use Rattle.command_answers.specs.FlowsCourse.{flows_on, table_named}
+use Rattle.command_answers.specs.FlowsCourse.{flows_on, table_if_named, table_named}
 use Rattle.command_answers.specs.FlowsPromise.{AreLinesAsked}
 use Rattle.command_answers.specs.Inputs.{file_at}
+use Rattle.command_answers.specs.NettingCourse.{netting_on}
+use Rattle.command_answers.specs.NettingPromise.{TellsPositions, TellsSettlement}
 use Rattle.command_answers.specs.PayoffCourse.{payoff_on}
 use Rattle.command_answers.specs.PayoffPromise.{code_file_of}
+use Rattle.command_answers.specs.ScenariosCourse.{scenarios_on}
+use Rattle.command_answers.specs.ScenariosPromise.{AreTotalLines, asked_by}
 use Rattle.command_answers.specs.UsedContracts.{used}
 use Rattle.command_answers.specs.ValueCourse.{numbers, value_on}
 use Rattle.command_answers.specs.ValuePromise.{IsWorth, question}
 use Rattle.command_answers.specs.declared.status.Status.{Status}
 use Rattle.command_answers.specs.declared.status.Status.TheVariants as status
 use Rattle.command_answers.proofs.FlowsAreOne.{HoldSame, hold_same, one_last, one_lines_asked}
+use Rattle.command_answers.proofs.NettingAreOne.{one_text_of_positions, one_text_of_settlement, told_of_netting}
 use Rattle.command_answers.proofs.OneCheckText.{check_lines_one}
 use Rattle.command_answers.proofs.OneSummary.{one_summary}
+use Rattle.command_answers.proofs.ScenarioFacts.{one_total}
 use Rattle.command_answers.proofs.SoundCourses.{one_day, one_flow}
 use Rattle.command_answers.proofs.StageFacts.{some_same}
 use Rattle.command_answers.proofs.ValueReads.{same_value}
@@ -78,6 +87,20 @@ told_of_value asked b table curve s t one other (flow, names, (day, is, (a, all,
     (one_curve (table_of curve) rows factors held hold) (one_flow d asked.between way flow knows.between names.between) in
     one_worth b (numbers b asked) fixings others (question day factors flow) one other same worth (subst (λ (q : Question). IsWorth b (numbers b asked) others q other) asks more)
 
+same_asked : (b : CodeBook) (asked : ValueAsked) (m n : ℤ) (curve other : List CurveRow) (flow same : Flow) → m ≡ n → curve ≡ other → flow ≡ same → asked_by b asked m curve flow ≡ asked_by b asked n other same
+same_asked b asked m n curve other flow same h k e = ap (λ (asks : Question). at_setting b (numbers b asked) asks) (same_question m n curve other flow same h k e)
+
+told_of_scenarios : (asked : ScenariosAsked) (b : CodeBook) (table curve : List ℕ) (s t : Status) (one other : List ℕ)
+    → Tells (scenarios_on asked b table curve) s one → Tells (scenarios_on asked b table curve) t other → one ≡ other
+told_of_scenarios asked b table curve s t one other (flow, names, (day, is, (a, all, (set, are, (factors, hold, (c, few, (e, fixed, (done, lines))))))))
+    (way, knows, (end, was, (x, each, (others, were, (rows, held, (v, fewer, (y, fixes, (ended, more)))))))) =
+    let d = b.declarations in
+    let same = one_set d (table_of table) set others are were in
+    let asks = same_asked b asked.value end day rows factors way flow (one_day d asked.value.at end day was is)
+    (one_curve (table_of curve) rows factors held hold) (one_flow d asked.value.between way flow knows.between names.between) in
+    one_total (asked_by b asked.value day factors flow) set others same asked.mean one other lines
+    (subst (λ (q : Inquiry). AreTotalLines q others asked.mean other) asks more)
+
 -- ---- of the bytes of its files
 
 pub one_told : (request : Request) (inputs : List (List ℕ)) (s t : Status) (one other : List ℕ) → LeavesNothingOpen request
@@ -99,6 +122,16 @@ one_told (Migrate portfolio) inputs s t one other closed (b, p, (done, canon)) (
 one_told (Expand plans) inputs s t one other closed (b, p, (a, accepted, (done, canon))) (c, q, (x, accepts, (ended, more))) =
     one_canon one other (expanded_book b) canon (subst (λ (x : PlanBook). IsCanon other (expanded_book x)) (one_plan_file (file_at inputs 0) c b q p) more)
 one_told (Sample contracts) inputs s t one other closed h k = one_summary contracts one other h.1 k.1
+one_told (Positions asked) inputs s t one other closed (b, p, h) (c, q, k) =
+    told_of_netting TellsPositions one_text_of_positions asked b (table_if_named asked.fixings inputs) s t one other h
+    (subst (λ (x : Book). Tells (netting_on TellsPositions asked x (table_if_named asked.fixings inputs)) t other) (one_text (file_at inputs 0) c b q p) k)
+one_told (Settle asked) inputs s t one other closed (b, p, h) (c, q, k) =
+    told_of_netting TellsSettlement one_text_of_settlement asked b (table_if_named asked.fixings inputs) s t one other h
+    (subst (λ (x : Book). Tells (netting_on TellsSettlement asked x (table_if_named asked.fixings inputs)) t other) (one_text (file_at inputs 0) c b q p) k)
+one_told (Novate asked) inputs s t one other closed h k = absurd closed
+one_told (Scenarios asked) inputs s t one other closed (b, p, h) (c, q, k) =
+    told_of_scenarios asked b (file_at inputs 1) (file_at inputs 2) s t one other h
+    (subst (λ (x : CodeBook). Tells (scenarios_on asked x (file_at inputs 1) (file_at inputs 2)) t other) (one_code_text (file_at inputs 0) c b q p) k)
 
 -- what is left open is the text of a command that is done
 pub told_is_done : (request : Request) (inputs : List (List ℕ)) (s : Status) (text : List ℕ)
@@ -111,3 +144,7 @@ told_is_done (Value asked) inputs s text open_end h = absurd (open_end tt)
 told_is_done (Migrate portfolio) inputs s text open_end h = absurd (open_end tt)
 told_is_done (Expand plans) inputs s text open_end h = absurd (open_end tt)
 told_is_done (Sample contracts) inputs s text open_end h = absurd (open_end tt)
+told_is_done (Positions asked) inputs s text open_end h = absurd (open_end tt)
+told_is_done (Settle asked) inputs s text open_end h = absurd (open_end tt)
+told_is_done (Novate asked) inputs s text open_end (b, p, (a, known, (old, is, (new, was, (day, on, (c, all, (fixings, are, (e, fixed, (done, left))))))))) = done
+told_is_done (Scenarios asked) inputs s text open_end h = absurd (open_end tt)

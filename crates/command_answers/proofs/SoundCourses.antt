@@ -12,16 +12,21 @@ use Rattle.term_core.specs.Terms.{Contract}
 use Rattle.contract_parse.proofs.OneText.{one_text}
 use Rattle.contract_print.specs.Canon.{IsCanon}
 use Rattle.contract_print.specs.Migrated.{migrated}
+use Rattle.decimal.specs.declared.rounding.Mode.{Mode}
 use Rattle.fixing_files.specs.Tables.{table_of}
 use Rattle.fixing_files.proofs.CurveLawFacts.{one_curve}
+use Rattle.flow_eval.specs.declared.flow_table.FlowTable.{FlowTable}
 use Rattle.payoff_lang.specs.CodeBooks.{CodeBook}
 use Rattle.payoff_lang.specs.CodeCanon.{IsCanonOfCode}
 use Rattle.payoff_lang.specs.CodeValues.{Asked as Question}
 use Rattle.payoff_lang.proofs.OneCode.{one_code_text}
+use Rattle.scenario_set.specs.Scenarios.{NamedMap}
+use Rattle.scenario_set.specs.Totals.{Inquiry}
+use Rattle.scenario_set.proofs.TableLawFacts.{one_set}
 use Rattle.schedule_forms.specs.PlanBooks.{PlanBook, expanded_book}
 use Rattle.schedule_forms.proofs.OnePlans.{one_plan_file}
 use Rattle.sample.specs.Summary.{IsSummary}
-use Rattle.command_words.specs.Commands.{Advance, AdvanceAsked, Between, Check, Expand, Flows, FlowsAsked, Migrate, Payoff, PayoffAsked, Request, Sample, Value, ValueAsked}
+use Rattle.command_words.specs.Commands.{Advance, AdvanceAsked, Between, Check, Expand, Flows, FlowsAsked, Migrate, NettingAsked, Novate, NovateAsked, Payoff, PayoffAsked, Positions, Request, Sample, Scenarios, ScenariosAsked, Settle, Value, ValueAsked}
 use Rattle.command_answers.specs.AdvanceCourse.{advance_course, to_a_day}
 use Rattle.command_answers.specs.AdvancePromise.{IsAdvanced, IsNewDay, last_gone}
 use Rattle.command_answers.specs.CheckCourse.{check_course}
@@ -29,21 +34,29 @@ use Rattle.command_answers.specs.CheckPromise.{Verdict}
 use Rattle.command_answers.specs.Course.{Course, behind, tells}
 use Rattle.command_answers.specs.Courses.{course_of}
 use Rattle.command_answers.specs.ExpandCourse.{expand_course}
-use Rattle.command_answers.specs.FlowsCourse.{flows_course, flows_on, over_fixings, table_named}
+use Rattle.command_answers.specs.FlowsCourse.{flows_course, flows_on, over_fixings, table_if_named, table_named}
 use Rattle.command_answers.specs.FlowsPromise.{AreLinesAsked, IsDayAsked, IsFirstMissing, greatest_day}
 use Rattle.command_answers.specs.Inputs.{file_at}
 use Rattle.command_answers.specs.MigrateCourse.{migrate_course}
+use Rattle.command_answers.specs.NettingCourse.{netting_course, netting_on}
+use Rattle.command_answers.specs.NettingPromise.{IsToldOfTables, TellsPositions, TellsSettlement}
+use Rattle.command_answers.specs.NovateCourse.{novate_course}
+use Rattle.command_answers.specs.NovatePromise.{IsNovated}
 use Rattle.command_answers.specs.PayoffCourse.{payoff_course}
 use Rattle.command_answers.specs.PayoffPromise.{code_file_of}
-use Rattle.command_answers.specs.Stages.{accepted_at_defaults, accepted_code, all_accepted, all_fixed, code_fixed, code_of, curve_of, day_of_word, fixed_by, known, last_day, named, names_of_value, new_day, plans_of, portfolio_of}
+use Rattle.command_answers.specs.Stages.{accepted_at_defaults, accepted_code, all_accepted, all_fixed, code_fixed, code_of, curve_of, day_of_word, fixed_by, known, last_day, named, names_of_value, new_day, party_named, plans_of, portfolio_of}
+use Rattle.command_answers.specs.ScenarioStages.{few_scenarios, fixed_in_all, scenarios_of}
+use Rattle.command_answers.specs.ScenariosCourse.{scenarios_course, scenarios_on, total_told}
+use Rattle.command_answers.specs.ScenariosPromise.{AreTotalLines, asked_by}
 use Rattle.command_answers.specs.UsedContracts.{used}
-use Rattle.command_answers.specs.ValueCourse.{numbers, value_course, value_on}
+use Rattle.command_answers.specs.ValueCourse.{asks_code, numbers, value_course, value_on}
 use Rattle.command_answers.specs.ValuePromise.{AreBetween, IsWorth, question}
 use Rattle.command_answers.specs.declared.status.Status.{Status}
 use Rattle.command_answers.specs.declared.status.Status.TheVariants as status
 use Rattle.command_answers.proofs.CourseFacts.{Alike, Sound, alike_behind, alike_ends, one_next, onward, same_stage}
 use Rattle.command_answers.proofs.FlowsAreOne.{HoldSame, hold_same, one_last, same_fixed, same_missing}
-use Rattle.command_answers.proofs.StageFacts.{accepted_at_defaults_is, accepted_code_is, all_accepted_is, all_fixed_is, code_fixed_is, code_is, curve_is, day_is, fixed_by_is, known_is, last_day_is, named_is, names_is, new_day_is, plans_is, portfolio_is, some_same}
+use Rattle.command_answers.proofs.StageFacts.{accepted_at_defaults_is, accepted_code_is, all_accepted_is, all_fixed_is, code_fixed_is, code_is, curve_is, day_is, fixed_by_is, known_is, last_day_is, named_is, names_is, new_day_is, party_named_is, plans_is, portfolio_is, some_same}
+use Rattle.command_answers.proofs.ScenarioFacts.{few_is, fixed_is, scenarios_is, total_alike}
 use Rattle.command_answers.proofs.ValueReads.{same_missing_of_code}
 
 -- the statuses that commands give
@@ -104,6 +117,13 @@ sound_flows asked b table =
     sound_over asked.contract asked.until b table (λ last fixings. tells (IsText last fixings)) (λ last one other. alike_ends (λ s. s ≡ status.Done) (IsText last one) (IsText last other))
     (λ last fixings. sound_tells (IsText last fixings))
 
+-- whatever is told of the flow tables of all contracts
+sound_netting : (TellsOf : Declarations → List FlowTable → List ℕ → Type 0) (asked : NettingAsked) (b : Book) (table : Option (List ℕ)) → Sound OfCommand (netting_on TellsOf asked b table)
+sound_netting TellsOf asked b table =
+    let IsText : ℤ → Environment → List ℕ → Type 0 = λ last fixings. IsToldOfTables TellsOf b.declarations fixings last (used None b) in
+    sound_over None asked.until b table (λ last fixings. tells (IsText last fixings)) (λ last one other. alike_ends (λ s. s ≡ status.Done) (IsText last one) (IsText last other))
+    (λ last fixings. sound_tells (IsText last fixings))
+
 -- ---- `value`
 
 pub one_flow : (d : Declarations) (between : Between) (one other : Flow) → AreBetween d between one → AreBetween d between other → one ≡ other
@@ -127,14 +147,20 @@ code_alike b setting one other asks next more same alike =
       faults = λ f h. record { place = h.place; first = sym e ∙ h.first; fault_is = h.fault_is };
     }) (λ a p. alike)
 
+-- any command that asks for the value of code, whatever it tells of it
+sound_asks : (asked : ValueAsked) (b : CodeBook) (next : Flow → ℤ → Course) → ((flow : Flow) (day : ℤ) → Sound OfCommand (next flow day)) → Sound OfCommand (asks_code asked b next)
+sound_asks asked b next sound =
+    let d = b.declarations in
+    one_next OfCommand Flow (names_of_value d asked) _ tt (names_is d asked) (λ one other p q. one_flow d asked.between one other p.between q.between) (λ flow p.
+    one_next OfCommand ℤ (day_of_word d asked.at) _ tt (day_is d asked.at) (one_day d asked.at) (λ day q.
+    onward OfCommand (accepted_code b (numbers b asked)) (next flow day) tt (accepted_code_is b (numbers b asked)) (sound flow day)))
+
 sound_value : (asked : ValueAsked) (b : CodeBook) (table curve : List ℕ) → Sound OfCommand (value_on asked b table curve)
 sound_value asked b table curve =
     let d = b.declarations in
     let setting = numbers b asked in
     let last : ℤ → Flow → Environment → List CurveRow → Course = λ day flow fixings factors. behind (code_fixed b setting fixings (question day factors flow)) (λ _. tells (IsWorth b setting fixings (question day factors flow))) in
-    one_next OfCommand Flow (names_of_value d asked) _ tt (names_is d asked) (λ one other p q. one_flow d asked.between one other p.between q.between) (λ flow p.
-    one_next OfCommand ℤ (day_of_word d asked.at) _ tt (day_is d asked.at) (one_day d asked.at) (λ day q.
-    onward OfCommand (accepted_code b setting) (behind (fixed_by d (Some table) 2) (λ fixings. behind (curve_of curve 3) (λ factors. last day flow fixings factors))) tt (accepted_code_is b setting) (
+    sound_asks asked b (λ flow day. behind (fixed_by d (Some table) 2) (λ fixings. behind (curve_of curve 3) (λ factors. last day flow fixings factors))) (λ flow day. (
       tt,
       fixed_by_is d (Some table) 2,
       λ one other h k. (let same = hold_same d (Some table) one other h k in
@@ -145,7 +171,29 @@ sound_value asked b table curve =
           one_next OfCommand (List CurveRow) (curve_of curve 3) (last day flow fixings) tt (curve_is curve 3) (one_curve (table_of curve)) (λ factors r.
           onward OfCommand (code_fixed b setting fixings (question day factors flow)) (tells (IsWorth b setting fixings (question day factors flow))) tt
           (code_fixed_is b setting fixings (question day factors flow)) (sound_tells (IsWorth b setting fixings (question day factors flow)))),
-    )))
+    ))
+
+-- ---- `scenarios`
+
+sound_total : (q : Inquiry) (set : List NamedMap) (mean : Mode) → Sound OfCommand (total_told q set mean)
+sound_total q set mean =
+    onward OfCommand (few_scenarios q set) (behind (fixed_in_all q set) (λ _. tells (AreTotalLines q set mean))) tt (few_is q set)
+    (onward OfCommand (fixed_in_all q set) (tells (AreTotalLines q set mean)) tt (fixed_is q set) (sound_tells (AreTotalLines q set mean)))
+
+sound_scenarios : (asked : ScenariosAsked) (b : CodeBook) (table curve : List ℕ) → Sound OfCommand (scenarios_on asked b table curve)
+sound_scenarios asked b table curve =
+    let d = b.declarations in
+    let last : ℤ → Flow → List NamedMap → List CurveRow → Course = λ day flow set factors. total_told (asked_by b asked.value day factors flow) set asked.mean in
+    sound_asks asked.value b (λ flow day. behind (scenarios_of d table 2) (λ set. behind (curve_of curve 3) (λ factors. last day flow set factors))) (λ flow day. (
+      tt,
+      scenarios_is d table 2,
+      λ one other h k. (let same = one_set d (table_of table) one other h k in
+          alike_behind (List CurveRow) (curve_of curve 3) (curve_of curve 3) (last day flow one) (last day flow other) (same_stage (List CurveRow) (curve_of curve 3))
+          (λ factors r. total_alike (asked_by b asked.value day factors flow) one other same asked.mean)),
+      λ set h.
+          one_next OfCommand (List CurveRow) (curve_of curve 3) (last day flow set) tt (curve_is curve 3) (one_curve (table_of curve)) (λ factors r.
+          sound_total (asked_by b asked.value day factors flow) set asked.mean),
+    ))
 
 -- ---- the whole commands, over the bytes of their files
 
@@ -168,6 +216,11 @@ sound_flows_course : (asked : FlowsAsked) (inputs : List (List ℕ)) → Sound O
 sound_flows_course asked inputs =
     let bytes = file_at inputs 0 in
     one_next OfCommand Book (portfolio_of bytes) _ tt (portfolio_is bytes) (one_text bytes) (λ b p. sound_flows asked b (table_named asked inputs))
+
+sound_netting_course : (TellsOf : Declarations → List FlowTable → List ℕ → Type 0) (asked : NettingAsked) (inputs : List (List ℕ)) → Sound OfCommand (netting_course TellsOf asked inputs)
+sound_netting_course TellsOf asked inputs =
+    let bytes = file_at inputs 0 in
+    one_next OfCommand Book (portfolio_of bytes) _ tt (portfolio_is bytes) (one_text bytes) (λ b p. sound_netting TellsOf asked b (table_if_named asked.fixings inputs))
 
 pub one_new_day : (d : Declarations) (word : List ℕ) (m n : ℕ) → IsNewDay d word m → IsNewDay d word n → m ≡ n
 one_new_day d word m n h k = let e = sym h.named ∙ k.named in cc
@@ -194,6 +247,17 @@ sound_advance asked inputs =
     sound_to_a_day asked.to b (Some (file_at inputs 1)) (λ day fixings. tells (IsAdvanced b day fixings))
     (λ day one other. alike_ends (λ s. s ≡ status.Done) (IsAdvanced b day one) (IsAdvanced b day other)) (λ day fixings. sound_tells (IsAdvanced b day fixings)))
 
+sound_novate : (asked : NovateAsked) (inputs : List (List ℕ)) → Sound OfCommand (novate_course asked inputs)
+sound_novate asked inputs =
+    let bytes = file_at inputs 0 in
+    one_next OfCommand Book (portfolio_of bytes) _ tt (portfolio_is bytes) (one_text bytes) (λ b p.
+    onward OfCommand (known b (Some asked.contract)) _ tt (known_is b (Some asked.contract))
+    (one_next OfCommand ℕ (party_named b.declarations asked.old) _ tt (party_named_is b.declarations asked.old) (λ m n h k. some_same m n (sym h ∙ k)) (λ old h.
+    one_next OfCommand ℕ (party_named b.declarations asked.new) _ tt (party_named_is b.declarations asked.new) (λ m n h k. some_same m n (sym h ∙ k)) (λ new k.
+    let IsText : ℕ → Environment → List ℕ → Type 0 = IsNovated asked.contract old new b in
+    sound_to_a_day asked.advance.to b (Some (file_at inputs 1)) (λ day fixings. tells (IsText day fixings))
+    (λ day one other. alike_ends (λ s. s ≡ status.Done) (IsText day one) (IsText day other)) (λ day fixings. sound_tells (IsText day fixings))))))
+
 sound_payoff : (asked : PayoffAsked) (inputs : List (List ℕ)) → Sound OfCommand (payoff_course asked inputs)
 sound_payoff asked inputs =
     let bytes = file_at inputs 0 in
@@ -206,6 +270,11 @@ sound_value_course : (asked : ValueAsked) (inputs : List (List ℕ)) → Sound O
 sound_value_course asked inputs =
     let bytes = file_at inputs 0 in
     one_next OfCommand CodeBook (code_of bytes) _ tt (code_is bytes) (one_code_text bytes) (λ b p. sound_value asked b (file_at inputs 1) (file_at inputs 2))
+
+sound_scenarios_course : (asked : ScenariosAsked) (inputs : List (List ℕ)) → Sound OfCommand (scenarios_course asked inputs)
+sound_scenarios_course asked inputs =
+    let bytes = file_at inputs 0 in
+    one_next OfCommand CodeBook (code_of bytes) _ tt (code_is bytes) (one_code_text bytes) (λ b p. sound_scenarios asked b (file_at inputs 1) (file_at inputs 2))
 
 sound_migrate : (inputs : List (List ℕ)) → Sound OfCommand (migrate_course inputs)
 sound_migrate inputs =
@@ -228,3 +297,7 @@ sound_course (Value asked) inputs = sound_value_course asked inputs
 sound_course (Migrate portfolio) inputs = sound_migrate inputs
 sound_course (Expand plans) inputs = sound_expand inputs
 sound_course (Sample contracts) inputs = sound_tells (IsSummary contracts)
+sound_course (Positions asked) inputs = sound_netting_course TellsPositions asked inputs
+sound_course (Settle asked) inputs = sound_netting_course TellsSettlement asked inputs
+sound_course (Novate asked) inputs = sound_novate asked inputs
+sound_course (Scenarios asked) inputs = sound_scenarios_course asked inputs

@@ -11,6 +11,7 @@ use Rattle.term_core.specs.Flows.{Flow}
 use Rattle.term_core.specs.Terms.{Contract}
 use Rattle.term_core.specs.Instances.{instance, declared_numbers}
 use Rattle.term_core.proofs.RefusalFacts as contracts
+use Rattle.contract_parse.specs.Names.{index_in}
 use Rattle.contract_parse.specs.declared.faults.TextFault.{TextFault}
 use Rattle.contract_parse.specs.declared.heads.Language.{Language}
 use Rattle.fixing_files.specs.Tables.{IsFirstFault, table_of}
@@ -27,7 +28,7 @@ use Rattle.report.specs.declared.fault_lines.Fault.TheVariants as fault
 use Rattle.command_words.specs.Commands.{ValueAsked}
 use Rattle.command_answers.specs.AdvancePromise.{greatest_new_day}
 use Rattle.command_answers.specs.FlowsPromise.{AreFixings, IsLastDay, IsOutOfRange, greatest_day, label_name}
-use Rattle.command_answers.specs.Stages.{accepted_at_defaults, accepted_code, all_accepted, all_fixed, code_fixed, code_of, curve_of, day_of_word, fixed_by, known, last_day, named, names_of_value, new_day, plans_of, portfolio_of}
+use Rattle.command_answers.specs.Stages.{accepted_at_defaults, accepted_code, all_accepted, all_fixed, code_fixed, code_of, curve_of, day_of_word, fixed_by, known, last_day, named, names_of_value, new_day, party_named, plans_of, portfolio_of}
 use Rattle.command_answers.specs.Statuses.{status_of}
 use Rattle.command_answers.specs.UsedContracts.{contract_named}
 use Rattle.command_answers.specs.ValuePromise.{first_unknown, missing_of_code}
@@ -71,6 +72,13 @@ pub known_is : (b : Book) (only : Option (List ℕ)) → IsStage (Unit {0}) (kno
 known_is b only = record {
   excludes = λ a f p h. (let e : false ≡ true = sym h.unknown ∙ p in cc);
   one_fault = λ f g h k. h.fault_is ∙ ap (λ (x : List ℕ). fault.UnknownName x) (some_same h.name k.name (sym h.given ∙ k.given)) ∙ sym k.fault_is;
+  status_is = λ f h. ap status_of h.fault_is;
+}
+
+pub party_named_is : (d : Declarations) (name : List ℕ) → IsStage ℕ (party_named d name)
+party_named_is d name = record {
+  excludes = λ place f p h. none_or_some (index_in d.parties name) place h.absent p;
+  one_fault = λ f g h k. h.fault_is ∙ sym k.fault_is;
   status_is = λ f h. ap status_of h.fault_is;
 }
 

@@ -20,8 +20,8 @@ use Rattle.report.specs.FlowLines.{HaveLines, PaysInAssets}
 use Rattle.report.specs.SumTables.{AreTablesOf, IsSummable, IsSumOf, together}
 use Rattle.report.proofs.TableLines.{paid_in_assets, table_has_lines, together_in_assets}
 use Rattle.command_answers.specs.CheckPromise.{AreAllAccepted}
-use Rattle.command_answers.specs.FlowsParts.{AreTables, LinesKnown}
-use Rattle.command_answers.specs.FlowsPromise.{AreAllFixed, AreLines, missing_of}
+use Rattle.command_answers.specs.FlowsParts.{LinesKnown}
+use Rattle.command_answers.specs.FlowsPromise.{AreAllFixed, AreLines, AreTables, missing_of}
 use Rattle.command_answers.proofs.CheckFacts.{total_small}
 
 same_day : (n : ℤ) → n ≡ n +ℤ pos 0
@@ -62,7 +62,7 @@ module _ (d : Declarations) (fixings : Environment) (last : ℤ) (limits : Keeps
   as_many (entry ∷ entries) [] h = absurd h
   as_many (entry ∷ entries) (table ∷ tables) h = ap (λ (n : ℕ). suc n) (as_many entries tables h.1)
 
-  all_fixed : (entries : List (Name × Contract)) (tables : List FlowTable) → AreTables d fixings last entries tables → AreAllFixed d fixings last entries
+  pub all_fixed : (entries : List (Name × Contract)) (tables : List FlowTable) → AreTables d fixings last entries tables → AreAllFixed d fixings last entries
   all_fixed [] [] h = All-nil (λ (e : Name × Contract). missing_of d fixings last e.1 ≡ None)
   all_fixed [] (table ∷ tables) h = absurd h
   all_fixed (entry ∷ entries) [] h = absurd h

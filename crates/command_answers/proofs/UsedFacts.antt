@@ -136,7 +136,7 @@ by_length : (b : Bool) (x : Name × Contract) (xs : List (Name × Contract)) (d 
 by_length true x xs d n h = omega arith
 by_length false x xs d n h = omega arith
 
-used_few : (only : Option (List ℕ)) (d : Declarations) (xs : List (Name × Contract)) → length (used_of only d xs) ≤ length xs
+pub used_few : (only : Option (List ℕ)) (d : Declarations) (xs : List (Name × Contract)) → length (used_of only d xs) ≤ length xs
 used_few only d [] = omega arith
 used_few only d (x ∷ xs) = by_length (is_asked only x.0) x (filter (λ entry. is_asked only entry.0) xs) d (length xs) (used_few only d xs)
 

@@ -1,32 +1,47 @@
 -- The parts of `value`: which names of the words are declared, which read is not fixed, and that what goes on at the setting goes
 -- the course to its end.
-use Rattle.std.proofs.Common.{◌≡◌, ◌∙◌, ◌<◌, inl, inr, ℕ, ℤ, Bool, true, false, List, [], ◌∷◌, ◌++◌, cond, length, arith, refl, subst, sym}
-use Rattle.std.specs.Prelude.{Some, None, Result, Err, is_none, nat_lt}
+use Rattle.std.proofs.Common.{◌≡◌, ◌∙◌, ◌<◌, ◌≤◌, ◌+◌, ◌-◌, ◌*◌, ◌^◌, inl, inr, ℕ, ℤ, pos, Bool, true, false, List, [], ◌∷◌, ◌++◌, cond, length, FitsSigned, ap, arith, of_z, refl, subst, sym, to_z, w64}
+use Rattle.std.specs.Prelude.{Some, None, Result, Err, IsErrAnd, is_none, nat_lt, unsigned_abs}
 use Rattle.std.specs.Global.{Vec}
+use Rattle.std.specs.Int.{w128}
 use Rattle.std.specs.List.{position_or_len}
 use Rattle.std.specs.Map.{keys_of}
 use Rattle.std.specs.Str.{bytes_eq}
 use Rattle.std.proofs.lemmas.Bool.Decides.{nat_tests}
+use Rattle.std.proofs.lemmas.Int.{fits_signed_from_abs, ints, to_z-of_z}
+use Rattle.std.proofs.lemmas.List.{length-map}
+use Rattle.std.proofs.lemmas.Nat.{mul-le}
+use Rattle.decimal.specs.Rounding.{raised}
+use Rattle.decimal.proofs.PowerFacts.{ten_above}
 use Rattle.term_core.specs.Declarations.{Declarations}
 use Rattle.term_core.specs.Environments.{Environment}
 use Rattle.term_core.specs.Factors.{CurveRow}
 use Rattle.term_core.specs.Flows.{Flow}
 use Rattle.contract_parse.specs.Names.{index_in}
 use Rattle.flow_eval.specs.declared.faults.FlowErr.TheVariants as flow
-use Rattle.payoff_lang.specs.CodeBooks.{CodeBook}
+use Rattle.payoff_check.specs.Verdicts.{IsScaleOf, IsTotalOf}
+use Rattle.payoff_eval.specs.Questions.{IsQuestion}
+use Rattle.payoff_eval.proofs.NodeFacts.{bounds_hold, total_at_root}
+use Rattle.payoff_lang.specs.CodeAcceptance.{IsAcceptedCode}
+use Rattle.payoff_lang.specs.CodeBooks.{CodeBook, code_book}
+use Rattle.payoff_lang.specs.CodeTotals.{total_of_code}
+use Rattle.payoff_lang.specs.CodeValues.{Asked as Question, scale_of_code}
+use Rattle.payoff_lang.specs.declared.code_file.CodeFile.{CodeFile}
 use Rattle.report.specs.declared.fault_lines.Fault.{Fault}
 use Rattle.command_words.specs.Commands.{Between, ValueAsked}
-use Rattle.command_answers.specs.Course.{Stops, Tells}
+use Rattle.command_answers.specs.Course.{Course, Stops, Tells}
 use Rattle.command_answers.specs.FlowsParts.{IsStopOf}
 use Rattle.command_answers.specs.FlowsPromise.{IsDayAsked, greatest_day}
-use Rattle.command_answers.specs.Stages.{IsFirstUnknown, KnowsNames}
+use Rattle.command_answers.specs.Stages.{IsFirstUnknown, IsUndeclared, KnowsNames}
 use Rattle.command_answers.specs.Stopping.{AnswersBy, GoesDone}
-use Rattle.command_answers.specs.ValueCourse.{numbers, value_on}
-use Rattle.command_answers.specs.ValuePromise.{AreBetween, Naming, first_unknown_of, names_between, names_set}
-use Rattle.command_answers.specs.ValueParts.{Inquiry, IsMissingBy, IsUndeclared, IsUnknownBetween, IsUnknownSetting, IsValueOver, SettingsAreKnown, at_setting, missing_by}
+use Rattle.command_answers.specs.ValueCourse.{asks_code, numbers}
+use Rattle.command_answers.specs.ValuePromise.{AreBetween, Naming, first_unknown_of, names_between, names_set, question}
+use Rattle.command_answers.specs.ValueParts.{AnswersAsking, Inquiry, IsAcceptedUpTo, IsAskedBy, IsMissingBy, IsUnknownBetween, IsUnknownSetting, IsValueOver, SettingsAreKnown, StopsAsking, flow_of, missing_by, most_of}
+use Rattle.command_answers.specs.declared.asking.Asking.{Asking}
 use Rattle.command_answers.specs.declared.status.Status.TheVariants as status
 use Rattle.command_answers.specs.declared.stop.Stop.{Stop}
-use Rattle.command_answers.proofs.StopFacts.{answers_too}
+use Rattle.command_answers.proofs.DayFacts.{fits_day}
+use Rattle.command_answers.proofs.StopFacts.{answers_too, handed_on}
 
 -- the place of a name is one of the list
 within_by : (n m k : ℕ) (b : Bool) → nat_lt n m ≡ b → cond b (Some n) None ≡ Some k → k < m
@@ -100,16 +115,91 @@ module _ (q : Inquiry) (fixings : Environment) (curve : List CurveRow) where
   without_value label day s missing (inr is) =
       subst (λ (x : Stop). AnswersBy (IsValueOver q fixings curve) (IsMissingBy q fixings curve) (Err x)) (sym is) tt
 
+-- ---- what is asked
+
+-- the most in units of the code's scale, at nine decimals more than amounts
+pub most_aligned : (b : CodeBook) (total : ℤ) (scale : ℕ) → IsTotalOf b.declarations b.code total → IsScaleOf b.declarations b.code scale → raised total (b.declarations.amounts + 9 - scale) ≡ most_of b
+most_aligned b total scale is of =
+    ap (λ (m : ℤ). raised m (b.declarations.amounts + 9 - scale)) is
+    ∙ ap (λ (s : ℕ). pos (total_of_code b.declarations b.code [] * 10 ^ (b.declarations.amounts + 9 - s))) of
+
+-- it is small, and fits its type
+pub most_small : (b : CodeBook) (xs : List ℕ) → IsAcceptedCode b.declarations xs b.code → unsigned_abs (most_of b) ≤ 10 ^ 37
+most_small b xs accepted = total_at_root b.declarations b.code [] (bounds_hold b.declarations xs b.code accepted)
+
+raised_fits : (total n : ℕ) → total * 10 ^ n ≤ 10 ^ 37 → FitsSigned w128 (pos total)
+raised_fits total n small =
+    let least : total * 1 ≤ total * 10 ^ n = mul-le total 1 total (10 ^ n) (omega arith) (let some = ten_above n in omega (arith, some)) in
+    fits_signed_from_abs w128 (pos total) (omega (arith, least, small))
+
+-- the total fits, in units of the code's scale
+pub total_fits : (b : CodeBook) (xs : List ℕ) (total : ℤ) → IsAcceptedCode b.declarations xs b.code → IsTotalOf b.declarations b.code total → FitsSigned w128 total
+total_fits b xs total accepted is =
+    subst (λ (z : ℤ). FitsSigned w128 z) (sym is) (raised_fits (total_of_code b.declarations b.code []) (b.declarations.amounts + 9 - scale_of_code b.declarations b.code []) (most_small b xs accepted))
+
+pub most_fits : (b : CodeBook) (xs : List ℕ) (most : ℤ) → IsAcceptedUpTo b xs most → FitsSigned w128 most
+most_fits b xs most h =
+    fits_signed_from_abs w128 most (let small = subst (λ (z : ℤ). unsigned_abs z ≤ 10 ^ 37) (sym h.is_most) (most_small b xs h.accepted) in omega (arith, small))
+
+-- so does the day of a question
+pub day_fits : (d : Declarations) (asks : Question) → IsQuestion d asks → to_z w64 (of_z w64 asks.now) ≡ asks.now
+day_fits d asks h = to_z-of_z w64 asks.now (fits_day asks.now (let low = h.begun in omega (arith, ints)) h.near)
+
+-- a day that is asked for between declared parties in a declared asset
+pub asks_question : (d : Declarations) (asked : ValueAsked) (flow : Flow) (day : ℤ) (curve : List CurveRow) → KnowsNames d asked flow → IsDayAsked d greatest_day asked.at day → IsQuestion d (question day curve flow)
+asks_question d asked flow day curve names is = record {
+  begun = is.1;
+  near = is.2;
+  payer = index_within d.parties asked.between.from flow.from names.between.from;
+  receiver = index_within d.parties asked.between.to flow.to names.between.to;
+  asset =
+      subst (λ (n : ℕ). flow.asset < n) (length-map d.assets _)
+      (index_within (keys_of d.assets) asked.between.asset flow.asset names.between.asset);
+}
+
+-- the words ask this of a code file
+pub is_asked : (asked : ValueAsked) (file : CodeFile) (asking : Asking) (day most : ℤ) → asking.day ≡ day → asking.most ≡ most
+    → KnowsNames (code_book file).declarations asked (flow_of asking.parties) → IsDayAsked (code_book file).declarations greatest_day asked.at day
+    → asking.setting.days.items ≡ numbers (code_book file) asked → IsAcceptedUpTo (code_book file) asking.setting.days.items most → IsAskedBy asked file asking
+is_asked asked file asking day most day_is most_is names is setting up_to =
+    let d = (code_book file).declarations in
+    let there = subst (λ (t : ℤ). IsDayAsked d greatest_day asked.at t) (sym day_is) is in
+    record {
+      names = names;
+      is_day = there;
+      setting = setting;
+      is_most = most_is ∙ up_to.is_most;
+      may = record {
+        setting = ap (λ (xs : List ℕ). length xs) setting ∙ length-map d.templates _;
+        accepted = up_to.accepted;
+        is_question = λ curve. asks_question d asked (flow_of asking.parties) asking.day curve names there;
+      };
+    }
+
 -- ---- the whole
 
-module _ (b : CodeBook) (asked : ValueAsked) (table curve : List ℕ) (flow : Flow) (day : ℤ) (names : KnowsNames b.declarations asked flow) (is : IsDayAsked b.declarations greatest_day asked.at day) where
-  abbrev asking : List ℕ → Inquiry
-  asking xs = record { book = b; setting = xs; day = day; flow = flow }
+module _ (asked : ValueAsked) (b : CodeBook) (next : Flow → ℤ → Course) where
+  -- what stops a command before its tables stops it
+  pub stops_asking : (f : Fault) → StopsAsking asked b f → Stops (asks_code asked b next) f
+  stops_asking f (inl h) = inl h
+  stops_asking f (inr (flow, names, inl h)) = inr (flow, names, inl h)
+  stops_asking f (inr (flow, names, inr (day, is, inl h))) = inr (flow, names, inr (day, is, inl h))
+  stops_asking f (inr (flow, names, inr (day, is, inr (a, accepted, none)))) = absurd none
 
-  -- what goes on at the numbers that are set goes the course behind the names and the day
-  pub goes_on : (xs : List ℕ) → xs ≡ numbers b asked → (r : Result (Vec ℕ) Stop) → GoesDone (at_setting (asking xs) table curve) r → GoesDone (value_on asked b table curve) r
-  goes_on xs same r h =
-      answers_too (λ (text : Vec ℕ). Tells (at_setting (asking (numbers b asked)) table curve) status.Done text.items) (λ (text : Vec ℕ). Tells (value_on asked b table curve) status.Done text.items)
-      (Stops (at_setting (asking (numbers b asked)) table curve)) (Stops (value_on asked b table curve))
-      (λ text told. (flow, names, (day, is, told))) (λ f stops. inr (flow, names, inr (day, is, stops)))
-      r (subst (λ (ys : List ℕ). GoesDone (at_setting (asking ys) table curve) r) same h)
+module _ (asked : ValueAsked) (file : CodeFile) (next : Flow → ℤ → Course) where
+  pub not_asked : (e : Stop) (r : Result (Vec ℕ) Stop) → AnswersAsking asked file (Err e) → IsErrAnd r (λ y. y ≡ e) → GoesDone (asks_code asked (code_book file) next) r
+  not_asked e r h given =
+      let c = asks_code asked (code_book file) next in
+      handed_on (IsAskedBy asked file) (λ (text : Vec ℕ). Tells c status.Done text.items) (StopsAsking asked (code_book file)) (Stops c)
+      (stops_asking asked (code_book file) next) e r h given
+
+  -- what goes on with what is asked goes the course
+  pub goes_on : (asking : Asking) → IsAskedBy asked file asking → (r : Result (Vec ℕ) Stop) → GoesDone (next (flow_of asking.parties) asking.day) r → GoesDone (asks_code asked (code_book file) next) r
+  goes_on asking is r h =
+      let b = code_book file in
+      let flow = flow_of asking.parties in
+      let day = asking.day in
+      let accepted = subst (λ (xs : List ℕ). IsAcceptedCode b.declarations xs b.code) is.setting is.may.accepted in
+      answers_too (λ (text : Vec ℕ). Tells (next flow day) status.Done text.items) (λ (text : Vec ℕ). Tells (asks_code asked b next) status.Done text.items)
+      (Stops (next flow day)) (Stops (asks_code asked b next))
+      (λ text told. (flow, is.names, (day, is.is_day, (tt, accepted, told)))) (λ f stops. inr (flow, is.names, inr (day, is.is_day, inr (tt, accepted, stops)))) r h

@@ -1,6 +1,7 @@
 -- What the parts of `advance` answer: the comments and the contracts that are left, behind those that were there before.
-use Rattle.std.specs.Prelude.{◌≡◌, ◌-◌, ℕ, pos, List, [], ◌∷◌, ◌++◌, Result}
+use Rattle.std.specs.Prelude.{◌≡◌, ◌-◌, ℕ, pos, List, [], ◌∷◌, ◌++◌, Option, None, Result}
 use Rattle.term_core.specs.declared.name.Name.{Name}
+use Rattle.term_core.specs.Books.{Book, book}
 use Rattle.term_core.specs.Declarations.{Declarations}
 use Rattle.term_core.specs.Environments.{Environment}
 use Rattle.term_core.specs.Terms.{Contract}
@@ -8,11 +9,17 @@ use Rattle.contract_print.specs.Canon.{IsCanon}
 use Rattle.flow_eval.specs.FlowAnswers.{AreKnownFlows}
 use Rattle.flow_eval.specs.declared.flow_table.FlowRow.{FlowRow}
 use Rattle.advance_step.specs.Advancing.{IsResidual}
-use Rattle.command_answers.specs.AdvancePromise.{AreComments, AreDueLines, AreResiduals, IsNewDay, greatest_new_day, last_gone, rest_declarations}
+use Rattle.command_words.specs.Commands.{AdvanceAsked}
+use Rattle.command_answers.specs.AdvanceCourse.{advance_on}
+use Rattle.command_answers.specs.AdvancePromise.{AreComments, AreDueLines, AreResiduals, CanAdvance}
+use Rattle.command_answers.specs.AdvancePromise.{IsNewDay, IsRestBook, greatest_new_day, last_gone}
+use Rattle.command_answers.specs.Course.{Stops}
 use Rattle.command_answers.specs.FlowsParts.{IsMissingOne}
 use Rattle.command_answers.specs.FlowsPromise.{AreAllFixed}
 use Rattle.command_answers.specs.Stages.{IsMissingOf, IsWordFault}
 use Rattle.command_answers.specs.Stopping.{AnswersBy}
+use Rattle.command_answers.specs.UsedContracts.{used}
+use Rattle.command_answers.specs.declared.advance_text.Carried.{Carried}
 use Rattle.command_answers.specs.declared.advance_text.Left.{Left}
 use Rattle.command_answers.specs.declared.stop.Stop.{Stop}
 use Rattle.contract_parse.specs.ContractReading.{trees}
@@ -60,8 +67,19 @@ abbrev pub AnswersRests :
 AnswersRests d fixings day entries due contracts r =
     AnswersBy (λ left. AppendsRests d fixings day entries due contracts left) (IsMissingOf d fixings (last_gone day) entries) r
 
+-- a portfolio is carried to a new day: what is due before it, and what is left on it
+pub record IsCarried (b : Book) (asked : AdvanceAsked) (table : Option (List ℕ)) (carried : Carried) : Type 0 where
+  pub day : ℕ
+  pub fixings : Environment
+  pub can : CanAdvance b asked table day fixings
+  pub are_due : AreDueLines b.declarations fixings (last_gone day) (used None b) carried.due.items
+  pub is_rest : IsRestBook b fixings day (book carried.rest)
+
+abbrev pub AnswersCarried : Book → AdvanceAsked → Option (List ℕ) → Result Carried Stop → Type 0
+AnswersCarried b asked table r = AnswersBy (IsCarried b asked table) (Stops (advance_on asked b table)) r
+
 -- the canonical text of what is left, behind what is due
-pub record IsRestText (d : Declarations) (day : ℕ) (contracts : List (Name × Contract)) (due text : List ℕ) : Type 0 where
+pub record IsRestText (rest : Book) (due text : List ℕ) : Type 0 where
   pub canon : List ℕ
-  pub is_canon : IsCanon canon (record { declarations = rest_declarations d day; contracts = contracts })
+  pub is_canon : IsCanon canon rest
   pub is : text ≡ due ++ canon

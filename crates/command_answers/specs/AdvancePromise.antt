@@ -88,15 +88,19 @@ pub record CanAdvance (b : Book) (asked : AdvanceAsked) (table : Option (List �
   pub are_fixings : AreFixings b.declarations table fixings
   pub fixed : AreAllFixed b.declarations fixings (last_gone day) (used None b)
 
--- what is due before a day, and the text of what is left on it
-pub record IsAdvanced (b : Book) (day : ℕ) (fixings : Environment) (text : List ℕ) : Type 0 where
+-- what is due before a day, and the text of what is left on it, with a change
+pub record IsAdvancedWith (change : Book → Book) (b : Book) (day : ℕ) (fixings : Environment) (text : List ℕ) : Type 0 where
   pub due : List ℕ
   pub are_due : AreDueLines b.declarations fixings (last_gone day) (used None b) due
   pub rest : Book
   pub is_rest : IsRestBook b fixings day rest
   pub canon : List ℕ
-  pub is_canon : IsCanon canon rest
+  pub is_canon : IsCanon canon (change rest)
   pub is : text ≡ due ++ canon
+
+-- and as it is
+abbrev pub IsAdvanced : Book → ℕ → Environment → List ℕ → Type 0
+IsAdvanced b day fixings text = IsAdvancedWith (λ rest. rest) b day fixings text
 
 -- the whole answer
 pub record IsAdvanceText (b : Book) (asked : AdvanceAsked) (table : Option (List ℕ)) (text : List ℕ) : Type 0 where

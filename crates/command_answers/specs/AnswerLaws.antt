@@ -4,17 +4,19 @@ use Rattle.term_core.specs.Books.{Book}
 use Rattle.term_core.specs.Declarations.{Declarations}
 use Rattle.term_core.specs.Flows.{Flow}
 use Rattle.sample.specs.Summary.{IsSummary}
-use Rattle.command_words.specs.Commands.{Advance, AdvanceAsked, Request, ValueAsked}
+use Rattle.command_words.specs.Commands.{Advance, AdvanceAsked, Novate, NovateAsked, Request, ValueAsked}
 use Rattle.command_answers.specs.AdvancePromise.{IsAdvanceText}
 use Rattle.command_answers.specs.Course.{Answers}
 use Rattle.command_answers.specs.Courses.{course_of}
+use Rattle.command_answers.specs.NovatePromise.{IsNovateText}
 use Rattle.command_answers.specs.ValuePromise.{AreBetween, first_unknown}
 use Rattle.command_answers.specs.declared.status.Status.{Status}
 use Rattle.command_answers.specs.declared.status.Status.TheVariants as status
 
--- a command whose text leaves nothing open: any but `advance`, which writes some contracts that are left of the old ones
+-- a command whose text leaves nothing open: any but `advance` and `novate`, which write some contracts that are left of the old ones
 abbrev pub LeavesNothingOpen : Request → Type 0
 LeavesNothingOpen (Advance asked) = ⊥
+LeavesNothingOpen (Novate asked) = ⊥
 LeavesNothingOpen _ = Unit {0}
 
 -- the bytes of the files of such a command have one answer, a status and a text
@@ -35,6 +37,12 @@ abbrev pub DueLinesAreOne : Type 0
 DueLinesAreOne =
     (b : Book) (asked : AdvanceAsked) (table : Option (List ℕ)) (one other : List ℕ)
     (h : IsAdvanceText b asked table one) (k : IsAdvanceText b asked table other) → (h.advanced.due ≡ k.advanced.due) × (h.day ≡ k.day)
+
+-- and so do two texts of `novate`
+abbrev pub DueLinesOfNovateAreOne : Type 0
+DueLinesOfNovateAreOne =
+    (b : Book) (asked : NovateAsked) (table : Option (List ℕ)) (one other : List ℕ)
+    (h : IsNovateText b asked table one) (k : IsNovateText b asked table other) → (h.novated.due ≡ k.novated.due) × (h.day ≡ k.day)
 
 -- the sample of so many contracts has one summary
 abbrev pub SummariesAreOne : Type 0

@@ -1,14 +1,17 @@
 -- The course of each command, behind the bytes of its files. `sample NUMBER` has no file, and no stage: it tells its summary.
 use Rattle.std.specs.Prelude.{ℕ, List}
 use Rattle.sample.specs.Summary.{IsSummary}
-use Rattle.command_words.specs.Commands.{Advance, Check, Expand, Flows, Migrate, Payoff, Request, Sample, Value}
+use Rattle.command_words.specs.Commands.{Advance, Check, Expand, Flows, Migrate, Novate, Payoff, Positions, Request, Sample, Scenarios, Settle, Value}
 use Rattle.command_answers.specs.AdvanceCourse.{advance_course}
 use Rattle.command_answers.specs.CheckCourse.{check_course}
 use Rattle.command_answers.specs.Course.{Course, tells}
 use Rattle.command_answers.specs.ExpandCourse.{expand_course}
 use Rattle.command_answers.specs.FlowsCourse.{flows_course}
 use Rattle.command_answers.specs.MigrateCourse.{migrate_course}
+use Rattle.command_answers.specs.NettingCourse.{positions_course, settle_course}
+use Rattle.command_answers.specs.NovateCourse.{novate_course}
 use Rattle.command_answers.specs.PayoffCourse.{payoff_course}
+use Rattle.command_answers.specs.ScenariosCourse.{scenarios_course}
 use Rattle.command_answers.specs.ValueCourse.{value_course}
 
 abbrev pub sample_course : ℕ → Course
@@ -23,3 +26,7 @@ course_of (Value asked) inputs = value_course asked inputs
 course_of (Migrate portfolio) inputs = migrate_course inputs
 course_of (Expand plans) inputs = expand_course inputs
 course_of (Sample contracts) inputs = sample_course contracts
+course_of (Positions asked) inputs = positions_course asked inputs
+course_of (Settle asked) inputs = settle_course asked inputs
+course_of (Novate asked) inputs = novate_course asked inputs
+course_of (Scenarios asked) inputs = scenarios_course asked inputs

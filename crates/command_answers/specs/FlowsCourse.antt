@@ -22,8 +22,11 @@ over_fixings only until b table next =
     next last fixings)))))
 
 -- the table of the fixings, if the words name one: the second file
+abbrev pub table_if_named : Option (List ℕ) → List (List ℕ) → Option (List ℕ)
+table_if_named fixings inputs = option_map (λ _. file_at inputs 1) fixings
+
 abbrev pub table_named : FlowsAsked → List (List ℕ) → Option (List ℕ)
-table_named asked inputs = option_map (λ _. file_at inputs 1) asked.fixings
+table_named asked inputs = table_if_named asked.fixings inputs
 
 abbrev pub flows_on : FlowsAsked → Book → Option (List ℕ) → Course
 flows_on asked b table =

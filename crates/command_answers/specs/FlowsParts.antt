@@ -15,7 +15,7 @@ use Rattle.flow_eval.specs.declared.flow_table.FlowRow.{FlowRow}
 use Rattle.flow_eval.specs.declared.flow_table.FlowTable.{FlowTable}
 use Rattle.report.specs.declared.fault_lines.Fault.{Fault}
 use Rattle.report.specs.declared.fault_lines.Fault.TheVariants as fault
-use Rattle.command_answers.specs.FlowsPromise.{AreAllFixed, AreAllLines, AreFixings, AreLines, AreLinesAsked, IsDayAsked, IsLastDay, label_name, missing_of}
+use Rattle.command_answers.specs.FlowsPromise.{AreAllFixed, AreAllLines, AreFixings, AreLines, AreLinesAsked, AreTables, IsDayAsked, IsLastDay, label_name, missing_of}
 use Rattle.command_answers.specs.Stages.{IsDayFault, IsMissingOf, IsRowFault, IsWordFault}
 use Rattle.command_answers.specs.Stopping.{AnswersBy}
 use Rattle.command_answers.specs.declared.stop.Stop.{Stop}
@@ -113,13 +113,6 @@ pub record AppendsAll (d : Declarations) (fixings : Environment) (last : ℤ)
 abbrev pub AnswersLines : Declarations → Environment → ℤ → List (Name × Contract) → List ℕ → Result (Vec ℕ) Stop → Type 0
 AnswersLines d fixings last entries before r =
     AnswersBy (λ text. AppendsAll d fixings last entries before text.items) (IsMissingOf d fixings last entries) r
-
--- the tables are those of the flows of contracts, one after another
-abbrev pub AreTables : Declarations → Environment → ℤ → List (Name × Contract) → List FlowTable → Type 0
-AreTables d fixings last [] [] = Unit {0}
-AreTables d fixings last (entry ∷ entries) (table ∷ tables) =
-    AreKnownFlows d entry.1 fixings (pos d.start) last table.rows.items × AreTables d fixings last entries tables
-AreTables d fixings last _ _ = ⊥
 
 pub record AppendsTables (d : Declarations) (fixings : Environment) (last : ℤ)
     (entries : List (Name × Contract)) (before after : List FlowTable) : Type 0 where

@@ -18,6 +18,7 @@ use Rattle.flow_eval.specs.Readiness.{last_day}
 use Rattle.flow_eval.specs.FlowAnswers.{AreKnownFlows, reads_until}
 use Rattle.flow_eval.specs.Tables.{IsTable, paid_by}
 use Rattle.flow_eval.specs.declared.flow_table.FlowRow.{FlowRow}
+use Rattle.flow_eval.specs.declared.flow_table.FlowTable.{FlowTable}
 use Rattle.report.specs.FlowLines.{IsFlowLine}
 use Rattle.report.specs.SumTables.{together}
 use Rattle.command_answers.specs.CheckPromise.{AreAllAccepted}
@@ -76,6 +77,13 @@ pub record IsFirstMissing (d : Declarations) (fixings : Environment) (last : ℤ
   pub split : entries ≡ before ++ entry ∷ after
   pub fixed : AreAllFixed d fixings last before
   pub missing : missing_of d fixings last entry.1 ≡ Some place
+
+-- the flow tables of contracts that stand on the start, one after another, the same in every environment that extends the fixings
+abbrev pub AreTables : Declarations → Environment → ℤ → List (Name × Contract) → List FlowTable → Type 0
+AreTables d fixings last [] [] = Unit {0}
+AreTables d fixings last (entry ∷ entries) (table ∷ tables) =
+    AreKnownFlows d entry.1 fixings (pos d.start) last table.rows.items × AreTables d fixings last entries tables
+AreTables d fixings last _ _ = ⊥
 
 -- a line for each row of the named contract
 abbrev pub AreLines : Declarations → List ℕ → List FlowRow → List ℕ → Type 0

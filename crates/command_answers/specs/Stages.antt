@@ -8,6 +8,7 @@ use Rattle.term_core.specs.Environments.{Environment, Place}
 use Rattle.term_core.specs.Factors.{CurveRow}
 use Rattle.term_core.specs.Flows.{Flow}
 use Rattle.term_core.specs.Terms.{Contract}
+use Rattle.contract_parse.specs.Names.{index_in}
 use Rattle.contract_parse.specs.Texts.{IsFault, Text}
 use Rattle.contract_parse.specs.declared.faults.TextFault.{TextFault}
 use Rattle.fixing_files.specs.CurveTables.{HoldsCurve, IsFirstCurveFault}
@@ -89,6 +90,19 @@ pub record NamesNone (b : Book) (name : List ℕ) (f : Fault) : Type 0 where
 -- the contract of a name, as it is written
 abbrev pub named : Book → List ℕ → Stage Contract
 named b name = record { status = status.UnknownName; Passes = λ c. contract_named name b ≡ Some c; FaultIs = NamesNone b name }
+
+-- a word is none of some names, and the fault says so
+pub record IsUndeclared (names : List (List ℕ)) (word : List ℕ) (f : Fault) : Type 0 where
+  pub absent : index_in names word ≡ None
+  pub fault_is : f ≡ fault.UnknownName word
+
+-- the place of a declared party
+abbrev pub party_named : Declarations → List ℕ → Stage ℕ
+party_named d name = record {
+  status = status.UnknownName;
+  Passes = λ place. index_in d.parties name ≡ Some place;
+  FaultIs = IsUndeclared d.parties name;
+}
 
 -- the names of `value` are declared, and the parties and the asset have these places
 pub record KnowsNames (d : Declarations) (asked : ValueAsked) (flow : Flow) : Type 0 where

@@ -15,6 +15,8 @@ status_of (fault.Day word) = status.DayRange
 status_of (fault.Refused name rule node) = status.Refused
 status_of (fault.Row place row) = status.BadRow
 status_of (fault.Missing label day) = status.Missing
+status_of (fault.Scenarios count) = status.TooMany
+status_of (fault.MissingIn label day scenario) = status.Missing
 
 abbrev pub number_of : Status → ℕ
 number_of status.Done = 0
@@ -29,3 +31,4 @@ number_of status.Missing = 8
 number_of status.NoMemory = 9
 number_of status.UnknownName = 10
 number_of status.DayRange = 11
+number_of status.TooMany = 12

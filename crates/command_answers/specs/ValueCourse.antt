@@ -1,7 +1,8 @@
 -- `value CODE FIXINGS CURVE [T=N].. --at DAY --from P --to Q --asset A`: the code file of the text; names that are declared; a day
 -- in range; code that is accepted at the numbers that are set; fixings and then factors of which each row is taken; reads that
 -- are fixed; and then the line of the value.
-use Rattle.std.specs.Prelude.{ℕ, List, Some}
+use Rattle.std.specs.Prelude.{ℕ, ℤ, List, Some}
+use Rattle.term_core.specs.Flows.{Flow}
 use Rattle.payoff_lang.specs.CodeBooks.{CodeBook}
 use Rattle.command_words.specs.Commands.{ValueAsked}
 use Rattle.command_answers.specs.Course.{Course, behind, tells}
@@ -13,15 +14,21 @@ use Rattle.command_answers.specs.ValuePromise.{IsWorth, question, setting_by}
 abbrev pub numbers : CodeBook → ValueAsked → List ℕ
 numbers b asked = setting_by b.declarations asked.settings
 
-abbrev pub value_on : ValueAsked → CodeBook → List ℕ → List ℕ → Course
-value_on asked b table curve =
+-- what each command passes that asks for the value of code
+abbrev pub asks_code : ValueAsked → CodeBook → (Flow → ℤ → Course) → Course
+asks_code asked b next =
     behind (names_of_value b.declarations asked) (λ flow.
     behind (day_of_word b.declarations asked.at) (λ day.
     behind (accepted_code b (numbers b asked)) (λ _.
+    next flow day)))
+
+abbrev pub value_on : ValueAsked → CodeBook → List ℕ → List ℕ → Course
+value_on asked b table curve =
+    asks_code asked b (λ flow day.
     behind (fixed_by b.declarations (Some table) 2) (λ fixings.
     behind (curve_of curve 3) (λ factors.
     behind (code_fixed b (numbers b asked) fixings (question day factors flow)) (λ _.
-    tells (IsWorth b (numbers b asked) fixings (question day factors flow))))))))
+    tells (IsWorth b (numbers b asked) fixings (question day factors flow))))))
 
 abbrev pub value_course : ValueAsked → List (List ℕ) → Course
 value_course asked inputs =

@@ -1,37 +1,35 @@
--- What the parts of `value` answer, each that of its own or the fault that stops the command.
-use Rattle.std.specs.Prelude.{◌≡◌, ◌≤◌, ◌<◌, ◌^◌, ℕ, ℤ, List, Option, Some, None, Result, unsigned_abs}
+-- What the parts of `value` answer, each that of its own or the fault that stops the command. `scenarios` shares those up to its
+-- tables, and the curve.
+use Rattle.std.specs.Prelude.{◌≡◌, ◌≤◌, ◌<◌, ◌^◌, ℕ, ℤ, pos, List, [], Option, Some, None, Result, unsigned_abs}
 use Rattle.term_core.specs.Declarations.{Declarations}
 use Rattle.term_core.specs.Environments.{Environment, Place}
 use Rattle.term_core.specs.Factors.{CurveRow}
 use Rattle.term_core.specs.Flows.{Flow}
-use Rattle.contract_parse.specs.Names.{index_in}
 use Rattle.payoff_lang.specs.CodeAcceptance.{IsAcceptedCode}
 use Rattle.payoff_lang.specs.CodeBooks.{CodeBook, code_book}
 use Rattle.payoff_lang.specs.CodeFiles.{CodeText}
 use Rattle.payoff_lang.specs.CodeSizes.{height_of_code, nodes_of_code}
+use Rattle.payoff_lang.specs.CodeTotals.{aligned_code_total}
 use Rattle.payoff_lang.specs.WellFormedCode.{IsClosedCode}
 use Rattle.payoff_lang.specs.declared.code_file.CodeFile.{CodeFile}
 use Rattle.payoff_eval.specs.Questions.{HasNumberForEach, IsQuestion}
 use Rattle.report.specs.declared.fault_lines.Fault.{Fault}
 use Rattle.report.specs.declared.fault_lines.Fault.TheVariants as fault
-use Rattle.command_words.specs.Commands.{Between}
-use Rattle.command_answers.specs.Course.{Course, behind, tells}
-use Rattle.command_answers.specs.Stages.{IsMissingOfCode, accepted_code, code_fixed, curve_of, fixed_by}
+use Rattle.command_words.specs.Commands.{Between, ValueAsked}
+use Rattle.command_answers.specs.Course.{Course, Stops, behind, tells}
+use Rattle.command_answers.specs.FlowsPromise.{IsDayAsked, greatest_day}
+use Rattle.command_answers.specs.Stages.{IsMissingOfCode, KnowsNames, code_fixed, curve_of, fixed_by}
 use Rattle.command_answers.specs.Stopping.{AnswersBy}
+use Rattle.command_answers.specs.ValueCourse.{asks_code, numbers}
 use Rattle.command_answers.specs.ValuePromise.{AreBetween, IsValue, IsWorth, first_unknown_of, missing_of_code, names_between, names_set, question}
 use Rattle.command_answers.specs.declared.stop.Stop.{Stop}
 use Rattle.command_answers.specs.declared.value_names.Parties.{Parties}
-use Rattle.command_answers.specs.declared.value_text.Asking.{Asking}
+use Rattle.command_answers.specs.declared.asking.Asking.{Asking}
 
 -- ---- the names
 
 abbrev pub flow_of : Parties → Flow
 flow_of parties = record { from = parties.from; to = parties.to; asset = parties.asset }
-
--- a word is none of some names, and the fault says so
-pub record IsUndeclared (names : List (List ℕ)) (word : List ℕ) (f : Fault) : Type 0 where
-  pub absent : index_in names word ≡ None
-  pub fault_is : f ≡ fault.UnknownName word
 
 -- the fault names a name that is the first of some that is not declared
 pub record NamesUnknown (first : List ℕ → Type 0) (f : Fault) : Type 0 where
@@ -55,7 +53,7 @@ IsUnknownSetting d settings f = NamesUnknown (λ name. first_unknown_of (names_s
 abbrev pub AnswersSettings : Declarations → List (List ℕ × ℕ) → Result (Unit {0}) Stop → Type 0
 AnswersSettings d settings r = AnswersBy (λ _. SettingsAreKnown d settings) (IsUnknownSetting d settings) r
 
--- ---- the code, and the tables
+-- ---- the code
 
 -- a code file with what is asked of it: at a setting, on a day, between parties in an asset
 pub record Inquiry : Type 0 where
@@ -66,7 +64,7 @@ pub record Inquiry : Type 0 where
 
 abbrev pub inquiry_of : CodeFile → Asking → Inquiry
 inquiry_of file asking =
-    record { book = code_book file; setting = asking.setting.now.days.items; day = asking.day; flow = flow_of asking.parties }
+    record { book = code_book file; setting = asking.setting.days.items; day = asking.day; flow = flow_of asking.parties }
 
 -- what a text gives: closed code of which at most 400 terms are open at once, with fewer nodes than can be counted
 pub record IsReadable (b : CodeBook) : Type 0 where
@@ -79,6 +77,15 @@ pub record IsReadFrom (bytes : List ℕ) (b : CodeBook) : Type 0 where
   pub spelled : CodeText bytes b
   pub readable : IsReadable b
 
+-- the most that accepted code can be worth in size, at nine decimals more than amounts
+abbrev pub most_of : CodeBook → ℤ
+most_of b = pos (aligned_code_total b.declarations b.code [])
+
+-- the code is accepted at a setting, and this is the most that it can be worth
+pub record IsAcceptedUpTo (b : CodeBook) (setting : List ℕ) (most : ℤ) : Type 0 where
+  pub accepted : IsAcceptedCode b.declarations setting b.code
+  pub is_most : most ≡ most_of b
+
 -- the day is in range, and the parties and the asset are declared
 abbrev pub IsQuestionOf : Inquiry → Type 0
 IsQuestionOf q = (curve : List CurveRow) → IsQuestion q.book.declarations (question q.day curve q.flow)
@@ -88,6 +95,23 @@ pub record MayAsk (q : Inquiry) : Type 0 where
   pub setting : HasNumberForEach q.book.declarations q.setting
   pub accepted : IsAcceptedCode q.book.declarations q.setting q.book.code
   pub is_question : IsQuestionOf q
+
+-- what is asked is what the words say, of code that is accepted at the numbers that are set
+pub record IsAskedBy (asked : ValueAsked) (file : CodeFile) (asking : Asking) : Type 0 where
+  pub names : KnowsNames (code_book file).declarations asked (flow_of asking.parties)
+  pub is_day : IsDayAsked (code_book file).declarations greatest_day asked.at asking.day
+  pub setting : asking.setting.days.items ≡ numbers (code_book file) asked
+  pub is_most : asking.most ≡ most_of (code_book file)
+  pub may : MayAsk (inquiry_of file asking)
+
+-- what stops a command before its tables
+abbrev pub StopsAsking : ValueAsked → CodeBook → Fault → Type 0
+StopsAsking asked b f = Stops (asks_code asked b (λ flow day. tells (λ text. ⊥))) f
+
+abbrev pub AnswersAsking : ValueAsked → CodeFile → Result Asking Stop → Type 0
+AnswersAsking asked file r = AnswersBy (IsAskedBy asked file) (StopsAsking asked (code_book file)) r
+
+-- ---- the value
 
 -- the first read of the code that is not fixed
 abbrev pub missing_by : Inquiry → Environment → List CurveRow → Option Place
@@ -118,6 +142,3 @@ by_curve q fixings curve =
 -- behind the setting, at which the code is accepted
 abbrev pub by_tables : Inquiry → List ℕ → List ℕ → Course
 by_tables q table curve = behind (fixed_by q.book.declarations (Some table) 2) (λ fixings. by_curve q fixings curve)
-
-abbrev pub at_setting : Inquiry → List ℕ → List ℕ → Course
-at_setting q table curve = behind (accepted_code q.book q.setting) (λ _. by_tables q table curve)

@@ -1,4 +1,4 @@
-//! The text of the command `advance`.
+//! The text of the command `advance`: a portfolio is carried to a day, and what is due and what is left is written.
 
 ghost use Rattle.std.specs.Prelude.{◌≡◌, ◌≤◌, ◌∷◌, ◌++◌, [], pos, true, false, All, IfOk, OnOk};
 ghost use Rattle.std.specs.Map.{keys_of};
@@ -14,7 +14,7 @@ ghost use Rattle.flow_eval.specs.Readiness.{last_day};
 ghost use Rattle.flow_eval.specs.Tables.{IsDueRow};
 ghost use Rattle.report.specs.FlowLines.{HaveLines};
 ghost use Rattle.command_answers.specs.AdvanceCourse.{advance_on};
-ghost use Rattle.command_answers.specs.AdvanceParts.{AnswersNewDay, AnswersRest, AnswersRests, AppendsComments, AppendsDue, IsRestText};
+ghost use Rattle.command_answers.specs.AdvanceParts.{AnswersCarried, AnswersNewDay, AnswersRest, AnswersRests, AppendsComments, AppendsDue, IsRestText};
 ghost use Rattle.command_answers.specs.AdvancePromise.{rest_declarations};
 ghost use Rattle.command_answers.specs.CheckPromise.{AreAllAccepted};
 ghost use Rattle.command_answers.specs.FlowsParts.{IsShortTable};
@@ -22,7 +22,6 @@ ghost use Rattle.command_words.specs.Arguments.{given_text};
 ghost use Rattle.command_answers.specs.Stopping.{GoesDone};
 ghost use Rattle.command_answers.specs.UsedParts.{AreTriable, HasSoundContracts, IsTriable, entries_of, entry_of};
 ghost use Rattle.command_words.specs.Words.{advance_by};
-ghost use Rattle.contract_parse.specs.ContractReading.{trees};
 
 use crate::accepting::accept_all;
 use crate::over_fixings::{day_asked, fixings_of, stop_of};
@@ -81,6 +80,13 @@ struct Course<'a> {
 pub struct Left {
     pub due: Vec<u8>,
     pub contracts: IndexMap<Name, Contr>,
+}
+
+/// What is due of a portfolio before a new day, and the portfolio that is left on it.
+#[derive(Drop)]
+pub struct Carried {
+    pub due: Vec<u8>,
+    pub rest: Portfolio,
 }
 
 // Puts what is due of a contract and what is left of it behind those of the contracts before it.
@@ -158,33 +164,19 @@ fn rest_decls(alloc: Global, decls: &Decls, day: u32) -> Result<Decls, NoMemory>
     Ok(rest)
 }
 
-// What is due, and behind it the text of what is left.
-fn rest_text(alloc: Global, decls: &Decls, day: u32, left: Left) -> Result<Vec<u8>, NoMemory>
-    requires day { day ≤ 1_000_000 }
-    requires writable { All (λ entry. IsWritableTerm entry.1) (trees left.contracts.entries) }
-    ensures { IfOk result (λ text. IsRestText (declarations decls.now) day (trees left.contracts.entries) left.due.items text.items) }
-{
-    let Left { due, contracts } = left;
-    let decls = rest_decls(alloc, decls, day)?;
-    let rest = Portfolio { decls, contracts };
-    let mut text = due;
-    print_portfolio(alloc, &mut text, &rest)?;
-    Ok(text)
-}
-
-/// What `advance` writes of a portfolio over the fixings of a table: the flow lines of the days before the new one, each a
-/// comment, and the portfolio that is left on it, of the contracts at the defaults; or what stops it. Each contract is gone
-/// through once, and its name is copied once.
-pub fn advance_text(
+/// Carries a portfolio to a new day over the fixings of a table: the flow lines of the days before it, each a comment, and the
+/// portfolio that is left on it, of the contracts at the defaults; or what stops it. Each contract is gone through once, and its
+/// name is copied once.
+pub fn carry(
     alloc: Global,
     portfolio: &Portfolio,
     asked: &Advance<'_>,
     table: Option<&[u8]>,
-) -> Result<Vec<u8>, Stop>
+) -> Result<Carried, Stop>
     requires sound { HasSoundContracts (book portfolio.now) }
     requires names { are_names (keys_of (book portfolio.now).contracts) ≡ true }
     requires table { IsShortTable (given_text table) }
-    ensures { GoesDone (advance_on (advance_by asked.now) (book portfolio.now) (given_text table.entry)) result }
+    ensures { AnswersCarried (book portfolio.now) (advance_by asked.now) (given_text table.entry) result }
 {
     let day = new_day(alloc, &portfolio.decls, asked.to)?;
     let ones = used_contracts(alloc, portfolio, None)?;
@@ -196,6 +188,37 @@ pub fn advance_text(
         day,
     };
     let left = advance_all(alloc, &course, &ones)?;
-    let text = rest_text(alloc, &portfolio.decls, day, left)?;
+    let decls = rest_decls(alloc, &portfolio.decls, day)?;
+    let Left { due, contracts } = left;
+    let rest = Portfolio { decls, contracts };
+    Ok(Carried { due, rest })
+}
+
+/// What is due, and behind it the text of what is left.
+pub fn carried_text(alloc: Global, carried: Carried) -> Result<Vec<u8>, NoMemory>
+    requires { All (λ entry. IsWritableTerm entry.1) (book carried.rest).contracts }
+    ensures { IfOk result (λ text. IsRestText (book carried.rest) carried.due.items text.items) }
+{
+    let Carried { due, rest } = carried;
+    let mut text = due;
+    print_portfolio(alloc, &mut text, &rest)?;
+    Ok(text)
+}
+
+/// What `advance` writes of a portfolio over the fixings of a table: what is due before the new day, and the text of the
+/// portfolio that is left on it; or what stops it.
+pub fn advance_text(
+    alloc: Global,
+    portfolio: &Portfolio,
+    asked: &Advance<'_>,
+    table: Option<&[u8]>,
+) -> Result<Vec<u8>, Stop>
+    requires sound { HasSoundContracts (book portfolio.now) }
+    requires names { are_names (keys_of (book portfolio.now).contracts) ≡ true }
+    requires table { IsShortTable (given_text table) }
+    ensures { GoesDone (advance_on (advance_by asked.now) (book portfolio.now) (given_text table.entry)) result }
+{
+    let carried = carry(alloc, portfolio, asked, table)?;
+    let text = carried_text(alloc, carried)?;
     Ok(text)
 }

@@ -3,15 +3,18 @@
 ghost use Rattle.std.specs.Prelude.{◌≡◌, IfOk};
 ghost use Rattle.report.specs.FaultLines.{fault_text};
 ghost use Rattle.command_words.specs.Arguments.{given_text};
-ghost use Rattle.command_words.specs.Words.{advance_by, flows_by, payoff_by, requested_by, value_by};
+ghost use Rattle.command_words.specs.Words.{advance_by, flows_by, netting_by, novate_by, payoff_by, requested_by, scenarios_by, value_by};
 ghost use Rattle.command_answers.specs.AdvanceCourse.{advance_course};
 ghost use Rattle.command_answers.specs.CheckCourse.{check_course};
 ghost use Rattle.command_answers.specs.Courses.{course_of, sample_course};
 ghost use Rattle.command_answers.specs.ExpandCourse.{expand_course};
-ghost use Rattle.command_answers.specs.FlowsCourse.{flows_course, table_named};
+ghost use Rattle.command_answers.specs.FlowsCourse.{flows_course, table_if_named};
 ghost use Rattle.command_answers.specs.Inputs.{AreShort, bytes_of};
 ghost use Rattle.command_answers.specs.MigrateCourse.{migrate_course};
+ghost use Rattle.command_answers.specs.NettingCourse.{positions_course, settle_course};
+ghost use Rattle.command_answers.specs.NovateCourse.{novate_course};
 ghost use Rattle.command_answers.specs.PayoffCourse.{payoff_course};
+ghost use Rattle.command_answers.specs.ScenariosCourse.{scenarios_course};
 ghost use Rattle.command_answers.specs.Statuses.{status_of};
 ghost use Rattle.command_answers.specs.Stopping.{Goes};
 ghost use Rattle.command_answers.specs.ValueCourse.{value_course};
@@ -22,12 +25,15 @@ use crate::expand_text::expand_text;
 use crate::flows_text::flows_text;
 use crate::inputs::{code_of, file_at, plans_of, portfolio_of};
 use crate::migrate_text::migrated_text;
+use crate::netting_text::{positions_text, settlement_text};
+use crate::novate_text::novate_text;
 use crate::payoff_text::payoff_text;
+use crate::scenarios_text::scenarios_text;
 use crate::status::{Status, status_of};
 use crate::stop::Stop;
 use crate::used::used_contracts;
 use crate::value_text::value_text;
-use command_words::{Advance, Flows, Payoff, Request, SampleSize, Value};
+use command_words::{Advance, Flows, Netting, Novate, Payoff, Request, SampleSize, Scenarios, Value};
 use decimal::NoMemory;
 use report::{Fault, fault_line};
 use sample::summary;
@@ -71,10 +77,10 @@ fn check_answer(alloc: Global, inputs: &[Vec<u8>]) -> Result<Answer, Stop>
 }
 
 // The table of the fixings, if the words name one: the second file.
-fn table_named<'a>(asked: &Flows<'_>, inputs: &'a [Vec<u8>]) -> Option<&'a [u8]>
-    ensures { given_text result ≡ table_named (flows_by asked.now) (bytes_of inputs.entry.now) }
+fn table_if_named<'a>(fixings: Option<&str>, inputs: &'a [Vec<u8>]) -> Option<&'a [u8]>
+    ensures { given_text result ≡ table_if_named (given_text fixings.entry) (bytes_of inputs.entry.now) }
 {
-    match asked.fixings {
+    match fixings {
         Some(_) => Some(file_at(inputs, 1)),
         None => None,
     }
@@ -86,7 +92,7 @@ fn flows_answer(alloc: Global, asked: &Flows<'_>, inputs: &[Vec<u8>]) -> Result<
     ensures { Goes (flows_course (flows_by asked.now) (bytes_of inputs.now)) result }
 {
     let portfolio = portfolio_of(alloc, file_at(inputs, 0))?;
-    let table = table_named(asked, inputs);
+    let table = table_if_named(asked.fixings, inputs);
     let text = flows_text(alloc, &portfolio, asked, table)?;
     Ok(Answer {
         status: Status::Done,
@@ -101,6 +107,19 @@ fn advance_answer(alloc: Global, asked: &Advance<'_>, inputs: &[Vec<u8>]) -> Res
 {
     let portfolio = portfolio_of(alloc, file_at(inputs, 0))?;
     let text = advance_text(alloc, &portfolio, asked, Some(file_at(inputs, 1)))?;
+    Ok(Answer {
+        status: Status::Done,
+        text,
+    })
+}
+
+// The same, with a new party in the place of an old one in one contract of what is left.
+fn novate_answer(alloc: Global, asked: &Novate<'_>, inputs: &[Vec<u8>]) -> Result<Answer, Stop>
+    requires { AreShort (bytes_of inputs.now) }
+    ensures { Goes (novate_course (novate_by asked.now) (bytes_of inputs.now)) result }
+{
+    let portfolio = portfolio_of(alloc, file_at(inputs, 0))?;
+    let text = novate_text(alloc, &portfolio, asked, Some(file_at(inputs, 1)))?;
     Ok(Answer {
         status: Status::Done,
         text,
@@ -133,6 +152,23 @@ fn value_answer(alloc: Global, asked: &Value<'_>, inputs: &[Vec<u8>]) -> Result<
     })
 }
 
+// The lines of what a code file is worth in scenarios.
+fn scenarios_answer(
+    alloc: Global,
+    asked: &Scenarios<'_>,
+    inputs: &[Vec<u8>],
+) -> Result<Answer, Stop>
+    requires { AreShort (bytes_of inputs.now) }
+    ensures { Goes (scenarios_course (scenarios_by asked.now) (bytes_of inputs.now)) result }
+{
+    let file = code_of(alloc, file_at(inputs, 0))?;
+    let text = scenarios_text(alloc, &file, asked, file_at(inputs, 1), file_at(inputs, 2))?;
+    Ok(Answer {
+        status: Status::Done,
+        text,
+    })
+}
+
 // The text of a portfolio in version 2.
 fn migrate_answer(alloc: Global, inputs: &[Vec<u8>]) -> Result<Answer, Stop>
     requires { AreShort (bytes_of inputs.now) }
@@ -153,6 +189,34 @@ fn expand_answer(alloc: Global, inputs: &[Vec<u8>]) -> Result<Answer, Stop>
 {
     let file = plans_of(alloc, file_at(inputs, 0))?;
     let text = expand_text(alloc, file)?;
+    Ok(Answer {
+        status: Status::Done,
+        text,
+    })
+}
+
+// The net positions of a portfolio's parties.
+fn positions_answer(alloc: Global, asked: &Netting<'_>, inputs: &[Vec<u8>]) -> Result<Answer, Stop>
+    requires { AreShort (bytes_of inputs.now) }
+    ensures { Goes (positions_course (netting_by asked.now) (bytes_of inputs.now)) result }
+{
+    let portfolio = portfolio_of(alloc, file_at(inputs, 0))?;
+    let table = table_if_named(asked.fixings, inputs);
+    let text = positions_text(alloc, &portfolio, asked, table)?;
+    Ok(Answer {
+        status: Status::Done,
+        text,
+    })
+}
+
+// The payments that settle the net positions of a portfolio's parties.
+fn settle_answer(alloc: Global, asked: &Netting<'_>, inputs: &[Vec<u8>]) -> Result<Answer, Stop>
+    requires { AreShort (bytes_of inputs.now) }
+    ensures { Goes (settle_course (netting_by asked.now) (bytes_of inputs.now)) result }
+{
+    let portfolio = portfolio_of(alloc, file_at(inputs, 0))?;
+    let table = table_if_named(asked.fixings, inputs);
+    let text = settlement_text(alloc, &portfolio, asked, table)?;
     Ok(Answer {
         status: Status::Done,
         text,
@@ -189,5 +253,9 @@ pub fn answer_request(
         Request::Migrate { .. } => migrate_answer(alloc, inputs),
         Request::Expand { .. } => expand_answer(alloc, inputs),
         Request::Sample(size) => sample_answer(alloc, *size),
+        Request::Positions(asked) => positions_answer(alloc, asked, inputs),
+        Request::Settle(asked) => settle_answer(alloc, asked, inputs),
+        Request::Novate(asked) => novate_answer(alloc, asked, inputs),
+        Request::Scenarios(asked) => scenarios_answer(alloc, asked, inputs),
     }
 }

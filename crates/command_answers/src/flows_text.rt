@@ -30,8 +30,8 @@ use report::{flow_line, net};
 use std::alloc::Global;
 use term_core::{Contr, Decls, Portfolio};
 
-// The day of a word, or of none the last that there is.
-fn last_day(alloc: Global, decls: &Decls, until: Option<DayWord<'_>>) -> Result<i64, Stop>
+/// The day of a word, or of none the last that there is.
+pub fn last_day(alloc: Global, decls: &Decls, until: Option<DayWord<'_>>) -> Result<i64, Stop>
     ensures { AnswersLastDay (declarations decls.now) (option_map (λ day. day.word.now) until.entry) result }
 {
     match until {
@@ -40,8 +40,8 @@ fn last_day(alloc: Global, decls: &Decls, until: Option<DayWord<'_>>) -> Result<
     }
 }
 
-// Appends the lines of a flow table.
-fn append_table(
+/// Appends the lines of a flow table.
+pub fn append_table(
     alloc: Global,
     out: &mut Vec<u8>,
     decls: &Decls,
@@ -58,11 +58,11 @@ fn append_table(
     Ok(())
 }
 
-// What flows are asked over: what is fixed, and the last day.
+/// What flows are asked over: what is fixed, and the last day.
 #[derive(Clone, Copy)]
-struct Course<'a> {
-    fixings: &'a Fixings,
-    last: i64,
+pub struct Course<'a> {
+    pub fixings: &'a Fixings,
+    pub last: i64,
 }
 
 // The flow table of a contract.
@@ -105,8 +105,8 @@ fn lines_of(
     Ok(text)
 }
 
-// The flow tables of contracts, in their order.
-fn tables_of(
+/// The flow tables of contracts, in their order.
+pub fn tables_of(
     alloc: Global,
     decls: &Decls,
     ones: &[Used<'_>],

@@ -12,13 +12,17 @@
 mod accepting;
 mod advance_text;
 mod answers;
+mod asking;
 mod check_text;
 mod expand_text;
 mod flows_text;
 mod inputs;
 mod migrate_text;
+mod netting_text;
+mod novate_text;
 mod over_fixings;
 mod payoff_text;
+mod scenarios_text;
 mod status;
 mod stop;
 mod used;

@@ -61,8 +61,8 @@ pub fn fixings_of(alloc: Global, decls: &Decls, table: Option<&[u8]>) -> Result<
     }
 }
 
-// The name of a declared label.
-fn label_name(decls: &Decls, label: u32) -> &[u8]
+/// The name of a declared label.
+pub fn label_name(decls: &Decls, label: u32) -> &[u8]
     ensures { result.now ≡ label_name (declarations decls.now) label }
 {
     match decls.labels.get_index(label as usize) {

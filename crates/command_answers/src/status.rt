@@ -32,6 +32,8 @@ pub enum Status {
     UnknownName = 10,
     /// A day of the words is out of range.
     DayRange = 11,
+    /// There are so many scenarios that their total need not fit.
+    TooMany = 12,
 }
 
 impl Status {
@@ -56,6 +58,7 @@ pub fn status_of(fault: &Fault) -> Status
         Fault::Day { .. } => Status::DayRange,
         Fault::Refused { .. } => Status::Refused,
         Fault::Row { .. } => Status::BadRow,
-        Fault::Missing { .. } => Status::Missing,
+        Fault::Missing { .. } | Fault::MissingIn { .. } => Status::Missing,
+        Fault::Scenarios { .. } => Status::TooMany,
     }
 }

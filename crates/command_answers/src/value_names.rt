@@ -1,4 +1,4 @@
-//! The names of `value`: parties, an asset and templates that the declarations have.
+//! The names of words: parties, an asset and templates that the declarations have.
 
 ghost use Rattle.std.specs.Prelude.{◌≡◌, ◌<◌, ◌^◌, IfOk, Some};
 ghost use Rattle.std.specs.Map.{keys_of};
@@ -7,10 +7,10 @@ ghost use Rattle.indexmap.specs.IndexSet.{index_set_len};
 ghost use Rattle.term_core.specs.Declarations.{declarations};
 ghost use Rattle.contract_parse.specs.Names.{index_in};
 ghost use Rattle.command_words.specs.Words.{between_by, value_by};
-ghost use Rattle.command_answers.specs.Stages.{names_of_value};
+ghost use Rattle.command_answers.specs.Stages.{IsUndeclared, names_of_value};
 ghost use Rattle.command_answers.specs.Stopping.{AnswersBy, AnswersStage};
 ghost use Rattle.command_answers.specs.ValuePromise.{setting_by};
-ghost use Rattle.command_answers.specs.ValueParts.{AnswersParties, AnswersSettings, IsUndeclared, flow_of};
+ghost use Rattle.command_answers.specs.ValueParts.{AnswersParties, AnswersSettings, flow_of};
 
 use crate::stop::Stop;
 use command_words::{Between, Value};
@@ -28,8 +28,8 @@ pub struct Parties {
     pub asset: u32,
 }
 
-// The index of a name, or the fault that it is not declared.
-fn index_of(alloc: Global, names: &IndexSet<Name>, word: &str) -> Result<u32, Stop>
+/// The index of a name, or the fault that it is not declared.
+pub fn index_of(alloc: Global, names: &IndexSet<Name>, word: &str) -> Result<u32, Stop>
     requires { index_set_len names.now < 2 ^ 32 }
     ensures { AnswersBy (λ index. index_in names.now.keys word.now ≡ Some index) (IsUndeclared names.now.keys word.now) result }
 {

@@ -3,67 +3,27 @@
 ghost use Rattle.std.specs.Prelude.{◌≡◌, ◌≤◌, ◌+◌, ◌^◌, IfOk, length, unsigned_abs};
 ghost use Rattle.term_core.specs.Declarations.{declarations};
 ghost use Rattle.term_core.specs.Environments.{IsAdmitted};
-ghost use Rattle.fixing_files.specs.CurveTables.{HoldsCurve};
-ghost use Rattle.fixing_files.specs.Tables.{table_of};
 ghost use Rattle.flow_eval.specs.declared.faults.FlowErr.TheVariants as flow;
 ghost use Rattle.payoff_lang.specs.CodeBooks.{code_book};
-ghost use Rattle.payoff_eval.specs.Questions.{HasNumberForEach};
 ghost use Rattle.report.specs.ValueLines.{value_text};
 ghost use Rattle.command_words.specs.Words.{value_by};
 ghost use Rattle.command_answers.specs.FlowsParts.{IsStopOf};
-ghost use Rattle.command_answers.specs.Stages.{IsCurveFault, accepted_code};
-ghost use Rattle.command_answers.specs.Stopping.{AnswersBy, AnswersStage, GoesDone};
+ghost use Rattle.command_answers.specs.Stopping.{GoesDone};
 ghost use Rattle.command_answers.specs.ValueCourse.{value_on};
-ghost use Rattle.command_answers.specs.ValueParts.{AnswersValueOver, IsQuestionOf, IsReadable, MayAsk, at_setting, by_curve, by_tables, inquiry_of};
+ghost use Rattle.command_answers.specs.ValueParts.{AnswersValueOver, IsReadable, MayAsk, by_curve, by_tables, inquiry_of};
 
-use crate::over_fixings::{day_asked, fixings_of, stop_of};
+use crate::asking::{Asking, asking_of, curve_of};
+use crate::over_fixings::{fixings_of, stop_of};
 use crate::stop::Stop;
-use crate::value_names::{Parties, know_names, setting_of};
 use command_words::Value;
 use decimal::NoMemory;
-use fixing_files::{Curve, Fixings, RowErr, read_curve};
-use flow_eval::{FlowErr, LAST_DAY};
-use payoff_check::check_code;
+use fixing_files::{Curve, Fixings};
+use flow_eval::FlowErr;
 use payoff_eval::{value, value_scratch};
 use payoff_lang::CodeFile;
-use report::{Fault, value_line};
+use report::value_line;
 use std::alloc::Global;
-use term_core::{CheckErr, Decls, Missing, Setting};
-
-// What is asked of a code file: at which setting, on which day, between whom.
-#[derive(Clone, Copy)]
-struct Asking<'a> {
-    setting: &'a Setting,
-    day: i64,
-    parties: Parties,
-}
-
-// Stops where the code is not accepted at the setting.
-fn accept_code(alloc: Global, file: &CodeFile, setting: &Setting) -> Result<(), Stop>
-    requires readable { IsReadable (code_book file.now) }
-    ensures { AnswersStage (accepted_code (code_book file.now) setting.now.days.items) (λ _. tt) result }
-{
-    match check_code(alloc, file, setting) {
-        Ok(_) => Ok(()),
-        Err(CheckErr::Refused { rule, node }) => {
-            let name = file.name.clone()?;
-            Err(Stop::Fault(Fault::Refused { name, rule, node }))
-        }
-        Err(CheckErr::NoMemory) => Err(Stop::NoMemory),
-    }
-}
-
-// The curve of a table.
-fn curve_of(alloc: Global, bytes: &[u8]) -> Result<Curve, Stop>
-    requires { length bytes.now ≤ 16_777_216 }
-    ensures { AnswersBy (HoldsCurve (table_of bytes.now)) (IsCurveFault bytes.now 3) result }
-{
-    match read_curve(alloc, bytes) {
-        Ok(curve) => Ok(curve),
-        Err(RowErr::Row(fault)) => Err(Stop::Fault(Fault::Row { place: 3, fault })),
-        Err(RowErr::NoMemory) => Err(Stop::NoMemory),
-    }
-}
+use term_core::{Decls, Missing};
 
 // What stops a command that lacks a place.
 fn stop_of_missing(alloc: Global, decls: &Decls, missing: Missing) -> Stop
@@ -77,7 +37,7 @@ fn stop_of_missing(alloc: Global, decls: &Decls, missing: Missing) -> Stop
 fn worth(
     alloc: Global,
     file: &CodeFile,
-    asking: &Asking<'_>,
+    asking: &Asking,
     fixings: &Fixings,
     curve: &Curve,
 ) -> Result<i128, Stop>
@@ -90,7 +50,7 @@ fn worth(
     let mut scratch = value_scratch(alloc, file)?;
     match value(
         file,
-        asking.setting,
+        &asking.setting,
         fixings,
         curve,
         asking.day,
@@ -119,7 +79,7 @@ fn line_of(alloc: Global, amount: i128, amounts: u8) -> Result<Vec<u8>, NoMemory
 fn by_curve(
     alloc: Global,
     file: &CodeFile,
-    asking: &Asking<'_>,
+    asking: &Asking,
     fixings: &Fixings,
     curve: &[u8],
 ) -> Result<Vec<u8>, Stop>
@@ -139,7 +99,7 @@ fn by_curve(
 fn by_tables(
     alloc: Global,
     file: &CodeFile,
-    asking: &Asking<'_>,
+    asking: &Asking,
     table: &[u8],
     curve: &[u8],
 ) -> Result<Vec<u8>, Stop>
@@ -151,25 +111,6 @@ fn by_tables(
 {
     let fixings = fixings_of(alloc, &file.decls, Some(table))?;
     by_curve(alloc, file, asking, &fixings, curve)
-}
-
-// The same where the code is accepted at the setting.
-fn at_setting(
-    alloc: Global,
-    file: &CodeFile,
-    asking: &Asking<'_>,
-    table: &[u8],
-    curve: &[u8],
-) -> Result<Vec<u8>, Stop>
-    requires readable { IsReadable (code_book file.now) }
-    requires setting { HasNumberForEach (declarations file.now.decls) asking.now.setting.now.days.items }
-    requires question { IsQuestionOf (inquiry_of file.now asking.now) }
-    requires table { length table.now ≤ 16_777_216 }
-    requires curve { length curve.now ≤ 16_777_216 }
-    ensures { GoesDone (at_setting (inquiry_of file.now asking.now) table.now curve.now) result }
-{
-    accept_code(alloc, file, asking.setting)?;
-    by_tables(alloc, file, asking, table, curve)
 }
 
 /// The line of what a code file is worth, or what stops the command.
@@ -185,13 +126,6 @@ pub fn value_text(
     requires curve { length curve.now ≤ 16_777_216 }
     ensures { GoesDone (value_on (value_by value.now) (code_book file.now) table.now curve.now) result }
 {
-    let parties = know_names(alloc, &file.decls, value)?;
-    let day = day_asked(alloc, &file.decls, value.at, LAST_DAY)?;
-    let setting = setting_of(alloc, &file.decls, &value.settings)?;
-    let asking = Asking {
-        setting: &setting,
-        day,
-        parties,
-    };
-    at_setting(alloc, file, &asking, table, curve)
+    let asking = asking_of(alloc, file, value)?;
+    by_tables(alloc, file, &asking, table, curve)
 }

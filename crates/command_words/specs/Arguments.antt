@@ -8,7 +8,7 @@ use Rattle.clap.specs.Simple.{on_top}
 use Rattle.clap.specs.Walk.{texts}
 use Rattle.clap.specs.declared.builder.ArgAction.TheVariants.{Append, Set, SetTrue}
 use Rattle.clap.specs.declared.parser.matches.ArgMatches.{ArgMatches}
-use Rattle.command_words.specs.Commands.{Request}
+use Rattle.clap.specs.declared.parser.matches.Found.{Found}
 use Rattle.command_words.specs.declared.arguments.Argument.{Argument}
 use Rattle.command_words.specs.declared.arguments.Argument.TheVariants.{Required, Optional, Repeated, Valued, Flag}
 use Rattle.command_words.specs.declared.arguments.WordsErr.{WordsErr}
@@ -66,10 +66,14 @@ is_taken (kind ∷ kinds) = false
 unfoldable pub taken : App → List Text → Option (List Row)
 taken app words = if is_taken (fault_of app words) then Some (matches_of app words) else None
 
+-- all words that are found for an argument
+abbrev pub all_values : Found → Text → Option (List Text)
+all_values found name = option_map raw_values (matched_of found name)
+
 -- the matches hold what is stated, of the first word of an argument and of all its words
 pub record Holds (rows : List Row) (matches : ArgMatches) : Type 0 where
   pub first : (name : Text) → first_value (found_of matches) name ≡ first_of name rows
-  pub all : (name : Text) → option_map raw_values (matched_of (found_of matches) name) ≡ all_of name rows
+  pub all : (name : Text) → all_values (found_of matches) name ≡ all_of name rows
 
 -- the matches of the words, and `Usage` exactly where the command refuses them
 abbrev pub HasMatches : App → List Text → Result ArgMatches WordsErr → Type 0
@@ -83,15 +87,15 @@ is_set None = false
 is_set (Some value) = bytes_eq value (codes "true")
 
 -- what a command asks for, by what it finds under the name of each argument, or nothing where words are not of their form
-abbrev pub Reading : Type 0
-Reading = (Text → Option Text) → Option Request
+abbrev pub Reading : Type 0 → Type 0
+Reading Asked = (Text → Option Text) → Option Asked
 
-abbrev pub read_rows : Reading → Option (List Row) → Option Request
+abbrev pub read_rows : {Asked : Type 0} → Reading Asked → Option (List Row) → Option Asked
 read_rows reading None = None
 read_rows reading (Some rows) = reading (λ name. first_of name rows)
 
 -- what the words ask of a command
-abbrev pub asked_of : App → Reading → List Text → Option Request
+abbrev pub asked_of : {Asked : Type 0} → App → Reading Asked → List Text → Option Asked
 asked_of app reading words = read_rows reading (taken app words)
 
 -- an answer is what is wanted, and `Usage` comes exactly where there is none

@@ -1,22 +1,29 @@
 -- The command that words ask for. The first word names it, and the others are what the command line crate reads them for,
 -- by the arguments that are declared for the command: files in their order, options and flags. A day is one to nine
--- digits or a civil date, names are those of the grammar of texts, a number that is set for a template is digits with a value
--- of at most 100,000, and a sample has 1 to 10,000 contracts.
-use Rattle.std.specs.Prelude.{ℕ, Bool, false, ◌==◌, List, [], ◌∷◌, ◌++◌, Option, Some, None, is_some, option_and_then, option_map, length, nat_lt, Result, codes, if◌then◌else◌}
+-- digits or a civil date, names and modes are those of the grammar of texts, a number that is set for a template is digits with
+-- a value of at most 100,000, and a sample has 1 to 10,000 contracts.
+use Rattle.std.specs.Prelude.{ℕ, Bool, false, ◌==◌, List, [], ◌∷◌, ◌++◌, Option, Some, None, is_some, option_and_then, option_map, length, nat_lt, Result, Ok, Err, codes, if◌then◌else◌}
 use Rattle.std.specs.List.{after_first, before_first, position_or_len}
 use Rattle.std.specs.Map.{keys_of}
 use Rattle.std.specs.Str.{bytes_eq}
 use Rattle.clap.specs.Words.{App, Row, Text, all_of, first_of}
 use Rattle.decimal.specs.Reading.{number_up_to}
+use Rattle.decimal.specs.declared.rounding.Mode.{Mode}
+use Rattle.contract_parse.specs.Judgements.{mode_at}
 use Rattle.contract_parse.specs.Names.{is_declared}
 use Rattle.contract_parse.specs.NameTexts.{is_name_text}
+use Rattle.contract_parse.specs.declared.faults.TextKind.{TextKind}
+use Rattle.contract_parse.specs.declared.token.Kind.TheVariants as kind
 use Rattle.fixing_files.specs.Days.{day_named}
 use Rattle.fixing_files.specs.declared.days.NamedDay.{NamedDay}
 use Rattle.command_words.specs.Arguments.{IsAnswer, asked_of, declared, flag, given_text, is_set, optional, repeated, required, taken, valued}
-use Rattle.command_words.specs.Commands.{Advance, AdvanceAsked, Between, Check, Expand, Flows, FlowsAsked, Migrate, Payoff, PayoffAsked, Request, Sample, Value, ValueAsked, ValueFiles}
+use Rattle.command_words.specs.Commands.{Advance, AdvanceAsked, Between, Check, Expand, Flows, FlowsAsked, Migrate, NettingAsked, Novate, NovateAsked, Payoff, PayoffAsked, Positions, Request, Sample, Scenarios, ScenariosAsked, Settle, Value, ValueAsked, ValueFiles}
 use Rattle.command_words.specs.declared.words.Advance.{Advance as AdvanceCommand}
 use Rattle.command_words.specs.declared.words.Flows.{Flows as FlowsCommand}
+use Rattle.command_words.specs.declared.words.Netting.{Netting as NettingCommand}
+use Rattle.command_words.specs.declared.words.Novate.{Novate as NovateCommand}
 use Rattle.command_words.specs.declared.words.Payoff.{Payoff as PayoffCommand}
+use Rattle.command_words.specs.declared.words.Scenarios.{Scenarios as ScenariosCommand}
 use Rattle.command_words.specs.declared.value_asked.Between.{Between as BetweenWords}
 use Rattle.command_words.specs.declared.value_asked.Value.{Value as ValueCommand}
 use Rattle.command_words.specs.declared.value_asked.ValueFiles.{ValueFiles as FileWords}
@@ -54,6 +61,24 @@ value_by value = record {
   settings = value.settings.entries;
 }
 
+abbrev pub netting_by : NettingCommand → NettingAsked
+netting_by netting = record {
+  portfolio = netting.portfolio.now;
+  fixings = given_text netting.fixings;
+  until = option_map (λ day. day.word.now) netting.until;
+}
+
+abbrev pub novate_by : NovateCommand → NovateAsked
+novate_by novate = record {
+  advance = advance_by novate.advance;
+  contract = novate.contract.now;
+  old = novate.old.now;
+  new = novate.new.now;
+}
+
+abbrev pub scenarios_by : ScenariosCommand → ScenariosAsked
+scenarios_by scenarios = record { value = value_by scenarios.value; mean = scenarios.mean }
+
 -- what is requested of the program
 abbrev pub requested_by : Requested → Request
 requested_by (request.Check portfolio) = Check portfolio.now
@@ -64,6 +89,10 @@ requested_by (request.Value value) = Value (value_by value)
 requested_by (request.Migrate portfolio) = Migrate portfolio.now
 requested_by (request.Expand plans) = Expand plans.now
 requested_by (request.Sample size) = Sample size.contracts
+requested_by (request.Positions netting) = Positions (netting_by netting)
+requested_by (request.Settle netting) = Settle (netting_by netting)
+requested_by (request.Novate novate) = Novate (novate_by novate)
+requested_by (request.Scenarios scenarios) = Scenarios (scenarios_by scenarios)
 
 -- ---- the forms of words
 
@@ -151,6 +180,22 @@ flows_from word = flows_with
 abbrev pub flows_of : List Text → Option Request
 flows_of words = asked_of flows_app flows_from words
 
+-- ---- `positions PORTFOLIO [FIXINGS] [--until DAY]`, and `settle` of the same form
+
+abbrev pub netting_app : Text → App
+netting_app name = declared name (required (codes "portfolio") ∷ optional (codes "fixings") ∷ valued (codes "until") ∷ [])
+
+abbrev pub netting_with : Option Text → Option Text → Option (Option Text) → Option NettingAsked
+netting_with (Some file) fixings (Some until) = Some (record { portfolio = file; fixings = fixings; until = until })
+netting_with _ fixings _ = None
+
+abbrev pub netting_from : (Text → Option Text) → Option NettingAsked
+netting_from word = netting_with (word (codes "portfolio")) (word (codes "fixings")) (if_given is_day (word (codes "until")))
+
+-- by the words behind the name of either command
+abbrev pub netting_of : Text → List Text → Option NettingAsked
+netting_of name words = asked_of (netting_app name) netting_from words
+
 -- ---- `advance PORTFOLIO FIXINGS --to DAY`
 
 abbrev pub advance_app : App
@@ -161,15 +206,37 @@ abbrev pub with_form : (Text → Bool) → Option Text → Option Text
 with_form has_its_form None = None
 with_form has_its_form (Some word) = if has_its_form word then Some word else None
 
-abbrev pub advance_with : Option Text → Option Text → Option Text → Option Request
-advance_with (Some file) (Some fixings) (Some to) = Some (Advance (record { portfolio = file; fixings = fixings; to = to }))
+abbrev pub advance_with : Option Text → Option Text → Option Text → Option AdvanceAsked
+advance_with (Some file) (Some fixings) (Some to) = Some (record { portfolio = file; fixings = fixings; to = to })
 advance_with _ _ _ = None
 
-abbrev pub advance_from : (Text → Option Text) → Option Request
+abbrev pub advance_from : (Text → Option Text) → Option AdvanceAsked
 advance_from word = advance_with (word (codes "portfolio")) (word (codes "fixings")) (with_form is_day (word (codes "to")))
 
-abbrev pub advance_of : List Text → Option Request
+abbrev pub advance_of : List Text → Option AdvanceAsked
 advance_of words = asked_of advance_app advance_from words
+
+-- ---- `novate PORTFOLIO FIXINGS --to DAY --contract NAME --old P --new Q`
+
+abbrev pub novate_app : App
+novate_app = declared (codes "novate")
+    (required (codes "portfolio") ∷ required (codes "fixings")
+    ∷ valued (codes "to") ∷ valued (codes "contract") ∷ valued (codes "old") ∷ valued (codes "new") ∷ [])
+
+abbrev pub novate_with : Option AdvanceAsked → Option Text → Option Text → Option Text → Option NovateAsked
+novate_with (Some advance) (Some contract) (Some old) (Some new) =
+    Some (record { advance = advance; contract = contract; old = old; new = new })
+novate_with _ _ _ _ = None
+
+abbrev pub novate_from : (Text → Option Text) → Option NovateAsked
+novate_from word = novate_with
+    (advance_from word)
+    (with_form is_name_text (word (codes "contract")))
+    (with_form is_name_text (word (codes "old")))
+    (with_form is_name_text (word (codes "new")))
+
+abbrev pub novate_of : List Text → Option NovateAsked
+novate_of words = asked_of novate_app novate_from words
 
 -- ---- `sample NUMBER`
 
@@ -260,14 +327,53 @@ abbrev pub value_from : (Text → Option Text) → (Text → Option (List Text))
 value_from word words = value_with
     (value_files word) (with_form is_day (word (codes "at"))) (value_between word) (settings_of (words (codes "settings")))
 
-abbrev pub value_of_rows : Option (List Row) → Option ValueAsked
-value_of_rows None = None
-value_of_rows (Some rows) = value_from (λ name. first_of name rows) (λ name. all_of name rows)
+-- what is asked for by the first word that is found for each argument, and by all its words
+abbrev pub read_all_rows : {Asked : Type 0} → ((Text → Option Text) → (Text → Option (List Text)) → Option Asked) → Option (List Row) → Option Asked
+read_all_rows reading None = None
+read_all_rows reading (Some rows) = reading (λ name. first_of name rows) (λ name. all_of name rows)
 
 abbrev pub value_of : List Text → Option ValueAsked
-value_of words = value_of_rows (taken value_app words)
+value_of words = read_all_rows value_from (taken value_app words)
+
+-- ---- `scenarios CODE SCENARIOS CURVE [T=N].. --at DAY --from P --to Q --asset A --mean MODE`
+
+-- the table of scenarios stands where `value` has its fixings
+abbrev pub scenarios_app : App
+scenarios_app = declared (codes "scenarios")
+    (required (codes "code") ∷ required (codes "fixings") ∷ required (codes "curve") ∷ repeated (codes "settings")
+    ∷ valued (codes "at") ∷ valued (codes "from") ∷ valued (codes "to") ∷ valued (codes "asset") ∷ valued (codes "mean") ∷ [])
+
+abbrev pub mode_if_read : Result Mode TextKind → Option Mode
+mode_if_read (Ok mode) = Some mode
+mode_if_read (Err kind) = None
+
+-- a mode, by the word that stands for it in texts
+abbrev pub mode_of_word : Text → Option Mode
+mode_of_word word = mode_if_read (mode_at (record { kind = kind.Word; text = word; left = 0 }))
+
+abbrev pub mode_if_given : Option Text → Option Mode
+mode_if_given word = option_and_then mode_of_word word
+
+abbrev pub scenarios_with : Option ValueAsked → Option Mode → Option ScenariosAsked
+scenarios_with (Some value) (Some mean) = Some (record { value = value; mean = mean })
+scenarios_with _ _ = None
+
+abbrev pub scenarios_from : (Text → Option Text) → (Text → Option (List Text)) → Option ScenariosAsked
+scenarios_from word words = scenarios_with (value_from word words) (mode_if_given (word (codes "mean")))
+
+abbrev pub scenarios_of : List Text → Option ScenariosAsked
+scenarios_of words = read_all_rows scenarios_from (taken scenarios_app words)
 
 -- ---- all commands
+
+-- what the words behind a name ask for, where it is that of a command over another file than a portfolio, or over none
+abbrev pub other_request_of : Text → List Text → Option Request
+other_request_of name rest =
+    if bytes_eq name (codes "value") then option_map (λ value. Value value) (value_of rest)
+    else if bytes_eq name (codes "scenarios") then option_map (λ scenarios. Scenarios scenarios) (scenarios_of rest)
+    else if bytes_eq name (codes "expand") then expand_of rest
+    else if bytes_eq name (codes "sample") then sample_of rest
+    else None
 
 -- what the words ask for, if they have the form of a command
 abbrev pub request_of : List Text → Option Request
@@ -275,13 +381,13 @@ request_of [] = None
 request_of (name ∷ rest) =
     if bytes_eq name (codes "check") then check_of rest
     else if bytes_eq name (codes "flows") then flows_of rest
-    else if bytes_eq name (codes "advance") then advance_of rest
     else if bytes_eq name (codes "payoff") then payoff_of rest
-    else if bytes_eq name (codes "value") then option_map (λ value. Value value) (value_of rest)
     else if bytes_eq name (codes "migrate") then migrate_of rest
-    else if bytes_eq name (codes "expand") then expand_of rest
-    else if bytes_eq name (codes "sample") then sample_of rest
-    else None
+    else if bytes_eq name (codes "positions") then option_map (λ netting. Positions netting) (netting_of (codes "positions") rest)
+    else if bytes_eq name (codes "settle") then option_map (λ netting. Settle netting) (netting_of (codes "settle") rest)
+    else if bytes_eq name (codes "advance") then option_map (λ advance. Advance advance) (advance_of rest)
+    else if bytes_eq name (codes "novate") then option_map (λ novate. Novate novate) (novate_of rest)
+    else other_request_of name rest
 
 -- an answer is what the words ask for, or Usage where they have the form of no command
 abbrev pub IsRequestOf : List Text → Result Requested WordsErr → Type 0

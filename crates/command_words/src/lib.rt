@@ -7,13 +7,16 @@
 //!
 //! Promised: `request_of` answers the command that the words ask for with its arguments, or that they are of
 //! no form (`IsRequestOf`).
-//! Only tested: that it answers where there is memory (`contract_cli/src/word_tests.rt`).
+//! Only tested: that it answers where there is memory (rows of `run_rows`).
 #![tactic(auto)]
 
+mod advance_words;
 mod arguments;
 mod day_words;
 mod forms;
+mod netting_words;
 mod sample_size;
+mod scenario_words;
 mod value_asked;
 mod value_words;
 mod words;
@@ -22,4 +25,6 @@ pub use arguments::WordsErr;
 pub use day_words::DayWord;
 pub use sample_size::SampleSize;
 pub use value_asked::{Between, Value, ValueFiles};
-pub use words::{Advance, Flows, Payoff, Request, files_of, request_of};
+pub use words::{
+    Advance, Flows, Netting, Novate, Payoff, Request, Scenarios, files_of, request_of,
+};

@@ -6,9 +6,9 @@ ghost use Rattle.clap.specs.Words.{first_value, found_of};
 ghost use Rattle.clap.specs.Walk.{texts};
 ghost use Rattle.contract_parse.specs.Names.{is_declared};
 ghost use Rattle.contract_parse.specs.NameTexts.{is_name_text};
-ghost use Rattle.command_words.specs.Arguments.{IsAnswer, given_texts};
+ghost use Rattle.command_words.specs.Arguments.{IsAnswer, all_values, given_texts};
 ghost use Rattle.command_words.specs.Commands.{AreSettings};
-ghost use Rattle.command_words.specs.Words.{between_by, files_by, one_more_setting, setting_of_word, settings_after, settings_of, value_between, value_by, value_files, value_of};
+ghost use Rattle.command_words.specs.Words.{between_by, files_by, one_more_setting, setting_of_word, settings_after, settings_of, value_between, value_by, value_files, value_from, value_of};
 
 use crate::arguments::{Argument, WordsErr, matches_of};
 use crate::day_words::DayWord;
@@ -111,6 +111,22 @@ fn between_of<'a>(matches: &ArgMatches<'a>) -> Result<Between<'a>, WordsErr>
     Ok(Between { from, to, asset })
 }
 
+/// What is to be valued, by the files, the day, the parties, the asset and the settings that were given.
+pub fn value_given<'a>(alloc: Global, matches: &ArgMatches<'a>) -> Result<Value<'a>, WordsErr>
+    ensures { IsAnswer value_by (value_from (first_value (found_of matches.now)) (all_values (found_of matches.now))) result }
+{
+    let files = files_of(matches)?;
+    let at = day_given(matches.get_str("at"))?;
+    let between = between_of(matches)?;
+    let settings = settings_given(alloc, matches.get_strs("settings"))?;
+    Ok(Value {
+        files,
+        at,
+        between,
+        settings,
+    })
+}
+
 /// `value CODE FIXINGS CURVE [T=N].. --at DAY --from P --to Q --asset A`, by the words behind the first.
 pub fn value_of<'a>(alloc: Global, words: &'a [&'a str]) -> Result<Value<'a>, WordsErr>
     ensures { IsAnswer value_by (value_of (texts words.entry.now)) result }
@@ -126,14 +142,5 @@ pub fn value_of<'a>(alloc: Global, words: &'a [&'a str]) -> Result<Value<'a>, Wo
         Argument::Valued("asset"),
     ];
     let matches = matches_of(alloc, "value", &arguments, words)?;
-    let files = files_of(&matches)?;
-    let at = day_given(matches.get_str("at"))?;
-    let between = between_of(&matches)?;
-    let settings = settings_given(alloc, matches.get_strs("settings"))?;
-    Ok(Value {
-        files,
-        at,
-        between,
-        settings,
-    })
+    value_given(alloc, &matches)
 }

@@ -4,15 +4,18 @@ ghost use Rattle.std.specs.Prelude.{◌≡◌, IfOk};
 ghost use Rattle.clap.specs.Walk.{texts};
 ghost use Rattle.command_words.specs.Arguments.{IsAnswer};
 ghost use Rattle.command_words.specs.Commands.{files_of};
-ghost use Rattle.command_words.specs.Words.{IsRequestOf, advance_of, check_of, expand_of, flows_of, migrate_of, payoff_of, requested_by, sample_of};
+ghost use Rattle.command_words.specs.Words.{IsRequestOf, check_of, expand_of, flows_of, migrate_of, other_request_of, payoff_of, requested_by, sample_of};
 
+use crate::advance_words::{advance_of, novate_of};
 use crate::arguments::{Argument, WordsErr, is_set, matches_of};
 use crate::day_words::DayWord;
-use crate::forms::{day_given, day_if_given, given, name_given, name_if_given};
+use crate::forms::{day_if_given, given, name_given, name_if_given};
+use crate::netting_words::netting_of;
 use crate::sample_size::SampleSize;
+use crate::scenario_words::scenarios_of;
 use crate::value_asked::Value;
 use crate::value_words::value_of;
-use decimal::NoMemory;
+use decimal::{Mode, NoMemory};
 use std::alloc::Global;
 
 /// What the contracts of a portfolio's file pay: over the fixings of another file, up to a day, of one contract alone, and
@@ -43,6 +46,32 @@ pub struct Payoff<'a> {
     pub plain: bool,
 }
 
+/// The net positions that all contracts of a portfolio's file leave, or the payments that settle them: over the fixings of
+/// another file, up to a day, each where it is asked.
+#[derive(Clone, Copy)]
+pub struct Netting<'a> {
+    pub portfolio: &'a str,
+    pub fixings: Option<&'a str>,
+    pub until: Option<DayWord<'a>>,
+}
+
+/// An advance after which a new party stands for an old one in the contract of a name.
+#[derive(Clone, Copy)]
+pub struct Novate<'a> {
+    pub advance: Advance<'a>,
+    pub contract: &'a str,
+    pub old: &'a str,
+    pub new: &'a str,
+}
+
+/// What a code file is worth in each scenario of a table, which stands in the place of the fixings, with the mode that rounds
+/// the mean.
+#[derive(Drop)]
+pub struct Scenarios<'a> {
+    pub value: Value<'a>,
+    pub mean: Mode,
+}
+
 /// What words ask for: a command, with what it is given.
 #[derive(Drop)]
 pub enum Request<'a> {
@@ -62,6 +91,14 @@ pub enum Request<'a> {
     Expand { plans: &'a str },
     /// Summarizes what the sample of so many contracts pays.
     Sample(SampleSize),
+    /// Lists the net positions of all parties.
+    Positions(Netting<'a>),
+    /// Lists payments that settle the net positions.
+    Settle(Netting<'a>),
+    /// Advances the portfolio to a day, and renames a party in one contract.
+    Novate(Novate<'a>),
+    /// Values a code file in each scenario of a set.
+    Scenarios(Scenarios<'a>),
 }
 
 // `check PORTFOLIO`, by the words behind the first.
@@ -118,26 +155,6 @@ fn flows_of<'a>(alloc: Global, words: &'a [&'a str]) -> Result<Request<'a>, Word
     }))
 }
 
-// `advance PORTFOLIO FIXINGS --to DAY`, by the words behind the first.
-fn advance_of<'a>(alloc: Global, words: &'a [&'a str]) -> Result<Request<'a>, WordsErr>
-    ensures { IsAnswer requested_by (advance_of (texts words.entry.now)) result }
-{
-    let arguments = [
-        Argument::Required("portfolio"),
-        Argument::Required("fixings"),
-        Argument::Valued("to"),
-    ];
-    let matches = matches_of(alloc, "advance", &arguments, words)?;
-    let portfolio = given(matches.get_str("portfolio"))?;
-    let fixings = given(matches.get_str("fixings"))?;
-    let to = day_given(matches.get_str("to"))?;
-    Ok(Request::Advance(Advance {
-        portfolio,
-        fixings,
-        to,
-    }))
-}
-
 // `payoff PORTFOLIO --contract NAME [--plain]`, by the words behind the first.
 fn payoff_of<'a>(alloc: Global, words: &'a [&'a str]) -> Result<Request<'a>, WordsErr>
     ensures { IsAnswer requested_by (payoff_of (texts words.entry.now)) result }
@@ -170,6 +187,29 @@ fn sample_of<'a>(alloc: Global, words: &'a [&'a str]) -> Result<Request<'a>, Wor
     }
 }
 
+// What the words behind a name ask for, where it is that of a command over another file than a portfolio, or over none.
+fn other_request_of<'a>(
+    alloc: Global,
+    name: &str,
+    rest: &'a [&'a str],
+) -> Result<Request<'a>, WordsErr>
+    ensures { IsAnswer requested_by (other_request_of name.now (texts rest.entry.now)) result }
+{
+    if name == "value" {
+        let value = value_of(alloc, rest)?;
+        Ok(Request::Value(value))
+    } else if name == "scenarios" {
+        let scenarios = scenarios_of(alloc, rest)?;
+        Ok(Request::Scenarios(scenarios))
+    } else if name == "expand" {
+        expand_of(alloc, rest)
+    } else if name == "sample" {
+        sample_of(alloc, rest)
+    } else {
+        Err(WordsErr::Usage)
+    }
+}
+
 /// What the words ask for, which are those of the command line without the program's name. `Usage` comes exactly where
 /// they have the form of none.
 pub fn request_of<'a>(alloc: Global, words: &'a [&'a str]) -> Result<Request<'a>, WordsErr>
@@ -182,21 +222,24 @@ pub fn request_of<'a>(alloc: Global, words: &'a [&'a str]) -> Result<Request<'a>
         check_of(alloc, rest)
     } else if *name == "flows" {
         flows_of(alloc, rest)
-    } else if *name == "advance" {
-        advance_of(alloc, rest)
     } else if *name == "payoff" {
         payoff_of(alloc, rest)
-    } else if *name == "value" {
-        let value = value_of(alloc, rest)?;
-        Ok(Request::Value(value))
     } else if *name == "migrate" {
         migrate_of(alloc, rest)
-    } else if *name == "expand" {
-        expand_of(alloc, rest)
-    } else if *name == "sample" {
-        sample_of(alloc, rest)
+    } else if *name == "positions" {
+        let netting = netting_of(alloc, "positions", rest)?;
+        Ok(Request::Positions(netting))
+    } else if *name == "settle" {
+        let netting = netting_of(alloc, "settle", rest)?;
+        Ok(Request::Settle(netting))
+    } else if *name == "advance" {
+        let advance = advance_of(alloc, rest)?;
+        Ok(Request::Advance(advance))
+    } else if *name == "novate" {
+        let novate = novate_of(alloc, rest)?;
+        Ok(Request::Novate(novate))
     } else {
-        Err(WordsErr::Usage)
+        other_request_of(alloc, name, rest)
     }
 }
 
@@ -225,6 +268,21 @@ pub fn files_of<'a>(alloc: Global, request: &Request<'a>) -> Result<Vec<&'a str>
             names.push(value.files.curve)?;
         }
         Request::Sample(_) => {}
+        Request::Positions(netting) | Request::Settle(netting) => {
+            names.push(netting.portfolio)?;
+            if let Some(fixings) = netting.fixings {
+                names.push(fixings)?;
+            }
+        }
+        Request::Novate(novate) => {
+            names.push(novate.advance.portfolio)?;
+            names.push(novate.advance.fixings)?;
+        }
+        Request::Scenarios(scenarios) => {
+            names.push(scenarios.value.files.code)?;
+            names.push(scenarios.value.files.fixings)?;
+            names.push(scenarios.value.files.curve)?;
+        }
     }
     Ok(names)
 }

@@ -30,6 +30,7 @@ use Rattle.report.specs.FlowLines.{IsDayText, IsFlowLine, field, name_at}
 use Rattle.contract_cli.specs.AdvanceLaws.{AdvanceTextsAreTexts}
 use Rattle.command_answers.specs.AdvancePromise.{AreComments, AreDueLines, AreResiduals, commented, last_gone}
 use Rattle.command_answers.specs.UsedContracts.{at_defaults, is_asked, used}
+use Rattle.command_answers.proofs.AdvanceFacts.{left_names, used_names}
 use Rattle.command_answers.proofs.UsedFacts.{own_instance}
 use Rattle.command_answers.proofs.WritableFacts.{left_sound}
 
@@ -84,7 +85,7 @@ rows_comments d name (row ∷ rows) text fits plain is =
     subst IsComments (sym is.4)
     (comments_append (commented is.0) is.1 (line_comment is.0 (flow_line d name row is.0 fits plain is.2)) (rows_comments d name rows is.1 fits plain is.3))
 
-due_comments : (d : Declarations) (fixings : Environment) (last : ℤ) (entries : List (Name × Contract)) (text : List ℕ)
+pub due_comments : (d : Declarations) (fixings : Environment) (last : ℤ) (entries : List (Name × Contract)) (text : List ℕ)
     → AreSpellable d → AllByRecursion IsPlain (keys_of entries) → AreDueLines d fixings last entries text → IsComments text
 due_comments d fixings last [] text fits plain is = subst IsComments (sym is) no_comments
 due_comments d fixings last (entry ∷ entries) text fits plain is =
@@ -93,24 +94,15 @@ due_comments d fixings last (entry ∷ entries) text fits plain is =
 
 -- ---- what is left
 
-used_names : (d : Declarations) (entries : List (Name × Contract)) → keys_of (map (at_defaults d) (filter (λ (entry : Name × Contract). is_asked None entry.0) entries)) ≡ keys_of entries
-used_names d [] = refl
-used_names d (entry ∷ entries) = ap (λ (names : List Name). entry.0 ∷ names) (used_names d entries)
-
 -- what names no template is used as it is
-used_same : (d : Declarations) (entries : List (Name × Contract)) → AllByRecursion (λ (entry : Name × Contract). HasOnlyNumbers entry.1) entries
+pub used_same : (d : Declarations) (entries : List (Name × Contract)) → AllByRecursion (λ (entry : Name × Contract). HasOnlyNumbers entry.1) entries
     → map (at_defaults d) (filter (λ (entry : Name × Contract). is_asked None entry.0) entries) ≡ entries
 used_same d [] all = refl
 used_same d (entry ∷ entries) all =
     ap₂ (λ (c : Contract) (es : List (Name × Contract)). (entry.0, c) ∷ es) (own_instance (declared_numbers d) entry.1 all.0) (used_same d entries all.1)
 
 module _ (d : Declarations) (fixings : Environment) (day : ℕ) where
-  left_names : (entries rest : List (Name × Contract)) → AreResiduals d fixings day entries rest → keys_of rest ≡ keys_of entries
-  left_names [] [] is = refl
-  left_names (entry ∷ entries) (left ∷ rest) is = ap₂ (λ (name : Name) (names : List Name). name ∷ names) is.0 (left_names entries rest is.2)
-  left_names _ _ is = absurd is
-
-  left_numbers : (entries rest : List (Name × Contract)) → AreResiduals d fixings day entries rest → AllByRecursion (λ (entry : Name × Contract). HasOnlyNumbers entry.1) rest
+  pub left_numbers : (entries rest : List (Name × Contract)) → AreResiduals d fixings day entries rest → AllByRecursion (λ (entry : Name × Contract). HasOnlyNumbers entry.1) rest
   left_numbers [] [] is = tt
   left_numbers (entry ∷ entries) (left ∷ rest) is = (is.1.numbers, left_numbers entries rest is.2)
   left_numbers _ _ is = absurd is

@@ -8,6 +8,7 @@ use Rattle.term_core.specs.Environments.{Environment, Extends}
 use Rattle.term_core.specs.Instances.{declared_numbers, instance}
 use Rattle.term_core.specs.Residuals.{Carries}
 use Rattle.term_core.specs.Terms.{Contract}
+use Rattle.term_core.specs.WellFormed.{HasOnlyNumbers}
 use Rattle.term_core.proofs.ResidualFacts.{carries_composes}
 use Rattle.term_core.proofs.VerdictFacts.{one_verdict}
 use Rattle.advance_step.specs.Advancing.{IsResidual}
@@ -20,15 +21,23 @@ module _ (d : Declarations) (fixings more : Environment) (day later : ℕ) (firs
   abbrev moved : Declarations
   moved = rest_declarations d day
 
-  carried : (c rest last : Contract) → IsResidual d fixings (pos d.start) (day - d.start) c rest → IsResidual moved more (pos day) (later - day) (instance (declared_numbers moved) rest) last → Carries d c (pos d.start) more (later - d.start) last
-  carried c rest last one two =
-      let own = subst (λ (x : Contract). Carries moved x (pos day) more (later - day) last) (own_instance (declared_numbers moved) rest one.numbers) two.carries in
+  -- what is left of what was left carries it under the first declarations too, on the days from the start
+  pub carried_there : (rest last : Contract) → HasOnlyNumbers rest → IsResidual moved more (pos day) (later - day) (instance (declared_numbers moved) rest) last
+      → Carries d rest (pos d.start +ℤ pos (day - d.start)) more (later - day) last
+  carried_there rest last plain two =
+      let own = subst (λ (x : Contract). Carries moved x (pos day) more (later - day) last) (own_instance (declared_numbers moved) rest plain) two.carries in
       let same = (one_verdict moved d (record { amounts = refl; labels = refl }) (λ a. refl)).carried rest (pos day) more (later - day) last own in
       let at : pos day ≡ pos d.start +ℤ pos (day - d.start) = omega (arith, ints) in
-      let there = subst (λ (f : ℤ). Carries d rest f more (later - day) last) at same in
+      subst (λ (f : ℤ). Carries d rest f more (later - day) last) at same
+
+  pub all_days : (day - d.start) + (later - day) ≡ later - d.start
+  all_days = omega arith
+
+  carried : (c rest last : Contract) → IsResidual d fixings (pos d.start) (day - d.start) c rest → IsResidual moved more (pos day) (later - day) (instance (declared_numbers moved) rest) last → Carries d c (pos d.start) more (later - d.start) last
+  carried c rest last one two =
+      let there = carried_there rest last one.numbers two in
       let whole = carries_composes d c rest last (pos d.start) fixings more (day - d.start) (later - day) one.carries there extends in
-      let days : (day - d.start) + (later - day) ≡ later - d.start = omega arith in
-      subst (λ (n : ℕ). Carries d c (pos d.start) more n last) days whole
+      subst (λ (n : ℕ). Carries d c (pos d.start) more n last) all_days whole
 
   all_carried : (entries rest last : List (Name × Contract)) → AreResiduals d fixings day entries rest → AreResiduals moved more later (used_of None moved rest) last → AreCarried d more (later - d.start) entries last
   all_carried [] [] [] h k = tt

@@ -3,16 +3,21 @@ use Rattle.std.proofs.Common.{◌≡◌, ◌∙◌, ◌<◌, inl, inr, ℕ, ℤ,
 use Rattle.std.specs.Prelude.{Some}
 use Rattle.std.specs.Map.{keys_of}
 use Rattle.std.proofs.lemmas.List.{length-map}
-use Rattle.term_core.specs.Acceptance.{IsAccepted}
 use Rattle.term_core.specs.Books.{Book}
+use Rattle.term_core.specs.Declarations.{Declarations}
 use Rattle.term_core.specs.Environments.{Environment, IsAdmitted}
-use Rattle.term_core.specs.Instances.{IsSetting, instance}
+use Rattle.term_core.specs.Factors.{CurveRow, IsCurve}
+use Rattle.term_core.specs.Flows.{Flow}
+use Rattle.term_core.specs.Instances.{IsSetting}
 use Rattle.term_core.specs.Terms.{Contract}
 use Rattle.contract_parse.specs.Texts.{Text}
 use Rattle.payoff_lang.specs.CodeBooks.{CodeBook}
 use Rattle.payoff_lang.specs.CodeFiles.{CodeText}
-use Rattle.payoff_lang.specs.Meaning.{CodeMeans, MayBeAsked, Remaining}
-use Rattle.command_words.specs.Commands.{Advance, AdvanceAsked, Check, Payoff, PayoffAsked, Request, Value, ValueAsked}
+use Rattle.payoff_lang.specs.Meaning.{CodeMeans, Counting, MayBeAsked, Remaining}
+use Rattle.command_words.specs.Commands.{Advance, AdvanceAsked, Check, Novate, Payoff, PayoffAsked, Request, Scenarios, ScenariosAsked, Value, ValueAsked}
+use Rattle.scenario_set.specs.Totals.{AreTotals}
+use Rattle.scenario_set.specs.declared.outcomes.Totals.{Totals}
+use Rattle.scenario_set.proofs.LawFacts.{scenarios_are_worth}
 use Rattle.command_answers.specs.AdvanceCourse.{advance_course}
 use Rattle.command_answers.specs.AdvancePromise.{IsAdvanceText}
 use Rattle.command_answers.specs.CheckCourse.{check_course}
@@ -20,21 +25,25 @@ use Rattle.command_answers.specs.Course.{Answers, Tells, stopped, told}
 use Rattle.command_answers.specs.Inputs.{file_at}
 use Rattle.command_answers.specs.PayoffCourse.{payoff_course}
 use Rattle.command_answers.specs.PayoffPromise.{IsPayoffText}
+use Rattle.command_answers.specs.ScenariosCourse.{scenarios_course}
+use Rattle.command_answers.specs.ScenariosPromise.{AsksInScenarios, IsScenariosText, inquiry_in}
 use Rattle.command_answers.specs.Statuses.{status_of}
 use Rattle.command_answers.specs.ValueCourse.{value_course}
-use Rattle.command_answers.specs.ValuePromise.{CanValue, IsValue, IsValueText, question, setting_by}
+use Rattle.command_answers.specs.ValuePromise.{AreBetween, CanValue, IsValue, IsValueText, WordsFitCode, question, setting_by}
 use Rattle.command_answers.specs.declared.status.Status.{Status}
 use Rattle.command_answers.specs.declared.status.Status.TheVariants as status
+use Rattle.command_answers.proofs.ScenarioFacts.{code_stays}
 use Rattle.command_answers.proofs.SoundCourses.{OfCommand}
 use Rattle.command_answers.proofs.ValueParts.{index_within}
-use Rattle.contract_cli.specs.Headline.{HasAdvanced, HasChecked, HasCompiled, HasValued, Headline, IsPresentValue, Judged}
+use Rattle.contract_cli.specs.Headline.{AreWorthIn, HasAdvanced, HasChecked, HasCompiled, HasTotalled, HasValued, Headline, IsAcceptedAtNumbers, IsPresentValue, Judged}
 use Rattle.contract_cli.specs.RunLaws.{HasTold}
 use Rattle.contract_cli.specs.RunPromise.{Meets, Names}
 use Rattle.contract_cli.specs.Seen.{Edge, WritesAll}
 use Rattle.contract_cli.proofs.AdvanceTexts.{advance_texts_are_texts}
 use Rattle.contract_cli.proofs.LawFacts.{answered_by, done_has_told}
+use Rattle.contract_cli.proofs.NovateTexts.{has_novated}
 use Rattle.contract_cli.proofs.PayoffTexts.{payoff_texts_mean}
-use Rattle.contract_cli.proofs.SettingFacts.{setting_small}
+use Rattle.contract_cli.proofs.SettingFacts.{scenario_setting_small, setting_small}
 
 -- ---- `check`, which a bad text alone stops
 
@@ -99,31 +108,63 @@ value_told asked inputs s text (b, spelled, (flow, names, (day, is_day, (_, acce
   },
 )
 
--- ---- `value`: the number is the present value of what the code means
+totals_told : (asked : ScenariosAsked) (inputs : List (List ℕ)) (s : Status) (text : List ℕ) → Tells (scenarios_course asked inputs) s text
+    → (b : CodeBook) × CodeText (file_at inputs 0) b × IsScenariosText b asked (file_at inputs 1) (file_at inputs 2) text
+totals_told asked inputs s text (b, spelled, (flow, names, (day, is_day, (_, accepted, (set, holds, (factors, are_factors, (_, few, (_, fixed, (_, lines))))))))) = (
+  b,
+  spelled,
+  record {
+    can = record {
+      asks = record {
+        day = day;
+        fit = record { known = names.known; is_day = is_day };
+        flow = flow;
+        between = names.between;
+        accepted = accepted;
+        set = set;
+        holds = holds;
+        curve = factors;
+        is_curve = are_factors;
+      };
+      few = few;
+      fixed = fixed;
+    };
+    told = lines;
+  },
+)
 
-module _ (b : CodeBook) (asked : ValueAsked) (inputs : List (List ℕ)) (can : CanValue b asked (file_at inputs 1) (file_at inputs 2)) (small : IsSetting (setting_by b.declarations asked.settings)) where
-  may_be_asked : (c : Contract) (env : Environment) → IsAccepted b.declarations (instance (setting_by b.declarations asked.settings) c) → IsAdmitted b.declarations env
-      → MayBeAsked b.declarations c (setting_by b.declarations asked.settings) env (question can.day can.curve can.flow)
-  may_be_asked c env accepted admitted = record {
-    setting = length-map b.declarations.templates _;
-    small = small;
-    accepted = accepted;
-    admitted = admitted;
-    curve = can.is_curve.curve;
-    begun = can.fit.is_day.1;
-    near = can.fit.is_day.2;
-    payer = index_within b.declarations.parties asked.between.from can.flow.from can.between.from;
-    receiver = index_within b.declarations.parties asked.between.to can.flow.to can.between.to;
-    asset =
-        subst (λ (n : ℕ). can.flow.asset < n) (length-map b.declarations.assets _)
-        (index_within (keys_of b.declarations.assets) asked.between.asset can.flow.asset can.between.asset);
-  }
+-- ---- `value` and `scenarios`: the numbers are the present values of what the code means
 
-  present : (amount : ℤ) → IsValue b (setting_by b.declarations asked.settings) can.fixings (question can.day can.curve can.flow) amount
+-- a contract that is accepted at the numbers that are set may be asked for what the words ask for
+may_be_asked : (d : Declarations) (asked : ValueAsked) (day : ℤ) (curve : List CurveRow) (flow : Flow) → WordsFitCode d asked day → AreBetween d asked.between flow → IsCurve curve → IsSetting (setting_by d asked.settings)
+    → (c : Contract) (env : Environment) → IsAcceptedAtNumbers asked d c → IsAdmitted d env → MayBeAsked d c (setting_by d asked.settings) env (question day curve flow)
+may_be_asked d asked day curve flow fit between is_curve small c env accepted admitted = record {
+  setting = length-map d.templates _;
+  small = small;
+  accepted = accepted;
+  admitted = admitted;
+  curve = is_curve;
+  begun = fit.is_day.1;
+  near = fit.is_day.2;
+  payer = index_within d.parties asked.between.from flow.from between.from;
+  receiver = index_within d.parties asked.between.to flow.to between.to;
+  asset =
+      subst (λ (n : ℕ). flow.asset < n) (length-map d.assets _)
+      (index_within (keys_of d.assets) asked.between.asset flow.asset between.asset);
+}
+
+module _ (b : CodeBook) (asked : ValueAsked) (inputs : List (List ℕ)) (small : IsSetting (setting_by b.declarations asked.settings)) where
+  present : (can : CanValue b asked (file_at inputs 1) (file_at inputs 2)) (amount : ℤ) → IsValue b (setting_by b.declarations asked.settings) can.fixings (question can.day can.curve can.flow) amount
       → (c : Contract) → CodeMeans b.declarations b.code c Remaining → IsPresentValue b asked inputs can b.declarations amount c
-  present amount is c means accepted env admitted extends =
+  present can amount is c means accepted env admitted extends =
       sym (is env extends)
-      ∙ means.values (setting_by b.declarations asked.settings) env (question can.day can.curve can.flow) (may_be_asked c env accepted admitted)
+      ∙ means.values (setting_by b.declarations asked.settings) env (question can.day can.curve can.flow) (may_be_asked b.declarations asked can.day can.curve can.flow can.fit can.between can.is_curve.curve small c env accepted admitted)
+
+  worth_in_each : (asks : AsksInScenarios b asked (file_at inputs 1) (file_at inputs 2)) (t : Totals) → AreTotals (inquiry_in asks) asks.set t
+      → (c : Contract) (v : Counting) → CodeMeans b.declarations b.code c v → AreWorthIn b.declarations asked (inquiry_in asks).asked asks.set t.values.items c v
+  worth_in_each asks t totals c v means accepted i s stands env admitted extends =
+      scenarios_are_worth code_stays b (setting_by b.declarations asked.settings) asks.curve asks.day asks.flow.from asks.flow.to asks.flow.asset asks.set t c v totals means i s stands env extends
+      (may_be_asked b.declarations asked asks.day asks.curve asks.flow asks.fit asks.between asks.is_curve.curve small c env accepted admitted)
 
 -- ---- the whole
 
@@ -161,8 +202,24 @@ module _ (words : List (List ℕ)) (edge : Edge) where
         spelled = a.1;
         can = a.2.can;
         amount = a.2.worth.amount;
-        worth = present a.0 asked h.inputs a.2.can (setting_small words asked (file_at h.inputs 0) a.0 named a.1) a.2.worth.amount a.2.worth.is_value;
+        worth = present a.0 asked h.inputs (setting_small words asked (file_at h.inputs 0) a.0 named a.1) a.2.can a.2.worth.amount a.2.worth.is_value;
         written = subst (λ (t : List ℕ). WritesAll edge.sink t) a.2.worth.line h.line;
+      }
+
+  has_totalled : (asked : ScenariosAsked) → Names words (Scenarios asked) → HasTold words edge (Scenarios asked) status.Done → HasTotalled edge asked
+  has_totalled asked named h =
+      let a = totals_told asked h.inputs status.Done h.text h.told in
+      let small = scenario_setting_small words asked (file_at h.inputs 0) a.0 named a.1 in
+      record {
+        book = a.0;
+        inputs = h.inputs;
+        read = h.read;
+        spelled = a.1;
+        can = a.2.can;
+        totals = a.2.told.totals;
+        are_totals = a.2.told.are_totals;
+        worth = worth_in_each a.0 asked.value h.inputs small a.2.can.asks a.2.told.totals a.2.told.are_totals;
+        written = subst (λ (t : List ℕ). WritesAll edge.sink t) a.2.told.lines h.line;
       }
 
   done : (request : Request) → Names words request → (s : Status) → s ≡ status.Done → Meets words edge s → HasTold words edge request status.Done
@@ -172,6 +229,8 @@ module _ (words : List (List ℕ)) (edge : Edge) where
   headline s m = record {
     checks = λ file named judged. has_checked words edge s file named judged m;
     advances = λ asked named is. has_advanced asked (done (Advance asked) named s is m);
+    novates = λ asked named is. has_novated words edge asked (done (Novate asked) named s is m);
     compiles = λ asked named is. has_compiled asked (done (Payoff asked) named s is m);
     values = λ asked named is. has_valued asked named (done (Value asked) named s is m);
+    totals = λ asked named is. has_totalled asked named (done (Scenarios asked) named s is m);
   }

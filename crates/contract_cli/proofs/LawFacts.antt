@@ -261,6 +261,8 @@ fault_not_done (fault.Day word) e = let no : status.DayRange ≡ status.Done = e
 fault_not_done (fault.Refused name rule node) e = let no : status.Refused ≡ status.Done = e in cc
 fault_not_done (fault.Row place row) e = let no : status.BadRow ≡ status.Done = e in cc
 fault_not_done (fault.Missing label day) e = let no : status.Missing ≡ status.Done = e in cc
+fault_not_done (fault.Scenarios count) e = let no : status.TooMany ≡ status.Done = e in cc
+fault_not_done (fault.MissingIn label day scenario) e = let no : status.Missing ≡ status.Done = e in cc
 
 done_told : (request : Request) (inputs : List (List ℕ)) (text : List ℕ) → Answers (course_of request inputs) status.Done text
     → Tells (course_of request inputs) status.Done text

@@ -11,3 +11,6 @@ pub mod HeadlineFacts
 pub mod MigrateFacts
 pub mod TwoRunFacts
 pub mod ExpandTexts
+pub mod NettingTexts
+pub mod NovateTexts
+pub mod NovateRuns

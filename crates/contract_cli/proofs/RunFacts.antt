@@ -4,7 +4,7 @@ use Rattle.std.specs.Prelude.{Option, Some, None}
 use Rattle.std.specs.List.{All}
 use Rattle.std.proofs.lemmas.List.Elements.{All-cons, All-nil}
 use Rattle.report.specs.declared.fault_lines.Fault.{Fault}
-use Rattle.command_words.specs.Commands.{Advance, Check, Expand, Flows, Migrate, Payoff, Request, Sample, Value, file_if_named, files_of}
+use Rattle.command_words.specs.Commands.{Advance, Check, Expand, Flows, Migrate, Novate, Payoff, Positions, Request, Sample, Scenarios, Settle, Value, file_if_named, files_of}
 use Rattle.command_answers.specs.Course.{Course, Stops, Tells}
 use Rattle.command_answers.specs.Courses.{course_of}
 use Rattle.command_answers.specs.Inputs.{AreShort}
@@ -82,3 +82,7 @@ few_files (Value value) = omega arith
 few_files (Migrate portfolio) = omega arith
 few_files (Expand plans) = omega arith
 few_files (Sample contracts) = omega arith
+few_files (Positions netting) = let few = few_if_named netting.fixings in omega (arith, few)
+few_files (Settle netting) = let few = few_if_named netting.fixings in omega (arith, few)
+few_files (Novate novate) = omega arith
+few_files (Scenarios scenarios) = omega arith

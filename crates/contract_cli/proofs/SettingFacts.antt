@@ -1,4 +1,5 @@
--- The numbers that `value` asks code at are a setting: what words set is at most 100,000, and so is each template of a text.
+-- The numbers that `value` and `scenarios` ask code at are a setting: what words set is at most 100,000, and so is each template
+-- of a text.
 use Rattle.std.proofs.Common.{◌≡◌, ◌≤◌, ℕ, zero, suc, Bool, true, false, List, [], ◌∷◌, ◌++◌, Option, Some, None, codes, if◌then◌else◌, nat_le, leb-true, map, refl, subst, sym, arith}
 use Rattle.std.specs.Prelude.{IfSome, option_and_then, option_map, unwrap_or}
 use Rattle.std.specs.List.{AllByRecursion}
@@ -6,8 +7,9 @@ use Rattle.std.specs.Map.{keys_of, lookup}
 use Rattle.std.specs.Str.{bytes_eq}
 use Rattle.std.proofs.lemmas.List.Elements.{All-nil, All-push, recursion_from_All}
 use Rattle.std.proofs.lemmas.Map.Entries.{All-lookup}
-use Rattle.clap.specs.Words.{App, Row, Text, all_of}
+use Rattle.clap.specs.Words.{Row, Text, all_of, first_of}
 use Rattle.decimal.specs.Reading.{digits_of, number_up_to, up_to}
+use Rattle.decimal.specs.declared.rounding.Mode.{Mode}
 use Rattle.term_core.specs.Instances.{IsSetting}
 use Rattle.contract_parse.specs.Judgements.{integer_at}
 use Rattle.contract_parse.specs.Names.{is_declared}
@@ -19,10 +21,10 @@ use Rattle.contract_parse.specs.Words.{Bytes}
 use Rattle.contract_parse.proofs.TextNumbers.{by_value, integer_within}
 use Rattle.payoff_lang.specs.CodeBooks.{CodeBook}
 use Rattle.payoff_lang.specs.CodeFiles.{CodeText}
-use Rattle.command_words.specs.Arguments.{Reading, asked_of, read_rows, taken}
-use Rattle.command_words.specs.Commands.{AreSettings, Between, Check, Expand, Migrate, Request, Sample, Value, ValueAsked, ValueFiles}
-use Rattle.command_words.specs.Words.{advance_app, advance_from, advance_with, check_app, check_from, expand_app, expand_from, expand_of, flows_app, flows_from, flows_with, migrate_app, migrate_from, migrate_of, payoff_app, payoff_from, payoff_with}
-use Rattle.command_words.specs.Words.{one_more_setting, parted, sample_app, sample_from, sample_of, setting_of_parts, setting_of_word, settings_after, settings_of, size_if_given, value_app, value_of, value_of_rows, value_with}
+use Rattle.command_words.specs.Arguments.{Reading, read_rows, taken}
+use Rattle.command_words.specs.Commands.{Advance, AreSettings, Between, Check, Expand, Flows, Migrate, Novate, Payoff, Positions, Request, Sample, Scenarios, ScenariosAsked, Settle, Value, ValueAsked, ValueFiles}
+use Rattle.command_words.specs.Words.{advance_of, check_app, check_from, expand_app, expand_from, flows_app, flows_from, flows_with, migrate_app, migrate_from, netting_of, novate_of, payoff_app, payoff_from, payoff_with}
+use Rattle.command_words.specs.Words.{one_more_setting, other_request_of, parted, read_all_rows, request_of, sample_app, sample_from, scenarios_app, scenarios_from, scenarios_with, setting_of_parts, setting_of_word, settings_after, settings_of, size_if_given, value_app, value_from, value_with}
 use Rattle.command_answers.specs.ValuePromise.{number_set, setting_by}
 use Rattle.command_answers.proofs.StageFacts.{some_same}
 use Rattle.contract_cli.specs.RunPromise.{Names}
@@ -61,7 +63,7 @@ word_small word setting e =
     let number = map_some pair (number_up_to 100_000 text) setting (if_holds (is_name_text name) (option_map pair (number_up_to 100_000 text)) setting parts.1) in
     subst (λ (s : Text × ℕ). s.1 ≤ 100_000) number.2 (number_small 100_000 text number.0 number.1)
 
--- ---- the words of `value`
+-- ---- the numbers that words set
 
 abbrev AreSmall : Option (List (Text × ℕ)) → Type 0
 AreSmall None = Unit {0}
@@ -89,116 +91,112 @@ small_of : (words : Option (List Text)) → AreSmall (settings_of words)
 small_of None = no_settings
 small_of (Some words) = small_after (Some []) words no_settings
 
-with_small : (files : Option ValueFiles) (at : Option Text) (between : Option Between) (settings : Option (List (Text × ℕ))) (asked : ValueAsked)
-    → value_with files at between settings ≡ Some asked → AreSmall settings → AreSettings asked.settings
-with_small None at between settings asked e small = absurd cc
-with_small (Some f) None between settings asked e small = absurd cc
-with_small (Some f) (Some a) None settings asked e small = absurd cc
-with_small (Some f) (Some a) (Some b) None asked e small = absurd cc
-with_small (Some f) (Some a) (Some b) (Some settings) asked e small =
-    subst (λ (x : ValueAsked). AreSettings x.settings) (some_same (record { files = f; at = a; between = b; settings = settings }) asked e) small
+-- ---- what is asked of `value`, alone and in scenarios
 
-rows_small : (rows : Option (List Row)) (asked : ValueAsked) → value_of_rows rows ≡ Some asked → AreSettings asked.settings
-rows_small None asked e = absurd cc
-rows_small (Some rows) asked e = with_small _ _ _ _ asked e (small_of (all_of (codes "settings") rows))
+abbrev ValueIsSmall : Option ValueAsked → Type 0
+ValueIsSmall None = Unit {0}
+ValueIsSmall (Some asked) = AreSettings asked.settings
 
--- ---- the words of no other command ask for a value
+with_small : (files : Option ValueFiles) (at : Option Text) (between : Option Between) (settings : Option (List (Text × ℕ)))
+    → AreSmall settings → ValueIsSmall (value_with files at between settings)
+with_small None at between settings small = tt
+with_small (Some f) None between settings small = tt
+with_small (Some f) (Some a) None settings small = tt
+with_small (Some f) (Some a) (Some b) None small = tt
+with_small (Some f) (Some a) (Some b) (Some settings) small = small
 
-module _ (asked : ValueAsked) where
-  abbrev AsksNone : Option Request → Type 0
-  AsksNone o = o ≡ Some (Value asked) → ⊥
+value_small : (word : Text → Option Text) (words : Text → Option (List Text)) → ValueIsSmall (value_from word words)
+value_small word words = with_small _ _ _ _ (small_of (words (codes "settings")))
 
-  rows_ask_none : (reading : Reading) → ((word : Text → Option Text) → AsksNone (reading word)) → (rows : Option (List Row)) → AsksNone (read_rows reading rows)
-  rows_ask_none reading never None e = absurd cc
-  rows_ask_none reading never (Some rows) e = never _ e
+-- ---- what is requested
 
-  asks_none : (app : App) (reading : Reading) → ((word : Text → Option Text) → AsksNone (reading word)) → (words : List Text) → AsksNone (asked_of app reading words)
-  asks_none app reading never words e = rows_ask_none reading never (taken app words) e
+-- the numbers that a request sets are at most 100,000
+abbrev IsSmall : Request → Type 0
+IsSmall (Value asked) = AreSettings asked.settings
+IsSmall (Scenarios asked) = AreSettings asked.value.settings
+IsSmall (Check portfolio) = Unit {0}
+IsSmall (Flows asked) = Unit {0}
+IsSmall (Advance asked) = Unit {0}
+IsSmall (Payoff asked) = Unit {0}
+IsSmall (Migrate portfolio) = Unit {0}
+IsSmall (Expand plans) = Unit {0}
+IsSmall (Sample contracts) = Unit {0}
+IsSmall (Positions asked) = Unit {0}
+IsSmall (Settle asked) = Unit {0}
+IsSmall (Novate asked) = Unit {0}
 
-  no_check : (word : Text → Option Text) → AsksNone (check_from word)
-  no_check word e =
-      let file = map_some (λ (name : Text). Check name) (word (codes "portfolio")) (Value asked) e in
-      let never : Check file.0 ≡ Value asked = file.2 in
-      absurd cc
+abbrev AsksSmall : Option Request → Type 0
+AsksSmall None = Unit {0}
+AsksSmall (Some request) = IsSmall request
 
-  no_migrate : (word : Text → Option Text) → AsksNone (migrate_from word)
-  no_migrate word e =
-      let file = map_some (λ (name : Text). Migrate name) (word (codes "portfolio")) (Value asked) e in
-      let never : Migrate file.0 ≡ Value asked = file.2 in
-      absurd cc
+map_asks : {A : Type 0} (f : A → Request) → ((a : A) → IsSmall (f a)) → (o : Option A) → AsksSmall (option_map f o)
+map_asks f all None = tt
+map_asks f all (Some a) = all a
 
-  no_expand : (word : Text → Option Text) → AsksNone (expand_from word)
-  no_expand word e =
-      let file = map_some (λ (name : Text). Expand name) (word (codes "plans")) (Value asked) e in
-      let never : Expand file.0 ≡ Value asked = file.2 in
-      absurd cc
+rows_ask : (reading : Reading Request) → ((word : Text → Option Text) → AsksSmall (reading word)) → (rows : Option (List Row)) → AsksSmall (read_rows reading rows)
+rows_ask reading all None = tt
+rows_ask reading all (Some rows) = all (λ name. first_of name rows)
 
-  no_sample : (word : Text → Option Text) → AsksNone (sample_from word)
-  no_sample word e =
-      let size = map_some (λ (n : ℕ). Sample n) (size_if_given (word (codes "number"))) (Value asked) e in
-      let never : Sample size.0 ≡ Value asked = size.2 in
-      absurd cc
+flows_ask : (file fixings : Option Text) (until contract : Option (Option Text)) (net : Bool) → AsksSmall (flows_with file fixings until contract net)
+flows_ask None fixings until contract net = tt
+flows_ask (Some file) fixings None contract net = tt
+flows_ask (Some file) fixings (Some until) None net = tt
+flows_ask (Some file) fixings (Some until) (Some contract) net = tt
 
-  no_flows_with : (file fixings : Option Text) (until contract : Option (Option Text)) (net : Bool) → AsksNone (flows_with file fixings until contract net)
-  no_flows_with None fixings until contract net e = absurd cc
-  no_flows_with (Some file) fixings None contract net e = absurd cc
-  no_flows_with (Some file) fixings (Some until) None net e = absurd cc
-  no_flows_with (Some file) fixings (Some until) (Some contract) net e = absurd cc
+payoff_asks : (file contract : Option Text) (plain : Bool) → AsksSmall (payoff_with file contract plain)
+payoff_asks None contract plain = tt
+payoff_asks (Some file) None plain = tt
+payoff_asks (Some file) (Some contract) plain = tt
 
-  no_flows : (word : Text → Option Text) → AsksNone (flows_from word)
-  no_flows word e = no_flows_with _ _ _ _ _ e
+value_asks : (asked : Option ValueAsked) → ValueIsSmall asked → AsksSmall (option_map (λ value. Value value) asked)
+value_asks None small = tt
+value_asks (Some asked) small = small
 
-  no_advance_with : (file fixings to : Option Text) → AsksNone (advance_with file fixings to)
-  no_advance_with None fixings to e = absurd cc
-  no_advance_with (Some file) None to e = absurd cc
-  no_advance_with (Some file) (Some fixings) None e = absurd cc
-  no_advance_with (Some file) (Some fixings) (Some to) e = absurd cc
+value_rows_ask : (rows : Option (List Row)) → AsksSmall (option_map (λ value. Value value) (read_all_rows value_from rows))
+value_rows_ask None = tt
+value_rows_ask (Some rows) = value_asks _ (value_small (λ name. first_of name rows) (λ name. all_of name rows))
 
-  no_advance : (word : Text → Option Text) → AsksNone (advance_from word)
-  no_advance word e = no_advance_with _ _ _ e
+scenarios_ask : (value : Option ValueAsked) (mean : Option Mode) → ValueIsSmall value → AsksSmall (option_map (λ scenarios. Scenarios scenarios) (scenarios_with value mean))
+scenarios_ask None mean small = tt
+scenarios_ask (Some value) None small = tt
+scenarios_ask (Some value) (Some mean) small = small
 
-  no_payoff_with : (file contract : Option Text) (plain : Bool) → AsksNone (payoff_with file contract plain)
-  no_payoff_with None contract plain e = absurd cc
-  no_payoff_with (Some file) None plain e = absurd cc
-  no_payoff_with (Some file) (Some contract) plain e = absurd cc
+scenario_rows_ask : (rows : Option (List Row)) → AsksSmall (option_map (λ scenarios. Scenarios scenarios) (read_all_rows scenarios_from rows))
+scenario_rows_ask None = tt
+scenario_rows_ask (Some rows) = scenarios_ask _ _ (value_small (λ name. first_of name rows) (λ name. all_of name rows))
 
-  no_payoff : (word : Text → Option Text) → AsksNone (payoff_from word)
-  no_payoff word e = no_payoff_with _ _ _ e
+-- what follows the test of a first word
+either : (is : Bool) (one other : Option Request) → AsksSmall one → AsksSmall other → AsksSmall (if is then one else other)
+either true one other small others = small
+either false one other small others = others
 
-  -- what follows the test of a first word
-  other_word : (is : Bool) (one other : Option Request) → AsksNone one → (if is then one else other) ≡ Some (Value asked) → other ≡ Some (Value asked)
-  other_word true one other never e = absurd (never e)
-  other_word false one other never e = e
+module _ (name : Text) (rest : List Text) where
+  other_asks : AsksSmall (other_request_of name rest)
+  other_asks =
+      either (bytes_eq name (codes "value")) _ _ (value_rows_ask (taken value_app rest))
+      (either (bytes_eq name (codes "scenarios")) _ _ (scenario_rows_ask (taken scenarios_app rest))
+      (either (bytes_eq name (codes "expand")) _ _ (rows_ask expand_from (λ word. map_asks (λ file. Expand file) (λ file. tt) (word (codes "plans"))) (taken expand_app rest))
+      (either (bytes_eq name (codes "sample")) _ None
+      (rows_ask sample_from (λ word. map_asks (λ size. Sample size) (λ size. tt) (size_if_given (word (codes "number")))) (taken sample_app rest)) tt)))
 
-  neither : (is : Bool) (one other : Option Request) → AsksNone one → AsksNone other → AsksNone (if is then one else other)
-  neither true one other never nor e = never e
-  neither false one other never nor e = nor e
+  command_asks : AsksSmall (request_of (name ∷ rest))
+  command_asks =
+      either (bytes_eq name (codes "check")) _ _ (rows_ask check_from (λ word. map_asks (λ file. Check file) (λ file. tt) (word (codes "portfolio"))) (taken check_app rest))
+      (either (bytes_eq name (codes "flows")) _ _ (rows_ask flows_from (λ word. flows_ask _ _ _ _ _) (taken flows_app rest))
+      (either (bytes_eq name (codes "payoff")) _ _ (rows_ask payoff_from (λ word. payoff_asks _ _ _) (taken payoff_app rest))
+      (either (bytes_eq name (codes "migrate")) _ _ (rows_ask migrate_from (λ word. map_asks (λ file. Migrate file) (λ file. tt) (word (codes "portfolio"))) (taken migrate_app rest))
+      (either (bytes_eq name (codes "positions")) _ _ (map_asks (λ asked. Positions asked) (λ asked. tt) (netting_of (codes "positions") rest))
+      (either (bytes_eq name (codes "settle")) _ _ (map_asks (λ asked. Settle asked) (λ asked. tt) (netting_of (codes "settle") rest))
+      (either (bytes_eq name (codes "advance")) _ _ (map_asks (λ asked. Advance asked) (λ asked. tt) (advance_of rest))
+      (either (bytes_eq name (codes "novate")) _ _ (map_asks (λ asked. Novate asked) (λ asked. tt) (novate_of rest)) other_asks)))))))
 
-  value_word : (is : Bool) (one : Option ValueAsked) (other : Option Request) → AsksNone other
-      → (if is then option_map (λ value. Value value) one else other) ≡ Some (Value asked) → one ≡ Some asked
-  value_word true one other never e =
-      let value = map_some (λ (v : ValueAsked). Value v) one (Value asked) e in
-      let found : one ≡ Some value.0 = value.1 in
-      let same : Value value.0 ≡ Value asked = value.2 in
-      cc
-  value_word false one other never e = absurd (never e)
+words_ask : (words : List Text) → AsksSmall (request_of words)
+words_ask [] = tt
+words_ask (name ∷ rest) = command_asks name rest
 
-  no_other : (name : Text) (rest : List Text)
-      → AsksNone (if bytes_eq name (codes "migrate") then migrate_of rest else if bytes_eq name (codes "expand") then expand_of rest else if bytes_eq name (codes "sample") then sample_of rest else None)
-  no_other name rest =
-      neither (bytes_eq name (codes "migrate")) _ _ (asks_none migrate_app migrate_from no_migrate rest)
-      (neither (bytes_eq name (codes "expand")) _ _ (asks_none expand_app expand_from no_expand rest)
-      (neither (bytes_eq name (codes "sample")) _ _ (asks_none sample_app sample_from no_sample rest) (λ (e : None ≡ Some (Value asked)). cc)))
-
-  -- numbers that words set are at most 100,000
-  words_small : (words : List Text) → Names words (Value asked) → AreSettings asked.settings
-  words_small [] named = absurd cc
-  words_small (name ∷ rest) named =
-      let one = other_word (bytes_eq name (codes "check")) _ _ (asks_none check_app check_from no_check rest) named in
-      let two = other_word (bytes_eq name (codes "flows")) _ _ (asks_none flows_app flows_from no_flows rest) one in
-      let three = other_word (bytes_eq name (codes "advance")) _ _ (asks_none advance_app advance_from no_advance rest) two in
-      let four = other_word (bytes_eq name (codes "payoff")) _ _ (asks_none payoff_app payoff_from no_payoff rest) three in
-      rows_small (taken value_app rest) asked (value_word (bytes_eq name (codes "value")) (value_of rest) _ (no_other name rest) four)
+-- what words request sets numbers of at most 100,000
+words_small : (words : List Text) (request : Request) → Names words request → IsSmall request
+words_small words request named = subst AsksSmall named (words_ask words)
 
 -- ---- the templates of a text
 
@@ -237,8 +235,15 @@ at_small [] small t = omega arith
 at_small (x ∷ xs) small zero = small.0
 at_small (x ∷ xs) small (suc t) = at_small xs small.1 t
 
+set_by_words : (settings : List (List ℕ × ℕ)) (bytes : List ℕ) (b : CodeBook) → AreSettings settings → CodeText bytes b → IsSetting (setting_by b.declarations settings)
+set_by_words settings bytes b small text =
+    let declared = recursion_from_All (λ (entry : List ℕ × ℕ). entry.1 ≤ 100_000) b.declarations.templates (templates_small bytes b text) in
+    at_small (setting_by b.declarations settings) (set_small settings b.declarations.templates small declared)
+
 pub setting_small : (words : List Text) (asked : ValueAsked) (bytes : List ℕ) (b : CodeBook) → Names words (Value asked) → CodeText bytes b
     → IsSetting (setting_by b.declarations asked.settings)
-setting_small words asked bytes b named text =
-    let declared = recursion_from_All (λ (entry : List ℕ × ℕ). entry.1 ≤ 100_000) b.declarations.templates (templates_small bytes b text) in
-    at_small (setting_by b.declarations asked.settings) (set_small asked.settings b.declarations.templates (words_small asked words named) declared)
+setting_small words asked bytes b named text = set_by_words asked.settings bytes b (words_small words (Value asked) named) text
+
+pub scenario_setting_small : (words : List Text) (asked : ScenariosAsked) (bytes : List ℕ) (b : CodeBook) → Names words (Scenarios asked) → CodeText bytes b
+    → IsSetting (setting_by b.declarations asked.value.settings)
+scenario_setting_small words asked bytes b named text = set_by_words asked.value.settings bytes b (words_small words (Scenarios asked) named) text

@@ -1,9 +1,11 @@
 -- What a run shows, by its status and its command, over the bytes that were read and written. `check` accepts exactly what
 -- the written rules type, and accepted contracts are causal. `advance` writes the flows that are due and contracts whose later
--- flows are those of the first, shifted, in every admitted environment that extends the fixings. `payoff` writes code that
+-- flows are those of the first, shifted, in every admitted environment that extends the fixings; and so does `novate`, but that in
+-- one contract a new party stands in the place of an old one. `payoff` writes code that
 -- means its contract. And `value`, on code that means a contract, writes the discounted sum of what the contract still pays
--- between two parties (Bahr, Berthold and Elsman, ICFP 2015; Annenkov and Elsman, PPDP 2018).
-use Rattle.std.specs.Prelude.{◌≡◌, ◌+◌, ◌⊎◌, ℕ, ℤ, pos, List, Some}
+-- between two parties (Bahr, Berthold and Elsman, ICFP 2015; Annenkov and Elsman, PPDP 2018); `scenarios` writes such a sum for
+-- each scenario of a table, and then their total.
+use Rattle.std.specs.Prelude.{◌≡◌, ◌+◌, ◌⊎◌, ℕ, ℤ, pos, List, Some, slice_get}
 use Rattle.term_core.specs.Acceptance.{IsAccepted}
 use Rattle.term_core.specs.Books.{Book}
 use Rattle.term_core.specs.Declarations.{Declarations}
@@ -14,17 +16,24 @@ use Rattle.contract_parse.specs.Texts.{Text}
 use Rattle.payoff_lang.specs.CodeBooks.{CodeBook}
 use Rattle.payoff_lang.specs.CodeFiles.{CodeText}
 use Rattle.payoff_lang.specs.CodeValues.{Asked as Question}
-use Rattle.payoff_lang.specs.Meaning.{CodeMeans, Remaining, counting}
+use Rattle.payoff_lang.specs.Meaning.{CodeMeans, Counting, Remaining, counting, of_past}
 use Rattle.payoff_lang.specs.PresentValues.{present_value}
+use Rattle.scenario_set.specs.Scenarios.{NamedMap}
+use Rattle.scenario_set.specs.TotalLines.{total_text}
+use Rattle.scenario_set.specs.Totals.{AreTotals, value_at}
+use Rattle.scenario_set.specs.declared.outcomes.Totals.{Totals}
 use Rattle.report.specs.ValueLines.{value_text}
-use Rattle.command_words.specs.Commands.{Advance, AdvanceAsked, Check, Payoff, PayoffAsked, Request, Value, ValueAsked, files_of}
+use Rattle.command_words.specs.Commands.{Advance, AdvanceAsked, Check, Novate, NovateAsked, Payoff, PayoffAsked, Request, Scenarios, ScenariosAsked, Value, ValueAsked, files_of}
 use Rattle.command_answers.specs.AdvancePromise.{IsAdvanceText}
 use Rattle.command_answers.specs.CheckPromise.{IsCheckText}
 use Rattle.command_answers.specs.Inputs.{file_at}
+use Rattle.command_answers.specs.NovatePromise.{IsNovateText}
+use Rattle.command_answers.specs.ScenariosPromise.{CanTotal, inquiry_in}
 use Rattle.command_answers.specs.ValuePromise.{CanValue, question, setting_by}
 use Rattle.command_answers.specs.declared.status.Status.{Status}
 use Rattle.command_answers.specs.declared.status.Status.TheVariants as status
 use Rattle.contract_cli.specs.AdvanceLaws.{IsTextOfRest}
+use Rattle.contract_cli.specs.NovateLaws.{IsTextOfNovated}
 use Rattle.contract_cli.specs.PayoffLaws.{IsTextOfCode}
 use Rattle.contract_cli.specs.Reading.{WereRead}
 use Rattle.contract_cli.specs.RunPromise.{Names}
@@ -54,6 +63,17 @@ pub record HasAdvanced (edge : Edge) (asked : AdvanceAsked) : Type 0 where
   pub ran : Ran edge (Advance asked) book inputs text
   pub advanced : IsAdvanceText book asked (Some (file_at inputs 1)) text
   pub rest : IsTextOfRest book asked (Some (file_at inputs 1)) text
+
+-- `novate` has written what is due before the new day, and a text of contracts that are accepted: that of the name pays on each day
+-- to come between two parties what the old one pays then between all that the renaming takes to them, and every other one carries
+-- the old one
+pub record HasNovated (edge : Edge) (asked : NovateAsked) : Type 0 where
+  pub book : Book
+  pub inputs : List (List ℕ)
+  pub text : List ℕ
+  pub ran : Ran edge (Novate asked) book inputs text
+  pub novated : IsNovateText book asked (Some (file_at inputs 1)) text
+  pub rest : IsTextOfNovated book asked (Some (file_at inputs 1)) text
 
 -- `payoff` has written a text of code that means the contract, and is accepted at every setting at which the contract is
 pub record HasCompiled (edge : Edge) (asked : PayoffAsked) : Type 0 where
@@ -102,6 +122,30 @@ pub record HasValued (edge : Edge) (asked : ValueAsked) : Type 0 where
       → IsPresentValue book asked inputs can book.declarations amount c
   pub written : WritesAll edge.sink (value_text amount (book.declarations.amounts + 9))
 
+-- each value is what a contract is worth in its scenario, where the contract is accepted at the numbers that are set: in every
+-- admitted environment that extends the scenario's map, with what is gone by as the code counts it
+abbrev pub AreWorthIn : Declarations → ValueAsked → Question → List NamedMap → List ℤ → Contract → Counting → Type 0
+AreWorthIn d asked asks set values c v =
+    IsAcceptedAtNumbers asked d c
+    → (i : ℕ) (s : NamedMap) → slice_get set i ≡ Some s
+    → (env : Environment) → IsAdmitted d env → Extends s.map env
+    → value_at values i ≡ present_value d (at_numbers asked d c) env (pos d.start) (counting (of_past v) asks)
+
+-- `scenarios` has written for each scenario the present value there of every contract that the code means, and of these values
+-- the total, the mean, the first least and the first greatest
+pub record HasTotalled (edge : Edge) (asked : ScenariosAsked) : Type 0 where
+  pub book : CodeBook
+  pub inputs : List (List ℕ)
+  pub read : WereRead edge.files.contents (files_of (Scenarios asked)) inputs
+  pub spelled : CodeText (file_at inputs 0) book
+  pub can : CanTotal book asked.value (file_at inputs 1) (file_at inputs 2)
+  pub totals : Totals
+  pub are_totals : AreTotals (inquiry_in can.asks) can.asks.set totals
+  pub worth :
+      (c : Contract) (v : Counting) → CodeMeans book.declarations book.code c v
+      → AreWorthIn book.declarations asked.value (inquiry_in can.asks).asked can.asks.set totals.values.items c v
+  pub written : WritesAll edge.sink (total_text can.asks.set totals asked.mean (book.declarations.amounts + 9))
+
 -- the status says that the verdicts were written
 abbrev pub Judged : Status → Type 0
 Judged s = (s ≡ status.Done) ⊎ (s ≡ status.Refused)
@@ -109,5 +153,7 @@ Judged s = (s ≡ status.Done) ⊎ (s ≡ status.Refused)
 pub record Headline (words : List (List ℕ)) (edge : Edge) (s : Status) : Type 0 where
   pub checks : (file : List ℕ) → Names words (Check file) → Judged s → HasChecked edge file s
   pub advances : (asked : AdvanceAsked) → Names words (Advance asked) → s ≡ status.Done → HasAdvanced edge asked
+  pub novates : (asked : NovateAsked) → Names words (Novate asked) → s ≡ status.Done → HasNovated edge asked
   pub compiles : (asked : PayoffAsked) → Names words (Payoff asked) → s ≡ status.Done → HasCompiled edge asked
   pub values : (asked : ValueAsked) → Names words (Value asked) → s ≡ status.Done → HasValued edge asked
+  pub totals : (asked : ScenariosAsked) → Names words (Scenarios asked) → s ≡ status.Done → HasTotalled edge asked

@@ -4,7 +4,10 @@ pub mod RunPromise
 pub mod RunLaws
 pub mod AdvanceLaws
 pub mod PayoffLaws
+pub mod NovateLaws
 pub mod SampleLaws
 pub mod Headline
 pub mod TwoRuns
 pub mod ExpandLaws
+pub mod NettingLaws
+pub mod NovateRuns

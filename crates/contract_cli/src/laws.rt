@@ -1,10 +1,15 @@
 //! Laws of a run's status. Each is the contract of a function that does nothing.
 
-ghost use Rattle.command_answers.specs.AnswerLaws.{AnswersAreOne, DeclaredNamesHavePlaces, DueLinesAreOne, StatusesAreOne, SummariesAreOne};
+ghost use Rattle.command_answers.specs.AnswerLaws.{AnswersAreOne, DeclaredNamesHavePlaces, DueLinesAreOne, DueLinesOfNovateAreOne, StatusesAreOne, SummariesAreOne};
 ghost use Rattle.command_answers.specs.DueOfFlows.{DueOfFlows};
+ghost use Rattle.command_answers.specs.DueOfNetting.{DueOfPositions, DueOfSettlements};
+ghost use Rattle.command_answers.specs.DueOfScenarios.{DueOfScenarios};
 ghost use Rattle.command_answers.specs.DueOfValue.{DueOfValue};
 ghost use Rattle.contract_cli.specs.AdvanceLaws.{AdvanceTextsAreTexts, AdvancesCompose};
 ghost use Rattle.contract_cli.specs.ExpandLaws.{ExpandedPlansAreListed, ExpandedTextsAreAccepted, ExpandedTextsAreTexts};
+ghost use Rattle.contract_cli.specs.NettingLaws.{PrintedPositionsBalance, PrintedSettlementsSettle, SettlementsSettlePositions};
+ghost use Rattle.contract_cli.specs.NovateLaws.{NovateTextsAreTexts};
+ghost use Rattle.contract_cli.specs.NovateRuns.{NovatedTextsAdvance, NovatedTextsAreAccepted, NovatedTextsAreListed};
 ghost use Rattle.contract_cli.specs.PayoffLaws.{PayoffTextsMean};
 ghost use Rattle.contract_cli.specs.RunLaws.{AnswersHaveCauses, DoneHasTold, ReadFaultsHaveCauses, RunIsComplete, StatusesAreExact, StatusesOverFilesAreExact, TooLongComes, TooLongHasACause, UsageIsExact, UsageWritesItsLine, WriteFaultsHaveCauses};
 ghost use Rattle.contract_cli.specs.SampleLaws.{SampleHasThreeEnds};
@@ -52,20 +57,24 @@ pub fn too_long_is_exact()
     ensures comes { TooLongComes }
 {}
 
-/// What the law of statuses says of `flows` and of `value`, status by status: where the cause of a status stands it is due, and
-/// what stops the command has its cause.
+/// What the law of statuses says of `flows`, of `value` and of `scenarios`, status by status: where the cause of a status stands
+/// it is due, and what stops the command has its cause. `positions` and `settle` have the causes that `flows` of all contracts has.
 pub fn causes_are_due()
     ensures flows { DueOfFlows }
     ensures value { DueOfValue }
+    ensures positions { DueOfPositions }
+    ensures settlements { DueOfSettlements }
+    ensures scenarios { DueOfScenarios }
 {}
 
-/// The bytes of the files of any command but `advance` have one answer, a status and a text. Those of `advance` have one status,
-/// one line of a fault and the same due lines; what is left of a contract may be written in more than one way. The sample of a
-/// number of contracts has one summary.
+/// The bytes of the files of any command but `advance` and `novate` have one answer, a status and a text. Those of these two have
+/// one status, one line of a fault and the same due lines; what is left of a contract may be written in more than one way. The sample
+/// of a number of contracts has one summary.
 pub fn answers_are_one()
     ensures files { AnswersAreOne }
     ensures statuses { StatusesAreOne }
     ensures due { DueLinesAreOne }
+    ensures due_of_novate { DueLinesOfNovateAreOne }
     ensures sample { SummariesAreOne }
 {}
 
@@ -79,6 +88,13 @@ pub fn advances_compose()
 /// in which no contract is refused.
 pub fn advance_texts_are_texts()
     ensures { AdvanceTextsAreTexts }
+{}
+
+/// What `novate` prints of the portfolio of a text is itself a text: that of what is left of the portfolio on the new day, with the
+/// new party in the named contract. No contract of it is refused. The named contract pays between two parties what the first one pays
+/// between all that the renaming takes to them; every other contract carries the first one.
+pub fn novate_texts_are_texts()
+    ensures { NovateTextsAreTexts }
 {}
 
 /// What `payoff` prints of a contract of a portfolio's text is a text of a code file on the portfolio's declarations in version 1,
@@ -125,4 +141,21 @@ pub fn expanded_plans_pay()
     ensures texts { ExpandedTextsAreTexts }
     ensures accepted { ExpandedTextsAreAccepted }
     ensures listed { ExpandedPlansAreListed }
+{}
+
+/// The positions that `positions` prints add up to 0 on each day in each asset. The payments that `settle` prints leave each party
+/// where the flows of all contracts leave it, and on each day, in each asset, they are at most one fewer than the parties that
+/// come to something. So they bring each party to the position that `positions` prints of the same files, in fewer lines.
+pub fn printed_positions_are_settled()
+    ensures positions { PrintedPositionsBalance }
+    ensures settlements { PrintedSettlementsSettle }
+    ensures both { SettlementsSettlePositions }
+{}
+
+/// What `novate` has printed `check` accepts. What `flows` prints of it are the later flows of the first contracts, with the new
+/// party in the named contract; and what a later `advance` leaves of it stands for the first contracts on the later day.
+pub fn novated_texts_stand_for_the_first()
+    ensures accepted { NovatedTextsAreAccepted }
+    ensures listed { NovatedTextsAreListed }
+    ensures advanced { NovatedTextsAdvance }
 {}

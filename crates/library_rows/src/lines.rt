@@ -156,12 +156,24 @@ fn refused(alloc: Global, words: &str) -> Result<Fault, BadRow> {
     Ok(Fault::Refused { name, rule, node })
 }
 
-// A label and a day.
+// A label and a day, and a scenario behind `in` where there is one.
 fn missing(alloc: Global, words: &str) -> Result<Fault, BadRow> {
-    let (label, word) = first_word(words);
+    let (label, words) = first_word(words);
+    let (word, words) = first_word(words);
     let day = day(word)?;
     let label = Name::new(alloc, label.as_bytes())?;
-    Ok(Fault::Missing { label, day })
+    match first_word(words) {
+        ("", "") => Ok(Fault::Missing { label, day }),
+        ("in", scenario) => {
+            let scenario = Name::new(alloc, scenario.as_bytes())?;
+            Ok(Fault::MissingIn {
+                label,
+                day,
+                scenario,
+            })
+        }
+        _ => Err(BadRow::Word),
+    }
 }
 
 // A fault of a run, by its words.
@@ -185,6 +197,9 @@ fn fault(alloc: Global, words: &str) -> Result<Fault, BadRow> {
         "refused" => refused(alloc, words),
         "row" => row_fault(words),
         "missing" => missing(alloc, words),
+        "scenarios" => Ok(Fault::Scenarios {
+            count: count(words)?,
+        }),
         _ => Err(BadRow::Word),
     }
 }

@@ -2,8 +2,9 @@
 
 ghost use Rattle.std.specs.Prelude.{◌≡◌, ◌++◌, OnOk, OnErr};
 ghost use Rattle.decimal.specs.Appending.{AppendsPart};
-ghost use Rattle.report.specs.Pieces.{IsWritable, piece_text};
-ghost use Rattle.report.specs.FaultLines.{earlier_text, fault_text, kind_text, row_text};
+ghost use Rattle.report.specs.Pieces.{IsWritable, number_text, piece_text};
+ghost use Rattle.report.specs.CheckLines.{line_feed};
+ghost use Rattle.report.specs.FaultLines.{earlier_text, fault_text, kind_text, missing_text, refused_text, row_fault_text, row_text, text_fault_text};
 
 use crate::check_lines::rule_word;
 use crate::pieces::{Piece, append, whole};
@@ -19,21 +20,49 @@ pub enum Fault {
     /// The words are no command.
     Usage,
     /// A file could not be read.
-    Read { place: u8 },
+    Read {
+        place: u8,
+    },
     /// A file is longer than the limit.
-    TooLong { place: u8 },
+    TooLong {
+        place: u8,
+    },
     /// A text is not in its grammar.
     Text(TextFault),
     /// A name of the words is not declared.
-    UnknownName { name: Name },
+    UnknownName {
+        name: Name,
+    },
     /// A day of the words is out of range. The word is as it was given.
-    Day { word: Name },
+    Day {
+        word: Name,
+    },
     /// A contract that the command uses is not accepted.
-    Refused { name: Name, rule: Rule, node: u32 },
+    Refused {
+        name: Name,
+        rule: Rule,
+        node: u32,
+    },
     /// A record of a table is refused.
-    Row { place: u8, fault: RowFault },
+    Row {
+        place: u8,
+        fault: RowFault,
+    },
     /// A label is not fixed on a day of the portfolio on which it is read.
-    Missing { label: Name, day: i64 },
+    Missing {
+        label: Name,
+        day: i64,
+    },
+    /// So many scenarios that their total need not fit.
+    Scenarios {
+        count: u32,
+    },
+    /// A label is not fixed in a scenario, on a day on which it is read.
+    MissingIn {
+        label: Name,
+        day: i64,
+        scenario: Name,
+    },
 }
 
 fn kind_word(kind: TextKind) -> &'static [u8]
@@ -78,79 +107,133 @@ fn earlier_piece<'a>(kind: RowKind) -> Piece<'a>
     }
 }
 
+// Words, a number and the end of the line.
+fn count_line(alloc: Global, out: &mut Vec<u8>, words: &[u8], count: u32) -> Result<(), NoMemory>
+    ensures ok { OnOk result (out.new.items ≡ out.old.items ++ (words.now ++ (number_text count ++ line_feed))) }
+    ensures err { OnErr result (AppendsPart out.old.items (words.now ++ (number_text count ++ line_feed)) out.new.items) }
+{
+    let pieces = [Piece::Words(words), whole(count), Piece::Words(b"\n")];
+    append(alloc, out, &pieces)
+}
+
+// Words, a name and the end of the line.
+fn name_line<'a>(
+    alloc: Global,
+    out: &mut Vec<u8>,
+    words: &'a [u8],
+    name: &'a [u8],
+) -> Result<(), NoMemory>
+    ensures ok { OnOk result (out.new.items ≡ out.old.items ++ (words.now ++ (name.now ++ line_feed))) }
+    ensures err { OnErr result (AppendsPart out.old.items (words.now ++ (name.now ++ line_feed)) out.new.items) }
+{
+    let pieces = [Piece::Words(words), Piece::Words(name), Piece::Words(b"\n")];
+    append(alloc, out, &pieces)
+}
+
+fn text_line(alloc: Global, out: &mut Vec<u8>, fault: &TextFault) -> Result<(), NoMemory>
+    ensures ok { OnOk result (out.new.items ≡ out.old.items ++ text_fault_text fault.now) }
+    ensures err { OnErr result (AppendsPart out.old.items (text_fault_text fault.now) out.new.items) }
+{
+    let pieces = [
+        Piece::Words(b"fault text "),
+        Piece::Words(kind_word(fault.kind)),
+        Piece::Words(b" line "),
+        whole(fault.line),
+        Piece::Words(b" column "),
+        whole(fault.column),
+        Piece::Words(b"\n"),
+    ];
+    append(alloc, out, &pieces)
+}
+
+fn refused_line(
+    alloc: Global,
+    out: &mut Vec<u8>,
+    name: &[u8],
+    rule: Rule,
+    node: u32,
+) -> Result<(), NoMemory>
+    ensures ok { OnOk result (out.new.items ≡ out.old.items ++ refused_text name.now rule node) }
+    ensures err { OnErr result (AppendsPart out.old.items (refused_text name.now rule node) out.new.items) }
+{
+    let pieces = [
+        Piece::Words(b"fault refused "),
+        Piece::Words(name),
+        Piece::Words(b" "),
+        Piece::Words(rule_word(rule)),
+        Piece::Words(b" node "),
+        whole(node),
+        Piece::Words(b"\n"),
+    ];
+    append(alloc, out, &pieces)
+}
+
+fn row_line(alloc: Global, out: &mut Vec<u8>, place: u8, fault: &RowFault) -> Result<(), NoMemory>
+    ensures ok { OnOk result (out.new.items ≡ out.old.items ++ row_fault_text place fault.now) }
+    ensures err { OnErr result (AppendsPart out.old.items (row_fault_text place fault.now) out.new.items) }
+{
+    let pieces = [
+        Piece::Words(b"fault row file "),
+        whole(place as u32),
+        Piece::Words(b" record "),
+        whole(fault.row),
+        Piece::Words(b" "),
+        Piece::Words(row_word(fault.kind)),
+        earlier_piece(fault.kind),
+        Piece::Words(b"\n"),
+    ];
+    append(alloc, out, &pieces)
+}
+
+// The line of a label that is not fixed on a day, with what stands behind the day.
+fn missing_line<'a>(
+    alloc: Global,
+    out: &mut Vec<u8>,
+    label: &'a [u8],
+    day: i64,
+    behind: &'a [u8],
+    scenario: &'a [u8],
+) -> Result<(), NoMemory>
+    ensures ok { OnOk result (out.new.items ≡ out.old.items ++ missing_text label.now day (behind.now ++ (scenario.now ++ line_feed))) }
+    ensures err { OnErr result (AppendsPart out.old.items (missing_text label.now day (behind.now ++ (scenario.now ++ line_feed))) out.new.items) }
+{
+    let pieces = [
+        Piece::Words(b"fault missing "),
+        Piece::Words(label),
+        Piece::Words(b" "),
+        Piece::Number {
+            mantissa: day as i128,
+            scale: 0,
+        },
+        Piece::Words(behind),
+        Piece::Words(scenario),
+        Piece::Words(b"\n"),
+    ];
+    append(alloc, out, &pieces)
+}
+
 /// Appends the line of a fault. Where memory runs out on the way, a front part of that line may stand in `out` already.
 pub fn fault_line(alloc: Global, out: &mut Vec<u8>, fault: &Fault) -> Result<(), NoMemory>
     ensures ok { OnOk result (out.new.items ≡ out.old.items ++ fault_text fault.now) }
     ensures err { OnErr result (AppendsPart out.old.items (fault_text fault.now) out.new.items) }
 {
-    let line_feed = Piece::Words(b"\n");
     match fault {
-        Fault::Usage => append(alloc, out, &[Piece::Words(b"fault usage"), line_feed]),
-        Fault::Read { place } => {
-            let words = Piece::Words(b"fault read ");
-            append(alloc, out, &[words, whole(*place as u32), line_feed])
-        }
-        Fault::TooLong { place } => {
-            let words = Piece::Words(b"fault too long ");
-            append(alloc, out, &[words, whole(*place as u32), line_feed])
-        }
-        Fault::Text(fault) => {
-            let pieces = [
-                Piece::Words(b"fault text "),
-                Piece::Words(kind_word(fault.kind)),
-                Piece::Words(b" line "),
-                whole(fault.line),
-                Piece::Words(b" column "),
-                whole(fault.column),
-                line_feed,
-            ];
-            append(alloc, out, &pieces)
-        }
+        Fault::Usage => append(alloc, out, &[Piece::Words(b"fault usage\n")]),
+        Fault::Read { place } => count_line(alloc, out, b"fault read ", *place as u32),
+        Fault::TooLong { place } => count_line(alloc, out, b"fault too long ", *place as u32),
+        Fault::Text(fault) => text_line(alloc, out, fault),
+        Fault::UnknownName { name } => name_line(alloc, out, b"fault unknown ", name.text()),
+        Fault::Day { word } => name_line(alloc, out, b"fault day ", word.text()),
         Fault::Refused { name, rule, node } => {
-            let pieces = [
-                Piece::Words(b"fault refused "),
-                Piece::Words(name.text()),
-                Piece::Words(b" "),
-                Piece::Words(rule_word(*rule)),
-                Piece::Words(b" node "),
-                whole(*node),
-                line_feed,
-            ];
-            append(alloc, out, &pieces)
+            refused_line(alloc, out, name.text(), *rule, *node)
         }
-        Fault::UnknownName { name } => {
-            let words = Piece::Words(b"fault unknown ");
-            append(alloc, out, &[words, Piece::Words(name.text()), line_feed])
-        }
-        Fault::Day { word } => {
-            let words = Piece::Words(b"fault day ");
-            append(alloc, out, &[words, Piece::Words(word.text()), line_feed])
-        }
-        Fault::Row { place, fault } => {
-            let pieces = [
-                Piece::Words(b"fault row file "),
-                whole(*place as u32),
-                Piece::Words(b" record "),
-                whole(fault.row),
-                Piece::Words(b" "),
-                Piece::Words(row_word(fault.kind)),
-                earlier_piece(fault.kind),
-                line_feed,
-            ];
-            append(alloc, out, &pieces)
-        }
-        Fault::Missing { label, day } => {
-            let pieces = [
-                Piece::Words(b"fault missing "),
-                Piece::Words(label.text()),
-                Piece::Words(b" "),
-                Piece::Number {
-                    mantissa: *day as i128,
-                    scale: 0,
-                },
-                line_feed,
-            ];
-            append(alloc, out, &pieces)
-        }
+        Fault::Row { place, fault } => row_line(alloc, out, *place, fault),
+        Fault::Missing { label, day } => missing_line(alloc, out, label.text(), *day, b"", b""),
+        Fault::Scenarios { count } => count_line(alloc, out, b"fault scenarios ", *count),
+        Fault::MissingIn {
+            label,
+            day,
+            scenario,
+        } => missing_line(alloc, out, label.text(), *day, b" in ", scenario.text()),
     }
 }

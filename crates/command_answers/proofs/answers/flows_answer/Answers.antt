@@ -24,7 +24,7 @@ flows_text-requires-clause-few c =
 pub flows_text-requires-clause-table : goal.flows_text-requires-clause-table
 flows_text-requires-clause-table c =
     let inputs = bytes_of c.args.inputs.now in
-    subst IsShortTable (sym c.table_named-table.ensures) (table_short (given_text c.args.asked.now.fixings) (file_at inputs 1) (file_short inputs 1 c.requires))
+    subst IsShortTable (sym c.table_if_named-table.ensures) (table_short (given_text c.args.asked.now.fixings) (file_at inputs 1) (file_short inputs 1 c.requires))
 
 pub returns-in_err-text : goal.returns-in_err-text
 returns-in_err-text c =
@@ -33,7 +33,7 @@ returns-in_err-text c =
     let asked = flows_by c.args.asked.now in
     let e = c.in_err-text.field-0.0 in
     behind_portfolio inputs c.file_at.result.now c.file_at.ensures b c.in_ok-portfolio.ensures (λ (b : Book). flows_on asked b (table_named asked inputs))
-    e c.from_residual-in_err-text.result (subst (λ (table : Option (List ℕ)). GoesDone (flows_on asked b table) (Err e)) c.table_named-table.ensures c.in_err-text.ensures) c.from_residual-in_err-text.ensures.1
+    e c.from_residual-in_err-text.result (subst (λ (table : Option (List ℕ)). GoesDone (flows_on asked b table) (Err e)) c.table_if_named-table.ensures c.in_err-text.ensures) c.from_residual-in_err-text.ensures.1
 
 pub returns : goal.returns
 returns c =
@@ -41,4 +41,4 @@ returns c =
     let b = book c.in_ok-portfolio.portfolio in
     let asked = flows_by c.args.asked.now in
     let text = subst (λ (x : List ℕ). Text x b) c.file_at.ensures c.in_ok-portfolio.ensures in
-    (b, text, subst (λ (table : Option (List ℕ)). Tells (flows_on asked b table) status.Done c.in_ok-text.text.items) c.table_named-table.ensures c.in_ok-text.ensures)
+    (b, text, subst (λ (table : Option (List ℕ)). Tells (flows_on asked b table) status.Done c.in_ok-text.text.items) c.table_if_named-table.ensures c.in_ok-text.ensures)

@@ -6,8 +6,8 @@ use Rattle.term_core.specs.Declarations.{Declarations, declarations}
 use Rattle.term_core.specs.Environments.{Environment}
 use Rattle.term_core.specs.Terms.{Contract}
 use Rattle.flow_eval.specs.declared.flow_table.FlowTable.{FlowTable}
-use Rattle.command_answers.specs.FlowsParts.{AppendsLines, AppendsTables, AreTables}
-use Rattle.command_answers.specs.FlowsPromise.{AreLines}
+use Rattle.command_answers.specs.FlowsParts.{AppendsLines, AppendsTables}
+use Rattle.command_answers.specs.FlowsPromise.{AreLines, AreTables}
 use Rattle.command_answers.specs.UsedParts.{entries_of, entry_of}
 use Rattle.command_answers.proofs.LineFacts.{rows_writable}
 use Rattle.command_answers.proofs.SumLineFacts.{all_summable, as_many, sum_due, sum_has_lines, sum_known}

@@ -4,8 +4,9 @@ use Rattle.std.specs.Prelude.{Some}
 use Rattle.term_core.specs.Declarations.{declarations}
 use Rattle.contract_parse.specs.Names.{index_in}
 use Rattle.command_words.specs.Words.{between_by}
+use Rattle.command_answers.specs.Stages.{IsUndeclared}
 use Rattle.command_answers.specs.ValuePromise.{AreBetween}
-use Rattle.command_answers.specs.ValueParts.{IsUndeclared, IsUnknownBetween, flow_of}
+use Rattle.command_answers.specs.ValueParts.{IsUnknownBetween, flow_of}
 use Rattle.command_answers.specs.declared.value_names.Parties.{Parties}
 use Rattle.command_answers.proofs.StopFacts.{handed_on}
 use Rattle.command_answers.proofs.ValueParts.{no_asset, no_payer, no_receiver}

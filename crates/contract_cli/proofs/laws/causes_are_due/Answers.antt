@@ -1,5 +1,13 @@
 use Rattle.command_answers.proofs.DueFacts.{due_of_flows, due_of_value}
+use Rattle.command_answers.proofs.NettingCauses.{due_of_positions, due_of_settlements}
+use Rattle.command_answers.proofs.DueOfScenarioFacts.{due_of_scenarios}
 use Rattle.contract_cli.proofs.laws.causes_are_due.Goals as goal
 
 pub returns : goal.returns
-returns c = record { flows = due_of_flows; value = due_of_value }
+returns c = record {
+  flows = due_of_flows;
+  value = due_of_value;
+  positions = due_of_positions;
+  settlements = due_of_settlements;
+  scenarios = due_of_scenarios;
+}

@@ -1,0 +1,168 @@
+-- The flow tables of accepted contracts can be added up, and lines can hold what comes of them.
+use Rattle.std.proofs.Common.{◌≡◌, ◌∙◌, ◌<◌, ◌≤◌, ◌≤ℤ◌, ◌*◌, ◌^◌, ℕ, ℤ, pos, List, [], ◌∷◌, ◌++◌, length, append_assoc, ap, arith, get_or, refl, subst, sym, true}
+use Rattle.std.specs.Prelude.{All, Option, None, Result, Err, IsErrAnd}
+use Rattle.std.specs.Global.{Vec}
+use Rattle.std.proofs.lemmas.Int.{ints}
+use Rattle.std.proofs.lemmas.List.Elements.{All-cons, All-head, All-nil, All-tail, All-weaker}
+use Rattle.term_core.specs.declared.name.Name.{Name}
+use Rattle.term_core.specs.Books.{Book}
+use Rattle.term_core.specs.Declarations.{Declarations}
+use Rattle.term_core.specs.Environments.{Environment, IsAdmitted}
+use Rattle.term_core.specs.Terms.{Contract}
+use Rattle.term_core.specs.Acceptance.{IsAccepted}
+use Rattle.interval_check.specs.Within.{KeepsLimits}
+use Rattle.flow_eval.specs.FlowAnswers.{AreKnownFlows}
+use Rattle.flow_eval.specs.Tables.{IsDueRow}
+use Rattle.flow_eval.specs.declared.flow_table.FlowRow.{FlowRow}
+use Rattle.flow_eval.specs.declared.flow_table.FlowTable.{FlowTable}
+use Rattle.report.specs.FlowLines.{HaveLines, IsWholeInAsset}
+use Rattle.exposure.specs.declared.accounts.PositionRow.{PositionRow}
+use Rattle.exposure.specs.LawsTables.{AreDuring, AreWholeInAssets, IsDuring}
+use Rattle.exposure.specs.PositionLines.{AppendsPositionLine, IsPositionLine}
+use Rattle.exposure.specs.Positions.{ArePositions, CanBeAddedUp, sizes_in, sizes_of}
+use Rattle.exposure.specs.Settlement.{ArePaidInTurn, Settles}
+use Rattle.exposure.proofs.TableSums.{many_tables_add_up, positions_are_within, positions_stand_in_time, settled_are_within, settled_stand_in_time, tables_add_up}
+use Rattle.exposure.proofs.WholeFacts.{positions_are_whole, settled_are_whole}
+use Rattle.command_answers.specs.CheckPromise.{AreAllAccepted}
+use Rattle.command_answers.specs.Course.{Stops, Tells}
+use Rattle.command_answers.specs.FlowsCourse.{flows_on}
+use Rattle.command_answers.specs.FlowsParts.{AppendsTables}
+use Rattle.command_answers.specs.FlowsPromise.{AreFixings, AreTables, IsLastDay}
+use Rattle.command_answers.specs.NettingCourse.{flows_of_all, netting_on}
+use Rattle.command_answers.specs.NettingParts.{AnswersTablesOfAll, AppendsPositions, AreReady, IsDuePosition, TablesKnown}
+use Rattle.command_answers.specs.NettingPromise.{ArePositionLines, IsToldOfTables}
+use Rattle.command_answers.specs.Stopping.{GoesDone}
+use Rattle.command_words.specs.Commands.{NettingAsked}
+use Rattle.command_answers.specs.UsedContracts.{used}
+use Rattle.command_answers.specs.declared.status.Status.TheVariants as status
+use Rattle.command_answers.specs.declared.stop.Stop.{Stop}
+use Rattle.command_answers.proofs.LineFacts.{none_and, rows_have_lines, rows_writable, some_and}
+use Rattle.command_answers.proofs.StopFacts.{handed_on}
+use Rattle.command_answers.proofs.SumLineFacts.{all_fixed, as_many}
+use Rattle.command_answers.proofs.UsedFacts.{used_few}
+
+-- ---- one more line
+
+lines_more : (d : Declarations) (rows : List PositionRow) (text : List ℕ) (row : PositionRow) (line : List ℕ)
+    → ArePositionLines d rows text → IsPositionLine d row line → ArePositionLines d (rows ++ row ∷ []) (text ++ line)
+lines_more d [] text row line none is = (line, [], is, refl, none_and text line none)
+lines_more d (r ∷ rows) text row line some is =
+    (some.0, some.1 ++ line, some.2, lines_more d rows some.1 row line some.3 is, some_and text some.0 some.1 line some.4)
+
+pub appends_position : (d : Declarations) (rows : List PositionRow) (row : PositionRow) (before middle after : List ℕ)
+    → AppendsPositions d rows before middle → AppendsPositionLine d row middle after → AppendsPositions d (rows ++ row ∷ []) before after
+appends_position d rows row before middle after some more = record {
+  text = some.text ++ more.line;
+  lines = lines_more d rows some.text row more.line some.lines more.is_line;
+  appended = more.appended ∙ ap (λ (t : List ℕ). t ++ more.line) some.appended ∙ append_assoc before some.text more.line;
+}
+
+pub position_whole : (d : Declarations) (rows seen : List PositionRow) (i : ℕ) (none : PositionRow)
+    → All (IsDuePosition d) rows → seen ≡ rows → i < length rows → IsWholeInAsset d (get_or seen i none).asset (get_or seen i none).amount
+position_whole d rows seen i none due same within =
+    subst (λ (xs : List PositionRow). IsWholeInAsset d (get_or xs i none).asset (get_or xs i none).amount) (sym same) (due i none within).whole
+
+-- ---- tables that are ready
+
+module _ (d : Declarations) (fixings : Environment) (last : ℤ) (limits : KeepsLimits d) (admitted : IsAdmitted d fixings) where
+  abbrev AddsUp : FlowTable → Type 0
+  AddsUp table = sizes_in table.rows.items ≤ 10 ^ 27
+
+  abbrev IsTimely : FlowTable → Type 0
+  IsTimely table = All (λ row. IsDuring (pos 0) (pos 1_100_000) row.day) table.rows.items
+
+  abbrev IsWhole : FlowTable → Type 0
+  IsWhole table = HaveLines d table.rows.items
+
+  one_adds_up : (c : Contract) (rows : List FlowRow) → IsAccepted d c → AreKnownFlows d c fixings (pos d.start) last rows → sizes_in rows ≤ 10 ^ 27
+  one_adds_up c rows accepted known =
+      (tables_add_up d c fixings (pos d.start) last rows limits accepted admitted (known.table fixings (λ q v e. e))).1
+
+  one_timely : last ≤ℤ pos 1_100_000 → (c : Contract) (table : FlowTable) → AreKnownFlows d c fixings (pos d.start) last table.rows.items → IsTimely table
+  one_timely h c table known =
+      All-weaker (IsDueRow (pos 0) (pos 1_100_000)) (λ (row : FlowRow). IsDuring (pos 0) (pos 1_100_000) row.day) (λ row due. (due.0, due.1)) table.rows.items
+      (rows_writable d.start last table.rows.items h known.due)
+
+  -- what holds of the table of each accepted contract holds of all
+  of_each : (P : FlowTable → Type 0) → ((c : Contract) (table : FlowTable) → IsAccepted d c → AreKnownFlows d c fixings (pos d.start) last table.rows.items → P table)
+      → (entries : List (Name × Contract)) (tables : List FlowTable) → AreAllAccepted d entries → AreTables d fixings last entries tables → All P tables
+  of_each P each [] [] all h = All-nil P
+  of_each P each [] (table ∷ tables) all h = absurd h
+  of_each P each (entry ∷ entries) [] all h = absurd h
+  of_each P each (entry ∷ entries) (table ∷ tables) all h =
+      let A : Name × Contract → Type 0 = λ e. IsAccepted d e.1 in
+      All-cons P table tables (each entry.1 table (All-head A entry entries all) h.0) (of_each P each entries tables (All-tail A entry entries all) h.1)
+
+  pub tables_ready : last ≤ℤ pos 1_100_000 → (entries : List (Name × Contract)) (tables : List FlowTable) → length entries ≤ 16_777_216 → AreAllAccepted d entries
+      → AreTables d fixings last entries tables → AreReady d tables
+  tables_ready h entries tables few all k =
+      let many = many_tables_add_up tables (of_each AddsUp (λ c table accepted known. one_adds_up c table.rows.items accepted known) entries tables all k) in
+      let same = as_many d fixings last limits admitted entries tables k in
+      record {
+        together = omega arith;
+        during = of_each IsTimely (λ c table accepted known. one_timely h c table known) entries tables all k;
+        whole = of_each IsWhole (λ c table accepted known. rows_have_lines d c fixings (pos d.start) last table.rows.items accepted known) entries tables all k;
+      }
+
+-- the tables of all contracts
+pub tables_known : (asked : NettingAsked) (b : Book) (table : Option (List ℕ)) (last : ℤ) → IsLastDay b.declarations asked.until last → last ≤ℤ pos 1_100_000
+    → length b.contracts ≤ 16_777_216 → AreAllAccepted b.declarations (used None b) → (fixings : Environment) → AreFixings b.declarations table fixings
+    → KeepsLimits b.declarations → IsAdmitted b.declarations fixings → (tables : List FlowTable)
+    → AppendsTables b.declarations fixings last (used None b) [] tables → TablesKnown asked b table tables
+tables_known asked b table last is_last within few all fixings are limits admitted tables h =
+    let d = b.declarations in
+    let found = subst (λ (ts : List FlowTable). AreTables d fixings last (used None b) ts) (sym h.appended) h.are_tables in
+    let fewer : length (used None b) ≤ length b.contracts = used_few None d b.contracts in
+    record {
+      last = last;
+      is_last = is_last;
+      accepted = all;
+      fixings = fixings;
+      are_fixings = are;
+      fixed = all_fixed d fixings last limits admitted (used None b) tables found;
+      are_tables = found;
+      ready = tables_ready d fixings last limits admitted within (used None b) tables (omega arith) all found;
+    }
+
+-- ---- lines can hold what comes of them
+
+small_enough : (n m : ℕ) → n ≤ m → m ≤ 10 ^ 36 → n ≤ 10 ^ 36
+small_enough n m h k = omega arith
+
+pub can_be_added_up : (d : Declarations) (tables : List FlowTable) → AreReady d tables → CanBeAddedUp tables
+can_be_added_up d tables ready = let h = ready.together in omega arith
+
+pub due_positions : (d : Declarations) (tables : List FlowTable) (rows : List PositionRow) → AreReady d tables → ArePositions tables rows → All (IsDuePosition d) rows
+due_positions d tables rows ready h =
+    let days = positions_stand_in_time tables rows (pos 0) (pos 1_100_000) ready.during h in
+    let amounts = positions_are_within tables rows h in
+    let whole = positions_are_whole d tables rows ready.whole h in
+    λ k z l. record {
+      first = (days k z l).0;
+      last = (days k z l).1;
+      small = let m = small_enough _ _ (amounts k z l) ready.together in omega arith;
+      whole = whole k z l;
+    }
+
+pub due_settled : (d : Declarations) (tables : List FlowTable) (rows : List FlowRow) → AreReady d tables → Settles tables rows → ArePaidInTurn tables rows → All (IsDueRow (pos 0) (pos 1_100_000)) rows
+due_settled d tables rows ready h turns =
+    let days = settled_stand_in_time tables rows (pos 0) (pos 1_100_000) ready.during h in
+    let amounts = settled_are_within tables rows turns in
+    λ k z l. ((days k z l).0, (days k z l).1, small_enough _ _ (amounts k z l) ready.together)
+
+pub settled_have_lines : (d : Declarations) (tables : List FlowTable) (rows : List FlowRow) → AreReady d tables → ArePaidInTurn tables rows → HaveLines d rows
+settled_have_lines d tables rows ready turns = settled_are_whole d tables rows ready.whole turns
+
+-- ---- what is told of the tables is what the course tells, and what kept them from being made stops it
+
+module _ (TellsOf : Declarations → List FlowTable → List ℕ → Type 0) (asked : NettingAsked) (b : Book) (table : Option (List ℕ)) where
+  pub told_of_tables : (tables : List FlowTable) (text : List ℕ) → TablesKnown asked b table tables → TellsOf b.declarations tables text
+      → Tells (netting_on TellsOf asked b table) status.Done text
+  told_of_tables tables text known told =
+      let lines : IsToldOfTables TellsOf b.declarations known.fixings known.last (used None b) text = record { tables = tables; are_tables = known.are_tables; told = told } in
+      (tt, refl, (known.last, known.is_last, (tt, known.accepted, (known.fixings, known.are_fixings, (tt, known.fixed, (refl, lines))))))
+
+  pub stopped_with_tables : (e : Stop) (r : Result (Vec ℕ) Stop) → AnswersTablesOfAll asked b table (Err e) → IsErrAnd r (λ y. y ≡ e) → GoesDone (netting_on TellsOf asked b table) r
+  stopped_with_tables e r h given =
+      handed_on (λ (tables : Vec FlowTable). TablesKnown asked b table tables.items) (λ (text : Vec ℕ). Tells (netting_on TellsOf asked b table) status.Done text.items)
+      (Stops (flows_on (flows_of_all asked) b table)) (Stops (netting_on TellsOf asked b table)) (λ f h. h) e r h given
