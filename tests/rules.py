@@ -345,12 +345,14 @@ def check(decls, c):
 
 
 def check_code(decls, code, setting):
-    """Raises Refused where code is refused at these numbers of the templates."""
+    """Raises Refused where code is refused at these numbers of the templates; answers the most that it is worth, at nine decimals more
+    than amounts have."""
     number(code)
     sorts(code, Names(decls))
     scales(code, Names(decls), decls.amounts + 9)
     sizes(code, (400, 200_000, setting))
-    bounds(code, Names(decls), (MOST, decls.amounts + 9))
+    scale, total = bounds(code, Names(decls), (MOST, decls.amounts + 9))
+    return total * 10 ** (decls.amounts + 9 - scale)
 
 
 def horizon(c):

@@ -74,6 +74,36 @@ def try_random(own, program, flows, book, market):
     own.same(f"hledger, without an origin, day {day}", positions(on_day, 2), of_lines(text, 2, f"code:^{day}$"))
 
 
+def positions_of(program, command, *words, folder=None):
+    """What `positions` prints, or what the lines of `settle` come to, by day: the position of each party in each asset, in cents."""
+    status, text, _ = run(program, command, *words, folder=folder)
+    days = {}
+    for line in text.splitlines() if status == 0 else ():
+        fields = line.split(",")
+        if command == "settle":
+            days.setdefault(fields[1], []).append(line)
+        else:
+            days.setdefault(fields[0], {})[fields[1], fields[2]] = cents(fields[3])
+    return {day: own if command == "positions" else positions(split("\n".join(own)), 1) for day, own in days.items()}
+
+
+def try_positions(own, program):
+    """On each day the balances of parties are the lines of `positions`, and what the lines of `settle` come to."""
+    month, desk = (os.path.join(bench.EXAMPLES, name) for name in ("desk_month", "desk_book"))
+    for title, folder, book, table in (("desk_book", desk, "book.txt", "fixings.csv"), ("desk_month", month, "book.txt", "fixings.csv"),
+                                       ("the random book", ".", "random.txt", "random.csv")):
+        write(run(program, "flows", book, table, folder=folder)[1], "flows.csv")
+        told = positions_of(program, "positions", book, table, folder=folder)
+        own.judge(told != {}, f"hledger, {title}: there are no positions")
+        own.same(f"hledger, {title}: what settle comes to", told, positions_of(program, "settle", book, table, folder=folder))
+        totals = {}
+        for account, amount in [pair for day in told.values() for pair in day.items()]:
+            totals[account] = totals.get(account, 0) + amount
+        own.same(f"hledger, {title}: the sums of positions", {account: amount for account, amount in totals.items() if amount}, balances(1, "flows.csv"))
+        for day in list(told)[:12]:
+            own.same(f"hledger, {title}: positions of {day}", told[day], balances(1, "flows.csv", f"date:{day}"))
+
+
 def evening(folder, day, **paths):
     return run(os.path.join(HERE, "evening"), day, folder=folder, env={**os.environ, **paths})
 
@@ -138,6 +168,7 @@ def main():
         try_sums(own, flows)
         try_files(own, flows)
         try_random(own, program, flows, book, market)
+        try_positions(own, program)
         month = os.path.join(bench.EXAMPLES, "desk_month")
         lines = run(program, "flows", "book.txt", "fixings.csv", folder=month)[1]
         days = [f"2026-01-{day:02}" for day in range(2, 32)] + ["2026-02-01"]
