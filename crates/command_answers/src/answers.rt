@@ -33,7 +33,9 @@ use crate::status::{Status, status_of};
 use crate::stop::Stop;
 use crate::used::used_contracts;
 use crate::value_text::value_text;
-use command_words::{Advance, Flows, Netting, Novate, Payoff, Request, SampleSize, Scenarios, Value};
+use command_words::{
+    Advance, Flows, Netting, Novate, Payoff, Request, SampleSize, Scenarios, Value,
+};
 use decimal::NoMemory;
 use report::{Fault, fault_line};
 use sample::summary;

@@ -2,7 +2,6 @@ use Rattle.std.proofs.Common.{◌≡◌, ◌∙◌, ◌≤◌, ◌+◌, ◌-◌,
 use Rattle.std.specs.Prelude.{unsigned_abs}
 use Rattle.std.specs.Int.{w128}
 use Rattle.std.proofs.lemmas.Int.{to_z-of_z}
-use Rattle.decimal.specs.Rounding.{raised}
 use Rattle.payoff_lang.specs.CodeBooks.{code_book}
 use Rattle.payoff_eval.proofs.NodeFacts.{scale_of_accepted}
 use Rattle.command_answers.specs.ValueParts.{most_of}
@@ -32,8 +31,8 @@ returns-in-Ok c =
     let accepted = c.in-Ok.ensures.0 in
     let stated = c.in-Ok.ensures.1 in
     let same : c.align.result ≡ most_of b =
-        rw (to_z-of_z w128 facts.total (total_fits b xs facts.total accepted stated.right_total)) at c.align.ensures
-        ∙ most_aligned b facts.total facts.scale stated.right_total stated.right_scale in
+    rw (to_z-of_z w128 facts.total (total_fits b xs facts.total accepted stated.right_total)) at c.align.ensures
+    ∙ most_aligned b facts.total facts.scale stated.right_total stated.right_scale in
     record {
       accepted = accepted;
       is_most = to_z-of_z w128 c.align.result (most_fits b xs c.align.result (record { accepted = accepted; is_most = same })) ∙ same;
