@@ -31,6 +31,7 @@ sleep "$PAUSE"
 exec "$PLAIN" "$@"
 """
 LONG = 50_000
+SET_OPTIONS = "--at 0 --from Desk --to Client --asset EUR --mean half_even"
 
 
 class Cluster:
@@ -138,6 +139,42 @@ def try_scenarios(own, cluster, room, client):
     cluster.runs()
 
 
+def make_set(room):
+    """A set of 500 scenarios of one rate, with a row for all of them in its middle; answers what `scenarios` has to print."""
+    dice, rows = bench.Dice(5), ["scenario,label,day,value\n"]
+    rates = [dice.between(9000, 9900) for _ in range(500)]
+    rows += [f"s{number},USDEUR,84,0.{rate}\n" for number, rate in enumerate(rates)]
+    rows.insert(250, "*,USDEUR,83,0.9000\n")
+    write("".join(rows), room, "set.csv")
+    values = [round(Fraction(max(0, rate - 9200) * 1_234_567, 100)) * 995_213_477 for rate in rates]
+    text = lambda value: books.decimal(value, 11)
+    least, greatest = values.index(min(values)), values.index(max(values))
+    lines = [f"s{number},{text(value)}\n" for number, value in enumerate(values)]
+    lines += [f"total,{text(sum(values))}\n", f"mean,{text(round(Fraction(sum(values), 500)))}\n"]
+    return "".join([*lines, f"least,s{least},{text(values[least])}\n", f"greatest,s{greatest},{text(values[greatest])}\n"])
+
+
+def words_of_set(cluster, parts, name="set.csv"):
+    """The words of the example's script for a set, which its page shows."""
+    code, curve = (os.path.join(HERE, name) for name in ("option.code", "curve.csv"))
+    return [sys.executable, "-B", os.path.join(HERE, "set.py"), cluster.address, str(parts), code, name, curve, *SET_OPTIONS.split()]
+
+
+def try_set(own, cluster, room):
+    """A set in parts is as the whole set: what is printed is reckoned from the rates, and is what one run prints."""
+    want = make_set(room)
+    one = [cluster.program, "scenarios", os.path.join(HERE, "option.code"), "set.csv", os.path.join(HERE, "curve.csv")]
+    own.same("one run of a set", (0, want), run(*one, *SET_OPTIONS.split(), folder=room)[:2])
+    for parts in (1, 24):
+        cluster.runs()
+        own.same(f"Dask, a set in {parts} parts", (0, want), run(*words_of_set(cluster, parts), folder=room)[:2])
+        own.same(f"Dask, the runs of {parts} parts", parts, sum(cluster.runs().values()))
+    write(read(room, "set.csv").replace("s499,USDEUR,84,", "s499,USDEUR,85,"), room, "lacks.csv")
+    status, text, said = run(*words_of_set(cluster, 4, "lacks.csv"), folder=room)
+    own.same("Dask, a part without values", (1, "", True), (status, text, "00004.csv: status 8 fault missing USDEUR 84 in s499\n" in said))
+    cluster.runs()
+
+
 def try_small_worker(own, cluster, room, client, want):
     """What a small machine could not do another one does, and the faults of files are not tried again."""
     cluster.end("second")
@@ -165,20 +202,31 @@ def try_example_cluster(own, program, room, want):
     own.judge(processes.wait_for(is_gone, 300), "Dask: the example's cluster leaves a process")
 
 
+def run_and_lose(own, cluster, room, words, worker):
+    """A script of the example, with a worker that is lost after 20 runs: its status, what it prints, and what it says."""
+    script = subprocess.Popen(words, cwd=room, stdout=subprocess.PIPE, stderr=subprocess.PIPE)
+    logged = lambda: os.path.exists(cluster.log) and read(cluster.log).count("\n") >= 20
+    own.judge(processes.wait_for(logged, 300), "Dask: no 20 runs")
+    cluster.end(worker)
+    out, said = script.communicate(timeout=600)
+    return script.returncode, out.decode(), said.decode()
+
+
 def try_lost_worker(own, cluster, room, client, want):
-    """A worker is lost in the middle of the night."""
+    """A worker is lost in the middle of the night, and another one in the middle of a set."""
     cluster.end("first")
     for name in ("third", "fourth"):
         cluster.add(name, pause=0.2)
     own.judge(cluster.is_up(client), "Dask: new workers do not come up")
     words = [sys.executable, "-B", os.path.join(HERE, "night.py"), cluster.address, "fixings.csv", *want]
-    script = subprocess.Popen(words, cwd=room, stdout=subprocess.PIPE, stderr=subprocess.PIPE)
-    logged = lambda: os.path.exists(cluster.log) and read(cluster.log).count("\n") >= 20
-    own.judge(processes.wait_for(logged, 300), "Dask: no 20 runs")
-    cluster.end("third")
-    out, said = script.communicate(timeout=600)
-    judge_night(own, "Dask, with a lost worker", want, (script.returncode, out.decode(), said_of_books(said.decode())))
+    status, text, said = run_and_lose(own, cluster, room, words, "third")
+    judge_night(own, "Dask, with a lost worker", want, (status, text, said_of_books(said)))
     own.judge(sum(cluster.runs().values()) > 60, "Dask, with a lost worker: nothing was run again")
+    cluster.add("fifth", pause=0.2)
+    own.judge(cluster.is_up(client), "Dask: the fifth worker does not come up")
+    got = run_and_lose(own, cluster, room, words_of_set(cluster, 60), "fifth")
+    own.same("Dask, a set with a lost worker", (0, make_set(room)), got[:2])
+    own.judge(sum(cluster.runs().values()) > 60, "Dask, a set with a lost worker: nothing was run again")
 
 
 def main():
@@ -196,6 +244,7 @@ def main():
                     own.same("Dask, where it listens", {"loopback"}, processes.open_addresses())
                     try_night(own, cluster, room, want)
                     try_scenarios(own, cluster, room, client)
+                    try_set(own, cluster, room)
                     try_small_worker(own, cluster, room, client, want)
                     try_lost_worker(own, cluster, room, client, want)
         finally:

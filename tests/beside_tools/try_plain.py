@@ -27,7 +27,8 @@ def try_page(own):
         own.judge(text in [read(path) for path in files.get(name, [])], f"the page shows {name}, which is no file of the examples")
     for path in [path for name, paths in files.items() if name not in NOT_SHOWN and name not in blocks for path in paths]:
         own.judge(f"`{os.path.relpath(path, bench.TOP)}`" in read(PAGE), f"the page neither shows nor names {path}")
-    for command in ("./submit out/again fixings.csv out", "python3 night.py tcp://127.0.0.1:8786 fixings.csv books/*.txt"):
+    set_words = "set.py tcp://127.0.0.1:8786 24 option.code set.csv curve.csv --at 0 --from Desk --to Client --asset EUR --mean half_even"
+    for command in ("./submit out/again fixings.csv out", "night.py tcp://127.0.0.1:8786 fixings.csv books/*.txt", set_words):
         own.judge(command in read(PAGE), f"the page does not show {command}, which is tried")
 
 
