@@ -7,7 +7,6 @@ pub mod WritableFacts
 pub mod AdvanceFacts
 pub mod NovateFacts
 pub mod PayoffFacts
-pub mod MigrateFacts
 pub mod ExpandFacts
 pub mod CheckFacts
 pub mod SumLineFacts

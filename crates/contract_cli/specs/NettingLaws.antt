@@ -1,6 +1,6 @@
 -- Laws of what `positions` and `settle` print of a portfolio. On each day, in each asset, the positions that are printed add up to
 -- 0. The payments that are printed leave each party where the flows of all contracts leave it, in the form of a flow table, and on
--- each day, in each asset, they are at most one fewer than the parties that come to something there. So what `settle` prints
+-- each day, in each asset, they are at least one fewer than the parties that come to something there. So what `settle` prints
 -- settles what `positions` prints of the same files.
 use Rattle.std.specs.Prelude.{◌≡◌, ◌≤◌, ◌-◌, ◌==◌, ◌&&◌, ℕ, ℤ, pos, Bool, List, Option, None, codes}
 use Rattle.std.specs.List.{All, Contains, count_by}

@@ -1,4 +1,4 @@
-//! Laws of a run's status. Each is the contract of a function that does nothing.
+//! Laws of what runs answer: their statuses, and the texts that they print. Each is the contract of a function that does nothing.
 
 ghost use Rattle.command_answers.specs.AnswerLaws.{AnswersAreOne, DeclaredNamesHavePlaces, DueLinesAreOne, DueLinesOfNovateAreOne, StatusesAreOne, SummariesAreOne};
 ghost use Rattle.command_answers.specs.DueOfFlows.{DueOfFlows};
@@ -144,7 +144,7 @@ pub fn expanded_plans_pay()
 {}
 
 /// The positions that `positions` prints add up to 0 on each day in each asset. The payments that `settle` prints leave each party
-/// where the flows of all contracts leave it, and on each day, in each asset, they are at most one fewer than the parties that
+/// where the flows of all contracts leave it, and on each day, in each asset, they are at least one fewer than the parties that
 /// come to something. So they bring each party to the position that `positions` prints of the same files, in fewer lines.
 pub fn printed_positions_are_settled()
     ensures positions { PrintedPositionsBalance }

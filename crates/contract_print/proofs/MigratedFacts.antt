@@ -20,11 +20,11 @@ use Rattle.contract_print.specs.Spellable.{AreSpellable, ContractHasNumbersOfTex
 fewer : (v k n : ℕ) → has_decimals v k n ≡ true → has_decimals 2 k n ≡ true
 fewer v k n h = grind (arith, nat_tests)
 
-decimals_then : (v k : ℕ) (assets : List (Name × ℕ)) → have_decimals v k assets ≡ true → have_decimals 2 k assets ≡ true
-decimals_then v k [] h = refl
-decimals_then v k (asset ∷ assets) h =
+pub decimals_in_version_two : (v k : ℕ) (assets : List (Name × ℕ)) → have_decimals v k assets ≡ true → have_decimals 2 k assets ≡ true
+decimals_in_version_two v k [] h = refl
+decimals_in_version_two v k (asset ∷ assets) h =
     let p = and_parts (has_decimals v k asset.1) (have_decimals v k assets) h in
-    both_true (has_decimals 2 k asset.1) (have_decimals 2 k assets) (fewer v k asset.1 p.0) (decimals_then v k assets p.1)
+    both_true (has_decimals 2 k asset.1) (have_decimals 2 k assets) (fewer v k asset.1 p.0) (decimals_in_version_two v k assets p.1)
 
 count_then : (v : Version) (n : Days) → IsCountOfTexts v n → IsCountOfTexts Two n
 count_then v (Count n) h = h
@@ -59,7 +59,7 @@ declarations_then d fits = record {
   parties = fits.parties;
   assets = fits.assets;
   version = refl;
-  decimals = decimals_then d.version d.amounts d.assets fits.decimals;
+  decimals = decimals_in_version_two d.version d.amounts d.assets fits.decimals;
   labels = fits.labels;
   templates = fits.templates;
   bounds = fits.bounds;

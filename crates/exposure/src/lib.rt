@@ -9,10 +9,10 @@
 //! ```
 //!
 //! Promised: `positions` answers a row for each day, asset and party that does not come to 0, and no other
-//! (`ArePositions`); `settle` payments that leave each party there, one fewer than such parties at most (`Settles`), in a
+//! (`ArePositions`); `settle` payments that leave each party there, at least one fewer than such parties (`Settles`), in a
 //! set order (`ArePaidInTurn`); `rename` the contract with the new party (`renamed`); `position_line` appends exactly the
 //! line of a row (`IsPositionLine`), or a front part of it.
-//! Neither promised nor tested: that they succeed where there is memory.
+//! Not promised: that they succeed where there is memory. The rows of `run_rows` show calls that do.
 #![tactic(auto)]
 
 mod accounts;

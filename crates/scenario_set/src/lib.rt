@@ -10,7 +10,7 @@
 //! Promised: `read_scenarios` answers the scenarios of a table, or the first record that breaks a rule (`AnswersScenarios`);
 //! `totals` what the code is worth in each of them, their total, and the first of the least and of the greatest, or why there
 //! is none (`AnswersTotals`); `mean` the total over the count, rounded once; `total_lines` the text of all that (`total_text`).
-//! Neither promised nor tested: that tables are read and totals found where there is memory.
+//! Not promised: that tables are read and totals found where there is memory. The rows of `run_rows` show calls that do.
 #![tactic(auto)]
 
 mod drafts;

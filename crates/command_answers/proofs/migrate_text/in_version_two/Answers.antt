@@ -1,4 +1,4 @@
-use Rattle.command_answers.proofs.MigrateFacts.{decimals_in_version_two}
+use Rattle.contract_print.proofs.MigratedFacts.{decimals_in_version_two}
 use Rattle.command_answers.proofs.migrate_text.in_version_two.Goals as goal
 
 pub invariant_of-result-clause-decimals_in : goal.invariant_of-result-clause-decimals_in
