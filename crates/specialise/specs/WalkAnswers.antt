@@ -5,7 +5,7 @@ use Rattle.std.specs.Global.{Global}
 use Rattle.term_core.specs.Declarations.{Declarations}
 use Rattle.term_core.specs.declared.terms.Expr.{Expr}
 use Rattle.term_core.specs.declared.shared.SharedContr.{SharedContr}
-use Rattle.term_core.specs.Terms.{Expression, Acc, expression}
+use Rattle.term_core.specs.Terms.{Expression, Acc, expression, Contract}
 use Rattle.term_core.specs.Environments.{Environment}
 use Rattle.term_core.specs.Shifts.{shifted}
 use Rattle.term_core.specs.SharedTerms.{shared}
@@ -25,6 +25,10 @@ TakesItsPlaceLater d fixings day moved e new =
 -- of a contract
 abbrev pub TakesItsPlaceIn : Declarations → Environment → Option ℤ → SharedContr → Option (Rc SharedContr Global) → Type 0
 TakesItsPlaceIn d fixings frame s new = after_in (shared s) new ≡ specialised_in d fixings frame (shared s)
+
+-- of a contract that is written as c, on a day
+abbrev pub TakesPlaceOf : Declarations → Environment → ℤ → SharedContr → Contract → Option (Rc SharedContr Global) → Type 0
+TakesPlaceOf d fixings day s c new = after_in (shared s) new ≡ specialised_in d fixings (Some day) c
 
 abbrev pub IsAccumulator : Expression → Type 0
 IsAccumulator (Acc body n first) = Unit {0}
