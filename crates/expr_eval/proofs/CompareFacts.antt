@@ -16,7 +16,7 @@ use Rattle.interval_check.proofs.KindsFound.{two_numbers, has_kind, scale_is}
 use Rattle.interval_check.proofs.SuitedFacts.{nothing_fixed}
 use Rattle.expr_eval.specs.declared.scratch.Binding.{Binding}
 use Rattle.expr_eval.specs.declared.operations.Typed.{Typed}
-use Rattle.expr_eval.specs.declared.trials.Factors.{Factors}
+use Rattle.expr_eval.specs.declared.comparisons.Factors.{Factors}
 use Rattle.expr_eval.specs.Rooms.{kinds_of}
 use Rattle.expr_eval.specs.KindScales.{KindFits}
 use Rattle.expr_eval.specs.Operations.{Compares, number_in, scale_in}

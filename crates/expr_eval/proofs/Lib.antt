@@ -7,6 +7,7 @@ pub mod FitFacts
 pub mod EvaluableFacts
 pub mod TriedFacts
 pub mod CompareFacts
+pub mod WatchFacts
 pub mod AnswerFacts
 pub mod TrialFacts
 pub mod PartFacts

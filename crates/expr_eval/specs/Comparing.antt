@@ -14,7 +14,7 @@ use Rattle.interval_check.specs.RangeTrials.{kind_found}
 use Rattle.interval_check.specs.Safety.{IsSmall}
 use Rattle.expr_eval.specs.declared.scratch.Binding.{Binding}
 use Rattle.expr_eval.specs.declared.operations.Typed.{Typed}
-use Rattle.expr_eval.specs.declared.trials.Factors.{Factors}
+use Rattle.expr_eval.specs.declared.comparisons.Factors.{Factors}
 use Rattle.expr_eval.specs.Operations.{number_in, truth_in, scale_in}
 use Rattle.expr_eval.specs.KindScales.{KindFits}
 use Rattle.expr_eval.specs.Runs.{Answer, run_of}

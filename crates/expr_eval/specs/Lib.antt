@@ -8,6 +8,7 @@ pub mod Comparing
 pub mod Standing
 pub mod Trials
 pub mod Evaluations
+pub mod Watching
 pub mod Evaluable
 pub mod Answers
 pub mod LawsEntries

@@ -12,6 +12,7 @@
 #![tactic(auto)]
 
 pub mod bindings;
+mod comparisons;
 pub mod evaluation;
 mod heights;
 pub mod kinds;
@@ -20,6 +21,7 @@ pub mod operations;
 mod scratch;
 mod trials;
 mod values;
+mod watches;
 
 pub use kinds::{kind_observed, kind_of};
 pub use laws::{answers_may_be_entered, parts_may_be_evaluated};

@@ -1,33 +1,26 @@
 //! Tests, tried on one day after another.
 
-ghost use Rattle.std.specs.Prelude.{◌≡◌, ◌≤◌, ◌^◌, ◌*ℤ◌, unsigned_abs, IfOk};
+ghost use Rattle.std.specs.Prelude.{◌≡◌, ◌≤◌, ◌^◌, ◌+ℤ◌, unsigned_abs, slice_get, Ok, IfOk, IfSome};
 ghost use Rattle.term_core.specs.Declarations.{declarations};
 ghost use Rattle.term_core.specs.Terms.{expression};
 ghost use Rattle.term_core.specs.Environments.{IsAdmitted, held};
-ghost use Rattle.term_core.specs.Values.{cmp_op};
-ghost use Rattle.interval_check.specs.Safety.{IsSmall};
 ghost use Rattle.expr_eval.specs.Fits.{IsDay};
 ghost use Rattle.expr_eval.specs.Evaluable.{MayEvaluate};
 ghost use Rattle.expr_eval.specs.Evaluations.{ComparesIn, FitsIn, answer_in, comparison, first_in, kinds_in};
-ghost use Rattle.expr_eval.specs.Comparing as found;
 ghost use Rattle.expr_eval.specs.Comparing.{factors_found, mantissa_held, number_found, truth_found, OnDays, SidesFit};
 ghost use Rattle.expr_eval.specs.Trials.{IsFirstTrue, IsOneOf};
+ghost use Rattle.expr_eval.specs.Bindings.{bindings};
+ghost use Rattle.expr_eval.specs.Runs.{of_binding};
+ghost use Rattle.expr_eval.specs.Watching.{IsWatched, Stands, turned};
 
 use crate::bindings::Bindings;
-use crate::evaluation::{day_at, day_on, evaluate};
+use crate::comparisons::{Factors, compare_brought, factors_of};
+use crate::evaluation::{day_at, day_on, evaluate, value_bound};
 use crate::kinds::kind_in;
-use crate::operations::compare_aligned;
 use crate::scratch::Scratch;
-use decimal::pow10;
+use crate::watches::{Watch, first_met};
 use fixing_files::Fixings;
 use term_core::{CmpOp, Decls, Expr, Missing};
-
-/// By what the numbers of two sides are multiplied, so that they have one scale.
-#[derive(Clone, Copy, Debug, PartialEq, Eq)]
-pub struct Factors {
-    pub left: i128,
-    pub right: i128,
-}
 
 /// A comparison, and its factors.
 #[derive(Clone, Copy)]
@@ -36,19 +29,6 @@ pub struct Comparison<'a> {
     pub left: &'a Expr,
     pub right: &'a Expr,
     pub by: Factors,
-}
-
-// The factors of two scales.
-fn factors_of(i: u8, j: u8) -> Factors
-    requires left { i ≤ 27 }
-    requires right { j ≤ 27 }
-    ensures { result ≡ found.factors i j }
-{
-    let most = i.max(j);
-    Factors {
-        left: pow10(most - i),
-        right: pow10(most - j),
-    }
 }
 
 // The factors of two sides, which are the same on each day.
@@ -92,25 +72,6 @@ fn mantissa_of(
     }
 }
 
-// A number times its factor.
-fn brought(x: i128, factor: i128) -> i128
-    requires { IsSmall (x *ℤ factor) }
-    ensures { result ≡ x *ℤ factor }
-{
-    x * factor
-}
-
-// A comparison of two numbers that are brought to one scale.
-fn compare_brought(op: CmpOp, x: i128, y: i128, by: Factors) -> bool
-    requires left { IsSmall (x *ℤ by.left) }
-    requires right { IsSmall (y *ℤ by.right) }
-    ensures { result ≡ cmp_op op (x *ℤ by.left) (y *ℤ by.right) }
-{
-    let x = brought(x, by.left);
-    let y = brought(y, by.right);
-    compare_aligned(op, x, y)
-}
-
 // Whether a comparison holds on a day.
 fn compares_on(
     decls: &Decls,
@@ -142,8 +103,8 @@ fn holds_on(
     Ok(found.value.is_true())
 }
 
-// The first of some days on which a comparison holds.
-fn first_compared(
+// The first of some days on which a comparison holds, whatever its sides are.
+fn first_day_compared(
     decls: &Decls,
     test: &Comparison,
     names: &Bindings,
@@ -164,6 +125,122 @@ fn first_compared(
         }
     }
     Ok(None)
+}
+
+// The mantissa of a name whose value is known.
+fn mantissa_bound(names: &Bindings, back: u32) -> Option<i128>
+    ensures { IfSome result (λ m. number_found (of_binding (slice_get (bindings names.now) back)) ≡ Ok m) }
+{
+    match value_bound(names, back) {
+        Ok(found) => Some(found.value.number()),
+        Err(_) => None,
+    }
+}
+
+// The mantissa of a side that is the same on each day: of a literal, or of a name whose value is known.
+fn standing(e: &Expr, names: &Bindings) -> Option<i128>
+    ensures { IfSome result (λ m. Stands (expression e.now) (bindings names.now) m) }
+{
+    match e {
+        Expr::Lit { mant, .. } => Some(*mant),
+        Expr::Var { back } => mantissa_bound(names, *back),
+        _ => None,
+    }
+}
+
+// The same comparison with its sides in the other order.
+fn turned(op: CmpOp) -> CmpOp
+    ensures { result ≡ turned op }
+{
+    match op {
+        CmpOp::Less => CmpOp::Greater,
+        CmpOp::LessEq => CmpOp::GreaterEq,
+        CmpOp::Greater => CmpOp::Less,
+        CmpOp::GreaterEq => CmpOp::LessEq,
+        CmpOp::Equal => CmpOp::Equal,
+        CmpOp::Unequal => CmpOp::Unequal,
+    }
+}
+
+// A comparison whose left side is observed, and whose right one stays the same.
+fn watch_left(test: &Comparison, names: &Bindings) -> Option<Watch>
+    ensures { IfSome result (λ w. IsWatched test.now names.now w) }
+{
+    match test.left {
+        Expr::Obs { label, offset } => {
+            let bound = standing(test.right, names)?;
+            Some(Watch {
+                op: test.op,
+                label: *label,
+                offset: *offset,
+                bound,
+                by: test.by,
+            })
+        }
+        _ => None,
+    }
+}
+
+// A comparison whose right side is observed, and whose left one stays the same.
+fn watch_right(test: &Comparison, names: &Bindings) -> Option<Watch>
+    ensures { IfSome result (λ w. IsWatched test.now names.now w) }
+{
+    match test.right {
+        Expr::Obs { label, offset } => {
+            let bound = standing(test.left, names)?;
+            Some(Watch {
+                op: turned(test.op),
+                label: *label,
+                offset: *offset,
+                bound,
+                by: Factors {
+                    left: test.by.right,
+                    right: test.by.left,
+                },
+            })
+        }
+        _ => None,
+    }
+}
+
+// A comparison of which one side is observed, and the other stays the same.
+fn watch_of(test: &Comparison, names: &Bindings) -> Option<Watch>
+    ensures { IfSome result (λ w. IsWatched test.now names.now w) }
+{
+    match watch_left(test, names) {
+        Some(watch) => Some(watch),
+        None => watch_right(test, names),
+    }
+}
+
+// The day that an observable with an offset reads.
+fn day_read(day: i64, offset: i32) -> i64
+    requires { IsDay day }
+    ensures is { result ≡ day +ℤ offset }
+    ensures near { unsigned_abs result ≤ 2 ^ 62 }
+{
+    day + offset as i64
+}
+
+// The first of some days on which a comparison holds. Where one side is observed and the other stays the same, both are
+// looked up once.
+fn first_compared(
+    decls: &Decls,
+    test: &Comparison,
+    names: &Bindings,
+    fixings: &Fixings,
+    from: i64,
+    days: u32,
+) -> Result<Option<u32>, Missing>
+    requires first { IsDay from }
+    requires fits { OnDays (λ day. ComparesIn decls.now test.now names.now fixings.now day) from days }
+    ensures days { result ≡ first_in decls.now (comparison test.now) names.now fixings.now from days }
+    ensures found { IfOk result (λ first. IsOneOf days first) }
+{
+    match watch_of(test, names) {
+        Some(watch) => first_met(&watch, fixings, day_read(from, watch.offset), days),
+        None => first_day_compared(decls, test, names, fixings, from, days),
+    }
 }
 
 // The first of some days on which any other test holds.

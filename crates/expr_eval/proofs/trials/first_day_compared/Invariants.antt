@@ -4,7 +4,7 @@ use Rattle.term_core.specs.Terms.{expression, Cmp}
 use Rattle.expr_eval.specs.Bindings.{bindings}
 use Rattle.expr_eval.specs.Runs.{run_of, untyped}
 use Rattle.expr_eval.specs.Trials.{first_tried}
-use Rattle.expr_eval.proofs.trials.first_compared.Given as goal
+use Rattle.expr_eval.proofs.trials.first_day_compared.Given as goal
 
 abbrev pub invariant-loop-i : goal.invariant-loop-i
 invariant-loop-i l =
