@@ -7,7 +7,8 @@ use Rattle.term_core.specs.Terms.{expression, Acc}
 use Rattle.term_core.specs.Environments.{Environment}
 use Rattle.expr_eval.specs.declared.scratch.Binding.{Binding}
 use Rattle.expr_eval.specs.declared.operations.Typed.{Typed}
-use Rattle.expr_eval.specs.Runs.{Answer, then_do, days_tried, days_run, run_of}
+use Rattle.expr_eval.specs.Runs.{Answer, then_do, days_tried, run_of}
+use Rattle.expr_eval.specs.Evaluations.{days_from}
 
 -- a start that lacks a value
 pub days_tried-err : (n : ℕ) (step : ℕ → Typed → Answer) (m : Missing) → days_tried n step (Err m) ≡ Err m
@@ -30,9 +31,9 @@ days_tried-stop i n step a v m h e f =
     days_tried-stay (n - (i + 1)) (i + 1) step a m (days_tried-more i step a v e ∙ f) n (omega arith)
 
 -- an accumulator by its parts: its days, from the day `at` on, and its start on that day
-pub acc_is : (d : Declarations) (body x first y : Expr) (n : ℕ) (g : List Binding) (env : Environment) (f from at : ℤ) (start r : Answer) → x ≡ body → y ≡ first → at ≡ from → from ≡ f -ℤ pos n → start ≡ run_of d (expression y) g env at → r ≡ days_run d (expression x) g env at n start → r ≡ run_of d (Acc (expression body) n (expression first)) g env f
-acc_is d body x first y n g env f from at start r p q u v s e =
+pub acc_is : (d : Declarations) (body x first y : Expr) (n : ℕ) (g : List Binding) (env : Environment) (f from at : ℤ) (r : Answer) → x ≡ body → y ≡ first → at ≡ from → from ≡ f -ℤ pos n → r ≡ days_from d x y g env at n → r ≡ run_of d (Acc (expression body) n (expression first)) g env f
+acc_is d body x first y n g env f from at r p q u v e =
     e
-    ∙ ap (λ (z : Expr). days_run d (expression z) g env at n start) p
-    ∙ ap (λ (t : ℤ). days_run d (expression body) g env t n start) (u ∙ v)
-    ∙ ap (λ (a : Answer). days_run d (expression body) g env (f -ℤ pos n) n a) (s ∙ ap (λ (z : Expr). run_of d (expression z) g env at) q ∙ ap (λ (t : ℤ). run_of d (expression first) g env t) (u ∙ v))
+    ∙ ap (λ (z : Expr). days_from d z y g env at n) p
+    ∙ ap (λ (z : Expr). days_from d body z g env at n) q
+    ∙ ap (λ (t : ℤ). days_from d body first g env t n) (u ∙ v)

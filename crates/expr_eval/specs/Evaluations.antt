@@ -1,7 +1,7 @@
 -- The evaluator by the program's values: what it answers of an expression on a day, over fixings and among bound
 -- names, and what it needs so that numbers fit 128 bits and days 64.
 use Rattle.std.specs.Prelude.{ℕ, ℤ, pos, ◌+ℤ◌, List}
-use Rattle.term_core.specs.Declarations.{declarations}
+use Rattle.term_core.specs.Declarations.{Declarations, declarations}
 use Rattle.term_core.specs.declared.decls.Decls.{Decls}
 use Rattle.term_core.specs.declared.terms.Expr.{Expr}
 use Rattle.term_core.specs.declared.terms.LogicOp.{LogicOp}
@@ -9,13 +9,14 @@ use Rattle.term_core.specs.declared.values.Kind.{Kind}
 use Rattle.term_core.specs.Terms.{Expression, expression, Cmp, Logic, Cond}
 use Rattle.term_core.specs.Environments.{Environment}
 use Rattle.interval_check.specs.RangeTrials.{kind_found}
+use Rattle.expr_eval.specs.declared.scratch.Binding.{Binding}
 use Rattle.expr_eval.specs.declared.bindings.Bindings.{Bindings}
 use Rattle.expr_eval.specs.declared.trials.Comparison.{Comparison}
 use Rattle.expr_eval.specs.Rooms.{kinds_of}
 use Rattle.expr_eval.specs.Bindings.{bindings}
 use Rattle.expr_eval.specs.KindScales.{KindFits}
-use Rattle.expr_eval.specs.Runs.{Answer, run_of, untyped}
-use Rattle.expr_eval.specs.Fits.{Fits}
+use Rattle.expr_eval.specs.Runs.{Answer, days_run, run_of, untyped}
+use Rattle.expr_eval.specs.Fits.{DaysFitIn, Fits}
 use Rattle.expr_eval.specs.Comparing.{ComparesOn}
 use Rattle.expr_eval.specs.Trials.{DayOrMissing, first_tried}
 
@@ -47,6 +48,13 @@ conditional_over t a b = Cond (expression t) (expression a) (expression b)
 
 abbrev pub comparison : Comparison → Expression
 comparison test = Cmp test.op (expression test.left.now) (expression test.right.now)
+
+-- the days of an accumulator, from the value of its start on the day before them
+abbrev pub days_from : Declarations → Expr → Expr → List Binding → Environment → ℤ → ℕ → Answer
+days_from d body first g env from n = days_run d (expression body) g env from n (run_of d (expression first) g env from)
+
+abbrev pub DaysFitFrom : Declarations → Expr → Expr → List Binding → Environment → ℤ → ℕ → Type 0
+DaysFitFrom d body first g env from n = DaysFitIn d (expression body) g env from n (run_of d (expression first) g env from)
 
 -- ---- tests, day after day
 

@@ -7,6 +7,7 @@ pub mod Fits
 pub mod Comparing
 pub mod Standing
 pub mod Trials
+pub mod Operators
 pub mod Evaluations
 pub mod Watching
 pub mod Evaluable

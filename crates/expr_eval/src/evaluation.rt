@@ -4,15 +4,15 @@ ghost use Rattle.std.specs.Prelude.{◌≡◌, ◌+◌, ◌+ℤ◌, ◌-ℤ◌, 
 ghost use Rattle.term_core.specs.Declarations.{declarations};
 ghost use Rattle.term_core.specs.Terms.{expression};
 ghost use Rattle.expr_eval.specs.Bindings.{bindings};
-ghost use Rattle.expr_eval.specs.Runs.{both_run, day_run, days_run, kind_observed, observation, of_binding, of_place, run_of, untyped};
-ghost use Rattle.expr_eval.specs.Fits.{DayFitsIn, DaysFitIn, Fits, IsDay};
-ghost use Rattle.expr_eval.specs.Evaluations.{conditional_over, logic_over};
+ghost use Rattle.expr_eval.specs.Runs.{day_run, kind_observed, observation, of_binding, of_place, run_of, untyped};
+ghost use Rattle.expr_eval.specs.Fits.{DayFitsIn, Fits, IsDay};
+ghost use Rattle.expr_eval.specs.Operators.{OneFits, TwoFit, one_run, two_run};
+ghost use Rattle.expr_eval.specs.Evaluations.{DaysFitFrom, conditional_over, days_from, logic_over};
 
 use crate::bindings::{Bindings, binding_at};
 use crate::kinds::{kind_in, kind_observed};
-use crate::operations::{
-    Operands, Typed, at_kind, combine, compare, divide, is_decided, negate, number, round, verdict,
-};
+use crate::operations::{Operands, Typed, at_kind, is_decided, number, verdict};
+use crate::operators::{OnOne, OnTwo, done_on_one, done_on_two};
 use crate::scratch::{Binding, Held};
 use fixing_files::Fixings;
 use term_core::{Decls, Expr, Kind, LogicOp, Missing, Value};
@@ -122,22 +122,16 @@ pub fn evaluate(
         Expr::Yes { value } => Ok(verdict(*value)),
         Expr::Var { back } => value_bound(names, *back),
         Expr::Obs { label, offset } => value_observed(decls, *label, day_at(day, *offset), fixings),
-        Expr::Neg { of } => {
-            let of = evaluate(decls, of, names, fixings, day)?;
-            Ok(negate(of))
-        }
+        Expr::Neg { of } => evaluate_one(decls, OnOne::Negative, of, names, fixings, day),
         Expr::Num { op, left, right } => {
-            let both = evaluate_both(decls, left, right, names, fixings, day)?;
-            Ok(combine(*op, both))
+            let op = OnTwo::Combined { op: *op };
+            evaluate_two(decls, op, left, right, names, fixings, day)
         }
         Expr::Cmp { op, left, right } => {
-            let both = evaluate_both(decls, left, right, names, fixings, day)?;
-            Ok(compare(*op, both))
+            let op = OnTwo::Compared { op: *op };
+            evaluate_two(decls, op, left, right, names, fixings, day)
         }
-        Expr::Not { of } => {
-            let of = evaluate(decls, of, names, fixings, day)?;
-            Ok(verdict(!of.value.is_true()))
-        }
+        Expr::Not { of } => evaluate_one(decls, OnOne::Opposite, of, names, fixings, day),
         Expr::Logic { op, left, right } => {
             evaluate_logic(decls, *op, left, right, names, fixings, day)
         }
@@ -145,12 +139,15 @@ pub fn evaluate(
             evaluate_branches(decls, test, yes, no, names, fixings, day)
         }
         Expr::Widen { scale, of } => {
-            let of = evaluate(decls, of, names, fixings, day)?;
-            Ok(at_kind(Kind::Number { scale: *scale }, of))
+            let kind = Kind::Number { scale: *scale };
+            evaluate_one(decls, OnOne::At { kind }, of, names, fixings, day)
         }
         Expr::Round { mode, scale, of } => {
-            let of = evaluate(decls, of, names, fixings, day)?;
-            Ok(round(*mode, *scale, of))
+            let op = OnOne::Rounded {
+                mode: *mode,
+                scale: *scale,
+            };
+            evaluate_one(decls, op, of, names, fixings, day)
         }
         Expr::Div {
             mode,
@@ -158,34 +155,54 @@ pub fn evaluate(
             top,
             below,
         } => {
-            let both = evaluate_both(decls, top, below, names, fixings, day)?;
-            Ok(divide(*mode, *scale, both))
+            let op = OnTwo::Quotient {
+                mode: *mode,
+                scale: *scale,
+            };
+            evaluate_two(decls, op, top, below, names, fixings, day)
         }
         Expr::Acc { body, days, first } => {
             let from = day_before(day, *days);
-            let start = evaluate(decls, first, names, fixings, from);
-            evaluate_days(decls, body, *days, start, names, fixings, from)
+            evaluate_days(decls, body, *days, first, names, fixings, from)
         }
     }
 }
 
-// Both operands, the left one first.
+// What is done with the value of one part. It stands apart, as all arms do that hold values: a function takes room for
+// the values of all its arms each time that it is called.
 #[cycle(evaluation)]
-fn evaluate_both(
+fn evaluate_one(
     decls: &Decls,
+    op: OnOne,
+    of: &Expr,
+    names: &Bindings,
+    fixings: &Fixings,
+    day: i64,
+) -> Result<Typed, Missing>
+    requires { OneFits (declarations decls.now) op (expression of.now) (bindings names.now) fixings.now day }
+    ensures { result ≡ one_run (declarations decls.now) op (expression of.now) (bindings names.now) fixings.now day }
+{
+    let of = evaluate(decls, of, names, fixings, day)?;
+    Ok(done_on_one(op, of))
+}
+
+// What is done with the values of two parts, the left one first.
+#[cycle(evaluation)]
+fn evaluate_two(
+    decls: &Decls,
+    op: OnTwo,
     left: &Expr,
     right: &Expr,
     names: &Bindings,
     fixings: &Fixings,
     day: i64,
-) -> Result<Operands, Missing>
-    requires left { Fits (declarations decls.now) (expression left.now) (bindings names.now) fixings.now day }
-    requires right { Fits (declarations decls.now) (expression right.now) (bindings names.now) fixings.now day }
-    ensures { result ≡ both_run (declarations decls.now) (expression left.now) (expression right.now) (bindings names.now) fixings.now day }
+) -> Result<Typed, Missing>
+    requires { TwoFit (declarations decls.now) op (expression left.now) (expression right.now) (bindings names.now) fixings.now day }
+    ensures { result ≡ two_run (declarations decls.now) op (expression left.now) (expression right.now) (bindings names.now) fixings.now day }
 {
     let left = evaluate(decls, left, names, fixings, day)?;
     let right = evaluate(decls, right, names, fixings, day)?;
-    Ok(Operands { left, right })
+    Ok(done_on_two(op, Operands { left, right }))
 }
 
 // Two truth values; the right one is looked at only where the left does not decide.
@@ -242,16 +259,17 @@ fn evaluate_days(
     decls: &Decls,
     body: &Expr,
     days: u32,
-    start: Result<Typed, Missing>,
+    first: &Expr,
     names: &Bindings,
     fixings: &Fixings,
     from: i64,
 ) -> Result<Typed, Missing>
-    requires fits { DaysFitIn (declarations decls.now) (expression body.now) (bindings names.now) fixings.now from days start }
-    requires first { IsDay from }
-    ensures { result ≡ days_run (declarations decls.now) (expression body.now) (bindings names.now) fixings.now from days start }
+    requires start { Fits (declarations decls.now) (expression first.now) (bindings names.now) fixings.now from }
+    requires days { DaysFitFrom (declarations decls.now) body.now first.now (bindings names.now) fixings.now from days }
+    requires day { IsDay from }
+    ensures { result ≡ days_from (declarations decls.now) body.now first.now (bindings names.now) fixings.now from days }
 {
-    let mut value = start?;
+    let mut value = evaluate(decls, first, names, fixings, from)?;
     for i in 0..days {
         let day = day_after(from, i);
         value = evaluate_day(decls, body, value, names, fixings, day)?;

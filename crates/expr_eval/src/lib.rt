@@ -18,6 +18,7 @@ mod heights;
 pub mod kinds;
 mod laws;
 pub mod operations;
+mod operators;
 mod scratch;
 mod trials;
 mod values;

@@ -1,14 +1,11 @@
-use Rattle.std.proofs.Common.{rules, arith, ◌≡◌, sym, ap, subst, ◌∙◌, Ok, pos, ◌-ℤ◌, FitsSigned, w64}
+use Rattle.std.proofs.Common.{rules, arith, ◌≡◌, sym, ap, ◌∙◌, pos, ◌-ℤ◌, FitsSigned, w64}
 use Rattle.std.proofs.lemmas.Int.{to_z-of_z}
 use Rattle.term_core.specs.declared.terms.Expr.{Expr}
 use Rattle.term_core.specs.Declarations.{declarations}
-use Rattle.term_core.specs.Terms.{expression, Div, Acc}
+use Rattle.term_core.specs.Terms.{expression, Acc}
 use Rattle.expr_eval.specs.Bindings.{bindings}
-use Rattle.expr_eval.specs.Runs.{run_of, both_of}
-use Rattle.expr_eval.specs.Fits.{Fits}
-use Rattle.expr_eval.specs.Operations.{DividesTo}
+use Rattle.expr_eval.specs.Runs.{run_of}
 use Rattle.expr_eval.proofs.Days.{days_tried-err, days_tried-stop, acc_is}
-use Rattle.expr_eval.proofs.Operands.{of_both}
 use Rattle.expr_eval.proofs.evaluation.+evaluation.Goals as goal
 
 pub evaluate_days-returns-in_err-value : goal.evaluate_days-returns-in_err-value
@@ -16,19 +13,6 @@ evaluate_days-returns-in_err-value t c = grind (arith, days_tried-err)
 
 pub evaluate_days-returns-in_err-value-2 : goal.evaluate_days-returns-in_err-value-2
 evaluate_days-returns-in_err-value-2 t c = grind (arith, to_z-of_z, days_tried-stop)
-
-pub evaluate-divide-requires : goal.evaluate-divide-requires
-evaluate-divide-requires t c =
-    let d = declarations c.args.decls.now in
-    let g = bindings c.args.names.now in
-    let env = c.args.fixings.now in
-    let f = c.args.day in
-    let s = c.in-Div.scale in
-    let a = expression c.in-Div.top.value in
-    let b = expression c.in-Div.below.value in
-    let h : Fits d (Div c.in-Div.mode s a b) g env f = subst (λ (x : Expr). Fits d (expression x) g env f) c.in-Div.is c.requires in
-    let e : both_of (run_of d a g env f) (run_of d b g env f) ≡ Ok c.in_ok-both-in-Div.both = search rules in
-    of_both (run_of d a g env f) (run_of d b g env f) (DividesTo s) c.in_ok-both-in-Div.both h.2 e
 
 pub evaluate-returns-in-Acc : goal.evaluate-returns-in-Acc
 evaluate-returns-in-Acc t c =
@@ -41,5 +25,5 @@ evaluate-returns-in-Acc t c =
     let from_is : c.day_before-from.result ≡ f -ℤ pos c.in-Acc.days = simp to_z-of_z at c.day_before-from.ensures in
     let same : run_of d (Acc (expression c.in-Acc.body.value) c.in-Acc.days (expression c.in-Acc.first.value)) g env f ≡ run_of d (expression c.args.e.now) g env f =
     ap (λ (x : Expr). run_of d (expression x) g env f) (sym c.in-Acc.is) in
-    acc_is d c.in-Acc.body.value c.deref-in-Acc-2.result.now c.in-Acc.first.value c.deref-in-Acc.result.now c.in-Acc.days g env f c.day_before-from.result _ c.evaluate-start.result c.evaluate_days.result c.deref-in-Acc-2.ensures c.deref-in-Acc.ensures (to_z-of_z w64 c.day_before-from.result fits) from_is c.evaluate-start.ensures c.evaluate_days.ensures
+    acc_is d c.in-Acc.body.value c.deref-in-Acc.result.now c.in-Acc.first.value c.deref-in-Acc-2.result.now c.in-Acc.days g env f c.day_before-from.result _ c.evaluate_days.result c.deref-in-Acc.ensures c.deref-in-Acc-2.ensures (to_z-of_z w64 c.day_before-from.result fits) from_is c.evaluate_days.ensures
     ∙ same
