@@ -89,10 +89,10 @@ fn rows_of(alloc: Global, payments: &[Payment]) -> Result<Vec<FlowRow>, NoMemory
     requires { CanBeNetted payments.now }
     ensures { IfOk result (λ rows. rows.items ≡ rows_of payments.now) }
 {
-    let mut rows = Vec::new(alloc);
     let [first, rest @ ..] = payments else {
-        return Ok(rows);
+        return Ok(Vec::new(alloc));
     };
+    let mut rows = Vec::with_capacity(alloc, payments.len())?;
     let mut sum = *first;
     for payment in rest {
         sum = take_in(&mut rows, sum, payment)?;
@@ -106,6 +106,9 @@ fn sorted(payments: Vec<Payment>) -> Result<Vec<Payment>, NoMemory>
     ensures moved { IfOk result (λ sorted. IsPermutation payments.items sorted.items) }
     ensures in_order { IfOk result (λ sorted. AreInOrder sorted.items) }
 {
+    if payments.len() < 2 {
+        return Ok(payments);
+    }
     let mut payments = payments;
     payments.sort_by_key(|payment| payment.slot)?;
     Ok(payments)

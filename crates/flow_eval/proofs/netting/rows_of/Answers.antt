@@ -15,7 +15,7 @@ nothing = record { slot = record { day = pos 0; asset = 0; lower = 0; higher = 0
 
 pub loop-payment-init : goal.loop-payment-init
 loop-payment-init c = record {
-  same = ap (λ (rows : List FlowRow). rows ++ rows_from (get_or c.args.payments.now 0 nothing) (others c.args.payments.now)) c.new-rows.ensures.items;
+  same = ap (λ (rows : List FlowRow). rows ++ rows_from (get_or c.args.payments.now 0 nothing) (others c.args.payments.now)) c.in_ok-rows.ensures.items;
   fits = fits_split c.args.payments.now nothing c.in-len1-up.len_at_least c.requires;
 }
 
