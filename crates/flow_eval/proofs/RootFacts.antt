@@ -7,7 +7,7 @@ use Rattle.std.proofs.lemmas.Bool.Decides.{nat_tests}
 use Rattle.std.proofs.lemmas.List.Elements.{All-weaker}
 use Rattle.std.proofs.lemmas.List.Sorted.{All-permutation}
 use Rattle.term_core.specs.Declarations.{Declarations}
-use Rattle.term_core.specs.Terms.{Contract}
+use Rattle.term_core.specs.Terms.{Contract, Zero, Pay, Both, Scale, After, Let, Within}
 use Rattle.term_core.specs.Environments.{Environment, IsAdmitted, Place}
 use Rattle.term_core.specs.Values.{Entry}
 use Rattle.term_core.specs.Flows.{scale_of_contract}
@@ -30,7 +30,7 @@ use Rattle.flow_eval.specs.Netting.{AreDue, AreSmall, CanBeNetted, Nets, rows_of
 use Rattle.flow_eval.specs.Payments.{payments_of}
 use Rattle.flow_eval.specs.Walks.{PaymentsOrMissing, payments_unless, walk_of}
 use Rattle.flow_eval.specs.Gathering.{Gathers, IsGathered}
-use Rattle.flow_eval.specs.Readiness.{CanWalk, IsAmongDays}
+use Rattle.flow_eval.specs.Readiness.{CanWalk, IsAmongDays, names_in}
 use Rattle.flow_eval.specs.FlowAnswers.{AreFlows, AreKnownFlows, reads_until}
 use Rattle.flow_eval.proofs.GatherFacts.{Done}
 use Rattle.flow_eval.proofs.NetTables.{payments_table, table_everywhere}
@@ -55,17 +55,37 @@ limits_of d c h =
     let all = limits_by (height_of_contract c) (nodes_of_contract c) (days_of_contract c) (reach c) (past_of_contract c) (work_of_contract c) (whole_passes (λ s. IsTrue (is_small s)) c [] 0 h.sizes) in
     record { low = all.0; few = all.1; near = all.2 }
 
-pub low_enough : (d : Declarations) (c : Contract) → IsAccepted d c → height_of_contract c ≤ 1_000
-low_enough d c h =
-    let l = limits_of d c h in
-    let low = l.low in
+-- each name that is bound is a node on the path
+names_below : (c : Contract) → names_in c ≤ height_of_contract c
+names_below Zero = omega arith
+names_below (Pay a p q) = omega arith
+names_below (Both x y) =
+    let one = names_below x in
+    let other = names_below y in
+    omega arith
+names_below (Scale e c) = let h = names_below c in omega arith
+names_below (After n c) = let h = names_below c in omega arith
+names_below (Let e c) = let h = names_below c in omega arith
+names_below (Within e n x y) =
+    let one = names_below x in
+    let other = names_below y in
     omega arith
 
-pub room_for : (d : Declarations) (c : Contract) (n : ℕ) → IsAccepted d c → 200 ≤ n → height_of_contract c ≤ n
-room_for d c n h le =
+pub few_names : (d : Declarations) (c : Contract) → IsAccepted d c → names_in c ≤ 200
+few_names d c h =
     let l = limits_of d c h in
     let low = l.low in
+    let names = names_below c in
     omega arith
+
+pub room_for : (d : Declarations) (c : Contract) (n : ℕ) → IsAccepted d c → 200 ≤ n → names_in c ≤ n
+room_for d c n h le =
+    let names = few_names d c h in
+    omega arith
+
+-- room for just as many
+pub room_as_counted : (c : Contract) (counted spare : ℕ) → counted ≡ names_in c → spare ≡ counted → names_in c ≤ spare
+room_as_counted c counted spare is same = omega arith
 
 pub whole_fits : (d : Declarations) (c : Contract) (F : Environment) → KeepsLimits d → IsAccepted d c → IsAdmitted d F → scale_of_contract d c [] ≤ d.amounts
 whole_fits d c F limits accepted admitted = (accepted_are_safe d c F (pos 0) limits accepted admitted).0.scale
@@ -73,7 +93,7 @@ whole_fits d c F limits accepted admitted = (accepted_are_safe d c F (pos 0) lim
 at_most : (n : ℕ) → n ≤ n
 at_most n = omega arith
 
-pub whole_ready : (d : Declarations) (c : Contract) (r : Room) (F : Environment) → KeepsLimits d → IsAccepted d c → IsAdmitted d F → r.entries ≡ [] → height_of_contract c ≤ r.spare → CanWalk d c d.amounts r F
+pub whole_ready : (d : Declarations) (c : Contract) (r : Room) (F : Environment) → KeepsLimits d → IsAccepted d c → IsAdmitted d F → r.entries ≡ [] → names_in c ≤ r.spare → CanWalk d c d.amounts r F
 whole_ready d c r F limits accepted admitted none room = record {
   limits = limits;
   whole = c;
@@ -86,7 +106,7 @@ whole_ready d c r F limits accepted admitted none room = record {
   places = [];
   within = tt;
   stand = subst (λ (es : List Binding). StandFor F es [] []) (sym none) tt;
-  low = room;
+  names = room;
   fits = whole_fits d c F limits accepted admitted;
   most = at_most d.amounts;
 }

@@ -1,13 +1,12 @@
 -- When a part of an accepted contract can be walked: the names round it have entries that stand for values within their
 -- ranges, there is room for the names in it, and its days and decimals are within those of the whole.
-use Rattle.std.specs.Prelude.{ℕ, ℤ, pos, ◌+ℤ◌, ◌≤ℤ◌, ◌≤◌, List, [], Option, Some, None}
+use Rattle.std.specs.Prelude.{ℕ, ℤ, pos, ◌+ℤ◌, ◌≤ℤ◌, ◌≤◌, ◌+◌, max, List, [], Option, Some, None}
 use Rattle.term_core.specs.Declarations.{Declarations}
-use Rattle.term_core.specs.Terms.{Expression, Contract}
+use Rattle.term_core.specs.Terms.{Expression, Contract, Zero, Pay, Both, Scale, After, Let, Within}
 use Rattle.term_core.specs.Environments.{Environment, IsAdmitted, Place}
 use Rattle.term_core.specs.Values.{Entry, kinds}
 use Rattle.term_core.specs.Flows.{scale_of_contract}
 use Rattle.term_core.specs.Bounds.{Range}
-use Rattle.term_core.specs.Sizes.{height_of_contract}
 use Rattle.term_core.specs.Acceptance.{IsAccepted}
 use Rattle.interval_check.specs.Nodes.{ContractMeetsRules}
 use Rattle.interval_check.specs.Parts.{StandsIn}
@@ -28,6 +27,16 @@ pub record CanAnswer (d : Declarations) (e : Expression) (r : Room) (fixings : E
   pub within : AreWithin ranges values
   pub stand : StandFor fixings r.entries values places
 
+-- how many names are bound round the part of a contract that has the most of them
+abbrev pub names_in : Contract → ℕ
+names_in Zero = 0
+names_in (Pay a p q) = 0
+names_in (Both x y) = max (names_in x) (names_in y)
+names_in (Scale e c) = names_in c
+names_in (After n c) = names_in c
+names_in (Let e c) = names_in c + 1
+names_in (Within e n x y) = max (names_in x) (names_in y)
+
 -- a contract inside an accepted one, with entries for the names round it; it has so many decimals left
 pub record CanWalk (d : Declarations) (c : Contract) (room : ℕ) (r : Room) (fixings : Environment) : Type 0 where
   pub limits : KeepsLimits d
@@ -41,7 +50,7 @@ pub record CanWalk (d : Declarations) (c : Contract) (room : ℕ) (r : Room) (fi
   pub places : List (List Place)
   pub within : AreWithin ranges values
   pub stand : StandFor fixings r.entries values places
-  pub low : height_of_contract c ≤ r.spare
+  pub names : names_in c ≤ r.spare
   pub fits : scale_of_contract d c (kinds values) ≤ room
   pub most : room ≤ d.amounts
 

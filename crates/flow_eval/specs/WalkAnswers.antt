@@ -1,7 +1,8 @@
 -- What a walk over a contract needs and answers, by the course that it takes and where the contract stands: the walk of
 -- `Walks`, for all values and places that the entries of the names round it stand for.
-use Rattle.std.specs.Prelude.{◌≡◌, ℕ, ℤ, pos, ◌+ℤ◌, List, [], Result}
+use Rattle.std.specs.Prelude.{◌≡◌, ℕ, ℤ, pos, ◌+ℤ◌, List, [], Result, Ok}
 use Rattle.std.specs.Global.{Vec}
+use Rattle.decimal.specs.Rounding.{raised}
 use Rattle.term_core.specs.Declarations.{declarations}
 use Rattle.term_core.specs.Terms.{Expression, Contract}
 use Rattle.term_core.specs.Environments.{Place}
@@ -15,7 +16,8 @@ use Rattle.flow_eval.specs.declared.faults.FlowErr.{FlowErr}
 use Rattle.flow_eval.specs.declared.payments.Payment.{Payment}
 use Rattle.flow_eval.specs.declared.walk.Course.{Course}
 use Rattle.flow_eval.specs.declared.walk.Standing.{Standing}
-use Rattle.flow_eval.specs.Walks.{days_to_try, walk_of}
+use Rattle.flow_eval.specs.Payments.{paid}
+use Rattle.flow_eval.specs.Walks.{PaymentsOrMissing, days_to_try, walk_of}
 use Rattle.flow_eval.specs.Readiness.{CanAnswer, CanWalk}
 use Rattle.flow_eval.specs.Gathering.{Gathers, IsGathered}
 
@@ -44,6 +46,11 @@ IsFirstDayFor course test here r days answer =
     (g : List Entry) (bs : List (List Place)) → StandFor course.fixings.now r.entries g bs
     → answer ≡ first_tried (days_to_try course.until here.day days)
     (λ i. answer_of (declarations course.decls.now) test g bs course.fixings.now (here.day +ℤ pos i))
+
+-- the payment of one unit of an asset
+abbrev pub paid_alone : Course → Standing → ℕ → ℕ → ℕ → PaymentsOrMissing
+paid_alone course here asset from to =
+    Ok (paid course.until here.day (record { asset = asset; from = from; to = to }) (raised (pos 1) here.decimals))
 
 -- the payments of the walk are noted behind those before, or the place that it lacks is answered
 abbrev pub Notes : Course → Contract → Standing → Room → List Payment → List Payment → Result (Unit {0}) FlowErr → Type 0

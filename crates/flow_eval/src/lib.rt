@@ -13,6 +13,7 @@
 mod faults;
 mod flow_table;
 mod laws;
+mod names;
 mod netting;
 mod payments;
 mod shared_tables;

@@ -10,6 +10,7 @@ ghost use Rattle.flow_eval.specs.WalkAnswers.{ArePaymentsOf};
 
 use crate::faults::FlowErr;
 use crate::flow_table::FlowTable;
+use crate::names::names_in;
 use crate::netting::netted;
 use crate::payments::Payment;
 use crate::walk::{Course, Standing, gather};
@@ -35,7 +36,7 @@ fn payments_on(
     ensures { ArePaymentsOf course.now (contract c.now) frame result }
 {
     let mut payments = Vec::new(alloc);
-    let mut scratch = Scratch::for_contract(alloc, c)?;
+    let mut scratch = Scratch::with_room(alloc, names_in(c) as usize)?;
     let here = Standing {
         day: frame,
         decimals: course.decls.amounts,

@@ -1,12 +1,13 @@
 //! The walk over a contract that notes its payments.
 
 ghost use Rattle.std.specs.Prelude.{◌≡◌, ◌≤◌, ◌+◌, ◌-◌, ◌≤ℤ◌, ◌+ℤ◌, ◌-ℤ◌, pos, min, max, unsigned_abs, IfOk, int_lt};
-ghost use Rattle.term_core.specs.Terms.{contract, expression, Scale, Let, Within};
+ghost use Rattle.term_core.specs.Terms.{contract, expression, Both, Scale, Let, Within};
 ghost use Rattle.term_core.specs.DayCounts.{day_count};
 ghost use Rattle.term_core.specs.Flows.{count_of};
 ghost use Rattle.term_core.specs.Sizes.{reach};
+ghost use Rattle.flow_eval.specs.Gathering.{Gathers};
 ghost use Rattle.flow_eval.specs.Readiness.{IsAmongDays, IsUpTo};
-ghost use Rattle.flow_eval.specs.WalkAnswers.{IsAnswerFor, IsFirstDayFor, MayAnswer, MayWalk, Notes, kind_among};
+ghost use Rattle.flow_eval.specs.WalkAnswers.{IsAnswerFor, IsFirstDayFor, MayAnswer, MayWalk, Notes, kind_among, paid_alone};
 
 use crate::faults::FlowErr;
 use crate::payments::{Payment, Transfer, multiply_from, pay};
@@ -123,6 +124,23 @@ pub fn first_day(
     )
 }
 
+/// Notes the payment of one unit of an asset.
+pub fn gather_pay(
+    course: &Course,
+    out: &mut Vec<Payment>,
+    here: Standing,
+    asset: u32,
+    from: u32,
+    to: u32,
+) -> Result<(), FlowErr>
+    requires { here.decimals ≤ 12 }
+    ensures { Gathers (paid_alone course.now here asset from to) out.old.items out.new.items result }
+{
+    let transfer = Transfer { asset, from, to };
+    pay(out, course.until, here.day, transfer, pow10(here.decimals))?;
+    Ok(())
+}
+
 /// Notes the payments of a contract up to the last day that counts, or answers the first place that it reads and that is
 /// not fixed.
 #[cycle(gathering)]
@@ -143,19 +161,8 @@ pub fn gather(
     }
     match c {
         Contr::Zero => Ok(()),
-        Contr::Pay { asset, from, to } => {
-            let transfer = Transfer {
-                asset: *asset,
-                from: *from,
-                to: *to,
-            };
-            pay(out, course.until, here.day, transfer, pow10(here.decimals))?;
-            Ok(())
-        }
-        Contr::Both { left, right } => {
-            gather(course, out, scratch, here, left)?;
-            gather(course, out, scratch, here, right)
-        }
+        Contr::Pay { asset, from, to } => gather_pay(course, out, here, *asset, *from, *to),
+        Contr::Both { left, right } => gather_both(course, out, scratch, here, left, right),
         Contr::Scale { factor, body } => gather_scaled(course, out, scratch, here, factor, body),
         Contr::After { days, body } => {
             gather(course, out, scratch, here.after(days.number()), body)
@@ -168,6 +175,26 @@ pub fn gather(
             miss,
         } => gather_within(course, out, scratch, here, test, days, hit, miss),
     }
+}
+
+// Notes the payments of two parts.
+#[cycle(gathering)]
+fn gather_both(
+    course: &Course,
+    out: &mut Vec<Payment>,
+    scratch: &mut Scratch,
+    here: Standing,
+    left: &Contr,
+    right: &Contr,
+) -> Result<(), FlowErr>
+    requires ready { MayWalk course.now (Both (contract left.now) (contract right.now)) here scratch.old }
+    requires days { IsAmongDays here.day (max (reach (contract left.now)) (reach (contract right.now))) }
+    ensures answer { Notes course.now (Both (contract left.now) (contract right.now)) here scratch.old
+        out.old.items out.new.items result }
+    ensures same { scratch.new ≡ scratch.old }
+{
+    gather(course, out, scratch, here, left)?;
+    gather(course, out, scratch, here, right)
 }
 
 // Notes the payments of the branch that a test enters, if it does so by the last day that counts.

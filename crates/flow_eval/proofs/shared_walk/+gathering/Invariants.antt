@@ -5,6 +5,9 @@ use Rattle.flow_eval.proofs.shared_walk.+gathering.Given as goal
 abbrev pub decreases-gather_shared : goal.decreases-gather_shared
 decreases-gather_shared l = 2 * size-SharedContr l.s.now
 
+abbrev pub decreases-gather_both : goal.decreases-gather_both
+decreases-gather_both l = 2 * max (size-SharedContr l.left.now) (size-SharedContr l.right.now) + 1
+
 abbrev pub decreases-gather_scaled : goal.decreases-gather_scaled
 decreases-gather_scaled l = 2 * size-SharedContr l.body.now + 1
 

@@ -5,15 +5,16 @@ use Rattle.term_core.specs.Declarations.{declarations}
 use Rattle.term_core.specs.Terms.{contract}
 use Rattle.term_core.specs.Sizes.{reach}
 use Rattle.flow_eval.specs.Readiness.{IsAmongDays}
-use Rattle.flow_eval.proofs.RootFacts.{low_enough, whole_days, whole_not_gathered, whole_ready}
+use Rattle.flow_eval.proofs.RootFacts.{few_names, room_as_counted, whole_days, whole_not_gathered, whole_ready}
 use Rattle.flow_eval.proofs.tables.payments_on.Goals as goal
 
-pub for_contract-requires : goal.for_contract-requires
-for_contract-requires c = record { low = low_enough (declarations c.args.course.now.decls.now) (contract c.args.c.now) c.requires.accepted }
+pub names_in-requires : goal.names_in-requires
+names_in-requires c = few_names (declarations c.args.course.now.decls.now) (contract c.args.c.now) c.requires.accepted
 
 pub gather-requires-clause-ready : goal.gather-requires-clause-ready
 gather-requires-clause-ready c =
-    whole_ready (declarations c.args.course.now.decls.now) (contract c.args.c.now) c.in_ok-scratch.scratch c.args.course.now.fixings.now c.args.course.now.decls.now.labels_in c.requires.accepted c.requires.admitted c.in_ok-scratch.ensures.empty c.in_ok-scratch.ensures.spare
+    whole_ready (declarations c.args.course.now.decls.now) (contract c.args.c.now) c.in_ok-scratch.scratch c.args.course.now.fixings.now c.args.course.now.decls.now.labels_in c.requires.accepted c.requires.admitted c.in_ok-scratch.ensures.empty
+    (room_as_counted (contract c.args.c.now) _ _ c.names_in.ensures c.in_ok-scratch.ensures.spare)
 
 pub gather-requires-clause-days : goal.gather-requires-clause-days
 gather-requires-clause-days c =

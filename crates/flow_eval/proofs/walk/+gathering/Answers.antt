@@ -1,4 +1,4 @@
-use Rattle.std.proofs.Common.{rules, ◌≡◌, ◌≤◌, ◌-◌, ◌∷◌, to_z, of_z, FitsSigned, unsigned_abs, ◌*ℤ◌, ◌^◌, ℕ, List, length, Err, arith, ap, sym, ◌∙◌, subst, refl, false, drop}
+use Rattle.std.proofs.Common.{rules, ◌≡◌, ◌≤◌, ◌-◌, ◌∷◌, to_z, of_z, FitsSigned, unsigned_abs, ◌*ℤ◌, ◌^◌, ℕ, List, length, Err, arith, sym, ◌∙◌, subst, refl, false, drop}
 use Rattle.std.specs.Int.{w128}
 use Rattle.std.specs.List.{All}
 use Rattle.std.proofs.lemmas.Int.{to_z-of_z}
@@ -10,7 +10,6 @@ use Rattle.term_core.specs.Kinds.{scale_of}
 use Rattle.term_core.specs.Reads.{reads_of}
 use Rattle.interval_check.specs.Sums.{entry_of}
 use Rattle.expr_eval.specs.declared.scratch.Binding.{Binding}
-use Rattle.term_core.specs.declared.terms.Contr.{Contr}
 use Rattle.expr_eval.specs.Rooms.{Room}
 use Rattle.expr_eval.specs.Standing.{StandFor}
 use Rattle.flow_eval.specs.declared.payments.Payment.{Payment}
@@ -59,11 +58,10 @@ gather_within-returns-in_err-first-clause-answer t c = λ g bs stand.
     test_missing (declarations c.args.course.now.decls.now) c.args.course.now.fixings.now c.args.course.now.until c.args.here (Within (expression c.args.test.now) (day_count c.args.days.now) (contract c.args.hit.now) (contract c.args.miss.now)) (expression c.args.test.now) (day_count c.args.days.now) (contract c.args.hit.now) (contract c.args.miss.now) g bs false c.first_day.result c.in_err-first.field-0.0 c.number-days.result c.args.out.now.items c.args.out.now.items c.from_residual.result
     refl (not_over c.args.course.now.until c.args.here.day c.requires.in_time) refl c.number-days.ensures (c.first_day.ensures.answer g bs stand) c.in_err-first.was err
 
-pub gather-returns-in_ok-gather-in-Both-clause-answer : goal.gather-returns-in_ok-gather-in-Both-clause-answer
-gather-returns-in_ok-gather-in-Both-clause-answer t c = λ g bs stand.
-    both_noted (declarations c.args.course.now.decls.now) c.args.course.now.fixings.now c.args.course.now.until c.args.here (contract c.args.c.now) (contract c.in-Both.left.value) (contract c.in-Both.right.value) (contract c.deref.result.now) (contract c.deref-in-Both.result.now) g bs c.args.out.now.items c.gather.new.out.items c.gather-in-Both.new.out.items c.gather.result c.gather-in-Both.result _
-    (ap (λ (x : Contr). contract x) c.in-Both.is) (ap (λ (x : Contr). contract x) c.deref.ensures) (ap (λ (x : Contr). contract x) c.deref-in-Both.ensures) c.in_ok-gather-in-Both.was (c.gather.ensures.answer g bs stand)
-    (c.gather-in-Both.ensures.answer g bs (stand_in c.args.course.now.fixings.now c.args.scratch.now c.gather.new.scratch g bs c.gather.ensures.same stand))
+pub gather_both-returns-clause-answer : goal.gather_both-returns-clause-answer
+gather_both-returns-clause-answer t c = λ g bs stand.
+    both_noted (declarations c.args.course.now.decls.now) c.args.course.now.fixings.now c.args.course.now.until c.args.here (contract c.args.left.now) (contract c.args.right.now) g bs c.args.out.now.items c.gather.new.out.items c.gather-2.new.out.items c.gather.result c.gather-2.result _
+    c.in_ok-gather.was (c.gather.ensures.answer g bs stand) (c.gather-2.ensures.answer g bs (stand_in c.args.course.now.fixings.now c.args.scratch.now c.gather.new.scratch g bs c.gather.ensures.same stand))
 
 pub gather_within-first_day-requires-clause-ready : goal.gather_within-first_day-requires-clause-ready
 gather_within-first_day-requires-clause-ready t c = ready_test (declarations c.args.course.now.decls.now) (expression c.args.test.now) (day_count c.args.days.now) (contract c.args.hit.now) (contract c.args.miss.now) c.args.here.decimals c.args.scratch.now c.args.course.now.fixings.now c.requires.ready
