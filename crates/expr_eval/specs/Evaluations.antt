@@ -4,9 +4,12 @@ use Rattle.std.specs.Prelude.{ℕ, ℤ, pos, ◌+ℤ◌, List}
 use Rattle.term_core.specs.Declarations.{Declarations, declarations}
 use Rattle.term_core.specs.declared.decls.Decls.{Decls}
 use Rattle.term_core.specs.declared.terms.Expr.{Expr}
+use Rattle.decimal.specs.declared.rounding.Mode.{Mode}
+use Rattle.term_core.specs.declared.terms.NumOp.{NumOp}
+use Rattle.term_core.specs.declared.terms.CmpOp.{CmpOp}
 use Rattle.term_core.specs.declared.terms.LogicOp.{LogicOp}
 use Rattle.term_core.specs.declared.values.Kind.{Kind}
-use Rattle.term_core.specs.Terms.{Expression, expression, Cmp, Logic, Cond}
+use Rattle.term_core.specs.Terms.{Expression, expression, Num, Cmp, Logic, Cond, Div}
 use Rattle.term_core.specs.Environments.{Environment}
 use Rattle.interval_check.specs.RangeTrials.{kind_found}
 use Rattle.expr_eval.specs.declared.scratch.Binding.{Binding}
@@ -39,6 +42,15 @@ abbrev pub KindFitsIn : Decls → Expression → Bindings → Type 0
 KindFitsIn decls e names = KindFits (declarations decls) e (kinds_in names)
 
 -- ---- the forms whose parts are evaluated apart
+
+abbrev pub combination_over : NumOp → Expr → Expr → Expression
+combination_over op left right = Num op (expression left) (expression right)
+
+abbrev pub comparison_over : CmpOp → Expr → Expr → Expression
+comparison_over op left right = Cmp op (expression left) (expression right)
+
+abbrev pub quotient_over : Mode → ℕ → Expr → Expr → Expression
+quotient_over mode scale top below = Div mode scale (expression top) (expression below)
 
 abbrev pub logic_over : LogicOp → Expr → Expr → Expression
 logic_over op left right = Logic op (expression left) (expression right)

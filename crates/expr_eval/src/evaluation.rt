@@ -4,32 +4,58 @@ ghost use Rattle.std.specs.Prelude.{◌≡◌, ◌+◌, ◌+ℤ◌, ◌-ℤ◌, 
 ghost use Rattle.term_core.specs.Declarations.{declarations};
 ghost use Rattle.term_core.specs.Terms.{expression};
 ghost use Rattle.expr_eval.specs.Bindings.{bindings};
-ghost use Rattle.expr_eval.specs.Runs.{day_run, kind_observed, observation, of_binding, of_place, run_of, untyped};
+ghost use Rattle.expr_eval.specs.Runs.{day_run, kind_observed, observation, of_binding, of_held, of_place, run_of, untyped};
 ghost use Rattle.expr_eval.specs.Fits.{DayFitsIn, Fits, IsDay};
-ghost use Rattle.expr_eval.specs.Operators.{OneFits, TwoFit, one_run, two_run};
-ghost use Rattle.expr_eval.specs.Evaluations.{DaysFitFrom, conditional_over, days_from, logic_over};
+ghost use Rattle.expr_eval.specs.Operators.{OneFits, one_run};
+ghost use Rattle.expr_eval.specs.Evaluations.{DaysFitFrom, combination_over, comparison_over, conditional_over, days_from, logic_over, quotient_over};
 
-use crate::bindings::{Bindings, binding_at};
+use crate::bindings::Bindings;
 use crate::kinds::{kind_in, kind_observed};
-use crate::operations::{Operands, Typed, at_kind, is_decided, number, verdict};
-use crate::operators::{OnOne, OnTwo, done_on_one, done_on_two};
-use crate::scratch::{Binding, Held};
+use crate::operations::{
+    Operands, Typed, at_kind, combine, compare, divide, is_decided, number, verdict,
+};
+use crate::operators::{OnOne, done_on_one};
+use crate::scratch::{Binding, Held, Scratch};
+use decimal::Mode;
 use fixing_files::Fixings;
-use term_core::{Decls, Expr, Kind, LogicOp, Missing, Value};
+use term_core::{CmpOp, Decls, Expr, Kind, LogicOp, Missing, NumOp, Value};
+
+// The value that an entry holds, with its kind.
+fn value_held(binding: &Binding) -> Result<Typed, Missing>
+    ensures { result ≡ of_held binding.now.kind binding.now.held }
+{
+    match binding.held {
+        Held::Known { value } => Ok(Typed {
+            kind: binding.kind,
+            value,
+        }),
+        Held::Lacking { missing } => Err(missing),
+    }
+}
+
+// The value of an entry of a scratch. It stands apart, since an entry is copied here.
+fn value_entered(scratch: &Scratch, back: u32) -> Result<Typed, Missing>
+    ensures { result ≡ of_binding (slice_get scratch.now.entries back) }
+{
+    match scratch.at(back as usize) {
+        Some(binding) => value_held(&binding),
+        None => Ok(verdict(false)),
+    }
+}
 
 /// The value of the name that is bound `back` binders further out than the innermost.
 pub fn value_bound(names: &Bindings, back: u32) -> Result<Typed, Missing>
     ensures { result ≡ of_binding (slice_get (bindings names.now) back) }
 {
-    match binding_at(names, back) {
-        Some(binding) => match binding.held {
-            Held::Known { value } => Ok(Typed {
-                kind: binding.kind,
-                value,
-            }),
-            Held::Lacking { missing } => Err(missing),
-        },
-        None => Ok(verdict(false)),
+    match names {
+        Bindings::Lent { scratch } => value_entered(scratch, back),
+        Bindings::Inner { binding, outer } => {
+            if back == 0 {
+                value_held(binding)
+            } else {
+                value_bound(outer, back - 1)
+            }
+        }
     }
 }
 
@@ -124,12 +150,10 @@ pub fn evaluate(
         Expr::Obs { label, offset } => value_observed(decls, *label, day_at(day, *offset), fixings),
         Expr::Neg { of } => evaluate_one(decls, OnOne::Negative, of, names, fixings, day),
         Expr::Num { op, left, right } => {
-            let op = OnTwo::Combined { op: *op };
-            evaluate_two(decls, op, left, right, names, fixings, day)
+            evaluate_combined(decls, *op, left, right, names, fixings, day)
         }
         Expr::Cmp { op, left, right } => {
-            let op = OnTwo::Compared { op: *op };
-            evaluate_two(decls, op, left, right, names, fixings, day)
+            evaluate_compared(decls, *op, left, right, names, fixings, day)
         }
         Expr::Not { of } => evaluate_one(decls, OnOne::Opposite, of, names, fixings, day),
         Expr::Logic { op, left, right } => {
@@ -154,13 +178,7 @@ pub fn evaluate(
             scale,
             top,
             below,
-        } => {
-            let op = OnTwo::Quotient {
-                mode: *mode,
-                scale: *scale,
-            };
-            evaluate_two(decls, op, top, below, names, fixings, day)
-        }
+        } => evaluate_quotient(decls, *mode, *scale, top, below, names, fixings, day),
         Expr::Acc { body, days, first } => {
             let from = day_before(day, *days);
             evaluate_days(decls, body, *days, first, names, fixings, from)
@@ -186,23 +204,62 @@ fn evaluate_one(
     Ok(done_on_one(op, of))
 }
 
-// What is done with the values of two parts, the left one first.
+// An operator on two numbers, the left one first.
 #[cycle(evaluation)]
-fn evaluate_two(
+fn evaluate_combined(
     decls: &Decls,
-    op: OnTwo,
+    op: NumOp,
     left: &Expr,
     right: &Expr,
     names: &Bindings,
     fixings: &Fixings,
     day: i64,
 ) -> Result<Typed, Missing>
-    requires { TwoFit (declarations decls.now) op (expression left.now) (expression right.now) (bindings names.now) fixings.now day }
-    ensures { result ≡ two_run (declarations decls.now) op (expression left.now) (expression right.now) (bindings names.now) fixings.now day }
+    requires { Fits (declarations decls.now) (combination_over op left.now right.now) (bindings names.now) fixings.now day }
+    ensures { result ≡ run_of (declarations decls.now) (combination_over op left.now right.now) (bindings names.now) fixings.now day }
 {
     let left = evaluate(decls, left, names, fixings, day)?;
     let right = evaluate(decls, right, names, fixings, day)?;
-    Ok(done_on_two(op, Operands { left, right }))
+    Ok(combine(op, Operands { left, right }))
+}
+
+// A comparison of two numbers, the left one first.
+#[cycle(evaluation)]
+fn evaluate_compared(
+    decls: &Decls,
+    op: CmpOp,
+    left: &Expr,
+    right: &Expr,
+    names: &Bindings,
+    fixings: &Fixings,
+    day: i64,
+) -> Result<Typed, Missing>
+    requires { Fits (declarations decls.now) (comparison_over op left.now right.now) (bindings names.now) fixings.now day }
+    ensures { result ≡ run_of (declarations decls.now) (comparison_over op left.now right.now) (bindings names.now) fixings.now day }
+{
+    let left = evaluate(decls, left, names, fixings, day)?;
+    let right = evaluate(decls, right, names, fixings, day)?;
+    Ok(compare(op, Operands { left, right }))
+}
+
+// A quotient of two numbers, the top one first.
+#[cycle(evaluation)]
+fn evaluate_quotient(
+    decls: &Decls,
+    mode: Mode,
+    scale: u8,
+    top: &Expr,
+    below: &Expr,
+    names: &Bindings,
+    fixings: &Fixings,
+    day: i64,
+) -> Result<Typed, Missing>
+    requires { Fits (declarations decls.now) (quotient_over mode scale top.now below.now) (bindings names.now) fixings.now day }
+    ensures { result ≡ run_of (declarations decls.now) (quotient_over mode scale top.now below.now) (bindings names.now) fixings.now day }
+{
+    let left = evaluate(decls, top, names, fixings, day)?;
+    let right = evaluate(decls, below, names, fixings, day)?;
+    Ok(divide(mode, scale, Operands { left, right }))
 }
 
 // Two truth values; the right one is looked at only where the left does not decide.

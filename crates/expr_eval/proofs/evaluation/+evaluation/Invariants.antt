@@ -11,8 +11,14 @@ decreases-evaluate l = 3 * size-Expr l.e.now
 abbrev pub decreases-evaluate_one : goal.decreases-evaluate_one
 decreases-evaluate_one l = 3 * size-Expr l.of.now + 1
 
-abbrev pub decreases-evaluate_two : goal.decreases-evaluate_two
-decreases-evaluate_two l = 3 * max (size-Expr l.left.now) (size-Expr l.right.now) + 1
+abbrev pub decreases-evaluate_combined : goal.decreases-evaluate_combined
+decreases-evaluate_combined l = 3 * max (size-Expr l.left.now) (size-Expr l.right.now) + 1
+
+abbrev pub decreases-evaluate_compared : goal.decreases-evaluate_compared
+decreases-evaluate_compared l = 3 * max (size-Expr l.left.now) (size-Expr l.right.now) + 1
+
+abbrev pub decreases-evaluate_quotient : goal.decreases-evaluate_quotient
+decreases-evaluate_quotient l = 3 * max (size-Expr l.top.now) (size-Expr l.below.now) + 1
 
 abbrev pub decreases-evaluate_logic : goal.decreases-evaluate_logic
 decreases-evaluate_logic l = 3 * max (size-Expr l.left.now) (size-Expr l.right.now) + 1
