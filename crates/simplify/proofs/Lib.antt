@@ -26,3 +26,4 @@ pub mod TurnableInFacts
 pub mod SimplifyingFacts
 pub mod TurnedParts
 pub mod RuleParts
+pub mod FoldFacts

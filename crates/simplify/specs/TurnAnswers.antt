@@ -1,5 +1,5 @@
 -- What a turn answers for a part: what takes its place, or nothing where the part stays.
-use Rattle.std.specs.Prelude.{◌≡◌, Option, List}
+use Rattle.std.specs.Prelude.{◌≡◌, ◌≤◌, Option, List}
 use Rattle.std.specs.declared.rc.Rc.{Rc}
 use Rattle.std.specs.Global.{Global}
 use Rattle.term_core.specs.Declarations.{Declarations}
@@ -7,10 +7,12 @@ use Rattle.term_core.specs.declared.terms.Expr.{Expr}
 use Rattle.term_core.specs.declared.terms.LogicOp.{LogicOp}
 use Rattle.term_core.specs.declared.shared.SharedContr.{SharedContr}
 use Rattle.term_core.specs.declared.values.Kind.{Kind}
-use Rattle.term_core.specs.Terms.{Expression, expression, Logic}
-use Rattle.term_core.specs.Kinds.{scale_of_kind}
+use Rattle.term_core.specs.declared.values.Kind.TheVariants.{Truth, Number}
+use Rattle.term_core.specs.Terms.{Expression, expression, Neg, Num, Logic, Widen, Round, Div}
+use Rattle.term_core.specs.Kinds.{scale_of_kind, scale_of_op}
+use Rattle.term_core.specs.Scales.{greatest_scale}
 use Rattle.term_core.specs.SharedTerms.{shared}
-use Rattle.rewriting.specs.Rebuilding.{after, choice_after}
+use Rattle.rewriting.specs.Rebuilding.{after, choice_after, over_one, over_two}
 use Rattle.rewriting.specs.RebuildingContracts.{after_in}
 use Rattle.simplify.specs.declared.turns.Turned.{Turned}
 use Rattle.simplify.specs.Turning.{turned}
@@ -35,3 +37,27 @@ abbrev pub decided_after : Expr → Option Expr → Expr → Turned → Expr →
 decided_after test decision left one right two =
     of_choice (truth_literal (after (expression test) decision)) (scale_of_kind one.kind) (scale_of_kind two.kind)
     (after (expression left) one.new) (after (expression right) two.new) (choice_after test decision left one.new right two.new)
+
+-- a node over what its one part turns into, and over what its two parts do
+abbrev pub one_turned : Declarations → List Kind → Expr → Expr → Expression
+one_turned d ks e part = over_one (expression e) (turned d ks (expression part))
+
+abbrev pub two_turned : Declarations → List Kind → Expr → Expr → Expr → Expression
+two_turned d ks e left right = over_two (expression e) (turned d ks (expression left)) (turned d ks (expression right))
+
+-- the kind of an operator on one operand and on two, by the kinds of those
+abbrev pub kind_over_one : Expression → Kind → Kind
+kind_over_one (Neg e) k = Number (scale_of_kind k)
+kind_over_one (Widen s e) k = Number s
+kind_over_one (Round mode s e) k = Number s
+kind_over_one _ k = Truth
+
+abbrev pub kind_over_two : Expression → Kind → Kind → Kind
+kind_over_two (Num op a b) j k = Number (scale_of_op op (scale_of_kind j) (scale_of_kind k))
+kind_over_two (Div mode s a b) j k = Number s
+kind_over_two _ j k = Truth
+
+-- the decimals of the outcome fit, where operands of these kinds have it
+abbrev pub ScalesFit : Expression → Kind → Kind → Type 0
+ScalesFit (Num op a b) j k = scale_of_op op (scale_of_kind j) (scale_of_kind k) ≤ greatest_scale
+ScalesFit _ j k = Unit {0}

@@ -1,7 +1,9 @@
-//! Operators on literals.
+//! Operators on literals. Most operators have none, and a function pays at entry for all its locals; so whether there are
+//! any is asked first.
 
-ghost use Rattle.std.specs.Prelude.{◌≡◌};
+ghost use Rattle.std.specs.Prelude.{◌≡◌, ◌&&◌};
 ghost use Rattle.term_core.specs.Terms.{expression};
+ghost use Rattle.term_core.specs.Redexes.{has_literal_operands, is_literal};
 ghost use Rattle.rewriting.specs.Measures.{size};
 ghost use Rattle.rewriting.specs.Rebuilding.{after, IsLess};
 ghost use Rattle.simplify.specs.Folding as model;
@@ -12,6 +14,37 @@ use expr_eval::operations::{
 };
 use rewriting::literal;
 use term_core::{Expr, Kind};
+
+/// Whether an expression is a literal.
+pub fn is_literal(e: &Expr) -> bool
+    ensures { result ≡ is_literal (expression e.now) }
+{
+    matches!(e, Expr::Lit { .. } | Expr::Yes { .. })
+}
+
+// Whether two expressions are.
+fn are_literals(left: &Expr, right: &Expr) -> bool
+    ensures { result ≡ (is_literal (expression left.now) && is_literal (expression right.now)) }
+{
+    is_literal(left) && is_literal(right)
+}
+
+/// Whether an expression is an operator on literals; of `&` and `|` the left side alone counts.
+pub fn has_literals(e: &Expr) -> bool
+    ensures { result ≡ has_literal_operands (expression e.now) }
+{
+    match e {
+        Expr::Neg { of } => is_literal(of),
+        Expr::Not { of } => is_literal(of),
+        Expr::Widen { of, .. } => is_literal(of),
+        Expr::Round { of, .. } => is_literal(of),
+        Expr::Num { left, right, .. } => are_literals(left, right),
+        Expr::Cmp { left, right, .. } => are_literals(left, right),
+        Expr::Logic { left, .. } => is_literal(left),
+        Expr::Div { top, below, .. } => are_literals(top, below),
+        _ => false,
+    }
+}
 
 /// The value of a literal, with its kind.
 pub fn literal_in(e: &Expr) -> Option<Typed>
@@ -45,9 +78,9 @@ fn plain(v: Typed) -> Expr
     literal(v.kind, v.value)
 }
 
-/// What an operator on literals comes to, and nothing where it is none.
+// What an operator on literals comes to, and nothing where it is none.
 #[tactic(auto, using(rewriting::proofs::SizeFacts::some_size))]
-pub fn fold(e: &Expr) -> Option<Expr>
+fn fold_literals(e: &Expr) -> Option<Expr>
     requires { CanFold (expression e.now) }
     ensures same { after (expression e.now) result ≡ folded (expression e.now) }
     ensures less { IsLess result (expression e.now) }
@@ -87,6 +120,20 @@ pub fn fold(e: &Expr) -> Option<Expr>
             None => None,
         },
         _ => None,
+    }
+}
+
+/// The same, where it may be asked of any expression.
+#[tactic(auto, using(crate::proofs::FoldFacts::nothing_folds))]
+pub fn fold(e: &Expr) -> Option<Expr>
+    requires { CanFold (expression e.now) }
+    ensures same { after (expression e.now) result ≡ folded (expression e.now) }
+    ensures less { IsLess result (expression e.now) }
+{
+    if has_literals(e) {
+        fold_literals(e)
+    } else {
+        None
     }
 }
 
