@@ -3,13 +3,14 @@
 
 ghost use Rattle.std.specs.Prelude.{◌≡◌, ◌≤◌, ◌+◌, ◌^◌, max, unsigned_abs, IfOk, IfErr, List};
 ghost use Rattle.term_core.specs.Declarations.{declarations};
-ghost use Rattle.term_core.specs.Terms.{expression};
+ghost use Rattle.term_core.specs.Terms.{expression, Zero};
 ghost use Rattle.term_core.specs.Environments.{IsAdmitted};
 ghost use Rattle.term_core.specs.Sizes.{height_of_contract};
 ghost use Rattle.term_core.specs.SharedTerms.{shared, HasOffsets, StoresOffsets};
 ghost use Rattle.expr_eval.specs.declared.scratch.Binding.{Binding};
 ghost use Rattle.expr_eval.specs.Evaluable.{MayEvaluate};
-ghost use Rattle.rewriting.specs.RebuildingContracts.{after_over, let_over, within_over};
+ghost use Rattle.flow_eval.specs.Faults.{lacks_memory};
+ghost use Rattle.rewriting.specs.RebuildingContracts.{after_over, both_over, let_over, scale_over, within_over};
 ghost use Rattle.advance_step.specs.CarryingWalk.{CanCarry, CanMove, IsLeftOn, LacksReadOn, WithEntry};
 
 use crate::course::{Course, days_tried, entry_for};
@@ -20,6 +21,15 @@ use specialise::day_after;
 use std::alloc::Global;
 use std::rc::Rc;
 use term_core::{Expr, SharedContr};
+
+// What is left of a payment, and of nothing.
+fn nothing_left(alloc: Global) -> Result<Rc<SharedContr>, FlowErr>
+    ensures tree { IfOk result (λ r. shared r.value ≡ Zero) }
+    ensures offsets { IfOk result (λ r. StoresOffsets r.value) }
+    ensures memory { IfErr result (λ e. e ≡ lacks_memory) }
+{
+    Ok(nothing(alloc)?)
+}
 
 /// What is left of a contract that stands on `day`, after `last + 1` days.
 #[cycle(carrying)]
@@ -43,21 +53,16 @@ pub fn carry_in(
     ensures same { scratch.new ≡ scratch.old }
 {
     match s {
-        SharedContr::Zero => Ok(nothing(alloc)?),
-        SharedContr::Pay { .. } => Ok(nothing(alloc)?),
+        SharedContr::Zero => nothing_left(alloc),
+        SharedContr::Pay { .. } => nothing_left(alloc),
         SharedContr::Both { left, right } => {
-            let left = carry_in(alloc, course, scratch, left, day, last)?;
-            let right = carry_in(alloc, course, scratch, right, day, last)?;
-            Ok(both_left(alloc, left, right)?)
+            carry_both(alloc, course, scratch, left, right, day, last)
         }
         SharedContr::Scale {
             factor,
             moved,
             body,
-        } => {
-            let body = carry_in(alloc, course, scratch, body, day, last)?;
-            Ok(scale_left(alloc, factor, *moved, last, body)?)
-        }
+        } => carry_scaled(alloc, course, scratch, factor, *moved, body, day, last),
         SharedContr::After { days, body } => {
             carry_after(alloc, course, scratch, *days, body, day, last)
         }
@@ -71,6 +76,65 @@ pub fn carry_in(
             miss,
         } => carry_within(alloc, course, scratch, test, *days, hit, miss, day, last),
     }
+}
+
+// What is left of two parts.
+#[cycle(carrying)]
+fn carry_both(
+    alloc: Global,
+    course: &Course,
+    scratch: &mut Scratch,
+    left: &Rc<SharedContr>,
+    right: &Rc<SharedContr>,
+    day: i64,
+    last: u32,
+) -> Result<Rc<SharedContr>, FlowErr>
+    requires left { CanCarry (declarations course.now.decls.now) left.now.value scratch.old.entries }
+    requires right { CanCarry (declarations course.now.decls.now) right.now.value scratch.old.entries }
+    requires left_stored { StoresOffsets left.now.value }
+    requires right_stored { StoresOffsets right.now.value }
+    requires admitted { IsAdmitted (declarations course.now.decls.now) course.now.fixings.now }
+    requires spare { max (height_of_contract (shared left.now.value)) (height_of_contract (shared right.now.value)) ≤ scratch.old.spare }
+    requires days { unsigned_abs day + last ≤ 10 ^ 11 }
+    requires last { last ≤ 1_200_000 }
+    ensures rest { IfOk result (λ r.
+        IsLeftOn course.now scratch.old.entries day last (both_over left.now right.now) (shared r.value)) }
+    ensures offsets { IfOk result (λ r. StoresOffsets r.value) }
+    ensures missing { IfErr result (λ e. LacksReadOn course.now scratch.old.entries day last (both_over left.now right.now) e) }
+    ensures same { scratch.new ≡ scratch.old }
+{
+    let left = carry_in(alloc, course, scratch, left, day, last)?;
+    let right = carry_in(alloc, course, scratch, right, day, last)?;
+    Ok(both_left(alloc, left, right)?)
+}
+
+// What is left of a contract times a factor.
+#[cycle(carrying)]
+fn carry_scaled(
+    alloc: Global,
+    course: &Course,
+    scratch: &mut Scratch,
+    factor: &Rc<Expr>,
+    moved: i32,
+    body: &Rc<SharedContr>,
+    day: i64,
+    last: u32,
+) -> Result<Rc<SharedContr>, FlowErr>
+    requires moves { CanMove moved (expression factor.now.value) }
+    requires ready { CanCarry (declarations course.now.decls.now) body.now.value scratch.old.entries }
+    requires offsets { StoresOffsets body.now.value }
+    requires admitted { IsAdmitted (declarations course.now.decls.now) course.now.fixings.now }
+    requires spare { height_of_contract (shared body.now.value) ≤ scratch.old.spare }
+    requires days { unsigned_abs day + last ≤ 10 ^ 11 }
+    requires last { last ≤ 1_200_000 }
+    ensures rest { IfOk result (λ r.
+        IsLeftOn course.now scratch.old.entries day last (scale_over moved factor.now body.now) (shared r.value)) }
+    ensures offsets { IfOk result (λ r. StoresOffsets r.value) }
+    ensures missing { IfErr result (λ e. LacksReadOn course.now scratch.old.entries day last (scale_over moved factor.now body.now) e) }
+    ensures same { scratch.new ≡ scratch.old }
+{
+    let body = carry_in(alloc, course, scratch, body, day, last)?;
+    Ok(scale_left(alloc, factor, moved, last, body)?)
 }
 
 // What is left of a contract that waits.

@@ -14,7 +14,7 @@ use Rattle.expr_eval.specs.Trials.{DayOrMissing}
 use Rattle.flow_eval.specs.Faults.{lacks_place}
 use Rattle.flow_eval.proofs.ReadyFacts.{entered_in}
 use Rattle.advance_step.proofs.CarryReady.{entered_ready}
-use Rattle.advance_step.proofs.WalkFacts.{after_faults, after_left, bound_faults, bound_is_left, hit_faults, hit_left, left_faults, miss_faults, miss_left, right_faults, scale_faults, test_faults, waits_left}
+use Rattle.advance_step.proofs.WalkFacts.{after_faults, after_left, bound_faults, bound_is_left, hit_faults, hit_left, left_faults, memory_faults, miss_faults, miss_left, right_faults, scale_faults, test_faults, waits_left}
 use Rattle.advance_step.proofs.walk.+carrying.Goals as goal
 
 -- the tree of a shared contract
@@ -60,26 +60,34 @@ carry_bound-returns-clause-rest t c =
     (entered_in c.args.scratch.now c.entry_for-entry.new.scratch c.enter.new.self _ c.entry_for-entry.ensures.same c.enter.ensures.entries)
     c.entry_for-entry.ensures.enters c.in_ok-carried.ensures.rest c.in_ok-let_left.ensures.tree
 
-pub carry_in-returns-in_err-left-in-Both-clause-missing : goal.carry_in-returns-in_err-left-in-Both-clause-missing
-carry_in-returns-in_err-left-in-Both-clause-missing t c =
-    let y = to_z-of_z w64 c.args.day c.ranges.day in
-    let err : c.from_residual-in_err-left-in-Both.result ≡ Err c.in_err-left-in-Both.field-0.0 = grind (arith, c.from_residual-in_err-left-in-Both.ensures) in
-    left_faults (declarations c.args.course.now.decls.now) (shared c.args.s.now) (shared c.in-Both.left.value) (shared c.deref.result.now) (shared c.in-Both.right.value) c.args.scratch.now.entries _ c.args.course.now.fixings.now c.args.day _ c.args.last c.carry_in.result _ c.in_err-left-in-Both.field-0.0
-    (ap (λ (x : SharedContr). shared x) c.in-Both.is) (ap (λ (x : SharedContr). shared x) c.deref.ensures) refl y c.in_err-left-in-Both.was err c.carry_in.ensures.missing
+pub carry_in-returns-in-Zero-clause-missing : goal.carry_in-returns-in-Zero-clause-missing
+carry_in-returns-in-Zero-clause-missing t c =
+    memory_faults (declarations c.args.course.now.decls.now) (shared c.args.s.now) c.args.scratch.now.entries c.args.course.now.fixings.now c.args.day c.args.last c.nothing_left.result c.nothing_left.ensures.memory
 
-pub carry_in-returns-in_err-right-in-Both-clause-missing : goal.carry_in-returns-in_err-right-in-Both-clause-missing
-carry_in-returns-in_err-right-in-Both-clause-missing t c =
-    let y = to_z-of_z w64 c.args.day c.ranges.day in
-    let err : c.from_residual-in_err-right-in-Both.result ≡ Err c.in_err-right-in-Both.field-0.0 = grind (arith, c.from_residual-in_err-right-in-Both.ensures) in
-    right_faults (declarations c.args.course.now.decls.now) (shared c.args.s.now) (shared c.in-Both.left.value) (shared c.in-Both.right.value) (shared c.deref-in-Both.result.now) c.args.scratch.now.entries _ c.args.course.now.fixings.now c.args.day _ c.args.last c.carry_in-in-Both.result _ c.in_err-right-in-Both.field-0.0
-    (ap (λ (x : SharedContr). shared x) c.in-Both.is) (ap (λ (x : SharedContr). shared x) c.deref-in-Both.ensures) (ap (λ (r : Room). r.entries) c.carry_in.ensures.same) y c.in_err-right-in-Both.was err c.carry_in-in-Both.ensures.missing
+pub carry_in-returns-in-Pay-clause-missing : goal.carry_in-returns-in-Pay-clause-missing
+carry_in-returns-in-Pay-clause-missing t c =
+    memory_faults (declarations c.args.course.now.decls.now) (shared c.args.s.now) c.args.scratch.now.entries c.args.course.now.fixings.now c.args.day c.args.last c.nothing_left-in-Pay.result c.nothing_left-in-Pay.ensures.memory
 
-pub carry_in-returns-in_err-body-in-Scale-clause-missing : goal.carry_in-returns-in_err-body-in-Scale-clause-missing
-carry_in-returns-in_err-body-in-Scale-clause-missing t c =
+pub carry_both-returns-in_err-left-clause-missing : goal.carry_both-returns-in_err-left-clause-missing
+carry_both-returns-in_err-left-clause-missing t c =
     let y = to_z-of_z w64 c.args.day c.ranges.day in
-    let err : c.from_residual-in_err-body-in-Scale.result ≡ Err c.in_err-body-in-Scale.field-0.0 = grind (arith, c.from_residual-in_err-body-in-Scale.ensures) in
-    scale_faults (declarations c.args.course.now.decls.now) (shared c.args.s.now) (shared c.in-Scale.body.value) (shared c.deref-in-Scale.result.now) _ c.args.scratch.now.entries _ c.args.course.now.fixings.now c.args.day _ c.args.last c.carry_in-in-Scale.result _ c.in_err-body-in-Scale.field-0.0
-    (ap (λ (x : SharedContr). shared x) c.in-Scale.is) (ap (λ (x : SharedContr). shared x) c.deref-in-Scale.ensures) refl y c.in_err-body-in-Scale.was err c.carry_in-in-Scale.ensures.missing
+    let err : c.from_residual.result ≡ Err c.in_err-left.field-0.0 = grind (arith, c.from_residual.ensures) in
+    left_faults (declarations c.args.course.now.decls.now) (shared c.args.left.now.value) (shared c.deref.result.now) (shared c.args.right.now.value) c.args.scratch.now.entries c.args.course.now.fixings.now c.args.day _ c.args.last c.carry_in.result _ c.in_err-left.field-0.0
+    (ap (λ (x : SharedContr). shared x) c.deref.ensures) y c.in_err-left.was err c.carry_in.ensures.missing
+
+pub carry_both-returns-in_err-right-clause-missing : goal.carry_both-returns-in_err-right-clause-missing
+carry_both-returns-in_err-right-clause-missing t c =
+    let y = to_z-of_z w64 c.args.day c.ranges.day in
+    let err : c.from_residual-in_err-right.result ≡ Err c.in_err-right.field-0.0 = grind (arith, c.from_residual-in_err-right.ensures) in
+    right_faults (declarations c.args.course.now.decls.now) (shared c.args.left.now.value) (shared c.args.right.now.value) (shared c.deref-2.result.now) c.args.scratch.now.entries _ c.args.course.now.fixings.now c.args.day _ c.args.last c.carry_in-2.result _ c.in_err-right.field-0.0
+    (ap (λ (x : SharedContr). shared x) c.deref-2.ensures) (ap (λ (r : Room). r.entries) c.carry_in.ensures.same) y c.in_err-right.was err c.carry_in-2.ensures.missing
+
+pub carry_scaled-returns-in_err-body-clause-missing : goal.carry_scaled-returns-in_err-body-clause-missing
+carry_scaled-returns-in_err-body-clause-missing t c =
+    let y = to_z-of_z w64 c.args.day c.ranges.day in
+    let err : c.from_residual.result ≡ Err c.in_err-body.field-0.0 = grind (arith, c.from_residual.ensures) in
+    scale_faults (declarations c.args.course.now.decls.now) (shared c.args.body.now.value) (shared c.deref.result.now) _ c.args.scratch.now.entries c.args.course.now.fixings.now c.args.day _ c.args.last c.carry_in.result _ c.in_err-body.field-0.0
+    (ap (λ (x : SharedContr). shared x) c.deref.ensures) y c.in_err-body.was err c.carry_in.ensures.missing
 
 pub carry_within-returns-in_err-first-clause-missing : goal.carry_within-returns-in_err-first-clause-missing
 carry_within-returns-in_err-first-clause-missing t c =
