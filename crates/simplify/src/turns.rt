@@ -160,7 +160,8 @@ fn kind_over_two(e: &Expr, left: Kind, right: Kind) -> Kind
 fn rebuilt_one(alloc: Global, e: &Expr, part: &Expr, one: Turned) -> Result<Turned, NoMemory>
     requires whole { over_one (expression e.now) (expression part.now) ≡ expression e.now }
     requires fits { CanFold (over_one (expression e.now) (after (expression part.now) one.new)) }
-    ensures same { IfOk result (λ r. after (expression e.now) r.new ≡ folded (over_one (expression e.now) (after (expression part.now) one.new))) }
+    ensures same { IfOk result (λ r. after (expression e.now) r.new
+        ≡ folded (over_one (expression e.now) (after (expression part.now) one.new))) }
     ensures kind { IfOk result (λ r. r.kind ≡ model.kind_over_one (expression e.now) one.kind) }
     ensures less { IfOk result (λ r. IsLess one.new (expression part.now) → IsLess r.new (expression e.now)) }
 {
@@ -311,7 +312,8 @@ fn turn_one(
 ) -> Result<Turned, NoMemory>
     requires whole { over_one (expression e.now) (expression part.now) ≡ expression e.now }
     requires part { CanTurn (declarations decls.now) (expression part.now) (held_in names.now) }
-    requires folds { FoldsTo (declarations decls.now) (held_in names.now) (one_turned (declarations decls.now) (held_in names.now) e.now part.now) }
+    requires folds { FoldsTo (declarations decls.now) (held_in names.now)
+        (one_turned (declarations decls.now) (held_in names.now) e.now part.now) }
     ensures same { IfOk result (λ r. after (expression e.now) r.new ≡ rule (declarations decls.now) (held_in names.now)
         (one_turned (declarations decls.now) (held_in names.now) e.now part.now)) }
     ensures kind { IfOk result (λ r. r.kind
