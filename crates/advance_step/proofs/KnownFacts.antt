@@ -1,6 +1,6 @@
 -- Where the flows of a contract are known, no place that it reads on the days gone by is missing, and what is left of it
 -- is what is asked.
-use Rattle.std.proofs.Common.{◌≡◌, ℕ, suc, ℤ, pos, ◌+ℤ◌, ◌-ℤ◌, ◌+◌, ◌≤◌, true, false, Bool, List, [], ◌∷◌, Some, None, Result, Ok, Err, IfOk, IfErr, if◌then◌else◌, refl, ap, sym, subst, ◌∙◌, arith, IsTrue}
+use Rattle.std.proofs.Common.{◌≡◌, ℕ, zero, suc, ◌<◌, ℤ, pos, ◌+ℤ◌, ◌-ℤ◌, ◌+◌, ◌≤◌, true, false, Bool, List, [], ◌∷◌, Some, None, Result, Ok, Err, IfOk, IfErr, if◌then◌else◌, refl, ap, sym, subst, ◌∙◌, arith, IsTrue}
 use Rattle.std.specs.List.{All, Contains}
 use Rattle.std.proofs.lemmas.Int.{ints}
 use Rattle.std.proofs.lemmas.List.Elements.{All-cons, All-contains}
@@ -9,10 +9,11 @@ use Rattle.std.specs.Global.{Global}
 use Rattle.term_core.specs.Declarations.{Declarations}
 use Rattle.term_core.specs.declared.shared.SharedContr.{SharedContr}
 use Rattle.term_core.specs.SharedTerms.{shared}
-use Rattle.term_core.specs.Terms.{Contract}
+use Rattle.term_core.specs.Terms.{Contract, Zero}
 use Rattle.term_core.specs.Environments.{Environment, Place, IsAdmitted}
 use Rattle.term_core.specs.Acceptance.{IsAccepted}
 use Rattle.term_core.specs.Reads.{first_unfixed, is_fixed, reads_of_contract}
+use Rattle.term_core.specs.Redexes.{IsReduced, EmptyLeft, EmptyRight, ScaledNothing, ZeroFactor, NoDelay, TwoDelays, DelayedNothing, UnusedName, LiteralName, NothingEither, DecidedTest, LiteralOperands, DecidedChoice, FixedPlace, NoSteps, FixedSteps}
 use Rattle.term_core.specs.Sizes.{reach, past_of_contract}
 use Rattle.term_core.specs.Smallness.{is_small}
 use Rattle.term_core.specs.WellFormed.{IsClosed, HasOnlyNumbers}
@@ -24,6 +25,7 @@ use Rattle.flow_eval.specs.Faults.{lacks_memory}
 use Rattle.flow_eval.specs.declared.faults.FlowErr.{FlowErr}
 use Rattle.flow_eval.specs.declared.faults.FlowErr.TheVariants.{Missing, NoMemory}
 use Rattle.advance_step.specs.WhatIsLeft.{left_of}
+use Rattle.advance_step.specs.Advancing.{IsResidual}
 use Rattle.advance_step.specs.CarryingWalk.{IsLeftEverywhere, NamesUnfixedRead}
 use Rattle.advance_step.specs.Residual.{IsLeftAfter, ReadsAreFixed}
 use Rattle.advance_step.proofs.CarryFacts.{left_carries}
@@ -72,6 +74,40 @@ left_after d F c rest f j limits a h n is =
       carries = left_carries d c f F j rest (right_scale d c h) (λ env b x. is env x);
       gone = λ past. here ∙ gone d c [] F f j (omega (arith, past));
       closed = λ w. subst (λ (x : Contract). IsClosed d x) (sym here) (left_formed d c [] F f j 0 (near_enough d c h) w n).0;
+    }
+
+-- nothing has no redex
+nothing_reduced : (d : Declarations) (F : Environment) (f : ℤ) → IsReduced d Zero F f
+nothing_reduced d F f EmptyLeft = (refl, tt)
+nothing_reduced d F f EmptyRight = (refl, tt)
+nothing_reduced d F f ScaledNothing = (refl, tt)
+nothing_reduced d F f ZeroFactor = (refl, tt)
+nothing_reduced d F f NoDelay = (refl, tt)
+nothing_reduced d F f TwoDelays = (refl, tt)
+nothing_reduced d F f DelayedNothing = (refl, tt)
+nothing_reduced d F f UnusedName = (refl, tt)
+nothing_reduced d F f LiteralName = (refl, tt)
+nothing_reduced d F f NothingEither = (refl, tt)
+nothing_reduced d F f DecidedTest = (refl, tt)
+nothing_reduced d F f LiteralOperands = (refl, tt)
+nothing_reduced d F f DecidedChoice = (refl, tt)
+nothing_reduced d F f FixedPlace = (refl, tt)
+nothing_reduced d F f NoSteps = (refl, tt)
+nothing_reduced d F f FixedSteps = (refl, tt)
+
+-- past the reach nothing is the residual
+pub gone_residual : (d : Declarations) (F : Environment) (c : Contract) (f : ℤ) (n : ℕ) → KeepsLimits d → IsAdmitted d F → IsAccepted d c → IsClosed d c → HasOnlyNumbers c → reach c < n → IsResidual d F f n c Zero
+gone_residual d F c f zero limits a h w numbers past = absurd (omega arith)
+gone_residual d F c f (suc j) limits a h w numbers past =
+    let left = left_after d F c Zero f j limits a h numbers (λ env ext. sym (gone d c [] env f j (omega (arith, past)))) in
+    record {
+      accepted = left.accepted;
+      carries = left.carries;
+      reduced = nothing_reduced d F (f +ℤ pos (suc j));
+      gone = λ _. refl;
+      closed = left.closed w;
+      numbers = tt;
+      literals = tt;
     }
 
 -- ---- the answer

@@ -14,6 +14,7 @@
 mod advancing;
 mod carried;
 mod course;
+mod gone;
 mod known;
 pub mod laws;
 mod parts;

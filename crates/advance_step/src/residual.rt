@@ -11,6 +11,7 @@ ghost use Rattle.flow_eval.specs.Faults.{lacks_memory};
 ghost use Rattle.advance_step.specs.Advancing.{IsResidual, day_before};
 ghost use Rattle.advance_step.specs.Residual.{IsLeftAfter, ReadsAreFixed};
 
+use crate::gone::is_gone;
 use crate::known::carry_known;
 use crate::reducing::reduce;
 use decimal::NoMemory;
@@ -77,7 +78,8 @@ fn reduced_after(
     Ok(reduce(alloc, decls, &left, fixings, day_after(day, days))?)
 }
 
-/// The residual of a contract after some days whose reads are fixed.
+/// The residual of a contract after some days whose reads are fixed. Of one that lies behind it is nothing, and takes no
+/// memory.
 pub fn residual_of(
     alloc: Global,
     decls: &Decls,
@@ -96,6 +98,9 @@ pub fn residual_of(
     ensures rest { IfOk result (λ r. IsResidual (declarations decls.now) fixings.now day days (contract c.now) (contract r)) }
     ensures memory { IfErr result (λ e. e ≡ lacks_memory) }
 {
+    if is_gone(c, days) {
+        return Ok(Contr::Zero);
+    }
     let s = share(alloc, c)?;
     let rest = reduced_after(alloc, decls, &s, fixings, day, days)?;
     Ok(unshare(alloc, &rest)?)

@@ -5,7 +5,13 @@ use Rattle.term_core.specs.SharedTerms.{shared, HasOffsetsIn}
 use Rattle.term_core.specs.Terms.{contract}
 use Rattle.term_core.proofs.ShiftedFacts.{formed_offsets_in}
 use Rattle.specialise.proofs.CallFacts.{offsets_shared}
+use Rattle.advance_step.proofs.KnownFacts.{gone_residual}
 use Rattle.advance_step.proofs.residual.residual_of.Goals as goal
+
+pub returns-then-is_gone-clause-rest : goal.returns-then-is_gone-clause-rest
+returns-then-is_gone-clause-rest c =
+    gone_residual (declarations c.args.decls.now) c.args.fixings.now (contract c.args.c.now) c.args.day c.args.days c.args.decls.now.labels_in c.requires.admitted c.requires.accepted c.requires.closed c.requires.numbers
+    (c.is_gone.ensures c.if-is_gone.true)
 
 pub reduced_after-requires-clause-offsets : goal.reduced_after-requires-clause-offsets
 reduced_after-requires-clause-offsets c =
