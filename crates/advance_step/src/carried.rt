@@ -32,7 +32,8 @@ fn carry_by_walk(
     requires first { pos 0 ≤ℤ day }
     requires last { day ≤ℤ pos 1_000_000 }
     requires days { last ≤ 1_000_000 }
-    ensures rest { IfOk result (λ r. IsLeftEverywhere (declarations decls.now) fixings.now (shared s.now.value) day last (shared r.value)) }
+    ensures rest { IfOk result (λ r.
+        IsLeftEverywhere (declarations decls.now) fixings.now (shared s.now.value) day last (shared r.value)) }
     ensures offsets { IfOk result (λ r. StoresOffsets r.value) }
     ensures missing { IfErr result (λ e. NamesUnfixedRead (declarations decls.now) fixings.now (shared s.now.value) day last e) }
 {
@@ -59,7 +60,8 @@ pub fn carry(
     requires first { pos 0 ≤ℤ day }
     requires last { day ≤ℤ pos 1_000_000 }
     requires days { last ≤ 1_000_000 }
-    ensures rest { IfOk result (λ r. IsLeftEverywhere (declarations decls.now) fixings.now (shared s.now.value) day last (shared r.value)) }
+    ensures rest { IfOk result (λ r.
+        IsLeftEverywhere (declarations decls.now) fixings.now (shared s.now.value) day last (shared r.value)) }
     ensures offsets { IfOk result (λ r. StoresOffsets r.value) }
     ensures missing { IfErr result (λ e. NamesUnfixedRead (declarations decls.now) fixings.now (shared s.now.value) day last e) }
 {
