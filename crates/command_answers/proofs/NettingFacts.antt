@@ -2,7 +2,6 @@
 use Rattle.std.proofs.Common.{◌≡◌, ◌∙◌, ◌<◌, ◌≤◌, ◌≤ℤ◌, ◌*◌, ◌^◌, ℕ, ℤ, pos, List, [], ◌∷◌, ◌++◌, length, append_assoc, ap, arith, get_or, refl, subst, sym, true}
 use Rattle.std.specs.Prelude.{All, Option, None, Result, Err, IsErrAnd}
 use Rattle.std.specs.Global.{Vec}
-use Rattle.std.proofs.lemmas.Int.{ints}
 use Rattle.std.proofs.lemmas.List.Elements.{All-cons, All-head, All-nil, All-tail, All-weaker}
 use Rattle.term_core.specs.declared.name.Name.{Name}
 use Rattle.term_core.specs.Books.{Book}
@@ -17,9 +16,9 @@ use Rattle.flow_eval.specs.declared.flow_table.FlowRow.{FlowRow}
 use Rattle.flow_eval.specs.declared.flow_table.FlowTable.{FlowTable}
 use Rattle.report.specs.FlowLines.{HaveLines, IsWholeInAsset}
 use Rattle.exposure.specs.declared.accounts.PositionRow.{PositionRow}
-use Rattle.exposure.specs.LawsTables.{AreDuring, AreWholeInAssets, IsDuring}
+use Rattle.exposure.specs.LawsTables.{IsDuring}
 use Rattle.exposure.specs.PositionLines.{AppendsPositionLine, IsPositionLine}
-use Rattle.exposure.specs.Positions.{ArePositions, CanBeAddedUp, sizes_in, sizes_of}
+use Rattle.exposure.specs.Positions.{ArePositions, CanBeAddedUp, sizes_in}
 use Rattle.exposure.specs.Settlement.{ArePaidInTurn, Settles}
 use Rattle.exposure.proofs.TableSums.{many_tables_add_up, positions_are_within, positions_stand_in_time, settled_are_within, settled_stand_in_time, tables_add_up}
 use Rattle.exposure.proofs.WholeFacts.{positions_are_whole, settled_are_whole}

@@ -51,3 +51,9 @@ pub lacks_memory : (c : Course) (r : Result Answer Stop) → IsErrAnd r (λ e. e
 lacks_memory c r given =
     let p = err_from_is_err_and r given in
     subst (λ (x : Result Answer Stop). Goes c x) (sym (p.1 ∙ ap (λ (x : Stop). Err x) p.2)) tt
+
+-- and what is left of one
+pub lacks_memory_done : (c : Course) (r : Result (Vec ℕ) Stop) → IsErrAnd r (λ e. e ≡ stop.NoMemory) → GoesDone c r
+lacks_memory_done c r given =
+    let p = err_from_is_err_and r given in
+    subst (λ (x : Result (Vec ℕ) Stop). GoesDone c x) (sym (p.1 ∙ ap (λ (x : Stop). Err x) p.2)) tt

@@ -16,7 +16,7 @@ use Rattle.command_answers.specs.declared.used.Written.{Written}
 
 abbrev pub tree_of : Instance → Contract
 tree_of (Lent contr) = contract contr.now
-tree_of (Made contr) = contract contr
+tree_of (Made contr) = contract contr.value
 
 abbrev pub entry_of : Used → Name × Contract
 entry_of one = (one.name.now, tree_of one.contr)

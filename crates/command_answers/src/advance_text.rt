@@ -67,12 +67,14 @@ fn append_comments(
     Ok(())
 }
 
-// What contracts are advanced over: their declarations, what is fixed, and the new day.
+// What contracts are advanced over: their declarations, what is fixed of these, and the new day, which is in range.
 #[derive(Clone, Copy)]
-struct Course<'a> {
+struct AdvanceTo<'a> {
     decls: &'a Decls,
     fixings: &'a Fixings,
     day: u32,
+    ghost first: { decls.now.start ≤ day },
+    ghost within: { day ≤ 1_000_000 },
 }
 
 /// What is due before the new day, and what is left of contracts.
@@ -111,45 +113,41 @@ fn keep(
 // Advances a contract behind those before it.
 fn advance_one(
     alloc: Global,
-    course: &Course<'_>,
+    to: &AdvanceTo<'_>,
     one: &Used<'_>,
     left: &mut Left,
 ) -> Result<(), Stop>
-    requires accepted { IsAccepted (declarations course.now.decls.now) (entry_of one.now).1 }
-    requires triable { IsTriable (declarations course.now.decls.now) (entry_of one.now).1 }
-    requires admitted { IsAdmitted (declarations course.now.decls.now) course.now.fixings.now }
-    requires first { course.now.decls.now.start ≤ course.now.day }
-    requires last { course.now.day ≤ 1_000_000 }
+    requires accepted { IsAccepted (declarations to.now.decls.now) (entry_of one.now).1 }
+    requires triable { IsTriable (declarations to.now.decls.now) (entry_of one.now).1 }
+    requires admitted { IsAdmitted (declarations to.now.decls.now) to.now.fixings.now }
     requires name { is_declared (keys left.old.contracts) (entry_of one.now).0 ≡ false }
-    ensures { AnswersRest (declarations course.now.decls.now) course.now.fixings.now course.now.day
+    ensures { AnswersRest (declarations to.now.decls.now) to.now.fixings.now to.now.day
         (entry_of one.now) left.old left.new result }
 {
-    let days = course.day - course.decls.start;
-    match advance(alloc, course.decls, one.contr.contr(), course.fixings, days) {
+    let days = to.day - to.decls.start;
+    match advance(alloc, to.decls, one.contr.contr(), to.fixings, days) {
         Ok(advanced) => {
-            keep(alloc, course.decls, one.name, advanced, left)?;
+            keep(alloc, to.decls, one.name, advanced, left)?;
             Ok(())
         }
-        Err(error) => Err(stop_of(alloc, course.decls, error)),
+        Err(error) => Err(stop_of(alloc, to.decls, error)),
     }
 }
 
 // Advances contracts, in their order.
-fn advance_all(alloc: Global, course: &Course<'_>, ones: &[Used<'_>]) -> Result<Left, Stop>
-    requires accepted { AreAllAccepted (declarations course.now.decls.now) (entries_of ones.now) }
-    requires triable { AreTriable (declarations course.now.decls.now) (entries_of ones.now) }
-    requires admitted { IsAdmitted (declarations course.now.decls.now) course.now.fixings.now }
-    requires first { course.now.decls.now.start ≤ course.now.day }
-    requires last { course.now.day ≤ 1_000_000 }
+fn advance_all(alloc: Global, to: &AdvanceTo<'_>, ones: &[Used<'_>]) -> Result<Left, Stop>
+    requires accepted { AreAllAccepted (declarations to.now.decls.now) (entries_of ones.now) }
+    requires triable { AreTriable (declarations to.now.decls.now) (entries_of ones.now) }
+    requires admitted { IsAdmitted (declarations to.now.decls.now) to.now.fixings.now }
     requires names { are_names (keys_of (entries_of ones.now)) ≡ true }
-    ensures { AnswersRests (declarations course.now.decls.now) course.now.fixings.now course.now.day (entries_of ones.now) [] [] result }
+    ensures { AnswersRests (declarations to.now.decls.now) to.now.fixings.now to.now.day (entries_of ones.now) [] [] result }
 {
     let mut left = Left {
         due: Vec::new(alloc),
         contracts: IndexMap::new(alloc),
     };
     for one in ones {
-        advance_one(alloc, course, one, &mut left)?;
+        advance_one(alloc, to, one, &mut left)?;
     }
     Ok(left)
 }
@@ -182,12 +180,12 @@ pub fn carry(
     let ones = used_contracts(alloc, portfolio, None)?;
     accept_all(alloc, &portfolio.decls, &ones)?;
     let fixings = fixings_of(alloc, &portfolio.decls, table)?;
-    let course = Course {
+    let to = AdvanceTo {
         decls: &portfolio.decls,
         fixings: &fixings,
         day,
     };
-    let left = advance_all(alloc, &course, &ones)?;
+    let left = advance_all(alloc, &to, &ones)?;
     let decls = rest_decls(alloc, &portfolio.decls, day)?;
     let Left { due, contracts } = left;
     let rest = Portfolio { decls, contracts };

@@ -58,49 +58,38 @@ pub fn append_table(
     Ok(())
 }
 
-/// What flows are asked over: what is fixed, and the last day.
+/// What flows are asked over: declarations, what is fixed of their labels, and the last day, which is in range.
 #[derive(Clone, Copy)]
-pub struct Course<'a> {
+pub struct FlowsUntil<'a> {
+    pub decls: &'a Decls,
     pub fixings: &'a Fixings,
     pub last: i64,
+    pub ghost first: { pos 0 ≤ℤ last },
+    pub ghost within: { last ≤ℤ pos last_day },
 }
 
 // The flow table of a contract.
-fn table_of(
-    alloc: Global,
-    decls: &Decls,
-    contr: &Contr,
-    course: &Course<'_>,
-) -> Result<FlowTable, Stop>
-    requires accepted { IsAccepted (declarations decls.now) (contract contr.now) }
-    requires admitted { IsAdmitted (declarations decls.now) course.now.fixings.now }
-    requires first { pos 0 ≤ℤ course.now.last }
-    requires last { course.now.last ≤ℤ pos last_day }
-    ensures { AnswersTable (declarations decls.now) (contract contr.now) course.now.fixings.now course.now.last result }
+fn table_of(alloc: Global, until: &FlowsUntil<'_>, contr: &Contr) -> Result<FlowTable, Stop>
+    requires accepted { IsAccepted (declarations until.now.decls.now) (contract contr.now) }
+    requires admitted { IsAdmitted (declarations until.now.decls.now) until.now.fixings.now }
+    ensures { AnswersTable (declarations until.now.decls.now) (contract contr.now) until.now.fixings.now until.now.last result }
 {
-    match flows(alloc, decls, contr, course.fixings, course.last) {
+    match flows(alloc, until.decls, contr, until.fixings, until.last) {
         Ok(table) => Ok(table),
-        Err(error) => Err(stop_of(alloc, decls, error)),
+        Err(error) => Err(stop_of(alloc, until.decls, error)),
     }
 }
 
 // The lines of the flows of contracts, in their order.
-fn lines_of(
-    alloc: Global,
-    decls: &Decls,
-    ones: &[Used<'_>],
-    course: &Course<'_>,
-) -> Result<Vec<u8>, Stop>
-    requires accepted { AreAllAccepted (declarations decls.now) (entries_of ones.now) }
-    requires admitted { IsAdmitted (declarations decls.now) course.now.fixings.now }
-    requires first { pos 0 ≤ℤ course.now.last }
-    requires last { course.now.last ≤ℤ pos last_day }
-    ensures { AnswersLines (declarations decls.now) course.now.fixings.now course.now.last (entries_of ones.now) [] result }
+fn lines_of(alloc: Global, until: &FlowsUntil<'_>, ones: &[Used<'_>]) -> Result<Vec<u8>, Stop>
+    requires accepted { AreAllAccepted (declarations until.now.decls.now) (entries_of ones.now) }
+    requires admitted { IsAdmitted (declarations until.now.decls.now) until.now.fixings.now }
+    ensures { AnswersLines (declarations until.now.decls.now) until.now.fixings.now until.now.last (entries_of ones.now) [] result }
 {
     let mut text = Vec::new(alloc);
     for one in ones {
-        let table = table_of(alloc, decls, one.contr.contr(), course)?;
-        append_table(alloc, &mut text, decls, one.name.text(), &table)?;
+        let table = table_of(alloc, until, one.contr.contr())?;
+        append_table(alloc, &mut text, until.decls, one.name.text(), &table)?;
     }
     Ok(text)
 }
@@ -108,63 +97,52 @@ fn lines_of(
 /// The flow tables of contracts, in their order.
 pub fn tables_of(
     alloc: Global,
-    decls: &Decls,
+    until: &FlowsUntil<'_>,
     ones: &[Used<'_>],
-    course: &Course<'_>,
 ) -> Result<Vec<FlowTable>, Stop>
-    requires accepted { AreAllAccepted (declarations decls.now) (entries_of ones.now) }
-    requires admitted { IsAdmitted (declarations decls.now) course.now.fixings.now }
-    requires first { pos 0 ≤ℤ course.now.last }
-    requires last { course.now.last ≤ℤ pos last_day }
-    ensures { AnswersTables (declarations decls.now) course.now.fixings.now course.now.last (entries_of ones.now) [] result }
+    requires accepted { AreAllAccepted (declarations until.now.decls.now) (entries_of ones.now) }
+    requires admitted { IsAdmitted (declarations until.now.decls.now) until.now.fixings.now }
+    ensures { AnswersTables (declarations until.now.decls.now) until.now.fixings.now until.now.last (entries_of ones.now) [] result }
 {
     let mut tables = Vec::new(alloc);
     for one in ones {
-        tables.push(table_of(alloc, decls, one.contr.contr(), course)?)?;
+        tables.push(table_of(alloc, until, one.contr.contr())?)?;
     }
     Ok(tables)
 }
 
 // The lines of what contracts pay together.
-fn sum_lines(
-    alloc: Global,
-    decls: &Decls,
-    ones: &[Used<'_>],
-    course: &Course<'_>,
-) -> Result<Vec<u8>, Stop>
+fn sum_lines(alloc: Global, until: &FlowsUntil<'_>, ones: &[Used<'_>]) -> Result<Vec<u8>, Stop>
     requires few { length ones.now ≤ 16_777_216 }
-    requires accepted { AreAllAccepted (declarations decls.now) (entries_of ones.now) }
-    requires admitted { IsAdmitted (declarations decls.now) course.now.fixings.now }
-    requires first { pos 0 ≤ℤ course.now.last }
-    requires last { course.now.last ≤ℤ pos last_day }
-    ensures { AnswersLinesAsked true (declarations decls.now) course.now.fixings.now course.now.last (entries_of ones.now) result }
+    requires accepted { AreAllAccepted (declarations until.now.decls.now) (entries_of ones.now) }
+    requires admitted { IsAdmitted (declarations until.now.decls.now) until.now.fixings.now }
+    ensures { AnswersLinesAsked true (declarations until.now.decls.now) until.now.fixings.now until.now.last
+        (entries_of ones.now) result }
 {
-    let tables = tables_of(alloc, decls, ones, course)?;
+    let tables = tables_of(alloc, until, ones)?;
     let sum = net(alloc, &tables)?;
     let mut text = Vec::new(alloc);
-    append_table(alloc, &mut text, decls, b"*", &sum)?;
+    append_table(alloc, &mut text, until.decls, b"*", &sum)?;
     Ok(text)
 }
 
 // The lines of contracts, or of their sum.
 fn lines_asked(
     alloc: Global,
-    decls: &Decls,
+    until: &FlowsUntil<'_>,
     ones: &[Used<'_>],
-    course: &Course<'_>,
     net: bool,
 ) -> Result<Vec<u8>, Stop>
     requires few { length ones.now ≤ 16_777_216 }
-    requires accepted { AreAllAccepted (declarations decls.now) (entries_of ones.now) }
-    requires admitted { IsAdmitted (declarations decls.now) course.now.fixings.now }
-    requires first { pos 0 ≤ℤ course.now.last }
-    requires last { course.now.last ≤ℤ pos last_day }
-    ensures { AnswersLinesAsked net (declarations decls.now) course.now.fixings.now course.now.last (entries_of ones.now) result }
+    requires accepted { AreAllAccepted (declarations until.now.decls.now) (entries_of ones.now) }
+    requires admitted { IsAdmitted (declarations until.now.decls.now) until.now.fixings.now }
+    ensures { AnswersLinesAsked net (declarations until.now.decls.now) until.now.fixings.now until.now.last
+        (entries_of ones.now) result }
 {
     if net {
-        sum_lines(alloc, decls, ones, course)
+        sum_lines(alloc, until, ones)
     } else {
-        lines_of(alloc, decls, ones, course)
+        lines_of(alloc, until, ones)
     }
 }
 
@@ -186,9 +164,10 @@ pub fn flows_text(
     let ones = used_contracts(alloc, portfolio, asked.contract)?;
     accept_all(alloc, &portfolio.decls, &ones)?;
     let fixings = fixings_of(alloc, &portfolio.decls, table)?;
-    let course = Course {
+    let until = FlowsUntil {
+        decls: &portfolio.decls,
         fixings: &fixings,
         last,
     };
-    lines_asked(alloc, &portfolio.decls, &ones, &course, asked.net)
+    lines_asked(alloc, &until, &ones, asked.net)
 }

@@ -14,7 +14,7 @@ ghost use Rattle.command_words.specs.Arguments.{given_text};
 ghost use Rattle.command_words.specs.Words.{netting_by};
 
 use crate::accepting::accept_all;
-use crate::flows_text::{Course, append_table, last_day, tables_of};
+use crate::flows_text::{FlowsUntil, append_table, last_day, tables_of};
 use crate::over_fixings::fixings_of;
 use crate::stop::Stop;
 use crate::used::used_contracts;
@@ -57,11 +57,12 @@ fn tables_of_all(
     let ones = used_contracts(alloc, portfolio, None)?;
     accept_all(alloc, &portfolio.decls, &ones)?;
     let fixings = fixings_of(alloc, &portfolio.decls, table)?;
-    let course = Course {
+    let until = FlowsUntil {
+        decls: &portfolio.decls,
         fixings: &fixings,
         last,
     };
-    tables_of(alloc, &portfolio.decls, &ones, &course)
+    tables_of(alloc, &until, &ones)
 }
 
 /// What `positions` writes of a portfolio over the fixings of a table: a line for each party, day and asset of what all contracts

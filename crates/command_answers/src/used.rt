@@ -18,11 +18,12 @@ use report::Fault;
 use std::alloc::Global;
 use term_core::{Contr, Name, Portfolio, Setting, defaults, has_only_numbers, instantiate};
 
-/// A contract at the defaults: itself, where it names no template, or an instance of it.
+/// A contract at the defaults: itself, where it names no template, or an instance of it, in a box, so that the many that are lent
+/// take little.
 #[derive(Drop)]
 pub enum Instance<'a> {
     Lent(&'a Contr),
-    Made(Contr),
+    Made(Box<Contr>),
 }
 
 impl<'a> Instance<'a> {
@@ -65,7 +66,8 @@ pub fn instance_of<'a>(
     if has_only_numbers(contr) {
         Ok(Instance::Lent(contr))
     } else {
-        Ok(Instance::Made(instantiate(alloc, contr, setting)?))
+        let made = instantiate(alloc, contr, setting)?;
+        Ok(Instance::Made(Box::new(alloc, made)?))
     }
 }
 

@@ -22,11 +22,11 @@ use Rattle.contract_parse.specs.ContractReading.{trees}
 
 pub advance_one-requires-clause-accepted : goal.advance_one-requires-clause-accepted
 advance_one-requires-clause-accepted c =
-    item_has (λ (entry : Name × Contract). IsAccepted (declarations c.args.course.now.decls.now) entry.1) c.args.ones.now c.loop-one.one-index c.one-item.result c.loop-one-test.true c.one-item.is c.requires.accepted
+    item_has (λ (entry : Name × Contract). IsAccepted (declarations c.args.to.now.decls.now) entry.1) c.args.ones.now c.loop-one.one-index c.one-item.result c.loop-one-test.true c.one-item.is c.requires.accepted
 
 pub advance_one-requires-clause-triable : goal.advance_one-requires-clause-triable
 advance_one-requires-clause-triable c =
-    item_has (λ (entry : Name × Contract). IsTriable (declarations c.args.course.now.decls.now) entry.1) c.args.ones.now c.loop-one.one-index c.one-item.result c.loop-one-test.true c.one-item.is c.requires.triable
+    item_has (λ (entry : Name × Contract). IsTriable (declarations c.args.to.now.decls.now) entry.1) c.args.ones.now c.loop-one.one-index c.one-item.result c.loop-one-test.true c.one-item.is c.requires.triable
 
 pub advance_one-requires-clause-name : goal.advance_one-requires-clause-name
 advance_one-requires-clause-name c =
@@ -40,9 +40,9 @@ advance_one-requires-clause-name c =
 
 pub returns-in_err-advance_one : goal.returns-in_err-advance_one
 returns-in_err-advance_one c =
-    let d = declarations c.args.course.now.decls.now in
-    let fixings = c.args.course.now.fixings.now in
-    let day = c.args.course.now.day in
+    let d = declarations c.args.to.now.decls.now in
+    let fixings = c.args.to.now.fixings.now in
+    let day = c.args.to.now.day in
     let ones = c.args.ones.now in
     let i = c.loop-one.one-index in
     let entry = entry_of c.one-item.result in
@@ -56,9 +56,9 @@ returns-in_err-advance_one c =
 
 pub loop-one-preserved : goal.loop-one-preserved
 loop-one-preserved c =
-    let d = declarations c.args.course.now.decls.now in
-    let fixings = c.args.course.now.fixings.now in
-    let day = c.args.course.now.day in
+    let d = declarations c.args.to.now.decls.now in
+    let fixings = c.args.to.now.fixings.now in
+    let day = c.args.to.now.day in
     let ones = c.args.ones.now in
     let i = c.loop-one.one-index in
     let entry = entry_of c.one-item.result in
@@ -76,8 +76,8 @@ loop-one-preserved c =
 
 pub returns : goal.returns
 returns c =
-    let d = declarations c.args.course.now.decls.now in
-    let fixings = c.args.course.now.fixings.now in
-    let day = c.args.course.now.day in
+    let d = declarations c.args.to.now.decls.now in
+    let fixings = c.args.to.now.fixings.now in
+    let day = c.args.to.now.day in
     let left = c.loop-one.left in
     c.loop-one.invariant.rest (Ok left) (subst (λ (es : List (Name × Contract)). AnswersRests d fixings day es left.due.items (trees left.contracts.entries) (Ok left)) (sym (left_none c.args.ones.now c.loop-one.one-index c.loop-one-test.false)) (rests_of_none d fixings day left))

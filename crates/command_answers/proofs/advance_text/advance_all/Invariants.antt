@@ -13,6 +13,6 @@ use Rattle.contract_parse.specs.ContractReading.{trees}
 abbrev pub invariant-loop-one : goal.invariant-loop-one
 invariant-loop-one l = record {
   names : are_new (keys_of (trees l.left.contracts.entries)) (keys_of (entries_of (drop l.one-index l.ones))) ≡ true;
-  rest : (r : Result Left Stop) → AnswersRests (declarations l.course.decls.now) l.course.fixings.now l.course.day (entries_of (drop l.one-index l.ones)) l.left.due.items (trees l.left.contracts.entries) r
-      → AnswersRests (declarations l.course.decls.now) l.course.fixings.now l.course.day (entries_of l.ones) [] [] r;
+  rest : (r : Result Left Stop) → AnswersRests (declarations l.to.decls.now) l.to.fixings.now l.to.day (entries_of (drop l.one-index l.ones)) l.left.due.items (trees l.left.contracts.entries) r
+      → AnswersRests (declarations l.to.decls.now) l.to.fixings.now l.to.day (entries_of l.ones) [] [] r;
 }

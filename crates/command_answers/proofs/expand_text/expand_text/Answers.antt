@@ -1,6 +1,5 @@
 use Rattle.std.proofs.Common.{◌≡◌, ◌∙◌, ◌++◌, ℕ, List, ap, inl, refl, subst, sym, true}
 use Rattle.std.specs.Prelude.{All, None}
-use Rattle.std.specs.Map.{keys_of}
 use Rattle.std.proofs.lemmas.List.Elements.{All-weaker}
 use Rattle.term_core.specs.declared.name.Name.{Name}
 use Rattle.term_core.specs.Terms.{Contract}

@@ -10,4 +10,4 @@ use Rattle.command_answers.proofs.flows_text.tables_of.Given as goal
 -- the answer for the contracts that are left is that for all
 abbrev pub invariant-loop-one : goal.invariant-loop-one
 invariant-loop-one l =
-    (r : Result (Vec FlowTable) Stop) → AnswersTables (declarations l.decls) l.course.fixings.now l.course.last (entries_of (drop l.one-index l.ones)) l.tables.items r → AnswersTables (declarations l.decls) l.course.fixings.now l.course.last (entries_of l.ones) [] r
+    (r : Result (Vec FlowTable) Stop) → AnswersTables (declarations l.until.decls.now) l.until.fixings.now l.until.last (entries_of (drop l.one-index l.ones)) l.tables.items r → AnswersTables (declarations l.until.decls.now) l.until.fixings.now l.until.last (entries_of l.ones) [] r

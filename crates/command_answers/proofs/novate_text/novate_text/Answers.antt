@@ -1,8 +1,7 @@
 use Rattle.std.proofs.Common.{◌≡◌, ◌∙◌, ◌<◌, ℕ, List, Bor, ap, subst, sym, true, length}
-use Rattle.std.specs.Prelude.{All, Option, None, Result, Err, IsErrAnd, option_map}
+use Rattle.std.specs.Prelude.{All, Option, None, option_map}
 use Rattle.std.specs.Global.{Vec}
 use Rattle.std.specs.Map.{keys_of}
-use Rattle.std.proofs.lemmas.Result.{err_from_is_err_and}
 use Rattle.term_core.specs.declared.name.Name.{Name}
 use Rattle.term_core.specs.Books.{Book, book}
 use Rattle.term_core.specs.Terms.{Contract}
@@ -12,20 +11,17 @@ use Rattle.contract_print.specs.Writable.{IsWritableTerm}
 use Rattle.command_words.specs.Words.{novate_by}
 use Rattle.command_answers.specs.AdvanceCourse.{advance_on}
 use Rattle.command_answers.specs.AdvanceParts.{IsCarried, IsRestText}
-use Rattle.command_answers.specs.Course.{Course, Stops, Tells}
+use Rattle.command_answers.specs.Course.{Stops, Tells}
 use Rattle.command_answers.specs.NovateCourse.{novate_on}
 use Rattle.command_answers.specs.NovateParts.{LacksName}
 use Rattle.command_answers.specs.NovatePromise.{IsNovated, KnowsParties, novated, novated_book}
-use Rattle.command_answers.specs.Stopping.{GoesDone}
 use Rattle.command_answers.specs.UsedContracts.{used}
 use Rattle.command_answers.specs.declared.advance_text.Carried.{Carried}
 use Rattle.command_answers.specs.declared.novate_text.Exchange.{Exchange}
 use Rattle.command_answers.specs.declared.status.Status.TheVariants as status
-use Rattle.command_answers.specs.declared.stop.Stop.{Stop}
-use Rattle.command_answers.specs.declared.stop.Stop.TheVariants as stop
 use Rattle.command_answers.proofs.AdvanceFacts.{is_advanced, keys_of_trees, left_names, tells_on_day, used_names}
 use Rattle.command_answers.proofs.NovateFacts.{day_stops, lacks_stops, novated_writable}
-use Rattle.command_answers.proofs.StopFacts.{handed_on}
+use Rattle.command_answers.proofs.StopFacts.{handed_on, lacks_memory_done}
 use Rattle.command_answers.proofs.ValueParts.{index_within}
 use Rattle.command_answers.proofs.novate_text.novate_text.Goals as goal
 
@@ -51,15 +47,9 @@ returns-in_err-carried c =
     handed_on (IsCarried b asked.advance table) (λ (text : Vec ℕ). Tells course status.Done text.items) (Stops (advance_on asked.advance b table)) (Stops course)
     (day_stops b asked table exchange.old exchange.new c.in_ok-exchange.ensures) c.in_err-carried.field-0.0 c.from_residual-in_err-carried.result c.in_err-carried.ensures c.from_residual-in_err-carried.ensures.1
 
--- want of memory stops the course
-lacks_memory : (course : Course) (r : Result (Vec ℕ) Stop) → IsErrAnd r (λ e. e ≡ stop.NoMemory) → GoesDone course r
-lacks_memory course r lacked =
-    let p = err_from_is_err_and r lacked in
-    subst (λ (x : Result (Vec ℕ) Stop). GoesDone course x) (sym (p.1 ∙ ap (λ (x : Stop). Err x) p.2)) tt
-
 pub returns-in_err-rename_named : goal.returns-in_err-rename_named
 returns-in_err-rename_named c =
-    lacks_memory (novate_on (novate_by c.args.asked.now) (book c.args.portfolio.now) (given c.args.table))
+    lacks_memory_done (novate_on (novate_by c.args.asked.now) (book c.args.portfolio.now) (given c.args.table))
     c.from_residual-in_err-rename_named.result c.from_residual-in_err-rename_named.ensures.1
 
 pub rename_named-requires : goal.rename_named-requires

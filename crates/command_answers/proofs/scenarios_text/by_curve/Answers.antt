@@ -1,6 +1,5 @@
 use Rattle.std.proofs.Common.{ℕ, inr, refl}
 use Rattle.std.specs.Global.{Vec}
-use Rattle.scenario_set.specs.declared.outcomes.Totals.{Totals}
 use Rattle.command_answers.specs.Course.{Stops, Tells}
 use Rattle.command_answers.specs.ScenarioParts.{AreTotalsFound, HaveNoTotal, by_factors, totals_by_curve}
 use Rattle.command_answers.specs.ValueParts.{inquiry_of}
