@@ -1,7 +1,8 @@
 -- An expression of which parts are replaced: what took the place of a part, or the part where nothing did.
 use Rattle.std.specs.Prelude.{◌+◌, ◌<◌, ◌≡◌, Option, Some, None}
 use Rattle.term_core.specs.declared.terms.Expr.{Expr}
-use Rattle.term_core.specs.Terms.{Expression, expression, Neg, Num, Cmp, Not, Logic, Cond, Widen, Round, Div, Acc}
+use Rattle.term_core.specs.Terms.{Expression, expression, Cond}
+pub use Rattle.term_core.specs.Rebuilding.{over_one, over_two}
 use Rattle.rewriting.specs.Measures.{size}
 
 abbrev pub after : Expression → Option Expr → Expression
@@ -12,23 +13,6 @@ after x (Some r) = expression r
 abbrev pub IsLess : Option Expr → Expression → Type 0
 IsLess None x = Unit {0}
 IsLess (Some r) x = size (expression r) < size x
-
--- a node over one part, with x in the place of the part
-abbrev pub over_one : Expression → Expression → Expression
-over_one (Neg e) x = Neg x
-over_one (Not e) x = Not x
-over_one (Widen s e) x = Widen s x
-over_one (Round mode s e) x = Round mode s x
-over_one e x = e
-
--- over two, with x and y in their places, in the order in which they are written
-abbrev pub over_two : Expression → Expression → Expression → Expression
-over_two (Num op a b) x y = Num op x y
-over_two (Cmp op a b) x y = Cmp op x y
-over_two (Logic op a b) x y = Logic op x y
-over_two (Div mode s a b) x y = Div mode s x y
-over_two (Acc body n first) x y = Acc x n y
-over_two e x y = e
 
 -- a node over two parts, and a choice, over what took the places of their parts
 abbrev pub two_after : Expr → Expr → Option Expr → Expr → Option Expr → Expression

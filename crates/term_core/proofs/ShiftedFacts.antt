@@ -1,5 +1,5 @@
 -- Shifts by nothing, shifts of shifts, and offsets that stay within their limit.
-use Rattle.std.proofs.Common.{◌≡◌, ℕ, ℤ, pos, ◌+◌, ◌+ℤ◌, refl, ap, ap₂, arith, subst}
+use Rattle.std.proofs.Common.{◌≡◌, ℕ, ℤ, pos, ◌+◌, ◌+ℤ◌, refl, ap, ap₂, arith, subst, inl, inr}
 use Rattle.std.proofs.lemmas.Int.{ints}
 use Rattle.term_core.specs.Declarations.{Declarations}
 use Rattle.term_core.specs.declared.terms.Expr.{Expr}
@@ -7,7 +7,7 @@ use Rattle.term_core.specs.Terms.{expression}
 use Rattle.term_core.specs.Terms.{Expression, Lit, Yes, Var, Obs, Neg, Num, Cmp, Not, Logic, Cond, Widen, Round, Div, Acc}
 use Rattle.term_core.specs.Terms.{Contract, Zero, Pay, Both, Scale, After, Let, Within}
 use Rattle.term_core.specs.WellFormed.{IsWellFormed, IsWellFormedContract}
-use Rattle.term_core.specs.Shifts.{shifted, CanShift}
+use Rattle.term_core.specs.Shifts.{shifted, CanMove, CanShift}
 use Rattle.term_core.specs.declared.shared.SharedContr.{SharedContr}
 use Rattle.term_core.specs.declared.shared.SharedContr.TheVariants.{Zero as Zero', Pay as Pay', Both', Scale', After', Let', Within'}
 use Rattle.term_core.specs.SharedTerms.{shared, MovesNothing, HasOffsets, HasOffsetsIn, StoresOffsets}
@@ -43,6 +43,40 @@ shifted_twice k j (Widen s e) = ap (Widen s) (shifted_twice k j e)
 shifted_twice k j (Round mode s e) = ap (Round mode s) (shifted_twice k j e)
 shifted_twice k j (Div mode s a b) = ap₂ (Div mode s) (shifted_twice k j a) (shifted_twice k j b)
 shifted_twice k j (Acc body n first) = ap₂ (λ (x y : Expression). Acc x n y) (shifted_twice k j body) (shifted_twice k j first)
+
+-- a copy asks nothing of offsets
+pub copy_moves : (e : Expression) → CanMove (pos 0) e
+copy_moves (Lit m s) = tt
+copy_moves (Yes b) = tt
+copy_moves (Var back) = tt
+copy_moves (Obs l t) = inl refl
+copy_moves (Neg e) = copy_moves e
+copy_moves (Num op a b) = (copy_moves a, copy_moves b)
+copy_moves (Cmp op a b) = (copy_moves a, copy_moves b)
+copy_moves (Not e) = copy_moves e
+copy_moves (Logic op a b) = (copy_moves a, copy_moves b)
+copy_moves (Cond t a b) = (copy_moves t, copy_moves a, copy_moves b)
+copy_moves (Widen s e) = copy_moves e
+copy_moves (Round mode s e) = copy_moves e
+copy_moves (Div mode s a b) = (copy_moves a, copy_moves b)
+copy_moves (Acc body n first) = (copy_moves body, copy_moves first)
+
+-- a shift asks what a move does
+pub shift_moves : (k : ℤ) (e : Expression) → CanShift k e → CanMove k e
+shift_moves k (Lit m s) h = tt
+shift_moves k (Yes b) h = tt
+shift_moves k (Var back) h = tt
+shift_moves k (Obs l t) h = inr h
+shift_moves k (Neg e) h = shift_moves k e h
+shift_moves k (Num op a b) h = (shift_moves k a h.0, shift_moves k b h.1)
+shift_moves k (Cmp op a b) h = (shift_moves k a h.0, shift_moves k b h.1)
+shift_moves k (Not e) h = shift_moves k e h
+shift_moves k (Logic op a b) h = (shift_moves k a h.0, shift_moves k b h.1)
+shift_moves k (Cond t a b) h = (shift_moves k t h.0, shift_moves k a h.1, shift_moves k b h.2)
+shift_moves k (Widen s e) h = shift_moves k e h
+shift_moves k (Round mode s e) h = shift_moves k e h
+shift_moves k (Div mode s a b) h = (shift_moves k a h.0, shift_moves k b h.1)
+shift_moves k (Acc body n first) h = (shift_moves k body h.0, shift_moves k first h.1)
 
 -- where the offsets of what is read later are within the limit, the expression may be shifted
 pub offsets_shift : (k : ℤ) (e : Expression) → HasOffsets (shifted k e) → CanShift k e

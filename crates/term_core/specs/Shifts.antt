@@ -1,6 +1,6 @@
 -- An expression whose observables are all read some days later. It has the value of that many days later, because the
 -- days of an accumulator move with it; and each offset has to stay within its limit.
-use Rattle.std.specs.Prelude.{ℤ, ◌+ℤ◌}
+use Rattle.std.specs.Prelude.{ℤ, pos, ◌+ℤ◌, ◌≡◌, ◌⊎◌}
 use Rattle.term_core.specs.Limits.{IsOffset}
 use Rattle.term_core.specs.Terms.{Expression, Obs, Neg, Num, Cmp, Not, Logic, Cond, Widen, Round, Div, Acc}
 
@@ -33,3 +33,18 @@ CanShift k (Round mode s e) = CanShift k e
 CanShift k (Div mode s a b) = CanShift k a × CanShift k b
 CanShift k (Acc body n first) = CanShift k body × CanShift k first
 CanShift k e = Unit {0}
+
+-- where k is 0, nothing is asked of offsets: the shift is a copy
+abbrev pub CanMove : ℤ → Expression → Type 0
+CanMove k (Obs l t) = (k ≡ pos 0) ⊎ IsOffset (t +ℤ k)
+CanMove k (Neg e) = CanMove k e
+CanMove k (Num op a b) = CanMove k a × CanMove k b
+CanMove k (Cmp op a b) = CanMove k a × CanMove k b
+CanMove k (Not e) = CanMove k e
+CanMove k (Logic op a b) = CanMove k a × CanMove k b
+CanMove k (Cond t a b) = CanMove k t × CanMove k a × CanMove k b
+CanMove k (Widen s e) = CanMove k e
+CanMove k (Round mode s e) = CanMove k e
+CanMove k (Div mode s a b) = CanMove k a × CanMove k b
+CanMove k (Acc body n first) = CanMove k body × CanMove k first
+CanMove k e = Unit {0}
