@@ -39,12 +39,19 @@ pub fn share(alloc: Global, c: &Contr) -> Result<Rc<SharedContr>, NoMemory>
     }
 }
 
+// A node that nobody else holds yet.
+fn node(alloc: Global, s: SharedContr) -> Result<Rc<SharedContr>, NoMemory>
+    ensures { IfOk result (λ r. r.value ≡ s) }
+{
+    Ok(Rc::new(alloc, s)?)
+}
+
 // A contract that pays nothing.
 fn share_nothing(alloc: Global) -> Result<Rc<SharedContr>, NoMemory>
     ensures tree { IfOk result (λ s. shared s.value ≡ Zero) }
     ensures moved { IfOk result (λ s. MovesNothing s.value) }
 {
-    Ok(Rc::new(alloc, SharedContr::Zero)?)
+    node(alloc, SharedContr::Zero)
 }
 
 // A contract that pays one unit of an asset.
@@ -52,7 +59,7 @@ fn share_payment(alloc: Global, asset: u32, from: u32, to: u32) -> Result<Rc<Sha
     ensures tree { IfOk result (λ s. shared s.value ≡ Pay asset from to) }
     ensures moved { IfOk result (λ s. MovesNothing s.value) }
 {
-    Ok(Rc::new(alloc, SharedContr::Pay { asset, from, to })?)
+    node(alloc, SharedContr::Pay { asset, from, to })
 }
 
 // Two contracts.
@@ -66,7 +73,7 @@ fn share_both(alloc: Global, left: &Contr, right: &Contr) -> Result<Rc<SharedCon
 {
     let left = share(alloc, left)?;
     let right = share(alloc, right)?;
-    Ok(Rc::new(alloc, SharedContr::Both { left, right })?)
+    node(alloc, SharedContr::Both { left, right })
 }
 
 // An expression that nobody else holds yet.
@@ -93,7 +100,7 @@ fn share_scale(alloc: Global, factor: &Expr, body: &Contr) -> Result<Rc<SharedCo
         moved: 0,
         body,
     };
-    Ok(Rc::new(alloc, scale)?)
+    node(alloc, scale)
 }
 
 // A contract that waits.
@@ -104,7 +111,7 @@ fn share_after(alloc: Global, days: u32, body: &Contr) -> Result<Rc<SharedContr>
     ensures moved { IfOk result (λ s. MovesNothing s.value) }
 {
     let body = share(alloc, body)?;
-    Ok(Rc::new(alloc, SharedContr::After { days, body })?)
+    node(alloc, SharedContr::After { days, body })
 }
 
 // A contract with a name.
@@ -123,7 +130,7 @@ fn share_let(alloc: Global, bound: &Expr, body: &Contr) -> Result<Rc<SharedContr
         moved: 0,
         body,
     };
-    Ok(Rc::new(alloc, named)?)
+    node(alloc, named)
 }
 
 // A contract with a test.
@@ -150,7 +157,7 @@ fn share_within(
         hit,
         miss,
     };
-    Ok(Rc::new(alloc, within)?)
+    node(alloc, within)
 }
 
 // The expression that a node reads.
