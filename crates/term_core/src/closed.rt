@@ -9,6 +9,7 @@ ghost use Rattle.term_core.specs.WellFormed.{IsClosed, HasOnlyNumbers};
 ghost use Rattle.term_core.specs.Binders.{are_below, around, is_declared, is_observable, is_offset, is_transfer, more_of, wanted, wanted_by_contract};
 
 use crate::decls::Decls;
+use crate::limits::GREATEST_OFFSET;
 use crate::terms::{Contr, Days, Expr};
 
 // The greater of two counts of binders.
@@ -39,7 +40,7 @@ fn around(inner: Option<u64>) -> Option<u64>
 fn is_offset(days: i32) -> bool
     ensures { result ≡ is_offset days }
 {
-    -1_000_000 <= days && days <= 1_000_000
+    -GREATEST_OFFSET <= days && days <= GREATEST_OFFSET
 }
 
 fn is_among(index: u32, count: usize) -> bool

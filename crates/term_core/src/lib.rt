@@ -21,6 +21,7 @@ mod decls;
 mod instances;
 mod label;
 pub mod laws;
+mod limits;
 mod name;
 mod nodes;
 mod portfolio;
@@ -37,9 +38,14 @@ mod values;
 
 pub use closed::{has_only_numbers, is_closed};
 pub use dates::{date_text, epoch_day};
+pub use days::{day_read, days_earlier, days_later};
 pub use decls::Decls;
 pub use instances::instantiate;
 pub use label::Label;
+pub use limits::{
+    FIRST_ORIGIN, GREATEST_OFFSET, LAST_CURVE_OFFSET, LAST_FIXED_DAY, LAST_ORIGIN, LAST_START,
+    LONGEST_FILE, LONGEST_NAME, MOST_DAYS, MOST_HEIGHT, MOST_HEIGHT_OF_CODE,
+};
 pub use name::Name;
 pub use nodes::{nodes_in, nodes_in_contract};
 pub use portfolio::Portfolio;

@@ -1,0 +1,34 @@
+//! The limits of the language. `specs/Limits.antt` has each under the same name for clauses.
+
+/// The last day on which contracts may stand, as declared or after an advance.
+pub const LAST_START: u32 = 1_000_000;
+
+/// The greatest day count, and the greatest number of a template.
+pub const MOST_DAYS: u32 = 100_000;
+
+/// The greatest offset of an observable. The least is its opposite.
+pub const GREATEST_OFFSET: i32 = 1_000_000;
+
+/// The first epoch day that may be day 0, 1900-01-01.
+pub const FIRST_ORIGIN: i64 = -25_567;
+
+/// The last epoch day that may be day 0, 2999-12-31.
+pub const LAST_ORIGIN: i64 = 376_199;
+
+/// The last day that may be fixed. The first is its opposite.
+pub const LAST_FIXED_DAY: i64 = 3_000_000;
+
+/// The greatest offset of a curve.
+pub const LAST_CURVE_OFFSET: u32 = 2_000_000;
+
+/// The bytes of the longest file.
+pub const LONGEST_FILE: u64 = 16_777_216;
+
+/// The bytes of the longest name.
+pub const LONGEST_NAME: usize = 64;
+
+/// The greatest height of a contract, and the greatest depth of its text.
+pub const MOST_HEIGHT: u32 = 200;
+
+/// The greatest height of code, and the greatest depth of its text.
+pub const MOST_HEIGHT_OF_CODE: u32 = 400;
