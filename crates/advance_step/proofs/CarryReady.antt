@@ -16,8 +16,8 @@ use Rattle.term_core.specs.Sizes.{past, height_of_contract}
 use Rattle.term_core.specs.Acceptance.{IsAccepted}
 use Rattle.interval_check.specs.Nodes.{range_of}
 use Rattle.interval_check.specs.Parts.{StandsIn}
-use Rattle.rewriting.proofs.LookFacts.{Look}
-use Rattle.rewriting.proofs.ShiftedRules.{unshifted_alike}
+use Rattle.interval_check.proofs.LookFacts.{Look}
+use Rattle.interval_check.proofs.ShiftedRules.{unshifted_alike}
 use Rattle.expr_eval.specs.declared.scratch.Binding.{Binding}
 use Rattle.expr_eval.specs.Evaluable.{MayEvaluate, MayEvaluateIn, Suits}
 use Rattle.expr_eval.specs.Answers.{entry_from, SuitsBinding}

@@ -25,7 +25,7 @@ use Rattle.interval_check.specs.RangeTrials.{kind_found}
 use Rattle.term_core.specs.Shifts.{shifted}
 use Rattle.interval_check.proofs.GuaranteeFacts.{accepted_meet_rules, parts_meet_rules, expressions_are_safe}
 use Rattle.interval_check.proofs.GuaranteeFacts.{values_lie_in_intervals}
-use Rattle.rewriting.proofs.ShiftedRules.{rules_see_no_offsets}
+use Rattle.interval_check.proofs.ShiftedRules.{rules_see_no_offsets}
 use Rattle.interval_check.proofs.SuitedFacts.{suited_are_within, entries_round, nothing_fixed}
 use Rattle.interval_check.proofs.KindsFound.{has_kind}
 use Rattle.interval_check.proofs.ClosedFacts.{closed_need_no_names}

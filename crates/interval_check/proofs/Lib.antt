@@ -23,6 +23,8 @@ pub mod RewritingFacts
 pub mod AlignedFacts
 pub mod RewritingContracts
 pub mod Rows
+pub mod LookFacts
+pub mod ShiftedRules
 pub mod NameFacts
 pub mod ClosedFacts
 pub mod SuitedFacts

@@ -7,6 +7,7 @@ use Rattle.term_core.specs.declared.decls.Decls.{Decls}
 use Rattle.term_core.specs.declared.rules.Rule.TheVariants.{Sort, Scale, Bound}
 use Rattle.term_core.specs.Terms.{Expression, Contract}
 use Rattle.term_core.specs.WellFormed.{IsWellFormed}
+use Rattle.term_core.specs.Shifts.{shifted}
 use Rattle.term_core.specs.Environments.{Environment, IsAdmitted}
 use Rattle.term_core.specs.Values.{Entry, num, value_of}
 use Rattle.term_core.specs.Flows.{Flow}
@@ -38,6 +39,12 @@ abbrev pub PartsMeetRules : Type 0
 PartsMeetRules =
     (d : Declarations) (e : Expression) (h : List Range) (c : Contract) (g : List Range)
     → StandsIn d e h c g → ContractMeetsRules d c g → MeetsRules d e h
+
+-- the rules on sorts, scales and bounds do not see offsets
+abbrev pub RulesDoNotSeeOffsets : Type 0
+RulesDoNotSeeOffsets =
+    (d : Declarations) (e : Expression) (k : ℤ) (g : List Range)
+    → (MeetsRules d (shifted k e) g → MeetsRules d e g) × (MeetsRules d e g → MeetsRules d (shifted k e) g)
 
 -- the number of each expression lies in its interval
 abbrev pub ValuesLieInIntervals : Type 0

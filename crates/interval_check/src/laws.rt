@@ -1,7 +1,7 @@
 //! What the rules of acceptance guarantee of an evaluation. Each law is the contract of a function that does nothing; a
 //! caller takes the law by calling it.
 
-ghost use Rattle.interval_check.specs.Guarantees.{DeclsKeepLimits, RulesAreByStructure, AcceptedMeetRules, PartsMeetRules, ClosedNeedNoNames, ValuesLieInIntervals, ExpressionsAreSafe, BindingsLieWithin, ContractsAreSafe, AcceptedAreSafe, PartsOfAcceptedAreSafe, ClosedPartsAreSafe, FlowsAddUpToTotal, AmountsAddUpToTotal};
+ghost use Rattle.interval_check.specs.Guarantees.{DeclsKeepLimits, RulesAreByStructure, AcceptedMeetRules, PartsMeetRules, RulesDoNotSeeOffsets, ClosedNeedNoNames, ValuesLieInIntervals, ExpressionsAreSafe, BindingsLieWithin, ContractsAreSafe, AcceptedAreSafe, PartsOfAcceptedAreSafe, ClosedPartsAreSafe, FlowsAddUpToTotal, AmountsAddUpToTotal};
 ghost use Rattle.interval_check.specs.Volumes.{AllFlowsAddUpToTotal, AllAmountsAddUpToTotal};
 ghost use Rattle.interval_check.specs.Narrowing.{IntervalsAreMonotone, TotalsAreMonotone, RulesAreMonotone, ContractRulesAreMonotone};
 ghost use Rattle.interval_check.specs.Replacing.{PartsStandForThemselves, ReplacementsCompose, RewrittenReplaces, RewrittenContractReplaces, RewrittenMeetRules, ValuesReplace, BranchesReplace, ContractPartsReplace};
@@ -19,6 +19,12 @@ pub fn rules_hold_by_structure()
     ensures accepted { AcceptedMeetRules }
     ensures parts { PartsMeetRules }
     ensures closed { ClosedNeedNoNames }
+{}
+
+/// The rules on sorts, scales and bounds do not see offsets: an expression that is read some days later meets those that it
+/// meets as it stands.
+pub fn rules_see_no_offsets()
+    ensures { RulesDoNotSeeOffsets }
 {}
 
 /// The value of an expression lies in its interval, in every admitted environment and on every day.

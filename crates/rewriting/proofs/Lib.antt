@@ -6,8 +6,6 @@ pub mod NameKinds
 pub mod NameValues
 pub mod NameFlows
 pub mod NameReads
-pub mod LookFacts
-pub mod ShiftedRules
 pub mod NamedRules
 pub mod ReducedFacts
 pub mod RaisedFacts

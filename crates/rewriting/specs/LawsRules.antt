@@ -1,19 +1,13 @@
--- The rules on sorts, scales and bounds do not see offsets, nor whether a name stands for a literal or the literal stands
--- itself; and a name that is not used may go.
-use Rattle.std.specs.Prelude.{ℕ, ℤ, ◌≡◌, true, List, slice_get}
+-- The rules on sorts, scales and bounds do not see whether a name stands for a literal or the literal stands itself; and a
+-- name that is not used may go.
+use Rattle.std.specs.Prelude.{ℕ, ◌≡◌, true, List, slice_get}
 use Rattle.term_core.specs.Declarations.{Declarations}
 use Rattle.term_core.specs.Terms.{Expression, Contract}
 use Rattle.term_core.specs.Redexes.{uses, uses_in_contract}
-use Rattle.term_core.specs.Shifts.{shifted}
 use Rattle.term_core.specs.Bounds.{Range, range_kinds, interval_of, interval_of_range, total_of}
 use Rattle.interval_check.specs.Nodes.{MeetsRules, ContractMeetsRules}
 use Rattle.rewriting.specs.LawsNames.{HasKindOf}
 use Rattle.rewriting.specs.Substituting.{substituted, substituted_in, without}
-
-abbrev pub RulesDoNotSeeOffsets : Type 0
-RulesDoNotSeeOffsets =
-    (d : Declarations) (e : Expression) (k : ℤ) (g : List Range)
-    → (MeetsRules d (shifted k e) g → MeetsRules d e g) × (MeetsRules d e g → MeetsRules d (shifted k e) g)
 
 -- x meets the rules by itself, and has the kind and the interval of the name at j
 pub record IsRangeOf (d : Declarations) (x : Expression) (g : List Range) (j : ℕ) : Type 0 where

@@ -1,7 +1,7 @@
 //! Laws over the definitions alone. Each is the contract of a function that does nothing.
 
 ghost use Rattle.rewriting.specs.LawsNames.{KindsWithoutName, ValuesWithoutName, FlowsWithoutName, ReadsWithoutName, ContractReadsWithoutName};
-ghost use Rattle.rewriting.specs.LawsRules.{RulesDoNotSeeOffsets, RulesWithoutName, ContractRulesWithoutName};
+ghost use Rattle.rewriting.specs.LawsRules.{RulesWithoutName, ContractRulesWithoutName};
 ghost use Rattle.rewriting.specs.Reduced.{ReducedByStructure};
 
 /// A literal that has the kind and the value of a name may stand for it, and a name that is not used may go.
@@ -14,11 +14,10 @@ pub fn names_may_go()
     ensures contract_reads { ContractReadsWithoutName }
 {}
 
-/// The rules on sorts, scales and bounds do not see offsets, and a literal may stand for its name.
+/// To the rules on sorts, scales and bounds a literal may stand for its name, and a name that is not used may go.
 #[tactic(none)]
-pub fn rules_see_no_offsets()
-    ensures offsets { RulesDoNotSeeOffsets }
-    ensures names { RulesWithoutName }
+pub fn rules_see_no_names()
+    ensures expressions { RulesWithoutName }
     ensures contracts { ContractRulesWithoutName }
 {}
 

@@ -21,7 +21,7 @@ use Rattle.interval_check.specs.Within.{AreWithin, KeepsLimits}
 use Rattle.interval_check.proofs.GuaranteeFacts.{bindings_lie_within}
 use Rattle.interval_check.proofs.NarrowerFacts.{stays_tight, narrower_let}
 use Rattle.interval_check.proofs.SuitedFacts.{nothing_fixed}
-use Rattle.rewriting.proofs.ShiftedRules.{rules_see_no_offsets}
+use Rattle.interval_check.proofs.ShiftedRules.{rules_see_no_offsets}
 use Rattle.simplify.specs.LawsRulesStand.{TruthsAreNothing}
 use Rattle.simplify.specs.Turning.{turned}
 use Rattle.simplify.specs.TurningContracts.{turned_in}

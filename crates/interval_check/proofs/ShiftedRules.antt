@@ -4,8 +4,8 @@ use Rattle.term_core.specs.Declarations.{Declarations}
 use Rattle.term_core.specs.Terms.{Expression, Lit, Yes, Var, Obs, Neg, Num, Cmp, Not, Logic, Cond, Widen, Round, Div, Acc}
 use Rattle.term_core.specs.Shifts.{shifted}
 use Rattle.term_core.specs.Bounds.{Range}
-use Rattle.rewriting.specs.LawsRules.{RulesDoNotSeeOffsets}
-use Rattle.rewriting.proofs.LookFacts.{Alike, alike_leaf, alike_neg, alike_not, alike_num, alike_cmp, alike_logic, alike_cond, alike_widen, alike_round, alike_div, alike_acc}
+use Rattle.interval_check.specs.Guarantees.{RulesDoNotSeeOffsets}
+use Rattle.interval_check.proofs.LookFacts.{Alike, alike_leaf, alike_neg, alike_not, alike_num, alike_cmp, alike_logic, alike_cond, alike_widen, alike_round, alike_div, alike_acc}
 
 pub shifted_alike : (d : Declarations) (e : Expression) (k : ℤ) (g : List Range) → Alike d (shifted k e) g e g
 shifted_alike d (Lit m s) k g = alike_leaf d (Lit m s) g (Lit m s) g refl (λ p. p) (λ p. p) (λ p. p)
