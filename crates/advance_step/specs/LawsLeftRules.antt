@@ -11,7 +11,7 @@ use Rattle.term_core.specs.Bounds.{Range}
 use Rattle.interval_check.specs.Nodes.{ContractMeetsRules}
 use Rattle.interval_check.specs.Narrowing.{AreNarrower}
 use Rattle.interval_check.specs.Within.{KeepsLimits}
-use Rattle.interval_check.specs.Replacing.{ReplacesContract}
+use Rattle.rewriting.specs.Replacing.{ReplacesContract}
 use Rattle.advance_step.specs.WhatIsLeft.{left_of}
 
 abbrev pub NothingIsLeft : Type 0

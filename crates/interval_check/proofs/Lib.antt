@@ -18,17 +18,13 @@ pub mod GuaranteeFacts
 pub mod NarrowFacts
 pub mod TightFacts
 pub mod NarrowerFacts
-pub mod ReplacingFacts
-pub mod RewritingFacts
 pub mod AlignedFacts
-pub mod RewritingContracts
 pub mod Rows
 pub mod LookFacts
 pub mod ShiftedRules
 pub mod NameFacts
 pub mod ClosedFacts
 pub mod SuitedFacts
-pub mod StandingFacts
 pub mod IntervalFacts
 pub mod OperatorFacts
 pub mod QuotientFacts

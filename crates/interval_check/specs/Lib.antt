@@ -7,7 +7,6 @@ pub mod ContractSafety
 pub mod Parts
 pub mod Guarantees
 pub mod Narrowing
-pub mod Replacing
 pub mod Intervals
 pub mod Ranges
 pub mod RangeScopes

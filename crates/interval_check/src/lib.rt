@@ -24,8 +24,7 @@ pub use bound_rule::bounds;
 pub use intervals::{Interval, greatest_size_in};
 pub use laws::{
     accepted_contracts_are_safe, all_payments_add_up_to_total, declarations_keep_limits,
-    evaluation_is_safe, narrower_ranges_keep_rules, parts_may_stand_for_wholes,
-    payments_add_up_to_total, replaced_parts_keep_rules, rules_hold_by_structure,
-    rules_see_no_offsets, values_lie_in_intervals,
+    evaluation_is_safe, narrower_ranges_keep_rules, payments_add_up_to_total,
+    rules_hold_by_structure, rules_see_no_offsets, values_lie_in_intervals,
 };
 pub use ranges::Range;

@@ -7,6 +7,10 @@ pub mod NameValues
 pub mod NameFlows
 pub mod NameReads
 pub mod NamedRules
+pub mod ReplacingFacts
+pub mod RewritingFacts
+pub mod RewritingContracts
+pub mod StandingFacts
 pub mod ReducedFacts
 pub mod RaisedFacts
 pub mod Among

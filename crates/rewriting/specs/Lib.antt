@@ -4,6 +4,7 @@ pub mod Worth
 pub mod Substituting
 pub mod LawsNames
 pub mod LawsRules
+pub mod Replacing
 pub mod Reduced
 pub mod Rebuilding
 pub mod RebuildingContracts

@@ -1,6 +1,6 @@
 //! Rewriting terms: expressions of which parts are replaced, literals for names; and laws of them, of
-//! offsets, of what is worth the same, of what is no larger, and of redexes by structure. Reductions and
-//! residuals stand on them.
+//! what may stand for a part, of offsets, of what is worth the same, of what is no larger, and of redexes
+//! by structure. Reductions and residuals stand on them.
 //!
 //! ```text
 //! let new = substituted(alloc, &body, 0, &literal(kind, value))?; // None where nothing changes

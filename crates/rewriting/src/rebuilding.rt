@@ -3,7 +3,7 @@
 
 ghost use Rattle.std.specs.Prelude.{◌≡◌, IfOk};
 ghost use Rattle.term_core.specs.Terms.{expression, Cond};
-ghost use Rattle.interval_check.specs.Replacing.{literal_of};
+ghost use Rattle.rewriting.specs.Replacing.{literal_of};
 ghost use Rattle.rewriting.specs.Measures.{size};
 ghost use Rattle.rewriting.specs.Rebuilding.{after, choice_after, over_one, over_two, two_after, IfAllAreLess, IfBothAreLess, IsLess, IsLessByParts};
 

@@ -15,10 +15,10 @@ use Rattle.term_core.specs.Sites.{OfExpression}
 use Rattle.term_core.specs.Scales.{greatest_scale}
 use Rattle.term_core.specs.Bounds.{Range, range_kinds}
 use Rattle.interval_check.specs.Nodes.{IsSortedPart, IsScaledPart, IsSorted, IsScaled, has_scaled_parts}
-use Rattle.interval_check.specs.Replacing.{KeepsForm, literal_of, branch_at}
+use Rattle.rewriting.specs.Replacing.{KeepsForm, literal_of, branch_at}
 use Rattle.interval_check.proofs.KindsFound.{truth_then, days}
 use Rattle.interval_check.proofs.NodeTests.{at_root, some_kind}
-use Rattle.interval_check.proofs.StandingFacts.{BesideWhole, left_beside, right_beside}
+use Rattle.rewriting.proofs.StandingFacts.{BesideWhole, left_beside, right_beside}
 use Rattle.simplify.specs.Turning.{is_chosen, resolved, choice, rule}
 use Rattle.simplify.proofs.TurnTimes.{if_cases_of}
 use Rattle.rewriting.proofs.NameLists.{where_lt}

@@ -7,7 +7,7 @@ use Rattle.term_core.specs.Kinds.{kind_of, scale_of}
 use Rattle.term_core.specs.Values.{kind_or, value_of}
 use Rattle.term_core.specs.Redexes.{has_literal_operands}
 use Rattle.term_core.specs.SharedTerms.{HasOffsets}
-use Rattle.interval_check.specs.Replacing.{branch_at}
+use Rattle.rewriting.specs.Replacing.{branch_at}
 use Rattle.simplify.specs.Turning.{resolved, choice, is_chosen, rule, turned}
 use Rattle.specialise.proofs.StoredFacts.{literal_offsets}
 

@@ -14,12 +14,12 @@ use Rattle.term_core.specs.Bounds.{Interval, Range, range_kinds, single, interva
 use Rattle.interval_check.specs.Nodes.{IsSortedPart, MeetsRules}
 use Rattle.interval_check.specs.Narrowing.{IsNarrower, AreNarrower}
 use Rattle.interval_check.specs.Within.{AreWithin, KeepsLimits}
-use Rattle.interval_check.specs.Replacing.{Replaces, literal_of, branch_at}
+use Rattle.rewriting.specs.Replacing.{Replaces, literal_of, branch_at}
 use Rattle.interval_check.proofs.KindsFound.{truth_then, days}
 use Rattle.interval_check.proofs.NarrowFacts.{narrower_same}
 use Rattle.interval_check.proofs.NarrowerFacts.{stays_tight}
 use Rattle.interval_check.proofs.NodeTests.{at_root, some_kind}
-use Rattle.interval_check.proofs.StandingFacts.{values_replace, branches_replace, joined_scale}
+use Rattle.rewriting.proofs.StandingFacts.{values_replace, branches_replace, joined_scale}
 use Rattle.interval_check.proofs.SuitedFacts.{nothing_fixed}
 use Rattle.simplify.specs.Turning.{is_chosen, resolved, choice}
 use Rattle.specialise.proofs.ClosedFacts.{value_among, both_none}

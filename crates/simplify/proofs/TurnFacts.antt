@@ -7,7 +7,7 @@ use Rattle.term_core.specs.Terms.{Expression, Lit, Yes, Var, Obs, Neg, Num, Cmp,
 use Rattle.term_core.specs.Kinds.{kind_of, scale_of}
 use Rattle.term_core.specs.Values.{kind_or}
 use Rattle.term_core.specs.Redexes.{has_literal_operands}
-use Rattle.interval_check.specs.Replacing.{branch_at}
+use Rattle.rewriting.specs.Replacing.{branch_at}
 use Rattle.rewriting.specs.Measures.{size}
 use Rattle.simplify.specs.Turning.{is_chosen, is_plain_redex, resolved, choice, rule, HasNoPlain, IsTurn, TurnsEnd}
 use Rattle.specialise.proofs.SpecialSizes.{literal_is_less}

@@ -8,10 +8,10 @@ use Rattle.term_core.specs.Kinds.{kind_of, scale_of, scale_or_zero, scale_of_op,
 use Rattle.term_core.specs.Values.{kind_or}
 use Rattle.term_core.specs.Bounds.{Range, range_kinds}
 use Rattle.interval_check.specs.Nodes.{IsSorted, IsScaled, is_sorted_part, is_scaled_part, range_after}
-use Rattle.interval_check.specs.Replacing.{KeepsForm}
+use Rattle.rewriting.specs.Replacing.{KeepsForm}
 use Rattle.interval_check.proofs.KindsEnough.{kinds_are_enough}
 use Rattle.interval_check.proofs.NodeTests.{scaled_parts}
-use Rattle.interval_check.proofs.ReplacingFacts.{acc_kind}
+use Rattle.rewriting.proofs.ReplacingFacts.{acc_kind}
 use Rattle.simplify.specs.Turning.{rule, turned}
 use Rattle.simplify.specs.LawsTurnsStand.{TurnsKeepForm}
 use Rattle.simplify.proofs.FormFacts.{sorted_root, scaled_root, rule_form}

@@ -18,7 +18,7 @@ use Rattle.term_core.specs.LawsKinds.{IsOfKind, AreOfKinds}
 use Rattle.term_core.specs.Redexes.{has_literal_operands}
 use Rattle.term_core.proofs.KindFacts.{values_have_kinds}
 use Rattle.term_core.proofs.ShiftFacts.{of_two}
-use Rattle.interval_check.specs.Replacing.{branch_at}
+use Rattle.rewriting.specs.Replacing.{branch_at}
 use Rattle.interval_check.proofs.KindsFound.{one_number, two_numbers, truth_then, branches, days}
 use Rattle.simplify.specs.Turning.{is_chosen, resolved, choice, rule, turned}
 use Rattle.simplify.proofs.RuleFlows.{is_zero_count}

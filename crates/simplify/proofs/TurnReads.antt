@@ -14,7 +14,7 @@ use Rattle.term_core.specs.Values.{Entry, kinds, truth, widened, kind_or, value_
 use Rattle.term_core.specs.LawsKinds.{IsOfKind}
 use Rattle.term_core.specs.Reads.{reads_of, steps_before, decides}
 use Rattle.term_core.specs.Redexes.{has_literal_operands}
-use Rattle.interval_check.specs.Replacing.{branch_at}
+use Rattle.rewriting.specs.Replacing.{branch_at}
 use Rattle.interval_check.proofs.KindsFound.{one_number, two_numbers, truth_then, branches, days}
 use Rattle.rewriting.proofs.Among.{among_none, among_same, among_both, among_left, then_among, among_steps, among_chosen, one_name_more}
 use Rattle.simplify.specs.Turning.{is_chosen, resolved, choice, rule, turned}

@@ -11,14 +11,14 @@ use Rattle.interval_check.specs.Nodes.{MeetsRules, range_of, range_after}
 use Rattle.interval_check.specs.Narrowing.{AreNarrower}
 use Rattle.interval_check.specs.Within.{AreWithin, KeepsLimits}
 use Rattle.interval_check.specs.Sums.{entry_of}
-use Rattle.interval_check.specs.Replacing.{Replaces, ReplacesContract, IsRewrittenContract}
+use Rattle.rewriting.specs.Replacing.{Replaces, ReplacesContract, IsRewrittenContract}
 use Rattle.interval_check.proofs.GuaranteeFacts.{bindings_lie_within}
 use Rattle.interval_check.proofs.KindsFound.{days}
 use Rattle.interval_check.proofs.NarrowerFacts.{stays_tight, narrower_let}
-use Rattle.interval_check.proofs.ReplacingFacts.{replaces_neg, replaces_num, replaces_cmp, replaces_not, replaces_logic, replaces_cond, replaces_widen, replaces_round, replaces_div, replaces_acc}
-use Rattle.interval_check.proofs.RewritingContracts.{rewritten_contract_replaces, parts_stand_for_themselves, replacements_compose}
+use Rattle.rewriting.proofs.ReplacingFacts.{replaces_neg, replaces_num, replaces_cmp, replaces_not, replaces_logic, replaces_cond, replaces_widen, replaces_round, replaces_div, replaces_acc}
+use Rattle.rewriting.proofs.RewritingContracts.{rewritten_contract_replaces, parts_stand_for_themselves, replacements_compose}
 use Rattle.interval_check.proofs.SuitedFacts.{nothing_fixed}
-use Rattle.interval_check.proofs.RewritingFacts.{ordered_round, round_rules}
+use Rattle.rewriting.proofs.RewritingFacts.{ordered_round, round_rules}
 use Rattle.simplify.specs.Turning.{rule, turned}
 use Rattle.simplify.specs.TurningContracts.{rule_in, turned_in}
 use Rattle.specialise.proofs.SpecialRules.{itself, by_whole}

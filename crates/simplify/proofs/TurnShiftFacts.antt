@@ -9,7 +9,7 @@ use Rattle.term_core.specs.Reads.{decides}
 use Rattle.term_core.specs.Redexes.{is_literal, has_literal_operands}
 use Rattle.term_core.specs.Shifts.{shifted}
 use Rattle.term_core.proofs.ShiftFacts.{kind-shifted}
-use Rattle.interval_check.specs.Replacing.{branch_at}
+use Rattle.rewriting.specs.Replacing.{branch_at}
 use Rattle.simplify.specs.Turning.{is_chosen, resolved, choice, rule, turned}
 use Rattle.simplify.specs.LawsTurnShifts.{TurnsSeeNoOffsets}
 

@@ -17,13 +17,13 @@ use Rattle.interval_check.specs.RangeTrials.{kind_found}
 use Rattle.interval_check.specs.Safety.{CanEvaluate}
 use Rattle.interval_check.specs.Sums.{entry_of}
 use Rattle.interval_check.specs.Within.{AreWithin, KeepsLimits}
-use Rattle.interval_check.specs.Replacing.{Replaces}
+use Rattle.rewriting.specs.Replacing.{Replaces}
 use Rattle.interval_check.proofs.GuaranteeFacts.{expressions_are_safe, suits}
 use Rattle.interval_check.proofs.KindsFound.{has_kind, scale_is}
 use Rattle.interval_check.proofs.ValueFacts.{same_kinds}
-use Rattle.interval_check.proofs.ReplacingFacts.{replaces_neg, replaces_num, replaces_cmp, replaces_not, replaces_logic, replaces_cond, replaces_widen, replaces_round, replaces_div}
+use Rattle.rewriting.proofs.ReplacingFacts.{replaces_neg, replaces_num, replaces_cmp, replaces_not, replaces_logic, replaces_cond, replaces_widen, replaces_round, replaces_div}
 use Rattle.interval_check.proofs.SuitedFacts.{nothing_fixed}
-use Rattle.interval_check.proofs.RewritingFacts.{ordered_round, round_rules}
+use Rattle.rewriting.proofs.RewritingFacts.{ordered_round, round_rules}
 use Rattle.simplify.specs.LawsRulesStand.{TruthsAreNothing}
 use Rattle.simplify.specs.Turning.{turned}
 use Rattle.simplify.specs.Turnable.{FoldsTo, DecidesLogic, DecidesChoice, CanTurn}

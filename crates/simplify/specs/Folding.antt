@@ -2,7 +2,7 @@
 use Rattle.std.specs.Prelude.{Option, Some, None, not}
 use Rattle.term_core.specs.declared.values.Kind.TheVariants.{Number}
 use Rattle.term_core.specs.Terms.{Expression, Lit, Yes, Neg, Num, Cmp, Not, Widen, Round, Div}
-use Rattle.interval_check.specs.Replacing.{literal_of}
+use Rattle.rewriting.specs.Replacing.{literal_of}
 use Rattle.expr_eval.specs.declared.operations.Typed.{Typed}
 use Rattle.expr_eval.specs.declared.operations.Operands.{Operands}
 use Rattle.expr_eval.specs.Operations.{number, verdict, truth_in, at_kind, negated, combined, compared, rounded, quotient}

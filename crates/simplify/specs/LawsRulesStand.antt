@@ -10,7 +10,7 @@ use Rattle.term_core.specs.Bounds.{Range, range_kinds, single, interval_of}
 use Rattle.interval_check.specs.Nodes.{MeetsRules, ContractMeetsRules}
 use Rattle.interval_check.specs.Narrowing.{AreNarrower}
 use Rattle.interval_check.specs.Within.{AreWithin, KeepsLimits}
-use Rattle.interval_check.specs.Replacing.{Replaces, ReplacesContract}
+use Rattle.rewriting.specs.Replacing.{Replaces, ReplacesContract}
 use Rattle.simplify.specs.Turning.{rule}
 use Rattle.simplify.specs.TurningContracts.{rule_in}
 

@@ -7,7 +7,7 @@ use Rattle.term_core.specs.Acceptance.{IsAccepted}
 use Rattle.term_core.specs.Bounds.{Range, range_kinds}
 use Rattle.interval_check.specs.Nodes.{IsSorted, IsScaled, MeetsRules, ContractMeetsRules}
 use Rattle.interval_check.specs.Within.{KeepsLimits}
-use Rattle.interval_check.specs.Replacing.{Replaces, KeepsForm, ReplacesContract}
+use Rattle.rewriting.specs.Replacing.{Replaces, KeepsForm, ReplacesContract}
 use Rattle.simplify.specs.Turning.{turned}
 use Rattle.simplify.specs.TurningContracts.{turned_in}
 use Rattle.simplify.specs.LawsRulesStand.{AmongRanges}

@@ -10,7 +10,7 @@ use Rattle.term_core.specs.Values.{kind_or}
 use Rattle.term_core.specs.Reads.{decides}
 use Rattle.term_core.specs.Scales.{greatest_scale}
 use Rattle.interval_check.specs.RangeTrials.{kind_found}
-use Rattle.interval_check.specs.Replacing.{branch_at}
+use Rattle.rewriting.specs.Replacing.{branch_at}
 use Rattle.simplify.specs.Turning.{turned, rule}
 use Rattle.simplify.specs.Folding.{folded, CanFold}
 use Rattle.expr_eval.specs.Comparing.{scale_found}

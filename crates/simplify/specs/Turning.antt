@@ -12,7 +12,7 @@ use Rattle.term_core.specs.LawsKinds.{AreOfKinds}
 use Rattle.term_core.specs.Values.{Entry, kinds, kind_or, value_of}
 use Rattle.term_core.specs.Reads.{decides}
 use Rattle.term_core.specs.Redexes.{is_literal, has_literal_operands}
-use Rattle.interval_check.specs.Replacing.{literal_of, branch_at}
+use Rattle.rewriting.specs.Replacing.{literal_of, branch_at}
 
 -- a choice that is decided, or an accumulator of no days
 abbrev pub is_chosen : Expression → Bool

@@ -9,7 +9,7 @@ ghost use Rattle.term_core.specs.declared.values.Kind.TheVariants.{Truth};
 ghost use Rattle.term_core.specs.Kinds.{scale_of_kind};
 ghost use Rattle.term_core.specs.Branches.{either};
 ghost use Rattle.interval_check.specs.RangeTrials.{kind_found};
-ghost use Rattle.interval_check.specs.Replacing.{branch_at};
+ghost use Rattle.rewriting.specs.Replacing.{branch_at};
 ghost use Rattle.rewriting.specs.Measures.{size};
 ghost use Rattle.rewriting.specs.Rebuilding.{after, over_one, over_two, two_after, IfAllAreLess, IfBothAreLess, IsLess};
 ghost use Rattle.term_core.specs.Scopes.{held_in};

@@ -2,7 +2,7 @@
 use Rattle.std.proofs.Common.{[]}
 use Rattle.term_core.proofs.TimeFacts.{times_mean_typed}
 use Rattle.interval_check.proofs.GuaranteeFacts.{accepted_meet_rules}
-use Rattle.interval_check.proofs.RewritingContracts.{rewritten_meet_rules}
+use Rattle.rewriting.proofs.RewritingContracts.{rewritten_meet_rules}
 use Rattle.specialise.specs.Specialising.{specialised_in}
 use Rattle.specialise.specs.LawsAccepted.{SpecialisedIsAccepted}
 use Rattle.specialise.proofs.SpecialTimes.{contract_typed}

@@ -13,7 +13,7 @@ use Rattle.term_core.specs.Values.{value_of}
 use Rattle.term_core.specs.Reads.{reads_of, is_fixed, first_unfixed}
 use Rattle.term_core.specs.Redexes.{names_within, moved}
 use Rattle.term_core.proofs.ReadLawFacts.{all_fixed}
-use Rattle.interval_check.specs.Replacing.{literal_of}
+use Rattle.rewriting.specs.Replacing.{literal_of}
 use Rattle.expr_eval.specs.declared.scratch.Binding.{Binding}
 use Rattle.expr_eval.specs.Rooms.{kinds_of}
 use Rattle.expr_eval.specs.Standing.{place_of}

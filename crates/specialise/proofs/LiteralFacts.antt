@@ -15,7 +15,7 @@ use Rattle.term_core.specs.Redexes.{moved}
 use Rattle.term_core.specs.Acceptance.{IsAccepted}
 use Rattle.term_core.specs.Bounds.{Range}
 use Rattle.interval_check.specs.Nodes.{IsScaled, IsBounded, IsScaledContract, IsBoundedContract, range_of}
-use Rattle.interval_check.specs.Replacing.{literal_of}
+use Rattle.rewriting.specs.Replacing.{literal_of}
 use Rattle.interval_check.proofs.GuaranteeFacts.{accepted_meet_rules}
 use Rattle.specialise.specs.Specialising.{specialised, specialised_in}
 use Rattle.term_core.specs.Literals.{HasLiterals, HasLiteralsIn}

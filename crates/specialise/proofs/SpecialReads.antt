@@ -12,7 +12,7 @@ use Rattle.term_core.specs.Reads.{reads_of, steps_before, decides}
 use Rattle.term_core.specs.Redexes.{moved}
 use Rattle.term_core.proofs.ShiftFacts.{same_days}
 use Rattle.rewriting.proofs.Among.{among_none, among_same, among_both, then_among, among_steps, one_name_more, among_chosen}
-use Rattle.interval_check.specs.Replacing.{literal_of}
+use Rattle.rewriting.specs.Replacing.{literal_of}
 use Rattle.specialise.specs.Specialising.{specialised}
 use Rattle.specialise.specs.LawsSpecial.{SpecialisedReads}
 use Rattle.specialise.specs.Specialised.{IsOn, MayCome}

@@ -19,7 +19,7 @@ use Rattle.term_core.specs.Bounds.{Range, range_kinds}
 use Rattle.term_core.proofs.AlikeFacts.{all-append}
 use Rattle.interval_check.specs.Nodes.{IsSorted, IsSortedContract, range_of, range_after}
 use Rattle.interval_check.proofs.GuaranteeFacts.{rules_are_by_structure}
-use Rattle.interval_check.specs.Replacing.{literal_of}
+use Rattle.rewriting.specs.Replacing.{literal_of}
 use Rattle.rewriting.specs.Reduced.{IsNoRedex, NoneIn, NoneInContract}
 use Rattle.rewriting.proofs.ReducedFacts.{reduced_by_structure}
 use Rattle.specialise.specs.Specialising.{is_known, specialised, specialised_in}

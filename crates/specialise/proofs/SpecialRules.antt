@@ -14,13 +14,13 @@ use Rattle.interval_check.specs.Nodes.{MeetsRules, ContractMeetsRules, range_of,
 use Rattle.interval_check.specs.Narrowing.{AreNarrower}
 use Rattle.interval_check.specs.Within.{AreWithin, KeepsLimits}
 use Rattle.interval_check.specs.Sums.{entry_of}
-use Rattle.interval_check.specs.Replacing.{Replaces, IsRewritten, IsRewrittenContract, literal_of}
+use Rattle.rewriting.specs.Replacing.{Replaces, IsRewritten, IsRewrittenContract, literal_of}
 use Rattle.interval_check.proofs.GuaranteeFacts.{bindings_lie_within}
 use Rattle.interval_check.proofs.NarrowerFacts.{stays_tight, narrower_let}
-use Rattle.interval_check.proofs.ReplacingFacts.{replaces_neg, replaces_num, replaces_cmp, replaces_not, replaces_logic, replaces_cond, replaces_widen, replaces_round, replaces_div, replaces_acc}
-use Rattle.interval_check.proofs.RewritingContracts.{parts_stand_for_themselves}
-use Rattle.interval_check.proofs.StandingFacts.{values_replace}
-use Rattle.interval_check.proofs.RewritingFacts.{ordered_round, round_rules}
+use Rattle.rewriting.proofs.ReplacingFacts.{replaces_neg, replaces_num, replaces_cmp, replaces_not, replaces_logic, replaces_cond, replaces_widen, replaces_round, replaces_div, replaces_acc}
+use Rattle.rewriting.proofs.RewritingContracts.{parts_stand_for_themselves}
+use Rattle.rewriting.proofs.StandingFacts.{values_replace}
+use Rattle.rewriting.proofs.RewritingFacts.{ordered_round, round_rules}
 use Rattle.specialise.specs.Specialising.{specialised, specialised_in}
 use Rattle.specialise.proofs.ClosedFacts.{kind_among, value_among, agree_none, both_none}
 use Rattle.specialise.proofs.ToldFacts.{IsTold, told_cases}

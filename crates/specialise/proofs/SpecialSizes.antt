@@ -7,7 +7,7 @@ use Rattle.term_core.specs.declared.values.Value.{Value}
 use Rattle.term_core.specs.Terms.{Expression, Lit, Yes, Var, Obs, Neg, Num, Cmp, Not, Logic, Cond, Widen, Round, Div, Acc}
 use Rattle.term_core.specs.Environments.{Environment}
 use Rattle.term_core.specs.Redexes.{moved}
-use Rattle.interval_check.specs.Replacing.{literal_of}
+use Rattle.rewriting.specs.Replacing.{literal_of}
 use Rattle.rewriting.specs.Measures.{size}
 use Rattle.rewriting.proofs.SizeFacts.{some_size}
 use Rattle.specialise.specs.Specialising.{specialised, told_or}

@@ -13,7 +13,7 @@ use Rattle.term_core.specs.Sites.{Once}
 use Rattle.term_core.specs.Redexes.{moved}
 use Rattle.term_core.specs.Bounds.{Range}
 use Rattle.interval_check.specs.Nodes.{EachNode, EachContractNode, range_of, range_after}
-use Rattle.interval_check.specs.Replacing.{literal_of}
+use Rattle.rewriting.specs.Replacing.{literal_of}
 use Rattle.specialise.specs.Specialising.{specialised, specialised_in}
 use Rattle.specialise.proofs.ToldFacts.{told_cases}
 use Rattle.specialise.proofs.SpecialSizes.{nothing_told}

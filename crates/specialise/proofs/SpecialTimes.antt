@@ -10,7 +10,7 @@ use Rattle.term_core.specs.Environments.{Environment}
 use Rattle.term_core.specs.Flows.{count_of}
 use Rattle.term_core.specs.Times.{Typed, raised_by, lowered_by}
 use Rattle.term_core.specs.Redexes.{moved}
-use Rattle.interval_check.specs.Replacing.{literal_of}
+use Rattle.rewriting.specs.Replacing.{literal_of}
 use Rattle.specialise.specs.Specialising.{specialised}
 use Rattle.specialise.proofs.ToldFacts.{told_cases}
 use Rattle.specialise.specs.LawsAccepted.{SpecialisedIsTyped}

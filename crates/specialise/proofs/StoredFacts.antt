@@ -13,7 +13,7 @@ use Rattle.term_core.specs.Shifts.{shifted}
 use Rattle.term_core.specs.SharedTerms.{HasOffsets}
 use Rattle.term_core.specs.Sizes.{past, days_before}
 use Rattle.term_core.specs.Redexes.{moved}
-use Rattle.interval_check.specs.Replacing.{literal_of}
+use Rattle.rewriting.specs.Replacing.{literal_of}
 use Rattle.expr_eval.proofs.SpanFacts.{span, span-shifted, span-past}
 use Rattle.expr_eval.proofs.EvaluableFacts.{past_of_standing, past_limited}
 use Rattle.specialise.specs.Specialising.{specialised, specialised_in}

@@ -17,7 +17,7 @@ use Rattle.term_core.proofs.AlikeFacts.{and_left, and_right}
 use Rattle.term_core.proofs.KindFacts.{values_have_kinds}
 use Rattle.term_core.proofs.ReadFacts.{reads_alike}
 use Rattle.term_core.proofs.ReadLawFacts.{extension_reads, no_names}
-use Rattle.interval_check.specs.Replacing.{literal_of}
+use Rattle.rewriting.specs.Replacing.{literal_of}
 use Rattle.specialise.specs.Specialising.{is_known, literal_or, told, told_or}
 use Rattle.specialise.specs.Specialised.{IsOn, MayCome}
 use Rattle.specialise.proofs.ClosedFacts.{kind_among, value_among, agree_none, both_none}

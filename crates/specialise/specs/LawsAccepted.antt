@@ -9,7 +9,7 @@ use Rattle.term_core.specs.Acceptance.{IsAccepted}
 use Rattle.interval_check.specs.Nodes.{MeetsRules}
 use Rattle.interval_check.specs.Narrowing.{AreNarrower}
 use Rattle.interval_check.specs.Within.{AreWithin, KeepsLimits}
-use Rattle.interval_check.specs.Replacing.{Replaces}
+use Rattle.rewriting.specs.Replacing.{Replaces}
 use Rattle.rewriting.specs.Keeping.{KeepsTypes, StaysWellFormed}
 use Rattle.specialise.specs.Specialising.{specialised, specialised_in}
 

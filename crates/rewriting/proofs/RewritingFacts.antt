@@ -6,10 +6,10 @@ use Rattle.term_core.specs.Bounds.{Range}
 use Rattle.interval_check.specs.Nodes.{IsBounded, is_sorted_part, is_scaled_part, MeetsRules, range_after}
 use Rattle.interval_check.specs.Within.{KeepsLimits}
 use Rattle.interval_check.specs.Narrowing.{AreNarrower}
-use Rattle.interval_check.specs.Replacing.{Replaces, RewrittenReplaces}
+use Rattle.rewriting.specs.Replacing.{Replaces, RewrittenReplaces}
 use Rattle.interval_check.proofs.KindsEnough.{kinds_are_enough}
 use Rattle.interval_check.proofs.NarrowerFacts.{stays_tight}
-use Rattle.interval_check.proofs.ReplacingFacts.{replaces_neg, replaces_num, replaces_cmp, replaces_not, replaces_logic, replaces_cond, replaces_widen, replaces_round, replaces_div, replaces_acc}
+use Rattle.rewriting.proofs.ReplacingFacts.{replaces_neg, replaces_num, replaces_cmp, replaces_not, replaces_logic, replaces_cond, replaces_widen, replaces_round, replaces_div, replaces_acc}
 
 -- an accumulator of fewer days
 fewer_days : (d : Declarations) (body : Expression) (n i : ℕ) (first : Expression) (g : List Range) → i ≤ n → IsBounded d (Acc body n first) g → IsBounded d (Acc body i first) g

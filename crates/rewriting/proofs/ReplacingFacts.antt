@@ -17,7 +17,7 @@ use Rattle.term_core.specs.Bounds.{Range, range_kinds, interval_of}
 use Rattle.interval_check.specs.Nodes.{IsSorted, IsScaled, IsSortedPart, IsScaledPart, is_sorted_part, is_scaled_part, has_scaled_parts, MeetsRules, range_after}
 use Rattle.interval_check.specs.Within.{KeepsLimits}
 use Rattle.interval_check.specs.Narrowing.{IsNarrower, AreNarrower}
-use Rattle.interval_check.specs.Replacing.{Replaces, KeepsForm}
+use Rattle.rewriting.specs.Replacing.{Replaces, KeepsForm}
 use Rattle.interval_check.proofs.KindsEnough.{kinds_are_enough}
 use Rattle.interval_check.proofs.NodeTests.{at_root, scaled_parts}
 use Rattle.interval_check.proofs.NarrowFacts.{narrower_trans}
