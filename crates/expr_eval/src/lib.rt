@@ -6,16 +6,17 @@
 //! ```
 //!
 //! Promised: `eval` answers the value of the model, the same in every environment that extends the fixings,
-//! or the first read that is not fixed (`IsAnswer`).
+//! or the first read that is not fixed (`IsAnswer`). `operations` has one operator each on typed values, and
+//! `value_bound` to `without_kind` are steps of `eval`, for evaluators of other languages.
 //! Only tested: that a scratch is made where there is memory (`library_tests/src/terms.rt`); `eval` takes
 //! none.
 #![tactic(auto)]
 
-pub mod bindings;
+mod bindings;
 mod comparisons;
-pub mod evaluation;
+mod evaluation;
 mod heights;
-pub mod kinds;
+mod kinds;
 mod laws;
 pub mod operations;
 mod operators;
@@ -24,6 +25,8 @@ mod trials;
 mod values;
 mod watches;
 
+pub use bindings::{Bindings, kind_at};
+pub use evaluation::{day_after, day_before, day_on, value_bound, value_found, without_kind};
 pub use kinds::{kind_observed, kind_of};
 pub use laws::{answers_may_be_entered, parts_may_be_evaluated};
 pub use scratch::{Binding, Held, Scratch};

@@ -15,7 +15,7 @@ mod bound_rule;
 mod intervals;
 mod laws;
 mod quotients;
-pub mod range_rule;
+mod range_rule;
 mod range_scopes;
 mod ranges;
 mod totals;
@@ -27,4 +27,5 @@ pub use laws::{
     evaluation_is_safe, narrower_ranges_keep_rules, payments_add_up_to_total,
     rules_hold_by_structure, rules_see_no_offsets, values_lie_in_intervals,
 };
+pub use range_rule::range_of;
 pub use ranges::Range;

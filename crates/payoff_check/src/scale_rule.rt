@@ -18,7 +18,7 @@ use crate::faults::Fault;
 use crate::plains::plain_of;
 use decimal::NoMemory;
 use payoff_lang::{Code, Vx};
-use scale_check::scale_rule::scale_of_expr;
+use scale_check::scale_of_expr;
 use std::alloc::Global;
 use term_core::{CheckErr, Decls, Expr, Rule, Scope, Setting, nodes_in};
 

@@ -19,8 +19,7 @@ use decimal::NoMemory;
 use payoff_lang::{Code, Vx};
 use std::alloc::Global;
 use term_core::{CheckErr, Decls, Expr, Rule, Scope, Setting, nodes_in};
-use time_types::observed_sorts::Sort;
-use time_types::sort_rule::sort_of_expr;
+use time_types::{Sort, sort_of_expr};
 
 /// The sort of a value expression, and its nodes.
 #[derive(Clone, Copy)]

@@ -10,12 +10,10 @@ ghost use Rattle.payoff_eval.specs.CodeEvaluations.{DayFitsOn, DaysFitOn, FitsOn
 use crate::asking::Asking;
 use crate::dates::day_of;
 use crate::kinds::kind_in;
-use expr_eval::bindings::Bindings;
-use expr_eval::evaluation::{day_after, day_before, value_bound, value_found};
 use expr_eval::operations::{
     Operands, Typed, at_kind, combine, compare, divide, is_decided, negate, number, round, verdict,
 };
-use expr_eval::{Binding, Held};
+use expr_eval::{Binding, Bindings, Held, day_after, day_before, value_bound, value_found};
 use payoff_lang::Vx;
 use term_core::{Kind, LogicOp, Missing};
 

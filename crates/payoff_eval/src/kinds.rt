@@ -5,9 +5,8 @@ ghost use Rattle.expr_eval.specs.Evaluations.{KindFitsIn, kind_in};
 ghost use Rattle.payoff_eval.specs.CodeEvaluations.{dated};
 
 use crate::asking::Asking;
-use expr_eval::bindings::{Bindings, kind_at};
-use expr_eval::kinds::kind_observed;
 use expr_eval::operations::scale_of_both;
+use expr_eval::{Bindings, kind_at, kind_observed};
 use payoff_lang::Vx;
 use term_core::Kind;
 

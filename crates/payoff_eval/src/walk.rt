@@ -22,9 +22,7 @@ use crate::dates::{count, day_of};
 use crate::evaluation::evaluate;
 use crate::kinds::kind_in;
 use decimal::align;
-use expr_eval::bindings::Bindings;
-use expr_eval::evaluation::{day_on, without_kind};
-use expr_eval::{Held, Scratch};
+use expr_eval::{Bindings, Held, Scratch, day_on, without_kind};
 use payoff_lang::{Code, DateExpr, Vx};
 use term_core::{Kind, Missing, Value};
 

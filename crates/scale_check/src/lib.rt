@@ -15,9 +15,9 @@
 
 mod contract_scales;
 mod part_sizes;
-pub mod scale_rule;
+mod scale_rule;
 mod scale_scopes;
 mod size_rule;
 
-pub use scale_rule::scales;
+pub use scale_rule::{scale_of_expr, scales};
 pub use size_rule::sizes;

@@ -13,12 +13,13 @@
 #![tactic(auto)]
 
 mod laws;
-pub mod observed_sorts;
-pub mod sort_rule;
+mod observed_sorts;
+mod sort_rule;
 mod starts;
 mod time_rule;
 
 pub use laws::typing_is_kept;
-pub use sort_rule::sorts;
+pub use observed_sorts::{Sort, sort_observed};
+pub use sort_rule::{sort_of_expr, sorts};
 pub use starts::Start;
 pub use time_rule::times;
