@@ -4,7 +4,8 @@ ghost use Rattle.std.specs.Prelude.{◌≡◌, ◌++◌, OnOk, OnErr};
 ghost use Rattle.decimal.specs.Appending.{AppendsPart};
 ghost use Rattle.report.specs.Pieces.{IsWritable, number_text, piece_text};
 ghost use Rattle.report.specs.CheckLines.{line_feed};
-ghost use Rattle.report.specs.FaultLines.{earlier_text, fault_text, kind_text, missing_text, refused_text, row_fault_text, row_text, text_fault_text};
+ghost use Rattle.report.specs.FaultLines.{earlier_text, fault_text, kind_text, missing_text};
+ghost use Rattle.report.specs.FaultLines.{refused_text, row_fault_text, row_text, text_fault_text};
 
 use crate::check_lines::rule_word;
 use crate::pieces::{Piece, append, whole};
@@ -109,8 +110,10 @@ fn earlier_piece<'a>(kind: RowKind) -> Piece<'a>
 
 // Words, a number and the end of the line.
 fn count_line(alloc: Global, out: &mut Vec<u8>, words: &[u8], count: u32) -> Result<(), NoMemory>
-    ensures ok { OnOk result (out.new.items ≡ out.old.items ++ (words.now ++ (number_text count ++ line_feed))) }
-    ensures err { OnErr result (AppendsPart out.old.items (words.now ++ (number_text count ++ line_feed)) out.new.items) }
+    ensures ok { OnOk result (out.new.items ≡ out.old.items
+        ++ (words.now ++ (number_text count ++ line_feed))) }
+    ensures err { OnErr result (AppendsPart out.old.items
+        (words.now ++ (number_text count ++ line_feed)) out.new.items) }
 {
     let pieces = [Piece::Words(words), whole(count), Piece::Words(b"\n")];
     append(alloc, out, &pieces)
@@ -123,8 +126,10 @@ fn name_line<'a>(
     words: &'a [u8],
     name: &'a [u8],
 ) -> Result<(), NoMemory>
-    ensures ok { OnOk result (out.new.items ≡ out.old.items ++ (words.now ++ (name.now ++ line_feed))) }
-    ensures err { OnErr result (AppendsPart out.old.items (words.now ++ (name.now ++ line_feed)) out.new.items) }
+    ensures ok { OnOk result (out.new.items ≡ out.old.items
+        ++ (words.now ++ (name.now ++ line_feed))) }
+    ensures err { OnErr result (AppendsPart out.old.items
+        (words.now ++ (name.now ++ line_feed)) out.new.items) }
 {
     let pieces = [Piece::Words(words), Piece::Words(name), Piece::Words(b"\n")];
     append(alloc, out, &pieces)
@@ -132,7 +137,8 @@ fn name_line<'a>(
 
 fn text_line(alloc: Global, out: &mut Vec<u8>, fault: &TextFault) -> Result<(), NoMemory>
     ensures ok { OnOk result (out.new.items ≡ out.old.items ++ text_fault_text fault.now) }
-    ensures err { OnErr result (AppendsPart out.old.items (text_fault_text fault.now) out.new.items) }
+    ensures err { OnErr result (AppendsPart out.old.items
+        (text_fault_text fault.now) out.new.items) }
 {
     let pieces = [
         Piece::Words(b"fault text "),
@@ -154,7 +160,8 @@ fn refused_line(
     node: u32,
 ) -> Result<(), NoMemory>
     ensures ok { OnOk result (out.new.items ≡ out.old.items ++ refused_text name.now rule node) }
-    ensures err { OnErr result (AppendsPart out.old.items (refused_text name.now rule node) out.new.items) }
+    ensures err { OnErr result (AppendsPart out.old.items
+        (refused_text name.now rule node) out.new.items) }
 {
     let pieces = [
         Piece::Words(b"fault refused "),
@@ -170,7 +177,8 @@ fn refused_line(
 
 fn row_line(alloc: Global, out: &mut Vec<u8>, place: u8, fault: &RowFault) -> Result<(), NoMemory>
     ensures ok { OnOk result (out.new.items ≡ out.old.items ++ row_fault_text place fault.now) }
-    ensures err { OnErr result (AppendsPart out.old.items (row_fault_text place fault.now) out.new.items) }
+    ensures err { OnErr result (AppendsPart out.old.items
+        (row_fault_text place fault.now) out.new.items) }
 {
     let pieces = [
         Piece::Words(b"fault row file "),
@@ -194,8 +202,10 @@ fn missing_line<'a>(
     behind: &'a [u8],
     scenario: &'a [u8],
 ) -> Result<(), NoMemory>
-    ensures ok { OnOk result (out.new.items ≡ out.old.items ++ missing_text label.now day (behind.now ++ (scenario.now ++ line_feed))) }
-    ensures err { OnErr result (AppendsPart out.old.items (missing_text label.now day (behind.now ++ (scenario.now ++ line_feed))) out.new.items) }
+    ensures ok { OnOk result (out.new.items ≡ out.old.items
+        ++ missing_text label.now day (behind.now ++ (scenario.now ++ line_feed))) }
+    ensures err { OnErr result (AppendsPart out.old.items
+        (missing_text label.now day (behind.now ++ (scenario.now ++ line_feed))) out.new.items) }
 {
     let pieces = [
         Piece::Words(b"fault missing "),
@@ -212,7 +222,8 @@ fn missing_line<'a>(
     append(alloc, out, &pieces)
 }
 
-/// Appends the line of a fault. Where memory runs out on the way, a front part of that line may stand in `out` already.
+/// Appends the line of a fault. Where memory runs out on the way, a front part of that line may
+/// stand in `out` already.
 pub fn fault_line(alloc: Global, out: &mut Vec<u8>, fault: &Fault) -> Result<(), NoMemory>
     ensures ok { OnOk result (out.new.items ≡ out.old.items ++ fault_text fault.now) }
     ensures err { OnErr result (AppendsPart out.old.items (fault_text fault.now) out.new.items) }
