@@ -6,13 +6,9 @@ use Rattle.std.proofs.lemmas.Option.{slice_get-map, slice_get_within}
 use Rattle.decimal.specs.declared.rounding.Mode.{Mode}
 use Rattle.term_core.specs.Declarations.{Declarations}
 use Rattle.term_core.specs.Environments.{Place, held}
-use Rattle.term_core.specs.Reads.{is_fixed}
-use Rattle.term_core.proofs.ReadLawFacts.{all_fixed, extension_reads, no_names}
 use Rattle.fixing_files.specs.Tables.{table_of}
 use Rattle.fixing_files.specs.declared.faults.RowFault.{RowFault}
-use Rattle.payoff_lang.specs.CodeReads.{reads_of_code}
-use Rattle.payoff_lang.specs.LawsCode.{CodeValuesAreFixed}
-use Rattle.payoff_lang.proofs.CodeAlikeFacts.{Worth, code_alike}
+use Rattle.payoff_lang.proofs.CodeAlikeFacts.{code_stays}
 use Rattle.payoff_eval.proofs.SameFacts.{same_lacked}
 use Rattle.scenario_set.specs.LawsTotals.{SameTotals}
 use Rattle.scenario_set.specs.Scenarios.{NamedMap, SameScenarios}
@@ -32,11 +28,6 @@ use Rattle.command_answers.specs.Statuses.{status_of}
 use Rattle.command_answers.specs.declared.status.Status.TheVariants as status
 use Rattle.command_answers.proofs.CourseFacts.{Alike, IsStage, SameStage, alike_behind, alike_ends}
 use Rattle.command_answers.proofs.StageFacts.{none_or_some, some_same}
-
--- where each place that code reads is fixed, its value stays in every environment that extends the fixings
-pub code_stays : CodeValuesAreFixed
-code_stays d k fixings env xs a b x none =
-    sym (ap (λ (p : Worth). p.0) ((code_alike d (is_fixed fixings) fixings env (λ q fixed. sym (extension_reads d fixings env x q fixed)) k [] [] [] [] (no_names (is_fixed fixings)) xs a b).values (all_fixed fixings (reads_of_code d k [] [] fixings xs a b) none)))
 
 -- ---- the stages
 

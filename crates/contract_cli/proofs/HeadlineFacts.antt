@@ -14,6 +14,7 @@ use Rattle.contract_parse.specs.Texts.{Text}
 use Rattle.payoff_lang.specs.CodeBooks.{CodeBook}
 use Rattle.payoff_lang.specs.CodeFiles.{CodeText}
 use Rattle.payoff_lang.specs.Meaning.{CodeMeans, Counting, MayBeAsked, Remaining}
+use Rattle.payoff_lang.proofs.CodeAlikeFacts.{code_stays}
 use Rattle.command_words.specs.Commands.{Advance, AdvanceAsked, Check, Novate, Payoff, PayoffAsked, Request, Scenarios, ScenariosAsked, Value, ValueAsked}
 use Rattle.scenario_set.specs.Totals.{AreTotals}
 use Rattle.scenario_set.specs.declared.outcomes.Totals.{Totals}
@@ -32,7 +33,6 @@ use Rattle.command_answers.specs.ValueCourse.{value_course}
 use Rattle.command_answers.specs.ValuePromise.{AreBetween, CanValue, IsValue, IsValueText, WordsFitCode, question, setting_by}
 use Rattle.command_answers.specs.declared.status.Status.{Status}
 use Rattle.command_answers.specs.declared.status.Status.TheVariants as status
-use Rattle.command_answers.proofs.ScenarioFacts.{code_stays}
 use Rattle.command_answers.proofs.SoundCourses.{OfCommand}
 use Rattle.command_answers.proofs.ValueParts.{index_within}
 use Rattle.contract_cli.specs.Headline.{AreWorthIn, HasAdvanced, HasChecked, HasCompiled, HasTotalled, HasValued, Headline, IsAcceptedAtNumbers, IsPresentValue, Judged}
