@@ -1,5 +1,5 @@
 -- What is spelled as one token is taken at its place.
-use Rattle.std.proofs.Common.{◌≡◌, Bool, true, false, ◌&&◌, Result, Ok, Err, IsErrAnd, List, [], ◌∷◌, refl, sym, ap, subst}
+use Rattle.std.proofs.Common.{◌≡◌, ◌∙◌, Bool, true, false, ◌&&◌, Result, Ok, Err, IfOk, IsErrAnd, List, [], ◌∷◌, refl, sym, ap, subst}
 use Rattle.std.specs.Str.{bytes_eq}
 use Rattle.std.proofs.lemmas.Slice.Eq.{bytes_eq-Decides}
 use Rattle.std.proofs.lemmas.Bool.{false≢true}
@@ -8,7 +8,7 @@ use Rattle.contract_parse.specs.Tokens.{Tok}
 use Rattle.contract_parse.specs.Words.{Bytes, is_end, is_end_kind, is_mark_kind, is_name, is_number, is_number_kind, is_the_mark, is_the_word, is_word_kind}
 use Rattle.contract_parse.specs.Names.{DeclaredNames}
 use Rattle.contract_parse.specs.Spelling.{Part, mark, one, valued, word}
-use Rattle.contract_parse.specs.Places.{Place, TheMark, TheWord, Next, Open, run, step}
+use Rattle.contract_parse.specs.Places.{Leaves, Outcome, Place, TheMark, TheWord, Next, Open, run, step}
 use Rattle.contract_parse.specs.Reading.{LacksMark}
 use Rattle.contract_parse.specs.Readers.{Ahead, Going, ReadsAhead}
 use Rattle.contract_parse.specs.declared.faults.ReadErr.{ReadErr}
@@ -27,6 +27,15 @@ stopped follows = record { follows = follows; spelled = tt; shorter = tt }
 pub stopped_at : {X : Type 0} {Goes : Going X} {part : X → Part} {behind : X → Ahead} {from : Ahead} (e : ReadErr) (result : Result X ReadErr)
     → IsErrAnd result (λ y. y ≡ e) → Goes (λ r. (behind r).toks) from.toks (Err e) → ReadsAhead Goes part behind from result
 stopped_at e result is follows = let p = err_from_is_err_and result is in rw (p.1, p.2) (stopped follows)
+
+-- what a reader leaves, by other words for where it leads
+pub leaves_as : {X : Type 0} (f g : X → Outcome) (result : Result X ReadErr) (o : Outcome) → IfOk result (λ x. f x ≡ g x) → Leaves f result o → Leaves g result o
+leaves_as f g (Ok x) o same left = left ∙ same
+leaves_as f g (Err e) o same left = left
+
+pub ok_both : {X : Type 0} (P Q : X → Type 0) (result : Result X ReadErr) → IfOk result P → IfOk result Q → IfOk result (λ x. P x × Q x)
+ok_both P Q (Ok x) p q = (p, q)
+ok_both P Q (Err e) p q = tt
 
 pub run-end : (s : DeclaredNames) (ps : List Place) → run s ps [] ≡ Open ps
 unfolding run

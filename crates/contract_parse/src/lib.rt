@@ -1,13 +1,17 @@
-//! Portfolios from their texts: tokens, the grammar of declarations and contracts, and the first fault of a
-//! text that is none. Payoff code is read with the same readers; a cursor lends tokens and declarations to
-//! whoever embeds them in a grammar of their own.
+//! Portfolios from their texts: tokens, the grammar of declarations and contracts, and the first
+//! fault of a text that is none. Payoff code is read with the same readers. A cursor lends tokens
+//! and declarations to whoever embeds them in a grammar of their own.
 //!
 //! ```text
 //! let portfolio = parse_portfolio(alloc, &bytes)?; // of at most 16,777,216 bytes
+//!
+//! let (decls, mut reader) = start_contracts(alloc, &bytes)?; // the same a contract at a time
+//! while let Some(next) = next_contract(alloc, &decls, &mut reader)? { .. }
 //! ```
 //!
-//! Promised: `parse_portfolio` answers the portfolio exactly where the bytes are a text of it, and else the
-//! first fault (`Answers`); a text stands for one portfolio (`laws`).
+//! Promised: `parse_portfolio` answers the portfolio exactly where the bytes are a text of it, and
+//! else the first fault (`Answers`). `start_contracts` and `next_contract` answer its contracts one
+//! by one, or the same fault (`GoesOn`). A text stands for one portfolio (`laws`).
 //! Only tested: that a text is read where there is memory (rows of `library_rows`).
 #![tactic(auto)]
 
@@ -25,8 +29,10 @@ pub mod laws;
 mod lines;
 mod name_texts;
 mod names;
+mod next_contracts;
 mod portfolio;
 mod readers;
+mod short_texts;
 mod token;
 mod tokens;
 mod words;
@@ -34,6 +40,7 @@ mod words;
 pub use cursor::{Cursor, next_token, parse_decls, start_text};
 pub use faults::{ParseErr, TextFault, TextKind};
 pub use name_texts::is_name_text;
+pub use next_contracts::{ContractReader, NextContract, next_contract, start_contracts};
 pub use portfolio::parse_portfolio;
 pub use tokens::{Token, TokenKind};
 

@@ -2,6 +2,7 @@
 ghost use Rattle.std.specs.Prelude.{◌≡◌, ◌≤◌, ◌<◌, ◌∷◌, [], List, true, IfOk, codes, length};
 ghost use Rattle.indexmap.specs.IndexMap.{keys};
 ghost use Rattle.term_core.specs.Books.{book};
+ghost use Rattle.term_core.specs.Declarations.{declarations};
 ghost use Rattle.term_core.specs.Sizes.{height_of_contract};
 ghost use Rattle.term_core.specs.Terms.{contract};
 ghost use Rattle.contract_parse.specs.Tokens.{tokens};
@@ -10,8 +11,8 @@ ghost use Rattle.term_core.specs.Limits.{is_a_version};
 ghost use Rattle.contract_parse.specs.Versions.{version_of};
 ghost use Rattle.contract_parse.specs.Judgements.{is_the_version};
 ghost use Rattle.contract_parse.specs.Spelling.{contr, mark, one, word, ◌⨟◌};
-ghost use Rattle.contract_parse.specs.Statements.{Entry, Repeat, contract_line, portfolio};
-ghost use Rattle.contract_parse.specs.Places.{ContrAt, ContractLines, Leaves, Open, Place, TextVersion, TheMark, TheWord, contract_places, decls_places, run, text_places};
+ghost use Rattle.contract_parse.specs.Statements.{Entry, Repeat, beginning, contract_line, portfolio};
+ghost use Rattle.contract_parse.specs.Places.{ContrAt, ContractLines, Leaves, Open, Place, TextVersion, TheMark, TheWord, contract_places, decls_places, places_behind, run, text_places};
 ghost use Rattle.contract_parse.specs.Reading.{declared_in, tokens_ahead};
 ghost use Rattle.contract_parse.specs.ContractReading.{trees};
 ghost use Rattle.contract_parse.specs.Texts.{Answers};
@@ -21,16 +22,16 @@ use crate::contrs::read_contr;
 use crate::cursor::start_text;
 use crate::decls::read_decls;
 use crate::faults::{ParseErr, ReadErr};
-use crate::lines::fault_at;
 use crate::readers::{after_word, read_end, read_new_name, read_version, skip_mark, skip_word};
+use crate::short_texts::ShortText;
 use crate::words::{Lookahead, look};
 use indexmap::IndexMap;
 use std::alloc::Global;
 use term_core::{Contr, Decls, Name, Portfolio, Scope};
 
-// A contract behind its name, to the end of its line.
+/// A contract behind its name, to the end of its line.
 #[tactic(auto, using(crate::proofs::Parts::followed_by))]
-fn read_definition<'a>(
+pub fn read_definition<'a>(
     alloc: Global,
     decls: &Decls,
     rest: &'a [u8],
@@ -99,13 +100,27 @@ fn read_first_line(rest: &[u8]) -> Result<(u8, &[u8]), ReadErr>
     Ok((version, rest))
 }
 
-fn read_portfolio(alloc: Global, bytes: &[u8]) -> Result<Portfolio, ReadErr>
+/// The first line and the declarations of a text, and the token that comes next.
+pub fn read_beginning<'a>(alloc: Global, bytes: &'a [u8]) -> Result<(Decls, Lookahead<'a>), ReadErr>
     requires { length bytes.now ≤ 16_777_216 }
-    ensures follows { Leaves (λ r. Open []) result (run nothing_declared text_places (tokens bytes.now)) }
-    ensures spelled { IfOk result (λ r. portfolio (book r) (tokens bytes.now) []) }
+    ensures follows { Leaves (λ r. run (declared_in r.0 [])
+        (places_behind (version_of r.0.version)) (tokens_ahead r.1)) result
+        (run nothing_declared text_places (tokens bytes.now)) }
+    ensures spelled { IfOk result (λ r.
+        beginning (declarations r.0) (tokens bytes.now) (tokens_ahead r.1)) }
+    ensures within { IfOk result (λ r. length r.1.after.now ≤ length bytes.now) }
 {
     let (version, rest) = read_first_line(bytes)?;
-    let (decls, ahead) = read_decls(alloc, version, rest)?;
+    read_decls(alloc, version, rest)
+}
+
+fn read_portfolio(alloc: Global, bytes: &[u8]) -> Result<Portfolio, ReadErr>
+    requires { length bytes.now ≤ 16_777_216 }
+    ensures follows { Leaves (λ r. Open []) result
+        (run nothing_declared text_places (tokens bytes.now)) }
+    ensures spelled { IfOk result (λ r. portfolio (book r) (tokens bytes.now) []) }
+{
+    let (decls, ahead) = read_beginning(alloc, bytes)?;
     let (contracts, ahead) = read_contracts(alloc, &decls, &ahead)?;
     read_end(&ahead)?;
     Ok(Portfolio { decls, contracts })
@@ -119,12 +134,9 @@ pub fn parse_portfolio(alloc: Global, bytes: &[u8]) -> Result<Portfolio, ParseEr
     if let Err(fault) = start_text(bytes) {
         return Err(ParseErr::Text(fault));
     }
+    let text = ShortText { bytes };
     match read_portfolio(alloc, bytes) {
         Ok(portfolio) => Ok(portfolio),
-        Err(ReadErr::Refused(refusal)) => {
-            let at = bytes.len().saturating_sub(refusal.left);
-            Err(ParseErr::Text(fault_at(bytes, refusal.kind, at)))
-        }
-        Err(ReadErr::NoMemory) => Err(ParseErr::NoMemory),
+        Err(error) => Err(text.fault_of(error)),
     }
 }

@@ -1,0 +1,49 @@
+use Rattle.std.proofs.Common.{◌∙◌, ◌∷◌, ◌++◌, [], ap, refl, subst, rules}
+use Rattle.std.specs.Prelude.{codes}
+use Rattle.contract_parse.specs.Tokens.{tokens}
+use Rattle.contract_parse.specs.Versions.{version_of}
+use Rattle.contract_parse.specs.Words.{Bytes}
+use Rattle.contract_parse.specs.Judgements.{new_at}
+use Rattle.contract_parse.specs.Spelling.{valued}
+use Rattle.contract_parse.specs.Places.{ContrAt, TheMark}
+use Rattle.contract_parse.specs.Reading.{declared_in, tok_of, tokens_after}
+use Rattle.contract_parse.specs.declared.names.NameSet.TheVariants.{Contract}
+use Rattle.contract_parse.proofs.NextFacts.{new_name_is}
+use Rattle.contract_parse.proofs.Parts.{followed_by}
+use Rattle.contract_parse.proofs.Passing.{stopped_at}
+use Rattle.contract_parse.proofs.next_contracts.read_named.Goals as goal
+
+pub returns-in_err-rest-clause-reads : goal.returns-in_err-rest-clause-reads
+returns-in_err-rest-clause-reads c = stopped_at _ c.from_residual.result c.from_residual.ensures.1 (λ ps. c.in_err-rest.ensures.reads.follows Contract (declared_in c.args.decls.now []) (TheMark (codes "=") ∷ ContrAt (version_of c.args.decls.now.version) 1 [] ∷ TheMark (codes ";") ∷ ps))
+
+pub returns-in_err-contr-clause-reads : goal.returns-in_err-contr-clause-reads
+returns-in_err-contr-clause-reads c = stopped_at _ c.from_residual-in_err-contr.result c.from_residual-in_err-contr.ensures.1 (λ ps.
+    rw (c.in_ok-rest.ensures.reads.follows Contract (declared_in c.args.decls.now []) (TheMark (codes "=") ∷ ContrAt (version_of c.args.decls.now.version) 1 [] ∷ TheMark (codes ";") ∷ ps))
+    (c.in_err-contr.ensures.reads.follows c.declare.new.names.keys ps))
+
+pub returns-clause-reads : goal.returns-clause-reads
+returns-clause-reads c = record {
+  follows = λ ps.
+      c.in_ok-rest.ensures.reads.follows Contract (declared_in c.args.decls.now []) (TheMark (codes "=") ∷ ContrAt (version_of c.args.decls.now.version) 1 [] ∷ TheMark (codes ";") ∷ ps)
+      ∙ c.in_ok-contr.ensures.reads.follows c.declare.new.names.keys ps;
+  spelled =
+      let added = c.in_ok-rest.ensures.reads.spelled in
+      let before = c.args.names.now.keys in
+      let here = tokens c.args.after.now in
+      let behind = tokens c.in_ok-rest.rest.now in
+      let same = new_name_is before added.name (tok_of c.next.result.0) here (tokens_after c.next.result.0.kind c.next.result.1.now) behind c.next.ensures.starts added.spelled in
+      let new = subst (λ (n : Bytes). valued (new_at before) n here behind) same added.spelled in
+      let defined = c.in_ok-contr.ensures.reads.spelled in
+      followed_by behind new
+      (followed_by defined.between defined.one
+      (followed_by defined.two.between defined.two.one
+      (followed_by defined.two.between (refl, c.in_ok-contr.ensures.high) defined.two.two)));
+  shorter = search rules;
+}
+
+pub returns-clause-added : goal.returns-clause-added
+returns-clause-added c =
+    let added = c.in_ok-rest.ensures.reads.spelled in
+    let before = c.args.names.now.keys in
+    let same = new_name_is before added.name (tok_of c.next.result.0) (tokens c.args.after.now) (tokens_after c.next.result.0.kind c.next.result.1.now) (tokens c.in_ok-rest.rest.now) c.next.ensures.starts added.spelled in
+    added.is ∙ ap (λ (n : Bytes). before ++ n ∷ []) same

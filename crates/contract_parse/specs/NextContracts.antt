@@ -1,0 +1,107 @@
+-- A portfolio's text that is read a contract at a time: what has been read, and what comes next.
+use Rattle.std.specs.Prelude.{◌≡◌, ◌≤◌, ◌<◌, ◌^◌, ◌∷◌, ◌++◌, ℕ, [], List, Option, Some, None, Result, Ok, Err, false, length}
+use Rattle.std.specs.Map.{keys_of}
+use Rattle.std.specs.Str.{IsUtf8}
+use Rattle.term_core.specs.Books.{Book}
+use Rattle.term_core.specs.Declarations.{Declarations, declarations}
+use Rattle.term_core.specs.Instances.{HasSmallSums}
+use Rattle.term_core.specs.Sizes.{height_of_contract, nodes_of_contract}
+use Rattle.term_core.specs.Terms.{Contract, contract}
+use Rattle.term_core.specs.WellFormed.{IsClosed}
+use Rattle.term_core.specs.declared.decls.Decls.{Decls}
+use Rattle.term_core.specs.declared.name.Name.{Name}
+use Rattle.contract_parse.specs.Tokens.{tokens}
+use Rattle.contract_parse.specs.Versions.{version_of}
+use Rattle.contract_parse.specs.Names.{declared_by, is_declared, nothing_declared}
+use Rattle.contract_parse.specs.Spelling.{Part, ◌⨟◌, end}
+use Rattle.contract_parse.specs.Statements.{Entry, Repeat, contract_line, portfolio}
+use Rattle.contract_parse.specs.Places.{Fails, places_behind, run, text_places}
+use Rattle.contract_parse.specs.Reading.{tokens_ahead}
+use Rattle.contract_parse.specs.Texts.{IsFault, Text}
+use Rattle.contract_parse.specs.declared.faults.ParseErr.{ParseErr}
+use Rattle.contract_parse.specs.declared.faults.ParseErr.TheVariants as err
+use Rattle.contract_parse.specs.declared.faults.ReadErr.{ReadErr}
+use Rattle.contract_parse.specs.declared.faults.TextFault.{TextFault}
+use Rattle.contract_parse.specs.declared.next_contracts.ContractReader.{ContractReader}
+use Rattle.contract_parse.specs.declared.next_contracts.NextContract.{NextContract}
+
+-- a contract of a text, as it may be tried
+pub record IsSoundContract (d : Declarations) (c : Contract) : Type 0 where
+  pub closed : IsClosed d c
+  pub low : height_of_contract c ≤ 200
+  pub small : nodes_of_contract c < 2 ^ 32
+  pub sums : HasSmallSums c
+
+-- the lines of contracts behind these, to the end of the text
+abbrev pub further_contracts : Declarations → List (Name × Contract) → List (Name × Contract) → Part
+further_contracts d before after =
+    Repeat (Entry (contract_line (declared_by d []))) before after ⨟ end
+
+-- of a text with these declarations so many contracts are read: its places go on from here, and
+-- what follows completes it
+pub record IsReadTo (bytes : List ℕ) (d : Declarations) (entries : List (Name × Contract))
+    (reader : ContractReader) : Type 0 where
+  pub text : reader.text.bytes.now ≡ bytes
+  pub utf8 : IsUtf8 bytes
+  pub short : length bytes ≤ 16_777_216
+  pub within : length reader.ahead.after.now ≤ length bytes
+  pub named : keys_of entries ≡ reader.names.keys
+  pub follows :
+      run nothing_declared text_places (tokens bytes)
+      ≡ run (declared_by d reader.names.keys) (places_behind (version_of d.version))
+      (tokens_ahead reader.ahead)
+  pub completed :
+      (all : List (Name × Contract))
+      → further_contracts d entries all (tokens_ahead reader.ahead) []
+      → portfolio (record { declarations = d; contracts = all }) (tokens bytes) []
+
+-- the contract behind these
+pub record IsNext (bytes : List ℕ) (d : Declarations) (entries : List (Name × Contract))
+    (after : ContractReader) (next : NextContract) : Type 0 where
+  pub read : IsReadTo bytes d (entries ++ (next.name.now, contract next.contr) ∷ []) after
+  pub sound : IsSoundContract d (contract next.contr)
+  pub new : is_declared (keys_of entries) next.name.now ≡ false
+
+-- the bytes are no text, and the fault is their first
+abbrev pub IsNoText : List ℕ → TextFault → Type 0
+IsNoText bytes f = IsFault bytes f × ((b : Book) → Text bytes b → ⊥)
+
+abbrev pub AnswersNext :
+    List ℕ → Declarations → List (Name × Contract) → ContractReader
+    → Result (Option NextContract) ParseErr → Type 0
+AnswersNext bytes d entries after (Ok (Some next)) = IsNext bytes d entries after next
+AnswersNext bytes d entries after (Ok None) =
+    Text bytes (record { declarations = d; contracts = entries })
+AnswersNext bytes d entries after (Err (err.Text f)) = IsNoText bytes f
+AnswersNext bytes d entries after (Err err.NoMemory) = Unit {0}
+
+-- the same while a fault has no line and no column
+abbrev pub ReadsNext :
+    List ℕ → Declarations → List (Name × Contract) → ContractReader
+    → Result (Option NextContract) ReadErr → Type 0
+ReadsNext bytes d entries after (Ok (Some next)) = IsNext bytes d entries after next
+ReadsNext bytes d entries after (Ok None) =
+    Text bytes (record { declarations = d; contracts = entries })
+ReadsNext bytes d entries after (Err e) = Fails e (run nothing_declared text_places (tokens bytes))
+
+-- whatever has been read of whichever text
+abbrev pub GoesOn :
+    Declarations → ContractReader → ContractReader → Result (Option NextContract) ParseErr → Type 0
+GoesOn d before after result =
+    (bytes : List ℕ) (entries : List (Name × Contract)) → IsReadTo bytes d entries before
+    → AnswersNext bytes d entries after result
+
+abbrev pub ReadsOn :
+    Declarations → ContractReader → ContractReader → Result (Option NextContract) ReadErr → Type 0
+ReadsOn d before after result =
+    (bytes : List ℕ) (entries : List (Name × Contract)) → IsReadTo bytes d entries before
+    → ReadsNext bytes d entries after result
+
+abbrev pub StartsContracts : List ℕ → Result (Decls × ContractReader) ParseErr → Type 0
+StartsContracts bytes (Ok start) = IsReadTo bytes (declarations start.0) [] start.1
+StartsContracts bytes (Err (err.Text f)) = IsNoText bytes f
+StartsContracts bytes (Err err.NoMemory) = Unit {0}
+
+-- how many bytes of the text are not yet read
+abbrev pub bytes_left : ContractReader → ℕ
+bytes_left reader = length reader.ahead.after.now

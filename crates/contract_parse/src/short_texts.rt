@@ -1,0 +1,30 @@
+//! Texts that are short enough for their lines to be counted.
+ghost use Rattle.std.specs.Prelude.{◌≤◌, length};
+
+use crate::faults::{ParseErr, ReadErr};
+use crate::lines::fault_at;
+
+/// A text of at most 16 MiB.
+#[derive(Clone, Copy)]
+pub struct ShortText<'a> {
+    pub bytes: &'a [u8],
+    pub ghost short: { length bytes.now ≤ 16_777_216 },
+}
+
+impl<'a> ShortText<'a> {
+    ghost use Rattle.std.specs.Prelude.{◌≡◌};
+    ghost use Rattle.contract_parse.specs.Cursors.{fault_of};
+
+    /// What is told of a part of the text that was not read.
+    pub fn fault_of(self, error: ReadErr) -> ParseErr
+        ensures { result ≡ fault_of self.entry.bytes.now error }
+    {
+        match error {
+            ReadErr::Refused(refusal) => {
+                let at = self.bytes.len().saturating_sub(refusal.left);
+                ParseErr::Text(fault_at(self.bytes, refusal.kind, at))
+            }
+            ReadErr::NoMemory => ParseErr::NoMemory,
+        }
+    }
+}
