@@ -20,7 +20,7 @@ use crate::starts::{Start, earlier_of, is_known};
 use std::alloc::Global;
 use term_core::{
     CheckErr, Contr, Decls, Expr, Rule, Scope, behind, behind_both, behind_contract, behind_node,
-    held_at,
+    day_read, days_earlier, days_later, held_at,
 };
 
 // The day from which both are known.
@@ -45,7 +45,7 @@ fn read_on(day: PartDay, offset: i32) -> i64
     requires { HasRoom 1 day.number }
     ensures { result ≡ day.number +ℤ offset }
 {
-    day.number + offset as i64
+    day_read(day.number, offset)
 }
 
 fn days_before(day: PartDay, days: u32) -> PartDay
@@ -54,7 +54,7 @@ fn days_before(day: PartDay, days: u32) -> PartDay
     ensures near { unsigned_abs result.number ≤ unsigned_abs day.number + 2 ^ 32 }
 {
     PartDay {
-        number: day.number - days as i64,
+        number: days_earlier(day.number, days),
     }
 }
 
@@ -64,7 +64,7 @@ fn days_after(day: PartDay, days: u32) -> PartDay
     ensures near { unsigned_abs result.number ≤ unsigned_abs day.number + 2 ^ 32 }
 {
     PartDay {
-        number: day.number + days as i64,
+        number: days_later(day.number, days),
     }
 }
 
