@@ -31,7 +31,6 @@ pub mod QuotientFacts
 pub mod RangeKinds
 pub mod Accumulation
 pub mod BehindFacts
-pub mod Places
 pub mod KindsFound
 pub mod RangeFacts
 pub mod TotalSizes

@@ -1,21 +1,24 @@
-//! The rule on bounds: every end point and every aligned operand is at most 10^37 in size, no divisor's interval holds
-//! 0, and every total is at most 10^27, as it is and at the portfolio's decimals. The trial of a contract answers its
-//! total, or the number of the node at fault, counted from the contract's own first node; nodes before it are counted
-//! only on the way up from a fault, so that no part is visited more than twice.
+//! The rule on bounds: every end point and every aligned operand is at most 10^37 in size, no
+//! divisor's interval holds 0, and every total is at most 10^27, as it is and at the portfolio's
+//! decimals. The trial of a contract answers its total, or the number of the node at fault, counted
+//! from the contract's own first node; nodes before it are counted only on the way up from a fault,
+//! so that no part is visited more than twice. A function pays at entry for the locals of all its
+//! arms, so each form with parts has one of its own.
 
 ghost use Rattle.std.specs.Prelude.{◌≡◌, ◌<◌, ◌+◌, ◌^◌, pos, [], IfOk};
 ghost use Rattle.term_core.specs.Declarations.{declarations};
 ghost use Rattle.term_core.specs.declared.rules.Rule.{Rule};
-ghost use Rattle.term_core.specs.Terms.{expression, contract, Scale, Let};
+ghost use Rattle.term_core.specs.Terms.{expression, contract, Both, Scale, Let};
 ghost use Rattle.term_core.specs.Sizes.{nodes, nodes_of_contract};
-ghost use Rattle.term_core.specs.Bounds.{range_kinds, aligned_total};
-ghost use Rattle.term_core.specs.Trying.{FaultIsWithin};
+ghost use Rattle.term_core.specs.Bounds.{aligned_total};
+ghost use Rattle.term_core.specs.Trying.{FaultIsWithin, moved};
 ghost use Rattle.term_core.specs.Acceptance.{Meets};
 ghost use Rattle.term_core.specs.Verdicts.{IsVerdict};
-ghost use Rattle.interval_check.specs.RangeScopes.{ranges_in};
-ghost use Rattle.interval_check.specs.ScopedTrials.{total_among, PaysScaledAmong};
+ghost use Rattle.interval_check.specs.ScopedTrials.{total_among, total_within};
+ghost use Rattle.interval_check.specs.ScopedTrials.{IsScaledAmong, PaysScaledAmong};
+ghost use Rattle.interval_check.specs.ScopedTrials.{PaysScaledWithin};
+ghost use Rattle.interval_check.specs.ScopedTrials as tried;
 ghost use Rattle.interval_check.specs.Totals.{total, total_found, IsTotal};
-ghost use Rattle.interval_check.specs.TotalTrials.{total_tried, AreTotalsScaled};
 
 use crate::range_rule::range_of;
 use crate::ranges::Range;
@@ -39,26 +42,40 @@ pub fn total_of(decls: &Decls, c: &Contr, scope: &Scope<Range>) -> Result<Total,
     match c {
         Contr::Zero => checked_total(decls.amounts, 0, 0),
         Contr::Pay { .. } => checked_total(decls.amounts, 1, 0),
-        Contr::Both { left, right } => {
-            let left_total = behind_node(total_of(decls, left, scope))?;
-            let right_total = behind_contract(left, total_of(decls, right, scope))?;
-            total_of_both(decls.amounts, left_total, right_total)
-        }
+        Contr::Both { left, right } => total_of_parts(decls, left, right, scope),
         Contr::Scale { factor, body } => total_of_scale(decls, factor, body, scope),
-        Contr::After { body, .. } => behind_node(total_of(decls, body, scope)),
+        Contr::After { body, .. } => total_of_later(decls, body, scope),
         Contr::Let { bound, body } => total_of_let(decls, bound, body, scope),
         Contr::Within {
             test,
             hit,
             miss,
             ..
-        } => {
-            behind_node(range_of(decls, test, scope))?;
-            let hit_total = behind(test, total_of(decls, hit, scope))?;
-            let miss_total = behind_both(test, hit, total_of(decls, miss, scope))?;
-            total_of_either(decls.amounts, hit_total, miss_total)
-        }
+        } => total_of_branches(decls, test, hit, miss, scope),
     }
+}
+
+// Of two contracts together.
+#[cycle(totalling)]
+fn total_of_parts(
+    decls: &Decls,
+    left: &Contr,
+    right: &Contr,
+    scope: &Scope<Range>,
+) -> Result<Total, u32>
+    requires nodes { nodes_of_contract (contract left.now)
+        + nodes_of_contract (contract right.now) + 1 < 2 ^ 32 }
+    requires left { PaysScaledAmong decls.now left.now scope.now }
+    requires right { PaysScaledAmong decls.now right.now scope.now }
+    ensures total { total_found result ≡ total_within decls.now
+        (Both (contract left.now) (contract right.now)) scope.now }
+    ensures below { FaultIsWithin (nodes_of_contract (contract left.now)
+        + nodes_of_contract (contract right.now) + 1) result }
+    ensures fits { IfOk result (λ t. IsTotal decls.now.amounts t) }
+{
+    let left_total = behind_node(total_of(decls, left, scope))?;
+    let right_total = behind_contract(left, total_of(decls, right, scope))?;
+    total_of_both(decls.amounts, left_total, right_total)
 }
 
 // Of a body that is multiplied by a factor.
@@ -69,17 +86,32 @@ fn total_of_scale(
     body: &Contr,
     scope: &Scope<Range>,
 ) -> Result<Total, u32>
-    requires nodes { nodes (expression factor.now) + nodes_of_contract (contract body.now) + 1 < 2 ^ 32 }
-    requires scaled { AreTotalsScaled (declarations decls.now) (Scale (expression factor.now) (contract body.now))
-        (range_kinds (ranges_in scope.now)) }
-    ensures total { total_found result ≡ total_tried (declarations decls.now)
-        (Scale (expression factor.now) (contract body.now)) (ranges_in scope.now) }
-    ensures below { FaultIsWithin (nodes (expression factor.now) + nodes_of_contract (contract body.now) + 1) result }
+    requires nodes { nodes (expression factor.now)
+        + nodes_of_contract (contract body.now) + 1 < 2 ^ 32 }
+    requires scaled { PaysScaledWithin decls.now
+        (Scale (expression factor.now) (contract body.now)) scope.now }
+    ensures total { total_found result ≡ total_within decls.now
+        (Scale (expression factor.now) (contract body.now)) scope.now }
+    ensures below { FaultIsWithin
+        (nodes (expression factor.now) + nodes_of_contract (contract body.now) + 1) result }
     ensures fits { IfOk result (λ t. IsTotal decls.now.amounts t) }
 {
     let range = behind_node(range_of(decls, factor, scope))?;
     let body_total = behind(factor, total_of(decls, body, scope))?;
     total_of_scaled(decls.amounts, range, body_total)
+}
+
+// Of a body that waits.
+#[cycle(totalling)]
+fn total_of_later(decls: &Decls, body: &Contr, scope: &Scope<Range>) -> Result<Total, u32>
+    requires nodes { nodes_of_contract (contract body.now) + 1 < 2 ^ 32 }
+    requires scaled { PaysScaledAmong decls.now body.now scope.now }
+    ensures total { total_found result ≡ moved 1 (total_among decls.now body.now scope.now) }
+    ensures below { FaultIsWithin
+        (nodes_of_contract (contract body.now) + 1) result }
+    ensures fits { IfOk result (λ t. IsTotal decls.now.amounts t) }
+{
+    behind_node(total_of(decls, body, scope))
 }
 
 // Of a body with a name for what is bound.
@@ -90,12 +122,14 @@ fn total_of_let(
     body: &Contr,
     scope: &Scope<Range>,
 ) -> Result<Total, u32>
-    requires nodes { nodes (expression bound.now) + nodes_of_contract (contract body.now) + 1 < 2 ^ 32 }
-    requires scaled { AreTotalsScaled (declarations decls.now) (Let (expression bound.now) (contract body.now))
-        (range_kinds (ranges_in scope.now)) }
-    ensures total { total_found result ≡ total_tried (declarations decls.now)
-        (Let (expression bound.now) (contract body.now)) (ranges_in scope.now) }
-    ensures below { FaultIsWithin (nodes (expression bound.now) + nodes_of_contract (contract body.now) + 1) result }
+    requires nodes { nodes (expression bound.now)
+        + nodes_of_contract (contract body.now) + 1 < 2 ^ 32 }
+    requires scaled { PaysScaledWithin decls.now
+        (Let (expression bound.now) (contract body.now)) scope.now }
+    ensures total { total_found result ≡ total_within decls.now
+        (Let (expression bound.now) (contract body.now)) scope.now }
+    ensures below { FaultIsWithin
+        (nodes (expression bound.now) + nodes_of_contract (contract body.now) + 1) result }
     ensures fits { IfOk result (λ t. IsTotal decls.now.amounts t) }
 {
     let range = behind_node(range_of(decls, bound, scope))?;
@@ -104,6 +138,33 @@ fn total_of_let(
         outer: &*scope,
     };
     behind(bound, total_of(decls, body, &inner))
+}
+
+// Of the branch that a test enters.
+#[cycle(totalling)]
+fn total_of_branches(
+    decls: &Decls,
+    test: &Expr,
+    hit: &Contr,
+    miss: &Contr,
+    scope: &Scope<Range>,
+) -> Result<Total, u32>
+    requires nodes { nodes (expression test.now) + nodes_of_contract (contract hit.now)
+        + nodes_of_contract (contract miss.now) + 1 < 2 ^ 32 }
+    requires test { IsScaledAmong decls.now test.now scope.now }
+    requires hit { PaysScaledAmong decls.now hit.now scope.now }
+    requires miss { PaysScaledAmong decls.now miss.now scope.now }
+    ensures total { total_found result
+        ≡ tried.total_of_branches decls.now test.now hit.now miss.now scope.now }
+    ensures below { FaultIsWithin
+        (nodes (expression test.now) + nodes_of_contract (contract hit.now)
+        + nodes_of_contract (contract miss.now) + 1) result }
+    ensures fits { IfOk result (λ t. IsTotal decls.now.amounts t) }
+{
+    behind_node(range_of(decls, test, scope))?;
+    let hit_total = behind(test, total_of(decls, hit, scope))?;
+    let miss_total = behind_both(test, hit, total_of(decls, miss, scope))?;
+    total_of_either(decls.amounts, hit_total, miss_total)
 }
 
 /// The total of a contract at the portfolio's decimals: the most that it can pay over all days, for a pair of parties

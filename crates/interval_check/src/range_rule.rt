@@ -1,19 +1,26 @@
-//! The ranges of expressions, by the rule on bounds. The trial of an expression answers its range, or the number of
-//! the node at fault, counted from the expression's own first node; nodes before it are counted only on the way up from a
-//! fault. So no part is visited more than twice, but for the body of an accumulator, which is tried anew for each day
-//! until a day changes nothing.
+//! The ranges of expressions, by the rule on bounds. The trial of an expression answers its range,
+//! or the number of the node at fault, counted from the expression's own first node; nodes before it
+//! are counted only on the way up from a fault. So no part is visited more than twice, but for the
+//! body of an accumulator, which is tried anew for each day until a day changes nothing. A function
+//! pays at entry for the locals of all its arms, so each form has one of its own.
 
-ghost use Rattle.std.specs.Prelude.{◌≡◌, ◌<◌, ◌+◌, ◌^◌, ◌∷◌, IfOk};
+ghost use Rattle.std.specs.Prelude.{◌≡◌, ◌<◌, ◌≤◌, ◌+◌, ◌^◌, ◌∷◌, IfErr, IfOk, slice_get};
 ghost use Rattle.term_core.specs.Declarations.{declarations};
-ghost use Rattle.term_core.specs.Terms.{expression, Acc};
+ghost use Rattle.term_core.specs.Terms.{expression, Neg, Num, Cmp, Not, Logic, Cond};
+ghost use Rattle.term_core.specs.Terms.{Widen, Round, Div, Acc};
+ghost use Rattle.term_core.specs.declared.values.Kind.TheVariants.{Number};
+ghost use Rattle.term_core.specs.Kinds.{scale_of_kind};
+ghost use Rattle.term_core.specs.Values.{kind_or};
 ghost use Rattle.term_core.specs.Sizes.{nodes};
 ghost use Rattle.term_core.specs.Bounds.{range_kinds, single};
 ghost use Rattle.term_core.specs.Trying.{FaultIsWithin, moved};
-ghost use Rattle.interval_check.specs.Intervals.{interval};
+ghost use Rattle.interval_check.specs.Intervals.{interval, fitting};
 ghost use Rattle.interval_check.specs.Ranges.{range, range_found, operands_found, IsFit};
 ghost use Rattle.interval_check.specs.RangeScopes.{ranges_in};
-ghost use Rattle.interval_check.specs.ScopedTrials.{range_among, IsScaledAmong};
-ghost use Rattle.interval_check.specs.RangeTrials.{operands, days_tried, day_tried, range_tried, AreScaled};
+ghost use Rattle.interval_check.specs.ScopedTrials.{range_among, range_within};
+ghost use Rattle.interval_check.specs.ScopedTrials.{IsScaledAmong, IsScaledWithin};
+ghost use Rattle.interval_check.specs.RangeTrials.{ranged, named, range_or_truth, operands};
+ghost use Rattle.interval_check.specs.RangeTrials.{days_tried, day_tried, range_tried, AreScaled};
 
 use crate::intervals::Interval;
 use crate::quotients::divided;
@@ -21,10 +28,12 @@ use crate::range_scopes::{range_at, range_observed};
 use crate::ranges::{
     Operands, Range, TRUTH, checked, combined, compared, either, is_same, negated, rounded, widened,
 };
-use term_core::{Decls, Expr, Kind, Scope, behind, behind_node, nodes_in};
+use decimal::Mode;
+use term_core::{CmpOp, Decls, Expr, Kind, LogicOp, NumOp, Scope, behind, behind_node, nodes_in};
 
-/// The range of an expression whose sorts and scales are right, among names of these ranges, or the number of its first node
-/// that breaks the rule on bounds, counted from the expression's own first node.
+/// The range of an expression whose sorts and scales are right, among names of these ranges, or the
+/// number of its first node that breaks the rule on bounds, counted from the expression's own first
+/// node.
 #[cycle(ranging)]
 pub fn range_of(decls: &Decls, e: &Expr, scope: &Scope<Range>) -> Result<Range, u32>
     requires nodes { nodes (expression e.now) < 2 ^ 32 }
@@ -34,53 +43,226 @@ pub fn range_of(decls: &Decls, e: &Expr, scope: &Scope<Range>) -> Result<Range, 
     ensures fit { IfOk result (λ r. IsFit (range r)) }
 {
     match e {
-        Expr::Lit { mant, scale } => checked(point(*mant), Kind::Number { scale: *scale }),
+        Expr::Lit { mant, scale } => range_of_literal(*mant, *scale),
         Expr::Yes { .. } => Ok(TRUTH),
-        Expr::Var { back } => {
-            let range = range_at(scope, *back);
-            checked(range.interval, range.kind)
-        }
+        Expr::Var { back } => range_of_name(scope, *back),
         Expr::Obs { label, .. } => range_observed(decls, *label),
-        Expr::Neg { of } => negated(behind_node(range_of(decls, of, scope))?),
-        Expr::Not { of } => {
-            behind_node(range_of(decls, of, scope))?;
-            Ok(TRUTH)
-        }
-        Expr::Widen { scale, of } => {
-            let range = behind_node(range_of(decls, of, scope))?;
-            widened(Kind::Number { scale: *scale }, range)
-        }
-        Expr::Round { mode, scale, of } => {
-            rounded(*mode, *scale, behind_node(range_of(decls, of, scope))?)
-        }
-        Expr::Num { op, left, right } => {
-            let both = ranges_of(decls, left, right, scope)?;
-            combined(*op, both.left, both.right)
-        }
-        Expr::Cmp { left, right, .. } => {
-            let both = ranges_of(decls, left, right, scope)?;
-            compared(both.left, both.right)
-        }
-        Expr::Logic { left, right, .. } => {
-            ranges_of(decls, left, right, scope)?;
-            Ok(TRUTH)
-        }
+        Expr::Neg { of } => range_of_negative(decls, of, scope),
+        Expr::Not { of } => range_of_not(decls, of, scope),
+        Expr::Widen { scale, of } => range_of_widened(decls, *scale, of, scope),
+        Expr::Round { mode, scale, of } => range_of_rounded(decls, *mode, *scale, of, scope),
+        Expr::Num { op, left, right } => range_of_num(decls, *op, left, right, scope),
+        Expr::Cmp { op, left, right } => range_of_cmp(decls, *op, left, right, scope),
+        Expr::Logic { op, left, right } => range_of_logic(decls, *op, left, right, scope),
         Expr::Div {
             mode,
             scale,
             top,
             below,
-        } => {
-            let both = ranges_of(decls, top, below, scope)?;
-            divided(*mode, *scale, both.left, both.right)
-        }
-        Expr::Cond { test, yes, no } => {
-            behind_node(range_of(decls, test, scope))?;
-            let both = ranges_after(decls, test, yes, no, scope)?;
-            either(both.left, both.right)
-        }
-        Expr::Acc { body, days, first } => { range_of_acc(decls, body, *days, first, scope) }
+        } => range_of_quotient(decls, *mode, *scale, top, below, scope),
+        Expr::Cond { test, yes, no } => range_of_choice(decls, test, yes, no, scope),
+        Expr::Acc { body, days, first } => range_of_acc(decls, body, *days, first, scope),
     }
+}
+
+// Of a number that is written.
+fn range_of_literal(mant: i128, scale: u8) -> Result<Range, u32>
+    requires { scale ≤ 27 }
+    ensures range { range_found result ≡ ranged (fitting (single mant)) (Number scale) }
+    ensures here { IfErr result (λ node. node ≡ 0) }
+    ensures fit { IfOk result (λ r. IsFit (range r)) }
+{
+    checked(point(mant), Kind::Number { scale })
+}
+
+// Of a name.
+fn range_of_name(scope: &Scope<Range>, back: u32) -> Result<Range, u32>
+    requires { scale_of_kind (kind_or (slice_get (range_kinds (ranges_in scope.now)) back)) ≤ 27 }
+    ensures range { range_found result
+        ≡ named (range_or_truth (slice_get (ranges_in scope.now) back)) }
+    ensures here { IfErr result (λ node. node ≡ 0) }
+    ensures fit { IfOk result (λ r. IsFit (range r)) }
+{
+    let range = range_at(scope, back);
+    checked(range.interval, range.kind)
+}
+
+// Of the negative of a number.
+#[cycle(ranging)]
+fn range_of_negative(decls: &Decls, of: &Expr, scope: &Scope<Range>) -> Result<Range, u32>
+    requires nodes { nodes (expression of.now) + 1 < 2 ^ 32 }
+    requires scaled { IsScaledAmong decls.now of.now scope.now }
+    ensures range { range_found result ≡ range_within decls.now
+        (Neg (expression of.now)) scope.now }
+    ensures below { FaultIsWithin (nodes (expression of.now) + 1) result }
+    ensures fit { IfOk result (λ r. IsFit (range r)) }
+{
+    let range = behind_node(range_of(decls, of, scope))?;
+    negated(range)
+}
+
+// Of a truth value that is turned.
+#[cycle(ranging)]
+fn range_of_not(decls: &Decls, of: &Expr, scope: &Scope<Range>) -> Result<Range, u32>
+    requires nodes { nodes (expression of.now) + 1 < 2 ^ 32 }
+    requires scaled { IsScaledAmong decls.now of.now scope.now }
+    ensures range { range_found result ≡ range_within decls.now
+        (Not (expression of.now)) scope.now }
+    ensures below { FaultIsWithin (nodes (expression of.now) + 1) result }
+    ensures fit { IfOk result (λ r. IsFit (range r)) }
+{
+    behind_node(range_of(decls, of, scope))?;
+    Ok(TRUTH)
+}
+
+// Of a number at more decimals.
+#[cycle(ranging)]
+fn range_of_widened(decls: &Decls, scale: u8, of: &Expr, scope: &Scope<Range>) -> Result<Range, u32>
+    requires nodes { nodes (expression of.now) + 1 < 2 ^ 32 }
+    requires scale { scale ≤ 27 }
+    requires scaled { IsScaledAmong decls.now of.now scope.now }
+    ensures range { range_found result ≡ range_within decls.now
+        (Widen scale (expression of.now)) scope.now }
+    ensures below { FaultIsWithin (nodes (expression of.now) + 1) result }
+    ensures fit { IfOk result (λ r. IsFit (range r)) }
+{
+    let range = behind_node(range_of(decls, of, scope))?;
+    widened(Kind::Number { scale }, range)
+}
+
+// Of a number that is rounded.
+#[cycle(ranging)]
+fn range_of_rounded(
+    decls: &Decls,
+    mode: Mode,
+    scale: u8,
+    of: &Expr,
+    scope: &Scope<Range>,
+) -> Result<Range, u32>
+    requires nodes { nodes (expression of.now) + 1 < 2 ^ 32 }
+    requires scale { scale ≤ 27 }
+    requires scaled { IsScaledAmong decls.now of.now scope.now }
+    ensures range { range_found result ≡ range_within decls.now
+        (Round mode scale (expression of.now)) scope.now }
+    ensures below { FaultIsWithin (nodes (expression of.now) + 1) result }
+    ensures fit { IfOk result (λ r. IsFit (range r)) }
+{
+    let range = behind_node(range_of(decls, of, scope))?;
+    rounded(mode, scale, range)
+}
+
+// Of an operator on two numbers.
+#[cycle(ranging)]
+fn range_of_num(
+    decls: &Decls,
+    op: NumOp,
+    left: &Expr,
+    right: &Expr,
+    scope: &Scope<Range>,
+) -> Result<Range, u32>
+    requires nodes { nodes (expression left.now) + nodes (expression right.now) + 1 < 2 ^ 32 }
+    requires scaled { IsScaledWithin decls.now
+        (Num op (expression left.now) (expression right.now)) scope.now }
+    ensures range { range_found result ≡ range_within decls.now
+        (Num op (expression left.now) (expression right.now)) scope.now }
+    ensures below { FaultIsWithin
+        (nodes (expression left.now) + nodes (expression right.now) + 1) result }
+    ensures fit { IfOk result (λ r. IsFit (range r)) }
+{
+    let both = ranges_of(decls, left, right, scope)?;
+    combined(op, both.left, both.right)
+}
+
+// Of a comparison.
+#[cycle(ranging)]
+fn range_of_cmp(
+    decls: &Decls,
+    op: CmpOp,
+    left: &Expr,
+    right: &Expr,
+    scope: &Scope<Range>,
+) -> Result<Range, u32>
+    requires nodes { nodes (expression left.now) + nodes (expression right.now) + 1 < 2 ^ 32 }
+    requires left { IsScaledAmong decls.now left.now scope.now }
+    requires right { IsScaledAmong decls.now right.now scope.now }
+    ensures range { range_found result ≡ range_within decls.now
+        (Cmp op (expression left.now) (expression right.now)) scope.now }
+    ensures below { FaultIsWithin
+        (nodes (expression left.now) + nodes (expression right.now) + 1) result }
+    ensures fit { IfOk result (λ r. IsFit (range r)) }
+{
+    let both = ranges_of(decls, left, right, scope)?;
+    compared(both.left, both.right)
+}
+
+// Of two truth values together.
+#[cycle(ranging)]
+fn range_of_logic(
+    decls: &Decls,
+    op: LogicOp,
+    left: &Expr,
+    right: &Expr,
+    scope: &Scope<Range>,
+) -> Result<Range, u32>
+    requires nodes { nodes (expression left.now) + nodes (expression right.now) + 1 < 2 ^ 32 }
+    requires left { IsScaledAmong decls.now left.now scope.now }
+    requires right { IsScaledAmong decls.now right.now scope.now }
+    ensures range { range_found result ≡ range_within decls.now
+        (Logic op (expression left.now) (expression right.now)) scope.now }
+    ensures below { FaultIsWithin
+        (nodes (expression left.now) + nodes (expression right.now) + 1) result }
+    ensures fit { IfOk result (λ r. IsFit (range r)) }
+{
+    ranges_of(decls, left, right, scope)?;
+    Ok(TRUTH)
+}
+
+// Of a quotient.
+#[cycle(ranging)]
+fn range_of_quotient(
+    decls: &Decls,
+    mode: Mode,
+    scale: u8,
+    top: &Expr,
+    below: &Expr,
+    scope: &Scope<Range>,
+) -> Result<Range, u32>
+    requires nodes { nodes (expression top.now) + nodes (expression below.now) + 1 < 2 ^ 32 }
+    requires scale { scale ≤ 27 }
+    requires top { IsScaledAmong decls.now top.now scope.now }
+    requires below { IsScaledAmong decls.now below.now scope.now }
+    ensures range { range_found result ≡ range_within decls.now
+        (Div mode scale (expression top.now) (expression below.now)) scope.now }
+    ensures below { FaultIsWithin
+        (nodes (expression top.now) + nodes (expression below.now) + 1) result }
+    ensures fit { IfOk result (λ r. IsFit (range r)) }
+{
+    let both = ranges_of(decls, top, below, scope)?;
+    divided(mode, scale, both.left, both.right)
+}
+
+// Of one of two, by a test.
+#[cycle(ranging)]
+fn range_of_choice(
+    decls: &Decls,
+    test: &Expr,
+    yes: &Expr,
+    no: &Expr,
+    scope: &Scope<Range>,
+) -> Result<Range, u32>
+    requires nodes { nodes (Cond (expression test.now) (expression yes.now) (expression no.now))
+        < 2 ^ 32 }
+    requires scaled { IsScaledWithin decls.now
+        (Cond (expression test.now) (expression yes.now) (expression no.now)) scope.now }
+    ensures range { range_found result ≡ range_within decls.now
+        (Cond (expression test.now) (expression yes.now) (expression no.now)) scope.now }
+    ensures below { FaultIsWithin
+        (nodes (Cond (expression test.now) (expression yes.now) (expression no.now))) result }
+    ensures fit { IfOk result (λ r. IsFit (range r)) }
+{
+    behind_node(range_of(decls, test, scope))?;
+    let both = ranges_after(decls, test, yes, no, scope)?;
+    either(both.left, both.right)
 }
 
 // The interval of one mantissa.
@@ -149,11 +331,12 @@ fn range_of_acc(
     scope: &Scope<Range>,
 ) -> Result<Range, u32>
     requires nodes { nodes (expression body.now) + nodes (expression first.now) + 1 < 2 ^ 32 }
-    requires scaled { AreScaled (declarations decls.now) (Acc (expression body.now) days (expression first.now))
-        (range_kinds (ranges_in scope.now)) }
-    ensures range { range_found result ≡ range_tried (declarations decls.now) (Acc (expression body.now) days (expression first.now))
-        (ranges_in scope.now) }
-    ensures below { FaultIsWithin (nodes (expression body.now) + nodes (expression first.now) + 1) result }
+    requires scaled { IsScaledWithin decls.now
+        (Acc (expression body.now) days (expression first.now)) scope.now }
+    ensures range { range_found result ≡ range_within decls.now
+        (Acc (expression body.now) days (expression first.now)) scope.now }
+    ensures below { FaultIsWithin
+        (nodes (expression body.now) + nodes (expression first.now) + 1) result }
     ensures fit { IfOk result (λ r. IsFit (range r)) }
 {
     let start = behind(body, range_of(decls, first, scope))?;

@@ -1,17 +1,13 @@
-use Rattle.std.proofs.Common.{rules, refl, ap, sym, ◌∙◌, ◌≡◌, subst, arith, Ok}
+use Rattle.std.proofs.Common.{rules, refl, ap, sym, ◌∙◌, ◌≡◌, arith, Ok}
 use Rattle.std.proofs.lemmas.Result.{err_from_is_err_and}
 use Rattle.term_core.specs.Declarations.{declarations}
-use Rattle.term_core.specs.declared.terms.Expr.{Expr}
-use Rattle.term_core.specs.Terms.{expression, Num}
-use Rattle.term_core.specs.Sizes.{nodes}
-use Rattle.term_core.specs.Bounds.{range_kinds}
+use Rattle.term_core.specs.Terms.{expression}
 use Rattle.interval_check.specs.declared.ranges.Range.{Range as Found}
 use Rattle.interval_check.specs.Ranges.{range}
 use Rattle.interval_check.specs.RangeScopes.{ranges_in}
-use Rattle.interval_check.specs.RangeTrials.{day_tried, range_tried, AreScaled}
+use Rattle.interval_check.specs.RangeTrials.{day_tried, range_tried}
 use Rattle.interval_check.proofs.Accumulation.{days_stop, days_stay}
 use Rattle.interval_check.proofs.BehindFacts.{range_behind}
-use Rattle.interval_check.proofs.Places.{err_below, nodes_above}
 use Rattle.interval_check.proofs.RangeKinds.{operands_scaled, body_scaled}
 use Rattle.interval_check.proofs.range_rule.+ranging.Goals as goal
 
@@ -28,19 +24,9 @@ accumulated-returns-then-is_same-clause-range t c =
     sym c.in_ok-next.ensures.range ∙ ap (λ (x : Found). Ok (range x)) (c.if-is_same.ensures.0 refl) in
     sym (days_stay c.args.days c.loop-day._day step (range c.args.start) (range c.loop-day.so_far) (omega arith) c.loop-day.invariant.days same)
 
-pub range_of-combined-requires-clause-scale : goal.range_of-combined-requires-clause-scale
-range_of-combined-requires-clause-scale t c =
-    let d = declarations c.args.decls.now in
-    let ks = range_kinds (ranges_in c.args.scope.now) in
-    let whole : AreScaled d (Num c.in-Num.op (expression c.in-Num.left.value) (expression c.in-Num.right.value)) ks =
-    subst (λ (x : Expr). AreScaled d (expression x) ks) c.in-Num.is c.requires.scaled in
-    let left : AreScaled d (Num c.in-Num.op (expression c.deref-in-Num.result.now) (expression c.in-Num.right.value)) ks =
-    subst (λ (x : Expr). AreScaled d (Num c.in-Num.op (expression x) (expression c.in-Num.right.value)) ks) (sym c.deref-in-Num.ensures) whole in
-    operands_scaled d c.in-Num.op (expression c.deref-in-Num.result.now) (expression c.deref-in-Num-2.result.now) (ranges_in c.args.scope.now) (range c.in_ok-both-in-Num.both.left) (range c.in_ok-both-in-Num.both.right) c.in_ok-both-in-Num.ensures.ranges
-    (subst (λ (x : Expr). AreScaled d (Num c.in-Num.op (expression c.deref-in-Num.result.now) (expression x)) ks) (sym c.deref-in-Num-2.ensures) left)
+pub range_of_num-combined-requires-clause-scale : goal.range_of_num-combined-requires-clause-scale
+range_of_num-combined-requires-clause-scale t c =
+    operands_scaled (declarations c.args.decls.now) c.args.op (expression c.args.left.now) (expression c.args.right.now) (ranges_in c.args.scope.now) (range c.in_ok-both.both.left) (range c.in_ok-both.both.right) c.in_ok-both.ensures.ranges c.requires.scaled
 
 pub range_of_acc-accumulated-requires : goal.range_of_acc-accumulated-requires
 range_of_acc-accumulated-requires t c = (search rules, (search rules, (body_scaled (declarations c.args.decls.now) (expression c.args.body.now) c.args.days _ (expression c.args.first.now) (ranges_in c.args.scope.now) (range c.in_ok-start.start) (range_behind _ c.range_of.result c.in_ok-start.start _ c.in_ok-start.ensures c.range_of.ensures.range) c.requires.scaled, search rules)))
-
-pub range_of-returns-in_ok-both-in-Div-clause-below : goal.range_of-returns-in_ok-both-in-Div-clause-below
-range_of-returns-in_ok-both-in-Div-clause-below t c = err_below c.divided.result (nodes (expression c.args.e.now)) c.divided.ensures.here (nodes_above (expression c.args.e.now))

@@ -10,6 +10,34 @@ use Rattle.interval_check.proofs.range_rule.+ranging.Given as goal
 abbrev pub decreases-range_of : goal.decreases-range_of
 decreases-range_of l = 4 * size-Expr l.e.now
 
+abbrev pub decreases-range_of_negative : goal.decreases-range_of_negative
+decreases-range_of_negative l = 4 * size-Expr l.of.now + 1
+
+abbrev pub decreases-range_of_not : goal.decreases-range_of_not
+decreases-range_of_not l = 4 * size-Expr l.of.now + 1
+
+abbrev pub decreases-range_of_widened : goal.decreases-range_of_widened
+decreases-range_of_widened l = 4 * size-Expr l.of.now + 1
+
+abbrev pub decreases-range_of_rounded : goal.decreases-range_of_rounded
+decreases-range_of_rounded l = 4 * size-Expr l.of.now + 1
+
+abbrev pub decreases-range_of_num : goal.decreases-range_of_num
+decreases-range_of_num l = 4 * max (size-Expr l.left.now) (size-Expr l.right.now) + 2
+
+abbrev pub decreases-range_of_cmp : goal.decreases-range_of_cmp
+decreases-range_of_cmp l = 4 * max (size-Expr l.left.now) (size-Expr l.right.now) + 2
+
+abbrev pub decreases-range_of_logic : goal.decreases-range_of_logic
+decreases-range_of_logic l = 4 * max (size-Expr l.left.now) (size-Expr l.right.now) + 2
+
+abbrev pub decreases-range_of_quotient : goal.decreases-range_of_quotient
+decreases-range_of_quotient l = 4 * max (size-Expr l.top.now) (size-Expr l.below.now) + 2
+
+abbrev pub decreases-range_of_choice : goal.decreases-range_of_choice
+decreases-range_of_choice l =
+    4 * max (size-Expr l.test.now) (max (size-Expr l.yes.now) (size-Expr l.no.now)) + 3
+
 abbrev pub decreases-ranges_of : goal.decreases-ranges_of
 decreases-ranges_of l = 4 * max (size-Expr l.left.now) (size-Expr l.right.now) + 1
 
