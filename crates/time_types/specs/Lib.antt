@@ -1,3 +1,4 @@
+pub mod ScopedSorts
 pub mod SortKinds
 pub mod SortTrials
 pub mod Starts
