@@ -6,3 +6,4 @@ pub mod AcceptedFacts
 pub mod NumberFacts
 pub mod PlainFacts
 pub mod WritableFacts
+pub mod OnTheWay

@@ -7,7 +7,8 @@
 //! ```
 //!
 //! Promised: `compile` answers code that means the contract at every setting at which it is accepted
-//! (`IsPlainCode`), and `cut` code that counts what is left to be paid (`CountsTheRest`).
+//! (`IsPlainCode`), and `cut` code that counts what is left to be paid (`CountsTheRest`), which
+//! `compile_cut` makes at once.
 //! Only tested: that they answer where there is memory (rows of `library_rows`).
 #![tactic(auto)]
 
@@ -16,5 +17,5 @@ mod cutting;
 mod dates;
 pub mod laws;
 
-pub use compiling::compile;
+pub use compiling::{compile, compile_cut};
 pub use cutting::cut;
