@@ -21,7 +21,8 @@ use Rattle.payoff_lang.specs.declared.code.Code.{Code}
 use Rattle.payoff_lang.specs.declared.code.DateExpr.{DateExpr}
 use Rattle.payoff_lang.specs.declared.code.Vx.{Vx}
 use Rattle.payoff_lang.specs.TemplateDates.{date}
-use Rattle.payoff_lang.specs.Code.{ValueExpression, PayoffCode, ScaleBy, LetBe, Loop, value_expression, payoff_code}
+use Rattle.payoff_lang.specs.Code.{ValueExpression, PayoffCode, Add, ScaleBy, LetBe, Loop}
+use Rattle.payoff_lang.specs.Code.{value_expression, payoff_code}
 use Rattle.payoff_lang.specs.Dating.{at_setting}
 use Rattle.payoff_lang.specs.CodeValues.{Asked}
 use Rattle.payoff_eval.specs.DatesFit.{DatesFit}
@@ -93,6 +94,9 @@ abbrev pub HasKindOn : Asking → ValueExpression → List Binding → Type 0
 HasKindOn q v g = KindFits (declarations q.decls.now) (at_setting q.setting.now v) (kinds_of g)
 
 -- code by the program's parts
+abbrev pub add_code : Code → Code → PayoffCode
+add_code k l = Add (payoff_code k) (payoff_code l)
+
 abbrev pub scale_code : Vx → Code → PayoffCode
 scale_code v k = ScaleBy (value_expression v) (payoff_code k)
 

@@ -15,7 +15,8 @@ ghost use Rattle.payoff_eval.specs.Walks.{then_added};
 ghost use Rattle.payoff_eval.specs.CodeRules.{IsAtMostTen};
 ghost use Rattle.payoff_eval.specs.CodeRuns.{DayFits, IsUpTo, paid};
 ghost use Rattle.payoff_eval.specs.CodeEvaluations.{EvaluatesFrom, EvaluatesOn, HasKindOn, WalksOn, answer, asked_of, first_from};
-ghost use Rattle.payoff_eval.specs.CodeEvaluations.{kind_on, let_code, loop_code, scale_code, worth_on};
+ghost use Rattle.payoff_eval.specs.CodeEvaluations.{add_code, kind_on, let_code, loop_code};
+ghost use Rattle.payoff_eval.specs.CodeEvaluations.{scale_code, worth_on};
 
 use crate::asking::Asking;
 use crate::dates::{count, day_of};
@@ -181,7 +182,9 @@ fn is_gone(asking: &Asking, base: i64, x: &DateExpr) -> bool
     day_of(asking, base, x) < asking.today
 }
 
-/// What code is worth at a base, at so many decimals, or the first place that it reads and that is not fixed.
+/// What code is worth at a base, at so many decimals, or the first place that it reads and that is
+/// not fixed. A function pays at entry for the locals of all its arms, so the other forms with such
+/// have one of their own.
 #[cycle(walking)]
 pub fn walk(
     asking: &Asking,
@@ -203,12 +206,8 @@ pub fn walk(
             asset,
             from,
             to,
-        } => Ok(pay(asking, room, day_of(asking, base, date), *asset, *from, *to)),
-        Code::Add { left, right } => {
-            let left = walk(asking, scratch, base, room, left)?;
-            let right = walk(asking, scratch, base, room, right)?;
-            Ok(added(left, right))
-        }
+        } => walk_payment(asking, base, room, date, *asset, *from, *to),
+        Code::Add { left, right } => walk_both(asking, scratch, base, room, left, right),
         Code::Scale { factor, body } => walk_scaled(asking, scratch, base, room, factor, body),
         Code::Let { bound, body } => walk_bound(asking, scratch, base, room, bound, body),
         Code::LoopIf {
@@ -224,6 +223,49 @@ pub fn walk(
             walk(asking, scratch, base, room, body)
         }
     }
+}
+
+// A payment on a date.
+fn walk_payment(
+    asking: &Asking,
+    base: i64,
+    room: u8,
+    on: &DateExpr,
+    asset: u32,
+    from: u32,
+    to: u32,
+) -> Result<Worth, Missing>
+    requires low { 9 ≤ room }
+    requires high { room ≤ 21 }
+    requires day { DayFits asking.now.setting.now (date on.now) base }
+    requires today { IsDay asking.now.today }
+    ensures { result ≡ Ok (paid room (asked_of asking.now)
+        (base +ℤ day_of asking.now.setting.now (date on.now)) asset from to) }
+{
+    let day = day_of(asking, base, on);
+    Ok(pay(asking, room, day, asset, from, to))
+}
+
+// Both amounts, the left one first.
+#[cycle(walking)]
+fn walk_both(
+    asking: &Asking,
+    scratch: &mut Scratch,
+    base: i64,
+    room: u8,
+    left: &Code,
+    right: &Code,
+) -> Result<Worth, Missing>
+    requires today { IsDay asking.now.today }
+    requires fits { WalksOn asking.now room (add_code left.now right.now) scratch.old.entries base }
+    requires space { height_of_code (add_code left.now right.now) ≤ scratch.old.spare }
+    ensures worth { result
+        ≡ worth_on asking.now room (add_code left.now right.now) scratch.old.entries base }
+    ensures same { scratch.new ≡ scratch.old }
+{
+    let left = walk(asking, scratch, base, room, left)?;
+    let right = walk(asking, scratch, base, room, right)?;
+    Ok(added(left, right))
 }
 
 // An amount times a factor, which is asked for only where a payment is reached.
