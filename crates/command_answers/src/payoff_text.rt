@@ -24,7 +24,7 @@ use crate::stop::Stop;
 use crate::used::{Used, Written, contract_named, instance_of};
 use command_words::Payoff;
 use decimal::NoMemory;
-use payoff_compile::{compile, cut};
+use payoff_compile::{compile, compile_cut};
 use payoff_lang::{Code, CodeFile, print_code};
 use std::alloc::Global;
 use term_core::{Contr, Decls, Name, Portfolio, defaults};
@@ -50,8 +50,11 @@ fn code_asked(alloc: Global, decls: &Decls, contr: &Contr, plain: bool) -> Resul
     requires accepted { IsAcceptedAtDefaults (declarations decls.now) (contract contr.now) }
     ensures { IfOk result (λ code. payoff_code code ≡ code_asked plain (contract contr.now)) }
 {
-    let code = compile(alloc, decls, contr)?;
-    if plain { Ok(code) } else { cut(alloc, code) }
+    if plain {
+        compile(alloc, decls, contr)
+    } else {
+        compile_cut(alloc, decls, contr)
+    }
 }
 
 // Code under a name, on declarations in version 1.
