@@ -1,13 +1,13 @@
--- The expansions of plans: one more behind those so far; each can be tried and printed, and is used as it is.
-use Rattle.std.proofs.Common.{◌≡◌, ◌∙◌, ◌≤◌, ◌<◌, ◌^◌, true, false, List, [], ◌∷◌, ◌++◌, append_assoc, map, ap, ap₂, arith, refl, subst, sym}
-use Rattle.std.specs.Prelude.{All, None}
+-- The expansions of plans: one more behind those so far, and each can be tried and printed.
+use Rattle.std.proofs.Common.{◌≡◌, ◌∙◌, true, false, List, [], ◌∷◌, ◌++◌, append_assoc, map, ap, arith, refl, subst, sym}
+use Rattle.std.specs.Prelude.{All}
 use Rattle.std.specs.Map.{keys_of}
-use Rattle.std.proofs.lemmas.List.Elements.{All-head, All-map, All-tail, All-weaker}
+use Rattle.std.proofs.lemmas.List.Elements.{All-head, All-tail, All-weaker}
 use Rattle.term_core.specs.declared.name.Name.{Name}
 use Rattle.term_core.specs.declared.terms.Contr.{Contr}
 use Rattle.term_core.specs.DayCounts.{Days, Named, Num as Count, Sum}
 use Rattle.term_core.specs.Declarations.{Declarations}
-use Rattle.term_core.specs.Instances.{HasSmallSums, IsSmallSum, declared_numbers}
+use Rattle.term_core.specs.Instances.{HasSmallSums, IsSmallSum}
 use Rattle.term_core.specs.Terms.{Contract, Zero, Pay, Both, Scale, After, Let, Within}
 use Rattle.term_core.specs.WellFormed.{HasOnlyNumbers, IsNumber}
 use Rattle.contract_parse.specs.ContractReading.{trees}
@@ -20,10 +20,13 @@ use Rattle.schedule_forms.specs.Expansions.{expansion}
 use Rattle.schedule_forms.specs.declared.plans.Plan.{Plan}
 use Rattle.schedule_forms.proofs.PlanFacts.{expansions_closed}
 use Rattle.schedule_forms.proofs.SmallFacts.{expansions_small}
+use Rattle.report.specs.declared.fault_lines.Fault.{Fault}
+use Rattle.command_answers.specs.CheckPromise.{AreAllAccepted}
 use Rattle.command_answers.specs.ExpandParts.{expanded_entry}
-use Rattle.command_answers.specs.UsedParts.{IsSound}
+use Rattle.command_answers.specs.FlowsParts.{IsRefusedOne}
+use Rattle.command_answers.specs.Stages.{IsRefusedOf}
+use Rattle.command_answers.specs.UsedParts.{IsSound, IsTriable}
 use Rattle.command_answers.proofs.AdvanceFacts.{first_is_new, keys_of_trees, names_behind}
-use Rattle.command_answers.proofs.UsedFacts.{own_instance, used_of}
 
 -- ---- one more contract
 
@@ -87,29 +90,30 @@ module _ (d : Declarations) (plan : Plan) (fits : IsPlanOfTexts d plan) where
         sums = numbers_small (expansion plan) expansion_numbers;
       }
 
+  pub expansion_triable : IsTriable d (expansion plan)
+  expansion_triable =
+      let sound = expansion_sound in
+      record { closed = sound.closed; numbers = expansion_numbers; low = omega (arith, sound.low); small = sound.small }
+
+-- ---- the first that is refused
+
+pub refused_there : (d : Declarations) (before : List (Name × Contract)) (entry : Name × Contract) (after : List (Name × Contract)) (f : Fault) → AreAllAccepted d before → IsRefusedOne d entry f
+    → IsRefusedOf d (before ++ entry ∷ after) f
+refused_there d before entry after f all one = record {
+  name = entry.0;
+  rule = one.rule;
+  node = one.node;
+  first = record { before = before; contr = entry.1; after = after; split = refl; accepted = all; refused = one.refused };
+  fault_is = one.fault_is;
+}
+
 -- ---- those of all plans
 
 module _ (d : Declarations) where
-  abbrev Fits : Name × Plan → Type 0
-  Fits entry = IsPlanOfTexts d entry.1
-
-  pub expansions_sound : (plans : List (Name × Plan)) → All Fits plans → All (λ (entry : Name × Contract). IsSound d entry.1) (map expanded_entry plans)
-  expansions_sound plans all =
-      All-map (λ (entry : Name × Contract). IsSound d entry.1) expanded_entry plans
-      (All-weaker Fits (λ (entry : Name × Plan). IsSound d (expansion entry.1)) (λ entry fits. expansion_sound d entry.1 fits) plans all)
-
   pub expansions_writable : (entries : List (Name × Contract)) → All (λ (entry : Name × Contract). IsSpellable d entry.1) entries
       → All (λ (entry : Name × Contract). IsWritableTerm entry.1) entries
   expansions_writable entries all =
       All-weaker (λ (entry : Name × Contract). IsSpellable d entry.1) (λ (entry : Name × Contract). IsWritableTerm entry.1) (λ entry fits. spellable_written d entry.1 fits) entries all
-
-  -- they name no template, so they are used as they are
-  pub expansions_used : (plans : List (Name × Plan)) → All Fits plans → used_of None d (map expanded_entry plans) ≡ map expanded_entry plans
-  expansions_used [] all = refl
-  expansions_used (entry ∷ plans) all =
-      ap₂ (λ (c : Contract) (es : List (Name × Contract)). (entry.0, c) ∷ es)
-      (own_instance (declared_numbers d) (expansion entry.1) (expansion_numbers d entry.1 (All-head Fits entry plans all)))
-      (expansions_used plans (All-tail Fits entry plans all))
 
 pub names_of_expansions : (plans : List (Name × Plan)) → keys_of (map expanded_entry plans) ≡ keys_of plans
 names_of_expansions [] = refl
