@@ -1,14 +1,14 @@
 -- The verdicts on contracts: their lines one behind another, and the answer of `check`.
-use Rattle.std.proofs.Common.{◌≡◌, ◌∙◌, ◌≤◌, ◌^◌, inl, inr, ℕ, Bool, true, false, ◌&&◌, List, [], ◌∷◌, ◌++◌, append_assoc, ap, arith, refl, subst, sym, unsigned_abs}
-use Rattle.std.specs.Prelude.{IfOk, None, Result, Ok, Err, is_ok}
+use Rattle.std.proofs.Common.{◌≡◌, ◌∙◌, ◌≤◌, ◌^◌, inl, inr, ℕ, Bool, true, false, List, [], ◌∷◌, ◌++◌, append_assoc, ap, arith, map, refl, subst, sym, unsigned_abs}
+use Rattle.std.specs.Prelude.{IfOk, None, Option, Some, Result, Ok, Err, is_ok}
 use Rattle.std.proofs.lemmas.Bool.{and_parts, and_from}
-use Rattle.std.proofs.lemmas.List.{append-nil}
-use Rattle.std.proofs.lemmas.List.Elements.{All-cons, All-head, All-nil, All-tail}
+use Rattle.std.proofs.lemmas.List.{append-nil, map-append}
+use Rattle.std.proofs.lemmas.List.Elements.{All-nil, All-pop, All-push}
 use Rattle.term_core.specs.declared.name.Name.{Name}
 use Rattle.term_core.specs.declared.rules.RuleFault.{RuleFault}
 use Rattle.term_core.specs.Books.{Book}
 use Rattle.term_core.specs.Declarations.{Declarations}
-use Rattle.term_core.specs.Terms.{Contract}
+use Rattle.term_core.specs.Terms.{Contract, contract}
 use Rattle.term_core.specs.Sites.{EachDay}
 use Rattle.term_core.specs.Bounds.{aligned_total}
 use Rattle.term_core.specs.Acceptance.{IsAccepted}
@@ -21,8 +21,21 @@ use Rattle.contract_check.specs.declared.checks.Facts.{Facts}
 use Rattle.report.specs.CheckLines.{accepted_line, verdict_line}
 use Rattle.time_types.specs.Starts.{start_day}
 use Rattle.command_answers.specs.CheckPromise.{AreCheckLines, IsCheckLine, accepted, refused, Verdict}
-use Rattle.command_answers.specs.CheckParts.{AppendsVerdict, AppendsVerdicts, IsVerdictOf}
-use Rattle.command_answers.specs.UsedContracts.{used}
+use Rattle.contract_parse.specs.NextContracts.{AnswersNext, IsNext, IsSoundContract}
+use Rattle.contract_parse.specs.Texts.{Text}
+use Rattle.contract_parse.specs.declared.faults.ParseErr.{ParseErr}
+use Rattle.contract_parse.specs.declared.faults.ParseErr.TheVariants as err
+use Rattle.contract_parse.specs.declared.faults.TextFault.{TextFault}
+use Rattle.contract_parse.specs.declared.next_contracts.ContractReader.{ContractReader}
+use Rattle.contract_parse.specs.declared.next_contracts.NextContract.{NextContract}
+use Rattle.report.specs.declared.fault_lines.Fault.TheVariants as fault
+use Rattle.command_answers.specs.CheckParts.{AddsVerdict, AppendsVerdict, AppendsVerdicts, AreTextVerdicts, AreVerdicts, HasVerdicts, IsVerdictOf}
+use Rattle.command_answers.specs.ReadingParts.{IsNextOrEnd}
+use Rattle.command_answers.specs.Stages.{IsBadText}
+use Rattle.command_answers.specs.UsedContracts.{at_defaults, used}
+use Rattle.command_answers.specs.UsedParts.{IsSound}
+use Rattle.command_answers.proofs.UsedFacts.{used_of}
+use Rattle.command_answers.specs.declared.check_text.CheckText.{CheckText}
 use Rattle.command_answers.specs.declared.status.Status.{Status}
 use Rattle.command_answers.specs.declared.status.Status.TheVariants as status
 
@@ -58,30 +71,36 @@ one_verdict d entry (Err fault) ok before after r is appended = record {
 abbrev pub IsAcceptedEntry : Declarations → Name × Contract → Type 0
 IsAcceptedEntry d entry = IsAccepted d entry.1
 
-pub verdicts_none : (d : Declarations) (all : Bool) (text : List ℕ) → AppendsVerdicts d [] all all text text
-verdicts_none d all text = record {
+pub verdicts_none : (d : Declarations) (check : CheckText) → check.all_accepted ≡ true → check.text.items ≡ [] → AreVerdicts d [] check
+verdicts_none d check all none = record {
   text = [];
   lines = refl;
-  appended = sym (append-nil text);
-  decides = ((λ yes. (yes, All-nil (IsAcceptedEntry d))), (λ both. both.0));
+  appended = none;
+  decides = ((λ yes. (refl, All-nil (IsAcceptedEntry d))), (λ both. all));
 }
 
-pub verdicts_more : (d : Declarations) (entry : Name × Contract) (rest : List (Name × Contract)) (so_far one all : Bool) (before middle after : List ℕ)
-    → AppendsVerdict d entry one before middle → AppendsVerdicts d rest (so_far && one) all middle after → AppendsVerdicts d (entry ∷ rest) so_far all before after
-verdicts_more d entry rest so_far one all before middle after v vs = record {
-  text = v.line ++ vs.text;
-  lines = (v.line, vs.text, v.is_line, vs.lines, refl);
-  appended = vs.appended ∙ ap (λ (t : List ℕ). t ++ vs.text) v.appended ∙ append_assoc before v.line vs.text;
-  decides = (
-    (λ yes.
-        let both = vs.decides.0 yes in
-        let parts = and_parts so_far one both.0 in
-        (parts.0, All-cons (IsAcceptedEntry d) entry rest (v.decides.0 parts.1) both.1)),
-    (λ both.
-        let here = v.decides.1 (All-head (IsAcceptedEntry d) entry rest both.1) in
-        vs.decides.1 (and_from so_far one both.0 here, All-tail (IsAcceptedEntry d) entry rest both.1)),
-  );
-}
+check_lines_more : (d : Declarations) (entries : List (Name × Contract)) (entry : Name × Contract) (text line : List ℕ) → AreCheckLines d entries text → IsCheckLine d entry.0 entry.1 line → AreCheckLines d (entries ++ entry ∷ []) (text ++ line)
+check_lines_more d [] entry text line none is = (line, [], is, refl, ap (λ (t : List ℕ). t ++ line) none ∙ sym (append-nil line))
+check_lines_more d (e ∷ es) entry text line some is =
+    (some.0, some.1 ++ line, some.2, check_lines_more d es entry some.1 line some.3 is, ap (λ (t : List ℕ). t ++ line) some.4 ∙ append_assoc some.0 some.1 line)
+
+pub verdicts_more : (d : Declarations) (entries : List (Name × Contract)) (entry : Name × Contract) (before after : CheckText) → AreVerdicts d entries before → AddsVerdict d entry before after → AreVerdicts d (entries ++ entry ∷ []) after
+verdicts_more d entries entry before after vs v =
+    let one = v.appended in
+    let Accepted : Name × Contract → Type 0 = IsAcceptedEntry d in
+    record {
+      text = vs.text ++ one.line;
+      lines = check_lines_more d entries entry vs.text one.line vs.lines one.is_line;
+      appended = one.appended ∙ ap (λ (t : List ℕ). t ++ one.line) vs.appended;
+      decides = (
+        (λ yes.
+            let parts = and_parts before.all_accepted v.accepted (sym v.joined ∙ yes) in
+            (refl, All-push Accepted entries entry (vs.decides.0 parts.0).1 (one.decides.0 parts.1))),
+        (λ both.
+            let split = All-pop Accepted (entries ++ entry ∷ []) entries (Some entry) refl both.1 in
+            v.joined ∙ and_from before.all_accepted v.accepted (vs.decides.1 (refl, split.0)) (one.decides.1 split.1)),
+      );
+    }
 
 -- ---- the answer of `check`
 
@@ -94,3 +113,50 @@ module _ (b : Book) (all : Bool) (text : List ℕ) (vs : AppendsVerdicts b.decla
 
   pub verdict_refused : (s : Status) → all ≡ false → s ≡ status.Refused → Verdict b s
   verdict_refused s some is = inr (is, λ granted. let h : false ≡ true = sym some ∙ vs.decides.1 (refl, granted) in absurd cc)
+
+-- ---- all contracts of a text
+
+-- all are used where no name is asked for
+pub all_used : (d : Declarations) (entries : List (Name × Contract)) → used_of None d entries ≡ map (at_defaults d) entries
+all_used d [] = refl
+all_used d (e ∷ es) = ap (λ (zs : List (Name × Contract)). at_defaults d e ∷ zs) (all_used d es)
+
+pub entries_more : (d : Declarations) (entries : List (Name × Contract)) (entry : Name × Contract) → map (at_defaults d) (entries ++ entry ∷ []) ≡ map (at_defaults d) entries ++ at_defaults d entry ∷ []
+entries_more d entries entry = map-append (at_defaults d) entries (entry ∷ [])
+
+-- ---- one contract after another
+
+module _ (text : List ℕ) (d : Declarations) (entries : List (Name × Contract)) (after : ContractReader) where
+  pub next_is : (next : Option NextContract) (one : NextContract) → next ≡ Some one → IsNextOrEnd text d entries after next → IsNext text d entries after one
+  next_is next one is h = subst (IsNextOrEnd text d entries after) is h
+
+  pub end_is : (next : Option NextContract) → ((one : NextContract) → next ≡ Some one → ⊥) → IsNextOrEnd text d entries after next → Text text (record { declarations = d; contracts = entries })
+  end_is None none h = h
+  end_is (Some one) none h = absurd (none one refl)
+
+  pub fault_is_bad : (e : ParseErr) (f : TextFault) → e ≡ err.Text f → AnswersNext text d entries after (Err e) → IsBadText text (fault.Text f)
+  fault_is_bad e f is h =
+      let no = subst (λ (x : ParseErr). AnswersNext text d entries after (Err x)) is h in
+      record { first = f; is_first = no.0; no_text = no.1; fault_is = refl }
+
+pub sound_of : (d : Declarations) (c : Contract) → IsSoundContract d c → IsSound d c
+sound_of d c s = record { closed = s.closed; low = s.low; small = s.small; sums = s.sums }
+
+-- the verdicts on the whole text
+pub all_of_text : (text : List ℕ) (d : Declarations) (reader : ContractReader) (check : CheckText) (h : HasVerdicts text d reader check) → Text text (record { declarations = d; contracts = h.entries }) → AreTextVerdicts text check
+all_of_text text d reader check h whole = record {
+  of = record { declarations = d; contracts = h.entries };
+  is_text = whole;
+  verdicts = subst (λ (es : List (Name × Contract)). AreVerdicts d es check) (sym (all_used d h.entries)) h.verdicts;
+}
+
+pub more_of_text : (text : List ℕ) (d : Declarations) (reader after : ContractReader) (check more : CheckText) (one : NextContract) (h : HasVerdicts text d reader check) → IsNext text d h.entries after one
+    → AddsVerdict d (at_defaults d (one.name.now, contract one.contr)) check more → HasVerdicts text d after more
+more_of_text text d reader after check more one h next adds =
+    let entry : Name × Contract = (one.name.now, contract one.contr) in
+    record {
+      entries = h.entries ++ entry ∷ [];
+      read = next.read;
+      verdicts = subst (λ (es : List (Name × Contract)). AreVerdicts d es more) (sym (entries_more d h.entries entry))
+          (verdicts_more d (map (at_defaults d) h.entries) (at_defaults d entry) check more h.verdicts adds);
+    }

@@ -1,15 +1,24 @@
 -- What the parts of `check` answer: the line of each contract behind those before it, and whether all of them were
 -- accepted so far.
-use Rattle.std.specs.Prelude.{◌≡◌, ◌↔◌, ℕ, Bool, true, IsTrue, List, [], ◌++◌, Result, Ok, Err}
+use Rattle.std.specs.Prelude.{◌≡◌, ◌↔◌, ◌&&◌, ℕ, Bool, true, IsTrue, List, [], ◌++◌, map, None, Result, Ok, Err}
 use Rattle.term_core.specs.declared.name.Name.{Name}
 use Rattle.term_core.specs.declared.rules.RuleFault.{RuleFault}
+use Rattle.term_core.specs.Books.{Book}
 use Rattle.term_core.specs.Declarations.{Declarations}
 use Rattle.term_core.specs.Terms.{Contract}
 use Rattle.term_core.specs.Acceptance.{IsAccepted, IsRefusal}
+use Rattle.contract_parse.specs.Texts.{Text}
 use Rattle.contract_check.specs.Checks.{IsGranted}
 use Rattle.contract_check.specs.declared.checks.Facts.{Facts}
 use Rattle.command_answers.specs.CheckPromise.{AreAllAccepted, AreCheckLines, IsCheckLine}
+use Rattle.contract_parse.specs.NextContracts.{IsReadTo}
+use Rattle.contract_parse.specs.declared.next_contracts.ContractReader.{ContractReader}
+use Rattle.command_answers.specs.ReadingParts.{IsBegun}
+use Rattle.command_answers.specs.Stages.{IsBadText}
+use Rattle.command_answers.specs.Stopping.{AnswersBy}
+use Rattle.command_answers.specs.UsedContracts.{at_defaults, used}
 use Rattle.command_answers.specs.declared.check_text.CheckText.{CheckText}
+use Rattle.command_answers.specs.declared.stop.Stop.{Stop}
 
 abbrev pub IsVerdictOf : Declarations → Contract → Result Facts RuleFault → Type 0
 IsVerdictOf d c (Ok facts) = IsGranted d c facts
@@ -32,3 +41,34 @@ pub record AppendsVerdicts (d : Declarations) (entries : List (Name × Contract)
 -- the verdicts on contracts, with nothing before them
 abbrev pub AreVerdicts : Declarations → List (Name × Contract) → CheckText → Type 0
 AreVerdicts d entries check = AppendsVerdicts d entries true check.all_accepted [] check.text.items
+
+-- the same with one more contract
+pub record AddsVerdict (d : Declarations) (entry : Name × Contract) (before after : CheckText) : Type 0 where
+  pub accepted : Bool
+  pub appended : AppendsVerdict d entry accepted before.text.items after.text.items
+  pub joined : after.all_accepted ≡ (before.all_accepted && accepted)
+
+-- ---- the verdicts on a text
+
+-- a text with these declarations is begun
+abbrev pub HasBegun : Declarations → ContractReader → Type 0
+HasBegun d reader = (text : List ℕ) × IsBegun text d reader
+
+-- so many contracts of a text are read, and the verdicts on them, at the defaults, are there
+pub record HasVerdicts (text : List ℕ) (d : Declarations) (reader : ContractReader) (check : CheckText) : Type 0 where
+  pub entries : List (Name × Contract)
+  pub read : IsReadTo text d entries reader
+  pub verdicts : AreVerdicts d (map (at_defaults d) entries) check
+
+-- the verdicts on all contracts of a text, or the fault of the text
+pub record AreTextVerdicts (text : List ℕ) (check : CheckText) : Type 0 where
+  pub of : Book
+  pub is_text : Text text of
+  pub verdicts : AreVerdicts of.declarations (used None of) check
+
+abbrev pub AnswersCheck : List ℕ → Result CheckText Stop → Type 0
+AnswersCheck text r = AnswersBy (AreTextVerdicts text) (IsBadText text) r
+
+-- whichever text is begun
+abbrev pub AnswersAllVerdicts : Declarations → ContractReader → Result CheckText Stop → Type 0
+AnswersAllVerdicts d reader r = (text : List ℕ) → IsBegun text d reader → AnswersCheck text r

@@ -25,6 +25,7 @@ pub mod ScenariosPromise
 pub mod ScenariosCourse
 pub mod Courses
 pub mod UsedParts
+pub mod ReadingParts
 pub mod CheckParts
 pub mod FlowsParts
 pub mod AdvanceParts

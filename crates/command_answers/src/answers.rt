@@ -31,7 +31,6 @@ use crate::payoff_text::payoff_text;
 use crate::scenarios_text::scenarios_text;
 use crate::status::{Status, status_of};
 use crate::stop::Stop;
-use crate::used::used_contracts;
 use crate::value_text::value_text;
 use command_words::{
     Advance, Flows, Netting, Novate, Payoff, Request, SampleSize, Scenarios, Value,
@@ -64,9 +63,7 @@ fn check_answer(alloc: Global, inputs: &[Vec<u8>]) -> Result<Answer, Stop>
     requires { AreShort (bytes_of inputs.now) }
     ensures { Goes (check_course (bytes_of inputs.now)) result }
 {
-    let portfolio = portfolio_of(alloc, file_at(inputs, 0))?;
-    let ones = used_contracts(alloc, &portfolio, None)?;
-    let check = check_text(alloc, &portfolio.decls, &ones)?;
+    let check = check_text(alloc, file_at(inputs, 0))?;
     let status = if check.all_accepted {
         Status::Done
     } else {

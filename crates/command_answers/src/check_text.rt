@@ -1,17 +1,23 @@
 //! The text of the command `check`.
 
-ghost use Rattle.std.specs.Prelude.{IfOk};
+ghost use Rattle.std.specs.Prelude.{◌≡◌, ◌≤◌, IfOk, OnOk, length};
 ghost use Rattle.term_core.specs.Declarations.{declarations};
 ghost use Rattle.term_core.specs.Terms.{contract};
-ghost use Rattle.command_answers.specs.CheckParts.{AppendsVerdict, AreVerdicts, IsVerdictOf};
-ghost use Rattle.command_answers.specs.UsedParts.{AreTriable, IsTriable, entries_of, entry_of};
+ghost use Rattle.term_core.specs.Instances.{declared_numbers};
+ghost use Rattle.contract_parse.specs.NextContracts.{IsSoundContract};
+ghost use Rattle.command_answers.specs.CheckParts.{AddsVerdict, AnswersAllVerdicts, AnswersCheck, HasBegun};
+ghost use Rattle.command_answers.specs.CheckParts.{AppendsVerdict, IsVerdictOf};
+ghost use Rattle.command_answers.specs.UsedContracts.{at_defaults};
+ghost use Rattle.command_answers.specs.UsedParts.{IsTriable};
 
-use crate::used::Used;
+use crate::reading::{made_of, read_next, start_reading};
+use crate::stop::Stop;
 use contract_check::{Facts, check};
+use contract_parse::{ContractReader, NextContract};
 use decimal::NoMemory;
 use report::check_line;
 use std::alloc::Global;
-use term_core::{CheckErr, Contr, Decls, RuleFault};
+use term_core::{CheckErr, Contr, Decls, RuleFault, Setting, defaults};
 
 /// The verdicts on contracts, a line each, and whether all of them are accepted.
 #[derive(Drop)]
@@ -27,7 +33,7 @@ pub fn verdict(
     contr: &Contr,
 ) -> Result<Result<Facts, RuleFault>, NoMemory>
     requires { IsTriable (declarations decls.now) (contract contr.now) }
-    ensures { IfOk result (λ verdict. IsVerdictOf (declarations decls.now) (contract contr.now) verdict) }
+    ensures { IfOk result (IsVerdictOf (declarations decls.now) (contract contr.now)) }
 {
     match check(alloc, decls, contr) {
         Ok(facts) => Ok(Ok(facts)),
@@ -41,26 +47,66 @@ fn append_verdict(
     alloc: Global,
     out: &mut Vec<u8>,
     decls: &Decls,
-    one: &Used<'_>,
+    name: &[u8],
+    contr: &Contr,
 ) -> Result<bool, NoMemory>
-    requires { IsTriable (declarations decls.now) (entry_of one.now).1 }
-    ensures { IfOk result (λ accepted. AppendsVerdict (declarations decls.now) (entry_of one.now) accepted out.old.items out.new.items) }
+    requires { IsTriable (declarations decls.now) (contract contr.now) }
+    ensures { IfOk result (λ accepted. AppendsVerdict (declarations decls.now)
+        (name.now, contract contr.now) accepted out.old.items out.new.items) }
 {
-    let verdict = verdict(alloc, decls, one.contr.contr())?;
-    check_line(alloc, out, decls, one.name.text(), &verdict)?;
+    let verdict = verdict(alloc, decls, contr)?;
+    check_line(alloc, out, decls, name, &verdict)?;
     Ok(verdict.is_ok())
 }
 
-/// The verdicts on contracts, in their order.
-pub fn check_text(alloc: Global, decls: &Decls, ones: &[Used<'_>]) -> Result<CheckText, NoMemory>
-    requires { AreTriable (declarations decls.now) (entries_of ones.now) }
-    ensures { IfOk result (AreVerdicts (declarations decls.now) (entries_of ones.now)) }
+// Puts the verdict on a contract, at the defaults, behind those before it.
+fn add_verdict(
+    alloc: Global,
+    decls: &Decls,
+    setting: &Setting,
+    next: NextContract<'_>,
+    check: &mut CheckText,
+) -> Result<(), NoMemory>
+    requires sound { IsSoundContract (declarations decls.now) (contract next.contr) }
+    requires defaults { setting.now.days.items ≡ declared_numbers (declarations decls.now) }
+    ensures { OnOk result (AddsVerdict (declarations decls.now)
+        (at_defaults (declarations decls.now) (next.entry.name.now, contract next.entry.contr))
+        check.old check.new) }
 {
-    let mut text = Vec::new(alloc);
-    let mut all_accepted = true;
-    for one in ones {
-        let accepted = append_verdict(alloc, &mut text, decls, one)?;
-        all_accepted = all_accepted && accepted;
+    let contr = made_of(alloc, next.contr, setting)?;
+    let accepted = append_verdict(alloc, &mut check.text, decls, next.name, &contr)?;
+    check.all_accepted = check.all_accepted && accepted;
+    Ok(())
+}
+
+// The verdicts on the contracts of a text, in their order.
+fn all_verdicts(
+    alloc: Global,
+    decls: &Decls,
+    setting: &Setting,
+    reader: ContractReader<'_>,
+) -> Result<CheckText, Stop>
+    requires begun { HasBegun (declarations decls.now) reader }
+    requires defaults { setting.now.days.items ≡ declared_numbers (declarations decls.now) }
+    ensures { AnswersAllVerdicts (declarations decls.now) reader.entry result }
+{
+    let mut reader = reader;
+    let mut check = CheckText {
+        text: Vec::new(alloc),
+        all_accepted: true,
+    };
+    while let Some(next) = read_next(alloc, decls, &mut reader)? {
+        add_verdict(alloc, decls, setting, next, &mut check)?;
     }
-    Ok(CheckText { text, all_accepted })
+    Ok(check)
+}
+
+/// The verdicts on the contracts of a text, in their order. Each contract is read, tried and dropped before the next.
+pub fn check_text(alloc: Global, text: &[u8]) -> Result<CheckText, Stop>
+    requires { length text.now ≤ 16_777_216 }
+    ensures { AnswersCheck text.now result }
+{
+    let (decls, reader) = start_reading(alloc, text)?;
+    let setting = defaults(alloc, &decls)?;
+    all_verdicts(alloc, &decls, &setting, reader)
 }

@@ -22,6 +22,7 @@ mod netting_text;
 mod novate_text;
 mod over_fixings;
 mod payoff_text;
+mod reading;
 mod scenarios_text;
 mod status;
 mod stop;

@@ -1,0 +1,57 @@
+//! The contracts of a portfolio's text, read one at a time.
+
+ghost use Rattle.std.specs.Prelude.{◌≡◌, ◌≤◌, IfOk, length};
+ghost use Rattle.term_core.specs.Declarations.{declarations};
+ghost use Rattle.term_core.specs.Instances.{HasNumbers, HasSmallSums, IsSetting, instance};
+ghost use Rattle.term_core.specs.Terms.{contract};
+ghost use Rattle.command_answers.specs.ReadingParts.{LeavesLess, ReadsNext, StartsReading};
+
+use crate::stop::Stop;
+use contract_parse::{ContractReader, NextContract, ParseErr, next_contract, start_contracts};
+use decimal::NoMemory;
+use report::Fault;
+use std::alloc::Global;
+use term_core::{Contr, Decls, Setting, has_only_numbers, instantiate};
+
+/// The declarations of a text, and a reader that stands before its first contract.
+pub fn start_reading<'a>(alloc: Global, text: &'a [u8]) -> Result<(Decls, ContractReader<'a>), Stop>
+    requires { length text.now ≤ 16_777_216 }
+    ensures { StartsReading text.entry.now result }
+{
+    match start_contracts(alloc, text) {
+        Ok(start) => Ok(start),
+        Err(ParseErr::Text(fault)) => Err(Stop::Fault(Fault::Text(fault))),
+        Err(ParseErr::NoMemory) => Err(Stop::NoMemory),
+    }
+}
+
+/// The next contract of a text, none behind the last.
+pub fn read_next<'a>(
+    alloc: Global,
+    decls: &Decls,
+    reader: &mut ContractReader<'a>,
+) -> Result<Option<NextContract<'a>>, Stop>
+    ensures next { ReadsNext (declarations decls.now) reader.old reader.new result }
+    ensures shorter { LeavesLess reader.old reader.new result }
+{
+    match next_contract(alloc, decls, reader) {
+        Ok(next) => Ok(next),
+        Err(ParseErr::Text(fault)) => Err(Stop::Fault(Fault::Text(fault))),
+        Err(ParseErr::NoMemory) => Err(Stop::NoMemory),
+    }
+}
+
+/// The contract with the setting's numbers for its names. What names no template is handed back as it is.
+pub fn made_of(alloc: Global, contr: Contr, setting: &Setting) -> Result<Contr, NoMemory>
+    requires numbers { HasNumbers setting.now.days.items (contract contr) }
+    requires sums { HasSmallSums (contract contr) }
+    requires small { IsSetting setting.now.days.items }
+    ensures { IfOk result (λ made. contract made
+        ≡ instance setting.now.days.items (contract contr)) }
+{
+    if has_only_numbers(&contr) {
+        Ok(contr)
+    } else {
+        instantiate(alloc, &contr, setting)
+    }
+}
