@@ -36,7 +36,7 @@ use Rattle.command_answers.specs.FlowsPromise.{AreAllLines, AreLinesAsked, paid_
 use Rattle.command_answers.specs.Inputs.{file_at}
 use Rattle.command_answers.specs.UsedContracts.{at_defaults, is_asked, used}
 use Rattle.command_answers.specs.declared.status.Status.TheVariants as status
-use Rattle.command_answers.proofs.ExpandFacts.{expansion_numbers, expansions_used}
+use Rattle.command_answers.proofs.ExpandFacts.{expansion_numbers}
 use Rattle.command_answers.proofs.UsedFacts.{own_instance, used_of}
 use Rattle.contract_cli.specs.ExpandLaws.{AreLinesOfPlans, ArePaidAsPlanned, ArePlanLinesAsked, ExpandedPlansAreListed, ExpandedTextsAreAccepted, ExpandedTextsAreTexts}
 use Rattle.contract_cli.specs.ExpandLaws.{Expands, HasExpanded, ListsPlans, paid_as_planned, planned_together, plans_asked}
@@ -51,6 +51,14 @@ use Rattle.contract_cli.proofs.TwoRunFacts.{held_same, was_passed, was_printed}
 
 abbrev Fits : Declarations → Name × Plan → Type 0
 Fits d entry = IsPlanOfTexts d entry.1
+
+-- expansions name no template, so they are used as they are
+expansions_used : (d : Declarations) (plans : List (Name × Plan)) → All (Fits d) plans → used_of None d (map expanded_entry plans) ≡ map expanded_entry plans
+expansions_used d [] all = refl
+expansions_used d (entry ∷ plans) all =
+    ap₂ (λ (c : Contract) (es : List (Name × Contract)). (entry.0, c) ∷ es)
+    (own_instance (declared_numbers d) (expansion entry.1) (expansion_numbers d entry.1 (All-head (Fits d) entry plans all)))
+    (expansions_used d plans (All-tail (Fits d) entry plans all))
 
 all_paid : (b : PlanBook) → All (Fits b.declarations) b.plans → ArePaidAsPlanned b
 all_paid b fits =
