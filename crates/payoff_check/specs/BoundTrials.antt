@@ -10,11 +10,10 @@ use Rattle.term_core.specs.Bounds.{Range, range_kinds, greatest_size}
 use Rattle.term_core.specs.Trying.{then_do, moved}
 use Rattle.interval_check.specs.Ranges.{range}
 use Rattle.interval_check.specs.RangeTrials.{scale_in, range_tried, kind_found, AreScaled}
-use Rattle.payoff_lang.specs.Dating.{plain}
-use Rattle.payoff_lang.specs.Code.{PayoffCode, Nothing, PayOn, Add, ScaleBy, LetBe, Loop, Cut}
 use Rattle.payoff_check.specs.declared.bound_rule.Ranged.{Ranged}
 use Rattle.payoff_check.specs.declared.totals.CodeTotal.{CodeTotal}
-use Rattle.payoff_check.specs.Trials.{Steps, code_tried}
+use Rattle.payoff_check.specs.PlainCodes.{UndatedCode, Empty, Payment, Both, Multiple, Named, Choice, Under}
+use Rattle.payoff_check.specs.Trials.{PlainSteps, plain_tried}
 
 -- what is found of a value expression
 pub record Found : Type 0 where
@@ -23,6 +22,10 @@ pub record Found : Type 0 where
 
 abbrev pub ranged : Ranged → Found
 ranged r = record { range = range r.range; nodes = r.nodes }
+
+abbrev pub ranged_found : Result Ranged ℕ → Result Found ℕ
+ranged_found (Ok r) = Ok (ranged r)
+ranged_found (Err n) = Err n
 
 -- the kind that is found of an expression, among names of these ranges
 abbrev pub HasKind : Declarations → Expression → List Range → Ranged → Type 0
@@ -67,21 +70,21 @@ of_branches count a b =
 abbrev pub of_part : ℕ → CodeTotal → CodeTotal
 of_part count a = record { amount = a.amount; scale = a.scale; nodes = count + a.nodes + 1 }
 
-abbrev pub bounding : Declarations → Steps Found CodeTotal (List Range)
+abbrev pub bounding : Declarations → PlainSteps Found CodeTotal (List Range)
 bounding d = record {
-  value = λ v g n. value_tried d (plain v) g n;
+  value = λ e g n. value_tried d e g n;
   enter = λ u g. u.range ∷ g;
   nothing = λ n. total_here (d.amounts + 9) of_nothing n;
-  payment = λ x n. total_here (d.amounts + 9) of_payment n;
+  payment = λ n. total_here (d.amounts + 9) of_payment n;
   sum = λ a b n. total_here (d.amounts + 9) (of_sum a b) n;
   scaled = λ u a n. total_here (d.amounts + 9) (of_product u a) n;
   bound = λ u a n. total_here (d.amounts + 9) (of_part u.nodes a) n;
-  looped = λ u x a b n. total_here (d.amounts + 9) (of_branches u.nodes a b) n;
-  cut = λ x a n. total_here (d.amounts + 9) (of_part 0 a) n;
+  looped = λ u a b n. total_here (d.amounts + 9) (of_branches u.nodes a b) n;
+  cut = λ a n. total_here (d.amounts + 9) (of_part 0 a) n;
 }
 
-abbrev pub bounds_tried : Declarations → PayoffCode → List Range → ℕ → Result CodeTotal ℕ
-bounds_tried d k g n = code_tried (bounding d) k g n
+abbrev pub bounds_tried : Declarations → UndatedCode → List Range → ℕ → Result CodeTotal ℕ
+bounds_tried d k g n = plain_tried (bounding d) k g n
 
 -- what is known of a total that fits
 pub record IsFitting (k : ℕ) (t : CodeTotal) : Type 0 where
@@ -90,11 +93,11 @@ pub record IsFitting (k : ℕ) (t : CodeTotal) : Type 0 where
   pub aligned : at_decimals k t ≤ 10 ^ 37
 
 -- every scale of a value expression is at most 27, where each name has the kind that is found
-abbrev pub AreValuesScaled : Declarations → PayoffCode → List Kind → Type 0
-AreValuesScaled d Nothing ks = Unit {0}
-AreValuesScaled d (PayOn x a p q) ks = Unit {0}
-AreValuesScaled d (Add k l) ks = AreValuesScaled d k ks × AreValuesScaled d l ks
-AreValuesScaled d (ScaleBy v k) ks = AreScaled d (plain v) ks × AreValuesScaled d k ks
-AreValuesScaled d (LetBe v k) ks = AreScaled d (plain v) ks × AreValuesScaled d k (kind_found d (plain v) ks ∷ ks)
-AreValuesScaled d (Loop v x k l) ks = AreScaled d (plain v) ks × AreValuesScaled d k ks × AreValuesScaled d l ks
-AreValuesScaled d (Cut x k) ks = AreValuesScaled d k ks
+abbrev pub AreValuesScaled : Declarations → UndatedCode → List Kind → Type 0
+AreValuesScaled d Empty ks = Unit {0}
+AreValuesScaled d Payment ks = Unit {0}
+AreValuesScaled d (Both k l) ks = AreValuesScaled d k ks × AreValuesScaled d l ks
+AreValuesScaled d (Multiple e k) ks = AreScaled d e ks × AreValuesScaled d k ks
+AreValuesScaled d (Named e k) ks = AreScaled d e ks × AreValuesScaled d k (kind_found d e ks ∷ ks)
+AreValuesScaled d (Choice e k l) ks = AreScaled d e ks × AreValuesScaled d k ks × AreValuesScaled d l ks
+AreValuesScaled d (Under k) ks = AreValuesScaled d k ks

@@ -1,3 +1,4 @@
+pub mod PlainCodes
 pub mod Trials
 pub mod SortTrials
 pub mod ScaleTrials

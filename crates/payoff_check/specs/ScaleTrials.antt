@@ -6,10 +6,9 @@ use Rattle.term_core.specs.Terms.{Expression}
 use Rattle.term_core.specs.Sizes.{nodes}
 use Rattle.term_core.specs.Trying.{then_do, moved}
 use Rattle.scale_check.specs.ScaleTrials.{scale_tried}
-use Rattle.payoff_lang.specs.Dating.{plain}
-use Rattle.payoff_lang.specs.Code.{PayoffCode}
 use Rattle.payoff_check.specs.declared.scale_rule.Scaled.{Scaled}
-use Rattle.payoff_check.specs.Trials.{Steps, code_tried}
+use Rattle.payoff_check.specs.PlainCodes.{UndatedCode}
+use Rattle.payoff_check.specs.Trials.{PlainSteps, plain_tried}
 
 -- a plain expression whose first node has number n
 abbrev pub value_tried : Declarations → Expression → List ℕ → ℕ → Result Scaled ℕ
@@ -19,18 +18,18 @@ value_tried d e ss n = then_do (moved n (scale_tried d e ss)) (λ s. Ok (record 
 abbrev pub kept : ℕ → ℕ → ℕ → ℕ → Result Scaled ℕ
 kept greatest s count n = if nat_le s greatest then Ok (record { scale = s; nodes = count }) else Err n
 
-abbrev pub scaling : Declarations → Steps Scaled Scaled (List ℕ)
+abbrev pub scaling : Declarations → PlainSteps Scaled Scaled (List ℕ)
 scaling d = record {
-  value = λ v ss n. value_tried d (plain v) ss n;
+  value = λ e ss n. value_tried d e ss n;
   enter = λ u ss. u.scale ∷ ss;
   nothing = λ n. kept (d.amounts + 9) 0 1 n;
-  payment = λ x n. kept (d.amounts + 9) 9 1 n;
+  payment = λ n. kept (d.amounts + 9) 9 1 n;
   sum = λ a b n. kept (d.amounts + 9) (max a.scale b.scale) (a.nodes + b.nodes + 1) n;
   scaled = λ u a n. kept (d.amounts + 9) (u.scale + a.scale) (u.nodes + a.nodes + 1) n;
   bound = λ u a n. kept (d.amounts + 9) a.scale (u.nodes + a.nodes + 1) n;
-  looped = λ u x a b n. kept (d.amounts + 9) (max a.scale b.scale) (u.nodes + a.nodes + b.nodes + 1) n;
-  cut = λ x a n. kept (d.amounts + 9) a.scale (a.nodes + 1) n;
+  looped = λ u a b n. kept (d.amounts + 9) (max a.scale b.scale) (u.nodes + a.nodes + b.nodes + 1) n;
+  cut = λ a n. kept (d.amounts + 9) a.scale (a.nodes + 1) n;
 }
 
-abbrev pub scales_tried : Declarations → PayoffCode → List ℕ → ℕ → Result Scaled ℕ
-scales_tried d k ss n = code_tried (scaling d) k ss n
+abbrev pub scales_tried : Declarations → UndatedCode → List ℕ → ℕ → Result Scaled ℕ
+scales_tried d k ss n = plain_tried (scaling d) k ss n

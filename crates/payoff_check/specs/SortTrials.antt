@@ -8,10 +8,9 @@ use Rattle.term_core.specs.Trying.{then_do, moved}
 use Rattle.time_types.specs.declared.observed_sorts.Sort.{Sort}
 use Rattle.time_types.specs.declared.observed_sorts.Sort.TheVariants.{Truth, Number}
 use Rattle.time_types.specs.SortTrials.{sort_tried}
-use Rattle.payoff_lang.specs.Dating.{plain}
-use Rattle.payoff_lang.specs.Code.{PayoffCode}
 use Rattle.payoff_check.specs.declared.sort_rule.Sorted.{Sorted}
-use Rattle.payoff_check.specs.Trials.{Steps, code_tried}
+use Rattle.payoff_check.specs.PlainCodes.{UndatedCode}
+use Rattle.payoff_check.specs.Trials.{PlainSteps, plain_tried}
 
 -- a plain expression whose first node has number n
 abbrev pub value_tried : Declarations → Expression → List Sort → ℕ → Result Sorted ℕ
@@ -24,18 +23,18 @@ needed Number Number count n = Ok count
 needed Truth Number count n = Err n
 needed Number Truth count n = Err n
 
-abbrev pub sorting : Declarations → Steps Sorted ℕ (List Sort)
+abbrev pub sorting : Declarations → PlainSteps Sorted ℕ (List Sort)
 sorting d = record {
-  value = λ v ss n. value_tried d (plain v) ss n;
+  value = λ e ss n. value_tried d e ss n;
   enter = λ u ss. u.sort ∷ ss;
   nothing = λ n. Ok 1;
-  payment = λ x n. Ok 1;
+  payment = λ n. Ok 1;
   sum = λ a b n. Ok (a + b + 1);
   scaled = λ u a n. needed Number u.sort (u.nodes + a + 1) n;
   bound = λ u a n. Ok (u.nodes + a + 1);
-  looped = λ u x a b n. needed Truth u.sort (u.nodes + a + b + 1) n;
-  cut = λ x a n. Ok (a + 1);
+  looped = λ u a b n. needed Truth u.sort (u.nodes + a + b + 1) n;
+  cut = λ a n. Ok (a + 1);
 }
 
-abbrev pub sorts_tried : Declarations → PayoffCode → List Sort → ℕ → Result ℕ ℕ
-sorts_tried d k ss n = code_tried (sorting d) k ss n
+abbrev pub sorts_tried : Declarations → UndatedCode → List Sort → ℕ → Result ℕ ℕ
+sorts_tried d k ss n = plain_tried (sorting d) k ss n

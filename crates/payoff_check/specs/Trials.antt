@@ -1,7 +1,7 @@
 -- How each rule tries payoff code, each part once and parts before wholes: what a value expression answers, how a name
 -- that is bound to it is known in the body, and what a node answers from the answers of its parts. A trial answers what
 -- it found, or the number of the first node at fault.
-use Rattle.std.specs.Prelude.{ℕ, ◌+◌, ◌≡◌, Result, Ok, Err}
+use Rattle.std.specs.Prelude.{ℕ, ◌+◌, Result}
 use Rattle.term_core.specs.Terms.{Expression}
 use Rattle.term_core.specs.Sizes.{nodes}
 use Rattle.term_core.specs.Trying.{then_do}
@@ -10,8 +10,7 @@ use Rattle.payoff_lang.specs.Dating.{plain}
 use Rattle.payoff_lang.specs.Code.{ValueExpression, value_expression, PayoffCode, Nothing, PayOn, Add, ScaleBy, LetBe, Loop, Cut}
 use Rattle.payoff_lang.specs.CodeSizes.{nodes_of_code}
 use Rattle.payoff_lang.specs.declared.code.Vx.{Vx}
-use Rattle.payoff_check.specs.declared.faults.Fault.{Fault}
-use Rattle.payoff_check.specs.declared.faults.Fault.TheVariants.{At}
+use Rattle.payoff_check.specs.PlainCodes.{UndatedCode, Empty, Payment, Both, Multiple, Named, Choice, Under, nodes_of_undated}
 
 -- the plain expression of the program's value expression
 abbrev pub plain_value : Vx → Expression
@@ -45,12 +44,30 @@ code_tried w (Loop v x k l) g n =
     (λ a. then_do (code_tried w l g (n + 1 + nodes (plain v) + nodes_of_code k)) (λ b. w.looped u x a b n)))
 code_tried w (Cut x k) g n = then_do (code_tried w k g (n + 1)) (λ a. w.cut x a n)
 
--- a call answers as a trial does, but for want of memory, where what it finds stands for something
-abbrev pub TellsAs : {A B : Type 0} → (A → B) → Result A Fault → Result B ℕ → Type 0
-TellsAs view (Ok a) t = t ≡ Ok (view a)
-TellsAs view (Err e) t = (n : ℕ) → e ≡ At n → t ≡ Err n
+-- the steps of a rule that sees no dates
+pub record PlainSteps (U A G : Type 0) : Type 0 where
+  pub value : Expression → G → ℕ → Result U ℕ
+  pub enter : U → G → G
+  pub nothing : ℕ → Result A ℕ
+  pub payment : ℕ → Result A ℕ
+  pub sum : A → A → ℕ → Result A ℕ
+  pub scaled : U → A → ℕ → Result A ℕ
+  pub bound : U → A → ℕ → Result A ℕ
+  pub looped : U → A → A → ℕ → Result A ℕ
+  pub cut : A → ℕ → Result A ℕ
 
--- a call answers as a trial does, but for want of memory
-abbrev pub Tells : {A : Type 0} → Result A Fault → Result A ℕ → Type 0
-Tells (Ok a) t = t ≡ Ok a
-Tells (Err e) t = (n : ℕ) → e ≡ At n → t ≡ Err n
+-- undated code whose own node has number n
+abbrev pub plain_tried : {U A G : Type 0} → PlainSteps U A G → UndatedCode → G → ℕ → Result A ℕ
+plain_tried w Empty g n = w.nothing n
+plain_tried w Payment g n = w.payment n
+plain_tried w (Both k l) g n =
+    then_do (plain_tried w k g (n + 1)) (λ a. then_do (plain_tried w l g (n + 1 + nodes_of_undated k)) (λ b. w.sum a b n))
+plain_tried w (Multiple e k) g n =
+    then_do (w.value e g (n + 1)) (λ u. then_do (plain_tried w k g (n + 1 + nodes e)) (λ a. w.scaled u a n))
+plain_tried w (Named e k) g n =
+    then_do (w.value e g (n + 1)) (λ u. then_do (plain_tried w k (w.enter u g) (n + 1 + nodes e)) (λ a. w.bound u a n))
+plain_tried w (Choice e k l) g n =
+    then_do (w.value e g (n + 1))
+    (λ u. then_do (plain_tried w k g (n + 1 + nodes e))
+    (λ a. then_do (plain_tried w l g (n + 1 + nodes e + nodes_of_undated k)) (λ b. w.looped u a b n)))
+plain_tried w (Under k) g n = then_do (plain_tried w k g (n + 1)) (λ a. w.cut a n)

@@ -1,7 +1,7 @@
 //! The rule on bounds: value expressions meet it as in contracts, and the total of all code is at most 10^37, as it is and at
 //! nine more decimals than the portfolio's. A payment counts with the greatest discount factor, which is 10.
 
-ghost use Rattle.std.specs.Prelude.{◌≡◌, ◌<◌, ◌≤◌, ◌+◌, ◌^◌, IfOk};
+ghost use Rattle.std.specs.Prelude.{◌≡◌, ◌<◌, ◌≤◌, ◌+◌, ◌^◌, [], IfOk};
 ghost use Rattle.term_core.specs.Declarations.{declarations};
 ghost use Rattle.term_core.specs.Terms.{expression};
 ghost use Rattle.term_core.specs.declared.rules.Rule.{Rule};
@@ -10,22 +10,15 @@ ghost use Rattle.term_core.specs.Bounds.{range_kinds};
 ghost use Rattle.interval_check.specs.Ranges.{range, IsFit};
 ghost use Rattle.interval_check.specs.RangeScopes.{ranges_in};
 ghost use Rattle.interval_check.specs.RangeTrials.{AreScaled};
-ghost use Rattle.payoff_lang.specs.Code.{payoff_code};
-ghost use Rattle.payoff_lang.specs.CodeSizes.{nodes_of_code};
-ghost use Rattle.payoff_lang.specs.CodeAcceptance.{MeetsInCode};
-ghost use Rattle.payoff_check.specs.Verdicts.{IsCodeVerdict, IsTotalOf};
-ghost use Rattle.payoff_check.specs.Trials.{Tells, TellsAs, plain_value};
+ghost use Rattle.payoff_check.specs.PlainCodes.{nodes_of_undated, undated_code};
+ghost use Rattle.payoff_check.specs.Verdicts.{IsPlainVerdict, IsTotalOf};
 ghost use Rattle.payoff_check.specs.BoundTrials.{AreValuesScaled, HasKind, IsFitting};
-ghost use Rattle.payoff_check.specs.BoundTrials.{bounds_tried, of_part, ranged, total_here, value_tried};
+ghost use Rattle.payoff_check.specs.BoundTrials.{bounds_tried, of_part, ranged_found, total_here, value_tried};
 
-use crate::faults::Fault;
-use crate::plains::plain_of;
+use crate::plain_code::PlainCode;
 use crate::totals::{CodeTotal, checked, greater_of, product_of, sum_of};
-use decimal::NoMemory;
 use interval_check::{Range, range_of};
-use payoff_lang::{Code, Vx};
-use std::alloc::Global;
-use term_core::{CheckErr, Decls, Expr, Rule, Scope, Setting, nodes_in};
+use term_core::{CheckErr, Decls, Expr, Rule, Scope, nodes_in};
 
 /// The range of a value expression, and its nodes.
 #[derive(Clone, Copy)]
@@ -34,11 +27,11 @@ pub struct Ranged {
     pub nodes: u32,
 }
 
-// Of a plain expression whose first node has a number.
-fn range_of_plain(decls: &Decls, e: &Expr, scope: &Scope<Range>, node: u32) -> Result<Ranged, Fault>
+// Of a value expression whose first node has a number.
+fn range_of_value(decls: &Decls, e: &Expr, scope: &Scope<Range>, node: u32) -> Result<Ranged, u32>
     requires nodes { node + nodes (expression e.now) < 2 ^ 32 }
     requires scaled { AreScaled (declarations decls.now) (expression e.now) (range_kinds (ranges_in scope.now)) }
-    ensures range { TellsAs ranged result (value_tried (declarations decls.now) (expression e.now) (ranges_in scope.now) node) }
+    ensures range { ranged_found result ≡ value_tried (declarations decls.now) (expression e.now) (ranges_in scope.now) node }
     ensures nodes { IfOk result (λ found. found.nodes ≡ nodes (expression e.now)) }
     ensures kind { IfOk result (HasKind (declarations decls.now) (expression e.now) (ranges_in scope.now)) }
     ensures fit { IfOk result (λ found. IsFit (range found.range)) }
@@ -48,36 +41,15 @@ fn range_of_plain(decls: &Decls, e: &Expr, scope: &Scope<Range>, node: u32) -> R
             range,
             nodes: nodes_in(e),
         }),
-        Err(part) => Err(Fault::At { node: node + part }),
-    }
-}
-
-// Of a value expression whose first node has a number.
-fn range_of_value(
-    alloc: Global,
-    decls: &Decls,
-    v: &Vx,
-    scope: &Scope<Range>,
-    node: u32,
-) -> Result<Ranged, Fault>
-    requires nodes { node + nodes (plain_value v.now) < 2 ^ 32 }
-    requires scaled { AreScaled (declarations decls.now) (plain_value v.now) (range_kinds (ranges_in scope.now)) }
-    ensures range { TellsAs ranged result (value_tried (declarations decls.now) (plain_value v.now) (ranges_in scope.now) node) }
-    ensures nodes { IfOk result (λ found. found.nodes ≡ nodes (plain_value v.now)) }
-    ensures kind { IfOk result (HasKind (declarations decls.now) (plain_value v.now) (ranges_in scope.now)) }
-    ensures fit { IfOk result (λ found. IsFit (range found.range)) }
-{
-    match plain_of(alloc, v) {
-        Ok(e) => range_of_plain(decls, &e, scope, node),
-        Err(NoMemory) => Err(Fault::NoMemory),
+        Err(part) => Err(node + part),
     }
 }
 
 // The total of a part, where some nodes more stand in the whole.
-fn checked_part(decimals: u8, count: u32, part: CodeTotal, node: u32) -> Result<CodeTotal, Fault>
+fn checked_part(decimals: u8, count: u32, part: CodeTotal, node: u32) -> Result<CodeTotal, u32>
     requires decimals { decimals ≤ 21 }
     requires nodes { count + part.nodes + 1 < 2 ^ 32 }
-    ensures total { Tells result (total_here decimals (of_part count part) node) }
+    ensures total { result ≡ total_here decimals (of_part count part) node }
     ensures nodes { IfOk result (λ t. t.nodes ≡ count + part.nodes + 1) }
     ensures fits { IfOk result (λ t. IsFitting decimals t) }
 {
@@ -90,9 +62,9 @@ fn checked_part(decimals: u8, count: u32, part: CodeTotal, node: u32) -> Result<
 }
 
 // A total without parts.
-fn checked_leaf(decimals: u8, amount: u128, scale: u8, node: u32) -> Result<CodeTotal, Fault>
+fn checked_leaf(decimals: u8, amount: u128, scale: u8, node: u32) -> Result<CodeTotal, u32>
     requires { decimals ≤ 21 }
-    ensures total { Tells result (total_here decimals (record { amount = amount; scale = scale; nodes = 1 }) node) }
+    ensures total { result ≡ total_here decimals (record { amount = amount; scale = scale; nodes = 1 }) node }
     ensures nodes { IfOk result (λ t. t.nodes ≡ 1) }
     ensures fits { IfOk result (λ t. IsFitting decimals t) }
 {
@@ -106,55 +78,49 @@ fn checked_leaf(decimals: u8, amount: u128, scale: u8, node: u32) -> Result<Code
 
 // The total of code whose own node has a number, among names of these ranges.
 fn bounds_of(
-    alloc: Global,
     decls: &Decls,
-    k: &Code,
+    k: &PlainCode,
     scope: &Scope<Range>,
     node: u32,
-) -> Result<CodeTotal, Fault>
-    requires nodes { node + nodes_of_code (payoff_code k.now) < 2 ^ 32 }
-    requires scaled { AreValuesScaled (declarations decls.now) (payoff_code k.now) (range_kinds (ranges_in scope.now)) }
-    ensures total { Tells result (bounds_tried (declarations decls.now) (payoff_code k.now) (ranges_in scope.now) node) }
-    ensures nodes { IfOk result (λ found. found.nodes ≡ nodes_of_code (payoff_code k.now)) }
+) -> Result<CodeTotal, u32>
+    requires nodes { node + nodes_of_undated (undated_code k.now) < 2 ^ 32 }
+    requires scaled { AreValuesScaled (declarations decls.now) (undated_code k.now) (range_kinds (ranges_in scope.now)) }
+    ensures total { result ≡ bounds_tried (declarations decls.now) (undated_code k.now) (ranges_in scope.now) node }
+    ensures nodes { IfOk result (λ found. found.nodes ≡ nodes_of_undated (undated_code k.now)) }
     ensures fits { IfOk result (λ found. IsFitting (decls.now.amounts + 9) found) }
 {
     let decimals = decls.amounts + 9;
     match k {
-        Code::None => checked_leaf(decimals, 0, 0, node),
-        Code::Pay { .. } => checked_leaf(decimals, 10_000_000_000, 9, node),
-        Code::Add { left, right } => {
-            let one = bounds_of(alloc, decls, left, scope, node + 1)?;
-            let two = bounds_of(alloc, decls, right, scope, node + 1 + one.nodes)?;
+        PlainCode::None => checked_leaf(decimals, 0, 0, node),
+        PlainCode::Pay => checked_leaf(decimals, 10_000_000_000, 9, node),
+        PlainCode::Add { left, right } => {
+            let one = bounds_of(decls, left, scope, node + 1)?;
+            let two = bounds_of(decls, right, scope, node + 1 + one.nodes)?;
             sum_of(decimals, one, two, node)
         }
-        Code::Scale { factor, body } => {
-            let found = range_of_value(alloc, decls, factor, scope, node + 1)?;
-            let part = bounds_of(alloc, decls, body, scope, node + 1 + found.nodes)?;
+        PlainCode::Scale { factor, body } => {
+            let found = range_of_value(decls, factor, scope, node + 1)?;
+            let part = bounds_of(decls, body, scope, node + 1 + found.nodes)?;
             product_of(decimals, found, part, node)
         }
-        Code::Let { bound, body } => {
-            let found = range_of_value(alloc, decls, bound, scope, node + 1)?;
+        PlainCode::Let { bound, body } => {
+            let found = range_of_value(decls, bound, scope, node + 1)?;
             let inner = Scope::Bound {
                 held: found.range,
                 outer: &*scope,
             };
-            let part = bounds_of(alloc, decls, body, &inner, node + 1 + found.nodes)?;
+            let part = bounds_of(decls, body, &inner, node + 1 + found.nodes)?;
             checked_part(decimals, found.nodes, part, node)
         }
-        Code::LoopIf {
-            test,
-            hit,
-            miss,
-            ..
-        } => {
-            let found = range_of_value(alloc, decls, test, scope, node + 1)?;
+        PlainCode::LoopIf { test, hit, miss } => {
+            let found = range_of_value(decls, test, scope, node + 1)?;
             let after = node + 1 + found.nodes;
-            let one = bounds_of(alloc, decls, hit, scope, after)?;
-            let two = bounds_of(alloc, decls, miss, scope, after + one.nodes)?;
+            let one = bounds_of(decls, hit, scope, after)?;
+            let two = bounds_of(decls, miss, scope, after + one.nodes)?;
             greater_of(decimals, found.nodes, one, two, node)
         }
-        Code::Cut { body, .. } => {
-            let part = bounds_of(alloc, decls, body, scope, node + 1)?;
+        PlainCode::Cut { body } => {
+            let part = bounds_of(decls, body, scope, node + 1)?;
             checked_part(decimals, 0, part, node)
         }
     }
@@ -162,18 +128,16 @@ fn bounds_of(
 
 /// The total of code whose sorts and scales are right, in units of its scale, where the rule on bounds holds everywhere in it.
 /// Where it fails, the answer has the first node at fault, in the order in which the rules of acceptance try nodes.
-pub fn bounds(alloc: Global, decls: &Decls, _setting: &Setting, k: &Code) -> Result<i128, CheckErr>
-    requires small { nodes_of_code (payoff_code k.now) < 2 ^ 32 }
-    requires sorted { MeetsInCode (declarations decls.now) _setting.now.days.items Rule.Sort (payoff_code k.now) }
-    requires scaled { MeetsInCode (declarations decls.now) _setting.now.days.items Rule.Scale (payoff_code k.now) }
-    ensures { IsCodeVerdict (declarations decls.now) _setting.now.days.items Rule.Bound (payoff_code k.now) IsTotalOf result }
+pub fn bounds(decls: &Decls, k: &PlainCode) -> Result<i128, CheckErr>
+    requires small { nodes_of_undated (undated_code k.now) < 2 ^ 32 }
+    requires scaled { AreValuesScaled (declarations decls.now) (undated_code k.now) [] }
+    ensures { IsPlainVerdict (declarations decls.now) Rule.Bound (undated_code k.now) IsTotalOf result }
 {
-    match bounds_of(alloc, decls, k, &Scope::Empty, 0) {
+    match bounds_of(decls, k, &Scope::Empty, 0) {
         Ok(found) => Ok(found.amount as i128),
-        Err(Fault::At { node }) => Err(CheckErr::Refused {
+        Err(node) => Err(CheckErr::Refused {
             rule: Rule::Bound,
             node,
         }),
-        Err(Fault::NoMemory) => Err(CheckErr::NoMemory),
     }
 }

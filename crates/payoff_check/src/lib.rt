@@ -1,6 +1,6 @@
 //! Which payoff code is accepted at a setting: the rules on sorts, scales, sizes and bounds, in this order.
 //! For value expressions the first two and the last are the rules of contracts, tried on the plain
-//! expression.
+//! expression. Plain expressions are made once, before the first rule.
 //!
 //! ```text
 //! let facts = check_code(alloc, &file, &setting)?; // its scale and its total
@@ -14,9 +14,9 @@
 mod bound_rule;
 mod checks;
 mod days;
-mod faults;
 mod laws;
 mod part_sizes;
+mod plain_code;
 mod plains;
 mod scale_rule;
 mod size_rule;

@@ -5,11 +5,9 @@ ghost use Rattle.std.specs.Prelude.{◌≡◌, ◌≤◌, ◌<◌, ◌+◌, ◌-
 ghost use Rattle.term_core.specs.Limits.{greatest_mantissa};
 ghost use Rattle.interval_check.specs.Intervals.{interval};
 ghost use Rattle.interval_check.specs.Ranges.{IsFit, range};
-ghost use Rattle.payoff_check.specs.Trials.{Tells};
 ghost use Rattle.payoff_check.specs.BoundTrials.{IsFitting, at_decimals, total_here, of_sum, of_product, of_branches, ranged};
 
 use crate::bound_rule::Ranged;
-use crate::faults::Fault;
 use decimal::pow10;
 use interval_check::greatest_size_in;
 
@@ -53,9 +51,9 @@ fn is_small_at(decimals: u8, of: CodeTotal) -> bool
 }
 
 /// A total that fits, else a fault at its node.
-pub fn checked(decimals: u8, of: CodeTotal, node: u32) -> Result<CodeTotal, Fault>
+pub fn checked(decimals: u8, of: CodeTotal, node: u32) -> Result<CodeTotal, u32>
     requires { decimals ≤ 21 }
-    ensures total { Tells result (total_here decimals of node) }
+    ensures total { result ≡ total_here decimals of node }
     ensures nodes { IfOk result (λ t. t.nodes ≡ of.nodes) }
     ensures fits { IfOk result (λ t. IsFitting decimals t) }
 {
@@ -63,25 +61,20 @@ pub fn checked(decimals: u8, of: CodeTotal, node: u32) -> Result<CodeTotal, Faul
         if of.amount <= GREATEST && is_small_at(decimals, of) {
             Ok(of)
         } else {
-            Err(Fault::At { node })
+            Err(node)
         }
     } else {
-        Err(Fault::At { node })
+        Err(node)
     }
 }
 
 /// The total of two parts together.
-pub fn sum_of(
-    decimals: u8,
-    left: CodeTotal,
-    right: CodeTotal,
-    node: u32,
-) -> Result<CodeTotal, Fault>
+pub fn sum_of(decimals: u8, left: CodeTotal, right: CodeTotal, node: u32) -> Result<CodeTotal, u32>
     requires decimals { decimals ≤ 21 }
     requires left { IsFitting decimals left }
     requires right { IsFitting decimals right }
     requires nodes { left.nodes + right.nodes + 1 < 2 ^ 32 }
-    ensures total { Tells result (total_here decimals (of_sum left right) node) }
+    ensures total { result ≡ total_here decimals (of_sum left right) node }
     ensures nodes { IfOk result (λ t. t.nodes ≡ left.nodes + right.nodes + 1) }
     ensures fits { IfOk result (λ t. IsFitting decimals t) }
 {
@@ -101,12 +94,12 @@ pub fn greater_of(
     hit: CodeTotal,
     miss: CodeTotal,
     node: u32,
-) -> Result<CodeTotal, Fault>
+) -> Result<CodeTotal, u32>
     requires decimals { decimals ≤ 21 }
     requires hit { IsFitting decimals hit }
     requires miss { IsFitting decimals miss }
     requires nodes { count + hit.nodes + miss.nodes + 1 < 2 ^ 32 }
-    ensures total { Tells result (total_here decimals (of_branches count hit miss) node) }
+    ensures total { result ≡ total_here decimals (of_branches count hit miss) node }
     ensures nodes { IfOk result (λ t. t.nodes ≡ count + hit.nodes + miss.nodes + 1) }
     ensures fits { IfOk result (λ t. IsFitting decimals t) }
 {
@@ -125,12 +118,12 @@ pub fn product_of(
     factor: Ranged,
     body: CodeTotal,
     node: u32,
-) -> Result<CodeTotal, Fault>
+) -> Result<CodeTotal, u32>
     requires decimals { decimals ≤ 21 }
     requires factor { IsFit (range factor.range) }
     requires body { IsFitting decimals body }
     requires nodes { factor.nodes + body.nodes + 1 < 2 ^ 32 }
-    ensures total { Tells result (total_here decimals (of_product (ranged factor) body) node) }
+    ensures total { result ≡ total_here decimals (of_product (ranged factor) body) node }
     ensures nodes { IfOk result (λ t. t.nodes ≡ factor.nodes + body.nodes + 1) }
     ensures fits { IfOk result (λ t. IsFitting decimals t) }
 {
@@ -149,6 +142,6 @@ pub fn product_of(
             },
             node,
         ),
-        None => Err(Fault::At { node }),
+        None => Err(node),
     }
 }
