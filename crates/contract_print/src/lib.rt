@@ -7,6 +7,8 @@
 //!
 //! Promised: `print_portfolio` appends exactly that text (`AppendsBook`), or nothing; it reads back
 //! (`laws::canon_is_text`).
+//! A caller without a portfolio in memory makes the same text by `print_beginning` (`AppendsBeginning`), and then
+//! `print_contract` for each contract (`proofs/LineByLine.antt`).
 //! Only tested: that it is printed where there is memory (rows of `library_rows`).
 #![tactic(auto)]
 
@@ -22,4 +24,4 @@ pub use contrs::{append_asset_name, append_label_name, append_name, append_templ
 pub use decls::{append_decls, origin_date, print_decls};
 pub use exprs::{Leaf, append_expr};
 pub use pieces::{append, append_bound_name};
-pub use portfolio::print_portfolio;
+pub use portfolio::{print_beginning, print_contract, print_portfolio};
