@@ -1,48 +1,71 @@
--- One more comment, one more contract that is left, and the parts of `advance` put together.
-use Rattle.std.proofs.Common.{◌≡◌, ◌∙◌, ◌≤◌, ◌-◌, ◌&&◌, ℕ, ℤ, pos, Bool, true, false, List, [], ◌∷◌, ◌++◌, append_assoc, ap, arith, refl, subst, sym}
-use Rattle.std.specs.Prelude.{Option, None, Result, Ok, Err, codes, not}
+-- One more comment, one more contract that is due and left, and the parts of `advance` put together.
+use Rattle.std.proofs.Common.{◌≡◌, ◌∙◌, ◌≤◌, ◌-◌, inl, inr, ℕ, ℤ, pos, true, false, List, [], ◌∷◌, ◌++◌, append_assoc, ap, arith, map, refl, subst, sym}
+use Rattle.std.specs.Prelude.{Option, None, Some, OnOk, Result, Ok, Err, codes, is_some}
+use Rattle.std.specs.Global.{Vec}
 use Rattle.std.specs.Map.{keys_of}
 use Rattle.std.proofs.lemmas.Int.{ints}
-use Rattle.std.proofs.lemmas.List.{append-nil, map-append}
-use Rattle.std.proofs.lemmas.List.Elements.{All-cons, All-nil}
+use Rattle.std.proofs.lemmas.List.{map-append}
+use Rattle.std.proofs.lemmas.List.Elements.{All-nil}
 use Rattle.term_core.specs.declared.name.Name.{Name}
-use Rattle.term_core.specs.declared.terms.Contr.{Contr}
-use Rattle.term_core.specs.declared.decls.Decls.{Decls}
-use Rattle.term_core.specs.Books.{Book, book}
+use Rattle.term_core.specs.Acceptance.{IsAccepted}
+use Rattle.term_core.specs.Books.{Book}
 use Rattle.term_core.specs.Declarations.{Declarations, declarations}
 use Rattle.term_core.specs.Environments.{Environment}
 use Rattle.term_core.specs.Terms.{Contract, contract}
-use Rattle.contract_parse.specs.Names.{is_declared}
-use Rattle.contract_parse.specs.NameTexts.{is_name_text}
-use Rattle.contract_print.specs.Spellable.{are_new}
-use Rattle.contract_parse.proofs.LineFacts.{keys_added}
+use Rattle.contract_parse.specs.Names.{declared_by}
+use Rattle.contract_parse.specs.declared.next_contracts.NextContract.{NextContract}
+use Rattle.contract_print.specs.Canon.{AppendsBeginning, IsBeginning, IsCanon, contract_text}
+use Rattle.contract_print.proofs.LineByLine.{begun_is_canon, one_more_canon}
 use Rattle.flow_eval.specs.FlowAnswers.{AreFlows, AreKnownFlows}
 use Rattle.flow_eval.specs.declared.faults.FlowErr.{FlowErr}
 use Rattle.flow_eval.specs.declared.faults.FlowErr.TheVariants as flow
 use Rattle.flow_eval.specs.declared.flow_table.FlowRow.{FlowRow}
 use Rattle.flow_eval.specs.declared.flow_table.FlowTable.{FlowTable}
 use Rattle.advance_step.specs.Advancing.{Advances, IsResidual, day_before}
+use Rattle.advance_step.specs.declared.advancing.Advanced.{Advanced}
 use Rattle.report.specs.FlowLines.{AppendsFlowLine, IsFlowLine}
+use Rattle.report.specs.declared.fault_lines.Fault.{Fault}
 use Rattle.command_words.specs.Commands.{AdvanceAsked}
-use Rattle.command_answers.specs.AdvanceCourse.{to_a_day}
-use Rattle.command_answers.specs.AdvanceParts.{AnswersRests, AppendsComments, AppendsRest, AppendsRests, IsCarried, IsRestText}
-use Rattle.command_answers.specs.AdvancePromise.{AreComments, AreDueLines, AreResiduals, IsAdvancedWith, IsNewDay, commented, last_gone, rest_declarations}
+use Rattle.command_answers.specs.AdvanceCourse.{advance_on}
+use Rattle.command_answers.specs.AdvanceParts.{AddsRest, AppendsComments, AreLeft, HasRests, IsCarriedOne, IsCarriedText, IsLeftText, IsMissingTo}
+use Rattle.command_answers.specs.AdvanceParts.{StopsCarry, advance_of_text, changed, changed_book, declared_to, every, rest_line}
+use Rattle.command_answers.specs.AdvancePromise.{AreComments, AreDueLines, AreResiduals, IsAdvanced, IsAdvancedWith, IsDueText, IsNewDay}
+use Rattle.command_answers.specs.AdvancePromise.{commented, greatest_new_day, last_gone, rest_declarations}
 use Rattle.command_answers.specs.CheckPromise.{AreAllAccepted}
-use Rattle.command_answers.specs.Course.{Tells, tells}
-use Rattle.command_answers.specs.FlowsParts.{IsMissingOne, IsStopOf}
-use Rattle.command_answers.specs.FlowsPromise.{AreFixings}
+use Rattle.command_answers.specs.ChoosingParts.{Chooses, Holds, IsPassed, IsUsed, IsWalkedThrough, Meets, Selection, StopsByName, StopsIn, StopsOn}
+use Rattle.command_answers.specs.ChoosingParts.{selection, so_far}
+use Rattle.command_answers.specs.Course.{Stops, Tells}
+use Rattle.command_answers.specs.FlowsParts.{HoldsFixings, IsMissingOne, IsStopOf}
+use Rattle.command_answers.specs.FlowsPromise.{AreAllFixed}
+use Rattle.command_answers.specs.Stages.{IsRefusedOf, IsRowFault, IsWordFault, all_accepted, all_fixed}
 use Rattle.command_answers.specs.Stopping.{AnswersBy}
-use Rattle.command_answers.specs.UsedContracts.{used}
-use Rattle.command_answers.specs.declared.advance_text.Carried.{Carried}
+use Rattle.command_answers.specs.UsedContracts.{at_defaults, used}
+use Rattle.command_answers.specs.UsedParts.{IsTriable}
+use Rattle.command_answers.specs.declared.advance_to.AdvanceTo.{AdvanceTo}
+use Rattle.command_answers.specs.declared.advance_text.KeptRest.{KeptRest}
 use Rattle.command_answers.specs.declared.advance_text.Left.{Left}
+use Rattle.command_answers.specs.declared.advance_to.Renaming.{Renaming}
+use Rattle.command_answers.specs.declared.choice.Choice.{Choice}
+use Rattle.command_answers.specs.declared.choosing.Tried.{Tried}
 use Rattle.command_answers.specs.declared.status.Status.TheVariants as status
 use Rattle.command_answers.specs.declared.stop.Stop.{Stop}
 use Rattle.command_answers.specs.declared.stop.Stop.TheVariants as stop
-use Rattle.command_answers.proofs.LineFacts.{missing_behind, none_and, some_and, without_flows}
+use Rattle.command_answers.proofs.ChoosingFacts.{none_held, some_held}
 use Rattle.command_answers.proofs.FlowsAreOne.{IsFixedEntry}
-use Rattle.command_answers.proofs.StopFacts.{by_stop}
+use Rattle.command_answers.proofs.KeptFlowsFacts.{fixed_before, fixed_more, missing_behind_held, missing_held_now}
+use Rattle.command_answers.proofs.LineFacts.{none_and, some_and, without_flows}
+use Rattle.command_answers.proofs.StopFacts.{answers_too, by_stop}
 use Rattle.command_answers.proofs.UsedFacts.{used_of}
-use Rattle.contract_parse.specs.ContractReading.{trees}
+
+-- ---- what a call answers where it is done
+
+pub on_ok : {A E : Type 0} (X Z : Type 0) (r : Result A E) → OnOk r X → (X → Z) → OnOk r Z
+on_ok X Z (Ok a) x f = f x
+on_ok X Z (Err e) x f = tt
+
+pub on_ok_both : {A E : Type 0} (X Y Z : Type 0) (r : Result A E) → OnOk r X → OnOk r Y → (X → Y → Z) → OnOk r Z
+on_ok_both X Y Z (Ok a) x y f = f x y
+on_ok_both X Y Z (Err e) x y f = tt
 
 -- ---- one more comment
 
@@ -61,43 +84,6 @@ appends_comment d name rows row before middle marked after some mark more = reco
       ∙ append_assoc before some.text (commented more.line);
 }
 
--- ---- names
-
--- of names that are new, the first is, and the others are behind it
-pub new_first : (word there others : Bool) → ((word && not there) && others) ≡ true → (there ≡ false) × (others ≡ true)
-new_first true false true h = (refl, refl)
-new_first true false false h = absurd cc
-new_first true true others h = absurd cc
-new_first false there others h = absurd cc
-
-pub first_is_new : (before names : List (List ℕ)) (name : List ℕ) → are_new before (name ∷ names) ≡ true → (is_declared before name ≡ false) × (are_new (before ++ name ∷ []) names ≡ true)
-first_is_new before names name h = new_first (is_name_text name) (is_declared before name) (are_new (before ++ name ∷ []) names) h
-
-pub keys_of_trees : (entries : List (Name × Contr)) → keys_of (trees entries) ≡ keys_of entries
-keys_of_trees [] = refl
-keys_of_trees (e ∷ es) = ap (λ (names : List Name). e.0 ∷ names) (keys_of_trees es)
-
--- the contracts that are used have the names of the portfolio's
-pub used_names : (d : Declarations) (entries : List (Name × Contract)) → keys_of (used_of None d entries) ≡ keys_of entries
-used_names d [] = refl
-used_names d (e ∷ es) = ap (λ (names : List Name). e.0 ∷ names) (used_names d es)
-
--- what is left has the names of the contracts
-pub left_names : (d : Declarations) (fixings : Environment) (day : ℕ) (entries rest : List (Name × Contract)) → AreResiduals d fixings day entries rest → keys_of rest ≡ keys_of entries
-left_names d fixings day [] [] is = refl
-left_names d fixings day (entry ∷ entries) (left ∷ rest) is =
-    ap (λ (n : Name). n ∷ keys_of rest) is.0 ∙ ap (λ (names : List Name). entry.0 ∷ names) (left_names d fixings day entries rest is.2)
-left_names d fixings day _ _ is = absurd is
-
--- behind a contract that is put behind others, the other names are new
-pub names_behind : (before after : List (Name × Contract)) (names : List Name) (name : Name) (c : Contract) → after ≡ before ++ (name, c) ∷ [] → are_new (keys_of before) (name ∷ names) ≡ true → are_new (keys_of after) names ≡ true
-names_behind before after names name c is new =
-    subst (λ (ns : List Name). are_new ns names ≡ true) (sym (ap keys_of is ∙ keys_added before name c)) (first_is_new (keys_of before) names name new).1
-
-pub trees_more : (entries after : List (Name × Contr)) (name : Name) (c : Contr) → after ≡ entries ++ (name, c) ∷ [] → trees after ≡ trees entries ++ (name, contract c) ∷ []
-trees_more entries after name c is =
-    ap (λ (es : List (Name × Contr)). trees es) is ∙ map-append (λ (entry : Name × Contr). (entry.0, contract entry.1)) entries ((name, c) ∷ [])
-
 -- ---- the days gone by
 
 -- the last of them, from the start and by the new day
@@ -111,89 +97,304 @@ as_flows d c fixings first days flow.NoMemory h = tt
 
 -- ---- one contract
 
-module _ (d : Declarations) (fixings : Environment) (day days : ℕ) (entry : Name × Contract) (c : Contract) (low : d.start ≤ day) (count : days ≡ day - d.start) (tree : c ≡ entry.1) where
-  gone : day_before (pos d.start) days ≡ last_gone day
-  gone = ap (day_before (pos d.start)) count ∙ gone_is d.start day low
+module _ (to : AdvanceTo) (c : Contract) where
+  gone : day_before (pos (declared_to to).start) (to.day - (declared_to to).start) ≡ last_gone to.day
+  gone = gone_is (declared_to to).start to.day to.first
 
-  pub known_due : (rows : List FlowRow) → AreKnownFlows d c fixings (pos d.start) (day_before (pos d.start) days) rows → AreKnownFlows d entry.1 fixings (pos d.start) (last_gone day) rows
-  known_due rows known =
-      subst (λ (x : ℤ). AreKnownFlows d entry.1 fixings (pos d.start) x rows) gone
-      (subst (λ (x : Contract). AreKnownFlows d x fixings (pos d.start) (day_before (pos d.start) days) rows) tree known)
-
-  pub appends_rest : (rows : List FlowRow) (rest : Contr) (before after : Left) → AreKnownFlows d c fixings (pos d.start) (day_before (pos d.start) days) rows → IsResidual d fixings (pos d.start) days c (contract rest)
-      → AppendsComments d entry.0 rows before.due.items after.due.items → after.contracts.entries ≡ before.contracts.entries ++ (entry.0, rest) ∷ [] → AppendsRest d fixings day entry before after
-  appends_rest rows rest before after known residual comments kept = record {
-    rows = rows;
-    flows = known_due rows known;
-    comments = comments;
-    rest = contract rest;
-    residual = subst (λ (n : ℕ). IsResidual d fixings (pos d.start) n entry.1 (contract rest)) count (subst (λ (x : Contract). IsResidual d fixings (pos d.start) days x (contract rest)) tree residual);
-    kept = trees_more before.contracts.entries after.contracts.entries entry.0 rest kept;
+  pub carried_one : (answer : Advanced) → Advances (declared_to to) c to.fixings.now (pos (declared_to to).start) (to.day - (declared_to to).start) (Ok answer) → IsCarriedOne to c answer
+  carried_one answer told = record {
+    flows = subst (λ (x : ℤ). AreKnownFlows (declared_to to) c to.fixings.now (pos (declared_to to).start) x answer.due.rows.items) gone told.0;
+    residual = told.1;
   }
 
-  pub no_rest : (Good : Unit {0} → Type 0) (e : FlowErr) (s : Stop) → Advances d c fixings (pos d.start) days (Err e) → IsStopOf d e s → AnswersBy Good (IsMissingOne d fixings (last_gone day) entry.1) (Err s)
-  no_rest Good e s told stops =
-      let lacks = as_flows d c fixings (pos d.start) days e told in
-      let here = subst (λ (x : Contract). AreFlows d x fixings (pos d.start) (day_before (pos d.start) days) (Err e)) tree lacks in
-      let there = subst (λ (x : ℤ). AreFlows d entry.1 fixings (pos d.start) x (Err e)) gone here in
-      by_stop (λ (table : FlowTable). AreKnownFlows d entry.1 fixings (pos d.start) (last_gone day) table.rows.items) Good (IsMissingOne d fixings (last_gone day) entry.1) (IsMissingOne d fixings (last_gone day) entry.1) (λ f h. h) s
-      (without_flows d fixings (last_gone day) entry.1 e s there stops)
+  pub not_carried : (e : FlowErr) (s : Stop) → Advances (declared_to to) c to.fixings.now (pos (declared_to to).start) (to.day - (declared_to to).start) (Err e) → IsStopOf (declared_to to) e s
+      → AnswersBy (IsCarriedOne to c) (IsMissingOne (declared_to to) to.fixings.now (last_gone to.day) c) (Err s)
+  not_carried e s told stops =
+      let lacks = as_flows (declared_to to) c to.fixings.now (pos (declared_to to).start) (to.day - (declared_to to).start) e told in
+      let there = subst (λ (x : ℤ). AreFlows (declared_to to) c to.fixings.now (pos (declared_to to).start) x (Err e)) gone lacks in
+      by_stop (λ (table : FlowTable). AreKnownFlows (declared_to to) c to.fixings.now (pos (declared_to to).start) (last_gone to.day) table.rows.items) (IsCarriedOne to c)
+      (IsMissingOne (declared_to to) to.fixings.now (last_gone to.day) c) (IsMissingOne (declared_to to) to.fixings.now (last_gone to.day) c) (λ f h. h) s
+      (without_flows (declared_to to) to.fixings.now (last_gone to.day) c e s there stops)
 
--- ---- one more contract that is left
+-- ---- one more contract
 
-module _ (d : Declarations) (fixings : Environment) (day : ℕ) where
-  pub rest_behind : (entry : Name × Contract) (entries : List (Name × Contract)) (before middle : Left) (r : Result Left Stop) → AppendsRest d fixings day entry before middle → AnswersRests d fixings day entries middle.due.items (trees middle.contracts.entries) r → AnswersRests d fixings day (entry ∷ entries) before.due.items (trees before.contracts.entries) r
-  rest_behind entry entries before middle (Ok left) one more = record {
-    fixed = All-cons (IsFixedEntry d fixings (last_gone day)) entry entries one.flows.fixed more.fixed;
-    text = one.comments.text ++ more.text;
-    lines = (one.comments.text, more.text, record { rows = one.rows; flows = one.flows; comments = one.comments.comments }, more.lines, refl);
-    due_is = more.due_is ∙ ap (λ (t : List ℕ). t ++ more.text) one.comments.appended ∙ append_assoc before.due.items one.comments.text more.text;
-    rest = (entry.0, one.rest) ∷ more.rest;
-    residuals = (refl, one.residual, more.residuals);
-    kept = more.kept ∙ ap (λ (es : List (Name × Contract)). es ++ more.rest) one.kept ∙ append_assoc (trees before.contracts.entries) ((entry.0, one.rest) ∷ []) more.rest;
+module _ (d : Declarations) (fixings : Environment) where
+  due_more : (last : ℤ) (entries : List (Name × Contract)) (entry : Name × Contract) (text lines : List ℕ) → AreDueLines d fixings last entries text
+      → IsDueText d fixings last entry.0 entry.1 lines → AreDueLines d fixings last (entries ++ entry ∷ []) (text ++ lines)
+  due_more last [] entry text lines none are = (lines, [], are, refl, none_and text lines none)
+  due_more last (e ∷ es) entry text lines some are =
+      (some.0, some.1 ++ lines, some.2, due_more last es entry some.1 lines some.3 are, some_and text some.0 some.1 lines some.4)
+
+  residuals_more : (day : ℕ) (entries rest : List (Name × Contract)) (entry : Name × Contract) (left : Contract) → AreResiduals d fixings day entries rest
+      → IsResidual d fixings (pos d.start) (day - d.start) entry.1 left → AreResiduals d fixings day (entries ++ entry ∷ []) (rest ++ (entry.0, left) ∷ [])
+  residuals_more day [] [] entry left none is = (refl, is, tt)
+  residuals_more day [] (r ∷ rs) entry left none is = absurd none
+  residuals_more day (e ∷ es) [] entry left some is = absurd some
+  residuals_more day (e ∷ es) (r ∷ rs) entry left some is = (some.0, some.1, residuals_more day es rs entry left some.2 is)
+
+changed_name : (renaming : Option Renaming) (entry : Name × Contract) → (changed renaming entry).0 ≡ entry.0
+changed_name None entry = refl
+changed_name (Some r) entry = refl
+
+module _ (to : AdvanceTo) where
+  canon_more : (rest : List (Name × Contract)) (entry : Name × Contract) (text : List ℕ) → IsCanon text (so_far (rest_declarations (declared_to to) to.day) (map (changed to.renaming) rest))
+      → IsCanon (text ++ rest_line to entry) (so_far (rest_declarations (declared_to to) to.day) (map (changed to.renaming) (rest ++ entry ∷ [])))
+  canon_more rest entry text canon =
+      let one = changed to.renaming entry in
+      let more = one_more_canon (rest_declarations (declared_to to) to.day) (map (changed to.renaming) rest) one text canon in
+      let named = subst (λ (name : List ℕ). IsCanon (text ++ contract_text (declared_by (declared_to to) []) name one.1) (so_far (rest_declarations (declared_to to) to.day) (map (changed to.renaming) rest ++ one ∷ []))) (changed_name to.renaming entry) more in
+      subst (λ (es : List (Name × Contract)). IsCanon (text ++ rest_line to entry) (so_far (rest_declarations (declared_to to) to.day) es)) (sym (map-append (changed to.renaming) rest (entry ∷ []))) named
+
+  left_more : (entries : List (Name × Contract)) (entry : Name × Contract) (answer : Advanced) (before after : Left) → AreLeft to before entries → IsCarriedOne to entry.1 answer
+      → AppendsComments (declared_to to) entry.0 answer.due.rows.items before.due.items after.due.items
+      → after.rest.items ≡ before.rest.items ++ rest_line to (entry.0, contract answer.rest) → AreLeft to after (entries ++ entry ∷ [])
+  left_more entries entry answer before after h one comments line = record {
+    due = subst (λ (t : List ℕ). AreDueLines (declared_to to) to.fixings.now (last_gone to.day) (entries ++ entry ∷ []) t) (sym comments.appended)
+        (due_more (declared_to to) to.fixings.now (last_gone to.day) entries entry before.due.items comments.text h.due
+        (record { rows = answer.due.rows.items; flows = one.flows; comments = comments.comments }));
+    rest = h.rest ++ (entry.0, contract answer.rest) ∷ [];
+    residuals = residuals_more (declared_to to) to.fixings.now to.day entries h.rest entry (contract answer.rest) h.residuals one.residual;
+    canon = subst (λ (t : List ℕ). IsCanon t (so_far (rest_declarations (declared_to to) to.day) (map (changed to.renaming) (h.rest ++ (entry.0, contract answer.rest) ∷ [])))) (sym line)
+        (canon_more h.rest (entry.0, contract answer.rest) before.rest.items h.canon);
   }
-  rest_behind entry entries before middle (Err (stop.Fault f)) one more = missing_behind d fixings (last_gone day) entry entries f one.flows.fixed more
-  rest_behind entry entries before middle (Err stop.NoMemory) one more = tt
 
-  pub rests_of_none : (left : Left) → AnswersRests d fixings day [] left.due.items (trees left.contracts.entries) (Ok left)
-  rests_of_none left = record {
-    fixed = All-nil (IsFixedEntry d fixings (last_gone day));
-    text = [];
-    lines = refl;
-    due_is = sym (append-nil left.due.items);
-    rest = [];
-    residuals = tt;
-    kept = sym (append-nil (trees left.contracts.entries));
+  -- before the first contract
+  pub none_left : (left : Left) (declared : Declarations) (old : List ℕ) → left.due.items ≡ [] → declared ≡ rest_declarations (declared_to to) to.day → old ≡ []
+      → AppendsBeginning declared old left.rest.items → AreLeft to left []
+  none_left left declared old due same none begun =
+      let text : left.rest.items ≡ begun.text = begun.appended ∙ ap (λ (t : List ℕ). t ++ begun.text) none in
+      let is : IsBeginning left.rest.items (rest_declarations (declared_to to) to.day) = subst (λ (x : Declarations). IsBeginning left.rest.items x) same (subst (λ (t : List ℕ). IsBeginning t declared) (sym text) begun.is_beginning) in
+      record { due = due; rest = []; residuals = tt; canon = begun_is_canon (rest_declarations (declared_to to) to.day) left.rest.items is }
+
+  pub none_kept : (kept : KeptRest) → kept.missing ≡ None → AreLeft to kept.left [] → HasRests to kept []
+  none_kept kept none left = record {
+    fixed = subst (λ (r : Option Fault). Holds (all_fixed (declared_to to) to.fixings.now (last_gone to.day) []) r) (sym none) (All-nil (IsFixedEntry (declared_to to) to.fixings.now (last_gone to.day)));
+    left = λ _. left;
   }
 
--- ---- the parts put together
-
-module _ (b : Book) (asked : AdvanceAsked) (table : Option (List ℕ)) where
-  -- where nothing stops on the way, what is due and what is left of the contracts that are used is the portfolio carried to the day
-  pub is_carried : (day : ℕ) (fixings : Environment) (left : Left) (decls : Decls) → IsNewDay b.declarations asked.to day → AreAllAccepted b.declarations (used None b) → AreFixings b.declarations table fixings
-      → AppendsRests b.declarations fixings day (used None b) [] [] left → declarations decls ≡ rest_declarations b.declarations day
-      → IsCarried b asked table (record { due = left.due; rest = record { decls = decls; contracts = left.contracts } })
-  is_carried day fixings left decls is_day accepted are_fixings h same = record {
-    day = day;
-    fixings = fixings;
-    can = record { is_day = is_day; accepted = accepted; are_fixings = are_fixings; fixed = h.fixed };
-    are_due = subst (λ (t : List ℕ). AreDueLines b.declarations fixings (last_gone day) (used None b) t) (sym h.due_is) h.lines;
-    is_rest = record { declarations = same; contracts = subst (λ (es : List (Name × Contract)). AreResiduals b.declarations fixings day (used None b) es) (sym h.kept) h.residuals };
-  }
-
-  module _ (carried : Carried) (is : IsCarried b asked table carried) where
-    -- its text, with a change
-    pub is_advanced : (change : Book → Book) (text : List ℕ) → IsRestText (change (book carried.rest)) carried.due.items text → IsAdvancedWith change b is.day is.fixings text
-    is_advanced change text k = record {
-      due = carried.due.items;
-      are_due = is.are_due;
-      rest = book carried.rest;
-      is_rest = is.is_rest;
-      canon = k.canon;
-      is_canon = k.is_canon;
-      is = k.is;
+  module _ (entry : Name × Contract) (before : KeptRest) where
+    -- where a read of those before it is not fixed
+    pub rest_still : is_some before.missing ≡ true → AddsRest to entry before before
+    rest_still some = λ entries h. record {
+      fixed = missing_behind_held (declared_to to) to.fixings.now (last_gone to.day) before.missing entries entry some h.fixed;
+      left = λ none. absurd (some_held before.missing some none);
     }
 
-    -- the command tells it
-    pub tells_on_day : (IsText : ℕ → Environment → List ℕ → Type 0) (text : List ℕ) → IsText is.day is.fixings text → Tells (to_a_day asked.to b table (λ day fixings. tells (IsText day fixings))) status.Done text
-    tells_on_day IsText text told = (is.day, is.can.is_day, (tt, is.can.accepted, (is.fixings, is.can.are_fixings, (tt, is.can.fixed, (refl, told)))))
+    -- where one of its own is the first that is not
+    pub rest_stops : (f : Fault) → is_some before.missing ≡ false → IsMissingOne (declared_to to) to.fixings.now (last_gone to.day) entry.1 f
+        → AddsRest to entry before (record { left = before.left; missing = Some f })
+    rest_stops f none one = λ entries h. record {
+      fixed = missing_held_now (declared_to to) to.fixings.now (last_gone to.day) before.missing entries entry f (none_held before.missing none) one h.fixed;
+      left = λ empty. (let k : Some f ≡ None = empty in cc);
+    }
+
+    -- where each is fixed
+    pub rest_on : (answer : Advanced) (left : Left) → is_some before.missing ≡ false → IsCarriedOne to entry.1 answer
+        → AppendsComments (declared_to to) entry.0 answer.due.rows.items before.left.due.items left.due.items
+        → left.rest.items ≡ before.left.rest.items ++ rest_line to (entry.0, contract answer.rest)
+        → AddsRest to entry before (record { left = left; missing = before.missing })
+    rest_on answer left none one comments line =
+        let empty = none_held before.missing none in
+        λ entries h. record {
+          fixed = fixed_more (declared_to to) to.fixings.now (last_gone to.day) before.missing entries entry empty one.flows.fixed h.fixed;
+          left = λ _. left_more entries entry answer before.left left (h.left empty) one comments line;
+        }
+
+-- ---- a contract that is chosen
+
+module _ (d : Declarations) (s : Selection) (entry : Name × Contract) (before after : Tried) (one : NextContract) where
+  used_one : Meets d s entry before after (Some one) → IsUsed d (at_defaults d entry) before.refused after.refused one
+  used_one (Meets.passed out is same) = absurd cc
+  used_one (Meets.asked here u) = u
+
+  pub chosen_accepted : Chooses d s entry before after (Some one) → IsAccepted d (contract one.contr)
+  chosen_accepted chosen =
+      let u = used_one chosen.meets in
+      subst (λ (e : Name × Contract). IsAccepted d e.1) (sym u.is) u.accepted
+
+  pub chosen_one : (o : Option NextContract) → o ≡ Some one → Chooses d s entry before after o → Chooses d s entry before after (Some one)
+  chosen_one o is h = subst (λ (x : Option NextContract). Chooses d s entry before after x) is h
+
+  pub chosen_triable : Chooses d s entry before after (Some one) → IsTriable d (contract one.contr)
+  chosen_triable chosen =
+      let u = used_one chosen.meets in
+      subst (λ (e : Name × Contract). IsTriable d e.1) (sym u.is) u.triable
+
+pub chosen_none : (d : Declarations) (s : Selection) (entry : Name × Contract) (before after : Tried) (o : Option NextContract) → ((one : NextContract) → o ≡ Some one → ⊥)
+    → Chooses d s entry before after o → Chooses d s entry before after None
+chosen_none d s entry before after None none h = h
+chosen_none d s entry before after (Some one) none h = absurd (none one refl)
+
+-- ---- all contracts
+
+held_is : (d : Declarations) (fixings : Environment) (last : ℤ) (entries : List (Name × Contract)) (held : Option Fault) (f : Fault) → held ≡ Some f
+    → Holds (all_fixed d fixings last entries) held → (all_fixed d fixings last entries).FaultIs f
+held_is d fixings last entries held f is h = subst (λ (r : Option Fault). Holds (all_fixed d fixings last entries) r) is h
+
+module _ (text : List ℕ) (to : AdvanceTo) (tried : Tried) (kept : KeptRest)
+    (h : IsWalkedThrough text (declared_to to) (selection to.choice) (HasRests to kept) tried) where
+  abbrev b : Book
+  b = so_far (declared_to to) h.entries
+
+  first_missing : (f : Fault) → StopsOn b (selection to.choice) (λ (g : Fault). (tried.refused ≡ None) × (kept.missing ≡ Some g)) f → StopsOn b (selection to.choice) (IsMissingTo to b) f
+  first_missing f (StopsOn.unknown u) = StopsOn.unknown u
+  first_missing f (StopsOn.refused k r) = StopsOn.refused k r
+  first_missing f (StopsOn.then_stops k all is) =
+      StopsOn.then_stops k all (held_is (declared_to to) to.fixings.now (last_gone to.day) (used (selection to.choice).only b) kept.missing f is.1 (h.kept is.0).fixed)
+
+  pub stops_left : (f : Fault) → StopsOn b (selection to.choice) (λ (g : Fault). (tried.refused ≡ None) × (kept.missing ≡ Some g)) f → StopsIn text (declared_to to) (λ b. StopsOn b (selection to.choice) (IsMissingTo to b)) f
+  stops_left f k = inr (h.entries, h.is_text, first_missing f k)
+
+  pub is_left : (out : List ℕ) → IsPassed b (selection to.choice) tried kept.missing → out ≡ kept.left.due.items ++ kept.left.rest.items → IsLeftText text to out
+  is_left out pass is =
+      let rests = h.kept pass.accepted in
+      record {
+        entries = h.entries;
+        is_text = h.is_text;
+        passes = record {
+          known = pass.known;
+          accepted = subst (λ (r : Option Fault). Holds (all_accepted (declared_to to) (used (selection to.choice).only b)) r) pass.accepted h.trial.refused;
+          fixed = fixed_before (declared_to to) to.fixings.now (last_gone to.day) kept.missing (used (selection to.choice).only b) pass.none rests.fixed;
+        };
+        left = kept.left;
+        are_left = rests.left pass.none;
+        is = is;
+      }
+
+-- ---- from the name on
+
+module _ (text : List ℕ) (choice : Choice) (asked : AdvanceAsked) (table : Option (List ℕ)) (all : (selection choice).only ≡ None) where
+  -- a word that names no day
+  no_day_stops : (own : Stop) (b : Book) (f : Fault) → AnswersBy (IsNewDay b.declarations asked.to) (IsWordFault b.declarations greatest_new_day asked.to) (Err own)
+      → StopsByName b (selection choice) (λ f. own ≡ stop.Fault f) f → StopsCarry (selection choice) asked table b f
+  no_day_stops own b f told (StopsByName.unknown u) = StopsByName.unknown u
+  no_day_stops own b f told (StopsByName.then_stops k is) =
+      StopsByName.then_stops k (inl (subst (λ (x : Stop). AnswersBy (IsNewDay b.declarations asked.to) (IsWordFault b.declarations greatest_new_day asked.to) (Err x)) is told))
+
+  pub stops_at_day : (own : Stop) (f : Fault) → AnswersBy (IsNewDay (declarations choice.decls.now) asked.to) (IsWordFault (declarations choice.decls.now) greatest_new_day asked.to) (Err own)
+      → StopsIn text (declarations choice.decls.now) (λ b. StopsByName b (selection choice) (λ f. own ≡ stop.Fault f)) f → StopsIn text (declarations choice.decls.now) (StopsCarry (selection choice) asked table) f
+  stops_at_day own f told (inl bad) = inl bad
+  stops_at_day own f told (inr h) = inr (h.0, h.1, no_day_stops own (so_far (declarations choice.decls.now) h.0) f told h.2)
+
+  module _ (day : ℕ) (is_day : IsNewDay (declarations choice.decls.now) asked.to day) where
+    all_used : (b : Book) → used (selection choice).only b ≡ used None b
+    all_used b = ap (λ (only : Option (List ℕ)). used only b) all
+
+    -- behind acceptance
+    on_stops : (Then : Fault → Type 0) (entries : List (Name × Contract)) (f : Fault)
+        → (AreAllAccepted (declarations choice.decls.now) (used None (so_far (declarations choice.decls.now) entries)) → Then f → Stops (advance_on asked (so_far (declarations choice.decls.now) entries) table) f)
+        → StopsOn (so_far (declarations choice.decls.now) entries) (selection choice) Then f → StopsCarry (selection choice) asked table (so_far (declarations choice.decls.now) entries) f
+    on_stops Then entries f pass (StopsOn.unknown u) = StopsByName.unknown u
+    on_stops Then entries f pass (StopsOn.refused k r) =
+        StopsByName.then_stops k (inr (day, is_day, inl (subst (λ (es : List (Name × Contract)). IsRefusedOf (declarations choice.decls.now) es f) (all_used (so_far (declarations choice.decls.now) entries)) r)))
+    on_stops Then entries f pass (StopsOn.then_stops k accepted own) =
+        StopsByName.then_stops k (pass (subst (λ (es : List (Name × Contract)). AreAllAccepted (declarations choice.decls.now) es) (all_used (so_far (declarations choice.decls.now) entries)) accepted) own)
+
+    pub stops_at_row : (f : Fault) → StopsIn text (declarations choice.decls.now) (λ b. StopsOn b (selection choice) (IsRowFault (declarations choice.decls.now) table 2)) f → StopsIn text (declarations choice.decls.now) (StopsCarry (selection choice) asked table) f
+    stops_at_row f (inl bad) = inl bad
+    stops_at_row f (inr h) =
+        inr (h.0, h.1, on_stops (IsRowFault (declarations choice.decls.now) table 2) h.0 f (λ accepted row. inr (day, is_day, inr (tt, accepted, inl row))) h.2)
+
+module _ (text : List ℕ) (to : AdvanceTo) (asked : AdvanceAsked) (table : Option (List ℕ)) (all : (selection to.choice).only ≡ None)
+    (is_day : IsNewDay (declared_to to) asked.to to.day) (are : HoldsFixings (declared_to to) table to.fixings.now) where
+  abbrev all_of : List (Name × Contract) → List (Name × Contract)
+  all_of entries = used None (so_far (declared_to to) entries)
+
+  used_all : (entries : List (Name × Contract)) → used (selection to.choice).only (so_far (declared_to to) entries) ≡ all_of entries
+  used_all entries = ap (λ (only : Option (List ℕ)). used only (so_far (declared_to to) entries)) all
+
+  pub stops_at_read : (f : Fault) → StopsIn text (declared_to to) (λ b. StopsOn b (selection to.choice) (IsMissingTo to b)) f → StopsIn text (declared_to to) (StopsCarry (selection to.choice) asked table) f
+  stops_at_read f (inl bad) = inl bad
+  stops_at_read f (inr h) =
+      let b = so_far (declared_to to) h.0 in
+      inr (
+        h.0,
+        h.1,
+        on_stops text to.choice asked table all to.day is_day (IsMissingTo to b) h.0 f
+            (λ accepted missing.
+            let m = subst (λ (es : List (Name × Contract)). (all_fixed (declared_to to) to.fixings.now (last_gone to.day) es).FaultIs f) (used_all h.0) missing in
+            inr (to.day, is_day, inr (tt, accepted, inr (to.fixings.now, are.are_fixings, inl m))))
+            h.2,
+      )
+
+  pub left_carried : (out : List ℕ) → IsLeftText text to out → IsCarriedText text to.choice to.renaming asked table out
+  left_carried out h =
+      let here = used_all h.entries in
+      let left = subst (λ (es : List (Name × Contract)). AreLeft to h.left es) here h.are_left in
+      record {
+        entries = h.entries;
+        is_text = h.is_text;
+        known = h.passes.known;
+        day = to.day;
+        fixings = to.fixings.now;
+        can = record {
+          is_day = is_day;
+          accepted = subst (λ (es : List (Name × Contract)). AreAllAccepted (declared_to to) es) here h.passes.accepted;
+          are_fixings = are.are_fixings;
+          fixed = subst (λ (es : List (Name × Contract)). AreAllFixed (declared_to to) to.fixings.now (last_gone to.day) es) here h.passes.fixed;
+        };
+        advanced = record {
+          due = h.left.due.items;
+          are_due = left.due;
+          rest = so_far (rest_declarations (declared_to to) to.day) left.rest;
+          is_rest = record { declarations = refl; contracts = left.residuals };
+          canon = h.left.rest.items;
+          is_canon = left.canon;
+          is = h.is;
+        };
+      }
+
+  pub carries : (r : Result (Vec ℕ) Stop)
+      → AnswersBy (λ out. IsLeftText text to out.items) (StopsIn text (declared_to to) (λ b. StopsOn b (selection to.choice) (IsMissingTo to b))) r
+      → AnswersBy (λ out. IsCarriedText text to.choice to.renaming asked table out.items) (StopsIn text (declared_to to) (StopsCarry (selection to.choice) asked table)) r
+  carries r h =
+      answers_too (λ (out : Vec ℕ). IsLeftText text to out.items) (λ (out : Vec ℕ). IsCarriedText text to.choice to.renaming asked table out.items)
+      (StopsIn text (declared_to to) (λ b. StopsOn b (selection to.choice) (IsMissingTo to b))) (StopsIn text (declared_to to) (StopsCarry (selection to.choice) asked table))
+      (λ out k. left_carried out.items k) stops_at_read r h
+
+-- ---- names
+
+-- the contracts that are used have the names of the portfolio's
+pub used_names : (d : Declarations) (entries : List (Name × Contract)) → keys_of (used_of None d entries) ≡ keys_of entries
+used_names d [] = refl
+used_names d (e ∷ es) = ap (λ (names : List Name). e.0 ∷ names) (used_names d es)
+
+-- what is left has the names of the contracts
+pub left_names : (d : Declarations) (fixings : Environment) (day : ℕ) (entries rest : List (Name × Contract)) → AreResiduals d fixings day entries rest → keys_of rest ≡ keys_of entries
+left_names d fixings day [] [] is = refl
+left_names d fixings day (entry ∷ entries) (left ∷ rest) is =
+    ap (λ (n : Name). n ∷ keys_of rest) is.0 ∙ ap (λ (names : List Name). entry.0 ∷ names) (left_names d fixings day entries rest is.2)
+left_names d fixings day _ _ is = absurd is
+
+-- ---- the course of `advance`
+
+unchanged : (entries : List (Name × Contract)) → map (changed None) entries ≡ entries
+unchanged [] = refl
+unchanged (e ∷ es) = ap (λ (rest : List (Name × Contract)). e ∷ rest) (unchanged es)
+
+as_it_is : (b : Book) (day : ℕ) (fixings : Environment) (out : List ℕ) → IsAdvancedWith (changed_book None) b day fixings out → IsAdvanced b day fixings out
+as_it_is b day fixings out h = record {
+  due = h.due;
+  are_due = h.are_due;
+  rest = h.rest;
+  is_rest = h.is_rest;
+  canon = h.canon;
+  is_canon = subst (λ (es : List (Name × Contract)). IsCanon h.canon (so_far h.rest.declarations es)) (unchanged h.rest.contracts) h.is_canon;
+  is = h.is;
+}
+
+module _ (text : List ℕ) (choice : Choice) (asked : AdvanceAsked) (table : Option (List ℕ)) (is : selection choice ≡ every None) where
+  pub advance_tells : (out : Vec ℕ) → IsCarriedText text choice None asked table out.items → Tells (advance_of_text asked text table) status.Done out.items
+  advance_tells out h =
+      let b = so_far (declarations choice.decls.now) h.entries in
+      (b, h.is_text, (h.day, h.can.is_day, (tt, h.can.accepted, (h.fixings, h.can.are_fixings, (tt, h.can.fixed, (refl, as_it_is b h.day h.fixings out.items h.advanced))))))
+
+  by_no_name : (b : Book) (f : Fault) → StopsCarry (every None) asked table b f → Stops (advance_on asked b table) f
+  by_no_name b f (StopsByName.unknown u) = (let k : None ≡ Some u.name = u.given in absurd cc)
+  by_no_name b f (StopsByName.then_stops k h) = h
+
+  pub advance_stops : (f : Fault) → StopsIn text (declarations choice.decls.now) (StopsCarry (selection choice) asked table) f → Stops (advance_of_text asked text table) f
+  advance_stops f (inl bad) = inl bad
+  advance_stops f (inr h) =
+      let b = so_far (declarations choice.decls.now) h.0 in
+      inr (b, h.1, by_no_name b f (subst (λ (s : Selection). StopsCarry s asked table b f) is h.2))

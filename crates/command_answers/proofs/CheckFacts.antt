@@ -21,7 +21,7 @@ use Rattle.contract_check.specs.declared.checks.Facts.{Facts}
 use Rattle.report.specs.CheckLines.{accepted_line, verdict_line}
 use Rattle.time_types.specs.Starts.{start_day}
 use Rattle.command_answers.specs.CheckPromise.{AreCheckLines, IsCheckLine, accepted, refused, Verdict}
-use Rattle.contract_parse.specs.NextContracts.{AnswersNext, IsNext, IsSoundContract}
+use Rattle.contract_parse.specs.NextContracts.{AnswersNext, IsNext}
 use Rattle.contract_parse.specs.Texts.{Text}
 use Rattle.contract_parse.specs.declared.faults.ParseErr.{ParseErr}
 use Rattle.contract_parse.specs.declared.faults.ParseErr.TheVariants as err
@@ -33,7 +33,6 @@ use Rattle.command_answers.specs.CheckParts.{AddsVerdict, AppendsVerdict, Append
 use Rattle.command_answers.specs.ReadingParts.{IsNextOrEnd}
 use Rattle.command_answers.specs.Stages.{IsBadText}
 use Rattle.command_answers.specs.UsedContracts.{at_defaults, used}
-use Rattle.command_answers.specs.UsedParts.{IsSound}
 use Rattle.command_answers.proofs.UsedFacts.{used_of}
 use Rattle.command_answers.specs.declared.check_text.CheckText.{CheckText}
 use Rattle.command_answers.specs.declared.status.Status.{Status}
@@ -138,9 +137,6 @@ module _ (text : List ℕ) (d : Declarations) (entries : List (Name × Contract)
   fault_is_bad e f is h =
       let no = subst (λ (x : ParseErr). AnswersNext text d entries after (Err x)) is h in
       record { first = f; is_first = no.0; no_text = no.1; fault_is = refl }
-
-pub sound_of : (d : Declarations) (c : Contract) → IsSoundContract d c → IsSound d c
-sound_of d c s = record { closed = s.closed; low = s.low; small = s.small; sums = s.sums }
 
 -- the verdicts on the whole text
 pub all_of_text : (text : List ℕ) (d : Declarations) (reader : ContractReader) (check : CheckText) (h : HasVerdicts text d reader check) → Text text (record { declarations = d; contracts = h.entries }) → AreTextVerdicts text check

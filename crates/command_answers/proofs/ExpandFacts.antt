@@ -1,17 +1,20 @@
 -- The expansions of plans: one more behind those so far, and each can be tried and printed.
-use Rattle.std.proofs.Common.{◌≡◌, ◌∙◌, true, false, List, [], ◌∷◌, ◌++◌, append_assoc, map, ap, arith, refl, subst, sym}
-use Rattle.std.specs.Prelude.{All}
+use Rattle.std.proofs.Common.{◌≡◌, ◌∙◌, ◌&&◌, ℕ, Bool, true, false, List, [], ◌∷◌, ◌++◌, append_assoc, map, ap, arith, refl, subst, sym}
+use Rattle.std.specs.Prelude.{All, not}
 use Rattle.std.specs.Map.{keys_of}
+use Rattle.std.proofs.lemmas.List.{map-append}
 use Rattle.std.proofs.lemmas.List.Elements.{All-head, All-tail, All-weaker}
 use Rattle.term_core.specs.declared.name.Name.{Name}
 use Rattle.term_core.specs.declared.terms.Contr.{Contr}
 use Rattle.term_core.specs.DayCounts.{Days, Named, Num as Count, Sum}
 use Rattle.term_core.specs.Declarations.{Declarations}
 use Rattle.term_core.specs.Instances.{HasSmallSums, IsSmallSum}
-use Rattle.term_core.specs.Terms.{Contract, Zero, Pay, Both, Scale, After, Let, Within}
+use Rattle.term_core.specs.Terms.{Contract, contract, Zero, Pay, Both, Scale, After, Let, Within}
 use Rattle.term_core.specs.WellFormed.{HasOnlyNumbers, IsNumber}
 use Rattle.contract_parse.specs.ContractReading.{trees}
 use Rattle.contract_parse.specs.Names.{is_declared}
+use Rattle.contract_parse.specs.NameTexts.{is_name_text}
+use Rattle.contract_parse.proofs.LineFacts.{keys_added}
 use Rattle.contract_print.specs.Spellable.{IsSpellable, are_new}
 use Rattle.contract_print.specs.Writable.{IsWritableTerm}
 use Rattle.contract_print.proofs.TermNumbers.{spellable_written}
@@ -25,8 +28,33 @@ use Rattle.command_answers.specs.CheckPromise.{AreAllAccepted}
 use Rattle.command_answers.specs.ExpandParts.{expanded_entry}
 use Rattle.command_answers.specs.FlowsParts.{IsRefusedOne}
 use Rattle.command_answers.specs.Stages.{IsRefusedOf}
-use Rattle.command_answers.specs.UsedParts.{IsSound, IsTriable}
-use Rattle.command_answers.proofs.AdvanceFacts.{first_is_new, keys_of_trees, names_behind}
+use Rattle.contract_parse.specs.NextContracts.{IsSoundContract}
+use Rattle.command_answers.specs.UsedParts.{IsTriable}
+
+-- ---- names
+
+-- of names that are new, the first is, and the others are behind it
+new_first : (word there others : Bool) → ((word && not there) && others) ≡ true → (there ≡ false) × (others ≡ true)
+new_first true false true h = (refl, refl)
+new_first true false false h = absurd cc
+new_first true true others h = absurd cc
+new_first false there others h = absurd cc
+
+first_is_new : (before names : List (List ℕ)) (name : List ℕ) → are_new before (name ∷ names) ≡ true → (is_declared before name ≡ false) × (are_new (before ++ name ∷ []) names ≡ true)
+first_is_new before names name h = new_first (is_name_text name) (is_declared before name) (are_new (before ++ name ∷ []) names) h
+
+keys_of_trees : (entries : List (Name × Contr)) → keys_of (trees entries) ≡ keys_of entries
+keys_of_trees [] = refl
+keys_of_trees (e ∷ es) = ap (λ (names : List Name). e.0 ∷ names) (keys_of_trees es)
+
+-- behind a contract that is put behind others, the other names are new
+names_behind : (before after : List (Name × Contract)) (names : List Name) (name : Name) (c : Contract) → after ≡ before ++ (name, c) ∷ [] → are_new (keys_of before) (name ∷ names) ≡ true → are_new (keys_of after) names ≡ true
+names_behind before after names name c is new =
+    subst (λ (ns : List Name). are_new ns names ≡ true) (sym (ap keys_of is ∙ keys_added before name c)) (first_is_new (keys_of before) names name new).1
+
+pub trees_more : (entries after : List (Name × Contr)) (name : Name) (c : Contr) → after ≡ entries ++ (name, c) ∷ [] → trees after ≡ trees entries ++ (name, contract c) ∷ []
+trees_more entries after name c is =
+    ap (λ (es : List (Name × Contr)). trees es) is ∙ map-append (λ (entry : Name × Contr). (entry.0, contract entry.1)) entries ((name, c) ∷ [])
 
 -- ---- one more contract
 
@@ -80,7 +108,7 @@ module _ (d : Declarations) (plan : Plan) (fits : IsPlanOfTexts d plan) where
   pub expansion_numbers : HasOnlyNumbers (expansion plan)
   expansion_numbers = (expansions_closed d plan fits.within fits.over).1
 
-  pub expansion_sound : IsSound d (expansion plan)
+  pub expansion_sound : IsSoundContract d (expansion plan)
   expansion_sound =
       let small = expansions_small plan fits.within in
       record {

@@ -9,6 +9,9 @@ pub mod NovateFacts
 pub mod PayoffFacts
 pub mod ExpandFacts
 pub mod CheckFacts
+pub mod ChoosingFacts
+pub mod KeptFlowsFacts
+pub mod FlowsStops
 pub mod SumLineFacts
 pub mod NettingFacts
 pub mod ValueParts

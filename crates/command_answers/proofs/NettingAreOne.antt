@@ -1,7 +1,7 @@
 -- The tables of the flows of contracts leave each party at one position, so one text tells what parties come to, and one what settles
 -- it.
 use Rattle.std.proofs.Common.{◌≡◌, ◌∙◌, ◌-◌, ◌+ℤ◌, ℕ, ℤ, List, [], ◌∷◌, ◌++◌, ap, ap₂, refl, subst, sym}
-use Rattle.std.specs.Prelude.{All, Option, None, codes}
+use Rattle.std.specs.Prelude.{Option, None, codes}
 use Rattle.std.specs.List.{Contains, filter}
 use Rattle.std.proofs.Math.Path.{fun_ext}
 use Rattle.std.proofs.lemmas.List.Elements.{All-weaker}

@@ -1,11 +1,12 @@
 -- The flow tables of accepted contracts can be added up, and lines can hold what comes of them.
-use Rattle.std.proofs.Common.{◌≡◌, ◌∙◌, ◌<◌, ◌≤◌, ◌≤ℤ◌, ◌*◌, ◌^◌, ℕ, ℤ, pos, List, [], ◌∷◌, ◌++◌, length, append_assoc, ap, arith, get_or, refl, subst, sym, true}
+use Rattle.std.proofs.Common.{◌≡◌, ◌∙◌, ◌<◌, ◌≤◌, ◌≤ℤ◌, ◌^◌, ℕ, ℤ, pos, List, [], ◌∷◌, ◌++◌, length, append_assoc, ap, arith, get_or, refl, subst, sym, true}
 use Rattle.std.specs.Prelude.{All, Option, None, Result, Err, IsErrAnd}
 use Rattle.std.specs.Global.{Vec}
 use Rattle.std.proofs.lemmas.List.Elements.{All-cons, All-head, All-nil, All-tail, All-weaker}
+use Rattle.term_core.specs.declared.decls.Decls.{Decls}
 use Rattle.term_core.specs.declared.name.Name.{Name}
 use Rattle.term_core.specs.Books.{Book}
-use Rattle.term_core.specs.Declarations.{Declarations}
+use Rattle.term_core.specs.Declarations.{Declarations, declarations}
 use Rattle.term_core.specs.Environments.{Environment, IsAdmitted}
 use Rattle.term_core.specs.Terms.{Contract}
 use Rattle.term_core.specs.Acceptance.{IsAccepted}
@@ -24,21 +25,25 @@ use Rattle.exposure.proofs.TableSums.{many_tables_add_up, positions_are_within, 
 use Rattle.exposure.proofs.WholeFacts.{positions_are_whole, settled_are_whole}
 use Rattle.command_answers.specs.CheckPromise.{AreAllAccepted}
 use Rattle.command_answers.specs.Course.{Stops, Tells}
-use Rattle.command_answers.specs.FlowsCourse.{flows_on}
-use Rattle.command_answers.specs.FlowsParts.{AppendsTables}
+use Rattle.command_answers.specs.ChoosingParts.{Selection, StopsIn, selection, so_far}
+use Rattle.command_answers.specs.FlowsCourse.{flows_of_text}
+use Rattle.command_answers.specs.FlowsParts.{CanBeLast, HoldsFixings, ListsFlows, PassesOf, StopsFlows, of_flows}
 use Rattle.command_answers.specs.FlowsPromise.{AreFixings, AreTables, IsLastDay}
-use Rattle.command_answers.specs.NettingCourse.{flows_of_all, netting_on}
-use Rattle.command_answers.specs.NettingParts.{AnswersTablesOfAll, AppendsPositions, AreReady, IsDuePosition, TablesKnown}
+use Rattle.command_answers.specs.NettingCourse.{flows_of_all, netting_of_text}
+use Rattle.command_answers.specs.NettingParts.{AnswersTablesOfText, AppendsPositions, AreReady, IsDuePosition, KnowsTables, ListsTables, TablesKnown}
 use Rattle.command_answers.specs.NettingPromise.{ArePositionLines, IsToldOfTables}
-use Rattle.command_answers.specs.Stopping.{GoesDone}
+use Rattle.command_answers.specs.Stopping.{AnswersBy, GoesDone}
 use Rattle.command_words.specs.Commands.{NettingAsked}
 use Rattle.command_answers.specs.UsedContracts.{used}
+use Rattle.command_answers.specs.declared.choice.FlowsUntil.{FlowsUntil}
+use Rattle.command_answers.specs.declared.flows_text.Listed.{Listed}
 use Rattle.command_answers.specs.declared.status.Status.TheVariants as status
 use Rattle.command_answers.specs.declared.stop.Stop.{Stop}
+use Rattle.command_answers.proofs.FlowsStops.{are_tables, stops_flows}
 use Rattle.command_answers.proofs.LineFacts.{none_and, rows_have_lines, rows_writable, some_and}
-use Rattle.command_answers.proofs.StopFacts.{handed_on}
+use Rattle.command_answers.proofs.StopFacts.{answers_too, handed_on}
 use Rattle.command_answers.proofs.SumLineFacts.{all_fixed, as_many}
-use Rattle.command_answers.proofs.UsedFacts.{used_few}
+use Rattle.command_answers.proofs.UsedFacts.{contracts_few, used_few}
 
 -- ---- one more line
 
@@ -107,10 +112,9 @@ module _ (d : Declarations) (fixings : Environment) (last : ℤ) (limits : Keeps
 pub tables_known : (asked : NettingAsked) (b : Book) (table : Option (List ℕ)) (last : ℤ) → IsLastDay b.declarations asked.until last → last ≤ℤ pos 1_100_000
     → length b.contracts ≤ 16_777_216 → AreAllAccepted b.declarations (used None b) → (fixings : Environment) → AreFixings b.declarations table fixings
     → KeepsLimits b.declarations → IsAdmitted b.declarations fixings → (tables : List FlowTable)
-    → AppendsTables b.declarations fixings last (used None b) [] tables → TablesKnown asked b table tables
-tables_known asked b table last is_last within few all fixings are limits admitted tables h =
+    → AreTables b.declarations fixings last (used None b) tables → TablesKnown asked b table tables
+tables_known asked b table last is_last within few all fixings are limits admitted tables found =
     let d = b.declarations in
-    let found = subst (λ (ts : List FlowTable). AreTables d fixings last (used None b) ts) (sym h.appended) h.are_tables in
     let fewer : length (used None b) ≤ length b.contracts = used_few None d b.contracts in
     record {
       last = last;
@@ -122,6 +126,34 @@ tables_known asked b table last is_last within few all fixings are limits admitt
       are_tables = found;
       ready = tables_ready d fixings last limits admitted within (used None b) tables (omega arith) all found;
     }
+
+-- the same of the flows of all contracts of a text
+module _ (asked : NettingAsked) (text : List ℕ) (table : Option (List ℕ)) (until : FlowsUntil) (all : selection until.choice ≡ of_flows (flows_of_all asked))
+    (last : CanBeLast (declarations until.choice.decls.now) asked.until until.last) (fixings : HoldsFixings (declarations until.choice.decls.now) table until.fixings.now) where
+  abbrev of : Declarations
+  of = declarations until.choice.decls.now
+
+  knows_tables : (limits : KeepsLimits of) → length text ≤ 16_777_216 → until.summed ≡ true → (listed : Listed) → ListsFlows text until listed
+      → KnowsTables asked text table of listed.tables.items
+  knows_tables limits short summed listed h =
+      let b = so_far of h.entries in
+      let passes = subst (λ (s : Selection). PassesOf s until b) all h.passes in
+      let tables = subst (λ (s : Selection). AreTables of until.fixings.now until.last (used s.only b) listed.tables.items) all (are_tables text until listed h summed) in
+      record {
+        entries = h.entries;
+        is_text = h.is_text;
+        known = tables_known asked b table until.last last.is_last last.within (contracts_few text b h.is_text short) passes.accepted until.fixings.now fixings.are_fixings
+            limits fixings.admitted listed.tables.items tables;
+      }
+
+  pub tables_of_lists : (limits : KeepsLimits of) → length text ≤ 16_777_216 → until.summed ≡ true → (r : Result (Vec FlowTable) Stop)
+      → AnswersBy (λ (tables : Vec FlowTable). ListsTables text until tables.items) (StopsIn text of (StopsFlows until)) r
+      → AnswersBy (λ (tables : Vec FlowTable). KnowsTables asked text table of tables.items) (Stops (flows_of_text (flows_of_all asked) text table)) r
+  tables_of_lists limits short summed r h =
+      answers_too (λ (tables : Vec FlowTable). ListsTables text until tables.items) (λ (tables : Vec FlowTable). KnowsTables asked text table of tables.items)
+      (StopsIn text of (StopsFlows until)) (Stops (flows_of_text (flows_of_all asked) text table))
+      (λ tables k. subst (λ (ts : List FlowTable). KnowsTables asked text table of ts) (sym k.are) (knows_tables limits short summed k.listed k.lists))
+      (stops_flows (flows_of_all asked) text table until all last fixings) r h
 
 -- ---- lines can hold what comes of them
 
@@ -154,14 +186,16 @@ settled_have_lines d tables rows ready turns = settled_are_whole d tables rows r
 
 -- ---- what is told of the tables is what the course tells, and what kept them from being made stops it
 
-module _ (TellsOf : Declarations → List FlowTable → List ℕ → Type 0) (asked : NettingAsked) (b : Book) (table : Option (List ℕ)) where
-  pub told_of_tables : (tables : List FlowTable) (text : List ℕ) → TablesKnown asked b table tables → TellsOf b.declarations tables text
-      → Tells (netting_on TellsOf asked b table) status.Done text
-  told_of_tables tables text known told =
-      let lines : IsToldOfTables TellsOf b.declarations known.fixings known.last (used None b) text = record { tables = tables; are_tables = known.are_tables; told = told } in
-      (tt, refl, (known.last, known.is_last, (tt, known.accepted, (known.fixings, known.are_fixings, (tt, known.fixed, (refl, lines))))))
+module _ (TellsOf : Declarations → List FlowTable → List ℕ → Type 0) (asked : NettingAsked) (text : List ℕ) (table : Option (List ℕ)) where
+  pub told_of_tables : (d : Declarations) (tables : List FlowTable) (lines : List ℕ) → KnowsTables asked text table d tables → TellsOf d tables lines
+      → Tells (netting_of_text TellsOf asked text table) status.Done lines
+  told_of_tables d tables lines h told =
+      let b = so_far d h.entries in
+      let known = h.known in
+      let are : IsToldOfTables TellsOf d known.fixings known.last (used None b) lines = record { tables = tables; are_tables = known.are_tables; told = told } in
+      (b, h.is_text, (tt, refl, (known.last, known.is_last, (tt, known.accepted, (known.fixings, known.are_fixings, (tt, known.fixed, (refl, are)))))))
 
-  pub stopped_with_tables : (e : Stop) (r : Result (Vec ℕ) Stop) → AnswersTablesOfAll asked b table (Err e) → IsErrAnd r (λ y. y ≡ e) → GoesDone (netting_on TellsOf asked b table) r
+  pub stopped_with_tables : (e : Stop) (r : Result (Vec ℕ) Stop) → AnswersTablesOfText asked text table (Err e) → IsErrAnd r (λ y. y ≡ e) → GoesDone (netting_of_text TellsOf asked text table) r
   stopped_with_tables e r h given =
-      handed_on (λ (tables : Vec FlowTable). TablesKnown asked b table tables.items) (λ (text : Vec ℕ). Tells (netting_on TellsOf asked b table) status.Done text.items)
-      (Stops (flows_on (flows_of_all asked) b table)) (Stops (netting_on TellsOf asked b table)) (λ f h. h) e r h given
+      handed_on (λ (all : Decls × Vec FlowTable). KnowsTables asked text table (declarations all.0) all.1.items) (λ (lines : Vec ℕ). Tells (netting_of_text TellsOf asked text table) status.Done lines.items)
+      (Stops (flows_of_text (flows_of_all asked) text table)) (Stops (netting_of_text TellsOf asked text table)) (λ f h. h) e r h given

@@ -6,9 +6,9 @@ use Rattle.std.proofs.lemmas.Result.{err_from_is_err_and}
 use Rattle.decimal.specs.declared.errors.NoMemory.{NoMemory}
 use Rattle.report.specs.FaultLines.{fault_text}
 use Rattle.report.specs.declared.fault_lines.Fault.{Fault}
-use Rattle.command_answers.specs.Course.{Course, Stage, Stops, Tells, stopped}
+use Rattle.command_answers.specs.Course.{Course, Stops, Tells, stopped}
 use Rattle.command_answers.specs.Statuses.{status_of}
-use Rattle.command_answers.specs.Stopping.{AnswersBy, AnswersStage, Goes, GoesDone, IsAnswerOf}
+use Rattle.command_answers.specs.Stopping.{AnswersBy, Goes, GoesDone, IsAnswerOf}
 use Rattle.command_answers.specs.declared.answers.Answer.{Answer}
 use Rattle.command_answers.specs.declared.status.Status.TheVariants as status
 use Rattle.command_answers.specs.declared.stop.Stop.{Stop}
@@ -29,11 +29,6 @@ pub answers_too : {A : Type 0} (Good : A → Type 0) (Other : A → Type 0) (Sto
 answers_too Good Other Stopped Stops good pass (Ok a) h = good a h
 answers_too Good Other Stopped Stops good pass (Err (stop.Fault f)) h = pass f h
 answers_too Good Other Stopped Stops good pass (Err stop.NoMemory) h = tt
-
--- the fault of a stage stops what is left of a course, in which it stands, that ends with Done
-pub hands_on_done : {A B : Type 0} (stage : Stage A) (view : B → A) (c : Course) → ((f : Fault) → stage.FaultIs f → Stops c f) → (e : Stop) (r : Result (Vec ℕ) Stop) → AnswersStage stage view (Err e) → IsErrAnd r (λ y. y ≡ e) → GoesDone c r
-hands_on_done stage view c pass e r h given =
-    handed_on (λ b. stage.Passes (view b)) (λ (text : Vec ℕ). Tells c status.Done text.items) stage.FaultIs (Stops c) pass e r h given
 
 -- what stops the rest of a course stops the whole
 pub hands_on_rest : (rest c : Course) → ((f : Fault) → Stops rest f → Stops c f) → (e : Stop) (r : Result Answer Stop) → GoesDone rest (Err e) → IsErrAnd r (λ y. y ≡ e) → Goes c r

@@ -1,5 +1,5 @@
 -- The sum of the flow tables of accepted contracts is the table of what they pay together.
-use Rattle.std.proofs.Common.{◌≡◌, ◌≤◌, ◌^◌, ◌-ℤ◌, ◌+ℤ◌, ℕ, suc, ℤ, pos, true, List, [], ◌∷◌, map, length, ap, arith, refl, subst, sym, unsigned_abs}
+use Rattle.std.proofs.Common.{◌≡◌, ◌≤◌, ◌^◌, ◌-ℤ◌, ◌+ℤ◌, ℕ, suc, ℤ, pos, List, [], ◌∷◌, map, length, ap, arith, refl, subst, sym, unsigned_abs}
 use Rattle.std.specs.Prelude.{All, None, codes}
 use Rattle.std.proofs.lemmas.Int.{ints}
 use Rattle.std.proofs.lemmas.List.Elements.{All-cons, All-head, All-nil, All-tail, All-weaker}
@@ -20,8 +20,7 @@ use Rattle.report.specs.FlowLines.{HaveLines, PaysInAssets}
 use Rattle.report.specs.SumTables.{AreTablesOf, IsSummable, IsSumOf, together}
 use Rattle.report.proofs.TableLines.{paid_in_assets, table_has_lines, together_in_assets}
 use Rattle.command_answers.specs.CheckPromise.{AreAllAccepted}
-use Rattle.command_answers.specs.FlowsParts.{LinesKnown}
-use Rattle.command_answers.specs.FlowsPromise.{AreAllFixed, AreLines, AreTables, missing_of}
+use Rattle.command_answers.specs.FlowsPromise.{AreAllFixed, AreLines, AreSumLines, AreTables, missing_of}
 use Rattle.command_answers.proofs.CheckFacts.{total_small}
 
 same_day : (n : ℤ) → n ≡ n +ℤ pos 0
@@ -94,8 +93,6 @@ module _ (d : Declarations) (fixings : Environment) (last : ℤ) (limits : Keeps
       let pays = map (λ (entry : Name × Contract). paid_by d entry.1 fixings (pos d.start)) entries in
       table_has_lines d (together pays) (pos d.start) last rows (together_in_assets d pays (all_in_assets entries all)) (sum pays (pos d.start) last (tables_in fixings itself entries tables h)).0
 
-  pub sum_known : (entries : List (Name × Contract)) (tables : List FlowTable) (rows : List FlowRow) (text : List ℕ) → AreTables d fixings last entries tables → IsSumOf tables rows → AreLines d (codes "*") rows text → LinesKnown true d fixings last entries text
-  sum_known entries tables rows text h sum lines = record {
-    fixed = all_fixed entries tables h;
-    lines = record { rows = rows; table = λ env extends. (sum _ (pos d.start) last (tables_in env extends entries tables h)).0; lines = lines };
-  }
+  pub sum_known : (entries : List (Name × Contract)) (tables : List FlowTable) (rows : List FlowRow) (text : List ℕ) → AreTables d fixings last entries tables → IsSumOf tables rows → AreLines d (codes "*") rows text → AreSumLines d fixings last entries text
+  sum_known entries tables rows text h sum lines =
+      record { rows = rows; table = λ env extends. (sum _ (pos d.start) last (tables_in env extends entries tables h)).0; lines = lines }

@@ -1,32 +1,58 @@
--- What the parts of `advance` answer: the comments and the contracts that are left, behind those that were there before.
-use Rattle.std.specs.Prelude.{◌≡◌, ◌-◌, ℕ, pos, List, [], ◌∷◌, ◌++◌, Option, None, Result}
+-- What the parts of `advance` answer: what is due and what is left of each contract, behind those that were there before, and what
+-- comes of all contracts of a text.
+use Rattle.std.specs.Prelude.{◌≡◌, ◌-◌, ℕ, pos, true, map, List, [], ◌∷◌, ◌++◌, Option, Some, None, Result}
+use Rattle.std.specs.Global.{Vec}
 use Rattle.term_core.specs.declared.name.Name.{Name}
-use Rattle.term_core.specs.Books.{Book, book}
-use Rattle.term_core.specs.Declarations.{Declarations}
+use Rattle.term_core.specs.Books.{Book}
+use Rattle.term_core.specs.Declarations.{Declarations, declarations}
 use Rattle.term_core.specs.Environments.{Environment}
-use Rattle.term_core.specs.Terms.{Contract}
-use Rattle.contract_print.specs.Canon.{IsCanon}
+use Rattle.term_core.specs.Terms.{Contract, contract}
+use Rattle.contract_parse.specs.Names.{declared_by}
+use Rattle.contract_parse.specs.Texts.{Text}
+use Rattle.contract_parse.specs.declared.next_contracts.ContractReader.{ContractReader}
+use Rattle.contract_print.specs.Canon.{IsCanon, contract_text}
 use Rattle.flow_eval.specs.FlowAnswers.{AreKnownFlows}
 use Rattle.flow_eval.specs.declared.flow_table.FlowRow.{FlowRow}
 use Rattle.advance_step.specs.Advancing.{IsResidual}
+use Rattle.advance_step.specs.declared.advancing.Advanced.{Advanced}
 use Rattle.command_words.specs.Commands.{AdvanceAsked}
+use Rattle.report.specs.declared.fault_lines.Fault.{Fault}
 use Rattle.command_answers.specs.AdvanceCourse.{advance_on}
-use Rattle.command_answers.specs.AdvancePromise.{AreComments, AreDueLines, AreResiduals, CanAdvance}
-use Rattle.command_answers.specs.AdvancePromise.{IsNewDay, IsRestBook, greatest_new_day, last_gone}
-use Rattle.command_answers.specs.Course.{Stops}
+use Rattle.command_answers.specs.AdvancePromise.{AreComments, AreDueLines, AreResiduals, CanAdvance, IsAdvancedWith}
+use Rattle.command_answers.specs.AdvancePromise.{IsNewDay, greatest_new_day, last_gone, rest_declarations}
+use Rattle.command_answers.specs.CheckPromise.{AreAllAccepted}
+use Rattle.command_answers.specs.ChoosingParts.{Holds, IsWalkedThrough, Selection, StopsByName, StopsIn, StopsOn, selection, so_far}
+use Rattle.command_answers.specs.Course.{Course, Stops, behind}
 use Rattle.command_answers.specs.FlowsParts.{IsMissingOne}
 use Rattle.command_answers.specs.FlowsPromise.{AreAllFixed}
-use Rattle.command_answers.specs.Stages.{IsMissingOf, IsWordFault}
+use Rattle.command_answers.specs.NovatePromise.{novated_entry}
+use Rattle.command_answers.specs.ReadingParts.{IsBegun}
+use Rattle.command_answers.specs.Stages.{IsBadText, IsMissingOf, IsWordFault, all_fixed, portfolio_of}
 use Rattle.command_answers.specs.Stopping.{AnswersBy}
-use Rattle.command_answers.specs.UsedContracts.{used}
-use Rattle.command_answers.specs.declared.advance_text.Carried.{Carried}
+use Rattle.command_answers.specs.UsedContracts.{is_known, used}
+use Rattle.command_answers.specs.declared.advance_to.AdvanceTo.{AdvanceTo}
+use Rattle.command_answers.specs.declared.advance_text.KeptRest.{KeptRest}
 use Rattle.command_answers.specs.declared.advance_text.Left.{Left}
+use Rattle.command_answers.specs.declared.advance_to.Renaming.{Renaming}
+use Rattle.command_answers.specs.declared.choice.Choice.{Choice}
+use Rattle.command_answers.specs.declared.choosing.Tried.{Tried}
 use Rattle.command_answers.specs.declared.stop.Stop.{Stop}
-use Rattle.contract_parse.specs.ContractReading.{trees}
 
 -- the new day of a word
 abbrev pub AnswersNewDay : Declarations → List ℕ → Result ℕ Stop → Type 0
 AnswersNewDay d word r = AnswersBy (IsNewDay d word) (IsWordFault d greatest_new_day word) r
+
+-- ---- a renaming
+
+-- what is left of a contract, with the new party if it is the one that is renamed
+abbrev pub changed : Option Renaming → Name × Contract → Name × Contract
+changed None entry = entry
+changed (Some renaming) entry = novated_entry renaming.contract.now renaming.old renaming.new entry
+
+abbrev pub changed_book : Option Renaming → Book → Book
+changed_book renaming b = record b { contracts = map (changed renaming) b.contracts }
+
+-- ---- one contract
 
 -- the comments of rows, behind what was there before
 pub record AppendsComments (d : Declarations) (name : List ℕ) (rows : List FlowRow) (before after : List ℕ) : Type 0 where
@@ -34,52 +60,101 @@ pub record AppendsComments (d : Declarations) (name : List ℕ) (rows : List Flo
   pub comments : AreComments d name rows text
   pub appended : after ≡ before ++ text
 
--- the same of what is due
-abbrev pub AppendsDue : Declarations → List ℕ → List FlowRow → Left → Left → Type 0
-AppendsDue d name rows before after = AppendsComments d name rows before.due.items after.due.items
+abbrev pub declared_to : AdvanceTo → Declarations
+declared_to to = declarations to.choice.decls.now
 
--- what is due of a contract and what is left of it, behind those of the contracts before it
-pub record AppendsRest (d : Declarations) (fixings : Environment) (day : ℕ) (entry : Name × Contract) (before after : Left) : Type 0 where
-  pub rows : List FlowRow
-  pub flows : AreKnownFlows d entry.1 fixings (pos d.start) (last_gone day) rows
-  pub comments : AppendsDue d entry.0 rows before after
-  pub rest : Contract
-  pub residual : IsResidual d fixings (pos d.start) (day - d.start) entry.1 rest
-  pub kept : trees after.contracts.entries ≡ trees before.contracts.entries ++ (entry.0, rest) ∷ []
+-- the line of what is left of a contract
+abbrev pub rest_line : AdvanceTo → Name × Contract → List ℕ
+rest_line to rest = contract_text (declared_by (declared_to to) []) rest.0 (changed to.renaming rest).1
 
-abbrev pub AnswersRest : Declarations → Environment → ℕ → Name × Contract → Left → Left → Result (Unit {0}) Stop → Type 0
-AnswersRest d fixings day entry before after r =
-    AnswersBy (λ _. AppendsRest d fixings day entry before after) (IsMissingOne d fixings (last_gone day) entry.1) r
+-- what is due of a contract before the new day, and what is left of it then
+pub record IsCarriedOne (to : AdvanceTo) (c : Contract) (advanced : Advanced) : Type 0 where
+  pub flows :
+      AreKnownFlows (declared_to to) c to.fixings.now (pos (declared_to to).start) (last_gone to.day) advanced.due.rows.items
+  pub residual :
+      IsResidual (declared_to to) to.fixings.now (pos (declared_to to).start) (to.day - (declared_to to).start) c
+      (contract advanced.rest)
 
--- the same of contracts
-pub record AppendsRests (d : Declarations) (fixings : Environment) (day : ℕ) (entries : List (Name × Contract))
-    (due : List ℕ) (contracts : List (Name × Contract)) (left : Left) : Type 0 where
-  pub fixed : AreAllFixed d fixings (last_gone day) entries
-  pub text : List ℕ
-  pub lines : AreDueLines d fixings (last_gone day) entries text
-  pub due_is : left.due.items ≡ due ++ text
+abbrev pub AnswersAdvanced : AdvanceTo → Contract → Result Advanced Stop → Type 0
+AnswersAdvanced to c r =
+    AnswersBy (IsCarriedOne to c) (IsMissingOne (declared_to to) to.fixings.now (last_gone to.day) c) r
+
+-- ---- contract by contract
+
+-- what is due of contracts, and the text of what is left of them
+pub record AreLeft (to : AdvanceTo) (left : Left) (entries : List (Name × Contract)) : Type 0 where
+  pub due : AreDueLines (declared_to to) to.fixings.now (last_gone to.day) entries left.due.items
   pub rest : List (Name × Contract)
-  pub residuals : AreResiduals d fixings day entries rest
-  pub kept : trees left.contracts.entries ≡ contracts ++ rest
+  pub residuals : AreResiduals (declared_to to) to.fixings.now to.day entries rest
+  pub canon : IsCanon left.rest.items (so_far (rest_declarations (declared_to to) to.day) (map (changed to.renaming) rest))
 
-abbrev pub AnswersRests :
-    Declarations → Environment → ℕ → List (Name × Contract) → List ℕ → List (Name × Contract) → Result Left Stop → Type 0
-AnswersRests d fixings day entries due contracts r =
-    AnswersBy (λ left. AppendsRests d fixings day entries due contracts left) (IsMissingOf d fixings (last_gone day) entries) r
+-- the same, or the first read of theirs that is not fixed
+pub record HasRests (to : AdvanceTo) (kept : KeptRest) (entries : List (Name × Contract)) : Type 0 where
+  pub fixed : Holds (all_fixed (declared_to to) to.fixings.now (last_gone to.day) entries) kept.missing
+  pub left : kept.missing ≡ None → AreLeft to kept.left entries
 
--- a portfolio is carried to a new day: what is due before it, and what is left on it
-pub record IsCarried (b : Book) (asked : AdvanceAsked) (table : Option (List ℕ)) (carried : Carried) : Type 0 where
+-- the same with a contract more, whatever was before it
+abbrev pub AddsRest : AdvanceTo → Name × Contract → KeptRest → KeptRest → Type 0
+AddsRest to entry before after =
+    (entries : List (Name × Contract)) → HasRests to before entries → HasRests to after (entries ++ entry ∷ [])
+
+abbrev pub AnswersKeptRest : AdvanceTo → ContractReader → Result (Tried × KeptRest) Stop → Type 0
+AnswersKeptRest to reader r =
+    (text : List ℕ) → IsBegun text (declared_to to) reader
+    → AnswersBy (λ all. IsWalkedThrough text (declared_to to) (selection to.choice) (HasRests to all.1) all.0) (IsBadText text) r
+
+-- contracts that nothing stops: the name is met, they are accepted, and each of their reads is fixed
+pub record PassesRest (to : AdvanceTo) (b : Book) : Type 0 where
+  pub known : is_known (selection to.choice).named b ≡ true
+  pub accepted : AreAllAccepted b.declarations (used (selection to.choice).only b)
+  pub fixed : AreAllFixed b.declarations to.fixings.now (last_gone to.day) (used (selection to.choice).only b)
+
+-- what is due of such contracts of a text, and behind it the text of what is left of them
+pub record IsLeftText (text : List ℕ) (to : AdvanceTo) (out : List ℕ) : Type 0 where
+  pub entries : List (Name × Contract)
+  pub is_text : Text text (so_far (declared_to to) entries)
+  pub passes : PassesRest to (so_far (declared_to to) entries)
+  pub left : Left
+  pub are_left : AreLeft to left (used (selection to.choice).only (so_far (declared_to to) entries))
+  pub is : out ≡ left.due.items ++ left.rest.items
+
+abbrev pub IsMissingTo : AdvanceTo → Book → Fault → Type 0
+IsMissingTo to b f = IsMissingOf b.declarations to.fixings.now (last_gone to.day) (used (selection to.choice).only b) f
+
+abbrev pub AnswersLeft : AdvanceTo → ContractReader → Result (Vec ℕ) Stop → Type 0
+AnswersLeft to reader r =
+    (text : List ℕ) → IsBegun text (declared_to to) reader
+    → AnswersBy (λ out. IsLeftText text to out.items)
+    (StopsIn text (declared_to to) (λ b. StopsOn b (selection to.choice) (IsMissingTo to b))) r
+
+-- ---- from the name on
+
+-- all contracts, and a name, if any, that is to be that of one
+abbrev pub every : Option (List ℕ) → Selection
+every named = record { named = named; only = None }
+
+-- the contracts of a text, with the name that is asked for, are carried to the day of a word, with a renaming if there is one
+pub record IsCarriedText (text : List ℕ) (choice : Choice) (renaming : Option Renaming) (asked : AdvanceAsked)
+    (table : Option (List ℕ)) (out : List ℕ) : Type 0 where
+  pub entries : List (Name × Contract)
+  pub is_text : Text text (so_far (declarations choice.decls.now) entries)
+  pub known : is_known (selection choice).named (so_far (declarations choice.decls.now) entries) ≡ true
   pub day : ℕ
   pub fixings : Environment
-  pub can : CanAdvance b asked table day fixings
-  pub are_due : AreDueLines b.declarations fixings (last_gone day) (used None b) carried.due.items
-  pub is_rest : IsRestBook b fixings day (book carried.rest)
+  pub can : CanAdvance (so_far (declarations choice.decls.now) entries) asked table day fixings
+  pub advanced : IsAdvancedWith (changed_book renaming) (so_far (declarations choice.decls.now) entries) day fixings out
 
-abbrev pub AnswersCarried : Book → AdvanceAsked → Option (List ℕ) → Result Carried Stop → Type 0
-AnswersCarried b asked table r = AnswersBy (IsCarried b asked table) (Stops (advance_on asked b table)) r
+-- what stops it: the name, or what stops `advance`
+abbrev pub StopsCarry : Selection → AdvanceAsked → Option (List ℕ) → Book → Fault → Type 0
+StopsCarry s asked table b f = StopsByName b s (Stops (advance_on asked b table)) f
 
--- the canonical text of what is left, behind what is due
-pub record IsRestText (rest : Book) (due text : List ℕ) : Type 0 where
-  pub canon : List ℕ
-  pub is_canon : IsCanon canon rest
-  pub is : text ≡ due ++ canon
+abbrev pub AnswersCarried :
+    Choice → Option Renaming → AdvanceAsked → Option (List ℕ) → ContractReader → Result (Vec ℕ) Stop → Type 0
+AnswersCarried choice renaming asked table reader r =
+    (text : List ℕ) → IsBegun text (declarations choice.decls.now) reader
+    → AnswersBy (λ out. IsCarriedText text choice renaming asked table out.items)
+    (StopsIn text (declarations choice.decls.now) (StopsCarry (selection choice) asked table)) r
+
+-- the course of `advance` on a text and a table
+abbrev pub advance_of_text : AdvanceAsked → List ℕ → Option (List ℕ) → Course
+advance_of_text asked text table = behind (portfolio_of text) (λ b. advance_on asked b table)

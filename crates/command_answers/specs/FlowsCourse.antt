@@ -33,7 +33,11 @@ flows_on asked b table =
     over_fixings asked.contract asked.until b table (λ last fixings.
     tells (AreLinesAsked asked.net b.declarations fixings last (used asked.contract b)))
 
+-- the same behind the portfolio of a text
+abbrev pub flows_of_text : FlowsAsked → List ℕ → Option (List ℕ) → Course
+flows_of_text asked text table =
+    behind (portfolio_of text) (λ b.
+    flows_on asked b table)
+
 abbrev pub flows_course : FlowsAsked → List (List ℕ) → Course
-flows_course asked inputs =
-    behind (portfolio_of (file_at inputs 0)) (λ b.
-    flows_on asked b (table_named asked inputs))
+flows_course asked inputs = flows_of_text asked (file_at inputs 0) (table_named asked inputs)

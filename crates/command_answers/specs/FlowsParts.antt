@@ -1,12 +1,15 @@
 -- What the parts of `flows` answer, each that of its own or the fault that stops the command.
-use Rattle.std.specs.Prelude.{◌≡◌, ◌⊎◌, ◌≤◌, ◌≤ℤ◌, ℕ, ℤ, pos, Bool, List, [], ◌∷◌, ◌++◌, Option, Some, None, Result, Ok, Err, length, ◌&&◌, int_le, if◌then◌else◌}
+use Rattle.std.specs.Prelude.{◌≡◌, ◌⊎◌, ◌≤◌, ◌≤ℤ◌, ◌&&◌, ℕ, ℤ, pos, Bool, true, false, List, [], ◌∷◌, ◌++◌, Option, Some, None, Result, Ok, Err, if◌then◌else◌, int_le, length}
 use Rattle.std.specs.Global.{Vec}
 use Rattle.term_core.specs.declared.name.Name.{Name}
 use Rattle.term_core.specs.declared.rules.Rule.{Rule}
-use Rattle.term_core.specs.Declarations.{Declarations}
+use Rattle.term_core.specs.Books.{Book}
+use Rattle.term_core.specs.Declarations.{Declarations, declarations}
 use Rattle.term_core.specs.Environments.{Environment, IsAdmitted, Place}
 use Rattle.term_core.specs.Terms.{Contract}
 use Rattle.term_core.specs.Acceptance.{IsAccepted, IsRefusal}
+use Rattle.contract_parse.specs.Texts.{Text}
+use Rattle.contract_parse.specs.declared.next_contracts.ContractReader.{ContractReader}
 use Rattle.fixing_files.specs.declared.days.DayFault.{DayFault}
 use Rattle.flow_eval.specs.FlowAnswers.{AreKnownFlows}
 use Rattle.flow_eval.specs.declared.faults.FlowErr.{FlowErr}
@@ -15,9 +18,21 @@ use Rattle.flow_eval.specs.declared.flow_table.FlowRow.{FlowRow}
 use Rattle.flow_eval.specs.declared.flow_table.FlowTable.{FlowTable}
 use Rattle.report.specs.declared.fault_lines.Fault.{Fault}
 use Rattle.report.specs.declared.fault_lines.Fault.TheVariants as fault
-use Rattle.command_answers.specs.FlowsPromise.{AreAllFixed, AreAllLines, AreFixings, AreLines, AreLinesAsked, AreTables, IsDayAsked, IsLastDay, label_name, missing_of}
-use Rattle.command_answers.specs.Stages.{IsDayFault, IsMissingOf, IsRowFault, IsWordFault}
-use Rattle.command_answers.specs.Stopping.{AnswersBy}
+use Rattle.command_words.specs.Commands.{FlowsAsked}
+use Rattle.command_answers.specs.CheckPromise.{AreAllAccepted}
+use Rattle.command_answers.specs.ChoosingParts.{Holds, IsWalkedThrough, Selection, StopsIn, StopsOn, selection, so_far}
+use Rattle.command_answers.specs.FlowsCourse.{flows_of_text}
+use Rattle.command_answers.specs.FlowsPromise.{AreAllFixed, AreAllLines, AreFixings, AreLines, AreLinesAsked, AreSumLines, AreTables, IsDayAsked, IsLastDay, label_name, missing_of}
+use Rattle.command_answers.specs.ReadingParts.{IsBegun}
+use Rattle.command_answers.specs.Stages.{IsBadText, IsDayFault, IsMissingOf, IsRefusedOf, IsRowFault, IsUnknownName, IsWordFault, all_fixed}
+use Rattle.command_answers.specs.Stopping.{AnswersBy, GoesDone}
+use Rattle.command_answers.specs.UsedContracts.{is_known, used}
+use Rattle.command_answers.specs.declared.choice.Choice.{Choice}
+use Rattle.command_answers.specs.declared.choosing.Tried.{Tried}
+use Rattle.command_answers.specs.declared.choice.FlowsUntil.{FlowsUntil}
+use Rattle.command_answers.specs.declared.flows_text.KeptFlows.{KeptFlows}
+use Rattle.command_answers.specs.declared.flows_text.Listed.{Listed}
+use Rattle.command_answers.specs.declared.flows_text.Over.{Over}
 use Rattle.command_answers.specs.declared.stop.Stop.{Stop}
 use Rattle.command_answers.specs.declared.stop.Stop.TheVariants as stop
 
@@ -92,34 +107,129 @@ abbrev pub AnswersTable : Declarations → Contract → Environment → ℤ → 
 AnswersTable d c fixings last r =
     AnswersBy (λ table. AreKnownFlows d c fixings (pos d.start) last table.rows.items) (IsMissingOne d fixings last c) r
 
--- each read is fixed, and these are the lines
-pub record LinesKnown (net : Bool) (d : Declarations) (fixings : Environment) (last : ℤ)
-    (entries : List (Name × Contract)) (text : List ℕ) : Type 0 where
-  pub fixed : AreAllFixed d fixings last entries
-  pub lines : AreLinesAsked net d fixings last entries text
+-- ---- contract by contract
 
-abbrev pub AnswersLinesAsked : Bool → Declarations → Environment → ℤ → List (Name × Contract) → Result (Vec ℕ) Stop → Type 0
-AnswersLinesAsked net d fixings last entries r =
-    AnswersBy (λ text. LinesKnown net d fixings last entries text.items) (IsMissingOf d fixings last entries) r
+-- the fixings of a table, or what stops a command behind the acceptance of the contracts of a text that is begun
+abbrev pub AnswersFixingsOver : Choice → ContractReader → Option (List ℕ) → Result Environment Stop → Type 0
+AnswersFixingsOver choice reader table r =
+    let d = declarations choice.decls.now in
+    (text : List ℕ) → IsBegun text d reader
+    → AnswersBy (HoldsFixings d table) (StopsIn text d (λ b. StopsOn b (selection choice) (IsRowFault d table 2))) r
 
--- the lines of contracts, behind what was there before
-pub record AppendsAll (d : Declarations) (fixings : Environment) (last : ℤ)
-    (entries : List (Name × Contract)) (before after : List ℕ) : Type 0 where
-  pub fixed : AreAllFixed d fixings last entries
-  pub text : List ℕ
-  pub lines : AreAllLines d fixings last entries text
-  pub appended : after ≡ before ++ text
+-- a last day and the fixings of a table
+pub record IsOver (d : Declarations) (until : Option (List ℕ)) (table : Option (List ℕ)) (over : Over) : Type 0 where
+  pub last : CanBeLast d until over.last
+  pub fixings : HoldsFixings d table over.fixings
 
-abbrev pub AnswersLines : Declarations → Environment → ℤ → List (Name × Contract) → List ℕ → Result (Vec ℕ) Stop → Type 0
-AnswersLines d fixings last entries before r =
-    AnswersBy (λ text. AppendsAll d fixings last entries before text.items) (IsMissingOf d fixings last entries) r
+-- what stops a command over fixings: by a name, by the day, by acceptance or by a row
+pub data StopsOverFixings (b : Book) (s : Selection) (until : Option (List ℕ)) (table : Option (List ℕ)) (f : Fault) : Type 0 where
+  unknown : IsUnknownName b s.named f → StopsOverFixings b s until table f
+  no_day : is_known s.named b ≡ true → IsDayFault b.declarations until f → StopsOverFixings b s until table f
+  refused :
+      (last : ℤ) → is_known s.named b ≡ true → IsLastDay b.declarations until last
+      → IsRefusedOf b.declarations (used s.only b) f → StopsOverFixings b s until table f
+  bad_row :
+      (last : ℤ) → is_known s.named b ≡ true → IsLastDay b.declarations until last → AreAllAccepted b.declarations (used s.only b)
+      → IsRowFault b.declarations table 2 f → StopsOverFixings b s until table f
 
-pub record AppendsTables (d : Declarations) (fixings : Environment) (last : ℤ)
-    (entries : List (Name × Contract)) (before after : List FlowTable) : Type 0 where
-  pub tables : List FlowTable
-  pub are_tables : AreTables d fixings last entries tables
-  pub appended : after ≡ before ++ tables
+-- these, or what stops a command over fixings
+abbrev pub AnswersOver : Choice → ContractReader → Option (List ℕ) → Option (List ℕ) → Result Over Stop → Type 0
+AnswersOver choice reader until table r =
+    let d = declarations choice.decls.now in
+    let s = selection choice in
+    (text : List ℕ) → IsBegun text d reader
+    → AnswersBy (IsOver d until table) (StopsIn text d (λ b. StopsOverFixings b s until table)) r
 
-abbrev pub AnswersTables : Declarations → Environment → ℤ → List (Name × Contract) → List FlowTable → Result (Vec FlowTable) Stop → Type 0
-AnswersTables d fixings last entries before r =
-    AnswersBy (λ tables. AppendsTables d fixings last entries before tables.items) (IsMissingOf d fixings last entries) r
+-- the table of a contract is kept behind others, or its lines are
+abbrev pub KeepsTable : Bool → Declarations → List ℕ → FlowTable → Listed → Listed → Type 0
+KeepsTable true d name table before after = after.tables.items ≡ before.tables.items ++ table ∷ []
+KeepsTable false d name table before after = AppendsLines d name table.rows.items before.text.items after.text.items
+
+-- the tables of contracts if they are to be summed, else their lines
+abbrev pub AreListed : Bool → Declarations → Environment → ℤ → Listed → List (Name × Contract) → Type 0
+AreListed true d fixings last listed entries = AreTables d fixings last entries listed.tables.items
+AreListed false d fixings last listed entries = AreAllLines d fixings last entries listed.text.items
+
+-- the flows of contracts, or the first read of theirs that is not fixed
+pub record HasFlows (until : FlowsUntil) (kept : KeptFlows) (entries : List (Name × Contract)) : Type 0 where
+  pub fixed : Holds (all_fixed (declarations until.choice.decls.now) until.fixings.now until.last entries) kept.missing
+  pub listed :
+      kept.missing ≡ None
+      → AreListed until.summed (declarations until.choice.decls.now) until.fixings.now until.last kept.listed entries
+
+-- the same with a contract more, whatever was before it
+abbrev pub AddsFlows : FlowsUntil → Name × Contract → KeptFlows → KeptFlows → Type 0
+AddsFlows until entry before after =
+    (entries : List (Name × Contract)) → HasFlows until before entries → HasFlows until after (entries ++ entry ∷ [])
+
+abbrev pub AnswersKeptFlows : FlowsUntil → ContractReader → Result (Tried × KeptFlows) Stop → Type 0
+AnswersKeptFlows until reader r =
+    let d = declarations until.choice.decls.now in
+    (text : List ℕ) → IsBegun text d reader
+    → AnswersBy (λ all. IsWalkedThrough text d (selection until.choice) (HasFlows until all.1) all.0) (IsBadText text) r
+
+-- contracts that nothing stops: they are met and accepted, and each of their reads is fixed
+pub record PassesOf (s : Selection) (until : FlowsUntil) (b : Book) : Type 0 where
+  pub known : is_known s.named b ≡ true
+  pub accepted : AreAllAccepted b.declarations (used s.only b)
+  pub fixed : AreAllFixed b.declarations until.fixings.now until.last (used s.only b)
+
+abbrev pub PassesFlows : FlowsUntil → Book → Type 0
+PassesFlows until b = PassesOf (selection until.choice) until b
+
+-- all flows of such contracts of a text
+pub record ListsFlows (text : List ℕ) (until : FlowsUntil) (listed : Listed) : Type 0 where
+  pub entries : List (Name × Contract)
+  pub is_text : Text text (so_far (declarations until.choice.decls.now) entries)
+  pub passes : PassesFlows until (so_far (declarations until.choice.decls.now) entries)
+  pub are_listed :
+      AreListed until.summed (declarations until.choice.decls.now) until.fixings.now until.last listed
+      (used (selection until.choice).only (so_far (declarations until.choice.decls.now) entries))
+
+-- what stops a command over fixings that are there
+abbrev pub StopsFlows : FlowsUntil → Book → Fault → Type 0
+StopsFlows until b f =
+    StopsOn b (selection until.choice) (IsMissingOf b.declarations until.fixings.now until.last (used (selection until.choice).only b)) f
+
+abbrev pub AnswersFlows : FlowsUntil → ContractReader → Result Listed Stop → Type 0
+AnswersFlows until reader r =
+    let d = declarations until.choice.decls.now in
+    (text : List ℕ) → IsBegun text d reader → AnswersBy (ListsFlows text until) (StopsIn text d (StopsFlows until)) r
+
+-- ---- sums, and what is told
+
+-- the tables of accepted contracts, as many as a text can hold
+pub record CanBeSummed (until : FlowsUntil) (tables : List FlowTable) : Type 0 where
+  pub entries : List (Name × Contract)
+  pub few : length entries ≤ 16_777_216
+  pub accepted : AreAllAccepted (declarations until.choice.decls.now) entries
+  pub are_tables : AreTables (declarations until.choice.decls.now) until.fixings.now until.last entries tables
+
+-- the lines of what contracts with these tables pay together, whichever they are
+abbrev pub AreLinesOfSum : FlowsUntil → List FlowTable → List ℕ → Type 0
+AreLinesOfSum until tables text =
+    (entries : List (Name × Contract)) → AreTables (declarations until.choice.decls.now) until.fixings.now until.last entries tables
+    → AreSumLines (declarations until.choice.decls.now) until.fixings.now until.last entries text
+
+-- the lines of contracts of a text that nothing stops, or those of their sum
+pub record TellsLines (text : List ℕ) (until : FlowsUntil) (lines : Vec ℕ) : Type 0 where
+  pub entries : List (Name × Contract)
+  pub is_text : Text text (so_far (declarations until.choice.decls.now) entries)
+  pub passes : PassesFlows until (so_far (declarations until.choice.decls.now) entries)
+  pub are_lines :
+      AreLinesAsked until.summed (declarations until.choice.decls.now) until.fixings.now until.last
+      (used (selection until.choice).only (so_far (declarations until.choice.decls.now) entries)) lines.items
+
+abbrev pub AnswersLinesAsked : FlowsUntil → ContractReader → Result (Vec ℕ) Stop → Type 0
+AnswersLinesAsked until reader r =
+    let d = declarations until.choice.decls.now in
+    (text : List ℕ) → IsBegun text d reader → AnswersBy (TellsLines text until) (StopsIn text d (StopsFlows until)) r
+
+-- the contracts that `flows` uses, and the name that is to be that of one
+abbrev pub of_flows : FlowsAsked → Selection
+of_flows asked = record { named = asked.contract; only = asked.contract }
+
+-- whichever text is begun
+abbrev pub TellsFlows : Choice → ContractReader → FlowsAsked → Option (List ℕ) → Result (Vec ℕ) Stop → Type 0
+TellsFlows choice reader asked table r =
+    (text : List ℕ) → IsBegun text (declarations choice.decls.now) reader → GoesDone (flows_of_text asked text table) r

@@ -26,6 +26,7 @@ pub mod ScenariosCourse
 pub mod Courses
 pub mod UsedParts
 pub mod ReadingParts
+pub mod ChoosingParts
 pub mod CheckParts
 pub mod FlowsParts
 pub mod AdvanceParts

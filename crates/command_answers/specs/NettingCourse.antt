@@ -22,10 +22,14 @@ netting_on TellsOf asked b table =
     over_fixings None asked.until b table (λ last fixings.
     tells (IsToldOfTables TellsOf b.declarations fixings last (used None b)))
 
+-- the same behind the portfolio of a text
+abbrev pub netting_of_text : (Declarations → List FlowTable → List ℕ → Type 0) → NettingAsked → List ℕ → Option (List ℕ) → Course
+netting_of_text TellsOf asked text table =
+    behind (portfolio_of text) (λ b.
+    netting_on TellsOf asked b table)
+
 abbrev pub netting_course : (Declarations → List FlowTable → List ℕ → Type 0) → NettingAsked → List (List ℕ) → Course
-netting_course TellsOf asked inputs =
-    behind (portfolio_of (file_at inputs 0)) (λ b.
-    netting_on TellsOf asked b (table_if_named asked.fixings inputs))
+netting_course TellsOf asked inputs = netting_of_text TellsOf asked (file_at inputs 0) (table_if_named asked.fixings inputs)
 
 abbrev pub positions_course : NettingAsked → List (List ℕ) → Course
 positions_course = netting_course TellsPositions

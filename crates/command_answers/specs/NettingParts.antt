@@ -2,8 +2,13 @@
 use Rattle.std.specs.Prelude.{◌≡◌, ◌≤◌, ◌≤ℤ◌, ◌^◌, ℕ, ℤ, pos, List, ◌++◌, Option, None, Result}
 use Rattle.std.specs.Global.{Vec}
 use Rattle.term_core.specs.Books.{Book}
-use Rattle.term_core.specs.Declarations.{Declarations}
+use Rattle.term_core.specs.declared.decls.Decls.{Decls}
+use Rattle.term_core.specs.declared.name.Name.{Name}
+use Rattle.term_core.specs.Declarations.{Declarations, declarations}
 use Rattle.term_core.specs.Environments.{Environment}
+use Rattle.term_core.specs.Terms.{Contract}
+use Rattle.contract_parse.specs.Texts.{Text}
+use Rattle.contract_parse.specs.declared.next_contracts.ContractReader.{ContractReader}
 use Rattle.interval_check.specs.Safety.{IsSmall}
 use Rattle.flow_eval.specs.declared.flow_table.FlowTable.{FlowTable}
 use Rattle.report.specs.FlowLines.{IsWholeInAsset}
@@ -12,13 +17,19 @@ use Rattle.exposure.specs.LawsTables.{AreDuring, AreWholeInAssets}
 use Rattle.exposure.specs.Positions.{sizes_of}
 use Rattle.command_words.specs.Commands.{NettingAsked}
 use Rattle.command_answers.specs.CheckPromise.{AreAllAccepted}
+use Rattle.command_answers.specs.ChoosingParts.{StopsIn, so_far}
 use Rattle.command_answers.specs.Course.{Stops}
-use Rattle.command_answers.specs.FlowsCourse.{flows_on}
+use Rattle.command_answers.specs.FlowsCourse.{flows_of_text}
+use Rattle.command_answers.specs.FlowsParts.{ListsFlows, StopsFlows}
 use Rattle.command_answers.specs.FlowsPromise.{AreAllFixed, AreFixings, AreTables, IsLastDay}
 use Rattle.command_answers.specs.NettingCourse.{flows_of_all}
 use Rattle.command_answers.specs.NettingPromise.{ArePositionLines}
+use Rattle.command_answers.specs.ReadingParts.{IsBegun}
 use Rattle.command_answers.specs.Stopping.{AnswersBy}
 use Rattle.command_answers.specs.UsedContracts.{used}
+use Rattle.command_answers.specs.declared.choice.Choice.{Choice}
+use Rattle.command_answers.specs.declared.choice.FlowsUntil.{FlowsUntil}
+use Rattle.command_answers.specs.declared.flows_text.Listed.{Listed}
 use Rattle.command_answers.specs.declared.stop.Stop.{Stop}
 
 -- a position that a line can hold
@@ -51,7 +62,32 @@ pub record TablesKnown (asked : NettingAsked) (b : Book) (table : Option (List �
   pub are_tables : AreTables b.declarations fixings last (used None b) tables
   pub ready : AreReady b.declarations tables
 
--- the tables of all contracts, or what stops `flows` of them
-abbrev pub AnswersTablesOfAll : NettingAsked → Book → Option (List ℕ) → Result (Vec FlowTable) Stop → Type 0
-AnswersTablesOfAll asked b table r =
-    AnswersBy (λ tables. TablesKnown asked b table tables.items) (Stops (flows_on (flows_of_all asked) b table)) r
+-- the tables of contracts of a text, as their flows are listed
+pub record ListsTables (text : List ℕ) (until : FlowsUntil) (tables : List FlowTable) : Type 0 where
+  pub listed : Listed
+  pub lists : ListsFlows text until listed
+  pub are : tables ≡ listed.tables.items
+
+-- these, or what stops their flows
+abbrev pub AnswersFlowTables : FlowsUntil → ContractReader → Result (Vec FlowTable) Stop → Type 0
+AnswersFlowTables until reader r =
+    let d = declarations until.choice.decls.now in
+    (text : List ℕ) → IsBegun text d reader
+    → AnswersBy (λ tables. ListsTables text until tables.items) (StopsIn text d (StopsFlows until)) r
+
+-- the declarations and the tables of all contracts of a text that nothing stops
+pub record KnowsTables (asked : NettingAsked) (text : List ℕ) (table : Option (List ℕ)) (d : Declarations) (tables : List FlowTable) : Type 0 where
+  pub entries : List (Name × Contract)
+  pub is_text : Text text (so_far d entries)
+  pub known : TablesKnown asked (so_far d entries) table tables
+
+-- these, or what stops `flows` of all contracts of the text
+abbrev pub AnswersTablesOfText : NettingAsked → List ℕ → Option (List ℕ) → Result (Decls × Vec FlowTable) Stop → Type 0
+AnswersTablesOfText asked text table r =
+    AnswersBy (λ all. KnowsTables asked text table (declarations all.0) all.1.items) (Stops (flows_of_text (flows_of_all asked) text table)) r
+
+-- whichever text is begun
+abbrev pub AnswersTablesOfAll : Choice → ContractReader → NettingAsked → Option (List ℕ) → Result (Vec FlowTable) Stop → Type 0
+AnswersTablesOfAll choice reader asked table r =
+    (text : List ℕ) → IsBegun text (declarations choice.decls.now) reader
+    → AnswersBy (λ tables. KnowsTables asked text table (declarations choice.decls.now) tables.items) (Stops (flows_of_text (flows_of_all asked) text table)) r

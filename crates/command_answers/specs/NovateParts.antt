@@ -1,23 +1,31 @@
--- What a part of `novate` answers: the places of the two parties, where all three names are declared.
-use Rattle.std.specs.Prelude.{◌≡◌, ℕ, true, Some, Result}
-use Rattle.term_core.specs.Books.{Book}
+-- What a part of `novate` answers: the renaming, where both parties are declared.
+use Rattle.std.specs.Prelude.{◌≡◌, ℕ, List, Option, Some, Result}
+use Rattle.term_core.specs.Declarations.{Declarations}
 use Rattle.contract_parse.specs.Names.{index_in}
 use Rattle.report.specs.declared.fault_lines.Fault.{Fault}
 use Rattle.command_words.specs.Commands.{NovateAsked}
-use Rattle.command_answers.specs.NovatePromise.{KnowsParties}
-use Rattle.command_answers.specs.Stages.{IsUndeclared, IsUnknownName}
+use Rattle.command_answers.specs.Course.{Course, behind}
+use Rattle.command_answers.specs.NovateCourse.{novate_on}
+use Rattle.command_answers.specs.Stages.{IsUndeclared, portfolio_of}
 use Rattle.command_answers.specs.Stopping.{AnswersBy}
-use Rattle.command_answers.specs.UsedContracts.{is_known}
-use Rattle.command_answers.specs.declared.novate_text.Exchange.{Exchange}
+use Rattle.command_answers.specs.declared.advance_to.Renaming.{Renaming}
 use Rattle.command_answers.specs.declared.stop.Stop.{Stop}
 
--- the first of the three names that is not declared
-pub data LacksName (b : Book) (asked : NovateAsked) (f : Fault) : Type 0 where
-  no_contract : IsUnknownName b (Some asked.contract) f → LacksName b asked f
-  no_old : is_known (Some asked.contract) b ≡ true → IsUndeclared b.declarations.parties asked.old f → LacksName b asked f
+-- the first of the two parties that is not declared
+pub data LacksParty (d : Declarations) (asked : NovateAsked) (f : Fault) : Type 0 where
+  no_old : IsUndeclared d.parties asked.old f → LacksParty d asked f
   no_new :
-      (old : ℕ) → is_known (Some asked.contract) b ≡ true → index_in b.declarations.parties asked.old ≡ Some old
-      → IsUndeclared b.declarations.parties asked.new f → LacksName b asked f
+      (old : ℕ) → index_in d.parties asked.old ≡ Some old → IsUndeclared d.parties asked.new f → LacksParty d asked f
 
-abbrev pub AnswersExchange : Book → NovateAsked → Result Exchange Stop → Type 0
-AnswersExchange b asked r = AnswersBy (λ parties. KnowsParties b asked parties.old parties.new) (LacksName b asked) r
+-- the renaming in the contract of the name, by the places of the parties
+pub record IsRenaming (d : Declarations) (asked : NovateAsked) (renaming : Renaming) : Type 0 where
+  pub contract : renaming.contract.now ≡ asked.contract
+  pub old_is : index_in d.parties asked.old ≡ Some renaming.old
+  pub new_is : index_in d.parties asked.new ≡ Some renaming.new
+
+abbrev pub AnswersRenaming : Declarations → NovateAsked → Result Renaming Stop → Type 0
+AnswersRenaming d asked r = AnswersBy (IsRenaming d asked) (LacksParty d asked) r
+
+-- the course of `novate` on a text and a table
+abbrev pub novate_of_text : NovateAsked → List ℕ → Option (List ℕ) → Course
+novate_of_text asked text table = behind (portfolio_of text) (λ b. novate_on asked b table)

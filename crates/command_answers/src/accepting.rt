@@ -1,15 +1,12 @@
-//! Contracts that are accepted, or what stops a command that uses one that is not.
+//! A contract of a name that is accepted, or what stops a command that uses one that is not.
 
 ghost use Rattle.term_core.specs.Declarations.{declarations};
 ghost use Rattle.term_core.specs.Terms.{contract};
 ghost use Rattle.command_answers.specs.FlowsParts.{AnswersAcceptedOne};
-ghost use Rattle.command_answers.specs.Stages.{all_accepted};
-ghost use Rattle.command_answers.specs.Stopping.{AnswersStage};
-ghost use Rattle.command_answers.specs.UsedParts.{AreTriable, IsTriable, entries_of, entry_of};
+ghost use Rattle.command_answers.specs.UsedParts.{IsTriable};
 
 use crate::check_text::verdict;
 use crate::stop::Stop;
-use crate::used::Used;
 use report::Fault;
 use std::alloc::Global;
 use term_core::{Contr, Decls, Name};
@@ -30,24 +27,4 @@ pub fn accept_named(alloc: Global, decls: &Decls, name: &[u8], contr: &Contr) ->
             }))
         }
     }
-}
-
-/// Stops at a contract that is not accepted.
-pub fn accept(alloc: Global, decls: &Decls, one: &Used<'_>) -> Result<(), Stop>
-    requires { IsTriable (declarations decls.now) (entry_of one.now).1 }
-    ensures { AnswersAcceptedOne (declarations decls.now) (entry_of one.now) result }
-{
-    accept_named(alloc, decls, one.name.text(), one.contr.contr())
-}
-
-/// Stops at the first contract that is not accepted.
-pub fn accept_all(alloc: Global, decls: &Decls, ones: &[Used<'_>]) -> Result<(), Stop>
-    requires { AreTriable (declarations decls.now) (entries_of ones.now) }
-    ensures { AnswersStage (all_accepted (declarations decls.now) (entries_of ones.now))
-        (λ _. tt) result }
-{
-    for one in ones {
-        accept(alloc, decls, one)?;
-    }
-    Ok(())
 }

@@ -1,42 +1,44 @@
-//! The text of the command `advance`: a portfolio is carried to a day, and what is due and what is left is written.
+//! The text of the command `advance`: contracts are carried to a day, and what is due and what is left is written.
 
-ghost use Rattle.std.specs.Prelude.{◌≡◌, ◌≤◌, ◌∷◌, ◌++◌, [], pos, true, false, All, IfOk, OnOk};
-ghost use Rattle.std.specs.Map.{keys_of};
-ghost use Rattle.indexmap.specs.IndexMap.{keys};
+ghost use Rattle.std.specs.Prelude.{◌≡◌, ◌≤◌, ◌++◌, [], pos, All, IfOk, None, OnOk, length};
 ghost use Rattle.term_core.specs.Acceptance.{IsAccepted};
-ghost use Rattle.term_core.specs.Books.{book};
 ghost use Rattle.term_core.specs.Declarations.{declarations};
 ghost use Rattle.term_core.specs.Environments.{IsAdmitted};
-ghost use Rattle.contract_parse.specs.Names.{is_declared};
-ghost use Rattle.contract_print.specs.Spellable.{are_names};
+ghost use Rattle.term_core.specs.Terms.{contract};
+ghost use Rattle.contract_parse.specs.NextContracts.{IsSoundContract};
 ghost use Rattle.contract_print.specs.Writable.{IsWritableTerm};
 ghost use Rattle.flow_eval.specs.Readiness.{last_day};
 ghost use Rattle.flow_eval.specs.Tables.{IsDueRow};
 ghost use Rattle.report.specs.FlowLines.{HaveLines};
-ghost use Rattle.command_answers.specs.AdvanceCourse.{advance_on};
-ghost use Rattle.command_answers.specs.AdvanceParts.{AnswersCarried, AnswersNewDay, AnswersRest, AnswersRests, AppendsComments, AppendsDue, IsRestText};
+ghost use Rattle.command_answers.specs.AdvanceParts.{AddsRest, AnswersAdvanced, AnswersCarried};
+ghost use Rattle.command_answers.specs.AdvanceParts.{AnswersKeptRest, AnswersLeft, AnswersNewDay};
+ghost use Rattle.command_answers.specs.AdvanceParts.{AppendsComments, AreLeft, HasRests};
+ghost use Rattle.command_answers.specs.AdvanceParts.{advance_of_text, changed, rest_line};
 ghost use Rattle.command_answers.specs.AdvancePromise.{rest_declarations};
-ghost use Rattle.command_answers.specs.CheckPromise.{AreAllAccepted};
+ghost use Rattle.command_answers.specs.CheckParts.{HasBegun};
+ghost use Rattle.command_answers.specs.ChoosingParts.{Steps, selection};
 ghost use Rattle.command_answers.specs.FlowsParts.{IsShortTable};
-ghost use Rattle.command_words.specs.Arguments.{given_text};
 ghost use Rattle.command_answers.specs.Stopping.{GoesDone};
-ghost use Rattle.command_answers.specs.UsedParts.{AreTriable, HasSoundContracts, IsTriable, entries_of, entry_of};
+ghost use Rattle.command_answers.specs.UsedParts.{IsTriable};
+ghost use Rattle.command_words.specs.Arguments.{given_text};
 ghost use Rattle.command_words.specs.Words.{advance_by};
 
-use crate::accepting::accept_all;
-use crate::over_fixings::{day_asked, fixings_of, stop_of};
+use crate::advance_to::{AdvanceTo, Renaming};
+use crate::choice::Choice;
+use crate::choosing::{Tried, all_contracts, behind_names, choose, first_stop, nothing_tried};
+use crate::over_fixings::{day_asked, fixings_over, stop_of};
+use crate::reading::{read_next, start_reading};
 use crate::stop::Stop;
-use crate::used::{Used, used_contracts};
 use advance_step::{Advanced, advance};
 use command_words::{Advance, DayWord};
-use contract_print::print_portfolio;
+use contract_parse::{ContractReader, NextContract};
+use contract_print::{print_beginning, print_contract};
 use decimal::NoMemory;
-use fixing_files::Fixings;
+use exposure::rename;
 use flow_eval::FlowTable;
-use indexmap::IndexMap;
-use report::flow_line;
+use report::{Fault, flow_line};
 use std::alloc::Global;
-use term_core::{Contr, Decls, Name, Portfolio};
+use term_core::{Contr, Decls, defaults};
 
 const LAST_NEW_DAY: u32 = 1_000_000;
 
@@ -58,7 +60,8 @@ fn append_comments(
 ) -> Result<(), NoMemory>
     requires due { All (IsDueRow (pos 0) (pos last_day)) table.now.rows.items }
     requires lines { HaveLines (declarations decls.now) table.now.rows.items }
-    ensures { OnOk result (AppendsComments (declarations decls.now) name.now table.now.rows.items out.old.items out.new.items) }
+    ensures { OnOk result (AppendsComments (declarations decls.now) name.now
+        table.now.rows.items out.old.items out.new.items) }
 {
     for row in &table.rows {
         out.extend_from_slice(b"# ")?;
@@ -67,156 +70,233 @@ fn append_comments(
     Ok(())
 }
 
-// What contracts are advanced over: their declarations, what is fixed of these, and the new day, which is in range.
-#[derive(Clone, Copy)]
-struct AdvanceTo<'a> {
-    decls: &'a Decls,
-    fixings: &'a Fixings,
-    day: u32,
-    ghost first: { decls.now.start ≤ day },
-    ghost within: { day ≤ 1_000_000 },
-}
-
-/// What is due before the new day, and what is left of contracts.
+/// The comments of what is due so far before the new day, and the text so far of what is left.
 #[derive(Drop)]
 pub struct Left {
     pub due: Vec<u8>,
-    pub contracts: IndexMap<Name, Contr>,
+    pub rest: Vec<u8>,
 }
 
-/// What is due of a portfolio before a new day, and the portfolio that is left on it.
+/// The same of the contracts so far, or the fault of the first of them that has a read that is not fixed.
 #[derive(Drop)]
-pub struct Carried {
-    pub due: Vec<u8>,
-    pub rest: Portfolio,
+pub struct KeptRest {
+    pub left: Left,
+    pub missing: Option<Fault>,
 }
 
-// Puts what is due of a contract and what is left of it behind those of the contracts before it.
+// What is due of a contract before the new day, and what is left of it then.
+fn advance_contract(alloc: Global, to: &AdvanceTo<'_>, contr: &Contr) -> Result<Advanced, Stop>
+    requires accepted { IsAccepted (declarations to.now.choice.decls.now) (contract contr.now) }
+    requires triable { IsTriable (declarations to.now.choice.decls.now) (contract contr.now) }
+    requires admitted { IsAdmitted (declarations to.now.choice.decls.now) to.now.fixings.now }
+    ensures { AnswersAdvanced to.now (contract contr.now) result }
+{
+    let days = to.day - to.choice.decls.start;
+    match advance(alloc, to.choice.decls, contr, to.fixings, days) {
+        Ok(advanced) => Ok(advanced),
+        Err(error) => Err(stop_of(alloc, to.choice.decls, error)),
+    }
+}
+
+// What is left of a contract, with the new party if it is the one that is renamed.
+fn renamed(
+    alloc: Global,
+    renaming: Option<Renaming<'_>>,
+    name: &[u8],
+    rest: Contr,
+) -> Result<Contr, NoMemory>
+    ensures { IfOk result (λ r. contract r ≡ (changed renaming.entry (name.now, contract rest)).1) }
+{
+    let Some(renaming) = renaming else {
+        return Ok(rest);
+    };
+    if renaming.contract.as_bytes() == name {
+        rename(alloc, &rest, renaming.old, renaming.new)
+    } else {
+        Ok(rest)
+    }
+}
+
+// Puts what is due of a contract, and the line of what is left of it, behind those of the contracts before it.
 fn keep(
     alloc: Global,
-    decls: &Decls,
-    name: &Name,
+    to: &AdvanceTo<'_>,
+    name: &[u8],
     advanced: Advanced,
     left: &mut Left,
 ) -> Result<(), NoMemory>
     requires due { All (IsDueRow (pos 0) (pos last_day)) advanced.due.rows.items }
-    requires lines { HaveLines (declarations decls.now) advanced.due.rows.items }
-    requires name { is_declared (keys left.old.contracts) name.now ≡ false }
-    ensures due { OnOk result (AppendsDue (declarations decls.now) name.now advanced.due.rows.items left.old left.new) }
-    ensures rest { OnOk result (left.new.contracts.entries ≡ left.old.contracts.entries ++ (name.now, advanced.rest) ∷ []) }
+    requires lines { HaveLines (declarations to.now.choice.decls.now) advanced.due.rows.items }
+    requires writable { IsWritableTerm (contract advanced.rest) }
+    ensures due { OnOk result (AppendsComments (declarations to.now.choice.decls.now) name.now
+        advanced.due.rows.items left.old.due.items left.new.due.items) }
+    ensures rest { OnOk result (left.new.rest.items
+        ≡ left.old.rest.items ++ rest_line to.now (name.now, contract advanced.rest)) }
 {
-    append_comments(alloc, &mut left.due, decls, name.text(), &advanced.due)?;
-    left.contracts.insert(name.clone()?, advanced.rest)?;
-    Ok(())
+    let Advanced { due, rest } = advanced;
+    append_comments(alloc, &mut left.due, to.choice.decls, name, &due)?;
+    let rest = renamed(alloc, to.renaming, name, rest)?;
+    print_contract(alloc, &mut left.rest, to.choice.decls, name, &rest)
 }
 
-// Advances a contract behind those before it.
+// Advances a contract behind those before it, if all reads of these are fixed.
 fn advance_one(
     alloc: Global,
     to: &AdvanceTo<'_>,
-    one: &Used<'_>,
-    left: &mut Left,
-) -> Result<(), Stop>
-    requires accepted { IsAccepted (declarations to.now.decls.now) (entry_of one.now).1 }
-    requires triable { IsTriable (declarations to.now.decls.now) (entry_of one.now).1 }
-    requires admitted { IsAdmitted (declarations to.now.decls.now) to.now.fixings.now }
-    requires name { is_declared (keys left.old.contracts) (entry_of one.now).0 ≡ false }
-    ensures { AnswersRest (declarations to.now.decls.now) to.now.fixings.now to.now.day
-        (entry_of one.now) left.old left.new result }
+    one: NextContract<'_>,
+    kept: &mut KeptRest,
+) -> Result<(), NoMemory>
+    requires accepted { IsAccepted (declarations to.now.choice.decls.now) (contract one.contr) }
+    requires triable { IsTriable (declarations to.now.choice.decls.now) (contract one.contr) }
+    requires admitted { IsAdmitted (declarations to.now.choice.decls.now) to.now.fixings.now }
+    ensures { OnOk result (AddsRest to.now (one.entry.name.now, contract one.entry.contr)
+        kept.old kept.new) }
 {
-    let days = to.day - to.decls.start;
-    match advance(alloc, to.decls, one.contr.contr(), to.fixings, days) {
-        Ok(advanced) => {
-            keep(alloc, to.decls, one.name, advanced, left)?;
+    if kept.missing.is_some() {
+        return Ok(());
+    }
+    match advance_contract(alloc, to, &one.contr) {
+        Ok(advanced) => keep(alloc, to, one.name, advanced, &mut kept.left),
+        Err(Stop::Fault(fault)) => {
+            kept.missing = Some(fault);
             Ok(())
         }
-        Err(error) => Err(stop_of(alloc, to.decls, error)),
+        Err(Stop::NoMemory) => Err(NoMemory),
     }
 }
 
-// Advances contracts, in their order.
-fn advance_all(alloc: Global, to: &AdvanceTo<'_>, ones: &[Used<'_>]) -> Result<Left, Stop>
-    requires accepted { AreAllAccepted (declarations to.now.decls.now) (entries_of ones.now) }
-    requires triable { AreTriable (declarations to.now.decls.now) (entries_of ones.now) }
-    requires admitted { IsAdmitted (declarations to.now.decls.now) to.now.fixings.now }
-    requires names { are_names (keys_of (entries_of ones.now)) ≡ true }
-    ensures { AnswersRests (declarations to.now.decls.now) to.now.fixings.now to.now.day (entries_of ones.now) [] [] result }
+// The same of the next contract that is read, if it is used and none so far is refused.
+fn advance_next(
+    alloc: Global,
+    to: &AdvanceTo<'_>,
+    next: NextContract<'_>,
+    tried: &mut Tried,
+    kept: &mut KeptRest,
+) -> Result<(), NoMemory>
+    requires sound { IsSoundContract (declarations to.now.choice.decls.now) (contract next.contr) }
+    requires admitted { IsAdmitted (declarations to.now.choice.decls.now) to.now.fixings.now }
+    ensures { OnOk result (Steps (declarations to.now.choice.decls.now) (selection to.now.choice)
+        (HasRests to.now kept.old) (HasRests to.now kept.new)
+        (next.entry.name.now, contract next.entry.contr) tried.old tried.new) }
 {
-    let mut left = Left {
-        due: Vec::new(alloc),
-        contracts: IndexMap::new(alloc),
+    let Some(one) = choose(alloc, &to.choice, next, tried)? else {
+        return Ok(());
     };
-    for one in ones {
-        advance_one(alloc, to, one, &mut left)?;
-    }
-    Ok(left)
+    advance_one(alloc, to, one, kept)
 }
 
 // The declarations of what is left.
 fn rest_decls(alloc: Global, decls: &Decls, day: u32) -> Result<Decls, NoMemory>
     requires { day ≤ 1_000_000 }
-    ensures { IfOk result (λ rest. declarations rest ≡ rest_declarations (declarations decls.now) day) }
+    ensures { IfOk result (λ rest. declarations rest
+        ≡ rest_declarations (declarations decls.now) day) }
 {
     let mut rest = decls.copy(alloc)?;
     rest.start = day;
     Ok(rest)
 }
 
-/// Carries a portfolio to a new day over the fixings of a table: the flow lines of the days before it, each a comment, and the
-/// portfolio that is left on it, of the contracts at the defaults; or what stops it. Each contract is gone through once, and its
-/// name is copied once.
-pub fn carry(
-    alloc: Global,
-    portfolio: &Portfolio,
-    asked: &Advance<'_>,
-    table: Option<&[u8]>,
-) -> Result<Carried, Stop>
-    requires sound { HasSoundContracts (book portfolio.now) }
-    requires names { are_names (keys_of (book portfolio.now).contracts) ≡ true }
-    requires table { IsShortTable (given_text table) }
-    ensures { AnswersCarried (book portfolio.now) (advance_by asked.now) (given_text table.entry) result }
+// Nothing that is due, and the text of what is left up to its contracts.
+fn nothing_left(alloc: Global, to: &AdvanceTo<'_>) -> Result<Left, NoMemory>
+    ensures { IfOk result (λ left. AreLeft to.now left []) }
 {
-    let day = new_day(alloc, &portfolio.decls, asked.to)?;
-    let ones = used_contracts(alloc, portfolio, None)?;
-    accept_all(alloc, &portfolio.decls, &ones)?;
-    let fixings = fixings_of(alloc, &portfolio.decls, table)?;
-    let to = AdvanceTo {
-        decls: &portfolio.decls,
-        fixings: &fixings,
-        day,
-    };
-    let left = advance_all(alloc, &to, &ones)?;
-    let decls = rest_decls(alloc, &portfolio.decls, day)?;
-    let Left { due, contracts } = left;
-    let rest = Portfolio { decls, contracts };
-    Ok(Carried { due, rest })
+    let decls = rest_decls(alloc, to.choice.decls, to.day)?;
+    let mut rest = Vec::new(alloc);
+    print_beginning(alloc, &mut rest, &decls)?;
+    Ok(Left {
+        due: Vec::new(alloc),
+        rest,
+    })
 }
 
-/// What is due, and behind it the text of what is left.
-pub fn carried_text(alloc: Global, carried: Carried) -> Result<Vec<u8>, NoMemory>
-    requires { All (λ entry. IsWritableTerm entry.1) (book carried.rest).contracts }
-    ensures { IfOk result (λ text. IsRestText (book carried.rest) carried.due.items text.items) }
+// What comes of the contracts of a text, and what is kept of them.
+fn advance_all(
+    alloc: Global,
+    to: &AdvanceTo<'_>,
+    reader: &mut ContractReader<'_>,
+) -> Result<(Tried, KeptRest), Stop>
+    requires begun { HasBegun (declarations to.now.choice.decls.now) reader.old }
+    requires admitted { IsAdmitted (declarations to.now.choice.decls.now) to.now.fixings.now }
+    ensures { AnswersKeptRest to.now reader.old result }
 {
-    let Carried { due, rest } = carried;
+    let mut tried = nothing_tried(to.choice.named);
+    let left = nothing_left(alloc, to)?;
+    let mut kept = KeptRest {
+        left,
+        missing: None,
+    };
+    while let Some(next) = read_next(alloc, to.choice.decls, reader)? {
+        advance_next(alloc, to, next, &mut tried, &mut kept)?;
+    }
+    Ok((tried, kept))
+}
+
+// What is due, and behind it the text of what is left; or the first stop: at the text, by the name, by acceptance, or at a read that
+// is not fixed.
+fn left_text(
+    alloc: Global,
+    to: &AdvanceTo<'_>,
+    reader: &mut ContractReader<'_>,
+) -> Result<Vec<u8>, Stop>
+    requires begun { HasBegun (declarations to.now.choice.decls.now) reader.old }
+    requires admitted { IsAdmitted (declarations to.now.choice.decls.now) to.now.fixings.now }
+    ensures { AnswersLeft to.now reader.old result }
+{
+    let (tried, kept) = advance_all(alloc, to, reader)?;
+    first_stop(alloc, to.choice.named, tried, kept.missing)?;
+    let Left { due, rest } = kept.left;
     let mut text = due;
-    print_portfolio(alloc, &mut text, &rest)?;
+    text.extend_from_slice(&rest)?;
     Ok(text)
 }
 
-/// What `advance` writes of a portfolio over the fixings of a table: what is due before the new day, and the text of the
-/// portfolio that is left on it; or what stops it.
+/// What is due of the contracts of a text before the day of a word, and the text of what is left on it, with a renaming if there is
+/// one; or what stops a command from the name that is asked for on. Each contract is read, tried, advanced and dropped before the
+/// next.
+pub fn carry(
+    alloc: Global,
+    choice: Choice<'_>,
+    reader: &mut ContractReader<'_>,
+    asked: &Advance<'_>,
+    renaming: Option<Renaming<'_>>,
+    table: Option<&[u8]>,
+) -> Result<Vec<u8>, Stop>
+    requires begun { HasBegun (declarations choice.decls.now) reader.old }
+    requires table { IsShortTable (given_text table) }
+    requires all { given_text choice.only ≡ None }
+    ensures { AnswersCarried choice.entry renaming.entry (advance_by asked.now)
+        (given_text table.entry) reader.old result }
+{
+    match new_day(alloc, choice.decls, asked.to) {
+        Ok(day) => {
+            let fixings = fixings_over(alloc, &choice, reader, table)?;
+            let to = AdvanceTo {
+                choice,
+                fixings: &fixings,
+                day,
+                renaming,
+            };
+            left_text(alloc, &to, reader)
+        }
+        Err(stop) => Err(behind_names(alloc, &choice, reader, stop)),
+    }
+}
+
+/// What `advance` writes of a portfolio's text over the fixings of a table: what is due before the new day, and the text of the
+/// portfolio that is left on it; or what stops it. Each contract is read, tried, advanced and dropped before the next.
 pub fn advance_text(
     alloc: Global,
-    portfolio: &Portfolio,
+    text: &[u8],
     asked: &Advance<'_>,
     table: Option<&[u8]>,
 ) -> Result<Vec<u8>, Stop>
-    requires sound { HasSoundContracts (book portfolio.now) }
-    requires names { are_names (keys_of (book portfolio.now).contracts) ≡ true }
+    requires short { length text.now ≤ 16_777_216 }
     requires table { IsShortTable (given_text table) }
-    ensures { GoesDone (advance_on (advance_by asked.now) (book portfolio.now) (given_text table.entry)) result }
+    ensures { GoesDone (advance_of_text (advance_by asked.now) text.now
+        (given_text table.entry)) result }
 {
-    let carried = carry(alloc, portfolio, asked, table)?;
-    let text = carried_text(alloc, carried)?;
-    Ok(text)
+    let (decls, mut reader) = start_reading(alloc, text)?;
+    let setting = defaults(alloc, &decls)?;
+    let choice = all_contracts(&decls, &setting);
+    carry(alloc, choice, &mut reader, asked, None, table)
 }

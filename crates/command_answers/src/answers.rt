@@ -90,9 +90,8 @@ fn flows_answer(alloc: Global, asked: &Flows<'_>, inputs: &[Vec<u8>]) -> Result<
     requires { AreShort (bytes_of inputs.now) }
     ensures { Goes (flows_course (flows_by asked.now) (bytes_of inputs.now)) result }
 {
-    let portfolio = portfolio_of(alloc, file_at(inputs, 0))?;
     let table = table_if_named(asked.fixings, inputs);
-    let text = flows_text(alloc, &portfolio, asked, table)?;
+    let text = flows_text(alloc, file_at(inputs, 0), asked, table)?;
     Ok(Answer {
         status: Status::Done,
         text,
@@ -104,8 +103,7 @@ fn advance_answer(alloc: Global, asked: &Advance<'_>, inputs: &[Vec<u8>]) -> Res
     requires { AreShort (bytes_of inputs.now) }
     ensures { Goes (advance_course (advance_by asked.now) (bytes_of inputs.now)) result }
 {
-    let portfolio = portfolio_of(alloc, file_at(inputs, 0))?;
-    let text = advance_text(alloc, &portfolio, asked, Some(file_at(inputs, 1)))?;
+    let text = advance_text(alloc, file_at(inputs, 0), asked, Some(file_at(inputs, 1)))?;
     Ok(Answer {
         status: Status::Done,
         text,
@@ -117,8 +115,7 @@ fn novate_answer(alloc: Global, asked: &Novate<'_>, inputs: &[Vec<u8>]) -> Resul
     requires { AreShort (bytes_of inputs.now) }
     ensures { Goes (novate_course (novate_by asked.now) (bytes_of inputs.now)) result }
 {
-    let portfolio = portfolio_of(alloc, file_at(inputs, 0))?;
-    let text = novate_text(alloc, &portfolio, asked, Some(file_at(inputs, 1)))?;
+    let text = novate_text(alloc, file_at(inputs, 0), asked, Some(file_at(inputs, 1)))?;
     Ok(Answer {
         status: Status::Done,
         text,
@@ -130,8 +127,7 @@ fn payoff_answer(alloc: Global, asked: &Payoff<'_>, inputs: &[Vec<u8>]) -> Resul
     requires { AreShort (bytes_of inputs.now) }
     ensures { Goes (payoff_course (payoff_by asked.now) (bytes_of inputs.now)) result }
 {
-    let portfolio = portfolio_of(alloc, file_at(inputs, 0))?;
-    let text = payoff_text(alloc, &portfolio, asked)?;
+    let text = payoff_text(alloc, file_at(inputs, 0), asked)?;
     Ok(Answer {
         status: Status::Done,
         text,
@@ -199,9 +195,8 @@ fn positions_answer(alloc: Global, asked: &Netting<'_>, inputs: &[Vec<u8>]) -> R
     requires { AreShort (bytes_of inputs.now) }
     ensures { Goes (positions_course (netting_by asked.now) (bytes_of inputs.now)) result }
 {
-    let portfolio = portfolio_of(alloc, file_at(inputs, 0))?;
     let table = table_if_named(asked.fixings, inputs);
-    let text = positions_text(alloc, &portfolio, asked, table)?;
+    let text = positions_text(alloc, file_at(inputs, 0), asked, table)?;
     Ok(Answer {
         status: Status::Done,
         text,
@@ -213,9 +208,8 @@ fn settle_answer(alloc: Global, asked: &Netting<'_>, inputs: &[Vec<u8>]) -> Resu
     requires { AreShort (bytes_of inputs.now) }
     ensures { Goes (settle_course (netting_by asked.now) (bytes_of inputs.now)) result }
 {
-    let portfolio = portfolio_of(alloc, file_at(inputs, 0))?;
     let table = table_if_named(asked.fixings, inputs);
-    let text = settlement_text(alloc, &portfolio, asked, table)?;
+    let text = settlement_text(alloc, file_at(inputs, 0), asked, table)?;
     Ok(Answer {
         status: Status::Done,
         text,

@@ -1,34 +1,37 @@
 //! The text of the command `flows`.
 
-ghost use Rattle.std.specs.Prelude.{◌≤ℤ◌, ◌≤◌, pos, true, [], OnOk, length, option_map};
+ghost use Rattle.std.specs.Prelude.{◌≡◌, ◌≤ℤ◌, ◌≤◌, pos, IfOk, OnOk, length, option_map};
 ghost use Rattle.std.specs.List.{All};
 ghost use Rattle.term_core.specs.Acceptance.{IsAccepted};
-ghost use Rattle.term_core.specs.Books.{book};
 ghost use Rattle.term_core.specs.Declarations.{declarations};
 ghost use Rattle.term_core.specs.Environments.{IsAdmitted};
 ghost use Rattle.term_core.specs.Terms.{contract};
+ghost use Rattle.contract_parse.specs.NextContracts.{IsSoundContract};
 ghost use Rattle.flow_eval.specs.Readiness.{last_day};
 ghost use Rattle.flow_eval.specs.Tables.{IsDueRow};
 ghost use Rattle.report.specs.FlowLines.{HaveLines};
-ghost use Rattle.command_answers.specs.CheckPromise.{AreAllAccepted};
-ghost use Rattle.command_answers.specs.FlowsCourse.{flows_on};
-ghost use Rattle.command_answers.specs.FlowsParts.{AnswersLastDay, AnswersLines, AnswersLinesAsked, AnswersTable, AnswersTables, AppendsLines, IsShortTable};
+ghost use Rattle.command_answers.specs.CheckParts.{HasBegun};
+ghost use Rattle.command_answers.specs.ChoosingParts.{Steps, selection};
+ghost use Rattle.command_answers.specs.FlowsCourse.{flows_of_text};
+ghost use Rattle.command_answers.specs.FlowsParts.{AddsFlows, AnswersFlows, AnswersKeptFlows, AnswersLastDay, AnswersLinesAsked, AnswersOver};
+ghost use Rattle.command_answers.specs.FlowsParts.{AnswersTable, AppendsLines, AreLinesOfSum, CanBeSummed, HasFlows, IsShortTable, KeepsTable, TellsFlows, of_flows};
 ghost use Rattle.command_answers.specs.Stopping.{GoesDone};
-ghost use Rattle.command_answers.specs.UsedParts.{HasSoundContracts, entries_of};
 ghost use Rattle.command_words.specs.Arguments.{given_text};
 ghost use Rattle.command_words.specs.Words.{flows_by};
 
-use crate::accepting::accept_all;
-use crate::over_fixings::{day_asked, fixings_of, stop_of};
+use crate::choice::{Choice, FlowsUntil};
+use crate::choosing::{Tried, behind_names, choose, first_stop, nothing_tried};
+use crate::over_fixings::{day_asked, fixings_over, stop_of};
+use crate::reading::{read_next, start_reading};
 use crate::stop::Stop;
-use crate::used::{Used, know, used_contracts};
 use command_words::{DayWord, Flows};
+use contract_parse::{ContractReader, NextContract};
 use decimal::NoMemory;
 use fixing_files::Fixings;
 use flow_eval::{FlowTable, LAST_DAY, flows};
-use report::{flow_line, net};
+use report::{Fault, flow_line, net};
 use std::alloc::Global;
-use term_core::{Contr, Decls, Portfolio};
+use term_core::{Contr, Decls, defaults};
 
 /// The day of a word, or of none the last that there is.
 pub fn last_day(alloc: Global, decls: &Decls, until: Option<DayWord<'_>>) -> Result<i64, Stop>
@@ -58,116 +61,242 @@ pub fn append_table(
     Ok(())
 }
 
-/// What flows are asked over: declarations, what is fixed of their labels, and the last day, which is in range.
-#[derive(Clone, Copy)]
-pub struct FlowsUntil<'a> {
-    pub decls: &'a Decls,
-    pub fixings: &'a Fixings,
-    pub last: i64,
-    pub ghost first: { pos 0 ≤ℤ last },
-    pub ghost within: { last ≤ℤ pos last_day },
+/// The flows of contracts: their tables if they are to be summed, else their lines.
+#[derive(Drop)]
+pub struct Listed {
+    pub text: Vec<u8>,
+    pub tables: Vec<FlowTable>,
+}
+
+/// The flows of the contracts so far, or the fault of the first of them that has a read that is not fixed.
+#[derive(Drop)]
+pub struct KeptFlows {
+    pub listed: Listed,
+    pub missing: Option<Fault>,
 }
 
 // The flow table of a contract.
 fn table_of(alloc: Global, until: &FlowsUntil<'_>, contr: &Contr) -> Result<FlowTable, Stop>
-    requires accepted { IsAccepted (declarations until.now.decls.now) (contract contr.now) }
-    requires admitted { IsAdmitted (declarations until.now.decls.now) until.now.fixings.now }
-    ensures { AnswersTable (declarations until.now.decls.now) (contract contr.now) until.now.fixings.now until.now.last result }
+    requires accepted { IsAccepted (declarations until.now.choice.decls.now) (contract contr.now) }
+    requires admitted { IsAdmitted (declarations until.now.choice.decls.now) until.now.fixings.now }
+    ensures { AnswersTable (declarations until.now.choice.decls.now) (contract contr.now) until.now.fixings.now until.now.last result }
 {
-    match flows(alloc, until.decls, contr, until.fixings, until.last) {
+    match flows(alloc, until.choice.decls, contr, until.fixings, until.last) {
         Ok(table) => Ok(table),
-        Err(error) => Err(stop_of(alloc, until.decls, error)),
+        Err(error) => Err(stop_of(alloc, until.choice.decls, error)),
     }
 }
 
-// The lines of the flows of contracts, in their order.
-fn lines_of(alloc: Global, until: &FlowsUntil<'_>, ones: &[Used<'_>]) -> Result<Vec<u8>, Stop>
-    requires accepted { AreAllAccepted (declarations until.now.decls.now) (entries_of ones.now) }
-    requires admitted { IsAdmitted (declarations until.now.decls.now) until.now.fixings.now }
-    ensures { AnswersLines (declarations until.now.decls.now) until.now.fixings.now until.now.last (entries_of ones.now) [] result }
-{
-    let mut text = Vec::new(alloc);
-    for one in ones {
-        let table = table_of(alloc, until, one.contr.contr())?;
-        append_table(alloc, &mut text, until.decls, one.name.text(), &table)?;
-    }
-    Ok(text)
-}
-
-/// The flow tables of contracts, in their order.
-pub fn tables_of(
+// Keeps the table of a contract, or its lines.
+fn list_table(
     alloc: Global,
     until: &FlowsUntil<'_>,
-    ones: &[Used<'_>],
-) -> Result<Vec<FlowTable>, Stop>
-    requires accepted { AreAllAccepted (declarations until.now.decls.now) (entries_of ones.now) }
-    requires admitted { IsAdmitted (declarations until.now.decls.now) until.now.fixings.now }
-    ensures { AnswersTables (declarations until.now.decls.now) until.now.fixings.now until.now.last (entries_of ones.now) [] result }
+    name: &[u8],
+    table: FlowTable,
+    listed: &mut Listed,
+) -> Result<(), NoMemory>
+    requires due { All (IsDueRow (pos 0) (pos last_day)) table.rows.items }
+    requires lines { HaveLines (declarations until.now.choice.decls.now) table.rows.items }
+    ensures { OnOk result (KeepsTable until.now.summed (declarations until.now.choice.decls.now) name.now table listed.old listed.new) }
 {
-    let mut tables = Vec::new(alloc);
-    for one in ones {
-        tables.push(table_of(alloc, until, one.contr.contr())?)?;
+    if until.summed {
+        listed.tables.push(table)?;
+        Ok(())
+    } else {
+        append_table(alloc, &mut listed.text, until.choice.decls, name, &table)
     }
-    Ok(tables)
 }
 
-// The lines of what contracts pay together.
-fn sum_lines(alloc: Global, until: &FlowsUntil<'_>, ones: &[Used<'_>]) -> Result<Vec<u8>, Stop>
-    requires few { length ones.now ≤ 16_777_216 }
-    requires accepted { AreAllAccepted (declarations until.now.decls.now) (entries_of ones.now) }
-    requires admitted { IsAdmitted (declarations until.now.decls.now) until.now.fixings.now }
-    ensures { AnswersLinesAsked true (declarations until.now.decls.now) until.now.fixings.now until.now.last
-        (entries_of ones.now) result }
+// Puts the flows of a contract behind those of the contracts before it, if all reads of these are fixed.
+fn add_flows(
+    alloc: Global,
+    until: &FlowsUntil<'_>,
+    one: NextContract<'_>,
+    kept: &mut KeptFlows,
+) -> Result<(), NoMemory>
+    requires accepted { IsAccepted (declarations until.now.choice.decls.now) (contract one.contr) }
+    requires admitted { IsAdmitted (declarations until.now.choice.decls.now) until.now.fixings.now }
+    ensures { OnOk result (AddsFlows until.now (one.entry.name.now, contract one.entry.contr) kept.old kept.new) }
 {
-    let tables = tables_of(alloc, until, ones)?;
-    let sum = net(alloc, &tables)?;
+    if kept.missing.is_some() {
+        return Ok(());
+    }
+    match table_of(alloc, until, &one.contr) {
+        Ok(table) => list_table(alloc, until, one.name, table, &mut kept.listed),
+        Err(Stop::Fault(fault)) => {
+            kept.missing = Some(fault);
+            Ok(())
+        }
+        Err(Stop::NoMemory) => Err(NoMemory),
+    }
+}
+
+// The same of the next contract that is read, if it is used and none so far is refused.
+fn add_next(
+    alloc: Global,
+    until: &FlowsUntil<'_>,
+    next: NextContract<'_>,
+    tried: &mut Tried,
+    kept: &mut KeptFlows,
+) -> Result<(), NoMemory>
+    requires sound { IsSoundContract (declarations until.now.choice.decls.now) (contract next.contr) }
+    requires admitted { IsAdmitted (declarations until.now.choice.decls.now) until.now.fixings.now }
+    ensures { OnOk result (Steps (declarations until.now.choice.decls.now) (selection until.now.choice)
+        (HasFlows until.now kept.old) (HasFlows until.now kept.new)
+        (next.entry.name.now, contract next.entry.contr) tried.old tried.new) }
+{
+    if let Some(one) = choose(alloc, &until.choice, next, tried)? {
+        add_flows(alloc, until, one, kept)?;
+    }
+    Ok(())
+}
+
+// What comes of the contracts of a text, and what is kept of their flows.
+fn flows_of_all(
+    alloc: Global,
+    until: &FlowsUntil<'_>,
+    reader: &mut ContractReader<'_>,
+) -> Result<(Tried, KeptFlows), Stop>
+    requires begun { HasBegun (declarations until.now.choice.decls.now) reader.old }
+    requires admitted { IsAdmitted (declarations until.now.choice.decls.now) until.now.fixings.now }
+    ensures { AnswersKeptFlows until.now reader.old result }
+{
+    let mut tried = nothing_tried(until.choice.named);
+    let mut kept = KeptFlows {
+        listed: Listed {
+            text: Vec::new(alloc),
+            tables: Vec::new(alloc),
+        },
+        missing: None,
+    };
+    while let Some(next) = read_next(alloc, until.choice.decls, reader)? {
+        add_next(alloc, until, next, &mut tried, &mut kept)?;
+    }
+    Ok((tried, kept))
+}
+
+/// The flows of the contracts of a text that are used, or the first stop: at the text, by the name, by acceptance, or at a read that is
+/// not fixed.
+pub fn flows_listed(
+    alloc: Global,
+    until: &FlowsUntil<'_>,
+    reader: &mut ContractReader<'_>,
+) -> Result<Listed, Stop>
+    requires begun { HasBegun (declarations until.now.choice.decls.now) reader.old }
+    requires admitted { IsAdmitted (declarations until.now.choice.decls.now) until.now.fixings.now }
+    ensures { AnswersFlows until.now reader.old result }
+{
+    let (tried, kept) = flows_of_all(alloc, until, reader)?;
+    first_stop(alloc, until.choice.named, tried, kept.missing)?;
+    Ok(kept.listed)
+}
+
+/// The last day and the fixings that flows are asked over.
+#[derive(Drop)]
+pub struct Over {
+    pub last: i64,
+    pub fixings: Fixings,
+}
+
+/// The last day and the fixings that are asked for, if the word names a day in range and each row of the table is taken. If not, the
+/// contracts that are left are read, for a fault of theirs comes first.
+pub fn flows_over(
+    alloc: Global,
+    choice: &Choice<'_>,
+    reader: &mut ContractReader<'_>,
+    until: Option<DayWord<'_>>,
+    table: Option<&[u8]>,
+) -> Result<Over, Stop>
+    requires begun { HasBegun (declarations choice.now.decls.now) reader.old }
+    requires table { IsShortTable (given_text table) }
+    ensures over { AnswersOver choice.now reader.old (option_map (λ day. day.word.now) until.entry) (given_text table.entry) result }
+    ensures unread { IfOk result (λ over. reader.new ≡ reader.old) }
+{
+    match last_day(alloc, choice.decls, until) {
+        Ok(last) => {
+            let fixings = fixings_over(alloc, choice, reader, table)?;
+            Ok(Over { last, fixings })
+        }
+        Err(stop) => Err(behind_names(alloc, choice, reader, stop)),
+    }
+}
+
+// The lines of what contracts with these flow tables pay together.
+fn sum_lines(
+    alloc: Global,
+    until: &FlowsUntil<'_>,
+    tables: &[FlowTable],
+) -> Result<Vec<u8>, NoMemory>
+    requires summable { CanBeSummed until.now tables.now }
+    requires admitted { IsAdmitted (declarations until.now.choice.decls.now) until.now.fixings.now }
+    ensures { IfOk result (λ text. AreLinesOfSum until.now tables.now text.items) }
+{
+    let sum = net(alloc, tables)?;
     let mut text = Vec::new(alloc);
-    append_table(alloc, &mut text, until.decls, b"*", &sum)?;
+    append_table(alloc, &mut text, until.choice.decls, b"*", &sum)?;
     Ok(text)
 }
 
-// The lines of contracts, or of their sum.
+// The lines of the contracts that are used, or of their sum.
 fn lines_asked(
     alloc: Global,
     until: &FlowsUntil<'_>,
-    ones: &[Used<'_>],
-    net: bool,
+    reader: &mut ContractReader<'_>,
 ) -> Result<Vec<u8>, Stop>
-    requires few { length ones.now ≤ 16_777_216 }
-    requires accepted { AreAllAccepted (declarations until.now.decls.now) (entries_of ones.now) }
-    requires admitted { IsAdmitted (declarations until.now.decls.now) until.now.fixings.now }
-    ensures { AnswersLinesAsked net (declarations until.now.decls.now) until.now.fixings.now until.now.last
-        (entries_of ones.now) result }
+    requires begun { HasBegun (declarations until.now.choice.decls.now) reader.old }
+    requires admitted { IsAdmitted (declarations until.now.choice.decls.now) until.now.fixings.now }
+    ensures { AnswersLinesAsked until.now reader.old result }
 {
-    if net {
-        sum_lines(alloc, until, ones)
+    let listed = flows_listed(alloc, until, reader)?;
+    if until.summed {
+        Ok(sum_lines(alloc, until, &listed.tables)?)
     } else {
-        lines_of(alloc, until, ones)
+        Ok(listed.text)
     }
 }
 
-/// What `flows` writes of a portfolio over the fixings of a table: the flow lines of the contracts that are asked for, at the
-/// defaults and in their order, or those of their sum; or what stops it. No other contract is looked at.
-pub fn flows_text(
+// The same over what the words ask for.
+fn lines_over(
     alloc: Global,
-    portfolio: &Portfolio,
+    choice: Choice<'_>,
+    reader: &mut ContractReader<'_>,
     asked: &Flows<'_>,
     table: Option<&[u8]>,
 ) -> Result<Vec<u8>, Stop>
-    requires sound { HasSoundContracts (book portfolio.now) }
-    requires few { length (book portfolio.now).contracts ≤ 16_777_216 }
+    requires begun { HasBegun (declarations choice.decls.now) reader.old }
     requires table { IsShortTable (given_text table) }
-    ensures { GoesDone (flows_on (flows_by asked.now) (book portfolio.now) (given_text table.entry)) result }
+    requires chosen { selection choice ≡ of_flows (flows_by asked.now) }
+    ensures { TellsFlows choice.entry reader.old (flows_by asked.now) (given_text table.entry) result }
 {
-    know(alloc, portfolio, asked.contract)?;
-    let last = last_day(alloc, &portfolio.decls, asked.until)?;
-    let ones = used_contracts(alloc, portfolio, asked.contract)?;
-    accept_all(alloc, &portfolio.decls, &ones)?;
-    let fixings = fixings_of(alloc, &portfolio.decls, table)?;
+    let over = flows_over(alloc, &choice, reader, asked.until, table)?;
     let until = FlowsUntil {
-        decls: &portfolio.decls,
-        fixings: &fixings,
-        last,
+        choice,
+        fixings: &over.fixings,
+        last: over.last,
+        summed: asked.net,
     };
-    lines_asked(alloc, &until, &ones, asked.net)
+    lines_asked(alloc, &until, reader)
+}
+
+/// What `flows` writes of a portfolio's text over the fixings of a table: the flow lines of the contracts that are asked for, at the
+/// defaults and in their order, or those of their sum; or what stops it. Each contract is read, tried and dropped before the next.
+pub fn flows_text(
+    alloc: Global,
+    text: &[u8],
+    asked: &Flows<'_>,
+    table: Option<&[u8]>,
+) -> Result<Vec<u8>, Stop>
+    requires short { length text.now ≤ 16_777_216 }
+    requires table { IsShortTable (given_text table) }
+    ensures { GoesDone (flows_of_text (flows_by asked.now) text.now (given_text table.entry)) result }
+{
+    let (decls, mut reader) = start_reading(alloc, text)?;
+    let setting = defaults(alloc, &decls)?;
+    let choice = Choice {
+        decls: &decls,
+        setting: &setting,
+        named: asked.contract,
+        only: asked.contract,
+    };
+    lines_over(alloc, choice, &mut reader, asked, table)
 }

@@ -11,9 +11,12 @@
 
 mod accepting;
 mod advance_text;
+mod advance_to;
 mod answers;
 mod asking;
 mod check_text;
+mod choice;
+mod choosing;
 mod expand_text;
 mod flows_text;
 mod inputs;
@@ -26,7 +29,6 @@ mod reading;
 mod scenarios_text;
 mod status;
 mod stop;
-mod used;
 mod value_names;
 mod value_text;
 

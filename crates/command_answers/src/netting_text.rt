@@ -1,29 +1,31 @@
 //! The texts of the commands `positions` and `settle`.
 
-ghost use Rattle.std.specs.Prelude.{◌≤◌, OnOk, length};
+ghost use Rattle.std.specs.Prelude.{◌≡◌, ◌≤◌, OnOk, length};
 ghost use Rattle.std.specs.List.{All};
-ghost use Rattle.term_core.specs.Books.{book};
 ghost use Rattle.term_core.specs.Declarations.{declarations};
-ghost use Rattle.command_answers.specs.FlowsParts.{IsShortTable};
-ghost use Rattle.command_answers.specs.NettingCourse.{netting_on};
-ghost use Rattle.command_answers.specs.NettingParts.{AnswersTablesOfAll, AppendsPositions, IsDuePosition};
+ghost use Rattle.term_core.specs.Environments.{IsAdmitted};
+ghost use Rattle.command_answers.specs.CheckParts.{HasBegun};
+ghost use Rattle.command_answers.specs.ChoosingParts.{selection};
+ghost use Rattle.command_answers.specs.FlowsParts.{IsShortTable, of_flows};
+ghost use Rattle.command_answers.specs.NettingCourse.{flows_of_all, netting_of_text};
+ghost use Rattle.command_answers.specs.NettingParts.{AnswersFlowTables, AnswersTablesOfAll, AnswersTablesOfText, AppendsPositions, IsDuePosition};
 ghost use Rattle.command_answers.specs.NettingPromise.{TellsPositions, TellsSettlement};
 ghost use Rattle.command_answers.specs.Stopping.{GoesDone};
-ghost use Rattle.command_answers.specs.UsedParts.{HasSoundContracts};
 ghost use Rattle.command_words.specs.Arguments.{given_text};
 ghost use Rattle.command_words.specs.Words.{netting_by};
 
-use crate::accepting::accept_all;
-use crate::flows_text::{FlowsUntil, append_table, last_day, tables_of};
-use crate::over_fixings::fixings_of;
+use crate::choice::{Choice, FlowsUntil};
+use crate::choosing::all_contracts;
+use crate::flows_text::{append_table, flows_listed, flows_over};
+use crate::reading::start_reading;
 use crate::stop::Stop;
-use crate::used::used_contracts;
 use command_words::Netting;
+use contract_parse::ContractReader;
 use decimal::NoMemory;
 use exposure::{Positions, position_line, positions, settle};
 use flow_eval::FlowTable;
 use std::alloc::Global;
-use term_core::{Decls, Portfolio};
+use term_core::{Decls, defaults};
 
 // Appends the lines of positions.
 fn append_positions(
@@ -41,66 +43,95 @@ fn append_positions(
     Ok(())
 }
 
-// The flow tables of all contracts, at the defaults and in their order; or what stops `flows` of them.
+// The flow tables of the contracts that are left of a text; or what stops their flows.
+fn tables_listed(
+    alloc: Global,
+    until: &FlowsUntil<'_>,
+    reader: &mut ContractReader<'_>,
+) -> Result<Vec<FlowTable>, Stop>
+    requires begun { HasBegun (declarations until.now.choice.decls.now) reader.old }
+    requires admitted { IsAdmitted (declarations until.now.choice.decls.now) until.now.fixings.now }
+    ensures { AnswersFlowTables until.now reader.old result }
+{
+    let listed = flows_listed(alloc, until, reader)?;
+    Ok(listed.tables)
+}
+
+// The flow tables of all contracts that are left of a text, at the defaults and in their order; or what stops `flows` of them.
 fn tables_of_all(
     alloc: Global,
-    portfolio: &Portfolio,
+    choice: Choice<'_>,
+    reader: &mut ContractReader<'_>,
     asked: &Netting<'_>,
     table: Option<&[u8]>,
 ) -> Result<Vec<FlowTable>, Stop>
-    requires sound { HasSoundContracts (book portfolio.now) }
-    requires few { length (book portfolio.now).contracts ≤ 16_777_216 }
+    requires begun { HasBegun (declarations choice.decls.now) reader.old }
     requires table { IsShortTable (given_text table) }
-    ensures { AnswersTablesOfAll (netting_by asked.now) (book portfolio.now) (given_text table.entry) result }
+    requires all { selection choice ≡ of_flows (flows_of_all (netting_by asked.now)) }
+    ensures { AnswersTablesOfAll choice.entry reader.old (netting_by asked.now) (given_text table.entry) result }
 {
-    let last = last_day(alloc, &portfolio.decls, asked.until)?;
-    let ones = used_contracts(alloc, portfolio, None)?;
-    accept_all(alloc, &portfolio.decls, &ones)?;
-    let fixings = fixings_of(alloc, &portfolio.decls, table)?;
+    let over = flows_over(alloc, &choice, reader, asked.until, table)?;
     let until = FlowsUntil {
-        decls: &portfolio.decls,
-        fixings: &fixings,
-        last,
+        choice,
+        fixings: &over.fixings,
+        last: over.last,
+        summed: true,
     };
-    tables_of(alloc, &until, &ones)
+    tables_listed(alloc, &until, reader)
 }
 
-/// What `positions` writes of a portfolio over the fixings of a table: a line for each party, day and asset of what all contracts
+// The declarations of a text, and the flow tables of all its contracts.
+fn tables_of_text(
+    alloc: Global,
+    text: &[u8],
+    asked: &Netting<'_>,
+    table: Option<&[u8]>,
+) -> Result<(Decls, Vec<FlowTable>), Stop>
+    requires short { length text.now ≤ 16_777_216 }
+    requires table { IsShortTable (given_text table) }
+    ensures { AnswersTablesOfText (netting_by asked.now) text.now (given_text table.entry) result }
+{
+    let (decls, mut reader) = start_reading(alloc, text)?;
+    let setting = defaults(alloc, &decls)?;
+    let choice = all_contracts(&decls, &setting);
+    let tables = tables_of_all(alloc, choice, &mut reader, asked, table)?;
+    Ok((decls, tables))
+}
+
+/// What `positions` writes of a portfolio's text over the fixings of a table: a line for each party, day and asset of what all contracts
 /// bring the party; or what stops it.
 pub fn positions_text(
     alloc: Global,
-    portfolio: &Portfolio,
+    text: &[u8],
     asked: &Netting<'_>,
     table: Option<&[u8]>,
 ) -> Result<Vec<u8>, Stop>
-    requires sound { HasSoundContracts (book portfolio.now) }
-    requires few { length (book portfolio.now).contracts ≤ 16_777_216 }
+    requires short { length text.now ≤ 16_777_216 }
     requires table { IsShortTable (given_text table) }
-    ensures { GoesDone (netting_on TellsPositions (netting_by asked.now) (book portfolio.now) (given_text table.entry)) result }
+    ensures { GoesDone (netting_of_text TellsPositions (netting_by asked.now) text.now (given_text table.entry)) result }
 {
-    let tables = tables_of_all(alloc, portfolio, asked, table)?;
+    let (decls, tables) = tables_of_text(alloc, text, asked, table)?;
     let found = positions(alloc, &tables)?;
-    let mut text = Vec::new(alloc);
-    append_positions(alloc, &mut text, &portfolio.decls, &found)?;
-    Ok(text)
+    let mut lines = Vec::new(alloc);
+    append_positions(alloc, &mut lines, &decls, &found)?;
+    Ok(lines)
 }
 
 /// What `settle` writes: a line for each payment of a table that settles these positions; or what stops it.
 pub fn settlement_text(
     alloc: Global,
-    portfolio: &Portfolio,
+    text: &[u8],
     asked: &Netting<'_>,
     table: Option<&[u8]>,
 ) -> Result<Vec<u8>, Stop>
-    requires sound { HasSoundContracts (book portfolio.now) }
-    requires few { length (book portfolio.now).contracts ≤ 16_777_216 }
+    requires short { length text.now ≤ 16_777_216 }
     requires table { IsShortTable (given_text table) }
-    ensures { GoesDone (netting_on TellsSettlement (netting_by asked.now) (book portfolio.now) (given_text table.entry)) result }
+    ensures { GoesDone (netting_of_text TellsSettlement (netting_by asked.now) text.now (given_text table.entry)) result }
 {
-    let tables = tables_of_all(alloc, portfolio, asked, table)?;
+    let (decls, tables) = tables_of_text(alloc, text, asked, table)?;
     let found = positions(alloc, &tables)?;
     let settled = settle(alloc, &found)?;
-    let mut text = Vec::new(alloc);
-    append_table(alloc, &mut text, &portfolio.decls, b"*", &settled)?;
-    Ok(text)
+    let mut lines = Vec::new(alloc);
+    append_table(alloc, &mut lines, &decls, b"*", &settled)?;
+    Ok(lines)
 }

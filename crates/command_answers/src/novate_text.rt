@@ -1,83 +1,80 @@
 //! The text of the command `novate`.
 
-ghost use Rattle.std.specs.Prelude.{◌≡◌, true, OnOk};
-ghost use Rattle.std.specs.Map.{keys_of};
-ghost use Rattle.term_core.specs.Books.{book};
-ghost use Rattle.contract_parse.specs.ContractReading.{trees};
-ghost use Rattle.contract_print.specs.Spellable.{are_names};
+ghost use Rattle.std.specs.Prelude.{◌≡◌, ◌≤◌, Some, length};
+ghost use Rattle.term_core.specs.Declarations.{declarations};
+ghost use Rattle.term_core.specs.Instances.{declared_numbers};
 ghost use Rattle.command_words.specs.Arguments.{given_text};
 ghost use Rattle.command_words.specs.Words.{novate_by};
+ghost use Rattle.command_answers.specs.AdvanceParts.{every};
+ghost use Rattle.command_answers.specs.ChoosingParts.{selection};
 ghost use Rattle.command_answers.specs.FlowsParts.{IsShortTable};
-ghost use Rattle.command_answers.specs.NovateCourse.{novate_on};
-ghost use Rattle.command_answers.specs.NovateParts.{AnswersExchange};
-ghost use Rattle.command_answers.specs.NovatePromise.{novated};
+ghost use Rattle.command_answers.specs.NovateParts.{AnswersRenaming, novate_of_text};
 ghost use Rattle.command_answers.specs.Stopping.{GoesDone};
-ghost use Rattle.command_answers.specs.UsedParts.{HasSoundContracts};
 
-use crate::advance_text::{carried_text, carry};
+use crate::advance_text::carry;
+use crate::advance_to::Renaming;
+use crate::choice::Choice;
+use crate::choosing::behind_names;
+use crate::reading::start_reading;
 use crate::stop::Stop;
-use crate::used::know;
 use crate::value_names::index_of;
 use command_words::Novate;
-use decimal::NoMemory;
-use exposure::rename;
-use indexmap::IndexMap;
 use std::alloc::Global;
-use term_core::{Contr, Name, Portfolio};
+use term_core::{Decls, Setting, defaults};
 
-/// A party and the one that takes its place, by their indices.
-#[derive(Clone, Copy)]
-pub struct Exchange {
-    pub old: u32,
-    pub new: u32,
-}
-
-// The two parties, where the three names are declared.
-fn exchange_of(alloc: Global, portfolio: &Portfolio, asked: &Novate<'_>) -> Result<Exchange, Stop>
-    ensures { AnswersExchange (book portfolio.now) (novate_by asked.now) result }
+// All contracts, with a name that is to be that of one.
+fn all_with_name<'a>(decls: &'a Decls, setting: &'a Setting, name: &'a str) -> Choice<'a>
+    requires { setting.now.days.items ≡ declared_numbers (declarations decls.now) }
+    ensures decls { result.decls ≡ decls.entry }
+    ensures all { selection result ≡ every (Some name.entry.now) }
 {
-    know(alloc, portfolio, Some(asked.contract))?;
-    let old = index_of(alloc, &portfolio.decls.parties, asked.old)?;
-    let new = index_of(alloc, &portfolio.decls.parties, asked.new)?;
-    Ok(Exchange { old, new })
+    Choice {
+        decls,
+        setting,
+        named: Some(name),
+        only: None,
+    }
 }
 
-// Puts one party in the place of another in the contract of a name.
-fn rename_named(
-    alloc: Global,
-    contracts: &mut IndexMap<Name, Contr>,
-    name: &[u8],
-    exchange: Exchange,
-) -> Result<(), NoMemory>
-    requires { are_names (keys_of contracts.old.entries) ≡ true }
-    ensures { OnOk result (trees contracts.new.entries ≡ novated name.now exchange.old exchange.new (trees contracts.old.entries)) }
+// The renaming that is asked for, where both parties are declared.
+fn renaming_of<'a>(alloc: Global, decls: &Decls, asked: &Novate<'a>) -> Result<Renaming<'a>, Stop>
+    ensures { AnswersRenaming (declarations decls.now) (novate_by asked.now) result }
 {
-    let Some(contr) = contracts.get(name) else {
-        return Ok(());
-    };
-    let renamed = rename(alloc, contr, exchange.old, exchange.new)?;
-    let key = Name::new(alloc, name)?;
-    contracts.insert(key, renamed)?;
-    Ok(())
+    let old = index_of(alloc, &decls.parties, asked.old)?;
+    let new = index_of(alloc, &decls.parties, asked.new)?;
+    Ok(Renaming {
+        contract: asked.contract,
+        old,
+        new,
+    })
 }
 
-/// What `novate` writes of a portfolio over the fixings of a table: what `advance` does, but that what is left of the named
-/// contract has the new party in the place of the old one; or what stops it. That contract is copied once.
+/// What `novate` writes of a portfolio's text over the fixings of a table: what `advance` does, but that what is left of the named
+/// contract has the new party in the place of the old one; or what stops it. That a name is unknown is told before a party that is
+/// not declared, so the contracts that are left are read at such a party.
 pub fn novate_text(
     alloc: Global,
-    portfolio: &Portfolio,
+    text: &[u8],
     asked: &Novate<'_>,
     table: Option<&[u8]>,
 ) -> Result<Vec<u8>, Stop>
-    requires sound { HasSoundContracts (book portfolio.now) }
-    requires names { are_names (keys_of (book portfolio.now).contracts) ≡ true }
+    requires short { length text.now ≤ 16_777_216 }
     requires table { IsShortTable (given_text table) }
-    ensures { GoesDone (novate_on (novate_by asked.now) (book portfolio.now) (given_text table.entry)) result }
+    ensures { GoesDone (novate_of_text (novate_by asked.now) text.now
+        (given_text table.entry)) result }
 {
-    let exchange = exchange_of(alloc, portfolio, asked)?;
-    let mut carried = carry(alloc, portfolio, &asked.advance, table)?;
-    let name = asked.contract.as_bytes();
-    rename_named(alloc, &mut carried.rest.contracts, name, exchange)?;
-    let text = carried_text(alloc, carried)?;
-    Ok(text)
+    let (decls, mut reader) = start_reading(alloc, text)?;
+    let setting = defaults(alloc, &decls)?;
+    let choice = all_with_name(&decls, &setting, asked.contract);
+    match renaming_of(alloc, &decls, asked) {
+        Ok(renaming) => carry(
+            alloc,
+            choice,
+            &mut reader,
+            &asked.advance,
+            Some(renaming),
+            table,
+        ),
+        Err(stop) => Err(behind_names(alloc, &choice, &mut reader, stop)),
+    }
 }

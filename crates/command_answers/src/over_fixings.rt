@@ -1,15 +1,19 @@
 //! Commands over fixings: the day that a word asks for, the fixings of a table, and what stops a command that lacks one of
 //! these.
 
-ghost use Rattle.std.specs.Prelude.{◌≡◌, ◌≤◌, pos};
+ghost use Rattle.std.specs.Prelude.{◌≡◌, ◌≤◌, pos, IfOk};
 ghost use Rattle.term_core.specs.Declarations.{declarations};
 ghost use Rattle.flow_eval.specs.Readiness.{last_day};
-ghost use Rattle.command_answers.specs.FlowsParts.{AnswersDay, AnswersFixings, IsShortTable, IsStopOf, day_in_range};
+ghost use Rattle.command_answers.specs.CheckParts.{HasBegun};
+ghost use Rattle.command_answers.specs.FlowsParts.{AnswersDay, AnswersFixings, AnswersFixingsOver, IsShortTable, IsStopOf, day_in_range};
 ghost use Rattle.command_answers.specs.FlowsPromise.{label_name};
 ghost use Rattle.command_words.specs.Arguments.{given_text};
 
+use crate::choice::Choice;
+use crate::choosing::behind_acceptance;
 use crate::stop::Stop;
 use command_words::DayWord;
+use contract_parse::ContractReader;
 use decimal::NoMemory;
 use fixing_files::{DayFault, Fixings, RowErr, place_day, read_fixings};
 use flow_eval::FlowErr;
@@ -81,5 +85,24 @@ pub fn stop_of(alloc: Global, decls: &Decls, error: FlowErr) -> Stop
             Err(NoMemory) => Stop::NoMemory,
         },
         FlowErr::NoMemory => Stop::NoMemory,
+    }
+}
+
+/// The fixings of a table, if each of its rows is taken. If not, the contracts that are left are read and tried, for a fault of
+/// theirs comes first.
+pub fn fixings_over(
+    alloc: Global,
+    choice: &Choice<'_>,
+    reader: &mut ContractReader<'_>,
+    table: Option<&[u8]>,
+) -> Result<Fixings, Stop>
+    requires begun { HasBegun (declarations choice.now.decls.now) reader.old }
+    requires table { IsShortTable (given_text table) }
+    ensures over { AnswersFixingsOver choice.now reader.old (given_text table.entry) result }
+    ensures unread { IfOk result (λ fixings. reader.new ≡ reader.old) }
+{
+    match fixings_of(alloc, choice.decls, table) {
+        Ok(fixings) => Ok(fixings),
+        Err(stop) => Err(behind_acceptance(alloc, choice, reader, stop)),
     }
 }

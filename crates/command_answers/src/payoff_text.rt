@@ -1,47 +1,93 @@
 //! The text of the command `payoff`.
 
-ghost use Rattle.std.specs.Prelude.{◌≡◌, IfOk};
-ghost use Rattle.std.specs.List.{All};
-ghost use Rattle.term_core.specs.Books.{book};
+ghost use Rattle.std.specs.Prelude.{◌≡◌, ◌≤◌, [], ◌∷◌, IfOk, length};
 ghost use Rattle.term_core.specs.Declarations.{at_one_scale, declarations};
 ghost use Rattle.term_core.specs.Terms.{contract};
 ghost use Rattle.term_core.specs.WellFormed.{IsClosed};
+ghost use Rattle.contract_parse.specs.NextContracts.{IsSoundContract};
 ghost use Rattle.contract_print.specs.Writable.{IsWritableTerm};
 ghost use Rattle.payoff_lang.specs.Code.{payoff_code};
 ghost use Rattle.payoff_lang.specs.CodeBooks.{code_book};
 ghost use Rattle.payoff_lang.specs.CodeCanon.{IsCanonOfCode};
 ghost use Rattle.payoff_lang.specs.WritableCode.{IsWritableCode};
 ghost use Rattle.command_answers.specs.FlowsParts.{AnswersAcceptedOne};
-ghost use Rattle.command_answers.specs.PayoffCourse.{payoff_on};
+ghost use Rattle.command_answers.specs.PayoffCourse.{payoff_of, payoff_of_text};
+ghost use Rattle.command_answers.specs.PayoffParts.{AnswersKeptNamed, AnswersNamed, IsKept};
 ghost use Rattle.command_answers.specs.PayoffPromise.{IsAcceptedAtDefaults, code_asked, file_of};
 ghost use Rattle.command_answers.specs.Stopping.{GoesDone};
 ghost use Rattle.command_answers.specs.UsedContracts.{at_defaults};
-ghost use Rattle.command_answers.specs.UsedParts.{HasSoundContracts, IsSound};
 ghost use Rattle.command_words.specs.Words.{payoff_by};
 
-use crate::accepting::accept;
+use crate::accepting::accept_named;
+use crate::reading::{read_next, start_reading};
 use crate::stop::Stop;
-use crate::used::{Used, Written, contract_named, instance_of};
 use command_words::Payoff;
+use contract_parse::{ContractReader, NextContract};
 use decimal::NoMemory;
 use payoff_compile::{compile, compile_cut};
 use payoff_lang::{Code, CodeFile, print_code};
+use report::Fault;
 use std::alloc::Global;
-use term_core::{Contr, Decls, Name, Portfolio, defaults};
+use term_core::{Contr, Decls, Name, defaults, has_only_numbers, instantiate};
 
-// Stops where a contract is not accepted at the defaults.
-fn accept_at_defaults(alloc: Global, decls: &Decls, one: &Written<'_>) -> Result<(), Stop>
-    requires { IsSound (declarations decls.now) (contract one.now.contr.now) }
-    ensures { AnswersAcceptedOne (declarations decls.now)
-        (at_defaults (declarations decls.now) (one.now.name.now, contract one.now.contr.now)) result }
+// The contract, if it has the name.
+fn if_named(next: NextContract<'_>, word: &str) -> Option<Contr>
+    ensures { IsKept word.now ((next.entry.name.now, contract next.entry.contr) ∷ []) result }
 {
+    if word.as_bytes() == next.name {
+        Some(next.contr)
+    } else {
+        None
+    }
+}
+
+// The contract of a name among those of a text. The others are dropped as they are read.
+fn kept_named(
+    alloc: Global,
+    decls: &Decls,
+    reader: ContractReader<'_>,
+    word: &str,
+) -> Result<Option<Contr>, Stop>
+    ensures { AnswersKeptNamed (declarations decls.now) reader.entry word.now result }
+{
+    let mut reader = reader;
+    let mut kept = None;
+    while let Some(next) = read_next(alloc, decls, &mut reader)? {
+        kept = kept.or(if_named(next, word));
+    }
+    Ok(kept)
+}
+
+// The same. It stops at a name that is that of no contract.
+fn contract_named(
+    alloc: Global,
+    decls: &Decls,
+    reader: ContractReader<'_>,
+    word: &str,
+) -> Result<Contr, Stop>
+    ensures { AnswersNamed (declarations decls.now) reader.entry word.now result }
+{
+    match kept_named(alloc, decls, reader, word)? {
+        Some(contr) => Ok(contr),
+        None => {
+            let name = Name::new(alloc, word.as_bytes())?;
+            Err(Stop::Fault(Fault::UnknownName { name }))
+        }
+    }
+}
+
+// Stops at a contract of a name that is not accepted at the defaults. An instance is made only where it names a template.
+fn accept_at_defaults(alloc: Global, decls: &Decls, name: &[u8], contr: &Contr) -> Result<(), Stop>
+    requires { IsSoundContract (declarations decls.now) (contract contr.now) }
+    ensures { AnswersAcceptedOne (declarations decls.now)
+        (at_defaults (declarations decls.now) (name.now, contract contr.now)) result }
+{
+    if has_only_numbers(contr) {
+        return accept_named(alloc, decls, name, contr);
+    }
     let setting = defaults(alloc, decls)?;
-    let contr = instance_of(alloc, one.contr, &setting)?;
-    let used = Used {
-        name: one.name,
-        contr,
-    };
-    accept(alloc, decls, &used)
+    let made = instantiate(alloc, contr, &setting)?;
+    accept_named(alloc, decls, name, &made)
 }
 
 // The code that is asked for of a contract.
@@ -58,11 +104,12 @@ fn code_asked(alloc: Global, decls: &Decls, contr: &Contr, plain: bool) -> Resul
 }
 
 // Code under a name, on declarations in version 1.
-fn file_of(alloc: Global, decls: &Decls, name: &Name, code: Code) -> Result<CodeFile, NoMemory>
-    ensures { IfOk result (λ file. code_book file ≡ file_of (at_one_scale (declarations decls.now)) name.now (payoff_code code)) }
+fn file_of(alloc: Global, decls: &Decls, name: &[u8], code: Code) -> Result<CodeFile, NoMemory>
+    ensures { IfOk result (λ file. code_book file
+        ≡ file_of (at_one_scale (declarations decls.now)) name.now (payoff_code code)) }
 {
     let decls = decls.at_one_scale(alloc)?;
-    let name = name.clone()?;
+    let name = Name::new(alloc, name)?;
     Ok(CodeFile { decls, name, code })
 }
 
@@ -78,30 +125,42 @@ fn file_text(alloc: Global, file: &CodeFile) -> Result<Vec<u8>, NoMemory>
 }
 
 // The canonical text of the file of code.
-fn code_text(alloc: Global, decls: &Decls, name: &Name, code: Code) -> Result<Vec<u8>, NoMemory>
+fn code_text(alloc: Global, decls: &Decls, name: &[u8], code: Code) -> Result<Vec<u8>, NoMemory>
     requires { IsWritableCode (payoff_code code) }
-    ensures { IfOk result (λ text.
-        IsCanonOfCode text.items (file_of (at_one_scale (declarations decls.now)) name.now (payoff_code code))) }
+    ensures { IfOk result (λ text. IsCanonOfCode text.items
+        (file_of (at_one_scale (declarations decls.now)) name.now (payoff_code code))) }
 {
     let file = file_of(alloc, decls, name, code)?;
     file_text(alloc, &file)
 }
 
-/// What `payoff` writes of the named contract of a portfolio: the code of the contract as it is written, under its name and
-/// behind the portfolio's declarations; or what stops it. No other contract is looked at, and an instance is made only to be
-/// tried.
-pub fn payoff_text(
+// What is written of the contract of the name: its code as it is written, behind the declarations; or what stops the command.
+fn payoff_of(
     alloc: Global,
-    portfolio: &Portfolio,
+    decls: &Decls,
+    contr: &Contr,
     asked: &Payoff<'_>,
 ) -> Result<Vec<u8>, Stop>
-    requires sound { HasSoundContracts (book portfolio.now) }
-    requires writable { All (λ entry. IsWritableTerm entry.1) (book portfolio.now).contracts }
-    ensures { GoesDone (payoff_on (payoff_by asked.now) (book portfolio.now)) result }
+    requires sound { IsSoundContract (declarations decls.now) (contract contr.now) }
+    requires writable { IsWritableTerm (contract contr.now) }
+    ensures { GoesDone
+        (payoff_of (payoff_by asked.now) (declarations decls.now) (contract contr.now)) result }
 {
-    let one = contract_named(alloc, portfolio, asked.contract)?;
-    accept_at_defaults(alloc, &portfolio.decls, &one)?;
-    let code = code_asked(alloc, &portfolio.decls, one.contr, asked.plain)?;
-    let text = code_text(alloc, &portfolio.decls, one.name, code)?;
+    let name = asked.contract.as_bytes();
+    accept_at_defaults(alloc, decls, name, contr)?;
+    let code = code_asked(alloc, decls, contr, asked.plain)?;
+    let text = code_text(alloc, decls, name, code)?;
     Ok(text)
+}
+
+/// What `payoff` writes of the named contract of a portfolio's text: the code of the contract as it is written, under its name and
+/// behind the portfolio's declarations; or what stops it. The other contracts are read and dropped, and an instance is made only
+/// to be tried.
+pub fn payoff_text(alloc: Global, text: &[u8], asked: &Payoff<'_>) -> Result<Vec<u8>, Stop>
+    requires { length text.now ≤ 16_777_216 }
+    ensures { GoesDone (payoff_of_text (payoff_by asked.now) text.now) result }
+{
+    let (decls, reader) = start_reading(alloc, text)?;
+    let contr = contract_named(alloc, &decls, reader, asked.contract)?;
+    payoff_of(alloc, &decls, &contr, asked)
 }

@@ -1,18 +1,15 @@
-use Rattle.std.specs.Prelude.{◌≡◌, true, [], Result, drop}
-use Rattle.std.specs.Map.{keys_of}
-use Rattle.term_core.specs.Declarations.{declarations}
-use Rattle.contract_print.specs.Spellable.{are_new}
-use Rattle.command_answers.specs.AdvanceParts.{AnswersRests}
-use Rattle.command_answers.specs.UsedParts.{entries_of}
-use Rattle.command_answers.specs.declared.advance_text.Left.{Left}
-use Rattle.command_answers.specs.declared.stop.Stop.{Stop}
+use Rattle.std.specs.Prelude.{ℕ, List}
+use Rattle.contract_parse.specs.NextContracts.{bytes_left}
+use Rattle.command_answers.specs.AdvanceParts.{HasRests, declared_to}
+use Rattle.command_answers.specs.ChoosingParts.{IsWalked, selection}
+use Rattle.command_answers.specs.ReadingParts.{IsBegun}
 use Rattle.command_answers.proofs.advance_text.advance_all.Given as goal
-use Rattle.contract_parse.specs.ContractReading.{trees}
 
--- the names of the contracts that are left are new behind those so far, and the answer for them is that for all
-abbrev pub invariant-loop-one : goal.invariant-loop-one
-invariant-loop-one l = record {
-  names : are_new (keys_of (trees l.left.contracts.entries)) (keys_of (entries_of (drop l.one-index l.ones))) ≡ true;
-  rest : (r : Result Left Stop) → AnswersRests (declarations l.to.decls.now) l.to.fixings.now l.to.day (entries_of (drop l.one-index l.ones)) l.left.due.items (trees l.left.contracts.entries) r
-      → AnswersRests (declarations l.to.decls.now) l.to.fixings.now l.to.day (entries_of l.ones) [] [] r;
-}
+-- of whichever text is begun, the contracts that are read are tried, and what is due and left of them is kept
+abbrev pub invariant-loop-kept : goal.invariant-loop-kept
+invariant-loop-kept l =
+    (text : List ℕ) → IsBegun text (declared_to l.to) l.initial.reader
+    → IsWalked text (declared_to l.to) (selection l.to.choice) (HasRests l.to l.kept) l.reader l.tried
+
+abbrev pub decreases-loop-kept : goal.decreases-loop-kept
+decreases-loop-kept l = bytes_left l.reader

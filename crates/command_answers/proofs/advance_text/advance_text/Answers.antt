@@ -1,39 +1,52 @@
-use Rattle.std.proofs.Common.{ℕ, List, Bor}
+use Rattle.std.proofs.Common.{ℕ, List, Bor, ap, inl, subst, sym}
 use Rattle.std.specs.Prelude.{Option, None, option_map}
 use Rattle.std.specs.Global.{Vec}
-use Rattle.term_core.specs.Books.{Book, book}
+use Rattle.term_core.specs.Declarations.{Declarations, declarations}
+use Rattle.term_core.specs.declared.decls.Decls.{Decls}
+use Rattle.contract_parse.specs.declared.next_contracts.ContractReader.{ContractReader}
 use Rattle.command_words.specs.Words.{advance_by}
-use Rattle.command_answers.specs.AdvanceCourse.{advance_on}
-use Rattle.command_answers.specs.AdvanceParts.{IsCarried}
-use Rattle.command_answers.specs.AdvancePromise.{IsAdvanced}
+use Rattle.command_answers.specs.AdvanceParts.{IsCarriedText, StopsCarry, advance_of_text}
+use Rattle.command_answers.specs.ChoosingParts.{Selection, StopsIn, selection}
 use Rattle.command_answers.specs.Course.{Stops, Tells}
-use Rattle.command_answers.specs.UsedContracts.{used}
+use Rattle.command_answers.specs.ReadingParts.{IsBegun}
+use Rattle.command_answers.specs.Stages.{IsBadText}
 use Rattle.command_answers.specs.declared.status.Status.TheVariants as status
-use Rattle.command_answers.proofs.AdvanceFacts.{is_advanced, tells_on_day}
-use Rattle.command_answers.proofs.StopFacts.{handed_on}
-use Rattle.command_answers.proofs.WritableFacts.{all_writable}
+use Rattle.command_answers.proofs.AdvanceFacts.{advance_stops, advance_tells}
+use Rattle.command_answers.proofs.StopFacts.{answers_too, handed_on, lacks_memory_done}
 use Rattle.command_answers.proofs.advance_text.advance_text.Goals as goal
 
 abbrev given : Option (Bor (List ℕ)) → Option (List ℕ)
 given table = option_map (λ (bytes : Bor (List ℕ)). bytes.now) table
 
-pub returns-in_err-carried : goal.returns-in_err-carried
-returns-in_err-carried c =
-    let course = advance_on (advance_by c.args.asked.now) (book c.args.portfolio.now) (given c.args.table) in
-    handed_on (IsCarried (book c.args.portfolio.now) (advance_by c.args.asked.now) (given c.args.table)) (λ (text : Vec ℕ). Tells course status.Done text.items) (Stops course) (Stops course) (λ f h. h)
-    c.in_err-carried.field-0.0 c.from_residual.result c.in_err-carried.ensures c.from_residual.ensures.1
+pub returns-in_err-decls : goal.returns-in_err-decls
+returns-in_err-decls c =
+    let text = c.args.text.now in
+    let course = advance_of_text (advance_by c.args.asked.now) text (given c.args.table) in
+    handed_on (λ (start : Decls × ContractReader). IsBegun text (declarations start.0) start.1) (λ (out : Vec ℕ). Tells course status.Done out.items) (IsBadText text) (Stops course)
+    (λ f h. inl h) c.in_err-decls.field-0.0 c.from_residual.result c.in_err-decls.ensures c.from_residual.ensures.1
 
-pub carried_text-requires : goal.carried_text-requires
-carried_text-requires c =
-    let b = book c.args.portfolio.now in
-    let is = c.in_ok-carried.ensures in
-    all_writable b.declarations is.fixings is.day (used None b) (book c.in_ok-carried.carried.rest).contracts is.is_rest.contracts
+pub returns-in_err-setting : goal.returns-in_err-setting
+returns-in_err-setting c =
+    lacks_memory_done (advance_of_text (advance_by c.args.asked.now) c.args.text.now (given c.args.table)) c.from_residual-in_err-setting.result c.from_residual-in_err-setting.ensures.1
+
+pub carry-requires-clause-begun : goal.carry-requires-clause-begun
+carry-requires-clause-begun c =
+    let text = c.args.text.now in
+    (text, subst (λ (d : Declarations). IsBegun text d c.in_ok-decls.reader) (sym (ap (λ (x : Bor Decls). declarations x.now) c.all_contracts-choice.ensures.decls)) c.in_ok-decls.ensures)
+
+pub carry-requires-clause-all : goal.carry-requires-clause-all
+carry-requires-clause-all c = ap (λ (s : Selection). s.only) c.all_contracts-choice.ensures.all
 
 pub returns : goal.returns
 returns c =
-    let b = book c.args.portfolio.now in
+    let text = c.args.text.now in
     let asked = advance_by c.args.asked.now in
     let table = given c.args.table in
-    let is = c.in_ok-carried.ensures in
-    let text = c.in_ok-text.text.items in
-    tells_on_day b asked table c.in_ok-carried.carried is (IsAdvanced b) text (is_advanced b asked table c.in_ok-carried.carried is (λ (rest : Book). rest) text c.in_ok-text.ensures)
+    let choice = c.all_contracts-choice.result in
+    let d = declarations choice.decls.now in
+    let course = advance_of_text asked text table in
+    let begun = subst (λ (x : Declarations). IsBegun text x c.in_ok-decls.reader) (sym (ap (λ (x : Bor Decls). declarations x.now) c.all_contracts-choice.ensures.decls)) c.in_ok-decls.ensures in
+    answers_too (λ (out : Vec ℕ). IsCarriedText text choice None asked table out.items) (λ (out : Vec ℕ). Tells course status.Done out.items)
+    (StopsIn text d (StopsCarry (selection choice) asked table)) (Stops course)
+    (advance_tells text choice asked table c.all_contracts-choice.ensures.all) (advance_stops text choice asked table c.all_contracts-choice.ensures.all)
+    c.carry.result (c.carry.ensures text begun)

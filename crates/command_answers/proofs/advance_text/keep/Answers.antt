@@ -1,13 +1,10 @@
-use Rattle.std.proofs.Common.{◌≡◌, ◌∙◌, ℕ, List, ap, rules}
-use Rattle.std.specs.Str.{bytes_eq}
-use Rattle.indexmap.specs.IndexMap.{insert_entry}
-use Rattle.contract_parse.proofs.LineFacts.{entry_added}
+use Rattle.std.proofs.Common.{subst, sym}
+use Rattle.term_core.specs.Terms.{Contract, contract}
+use Rattle.contract_print.specs.Writable.{IsWritableTerm}
+use Rattle.command_answers.proofs.WritableFacts.{changed_writable}
 use Rattle.command_answers.proofs.advance_text.keep.Goals as goal
 
-pub returns-clause-rest : goal.returns-clause-rest
-returns-clause-rest c =
-    let entries = c.args.left.now.contracts.entries in
-    let name = c.args.name.now in
-    let rest = c.args.advanced.rest in
-    let same : c.in_ok-clone.field-0 ≡ name = search rules in
-    c.in_ok-insert.ensures.entries ∙ ap (λ (n : List ℕ). insert_entry bytes_eq entries n rest) same ∙ entry_added entries name rest c.requires.name
+pub print_contract-requires : goal.print_contract-requires
+print_contract-requires c =
+    subst (λ (x : Contract). IsWritableTerm x) (sym c.in_ok-rest.ensures)
+    (changed_writable c.args.to.now.renaming (c.args.name.now, contract c.args.advanced.rest) c.requires.writable)

@@ -1,22 +1,19 @@
 use Rattle.std.proofs.Common.{◌≤◌, ℕ, List, length, subst, sym}
 use Rattle.std.specs.Prelude.{Some, Err}
-use Rattle.term_core.specs.Books.{Book, book}
-use Rattle.contract_print.proofs.TextSpellable.{texts_spellable}
 use Rattle.command_words.specs.Words.{advance_by}
-use Rattle.command_answers.specs.AdvanceCourse.{advance_on}
+use Rattle.command_answers.specs.AdvanceCourse.{advance_course}
+use Rattle.command_answers.specs.AdvanceParts.{advance_of_text}
+use Rattle.command_answers.specs.Course.{Tells}
 use Rattle.command_answers.specs.Inputs.{bytes_of, file_at}
 use Rattle.command_answers.specs.Stopping.{GoesDone}
-use Rattle.command_answers.proofs.InputFacts.{behind_portfolio, file_short, sound_in}
+use Rattle.command_answers.specs.declared.status.Status.TheVariants as status
+use Rattle.command_answers.proofs.InputFacts.{file_short}
+use Rattle.command_answers.proofs.StopFacts.{hands_on_rest}
 use Rattle.command_answers.proofs.answers.advance_answer.Goals as goal
 
-pub advance_text-requires-clause-sound : goal.advance_text-requires-clause-sound
-advance_text-requires-clause-sound c =
-    sound_in (bytes_of c.args.inputs.now) c.file_at.result.now c.file_at.ensures (book c.in_ok-portfolio.portfolio) c.in_ok-portfolio.ensures c.requires
-
-pub advance_text-requires-clause-names : goal.advance_text-requires-clause-names
-advance_text-requires-clause-names c =
-    let spelled = texts_spellable c.file_at.result.now (book c.in_ok-portfolio.portfolio) c.in_ok-portfolio.ensures in
-    spelled.contracts
+pub advance_text-requires-clause-short : goal.advance_text-requires-clause-short
+advance_text-requires-clause-short c =
+    subst (λ (x : List ℕ). length x ≤ 16_777_216) (sym c.file_at.ensures) (file_short (bytes_of c.args.inputs.now) 0 c.requires)
 
 pub advance_text-requires-clause-table : goal.advance_text-requires-clause-table
 advance_text-requires-clause-table c =
@@ -25,8 +22,16 @@ advance_text-requires-clause-table c =
 pub returns-in_err-text : goal.returns-in_err-text
 returns-in_err-text c =
     let inputs = bytes_of c.args.inputs.now in
-    let b = book c.in_ok-portfolio.portfolio in
     let asked = advance_by c.args.asked.now in
     let e = c.in_err-text.field-0.0 in
-    behind_portfolio inputs c.file_at.result.now c.file_at.ensures b c.in_ok-portfolio.ensures (λ (b : Book). advance_on asked b (Some (file_at inputs 1)))
-    e c.from_residual-in_err-text.result (subst (λ (x : List ℕ). GoesDone (advance_on asked b (Some x)) (Err e)) c.file_at-2.ensures c.in_err-text.ensures) c.from_residual-in_err-text.ensures.1
+    let read = subst (λ (x : List ℕ). GoesDone (advance_of_text asked x (Some c.file_at-2.result.now)) (Err e)) c.file_at.ensures c.in_err-text.ensures in
+    hands_on_rest (advance_of_text asked (file_at inputs 0) (Some (file_at inputs 1))) (advance_course asked inputs) (λ f h. h)
+    e c.from_residual.result (subst (λ (x : List ℕ). GoesDone (advance_of_text asked (file_at inputs 0) (Some x)) (Err e)) c.file_at-2.ensures read) c.from_residual.ensures.1
+
+pub returns : goal.returns
+returns c =
+    let inputs = bytes_of c.args.inputs.now in
+    let asked = advance_by c.args.asked.now in
+    let text = c.in_ok-text.text.items in
+    let read = subst (λ (x : List ℕ). Tells (advance_of_text asked x (Some c.file_at-2.result.now)) status.Done text) c.file_at.ensures c.in_ok-text.ensures in
+    subst (λ (x : List ℕ). Tells (advance_of_text asked (file_at inputs 0) (Some x)) status.Done text) c.file_at-2.ensures read

@@ -1,27 +1,19 @@
 use Rattle.std.proofs.Common.{ℕ, List, subst, sym}
-use Rattle.std.specs.Prelude.{Option, Err}
-use Rattle.term_core.specs.Books.{Book, book}
-use Rattle.contract_parse.specs.Texts.{Text}
+use Rattle.std.specs.Prelude.{Option, Ok, Err}
 use Rattle.command_words.specs.Arguments.{given_text}
 use Rattle.command_words.specs.Words.{netting_by}
-use Rattle.command_answers.specs.Course.{Tells}
+use Rattle.command_answers.specs.Course.{Course}
 use Rattle.command_answers.specs.FlowsCourse.{table_if_named}
 use Rattle.command_answers.specs.FlowsParts.{IsShortTable}
 use Rattle.command_answers.specs.Inputs.{bytes_of, file_at}
-use Rattle.command_answers.specs.NettingCourse.{netting_on}
+use Rattle.command_answers.specs.NettingCourse.{netting_of_text}
 use Rattle.command_answers.specs.NettingPromise.{TellsSettlement}
-use Rattle.command_answers.specs.Stopping.{GoesDone}
-use Rattle.command_answers.specs.declared.status.Status.TheVariants as status
-use Rattle.command_answers.proofs.InputFacts.{behind_portfolio, few_in, file_short, sound_in, table_short}
+use Rattle.command_answers.proofs.InputFacts.{file_short, file_short_as, over_files, table_short}
+use Rattle.command_answers.proofs.StopFacts.{hands_on_rest}
 use Rattle.command_answers.proofs.answers.settle_answer.Goals as goal
 
-pub settlement_text-requires-clause-sound : goal.settlement_text-requires-clause-sound
-settlement_text-requires-clause-sound c =
-    sound_in (bytes_of c.args.inputs.now) c.file_at.result.now c.file_at.ensures (book c.in_ok-portfolio.portfolio) c.in_ok-portfolio.ensures c.requires
-
-pub settlement_text-requires-clause-few : goal.settlement_text-requires-clause-few
-settlement_text-requires-clause-few c =
-    few_in (bytes_of c.args.inputs.now) c.file_at.result.now c.file_at.ensures (book c.in_ok-portfolio.portfolio) c.in_ok-portfolio.ensures c.requires
+pub settlement_text-requires-clause-short : goal.settlement_text-requires-clause-short
+settlement_text-requires-clause-short c = file_short_as (bytes_of c.args.inputs.now) 0 c.file_at.result.now c.requires c.file_at.ensures
 
 pub settlement_text-requires-clause-table : goal.settlement_text-requires-clause-table
 settlement_text-requires-clause-table c =
@@ -31,16 +23,18 @@ settlement_text-requires-clause-table c =
 pub returns-in_err-text : goal.returns-in_err-text
 returns-in_err-text c =
     let inputs = bytes_of c.args.inputs.now in
-    let b = book c.in_ok-portfolio.portfolio in
     let asked = netting_by c.args.asked.now in
+    let course : List ℕ → Option (List ℕ) → Course = λ (text : List ℕ) (table : Option (List ℕ)). netting_of_text TellsSettlement asked text table in
     let e = c.in_err-text.field-0.0 in
-    behind_portfolio inputs c.file_at.result.now c.file_at.ensures b c.in_ok-portfolio.ensures (λ (b : Book). netting_on TellsSettlement asked b (table_if_named asked.fixings inputs))
-    e c.from_residual-in_err-text.result (subst (λ (table : Option (List ℕ)). GoesDone (netting_on TellsSettlement asked b table) (Err e)) c.table_if_named-table.ensures c.in_err-text.ensures) c.from_residual-in_err-text.ensures.1
+    let rest = over_files course c.file_at.result.now (file_at inputs 0) (given_text c.table_if_named-table.result) (table_if_named asked.fixings inputs) (Err e)
+    c.file_at.ensures c.table_if_named-table.ensures c.in_err-text.ensures in
+    let whole = course (file_at inputs 0) (table_if_named asked.fixings inputs) in
+    hands_on_rest whole whole (λ f h. h) e c.from_residual.result rest c.from_residual.ensures.1
 
 pub returns : goal.returns
 returns c =
     let inputs = bytes_of c.args.inputs.now in
-    let b = book c.in_ok-portfolio.portfolio in
     let asked = netting_by c.args.asked.now in
-    let text = subst (λ (x : List ℕ). Text x b) c.file_at.ensures c.in_ok-portfolio.ensures in
-    (b, text, subst (λ (table : Option (List ℕ)). Tells (netting_on TellsSettlement asked b table) status.Done c.in_ok-text.text.items) c.table_if_named-table.ensures c.in_ok-text.ensures)
+    let course : List ℕ → Option (List ℕ) → Course = λ (text : List ℕ) (table : Option (List ℕ)). netting_of_text TellsSettlement asked text table in
+    over_files course c.file_at.result.now (file_at inputs 0) (given_text c.table_if_named-table.result) (table_if_named asked.fixings inputs) (Ok c.in_ok-text.text)
+    c.file_at.ensures c.table_if_named-table.ensures c.in_ok-text.ensures

@@ -4,7 +4,6 @@ use Rattle.term_core.specs.Instances.{HasNumbers, instance}
 use Rattle.term_core.specs.Terms.{Contract, contract}
 use Rattle.command_answers.specs.CheckParts.{AppendsVerdict}
 use Rattle.command_answers.specs.UsedParts.{IsTriable}
-use Rattle.command_answers.proofs.CheckFacts.{sound_of}
 use Rattle.command_answers.proofs.UsedFacts.{defaults_small, numbers_given, triable}
 use Rattle.command_answers.proofs.check_text.add_verdict.Goals as goal
 
@@ -12,7 +11,7 @@ pub made_of-requires-clause-numbers : goal.made_of-requires-clause-numbers
 made_of-requires-clause-numbers c =
     let d = declarations c.args.decls.now in
     let contr = contract c.args.next.contr in
-    subst (λ (numbers : List ℕ). HasNumbers numbers contr) (sym c.requires.defaults) (numbers_given d contr (sound_of d contr c.requires.sound))
+    subst (λ (numbers : List ℕ). HasNumbers numbers contr) (sym c.requires.defaults) (numbers_given d contr c.requires.sound)
 
 pub made_of-requires-clause-sums : goal.made_of-requires-clause-sums
 made_of-requires-clause-sums c = c.requires.sound.sums
@@ -26,7 +25,7 @@ append_verdict-requires c =
     let d = declarations c.args.decls.now in
     let contr = contract c.args.next.contr in
     let made = c.in_ok-contr.ensures ∙ ap (λ (numbers : List ℕ). instance numbers contr) c.requires.defaults in
-    subst (IsTriable d) (sym made) (triable d contr (sound_of d contr c.requires.sound))
+    subst (IsTriable d) (sym made) (triable d contr c.requires.sound)
 
 pub returns : goal.returns
 returns c =

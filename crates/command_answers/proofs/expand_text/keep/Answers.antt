@@ -8,7 +8,7 @@ use Rattle.contract_parse.proofs.LineFacts.{entry_added}
 use Rattle.schedule_forms.specs.Expansions.{expansion}
 use Rattle.command_answers.specs.ExpandParts.{IsAcceptedExpansion, KeepsExpansion}
 use Rattle.command_answers.specs.FlowsParts.{IsRefusedOne}
-use Rattle.command_answers.proofs.AdvanceFacts.{trees_more}
+use Rattle.command_answers.proofs.ExpandFacts.{trees_more}
 use Rattle.command_answers.proofs.StopFacts.{handed_on}
 use Rattle.command_answers.proofs.expand_text.keep.Goals as goal
 

@@ -13,8 +13,8 @@ returns-in-Ok c = rw (to_z-of_z w64 c.args.until.now.last (fits_day c.args.until
 
 pub returns-in-Err : goal.returns-in-Err
 returns-in-Err c =
-    let d = declarations c.args.until.now.decls.now in
+    let d = declarations c.args.until.now.choice.decls.now in
     let last = c.args.until.now.last in
-    let told : AreFlows d (contract c.args.contr.now) c.args.until.now.fixings.now (pos c.args.until.now.decls.now.start) (to_z w64 (of_z w64 last)) (Err c.in-Err.error) = c.in-Err.ensures in
-    let here = subst (λ (x : ℤ). AreFlows d (contract c.args.contr.now) c.args.until.now.fixings.now (pos c.args.until.now.decls.now.start) x (Err c.in-Err.error)) (to_z-of_z w64 last (fits_day last c.args.until.now.first c.args.until.now.within)) told in
+    let told : AreFlows d (contract c.args.contr.now) c.args.until.now.fixings.now (pos c.args.until.now.choice.decls.now.start) (to_z w64 (of_z w64 last)) (Err c.in-Err.error) = c.in-Err.ensures in
+    let here = subst (λ (x : ℤ). AreFlows d (contract c.args.contr.now) c.args.until.now.fixings.now (pos c.args.until.now.choice.decls.now.start) x (Err c.in-Err.error)) (to_z-of_z w64 last (fits_day last c.args.until.now.first c.args.until.now.within)) told in
     without_flows d c.args.until.now.fixings.now last (contract c.args.contr.now) c.in-Err.error c.stop_of.result here c.stop_of.ensures

@@ -1,45 +1,40 @@
-use Rattle.std.proofs.Common.{ℕ, List, Bor, [], subst, sym}
-use Rattle.std.specs.Prelude.{Option, option_map}
-use Rattle.term_core.specs.Books.{book}
+use Rattle.std.proofs.Common.{ℕ, List, [], subst, sym}
 use Rattle.term_core.specs.Declarations.{declarations}
 use Rattle.flow_eval.specs.declared.flow_table.FlowTable.{FlowTable}
 use Rattle.exposure.specs.Positions.{ArePositions, CanBeAddedUp}
+use Rattle.command_words.specs.Arguments.{given_text}
 use Rattle.command_words.specs.Words.{netting_by}
 use Rattle.command_answers.specs.NettingParts.{AppendsPositions}
 use Rattle.command_answers.specs.NettingPromise.{ArePositionLines, TellsPositions}
 use Rattle.command_answers.proofs.NettingFacts.{can_be_added_up, due_positions, stopped_with_tables, told_of_tables}
 use Rattle.command_answers.proofs.netting_text.positions_text.Goals as goal
 
-abbrev given : Option (Bor (List ℕ)) → Option (List ℕ)
-given table = option_map (λ (bytes : Bor (List ℕ)). bytes.now) table
-
-pub returns-in_err-tables : goal.returns-in_err-tables
-returns-in_err-tables c =
-    let b = book c.args.portfolio.now in
-    let asked = netting_by c.args.asked.now in
-    let table = given c.args.table in
-    stopped_with_tables TellsPositions asked b table c.in_err-tables.field-0.0 c.from_residual.result c.in_err-tables.ensures c.from_residual.ensures.1
+pub returns-in_err-decls : goal.returns-in_err-decls
+returns-in_err-decls c =
+    stopped_with_tables TellsPositions (netting_by c.args.asked.now) c.args.text.now (given_text c.args.table) c.in_err-decls.field-0.0 c.from_residual.result
+    c.in_err-decls.ensures c.from_residual.ensures.1
 
 pub positions-requires : goal.positions-requires
 positions-requires c =
-    subst CanBeAddedUp (sym c.deref.ensures.value) (can_be_added_up (declarations c.args.portfolio.now.decls) c.in_ok-tables.tables.items c.in_ok-tables.ensures.ready)
+    subst CanBeAddedUp (sym c.deref.ensures.value) (can_be_added_up (declarations c.in_ok-decls.decls) c.in_ok-decls.tables.items c.in_ok-decls.ensures.known.ready)
 
 pub append_positions-requires : goal.append_positions-requires
 append_positions-requires c =
     let rows = c.in_ok-found.found.rows.items in
-    due_positions (declarations c.args.portfolio.now.decls) c.in_ok-tables.tables.items rows c.in_ok-tables.ensures.ready
+    due_positions (declarations c.in_ok-decls.decls) c.in_ok-decls.tables.items rows c.in_ok-decls.ensures.known.ready
     (subst (λ (ts : List FlowTable). ArePositions ts rows) c.deref.ensures.value c.in_ok-found.ensures)
 
 pub returns : goal.returns
 returns c =
-    let d = declarations c.args.portfolio.now.decls in
+    let d = declarations c.in_ok-decls.decls in
+    let tables = c.in_ok-decls.tables.items in
     let rows = c.in_ok-found.found.rows.items in
     let text = c.append_positions.new.out.items in
     let found = subst (λ (ts : List FlowTable). ArePositions ts rows) c.deref.ensures.value c.in_ok-found.ensures in
-    let lines : AppendsPositions d rows [] text = subst (λ (before : List ℕ). AppendsPositions d rows before text) c.new-text.ensures.items c.in_ok-append_positions.ensures in
-    let told : TellsPositions d c.in_ok-tables.tables.items text = record {
+    let lines : AppendsPositions d rows [] text = subst (λ (before : List ℕ). AppendsPositions d rows before text) c.new-lines.ensures.items c.in_ok-append_positions.ensures in
+    let told : TellsPositions d tables text = record {
       rows = rows;
       positions = found;
       lines = subst (λ (t : List ℕ). ArePositionLines d rows t) (sym lines.appended) lines.lines;
     } in
-    told_of_tables TellsPositions (netting_by c.args.asked.now) (book c.args.portfolio.now) (given c.args.table) c.in_ok-tables.tables.items text c.in_ok-tables.ensures told
+    told_of_tables TellsPositions (netting_by c.args.asked.now) c.args.text.now (given_text c.args.table) d tables text c.in_ok-decls.ensures told

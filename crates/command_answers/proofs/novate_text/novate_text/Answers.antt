@@ -1,89 +1,78 @@
-use Rattle.std.proofs.Common.{◌≡◌, ◌∙◌, ◌<◌, ℕ, List, Bor, ap, subst, sym, true, length}
-use Rattle.std.specs.Prelude.{All, Option, None, option_map}
+use Rattle.std.proofs.Common.{◌≡◌, ℕ, List, Bor, ap, inl, subst, sym}
+use Rattle.std.specs.Prelude.{Option, Some, Err, option_map}
 use Rattle.std.specs.Global.{Vec}
-use Rattle.std.specs.Map.{keys_of}
-use Rattle.term_core.specs.declared.name.Name.{Name}
-use Rattle.term_core.specs.Books.{Book, book}
-use Rattle.term_core.specs.Terms.{Contract}
-use Rattle.contract_parse.specs.ContractReading.{trees}
-use Rattle.contract_print.specs.Spellable.{are_names}
-use Rattle.contract_print.specs.Writable.{IsWritableTerm}
+use Rattle.term_core.specs.Declarations.{Declarations, declarations}
+use Rattle.term_core.specs.declared.decls.Decls.{Decls}
+use Rattle.contract_parse.specs.declared.next_contracts.ContractReader.{ContractReader}
 use Rattle.command_words.specs.Words.{novate_by}
-use Rattle.command_answers.specs.AdvanceCourse.{advance_on}
-use Rattle.command_answers.specs.AdvanceParts.{IsCarried, IsRestText}
+use Rattle.command_answers.specs.AdvanceParts.{IsCarriedText, StopsCarry}
+use Rattle.command_answers.specs.ChoosingParts.{Selection, StopsByName, StopsIn, selection}
 use Rattle.command_answers.specs.Course.{Stops, Tells}
-use Rattle.command_answers.specs.NovateCourse.{novate_on}
-use Rattle.command_answers.specs.NovateParts.{LacksName}
-use Rattle.command_answers.specs.NovatePromise.{IsNovated, KnowsParties, novated, novated_book}
-use Rattle.command_answers.specs.UsedContracts.{used}
-use Rattle.command_answers.specs.declared.advance_text.Carried.{Carried}
-use Rattle.command_answers.specs.declared.novate_text.Exchange.{Exchange}
+use Rattle.command_answers.specs.NovateParts.{IsRenaming, LacksParty, novate_of_text}
+use Rattle.command_answers.specs.ReadingParts.{IsBegun}
+use Rattle.command_answers.specs.Stages.{IsBadText}
+use Rattle.command_answers.specs.Stopping.{AnswersBy}
 use Rattle.command_answers.specs.declared.status.Status.TheVariants as status
-use Rattle.command_answers.proofs.AdvanceFacts.{is_advanced, keys_of_trees, left_names, tells_on_day, used_names}
-use Rattle.command_answers.proofs.NovateFacts.{day_stops, lacks_stops, novated_writable}
-use Rattle.command_answers.proofs.StopFacts.{handed_on, lacks_memory_done}
-use Rattle.command_answers.proofs.ValueParts.{index_within}
+use Rattle.command_answers.specs.declared.stop.Stop.TheVariants as stop
+use Rattle.command_answers.proofs.NovateFacts.{novate_stops, novate_tells, stops_at_party}
+use Rattle.command_answers.proofs.ChoosingFacts.{stop_answers, stops_too}
+use Rattle.command_answers.proofs.StopFacts.{answers_too, handed_on, lacks_memory_done}
 use Rattle.command_answers.proofs.novate_text.novate_text.Goals as goal
 
 abbrev given : Option (Bor (List ℕ)) → Option (List ℕ)
 given table = option_map (λ (bytes : Bor (List ℕ)). bytes.now) table
 
-pub returns-in_err-exchange : goal.returns-in_err-exchange
-returns-in_err-exchange c =
-    let b = book c.args.portfolio.now in
+pub returns-in_err-decls : goal.returns-in_err-decls
+returns-in_err-decls c =
+    let text = c.args.text.now in
+    let course = novate_of_text (novate_by c.args.asked.now) text (given c.args.table) in
+    handed_on (λ (start : Decls × ContractReader). IsBegun text (declarations start.0) start.1) (λ (out : Vec ℕ). Tells course status.Done out.items) (IsBadText text) (Stops course)
+    (λ f h. inl h) c.in_err-decls.field-0.0 c.from_residual.result c.in_err-decls.ensures c.from_residual.ensures.1
+
+pub returns-in_err-setting : goal.returns-in_err-setting
+returns-in_err-setting c =
+    lacks_memory_done (novate_of_text (novate_by c.args.asked.now) c.args.text.now (given c.args.table)) c.from_residual-in_err-setting.result c.from_residual-in_err-setting.ensures.1
+
+pub carry-requires-clause-begun : goal.carry-requires-clause-begun
+carry-requires-clause-begun c =
+    let text = c.args.text.now in
+    (text, subst (λ (d : Declarations). IsBegun text d c.in_ok-decls.reader) (sym (ap (λ (x : Bor Decls). declarations x.now) c.all_with_name-choice.ensures.decls)) c.in_ok-decls.ensures)
+
+pub carry-requires-clause-all : goal.carry-requires-clause-all
+carry-requires-clause-all c = ap (λ (s : Selection). s.only) c.all_with_name-choice.ensures.all
+
+pub behind_names-requires : goal.behind_names-requires
+behind_names-requires c =
+    let text = c.args.text.now in
+    (text, subst (λ (d : Declarations). IsBegun text d c.in_ok-decls.reader) (sym (ap (λ (x : Bor Decls). declarations x.now) c.all_with_name-choice.ensures.decls)) c.in_ok-decls.ensures)
+
+pub returns-in-Ok : goal.returns-in-Ok
+returns-in-Ok c =
+    let text = c.args.text.now in
     let asked = novate_by c.args.asked.now in
     let table = given c.args.table in
-    let course = novate_on asked b table in
-    handed_on (λ (e : Exchange). KnowsParties b asked e.old e.new) (λ (text : Vec ℕ). Tells course status.Done text.items) (LacksName b asked) (Stops course) (lacks_stops b asked table)
-    c.in_err-exchange.field-0.0 c.from_residual.result c.in_err-exchange.ensures c.from_residual.ensures.1
-
-pub returns-in_err-carried : goal.returns-in_err-carried
-returns-in_err-carried c =
-    let b = book c.args.portfolio.now in
-    let asked = novate_by c.args.asked.now in
-    let table = given c.args.table in
-    let course = novate_on asked b table in
-    let exchange = c.in_ok-exchange.exchange in
-    handed_on (IsCarried b asked.advance table) (λ (text : Vec ℕ). Tells course status.Done text.items) (Stops (advance_on asked.advance b table)) (Stops course)
-    (day_stops b asked table exchange.old exchange.new c.in_ok-exchange.ensures) c.in_err-carried.field-0.0 c.from_residual-in_err-carried.result c.in_err-carried.ensures c.from_residual-in_err-carried.ensures.1
-
-pub returns-in_err-rename_named : goal.returns-in_err-rename_named
-returns-in_err-rename_named c =
-    lacks_memory_done (novate_on (novate_by c.args.asked.now) (book c.args.portfolio.now) (given c.args.table))
-    c.from_residual-in_err-rename_named.result c.from_residual-in_err-rename_named.ensures.1
-
-pub rename_named-requires : goal.rename_named-requires
-rename_named-requires c =
-    let b = book c.args.portfolio.now in
-    let is = c.in_ok-carried.ensures in
-    let entries = c.in_ok-carried.carried.rest.contracts.entries in
-    let same : keys_of entries ≡ keys_of b.contracts = sym (keys_of_trees entries) ∙ left_names b.declarations is.fixings is.day (used None b) (trees entries) is.is_rest.contracts ∙ used_names b.declarations b.contracts in
-    subst (λ (names : List Name). are_names names ≡ true) (sym same) c.requires.names
-
-pub carried_text-requires : goal.carried_text-requires
-carried_text-requires c =
-    let b = book c.args.portfolio.now in
-    let asked = novate_by c.args.asked.now in
-    let is = c.in_ok-carried.ensures in
-    let exchange = c.in_ok-exchange.exchange in
-    let new : exchange.new < length b.declarations.parties = index_within b.declarations.parties asked.new exchange.new c.in_ok-exchange.ensures.new_is in
-    subst (All (λ (entry : Name × Contract). IsWritableTerm entry.1)) (sym c.in_ok-rename_named.ensures)
-    (novated_writable b.declarations c.as_bytes-name.result.now exchange.old exchange.new new is.fixings is.day (used None b) (trees c.in_ok-carried.carried.rest.contracts.entries) is.is_rest.contracts)
+    let choice = c.all_with_name-choice.result in
+    let d = declarations choice.decls.now in
+    let course = novate_of_text asked text table in
+    let renaming = c.in-Ok.renaming in
+    let begun = subst (λ (x : Declarations). IsBegun text x c.in_ok-decls.reader) (sym (ap (λ (x : Bor Decls). declarations x.now) c.all_with_name-choice.ensures.decls)) c.in_ok-decls.ensures in
+    let names = subst (λ (x : Declarations). IsRenaming x asked renaming) (sym (ap (λ (x : Bor Decls). declarations x.now) c.all_with_name-choice.ensures.decls)) c.in-Ok.ensures in
+    answers_too (λ (out : Vec ℕ). IsCarriedText text choice (Some renaming) asked.advance table out.items) (λ (out : Vec ℕ). Tells course status.Done out.items)
+    (StopsIn text d (StopsCarry (selection choice) asked.advance table)) (Stops course)
+    (novate_tells text choice asked table c.all_with_name-choice.ensures.all renaming names) (novate_stops text choice asked table c.all_with_name-choice.ensures.all renaming names)
+    c.carry.result (c.carry.ensures text begun)
 
 pub returns : goal.returns
 returns c =
-    let b = book c.args.portfolio.now in
+    let text = c.args.text.now in
     let asked = novate_by c.args.asked.now in
     let table = given c.args.table in
-    let carried : Carried = c.in_ok-carried.carried in
-    let is : IsCarried b asked.advance table carried = c.in_ok-carried.ensures in
-    let exchange = c.in_ok-exchange.exchange in
-    let names : KnowsParties b asked exchange.old exchange.new = c.in_ok-exchange.ensures in
-    let text = c.in_ok-text.text.items in
-    let change : Book → Book = novated_book asked.contract exchange.old exchange.new in
-    let entries = trees carried.rest.contracts.entries in
-    let same = c.in_ok-rename_named.ensures ∙ ap (λ (name : List ℕ). novated name exchange.old exchange.new entries) c.as_bytes-name.ensures.value in
-    let told = subst (λ (es : List (Name × Contract)). IsRestText (record { declarations = (book carried.rest).declarations; contracts = es }) carried.due.items text) same c.in_ok-text.ensures in
-    let IsText = IsNovated asked.contract exchange.old exchange.new b in
-    let behind_names = tells_on_day b asked.advance table carried is IsText text (is_advanced b asked.advance table carried is change text told) in
-    (tt, names.contract, (exchange.old, names.old_is, (exchange.new, names.new_is, behind_names)))
+    let choice = c.all_with_name-choice.result in
+    let d = declarations choice.decls.now in
+    let course = novate_of_text asked text table in
+    let own = c.in-Err.stop in
+    let begun = subst (λ (x : Declarations). IsBegun text x c.in_ok-decls.reader) (sym (ap (λ (x : Bor Decls). declarations x.now) c.all_with_name-choice.ensures.decls)) c.in_ok-decls.ensures in
+    let told = subst (λ (x : Declarations). AnswersBy (IsRenaming x asked) (LacksParty x asked) (Err own)) (sym (ap (λ (x : Bor Decls). declarations x.now) c.all_with_name-choice.ensures.decls)) c.in-Err.ensures in
+    stop_answers (λ (out : Vec ℕ). Tells course status.Done out.items) (Stops course) c.behind_names.result
+    (stops_too (StopsIn text d (λ b. StopsByName b (selection choice) (λ f. own ≡ stop.Fault f))) (Stops course)
+    (λ f h. stops_at_party text choice asked table c.all_with_name-choice.ensures.all own f told h) c.behind_names.result (c.behind_names.ensures text begun))

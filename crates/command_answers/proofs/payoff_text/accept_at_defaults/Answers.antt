@@ -1,25 +1,33 @@
 use Rattle.std.proofs.Common.{◌∙◌, ℕ, List, ap, subst, sym}
 use Rattle.term_core.specs.Declarations.{declarations}
-use Rattle.term_core.specs.Instances.{HasNumbers, instance}
+use Rattle.term_core.specs.Instances.{HasNumbers, declared_numbers, instance}
 use Rattle.term_core.specs.Terms.{Contract, contract}
+use Rattle.command_answers.specs.FlowsParts.{AnswersAcceptedOne}
 use Rattle.command_answers.specs.UsedParts.{IsTriable}
-use Rattle.command_answers.proofs.UsedFacts.{defaults_small, numbers_given, triable}
+use Rattle.command_answers.proofs.UsedFacts.{defaults_small, numbers_given, own_instance, triable}
 use Rattle.command_answers.proofs.payoff_text.accept_at_defaults.Goals as goal
 
-pub instance_of-requires-clause-numbers : goal.instance_of-requires-clause-numbers
-instance_of-requires-clause-numbers c =
-    let contr = contract c.args.one.now.contr.now in
+pub returns-then-has_only_numbers : goal.returns-then-has_only_numbers
+returns-then-has_only_numbers c =
+    let d = declarations c.args.decls.now in
+    let contr = contract c.args.contr.now in
+    subst (λ (x : Contract). AnswersAcceptedOne d (c.args.name.now, x) c.accept_named.result)
+    (sym (own_instance (declared_numbers d) contr (c.has_only_numbers.ensures.0 c.if-has_only_numbers.true))) c.accept_named.ensures
+
+pub instantiate-requires-clause-has : goal.instantiate-requires-clause-has
+instantiate-requires-clause-has c =
+    let contr = contract c.args.contr.now in
     subst (λ (numbers : List ℕ). HasNumbers numbers contr) (sym c.in_ok-setting.ensures) (numbers_given (declarations c.args.decls.now) contr c.requires)
 
-pub instance_of-requires-clause-sums : goal.instance_of-requires-clause-sums
-instance_of-requires-clause-sums c = c.requires.sums
+pub instantiate-requires-clause-sums : goal.instantiate-requires-clause-sums
+instantiate-requires-clause-sums c = c.requires.sums
 
-pub instance_of-requires-clause-small : goal.instance_of-requires-clause-small
-instance_of-requires-clause-small c =
+pub instantiate-requires-clause-small : goal.instantiate-requires-clause-small
+instantiate-requires-clause-small c =
     defaults_small (declarations c.args.decls.now) c.in_ok-setting.setting.days.items c.args.decls.now.templates_in c.in_ok-setting.ensures
 
-pub accept-requires : goal.accept-requires
-accept-requires c =
+pub accept_named-requires-2 : goal.accept_named-requires-2
+accept_named-requires-2 c =
     let d = declarations c.args.decls.now in
-    let contr = contract c.args.one.now.contr.now in
-    subst (λ (x : Contract). IsTriable d x) (sym (c.in_ok-contr.ensures ∙ ap (λ (numbers : List ℕ). instance numbers contr) c.in_ok-setting.ensures)) (triable d contr c.requires)
+    let contr = contract c.args.contr.now in
+    subst (IsTriable d) (sym (c.in_ok-made.ensures ∙ ap (λ (numbers : List ℕ). instance numbers contr) c.in_ok-setting.ensures)) (triable d contr c.requires)

@@ -1,0 +1,130 @@
+-- The flows of one contract more: its table or its lines behind those before it, or the read of it that is not fixed.
+use Rattle.std.proofs.Common.{◌≡◌, ◌∙◌, ℕ, ℤ, pos, Bool, true, false, List, [], ◌∷◌, ◌++◌, append_assoc, ap, refl, subst, sym}
+use Rattle.std.specs.Prelude.{Option, Some, None, is_some}
+use Rattle.std.proofs.lemmas.List.Elements.{All-nil, All-push}
+use Rattle.term_core.specs.declared.name.Name.{Name}
+use Rattle.term_core.specs.Declarations.{Declarations, declarations}
+use Rattle.term_core.specs.Environments.{Environment}
+use Rattle.term_core.specs.Terms.{Contract}
+use Rattle.flow_eval.specs.FlowAnswers.{AreKnownFlows}
+use Rattle.flow_eval.specs.declared.flow_table.FlowTable.{FlowTable}
+use Rattle.report.specs.declared.fault_lines.Fault.{Fault}
+use Rattle.command_answers.specs.ChoosingParts.{Holds}
+use Rattle.command_answers.specs.FlowsParts.{AddsFlows, AreListed, HasFlows, IsMissingOne, KeepsTable}
+use Rattle.command_answers.specs.FlowsPromise.{AreAllFixed, AreAllLines, AreFlowLines, AreTables}
+use Rattle.command_answers.specs.Stages.{IsMissingOf, all_fixed}
+use Rattle.command_answers.specs.declared.choice.FlowsUntil.{FlowsUntil}
+use Rattle.command_answers.specs.declared.flows_text.KeptFlows.{KeptFlows}
+use Rattle.command_answers.specs.declared.flows_text.Listed.{Listed}
+use Rattle.command_answers.proofs.ChoosingFacts.{none_held, some_held}
+use Rattle.command_answers.proofs.FlowsAreOne.{IsFixedEntry}
+use Rattle.command_answers.proofs.LineFacts.{none_and, some_and}
+
+module _ (d : Declarations) (fixings : Environment) (last : ℤ) where
+  missing_still : (entries : List (Name × Contract)) (entry : Name × Contract) (f : Fault) → IsMissingOf d fixings last entries f → IsMissingOf d fixings last (entries ++ entry ∷ []) f
+  missing_still entries entry f h =
+      let n = h.first in
+      record {
+        place = h.place;
+        first = record {
+          before = n.before;
+          entry = n.entry;
+          after = n.after ++ entry ∷ [];
+          split = ap (λ (es : List (Name × Contract)). es ++ entry ∷ []) n.split ∙ append_assoc n.before (n.entry ∷ n.after) (entry ∷ []);
+          fixed = n.fixed;
+          missing = n.missing;
+        };
+        fault_is = h.fault_is;
+      }
+
+  missing_now : (entries : List (Name × Contract)) (entry : Name × Contract) (f : Fault) → AreAllFixed d fixings last entries → IsMissingOne d fixings last entry.1 f → IsMissingOf d fixings last (entries ++ entry ∷ []) f
+  missing_now entries entry f all one = record {
+    place = one.place;
+    first = record { before = entries; entry = entry; after = []; split = refl; fixed = all; missing = one.missing };
+    fault_is = one.fault_is;
+  }
+
+  lines_more : (entries : List (Name × Contract)) (entry : Name × Contract) (text lines : List ℕ) → AreAllLines d fixings last entries text
+      → AreFlowLines d fixings last entry.0 entry.1 lines → AreAllLines d fixings last (entries ++ entry ∷ []) (text ++ lines)
+  lines_more [] entry text lines none are = (lines, [], are, refl, none_and text lines none)
+  lines_more (e ∷ es) entry text lines some are =
+      (some.0, some.1 ++ lines, some.2, lines_more es entry some.1 lines some.3 are, some_and text some.0 some.1 lines some.4)
+
+  tables_more : (entries : List (Name × Contract)) (entry : Name × Contract) (tables : List FlowTable) (table : FlowTable) → AreTables d fixings last entries tables
+      → AreKnownFlows d entry.1 fixings (pos d.start) last table.rows.items → AreTables d fixings last (entries ++ entry ∷ []) (tables ++ table ∷ [])
+  tables_more [] entry [] table none known = (known, tt)
+  tables_more [] entry (t ∷ ts) table none known = absurd none
+  tables_more (e ∷ es) entry [] table some known = absurd some
+  tables_more (e ∷ es) entry (t ∷ ts) table some known = (some.0, tables_more es entry ts table some.1 known)
+
+  listed_more : (summed : Bool) (before after : Listed) (table : FlowTable) (entries : List (Name × Contract)) (entry : Name × Contract)
+      → KeepsTable summed d entry.0 table before after → AreKnownFlows d entry.1 fixings (pos d.start) last table.rows.items
+      → AreListed summed d fixings last before entries → AreListed summed d fixings last after (entries ++ entry ∷ [])
+  listed_more true before after table entries entry keeps known h =
+      subst (λ (ts : List FlowTable). AreTables d fixings last (entries ++ entry ∷ []) ts) (sym keeps)
+      (tables_more entries entry before.tables.items table h known)
+  listed_more false before after table entries entry keeps known h =
+      subst (λ (text : List ℕ). AreAllLines d fixings last (entries ++ entry ∷ []) text) (sym keeps.appended)
+      (lines_more entries entry before.text.items keeps.text h (record { rows = table.rows.items; flows = known; lines = keeps.lines }))
+
+  pub missing_behind_held : (held : Option Fault) (entries : List (Name × Contract)) (entry : Name × Contract) → is_some held ≡ true
+      → Holds (all_fixed d fixings last entries) held → Holds (all_fixed d fixings last (entries ++ entry ∷ [])) held
+  missing_behind_held None entries entry some h = absurd cc
+  missing_behind_held (Some f) entries entry some h = missing_still entries entry f h
+
+  pub fixed_before : (held : Option Fault) (entries : List (Name × Contract)) → held ≡ None → Holds (all_fixed d fixings last entries) held → AreAllFixed d fixings last entries
+  fixed_before held entries none h = subst (λ (r : Option Fault). Holds (all_fixed d fixings last entries) r) none h
+
+  pub fixed_more : (held : Option Fault) (entries : List (Name × Contract)) (entry : Name × Contract) → held ≡ None → IsFixedEntry d fixings last entry
+      → Holds (all_fixed d fixings last entries) held → Holds (all_fixed d fixings last (entries ++ entry ∷ [])) held
+  fixed_more held entries entry none fixed h =
+      subst (λ (r : Option Fault). Holds (all_fixed d fixings last (entries ++ entry ∷ [])) r) (sym none)
+      (All-push (IsFixedEntry d fixings last) entries entry (fixed_before held entries none h) fixed)
+
+  pub missing_held_now : (held : Option Fault) (entries : List (Name × Contract)) (entry : Name × Contract) (f : Fault) → held ≡ None
+      → IsMissingOne d fixings last entry.1 f → Holds (all_fixed d fixings last entries) held → IsMissingOf d fixings last (entries ++ entry ∷ []) f
+  missing_held_now held entries entry f none one h = missing_now entries entry f (fixed_before held entries none h) one
+
+nothing_listed : (d : Declarations) (fixings : Environment) (last : ℤ) (summed : Bool) (listed : Listed) → listed.text.items ≡ [] → listed.tables.items ≡ []
+    → AreListed summed d fixings last listed []
+nothing_listed d fixings last true listed text tables = subst (λ (ts : List FlowTable). AreTables d fixings last [] ts) (sym tables) tt
+nothing_listed d fixings last false listed text tables = text
+
+module _ (until : FlowsUntil) (entry : Name × Contract) (before : KeptFlows) where
+  abbrev d : Declarations
+  d = declarations until.choice.decls.now
+
+  -- where a read of those before it is not fixed
+  pub flows_still : is_some before.missing ≡ true → AddsFlows until entry before before
+  flows_still some = λ entries h. record {
+    fixed = missing_behind_held d until.fixings.now until.last before.missing entries entry some h.fixed;
+    listed = λ none. absurd (some_held before.missing some none);
+  }
+
+  -- where one of its own is the first that is not
+  pub flows_stop : (f : Fault) → is_some before.missing ≡ false → IsMissingOne d until.fixings.now until.last entry.1 f
+      → AddsFlows until entry before (record { listed = before.listed; missing = Some f })
+  flows_stop f none one = λ entries h. record {
+    fixed = missing_held_now d until.fixings.now until.last before.missing entries entry f (none_held before.missing none) one h.fixed;
+    listed = λ empty. (let k : Some f ≡ None = empty in cc);
+  }
+
+  -- where each is fixed
+  pub flows_on : (listed : Listed) (table : FlowTable) → is_some before.missing ≡ false
+      → AreKnownFlows d entry.1 until.fixings.now (pos d.start) until.last table.rows.items
+      → KeepsTable until.summed d entry.0 table before.listed listed
+      → AddsFlows until entry before (record { listed = listed; missing = before.missing })
+  flows_on listed table none known keeps =
+      let empty = none_held before.missing none in
+      λ entries h. record {
+        fixed = fixed_more d until.fixings.now until.last before.missing entries entry empty known.fixed h.fixed;
+        listed = λ _. listed_more d until.fixings.now until.last until.summed before.listed listed table entries entry keeps known (h.listed empty);
+      }
+
+pub nothing_kept : (until : FlowsUntil) (kept : KeptFlows) → kept.missing ≡ None → kept.listed.text.items ≡ [] → kept.listed.tables.items ≡ [] → HasFlows until kept []
+nothing_kept until kept none text tables =
+    let d = declarations until.choice.decls.now in
+    record {
+      fixed = subst (λ (r : Option Fault). Holds (all_fixed d until.fixings.now until.last []) r) (sym none) (All-nil (IsFixedEntry d until.fixings.now until.last));
+      listed = λ _. nothing_listed d until.fixings.now until.last until.summed kept.listed text tables;
+    }

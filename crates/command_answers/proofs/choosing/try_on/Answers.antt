@@ -1,0 +1,10 @@
+use Rattle.term_core.specs.Declarations.{declarations}
+use Rattle.term_core.specs.Terms.{contract}
+use Rattle.command_answers.specs.ChoosingParts.{selection}
+use Rattle.command_answers.proofs.ChoosingFacts.{steps_nothing}
+use Rattle.command_answers.proofs.choosing.try_on.Goals as goal
+
+pub returns : goal.returns
+returns c =
+    steps_nothing (declarations c.args.choice.now.decls.now) (selection c.args.choice.now) (c.args.next.name.now, contract c.args.next.contr)
+    c.args.tried.now c.choose.new.tried c.in_ok-choose.field-0 c.in_ok-choose.ensures

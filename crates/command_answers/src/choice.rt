@@ -1,0 +1,32 @@
+//! What a command asks of the contracts of a text.
+
+ghost use Rattle.std.specs.Prelude.{◌≡◌, ◌≤ℤ◌, pos};
+ghost use Rattle.term_core.specs.Declarations.{declarations};
+ghost use Rattle.term_core.specs.Instances.{declared_numbers};
+ghost use Rattle.flow_eval.specs.Readiness.{last_day};
+
+use fixing_files::Fixings;
+use term_core::{Decls, Setting};
+
+/// Which contracts are used, all or the one of a name; the numbers at which they are tried, the defaults; and the name, if any, that
+/// is to be that of one.
+#[derive(Clone, Copy)]
+pub struct Choice<'a> {
+    pub decls: &'a Decls,
+    pub setting: &'a Setting,
+    pub named: Option<&'a str>,
+    pub only: Option<&'a str>,
+    pub ghost at_defaults: { setting.now.days.items ≡ declared_numbers (declarations decls.now) },
+}
+
+/// What flows are asked over: the contracts that are used, what is fixed of their labels, and the last day, which is in range; and
+/// whether they are to be summed.
+#[derive(Clone, Copy)]
+pub struct FlowsUntil<'a> {
+    pub choice: Choice<'a>,
+    pub fixings: &'a Fixings,
+    pub last: i64,
+    pub summed: bool,
+    pub ghost first: { pos 0 ≤ℤ last },
+    pub ghost within: { last ≤ℤ pos last_day },
+}
