@@ -1,7 +1,7 @@
 //! The tokens of a text, one at a time.
 ghost use Rattle.std.specs.Prelude.{◌≡◌, ◌≤◌, ◌<◌, false, true, length};
 ghost use Rattle.std.specs.List.{prefix_len};
-ghost use Rattle.contract_parse.specs.Tokens.{after_gap, are_digits, is_date_part, begins_with_date, begins_with_digit, digits_extent, extent_at, fraction_len, is_blank, is_digit, is_letter, is_long_mark, is_short_mark, is_word_byte, mark_extent, mark_len, next_token, number_len, word_extent};
+ghost use Rattle.contract_parse.specs.Tokens.{after_gap, are_digits, is_date_part, begins_with_date, begins_with_digit, digits_extent, extent_at, fraction_len, is_blank, is_digit, is_letter, is_word_byte, mark_extent, mark_len, next_token, number_len, word_extent};
 
 /// What a token is. At a stray byte no token begins.
 #[derive(Clone, Copy)]
@@ -35,7 +35,7 @@ const LONGEST_WORD: usize = 64;
 pub fn is_letter(b: u8) -> bool
     ensures { result ≡ is_letter b }
 {
-    b.is_ascii_alphabetic() || b == b'_'
+    b.is_ascii_alphabetic() | (b == b'_')
 }
 
 fn is_digit(b: u8) -> bool
@@ -48,7 +48,7 @@ fn is_digit(b: u8) -> bool
 pub fn is_word_byte(b: u8) -> bool
     ensures { result ≡ is_word_byte b }
 {
-    is_letter(b) || is_digit(b)
+    is_letter(b) | is_digit(b)
 }
 
 fn is_blank(b: u8) -> bool
@@ -151,38 +151,28 @@ fn begins_with_date(bytes: &[u8]) -> bool
     }
 }
 
-fn is_long_mark(a: u8, b: u8) -> bool
-    ensures { result ≡ is_long_mark a b }
-{
-    ((a == b'<' || a == b'>' || a == b'!') && b == b'=') || (a == b'.' && b == b'.')
-}
-
-fn is_short_mark(a: u8) -> bool
-    ensures { result ≡ is_short_mark a }
-{
-    a == b';'
-        || a == b','
-        || a == b':'
-        || a == b'='
-        || a == b'('
-        || a == b')'
-        || a == b'+'
-        || a == b'-'
-        || a == b'*'
-        || a == b'<'
-        || a == b'>'
-        || a == b'&'
-        || a == b'|'
-}
-
 fn mark_len(bytes: &[u8]) -> usize
     ensures value { result ≡ mark_len bytes.now }
     ensures within { result ≤ length bytes.now }
 {
     match bytes {
-        [] => 0,
-        [a, b, ..] if is_long_mark(*a, *b) => 2,
-        [a, ..] if is_short_mark(*a) => 1,
+        [b'<' | b'>' | b'!', b'=', ..] | [b'.', b'.', ..] => 2,
+        [
+            b';'
+            | b','
+            | b':'
+            | b'='
+            | b'('
+            | b')'
+            | b'+'
+            | b'-'
+            | b'*'
+            | b'<'
+            | b'>'
+            | b'&'
+            | b'|',
+            ..
+        ] => 1,
         _ => 0,
     }
 }

@@ -18,69 +18,80 @@ pub struct Lookahead<'a> {
 fn is_reserved_of_two(text: &[u8]) -> bool
     ensures { result ≡ list_any (λ w. bytes_eq text.now w) reserved_of_two }
 {
-    text == b"in".as_slice() || text == b"if".as_slice()
+    matches!(text, b"in" | b"if")
 }
 
 fn is_reserved_of_three(text: &[u8]) -> bool
     ensures { result ≡ list_any (λ w. bytes_eq text.now w) reserved_of_three }
 {
-    text == b"num".as_slice()
-        || text == b"pay".as_slice()
-        || text == b"let".as_slice()
-        || text == b"obs".as_slice()
-        || text == b"neg".as_slice()
-        || text == b"not".as_slice()
-        || text == b"min".as_slice()
-        || text == b"max".as_slice()
-        || text == b"div".as_slice()
-        || text == b"acc".as_slice()
-        || text == b"add".as_slice()
-        || text == b"cut".as_slice()
+    matches!(
+        text,
+        b"num"
+            | b"pay"
+            | b"let"
+            | b"obs"
+            | b"neg"
+            | b"not"
+            | b"min"
+            | b"max"
+            | b"div"
+            | b"acc"
+            | b"add"
+            | b"cut"
+    )
 }
 
 fn is_reserved_of_four(text: &[u8]) -> bool
     ensures { result ≡ list_any (λ w. bytes_eq text.now w) reserved_of_four }
 {
-    text == b"flag".as_slice()
-        || text == b"code".as_slice()
-        || text == b"zero".as_slice()
-        || text == b"both".as_slice()
-        || text == b"then".as_slice()
-        || text == b"else".as_slice()
-        || text == b"true".as_slice()
-        || text == b"none".as_slice()
-        || text == b"loop".as_slice()
-        || text == b"upto".as_slice()
-        || text == b"ceil".as_slice()
+    matches!(
+        text,
+        b"flag"
+            | b"code"
+            | b"zero"
+            | b"both"
+            | b"then"
+            | b"else"
+            | b"true"
+            | b"none"
+            | b"loop"
+            | b"upto"
+            | b"ceil"
+    )
 }
 
 fn is_reserved_of_five(text: &[u8]) -> bool
     ensures { result ≡ list_any (λ w. bytes_eq text.now w) reserved_of_five }
 {
-    text == b"start".as_slice()
-        || text == b"party".as_slice()
-        || text == b"asset".as_slice()
-        || text == b"scale".as_slice()
-        || text == b"after".as_slice()
-        || text == b"false".as_slice()
-        || text == b"widen".as_slice()
-        || text == b"round".as_slice()
-        || text == b"model".as_slice()
-        || text == b"floor".as_slice()
+    matches!(
+        text,
+        b"start"
+            | b"party"
+            | b"asset"
+            | b"scale"
+            | b"after"
+            | b"false"
+            | b"widen"
+            | b"round"
+            | b"model"
+            | b"floor"
+    )
 }
 
 fn is_reserved_of_more(text: &[u8]) -> bool
     ensures { result ≡ list_any (λ w. bytes_eq text.now w) reserved_of_more }
 {
-    text == b"payoff".as_slice()
-        || text == b"origin".as_slice()
-        || text == b"within".as_slice()
-        || text == b"amounts".as_slice()
-        || text == b"template".as_slice()
-        || text == b"contract".as_slice()
-        || text == b"portfolio".as_slice()
-        || text == b"half_even".as_slice()
-        || text == b"half_away".as_slice()
+    match text.len() {
+        6 => text == b"payoff".as_slice()
+            || text == b"origin".as_slice()
+            || text == b"within".as_slice(),
+        7 => text == b"amounts".as_slice(),
+        8 => text == b"template".as_slice() || text == b"contract".as_slice(),
+        9 => text == b"portfolio".as_slice()
+            || text == b"half_even".as_slice()
+            || text == b"half_away".as_slice(),
+        _ => false,
+    }
 }
 
 /// Whether a word is reserved, and so no name. The length is looked at first: it tells most names from the reserved words.
