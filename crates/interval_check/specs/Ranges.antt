@@ -1,6 +1,7 @@
--- The program's ranges as those of the model, and what is known of a range that passed its trial: mantissas of at most
--- 10^37 in size, and a scale of at most 27.
-use Rattle.std.specs.Prelude.{ℕ, ◌≤◌, ◌^◌, Result, Ok, Err, unsigned_abs}
+-- The program's ranges as those of the model, and what is known of a range that passed its trial:
+-- mantissas of at most 10^37 in size, and a scale of at most 27.
+use Rattle.std.specs.Prelude.{◌≡◌, ℕ, ◌≤◌, ◌^◌, Result, Ok, Err, unsigned_abs}
+use Rattle.term_core.specs.declared.values.Kind.{Kind}
 use Rattle.term_core.specs.Kinds.{scale_of_kind}
 use Rattle.term_core.specs.Bounds.{Range}
 use Rattle.interval_check.specs.declared.ranges.Range.{Range as Found}
@@ -28,3 +29,13 @@ pub record IsFit (r : Range) : Type 0 where
   pub low : unsigned_abs r.interval.low ≤ 10 ^ 37
   pub high : unsigned_abs r.interval.high ≤ 10 ^ 37
   pub scale : scale_of_kind r.kind ≤ 27
+
+-- so is each of two
+pub record AreFit (p : FoundOperands) : Type 0 where
+  pub left : IsFit (range p.left)
+  pub right : IsFit (range p.right)
+
+-- it passed its trial, and is of this kind
+pub record IsFitOfKind (k : Kind) (r : Found) : Type 0 where
+  pub fit : IsFit (range r)
+  pub kind : r.kind ≡ k

@@ -15,7 +15,7 @@ ghost use Rattle.term_core.specs.Trying.{FaultIsWithin, moved};
 ghost use Rattle.term_core.specs.Acceptance.{Meets};
 ghost use Rattle.term_core.specs.Verdicts.{IsVerdict};
 ghost use Rattle.interval_check.specs.ScopedTrials.{total_among, total_within};
-ghost use Rattle.interval_check.specs.ScopedTrials.{IsScaledAmong, PaysScaledAmong};
+ghost use Rattle.interval_check.specs.ScopedTrials.{PaysScaledAmong, PaysScaledBranches};
 ghost use Rattle.interval_check.specs.ScopedTrials.{PaysScaledWithin};
 ghost use Rattle.interval_check.specs.ScopedTrials as tried;
 ghost use Rattle.interval_check.specs.Totals.{total, total_found, IsTotal};
@@ -151,9 +151,7 @@ fn total_of_branches(
 ) -> Result<Total, u32>
     requires nodes { nodes (expression test.now) + nodes_of_contract (contract hit.now)
         + nodes_of_contract (contract miss.now) + 1 < 2 ^ 32 }
-    requires test { IsScaledAmong decls.now test.now scope.now }
-    requires hit { PaysScaledAmong decls.now hit.now scope.now }
-    requires miss { PaysScaledAmong decls.now miss.now scope.now }
+    requires scaled { PaysScaledBranches decls.now test.now hit.now miss.now scope.now }
     ensures total { total_found result
         ≡ tried.total_of_branches decls.now test.now hit.now miss.now scope.now }
     ensures below { FaultIsWithin
@@ -167,11 +165,12 @@ fn total_of_branches(
     total_of_either(decls.amounts, hit_total, miss_total)
 }
 
-/// The total of a contract at the portfolio's decimals: the most that it can pay over all days, for a pair of parties
-/// and an asset, in units of ten to the minus those decimals. `Refused` names the first node in the order of trial that
-/// breaks the rule on bounds: a mantissa or an aligned operand of more than 10^37 in size, a divisor that may be 0, or a
-/// total of more than 10^27, as it is or at the portfolio's decimals. An accumulator's body is tried anew for each of
-/// its days. It takes no memory, which its clause leaves open.
+/// The total of a contract at the portfolio's decimals: the most that it can pay over all days, for
+/// a pair of parties and an asset, in units of ten to the minus those decimals. `Refused` names the
+/// first node in the order of trial that breaks the rule on bounds: a mantissa or an aligned
+/// operand of more than 10^37 in size, a divisor that may be 0, or a total of more than 10^27, as
+/// it is or at the portfolio's decimals. An accumulator's body is tried anew for each of its days.
+/// It takes no memory, which its clause leaves open.
 pub fn bounds(alloc: Global, decls: &Decls, c: &Contr) -> Result<i128, CheckErr>
     requires sorted { Meets (declarations decls.now) Rule.Sort (contract c.now) }
     requires scaled { Meets (declarations decls.now) Rule.Scale (contract c.now) }

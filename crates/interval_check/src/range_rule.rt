@@ -1,11 +1,10 @@
 //! The ranges of expressions, by the rule on bounds. The trial of an expression answers its range,
-//! or the number of the node at fault, counted from the expression's own first node; nodes before it
-//! are counted only on the way up from a fault. So no part is visited more than twice, but for the
-//! body of an accumulator, which is tried anew for each day until a day changes nothing. A function
-//! pays at entry for the locals of all its arms, so each form has one of its own.
+//! or the number of the node at fault, counted from the expression's own first node; nodes before
+//! it are counted only on the way up from a fault. So no part is visited more than twice, but for
+//! the body of an accumulator, which is tried anew for each day until a day changes nothing. A
+//! function pays at entry for the locals of all its arms, so each form has one of its own.
 
-ghost use Rattle.std.specs.Prelude.{◌≡◌, ◌<◌, ◌≤◌, ◌+◌, ◌^◌, ◌∷◌, IfErr, IfOk, slice_get};
-ghost use Rattle.term_core.specs.Declarations.{declarations};
+ghost use Rattle.std.specs.Prelude.{◌≡◌, ◌<◌, ◌≤◌, ◌+◌, ◌^◌, IfErr, IfOk, slice_get};
 ghost use Rattle.term_core.specs.Terms.{expression, Neg, Num, Cmp, Not, Logic, Cond};
 ghost use Rattle.term_core.specs.Terms.{Widen, Round, Div, Acc};
 ghost use Rattle.term_core.specs.declared.values.Kind.TheVariants.{Number};
@@ -15,12 +14,13 @@ ghost use Rattle.term_core.specs.Sizes.{nodes};
 ghost use Rattle.term_core.specs.Bounds.{range_kinds, single};
 ghost use Rattle.term_core.specs.Trying.{FaultIsWithin, moved};
 ghost use Rattle.interval_check.specs.Intervals.{interval, fitting};
-ghost use Rattle.interval_check.specs.Ranges.{range, range_found, operands_found, IsFit};
+ghost use Rattle.interval_check.specs.Ranges.{range, range_found, operands_found};
+ghost use Rattle.interval_check.specs.Ranges.{AreFit, IsFit, IsFitOfKind};
 ghost use Rattle.interval_check.specs.RangeScopes.{ranges_in};
-ghost use Rattle.interval_check.specs.ScopedTrials.{range_among, range_within};
-ghost use Rattle.interval_check.specs.ScopedTrials.{IsScaledAmong, IsScaledWithin};
+ghost use Rattle.interval_check.specs.ScopedTrials.{day_among, range_among, range_within};
+ghost use Rattle.interval_check.specs.ScopedTrials.{IsBodyScaled, IsScaledAmong, IsScaledWithin};
 ghost use Rattle.interval_check.specs.RangeTrials.{ranged, named, range_or_truth, operands};
-ghost use Rattle.interval_check.specs.RangeTrials.{days_tried, day_tried, range_tried, AreScaled};
+ghost use Rattle.interval_check.specs.RangeTrials.{days_tried};
 
 use crate::intervals::Interval;
 use crate::quotients::divided;
@@ -228,9 +228,8 @@ fn range_of_quotient(
     scope: &Scope<Range>,
 ) -> Result<Range, u32>
     requires nodes { nodes (expression top.now) + nodes (expression below.now) + 1 < 2 ^ 32 }
-    requires scale { scale ≤ 27 }
-    requires top { IsScaledAmong decls.now top.now scope.now }
-    requires below { IsScaledAmong decls.now below.now scope.now }
+    requires scaled { IsScaledWithin decls.now
+        (Div mode scale (expression top.now) (expression below.now)) scope.now }
     ensures range { range_found result ≡ range_within decls.now
         (Div mode scale (expression top.now) (expression below.now)) scope.now }
     ensures below { FaultIsWithin
@@ -285,9 +284,9 @@ fn ranges_of(
     requires right { IsScaledAmong decls.now right.now scope.now }
     ensures ranges { operands_found result ≡ operands (nodes (expression left.now))
         (range_among decls.now left.now scope.now) (range_among decls.now right.now scope.now) }
-    ensures below { FaultIsWithin (nodes (expression left.now) + nodes (expression right.now) + 1) result }
-    ensures left { IfOk result (λ p. IsFit (range p.left)) }
-    ensures right { IfOk result (λ p. IsFit (range p.right)) }
+    ensures below { FaultIsWithin
+        (nodes (expression left.now) + nodes (expression right.now) + 1) result }
+    ensures fit { IfOk result AreFit }
 {
     let left_range = behind_node(range_of(decls, left, scope))?;
     let right_range = behind(left, range_of(decls, right, scope))?;
@@ -306,14 +305,16 @@ fn ranges_after(
     right: &Expr,
     scope: &Scope<Range>,
 ) -> Result<Operands, u32>
-    requires nodes { nodes (expression before.now) + nodes (expression left.now) + nodes (expression right.now) + 1 < 2 ^ 32 }
+    requires nodes { nodes (expression before.now)
+        + nodes (expression left.now) + nodes (expression right.now) + 1 < 2 ^ 32 }
     requires left { IsScaledAmong decls.now left.now scope.now }
     requires right { IsScaledAmong decls.now right.now scope.now }
-    ensures ranges { operands_found result ≡ moved (nodes (expression before.now)) (operands (nodes (expression left.now))
+    ensures ranges { operands_found result ≡ moved (nodes (expression before.now))
+        (operands (nodes (expression left.now))
         (range_among decls.now left.now scope.now) (range_among decls.now right.now scope.now)) }
-    ensures below { FaultIsWithin (nodes (expression before.now) + nodes (expression left.now) + nodes (expression right.now) + 1) result }
-    ensures left { IfOk result (λ p. IsFit (range p.left)) }
-    ensures right { IfOk result (λ p. IsFit (range p.right)) }
+    ensures below { FaultIsWithin (nodes (expression before.now)
+        + nodes (expression left.now) + nodes (expression right.now) + 1) result }
+    ensures fit { IfOk result AreFit }
 {
     match ranges_of(decls, left, right, scope) {
         Ok(both) => Ok(both),
@@ -343,8 +344,8 @@ fn range_of_acc(
     accumulated(decls, body, days, start, scope)
 }
 
-// Of an accumulator after some days, each of which tries the body anew with the range so far for its name. A day that
-// leaves the range as it was is followed by such days alone.
+// Of an accumulator after some days, each of which tries the body anew with the range so far for
+// its name. A day that leaves the range as it was is followed by such days alone.
 #[cycle(ranging)]
 fn accumulated(
     decls: &Decls,
@@ -354,10 +355,10 @@ fn accumulated(
     scope: &Scope<Range>,
 ) -> Result<Range, u32>
     requires nodes { nodes (expression body.now) + 1 < 2 ^ 32 }
-    requires scaled { AreScaled (declarations decls.now) (expression body.now) (start.kind ∷ range_kinds (ranges_in scope.now)) }
+    requires scaled { IsBodyScaled decls.now body.now start.kind scope.now }
     requires start { IsFit (range start) }
-    ensures range { range_found result ≡ days_tried days
-        (day_tried (λ g. range_tried (declarations decls.now) (expression body.now) g) (ranges_in scope.now)) (range start) }
+    ensures range { range_found result
+        ≡ days_tried days (day_among decls.now body.now scope.now) (range start) }
     ensures below { FaultIsWithin (nodes (expression body.now) + 1) result }
     ensures fit { IfOk result (λ r. IsFit (range r)) }
 {
@@ -381,13 +382,11 @@ fn range_of_day(
     scope: &Scope<Range>,
 ) -> Result<Range, u32>
     requires nodes { nodes (expression body.now) + 1 < 2 ^ 32 }
-    requires scaled { AreScaled (declarations decls.now) (expression body.now) (so_far.kind ∷ range_kinds (ranges_in scope.now)) }
+    requires scaled { IsBodyScaled decls.now body.now so_far.kind scope.now }
     requires so_far { IsFit (range so_far) }
-    ensures range { range_found result ≡ day_tried (λ g. range_tried (declarations decls.now) (expression body.now) g)
-        (ranges_in scope.now) (range so_far) }
+    ensures range { range_found result ≡ day_among decls.now body.now scope.now (range so_far) }
     ensures below { FaultIsWithin (nodes (expression body.now) + 1) result }
-    ensures fit { IfOk result (λ r. IsFit (range r)) }
-    ensures kind { IfOk result (λ r. r.kind ≡ so_far.kind) }
+    ensures fit { IfOk result (IsFitOfKind so_far.kind) }
 {
     let inner = Scope::Bound {
         held: so_far,
