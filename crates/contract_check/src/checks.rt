@@ -19,11 +19,13 @@ use time_types::{Start, sorts, times};
 /// What is said of an accepted contract.
 #[derive(Clone, Copy, Debug, PartialEq, Eq)]
 pub struct Facts {
-    /// The day, counted from the one on which the contract stands, before which it transfers nothing.
+    /// The day, counted from the one on which the contract stands, before which it transfers
+    /// nothing.
     pub start: Start,
     /// The number of decimals of its amounts, as the contract states them.
     pub scale: u8,
-    /// The most that it pays over all days, for one pair of parties and one asset, in units of the portfolio's decimals.
+    /// The most that it pays over all days, for one pair of parties and one asset, in units of the
+    /// portfolio's decimals.
     pub total: i128,
     /// The number of days, from the one on which it stands, after which it pays nothing more.
     pub horizon: u32,
@@ -34,7 +36,8 @@ fn limited(_decls: &Decls, c: &Contr) -> Result<(), CheckErr>
     requires low { height_of_contract (contract c.now) ≤ 1_000 }
     requires small { nodes_of_contract (contract c.now) < 2 ^ 32 }
     requires numbers { HasOnlyNumbers (contract c.now) }
-    ensures { IsVerdict (declarations _decls.now) Rule.Size (contract c.now) (λ _. Unit {0}) result }
+    ensures { IsVerdict (declarations _decls.now) Rule.Size (contract c.now)
+        (λ _. Unit {0}) result }
 {
     match sizes(c) {
         Ok(_) => Ok(()),
@@ -45,9 +48,9 @@ fn limited(_decls: &Decls, c: &Contr) -> Result<(), CheckErr>
     }
 }
 
-/// Whether a contract is accepted, and what is said of it then. Where it is not, the answer has the first rule that
-/// fails and the first node at which it does. The rules are tried on sorts, times, scales, sizes and bounds, in this
-/// order.
+/// Whether a contract is accepted, and what is said of it then. Where it is not, the answer has the
+/// first rule that fails and the first node at which it does. The rules are tried on sorts, times,
+/// scales, sizes and bounds, in this order.
 pub fn check(alloc: Global, decls: &Decls, c: &Contr) -> Result<Facts, CheckErr>
     requires closed { IsClosed (declarations decls.now) (contract c.now) }
     requires numbers { HasOnlyNumbers (contract c.now) }

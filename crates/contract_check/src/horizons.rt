@@ -37,8 +37,9 @@ fn horizon_in(c: &Contr) -> u32
     }
 }
 
-/// The number of days, from the one on which a contract stands, after which it pays nothing more, whatever is observed;
-/// 0 where it pays nothing at all. A contract that pays on its first day alone has 1. It takes no memory.
+/// The number of days, from the one on which a contract stands, after which it pays nothing more,
+/// whatever is observed; 0 where it pays nothing at all. A contract that pays on its first day
+/// alone has 1. It takes no memory.
 #[tactic(auto, using(crate::proofs::HorizonFacts::reach_limited))]
 pub fn horizon(c: &Contr) -> u32
     requires small { MeetsSize (contract c.now) }

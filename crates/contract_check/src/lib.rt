@@ -1,11 +1,12 @@
-//! Which contracts are accepted: all five rules, in their order; and what is said of an accepted contract.
+//! Which contracts are accepted: all five rules, in their order; and what is said of an accepted
+//! contract.
 //!
 //! ```text
 //! let facts = check(alloc, &portfolio.decls, &contr)?; // its start, scale, total and horizon
 //! ```
 //!
-//! Promised: `check` answers the facts of an accepted contract, which is causal then, or the first rule that
-//! fails and the first node at which it does (`IsChecked`).
+//! Promised: `check` answers the facts of an accepted contract, which is causal then, or the first
+//! rule that fails and the first node at which it does (`IsChecked`).
 //! Only tested: that it answers where there is memory (rows of `library_rows`).
 #![tactic(auto)]
 

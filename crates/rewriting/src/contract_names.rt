@@ -46,7 +46,8 @@ pub fn substituted_in(
 ) -> Result<Option<Rc<SharedContr>>, NoMemory>
     requires low { back + height_of_contract (shared s.now) ≤ 2 ^ 31 }
     requires literal { is_literal (expression other.now) ≡ true }
-    ensures same { IfOk result (λ r. after_in (shared s.now) r ≡ substituted_in back (expression other.now) (shared s.now)) }
+    ensures same { IfOk result (λ r. after_in (shared s.now) r
+        ≡ substituted_in back (expression other.now) (shared s.now)) }
     ensures offsets { IfOk result (λ r. StoresOffsets s.now → NewStoresOffsets r) }
 {
     match s {

@@ -1,14 +1,14 @@
-//! Rewriting terms: expressions of which parts are replaced, literals for names; and laws of them, of
-//! what may stand for a part, of offsets, of what is worth the same, of what is no larger, and of redexes
-//! by structure. Reductions and residuals stand on them.
+//! Rewriting terms: expressions of which parts are replaced, literals for names; and laws of them,
+//! of what may stand for a part, of offsets, of what is worth the same, of what is no larger, and
+//! of redexes by structure. Reductions and residuals stand on them.
 //!
 //! ```text
 //! let new = substituted(alloc, &body, 0, &literal(kind, value))?; // None where nothing changes
 //! let body = kept(alloc, &body, new)?;
 //! ```
 //!
-//! Promised: `substituted` answers the definition of its name (`specs/Substituting.antt`), and `kept` the
-//! part or what stands for it (`after`); `laws` says what rewriting keeps.
+//! Promised: `substituted` answers the definition of its name (`specs/Substituting.antt`), and
+//! `kept` the part or what stands for it (`after`); `laws` says what rewriting keeps.
 //! Only tested: that it answers where there is memory (by `simplify`, in rows of `library_rows`).
 #![tactic(auto)]
 

@@ -67,7 +67,8 @@ fn name_without(
     other: &Expr,
 ) -> Result<Option<Expr>, NoMemory>
     requires { expression e.now ≡ Var name }
-    ensures { IfOk result (λ r. after (expression e.now) r ≡ name_without back (expression other.now) name) }
+    ensures { IfOk result (λ r. after (expression e.now) r
+        ≡ name_without back (expression other.now) name) }
 {
     if name < back {
         Ok(None)
@@ -78,8 +79,8 @@ fn name_without(
     }
 }
 
-/// The expression with another one for the name with `back` binders between; names from farther out count one binder
-/// less. It answers nothing where nothing changes.
+/// The expression with another one for the name with `back` binders between; names from farther out
+/// count one binder less. It answers nothing where nothing changes.
 pub fn substituted(
     alloc: Global,
     e: &Expr,
@@ -87,7 +88,8 @@ pub fn substituted(
     other: &Expr,
 ) -> Result<Option<Expr>, NoMemory>
     requires { back + height (expression e.now) ≤ 2 ^ 31 }
-    ensures { IfOk result (λ r. after (expression e.now) r ≡ substituted back (expression other.now) (expression e.now)) }
+    ensures { IfOk result (λ r. after (expression e.now) r
+        ≡ substituted back (expression other.now) (expression e.now)) }
 {
     match e {
         Expr::Lit { .. } | Expr::Yes { .. } | Expr::Obs { .. } => Ok(None),

@@ -1,5 +1,6 @@
-//! Expressions of which parts are replaced. A walk that rewrites an expression answers nothing where it changes nothing, so
-//! that what stays takes no memory; these put a node together from what its parts come to.
+//! Expressions of which parts are replaced. A walk that rewrites an expression answers nothing
+//! where it changes nothing, so that what stays takes no memory; these put a node together from
+//! what its parts come to.
 
 ghost use Rattle.std.specs.Prelude.{◌≡◌, IfOk};
 ghost use Rattle.term_core.specs.Terms.{expression, Cond};
@@ -53,8 +54,10 @@ pub fn of_one(
     new: Option<Expr>,
 ) -> Result<Option<Expr>, NoMemory>
     requires { over_one (expression e.now) (expression part.now) ≡ expression e.now }
-    ensures same { IfOk result (λ r. after (expression e.now) r ≡ over_one (expression e.now) (after (expression part.now) new)) }
-    ensures less { IfOk result (λ r. IsLess new (expression part.now) → IsLess r (expression e.now)) }
+    ensures same { IfOk result (λ r. after (expression e.now) r
+        ≡ over_one (expression e.now) (after (expression part.now) new)) }
+    ensures less { IfOk result (λ r. IsLess new (expression part.now)
+        → IsLess r (expression e.now)) }
 {
     let Some(new) = new else {
         return Ok(None);
@@ -75,7 +78,8 @@ pub fn of_one(
 
 // A node over two parts with new ones.
 fn with_two(e: &Expr, left: Box<Expr>, right: Box<Expr>) -> Option<Expr>
-    ensures same { after (expression e.now) result ≡ over_two (expression e.now) (expression left.value) (expression right.value) }
+    ensures same { after (expression e.now) result
+        ≡ over_two (expression e.now) (expression left.value) (expression right.value) }
     ensures less { IsLessByParts (expression e.now) (expression left.value) (expression right.value) result }
 {
     match e {
@@ -118,8 +122,10 @@ pub fn of_two(
     one: Option<Expr>,
     two: Option<Expr>,
 ) -> Result<Option<Expr>, NoMemory>
-    requires { over_two (expression e.now) (expression left.now) (expression right.now) ≡ expression e.now }
-    ensures same { IfOk result (λ r. after (expression e.now) r ≡ two_after e.now left.now one right.now two) }
+    requires { over_two (expression e.now) (expression left.now) (expression right.now)
+        ≡ expression e.now }
+    ensures same { IfOk result (λ r. after (expression e.now) r
+        ≡ two_after e.now left.now one right.now two) }
     ensures less { IfOk result (λ r. IfBothAreLess left.now one right.now two (IsLess r (expression e.now))) }
 {
     if one.is_none() && two.is_none() {
@@ -142,7 +148,8 @@ pub fn of_three(
     three: Option<Expr>,
 ) -> Result<Option<Expr>, NoMemory>
     requires { expression e.now ≡ Cond (expression test.now) (expression yes.now) (expression no.now) }
-    ensures same { IfOk result (λ r. after (expression e.now) r ≡ choice_after test.now one yes.now two no.now three) }
+    ensures same { IfOk result (λ r. after (expression e.now) r
+        ≡ choice_after test.now one yes.now two no.now three) }
     ensures less { IfOk result (λ r. IfAllAreLess test.now one yes.now two no.now three (IsLess r (expression e.now))) }
 {
     if one.is_none() && two.is_none() && three.is_none() {

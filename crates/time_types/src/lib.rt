@@ -1,14 +1,15 @@
-//! The first two rules of acceptance. Sorts: each expression is a number or a truth value, each factor a
-//! number and each test a truth value. Times: nothing is paid before it is known.
+//! The first two rules of acceptance. Sorts: each expression is a number or a truth value, each
+//! factor a number and each test a truth value. Times: nothing is paid before it is known.
 //!
 //! ```text
 //! sorts(alloc, &portfolio.decls, &contr)?;
 //! let start = times(alloc, &portfolio.decls, &contr)?;
 //! ```
 //!
-//! Promised: `sorts` and `times` answer that their rule holds, `times` with the start, or the first node at
-//! which it fails (`IsVerdict`).
-//! Only tested: that they answer, since the clauses leave want of memory open, which never comes (by
+//! Promised: `sorts` and `times` answer that their rule holds, `times` with the start, or the first
+//! node at which it fails (`IsVerdict`).
+//! Only tested: that they answer, since the clauses leave want of memory open, which never comes
+//! (by
 //! `contract_check`, in rows of `library_rows`).
 #![tactic(auto)]
 

@@ -8,7 +8,8 @@ ghost use Rattle.time_types.specs.SortKinds.{sort_of};
 
 use term_core::{Decls, Label};
 
-/// What an expression is by its form. A kind would also count decimals, which at this rule have no limit yet.
+/// What an expression is by its form. A kind would also count decimals, which at this rule have no
+/// limit yet.
 #[derive(Clone, Copy, Debug, PartialEq, Eq)]
 pub enum Sort {
     Truth,

@@ -1,8 +1,8 @@
 //! The rule on sorts: every expression is a number or a truth value, every factor is a number and
 //! every test is a truth value. The trial of a part answers its sort, or the number of the node at
-//! fault, counted from the part's own first node; nodes before it are counted only on the way up from
-//! a fault, so that no part is visited more than twice. A function pays at entry for the locals of
-//! all its arms, so each form with parts has one of its own.
+//! fault, counted from the part's own first node; nodes before it are counted only on the way up
+//! from a fault, so that no part is visited more than twice. A function pays at entry for the
+//! locals of all its arms, so each form with parts has one of its own.
 
 ghost use Rattle.std.specs.Prelude.{◌≡◌, ◌<◌, ◌≤◌, ◌+◌, ◌^◌, IfErr};
 ghost use Rattle.term_core.specs.Declarations.{declarations};
@@ -259,8 +259,9 @@ fn try_within(
     require(Sort::Truth, sort)
 }
 
-/// Whether the rule on sorts holds everywhere in a contract. Where it fails, the answer has the first node at fault, in
-/// the order in which the rules of acceptance try nodes. It takes no memory, which its clause leaves open.
+/// Whether the rule on sorts holds everywhere in a contract. Where it fails, the answer has the
+/// first node at fault, in the order in which the rules of acceptance try nodes. It takes no
+/// memory, which its clause leaves open.
 pub fn sorts(alloc: Global, decls: &Decls, c: &Contr) -> Result<(), CheckErr>
     requires low { height_of_contract (contract c.now) ≤ 1_000 }
     requires small { nodes_of_contract (contract c.now) < 2 ^ 32 }

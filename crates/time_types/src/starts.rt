@@ -3,8 +3,8 @@
 ghost use Rattle.std.specs.Prelude.{◌≡◌};
 ghost use Rattle.time_types.specs.TimeTrials.{earlier, is_known_at};
 
-/// The portfolio day, counted from the day on which a contract stands, before which it transfers nothing; or `Always`,
-/// where it never transfers anything.
+/// The portfolio day, counted from the day on which a contract stands, before which it transfers
+/// nothing; or `Always`, where it never transfers anything.
 #[derive(Clone, Copy, Debug, PartialEq, Eq)]
 pub enum Start {
     Day { day: i64 },

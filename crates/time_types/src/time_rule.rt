@@ -1,6 +1,7 @@
-//! The rule on times: a factor is known when its contract starts, and a test on the day on which it is first tried.
-//! The trial of a contract answers its start, or the number of the node at fault, counted from the contract's own first
-//! node; nodes before it are counted only on the way up from a fault, so that no part is visited more than twice.
+//! The rule on times: a factor is known when its contract starts, and a test on the day on which it
+//! is first tried. The trial of a contract answers its start, or the number of the node at fault,
+//! counted from the contract's own first node; nodes before it are counted only on the way up from
+//! a fault, so that no part is visited more than twice.
 
 ghost use Rattle.std.specs.Prelude.{◌≡◌, ◌<◌, ◌≤◌, ◌+◌, ◌^◌, pos, ◌+ℤ◌, ◌-ℤ◌, unsigned_abs, IfErr, slice_get};
 ghost use Rattle.term_core.specs.Declarations.{declarations};
@@ -68,8 +69,8 @@ fn days_after(day: PartDay, days: u32) -> PartDay
     }
 }
 
-// The day from which a name is known that is bound around an expression. Days are those of the whole contract, so that
-// a scope serves parts that stand on later and on earlier days as it is.
+// The day from which a name is known that is bound around an expression. Days are those of the
+// whole contract, so that a scope serves parts that stand on later and on earlier days as it is.
 fn known_at(scope: &Scope<Option<i64>>, back: u32) -> Option<i64>
     ensures { result ≡ name_known (slice_get (held_in scope.now) back) }
 {
@@ -188,17 +189,19 @@ fn try_start(c: &Contr, scope: &Scope<Option<i64>>, day: PartDay) -> Result<Star
     }
 }
 
-/// The start of a contract, where the rule on times holds everywhere in it. Where it fails, the answer has the first
-/// node at fault, in the order in which the rules of acceptance try nodes: a `scale` whose factor is not known when its
-/// body starts, or an `if .. within` whose test is not known on the first day (after the typing of times of Bahr,
-/// Berthold and Elsman, ICFP 2015). It takes no memory, which its clause leaves open.
+/// The start of a contract, where the rule on times holds everywhere in it. Where it fails, the
+/// answer has the first node at fault, in the order in which the rules of acceptance try nodes: a
+/// `scale` whose factor is not known when its body starts, or an `if .. within` whose test is not
+/// known on the first day (after the typing of times of Bahr, Berthold and Elsman, ICFP 2015). It
+/// takes no memory, which its clause leaves open.
 pub fn times(alloc: Global, decls: &Decls, c: &Contr) -> Result<Start, CheckErr>
     requires low { height_of_contract (contract c.now) ≤ 1_000 }
     requires small { nodes_of_contract (contract c.now) < 2 ^ 32 }
     requires closed { IsClosed (declarations decls.now) (contract c.now) }
     requires sorted { Meets (declarations decls.now) Rule.Sort (contract c.now) }
     requires numbers { HasOnlyNumbers (contract c.now) }
-    ensures { IsVerdict (declarations decls.now) Rule.Time (contract c.now) (λ start. IsStart (contract c.now) (start_day start)) result }
+    ensures { IsVerdict (declarations decls.now) Rule.Time (contract c.now)
+        (λ start. IsStart (contract c.now) (start_day start)) result }
 {
     match try_start(c, &Scope::Empty, PartDay { number: 0 }) {
         Ok(start) => Ok(start),
