@@ -1,5 +1,5 @@
-//! Whether a contract is closed: each index that it holds is declared, each name has its binder, and each offset of an
-//! observable is within the limit.
+//! Whether a contract is closed: each index that it holds is declared, each name has its binder,
+//! and each offset of an observable is within the limit.
 
 ghost use Rattle.std.specs.Prelude.{◌≡◌, ◌≤◌, ◌^◌, ◌↔◌, IfSome, IsTrue, nat_lt};
 ghost use Rattle.term_core.specs.Declarations.{declarations};
@@ -168,8 +168,8 @@ fn wanted_by_contract(decls: &Decls, c: &Contr) -> Option<u64>
     }
 }
 
-/// Whether a contract is closed under the declarations, which the calls that take a contract ask of it. A portfolio that
-/// was read holds no other; this is for contracts that are made by a program.
+/// Whether a contract is closed under the declarations, which the calls that take a contract ask of
+/// it. A portfolio that was read holds no other; this is for contracts that are made by a program.
 pub fn is_closed(decls: &Decls, c: &Contr) -> bool
     ensures { IsTrue result ↔ IsClosed (declarations decls.now) (contract c.now) }
 {

@@ -38,7 +38,8 @@ fn two(a: u8, b: u8) -> Option<u8>
 
 #[tactic(auto, unfolding(crate::specs::Dates::parts_of))]
 fn ten_parts(text: &[u8; 10]) -> Option<Ymd>
-    ensures value { option_map (λ p. record { year = p.year; month = p.month; day = p.day }) result ≡ parts_of text.now }
+    ensures value { option_map (λ p. record { year = p.year; month = p.month; day = p.day }) result
+        ≡ parts_of text.now }
     ensures bound { IfSome result (λ p. (p.year ≤ 9999) × (p.month ≤ 99) × (p.day ≤ 99)) }
 {
     let [a, b, c, d, h, e, f, i, g, j] = *text;
@@ -59,7 +60,8 @@ fn ten_parts(text: &[u8; 10]) -> Option<Ymd>
 
 #[tactic(auto, unfolding(crate::specs::Dates::parts_of))]
 fn parts(text: &[u8]) -> Option<Ymd>
-    ensures value { option_map (λ p. record { year = p.year; month = p.month; day = p.day }) result ≡ parts_of text.now }
+    ensures value { option_map (λ p. record { year = p.year; month = p.month; day = p.day }) result
+        ≡ parts_of text.now }
     ensures bound { IfSome result (λ p. (p.year ≤ 9999) × (p.month ≤ 99) × (p.day ≤ 99)) }
 {
     match text {

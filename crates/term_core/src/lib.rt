@@ -1,16 +1,17 @@
 //! Terms of the contract language, their declarations, and the model that says what they mean: the
-//! definitions of `specs`, of which the clauses of every crate above speak. Beside it copies, shifts, shared
-//! terms, instances, counts and dates.
+//! definitions of `specs`, of which the clauses of every crate above speak. Beside it copies,
+//! shifts, shared terms, instances, counts and dates.
 //!
 //! ```text
 //! let setting = defaults(alloc, &portfolio.decls)?;
 //! let contr = instantiate(alloc, &portfolio.contracts[0], &setting)?;
 //! ```
 //!
-//! Promised: `instantiate` puts a setting's numbers for the names of templates (`instance`), and the other
-//! calls are as exact by the model; `laws` has what follows of the definitions alone.
-//! Only tested: that calls succeed where there is memory (rows of `library_rows`). That the definitions
-//! say what is meant no clause can say: the rows of `proofs` and `docs/MODEL.md` are for that.
+//! Promised: `instantiate` puts a setting's numbers for the names of templates (`instance`), and
+//! the other calls are as exact by the model; `laws` has what follows of the definitions alone.
+//! Only tested: that calls succeed where there is memory (rows of `library_rows`). That the
+//! definitions say what is meant no clause can say: the rows of `proofs` and `docs/MODEL.md` are
+//! for that.
 #![tactic(auto)]
 
 mod closed;

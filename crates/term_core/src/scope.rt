@@ -10,7 +10,8 @@ pub enum Scope<'a, T> {
     Bound { held: T, outer: &'a Scope<'a, T> },
 }
 
-/// What is known of the name that is bound `back` binders further out than the innermost; nothing without a binder.
+/// What is known of the name that is bound `back` binders further out than the innermost; nothing
+/// without a binder.
 pub fn held_at<T: Copy>(scope: &Scope<T>, back: u32) -> Option<T>
     ensures { result ≡ slice_get (held_in scope.now) back }
 {

@@ -16,7 +16,8 @@ pub struct Setting {
 
 /// The numbers that the templates are declared with.
 pub fn defaults(alloc: Global, decls: &Decls) -> Result<Setting, NoMemory>
-    ensures { IfOk result (λ setting. setting.days.items ≡ declared_numbers (declarations decls.now)) }
+    ensures { IfOk result (λ setting. setting.days.items
+        ≡ declared_numbers (declarations decls.now)) }
 {
     let mut days = Vec::new(alloc);
     for number in decls.templates.values() {

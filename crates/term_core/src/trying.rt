@@ -1,5 +1,6 @@
-//! Where a node at fault stands. The trial of a part counts from the part's own first node, and the whole from its own:
-//! so what a part answers is moved behind the nodes that stand before it, which are counted only where there is a fault.
+//! Where a node at fault stands. The trial of a part counts from the part's own first node, and the
+//! whole from its own: so what a part answers is moved behind the nodes that stand before it, which
+//! are counted only where there is a fault.
 
 ghost use Rattle.std.specs.Prelude.{◌≡◌, ◌<◌, ◌+◌, ◌^◌, IfErr};
 ghost use Rattle.term_core.specs.Terms.{expression, contract};

@@ -5,7 +5,8 @@ ghost use Rattle.term_core.specs.Kinds.{scale_of_kind};
 ghost use Rattle.term_core.specs.Branches.{either};
 ghost use Rattle.term_core.specs.Values.{num, truth};
 
-/// The value of an expression: the mantissa of a number, at the scale that its kind says, or a truth value.
+/// The value of an expression: the mantissa of a number, at the scale that its kind says, or a
+/// truth value.
 #[derive(Clone, Copy, Debug, PartialEq, Eq)]
 pub enum Value {
     Num { mant: i128 },
@@ -59,8 +60,8 @@ impl Kind {
         }
     }
 
-    /// The kind of what is either of two branches, one of this kind and one of the other: of two numbers a number
-    /// with the decimals of both.
+    /// The kind of what is either of two branches, one of this kind and one of the other: of two
+    /// numbers a number with the decimals of both.
     pub fn either(self, other: Kind) -> Kind
         ensures { result ≡ either self other }
     {
