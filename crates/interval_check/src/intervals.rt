@@ -113,7 +113,8 @@ pub fn hull_of(i: Interval, j: Interval) -> Interval
     }
 }
 
-// The products of a number and the end points of an interval, as an interval where they are mantissas.
+// The products of a number and the end points of an interval, as an interval where they are
+// mantissas.
 fn products(m: i128, i: Interval) -> Option<Interval>
     ensures interval { found result ≡ fitting (hull (single (m *ℤ i.low)) (single (m *ℤ i.high))) }
     ensures small { IfSome result (λ i. EndsFit (interval i)) }

@@ -1,11 +1,12 @@
-//! The last rule of acceptance, bounds, and what it guarantees: an accepted contract never leaves 128 bits,
-//! never divides by 0, and never pays more than its total.
+//! The last rule of acceptance, bounds, and what it guarantees: an accepted contract never leaves
+//! 128 bits, never divides by 0, and never pays more than its total.
 //!
 //! ```text
 //! let total = bounds(alloc, &portfolio.decls, &contr)?;
 //! ```
 //!
-//! Promised: `bounds` answers the total, or the first node at which the rule fails (`IsVerdict`); the laws
+//! Promised: `bounds` answers the total, or the first node at which the rule fails (`IsVerdict`);
+//! the laws
 //! `accepted_contracts_are_safe` and `payments_add_up_to_total` say what follows.
 //! Only tested: that it answers, since the clauses leave want of memory open, which never comes (by
 //! `contract_check`, in rows of `library_rows`).

@@ -12,7 +12,8 @@ use crate::ranges::{Range, checked};
 use decimal::{Mode, div_to};
 use term_core::Kind;
 
-// How a quotient is rounded: the scales of its numerator and its denominator, the mode, and its own scale.
+// How a quotient is rounded: the scales of its numerator and its denominator, the mode, and its own
+// scale.
 #[derive(Clone, Copy)]
 struct Division {
     top: u8,
@@ -28,8 +29,8 @@ fn holds_zero(i: Interval) -> bool
     i.low <= 0 && 0 <= i.high
 }
 
-// Whether each numerator can be divided by each denominator: none of these is 0, and what is multiplied by a power of
-// ten for it stays a mantissa.
+// Whether each numerator can be divided by each denominator: none of these is 0, and what is
+// multiplied by a power of ten for it stays a mantissa.
 fn can_divide(by: Division, top: Interval, below: Interval) -> bool
     requires top { by.top ≤ 27 }
     requires below { by.below ≤ 27 }

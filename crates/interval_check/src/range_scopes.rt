@@ -13,8 +13,8 @@ use crate::intervals::Interval;
 use crate::ranges::{Range, TRUTH, checked};
 use term_core::{Decls, Kind, Label, Scope};
 
-/// The range of the name that is bound `back` binders further out than the innermost. One without a binder, which no
-/// closed term has, is a truth value.
+/// The range of the name that is bound `back` binders further out than the innermost. One without a
+/// binder, which no closed term has, is a truth value.
 pub fn range_at(scope: &Scope<Range>, back: u32) -> Range
     ensures range { range result ≡ range_or_truth (slice_get (ranges_in scope.now) back) }
     ensures kind { result.kind ≡ kind_or (slice_get (range_kinds (ranges_in scope.now)) back) }

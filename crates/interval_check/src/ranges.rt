@@ -1,5 +1,5 @@
-//! Ranges of expressions, and what each operator makes of those of its parts. Each answers the fault 0, the node
-//! itself, where an end point or an operand is no mantissa.
+//! Ranges of expressions, and what each operator makes of those of its parts. Each answers the
+//! fault 0, the node itself, where an end point or an operand is no mantissa.
 
 ghost use Rattle.std.specs.Prelude.{◌≡◌, ◌↔◌, ◌≤◌, ◌+◌, IfErr, IfOk, IfSome, IsTrue};
 ghost use Rattle.term_core.specs.declared.terms.NumOp.{NumOp};
@@ -16,7 +16,8 @@ use crate::intervals::{
 use decimal::{Mode, round_to};
 use term_core::{Kind, NumOp};
 
-/// Where the mantissa of an expression lies, and what the expression is. A truth value has the interval of 0.
+/// Where the mantissa of an expression lies, and what the expression is. A truth value has the
+/// interval of 0.
 #[derive(Clone, Copy, Debug, PartialEq, Eq)]
 pub struct Range {
     pub interval: Interval,
@@ -108,7 +109,8 @@ pub fn rounded(mode: Mode, scale: u8, of: Range) -> Result<Range, u32>
     checked(Interval { low, high }, kind)
 }
 
-// The interval of a number at the scale that it shares with another, where its end points are mantissas.
+// The interval of a number at the scale that it shares with another, where its end points are
+// mantissas.
 fn shared_with(other: Range, of: Range) -> Option<Interval>
     ensures interval { found result ≡ fitting (aligned (tried.scale_in (range of)) (tried.scale_in (range other)) (interval of.interval)) }
     ensures small { IfSome result (λ i. EndsFit (interval i)) }

@@ -1,5 +1,5 @@
-//! Totals of contracts. Each operation answers the fault 0, the node itself, where a total is more than 10^27, as it is
-//! or at the portfolio's decimals.
+//! Totals of contracts. Each operation answers the fault 0, the node itself, where a total is more
+//! than 10^27, as it is or at the portfolio's decimals.
 
 ghost use Rattle.std.specs.Prelude.{◌≡◌, ◌≤◌, ◌+◌, ◌-◌, ◌^◌, nat_le, IfErr, IfOk};
 ghost use Rattle.interval_check.specs.Intervals.{interval};
@@ -16,7 +16,8 @@ use decimal::pow10;
 // The greatest total, 10^27.
 const GREATEST: u128 = 1_000_000_000_000_000_000_000_000_000;
 
-/// The most that a contract can pay over all days, for a pair of parties and an asset, in units of its scale.
+/// The most that a contract can pay over all days, for a pair of parties and an asset, in units of
+/// its scale.
 #[derive(Clone, Copy, Debug, PartialEq, Eq)]
 pub struct Total {
     pub amount: u128,
@@ -55,7 +56,8 @@ fn is_small_at(decimals: u8, of: Total) -> bool
 pub fn checked_total(decimals: u8, amount: u128, scale: u8) -> Result<Total, u32>
     requires decimals { decimals ≤ 12 }
     requires scale { scale ≤ decimals }
-    ensures total { total_found result ≡ tried.total_here decimals (record { amount = amount; scale = scale }) }
+    ensures total { total_found result
+        ≡ tried.total_here decimals (record { amount = amount; scale = scale }) }
     ensures here { IfErr result (λ node. node ≡ 0) }
     ensures fits { IfOk result (λ t. IsTotal decimals t) }
 {
@@ -72,7 +74,8 @@ pub fn total_of_both(decimals: u8, left: Total, right: Total) -> Result<Total, u
     requires decimals { decimals ≤ 12 }
     requires left { IsTotal decimals left }
     requires right { IsTotal decimals right }
-    ensures total { total_found result ≡ tried.total_here decimals (tried.of_both (total left) (total right)) }
+    ensures total { total_found result
+        ≡ tried.total_here decimals (tried.of_both (total left) (total right)) }
     ensures here { IfErr result (λ node. node ≡ 0) }
     ensures fits { IfOk result (λ t. IsTotal decimals t) }
 {
@@ -89,7 +92,8 @@ pub fn total_of_either(decimals: u8, hit: Total, miss: Total) -> Result<Total, u
     requires decimals { decimals ≤ 12 }
     requires hit { IsTotal decimals hit }
     requires miss { IsTotal decimals miss }
-    ensures total { total_found result ≡ tried.total_here decimals (tried.of_either (total hit) (total miss)) }
+    ensures total { total_found result
+        ≡ tried.total_here decimals (tried.of_either (total hit) (total miss)) }
     ensures here { IfErr result (λ node. node ≡ 0) }
     ensures fits { IfOk result (λ t. IsTotal decimals t) }
 {
@@ -105,7 +109,8 @@ pub fn total_of_either(decimals: u8, hit: Total, miss: Total) -> Result<Total, u
 pub fn total_of_scaled(decimals: u8, factor: Range, body: Total) -> Result<Total, u32>
     requires decimals { decimals ≤ 12 }
     requires scale { scale_in (range factor) + body.scale ≤ decimals }
-    ensures total { total_found result ≡ tried.total_here decimals (tried.of_scaled (range factor) (total body)) }
+    ensures total { total_found result
+        ≡ tried.total_here decimals (tried.of_scaled (range factor) (total body)) }
     ensures here { IfErr result (λ node. node ≡ 0) }
     ensures fits { IfOk result (λ t. IsTotal decimals t) }
 {
