@@ -10,10 +10,10 @@ use Rattle.term_core.specs.Terms.{Contract, contract}
 use Rattle.term_core.specs.WellFormed.{IsClosed}
 use Rattle.term_core.specs.declared.decls.Decls.{Decls}
 use Rattle.term_core.specs.declared.name.Name.{Name}
-use Rattle.contract_parse.specs.Tokens.{tokens}
+use Rattle.contract_parse.specs.Tokens.{Tok, tokens}
 use Rattle.contract_parse.specs.Versions.{version_of}
 use Rattle.contract_parse.specs.Names.{declared_by, is_declared, nothing_declared}
-use Rattle.contract_parse.specs.Spelling.{Part, ◌⨟◌, end}
+use Rattle.contract_parse.specs.Spelling.{Part, ◌⨟◌, contr, end}
 use Rattle.contract_parse.specs.Statements.{Entry, Repeat, contract_line, portfolio}
 use Rattle.contract_parse.specs.Places.{Fails, places_behind, run, text_places}
 use Rattle.contract_parse.specs.Reading.{tokens_ahead}
@@ -36,6 +36,12 @@ pub record IsSoundContract (d : Declarations) (c : Contract) : Type 0 where
 abbrev pub further_contracts : Declarations → List (Name × Contract) → List (Name × Contract) → Part
 further_contracts d before after =
     Repeat (Entry (contract_line (declared_by d []))) before after ⨟ end
+
+-- tokens spell a contract, with the names of declarations
+pub record HasTokens (d : Declarations) (c : Contract) : Type 0 where
+  pub before : List Tok
+  pub behind : List Tok
+  pub spelled : contr (declared_by d []) [] c before behind
 
 -- of a text with these declarations so many contracts are read: its places go on from here, and
 -- what follows completes it
@@ -60,6 +66,7 @@ pub record IsNext (bytes : List ℕ) (d : Declarations) (entries : List (Name ×
     (after : ContractReader) (next : NextContract) : Type 0 where
   pub read : IsReadTo bytes d (entries ++ (next.name.now, contract next.contr) ∷ []) after
   pub sound : IsSoundContract d (contract next.contr)
+  pub spelled : HasTokens d (contract next.contr)
   pub new : is_declared (keys_of entries) next.name.now ≡ false
 
 -- the bytes are no text, and the fault is their first

@@ -41,6 +41,7 @@ returns-in_ok-next-in-Some-clause-next c = λ bytes entries so_far.
         completed = λ all x. so_far.completed all (one_further d entries all name tree (tokens_ahead old.ahead) (tokens behind) (tokens_ahead c.look-reader.result) rest c.in-Some.ensures.found line c.look-reader.ensures.same x);
       };
       sound = sound_contract d (keys_of entries) name tree behind rest (omega (arith, ap length c.in-Some.ensures.after, so_far.within, so_far.short)) line;
+      spelled = record { before = line.two.between; behind = line.two.two.between; spelled = line.two.two.one };
       new = new_absent (keys_of entries) name (tokens behind) line.between line.one;
     }
 
