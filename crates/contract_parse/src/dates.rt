@@ -33,7 +33,8 @@ pub fn skip_date<'a>(decls: &Decls, rest: &'a [u8]) -> Result<&'a [u8], ReadErr>
     skip_templates(decls, rest)
 }
 
-// How many bytes of a text are left, as an offset; a text has fewer bytes than there are such numbers.
+// How many bytes of a text are left, as an offset; a text has fewer bytes than there are such
+// numbers.
 fn as_offset(left: usize) -> Result<i32, NoMemory>
     ensures { IfOk result (λ offset. offset ≡ pos left) }
 {

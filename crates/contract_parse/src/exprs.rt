@@ -59,8 +59,10 @@ fn read_scale<'a>(wanted: &[u8], rest: &'a [u8]) -> Result<(u8, &'a [u8]), ReadE
 // The mode and the scale in `round` and `div`.
 #[tactic(auto, using(crate::proofs::Parts::followed_by))]
 fn read_rounding(rest: &[u8]) -> Result<(Mode, u8, &[u8]), ReadErr>
-    ensures reads { Reads (PassesAnywhere (λ ps. TheMark (codes "(") ∷ ModeAt ∷ TheMark (codes ",") ∷ IntegerAt 27 ∷ ps))
-        (λ r. mark (codes "(") ⨟ valued mode_at r.0 ⨟ mark (codes ",") ⨟ valued (integer_at 27) r.1) (λ r. r.2.now) rest.now result }
+    ensures reads { Reads (PassesAnywhere
+        (λ ps. TheMark (codes "(") ∷ ModeAt ∷ TheMark (codes ",") ∷ IntegerAt 27 ∷ ps))
+        (λ r. mark (codes "(") ⨟ valued mode_at r.0 ⨟ mark (codes ",") ⨟ valued (integer_at 27) r.1)
+        (λ r. r.2.now) rest.now result }
 {
     let rest = skip_mark(rest, b"(")?;
     let (mode, rest) = read_mode(rest)?;
@@ -90,7 +92,8 @@ fn read_days_back(rest: &[u8]) -> Result<(u32, &[u8]), ReadErr>
 
 // A literal behind its sign.
 fn read_negative(rest: &[u8]) -> Result<(Expr, &[u8]), ReadErr>
-    ensures reads { Reads (PassesAnywhere (λ ps. LiteralNumber true ∷ ps)) (λ r. behind_sign r.0) (λ r. r.1.now) rest.now result }
+    ensures reads { Reads (PassesAnywhere (λ ps. LiteralNumber true ∷ ps)) (λ r. behind_sign r.0)
+        (λ r. r.1.now) rest.now result }
     ensures high { IfOk result (λ r. height (expression r.0) ≡ 1) }
 {
     let (number, rest) = read_literal(true, rest)?;
@@ -153,7 +156,8 @@ fn read_boxed<'a>(
 ) -> Result<(Box<Expr>, &'a [u8]), ReadErr>
     requires shallow { depth ≤ greatest_depth language }
     requires bound { length (names_in bound.now) ≤ depth }
-    ensures reads { Reads (Passes decls.now (λ s ps. ExprAt language (depth + 1) (names_in bound.now) ∷ ps))
+    ensures reads { Reads (Passes decls.now
+        (λ s ps. ExprAt language (depth + 1) (names_in bound.now) ∷ ps))
         (λ r. expression_in language decls.now bound.now r.0.value) (λ r. r.1.now) rest.now result }
     ensures high { IfOk result (λ r. height (expression r.0.value) + depth ≤ greatest_depth language) }
 {
@@ -176,8 +180,10 @@ fn read_behind<'a>(
 ) -> Result<(Box<Expr>, &'a [u8]), ReadErr>
     requires shallow { depth ≤ greatest_depth language }
     requires bound { length (names_in bound.now) ≤ depth }
-    ensures reads { Reads (Passes decls.now (λ s ps. TheMark wanted.now ∷ ExprAt language (depth + 1) (names_in bound.now) ∷ ps))
-        (λ r. mark wanted.now ⨟ expression_in language decls.now bound.now r.0.value) (λ r. r.1.now) rest.now result }
+    ensures reads { Reads (Passes decls.now
+        (λ s ps. TheMark wanted.now ∷ ExprAt language (depth + 1) (names_in bound.now) ∷ ps))
+        (λ r. mark wanted.now ⨟ expression_in language decls.now bound.now r.0.value)
+        (λ r. r.1.now) rest.now result }
     ensures high { IfOk result (λ r. height (expression r.0.value) + depth ≤ greatest_depth language) }
 {
     let rest = skip_mark(rest, wanted)?;
@@ -220,7 +226,8 @@ fn read_neg<'a>(
     requires shallow { depth ≤ greatest_depth language }
     requires bound { length (names_in bound.now) < depth }
     ensures reads { Reads (Passes decls.now (behind_first language depth bound.now First.Neg))
-        (λ r. behind_word (codes "neg") (expression_in language decls.now bound.now r.0)) (λ r. r.1.now) rest.now result }
+        (λ r. behind_word (codes "neg") (expression_in language decls.now bound.now r.0))
+        (λ r. r.1.now) rest.now result }
     ensures high { IfOk result (λ r. height (expression r.0) + depth ≤ greatest_depth language + 1) }
 {
     let (of, rest) = read_operand(alloc, language, decls, bound, depth, rest)?;
@@ -241,7 +248,8 @@ fn read_not<'a>(
     requires shallow { depth ≤ greatest_depth language }
     requires bound { length (names_in bound.now) < depth }
     ensures reads { Reads (Passes decls.now (behind_first language depth bound.now First.Not))
-        (λ r. behind_word (codes "not") (expression_in language decls.now bound.now r.0)) (λ r. r.1.now) rest.now result }
+        (λ r. behind_word (codes "not") (expression_in language decls.now bound.now r.0))
+        (λ r. r.1.now) rest.now result }
     ensures high { IfOk result (λ r. height (expression r.0) + depth ≤ greatest_depth language + 1) }
 {
     let (of, rest) = read_operand(alloc, language, decls, bound, depth, rest)?;
@@ -288,7 +296,8 @@ fn read_min<'a>(
     requires shallow { depth ≤ greatest_depth language }
     requires bound { length (names_in bound.now) < depth }
     ensures reads { Reads (Passes decls.now (behind_first language depth bound.now First.Min))
-        (λ r. behind_word (codes "min") (expression_in language decls.now bound.now r.0)) (λ r. r.1.now) rest.now result }
+        (λ r. behind_word (codes "min") (expression_in language decls.now bound.now r.0))
+        (λ r. r.1.now) rest.now result }
     ensures high { IfOk result (λ r. height (expression r.0) + depth ≤ greatest_depth language + 1) }
 {
     let (left, right, rest) = read_pair(alloc, language, decls, bound, depth, rest)?;
@@ -310,7 +319,8 @@ fn read_max<'a>(
     requires shallow { depth ≤ greatest_depth language }
     requires bound { length (names_in bound.now) < depth }
     ensures reads { Reads (Passes decls.now (behind_first language depth bound.now First.Max))
-        (λ r. behind_word (codes "max") (expression_in language decls.now bound.now r.0)) (λ r. r.1.now) rest.now result }
+        (λ r. behind_word (codes "max") (expression_in language decls.now bound.now r.0))
+        (λ r. r.1.now) rest.now result }
     ensures high { IfOk result (λ r. height (expression r.0) + depth ≤ greatest_depth language + 1) }
 {
     let (left, right, rest) = read_pair(alloc, language, decls, bound, depth, rest)?;
@@ -332,7 +342,8 @@ fn read_infix<'a>(
     requires shallow { depth ≤ greatest_depth language }
     requires bound { length (names_in bound.now) < depth }
     ensures reads { Reads (Passes decls.now (behind_first language depth bound.now First.Open))
-        (λ r. behind_part (mark (codes "(")) (expression_in language decls.now bound.now r.0)) (λ r. r.1.now) rest.now result }
+        (λ r. behind_part (mark (codes "(")) (expression_in language decls.now bound.now r.0))
+        (λ r. r.1.now) rest.now result }
     ensures high { IfOk result (λ r. height (expression r.0) + depth ≤ greatest_depth language + 1) }
 {
     let (left, rest) = read_boxed(alloc, language, decls, bound, depth, rest)?;
@@ -356,7 +367,8 @@ fn read_choice<'a>(
     requires shallow { depth ≤ greatest_depth language }
     requires bound { length (names_in bound.now) < depth }
     ensures reads { Reads (Passes decls.now (behind_first language depth bound.now First.If))
-        (λ r. behind_word (codes "if") (expression_in language decls.now bound.now r.0)) (λ r. r.1.now) rest.now result }
+        (λ r. behind_word (codes "if") (expression_in language decls.now bound.now r.0))
+        (λ r. r.1.now) rest.now result }
     ensures high { IfOk result (λ r. height (expression r.0) + depth ≤ greatest_depth language + 1) }
 {
     let (test, rest) = read_behind(alloc, language, decls, bound, depth, b"(", rest)?;
@@ -380,7 +392,8 @@ fn read_widen<'a>(
     requires shallow { depth ≤ greatest_depth language }
     requires bound { length (names_in bound.now) < depth }
     ensures reads { Reads (Passes decls.now (behind_first language depth bound.now First.Widen))
-        (λ r. behind_word (codes "widen") (expression_in language decls.now bound.now r.0)) (λ r. r.1.now) rest.now result }
+        (λ r. behind_word (codes "widen") (expression_in language decls.now bound.now r.0))
+        (λ r. r.1.now) rest.now result }
     ensures high { IfOk result (λ r. height (expression r.0) + depth ≤ greatest_depth language + 1) }
 {
     let (scale, rest) = read_scale(b"(", rest)?;
@@ -403,7 +416,8 @@ fn read_round<'a>(
     requires shallow { depth ≤ greatest_depth language }
     requires bound { length (names_in bound.now) < depth }
     ensures reads { Reads (Passes decls.now (behind_first language depth bound.now First.Round))
-        (λ r. behind_word (codes "round") (expression_in language decls.now bound.now r.0)) (λ r. r.1.now) rest.now result }
+        (λ r. behind_word (codes "round") (expression_in language decls.now bound.now r.0))
+        (λ r. r.1.now) rest.now result }
     ensures high { IfOk result (λ r. height (expression r.0) + depth ≤ greatest_depth language + 1) }
 {
     let (mode, scale, rest) = read_rounding(rest)?;
@@ -426,7 +440,8 @@ fn read_div<'a>(
     requires shallow { depth ≤ greatest_depth language }
     requires bound { length (names_in bound.now) < depth }
     ensures reads { Reads (Passes decls.now (behind_first language depth bound.now First.Div))
-        (λ r. behind_word (codes "div") (expression_in language decls.now bound.now r.0)) (λ r. r.1.now) rest.now result }
+        (λ r. behind_word (codes "div") (expression_in language decls.now bound.now r.0))
+        (λ r. r.1.now) rest.now result }
     ensures high { IfOk result (λ r. height (expression r.0) + depth ≤ greatest_depth language + 1) }
 {
     let (mode, scale, rest) = read_rounding(rest)?;
@@ -458,7 +473,8 @@ fn read_acc<'a>(
     requires shallow { depth ≤ greatest_depth language }
     requires bound { length (names_in bound.now) < depth }
     ensures reads { Reads (Passes decls.now (behind_first language depth bound.now First.Acc))
-        (λ r. behind_word (codes "acc") (expression_in language decls.now bound.now r.0)) (λ r. r.1.now) rest.now result }
+        (λ r. behind_word (codes "acc") (expression_in language decls.now bound.now r.0))
+        (λ r. r.1.now) rest.now result }
     ensures high { IfOk result (λ r. height (expression r.0) + depth ≤ greatest_depth language + 1) }
 {
     let (name, rest) = read_bound_name(rest)?;
@@ -523,7 +539,8 @@ pub fn read_expr<'a>(
 ) -> Result<(Expr, &'a [u8]), ReadErr>
     requires shallow { depth ≤ greatest_depth language + 1 }
     requires bound { length (names_in bound.now) < depth }
-    ensures reads { Reads (Passes decls.now (λ s ps. ExprAt language depth (names_in bound.now) ∷ ps))
+    ensures reads { Reads (Passes decls.now
+        (λ s ps. ExprAt language depth (names_in bound.now) ∷ ps))
         (λ r. expression_in language decls.now bound.now r.0) (λ r. r.1.now) rest.now result }
     ensures high { IfOk result (λ r. height (expression r.0) + depth ≤ greatest_depth language + 1) }
 {

@@ -18,7 +18,8 @@ pub enum TextKind {
     Utf8,
 }
 
-/// The first fault of a text, with the line and the column of its token, both from 1 and the column in bytes.
+/// The first fault of a text, with the line and the column of its token, both from 1 and the column
+/// in bytes.
 #[derive(Clone, Copy, Debug, PartialEq, Eq)]
 pub struct TextFault {
     pub kind: TextKind,

@@ -13,8 +13,8 @@ use crate::words::{is_name, is_number, is_the_mark, is_the_word};
 use decimal::Decimal;
 use term_core::{CmpOp, LogicOp, NumOp, Scope};
 
-/// The language whose terms are read: contracts, or payoff code. They differ in the word that reads an observable, and in
-/// how many terms may be open at once.
+/// The language whose terms are read: contracts, or payoff code. They differ in the word that reads
+/// an observable, and in how many terms may be open at once.
 #[derive(Clone, Copy)]
 pub enum Language {
     Contracts,

@@ -41,8 +41,10 @@ fn read_number_label<'a>(
     rest: &'a [u8],
 ) -> Result<&'a [u8], ReadErr>
     requires { are_labels labels.old.entries ≡ true }
-    ensures reads { Reads (Declares LabelSet (keys labels.old) (λ r. keys labels.new) number_label_places)
-        (λ r. behind_word (codes "num") (Entry label_line labels.old.entries labels.new.entries)) (λ r. r.now) rest.now result }
+    ensures reads { Reads (Declares LabelSet (keys labels.old)
+        (λ r. keys labels.new) number_label_places)
+        (λ r. behind_word (codes "num") (Entry label_line labels.old.entries labels.new.entries))
+        (λ r. r.now) rest.now result }
     ensures shorter { IfOk result (λ r. length r.now < length rest.now) }
     ensures few { IfOk result (λ r. index_map_len labels.new + length r.now ≤ index_map_len labels.old + length rest.now) }
     ensures limits { IfOk result (λ r. are_labels labels.new.entries ≡ true) }
@@ -62,7 +64,8 @@ fn read_flag<'a>(
 ) -> Result<&'a [u8], ReadErr>
     requires { are_labels labels.old.entries ≡ true }
     ensures reads { Reads (Declares LabelSet (keys labels.old) (λ r. keys labels.new) flag_places)
-        (λ r. behind_word (codes "flag") (Entry label_line labels.old.entries labels.new.entries)) (λ r. r.now) rest.now result }
+        (λ r. behind_word (codes "flag") (Entry label_line labels.old.entries labels.new.entries))
+        (λ r. r.now) rest.now result }
     ensures shorter { IfOk result (λ r. length r.now < length rest.now) }
     ensures few { IfOk result (λ r. index_map_len labels.new + length r.now ≤ index_map_len labels.old + length rest.now) }
     ensures limits { IfOk result (λ r. are_labels labels.new.entries ≡ true) }
@@ -79,7 +82,8 @@ pub fn read_labels<'a>(
     ahead: &Lookahead<'a>,
 ) -> Result<(IndexMap<Name, Label>, Lookahead<'a>), ReadErr>
     ensures reads { ReadsAhead (Declares LabelSet [] (λ r. keys r.0) (λ ps. LabelLines ∷ ps))
-        (λ r. Repeat (Entry label_line) [] r.0.entries) (λ r. ahead_from r.1) (ahead_from ahead.now) result }
+        (λ r. Repeat (Entry label_line) [] r.0.entries)
+        (λ r. ahead_from r.1) (ahead_from ahead.now) result }
     ensures few { IfOk result (λ r. index_map_len r.0 + length r.1.after.now ≤ length ahead.now.after.now) }
     ensures limits { IfOk result (λ r. are_labels r.0.entries ≡ true) }
 {

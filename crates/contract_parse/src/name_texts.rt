@@ -31,7 +31,8 @@ fn is_word_text(text: &[u8]) -> bool
     }
 }
 
-/// A text can be a name: 1 to 64 letters, digits and `_`, of which the first is no digit, and no reserved word.
+/// A text can be a name: 1 to 64 letters, digits and `_`, of which the first is no digit, and no
+/// reserved word.
 pub fn is_name_text(text: &[u8]) -> bool
     ensures { result ≡ is_name_text text.now }
 {

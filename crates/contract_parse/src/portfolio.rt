@@ -72,7 +72,8 @@ fn read_contracts<'a>(
     decls: &Decls,
     ahead: &Lookahead<'a>,
 ) -> Result<(IndexMap<Name, Contr>, Lookahead<'a>), ReadErr>
-    ensures reads { ReadsAhead (Extends (declared_in decls.now []) (λ r. declared_in decls.now (keys r.0))
+    ensures reads { ReadsAhead (Extends (declared_in decls.now [])
+        (λ r. declared_in decls.now (keys r.0))
         (λ ps. ContractLines (version_of decls.now.version) ∷ ps))
         (λ r. Repeat (Entry (contract_line (declared_in decls.now []))) [] (trees r.0.entries))
         (λ r. ahead_from r.1) (ahead_from ahead.now) result }
@@ -89,9 +90,11 @@ fn read_contracts<'a>(
 // The first line, which says the version.
 #[tactic(auto, using(crate::proofs::Parts::followed_by))]
 fn read_first_line(rest: &[u8]) -> Result<(u8, &[u8]), ReadErr>
-    ensures reads { Reads (BeginsText (λ r. version_of r.0) (λ ps. TheWord (codes "portfolio") ∷ TextVersion ∷ ps)
+    ensures reads { Reads (BeginsText (λ r. version_of r.0)
+        (λ ps. TheWord (codes "portfolio") ∷ TextVersion ∷ ps)
         (λ v ps. decls_places v (ContractLines v ∷ ps)))
-        (λ r. word (codes "portfolio") ⨟ one (is_the_version r.0) ⨟ mark (codes ";")) (λ r. r.1.now) rest.now result }
+        (λ r. word (codes "portfolio") ⨟ one (is_the_version r.0) ⨟ mark (codes ";"))
+        (λ r. r.1.now) rest.now result }
     ensures limits { IfOk result (λ r. is_a_version r.0 ≡ true) }
 {
     let rest = skip_word(rest, b"portfolio")?;

@@ -10,8 +10,8 @@ pub enum TokenKind {
     End,
 }
 
-/// A token: its text is the bytes from `from` to before `to` of its source, and its first byte stands at this line and
-/// column, both from 1.
+/// A token: its text is the bytes from `from` to before `to` of its source, and its first byte
+/// stands at this line and column, both from 1.
 #[derive(Clone, Copy, Debug, PartialEq, Eq)]
 pub struct Token {
     pub kind: TokenKind,

@@ -94,7 +94,8 @@ fn is_reserved_of_more(text: &[u8]) -> bool
     }
 }
 
-/// Whether a word is reserved, and so no name. The length is looked at first: it tells most names from the reserved words.
+/// Whether a word is reserved, and so no name. The length is looked at first: it tells most names
+/// from the reserved words.
 pub fn is_reserved(text: &[u8]) -> bool
     ensures { result ≡ is_reserved text.now }
 {
