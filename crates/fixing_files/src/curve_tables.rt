@@ -1,9 +1,11 @@
 //! Tables of curves, record by record.
 
 ghost use Rattle.std.specs.Prelude.{◌≡◌, ◌≤◌, length};
+ghost use Rattle.term_core.specs.Limits.{longest_file};
 ghost use Rattle.csv.specs.Records.{fields_of};
 ghost use Rattle.fixing_files.specs.Curves.{IsKept, rows_of};
-ghost use Rattle.fixing_files.specs.CurveSteps.{EndsCurve, TakesRecord, TellsNext, broken_behind, last_of};
+ghost use Rattle.fixing_files.specs.CurveSteps.{EndsCurve, TakesRecord, TellsNext, broken_behind};
+ghost use Rattle.fixing_files.specs.CurveSteps.{last_of};
 ghost use Rattle.fixing_files.specs.CurveTables.{AnswersCurve};
 ghost use Rattle.fixing_files.specs.Tables.{table_of};
 
@@ -46,7 +48,8 @@ fn next_step(last: Option<CurveStep>, record: &ByteRecord) -> Result<CurveStep, 
 // Takes the record of this number, or answers the rule that it breaks.
 fn take(steps: &mut Vec<CurveStep>, number: u32, record: &ByteRecord) -> Result<(), RowErr>
     requires number { 1 ≤ number }
-    ensures { TakesRecord number (fields_of «record».now) (rows_of steps.old.items) (rows_of steps.new.items) result }
+    ensures { TakesRecord number (fields_of «record».now)
+        (rows_of steps.old.items) (rows_of steps.new.items) result }
 {
     if number == 1 {
         return if is_curve_header(record) {
@@ -76,12 +79,13 @@ fn ended(steps: Vec<CurveStep>, count: u32) -> Result<Curve, RowErr>
     }
 }
 
-/// The curve of a table of at most 16,777,216 bytes: a header `offset,factor`, and then a record for each row, of an offset
-/// of one to nine digits up to 2,000,000 days and a factor from 0 to 10 with at most 9 decimals. The first offset is 0, and
-/// each further one is above the one before. `Row` names the first record that breaks a rule, by its number from 1, the
-/// header included; a table without rows is refused at record 2. The records are read one by one.
+/// The curve of a table of at most 16,777,216 bytes: a header `offset,factor`, and then a record
+/// for each row, of an offset of one to nine digits up to 2,000,000 days and a factor from 0 to 10
+/// with at most 9 decimals. The first offset is 0, and each further one is above the one before.
+/// `Row` names the first record that breaks a rule, by its number from 1, the header included; a
+/// table without rows is refused at record 2. The records are read one by one.
 pub fn read_curve(alloc: Global, bytes: &[u8]) -> Result<Curve, RowErr>
-    requires { length bytes.now ≤ 16_777_216 }
+    requires { length bytes.now ≤ longest_file }
     ensures { AnswersCurve (table_of bytes.now) result }
 {
     let mut reader = reader_of(alloc, bytes);

@@ -17,8 +17,8 @@ pub struct CurveStep {
     pub factor: i128,
 }
 
-/// Discount factors as a step function, seen as its list of rows. Their offsets rise from 0 and are at most 2,000,000 days,
-/// and their factors are from 0 to 10, in units of 10^-9.
+/// Discount factors as a step function, seen as its list of rows. Their offsets rise from 0 and are
+/// at most 2,000,000 days, and their factors are from 0 to 10, in units of 10^-9.
 #[derive(Drop)]
 pub struct Curve {
     pub(crate) steps: Vec<CurveStep>,
@@ -50,8 +50,8 @@ fn factor_at(steps: &[CurveStep], offset: i64) -> i128
 }
 
 impl Curve {
-    /// The factor of the greatest offset of a row at or below `offset`, and 10^9 for a negative one: 1, for a day gone by.
-    /// The row is sought by halving. It takes no memory.
+    /// The factor of the greatest offset of a row at or below `offset`, and 10^9 for a negative
+    /// one: 1, for a day gone by. The row is sought by halving. It takes no memory.
     pub fn at(&self, offset: i64) -> i128
         ensures factor { result ≡ discount_factor self.now (pos (10 ^ 9)) offset }
         ensures within { IsFactor result }
@@ -60,7 +60,8 @@ impl Curve {
         factor_at(&self.steps, offset)
     }
 
-    /// A law: the rows of a curve are those of a step function, and none is past the limit of offsets.
+    /// A law: the rows of a curve are those of a step function, and none is past the limit of
+    /// offsets.
     pub fn rises(&self)
         ensures curve { IsCurve self.now }
         ensures near { AreNear self.now }

@@ -56,8 +56,8 @@ fn date(text: &[u8]) -> Option<NamedDay>
     Some(NamedDay::Date(day as i32))
 }
 
-/// What a text names: an optional `-` and one to nine digits a number of days, a civil date `dddd-dd-dd` of the years 0001
-/// to 9999 its day; and another text nothing. It takes no memory.
+/// What a text names: an optional `-` and one to nine digits a number of days, a civil date
+/// `dddd-dd-dd` of the years 0001 to 9999 its day; and another text nothing. It takes no memory.
 #[tactic(auto, unfolding(crate::specs::Days::day_named))]
 pub fn read_day(text: &[u8]) -> Option<NamedDay>
     ensures { result ≡ day_named text.now }
@@ -68,8 +68,8 @@ pub fn read_day(text: &[u8]) -> Option<NamedDay>
     }
 }
 
-/// The day of the portfolio with this origin, an epoch day, that is named: `NoOrigin` says that it is a date and there is no
-/// origin.
+/// The day of the portfolio with this origin, an epoch day, that is named: `NoOrigin` says that it
+/// is a date and there is no origin.
 pub fn place_day(origin: Option<i64>, named: NamedDay) -> Result<i64, DayFault>
     requires { is_origin origin ≡ true }
     ensures { result ≡ placed_day origin named }
@@ -83,8 +83,9 @@ pub fn place_day(origin: Option<i64>, named: NamedDay) -> Result<i64, DayFault>
     }
 }
 
-/// The day of the portfolio that a text names, over its origin: as `place_day` has it of what `read_day` reads. `NotDay` says
-/// that the text is neither a number of days nor a date. The origin is an epoch day. It takes no memory.
+/// The day of the portfolio that a text names, over its origin: as `place_day` has it of what
+/// `read_day` reads. `NotDay` says that the text is neither a number of days nor a date. The origin
+/// is an epoch day. It takes no memory.
 #[tactic(auto, unfolding(crate::specs::Days::day_of))]
 pub fn day_of_text(origin: Option<i64>, text: &[u8]) -> Result<i64, DayFault>
     requires { is_origin origin ≡ true }

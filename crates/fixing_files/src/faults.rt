@@ -3,8 +3,8 @@
 ghost use Rattle.std.specs.Prelude.{◌≡◌};
 ghost use Rattle.fixing_files.specs.declared.faults.RowErr.TheVariants.{Row};
 
-/// The rule that a record breaks. `Conflict` names the first record of the same place, by its number. `Factor`, `Rising`
-/// and `Zero` are of tables of discount factors.
+/// The rule that a record breaks. `Conflict` names the first record of the same place, by its
+/// number. `Factor`, `Rising` and `Zero` are of tables of discount factors.
 #[derive(Clone, Copy, Debug, PartialEq, Eq)]
 pub enum RowKind {
     Shape,

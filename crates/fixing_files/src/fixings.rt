@@ -12,8 +12,8 @@ use std::alloc::Global;
 use std::marker::Model;
 use term_core::{Decls, Value};
 
-/// What was observed: a finite map from places, each a label and a day, to values. It is kept as a run of days for each
-/// label.
+/// What was observed: a finite map from places, each a label and a day, to values. It is kept as a
+/// run of days for each label.
 #[derive(Drop)]
 pub struct Fixings {
     pub(crate) alloc: Global,
@@ -56,15 +56,16 @@ impl Fixings {
         }
     }
 
-    /// The value at a label, by its number among the declared ones, on a day of the portfolio; none exactly where the
-    /// place is not fixed. It takes no memory.
+    /// The value at a label, by its number among the declared ones, on a day of the portfolio; none
+    /// exactly where the place is not fixed. It takes no memory.
     pub fn get(&self, label: u32, day: i64) -> Option<Value>
         ensures { result ≡ held self.now (record { label = label; day = day }) }
     {
         value_on(self.days_of(label), day)
     }
 
-    /// The days on which a label is fixed, in rising order, each with its value. It takes no memory.
+    /// The days on which a label is fixed, in rising order, each with its value. It takes no
+    /// memory.
     pub fn days_of(&self, label: u32) -> &[FixedDay]
         ensures rising { IsRising result.now }
         ensures days { LendsDays self.now label result.now }
@@ -90,15 +91,17 @@ impl Fixings {
         Ok(())
     }
 
-    /// Fixes a value at a place that is not fixed yet: a declared label, by its number, and a day from 3,000,000 before
-    /// the origin to 3,000,000 after it. The value lies within the label's declaration.
+    /// Fixes a value at a place that is not fixed yet: a declared label, by its number, and a day
+    /// from 3,000,000 before the origin to 3,000,000 after it. The value lies within the label's
+    /// declaration.
     pub fn put(&mut self, decls: &Decls, label: u32, day: i64, value: Value) -> Result<(), NoMemory>
         requires day { IsFixingDay day }
         requires value { IsValueOf (label_of (declarations decls.now) label) value }
         requires absent { held self.old (record { label = label; day = day }) ≡ None }
         ensures added { OnOk result (AddsPair self.old self.new (record { label = label; day = day }) value) }
         ensures kept { OnErr result (self.new ≡ self.old) }
-        ensures admitted { OnOk result (IsAdmitted (declarations decls.now) self.old → IsAdmitted (declarations decls.now) self.new) }
+        ensures admitted { OnOk result (IsAdmitted (declarations decls.now) self.old
+            → IsAdmitted (declarations decls.now) self.new) }
     {
         self.insert(label, day, value)
     }

@@ -1,4 +1,5 @@
-//! Equal places of a label's rows are folded: one value for each day, or a record that says another.
+//! Equal places of a label's rows are folded: one value for each day, or a record that says
+//! another.
 
 ghost use Rattle.std.specs.Prelude.{◌≡◌, Contains, IfOk, OnOk};
 ghost use Rattle.fixing_files.specs.Rows.{AreRuns, HasOwnNumbers, HasRow, HasRows, HaveOwnNumbers, IsRun};
@@ -16,14 +17,16 @@ pub struct Clash {
     pub earlier: u32,
 }
 
-/// What the rows of a label come to: its days, each with its value, or the least record that clashes.
+/// What the rows of a label come to: its days, each with its value, or the least record that
+/// clashes.
 #[derive(Drop)]
 pub enum Settled {
     Days(Vec<FixedDay>),
     Clashes(Clash),
 }
 
-// The rows that were folded so far: their days, the first row of the last day, and the least record that clashes.
+// The rows that were folded so far: their days, the first row of the last day, and the least record
+// that clashes.
 #[derive(Drop)]
 struct Folding {
     days: Vec<FixedDay>,

@@ -14,7 +14,8 @@ use std::collections::BTreeMap;
 use std::marker::Model;
 use term_core::Value;
 
-/// Fixings of a few places. They are kept in the order of places and not by labels, so they take memory for what is fixed alone.
+/// Fixings of a few places. They are kept in the order of places and not by labels, so they take
+/// memory for what is fixed alone.
 #[derive(Drop)]
 pub struct FewFixings {
     values: BTreeMap<Place, Value>,
@@ -78,7 +79,8 @@ impl FewFixings {
     }
 }
 
-/// Fixings that are seen as one map: a few, where there are such, and others below them. Where both fix a place, the few count.
+/// Fixings that are seen as one map: a few, where there are such, and others below them. Where both
+/// fix a place, the few count.
 #[derive(Drop)]
 pub struct LayeredFixings<'a> {
     above: Option<&'a FewFixings>,
@@ -133,8 +135,8 @@ impl<'a> LayeredFixings<'a> {
         }
     }
 
-    /// The value at a label, by its number among the declared ones, on a day of the portfolio; none exactly where the
-    /// place is not fixed. It takes no memory.
+    /// The value at a label, by its number among the declared ones, on a day of the portfolio; none
+    /// exactly where the place is not fixed. It takes no memory.
     pub fn get(&self, label: u32, day: i64) -> Option<Value>
         ensures { result ≡ held self.now (record { label = label; day = day }) }
     {

@@ -1,13 +1,13 @@
-//! Tables of fixings: which values were observed, at which places, and on which day a text says so; and
-//! curves of discount factors.
+//! Tables of fixings: which values were observed, at which places, and on which day a text says so;
+//! and curves of discount factors.
 //!
 //! ```text
 //! let fixings = read_fixings(alloc, &bytes, &portfolio.decls)?;
 //! let rate = fixings.get(0, 5); // the value of the first label on day 5, where there is one
 //! ```
 //!
-//! Promised: `read_fixings` answers the map of what the records say, or the first record that breaks a rule
-//! (`Answers`); so does `read_curve` of a curve (`AnswersCurve`).
+//! Promised: `read_fixings` answers the map of what the records say, or the first record that
+//! breaks a rule (`Answers`); so does `read_curve` of a curve (`AnswersCurve`).
 //! Only tested: that tables are read where there is memory (rows of `library_rows`).
 #![tactic(auto)]
 

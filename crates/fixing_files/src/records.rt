@@ -26,7 +26,8 @@ pub struct Place {
 
 // The fields of a record of three.
 fn three(record: &ByteRecord) -> Option<(&[u8], &[u8], &[u8])>
-    ensures { option_map (λ r. (r.0.now, r.1.now, r.2.now)) result ≡ three_of (fields_of «record».now) }
+    ensures { option_map (λ r. (r.0.now, r.1.now, r.2.now)) result
+        ≡ three_of (fields_of «record».now) }
 {
     if record.len() == 3 {
         Some((record.get(0)?, record.get(1)?, record.get(2)?))
@@ -70,7 +71,8 @@ fn day_said(origin: Option<i64>, text: &[u8]) -> Option<i64>
     }
 }
 
-/// The value that the texts of a label, a day and a value say is fixed, and the place, or the first rule that they break.
+/// The value that the texts of a label, a day and a value say is fixed, and the place, or the first
+/// rule that they break.
 #[tactic(auto, unfolding(crate::specs::Records::said))]
 pub fn entry_at(
     decls: &Decls,

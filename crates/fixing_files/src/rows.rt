@@ -17,8 +17,8 @@ pub struct Row {
     pub value: Value,
 }
 
-/// The rows of one label: those that came in rising order of days, with the numbers of their records beside them, and those
-/// that did not.
+/// The rows of one label: those that came in rising order of days, with the numbers of their
+/// records beside them, and those that did not.
 #[derive(Drop)]
 pub struct Run {
     pub days: Vec<FixedDay>,

@@ -35,7 +35,8 @@ fn without_gaps(run: &[FixedDay], day: i64) -> Option<Value>
     }
 }
 
-/// The value of a day of a run. Most runs have no gaps, so it is first sought where it would then stand.
+/// The value of a day of a run. Most runs have no gaps, so it is first sought where it would then
+/// stand.
 pub fn value_on(run: &[FixedDay], day: i64) -> Option<Value>
     requires { IsRising run.now }
     ensures { result ≡ value_on run.now day }

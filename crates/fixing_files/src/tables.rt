@@ -1,6 +1,7 @@
 //! Tables of fixings, record by record.
 
 ghost use Rattle.std.specs.Prelude.{◌≡◌, ◌≤◌, length, IfOk};
+ghost use Rattle.term_core.specs.Limits.{longest_file};
 ghost use Rattle.csv.specs.Records.{fields_of};
 ghost use Rattle.term_core.specs.Declarations.{declarations};
 ghost use Rattle.term_core.specs.Environments.{IsAdmitted};
@@ -29,7 +30,9 @@ fn take(
 ) -> Result<Option<RowKind>, NoMemory>
     requires runs { AreRuns runs.old.items }
     requires number { 1 ≤ number }
-    ensures { IfOk result (λ broken. Takes (declarations decls.now) number (fields_of «record».now) runs.old.items runs.new.items broken) }
+    ensures { IfOk result (λ broken.
+        Takes (declarations decls.now) number (fields_of «record».now)
+        runs.old.items runs.new.items broken) }
 {
     if number == 1 {
         if is_header(record) {
@@ -74,8 +77,9 @@ struct Gathered {
 
 // Reads the rows of a table, one record after the other.
 fn gather(alloc: Global, bytes: &[u8], decls: &Decls) -> Result<Gathered, NoMemory>
-    requires { length bytes.now ≤ 16_777_216 }
-    ensures { IfOk result (λ g. Gathers (declarations decls.now) (table_of bytes.now) g.runs.items g.fault) }
+    requires { length bytes.now ≤ longest_file }
+    ensures { IfOk result (λ g.
+        Gathers (declarations decls.now) (table_of bytes.now) g.runs.items g.fault) }
 {
     let mut reader = reader_of(alloc, bytes);
     let mut record = ByteRecord::new(alloc);
@@ -101,13 +105,14 @@ fn gather(alloc: Global, bytes: &[u8], decls: &Decls) -> Result<Gathered, NoMemo
     Err(NoMemory)
 }
 
-/// The fixings of a table of at most 16,777,216 bytes: a header `label,day,value`, and then a record for each value, of a
-/// declared label on a day of the portfolio or a date. A number has at most as many decimals as its label and lies within
-/// its bounds. Two records may say the same of one place. `Row` names the first record that breaks a rule, by its number
-/// from 1, the header included. The records are read one by one, and the rows of a label are sorted only where their days
-/// do not rise.
+/// The fixings of a table of at most 16,777,216 bytes: a header `label,day,value`, and then a
+/// record for each value, of a declared label on a day of the portfolio or a date. A number has at
+/// most as many decimals as its label and lies within its bounds. Two records may say the same of
+/// one place. `Row` names the first record that breaks a rule, by its number from 1, the header
+/// included. The records are read one by one, and the rows of a label are sorted only where their
+/// days do not rise.
 pub fn read_fixings(alloc: Global, bytes: &[u8], decls: &Decls) -> Result<Fixings, RowErr>
-    requires { length bytes.now ≤ 16_777_216 }
+    requires { length bytes.now ≤ longest_file }
     ensures answer { Answers (declarations decls.now) (table_of bytes.now) result }
     ensures admitted { IfOk result (λ fixings. IsAdmitted (declarations decls.now) fixings) }
     ensures placed { IfOk result (λ fixings. IsPlaced (declarations decls.now) fixings) }

@@ -1,5 +1,6 @@
 -- How large a whole is, from the sizes of its parts. The limits are those of the rule on sizes.
 use Rattle.std.specs.Prelude.{ℕ, ◌+◌, ◌-◌, ◌*◌, ◌≤◌, max, Bool, Result, Ok, Err, if◌then◌else◌}
+use Rattle.term_core.specs.Limits.{most_height}
 use Rattle.term_core.specs.Smallness.{within_limits}
 use Rattle.scale_check.specs.declared.part_sizes.Size.{Size}
 
@@ -9,7 +10,14 @@ leaf back = record { height = 1; nodes = 1; reach = 0; past = back; work = 1 }
 
 -- an operator on one, two and three operands
 abbrev pub over_one : Size → Size
-over_one a = record { height = a.height + 1; nodes = a.nodes + 1; reach = 0; past = a.past; work = 1 + a.work }
+over_one a =
+    record {
+      height = a.height + 1;
+      nodes = a.nodes + 1;
+      reach = 0;
+      past = a.past;
+      work = 1 + a.work;
+    }
 
 abbrev pub over_two : Size → Size → Size
 over_two a b =
@@ -59,7 +67,14 @@ together a b =
 
 -- a part n days later
 abbrev pub delayed : ℕ → Size → Size
-delayed n c = record { height = c.height + 1; nodes = c.nodes + 1; reach = n + c.reach; past = c.past; work = c.work }
+delayed n c =
+    record {
+      height = c.height + 1;
+      nodes = c.nodes + 1;
+      reach = n + c.reach;
+      past = c.past;
+      work = c.work;
+    }
 
 -- a test on up to n days after the first, with a branch for each outcome
 abbrev pub tested : Size → ℕ → Size → Size → Size
@@ -82,7 +97,7 @@ limited days s = if is_within days s then Ok s else Err 0
 
 -- what is known of the size of such a part
 pub record IsLimited (s : Size) : Type 0 where
-  pub height_in : s.height ≤ 200
+  pub height_in : s.height ≤ most_height
   pub nodes_in : s.nodes ≤ 100_000
   pub reach_in : s.reach ≤ 100_000
   pub past_in : s.past ≤ 1_000_000

@@ -1,11 +1,14 @@
-//! How large a part of a contract is, from the sizes of its own parts, and the limits of the rule on sizes. Parts are
-//! within the limits before their whole is made, and day counts are below 2^32, so that no number leaves its integer.
+//! How large a part of a contract is, from the sizes of its own parts, and the limits of the rule
+//! on sizes. Parts are within the limits before their whole is made, and day counts are below 2^32,
+//! so that no number leaves its integer.
 
 ghost use Rattle.std.specs.Prelude.{◌≡◌, ◌+◌, ◌<◌, ◌^◌, IfOk, IfErr};
 ghost use Rattle.term_core.specs.Sizes.{days_before};
 
-/// A part's longest path, counted in nodes; its nodes; the days by which its latest part may stand later; the days
-/// before its own that it may read; and the steps in which it is evaluated.
+use term_core::{MOST_DAYS, MOST_HEIGHT};
+
+/// A part's longest path, counted in nodes; its nodes; the days by which its latest part may stand
+/// later; the days before its own that it may read; and the steps in which it is evaluated.
 #[derive(Clone, Copy)]
 pub struct Size {
     pub height: u64,
@@ -15,12 +18,9 @@ pub struct Size {
     pub work: u64,
 }
 
-// The limits of the rule on sizes: nodes on a path, nodes, days of one delay or test, reach, reach and past together, steps.
-const MOST_HEIGHT: u64 = 200;
-
+// The limits of the rule on sizes that are no limits of the language besides: nodes, reach, reach
+// and past together, steps.
 const MOST_NODES: u64 = 100_000;
-
-const MOST_DAYS: u32 = 100_000;
 
 const MOST_REACH: u64 = 100_000;
 
@@ -30,7 +30,8 @@ const MOST_WORK: u64 = 10_000_000;
 
 impl Size {
     ghost use Rattle.scale_check.specs.PartSizes.{IsLimited, is_within, limited};
-    ghost use Rattle.scale_check.specs.PartSizes.{delayed, leaf, over_days, over_one, over_three, over_two, tested, together, unit};
+    ghost use Rattle.scale_check.specs.PartSizes.{delayed, leaf, over_days, over_one, over_three};
+    ghost use Rattle.scale_check.specs.PartSizes.{over_two, tested, together, unit};
 
     /// A contract without parts.
     pub fn unit() -> Size
@@ -103,7 +104,8 @@ impl Size {
         }
     }
 
-    /// An accumulator: its start stands all its days before it, and its body takes one step on each.
+    /// An accumulator: its start stands all its days before it, and its body takes one step on
+    /// each.
     pub fn over_days(body: Size, days: u32, first: Size) -> Size
         requires body { IsLimited body }
         requires first { IsLimited first }
@@ -178,7 +180,7 @@ impl Size {
         requires { self.past < 2 ^ 63 }
         ensures { result ≡ is_within days self }
     {
-        self.height <= MOST_HEIGHT
+        self.height <= MOST_HEIGHT as u64
             && self.nodes <= MOST_NODES
             && days <= MOST_DAYS
             && self.reach <= MOST_REACH
@@ -186,7 +188,8 @@ impl Size {
             && self.work <= MOST_WORK
     }
 
-    /// This size, where a part of it and of this count of days is within the limits, else a fault at the part's own node.
+    /// This size, where a part of it and of this count of days is within the limits, else a fault
+    /// at the part's own node.
     pub fn limited(self, days: u32) -> Result<Size, u32>
         requires { self.past < 2 ^ 63 }
         ensures size { result ≡ limited days self }

@@ -9,8 +9,8 @@ ghost use Rattle.scale_check.specs.ScaleScopes.{found_scale};
 
 use term_core::{Decls, Label, Scope, held_at};
 
-/// The scale of the name that is bound `back` binders further out than the innermost, or 0 where there is none; a truth
-/// value has 0.
+/// The scale of the name that is bound `back` binders further out than the innermost, or 0 where
+/// there is none; a truth value has 0.
 pub fn scale_at(scope: &Scope<u8>, back: u32) -> u8
     ensures { result ≡ found_scale (slice_get (held_in scope.now) back) }
 {

@@ -1,7 +1,8 @@
-//! The rule on sizes, of contracts whose day counts are numbers: a height of at most 200, at most 100,000 nodes, day
-//! counts and a reach of at most 100,000 days, at most 1,000,000 days of reach and past together, and a work of at most
-//! 10,000,000. The trial of a part answers its size, or the number of the node at fault, counted from the part's own
-//! first node; nodes before it are counted only on the way up from a fault, so that no part is visited more than twice.
+//! The rule on sizes, of contracts whose day counts are numbers: a height of at most 200, at most
+//! 100,000 nodes, day counts and a reach of at most 100,000 days, at most 1,000,000 days of reach
+//! and past together, and a work of at most 10,000,000. The trial of a part answers its size, or
+//! the number of the node at fault, counted from the part's own first node; nodes before it are
+//! counted only on the way up from a fault, so that no part is visited more than twice.
 
 ghost use Rattle.std.specs.Prelude.{◌≡◌, ◌<◌, ◌≤◌, ◌+◌, ◌^◌, IfOk};
 ghost use Rattle.term_core.specs.Terms.{expression, contract};
@@ -148,9 +149,10 @@ fn try_behind(e: &Expr, c: &Contr) -> Result<Size, u32>
     Size::together(expr_size, contr_size).limited(0)
 }
 
-/// The reach of a contract, the days by which its latest part may stand later than it, where the rule on sizes holds
-/// everywhere in it, under whatever declarations. Where it fails, the answer has the first node at fault, in the order
-/// in which the rules of acceptance try nodes. It takes no memory.
+/// The reach of a contract, the days by which its latest part may stand later than it, where the
+/// rule on sizes holds everywhere in it, under whatever declarations. Where it fails, the answer
+/// has the first node at fault, in the order in which the rules of acceptance try nodes. It takes
+/// no memory.
 pub fn sizes(c: &Contr) -> Result<u32, RuleFault>
     requires low { height_of_contract (contract c.now) ≤ 1_000 }
     requires small { nodes_of_contract (contract c.now) < 2 ^ 32 }
