@@ -10,8 +10,7 @@ ghost use Rattle.advance_step.specs.CarryingWalk.{Enters, IsEntry};
 
 use expr_eval::{Binding, Held, Scratch, eval, kind_of};
 use fixing_files::Fixings;
-use specialise::day_moved;
-use term_core::{Decls, Expr};
+use term_core::{Decls, Expr, day_read};
 
 /// What a walk goes by: the declarations and the fixings.
 #[derive(Clone, Copy)]
@@ -50,7 +49,7 @@ pub fn entry_for(
         bound,
         scratch,
         course.fixings,
-        day_moved(day, moved),
+        day_read(day, moved),
     );
     Binding {
         kind,

@@ -17,10 +17,9 @@ use crate::reducing::reduce;
 use decimal::NoMemory;
 use fixing_files::Fixings;
 use flow_eval::FlowErr;
-use specialise::day_after;
 use std::alloc::Global;
 use std::rc::Rc;
-use term_core::{Contr, Decls, SharedContr, share, unshare};
+use term_core::{Contr, Decls, SharedContr, days_later, share, unshare};
 
 // The contract itself, shared.
 fn as_it_is(s: &Rc<SharedContr>) -> Result<Rc<SharedContr>, NoMemory>
@@ -75,7 +74,7 @@ fn reduced_after(
     ensures memory { IfErr result (λ e. e ≡ lacks_memory) }
 {
     let left = left_after(alloc, decls, s, fixings, day, days)?;
-    Ok(reduce(alloc, decls, &left, fixings, day_after(day, days))?)
+    Ok(reduce(alloc, decls, &left, fixings, days_later(day, days))?)
 }
 
 /// The residual of a contract after some days whose reads are fixed. Of one that lies behind it is nothing, and takes no

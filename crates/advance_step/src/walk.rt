@@ -17,10 +17,9 @@ use crate::course::{Course, days_tried, entry_for};
 use crate::parts::{both_left, delayed, let_left, nothing, scale_left, still_waiting};
 use expr_eval::{Scratch, first_true};
 use flow_eval::FlowErr;
-use specialise::day_after;
 use std::alloc::Global;
 use std::rc::Rc;
-use term_core::{Expr, SharedContr};
+use term_core::{Expr, SharedContr, days_later};
 
 // What is left of a payment, and of nothing.
 fn nothing_left(alloc: Global) -> Result<Rc<SharedContr>, FlowErr>
@@ -166,7 +165,7 @@ fn carry_after(
             course,
             scratch,
             body,
-            day_after(day, days),
+            days_later(day, days),
             last - days,
         )
     } else {
@@ -245,7 +244,7 @@ fn carry_within(
             course,
             scratch,
             hit,
-            day_after(day, first),
+            days_later(day, first),
             last - first,
         ),
         None if days <= last => carry_in(
@@ -253,7 +252,7 @@ fn carry_within(
             course,
             scratch,
             miss,
-            day_after(day, days),
+            days_later(day, days),
             last - days,
         ),
         None => Ok(still_waiting(alloc, test, days - last - 1, hit, miss)?),

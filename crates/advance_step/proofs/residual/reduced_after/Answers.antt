@@ -14,7 +14,7 @@ returns-clause-rest c =
     let left = c.in_ok-left.left.value in
     let rest = c.in_ok-reduce.field-0.value in
     let here = to_z-of_z w64 c.args.day c.ranges.day in
-    let there : to_z w64 (of_z w64 c.day_after.result) ≡ c.args.day +ℤ pos c.args.days = search rules in
+    let there : to_z w64 (of_z w64 c.days_later.result) ≡ c.args.day +ℤ pos c.args.days = search rules in
     let after : IsLeftAfter d F c.args.day c.args.days (shared s) (shared left) = subst (λ (f : ℤ). IsLeftAfter d F f c.args.days (shared s) (shared left)) here c.in_ok-left.ensures.rest in
     residual_is d F c.args.day c.args.days s left rest c.requires.closed after
     (subst (λ (f : ℤ). IsReducedFrom d F f (shared left) (shared rest)) there c.in_ok-reduce.ensures.reduced)

@@ -32,14 +32,14 @@ carry_after-returns-then-days-last-clause-rest t c =
     let y = to_z-of_z w64 c.args.day c.ranges.day in
     let le : c.args.days ≤ c.args.last = grind (arith, c.if-days-last.true) in
     after_left tree (declarations c.args.course.now.decls.now) (shared c.args.body.now.value) (shared c.deref.result.now) c.args.scratch.now.entries c.args.course.now.fixings.now c.args.days c.args.last _ c.args.day _ c.carry_in.result
-    (ap (λ (x : SharedContr). shared x) c.deref.ensures) le (grind (arith, ints, to_z-of_z, c.day_after.ensures, y)) refl c.carry_in.ensures.rest
+    (ap (λ (x : SharedContr). shared x) c.deref.ensures) le (grind (arith, ints, to_z-of_z, c.days_later.ensures.day, y)) refl c.carry_in.ensures.rest
 
 pub carry_after-returns-then-days-last-clause-missing : goal.carry_after-returns-then-days-last-clause-missing
 carry_after-returns-then-days-last-clause-missing t c =
     let y = to_z-of_z w64 c.args.day c.ranges.day in
     let le : c.args.days ≤ c.args.last = grind (arith, c.if-days-last.true) in
     after_faults (declarations c.args.course.now.decls.now) (shared c.args.body.now.value) (shared c.deref.result.now) c.args.scratch.now.entries c.args.course.now.fixings.now c.args.days c.args.last _ c.args.day _ c.carry_in.result
-    (ap (λ (x : SharedContr). shared x) c.deref.ensures) le (grind (arith, ints, to_z-of_z, c.day_after.ensures, y)) refl c.carry_in.ensures.missing
+    (ap (λ (x : SharedContr). shared x) c.deref.ensures) le (grind (arith, ints, to_z-of_z, c.days_later.ensures.day, y)) refl c.carry_in.ensures.missing
 
 pub carry_bound-returns-in_err-carried-clause-missing : goal.carry_bound-returns-in_err-carried-clause-missing
 carry_bound-returns-in_err-carried-clause-missing t c =
@@ -100,28 +100,28 @@ pub carry_within-returns-in-Some-clause-rest : goal.carry_within-returns-in-Some
 carry_within-returns-in-Some-clause-rest t c =
     let y = to_z-of_z w64 c.args.day c.ranges.day in
     hit_left tree (declarations c.args.course.now.decls.now) (expression c.args.test.now.value) _ (shared c.args.hit.now.value) _ (shared c.args.miss.now.value) c.args.scratch.now.entries c.args.course.now.fixings.now c.args.days c.args.last _ c.in-Some.first c.days_tried-tried.result c.args.day _ _ c.first_true.result c.carry_in.result
-    (ap (λ (x : Expr). expression x) c.deref.ensures) y (ap (λ (x : SharedContr). shared x) c.deref-in-Some.ensures) c.days_tried-tried.ensures c.first_true.ensures.answer (c.in_ok-first.was ∙ ap (λ (o : Option ℕ). some_day o) c.in-Some.is) (grind (arith, ints, to_z-of_z, c.day_after.ensures, y)) refl c.carry_in.ensures.rest
+    (ap (λ (x : Expr). expression x) c.deref.ensures) y (ap (λ (x : SharedContr). shared x) c.deref-in-Some.ensures) c.days_tried-tried.ensures c.first_true.ensures.answer (c.in_ok-first.was ∙ ap (λ (o : Option ℕ). some_day o) c.in-Some.is) (grind (arith, ints, to_z-of_z, c.days_later.ensures.day, y)) refl c.carry_in.ensures.rest
 
 pub carry_within-returns-in-Some-clause-missing : goal.carry_within-returns-in-Some-clause-missing
 carry_within-returns-in-Some-clause-missing t c =
     let y = to_z-of_z w64 c.args.day c.ranges.day in
     let low : c.in-Some.first ≤ c.args.last = grind (arith, c.days_tried-tried.ensures, c.in_ok-first.ensures.found, c.in-Some.is) in
     hit_faults (declarations c.args.course.now.decls.now) (expression c.args.test.now.value) _ (shared c.args.hit.now.value) _ (shared c.args.miss.now.value) c.args.scratch.now.entries c.args.course.now.fixings.now c.args.days c.args.last _ c.in-Some.first c.days_tried-tried.result c.args.day _ _ c.first_true.result c.carry_in.result
-    (ap (λ (x : Expr). expression x) c.deref.ensures) y (ap (λ (x : SharedContr). shared x) c.deref-in-Some.ensures) c.days_tried-tried.ensures c.first_true.ensures.answer (c.in_ok-first.was ∙ ap (λ (o : Option ℕ). some_day o) c.in-Some.is) low (grind (arith, ints, to_z-of_z, c.day_after.ensures, y)) refl c.carry_in.ensures.missing
+    (ap (λ (x : Expr). expression x) c.deref.ensures) y (ap (λ (x : SharedContr). shared x) c.deref-in-Some.ensures) c.days_tried-tried.ensures c.first_true.ensures.answer (c.in_ok-first.was ∙ ap (λ (o : Option ℕ). some_day o) c.in-Some.is) low (grind (arith, ints, to_z-of_z, c.days_later.ensures.day, y)) refl c.carry_in.ensures.missing
 
 pub carry_within-returns-in-None-clause-rest : goal.carry_within-returns-in-None-clause-rest
 carry_within-returns-in-None-clause-rest t c =
     let y = to_z-of_z w64 c.args.day c.ranges.day in
     let le : c.args.days ≤ c.args.last = grind (arith, c.if-days-last.true) in
     miss_left tree (declarations c.args.course.now.decls.now) (expression c.args.test.now.value) _ (shared c.args.hit.now.value) (shared c.args.miss.now.value) _ c.args.scratch.now.entries c.args.course.now.fixings.now c.args.days c.args.last _ c.days_tried-tried.result c.args.day _ _ c.first_true.result c.carry_in-in-None.result
-    (ap (λ (x : Expr). expression x) c.deref.ensures) y (ap (λ (x : SharedContr). shared x) c.deref-in-None.ensures) c.days_tried-tried.ensures c.first_true.ensures.answer (c.in_ok-first.was ∙ ap (λ (o : Option ℕ). some_day o) c.in-None.is) le (grind (arith, ints, to_z-of_z, c.day_after-in-None.ensures, y)) refl c.carry_in-in-None.ensures.rest
+    (ap (λ (x : Expr). expression x) c.deref.ensures) y (ap (λ (x : SharedContr). shared x) c.deref-in-None.ensures) c.days_tried-tried.ensures c.first_true.ensures.answer (c.in_ok-first.was ∙ ap (λ (o : Option ℕ). some_day o) c.in-None.is) le (grind (arith, ints, to_z-of_z, c.days_later-in-None.ensures.day, y)) refl c.carry_in-in-None.ensures.rest
 
 pub carry_within-returns-in-None-clause-missing : goal.carry_within-returns-in-None-clause-missing
 carry_within-returns-in-None-clause-missing t c =
     let y = to_z-of_z w64 c.args.day c.ranges.day in
     let le : c.args.days ≤ c.args.last = grind (arith, c.if-days-last.true) in
     miss_faults (declarations c.args.course.now.decls.now) (expression c.args.test.now.value) _ (shared c.args.hit.now.value) (shared c.args.miss.now.value) _ c.args.scratch.now.entries c.args.course.now.fixings.now c.args.days c.args.last _ c.days_tried-tried.result c.args.day _ _ c.first_true.result c.carry_in-in-None.result
-    (ap (λ (x : Expr). expression x) c.deref.ensures) y (ap (λ (x : SharedContr). shared x) c.deref-in-None.ensures) c.days_tried-tried.ensures c.first_true.ensures.answer (c.in_ok-first.was ∙ ap (λ (o : Option ℕ). some_day o) c.in-None.is) le (grind (arith, ints, to_z-of_z, c.day_after-in-None.ensures, y)) refl c.carry_in-in-None.ensures.missing
+    (ap (λ (x : Expr). expression x) c.deref.ensures) y (ap (λ (x : SharedContr). shared x) c.deref-in-None.ensures) c.days_tried-tried.ensures c.first_true.ensures.answer (c.in_ok-first.was ∙ ap (λ (o : Option ℕ). some_day o) c.in-None.is) le (grind (arith, ints, to_z-of_z, c.days_later-in-None.ensures.day, y)) refl c.carry_in-in-None.ensures.missing
 
 pub carry_within-returns-in_ok-still_waiting-in-None-2-clause-rest : goal.carry_within-returns-in_ok-still_waiting-in-None-2-clause-rest
 carry_within-returns-in_ok-still_waiting-in-None-2-clause-rest t c =
