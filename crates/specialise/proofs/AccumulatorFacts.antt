@@ -46,7 +46,7 @@ steps_other : (d : Declarations) (fixings : Environment) (f : ℤ) (body first :
 steps_other d fixings f body first n =
     ap₂ (λ (x y : Expression). Acc x n y) (sym (nothing_told d fixings body)) (ap (λ (h : ℤ). specialised d fixings (Some h) first) (omega (arith, ints)))
 
-pub steps_stay : (d : Declarations) (fixings : Environment) (f : ℤ) (e : Expression) → IsAccumulator e → is_known d fixings (Some f) e ≡ false → steps_left d fixings f e ≡ specialised d fixings (Some f) e
+pub steps_stay : (d : Declarations) (fixings : Environment) (f : ℤ) (e : Expression) → IsAccumulator e → is_known d fixings (Some f) e ≡ false → steps_left (record { decls = d; fixings = fixings }) f e ≡ specialised d fixings (Some f) e
 steps_stay d fixings f (Acc body n first) a h =
     steps_other d fixings f body first n ∙ sym (not_told d fixings f (Acc body n first) _ h)
 steps_stay d fixings f (Lit m s) a h = absurd a
@@ -80,7 +80,7 @@ steps_told d fixings f (Round mode s x) k v a h i j = absurd a
 steps_told d fixings f (Div mode s x y) k v a h i j = absurd a
 
 -- names from outside
-pub open_stays : (d : Declarations) (fixings : Environment) (f : ℤ) (e : Expression) → IsAccumulator e → names_within 0 e ≡ false → steps_left d fixings f e ≡ specialised d fixings (Some f) e
+pub open_stays : (d : Declarations) (fixings : Environment) (f : ℤ) (e : Expression) → IsAccumulator e → names_within 0 e ≡ false → steps_left (record { decls = d; fixings = fixings }) f e ≡ specialised d fixings (Some f) e
 open_stays d fixings f e a h = steps_stay d fixings f e a (ap (λ (b : Bool). b && list_all (is_fixed fixings) (reads_of d e [] [] fixings f)) h)
 
 -- an answer without entries
@@ -89,7 +89,7 @@ at_day d fixings f e bs x r g none i day h =
     subst (λ (h : ℤ). IsAnswer d e [] fixings h x) day (subst (λ (y : Result Value Missing). IsAnswer d e [] fixings g y) i (subst (λ (cs : List Binding). IsAnswer d e cs fixings g r) none h))
 
 -- a place that is lacking
-pub lacking_stays : (d : Declarations) (fixings : Environment) (f : ℤ) (e : Expression) (bs : List Binding) (m : Missing) (r : Result Value Missing) (g : ℤ) → IsAccumulator e → bs ≡ [] → r ≡ Err m → g ≡ f → IsAnswer d e bs fixings g r → steps_left d fixings f e ≡ specialised d fixings (Some f) e
+pub lacking_stays : (d : Declarations) (fixings : Environment) (f : ℤ) (e : Expression) (bs : List Binding) (m : Missing) (r : Result Value Missing) (g : ℤ) → IsAccumulator e → bs ≡ [] → r ≡ Err m → g ≡ f → IsAnswer d e bs fixings g r → steps_left (record { decls = d; fixings = fixings }) f e ≡ specialised d fixings (Some f) e
 lacking_stays d fixings f e bs m r g a none i day h =
     let here : IsAnswer d e [] fixings f (Err m) = at_day d fixings f e bs (Err m) r g none i day h in
     let lacks = some_unfixed fixings (place_of m) (reads_of d e [] [] fixings f) (sym (here.missing [] [] tt)) in

@@ -16,6 +16,7 @@ use Rattle.specialise.specs.Specialising.{specialised, specialised_in}
 use Rattle.specialise.specs.Specialisable.{IsPartOfAccepted}
 use Rattle.rewriting.specs.Keeping.{IsNoLarger, IsNoLargerIn}
 use Rattle.specialise.specs.Specialised.{StaysFormed, HasItsKind, HasItsValue, ReadsNoMore, HasNoTold, PaysTheSameOn, ReadsNoMoreOn, HasNoToldIn}
+use Rattle.specialise.specs.Specialised.{Specialises, SpecialisesOn, StandsAlone}
 use Rattle.term_core.specs.Literals.{HasLiteralsIn}
 use Rattle.specialise.proofs.SpecialValues.{special_kind, special_value}
 use Rattle.specialise.proofs.SpecialReads.{special_reads}
@@ -47,6 +48,20 @@ none_kept d F o r e h admitted p =
 
 pub smaller_kept : (d : Declarations) (F : Environment) (o : Option ℤ) (r e : Expression) → r ≡ specialised d F o e → IsNoLarger r e
 smaller_kept d F o r e h = subst (λ (x : Expression). IsNoLarger x e) (sym h) (special_smaller d F o e)
+
+-- what stands for an expression
+pub stands_for : (d : Declarations) (F : Environment) (o : Option ℤ) (r e : Expression) → r ≡ specialised d F o e
+    → IsAdmitted d F → IsPartOfAccepted d e → Specialises d F o r e
+stands_for d F o r e h admitted p =
+    record {
+      exact = h;
+      formed = formed_kept_of d F o r e h;
+      kind = kind_kept d F o r e h;
+      value = value_kept d F o r e h;
+      reads = reads_kept d F o r e h;
+      none = none_kept d F o r e h admitted p;
+      smaller = smaller_kept d F o r e h;
+    }
 
 -- contracts
 
@@ -91,6 +106,30 @@ shared_numbers (Within' e n q a r b) = (tt, shared_numbers a, shared_numbers b)
 pub closed_kept : (d : Declarations) (F : Environment) (f : ℤ) (s : SharedContr) (r : Contract) → r ≡ specialised_in d F (Some f) (shared s) → IsClosed d (shared s) → IsClosed d r
 closed_kept d F f s r h k = (formed_kept d F f r (shared s) h k (shared_numbers s)).0
 
+-- what takes the place of a contract
+pub takes_place : (decls : Decls) (F : Environment) (f : ℤ) (r c : Contract) → r ≡ specialised_in (declarations decls) F (Some f) c
+    → IsAdmitted (declarations decls) F → IsAccepted (declarations decls) c → HasOnlyNumbers c
+    → SpecialisesOn (declarations decls) F f r c
+takes_place decls F f r c h admitted a n =
+    let d = declarations decls in
+    record {
+      exact = h;
+      accepted = accepted_kept decls F f r c h admitted a;
+      flows = flows_kept d F f r c h;
+      reads = reads_kept_in d F f r c h;
+      none = none_kept_in d F f r c h admitted a;
+      smaller = smaller_kept_in d F f r c h;
+      closed = λ k. (formed_kept d F f r c h k n).0;
+      literals = λ l. literals_kept_in decls F f r c h admitted a l;
+    }
+
+-- and stands alone, as the contract does
+pub stands_alone : (decls : Decls) (F : Environment) (f : ℤ) (r c : Contract) → r ≡ specialised_in (declarations decls) F (Some f) c
+    → IsAdmitted (declarations decls) F → StandsAlone (declarations decls) c → StandsAlone (declarations decls) r
+stands_alone decls F f r c h admitted alone =
+    let formed = formed_kept (declarations decls) F f r c h alone.1 alone.2 in
+    (accepted_kept decls F f r c h admitted alone.0, formed.0, formed.1)
+
 -- what is shared of a closed contract has its offsets within their limit
 pub offsets_shared : (d : Declarations) (s : SharedContr) (c : Contract) → shared s ≡ c → MovesNothing s → IsClosed d c → StoresOffsets s
 offsets_shared d s c h m k = stores_offsets s m (formed_offsets_in d 0 (shared s) (subst (λ (x : Contract). IsClosed d x) (sym h) k))
@@ -99,6 +138,9 @@ pub offsets_special : (d : Declarations) (F : Environment) (o : Option ℤ) (s r
 offsets_special d F o s r c h i k n =
     let formed = contract_formed d F o c 0 k n in
     formed_offsets_in d 0 (shared r) (subst (λ (x : Contract). IsClosed d x) (sym (h ∙ ap (λ (x : Contract). specialised_in d F o x) i)) formed.0)
+
+-- what is asked where a contract is shared and copied back
+pub ruleset for_shared = (offsets_shared, offsets_special)
 
 -- what is said of an answer says more of it
 pub on_ok : {A E : Type 0} (P Q : A → Type 0) (r : Result A E) → ((x : A) → P x → Q x) → IfOk r P → IfOk r Q

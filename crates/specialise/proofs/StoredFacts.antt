@@ -88,3 +88,8 @@ is_near d e h =
     let reached = span-past (shifted h.moved e) in
     let stored = past_by_span e h.offsets in
     omega (arith, back, there, same, reached, stored)
+
+-- what follows for a stored expression, and for parts that stay
+pub ruleset for_stored = (stored_special, special_offsets)
+
+pub ruleset for_parts_left = (nothing_told, nothing_told_in)

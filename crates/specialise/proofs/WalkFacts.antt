@@ -1,5 +1,5 @@
 -- What may be specialised can be walked over.
-use Rattle.std.proofs.Common.{◌≡◌, ◌≤◌, ◌+◌, ◌^◌, ℕ, ℤ, pos, ◌+ℤ◌, ◌-ℤ◌, ◌*◌, ◌≤ℤ◌, max, unsigned_abs, IsTrue, [], sym, subst₂, arith}
+use Rattle.std.proofs.Common.{◌≡◌, ◌≤◌, ◌+◌, ◌^◌, ℕ, ℤ, pos, ◌+ℤ◌, ◌-ℤ◌, ◌≤ℤ◌, max, unsigned_abs, IsTrue, [], sym, subst₂, arith}
 use Rattle.std.proofs.lemmas.Bool.Decides.{nat_tests}
 use Rattle.std.proofs.lemmas.Int.{ints}
 use Rattle.term_core.specs.Declarations.{Declarations}
@@ -11,9 +11,11 @@ use Rattle.term_core.specs.SharedTerms.{shared, StoresOffsets, HasOffsets}
 use Rattle.term_core.specs.Sizes.{past, reach, height_of_contract, nodes_of_contract, past_of_contract, work_of_contract}
 use Rattle.term_core.specs.Smallness.{is_small, within_limits, days_of_contract}
 use Rattle.term_core.specs.Acceptance.{IsAccepted}
+use Rattle.term_core.specs.Limits.{last_start, most_days}
 use Rattle.term_core.proofs.TimeFacts.{whole_passes}
 use Rattle.specialise.specs.Specialisable.{IsPartOfAccepted, MaySpecialise, MaySpecialiseIn, CanTell, CanTellLater, CanTellIn}
 use Rattle.specialise.proofs.PartFacts.{parts_may_be_specialised, parts_inside, whole_inside, stored_may_be_specialised, standing_may_be_specialised}
+use Rattle.specialise.proofs.SpecialSizes.{nothing_told}
 use Rattle.specialise.proofs.StoredFacts.{is_near}
 
 left_days : (f : ℤ) (a b : ℕ) → unsigned_abs f + max a b ≤ 10 ^ 12 → unsigned_abs f + a ≤ 10 ^ 12
@@ -65,14 +67,16 @@ can_tell_near d e f p o k =
     let h = standing_may_be_specialised d e p o in
     can_tell d e f h (near_days f (past e) k (is_near d e h))
 
-later_days : (f : ℤ) (a : ℕ) → unsigned_abs f ≤ 2 * 10 ^ 11 → a ≤ 2_000_000 → unsigned_abs f + a ≤ 10 ^ 12
-later_days f a h j = omega (arith, h, j)
+later_days : (f g : ℤ) (a : ℕ) → unsigned_abs f ≤ 10 ^ 11 → unsigned_abs g ≤ unsigned_abs f + 2 ^ 32 → a ≤ 2_000_000
+    → unsigned_abs g + a ≤ 10 ^ 12
+later_days f g a near h j = omega (arith, near, h, j)
 
 -- where it is read some days later
-pub can_tell_later : (d : Declarations) (e x : Expression) (k f g h : ℤ) → CanTellLater d e k f → x ≡ e → g ≡ f +ℤ k → h ≡ g → unsigned_abs g ≤ 2 * 10 ^ 11 → CanTell d x h
+pub can_tell_later : (d : Declarations) (e x : Expression) (k f g h : ℤ) → CanTellLater d e k f → x ≡ e → g ≡ f +ℤ k → h ≡ g
+    → unsigned_abs g ≤ unsigned_abs f + 2 ^ 32 → CanTell d x h
 can_tell_later d e x k f g h c i j l n =
     let may = stored_may_be_specialised d k e c.part c.offsets in
-    subst₂ (λ (y : Expression) (z : ℤ). CanTell d y z) (sym i) (sym l) (can_tell d e g may (later_days g (past e) n (is_near d e may)))
+    subst₂ (λ (y : Expression) (z : ℤ). CanTell d y z) (sym i) (sym l) (can_tell d e g may (later_days f g (past e) c.day n (is_near d e may)))
 
 one_reach : (f : ℤ) (a b : ℕ) → unsigned_abs f + max a b ≤ 10 ^ 11 → unsigned_abs f + a ≤ 10 ^ 11
 one_reach f a b h = omega arith
@@ -107,16 +111,21 @@ can_tell_in d (Within' e n q a r b) f h o k =
     let i = parts_inside d (shared (Within' e n q a r b)) h in
     (own_day f _ k, can_tell_in d b (f +ℤ pos n) i.2 o.2 (within_reach f n (reach (shared a)) (reach (shared b)) k))
 
-far_within : (h n days far back steps : ℕ) → IsTrue (within_limits h n days far back steps) → far ≤ 100_000
+far_within : (h n days far back steps : ℕ) → IsTrue (within_limits h n days far back steps) → far ≤ most_days
 far_within h n days far back steps p = grind (arith, nat_tests)
 
-reach_limited : (d : Declarations) (c : Contract) → IsAccepted d c → reach c ≤ 100_000
+reach_limited : (d : Declarations) (c : Contract) → IsAccepted d c → reach c ≤ most_days
 reach_limited d c h =
     far_within (height_of_contract c) (nodes_of_contract c) (days_of_contract c) (reach c) (past_of_contract c) (work_of_contract c) (whole_passes (λ s. IsTrue (is_small s)) c [] 0 h.sizes)
 
-whole_days : (f : ℤ) (a : ℕ) → pos 0 ≤ℤ f → f ≤ℤ pos 1_100_000 → a ≤ 100_000 → unsigned_abs f + a ≤ 10 ^ 11
+whole_days : (f : ℤ) (a : ℕ) → pos 0 ≤ℤ f → f ≤ℤ pos (last_start + most_days) → a ≤ most_days → unsigned_abs f + a ≤ 10 ^ 11
 whole_days f a l h k = omega (arith, ints)
 
 -- an accepted contract on a day of a residual
-pub accepted_can_tell : (d : Declarations) (s : SharedContr) (f : ℤ) → IsAccepted d (shared s) → StoresOffsets s → pos 0 ≤ℤ f → f ≤ℤ pos 1_100_000 → CanTellIn d s f
-accepted_can_tell d s f a o l h = can_tell_in d s f (whole_inside d (shared s) a) o (whole_days f (reach (shared s)) l h (reach_limited d (shared s) a))
+pub accepted_can_tell : (d : Declarations) (s : SharedContr) (f : ℤ) → IsAccepted d (shared s) → StoresOffsets s → pos 0 ≤ℤ f
+    → f ≤ℤ pos (last_start + most_days) → CanTellIn d s f
+accepted_can_tell d s f a o l h =
+    can_tell_in d s f (whole_inside d (shared s) a) o (whole_days f (reach (shared s)) l h (reach_limited d (shared s) a))
+
+-- what is asked on a frame that is known, and follows on one that is not
+pub ruleset for_frames = (can_tell_near, nothing_told)

@@ -1,3 +1,4 @@
+pub mod Facts
 pub mod Specialising
 pub mod Specialisable
 pub mod WalkAnswers

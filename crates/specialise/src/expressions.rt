@@ -1,22 +1,24 @@
-//! The walk of the specialiser over expressions, on a known day. A function pays at entry for the locals of all its arms,
-//! so each form with parts has a function of its own, and a leaf pays for none of them.
+//! The walk of the specialiser over expressions, on a known day. A function pays at entry for the
+//! locals of all its arms, so each form with parts has a function of its own, and a leaf pays for
+//! none of them.
 
 ghost use Rattle.std.specs.Prelude.{◌≡◌, ◌-ℤ◌, pos, IfOk, Some};
 ghost use Rattle.term_core.specs.Declarations.{declarations};
-ghost use Rattle.term_core.specs.Terms.{expression, Obs, Acc, Cond};
+ghost use Rattle.term_core.specs.Terms.{expression, Acc, Cond};
 ghost use Rattle.term_core.specs.Environments.{IsAdmitted};
 ghost use Rattle.rewriting.specs.Rebuilding.{after, over_one, over_two};
 ghost use Rattle.specialise.specs.Specialisable.{CanTell, IsLookedUp, MaySpecialise};
-ghost use Rattle.specialise.specs.Specialising.{specialised};
-ghost use Rattle.specialise.specs.WalkAnswers.{IsAccumulator, TakesItsPlace, TakesPlaceOfSteps};
+ghost use Rattle.specialise.specs.WalkAnswers.{told_on, IsAccumulator, TakesItsPlace};
+ghost use Rattle.specialise.specs.WalkAnswers.{TakesPlaceOfObs, TakesPlaceOfSteps};
 
+use crate::known::Known;
 use crate::literals::observed;
 use decimal::NoMemory;
 use expr_eval::{Scratch, eval, kind_of};
 use fixing_files::Fixings;
 use rewriting::{literal, names_within, of_one, of_three, of_two};
 use std::alloc::Global;
-use term_core::{Decls, Expr};
+use term_core::{Decls, Expr, days_earlier};
 
 // The literal of an accumulator, where it stands by itself and all that it reads is fixed.
 #[tactic(auto, using(crate::proofs::AccumulatorFacts::for_accumulators))]
@@ -31,7 +33,9 @@ fn accumulated(
     requires admitted { IsAdmitted (declarations decls.now) fixings.now }
     requires day { IsLookedUp day }
     requires steps { IsAccumulator (expression e.now) }
-    ensures { IfOk result (λ new. TakesPlaceOfSteps (declarations decls.now) fixings.now day e.now new) }
+    ensures { IfOk result (λ new.
+        TakesPlaceOfSteps
+        (record { decls = declarations decls.now; fixings = fixings.now }) day e.now new) }
 {
     if names_within(e, 0) {
         let mut scratch = Scratch::for_expr(alloc, e)?;
@@ -44,64 +48,60 @@ fn accumulated(
     }
 }
 
-// The day `days` days before a day.
-fn day_before(day: i64, days: u32) -> i64
-    requires { IsLookedUp day }
-    ensures { result ≡ day -ℤ pos days }
+// The same of what is known.
+fn specialise_whole(
+    alloc: Global,
+    known: &Known<'_>,
+    e: &Expr,
+    day: i64,
+) -> Result<Option<Expr>, NoMemory>
+    requires place { MaySpecialise known.now.decls (expression e.now) }
+    requires day { IsLookedUp day }
+    requires steps { IsAccumulator (expression e.now) }
+    ensures { IfOk result (λ new. TakesPlaceOfSteps known.now day e.now new) }
 {
-    day - days as i64
+    accumulated(alloc, known.decls, e, known.fixings, day)
 }
 
 // What takes the place of an observable.
 fn specialise_place(
-    decls: &Decls,
+    known: &Known<'_>,
     label: u32,
     offset: i32,
-    fixings: &Fixings,
     day: i64,
 ) -> Result<Option<Expr>, NoMemory>
     requires { IsLookedUp day }
-    ensures { IfOk result (λ new. after (Obs label offset) new
-        ≡ specialised (declarations decls.now) fixings.now (Some day) (Obs label offset)) }
+    ensures { IfOk result (λ new. TakesPlaceOfObs known.now day label offset new) }
 {
-    Ok(observed(decls, label, offset, fixings, day))
+    Ok(observed(known.decls, label, offset, known.fixings, day))
 }
 
-/// What takes the place of an expression on a day, with what the fixings tell; none where nothing changes.
+/// What takes the place of an expression on a day, with what the fixings tell; none where nothing
+/// changes.
 #[cycle(telling)]
 pub fn specialise_at(
     alloc: Global,
-    decls: &Decls,
+    known: &Known<'_>,
     e: &Expr,
-    fixings: &Fixings,
     day: i64,
 ) -> Result<Option<Expr>, NoMemory>
-    requires place { CanTell (declarations decls.now) (expression e.now) day }
-    requires admitted { IsAdmitted (declarations decls.now) fixings.now }
-    ensures { IfOk result (λ new. TakesItsPlace (declarations decls.now) fixings.now (Some day) e.now new) }
+    requires { CanTell known.now.decls (expression e.now) day }
+    ensures { IfOk result (λ new. TakesItsPlace known.now (Some day) e.now new) }
 {
     match e {
         Expr::Lit { .. } | Expr::Yes { .. } | Expr::Var { .. } => Ok(None),
-        Expr::Obs { label, offset } => specialise_place(decls, *label, *offset, fixings, day),
-        Expr::Neg { of } => specialise_one(alloc, decls, e, of, fixings, day),
-        Expr::Not { of } => specialise_one(alloc, decls, e, of, fixings, day),
-        Expr::Widen { of, .. } => specialise_one(alloc, decls, e, of, fixings, day),
-        Expr::Round { of, .. } => specialise_one(alloc, decls, e, of, fixings, day),
-        Expr::Num { left, right, .. } => {
-            specialise_two(alloc, decls, e, left, right, fixings, day)
-        }
-        Expr::Cmp { left, right, .. } => {
-            specialise_two(alloc, decls, e, left, right, fixings, day)
-        }
-        Expr::Logic { left, right, .. } => {
-            specialise_two(alloc, decls, e, left, right, fixings, day)
-        }
-        Expr::Div { top, below, .. } => specialise_two(alloc, decls, e, top, below, fixings, day),
-        Expr::Cond { test, yes, no } => {
-            specialise_three(alloc, decls, e, test, yes, no, fixings, day)
-        }
+        Expr::Obs { label, offset } => specialise_place(known, *label, *offset, day),
+        Expr::Neg { of } => specialise_one(alloc, known, e, of, day),
+        Expr::Not { of } => specialise_one(alloc, known, e, of, day),
+        Expr::Widen { of, .. } => specialise_one(alloc, known, e, of, day),
+        Expr::Round { of, .. } => specialise_one(alloc, known, e, of, day),
+        Expr::Num { left, right, .. } => specialise_two(alloc, known, e, left, right, day),
+        Expr::Cmp { left, right, .. } => specialise_two(alloc, known, e, left, right, day),
+        Expr::Logic { left, right, .. } => specialise_two(alloc, known, e, left, right, day),
+        Expr::Div { top, below, .. } => specialise_two(alloc, known, e, top, below, day),
+        Expr::Cond { test, yes, no } => specialise_three(alloc, known, e, test, yes, no, day),
         Expr::Acc { body, days, first } => {
-            specialise_steps(alloc, decls, e, body, *days, first, fixings, day)
+            specialise_steps(alloc, known, e, body, *days, first, day)
         }
     }
 }
@@ -110,19 +110,17 @@ pub fn specialise_at(
 #[cycle(telling)]
 fn specialise_one(
     alloc: Global,
-    decls: &Decls,
+    known: &Known<'_>,
     e: &Expr,
     part: &Expr,
-    fixings: &Fixings,
     day: i64,
 ) -> Result<Option<Expr>, NoMemory>
     requires whole { over_one (expression e.now) (expression part.now) ≡ expression e.now }
-    requires part { CanTell (declarations decls.now) (expression part.now) day }
-    requires admitted { IsAdmitted (declarations decls.now) fixings.now }
+    requires part { CanTell known.now.decls (expression part.now) day }
     ensures { IfOk result (λ new. after (expression e.now) new
-        ≡ over_one (expression e.now) (specialised (declarations decls.now) fixings.now (Some day) (expression part.now))) }
+        ≡ over_one (expression e.now) (told_on known.now day (expression part.now))) }
 {
-    let new = specialise_at(alloc, decls, part, fixings, day)?;
+    let new = specialise_at(alloc, known, part, day)?;
     of_one(alloc, e, part, new)
 }
 
@@ -130,23 +128,22 @@ fn specialise_one(
 #[cycle(telling)]
 fn specialise_two(
     alloc: Global,
-    decls: &Decls,
+    known: &Known<'_>,
     e: &Expr,
     left: &Expr,
     right: &Expr,
-    fixings: &Fixings,
     day: i64,
 ) -> Result<Option<Expr>, NoMemory>
-    requires whole { over_two (expression e.now) (expression left.now) (expression right.now) ≡ expression e.now }
-    requires left { CanTell (declarations decls.now) (expression left.now) day }
-    requires right { CanTell (declarations decls.now) (expression right.now) day }
-    requires admitted { IsAdmitted (declarations decls.now) fixings.now }
+    requires whole { over_two (expression e.now) (expression left.now) (expression right.now)
+        ≡ expression e.now }
+    requires left { CanTell known.now.decls (expression left.now) day }
+    requires right { CanTell known.now.decls (expression right.now) day }
     ensures { IfOk result (λ new. after (expression e.now) new
-        ≡ over_two (expression e.now) (specialised (declarations decls.now) fixings.now (Some day) (expression left.now))
-        (specialised (declarations decls.now) fixings.now (Some day) (expression right.now))) }
+        ≡ over_two (expression e.now) (told_on known.now day (expression left.now))
+        (told_on known.now day (expression right.now))) }
 {
-    let one = specialise_at(alloc, decls, left, fixings, day)?;
-    let two = specialise_at(alloc, decls, right, fixings, day)?;
+    let one = specialise_at(alloc, known, left, day)?;
+    let two = specialise_at(alloc, known, right, day)?;
     of_two(alloc, e, left, right, one, two)
 }
 
@@ -154,26 +151,25 @@ fn specialise_two(
 #[cycle(telling)]
 fn specialise_three(
     alloc: Global,
-    decls: &Decls,
+    known: &Known<'_>,
     e: &Expr,
     test: &Expr,
     yes: &Expr,
     no: &Expr,
-    fixings: &Fixings,
     day: i64,
 ) -> Result<Option<Expr>, NoMemory>
-    requires whole { expression e.now ≡ Cond (expression test.now) (expression yes.now) (expression no.now) }
-    requires test { CanTell (declarations decls.now) (expression test.now) day }
-    requires yes { CanTell (declarations decls.now) (expression yes.now) day }
-    requires no { CanTell (declarations decls.now) (expression no.now) day }
-    requires admitted { IsAdmitted (declarations decls.now) fixings.now }
+    requires whole { expression e.now
+        ≡ Cond (expression test.now) (expression yes.now) (expression no.now) }
+    requires test { CanTell known.now.decls (expression test.now) day }
+    requires yes { CanTell known.now.decls (expression yes.now) day }
+    requires no { CanTell known.now.decls (expression no.now) day }
     ensures { IfOk result (λ new. after (expression e.now) new
-        ≡ specialised (declarations decls.now) fixings.now (Some day)
+        ≡ told_on known.now day
         (Cond (expression test.now) (expression yes.now) (expression no.now))) }
 {
-    let one = specialise_at(alloc, decls, test, fixings, day)?;
-    let two = specialise_at(alloc, decls, yes, fixings, day)?;
-    let three = specialise_at(alloc, decls, no, fixings, day)?;
+    let one = specialise_at(alloc, known, test, day)?;
+    let two = specialise_at(alloc, known, yes, day)?;
+    let three = specialise_at(alloc, known, no, day)?;
     of_three(alloc, e, test, yes, no, one, two, three)
 }
 
@@ -181,25 +177,23 @@ fn specialise_three(
 #[cycle(telling)]
 fn specialise_steps(
     alloc: Global,
-    decls: &Decls,
+    known: &Known<'_>,
     e: &Expr,
     body: &Expr,
     days: u32,
     first: &Expr,
-    fixings: &Fixings,
     day: i64,
 ) -> Result<Option<Expr>, NoMemory>
     requires whole { expression e.now ≡ Acc (expression body.now) days (expression first.now) }
-    requires place { MaySpecialise (declarations decls.now) (expression e.now) }
+    requires place { MaySpecialise known.now.decls (expression e.now) }
     requires day { IsLookedUp day }
-    requires first { CanTell (declarations decls.now) (expression first.now) (day -ℤ pos days) }
-    requires admitted { IsAdmitted (declarations decls.now) fixings.now }
-    ensures { IfOk result (λ new. TakesItsPlace (declarations decls.now) fixings.now (Some day) e.now new) }
+    requires first { CanTell known.now.decls (expression first.now) (day -ℤ pos days) }
+    ensures { IfOk result (λ new. TakesItsPlace known.now (Some day) e.now new) }
 {
-    match accumulated(alloc, decls, e, fixings, day)? {
-        Some(known) => Ok(Some(known)),
+    match specialise_whole(alloc, known, e, day)? {
+        Some(literal) => Ok(Some(literal)),
         None => {
-            let new = specialise_at(alloc, decls, first, fixings, day_before(day, days))?;
+            let new = specialise_at(alloc, known, first, days_earlier(day, days))?;
             of_two(alloc, e, body, first, None, new)
         }
     }

@@ -27,7 +27,8 @@ fn kind_of_label(decls: &Decls, label: u32) -> Option<Kind>
 /// The literal of what is observed on a day, where the place is fixed.
 pub fn observed(decls: &Decls, label: u32, offset: i32, fixings: &Fixings, day: i64) -> Option<Expr>
     requires { IsLookedUp day }
-    ensures { after (Obs label offset) result ≡ specialised (declarations decls.now) fixings.now (Some day) (Obs label offset) }
+    ensures { after (Obs label offset) result
+        ≡ specialised (declarations decls.now) fixings.now (Some day) (Obs label offset) }
 {
     match fixings.get(label, day + offset as i64) {
         Some(value) => match kind_of_label(decls, label) {

@@ -17,10 +17,10 @@ reduce-requires t c =
     let next = c.in-Some.next in
     let is = next_is d special special c.in_ok-next.field-0 next refl c.in-Some.is c.in_ok-next.ensures.same in
     let smaller : size_in (shared next.value) < size_in (shared special) = next_less special special c.in_ok-next.field-0 next refl c.in-Some.is c.in_ok-next.ensures.less in
-    let less : size_in (shared next.value) < size_in (shared c.args.s.now.value) = round_less (shared c.args.s.now.value) (shared special) (shared next.value) c.in_ok-special.ensures.smaller smaller in (
+    let less : size_in (shared next.value) < size_in (shared c.args.s.now.value) = round_less (shared c.args.s.now.value) (shared special) (shared next.value) c.in_ok-special.ensures.told.smaller smaller in (
       search rules,
       (
-        accepted_through d (shared next.value) (shared special) is c.args.decls.now.labels_in c.in_ok-special.ensures.accepted,
+        accepted_through d (shared next.value) (shared special) is c.args.decls.now.labels_in c.in_ok-special.ensures.told.accepted,
         (
           next_stores special special c.in_ok-next.field-0 next refl c.in-Some.is (λ o. c.in_ok-next.ensures.offsets) c.in_ok-special.ensures.offsets,
           (c.requires.admitted, (search rules, search rules)),
@@ -37,7 +37,7 @@ returns-in-Some-clause-reduced t c =
     let special = c.in_ok-special.special.value in
     let next = c.in-Some.next in
     let there = to_z-of_z w64 f c.ranges.day in
-    let exact : shared special ≡ specialised_in d F (Some f) (shared s) = subst (λ (h : ℤ). shared special ≡ specialised_in d F (Some h) (shared s)) there c.in_ok-special.ensures.exact in
+    let exact : shared special ≡ specialised_in d F (Some f) (shared s) = subst (λ (h : ℤ). shared special ≡ specialised_in d F (Some h) (shared s)) there c.in_ok-special.ensures.told.exact in
     let is : shared next.value ≡ turned_in d [] (shared special) = next_is d special special c.in_ok-next.field-0 next refl c.in-Some.is c.in_ok-next.ensures.same in
     round_then d F f s special next.value c.reduce.result c.args.decls.now.labels_in c.requires.admitted c.requires.accepted exact is
     (subst (λ (h : ℤ). IfOk c.reduce.result (λ r. IsReducedFrom d F h (shared next.value) (shared r.value))) there c.reduce.ensures.reduced)
@@ -49,5 +49,5 @@ returns-in-None-clause-reduced t c =
     let f = c.args.day in
     let s = c.args.s.now.value in
     let special = c.in_ok-special.special.value in
-    let exact : shared special ≡ specialised_in d F (Some f) (shared s) = subst (λ (h : ℤ). shared special ≡ specialised_in d F (Some h) (shared s)) (to_z-of_z w64 f c.ranges.day) c.in_ok-special.ensures.exact in
+    let exact : shared special ≡ specialised_in d F (Some f) (shared s) = subst (λ (h : ℤ). shared special ≡ specialised_in d F (Some h) (shared s)) (to_z-of_z w64 f c.ranges.day) c.in_ok-special.ensures.told.exact in
     round_last d F f s special c.args.decls.now.labels_in c.requires.admitted c.requires.accepted exact (still_is d special special c.in_ok-next.field-0 refl c.in-None.is c.in_ok-next.ensures.same)

@@ -1,0 +1,7 @@
+-- What a walk goes by, as clauses see it: declarations, and fixings that they admit.
+use Rattle.term_core.specs.Declarations.{Declarations}
+use Rattle.term_core.specs.Environments.{Environment}
+
+pub record Facts : Type 0 where
+  pub decls : Declarations
+  pub fixings : Environment
