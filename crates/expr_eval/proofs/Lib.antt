@@ -8,6 +8,7 @@ pub mod EvaluableFacts
 pub mod TriedFacts
 pub mod CompareFacts
 pub mod WatchFacts
+pub mod TruthFacts
 pub mod AnswerFacts
 pub mod TrialFacts
 pub mod PartFacts

@@ -10,6 +10,7 @@ pub mod Trials
 pub mod Operators
 pub mod Evaluations
 pub mod Watching
+pub mod Truths
 pub mod Evaluable
 pub mod Answers
 pub mod LawsEntries

@@ -310,9 +310,9 @@ fn evaluate_branches(
     }
 }
 
-// An accumulator after its days, from its start, which stands on the day before the first of them.
+/// An accumulator after its days, from its start, which stands on the day before the first of them.
 #[cycle(evaluation)]
-fn evaluate_days(
+pub fn evaluate_days(
     decls: &Decls,
     body: &Expr,
     days: u32,

@@ -22,6 +22,7 @@ pub mod operations;
 mod operators;
 mod scratch;
 mod trials;
+mod truths;
 mod values;
 mod watches;
 

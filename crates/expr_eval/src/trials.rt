@@ -18,6 +18,7 @@ use crate::comparisons::{Factors, compare_brought, factors_of};
 use crate::evaluation::{day_at, day_on, evaluate, value_bound};
 use crate::kinds::kind_in;
 use crate::scratch::Scratch;
+use crate::truths::holds;
 use crate::watches::{Watch, first_met};
 use fixing_files::Fixings;
 use term_core::{CmpOp, Decls, Expr, Missing};
@@ -86,21 +87,6 @@ fn compares_on(
     let x = mantissa_of(decls, test.left, names, fixings, day)?;
     let y = mantissa_of(decls, test.right, names, fixings, day)?;
     Ok(compare_brought(test.op, x, y, test.by))
-}
-
-// Whether any other test holds on a day.
-fn holds_on(
-    decls: &Decls,
-    test: &Expr,
-    names: &Bindings,
-    fixings: &Fixings,
-    day: i64,
-) -> Result<bool, Missing>
-    requires { FitsIn decls.now (expression test.now) names.now fixings.now day }
-    ensures { result ≡ truth_found (answer_in decls.now (expression test.now) names.now fixings.now day) }
-{
-    let found = evaluate(decls, test, names, fixings, day)?;
-    Ok(found.value.is_true())
 }
 
 // The first of some days on which a comparison holds, whatever its sides are.
@@ -259,7 +245,7 @@ fn first_held(
 {
     for i in 0..days {
         let day = day_on(from, i);
-        let holds = holds_on(decls, test, names, fixings, day)?;
+        let holds = holds(decls, test, names, fixings, day)?;
         if holds {
             return Ok(Some(i));
         }

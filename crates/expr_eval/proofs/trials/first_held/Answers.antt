@@ -15,7 +15,7 @@ returns-in_err-holds-clause-days c =
     let fits : FitsSigned w64 c.day_on-day.result = search rules in
     let day : to_z w64 (of_z w64 c.day_on-day.result) ≡ c.args.from +ℤ pos c.loop-i.i =
     to_z-of_z w64 c.day_on-day.result fits ∙ c.day_on-day.ensures ∙ ap (λ (f : ℤ). f +ℤ pos c.loop-i.i) (to_z-of_z w64 c.args.from c.ranges.from) in
-    let lacks = trial_lacks (declarations c.args.decls.now) (expression c.args.test.now) (bindings c.args.names.now) c.args.fixings.now c.args.from c.args.days c.loop-i.i (to_z w64 (of_z w64 c.day_on-day.result)) c.holds_on.result c.in_err-holds.field-0.0 c.loop-i-test.true before day c.holds_on.ensures c.in_err-holds.was in
+    let lacks = trial_lacks (declarations c.args.decls.now) (expression c.args.test.now) (bindings c.args.names.now) c.args.fixings.now c.args.from c.args.days c.loop-i.i (to_z w64 (of_z w64 c.day_on-day.result)) c.holds.result c.in_err-holds.field-0.0 c.loop-i-test.true before day c.holds.ensures c.in_err-holds.was in
     grind (arith, lacks, c.from_residual.ensures)
 
 pub returns-then-holds-clause-days : goal.returns-then-holds-clause-days
@@ -25,4 +25,4 @@ returns-then-holds-clause-days c =
     let fits : FitsSigned w64 c.day_on-day.result = search rules in
     let day : to_z w64 (of_z w64 c.day_on-day.result) ≡ c.args.from +ℤ pos c.loop-i.i =
     to_z-of_z w64 c.day_on-day.result fits ∙ c.day_on-day.ensures ∙ ap (λ (f : ℤ). f +ℤ pos c.loop-i.i) (to_z-of_z w64 c.args.from c.ranges.from) in
-    sym (trial_holds (declarations c.args.decls.now) (expression c.args.test.now) (bindings c.args.names.now) c.args.fixings.now c.args.from c.args.days c.loop-i.i (to_z w64 (of_z w64 c.day_on-day.result)) c.holds_on.result c.in_ok-holds.holds c.loop-i-test.true before day c.holds_on.ensures c.in_ok-holds.was c.if-holds.true)
+    sym (trial_holds (declarations c.args.decls.now) (expression c.args.test.now) (bindings c.args.names.now) c.args.fixings.now c.args.from c.args.days c.loop-i.i (to_z w64 (of_z w64 c.day_on-day.result)) c.holds.result c.in_ok-holds.holds c.loop-i-test.true before day c.holds.ensures c.in_ok-holds.was c.if-holds.true)

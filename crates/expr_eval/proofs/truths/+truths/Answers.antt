@@ -1,0 +1,57 @@
+use Rattle.std.proofs.Common.{rules, arith, ◌≡◌, true, sym, ap, ◌∙◌, ◌+◌, ℤ, pos, ◌+ℤ◌, ◌-ℤ◌, FitsSigned, w64, to_z, of_z, Err}
+use Rattle.std.proofs.lemmas.Int.{to_z-of_z}
+use Rattle.term_core.specs.declared.terms.Expr.{Expr}
+use Rattle.term_core.specs.Declarations.{declarations}
+use Rattle.term_core.specs.Terms.{expression, Acc}
+use Rattle.expr_eval.specs.Bindings.{bindings}
+use Rattle.expr_eval.specs.Runs.{run_of}
+use Rattle.expr_eval.specs.Comparing.{truth_found}
+use Rattle.expr_eval.specs.Truths.{answer_after, is_verdict}
+use Rattle.expr_eval.proofs.Days.{days_tried-err}
+use Rattle.expr_eval.proofs.TruthFacts.{acc_holds, days_hold, days_lack}
+use Rattle.expr_eval.proofs.truths.+truths.Goals as goal
+
+pub holds-returns-in-Acc : goal.holds-returns-in-Acc
+holds-returns-in-Acc t c =
+    let d = declarations c.args.decls.now in
+    let g = bindings c.args.names.now in
+    let env = c.args.fixings.now in
+    let f = c.args.day in
+    let fits : FitsSigned w64 c.day_before-from.result = search rules in
+    let of_day : FitsSigned w64 f = c.ranges.day in
+    let from_is : c.day_before-from.result ≡ f -ℤ pos c.in-Acc.days = simp to_z-of_z at c.day_before-from.ensures in
+    let same : truth_found (run_of d (Acc (expression c.in-Acc.body.value) c.in-Acc.days (expression c.in-Acc.first.value)) g env f) ≡ truth_found (run_of d (expression c.args.test.now) g env f) =
+    ap (λ (x : Expr). truth_found (run_of d (expression x) g env f)) (sym c.in-Acc.is) in
+    acc_holds d c.in-Acc.body.value c.deref-in-Acc.result.now c.in-Acc.first.value c.deref-in-Acc-2.result.now c.in-Acc.days g env f c.day_before-from.result _ c.holds_after.result c.deref-in-Acc.ensures c.deref-in-Acc-2.ensures (to_z-of_z w64 c.day_before-from.result fits) from_is c.holds_after.ensures
+    ∙ same
+
+pub holds_after-verdict_after-after-requires : goal.holds_after-verdict_after-after-requires
+holds_after-verdict_after-after-requires t c =
+    let body : is_verdict (expression c.args.body.now) ≡ true = sym c.is_verdict.ensures ∙ c.if-is_verdict.true in
+    search rules
+
+pub verdict_after-returns-in_err-value : goal.verdict_after-returns-in_err-value
+verdict_after-returns-in_err-value t c = grind (arith, days_tried-err)
+
+pub verdict_after-returns-in_err-holds : goal.verdict_after-returns-in_err-holds
+verdict_after-returns-in_err-holds t c =
+    let d = declarations c.args.decls.now in
+    let g = bindings c.args.names.now in
+    let F = c.args.fixings.now in
+    let fits : FitsSigned w64 c.day_after-day.result = search rules in
+    let day : to_z w64 (of_z w64 c.day_after-day.result) ≡ to_z w64 (of_z w64 c.args.from) +ℤ pos (c.loop-i.i + 1) =
+    to_z-of_z w64 c.day_after-day.result fits ∙ c.day_after-day.ensures in
+    let lacks : answer_after c.args.decls.now c.args.body.now c.args.first.now c.args.names.now F c.args.from c.args.days ≡ Err c.in_err-holds.field-0.0 =
+    sym (ap (λ (f : ℤ). answer_after c.args.decls.now c.args.body.now c.args.first.now c.args.names.now F f c.args.days) (to_z-of_z w64 c.args.from c.ranges.from))
+    ∙ days_lack d c.args.body.now c.args.first.now g F (to_z w64 (of_z w64 c.args.from)) c.loop-i.i c.loop-i.value (to_z w64 (of_z w64 c.day_after-day.result)) c.holds_then.result c.loop-i.invariant day c.holds_then.ensures c.args.days c.in_err-holds.field-0.0 c.loop-i-test.true c.in_err-holds.was in
+    grind (arith, lacks, c.from_residual-in_err-holds.ensures)
+
+pub verdict_after-loop-i-preserved : goal.verdict_after-loop-i-preserved
+verdict_after-loop-i-preserved t c =
+    let d = declarations c.args.decls.now in
+    let g = bindings c.args.names.now in
+    let F = c.args.fixings.now in
+    let fits : FitsSigned w64 c.day_after-day.result = search rules in
+    let day : to_z w64 (of_z w64 c.day_after-day.result) ≡ to_z w64 (of_z w64 c.args.from) +ℤ pos (c.loop-i.i + 1) =
+    to_z-of_z w64 c.day_after-day.result fits ∙ c.day_after-day.ensures in
+    days_hold d c.args.body.now c.args.first.now g F (to_z w64 (of_z w64 c.args.from)) c.loop-i.i c.loop-i.value (to_z w64 (of_z w64 c.day_after-day.result)) c.holds_then.result c.loop-i.invariant day c.holds_then.ensures c.in_ok-holds.holds c.requires.body c.in_ok-holds.was

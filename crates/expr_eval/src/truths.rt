@@ -1,0 +1,245 @@
+//! Whether tests hold on a day. Only the truth value is carried, and its kind is not looked up.
+
+ghost use Rattle.std.specs.Prelude.{◌≡◌, true, slice_get};
+ghost use Rattle.term_core.specs.Terms.{expression};
+ghost use Rattle.term_core.specs.Environments.{held};
+ghost use Rattle.expr_eval.specs.Bindings.{bindings};
+ghost use Rattle.expr_eval.specs.Runs.{of_binding, of_held};
+ghost use Rattle.expr_eval.specs.Fits.{IsDay};
+ghost use Rattle.expr_eval.specs.Evaluations.{FitsIn, comparison_over, logic_over};
+ghost use Rattle.expr_eval.specs.Comparing.{truth_found};
+ghost use Rattle.expr_eval.specs.Truths.{DayFitsWith, DaysFitAfter, answer_after, is_verdict, opposite_of, truth_after, truth_held, truth_of, truth_with};
+
+use crate::bindings::Bindings;
+use crate::evaluation::{day_after, day_at, day_before, evaluate, evaluate_days};
+use crate::operations::{Operands, Typed, compare, is_decided};
+use crate::scratch::{Binding, Held};
+use fixing_files::Fixings;
+use term_core::{CmpOp, Decls, Expr, LogicOp, Missing, Value};
+
+// The truth value that an entry holds.
+fn truth_entered(binding: &Binding) -> Result<bool, Missing>
+    ensures { result ≡ truth_found (of_held binding.now.kind binding.now.held) }
+{
+    match binding.held {
+        Held::Known { value } => Ok(value.is_true()),
+        Held::Lacking { missing } => Err(missing),
+    }
+}
+
+// The truth value of a name.
+fn truth_bound(names: &Bindings, back: u32) -> Result<bool, Missing>
+    ensures { result ≡ truth_found (of_binding (slice_get (bindings names.now) back)) }
+{
+    match names {
+        Bindings::Lent { scratch } => match scratch.at(back as usize) {
+            Some(binding) => truth_entered(&binding),
+            None => Ok(false),
+        },
+        Bindings::Inner { binding, outer } => {
+            if back == 0 {
+                truth_entered(binding)
+            } else {
+                truth_bound(outer, back - 1)
+            }
+        }
+    }
+}
+
+// The truth value of what is observed on a day.
+fn truth_observed(label: u32, day: i64, fixings: &Fixings) -> Result<bool, Missing>
+    ensures { result ≡ truth_held (held fixings.now (record { label = label; day = day })) label day }
+{
+    match fixings.get(label, day) {
+        Some(value) => Ok(value.is_true()),
+        None => Err(Missing { label, day }),
+    }
+}
+
+// Whether two numbers compare so, the left one first.
+fn holds_between(
+    decls: &Decls,
+    op: CmpOp,
+    left: &Expr,
+    right: &Expr,
+    names: &Bindings,
+    fixings: &Fixings,
+    day: i64,
+) -> Result<bool, Missing>
+    requires { FitsIn decls.now (comparison_over op left.now right.now) names.now fixings.now day }
+    ensures { result ≡ truth_of decls.now (comparison_over op left.now right.now) names.now fixings.now day }
+{
+    let left = evaluate(decls, left, names, fixings, day)?;
+    let right = evaluate(decls, right, names, fixings, day)?;
+    Ok(compare(op, Operands { left, right }).value.is_true())
+}
+
+// Whether any other test holds.
+fn holds_otherwise(
+    decls: &Decls,
+    test: &Expr,
+    names: &Bindings,
+    fixings: &Fixings,
+    day: i64,
+) -> Result<bool, Missing>
+    requires { FitsIn decls.now (expression test.now) names.now fixings.now day }
+    ensures { result ≡ truth_of decls.now (expression test.now) names.now fixings.now day }
+{
+    let found = evaluate(decls, test, names, fixings, day)?;
+    Ok(found.value.is_true())
+}
+
+/// Whether a test holds on a day, or the first place that is not fixed.
+#[inline(always)]
+#[cycle(truths)]
+pub fn holds(
+    decls: &Decls,
+    test: &Expr,
+    names: &Bindings,
+    fixings: &Fixings,
+    day: i64,
+) -> Result<bool, Missing>
+    requires { FitsIn decls.now (expression test.now) names.now fixings.now day }
+    ensures { result ≡ truth_of decls.now (expression test.now) names.now fixings.now day }
+{
+    match test {
+        Expr::Yes { value } => Ok(*value),
+        Expr::Var { back } => truth_bound(names, *back),
+        Expr::Obs { label, offset } => truth_observed(*label, day_at(day, *offset), fixings),
+        Expr::Not { of } => holds_not(decls, of, names, fixings, day),
+        Expr::Logic { op, left, right } => {
+            holds_joined(decls, *op, left, right, names, fixings, day)
+        }
+        Expr::Cmp { op, left, right } => {
+            holds_between(decls, *op, left, right, names, fixings, day)
+        }
+        Expr::Acc { body, days, first } => {
+            let from = day_before(day, *days);
+            holds_after(decls, body, *days, first, names, fixings, from)
+        }
+        _ => holds_otherwise(decls, test, names, fixings, day),
+    }
+}
+
+// Whether a test does not hold.
+#[cycle(truths)]
+fn holds_not(
+    decls: &Decls,
+    of: &Expr,
+    names: &Bindings,
+    fixings: &Fixings,
+    day: i64,
+) -> Result<bool, Missing>
+    requires { FitsIn decls.now (opposite_of of.now) names.now fixings.now day }
+    ensures { result ≡ truth_of decls.now (opposite_of of.now) names.now fixings.now day }
+{
+    let of = holds(decls, of, names, fixings, day)?;
+    Ok(!of)
+}
+
+// Whether two tests hold together; the right one is tried only where the left does not decide.
+#[cycle(truths)]
+fn holds_joined(
+    decls: &Decls,
+    op: LogicOp,
+    left: &Expr,
+    right: &Expr,
+    names: &Bindings,
+    fixings: &Fixings,
+    day: i64,
+) -> Result<bool, Missing>
+    requires { FitsIn decls.now (logic_over op left.now right.now) names.now fixings.now day }
+    ensures { result ≡ truth_of decls.now (logic_over op left.now right.now) names.now fixings.now day }
+{
+    let left = holds(decls, left, names, fixings, day)?;
+    if is_decided(op, left) {
+        return Ok(left);
+    }
+    holds(decls, right, names, fixings, day)
+}
+
+// Whether an expression has truth values alone, by its form.
+fn is_verdict(e: &Expr) -> bool
+    ensures { result ≡ is_verdict (expression e.now) }
+{
+    matches!(
+        e,
+        Expr::Yes { .. } | Expr::Cmp { .. } | Expr::Not { .. } | Expr::Logic { .. }
+    )
+}
+
+// The truth value of an accumulator after its days, from its start, which stands on the day before the first of them.
+#[cycle(truths)]
+fn holds_after(
+    decls: &Decls,
+    body: &Expr,
+    days: u32,
+    first: &Expr,
+    names: &Bindings,
+    fixings: &Fixings,
+    from: i64,
+) -> Result<bool, Missing>
+    requires start { FitsIn decls.now (expression first.now) names.now fixings.now from }
+    requires days { DaysFitAfter decls.now body.now first.now names.now fixings.now from days }
+    requires day { IsDay from }
+    ensures { result ≡ truth_after decls.now body.now first.now names.now fixings.now from days }
+{
+    let after = if is_verdict(body) {
+        verdict_after(decls, body, days, first, names, fixings, from)
+    } else {
+        evaluate_days(decls, body, days, first, names, fixings, from)
+    };
+    match after {
+        Ok(found) => Ok(found.value.is_true()),
+        Err(missing) => Err(missing),
+    }
+}
+
+// The same, with its kind, where the body has truth values alone.
+#[cycle(truths)]
+fn verdict_after(
+    decls: &Decls,
+    body: &Expr,
+    days: u32,
+    first: &Expr,
+    names: &Bindings,
+    fixings: &Fixings,
+    from: i64,
+) -> Result<Typed, Missing>
+    requires body { is_verdict (expression body.now) ≡ true }
+    requires start { FitsIn decls.now (expression first.now) names.now fixings.now from }
+    requires days { DaysFitAfter decls.now body.now first.now names.now fixings.now from days }
+    requires day { IsDay from }
+    ensures { result ≡ answer_after decls.now body.now first.now names.now fixings.now from days }
+{
+    let mut value = evaluate(decls, first, names, fixings, from)?;
+    for i in 0..days {
+        let day = day_after(from, i);
+        let holds = holds_then(decls, body, value, names, fixings, day)?;
+        value.value = Value::Truth { value: holds };
+    }
+    Ok(value)
+}
+
+// Whether the body of an accumulator holds on a day, with a value for its name.
+#[cycle(truths)]
+fn holds_then(
+    decls: &Decls,
+    body: &Expr,
+    value: Typed,
+    names: &Bindings,
+    fixings: &Fixings,
+    day: i64,
+) -> Result<bool, Missing>
+    requires { DayFitsWith decls.now body.now value names.now fixings.now day }
+    ensures { result ≡ truth_with decls.now body.now value names.now fixings.now day }
+{
+    let inner = Bindings::Inner {
+        binding: Binding {
+            kind: value.kind,
+            held: Held::Known { value: value.value },
+        },
+        outer: &*names,
+    };
+    holds(decls, body, &inner, fixings, day)
+}
