@@ -1,5 +1,5 @@
 -- The days of an accumulator, one after another.
-use Rattle.std.proofs.Common.{◌≡◌, ℕ, zero, suc, ◌+◌, ◌<◌, ◌-◌, ℤ, ◌-ℤ◌, arith, refl, ap, ◌∙◌, Ok, Err, add-one, List, pos}
+use Rattle.std.proofs.Common.{◌≡◌, ℕ, zero, suc, ◌+◌, ◌<◌, ◌-◌, ℤ, ◌+ℤ◌, ◌-ℤ◌, arith, refl, ap, sym, ◌∙◌, Ok, Err, add-one, List, pos}
 use Rattle.term_core.specs.declared.values.Missing.{Missing}
 use Rattle.term_core.specs.Declarations.{Declarations}
 use Rattle.term_core.specs.declared.terms.Expr.{Expr}
@@ -7,7 +7,7 @@ use Rattle.term_core.specs.Terms.{expression, Acc}
 use Rattle.term_core.specs.Environments.{Environment}
 use Rattle.expr_eval.specs.declared.scratch.Binding.{Binding}
 use Rattle.expr_eval.specs.declared.operations.Typed.{Typed}
-use Rattle.expr_eval.specs.Runs.{Answer, then_do, days_tried, run_of}
+use Rattle.expr_eval.specs.Runs.{Answer, day_run, day_step, then_do, days_tried, run_of}
 use Rattle.expr_eval.specs.Evaluations.{days_from}
 
 -- a start that lacks a value
@@ -37,3 +37,18 @@ acc_is d body x first y n g env f from at r p q u v e =
     ∙ ap (λ (z : Expr). days_from d z y g env at n) p
     ∙ ap (λ (z : Expr). days_from d body z g env at n) q
     ∙ ap (λ (t : ℤ). days_from d body first g env t n) (u ∙ v)
+
+-- one more day, on which its answer is r
+
+module _ (d : Declarations) (body first : Expr) (g : List Binding) (env : Environment) (from : ℤ) (i : ℕ) (v : Typed) (t : ℤ) (r : Answer)
+    (before : days_from d body first g env from i ≡ Ok v) (day : t ≡ from +ℤ pos (i + 1)) (is : r ≡ day_run d (expression body) g env t v) where
+  step_is : day_step (λ h u. run_of d (expression body) h env u) g from (i + 1) v ≡ r
+  step_is = ap (λ (u : ℤ). day_run d (expression body) g env u v) (sym day) ∙ sym is
+
+  pub days_end : (n : ℕ) (m : Missing) → i < n → r ≡ Err m → days_from d body first g env from n ≡ Err m
+  days_end n m l lacks =
+      days_tried-stop i n (day_step (λ h u. run_of d (expression body) h env u) g from) (run_of d (expression first) g env from) v m l before (step_is ∙ lacks)
+
+  pub days_go_on : (w : Typed) → r ≡ Ok w → days_from d body first g env from (i + 1) ≡ Ok w
+  days_go_on w found =
+      days_tried-more i (day_step (λ h u. run_of d (expression body) h env u) g from) (run_of d (expression first) g env from) v before ∙ step_is ∙ found

@@ -4,6 +4,7 @@ pub mod RunValues
 pub mod RunReads
 pub mod SpanFacts
 pub mod FitFacts
+pub mod LevelFacts
 pub mod EvaluableFacts
 pub mod TriedFacts
 pub mod CompareFacts

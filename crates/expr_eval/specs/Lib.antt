@@ -9,6 +9,8 @@ pub mod Standing
 pub mod Trials
 pub mod Operators
 pub mod Evaluations
+pub mod Levels
+pub mod LevelDays
 pub mod Watching
 pub mod Truths
 pub mod Evaluable

@@ -1,18 +1,22 @@
 //! The evaluator: values with their kinds, or the first place that is not fixed.
 
-ghost use Rattle.std.specs.Prelude.{◌≡◌, ◌+◌, ◌+ℤ◌, ◌-ℤ◌, pos, slice_get};
+ghost use Rattle.std.specs.Prelude.{◌≡◌, ◌+◌, ◌+ℤ◌, ◌-ℤ◌, pos, slice_get, IsTrue};
 ghost use Rattle.term_core.specs.Declarations.{declarations};
 ghost use Rattle.term_core.specs.Terms.{expression};
+ghost use Rattle.term_core.specs.Environments.{held};
 ghost use Rattle.expr_eval.specs.Bindings.{bindings};
 ghost use Rattle.expr_eval.specs.Runs.{day_run, kind_observed, observation, of_binding, of_held, of_place, run_of, untyped};
 ghost use Rattle.expr_eval.specs.Fits.{DayFitsIn, Fits, IsDay};
 ghost use Rattle.expr_eval.specs.Operators.{OneFits, one_run};
-ghost use Rattle.expr_eval.specs.Evaluations.{DaysFitFrom, combination_over, comparison_over, conditional_over, days_from, logic_over, quotient_over};
+ghost use Rattle.expr_eval.specs.Comparing.{mantissa_held, number_found};
+ghost use Rattle.expr_eval.specs.Evaluations.{DaysFitFrom, FitsIn, combination_over, comparison_over, conditional_over, days_from, logic_over, quotient_over};
+ghost use Rattle.expr_eval.specs.LevelDays.{IsLevel, StaysLevel, number_of};
 
 use crate::bindings::Bindings;
 use crate::kinds::{kind_in, kind_observed};
+use crate::levels::stays_level;
 use crate::operations::{
-    Operands, Typed, at_kind, combine, compare, divide, is_decided, number, verdict,
+    Operands, Typed, at_kind, combine, compare, divide, is_decided, number, on_aligned, verdict,
 };
 use crate::operators::{OnOne, done_on_one};
 use crate::scratch::{Binding, Held, Scratch};
@@ -327,24 +331,27 @@ pub fn evaluate_days(
     ensures { result ≡ days_from (declarations decls.now) body.now first.now (bindings names.now) fixings.now from days }
 {
     let mut value = evaluate(decls, first, names, fixings, from)?;
+    let level = stays_level(decls, body, names, value);
     for i in 0..days {
         let day = day_after(from, i);
-        value = evaluate_day(decls, body, value, names, fixings, day)?;
+        value = evaluate_day(decls, body, level, value, names, fixings, day)?;
     }
     Ok(value)
 }
 
-// An accumulator after one more day, from its value before.
+// An accumulator after one more day, from its value before. Where it stays level, only the number is asked for.
 #[cycle(evaluation)]
 fn evaluate_day(
     decls: &Decls,
     body: &Expr,
+    level: bool,
     value: Typed,
     names: &Bindings,
     fixings: &Fixings,
     day: i64,
 ) -> Result<Typed, Missing>
     requires fits { DayFitsIn (declarations decls.now) (expression body.now) (bindings names.now) fixings.now day value }
+    requires level { IsTrue level → StaysLevel decls.now body.now names.now value }
     ensures { result ≡ day_run (declarations decls.now) (expression body.now) (bindings names.now) fixings.now day value }
 {
     let held = Held::Known { value: value.value };
@@ -355,6 +362,139 @@ fn evaluate_day(
         },
         outer: &*names,
     };
+    if level {
+        let mant = mantissa_at(decls, body, &inner, fixings, day)?;
+        return Ok(Typed {
+            kind: value.kind,
+            value: Value::Num { mant },
+        });
+    }
     let next = evaluate(decls, body, &inner, fixings, day)?;
     Ok(at_kind(value.kind, next))
+}
+
+// The mantissa of the number that an entry holds.
+fn mantissa_entered(binding: &Binding) -> Result<i128, Missing>
+    ensures { result ≡ number_found (of_held binding.now.kind binding.now.held) }
+{
+    match binding.held {
+        Held::Known { value } => Ok(value.number()),
+        Held::Lacking { missing } => Err(missing),
+    }
+}
+
+// The mantissa of a name.
+fn mantissa_bound(names: &Bindings, back: u32) -> Result<i128, Missing>
+    ensures { result ≡ number_found (of_binding (slice_get (bindings names.now) back)) }
+{
+    match names {
+        Bindings::Lent { scratch } => match scratch.at(back as usize) {
+            Some(binding) => mantissa_entered(&binding),
+            None => Ok(0),
+        },
+        Bindings::Inner { binding, outer } => {
+            if back == 0 {
+                mantissa_entered(binding)
+            } else {
+                mantissa_bound(outer, back - 1)
+            }
+        }
+    }
+}
+
+/// The mantissa of what is observed on a day; a truth value has none, and counts as 0.
+pub fn mantissa_observed(label: u32, day: i64, fixings: &Fixings) -> Result<i128, Missing>
+    ensures { result ≡ mantissa_held (held fixings.now (record { label = label; day = day })) label day }
+{
+    match fixings.get(label, day) {
+        Some(value) => Ok(value.number()),
+        None => Err(Missing { label, day }),
+    }
+}
+
+// The mantissa of a level expression. It has the scale of each of its operands, so no kind is looked up.
+#[inline(always)]
+#[cycle(evaluation)]
+fn mantissa_at(
+    decls: &Decls,
+    e: &Expr,
+    names: &Bindings,
+    fixings: &Fixings,
+    day: i64,
+) -> Result<i128, Missing>
+    requires level { IsLevel decls.now (expression e.now) names.now }
+    requires fits { FitsIn decls.now (expression e.now) names.now fixings.now day }
+    ensures { result ≡ number_of decls.now (expression e.now) names.now fixings.now day }
+{
+    match e {
+        Expr::Lit { mant, .. } => Ok(*mant),
+        Expr::Var { back } => mantissa_bound(names, *back),
+        Expr::Obs { label, offset } => mantissa_observed(*label, day_at(day, *offset), fixings),
+        Expr::Num { op, left, right } => {
+            mantissa_combined(decls, *op, left, right, names, fixings, day)
+        }
+        Expr::Cond { test, yes, no } => {
+            mantissa_chosen(decls, test, yes, no, names, fixings, day)
+        }
+        _ => mantissa_otherwise(decls, e, names, fixings, day),
+    }
+}
+
+// The mantissa of any other expression.
+#[cycle(evaluation)]
+fn mantissa_otherwise(
+    decls: &Decls,
+    e: &Expr,
+    names: &Bindings,
+    fixings: &Fixings,
+    day: i64,
+) -> Result<i128, Missing>
+    requires { FitsIn decls.now (expression e.now) names.now fixings.now day }
+    ensures { result ≡ number_of decls.now (expression e.now) names.now fixings.now day }
+{
+    let found = evaluate(decls, e, names, fixings, day)?;
+    Ok(found.value.number())
+}
+
+// The mantissa of an operator on two numbers of its scale, the left one first.
+#[cycle(evaluation)]
+fn mantissa_combined(
+    decls: &Decls,
+    op: NumOp,
+    left: &Expr,
+    right: &Expr,
+    names: &Bindings,
+    fixings: &Fixings,
+    day: i64,
+) -> Result<i128, Missing>
+    requires level { IsLevel decls.now (combination_over op left.now right.now) names.now }
+    requires fits { FitsIn decls.now (combination_over op left.now right.now) names.now fixings.now day }
+    ensures { result ≡ number_of decls.now (combination_over op left.now right.now) names.now fixings.now day }
+{
+    let x = mantissa_at(decls, left, names, fixings, day)?;
+    let y = mantissa_at(decls, right, names, fixings, day)?;
+    Ok(on_aligned(op, x, y))
+}
+
+// The mantissa of the branch that is taken, which has the scale of both.
+#[cycle(evaluation)]
+fn mantissa_chosen(
+    decls: &Decls,
+    test: &Expr,
+    yes: &Expr,
+    no: &Expr,
+    names: &Bindings,
+    fixings: &Fixings,
+    day: i64,
+) -> Result<i128, Missing>
+    requires level { IsLevel decls.now (conditional_over test.now yes.now no.now) names.now }
+    requires fits { FitsIn decls.now (conditional_over test.now yes.now no.now) names.now fixings.now day }
+    ensures { result ≡ number_of decls.now (conditional_over test.now yes.now no.now) names.now fixings.now day }
+{
+    let chosen = evaluate(decls, test, names, fixings, day)?;
+    if chosen.value.is_true() {
+        mantissa_at(decls, yes, names, fixings, day)
+    } else {
+        mantissa_at(decls, no, names, fixings, day)
+    }
 }

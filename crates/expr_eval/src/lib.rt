@@ -18,6 +18,7 @@ mod evaluation;
 mod heights;
 mod kinds;
 mod laws;
+mod levels;
 pub mod operations;
 mod operators;
 mod scratch;

@@ -83,8 +83,8 @@ pub fn negate(of: Typed) -> Typed
     }
 }
 
-// An operator on two numbers of one scale.
-fn on_aligned(op: NumOp, x: i128, y: i128) -> i128
+/// An operator on two numbers of one scale.
+pub(crate) fn on_aligned(op: NumOp, x: i128, y: i128) -> i128
     requires x { IsSmall x }
     requires y { IsSmall y }
     requires outcome { IsSmall (num_op op x y) }

@@ -15,7 +15,7 @@ ghost use Rattle.expr_eval.specs.Watching.{IsWatched, Stands, turned};
 
 use crate::bindings::Bindings;
 use crate::comparisons::{Factors, compare_brought, factors_of};
-use crate::evaluation::{day_at, day_on, evaluate, value_bound};
+use crate::evaluation::{day_at, day_on, evaluate, mantissa_observed, value_bound};
 use crate::kinds::kind_in;
 use crate::scratch::Scratch;
 use crate::truths::holds;
@@ -40,16 +40,6 @@ fn factors_between(decls: &Decls, left: &Expr, right: &Expr, names: &Bindings) -
     let i = kind_in(decls, left, names).scale();
     let j = kind_in(decls, right, names).scale();
     factors_of(i, j)
-}
-
-// The mantissa of what is observed on a day; a truth value has none, and counts as 0.
-fn mantissa_observed(label: u32, day: i64, fixings: &Fixings) -> Result<i128, Missing>
-    ensures { result ≡ mantissa_held (held fixings.now (record { label = label; day = day })) label day }
-{
-    match fixings.get(label, day) {
-        Some(value) => Ok(value.number()),
-        None => Err(Missing { label, day }),
-    }
 }
 
 // The mantissa of an expression. That of a literal, and of what is observed, is at hand.
