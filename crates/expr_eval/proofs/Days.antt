@@ -45,10 +45,6 @@ module _ (d : Declarations) (body first : Expr) (g : List Binding) (env : Enviro
   step_is : day_step (λ h u. run_of d (expression body) h env u) g from (i + 1) v ≡ r
   step_is = ap (λ (u : ℤ). day_run d (expression body) g env u v) (sym day) ∙ sym is
 
-  pub days_end : (n : ℕ) (m : Missing) → i < n → r ≡ Err m → days_from d body first g env from n ≡ Err m
-  days_end n m l lacks =
-      days_tried-stop i n (day_step (λ h u. run_of d (expression body) h env u) g from) (run_of d (expression first) g env from) v m l before (step_is ∙ lacks)
-
   pub days_go_on : (w : Typed) → r ≡ Ok w → days_from d body first g env from (i + 1) ≡ Ok w
   days_go_on w found =
       days_tried-more i (day_step (λ h u. run_of d (expression body) h env u) g from) (run_of d (expression first) g env from) v before ∙ step_is ∙ found

@@ -11,7 +11,6 @@ use Rattle.term_core.specs.declared.values.Kind.{Kind}
 use Rattle.term_core.specs.declared.values.Kind.TheVariants.{Truth as TruthKind, Number}
 use Rattle.term_core.specs.declared.values.Value.{Value}
 use Rattle.term_core.specs.declared.values.Value.TheVariants.{Num as Amount, Truth}
-use Rattle.term_core.specs.declared.values.Missing.{Missing}
 use Rattle.term_core.specs.Terms.{Expression, Lit, Yes, Var, Obs, Neg, Num, Cmp, Not, Logic, Cond, Widen, Round, Div, Acc}
 use Rattle.term_core.specs.Environments.{Environment}
 use Rattle.term_core.specs.Kinds.{scale_of_kind, scale_of_op}
@@ -213,15 +212,6 @@ module _ (d : Declarations) (op : NumOp) (a b : Expression) (g : List Binding) (
       let parts = level_parts d op a b (kinds_of g) s level in
       pair_number op s x y parts.0 (run_of d a g F f) (run_of d b g F f) (level_kind d a g F f s parts.1.0) (level_kind d b g F f s parts.1.1) p q
 
-pub left_number_lacks : (a b : Answer) (go : Typed → Typed → Typed) (m : Missing) → number_found a ≡ Err m → Err m ≡ number_found (on_both (both_of a b) go)
-left_number_lacks (Ok v) b go m h = absurd (cc)
-left_number_lacks (Err n) b go m h = cc
-
-pub right_number_lacks : (a b : Answer) (go : Typed → Typed → Typed) (x : ℤ) (m : Missing) → number_found a ≡ Ok x → number_found b ≡ Err m → Err m ≡ number_found (on_both (both_of a b) go)
-right_number_lacks (Ok v) (Ok w) go x m p h = absurd (cc)
-right_number_lacks (Ok v) (Err n) go x m p h = cc
-right_number_lacks (Err n) b go x m p h = absurd (cc)
-
 -- the branch that is taken
 
 once_raised : (v : Value) (i j : ℕ) → i ≡ j → num (widened i j v) ≡ num v
@@ -332,10 +322,6 @@ next_kept (Ok u) k w q h =
     subst (λ (x : Typed). Kept k x) e (record { kind = refl; amount = amount_widened u.value (scale_in u) (scale_of_kind k) q })
 next_kept (Err m) k w q h = absurd (cc)
 
-pub number_lacks : (r : Answer) (m : Missing) → number_found r ≡ Err m → r ≡ Err m
-number_lacks (Ok v) m h = absurd (cc)
-number_lacks (Err n) m h = cc
-
 module _ (d : Declarations) (body : Expression) (g : List Binding) (v : Typed) (h : stays_level d body g v ≡ true) where
   amount : is_amount v.value ≡ true
   amount = (both_true _ _ h).0
@@ -358,6 +344,3 @@ module _ (d : Declarations) (body : Expression) (g : List Binding) (v : Typed) (
       let kept = next_kept (run_of d body (bound_to v ∷ g) F t) v.kind w (numeric_is d body v g F t forms.0 amount) is in
       both_hold _ _ kept.amount
       (subst (λ (k : Kind). (has_scale k (scale_of_kind k) && (is_numeric body && is_level d body (k ∷ kinds_of g) (scale_of_kind k))) ≡ true) (sym kept.kind) rest)
-
-pub level_lacks : (d : Declarations) (body : Expression) (g : List Binding) (F : Environment) (t : ℤ) (v : Typed) (m : Missing) → number_found (run_of d body (bound_to v ∷ g) F t) ≡ Err m → day_run d body g F t v ≡ Err m
-level_lacks d body g F t v m h = ap (λ (a : Answer). then_do a (λ w. Ok (at_kind v.kind w))) (number_lacks (run_of d body (bound_to v ∷ g) F t) m h)

@@ -8,8 +8,8 @@ ghost use Rattle.expr_eval.specs.Bindings.{bindings};
 use crate::scratch::{Binding, Scratch};
 use term_core::Kind;
 
-/// The names that are bound around an expression, innermost first: those of accumulators lie on the stack, inside those
-/// of a scratch that is lent.
+/// The names that are bound around an expression, innermost first: those of accumulators lie on the
+/// stack, inside those of a scratch that is lent.
 #[derive(Clone, Copy)]
 pub enum Bindings<'a> {
     Lent {
@@ -37,8 +37,8 @@ pub fn binding_at(names: &Bindings, back: u32) -> Option<Binding>
     }
 }
 
-/// The kind of the name that is bound `back` binders further out than the innermost; a name without a binder, which no
-/// accepted term has, is a truth value.
+/// The kind of the name that is bound `back` binders further out than the innermost; a name without
+/// a binder, which no accepted term has, is a truth value.
 pub fn kind_at(names: &Bindings, back: u32) -> Kind
     ensures { result ≡ kind_or (slice_get (kinds_of (bindings names.now)) back) }
 {

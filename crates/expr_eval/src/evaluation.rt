@@ -190,8 +190,8 @@ pub fn evaluate(
     }
 }
 
-// What is done with the value of one part. It stands apart, as all arms do that hold values: a function takes room for
-// the values of all its arms each time that it is called.
+// What is done with the value of one part. It stands apart, as all arms do that hold values: a
+// function takes room for the values of all its arms each time that it is called.
 #[cycle(evaluation)]
 fn evaluate_one(
     decls: &Decls,
@@ -339,7 +339,8 @@ pub fn evaluate_days(
     Ok(value)
 }
 
-// An accumulator after one more day, from its value before. Where it stays level, only the number is asked for.
+// An accumulator after one more day, from its value before. Where it stays level, only the number
+// is asked for.
 #[cycle(evaluation)]
 fn evaluate_day(
     decls: &Decls,
@@ -412,7 +413,8 @@ pub fn mantissa_observed(label: u32, day: i64, fixings: &Fixings) -> Result<i128
     }
 }
 
-// The mantissa of a level expression. It has the scale of each of its operands, so no kind is looked up.
+// The mantissa of a level expression. It has the scale of each of its operands, so no kind is
+// looked up.
 #[inline(always)]
 #[cycle(evaluation)]
 fn mantissa_at(

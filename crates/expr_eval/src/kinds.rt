@@ -14,7 +14,8 @@ use crate::operations::scale_of_both;
 use crate::scratch::Scratch;
 use term_core::{Decls, Expr, Kind, Label};
 
-/// The kind of what is observed; a label that is not declared, which no accepted term has, is a truth value.
+/// The kind of what is observed; a label that is not declared, which no accepted term has, is a
+/// truth value.
 pub fn kind_observed(decls: &Decls, label: u32) -> Kind
     ensures { result ≡ kind_observed (declarations decls.now) label }
 {
@@ -24,7 +25,8 @@ pub fn kind_observed(decls: &Decls, label: u32) -> Kind
     }
 }
 
-/// The kind of an expression whose sorts are in order. It looks only at the parts on which the kind depends.
+/// The kind of an expression whose sorts are in order. It looks only at the parts on which the kind
+/// depends.
 pub fn kind_in(decls: &Decls, e: &Expr, names: &Bindings) -> Kind
     requires { KindFitsIn decls.now (expression e.now) names.now }
     ensures { result ≡ kind_in decls.now (expression e.now) names.now }
@@ -56,7 +58,8 @@ pub fn kind_in(decls: &Decls, e: &Expr, names: &Bindings) -> Kind
     }
 }
 
-/// The kind of an expression, with the kinds of the entries of a scratch for its names. It takes no memory.
+/// The kind of an expression, with the kinds of the entries of a scratch for its names. It takes no
+/// memory.
 pub fn kind_of(decls: &Decls, e: &Expr, scratch: &Scratch) -> Kind
     requires place { MayEvaluate (declarations decls.now) (expression e.now) scratch.now.entries }
     ensures kind { model.kind_of (declarations decls.now) (expression e.now) (kinds_of scratch.now.entries) ≡ Some result }

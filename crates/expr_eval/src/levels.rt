@@ -53,7 +53,8 @@ fn is_level(decls: &Decls, e: &Expr, names: &Bindings, scale: u8) -> bool
     }
 }
 
-// Whether each value of an expression is a number by its form, where that of the innermost name is one.
+// Whether each value of an expression is a number by its form, where that of the innermost name is
+// one.
 fn is_numeric(e: &Expr) -> bool
     ensures { result ≡ is_numeric (expression e.now) }
 {

@@ -1,15 +1,17 @@
-//! Values of expressions on a day, over fixings, with entries for the names that are bound around them.
+//! Values of expressions on a day, over fixings, with entries for the names that are bound around
+//! them.
 //!
 //! ```text
 //! let mut scratch = Scratch::for_contract(alloc, &contr)?;
 //! let value = eval(&portfolio.decls, &expr, &mut scratch, &fixings, day)?;
 //! ```
 //!
-//! Promised: `eval` answers the value of the model, the same in every environment that extends the fixings,
-//! or the first read that is not fixed (`IsAnswer`). `operations` has one operator each on typed values, and
+//! Promised: `eval` answers the value of the model, the same in every environment that extends the
+//! fixings, or the first read that is not fixed (`IsAnswer`). `operations` has one operator each on
+//! typed values, and
 //! `value_bound` to `without_kind` are steps of `eval`, for evaluators of other languages.
-//! Only tested: that a scratch is made where there is memory (`library_tests/src/terms.rt`); `eval` takes
-//! none.
+//! Only tested: that a scratch is made where there is memory (`library_tests/src/terms.rt`); `eval`
+//! takes none.
 #![tactic(auto)]
 
 mod bindings;

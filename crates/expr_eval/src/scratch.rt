@@ -12,8 +12,8 @@ use std::alloc::Global;
 use std::marker::Model;
 use term_core::{Contr, Expr, Kind, Missing, Value, counts};
 
-/// What a bound name holds: the value of its expression, or the first place that the expression reads and that is not
-/// fixed.
+/// What a bound name holds: the value of its expression, or the first place that the expression
+/// reads and that is not fixed.
 #[derive(Clone, Copy, Debug, PartialEq, Eq)]
 pub enum Held {
     Known { value: Value },
@@ -39,7 +39,8 @@ pub struct Binding {
     pub held: Held,
 }
 
-/// The entries of the names that are bound around a place in a contract, innermost first, and how many more have room.
+/// The entries of the names that are bound around a place in a contract, innermost first, and how
+/// many more have room.
 #[derive(Drop)]
 pub struct Scratch {
     // The innermost stands last.
@@ -86,8 +87,9 @@ impl Scratch {
         Scratch::with_room(alloc, height_of(e) as usize)
     }
 
-    /// No entries, with room for as many as a term of that height can need. No accepted contract is higher than 200, so
-    /// that room for 200 serves each of its parts and of what is left of it, and none of them is walked for it.
+    /// No entries, with room for as many as a term of that height can need. No accepted contract is
+    /// higher than 200, so that room for 200 serves each of its parts and of what is left of it,
+    /// and none of them is walked for it.
     pub fn for_height(alloc: Global, height: u32) -> Result<Scratch, NoMemory>
         requires low { height ≤ 200 }
         ensures empty { IfOk result (λ s. s.entries ≡ []) }
@@ -99,7 +101,8 @@ impl Scratch {
     /// Enters a name: its entry is the innermost from now on. It takes no memory.
     pub fn enter(&mut self, kind: Kind, held: Held)
         requires { 1 ≤ self.old.spare }
-        ensures entries { self.new.entries ≡ record { kind = kind; held = held } ∷ self.old.entries }
+        ensures entries { self.new.entries
+            ≡ record { kind = kind; held = held } ∷ self.old.entries }
         ensures spare { self.new.spare + 1 ≡ self.old.spare }
     {
         match self.items.push(Binding { kind, held }) {

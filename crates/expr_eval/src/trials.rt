@@ -105,7 +105,8 @@ fn first_day_compared(
 
 // The mantissa of a name whose value is known.
 fn mantissa_bound(names: &Bindings, back: u32) -> Option<i128>
-    ensures { IfSome result (λ m. number_found (of_binding (slice_get (bindings names.now) back)) ≡ Ok m) }
+    ensures { IfSome result (λ m. number_found (of_binding (slice_get (bindings names.now) back))
+        ≡ Ok m) }
 {
     match value_bound(names, back) {
         Ok(found) => Some(found.value.number()),
@@ -113,7 +114,8 @@ fn mantissa_bound(names: &Bindings, back: u32) -> Option<i128>
     }
 }
 
-// The mantissa of a side that is the same on each day: of a literal, or of a name whose value is known.
+// The mantissa of a side that is the same on each day: of a literal, or of a name whose value is
+// known.
 fn standing(e: &Expr, names: &Bindings) -> Option<i128>
     ensures { IfSome result (λ m. Stands (expression e.now) (bindings names.now) m) }
 {
@@ -198,8 +200,8 @@ fn day_read(day: i64, offset: i32) -> i64
     day + offset as i64
 }
 
-// The first of some days on which a comparison holds. Where one side is observed and the other stays the same, both are
-// looked up once.
+// The first of some days on which a comparison holds. Where one side is observed and the other
+// stays the same, both are looked up once.
 fn first_compared(
     decls: &Decls,
     test: &Comparison,
@@ -243,9 +245,10 @@ fn first_held(
     Ok(None)
 }
 
-/// The first of some days, from a day of the portfolio on, on which a test holds, counted from 0; none where it holds on
-/// no one of them. It lacks a place exactly where a day before that one reads one that is not fixed, and then answers the
-/// first. It is what `eval` answers day after day, and takes no memory; what does not depend on the day is done once.
+/// The first of some days, from a day of the portfolio on, on which a test holds, counted from 0;
+/// none where it holds on no one of them. It lacks a place exactly where a day before that one
+/// reads one that is not fixed, and then answers the first. It is what `eval` answers day after
+/// day, and takes no memory; what does not depend on the day is done once.
 pub fn first_true(
     decls: &Decls,
     test: &Expr,

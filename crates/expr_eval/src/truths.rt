@@ -168,7 +168,8 @@ fn is_verdict(e: &Expr) -> bool
     )
 }
 
-// The truth value of an accumulator after its days, from its start, which stands on the day before the first of them.
+// The truth value of an accumulator after its days, from its start, which stands on the day before
+// the first of them.
 #[cycle(truths)]
 fn holds_after(
     decls: &Decls,

@@ -13,10 +13,11 @@ use crate::scratch::Scratch;
 use fixing_files::Fixings;
 use term_core::{Decls, Expr, Missing, Value};
 
-/// The value of an expression on a day of the portfolio, over fixings, with the entries of a scratch for its names: the
-/// mantissa of a number at the scale of its kind, or a truth value. It lacks a place exactly where one that the
-/// expression reads is not fixed, and then answers the first; a lacking entry is the first such place of its name. It
-/// takes time by the work of the expression, and no memory.
+/// The value of an expression on a day of the portfolio, over fixings, with the entries of a
+/// scratch for its names: the mantissa of a number at the scale of its kind, or a truth value. It
+/// lacks a place exactly where one that the expression reads is not fixed, and then answers the
+/// first; a lacking entry is the first such place of its name. It takes time by the work of the
+/// expression, and no memory.
 pub fn eval(
     decls: &Decls,
     e: &Expr,

@@ -11,7 +11,8 @@ use crate::comparisons::{Factors, compare_brought};
 use fixing_files::{FixedDay, Fixings};
 use term_core::{CmpOp, Missing, Value};
 
-/// A comparison of what is observed, on its left, with a number that stays the same, and their factors.
+/// A comparison of what is observed, on its left, with a number that stays the same, and their
+/// factors.
 #[derive(Clone, Copy)]
 pub struct Watch {
     pub op: CmpOp,
@@ -78,8 +79,8 @@ fn day_behind(first: i64, i: u32) -> i64
     first + i as i64
 }
 
-/// The first of some days on which it is met. No day before that one is missing, so each stands in the run of the label
-/// behind the one before it.
+/// The first of some days on which it is met. No day before that one is missing, so each stands in
+/// the run of the label behind the one before it.
 pub fn first_met(
     watch: &Watch,
     fixings: &Fixings,
@@ -88,7 +89,8 @@ pub fn first_met(
 ) -> Result<Option<u32>, Missing>
     requires first { unsigned_abs first ≤ 2 ^ 62 }
     requires fits { OnDays (λ day. FitsWatch watch.now (found_on watch.now fixings.now day)) first days }
-    ensures days { result ≡ first_tried days (λ i. said (met_on watch.now fixings.now (first +ℤ pos i))) }
+    ensures days { result ≡ first_tried days
+        (λ i. said (met_on watch.now fixings.now (first +ℤ pos i))) }
     ensures found { IfOk result (λ first. IsOneOf days first) }
 {
     let run = fixings.days_of(watch.label);
