@@ -12,6 +12,7 @@ use Rattle.term_core.proofs.ShiftFacts.{kind-shifted}
 use Rattle.rewriting.specs.Replacing.{branch_at}
 use Rattle.simplify.specs.Turning.{is_chosen, resolved, choice, rule, turned}
 use Rattle.simplify.specs.LawsTurnShifts.{TurnsSeeNoOffsets}
+use Rattle.simplify.proofs.OffsetFacts.{offsets_turned}
 
 literal-shifted : (e : Expression) (k : ℤ) → is_literal (shifted k e) ≡ is_literal e
 literal-shifted (Lit m s) k = refl
@@ -168,3 +169,6 @@ turns-shifted d (Acc body n first) ks k =
 
 pub turned_shifted : (d : Declarations) (ks : List Kind) (k : ℤ) (e : Expression) → turned d ks (shifted k e) ≡ shifted k (turned d ks e)
 turned_shifted d ks k e = turns-shifted d e ks k
+
+-- what follows for a turn of a stored expression
+pub ruleset for_stored = (offsets_turned, turned_shifted)

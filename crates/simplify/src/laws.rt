@@ -2,14 +2,18 @@
 
 ghost use Rattle.simplify.specs.Turning.{TurnsEnd, TurnsKeepValues};
 ghost use Rattle.simplify.specs.TurningContracts.{ContractTurnsEnd, PlainLeavesNone};
-ghost use Rattle.simplify.specs.LawsTurnsKeep.{TurnsKeepFlows, TurnsKeepAmounts, TurnsReadLess, TurnsTransferLess, ContractTurnsReadLess, TurnsCarry};
+ghost use Rattle.simplify.specs.LawsTurnsKeep.{TurnsKeepFlows, TurnsKeepAmounts, TurnsReadLess};
+ghost use Rattle.simplify.specs.LawsTurnsKeep.{TurnsTransferLess, ContractTurnsReadLess};
+ghost use Rattle.simplify.specs.LawsTurnsKeep.{TurnsCarry};
 ghost use Rattle.simplify.specs.LawsTurnsAccepted.{TurnsKeepTypes, TurnsKeepForms, TurnsKeepSizes};
-ghost use Rattle.simplify.specs.LawsRulesStand.{TruthsHaveNothing, RuleReplaces, ContractRuleReplaces};
-ghost use Rattle.simplify.specs.LawsTurnsStand.{TurnsKeepForm, TurnsReplace, ContractTurnsReplace, TurnIsAccepted};
+ghost use Rattle.simplify.specs.LawsRulesStand.{TruthsHaveNothing, RuleReplaces};
+ghost use Rattle.simplify.specs.LawsRulesStand.{ContractRuleReplaces};
+ghost use Rattle.simplify.specs.LawsTurnsStand.{TurnsKeepForm, TurnsReplace, ContractTurnsReplace};
+ghost use Rattle.simplify.specs.LawsTurnsStand.{TurnIsAccepted};
 ghost use Rattle.simplify.specs.LawsTurnShifts.{TurnsSeeNoOffsets};
 
-/// A turn of the simplifier leaves an expression as it is, and then it holds no redex that asks for no frame, or makes it
-/// smaller.
+/// A turn of the simplifier leaves an expression as it is, and then it holds no redex that asks for
+/// no frame, or makes it smaller.
 #[tactic(none)]
 pub fn turns_end()
     ensures end { TurnsEnd }
@@ -54,7 +58,8 @@ pub fn turned_contracts_are_accepted()
     ensures accepted { TurnIsAccepted }
 {}
 
-/// A turn of an expression that is read some days later is the turn of the expression, read so many days later.
+/// A turn of an expression that is read some days later is the turn of the expression, read so many
+/// days later.
 #[tactic(none)]
 pub fn turns_see_no_offsets()
     ensures { TurnsSeeNoOffsets }

@@ -5,11 +5,9 @@ ghost use Rattle.term_core.specs.Declarations.{declarations};
 ghost use Rattle.term_core.specs.Terms.{contract};
 ghost use Rattle.term_core.specs.Acceptance.{IsAccepted};
 ghost use Rattle.term_core.specs.SharedTerms.{shared, StoresOffsets};
-ghost use Rattle.term_core.specs.WellFormed.{IsClosed, HasOnlyNumbers};
-ghost use Rattle.rewriting.specs.Keeping.{IsNoLargerIn, StaysClosed};
 ghost use Rattle.rewriting.specs.RebuildingContracts.{IsLessIn, NewStoresOffsets};
-ghost use Rattle.term_core.specs.Literals.{HasLiteralsIn};
-ghost use Rattle.simplify.specs.Simplified.{PaysTheSame, ReadsNoMore, HasNoPlainRedex};
+ghost use Rattle.specialise.specs.Specialised.{StandsAlone};
+ghost use Rattle.simplify.specs.Simplified.{Simplifies};
 ghost use Rattle.simplify.specs.TurnAnswers.{IsTurnOfContract};
 
 use crate::contracts::turn_in;
@@ -18,8 +16,8 @@ use std::alloc::Global;
 use std::rc::Rc;
 use term_core::{Contr, Decls, Scope, SharedContr, share, unshare};
 
-/// One turn of the simplifier: what takes the contract's place, which is smaller, or nothing where no redex is left that asks
-/// for no frame.
+/// One turn of the simplifier: what takes the contract's place, which is smaller, or nothing where
+/// no redex is left that asks for no frame.
 pub fn turn_shared(
     alloc: Global,
     decls: &Decls,
@@ -34,8 +32,9 @@ pub fn turn_shared(
     turn_in(alloc, decls, s, &Scope::Empty)
 }
 
-/// The contract without redexes that ask for no frame: it pays the same on every frame, reads no more and is accepted.
-/// Parts that stay are shared with the contract. After the simplification of contracts by Bahr, Berthold and Elsman.
+/// The contract without redexes that ask for no frame: it pays the same on every frame, reads no
+/// more and is accepted. Parts that stay are shared with the contract. After the simplification of
+/// contracts by Bahr, Berthold and Elsman.
 pub fn simplify_shared(
     alloc: Global,
     decls: &Decls,
@@ -43,14 +42,9 @@ pub fn simplify_shared(
 ) -> Result<Rc<SharedContr>, NoMemory>
     requires accepted { IsAccepted (declarations decls.now) (shared s.now.value) }
     requires offsets { StoresOffsets s.now.value }
-    ensures accepted { IfOk result (λ r. IsAccepted (declarations decls.now) (shared r.value)) }
+    ensures simpler { IfOk result (λ r.
+        Simplifies (declarations decls.now) (shared r.value) (shared s.now.value)) }
     ensures offsets { IfOk result (λ r. StoresOffsets r.value) }
-    ensures flows { IfOk result (λ r. PaysTheSame (declarations decls.now) (shared r.value) (shared s.now.value)) }
-    ensures reads { IfOk result (λ r. ReadsNoMore (declarations decls.now) (shared r.value) (shared s.now.value)) }
-    ensures none { IfOk result (λ r. HasNoPlainRedex (declarations decls.now) (shared r.value)) }
-    ensures smaller { IfOk result (λ r. IsNoLargerIn (shared r.value) (shared s.now.value)) }
-    ensures closed { IfOk result (λ r. StaysClosed (declarations decls.now) (shared r.value) (shared s.now.value)) }
-    ensures literals { IfOk result (λ r. HasLiteralsIn (shared r.value)) }
 {
     match turn_in(alloc, decls, s, &Scope::Empty)? {
         Some(next) => simplify_shared(alloc, decls, &next),
@@ -60,17 +54,10 @@ pub fn simplify_shared(
 
 /// The contract without redexes that ask for no frame, as `simplify_shared` has it.
 pub fn simplify(alloc: Global, decls: &Decls, c: &Contr) -> Result<Contr, NoMemory>
-    requires accepted { IsAccepted (declarations decls.now) (contract c.now) }
-    requires closed { IsClosed (declarations decls.now) (contract c.now) }
-    requires numbers { HasOnlyNumbers (contract c.now) }
-    ensures accepted { IfOk result (λ r. IsAccepted (declarations decls.now) (contract r)) }
-    ensures closed { IfOk result (λ r. IsClosed (declarations decls.now) (contract r)) }
-    ensures numbers { IfOk result (λ r. HasOnlyNumbers (contract r)) }
-    ensures flows { IfOk result (λ r. PaysTheSame (declarations decls.now) (contract r) (contract c.now)) }
-    ensures reads { IfOk result (λ r. ReadsNoMore (declarations decls.now) (contract r) (contract c.now)) }
-    ensures none { IfOk result (λ r. HasNoPlainRedex (declarations decls.now) (contract r)) }
-    ensures smaller { IfOk result (λ r. IsNoLargerIn (contract r) (contract c.now)) }
-    ensures literals { IfOk result (λ r. HasLiteralsIn (contract r)) }
+    requires { StandsAlone (declarations decls.now) (contract c.now) }
+    ensures simpler { IfOk result (λ r.
+        Simplifies (declarations decls.now) (contract r) (contract c.now)) }
+    ensures alone { IfOk result (λ r. StandsAlone (declarations decls.now) (contract r)) }
 {
     let s = share(alloc, c)?;
     let simple = simplify_shared(alloc, decls, &s)?;

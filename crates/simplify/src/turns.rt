@@ -1,6 +1,7 @@
-//! A turn of an expression: its parts are turned, and then the whole, where it is a redex that asks for no frame. A function
-//! pays at entry for the locals of all its arms, so each form with parts has a function of its own, a leaf pays for none of
-//! them, and what is built anew is built apart from where nothing changes.
+//! A turn of an expression: its parts are turned, and then the whole, where it is a redex that asks
+//! for no frame. A function pays at entry for the locals of all its arms, so each form with parts
+//! has a function of its own, a leaf pays for none of them, and what is built anew is built apart
+//! from where nothing changes.
 
 ghost use Rattle.std.specs.Prelude.{◌≡◌, ◌≤◌, ◌<◌, ◌+◌, IfOk, Ok, None, max};
 ghost use Rattle.term_core.specs.Declarations.{declarations};
@@ -11,13 +12,16 @@ ghost use Rattle.term_core.specs.Branches.{either};
 ghost use Rattle.interval_check.specs.RangeTrials.{kind_found};
 ghost use Rattle.rewriting.specs.Replacing.{branch_at};
 ghost use Rattle.rewriting.specs.Measures.{size};
-ghost use Rattle.rewriting.specs.Rebuilding.{after, over_one, over_two, two_after, IfAllAreLess, IfBothAreLess, IsLess};
+ghost use Rattle.rewriting.specs.Rebuilding.{after, over_one, over_two, two_after, IfAllAreLess};
+ghost use Rattle.rewriting.specs.Rebuilding.{IfBothAreLess, IsLess};
 ghost use Rattle.term_core.specs.Scopes.{held_in};
 ghost use Rattle.simplify.specs.Folding.{folded, CanFold};
 ghost use Rattle.simplify.specs.Turnable.{CanTurn, FoldsTo, truth_literal};
-ghost use Rattle.simplify.specs.Turning.{rule, turned};
+ghost use Rattle.simplify.specs.Turning.{turned};
 ghost use Rattle.simplify.specs.TurnAnswers as model;
-ghost use Rattle.simplify.specs.TurnAnswers.{decided_after, logic_after, one_turned, two_turned, IsTurnOf, ScalesFit};
+ghost use Rattle.simplify.specs.TurnAnswers.{decided_after, logic_after, one_turned};
+ghost use Rattle.simplify.specs.TurnAnswers.{CanTurnTwo, IsTurnOf, IsTurnOfOne, IsTurnOfTwo};
+ghost use Rattle.simplify.specs.TurnAnswers.{ScalesFit};
 
 use crate::folding::{has_literals, is_literal, ruled};
 use crate::names::kind_at;
@@ -28,7 +32,8 @@ use rewriting::{kept, of_one, of_three, of_two};
 use std::alloc::Global;
 use term_core::{Decls, Expr, Kind, LogicOp, Scope};
 
-/// What an expression turns into, and nothing where it stays as it is; and its kind, which a turn keeps.
+/// What an expression turns into, and nothing where it stays as it is; and its kind, which a turn
+/// keeps.
 #[derive(Drop)]
 pub struct Turned {
     pub kind: Kind,
@@ -66,8 +71,10 @@ fn turn_logic(
     two: Option<Expr>,
 ) -> Result<Option<Expr>, NoMemory>
     requires { expression e.now ≡ Logic op (expression left.now) (expression right.now) }
-    ensures same { IfOk result (λ r. after (expression e.now) r ≡ logic_after op left.now one right.now two) }
-    ensures less { IfOk result (λ r. IfBothAreLess left.now one right.now two (IsLess r (expression e.now))) }
+    ensures same { IfOk result (λ r.
+        after (expression e.now) r ≡ logic_after op left.now one right.now two) }
+    ensures less { IfOk result (λ r.
+        IfBothAreLess left.now one right.now two (IsLess r (expression e.now))) }
 {
     match truth_after(left, &one) {
         Some(value) => {
@@ -84,8 +91,12 @@ fn turn_logic(
 // A branch, widened to a scale where that is greater.
 #[tactic(auto, using(crate::proofs::LessFacts::no_more))]
 fn branch(alloc: Global, part: &Expr, to: Turned, scale: u8) -> Result<Expr, NoMemory>
-    ensures same { IfOk result (λ r. expression r ≡ branch_at (scale_of_kind to.kind) scale (after (expression part.now) to.new)) }
-    ensures less { IfOk result (λ r. IsLess to.new (expression part.now) → size (expression r) ≤ size (expression part.now) + 1) }
+    ensures same { IfOk result (λ r.
+        expression r ≡ branch_at (scale_of_kind to.kind) scale
+        (after (expression part.now) to.new)) }
+    ensures less { IfOk result (λ r.
+        IsLess to.new (expression part.now)
+        → size (expression r) ≤ size (expression part.now) + 1) }
 {
     let below = to.kind.scale() < scale;
     let part = kept(alloc, part, to.new)?;
@@ -109,9 +120,13 @@ fn turn_choice(
     one: Turned,
     two: Turned,
 ) -> Result<Option<Expr>, NoMemory>
-    requires { expression e.now ≡ Cond (expression test.now) (expression yes.now) (expression no.now) }
-    ensures same { IfOk result (λ r. after (expression e.now) r ≡ decided_after test.now decision yes.now one no.now two) }
-    ensures less { IfOk result (λ r. IfAllAreLess test.now decision yes.now one.new no.now two.new (IsLess r (expression e.now))) }
+    requires { expression e.now
+        ≡ Cond (expression test.now) (expression yes.now) (expression no.now) }
+    ensures same { IfOk result (λ r.
+        after (expression e.now) r ≡ decided_after test.now decision yes.now one no.now two) }
+    ensures less { IfOk result (λ r.
+        IfAllAreLess test.now decision yes.now one.new no.now two.new
+        (IsLess r (expression e.now))) }
 {
     let scale = one.kind.scale().max(two.kind.scale());
     match truth_after(test, &decision) {
@@ -163,7 +178,8 @@ fn rebuilt_one(alloc: Global, e: &Expr, part: &Expr, one: Turned) -> Result<Turn
     ensures same { IfOk result (λ r. after (expression e.now) r.new
         ≡ folded (over_one (expression e.now) (after (expression part.now) one.new))) }
     ensures kind { IfOk result (λ r. r.kind ≡ model.kind_over_one (expression e.now) one.kind) }
-    ensures less { IfOk result (λ r. IsLess one.new (expression part.now) → IsLess r.new (expression e.now)) }
+    ensures less { IfOk result (λ r.
+        IsLess one.new (expression part.now) → IsLess r.new (expression e.now)) }
 {
     let kind = kind_over_one(e, one.kind);
     let parts = of_one(alloc, e, part, one.new)?;
@@ -182,12 +198,17 @@ fn rebuilt_two(
     one: Turned,
     two: Turned,
 ) -> Result<Turned, NoMemory>
-    requires whole { over_two (expression e.now) (expression left.now) (expression right.now) ≡ expression e.now }
+    requires whole { over_two (expression e.now) (expression left.now) (expression right.now)
+        ≡ expression e.now }
     requires fits { CanFold (two_after e.now left.now one.new right.now two.new) }
     requires scales { ScalesFit (expression e.now) one.kind two.kind }
-    ensures same { IfOk result (λ r. after (expression e.now) r.new ≡ folded (two_after e.now left.now one.new right.now two.new)) }
-    ensures kind { IfOk result (λ r. r.kind ≡ model.kind_over_two (expression e.now) one.kind two.kind) }
-    ensures less { IfOk result (λ r. IfBothAreLess left.now one.new right.now two.new (IsLess r.new (expression e.now))) }
+    ensures same { IfOk result (λ r.
+        after (expression e.now) r.new
+        ≡ folded (two_after e.now left.now one.new right.now two.new)) }
+    ensures kind { IfOk result (λ r.
+        r.kind ≡ model.kind_over_two (expression e.now) one.kind two.kind) }
+    ensures less { IfOk result (λ r.
+        IfBothAreLess left.now one.new right.now two.new (IsLess r.new (expression e.now))) }
 {
     let kind = kind_over_two(e, one.kind, two.kind);
     let parts = of_two(alloc, e, left, right, one.new, two.new)?;
@@ -208,9 +229,11 @@ fn rebuilt_sides(
     two: Option<Expr>,
 ) -> Result<Turned, NoMemory>
     requires { expression e.now ≡ Logic op (expression left.now) (expression right.now) }
-    ensures same { IfOk result (λ r. after (expression e.now) r.new ≡ logic_after op left.now one right.now two) }
+    ensures same { IfOk result (λ r.
+        after (expression e.now) r.new ≡ logic_after op left.now one right.now two) }
     ensures kind { IfOk result (λ r. r.kind ≡ Truth) }
-    ensures less { IfOk result (λ r. IfBothAreLess left.now one right.now two (IsLess r.new (expression e.now))) }
+    ensures less { IfOk result (λ r.
+        IfBothAreLess left.now one right.now two (IsLess r.new (expression e.now))) }
 {
     let new = turn_logic(alloc, e, op, left, right, one, two)?;
     Ok(Turned {
@@ -230,10 +253,14 @@ fn rebuilt_branches(
     one: Turned,
     two: Turned,
 ) -> Result<Turned, NoMemory>
-    requires { expression e.now ≡ Cond (expression test.now) (expression yes.now) (expression no.now) }
-    ensures same { IfOk result (λ r. after (expression e.now) r.new ≡ decided_after test.now decision yes.now one no.now two) }
+    requires { expression e.now
+        ≡ Cond (expression test.now) (expression yes.now) (expression no.now) }
+    ensures same { IfOk result (λ r.
+        after (expression e.now) r.new ≡ decided_after test.now decision yes.now one no.now two) }
     ensures kind { IfOk result (λ r. r.kind ≡ either one.kind two.kind) }
-    ensures less { IfOk result (λ r. IfAllAreLess test.now decision yes.now one.new no.now two.new (IsLess r.new (expression e.now))) }
+    ensures less { IfOk result (λ r.
+        IfAllAreLess test.now decision yes.now one.new no.now two.new
+        (IsLess r.new (expression e.now))) }
 {
     let kind = one.kind.either(two.kind);
     let new = turn_choice(alloc, e, test, yes, no, decision, one, two)?;
@@ -242,7 +269,8 @@ fn rebuilt_branches(
 
 // An accumulator of no days, which is its start.
 fn start_alone(alloc: Global, first: &Expr, one: Turned) -> Result<Turned, NoMemory>
-    ensures same { IfOk result (λ r. (x : Expression) → after x r.new ≡ after (expression first.now) one.new) }
+    ensures same { IfOk result (λ r.
+        (x : Expression) → after x r.new ≡ after (expression first.now) one.new) }
     ensures kind { IfOk result (λ r. r.kind ≡ one.kind) }
     ensures less { IfOk result (λ r. (x : Expression) → IsLess one.new (expression first.now)
         → size (expression first.now) < size x → IsLess r.new x) }
@@ -264,10 +292,13 @@ fn rebuilt_steps(
     two: Option<Expr>,
     one: Turned,
 ) -> Result<Turned, NoMemory>
-    requires { over_two (expression e.now) (expression body.now) (expression first.now) ≡ expression e.now }
-    ensures same { IfOk result (λ r. after (expression e.now) r.new ≡ two_after e.now body.now two first.now one.new) }
+    requires { over_two (expression e.now) (expression body.now) (expression first.now)
+        ≡ expression e.now }
+    ensures same { IfOk result (λ r.
+        after (expression e.now) r.new ≡ two_after e.now body.now two first.now one.new) }
     ensures kind { IfOk result (λ r. r.kind ≡ one.kind) }
-    ensures less { IfOk result (λ r. IfBothAreLess body.now two first.now one.new (IsLess r.new (expression e.now))) }
+    ensures less { IfOk result (λ r.
+        IfBothAreLess body.now two first.now one.new (IsLess r.new (expression e.now))) }
 {
     let kind = one.kind;
     let new = of_two(alloc, e, body, first, two, one.new)?;
@@ -278,8 +309,10 @@ fn rebuilt_steps(
 #[cycle(turning)]
 pub fn turn(alloc: Global, decls: &Decls, e: &Expr, names: &Scope<Kind>) -> Result<Turned, NoMemory>
     requires { CanTurn (declarations decls.now) (expression e.now) (held_in names.now) }
-    ensures same { IfOk result (λ r. IsTurnOf (declarations decls.now) (held_in names.now) e.now r.new) }
-    ensures kind { IfOk result (λ r. r.kind ≡ kind_found (declarations decls.now) (expression e.now) (held_in names.now)) }
+    ensures same { IfOk result (λ r.
+        IsTurnOf (declarations decls.now) (held_in names.now) e.now r.new) }
+    ensures kind { IfOk result (λ r.
+        r.kind ≡ kind_found (declarations decls.now) (expression e.now) (held_in names.now)) }
     ensures less { IfOk result (λ r. IsLess r.new (expression e.now)) }
 {
     match e {
@@ -314,10 +347,10 @@ fn turn_one(
     requires part { CanTurn (declarations decls.now) (expression part.now) (held_in names.now) }
     requires folds { FoldsTo (declarations decls.now) (held_in names.now)
         (one_turned (declarations decls.now) (held_in names.now) e.now part.now) }
-    ensures same { IfOk result (λ r. after (expression e.now) r.new ≡ rule (declarations decls.now) (held_in names.now)
-        (one_turned (declarations decls.now) (held_in names.now) e.now part.now)) }
-    ensures kind { IfOk result (λ r. r.kind
-        ≡ model.kind_over_one (expression e.now) (kind_found (declarations decls.now) (expression part.now) (held_in names.now))) }
+    ensures same { IfOk result (λ r.
+        IsTurnOfOne (declarations decls.now) (held_in names.now) e.now part.now r.new) }
+    ensures kind { IfOk result (λ r.
+        r.kind ≡ model.kind_of_one (declarations decls.now) (held_in names.now) e.now part.now) }
     ensures less { IfOk result (λ r. IsLess r.new (expression e.now)) }
 {
     let one = turn(alloc, decls, part, names)?;
@@ -339,18 +372,14 @@ fn turn_two(
     right: &Expr,
     names: &Scope<Kind>,
 ) -> Result<Turned, NoMemory>
-    requires whole { over_two (expression e.now) (expression left.now) (expression right.now) ≡ expression e.now }
-    requires left { CanTurn (declarations decls.now) (expression left.now) (held_in names.now) }
-    requires right { CanTurn (declarations decls.now) (expression right.now) (held_in names.now) }
-    requires folds { FoldsTo (declarations decls.now) (held_in names.now)
-        (two_turned (declarations decls.now) (held_in names.now) e.now left.now right.now) }
-    requires scales { ScalesFit (expression e.now) (kind_found (declarations decls.now) (expression left.now) (held_in names.now))
-        (kind_found (declarations decls.now) (expression right.now) (held_in names.now)) }
-    ensures same { IfOk result (λ r. after (expression e.now) r.new ≡ rule (declarations decls.now) (held_in names.now)
-        (two_turned (declarations decls.now) (held_in names.now) e.now left.now right.now)) }
+    requires whole { over_two (expression e.now) (expression left.now) (expression right.now)
+        ≡ expression e.now }
+    requires parts { CanTurnTwo (declarations decls.now) (held_in names.now)
+        e.now left.now right.now }
+    ensures same { IfOk result (λ r.
+        IsTurnOfTwo (declarations decls.now) (held_in names.now) e.now left.now right.now r.new) }
     ensures kind { IfOk result (λ r. r.kind
-        ≡ model.kind_over_two (expression e.now) (kind_found (declarations decls.now) (expression left.now) (held_in names.now))
-        (kind_found (declarations decls.now) (expression right.now) (held_in names.now))) }
+        ≡ model.kind_of_two (declarations decls.now) (held_in names.now) e.now left.now right.now) }
     ensures less { IfOk result (λ r. IsLess r.new (expression e.now)) }
 {
     let one = turn(alloc, decls, left, names)?;
@@ -375,9 +404,11 @@ fn turn_sides(
     names: &Scope<Kind>,
 ) -> Result<Turned, NoMemory>
     requires whole { expression e.now ≡ Logic op (expression left.now) (expression right.now) }
-    requires parts { CanTurn (declarations decls.now) (Logic op (expression left.now) (expression right.now)) (held_in names.now) }
+    requires parts { CanTurn (declarations decls.now)
+        (Logic op (expression left.now) (expression right.now)) (held_in names.now) }
     ensures same { IfOk result (λ r. after (expression e.now) r.new
-        ≡ turned (declarations decls.now) (held_in names.now) (Logic op (expression left.now) (expression right.now))) }
+        ≡ turned (declarations decls.now) (held_in names.now)
+        (Logic op (expression left.now) (expression right.now))) }
     ensures kind { IfOk result (λ r. r.kind ≡ Truth) }
     ensures less { IfOk result (λ r. IsLess r.new (expression e.now)) }
 {
@@ -402,11 +433,13 @@ fn turn_branches(
     no: &Expr,
     names: &Scope<Kind>,
 ) -> Result<Turned, NoMemory>
-    requires whole { expression e.now ≡ Cond (expression test.now) (expression yes.now) (expression no.now) }
+    requires whole { expression e.now
+        ≡ Cond (expression test.now) (expression yes.now) (expression no.now) }
     requires parts { CanTurn (declarations decls.now)
         (Cond (expression test.now) (expression yes.now) (expression no.now)) (held_in names.now) }
     ensures same { IfOk result (λ r. after (expression e.now) r.new
-        ≡ turned (declarations decls.now) (held_in names.now) (Cond (expression test.now) (expression yes.now) (expression no.now))) }
+        ≡ turned (declarations decls.now) (held_in names.now)
+        (Cond (expression test.now) (expression yes.now) (expression no.now))) }
     ensures kind { IfOk result (λ r. r.kind ≡ kind_found (declarations decls.now)
         (Cond (expression test.now) (expression yes.now) (expression no.now)) (held_in names.now)) }
     ensures less { IfOk result (λ r. IsLess r.new (expression e.now)) }
@@ -433,10 +466,13 @@ fn turn_steps(
     names: &Scope<Kind>,
 ) -> Result<Turned, NoMemory>
     requires whole { expression e.now ≡ Acc (expression body.now) days (expression first.now) }
-    requires parts { CanTurn (declarations decls.now) (Acc (expression body.now) days (expression first.now)) (held_in names.now) }
+    requires parts { CanTurn (declarations decls.now)
+        (Acc (expression body.now) days (expression first.now)) (held_in names.now) }
     ensures same { IfOk result (λ r. after (expression e.now) r.new
-        ≡ turned (declarations decls.now) (held_in names.now) (Acc (expression body.now) days (expression first.now))) }
-    ensures kind { IfOk result (λ r. r.kind ≡ kind_found (declarations decls.now) (expression first.now) (held_in names.now)) }
+        ≡ turned (declarations decls.now) (held_in names.now)
+        (Acc (expression body.now) days (expression first.now))) }
+    ensures kind { IfOk result (λ r.
+        r.kind ≡ kind_found (declarations decls.now) (expression first.now) (held_in names.now)) }
     ensures less { IfOk result (λ r. IsLess r.new (expression e.now)) }
 {
     let one = turn(alloc, decls, first, names)?;
