@@ -6,7 +6,8 @@ ghost use Rattle.flow_eval.specs.Faults.{lacks_memory, lacks_place};
 use decimal::NoMemory;
 use term_core::Missing;
 
-/// Why there is no flow table: the contract reads an observable on a day on which it is not fixed, or memory is short.
+/// Why there is no flow table: the contract reads an observable on a day on which it is not fixed,
+/// or memory is short.
 #[derive(Clone, Copy, Debug, PartialEq, Eq, Drop)]
 pub enum FlowErr {
     Missing { label: u32, day: i64 },

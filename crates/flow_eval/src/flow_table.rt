@@ -1,6 +1,7 @@
 //! Flow tables.
 
-/// On a day of the portfolio, `from` pays `to` the amount, in units of the portfolio's least decimal, of the asset.
+/// On a day of the portfolio, `from` pays `to` the amount, in units of the portfolio's least
+/// decimal, of the asset.
 #[derive(Clone, Copy, Debug, PartialEq, Eq)]
 pub struct FlowRow {
     pub day: i64,
@@ -10,8 +11,8 @@ pub struct FlowRow {
     pub amount: i128,
 }
 
-/// Where a flow table holds what is paid: on a day, in an asset, between two parties in declared order. The fields are in
-/// the order by which the rows of a table are ordered.
+/// Where a flow table holds what is paid: on a day, in an asset, between two parties in declared
+/// order. The fields are in the order by which the rows of a table are ordered.
 #[derive(Clone, Copy, Debug, PartialEq, Eq, PartialOrd, Ord)]
 pub struct Slot {
     pub day: i64,

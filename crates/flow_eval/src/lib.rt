@@ -1,12 +1,12 @@
-//! The flows of an accepted contract over fixings: a table of what is paid, or the first observable that is
-//! missing.
+//! The flows of an accepted contract over fixings: a table of what is paid, or the first observable
+//! that is missing.
 //!
 //! ```text
 //! let table = flows(alloc, &portfolio.decls, &contr, &fixings, until)?;
 //! ```
 //!
-//! Promised: `flows` answers the table of the model, the same in every environment that extends the fixings,
-//! or the first read that is not fixed (`AreFlows`).
+//! Promised: `flows` answers the table of the model, the same in every environment that extends the
+//! fixings, or the first read that is not fixed (`AreFlows`).
 //! Only tested: that it answers where there is memory (rows of `library_rows`).
 #![tactic(auto)]
 

@@ -6,8 +6,8 @@ ghost use Rattle.flow_eval.specs.Readiness.{names_in};
 
 use term_core::Contr;
 
-/// How many names are bound round the part of a contract that has the most of them. Most contracts bind none, and a walk
-/// over these needs no memory for names. Expressions are not looked into.
+/// How many names are bound round the part of a contract that has the most of them. Most contracts
+/// bind none, and a walk over these needs no memory for names. Expressions are not looked into.
 pub fn names_in(c: &Contr) -> u32
     requires { names_in (contract c.now) ≤ 200 }
     ensures { result ≡ names_in (contract c.now) }

@@ -3,18 +3,13 @@
 ghost use Rattle.std.specs.Prelude.{◌≡◌, ◌++◌, OnOk, IfOk};
 ghost use Rattle.std.specs.List.Sorted.{IsPermutation};
 ghost use Rattle.flow_eval.specs.Tables.{FitsLine};
-ghost use Rattle.flow_eval.specs.Netting.{AreInOrder, CanBeNetted, Nets, TakesIn, closed, joined, row_of, rows_of, same_slot, taken_in};
+ghost use Rattle.flow_eval.specs.Netting.{AreInOrder, CanBeNetted, Nets, TakesIn, closed, joined};
+ghost use Rattle.flow_eval.specs.Netting.{row_of, rows_of, taken_in};
 
 use crate::flow_table::{FlowRow, FlowTable, Slot};
 use crate::payments::{Payment, opposite};
 use decimal::NoMemory;
 use std::alloc::Global;
-
-fn same_slot(a: &Slot, b: &Slot) -> bool
-    ensures { result ≡ same_slot a.now b.now }
-{
-    a.day == b.day && a.asset == b.asset && a.lower == b.lower && a.higher == b.higher
-}
 
 // A sum, and a further payment at its slot.
 fn joined(sum: Payment, payment: &Payment) -> Payment
@@ -73,10 +68,11 @@ fn close(rows: &mut Vec<FlowRow>, sum: Payment) -> Result<(), NoMemory>
 fn take_in(rows: &mut Vec<FlowRow>, sum: Payment, payment: &Payment) -> Result<Payment, NoMemory>
     requires sum { FitsLine sum.amount }
     requires payment { FitsLine payment.now.amount }
-    ensures rows { IfOk result (λ next. TakesIn payment.now sum next rows.old.items rows.new.items) }
+    ensures rows { IfOk result
+        (λ next. TakesIn payment.now sum next rows.old.items rows.new.items) }
     ensures next { IfOk result (λ next. next ≡ taken_in sum payment.now) }
 {
-    if same_slot(&sum.slot, &payment.slot) {
+    if sum.slot == payment.slot {
         Ok(joined(sum, payment))
     } else {
         close(rows, sum)?;

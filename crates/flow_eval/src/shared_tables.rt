@@ -1,6 +1,7 @@
 //! The flow tables of contracts with shared parts.
 
 ghost use Rattle.std.specs.Prelude.{◌≤ℤ◌, pos};
+ghost use Rattle.term_core.specs.Limits.{last_start};
 ghost use Rattle.term_core.specs.Declarations.{declarations};
 ghost use Rattle.term_core.specs.Environments.{IsAdmitted};
 ghost use Rattle.term_core.specs.Acceptance.{IsAccepted};
@@ -30,7 +31,7 @@ fn payments_shared(
     requires accepted { IsAccepted (declarations course.now.decls.now) (shared s.now) }
     requires admitted { IsAdmitted (declarations course.now.decls.now) course.now.fixings.now }
     requires first { pos 0 ≤ℤ frame }
-    requires last { frame ≤ℤ pos 1_000_000 }
+    requires last { frame ≤ℤ pos last_start }
     ensures { ArePaymentsOf course.now (shared s.now) frame result }
 {
     let mut payments = Vec::new(alloc);
@@ -43,8 +44,9 @@ fn payments_shared(
     Ok(payments)
 }
 
-/// The flow table of an accepted contract with shared parts that stands on a day from 0 to 1,000,000, from that day up to
-/// `until`, as `flows_on` has it of the contract for which it stands. That contract is not made.
+/// The flow table of an accepted contract with shared parts that stands on a day from 0 to
+/// 1,000,000, from that day up to `until`, as `flows_on` has it of the contract for which it
+/// stands. That contract is not made.
 pub fn flows_shared(
     alloc: Global,
     decls: &Decls,
@@ -56,8 +58,9 @@ pub fn flows_shared(
     requires accepted { IsAccepted (declarations decls.now) (shared s.now.value) }
     requires admitted { IsAdmitted (declarations decls.now) fixings.now }
     requires first { pos 0 ≤ℤ frame }
-    requires last { frame ≤ℤ pos 1_000_000 }
-    ensures { AreFlows (declarations decls.now) (shared s.now.value) fixings.now frame until result }
+    requires last { frame ≤ℤ pos last_start }
+    ensures { AreFlows (declarations decls.now) (shared s.now.value) fixings.now frame until
+        result }
 {
     let course = Course {
         decls,

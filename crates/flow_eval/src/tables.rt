@@ -1,6 +1,7 @@
 //! The flow tables of contracts.
 
 ghost use Rattle.std.specs.Prelude.{◌≤ℤ◌, pos};
+ghost use Rattle.term_core.specs.Limits.{last_start};
 ghost use Rattle.term_core.specs.Declarations.{declarations};
 ghost use Rattle.term_core.specs.Terms.{contract};
 ghost use Rattle.term_core.specs.Environments.{IsAdmitted};
@@ -32,7 +33,7 @@ fn payments_on(
     requires accepted { IsAccepted (declarations course.now.decls.now) (contract c.now) }
     requires admitted { IsAdmitted (declarations course.now.decls.now) course.now.fixings.now }
     requires first { pos 0 ≤ℤ frame }
-    requires last { frame ≤ℤ pos 1_000_000 }
+    requires last { frame ≤ℤ pos last_start }
     ensures { ArePaymentsOf course.now (contract c.now) frame result }
 {
     let mut payments = Vec::new(alloc);
@@ -45,10 +46,11 @@ fn payments_on(
     Ok(payments)
 }
 
-/// The flow table of an accepted contract that stands on a day from 0 to 1,000,000, from that day up to `until`: a row for
-/// each day, asset and two parties between whom something is paid, in units of the portfolio's least decimal. It is the
-/// same whatever else will be observed. It lacks a place exactly where the contract reads one on these days that is not
-/// fixed, and then answers the first. An amount is at most 10^36.
+/// The flow table of an accepted contract that stands on a day from 0 to 1,000,000, from that day
+/// up to `until`: a row for each day, asset and two parties between whom something is paid, in
+/// units of the portfolio's least decimal. It is the same whatever else will be observed. It lacks
+/// a place exactly where the contract reads one on these days that is not fixed, and then answers
+/// the first. An amount is at most 10^36.
 pub fn flows_on(
     alloc: Global,
     decls: &Decls,
@@ -60,7 +62,7 @@ pub fn flows_on(
     requires accepted { IsAccepted (declarations decls.now) (contract c.now) }
     requires admitted { IsAdmitted (declarations decls.now) fixings.now }
     requires first { pos 0 ≤ℤ frame }
-    requires last { frame ≤ℤ pos 1_000_000 }
+    requires last { frame ≤ℤ pos last_start }
     ensures { AreFlows (declarations decls.now) (contract c.now) fixings.now frame until result }
 {
     let course = Course {
@@ -72,8 +74,8 @@ pub fn flows_on(
     Ok(netted(alloc, payments)?)
 }
 
-/// The flow table of an accepted contract that stands on the start of its portfolio, from that day up to `until`, as
-/// `flows_on` has it.
+/// The flow table of an accepted contract that stands on the start of its portfolio, from that day
+/// up to `until`, as `flows_on` has it.
 pub fn flows(
     alloc: Global,
     decls: &Decls,
@@ -83,7 +85,8 @@ pub fn flows(
 ) -> Result<FlowTable, FlowErr>
     requires accepted { IsAccepted (declarations decls.now) (contract c.now) }
     requires admitted { IsAdmitted (declarations decls.now) fixings.now }
-    ensures { AreFlows (declarations decls.now) (contract c.now) fixings.now (pos decls.now.start) until result }
+    ensures { AreFlows (declarations decls.now) (contract c.now) fixings.now
+        (pos decls.now.start) until result }
 {
     let start = decls.start as i64;
     flows_on(alloc, decls, c, fixings, start, until)

@@ -24,7 +24,8 @@ pub struct Course<'a> {
     pub until: i64,
 }
 
-/// Where a part of a contract stands: its day, and the decimals that the factors round it leave for its payments.
+/// Where a part of a contract stands: its day, and the decimals that the factors round it leave for
+/// its payments.
 #[derive(Clone, Copy, Debug, PartialEq, Eq)]
 pub struct Standing {
     pub day: i64,
@@ -141,8 +142,8 @@ pub fn gather_pay(
     Ok(())
 }
 
-/// Notes the payments of a contract up to the last day that counts, or answers the first place that it reads and that is
-/// not fixed.
+/// Notes the payments of a contract up to the last day that counts, or answers the first place that
+/// it reads and that is not fixed.
 #[cycle(gathering)]
 pub fn gather(
     course: &Course,

@@ -1,5 +1,5 @@
-//! Operators on literals. Most operators have none, and a function pays at entry for all its locals; so whether there are
-//! any is asked first.
+//! Operators on literals. Most operators have none, and a function pays at entry for all its
+//! locals; so whether there are any is asked first.
 
 ghost use Rattle.std.specs.Prelude.{◌≡◌, ◌&&◌};
 ghost use Rattle.term_core.specs.Terms.{expression};

@@ -1,5 +1,5 @@
-//! The simplifier: it takes away the redexes of a contract that ask for no frame, by turns over its parts and
-//! itself. And the laws of turns.
+//! The simplifier: it takes away the redexes of a contract that ask for no frame, by turns over its
+//! parts and itself. And the laws of turns.
 //!
 //! ```text
 //! let simpler = simplify(alloc, &portfolio.decls, &contr)?;

@@ -6,8 +6,8 @@ ghost use Rattle.term_core.specs.Values.{kind_or};
 
 use term_core::{Kind, Scope, held_at};
 
-/// The kind of the name that is bound `back` binders further out than the innermost; a name without a binder, which no
-/// accepted term has, is a truth value.
+/// The kind of the name that is bound `back` binders further out than the innermost; a name without
+/// a binder, which no accepted term has, is a truth value.
 pub fn kind_at(names: &Scope<Kind>, back: u32) -> Kind
     ensures { result ≡ kind_or (slice_get (held_in names.now) back) }
 {
