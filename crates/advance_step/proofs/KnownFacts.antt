@@ -1,6 +1,8 @@
--- Where the flows of a contract are known, no place that it reads on the days gone by is missing, and what is left of it
--- is what is asked.
-use Rattle.std.proofs.Common.{◌≡◌, ℕ, zero, suc, ◌<◌, ℤ, pos, ◌+ℤ◌, ◌-ℤ◌, ◌+◌, ◌≤◌, true, false, Bool, List, [], ◌∷◌, Some, None, Result, Ok, Err, IfOk, IfErr, if◌then◌else◌, refl, ap, sym, subst, ◌∙◌, arith, IsTrue}
+-- Where the flows of a contract are known, no place that it reads on the days gone by is missing,
+-- and what is left of it is what is asked.
+use Rattle.std.proofs.Common.{◌≡◌, ℕ, zero, suc, ◌<◌, ℤ, pos, ◌+ℤ◌, ◌-ℤ◌, ◌+◌, ◌≤◌, true, false}
+use Rattle.std.proofs.Common.{Bool, List, [], ◌∷◌, Some, None, Result, Ok, Err, if◌then◌else◌, refl}
+use Rattle.std.proofs.Common.{ap, sym, subst, ◌∙◌, arith, IsTrue}
 use Rattle.std.specs.List.{All, Contains}
 use Rattle.std.proofs.lemmas.Int.{ints}
 use Rattle.std.proofs.lemmas.List.Elements.{All-cons, All-contains}
@@ -10,10 +12,13 @@ use Rattle.term_core.specs.Declarations.{Declarations}
 use Rattle.term_core.specs.declared.shared.SharedContr.{SharedContr}
 use Rattle.term_core.specs.SharedTerms.{shared}
 use Rattle.term_core.specs.Terms.{Contract, Zero}
-use Rattle.term_core.specs.Environments.{Environment, Place, IsAdmitted}
+use Rattle.term_core.specs.Environments.{Environment, Place}
 use Rattle.term_core.specs.Acceptance.{IsAccepted}
 use Rattle.term_core.specs.Reads.{first_unfixed, is_fixed, reads_of_contract}
-use Rattle.term_core.specs.Redexes.{IsReduced, EmptyLeft, EmptyRight, ScaledNothing, ZeroFactor, NoDelay, TwoDelays, DelayedNothing, UnusedName, LiteralName, NothingEither, DecidedTest, LiteralOperands, DecidedChoice, FixedPlace, NoSteps, FixedSteps}
+use Rattle.term_core.specs.Redexes.{IsReduced, EmptyLeft, EmptyRight, ScaledNothing, ZeroFactor}
+use Rattle.term_core.specs.Redexes.{NoDelay, TwoDelays, DelayedNothing, UnusedName, LiteralName}
+use Rattle.term_core.specs.Redexes.{NothingEither, DecidedTest, LiteralOperands, DecidedChoice}
+use Rattle.term_core.specs.Redexes.{FixedPlace, NoSteps, FixedSteps}
 use Rattle.term_core.specs.Sizes.{reach, past_of_contract}
 use Rattle.term_core.specs.Smallness.{is_small}
 use Rattle.term_core.specs.WellFormed.{IsClosed, HasOnlyNumbers}
@@ -26,8 +31,8 @@ use Rattle.flow_eval.specs.declared.faults.FlowErr.{FlowErr}
 use Rattle.flow_eval.specs.declared.faults.FlowErr.TheVariants.{Missing, NoMemory}
 use Rattle.advance_step.specs.WhatIsLeft.{left_of}
 use Rattle.advance_step.specs.Advancing.{IsResidual}
-use Rattle.advance_step.specs.CarryingWalk.{IsLeftEverywhere, NamesUnfixedRead}
-use Rattle.advance_step.specs.Residual.{IsLeftAfter, ReadsAreFixed}
+use Rattle.advance_step.specs.CarryingWalk.{AnswersLeft, IsLeftEverywhere, NamesUnfixedRead}
+use Rattle.advance_step.specs.Residual.{AnswersLeftAfter, IsLeftAfter, ReadsAreFixed}
 use Rattle.advance_step.proofs.CarryFacts.{left_carries}
 use Rattle.advance_step.proofs.LeftAcceptedFacts.{left_accepted}
 use Rattle.advance_step.proofs.LeftForms.{left_formed}
@@ -37,43 +42,62 @@ use Rattle.specialise.proofs.CallFacts.{shared_numbers}
 
 -- ---- nothing is missing
 
-step_fixed : (F : Environment) (x : Place) (xs : List Place) (b : Bool) → is_fixed F x ≡ b → (first_unfixed F xs ≡ None → All (λ (q : Place). is_fixed F q ≡ true) xs) → (if b then first_unfixed F xs else Some x) ≡ None → All (λ (q : Place). is_fixed F q ≡ true) (x ∷ xs)
+step_fixed : (F : Environment) (x : Place) (xs : List Place) (b : Bool) → is_fixed F x ≡ b
+    → (first_unfixed F xs ≡ None → All (λ (q : Place). is_fixed F q ≡ true) xs)
+    → (if b then first_unfixed F xs else Some x) ≡ None
+    → All (λ (q : Place). is_fixed F q ≡ true) (x ∷ xs)
 step_fixed F x xs true is h e = All-cons (λ (q : Place). is_fixed F q ≡ true) x xs is (h e)
 step_fixed F x xs false is h e = absurd (cc)
 
-all_fixed : (F : Environment) (xs : List Place) → first_unfixed F xs ≡ None → All (λ (q : Place). is_fixed F q ≡ true) xs
+all_fixed : (F : Environment) (xs : List Place) → first_unfixed F xs ≡ None
+    → All (λ (q : Place). is_fixed F q ≡ true) xs
 all_fixed F [] e = λ k x l. absurd (omega arith)
 all_fixed F (x ∷ xs) e = step_fixed F x xs (is_fixed F x) refl (all_fixed F xs) e
 
-none_missing : (F : Environment) (xs : List Place) (q : Place) → first_unfixed F xs ≡ None → Contains xs q → is_fixed F q ≡ false → ⊥
+none_missing : (F : Environment) (xs : List Place) (q : Place) → first_unfixed F xs ≡ None
+    → Contains xs q → is_fixed F q ≡ false → ⊥
 none_missing F xs q e h u =
-    let fixed : is_fixed F q ≡ true = All-contains (λ (y : Place). is_fixed F y ≡ true) xs q (all_fixed F xs e) h in
+    let fixed : is_fixed F q ≡ true = All-contains (λ (y : Place). is_fixed F y ≡ true) xs q
+    (all_fixed F xs e) h in
     cc
 
 -- the days from the first to the last, counted
-counted : (d : Declarations) (c : Contract) (F : Environment) (f : ℤ) (j : ℕ) → reads_until d c F f (f +ℤ pos j) ≡ reads_of_contract d c [] [] F f (pos 0) (pos j)
+counted : (d : Declarations) (c : Contract) (F : Environment) (f : ℤ) (j : ℕ)
+    → reads_until d c F f (f +ℤ pos j) ≡ reads_of_contract d c [] [] F f (pos 0) (pos j)
 counted d c F f j =
     let days : (f +ℤ pos j) -ℤ f ≡ pos j = omega (arith, ints) in
     ap (λ (b : ℤ). reads_of_contract d c [] [] F f (pos 0) b) days
 
-only_memory : (d : Declarations) (F : Environment) (c : Contract) (f : ℤ) (j : ℕ) → ReadsAreFixed d c F f (f +ℤ pos j) → (e : FlowErr) → NamesUnfixedRead d F c f j e → e ≡ lacks_memory
+only_memory : (d : Declarations) (F : Environment) (c : Contract) (f : ℤ) (j : ℕ)
+    → ReadsAreFixed d c F f (f +ℤ pos j) → (e : FlowErr) → NamesUnfixedRead d F c f j e
+    → e ≡ lacks_memory
 only_memory d F c f j known NoMemory h = refl
 only_memory d F c f j known (Missing l t) h =
-    absurd (none_missing F (reads_of_contract d c [] [] F f (pos 0) (pos j)) (record { label = l; day = t }) (ap (first_unfixed F) (sym (counted d c F f j)) ∙ known) h.0 h.1)
+    absurd (none_missing F (reads_of_contract d c [] [] F f (pos 0) (pos j))
+    (record { label = l; day = t }) (ap (first_unfixed F) (sym (counted d c F f j)) ∙ known) h.0
+    h.1)
 
 -- ---- what is left
 
-near_enough : (d : Declarations) (c : Contract) → IsAccepted d c → reach c + past_of_contract c ≤ 1_000_000
-near_enough d c h = (contract_limits c (whole_passes (λ s. IsTrue (is_small s)) c [] 0 h.sizes)).both
+near_enough : (d : Declarations) (c : Contract) → IsAccepted d c
+    → reach c + past_of_contract c ≤ 1_000_000
+near_enough d c h = (contract_limits c
+    (whole_passes (λ s. IsTrue (is_small s)) c [] 0 h.sizes)).both
 
-left_after : (d : Declarations) (F : Environment) (c rest : Contract) (f : ℤ) (j : ℕ) → KeepsLimits d → IsAdmitted d F → IsAccepted d c → HasOnlyNumbers c → IsLeftEverywhere d F c f j rest → IsLeftAfter d F f (suc j) c rest
-left_after d F c rest f j limits a h n is =
+left_after : (d : Declarations) (F : Environment) (c rest : Contract) (f : ℤ) (j : ℕ)
+    → KeepsLimits d
+    → IsAccepted d c → HasOnlyNumbers c → IsLeftEverywhere d F c f j rest
+    → IsLeftAfter d F f (suc j) c rest
+left_after d F c rest f j limits h n is =
     let here : rest ≡ left_of d c [] F f j = is F (λ q v e. e) in
     record {
-      accepted = subst (λ (x : Contract). IsAccepted d x) (sym here) (left_accepted d c F f j limits h);
+      accepted = subst (λ (x : Contract). IsAccepted d x) (sym here)
+          (left_accepted d c F f j limits h);
       carries = left_carries d c f F j rest (right_scale d c h) (λ env b x. is env x);
       gone = λ past. here ∙ gone d c [] F f j (omega (arith, past));
-      closed = λ w. subst (λ (x : Contract). IsClosed d x) (sym here) (left_formed d c [] F f j 0 (near_enough d c h) w n).0;
+      closed = λ w.
+          subst (λ (x : Contract). IsClosed d x) (sym here)
+          (left_formed d c [] F f j 0 (near_enough d c h) w n).0;
     }
 
 -- nothing has no redex
@@ -96,10 +120,14 @@ nothing_reduced d F f NoSteps = (refl, tt)
 nothing_reduced d F f FixedSteps = (refl, tt)
 
 -- past the reach nothing is the residual
-pub gone_residual : (d : Declarations) (F : Environment) (c : Contract) (f : ℤ) (n : ℕ) → KeepsLimits d → IsAdmitted d F → IsAccepted d c → IsClosed d c → HasOnlyNumbers c → reach c < n → IsResidual d F f n c Zero
-gone_residual d F c f zero limits a h w numbers past = absurd (omega arith)
-gone_residual d F c f (suc j) limits a h w numbers past =
-    let left = left_after d F c Zero f j limits a h numbers (λ env ext. sym (gone d c [] env f j (omega (arith, past)))) in
+pub gone_residual : (d : Declarations) (F : Environment) (c : Contract) (f : ℤ) (n : ℕ)
+    → KeepsLimits d
+    → IsAccepted d c → IsClosed d c → HasOnlyNumbers c → reach c < n → IsResidual d F f n c Zero
+gone_residual d F c f zero limits h w numbers past = absurd (omega arith)
+gone_residual d F c f (suc j) limits h w numbers past =
+    let none : IsLeftEverywhere d F c f j Zero =
+    λ env ext. sym (gone d c [] env f j (omega (arith, past))) in
+    let left = left_after d F c Zero f j limits h numbers none in
     record {
       accepted = left.accepted;
       carries = left.carries;
@@ -112,14 +140,12 @@ gone_residual d F c f (suc j) limits a h w numbers past =
 
 -- ---- the answer
 
-pub known_rest : {E : Type 0} (d : Declarations) (F : Environment) (s : SharedContr) (f : ℤ) (j : ℕ) (o : Result (Rc SharedContr Global) E) → KeepsLimits d → IsAdmitted d F → IsAccepted d (shared s)
-    → IfOk o (λ r. IsLeftEverywhere d F (shared s) f j (shared r.value)) → IfOk o (λ r. IsLeftAfter d F f (j + 1) (shared s) (shared r.value))
-known_rest d F s f j (Err e) limits a h p = tt
-known_rest d F s f j (Ok r) limits a h p =
+pub known_answers : (d : Declarations) (F : Environment) (s : SharedContr) (f : ℤ) (j : ℕ)
+    (o : Result (Rc SharedContr Global) FlowErr) → KeepsLimits d → IsAccepted d (shared s)
+    → ReadsAreFixed d (shared s) F f (f +ℤ pos j) → AnswersLeft d F (shared s) f j o
+    → AnswersLeftAfter d F f (j + 1) (shared s) o
+known_answers d F s f j (Ok r) limits a known h =
     let days : suc j ≡ j + 1 = omega arith in
-    subst (λ (n : ℕ). IsLeftAfter d F f n (shared s) (shared r.value)) days (left_after d F (shared s) (shared r.value) f j limits a h (shared_numbers s) p)
-
-pub known_faults : {A : Type 0} (d : Declarations) (F : Environment) (c : Contract) (f : ℤ) (j : ℕ) (o : Result A FlowErr) → ReadsAreFixed d c F f (f +ℤ pos j)
-    → IfErr o (λ e. NamesUnfixedRead d F c f j e) → IfErr o (λ e. e ≡ lacks_memory)
-known_faults d F c f j (Ok r) known p = tt
-known_faults d F c f j (Err e) known p = only_memory d F c f j known e p
+    let rest = left_after d F (shared s) (shared r.value) f j limits a (shared_numbers s) h.0 in
+    (subst (λ (n : ℕ). IsLeftAfter d F f n (shared s) (shared r.value)) days rest, h.1)
+known_answers d F s f j (Err e) limits a known h = only_memory d F (shared s) f j known e h

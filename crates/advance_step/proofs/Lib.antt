@@ -18,6 +18,8 @@ pub mod EntryFacts
 pub mod CarryReady
 pub mod TestFacts
 pub mod WalkFacts
+pub mod RestFacts
 pub mod RoundFacts
 pub mod KnownFacts
+pub mod GoneFacts
 pub mod ResidualFacts

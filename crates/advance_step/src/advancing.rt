@@ -1,14 +1,16 @@
 //! Advancing a contract: what it pays on the days gone by, and what is left of it.
 
-ghost use Rattle.std.specs.Prelude.{◌≡◌, ◌≤◌, ◌+◌, ◌^◌, pos, unsigned_abs};
+ghost use Rattle.std.specs.Prelude.{◌≤◌, ◌+◌, pos};
 ghost use Rattle.term_core.specs.Declarations.{declarations};
+ghost use Rattle.term_core.specs.Limits.{last_start};
 ghost use Rattle.term_core.specs.Terms.{contract};
 ghost use Rattle.term_core.specs.Acceptance.{IsAccepted};
 ghost use Rattle.term_core.specs.Environments.{IsAdmitted};
 ghost use Rattle.term_core.specs.WellFormed.{IsClosed, HasOnlyNumbers};
-ghost use Rattle.advance_step.specs.Advancing.{Advances, day_before};
+ghost use Rattle.advance_step.specs.Advancing.{Advances};
 
 use crate::residual::residual_of;
+use crate::span::DaysGone;
 use fixing_files::Fixings;
 use flow_eval::{FlowErr, FlowTable, flows};
 use std::alloc::Global;
@@ -21,18 +23,11 @@ pub struct Advanced {
     pub rest: Contr,
 }
 
-// The day before the one that is so many days after the first.
-fn day_before(first: i64, days: u32) -> i64
-    requires { unsigned_abs first ≤ 10 ^ 11 }
-    ensures { result ≡ day_before first days }
-{
-    first + days as i64 - 1
-}
-
-/// What an accepted contract that stands on the start of its portfolio pays on the next `days` days, and what is left of it
-/// then: a contract without redexes that stands on the day behind them, up to day 1,000,000, and carries the rest. It lacks
-/// a place exactly where the contract reads one on the days gone by that is not fixed, and then answers the first. After
-/// the reduction of contracts by Bahr, Berthold and Elsman; any number of days is gone through in one walk.
+/// What an accepted contract that stands on the start of its portfolio pays on the next `days`
+/// days, and what is left of it then: a contract without redexes that stands on the day behind
+/// them, up to day 1,000,000, and carries the rest. It lacks a place exactly where the contract
+/// reads one on the days gone by that is not fixed, and then answers the first. After the reduction
+/// of contracts by Bahr, Berthold and Elsman; any number of days is gone through in one walk.
 pub fn advance(
     alloc: Global,
     decls: &Decls,
@@ -44,11 +39,13 @@ pub fn advance(
     requires closed { IsClosed (declarations decls.now) (contract c.now) }
     requires numbers { HasOnlyNumbers (contract c.now) }
     requires admitted { IsAdmitted (declarations decls.now) fixings.now }
-    requires last { decls.now.start + days ≤ 1_000_000 }
-    ensures { Advances (declarations decls.now) (contract c.now) fixings.now (pos decls.now.start) days result }
+    requires last { decls.now.start + days ≤ last_start }
+    ensures { Advances (declarations decls.now) (contract c.now) fixings.now
+        (pos decls.now.start) days result }
 {
-    let start = decls.start as i64;
-    let due = flows(alloc, decls, c, fixings, day_before(start, days))?;
-    let rest = residual_of(alloc, decls, c, fixings, start, days)?;
+    let from = decls.start as i64;
+    let gone = DaysGone { from, days };
+    let due = flows(alloc, decls, c, fixings, gone.last_day())?;
+    let rest = residual_of(alloc, decls, c, fixings, gone)?;
     Ok(Advanced { due, rest })
 }

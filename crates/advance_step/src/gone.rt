@@ -6,8 +6,8 @@ ghost use Rattle.term_core.specs.Sizes.{reach};
 
 use term_core::Contr;
 
-/// Whether each part of a contract stands on one of the next `days` days, whatever its tests come to. It looks no further
-/// than to the first part that stands later.
+/// Whether each part of a contract stands on one of the next `days` days, whatever its tests come
+/// to. It looks no further than to the first part that stands later.
 pub fn is_gone(c: &Contr, days: u32) -> bool
     ensures { result ≡ true → reach (contract c.now) < days }
 {

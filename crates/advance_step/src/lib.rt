@@ -1,12 +1,13 @@
-//! Contracts that are advanced over days: what they pay on the days gone by and what is left of them, with
-//! the laws of it.
+//! Contracts that are advanced over days: what they pay on the days gone by and what is left of
+//! them, with the laws of it.
 //!
 //! ```text
-//! let advanced = advance(alloc, &portfolio.decls, &contr, &fixings, days)?; // its due flows, its rest
+//! let advanced = advance(alloc, &portfolio.decls, &contr, &fixings, days)?;
+//! // its due flows, its rest
 //! ```
 //!
-//! Promised: `advance` answers the flows that are due and a contract without redexes that carries the first
-//! one on, or the first read that is not fixed (`Advances`).
+//! Promised: `advance` answers the flows that are due and a contract without redexes that carries
+//! the first one on, or the first read that is not fixed (`Advances`).
 //! Only tested: which of several such contracts it answers, and that it does where there is memory
 //! (`contract_cli/src/advance_tests.rt`).
 #![tactic(auto)]
@@ -20,6 +21,7 @@ pub mod laws;
 mod parts;
 mod reducing;
 mod residual;
+mod span;
 mod stepping;
 mod walk;
 

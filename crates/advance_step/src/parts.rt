@@ -1,6 +1,7 @@
 //! What is left of parts, put together. A part that is not touched is handed on.
 
-ghost use Rattle.std.specs.Prelude.{◌≡◌, ◌≤◌, ◌≤ℤ◌, ◌-ℤ◌, pos, negsuc, IfOk};
+ghost use Rattle.std.specs.Prelude.{◌≡◌, ◌≤◌, ◌≤ℤ◌, ◌*◌, ◌-ℤ◌, pos, negsuc, IfOk};
+ghost use Rattle.term_core.specs.Limits.{last_start};
 ghost use Rattle.term_core.specs.Terms.{expression, Zero, Expression};
 ghost use Rattle.term_core.specs.Shifts.{shifted};
 ghost use Rattle.term_core.specs.SharedTerms.{shared, HasOffsets, StoresOffsets};
@@ -23,7 +24,8 @@ pub fn both_left(
 ) -> Result<Rc<SharedContr>, NoMemory>
     requires left { StoresOffsets left.value }
     requires right { StoresOffsets right.value }
-    ensures tree { IfOk result (λ r. shared r.value ≡ model.both_left (shared left.value) (shared right.value)) }
+    ensures tree { IfOk result (λ r.
+        shared r.value ≡ model.both_left (shared left.value) (shared right.value)) }
     ensures offsets { IfOk result (λ r. StoresOffsets r.value) }
 {
     if is_nothing(&left) {
@@ -38,17 +40,18 @@ pub fn both_left(
 // A number of days less.
 fn back(moved: i32, days: u32) -> i32
     requires low { negsuc 1_999_999 ≤ℤ moved }
-    requires few { days ≤ 1_200_001 }
+    requires few { days ≤ 2_000_001 }
     ensures { result ≡ moved -ℤ pos days }
 {
     moved - days as i32
 }
 
-/// By how many days an expression is moved that is read `last + 1` days sooner. Where it reads nothing, every number of days
-/// stands for the same.
+/// By how many days an expression is moved that is read `last + 1` days sooner. Where it reads
+/// nothing, every number of days stands for the same.
 pub fn sooner(moved: i32, last: u32) -> i32
-    requires { last ≤ 1_200_000 }
-    ensures { (e : Expression) → CanMove moved e → shifted result e ≡ shifted (negsuc last) (shifted moved e) }
+    requires { last ≤ 2 * last_start }
+    ensures { (e : Expression) → CanMove moved e
+        → shifted result e ≡ shifted (negsuc last) (shifted moved e) }
 {
     if moved < -2_000_000 {
         moved
@@ -65,11 +68,13 @@ pub fn scale_left(
     last: u32,
     body: Rc<SharedContr>,
 ) -> Result<Rc<SharedContr>, NoMemory>
-    requires last { last ≤ 1_200_000 }
+    requires last { last ≤ 2 * last_start }
     requires factor { CanMove moved (expression factor.now.value) }
     requires body { StoresOffsets body.value }
     ensures tree { IfOk result (λ r.
-        shared r.value ≡ model.scale_left (shifted (negsuc last) (shifted moved (expression factor.now.value))) (shared body.value)) }
+        shared r.value ≡ model.scale_left
+        (shifted (negsuc last) (shifted moved (expression factor.now.value)))
+        (shared body.value)) }
     ensures offsets { IfOk result (λ r. StoresOffsets r.value) }
 {
     if is_nothing(&body) {
@@ -95,11 +100,13 @@ pub fn let_left(
     last: u32,
     body: Rc<SharedContr>,
 ) -> Result<Rc<SharedContr>, NoMemory>
-    requires last { last ≤ 1_200_000 }
+    requires last { last ≤ 2 * last_start }
     requires bound { CanMove moved (expression bound.now.value) }
     requires body { StoresOffsets body.value }
     ensures tree { IfOk result (λ r.
-        shared r.value ≡ model.let_left (shifted (negsuc last) (shifted moved (expression bound.now.value))) (shared body.value)) }
+        shared r.value ≡ model.let_left
+        (shifted (negsuc last) (shifted moved (expression bound.now.value)))
+        (shared body.value)) }
     ensures offsets { IfOk result (λ r. StoresOffsets r.value) }
 {
     if is_nothing(&body) {

@@ -1,11 +1,11 @@
 //! Reducing a contract that stands on a day.
 
-ghost use Rattle.std.specs.Prelude.{◌≤ℤ◌, pos, IfOk};
+ghost use Rattle.std.specs.Prelude.{IfOk};
 ghost use Rattle.term_core.specs.Declarations.{declarations};
 ghost use Rattle.term_core.specs.Environments.{IsAdmitted};
 ghost use Rattle.term_core.specs.Acceptance.{IsAccepted};
 ghost use Rattle.term_core.specs.SharedTerms.{shared, StoresOffsets};
-ghost use Rattle.advance_step.specs.Residual.{IsReducedFrom};
+ghost use Rattle.advance_step.specs.Residual.{IsReducedFrom, MayStandOn};
 
 use decimal::NoMemory;
 use fixing_files::Fixings;
@@ -15,8 +15,9 @@ use std::alloc::Global;
 use std::rc::Rc;
 use term_core::{Decls, SharedContr};
 
-/// What an accepted contract that stands on a day is reduced to: what the fixings tell is put in, and then a turn of the
-/// simplifier is taken, again and again, until a turn changes nothing. Each round makes the contract smaller.
+/// What an accepted contract that stands on a day is reduced to: what the fixings tell is put in,
+/// and then a turn of the simplifier is taken, again and again, until a turn changes nothing. Each
+/// round makes the contract smaller.
 pub fn reduce(
     alloc: Global,
     decls: &Decls,
@@ -27,9 +28,10 @@ pub fn reduce(
     requires accepted { IsAccepted (declarations decls.now) (shared s.now.value) }
     requires offsets { StoresOffsets s.now.value }
     requires admitted { IsAdmitted (declarations decls.now) fixings.now }
-    requires first { pos 0 ≤ℤ day }
-    requires last { day ≤ℤ pos 1_000_000 }
-    ensures reduced { IfOk result (λ r. IsReducedFrom (declarations decls.now) fixings.now day (shared s.now.value) (shared r.value)) }
+    requires day { MayStandOn day }
+    ensures reduced { IfOk result (λ r.
+        IsReducedFrom (declarations decls.now) fixings.now day (shared s.now.value)
+        (shared r.value)) }
     ensures offsets { IfOk result (λ r. StoresOffsets r.value) }
 {
     let special = specialise_shared(alloc, decls, s, fixings, day)?;

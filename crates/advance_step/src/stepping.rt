@@ -1,16 +1,17 @@
 //! A step from a day to the next.
 
-ghost use Rattle.std.specs.Prelude.{◌≤ℤ◌, pos, IfOk, IfErr};
 ghost use Rattle.term_core.specs.Declarations.{declarations};
 ghost use Rattle.term_core.specs.Terms.{contract};
 ghost use Rattle.term_core.specs.Environments.{IsAdmitted};
 ghost use Rattle.term_core.specs.Acceptance.{IsAccepted};
 ghost use Rattle.term_core.specs.SharedTerms.{shared, StoresOffsets};
 ghost use Rattle.term_core.specs.WellFormed.{IsClosed, HasOnlyNumbers};
-ghost use Rattle.advance_step.specs.Advancing.{IsStep, LacksOnDay};
+ghost use Rattle.advance_step.specs.Advancing.{AnswersSharedStep, AnswersStep};
+ghost use Rattle.advance_step.specs.Residual.{MayStandOn};
 
 use crate::advancing::Advanced;
 use crate::known::carry_known;
+use crate::span::Span;
 use fixing_files::Fixings;
 use flow_eval::{FlowErr, FlowTable, flows_shared};
 use std::alloc::Global;
@@ -24,9 +25,10 @@ pub struct SharedAdvanced {
     pub rest: Rc<SharedContr>,
 }
 
-/// What an accepted contract that stands on a day from 0 to 1,000,000 pays on that day, and the contract of the next day. It
-/// lacks a place exactly where the contract reads one on the day that is not fixed, and then answers the first. Parts that
-/// stand later are shared with the contract. After the reduction of contracts by Bahr, Berthold and Elsman.
+/// What an accepted contract that stands on a day from 0 to 1,000,000 pays on that day, and the
+/// contract of the next day. It lacks a place exactly where the contract reads one on the day that
+/// is not fixed, and then answers the first. Parts that stand later are shared with the contract.
+/// After the reduction of contracts by Bahr, Berthold and Elsman.
 pub fn step_shared(
     alloc: Global,
     decls: &Decls,
@@ -37,20 +39,17 @@ pub fn step_shared(
     requires accepted { IsAccepted (declarations decls.now) (shared s.now.value) }
     requires offsets { StoresOffsets s.now.value }
     requires admitted { IsAdmitted (declarations decls.now) fixings.now }
-    requires first { pos 0 ≤ℤ day }
-    requires last { day ≤ℤ pos 1_000_000 }
-    ensures step { IfOk result (λ a.
-        IsStep (declarations decls.now) fixings.now day (shared s.now.value) a.due.rows.items (shared a.rest.value)) }
-    ensures offsets { IfOk result (λ a. StoresOffsets a.rest.value) }
-    ensures missing { IfErr result (λ e. LacksOnDay (declarations decls.now) fixings.now day (shared s.now.value) e) }
+    requires day { MayStandOn day }
+    ensures { AnswersSharedStep (declarations decls.now) fixings.now
+        day (shared s.now.value) result }
 {
     let due = flows_shared(alloc, decls, s, fixings, day, day)?;
-    let rest = carry_known(alloc, decls, s, fixings, day, 0)?;
+    let rest = carry_known(alloc, decls, s, fixings, Span { day, last: 0 })?;
     Ok(SharedAdvanced { due, rest })
 }
 
-/// What an accepted contract that stands on a day from 0 to 1,000,000 pays on that day, and the contract of the next day, as
-/// `step_shared` has it.
+/// What an accepted contract that stands on a day from 0 to 1,000,000 pays on that day, and the
+/// contract of the next day, as `step_shared` has it.
 pub fn step(
     alloc: Global,
     decls: &Decls,
@@ -62,12 +61,8 @@ pub fn step(
     requires closed { IsClosed (declarations decls.now) (contract c.now) }
     requires numbers { HasOnlyNumbers (contract c.now) }
     requires admitted { IsAdmitted (declarations decls.now) fixings.now }
-    requires first { pos 0 ≤ℤ day }
-    requires last { day ≤ℤ pos 1_000_000 }
-    ensures step { IfOk result (λ a. IsStep (declarations decls.now) fixings.now day (contract c.now) a.due.rows.items (contract a.rest)) }
-    ensures closed { IfOk result (λ a. IsClosed (declarations decls.now) (contract a.rest)) }
-    ensures numbers { IfOk result (λ a. HasOnlyNumbers (contract a.rest)) }
-    ensures missing { IfErr result (λ e. LacksOnDay (declarations decls.now) fixings.now day (contract c.now) e) }
+    requires day { MayStandOn day }
+    ensures { AnswersStep (declarations decls.now) fixings.now day (contract c.now) result }
 {
     let s = share(alloc, c)?;
     let SharedAdvanced { due, rest } = step_shared(alloc, decls, &s, fixings, day)?;

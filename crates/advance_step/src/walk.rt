@@ -1,25 +1,23 @@
-//! The walk that carries a contract with shared parts over any number of days: each node that stands up to the last of them
-//! is met once, and what stands later is handed on as it is.
+//! The walk that carries a contract with shared parts over any number of days: each node that
+//! stands up to the last of them is met once, and what stands later is handed on as it is.
 
-ghost use Rattle.std.specs.Prelude.{◌≡◌, ◌≤◌, ◌+◌, ◌^◌, max, unsigned_abs, IfOk, IfErr, List};
-ghost use Rattle.term_core.specs.Declarations.{declarations};
+ghost use Rattle.std.specs.Prelude.{◌≡◌, IfOk, IfErr};
 ghost use Rattle.term_core.specs.Terms.{expression, Zero};
-ghost use Rattle.term_core.specs.Environments.{IsAdmitted};
-ghost use Rattle.term_core.specs.Sizes.{height_of_contract};
-ghost use Rattle.term_core.specs.SharedTerms.{shared, HasOffsets, StoresOffsets};
-ghost use Rattle.expr_eval.specs.declared.scratch.Binding.{Binding};
-ghost use Rattle.expr_eval.specs.Evaluable.{MayEvaluate};
+ghost use Rattle.term_core.specs.SharedTerms.{shared, StoresOffsets};
 ghost use Rattle.flow_eval.specs.Faults.{lacks_memory};
-ghost use Rattle.rewriting.specs.RebuildingContracts.{after_over, both_over, let_over, scale_over, within_over};
-ghost use Rattle.advance_step.specs.CarryingWalk.{CanCarry, CanMove, IsLeftOn, LacksReadOn, WithEntry};
+ghost use Rattle.rewriting.specs.RebuildingContracts.{after_over, both_over, let_over, scale_over};
+ghost use Rattle.rewriting.specs.RebuildingContracts.{within_over};
+ghost use Rattle.advance_step.specs.CarryingWalk.{AnswersRest, CanMove, MayBind, MayCarry};
+ghost use Rattle.advance_step.specs.CarryingWalk.{MayCarryUnder, MayTest};
 
-use crate::course::{Course, days_tried, entry_for};
+use crate::course::{Course, entry_for, first_day};
 use crate::parts::{both_left, delayed, let_left, nothing, scale_left, still_waiting};
-use expr_eval::{Scratch, first_true};
+use crate::span::Span;
+use expr_eval::Scratch;
 use flow_eval::FlowErr;
 use std::alloc::Global;
 use std::rc::Rc;
-use term_core::{Expr, SharedContr, days_later};
+use term_core::{Expr, SharedContr};
 
 // What is left of a payment, and of nothing.
 fn nothing_left(alloc: Global) -> Result<Rc<SharedContr>, FlowErr>
@@ -30,50 +28,40 @@ fn nothing_left(alloc: Global) -> Result<Rc<SharedContr>, FlowErr>
     Ok(nothing(alloc)?)
 }
 
-/// What is left of a contract that stands on `day`, after `last + 1` days.
+/// What is left of a contract after the days that are gone by for it.
 #[cycle(carrying)]
 pub fn carry_in(
     alloc: Global,
     course: &Course,
     scratch: &mut Scratch,
+    span: Span,
     s: &SharedContr,
-    day: i64,
-    last: u32,
 ) -> Result<Rc<SharedContr>, FlowErr>
-    requires ready { CanCarry (declarations course.now.decls.now) s.now scratch.old.entries }
-    requires offsets { StoresOffsets s.now }
-    requires admitted { IsAdmitted (declarations course.now.decls.now) course.now.fixings.now }
-    requires spare { height_of_contract (shared s.now) ≤ scratch.old.spare }
-    requires days { unsigned_abs day + last ≤ 10 ^ 11 }
-    requires last { last ≤ 1_200_000 }
-    ensures rest { IfOk result (λ r. IsLeftOn course.now scratch.old.entries day last (shared s.now) (shared r.value)) }
-    ensures offsets { IfOk result (λ r. StoresOffsets r.value) }
-    ensures missing { IfErr result (λ e. LacksReadOn course.now scratch.old.entries day last (shared s.now) e) }
+    requires ready { MayCarry course.now s.now scratch.old }
+    ensures answer { AnswersRest course.now (shared s.now) scratch.old span result }
     ensures same { scratch.new ≡ scratch.old }
 {
     match s {
         SharedContr::Zero => nothing_left(alloc),
         SharedContr::Pay { .. } => nothing_left(alloc),
-        SharedContr::Both { left, right } => {
-            carry_both(alloc, course, scratch, left, right, day, last)
-        }
+        SharedContr::Both { left, right } => carry_both(alloc, course, scratch, span, left, right),
         SharedContr::Scale {
             factor,
             moved,
             body,
-        } => carry_scaled(alloc, course, scratch, factor, *moved, body, day, last),
+        } => carry_scaled(alloc, course, scratch, span, factor, *moved, body),
         SharedContr::After { days, body } => {
-            carry_after(alloc, course, scratch, *days, body, day, last)
+            carry_after(alloc, course, scratch, span, *days, body)
         }
         SharedContr::Let { bound, moved, body } => {
-            carry_bound(alloc, course, scratch, bound, *moved, body, day, last)
+            carry_bound(alloc, course, scratch, span, bound, *moved, body)
         }
         SharedContr::Within {
             test,
             days,
             hit,
             miss,
-        } => carry_within(alloc, course, scratch, test, *days, hit, miss, day, last),
+        } => carry_within(alloc, course, scratch, span, test, *days, hit, miss),
     }
 }
 
@@ -83,27 +71,17 @@ fn carry_both(
     alloc: Global,
     course: &Course,
     scratch: &mut Scratch,
+    span: Span,
     left: &Rc<SharedContr>,
     right: &Rc<SharedContr>,
-    day: i64,
-    last: u32,
 ) -> Result<Rc<SharedContr>, FlowErr>
-    requires left { CanCarry (declarations course.now.decls.now) left.now.value scratch.old.entries }
-    requires right { CanCarry (declarations course.now.decls.now) right.now.value scratch.old.entries }
-    requires left_stored { StoresOffsets left.now.value }
-    requires right_stored { StoresOffsets right.now.value }
-    requires admitted { IsAdmitted (declarations course.now.decls.now) course.now.fixings.now }
-    requires spare { max (height_of_contract (shared left.now.value)) (height_of_contract (shared right.now.value)) ≤ scratch.old.spare }
-    requires days { unsigned_abs day + last ≤ 10 ^ 11 }
-    requires last { last ≤ 1_200_000 }
-    ensures rest { IfOk result (λ r.
-        IsLeftOn course.now scratch.old.entries day last (both_over left.now right.now) (shared r.value)) }
-    ensures offsets { IfOk result (λ r. StoresOffsets r.value) }
-    ensures missing { IfErr result (λ e. LacksReadOn course.now scratch.old.entries day last (both_over left.now right.now) e) }
+    requires left { MayCarry course.now left.now.value scratch.old }
+    requires right { MayCarry course.now right.now.value scratch.old }
+    ensures answer { AnswersRest course.now (both_over left.now right.now) scratch.old span result }
     ensures same { scratch.new ≡ scratch.old }
 {
-    let left = carry_in(alloc, course, scratch, left, day, last)?;
-    let right = carry_in(alloc, course, scratch, right, day, last)?;
+    let left = carry_in(alloc, course, scratch, span, left)?;
+    let right = carry_in(alloc, course, scratch, span, right)?;
     Ok(both_left(alloc, left, right)?)
 }
 
@@ -113,27 +91,19 @@ fn carry_scaled(
     alloc: Global,
     course: &Course,
     scratch: &mut Scratch,
+    span: Span,
     factor: &Rc<Expr>,
     moved: i32,
     body: &Rc<SharedContr>,
-    day: i64,
-    last: u32,
 ) -> Result<Rc<SharedContr>, FlowErr>
-    requires moves { CanMove moved (expression factor.now.value) }
-    requires ready { CanCarry (declarations course.now.decls.now) body.now.value scratch.old.entries }
-    requires offsets { StoresOffsets body.now.value }
-    requires admitted { IsAdmitted (declarations course.now.decls.now) course.now.fixings.now }
-    requires spare { height_of_contract (shared body.now.value) ≤ scratch.old.spare }
-    requires days { unsigned_abs day + last ≤ 10 ^ 11 }
-    requires last { last ≤ 1_200_000 }
-    ensures rest { IfOk result (λ r.
-        IsLeftOn course.now scratch.old.entries day last (scale_over moved factor.now body.now) (shared r.value)) }
-    ensures offsets { IfOk result (λ r. StoresOffsets r.value) }
-    ensures missing { IfErr result (λ e. LacksReadOn course.now scratch.old.entries day last (scale_over moved factor.now body.now) e) }
+    requires factor { CanMove moved (expression factor.now.value) }
+    requires body { MayCarry course.now body.now.value scratch.old }
+    ensures answer { AnswersRest course.now (scale_over moved factor.now body.now)
+        scratch.old span result }
     ensures same { scratch.new ≡ scratch.old }
 {
-    let body = carry_in(alloc, course, scratch, body, day, last)?;
-    Ok(scale_left(alloc, factor, moved, last, body)?)
+    let body = carry_in(alloc, course, scratch, span, body)?;
+    Ok(scale_left(alloc, factor, moved, span.last, body)?)
 }
 
 // What is left of a contract that waits.
@@ -142,34 +112,18 @@ fn carry_after(
     alloc: Global,
     course: &Course,
     scratch: &mut Scratch,
+    span: Span,
     days: u32,
     body: &Rc<SharedContr>,
-    day: i64,
-    last: u32,
 ) -> Result<Rc<SharedContr>, FlowErr>
-    requires ready { CanCarry (declarations course.now.decls.now) body.now.value scratch.old.entries }
-    requires offsets { StoresOffsets body.now.value }
-    requires admitted { IsAdmitted (declarations course.now.decls.now) course.now.fixings.now }
-    requires spare { height_of_contract (shared body.now.value) ≤ scratch.old.spare }
-    requires days { unsigned_abs day + last ≤ 10 ^ 11 }
-    requires last { last ≤ 1_200_000 }
-    ensures rest { IfOk result (λ r.
-        IsLeftOn course.now scratch.old.entries day last (after_over days body.now) (shared r.value)) }
-    ensures offsets { IfOk result (λ r. StoresOffsets r.value) }
-    ensures missing { IfErr result (λ e. LacksReadOn course.now scratch.old.entries day last (after_over days body.now) e) }
+    requires body { MayCarry course.now body.now.value scratch.old }
+    ensures answer { AnswersRest course.now (after_over days body.now) scratch.old span result }
     ensures same { scratch.new ≡ scratch.old }
 {
-    if days <= last {
-        carry_in(
-            alloc,
-            course,
-            scratch,
-            body,
-            days_later(day, days),
-            last - days,
-        )
+    if days <= span.last {
+        carry_in(alloc, course, scratch, span.after(days), body)
     } else {
-        Ok(delayed(alloc, days - last - 1, body)?)
+        Ok(delayed(alloc, days - span.last - 1, body)?)
     }
 }
 
@@ -179,32 +133,22 @@ fn carry_bound(
     alloc: Global,
     course: &Course,
     scratch: &mut Scratch,
+    span: Span,
     bound: &Rc<Expr>,
     moved: i32,
     body: &Rc<SharedContr>,
-    day: i64,
-    last: u32,
 ) -> Result<Rc<SharedContr>, FlowErr>
-    requires moves { CanMove moved (expression bound.now.value) }
-    requires place { MayEvaluate (declarations course.now.decls.now) (expression bound.now.value) scratch.old.entries }
-    requires ready { WithEntry (declarations course.now.decls.now) (expression bound.now.value) scratch.old.entries
-        (λ (es : List Binding). CanCarry (declarations course.now.decls.now) body.now.value es) }
-    requires offsets { StoresOffsets body.now.value }
-    requires admitted { IsAdmitted (declarations course.now.decls.now) course.now.fixings.now }
-    requires spare { height_of_contract (shared body.now.value) + 1 ≤ scratch.old.spare }
-    requires days { unsigned_abs day + last ≤ 10 ^ 11 }
-    requires last { last ≤ 1_200_000 }
-    ensures rest { IfOk result (λ r.
-        IsLeftOn course.now scratch.old.entries day last (let_over moved bound.now body.now) (shared r.value)) }
-    ensures offsets { IfOk result (λ r. StoresOffsets r.value) }
-    ensures missing { IfErr result (λ e. LacksReadOn course.now scratch.old.entries day last (let_over moved bound.now body.now) e) }
+    requires bound { MayBind course.now moved bound.now scratch.old }
+    requires body { MayCarryUnder course.now bound.now body.now.value scratch.old }
+    ensures answer { AnswersRest course.now (let_over moved bound.now body.now)
+        scratch.old span result }
     ensures same { scratch.new ≡ scratch.old }
 {
-    let entry = entry_for(course, bound, moved, scratch, day);
+    let entry = entry_for(course, bound, moved, scratch, span);
     scratch.enter(entry.kind, entry.held);
-    let carried = carry_in(alloc, course, scratch, body, day, last);
+    let carried = carry_in(alloc, course, scratch, span, body);
     scratch.leave();
-    Ok(let_left(alloc, bound, moved, last, carried?)?)
+    Ok(let_left(alloc, bound, moved, span.last, carried?)?)
 }
 
 // What is left of a contract that waits for a test.
@@ -213,48 +157,22 @@ fn carry_within(
     alloc: Global,
     course: &Course,
     scratch: &mut Scratch,
+    span: Span,
     test: &Rc<Expr>,
     days: u32,
     hit: &Rc<SharedContr>,
     miss: &Rc<SharedContr>,
-    day: i64,
-    last: u32,
 ) -> Result<Rc<SharedContr>, FlowErr>
-    requires place { MayEvaluate (declarations course.now.decls.now) (expression test.now.value) scratch.old.entries }
-    requires hit { CanCarry (declarations course.now.decls.now) hit.now.value scratch.old.entries }
-    requires miss { CanCarry (declarations course.now.decls.now) miss.now.value scratch.old.entries }
-    requires test_stored { HasOffsets (expression test.now.value) }
-    requires hit_stored { StoresOffsets hit.now.value }
-    requires miss_stored { StoresOffsets miss.now.value }
-    requires admitted { IsAdmitted (declarations course.now.decls.now) course.now.fixings.now }
-    requires spare { max (height_of_contract (shared hit.now.value)) (height_of_contract (shared miss.now.value)) ≤ scratch.old.spare }
-    requires days { unsigned_abs day + last ≤ 10 ^ 11 }
-    requires last { last ≤ 1_200_000 }
-    ensures rest { IfOk result (λ r.
-        IsLeftOn course.now scratch.old.entries day last (within_over test.now days hit.now miss.now) (shared r.value)) }
-    ensures offsets { IfOk result (λ r. StoresOffsets r.value) }
-    ensures missing { IfErr result (λ e.
-        LacksReadOn course.now scratch.old.entries day last (within_over test.now days hit.now miss.now) e) }
+    requires test { MayTest course.now test.now scratch.old }
+    requires hit { MayCarry course.now hit.now.value scratch.old }
+    requires miss { MayCarry course.now miss.now.value scratch.old }
+    ensures answer { AnswersRest course.now (within_over test.now days hit.now miss.now)
+        scratch.old span result }
     ensures same { scratch.new ≡ scratch.old }
 {
-    let tried = days_tried(days, last);
-    match first_true(course.decls, test, &*scratch, course.fixings, day, tried)? {
-        Some(first) => carry_in(
-            alloc,
-            course,
-            scratch,
-            hit,
-            days_later(day, first),
-            last - first,
-        ),
-        None if days <= last => carry_in(
-            alloc,
-            course,
-            scratch,
-            miss,
-            days_later(day, days),
-            last - days,
-        ),
-        None => Ok(still_waiting(alloc, test, days - last - 1, hit, miss)?),
+    match first_day(course, test, &*scratch, span, days)? {
+        Some(first) => carry_in(alloc, course, scratch, span.after(first), hit),
+        None if days <= span.last => carry_in(alloc, course, scratch, span.after(days), miss),
+        None => Ok(still_waiting(alloc, test, days - span.last - 1, hit, miss)?),
     }
 }

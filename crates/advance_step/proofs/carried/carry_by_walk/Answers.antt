@@ -1,32 +1,26 @@
-use Rattle.std.proofs.Common.{ap}
-use Rattle.std.specs.Int.{w64}
-use Rattle.std.proofs.lemmas.Int.{to_z-of_z}
-use Rattle.std.specs.declared.rc.Rc.{Rc}
-use Rattle.std.specs.Global.{Global}
-use Rattle.term_core.specs.Declarations.{declarations}
-use Rattle.term_core.specs.Terms.{Contract}
+use Rattle.std.proofs.Common.{ap, sym, subst}
 use Rattle.term_core.specs.declared.shared.SharedContr.{SharedContr}
-use Rattle.term_core.specs.SharedTerms.{shared}
+use Rattle.term_core.specs.SharedTerms.{shared, StoresOffsets}
 use Rattle.advance_step.proofs.CarryReady.{whole_low, whole_ready}
-use Rattle.advance_step.proofs.WalkFacts.{whole_faults, whole_left}
+use Rattle.advance_step.proofs.RestFacts.{whole_answers}
 use Rattle.advance_step.proofs.carried.carry_by_walk.Goals as goal
 
--- the tree of a shared contract
-abbrev tree : Rc SharedContr Global → Contract
-tree r = shared r.value
+pub carry_in-requires : goal.carry_in-requires
+carry_in-requires c =
+    let d = c.args.course.now.decls in
+    let s = c.args.s.now.value in
+    let can =
+    whole_ready d s c.deref.result.now _ c.in_ok-scratch.ensures.empty c.deref.ensures
+    c.requires.accepted c.requires.offsets in
+    let stores = subst (λ (x : SharedContr). StoresOffsets x) (sym c.deref.ensures)
+    c.requires.offsets in
+    let low =
+    whole_low d s c.deref.result.now _ c.deref.ensures c.requires.accepted
+    c.in_ok-scratch.ensures.spare in
+    record { ready = (can, stores, low) }
 
-pub carry_in-requires-clause-ready : goal.carry_in-requires-clause-ready
-carry_in-requires-clause-ready c =
-    whole_ready (declarations c.args.decls.now) c.args.s.now.value c.deref.result.now _ c.in_ok-scratch.ensures.empty c.deref.ensures c.requires.accepted c.requires.offsets
-
-pub carry_in-requires-clause-spare : goal.carry_in-requires-clause-spare
-carry_in-requires-clause-spare c =
-    whole_low (declarations c.args.decls.now) c.args.s.now.value c.deref.result.now _ c.deref.ensures c.requires.accepted c.in_ok-scratch.ensures.spare
-
-pub returns-clause-rest : goal.returns-clause-rest
-returns-clause-rest c =
-    whole_left tree (declarations c.args.decls.now) (shared c.args.s.now.value) (shared c.deref.result.now) _ c.args.fixings.now c.args.last c.args.day _ c.carry_in.result c.in_ok-scratch.ensures.empty (ap (λ (x : SharedContr). shared x) c.deref.ensures) (to_z-of_z w64 c.args.day c.ranges.day) c.carry_in.ensures.rest
-
-pub returns-clause-missing : goal.returns-clause-missing
-returns-clause-missing c =
-    whole_faults (declarations c.args.decls.now) (shared c.args.s.now.value) (shared c.deref.result.now) _ c.args.fixings.now c.args.last c.args.day _ c.carry_in.result c.in_ok-scratch.ensures.empty (ap (λ (x : SharedContr). shared x) c.deref.ensures) (to_z-of_z w64 c.args.day c.ranges.day) c.carry_in.ensures.missing
+pub returns : goal.returns
+returns c =
+    whole_answers c.args.course.now (shared c.args.s.now.value) (shared c.deref.result.now)
+    c.in_ok-scratch.scratch c.args.span c.carry_in.result c.in_ok-scratch.ensures.empty
+    (ap (λ (x : SharedContr). shared x) c.deref.ensures) c.carry_in.ensures.answer

@@ -1,17 +1,36 @@
-use Rattle.std.proofs.Common.{sym, arith}
-use Rattle.std.specs.Int.{w32, w64}
+use Rattle.std.proofs.Common.{sym, subst, arith}
+use Rattle.std.specs.Int.{w32}
 use Rattle.std.proofs.lemmas.Int.{to_z-of_z, ints}
 use Rattle.term_core.specs.Declarations.{declarations}
+use Rattle.term_core.specs.Shifts.{shifted}
 use Rattle.term_core.specs.Terms.{expression}
+use Rattle.expr_eval.specs.declared.scratch.Binding.{Binding}
+use Rattle.advance_step.specs.Basis.{Basis}
+use Rattle.advance_step.specs.CarryingWalk.{EntersOn, IsEntry}
 use Rattle.advance_step.proofs.EntryFacts.{answer_enters, answer_suits}
 use Rattle.advance_step.proofs.course.entry_for.Goals as goal
 
 pub returns-clause-enters : goal.returns-clause-enters
 returns-clause-enters c =
-    let y = to_z-of_z w64 c.args.day c.ranges.day in
+    let d = declarations c.course.inside.decls.now in
+    let F = c.course.inside.fixings.now in
+    let e = expression c.args.bound.now in
+    let es = c.args.scratch.now.entries in
     let z = to_z-of_z w32 c.args.moved c.ranges.moved in
-    answer_enters (declarations c.args.course.now.decls.now) (expression c.args.bound.now) c.args.moved c.args.day _ c.args.scratch.now.entries c.args.course.now.fixings.now c.eval-answer.result c.kind_of-kind.result c.of.result (grind (arith, ints, to_z-of_z, y, z, c.day_read.ensures.day)) (sym c.kind_of-kind.ensures.kind) c.of.ensures c.eval-answer.ensures.answer
+    let entry : Binding = record { kind = c.kind_of-kind.result; held = c.of.result } in
+    let x = shifted c.args.moved e in
+    subst (λ (b : Basis). EntersOn b x c.args.scratch.now c.args.span entry) c.course.view_is
+    (answer_enters d e c.args.moved c.args.span.day _ es F c.eval-answer.result
+    c.kind_of-kind.result
+    c.of.result (grind (arith, ints, to_z-of_z, z, c.day_read.ensures.day))
+    (sym c.kind_of-kind.ensures.kind) c.of.ensures c.eval-answer.ensures.answer)
 
 pub returns-clause-suits : goal.returns-clause-suits
 returns-clause-suits c =
-    answer_suits (declarations c.args.course.now.decls.now) (expression c.args.bound.now) c.args.scratch.now.entries c.eval-answer.result c.kind_of-kind.result c.of.result (sym c.kind_of-kind.ensures.kind) c.of.ensures c.eval-answer.ensures.suits
+    let d = declarations c.course.inside.decls.now in
+    let e = expression c.args.bound.now in
+    let es = c.args.scratch.now.entries in
+    let entry : Binding = record { kind = c.kind_of-kind.result; held = c.of.result } in
+    subst (λ (b : Basis). IsEntry b.decls e es entry) c.course.view_is
+    (answer_suits d e es c.eval-answer.result c.kind_of-kind.result c.of.result
+    (sym c.kind_of-kind.ensures.kind) c.of.ensures c.eval-answer.ensures.suits)

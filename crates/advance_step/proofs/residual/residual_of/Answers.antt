@@ -8,16 +8,20 @@ use Rattle.specialise.proofs.CallFacts.{offsets_shared}
 use Rattle.advance_step.proofs.KnownFacts.{gone_residual}
 use Rattle.advance_step.proofs.residual.residual_of.Goals as goal
 
-pub returns-then-is_gone-clause-rest : goal.returns-then-is_gone-clause-rest
-returns-then-is_gone-clause-rest c =
-    gone_residual (declarations c.args.decls.now) c.args.fixings.now (contract c.args.c.now) c.args.day c.args.days c.args.decls.now.labels_in c.requires.admitted c.requires.accepted c.requires.closed c.requires.numbers
+pub returns-then-is_gone : goal.returns-then-is_gone
+returns-then-is_gone c =
+    let d = declarations c.args.decls.now in
+    gone_residual d c.args.fixings.now (contract c.args.c.now) c.args.gone.from c.args.gone.days
+    c.args.decls.now.labels_in c.requires.accepted c.requires.closed c.requires.numbers
     (c.is_gone.ensures c.if-is_gone.true)
 
 pub reduced_after-requires-clause-offsets : goal.reduced_after-requires-clause-offsets
 reduced_after-requires-clause-offsets c =
-    offsets_shared (declarations c.args.decls.now) c.in_ok-s.s.value (contract c.args.c.now) c.in_ok-s.ensures.tree c.in_ok-s.ensures.moved c.requires.closed
+    offsets_shared (declarations c.args.decls.now) c.in_ok-s.s.value (contract c.args.c.now)
+    c.in_ok-s.ensures.tree c.in_ok-s.ensures.moved c.requires.closed
 
 pub unshare-requires : goal.unshare-requires
 unshare-requires c =
     subst (λ (v : SharedContr). HasOffsetsIn (shared v)) (sym c.deref.ensures)
-    (formed_offsets_in (declarations c.args.decls.now) 0 (shared c.in_ok-rest.rest.value) c.in_ok-rest.ensures.rest.closed)
+    (formed_offsets_in (declarations c.args.decls.now) 0 (shared c.in_ok-rest.rest.value)
+    c.in_ok-rest.ensures.closed)

@@ -10,16 +10,23 @@ use Rattle.advance_step.proofs.stepping.step.Goals as goal
 
 pub step_shared-requires-clause-offsets : goal.step_shared-requires-clause-offsets
 step_shared-requires-clause-offsets c =
-    offsets_shared (declarations c.args.decls.now) c.in_ok-s.s.value (contract c.args.c.now) c.in_ok-s.ensures.tree c.in_ok-s.ensures.moved c.requires.closed
+    offsets_shared (declarations c.args.decls.now) c.in_ok-s.s.value (contract c.args.c.now)
+    c.in_ok-s.ensures.tree c.in_ok-s.ensures.moved c.requires.closed
 
 pub unshare-requires : goal.unshare-requires
 unshare-requires c =
     let d = declarations c.args.decls.now in
-    let closed : IsClosed d (shared c.in_ok-s.s.value) = subst (λ (x : Contract). IsClosed d x) (sym c.in_ok-s.ensures.tree) c.requires.closed in
+    let closed : IsClosed d (shared c.in_ok-s.s.value) =
+    subst (λ (x : Contract). IsClosed d x) (sym c.in_ok-s.ensures.tree) c.requires.closed in
     let same : c.deref.result.now ≡ c.in_ok-due.field-0.rest.value = search rules in
     subst (λ (v : SharedContr). HasOffsetsIn (shared v)) (sym same)
-    (formed_offsets_in d 0 (shared c.in_ok-due.field-0.rest.value) (c.in_ok-due.ensures.step.left.closed closed))
+    (formed_offsets_in d 0 (shared c.in_ok-due.field-0.rest.value)
+    (c.in_ok-due.ensures.0.left.closed closed))
 
-pub returns-clause-numbers : goal.returns-clause-numbers
-returns-clause-numbers c =
-    subst (λ (x : Contract). HasOnlyNumbers x) (sym c.in_ok-rest.ensures) (shared_numbers c.deref.result.now)
+pub returns : goal.returns
+returns c = (
+  search rules,
+  search rules,
+  subst (λ (x : Contract). HasOnlyNumbers x) (sym c.in_ok-rest.ensures)
+      (shared_numbers c.deref.result.now),
+)
