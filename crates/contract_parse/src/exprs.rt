@@ -1,25 +1,23 @@
 //! Expressions from texts.
-ghost use Rattle.std.specs.Prelude.{◌≡◌, ◌≤◌, ◌<◌, ◌+◌, ◌∷◌, [], ℕ, List, IfOk, codes, length, max, true};
+ghost use Rattle.std.specs.Prelude.{◌≡◌, ◌≤◌, ◌<◌, ◌+◌, ◌∷◌, [], ℕ, List, IfOk, OnOk, codes, length, max, true};
 ghost use Rattle.term_core.specs.Terms.{Lit, expression};
 ghost use Rattle.term_core.specs.Sizes.{height};
 ghost use Rattle.contract_parse.specs.Words.{Bytes};
 ghost use Rattle.contract_parse.specs.Names.{DeclaredNames, names_in};
 ghost use Rattle.contract_parse.specs.Judgements.{binder_at, integer_at, mode_at};
 ghost use Rattle.contract_parse.specs.Spelling.{expr, mark, pair, valued, ◌⨟◌};
-ghost use Rattle.contract_parse.specs.Places.{BinderAt, ExprAt, IntegerAt, LiteralNumber, ModeAt, TheMark, binder_places, leaf_places, operand_places, pair_places};
+ghost use Rattle.contract_parse.specs.Places.{BinderAt, ExprAt, IntegerAt, LiteralNumber, ModeAt, TheMark, binder_places, operand_places, pair_places};
 ghost use Rattle.contract_parse.specs.Reading.{declared_in, joined};
-ghost use Rattle.contract_parse.specs.Heads.{greatest_depth, leaf_word};
-ghost use Rattle.contract_parse.specs.Readers.{Binds, Passes, PassesAnywhere, Reads, behind_first, behind_leaf_word, behind_part, behind_sign, behind_word, expression_in, first_token};
+ghost use Rattle.contract_parse.specs.Heads.{greatest_depth};
+ghost use Rattle.contract_parse.specs.Readers.{Binds, KeepsLeaves, Passes, PassesAnywhere, Reads, behind_first, behind_part, behind_sign, behind_word, expression_in, first_token};
 ghost use Rattle.contract_parse.specs.declared.heads.Binder.{Binder};
-ghost use Rattle.contract_parse.specs.declared.heads.Language.{Language};
 
-use crate::dates::read_bytes_left_at_date;
 use crate::faults::ReadErr;
-use crate::heads::{First, Language, Operator, first_at};
+use crate::heads::{First, Operator, first_at};
 use crate::judges::refuse;
+use crate::leaves::LeafReader;
 use crate::readers::{
-    read_binder, read_integer, read_literal, read_mode, read_offset, read_operator,
-    read_use_of_map, skip_mark,
+    read_binder, read_integer, read_literal, read_mode, read_operator, skip_mark,
 };
 use crate::words::next;
 use decimal::{Decimal, Mode};
@@ -100,68 +98,26 @@ fn read_negative(rest: &[u8]) -> Result<(Expr, &[u8]), ReadErr>
     Ok((literal(number), rest))
 }
 
-// What stands behind `obs`.
-fn read_observed<'a>(decls: &Decls, rest: &'a [u8]) -> Result<(Expr, &'a [u8]), ReadErr>
-    ensures reads { Reads (Passes decls.now (λ s ps. leaf_places s Language.Contracts ps))
-        (λ r. behind_leaf_word Language.Contracts decls.now r.0) (λ r. r.1.now) rest.now result }
-    ensures high { IfOk result (λ r. height (expression r.0) ≡ 1) }
-{
-    let rest = skip_mark(rest, b"(")?;
-    let (label, rest) = read_use_of_map(&decls.labels, rest)?;
-    let rest = skip_mark(rest, b",")?;
-    let (offset, rest) = read_offset(rest)?;
-    let rest = skip_mark(rest, b")")?;
-    Ok((Expr::Obs { label, offset }, rest))
-}
-
-// What stands behind `model`: its offset is how many bytes are left where its date begins.
-fn read_modelled<'a>(decls: &Decls, rest: &'a [u8]) -> Result<(Expr, &'a [u8]), ReadErr>
-    ensures reads { Reads (Passes decls.now (λ s ps. leaf_places s Language.Code ps))
-        (λ r. behind_leaf_word Language.Code decls.now r.0) (λ r. r.1.now) rest.now result }
-    ensures high { IfOk result (λ r. height (expression r.0) ≡ 1) }
-{
-    let rest = skip_mark(rest, b"(")?;
-    let (label, rest) = read_use_of_map(&decls.labels, rest)?;
-    let rest = skip_mark(rest, b",")?;
-    let (offset, rest) = read_bytes_left_at_date(decls, rest)?;
-    let rest = skip_mark(rest, b")")?;
-    Ok((Expr::Obs { label, offset }, rest))
-}
-
-// What stands behind the word that reads an observable.
-fn read_observable<'a>(
-    language: Language,
-    decls: &Decls,
-    rest: &'a [u8],
-) -> Result<(Expr, &'a [u8]), ReadErr>
-    ensures reads { Reads (Passes decls.now (λ s ps. leaf_places s language ps))
-        (λ r. behind_leaf_word language decls.now r.0) (λ r. r.1.now) rest.now result }
-    ensures high { IfOk result (λ r. height (expression r.0) ≡ 1) }
-{
-    match language {
-        Language::Contracts => read_observed(decls, rest),
-        Language::Code => read_modelled(decls, rest),
-    }
-}
-
 // An expression one deeper, in a box.
 #[cycle(expr)]
-fn read_boxed<'a>(
+fn read_boxed<'a, L: LeafReader>(
     alloc: Global,
-    language: Language,
+    leaves: &mut L,
     decls: &Decls,
     bound: &Scope<&[u8]>,
     depth: u32,
     rest: &'a [u8],
 ) -> Result<(Box<Expr>, &'a [u8]), ReadErr>
-    requires shallow { depth ≤ greatest_depth language }
+    requires shallow { depth ≤ greatest_depth L.LANGUAGE }
     requires bound { length (names_in bound.now) ≤ depth }
-    ensures reads { Reads (Passes decls.now
-        (λ s ps. ExprAt language (depth + 1) (names_in bound.now) ∷ ps))
-        (λ r. expression_in language decls.now bound.now r.0.value) (λ r. r.1.now) rest.now result }
-    ensures high { IfOk result (λ r. height (expression r.0.value) + depth ≤ greatest_depth language) }
+    ensures reads { Reads (Passes decls.now (λ s ps.
+        ExprAt L.LANGUAGE (depth + 1) (names_in bound.now) ∷ ps))
+        (λ r. expression_in (L.leaf leaves.new) decls.now bound.now r.0.value)
+        (λ r. r.1.now) rest.now result }
+    ensures high { IfOk result (λ r. height (expression r.0.value) + depth ≤ greatest_depth L.LANGUAGE) }
+    ensures kept { OnOk result (KeepsLeaves (L.leaf leaves.old) (L.leaf leaves.new)) }
 {
-    let (of, rest) = read_expr(alloc, language, decls, bound, depth + 1, rest)?;
+    let (of, rest) = read_expr(alloc, leaves, decls, bound, depth + 1, rest)?;
     let of = Box::new(alloc, of)?;
     Ok((of, rest))
 }
@@ -169,45 +125,49 @@ fn read_boxed<'a>(
 // The same behind a mark.
 #[cycle(expr)]
 #[tactic(auto, using(crate::proofs::Parts::followed_by))]
-fn read_behind<'a>(
+fn read_behind<'a, L: LeafReader>(
     alloc: Global,
-    language: Language,
+    leaves: &mut L,
     decls: &Decls,
     bound: &Scope<&[u8]>,
     depth: u32,
     wanted: &[u8],
     rest: &'a [u8],
 ) -> Result<(Box<Expr>, &'a [u8]), ReadErr>
-    requires shallow { depth ≤ greatest_depth language }
+    requires shallow { depth ≤ greatest_depth L.LANGUAGE }
     requires bound { length (names_in bound.now) ≤ depth }
-    ensures reads { Reads (Passes decls.now
-        (λ s ps. TheMark wanted.now ∷ ExprAt language (depth + 1) (names_in bound.now) ∷ ps))
-        (λ r. mark wanted.now ⨟ expression_in language decls.now bound.now r.0.value)
+    ensures reads { Reads (Passes decls.now (λ s ps.
+        TheMark wanted.now ∷ ExprAt L.LANGUAGE (depth + 1) (names_in bound.now) ∷ ps))
+        (λ r. mark wanted.now ⨟ expression_in (L.leaf leaves.new) decls.now bound.now r.0.value)
         (λ r. r.1.now) rest.now result }
-    ensures high { IfOk result (λ r. height (expression r.0.value) + depth ≤ greatest_depth language) }
+    ensures high { IfOk result (λ r. height (expression r.0.value) + depth ≤ greatest_depth L.LANGUAGE) }
+    ensures kept { OnOk result (KeepsLeaves (L.leaf leaves.old) (L.leaf leaves.new)) }
 {
     let rest = skip_mark(rest, wanted)?;
-    read_boxed(alloc, language, decls, bound, depth, rest)
+    read_boxed(alloc, leaves, decls, bound, depth, rest)
 }
 
 // One expression in parentheses.
 #[cycle(expr)]
 #[tactic(auto, using(crate::proofs::Parts::followed_by))]
-fn read_operand<'a>(
+fn read_operand<'a, L: LeafReader>(
     alloc: Global,
-    language: Language,
+    leaves: &mut L,
     decls: &Decls,
     bound: &Scope<&[u8]>,
     depth: u32,
     rest: &'a [u8],
 ) -> Result<(Box<Expr>, &'a [u8]), ReadErr>
-    requires shallow { depth ≤ greatest_depth language }
+    requires shallow { depth ≤ greatest_depth L.LANGUAGE }
     requires bound { length (names_in bound.now) < depth }
-    ensures reads { Reads (Passes decls.now (λ s ps. operand_places (ExprAt language (depth + 1) (names_in bound.now)) ps))
-        (λ r. mark (codes "(") ⨟ expression_in language decls.now bound.now r.0.value ⨟ mark (codes ")")) (λ r. r.1.now) rest.now result }
-    ensures high { IfOk result (λ r. height (expression r.0.value) + depth ≤ greatest_depth language) }
+    ensures reads { Reads (Passes decls.now (λ s ps.
+        operand_places (ExprAt L.LANGUAGE (depth + 1) (names_in bound.now)) ps))
+        (λ r. mark (codes "(") ⨟ expression_in (L.leaf leaves.new) decls.now bound.now r.0.value ⨟ mark (codes ")"))
+        (λ r. r.1.now) rest.now result }
+    ensures high { IfOk result (λ r. height (expression r.0.value) + depth ≤ greatest_depth L.LANGUAGE) }
+    ensures kept { OnOk result (KeepsLeaves (L.leaf leaves.old) (L.leaf leaves.new)) }
 {
-    let (of, rest) = read_behind(alloc, language, decls, bound, depth, b"(", rest)?;
+    let (of, rest) = read_behind(alloc, leaves, decls, bound, depth, b"(", rest)?;
     let rest = skip_mark(rest, b")")?;
     Ok((of, rest))
 }
@@ -215,69 +175,73 @@ fn read_operand<'a>(
 // What stands behind `neg`.
 #[cycle(expr)]
 #[tactic(auto, using(crate::proofs::Parts::followed_by))]
-fn read_neg<'a>(
+fn read_neg<'a, L: LeafReader>(
     alloc: Global,
-    language: Language,
+    leaves: &mut L,
     decls: &Decls,
     bound: &Scope<&[u8]>,
     depth: u32,
     rest: &'a [u8],
 ) -> Result<(Expr, &'a [u8]), ReadErr>
-    requires shallow { depth ≤ greatest_depth language }
+    requires shallow { depth ≤ greatest_depth L.LANGUAGE }
     requires bound { length (names_in bound.now) < depth }
-    ensures reads { Reads (Passes decls.now (behind_first language depth bound.now First.Neg))
-        (λ r. behind_word (codes "neg") (expression_in language decls.now bound.now r.0))
+    ensures reads { Reads (Passes decls.now (behind_first L.LANGUAGE depth bound.now First.Neg))
+        (λ r. behind_word (codes "neg") (expression_in (L.leaf leaves.new) decls.now bound.now r.0))
         (λ r. r.1.now) rest.now result }
-    ensures high { IfOk result (λ r. height (expression r.0) + depth ≤ greatest_depth language + 1) }
+    ensures high { IfOk result (λ r. height (expression r.0) + depth ≤ greatest_depth L.LANGUAGE + 1) }
+    ensures kept { OnOk result (KeepsLeaves (L.leaf leaves.old) (L.leaf leaves.new)) }
 {
-    let (of, rest) = read_operand(alloc, language, decls, bound, depth, rest)?;
+    let (of, rest) = read_operand(alloc, leaves, decls, bound, depth, rest)?;
     Ok((Expr::Neg { of }, rest))
 }
 
 // What stands behind `not`.
 #[cycle(expr)]
 #[tactic(auto, using(crate::proofs::Parts::followed_by))]
-fn read_not<'a>(
+fn read_not<'a, L: LeafReader>(
     alloc: Global,
-    language: Language,
+    leaves: &mut L,
     decls: &Decls,
     bound: &Scope<&[u8]>,
     depth: u32,
     rest: &'a [u8],
 ) -> Result<(Expr, &'a [u8]), ReadErr>
-    requires shallow { depth ≤ greatest_depth language }
+    requires shallow { depth ≤ greatest_depth L.LANGUAGE }
     requires bound { length (names_in bound.now) < depth }
-    ensures reads { Reads (Passes decls.now (behind_first language depth bound.now First.Not))
-        (λ r. behind_word (codes "not") (expression_in language decls.now bound.now r.0))
+    ensures reads { Reads (Passes decls.now (behind_first L.LANGUAGE depth bound.now First.Not))
+        (λ r. behind_word (codes "not") (expression_in (L.leaf leaves.new) decls.now bound.now r.0))
         (λ r. r.1.now) rest.now result }
-    ensures high { IfOk result (λ r. height (expression r.0) + depth ≤ greatest_depth language + 1) }
+    ensures high { IfOk result (λ r. height (expression r.0) + depth ≤ greatest_depth L.LANGUAGE + 1) }
+    ensures kept { OnOk result (KeepsLeaves (L.leaf leaves.old) (L.leaf leaves.new)) }
 {
-    let (of, rest) = read_operand(alloc, language, decls, bound, depth, rest)?;
+    let (of, rest) = read_operand(alloc, leaves, decls, bound, depth, rest)?;
     Ok((Expr::Not { of }, rest))
 }
 
 // Two expressions in parentheses.
 #[cycle(expr)]
 #[tactic(auto, using(crate::proofs::Parts::followed_by))]
-fn read_pair<'a>(
+fn read_pair<'a, L: LeafReader>(
     alloc: Global,
-    language: Language,
+    leaves: &mut L,
     decls: &Decls,
     bound: &Scope<&[u8]>,
     depth: u32,
     rest: &'a [u8],
 ) -> Result<(Box<Expr>, Box<Expr>, &'a [u8]), ReadErr>
-    requires shallow { depth ≤ greatest_depth language }
+    requires shallow { depth ≤ greatest_depth L.LANGUAGE }
     requires bound { length (names_in bound.now) < depth }
-    ensures reads { Reads (Passes decls.now (λ s ps. pair_places (ExprAt language (depth + 1) (names_in bound.now))
-        (ExprAt language (depth + 1) (names_in bound.now)) ps))
-        (λ r. pair (expression_in language decls.now bound.now r.0.value) (expression_in language decls.now bound.now r.1.value))
+    ensures reads { Reads (Passes decls.now (λ s ps.
+        pair_places (ExprAt L.LANGUAGE (depth + 1) (names_in bound.now))
+        (ExprAt L.LANGUAGE (depth + 1) (names_in bound.now)) ps))
+        (λ r. pair (expression_in (L.leaf leaves.new) decls.now bound.now r.0.value) (expression_in (L.leaf leaves.new) decls.now bound.now r.1.value))
         (λ r. r.2.now) rest.now result }
     ensures high { IfOk result
-        (λ r. max (height (expression r.0.value)) (height (expression r.1.value)) + depth ≤ greatest_depth language) }
+        (λ r. max (height (expression r.0.value)) (height (expression r.1.value)) + depth ≤ greatest_depth L.LANGUAGE) }
+    ensures kept { OnOk result (KeepsLeaves (L.leaf leaves.old) (L.leaf leaves.new)) }
 {
-    let (left, rest) = read_behind(alloc, language, decls, bound, depth, b"(", rest)?;
-    let (right, rest) = read_behind(alloc, language, decls, bound, depth, b",", rest)?;
+    let (left, rest) = read_behind(alloc, leaves, decls, bound, depth, b"(", rest)?;
+    let (right, rest) = read_behind(alloc, leaves, decls, bound, depth, b",", rest)?;
     let rest = skip_mark(rest, b")")?;
     Ok((left, right, rest))
 }
@@ -285,22 +249,23 @@ fn read_pair<'a>(
 // What stands behind `min`.
 #[cycle(expr)]
 #[tactic(auto, using(crate::proofs::Parts::followed_by))]
-fn read_min<'a>(
+fn read_min<'a, L: LeafReader>(
     alloc: Global,
-    language: Language,
+    leaves: &mut L,
     decls: &Decls,
     bound: &Scope<&[u8]>,
     depth: u32,
     rest: &'a [u8],
 ) -> Result<(Expr, &'a [u8]), ReadErr>
-    requires shallow { depth ≤ greatest_depth language }
+    requires shallow { depth ≤ greatest_depth L.LANGUAGE }
     requires bound { length (names_in bound.now) < depth }
-    ensures reads { Reads (Passes decls.now (behind_first language depth bound.now First.Min))
-        (λ r. behind_word (codes "min") (expression_in language decls.now bound.now r.0))
+    ensures reads { Reads (Passes decls.now (behind_first L.LANGUAGE depth bound.now First.Min))
+        (λ r. behind_word (codes "min") (expression_in (L.leaf leaves.new) decls.now bound.now r.0))
         (λ r. r.1.now) rest.now result }
-    ensures high { IfOk result (λ r. height (expression r.0) + depth ≤ greatest_depth language + 1) }
+    ensures high { IfOk result (λ r. height (expression r.0) + depth ≤ greatest_depth L.LANGUAGE + 1) }
+    ensures kept { OnOk result (KeepsLeaves (L.leaf leaves.old) (L.leaf leaves.new)) }
 {
-    let (left, right, rest) = read_pair(alloc, language, decls, bound, depth, rest)?;
+    let (left, right, rest) = read_pair(alloc, leaves, decls, bound, depth, rest)?;
     let op = NumOp::Min;
     Ok((Expr::Num { op, left, right }, rest))
 }
@@ -308,22 +273,23 @@ fn read_min<'a>(
 // What stands behind `max`.
 #[cycle(expr)]
 #[tactic(auto, using(crate::proofs::Parts::followed_by))]
-fn read_max<'a>(
+fn read_max<'a, L: LeafReader>(
     alloc: Global,
-    language: Language,
+    leaves: &mut L,
     decls: &Decls,
     bound: &Scope<&[u8]>,
     depth: u32,
     rest: &'a [u8],
 ) -> Result<(Expr, &'a [u8]), ReadErr>
-    requires shallow { depth ≤ greatest_depth language }
+    requires shallow { depth ≤ greatest_depth L.LANGUAGE }
     requires bound { length (names_in bound.now) < depth }
-    ensures reads { Reads (Passes decls.now (behind_first language depth bound.now First.Max))
-        (λ r. behind_word (codes "max") (expression_in language decls.now bound.now r.0))
+    ensures reads { Reads (Passes decls.now (behind_first L.LANGUAGE depth bound.now First.Max))
+        (λ r. behind_word (codes "max") (expression_in (L.leaf leaves.new) decls.now bound.now r.0))
         (λ r. r.1.now) rest.now result }
-    ensures high { IfOk result (λ r. height (expression r.0) + depth ≤ greatest_depth language + 1) }
+    ensures high { IfOk result (λ r. height (expression r.0) + depth ≤ greatest_depth L.LANGUAGE + 1) }
+    ensures kept { OnOk result (KeepsLeaves (L.leaf leaves.old) (L.leaf leaves.new)) }
 {
-    let (left, right, rest) = read_pair(alloc, language, decls, bound, depth, rest)?;
+    let (left, right, rest) = read_pair(alloc, leaves, decls, bound, depth, rest)?;
     let op = NumOp::Max;
     Ok((Expr::Num { op, left, right }, rest))
 }
@@ -331,24 +297,25 @@ fn read_max<'a>(
 // What stands behind a parenthesis.
 #[cycle(expr)]
 #[tactic(auto, using(crate::proofs::Parts::followed_by))]
-fn read_infix<'a>(
+fn read_infix<'a, L: LeafReader>(
     alloc: Global,
-    language: Language,
+    leaves: &mut L,
     decls: &Decls,
     bound: &Scope<&[u8]>,
     depth: u32,
     rest: &'a [u8],
 ) -> Result<(Expr, &'a [u8]), ReadErr>
-    requires shallow { depth ≤ greatest_depth language }
+    requires shallow { depth ≤ greatest_depth L.LANGUAGE }
     requires bound { length (names_in bound.now) < depth }
-    ensures reads { Reads (Passes decls.now (behind_first language depth bound.now First.Open))
-        (λ r. behind_part (mark (codes "(")) (expression_in language decls.now bound.now r.0))
+    ensures reads { Reads (Passes decls.now (behind_first L.LANGUAGE depth bound.now First.Open))
+        (λ r. behind_part (mark (codes "(")) (expression_in (L.leaf leaves.new) decls.now bound.now r.0))
         (λ r. r.1.now) rest.now result }
-    ensures high { IfOk result (λ r. height (expression r.0) + depth ≤ greatest_depth language + 1) }
+    ensures high { IfOk result (λ r. height (expression r.0) + depth ≤ greatest_depth L.LANGUAGE + 1) }
+    ensures kept { OnOk result (KeepsLeaves (L.leaf leaves.old) (L.leaf leaves.new)) }
 {
-    let (left, rest) = read_boxed(alloc, language, decls, bound, depth, rest)?;
+    let (left, rest) = read_boxed(alloc, leaves, decls, bound, depth, rest)?;
     let (operator, rest) = read_operator(rest)?;
-    let (right, rest) = read_boxed(alloc, language, decls, bound, depth, rest)?;
+    let (right, rest) = read_boxed(alloc, leaves, decls, bound, depth, rest)?;
     let rest = skip_mark(rest, b")")?;
     Ok((joined(operator, left, right), rest))
 }
@@ -356,24 +323,25 @@ fn read_infix<'a>(
 // What stands behind `if`.
 #[cycle(expr)]
 #[tactic(auto, using(crate::proofs::Parts::followed_by))]
-fn read_choice<'a>(
+fn read_choice<'a, L: LeafReader>(
     alloc: Global,
-    language: Language,
+    leaves: &mut L,
     decls: &Decls,
     bound: &Scope<&[u8]>,
     depth: u32,
     rest: &'a [u8],
 ) -> Result<(Expr, &'a [u8]), ReadErr>
-    requires shallow { depth ≤ greatest_depth language }
+    requires shallow { depth ≤ greatest_depth L.LANGUAGE }
     requires bound { length (names_in bound.now) < depth }
-    ensures reads { Reads (Passes decls.now (behind_first language depth bound.now First.If))
-        (λ r. behind_word (codes "if") (expression_in language decls.now bound.now r.0))
+    ensures reads { Reads (Passes decls.now (behind_first L.LANGUAGE depth bound.now First.If))
+        (λ r. behind_word (codes "if") (expression_in (L.leaf leaves.new) decls.now bound.now r.0))
         (λ r. r.1.now) rest.now result }
-    ensures high { IfOk result (λ r. height (expression r.0) + depth ≤ greatest_depth language + 1) }
+    ensures high { IfOk result (λ r. height (expression r.0) + depth ≤ greatest_depth L.LANGUAGE + 1) }
+    ensures kept { OnOk result (KeepsLeaves (L.leaf leaves.old) (L.leaf leaves.new)) }
 {
-    let (test, rest) = read_behind(alloc, language, decls, bound, depth, b"(", rest)?;
-    let (yes, rest) = read_behind(alloc, language, decls, bound, depth, b",", rest)?;
-    let (no, rest) = read_behind(alloc, language, decls, bound, depth, b",", rest)?;
+    let (test, rest) = read_behind(alloc, leaves, decls, bound, depth, b"(", rest)?;
+    let (yes, rest) = read_behind(alloc, leaves, decls, bound, depth, b",", rest)?;
+    let (no, rest) = read_behind(alloc, leaves, decls, bound, depth, b",", rest)?;
     let rest = skip_mark(rest, b")")?;
     Ok((Expr::Cond { test, yes, no }, rest))
 }
@@ -381,23 +349,24 @@ fn read_choice<'a>(
 // What stands behind `widen`.
 #[cycle(expr)]
 #[tactic(auto, using(crate::proofs::Parts::followed_by))]
-fn read_widen<'a>(
+fn read_widen<'a, L: LeafReader>(
     alloc: Global,
-    language: Language,
+    leaves: &mut L,
     decls: &Decls,
     bound: &Scope<&[u8]>,
     depth: u32,
     rest: &'a [u8],
 ) -> Result<(Expr, &'a [u8]), ReadErr>
-    requires shallow { depth ≤ greatest_depth language }
+    requires shallow { depth ≤ greatest_depth L.LANGUAGE }
     requires bound { length (names_in bound.now) < depth }
-    ensures reads { Reads (Passes decls.now (behind_first language depth bound.now First.Widen))
-        (λ r. behind_word (codes "widen") (expression_in language decls.now bound.now r.0))
+    ensures reads { Reads (Passes decls.now (behind_first L.LANGUAGE depth bound.now First.Widen))
+        (λ r. behind_word (codes "widen") (expression_in (L.leaf leaves.new) decls.now bound.now r.0))
         (λ r. r.1.now) rest.now result }
-    ensures high { IfOk result (λ r. height (expression r.0) + depth ≤ greatest_depth language + 1) }
+    ensures high { IfOk result (λ r. height (expression r.0) + depth ≤ greatest_depth L.LANGUAGE + 1) }
+    ensures kept { OnOk result (KeepsLeaves (L.leaf leaves.old) (L.leaf leaves.new)) }
 {
     let (scale, rest) = read_scale(b"(", rest)?;
-    let (of, rest) = read_behind(alloc, language, decls, bound, depth, b",", rest)?;
+    let (of, rest) = read_behind(alloc, leaves, decls, bound, depth, b",", rest)?;
     let rest = skip_mark(rest, b")")?;
     Ok((Expr::Widen { scale, of }, rest))
 }
@@ -405,23 +374,24 @@ fn read_widen<'a>(
 // What stands behind `round`.
 #[cycle(expr)]
 #[tactic(auto, using(crate::proofs::Parts::followed_by))]
-fn read_round<'a>(
+fn read_round<'a, L: LeafReader>(
     alloc: Global,
-    language: Language,
+    leaves: &mut L,
     decls: &Decls,
     bound: &Scope<&[u8]>,
     depth: u32,
     rest: &'a [u8],
 ) -> Result<(Expr, &'a [u8]), ReadErr>
-    requires shallow { depth ≤ greatest_depth language }
+    requires shallow { depth ≤ greatest_depth L.LANGUAGE }
     requires bound { length (names_in bound.now) < depth }
-    ensures reads { Reads (Passes decls.now (behind_first language depth bound.now First.Round))
-        (λ r. behind_word (codes "round") (expression_in language decls.now bound.now r.0))
+    ensures reads { Reads (Passes decls.now (behind_first L.LANGUAGE depth bound.now First.Round))
+        (λ r. behind_word (codes "round") (expression_in (L.leaf leaves.new) decls.now bound.now r.0))
         (λ r. r.1.now) rest.now result }
-    ensures high { IfOk result (λ r. height (expression r.0) + depth ≤ greatest_depth language + 1) }
+    ensures high { IfOk result (λ r. height (expression r.0) + depth ≤ greatest_depth L.LANGUAGE + 1) }
+    ensures kept { OnOk result (KeepsLeaves (L.leaf leaves.old) (L.leaf leaves.new)) }
 {
     let (mode, scale, rest) = read_rounding(rest)?;
-    let (of, rest) = read_behind(alloc, language, decls, bound, depth, b",", rest)?;
+    let (of, rest) = read_behind(alloc, leaves, decls, bound, depth, b",", rest)?;
     let rest = skip_mark(rest, b")")?;
     Ok((Expr::Round { mode, scale, of }, rest))
 }
@@ -429,24 +399,25 @@ fn read_round<'a>(
 // What stands behind `div`.
 #[cycle(expr)]
 #[tactic(auto, using(crate::proofs::Parts::followed_by))]
-fn read_div<'a>(
+fn read_div<'a, L: LeafReader>(
     alloc: Global,
-    language: Language,
+    leaves: &mut L,
     decls: &Decls,
     bound: &Scope<&[u8]>,
     depth: u32,
     rest: &'a [u8],
 ) -> Result<(Expr, &'a [u8]), ReadErr>
-    requires shallow { depth ≤ greatest_depth language }
+    requires shallow { depth ≤ greatest_depth L.LANGUAGE }
     requires bound { length (names_in bound.now) < depth }
-    ensures reads { Reads (Passes decls.now (behind_first language depth bound.now First.Div))
-        (λ r. behind_word (codes "div") (expression_in language decls.now bound.now r.0))
+    ensures reads { Reads (Passes decls.now (behind_first L.LANGUAGE depth bound.now First.Div))
+        (λ r. behind_word (codes "div") (expression_in (L.leaf leaves.new) decls.now bound.now r.0))
         (λ r. r.1.now) rest.now result }
-    ensures high { IfOk result (λ r. height (expression r.0) + depth ≤ greatest_depth language + 1) }
+    ensures high { IfOk result (λ r. height (expression r.0) + depth ≤ greatest_depth L.LANGUAGE + 1) }
+    ensures kept { OnOk result (KeepsLeaves (L.leaf leaves.old) (L.leaf leaves.new)) }
 {
     let (mode, scale, rest) = read_rounding(rest)?;
-    let (top, rest) = read_behind(alloc, language, decls, bound, depth, b",", rest)?;
-    let (below, rest) = read_behind(alloc, language, decls, bound, depth, b",", rest)?;
+    let (top, rest) = read_behind(alloc, leaves, decls, bound, depth, b",", rest)?;
+    let (below, rest) = read_behind(alloc, leaves, decls, bound, depth, b",", rest)?;
     let rest = skip_mark(rest, b")")?;
     Ok((
         Expr::Div {
@@ -462,50 +433,52 @@ fn read_div<'a>(
 // What stands behind `acc`: the body, in which the name is bound, comes before the start.
 #[cycle(expr)]
 #[tactic(auto, using(crate::proofs::Parts::followed_by))]
-fn read_acc<'a>(
+fn read_acc<'a, L: LeafReader>(
     alloc: Global,
-    language: Language,
+    leaves: &mut L,
     decls: &Decls,
     bound: &Scope<&[u8]>,
     depth: u32,
     rest: &'a [u8],
 ) -> Result<(Expr, &'a [u8]), ReadErr>
-    requires shallow { depth ≤ greatest_depth language }
+    requires shallow { depth ≤ greatest_depth L.LANGUAGE }
     requires bound { length (names_in bound.now) < depth }
-    ensures reads { Reads (Passes decls.now (behind_first language depth bound.now First.Acc))
-        (λ r. behind_word (codes "acc") (expression_in language decls.now bound.now r.0))
+    ensures reads { Reads (Passes decls.now (behind_first L.LANGUAGE depth bound.now First.Acc))
+        (λ r. behind_word (codes "acc") (expression_in (L.leaf leaves.new) decls.now bound.now r.0))
         (λ r. r.1.now) rest.now result }
-    ensures high { IfOk result (λ r. height (expression r.0) + depth ≤ greatest_depth language + 1) }
+    ensures high { IfOk result (λ r. height (expression r.0) + depth ≤ greatest_depth L.LANGUAGE + 1) }
+    ensures kept { OnOk result (KeepsLeaves (L.leaf leaves.old) (L.leaf leaves.new)) }
 {
     let (name, rest) = read_bound_name(rest)?;
     let inner = Scope::Bound {
         held: name,
         outer: &*bound,
     };
-    let (body, rest) = read_behind(alloc, language, decls, &inner, depth, b",", rest)?;
+    let (body, rest) = read_behind(alloc, leaves, decls, &inner, depth, b",", rest)?;
     let (days, rest) = read_days_back(rest)?;
-    let (first, rest) = read_behind(alloc, language, decls, bound, depth, b",", rest)?;
+    let (first, rest) = read_behind(alloc, leaves, decls, bound, depth, b",", rest)?;
     let rest = skip_mark(rest, b")")?;
     Ok((Expr::Acc { body, days, first }, rest))
 }
 
 // What stands behind the first token.
 #[cycle(expr)]
-fn read_behind_first<'a>(
+fn read_behind_first<'a, L: LeafReader>(
     first: First,
     alloc: Global,
-    language: Language,
+    leaves: &mut L,
     decls: &Decls,
     bound: &Scope<&[u8]>,
     depth: u32,
     rest: &'a [u8],
 ) -> Result<(Expr, &'a [u8]), ReadErr>
-    requires shallow { depth ≤ greatest_depth language }
+    requires shallow { depth ≤ greatest_depth L.LANGUAGE }
     requires bound { length (names_in bound.now) < depth }
-    ensures reads { Reads (Passes decls.now (behind_first language depth bound.now first))
-        (λ r. behind_part (first_token language (names_in bound.now) first) (expression_in language decls.now bound.now r.0))
+    ensures reads { Reads (Passes decls.now (behind_first L.LANGUAGE depth bound.now first))
+        (λ r. behind_part (first_token L.LANGUAGE (names_in bound.now) first) (expression_in (L.leaf leaves.new) decls.now bound.now r.0))
         (λ r. r.1.now) rest.now result }
-    ensures high { IfOk result (λ r. height (expression r.0) + depth ≤ greatest_depth language + 1) }
+    ensures high { IfOk result (λ r. height (expression r.0) + depth ≤ greatest_depth L.LANGUAGE + 1) }
+    ensures kept { OnOk result (KeepsLeaves (L.leaf leaves.old) (L.leaf leaves.new)) }
 {
     match first {
         First::Number { number } => Ok((literal(number), rest)),
@@ -513,40 +486,42 @@ fn read_behind_first<'a>(
         First::True => Ok((Expr::Yes { value: true }, rest)),
         First::False => Ok((Expr::Yes { value: false }, rest)),
         First::Minus => read_negative(rest),
-        First::Open => read_infix(alloc, language, decls, bound, depth, rest),
-        First::Obs => read_observable(language, decls, rest),
-        First::Neg => read_neg(alloc, language, decls, bound, depth, rest),
-        First::Not => read_not(alloc, language, decls, bound, depth, rest),
-        First::Min => read_min(alloc, language, decls, bound, depth, rest),
-        First::Max => read_max(alloc, language, decls, bound, depth, rest),
-        First::If => read_choice(alloc, language, decls, bound, depth, rest),
-        First::Widen => read_widen(alloc, language, decls, bound, depth, rest),
-        First::Round => read_round(alloc, language, decls, bound, depth, rest),
-        First::Div => read_div(alloc, language, decls, bound, depth, rest),
-        First::Acc => read_acc(alloc, language, decls, bound, depth, rest),
+        First::Open => read_infix(alloc, leaves, decls, bound, depth, rest),
+        First::Obs => leaves.read_leaf(alloc, decls, rest),
+        First::Neg => read_neg(alloc, leaves, decls, bound, depth, rest),
+        First::Not => read_not(alloc, leaves, decls, bound, depth, rest),
+        First::Min => read_min(alloc, leaves, decls, bound, depth, rest),
+        First::Max => read_max(alloc, leaves, decls, bound, depth, rest),
+        First::If => read_choice(alloc, leaves, decls, bound, depth, rest),
+        First::Widen => read_widen(alloc, leaves, decls, bound, depth, rest),
+        First::Round => read_round(alloc, leaves, decls, bound, depth, rest),
+        First::Div => read_div(alloc, leaves, decls, bound, depth, rest),
+        First::Acc => read_acc(alloc, leaves, decls, bound, depth, rest),
     }
 }
 
 /// An expression of a depth under bound names, and the text after it.
 #[cycle(expr)]
-pub fn read_expr<'a>(
+pub fn read_expr<'a, L: LeafReader>(
     alloc: Global,
-    language: Language,
+    leaves: &mut L,
     decls: &Decls,
     bound: &Scope<&[u8]>,
     depth: u32,
     rest: &'a [u8],
 ) -> Result<(Expr, &'a [u8]), ReadErr>
-    requires shallow { depth ≤ greatest_depth language + 1 }
+    requires shallow { depth ≤ greatest_depth L.LANGUAGE + 1 }
     requires bound { length (names_in bound.now) < depth }
-    ensures reads { Reads (Passes decls.now
-        (λ s ps. ExprAt language depth (names_in bound.now) ∷ ps))
-        (λ r. expression_in language decls.now bound.now r.0) (λ r. r.1.now) rest.now result }
-    ensures high { IfOk result (λ r. height (expression r.0) + depth ≤ greatest_depth language + 1) }
+    ensures reads { Reads (Passes decls.now (λ s ps.
+        ExprAt L.LANGUAGE depth (names_in bound.now) ∷ ps))
+        (λ r. expression_in (L.leaf leaves.new) decls.now bound.now r.0)
+        (λ r. r.1.now) rest.now result }
+    ensures high { IfOk result (λ r. height (expression r.0) + depth ≤ greatest_depth L.LANGUAGE + 1) }
+    ensures kept { OnOk result (KeepsLeaves (L.leaf leaves.old) (L.leaf leaves.new)) }
 {
     let (token, after) = next(rest);
-    match first_at(language, bound, depth, &token) {
-        Ok(first) => read_behind_first(first, alloc, language, decls, bound, depth, after),
+    match first_at(L::LANGUAGE, bound, depth, &token) {
+        Ok(first) => read_behind_first(first, alloc, leaves, decls, bound, depth, after),
         Err(kind) => Err(refuse(kind, &token)),
     }
 }

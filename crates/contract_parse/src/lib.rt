@@ -17,7 +17,6 @@
 
 mod contrs;
 mod cursor;
-mod dates;
 mod days;
 mod decls;
 mod exprs;
@@ -26,6 +25,7 @@ mod heads;
 mod judges;
 mod labels;
 pub mod laws;
+mod leaves;
 mod lines;
 mod name_texts;
 mod names;
@@ -45,12 +45,12 @@ pub use portfolio::parse_portfolio;
 pub use tokens::{Token, TokenKind};
 
 // What another grammar over the same tokens and expressions is read with.
-pub use dates::skip_date;
 pub use decls::read_decls;
 pub use exprs::read_expr;
 pub use faults::{ReadErr, Refusal};
 pub use heads::{AmountHead, Language, amount_head_at};
 pub use judges::{integer_at, literal_at, refuse};
+pub use leaves::LeafReader;
 pub use lines::fault_at;
 pub use names::index_in_map;
 pub use readers::{

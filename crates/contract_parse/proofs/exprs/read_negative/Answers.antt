@@ -6,6 +6,6 @@ use Rattle.contract_parse.proofs.exprs.read_negative.Goals as goal
 pub returns-clause-reads : goal.returns-clause-reads
 returns-clause-reads c = record {
   follows = search rules;
-  spelled = λ l s names ts minus. rw c.literal.ensures (record { negative = true; spelled = followed_by (tokens c.args.rest.now) minus c.in_ok-number.ensures.reads.spelled });
+  spelled = (c.in_ok-number.number, c.literal.ensures, λ ts minus. record { negative = true; spelled = followed_by (tokens c.args.rest.now) minus c.in_ok-number.ensures.reads.spelled });
   shorter = search rules;
 }
