@@ -1,24 +1,20 @@
--- An expression of code that stands in a text is spelled as the value expression that it is with its dates put in.
-use Rattle.std.proofs.Common.{◌≡◌, ◌∙◌, ℕ, ℤ, true, false, List, [], ◌∷◌, refl, sym, ap, subst, arith}
-use Rattle.std.specs.Prelude.{codes}
+-- An expression whose dates stand in a list is spelled as the value expression that it is with its dates put in.
+use Rattle.std.proofs.Common.{◌≡◌, ◌∙◌, ℕ, zero, suc, ℤ, pos, true, false, Some, List, [], ◌∷◌, ◌++◌, length, refl, sym, ap, subst, arith}
+use Rattle.std.specs.Prelude.{slice_get}
 use Rattle.term_core.specs.Terms.{Expression, Lit, Yes, Var, Obs, Neg, Num, Cmp, Not, Logic, Cond, Widen, Round, Div, Acc}
 use Rattle.term_core.specs.Sizes.{height}
 use Rattle.term_core.specs.declared.terms.NumOp.TheVariants.{Plus, Minus, Times, Min, Max}
-use Rattle.contract_parse.specs.Tokens.{Tok, tokens}
+use Rattle.contract_parse.specs.Tokens.{Tok}
 use Rattle.contract_parse.specs.Words.{Bytes}
 use Rattle.contract_parse.specs.Names.{DeclaredNames}
-use Rattle.contract_parse.specs.Judgements.{binder_at, integer_at, literal_at, mode_at, operator_at, use_at, variable_at}
-use Rattle.contract_parse.specs.Spelling.{DateFrom, ◌⨟◌, expr, mark}
-use Rattle.contract_parse.specs.declared.heads.Language.{Language}
-use Rattle.contract_parse.specs.declared.heads.Operator.TheVariants.{Arithmetic, Comparison, Logic as Connective}
-use Rattle.contract_parse.proofs.Passing.{mark_lacks}
-use Rattle.payoff_lang.specs.TemplateDates.{Date, insert_names}
+use Rattle.contract_parse.specs.Spelling.{expr_with}
+use Rattle.contract_parse.specs.Readers.{KeepsLeaves}
+use Rattle.contract_parse.proofs.LeafFacts.{Gives, ◌▹◌, same}
+use Rattle.payoff_lang.specs.declared.code.DateExpr.{DateExpr}
+use Rattle.payoff_lang.specs.TemplateDates.{Date, date}
 use Rattle.payoff_lang.specs.Dating.{HaveDates, plain, with_date}
 use Rattle.payoff_lang.specs.CodeSpelling.{DatePart, value_part}
-use Rattle.payoff_lang.specs.CodeReading.{date_at, date_first}
-use Rattle.payoff_lang.proofs.TokensStand.{StandsIn, stands_in}
-use Rattle.payoff_lang.proofs.Standing.{Turns, ◌▹◌, behind_first, close_stays, comma_stays, date_stays, open_stays, signed_stays, value_stays, word_stays}
-use Rattle.payoff_lang.proofs.DateReading.{date_is}
+use Rattle.payoff_lang.specs.CodeReading.{ListedDate, date_listed, dates_of, listed_leaf}
 
 -- where every offset has a date, those of an expression do
 pub have_dates : (has : ℤ → Type 0) → ((t : ℤ) → has t) → (e : Expression) → HaveDates has e
@@ -54,53 +50,89 @@ height_dated on (Round m k e) = omega (arith, height_dated on e)
 height_dated on (Div m k a b) = omega (arith, height_dated on a, height_dated on b)
 height_dated on (Acc body n first) = omega (arith, height_dated on body, height_dated on first)
 
-module _ (text : List ℕ) (s : DeclaredNames) where
-  abbrev on : ℤ → Date
-  on = date_at s.templates text
+-- ---- lists of dates
 
-  -- what stands at the place of a date is the date
-  pub place_is : (place : ℤ) (ts rest : List Tok) → StandsIn text ts → DateFrom s.templates place ts rest → on place ≡ date_first s.templates ts
-  place_is place ts rest stands x =
-      let first = (subst (λ (us : List Tok). StandsIn text us) x.is stands).0 in
-      ap (λ (p : ℤ). on p) x.left ∙ ap (λ (us : List Tok). date_first s.templates us) (first ∙ sym x.is)
+stands_last : (dates : List Date) (x : Date) → slice_get (dates ++ x ∷ []) (length dates) ≡ Some x
+stands_last [] x = refl
+stands_last (y ∷ dates) x = stands_last dates x
 
-  date_turns : (place : ℤ) → Turns text (DateFrom s.templates place ⨟ mark (codes ")")) (DatePart s (on place) ⨟ mark (codes ")"))
-  date_turns place = record {
-    turns = λ ts rest stands x.
-        let d = x.one in
-        let stays = (date_stays {text = text} s.templates d.days d.written).turns ts x.between stands d.spelled in
-        let there : DatePart s (record { days = d.days; names = insert_names d.written [] }) ts x.between = record { written = d.written; is = refl; spelled = d.spelled } in
-        let is = place_is place ts x.between stands d ∙ date_is s (record { days = d.days; names = insert_names d.written [] }) ts x.between there (mark_lacks (codes ")") (codes "+") x.between rest refl x.two) in
-        (record { between = x.between; one = subst (λ (q : Date). DatePart s q ts x.between) (sym is) there; two = x.two }, behind_first text x.two.0 x.between rest x.two.1 stays.1);
+stands_still : (dates more : List Date) (i : ℕ) (x : Date) → slice_get dates i ≡ Some x → slice_get (dates ++ more) i ≡ Some x
+stands_still [] more i x e = absurd cc
+stands_still (y ∷ dates) more zero x e = e
+stands_still (y ∷ dates) more (suc i) x e = stands_still dates more i x e
+
+one_more : (dates : List DateExpr) (x : DateExpr) → dates_of (dates ++ x ∷ []) ≡ dates_of dates ++ date x ∷ []
+one_more [] x = refl
+one_more (y ∷ dates) x = ap (λ (us : List Date). date y ∷ us) (one_more dates x)
+
+as_many : (dates : List DateExpr) → length (dates_of dates) ≡ length dates
+as_many [] = refl
+as_many (y ∷ dates) = ap suc (as_many dates)
+
+listed_is : (dates : List Date) (index : ℤ) (i : ℕ) (x : Date) → index ≡ pos i → slice_get dates i ≡ Some x → date_listed dates index ≡ x
+listed_is dates index i x e f = ap (date_listed dates) e ∙ rw f refl
+
+-- a date that is put behind the others has their number for its index
+pub put_last : (before : List DateExpr) (x : DateExpr) (s : DeclaredNames) (ts rest : List Tok) → DatePart s (date x) ts rest → ListedDate (dates_of (before ++ x ∷ [])) s (pos (length before)) ts rest
+put_last before x s ts rest d = record {
+  number = length before;
+  on = date x;
+  is = refl;
+  stands = rw one_more before x (subst (λ (i : ℕ). slice_get (dates_of before ++ date x ∷ []) i ≡ Some (date x)) (as_many before) (stands_last (dates_of before) (date x)));
+  spelled = d;
+}
+
+-- and the others keep theirs
+pub put_keeps : (before : List DateExpr) (x : DateExpr) → KeepsLeaves (λ s. listed_leaf (dates_of before) s) (λ s. listed_leaf (dates_of (before ++ x ∷ [])) s)
+put_keeps before x = record {
+  keeps = λ s label index.
+      let still : Gives (ListedDate (dates_of before) s index) (ListedDate (dates_of (before ++ x ∷ [])) s index) = record {
+        gives = λ ts rest d. record {
+          number = d.number;
+          on = d.on;
+          is = d.is;
+          stands = rw one_more before x (stands_still (dates_of before) (date x ∷ []) d.number d.on d.stands);
+          spelled = d.spelled;
+        };
+      } in
+      (same ▹ same ▹ same ▹ same ▹ still ▹ same).gives;
+}
+
+-- ---- expressions
+
+module _ (dates : List Date) (s : DeclaredNames) where
+  date_gives : (index : ℤ) → Gives (ListedDate dates s index) (DatePart s (date_listed dates index))
+  date_gives index = record {
+    gives = λ ts rest d. subst (λ (x : Date). DatePart s x ts rest) (sym (listed_is dates index d.number d.on d.is d.stands)) d.spelled;
   }
 
-  expr_turns : (names : List Bytes) (e : Expression) → Turns text (expr Language.Code s names e) (value_part s names (with_date on e))
-  expr_turns names (Lit m k) = signed_stays literal_at (record { mant = m; scale = k })
-  expr_turns names (Yes true) = word_stays (codes "true")
-  expr_turns names (Yes false) = word_stays (codes "false")
-  expr_turns names (Var back) = value_stays (variable_at names) back
-  expr_turns names (Obs label place) = word_stays (codes "model") ▹ open_stays ▹ value_stays (use_at s.labels) label ▹ comma_stays ▹ date_turns place
-  expr_turns names (Neg e) = word_stays (codes "neg") ▹ open_stays ▹ expr_turns names e ▹ close_stays
-  expr_turns names (Not e) = word_stays (codes "not") ▹ open_stays ▹ expr_turns names e ▹ close_stays
-  expr_turns names (Num Min a b) = word_stays (codes "min") ▹ open_stays ▹ expr_turns names a ▹ comma_stays ▹ expr_turns names b ▹ close_stays
-  expr_turns names (Num Max a b) = word_stays (codes "max") ▹ open_stays ▹ expr_turns names a ▹ comma_stays ▹ expr_turns names b ▹ close_stays
-  expr_turns names (Num Plus a b) = open_stays ▹ expr_turns names a ▹ value_stays operator_at (Arithmetic Plus) ▹ expr_turns names b ▹ close_stays
-  expr_turns names (Num Minus a b) = open_stays ▹ expr_turns names a ▹ value_stays operator_at (Arithmetic Minus) ▹ expr_turns names b ▹ close_stays
-  expr_turns names (Num Times a b) = open_stays ▹ expr_turns names a ▹ value_stays operator_at (Arithmetic Times) ▹ expr_turns names b ▹ close_stays
-  expr_turns names (Cmp op a b) = open_stays ▹ expr_turns names a ▹ value_stays operator_at (Comparison op) ▹ expr_turns names b ▹ close_stays
-  expr_turns names (Logic op a b) = open_stays ▹ expr_turns names a ▹ value_stays operator_at (Connective op) ▹ expr_turns names b ▹ close_stays
-  expr_turns names (Cond t a b) =
-      word_stays (codes "if") ▹ open_stays ▹ expr_turns names t ▹ comma_stays ▹ expr_turns names a ▹ comma_stays ▹ expr_turns names b ▹ close_stays
-  expr_turns names (Widen k e) = word_stays (codes "widen") ▹ open_stays ▹ value_stays (integer_at 27) k ▹ comma_stays ▹ expr_turns names e ▹ close_stays
-  expr_turns names (Round m k e) =
-      word_stays (codes "round") ▹ open_stays ▹ value_stays mode_at m ▹ comma_stays ▹ value_stays (integer_at 27) k ▹ comma_stays ▹ expr_turns names e ▹ close_stays
-  expr_turns names (Div m k a b) =
-      word_stays (codes "div") ▹ open_stays ▹ value_stays mode_at m ▹ comma_stays ▹ value_stays (integer_at 27) k ▹ comma_stays ▹ expr_turns names a ▹ comma_stays ▹ expr_turns names b ▹ close_stays
-  expr_turns names (Acc body n first) = record {
-    turns = λ ts rest stands x.
-        let a = (word_stays {text = text} (codes "acc") ▹ open_stays ▹ value_stays binder_at x.name ▹ comma_stays ▹ expr_turns (x.name ∷ names) body ▹ comma_stays ▹ value_stays (integer_at 100_000) n ▹ comma_stays ▹ expr_turns names first ▹ close_stays).turns ts rest stands x.spelled in
-        (record { name = x.name; spelled = a.0 }, a.1);
+  value_gives : (names : List Bytes) (e : Expression) → Gives (expr_with (listed_leaf dates s) names e) (value_part s names (with_date (date_listed dates) e))
+  value_gives names (Lit m k) = same
+  value_gives names (Yes true) = same
+  value_gives names (Yes false) = same
+  value_gives names (Var back) = same
+  value_gives names (Obs label index) = same ▹ same ▹ same ▹ same ▹ date_gives index ▹ same
+  value_gives names (Neg e) = same ▹ same ▹ value_gives names e ▹ same
+  value_gives names (Not e) = same ▹ same ▹ value_gives names e ▹ same
+  value_gives names (Num Min a b) = same ▹ same ▹ value_gives names a ▹ same ▹ value_gives names b ▹ same
+  value_gives names (Num Max a b) = same ▹ same ▹ value_gives names a ▹ same ▹ value_gives names b ▹ same
+  value_gives names (Num Plus a b) = same ▹ value_gives names a ▹ same ▹ value_gives names b ▹ same
+  value_gives names (Num Minus a b) = same ▹ value_gives names a ▹ same ▹ value_gives names b ▹ same
+  value_gives names (Num Times a b) = same ▹ value_gives names a ▹ same ▹ value_gives names b ▹ same
+  value_gives names (Cmp op a b) = same ▹ value_gives names a ▹ same ▹ value_gives names b ▹ same
+  value_gives names (Logic op a b) = same ▹ value_gives names a ▹ same ▹ value_gives names b ▹ same
+  value_gives names (Cond t a b) = same ▹ same ▹ value_gives names t ▹ same ▹ value_gives names a ▹ same ▹ value_gives names b ▹ same
+  value_gives names (Widen k e) = same ▹ same ▹ same ▹ same ▹ value_gives names e ▹ same
+  value_gives names (Round m k e) = same ▹ same ▹ same ▹ same ▹ same ▹ same ▹ value_gives names e ▹ same
+  value_gives names (Div m k a b) = same ▹ same ▹ same ▹ same ▹ same ▹ same ▹ value_gives names a ▹ same ▹ value_gives names b ▹ same
+  value_gives names (Acc body n first) = record {
+    gives = λ ts rest x.
+        record {
+          name = x.name;
+          spelled = (same ▹ same ▹ same ▹ same ▹ value_gives (x.name ∷ names) body ▹ same ▹ same ▹ same ▹ value_gives names first ▹ same).gives ts rest x.spelled;
+        };
   }
 
-pub dated_spelled : (text : List ℕ) (s : DeclaredNames) (names : List Bytes) (e : Expression) (rest : List Tok) → expr Language.Code s names e (tokens text) rest → value_part s names (with_date (date_at s.templates text) e) (tokens text) rest
-dated_spelled text s names e rest x = ((expr_turns text s names e).turns (tokens text) rest (stands_in text) x).0
+-- an expression is spelled as the value expression that it is with the dates of its list
+pub listed_spelled : (dates : List Date) (s : DeclaredNames) (names : List Bytes) (e : Expression) (ts rest : List Tok) → expr_with (listed_leaf dates s) names e ts rest → value_part s names (with_date (date_listed dates) e) ts rest
+listed_spelled dates s names e = (value_gives dates s names e).gives

@@ -16,6 +16,7 @@ pub mod CodeFileSpelled
 pub mod IndexFacts
 pub mod OrderFacts
 pub mod TokensStand
+pub mod DatePlaces
 pub mod DateReading
 pub mod Standing
 pub mod DatedSpelled

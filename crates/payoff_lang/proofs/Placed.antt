@@ -1,5 +1,5 @@
 -- A value expression that stands in a text is spelled as an expression of code, whose dates stand at its places.
-use Rattle.std.proofs.Common.{◌≡◌, ◌∙◌, ℕ, ℤ, pos, Bool, true, false, List, ◌∷◌, refl, sym, ap, arith}
+use Rattle.std.proofs.Common.{◌≡◌, ◌∙◌, ℕ, ℤ, pos, Bool, true, false, List, ◌∷◌, refl, sym, ap, subst, arith}
 use Rattle.std.specs.Prelude.{codes}
 use Rattle.term_core.specs.Terms.{Expression, Lit as Lit', Yes as Yes', Var as Var', Obs as Obs', Neg as Neg', Num as Num', Cmp as Cmp', Not as Not', Logic as Logic', Cond as Cond', Widen as Widen', Round as Round', Div as Div', Acc as Acc'}
 use Rattle.term_core.specs.Sizes.{height, nodes}
@@ -17,10 +17,11 @@ use Rattle.payoff_lang.specs.Code.{ValueExpression, Lit, Yes, Var, Model, Neg, N
 use Rattle.payoff_lang.specs.Dating.{plain}
 use Rattle.payoff_lang.specs.CodeSpelling.{DatePart, value_part}
 use Rattle.payoff_lang.specs.Dating.{with_date}
-use Rattle.payoff_lang.specs.CodeReading.{date_at}
+use Rattle.payoff_lang.proofs.DatePlaces.{date_at, date_first}
 use Rattle.payoff_lang.proofs.Standing.{Turns, ◌▹◌, behind_first, close_stays, comma_stays, date_stays, open_stays, signed_stays, value_stays, word_stays}
 use Rattle.payoff_lang.proofs.DateReading.{date_is}
-use Rattle.payoff_lang.proofs.DatedSpelled.{height_dated, place_is}
+use Rattle.payoff_lang.proofs.DatedSpelled.{height_dated}
+use Rattle.payoff_lang.proofs.TokensStand.{StandsIn}
 
 pub record Placed (text : List ℕ) (s : DeclaredNames) (names : List Bytes) (v : ValueExpression) (ts rest : List Tok) : Type 0 where
   pub e : Expression
@@ -66,6 +67,12 @@ date_begins true days ts rest x = (x.one.0, x.between, x.one.1)
 date_begins false days ts rest x = (x.two.0, rest, x.one ∙ x.two.1)
 
 module _ (text : List ℕ) (s : DeclaredNames) where
+  -- what stands at the place of a date is the date
+  place_is : (place : ℤ) (ts rest : List Tok) → StandsIn text ts → DateFrom s.templates place ts rest → date_at s.templates text place ≡ date_first s.templates ts
+  place_is place ts rest stands x =
+      let first = (subst (λ (us : List Tok). StandsIn text us) x.is stands).0 in
+      ap (λ (p : ℤ). date_at s.templates text p) x.left ∙ ap (λ (us : List Tok). date_first s.templates us) (first ∙ sym x.is)
+
   located : (x : Date) → Turns text (DatePart s x ⨟ mark (codes ")")) (Located text s x ⨟ mark (codes ")"))
   located x = record {
     turns = λ ts rest stands y.
@@ -73,7 +80,7 @@ module _ (text : List ℕ) (s : DeclaredNames) where
         let first = date_begins d.spelled.one.negative x.days ts d.spelled.between d.spelled.one.spelled in
         let from : DateFrom s.templates (pos first.0.left) ts y.between = record { days = x.days; written = d.written; first = first.0; behind = first.1; is = first.2; left = refl; spelled = d.spelled } in
         let stays = (date_stays {text = text} s.templates x.days d.written).turns ts y.between stands d.spelled in
-        let is = place_is text s (pos first.0.left) ts y.between stands from ∙ date_is s x ts y.between d (mark_lacks (codes ")") (codes "+") y.between rest refl y.two) in
+        let is = place_is (pos first.0.left) ts y.between stands from ∙ date_is s x ts y.between d (mark_lacks (codes ")") (codes "+") y.between rest refl y.two) in
         (record { between = y.between; one = record { place = pos first.0.left; from = from; is = is }; two = y.two }, behind_first text y.two.0 y.between rest y.two.1 stays.1);
   }
 

@@ -1,21 +1,20 @@
--- What the readers of payoff code make of a text. An expression that is read as one of code has for the offset of each
--- observable the place of its date, as how many bytes of the text are left there; here the dates are put in.
-use Rattle.std.specs.Prelude.{◌≡◌, ◌-◌, ℕ, ℤ, pos, negsuc, false, true, List, [], ◌∷◌, ◌++◌, Option, Some, None, codes, drop, length, if◌then◌else◌}
-use Rattle.decimal.specs.DecimalText.{signed}
-use Rattle.contract_parse.specs.Tokens.{Tok, tokens}
-use Rattle.contract_parse.specs.Words.{Bytes, is_the_mark}
+-- What the readers of payoff code make of a text. The dates of an expression are put into a list, and an expression that
+-- is read as one of code has for the offset of each observable the index of its date.
+use Rattle.std.specs.Prelude.{◌≡◌, ℕ, ℤ, pos, negsuc, List, [], ◌∷◌, ◌++◌, Some, None, codes, map, slice_get}
+use Rattle.contract_parse.specs.Tokens.{Tok}
+use Rattle.contract_parse.specs.Words.{Bytes}
 use Rattle.contract_parse.specs.Heads.{BeginsAmount}
 use Rattle.term_core.specs.declared.decls.Decls.{Decls}
-use Rattle.contract_parse.specs.Names.{BoundNames, DeclaredNames, index_in, names_in}
-use Rattle.contract_parse.specs.Judgements.{whole}
-use Rattle.contract_parse.specs.Spelling.{Part, templates_part}
+use Rattle.contract_parse.specs.Names.{BoundNames, DeclaredNames, names_in}
+use Rattle.contract_parse.specs.Judgements.{use_at}
+use Rattle.contract_parse.specs.Spelling.{Leaf, Part, ◌⨟◌, mark, pair, templates_part, valued, word}
 use Rattle.contract_parse.specs.Places.{Place, amount_places}
 use Rattle.contract_parse.specs.Reading.{declared_in}
 use Rattle.contract_parse.specs.declared.heads.AmountHead.{AmountHead}
 use Rattle.payoff_lang.specs.declared.code.DateExpr.{DateExpr}
 use Rattle.payoff_lang.specs.declared.code.Vx.{Vx}
 use Rattle.payoff_lang.specs.declared.code.Code.{Code}
-use Rattle.payoff_lang.specs.TemplateDates.{Date, date, insert_names}
+use Rattle.payoff_lang.specs.TemplateDates.{Date, date, insert_names, no_date}
 use Rattle.payoff_lang.specs.CodeSpelling.{DatePart, code_part, value_part}
 use Rattle.payoff_lang.specs.Code.{payoff_code, value_expression}
 
@@ -30,6 +29,28 @@ pub record RisingTemplates (templates : List Bytes) (names : List ℕ) (ts rest 
   pub written : List ℕ
   pub is : names ≡ insert_names written []
   pub spelled : templates_part templates written ts rest
+
+-- the dates of a list
+abbrev pub dates_of : List DateExpr → List Date
+dates_of dates = map date dates
+
+-- the date with an index
+abbrev pub date_listed : List Date → ℤ → Date
+date_listed dates (pos i) = elim (slice_get dates i) [ Some x ↦ x | None ↦ no_date ]
+date_listed dates (negsuc i) = no_date
+
+-- a date with this index in a list
+pub record ListedDate (dates : List Date) (s : DeclaredNames) (index : ℤ) (ts rest : List Tok) : Type 0 where
+  pub number : ℕ
+  pub on : Date
+  pub is : index ≡ pos number
+  pub stands : slice_get dates number ≡ Some on
+  pub spelled : DatePart s on ts rest
+
+-- `model(label, date)`: the offset of the observable is the index of its date
+abbrev pub listed_leaf : List Date → DeclaredNames → Leaf
+listed_leaf dates s label index =
+    word (codes "model") ⨟ pair (valued (use_at s.labels) label) (ListedDate dates s index)
 
 -- the grammar's parts of the program's values, over declared names and under those that are bound
 abbrev pub date_in : Decls → DateExpr → Part
@@ -48,44 +69,3 @@ first_token_of_amount head ts rest = (t : Tok) × (ts ≡ t ∷ rest) × BeginsA
 -- what stands behind it
 abbrev pub behind_amount_head : ℕ → BoundNames → AmountHead → DeclaredNames → List Place → List Place
 behind_amount_head depth bound head s ps = amount_places s depth (names_in bound) head ps
-
--- the number of the first token
-abbrev pub number_first : List Tok → ℕ
-number_first [] = 0
-number_first (t ∷ ts) = whole t
-
--- the number that a date begins with, behind its sign where it has one
-abbrev pub days_first : List Tok → ℤ
-days_first [] = pos 0
-days_first (t ∷ ts) = if is_the_mark (codes "-") t then signed true (number_first ts) else signed false (whole t)
-
-abbrev pub behind_one : List Tok → List Tok
-behind_one [] = []
-behind_one (t ∷ ts) = ts
-
-abbrev pub behind_days : List Tok → List Tok
-behind_days [] = []
-behind_days (t ∷ ts) = if is_the_mark (codes "-") t then behind_one ts else ts
-
-abbrev pub or_first : Option ℕ → ℕ
-or_first (Some i) = i
-or_first None = 0
-
--- the templates that follow, as long as each has a `+` before it
-abbrev pub templates_first : List Bytes → List Tok → List ℕ
-templates_first templates (plus ∷ t ∷ ts) =
-    if is_the_mark (codes "+") plus then or_first (index_in templates t.text) ∷ templates_first templates ts else []
-templates_first templates _ = []
-
--- the date that tokens begin with
-abbrev pub date_first : List Bytes → List Tok → Date
-date_first templates ts = record { days = days_first ts; names = insert_names (templates_first templates (behind_days ts)) [] }
-
--- the last bytes of a text, so many
-abbrev pub last_bytes : List ℕ → ℤ → List ℕ
-last_bytes text (pos n) = drop (length text - n) text
-last_bytes text (negsuc n) = []
-
--- the date at a place of a text
-abbrev pub date_at : List Bytes → List ℕ → ℤ → Date
-date_at templates text place = date_first templates (tokens (last_bytes text place))

@@ -1,18 +1,16 @@
 //! Dates of payoff code from texts.
 
-ghost use Rattle.std.specs.Prelude.{◌≡◌, ◌≤◌, ◌∷◌, IfOk, codes, length};
+ghost use Rattle.std.specs.Prelude.{◌≤◌, ◌∷◌, IfOk, codes, length};
 ghost use Rattle.indexmap.specs.IndexMap.{keys};
 ghost use Rattle.contract_parse.specs.Tokens.{tokens};
 ghost use Rattle.contract_parse.specs.Places.{MoreTemplates, date_places};
 ghost use Rattle.contract_parse.specs.Reading.{LacksMark};
 ghost use Rattle.contract_parse.specs.Readers.{Passes, Reads};
-ghost use Rattle.payoff_lang.specs.TemplateDates.{date};
-ghost use Rattle.payoff_lang.specs.CodeReading.{AddsTemplates, RisingTemplates, date_first, date_in};
+ghost use Rattle.payoff_lang.specs.CodeReading.{AddsTemplates, RisingTemplates, date_in};
 
 use crate::code::DateExpr;
 use crate::dates::put_in_order;
 use contract_parse::{ReadErr, after_mark, read_date_number, read_use_of_map};
-use decimal::NoMemory;
 use std::alloc::Global;
 use term_core::Decls;
 
@@ -63,14 +61,4 @@ pub fn read_date<'a>(
     let (days, rest) = read_date_number(rest)?;
     let (names, rest) = read_templates(alloc, decls, rest)?;
     Ok((DateExpr { days, names }, rest))
-}
-
-/// The date with which a text begins. It is read where one stands, so that no other fault comes than want of memory.
-pub fn written_date(alloc: Global, decls: &Decls, text: &[u8]) -> Result<DateExpr, NoMemory>
-    ensures { IfOk result (λ x. date x ≡ date_first (keys decls.now.templates) (tokens text.now)) }
-{
-    match read_date(alloc, decls, text) {
-        Ok((on, _)) => Ok(on),
-        Err(_) => Err(NoMemory),
-    }
 }

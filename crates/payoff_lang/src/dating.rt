@@ -1,18 +1,15 @@
 //! Value expressions from expressions, for every way in which an offset gives a date.
 
 ghost use Rattle.std.specs.Prelude.{◌≡◌, ℤ, IfOk};
-ghost use Rattle.indexmap.specs.IndexMap.{keys};
 ghost use Rattle.term_core.specs.Terms.{expression};
 ghost use Rattle.payoff_lang.specs.TemplateDates.{Date, date, plus_days};
 ghost use Rattle.payoff_lang.specs.Dating.{HaveDates, MayMove, with_date};
 ghost use Rattle.payoff_lang.specs.Code.{value_expression};
-ghost use Rattle.payoff_lang.specs.CodeReading.{date_at, last_bytes};
 
 use crate::code::{DateExpr, Vx};
-use crate::date_reading::written_date;
 use decimal::NoMemory;
 use std::alloc::Global;
-use term_core::{Decls, Expr};
+use term_core::Expr;
 
 /// How the offset of an observable gives the date on which it is read.
 pub trait Dating {
@@ -24,6 +21,17 @@ pub trait Dating {
     fn date_at(&self, alloc: Global, offset: i32) -> Result<DateExpr, NoMemory>
         requires { has self.now offset }
         ensures { IfOk result (λ x. date x ≡ on self.now offset) };
+}
+
+/// The same date once more.
+pub fn copied(alloc: Global, on: &DateExpr) -> Result<DateExpr, NoMemory>
+    ensures { IfOk result (λ x. date x ≡ date on.now) }
+{
+    let names = Vec::from_slice(alloc, on.names.as_slice())?;
+    Ok(DateExpr {
+        days: on.days,
+        names,
+    })
 }
 
 // So many days later; the templates stay.
@@ -38,33 +46,6 @@ impl Dating for DateExpr {
             days: self.days + offset,
             names,
         })
-    }
-}
-
-/// The dates of a text. An expression that was read as one of code has the place of each as its offset.
-#[derive(Clone, Copy)]
-pub struct Written<'a> {
-    pub decls: &'a Decls,
-    pub text: &'a [u8],
-}
-
-// The last bytes of a text, so many.
-fn last_bytes(text: &[u8], place: i32) -> &[u8]
-    ensures { result.now ≡ last_bytes text.now place }
-{
-    match usize::try_from(place) {
-        Ok(left) => &text[text.len().saturating_sub(left)..],
-        Err(_) => &[],
-    }
-}
-
-impl<'a> Dating for Written<'a> {
-    ghost has = { λ w place. Unit {0} };
-
-    ghost on = { λ w place. date_at (keys w.decls.now.templates) w.text.now place };
-
-    fn date_at(&self, alloc: Global, offset: i32) -> Result<DateExpr, NoMemory> {
-        written_date(alloc, self.decls, last_bytes(self.text, offset))
     }
 }
 

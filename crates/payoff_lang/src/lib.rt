@@ -18,6 +18,7 @@ mod date_reading;
 mod dates;
 mod dating;
 pub mod laws;
+mod models;
 mod numbering;
 mod parsing;
 mod printing;

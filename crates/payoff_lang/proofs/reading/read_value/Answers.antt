@@ -1,5 +1,4 @@
 use Rattle.std.proofs.Common.{[], ap, arith, sym, subst, rules}
-use Rattle.indexmap.specs.IndexMap.{keys}
 use Rattle.term_core.specs.Sizes.{height}
 use Rattle.term_core.specs.Terms.{expression}
 use Rattle.contract_parse.specs.Tokens.{tokens}
@@ -7,13 +6,12 @@ use Rattle.contract_parse.specs.Names.{names_in}
 use Rattle.contract_parse.specs.Reading.{declared_in}
 use Rattle.payoff_lang.specs.Code.{ValueExpression}
 use Rattle.payoff_lang.specs.Dating.{plain}
-use Rattle.payoff_lang.specs.CodeReading.{date_at}
 use Rattle.payoff_lang.specs.CodeSpelling.{value_part}
-use Rattle.payoff_lang.proofs.DatedSpelled.{dated_spelled, have_dates, height_dated}
+use Rattle.payoff_lang.proofs.DatedSpelled.{have_dates, height_dated, listed_spelled}
 use Rattle.payoff_lang.proofs.reading.read_value.Goals as goal
 
 pub dated-requires : goal.dated-requires
-dated-requires c = have_dates (λ place. Unit {0}) (λ place. tt) (expression c.in_ok-e.e)
+dated-requires c = have_dates (λ index. Unit {0}) (λ index. tt) (expression c.in_ok-e.e)
 
 pub returns-clause-reads : goal.returns-clause-reads
 returns-clause-reads c = record {
@@ -21,11 +19,11 @@ returns-clause-reads c = record {
   spelled =
       let s = declared_in c.args.decls.now [] in
       subst (λ (v : ValueExpression). value_part s (names_in c.args.bound.now) v (tokens c.args.rest.now) (tokens c.in_ok-e.after.now)) (sym c.in_ok-v.ensures)
-      (dated_spelled c.args.rest.now s (names_in c.args.bound.now) (expression c.in_ok-e.e) (tokens c.in_ok-e.after.now) c.in_ok-e.ensures.reads.spelled);
+      (listed_spelled _ s (names_in c.args.bound.now) (expression c.in_ok-e.e) (tokens c.args.rest.now) (tokens c.in_ok-e.after.now) c.in_ok-e.ensures.reads.spelled);
   shorter = search rules;
 }
 
 pub returns-clause-high : goal.returns-clause-high
 returns-clause-high c =
-    let same = height_dated (date_at (keys c.args.decls.now.templates) c.args.rest.now) (expression c.in_ok-e.e) in
+    let same = height_dated _ (expression c.in_ok-e.e) in
     omega (arith, c.in_ok-e.ensures.high, same, ap (λ (v : ValueExpression). height (plain v)) c.in_ok-v.ensures)

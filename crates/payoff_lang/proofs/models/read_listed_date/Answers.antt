@@ -1,0 +1,15 @@
+use Rattle.std.proofs.Common.{[], rules}
+use Rattle.contract_parse.specs.Tokens.{tokens}
+use Rattle.contract_parse.specs.Reading.{declared_in}
+use Rattle.payoff_lang.proofs.DatedSpelled.{put_keeps, put_last}
+use Rattle.payoff_lang.proofs.models.read_listed_date.Goals as goal
+
+pub returns-clause-reads : goal.returns-clause-reads
+returns-clause-reads c = record {
+  follows = search rules;
+  spelled = rw (c.in_ok-index.ensures.index, c.in_ok-index.ensures.dates) (put_last c.args.dates.now.items c.in_ok-on.on (declared_in c.args.decls.now []) (tokens c.args.rest.now) (tokens c.in_ok-on.rest.now) c.in_ok-on.ensures.reads.spelled);
+  shorter = search rules;
+}
+
+pub returns-clause-kept : goal.returns-clause-kept
+returns-clause-kept c = rw c.in_ok-index.ensures.dates (put_keeps c.args.dates.now.items c.in_ok-on.on)
