@@ -54,7 +54,8 @@ pub fn advance_of<'a>(alloc: Global, words: &'a [&'a str]) -> Result<Advance<'a>
     advance_given(&matches)
 }
 
-/// `novate PORTFOLIO FIXINGS --to DAY --contract NAME --old P --new Q`, by the words behind the first.
+/// `novate PORTFOLIO FIXINGS --to DAY --contract NAME --old P --new Q`, by the words behind the
+/// first.
 pub fn novate_of<'a>(alloc: Global, words: &'a [&'a str]) -> Result<Novate<'a>, WordsErr>
     ensures { IsAnswer novate_by (novate_of (texts words.entry.now)) result }
 {

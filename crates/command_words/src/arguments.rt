@@ -1,5 +1,5 @@
-//! Commands as the crate `clap` reads them: each is declared by its name and its arguments, and what words mean is the
-//! function of them that the crate states.
+//! Commands as the crate `clap` reads them: each is declared by its name and its arguments, and
+//! what words mean is the function of them that the crate states.
 
 ghost use Rattle.std.specs.Prelude.{◌≡◌, IfOk, false, map, true};
 ghost use Rattle.clap.specs.Words.{app_of, is_simple_and_free, rule_of};
@@ -78,7 +78,8 @@ fn declare<'a>(
     name: &'a str,
     arguments: &[Argument<'a>],
 ) -> Result<Command<'a>, AllocError>
-    ensures { IfOk result (λ command. app_of command ≡ declared name.entry.now (map rule_by arguments.now)) }
+    ensures { IfOk result (λ command. app_of command
+        ≡ declared name.entry.now (map rule_by arguments.now)) }
 {
     let mut command = bare(alloc, name);
     for argument in arguments {
@@ -87,7 +88,8 @@ fn declare<'a>(
     Ok(command)
 }
 
-/// What the words behind a command's own mean to it, where it is declared by this name and these arguments.
+/// What the words behind a command's own mean to it, where it is declared by this name and these
+/// arguments.
 pub fn matches_of<'a>(
     alloc: Global,
     name: &'a str,

@@ -5,8 +5,8 @@ ghost use Rattle.fixing_files.specs.Days.{day_named};
 
 use fixing_files::{NamedDay, read_day};
 
-/// A word with what it names: a number of days, or a date, whose day is a matter of the portfolio's origin. The word is read
-/// once, for its form and its day.
+/// A word with what it names: a number of days, or a date, whose day is a matter of the portfolio's
+/// origin. The word is read once, for its form and its day.
 #[derive(Clone, Copy)]
 pub struct DayWord<'a> {
     pub word: &'a str,

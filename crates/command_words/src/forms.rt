@@ -18,7 +18,8 @@ pub fn given(word: Option<&str>) -> Result<&str, WordsErr>
 
 /// A day, if a word gives one.
 pub fn day_if_given(word: Option<&str>) -> Result<Option<DayWord<'_>>, WordsErr>
-    ensures { IsAnswer (option_map (λ day. day.word.now)) (if_given is_day (given_text word.entry)) result }
+    ensures { IsAnswer (option_map
+        (λ day. day.word.now)) (if_given is_day (given_text word.entry)) result }
 {
     let Some(text) = word else {
         return Ok(None);

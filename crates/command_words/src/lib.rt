@@ -1,12 +1,12 @@
-//! What the words of the command line ask for: each command is declared by its arguments, and the words mean
-//! what the crate `clap` states of them.
+//! What the words of the command line ask for: each command is declared by its arguments, and the
+//! words mean what the crate `clap` states of them.
 //!
 //! ```text
 //! let request = request_of(alloc, &["flows", "loan.txt", "--until", "90"])?;
 //! ```
 //!
-//! Promised: `request_of` answers the command that the words ask for with its arguments, or that they are of
-//! no form (`IsRequestOf`).
+//! Promised: `request_of` answers the command that the words ask for with its arguments, or that
+//! they are of no form (`IsRequestOf`).
 //! Only tested: that it answers where there is memory (rows of `run_rows`).
 #![tactic(auto)]
 

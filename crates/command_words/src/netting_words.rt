@@ -24,7 +24,8 @@ fn netting_given<'a>(matches: &ArgMatches<'a>) -> Result<Netting<'a>, WordsErr>
     })
 }
 
-/// `positions PORTFOLIO [FIXINGS] [--until DAY]`, or `settle` of the same form, by the command's name and the words behind it.
+/// `positions PORTFOLIO [FIXINGS] [--until DAY]`, or `settle` of the same form, by the command's
+/// name and the words behind it.
 pub fn netting_of<'a>(
     alloc: Global,
     name: &'a str,

@@ -15,7 +15,8 @@ impl SampleSize {
     ghost use Rattle.std.specs.Prelude.{◌≡◌, option_map};
     ghost use Rattle.command_words.specs.Words.{sample_size};
 
-    /// The number of a word. There is one exactly where the word is digits with a value of the range.
+    /// The number of a word. There is one exactly where the word is digits with a value of the
+    /// range.
     pub fn read(word: &str) -> Option<SampleSize>
         ensures { option_map (λ size. size.contracts) result ≡ sample_size word.now }
     {

@@ -31,7 +31,8 @@ fn mode_given(word: Option<&str>) -> Result<Mode, WordsErr>
     }
 }
 
-/// `scenarios CODE SCENARIOS CURVE [T=N].. --at DAY --from P --to Q --asset A --mean MODE`, by the words behind the first.
+/// `scenarios CODE SCENARIOS CURVE [T=N].. --at DAY --from P --to Q --asset A --mean MODE`, by the
+/// words behind the first.
 pub fn scenarios_of<'a>(alloc: Global, words: &'a [&'a str]) -> Result<Scenarios<'a>, WordsErr>
     ensures { IsAnswer scenarios_by (scenarios_of (texts words.entry.now)) result }
 {

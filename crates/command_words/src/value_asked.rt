@@ -22,7 +22,8 @@ pub struct Between<'a> {
     pub asset: &'a str,
 }
 
-/// What a code file is worth on a day, between two parties, at the numbers that are set for its templates.
+/// What a code file is worth on a day, between two parties, at the numbers that are set for its
+/// templates.
 #[derive(Drop)]
 pub struct Value<'a> {
     pub files: ValueFiles<'a>,

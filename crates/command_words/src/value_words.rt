@@ -23,7 +23,8 @@ use term_core::Name;
 
 // The template that a word names, and the number that it sets for it, which is at most 100,000.
 fn setting_of_word(word: &str) -> Option<(&[u8], u32)>
-    ensures value { option_map (λ setting. (setting.0.now, setting.1)) result ≡ setting_of_word word.now }
+    ensures value { option_map (λ setting. (setting.0.now, setting.1)) result
+        ≡ setting_of_word word.now }
     ensures few { IfSome result (λ setting. setting.1 ≤ 100_000) }
 {
     let (name, number) = word.split_once('=')?;
@@ -111,7 +112,8 @@ fn between_of<'a>(matches: &ArgMatches<'a>) -> Result<Between<'a>, WordsErr>
     Ok(Between { from, to, asset })
 }
 
-/// What is to be valued, by the files, the day, the parties, the asset and the settings that were given.
+/// What is to be valued, by the files, the day, the parties, the asset and the settings that were
+/// given.
 pub fn value_given<'a>(alloc: Global, matches: &ArgMatches<'a>) -> Result<Value<'a>, WordsErr>
     ensures { IsAnswer value_by (value_from (first_value (found_of matches.now)) (all_values (found_of matches.now))) result }
 {
@@ -127,7 +129,8 @@ pub fn value_given<'a>(alloc: Global, matches: &ArgMatches<'a>) -> Result<Value<
     })
 }
 
-/// `value CODE FIXINGS CURVE [T=N].. --at DAY --from P --to Q --asset A`, by the words behind the first.
+/// `value CODE FIXINGS CURVE [T=N].. --at DAY --from P --to Q --asset A`, by the words behind the
+/// first.
 pub fn value_of<'a>(alloc: Global, words: &'a [&'a str]) -> Result<Value<'a>, WordsErr>
     ensures { IsAnswer value_by (value_of (texts words.entry.now)) result }
 {

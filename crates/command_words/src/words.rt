@@ -18,8 +18,8 @@ use crate::value_words::value_of;
 use decimal::{Mode, NoMemory};
 use std::alloc::Global;
 
-/// What the contracts of a portfolio's file pay: over the fixings of another file, up to a day, of one contract alone, and
-/// summed, each where it is asked.
+/// What the contracts of a portfolio's file pay: over the fixings of another file, up to a day, of
+/// one contract alone, and summed, each where it is asked.
 #[derive(Clone, Copy)]
 pub struct Flows<'a> {
     pub portfolio: &'a str,
@@ -29,8 +29,8 @@ pub struct Flows<'a> {
     pub net: bool,
 }
 
-/// The flows of a portfolio's file that are due before a day, over the fixings of another file, and the portfolio that is
-/// left on that day.
+/// The flows of a portfolio's file that are due before a day, over the fixings of another file, and
+/// the portfolio that is left on that day.
 #[derive(Clone, Copy)]
 pub struct Advance<'a> {
     pub portfolio: &'a str,
@@ -38,7 +38,8 @@ pub struct Advance<'a> {
     pub to: DayWord<'a>,
 }
 
-/// The code of the contract of a name in a portfolio's file, with its payments cut, or plain where that is asked.
+/// The code of the contract of a name in a portfolio's file, with its payments cut, or plain where
+/// that is asked.
 #[derive(Clone, Copy)]
 pub struct Payoff<'a> {
     pub portfolio: &'a str,
@@ -46,8 +47,8 @@ pub struct Payoff<'a> {
     pub plain: bool,
 }
 
-/// The net positions that all contracts of a portfolio's file leave, or the payments that settle them: over the fixings of
-/// another file, up to a day, each where it is asked.
+/// The net positions that all contracts of a portfolio's file leave, or the payments that settle
+/// them: over the fixings of another file, up to a day, each where it is asked.
 #[derive(Clone, Copy)]
 pub struct Netting<'a> {
     pub portfolio: &'a str,
@@ -64,8 +65,8 @@ pub struct Novate<'a> {
     pub new: &'a str,
 }
 
-/// What a code file is worth in each scenario of a table, which stands in the place of the fixings, with the mode that rounds
-/// the mean.
+/// What a code file is worth in each scenario of a table, which stands in the place of the fixings,
+/// with the mode that rounds the mean.
 #[derive(Drop)]
 pub struct Scenarios<'a> {
     pub value: Value<'a>,
@@ -131,7 +132,8 @@ fn expand_of<'a>(alloc: Global, words: &'a [&'a str]) -> Result<Request<'a>, Wor
     Ok(Request::Expand { plans })
 }
 
-// `flows PORTFOLIO [FIXINGS] [--until DAY] [--contract NAME] [--net]`, by the words behind the first.
+// `flows PORTFOLIO [FIXINGS] [--until DAY] [--contract NAME] [--net]`, by the words behind the
+// first.
 fn flows_of<'a>(alloc: Global, words: &'a [&'a str]) -> Result<Request<'a>, WordsErr>
     ensures { IsAnswer requested_by (flows_of (texts words.entry.now)) result }
 {
@@ -187,7 +189,8 @@ fn sample_of<'a>(alloc: Global, words: &'a [&'a str]) -> Result<Request<'a>, Wor
     }
 }
 
-// What the words behind a name ask for, where it is that of a command over another file than a portfolio, or over none.
+// What the words behind a name ask for, where it is that of a command over another file than a
+// portfolio, or over none.
 fn other_request_of<'a>(
     alloc: Global,
     name: &str,
@@ -210,8 +213,8 @@ fn other_request_of<'a>(
     }
 }
 
-/// What the words ask for, which are those of the command line without the program's name. `Usage` comes exactly where
-/// they have the form of none.
+/// What the words ask for, which are those of the command line without the program's name. `Usage`
+/// comes exactly where they have the form of none.
 pub fn request_of<'a>(alloc: Global, words: &'a [&'a str]) -> Result<Request<'a>, WordsErr>
     ensures { IsRequestOf (texts words.entry.now) result }
 {

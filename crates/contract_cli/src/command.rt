@@ -54,20 +54,24 @@ fn prepare<'a, F: Files>(
     }
 }
 
-/// Runs the command of the words, which are those of the command line without the program's name: reads the named
-/// files, each once and in order, makes the whole text, and writes it. `check PORT` writes a line for each contract, in
-/// their order, that says whether it is accepted; `flows PORT [FIX] [--until DAY] [--contract NAME] [--net]` writes the
-/// flow lines of all contracts, or of the named one, or of their sum, over the fixings, up to the day; `advance PORT FIX --to
-/// DAY` writes the flow lines of the days before the day as comments, and the portfolio that is left on it; `payoff PORT
-/// --contract NAME [--plain]` writes the code of the named contract, with its payments cut or plain; `value CODE FIX CURVE
-/// [T=N].. --at DAY --from P --to Q --asset A` writes the line of what the code is worth on the day between the two parties in
-/// the asset; `scenarios CODE SCEN CURVE [T=N].. --at DAY --from P --to Q --asset A --mean MODE` writes what it is worth in each
-/// scenario of a table, and the total, the mean, the least and the greatest of these; `migrate PORT` writes the portfolio in
-/// version 2; `expand PLANS` writes the portfolio of the contracts that the plans of a schedule file are written for; `positions
-/// PORT [FIX] [--until DAY]` writes what each party receives or pays net, and `settle PORT [FIX] [--until DAY]` the lines of
-/// payments that settle it; `novate PORT FIX --to DAY --contract NAME --old P --new Q` writes what `advance` writes, with a new
-/// party in the place of the old one in the named contract; `sample NUMBER` reads no file and writes the summary of the sample of
-/// so many contracts. What stops a command writes the line of its fault.
+/// Runs the command of the words, which are those of the command line without the program's name:
+/// reads the named files, each once and in order, makes the whole text, and writes it. `check PORT`
+/// writes a line for each contract, in their order, that says whether it is accepted; `flows PORT
+/// [FIX] [--until DAY] [--contract NAME] [--net]` writes the flow lines of all contracts, or of the
+/// named one, or of their sum, over the fixings, up to the day; `advance PORT FIX --to DAY` writes
+/// the flow lines of the days before the day as comments, and the portfolio that is left on it;
+/// `payoff PORT --contract NAME [--plain]` writes the code of the named contract, with its payments
+/// cut or plain; `value CODE FIX CURVE [T=N].. --at DAY --from P --to Q --asset A` writes the line
+/// of what the code is worth on the day between the two parties in the asset; `scenarios CODE SCEN
+/// CURVE [T=N].. --at DAY --from P --to Q --asset A --mean MODE` writes what it is worth in each
+/// scenario of a table, and the total, the mean, the least and the greatest of these; `migrate
+/// PORT` writes the portfolio in version 2; `expand PLANS` writes the portfolio of the contracts
+/// that the plans of a schedule file are written for; `positions PORT [FIX] [--until DAY]` writes
+/// what each party receives or pays net, and `settle PORT [FIX] [--until DAY]` the lines of
+/// payments that settle it; `novate PORT FIX --to DAY --contract NAME --old P --new Q` writes what
+/// `advance` writes, with a new party in the place of the old one in the named contract; `sample
+/// NUMBER` reads no file and writes the summary of the sample of so many contracts. What stops a
+/// command writes the line of its fault.
 pub fn run<'a, F: Files, S: Sink>(
     alloc: Global,
     words: &'a [&'a str],

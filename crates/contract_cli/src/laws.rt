@@ -1,4 +1,5 @@
-//! Laws of what runs answer: their statuses, and the texts that they print. Each is the contract of a function that does nothing.
+//! Laws of what runs answer: their statuses, and the texts that they print. Each is the contract of
+//! a function that does nothing.
 
 ghost use Rattle.command_answers.specs.AnswerLaws.{AnswersAreOne, DeclaredNamesHavePlaces, DueLinesAreOne, DueLinesOfNovateAreOne, StatusesAreOne, SummariesAreOne};
 ghost use Rattle.command_answers.specs.DueOfFlows.{DueOfFlows};
@@ -15,50 +16,52 @@ ghost use Rattle.contract_cli.specs.RunLaws.{AnswersHaveCauses, DoneHasTold, Rea
 ghost use Rattle.contract_cli.specs.SampleLaws.{SampleHasThreeEnds};
 ghost use Rattle.contract_cli.specs.TwoRuns.{AdvancedTextsAdvance, AdvancedTextsAreAccepted, MigratedSayTheSame, MigratedStay, MigratedTextsAreTexts, PrintedCodeIsTaken, PrintedCodeIsValued};
 
-/// Each status but out of memory comes exactly where it is due, or memory is wanting: that of the first stage of the run that
-/// passes nothing, or that of the end; and with it the text of the course is written. So of the whole run, where the files that it
-/// reads are told; and of the command over the bytes of files that are told and not too long.
+/// Each status but out of memory comes exactly where it is due, or memory is wanting: that of the
+/// first stage of the run that passes nothing, or that of the end; and with it the text of the
+/// course is written. So of the whole run, where the files that it reads are told; and of the
+/// command over the bytes of files that are told and not too long.
 pub fn statuses_are_exact()
     ensures run { StatusesAreExact }
     ensures files { StatusesOverFilesAreExact }
 {}
 
-/// A run that each stage passes has written the whole text of its command, or wants memory; and one that is done has read its files
-/// and told its text.
+/// A run that each stage passes has written the whole text of its command, or wants memory; and one
+/// that is done has read its files and told its text.
 pub fn run_is_complete()
     ensures complete { RunIsComplete }
     ensures done { DoneHasTold }
 {}
 
-/// What answers a run has a cause: words of no form, a file that was not read, or what the command answers to the bytes of its
-/// files.
+/// What answers a run has a cause: words of no form, a file that was not read, or what the command
+/// answers to the bytes of its files.
 pub fn answers_have_causes()
     ensures { AnswersHaveCauses }
 {}
 
-/// Usage comes exactly where the words are of no form, or memory is wanting, or the write of its line fails; and it has
-/// just that line.
+/// Usage comes exactly where the words are of no form, or memory is wanting, or the write of its
+/// line fails; and it has just that line.
 pub fn usage_is_exact()
     ensures exact { UsageIsExact }
     ensures line { UsageWritesItsLine }
 {}
 
-/// A read fault comes only where the count of a named file rose, whose place its line has; a write fault only where the
-/// count of the sink rose.
+/// A read fault comes only where the count of a named file rose, whose place its line has; a write
+/// fault only where the count of the sink rose.
 pub fn faults_have_causes()
     ensures reads { ReadFaultsHaveCauses }
     ensures writes { WriteFaultsHaveCauses }
 {}
 
-/// A file is too long only where it has more bytes than the limit; and the first that has is, with its place in the line, whatever
-/// is true of the files behind it.
+/// A file is too long only where it has more bytes than the limit; and the first that has is, with
+/// its place in the line, whatever is true of the files behind it.
 pub fn too_long_is_exact()
     ensures only { TooLongHasACause }
     ensures comes { TooLongComes }
 {}
 
-/// What the law of statuses says of `flows`, of `value` and of `scenarios`, status by status: where the cause of a status stands
-/// it is due, and what stops the command has its cause. `positions` and `settle` have the causes that `flows` of all contracts has.
+/// What the law of statuses says of `flows`, of `value` and of `scenarios`, status by status: where
+/// the cause of a status stands it is due, and what stops the command has its cause. `positions`
+/// and `settle` have the causes that `flows` of all contracts has.
 pub fn causes_are_due()
     ensures flows { DueOfFlows }
     ensures value { DueOfValue }
@@ -67,9 +70,10 @@ pub fn causes_are_due()
     ensures scenarios { DueOfScenarios }
 {}
 
-/// The bytes of the files of any command but `advance` and `novate` have one answer, a status and a text. Those of these two have
-/// one status, one line of a fault and the same due lines; what is left of a contract may be written in more than one way. The sample
-/// of a number of contracts has one summary.
+/// The bytes of the files of any command but `advance` and `novate` have one answer, a status and a
+/// text. Those of these two have one status, one line of a fault and the same due lines; what is
+/// left of a contract may be written in more than one way. The sample of a number of contracts has
+/// one summary.
 pub fn answers_are_one()
     ensures files { AnswersAreOne }
     ensures statuses { StatusesAreOne }
@@ -78,27 +82,29 @@ pub fn answers_are_one()
     ensures sample { SummariesAreOne }
 {}
 
-/// Two runs compose: what is left on a day of what was left on an earlier one, under more fixings, carries the first
-/// contracts to that day.
+/// Two runs compose: what is left on a day of what was left on an earlier one, under more fixings,
+/// carries the first contracts to that day.
 pub fn advances_compose()
     ensures { AdvancesCompose }
 {}
 
-/// What `advance` prints of the portfolio of a text is itself a text: that of what is left of the portfolio on the new day,
-/// in which no contract is refused.
+/// What `advance` prints of the portfolio of a text is itself a text: that of what is left of the
+/// portfolio on the new day, in which no contract is refused.
 pub fn advance_texts_are_texts()
     ensures { AdvanceTextsAreTexts }
 {}
 
-/// What `novate` prints of the portfolio of a text is itself a text: that of what is left of the portfolio on the new day, with the
-/// new party in the named contract. No contract of it is refused. The named contract pays between two parties what the first one pays
-/// between all that the renaming takes to them; every other contract carries the first one.
+/// What `novate` prints of the portfolio of a text is itself a text: that of what is left of the
+/// portfolio on the new day, with the new party in the named contract. No contract of it is
+/// refused. The named contract pays between two parties what the first one pays between all that
+/// the renaming takes to them; every other contract carries the first one.
 pub fn novate_texts_are_texts()
     ensures { NovateTextsAreTexts }
 {}
 
-/// What `payoff` prints of a contract of a portfolio's text is a text of a code file on the portfolio's declarations in version 1,
-/// whose code means the contract, is accepted at every setting at which the contract is, and has few nodes.
+/// What `payoff` prints of a contract of a portfolio's text is a text of a code file on the
+/// portfolio's declarations in version 1, whose code means the contract, is accepted at every
+/// setting at which the contract is, and has few nodes.
 pub fn payoff_texts_mean()
     ensures { PayoffTextsMean }
 {}
@@ -108,52 +114,57 @@ pub fn sample_has_three_ends()
     ensures { SampleHasThreeEnds }
 {}
 
-/// The parties and the asset of `value`, where all names of the words are declared, have places to be asked for.
+/// The parties and the asset of `value`, where all names of the words are declared, have places to
+/// be asked for.
 pub fn declared_names_have_places()
     ensures { DeclaredNamesHavePlaces }
 {}
 
-/// What `payoff` has printed is a text of code for `value`, which does not refuse it at a setting at which the contract is
-/// accepted; and the number that `value` prints of it is the contract's present value there, where the code is not plain.
+/// What `payoff` has printed is a text of code for `value`, which does not refuse it at a setting
+/// at which the contract is accepted; and the number that `value` prints of it is the contract's
+/// present value there, where the code is not plain.
 pub fn printed_code_is_valued()
     ensures taken { PrintedCodeIsTaken }
     ensures valued { PrintedCodeIsValued }
 {}
 
-/// What `advance` prints of a portfolio that `advance` has printed carries the first contracts to the later day; and `check`
-/// accepts each contract of what `advance` has printed.
+/// What `advance` prints of a portfolio that `advance` has printed carries the first contracts to
+/// the later day; and `check` accepts each contract of what `advance` has printed.
 pub fn advanced_texts_advance()
     ensures carried { AdvancedTextsAdvance }
     ensures accepted { AdvancedTextsAreAccepted }
 {}
 
-/// What `migrate` prints is a text of the same portfolio in version 2, which has the same verdicts and flow lines; and what was
-/// migrated is migrated to the same bytes.
+/// What `migrate` prints is a text of the same portfolio in version 2, which has the same verdicts
+/// and flow lines; and what was migrated is migrated to the same bytes.
 pub fn migrated_texts_say_the_same()
     ensures texts { MigratedTextsAreTexts }
     ensures same { MigratedSayTheSame }
     ensures stay { MigratedStay }
 {}
 
-/// What `expand` prints of a schedule file is a text of the portfolio of its plans' contracts, which are accepted and pay what
-/// the plans say. So `check` accepts it, and what `flows` prints of it are the lines of what the plans pay.
+/// What `expand` prints of a schedule file is a text of the portfolio of its plans' contracts,
+/// which are accepted and pay what the plans say. So `check` accepts it, and what `flows` prints of
+/// it are the lines of what the plans pay.
 pub fn expanded_plans_pay()
     ensures texts { ExpandedTextsAreTexts }
     ensures accepted { ExpandedTextsAreAccepted }
     ensures listed { ExpandedPlansAreListed }
 {}
 
-/// The positions that `positions` prints add up to 0 on each day in each asset. The payments that `settle` prints leave each party
-/// where the flows of all contracts leave it, and on each day, in each asset, they are at least one fewer than the parties that
-/// come to something. So they bring each party to the position that `positions` prints of the same files, in fewer lines.
+/// The positions that `positions` prints add up to 0 on each day in each asset. The payments that
+/// `settle` prints leave each party where the flows of all contracts leave it, and on each day, in
+/// each asset, they are at least one fewer than the parties that come to something. So they bring
+/// each party to the position that `positions` prints of the same files, in fewer lines.
 pub fn printed_positions_are_settled()
     ensures positions { PrintedPositionsBalance }
     ensures settlements { PrintedSettlementsSettle }
     ensures both { SettlementsSettlePositions }
 {}
 
-/// What `novate` has printed `check` accepts. What `flows` prints of it are the later flows of the first contracts, with the new
-/// party in the named contract; and what a later `advance` leaves of it stands for the first contracts on the later day.
+/// What `novate` has printed `check` accepts. What `flows` prints of it are the later flows of the
+/// first contracts, with the new party in the named contract; and what a later `advance` leaves of
+/// it stands for the first contracts on the later day.
 pub fn novated_texts_stand_for_the_first()
     ensures accepted { NovatedTextsAreAccepted }
     ensures listed { NovatedTextsAreListed }

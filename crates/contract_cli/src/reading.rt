@@ -27,8 +27,8 @@ fn read_file<F: Files>(alloc: Global, files: &mut F, name: &str, place: u8) -> R
     }
 }
 
-/// The bytes of the files of these names, in their order. It stops at the first that is not read, or is longer than 16,777,216
-/// bytes; its place is counted from 1.
+/// The bytes of the files of these names, in their order. It stops at the first that is not read,
+/// or is longer than 16,777,216 bytes; its place is counted from 1.
 pub fn read_files<F: Files>(
     alloc: Global,
     files: &mut F,

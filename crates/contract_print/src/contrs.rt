@@ -33,7 +33,8 @@ pub fn append_asset_name(
     assets: &IndexMap<Name, u8>,
     place: u32,
 ) -> Result<(), NoMemory>
-    ensures { OnOk result (out.new.items ≡ out.old.items ++ name_at (keys_of assets.now.entries) place) }
+    ensures { OnOk result (out.new.items
+        ≡ out.old.items ++ name_at (keys_of assets.now.entries) place) }
 {
     match assets.get_index(place as usize) {
         Some((name, _)) => append(out, name.text()),
@@ -47,7 +48,8 @@ pub fn append_label_name(
     labels: &IndexMap<Name, Label>,
     place: u32,
 ) -> Result<(), NoMemory>
-    ensures { OnOk result (out.new.items ≡ out.old.items ++ name_at (keys_of labels.now.entries) place) }
+    ensures { OnOk result (out.new.items
+        ≡ out.old.items ++ name_at (keys_of labels.now.entries) place) }
 {
     match labels.get_index(place as usize) {
         Some((name, _)) => append(out, name.text()),
@@ -61,7 +63,8 @@ pub fn append_template_name(
     templates: &IndexMap<Name, u32>,
     place: u32,
 ) -> Result<(), NoMemory>
-    ensures { OnOk result (out.new.items ≡ out.old.items ++ name_at (keys_of templates.now.entries) place) }
+    ensures { OnOk result (out.new.items
+        ≡ out.old.items ++ name_at (keys_of templates.now.entries) place) }
 {
     match templates.get_index(place as usize) {
         Some((name, _)) => append(out, name.text()),
@@ -95,7 +98,8 @@ impl<'a> Leaf for Observables<'a> {
 
 // Appends further templates of a sum.
 fn append_more_days(out: &mut Vec<u8>, decls: &Decls, names: &[u32]) -> Result<(), NoMemory>
-    ensures { OnOk result (out.new.items ≡ out.old.items ++ more_days_text (declared_by (declarations decls.now) []) names.now) }
+    ensures { OnOk result (out.new.items
+        ≡ out.old.items ++ more_days_text (declared_by (declarations decls.now) []) names.now) }
 {
     for name in names {
         append(out, b" + ")?;
@@ -112,7 +116,8 @@ fn append_sum(
     days: u32,
     names: &[u32],
 ) -> Result<(), NoMemory>
-    ensures { OnOk result (out.new.items ≡ out.old.items ++ sum_text (declared_by (declarations decls.now) []) days names.now) }
+    ensures { OnOk result (out.new.items
+        ≡ out.old.items ++ sum_text (declared_by (declarations decls.now) []) days names.now) }
 {
     match names.split_first() {
         Some((name, rest)) if days == 0 => {

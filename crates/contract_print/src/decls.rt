@@ -48,7 +48,8 @@ fn append_asset(
     name: &[u8],
     decimals: u8,
 ) -> Result<(), NoMemory>
-    ensures { OnOk result (out.new.items ≡ out.old.items ++ asset_text (version_of version) name.now decimals) }
+    ensures { OnOk result (out.new.items
+        ≡ out.old.items ++ asset_text (version_of version) name.now decimals) }
 {
     append(out, name)?;
     if version == 2 {
@@ -66,7 +67,8 @@ fn append_more_assets(
     version: u8,
     assets: &Slice<'_, Name, u8>,
 ) -> Result<(), NoMemory>
-    ensures { OnOk result (out.new.items ≡ out.old.items ++ more_assets_text (version_of version) assets.now) }
+    ensures { OnOk result (out.new.items
+        ≡ out.old.items ++ more_assets_text (version_of version) assets.now) }
 {
     for (name, decimals) in assets {
         append(out, b", ")?;
@@ -82,7 +84,8 @@ fn append_assets(
     version: u8,
     assets: &IndexMap<Name, u8>,
 ) -> Result<(), NoMemory>
-    ensures { OnOk result (out.new.items ≡ out.old.items ++ assets_text (version_of version) assets.now.entries) }
+    ensures { OnOk result (out.new.items
+        ≡ out.old.items ++ assets_text (version_of version) assets.now.entries) }
 {
     match assets.as_slice().split_first() {
         None => Ok(()),
@@ -229,7 +232,8 @@ fn append_first_lines(
     date: &[u8],
     decls: &Decls,
 ) -> Result<(), NoMemory>
-    ensures { OnOk result (out.new.items ≡ out.old.items ++ first_lines date.now (declarations decls.now)) }
+    ensures { OnOk result (out.new.items
+        ≡ out.old.items ++ first_lines date.now (declarations decls.now)) }
 {
     append_amounts(alloc, out, decls.amounts)?;
     append_origin(out, date, decls.origin)?;
@@ -253,14 +257,15 @@ pub fn append_decls(
     date: &[u8],
     decls: &Decls,
 ) -> Result<(), NoMemory>
-    ensures { OnOk result (out.new.items ≡ out.old.items ++ decls_text date.now (declarations decls.now)) }
+    ensures { OnOk result (out.new.items
+        ≡ out.old.items ++ decls_text date.now (declarations decls.now)) }
 {
     append_first_lines(alloc, out, date, decls)?;
     append_tables(alloc, out, decls)
 }
 
-/// Appends the canonical lines of declarations. The lines are made in memory of their own and appended at once: where
-/// memory runs out, nothing is appended.
+/// Appends the canonical lines of declarations. The lines are made in memory of their own and
+/// appended at once: where memory runs out, nothing is appended.
 pub fn print_decls(alloc: Global, out: &mut Vec<u8>, decls: &Decls) -> Result<(), NoMemory>
     ensures ok { OnOk result (AppendsDecls (declarations decls.now) out.old.items out.new.items) }
     ensures err { OnErr result (out.new.items ≡ out.old.items) }

@@ -14,12 +14,13 @@ use decimal::{Mode, NoMemory, write};
 use std::alloc::Global;
 use term_core::Expr;
 
-/// How what is observed is written: the text of a label's number and an offset. Contracts write `obs(NAME, offset)`;
-/// another language over the same expressions writes its own.
+/// How what is observed is written: the text of a label's number and an offset. Contracts write
+/// `obs(NAME, offset)`; another language over the same expressions writes its own.
 pub trait Leaf {
     ghost text: { Self → ℕ → ℤ → List ℕ };
 
-    /// Appends the text of an observable. Where memory runs out, nothing is said of what was appended.
+    /// Appends the text of an observable. Where memory runs out, nothing is said of what was
+    /// appended.
     fn append_leaf(
         &self,
         alloc: Global,
@@ -40,7 +41,8 @@ fn append_scale(alloc: Global, out: &mut Vec<u8>, scale: u8) -> Result<(), NoMem
 
 // A mode and a scale, each with the comma behind it.
 fn append_rounding(alloc: Global, out: &mut Vec<u8>, mode: Mode, scale: u8) -> Result<(), NoMemory>
-    ensures { OnOk result (out.new.items ≡ out.old.items ++ (mode_text mode ⊕ codes ", " ⊕ number_text scale ⊕ codes ", ")) }
+    ensures { OnOk result (out.new.items
+        ≡ out.old.items ++ (mode_text mode ⊕ codes ", " ⊕ number_text scale ⊕ codes ", ")) }
 {
     append(out, mode_word(mode))?;
     append(out, b", ")?;
@@ -58,7 +60,8 @@ fn append_last<L: Leaf>(
 ) -> Result<(), NoMemory>
     requires writable { IsWritable binders (expression e.now) }
     requires low { binders + height (expression e.now) ≤ 1_000 }
-    ensures { OnOk result (out.new.items ≡ out.old.items ++ last_text (L.text leaf.now) binders (expression e.now)) }
+    ensures { OnOk result (out.new.items
+        ≡ out.old.items ++ last_text (L.text leaf.now) binders (expression e.now)) }
 {
     append_expr(alloc, out, leaf, binders, e)?;
     append(out, b")")
@@ -87,8 +90,8 @@ fn append_last_two<L: Leaf>(
     append_last(alloc, out, leaf, binders, right)
 }
 
-/// Appends the canonical text of an expression that has so many binders round it. Where memory runs out, nothing is said
-/// of what was appended: print into a buffer of its own.
+/// Appends the canonical text of an expression that has so many binders round it. Where memory runs
+/// out, nothing is said of what was appended: print into a buffer of its own.
 #[cycle(expr)]
 pub fn append_expr<L: Leaf>(
     alloc: Global,
@@ -99,7 +102,8 @@ pub fn append_expr<L: Leaf>(
 ) -> Result<(), NoMemory>
     requires writable { IsWritable binders (expression e.now) }
     requires low { binders + height (expression e.now) ≤ 1_000 }
-    ensures { OnOk result (out.new.items ≡ out.old.items ++ expr_text (L.text leaf.now) binders (expression e.now)) }
+    ensures { OnOk result (out.new.items
+        ≡ out.old.items ++ expr_text (L.text leaf.now) binders (expression e.now)) }
 {
     match e {
         Expr::Lit { mant, scale } => write(alloc, out, *mant, *scale),

@@ -3,12 +3,14 @@ ghost use Rattle.contract_print.specs.Laws.{CanonExists, CanonIsText, CommentsCh
 ghost use Rattle.contract_print.specs.Migrated.{MigratedAreSpellable};
 ghost use Rattle.contract_print.specs.Laws.{OneScaleIsSpellable, RestsAreAccepted, RestsAreSpellable, RestsCanBeSpelled, RestsCanBeWritten, TextsAreSpellable, TextsAreWritable};
 
-/// The canonical text of an expression spells it wherever a comma, a bracket, a space or a semicolon follows.
+/// The canonical text of an expression spells it wherever a comma, a bracket, a space or a
+/// semicolon follows.
 pub fn expression_is_spelled()
     ensures { ExpressionIsSpelled }
 {}
 
-/// The canonical text of a contract spells it wherever a comma, a bracket, a space or a semicolon follows.
+/// The canonical text of a contract spells it wherever a comma, a bracket, a space or a semicolon
+/// follows.
 pub fn contract_is_spelled()
     ensures { ContractIsSpelled }
 {}
@@ -33,18 +35,20 @@ pub fn texts_are_writable()
     ensures { TextsAreWritable }
 {}
 
-/// The portfolio of a text is within the limits of texts, so it has a canonical text, which is a text of it.
+/// The portfolio of a text is within the limits of texts, so it has a canonical text, which is a
+/// text of it.
 pub fn texts_are_spellable()
     ensures { TextsAreSpellable }
 {}
 
-/// A portfolio within the limits of texts is within them in version 2 too, so it has a canonical text there.
+/// A portfolio within the limits of texts is within them in version 2 too, so it has a canonical
+/// text there.
 pub fn migrated_are_spellable()
     ensures { MigratedAreSpellable }
 {}
 
-/// Declarations within the limits of texts are within them in version 1, where each asset has the decimals of the amounts,
-/// as those of code have.
+/// Declarations within the limits of texts are within them in version 1, where each asset has the
+/// decimals of the amounts, as those of code have.
 pub fn one_scale_is_spellable()
     ensures { OneScaleIsSpellable }
 {}
@@ -54,15 +58,16 @@ pub fn comments_change_nothing()
     ensures { CommentsChangeNothing }
 {}
 
-/// An accepted and closed contract whose literals are within the limits of texts can be spelled, and so printed:
-/// acceptance keeps its other numbers and its height within these limits.
+/// An accepted and closed contract whose literals are within the limits of texts can be spelled,
+/// and so printed: acceptance keeps its other numbers and its height within these limits.
 pub fn rests_can_be_printed()
     ensures spelled { RestsCanBeSpelled }
     ensures written { RestsCanBeWritten }
 {}
 
-/// What is left on a later day of a portfolio within the limits of texts is within them too, so it has a canonical text,
-/// which is a text of it; and its contracts are accepted under its own declarations.
+/// What is left on a later day of a portfolio within the limits of texts is within them too, so it
+/// has a canonical text, which is a text of it; and its contracts are accepted under its own
+/// declarations.
 pub fn rests_are_portfolios()
     ensures spellable { RestsAreSpellable }
     ensures accepted { RestsAreAccepted }

@@ -1,14 +1,14 @@
-//! The canonical text of portfolios, of either version: the one spelling of each that the program writes, which
-//! reads back as the same portfolio.
+//! The canonical text of portfolios, of either version: the one spelling of each that the program
+//! writes, which reads back as the same portfolio.
 //!
 //! ```text
 //! print_portfolio(alloc, &mut out, &portfolio)?;
 //! ```
 //!
 //! Promised: `print_portfolio` appends exactly that text (`AppendsBook`), or nothing; it reads back
-//! (`laws::canon_is_text`).
-//! A caller without a portfolio in memory makes the same text by `print_beginning` (`AppendsBeginning`), and then
-//! `print_contract` for each contract (`proofs/LineByLine.antt`).
+//! (`laws::canon_is_text`). A caller without a portfolio in memory makes the same text by
+//! `print_beginning` (`AppendsBeginning`), and then `print_contract` for each contract
+//! (`proofs/LineByLine.antt`).
 //! Only tested: that it is printed where there is memory (rows of `library_rows`).
 #![tactic(auto)]
 

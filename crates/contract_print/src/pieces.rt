@@ -1,5 +1,5 @@
-//! The pieces that every text is made of. Where memory runs out, what is appended is thrown away by the calls above: so
-//! nothing is said of it here.
+//! The pieces that every text is made of. Where memory runs out, what is appended is thrown away by
+//! the calls above: so nothing is said of it here.
 
 ghost use Rattle.std.specs.Prelude.{◌≡◌, ◌++◌, OnOk};
 ghost use Rattle.contract_print.specs.TermTexts.{bound_name, number_text};

@@ -1,5 +1,6 @@
-//! A first crate on the libraries: what each contract of a portfolio pays in its first 365 days, if nothing is observed.
-//! `docs/ENGINEER.md` goes through it. The portfolio is read from the standard input.
+//! A first crate on the libraries: what each contract of a portfolio pays in its first 365 days, if
+//! nothing is observed. `docs/ENGINEER.md` goes through it. The portfolio is read from the standard
+//! input.
 //!
 //! ```text
 //! contract 0, day 90: party 1 pays party 0 10500 of asset 0

@@ -7,7 +7,8 @@ use crate::spelling::append_spelled;
 use crate::words::count;
 use std::alloc::Global;
 
-/// What holds for the rows below: the text before that of each row, the table of fixings, and the numbers of the templates.
+/// What holds for the rows below: the text before that of each row, the table of fixings, and the
+/// numbers of the templates.
 #[derive(Drop)]
 pub struct Above {
     head: Vec<u8>,

@@ -11,8 +11,8 @@ use crate::words::first_word;
 use crate::{codes, curves, decimals, lines, texts, tokens};
 use std::alloc::Global;
 
-/// What a row tries, by what it stands on: its words alone, a text, what is above, the declarations above, a contract as it is
-/// written, or one that names no template.
+/// What a row tries, by what it stands on: its words alone, a text, what is above, the declarations
+/// above, a contract as it is written, or one that names no template.
 #[derive(Clone, Copy)]
 enum Call {
     Words(OfWords),

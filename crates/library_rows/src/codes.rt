@@ -90,7 +90,8 @@ fn say_verdict(alloc: Global, file: &CodeFile, days: &[u32], out: &mut Vec<u8>) 
     }
 }
 
-/// `check_code AMOUNT`: the scale and the total of the code, in units of this scale, or the rule that it breaks.
+/// `check_code AMOUNT`: the scale and the total of the code, in units of this scale, or the rule
+/// that it breaks.
 pub fn checked_code(alloc: Global, above: &Above, words: &str, out: &mut Vec<u8>) -> Answer {
     let file = file_of(alloc, above, words)?;
     say_verdict(alloc, &file, &above.days, out)
@@ -118,8 +119,8 @@ fn added_to(alloc: Global, file: CodeFile) -> Result<CodeFile, NoMemory>
     Ok(CodeFile { decls, name, code })
 }
 
-/// `check_code_added AMOUNT`: the verdict on the code of a text with one more term round it, since no text is higher than
-/// what is accepted.
+/// `check_code_added AMOUNT`: the verdict on the code of a text with one more term round it, since
+/// no text is higher than what is accepted.
 pub fn checked_added(alloc: Global, above: &Above, words: &str, out: &mut Vec<u8>) -> Answer {
     let file = added_to(alloc, file_of(alloc, above, words)?)?;
     say_verdict(alloc, &file, &above.days, out)

@@ -131,7 +131,8 @@ fn accept_written(alloc: Global, decls: &Decls, c: &Contr) -> Result<(), BadRow>
     accept_at_defaults(alloc, decls, c)
 }
 
-/// `compile CONTRACT` and `cut CONTRACT`: the line of the contract's code, with each payment cut or without.
+/// `compile CONTRACT` and `cut CONTRACT`: the line of the contract's code, with each payment cut or
+/// without.
 pub fn compiled(alloc: Global, decls: &Decls, c: &Contr, cuts: bool, out: &mut Vec<u8>) -> Answer {
     accept_written(alloc, decls, c)?;
     let code = code_of(alloc, decls, c)?;

@@ -50,7 +50,8 @@ pub fn number_asked(alloc: Global, words: &str, out: &mut Vec<u8>) -> Answer {
     say_number(alloc, number_up_to(most, &text), out)
 }
 
-/// `whole_number MOST TEXT`: the same of any bytes, each of which counts for what it is above the digit 0.
+/// `whole_number MOST TEXT`: the same of any bytes, each of which counts for what it is above the
+/// digit 0.
 pub fn number_counted(alloc: Global, words: &str, out: &mut Vec<u8>) -> Answer {
     let (most, words) = first_word(words);
     let most = count(most)?;

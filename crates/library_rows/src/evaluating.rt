@@ -19,8 +19,8 @@ use term_core::{Contr, Decls, Kind, Missing, Value};
 // What is answered, where something is asked.
 type Found = Option<(Kind, Result<Value, Missing>)>;
 
-// What the factor of the innermost `scale` answers, with its kind, on a day on which each `let` round it was evaluated
-// and entered.
+// What the factor of the innermost `scale` answers, with its kind, on a day on which each `let`
+// round it was evaluated and entered.
 fn factor_of(decls: &Decls, c: &Contr, scratch: &mut Scratch, fixings: &Fixings, day: i64) -> Found
     requires place { MayEvaluateIn (declarations decls.now) (contract c.now) scratch.old.entries }
     requires room { height_of_contract (contract c.now) ≤ scratch.old.spare }
@@ -87,7 +87,8 @@ fn near(word: &str) -> Result<i64, BadRow>
     Ok(day)
 }
 
-/// `eval DAY CONTRACT`: the kind and the value of the factor of the innermost `scale`, or the first place that is not fixed.
+/// `eval DAY CONTRACT`: the kind and the value of the factor of the innermost `scale`, or the first
+/// place that is not fixed.
 pub fn evaluated(
     alloc: Global,
     decls: &Decls,

@@ -146,14 +146,16 @@ fn table_of(alloc: Global, from: u32, to: u32, amount: i128) -> Result<FlowTable
     Ok(FlowTable { rows })
 }
 
-// Appends the lines of the sum of what the first party pays the second on a day, and of what it is paid back.
+// Appends the lines of the sum of what the first party pays the second on a day, and of what it is
+// paid back.
 fn say_sum(alloc: Global, decls: &Decls, paid: i128, back: i128, out: &mut Vec<u8>) -> Answer {
     let tables = [table_of(alloc, 0, 1, paid)?, table_of(alloc, 1, 0, back)?];
     let sum = net(alloc, &tables)?;
     say_rows_or_nothing(alloc, decls, &sum.rows, out)
 }
 
-/// `net PAID BACK`: the lines of the sum of what the first party pays the second on a day, and of what it is paid back.
+/// `net PAID BACK`: the lines of the sum of what the first party pays the second on a day, and of
+/// what it is paid back.
 pub fn netted(alloc: Global, decls: &Decls, words: &str, out: &mut Vec<u8>) -> Answer {
     let (paid, back) = first_word(words);
     say_sum(alloc, decls, integer(paid)?, integer(back)?, out)

@@ -88,7 +88,8 @@ fn verdict(words: &str) -> Result<Result<Facts, RuleFault>, BadRow> {
     }
 }
 
-/// `check_line START SCALE TOTAL HORIZON` or `check_line refused RULE NODE`: the line of a verdict, behind a mark.
+/// `check_line START SCALE TOTAL HORIZON` or `check_line refused RULE NODE`: the line of a verdict,
+/// behind a mark.
 pub fn line_of_verdict(alloc: Global, decls: &Decls, words: &str, out: &mut Vec<u8>) -> Answer {
     let verdict = verdict(words)?;
     append(out, "> ")?;

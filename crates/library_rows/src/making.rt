@@ -1,4 +1,5 @@
-//! Rows of what calls make of accepted contracts: specialised, simplified, and advanced by a day or more.
+//! Rows of what calls make of accepted contracts: specialised, simplified, and advanced by a day or
+//! more.
 
 ghost use Rattle.std.specs.Prelude.{◌≤ℤ◌, pos, IfOk};
 ghost use Rattle.term_core.specs.Acceptance.{IsAccepted};
@@ -163,7 +164,8 @@ fn day_or_unknown(word: &str) -> Result<Frame, BadRow>
     }
 }
 
-/// `specialise_expr DAY CONTRACT`: the expression that a contract binds or tests, on a day or an unknown one.
+/// `specialise_expr DAY CONTRACT`: the expression that a contract binds or tests, on a day or an
+/// unknown one.
 pub fn specialised_first(
     alloc: Global,
     decls: &Decls,
@@ -260,7 +262,8 @@ pub fn stepped_shared(
     say_stepped_parts(alloc, decls, &parts, fixings, on, out)
 }
 
-/// `advance DAYS CONTRACT`: the flow lines of so many days, and the contract that is left behind them.
+/// `advance DAYS CONTRACT`: the flow lines of so many days, and the contract that is left behind
+/// them.
 pub fn advanced(
     alloc: Global,
     decls: &Decls,

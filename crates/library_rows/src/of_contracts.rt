@@ -1,4 +1,5 @@
-//! The calls that stand on a contract, most of them on one that is accepted, over the table of fixings.
+//! The calls that stand on a contract, most of them on one that is accepted, over the table of
+//! fixings.
 
 ghost use Rattle.std.specs.Prelude.{◌≤◌, ◌<◌};
 ghost use Rattle.term_core.specs.Acceptance.{IsAccepted};

@@ -5,7 +5,8 @@ ghost use Rattle.std.specs.Prelude.{◌<◌, IfSome};
 use crate::bad_row::BadRow;
 use std::alloc::Global;
 
-// What is written so far, where the part that is repeated begins, and how many times it stands; 0, where none has begun.
+// What is written so far, where the part that is repeated begins, and how many times it stands; 0,
+// where none has begun.
 #[derive(Drop)]
 struct Spelling {
     bytes: Vec<u8>,

@@ -1,4 +1,5 @@
-//! Rows of texts that are read, or have a first fault, and of texts that are printed in their canonical form.
+//! Rows of texts that are read, or have a first fault, and of texts that are printed in their
+//! canonical form.
 
 ghost use Rattle.std.specs.Prelude.{◌≤◌, length, All};
 ghost use Rattle.contract_print.specs.Writable.{IsWritableTerm};

@@ -109,8 +109,8 @@ fn say_all(
     }
 }
 
-/// `parse_decls VERSION BEFORE BEHIND TEXT`: so many tokens, the declarations of the version behind them, and so many tokens behind
-/// those.
+/// `parse_decls VERSION BEFORE BEHIND TEXT`: so many tokens, the declarations of the version behind
+/// them, and so many tokens behind those.
 pub fn read_decls(alloc: Global, above: &Above, words: &str, out: &mut Vec<u8>) -> Answer {
     let (number, words) = first_word(words);
     let (before, words) = first_word(words);

@@ -80,7 +80,8 @@ pub fn is_printable(c: &Contr) -> bool
 // One contract under a name.
 fn one_under(alloc: Global, name: Name, c: Contr) -> Result<IndexMap<Name, Contr>, NoMemory>
     requires { IsWritableTerm (contract c) }
-    ensures { IfOk result (λ contracts. All (λ entry. IsWritableTerm (contract entry.1)) contracts.entries) }
+    ensures { IfOk result (λ contracts. All
+        (λ entry. IsWritableTerm (contract entry.1)) contracts.entries) }
 {
     let mut contracts = IndexMap::new(alloc);
     contracts.insert(name, c)?;
@@ -90,7 +91,8 @@ fn one_under(alloc: Global, name: Name, c: Contr) -> Result<IndexMap<Name, Contr
 // The same under the name of rows.
 fn one_of(alloc: Global, c: Contr) -> Result<IndexMap<Name, Contr>, NoMemory>
     requires { IsWritableTerm (contract c) }
-    ensures { IfOk result (λ contracts. All (λ entry. IsWritableTerm (contract entry.1)) contracts.entries) }
+    ensures { IfOk result (λ contracts. All
+        (λ entry. IsWritableTerm (contract entry.1)) contracts.entries) }
 {
     let name = Name::new(alloc, b"c")?;
     one_under(alloc, name, c)
@@ -99,7 +101,8 @@ fn one_of(alloc: Global, c: Contr) -> Result<IndexMap<Name, Contr>, NoMemory>
 // The portfolio of one contract under declarations.
 fn book_under(alloc: Global, decls: Decls, c: Contr) -> Result<Portfolio, NoMemory>
     requires { IsWritableTerm (contract c) }
-    ensures { IfOk result (λ portfolio. All (λ entry. IsWritableTerm entry.1) (book portfolio).contracts) }
+    ensures { IfOk result (λ portfolio. All
+        (λ entry. IsWritableTerm entry.1) (book portfolio).contracts) }
 {
     let contracts = one_of(alloc, c)?;
     Ok(Portfolio { decls, contracts })
@@ -108,7 +111,8 @@ fn book_under(alloc: Global, decls: Decls, c: Contr) -> Result<Portfolio, NoMemo
 // The same under a copy of declarations.
 fn book_of(alloc: Global, decls: &Decls, c: Contr) -> Result<Portfolio, NoMemory>
     requires { IsWritableTerm (contract c) }
-    ensures { IfOk result (λ portfolio. All (λ entry. IsWritableTerm entry.1) (book portfolio).contracts) }
+    ensures { IfOk result (λ portfolio. All
+        (λ entry. IsWritableTerm entry.1) (book portfolio).contracts) }
 {
     let decls = decls.copy(alloc)?;
     book_under(alloc, decls, c)

@@ -1,4 +1,5 @@
-//! Files and sinks in memory and of the system: what they answer, what they hold, and what they count.
+//! Files and sinks in memory and of the system: what they answer, what they hold, and what they
+//! count.
 
 use decimal::NoMemory;
 use edge_io::{

@@ -1,6 +1,6 @@
-//! What is tested of the libraries and is no row of `library_rows`: files and sinks that fail in mid-stream, room for names,
-//! and calls on terms and numbers of which the proof knows the values. It stands in one crate, since a crate with tests is
-//! proved twice.
+//! What is tested of the libraries and is no row of `library_rows`: files and sinks that fail in
+//! mid-stream, room for names, and calls on terms and numbers of which the proof knows the values.
+//! It stands in one crate, since a crate with tests is proved twice.
 //!
 //! ```text
 //! let mut files = MemoryFiles::new(entries, [2].to_vec(alloc)?); // the second read fails

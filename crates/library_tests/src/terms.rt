@@ -1,4 +1,5 @@
-//! Terms that are made by hand: an expression of which each observable is read a day sooner, and room for names.
+//! Terms that are made by hand: an expression of which each observable is read a day sooner, and
+//! room for names.
 
 ghost use Rattle.std.specs.Prelude.{◌≤◌};
 

@@ -133,8 +133,8 @@ fn cut_body(alloc: Global, on: DateExpr, body: Box<Code>) -> Result<Code, NoMemo
     Ok(Code::Cut { date: on, body })
 }
 
-/// The code with each payment cut once its day is gone by, so that it counts what is left to be paid. Where memory is
-/// wanting, the code that was given is dropped.
+/// The code with each payment cut once its day is gone by, so that it counts what is left to be
+/// paid. Where memory is wanting, the code that was given is dropped.
 pub fn cut(alloc: Global, code: Code) -> Result<Code, NoMemory>
     ensures code { IfOk result (λ k. payoff_code k ≡ cut_code (payoff_code code)) }
     ensures rest { IfOk result (λ k. CountsTheRest (payoff_code k) (payoff_code code)) }

@@ -1,4 +1,5 @@
-//! Laws of the code of contracts. Each is the contract of a function that does nothing; a caller takes the law by calling it.
+//! Laws of the code of contracts. Each is the contract of a function that does nothing; a caller
+//! takes the law by calling it.
 
 ghost use Rattle.payoff_compile.specs.LawsCompiled.{CodeIsAccepted, CodeIsPlain, CutCodeCountsTheRest, PlainCodeIsWritable, SizesAreCarried, TotalsAreCarried, WritableTermsHaveSmallLiterals};
 
@@ -7,7 +8,8 @@ pub fn totals_are_carried()
     ensures { TotalsAreCarried }
 {}
 
-/// A contract's code is no larger than the contract, at any setting, and its cut code little larger.
+/// A contract's code is no larger than the contract, at any setting, and its cut code little
+/// larger.
 pub fn sizes_are_carried()
     ensures { SizesAreCarried }
 {}
@@ -17,7 +19,8 @@ pub fn code_is_accepted()
     ensures { CodeIsAccepted }
 {}
 
-/// What the compiler promises of its answer holds of the code of each closed contract that is accepted at the defaults.
+/// What the compiler promises of its answer holds of the code of each closed contract that is
+/// accepted at the defaults.
 pub fn code_is_plain()
     ensures { CodeIsPlain }
 {}
@@ -27,7 +30,8 @@ pub fn cut_code_counts_the_rest()
     ensures { CutCodeCountsTheRest }
 {}
 
-/// What the compiler answers may be printed, and its cut too, where the literals of the contract are small.
+/// What the compiler answers may be printed, and its cut too, where the literals of the contract
+/// are small.
 pub fn plain_code_is_writable()
     ensures { PlainCodeIsWritable }
 {}

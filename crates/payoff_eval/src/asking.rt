@@ -3,7 +3,8 @@
 use fixing_files::{Curve, LayeredFixings};
 use term_core::Decls;
 
-/// The declarations, the setting, the fixings and the curve, the current day, the pair and the asset.
+/// The declarations, the setting, the fixings and the curve, the current day, the pair and the
+/// asset.
 #[derive(Clone, Copy)]
 pub struct Asking<'a> {
     pub decls: &'a Decls,

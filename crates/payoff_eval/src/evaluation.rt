@@ -1,5 +1,6 @@
-//! The evaluator of value expressions: values with their kinds, or the first place that is not fixed. It answers what the
-//! evaluator of expressions answers of the expression that a value expression is at the setting.
+//! The evaluator of value expressions: values with their kinds, or the first place that is not
+//! fixed. It answers what the evaluator of expressions answers of the expression that a value
+//! expression is at the setting.
 
 ghost use Rattle.std.specs.Prelude.{◌≡◌};
 ghost use Rattle.term_core.specs.Declarations.{declarations};
@@ -130,7 +131,8 @@ fn evaluate_branches(
     names: &Bindings,
     day: i64,
 ) -> Result<Typed, Missing>
-    requires dates { HasDates asking.now test.now × HasDates asking.now yes.now × HasDates asking.now no.now }
+    requires dates { HasDates asking.now test.now × HasDates asking.now yes.now
+        × HasDates asking.now no.now }
     requires fits { FitsOn asking.now (conditional_over asking.now test.now yes.now no.now) names.now day }
     ensures { result ≡ run_on asking.now (conditional_over asking.now test.now yes.now no.now) names.now day }
 {

@@ -10,7 +10,8 @@ use expr_eval::{Bindings, kind_at, kind_observed};
 use payoff_lang::Vx;
 use term_core::Kind;
 
-/// The kind of an expression whose sorts are in order. It looks only at the parts on which the kind depends.
+/// The kind of an expression whose sorts are in order. It looks only at the parts on which the kind
+/// depends.
 pub fn kind_in(asking: &Asking, e: &Vx, names: &Bindings) -> Kind
     requires { KindFitsIn asking.now.decls.now (dated asking.now e.now) names.now }
     ensures { result ≡ kind_in asking.now.decls.now (dated asking.now e.now) names.now }

@@ -1,15 +1,15 @@
-//! The value of payoff code on a day, over fixings and by a curve of discount factors, in the manner of
-//! Annenkov and Elsman (PPDP 2018); or the first observable that is missing.
+//! The value of payoff code on a day, over fixings and by a curve of discount factors, in the
+//! manner of Annenkov and Elsman (PPDP 2018); or the first observable that is missing.
 //!
 //! ```text
 //! let mut scratch = value_scratch(alloc, &file)?;
 //! let worth = value(&file, &setting, &fixings, &curve, at, from, to, asset, &mut scratch)?;
 //! ```
 //!
-//! Promised: `value` answers what the code is worth, the same in every environment that extends the fixings,
-//! or the first read that is not fixed (`IsValueOf`).
-//! Only tested: that a scratch is made where there is memory (`contract_cli/src/value_tests.rt`); `value`
-//! takes none.
+//! Promised: `value` answers what the code is worth, the same in every environment that extends the
+//! fixings, or the first read that is not fixed (`IsValueOf`).
+//! Only tested: that a scratch is made where there is memory (`contract_cli/src/value_tests.rt`);
+//! `value` takes none.
 #![tactic(auto)]
 
 mod asking;

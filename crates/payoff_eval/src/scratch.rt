@@ -11,7 +11,8 @@ use payoff_lang::CodeFile;
 use std::alloc::Global;
 use std::marker::Model;
 
-/// Room for the names round a part of code, seen as the number of names that have room. None is bound between two calls.
+/// Room for the names round a part of code, seen as the number of names that have room. None is
+/// bound between two calls.
 #[derive(Drop)]
 pub struct ValueScratch {
     pub(crate) names: Scratch,
@@ -35,8 +36,9 @@ fn with_room(alloc: Global, room: usize) -> Result<ValueScratch, NoMemory>
     Ok(ValueScratch { names })
 }
 
-/// Room for as many names as the height of a file's code, which is no less than the names that are bound round any of its
-/// parts. Code higher than a million, which no accepted code is, finds no room.
+/// Room for as many names as the height of a file's code, which is no less than the names that are
+/// bound round any of its parts. Code higher than a million, which no accepted code is, finds no
+/// room.
 pub fn value_scratch(alloc: Global, file: &CodeFile) -> Result<ValueScratch, NoMemory>
     ensures { IfOk result (λ room. height_of_code (payoff_code file.now.code) ≤ room) }
 {

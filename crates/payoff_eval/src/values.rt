@@ -30,8 +30,8 @@ fn amount_of(found: Result<Worth, Missing>) -> Result<i128, Missing>
     }
 }
 
-/// What a file's code, which is accepted at the setting, is worth over fixings in two layers: `value` over the map that they are
-/// seen as. It takes no memory.
+/// What a file's code, which is accepted at the setting, is worth over fixings in two layers:
+/// `value` over the map that they are seen as. It takes no memory.
 pub fn value_layered(
     file: &CodeFile,
     setting: &Setting,
@@ -69,10 +69,11 @@ pub fn value_layered(
     amount_of(walk(&asking, &mut scratch.names, base, room, &file.code))
 }
 
-/// What a file's code, which is accepted at the setting, is worth on the day `at` for what `from` owes `to` in an asset,
-/// in units of the least decimal of the portfolio's amounts times 10^-9. The base is the start of the file's declarations.
-/// A payment to come counts with the factor of the curve at its days from `at` on, one gone by at face value. The value is
-/// the same whatever else will be observed. It lacks a place exactly where the code reads one that is not fixed, and then
+/// What a file's code, which is accepted at the setting, is worth on the day `at` for what `from`
+/// owes `to` in an asset, in units of the least decimal of the portfolio's amounts times 10^-9. The
+/// base is the start of the file's declarations. A payment to come counts with the factor of the
+/// curve at its days from `at` on, one gone by at face value. The value is the same whatever else
+/// will be observed. It lacks a place exactly where the code reads one that is not fixed, and then
 /// answers the first. It takes no memory.
 pub fn value(
     file: &CodeFile,

@@ -27,7 +27,8 @@ use expr_eval::{Bindings, Held, Scratch, day_on, without_kind};
 use payoff_lang::{Code, DateExpr, Vx};
 use term_core::{Kind, Missing, Value};
 
-/// What code is worth at some decimals, and whether it reaches a payment of the pair and the asset that are asked for.
+/// What code is worth at some decimals, and whether it reaches a payment of the pair and the asset
+/// that are asked for.
 #[derive(Clone, Copy, Debug, PartialEq, Eq)]
 pub struct Worth {
     pub amount: i128,
@@ -119,7 +120,8 @@ fn kind_of(asking: &Asking, scratch: &Scratch, v: &Vx) -> Kind
     kind_in(asking, v, &names)
 }
 
-// The value of a value expression at a base, or the first place that it reads and that is not fixed.
+// The value of a value expression at a base, or the first place that it reads and that is not
+// fixed.
 fn value_on(asking: &Asking, scratch: &Scratch, base: i64, v: &Vx) -> Result<Value, Missing>
     requires { EvaluatesOn asking.now (value_expression v.now) scratch.now.entries base }
     ensures { result ≡ answer asking.now (value_expression v.now) scratch.now.entries base }

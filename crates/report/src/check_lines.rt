@@ -53,9 +53,9 @@ fn total_piece<'a>(decls: &Decls, facts: &Facts) -> Piece<'a>
     }
 }
 
-/// Appends the line of a contract's verdict: `NAME accepted start S scale N total T horizon H`, with the total at the
-/// portfolio's decimals, or `NAME refused RULE node N`. Where memory runs out on the way, a front part of that line may
-/// stand in `out` already.
+/// Appends the line of a contract's verdict: `NAME accepted start S scale N total T horizon H`,
+/// with the total at the portfolio's decimals, or `NAME refused RULE node N`. Where memory runs out
+/// on the way, a front part of that line may stand in `out` already.
 pub fn check_line(
     alloc: Global,
     out: &mut Vec<u8>,
@@ -64,7 +64,8 @@ pub fn check_line(
     verdict: &Result<Facts, RuleFault>,
 ) -> Result<(), NoMemory>
     requires { IfOk verdict.now (λ facts. IsSmall facts.total) }
-    ensures ok { OnOk result (out.new.items ≡ out.old.items ++ verdict_line decls.now.amounts name.now verdict.now) }
+    ensures ok { OnOk result (out.new.items
+        ≡ out.old.items ++ verdict_line decls.now.amounts name.now verdict.now) }
     ensures err { OnErr result (AppendsPart out.old.items (verdict_line decls.now.amounts name.now verdict.now) out.new.items) }
 {
     let name = Piece::Words(name);

@@ -51,7 +51,8 @@ fn append_line<'a>(
 ) -> Result<(), NoMemory>
     requires day { IsWritable day }
     requires amount { IsSmall amount }
-    ensures ok { OnOk result (out.new.items ≡ out.old.items ++ line_on decls.now name.now day.entry row.now amount) }
+    ensures ok { OnOk result (out.new.items
+        ≡ out.old.items ++ line_on decls.now name.now day.entry row.now amount) }
     ensures err { OnErr result (AppendsPart out.old.items (line_on decls.now name.now day.entry row.now amount) out.new.items) }
 {
     let comma = Piece::Words(b",");
@@ -95,9 +96,9 @@ pub fn date_of(origin: i64, day: i64) -> [u8; 10]
     date_text(origin + day)
 }
 
-/// Appends the line `NAME,DAY,FROM,TO,ASSET,AMOUNT` of a flow, with the day as a date where the portfolio has an
-/// origin, and the amount at the asset's decimals. Where memory runs out on the way, a front part of that line may
-/// stand in `out` already.
+/// Appends the line `NAME,DAY,FROM,TO,ASSET,AMOUNT` of a flow, with the day as a date where the
+/// portfolio has an origin, and the amount at the asset's decimals. Where memory runs out on the
+/// way, a front part of that line may stand in `out` already.
 pub fn flow_line(
     alloc: Global,
     out: &mut Vec<u8>,

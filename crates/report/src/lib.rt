@@ -1,14 +1,15 @@
-//! The lines that the program writes of verdicts, of flows, of values and of faults, the pieces that lines are
-//! made of, and the sum of flow tables.
+//! The lines that the program writes of verdicts, of flows, of values and of faults, the pieces
+//! that lines are made of, and the sum of flow tables.
 //!
 //! ```text
 //! let sum = net(alloc, &tables)?;
 //! flow_line(alloc, &mut out, &portfolio.decls, b"*", row)?; // of a row of the sum
 //! ```
 //!
-//! Promised: `flow_line` appends exactly the line of a row (`IsFlowLine`), or a front part of it; `net`
-//! answers the table of what is paid together (`IsSumOf`). `append` appends the pieces of a line; `name_piece`,
-//! `asset_piece`, `date_of` and `amount_in_asset` say what stands in a line for a name, a day and an amount.
+//! Promised: `flow_line` appends exactly the line of a row (`IsFlowLine`), or a front part of it;
+//! `net` answers the table of what is paid together (`IsSumOf`). `append` appends the pieces of a
+//! line; `name_piece`, `asset_piece`, `date_of` and `amount_in_asset` say what stands in a line for
+//! a name, a day and an amount.
 //! Only tested: that they succeed where there is memory (rows of `library_rows`).
 #![tactic(auto)]
 

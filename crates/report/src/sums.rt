@@ -44,8 +44,8 @@ fn payments_of(alloc: Global, tables: &[FlowTable]) -> Result<Vec<Payment>, NoMe
     Ok(payments)
 }
 
-/// The sum of flow tables, as a flow table: what goes one way is netted against what goes back, and what comes to 0 has no
-/// row. It takes one sort of all rows.
+/// The sum of flow tables, as a flow table: what goes one way is netted against what goes back, and
+/// what comes to 0 has no row. It takes one sort of all rows.
 pub fn net(alloc: Global, tables: &[FlowTable]) -> Result<FlowTable, NoMemory>
     requires few { length tables.now ≤ 16_777_216 }
     requires summable { AreSummable tables.now }

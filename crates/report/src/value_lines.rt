@@ -9,8 +9,9 @@ use crate::pieces::{Piece, append};
 use decimal::NoMemory;
 use std::alloc::Global;
 
-/// Appends the line of a value: the number `m * 10^-scale` with `scale` decimals, and `-` before it where it is negative.
-/// Where memory runs out on the way, a front part of that line may stand in `out` already.
+/// Appends the line of a value: the number `m * 10^-scale` with `scale` decimals, and `-` before it
+/// where it is negative. Where memory runs out on the way, a front part of that line may stand in
+/// `out` already.
 pub fn value_line(alloc: Global, out: &mut Vec<u8>, m: i128, scale: u8) -> Result<(), NoMemory>
     requires size { IsSmall m }
     requires scale { scale ≤ 27 }

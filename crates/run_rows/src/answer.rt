@@ -3,7 +3,8 @@
 use contract_cli::Status;
 use std::alloc::{AllocError, Global};
 
-// Appends a byte: one that is no ASCII character that can be seen, and a backslash, as a backslash and two hexadecimal digits.
+// Appends a byte: one that is no ASCII character that can be seen, and a backslash, as a backslash
+// and two hexadecimal digits.
 fn push_byte(out: &mut String, byte: u8) -> Result<(), AllocError> {
     if byte == b' ' || (byte.is_ascii_graphic() && byte != b'\\') {
         out.push(char::from(byte))
@@ -43,7 +44,8 @@ pub fn push_answer(
     Ok(())
 }
 
-/// Appends the line of runs over fronts, and their statuses: one line for those that are the same one after another.
+/// Appends the line of runs over fronts, and their statuses: one line for those that are the same
+/// one after another.
 pub fn push_statuses(out: &mut String, line: &str, statuses: &[Status]) -> Result<(), AllocError> {
     write!(out, "{line}\n")?;
     let mut first = 0;

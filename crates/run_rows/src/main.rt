@@ -1,7 +1,8 @@
-//! Runs of the commands as rows of data. The program reads rows from its standard input (`stdin` beside this folder), calls
-//! `contract_cli::run` for each over files and a sink in memory, and prints what each run has written, with its status. The
-//! gate compares that with `stdout`, byte for byte. To add a row, write its lines into `stdin`, and into `stdout` what they
-//! must print: from the written rules, and never from the program's own output.
+//! Runs of the commands as rows of data. The program reads rows from its standard input (`stdin`
+//! beside this folder), calls `contract_cli::run` for each over files and a sink in memory, and
+//! prints what each run has written, with its status. The gate compares that with `stdout`, byte
+//! for byte. To add a row, write its lines into `stdin`, and into `stdout` what they must print:
+//! from the written rules, and never from the program's own output.
 //!
 //! ```text
 //! == a loan pays today and after 90 days
@@ -40,10 +41,11 @@
 //! | `fronts FILE\|WORD\|WORD` | a run for each proper front of the file, of 0 bytes, 1 byte and so on, of which only the statuses are printed |
 //! | `keep NAME` | all that the sink holds after the last run becomes a text of this name |
 //!
-//! In a piece, and in what is printed, a backslash and two hexadecimal digits are one byte: `\20` is a blank at the end of a
-//! line, `\0a` a line feed, `\5c` a backslash. A run prints its line with the number and the name of its status, and then
-//! what the sink holds, with `|` before a line and `+` before what comes after the last line feed. Any other line ends the
-//! program with status 1 and a message that has the line's number.
+//! In a piece, and in what is printed, a backslash and two hexadecimal digits are one byte: `\20`
+//! is a blank at the end of a line, `\0a` a line feed, `\5c` a backslash. A run prints its line
+//! with the number and the name of its status, and then what the sink holds, with `|` before a line
+//! and `+` before what comes after the last line feed. Any other line ends the program with status
+//! 1 and a message that has the line's number.
 #![tactic(auto)]
 
 mod answer;

@@ -114,8 +114,9 @@ fn sample_body(alloc: Global) -> Result<Box<Contr>, NoMemory>
     Ok(Box::new(alloc, body)?)
 }
 
-/// The contract of a number: where FX is above 1.2000 within 30 days, A pays B a hundred times FX on the first such day,
-/// and else B pays C 50.00 on the last; all this later by the remainder of the number at a division by 50, in days.
+/// The contract of a number: where FX is above 1.2000 within 30 days, A pays B a hundred times FX
+/// on the first such day, and else B pays C 50.00 on the last; all this later by the remainder of
+/// the number at a division by 50, in days.
 pub fn sample_contract(alloc: Global, number: u32) -> Result<Contr, NoMemory>
     ensures { IfOk result (λ c. contract c ≡ sample_contract number) }
 {

@@ -27,7 +27,8 @@ fn append_number(
     number: i128,
 ) -> Result<(), NoMemory>
     requires { IsSmall number }
-    ensures { OnOk result (out.new.items ≡ out.old.items ++ (word.now ++ (text_of number 0 ++ line_feed))) }
+    ensures { OnOk result (out.new.items
+        ≡ out.old.items ++ (word.now ++ (text_of number 0 ++ line_feed))) }
 {
     out.extend_from_slice(word)?;
     write(alloc, out, number, 0)?;
@@ -59,7 +60,8 @@ fn append_asset_name(
     assets: &IndexMap<Name, u8>,
     place: u32,
 ) -> Result<(), NoMemory>
-    ensures { OnOk result (out.new.items ≡ out.old.items ++ name_at (keys_of assets.now.entries) place) }
+    ensures { OnOk result (out.new.items
+        ≡ out.old.items ++ name_at (keys_of assets.now.entries) place) }
 {
     if let Some((name, _)) = assets.get_index(place as usize) {
         out.extend_from_slice(name.text())?;
@@ -69,7 +71,8 @@ fn append_asset_name(
 
 // Appends a comma and the name of an asset.
 fn append_asset(out: &mut Vec<u8>, assets: &IndexMap<Name, u8>, place: u32) -> Result<(), NoMemory>
-    ensures { OnOk result (out.new.items ≡ out.old.items ++ field (name_at (keys_of assets.now.entries) place)) }
+    ensures { OnOk result (out.new.items
+        ≡ out.old.items ++ field (name_at (keys_of assets.now.entries) place)) }
 {
     out.push(b',')?;
     append_asset_name(out, assets, place)
@@ -84,7 +87,8 @@ fn append_amount(
 ) -> Result<(), NoMemory>
     requires amount { IsSmall amount }
     requires decimals { decimals ≤ 27 }
-    ensures { OnOk result (out.new.items ≡ out.old.items ++ (field (text_of amount decimals) ++ line_feed)) }
+    ensures { OnOk result (out.new.items
+        ≡ out.old.items ++ (field (text_of amount decimals) ++ line_feed)) }
 {
     out.push(b',')?;
     write(alloc, out, amount, decimals)?;
@@ -100,7 +104,8 @@ fn append_sum(
     row: &FlowRow,
 ) -> Result<(), NoMemory>
     requires { FitsLine row.now.amount }
-    ensures { OnOk result (out.new.items ≡ out.old.items ++ sum_line (declarations decls.now) row.now) }
+    ensures { OnOk result (out.new.items
+        ≡ out.old.items ++ sum_line (declarations decls.now) row.now) }
 {
     append_name(out, &decls.parties, row.from)?;
     append_field(out, &decls.parties, row.to)?;
@@ -117,7 +122,8 @@ fn append_sums(
     rows: &[FlowRow],
 ) -> Result<(), NoMemory>
     requires { AreUndated rows.now }
-    ensures { OnOk result (out.new.items ≡ out.old.items ++ flat_map (sum_line (declarations decls.now)) rows.now) }
+    ensures { OnOk result (out.new.items
+        ≡ out.old.items ++ flat_map (sum_line (declarations decls.now)) rows.now) }
 {
     for row in rows {
         append_sum(alloc, out, decls, row)?;

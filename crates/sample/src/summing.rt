@@ -68,7 +68,8 @@ fn more_lines(lines: u128, table: &FlowTable) -> u128
     lines + table.rows.len() as u128
 }
 
-// Adds what the contract of a number pays over all days; its flow lines count with those of the contracts before it.
+// Adds what the contract of a number pays over all days; its flow lines count with those of the
+// contracts before it.
 fn gather_next(
     alloc: Global,
     decls: &Decls,
@@ -91,7 +92,8 @@ fn gather_next(
     Ok(more)
 }
 
-// The tables of what each of the first contracts pays over all days, and how many flow lines they have together.
+// The tables of what each of the first contracts pays over all days, and how many flow lines they
+// have together.
 fn gather(
     alloc: Global,
     decls: &Decls,
@@ -112,8 +114,9 @@ fn gather(
     Ok((tables, lines))
 }
 
-/// The summary of the sample of at most 10,000 contracts: their number, the number of their flow lines, and a line for
-/// each asset and two parties between whom they do not come to 0 over all days and contracts.
+/// The summary of the sample of at most 10,000 contracts: their number, the number of their flow
+/// lines, and a line for each asset and two parties between whom they do not come to 0 over all
+/// days and contracts.
 pub fn summary(alloc: Global, count: u32) -> Result<Vec<u8>, NoMemory>
     requires { count ≤ 10_000 }
     ensures { IfOk result (λ text. IsSummary count text.items) }

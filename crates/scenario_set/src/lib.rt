@@ -1,5 +1,5 @@
-//! Sets of scenarios: tables of fixings under names, the value of payoff code in each scenario, and the total, the mean, the
-//! least and the greatest of these values.
+//! Sets of scenarios: tables of fixings under names, the value of payoff code in each scenario, and
+//! the total, the mean, the least and the greatest of these values.
 //!
 //! ```text
 //! let set = read_scenarios(alloc, &bytes, &file.decls)?;
@@ -7,10 +7,12 @@
 //! total_lines(alloc, &mut out, &set, &totals, Mode::HalfEven, scale)?;
 //! ```
 //!
-//! Promised: `read_scenarios` answers the scenarios of a table, or the first record that breaks a rule (`AnswersScenarios`);
-//! `totals` what the code is worth in each of them, their total, and the first of the least and of the greatest, or why there
-//! is none (`AnswersTotals`); `mean` the total over the count, rounded once; `total_lines` the text of all that (`total_text`).
-//! Not promised: that tables are read and totals found where there is memory. The rows of `run_rows` show calls that do.
+//! Promised: `read_scenarios` answers the scenarios of a table, or the first record that breaks a
+//! rule (`AnswersScenarios`); `totals` what the code is worth in each of them, their total, and the
+//! first of the least and of the greatest, or why there is none (`AnswersTotals`); `mean` the total
+//! over the count, rounded once; `total_lines` the text of all that (`total_text`). Not promised:
+//! that tables are read and totals found where there is memory. The rows of `run_rows` show calls
+//! that do.
 #![tactic(auto)]
 
 mod drafts;

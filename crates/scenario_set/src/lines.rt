@@ -33,7 +33,8 @@ fn append_number(
 ) -> Result<(), NoMemory>
     requires mantissa { IsSmall mantissa }
     requires scale { scale ≤ 27 }
-    ensures ok { OnOk result (out.new.items ≡ out.old.items ++ (text_of mantissa scale ++ codes "\n")) }
+    ensures ok { OnOk result (out.new.items
+        ≡ out.old.items ++ (text_of mantissa scale ++ codes "\n")) }
     ensures err { OnErr result (AppendsPart out.old.items (text_of mantissa scale ++ codes "\n") out.new.items) }
 {
     write(alloc, out, mantissa, scale)?;
@@ -69,7 +70,8 @@ fn append_marked(
 ) -> Result<(), NoMemory>
     requires mantissa { IsSmall mantissa }
     requires scale { scale ≤ 27 }
-    ensures ok { OnOk result (out.new.items ≡ out.old.items ++ marked_text word.now words.now mantissa scale) }
+    ensures ok { OnOk result (out.new.items
+        ≡ out.old.items ++ marked_text word.now words.now mantissa scale) }
     ensures err { OnErr result (AppendsPart out.old.items (marked_text word.now words.now mantissa scale) out.new.items) }
 {
     append_words(out, word)?;
@@ -87,7 +89,8 @@ fn append_values(
     requires each { length values.now ≡ length set.now }
     requires small { All IsSmall values.now }
     requires scale { scale ≤ 27 }
-    ensures ok { OnOk result (out.new.items ≡ out.old.items ++ values_text set.now values.now scale) }
+    ensures ok { OnOk result (out.new.items
+        ≡ out.old.items ++ values_text set.now values.now scale) }
     ensures err { OnErr result (AppendsPart out.old.items (values_text set.now values.now scale) out.new.items) }
 {
     let count = set.count();
@@ -146,7 +149,8 @@ fn append_ends(
     requires least { IsSmall least.now.value }
     requires greatest { IsSmall greatest.now.value }
     requires scale { scale ≤ 27 }
-    ensures ok { OnOk result (out.new.items ≡ out.old.items ++ ends_text (valued least.now) (valued greatest.now) scale) }
+    ensures ok { OnOk result (out.new.items
+        ≡ out.old.items ++ ends_text (valued least.now) (valued greatest.now) scale) }
     ensures err { OnErr result (AppendsPart out.old.items (ends_text (valued least.now) (valued greatest.now) scale) out.new.items) }
 {
     append_marked(alloc, out, b"least", least.name, least.value, scale)?;
@@ -175,7 +179,8 @@ fn append_last(
     requires least { totals.now.least < length set.now }
     requires greatest { totals.now.greatest < length set.now }
     requires scale { scale ≤ 27 }
-    ensures ok { OnOk result (out.new.items ≡ out.old.items ++ last_text set.now totals.now mode scale) }
+    ensures ok { OnOk result (out.new.items
+        ≡ out.old.items ++ last_text set.now totals.now mode scale) }
     ensures err { OnErr result (AppendsPart out.old.items (last_text set.now totals.now mode scale) out.new.items) }
 {
     let mean = mean(totals.total, set.count(), mode);
@@ -185,8 +190,9 @@ fn append_last(
     append_ends(alloc, out, &least, &greatest, scale)
 }
 
-/// Appends the lines of a total: `NAME,VALUE` for each scenario of the set, then `total,VALUE`, `mean,VALUE` as the mode rounds
-/// it, `least,NAME,VALUE` and `greatest,NAME,VALUE`, each number with so many decimals. On `NoMemory` a front part of them stands.
+/// Appends the lines of a total: `NAME,VALUE` for each scenario of the set, then `total,VALUE`,
+/// `mean,VALUE` as the mode rounds it, `least,NAME,VALUE` and `greatest,NAME,VALUE`, each number
+/// with so many decimals. On `NoMemory` a front part of them stands.
 pub fn total_lines(
     alloc: Global,
     out: &mut Vec<u8>,
@@ -201,7 +207,8 @@ pub fn total_lines(
     requires least { totals.now.least < length set.now }
     requires greatest { totals.now.greatest < length set.now }
     requires scale { scale ≤ 27 }
-    ensures ok { OnOk result (out.new.items ≡ out.old.items ++ total_text set.now totals.now mode scale) }
+    ensures ok { OnOk result (out.new.items
+        ≡ out.old.items ++ total_text set.now totals.now mode scale) }
     ensures err { OnErr result (AppendsPart out.old.items (total_text set.now totals.now mode scale) out.new.items) }
 {
     append_values(alloc, out, set, &totals.values, scale)?;

@@ -26,7 +26,8 @@ pub struct Scenario {
     pub own: Vec<SetRow>,
 }
 
-/// Scenarios, seen as the list of their names, each with its map of places. The rows that hold in each of them are kept once.
+/// Scenarios, seen as the list of their names, each with its map of places. The rows that hold in
+/// each of them are kept once.
 #[derive(Drop)]
 pub struct Scenarios {
     pub(crate) common: Vec<SetRow>,

@@ -74,8 +74,8 @@ fn fill(
     Ok(())
 }
 
-/// The scenarios of what was read: of each name, with the first value that is kept of its rows, and of those that hold in each,
-/// at each place.
+/// The scenarios of what was read: of each name, with the first value that is kept of its rows, and
+/// of those that hold in each, at each place.
 pub fn settle(alloc: Global, draft: Draft) -> Result<Scenarios, NoMemory>
     requires some { 1 ≤ length draft.names.keys }
     requires few { length draft.names.keys < 2 ^ 32 }

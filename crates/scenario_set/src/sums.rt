@@ -258,11 +258,13 @@ fn totals_of(
     })
 }
 
-/// What a file's code, which is accepted at the setting, is worth in each scenario of a set, as `value` answers it; the total of
-/// these values, and the first scenarios of the least and of the greatest. `bound` is the most that the code can be worth in
-/// size, at nine decimals more than the portfolio's. Where the count times the bound exceeds `10^37`, there are too many
-/// scenarios. Else a place is missing exactly where the code reads one in some scenario that is not fixed there, and it is the
-/// first such place in the first such scenario. What holds in all scenarios is laid out once, and the rows of one are laid over it.
+/// What a file's code, which is accepted at the setting, is worth in each scenario of a set, as
+/// `value` answers it; the total of these values, and the first scenarios of the least and of the
+/// greatest. `bound` is the most that the code can be worth in size, at nine decimals more than the
+/// portfolio's. Where the count times the bound exceeds `10^37`, there are too many scenarios. Else
+/// a place is missing exactly where the code reads one in some scenario that is not fixed there,
+/// and it is the first such place in the first such scenario. What holds in all scenarios is laid
+/// out once, and the rows of one are laid over it.
 pub fn totals(
     alloc: Global,
     file: &CodeFile,

@@ -11,7 +11,8 @@ use std::alloc::Global;
 use std::collections::BTreeMap;
 use term_core::Value;
 
-/// Rows of a place: all of them, those that hold in each scenario, or those of one scenario, by its number.
+/// Rows of a place: all of them, those that hold in each scenario, or those of one scenario, by its
+/// number.
 #[derive(Clone, Copy, PartialEq, Eq, PartialOrd, Ord, Drop)]
 pub enum Group {
     All,
@@ -27,7 +28,8 @@ pub struct Spot {
     pub day: i64,
 }
 
-/// Of each group of rows the two that tell: the first, and the first with another value than it, which few groups have.
+/// Of each group of rows the two that tell: the first, and the first with another value than it,
+/// which few groups have.
 #[derive(Drop)]
 pub struct Watch {
     pub first: BTreeMap<Spot, Mention>,
@@ -80,7 +82,8 @@ impl Watch {
         }
     }
 
-    // The first row of a group at a place that says another value: of the two rows that are kept the one that tells.
+    // The first row of a group at a place that says another value: of the two rows that are kept
+    // the one that tells.
     fn told_at(&self, group: Group, place: Place, value: Value) -> Option<Mention>
         ensures { result ≡ told_at self.now group (place_of place) value }
     {
@@ -92,7 +95,8 @@ impl Watch {
         }
     }
 
-    /// The first row that a further row contradicts, if it has this value at this place, and holds in one scenario, or in each.
+    /// The first row that a further row contradicts, if it has this value at this place, and holds
+    /// in one scenario, or in each.
     pub fn clash(&self, own: Option<usize>, place: Place, value: Value) -> Option<Mention>
         ensures { result ≡ clash_in self.now own (place_of place) value }
     {

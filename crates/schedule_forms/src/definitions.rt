@@ -51,7 +51,8 @@ fn read_observed<'a>(decls: &Decls, rest: &'a [u8]) -> Result<(u32, u32, &'a [u8
 // A notional, to the end of its size.
 #[tactic(auto, using(contract_parse::proofs::Parts::followed_by))]
 fn read_notional(rest: &[u8]) -> Result<(Decimal, &[u8]), ReadErr>
-    ensures reads { Reads (PassesPlan (λ ps. the_mark (codes ",") ∷ DecimalAt ∷ the_mark (codes ")") ∷ ps))
+    ensures reads { Reads (PassesPlan
+        (λ ps. the_mark (codes ",") ∷ DecimalAt ∷ the_mark (codes ")") ∷ ps))
         (λ r. notional_part r.0.mant r.0.scale) (λ r. r.1.now) rest.now result }
 {
     let rest = skip_mark(rest, b",")?;
@@ -64,7 +65,8 @@ fn read_notional(rest: &[u8]) -> Result<(Decimal, &[u8]), ReadErr>
 #[tactic(auto, using(contract_parse::proofs::Parts::followed_by))]
 fn read_fixing<'a>(decls: &Decls, rest: &'a [u8]) -> Result<(Size, &'a [u8]), ReadErr>
     ensures reads { Reads (PassesPlan (λ ps. fixing_places (declarations decls.now) ps))
-        (λ r. behind_word (codes "round") (size_part (declarations decls.now) r.0)) (λ r. r.1.now) rest.now result }
+        (λ r. behind_word (codes "round") (size_part (declarations decls.now) r.0))
+        (λ r. r.1.now) rest.now result }
 {
     let (mode, scale, rest) = read_rounding(rest)?;
     let (label, lag, rest) = read_observed(decls, rest)?;
@@ -106,7 +108,8 @@ fn read_party_behind<'a>(
     rest: &'a [u8],
 ) -> Result<(u32, &'a [u8]), ReadErr>
     requires { index_set_len parties.now < 2 ^ 32 }
-    ensures reads { Reads (PassesPlan (λ ps. the_word wanted.now ∷ Token (UseOf parties.now.keys) ∷ ps))
+    ensures reads { Reads (PassesPlan
+        (λ ps. the_word wanted.now ∷ Token (UseOf parties.now.keys) ∷ ps))
         (λ r. named_by wanted.now parties.now.keys r.0) (λ r. r.1.now) rest.now result }
 {
     let rest = skip_word(rest, wanted)?;
@@ -117,7 +120,8 @@ fn read_party_behind<'a>(
 #[tactic(auto, using(contract_parse::proofs::Parts::followed_by))]
 fn read_paid<'a>(assets: &IndexMap<Name, u8>, rest: &'a [u8]) -> Result<(u32, &'a [u8]), ReadErr>
     requires { index_map_len assets.now < 2 ^ 32 }
-    ensures reads { Reads (PassesPlan (λ ps. the_word (codes "of") ∷ Token (UseOf (keys assets.now)) ∷ ps))
+    ensures reads { Reads (PassesPlan
+        (λ ps. the_word (codes "of") ∷ Token (UseOf (keys assets.now)) ∷ ps))
         (λ r. named_by (codes "of") (keys assets.now) r.0) (λ r. r.1.now) rest.now result }
 {
     let rest = skip_word(rest, b"of")?;
@@ -140,7 +144,8 @@ fn read_route<'a>(decls: &Decls, rest: &'a [u8]) -> Result<(u32, u32, u32, &'a [
 #[tactic(auto, using(contract_parse::proofs::Parts::followed_by))]
 fn read_first(most: u32, rest: &[u8]) -> Result<(u32, &[u8]), ReadErr>
     ensures reads { Reads (LeadsPlan (λ ps. the_word (codes "first") ∷ FirstAt most ∷ ps)
-        (λ r ps. the_word (codes "every") ∷ EveryAt most r.0 ∷ ps)) (λ r. first_part r.0) (λ r. r.1.now) rest.now result }
+        (λ r ps. the_word (codes "every") ∷ EveryAt most r.0 ∷ ps)) (λ r. first_part r.0)
+        (λ r. r.1.now) rest.now result }
     ensures most { IfOk result (λ r. r.0 ≤ 100_000) }
 {
     let rest = skip_word(rest, b"first")?;
@@ -151,7 +156,8 @@ fn read_first(most: u32, rest: &[u8]) -> Result<(u32, &[u8]), ReadErr>
 #[tactic(auto, using(contract_parse::proofs::Parts::followed_by))]
 fn read_every(most: u32, first: u32, rest: &[u8]) -> Result<(u32, &[u8]), ReadErr>
     ensures reads { Reads (LeadsPlan (λ ps. the_word (codes "every") ∷ EveryAt most first ∷ ps)
-        (λ r ps. the_word (codes "times") ∷ TimesAt most first r.0 ∷ ps)) (λ r. every_part r.0) (λ r. r.1.now) rest.now result }
+        (λ r ps. the_word (codes "times") ∷ TimesAt most first r.0 ∷ ps)) (λ r. every_part r.0)
+        (λ r. r.1.now) rest.now result }
     ensures most { IfOk result (λ r. r.0 ≤ 100_000) }
 {
     let rest = skip_word(rest, b"every")?;
@@ -164,7 +170,8 @@ fn read_times(most: u32, first: u32, every: u32, rest: &[u8]) -> Result<(u32, &[
     requires first { first ≤ 100_000 }
     requires every { every ≤ 100_000 }
     requires most { most ≤ 5_000 }
-    ensures reads { Reads (PassesPlan (λ ps. the_word (codes "times") ∷ TimesAt most first every ∷ ps))
+    ensures reads { Reads (PassesPlan
+        (λ ps. the_word (codes "times") ∷ TimesAt most first every ∷ ps))
         (λ r. times_part most first every r.0) (λ r. r.1.now) rest.now result }
 {
     let rest = skip_word(rest, b"times")?;
@@ -209,7 +216,8 @@ fn read_leg<'a>(decls: &Decls, most: u32, rest: &'a [u8]) -> Result<(Leg, &'a [u
 // Two legs, one against the other.
 #[tactic(auto, using(contract_parse::proofs::Parts::followed_by))]
 fn read_swap<'a>(decls: &Decls, rest: &'a [u8]) -> Result<(Plan, &'a [u8]), ReadErr>
-    ensures reads { Reads (PassesPlan (λ ps. definition_places (declarations decls.now) PlanHead.Swap ps))
+    ensures reads { Reads (PassesPlan
+        (λ ps. definition_places (declarations decls.now) PlanHead.Swap ps))
         (λ r. definition_part (declarations decls.now) r.0) (λ r. r.1.now) rest.now result }
     ensures head { IfOk result (λ r. head_of r.0 ≡ PlanHead.Swap) }
 {
@@ -222,7 +230,8 @@ fn read_swap<'a>(decls: &Decls, rest: &'a [u8]) -> Result<(Plan, &'a [u8]), Read
 // The flag that ends a leg.
 #[tactic(auto, using(contract_parse::proofs::Parts::followed_by))]
 fn read_ending_flag<'a>(decls: &Decls, rest: &'a [u8]) -> Result<(u32, &'a [u8]), ReadErr>
-    ensures reads { Reads (PassesPlan (λ ps. the_word (codes "until") ∷ FlagAt (declarations decls.now) ∷ ps))
+    ensures reads { Reads (PassesPlan
+        (λ ps. the_word (codes "until") ∷ FlagAt (declarations decls.now) ∷ ps))
         (λ r. flag_part (declarations decls.now) r.0) (λ r. r.1.now) rest.now result }
 {
     let rest = skip_word(rest, b"until")?;
@@ -242,7 +251,8 @@ fn read_cover(rest: &[u8]) -> Result<(Decimal, &[u8]), ReadErr>
 // A leg, and the flag that ends it.
 #[tactic(auto, using(contract_parse::proofs::Parts::followed_by))]
 fn read_guarded<'a>(decls: &Decls, rest: &'a [u8]) -> Result<(Plan, &'a [u8]), ReadErr>
-    ensures reads { Reads (PassesPlan (λ ps. definition_places (declarations decls.now) PlanHead.Guarded ps))
+    ensures reads { Reads (PassesPlan
+        (λ ps. definition_places (declarations decls.now) PlanHead.Guarded ps))
         (λ r. definition_part (declarations decls.now) r.0) (λ r. r.1.now) rest.now result }
     ensures head { IfOk result (λ r. head_of r.0 ≡ PlanHead.Guarded) }
 {

@@ -90,7 +90,8 @@ fn payments_together(alloc: Global, leg: &Leg, number: u32, count: u32) -> Resul
     requires limits { IsLegWithinLimits 5_000 leg.now }
     requires some { 0 < count }
     requires within { number + count ≤ leg.now.times }
-    ensures { IfOk result (λ c. contract c ≡ balanced (map (dated_payment leg.now) (range_with_len number count))) }
+    ensures { IfOk result (λ c. contract c
+        ≡ balanced (map (dated_payment leg.now) (range_with_len number count))) }
 {
     if count == 1 {
         return dated_payment(alloc, leg, number);
@@ -193,14 +194,16 @@ fn expansion(alloc: Global, plan: &Plan) -> Result<Contr, NoMemory>
     }
 }
 
-/// The contract that a plan is written for: the payments of a leg in a balanced tree, two legs together, or payments one
-/// behind the other, each behind a test of the flag (after the contract language of Bahr, Berthold and Elsman). It has a
-/// height of at most 200 and at most 100,000 nodes. Over declarations that have what the plan names it is closed and pays
-/// what the plan says; and so it does where it is accepted. The error is want of memory.
+/// The contract that a plan is written for: the payments of a leg in a balanced tree, two legs
+/// together, or payments one behind the other, each behind a test of the flag (after the contract
+/// language of Bahr, Berthold and Elsman). It has a height of at most 200 and at most 100,000
+/// nodes. Over declarations that have what the plan names it is closed and pays what the plan says;
+/// and so it does where it is accepted. The error is want of memory.
 ///
-/// The rules of acceptance can still refuse it: a size or a cover with more decimals than amounts have, a label and a
-/// notional with more than 27 together, a last day and a lag of more than 1,000,000 days together, in a swap also those of
-/// different legs, and numbers that grow too large.
+/// The rules of acceptance can still refuse it: a size or a cover with more decimals than amounts
+/// have, a label and a notional with more than 27 together, a last day and a lag of more than
+/// 1,000,000 days together, in a swap also those of different legs, and numbers that grow too
+/// large.
 pub fn expand(alloc: Global, plan: &Plan) -> Result<Contr, NoMemory>
     requires limits { IsWithinLimits plan.now }
     ensures expansion { IfOk result (λ c. contract c ≡ expansion plan.now) }

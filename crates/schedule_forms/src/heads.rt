@@ -17,7 +17,8 @@ pub enum PlanHead {
 
 /// Which of them stands next, and the text after it.
 pub fn head_ahead<'a>(ahead: &Lookahead<'a>) -> Option<(PlanHead, &'a [u8])>
-    ensures found { IfSome result (λ r. word (word_of r.0) (tokens_ahead ahead.now) (tokens r.1.now)) }
+    ensures found { IfSome result
+        (λ r. word (word_of r.0) (tokens_ahead ahead.now) (tokens r.1.now)) }
     ensures none { IfNone result (head_at (tok_of ahead.now.token) ≡ None) }
     ensures after { IfSome result (λ r. r.1.now ≡ ahead.now.after.now) }
 {

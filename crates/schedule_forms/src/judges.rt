@@ -22,7 +22,8 @@ pub fn count_at(most: u32, token: &Lexeme<'_>) -> Result<u32, TextKind>
     }
 }
 
-/// So many payments as end by day 100,000, where the first is on a day and each so many days after the one before it.
+/// So many payments as end by day 100,000, where the first is on a day and each so many days after
+/// the one before it.
 pub fn times_at(most: u32, first: u32, every: u32, token: &Lexeme<'_>) -> Result<u32, TextKind>
     requires first { first ≤ 100_000 }
     requires every { every ≤ 100_000 }

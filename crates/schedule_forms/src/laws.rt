@@ -1,19 +1,21 @@
-//! Laws of plans and their expansions. Each is the contract of a function that does nothing; a caller takes the law by
-//! calling it.
+//! Laws of plans and their expansions. Each is the contract of a function that does nothing; a
+//! caller takes the law by calling it.
 
 ghost use Rattle.schedule_forms.specs.LawsTexts.{ExpandedTextsAreSpellable, OnePlanFault, OnePlanFile, PlanTextsHaveNoFault, PlansOfTextsAreExpandable};
 ghost use Rattle.schedule_forms.specs.PlanFrontLaws.{PlanFaultsEndFronts, PlanFrontsGoOn, PlanTextsAreWhole};
 ghost use Rattle.schedule_forms.specs.PlanFrontRows.{PlanFrontRows};
 ghost use Rattle.schedule_forms.specs.LawsSchedules.{AcceptedExpansionsPay, DeclaredExpansionsPay, ExpansionsAreClosed, ExpansionsAreSmall, ExpansionsAreSortedAndTimed, TestsDecideDays, TreesHalve};
 
-/// What is written for a plan pays what the plan says, on each day and in each environment: where it is accepted, and then
-/// its literals are within the limits of texts; and over declarations that have what the plan names.
+/// What is written for a plan pays what the plan says, on each day and in each environment: where
+/// it is accepted, and then its literals are within the limits of texts; and over declarations that
+/// have what the plan names.
 pub fn expansions_pay()
     ensures accepted { AcceptedExpansionsPay }
     ensures declared { DeclaredExpansionsPay }
 {}
 
-/// Over declarations that have what the plan names, its expansion is closed and has numbers for day counts.
+/// Over declarations that have what the plan names, its expansion is closed and has numbers for day
+/// counts.
 pub fn expansions_are_closed()
     ensures { ExpansionsAreClosed }
 {}
@@ -38,7 +40,8 @@ pub fn trees_halve()
     ensures { TreesHalve }
 {}
 
-/// Every plan of a text is within the limits and names only what is declared, so it can be expanded.
+/// Every plan of a text is within the limits and names only what is declared, so it can be
+/// expanded.
 pub fn plans_of_texts_are_expandable()
     ensures { PlansOfTextsAreExpandable }
 {}
@@ -54,14 +57,14 @@ pub fn plan_texts_are_one()
     ensures fault { OnePlanFault }
 {}
 
-/// The declarations and the expansions of a text are within the limits of texts. So the canonical text of that portfolio is
-/// a text of it.
+/// The declarations and the expansions of a text are within the limits of texts. So the canonical
+/// text of that portfolio is a text of it.
 pub fn expanded_texts_are_spellable()
     ensures { ExpandedTextsAreSpellable }
 {}
 
-/// A fault of bytes that are UTF-8 stands at a token behind a front of schedule files, and is of Syntax exactly where with
-/// that token there is none.
+/// A fault of bytes that are UTF-8 stands at a token behind a front of schedule files, and is of
+/// Syntax exactly where with that token there is none.
 pub fn plan_faults_end_fronts()
     ensures { PlanFaultsEndFronts }
 {}
@@ -76,7 +79,8 @@ pub fn plan_fronts_go_on()
     ensures { PlanFrontsGoOn }
 {}
 
-/// Small schedule files stop being fronts where they should, so that the laws on fronts speak of something.
+/// Small schedule files stop being fronts where they should, so that the laws on fronts speak of
+/// something.
 pub fn rows_of_plan_fronts()
     ensures { PlanFrontRows }
 {}

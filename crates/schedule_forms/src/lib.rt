@@ -5,9 +5,10 @@
 //! let contr = expand(alloc, &plan)?; // of a plan within its limits
 //! ```
 //!
-//! Promised: `parse_plans` answers the schedule file that a text stands for, or the first fault of bytes that are none
-//! (`PlanAnswers`), and its plans may be expanded; `expand` answers the expansion of a plan (`expansion`), which is small
-//! and closed and pays what the plan says (`IsWrittenFor`, and the laws of `laws`).
+//! Promised: `parse_plans` answers the schedule file that a text stands for, or the first fault of
+//! bytes that are none (`PlanAnswers`), and its plans may be expanded; `expand` answers the
+//! expansion of a plan (`expansion`), which is small and closed and pays what the plan says
+//! (`IsWrittenFor`, and the laws of `laws`).
 //! Only tested: that they answer where there is memory.
 #![tactic(auto)]
 

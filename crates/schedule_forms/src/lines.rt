@@ -27,8 +27,9 @@ fn read_name<'a>(
     plans: &IndexMap<Name, Plan>,
     rest: &'a [u8],
 ) -> Result<(Name, &'a [u8]), ReadErr>
-    ensures reads { Reads (NamesPlans (keys plans.now) (λ r. keys plans.now ++ r.0 ∷ []) (λ ps. NewPlan ∷ ps))
-        (λ r. valued (new_at (keys plans.now)) r.0) (λ r. r.1.now) rest.now result }
+    ensures reads { Reads (NamesPlans (keys plans.now) (λ r. keys plans.now ++ r.0 ∷ [])
+        (λ ps. NewPlan ∷ ps)) (λ r. valued (new_at (keys plans.now)) r.0)
+        (λ r. r.1.now) rest.now result }
     ensures shorter { IfOk result (λ r. length r.1.now < length rest.now) }
 {
     read_new_name(alloc, plans, rest)
@@ -78,7 +79,8 @@ pub fn read_plans<'a>(
     decls: &Decls,
     ahead: &Lookahead<'a>,
 ) -> Result<(IndexMap<Name, Plan>, Lookahead<'a>), ReadErr>
-    ensures reads { ReadsAhead (NamesPlans [] (λ r. keys r.0) (λ ps. PlanLines (declarations decls.now) ∷ ps))
+    ensures reads { ReadsAhead (NamesPlans [] (λ r. keys r.0)
+        (λ ps. PlanLines (declarations decls.now) ∷ ps))
         (λ r. Repeat (Entry (plan_line (declarations decls.now))) [] r.0.entries)
         (λ r. ahead_from r.1) (ahead_from ahead.now) result }
 {

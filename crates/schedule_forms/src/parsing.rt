@@ -25,8 +25,10 @@ use term_core::Decls;
 // The first line.
 #[tactic(auto, using(contract_parse::proofs::Parts::followed_by))]
 fn skip_first_line(rest: &[u8]) -> Result<&[u8], ReadErr>
-    ensures reads { Reads (PassesAnywhere (λ ps. TheWord (codes "schedules") ∷ TheVersion ∷ TheMark (codes ";") ∷ ps))
-        (λ r. word (codes "schedules") ⨟ one is_version ⨟ mark (codes ";")) (λ r. r.now) rest.now result }
+    ensures reads { Reads (PassesAnywhere
+        (λ ps. TheWord (codes "schedules") ∷ TheVersion ∷ TheMark (codes ";") ∷ ps))
+        (λ r. word (codes "schedules") ⨟ one is_version ⨟ mark (codes ";"))
+        (λ r. r.now) rest.now result }
 {
     let rest = skip_word(rest, b"schedules")?;
     let rest = skip_version(rest)?;
@@ -38,8 +40,10 @@ fn skip_first_line(rest: &[u8]) -> Result<&[u8], ReadErr>
 fn read_heading<'a>(alloc: Global, bytes: &'a [u8]) -> Result<(Decls, Lookahead<'a>), ReadErr>
     requires { length bytes.now ≤ 16_777_216 }
     ensures version { IfOk result (λ r. r.0.version ≡ 1) }
-    ensures reads { ReadsAhead (Extends nothing_declared (λ r. declared_by (declarations r.0) []) heading_places)
-        (λ r. first_line ⨟ decls (declarations r.0)) (λ r. ahead_from r.1) (ahead_in bytes.now) result }
+    ensures reads { ReadsAhead (Extends nothing_declared
+        (λ r. declared_by (declarations r.0) []) heading_places)
+        (λ r. first_line ⨟ decls (declarations r.0))
+        (λ r. ahead_from r.1) (ahead_in bytes.now) result }
 {
     let rest = skip_first_line(bytes)?;
     read_decls(alloc, 1, rest)

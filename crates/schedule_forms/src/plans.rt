@@ -2,8 +2,9 @@
 
 use decimal::Mode;
 
-/// What is paid each time: a number of units of ten to the minus `scale`; or what a label holds `lag` days before the
-/// payment, times a notional of `mant` units of ten to the minus `mant_scale`, rounded to `scale` decimals.
+/// What is paid each time: a number of units of ten to the minus `scale`; or what a label holds
+/// `lag` days before the payment, times a notional of `mant` units of ten to the minus
+/// `mant_scale`, rounded to `scale` decimals.
 #[derive(Clone, Copy, Debug, PartialEq, Eq)]
 pub enum Size {
     Fixed {
@@ -20,8 +21,8 @@ pub enum Size {
     },
 }
 
-/// Payments of one size from one party to another: the first after `first` days, each further one `every` days after
-/// the one before it, `times` in all.
+/// Payments of one size from one party to another: the first after `first` days, each further one
+/// `every` days after the one before it, `times` in all.
 #[derive(Clone, Copy, Debug, PartialEq, Eq)]
 pub struct Leg {
     pub size: Size,
@@ -33,8 +34,8 @@ pub struct Leg {
     pub times: u32,
 }
 
-/// A leg; two legs, one against the other; or a leg that ends on the first day on which a flag is true, when its
-/// receiver pays its payer a cover of `mant` units of ten to the minus `scale`.
+/// A leg; two legs, one against the other; or a leg that ends on the first day on which a flag is
+/// true, when its receiver pays its payer a cover of `mant` units of ten to the minus `scale`.
 #[derive(Clone, Copy, Debug, PartialEq, Eq)]
 pub enum Plan {
     Leg {

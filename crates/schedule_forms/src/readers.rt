@@ -23,7 +23,8 @@ use term_core::{Decls, Name};
 
 /// This word.
 pub fn skip_word<'a>(rest: &'a [u8], wanted: &[u8]) -> Result<&'a [u8], ReadErr>
-    ensures reads { Reads (PassesPlan (λ ps. the_word wanted.now ∷ ps)) (λ r. word wanted.now) (λ r. r.now) rest.now result }
+    ensures reads { Reads (PassesPlan (λ ps. the_word wanted.now ∷ ps)) (λ r. word wanted.now)
+        (λ r. r.now) rest.now result }
     ensures shorter { IfOk result (λ r. length r.now < length rest.now) }
 {
     contract_parse::skip_word(rest, wanted)
@@ -31,7 +32,8 @@ pub fn skip_word<'a>(rest: &'a [u8], wanted: &[u8]) -> Result<&'a [u8], ReadErr>
 
 /// This mark.
 pub fn skip_mark<'a>(rest: &'a [u8], wanted: &[u8]) -> Result<&'a [u8], ReadErr>
-    ensures reads { Reads (PassesPlan (λ ps. the_mark wanted.now ∷ ps)) (λ r. mark wanted.now) (λ r. r.now) rest.now result }
+    ensures reads { Reads (PassesPlan (λ ps. the_mark wanted.now ∷ ps)) (λ r. mark wanted.now)
+        (λ r. r.now) rest.now result }
     ensures shorter { IfOk result (λ r. length r.now < length rest.now) }
 {
     contract_parse::skip_mark(rest, wanted)
@@ -39,7 +41,8 @@ pub fn skip_mark<'a>(rest: &'a [u8], wanted: &[u8]) -> Result<&'a [u8], ReadErr>
 
 /// How a number is rounded.
 pub fn read_mode(rest: &[u8]) -> Result<(Mode, &[u8]), ReadErr>
-    ensures reads { Reads (PassesPlan (λ ps. Token ModeAt ∷ ps)) (λ r. valued mode_at r.0) (λ r. r.1.now) rest.now result }
+    ensures reads { Reads (PassesPlan (λ ps. Token ModeAt ∷ ps)) (λ r. valued mode_at r.0)
+        (λ r. r.1.now) rest.now result }
 {
     contract_parse::read_mode(rest)
 }
@@ -100,7 +103,8 @@ pub fn read_decimal(rest: &[u8]) -> Result<(Decimal, &[u8]), ReadErr>
 /// The index of a declared number.
 pub fn read_number_label<'a>(decls: &Decls, rest: &'a [u8]) -> Result<(u32, &'a [u8]), ReadErr>
     ensures reads { Reads (PassesPlan (λ ps. NumberLabelAt (declarations decls.now) ∷ ps))
-        (λ r. valued (number_label_at (declarations decls.now)) r.0) (λ r. r.1.now) rest.now result }
+        (λ r. valued (number_label_at (declarations decls.now)) r.0)
+        (λ r. r.1.now) rest.now result }
 {
     let (token, after) = next(rest);
     match number_label_at(decls, &token) {
@@ -124,7 +128,8 @@ pub fn read_flag<'a>(decls: &Decls, rest: &'a [u8]) -> Result<(u32, &'a [u8]), R
 /// The day of the first of at most so many payments.
 pub fn read_first_day(most: u32, rest: &[u8]) -> Result<(u32, &[u8]), ReadErr>
     ensures most { IfOk result (λ r. r.0 ≤ 100_000) }
-    ensures reads { Reads (LeadsPlan (λ ps. FirstAt most ∷ ps) (λ r ps. the_word (codes "every") ∷ EveryAt most r.0 ∷ ps))
+    ensures reads { Reads (LeadsPlan (λ ps. FirstAt most ∷ ps)
+        (λ r ps. the_word (codes "every") ∷ EveryAt most r.0 ∷ ps))
         (λ r. valued (integer_at 100_000) r.0) (λ r. r.1.now) rest.now result }
 {
     let (token, after) = next(rest);
@@ -137,7 +142,8 @@ pub fn read_first_day(most: u32, rest: &[u8]) -> Result<(u32, &[u8]), ReadErr>
 /// The days from one payment to the next, of which the first is on this day.
 pub fn read_interval(most: u32, first: u32, rest: &[u8]) -> Result<(u32, &[u8]), ReadErr>
     ensures most { IfOk result (λ r. r.0 ≤ 100_000) }
-    ensures reads { Reads (LeadsPlan (λ ps. EveryAt most first ∷ ps) (λ r ps. the_word (codes "times") ∷ TimesAt most first r.0 ∷ ps))
+    ensures reads { Reads (LeadsPlan (λ ps. EveryAt most first ∷ ps)
+        (λ r ps. the_word (codes "times") ∷ TimesAt most first r.0 ∷ ps))
         (λ r. valued (count_at 100_000) r.0) (λ r. r.1.now) rest.now result }
 {
     let (token, after) = next(rest);

@@ -1,12 +1,13 @@
-//! Tilugba, the manager for financial contracts between parties: the program, which runs the command of its words over the
-//! files that they name.
+//! Tilugba, the manager for financial contracts between parties: the program, which runs the
+//! command of its words over the files that they name.
 //!
 //! ```text
 //! tilugba flows loan.txt
 //! ```
 //!
-//! Promised: the program ends with the number of a status that `contract_cli::run` may have of the words that are passed on
-//! (`EndsWithStatus`). Neither proved nor tested: that these are the words that were typed.
+//! Promised: the program ends with the number of a status that `contract_cli::run` may have of the
+//! words that are passed on (`EndsWithStatus`). Neither proved nor tested: that these are the words
+//! that were typed.
 #![tactic(auto)]
 
 ghost use Rattle.std.specs.Prelude.{◌≡◌, map, string_bytes, IfOk};
@@ -35,7 +36,8 @@ fn words_of(rt: &HostRuntime) -> Result<Vec<String>, Error> {
 
 // The same words, lent.
 fn lent<'a>(alloc: Global, words: &'a [String]) -> Result<Vec<&'a str>, AllocError>
-    ensures { IfOk result (λ lent. map (λ word. word.now) lent.items ≡ map (λ word. string_bytes word) words.now) }
+    ensures { IfOk result (λ lent. map (λ word. word.now) lent.items ≡ map
+        (λ word. string_bytes word) words.now) }
 {
     let mut lent = Vec::new(alloc);
     for word in words {
