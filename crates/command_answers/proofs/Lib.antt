@@ -6,6 +6,7 @@ pub mod InputFacts
 pub mod WritableFacts
 pub mod AdvanceFacts
 pub mod NovateFacts
+pub mod MigrateFacts
 pub mod PayoffFacts
 pub mod ExpandFacts
 pub mod CheckFacts

@@ -28,6 +28,7 @@ pub mod UsedParts
 pub mod ReadingParts
 pub mod ChoosingParts
 pub mod CheckParts
+pub mod MigrateParts
 pub mod FlowsParts
 pub mod AdvanceParts
 pub mod ExpandParts

@@ -6,7 +6,10 @@ use Rattle.command_answers.specs.Course.{Course, behind, tells}
 use Rattle.command_answers.specs.Inputs.{file_at}
 use Rattle.command_answers.specs.Stages.{portfolio_of}
 
+abbrev pub migrate_of_text : List ℕ → Course
+migrate_of_text text =
+    behind (portfolio_of text) (λ b.
+    tells (λ out. IsCanon out (migrated b)))
+
 abbrev pub migrate_course : List (List ℕ) → Course
-migrate_course inputs =
-    behind (portfolio_of (file_at inputs 0)) (λ b.
-    tells (λ text. IsCanon text (migrated b)))
+migrate_course inputs = migrate_of_text (file_at inputs 0)

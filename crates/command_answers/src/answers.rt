@@ -23,7 +23,7 @@ use crate::advance_text::advance_text;
 use crate::check_text::check_text;
 use crate::expand_text::expand_text;
 use crate::flows_text::flows_text;
-use crate::inputs::{code_of, file_at, plans_of, portfolio_of};
+use crate::inputs::{code_of, file_at, plans_of};
 use crate::migrate_text::migrated_text;
 use crate::netting_text::{positions_text, settlement_text};
 use crate::novate_text::novate_text;
@@ -169,8 +169,7 @@ fn migrate_answer(alloc: Global, inputs: &[Vec<u8>]) -> Result<Answer, Stop>
     requires { AreShort (bytes_of inputs.now) }
     ensures { Goes (migrate_course (bytes_of inputs.now)) result }
 {
-    let portfolio = portfolio_of(alloc, file_at(inputs, 0))?;
-    let text = migrated_text(alloc, portfolio)?;
+    let text = migrated_text(alloc, file_at(inputs, 0))?;
     Ok(Answer {
         status: Status::Done,
         text,

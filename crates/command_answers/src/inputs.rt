@@ -1,21 +1,19 @@
 //! The bytes of a command's files, and the texts that they are.
 
 ghost use Rattle.std.specs.Prelude.{◌≡◌, ◌≤◌, length};
-ghost use Rattle.term_core.specs.Books.{book};
 ghost use Rattle.payoff_lang.specs.CodeBooks.{code_book};
 ghost use Rattle.command_answers.specs.Inputs.{bytes_of, file_at};
 ghost use Rattle.schedule_forms.specs.PlanBooks.{plan_book};
-ghost use Rattle.command_answers.specs.Stages.{IsBadCode, plans_of, portfolio_of};
+ghost use Rattle.command_answers.specs.Stages.{IsBadCode, plans_of};
 ghost use Rattle.command_answers.specs.Stopping.{AnswersBy, AnswersStage};
 ghost use Rattle.command_answers.specs.ValueParts.{IsReadFrom};
 
 use crate::stop::Stop;
-use contract_parse::{ParseErr, parse_portfolio};
+use contract_parse::ParseErr;
 use payoff_lang::{CodeFile, parse_code};
 use report::Fault;
 use schedule_forms::{PlanFile, parse_plans};
 use std::alloc::Global;
-use term_core::Portfolio;
 
 /// The bytes of the file at an index, none where there is none.
 pub fn file_at(inputs: &[Vec<u8>], index: usize) -> &[u8]
@@ -24,18 +22,6 @@ pub fn file_at(inputs: &[Vec<u8>], index: usize) -> &[u8]
     match inputs.get(index) {
         Some(bytes) => bytes.as_slice(),
         None => &[],
-    }
-}
-
-/// The portfolio of a text.
-pub fn portfolio_of(alloc: Global, bytes: &[u8]) -> Result<Portfolio, Stop>
-    requires { length bytes.now ≤ 16_777_216 }
-    ensures { AnswersStage (portfolio_of bytes.now) book result }
-{
-    match parse_portfolio(alloc, bytes) {
-        Ok(portfolio) => Ok(portfolio),
-        Err(ParseErr::Text(fault)) => Err(Stop::Fault(Fault::Text(fault))),
-        Err(ParseErr::NoMemory) => Err(Stop::NoMemory),
     }
 }
 

@@ -1,17 +1,25 @@
 //! The text of the command `migrate`.
 
-ghost use Rattle.std.specs.Prelude.{◌≡◌, IfOk};
-ghost use Rattle.std.specs.List.{All};
-ghost use Rattle.term_core.specs.Books.{book};
+ghost use Rattle.std.specs.Prelude.{◌≡◌, ◌≤◌, ◌++◌, [], OnOk, length};
 ghost use Rattle.term_core.specs.Declarations.{declarations};
-ghost use Rattle.contract_print.specs.Canon.{IsCanon};
-ghost use Rattle.contract_print.specs.Migrated.{in_version_two, migrated};
+ghost use Rattle.term_core.specs.Limits.{longest_file};
+ghost use Rattle.term_core.specs.Terms.{contract};
+ghost use Rattle.contract_parse.specs.Names.{declared_by};
+ghost use Rattle.contract_print.specs.Canon.{contract_text};
+ghost use Rattle.contract_print.specs.Migrated.{in_version_two};
 ghost use Rattle.contract_print.specs.Writable.{IsWritableTerm};
+ghost use Rattle.command_answers.specs.CheckParts.{HasBegun};
+ghost use Rattle.command_answers.specs.MigrateCourse.{migrate_of_text};
+ghost use Rattle.command_answers.specs.MigrateParts.{AnswersMigrated};
+ghost use Rattle.command_answers.specs.Stopping.{GoesDone};
 
-use contract_print::print_portfolio;
+use crate::reading::{read_next, start_reading};
+use crate::stop::Stop;
+use contract_parse::{ContractReader, NextContract};
+use contract_print::{print_beginning, print_contract};
 use decimal::NoMemory;
 use std::alloc::Global;
-use term_core::{Decls, Portfolio};
+use term_core::Decls;
 
 // Declarations in version 2, with all else as it is.
 fn in_version_two(decls: Decls) -> Decls
@@ -29,14 +37,47 @@ fn in_version_two(decls: Decls) -> Decls
     }
 }
 
-/// What `migrate` writes of a portfolio: its text in version 2, or out of memory.
-pub fn migrated_text(alloc: Global, portfolio: Portfolio) -> Result<Vec<u8>, NoMemory>
-    requires { All (λ entry. IsWritableTerm entry.1) (book portfolio).contracts }
-    ensures { IfOk result (λ text. IsCanon text.items (migrated (book portfolio))) }
+// Prints a contract that is read, and drops it.
+fn print_next(
+    alloc: Global,
+    out: &mut Vec<u8>,
+    printed: &Decls,
+    next: NextContract<'_>,
+) -> Result<(), NoMemory>
+    requires { IsWritableTerm (contract next.contr) }
+    ensures { OnOk result (out.new.items ≡ out.old.items
+        ++ contract_text (declared_by (declarations printed.now) []) next.entry.name.now
+        (contract next.entry.contr)) }
 {
-    let Portfolio { decls, contracts } = portfolio;
-    let decls = in_version_two(decls);
+    print_contract(alloc, out, printed, next.name, &next.contr)
+}
+
+// The text of a portfolio with other declarations and the contracts that are left of a text.
+fn printed_with(
+    alloc: Global,
+    printed: &Decls,
+    decls: &Decls,
+    reader: &mut ContractReader<'_>,
+) -> Result<Vec<u8>, Stop>
+    requires begun { HasBegun (declarations decls.now) reader.old }
+    requires version { declarations printed.now ≡ in_version_two (declarations decls.now) }
+    ensures { AnswersMigrated (declarations decls.now) reader.old result }
+{
     let mut text = Vec::new(alloc);
-    print_portfolio(alloc, &mut text, &Portfolio { decls, contracts })?;
+    print_beginning(alloc, &mut text, printed)?;
+    while let Some(next) = read_next(alloc, decls, reader)? {
+        print_next(alloc, &mut text, printed, next)?;
+    }
     Ok(text)
+}
+
+/// What `migrate` writes of a portfolio's text: the text of the same portfolio in version 2; or the fault of the text. Each contract
+/// is read, printed and dropped before the next.
+pub fn migrated_text(alloc: Global, text: &[u8]) -> Result<Vec<u8>, Stop>
+    requires { length text.now ≤ longest_file }
+    ensures { GoesDone (migrate_of_text text.now) result }
+{
+    let (decls, mut reader) = start_reading(alloc, text)?;
+    let two = in_version_two(decls.copy(alloc)?);
+    printed_with(alloc, &two, &decls, &mut reader)
 }

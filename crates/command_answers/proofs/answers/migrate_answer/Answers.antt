@@ -1,19 +1,24 @@
-use Rattle.std.proofs.Common.{ℕ, List, refl, subst}
-use Rattle.term_core.specs.Books.{book}
-use Rattle.contract_parse.specs.Texts.{Text}
-use Rattle.contract_print.proofs.TextSpellable.{texts_writable}
-use Rattle.command_answers.specs.Inputs.{bytes_of}
-use Rattle.command_answers.specs.MigrateCourse.{migrate_course}
-use Rattle.command_answers.proofs.StopFacts.{lacks_memory}
+use Rattle.std.proofs.Common.{ℕ, List, subst}
+use Rattle.std.specs.Prelude.{Err}
+use Rattle.command_answers.specs.Course.{Tells}
+use Rattle.command_answers.specs.Inputs.{bytes_of, file_at}
+use Rattle.command_answers.specs.MigrateCourse.{migrate_course, migrate_of_text}
+use Rattle.command_answers.specs.Stopping.{GoesDone}
+use Rattle.command_answers.specs.declared.status.Status.TheVariants as status
+use Rattle.command_answers.proofs.InputFacts.{file_short}
+use Rattle.command_answers.proofs.StopFacts.{hands_on_rest}
 use Rattle.command_answers.proofs.answers.migrate_answer.Goals as goal
 
 pub migrated_text-requires : goal.migrated_text-requires
-migrated_text-requires c = texts_writable c.file_at.result.now (book c.in_ok-portfolio.portfolio) c.in_ok-portfolio.ensures
+migrated_text-requires c = rw c.file_at.ensures (file_short (bytes_of c.args.inputs.now) 0 c.requires)
 
 pub returns-in_err-text : goal.returns-in_err-text
-returns-in_err-text c = lacks_memory (migrate_course (bytes_of c.args.inputs.now)) c.from_residual-in_err-text.result c.from_residual-in_err-text.ensures.1
+returns-in_err-text c =
+    let inputs = bytes_of c.args.inputs.now in
+    let e = c.in_err-text.field-0.0 in
+    hands_on_rest (migrate_of_text (file_at inputs 0)) (migrate_course inputs) (λ f h. h)
+    e c.from_residual.result (subst (λ (x : List ℕ). GoesDone (migrate_of_text x) (Err e)) c.file_at.ensures c.in_err-text.ensures) c.from_residual.ensures.1
 
 pub returns : goal.returns
 returns c =
-    let b = book c.in_ok-portfolio.portfolio in
-    (b, subst (λ (x : List ℕ). Text x b) c.file_at.ensures c.in_ok-portfolio.ensures, (refl, c.in_ok-text.ensures))
+    subst (λ (x : List ℕ). Tells (migrate_of_text x) status.Done c.in_ok-text.text.items) c.file_at.ensures c.in_ok-text.ensures
