@@ -28,12 +28,12 @@ use Rattle.report.specs.declared.fault_lines.Fault.{Fault}
 use Rattle.command_words.specs.Commands.{AdvanceAsked}
 use Rattle.command_answers.specs.AdvanceCourse.{advance_on}
 use Rattle.command_answers.specs.AdvanceParts.{AddsRest, AppendsComments, AreLeft, HasRests, IsCarriedOne, IsCarriedText, IsLeftText, IsMissingTo}
-use Rattle.command_answers.specs.AdvanceParts.{StopsCarry, advance_of_text, changed, changed_book, declared_to, every, rest_line}
+use Rattle.command_answers.specs.AdvanceParts.{StopsCarry, advance_of_text, changed, changed_book, declared_to, rest_line}
 use Rattle.command_answers.specs.AdvancePromise.{AreComments, AreDueLines, AreResiduals, IsAdvanced, IsAdvancedWith, IsDueText, IsNewDay}
 use Rattle.command_answers.specs.AdvancePromise.{commented, greatest_new_day, last_gone, rest_declarations}
 use Rattle.command_answers.specs.CheckPromise.{AreAllAccepted}
 use Rattle.command_answers.specs.ChoosingParts.{Chooses, Holds, IsPassed, IsUsed, IsWalkedThrough, Meets, Selection, StopsByName, StopsIn, StopsOn}
-use Rattle.command_answers.specs.ChoosingParts.{selection, so_far}
+use Rattle.command_answers.specs.ChoosingParts.{every, selection, so_far}
 use Rattle.command_answers.specs.Course.{Stops, Tells}
 use Rattle.command_answers.specs.FlowsParts.{HoldsFixings, IsMissingOne, IsStopOf}
 use Rattle.command_answers.specs.FlowsPromise.{AreAllFixed}

@@ -21,17 +21,12 @@ use Rattle.contract_check.specs.declared.checks.Facts.{Facts}
 use Rattle.report.specs.CheckLines.{accepted_line, verdict_line}
 use Rattle.time_types.specs.Starts.{start_day}
 use Rattle.command_answers.specs.CheckPromise.{AreCheckLines, IsCheckLine, accepted, refused, Verdict}
-use Rattle.contract_parse.specs.NextContracts.{AnswersNext, IsNext}
+use Rattle.contract_parse.specs.NextContracts.{IsNext}
 use Rattle.contract_parse.specs.Texts.{Text}
-use Rattle.contract_parse.specs.declared.faults.ParseErr.{ParseErr}
-use Rattle.contract_parse.specs.declared.faults.ParseErr.TheVariants as err
-use Rattle.contract_parse.specs.declared.faults.TextFault.{TextFault}
 use Rattle.contract_parse.specs.declared.next_contracts.ContractReader.{ContractReader}
 use Rattle.contract_parse.specs.declared.next_contracts.NextContract.{NextContract}
-use Rattle.report.specs.declared.fault_lines.Fault.TheVariants as fault
 use Rattle.command_answers.specs.CheckParts.{AddsVerdict, AppendsVerdict, AppendsVerdicts, AreTextVerdicts, AreVerdicts, HasVerdicts, IsVerdictOf}
 use Rattle.command_answers.specs.ReadingParts.{IsNextOrEnd}
-use Rattle.command_answers.specs.Stages.{IsBadText}
 use Rattle.command_answers.specs.UsedContracts.{at_defaults, used}
 use Rattle.command_answers.proofs.UsedFacts.{used_of}
 use Rattle.command_answers.specs.declared.check_text.CheckText.{CheckText}
@@ -132,11 +127,6 @@ module _ (text : List ℕ) (d : Declarations) (entries : List (Name × Contract)
   pub end_is : (next : Option NextContract) → ((one : NextContract) → next ≡ Some one → ⊥) → IsNextOrEnd text d entries after next → Text text (record { declarations = d; contracts = entries })
   end_is None none h = h
   end_is (Some one) none h = absurd (none one refl)
-
-  pub fault_is_bad : (e : ParseErr) (f : TextFault) → e ≡ err.Text f → AnswersNext text d entries after (Err e) → IsBadText text (fault.Text f)
-  fault_is_bad e f is h =
-      let no = subst (λ (x : ParseErr). AnswersNext text d entries after (Err x)) is h in
-      record { first = f; is_first = no.0; no_text = no.1; fault_is = refl }
 
 -- the verdicts on the whole text
 pub all_of_text : (text : List ℕ) (d : Declarations) (reader : ContractReader) (check : CheckText) (h : HasVerdicts text d reader check) → Text text (record { declarations = d; contracts = h.entries }) → AreTextVerdicts text check

@@ -14,9 +14,9 @@ use Rattle.exposure.specs.Renaming.{renamed}
 use Rattle.exposure.proofs.RenamedRules.{acceptance_is_kept, form_is_kept, limits_are_kept, numbers_are_kept}
 use Rattle.report.specs.declared.fault_lines.Fault.{Fault}
 use Rattle.command_words.specs.Commands.{NovateAsked}
-use Rattle.command_answers.specs.AdvanceParts.{IsCarriedText, StopsCarry, every}
+use Rattle.command_answers.specs.AdvanceParts.{IsCarriedText, StopsCarry}
 use Rattle.command_answers.specs.AdvancePromise.{IsAdvancedWith}
-use Rattle.command_answers.specs.ChoosingParts.{Selection, StopsByName, StopsIn, selection, so_far}
+use Rattle.command_answers.specs.ChoosingParts.{Selection, StopsByName, StopsIn, every, selection, so_far}
 use Rattle.command_answers.specs.Course.{Stops, Tells}
 use Rattle.command_answers.specs.NovateCourse.{novate_on}
 use Rattle.command_answers.specs.NovateParts.{IsRenaming, LacksParty, no_new, no_old, novate_of_text}

@@ -1,14 +1,20 @@
 -- A fault that stops a part of a command stops the whole, and its line is the answer of the command.
-use Rattle.std.proofs.Common.{◌≡◌, ◌∙◌, ℕ, ap, subst, sym}
+use Rattle.std.proofs.Common.{◌≡◌, ◌∙◌, ℕ, List, ap, refl, subst, sym}
 use Rattle.std.specs.Prelude.{Result, Ok, Err, IsErrAnd, IfOk}
 use Rattle.std.specs.Global.{Vec}
 use Rattle.std.proofs.lemmas.Result.{err_from_is_err_and}
 use Rattle.decimal.specs.declared.errors.NoMemory.{NoMemory}
+use Rattle.contract_parse.specs.NextContracts.{IsNoText}
+use Rattle.contract_parse.specs.declared.faults.ParseErr.{ParseErr}
+use Rattle.contract_parse.specs.declared.faults.ParseErr.TheVariants as err
+use Rattle.contract_parse.specs.declared.faults.TextFault.{TextFault}
 use Rattle.report.specs.FaultLines.{fault_text}
 use Rattle.report.specs.declared.fault_lines.Fault.{Fault}
+use Rattle.report.specs.declared.fault_lines.Fault.TheVariants as fault
 use Rattle.command_answers.specs.Course.{Course, Stops, Tells, stopped}
+use Rattle.command_answers.specs.Stages.{IsBadText}
 use Rattle.command_answers.specs.Statuses.{status_of}
-use Rattle.command_answers.specs.Stopping.{AnswersBy, Goes, GoesDone, IsAnswerOf}
+use Rattle.command_answers.specs.Stopping.{AnswersBy, Goes, GoesDone, IsAnswerOf, stop_of_text}
 use Rattle.command_answers.specs.declared.answers.Answer.{Answer}
 use Rattle.command_answers.specs.declared.status.Status.TheVariants as status
 use Rattle.command_answers.specs.declared.stop.Stop.{Stop}
@@ -23,6 +29,21 @@ pub handed_on : {A B : Type 0} (Good : A → Type 0) (Other : B → Type 0) (Sto
 handed_on Good Other Stopped Stops pass e r h given =
     let p = err_from_is_err_and r given in
     subst (AnswersBy Other Stops) (sym (p.1 ∙ ap (λ (x : Stop). Err x) p.2)) (by_stop Good Other Stopped Stops pass e h)
+
+-- where `?` makes a stop of what is no text
+by_text : {A : Type 0} (Good : A → Type 0) (Stopped : Fault → Type 0) (Answers : ParseErr → Type 0) → ((f : TextFault) → Answers (err.Text f) → Stopped (fault.Text f)) → (e : ParseErr) → Answers e → AnswersBy Good Stopped (Err (stop_of_text e))
+by_text Good Stopped Answers stops (err.Text f) h = stops f h
+by_text Good Stopped Answers stops err.NoMemory h = tt
+
+pub text_stops : {A : Type 0} (Good : A → Type 0) (Stopped : Fault → Type 0) (Answers : ParseErr → Type 0) → ((f : TextFault) → Answers (err.Text f) → Stopped (fault.Text f)) → (e : ParseErr) (r : Result A Stop) → Answers e → IsErrAnd r (λ s. s ≡ stop_of_text e)
+    → AnswersBy Good Stopped r
+text_stops Good Stopped Answers stops e r h given =
+    let p = err_from_is_err_and r given in
+    subst (AnswersBy Good Stopped) (sym (p.1 ∙ ap (λ (s : Stop). Err s) p.2)) (by_text Good Stopped Answers stops e h)
+
+-- what is no portfolio's text has this fault
+pub bad_text : (bytes : List ℕ) (f : TextFault) → IsNoText bytes f → IsBadText bytes (fault.Text f)
+bad_text bytes f h = record { first = f; is_first = h.0; no_text = h.1; fault_is = refl }
 
 -- where the answer is the same but for what it stops
 pub answers_too : {A : Type 0} (Good : A → Type 0) (Other : A → Type 0) (Stopped Stops : Fault → Type 0) → ((a : A) → Good a → Other a) → ((f : Fault) → Stopped f → Stops f) → (r : Result A Stop) → AnswersBy Good Stopped r → AnswersBy Other Stops r

@@ -129,10 +129,6 @@ AnswersLeft to reader r =
 
 -- ---- from the name on
 
--- all contracts, and a name, if any, that is to be that of one
-abbrev pub every : Option (List ℕ) → Selection
-every named = record { named = named; only = None }
-
 -- the contracts of a text, with the name that is asked for, are carried to the day of a word, with a renaming if there is one
 pub record IsCarriedText (text : List ℕ) (choice : Choice) (renaming : Option Renaming) (asked : AdvanceAsked)
     (table : Option (List ℕ)) (out : List ℕ) : Type 0 where

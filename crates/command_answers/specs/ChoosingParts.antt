@@ -53,8 +53,9 @@ pub record Selection : Type 0 where
 abbrev pub selection : Choice → Selection
 selection choice = record { named = given_text choice.named; only = given_text choice.only }
 
-abbrev pub every_contract : Selection
-every_contract = record { named = None; only = None }
+-- all contracts, and a name, if any, that is to be that of one
+abbrev pub every : Option (List ℕ) → Selection
+every named = record { named = named; only = None }
 
 -- the portfolio of so many contracts
 abbrev pub so_far : Declarations → List (Name × Contract) → Book

@@ -2,7 +2,10 @@
 -- is said.
 use Rattle.std.specs.Prelude.{ℕ, Result, Ok, Err}
 use Rattle.std.specs.Global.{Vec}
+use Rattle.contract_parse.specs.declared.faults.ParseErr.{ParseErr}
+use Rattle.contract_parse.specs.declared.faults.ParseErr.TheVariants as err
 use Rattle.report.specs.declared.fault_lines.Fault.{Fault}
+use Rattle.report.specs.declared.fault_lines.Fault.TheVariants as fault
 use Rattle.command_answers.specs.Course.{Answers, Course, Stage, Stops, Tells}
 use Rattle.command_answers.specs.declared.answers.Answer.{Answer}
 use Rattle.command_answers.specs.declared.status.Status.TheVariants as status
@@ -13,6 +16,11 @@ abbrev pub AnswersBy : {A : Type 0} → (A → Type 0) → (Fault → Type 0) �
 AnswersBy Good Stopped (Ok a) = Good a
 AnswersBy Good Stopped (Err (stop.Fault f)) = Stopped f
 AnswersBy Good Stopped (Err stop.NoMemory) = Unit {0}
+
+-- what stops a command at a text that is not read
+abbrev pub stop_of_text : ParseErr → Stop
+stop_of_text (err.Text f) = stop.Fault (fault.Text f)
+stop_of_text err.NoMemory = stop.NoMemory
 
 -- what one stage answers: a value that stands for what it passes on, or its fault
 abbrev pub AnswersStage : {A B : Type 0} → Stage A → (B → A) → Result B Stop → Type 0

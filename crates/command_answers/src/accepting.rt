@@ -1,15 +1,30 @@
 //! A contract of a name that is accepted, or what stops a command that uses one that is not.
 
+ghost use Rattle.std.specs.Prelude.{◌≡◌, IfOk};
 ghost use Rattle.term_core.specs.Declarations.{declarations};
 ghost use Rattle.term_core.specs.Terms.{contract};
+ghost use Rattle.command_answers.specs.ChoosingParts.{refused_fault};
 ghost use Rattle.command_answers.specs.FlowsParts.{AnswersAcceptedOne};
 ghost use Rattle.command_answers.specs.UsedParts.{IsTriable};
 
 use crate::check_text::verdict;
 use crate::stop::Stop;
+use decimal::NoMemory;
 use report::Fault;
 use std::alloc::Global;
-use term_core::{Contr, Decls, Name};
+use term_core::{Contr, Decls, Name, RuleFault};
+
+/// The fault of a contract that is not accepted.
+pub fn refusal(alloc: Global, name: &[u8], fault: RuleFault) -> Result<Fault, NoMemory>
+    ensures { IfOk result (λ f. f ≡ refused_fault name.now fault) }
+{
+    let name = Name::new(alloc, name)?;
+    Ok(Fault::Refused {
+        name,
+        rule: fault.rule,
+        node: fault.node,
+    })
+}
 
 /// Stops at a contract of a name that is not accepted.
 pub fn accept_named(alloc: Global, decls: &Decls, name: &[u8], contr: &Contr) -> Result<(), Stop>
@@ -19,12 +34,8 @@ pub fn accept_named(alloc: Global, decls: &Decls, name: &[u8], contr: &Contr) ->
     match verdict(alloc, decls, contr)? {
         Ok(_) => Ok(()),
         Err(fault) => {
-            let name = Name::new(alloc, name)?;
-            Err(Stop::Fault(Fault::Refused {
-                name,
-                rule: fault.rule,
-                node: fault.node,
-            }))
+            let refused = refusal(alloc, name, fault)?;
+            Err(Stop::Fault(refused))
         }
     }
 }

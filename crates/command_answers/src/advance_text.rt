@@ -297,6 +297,6 @@ pub fn advance_text(
 {
     let (decls, mut reader) = start_reading(alloc, text)?;
     let setting = defaults(alloc, &decls)?;
-    let choice = all_contracts(&decls, &setting);
+    let choice = all_contracts(&decls, &setting, None);
     carry(alloc, choice, &mut reader, asked, None, table)
 }

@@ -8,9 +8,10 @@ ghost use Rattle.contract_parse.specs.NextContracts.{IsSoundContract};
 ghost use Rattle.command_words.specs.Arguments.{given_text};
 ghost use Rattle.command_answers.specs.CheckParts.{HasBegun};
 ghost use Rattle.command_answers.specs.ChoosingParts.{Chooses, IsBehindAcceptance, IsBehindNames, KnowsName, Nothing, Steps, TellsFirst};
-ghost use Rattle.command_answers.specs.ChoosingParts.{TellsName, TriesAll, TriesNext, every_contract, refused_fault, selection, told};
+ghost use Rattle.command_answers.specs.ChoosingParts.{TellsName, TriesAll, TriesNext, every, selection, told};
 ghost use Rattle.command_answers.specs.UsedContracts.{at_defaults, is_asked};
 
+use crate::accepting::refusal;
 use crate::check_text::verdict;
 use crate::choice::Choice;
 use crate::reading::{made_of, read_next};
@@ -19,19 +20,22 @@ use contract_parse::{ContractReader, NextContract};
 use decimal::NoMemory;
 use report::Fault;
 use std::alloc::Global;
-use term_core::{Decls, Name, RuleFault, Setting};
+use term_core::{Decls, Name, Setting};
 
-/// All contracts of a text.
-pub fn all_contracts<'a>(decls: &'a Decls, setting: &'a Setting) -> Choice<'a>
+/// All contracts of a text, and a name, if any, that is to be that of one.
+pub fn all_contracts<'a>(
+    decls: &'a Decls,
+    setting: &'a Setting,
+    named: Option<&'a str>,
+) -> Choice<'a>
     requires { setting.now.days.items ≡ declared_numbers (declarations decls.now) }
     ensures decls { result.decls ≡ decls.entry }
-    ensures setting { result.setting ≡ setting.entry }
-    ensures all { selection result ≡ every_contract }
+    ensures all { selection result ≡ every (given_text named.entry) }
 {
     Choice {
         decls,
         setting,
-        named: None,
+        named,
         only: None,
     }
 }
@@ -52,18 +56,6 @@ fn is_asked(name: &[u8], only: Option<&str>) -> bool
         Some(word) => word.as_bytes() == name,
         None => true,
     }
-}
-
-// The fault of a contract that is not accepted.
-fn refusal(alloc: Global, name: &[u8], fault: RuleFault) -> Result<Fault, NoMemory>
-    ensures { IfOk result (λ f. f ≡ refused_fault name.now fault) }
-{
-    let name = Name::new(alloc, name)?;
-    Ok(Fault::Refused {
-        name,
-        rule: fault.rule,
-        node: fault.node,
-    })
 }
 
 // The contract at the defaults, if it is accepted and none before it was refused. The first that is not is held.

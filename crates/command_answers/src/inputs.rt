@@ -9,9 +9,7 @@ ghost use Rattle.command_answers.specs.Stopping.{AnswersBy, AnswersStage};
 ghost use Rattle.command_answers.specs.ValueParts.{IsReadFrom};
 
 use crate::stop::Stop;
-use contract_parse::ParseErr;
 use payoff_lang::{CodeFile, parse_code};
-use report::Fault;
 use schedule_forms::{PlanFile, parse_plans};
 use std::alloc::Global;
 
@@ -30,11 +28,8 @@ pub fn code_of(alloc: Global, bytes: &[u8]) -> Result<CodeFile, Stop>
     requires { length bytes.now ≤ 16_777_216 }
     ensures { AnswersBy (λ file. IsReadFrom bytes.now (code_book file)) (IsBadCode bytes.now) result }
 {
-    match parse_code(alloc, bytes) {
-        Ok(file) => Ok(file),
-        Err(ParseErr::Text(fault)) => Err(Stop::Fault(Fault::Text(fault))),
-        Err(ParseErr::NoMemory) => Err(Stop::NoMemory),
-    }
+    let file = parse_code(alloc, bytes)?;
+    Ok(file)
 }
 
 /// The schedule file of a text.
@@ -42,9 +37,6 @@ pub fn plans_of(alloc: Global, bytes: &[u8]) -> Result<PlanFile, Stop>
     requires { length bytes.now ≤ 16_777_216 }
     ensures { AnswersStage (plans_of bytes.now) plan_book result }
 {
-    match parse_plans(alloc, bytes) {
-        Ok(file) => Ok(file),
-        Err(ParseErr::Text(fault)) => Err(Stop::Fault(Fault::Text(fault))),
-        Err(ParseErr::NoMemory) => Err(Stop::NoMemory),
-    }
+    let file = parse_plans(alloc, bytes)?;
+    Ok(file)
 }

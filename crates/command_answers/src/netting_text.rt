@@ -93,7 +93,7 @@ fn tables_of_text(
 {
     let (decls, mut reader) = start_reading(alloc, text)?;
     let setting = defaults(alloc, &decls)?;
-    let choice = all_contracts(&decls, &setting);
+    let choice = all_contracts(&decls, &setting, None);
     let tables = tables_of_all(alloc, choice, &mut reader, asked, table)?;
     Ok((decls, tables))
 }

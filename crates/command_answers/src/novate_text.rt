@@ -1,40 +1,22 @@
 //! The text of the command `novate`.
 
-ghost use Rattle.std.specs.Prelude.{◌≡◌, ◌≤◌, Some, length};
+ghost use Rattle.std.specs.Prelude.{◌≤◌, length};
 ghost use Rattle.term_core.specs.Declarations.{declarations};
-ghost use Rattle.term_core.specs.Instances.{declared_numbers};
 ghost use Rattle.command_words.specs.Arguments.{given_text};
 ghost use Rattle.command_words.specs.Words.{novate_by};
-ghost use Rattle.command_answers.specs.AdvanceParts.{every};
-ghost use Rattle.command_answers.specs.ChoosingParts.{selection};
 ghost use Rattle.command_answers.specs.FlowsParts.{IsShortTable};
 ghost use Rattle.command_answers.specs.NovateParts.{AnswersRenaming, novate_of_text};
 ghost use Rattle.command_answers.specs.Stopping.{GoesDone};
 
 use crate::advance_text::carry;
 use crate::advance_to::Renaming;
-use crate::choice::Choice;
-use crate::choosing::behind_names;
+use crate::choosing::{all_contracts, behind_names};
 use crate::reading::start_reading;
 use crate::stop::Stop;
 use crate::value_names::index_of;
 use command_words::Novate;
 use std::alloc::Global;
-use term_core::{Decls, Setting, defaults};
-
-// All contracts, with a name that is to be that of one.
-fn all_with_name<'a>(decls: &'a Decls, setting: &'a Setting, name: &'a str) -> Choice<'a>
-    requires { setting.now.days.items ≡ declared_numbers (declarations decls.now) }
-    ensures decls { result.decls ≡ decls.entry }
-    ensures all { selection result ≡ every (Some name.entry.now) }
-{
-    Choice {
-        decls,
-        setting,
-        named: Some(name),
-        only: None,
-    }
-}
+use term_core::{Decls, defaults};
 
 // The renaming that is asked for, where both parties are declared.
 fn renaming_of<'a>(alloc: Global, decls: &Decls, asked: &Novate<'a>) -> Result<Renaming<'a>, Stop>
@@ -65,7 +47,7 @@ pub fn novate_text(
 {
     let (decls, mut reader) = start_reading(alloc, text)?;
     let setting = defaults(alloc, &decls)?;
-    let choice = all_with_name(&decls, &setting, asked.contract);
+    let choice = all_contracts(&decls, &setting, Some(asked.contract));
     match renaming_of(alloc, &decls, asked) {
         Ok(renaming) => carry(
             alloc,

@@ -7,9 +7,8 @@ ghost use Rattle.term_core.specs.Terms.{contract};
 ghost use Rattle.command_answers.specs.ReadingParts.{LeavesLess, ReadsNext, StartsReading};
 
 use crate::stop::Stop;
-use contract_parse::{ContractReader, NextContract, ParseErr, next_contract, start_contracts};
+use contract_parse::{ContractReader, NextContract, next_contract, start_contracts};
 use decimal::NoMemory;
-use report::Fault;
 use std::alloc::Global;
 use term_core::{Contr, Decls, Setting, has_only_numbers, instantiate};
 
@@ -18,11 +17,8 @@ pub fn start_reading<'a>(alloc: Global, text: &'a [u8]) -> Result<(Decls, Contra
     requires { length text.now ≤ 16_777_216 }
     ensures { StartsReading text.entry.now result }
 {
-    match start_contracts(alloc, text) {
-        Ok(start) => Ok(start),
-        Err(ParseErr::Text(fault)) => Err(Stop::Fault(Fault::Text(fault))),
-        Err(ParseErr::NoMemory) => Err(Stop::NoMemory),
-    }
+    let start = start_contracts(alloc, text)?;
+    Ok(start)
 }
 
 /// The next contract of a text, none behind the last.
@@ -34,11 +30,8 @@ pub fn read_next<'a>(
     ensures next { ReadsNext (declarations decls.now) reader.old reader.new result }
     ensures shorter { LeavesLess reader.old reader.new result }
 {
-    match next_contract(alloc, decls, reader) {
-        Ok(next) => Ok(next),
-        Err(ParseErr::Text(fault)) => Err(Stop::Fault(Fault::Text(fault))),
-        Err(ParseErr::NoMemory) => Err(Stop::NoMemory),
-    }
+    let next = next_contract(alloc, decls, reader)?;
+    Ok(next)
 }
 
 /// The contract with the setting's numbers for its names. What names no template is handed back as it is.

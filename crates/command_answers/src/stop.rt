@@ -1,8 +1,10 @@
 //! What keeps a command from its answer.
 
 ghost use Rattle.std.specs.Prelude.{◌≡◌};
+ghost use Rattle.command_answers.specs.Stopping.{stop_of_text};
 ghost use Rattle.command_answers.specs.declared.stop.Stop.TheVariants.{NoMemory as lacks_memory};
 
+use contract_parse::ParseErr;
 use decimal::NoMemory;
 use report::Fault;
 use std::alloc::{AllocError, AllocFailed};
@@ -14,6 +16,17 @@ pub enum Stop {
     Fault(Fault),
     /// Out of memory.
     NoMemory,
+}
+
+impl From<ParseErr> for Stop {
+    ghost from_gives = { λ error s. s ≡ stop_of_text error };
+
+    fn from(error: ParseErr) -> Stop {
+        match error {
+            ParseErr::Text(fault) => Stop::Fault(Fault::Text(fault)),
+            ParseErr::NoMemory => Stop::NoMemory,
+        }
+    }
 }
 
 impl From<NoMemory> for Stop {

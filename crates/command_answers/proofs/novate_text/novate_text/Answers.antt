@@ -36,30 +36,30 @@ returns-in_err-setting c =
 pub carry-requires-clause-begun : goal.carry-requires-clause-begun
 carry-requires-clause-begun c =
     let text = c.args.text.now in
-    (text, subst (λ (d : Declarations). IsBegun text d c.in_ok-decls.reader) (sym (ap (λ (x : Bor Decls). declarations x.now) c.all_with_name-choice.ensures.decls)) c.in_ok-decls.ensures)
+    (text, subst (λ (d : Declarations). IsBegun text d c.in_ok-decls.reader) (sym (ap (λ (x : Bor Decls). declarations x.now) c.all_contracts-choice.ensures.decls)) c.in_ok-decls.ensures)
 
 pub carry-requires-clause-all : goal.carry-requires-clause-all
-carry-requires-clause-all c = ap (λ (s : Selection). s.only) c.all_with_name-choice.ensures.all
+carry-requires-clause-all c = ap (λ (s : Selection). s.only) c.all_contracts-choice.ensures.all
 
 pub behind_names-requires : goal.behind_names-requires
 behind_names-requires c =
     let text = c.args.text.now in
-    (text, subst (λ (d : Declarations). IsBegun text d c.in_ok-decls.reader) (sym (ap (λ (x : Bor Decls). declarations x.now) c.all_with_name-choice.ensures.decls)) c.in_ok-decls.ensures)
+    (text, subst (λ (d : Declarations). IsBegun text d c.in_ok-decls.reader) (sym (ap (λ (x : Bor Decls). declarations x.now) c.all_contracts-choice.ensures.decls)) c.in_ok-decls.ensures)
 
 pub returns-in-Ok : goal.returns-in-Ok
 returns-in-Ok c =
     let text = c.args.text.now in
     let asked = novate_by c.args.asked.now in
     let table = given c.args.table in
-    let choice = c.all_with_name-choice.result in
+    let choice = c.all_contracts-choice.result in
     let d = declarations choice.decls.now in
     let course = novate_of_text asked text table in
     let renaming = c.in-Ok.renaming in
-    let begun = subst (λ (x : Declarations). IsBegun text x c.in_ok-decls.reader) (sym (ap (λ (x : Bor Decls). declarations x.now) c.all_with_name-choice.ensures.decls)) c.in_ok-decls.ensures in
-    let names = subst (λ (x : Declarations). IsRenaming x asked renaming) (sym (ap (λ (x : Bor Decls). declarations x.now) c.all_with_name-choice.ensures.decls)) c.in-Ok.ensures in
+    let begun = subst (λ (x : Declarations). IsBegun text x c.in_ok-decls.reader) (sym (ap (λ (x : Bor Decls). declarations x.now) c.all_contracts-choice.ensures.decls)) c.in_ok-decls.ensures in
+    let names = subst (λ (x : Declarations). IsRenaming x asked renaming) (sym (ap (λ (x : Bor Decls). declarations x.now) c.all_contracts-choice.ensures.decls)) c.in-Ok.ensures in
     answers_too (λ (out : Vec ℕ). IsCarriedText text choice (Some renaming) asked.advance table out.items) (λ (out : Vec ℕ). Tells course status.Done out.items)
     (StopsIn text d (StopsCarry (selection choice) asked.advance table)) (Stops course)
-    (novate_tells text choice asked table c.all_with_name-choice.ensures.all renaming names) (novate_stops text choice asked table c.all_with_name-choice.ensures.all renaming names)
+    (novate_tells text choice asked table c.all_contracts-choice.ensures.all renaming names) (novate_stops text choice asked table c.all_contracts-choice.ensures.all renaming names)
     c.carry.result (c.carry.ensures text begun)
 
 pub returns : goal.returns
@@ -67,12 +67,12 @@ returns c =
     let text = c.args.text.now in
     let asked = novate_by c.args.asked.now in
     let table = given c.args.table in
-    let choice = c.all_with_name-choice.result in
+    let choice = c.all_contracts-choice.result in
     let d = declarations choice.decls.now in
     let course = novate_of_text asked text table in
     let own = c.in-Err.stop in
-    let begun = subst (λ (x : Declarations). IsBegun text x c.in_ok-decls.reader) (sym (ap (λ (x : Bor Decls). declarations x.now) c.all_with_name-choice.ensures.decls)) c.in_ok-decls.ensures in
-    let told = subst (λ (x : Declarations). AnswersBy (IsRenaming x asked) (LacksParty x asked) (Err own)) (sym (ap (λ (x : Bor Decls). declarations x.now) c.all_with_name-choice.ensures.decls)) c.in-Err.ensures in
+    let begun = subst (λ (x : Declarations). IsBegun text x c.in_ok-decls.reader) (sym (ap (λ (x : Bor Decls). declarations x.now) c.all_contracts-choice.ensures.decls)) c.in_ok-decls.ensures in
+    let told = subst (λ (x : Declarations). AnswersBy (IsRenaming x asked) (LacksParty x asked) (Err own)) (sym (ap (λ (x : Bor Decls). declarations x.now) c.all_contracts-choice.ensures.decls)) c.in-Err.ensures in
     stop_answers (λ (out : Vec ℕ). Tells course status.Done out.items) (Stops course) c.behind_names.result
     (stops_too (StopsIn text d (λ b. StopsByName b (selection choice) (λ f. own ≡ stop.Fault f))) (Stops course)
-    (λ f h. stops_at_party text choice asked table c.all_with_name-choice.ensures.all own f told h) c.behind_names.result (c.behind_names.ensures text begun))
+    (λ f h. stops_at_party text choice asked table c.all_contracts-choice.ensures.all own f told h) c.behind_names.result (c.behind_names.ensures text begun))

@@ -1,7 +1,15 @@
+use Rattle.std.specs.Prelude.{Err}
 use Rattle.term_core.specs.Declarations.{declarations}
-use Rattle.command_answers.proofs.CheckFacts.{fault_is_bad}
+use Rattle.contract_parse.specs.NextContracts.{AnswersNext}
+use Rattle.contract_parse.specs.declared.faults.ParseErr.{ParseErr}
+use Rattle.command_answers.specs.ReadingParts.{IsNextOrEnd}
+use Rattle.command_answers.specs.Stages.{IsBadText}
+use Rattle.command_answers.proofs.StopFacts.{bad_text, text_stops}
 use Rattle.command_answers.proofs.reading.read_next.Goals as goal
 
-pub returns-in-Err-Text-clause-next : goal.returns-in-Err-Text-clause-next
-returns-in-Err-Text-clause-next c = λ text entries read.
-    fault_is_bad text (declarations c.args.decls.now) entries c.next_contract.new.reader c.in-Err-Text.field-0 c.in-Err-Text.fault c.in-Err-Text.field-0-is (c.in-Err-Text.ensures.next text entries read)
+pub returns-in_err-next-clause-next : goal.returns-in_err-next-clause-next
+returns-in_err-next-clause-next c = λ text entries read.
+    let d = declarations c.args.decls.now in
+    let after = c.next_contract.new.reader in
+    text_stops (IsNextOrEnd text d entries after) (IsBadText text) (λ (e : ParseErr). AnswersNext text d entries after (Err e)) (bad_text text)
+    c.in_err-next.field-0.0 c.from_residual.result (c.in_err-next.ensures.next text entries read) c.from_residual.ensures.1

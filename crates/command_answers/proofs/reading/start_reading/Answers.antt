@@ -1,0 +1,16 @@
+use Rattle.std.specs.Prelude.{Err}
+use Rattle.term_core.specs.declared.decls.Decls.{Decls}
+use Rattle.term_core.specs.Declarations.{declarations}
+use Rattle.contract_parse.specs.NextContracts.{StartsContracts}
+use Rattle.contract_parse.specs.declared.faults.ParseErr.{ParseErr}
+use Rattle.contract_parse.specs.declared.next_contracts.ContractReader.{ContractReader}
+use Rattle.command_answers.specs.ReadingParts.{IsBegun}
+use Rattle.command_answers.specs.Stages.{IsBadText}
+use Rattle.command_answers.proofs.StopFacts.{bad_text, text_stops}
+use Rattle.command_answers.proofs.reading.start_reading.Goals as goal
+
+pub returns-in_err-start : goal.returns-in_err-start
+returns-in_err-start c =
+    let text = c.args.text.now in
+    text_stops (λ (start : Decls × ContractReader). IsBegun text (declarations start.0) start.1) (IsBadText text) (λ (e : ParseErr). StartsContracts text (Err e)) (bad_text text)
+    c.in_err-start.field-0.0 c.from_residual.result c.in_err-start.ensures c.from_residual.ensures.1
