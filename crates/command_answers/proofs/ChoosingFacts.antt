@@ -1,6 +1,6 @@
 -- One contract more: whether the name is met, which are used, whether all of these are accepted, and what is kept of them.
 use Rattle.std.proofs.Common.{◌≡◌, ◌∙◌, inl, inr, ℕ, Bool, true, false, ◌||◌, List, [], ◌∷◌, ◌++◌, append_assoc, ap, map, refl, subst, sym}
-use Rattle.std.specs.Prelude.{Option, Some, None, Result, Ok, Err, is_none, is_some}
+use Rattle.std.specs.Prelude.{Option, Some, None, Result, Ok, Err, if◌then◌else◌, is_none, is_some, not}
 use Rattle.std.specs.List.{filter, list_any}
 use Rattle.std.specs.Str.{bytes_eq}
 use Rattle.std.proofs.lemmas.List.{append-nil, map-append}
@@ -40,6 +40,10 @@ use Rattle.command_answers.proofs.UsedFacts.{taken, passed_over}
 or_false : (b : Bool) → (b || false) ≡ b
 or_false true = refl
 or_false false = refl
+
+or_true : (b : Bool) → (b || true) ≡ true
+or_true true = refl
+or_true false = refl
 
 module _ (only : Option (List ℕ)) (d : Declarations) (entries : List (Name × Contract)) (entry : Name × Contract) where
   used_append : used only (so_far d (entries ++ entry ∷ [])) ≡ used only (so_far d entries) ++ used only (so_far d (entry ∷ []))
@@ -141,6 +145,11 @@ module _ (d : Declarations) (entry : Name × Contract) where
   }
 
 -- ---- one contract chosen, or passed over
+
+-- a contract is used if it is asked for, or if not only what is asked for is used
+pub asked_or_all : (named : Option (List ℕ)) (only : Bool) (name : List ℕ) → is_asked (if only then named else None) name ≡ (is_asked named name || not only)
+asked_or_all named true name = sym (or_false (is_asked named name))
+asked_or_all named false name = sym (or_true (is_asked named name))
 
 module _ (s : Selection) (d : Declarations) (entry : Name × Contract) (before after : Tried)
     (met : after.met ≡ (before.met || is_asked s.named entry.0)) where

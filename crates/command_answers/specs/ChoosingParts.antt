@@ -1,6 +1,6 @@
 -- The contracts of a text that a command uses, as they are met one after another: which of them it uses, whether all of these
 -- are accepted so far, and what it keeps of them.
-use Rattle.std.specs.Prelude.{◌≡◌, ◌⊎◌, ℕ, Bool, true, false, List, [], ◌∷◌, ◌++◌, Option, Some, None, Result, Ok, Err}
+use Rattle.std.specs.Prelude.{◌≡◌, ◌⊎◌, ℕ, Bool, true, false, List, [], ◌∷◌, ◌++◌, Option, Some, None, Result, Ok, Err, if◌then◌else◌}
 use Rattle.term_core.specs.declared.name.Name.{Name}
 use Rattle.term_core.specs.declared.rules.RuleFault.{RuleFault}
 use Rattle.term_core.specs.Acceptance.{IsAccepted}
@@ -51,7 +51,8 @@ pub record Selection : Type 0 where
   pub only : Option (List ℕ)
 
 abbrev pub selection : Choice → Selection
-selection choice = record { named = given_text choice.named; only = given_text choice.only }
+selection choice =
+    record { named = given_text choice.named; only = if choice.only then given_text choice.named else None }
 
 -- all contracts, and a name, if any, that is to be that of one
 abbrev pub every : Option (List ℕ) → Selection

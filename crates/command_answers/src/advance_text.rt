@@ -263,7 +263,7 @@ pub fn carry(
 ) -> Result<Vec<u8>, Stop>
     requires begun { HasBegun (declarations choice.decls.now) reader.old }
     requires table { IsShortTable (given_text table) }
-    requires all { given_text choice.only ≡ None }
+    requires all { (selection choice).only ≡ None }
     ensures { AnswersCarried choice.entry renaming.entry (advance_by asked.now)
         (given_text table.entry) reader.old result }
 {

@@ -8,14 +8,14 @@ ghost use Rattle.flow_eval.specs.Readiness.{last_day};
 use fixing_files::Fixings;
 use term_core::{Decls, Setting};
 
-/// Which contracts are used, all or the one of a name; the numbers at which they are tried, the defaults; and the name, if any, that
-/// is to be that of one.
+/// What a command asks of the contracts of a text: the numbers at which they are tried, the
+/// defaults; the name, if any, that is to be that of one; and whether only that one is used.
 #[derive(Clone, Copy)]
 pub struct Choice<'a> {
     pub decls: &'a Decls,
     pub setting: &'a Setting,
     pub named: Option<&'a str>,
-    pub only: Option<&'a str>,
+    pub only: bool,
     pub ghost at_defaults: { setting.now.days.items ≡ declared_numbers (declarations decls.now) },
 }
 

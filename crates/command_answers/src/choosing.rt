@@ -36,7 +36,7 @@ pub fn all_contracts<'a>(
         decls,
         setting,
         named,
-        only: None,
+        only: false,
     }
 }
 
@@ -49,10 +49,10 @@ pub struct Tried {
     pub refused: Option<Fault>,
 }
 
-fn is_asked(name: &[u8], only: Option<&str>) -> bool
-    ensures { result ≡ is_asked (given_text only.entry) name.now }
+fn is_asked(name: &[u8], named: Option<&str>) -> bool
+    ensures { result ≡ is_asked (given_text named.entry) name.now }
 {
-    match only {
+    match named {
         Some(word) => word.as_bytes() == name,
         None => true,
     }
@@ -95,11 +95,14 @@ pub fn choose<'a>(
     ensures { IfOk result (Chooses (declarations choice.now.decls.now) (selection choice.now)
         (next.entry.name.now, contract next.entry.contr) tried.old tried.new) }
 {
-    tried.met = tried.met | is_asked(next.name, choice.named);
-    if !is_asked(next.name, choice.only) {
-        return Ok(None);
+    let asked = is_asked(next.name, choice.named);
+    tried.met = tried.met | asked;
+    let used = asked | !choice.only;
+    if used {
+        try_next(alloc, choice, next, &mut tried.refused)
+    } else {
+        Ok(None)
     }
-    try_next(alloc, choice, next, &mut tried.refused)
 }
 
 /// What comes of no contracts: a name that is asked for is yet to be met.

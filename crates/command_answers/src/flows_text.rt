@@ -296,7 +296,7 @@ pub fn flows_text(
         decls: &decls,
         setting: &setting,
         named: asked.contract,
-        only: asked.contract,
+        only: true,
     };
     lines_over(alloc, choice, &mut reader, asked, table)
 }
