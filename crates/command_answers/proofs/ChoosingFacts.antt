@@ -21,7 +21,7 @@ use Rattle.report.specs.declared.fault_lines.Fault.{Fault}
 use Rattle.report.specs.declared.fault_lines.Fault.TheVariants as fault
 use Rattle.command_answers.specs.CheckPromise.{AreAllAccepted}
 use Rattle.command_answers.specs.ChoosingParts.{Chooses, HasName, Holds, IsPassed, IsTried, IsWalked, IsWalkedThrough, Meets, Nothing, Selection, Steps}
-use Rattle.command_answers.specs.ChoosingParts.{StopsBy, StopsByName, StopsIn, StopsOn, TellsName, told, unknown, then_stops}
+use Rattle.command_answers.specs.ChoosingParts.{StopsBy, StopsByName, StopsIn, StopsOn, TellsName, stop_at, unknown, then_stops}
 use Rattle.command_answers.specs.ChoosingParts as on
 use Rattle.command_answers.specs.ChoosingParts.{TriesNext, asked, passed, refused_fault, so_far}
 use Rattle.command_answers.specs.ReadingParts.{IsBegun}
@@ -306,35 +306,35 @@ module _ (text : List ℕ) (d : Declarations) (s : Selection) where
           on.refused h.known (subst (λ (r : Option Fault). Holds (all_accepted d (used s.only (so_far d h.walked.entries))) r) held h.walked.trial.refused),
         )
 
--- a fault that is held is told, and none is not
-told_some : (held : Option Fault) (e : Stop) → Err e ≡ told held → (f : Fault) × (held ≡ Some f) × (e ≡ stop.Fault f)
-told_some None e is = absurd cc
-told_some (Some f) e is = (f, refl, (let same : Err e ≡ Err (stop.Fault f) = is in cc))
+-- a stop is at a fault that is held, and without one there is none
+stop_at_some : (held : Option Fault) (e : Stop) → Err e ≡ stop_at held → (f : Fault) × (held ≡ Some f) × (e ≡ stop.Fault f)
+stop_at_some None e is = absurd cc
+stop_at_some (Some f) e is = (f, refl, (let same : Err e ≡ Err (stop.Fault f) = is in cc))
 
-told_none : (held : Option Fault) (u : Unit {0}) → Ok u ≡ told held → held ≡ None
-told_none None u is = refl
-told_none (Some f) u is = absurd cc
+stop_at_none : (held : Option Fault) (u : Unit {0}) → Ok u ≡ stop_at held → held ≡ None
+stop_at_none None u is = refl
+stop_at_none (Some f) u is = absurd cc
 
 module _ (b : Book) (s : Selection) (tried : Tried) (held : Option Fault) (h : IsTried s b tried) (known : is_known s.named b ≡ true) where
   abbrev FirstStop : Fault → Type 0
   FirstStop f = StopsOn b s (λ (g : Fault). (tried.refused ≡ None) × (held ≡ Some g)) f
 
-  pub refusal_first : (e : Stop) → Err e ≡ told tried.refused → StopsBy FirstStop e
+  pub refusal_first : (e : Stop) → Err e ≡ stop_at tried.refused → StopsBy FirstStop e
   refusal_first e is =
-      let k = told_some tried.refused e is in
+      let k = stop_at_some tried.refused e is in
       let r = subst (λ (x : Option Fault). Holds (all_accepted b.declarations (used s.only b)) x) k.1 h.refused in
       subst (StopsBy FirstStop) (sym k.2) (on.refused known r)
 
-  pub accepted_told : (u : Unit {0}) → Ok u ≡ told tried.refused → tried.refused ≡ None
-  accepted_told u is = told_none tried.refused u is
+  pub accepted_behind : (u : Unit {0}) → Ok u ≡ stop_at tried.refused → tried.refused ≡ None
+  accepted_behind u is = stop_at_none tried.refused u is
 
-  last_told : (x : Option Fault) → held ≡ x → tried.refused ≡ None → AnswersBy (λ (u : Unit {0}). IsPassed b s tried held) FirstStop (told x)
-  last_told None none accepted = record { known = known; accepted = accepted; none = none }
-  last_told (Some f) some accepted =
+  last_stop : (x : Option Fault) → held ≡ x → tried.refused ≡ None → AnswersBy (λ (u : Unit {0}). IsPassed b s tried held) FirstStop (stop_at x)
+  last_stop None none accepted = record { known = known; accepted = accepted; none = none }
+  last_stop (Some f) some accepted =
       on.then_stops known (subst (λ (r : Option Fault). Holds (all_accepted b.declarations (used s.only b)) r) accepted h.refused) (accepted, some)
 
-  pub held_last : (r : Result (Unit {0}) Stop) → tried.refused ≡ None → r ≡ told held → AnswersBy (λ (u : Unit {0}). IsPassed b s tried held) FirstStop r
-  held_last r accepted is = subst (AnswersBy (λ (u : Unit {0}). IsPassed b s tried held) FirstStop) (sym is) (last_told held refl accepted)
+  pub held_last : (r : Result (Unit {0}) Stop) → tried.refused ≡ None → r ≡ stop_at held → AnswersBy (λ (u : Unit {0}). IsPassed b s tried held) FirstStop r
+  held_last r accepted is = subst (AnswersBy (λ (u : Unit {0}). IsPassed b s tried held) FirstStop) (sym is) (last_stop held refl accepted)
 
 -- what is told of the name, where it is the selection's
 pub name_told : (b : Book) (s : Selection) (given : Option (List ℕ)) (met : Bool) (r : Result (Unit {0}) Stop) → s.named ≡ given → met ≡ is_known s.named b

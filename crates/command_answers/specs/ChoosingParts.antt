@@ -33,10 +33,10 @@ abbrev pub Holds : Stage (Unit {0}) → Option Fault → Type 0
 Holds stage None = stage.Passes tt
 Holds stage (Some f) = stage.FaultIs f
 
--- what is told of a fault that is held, if one is
-abbrev pub told : Option Fault → Result (Unit {0}) Stop
-told None = Ok tt
-told (Some f) = Err (stop.Fault f)
+-- nothing, or a stop at the fault that is held
+abbrev pub stop_at : Option Fault → Result (Unit {0}) Stop
+stop_at None = Ok tt
+stop_at (Some f) = Err (stop.Fault f)
 
 -- a stop by such a fault, or for want of memory
 abbrev pub StopsBy : (Fault → Type 0) → Stop → Type 0

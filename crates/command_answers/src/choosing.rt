@@ -8,7 +8,7 @@ ghost use Rattle.contract_parse.specs.NextContracts.{IsSoundContract};
 ghost use Rattle.command_words.specs.Arguments.{given_text};
 ghost use Rattle.command_answers.specs.CheckParts.{HasBegun};
 ghost use Rattle.command_answers.specs.ChoosingParts.{Chooses, IsBehindAcceptance, IsBehindNames, KnowsName, Nothing, Steps, TellsFirst};
-ghost use Rattle.command_answers.specs.ChoosingParts.{TellsName, TriesAll, TriesNext, every, selection, told};
+ghost use Rattle.command_answers.specs.ChoosingParts.{TellsName, TriesAll, TriesNext, every, selection, stop_at};
 ghost use Rattle.command_answers.specs.UsedContracts.{at_defaults, is_asked};
 
 use crate::accepting::refusal;
@@ -163,7 +163,7 @@ fn know(alloc: Global, named: Option<&str>, met: bool) -> Result<(), Stop>
 
 // Stops at a fault that is held.
 fn stop_at(held: Option<Fault>) -> Result<(), Stop>
-    ensures { result ≡ told held }
+    ensures { result ≡ stop_at held }
 {
     match held {
         Some(fault) => Err(Stop::Fault(fault)),

@@ -5,7 +5,7 @@ use Rattle.report.specs.declared.fault_lines.Fault.{Fault}
 use Rattle.command_answers.specs.ChoosingParts.{IsPassed, StopsOn, unknown}
 use Rattle.command_answers.specs.Stages.{IsUnknownName}
 use Rattle.command_answers.specs.UsedContracts.{is_known}
-use Rattle.command_answers.proofs.ChoosingFacts.{accepted_told, held_last, name_told, refusal_first, stop_answers}
+use Rattle.command_answers.proofs.ChoosingFacts.{accepted_behind, held_last, name_told, refusal_first, stop_answers}
 use Rattle.command_answers.proofs.StopFacts.{handed_on}
 use Rattle.command_answers.proofs.choosing.first_stop.Goals as goal
 
@@ -28,4 +28,4 @@ pub returns : goal.returns
 returns c = λ b s named tried.
     let known = name_told b s (given_text c.args.named) c.args.tried.met (Ok c.in_ok-know.field-0) named tried.met c.in_ok-know.ensures in
     held_last b s c.args.tried c.args.held tried known c.stop_at-2.result
-    (accepted_told b s c.args.tried c.args.held tried known c.in_ok-stop_at.field-0 c.in_ok-stop_at.ensures) c.stop_at-2.ensures
+    (accepted_behind b s c.args.tried c.args.held tried known c.in_ok-stop_at.field-0 c.in_ok-stop_at.ensures) c.stop_at-2.ensures
