@@ -8,6 +8,7 @@ use Rattle.fixing_files.specs.declared.days.DayFault.{DayFault}
 use Rattle.fixing_files.specs.declared.days.DayFault.TheVariants.{NotDay, NoOrigin}
 use Rattle.fixing_files.specs.declared.days.NamedDay.{NamedDay}
 use Rattle.fixing_files.specs.declared.days.NamedDay.TheVariants.{Number, Date}
+use Rattle.flow_eval.specs.Readiness.{last_day}
 use Rattle.report.specs.declared.fault_lines.Fault.{Fault}
 use Rattle.command_answers.specs.AdvancePromise.{IsNewDay, greatest_new_day}
 use Rattle.command_answers.specs.FlowsParts.{CanBeLast, day_in_range}
@@ -75,5 +76,5 @@ out_of d greatest word (Err NotDay) is some h = absurd (some refl)
 pub is_out : (d : Declarations) (greatest : ℤ) (word : List ℕ) (named : NamedDay) → day_named word ≡ Some named → day_in_range d greatest (placed_day d.origin named) ≡ None → IsOutOfRange d greatest word
 is_out d greatest word named reads h = out_of d greatest word (placed_day d.origin named) (named_day d.origin word named reads) (some_day d.origin named) h
 
-pub fits_day : (day : ℤ) → pos 0 ≤ℤ day → day ≤ℤ pos 1_100_000 → FitsSigned w64 day
+pub fits_day : (day : ℤ) → pos 0 ≤ℤ day → day ≤ℤ pos last_day → FitsSigned w64 day
 fits_day day low high = omega (arith, ints)

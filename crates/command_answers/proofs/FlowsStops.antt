@@ -5,6 +5,7 @@ use Rattle.std.specs.Global.{Vec}
 use Rattle.term_core.specs.declared.name.Name.{Name}
 use Rattle.term_core.specs.Books.{Book}
 use Rattle.term_core.specs.Declarations.{Declarations, declarations}
+use Rattle.term_core.specs.Limits.{longest_file}
 use Rattle.term_core.specs.Terms.{Contract}
 use Rattle.flow_eval.specs.declared.flow_table.FlowTable.{FlowTable}
 use Rattle.report.specs.declared.fault_lines.Fault.{Fault}
@@ -92,7 +93,7 @@ module _ (text : List ℕ) (until : FlowsUntil) where
     pub are_tables : until.summed ≡ true → AreTables of until.fixings.now until.last (used asks.only (so_far of h.entries)) listed.tables.items
     are_tables yes_ = subst (λ (n : Bool). AreListed n of until.fixings.now until.last listed (used asks.only (so_far of h.entries))) yes_ h.are_listed
 
-    pub can_be_summed : (tables : List FlowTable) → length text ≤ 16_777_216 → until.summed ≡ true → tables ≡ listed.tables.items → CanBeSummed until tables
+    pub can_be_summed : (tables : List FlowTable) → length text ≤ longest_file → until.summed ≡ true → tables ≡ listed.tables.items → CanBeSummed until tables
     can_be_summed tables short yes_ same =
         let b = so_far of h.entries in
         let fewer = used_few asks.only of h.entries in

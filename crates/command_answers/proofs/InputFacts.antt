@@ -4,6 +4,7 @@ use Rattle.std.proofs.Common.{◌≡◌, ◌≤◌, ℕ, suc, zero, List, [], �
 use Rattle.std.specs.Prelude.{Option, Some, None, option_map, Result}
 use Rattle.std.specs.Global.{Vec}
 use Rattle.std.proofs.lemmas.List.Elements.{All-head, All-tail}
+use Rattle.term_core.specs.Limits.{longest_file}
 use Rattle.command_answers.specs.Course.{Course, behind}
 use Rattle.command_answers.specs.FlowsParts.{IsShortTable}
 use Rattle.command_answers.specs.Inputs.{AreShort, file_at}
@@ -11,13 +12,13 @@ use Rattle.command_answers.specs.Stopping.{GoesDone}
 use Rattle.command_answers.specs.declared.stop.Stop.{Stop}
 
 -- no file is longer than the limit
-pub file_short : (inputs : List (List ℕ)) (i : ℕ) → AreShort inputs → length (file_at inputs i) ≤ 16_777_216
+pub file_short : (inputs : List (List ℕ)) (i : ℕ) → AreShort inputs → length (file_at inputs i) ≤ longest_file
 file_short [] i h = omega arith
-file_short (bytes ∷ others) zero h = All-head (λ (x : List ℕ). length x ≤ 16_777_216) bytes others h
-file_short (bytes ∷ others) (suc i) h = file_short others i (All-tail (λ (x : List ℕ). length x ≤ 16_777_216) bytes others h)
+file_short (bytes ∷ others) zero h = All-head (λ (x : List ℕ). length x ≤ longest_file) bytes others h
+file_short (bytes ∷ others) (suc i) h = file_short others i (All-tail (λ (x : List ℕ). length x ≤ longest_file) bytes others h)
 
 -- a table that the words may name is no longer
-pub table_short : {A : Type 0} (named : Option A) (bytes : List ℕ) → length bytes ≤ 16_777_216 → IsShortTable (option_map (λ _. bytes) named)
+pub table_short : {A : Type 0} (named : Option A) (bytes : List ℕ) → length bytes ≤ longest_file → IsShortTable (option_map (λ _. bytes) named)
 table_short None bytes h = tt
 table_short (Some word) bytes h = h
 
@@ -27,5 +28,5 @@ pub over_files : (course : List ℕ → Option (List ℕ) → Course) (text file
 over_files course text file table given r same as_given h =
     subst (λ (t : Option (List ℕ)). GoesDone (course file t) r) as_given (subst (λ (t : List ℕ). GoesDone (course t table) r) same h)
 
-pub file_short_as : (inputs : List (List ℕ)) (i : ℕ) (text : List ℕ) → AreShort inputs → text ≡ file_at inputs i → length text ≤ 16_777_216
-file_short_as inputs i text short same = subst (λ (t : List ℕ). length t ≤ 16_777_216) (sym same) (file_short inputs i short)
+pub file_short_as : (inputs : List (List ℕ)) (i : ℕ) (text : List ℕ) → AreShort inputs → text ≡ file_at inputs i → length text ≤ longest_file
+file_short_as inputs i text short same = subst (λ (t : List ℕ). length t ≤ longest_file) (sym same) (file_short inputs i short)

@@ -9,6 +9,7 @@ use Rattle.term_core.specs.Environments.{Environment}
 use Rattle.term_core.specs.LawsScales.{IsMultiple}
 use Rattle.term_core.specs.Terms.{Contract}
 use Rattle.term_core.specs.Acceptance.{IsAccepted}
+use Rattle.flow_eval.specs.Readiness.{last_day}
 use Rattle.flow_eval.specs.FlowAnswers.{AreFlows, AreKnownFlows}
 use Rattle.flow_eval.specs.Tables.{IsDueRow, paid_by}
 use Rattle.flow_eval.specs.declared.faults.FlowErr.{FlowErr}
@@ -45,12 +46,12 @@ appends_line d name rows row before middle after some more =
 no_sooner : (start day : ℤ) → pos 0 ≤ℤ start → start ≤ℤ day → pos 0 ≤ℤ day
 no_sooner start day h k = omega (arith, ints)
 
-no_later : (last day : ℤ) → last ≤ℤ pos 1_100_000 → day ≤ℤ last → day ≤ℤ pos 1_100_000
+no_later : (last day : ℤ) → last ≤ℤ pos last_day → day ≤ℤ last → day ≤ℤ pos last_day
 no_later last day h k = omega (arith, ints)
 
-pub rows_writable : (start : ℕ) (last : ℤ) (rows : List FlowRow) → last ≤ℤ pos 1_100_000 → All (IsDueRow (pos start) last) rows → All (IsDueRow (pos 0) (pos 1_100_000)) rows
+pub rows_writable : (start : ℕ) (last : ℤ) (rows : List FlowRow) → last ≤ℤ pos last_day → All (IsDueRow (pos start) last) rows → All (IsDueRow (pos 0) (pos last_day)) rows
 rows_writable start last rows h all =
-    All-weaker (IsDueRow (pos start) last) (IsDueRow (pos 0) (pos 1_100_000)) (λ row due. (no_sooner (pos start) row.day (omega (arith, ints)) due.0, no_later last row.day h due.1, due.2)) rows all
+    All-weaker (IsDueRow (pos start) last) (IsDueRow (pos 0) (pos last_day)) (λ row due. (no_sooner (pos start) row.day (omega (arith, ints)) due.0, no_later last row.day h due.1, due.2)) rows all
 
 -- the rows of an accepted contract have lines
 pub rows_have_lines : (d : Declarations) (c : Contract) (fixings : Environment) (first last : ℤ) (rows : List FlowRow) → IsAccepted d c → AreKnownFlows d c fixings first last rows → HaveLines d rows

@@ -10,7 +10,9 @@ use Rattle.term_core.specs.Declarations.{Declarations, declarations}
 use Rattle.term_core.specs.Environments.{Environment, IsAdmitted}
 use Rattle.term_core.specs.Terms.{Contract}
 use Rattle.term_core.specs.Acceptance.{IsAccepted}
+use Rattle.term_core.specs.Limits.{longest_file}
 use Rattle.interval_check.specs.Within.{KeepsLimits}
+use Rattle.flow_eval.specs.Readiness.{last_day}
 use Rattle.flow_eval.specs.FlowAnswers.{AreKnownFlows}
 use Rattle.flow_eval.specs.Tables.{IsDueRow}
 use Rattle.flow_eval.specs.declared.flow_table.FlowRow.{FlowRow}
@@ -73,7 +75,7 @@ module _ (d : Declarations) (fixings : Environment) (last : ℤ) (limits : Keeps
   AddsUp table = sizes_in table.rows.items ≤ 10 ^ 27
 
   abbrev IsTimely : FlowTable → Type 0
-  IsTimely table = All (λ row. IsDuring (pos 0) (pos 1_100_000) row.day) table.rows.items
+  IsTimely table = All (λ row. IsDuring (pos 0) (pos last_day) row.day) table.rows.items
 
   abbrev IsWhole : FlowTable → Type 0
   IsWhole table = HaveLines d table.rows.items
@@ -82,9 +84,9 @@ module _ (d : Declarations) (fixings : Environment) (last : ℤ) (limits : Keeps
   one_adds_up c rows accepted known =
       (tables_add_up d c fixings (pos d.start) last rows limits accepted admitted (known.table fixings (λ q v e. e))).1
 
-  one_timely : last ≤ℤ pos 1_100_000 → (c : Contract) (table : FlowTable) → AreKnownFlows d c fixings (pos d.start) last table.rows.items → IsTimely table
+  one_timely : last ≤ℤ pos last_day → (c : Contract) (table : FlowTable) → AreKnownFlows d c fixings (pos d.start) last table.rows.items → IsTimely table
   one_timely h c table known =
-      All-weaker (IsDueRow (pos 0) (pos 1_100_000)) (λ (row : FlowRow). IsDuring (pos 0) (pos 1_100_000) row.day) (λ row due. (due.0, due.1)) table.rows.items
+      All-weaker (IsDueRow (pos 0) (pos last_day)) (λ (row : FlowRow). IsDuring (pos 0) (pos last_day) row.day) (λ row due. (due.0, due.1)) table.rows.items
       (rows_writable d.start last table.rows.items h known.due)
 
   -- what holds of the table of each accepted contract holds of all
@@ -97,7 +99,7 @@ module _ (d : Declarations) (fixings : Environment) (last : ℤ) (limits : Keeps
       let A : Name × Contract → Type 0 = λ e. IsAccepted d e.1 in
       All-cons P table tables (each entry.1 table (All-head A entry entries all) h.0) (of_each P each entries tables (All-tail A entry entries all) h.1)
 
-  pub tables_ready : last ≤ℤ pos 1_100_000 → (entries : List (Name × Contract)) (tables : List FlowTable) → length entries ≤ 16_777_216 → AreAllAccepted d entries
+  pub tables_ready : last ≤ℤ pos last_day → (entries : List (Name × Contract)) (tables : List FlowTable) → length entries ≤ longest_file → AreAllAccepted d entries
       → AreTables d fixings last entries tables → AreReady d tables
   tables_ready h entries tables few all k =
       let many = many_tables_add_up tables (of_each AddsUp (λ c table accepted known. one_adds_up c table.rows.items accepted known) entries tables all k) in
@@ -109,8 +111,8 @@ module _ (d : Declarations) (fixings : Environment) (last : ℤ) (limits : Keeps
       }
 
 -- the tables of all contracts
-pub tables_known : (asked : NettingAsked) (b : Book) (table : Option (List ℕ)) (last : ℤ) → IsLastDay b.declarations asked.until last → last ≤ℤ pos 1_100_000
-    → length b.contracts ≤ 16_777_216 → AreAllAccepted b.declarations (used None b) → (fixings : Environment) → AreFixings b.declarations table fixings
+pub tables_known : (asked : NettingAsked) (b : Book) (table : Option (List ℕ)) (last : ℤ) → IsLastDay b.declarations asked.until last → last ≤ℤ pos last_day
+    → length b.contracts ≤ longest_file → AreAllAccepted b.declarations (used None b) → (fixings : Environment) → AreFixings b.declarations table fixings
     → KeepsLimits b.declarations → IsAdmitted b.declarations fixings → (tables : List FlowTable)
     → AreTables b.declarations fixings last (used None b) tables → TablesKnown asked b table tables
 tables_known asked b table last is_last within few all fixings are limits admitted tables found =
@@ -133,7 +135,7 @@ module _ (asked : NettingAsked) (text : List ℕ) (table : Option (List ℕ)) (u
   abbrev of : Declarations
   of = declarations until.choice.decls.now
 
-  knows_tables : (limits : KeepsLimits of) → length text ≤ 16_777_216 → until.summed ≡ true → (listed : Listed) → ListsFlows text until listed
+  knows_tables : (limits : KeepsLimits of) → length text ≤ longest_file → until.summed ≡ true → (listed : Listed) → ListsFlows text until listed
       → KnowsTables asked text table of listed.tables.items
   knows_tables limits short summed listed h =
       let b = so_far of h.entries in
@@ -146,7 +148,7 @@ module _ (asked : NettingAsked) (text : List ℕ) (table : Option (List ℕ)) (u
             limits fixings.admitted listed.tables.items tables;
       }
 
-  pub tables_of_lists : (limits : KeepsLimits of) → length text ≤ 16_777_216 → until.summed ≡ true → (r : Result (Vec FlowTable) Stop)
+  pub tables_of_lists : (limits : KeepsLimits of) → length text ≤ longest_file → until.summed ≡ true → (r : Result (Vec FlowTable) Stop)
       → AnswersBy (λ (tables : Vec FlowTable). ListsTables text until tables.items) (StopsIn text of (StopsFlows until)) r
       → AnswersBy (λ (tables : Vec FlowTable). KnowsTables asked text table of tables.items) (Stops (flows_of_text (flows_of_all asked) text table)) r
   tables_of_lists limits short summed r h =
@@ -165,7 +167,7 @@ can_be_added_up d tables ready = let h = ready.together in omega arith
 
 pub due_positions : (d : Declarations) (tables : List FlowTable) (rows : List PositionRow) → AreReady d tables → ArePositions tables rows → All (IsDuePosition d) rows
 due_positions d tables rows ready h =
-    let days = positions_stand_in_time tables rows (pos 0) (pos 1_100_000) ready.during h in
+    let days = positions_stand_in_time tables rows (pos 0) (pos last_day) ready.during h in
     let amounts = positions_are_within tables rows h in
     let whole = positions_are_whole d tables rows ready.whole h in
     λ k z l. record {
@@ -175,9 +177,9 @@ due_positions d tables rows ready h =
       whole = whole k z l;
     }
 
-pub due_settled : (d : Declarations) (tables : List FlowTable) (rows : List FlowRow) → AreReady d tables → Settles tables rows → ArePaidInTurn tables rows → All (IsDueRow (pos 0) (pos 1_100_000)) rows
+pub due_settled : (d : Declarations) (tables : List FlowTable) (rows : List FlowRow) → AreReady d tables → Settles tables rows → ArePaidInTurn tables rows → All (IsDueRow (pos 0) (pos last_day)) rows
 due_settled d tables rows ready h turns =
-    let days = settled_stand_in_time tables rows (pos 0) (pos 1_100_000) ready.during h in
+    let days = settled_stand_in_time tables rows (pos 0) (pos last_day) ready.during h in
     let amounts = settled_are_within tables rows turns in
     λ k z l. ((days k z l).0, (days k z l).1, small_enough _ _ (amounts k z l) ready.together)
 

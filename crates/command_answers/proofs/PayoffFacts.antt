@@ -10,6 +10,7 @@ use Rattle.term_core.specs.declared.name.Name.{Name}
 use Rattle.term_core.specs.declared.terms.Contr.{Contr}
 use Rattle.term_core.specs.Books.{Book}
 use Rattle.term_core.specs.Declarations.{Declarations, at_one_scale}
+use Rattle.term_core.specs.Limits.{longest_file}
 use Rattle.term_core.specs.Terms.{Contract, contract}
 use Rattle.term_core.specs.WellFormed.{IsClosed}
 use Rattle.contract_parse.specs.NextContracts.{IsNext, IsSoundContract}
@@ -88,7 +89,7 @@ pub named_has : (P : Contract → Type 0) (b : Book) (name : List ℕ) (c : Cont
 named_has P b name c named all = subst (λ (o : Option Contract). IfSome o P) named (All-lookup P (bytes_eq name) b.contracts all)
 
 module _ (text : List ℕ) (d : Declarations) (name : List ℕ) (c : Contr) (h : IsNamedIn text d name c) where
-  pub named_sound : length text ≤ 16_777_216 → IsSoundContract d (contract c)
+  pub named_sound : length text ≤ longest_file → IsSoundContract d (contract c)
   named_sound short = named_has (IsSoundContract d) (so_far d h.entries) name (contract c) h.named (contracts_sound text (so_far d h.entries) h.is_text short)
 
   pub named_writable : IsWritableTerm (contract c)

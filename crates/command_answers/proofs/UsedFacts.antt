@@ -14,7 +14,7 @@ use Rattle.term_core.specs.Terms.{Contract, Zero, Pay, Both, Scale, After, Let, 
 use Rattle.term_core.specs.Sizes.{height_of_contract, nodes_of_contract}
 use Rattle.term_core.specs.WellFormed.{HasOnlyNumbers, IsNumber}
 use Rattle.term_core.specs.Instances.{HasNumbers, IsSetting, declared_numbers, instance, with_number}
-use Rattle.term_core.specs.Limits.{are_numbers}
+use Rattle.term_core.specs.Limits.{are_numbers, longest_file}
 use Rattle.term_core.proofs.InstanceFacts.{defaults_suit, instances_have_numbers, instances_well_formed, settings_suit}
 use Rattle.contract_parse.specs.NextContracts.{IsSoundContract}
 use Rattle.contract_parse.specs.Texts.{Text}
@@ -114,7 +114,7 @@ each_at_most : {A : Type 0} (f : A → ℕ) (xs : List A) (n : ℕ) → sum_by f
 each_at_most f [] n h = All-nil (λ x. f x ≤ n)
 each_at_most f (x ∷ xs) n h = All-cons (λ y. f y ≤ n) x xs (omega (arith, sum_by-cons f x xs)) (each_at_most f xs n (omega (arith, sum_by-cons f x xs)))
 
-pub contracts_sound : (bytes : List ℕ) (b : Book) → Text bytes b → length bytes ≤ 16_777_216 → All (λ entry. IsSoundContract b.declarations entry.1) b.contracts
+pub contracts_sound : (bytes : List ℕ) (b : Book) → Text bytes b → length bytes ≤ longest_file → All (λ entry. IsSoundContract b.declarations entry.1) b.contracts
 contracts_sound bytes b text short = λ k entry within.
     let closed = contracts_closed bytes b text k entry within in
     let few = each_at_most (λ (e : Name × Contract). nodes_of_contract e.1) b.contracts (length bytes) (nodes_fit bytes b text) k entry within in
@@ -133,5 +133,5 @@ no_more_than_nodes : (xs : List (Name × Contract)) → length xs ≤ sum_by (λ
 no_more_than_nodes [] = omega arith
 no_more_than_nodes (x ∷ xs) = omega (arith, no_more_than_nodes xs, some_nodes x.1, sum_by-cons (λ (entry : Name × Contract). nodes_of_contract entry.1) x xs)
 
-pub contracts_few : (bytes : List ℕ) (b : Book) → Text bytes b → length bytes ≤ 16_777_216 → length b.contracts ≤ 16_777_216
+pub contracts_few : (bytes : List ℕ) (b : Book) → Text bytes b → length bytes ≤ longest_file → length b.contracts ≤ longest_file
 contracts_few bytes b text short = omega (arith, no_more_than_nodes b.contracts, nodes_fit bytes b text, short)

@@ -7,6 +7,7 @@ use Rattle.term_core.specs.declared.name.Name.{Name}
 use Rattle.term_core.specs.Books.{Book}
 use Rattle.term_core.specs.Declarations.{Declarations}
 use Rattle.term_core.specs.Environments.{Environment}
+use Rattle.term_core.specs.Limits.{last_start}
 use Rattle.term_core.specs.Terms.{Contract}
 use Rattle.contract_print.specs.Canon.{IsCanon}
 use Rattle.fixing_files.specs.Days.{day_of}
@@ -23,13 +24,13 @@ use Rattle.command_answers.specs.UsedContracts.{used}
 
 -- the greatest day that a portfolio can stand on
 abbrev pub greatest_new_day : ℤ
-greatest_new_day = pos 1_000_000
+greatest_new_day = pos last_start
 
 -- the day that a word names, from the start to the greatest
 pub record IsNewDay (d : Declarations) (word : List ℕ) (day : ℕ) : Type 0 where
   pub named : day_of d.origin word ≡ Ok (pos day)
   pub no_sooner : d.start ≤ day
-  pub no_later : day ≤ 1_000_000
+  pub no_later : day ≤ last_start
 
 -- the last of the days gone by
 abbrev pub last_gone : ℕ → ℤ

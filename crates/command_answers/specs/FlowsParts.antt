@@ -8,9 +8,11 @@ use Rattle.term_core.specs.Declarations.{Declarations, declarations}
 use Rattle.term_core.specs.Environments.{Environment, IsAdmitted, Place}
 use Rattle.term_core.specs.Terms.{Contract}
 use Rattle.term_core.specs.Acceptance.{IsAccepted, IsRefusal}
+use Rattle.term_core.specs.Limits.{longest_file}
 use Rattle.contract_parse.specs.Texts.{Text}
 use Rattle.contract_parse.specs.declared.next_contracts.ContractReader.{ContractReader}
 use Rattle.fixing_files.specs.declared.days.DayFault.{DayFault}
+use Rattle.flow_eval.specs.Readiness.{last_day}
 use Rattle.flow_eval.specs.FlowAnswers.{AreKnownFlows}
 use Rattle.flow_eval.specs.declared.faults.FlowErr.{FlowErr}
 use Rattle.flow_eval.specs.declared.faults.FlowErr.TheVariants as flow
@@ -39,7 +41,7 @@ use Rattle.command_answers.specs.declared.stop.Stop.TheVariants as stop
 -- a table, where there is one, is no longer than a file
 abbrev pub IsShortTable : Option (List ℕ) → Type 0
 IsShortTable None = Unit {0}
-IsShortTable (Some bytes) = length bytes ≤ 16_777_216
+IsShortTable (Some bytes) = length bytes ≤ longest_file
 
 -- ---- the day of a word
 
@@ -55,7 +57,7 @@ AnswersDay d greatest word r = AnswersBy (IsDayAsked d greatest word) (IsWordFau
 pub record CanBeLast (d : Declarations) (until : Option (List ℕ)) (last : ℤ) : Type 0 where
   pub is_last : IsLastDay d until last
   pub first : pos 0 ≤ℤ last
-  pub within : last ≤ℤ pos 1_100_000
+  pub within : last ≤ℤ pos last_day
 
 abbrev pub AnswersLastDay : Declarations → Option (List ℕ) → Result ℤ Stop → Type 0
 AnswersLastDay d until r = AnswersBy (CanBeLast d until) (IsDayFault d until) r
@@ -201,7 +203,7 @@ AnswersFlows until reader r =
 -- the tables of accepted contracts, as many as a text can hold
 pub record CanBeSummed (until : FlowsUntil) (tables : List FlowTable) : Type 0 where
   pub entries : List (Name × Contract)
-  pub few : length entries ≤ 16_777_216
+  pub few : length entries ≤ longest_file
   pub accepted : AreAllAccepted (declarations until.choice.decls.now) entries
   pub are_tables : AreTables (declarations until.choice.decls.now) until.fixings.now until.last entries tables
 

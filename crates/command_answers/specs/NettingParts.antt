@@ -10,6 +10,7 @@ use Rattle.term_core.specs.Terms.{Contract}
 use Rattle.contract_parse.specs.Texts.{Text}
 use Rattle.contract_parse.specs.declared.next_contracts.ContractReader.{ContractReader}
 use Rattle.interval_check.specs.Safety.{IsSmall}
+use Rattle.flow_eval.specs.Readiness.{last_day}
 use Rattle.flow_eval.specs.declared.flow_table.FlowTable.{FlowTable}
 use Rattle.report.specs.FlowLines.{IsWholeInAsset}
 use Rattle.exposure.specs.declared.accounts.PositionRow.{PositionRow}
@@ -35,7 +36,7 @@ use Rattle.command_answers.specs.declared.stop.Stop.{Stop}
 -- a position that a line can hold
 pub record IsDuePosition (d : Declarations) (row : PositionRow) : Type 0 where
   pub first : pos 0 ≤ℤ row.day
-  pub last : row.day ≤ℤ pos 1_100_000
+  pub last : row.day ≤ℤ pos last_day
   pub small : IsSmall row.amount
   pub whole : IsWholeInAsset d row.asset row.amount
 
@@ -48,7 +49,7 @@ pub record AppendsPositions (d : Declarations) (rows : List PositionRow) (before
 -- tables that can be added up, and of which lines can hold what comes
 pub record AreReady (d : Declarations) (tables : List FlowTable) : Type 0 where
   pub together : sizes_of tables ≤ 10 ^ 36
-  pub during : AreDuring (pos 0) (pos 1_100_000) tables
+  pub during : AreDuring (pos 0) (pos last_day) tables
   pub whole : AreWholeInAssets d tables
 
 -- nothing stops `flows` of all contracts, and these are the tables

@@ -1,9 +1,11 @@
-//! The text of the command `advance`: contracts are carried to a day, and what is due and what is left is written.
+//! The text of the command `advance`: contracts are carried to a day, and what is due and what is
+//! left is written.
 
 ghost use Rattle.std.specs.Prelude.{◌≡◌, ◌≤◌, ◌++◌, [], pos, All, IfOk, None, OnOk, length};
 ghost use Rattle.term_core.specs.Acceptance.{IsAccepted};
 ghost use Rattle.term_core.specs.Declarations.{declarations};
 ghost use Rattle.term_core.specs.Environments.{IsAdmitted};
+ghost use Rattle.term_core.specs.Limits.{last_start, longest_file};
 ghost use Rattle.term_core.specs.Terms.{contract};
 ghost use Rattle.contract_parse.specs.NextContracts.{IsSoundContract};
 ghost use Rattle.contract_print.specs.Writable.{IsWritableTerm};
@@ -38,15 +40,13 @@ use exposure::rename;
 use flow_eval::FlowTable;
 use report::{Fault, flow_line};
 use std::alloc::Global;
-use term_core::{Contr, Decls, defaults};
-
-const LAST_NEW_DAY: u32 = 1_000_000;
+use term_core::{Contr, Decls, LAST_START, defaults};
 
 // The new day of a word.
 fn new_day(alloc: Global, decls: &Decls, to: DayWord<'_>) -> Result<u32, Stop>
     ensures { AnswersNewDay (declarations decls.now) to.entry.word.now result }
 {
-    let day = day_asked(alloc, decls, to, LAST_NEW_DAY)?;
+    let day = day_asked(alloc, decls, to, LAST_START)?;
     Ok(day as u32)
 }
 
@@ -77,7 +77,8 @@ pub struct Left {
     pub rest: Vec<u8>,
 }
 
-/// The same of the contracts so far, or the fault of the first of them that has a read that is not fixed.
+/// The same of the contracts so far, or the fault of the first of them that has a read that is not
+/// fixed.
 #[derive(Drop)]
 pub struct KeptRest {
     pub left: Left,
@@ -117,7 +118,8 @@ fn renamed(
     }
 }
 
-// Puts what is due of a contract, and the line of what is left of it, behind those of the contracts before it.
+// Puts what is due of a contract, and the line of what is left of it, behind those of the contracts
+// before it.
 fn keep(
     alloc: Global,
     to: &AdvanceTo<'_>,
@@ -187,7 +189,7 @@ fn advance_next(
 
 // The declarations of what is left.
 fn rest_decls(alloc: Global, decls: &Decls, day: u32) -> Result<Decls, NoMemory>
-    requires { day ≤ 1_000_000 }
+    requires { day ≤ last_start }
     ensures { IfOk result (λ rest. declarations rest
         ≡ rest_declarations (declarations decls.now) day) }
 {
@@ -231,8 +233,8 @@ fn advance_all(
     Ok((tried, kept))
 }
 
-// What is due, and behind it the text of what is left; or the first stop: at the text, by the name, by acceptance, or at a read that
-// is not fixed.
+// What is due, and behind it the text of what is left; or the first stop: at the text, by the name,
+// by acceptance, or at a read that is not fixed.
 fn left_text(
     alloc: Global,
     to: &AdvanceTo<'_>,
@@ -250,9 +252,9 @@ fn left_text(
     Ok(text)
 }
 
-/// What is due of the contracts of a text before the day of a word, and the text of what is left on it, with a renaming if there is
-/// one; or what stops a command from the name that is asked for on. Each contract is read, tried, advanced and dropped before the
-/// next.
+/// What is due of the contracts of a text before the day of a word, and the text of what is left on
+/// it, with a renaming if there is one; or what stops a command from the name that is asked for on.
+/// Each contract is read, tried, advanced and dropped before the next.
 pub fn carry(
     alloc: Global,
     choice: Choice<'_>,
@@ -282,15 +284,16 @@ pub fn carry(
     }
 }
 
-/// What `advance` writes of a portfolio's text over the fixings of a table: what is due before the new day, and the text of the
-/// portfolio that is left on it; or what stops it. Each contract is read, tried, advanced and dropped before the next.
+/// What `advance` writes of a portfolio's text over the fixings of a table: what is due before the
+/// new day, and the text of the portfolio that is left on it; or what stops it. Each contract is
+/// read, tried, advanced and dropped before the next.
 pub fn advance_text(
     alloc: Global,
     text: &[u8],
     asked: &Advance<'_>,
     table: Option<&[u8]>,
 ) -> Result<Vec<u8>, Stop>
-    requires short { length text.now ≤ 16_777_216 }
+    requires short { length text.now ≤ longest_file }
     requires table { IsShortTable (given_text table) }
     ensures { GoesDone (advance_of_text (advance_by asked.now) text.now
         (given_text table.entry)) result }

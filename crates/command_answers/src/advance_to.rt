@@ -1,6 +1,7 @@
 //! What `advance` and `novate` ask of the contracts of a text.
 
 ghost use Rattle.std.specs.Prelude.{◌≤◌};
+ghost use Rattle.term_core.specs.Limits.{last_start};
 
 use crate::choice::Choice;
 use fixing_files::Fixings;
@@ -13,8 +14,8 @@ pub struct Renaming<'a> {
     pub new: u32,
 }
 
-/// What contracts are advanced over: which are used, what is fixed of their labels, and the new day, which is in range; and the
-/// renaming, if there is one.
+/// What contracts are advanced over: which are used, what is fixed of their labels, and the new
+/// day, which is in range; and the renaming, if there is one.
 #[derive(Clone, Copy)]
 pub struct AdvanceTo<'a> {
     pub choice: Choice<'a>,
@@ -22,5 +23,5 @@ pub struct AdvanceTo<'a> {
     pub day: u32,
     pub renaming: Option<Renaming<'a>>,
     pub ghost first: { choice.decls.now.start ≤ day },
-    pub ghost within: { day ≤ 1_000_000 },
+    pub ghost within: { day ≤ last_start },
 }

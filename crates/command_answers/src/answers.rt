@@ -1,9 +1,11 @@
-//! What a command answers to the bytes of its files: the text that a run is to write, and the status with which it then ends.
+//! What a command answers to the bytes of its files: the text that a run is to write, and the
+//! status with which it then ends.
 
 ghost use Rattle.std.specs.Prelude.{◌≡◌, IfOk};
 ghost use Rattle.report.specs.FaultLines.{fault_text};
 ghost use Rattle.command_words.specs.Arguments.{given_text};
-ghost use Rattle.command_words.specs.Words.{advance_by, flows_by, netting_by, novate_by, payoff_by, requested_by, scenarios_by, value_by};
+ghost use Rattle.command_words.specs.Words.{advance_by, flows_by, netting_by, novate_by, payoff_by};
+ghost use Rattle.command_words.specs.Words.{requested_by, scenarios_by, value_by};
 ghost use Rattle.command_answers.specs.AdvanceCourse.{advance_course};
 ghost use Rattle.command_answers.specs.CheckCourse.{check_course};
 ghost use Rattle.command_answers.specs.Courses.{course_of, sample_course};
@@ -77,7 +79,8 @@ fn check_answer(alloc: Global, inputs: &[Vec<u8>]) -> Result<Answer, Stop>
 
 // The table of the fixings, if the words name one: the second file.
 fn table_if_named<'a>(fixings: Option<&str>, inputs: &'a [Vec<u8>]) -> Option<&'a [u8]>
-    ensures { given_text result ≡ table_if_named (given_text fixings.entry) (bytes_of inputs.entry.now) }
+    ensures { given_text result
+        ≡ table_if_named (given_text fixings.entry) (bytes_of inputs.entry.now) }
 {
     match fixings {
         Some(_) => Some(file_at(inputs, 1)),
@@ -226,8 +229,8 @@ fn sample_answer(alloc: Global, size: SampleSize) -> Result<Answer, Stop>
     })
 }
 
-/// What a command answers to the bytes of its files, none of them longer than 16,777,216: what it tells at the end of its course,
-/// or the fault of the first stage that stops it, or out of memory.
+/// What a command answers to the bytes of its files, none of them longer than 16,777,216: what it
+/// tells at the end of its course, or the fault of the first stage that stops it, or out of memory.
 pub fn answer_request(
     alloc: Global,
     request: &Request<'_>,

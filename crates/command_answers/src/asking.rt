@@ -1,6 +1,8 @@
-//! What the words ask of the code of a file: at which setting, on which day, between whom; and the curve of a table.
+//! What the words ask of the code of a file: at which setting, on which day, between whom; and the
+//! curve of a table.
 
 ghost use Rattle.std.specs.Prelude.{◌≤◌, length};
+ghost use Rattle.term_core.specs.Limits.{longest_file};
 ghost use Rattle.fixing_files.specs.CurveTables.{HoldsCurve};
 ghost use Rattle.fixing_files.specs.Tables.{table_of};
 ghost use Rattle.payoff_lang.specs.CodeBooks.{code_book};
@@ -22,8 +24,8 @@ use report::Fault;
 use std::alloc::Global;
 use term_core::{CheckErr, Setting};
 
-/// What is asked of a code file that is accepted at a setting: on which day, between whom; and the most that its code can be
-/// worth in size, at nine decimals more than amounts.
+/// What is asked of a code file that is accepted at a setting: on which day, between whom; and the
+/// most that its code can be worth in size, at nine decimals more than amounts.
 #[derive(Drop)]
 pub struct Asking {
     pub setting: Setting,
@@ -32,7 +34,8 @@ pub struct Asking {
     pub most: i128,
 }
 
-// The most that the code can be worth in size. It stops where the code is not accepted at the setting.
+// The most that the code can be worth in size. It stops where the code is not accepted at the
+// setting.
 fn accept_code(alloc: Global, file: &CodeFile, setting: &Setting) -> Result<i128, Stop>
     requires { IsReadable (code_book file.now) }
     ensures { AnswersBy (IsAcceptedUpTo (code_book file.now) setting.now.days.items)
@@ -48,8 +51,8 @@ fn accept_code(alloc: Global, file: &CodeFile, setting: &Setting) -> Result<i128
     }
 }
 
-/// What the words ask of a code file, where the names are declared, the day is in range, and the code is accepted at the numbers
-/// that are set.
+/// What the words ask of a code file, where the names are declared, the day is in range, and the
+/// code is accepted at the numbers that are set.
 pub fn asking_of(alloc: Global, file: &CodeFile, value: &Value<'_>) -> Result<Asking, Stop>
     requires { IsReadable (code_book file.now) }
     ensures { AnswersAsking (value_by value.now) file.now result }
@@ -68,7 +71,7 @@ pub fn asking_of(alloc: Global, file: &CodeFile, value: &Value<'_>) -> Result<As
 
 /// The curve of a table.
 pub fn curve_of(alloc: Global, bytes: &[u8]) -> Result<Curve, Stop>
-    requires { length bytes.now ≤ 16_777_216 }
+    requires { length bytes.now ≤ longest_file }
     ensures { AnswersBy (HoldsCurve (table_of bytes.now)) (IsCurveFault bytes.now 3) result }
 {
     match read_curve(alloc, bytes) {

@@ -4,8 +4,10 @@ ghost use Rattle.std.specs.Prelude.{◌≡◌, ◌≤◌, IfOk, OnOk, length};
 ghost use Rattle.term_core.specs.Declarations.{declarations};
 ghost use Rattle.term_core.specs.Terms.{contract};
 ghost use Rattle.term_core.specs.Instances.{declared_numbers};
+ghost use Rattle.term_core.specs.Limits.{longest_file};
 ghost use Rattle.contract_parse.specs.NextContracts.{IsSoundContract};
-ghost use Rattle.command_answers.specs.CheckParts.{AddsVerdict, AnswersAllVerdicts, AnswersCheck, HasBegun};
+ghost use Rattle.command_answers.specs.CheckParts.{AddsVerdict, AnswersAllVerdicts, AnswersCheck};
+ghost use Rattle.command_answers.specs.CheckParts.{HasBegun};
 ghost use Rattle.command_answers.specs.CheckParts.{AppendsVerdict, IsVerdictOf};
 ghost use Rattle.command_answers.specs.UsedContracts.{at_defaults};
 ghost use Rattle.command_answers.specs.UsedParts.{IsTriable};
@@ -101,9 +103,10 @@ fn all_verdicts(
     Ok(check)
 }
 
-/// The verdicts on the contracts of a text, in their order. Each contract is read, tried and dropped before the next.
+/// The verdicts on the contracts of a text, in their order. Each contract is read, tried and
+/// dropped before the next.
 pub fn check_text(alloc: Global, text: &[u8]) -> Result<CheckText, Stop>
-    requires { length text.now ≤ 16_777_216 }
+    requires { length text.now ≤ longest_file }
     ensures { AnswersCheck text.now result }
 {
     let (decls, reader) = start_reading(alloc, text)?;

@@ -19,8 +19,8 @@ pub struct Choice<'a> {
     pub ghost at_defaults: { setting.now.days.items ≡ declared_numbers (declarations decls.now) },
 }
 
-/// What flows are asked over: the contracts that are used, what is fixed of their labels, and the last day, which is in range; and
-/// whether they are to be summed.
+/// What flows are asked over: the contracts that are used, what is fixed of their labels, and the
+/// last day, which is in range; and whether they are to be summed.
 #[derive(Clone, Copy)]
 pub struct FlowsUntil<'a> {
     pub choice: Choice<'a>,

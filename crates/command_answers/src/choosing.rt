@@ -1,4 +1,5 @@
-//! The contracts of a text that a command uses, all or the one of a name: each is tried as it is read, and dropped.
+//! The contracts of a text that a command uses, all or the one of a name: each is tried as it is
+//! read, and dropped.
 
 ghost use Rattle.std.specs.Prelude.{◌≡◌, None, IfOk, OnOk, is_none};
 ghost use Rattle.term_core.specs.Declarations.{declarations};
@@ -7,8 +8,10 @@ ghost use Rattle.term_core.specs.Terms.{contract};
 ghost use Rattle.contract_parse.specs.NextContracts.{IsSoundContract};
 ghost use Rattle.command_words.specs.Arguments.{given_text};
 ghost use Rattle.command_answers.specs.CheckParts.{HasBegun};
-ghost use Rattle.command_answers.specs.ChoosingParts.{Chooses, IsBehindAcceptance, IsBehindNames, KnowsName, Nothing, Steps, TellsFirst};
-ghost use Rattle.command_answers.specs.ChoosingParts.{TellsName, TriesAll, TriesNext, every, selection, stop_at};
+ghost use Rattle.command_answers.specs.ChoosingParts.{Chooses, IsBehindAcceptance, IsBehindNames};
+ghost use Rattle.command_answers.specs.ChoosingParts.{KnowsName, Nothing, Steps, TellsFirst};
+ghost use Rattle.command_answers.specs.ChoosingParts.{TellsName, TriesAll, TriesNext, every};
+ghost use Rattle.command_answers.specs.ChoosingParts.{selection, stop_at};
 ghost use Rattle.command_answers.specs.UsedContracts.{at_defaults, is_asked};
 
 use crate::accepting::refusal;
@@ -58,7 +61,8 @@ fn is_asked(name: &[u8], named: Option<&str>) -> bool
     }
 }
 
-// The contract at the defaults, if it is accepted and none before it was refused. The first that is not is held.
+// The contract at the defaults, if it is accepted and none before it was refused. The first that is
+// not is held.
 fn try_next<'a>(
     alloc: Global,
     choice: &Choice<'_>,
@@ -67,7 +71,8 @@ fn try_next<'a>(
 ) -> Result<Option<NextContract<'a>>, NoMemory>
     requires { IsSoundContract (declarations choice.now.decls.now) (contract next.contr) }
     ensures { IfOk result (TriesNext (declarations choice.now.decls.now)
-        (at_defaults (declarations choice.now.decls.now) (next.entry.name.now, contract next.entry.contr))
+        (at_defaults (declarations choice.now.decls.now)
+        (next.entry.name.now, contract next.entry.contr))
         refused.old refused.new) }
 {
     if refused.is_some() {
@@ -124,7 +129,8 @@ fn try_on(
     tried: &mut Tried,
 ) -> Result<(), NoMemory>
     requires { IsSoundContract (declarations choice.now.decls.now) (contract next.contr) }
-    ensures { OnOk result (Steps (declarations choice.now.decls.now) (selection choice.now) Nothing Nothing
+    ensures { OnOk result
+        (Steps (declarations choice.now.decls.now) (selection choice.now) Nothing Nothing
         (next.entry.name.now, contract next.entry.contr) tried.old tried.new) }
 {
     choose(alloc, choice, next, tried)?;
@@ -138,7 +144,8 @@ fn try_all(
     reader: &mut ContractReader<'_>,
 ) -> Result<Tried, Stop>
     requires { HasBegun (declarations choice.now.decls.now) reader.old }
-    ensures { TriesAll (declarations choice.now.decls.now) (selection choice.now) reader.old result }
+    ensures { TriesAll (declarations choice.now.decls.now) (selection choice.now) reader.old
+        result }
 {
     let mut tried = nothing_tried(choice.named);
     while let Some(next) = read_next(alloc, choice.decls, reader)? {
@@ -178,14 +185,16 @@ fn try_known(
     reader: &mut ContractReader<'_>,
 ) -> Result<Tried, Stop>
     requires { HasBegun (declarations choice.now.decls.now) reader.old }
-    ensures { KnowsName (declarations choice.now.decls.now) (selection choice.now) reader.old result }
+    ensures { KnowsName (declarations choice.now.decls.now) (selection choice.now) reader.old
+        result }
 {
     let tried = try_all(alloc, choice, reader)?;
     know(alloc, choice.named, tried.met)?;
     Ok(tried)
 }
 
-/// A stop that comes behind those at the text and by the name: the first of them. The contracts that are left are read.
+/// A stop that comes behind those at the text and by the name: the first of them. The contracts
+/// that are left are read.
 pub fn behind_names(
     alloc: Global,
     choice: &Choice<'_>,
@@ -193,7 +202,8 @@ pub fn behind_names(
     stop: Stop,
 ) -> Stop
     requires { HasBegun (declarations choice.now.decls.now) reader.old }
-    ensures { IsBehindNames (declarations choice.now.decls.now) (selection choice.now) reader.old stop result }
+    ensures { IsBehindNames (declarations choice.now.decls.now) (selection choice.now) reader.old
+        stop result }
 {
     match try_known(alloc, choice, reader) {
         Ok(_) => stop,
@@ -201,8 +211,8 @@ pub fn behind_names(
     }
 }
 
-/// A stop that comes behind those at the text, by the name and by acceptance: the first of them. The contracts that are left are
-/// read and tried.
+/// A stop that comes behind those at the text, by the name and by acceptance: the first of them.
+/// The contracts that are left are read and tried.
 pub fn behind_acceptance(
     alloc: Global,
     choice: &Choice<'_>,
@@ -210,7 +220,8 @@ pub fn behind_acceptance(
     stop: Stop,
 ) -> Stop
     requires { HasBegun (declarations choice.now.decls.now) reader.old }
-    ensures { IsBehindAcceptance (declarations choice.now.decls.now) (selection choice.now) reader.old stop result }
+    ensures { IsBehindAcceptance (declarations choice.now.decls.now) (selection choice.now)
+        reader.old stop result }
 {
     match try_known(alloc, choice, reader) {
         Ok(tried) => match tried.refused {
@@ -221,7 +232,8 @@ pub fn behind_acceptance(
     }
 }
 
-/// Of contracts that are all tried: stops by the name, at the first contract that is refused, or at a fault that is held behind these.
+/// Of contracts that are all tried: stops by the name, at the first contract that is refused, or at
+/// a fault that is held behind these.
 pub fn first_stop(
     alloc: Global,
     named: Option<&str>,

@@ -5,6 +5,7 @@ ghost use Rattle.std.specs.List.{All};
 ghost use Rattle.term_core.specs.Acceptance.{IsAccepted};
 ghost use Rattle.term_core.specs.Declarations.{declarations};
 ghost use Rattle.term_core.specs.Environments.{IsAdmitted};
+ghost use Rattle.term_core.specs.Limits.{longest_file};
 ghost use Rattle.term_core.specs.Terms.{contract};
 ghost use Rattle.contract_parse.specs.NextContracts.{IsSoundContract};
 ghost use Rattle.flow_eval.specs.Readiness.{last_day};
@@ -13,8 +14,11 @@ ghost use Rattle.report.specs.FlowLines.{HaveLines};
 ghost use Rattle.command_answers.specs.CheckParts.{HasBegun};
 ghost use Rattle.command_answers.specs.ChoosingParts.{Steps, selection};
 ghost use Rattle.command_answers.specs.FlowsCourse.{flows_of_text};
-ghost use Rattle.command_answers.specs.FlowsParts.{AddsFlows, AnswersFlows, AnswersKeptFlows, AnswersLastDay, AnswersLinesAsked, AnswersOver};
-ghost use Rattle.command_answers.specs.FlowsParts.{AnswersTable, AppendsLines, AreLinesOfSum, CanBeSummed, HasFlows, IsShortTable, KeepsTable, TellsFlows, of_flows};
+ghost use Rattle.command_answers.specs.FlowsParts.{AddsFlows, AnswersFlows, AnswersKeptFlows};
+ghost use Rattle.command_answers.specs.FlowsParts.{AnswersLastDay, AnswersLinesAsked, AnswersOver};
+ghost use Rattle.command_answers.specs.FlowsParts.{AnswersTable, AppendsLines, AreLinesOfSum};
+ghost use Rattle.command_answers.specs.FlowsParts.{CanBeSummed, HasFlows, IsShortTable, KeepsTable};
+ghost use Rattle.command_answers.specs.FlowsParts.{TellsFlows, of_flows};
 ghost use Rattle.command_answers.specs.Stopping.{GoesDone};
 ghost use Rattle.command_words.specs.Arguments.{given_text};
 ghost use Rattle.command_words.specs.Words.{flows_by};
@@ -35,7 +39,8 @@ use term_core::{Contr, Decls, defaults};
 
 /// The day of a word, or of none the last that there is.
 pub fn last_day(alloc: Global, decls: &Decls, until: Option<DayWord<'_>>) -> Result<i64, Stop>
-    ensures { AnswersLastDay (declarations decls.now) (option_map (λ day. day.word.now) until.entry) result }
+    ensures { AnswersLastDay (declarations decls.now) (option_map (λ day. day.word.now) until.entry)
+        result }
 {
     match until {
         Some(asked) => day_asked(alloc, decls, asked, LAST_DAY),
@@ -53,7 +58,8 @@ pub fn append_table(
 ) -> Result<(), NoMemory>
     requires due { All (IsDueRow (pos 0) (pos last_day)) table.now.rows.items }
     requires lines { HaveLines (declarations decls.now) table.now.rows.items }
-    ensures { OnOk result (AppendsLines (declarations decls.now) name.now table.now.rows.items out.old.items out.new.items) }
+    ensures { OnOk result (AppendsLines (declarations decls.now) name.now table.now.rows.items
+        out.old.items out.new.items) }
 {
     for row in &table.rows {
         flow_line(alloc, out, decls, name, row)?;
@@ -68,7 +74,8 @@ pub struct Listed {
     pub tables: Vec<FlowTable>,
 }
 
-/// The flows of the contracts so far, or the fault of the first of them that has a read that is not fixed.
+/// The flows of the contracts so far, or the fault of the first of them that has a read that is not
+/// fixed.
 #[derive(Drop)]
 pub struct KeptFlows {
     pub listed: Listed,
@@ -79,7 +86,8 @@ pub struct KeptFlows {
 fn table_of(alloc: Global, until: &FlowsUntil<'_>, contr: &Contr) -> Result<FlowTable, Stop>
     requires accepted { IsAccepted (declarations until.now.choice.decls.now) (contract contr.now) }
     requires admitted { IsAdmitted (declarations until.now.choice.decls.now) until.now.fixings.now }
-    ensures { AnswersTable (declarations until.now.choice.decls.now) (contract contr.now) until.now.fixings.now until.now.last result }
+    ensures { AnswersTable (declarations until.now.choice.decls.now) (contract contr.now)
+        until.now.fixings.now until.now.last result }
 {
     match flows(alloc, until.choice.decls, contr, until.fixings, until.last) {
         Ok(table) => Ok(table),
@@ -97,7 +105,8 @@ fn list_table(
 ) -> Result<(), NoMemory>
     requires due { All (IsDueRow (pos 0) (pos last_day)) table.rows.items }
     requires lines { HaveLines (declarations until.now.choice.decls.now) table.rows.items }
-    ensures { OnOk result (KeepsTable until.now.summed (declarations until.now.choice.decls.now) name.now table listed.old listed.new) }
+    ensures { OnOk result (KeepsTable until.now.summed (declarations until.now.choice.decls.now)
+        name.now table listed.old listed.new) }
 {
     if until.summed {
         listed.tables.push(table)?;
@@ -107,7 +116,8 @@ fn list_table(
     }
 }
 
-// Puts the flows of a contract behind those of the contracts before it, if all reads of these are fixed.
+// Puts the flows of a contract behind those of the contracts before it, if all reads of these are
+// fixed.
 fn add_flows(
     alloc: Global,
     until: &FlowsUntil<'_>,
@@ -116,7 +126,8 @@ fn add_flows(
 ) -> Result<(), NoMemory>
     requires accepted { IsAccepted (declarations until.now.choice.decls.now) (contract one.contr) }
     requires admitted { IsAdmitted (declarations until.now.choice.decls.now) until.now.fixings.now }
-    ensures { OnOk result (AddsFlows until.now (one.entry.name.now, contract one.entry.contr) kept.old kept.new) }
+    ensures { OnOk result
+        (AddsFlows until.now (one.entry.name.now, contract one.entry.contr) kept.old kept.new) }
 {
     if kept.missing.is_some() {
         return Ok(());
@@ -139,9 +150,11 @@ fn add_next(
     tried: &mut Tried,
     kept: &mut KeptFlows,
 ) -> Result<(), NoMemory>
-    requires sound { IsSoundContract (declarations until.now.choice.decls.now) (contract next.contr) }
+    requires sound { IsSoundContract (declarations until.now.choice.decls.now)
+        (contract next.contr) }
     requires admitted { IsAdmitted (declarations until.now.choice.decls.now) until.now.fixings.now }
-    ensures { OnOk result (Steps (declarations until.now.choice.decls.now) (selection until.now.choice)
+    ensures { OnOk result
+        (Steps (declarations until.now.choice.decls.now) (selection until.now.choice)
         (HasFlows until.now kept.old) (HasFlows until.now kept.new)
         (next.entry.name.now, contract next.entry.contr) tried.old tried.new) }
 {
@@ -175,8 +188,8 @@ fn flows_of_all(
     Ok((tried, kept))
 }
 
-/// The flows of the contracts of a text that are used, or the first stop: at the text, by the name, by acceptance, or at a read that is
-/// not fixed.
+/// The flows of the contracts of a text that are used, or the first stop: at the text, by the name,
+/// by acceptance, or at a read that is not fixed.
 pub fn flows_listed(
     alloc: Global,
     until: &FlowsUntil<'_>,
@@ -198,8 +211,9 @@ pub struct Over {
     pub fixings: Fixings,
 }
 
-/// The last day and the fixings that are asked for, if the word names a day in range and each row of the table is taken. If not, the
-/// contracts that are left are read, for a fault of theirs comes first.
+/// The last day and the fixings that are asked for, if the word names a day in range and each row
+/// of the table is taken. If not, the contracts that are left are read, for a fault of theirs comes
+/// first.
 pub fn flows_over(
     alloc: Global,
     choice: &Choice<'_>,
@@ -209,7 +223,8 @@ pub fn flows_over(
 ) -> Result<Over, Stop>
     requires begun { HasBegun (declarations choice.now.decls.now) reader.old }
     requires table { IsShortTable (given_text table) }
-    ensures over { AnswersOver choice.now reader.old (option_map (λ day. day.word.now) until.entry) (given_text table.entry) result }
+    ensures over { AnswersOver choice.now reader.old (option_map (λ day. day.word.now) until.entry)
+        (given_text table.entry) result }
     ensures unread { IfOk result (λ over. reader.new ≡ reader.old) }
 {
     match last_day(alloc, choice.decls, until) {
@@ -266,7 +281,8 @@ fn lines_over(
     requires begun { HasBegun (declarations choice.decls.now) reader.old }
     requires table { IsShortTable (given_text table) }
     requires chosen { selection choice ≡ of_flows (flows_by asked.now) }
-    ensures { TellsFlows choice.entry reader.old (flows_by asked.now) (given_text table.entry) result }
+    ensures { TellsFlows choice.entry reader.old (flows_by asked.now) (given_text table.entry)
+        result }
 {
     let over = flows_over(alloc, &choice, reader, asked.until, table)?;
     let until = FlowsUntil {
@@ -278,17 +294,19 @@ fn lines_over(
     lines_asked(alloc, &until, reader)
 }
 
-/// What `flows` writes of a portfolio's text over the fixings of a table: the flow lines of the contracts that are asked for, at the
-/// defaults and in their order, or those of their sum; or what stops it. Each contract is read, tried and dropped before the next.
+/// What `flows` writes of a portfolio's text over the fixings of a table: the flow lines of the
+/// contracts that are asked for, at the defaults and in their order, or those of their sum; or what
+/// stops it. Each contract is read, tried and dropped before the next.
 pub fn flows_text(
     alloc: Global,
     text: &[u8],
     asked: &Flows<'_>,
     table: Option<&[u8]>,
 ) -> Result<Vec<u8>, Stop>
-    requires short { length text.now ≤ 16_777_216 }
+    requires short { length text.now ≤ longest_file }
     requires table { IsShortTable (given_text table) }
-    ensures { GoesDone (flows_of_text (flows_by asked.now) text.now (given_text table.entry)) result }
+    ensures { GoesDone (flows_of_text (flows_by asked.now) text.now (given_text table.entry))
+        result }
 {
     let (decls, mut reader) = start_reading(alloc, text)?;
     let setting = defaults(alloc, &decls)?;

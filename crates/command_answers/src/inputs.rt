@@ -1,6 +1,7 @@
 //! The bytes of a command's files, and the texts that they are.
 
 ghost use Rattle.std.specs.Prelude.{◌≡◌, ◌≤◌, length};
+ghost use Rattle.term_core.specs.Limits.{longest_file};
 ghost use Rattle.payoff_lang.specs.CodeBooks.{code_book};
 ghost use Rattle.command_answers.specs.Inputs.{bytes_of, file_at};
 ghost use Rattle.schedule_forms.specs.PlanBooks.{plan_book};
@@ -25,8 +26,9 @@ pub fn file_at(inputs: &[Vec<u8>], index: usize) -> &[u8]
 
 /// The code file of a text.
 pub fn code_of(alloc: Global, bytes: &[u8]) -> Result<CodeFile, Stop>
-    requires { length bytes.now ≤ 16_777_216 }
-    ensures { AnswersBy (λ file. IsReadFrom bytes.now (code_book file)) (IsBadCode bytes.now) result }
+    requires { length bytes.now ≤ longest_file }
+    ensures { AnswersBy (λ file. IsReadFrom bytes.now (code_book file)) (IsBadCode bytes.now)
+        result }
 {
     let file = parse_code(alloc, bytes)?;
     Ok(file)
@@ -34,7 +36,7 @@ pub fn code_of(alloc: Global, bytes: &[u8]) -> Result<CodeFile, Stop>
 
 /// The schedule file of a text.
 pub fn plans_of(alloc: Global, bytes: &[u8]) -> Result<PlanFile, Stop>
-    requires { length bytes.now ≤ 16_777_216 }
+    requires { length bytes.now ≤ longest_file }
     ensures { AnswersStage (plans_of bytes.now) plan_book result }
 {
     let file = parse_plans(alloc, bytes)?;

@@ -71,8 +71,8 @@ fn printed_with(
     Ok(text)
 }
 
-/// What `migrate` writes of a portfolio's text: the text of the same portfolio in version 2; or the fault of the text. Each contract
-/// is read, printed and dropped before the next.
+/// What `migrate` writes of a portfolio's text: the text of the same portfolio in version 2; or the
+/// fault of the text. Each contract is read, printed and dropped before the next.
 pub fn migrated_text(alloc: Global, text: &[u8]) -> Result<Vec<u8>, Stop>
     requires { length text.now ≤ longest_file }
     ensures { GoesDone (migrate_of_text text.now) result }

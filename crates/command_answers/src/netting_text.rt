@@ -4,11 +4,14 @@ ghost use Rattle.std.specs.Prelude.{◌≡◌, ◌≤◌, OnOk, length};
 ghost use Rattle.std.specs.List.{All};
 ghost use Rattle.term_core.specs.Declarations.{declarations};
 ghost use Rattle.term_core.specs.Environments.{IsAdmitted};
+ghost use Rattle.term_core.specs.Limits.{longest_file};
 ghost use Rattle.command_answers.specs.CheckParts.{HasBegun};
 ghost use Rattle.command_answers.specs.ChoosingParts.{selection};
 ghost use Rattle.command_answers.specs.FlowsParts.{IsShortTable, of_flows};
 ghost use Rattle.command_answers.specs.NettingCourse.{flows_of_all, netting_of_text};
-ghost use Rattle.command_answers.specs.NettingParts.{AnswersFlowTables, AnswersTablesOfAll, AnswersTablesOfText, AppendsPositions, IsDuePosition};
+ghost use Rattle.command_answers.specs.NettingParts.{AnswersFlowTables, AnswersTablesOfAll};
+ghost use Rattle.command_answers.specs.NettingParts.{AnswersTablesOfText, AppendsPositions};
+ghost use Rattle.command_answers.specs.NettingParts.{IsDuePosition};
 ghost use Rattle.command_answers.specs.NettingPromise.{TellsPositions, TellsSettlement};
 ghost use Rattle.command_answers.specs.Stopping.{GoesDone};
 ghost use Rattle.command_words.specs.Arguments.{given_text};
@@ -35,7 +38,8 @@ fn append_positions(
     positions: &Positions,
 ) -> Result<(), NoMemory>
     requires { All (IsDuePosition (declarations decls.now)) positions.now.rows.items }
-    ensures { OnOk result (AppendsPositions (declarations decls.now) positions.now.rows.items out.old.items out.new.items) }
+    ensures { OnOk result (AppendsPositions (declarations decls.now) positions.now.rows.items
+        out.old.items out.new.items) }
 {
     for row in &positions.rows {
         position_line(alloc, out, decls, row)?;
@@ -57,7 +61,8 @@ fn tables_listed(
     Ok(listed.tables)
 }
 
-// The flow tables of all contracts that are left of a text, at the defaults and in their order; or what stops `flows` of them.
+// The flow tables of all contracts that are left of a text, at the defaults and in their order; or
+// what stops `flows` of them.
 fn tables_of_all(
     alloc: Global,
     choice: Choice<'_>,
@@ -68,7 +73,8 @@ fn tables_of_all(
     requires begun { HasBegun (declarations choice.decls.now) reader.old }
     requires table { IsShortTable (given_text table) }
     requires all { selection choice ≡ of_flows (flows_of_all (netting_by asked.now)) }
-    ensures { AnswersTablesOfAll choice.entry reader.old (netting_by asked.now) (given_text table.entry) result }
+    ensures { AnswersTablesOfAll choice.entry reader.old (netting_by asked.now)
+        (given_text table.entry) result }
 {
     let over = flows_over(alloc, &choice, reader, asked.until, table)?;
     let until = FlowsUntil {
@@ -87,7 +93,7 @@ fn tables_of_text(
     asked: &Netting<'_>,
     table: Option<&[u8]>,
 ) -> Result<(Decls, Vec<FlowTable>), Stop>
-    requires short { length text.now ≤ 16_777_216 }
+    requires short { length text.now ≤ longest_file }
     requires table { IsShortTable (given_text table) }
     ensures { AnswersTablesOfText (netting_by asked.now) text.now (given_text table.entry) result }
 {
@@ -98,17 +104,18 @@ fn tables_of_text(
     Ok((decls, tables))
 }
 
-/// What `positions` writes of a portfolio's text over the fixings of a table: a line for each party, day and asset of what all contracts
-/// bring the party; or what stops it.
+/// What `positions` writes of a portfolio's text over the fixings of a table: a line for each
+/// party, day and asset of what all contracts bring the party; or what stops it.
 pub fn positions_text(
     alloc: Global,
     text: &[u8],
     asked: &Netting<'_>,
     table: Option<&[u8]>,
 ) -> Result<Vec<u8>, Stop>
-    requires short { length text.now ≤ 16_777_216 }
+    requires short { length text.now ≤ longest_file }
     requires table { IsShortTable (given_text table) }
-    ensures { GoesDone (netting_of_text TellsPositions (netting_by asked.now) text.now (given_text table.entry)) result }
+    ensures { GoesDone (netting_of_text TellsPositions (netting_by asked.now) text.now
+        (given_text table.entry)) result }
 {
     let (decls, tables) = tables_of_text(alloc, text, asked, table)?;
     let found = positions(alloc, &tables)?;
@@ -117,16 +124,18 @@ pub fn positions_text(
     Ok(lines)
 }
 
-/// What `settle` writes: a line for each payment of a table that settles these positions; or what stops it.
+/// What `settle` writes: a line for each payment of a table that settles these positions; or what
+/// stops it.
 pub fn settlement_text(
     alloc: Global,
     text: &[u8],
     asked: &Netting<'_>,
     table: Option<&[u8]>,
 ) -> Result<Vec<u8>, Stop>
-    requires short { length text.now ≤ 16_777_216 }
+    requires short { length text.now ≤ longest_file }
     requires table { IsShortTable (given_text table) }
-    ensures { GoesDone (netting_of_text TellsSettlement (netting_by asked.now) text.now (given_text table.entry)) result }
+    ensures { GoesDone (netting_of_text TellsSettlement (netting_by asked.now) text.now
+        (given_text table.entry)) result }
 {
     let (decls, tables) = tables_of_text(alloc, text, asked, table)?;
     let found = positions(alloc, &tables)?;

@@ -2,6 +2,7 @@
 
 ghost use Rattle.std.specs.Prelude.{◌≤◌, length};
 ghost use Rattle.term_core.specs.Declarations.{declarations};
+ghost use Rattle.term_core.specs.Limits.{longest_file};
 ghost use Rattle.command_words.specs.Arguments.{given_text};
 ghost use Rattle.command_words.specs.Words.{novate_by};
 ghost use Rattle.command_answers.specs.FlowsParts.{IsShortTable};
@@ -31,16 +32,17 @@ fn renaming_of<'a>(alloc: Global, decls: &Decls, asked: &Novate<'a>) -> Result<R
     })
 }
 
-/// What `novate` writes of a portfolio's text over the fixings of a table: what `advance` does, but that what is left of the named
-/// contract has the new party in the place of the old one; or what stops it. That a name is unknown is told before a party that is
-/// not declared, so the contracts that are left are read at such a party.
+/// What `novate` writes of a portfolio's text over the fixings of a table: what `advance` does, but
+/// that what is left of the named contract has the new party in the place of the old one; or what
+/// stops it. That a name is unknown is told before a party that is not declared, so the contracts
+/// that are left are read at such a party.
 pub fn novate_text(
     alloc: Global,
     text: &[u8],
     asked: &Novate<'_>,
     table: Option<&[u8]>,
 ) -> Result<Vec<u8>, Stop>
-    requires short { length text.now ≤ 16_777_216 }
+    requires short { length text.now ≤ longest_file }
     requires table { IsShortTable (given_text table) }
     ensures { GoesDone (novate_of_text (novate_by asked.now) text.now
         (given_text table.entry)) result }

@@ -1,11 +1,12 @@
-//! Commands over fixings: the day that a word asks for, the fixings of a table, and what stops a command that lacks one of
-//! these.
+//! Commands over fixings: the day that a word asks for, the fixings of a table, and what stops a
+//! command that lacks one of these.
 
 ghost use Rattle.std.specs.Prelude.{◌≡◌, ◌≤◌, pos, IfOk};
 ghost use Rattle.term_core.specs.Declarations.{declarations};
 ghost use Rattle.flow_eval.specs.Readiness.{last_day};
 ghost use Rattle.command_answers.specs.CheckParts.{HasBegun};
-ghost use Rattle.command_answers.specs.FlowsParts.{AnswersDay, AnswersFixings, AnswersFixingsOver, IsShortTable, IsStopOf, day_in_range};
+ghost use Rattle.command_answers.specs.FlowsParts.{AnswersDay, AnswersFixings, AnswersFixingsOver};
+ghost use Rattle.command_answers.specs.FlowsParts.{IsShortTable, IsStopOf, day_in_range};
 ghost use Rattle.command_answers.specs.FlowsPromise.{label_name};
 ghost use Rattle.command_words.specs.Arguments.{given_text};
 
@@ -88,8 +89,8 @@ pub fn stop_of(alloc: Global, decls: &Decls, error: FlowErr) -> Stop
     }
 }
 
-/// The fixings of a table, if each of its rows is taken. If not, the contracts that are left are read and tried, for a fault of
-/// theirs comes first.
+/// The fixings of a table, if each of its rows is taken. If not, the contracts that are left are
+/// read and tried, for a fault of theirs comes first.
 pub fn fixings_over(
     alloc: Global,
     choice: &Choice<'_>,

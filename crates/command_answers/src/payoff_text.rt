@@ -2,6 +2,7 @@
 
 ghost use Rattle.std.specs.Prelude.{◌≡◌, ◌≤◌, [], ◌∷◌, IfOk, length};
 ghost use Rattle.term_core.specs.Declarations.{at_one_scale, declarations};
+ghost use Rattle.term_core.specs.Limits.{longest_file};
 ghost use Rattle.term_core.specs.Terms.{contract};
 ghost use Rattle.term_core.specs.WellFormed.{IsClosed};
 ghost use Rattle.contract_parse.specs.NextContracts.{IsSoundContract};
@@ -76,7 +77,8 @@ fn contract_named(
     }
 }
 
-// Stops at a contract of a name that is not accepted at the defaults. An instance is made only where it names a template.
+// Stops at a contract of a name that is not accepted at the defaults. An instance is made only
+// where it names a template.
 fn accept_at_defaults(alloc: Global, decls: &Decls, name: &[u8], contr: &Contr) -> Result<(), Stop>
     requires { IsSoundContract (declarations decls.now) (contract contr.now) }
     ensures { AnswersAcceptedOne (declarations decls.now)
@@ -134,7 +136,8 @@ fn code_text(alloc: Global, decls: &Decls, name: &[u8], code: Code) -> Result<Ve
     file_text(alloc, &file)
 }
 
-// What is written of the contract of the name: its code as it is written, behind the declarations; or what stops the command.
+// What is written of the contract of the name: its code as it is written, behind the declarations;
+// or what stops the command.
 fn payoff_of(
     alloc: Global,
     decls: &Decls,
@@ -153,11 +156,11 @@ fn payoff_of(
     Ok(text)
 }
 
-/// What `payoff` writes of the named contract of a portfolio's text: the code of the contract as it is written, under its name and
-/// behind the portfolio's declarations; or what stops it. The other contracts are read and dropped, and an instance is made only
-/// to be tried.
+/// What `payoff` writes of the named contract of a portfolio's text: the code of the contract as it
+/// is written, under its name and behind the portfolio's declarations; or what stops it. The other
+/// contracts are read and dropped, and an instance is made only to be tried.
 pub fn payoff_text(alloc: Global, text: &[u8], asked: &Payoff<'_>) -> Result<Vec<u8>, Stop>
-    requires { length text.now ≤ 16_777_216 }
+    requires { length text.now ≤ longest_file }
     ensures { GoesDone (payoff_of_text (payoff_by asked.now) text.now) result }
 {
     let (decls, reader) = start_reading(alloc, text)?;

@@ -3,6 +3,7 @@
 ghost use Rattle.std.specs.Prelude.{◌≡◌, ◌≤◌, IfOk, length};
 ghost use Rattle.term_core.specs.Declarations.{declarations};
 ghost use Rattle.term_core.specs.Instances.{HasNumbers, HasSmallSums, IsSetting, instance};
+ghost use Rattle.term_core.specs.Limits.{longest_file};
 ghost use Rattle.term_core.specs.Terms.{contract};
 ghost use Rattle.command_answers.specs.ReadingParts.{LeavesLess, ReadsNext, StartsReading};
 
@@ -14,7 +15,7 @@ use term_core::{Contr, Decls, Setting, has_only_numbers, instantiate};
 
 /// The declarations of a text, and a reader that stands before its first contract.
 pub fn start_reading<'a>(alloc: Global, text: &'a [u8]) -> Result<(Decls, ContractReader<'a>), Stop>
-    requires { length text.now ≤ 16_777_216 }
+    requires { length text.now ≤ longest_file }
     ensures { StartsReading text.entry.now result }
 {
     let start = start_contracts(alloc, text)?;
@@ -34,7 +35,8 @@ pub fn read_next<'a>(
     Ok(next)
 }
 
-/// The contract with the setting's numbers for its names. What names no template is handed back as it is.
+/// The contract with the setting's numbers for its names. What names no template is handed back as
+/// it is.
 pub fn made_of(alloc: Global, contr: Contr, setting: &Setting) -> Result<Contr, NoMemory>
     requires numbers { HasNumbers setting.now.days.items (contract contr) }
     requires sums { HasSmallSums (contract contr) }

@@ -2,13 +2,16 @@
 
 ghost use Rattle.std.specs.Prelude.{◌≡◌, ◌≤◌, ◌+◌, IfOk, length};
 ghost use Rattle.term_core.specs.Declarations.{declarations};
+ghost use Rattle.term_core.specs.Limits.{longest_file};
 ghost use Rattle.payoff_lang.specs.CodeBooks.{code_book};
 ghost use Rattle.scenario_set.specs.Scenarios.{AreAdmitted};
 ghost use Rattle.scenario_set.specs.TotalLines.{total_text};
 ghost use Rattle.command_words.specs.Words.{scenarios_by};
 ghost use Rattle.command_answers.specs.FlowsPromise.{label_name};
-ghost use Rattle.command_answers.specs.ScenarioParts.{AnswersSet, AnswersTotalsOf, CanBeWritten, IsStopOfTotals, LacksInOne};
-ghost use Rattle.command_answers.specs.ScenarioParts.{by_factors, totals_by_curve, totals_by_tables};
+ghost use Rattle.command_answers.specs.ScenarioParts.{AnswersSet, AnswersTotalsOf, CanBeWritten};
+ghost use Rattle.command_answers.specs.ScenarioParts.{IsStopOfTotals, LacksInOne};
+ghost use Rattle.command_answers.specs.ScenarioParts.{by_factors, totals_by_curve};
+ghost use Rattle.command_answers.specs.ScenarioParts.{totals_by_tables};
 ghost use Rattle.command_answers.specs.ScenariosCourse.{scenarios_on};
 ghost use Rattle.command_answers.specs.Stopping.{GoesDone};
 ghost use Rattle.command_answers.specs.ValueParts.{IsReadable, MayAsk, inquiry_of, most_of};
@@ -28,7 +31,7 @@ use term_core::{Decls, Name};
 
 // The scenarios of a table.
 fn scenarios_of(alloc: Global, decls: &Decls, bytes: &[u8]) -> Result<Scenarios, Stop>
-    requires { length bytes.now ≤ 16_777_216 }
+    requires { length bytes.now ≤ longest_file }
     ensures { AnswersSet (declarations decls.now) bytes.now result }
 {
     match read_scenarios(alloc, bytes, decls) {
@@ -46,7 +49,8 @@ fn missing_in(
     label: u32,
     day: i64,
 ) -> Result<Fault, NoMemory>
-    ensures { IfOk result (λ found. found ≡ fault.MissingIn (label_name (declarations decls.now) label) day scenario.now) }
+    ensures { IfOk result (λ found. found
+        ≡ fault.MissingIn (label_name (declarations decls.now) label) day scenario.now) }
 {
     let label = Name::new(alloc, label_name(decls, label))?;
     let scenario = scenario.clone()?;
@@ -88,7 +92,8 @@ fn totals_of(
     requires asks { MayAsk (inquiry_of file.now asking.now) }
     requires most { asking.now.most ≡ most_of (code_book file.now) }
     requires admitted { AreAdmitted (declarations file.now.decls) set.now }
-    ensures { AnswersTotalsOf (by_factors (inquiry_of file.now asking.now) curve.now) set.now result }
+    ensures { AnswersTotalsOf (by_factors (inquiry_of file.now asking.now) curve.now) set.now
+        result }
 {
     let parties = asking.parties;
     match totals(
@@ -138,8 +143,9 @@ fn by_curve(
     requires asks { MayAsk (inquiry_of file.now asking.now) }
     requires most { asking.now.most ≡ most_of (code_book file.now) }
     requires admitted { AreAdmitted (declarations file.now.decls) set.now }
-    requires short { length curve.now ≤ 16_777_216 }
-    ensures { GoesDone (totals_by_curve (inquiry_of file.now asking.now) set.now mean curve.now) result }
+    requires short { length curve.now ≤ longest_file }
+    ensures { GoesDone (totals_by_curve (inquiry_of file.now asking.now) set.now mean curve.now)
+        result }
 {
     let curve = curve_of(alloc, curve)?;
     let totals = totals_of(alloc, file, asking, set, &curve)?;
@@ -159,15 +165,17 @@ fn by_tables(
     requires readable { IsReadable (code_book file.now) }
     requires asks { MayAsk (inquiry_of file.now asking.now) }
     requires most { asking.now.most ≡ most_of (code_book file.now) }
-    requires table { length table.now ≤ 16_777_216 }
-    requires curve { length curve.now ≤ 16_777_216 }
-    ensures { GoesDone (totals_by_tables (inquiry_of file.now asking.now) mean table.now curve.now) result }
+    requires table { length table.now ≤ longest_file }
+    requires curve { length curve.now ≤ longest_file }
+    ensures { GoesDone (totals_by_tables (inquiry_of file.now asking.now) mean table.now curve.now)
+        result }
 {
     let set = scenarios_of(alloc, &file.decls, table)?;
     by_curve(alloc, file, asking, &set, mean, curve)
 }
 
-/// The lines of what a code file is worth in each scenario of a table, and of the total; or what stops the command.
+/// The lines of what a code file is worth in each scenario of a table, and of the total; or what
+/// stops the command.
 pub fn scenarios_text(
     alloc: Global,
     file: &CodeFile,
@@ -176,9 +184,10 @@ pub fn scenarios_text(
     curve: &[u8],
 ) -> Result<Vec<u8>, Stop>
     requires readable { IsReadable (code_book file.now) }
-    requires table { length table.now ≤ 16_777_216 }
-    requires curve { length curve.now ≤ 16_777_216 }
-    ensures { GoesDone (scenarios_on (scenarios_by asked.now) (code_book file.now) table.now curve.now) result }
+    requires table { length table.now ≤ longest_file }
+    requires curve { length curve.now ≤ longest_file }
+    ensures { GoesDone
+        (scenarios_on (scenarios_by asked.now) (code_book file.now) table.now curve.now) result }
 {
     let asking = asking_of(alloc, file, &asked.value)?;
     by_tables(alloc, file, &asking, asked.mean, table, curve)

@@ -31,7 +31,8 @@ pub struct Parties {
 /// The index of a name, or the fault that it is not declared.
 pub fn index_of(alloc: Global, names: &IndexSet<Name>, word: &str) -> Result<u32, Stop>
     requires { index_set_len names.now < 2 ^ 32 }
-    ensures { AnswersBy (λ index. index_in names.now.keys word.now ≡ Some index) (IsUndeclared names.now.keys word.now) result }
+    ensures { AnswersBy (λ index. index_in names.now.keys word.now ≡ Some index)
+        (IsUndeclared names.now.keys word.now) result }
 {
     match names.get_index_of(word.as_bytes()) {
         Some(index) => Ok(index as u32),
@@ -82,7 +83,8 @@ fn know_settings(alloc: Global, decls: &Decls, settings: &IndexMap<Name, u32>) -
 
 /// The parties and the asset, where these and the templates that are set are declared.
 pub fn know_names(alloc: Global, decls: &Decls, value: &Value<'_>) -> Result<Parties, Stop>
-    ensures { AnswersStage (names_of_value (declarations decls.now) (value_by value.now)) flow_of result }
+    ensures { AnswersStage (names_of_value (declarations decls.now) (value_by value.now)) flow_of
+        result }
 {
     let parties = parties_of(alloc, decls, &value.between)?;
     know_settings(alloc, decls, &value.settings)?;
@@ -95,7 +97,8 @@ pub fn setting_of(
     decls: &Decls,
     settings: &IndexMap<Name, u32>,
 ) -> Result<Setting, NoMemory>
-    ensures { IfOk result (λ setting. setting.days.items ≡ setting_by (declarations decls.now) settings.now.entries) }
+    ensures { IfOk result (λ setting. setting.days.items
+        ≡ setting_by (declarations decls.now) settings.now.entries) }
 {
     let mut days = Vec::new(alloc);
     for (name, declared) in &decls.templates {

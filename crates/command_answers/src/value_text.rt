@@ -3,6 +3,7 @@
 ghost use Rattle.std.specs.Prelude.{◌≡◌, ◌≤◌, ◌+◌, ◌^◌, IfOk, length, unsigned_abs};
 ghost use Rattle.term_core.specs.Declarations.{declarations};
 ghost use Rattle.term_core.specs.Environments.{IsAdmitted};
+ghost use Rattle.term_core.specs.Limits.{longest_file};
 ghost use Rattle.flow_eval.specs.declared.faults.FlowErr.TheVariants as flow;
 ghost use Rattle.payoff_lang.specs.CodeBooks.{code_book};
 ghost use Rattle.report.specs.ValueLines.{value_text};
@@ -10,7 +11,8 @@ ghost use Rattle.command_words.specs.Words.{value_by};
 ghost use Rattle.command_answers.specs.FlowsParts.{IsStopOf};
 ghost use Rattle.command_answers.specs.Stopping.{GoesDone};
 ghost use Rattle.command_answers.specs.ValueCourse.{value_on};
-ghost use Rattle.command_answers.specs.ValueParts.{AnswersValueOver, IsReadable, MayAsk, by_curve, by_tables, inquiry_of};
+ghost use Rattle.command_answers.specs.ValueParts.{AnswersValueOver, IsReadable, MayAsk, by_curve};
+ghost use Rattle.command_answers.specs.ValueParts.{by_tables, inquiry_of};
 
 use crate::asking::{Asking, asking_of, curve_of};
 use crate::over_fixings::{fixings_of, stop_of};
@@ -86,7 +88,7 @@ fn by_curve(
     requires readable { IsReadable (code_book file.now) }
     requires asks { MayAsk (inquiry_of file.now asking.now) }
     requires admitted { IsAdmitted (declarations file.now.decls) fixings.now }
-    requires short { length curve.now ≤ 16_777_216 }
+    requires short { length curve.now ≤ longest_file }
     ensures { GoesDone (by_curve (inquiry_of file.now asking.now) fixings.now curve.now) result }
 {
     let curve = curve_of(alloc, curve)?;
@@ -105,8 +107,8 @@ fn by_tables(
 ) -> Result<Vec<u8>, Stop>
     requires readable { IsReadable (code_book file.now) }
     requires asks { MayAsk (inquiry_of file.now asking.now) }
-    requires table { length table.now ≤ 16_777_216 }
-    requires curve { length curve.now ≤ 16_777_216 }
+    requires table { length table.now ≤ longest_file }
+    requires curve { length curve.now ≤ longest_file }
     ensures { GoesDone (by_tables (inquiry_of file.now asking.now) table.now curve.now) result }
 {
     let fixings = fixings_of(alloc, &file.decls, Some(table))?;
@@ -122,9 +124,10 @@ pub fn value_text(
     curve: &[u8],
 ) -> Result<Vec<u8>, Stop>
     requires readable { IsReadable (code_book file.now) }
-    requires table { length table.now ≤ 16_777_216 }
-    requires curve { length curve.now ≤ 16_777_216 }
-    ensures { GoesDone (value_on (value_by value.now) (code_book file.now) table.now curve.now) result }
+    requires table { length table.now ≤ longest_file }
+    requires curve { length curve.now ≤ longest_file }
+    ensures { GoesDone (value_on (value_by value.now) (code_book file.now) table.now curve.now)
+        result }
 {
     let asking = asking_of(alloc, file, value)?;
     by_tables(alloc, file, &asking, table, curve)

@@ -1,5 +1,6 @@
 use Rattle.std.proofs.Common.{◌≤◌, ℕ, List, length, subst, sym}
 use Rattle.std.specs.Prelude.{Some, Err}
+use Rattle.term_core.specs.Limits.{longest_file}
 use Rattle.command_words.specs.Words.{advance_by}
 use Rattle.command_answers.specs.AdvanceCourse.{advance_course}
 use Rattle.command_answers.specs.AdvanceParts.{advance_of_text}
@@ -13,11 +14,11 @@ use Rattle.command_answers.proofs.answers.advance_answer.Goals as goal
 
 pub advance_text-requires-clause-short : goal.advance_text-requires-clause-short
 advance_text-requires-clause-short c =
-    subst (λ (x : List ℕ). length x ≤ 16_777_216) (sym c.file_at.ensures) (file_short (bytes_of c.args.inputs.now) 0 c.requires)
+    subst (λ (x : List ℕ). length x ≤ longest_file) (sym c.file_at.ensures) (file_short (bytes_of c.args.inputs.now) 0 c.requires)
 
 pub advance_text-requires-clause-table : goal.advance_text-requires-clause-table
 advance_text-requires-clause-table c =
-    subst (λ (x : List ℕ). length x ≤ 16_777_216) (sym c.file_at-2.ensures) (file_short (bytes_of c.args.inputs.now) 1 c.requires)
+    subst (λ (x : List ℕ). length x ≤ longest_file) (sym c.file_at-2.ensures) (file_short (bytes_of c.args.inputs.now) 1 c.requires)
 
 pub returns-in_err-text : goal.returns-in_err-text
 returns-in_err-text c =

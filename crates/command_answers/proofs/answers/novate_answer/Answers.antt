@@ -1,5 +1,6 @@
 use Rattle.std.proofs.Common.{◌≤◌, ℕ, List, length, subst, sym}
 use Rattle.std.specs.Prelude.{Some, Err}
+use Rattle.term_core.specs.Limits.{longest_file}
 use Rattle.command_words.specs.Words.{novate_by}
 use Rattle.command_answers.specs.NovateCourse.{novate_course}
 use Rattle.command_answers.specs.NovateParts.{novate_of_text}
@@ -13,11 +14,11 @@ use Rattle.command_answers.proofs.answers.novate_answer.Goals as goal
 
 pub novate_text-requires-clause-short : goal.novate_text-requires-clause-short
 novate_text-requires-clause-short c =
-    subst (λ (x : List ℕ). length x ≤ 16_777_216) (sym c.file_at.ensures) (file_short (bytes_of c.args.inputs.now) 0 c.requires)
+    subst (λ (x : List ℕ). length x ≤ longest_file) (sym c.file_at.ensures) (file_short (bytes_of c.args.inputs.now) 0 c.requires)
 
 pub novate_text-requires-clause-table : goal.novate_text-requires-clause-table
 novate_text-requires-clause-table c =
-    subst (λ (x : List ℕ). length x ≤ 16_777_216) (sym c.file_at-2.ensures) (file_short (bytes_of c.args.inputs.now) 1 c.requires)
+    subst (λ (x : List ℕ). length x ≤ longest_file) (sym c.file_at-2.ensures) (file_short (bytes_of c.args.inputs.now) 1 c.requires)
 
 pub returns-in_err-text : goal.returns-in_err-text
 returns-in_err-text c =

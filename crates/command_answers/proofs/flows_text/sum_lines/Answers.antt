@@ -1,6 +1,7 @@
 use Rattle.std.proofs.Common.{◌≤◌, ℕ, List, [], subst, sym}
 use Rattle.std.specs.Prelude.{codes}
 use Rattle.term_core.specs.Declarations.{declarations}
+use Rattle.term_core.specs.Limits.{longest_file}
 use Rattle.command_answers.specs.FlowsParts.{AppendsLines}
 use Rattle.command_answers.specs.FlowsPromise.{AreLines}
 use Rattle.command_answers.proofs.LineFacts.{rows_writable}
@@ -13,7 +14,7 @@ net-requires-clause-few c =
     let d = declarations until.choice.decls.now in
     let h = c.requires.summable in
     let same = as_many d until.fixings.now until.last until.choice.decls.now.labels_in c.requires.admitted h.entries c.args.tables.now h.are_tables in
-    subst (λ (n : ℕ). n ≤ 16_777_216) (sym same) h.few
+    subst (λ (n : ℕ). n ≤ longest_file) (sym same) h.few
 
 pub net-requires-clause-summable : goal.net-requires-clause-summable
 net-requires-clause-summable c =

@@ -3,6 +3,7 @@ use Rattle.std.specs.Prelude.{Some, None}
 use Rattle.std.proofs.lemmas.Int.{ints, to_z-of_z}
 use Rattle.term_core.specs.Declarations.{declarations}
 use Rattle.fixing_files.specs.Days.{placed_day}
+use Rattle.flow_eval.specs.Readiness.{last_day}
 use Rattle.report.specs.declared.fault_lines.Fault.TheVariants as fault
 use Rattle.command_answers.specs.FlowsParts.{day_in_range}
 use Rattle.command_answers.specs.FlowsPromise.{IsDayAsked}
@@ -17,7 +18,7 @@ returns-in-Some c =
     let day = c.in-Some.day in
     let some : day_in_range d most (placed_day d.origin c.args.asked.named) ≡ Some day = search rules in
     let is = is_asked_day d most word c.args.asked.named day c.args.asked.reads some in
-    let late : day ≤ℤ pos 1_100_000 = (let high = is.2 in let few = c.requires in omega (arith, ints)) in
+    let late : day ≤ℤ pos last_day = (let high = is.2 in let few = c.requires in omega (arith, ints)) in
     let same : to_z w64 (of_z w64 day) ≡ day = to_z-of_z w64 day (fits_day day (asked_first d most word day is) late) in
     subst (λ (x : ℤ). IsDayAsked d most word x) (sym same) is
 
