@@ -70,7 +70,7 @@ as_many [] = refl
 as_many (y ∷ dates) = ap suc (as_many dates)
 
 listed_is : (dates : List Date) (index : ℤ) (i : ℕ) (x : Date) → index ≡ pos i → slice_get dates i ≡ Some x → date_listed dates index ≡ x
-listed_is dates index i x e f = ap (date_listed dates) e ∙ rw f refl
+listed_is dates index i x e f = ap (date_listed dates) e ∙ rw (f, date_listed) refl
 
 -- a date that is put behind the others has their number for its index
 pub put_last : (before : List DateExpr) (x : DateExpr) (s : DeclaredNames) (ts rest : List Tok) → DatePart s (date x) ts rest → ListedDate (dates_of (before ++ x ∷ [])) s (pos (length before)) ts rest
@@ -78,7 +78,7 @@ put_last before x s ts rest d = record {
   number = length before;
   on = date x;
   is = refl;
-  stands = rw one_more before x (subst (λ (i : ℕ). slice_get (dates_of before ++ date x ∷ []) i ≡ Some (date x)) (as_many before) (stands_last (dates_of before) (date x)));
+  stands = rw (one_more before x) (subst (λ (i : ℕ). slice_get (dates_of before ++ date x ∷ []) i ≡ Some (date x)) (as_many before) (stands_last (dates_of before) (date x)));
   spelled = d;
 }
 
@@ -91,7 +91,7 @@ put_keeps before x = record {
           number = d.number;
           on = d.on;
           is = d.is;
-          stands = rw one_more before x (stands_still (dates_of before) (date x ∷ []) d.number d.on d.stands);
+          stands = rw (one_more before x) (stands_still (dates_of before) (date x ∷ []) d.number d.on d.stands);
           spelled = d.spelled;
         };
       } in

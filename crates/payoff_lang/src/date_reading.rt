@@ -14,14 +14,16 @@ use contract_parse::{ReadErr, after_mark, read_date_number, read_use_of_map};
 use std::alloc::Global;
 use term_core::Decls;
 
-// The templates behind a date's number, as they are written. They are put behind those that stand in the list.
+// The templates behind a date's number, as they are written. They are put behind those that stand
+// in the list.
 fn push_templates<'a>(
     decls: &Decls,
     names: &mut Vec<u32>,
     rest: &'a [u8],
 ) -> Result<&'a [u8], ReadErr>
     ensures reads { Reads (Passes decls.now (λ s ps. MoreTemplates ∷ ps))
-        (λ r. AddsTemplates (keys decls.now.templates) names.old.items names.new.items) (λ r. r.now) rest.now result }
+        (λ r. AddsTemplates (keys decls.now.templates) names.old.items names.new.items)
+        (λ r. r.now) rest.now result }
     ensures ends { IfOk result (λ r. LacksMark (codes "+") (tokens r.now)) }
 {
     let mut rest = rest;
@@ -55,7 +57,8 @@ pub fn read_date<'a>(
     decls: &Decls,
     rest: &'a [u8],
 ) -> Result<(DateExpr, &'a [u8]), ReadErr>
-    ensures reads { Reads (Passes decls.now (λ s ps. date_places ps)) (λ r. date_in decls.now r.0) (λ r. r.1.now) rest.now result }
+    ensures reads { Reads (Passes decls.now (λ s ps. date_places ps)) (λ r. date_in decls.now r.0)
+        (λ r. r.1.now) rest.now result }
     ensures ends { IfOk result (λ r. LacksMark (codes "+") (tokens r.1.now)) }
 {
     let (days, rest) = read_date_number(rest)?;

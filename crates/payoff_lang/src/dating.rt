@@ -52,7 +52,8 @@ impl Dating for DateExpr {
 /// The value expression of an expression, by the dates of its offsets.
 pub fn dated<D: Dating>(alloc: Global, dates: &D, e: &Expr) -> Result<Vx, NoMemory>
     requires { HaveDates (D.has dates.now) (expression e.now) }
-    ensures { IfOk result (λ v. value_expression v ≡ with_date (D.on dates.now) (expression e.now)) }
+    ensures { IfOk result (λ v. value_expression v
+        ≡ with_date (D.on dates.now) (expression e.now)) }
 {
     match e {
         Expr::Lit { mant, scale } => Ok(Vx::Lit {

@@ -1,11 +1,13 @@
-//! Laws of payoff code. Each is the contract of a function that does nothing; a caller takes the law by calling it.
+//! Laws of payoff code. Each is the contract of a function that does nothing; a caller takes the
+//! law by calling it.
 
 ghost use Rattle.payoff_lang.specs.LawsCode.{CompiledCodeMeans, CutCodeMeans, CodeIsWellFormed, CodeValuesAreFixed};
 ghost use Rattle.payoff_lang.specs.LawsReading.{CodeFaultsEndFronts, CodeFitsText, CodeOfTextIsClosed, CodeOfTextIsPrintable, CodeTextHasNoFault, CodeTextIsTaken, CodeTextsAreWhole, NamesOfCodeFitText, OneCodeReading};
 ghost use Rattle.payoff_lang.specs.LawsTexts.{CodeCanonExists, CodeCanonIsText, CodeIsSpelled, OneCanonOfCode, PrintableIsWritable, ValuesAreWrittenAsExpressions};
 
-/// The code of a contract means it: at every setting at which the contract is accepted, in every admitted environment, on
-/// every day, for every pair of parties and asset, its value is the sum of the contract's discounted amounts.
+/// The code of a contract means it: at every setting at which the contract is accepted, in every
+/// admitted environment, on every day, for every pair of parties and asset, its value is the sum of
+/// the contract's discounted amounts.
 pub fn code_means()
     ensures { CompiledCodeMeans }
 {}
@@ -15,17 +17,20 @@ pub fn cut_means()
     ensures { CutCodeMeans }
 {}
 
-/// The code of a closed contract is closed, and its dates have their templates in order; so has its cut code.
+/// The code of a closed contract is closed, and its dates have their templates in order; so has its
+/// cut code.
 pub fn code_is_well_formed()
     ensures { CodeIsWellFormed }
 {}
 
-/// Where each place that code reads is fixed, its value is that of the fixings, whatever else is observed.
+/// Where each place that code reads is fixed, its value is that of the fixings, whatever else is
+/// observed.
 pub fn code_values_are_fixed()
     ensures { CodeValuesAreFixed }
 {}
 
-/// A value expression is written as the expression that it is with its dates in a list, but for the leaf.
+/// A value expression is written as the expression that it is with its dates in a list, but for the
+/// leaf.
 pub fn values_are_written_as_expressions()
     ensures { ValuesAreWrittenAsExpressions }
 {}
@@ -45,7 +50,8 @@ pub fn printable_is_writable()
     ensures { PrintableIsWritable }
 {}
 
-/// The canonical text of code spells it wherever a comma, a bracket, a space or a semicolon follows.
+/// The canonical text of code spells it wherever a comma, a bracket, a space or a semicolon
+/// follows.
 pub fn code_is_spelled()
     ensures { CodeIsSpelled }
 {}
@@ -65,8 +71,8 @@ pub fn code_text_has_no_fault()
     ensures { CodeTextHasNoFault }
 {}
 
-/// A fault of bytes that are UTF-8 stands at a token behind a front, and is of Syntax exactly where with that token there
-/// is none.
+/// A fault of bytes that are UTF-8 stands at a token behind a front, and is of Syntax exactly where
+/// with that token there is none.
 pub fn code_faults_end_fronts()
     ensures { CodeFaultsEndFronts }
 {}
@@ -81,7 +87,8 @@ pub fn one_code_reading()
     ensures { OneCodeReading }
 {}
 
-/// The code of a text names only what is declared or bound round it, and at most 400 terms are open at once.
+/// The code of a text names only what is declared or bound round it, and at most 400 terms are open
+/// at once.
 pub fn code_of_text_is_closed()
     ensures { CodeOfTextIsClosed }
 {}
@@ -96,7 +103,8 @@ pub fn code_fits_text()
     ensures { CodeFitsText }
 {}
 
-/// Each set of names that the text of a code file declares has at most as many names as the text has bytes.
+/// Each set of names that the text of a code file declares has at most as many names as the text
+/// has bytes.
 pub fn names_of_code_fit_text()
     ensures { NamesOfCodeFitText }
 {}

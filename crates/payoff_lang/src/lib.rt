@@ -1,14 +1,14 @@
-//! Payoff code in the manner of Annenkov and Elsman (PPDP 2018): what it is, what it is worth and reads, when
-//! it is accepted, what it is that code means a contract, and its texts: their canonical form, and how they
-//! are read.
+//! Payoff code in the manner of Annenkov and Elsman (PPDP 2018): what it is, what it is worth and
+//! reads, when it is accepted, what it is that code means a contract, and its texts: their
+//! canonical form, and how they are read.
 //!
 //! ```text
 //! let file = parse_code(alloc, &bytes)?;
 //! print_code(alloc, &mut out, &file)?;
 //! ```
 //!
-//! Promised: `parse_code` answers the code file of a text or the first fault (`CodeAnswers`); `print_code`
-//! appends exactly its canonical text (`AppendsCode`), or nothing.
+//! Promised: `parse_code` answers the code file of a text or the first fault (`CodeAnswers`);
+//! `print_code` appends exactly its canonical text (`AppendsCode`), or nothing.
 //! Only tested: that they succeed where there is memory (rows of `library_rows`).
 #![tactic(auto)]
 

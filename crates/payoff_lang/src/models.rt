@@ -1,7 +1,7 @@
 //! The observables of code, `model(NAME, DATE)`: their dates are put into a list while an
 //! expression is read.
 
-ghost use Rattle.std.specs.Prelude.{◌≡◌, ◌++◌, ◌∷◌, [], ℤ, IfOk, OnOk, length, pos};
+ghost use Rattle.std.specs.Prelude.{◌≡◌, ◌≤ℤ◌, ◌++◌, ◌∷◌, [], ℤ, IfOk, OnOk, length, pos};
 ghost use Rattle.contract_parse.specs.Names.{DeclaredNames};
 ghost use Rattle.contract_parse.specs.Spelling.{Leaf};
 ghost use Rattle.contract_parse.specs.Places.{date_places};
@@ -38,6 +38,7 @@ impl Models {
 // one expression has more, memory is wanting.
 fn hold(dates: &mut Vec<DateExpr>, on: DateExpr) -> Result<i32, NoMemory>
     ensures index { IfOk result (λ index. index ≡ pos (length dates.old.items)) }
+    ensures small { IfOk result (λ index. index ≤ℤ pos 2_147_483_647) }
     ensures dates { OnOk result (dates.new.items ≡ dates.old.items ++ on ∷ []) }
 {
     let index = i32::try_from(dates.len()).map_err(|_| NoMemory)?;

@@ -10,22 +10,25 @@ use decimal::NoMemory;
 use std::alloc::Global;
 use term_core::Expr;
 
-// The index of the next date. An offset has room for 2^31 of them: where one expression has more, memory is wanting.
+// The index of the next date. An offset has room for 2^31 of them: where one expression has more,
+// memory is wanting.
 fn next_index(dates: &[&DateExpr]) -> Result<i32, NoMemory>
     ensures { IfOk result (λ index. index ≡ pos (length dates.now)) }
 {
     i32::try_from(dates.len()).map_err(|_| NoMemory)
 }
 
-/// The expression of a value expression, in which each observable has the index of its date for an offset. The dates are
-/// lent to the list, behind those that stand there.
+/// The expression of a value expression, in which each observable has the index of its date for an
+/// offset. The dates are lent to the list, behind those that stand there.
 pub fn number_dates<'a>(
     alloc: Global,
     v: &'a Vx,
     dates: &mut Vec<&'a DateExpr>,
 ) -> Result<Expr, NoMemory>
-    ensures expression { IfOk result (λ e. expression e ≡ numbered (dates_lent dates.old.items) (value_expression v.now)) }
-    ensures dates { OnOk result (dates_lent dates.new.items ≡ with_dates (dates_lent dates.old.items) (value_expression v.now)) }
+    ensures expression { IfOk result
+        (λ e. expression e ≡ numbered (dates_lent dates.old.items) (value_expression v.now)) }
+    ensures dates { OnOk result (dates_lent dates.new.items
+        ≡ with_dates (dates_lent dates.old.items) (value_expression v.now)) }
 {
     match v {
         Vx::Lit { mant, scale } => Ok(Expr::Lit {

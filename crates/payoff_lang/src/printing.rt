@@ -26,7 +26,8 @@ use term_core::Decls;
 
 // The templates of a date.
 fn append_templates(out: &mut Vec<u8>, decls: &Decls, names: &[u32]) -> Result<(), NoMemory>
-    ensures { OnOk result (out.new.items ≡ out.old.items ++ names_text (declared_for_code (declarations decls.now)) names.now) }
+    ensures { OnOk result (out.new.items
+        ≡ out.old.items ++ names_text (declared_for_code (declarations decls.now)) names.now) }
 {
     for name in names {
         append(out, b" + ")?;
@@ -43,7 +44,8 @@ fn append_date(
     decls: &Decls,
     on: &DateExpr,
 ) -> Result<(), NoMemory>
-    ensures { OnOk result (out.new.items ≡ out.old.items ++ date_text (declared_for_code (declarations decls.now)) (date on.now)) }
+    ensures { OnOk result (out.new.items
+        ≡ out.old.items ++ date_text (declared_for_code (declarations decls.now)) (date on.now)) }
 {
     write(alloc, out, on.days as i128, 0)?;
     append_templates(out, decls, &on.names)
@@ -253,15 +255,17 @@ fn append_file(
     file: &CodeFile,
 ) -> Result<(), NoMemory>
     requires { IsWritableCode (code_book file.now).code }
-    ensures { OnOk result (out.new.items ≡ out.old.items ++ code_book_text date.now (code_book file.now)) }
+    ensures { OnOk result (out.new.items
+        ≡ out.old.items ++ code_book_text date.now (code_book file.now)) }
 {
     append_header(out)?;
     append_decls(alloc, out, date, &file.decls)?;
     append_code_line(alloc, out, file)
 }
 
-/// Appends the canonical text of a code file. The text is made in memory of its own and appended at once: where memory runs
-/// out, nothing is appended. Code that a text can stand for may be printed (`laws::printable_is_writable`).
+/// Appends the canonical text of a code file. The text is made in memory of its own and appended at
+/// once: where memory runs out, nothing is appended. Code that a text can stand for may be printed
+/// (`laws::printable_is_writable`).
 pub fn print_code(alloc: Global, out: &mut Vec<u8>, file: &CodeFile) -> Result<(), NoMemory>
     requires version { (code_book file.now).declarations.version ≡ 1 }
     requires writable { IsWritableCode (code_book file.now).code }

@@ -1,4 +1,4 @@
-use Rattle.std.proofs.Common.{[], ap, arith, sym, subst, rules}
+use Rattle.std.proofs.Common.{[], ◌∙◌, ap, arith, sym, subst, rules}
 use Rattle.term_core.specs.Sizes.{height}
 use Rattle.term_core.specs.Terms.{expression}
 use Rattle.contract_parse.specs.Tokens.{tokens}
@@ -25,5 +25,5 @@ returns-clause-reads c = record {
 
 pub returns-clause-high : goal.returns-clause-high
 returns-clause-high c =
-    let same = height_dated _ (expression c.in_ok-e.e) in
-    omega (arith, c.in_ok-e.ensures.high, same, ap (λ (v : ValueExpression). height (plain v)) c.in_ok-v.ensures)
+    let same = ap (λ (v : ValueExpression). height (plain v)) c.in_ok-v.ensures ∙ height_dated _ (expression c.in_ok-e.e) in
+    omega (arith, c.in_ok-e.ensures.high, same)
