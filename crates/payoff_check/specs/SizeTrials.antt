@@ -1,7 +1,11 @@
--- The trial of the rule on sizes at a setting: the size of a part, or its first node that breaks the rule. Of a value
--- expression the node is told by its place, counted from the expression's own first node.
-use Rattle.std.specs.Prelude.{ℕ, ◌+◌, ◌*◌, ◌≤◌, max, nat_le, ◌&&◌, Bool, List, Result, Ok, Err, if◌then◌else◌}
-use Rattle.term_core.specs.Terms.{Expression, Lit, Yes, Var, Obs, Neg, Num, Cmp, Not, Logic, Cond, Widen, Round, Div, Acc}
+-- The trial of the rule on sizes at a setting: the size of a part, or its first node that breaks
+-- the rule. Of a value expression the node is told by its place, counted from the expression's own
+-- first node.
+use Rattle.std.specs.Prelude.{ℕ, ◌+◌, ◌*◌, ◌≤◌, max, nat_le, ◌&&◌, Bool, List, Result, Ok, Err}
+use Rattle.std.specs.Prelude.{if◌then◌else◌}
+use Rattle.term_core.specs.Terms.{Expression, Lit, Yes, Var, Obs, Neg, Num, Cmp, Not, Logic, Cond}
+use Rattle.term_core.specs.Terms.{Widen, Round, Div, Acc}
+use Rattle.term_core.specs.Limits.{most_days, most_height_of_code}
 use Rattle.term_core.specs.Sizes.{nodes}
 use Rattle.term_core.specs.Trying.{then_do, moved}
 use Rattle.payoff_lang.specs.TemplateDates.{day_of}
@@ -23,7 +27,12 @@ abbrev pub over_one : ValueSize → ValueSize
 over_one a = record { height = a.height + 1; nodes = a.nodes + 1; work = 1 + a.work }
 
 abbrev pub over_two : ValueSize → ValueSize → ValueSize
-over_two a b = record { height = max a.height b.height + 1; nodes = a.nodes + b.nodes + 1; work = 1 + (a.work + b.work) }
+over_two a b =
+    record {
+      height = max a.height b.height + 1;
+      nodes = a.nodes + b.nodes + 1;
+      work = 1 + (a.work + b.work);
+    }
 
 abbrev pub over_three : ValueSize → ValueSize → ValueSize → ValueSize
 over_three t a b = record {
@@ -35,14 +44,18 @@ over_three t a b = record {
 -- an accumulator over n days
 abbrev pub over_days : ValueSize → ℕ → ValueSize → ValueSize
 over_days body n first =
-    record { height = max body.height first.height + 1; nodes = body.nodes + first.nodes + 1; work = 1 + (first.work + n * body.work) }
+    record {
+      height = max body.height first.height + 1;
+      nodes = body.nodes + first.nodes + 1;
+      work = 1 + (first.work + n * body.work);
+    }
 
 abbrev pub value_fits : ValueSize → Bool
 value_fits s = within_code_limits s.height s.nodes s.work
 
 -- the size of a part with a count of days, else a fault here
 abbrev pub limited : ℕ → ValueSize → Result ValueSize ℕ
-limited days s = if value_fits s && nat_le days 100_000 then Ok s else Err 0
+limited days s = if value_fits s && nat_le days most_days then Ok s else Err 0
 
 -- of an observable, by whether its date is within its range
 abbrev pub dated : Bool → Result ValueSize ℕ
@@ -56,17 +69,21 @@ one_tried a = then_do (moved 1 a) (λ s. limited 0 (over_one s))
 
 -- an operator on two operands, of which the first has n nodes
 abbrev pub two_tried : ℕ → Answer → Answer → Answer
-two_tried n a b = then_do (moved 1 a) (λ s. then_do (moved (1 + n) b) (λ t. limited 0 (over_two s t)))
+two_tried n a b =
+    then_do (moved 1 a) (λ s. then_do (moved (1 + n) b) (λ t. limited 0 (over_two s t)))
 
 -- an `if`, of which the test has m nodes, and the first branch n
 abbrev pub three_tried : ℕ → ℕ → Answer → Answer → Answer → Answer
 three_tried m n t a b =
-    then_do (moved 1 t) (λ s. then_do (moved (1 + m) a) (λ x. then_do (moved m (moved (1 + n) b)) (λ y. limited 0 (over_three s x y))))
+    then_do (moved 1 t)
+    (λ s. then_do (moved (1 + m) a)
+    (λ x. then_do (moved m (moved (1 + n) b)) (λ y. limited 0 (over_three s x y))))
 
 -- an accumulator over some days, whose body has n nodes
 abbrev pub acc_tried : ℕ → ℕ → Answer → Answer → Answer
 acc_tried n days first body =
-    then_do (moved (1 + n) first) (λ s. then_do (moved 1 body) (λ t. limited days (over_days t days s)))
+    then_do (moved (1 + n) first)
+    (λ s. then_do (moved 1 body) (λ t. limited days (over_days t days s)))
 
 -- the expression that a value expression is at a setting
 abbrev pub size_tried : Expression → Answer
@@ -79,7 +96,8 @@ size_tried (Num op a b) = two_tried (nodes a) (size_tried a) (size_tried b)
 size_tried (Cmp op a b) = two_tried (nodes a) (size_tried a) (size_tried b)
 size_tried (Not e) = one_tried (size_tried e)
 size_tried (Logic op a b) = two_tried (nodes a) (size_tried a) (size_tried b)
-size_tried (Cond t a b) = three_tried (nodes t) (nodes a) (size_tried t) (size_tried a) (size_tried b)
+size_tried (Cond t a b) =
+    three_tried (nodes t) (nodes a) (size_tried t) (size_tried a) (size_tried b)
 size_tried (Widen s e) = one_tried (size_tried e)
 size_tried (Round mode s e) = one_tried (size_tried e)
 size_tried (Div mode s a b) = two_tried (nodes a) (size_tried a) (size_tried b)
@@ -94,7 +112,7 @@ tried_at xs v = size_tried (at_setting xs (value_expression v))
 
 -- what is known of the size of a part that is within the limits
 pub record IsLimited (s : ValueSize) : Type 0 where
-  pub height_in : s.height ≤ 400
+  pub height_in : s.height ≤ most_height_of_code
   pub nodes_in : s.nodes ≤ 200_000
   pub work_in : s.work ≤ 10_000_000
 
@@ -105,11 +123,22 @@ unit = record { height = 1; nodes = 1; work = 0; days = 0 }
 
 abbrev pub together : CodeSize → CodeSize → CodeSize
 together a b =
-    record { height = max a.height b.height + 1; nodes = a.nodes + b.nodes + 1; work = a.work + b.work; days = max a.days b.days }
+    record {
+      height = max a.height b.height + 1;
+      nodes = a.nodes + b.nodes + 1;
+      work = a.work + b.work;
+      days = max a.days b.days;
+    }
 
 -- a part behind a value expression
 abbrev pub behind : ValueSize → CodeSize → CodeSize
-behind u a = record { height = max u.height a.height + 1; nodes = u.nodes + a.nodes + 1; work = u.work + a.work; days = a.days }
+behind u a =
+    record {
+      height = max u.height a.height + 1;
+      nodes = u.nodes + a.nodes + 1;
+      work = u.work + a.work;
+      days = a.days;
+    }
 
 abbrev pub over : CodeSize → CodeSize
 over a = record { height = a.height + 1; nodes = a.nodes + 1; work = a.work; days = a.days }
@@ -124,7 +153,7 @@ looped u n a b = record {
 }
 
 abbrev pub code_fits : CodeSize → Bool
-code_fits s = within_code_limits s.height s.nodes s.work && nat_le s.days 100_000
+code_fits s = within_code_limits s.height s.nodes s.work && nat_le s.days most_days
 
 abbrev pub limited_code : CodeSize → ℕ → Result CodeSize ℕ
 limited_code s n = if code_fits s then Ok s else Err n
@@ -142,7 +171,8 @@ sizing xs = record {
   sum = λ a b n. limited_code (together a b) n;
   scaled = λ u a n. limited_code (behind u a) n;
   bound = λ u a n. limited_code (behind u a) n;
-  looped = λ u x a b n. dated_code (is_upto (day_of xs x)) (looped u (as_count (day_of xs x)) a b) n;
+  looped = λ u x a b n.
+      dated_code (is_upto (day_of xs x)) (looped u (as_count (day_of xs x)) a b) n;
   cut = λ x a n. dated_code (is_date (day_of xs x)) (over a) n;
 }
 
@@ -150,7 +180,7 @@ abbrev pub sizes_tried : List ℕ → PayoffCode → ℕ → Result CodeSize ℕ
 sizes_tried xs k n = code_tried (sizing xs) k tt n
 
 pub record IsLimitedCode (s : CodeSize) : Type 0 where
-  pub height_in : s.height ≤ 400
+  pub height_in : s.height ≤ most_height_of_code
   pub nodes_in : s.nodes ≤ 200_000
   pub work_in : s.work ≤ 10_000_000
-  pub days_in : s.days ≤ 100_000
+  pub days_in : s.days ≤ most_days

@@ -5,6 +5,7 @@ ghost use Rattle.payoff_lang.specs.TemplateDates.{date, day_of, sum_at};
 ghost use Rattle.payoff_lang.specs.CodeAcceptance as rule;
 
 use payoff_lang::DateExpr;
+use term_core::MOST_DAYS;
 
 // The number that a setting has for a template, and 0 where it has none.
 fn number_at(setting: &[u32], name: u32) -> u32
@@ -17,7 +18,8 @@ fn number_at(setting: &[u32], name: u32) -> u32
     }
 }
 
-// The numbers of templates, added up. A date may name millions of them, so the sum may leave 32 bits.
+// The numbers of templates, added up. A date may name millions of them, so the sum may leave 32
+// bits.
 fn days_of(setting: &[u32], names: &[u32]) -> u128
     ensures sum { result ≡ sum_at setting.now names.now }
     ensures few { result ≤ 2 ^ 96 }
@@ -47,5 +49,5 @@ pub fn is_date(day: i128) -> bool
 pub fn is_upto(day: i128) -> bool
     ensures { result ≡ rule.is_upto day }
 {
-    0 <= day && day <= 100_000
+    0 <= day && day <= MOST_DAYS as i128
 }

@@ -14,6 +14,7 @@
 mod bound_rule;
 mod checks;
 mod days;
+mod decimals;
 mod laws;
 mod part_sizes;
 mod plain_code;

@@ -1,18 +1,20 @@
-//! How large a part of payoff code is, from the sizes of its own parts, and the limits of the rule on sizes. Parts are within
-//! the limits before their whole is made, and day counts are below 2^32, so that no number leaves its integer.
+//! How large a part of payoff code is, from the sizes of its own parts, and the limits of the rule
+//! on sizes. Parts are within the limits before their whole is made, and day counts are below 2^32,
+//! so that no number leaves its integer.
 
 ghost use Rattle.std.specs.Prelude.{◌≡◌, ◌+◌, ◌≤◌, ◌<◌, ◌^◌, IfOk, IfErr};
+ghost use Rattle.term_core.specs.Limits.{most_days};
 
-// The limits of the rule on sizes of payoff code: nodes on a path, nodes, days of one loop or window, steps.
-const MOST_HEIGHT: u32 = 400;
+use term_core::{MOST_DAYS, MOST_HEIGHT_OF_CODE};
 
+// The limits of the rule on sizes of payoff code that are no limits of the language besides: nodes,
+// steps.
 const MOST_NODES: u32 = 200_000;
-
-const MOST_DAYS: u32 = 100_000;
 
 const MOST_WORK: u64 = 10_000_000;
 
-/// A value expression's longest path, counted in nodes; its nodes; and the steps in which it is evaluated.
+/// A value expression's longest path, counted in nodes; its nodes; and the steps in which it is
+/// evaluated.
 #[derive(Clone, Copy)]
 pub struct ValueSize {
     pub height: u32,
@@ -21,7 +23,8 @@ pub struct ValueSize {
 }
 
 impl ValueSize {
-    ghost use Rattle.payoff_check.specs.SizeTrials.{IsLimited, dated, leaf, limited, over_days, over_one, over_three, over_two};
+    ghost use Rattle.payoff_check.specs.SizeTrials.{IsLimited, dated, leaf, limited};
+    ghost use Rattle.payoff_check.specs.SizeTrials.{over_days, over_one, over_three, over_two};
 
     /// A value expression without parts.
     pub fn leaf() -> ValueSize
@@ -99,13 +102,14 @@ impl ValueSize {
         }
     }
 
-    /// This size, where a part of it and of this count of days is within the limits, else a fault at the part's own node.
+    /// This size, where a part of it and of this count of days is within the limits, else a fault
+    /// at the part's own node.
     pub fn limited(self, days: u32) -> Result<ValueSize, u32>
         ensures size { result ≡ limited days self }
         ensures limits { IfOk result IsLimited }
         ensures here { IfErr result (λ node. node ≡ 0) }
     {
-        if self.height <= MOST_HEIGHT
+        if self.height <= MOST_HEIGHT_OF_CODE
             && self.nodes <= MOST_NODES
             && self.work <= MOST_WORK
             && days <= MOST_DAYS
@@ -117,8 +121,8 @@ impl ValueSize {
     }
 }
 
-/// Code's longest path, counted in nodes; its nodes; the steps in which it is evaluated; and how many days its loops move
-/// the base at most, one within another.
+/// Code's longest path, counted in nodes; its nodes; the steps in which it is evaluated; and how
+/// many days its loops move the base at most, one within another.
 #[derive(Clone, Copy)]
 pub struct CodeSize {
     pub height: u32,
@@ -128,7 +132,8 @@ pub struct CodeSize {
 }
 
 impl CodeSize {
-    ghost use Rattle.payoff_check.specs.SizeTrials.{IsLimited, IsLimitedCode, behind, limited_code, looped, over, together, unit};
+    ghost use Rattle.payoff_check.specs.SizeTrials.{IsLimited, IsLimitedCode, behind, limited_code};
+    ghost use Rattle.payoff_check.specs.SizeTrials.{looped, over, together, unit};
 
     /// Code without parts.
     pub fn unit() -> CodeSize
@@ -183,11 +188,12 @@ impl CodeSize {
         }
     }
 
-    /// A `loop` whose test is tried on the days up to a last one, with this part entered on its days.
+    /// A `loop` whose test is tried on the days up to a last one, with this part entered on its
+    /// days.
     pub fn looped(self, test: ValueSize, upto: u32, miss: CodeSize) -> CodeSize
         requires hit { IsLimitedCode self }
         requires test { IsLimited test }
-        requires upto { upto ≤ 100_000 }
+        requires upto { upto ≤ most_days }
         requires miss { IsLimitedCode miss }
         ensures { result ≡ looped test upto self miss }
     {
@@ -205,7 +211,7 @@ impl CodeSize {
         ensures limits { IfOk result IsLimitedCode }
         ensures nodes { IfOk result (λ size. size.nodes ≡ self.nodes) }
     {
-        if self.height <= MOST_HEIGHT
+        if self.height <= MOST_HEIGHT_OF_CODE
             && self.nodes <= MOST_NODES
             && self.work <= MOST_WORK
             && self.days <= MOST_DAYS

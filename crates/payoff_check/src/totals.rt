@@ -1,20 +1,20 @@
-//! Totals of payoff code. Each operation answers a fault at the node itself where a total is more than 10^37, as it is or at
-//! nine more decimals than the portfolio's.
+//! Totals of payoff code. Each operation answers a fault at the node itself where a total is more
+//! than 10^37, as it is or at nine more decimals than the portfolio's.
 
-ghost use Rattle.std.specs.Prelude.{◌≡◌, ◌≤◌, ◌<◌, ◌+◌, ◌-◌, ◌*◌, ◌^◌, nat_le, IfOk};
+ghost use Rattle.std.specs.Prelude.{◌≡◌, ◌≤◌, ◌<◌, ◌+◌, ◌-◌, ◌^◌, nat_le, IfOk};
 ghost use Rattle.term_core.specs.Limits.{greatest_mantissa};
 ghost use Rattle.interval_check.specs.Intervals.{interval};
 ghost use Rattle.interval_check.specs.Ranges.{IsFit, range};
-ghost use Rattle.payoff_check.specs.BoundTrials.{IsFitting, at_decimals, total_here, of_sum, of_product, of_branches, ranged};
+ghost use Rattle.payoff_check.specs.BoundTrials.{IsFitting, at_decimals, of_branches, of_product};
+ghost use Rattle.payoff_check.specs.BoundTrials.{of_sum, ranged, total_here};
 
 use crate::bound_rule::Ranged;
-use decimal::pow10;
+use crate::decimals::Decimals;
+use decimal::{GREATEST_MANTISSA, pow10};
 use interval_check::greatest_size_in;
 
-// The greatest total, 10^37.
-const GREATEST: u128 = 10_000_000_000_000_000_000_000_000_000_000_000_000;
-
-/// The most that code can be worth in size, whatever is observed, in units of its scale; and its nodes.
+/// The most that code can be worth in size, whatever is observed, in units of its scale; and its
+/// nodes.
 #[derive(Clone, Copy)]
 pub struct CodeTotal {
     pub amount: u128,
@@ -23,42 +23,38 @@ pub struct CodeTotal {
 }
 
 // The power of ten by which a total is multiplied at a count of decimals.
-fn power(decimals: u8, of: CodeTotal) -> u128
-    requires { decimals ≤ 21 }
-    ensures { result ≡ 10 ^ (decimals - of.scale) }
+fn power(decimals: Decimals, of: CodeTotal) -> u128
+    ensures { result ≡ 10 ^ (decimals.count - of.scale) }
 {
-    pow10(decimals.saturating_sub(of.scale)).unsigned_abs()
+    pow10(decimals.count.saturating_sub(of.scale)).unsigned_abs()
 }
 
 // A total at a count of decimals that is not less than its scale.
-fn amount_at(decimals: u8, of: CodeTotal) -> u128
-    requires decimals { decimals ≤ 21 }
-    requires small { at_decimals decimals of ≤ 10 ^ 37 }
-    ensures { result ≡ at_decimals decimals of }
+fn amount_at(decimals: Decimals, of: CodeTotal) -> u128
+    requires { at_decimals decimals.count of ≤ greatest_mantissa }
+    ensures { result ≡ at_decimals decimals.count of }
 {
     of.amount * power(decimals, of)
 }
 
 // Whether a total is at most 10^37 at a count of decimals.
-fn is_small_at(decimals: u8, of: CodeTotal) -> bool
-    requires { decimals ≤ 21 }
-    ensures { result ≡ nat_le (at_decimals decimals of) greatest_mantissa }
+fn is_small_at(decimals: Decimals, of: CodeTotal) -> bool
+    ensures { result ≡ nat_le (at_decimals decimals.count of) greatest_mantissa }
 {
     match of.amount.checked_mul(power(decimals, of)) {
-        Some(amount) => amount <= GREATEST,
+        Some(amount) => amount <= GREATEST_MANTISSA,
         None => false,
     }
 }
 
 /// A total that fits, else a fault at its node.
-pub fn checked(decimals: u8, of: CodeTotal, node: u32) -> Result<CodeTotal, u32>
-    requires { decimals ≤ 21 }
-    ensures total { result ≡ total_here decimals of node }
+pub fn checked(decimals: Decimals, of: CodeTotal, node: u32) -> Result<CodeTotal, u32>
+    ensures total { result ≡ total_here decimals.count of node }
     ensures nodes { IfOk result (λ t. t.nodes ≡ of.nodes) }
-    ensures fits { IfOk result (λ t. IsFitting decimals t) }
+    ensures fits { IfOk result (λ t. IsFitting decimals.count t) }
 {
-    if of.scale <= decimals {
-        if of.amount <= GREATEST && is_small_at(decimals, of) {
+    if of.scale <= decimals.count {
+        if of.amount <= GREATEST_MANTISSA && is_small_at(decimals, of) {
             Ok(of)
         } else {
             Err(node)
@@ -69,18 +65,23 @@ pub fn checked(decimals: u8, of: CodeTotal, node: u32) -> Result<CodeTotal, u32>
 }
 
 /// The total of two parts together.
-pub fn sum_of(decimals: u8, left: CodeTotal, right: CodeTotal, node: u32) -> Result<CodeTotal, u32>
-    requires decimals { decimals ≤ 21 }
-    requires left { IsFitting decimals left }
-    requires right { IsFitting decimals right }
+pub fn sum_of(
+    decimals: Decimals,
+    left: CodeTotal,
+    right: CodeTotal,
+    node: u32,
+) -> Result<CodeTotal, u32>
+    requires left { IsFitting decimals.count left }
+    requires right { IsFitting decimals.count right }
     requires nodes { left.nodes + right.nodes + 1 < 2 ^ 32 }
-    ensures total { result ≡ total_here decimals (of_sum left right) node }
+    ensures total { result ≡ total_here decimals.count (of_sum left right) node }
     ensures nodes { IfOk result (λ t. t.nodes ≡ left.nodes + right.nodes + 1) }
-    ensures fits { IfOk result (λ t. IsFitting decimals t) }
+    ensures fits { IfOk result (λ t. IsFitting decimals.count t) }
 {
     let scale = left.scale.max(right.scale);
+    let shared = Decimals { count: scale };
     let of = CodeTotal {
-        amount: amount_at(scale, left) + amount_at(scale, right),
+        amount: amount_at(shared, left) + amount_at(shared, right),
         scale,
         nodes: left.nodes + right.nodes + 1,
     };
@@ -89,23 +90,23 @@ pub fn sum_of(decimals: u8, left: CodeTotal, right: CodeTotal, node: u32) -> Res
 
 /// The total of two parts of which one is entered, behind a test of so many nodes.
 pub fn greater_of(
-    decimals: u8,
+    decimals: Decimals,
     count: u32,
     hit: CodeTotal,
     miss: CodeTotal,
     node: u32,
 ) -> Result<CodeTotal, u32>
-    requires decimals { decimals ≤ 21 }
-    requires hit { IsFitting decimals hit }
-    requires miss { IsFitting decimals miss }
+    requires hit { IsFitting decimals.count hit }
+    requires miss { IsFitting decimals.count miss }
     requires nodes { count + hit.nodes + miss.nodes + 1 < 2 ^ 32 }
-    ensures total { result ≡ total_here decimals (of_branches count hit miss) node }
+    ensures total { result ≡ total_here decimals.count (of_branches count hit miss) node }
     ensures nodes { IfOk result (λ t. t.nodes ≡ count + hit.nodes + miss.nodes + 1) }
-    ensures fits { IfOk result (λ t. IsFitting decimals t) }
+    ensures fits { IfOk result (λ t. IsFitting decimals.count t) }
 {
     let scale = hit.scale.max(miss.scale);
+    let shared = Decimals { count: scale };
     let of = CodeTotal {
-        amount: amount_at(scale, hit).max(amount_at(scale, miss)),
+        amount: amount_at(shared, hit).max(amount_at(shared, miss)),
         scale,
         nodes: count + hit.nodes + miss.nodes + 1,
     };
@@ -114,18 +115,17 @@ pub fn greater_of(
 
 /// The total of a part that is multiplied by a number.
 pub fn product_of(
-    decimals: u8,
+    decimals: Decimals,
     factor: Ranged,
     body: CodeTotal,
     node: u32,
 ) -> Result<CodeTotal, u32>
-    requires decimals { decimals ≤ 21 }
     requires factor { IsFit (range factor.range) }
-    requires body { IsFitting decimals body }
+    requires body { IsFitting decimals.count body }
     requires nodes { factor.nodes + body.nodes + 1 < 2 ^ 32 }
-    ensures total { result ≡ total_here decimals (of_product (ranged factor) body) node }
+    ensures total { result ≡ total_here decimals.count (of_product (ranged factor) body) node }
     ensures nodes { IfOk result (λ t. t.nodes ≡ factor.nodes + body.nodes + 1) }
-    ensures fits { IfOk result (λ t. IsFitting decimals t) }
+    ensures fits { IfOk result (λ t. IsFitting decimals.count t) }
 {
     let scale = factor.range.kind.scale() + body.scale;
     let nodes = factor.nodes + body.nodes + 1;
