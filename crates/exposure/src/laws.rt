@@ -1,28 +1,27 @@
-//! What follows of the definitions. Each law is the contract of a function that does nothing; a caller takes the law by
-//! calling it.
+//! What follows of the definitions. Each law is the contract of a function that does nothing; a
+//! caller takes the law by calling it.
 
-ghost use Rattle.exposure.specs.LiteralLists.{AllLiteralsAreListed};
-ghost use Rattle.exposure.specs.Renaming.{EachHasSources, FlowsAreRenamed, AmountsAreRenamed, RulesAreKept, AcceptanceIsKept, FactsAreKept, SizesAreKept, ReadsAreKept, LiteralsAreKept, LimitsAreKept, NumbersAreKept, FormIsKept, RedexesAreKept, ResidualsAreRenamed};
+ghost use Rattle.exposure.specs.Renaming.{AcceptanceStays, AmountsAreRenamed, EachHasSources};
+ghost use Rattle.exposure.specs.Renaming.{FlowsAreRenamed, FormStays, LiteralsStay, ReadsAreKept};
+ghost use Rattle.exposure.specs.Renaming.{RedexesAreKept, ResidualsAreRenamed, SizesAreKept};
 ghost use Rattle.exposure.specs.LawsAnswers.{PositionsAreOne, SettlementsAreOne};
-ghost use Rattle.exposure.specs.LawsTables.{ManyTablesAddUp, PositionsAreWhole, PositionsAreWithin, PositionsStandInTime, SettledAreWhole, SettledAreWithin, SettledStandInTime, TablesAddUp};
+ghost use Rattle.exposure.specs.LawsTables.{ManyTablesAddUp, PositionsAreWhole, PositionsAreWithin};
+ghost use Rattle.exposure.specs.LawsTables.{PositionsStandInTime, SettledAreWhole};
+ghost use Rattle.exposure.specs.LawsTables.{SettledAreWithin, SettledStandInTime, TablesAddUp};
 
-/// A renamed contract is accepted exactly where the contract is, with the same facts; it reads nothing more, has the same
-/// literals, and no redex comes or goes.
+/// A renamed contract is accepted exactly where the contract is, with the same facts; it reads
+/// nothing more, has the same literals, and no redex comes or goes.
 pub fn renaming_keeps_rules()
-    ensures rules { RulesAreKept }
-    ensures accepted { AcceptanceIsKept }
-    ensures facts { FactsAreKept }
+    ensures acceptance { AcceptanceStays }
     ensures sizes { SizesAreKept }
     ensures reads { ReadsAreKept }
-    ensures listed { AllLiteralsAreListed }
-    ensures literals { LiteralsAreKept }
-    ensures limits { LimitsAreKept }
-    ensures numbers { NumbersAreKept }
-    ensures form { FormIsKept }
+    ensures literals { LiteralsStay }
+    ensures form { FormStays }
     ensures redexes { RedexesAreKept }
 {}
 
-/// Between two parties a renamed contract pays what the contract pays between all that stand for them.
+/// Between two parties a renamed contract pays what the contract pays between all that stand for
+/// them.
 pub fn renamed_contracts_pay_as_renamed()
     ensures sources { EachHasSources }
     ensures flows { FlowsAreRenamed }
@@ -36,8 +35,9 @@ pub fn accepted_tables_add_up()
     ensures many { ManyTablesAddUp }
 {}
 
-/// Positions, and payments that settle them, stand on the days of the tables, and none is more than the tables add up to.
-/// Where the amounts of the tables are whole numbers at the decimals of their assets, so are theirs.
+/// Positions, and payments that settle them, stand on the days of the tables, and none is more than
+/// the tables add up to. Where the amounts of the tables are whole numbers at the decimals of their
+/// assets, so are theirs.
 pub fn settlement_keeps_within_tables()
     ensures days { PositionsStandInTime }
     ensures settled_days { SettledStandInTime }
