@@ -31,9 +31,9 @@ abbrev pub undated_code : PlainCode → UndatedCode
 undated_code None' = Empty
 undated_code Pay' = Payment
 undated_code (Add' p a q b) = Both (undated_code a) (undated_code b)
-undated_code (Scale' e p k) = Multiple (expression e) (undated_code k)
-undated_code (Let' e p k) = Named (expression e) (undated_code k)
-undated_code (LoopIf' e p a q b) = Choice (expression e) (undated_code a) (undated_code b)
+undated_code (Scale' e p k) = Multiple (expression e.value) (undated_code k)
+undated_code (Let' e p k) = Named (expression e.value) (undated_code k)
+undated_code (LoopIf' e p a q b) = Choice (expression e.value) (undated_code a) (undated_code b)
 undated_code (Cut' p k) = Under (undated_code k)
 
 abbrev pub nodes_of_undated : UndatedCode → ℕ

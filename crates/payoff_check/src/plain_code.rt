@@ -10,7 +10,8 @@ use payoff_lang::Code;
 use std::alloc::Global;
 use term_core::Expr;
 
-/// Payoff code whose value expressions are plain, without its dates: no rule but that on sizes sees one.
+/// Payoff code whose value expressions are plain, without its dates: no rule but that on sizes sees
+/// one. Expressions stand behind boxes, so that code of payments alone takes little.
 #[derive(Drop)]
 pub enum PlainCode {
     None,
@@ -20,15 +21,15 @@ pub enum PlainCode {
         right: Box<PlainCode>,
     },
     Scale {
-        factor: Expr,
+        factor: Box<Expr>,
         body: Box<PlainCode>,
     },
     Let {
-        bound: Expr,
+        bound: Box<Expr>,
         body: Box<PlainCode>,
     },
     LoopIf {
-        test: Expr,
+        test: Box<Expr>,
         hit: Box<PlainCode>,
         miss: Box<PlainCode>,
     },
@@ -50,12 +51,12 @@ pub fn plain_code_of(alloc: Global, k: &Code) -> Result<PlainCode, NoMemory>
             Ok(PlainCode::Add { left, right })
         }
         Code::Scale { factor, body } => {
-            let factor = plain_of(alloc, factor)?;
+            let factor = Box::new(alloc, plain_of(alloc, factor)?)?;
             let body = Box::new(alloc, plain_code_of(alloc, body)?)?;
             Ok(PlainCode::Scale { factor, body })
         }
         Code::Let { bound, body } => {
-            let bound = plain_of(alloc, bound)?;
+            let bound = Box::new(alloc, plain_of(alloc, bound)?)?;
             let body = Box::new(alloc, plain_code_of(alloc, body)?)?;
             Ok(PlainCode::Let { bound, body })
         }
@@ -65,7 +66,7 @@ pub fn plain_code_of(alloc: Global, k: &Code) -> Result<PlainCode, NoMemory>
             miss,
             ..
         } => {
-            let test = plain_of(alloc, test)?;
+            let test = Box::new(alloc, plain_of(alloc, test)?)?;
             let hit = Box::new(alloc, plain_code_of(alloc, hit)?)?;
             let miss = Box::new(alloc, plain_code_of(alloc, miss)?)?;
             Ok(PlainCode::LoopIf { test, hit, miss })
