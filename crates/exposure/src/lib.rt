@@ -1,5 +1,5 @@
-//! What parties come to by flow tables: their positions, payments that settle them, and the lines of positions; and
-//! contracts with one party in the place of another.
+//! What parties come to by flow tables: their positions, payments that settle them, and the lines
+//! of positions; and contracts with one party in the place of another.
 //!
 //! ```text
 //! let found = positions(alloc, &tables)?;
@@ -8,11 +8,12 @@
 //! let novated = rename(alloc, &contr, old, new)?;
 //! ```
 //!
-//! Promised: `positions` answers a row for each day, asset and party that does not come to 0, and no other
-//! (`ArePositions`); `settle` payments that leave each party there, at least one fewer than such parties (`Settles`), in a
-//! set order (`ArePaidInTurn`); `rename` the contract with the new party (`renamed`); `position_line` appends exactly the
-//! line of a row (`IsPositionLine`), or a front part of it.
-//! Not promised: that they succeed where there is memory. The rows of `run_rows` show calls that do.
+//! Promised: `positions` answers a row for each day, asset and party that does not come to 0, and
+//! no other (`ArePositions`); `settle` payments that leave each party there, at least one fewer
+//! than such parties (`Settles`), in a set order (`ArePaidInTurn`); `rename` the contract with the
+//! new party (`renamed`); `position_line` appends exactly the line of a row (`IsPositionLine`), or
+//! a front part of it. Not promised: that they succeed where there is memory. The rows of
+//! `run_rows` show calls that do.
 #![tactic(auto)]
 
 mod accounts;

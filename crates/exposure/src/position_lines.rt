@@ -26,7 +26,8 @@ fn append_line<'a>(
 ) -> Result<(), NoMemory>
     requires day { IsWritable day }
     requires amount { IsSmall amount }
-    ensures ok { OnOk result (out.new.items ≡ out.old.items ++ line_on decls.now day.entry row.now amount) }
+    ensures ok { OnOk result (out.new.items
+        ≡ out.old.items ++ line_on decls.now day.entry row.now amount) }
     ensures err { OnErr result (AppendsPart out.old.items (line_on decls.now day.entry row.now amount) out.new.items) }
 {
     let comma = Piece::Words(b",");
@@ -46,9 +47,9 @@ fn append_line<'a>(
     append(alloc, out, &pieces)
 }
 
-/// Appends the line `DAY,PARTY,ASSET,AMOUNT` of a position, with the day as a date where the portfolio has an origin, and
-/// the amount at the asset's decimals, with `-` before it where it is below 0. Where memory runs out on the way, a front
-/// part of that line may stand in `out` already.
+/// Appends the line `DAY,PARTY,ASSET,AMOUNT` of a position, with the day as a date where the
+/// portfolio has an origin, and the amount at the asset's decimals, with `-` before it where it is
+/// below 0. Where memory runs out on the way, a front part of that line may stand in `out` already.
 pub fn position_line(
     alloc: Global,
     out: &mut Vec<u8>,

@@ -15,8 +15,8 @@ fn renamed_party(old: u32, new: u32, party: u32) -> u32
     if party == old { new } else { party }
 }
 
-/// The contract with the party `new` in the place of `old` in every transfer. Names of templates and sums of days stay as they
-/// are.
+/// The contract with the party `new` in the place of `old` in every transfer. Names of templates
+/// and sums of days stay as they are.
 pub fn rename(alloc: Global, c: &Contr, old: u32, new: u32) -> Result<Contr, NoMemory>
     ensures { IfOk result (λ r. contract r ≡ renamed old new (contract c.now)) }
 {

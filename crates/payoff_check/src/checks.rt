@@ -22,7 +22,8 @@ use term_core::{CheckErr, Decls, Setting};
 pub struct CodeFacts {
     /// The number of decimals of its values.
     pub scale: u8,
-    /// The most that it is worth in size, whatever is observed and on whatever day, in units of its scale.
+    /// The most that it is worth in size, whatever is observed and on whatever day, in units of its
+    /// scale.
     pub total: i128,
 }
 
@@ -44,9 +45,10 @@ fn check_plain(
     Ok(CodeFacts { scale, total })
 }
 
-/// Whether code is accepted at a setting, and what is said of it then. Where it is not, the answer has the first rule that
-/// fails and the first node at which it does. The rules are tried on sorts, scales, sizes and bounds, in this order; there is
-/// none on times. A template that the setting has no number for counts no days.
+/// Whether code is accepted at a setting, and what is said of it then. Where it is not, the answer
+/// has the first rule that fails and the first node at which it does. The rules are tried on sorts,
+/// scales, sizes and bounds, in this order; there is none on times. A template that the setting has
+/// no number for counts no days.
 pub fn check_code(alloc: Global, file: &CodeFile, setting: &Setting) -> Result<CodeFacts, CheckErr>
     requires low { height_of_code (payoff_code file.now.code) ≤ 1_000 }
     requires small { nodes_of_code (payoff_code file.now.code) < 2 ^ 32 }

@@ -1,13 +1,13 @@
-//! Which payoff code is accepted at a setting: the rules on sorts, scales, sizes and bounds, in this order.
-//! For value expressions the first two and the last are the rules of contracts, tried on the plain
-//! expression. Plain expressions are made once, before the first rule.
+//! Which payoff code is accepted at a setting: the rules on sorts, scales, sizes and bounds, in
+//! this order. For value expressions the first two and the last are the rules of contracts, tried
+//! on the plain expression. Plain expressions are made once, before the first rule.
 //!
 //! ```text
 //! let facts = check_code(alloc, &file, &setting)?; // its scale and its total
 //! ```
 //!
-//! Promised: `check_code` answers the facts of accepted code, or the first rule that fails and the first node
-//! at which it does (`IsCheckedCode`).
+//! Promised: `check_code` answers the facts of accepted code, or the first rule that fails and the
+//! first node at which it does (`IsCheckedCode`).
 //! Only tested: that it answers where there is memory (rows of `library_rows`).
 #![tactic(auto)]
 

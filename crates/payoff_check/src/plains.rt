@@ -9,8 +9,8 @@ use payoff_lang::Vx;
 use std::alloc::Global;
 use term_core::Expr;
 
-/// The expression of a value expression in which each observable is read on the day itself: no rule but that on sizes
-/// sees a date.
+/// The expression of a value expression in which each observable is read on the day itself: no rule
+/// but that on sizes sees a date.
 pub fn plain_of(alloc: Global, v: &Vx) -> Result<Expr, NoMemory>
     ensures { IfOk result (λ e. expression e ≡ plain_value v.now) }
 {

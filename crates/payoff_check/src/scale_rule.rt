@@ -1,5 +1,5 @@
-//! The rule on scales: every expression meets it as in contracts, and the scale of all code is at most nine more than the
-//! portfolio's amounts have, since a discount factor has nine decimals.
+//! The rule on scales: every expression meets it as in contracts, and the scale of all code is at
+//! most nine more than the portfolio's amounts have, since a discount factor has nine decimals.
 
 ghost use Rattle.std.specs.Prelude.{◌≡◌, ◌<◌, ◌≤◌, ◌+◌, ◌^◌, IfOk};
 ghost use Rattle.term_core.specs.Declarations.{declarations};
@@ -98,8 +98,9 @@ fn scales_of(decls: &Decls, k: &PlainCode, scope: &Scope<u8>, node: u32) -> Resu
     }
 }
 
-/// The scale of code whose sorts are right, where the rule on scales holds everywhere in it. Where it fails, the answer has the
-/// first node at fault, in the order in which the rules of acceptance try nodes.
+/// The scale of code whose sorts are right, where the rule on scales holds everywhere in it. Where
+/// it fails, the answer has the first node at fault, in the order in which the rules of acceptance
+/// try nodes.
 pub fn scales(decls: &Decls, k: &PlainCode) -> Result<u8, CheckErr>
     requires { nodes_of_undated (undated_code k.now) < 2 ^ 32 }
     ensures { IsPlainVerdict (declarations decls.now) Rule.Scale (undated_code k.now) IsScaleOf result }

@@ -1,5 +1,6 @@
-//! The rule on sizes at a setting: a height of at most 400, at most 200,000 nodes, a work of at most 10,000,000, loops of at
-//! most 100,000 days one within another, and every date within its range.
+//! The rule on sizes at a setting: a height of at most 400, at most 200,000 nodes, a work of at
+//! most 10,000,000, loops of at most 100,000 days one within another, and every date within its
+//! range.
 
 ghost use Rattle.std.specs.Prelude.{◌≡◌, ◌<◌, ◌≤◌, ◌+◌, ◌^◌, IfOk};
 ghost use Rattle.term_core.specs.Declarations.{declarations};
@@ -112,8 +113,9 @@ fn sizes_of(setting: &[u32], k: &Code, node: u32) -> Result<CodeSize, u32>
     }
 }
 
-/// Whether the rule on sizes holds everywhere in code at a setting. Where it fails, the answer has the first node at fault, in the
-/// order in which the rules of acceptance try nodes. It asks nothing of the declarations.
+/// Whether the rule on sizes holds everywhere in code at a setting. Where it fails, the answer has
+/// the first node at fault, in the order in which the rules of acceptance try nodes. It asks
+/// nothing of the declarations.
 pub fn sizes(_decls: &Decls, setting: &Setting, k: &Code) -> Result<(), CheckErr>
     requires { nodes_of_code (payoff_code k.now) < 2 ^ 32 }
     ensures { IsCodeVerdict (declarations _decls.now) setting.now.days.items Rule.Size (payoff_code k.now) NothingMore result }

@@ -1,5 +1,5 @@
-//! The rule on sorts: every expression is a number or a truth value, every factor is a number and every test of a `loop`
-//! is a truth value.
+//! The rule on sorts: every expression is a number or a truth value, every factor is a number and
+//! every test of a `loop` is a truth value.
 
 ghost use Rattle.std.specs.Prelude.{◌≡◌, ◌<◌, ◌+◌, ◌^◌, IfOk};
 ghost use Rattle.term_core.specs.Declarations.{declarations};
@@ -92,8 +92,9 @@ fn sorts_of(decls: &Decls, k: &PlainCode, scope: &Scope<Sort>, node: u32) -> Res
     }
 }
 
-/// Whether the rule on sorts holds everywhere in code. Where it fails, the answer has the first node at fault, in the order in
-/// which the rules of acceptance try nodes. It asks nothing of the setting.
+/// Whether the rule on sorts holds everywhere in code. Where it fails, the answer has the first
+/// node at fault, in the order in which the rules of acceptance try nodes. It asks nothing of the
+/// setting.
 pub fn sorts(decls: &Decls, k: &PlainCode) -> Result<(), CheckErr>
     requires { nodes_of_undated (undated_code k.now) < 2 ^ 32 }
     ensures { IsPlainVerdict (declarations decls.now) Rule.Sort (undated_code k.now) NothingMore result }

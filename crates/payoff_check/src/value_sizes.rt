@@ -1,6 +1,7 @@
-//! The rule on sizes in value expressions: a height of at most 400, at most 200,000 nodes, accumulators over at most 100,000
-//! days, a work of at most 10,000,000, and dates from -2,000,000 to 2,000,000 days. Nodes before a node at fault are counted
-//! only on the way up from it, so that no part is visited more than twice.
+//! The rule on sizes in value expressions: a height of at most 400, at most 200,000 nodes,
+//! accumulators over at most 100,000 days, a work of at most 10,000,000, and dates from -2,000,000
+//! to 2,000,000 days. Nodes before a node at fault are counted only on the way up from it, so that
+//! no part is visited more than twice.
 
 ghost use Rattle.std.specs.Prelude.{◌≡◌, ◌<◌, ◌≤◌, ◌+◌, ◌^◌, IfOk, IfErr};
 ghost use Rattle.term_core.specs.Sizes.{nodes};
@@ -35,8 +36,8 @@ pub fn nodes_in_value(v: &Vx) -> u32
     }
 }
 
-/// The size of a value expression at a setting, or the number of its first node that breaks the rule on sizes, counted from
-/// its own first node.
+/// The size of a value expression at a setting, or the number of its first node that breaks the
+/// rule on sizes, counted from its own first node.
 #[cycle(sizing)]
 pub fn size_of_value(setting: &[u32], e: &Vx) -> Result<ValueSize, u32>
     requires { nodes_at setting.now e.now < 2 ^ 32 }
