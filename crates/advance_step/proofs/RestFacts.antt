@@ -20,7 +20,7 @@ use Rattle.flow_eval.specs.declared.faults.FlowErr.{FlowErr}
 use Rattle.flow_eval.specs.Readiness.{IsUpTo}
 use Rattle.flow_eval.specs.Faults.{lacks_memory, lacks_place}
 use Rattle.advance_step.specs.declared.span.Span.{Span}
-use Rattle.advance_step.specs.Basis.{Basis}
+use Rattle.fixing_files.specs.Knowledge.{Knowledge}
 use Rattle.advance_step.specs.WhatIsLeft.{both_left, left_of, let_left, scale_left}
 use Rattle.advance_step.specs.CarryingWalk.{AnswersLeft, AnswersRest, EntersOn, IsFirstDay}
 use Rattle.advance_step.specs.CarryingWalk.{IsLeftOn}
@@ -38,7 +38,7 @@ Answer = Result (Rc SharedContr Global) FlowErr
 -- ---- faults
 
 -- the fault that an answer is
-pub fault_in : (b : Basis) (c : Contract) (room : Room) (span : Span) (o : Answer) (e : FlowErr)
+pub fault_in : (b : Knowledge) (c : Contract) (room : Room) (span : Span) (o : Answer) (e : FlowErr)
     → o ≡ Err e → AnswersRest b c room span o → LacksReadOn b c room span e
 fault_in b c room span (Ok r) e is h = absurd (cc)
 fault_in b c room span (Err x) e is h =
@@ -46,7 +46,7 @@ fault_in b c room span (Err x) e is h =
     subst (λ (y : FlowErr). LacksReadOn b c room span y) same h
 
 -- a fault is an answer
-pub fails : (b : Basis) (c : Contract) (room : Room) (span : Span) (o : Answer) (e : FlowErr)
+pub fails : (b : Knowledge) (c : Contract) (room : Room) (span : Span) (o : Answer) (e : FlowErr)
     → o ≡ Err e → LacksReadOn b c room span e → AnswersRest b c room span o
 fails b c room span (Ok r) e is h = absurd (cc)
 fails b c room span (Err x) e is h =
@@ -54,22 +54,22 @@ fails b c room span (Err x) e is h =
     subst (λ (y : FlowErr). LacksReadOn b c room span y) same h
 
 -- want of memory is one of any contract
-pub lacks_room : (b : Basis) (c : Contract) (room : Room) (span : Span) (o : Answer)
+pub lacks_room : (b : Knowledge) (c : Contract) (room : Room) (span : Span) (o : Answer)
     → o ≡ Err lacks_memory → AnswersRest b c room span o
 lacks_room b c room span o is = fails b c room span o lacks_memory is tt
 
 -- ---- the same by other names
 
-pub same_contract : (b : Basis) (c c' : Contract) (room : Room) (span : Span) (o : Answer)
+pub same_contract : (b : Knowledge) (c c' : Contract) (room : Room) (span : Span) (o : Answer)
     → c' ≡ c → AnswersRest b c' room span o → AnswersRest b c room span o
 same_contract b c c' room span o is h = subst (λ (x : Contract). AnswersRest b x room span o) is h
 
-pub same_room : (b : Basis) (c : Contract) (room room' : Room) (span : Span) (o : Answer)
+pub same_room : (b : Knowledge) (c : Contract) (room room' : Room) (span : Span) (o : Answer)
     → room' ≡ room → AnswersRest b c room' span o → AnswersRest b c room span o
 same_room b c room room' span o is h = subst (λ (r : Room). AnswersRest b c r span o) is h
 
 -- an answer for a part is one for the whole
-pub answers : (b : Basis) (c c' : Contract) (room room' : Room) (span span' : Span) (o : Answer)
+pub answers : (b : Knowledge) (c c' : Contract) (room room' : Room) (span span' : Span) (o : Answer)
     → ((r : Contract) → IsLeftOn b c' room' span' r → IsLeftOn b c room span r)
     → ((e : FlowErr) → LacksReadOn b c' room' span' e → LacksReadOn b c room span e)
     → AnswersRest b c' room' span' o → AnswersRest b c room span o
@@ -78,7 +78,7 @@ answers b c c' room room' span span' (Err e) left lacks h = lacks e h
 
 -- ---- nothing
 
-nothing_answers : (b : Basis) (c : Contract) (room : Room) (span : Span) (o : Answer)
+nothing_answers : (b : Knowledge) (c : Contract) (room : Room) (span : Span) (o : Answer)
     → ((g : List Entry) (env : Environment) → left_of b.decls c g env span.day span.last ≡ Zero)
     → IfOk o (λ r. shared r.value ≡ Zero) → IfOk o (λ r. StoresOffsets r.value)
     → IfErr o (λ e. e ≡ lacks_memory) → AnswersRest b c room span o
@@ -87,14 +87,14 @@ nothing_answers b c room span (Ok r) none tree stores memory =
 nothing_answers b c room span (Err e) none tree stores memory =
     subst (λ (x : FlowErr). LacksReadOn b c room span x) (sym memory) tt
 
-pub zero_answers : (b : Basis) (c : Contract) (room : Room) (span : Span) (o : Answer) → Zero ≡ c
+pub zero_answers : (b : Knowledge) (c : Contract) (room : Room) (span : Span) (o : Answer) → Zero ≡ c
     → IfOk o (λ r. shared r.value ≡ Zero) → IfOk o (λ r. StoresOffsets r.value)
     → IfErr o (λ e. e ≡ lacks_memory) → AnswersRest b c room span o
 zero_answers b c room span o is tree stores memory =
     same_contract b c Zero room span o is
     (nothing_answers b Zero room span o (λ g env. refl) tree stores memory)
 
-pub pay_answers : (b : Basis) (c : Contract) (x p q : ℕ) (room : Room) (span : Span) (o : Answer)
+pub pay_answers : (b : Knowledge) (c : Contract) (x p q : ℕ) (room : Room) (span : Span) (o : Answer)
     → Pay x p q ≡ c
     → IfOk o (λ r. shared r.value ≡ Zero) → IfOk o (λ r. StoresOffsets r.value)
     → IfErr o (λ e. e ≡ lacks_memory) → AnswersRest b c room span o
@@ -104,7 +104,7 @@ pay_answers b c x p q room span o is tree stores memory =
 
 -- ---- two parts, and a factor
 
-pub left_fails : (b : Basis) (x x' y : Contract) (room : Room) (span : Span) (o o' : Answer)
+pub left_fails : (b : Knowledge) (x x' y : Contract) (room : Room) (span : Span) (o o' : Answer)
     (e : FlowErr)
     → x' ≡ x → o ≡ Err e → o' ≡ Err e → AnswersRest b x' room span o
     → AnswersRest b (Both x y) room span o'
@@ -113,7 +113,7 @@ left_fails b x x' y room span o o' e hx ho ho' h =
     fails b (Both x y) room span o' e ho'
     (left_lacks b.decls x y room.entries b.fixings span.day span.last e part)
 
-pub right_fails : (b : Basis) (x y y' : Contract) (room room' : Room) (span : Span) (o o' : Answer)
+pub right_fails : (b : Knowledge) (x y y' : Contract) (room room' : Room) (span : Span) (o o' : Answer)
     (e : FlowErr) → y' ≡ y → room' ≡ room → o ≡ Err e → o' ≡ Err e → AnswersRest b y' room' span o
     → AnswersRest b (Both x y) room span o'
 right_fails b x y y' room room' span o o' e hy hr ho ho' h =
@@ -122,7 +122,7 @@ right_fails b x y y' room room' span o o' e hy hr ho ho' h =
     fails b (Both x y) room span o' e ho'
     (right_lacks b.decls x y room.entries b.fixings span.day span.last e part)
 
-pub both_is_left : (b : Basis) (x x' y y' l m r : Contract) (room room' : Room) (span : Span)
+pub both_is_left : (b : Knowledge) (x x' y y' l m r : Contract) (room room' : Room) (span : Span)
     → x' ≡ x → y' ≡ y → room' ≡ room → IsLeftOn b x' room span l → IsLeftOn b y' room' span m
     → r ≡ both_left l m → IsLeftOn b (Both x y) room span r
 both_is_left b x x' y y' l m r room room' span hx hy hr left right is =
@@ -134,7 +134,7 @@ both_is_left b x x' y y' l m r room room' span hx hy hr left right is =
     subst (λ (c : Contract). IsLeftOn b c room span m) hy here in
     λ g ps env stand ext. is ∙ ap₂ both_left (one g ps env stand ext) (two g ps env stand ext)
 
-pub scale_fails : (b : Basis) (f : Expression) (x x' : Contract) (room : Room) (span : Span)
+pub scale_fails : (b : Knowledge) (f : Expression) (x x' : Contract) (room : Room) (span : Span)
     (o o' : Answer) (e : FlowErr) → x' ≡ x → o ≡ Err e → o' ≡ Err e → AnswersRest b x' room span o
     → AnswersRest b (Scale f x) room span o'
 scale_fails b f x x' room span o o' e hx ho ho' h =
@@ -142,7 +142,7 @@ scale_fails b f x x' room span o o' e hx ho ho' h =
     fails b (Scale f x) room span o' e ho'
     (scale_lacks b.decls f x room.entries b.fixings span.day span.last e part)
 
-pub scale_is_left : (b : Basis) (f : Expression) (k k' : ℤ) (x x' l r : Contract) (room : Room)
+pub scale_is_left : (b : Knowledge) (f : Expression) (k k' : ℤ) (x x' l r : Contract) (room : Room)
     (span : Span) → k' ≡ k → x' ≡ x → IsLeftOn b x' room span l
     → r ≡ scale_left (shifted (negsuc span.last) (shifted k' f)) l
     → IsLeftOn b (Scale (shifted k f) x) room span r
@@ -156,7 +156,7 @@ scale_is_left b f k k' x x' l r room span hk hx left is =
 
 -- ---- a delay
 
-pub after_answers : (b : Basis) (x x' : Contract) (n : ℕ) (room : Room) (span span' : Span)
+pub after_answers : (b : Knowledge) (x x' : Contract) (n : ℕ) (room : Room) (span span' : Span)
     (o : Answer)
     → x' ≡ x → n ≤ span.last → span'.day ≡ span.day +ℤ pos n → span'.last ≡ span.last - n
     → AnswersRest b x' room span' o → AnswersRest b (After (Count n) x) room span o
@@ -171,7 +171,7 @@ after_answers b x x' n room span span' o hx le hd hl h =
 
 -- ---- a name
 
-pub bound_fails : (b : Basis) (entry : Binding) (e e' : Expression) (k k' : ℤ) (x x' : Contract)
+pub bound_fails : (b : Knowledge) (entry : Binding) (e e' : Expression) (k k' : ℤ) (x x' : Contract)
     (room room' : Room) (span : Span) (o o' : Answer) (y : FlowErr) → k' ≡ k → e' ≡ e → x' ≡ x
     → room'.entries ≡ entry ∷ room.entries → EntersOn b (shifted k' e') room span entry
     → o ≡ Err y → o' ≡ Err y → AnswersRest b x' room' span o
@@ -182,7 +182,7 @@ bound_fails b entry e e' k k' x x' room room' span o o' y hk he hx hr enters ho 
     (bound_lacks b.decls b.fixings room.entries room'.entries entry e e' k k' span.day span.day
     span.day x x' span.last y hk he refl refl hx hr enters part)
 
-pub body_is_left : (b : Basis) (entry : Binding) (e e' : Expression) (k k' k'' : ℤ)
+pub body_is_left : (b : Knowledge) (entry : Binding) (e e' : Expression) (k k' k'' : ℤ)
     (x x' l r : Contract)
     (room room' : Room) (span : Span) → k' ≡ k → k'' ≡ k → e' ≡ e → x' ≡ x
     → room'.entries ≡ entry ∷ room.entries → EntersOn b (shifted k' e') room span entry
@@ -198,7 +198,7 @@ body_is_left b entry e e' k k' k'' x x' l r room room' span hk hk' he hx hr ente
 pub found_among : (o : Option ℕ) (k n : ℕ) → o ≡ Some k → IsUpTo o n → k ≤ n
 found_among o k n is h = subst (λ (x : Option ℕ). IsUpTo x n) is h
 
-pub test_fails : (b : Basis) (e e' : Expression) (n : ℕ) (x y : Contract) (room : Room)
+pub test_fails : (b : Knowledge) (e e' : Expression) (n : ℕ) (x y : Contract) (room : Room)
     (span : Span)
     (first : DayOrMissing) (m : MissingPlace) (o : Answer) → e' ≡ e
     → IsFirstDay b e' room span n first
@@ -211,7 +211,7 @@ test_fails b e e' n x y room span first m o he tried is ho =
     first m
     refl here is)
 
-pub hit_answers : (b : Basis) (e e' : Expression) (n k : ℕ) (x x' y : Contract) (room : Room)
+pub hit_answers : (b : Knowledge) (e e' : Expression) (n k : ℕ) (x x' y : Contract) (room : Room)
     (span span' : Span) (first : DayOrMissing) (o : Answer) → e' ≡ e → x' ≡ x
     → IsFirstDay b e' room span n first → first ≡ Ok (Some k) → k ≤ span.last
     → span'.day ≡ span.day +ℤ pos k → span'.last ≡ span.last - k → AnswersRest b x' room span' o
@@ -232,7 +232,7 @@ hit_answers b e e' n k x x' y room span span' first o he hx tried is le hd hl h 
     is le hd hl lacks)
     (same_contract b x x' room span' o hx h)
 
-pub miss_answers : (b : Basis) (e e' : Expression) (n : ℕ) (x y y' : Contract) (room : Room)
+pub miss_answers : (b : Knowledge) (e e' : Expression) (n : ℕ) (x y y' : Contract) (room : Room)
     (span span' : Span) (first : DayOrMissing) (o : Answer) → e' ≡ e → y' ≡ y
     → IsFirstDay b e' room span n first → first ≡ Ok None → n ≤ span.last
     → span'.day ≡ span.day +ℤ pos n → span'.last ≡ span.last - n → AnswersRest b y' room span' o
@@ -253,7 +253,7 @@ miss_answers b e e' n x y y' room span span' first o he hy tried is le hd hl h =
     is le hd hl lacks)
     (same_contract b y y' room span' o hy h)
 
-pub waits_left : (b : Basis) (e e' : Expression) (n m : ℕ) (x y r : Contract) (room : Room)
+pub waits_left : (b : Knowledge) (e e' : Expression) (n m : ℕ) (x y r : Contract) (room : Room)
     (span : Span)
     (first : DayOrMissing) → e' ≡ e → IsFirstDay b e' room span n first → first ≡ Ok None
     → span.last < n → m ≡ n - suc span.last → r ≡ Within e (Count m) x y
@@ -267,7 +267,7 @@ waits_left b e e' n m x y r room span first he tried is lt hm left =
 
 -- ---- the whole
 
-whole : (b : Basis) (c : Contract) (room : Room) (span : Span) (o : Answer) → room.entries ≡ []
+whole : (b : Knowledge) (c : Contract) (room : Room) (span : Span) (o : Answer) → room.entries ≡ []
     → AnswersRest b c room span o → AnswersLeft b.decls b.fixings c span.day span.last o
 whole b c room span (Ok r) is h =
     let left : IsLeft b.decls c [] b.fixings span.day span.last (shared r.value) =
@@ -279,7 +279,7 @@ whole b c room span (Err e) is h =
     named b.decls c b.fixings span.day span.last e
     (subst (λ (es : List Binding). LacksRead b.decls c es b.fixings span.day span.last e) is h)
 
-pub whole_answers : (b : Basis) (c c' : Contract) (room : Room) (span : Span) (o : Answer)
+pub whole_answers : (b : Knowledge) (c c' : Contract) (room : Room) (span : Span) (o : Answer)
     → room.entries ≡ [] → c' ≡ c → AnswersRest b c' room span o
     → AnswersLeft b.decls b.fixings c span.day span.last o
 whole_answers b c c' room span o is hc h =

@@ -32,7 +32,7 @@ use Rattle.expr_eval.specs.Trials.{DayOrMissing, IsFirstTrue}
 use Rattle.flow_eval.specs.declared.faults.FlowErr.{FlowErr}
 use Rattle.flow_eval.specs.declared.faults.FlowErr.TheVariants.{Missing, NoMemory}
 use Rattle.advance_step.specs.declared.span.Span.{Span}
-use Rattle.advance_step.specs.Basis.{Basis}
+use Rattle.fixing_files.specs.Knowledge.{Knowledge}
 use Rattle.advance_step.specs.WhatIsLeft.{left_of}
 
 -- what is left of c, which stands on day f, after j + 1 days
@@ -60,14 +60,14 @@ LacksRead d c bs fixings f j (Missing label day) =
 LacksRead d c bs fixings f j NoMemory = Unit {0}
 
 -- what is left of c among the entries of a room, over the days gone by for it
-abbrev pub IsLeftOn : Basis → Contract → Room → Span → Contract → Type 0
+abbrev pub IsLeftOn : Knowledge → Contract → Room → Span → Contract → Type 0
 IsLeftOn b c room span rest = IsLeft b.decls c room.entries b.fixings span.day span.last rest
 
-abbrev pub LacksReadOn : Basis → Contract → Room → Span → FlowErr → Type 0
+abbrev pub LacksReadOn : Knowledge → Contract → Room → Span → FlowErr → Type 0
 LacksReadOn b c room span e = LacksRead b.decls c room.entries b.fixings span.day span.last e
 
 -- an answer is what is left of c, which stores its offsets, or a read that it lacks
-abbrev pub AnswersRest : Basis → Contract → Room → Span → Result (Rc SharedContr Global) FlowErr
+abbrev pub AnswersRest : Knowledge → Contract → Room → Span → Result (Rc SharedContr Global) FlowErr
     → Type 0
 AnswersRest b c room span (Ok rest) =
     IsLeftOn b c room span (shared rest.value) × StoresOffsets rest.value
@@ -80,7 +80,7 @@ Enters d e bs fixings f b =
     → StandFor fixings bs g ps → StandFor fixings bs known ps → Extends fixings env
     → StandFor fixings (b ∷ bs) (entry_of d e g env f ∷ g) (reads_of d e known ps fixings f ∷ ps)
 
-abbrev pub EntersOn : Basis → Expression → Room → Span → Binding → Type 0
+abbrev pub EntersOn : Knowledge → Expression → Room → Span → Binding → Type 0
 EntersOn b e room span entry = Enters b.decls e room.entries b.fixings span.day entry
 
 -- it is made of an answer that suits the body of the `let`
@@ -92,7 +92,7 @@ pub record IsEntry (d : Declarations) (e : Expression) (bs : List Binding) (b : 
 
 -- after how many days a test is first true, of so many and of those gone by; or the place that it
 -- lacks
-abbrev pub IsFirstDay : Basis → Expression → Room → Span → ℕ → DayOrMissing → Type 0
+abbrev pub IsFirstDay : Knowledge → Expression → Room → Span → ℕ → DayOrMissing → Type 0
 IsFirstDay b test room span days answer =
     IsFirstTrue b.decls test room.entries b.fixings span.day (min days span.last + 1) answer
 
@@ -121,23 +121,23 @@ CanCarry d (Within' e n q a r b) bs =
     MayEvaluate d (expression e.value) bs × CanCarry d a bs × CanCarry d b bs
 
 -- such a contract, which stores its offsets, where there is room for the entries of its names
-abbrev pub MayCarry : Basis → SharedContr → Room → Type 0
+abbrev pub MayCarry : Knowledge → SharedContr → Room → Type 0
 MayCarry b s room =
     CanCarry b.decls s room.entries × StoresOffsets s × (height_of_contract (shared s) ≤ room.spare)
 
 -- a test that can be evaluated and stores its offsets
-abbrev pub MayTest : Basis → Rc Expr Global → Room → Type 0
+abbrev pub MayTest : Knowledge → Rc Expr Global → Room → Type 0
 MayTest b test room =
     MayEvaluate b.decls (expression test.value) room.entries × HasOffsets (expression test.value)
 
 -- an expression that a name is bound to can be evaluated as it is stored, and be moved
-abbrev pub MayBind : Basis → ℤ → Rc Expr Global → Room → Type 0
+abbrev pub MayBind : Knowledge → ℤ → Rc Expr Global → Room → Type 0
 MayBind b moved bound room =
     CanMove moved (expression bound.value) × MayEvaluate b.decls (expression bound.value)
     room.entries
 
 -- a body can be carried with an entry of the name that is bound
-abbrev pub MayCarryUnder : Basis → Rc Expr Global → SharedContr → Room → Type 0
+abbrev pub MayCarryUnder : Knowledge → Rc Expr Global → SharedContr → Room → Type 0
 MayCarryUnder b bound s room =
     WithEntry b.decls (expression bound.value) room.entries (λ es. CanCarry b.decls s es)
     × StoresOffsets s × (height_of_contract (shared s) + 1 ≤ room.spare)

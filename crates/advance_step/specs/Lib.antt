@@ -1,5 +1,4 @@
 pub mod WhatIsLeft
-pub mod Basis
 pub mod CarryingWalk
 pub mod Residual
 pub mod Advancing

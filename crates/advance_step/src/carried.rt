@@ -9,12 +9,11 @@ ghost use Rattle.term_core.specs.SharedTerms.{shared, StoresOffsets};
 ghost use Rattle.advance_step.specs.CarryingWalk.{AnswersLeft};
 ghost use Rattle.advance_step.specs.Residual.{MayStandOn};
 
-use crate::course::Course;
 use crate::parts::{delayed, nothing};
 use crate::span::Span;
 use crate::walk::carry_in;
 use expr_eval::Scratch;
-use fixing_files::Fixings;
+use fixing_files::{Fixings, Known};
 use flow_eval::FlowErr;
 use std::alloc::Global;
 use std::rc::Rc;
@@ -23,29 +22,29 @@ use term_core::{Decls, MOST_HEIGHT, SharedContr};
 // What is left of a contract, by a walk.
 fn carry_by_walk(
     alloc: Global,
-    course: &Course,
+    known: &Known,
     s: &Rc<SharedContr>,
     span: Span,
 ) -> Result<Rc<SharedContr>, FlowErr>
-    requires accepted { IsAccepted course.now.decls (shared s.now.value) }
+    requires accepted { IsAccepted known.now.decls (shared s.now.value) }
     requires offsets { StoresOffsets s.now.value }
-    ensures { AnswersLeft course.now.decls course.now.fixings (shared s.now.value)
+    ensures { AnswersLeft known.now.decls known.now.fixings (shared s.now.value)
         span.day span.last result }
 {
     let mut scratch = Scratch::for_height(alloc, MOST_HEIGHT)?;
-    carry_in(alloc, course, &mut scratch, span, s)
+    carry_in(alloc, known, &mut scratch, span, s)
 }
 
 /// What is left of an accepted contract after the days of a span: that of `carry`.
 pub fn carry_over(
     alloc: Global,
-    course: &Course,
+    known: &Known,
     s: &Rc<SharedContr>,
     span: Span,
 ) -> Result<Rc<SharedContr>, FlowErr>
-    requires accepted { IsAccepted course.now.decls (shared s.now.value) }
+    requires accepted { IsAccepted known.now.decls (shared s.now.value) }
     requires offsets { StoresOffsets s.now.value }
-    ensures { AnswersLeft course.now.decls course.now.fixings (shared s.now.value)
+    ensures { AnswersLeft known.now.decls known.now.fixings (shared s.now.value)
         span.day span.last result }
 {
     match &**s {
@@ -53,7 +52,7 @@ pub fn carry_over(
         SharedContr::After { days, body } if span.last < *days => {
             Ok(delayed(alloc, *days - span.last - 1, body)?)
         }
-        _ => carry_by_walk(alloc, course, s, span),
+        _ => carry_by_walk(alloc, known, s, span),
     }
 }
 
@@ -78,6 +77,6 @@ pub fn carry(
     ensures { AnswersLeft (declarations decls.now) fixings.now (shared s.now.value)
         day last result }
 {
-    let course = Course { decls, fixings };
-    carry_over(alloc, &course, s, Span { day, last })
+    let known = Known { decls, fixings };
+    carry_over(alloc, &known, s, Span { day, last })
 }

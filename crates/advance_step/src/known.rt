@@ -9,9 +9,8 @@ ghost use Rattle.term_core.specs.SharedTerms.{shared, StoresOffsets};
 ghost use Rattle.advance_step.specs.Residual.{AnswersLeftAfter, ReadsAreFixed};
 
 use crate::carried::carry_over;
-use crate::course::Course;
 use crate::span::Span;
-use fixing_files::Fixings;
+use fixing_files::{Fixings, Known};
 use flow_eval::FlowErr;
 use std::alloc::Global;
 use std::rc::Rc;
@@ -33,5 +32,5 @@ pub fn carry_known(
     ensures { AnswersLeftAfter (declarations decls.now) fixings.now
         span.day (span.last + 1) (shared s.now.value) result }
 {
-    carry_over(alloc, &Course { decls, fixings }, s, span)
+    carry_over(alloc, &Known { decls, fixings }, s, span)
 }

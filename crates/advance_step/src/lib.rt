@@ -9,16 +9,16 @@
 //! Promised: `advance` answers the flows that are due and a contract without redexes that carries
 //! the first one on, or the first read that is not fixed (`Advances`).
 //! Only tested: which of several such contracts it answers, and that it does where there is memory
-//! (`contract_cli/src/advance_tests.rt`).
+//! (rows of `run_rows` and `library_rows`).
 #![tactic(auto)]
 
 mod advancing;
 mod carried;
-mod course;
 mod gone;
 mod known;
 pub mod laws;
 mod parts;
+mod questions;
 mod reducing;
 mod residual;
 mod span;

@@ -10,10 +10,11 @@ ghost use Rattle.rewriting.specs.RebuildingContracts.{within_over};
 ghost use Rattle.advance_step.specs.CarryingWalk.{AnswersRest, CanMove, MayBind, MayCarry};
 ghost use Rattle.advance_step.specs.CarryingWalk.{MayCarryUnder, MayTest};
 
-use crate::course::{Course, entry_for, first_day};
 use crate::parts::{both_left, delayed, let_left, nothing, scale_left, still_waiting};
+use crate::questions::{entry_for, first_day};
 use crate::span::Span;
 use expr_eval::Scratch;
+use fixing_files::Known;
 use flow_eval::FlowErr;
 use std::alloc::Global;
 use std::rc::Rc;
@@ -32,36 +33,36 @@ fn nothing_left(alloc: Global) -> Result<Rc<SharedContr>, FlowErr>
 #[cycle(carrying)]
 pub fn carry_in(
     alloc: Global,
-    course: &Course,
+    known: &Known,
     scratch: &mut Scratch,
     span: Span,
     s: &SharedContr,
 ) -> Result<Rc<SharedContr>, FlowErr>
-    requires ready { MayCarry course.now s.now scratch.old }
-    ensures answer { AnswersRest course.now (shared s.now) scratch.old span result }
+    requires ready { MayCarry known.now s.now scratch.old }
+    ensures answer { AnswersRest known.now (shared s.now) scratch.old span result }
     ensures same { scratch.new ≡ scratch.old }
 {
     match s {
         SharedContr::Zero => nothing_left(alloc),
         SharedContr::Pay { .. } => nothing_left(alloc),
-        SharedContr::Both { left, right } => carry_both(alloc, course, scratch, span, left, right),
+        SharedContr::Both { left, right } => carry_both(alloc, known, scratch, span, left, right),
         SharedContr::Scale {
             factor,
             moved,
             body,
-        } => carry_scaled(alloc, course, scratch, span, factor, *moved, body),
+        } => carry_scaled(alloc, known, scratch, span, factor, *moved, body),
         SharedContr::After { days, body } => {
-            carry_after(alloc, course, scratch, span, *days, body)
+            carry_after(alloc, known, scratch, span, *days, body)
         }
         SharedContr::Let { bound, moved, body } => {
-            carry_bound(alloc, course, scratch, span, bound, *moved, body)
+            carry_bound(alloc, known, scratch, span, bound, *moved, body)
         }
         SharedContr::Within {
             test,
             days,
             hit,
             miss,
-        } => carry_within(alloc, course, scratch, span, test, *days, hit, miss),
+        } => carry_within(alloc, known, scratch, span, test, *days, hit, miss),
     }
 }
 
@@ -69,19 +70,19 @@ pub fn carry_in(
 #[cycle(carrying)]
 fn carry_both(
     alloc: Global,
-    course: &Course,
+    known: &Known,
     scratch: &mut Scratch,
     span: Span,
     left: &Rc<SharedContr>,
     right: &Rc<SharedContr>,
 ) -> Result<Rc<SharedContr>, FlowErr>
-    requires left { MayCarry course.now left.now.value scratch.old }
-    requires right { MayCarry course.now right.now.value scratch.old }
-    ensures answer { AnswersRest course.now (both_over left.now right.now) scratch.old span result }
+    requires left { MayCarry known.now left.now.value scratch.old }
+    requires right { MayCarry known.now right.now.value scratch.old }
+    ensures answer { AnswersRest known.now (both_over left.now right.now) scratch.old span result }
     ensures same { scratch.new ≡ scratch.old }
 {
-    let left = carry_in(alloc, course, scratch, span, left)?;
-    let right = carry_in(alloc, course, scratch, span, right)?;
+    let left = carry_in(alloc, known, scratch, span, left)?;
+    let right = carry_in(alloc, known, scratch, span, right)?;
     Ok(both_left(alloc, left, right)?)
 }
 
@@ -89,7 +90,7 @@ fn carry_both(
 #[cycle(carrying)]
 fn carry_scaled(
     alloc: Global,
-    course: &Course,
+    known: &Known,
     scratch: &mut Scratch,
     span: Span,
     factor: &Rc<Expr>,
@@ -97,12 +98,12 @@ fn carry_scaled(
     body: &Rc<SharedContr>,
 ) -> Result<Rc<SharedContr>, FlowErr>
     requires factor { CanMove moved (expression factor.now.value) }
-    requires body { MayCarry course.now body.now.value scratch.old }
-    ensures answer { AnswersRest course.now (scale_over moved factor.now body.now)
+    requires body { MayCarry known.now body.now.value scratch.old }
+    ensures answer { AnswersRest known.now (scale_over moved factor.now body.now)
         scratch.old span result }
     ensures same { scratch.new ≡ scratch.old }
 {
-    let body = carry_in(alloc, course, scratch, span, body)?;
+    let body = carry_in(alloc, known, scratch, span, body)?;
     Ok(scale_left(alloc, factor, moved, span.last, body)?)
 }
 
@@ -110,18 +111,18 @@ fn carry_scaled(
 #[cycle(carrying)]
 fn carry_after(
     alloc: Global,
-    course: &Course,
+    known: &Known,
     scratch: &mut Scratch,
     span: Span,
     days: u32,
     body: &Rc<SharedContr>,
 ) -> Result<Rc<SharedContr>, FlowErr>
-    requires body { MayCarry course.now body.now.value scratch.old }
-    ensures answer { AnswersRest course.now (after_over days body.now) scratch.old span result }
+    requires body { MayCarry known.now body.now.value scratch.old }
+    ensures answer { AnswersRest known.now (after_over days body.now) scratch.old span result }
     ensures same { scratch.new ≡ scratch.old }
 {
     if days <= span.last {
-        carry_in(alloc, course, scratch, span.after(days), body)
+        carry_in(alloc, known, scratch, span.after(days), body)
     } else {
         Ok(delayed(alloc, days - span.last - 1, body)?)
     }
@@ -131,22 +132,22 @@ fn carry_after(
 #[cycle(carrying)]
 fn carry_bound(
     alloc: Global,
-    course: &Course,
+    known: &Known,
     scratch: &mut Scratch,
     span: Span,
     bound: &Rc<Expr>,
     moved: i32,
     body: &Rc<SharedContr>,
 ) -> Result<Rc<SharedContr>, FlowErr>
-    requires bound { MayBind course.now moved bound.now scratch.old }
-    requires body { MayCarryUnder course.now bound.now body.now.value scratch.old }
-    ensures answer { AnswersRest course.now (let_over moved bound.now body.now)
+    requires bound { MayBind known.now moved bound.now scratch.old }
+    requires body { MayCarryUnder known.now bound.now body.now.value scratch.old }
+    ensures answer { AnswersRest known.now (let_over moved bound.now body.now)
         scratch.old span result }
     ensures same { scratch.new ≡ scratch.old }
 {
-    let entry = entry_for(course, bound, moved, scratch, span);
+    let entry = entry_for(known, bound, moved, scratch, span);
     scratch.enter(entry.kind, entry.held);
-    let carried = carry_in(alloc, course, scratch, span, body);
+    let carried = carry_in(alloc, known, scratch, span, body);
     scratch.leave();
     Ok(let_left(alloc, bound, moved, span.last, carried?)?)
 }
@@ -155,7 +156,7 @@ fn carry_bound(
 #[cycle(carrying)]
 fn carry_within(
     alloc: Global,
-    course: &Course,
+    known: &Known,
     scratch: &mut Scratch,
     span: Span,
     test: &Rc<Expr>,
@@ -163,16 +164,16 @@ fn carry_within(
     hit: &Rc<SharedContr>,
     miss: &Rc<SharedContr>,
 ) -> Result<Rc<SharedContr>, FlowErr>
-    requires test { MayTest course.now test.now scratch.old }
-    requires hit { MayCarry course.now hit.now.value scratch.old }
-    requires miss { MayCarry course.now miss.now.value scratch.old }
-    ensures answer { AnswersRest course.now (within_over test.now days hit.now miss.now)
+    requires test { MayTest known.now test.now scratch.old }
+    requires hit { MayCarry known.now hit.now.value scratch.old }
+    requires miss { MayCarry known.now miss.now.value scratch.old }
+    ensures answer { AnswersRest known.now (within_over test.now days hit.now miss.now)
         scratch.old span result }
     ensures same { scratch.new ≡ scratch.old }
 {
-    match first_day(course, test, &*scratch, span, days)? {
-        Some(first) => carry_in(alloc, course, scratch, span.after(first), hit),
-        None if days <= span.last => carry_in(alloc, course, scratch, span.after(days), miss),
+    match first_day(known, test, &*scratch, span, days)? {
+        Some(first) => carry_in(alloc, known, scratch, span.after(first), hit),
+        None if days <= span.last => carry_in(alloc, known, scratch, span.after(days), miss),
         None => Ok(still_waiting(alloc, test, days - span.last - 1, hit, miss)?),
     }
 }

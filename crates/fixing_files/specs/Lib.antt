@@ -15,3 +15,4 @@ pub mod CurveRecords
 pub mod CurveTables
 pub mod CurveSteps
 pub mod LawsCurves
+pub mod Knowledge

@@ -79,7 +79,8 @@ impl Fixings {
     // Fixes a value at a place that is not fixed yet.
     fn insert(&mut self, label: u32, day: i64, value: Value) -> Result<(), NoMemory>
         requires absent { held self.old (record { label = label; day = day }) ≡ None }
-        ensures added { OnOk result (AddsPair self.old self.new (record { label = label; day = day }) value) }
+        ensures added { OnOk result (AddsPair self.old self.new
+            (record { label = label; day = day }) value) }
         ensures kept { OnErr result (self.new ≡ self.old) }
     {
         reach(self.alloc, &mut self.runs, label as usize)?;
@@ -98,7 +99,8 @@ impl Fixings {
         requires day { IsFixingDay day }
         requires value { IsValueOf (label_of (declarations decls.now) label) value }
         requires absent { held self.old (record { label = label; day = day }) ≡ None }
-        ensures added { OnOk result (AddsPair self.old self.new (record { label = label; day = day }) value) }
+        ensures added { OnOk result (AddsPair self.old self.new
+            (record { label = label; day = day }) value) }
         ensures kept { OnErr result (self.new ≡ self.old) }
         ensures admitted { OnOk result (IsAdmitted (declarations decls.now) self.old
             → IsAdmitted (declarations decls.now) self.new) }
@@ -108,7 +110,8 @@ impl Fixings {
 
     // Fixes a value at a label, by its number, on a day, unless the place is fixed already.
     pub(crate) fn add(&mut self, label: u32, day: i64, value: Value) -> Result<(), NoMemory>
-        ensures added { OnOk result (AddsUnlessHeld self.old self.new (record { label = label; day = day }) value) }
+        ensures added { OnOk result (AddsUnlessHeld self.old self.new
+            (record { label = label; day = day }) value) }
         ensures kept { OnErr result (self.new ≡ self.old) }
     {
         match self.get(label, day) {

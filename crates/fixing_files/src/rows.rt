@@ -78,7 +78,9 @@ impl Run {
 
     // Whether a row is of a day above all that rose.
     fn rises(&self, row: &Row) -> bool
-        ensures { result ≡ rises_above (slice_get self.now.days.items (length self.now.days.items - 1)) row.now.day }
+        ensures { result
+            ≡ rises_above (slice_get self.now.days.items (length self.now.days.items - 1))
+            row.now.day }
     {
         match self.days.last() {
             Some(last) => last.day < row.day,

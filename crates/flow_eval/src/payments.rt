@@ -93,7 +93,8 @@ fn multiply(payments: &mut [Payment], factor: i128)
 pub fn multiply_from(out: &mut Vec<Payment>, first: usize, factor: i128)
     requires first { first ≤ length out.old.items }
     requires small { CanBeMultiplied factor (drop first out.old.items) }
-    ensures { out.new.items ≡ take first out.old.items ++ multiplied factor (drop first out.old.items) }
+    ensures { out.new.items ≡ take first out.old.items
+        ++ multiplied factor (drop first out.old.items) }
 {
     multiply(&mut out[first..], factor);
 }

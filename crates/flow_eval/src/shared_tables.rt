@@ -14,7 +14,7 @@ use crate::flow_table::FlowTable;
 use crate::netting::netted;
 use crate::payments::Payment;
 use crate::shared_walk::gather_shared;
-use crate::walk::{Course, Standing};
+use crate::walk::{Basis, Standing};
 use expr_eval::Scratch;
 use fixing_files::Fixings;
 use std::alloc::Global;
@@ -24,23 +24,23 @@ use term_core::{Decls, SharedContr};
 // The payments up to the last day of a contract that stands on a day.
 fn payments_shared(
     alloc: Global,
-    course: &Course,
+    basis: &Basis,
     s: &SharedContr,
     frame: i64,
 ) -> Result<Vec<Payment>, FlowErr>
-    requires accepted { IsAccepted (declarations course.now.decls.now) (shared s.now) }
-    requires admitted { IsAdmitted (declarations course.now.decls.now) course.now.fixings.now }
+    requires accepted { IsAccepted (declarations basis.now.decls.now) (shared s.now) }
+    requires admitted { IsAdmitted (declarations basis.now.decls.now) basis.now.fixings.now }
     requires first { pos 0 ≤ℤ frame }
     requires last { frame ≤ℤ pos last_start }
-    ensures { ArePaymentsOf course.now (shared s.now) frame result }
+    ensures { ArePaymentsOf basis.now (shared s.now) frame result }
 {
     let mut payments = Vec::new(alloc);
     let mut scratch = Scratch::for_height(alloc, 200)?;
     let here = Standing {
         day: frame,
-        decimals: course.decls.amounts,
+        decimals: basis.decls.amounts,
     };
-    gather_shared(course, &mut payments, &mut scratch, here, s)?;
+    gather_shared(basis, &mut payments, &mut scratch, here, s)?;
     Ok(payments)
 }
 
@@ -62,11 +62,11 @@ pub fn flows_shared(
     ensures { AreFlows (declarations decls.now) (shared s.now.value) fixings.now frame until
         result }
 {
-    let course = Course {
+    let basis = Basis {
         decls,
         fixings,
         until,
     };
-    let payments = payments_shared(alloc, &course, s, frame)?;
+    let payments = payments_shared(alloc, &basis, s, frame)?;
     Ok(netted(alloc, payments)?)
 }

@@ -14,7 +14,7 @@ use crate::flow_table::FlowTable;
 use crate::names::names_in;
 use crate::netting::netted;
 use crate::payments::Payment;
-use crate::walk::{Course, Standing, gather};
+use crate::walk::{Basis, Standing, gather};
 use expr_eval::Scratch;
 use fixing_files::Fixings;
 use std::alloc::Global;
@@ -24,25 +24,20 @@ use term_core::{Contr, Decls};
 pub const LAST_DAY: u32 = 1_100_000;
 
 // The payments up to the last day of a contract that stands on a day.
-fn payments_on(
-    alloc: Global,
-    course: &Course,
-    c: &Contr,
-    frame: i64,
-) -> Result<Vec<Payment>, FlowErr>
-    requires accepted { IsAccepted (declarations course.now.decls.now) (contract c.now) }
-    requires admitted { IsAdmitted (declarations course.now.decls.now) course.now.fixings.now }
+fn payments_on(alloc: Global, basis: &Basis, c: &Contr, frame: i64) -> Result<Vec<Payment>, FlowErr>
+    requires accepted { IsAccepted (declarations basis.now.decls.now) (contract c.now) }
+    requires admitted { IsAdmitted (declarations basis.now.decls.now) basis.now.fixings.now }
     requires first { pos 0 ≤ℤ frame }
     requires last { frame ≤ℤ pos last_start }
-    ensures { ArePaymentsOf course.now (contract c.now) frame result }
+    ensures { ArePaymentsOf basis.now (contract c.now) frame result }
 {
     let mut payments = Vec::new(alloc);
     let mut scratch = Scratch::with_room(alloc, names_in(c) as usize)?;
     let here = Standing {
         day: frame,
-        decimals: course.decls.amounts,
+        decimals: basis.decls.amounts,
     };
-    gather(course, &mut payments, &mut scratch, here, c)?;
+    gather(basis, &mut payments, &mut scratch, here, c)?;
     Ok(payments)
 }
 
@@ -65,12 +60,12 @@ pub fn flows_on(
     requires last { frame ≤ℤ pos last_start }
     ensures { AreFlows (declarations decls.now) (contract c.now) fixings.now frame until result }
 {
-    let course = Course {
+    let basis = Basis {
         decls,
         fixings,
         until,
     };
-    let payments = payments_on(alloc, &course, c, frame)?;
+    let payments = payments_on(alloc, &basis, c, frame)?;
     Ok(netted(alloc, payments)?)
 }
 

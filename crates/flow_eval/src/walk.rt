@@ -18,7 +18,7 @@ use term_core::{Contr, Days, Decls, Expr, Kind, Missing, Value};
 
 /// What a walk goes by: the declarations, the fixings, and the last day that counts.
 #[derive(Clone, Copy)]
-pub struct Course<'a> {
+pub struct Basis<'a> {
     pub decls: &'a Decls,
     pub fixings: &'a Fixings,
     pub until: i64,
@@ -57,43 +57,43 @@ impl Standing {
 }
 
 // The kind of an expression.
-fn kind_at(course: &Course, e: &Expr, scratch: &Scratch) -> Kind
-    requires ready { MayAnswer course.now (expression e.now) scratch.now }
-    ensures { result ≡ kind_among course.now (expression e.now) scratch.now }
+fn kind_at(basis: &Basis, e: &Expr, scratch: &Scratch) -> Kind
+    requires ready { MayAnswer basis.now (expression e.now) scratch.now }
+    ensures { result ≡ kind_among basis.now (expression e.now) scratch.now }
 {
-    kind_of(course.decls, e, scratch)
+    kind_of(basis.decls, e, scratch)
 }
 
 // The value of an expression on its day, or the first place that it reads and that is not fixed.
 fn value_at(
-    course: &Course,
+    basis: &Basis,
     e: &Expr,
     scratch: &mut Scratch,
     here: Standing,
 ) -> Result<Value, Missing>
-    requires ready { MayAnswer course.now (expression e.now) scratch.old }
+    requires ready { MayAnswer basis.now (expression e.now) scratch.old }
     requires day { IsAmongDays here.day 0 }
-    ensures answer { IsAnswerFor course.now (expression e.now) here scratch.old result }
+    ensures answer { IsAnswerFor basis.now (expression e.now) here scratch.old result }
     ensures same { scratch.new ≡ scratch.old }
 {
-    eval(course.decls, e, scratch, course.fixings, here.day)
+    eval(basis.decls, e, scratch, basis.fixings, here.day)
 }
 
 /// The last day that counts has passed.
-pub fn is_over(course: &Course, here: Standing) -> bool
-    ensures { result ≡ int_lt course.now.until here.day }
+pub fn is_over(basis: &Basis, here: Standing) -> bool
+    ensures { result ≡ int_lt basis.now.until here.day }
 {
-    course.until < here.day
+    basis.until < here.day
 }
 
 // The days after the first on which a test of so many days is tried.
-fn days_tried(course: &Course, here: Standing, days: u32) -> u32
+fn days_tried(basis: &Basis, here: Standing, days: u32) -> u32
     requires first { pos 0 ≤ℤ here.day }
-    requires in_time { here.day ≤ℤ course.now.until }
-    ensures { result ≡ min days (unsigned_abs (course.now.until -ℤ here.day)) }
+    requires in_time { here.day ≤ℤ basis.now.until }
+    ensures { result ≡ min days (unsigned_abs (basis.now.until -ℤ here.day)) }
 {
-    if course.until - here.day < days as i64 {
-        (course.until - here.day) as u32
+    if basis.until - here.day < days as i64 {
+        (basis.until - here.day) as u32
     } else {
         days
     }
@@ -101,33 +101,26 @@ fn days_tried(course: &Course, here: Standing, days: u32) -> u32
 
 /// The days until a test first holds, of so many and up to the last day that counts.
 pub fn first_day(
-    course: &Course,
+    basis: &Basis,
     test: &Expr,
     scratch: &mut Scratch,
     here: Standing,
     days: u32,
 ) -> Result<Option<u32>, Missing>
-    requires ready { MayAnswer course.now (expression test.now) scratch.old }
+    requires ready { MayAnswer basis.now (expression test.now) scratch.old }
     requires days { IsAmongDays here.day days }
-    requires in_time { here.day ≤ℤ course.now.until }
-    ensures answer { IsFirstDayFor course.now (expression test.now) here scratch.old days result }
+    requires in_time { here.day ≤ℤ basis.now.until }
+    ensures answer { IsFirstDayFor basis.now (expression test.now) here scratch.old days result }
     ensures found { IfOk result (λ first. IsUpTo first days) }
     ensures same { scratch.new ≡ scratch.old }
 {
-    let count = days_tried(course, here, days) + 1;
-    first_true(
-        course.decls,
-        test,
-        &*scratch,
-        course.fixings,
-        here.day,
-        count,
-    )
+    let count = days_tried(basis, here, days) + 1;
+    first_true(basis.decls, test, &*scratch, basis.fixings, here.day, count)
 }
 
 /// Notes the payment of one unit of an asset.
 pub fn gather_pay(
-    course: &Course,
+    basis: &Basis,
     out: &mut Vec<Payment>,
     here: Standing,
     asset: u32,
@@ -135,10 +128,10 @@ pub fn gather_pay(
     to: u32,
 ) -> Result<(), FlowErr>
     requires { here.decimals ≤ 12 }
-    ensures { Gathers (paid_alone course.now here asset from to) out.old.items out.new.items result }
+    ensures { Gathers (paid_alone basis.now here asset from to) out.old.items out.new.items result }
 {
     let transfer = Transfer { asset, from, to };
-    pay(out, course.until, here.day, transfer, pow10(here.decimals))?;
+    pay(out, basis.until, here.day, transfer, pow10(here.decimals))?;
     Ok(())
 }
 
@@ -146,62 +139,65 @@ pub fn gather_pay(
 /// it reads and that is not fixed.
 #[cycle(gathering)]
 pub fn gather(
-    course: &Course,
+    basis: &Basis,
     out: &mut Vec<Payment>,
     scratch: &mut Scratch,
     here: Standing,
     c: &Contr,
 ) -> Result<(), FlowErr>
-    requires ready { MayWalk course.now (contract c.now) here scratch.old }
+    requires ready { MayWalk basis.now (contract c.now) here scratch.old }
     requires days { IsAmongDays here.day (reach (contract c.now)) }
-    ensures answer { Notes course.now (contract c.now) here scratch.old out.old.items out.new.items result }
+    ensures answer { Notes basis.now (contract c.now)
+        here scratch.old out.old.items out.new.items result }
     ensures same { scratch.new ≡ scratch.old }
 {
-    if is_over(course, here) {
+    if is_over(basis, here) {
         return Ok(());
     }
     match c {
         Contr::Zero => Ok(()),
-        Contr::Pay { asset, from, to } => gather_pay(course, out, here, *asset, *from, *to),
-        Contr::Both { left, right } => gather_both(course, out, scratch, here, left, right),
-        Contr::Scale { factor, body } => gather_scaled(course, out, scratch, here, factor, body),
+        Contr::Pay { asset, from, to } => gather_pay(basis, out, here, *asset, *from, *to),
+        Contr::Both { left, right } => gather_both(basis, out, scratch, here, left, right),
+        Contr::Scale { factor, body } => gather_scaled(basis, out, scratch, here, factor, body),
         Contr::After { days, body } => {
-            gather(course, out, scratch, here.after(days.number()), body)
+            gather(basis, out, scratch, here.after(days.number()), body)
         }
-        Contr::Let { bound, body } => gather_bound(course, out, scratch, here, bound, body),
+        Contr::Let { bound, body } => gather_bound(basis, out, scratch, here, bound, body),
         Contr::Within {
             test,
             days,
             hit,
             miss,
-        } => gather_within(course, out, scratch, here, test, days, hit, miss),
+        } => gather_within(basis, out, scratch, here, test, days, hit, miss),
     }
 }
 
 // Notes the payments of two parts.
 #[cycle(gathering)]
 fn gather_both(
-    course: &Course,
+    basis: &Basis,
     out: &mut Vec<Payment>,
     scratch: &mut Scratch,
     here: Standing,
     left: &Contr,
     right: &Contr,
 ) -> Result<(), FlowErr>
-    requires ready { MayWalk course.now (Both (contract left.now) (contract right.now)) here scratch.old }
-    requires days { IsAmongDays here.day (max (reach (contract left.now)) (reach (contract right.now))) }
-    ensures answer { Notes course.now (Both (contract left.now) (contract right.now)) here scratch.old
-        out.old.items out.new.items result }
+    requires ready { MayWalk basis.now (Both (contract left.now) (contract right.now))
+        here scratch.old }
+    requires days { IsAmongDays here.day (max (reach (contract left.now))
+        (reach (contract right.now))) }
+    ensures answer { Notes basis.now (Both (contract left.now) (contract right.now))
+        here scratch.old out.old.items out.new.items result }
     ensures same { scratch.new ≡ scratch.old }
 {
-    gather(course, out, scratch, here, left)?;
-    gather(course, out, scratch, here, right)
+    gather(basis, out, scratch, here, left)?;
+    gather(basis, out, scratch, here, right)
 }
 
 // Notes the payments of the branch that a test enters, if it does so by the last day that counts.
 #[cycle(gathering)]
 fn gather_within(
-    course: &Course,
+    basis: &Basis,
     out: &mut Vec<Payment>,
     scratch: &mut Scratch,
     here: Standing,
@@ -210,44 +206,47 @@ fn gather_within(
     hit: &Contr,
     miss: &Contr,
 ) -> Result<(), FlowErr>
-    requires ready { MayWalk course.now (Within (expression test.now) (day_count days.now) (contract hit.now) (contract miss.now))
-        here scratch.old }
-    requires days { IsAmongDays here.day (count_of (day_count days.now) + max (reach (contract hit.now)) (reach (contract miss.now))) }
-    requires in_time { here.day ≤ℤ course.now.until }
-    ensures answer { Notes course.now (Within (expression test.now) (day_count days.now) (contract hit.now) (contract miss.now))
+    requires ready { MayWalk basis.now (Within (expression test.now) (day_count days.now)
+        (contract hit.now) (contract miss.now)) here scratch.old }
+    requires days { IsAmongDays here.day (count_of (day_count days.now)
+        + max (reach (contract hit.now)) (reach (contract miss.now))) }
+    requires in_time { here.day ≤ℤ basis.now.until }
+    ensures answer { Notes basis.now (Within (expression test.now) (day_count days.now)
+        (contract hit.now) (contract miss.now))
         here scratch.old out.old.items out.new.items result }
     ensures same { scratch.new ≡ scratch.old }
 {
     let days = days.number();
-    match first_day(course, test, scratch, here, days)? {
-        Some(first) => gather(course, out, scratch, here.after(first), hit),
-        None => gather(course, out, scratch, here.after(days), miss),
+    match first_day(basis, test, scratch, here, days)? {
+        Some(first) => gather(basis, out, scratch, here.after(first), hit),
+        None => gather(basis, out, scratch, here.after(days), miss),
     }
 }
 
 // Notes the payments of a contract times a factor, which is only asked for where there are some.
 #[cycle(gathering)]
 fn gather_scaled(
-    course: &Course,
+    basis: &Basis,
     out: &mut Vec<Payment>,
     scratch: &mut Scratch,
     here: Standing,
     factor: &Expr,
     body: &Contr,
 ) -> Result<(), FlowErr>
-    requires ready { MayWalk course.now (Scale (expression factor.now) (contract body.now)) here scratch.old }
+    requires ready { MayWalk basis.now (Scale (expression factor.now) (contract body.now))
+        here scratch.old }
     requires days { IsAmongDays here.day (reach (contract body.now)) }
-    ensures answer { Notes course.now (Scale (expression factor.now) (contract body.now)) here scratch.old
-        out.old.items out.new.items result }
+    ensures answer { Notes basis.now (Scale (expression factor.now) (contract body.now))
+        here scratch.old out.old.items out.new.items result }
     ensures same { scratch.new ≡ scratch.old }
 {
-    let scale = kind_at(course, factor, scratch).scale();
+    let scale = kind_at(basis, factor, scratch).scale();
     let first = out.len();
-    gather(course, out, scratch, here.within(scale), body)?;
+    gather(basis, out, scratch, here.within(scale), body)?;
     if out.len() == first {
         return Ok(());
     }
-    let factor = value_at(course, factor, scratch, here)?;
+    let factor = value_at(basis, factor, scratch, here)?;
     multiply_from(out, first, factor.number());
     Ok(())
 }
@@ -255,23 +254,24 @@ fn gather_scaled(
 // Notes the payments of a contract in which a name is bound to an expression.
 #[cycle(gathering)]
 fn gather_bound(
-    course: &Course,
+    basis: &Basis,
     out: &mut Vec<Payment>,
     scratch: &mut Scratch,
     here: Standing,
     bound: &Expr,
     body: &Contr,
 ) -> Result<(), FlowErr>
-    requires ready { MayWalk course.now (Let (expression bound.now) (contract body.now)) here scratch.old }
+    requires ready { MayWalk basis.now (Let (expression bound.now) (contract body.now))
+        here scratch.old }
     requires days { IsAmongDays here.day (reach (contract body.now)) }
-    ensures answer { Notes course.now (Let (expression bound.now) (contract body.now)) here scratch.old
-        out.old.items out.new.items result }
+    ensures answer { Notes basis.now (Let (expression bound.now) (contract body.now))
+        here scratch.old out.old.items out.new.items result }
     ensures same { scratch.new ≡ scratch.old }
 {
-    let kind = kind_at(course, bound, scratch);
-    let held = Held::of(value_at(course, bound, scratch, here));
+    let kind = kind_at(basis, bound, scratch);
+    let held = Held::of(value_at(basis, bound, scratch, here));
     scratch.enter(kind, held);
-    let gathered = gather(course, out, scratch, here, body);
+    let gathered = gather(basis, out, scratch, here, body);
     scratch.leave();
     gathered
 }

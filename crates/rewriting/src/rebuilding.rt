@@ -80,7 +80,8 @@ pub fn of_one(
 fn with_two(e: &Expr, left: Box<Expr>, right: Box<Expr>) -> Option<Expr>
     ensures same { after (expression e.now) result
         ≡ over_two (expression e.now) (expression left.value) (expression right.value) }
-    ensures less { IsLessByParts (expression e.now) (expression left.value) (expression right.value) result }
+    ensures less { IsLessByParts (expression e.now) (expression left.value)
+        (expression right.value) result }
 {
     match e {
         Expr::Num { op, .. } => Some(Expr::Num {
@@ -126,7 +127,8 @@ pub fn of_two(
         ≡ expression e.now }
     ensures same { IfOk result (λ r. after (expression e.now) r
         ≡ two_after e.now left.now one right.now two) }
-    ensures less { IfOk result (λ r. IfBothAreLess left.now one right.now two (IsLess r (expression e.now))) }
+    ensures less { IfOk result
+        (λ r. IfBothAreLess left.now one right.now two (IsLess r (expression e.now))) }
 {
     if one.is_none() && two.is_none() {
         return Ok(None);
@@ -147,10 +149,12 @@ pub fn of_three(
     two: Option<Expr>,
     three: Option<Expr>,
 ) -> Result<Option<Expr>, NoMemory>
-    requires { expression e.now ≡ Cond (expression test.now) (expression yes.now) (expression no.now) }
+    requires { expression e.now ≡ Cond (expression test.now) (expression yes.now)
+        (expression no.now) }
     ensures same { IfOk result (λ r. after (expression e.now) r
         ≡ choice_after test.now one yes.now two no.now three) }
-    ensures less { IfOk result (λ r. IfAllAreLess test.now one yes.now two no.now three (IsLess r (expression e.now))) }
+    ensures less { IfOk result
+        (λ r. IfAllAreLess test.now one yes.now two no.now three (IsLess r (expression e.now))) }
 {
     if one.is_none() && two.is_none() && three.is_none() {
         return Ok(None);

@@ -59,7 +59,8 @@ pub fn literal_in(e: &Expr) -> Option<Typed>
 
 // The values of two literals.
 fn literals_in(left: &Expr, right: &Expr) -> Option<Operands>
-    ensures { result ≡ both (model.literal_in (expression left.now)) (model.literal_in (expression right.now)) }
+    ensures { result ≡ both (model.literal_in (expression left.now))
+        (model.literal_in (expression right.now)) }
 {
     let Some(left) = literal_in(left) else {
         return None;

@@ -1,4 +1,3 @@
-pub mod Facts
 pub mod Specialising
 pub mod Specialisable
 pub mod WalkAnswers

@@ -15,9 +15,8 @@ ghost use Rattle.specialise.specs.WalkAnswers.{IsToldOf, IsToldOn, TakesItsPlace
 use crate::contracts::specialise_from;
 use crate::expressions::specialise_at;
 use crate::frames::Frame;
-use crate::known::Known;
 use decimal::NoMemory;
-use fixing_files::Fixings;
+use fixing_files::{Fixings, Known};
 use std::alloc::Global;
 use std::rc::Rc;
 use term_core::{Contr, Decls, Expr, SharedContr, share, unshare};

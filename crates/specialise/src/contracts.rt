@@ -13,8 +13,8 @@ ghost use Rattle.specialise.specs.Specialisable.{MayTellWithin};
 ghost use Rattle.specialise.specs.WalkAnswers.{TakesItsPlaceIn, TakesItsPlaceLater, TakesPlaceOf};
 
 use crate::expressions::specialise_at;
-use crate::known::Known;
 use decimal::NoMemory;
+use fixing_files::Known;
 use rewriting::{after_of, both_of, let_of, scale_of, within_of};
 use std::alloc::Global;
 use std::rc::Rc;

@@ -11,11 +11,10 @@ ghost use Rattle.specialise.specs.Specialisable.{CanTell, IsLookedUp, MaySpecial
 ghost use Rattle.specialise.specs.WalkAnswers.{told_on, IsAccumulator, TakesItsPlace};
 ghost use Rattle.specialise.specs.WalkAnswers.{TakesPlaceOfObs, TakesPlaceOfSteps};
 
-use crate::known::Known;
 use crate::literals::observed;
 use decimal::NoMemory;
 use expr_eval::{Scratch, eval, kind_of};
-use fixing_files::Fixings;
+use fixing_files::{Fixings, Known};
 use rewriting::{literal, names_within, of_one, of_three, of_two};
 use std::alloc::Global;
 use term_core::{Decls, Expr, days_earlier};

@@ -14,7 +14,6 @@ mod calls;
 mod contracts;
 mod expressions;
 mod frames;
-mod known;
 pub mod laws;
 mod literals;
 

@@ -7,7 +7,7 @@ use Rattle.advance_step.proofs.carried.carry_by_walk.Goals as goal
 
 pub carry_in-requires : goal.carry_in-requires
 carry_in-requires c =
-    let d = c.args.course.now.decls in
+    let d = c.args.known.now.decls in
     let s = c.args.s.now.value in
     let can =
     whole_ready d s c.deref.result.now _ c.in_ok-scratch.ensures.empty c.deref.ensures
@@ -21,6 +21,6 @@ carry_in-requires c =
 
 pub returns : goal.returns
 returns c =
-    whole_answers c.args.course.now (shared c.args.s.now.value) (shared c.deref.result.now)
+    whole_answers c.args.known.now (shared c.args.s.now.value) (shared c.deref.result.now)
     c.in_ok-scratch.scratch c.args.span c.carry_in.result c.in_ok-scratch.ensures.empty
     (ap (λ (x : SharedContr). shared x) c.deref.ensures) c.carry_in.ensures.answer

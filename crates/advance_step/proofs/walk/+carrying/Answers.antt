@@ -22,14 +22,14 @@ some_day o = Ok o
 pub carry_in-returns-in-Zero-clause-answer : goal.carry_in-returns-in-Zero-clause-answer
 carry_in-returns-in-Zero-clause-answer t c =
     let stands = sym (ap (λ (x : SharedContr). shared x) c.in-Zero.is) in
-    zero_answers c.args.course.now (shared c.args.s.now) c.args.scratch.now c.args.span
+    zero_answers c.args.known.now (shared c.args.s.now) c.args.scratch.now c.args.span
     c.nothing_left.result stands c.nothing_left.ensures.tree c.nothing_left.ensures.offsets
     c.nothing_left.ensures.memory
 
 pub carry_in-returns-in-Pay-clause-answer : goal.carry_in-returns-in-Pay-clause-answer
 carry_in-returns-in-Pay-clause-answer t c =
     let stands = sym (ap (λ (x : SharedContr). shared x) c.in-Pay.is) in
-    pay_answers c.args.course.now (shared c.args.s.now) _ _ _ c.args.scratch.now c.args.span
+    pay_answers c.args.known.now (shared c.args.s.now) _ _ _ c.args.scratch.now c.args.span
     c.nothing_left-in-Pay.result stands c.nothing_left-in-Pay.ensures.tree
     c.nothing_left-in-Pay.ensures.offsets c.nothing_left-in-Pay.ensures.memory
 
@@ -39,7 +39,7 @@ pub carry_both-returns-in_err-left-clause-answer : goal.carry_both-returns-in_er
 carry_both-returns-in_err-left-clause-answer t c =
     let e = c.in_err-left.field-0.0 in
     let err : c.from_residual.result ≡ Err e = grind (arith, c.from_residual.ensures) in
-    left_fails c.args.course.now (shared c.args.left.now.value) (shared c.deref.result.now)
+    left_fails c.args.known.now (shared c.args.left.now.value) (shared c.deref.result.now)
     (shared c.args.right.now.value) c.args.scratch.now c.args.span c.carry_in.result _ e
     (ap (λ (x : SharedContr). shared x) c.deref.ensures) c.in_err-left.was err
     c.carry_in.ensures.answer
@@ -50,7 +50,7 @@ carry_both-returns-in_err-right-clause-answer t c =
     let e = c.in_err-right.field-0.0 in
     let err : c.from_residual-in_err-right.result ≡ Err e =
     grind (arith, c.from_residual-in_err-right.ensures) in
-    right_fails c.args.course.now (shared c.args.left.now.value) (shared c.args.right.now.value)
+    right_fails c.args.known.now (shared c.args.left.now.value) (shared c.args.right.now.value)
     (shared c.deref-2.result.now) c.args.scratch.now c.carry_in.new.scratch c.args.span
     c.carry_in-2.result _ e (ap (λ (x : SharedContr). shared x) c.deref-2.ensures)
     c.carry_in.ensures.same c.in_err-right.was err c.carry_in-2.ensures.answer
@@ -58,7 +58,7 @@ carry_both-returns-in_err-right-clause-answer t c =
 pub carry_both-returns-clause-answer : goal.carry_both-returns-clause-answer
 carry_both-returns-clause-answer t c =
     let r = c.in_ok-both_left.field-0.value in (
-      both_is_left c.args.course.now (shared c.args.left.now.value) (shared c.deref.result.now)
+      both_is_left c.args.known.now (shared c.args.left.now.value) (shared c.deref.result.now)
           (shared c.args.right.now.value) (shared c.deref-2.result.now)
           (shared c.in_ok-left.left.value)
           (shared c.in_ok-right.right.value) (shared r) c.args.scratch.now c.carry_in.new.scratch
@@ -74,7 +74,7 @@ pub carry_scaled-returns-in_err-body-clause-answer
 carry_scaled-returns-in_err-body-clause-answer t c =
     let e = c.in_err-body.field-0.0 in
     let err : c.from_residual.result ≡ Err e = grind (arith, c.from_residual.ensures) in
-    scale_fails c.args.course.now _ (shared c.args.body.now.value) (shared c.deref.result.now)
+    scale_fails c.args.known.now _ (shared c.args.body.now.value) (shared c.deref.result.now)
     c.args.scratch.now c.args.span c.carry_in.result _ e
     (ap (λ (x : SharedContr). shared x) c.deref.ensures) c.in_err-body.was err
     c.carry_in.ensures.answer
@@ -82,7 +82,7 @@ carry_scaled-returns-in_err-body-clause-answer t c =
 pub carry_scaled-returns-clause-answer : goal.carry_scaled-returns-clause-answer
 carry_scaled-returns-clause-answer t c =
     let r = c.in_ok-scale_left.field-0.value in (
-      scale_is_left c.args.course.now (expression c.args.factor.now.value) c.args.moved _
+      scale_is_left c.args.known.now (expression c.args.factor.now.value) c.args.moved _
           (shared c.args.body.now.value) (shared c.deref.result.now)
           (shared c.in_ok-body.body.value)
           (shared r) c.args.scratch.now c.args.span (to_z-of_z w32 c.args.moved c.ranges.moved)
@@ -97,7 +97,7 @@ pub carry_after-returns-then-days-span-clause-answer
     : goal.carry_after-returns-then-days-span-clause-answer
 carry_after-returns-then-days-span-clause-answer t c =
     let le : c.args.days ≤ c.args.span.last = grind (arith, c.if-days-span.true) in
-    after_answers c.args.course.now (shared c.args.body.now.value) (shared c.deref.result.now)
+    after_answers c.args.known.now (shared c.args.body.now.value) (shared c.deref.result.now)
     c.args.days
     c.args.scratch.now c.args.span c.after.result c.carry_in.result
     (ap (λ (x : SharedContr). shared x) c.deref.ensures) le c.after.ensures.day c.after.ensures.last
@@ -107,7 +107,7 @@ carry_after-returns-then-days-span-clause-answer t c =
 
 pub carry_bound-carry_in-carried-requires : goal.carry_bound-carry_in-carried-requires
 carry_bound-carry_in-carried-requires t c =
-    let b = c.args.course.now in
+    let b = c.args.known.now in
     let e = expression c.args.bound.now.value in
     let entered =
     entered_in c.args.scratch.now c.entry_for-entry.new.scratch c.enter.new.self _
@@ -133,7 +133,7 @@ carry_bound-returns-in_err-carried-clause-answer t c =
     let entered =
     entered_in c.args.scratch.now c.entry_for-entry.new.scratch c.enter.new.self _
     c.entry_for-entry.ensures.same c.enter.ensures.entries in
-    bound_fails c.args.course.now c.entry_for-entry.result (expression c.args.bound.now.value) _
+    bound_fails c.args.known.now c.entry_for-entry.result (expression c.args.bound.now.value) _
     c.args.moved _ (shared c.args.body.now.value) (shared c.deref-2.result.now) c.args.scratch.now
     c.enter.new.self c.args.span c.carry_in-carried.result c.from_residual.result y z
     (ap (λ (x : Expr). expression x) c.deref.ensures)
@@ -147,7 +147,7 @@ carry_bound-returns-clause-answer t c =
     let entered =
     entered_in c.args.scratch.now c.entry_for-entry.new.scratch c.enter.new.self _
     c.entry_for-entry.ensures.same c.enter.ensures.entries in (
-      body_is_left c.args.course.now c.entry_for-entry.result (expression c.args.bound.now.value) _
+      body_is_left c.args.known.now c.entry_for-entry.result (expression c.args.bound.now.value) _
           c.args.moved _ _ (shared c.args.body.now.value) (shared c.deref-2.result.now)
           (shared c.in_ok-carried.field-0.value) (shared r) c.args.scratch.now c.enter.new.self
           c.args.span z z (ap (λ (x : Expr). expression x) c.deref.ensures)
@@ -165,7 +165,7 @@ carry_within-returns-in_err-first-clause-answer t c =
     let m = c.in_err-first.field-0.0 in
     let err : c.from_residual.result ≡ Err (lacks_place m) =
     grind (arith, c.from_residual.ensures) in
-    test_fails c.args.course.now (expression c.args.test.now.value) _ c.args.days
+    test_fails c.args.known.now (expression c.args.test.now.value) _ c.args.days
     (shared c.args.hit.now.value) (shared c.args.miss.now.value) c.args.scratch.now c.args.span
     c.first_day.result m c.from_residual.result (ap (λ (x : Expr). expression x) c.deref.ensures)
     c.first_day.ensures.answer c.in_err-first.was err
@@ -176,7 +176,7 @@ carry_within-returns-in-Some-clause-answer t c =
     let found = c.in_ok-first.was ∙ ap (λ (o : Option ℕ). some_day o) c.in-Some.is in
     let low = found_among c.in_ok-first.field-0 k c.args.span.last c.in-Some.is
     c.in_ok-first.ensures.found in
-    hit_answers c.args.course.now (expression c.args.test.now.value) _ c.args.days k
+    hit_answers c.args.known.now (expression c.args.test.now.value) _ c.args.days k
     (shared c.args.hit.now.value) (shared c.deref-in-Some.result.now) (shared c.args.miss.now.value)
     c.args.scratch.now c.args.span c.after.result c.first_day.result c.carry_in.result
     (ap (λ (x : Expr). expression x) c.deref.ensures)
@@ -188,7 +188,7 @@ pub carry_within-returns-in-None-clause-answer : goal.carry_within-returns-in-No
 carry_within-returns-in-None-clause-answer t c =
     let none = c.in_ok-first.was ∙ ap (λ (o : Option ℕ). some_day o) c.in-None.is in
     let le : c.args.days ≤ c.args.span.last = grind (arith, c.if-days-span.true) in
-    miss_answers c.args.course.now (expression c.args.test.now.value) _ c.args.days
+    miss_answers c.args.known.now (expression c.args.test.now.value) _ c.args.days
     (shared c.args.hit.now.value) (shared c.args.miss.now.value) (shared c.deref-in-None.result.now)
     c.args.scratch.now c.args.span c.after-in-None.result c.first_day.result
     c.carry_in-in-None.result
@@ -202,7 +202,7 @@ carry_within-returns-in_ok-still_waiting-in-None-2-clause-answer t c =
     let r = c.in_ok-still_waiting-in-None-2.field-0.value in
     let none = c.in_ok-first.was ∙ ap (λ (o : Option ℕ). some_day o) c.in-None-2.is in
     let lt : c.args.span.last < c.args.days = grind (arith, c.if-days-span.false) in (
-      waits_left c.args.course.now (expression c.args.test.now.value) _ c.args.days
+      waits_left c.args.known.now (expression c.args.test.now.value) _ c.args.days
           (c.args.days - c.args.span.last - 1) (shared c.args.hit.now.value)
           (shared c.args.miss.now.value) (shared r) c.args.scratch.now c.args.span
           c.first_day.result

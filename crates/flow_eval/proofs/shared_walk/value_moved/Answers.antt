@@ -10,13 +10,13 @@ use Rattle.flow_eval.proofs.MovedFacts.{answer_moved}
 use Rattle.flow_eval.proofs.shared_walk.value_moved.Goals as goal
 
 pub eval-requires-clause-place : goal.eval-requires-clause-place
-eval-requires-clause-place c = may_evaluate_stored (declarations c.args.course.now.decls.now) c.args.moved (expression c.args.e.now) c.args.scratch.now c.args.course.now.fixings.now c.requires.ready
+eval-requires-clause-place c = may_evaluate_stored (declarations c.args.basis.now.decls.now) c.args.moved (expression c.args.e.now) c.args.scratch.now c.args.basis.now.fixings.now c.requires.ready
 
 pub returns-clause-answer : goal.returns-clause-answer
 returns-clause-answer c = λ g bs stand.
-    let d = declarations c.args.course.now.decls.now in
+    let d = declarations c.args.basis.now.decls.now in
     let e = expression c.args.e.now in
-    let F = c.args.course.now.fixings.now in
+    let F = c.args.basis.now.fixings.now in
     let k = c.args.moved in
     let f = c.args.here.day in
     let z = to_z-of_z w32 c.args.moved c.ranges.moved in

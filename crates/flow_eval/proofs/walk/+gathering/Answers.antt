@@ -24,61 +24,61 @@ use Rattle.flow_eval.proofs.walk.+gathering.Goals as goal
 
 pub gather-returns-then-is_over-clause-answer : goal.gather-returns-then-is_over-clause-answer
 gather-returns-then-is_over-clause-answer t c = λ g bs stand.
-    over_notes c.args.out.now.items _ (walk_over (declarations c.args.course.now.decls.now) c.args.course.now.fixings.now c.args.course.now.until (contract c.args.c.now) g bs c.args.here.decimals c.args.here.day (sym c.is_over.ensures ∙ c.if-is_over.true))
+    over_notes c.args.out.now.items _ (walk_over (declarations c.args.basis.now.decls.now) c.args.basis.now.fixings.now c.args.basis.now.until (contract c.args.c.now) g bs c.args.here.decimals c.args.here.day (sym c.is_over.ensures ∙ c.if-is_over.true))
 
 pub gather_within-gather-requires : goal.gather_within-gather-requires
 gather_within-gather-requires t c = (
   search rules,
-  hit_ready (declarations c.args.course.now.decls.now) c.args.course.now.fixings.now c.args.here c.after.result c.args.scratch.now c.first_day.new.scratch (Within (expression c.args.test.now) (day_count c.args.days.now) (contract c.args.hit.now) (contract c.args.miss.now)) (expression c.args.test.now) (day_count c.args.days.now) (contract c.args.hit.now) (contract c.args.miss.now) (contract c.args.hit.now) c.in_ok-first.field-0 c.in-Some.first c.number-days.result
+  hit_ready (declarations c.args.basis.now.decls.now) c.args.basis.now.fixings.now c.args.here c.after.result c.args.scratch.now c.first_day.new.scratch (Within (expression c.args.test.now) (day_count c.args.days.now) (contract c.args.hit.now) (contract c.args.miss.now)) (expression c.args.test.now) (day_count c.args.days.now) (contract c.args.hit.now) (contract c.args.miss.now) (contract c.args.hit.now) c.in_ok-first.field-0 c.in-Some.first c.number-days.result
       refl c.number-days.ensures c.in_ok-first.ensures.found c.in-Some.is c.after.ensures refl c.first_day.ensures.same c.requires.ready c.requires.days,
 )
 
 pub gather_within-gather-requires-in-None : goal.gather_within-gather-requires-in-None
 gather_within-gather-requires-in-None t c = (
   search rules,
-  miss_ready (declarations c.args.course.now.decls.now) c.args.course.now.fixings.now c.args.here c.after-in-None.result c.args.scratch.now c.first_day.new.scratch (Within (expression c.args.test.now) (day_count c.args.days.now) (contract c.args.hit.now) (contract c.args.miss.now)) (expression c.args.test.now) (day_count c.args.days.now) (contract c.args.hit.now) (contract c.args.miss.now) (contract c.args.miss.now) c.number-days.result
+  miss_ready (declarations c.args.basis.now.decls.now) c.args.basis.now.fixings.now c.args.here c.after-in-None.result c.args.scratch.now c.first_day.new.scratch (Within (expression c.args.test.now) (day_count c.args.days.now) (contract c.args.hit.now) (contract c.args.miss.now)) (expression c.args.test.now) (day_count c.args.days.now) (contract c.args.hit.now) (contract c.args.miss.now) (contract c.args.miss.now) c.number-days.result
       refl c.number-days.ensures c.after-in-None.ensures refl c.first_day.ensures.same c.requires.ready c.requires.days,
 )
 
 pub gather_within-returns-in-Some-clause-answer : goal.gather_within-returns-in-Some-clause-answer
 gather_within-returns-in-Some-clause-answer t c = λ g bs stand.
-    hit_noted (declarations c.args.course.now.decls.now) c.args.course.now.fixings.now c.args.course.now.until c.args.here c.after.result (Within (expression c.args.test.now) (day_count c.args.days.now) (contract c.args.hit.now) (contract c.args.miss.now)) (expression c.args.test.now) (day_count c.args.days.now) (contract c.args.hit.now) (contract c.args.miss.now) (contract c.args.hit.now) g bs false c.first_day.result c.in_ok-first.field-0 c.in-Some.first c.number-days.result c.args.out.now.items c.gather.new.out.items c.gather.result
-    refl (not_over c.args.course.now.until c.args.here.day c.requires.in_time) refl c.number-days.ensures (c.first_day.ensures.answer g bs stand) c.in_ok-first.was c.in-Some.is c.after.ensures refl
-    (c.gather.ensures.answer g bs (stand_in c.args.course.now.fixings.now c.args.scratch.now c.first_day.new.scratch g bs c.first_day.ensures.same stand))
+    hit_noted (declarations c.args.basis.now.decls.now) c.args.basis.now.fixings.now c.args.basis.now.until c.args.here c.after.result (Within (expression c.args.test.now) (day_count c.args.days.now) (contract c.args.hit.now) (contract c.args.miss.now)) (expression c.args.test.now) (day_count c.args.days.now) (contract c.args.hit.now) (contract c.args.miss.now) (contract c.args.hit.now) g bs false c.first_day.result c.in_ok-first.field-0 c.in-Some.first c.number-days.result c.args.out.now.items c.gather.new.out.items c.gather.result
+    refl (not_over c.args.basis.now.until c.args.here.day c.requires.in_time) refl c.number-days.ensures (c.first_day.ensures.answer g bs stand) c.in_ok-first.was c.in-Some.is c.after.ensures refl
+    (c.gather.ensures.answer g bs (stand_in c.args.basis.now.fixings.now c.args.scratch.now c.first_day.new.scratch g bs c.first_day.ensures.same stand))
 
 pub gather_within-returns-in-None-clause-answer : goal.gather_within-returns-in-None-clause-answer
 gather_within-returns-in-None-clause-answer t c = λ g bs stand.
-    miss_noted (declarations c.args.course.now.decls.now) c.args.course.now.fixings.now c.args.course.now.until c.args.here c.after-in-None.result (Within (expression c.args.test.now) (day_count c.args.days.now) (contract c.args.hit.now) (contract c.args.miss.now)) (expression c.args.test.now) (day_count c.args.days.now) (contract c.args.hit.now) (contract c.args.miss.now) (contract c.args.miss.now) g bs false c.first_day.result c.in_ok-first.field-0 c.number-days.result c.args.out.now.items c.gather-in-None.new.out.items c.gather-in-None.result
-    refl (not_over c.args.course.now.until c.args.here.day c.requires.in_time) refl c.number-days.ensures (c.first_day.ensures.answer g bs stand) c.in_ok-first.was c.in-None.is c.after-in-None.ensures refl
-    (c.gather-in-None.ensures.answer g bs (stand_in c.args.course.now.fixings.now c.args.scratch.now c.first_day.new.scratch g bs c.first_day.ensures.same stand))
+    miss_noted (declarations c.args.basis.now.decls.now) c.args.basis.now.fixings.now c.args.basis.now.until c.args.here c.after-in-None.result (Within (expression c.args.test.now) (day_count c.args.days.now) (contract c.args.hit.now) (contract c.args.miss.now)) (expression c.args.test.now) (day_count c.args.days.now) (contract c.args.hit.now) (contract c.args.miss.now) (contract c.args.miss.now) g bs false c.first_day.result c.in_ok-first.field-0 c.number-days.result c.args.out.now.items c.gather-in-None.new.out.items c.gather-in-None.result
+    refl (not_over c.args.basis.now.until c.args.here.day c.requires.in_time) refl c.number-days.ensures (c.first_day.ensures.answer g bs stand) c.in_ok-first.was c.in-None.is c.after-in-None.ensures refl
+    (c.gather-in-None.ensures.answer g bs (stand_in c.args.basis.now.fixings.now c.args.scratch.now c.first_day.new.scratch g bs c.first_day.ensures.same stand))
 
 pub gather_within-returns-in_err-first-clause-answer : goal.gather_within-returns-in_err-first-clause-answer
 gather_within-returns-in_err-first-clause-answer t c = λ g bs stand.
     let err : c.from_residual.result ≡ Err (lacks_place c.in_err-first.field-0.0) = grind (arith, c.from_residual.ensures) in
-    test_missing (declarations c.args.course.now.decls.now) c.args.course.now.fixings.now c.args.course.now.until c.args.here (Within (expression c.args.test.now) (day_count c.args.days.now) (contract c.args.hit.now) (contract c.args.miss.now)) (expression c.args.test.now) (day_count c.args.days.now) (contract c.args.hit.now) (contract c.args.miss.now) g bs false c.first_day.result c.in_err-first.field-0.0 c.number-days.result c.args.out.now.items c.args.out.now.items c.from_residual.result
-    refl (not_over c.args.course.now.until c.args.here.day c.requires.in_time) refl c.number-days.ensures (c.first_day.ensures.answer g bs stand) c.in_err-first.was err
+    test_missing (declarations c.args.basis.now.decls.now) c.args.basis.now.fixings.now c.args.basis.now.until c.args.here (Within (expression c.args.test.now) (day_count c.args.days.now) (contract c.args.hit.now) (contract c.args.miss.now)) (expression c.args.test.now) (day_count c.args.days.now) (contract c.args.hit.now) (contract c.args.miss.now) g bs false c.first_day.result c.in_err-first.field-0.0 c.number-days.result c.args.out.now.items c.args.out.now.items c.from_residual.result
+    refl (not_over c.args.basis.now.until c.args.here.day c.requires.in_time) refl c.number-days.ensures (c.first_day.ensures.answer g bs stand) c.in_err-first.was err
 
 pub gather_both-returns-clause-answer : goal.gather_both-returns-clause-answer
 gather_both-returns-clause-answer t c = λ g bs stand.
-    both_noted (declarations c.args.course.now.decls.now) c.args.course.now.fixings.now c.args.course.now.until c.args.here (contract c.args.left.now) (contract c.args.right.now) g bs c.args.out.now.items c.gather.new.out.items c.gather-2.new.out.items c.gather.result c.gather-2.result _
-    c.in_ok-gather.was (c.gather.ensures.answer g bs stand) (c.gather-2.ensures.answer g bs (stand_in c.args.course.now.fixings.now c.args.scratch.now c.gather.new.scratch g bs c.gather.ensures.same stand))
+    both_noted (declarations c.args.basis.now.decls.now) c.args.basis.now.fixings.now c.args.basis.now.until c.args.here (contract c.args.left.now) (contract c.args.right.now) g bs c.args.out.now.items c.gather.new.out.items c.gather-2.new.out.items c.gather.result c.gather-2.result _
+    c.in_ok-gather.was (c.gather.ensures.answer g bs stand) (c.gather-2.ensures.answer g bs (stand_in c.args.basis.now.fixings.now c.args.scratch.now c.gather.new.scratch g bs c.gather.ensures.same stand))
 
 pub gather_within-first_day-requires-clause-ready : goal.gather_within-first_day-requires-clause-ready
-gather_within-first_day-requires-clause-ready t c = ready_test (declarations c.args.course.now.decls.now) (expression c.args.test.now) (day_count c.args.days.now) (contract c.args.hit.now) (contract c.args.miss.now) c.args.here.decimals c.args.scratch.now c.args.course.now.fixings.now c.requires.ready
+gather_within-first_day-requires-clause-ready t c = ready_test (declarations c.args.basis.now.decls.now) (expression c.args.test.now) (day_count c.args.days.now) (contract c.args.hit.now) (contract c.args.miss.now) c.args.here.decimals c.args.scratch.now c.args.basis.now.fixings.now c.requires.ready
 
 -- ---- a name
 
 pub gather_bound-kind_at-kind-requires : goal.gather_bound-kind_at-kind-requires
-gather_bound-kind_at-kind-requires t c = record { ready = ready_bound (declarations c.args.course.now.decls.now) (expression c.args.bound.now) (contract c.args.body.now) c.args.here.decimals c.args.scratch.now c.args.course.now.fixings.now c.requires.ready }
+gather_bound-kind_at-kind-requires t c = record { ready = ready_bound (declarations c.args.basis.now.decls.now) (expression c.args.bound.now) (contract c.args.body.now) c.args.here.decimals c.args.scratch.now c.args.basis.now.fixings.now c.requires.ready }
 
 pub gather_bound-value_at-requires-clause-ready : goal.gather_bound-value_at-requires-clause-ready
-gather_bound-value_at-requires-clause-ready t c = ready_bound (declarations c.args.course.now.decls.now) (expression c.args.bound.now) (contract c.args.body.now) c.args.here.decimals c.args.scratch.now c.args.course.now.fixings.now c.requires.ready
+gather_bound-value_at-requires-clause-ready t c = ready_bound (declarations c.args.basis.now.decls.now) (expression c.args.bound.now) (contract c.args.body.now) c.args.here.decimals c.args.scratch.now c.args.basis.now.fixings.now c.requires.ready
 
 pub gather_bound-gather-gathered-requires : goal.gather_bound-gather-gathered-requires
 gather_bound-gather-gathered-requires t c = (
   search rules,
   (
-    ready_let (declarations c.args.course.now.decls.now) (expression c.args.bound.now) (contract c.args.body.now) c.args.here.decimals c.args.scratch.now c.enter.new.self c.args.course.now.fixings.now c.args.here.day c.kind_at-kind.result c.value_at.result c.of-held.result c.requires.ready c.kind_at-kind.ensures
+    ready_let (declarations c.args.basis.now.decls.now) (expression c.args.bound.now) (contract c.args.body.now) c.args.here.decimals c.args.scratch.now c.enter.new.self c.args.basis.now.fixings.now c.args.here.day c.kind_at-kind.result c.value_at.result c.of-held.result c.requires.ready c.kind_at-kind.ensures
         (c.value_at.ensures.answer c.requires.ready.values c.requires.ready.places c.requires.ready.stand) c.of-held.ensures
         (entered_in c.args.scratch.now c.value_at.new.scratch c.enter.new.self _ c.value_at.ensures.same c.enter.ensures.entries) (spared_in c.args.scratch.now c.value_at.new.scratch c.enter.new.self c.value_at.ensures.same c.enter.ensures.spare),
     c.requires.days,
@@ -87,53 +87,53 @@ gather_bound-gather-gathered-requires t c = (
 
 pub gather_bound-returns-clause-answer : goal.gather_bound-returns-clause-answer
 gather_bound-returns-clause-answer t c = λ g bs stand.
-    let d = (declarations c.args.course.now.decls.now) in
+    let d = (declarations c.args.basis.now.decls.now) in
     let e = expression c.args.bound.now in
     let f = c.args.here.day in
     let entered = entered_in c.args.scratch.now c.value_at.new.scratch c.enter.new.self _ c.value_at.ensures.same c.enter.ensures.entries in
-    c.gather-gathered.ensures.answer (entry_of d e g c.args.course.now.fixings.now f ∷ g) (reads_of d e g bs c.args.course.now.fixings.now f ∷ bs)
-    (subst (λ (es : List Binding). StandFor c.args.course.now.fixings.now es (entry_of d e g c.args.course.now.fixings.now f ∷ g) (reads_of d e g bs c.args.course.now.fixings.now f ∷ bs)) (sym entered)
-    (entered_stands d e c.args.course.now.fixings.now f c.args.scratch.now.entries g bs c.kind_at-kind.result c.value_at.result c.of-held.result stand c.kind_at-kind.ensures (c.value_at.ensures.answer g bs stand) c.of-held.ensures))
+    c.gather-gathered.ensures.answer (entry_of d e g c.args.basis.now.fixings.now f ∷ g) (reads_of d e g bs c.args.basis.now.fixings.now f ∷ bs)
+    (subst (λ (es : List Binding). StandFor c.args.basis.now.fixings.now es (entry_of d e g c.args.basis.now.fixings.now f ∷ g) (reads_of d e g bs c.args.basis.now.fixings.now f ∷ bs)) (sym entered)
+    (entered_stands d e c.args.basis.now.fixings.now f c.args.scratch.now.entries g bs c.kind_at-kind.result c.value_at.result c.of-held.result stand c.kind_at-kind.ensures (c.value_at.ensures.answer g bs stand) c.of-held.ensures))
 
 -- ---- a factor
 
 pub gather_scaled-kind_at-requires : goal.gather_scaled-kind_at-requires
-gather_scaled-kind_at-requires t c = record { ready = ready_factor (declarations c.args.course.now.decls.now) (expression c.args.factor.now) (contract c.args.body.now) c.args.here.decimals c.args.scratch.now c.args.course.now.fixings.now c.requires.ready }
+gather_scaled-kind_at-requires t c = record { ready = ready_factor (declarations c.args.basis.now.decls.now) (expression c.args.factor.now) (contract c.args.body.now) c.args.here.decimals c.args.scratch.now c.args.basis.now.fixings.now c.requires.ready }
 
 pub gather_scaled-within-requires : goal.gather_scaled-within-requires
-gather_scaled-within-requires t c = scale_fits (declarations c.args.course.now.decls.now) (expression c.args.factor.now) (contract c.args.body.now) c.args.here.decimals c.args.scratch.now c.args.course.now.fixings.now c.kind_at.result c.scale-scale.result c.requires.ready c.kind_at.ensures c.scale-scale.ensures
+gather_scaled-within-requires t c = scale_fits (declarations c.args.basis.now.decls.now) (expression c.args.factor.now) (contract c.args.body.now) c.args.here.decimals c.args.scratch.now c.args.basis.now.fixings.now c.kind_at.result c.scale-scale.result c.requires.ready c.kind_at.ensures c.scale-scale.ensures
 
 pub gather_scaled-gather-requires : goal.gather_scaled-gather-requires
 gather_scaled-gather-requires t c =
-    (search rules, body_ready (declarations c.args.course.now.decls.now) (expression c.args.factor.now) (contract c.args.body.now) c.args.here c.within.result c.args.scratch.now c.args.course.now.fixings.now c.kind_at.result c.scale-scale.result c.requires.ready c.requires.days c.kind_at.ensures c.scale-scale.ensures c.within.ensures)
+    (search rules, body_ready (declarations c.args.basis.now.decls.now) (expression c.args.factor.now) (contract c.args.body.now) c.args.here c.within.result c.args.scratch.now c.args.basis.now.fixings.now c.kind_at.result c.scale-scale.result c.requires.ready c.requires.days c.kind_at.ensures c.scale-scale.ensures c.within.ensures)
 
 pub gather_scaled-returns-in_err-gather-clause-answer : goal.gather_scaled-returns-in_err-gather-clause-answer
 gather_scaled-returns-in_err-gather-clause-answer t c = λ g bs stand.
     let err : c.from_residual.result ≡ Err c.in_err-gather.field-0.0 = grind (arith, c.from_residual.ensures) in
-    body_missing (walk_of (declarations c.args.course.now.decls.now) c.within.result.decimals (contract c.args.body.now) g bs c.args.course.now.fixings.now c.within.result.day c.args.course.now.until) (walk_of (declarations c.args.course.now.decls.now) (c.args.here.decimals - scale_of (declarations c.args.course.now.decls.now) (expression c.args.factor.now) (kinds g)) (contract c.args.body.now) g bs c.args.course.now.fixings.now c.args.here.day c.args.course.now.until) (answer_of (declarations c.args.course.now.decls.now) (expression c.args.factor.now) g bs c.args.course.now.fixings.now c.args.here.day) c.args.out.now.items c.gather.new.out.items c.gather.result c.from_residual.result c.in_err-gather.field-0.0 (body_walk (declarations c.args.course.now.decls.now) (expression c.args.factor.now) (contract c.args.body.now) c.args.here c.within.result c.args.scratch.now c.args.course.now.fixings.now c.args.course.now.until c.kind_at.result c.scale-scale.result g bs stand c.kind_at.ensures c.scale-scale.ensures c.within.ensures) (c.gather.ensures.answer g bs stand) c.in_err-gather.was err
+    body_missing (walk_of (declarations c.args.basis.now.decls.now) c.within.result.decimals (contract c.args.body.now) g bs c.args.basis.now.fixings.now c.within.result.day c.args.basis.now.until) (walk_of (declarations c.args.basis.now.decls.now) (c.args.here.decimals - scale_of (declarations c.args.basis.now.decls.now) (expression c.args.factor.now) (kinds g)) (contract c.args.body.now) g bs c.args.basis.now.fixings.now c.args.here.day c.args.basis.now.until) (answer_of (declarations c.args.basis.now.decls.now) (expression c.args.factor.now) g bs c.args.basis.now.fixings.now c.args.here.day) c.args.out.now.items c.gather.new.out.items c.gather.result c.from_residual.result c.in_err-gather.field-0.0 (body_walk (declarations c.args.basis.now.decls.now) (expression c.args.factor.now) (contract c.args.body.now) c.args.here c.within.result c.args.scratch.now c.args.basis.now.fixings.now c.args.basis.now.until c.kind_at.result c.scale-scale.result g bs stand c.kind_at.ensures c.scale-scale.ensures c.within.ensures) (c.gather.ensures.answer g bs stand) c.in_err-gather.was err
 
 pub gather_scaled-returns-then-len-first-clause-answer : goal.gather_scaled-returns-then-len-first-clause-answer
 gather_scaled-returns-then-len-first-clause-answer t c = λ g bs stand.
     let first : c.len-first.result ≡ length c.args.out.now.items = search rules in
     let len : c.len.result ≡ length c.gather.new.out.items = search rules in
-    none_to_scale (walk_of (declarations c.args.course.now.decls.now) c.within.result.decimals (contract c.args.body.now) g bs c.args.course.now.fixings.now c.within.result.day c.args.course.now.until) (walk_of (declarations c.args.course.now.decls.now) (c.args.here.decimals - scale_of (declarations c.args.course.now.decls.now) (expression c.args.factor.now) (kinds g)) (contract c.args.body.now) g bs c.args.course.now.fixings.now c.args.here.day c.args.course.now.until) (answer_of (declarations c.args.course.now.decls.now) (expression c.args.factor.now) g bs c.args.course.now.fixings.now c.args.here.day) c.args.out.now.items c.gather.new.out.items c.gather.result c.in_ok-gather.field-0 c.len-first.result c.len.result (body_walk (declarations c.args.course.now.decls.now) (expression c.args.factor.now) (contract c.args.body.now) c.args.here c.within.result c.args.scratch.now c.args.course.now.fixings.now c.args.course.now.until c.kind_at.result c.scale-scale.result g bs stand c.kind_at.ensures c.scale-scale.ensures c.within.ensures) (c.gather.ensures.answer g bs stand) c.in_ok-gather.was first len c.if-len-first.true
+    none_to_scale (walk_of (declarations c.args.basis.now.decls.now) c.within.result.decimals (contract c.args.body.now) g bs c.args.basis.now.fixings.now c.within.result.day c.args.basis.now.until) (walk_of (declarations c.args.basis.now.decls.now) (c.args.here.decimals - scale_of (declarations c.args.basis.now.decls.now) (expression c.args.factor.now) (kinds g)) (contract c.args.body.now) g bs c.args.basis.now.fixings.now c.args.here.day c.args.basis.now.until) (answer_of (declarations c.args.basis.now.decls.now) (expression c.args.factor.now) g bs c.args.basis.now.fixings.now c.args.here.day) c.args.out.now.items c.gather.new.out.items c.gather.result c.in_ok-gather.field-0 c.len-first.result c.len.result (body_walk (declarations c.args.basis.now.decls.now) (expression c.args.factor.now) (contract c.args.body.now) c.args.here c.within.result c.args.scratch.now c.args.basis.now.fixings.now c.args.basis.now.until c.kind_at.result c.scale-scale.result g bs stand c.kind_at.ensures c.scale-scale.ensures c.within.ensures) (c.gather.ensures.answer g bs stand) c.in_ok-gather.was first len c.if-len-first.true
 
 pub gather_scaled-value_at-requires-clause-ready : goal.gather_scaled-value_at-requires-clause-ready
 gather_scaled-value_at-requires-clause-ready t c =
-    subst (λ (r : Room). CanAnswer (declarations c.args.course.now.decls.now) (expression c.args.factor.now) r c.args.course.now.fixings.now) (sym c.gather.ensures.same) (ready_factor (declarations c.args.course.now.decls.now) (expression c.args.factor.now) (contract c.args.body.now) c.args.here.decimals c.args.scratch.now c.args.course.now.fixings.now c.requires.ready)
+    subst (λ (r : Room). CanAnswer (declarations c.args.basis.now.decls.now) (expression c.args.factor.now) r c.args.basis.now.fixings.now) (sym c.gather.ensures.same) (ready_factor (declarations c.args.basis.now.decls.now) (expression c.args.factor.now) (contract c.args.body.now) c.args.here.decimals c.args.scratch.now c.args.basis.now.fixings.now c.requires.ready)
 
 pub gather_scaled-returns-in_err-factor-clause-answer : goal.gather_scaled-returns-in_err-factor-clause-answer
 gather_scaled-returns-in_err-factor-clause-answer t c = λ g bs stand.
     let first : c.len-first.result ≡ length c.args.out.now.items = search rules in
     let len : c.len.result ≡ length c.gather.new.out.items = search rules in
     let err : c.from_residual-in_err-factor.result ≡ Err (lacks_place c.in_err-factor.field-0.0) = grind (arith, c.from_residual-in_err-factor.ensures) in
-    factor_lacks (walk_of (declarations c.args.course.now.decls.now) c.within.result.decimals (contract c.args.body.now) g bs c.args.course.now.fixings.now c.within.result.day c.args.course.now.until) (walk_of (declarations c.args.course.now.decls.now) (c.args.here.decimals - scale_of (declarations c.args.course.now.decls.now) (expression c.args.factor.now) (kinds g)) (contract c.args.body.now) g bs c.args.course.now.fixings.now c.args.here.day c.args.course.now.until) (answer_of (declarations c.args.course.now.decls.now) (expression c.args.factor.now) g bs c.args.course.now.fixings.now c.args.here.day) c.args.out.now.items c.gather.new.out.items c.gather.result c.from_residual-in_err-factor.result c.in_ok-gather.field-0 c.len-first.result c.len.result c.value_at.result c.in_err-factor.field-0.0 (body_walk (declarations c.args.course.now.decls.now) (expression c.args.factor.now) (contract c.args.body.now) c.args.here c.within.result c.args.scratch.now c.args.course.now.fixings.now c.args.course.now.until c.kind_at.result c.scale-scale.result g bs stand c.kind_at.ensures c.scale-scale.ensures c.within.ensures) (c.gather.ensures.answer g bs stand) c.in_ok-gather.was first len c.if-len-first.false
-    (c.value_at.ensures.answer g bs (stand_in c.args.course.now.fixings.now c.args.scratch.now c.gather.new.scratch g bs c.gather.ensures.same stand)) c.in_err-factor.was err
+    factor_lacks (walk_of (declarations c.args.basis.now.decls.now) c.within.result.decimals (contract c.args.body.now) g bs c.args.basis.now.fixings.now c.within.result.day c.args.basis.now.until) (walk_of (declarations c.args.basis.now.decls.now) (c.args.here.decimals - scale_of (declarations c.args.basis.now.decls.now) (expression c.args.factor.now) (kinds g)) (contract c.args.body.now) g bs c.args.basis.now.fixings.now c.args.here.day c.args.basis.now.until) (answer_of (declarations c.args.basis.now.decls.now) (expression c.args.factor.now) g bs c.args.basis.now.fixings.now c.args.here.day) c.args.out.now.items c.gather.new.out.items c.gather.result c.from_residual-in_err-factor.result c.in_ok-gather.field-0 c.len-first.result c.len.result c.value_at.result c.in_err-factor.field-0.0 (body_walk (declarations c.args.basis.now.decls.now) (expression c.args.factor.now) (contract c.args.body.now) c.args.here c.within.result c.args.scratch.now c.args.basis.now.fixings.now c.args.basis.now.until c.kind_at.result c.scale-scale.result g bs stand c.kind_at.ensures c.scale-scale.ensures c.within.ensures) (c.gather.ensures.answer g bs stand) c.in_ok-gather.was first len c.if-len-first.false
+    (c.value_at.ensures.answer g bs (stand_in c.args.basis.now.fixings.now c.args.scratch.now c.gather.new.scratch g bs c.gather.ensures.same stand)) c.in_err-factor.was err
 
 pub gather_scaled-multiply_from-requires-clause-first : goal.gather_scaled-multiply_from-requires-clause-first
 gather_scaled-multiply_from-requires-clause-first t c =
     let first : c.len-first.result ≡ length c.args.out.now.items = search rules in
-    first_within (walk_of (declarations c.args.course.now.decls.now) c.within.result.decimals (contract c.args.body.now) c.requires.ready.values c.requires.ready.places c.args.course.now.fixings.now c.within.result.day c.args.course.now.until) c.args.out.now.items c.gather.new.out.items c.gather.result c.in_ok-gather.field-0 c.len-first.result
+    first_within (walk_of (declarations c.args.basis.now.decls.now) c.within.result.decimals (contract c.args.body.now) c.requires.ready.values c.requires.ready.places c.args.basis.now.fixings.now c.within.result.day c.args.basis.now.until) c.args.out.now.items c.gather.new.out.items c.gather.result c.in_ok-gather.field-0 c.len-first.result
     (c.gather.ensures.answer c.requires.ready.values c.requires.ready.places c.requires.ready.stand) c.in_ok-gather.was first
 
 pub gather_scaled-multiply_from-requires-clause-small : goal.gather_scaled-multiply_from-requires-clause-small
@@ -141,9 +141,9 @@ gather_scaled-multiply_from-requires-clause-small t c =
     let first : c.len-first.result ≡ length c.args.out.now.items = search rules in
     let fits : FitsSigned w128 c.number.result = search rules in
     let number : to_z w128 (of_z w128 c.number.result) ≡ num c.in_ok-factor.factor = to_z-of_z w128 c.number.result fits ∙ c.number.ensures in
-    let small = noted_small (declarations c.args.course.now.decls.now) (expression c.args.factor.now) (contract c.args.body.now) c.args.here c.within.result c.args.scratch.now c.args.course.now.fixings.now c.args.course.now.until c.kind_at.result c.scale-scale.result c.args.out.now.items c.gather.new.out.items c.gather.result c.in_ok-gather.field-0 c.value_at.result c.in_ok-factor.factor (to_z w128 (of_z w128 c.number.result)) c.requires.ready
+    let small = noted_small (declarations c.args.basis.now.decls.now) (expression c.args.factor.now) (contract c.args.body.now) c.args.here c.within.result c.args.scratch.now c.args.basis.now.fixings.now c.args.basis.now.until c.kind_at.result c.scale-scale.result c.args.out.now.items c.gather.new.out.items c.gather.result c.in_ok-gather.field-0 c.value_at.result c.in_ok-factor.factor (to_z w128 (of_z w128 c.number.result)) c.requires.ready
     c.kind_at.ensures c.scale-scale.ensures c.within.ensures (c.gather.ensures.answer c.requires.ready.values c.requires.ready.places c.requires.ready.stand) c.in_ok-gather.was
-    (c.value_at.ensures.answer c.requires.ready.values c.requires.ready.places (stand_in c.args.course.now.fixings.now c.args.scratch.now c.gather.new.scratch c.requires.ready.values c.requires.ready.places c.gather.ensures.same c.requires.ready.stand)) c.in_ok-factor.was number in
+    (c.value_at.ensures.answer c.requires.ready.values c.requires.ready.places (stand_in c.args.basis.now.fixings.now c.args.scratch.now c.gather.new.scratch c.requires.ready.values c.requires.ready.places c.gather.ensures.same c.requires.ready.stand)) c.in_ok-factor.was number in
     subst (λ (n : ℕ). All (λ (p : Payment). unsigned_abs (p.amount *ℤ to_z w128 (of_z w128 c.number.result)) ≤ 10 ^ 30) (drop n c.gather.new.out.items)) (sym first) small
 
 pub gather_scaled-returns-clause-answer : goal.gather_scaled-returns-clause-answer
@@ -152,5 +152,5 @@ gather_scaled-returns-clause-answer t c = λ g bs stand.
     let len : c.len.result ≡ length c.gather.new.out.items = search rules in
     let fits : FitsSigned w128 c.number.result = search rules in
     let number : to_z w128 (of_z w128 c.number.result) ≡ num c.in_ok-factor.factor = to_z-of_z w128 c.number.result fits ∙ c.number.ensures in
-    factor_known (walk_of (declarations c.args.course.now.decls.now) c.within.result.decimals (contract c.args.body.now) g bs c.args.course.now.fixings.now c.within.result.day c.args.course.now.until) (walk_of (declarations c.args.course.now.decls.now) (c.args.here.decimals - scale_of (declarations c.args.course.now.decls.now) (expression c.args.factor.now) (kinds g)) (contract c.args.body.now) g bs c.args.course.now.fixings.now c.args.here.day c.args.course.now.until) (answer_of (declarations c.args.course.now.decls.now) (expression c.args.factor.now) g bs c.args.course.now.fixings.now c.args.here.day) c.args.out.now.items c.gather.new.out.items c.multiply_from.new.out.items c.gather.result c.in_ok-gather.field-0 c.len-first.result c.len.result c.value_at.result c.in_ok-factor.factor (to_z w128 (of_z w128 c.number.result)) (body_walk (declarations c.args.course.now.decls.now) (expression c.args.factor.now) (contract c.args.body.now) c.args.here c.within.result c.args.scratch.now c.args.course.now.fixings.now c.args.course.now.until c.kind_at.result c.scale-scale.result g bs stand c.kind_at.ensures c.scale-scale.ensures c.within.ensures) (c.gather.ensures.answer g bs stand) c.in_ok-gather.was first len c.if-len-first.false
-    (c.value_at.ensures.answer g bs (stand_in c.args.course.now.fixings.now c.args.scratch.now c.gather.new.scratch g bs c.gather.ensures.same stand)) c.in_ok-factor.was number c.multiply_from.ensures
+    factor_known (walk_of (declarations c.args.basis.now.decls.now) c.within.result.decimals (contract c.args.body.now) g bs c.args.basis.now.fixings.now c.within.result.day c.args.basis.now.until) (walk_of (declarations c.args.basis.now.decls.now) (c.args.here.decimals - scale_of (declarations c.args.basis.now.decls.now) (expression c.args.factor.now) (kinds g)) (contract c.args.body.now) g bs c.args.basis.now.fixings.now c.args.here.day c.args.basis.now.until) (answer_of (declarations c.args.basis.now.decls.now) (expression c.args.factor.now) g bs c.args.basis.now.fixings.now c.args.here.day) c.args.out.now.items c.gather.new.out.items c.multiply_from.new.out.items c.gather.result c.in_ok-gather.field-0 c.len-first.result c.len.result c.value_at.result c.in_ok-factor.factor (to_z w128 (of_z w128 c.number.result)) (body_walk (declarations c.args.basis.now.decls.now) (expression c.args.factor.now) (contract c.args.body.now) c.args.here c.within.result c.args.scratch.now c.args.basis.now.fixings.now c.args.basis.now.until c.kind_at.result c.scale-scale.result g bs stand c.kind_at.ensures c.scale-scale.ensures c.within.ensures) (c.gather.ensures.answer g bs stand) c.in_ok-gather.was first len c.if-len-first.false
+    (c.value_at.ensures.answer g bs (stand_in c.args.basis.now.fixings.now c.args.scratch.now c.gather.new.scratch g bs c.gather.ensures.same stand)) c.in_ok-factor.was number c.multiply_from.ensures

@@ -23,13 +23,13 @@ is_up_to (Ok None) n days h l = tt
 is_up_to (Ok (Some k)) n days h l = up_to n k days h l
 
 pub first_true-requires-clause-place : goal.first_true-requires-clause-place
-first_true-requires-clause-place c = may_evaluate (declarations c.args.course.now.decls.now) (expression c.args.test.now) c.args.scratch.now c.args.course.now.fixings.now c.requires.ready
+first_true-requires-clause-place c = may_evaluate (declarations c.args.basis.now.decls.now) (expression c.args.test.now) c.args.scratch.now c.args.basis.now.fixings.now c.requires.ready
 
 pub returns-clause-answer : goal.returns-clause-answer
 returns-clause-answer c = λ g bs stand.
-    let d = declarations c.args.course.now.decls.now in
+    let d = declarations c.args.basis.now.decls.now in
     let e = expression c.args.test.now in
-    let F = c.args.course.now.fixings.now in
+    let F = c.args.basis.now.fixings.now in
     c.first_true.ensures.answer g bs stand
     ∙ ap (λ (f : ℤ). first_tried (c.days_tried-count.result + 1) (λ i. answer_of d e g bs F (f +ℤ pos i))) (to_z-of_z w64 c.args.here.day (day_fits c.args.here.day c.args.days c.requires.days))
     ∙ ap (λ (n : ℕ). first_tried n (λ i. answer_of d e g bs F (c.args.here.day +ℤ pos i))) (one_more c.days_tried-count.result _ c.days_tried-count.ensures)

@@ -2,6 +2,6 @@
 use Rattle.term_core.specs.Declarations.{Declarations}
 use Rattle.term_core.specs.Environments.{Environment}
 
-pub record Facts : Type 0 where
+pub record Knowledge : Type 0 where
   pub decls : Declarations
   pub fixings : Environment

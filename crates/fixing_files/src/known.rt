@@ -1,6 +1,6 @@
-//! What a walk goes by.
+//! What is known of what is observed.
 
-use fixing_files::Fixings;
+use crate::fixings::Fixings;
 use std::marker::Model;
 use term_core::Decls;
 
@@ -14,9 +14,9 @@ pub struct Known<'a> {
 impl<'a> Model for Known<'a> {
     ghost use Rattle.term_core.specs.Declarations.{declarations};
     ghost use Rattle.term_core.specs.Environments.{IsAdmitted};
-    ghost use Rattle.specialise.specs.Facts.{Facts};
+    ghost use Rattle.fixing_files.specs.Knowledge.{Knowledge};
 
-    ghost Value = { Facts };
+    ghost Value = { Knowledge };
 
     ghost view = { λ k. record { decls = declarations k.decls.now; fixings = k.fixings.now } };
 
