@@ -127,6 +127,16 @@ pub fn look(rest: &[u8]) -> Lookahead<'_>
     Lookahead { token, after }
 }
 
+// Whether a text is this one. Most marks are one byte, so that is looked at first.
+fn is_text(text: &[u8], wanted: &[u8]) -> bool
+    ensures { result ≡ bytes_eq text.now wanted.now }
+{
+    match (text, wanted) {
+        ([b], [w]) => *b == *w,
+        _ => text == wanted,
+    }
+}
+
 /// Whether a token is this word.
 pub fn is_the_word(token: &Lexeme<'_>, word: &[u8]) -> bool
     ensures { result ≡ is_the_word word.now (tok_of token.now) }
@@ -138,7 +148,7 @@ pub fn is_the_word(token: &Lexeme<'_>, word: &[u8]) -> bool
 pub fn is_the_mark(token: &Lexeme<'_>, mark: &[u8]) -> bool
     ensures { result ≡ is_the_mark mark.now (tok_of token.now) }
 {
-    matches!(token.kind, Kind::Mark) && token.text == mark
+    matches!(token.kind, Kind::Mark) && is_text(token.text, mark)
 }
 
 /// Whether a token is a name: a word that is not reserved.
