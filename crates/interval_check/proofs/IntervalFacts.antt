@@ -21,7 +21,7 @@ found_is m x e = grind (arith, nat_tests)
 found_small : (m x : ℤ) → mantissa m ≡ Some x → unsigned_abs m ≤ 10 ^ 37
 found_small m x e = grind (arith, nat_tests)
 
-both_small : (i : Interval) → unsigned_abs i.low ≤ 10 ^ 37 → unsigned_abs i.high ≤ 10 ^ 37 → fitting i ≡ Some i
+pub both_small : (i : Interval) → unsigned_abs i.low ≤ 10 ^ 37 → unsigned_abs i.high ≤ 10 ^ 37 → fitting i ≡ Some i
 both_small i l h = grind (arith, nat_tests)
 
 pub same_ends : (a b x y : ℤ) → a ≡ x → b ≡ y → ◌≡◌ {A = Interval} (record { low = a; high = b }) (record { low = x; high = y })

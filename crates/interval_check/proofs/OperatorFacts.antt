@@ -1,6 +1,7 @@
 -- Facts of the operators on ranges, and of declared labels.
-use Rattle.std.proofs.Common.{◌≡◌, ℕ, zero, suc, ℤ, ◌-◌, ◌^◌, ◌≤◌, Bool, true, false, ◌&&◌, List, [], ◌∷◌, Some, None, Option, nat_le, if◌then◌else◌, slice_get, refl, ap, ◌∙◌, sym, arith}
+use Rattle.std.proofs.Common.{◌≡◌, ℕ, zero, suc, ℤ, ◌-◌, ◌^◌, ◌≤◌, max, unsigned_abs, Bool, true, false, ◌&&◌, List, [], ◌∷◌, Some, None, Option, nat_le, if◌then◌else◌, slice_get, Ok, refl, ap, ◌∙◌, sym, arith}
 use Rattle.std.proofs.lemmas.Bool.Decides.{nat_tests}
+use Rattle.std.proofs.lemmas.Int.{ints}
 use Rattle.decimal.specs.declared.rounding.Mode.{Mode}
 use Rattle.decimal.specs.Rounding as rounding
 use Rattle.decimal.specs.Rounding.{raised, at_scale}
@@ -11,9 +12,28 @@ use Rattle.term_core.specs.declared.values.Kind.TheVariants.{Number}
 use Rattle.term_core.specs.Declarations.{Declarations}
 use Rattle.term_core.specs.Environments.{label_of}
 use Rattle.term_core.specs.Limits.{is_label, are_labels}
-use Rattle.term_core.specs.Bounds.{Range, lifted}
+use Rattle.term_core.specs.Bounds.{Interval, Range, lifted, aligned}
 use Rattle.interval_check.specs.Intervals.{fitting}
-use Rattle.interval_check.specs.RangeTrials.{ranged, scale_in, widened, rounded}
+use Rattle.interval_check.proofs.IntervalFacts.{same_ends, both_small}
+use Rattle.interval_check.specs.Ranges.{IsFit}
+use Rattle.interval_check.specs.RangeTrials.{aligned_both, both_fit, ranged, scale_in, widened, rounded}
+
+unraised : (m : ℤ) (k : ℕ) → k ≡ 0 → raised m k ≡ m
+unraised m k e = ap (λ (n : ℕ). raised m n) e ∙ omega (arith, ints)
+
+-- an interval stays as it is where it is aligned to its own scale
+stays_aligned : (a b : ℕ) (i : Interval) → a ≡ b → unsigned_abs i.low ≤ 10 ^ 37 → unsigned_abs i.high ≤ 10 ^ 37 → fitting (aligned a b i) ≡ Some i
+stays_aligned a b i e l h =
+    let none : max a b - a ≡ 0 = omega arith in
+    ap fitting (same_ends _ _ _ _ (unraised i.low _ none) (unraised i.high _ none)) ∙ both_small i l h
+
+-- so do the intervals of two ranges of one scale
+pub stays_both : (r t : Range) → scale_in r ≡ scale_in t → IsFit r → IsFit t → aligned_both r t ≡ Ok (record { left = r.interval; right = t.interval })
+stays_both r t e f g =
+    let left = stays_aligned (scale_in r) (scale_in t) r.interval e f.low f.high in
+    let right = stays_aligned (scale_in t) (scale_in r) t.interval (sym e) g.low g.high in
+    ap (λ (o : Option Interval). both_fit o (fitting (aligned (scale_in t) (scale_in r) t.interval))) left
+    ∙ ap (λ (o : Option Interval). both_fit (Some r.interval) o) right
 
 -- to round to a scale that is not less is to widen
 pub rounds_up : (mode : Mode) (s : ℕ) (r : Range) → scale_in r ≤ s → widened (Number s) r ≡ rounded mode s r

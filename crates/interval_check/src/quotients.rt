@@ -68,7 +68,8 @@ fn quotients(by: Division, a: i128, below: Interval) -> Interval
     requires low { DivFits a by.top below.low by.below by.scale }
     requires high { DivFits a by.top below.high by.below by.scale }
     ensures { interval result ≡ hull
-        (single (divided by.mode a by.top below.low by.below by.scale)) (single (divided by.mode a by.top below.high by.below by.scale)) }
+        (single (divided by.mode a by.top below.low by.below by.scale))
+        (single (divided by.mode a by.top below.high by.below by.scale)) }
 {
     let by_low = quotient_of(by, a, below.low);
     let by_high = quotient_of(by, a, below.high);

@@ -65,6 +65,26 @@ pub fn range_of(decls: &Decls, e: &Expr, scope: &Scope<Range>) -> Result<Range, 
     }
 }
 
+// The range of a part of an expression. Most parts are leaves and operators on numbers, which take
+// no call of the function of all forms.
+#[inline(always)]
+#[cycle(ranging)]
+fn range_of_part(decls: &Decls, e: &Expr, scope: &Scope<Range>) -> Result<Range, u32>
+    requires nodes { nodes (expression e.now) < 2 ^ 32 }
+    requires scaled { IsScaledAmong decls.now e.now scope.now }
+    ensures range { range_found result ≡ range_among decls.now e.now scope.now }
+    ensures below { FaultIsWithin (nodes (expression e.now)) result }
+    ensures fit { IfOk result (λ r. IsFit (range r)) }
+{
+    match e {
+        Expr::Lit { mant, scale } => range_of_literal(*mant, *scale),
+        Expr::Var { back } => range_of_name(scope, *back),
+        Expr::Obs { label, .. } => range_observed(decls, *label),
+        Expr::Num { op, left, right } => range_of_num(decls, *op, left, right, scope),
+        _ => range_of(decls, e, scope),
+    }
+}
+
 // Of a number that is written.
 fn range_of_literal(mant: i128, scale: u8) -> Result<Range, u32>
     requires { scale ≤ 27 }
@@ -272,6 +292,7 @@ fn point(m: i128) -> Interval
 }
 
 // Of the two operands of a node.
+#[inline(always)]
 #[cycle(ranging)]
 fn ranges_of(
     decls: &Decls,
@@ -288,8 +309,8 @@ fn ranges_of(
         (nodes (expression left.now) + nodes (expression right.now) + 1) result }
     ensures fit { IfOk result AreFit }
 {
-    let left_range = behind_node(range_of(decls, left, scope))?;
-    let right_range = behind(left, range_of(decls, right, scope))?;
+    let left_range = behind_node(range_of_part(decls, left, scope))?;
+    let right_range = behind(left, range_of_part(decls, right, scope))?;
     Ok(Operands {
         left: left_range,
         right: right_range,
@@ -392,6 +413,6 @@ fn range_of_day(
         held: so_far,
         outer: &*scope,
     };
-    let next = behind_node(range_of(decls, body, &inner))?;
+    let next = behind_node(range_of_part(decls, body, &inner))?;
     widened(so_far.kind, next)
 }

@@ -15,6 +15,8 @@ use term_core::{Decls, Kind, Label, Scope};
 
 /// The range of the name that is bound `back` binders further out than the innermost. One without a
 /// binder, which no closed term has, is a truth value.
+#[inline(always)]
+#[cycle(scoping)]
 pub fn range_at(scope: &Scope<Range>, back: u32) -> Range
     ensures range { range result ≡ range_or_truth (slice_get (ranges_in scope.now) back) }
     ensures kind { result.kind ≡ kind_or (slice_get (range_kinds (ranges_in scope.now)) back) }
@@ -25,10 +27,19 @@ pub fn range_at(scope: &Scope<Range>, back: u32) -> Range
             if back == 0 {
                 *held
             } else {
-                range_at(outer, back - 1)
+                range_further(outer, back - 1)
             }
         }
     }
+}
+
+// The range of a name that the innermost binder does not bind.
+#[cycle(scoping)]
+fn range_further(outer: &Scope<Range>, back: u32) -> Range
+    ensures range { range result ≡ range_or_truth (slice_get (ranges_in outer.now) back) }
+    ensures kind { result.kind ≡ kind_or (slice_get (range_kinds (ranges_in outer.now)) back) }
+{
+    range_at(outer, back)
 }
 
 /// The range of what is observed, by its declared bounds.

@@ -78,12 +78,19 @@ pub fn negated(of: Range) -> Result<Range, u32>
 
 /// The range at the scale of a kind, which is not less than its own.
 pub fn widened(kind: Kind, of: Range) -> Result<Range, u32>
-    requires { scale_of_kind kind ≤ 27 }
+    requires fit { IsFit (range of) }
+    requires scale { scale_of_kind kind ≤ 27 }
     ensures range { range_found result ≡ tried.widened kind (range of) }
     ensures here { IfErr result (λ node. node ≡ 0) }
     ensures fit { IfOk result (λ r. IsFit (range r)) }
     ensures kind { IfOk result (λ r. r.kind ≡ kind) }
 {
+    if kind.scale() == of.kind.scale() {
+        return Ok(Range {
+            interval: of.interval,
+            kind,
+        });
+    }
     let by = kind.scale().saturating_sub(of.kind.scale());
     match raise_ends(of.interval, by) {
         Some(interval) => Ok(Range { interval, kind }),
@@ -112,15 +119,16 @@ pub fn rounded(mode: Mode, scale: u8, of: Range) -> Result<Range, u32>
 // The interval of a number at the scale that it shares with another, where its end points are
 // mantissas.
 fn shared_with(other: Range, of: Range) -> Option<Interval>
-    ensures interval { found result ≡ fitting (aligned (tried.scale_in (range of)) (tried.scale_in (range other)) (interval of.interval)) }
+    ensures interval { found result ≡ fitting (aligned
+        (tried.scale_in (range of)) (tried.scale_in (range other)) (interval of.interval)) }
     ensures small { IfSome result (λ i. EndsFit (interval i)) }
 {
     let scale = of.kind.scale();
     raise_ends(of.interval, scale.max(other.kind.scale()) - scale)
 }
 
-// The intervals of two numbers at the greater of their scales.
-fn align_both(left: Range, right: Range) -> Result<Shared, u32>
+// The intervals of two numbers that are raised to the greater of their scales.
+fn raise_both(left: Range, right: Range) -> Result<Shared, u32>
     ensures shared { shared_found result ≡ tried.aligned_both (range left) (range right) }
     ensures here { IfErr result (λ node. node ≡ 0) }
     ensures left { IfOk result (λ p. EndsFit (interval p.left)) }
@@ -129,6 +137,27 @@ fn align_both(left: Range, right: Range) -> Result<Shared, u32>
     match (shared_with(right, left), shared_with(left, right)) {
         (Some(left), Some(right)) => Ok(Shared { left, right }),
         _ => Err(0),
+    }
+}
+
+// The intervals of two numbers at the greater of their scales. Most have one scale, and then stay
+// as they are.
+#[inline(always)]
+fn align_both(left: Range, right: Range) -> Result<Shared, u32>
+    requires left { IsFit (range left) }
+    requires right { IsFit (range right) }
+    ensures shared { shared_found result ≡ tried.aligned_both (range left) (range right) }
+    ensures here { IfErr result (λ node. node ≡ 0) }
+    ensures left { IfOk result (λ p. EndsFit (interval p.left)) }
+    ensures right { IfOk result (λ p. EndsFit (interval p.right)) }
+{
+    if left.kind.scale() == right.kind.scale() {
+        Ok(Shared {
+            left: left.interval,
+            right: right.interval,
+        })
+    } else {
+        raise_both(left, right)
     }
 }
 
@@ -153,7 +182,8 @@ fn multiplied(left: Range, right: Range) -> Result<Range, u32>
 pub fn combined(op: NumOp, left: Range, right: Range) -> Result<Range, u32>
     requires left { IsFit (range left) }
     requires right { IsFit (range right) }
-    requires scale { scale_of_op op (tried.scale_in (range left)) (tried.scale_in (range right)) ≤ 27 }
+    requires scale { scale_of_op op (tried.scale_in (range left))
+        (tried.scale_in (range right)) ≤ 27 }
     ensures range { range_found result ≡ tried.combined op (range left) (range right) }
     ensures here { IfErr result (λ node. node ≡ 0) }
     ensures fit { IfOk result (λ r. IsFit (range r)) }
@@ -173,17 +203,25 @@ pub fn combined(op: NumOp, left: Range, right: Range) -> Result<Range, u32>
         }
         NumOp::Min => {
             let both = align_both(left, right)?;
-            checked(less_of(both.left, both.right), kind)
+            Ok(Range {
+                interval: less_of(both.left, both.right),
+                kind,
+            })
         }
         NumOp::Max => {
             let both = align_both(left, right)?;
-            checked(greater_of(both.left, both.right), kind)
+            Ok(Range {
+                interval: greater_of(both.left, both.right),
+                kind,
+            })
         }
     }
 }
 
 /// The range of a comparison, whose operands have to be mantissas at their shared scale.
 pub fn compared(left: Range, right: Range) -> Result<Range, u32>
+    requires left { IsFit (range left) }
+    requires right { IsFit (range right) }
     ensures range { range_found result ≡ tried.compared (range left) (range right) }
     ensures here { IfErr result (λ node. node ≡ 0) }
     ensures fit { IfOk result (λ r. IsFit (range r)) }
