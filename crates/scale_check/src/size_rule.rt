@@ -10,7 +10,8 @@ ghost use Rattle.term_core.specs.Sizes.{nodes, nodes_of_contract, height_of_cont
 ghost use Rattle.term_core.specs.Trying.{FaultIsWithin};
 ghost use Rattle.term_core.specs.WellFormed.{HasOnlyNumbers};
 ghost use Rattle.scale_check.specs.PartSizes.{IsLimited};
-ghost use Rattle.scale_check.specs.SizeTrials.{one_tried, two_tried, three_tried, acc_tried, size_tried, behind_tried, contract_tried};
+ghost use Rattle.scale_check.specs.SizeTrials.{one_tried, two_tried, three_tried, acc_tried};
+ghost use Rattle.scale_check.specs.SizeTrials.{size_tried, behind_tried, contract_tried};
 ghost use Rattle.scale_check.specs.SizeVerdicts.{IsSizeVerdict};
 
 use crate::part_sizes::{Size, days_back};
@@ -60,9 +61,11 @@ fn size_over_one(of: &Expr) -> Result<Size, u32>
 #[cycle(sizing)]
 fn size_over_two(left: &Expr, right: &Expr) -> Result<Size, u32>
     requires { nodes (expression left.now) + nodes (expression right.now) + 1 < 2 ^ 32 }
-    ensures size { result ≡ two_tried (nodes (expression left.now)) (size_tried (expression left.now)) (size_tried (expression right.now)) }
+    ensures size { result ≡ two_tried (nodes (expression left.now))
+        (size_tried (expression left.now)) (size_tried (expression right.now)) }
     ensures limits { IfOk result IsLimited }
-    ensures below { FaultIsWithin (nodes (expression left.now) + nodes (expression right.now) + 1) result }
+    ensures below { FaultIsWithin
+        (nodes (expression left.now) + nodes (expression right.now) + 1) result }
 {
     let left_size = behind_node(size_of_expr(left))?;
     let right_size = behind(left, size_of_expr(right))?;
@@ -72,11 +75,14 @@ fn size_over_two(left: &Expr, right: &Expr) -> Result<Size, u32>
 // Of an `if`.
 #[cycle(sizing)]
 fn size_over_three(test: &Expr, yes: &Expr, no: &Expr) -> Result<Size, u32>
-    requires { nodes (expression test.now) + nodes (expression yes.now) + nodes (expression no.now) + 1 < 2 ^ 32 }
+    requires { nodes (expression test.now)
+        + nodes (expression yes.now) + nodes (expression no.now) + 1 < 2 ^ 32 }
     ensures size { result ≡ three_tried (nodes (expression test.now)) (nodes (expression yes.now))
-        (size_tried (expression test.now)) (size_tried (expression yes.now)) (size_tried (expression no.now)) }
+        (size_tried (expression test.now)) (size_tried (expression yes.now))
+        (size_tried (expression no.now)) }
     ensures limits { IfOk result IsLimited }
-    ensures below { FaultIsWithin (nodes (expression test.now) + nodes (expression yes.now) + nodes (expression no.now) + 1) result }
+    ensures below { FaultIsWithin (nodes (expression test.now)
+        + nodes (expression yes.now) + nodes (expression no.now) + 1) result }
 {
     let test_size = behind_node(size_of_expr(test))?;
     let yes_size = behind(test, size_of_expr(yes))?;
@@ -91,7 +97,8 @@ fn size_over_days(body: &Expr, days: u32, first: &Expr) -> Result<Size, u32>
     ensures size { result ≡ acc_tried (nodes (expression body.now)) days
         (size_tried (expression first.now)) (size_tried (expression body.now)) }
     ensures limits { IfOk result IsLimited }
-    ensures below { FaultIsWithin (nodes (expression body.now) + nodes (expression first.now) + 1) result }
+    ensures below { FaultIsWithin
+        (nodes (expression body.now) + nodes (expression first.now) + 1) result }
 {
     let first_size = behind(body, size_of_expr(first))?;
     let body_size = behind_node(size_of_expr(body))?;
@@ -140,9 +147,11 @@ fn try_size(c: &Contr) -> Result<Size, u32>
 #[cycle(sized)]
 fn try_behind(e: &Expr, c: &Contr) -> Result<Size, u32>
     requires { nodes (expression e.now) + nodes_of_contract (contract c.now) + 1 < 2 ^ 32 }
-    ensures size { result ≡ behind_tried (nodes (expression e.now)) (size_tried (expression e.now)) (contract_tried (contract c.now)) }
+    ensures size { result ≡ behind_tried (nodes (expression e.now))
+        (size_tried (expression e.now)) (contract_tried (contract c.now)) }
     ensures limits { IfOk result IsLimited }
-    ensures below { FaultIsWithin (nodes (expression e.now) + nodes_of_contract (contract c.now) + 1) result }
+    ensures below { FaultIsWithin
+        (nodes (expression e.now) + nodes_of_contract (contract c.now) + 1) result }
 {
     let expr_size = behind_node(size_of_expr(e))?;
     let contr_size = behind(e, try_size(c))?;

@@ -91,7 +91,8 @@ fn sort_of_one(
     scope: &Scope<Sort>,
 ) -> Result<Sort, u32>
     requires { nodes (expression of.now) + 1 < 2 ^ 32 }
-    ensures sort { result ≡ one_tried wanted answer (sort_tried (declarations decls.now) (expression of.now) (held_in scope.now)) }
+    ensures sort { result ≡ one_tried wanted answer
+        (sort_tried (declarations decls.now) (expression of.now) (held_in scope.now)) }
     ensures below { FaultIsWithin (nodes (expression of.now) + 1) result }
 {
     let sort = behind_node(sort_of_expr(decls, of, scope))?;
@@ -112,7 +113,8 @@ fn sort_of_two(
     ensures sort { result ≡ two_tried wanted answer (nodes (expression left.now))
         (sort_tried (declarations decls.now) (expression left.now) (held_in scope.now))
         (sort_tried (declarations decls.now) (expression right.now) (held_in scope.now)) }
-    ensures below { FaultIsWithin (nodes (expression left.now) + nodes (expression right.now) + 1) result }
+    ensures below { FaultIsWithin
+        (nodes (expression left.now) + nodes (expression right.now) + 1) result }
 {
     let left_sort = behind_node(sort_of_expr(decls, left, scope))?;
     let right_sort = behind(left, sort_of_expr(decls, right, scope))?;

@@ -3,7 +3,8 @@
 //! counted from the contract's own first node; nodes before it are counted only on the way up from
 //! a fault, so that no part is visited more than twice.
 
-ghost use Rattle.std.specs.Prelude.{◌≡◌, ◌<◌, ◌≤◌, ◌+◌, ◌^◌, pos, ◌+ℤ◌, ◌-ℤ◌, unsigned_abs, IfErr, slice_get};
+ghost use Rattle.std.specs.Prelude.{◌≡◌, ◌<◌, ◌≤◌, ◌+◌, ◌^◌, pos, ◌+ℤ◌, ◌-ℤ◌, unsigned_abs, IfErr};
+ghost use Rattle.std.specs.Prelude.{slice_get};
 ghost use Rattle.term_core.specs.Declarations.{declarations};
 ghost use Rattle.term_core.specs.declared.rules.Rule.{Rule};
 ghost use Rattle.term_core.specs.Terms.{expression, contract};
@@ -14,7 +15,8 @@ ghost use Rattle.term_core.specs.Acceptance.{Meets};
 ghost use Rattle.term_core.specs.Scopes.{held_in};
 ghost use Rattle.term_core.specs.Trying.{FaultIsWithin};
 ghost use Rattle.time_types.specs.Starts.{start_day};
-ghost use Rattle.time_types.specs.TimeTrials.{HasRoom, later, name_known, known_from, in_time, start_tried};
+ghost use Rattle.time_types.specs.TimeTrials.{HasRoom, later, name_known, known_from, in_time};
+ghost use Rattle.time_types.specs.TimeTrials.{start_tried};
 ghost use Rattle.term_core.specs.Verdicts.{IsVerdict};
 
 use crate::starts::{Start, earlier_of, is_known};
