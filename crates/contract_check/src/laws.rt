@@ -1,7 +1,8 @@
 //! Laws that follow from the definitions of the model alone. Each is the contract of a function
 //! that does nothing; a caller takes the law by calling it.
 
-ghost use Rattle.contract_check.specs.CausalityLaws.{TypedAreCausal, TimedAreCausal, AcceptedAreCausal};
+ghost use Rattle.contract_check.specs.CausalityLaws.{TypedAreCausal, TimedAreCausal};
+ghost use Rattle.contract_check.specs.CausalityLaws.{AcceptedAreCausal};
 ghost use Rattle.contract_check.specs.CheckLaws.{FactsAreUnique, AnswersAreUnique};
 
 /// What a contract pays up to a day is the same in any two environments that agree up to that day,
