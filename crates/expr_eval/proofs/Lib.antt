@@ -7,9 +7,11 @@ pub mod FitFacts
 pub mod LevelFacts
 pub mod EvaluableFacts
 pub mod TriedFacts
+pub mod StopFacts
 pub mod CompareFacts
 pub mod WatchFacts
 pub mod TruthFacts
+pub mod SearchFacts
 pub mod AnswerFacts
 pub mod TrialFacts
 pub mod PartFacts

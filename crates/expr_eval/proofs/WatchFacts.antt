@@ -1,34 +1,40 @@
--- What is observed, compared with a number day after day, answers what the comparison does.
-use Rattle.std.proofs.Common.{◌≡◌, ℕ, zero, suc, ◌<◌, ℤ, pos, ◌+ℤ◌, ◌*ℤ◌, Bool, true, not, Option, Some, None, Result, Ok, Err, List, refl, ap, sym, ◌∙◌, subst, inl, inr, arith}
-use Rattle.std.specs.Prelude.{Contains, length, slice_index_or}
+-- What is observed, tried against what stays the same, answers what the comparison does.
+use Rattle.std.proofs.Common.{◌≡◌, ℕ, ◌+◌, ◌-◌, ◌^◌, ◌<◌, max, ℤ, pos, ◌+ℤ◌, ◌*ℤ◌, Bool, true, false, not, Option, Some, None, Ok, Err, List, refl, ap, ap₂, sym, subst, ◌∙◌, inl, inr, arith}
+use Rattle.std.specs.Prelude.{Contains, IfSome, length, slice_index_or}
 use Rattle.std.specs.Ordering.{int_eq}
 use Rattle.std.proofs.lemmas.Bool.{cases_Bool}
 use Rattle.std.proofs.lemmas.Bool.Decides.{Decides-int_eq}
 use Rattle.std.proofs.lemmas.Int.{ints}
-use Rattle.term_core.specs.Declarations.{Declarations}
+use Rattle.decimal.specs.Rounding.{raised}
+use Rattle.term_core.specs.Declarations.{declarations}
+use Rattle.term_core.specs.declared.decls.Decls.{Decls}
 use Rattle.term_core.specs.declared.terms.CmpOp.{CmpOp}
 use Rattle.term_core.specs.declared.terms.CmpOp.TheVariants.{Less, LessEq, Greater, GreaterEq, Equal, Unequal}
 use Rattle.term_core.specs.declared.values.Kind.{Kind}
 use Rattle.term_core.specs.declared.values.Value.{Value}
-use Rattle.term_core.specs.declared.values.Value.TheVariants.{Truth}
 use Rattle.term_core.specs.declared.values.Missing.{Missing}
+use Rattle.term_core.specs.Kinds.{scale_of_kind}
 use Rattle.term_core.specs.Terms.{Expression, Obs, Cmp}
 use Rattle.term_core.specs.Environments.{Environment, held}
 use Rattle.term_core.specs.Values.{cmp_op, num, of_cmp}
-use Rattle.interval_check.specs.Safety.{IsSmall}
+use Rattle.fixing_files.specs.Runs.{LendsDays}
 use Rattle.fixing_files.specs.declared.runs.FixedDay.{FixedDay}
 use Rattle.fixing_files.proofs.RunFacts.{same_read}
-use Rattle.expr_eval.specs.declared.scratch.Binding.{Binding}
 use Rattle.expr_eval.specs.declared.operations.Typed.{Typed}
+use Rattle.expr_eval.specs.declared.bindings.Bindings.{Bindings}
 use Rattle.expr_eval.specs.declared.comparisons.Factors.{Factors}
+use Rattle.expr_eval.specs.declared.stops.Stop.{Stop}
+use Rattle.expr_eval.specs.declared.stops.Stop.TheVariants.{Never, Met, Lacking}
+use Rattle.expr_eval.specs.declared.watches.Trial.TheVariants.{Flag, Number}
 use Rattle.expr_eval.specs.declared.watches.Watch.{Watch}
 use Rattle.expr_eval.specs.Operations.{compared, number_in, scale_in}
-use Rattle.expr_eval.specs.Runs.{Answer, both_of, kind_observed, of_place, on_both, run_of, untyped}
-use Rattle.expr_eval.specs.Fits.{OnValues}
-use Rattle.expr_eval.specs.Comparing.{AreBrought, ComparesOn, OnDays, number_found}
-use Rattle.expr_eval.specs.Trials.{DayOrMissing, ValueOrMissing, first_tried, or_next}
-use Rattle.expr_eval.specs.Watching.{FitsWatch, IsWatchedOn, Stands, found_on, met_by, met_on, said, turned}
-use Rattle.expr_eval.proofs.TriedFacts.{tried_missing, tried_true}
+use Rattle.expr_eval.specs.Bindings.{bindings}
+use Rattle.expr_eval.specs.Runs.{Answer, both_of, kind_observed, observation, of_place, on_both}
+use Rattle.expr_eval.specs.Comparing.{factors, truth_found}
+use Rattle.expr_eval.specs.Stops.{TruthOrMissing, first_stop, is_wanted, wanted_of}
+use Rattle.expr_eval.specs.Watching.{IsAgainst, IsWatched, Stands, is_met, met_by, met_on, turned}
+use Rattle.expr_eval.specs.Searches.{IsStop, IsFlagStop, met_in}
+use Rattle.expr_eval.proofs.StopFacts.{same_stop, stops_lacking, stops_met, stops_not}
 
 -- sides in the other order
 
@@ -50,56 +56,84 @@ turned_is GreaterEq x y = refl
 turned_is Equal x y = same_ints x y
 turned_is Unequal x y = ap not (same_ints x y)
 
--- one day, by what is found at the place and what the other side answers
+turned_scales : (op : CmpOp) (i : ℕ) (x : ℤ) (j : ℕ) (y : ℤ) → of_cmp (turned op) i x j y ≡ of_cmp op j y i x
+turned_scales op i x j y =
+    let e : max i j ≡ max j i = omega arith in
+    turned_is op (raised x (max i j - i)) (raised y (max i j - j)) ∙ ap (λ (k : ℕ). cmp_op op (raised y (k - j)) (raised x (k - i))) e
 
-abbrev watch : CmpOp → ℕ → ℤ → ℤ → Factors → Watch
-watch op l t m by = record { op = op; label = l; offset = t; bound = m; by = by }
+-- one day, by what is found at the place
 
-abbrev other_way : Factors → Factors
-other_way by = record { left = by.right; right = by.left }
+abbrev against : CmpOp → ℕ → ℤ → ℤ → ℤ → Bool → Watch
+against op l t factor m wanted = record { label = l; offset = t; trial = Number op factor m; wanted = wanted }
 
-left_day : (op : CmpOp) (l : ℕ) (i m : ℤ) (by : Factors) (k : Kind) (o : Option Value) (t : ℤ) (r : Answer)
-    → number_found r ≡ Ok m → OnValues (of_place k o l t) r (AreBrought by)
-    → FitsWatch (watch op l i m by) o × (untyped (on_both (both_of (of_place k o l t) r) (compared op)) ≡ said (met_by (watch op l i m by) o t))
-left_day op l i m by k None t r n h = (tt, refl)
-left_day op l i m by k (Some v) t (Err e) n h = absurd (cc)
-left_day op l i m by k (Some v) t (Ok y) n h =
-    let e : number_in y ≡ m = cc in
-    let x : Typed = record { kind = k; value = v } in
-    let is : of_cmp op (scale_in x) (num v) (scale_in y) (number_in y) ≡ cmp_op op (num v *ℤ by.left) (m *ℤ by.right) =
-    ap (λ (c : Factors). cmp_op op (num v *ℤ c.left) (number_in y *ℤ c.right)) h.factors
-    ∙ ap (λ (z : ℤ). cmp_op op (num v *ℤ by.left) (z *ℤ by.right)) e in
-    ((h.left, subst (λ (z : ℤ). IsSmall (z *ℤ by.right)) e h.right), ap (λ (b : Bool). said (Ok b)) is)
+against_day : (op : CmpOp) (l : ℕ) (t factor m : ℤ) (wanted : Bool) (k : Kind) (bound : Typed) (o : Option Value) (f : ℤ)
+    → factor ≡ pos (10 ^ (max (scale_of_kind k) (scale_in bound) - scale_of_kind k)) → m ≡ number_in bound *ℤ pos (10 ^ (max (scale_of_kind k) (scale_in bound) - scale_in bound))
+    → wanted_of wanted (truth_found (on_both (both_of (of_place k o l f) (Ok bound)) (compared op))) ≡ met_by (against op l t factor m wanted) o f
+against_day op l t factor m wanted k bound None f p q = refl
+against_day op l t factor m wanted k bound (Some v) f p q =
+    ap₂ (λ (x y : ℤ). Ok (is_wanted wanted (cmp_op op (num v *ℤ x) y))) (sym p) (sym q)
 
-right_day : (op : CmpOp) (l : ℕ) (i m : ℤ) (by : Factors) (k : Kind) (o : Option Value) (t : ℤ) (r : Answer)
-    → number_found r ≡ Ok m → OnValues r (of_place k o l t) (AreBrought by)
-    → FitsWatch (watch (turned op) l i m (other_way by)) o × (untyped (on_both (both_of r (of_place k o l t)) (compared op)) ≡ said (met_by (watch (turned op) l i m (other_way by)) o t))
-right_day op l i m by k o t (Err e) n h = absurd (cc)
-right_day op l i m by k None t (Ok y) n h = (tt, refl)
-right_day op l i m by k (Some v) t (Ok y) n h =
-    let e : number_in y ≡ m = cc in
-    let x : Typed = record { kind = k; value = v } in
-    let is : of_cmp op (scale_in y) (number_in y) (scale_in x) (num v) ≡ cmp_op (turned op) (num v *ℤ by.right) (m *ℤ by.left) =
-    ap (λ (c : Factors). cmp_op op (number_in y *ℤ c.left) (num v *ℤ c.right)) h.factors
-    ∙ ap (λ (z : ℤ). cmp_op op (z *ℤ by.left) (num v *ℤ by.right)) e
-    ∙ sym (turned_is op (num v *ℤ by.right) (m *ℤ by.left)) in
-    ((h.right, subst (λ (z : ℤ). IsSmall (z *ℤ by.left)) e h.left), ap (λ (b : Bool). said (Ok b)) is)
+is_against : (decls : Decls) (op : CmpOp) (l : ℕ) (t : ℤ) (bound : Typed) (wanted : Bool) (factor m : ℤ)
+    → factor ≡ pos (10 ^ (max (scale_of_kind (kind_observed (declarations decls) l)) (scale_in bound) - scale_of_kind (kind_observed (declarations decls) l)))
+    → m ≡ number_in bound *ℤ pos (10 ^ (max (scale_of_kind (kind_observed (declarations decls) l)) (scale_in bound) - scale_in bound))
+    → IsAgainst decls op l t bound wanted (against op l t factor m wanted)
+is_against decls op l t bound wanted factor m p q env f =
+    against_day op l t factor m wanted (kind_observed (declarations decls) l) bound (held env (record { label = l; day = f +ℤ t })) (f +ℤ t) p q
 
--- each day
+pub against_found : (decls : Decls) (op : CmpOp) (l : ℕ) (t u : ℤ) (bound : Typed) (wanted : Bool) (factor m : ℤ) (k : Kind) (i j : ℕ) (by : Factors) → u ≡ t
+    → k ≡ kind_observed (declarations decls) l → i ≡ scale_of_kind k → j ≡ scale_of_kind bound.kind → by ≡ factors i j → factor ≡ by.left → m ≡ number_in bound *ℤ by.right
+    → IsAgainst decls op l t bound wanted (against op l u factor m wanted)
+against_found decls op l t u bound wanted factor m k i j by same kind_is i_is j_is by_is p q env f =
+    let scale : i ≡ scale_of_kind (kind_observed (declarations decls) l) = i_is ∙ ap (λ (o : Kind). scale_of_kind o) kind_is in
+    let all : by ≡ factors (scale_of_kind (kind_observed (declarations decls) l)) (scale_in bound) = by_is ∙ ap₂ factors scale j_is in
+    ap (λ (x : ℤ). wanted_of wanted (truth_found (on_both (both_of (observation (declarations decls) env l (f +ℤ x)) (Ok bound)) (compared op)))) (sym same)
+    ∙ is_against decls op l u bound wanted factor m (p ∙ ap (λ (c : Factors). c.left) all) (q ∙ ap (λ (c : Factors). number_in bound *ℤ c.right) all) env f
 
-pub left_watched : (d : Declarations) (op : CmpOp) (l : ℕ) (t : ℤ) (b : Expression) (by : Factors) (g : List Binding) (m : ℤ) → Stands b g m
-    → (env : Environment) (f : ℤ) → ComparesOn d (Obs l t) b by g env f
-    → IsWatchedOn d (Cmp op (Obs l t) b) g (record { op = op; label = l; offset = t; bound = m; by = by }) env f
-left_watched d op l t b by g m stands env f h =
-    let p = left_day op l t m by (kind_observed d l) (held env (record { label = l; day = f +ℤ t })) (f +ℤ t) (run_of d b g env f) (stands d env f) h.brought in
-    record { day = h.left; fits = p.0; answer = p.1 }
+-- what is so of each that was found is so of what may have been found
 
-pub right_watched : (d : Declarations) (op : CmpOp) (l : ℕ) (t : ℤ) (a : Expression) (by : Factors) (g : List Binding) (m : ℤ) → Stands a g m
-    → (env : Environment) (f : ℤ) → ComparesOn d a (Obs l t) by g env f
-    → IsWatchedOn d (Cmp op a (Obs l t)) g (record { op = turned op; label = l; offset = t; bound = m; by = record { left = by.right; right = by.left } }) env f
-right_watched d op l t a by g m stands env f h =
-    let p = right_day op l t m by (kind_observed d l) (held env (record { label = l; day = f +ℤ t })) (f +ℤ t) (run_of d a g env f) (stands d env f) h.brought in
-    record { day = h.right; fits = p.0; answer = p.1 }
+pub some_too : (o : Option Watch) (P Q : Watch → Type 0) → ((w : Watch) → P w → Q w) → IfSome o P → IfSome o Q
+some_too (Some w) P Q go h = go w h
+some_too None P Q go h = h
+
+pub stop_too : (o : Option Stop) (P Q : Stop → Type 0) → ((s : Stop) → P s → Q s) → IfSome o P → IfSome o Q
+stop_too (Some s) P Q go h = go s h
+stop_too None P Q go h = h
+
+-- what stays the same may stand on either side
+
+pub left_watched : (decls : Decls) (op : CmpOp) (l : ℕ) (t : ℤ) (b : Expression) (wanted : Bool) (names : Bindings) (v : Typed) (w : Watch)
+    → Stands b (bindings names) v → IsAgainst decls op l t v wanted w → IsWatched decls (Cmp op (Obs l t) b) wanted names w
+left_watched decls op l t b wanted names v w stands is env f =
+    ap (λ (r : Answer). wanted_of wanted (truth_found (on_both (both_of (observation (declarations decls) env l (f +ℤ t)) r) (compared op)))) (stands decls env f) ∙ is env f
+
+turned_day : (op : CmpOp) (k : Kind) (v : Typed) (o : Option Value) (l : ℕ) (t : ℤ)
+    → truth_found (on_both (both_of (Ok v) (of_place k o l t)) (compared op)) ≡ truth_found (on_both (both_of (of_place k o l t) (Ok v)) (compared (turned op)))
+turned_day op k v None l t = refl
+turned_day op k v (Some x) l t = ap (λ (b : Bool). Ok b) (sym (turned_scales op (scale_of_kind k) (num x) (scale_in v) (number_in v)))
+
+pub right_watched : (decls : Decls) (op : CmpOp) (l : ℕ) (t : ℤ) (a : Expression) (wanted : Bool) (names : Bindings) (v : Typed) (w : Watch)
+    → Stands a (bindings names) v → IsAgainst decls (turned op) l t v wanted w → IsWatched decls (Cmp op a (Obs l t)) wanted names w
+right_watched decls op l t a wanted names v w stands is env f =
+    ap (λ (r : Answer). wanted_of wanted (truth_found (on_both (both_of r (observation (declarations decls) env l (f +ℤ t))) (compared op)))) (stands decls env f)
+    ∙ ap (wanted_of wanted) (turned_day op (kind_observed (declarations decls) l) v (held env (record { label = l; day = f +ℤ t })) l (f +ℤ t))
+    ∙ is env f
+
+pub right_is : (decls : Decls) (op to : CmpOp) (l : ℕ) (t u : ℤ) (a b : Expression) (wanted : Bool) (names : Bindings) (v : Typed) (w : Watch) → b ≡ Obs l t → u ≡ t → to ≡ turned op
+    → Stands a (bindings names) v → IsAgainst decls to l u v wanted w → IsWatched decls (Cmp op a b) wanted names w
+right_is decls op to l t u a b wanted names v w is same turns stands against =
+    subst (λ (e : Expression). IsWatched decls (Cmp op a e) wanted names w) (sym is)
+    (right_watched decls op l t a wanted names v w stands
+    (subst (λ (x : ℤ). IsAgainst decls (turned op) l x v wanted w) same (subst (λ (o : CmpOp). IsAgainst decls o l u v wanted w) turns against)))
+
+-- a flag
+
+flag_day : (l : ℕ) (t : ℤ) (wanted : Bool) (k : Kind) (o : Option Value) (f : ℤ) → wanted_of wanted (truth_found (of_place k o l f)) ≡ met_by (record { label = l; offset = t; trial = Flag; wanted = wanted }) o f
+flag_day l t wanted k None f = refl
+flag_day l t wanted k (Some v) f = refl
+
+pub flag_watched : (decls : Decls) (l : ℕ) (t : ℤ) (wanted : Bool) (names : Bindings) → IsWatched decls (Obs l t) wanted names (record { label = l; offset = t; trial = Flag; wanted = wanted })
+flag_watched decls l t wanted names env f =
+    flag_day l t wanted (kind_observed (declarations decls) l) (held env (record { label = l; day = f +ℤ t })) (f +ℤ t)
 
 -- a day that stands in a run at an index
 
@@ -108,34 +142,40 @@ stands_there run i t d within day =
     let v = (slice_index_or run i d).value in
     (i, within, same_read run i (record { day = t; value = v }) d within ∙ ap (λ (u : ℤ). record { day = u; value = v }) day)
 
+pub met_there : (w : Watch) (env : Environment) (run : List FixedDay) (i : ℕ) (t : ℤ) (d : FixedDay) (b : Bool) → LendsDays env w.label run → i < length run → (slice_index_or run i d).day ≡ t
+    → b ≡ is_met w (slice_index_or run i d).value → Ok b ≡ met_on w env t
+met_there w env run i t d b lends within day is =
+    ap (λ (c : Bool). Ok c) is ∙ ap (λ (o : Option Value). met_by w o t) (sym ((lends t (slice_index_or run i d).value).0 (stands_there run i t d within day)))
+
 -- one day after another
 
-first_same_below : (n : ℕ) (a b : ℕ → ValueOrMissing) → ((i : ℕ) → i < n → a i ≡ b i) → first_tried n a ≡ first_tried n b
-first_same_below zero a b h = refl
-first_same_below (suc n) a b h =
-    ap (λ (t : DayOrMissing). or_next t n (a n)) (first_same_below n a b (λ i l. h i (omega arith))) ∙ ap (or_next (first_tried n b) n) (h n (omega arith))
+pub watch_stops : (decls : Decls) (e : Expression) (wanted : Bool) (names : Bindings) (w : Watch) (env : Environment) (from first : ℤ) (n : ℕ) (s : Stop)
+    → IsWatched decls e wanted names w → first ≡ from +ℤ w.offset → s ≡ first_stop n (λ i. met_on w env (first +ℤ pos i)) → IsStop decls e wanted names env from n s
+watch_stops decls e wanted names w env from first n s watched day is =
+    is ∙ same_stop n (λ i. met_on w env (first +ℤ pos i)) (λ i. met_in decls e wanted names env from i) (λ i l. ap (λ (t : ℤ). met_on w env t) (moved i) ∙ sym (watched env (from +ℤ pos i)))
+  where
+    moved : (i : ℕ) → first +ℤ pos i ≡ from +ℤ pos i +ℤ w.offset
+    moved i = omega (arith, ints, day)
 
-module _ (d : Declarations) (e : Expression) (g : List Binding) (w : Watch) (env : Environment) (from first : ℤ) (n : ℕ)
-    (day : first ≡ from +ℤ w.offset) (watched : (i : ℕ) → i < n → IsWatchedOn d e g w env (from +ℤ pos i)) where
-  moved : (i : ℕ) → first +ℤ pos i ≡ from +ℤ pos i +ℤ w.offset
-  moved i = omega (arith, ints, day)
-
-  pub watch_fits : OnDays (λ t. FitsWatch w (found_on w env t)) first n
-  watch_fits i l = subst (λ (t : ℤ). FitsWatch w (found_on w env t)) (sym (moved i)) (watched i l).fits
-
-  pub watch_answers : (r : DayOrMissing) → r ≡ first_tried n (λ i. said (met_on w env (first +ℤ pos i))) → r ≡ first_tried n (λ i. untyped (run_of d e g env (from +ℤ pos i)))
-  watch_answers r is =
-      is ∙ first_same_below n (λ i. said (met_on w env (first +ℤ pos i))) (λ i. untyped (run_of d e g env (from +ℤ pos i))) (λ i l. ap (λ (t : ℤ). said (met_on w env t)) (moved i) ∙ sym (watched i l).answer)
+pub flag_stops : (l : ℕ) (t : ℤ) (wanted : Bool) (env : Environment) (from first : ℤ) (n : ℕ) (s : Stop) → first ≡ from +ℤ t
+    → s ≡ first_stop n (λ i. met_on (record { label = l; offset = t; trial = Flag; wanted = wanted }) env (first +ℤ pos i)) → IsFlagStop l t wanted env from n s
+flag_stops l t wanted env from first n s day is decls names =
+    watch_stops decls (Obs l t) wanted names (record { label = l; offset = t; trial = Flag; wanted = wanted }) env from first n s (flag_watched decls l t wanted names) day is
 
 -- the day i, which is t, of some days
 
-module _ (w : Watch) (env : Environment) (first : ℤ) (n i : ℕ) (t : ℤ) (o : Option Value) (r : Result Bool Missing) (within : i < n)
-    (before : first_tried i (λ k. said (met_on w env (first +ℤ pos k))) ≡ Ok None) (day : t ≡ first +ℤ pos i) (found : o ≡ found_on w env t) (is : r ≡ met_by w o t) where
+module _ (w : Watch) (env : Environment) (first : ℤ) (n i : ℕ) (t : ℤ) (r : TruthOrMissing) (within : i < n)
+    (before : first_stop i (λ k. met_on w env (first +ℤ pos k)) ≡ Never) (day : t ≡ first +ℤ pos i) (is : r ≡ met_on w env t) where
   on_day : met_on w env (first +ℤ pos i) ≡ r
-  on_day = ap (λ (u : ℤ). met_on w env u) (sym day) ∙ ap (λ (p : Option Value). met_by w p t) (sym found) ∙ sym is
+  on_day = ap (λ (u : ℤ). met_on w env u) (sym day) ∙ sym is
 
-  pub watch_lacks : (m : Missing) → r ≡ Err m → first_tried n (λ k. said (met_on w env (first +ℤ pos k))) ≡ Err m
-  watch_lacks m lacks = tried_missing n i (λ k. said (met_on w env (first +ℤ pos k))) m within before (ap said (on_day ∙ lacks))
+  pub watch_lacks : (m : Missing) → r ≡ Err m → Lacking i m ≡ first_stop n (λ k. met_on w env (first +ℤ pos k))
+  watch_lacks m lacks = sym (stops_lacking n i (λ k. met_on w env (first +ℤ pos k)) m within before (on_day ∙ lacks))
 
-  pub watch_holds : (b : Bool) → r ≡ Ok b → b ≡ true → first_tried n (λ k. said (met_on w env (first +ℤ pos k))) ≡ Ok (Some i)
-  watch_holds b found holds = tried_true n i (λ k. said (met_on w env (first +ℤ pos k))) (Truth b) within before (ap said (on_day ∙ found)) holds
+  pub watch_meets : (b : Bool) → r ≡ Ok b → b ≡ true → Met i ≡ first_stop n (λ k. met_on w env (first +ℤ pos k))
+  watch_meets b found holds =
+      sym (stops_met n i (λ k. met_on w env (first +ℤ pos k)) within before (on_day ∙ found ∙ ap (λ (c : Bool). Ok c) holds))
+
+  pub watch_goes_on : (b : Bool) → r ≡ Ok b → b ≡ false → first_stop (i + 1) (λ k. met_on w env (first +ℤ pos k)) ≡ Never
+  watch_goes_on b found fails =
+      stops_not i (λ k. met_on w env (first +ℤ pos k)) before (on_day ∙ found ∙ ap (λ (c : Bool). Ok c) fails)

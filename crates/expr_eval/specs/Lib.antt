@@ -11,8 +11,10 @@ pub mod Operators
 pub mod Evaluations
 pub mod Levels
 pub mod LevelDays
+pub mod Stops
 pub mod Watching
 pub mod Truths
+pub mod Searches
 pub mod Evaluable
 pub mod Answers
 pub mod LawsEntries

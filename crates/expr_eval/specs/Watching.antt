@@ -1,25 +1,25 @@
--- What is observed under a label, compared on each day with a number that stays the same.
-use Rattle.std.specs.Prelude.{ℤ, ◌+ℤ◌, ◌*ℤ◌, ◌≡◌, Bool, List, Option, Some, None, Result, Ok, Err}
-use Rattle.term_core.specs.Declarations.{Declarations}
+-- What is observed under a label, tried on each day: whether it is true, or how it compares with a number that stays the
+-- same.
+use Rattle.std.specs.Prelude.{ℕ, ℤ, ◌+ℤ◌, ◌*ℤ◌, ◌≡◌, Bool, List, Option, Some, None, Ok, Err}
+use Rattle.term_core.specs.Declarations.{declarations}
+use Rattle.term_core.specs.declared.decls.Decls.{Decls}
 use Rattle.term_core.specs.declared.terms.CmpOp.{CmpOp}
 use Rattle.term_core.specs.declared.terms.CmpOp.TheVariants.{Less, LessEq, Greater, GreaterEq, Equal, Unequal}
 use Rattle.term_core.specs.declared.values.Value.{Value}
-use Rattle.term_core.specs.declared.values.Value.TheVariants.{Truth}
-use Rattle.term_core.specs.declared.values.Missing.{Missing}
-use Rattle.term_core.specs.Terms.{Expression, expression}
+use Rattle.term_core.specs.Terms.{Expression}
 use Rattle.term_core.specs.Environments.{Environment, held}
-use Rattle.term_core.specs.Values.{cmp_op, num}
-use Rattle.interval_check.specs.Safety.{IsSmall}
+use Rattle.term_core.specs.Values.{cmp_op, num, truth}
 use Rattle.expr_eval.specs.declared.scratch.Binding.{Binding}
+use Rattle.expr_eval.specs.declared.operations.Typed.{Typed}
 use Rattle.expr_eval.specs.declared.bindings.Bindings.{Bindings}
-use Rattle.expr_eval.specs.declared.trials.Comparison.{Comparison}
+use Rattle.expr_eval.specs.declared.watches.Trial.{Trial}
+use Rattle.expr_eval.specs.declared.watches.Trial.TheVariants.{Flag, Number}
 use Rattle.expr_eval.specs.declared.watches.Watch.{Watch}
+use Rattle.expr_eval.specs.Operations.{compared}
 use Rattle.expr_eval.specs.Bindings.{bindings}
-use Rattle.expr_eval.specs.Runs.{run_of, untyped}
-use Rattle.expr_eval.specs.Fits.{IsDay}
-use Rattle.expr_eval.specs.Comparing.{ComparesOn, number_found}
-use Rattle.expr_eval.specs.Evaluations.{comparison}
-use Rattle.expr_eval.specs.Trials.{ValueOrMissing}
+use Rattle.expr_eval.specs.Runs.{both_of, observation, on_both, run_of}
+use Rattle.expr_eval.specs.Comparing.{truth_found}
+use Rattle.expr_eval.specs.Stops.{TruthOrMissing, is_wanted, wanted_of}
 
 -- the same comparison with its sides in the other order
 abbrev pub turned : CmpOp → CmpOp
@@ -30,44 +30,35 @@ turned GreaterEq = LessEq
 turned Equal = Equal
 turned Unequal = Unequal
 
--- whether a value meets it, and whether what is found on a day does
-abbrev pub is_met : Watch → Value → Bool
-is_met w v = cmp_op w.op (num v *ℤ w.by.left) (w.bound *ℤ w.by.right)
+-- the outcome of a trial, and whether it is the one that is wanted
+abbrev pub outcome : Trial → Value → Bool
+outcome Flag v = truth v
+outcome (Number op factor bound) v = cmp_op op (num v *ℤ factor) bound
 
-abbrev pub met_by : Watch → Option Value → ℤ → Result Bool Missing
+abbrev pub is_met : Watch → Value → Bool
+is_met w v = is_wanted w.wanted (outcome w.trial v)
+
+-- of what is found on a day
+abbrev pub met_by : Watch → Option Value → ℤ → TruthOrMissing
 met_by w (Some v) t = Ok (is_met w v)
 met_by w None t = Err (record { label = w.label; day = t })
 
--- what is found on a day
-abbrev pub found_on : Watch → Environment → ℤ → Option Value
-found_on w env t = held env (record { label = w.label; day = t })
+abbrev pub met_on : Watch → Environment → ℤ → TruthOrMissing
+met_on w env t = met_by w (held env (record { label = w.label; day = t })) t
 
-abbrev pub met_on : Watch → Environment → ℤ → Result Bool Missing
-met_on w env t = met_by w (found_on w env t) t
+-- a side has the same value on each day
+abbrev pub Stands : Expression → List Binding → Typed → Type 0
+Stands e g v = (decls : Decls) (env : Environment) (f : ℤ) → run_of (declarations decls) e g env f ≡ Ok v
 
--- as a value
-abbrev pub said : Result Bool Missing → ValueOrMissing
-said (Ok b) = Ok (Truth b)
-said (Err m) = Err m
+-- a watch of what is observed, on the left of a comparison with a value
+abbrev pub IsAgainst : Decls → CmpOp → ℕ → ℤ → Typed → Bool → Watch → Type 0
+IsAgainst decls op l t bound wanted w =
+    (env : Environment) (f : ℤ)
+    → wanted_of wanted (truth_found (on_both (both_of (observation (declarations decls) env l (f +ℤ t)) (Ok bound)) (compared op)))
+    ≡ met_on w env (f +ℤ w.offset)
 
--- both numbers fit
-abbrev pub FitsWatch : Watch → Option Value → Type 0
-FitsWatch w (Some v) = IsSmall (num v *ℤ w.by.left) × IsSmall (w.bound *ℤ w.by.right)
-FitsWatch w None = Unit {0}
-
--- a side has the same number on each day
-abbrev pub Stands : Expression → List Binding → ℤ → Type 0
-Stands e g m = (d : Declarations) (env : Environment) (f : ℤ) → number_found (run_of d e g env f) ≡ Ok m
-
--- it answers what an expression does on the day f
-pub record IsWatchedOn (d : Declarations) (e : Expression) (g : List Binding) (w : Watch) (env : Environment) (f : ℤ) : Type 0 where
-  pub day : IsDay f
-  pub fits : FitsWatch w (found_on w env (f +ℤ w.offset))
-  pub answer : untyped (run_of d e g env f) ≡ said (met_on w env (f +ℤ w.offset))
-
--- and so it does on each day on which a comparison fits
-abbrev pub IsWatched : Comparison → Bindings → Watch → Type 0
-IsWatched test names w =
-    (d : Declarations) (env : Environment) (f : ℤ)
-    → ComparesOn d (expression test.left.now) (expression test.right.now) test.by (bindings names) env f
-    → IsWatchedOn d (comparison test) (bindings names) w env f
+-- on each day a test has the truth value that is wanted exactly where the watch is met, some days later
+abbrev pub IsWatched : Decls → Expression → Bool → Bindings → Watch → Type 0
+IsWatched decls e wanted names w =
+    (env : Environment) (f : ℤ)
+    → wanted_of wanted (truth_found (run_of (declarations decls) e (bindings names) env f)) ≡ met_on w env (f +ℤ w.offset)

@@ -24,6 +24,8 @@ mod levels;
 pub mod operations;
 mod operators;
 mod scratch;
+mod searches;
+mod stops;
 mod trials;
 mod truths;
 mod values;

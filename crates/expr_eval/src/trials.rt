@@ -1,6 +1,6 @@
 //! Tests, tried on one day after another.
 
-ghost use Rattle.std.specs.Prelude.{◌≡◌, ◌≤◌, ◌^◌, ◌+ℤ◌, unsigned_abs, slice_get, Ok, IfOk, IfSome};
+ghost use Rattle.std.specs.Prelude.{◌≡◌, ◌≤◌, ◌^◌, unsigned_abs, IfOk};
 ghost use Rattle.term_core.specs.Declarations.{declarations};
 ghost use Rattle.term_core.specs.Terms.{expression};
 ghost use Rattle.term_core.specs.Environments.{IsAdmitted, held};
@@ -9,17 +9,14 @@ ghost use Rattle.expr_eval.specs.Evaluable.{MayEvaluate};
 ghost use Rattle.expr_eval.specs.Evaluations.{ComparesIn, FitsIn, answer_in, comparison, first_in, kinds_in};
 ghost use Rattle.expr_eval.specs.Comparing.{factors_found, mantissa_held, number_found, truth_found, OnDays, SidesFit};
 ghost use Rattle.expr_eval.specs.Trials.{IsFirstTrue, IsOneOf};
-ghost use Rattle.expr_eval.specs.Bindings.{bindings};
-ghost use Rattle.expr_eval.specs.Runs.{of_binding};
-ghost use Rattle.expr_eval.specs.Watching.{IsWatched, Stands, turned};
 
 use crate::bindings::Bindings;
 use crate::comparisons::{Factors, compare_brought, factors_of};
-use crate::evaluation::{day_at, day_on, evaluate, mantissa_observed, value_bound};
+use crate::evaluation::{day_at, day_on, evaluate, mantissa_observed};
 use crate::kinds::kind_in;
 use crate::scratch::Scratch;
+use crate::searches::search;
 use crate::truths::holds;
-use crate::watches::{Watch, first_met};
 use fixing_files::Fixings;
 use term_core::{CmpOp, Decls, Expr, Missing};
 
@@ -103,124 +100,6 @@ fn first_day_compared(
     Ok(None)
 }
 
-// The mantissa of a name whose value is known.
-fn mantissa_bound(names: &Bindings, back: u32) -> Option<i128>
-    ensures { IfSome result (λ m. number_found (of_binding (slice_get (bindings names.now) back))
-        ≡ Ok m) }
-{
-    match value_bound(names, back) {
-        Ok(found) => Some(found.value.number()),
-        Err(_) => None,
-    }
-}
-
-// The mantissa of a side that is the same on each day: of a literal, or of a name whose value is
-// known.
-fn standing(e: &Expr, names: &Bindings) -> Option<i128>
-    ensures { IfSome result (λ m. Stands (expression e.now) (bindings names.now) m) }
-{
-    match e {
-        Expr::Lit { mant, .. } => Some(*mant),
-        Expr::Var { back } => mantissa_bound(names, *back),
-        _ => None,
-    }
-}
-
-// The same comparison with its sides in the other order.
-fn turned(op: CmpOp) -> CmpOp
-    ensures { result ≡ turned op }
-{
-    match op {
-        CmpOp::Less => CmpOp::Greater,
-        CmpOp::LessEq => CmpOp::GreaterEq,
-        CmpOp::Greater => CmpOp::Less,
-        CmpOp::GreaterEq => CmpOp::LessEq,
-        CmpOp::Equal => CmpOp::Equal,
-        CmpOp::Unequal => CmpOp::Unequal,
-    }
-}
-
-// A comparison whose left side is observed, and whose right one stays the same.
-fn watch_left(test: &Comparison, names: &Bindings) -> Option<Watch>
-    ensures { IfSome result (λ w. IsWatched test.now names.now w) }
-{
-    match test.left {
-        Expr::Obs { label, offset } => {
-            let bound = standing(test.right, names)?;
-            Some(Watch {
-                op: test.op,
-                label: *label,
-                offset: *offset,
-                bound,
-                by: test.by,
-            })
-        }
-        _ => None,
-    }
-}
-
-// A comparison whose right side is observed, and whose left one stays the same.
-fn watch_right(test: &Comparison, names: &Bindings) -> Option<Watch>
-    ensures { IfSome result (λ w. IsWatched test.now names.now w) }
-{
-    match test.right {
-        Expr::Obs { label, offset } => {
-            let bound = standing(test.left, names)?;
-            Some(Watch {
-                op: turned(test.op),
-                label: *label,
-                offset: *offset,
-                bound,
-                by: Factors {
-                    left: test.by.right,
-                    right: test.by.left,
-                },
-            })
-        }
-        _ => None,
-    }
-}
-
-// A comparison of which one side is observed, and the other stays the same.
-fn watch_of(test: &Comparison, names: &Bindings) -> Option<Watch>
-    ensures { IfSome result (λ w. IsWatched test.now names.now w) }
-{
-    match watch_left(test, names) {
-        Some(watch) => Some(watch),
-        None => watch_right(test, names),
-    }
-}
-
-// The day that an observable with an offset reads.
-fn day_read(day: i64, offset: i32) -> i64
-    requires { IsDay day }
-    ensures is { result ≡ day +ℤ offset }
-    ensures near { unsigned_abs result ≤ 2 ^ 62 }
-{
-    day + offset as i64
-}
-
-// The first of some days on which a comparison holds. Where one side is observed and the other
-// stays the same, both are looked up once.
-fn first_compared(
-    decls: &Decls,
-    test: &Comparison,
-    names: &Bindings,
-    fixings: &Fixings,
-    from: i64,
-    days: u32,
-) -> Result<Option<u32>, Missing>
-    requires first { IsDay from }
-    requires fits { OnDays (λ day. ComparesIn decls.now test.now names.now fixings.now day) from days }
-    ensures days { result ≡ first_in decls.now (comparison test.now) names.now fixings.now from days }
-    ensures found { IfOk result (λ first. IsOneOf days first) }
-{
-    match watch_of(test, names) {
-        Some(watch) => first_met(&watch, fixings, day_read(from, watch.offset), days),
-        None => first_day_compared(decls, test, names, fixings, from, days),
-    }
-}
-
 // The first of some days on which any other test holds.
 fn first_held(
     decls: &Decls,
@@ -264,6 +143,9 @@ pub fn first_true(
     ensures found { IfOk result (λ first. IsOneOf days first) }
 {
     let names = Bindings::Lent { scratch };
+    if let Some(stop) = search(decls, test, true, &names, fixings, from, days) {
+        return stop.day();
+    }
     match test {
         Expr::Cmp { op, left, right } => {
             let by = factors_between(decls, left, right, &names);
@@ -273,7 +155,7 @@ pub fn first_true(
                 right: &**right,
                 by,
             };
-            first_compared(decls, &test, &names, fixings, from, days)
+            first_day_compared(decls, &test, &names, fixings, from, days)
         }
         _ => first_held(decls, test, &names, fixings, from, days),
     }

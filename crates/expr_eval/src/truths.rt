@@ -27,8 +27,8 @@ fn truth_entered(binding: &Binding) -> Result<bool, Missing>
     }
 }
 
-// The truth value of a name.
-fn truth_bound(names: &Bindings, back: u32) -> Result<bool, Missing>
+/// The truth value of a name.
+pub fn truth_bound(names: &Bindings, back: u32) -> Result<bool, Missing>
     ensures { result ≡ truth_found (of_binding (slice_get (bindings names.now) back)) }
 {
     match names {

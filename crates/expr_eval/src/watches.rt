@@ -1,108 +1,142 @@
-//! What is observed under a label, compared with a number on one day after another.
+//! What is observed under a label, tried on one day after another.
 
-ghost use Rattle.std.specs.Prelude.{◌≡◌, ◌≤◌, ◌^◌, ◌+ℤ◌, pos, unsigned_abs, Contains, IfOk, IfSome};
-ghost use Rattle.term_core.specs.Environments.{held};
+ghost use Rattle.std.specs.Prelude.{◌≡◌, ◌≤◌, ◌^◌, ◌+ℤ◌, ◌*ℤ◌, pos, unsigned_abs, IfSome};
 ghost use Rattle.fixing_files.specs.Runs.{LendsDays};
-ghost use Rattle.expr_eval.specs.Comparing.{OnDays};
-ghost use Rattle.expr_eval.specs.Trials.{IsOneOf, first_tried};
-ghost use Rattle.expr_eval.specs.Watching.{FitsWatch, found_on, met_by, met_on, said};
+ghost use Rattle.expr_eval.specs.Stops.{first_stop};
+ghost use Rattle.expr_eval.specs.Watching.{is_met, met_on};
 
-use crate::comparisons::{Factors, compare_brought};
+use crate::operations::compare_aligned;
+use crate::stops::{Stop, is_wanted};
 use fixing_files::{FixedDay, Fixings};
 use term_core::{CmpOp, Missing, Value};
 
-/// A comparison of what is observed, on its left, with a number that stays the same, and their
-/// factors.
+/// What is asked of a value: whether it is true, or how it compares with a number after it is
+/// multiplied.
 #[derive(Clone, Copy)]
-pub struct Watch {
-    pub op: CmpOp,
-    pub label: u32,
-    pub offset: i32,
-    pub bound: i128,
-    pub by: Factors,
+pub enum Trial {
+    Flag,
+    Number { op: CmpOp, factor: i64, bound: i128 },
 }
 
-// Where a day stands in a run, or where it would.
+/// A trial of what is observed under a label, some days later, and the outcome that is wanted.
+#[derive(Clone, Copy)]
+pub struct Watch {
+    pub label: u32,
+    pub offset: i32,
+    pub trial: Trial,
+    pub wanted: bool,
+}
+
+// Where a day stands in a run if no day is missing since the first of the run.
+fn index_without_gaps(run: &[FixedDay], day: i64) -> Option<usize> {
+    let since = day.checked_sub(run.first()?.day)?;
+    let at = usize::try_from(since).ok()?;
+    if run.get(at)?.day == day {
+        Some(at)
+    } else {
+        None
+    }
+}
+
+// Where a day stands in a run, or where it would. Most runs have no gaps.
 fn index_of(run: &[FixedDay], day: i64) -> usize {
+    if let Some(at) = index_without_gaps(run, day) {
+        return at;
+    }
     match run.binary_search_by_key(&day, |fixed| fixed.day) {
         Ok(at) => at,
         Err(at) => at,
     }
 }
 
-// The value of a day that stands at an index of a run.
-fn value_there(run: &[FixedDay], at: usize, day: i64) -> Option<Value>
-    ensures { IfSome result (λ v. Contains run.now (record { day = day; value = v })) }
+// A number times a factor, where a word holds it.
+#[inline(always)]
+fn brought(x: i128, factor: i64) -> Option<i128>
+    ensures { IfSome result (λ y. y ≡ x *ℤ factor) }
+{
+    if factor == 1 {
+        return Some(x);
+    }
+    let x = i64::try_from(x).ok()?;
+    Some(x as i128 * factor as i128)
+}
+
+// Whether a value meets a watch; none where it is too large for a word.
+#[inline(always)]
+fn is_met(watch: &Watch, value: &Value) -> Option<bool>
+    ensures { IfSome result (λ b. b ≡ is_met watch.now value.now) }
+{
+    match watch.trial {
+        Trial::Flag => Some(is_wanted(watch.wanted, value.is_true())),
+        Trial::Number { op, factor, bound } => {
+            let x = brought(value.number(), factor)?;
+            Some(is_wanted(watch.wanted, compare_aligned(op, x, bound)))
+        }
+    }
+}
+
+// The same of what is found on a day, which is first sought at an index of the label's run.
+#[inline(always)]
+fn met_near(
+    watch: &Watch,
+    fixings: &Fixings,
+    run: &[FixedDay],
+    at: usize,
+    day: i64,
+) -> Option<Result<bool, Missing>>
+    requires { LendsDays fixings.now watch.now.label run.now }
+    ensures { IfSome result (λ r. r ≡ met_on watch.now fixings.now day) }
 {
     if at < run.len() {
-        let fixed = run[at];
+        let fixed = &run[at];
         if fixed.day == day {
-            return Some(fixed.value);
+            return Some(Ok(is_met(watch, &fixed.value)?));
         }
     }
-    None
+    met_somewhere(watch, fixings, day)
 }
 
-// The value of a label on a day, which is first sought at an index of the label's run.
-fn value_near(fixings: &Fixings, label: u32, run: &[FixedDay], at: usize, day: i64) -> Option<Value>
-    requires { LendsDays fixings.now label run.now }
-    ensures { result ≡ held fixings.now (record { label = label; day = day }) }
+// The same of what is found on a day.
+fn met_somewhere(watch: &Watch, fixings: &Fixings, day: i64) -> Option<Result<bool, Missing>>
+    ensures { IfSome result (λ r. r ≡ met_on watch.now fixings.now day) }
 {
-    if let Some(value) = value_there(run, at, day) {
-        return Some(value);
-    }
-    fixings.get(label, day)
-}
-
-// Whether what is found on a day meets it.
-fn is_met(watch: &Watch, found: Option<Value>, day: i64) -> Result<bool, Missing>
-    requires { FitsWatch watch.now found }
-    ensures { result ≡ met_by watch.now found day }
-{
-    match found {
-        Some(value) => {
-            let x = value.number();
-            Ok(compare_brought(watch.op, x, watch.bound, watch.by))
-        }
-        None => Err(Missing {
+    match fixings.get(watch.label, day) {
+        Some(value) => Some(Ok(is_met(watch, &value)?)),
+        None => Some(Err(Missing {
             label: watch.label,
             day,
-        }),
+        })),
     }
 }
 
-// The day `i` days after a day.
-fn day_behind(first: i64, i: u32) -> i64
+/// The day `i` days after a day.
+pub fn day_behind(first: i64, i: u32) -> i64
     requires { unsigned_abs first ≤ 2 ^ 62 }
     ensures { result ≡ first +ℤ pos i }
 {
     first + i as i64
 }
 
-/// The first of some days on which it is met. No day before that one is missing, so each stands in
-/// the run of the label behind the one before it.
-pub fn first_met(
-    watch: &Watch,
-    fixings: &Fixings,
-    first: i64,
-    days: u32,
-) -> Result<Option<u32>, Missing>
-    requires first { unsigned_abs first ≤ 2 ^ 62 }
-    requires fits { OnDays (λ day. FitsWatch watch.now (found_on watch.now fixings.now day)) first days }
-    ensures days { result ≡ first_tried days
-        (λ i. said (met_on watch.now fixings.now (first +ℤ pos i))) }
-    ensures found { IfOk result (λ first. IsOneOf days first) }
+/// Where a watch stops over some days; none where a number on the way is too large. No day before
+/// that one is missing, so each stands in the run of the label behind the one before it.
+pub fn first_met(watch: &Watch, fixings: &Fixings, first: i64, days: u32) -> Option<Stop>
+    requires { unsigned_abs first ≤ 2 ^ 62 }
+    ensures { IfSome result (λ s. s ≡ first_stop days
+        (λ i. met_on watch.now fixings.now (first +ℤ pos i))) }
 {
     let run = fixings.days_of(watch.label);
     let start = index_of(run, first);
     for i in 0..days {
         let day = day_behind(first, i);
         let at = start.saturating_add(i as usize);
-        let found = value_near(fixings, watch.label, run, at, day);
-        let met = is_met(watch, found, day)?;
-        if met {
-            return Ok(Some(i));
+        match met_near(watch, fixings, run, at, day)? {
+            Ok(met) => {
+                if met {
+                    return Some(Stop::Met { day: i });
+                }
+            }
+            Err(missing) => return Some(Stop::Lacking { day: i, missing }),
         }
     }
-    Ok(None)
+    Some(Stop::Never)
 }
