@@ -12,6 +12,7 @@ pub mod CompareFacts
 pub mod WatchFacts
 pub mod TruthFacts
 pub mod SearchFacts
+pub mod LatchFacts
 pub mod AnswerFacts
 pub mod TrialFacts
 pub mod PartFacts

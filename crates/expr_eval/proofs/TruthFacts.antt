@@ -1,6 +1,7 @@
 -- Tests without kinds answer what the evaluator does.
-use Rattle.std.proofs.Common.{◌≡◌, ℕ, ◌+◌, ◌<◌, ℤ, pos, ◌+ℤ◌, ◌-ℤ◌, Bool, true, false, List, ◌∷◌, Result, Ok, Err, if◌then◌else◌, refl, ap, sym, ◌∙◌}
-use Rattle.term_core.specs.Declarations.{Declarations}
+use Rattle.std.proofs.Common.{◌≡◌, ℕ, ◌+◌, ◌<◌, ℤ, pos, ◌+ℤ◌, ◌-ℤ◌, Bool, true, false, List, ◌∷◌, Result, Ok, Err, if◌then◌else◌, refl, ap, sym, subst, ◌∙◌}
+use Rattle.term_core.specs.Declarations.{Declarations, declarations}
+use Rattle.term_core.specs.declared.decls.Decls.{Decls}
 use Rattle.term_core.specs.declared.terms.CmpOp.{CmpOp}
 use Rattle.term_core.specs.declared.terms.LogicOp.{LogicOp}
 use Rattle.term_core.specs.declared.values.Value.TheVariants.{Truth}
@@ -12,11 +13,14 @@ use Rattle.term_core.specs.Reads.{decides}
 use Rattle.expr_eval.specs.declared.scratch.Binding.{Binding}
 use Rattle.expr_eval.specs.declared.operations.Typed.{Typed}
 use Rattle.expr_eval.specs.declared.operations.Operands.{Operands}
+use Rattle.expr_eval.specs.declared.bindings.Bindings.{Bindings}
+use Rattle.expr_eval.specs.Bindings.{bindings}
+use Rattle.expr_eval.specs.Fits.{DaysFitIn}
 use Rattle.expr_eval.specs.Operations.{at_kind, compared, truth_in, verdict}
-use Rattle.expr_eval.specs.Runs.{Answer, bound_to, both_of, day_run, day_step, of_sides, on_both, run_of, then_do}
+use Rattle.expr_eval.specs.Runs.{Answer, bound_to, both_of, day_run, day_step, days_run, of_sides, on_both, run_of, then_do}
 use Rattle.expr_eval.specs.Comparing.{truth_found}
 use Rattle.expr_eval.specs.Evaluations.{days_from}
-use Rattle.expr_eval.specs.Truths.{is_verdict}
+use Rattle.expr_eval.specs.Truths.{DaysFitAfter, DaysFitOf, is_verdict, truth_after, truth_from}
 use Rattle.expr_eval.proofs.Days.{acc_is, days_tried-more, days_tried-stop}
 
 -- what lacks a place as a truth value lacks it
@@ -76,24 +80,42 @@ day_lacks d body g F t v m h = ap (λ (a : Answer). then_do a (λ w. Ok (at_kind
 pub day_holds : (d : Declarations) (body : Expression) (g : List Binding) (F : Environment) (t : ℤ) (v : Typed) (b : Bool) → is_verdict body ≡ true → truth_found (run_of d body (bound_to v ∷ g) F t) ≡ Ok b → day_run d body g F t v ≡ Ok (record { kind = v.kind; value = Truth b })
 day_holds d body g F t v b h e = ap (λ (a : Answer). then_do a (λ w. Ok (at_kind v.kind w))) (verdict_so d body (bound_to v ∷ g) F t b h e)
 
--- and its days, one after another
+-- and its days, one after another, from the value of its start
 
-module _ (d : Declarations) (body first : Expr) (g : List Binding) (F : Environment) (from : ℤ) (i : ℕ) (v : Typed) (t : ℤ) (r : Result Bool Missing)
-    (before : days_from d body first g F from i ≡ Ok v) (day : t ≡ from +ℤ pos (i + 1)) (is : r ≡ truth_found (run_of d (expression body) (bound_to v ∷ g) F t)) where
-  next : days_from d body first g F from (i + 1) ≡ day_run d (expression body) g F t v
+module _ (d : Declarations) (body : Expression) (start : Typed) (g : List Binding) (F : Environment) (from : ℤ) (i : ℕ) (v : Typed) (t : ℤ) (r : Result Bool Missing)
+    (before : days_run d body g F from i (Ok start) ≡ Ok v) (day : t ≡ from +ℤ pos (i + 1)) (is : r ≡ truth_found (run_of d body (bound_to v ∷ g) F t)) where
+  next : days_run d body g F from (i + 1) (Ok start) ≡ day_run d body g F t v
   next =
-      days_tried-more i (day_step (λ h u. run_of d (expression body) h F u) g from) (run_of d (expression first) g F from) v before
-      ∙ ap (λ (u : ℤ). day_run d (expression body) g F u v) (sym day)
+      days_tried-more i (day_step (λ h u. run_of d body h F u) g from) (Ok start) v before
+      ∙ ap (λ (u : ℤ). day_run d body g F u v) (sym day)
 
-  pub days_lack : (n : ℕ) (m : Missing) → i < n → r ≡ Err m → days_from d body first g F from n ≡ Err m
+  pub days_lack : (n : ℕ) (m : Missing) → i < n → r ≡ Err m → days_run d body g F from n (Ok start) ≡ Err m
   days_lack n m l lacks =
-      days_tried-stop i n (day_step (λ h u. run_of d (expression body) h F u) g from) (run_of d (expression first) g F from) v m l before
-      (ap (λ (u : ℤ). day_run d (expression body) g F u v) (sym day) ∙ day_lacks d (expression body) g F t v m (sym is ∙ lacks))
+      days_tried-stop i n (day_step (λ h u. run_of d body h F u) g from) (Ok start) v m l before
+      (ap (λ (u : ℤ). day_run d body g F u v) (sym day) ∙ day_lacks d body g F t v m (sym is ∙ lacks))
 
-  pub days_hold : (b : Bool) → is_verdict (expression body) ≡ true → r ≡ Ok b → days_from d body first g F from (i + 1) ≡ Ok (record { kind = v.kind; value = Truth b })
-  days_hold b h found = next ∙ day_holds d (expression body) g F t v b h (sym is ∙ found)
+  pub days_hold : (b : Bool) → is_verdict body ≡ true → r ≡ Ok b → days_run d body g F from (i + 1) (Ok start) ≡ Ok (record { kind = v.kind; value = Truth b })
+  days_hold b h found = next ∙ day_holds d body g F t v b h (sym is ∙ found)
 
 -- an accumulator by its parts
 pub acc_holds : (d : Declarations) (body x first y : Expr) (n : ℕ) (g : List Binding) (env : Environment) (f from at : ℤ) (r : Result Bool Missing) → x ≡ body → y ≡ first → at ≡ from → from ≡ f -ℤ pos n → r ≡ truth_found (days_from d x y g env at n) → r ≡ truth_found (run_of d (Acc (expression body) n (expression first)) g env f)
 acc_holds d body x first y n g env f from at r p q u v e =
     e ∙ ap truth_found (acc_is d body x first y n g env f from at (days_from d x y g env at n) p q u v refl)
+
+-- from the value of its start
+
+pub after_start : (decls : Decls) (body first : Expr) (start : Typed) (names : Bindings) (F : Environment) (from at : ℤ) (n : ℕ) (r : Result Bool Missing) → at ≡ from
+    → run_of (declarations decls) (expression first) (bindings names) F at ≡ Ok start → r ≡ truth_from decls body start names F at n → r ≡ truth_after decls body first names F from n
+after_start decls body first start names F from at n r same is found =
+    let d = declarations decls in
+    let g = bindings names in
+    found
+    ∙ ap (λ (a : Answer). truth_found (days_run d (expression body) g F at n a)) (sym is)
+    ∙ ap (λ (f : ℤ). truth_found (days_run d (expression body) g F f n (run_of d (expression first) g F f))) same
+
+pub fits_start : (decls : Decls) (body first : Expr) (start : Typed) (names : Bindings) (F : Environment) (from at : ℤ) (n : ℕ) → at ≡ from
+    → run_of (declarations decls) (expression first) (bindings names) F at ≡ Ok start → DaysFitAfter decls body first names F from n → DaysFitOf decls body start names F at n
+fits_start decls body first start names F from at n same is fits =
+    let d = declarations decls in
+    let g = bindings names in
+    subst (λ (a : Answer). DaysFitIn d (expression body) g F at n a) is (subst (λ (f : ℤ). DaysFitAfter decls body first names F f n) (sym same) fits)

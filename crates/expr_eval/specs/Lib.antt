@@ -15,6 +15,7 @@ pub mod Stops
 pub mod Watching
 pub mod Truths
 pub mod Searches
+pub mod Latches
 pub mod Evaluable
 pub mod Answers
 pub mod LawsEntries

@@ -11,9 +11,9 @@ use Rattle.term_core.specs.Values.{truth}
 use Rattle.expr_eval.specs.declared.operations.Typed.{Typed}
 use Rattle.expr_eval.specs.declared.bindings.Bindings.{Bindings}
 use Rattle.expr_eval.specs.Bindings.{bindings}
-use Rattle.expr_eval.specs.Runs.{Answer, bound_to, run_of}
+use Rattle.expr_eval.specs.Runs.{Answer, bound_to, days_run, run_of}
 use Rattle.expr_eval.specs.Comparing.{truth_found}
-use Rattle.expr_eval.specs.Fits.{DayFitsIn}
+use Rattle.expr_eval.specs.Fits.{DayFitsIn, DaysFitIn}
 use Rattle.expr_eval.specs.Evaluations.{DaysFitFrom, answer_in, days_from}
 
 -- the truth value of what is held at a place
@@ -48,6 +48,15 @@ answer_after decls body first names fixings from n = days_from (declarations dec
 
 abbrev pub truth_after : Decls → Expr → Expr → Bindings → Environment → ℤ → ℕ → Result Bool Missing
 truth_after decls body first names fixings from n = truth_found (answer_after decls body first names fixings from n)
+
+-- the same from the value of its start
+abbrev pub DaysFitOf : Decls → Expr → Typed → Bindings → Environment → ℤ → ℕ → Type 0
+DaysFitOf decls body start names fixings from n =
+    DaysFitIn (declarations decls) (expression body) (bindings names) fixings from n (Ok start)
+
+abbrev pub truth_from : Decls → Expr → Typed → Bindings → Environment → ℤ → ℕ → Result Bool Missing
+truth_from decls body start names fixings from n =
+    truth_found (days_run (declarations decls) (expression body) (bindings names) fixings from n (Ok start))
 
 -- what its body needs on a day, with a value for its name, and its truth value then
 abbrev pub DayFitsWith : Decls → Expr → Typed → Bindings → Environment → ℤ → Type 0

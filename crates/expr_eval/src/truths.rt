@@ -1,6 +1,6 @@
 //! Whether tests hold on a day. Only the truth value is carried, and its kind is not looked up.
 
-ghost use Rattle.std.specs.Prelude.{◌≡◌, true, slice_get};
+ghost use Rattle.std.specs.Prelude.{◌≡◌, true, slice_get, IfSome};
 ghost use Rattle.term_core.specs.Terms.{expression};
 ghost use Rattle.term_core.specs.Environments.{held};
 ghost use Rattle.expr_eval.specs.Bindings.{bindings};
@@ -8,12 +8,15 @@ ghost use Rattle.expr_eval.specs.Runs.{of_binding, of_held};
 ghost use Rattle.expr_eval.specs.Fits.{IsDay};
 ghost use Rattle.expr_eval.specs.Evaluations.{FitsIn, comparison_over, logic_over};
 ghost use Rattle.expr_eval.specs.Comparing.{truth_found};
-ghost use Rattle.expr_eval.specs.Truths.{DayFitsWith, DaysFitAfter, answer_after, is_verdict, opposite_of, truth_after, truth_held, truth_of, truth_with};
+ghost use Rattle.expr_eval.specs.Truths.{DayFitsWith, DaysFitAfter, DaysFitOf, is_verdict, opposite_of, truth_after, truth_from, truth_held, truth_of, truth_with};
+ghost use Rattle.expr_eval.specs.Latches.{IsKept, keeps, truth_at};
 
 use crate::bindings::Bindings;
 use crate::evaluation::{day_after, day_at, day_before, evaluate, evaluate_days};
 use crate::operations::{Operands, Typed, compare, is_decided};
 use crate::scratch::{Binding, Held};
+use crate::searches::search;
+use crate::stops::{Stop, is_wanted};
 use fixing_files::Fixings;
 use term_core::{CmpOp, Decls, Expr, LogicOp, Missing, Value};
 
@@ -168,6 +171,74 @@ fn is_verdict(e: &Expr) -> bool
     )
 }
 
+// The truth value that an accumulator with this body keeps once its name has it: its name decides
+// before anything is read.
+fn value_kept(body: &Expr) -> Option<bool>
+    ensures { IfSome result (λ kept. IsKept kept (expression body.now)) }
+{
+    match body {
+        Expr::Logic { op, .. } => {
+            let kept = is_decided(*op, true);
+            if keeps(kept, body) { Some(kept) } else { None }
+        }
+        _ => None,
+    }
+}
+
+// Whether the innermost name decides first, where it has a truth value.
+fn keeps(kept: bool, e: &Expr) -> bool
+    ensures { result ≡ keeps kept (expression e.now) }
+{
+    match e {
+        Expr::Var { back } => *back == 0,
+        Expr::Logic { op, left, .. } => is_decided(*op, kept) && keeps(kept, left),
+        _ => false,
+    }
+}
+
+// The truth value of an accumulator that keeps one, by where its body stops that does not have it.
+fn truth_at(stop: Stop, kept: bool) -> Result<bool, Missing>
+    ensures { result ≡ truth_at kept stop }
+{
+    match stop {
+        Stop::Never => Ok(!kept),
+        Stop::Met { .. } => Ok(kept),
+        Stop::Lacking { missing, .. } => Err(missing),
+    }
+}
+
+// The truth value of an accumulator after its days, where it keeps one and its body can be searched
+// for it.
+fn kept_after(
+    decls: &Decls,
+    body: &Expr,
+    days: u32,
+    start: Typed,
+    names: &Bindings,
+    fixings: &Fixings,
+    from: i64,
+) -> Option<Result<bool, Missing>>
+    requires { IsDay from }
+    ensures { IfSome result (λ r. r ≡ truth_from decls.now body.now start names.now fixings.now from days) }
+{
+    let kept = value_kept(body)?;
+    let Value::Truth { value } = start.value else {
+        return None;
+    };
+    if is_wanted(kept, value) {
+        return Some(Ok(kept));
+    }
+    let inner = Bindings::Inner {
+        binding: Binding {
+            kind: start.kind,
+            held: Held::Known { value: start.value },
+        },
+        outer: &*names,
+    };
+    let stop = search(decls, body, kept, &inner, fixings, day_after(from, 0), days)?;
+    Some(truth_at(stop, kept))
+}
+
 // The truth value of an accumulator after its days, from its start, which stands on the day before
 // the first of them.
 #[cycle(truths)]
@@ -185,41 +256,40 @@ fn holds_after(
     requires day { IsDay from }
     ensures { result ≡ truth_after decls.now body.now first.now names.now fixings.now from days }
 {
-    let after = if is_verdict(body) {
-        verdict_after(decls, body, days, first, names, fixings, from)
-    } else {
-        evaluate_days(decls, body, days, first, names, fixings, from)
-    };
-    match after {
-        Ok(found) => Ok(found.value.is_true()),
-        Err(missing) => Err(missing),
+    if !is_verdict(body) {
+        let after = evaluate_days(decls, body, days, first, names, fixings, from)?;
+        return Ok(after.value.is_true());
     }
+    let start = evaluate(decls, first, names, fixings, from)?;
+    if let Some(found) = kept_after(decls, body, days, start, names, fixings, from) {
+        return found;
+    }
+    verdict_after(decls, body, days, start, names, fixings, from)
 }
 
-// The same, with its kind, where the body has truth values alone.
+// The same from the value of its start, where the body has truth values alone.
 #[cycle(truths)]
 fn verdict_after(
     decls: &Decls,
     body: &Expr,
     days: u32,
-    first: &Expr,
+    start: Typed,
     names: &Bindings,
     fixings: &Fixings,
     from: i64,
-) -> Result<Typed, Missing>
+) -> Result<bool, Missing>
     requires body { is_verdict (expression body.now) ≡ true }
-    requires start { FitsIn decls.now (expression first.now) names.now fixings.now from }
-    requires days { DaysFitAfter decls.now body.now first.now names.now fixings.now from days }
+    requires days { DaysFitOf decls.now body.now start names.now fixings.now from days }
     requires day { IsDay from }
-    ensures { result ≡ answer_after decls.now body.now first.now names.now fixings.now from days }
+    ensures { result ≡ truth_from decls.now body.now start names.now fixings.now from days }
 {
-    let mut value = evaluate(decls, first, names, fixings, from)?;
+    let mut value = start;
     for i in 0..days {
         let day = day_after(from, i);
         let holds = holds_then(decls, body, value, names, fixings, day)?;
         value.value = Value::Truth { value: holds };
     }
-    Ok(value)
+    Ok(value.value.is_true())
 }
 
 // Whether the body of an accumulator holds on a day, with a value for its name.

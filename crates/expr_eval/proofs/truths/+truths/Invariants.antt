@@ -1,6 +1,9 @@
 use Rattle.std.proofs.Common.{◌≡◌, ◌+◌, ◌*◌, max, Ok}
 use Rattle.term_core.specs.declared.terms.Expr.{size-Expr}
-use Rattle.expr_eval.specs.Truths.{answer_after}
+use Rattle.term_core.specs.Declarations.{declarations}
+use Rattle.term_core.specs.Terms.{expression}
+use Rattle.expr_eval.specs.Bindings.{bindings}
+use Rattle.expr_eval.specs.Runs.{days_run}
 use Rattle.expr_eval.proofs.truths.+truths.Given as goal
 
 abbrev pub decreases-holds : goal.decreases-holds
@@ -22,4 +25,5 @@ abbrev pub decreases-holds_then : goal.decreases-holds_then
 decreases-holds_then l = 4 * size-Expr l.body.now + 1
 
 abbrev pub invariant-verdict_after-loop-i : goal.invariant-verdict_after-loop-i
-invariant-verdict_after-loop-i l = answer_after l.decls l.body l.first l.names l.fixings l.from l.i ≡ Ok l.value
+invariant-verdict_after-loop-i l =
+    days_run (declarations l.decls) (expression l.body) (bindings l.names) l.fixings l.from l.i (Ok l.fn.start) ≡ Ok l.value
