@@ -144,8 +144,10 @@ pub fn evaluate(
     fixings: &Fixings,
     day: i64,
 ) -> Result<Typed, Missing>
-    requires { Fits (declarations decls.now) (expression e.now) (bindings names.now) fixings.now day }
-    ensures { result ≡ run_of (declarations decls.now) (expression e.now) (bindings names.now) fixings.now day }
+    requires { Fits (declarations decls.now) (expression e.now) (bindings names.now)
+        fixings.now day }
+    ensures { result ≡ run_of (declarations decls.now) (expression e.now) (bindings names.now)
+        fixings.now day }
 {
     match e {
         Expr::Lit { mant, scale } => Ok(number(*scale, *mant)),
@@ -201,8 +203,10 @@ fn evaluate_one(
     fixings: &Fixings,
     day: i64,
 ) -> Result<Typed, Missing>
-    requires { OneFits (declarations decls.now) op (expression of.now) (bindings names.now) fixings.now day }
-    ensures { result ≡ one_run (declarations decls.now) op (expression of.now) (bindings names.now) fixings.now day }
+    requires { OneFits (declarations decls.now) op (expression of.now) (bindings names.now)
+        fixings.now day }
+    ensures { result ≡ one_run (declarations decls.now) op (expression of.now) (bindings names.now)
+        fixings.now day }
 {
     let of = evaluate(decls, of, names, fixings, day)?;
     Ok(done_on_one(op, of))
@@ -219,8 +223,10 @@ fn evaluate_combined(
     fixings: &Fixings,
     day: i64,
 ) -> Result<Typed, Missing>
-    requires { Fits (declarations decls.now) (combination_over op left.now right.now) (bindings names.now) fixings.now day }
-    ensures { result ≡ run_of (declarations decls.now) (combination_over op left.now right.now) (bindings names.now) fixings.now day }
+    requires { Fits (declarations decls.now) (combination_over op left.now right.now)
+        (bindings names.now) fixings.now day }
+    ensures { result ≡ run_of (declarations decls.now) (combination_over op left.now right.now)
+        (bindings names.now) fixings.now day }
 {
     let left = evaluate(decls, left, names, fixings, day)?;
     let right = evaluate(decls, right, names, fixings, day)?;
@@ -238,8 +244,10 @@ fn evaluate_compared(
     fixings: &Fixings,
     day: i64,
 ) -> Result<Typed, Missing>
-    requires { Fits (declarations decls.now) (comparison_over op left.now right.now) (bindings names.now) fixings.now day }
-    ensures { result ≡ run_of (declarations decls.now) (comparison_over op left.now right.now) (bindings names.now) fixings.now day }
+    requires { Fits (declarations decls.now) (comparison_over op left.now right.now)
+        (bindings names.now) fixings.now day }
+    ensures { result ≡ run_of (declarations decls.now) (comparison_over op left.now right.now)
+        (bindings names.now) fixings.now day }
 {
     let left = evaluate(decls, left, names, fixings, day)?;
     let right = evaluate(decls, right, names, fixings, day)?;
@@ -258,8 +266,10 @@ fn evaluate_quotient(
     fixings: &Fixings,
     day: i64,
 ) -> Result<Typed, Missing>
-    requires { Fits (declarations decls.now) (quotient_over mode scale top.now below.now) (bindings names.now) fixings.now day }
-    ensures { result ≡ run_of (declarations decls.now) (quotient_over mode scale top.now below.now) (bindings names.now) fixings.now day }
+    requires { Fits (declarations decls.now) (quotient_over mode scale top.now below.now)
+        (bindings names.now) fixings.now day }
+    ensures { result ≡ run_of (declarations decls.now) (quotient_over mode scale top.now below.now)
+        (bindings names.now) fixings.now day }
 {
     let left = evaluate(decls, top, names, fixings, day)?;
     let right = evaluate(decls, below, names, fixings, day)?;
@@ -277,8 +287,10 @@ fn evaluate_logic(
     fixings: &Fixings,
     day: i64,
 ) -> Result<Typed, Missing>
-    requires { Fits (declarations decls.now) (logic_over op left.now right.now) (bindings names.now) fixings.now day }
-    ensures { result ≡ run_of (declarations decls.now) (logic_over op left.now right.now) (bindings names.now) fixings.now day }
+    requires { Fits (declarations decls.now) (logic_over op left.now right.now) (bindings names.now)
+        fixings.now day }
+    ensures { result ≡ run_of (declarations decls.now) (logic_over op left.now right.now)
+        (bindings names.now) fixings.now day }
 {
     let left = evaluate(decls, left, names, fixings, day)?.value.is_true();
     if is_decided(op, left) {
@@ -299,8 +311,10 @@ fn evaluate_branches(
     fixings: &Fixings,
     day: i64,
 ) -> Result<Typed, Missing>
-    requires { Fits (declarations decls.now) (conditional_over test.now yes.now no.now) (bindings names.now) fixings.now day }
-    ensures { result ≡ run_of (declarations decls.now) (conditional_over test.now yes.now no.now) (bindings names.now) fixings.now day }
+    requires { Fits (declarations decls.now) (conditional_over test.now yes.now no.now)
+        (bindings names.now) fixings.now day }
+    ensures { result ≡ run_of (declarations decls.now) (conditional_over test.now yes.now no.now)
+        (bindings names.now) fixings.now day }
 {
     let test = evaluate(decls, test, names, fixings, day)?;
     if test.value.is_true() {
@@ -325,10 +339,13 @@ pub fn evaluate_days(
     fixings: &Fixings,
     from: i64,
 ) -> Result<Typed, Missing>
-    requires start { Fits (declarations decls.now) (expression first.now) (bindings names.now) fixings.now from }
-    requires days { DaysFitFrom (declarations decls.now) body.now first.now (bindings names.now) fixings.now from days }
+    requires start { Fits (declarations decls.now) (expression first.now) (bindings names.now)
+        fixings.now from }
+    requires days { DaysFitFrom (declarations decls.now) body.now first.now (bindings names.now)
+        fixings.now from days }
     requires day { IsDay from }
-    ensures { result ≡ days_from (declarations decls.now) body.now first.now (bindings names.now) fixings.now from days }
+    ensures { result ≡ days_from (declarations decls.now) body.now first.now (bindings names.now)
+        fixings.now from days }
 {
     let mut value = evaluate(decls, first, names, fixings, from)?;
     let level = stays_level(decls, body, names, value);
@@ -351,9 +368,11 @@ fn evaluate_day(
     fixings: &Fixings,
     day: i64,
 ) -> Result<Typed, Missing>
-    requires fits { DayFitsIn (declarations decls.now) (expression body.now) (bindings names.now) fixings.now day value }
+    requires fits { DayFitsIn (declarations decls.now) (expression body.now) (bindings names.now)
+        fixings.now day value }
     requires level { IsTrue level → StaysLevel decls.now body.now names.now value }
-    ensures { result ≡ day_run (declarations decls.now) (expression body.now) (bindings names.now) fixings.now day value }
+    ensures { result ≡ day_run (declarations decls.now) (expression body.now) (bindings names.now)
+        fixings.now day value }
 {
     let held = Held::Known { value: value.value };
     let inner = Bindings::Inner {
@@ -405,7 +424,8 @@ fn mantissa_bound(names: &Bindings, back: u32) -> Result<i128, Missing>
 
 /// The mantissa of what is observed on a day; a truth value has none, and counts as 0.
 pub fn mantissa_observed(label: u32, day: i64, fixings: &Fixings) -> Result<i128, Missing>
-    ensures { result ≡ mantissa_held (held fixings.now (record { label = label; day = day })) label day }
+    ensures { result ≡ mantissa_held (held fixings.now (record { label = label; day = day }))
+        label day }
 {
     match fixings.get(label, day) {
         Some(value) => Ok(value.number()),
@@ -470,8 +490,10 @@ fn mantissa_combined(
     day: i64,
 ) -> Result<i128, Missing>
     requires level { IsLevel decls.now (combination_over op left.now right.now) names.now }
-    requires fits { FitsIn decls.now (combination_over op left.now right.now) names.now fixings.now day }
-    ensures { result ≡ number_of decls.now (combination_over op left.now right.now) names.now fixings.now day }
+    requires fits { FitsIn decls.now (combination_over op left.now right.now) names.now
+        fixings.now day }
+    ensures { result ≡ number_of decls.now (combination_over op left.now right.now) names.now
+        fixings.now day }
 {
     let x = mantissa_at(decls, left, names, fixings, day)?;
     let y = mantissa_at(decls, right, names, fixings, day)?;
@@ -490,8 +512,10 @@ fn mantissa_chosen(
     day: i64,
 ) -> Result<i128, Missing>
     requires level { IsLevel decls.now (conditional_over test.now yes.now no.now) names.now }
-    requires fits { FitsIn decls.now (conditional_over test.now yes.now no.now) names.now fixings.now day }
-    ensures { result ≡ number_of decls.now (conditional_over test.now yes.now no.now) names.now fixings.now day }
+    requires fits { FitsIn decls.now (conditional_over test.now yes.now no.now) names.now
+        fixings.now day }
+    ensures { result ≡ number_of decls.now (conditional_over test.now yes.now no.now) names.now
+        fixings.now day }
 {
     let chosen = evaluate(decls, test, names, fixings, day)?;
     if chosen.value.is_true() {

@@ -62,7 +62,8 @@ pub fn kind_in(decls: &Decls, e: &Expr, names: &Bindings) -> Kind
 /// memory.
 pub fn kind_of(decls: &Decls, e: &Expr, scratch: &Scratch) -> Kind
     requires place { MayEvaluate (declarations decls.now) (expression e.now) scratch.now.entries }
-    ensures kind { model.kind_of (declarations decls.now) (expression e.now) (kinds_of scratch.now.entries) ≡ Some result }
+    ensures kind { model.kind_of (declarations decls.now) (expression e.now)
+        (kinds_of scratch.now.entries) ≡ Some result }
 {
     let names = Bindings::Lent { scratch: &*scratch };
     kind_in(decls, e, &names)

@@ -32,7 +32,8 @@ fn keeps_scale(op: NumOp) -> bool
 
 // Whether the values of an expression, of its operands and of its branches are numbers of a scale.
 fn is_level(decls: &Decls, e: &Expr, names: &Bindings, scale: u8) -> bool
-    ensures { result ≡ is_level (declarations decls.now) (expression e.now) (kinds_in names.now) scale }
+    ensures { result ≡ is_level (declarations decls.now) (expression e.now)
+        (kinds_in names.now) scale }
 {
     match e {
         Expr::Lit { scale: own, .. } => *own == scale,
@@ -75,7 +76,8 @@ fn is_amount(value: Value) -> bool
 
 /// Whether an accumulator with this body keeps the scale of the number that it has.
 pub fn stays_level(decls: &Decls, body: &Expr, names: &Bindings, value: Typed) -> bool
-    ensures { result ≡ stays_level (declarations decls.now) (expression body.now) (bindings names.now) value }
+    ensures { result ≡ stays_level (declarations decls.now) (expression body.now)
+        (bindings names.now) value }
 {
     let inner = Bindings::Inner {
         binding: Binding {

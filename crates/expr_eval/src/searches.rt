@@ -1,5 +1,5 @@
-//! Tests over many days whose parts are observed: each part is looked up once, and then goes through
-//! the days of its label.
+//! Tests over many days whose parts are observed: each part is looked up once, and then goes
+//! through the days of its label.
 
 ghost use Rattle.std.specs.Prelude.{◌≡◌, ◌≤◌, ◌^◌, ◌+ℤ◌, ◌*ℤ◌, unsigned_abs, IfSome};
 ghost use Rattle.term_core.specs.Terms.{expression};
@@ -20,7 +20,8 @@ use crate::watches::{Trial, Watch, day_behind, first_met};
 use fixing_files::Fixings;
 use term_core::{CmpOp, Decls, Expr, LogicOp, Missing};
 
-// The value of a side that is the same on each day: of a literal, or of a name whose value is known.
+// The value of a side that is the same on each day: of a literal, or of a name whose value is
+// known.
 fn standing(e: &Expr, names: &Bindings) -> Option<Typed>
     ensures { IfSome result (λ v. Stands (expression e.now) (bindings names.now) v) }
 {
@@ -96,7 +97,8 @@ fn watch_left(
     wanted: bool,
     names: &Bindings,
 ) -> Option<Watch>
-    ensures { IfSome result (λ w. IsWatched decls.now (comparison_over op left.now right.now) wanted names.now w) }
+    ensures { IfSome result (λ w. IsWatched decls.now (comparison_over op left.now right.now)
+        wanted names.now w) }
 {
     match left {
         Expr::Obs { label, offset } => {
@@ -116,7 +118,8 @@ fn watch_right(
     wanted: bool,
     names: &Bindings,
 ) -> Option<Watch>
-    ensures { IfSome result (λ w. IsWatched decls.now (comparison_over op left.now right.now) wanted names.now w) }
+    ensures { IfSome result (λ w. IsWatched decls.now (comparison_over op left.now right.now)
+        wanted names.now w) }
 {
     match right {
         Expr::Obs { label, offset } => {
@@ -136,7 +139,8 @@ fn watch_of(
     wanted: bool,
     names: &Bindings,
 ) -> Option<Watch>
-    ensures { IfSome result (λ w. IsWatched decls.now (comparison_over op left.now right.now) wanted names.now w) }
+    ensures { IfSome result (λ w. IsWatched decls.now (comparison_over op left.now right.now)
+        wanted names.now w) }
 {
     match watch_left(decls, op, left, right, wanted, names) {
         Some(watch) => Some(watch),
@@ -166,7 +170,8 @@ fn search_compared(
     days: u32,
 ) -> Option<Stop>
     requires { AreNear from days }
-    ensures { IfSome result (λ s. IsStop decls.now (comparison_over op left.now right.now) wanted names.now fixings.now from days s) }
+    ensures { IfSome result (λ s. IsStop decls.now (comparison_over op left.now right.now)
+        wanted names.now fixings.now from days s) }
 {
     let watch = watch_of(decls, op, left, right, wanted, names)?;
     first_met(&watch, fixings, day_read(from, watch.offset), days)
@@ -226,7 +231,8 @@ pub fn search(
     days: u32,
 ) -> Option<Stop>
     requires { AreNear from days }
-    ensures { IfSome result (λ s. IsStop decls.now (expression test.now) wanted names.now fixings.now from days s) }
+    ensures { IfSome result (λ s. IsStop decls.now (expression test.now) wanted names.now
+        fixings.now from days s) }
 {
     match test {
         Expr::Yes { value } => Some(search_alike(Ok(*value), wanted, days)),
@@ -262,7 +268,8 @@ fn search_joined(
     days: u32,
 ) -> Option<Stop>
     requires { AreNear from days }
-    ensures { IfSome result (λ s. IsStop decls.now (logic_over op left.now right.now) wanted names.now fixings.now from days s) }
+    ensures { IfSome result (λ s. IsStop decls.now (logic_over op left.now right.now)
+        wanted names.now fixings.now from days s) }
 {
     if !is_decided(op, wanted) {
         return None;
@@ -293,7 +300,8 @@ fn search_either(
     days: u32,
 ) -> Option<Stop>
     requires { AreNear from days }
-    ensures { IfSome result (λ s. IsStopOfEither decls.now left.now right.now wanted names.now fixings.now from days s) }
+    ensures { IfSome result (λ s. IsStopOfEither decls.now left.now right.now wanted names.now
+        fixings.now from days s) }
 {
     let stop = search(decls, left, wanted, names, fixings, from, days)?;
     let before = stop.days_before(days);

@@ -31,8 +31,10 @@ pub struct Comparison<'a> {
 
 // The factors of two sides, which are the same on each day.
 fn factors_between(decls: &Decls, left: &Expr, right: &Expr, names: &Bindings) -> Factors
-    requires { SidesFit (declarations decls.now) (expression left.now) (expression right.now) (kinds_in names.now) }
-    ensures { result ≡ factors_found (declarations decls.now) (expression left.now) (expression right.now) (kinds_in names.now) }
+    requires { SidesFit (declarations decls.now) (expression left.now) (expression right.now)
+        (kinds_in names.now) }
+    ensures { result ≡ factors_found (declarations decls.now) (expression left.now)
+        (expression right.now) (kinds_in names.now) }
 {
     let i = kind_in(decls, left, names).scale();
     let j = kind_in(decls, right, names).scale();
@@ -48,7 +50,8 @@ fn mantissa_of(
     day: i64,
 ) -> Result<i128, Missing>
     requires { FitsIn decls.now (expression e.now) names.now fixings.now day }
-    ensures { result ≡ number_found (answer_in decls.now (expression e.now) names.now fixings.now day) }
+    ensures { result ≡ number_found (answer_in decls.now (expression e.now) names.now
+        fixings.now day) }
 {
     match e {
         Expr::Lit { mant, .. } => Ok(*mant),
@@ -69,7 +72,8 @@ fn compares_on(
     day: i64,
 ) -> Result<bool, Missing>
     requires { ComparesIn decls.now test.now names.now fixings.now day }
-    ensures { result ≡ truth_found (answer_in decls.now (comparison test.now) names.now fixings.now day) }
+    ensures { result ≡ truth_found (answer_in decls.now (comparison test.now) names.now
+        fixings.now day) }
 {
     let x = mantissa_of(decls, test.left, names, fixings, day)?;
     let y = mantissa_of(decls, test.right, names, fixings, day)?;
@@ -86,8 +90,10 @@ fn first_day_compared(
     days: u32,
 ) -> Result<Option<u32>, Missing>
     requires first { IsDay from }
-    requires fits { OnDays (λ day. ComparesIn decls.now test.now names.now fixings.now day) from days }
-    ensures days { result ≡ first_in decls.now (comparison test.now) names.now fixings.now from days }
+    requires fits { OnDays (λ day. ComparesIn decls.now test.now names.now fixings.now day)
+        from days }
+    ensures days { result ≡ first_in decls.now (comparison test.now) names.now
+        fixings.now from days }
     ensures found { IfOk result (λ first. IsOneOf days first) }
 {
     for i in 0..days {
@@ -110,8 +116,10 @@ fn first_held(
     days: u32,
 ) -> Result<Option<u32>, Missing>
     requires first { IsDay from }
-    requires fits { OnDays (λ day. FitsIn decls.now (expression test.now) names.now fixings.now day) from days }
-    ensures days { result ≡ first_in decls.now (expression test.now) names.now fixings.now from days }
+    requires fits { OnDays (λ day. FitsIn decls.now (expression test.now) names.now fixings.now day)
+        from days }
+    ensures days { result ≡ first_in decls.now (expression test.now) names.now
+        fixings.now from days }
     ensures found { IfOk result (λ first. IsOneOf days first) }
 {
     for i in 0..days {
@@ -136,10 +144,12 @@ pub fn first_true(
     from: i64,
     days: u32,
 ) -> Result<Option<u32>, Missing>
-    requires place { MayEvaluate (declarations decls.now) (expression test.now) scratch.now.entries }
+    requires place { MayEvaluate (declarations decls.now)
+        (expression test.now) scratch.now.entries }
     requires admitted { IsAdmitted (declarations decls.now) fixings.now }
     requires day { unsigned_abs from ≤ 10 ^ 11 }
-    ensures answer { IsFirstTrue (declarations decls.now) (expression test.now) scratch.now.entries fixings.now from days result }
+    ensures answer { IsFirstTrue (declarations decls.now) (expression test.now) scratch.now.entries
+        fixings.now from days result }
     ensures found { IfOk result (λ first. IsOneOf days first) }
 {
     let names = Bindings::Lent { scratch };

@@ -51,7 +51,8 @@ pub fn truth_bound(names: &Bindings, back: u32) -> Result<bool, Missing>
 
 // The truth value of what is observed on a day.
 fn truth_observed(label: u32, day: i64, fixings: &Fixings) -> Result<bool, Missing>
-    ensures { result ≡ truth_held (held fixings.now (record { label = label; day = day })) label day }
+    ensures { result ≡ truth_held (held fixings.now (record { label = label; day = day }))
+        label day }
 {
     match fixings.get(label, day) {
         Some(value) => Ok(value.is_true()),
@@ -70,7 +71,8 @@ fn holds_between(
     day: i64,
 ) -> Result<bool, Missing>
     requires { FitsIn decls.now (comparison_over op left.now right.now) names.now fixings.now day }
-    ensures { result ≡ truth_of decls.now (comparison_over op left.now right.now) names.now fixings.now day }
+    ensures { result ≡ truth_of decls.now (comparison_over op left.now right.now) names.now
+        fixings.now day }
 {
     let left = evaluate(decls, left, names, fixings, day)?;
     let right = evaluate(decls, right, names, fixings, day)?;
@@ -152,7 +154,8 @@ fn holds_joined(
     day: i64,
 ) -> Result<bool, Missing>
     requires { FitsIn decls.now (logic_over op left.now right.now) names.now fixings.now day }
-    ensures { result ≡ truth_of decls.now (logic_over op left.now right.now) names.now fixings.now day }
+    ensures { result ≡ truth_of decls.now (logic_over op left.now right.now) names.now
+        fixings.now day }
 {
     let left = holds(decls, left, names, fixings, day)?;
     if is_decided(op, left) {
@@ -219,7 +222,8 @@ fn kept_after(
     from: i64,
 ) -> Option<Result<bool, Missing>>
     requires { IsDay from }
-    ensures { IfSome result (λ r. r ≡ truth_from decls.now body.now start names.now fixings.now from days) }
+    ensures { IfSome result (λ r. r ≡ truth_from decls.now body.now start names.now
+        fixings.now from days) }
 {
     let kept = value_kept(body)?;
     let Value::Truth { value } = start.value else {

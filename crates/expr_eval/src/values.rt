@@ -28,9 +28,11 @@ pub fn eval(
     requires place { MayEvaluate (declarations decls.now) (expression e.now) scratch.old.entries }
     requires admitted { IsAdmitted (declarations decls.now) fixings.now }
     requires day { unsigned_abs day ≤ 10 ^ 12 }
-    ensures answer { IsAnswer (declarations decls.now) (expression e.now) scratch.old.entries fixings.now day result }
+    ensures answer { IsAnswer (declarations decls.now) (expression e.now) scratch.old.entries
+        fixings.now day result }
     ensures kind { HasKind (declarations decls.now) (expression e.now) scratch.old.entries result }
-    ensures suits { SuitsBinding (declarations decls.now) (expression e.now) scratch.old.entries result }
+    ensures suits { SuitsBinding (declarations decls.now) (expression e.now)
+        scratch.old.entries result }
     ensures same { scratch.new ≡ scratch.old }
 {
     let names = Bindings::Lent { scratch: &*scratch };
