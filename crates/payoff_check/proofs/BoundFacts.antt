@@ -28,8 +28,6 @@ use Rattle.payoff_lang.specs.CodeSites.{CodeSite, InValue, AtCode, number_of, si
 use Rattle.payoff_lang.specs.CodeAcceptance.{code_is_sorted, code_is_scaled, code_is_bounded, MeetsInCode, FailsInCode}
 use Rattle.payoff_check.specs.declared.totals.CodeTotal.{CodeTotal}
 use Rattle.payoff_check.specs.BoundTrials.{Found, value_tried, total_fits, total_here, of_nothing, of_payment, of_sum, of_product, of_branches, of_part, bounding, bounds_tried, AreValuesScaled}
-use Rattle.payoff_check.specs.PlainCodes.{undated}
-use Rattle.payoff_check.proofs.UndatedFacts.{dated_steps, tried_undated}
 use Rattle.payoff_check.proofs.Finding.{Finds, first_failing-map, fine, faulty, EachNode, Follows, code_finds, meets, fails}
 use Rattle.payoff_check.proofs.Passing.{PassesInValue, each_passes, each_of_two}
 use Rattle.payoff_check.proofs.ScaleFacts.{IsSortedValue, IsSortedNode}
@@ -55,14 +53,14 @@ kind_there d v r n h =
     let x = kind_sorted d (plain v) r n h in
     ap (λ (o : Option Kind). kind_or o) x.has ∙ sym (has_kind d (plain v) (kinds_round d r) x.kind x.has)
 
-values_scaled : (d : Declarations) (k : PayoffCode) (r : List Layer) (n : ℕ) → EachNode (λ v l m. IsSortedValue d v l m) (λ c l m. IsSortedNode d c l m) k r n → EachNode (λ v l m. IsScaledValue d v l m) (λ c l m. IsScaledNode d c l m) k r n → AreValuesScaled d (undated k) (kinds_round d r)
+values_scaled : (d : Declarations) (k : PayoffCode) (r : List Layer) (n : ℕ) → EachNode (λ v l m. IsSortedValue d v l m) (λ c l m. IsSortedNode d c l m) k r n → EachNode (λ v l m. IsScaledValue d v l m) (λ c l m. IsScaledNode d c l m) k r n → AreValuesScaled d k (kinds_round d r)
 values_scaled d Nothing r n h i = tt
 values_scaled d (PayOn x a p q) r n h i = tt
 values_scaled d (Add k l) r n h i = (values_scaled d k r (n + 1) h.0 i.0, values_scaled d l r (n + 1 + nodes_of_code k) h.1 i.1)
 values_scaled d (ScaleBy v k) r n h i =
     (value_scaled d v r (n + 1) h.0 i.0, values_scaled d k r (n + 1 + nodes (plain v)) h.1 i.1)
 values_scaled d (LetBe v k) r n h i =
-    (value_scaled d v r (n + 1) h.0 i.0, subst (λ (j : Kind). AreValuesScaled d (undated k) (j ∷ kinds_round d r)) (kind_there d v r (n + 1) h.0) (values_scaled d k (Naming (plain v) ∷ r) (n + 1 + nodes (plain v)) h.1 i.1))
+    (value_scaled d v r (n + 1) h.0 i.0, subst (λ (j : Kind). AreValuesScaled d k (j ∷ kinds_round d r)) (kind_there d v r (n + 1) h.0) (values_scaled d k (Naming (plain v) ∷ r) (n + 1 + nodes (plain v)) h.1 i.1))
 values_scaled d (Loop v x k l) r n h i =
     (value_scaled d v r (n + 1) h.0 i.0, values_scaled d k r (n + 1 + nodes (plain v)) h.1 i.1, values_scaled d l r (n + 1 + nodes (plain v) + nodes_of_code k) h.2 i.2)
 values_scaled d (Cut x k) r n h i = values_scaled d k r (n + 1) h.0 i.0
@@ -73,7 +71,7 @@ sorted_nodes d xs k h = each_passes (λ s. IsTrue (code_is_sorted d s)) Once (λ
 scaled_nodes : (d : Declarations) (xs : List ℕ) (k : PayoffCode) → MeetsInCode d xs ScaleRule k → EachNode (λ v l m. IsScaledValue d v l m) (λ c l m. IsScaledNode d c l m) k [] 0
 scaled_nodes d xs k h = each_passes (λ s. IsTrue (code_is_scaled d s)) Once (λ _. pos 0) k [] 0 h
 
-pub are_values_scaled : (d : Declarations) (xs : List ℕ) (k : PayoffCode) → MeetsInCode d xs SortRule k → MeetsInCode d xs ScaleRule k → AreValuesScaled d (undated k) []
+pub are_values_scaled : (d : Declarations) (xs : List ℕ) (k : PayoffCode) → MeetsInCode d xs SortRule k → MeetsInCode d xs ScaleRule k → AreValuesScaled d k []
 are_values_scaled d xs k h i = values_scaled d k [] 0 (sorted_nodes d xs k h) (scaled_nodes d xs k i)
 
 -- Value expressions.
@@ -127,7 +125,7 @@ product : (d : Declarations) (v : ValueExpression) (k : PayoffCode) (r : List La
 product d v k r u a hu ha =
     (ap₂ (λ (x : ℕ) (y : Range). x * greatest_size y.interval) ha.0 hu, ap₂ (λ (x : Range) (s : ℕ). scale_in x + s) hu ha.1 ∙ ap (λ (s : ℕ). s + scale_of_code d k (range_kinds (ranges_round d r))) (kind_scale (kind_of d (plain v) (range_kinds (ranges_round d r)))))
 
-bound_follows : (d : Declarations) → Follows (dated_steps (bounding d)) EachDay (λ _. pos 0) (code_is_bounded d) (λ r. ranges_round d r) (λ v r u. IsValueRange d v r u) (λ k r a. IsCodeTotal d k r a) (λ v r n. IsSortedValue d v r n) (λ k r n. IsScaledNode d k r n)
+bound_follows : (d : Declarations) → Follows (bounding d) EachDay (λ _. pos 0) (code_is_bounded d) (λ r. ranges_round d r) (λ v r u. IsValueRange d v r u) (λ k r a. IsCodeTotal d k r a) (λ v r n. IsSortedValue d v r n) (λ k r n. IsScaledNode d k r n)
 bound_follows d = record {
   values = λ v r n h. value_range d v r n h;
   enters = λ v r u h. ap (λ (x : Range). x ∷ ranges_round d r) h;
@@ -140,17 +138,17 @@ bound_follows d = record {
   cuts = λ x k r n a ha q. node d (Cut x k) r n (of_part 0 a) ha q;
 }
 
-bounds_find : (d : Declarations) (xs : List ℕ) (k : PayoffCode) → MeetsInCode d xs SortRule k → MeetsInCode d xs ScaleRule k → Finds (code_is_bounded d) (sites_of_code EachDay (λ _. pos 0) k [] 0) (λ (a : CodeTotal). IsCodeTotal d k [] a) (bounds_tried d (undated k) [] 0)
+bounds_find : (d : Declarations) (xs : List ℕ) (k : PayoffCode) → MeetsInCode d xs SortRule k → MeetsInCode d xs ScaleRule k → Finds (code_is_bounded d) (sites_of_code EachDay (λ _. pos 0) k [] 0) (λ (a : CodeTotal). IsCodeTotal d k [] a) (bounds_tried d k [] 0)
 bounds_find d xs k h i =
-    rw (tried_undated (bounding d) k [] 0) (code_finds (dated_steps (bounding d)) EachDay (λ _. pos 0) (code_is_bounded d) (λ r. ranges_round d r) (λ v r u. IsValueRange d v r u) (λ c r a. IsCodeTotal d c r a) (λ v r n. IsSortedValue d v r n) (λ c r n. IsScaledNode d c r n) (bound_follows d) k [] 0
-    (each_of_two (λ v l m. IsSortedValue d v l m) (λ v l m. IsScaledValue d v l m) (λ c l m. IsSortedNode d c l m) (λ c l m. IsScaledNode d c l m) k [] 0 (sorted_nodes d xs k h) (scaled_nodes d xs k i)))
+    code_finds (bounding d) EachDay (λ _. pos 0) (code_is_bounded d) (λ r. ranges_round d r) (λ v r u. IsValueRange d v r u) (λ c r a. IsCodeTotal d c r a) (λ v r n. IsSortedValue d v r n) (λ c r n. IsScaledNode d c r n) (bound_follows d) k [] 0
+    (each_of_two (λ v l m. IsSortedValue d v l m) (λ v l m. IsScaledValue d v l m) (λ c l m. IsSortedNode d c l m) (λ c l m. IsScaledNode d c l m) k [] 0 (sorted_nodes d xs k h) (scaled_nodes d xs k i))
 
-pub bounds_meet : (d : Declarations) (xs : List ℕ) (k : PayoffCode) (a : CodeTotal) → MeetsInCode d xs SortRule k → MeetsInCode d xs ScaleRule k → bounds_tried d (undated k) [] 0 ≡ Ok a → MeetsInCode d xs BoundRule k × (a.amount ≡ total_of_code d k [])
+pub bounds_meet : (d : Declarations) (xs : List ℕ) (k : PayoffCode) (a : CodeTotal) → MeetsInCode d xs SortRule k → MeetsInCode d xs ScaleRule k → bounds_tried d k [] 0 ≡ Ok a → MeetsInCode d xs BoundRule k × (a.amount ≡ total_of_code d k [])
 bounds_meet d xs k a h i e =
-    let q = meets (code_is_bounded d) (sites_of_code EachDay (λ _. pos 0) k [] 0) (λ (b : CodeTotal). IsCodeTotal d k [] b) (bounds_tried d (undated k) [] 0) a (bounds_find d xs k h i) e in
+    let q = meets (code_is_bounded d) (sites_of_code EachDay (λ _. pos 0) k [] 0) (λ (b : CodeTotal). IsCodeTotal d k [] b) (bounds_tried d k [] 0) a (bounds_find d xs k h i) e in
     let t : IsCodeTotal d k [] a = q.1 in
     (q.0, t.0)
 
-pub bounds_fail : (d : Declarations) (xs : List ℕ) (k : PayoffCode) (j : ℕ) → MeetsInCode d xs SortRule k → MeetsInCode d xs ScaleRule k → bounds_tried d (undated k) [] 0 ≡ Err j → FailsInCode d xs BoundRule k j
+pub bounds_fail : (d : Declarations) (xs : List ℕ) (k : PayoffCode) (j : ℕ) → MeetsInCode d xs SortRule k → MeetsInCode d xs ScaleRule k → bounds_tried d k [] 0 ≡ Err j → FailsInCode d xs BoundRule k j
 bounds_fail d xs k j h i e =
-    fails (code_is_bounded d) (sites_of_code EachDay (λ _. pos 0) k [] 0) (λ (b : CodeTotal). IsCodeTotal d k [] b) (bounds_tried d (undated k) [] 0) j (bounds_find d xs k h i) e
+    fails (code_is_bounded d) (sites_of_code EachDay (λ _. pos 0) k [] 0) (λ (b : CodeTotal). IsCodeTotal d k [] b) (bounds_tried d k [] 0) j (bounds_find d xs k h i) e

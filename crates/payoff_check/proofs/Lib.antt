@@ -1,6 +1,5 @@
 pub mod Finding
 pub mod Passing
-pub mod UndatedFacts
 pub mod SortFacts
 pub mod ScaleFacts
 pub mod DateFreeFacts
@@ -9,5 +8,4 @@ pub mod SizeFacts
 pub mod TotalSizes
 pub mod BoundFacts
 pub mod VerdictFacts
-pub mod CheckFacts
 mod Rows

@@ -19,8 +19,6 @@ use Rattle.payoff_lang.specs.CodeSites.{CodeSite, InValue, AtCode, sites_of_code
 use Rattle.payoff_lang.specs.CodeAcceptance.{code_is_sorted, code_is_scaled, MeetsInCode, FailsInCode}
 use Rattle.payoff_check.specs.declared.scale_rule.Scaled.{Scaled}
 use Rattle.payoff_check.specs.ScaleTrials.{value_tried, kept, scaling, scales_tried}
-use Rattle.payoff_check.specs.PlainCodes.{undated}
-use Rattle.payoff_check.proofs.UndatedFacts.{dated_steps, tried_undated}
 use Rattle.payoff_check.proofs.Finding.{Finds, first_failing-map, here, Follows, code_finds, meets, fails}
 use Rattle.payoff_check.proofs.Passing.{PassesInValue, each_passes}
 use Rattle.interval_check.proofs.NodeTests.{scale_of_some}
@@ -53,7 +51,7 @@ node : (d : Declarations) (k : PayoffCode) (r : List Layer) (n s count : ℕ) �
 node d k r n s count h =
     here (code_is_scaled d) (AtCode n k r) (λ (a : Scaled). IsCodeScale d k r a) (nat_le s (d.amounts + 9)) (record { scale = s; nodes = count }) (ap (λ (i : ℕ). nat_le i (d.amounts + 9)) (sym h)) (λ _. h)
 
-scale_follows : (d : Declarations) → Follows (dated_steps (scaling d)) Once (λ _. pos 0) (code_is_scaled d) (λ r. scales_round d r) (λ v r u. IsValueScale d v r u) (λ k r a. IsCodeScale d k r a) (λ v r n. IsSortedValue d v r n) (λ k r n. IsSortedNode d k r n)
+scale_follows : (d : Declarations) → Follows (scaling d) Once (λ _. pos 0) (code_is_scaled d) (λ r. scales_round d r) (λ v r u. IsValueScale d v r u) (λ k r a. IsCodeScale d k r a) (λ v r n. IsSortedValue d v r n) (λ k r n. IsSortedNode d k r n)
 scale_follows d = record {
   values = λ v r n h. value_scale d v r n h;
   enters = λ v r u h. ap (λ (s : ℕ). s ∷ scales_round d r) h;
@@ -66,15 +64,15 @@ scale_follows d = record {
   cuts = λ x k r n a ha _. node d (Cut x k) r n a.scale (a.nodes + 1) ha;
 }
 
-scales_find : (d : Declarations) (xs : List ℕ) (k : PayoffCode) → MeetsInCode d xs SortRule k → Finds (code_is_scaled d) (sites_of_code Once (λ _. pos 0) k [] 0) (λ (a : Scaled). IsCodeScale d k [] a) (scales_tried d (undated k) [] 0)
+scales_find : (d : Declarations) (xs : List ℕ) (k : PayoffCode) → MeetsInCode d xs SortRule k → Finds (code_is_scaled d) (sites_of_code Once (λ _. pos 0) k [] 0) (λ (a : Scaled). IsCodeScale d k [] a) (scales_tried d k [] 0)
 scales_find d xs k h =
-    rw (tried_undated (scaling d) k [] 0) (code_finds (dated_steps (scaling d)) Once (λ _. pos 0) (code_is_scaled d) (λ r. scales_round d r) (λ v r u. IsValueScale d v r u) (λ c r a. IsCodeScale d c r a) (λ v r n. IsSortedValue d v r n) (λ c r n. IsSortedNode d c r n) (scale_follows d) k [] 0
-    (each_passes (λ s. IsTrue (code_is_sorted d s)) Once (λ _. pos 0) k [] 0 h))
+    code_finds (scaling d) Once (λ _. pos 0) (code_is_scaled d) (λ r. scales_round d r) (λ v r u. IsValueScale d v r u) (λ c r a. IsCodeScale d c r a) (λ v r n. IsSortedValue d v r n) (λ c r n. IsSortedNode d c r n) (scale_follows d) k [] 0
+    (each_passes (λ s. IsTrue (code_is_sorted d s)) Once (λ _. pos 0) k [] 0 h)
 
-pub scales_meet : (d : Declarations) (xs : List ℕ) (k : PayoffCode) (a : Scaled) → MeetsInCode d xs SortRule k → scales_tried d (undated k) [] 0 ≡ Ok a → MeetsInCode d xs ScaleRule k × (a.scale ≡ scale_of_code d k [])
+pub scales_meet : (d : Declarations) (xs : List ℕ) (k : PayoffCode) (a : Scaled) → MeetsInCode d xs SortRule k → scales_tried d k [] 0 ≡ Ok a → MeetsInCode d xs ScaleRule k × (a.scale ≡ scale_of_code d k [])
 scales_meet d xs k a h e =
-    meets (code_is_scaled d) (sites_of_code Once (λ _. pos 0) k [] 0) (λ (b : Scaled). IsCodeScale d k [] b) (scales_tried d (undated k) [] 0) a (scales_find d xs k h) e
+    meets (code_is_scaled d) (sites_of_code Once (λ _. pos 0) k [] 0) (λ (b : Scaled). IsCodeScale d k [] b) (scales_tried d k [] 0) a (scales_find d xs k h) e
 
-pub scales_fail : (d : Declarations) (xs : List ℕ) (k : PayoffCode) (j : ℕ) → MeetsInCode d xs SortRule k → scales_tried d (undated k) [] 0 ≡ Err j → FailsInCode d xs ScaleRule k j
+pub scales_fail : (d : Declarations) (xs : List ℕ) (k : PayoffCode) (j : ℕ) → MeetsInCode d xs SortRule k → scales_tried d k [] 0 ≡ Err j → FailsInCode d xs ScaleRule k j
 scales_fail d xs k j h e =
-    fails (code_is_scaled d) (sites_of_code Once (λ _. pos 0) k [] 0) (λ (b : Scaled). IsCodeScale d k [] b) (scales_tried d (undated k) [] 0) j (scales_find d xs k h) e
+    fails (code_is_scaled d) (sites_of_code Once (λ _. pos 0) k [] 0) (λ (b : Scaled). IsCodeScale d k [] b) (scales_tried d k [] 0) j (scales_find d xs k h) e

@@ -23,8 +23,6 @@ use Rattle.payoff_lang.specs.CodeSites.{CodeSite, InValue, AtCode, sites_of_code
 use Rattle.payoff_lang.specs.CodeAcceptance.{code_is_sorted, MeetsInCode, FailsInCode}
 use Rattle.payoff_check.specs.declared.sort_rule.Sorted.{Sorted}
 use Rattle.payoff_check.specs.SortTrials.{needed, sorting, sorts_tried}
-use Rattle.payoff_check.specs.PlainCodes.{undated}
-use Rattle.payoff_check.proofs.UndatedFacts.{dated_steps, tried_undated}
 use Rattle.payoff_check.proofs.Finding.{Finds, first_failing-map, fine, faulty, Follows, code_finds, each_any, meets, fails}
 
 -- the sort that is found of a value expression is that of its kind
@@ -54,7 +52,7 @@ entered : (o : Option Kind) (u : Sort) → sort_of o ≡ Some u → u ≡ sort_o
 entered None u h = absurd (cc)
 entered (Some k) u h = let q : Some (sort_of_kind k) ≡ Some u = h in cc
 
-sort_follows : (d : Declarations) → Follows (dated_steps (sorting d)) Once (λ _. pos 0) (code_is_sorted d) (λ r. names d r) (λ v r u. IsSortOf d v r u) (λ _ _ _. Unit {0}) (λ _ _ _. Unit {0}) (λ _ _ _. Unit {0})
+sort_follows : (d : Declarations) → Follows (sorting d) Once (λ _. pos 0) (code_is_sorted d) (λ r. names d r) (λ v r u. IsSortOf d v r u) (λ _ _ _. Unit {0}) (λ _ _ _. Unit {0}) (λ _ _ _. Unit {0})
 sort_follows d = record {
   values = λ v r n _. value_found (code_is_sorted d) (sites_of Once (plain v) r n) n (nodes (plain v)) (sort_tried d (plain v) (names d r)) (kind_of d (plain v) (kinds_round d r)) (sort_finds d (plain v) r n);
   enters = λ v r u h. ap (λ (s : Sort). s ∷ names d r) (entered (kind_of d (plain v) (kinds_round d r)) u.sort h);
@@ -67,12 +65,12 @@ sort_follows d = record {
   cuts = λ x k r n a _ _. fine (code_is_sorted d) (AtCode n (Cut x k) r) (λ (_ : ℕ). Unit {0}) (a + 1) refl tt;
 }
 
-sorts_find : (d : Declarations) (k : PayoffCode) → Finds (code_is_sorted d) (sites_of_code Once (λ _. pos 0) k [] 0) (λ (_ : ℕ). Unit {0}) (sorts_tried d (undated k) [] 0)
+sorts_find : (d : Declarations) (k : PayoffCode) → Finds (code_is_sorted d) (sites_of_code Once (λ _. pos 0) k [] 0) (λ (_ : ℕ). Unit {0}) (sorts_tried d k [] 0)
 sorts_find d k =
-    rw (tried_undated (sorting d) k [] 0) (code_finds (dated_steps (sorting d)) Once (λ _. pos 0) (code_is_sorted d) (λ r. names d r) (λ v r u. IsSortOf d v r u) (λ _ _ _. Unit {0}) (λ _ _ _. Unit {0}) (λ _ _ _. Unit {0}) (sort_follows d) k [] 0 (each_any k [] 0))
+    code_finds (sorting d) Once (λ _. pos 0) (code_is_sorted d) (λ r. names d r) (λ v r u. IsSortOf d v r u) (λ _ _ _. Unit {0}) (λ _ _ _. Unit {0}) (λ _ _ _. Unit {0}) (sort_follows d) k [] 0 (each_any k [] 0)
 
-pub sorts_meet : (d : Declarations) (xs : List ℕ) (k : PayoffCode) (a : ℕ) → sorts_tried d (undated k) [] 0 ≡ Ok a → MeetsInCode d xs SortRule k
-sorts_meet d xs k a e = let h = meets (code_is_sorted d) (sites_of_code Once (λ _. pos 0) k [] 0) (λ (_ : ℕ). Unit {0}) (sorts_tried d (undated k) [] 0) a (sorts_find d k) e in h.0
+pub sorts_meet : (d : Declarations) (xs : List ℕ) (k : PayoffCode) (a : ℕ) → sorts_tried d k [] 0 ≡ Ok a → MeetsInCode d xs SortRule k
+sorts_meet d xs k a e = let h = meets (code_is_sorted d) (sites_of_code Once (λ _. pos 0) k [] 0) (λ (_ : ℕ). Unit {0}) (sorts_tried d k [] 0) a (sorts_find d k) e in h.0
 
-pub sorts_fail : (d : Declarations) (xs : List ℕ) (k : PayoffCode) (j : ℕ) → sorts_tried d (undated k) [] 0 ≡ Err j → FailsInCode d xs SortRule k j
-sorts_fail d xs k j e = fails (code_is_sorted d) (sites_of_code Once (λ _. pos 0) k [] 0) (λ (_ : ℕ). Unit {0}) (sorts_tried d (undated k) [] 0) j (sorts_find d k) e
+pub sorts_fail : (d : Declarations) (xs : List ℕ) (k : PayoffCode) (j : ℕ) → sorts_tried d k [] 0 ≡ Err j → FailsInCode d xs SortRule k j
+sorts_fail d xs k j e = fails (code_is_sorted d) (sites_of_code Once (λ _. pos 0) k [] 0) (λ (_ : ℕ). Unit {0}) (sorts_tried d k [] 0) j (sorts_find d k) e

@@ -1,6 +1,8 @@
--- The trial of the rule on bounds, of code whose sorts and scales are right: a value expression has the range of its plain
--- expression, and every total is at most 10^37, as it is and at nine more decimals than the portfolio's.
-use Rattle.std.specs.Prelude.{◌≡◌, ℕ, ◌+◌, ◌-◌, ◌*◌, ◌^◌, ◌≤◌, max, ◌&&◌, Bool, nat_le, List, ◌∷◌, Result, Ok, Err, if◌then◌else◌}
+-- The trial of the rule on bounds, of code whose sorts and scales are right: a value expression has
+-- the range of its plain expression, and every total is at most 10^37, as it is and at nine more
+-- decimals than the portfolio's.
+use Rattle.std.specs.Prelude.{◌≡◌, ℕ, ◌+◌, ◌-◌, ◌*◌, ◌^◌, ◌≤◌, max, ◌&&◌, Bool, nat_le}
+use Rattle.std.specs.Prelude.{List, ◌∷◌, Result, Ok, Err, if◌then◌else◌}
 use Rattle.term_core.specs.declared.values.Kind.{Kind}
 use Rattle.term_core.specs.Declarations.{Declarations}
 use Rattle.term_core.specs.Limits.{greatest_mantissa}
@@ -10,10 +12,16 @@ use Rattle.term_core.specs.Bounds.{Range, range_kinds, greatest_size}
 use Rattle.term_core.specs.Trying.{then_do, moved}
 use Rattle.interval_check.specs.Ranges.{range}
 use Rattle.interval_check.specs.RangeTrials.{scale_in, range_tried, kind_found, AreScaled}
+use Rattle.payoff_lang.specs.Dating.{plain}
+use Rattle.payoff_lang.specs.Code.{PayoffCode, Nothing, PayOn, Add, ScaleBy, LetBe, Loop, Cut}
+use Rattle.term_core.specs.declared.decls.Decls.{Decls}
+use Rattle.term_core.specs.declared.scope.Scope.{Scope}
+use Rattle.term_core.specs.Declarations.{declarations}
+use Rattle.interval_check.specs.RangeScopes.{ranges_in}
+use Rattle.interval_check.specs.declared.ranges.Range.{Range as HeldRange}
 use Rattle.payoff_check.specs.declared.bound_rule.Ranged.{Ranged}
 use Rattle.payoff_check.specs.declared.totals.CodeTotal.{CodeTotal}
-use Rattle.payoff_check.specs.PlainCodes.{UndatedCode, Empty, Payment, Both, Multiple, Named, Choice, Under}
-use Rattle.payoff_check.specs.Trials.{PlainSteps, plain_tried}
+use Rattle.payoff_check.specs.Trials.{Steps, code_tried}
 
 -- what is found of a value expression
 pub record Found : Type 0 where
@@ -23,17 +31,14 @@ pub record Found : Type 0 where
 abbrev pub ranged : Ranged → Found
 ranged r = record { range = range r.range; nodes = r.nodes }
 
-abbrev pub ranged_found : Result Ranged ℕ → Result Found ℕ
-ranged_found (Ok r) = Ok (ranged r)
-ranged_found (Err n) = Err n
-
 -- the kind that is found of an expression, among names of these ranges
 abbrev pub HasKind : Declarations → Expression → List Range → Ranged → Type 0
 HasKind d e g r = r.range.kind ≡ kind_found d e (range_kinds g)
 
 -- a plain expression whose first node has number n
 abbrev pub value_tried : Declarations → Expression → List Range → ℕ → Result Found ℕ
-value_tried d e g n = then_do (moved n (range_tried d e g)) (λ r. Ok (record { range = r; nodes = nodes e }))
+value_tried d e g n =
+    then_do (moved n (range_tried d e g)) (λ r. Ok (record { range = r; nodes = nodes e }))
 
 -- at a count of decimals that is not less than its scale
 abbrev pub at_decimals : ℕ → CodeTotal → ℕ
@@ -59,32 +64,40 @@ of_sum a b =
 
 abbrev pub of_product : Found → CodeTotal → CodeTotal
 of_product u a =
-    record { amount = a.amount * greatest_size u.range.interval; scale = scale_in u.range + a.scale; nodes = u.nodes + a.nodes + 1 }
+    record {
+      amount = a.amount * greatest_size u.range.interval;
+      scale = scale_in u.range + a.scale;
+      nodes = u.nodes + a.nodes + 1;
+    }
 
 abbrev pub of_branches : ℕ → CodeTotal → CodeTotal → CodeTotal
 of_branches count a b =
     let s = max a.scale b.scale in
-    record { amount = max (at_decimals s a) (at_decimals s b); scale = s; nodes = count + a.nodes + b.nodes + 1 }
+    record {
+      amount = max (at_decimals s a) (at_decimals s b);
+      scale = s;
+      nodes = count + a.nodes + b.nodes + 1;
+    }
 
 -- the total of a part, where some nodes more stand in the whole
 abbrev pub of_part : ℕ → CodeTotal → CodeTotal
 of_part count a = record { amount = a.amount; scale = a.scale; nodes = count + a.nodes + 1 }
 
-abbrev pub bounding : Declarations → PlainSteps Found CodeTotal (List Range)
+abbrev pub bounding : Declarations → Steps Found CodeTotal (List Range)
 bounding d = record {
-  value = λ e g n. value_tried d e g n;
+  value = λ v g n. value_tried d (plain v) g n;
   enter = λ u g. u.range ∷ g;
   nothing = λ n. total_here (d.amounts + 9) of_nothing n;
-  payment = λ n. total_here (d.amounts + 9) of_payment n;
+  payment = λ x n. total_here (d.amounts + 9) of_payment n;
   sum = λ a b n. total_here (d.amounts + 9) (of_sum a b) n;
   scaled = λ u a n. total_here (d.amounts + 9) (of_product u a) n;
   bound = λ u a n. total_here (d.amounts + 9) (of_part u.nodes a) n;
-  looped = λ u a b n. total_here (d.amounts + 9) (of_branches u.nodes a b) n;
-  cut = λ a n. total_here (d.amounts + 9) (of_part 0 a) n;
+  looped = λ u x a b n. total_here (d.amounts + 9) (of_branches u.nodes a b) n;
+  cut = λ x a n. total_here (d.amounts + 9) (of_part 0 a) n;
 }
 
-abbrev pub bounds_tried : Declarations → UndatedCode → List Range → ℕ → Result CodeTotal ℕ
-bounds_tried d k g n = plain_tried (bounding d) k g n
+abbrev pub bounds_tried : Declarations → PayoffCode → List Range → ℕ → Result CodeTotal ℕ
+bounds_tried d k g n = code_tried (bounding d) k g n
 
 -- what is known of a total that fits
 pub record IsFitting (k : ℕ) (t : CodeTotal) : Type 0 where
@@ -93,11 +106,27 @@ pub record IsFitting (k : ℕ) (t : CodeTotal) : Type 0 where
   pub aligned : at_decimals k t ≤ 10 ^ 37
 
 -- every scale of a value expression is at most 27, where each name has the kind that is found
-abbrev pub AreValuesScaled : Declarations → UndatedCode → List Kind → Type 0
-AreValuesScaled d Empty ks = Unit {0}
-AreValuesScaled d Payment ks = Unit {0}
-AreValuesScaled d (Both k l) ks = AreValuesScaled d k ks × AreValuesScaled d l ks
-AreValuesScaled d (Multiple e k) ks = AreScaled d e ks × AreValuesScaled d k ks
-AreValuesScaled d (Named e k) ks = AreScaled d e ks × AreValuesScaled d k (kind_found d e ks ∷ ks)
-AreValuesScaled d (Choice e k l) ks = AreScaled d e ks × AreValuesScaled d k ks × AreValuesScaled d l ks
-AreValuesScaled d (Under k) ks = AreValuesScaled d k ks
+abbrev pub AreValuesScaled : Declarations → PayoffCode → List Kind → Type 0
+AreValuesScaled d Nothing ks = Unit {0}
+AreValuesScaled d (PayOn x a p q) ks = Unit {0}
+AreValuesScaled d (Add k l) ks = AreValuesScaled d k ks × AreValuesScaled d l ks
+AreValuesScaled d (ScaleBy v k) ks = AreScaled d (plain v) ks × AreValuesScaled d k ks
+AreValuesScaled d (LetBe v k) ks =
+    AreScaled d (plain v) ks × AreValuesScaled d k (kind_found d (plain v) ks ∷ ks)
+AreValuesScaled d (Loop v x k l) ks =
+    AreScaled d (plain v) ks × AreValuesScaled d k ks × AreValuesScaled d l ks
+AreValuesScaled d (Cut x k) ks = AreValuesScaled d k ks
+
+-- the same among the names of a scope
+abbrev pub range_among : Decls → Expression → Scope HeldRange → ℕ → Result Found ℕ
+range_among decls e scope n = value_tried (declarations decls) e (ranges_in scope) n
+
+abbrev pub bounds_among : Decls → PayoffCode → Scope HeldRange → ℕ → Result CodeTotal ℕ
+bounds_among decls k scope n = bounds_tried (declarations decls) k (ranges_in scope) n
+
+abbrev pub HasKindAmong : Decls → Expression → Scope HeldRange → Ranged → Type 0
+HasKindAmong decls e scope r = HasKind (declarations decls) e (ranges_in scope) r
+
+abbrev pub AreScaledAmong : Decls → PayoffCode → Scope HeldRange → Type 0
+AreScaledAmong decls k scope =
+    AreValuesScaled (declarations decls) k (range_kinds (ranges_in scope))

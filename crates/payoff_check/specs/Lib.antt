@@ -1,4 +1,4 @@
-pub mod PlainCodes
+pub mod Parts
 pub mod Trials
 pub mod SortTrials
 pub mod ScaleTrials

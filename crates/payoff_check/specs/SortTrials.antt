@@ -1,5 +1,5 @@
--- The trial of the rule on sorts: a value expression has the sort of its plain expression, a factor has to be a number and
--- a test a truth value. What is found of code is the number of its nodes.
+-- The trial of the rule on sorts: a value expression has the sort of its plain expression, a factor
+-- has to be a number and a test a truth value. What is found of code is the number of its nodes.
 use Rattle.std.specs.Prelude.{ℕ, ◌+◌, List, ◌∷◌, Result, Ok, Err}
 use Rattle.term_core.specs.Declarations.{Declarations}
 use Rattle.term_core.specs.Terms.{Expression}
@@ -8,13 +8,19 @@ use Rattle.term_core.specs.Trying.{then_do, moved}
 use Rattle.time_types.specs.declared.observed_sorts.Sort.{Sort}
 use Rattle.time_types.specs.declared.observed_sorts.Sort.TheVariants.{Truth, Number}
 use Rattle.time_types.specs.SortTrials.{sort_tried}
+use Rattle.payoff_lang.specs.Dating.{plain}
+use Rattle.payoff_lang.specs.Code.{PayoffCode}
+use Rattle.term_core.specs.declared.decls.Decls.{Decls}
+use Rattle.term_core.specs.declared.scope.Scope.{Scope}
+use Rattle.term_core.specs.Declarations.{declarations}
+use Rattle.term_core.specs.Scopes.{held_in}
 use Rattle.payoff_check.specs.declared.sort_rule.Sorted.{Sorted}
-use Rattle.payoff_check.specs.PlainCodes.{UndatedCode}
-use Rattle.payoff_check.specs.Trials.{PlainSteps, plain_tried}
+use Rattle.payoff_check.specs.Trials.{Steps, code_tried}
 
 -- a plain expression whose first node has number n
 abbrev pub value_tried : Declarations → Expression → List Sort → ℕ → Result Sorted ℕ
-value_tried d e ss n = then_do (moved n (sort_tried d e ss)) (λ s. Ok (record { sort = s; nodes = nodes e }))
+value_tried d e ss n =
+    then_do (moved n (sort_tried d e ss)) (λ s. Ok (record { sort = s; nodes = nodes e }))
 
 -- a part whose expression is of a sort, where one is wanted
 abbrev pub needed : Sort → Sort → ℕ → ℕ → Result ℕ ℕ
@@ -23,18 +29,25 @@ needed Number Number count n = Ok count
 needed Truth Number count n = Err n
 needed Number Truth count n = Err n
 
-abbrev pub sorting : Declarations → PlainSteps Sorted ℕ (List Sort)
+abbrev pub sorting : Declarations → Steps Sorted ℕ (List Sort)
 sorting d = record {
-  value = λ e ss n. value_tried d e ss n;
+  value = λ v ss n. value_tried d (plain v) ss n;
   enter = λ u ss. u.sort ∷ ss;
   nothing = λ n. Ok 1;
-  payment = λ n. Ok 1;
+  payment = λ x n. Ok 1;
   sum = λ a b n. Ok (a + b + 1);
   scaled = λ u a n. needed Number u.sort (u.nodes + a + 1) n;
   bound = λ u a n. Ok (u.nodes + a + 1);
-  looped = λ u a b n. needed Truth u.sort (u.nodes + a + b + 1) n;
-  cut = λ a n. Ok (a + 1);
+  looped = λ u x a b n. needed Truth u.sort (u.nodes + a + b + 1) n;
+  cut = λ x a n. Ok (a + 1);
 }
 
-abbrev pub sorts_tried : Declarations → UndatedCode → List Sort → ℕ → Result ℕ ℕ
-sorts_tried d k ss n = plain_tried (sorting d) k ss n
+abbrev pub sorts_tried : Declarations → PayoffCode → List Sort → ℕ → Result ℕ ℕ
+sorts_tried d k ss n = code_tried (sorting d) k ss n
+
+-- the same among the names of a scope
+abbrev pub sort_among : Decls → Expression → Scope Sort → ℕ → Result Sorted ℕ
+sort_among decls e scope n = value_tried (declarations decls) e (held_in scope) n
+
+abbrev pub sorts_among : Decls → PayoffCode → Scope Sort → ℕ → Result ℕ ℕ
+sorts_among decls k scope n = sorts_tried (declarations decls) k (held_in scope) n

@@ -1,6 +1,6 @@
 //! Which payoff code is accepted at a setting: the rules on sorts, scales, sizes and bounds, in
 //! this order. For value expressions the first two and the last are the rules of contracts, tried
-//! on the plain expression. Plain expressions are made once, before the first rule.
+//! on the plain expression, which is made where the value expression stands and dropped at once.
 //!
 //! ```text
 //! let facts = check_code(alloc, &file, &setting)?; // its scale and its total
@@ -15,9 +15,9 @@ mod bound_rule;
 mod checks;
 mod days;
 mod decimals;
+mod faults;
 mod laws;
 mod part_sizes;
-mod plain_code;
 mod plains;
 mod scale_rule;
 mod size_rule;

@@ -1,19 +1,28 @@
 //! The rule on scales: every expression meets it as in contracts, and the scale of all code is at
-//! most nine more than the portfolio's amounts have, since a discount factor has nine decimals.
+//! most nine more than the portfolio's amounts have, since a discount factor has nine decimals. A
+//! function pays at entry for the locals of all its arms, so each form of code with parts has one
+//! of its own.
 
 ghost use Rattle.std.specs.Prelude.{◌≡◌, ◌<◌, ◌≤◌, ◌+◌, ◌^◌, IfOk};
 ghost use Rattle.term_core.specs.Declarations.{declarations};
-ghost use Rattle.term_core.specs.Terms.{expression};
 ghost use Rattle.term_core.specs.declared.rules.Rule.{Rule};
+ghost use Rattle.term_core.specs.Terms.{expression};
 ghost use Rattle.term_core.specs.Sizes.{nodes};
-ghost use Rattle.term_core.specs.Scopes.{held_in};
-ghost use Rattle.payoff_check.specs.PlainCodes.{nodes_of_undated, undated_code};
-ghost use Rattle.payoff_check.specs.Verdicts.{IsPlainVerdict, IsScaleOf};
-ghost use Rattle.payoff_check.specs.ScaleTrials.{kept, value_tried, scales_tried};
+ghost use Rattle.payoff_lang.specs.Code.{payoff_code};
+ghost use Rattle.payoff_lang.specs.CodeSizes.{nodes_of_code};
+ghost use Rattle.payoff_lang.specs.CodeAcceptance.{MeetsInCode};
+ghost use Rattle.payoff_check.specs.Parts.{added, multiple, naming, looping, cutting};
+ghost use Rattle.payoff_check.specs.Verdicts.{IsCodeVerdict, IsScaleOf};
+ghost use Rattle.payoff_check.specs.Trials.{Tells, plain_value};
+ghost use Rattle.payoff_check.specs.ScaleTrials.{kept, scale_among, scales_among};
 
-use crate::plain_code::PlainCode;
+use crate::faults::Fault;
+use crate::plains::plain_of;
+use decimal::NoMemory;
+use payoff_lang::{Code, Vx};
 use scale_check::scale_of_expr;
-use term_core::{CheckErr, Decls, Expr, Rule, Scope, nodes_in};
+use std::alloc::Global;
+use term_core::{CheckErr, Decls, Expr, Rule, Scope, Setting, nodes_in};
 
 /// The scale of a part, and its nodes.
 #[derive(Clone, Copy)]
@@ -22,10 +31,10 @@ pub struct Scaled {
     pub nodes: u32,
 }
 
-// Of a value expression whose first node has a number.
-fn scale_of_value(decls: &Decls, e: &Expr, scope: &Scope<u8>, node: u32) -> Result<Scaled, u32>
+// Of a plain expression whose first node has a number.
+fn scale_of_plain(decls: &Decls, e: &Expr, scope: &Scope<u8>, node: u32) -> Result<Scaled, Fault>
     requires { node + nodes (expression e.now) < 2 ^ 32 }
-    ensures scale { result ≡ value_tried (declarations decls.now) (expression e.now) (held_in scope.now) node }
+    ensures scale { Tells result (scale_among decls.now (expression e.now) scope.now node) }
     ensures nodes { IfOk result (λ found. found.nodes ≡ nodes (expression e.now)) }
     ensures within { IfOk result (λ found. found.scale ≤ 27) }
 {
@@ -34,82 +43,207 @@ fn scale_of_value(decls: &Decls, e: &Expr, scope: &Scope<u8>, node: u32) -> Resu
             scale,
             nodes: nodes_in(e),
         }),
-        Err(part) => Err(node + part),
+        Err(part) => Err(Fault::At { node: node + part }),
+    }
+}
+
+// Of a value expression whose first node has a number.
+fn scale_of_value(
+    alloc: Global,
+    decls: &Decls,
+    v: &Vx,
+    scope: &Scope<u8>,
+    node: u32,
+) -> Result<Scaled, Fault>
+    requires { node + nodes (plain_value v.now) < 2 ^ 32 }
+    ensures scale { Tells result (scale_among decls.now (plain_value v.now) scope.now node) }
+    ensures nodes { IfOk result (λ found. found.nodes ≡ nodes (plain_value v.now)) }
+    ensures within { IfOk result (λ found. found.scale ≤ 27) }
+{
+    match plain_of(alloc, v) {
+        Ok(e) => scale_of_plain(decls, &e, scope, node),
+        Err(NoMemory) => Err(Fault::NoMemory),
     }
 }
 
 // A part of code whose scale is at most the greatest, else a fault at its own node.
-fn keep(greatest: u8, scale: u8, nodes: u32, node: u32) -> Result<Scaled, u32>
-    ensures scale { result ≡ kept greatest scale nodes node }
+fn keep(greatest: u8, scale: u8, nodes: u32, node: u32) -> Result<Scaled, Fault>
+    ensures scale { Tells result (kept greatest scale nodes node) }
     ensures nodes { IfOk result (λ found. found.nodes ≡ nodes) }
     ensures within { IfOk result (λ found. found.scale ≤ greatest) }
 {
     if scale <= greatest {
         Ok(Scaled { scale, nodes })
     } else {
-        Err(node)
+        Err(Fault::At { node })
     }
 }
 
 // The scale of code whose own node has a number, among names of these scales.
-fn scales_of(decls: &Decls, k: &PlainCode, scope: &Scope<u8>, node: u32) -> Result<Scaled, u32>
-    requires { node + nodes_of_undated (undated_code k.now) < 2 ^ 32 }
-    ensures scale { result ≡ scales_tried (declarations decls.now) (undated_code k.now) (held_in scope.now) node }
-    ensures nodes { IfOk result (λ found. found.nodes ≡ nodes_of_undated (undated_code k.now)) }
+#[cycle(scaling)]
+fn scales_of(
+    alloc: Global,
+    decls: &Decls,
+    k: &Code,
+    scope: &Scope<u8>,
+    node: u32,
+) -> Result<Scaled, Fault>
+    requires { node + nodes_of_code (payoff_code k.now) < 2 ^ 32 }
+    ensures scale { Tells result (scales_among decls.now (payoff_code k.now) scope.now node) }
+    ensures nodes { IfOk result (λ found. found.nodes ≡ nodes_of_code (payoff_code k.now)) }
     ensures within { IfOk result (λ found. found.scale ≤ decls.now.amounts + 9) }
 {
-    let greatest = decls.amounts + 9;
     match k {
-        PlainCode::None => keep(greatest, 0, 1, node),
-        PlainCode::Pay => keep(greatest, 9, 1, node),
-        PlainCode::Add { left, right } => {
-            let one = scales_of(decls, left, scope, node + 1)?;
-            let two = scales_of(decls, right, scope, node + 1 + one.nodes)?;
-            let nodes = one.nodes + two.nodes + 1;
-            keep(greatest, one.scale.max(two.scale), nodes, node)
-        }
-        PlainCode::Scale { factor, body } => {
-            let found = scale_of_value(decls, factor, scope, node + 1)?;
-            let part = scales_of(decls, body, scope, node + 1 + found.nodes)?;
-            let scale = found.scale + part.scale;
-            keep(greatest, scale, found.nodes + part.nodes + 1, node)
-        }
-        PlainCode::Let { bound, body } => {
-            let found = scale_of_value(decls, bound, scope, node + 1)?;
-            let inner = Scope::Bound {
-                held: found.scale,
-                outer: &*scope,
-            };
-            let part = scales_of(decls, body, &inner, node + 1 + found.nodes)?;
-            keep(greatest, part.scale, found.nodes + part.nodes + 1, node)
-        }
-        PlainCode::LoopIf { test, hit, miss } => {
-            let found = scale_of_value(decls, test, scope, node + 1)?;
-            let after = node + 1 + found.nodes;
-            let one = scales_of(decls, hit, scope, after)?;
-            let two = scales_of(decls, miss, scope, after + one.nodes)?;
-            let nodes = found.nodes + one.nodes + two.nodes + 1;
-            keep(greatest, one.scale.max(two.scale), nodes, node)
-        }
-        PlainCode::Cut { body } => {
-            let part = scales_of(decls, body, scope, node + 1)?;
-            keep(greatest, part.scale, part.nodes + 1, node)
-        }
+        Code::None => keep(decls.amounts + 9, 0, 1, node),
+        Code::Pay { .. } => keep(decls.amounts + 9, 9, 1, node),
+        Code::Add { left, right } => scale_of_sum(alloc, decls, left, right, scope, node),
+        Code::Scale { factor, body } => scale_of_product(alloc, decls, factor, body, scope, node),
+        Code::Let { bound, body } => scale_of_let(alloc, decls, bound, body, scope, node),
+        Code::LoopIf {
+            test,
+            hit,
+            miss,
+            ..
+        } => scale_of_loop(alloc, decls, test, hit, miss, scope, node),
+        Code::Cut { body, .. } => scale_of_cut(alloc, decls, body, scope, node),
     }
+}
+
+// Of two parts together.
+#[cycle(scaling)]
+fn scale_of_sum(
+    alloc: Global,
+    decls: &Decls,
+    left: &Code,
+    right: &Code,
+    scope: &Scope<u8>,
+    node: u32,
+) -> Result<Scaled, Fault>
+    requires { node + nodes_of_code (added left.now right.now) < 2 ^ 32 }
+    ensures scale { Tells result
+        (scales_among decls.now (added left.now right.now) scope.now node) }
+    ensures nodes { IfOk result (λ found. found.nodes ≡ nodes_of_code (added left.now right.now)) }
+    ensures within { IfOk result (λ found. found.scale ≤ decls.now.amounts + 9) }
+{
+    let one = scales_of(alloc, decls, left, scope, node + 1)?;
+    let two = scales_of(alloc, decls, right, scope, node + 1 + one.nodes)?;
+    let nodes = one.nodes + two.nodes + 1;
+    keep(decls.amounts + 9, one.scale.max(two.scale), nodes, node)
+}
+
+// Of a part that is multiplied by a factor.
+#[cycle(scaling)]
+fn scale_of_product(
+    alloc: Global,
+    decls: &Decls,
+    factor: &Vx,
+    body: &Code,
+    scope: &Scope<u8>,
+    node: u32,
+) -> Result<Scaled, Fault>
+    requires { node + nodes_of_code (multiple factor.now body.now) < 2 ^ 32 }
+    ensures scale { Tells result
+        (scales_among decls.now (multiple factor.now body.now) scope.now node) }
+    ensures nodes { IfOk result
+        (λ found. found.nodes ≡ nodes_of_code (multiple factor.now body.now)) }
+    ensures within { IfOk result (λ found. found.scale ≤ decls.now.amounts + 9) }
+{
+    let found = scale_of_value(alloc, decls, factor, scope, node + 1)?;
+    let part = scales_of(alloc, decls, body, scope, node + 1 + found.nodes)?;
+    let nodes = found.nodes + part.nodes + 1;
+    keep(decls.amounts + 9, found.scale + part.scale, nodes, node)
+}
+
+// Of a part with a name for what is bound.
+#[cycle(scaling)]
+fn scale_of_let(
+    alloc: Global,
+    decls: &Decls,
+    bound: &Vx,
+    body: &Code,
+    scope: &Scope<u8>,
+    node: u32,
+) -> Result<Scaled, Fault>
+    requires { node + nodes_of_code (naming bound.now body.now) < 2 ^ 32 }
+    ensures scale { Tells result
+        (scales_among decls.now (naming bound.now body.now) scope.now node) }
+    ensures nodes { IfOk result (λ found. found.nodes ≡ nodes_of_code (naming bound.now body.now)) }
+    ensures within { IfOk result (λ found. found.scale ≤ decls.now.amounts + 9) }
+{
+    let found = scale_of_value(alloc, decls, bound, scope, node + 1)?;
+    let inner = Scope::Bound {
+        held: found.scale,
+        outer: &*scope,
+    };
+    let part = scales_of(alloc, decls, body, &inner, node + 1 + found.nodes)?;
+    keep(
+        decls.amounts + 9,
+        part.scale,
+        found.nodes + part.nodes + 1,
+        node,
+    )
+}
+
+// Of two parts of which one is entered by a test.
+#[cycle(scaling)]
+fn scale_of_loop(
+    alloc: Global,
+    decls: &Decls,
+    test: &Vx,
+    hit: &Code,
+    miss: &Code,
+    scope: &Scope<u8>,
+    node: u32,
+) -> Result<Scaled, Fault>
+    requires { node + nodes_of_code (looping test.now hit.now miss.now) < 2 ^ 32 }
+    ensures scale { Tells result
+        (scales_among decls.now (looping test.now hit.now miss.now) scope.now node) }
+    ensures nodes { IfOk result
+        (λ found. found.nodes ≡ nodes_of_code (looping test.now hit.now miss.now)) }
+    ensures within { IfOk result (λ found. found.scale ≤ decls.now.amounts + 9) }
+{
+    let found = scale_of_value(alloc, decls, test, scope, node + 1)?;
+    let after = node + 1 + found.nodes;
+    let one = scales_of(alloc, decls, hit, scope, after)?;
+    let two = scales_of(alloc, decls, miss, scope, after + one.nodes)?;
+    let nodes = found.nodes + one.nodes + two.nodes + 1;
+    keep(decls.amounts + 9, one.scale.max(two.scale), nodes, node)
+}
+
+// Of a part under a `cut`.
+#[cycle(scaling)]
+fn scale_of_cut(
+    alloc: Global,
+    decls: &Decls,
+    body: &Code,
+    scope: &Scope<u8>,
+    node: u32,
+) -> Result<Scaled, Fault>
+    requires { node + nodes_of_code (cutting body.now) < 2 ^ 32 }
+    ensures scale { Tells result (scales_among decls.now (cutting body.now) scope.now node) }
+    ensures nodes { IfOk result (λ found. found.nodes ≡ nodes_of_code (cutting body.now)) }
+    ensures within { IfOk result (λ found. found.scale ≤ decls.now.amounts + 9) }
+{
+    let part = scales_of(alloc, decls, body, scope, node + 1)?;
+    keep(decls.amounts + 9, part.scale, part.nodes + 1, node)
 }
 
 /// The scale of code whose sorts are right, where the rule on scales holds everywhere in it. Where
 /// it fails, the answer has the first node at fault, in the order in which the rules of acceptance
 /// try nodes.
-pub fn scales(decls: &Decls, k: &PlainCode) -> Result<u8, CheckErr>
-    requires { nodes_of_undated (undated_code k.now) < 2 ^ 32 }
-    ensures { IsPlainVerdict (declarations decls.now) Rule.Scale (undated_code k.now) IsScaleOf result }
+pub fn scales(alloc: Global, decls: &Decls, _setting: &Setting, k: &Code) -> Result<u8, CheckErr>
+    requires small { nodes_of_code (payoff_code k.now) < 2 ^ 32 }
+    requires sorted { MeetsInCode (declarations decls.now) _setting.now.days.items Rule.Sort
+        (payoff_code k.now) }
+    ensures { IsCodeVerdict (declarations decls.now) _setting.now.days.items Rule.Scale
+        (payoff_code k.now) IsScaleOf result }
 {
-    match scales_of(decls, k, &Scope::Empty, 0) {
+    match scales_of(alloc, decls, k, &Scope::Empty, 0) {
         Ok(found) => Ok(found.scale),
-        Err(node) => Err(CheckErr::Refused {
+        Err(Fault::At { node }) => Err(CheckErr::Refused {
             rule: Rule::Scale,
             node,
         }),
+        Err(Fault::NoMemory) => Err(CheckErr::NoMemory),
     }
 }

@@ -1,6 +1,7 @@
 //! The rule on sizes at a setting: a height of at most 400, at most 200,000 nodes, a work of at
 //! most 10,000,000, loops of at most 100,000 days one within another, and every date within its
-//! range.
+//! range. A function pays at entry for the locals of all its arms, so each form of code with parts
+//! has one of its own.
 
 ghost use Rattle.std.specs.Prelude.{◌≡◌, ◌<◌, ◌≤◌, ◌+◌, ◌^◌, IfOk};
 ghost use Rattle.term_core.specs.Declarations.{declarations};
@@ -11,9 +12,11 @@ ghost use Rattle.payoff_lang.specs.TemplateDates.{date, day_of};
 ghost use Rattle.payoff_lang.specs.Code.{payoff_code};
 ghost use Rattle.payoff_lang.specs.CodeAcceptance as rule;
 ghost use Rattle.payoff_lang.specs.CodeSizes.{as_count, nodes_of_code};
+ghost use Rattle.payoff_check.specs.Parts.{added, multiple, looping_to, cutting_on};
 ghost use Rattle.payoff_check.specs.Trials.{plain_value};
 ghost use Rattle.payoff_check.specs.Verdicts.{IsCodeVerdict, NothingMore};
-ghost use Rattle.payoff_check.specs.SizeTrials.{IsLimited, IsLimitedCode, dated_code, looped, sizes_tried, tried_at};
+ghost use Rattle.payoff_check.specs.SizeTrials.{IsLimited, IsLimitedCode, dated_code, looped};
+ghost use Rattle.payoff_check.specs.SizeTrials.{sizes_tried, tried_at};
 
 use crate::days::{day_at, is_date, is_upto};
 use crate::part_sizes::{CodeSize, ValueSize};
@@ -58,7 +61,8 @@ fn looped_to(
     requires test { IsLimited test }
     requires hit { IsLimitedCode hit }
     requires miss { IsLimitedCode miss }
-    ensures size { result ≡ dated_code (rule.is_upto day) (looped test (as_count day) hit miss) node }
+    ensures size { result
+        ≡ dated_code (rule.is_upto day) (looped test (as_count day) hit miss) node }
     ensures limits { IfOk result IsLimitedCode }
     ensures nodes { IfOk result (λ found. found.nodes ≡ test.nodes + hit.nodes + miss.nodes + 1) }
 {
@@ -70,6 +74,7 @@ fn looped_to(
 }
 
 // The size of code whose own node has a number.
+#[cycle(sizing)]
 fn sizes_of(setting: &[u32], k: &Code, node: u32) -> Result<CodeSize, u32>
     requires { node + nodes_of_code (payoff_code k.now) < 2 ^ 32 }
     ensures size { result ≡ sizes_tried setting.now (payoff_code k.now) node }
@@ -79,38 +84,81 @@ fn sizes_of(setting: &[u32], k: &Code, node: u32) -> Result<CodeSize, u32>
     match k {
         Code::None => CodeSize::unit().limited(node),
         Code::Pay { date, .. } => dated(setting, date, CodeSize::unit(), node),
-        Code::Add { left, right } => {
-            let one = sizes_of(setting, left, node + 1)?;
-            let two = sizes_of(setting, right, node + 1 + one.nodes)?;
-            one.together(two).limited(node)
-        }
-        Code::Scale { factor, body } => {
-            let value = size_at(setting, factor, node + 1)?;
-            let part = sizes_of(setting, body, node + 1 + value.nodes)?;
-            part.behind(value).limited(node)
-        }
-        Code::Let { bound, body } => {
-            let value = size_at(setting, bound, node + 1)?;
-            let part = sizes_of(setting, body, node + 1 + value.nodes)?;
-            part.behind(value).limited(node)
-        }
+        Code::Add { left, right } => size_of_sum(setting, left, right, node),
+        Code::Scale { factor, body } => size_behind(setting, factor, body, node),
+        Code::Let { bound, body } => size_behind(setting, bound, body, node),
         Code::LoopIf {
             test,
             upto,
             hit,
             miss,
-        } => {
-            let value = size_at(setting, test, node + 1)?;
-            let after = node + 1 + value.nodes;
-            let one = sizes_of(setting, hit, after)?;
-            let two = sizes_of(setting, miss, after + one.nodes)?;
-            looped_to(day_at(setting, upto), value, one, two, node)
-        }
-        Code::Cut { date, body } => {
-            let part = sizes_of(setting, body, node + 1)?;
-            dated(setting, date, part.over(), node)
-        }
+        } => size_of_loop(setting, test, upto, hit, miss, node),
+        Code::Cut { date, body } => size_of_cut(setting, date, body, node),
     }
+}
+
+// Of two parts together.
+#[cycle(sizing)]
+fn size_of_sum(setting: &[u32], left: &Code, right: &Code, node: u32) -> Result<CodeSize, u32>
+    requires { node + nodes_of_code (added left.now right.now) < 2 ^ 32 }
+    ensures size { result ≡ sizes_tried setting.now (added left.now right.now) node }
+    ensures limits { IfOk result IsLimitedCode }
+    ensures nodes { IfOk result (λ found. found.nodes ≡ nodes_of_code (added left.now right.now)) }
+{
+    let one = sizes_of(setting, left, node + 1)?;
+    let two = sizes_of(setting, right, node + 1 + one.nodes)?;
+    one.together(two).limited(node)
+}
+
+// Of a part behind a value expression.
+#[cycle(sizing)]
+fn size_behind(setting: &[u32], value: &Vx, body: &Code, node: u32) -> Result<CodeSize, u32>
+    requires { node + nodes_of_code (multiple value.now body.now) < 2 ^ 32 }
+    ensures size { result ≡ sizes_tried setting.now (multiple value.now body.now) node }
+    ensures limits { IfOk result IsLimitedCode }
+    ensures nodes { IfOk result
+        (λ found. found.nodes ≡ nodes_of_code (multiple value.now body.now)) }
+{
+    let value_size = size_at(setting, value, node + 1)?;
+    let part = sizes_of(setting, body, node + 1 + value_size.nodes)?;
+    part.behind(value_size).limited(node)
+}
+
+// Of two parts of which one is entered by a test.
+#[cycle(sizing)]
+fn size_of_loop(
+    setting: &[u32],
+    test: &Vx,
+    upto: &DateExpr,
+    hit: &Code,
+    miss: &Code,
+    node: u32,
+) -> Result<CodeSize, u32>
+    requires { node + nodes_of_code (looping_to upto.now test.now hit.now miss.now) < 2 ^ 32 }
+    ensures size { result
+        ≡ sizes_tried setting.now (looping_to upto.now test.now hit.now miss.now) node }
+    ensures limits { IfOk result IsLimitedCode }
+    ensures nodes { IfOk result (λ found.
+        found.nodes ≡ nodes_of_code (looping_to upto.now test.now hit.now miss.now)) }
+{
+    let value = size_at(setting, test, node + 1)?;
+    let after = node + 1 + value.nodes;
+    let one = sizes_of(setting, hit, after)?;
+    let two = sizes_of(setting, miss, after + one.nodes)?;
+    looped_to(day_at(setting, upto), value, one, two, node)
+}
+
+// Of a part under a `cut`.
+#[cycle(sizing)]
+fn size_of_cut(setting: &[u32], date: &DateExpr, body: &Code, node: u32) -> Result<CodeSize, u32>
+    requires { node + nodes_of_code (cutting_on date.now body.now) < 2 ^ 32 }
+    ensures size { result ≡ sizes_tried setting.now (cutting_on date.now body.now) node }
+    ensures limits { IfOk result IsLimitedCode }
+    ensures nodes { IfOk result
+        (λ found. found.nodes ≡ nodes_of_code (cutting_on date.now body.now)) }
+{
+    let part = sizes_of(setting, body, node + 1)?;
+    dated(setting, date, part.over(), node)
 }
 
 /// Whether the rule on sizes holds everywhere in code at a setting. Where it fails, the answer has
@@ -118,7 +166,8 @@ fn sizes_of(setting: &[u32], k: &Code, node: u32) -> Result<CodeSize, u32>
 /// nothing of the declarations.
 pub fn sizes(_decls: &Decls, setting: &Setting, k: &Code) -> Result<(), CheckErr>
     requires { nodes_of_code (payoff_code k.now) < 2 ^ 32 }
-    ensures { IsCodeVerdict (declarations _decls.now) setting.now.days.items Rule.Size (payoff_code k.now) NothingMore result }
+    ensures { IsCodeVerdict (declarations _decls.now) setting.now.days.items Rule.Size
+        (payoff_code k.now) NothingMore result }
 {
     match sizes_of(setting.days.as_slice(), k, 0) {
         Ok(_) => Ok(()),

@@ -5,11 +5,13 @@ ghost use Rattle.std.specs.Prelude.{◌≡◌, ◌≤◌, ◌<◌, ◌+◌, ◌-
 ghost use Rattle.term_core.specs.Limits.{greatest_mantissa};
 ghost use Rattle.interval_check.specs.Intervals.{interval};
 ghost use Rattle.interval_check.specs.Ranges.{IsFit, range};
+ghost use Rattle.payoff_check.specs.Trials.{Tells};
 ghost use Rattle.payoff_check.specs.BoundTrials.{IsFitting, at_decimals, of_branches, of_product};
 ghost use Rattle.payoff_check.specs.BoundTrials.{of_sum, ranged, total_here};
 
 use crate::bound_rule::Ranged;
 use crate::decimals::Decimals;
+use crate::faults::Fault;
 use decimal::{GREATEST_MANTISSA, pow10};
 use interval_check::greatest_size_in;
 
@@ -48,8 +50,8 @@ fn is_small_at(decimals: Decimals, of: CodeTotal) -> bool
 }
 
 /// A total that fits, else a fault at its node.
-pub fn checked(decimals: Decimals, of: CodeTotal, node: u32) -> Result<CodeTotal, u32>
-    ensures total { result ≡ total_here decimals.count of node }
+pub fn checked(decimals: Decimals, of: CodeTotal, node: u32) -> Result<CodeTotal, Fault>
+    ensures total { Tells result (total_here decimals.count of node) }
     ensures nodes { IfOk result (λ t. t.nodes ≡ of.nodes) }
     ensures fits { IfOk result (λ t. IsFitting decimals.count t) }
 {
@@ -57,10 +59,10 @@ pub fn checked(decimals: Decimals, of: CodeTotal, node: u32) -> Result<CodeTotal
         if of.amount <= GREATEST_MANTISSA && is_small_at(decimals, of) {
             Ok(of)
         } else {
-            Err(node)
+            Err(Fault::At { node })
         }
     } else {
-        Err(node)
+        Err(Fault::At { node })
     }
 }
 
@@ -70,11 +72,11 @@ pub fn sum_of(
     left: CodeTotal,
     right: CodeTotal,
     node: u32,
-) -> Result<CodeTotal, u32>
+) -> Result<CodeTotal, Fault>
     requires left { IsFitting decimals.count left }
     requires right { IsFitting decimals.count right }
     requires nodes { left.nodes + right.nodes + 1 < 2 ^ 32 }
-    ensures total { result ≡ total_here decimals.count (of_sum left right) node }
+    ensures total { Tells result (total_here decimals.count (of_sum left right) node) }
     ensures nodes { IfOk result (λ t. t.nodes ≡ left.nodes + right.nodes + 1) }
     ensures fits { IfOk result (λ t. IsFitting decimals.count t) }
 {
@@ -95,11 +97,11 @@ pub fn greater_of(
     hit: CodeTotal,
     miss: CodeTotal,
     node: u32,
-) -> Result<CodeTotal, u32>
+) -> Result<CodeTotal, Fault>
     requires hit { IsFitting decimals.count hit }
     requires miss { IsFitting decimals.count miss }
     requires nodes { count + hit.nodes + miss.nodes + 1 < 2 ^ 32 }
-    ensures total { result ≡ total_here decimals.count (of_branches count hit miss) node }
+    ensures total { Tells result (total_here decimals.count (of_branches count hit miss) node) }
     ensures nodes { IfOk result (λ t. t.nodes ≡ count + hit.nodes + miss.nodes + 1) }
     ensures fits { IfOk result (λ t. IsFitting decimals.count t) }
 {
@@ -119,11 +121,12 @@ pub fn product_of(
     factor: Ranged,
     body: CodeTotal,
     node: u32,
-) -> Result<CodeTotal, u32>
+) -> Result<CodeTotal, Fault>
     requires factor { IsFit (range factor.range) }
     requires body { IsFitting decimals.count body }
     requires nodes { factor.nodes + body.nodes + 1 < 2 ^ 32 }
-    ensures total { result ≡ total_here decimals.count (of_product (ranged factor) body) node }
+    ensures total { Tells result
+        (total_here decimals.count (of_product (ranged factor) body) node) }
     ensures nodes { IfOk result (λ t. t.nodes ≡ factor.nodes + body.nodes + 1) }
     ensures fits { IfOk result (λ t. IsFitting decimals.count t) }
 {
@@ -142,6 +145,6 @@ pub fn product_of(
             },
             node,
         ),
-        None => Err(node),
+        None => Err(Fault::At { node }),
     }
 }

@@ -4,7 +4,7 @@ use Rattle.term_core.specs.Terms.{expression}
 use Rattle.interval_check.specs.Ranges.{range}
 use Rattle.interval_check.specs.RangeScopes.{ranges_in}
 use Rattle.interval_check.proofs.RangeKinds.{kind_is_found}
-use Rattle.payoff_check.proofs.bound_rule.range_of_value.Goals as goal
+use Rattle.payoff_check.proofs.bound_rule.range_of_plain.Goals as goal
 
 pub returns-in-Ok-clause-kind : goal.returns-in-Ok-clause-kind
 returns-in-Ok-clause-kind c =
