@@ -4,21 +4,20 @@
 use Rattle.std.specs.Prelude.{◌≡◌, ℕ, ◌+◌, ◌-◌, ◌*◌, ◌^◌, ◌≤◌, max, ◌&&◌, Bool, nat_le}
 use Rattle.std.specs.Prelude.{List, ◌∷◌, Result, Ok, Err, if◌then◌else◌}
 use Rattle.term_core.specs.declared.values.Kind.{Kind}
-use Rattle.term_core.specs.Declarations.{Declarations}
+use Rattle.term_core.specs.declared.decls.Decls.{Decls}
+use Rattle.term_core.specs.declared.scope.Scope.{Scope}
+use Rattle.term_core.specs.Declarations.{Declarations, declarations}
 use Rattle.term_core.specs.Limits.{greatest_mantissa}
 use Rattle.term_core.specs.Terms.{Expression}
 use Rattle.term_core.specs.Sizes.{nodes}
 use Rattle.term_core.specs.Bounds.{Range, range_kinds, greatest_size}
 use Rattle.term_core.specs.Trying.{then_do, moved}
 use Rattle.interval_check.specs.Ranges.{range}
+use Rattle.interval_check.specs.declared.ranges.Range.{Range as HeldRange}
+use Rattle.interval_check.specs.RangeScopes.{ranges_in}
 use Rattle.interval_check.specs.RangeTrials.{scale_in, range_tried, kind_found, AreScaled}
 use Rattle.payoff_lang.specs.Dating.{plain}
 use Rattle.payoff_lang.specs.Code.{PayoffCode, Nothing, PayOn, Add, ScaleBy, LetBe, Loop, Cut}
-use Rattle.term_core.specs.declared.decls.Decls.{Decls}
-use Rattle.term_core.specs.declared.scope.Scope.{Scope}
-use Rattle.term_core.specs.Declarations.{declarations}
-use Rattle.interval_check.specs.RangeScopes.{ranges_in}
-use Rattle.interval_check.specs.declared.ranges.Range.{Range as HeldRange}
 use Rattle.payoff_check.specs.declared.bound_rule.Ranged.{Ranged}
 use Rattle.payoff_check.specs.declared.totals.CodeTotal.{CodeTotal}
 use Rattle.payoff_check.specs.Trials.{Steps, code_tried}

@@ -1,17 +1,16 @@
 -- The trial of the rule on scales, of code whose sorts are right: a value expression has the scale
 -- of its plain expression, and the scale of each code is at most the portfolio's decimals and nine.
 use Rattle.std.specs.Prelude.{ℕ, ◌+◌, max, nat_le, List, ◌∷◌, Result, Ok, Err, if◌then◌else◌}
-use Rattle.term_core.specs.Declarations.{Declarations}
+use Rattle.term_core.specs.declared.decls.Decls.{Decls}
+use Rattle.term_core.specs.declared.scope.Scope.{Scope}
+use Rattle.term_core.specs.Declarations.{Declarations, declarations}
 use Rattle.term_core.specs.Terms.{Expression}
 use Rattle.term_core.specs.Sizes.{nodes}
+use Rattle.term_core.specs.Scopes.{held_in}
 use Rattle.term_core.specs.Trying.{then_do, moved}
 use Rattle.scale_check.specs.ScaleTrials.{scale_tried}
 use Rattle.payoff_lang.specs.Dating.{plain}
 use Rattle.payoff_lang.specs.Code.{PayoffCode}
-use Rattle.term_core.specs.declared.decls.Decls.{Decls}
-use Rattle.term_core.specs.declared.scope.Scope.{Scope}
-use Rattle.term_core.specs.Declarations.{declarations}
-use Rattle.term_core.specs.Scopes.{held_in}
 use Rattle.payoff_check.specs.declared.scale_rule.Scaled.{Scaled}
 use Rattle.payoff_check.specs.Trials.{Steps, code_tried}
 

@@ -1,19 +1,18 @@
 -- The trial of the rule on sorts: a value expression has the sort of its plain expression, a factor
 -- has to be a number and a test a truth value. What is found of code is the number of its nodes.
 use Rattle.std.specs.Prelude.{ℕ, ◌+◌, List, ◌∷◌, Result, Ok, Err}
-use Rattle.term_core.specs.Declarations.{Declarations}
+use Rattle.term_core.specs.declared.decls.Decls.{Decls}
+use Rattle.term_core.specs.declared.scope.Scope.{Scope}
+use Rattle.term_core.specs.Declarations.{Declarations, declarations}
 use Rattle.term_core.specs.Terms.{Expression}
 use Rattle.term_core.specs.Sizes.{nodes}
+use Rattle.term_core.specs.Scopes.{held_in}
 use Rattle.term_core.specs.Trying.{then_do, moved}
 use Rattle.time_types.specs.declared.observed_sorts.Sort.{Sort}
 use Rattle.time_types.specs.declared.observed_sorts.Sort.TheVariants.{Truth, Number}
 use Rattle.time_types.specs.SortTrials.{sort_tried}
 use Rattle.payoff_lang.specs.Dating.{plain}
 use Rattle.payoff_lang.specs.Code.{PayoffCode}
-use Rattle.term_core.specs.declared.decls.Decls.{Decls}
-use Rattle.term_core.specs.declared.scope.Scope.{Scope}
-use Rattle.term_core.specs.Declarations.{declarations}
-use Rattle.term_core.specs.Scopes.{held_in}
 use Rattle.payoff_check.specs.declared.sort_rule.Sorted.{Sorted}
 use Rattle.payoff_check.specs.Trials.{Steps, code_tried}
 
