@@ -8,4 +8,5 @@ use Rattle.payoff_check.proofs.bound_rule.range_of_plain.Goals as goal
 
 pub returns-in-Ok-clause-kind : goal.returns-in-Ok-clause-kind
 returns-in-Ok-clause-kind c =
-    kind_is_found (declarations c.args.decls.now) (expression c.args.e.now) (ranges_in c.args.scope.now) (range c.in-Ok.range) (sym c.in-Ok.ensures.range)
+    kind_is_found (declarations c.args.decls.now) (expression c.args.e.now)
+    (ranges_in c.args.scope.now) (range c.in-Ok.range) (sym c.in-Ok.ensures.range)
