@@ -13,7 +13,7 @@ use Rattle.payoff_lang.specs.CodeBooks.{CodeBook}
 use Rattle.payoff_lang.specs.CodeReads.{reads_of_code}
 use Rattle.payoff_lang.specs.CodeValues.{Asked}
 use Rattle.payoff_lang.proofs.CodeAlikeFacts.{code_alike}
-use Rattle.payoff_eval.specs.CodeAnswers.{IsValueOf, aligned_value}
+use Rattle.payoff_eval.specs.CodeAnswers.{IsValueOf}
 
 pub extends_same : (one other : Environment) → HoldSame one other → Extends one other
 extends_same one other same q v e = sym (same q) ∙ e

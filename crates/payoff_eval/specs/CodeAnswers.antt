@@ -6,6 +6,7 @@ use Rattle.term_core.specs.Declarations.{Declarations}
 use Rattle.term_core.specs.declared.values.Missing.{Missing}
 use Rattle.term_core.specs.Environments.{Environment, Place, Extends}
 use Rattle.term_core.specs.Reads.{first_unfixed}
+use Rattle.interval_check.specs.Safety.{IsSmall}
 use Rattle.expr_eval.specs.Standing.{place_of}
 use Rattle.payoff_lang.specs.Code.{PayoffCode}
 use Rattle.payoff_lang.specs.CodeBooks.{CodeBook}
@@ -29,3 +30,8 @@ pub record IsCodeValue (d : Declarations) (k : PayoffCode) (xs : List ℕ) (fixi
 -- of a code file, whose base is the start of its declarations
 abbrev pub IsValueOf : CodeBook → List ℕ → Environment → Asked → Result ℤ Missing → Type 0
 IsValueOf b xs fixings a r = IsCodeValue b.declarations b.code xs fixings a (pos b.declarations.start) r
+
+-- the answer to a question: such a value, which is at most a mantissa in size
+pub record AnswersValue (b : CodeBook) (xs : List ℕ) (fixings : Environment) (a : Asked) (r : Result ℤ Missing) : Type 0 where
+  pub value : IsValueOf b xs fixings a r
+  pub small : IfOk r IsSmall

@@ -1,10 +1,13 @@
--- What may be asked of a code file: at a setting with a number for each template, what one declared party owes another in
--- a declared asset, on a day from the start on. A payment gone by counts with its face value.
+-- What may be asked of a code file whose code is closed and accepted at a setting with a number for each template: what one
+-- declared party owes another in a declared asset, on a day from the start on. A payment gone by counts with its face value.
 use Rattle.std.specs.Prelude.{ℕ, ℤ, pos, ◌<◌, ◌≤ℤ◌, ◌≡◌, List, length}
 use Rattle.term_core.specs.Declarations.{Declarations}
 use Rattle.term_core.specs.Factors.{CurveRow}
+use Rattle.payoff_lang.specs.CodeAcceptance.{IsAcceptedCode}
+use Rattle.payoff_lang.specs.CodeBooks.{CodeBook}
 use Rattle.payoff_lang.specs.CodeValues.{Asked}
 use Rattle.payoff_lang.specs.Meaning.{face_value}
+use Rattle.payoff_lang.specs.WellFormedCode.{IsClosedCode}
 
 abbrev pub asked_on : List CurveRow → ℤ → ℕ → ℕ → ℕ → Asked
 asked_on curve at from to asset =
@@ -19,3 +22,10 @@ pub record IsQuestion (d : Declarations) (a : Asked) : Type 0 where
 
 abbrev pub HasNumberForEach : Declarations → List ℕ → Type 0
 HasNumberForEach d xs = length xs ≡ length d.templates
+
+-- the code of a file can be valued at a setting: it is closed, the setting has a number for each template, and the code is
+-- accepted there
+pub record CanBeValued (b : CodeBook) (xs : List ℕ) : Type 0 where
+  pub setting : HasNumberForEach b.declarations xs
+  pub closed : IsClosedCode b.declarations b.code
+  pub accepted : IsAcceptedCode b.declarations xs b.code

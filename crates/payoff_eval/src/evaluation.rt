@@ -6,7 +6,11 @@ ghost use Rattle.std.specs.Prelude.{◌≡◌};
 ghost use Rattle.term_core.specs.Declarations.{declarations};
 ghost use Rattle.expr_eval.specs.Fits.{IsDay};
 ghost use Rattle.expr_eval.specs.Runs.{observation};
-ghost use Rattle.payoff_eval.specs.CodeEvaluations.{DayFitsOn, DaysFitOn, FitsOn, HasDates, both_on, conditional_over, dated, day_run_on, days_run_on, logic_over, run_on};
+ghost use Rattle.payoff_eval.specs.CodeEvaluations.{DayFitsOn, DaysFitOn, FitsOn, HasDates};
+ghost use Rattle.payoff_eval.specs.CodeEvaluations.{both_on};
+ghost use Rattle.payoff_eval.specs.CodeEvaluations.{conditional_over, dated, day_run_on};
+ghost use Rattle.payoff_eval.specs.CodeEvaluations.{days_run_on};
+ghost use Rattle.payoff_eval.specs.CodeEvaluations.{logic_over, run_on};
 
 use crate::asking::Asking;
 use crate::dates::day_of;
@@ -20,7 +24,8 @@ use term_core::{Kind, LogicOp, Missing};
 
 // The value of what is observed on a day.
 fn value_observed(asking: &Asking, label: u32, day: i64) -> Result<Typed, Missing>
-    ensures { result ≡ observation (declarations asking.now.decls.now) asking.now.fixings.now label day }
+    ensures { result
+        ≡ observation (declarations asking.now.decls.now) asking.now.fixings.now label day }
 {
     value_found(asking.decls, label, day, asking.fixings.get(label, day))
 }
@@ -92,7 +97,8 @@ fn evaluate_both(
     requires dates { HasDates asking.now left.now × HasDates asking.now right.now }
     requires left { FitsOn asking.now (dated asking.now left.now) names.now day }
     requires right { FitsOn asking.now (dated asking.now right.now) names.now day }
-    ensures { result ≡ both_on asking.now (dated asking.now left.now) (dated asking.now right.now) names.now day }
+    ensures { result ≡ both_on asking.now
+        (dated asking.now left.now) (dated asking.now right.now) names.now day }
 {
     let left = evaluate(asking, left, names, day)?;
     let right = evaluate(asking, right, names, day)?;
@@ -111,7 +117,8 @@ fn evaluate_logic(
 ) -> Result<Typed, Missing>
     requires dates { HasDates asking.now left.now × HasDates asking.now right.now }
     requires fits { FitsOn asking.now (logic_over asking.now op left.now right.now) names.now day }
-    ensures { result ≡ run_on asking.now (logic_over asking.now op left.now right.now) names.now day }
+    ensures { result
+        ≡ run_on asking.now (logic_over asking.now op left.now right.now) names.now day }
 {
     let left = evaluate(asking, left, names, day)?.value.is_true();
     if is_decided(op, left) {
@@ -133,8 +140,10 @@ fn evaluate_branches(
 ) -> Result<Typed, Missing>
     requires dates { HasDates asking.now test.now × HasDates asking.now yes.now
         × HasDates asking.now no.now }
-    requires fits { FitsOn asking.now (conditional_over asking.now test.now yes.now no.now) names.now day }
-    ensures { result ≡ run_on asking.now (conditional_over asking.now test.now yes.now no.now) names.now day }
+    requires fits { FitsOn asking.now
+        (conditional_over asking.now test.now yes.now no.now) names.now day }
+    ensures { result ≡ run_on asking.now
+        (conditional_over asking.now test.now yes.now no.now) names.now day }
 {
     let test = evaluate(asking, test, names, day)?;
     if test.value.is_true() {
@@ -161,7 +170,8 @@ fn evaluate_days(
     requires dates { HasDates asking.now body.now }
     requires fits { DaysFitOn asking.now (dated asking.now body.now) names.now from days start }
     requires first { IsDay from }
-    ensures { result ≡ days_run_on asking.now (dated asking.now body.now) names.now from days start }
+    ensures { result
+        ≡ days_run_on asking.now (dated asking.now body.now) names.now from days start }
 {
     let mut value = start?;
     for i in 0..days {

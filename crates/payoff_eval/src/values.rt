@@ -1,16 +1,13 @@
 //! The value of a file's code.
 
-ghost use Rattle.std.specs.Prelude.{◌≡◌, ◌≤◌, IfOk};
+ghost use Rattle.std.specs.Prelude.{◌≡◌, ◌≤◌};
 ghost use Rattle.term_core.specs.Declarations.{declarations};
 ghost use Rattle.term_core.specs.Environments.{IsAdmitted};
-ghost use Rattle.interval_check.specs.Safety.{IsSmall};
 ghost use Rattle.payoff_lang.specs.Code.{payoff_code};
 ghost use Rattle.payoff_lang.specs.CodeBooks.{code_book};
 ghost use Rattle.payoff_lang.specs.CodeSizes.{height_of_code};
-ghost use Rattle.payoff_lang.specs.CodeAcceptance.{IsAcceptedCode};
-ghost use Rattle.payoff_lang.specs.WellFormedCode.{IsClosedCode};
-ghost use Rattle.payoff_eval.specs.Questions.{HasNumberForEach, IsQuestion, asked_on};
-ghost use Rattle.payoff_eval.specs.CodeAnswers.{IsValueOf};
+ghost use Rattle.payoff_eval.specs.Questions.{CanBeValued, IsQuestion, asked_on};
+ghost use Rattle.payoff_eval.specs.CodeAnswers.{AnswersValue};
 ghost use Rattle.payoff_eval.specs.CodeRuns.{amount_in};
 
 use crate::asking::Asking;
@@ -43,14 +40,13 @@ pub fn value_layered(
     asset: u32,
     scratch: &mut ValueScratch,
 ) -> Result<i128, Missing>
-    requires setting { HasNumberForEach (declarations file.now.decls) setting.now.days.items }
-    requires formed { IsClosedCode (declarations file.now.decls) (payoff_code file.now.code) }
-    requires accepted { IsAcceptedCode (declarations file.now.decls) setting.now.days.items (payoff_code file.now.code) }
+    requires code { CanBeValued (code_book file.now) setting.now.days.items }
     requires admitted { IsAdmitted (declarations file.now.decls) fixings.now }
-    requires question { IsQuestion (declarations file.now.decls) (asked_on curve.now at from to asset) }
+    requires question { IsQuestion (declarations file.now.decls)
+        (asked_on curve.now at from to asset) }
     requires room { height_of_code (payoff_code file.now.code) ≤ scratch.old }
-    ensures value { IsValueOf (code_book file.now) setting.now.days.items fixings.now (asked_on curve.now at from to asset) result }
-    ensures small { IfOk result IsSmall }
+    ensures answer { AnswersValue (code_book file.now) setting.now.days.items fixings.now
+        (asked_on curve.now at from to asset) result }
     ensures room { scratch.new ≡ scratch.old }
 {
     curve.rises();
@@ -86,14 +82,13 @@ pub fn value(
     asset: u32,
     scratch: &mut ValueScratch,
 ) -> Result<i128, Missing>
-    requires setting { HasNumberForEach (declarations file.now.decls) setting.now.days.items }
-    requires formed { IsClosedCode (declarations file.now.decls) (payoff_code file.now.code) }
-    requires accepted { IsAcceptedCode (declarations file.now.decls) setting.now.days.items (payoff_code file.now.code) }
+    requires code { CanBeValued (code_book file.now) setting.now.days.items }
     requires admitted { IsAdmitted (declarations file.now.decls) fixings.now }
-    requires question { IsQuestion (declarations file.now.decls) (asked_on curve.now at from to asset) }
+    requires question { IsQuestion (declarations file.now.decls)
+        (asked_on curve.now at from to asset) }
     requires room { height_of_code (payoff_code file.now.code) ≤ scratch.old }
-    ensures value { IsValueOf (code_book file.now) setting.now.days.items fixings.now (asked_on curve.now at from to asset) result }
-    ensures small { IfOk result IsSmall }
+    ensures answer { AnswersValue (code_book file.now) setting.now.days.items fixings.now
+        (asked_on curve.now at from to asset) result }
     ensures room { scratch.new ≡ scratch.old }
 {
     let fixings = LayeredFixings::of(fixings);

@@ -1,6 +1,7 @@
 //! The walk over code at a base: what it is worth, or the first place that is not fixed.
 
-ghost use Rattle.std.specs.Prelude.{◌≡◌, ◌≤◌, ◌+◌, ◌*ℤ◌, ◌+ℤ◌, int_lt, true, unsigned_abs, IfOk, Ok};
+ghost use Rattle.std.specs.Prelude.{◌≡◌, ◌≤◌, ◌+◌, ◌*ℤ◌, ◌+ℤ◌, int_lt, true, unsigned_abs, IfOk};
+ghost use Rattle.std.specs.Prelude.{Ok};
 ghost use Rattle.term_core.specs.Values.{num};
 ghost use Rattle.term_core.specs.Flows.{unit_flow};
 ghost use Rattle.interval_check.specs.Safety.{IsSmall};
@@ -14,9 +15,10 @@ ghost use Rattle.payoff_eval.specs.DatesFit.{IsDayOfDate};
 ghost use Rattle.payoff_eval.specs.Walks.{then_added};
 ghost use Rattle.payoff_eval.specs.CodeRules.{IsAtMostTen};
 ghost use Rattle.payoff_eval.specs.CodeRuns.{DayFits, IsUpTo, paid};
-ghost use Rattle.payoff_eval.specs.CodeEvaluations.{EvaluatesFrom, EvaluatesOn, HasKindOn, WalksOn, answer, asked_of, first_from};
-ghost use Rattle.payoff_eval.specs.CodeEvaluations.{add_code, kind_on, let_code, loop_code};
-ghost use Rattle.payoff_eval.specs.CodeEvaluations.{scale_code, worth_on};
+ghost use Rattle.payoff_eval.specs.CodeEvaluations.{EvaluatesFrom, EvaluatesOn, HasKindOn, WalksOn};
+ghost use Rattle.payoff_eval.specs.CodeEvaluations.{add_code, answer, asked_of, first_from};
+ghost use Rattle.payoff_eval.specs.CodeEvaluations.{kind_on};
+ghost use Rattle.payoff_eval.specs.CodeEvaluations.{let_code, loop_code, scale_code, worth_on};
 
 use crate::asking::Asking;
 use crate::dates::{count, day_of};
@@ -70,7 +72,6 @@ fn unit(asking: &Asking, asset: u32, from: u32, to: u32) -> i128
 // The discount factor of a day, seen from the current day.
 fn factor(asking: &Asking, day: i64) -> i128
     requires day { IsDayOfDate day }
-    requires today { IsDay asking.now.today }
     ensures value { result ≡ factor_on (asked_of asking.now) day }
     ensures small { IsAtMostTen result }
 {
@@ -90,8 +91,8 @@ fn times(factor: i128, unit: i128) -> i128
 // A payment on a day, at nine decimals.
 fn face(asking: &Asking, day: i64, asset: u32, from: u32, to: u32) -> i128
     requires day { IsDayOfDate day }
-    requires today { IsDay asking.now.today }
-    ensures value { result ≡ factor_on (asked_of asking.now) day *ℤ unit_flow asset from to (asked_of asking.now).flow }
+    ensures value { result ≡ factor_on (asked_of asking.now) day
+        *ℤ unit_flow asset from to (asked_of asking.now).flow }
     ensures small { IsAtMostTen result }
 {
     times(factor(asking, day), unit(asking, asset, from, to))
@@ -102,7 +103,6 @@ fn pay(asking: &Asking, room: u8, day: i64, asset: u32, from: u32, to: u32) -> W
     requires low { 9 ≤ room }
     requires high { room ≤ 21 }
     requires day { IsDayOfDate day }
-    requires today { IsDay asking.now.today }
     ensures { result ≡ paid room (asked_of asking.now) day asset from to }
 {
     Worth {
@@ -142,7 +142,8 @@ fn first_day(
     requires base { IsDay base }
     requires fits { EvaluatesFrom asking.now (value_expression test.now) scratch.now.entries base }
     ensures few { IfOk result (λ first. IsUpTo first days) }
-    ensures day { result ≡ first_from asking.now (value_expression test.now) scratch.now.entries base (days + 1) }
+    ensures day { result ≡ first_from asking.now
+        (value_expression test.now) scratch.now.entries base (days + 1) }
 {
     for i in 0..days + 1 {
         let value = value_on(asking, scratch, day_on(base, i), test)?;
@@ -179,7 +180,8 @@ fn scaled(by: Value, worth: Worth) -> Worth
 // The date has gone by.
 fn is_gone(asking: &Asking, base: i64, x: &DateExpr) -> bool
     requires { DayFits asking.now.setting.now (date x.now) base }
-    ensures { result ≡ int_lt (base +ℤ day_of asking.now.setting.now (date x.now)) asking.now.today }
+    ensures { result
+        ≡ int_lt (base +ℤ day_of asking.now.setting.now (date x.now)) asking.now.today }
 {
     day_of(asking, base, x) < asking.today
 }
@@ -195,10 +197,10 @@ pub fn walk(
     room: u8,
     k: &Code,
 ) -> Result<Worth, Missing>
-    requires today { IsDay asking.now.today }
     requires fits { WalksOn asking.now room (payoff_code k.now) scratch.old.entries base }
     requires space { height_of_code (payoff_code k.now) ≤ scratch.old.spare }
-    ensures worth { result ≡ worth_on asking.now room (payoff_code k.now) scratch.old.entries base }
+    ensures worth { result
+        ≡ worth_on asking.now room (payoff_code k.now) scratch.old.entries base }
     ensures same { scratch.new ≡ scratch.old }
 {
     match k {
@@ -240,7 +242,6 @@ fn walk_payment(
     requires low { 9 ≤ room }
     requires high { room ≤ 21 }
     requires day { DayFits asking.now.setting.now (date on.now) base }
-    requires today { IsDay asking.now.today }
     ensures { result ≡ Ok (paid room (asked_of asking.now)
         (base +ℤ day_of asking.now.setting.now (date on.now)) asset from to) }
 {
@@ -258,7 +259,6 @@ fn walk_both(
     left: &Code,
     right: &Code,
 ) -> Result<Worth, Missing>
-    requires today { IsDay asking.now.today }
     requires fits { WalksOn asking.now room (add_code left.now right.now) scratch.old.entries base }
     requires space { height_of_code (add_code left.now right.now) ≤ scratch.old.spare }
     ensures worth { result
@@ -280,10 +280,10 @@ fn walk_scaled(
     by: &Vx,
     body: &Code,
 ) -> Result<Worth, Missing>
-    requires today { IsDay asking.now.today }
     requires fits { WalksOn asking.now room (scale_code by.now body.now) scratch.old.entries base }
     requires space { height_of_code (scale_code by.now body.now) ≤ scratch.old.spare }
-    ensures worth { result ≡ worth_on asking.now room (scale_code by.now body.now) scratch.old.entries base }
+    ensures worth { result
+        ≡ worth_on asking.now room (scale_code by.now body.now) scratch.old.entries base }
     ensures same { scratch.new ≡ scratch.old }
 {
     let scale = kind_of(asking, scratch, by).scale();
@@ -305,10 +305,10 @@ fn walk_bound(
     bound: &Vx,
     body: &Code,
 ) -> Result<Worth, Missing>
-    requires today { IsDay asking.now.today }
     requires fits { WalksOn asking.now room (let_code bound.now body.now) scratch.old.entries base }
     requires space { height_of_code (let_code bound.now body.now) ≤ scratch.old.spare }
-    ensures worth { result ≡ worth_on asking.now room (let_code bound.now body.now) scratch.old.entries base }
+    ensures worth { result
+        ≡ worth_on asking.now room (let_code bound.now body.now) scratch.old.entries base }
     ensures same { scratch.new ≡ scratch.old }
 {
     let kind = kind_of(asking, scratch, bound);
@@ -331,10 +331,12 @@ fn walk_loop(
     hit: &Code,
     miss: &Code,
 ) -> Result<Worth, Missing>
-    requires today { IsDay asking.now.today }
-    requires fits { WalksOn asking.now room (loop_code test.now upto.now hit.now miss.now) scratch.old.entries base }
-    requires space { height_of_code (loop_code test.now upto.now hit.now miss.now) ≤ scratch.old.spare }
-    ensures worth { result ≡ worth_on asking.now room (loop_code test.now upto.now hit.now miss.now) scratch.old.entries base }
+    requires fits { WalksOn asking.now room (loop_code test.now upto.now hit.now miss.now)
+        scratch.old.entries base }
+    requires space { height_of_code (loop_code test.now upto.now hit.now miss.now)
+        ≤ scratch.old.spare }
+    ensures worth { result ≡ worth_on asking.now room
+        (loop_code test.now upto.now hit.now miss.now) scratch.old.entries base }
     ensures same { scratch.new ≡ scratch.old }
 {
     let days = count(asking, upto);

@@ -4,11 +4,11 @@ use Rattle.payoff_lang.specs.declared.code.Vx.{Vx}
 use Rattle.payoff_lang.specs.Code.{value_expression}
 use Rattle.payoff_lang.specs.Dating.{at_setting}
 use Rattle.term_core.specs.Declarations.{declarations}
-use Rattle.term_core.specs.Terms.{Div, Acc}
+use Rattle.term_core.specs.Terms.{Cmp, Div, Acc}
 use Rattle.expr_eval.specs.Bindings.{bindings}
 use Rattle.expr_eval.specs.Runs.{run_of, both_of}
 use Rattle.expr_eval.specs.Fits.{Fits}
-use Rattle.expr_eval.specs.Operations.{DividesTo}
+use Rattle.expr_eval.specs.Operations.{Compares, DividesTo}
 use Rattle.expr_eval.proofs.Days.{days_tried-err, days_tried-stop}
 use Rattle.payoff_eval.proofs.AccFacts.{acc_is}
 use Rattle.expr_eval.proofs.Operands.{of_both}
@@ -19,6 +19,18 @@ evaluate_days-returns-in_err-value t c = grind (arith, days_tried-err)
 
 pub evaluate_days-returns-in_err-value-2 : goal.evaluate_days-returns-in_err-value-2
 evaluate_days-returns-in_err-value-2 t c = grind (arith, to_z-of_z, days_tried-stop)
+
+pub evaluate-compare-requires : goal.evaluate-compare-requires
+evaluate-compare-requires t c =
+    let d = declarations c.args.asking.now.decls.now in
+    let g = bindings c.args.names.now in
+    let env = c.args.asking.now.fixings.now in
+    let f = c.args.day in
+    let a = at_setting c.args.asking.now.setting.now (value_expression c.in-Cmp.left.value) in
+    let b = at_setting c.args.asking.now.setting.now (value_expression c.in-Cmp.right.value) in
+    let h : Fits d (Cmp c.in-Cmp.op a b) g env f = subst (λ (x : Vx). Fits d (at_setting c.args.asking.now.setting.now (value_expression x)) g env f) c.in-Cmp.is c.requires.fits in
+    let e : both_of (run_of d a g env f) (run_of d b g env f) ≡ Ok c.in_ok-both-in-Cmp.both = search rules in
+    of_both (run_of d a g env f) (run_of d b g env f) Compares c.in_ok-both-in-Cmp.both h.2 e
 
 pub evaluate-divide-requires : goal.evaluate-divide-requires
 evaluate-divide-requires t c =
