@@ -12,6 +12,7 @@ pub mod TableLawFacts
 pub mod WorthFacts
 pub mod SumFacts
 pub mod OneTotalFacts
+pub mod SurveyFacts
 pub mod LawFacts
 pub mod MeanFacts
 pub mod LineFacts

@@ -1,13 +1,27 @@
 -- The lines of a total: one for each scenario with its value, then the total, the mean, and the first scenarios of the least and
 -- of the greatest value.
-use Rattle.std.specs.Prelude.{ℕ, ℤ, List, [], ◌∷◌, ◌++◌, length, codes, Option, Some, None, slice_get}
+use Rattle.std.specs.Prelude.{◌≡◌, ◌<◌, All, ℕ, ℤ, List, [], ◌∷◌, ◌++◌, length, codes, Option, Some, None, slice_get}
 use Rattle.std.specs.List.{flat_map}
 use Rattle.decimal.specs.Text.{text_of}
 use Rattle.decimal.specs.declared.rounding.Mode.{Mode}
+use Rattle.interval_check.specs.Safety.{IsSmall}
 use Rattle.scenario_set.specs.Scenarios.{NamedMap}
 use Rattle.scenario_set.specs.Totals.{mean_of, value_at}
-use Rattle.scenario_set.specs.declared.lines.NamedValue.{NamedValue}
+use Rattle.scenario_set.specs.declared.line_parts.NamedValue.{NamedValue}
 use Rattle.scenario_set.specs.declared.outcomes.Totals.{Totals}
+
+-- a value for each scenario, which can be written
+pub record AreValuesOf (set : List NamedMap) (values : List ℤ) : Type 0 where
+  pub each : length values ≡ length set
+  pub small : All IsSmall values
+
+-- totals with a value for each scenario, which can be written
+pub record CanBeWritten (set : List NamedMap) (totals : Totals) : Type 0 where
+  pub each : length totals.values.items ≡ length set
+  pub values : All IsSmall totals.values.items
+  pub total : IsSmall totals.total
+  pub least : totals.least < length set
+  pub greatest : totals.greatest < length set
 
 -- words and a comma
 abbrev pub words_text : List ℕ → List ℕ

@@ -3,22 +3,13 @@ use Rattle.std.specs.Prelude.{All, ◌≡◌, ◌≤◌, ◌<◌, ◌*◌, ◌+�
 use Rattle.std.specs.Prelude.{ℤ, length, take, unsigned_abs, List, Some, None, Result, Ok, Err, slice_get}
 use Rattle.term_core.specs.declared.values.Missing.{Missing as Lacked}
 use Rattle.term_core.specs.Environments.{Environment}
-use Rattle.term_core.specs.Factors.{CurveRow}
-use Rattle.term_core.specs.declared.settings.Setting.{Setting}
-use Rattle.payoff_lang.specs.CodeBooks.{code_book}
-use Rattle.payoff_lang.specs.declared.code_file.CodeFile.{CodeFile}
 use Rattle.payoff_eval.specs.CodeAnswers.{IsValueOf}
-use Rattle.payoff_eval.specs.Questions.{asked_on}
 use Rattle.scenario_set.specs.Scenarios.{NamedMap, rows_held}
 use Rattle.scenario_set.specs.Totals.{Inquiry, IsFixedIn, LacksIn, lacked_in, most_worth, total_of, values_in, worth_in}
 use Rattle.scenario_set.specs.declared.scenarios.SetRow.{SetRow}
 use Rattle.scenario_set.specs.declared.sums.Summed.{Summed}
 use Rattle.scenario_set.specs.declared.outcomes.TotalsErr.{TotalsErr}
 use Rattle.scenario_set.specs.declared.outcomes.TotalsErr.TheVariants.{TooMany, Missing, NoMemory}
-
-abbrev pub inquiry_of : CodeFile → Setting → List CurveRow → ℤ → ℕ → ℕ → ℕ → Inquiry
-inquiry_of file setting curve at from to asset =
-    record { book = code_book file; setting = setting.days.items; asked = asked_on curve at from to asset }
 
 -- the value in scenario i, where each read is fixed; it is at most the code's total in size
 pub record IsWorthIn (q : Inquiry) (set : List NamedMap) (i : ℕ) (worth : ℤ) : Type 0 where

@@ -5,15 +5,19 @@ use Rattle.std.specs.Prelude.{All, ◌≡◌, ◌≤◌, ◌<◌, ◌≤ℤ◌, 
 use Rattle.std.specs.Prelude.{[], ◌∷◌, length, map, Option, Some, None, Result, Ok, Err, slice_get, slice_index_or}
 use Rattle.decimal.specs.declared.rounding.Mode.{Mode}
 use Rattle.decimal.specs.Rounding.{divided}
+use Rattle.term_core.specs.declared.settings.Setting.{Setting}
 use Rattle.term_core.specs.Environments.{Environment, Place}
+use Rattle.term_core.specs.Factors.{CurveRow}
 use Rattle.term_core.specs.Limits.{greatest_mantissa}
 use Rattle.term_core.specs.Reads.{first_unfixed}
 use Rattle.interval_check.specs.Safety.{IsSmall}
-use Rattle.payoff_lang.specs.CodeBooks.{CodeBook}
+use Rattle.payoff_lang.specs.CodeBooks.{CodeBook, code_book}
 use Rattle.payoff_lang.specs.CodeReads.{reads_of_code}
 use Rattle.payoff_lang.specs.CodeTotals.{aligned_code_total}
 use Rattle.payoff_lang.specs.CodeValues.{Asked}
+use Rattle.payoff_lang.specs.declared.code_file.CodeFile.{CodeFile}
 use Rattle.payoff_eval.specs.CodeAnswers.{aligned_value}
+use Rattle.payoff_eval.specs.Questions.{CanBeValued, IsQuestion, asked_on}
 use Rattle.scenario_set.specs.Scenarios.{NamedMap}
 use Rattle.scenario_set.specs.declared.outcomes.Totals.{Totals}
 use Rattle.scenario_set.specs.declared.outcomes.TotalsErr.{TotalsErr}
@@ -56,6 +60,15 @@ pub record Inquiry : Type 0 where
   pub book : CodeBook
   pub setting : List ℕ
   pub asked : Asked
+
+abbrev pub inquiry_of : CodeFile → Setting → List CurveRow → ℤ → ℕ → ℕ → ℕ → Inquiry
+inquiry_of file setting curve at from to asset =
+    record { book = code_book file; setting = setting.days.items; asked = asked_on curve at from to asset }
+
+-- the code can be valued at the setting, and what is asked of it is a question
+pub record CanBeAsked (q : Inquiry) : Type 0 where
+  pub code : CanBeValued q.book q.setting
+  pub question : IsQuestion q.book.declarations q.asked
 
 -- scenario i reads no place that is not fixed
 pub record IsFixedIn (q : Inquiry) (set : List NamedMap) (i : ℕ) : Type 0 where

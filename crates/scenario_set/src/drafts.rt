@@ -41,7 +41,8 @@ fn own_of(
     names: &mut IndexSet<Name>,
     scope: Scope,
 ) -> Result<Option<usize>, NoMemory>
-    ensures { IfOk result (λ own. IsNumbered names.old.keys names.new.keys (scope_seen scope.entry) own) }
+    ensures { IfOk result
+        (λ own. IsNumbered names.old.keys names.new.keys (scope_seen scope.entry) own) }
 {
     match scope {
         Scope::Each => Ok(None),
@@ -71,7 +72,8 @@ impl Draft {
         number: u32,
         saying: Saying,
     ) -> Result<Option<RowKind>, NoMemory>
-        ensures { IfOk result (λ broken. TakesTold (told_of saying.entry) number self.old self.new broken) }
+        ensures { IfOk result
+            (λ broken. TakesTold (told_of saying.entry) number self.old self.new broken) }
     {
         let own = own_of(alloc, &mut self.names, saying.scope)?;
         if let Some(row) = self.watch.clash(own, saying.place, saying.value) {

@@ -1,7 +1,8 @@
 //! Laws of tables of scenarios and of totals. Each is the contract of a function that does nothing;
 //! a caller takes it by calling it.
 
-ghost use Rattle.scenario_set.specs.LawsTables.{FaultyTablesHoldNoScenarios, ScenarioFaultsAreUnique, TablesHoldOneSet};
+ghost use Rattle.scenario_set.specs.LawsTables.{FaultyTablesHoldNoScenarios};
+ghost use Rattle.scenario_set.specs.LawsTables.{ScenarioFaultsAreUnique, TablesHoldOneSet};
 ghost use Rattle.scenario_set.specs.LawsTotals.{ScenariosAreWorth, TotalsAreOne};
 
 use payoff_lang::laws::code_values_are_fixed;

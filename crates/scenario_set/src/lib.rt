@@ -17,6 +17,7 @@
 
 mod drafts;
 pub mod laws;
+mod line_parts;
 mod lines;
 mod means;
 mod mentions;
@@ -25,6 +26,7 @@ mod records;
 mod scenarios;
 mod settling;
 mod sums;
+mod surveys;
 mod tables;
 mod watches;
 

@@ -1,6 +1,7 @@
 //! Scenarios.
 
-ghost use Rattle.std.specs.Prelude.{◌≡◌, ◌≤◌, ◌<◌, ◌^◌, length, Some, slice_get, option_map, IfOk, OnOk};
+ghost use Rattle.std.specs.Prelude.{◌≡◌, ◌≤◌, ◌<◌, ◌^◌, length, Some, slice_get, option_map, IfOk};
+ghost use Rattle.std.specs.Prelude.{OnOk};
 ghost use Rattle.fixing_files.specs.Layers.{HoldSame};
 ghost use Rattle.fixing_files.specs.Runs.{AddsUnlessHeld};
 ghost use Rattle.scenario_set.specs.Scenarios.{AddsRows, IsMapOf, rows_held};
@@ -47,7 +48,8 @@ impl Model for Scenarios {
 
 // Fixes what a row says, unless its place is fixed already.
 fn add_row(few: &mut FewFixings, row: SetRow) -> Result<(), NoMemory>
-    ensures { OnOk result (AddsUnlessHeld few.old few.new (record { label = row.label; day = row.day }) row.value) }
+    ensures { OnOk result (AddsUnlessHeld few.old few.new
+        (record { label = row.label; day = row.day }) row.value) }
 {
     let place = Place {
         label: row.label,

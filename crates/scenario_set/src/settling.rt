@@ -1,7 +1,8 @@
 //! The scenarios of a table that breaks no rule.
 
 ghost use Rattle.std.specs.Prelude.{◌≡◌, ◌≤◌, ◌<◌, ◌^◌, ℕ, [], length, IfOk, OnOk};
-ghost use Rattle.scenario_set.specs.Settling.{AreUnfilled, AreWithin, Fills, IsWithin, PutsRow, Settles, names_of, row_at, rows_at};
+ghost use Rattle.scenario_set.specs.Settling.{AreUnfilled, AreWithin, Fills, IsWithin, PutsRow};
+ghost use Rattle.scenario_set.specs.Settling.{Settles, names_of, row_at, rows_at};
 
 use crate::drafts::Draft;
 use crate::mentions::Mention;
@@ -46,7 +47,8 @@ fn put(
     row: SetRow,
 ) -> Result<(), NoMemory>
     requires { IsWithin group (length each.old.items) }
-    ensures { OnOk result (PutsRow common.old.items each.old.items common.new.items each.new.items group row) }
+    ensures { OnOk result (PutsRow common.old.items each.old.items
+        common.new.items each.new.items group row) }
 {
     match group {
         Group::All => {}

@@ -1,21 +1,20 @@
 //! What code is worth in each scenario of a set, and the total.
 
-ghost use Rattle.std.specs.Prelude.{◌≡◌, ◌≤◌, ◌<◌, ◌≤ℤ◌, ◌+ℤ◌, ◌*ℤ◌, ◌++◌, ◌^◌, [], length, pos, int_lt, IfOk, OnOk};
+ghost use Rattle.std.specs.Prelude.{◌≡◌, ◌<◌, ◌≤ℤ◌, ◌+ℤ◌, ◌*ℤ◌, ◌++◌, ◌^◌, length, pos, int_lt};
+ghost use Rattle.std.specs.Prelude.{IfOk, OnOk};
 ghost use Rattle.term_core.specs.Declarations.{declarations};
-ghost use Rattle.term_core.specs.Environments.{IsAdmitted};
 ghost use Rattle.interval_check.specs.Safety.{IsSmall};
-ghost use Rattle.payoff_lang.specs.Code.{payoff_code};
-ghost use Rattle.payoff_lang.specs.CodeSizes.{height_of_code};
-ghost use Rattle.payoff_lang.specs.CodeAcceptance.{IsAcceptedCode};
-ghost use Rattle.payoff_lang.specs.CodeTotals.{aligned_code_total};
-ghost use Rattle.payoff_lang.specs.WellFormedCode.{IsClosedCode};
-ghost use Rattle.payoff_eval.specs.Questions.{HasNumberForEach, IsQuestion, asked_on};
-ghost use Rattle.scenario_set.specs.Scenarios.{AreAdmitted, maps_of, rows_held};
-ghost use Rattle.scenario_set.specs.Totals.{AnswersTotals, AreFew, AreSmallTotals, IsFirstGreatest, IsFirstLeast};
-ghost use Rattle.scenario_set.specs.TotalSteps.{AnswersIn, AnswersOver, AnswersSum, TakesValue, inquiry_of, told_in};
+ghost use Rattle.scenario_set.specs.Scenarios.{AreAdmitted, rows_held};
+ghost use Rattle.scenario_set.specs.Surveys.{CanBeAskedOver, CanBeSurveyed, HasRoomFor, asked_in};
+ghost use Rattle.scenario_set.specs.Surveys.{inquiry, scenarios_in};
+ghost use Rattle.scenario_set.specs.Totals.{AnswersTotals, AreSmallTotals, CanBeAsked};
+ghost use Rattle.scenario_set.specs.Totals.{IsFirstGreatest, IsFirstLeast, inquiry_of, most_worth};
+ghost use Rattle.scenario_set.specs.TotalSteps.{AnswersIn, AnswersOver, AnswersSum, TakesValue};
+ghost use Rattle.scenario_set.specs.TotalSteps.{told_in};
 
 use crate::outcomes::{Totals, TotalsErr};
-use crate::scenarios::{Scenario, Scenarios, SetRow, fixed_by, held_by};
+use crate::scenarios::{Scenarios, SetRow, fixed_by, held_by};
+use crate::surveys::{Asking, Survey};
 use decimal::NoMemory;
 use fixing_files::{Curve, Fixings, LayeredFixings};
 use payoff_eval::{ValueScratch, value_layered, value_scratch};
@@ -85,61 +84,47 @@ fn told(scenario: u32, found: Result<i128, Missing>) -> Result<i128, TotalsErr>
 // What the code is worth where rows are laid over what holds in all scenarios.
 fn value_over(
     alloc: Global,
-    file: &CodeFile,
-    setting: &Setting,
+    asking: &Asking,
     own: &[SetRow],
     common: &Fixings,
-    curve: &Curve,
-    at: i64,
-    from: u32,
-    to: u32,
-    asset: u32,
     scratch: &mut ValueScratch,
 ) -> Result<Result<i128, Missing>, NoMemory>
-    requires setting { HasNumberForEach (declarations file.now.decls) setting.now.days.items }
-    requires formed { IsClosedCode (declarations file.now.decls) (payoff_code file.now.code) }
-    requires accepted { IsAcceptedCode (declarations file.now.decls) setting.now.days.items (payoff_code file.now.code) }
-    requires admitted { IsAdmitted (declarations file.now.decls) (rows_held own.now ++ common.now) }
-    requires question { IsQuestion (declarations file.now.decls) (asked_on curve.now at from to asset) }
-    requires room { height_of_code (payoff_code file.now.code) ≤ scratch.old }
-    ensures found { IfOk result (AnswersOver (inquiry_of file.now setting.now curve.now at from to asset) own.now common.now) }
+    requires over { CanBeAskedOver (inquiry asking.now) (rows_held own.now ++ common.now) }
+    requires room { HasRoomFor (inquiry asking.now) scratch.old }
+    ensures found { IfOk result (AnswersOver (inquiry asking.now) own.now common.now) }
     ensures room { scratch.new ≡ scratch.old }
 {
     let few = held_by(alloc, own)?;
     let fixings = LayeredFixings::over(&few, common);
-    Ok(value_layered(file, setting, &fixings, curve, at, from, to, asset, scratch))
+    Ok(value_layered(
+        asking.file,
+        asking.setting,
+        &fixings,
+        asking.curve,
+        asking.at,
+        asking.from,
+        asking.to,
+        asking.asset,
+        scratch,
+    ))
 }
 
 // What the code is worth in a scenario.
 fn value_in(
     alloc: Global,
-    file: &CodeFile,
-    setting: &Setting,
-    common: &Fixings,
-    each: &[Scenario],
+    survey: &Survey,
     i: u32,
-    curve: &Curve,
-    at: i64,
-    from: u32,
-    to: u32,
-    asset: u32,
     scratch: &mut ValueScratch,
 ) -> Result<i128, TotalsErr>
-    requires setting { HasNumberForEach (declarations file.now.decls) setting.now.days.items }
-    requires formed { IsClosedCode (declarations file.now.decls) (payoff_code file.now.code) }
-    requires accepted { IsAcceptedCode (declarations file.now.decls) setting.now.days.items (payoff_code file.now.code) }
-    requires admitted { AreAdmitted (declarations file.now.decls) (maps_of common.now each.now) }
-    requires question { IsQuestion (declarations file.now.decls) (asked_on curve.now at from to asset) }
-    requires room { height_of_code (payoff_code file.now.code) ≤ scratch.old }
-    requires scenario { i < length each.now }
-    ensures worth { AnswersIn (inquiry_of file.now setting.now curve.now at from to asset) (maps_of common.now each.now) i result }
+    requires survey { CanBeSurveyed (asked_in survey.now) (scenarios_in survey.now) }
+    requires scenario { i < length survey.now.each.now }
+    requires room { HasRoomFor (asked_in survey.now) scratch.old }
+    ensures worth { AnswersIn (asked_in survey.now) (scenarios_in survey.now) i result }
     ensures room { scratch.new ≡ scratch.old }
 {
-    curve.rises();
-    let own = &each[i as usize].own;
-    let Ok(found) = value_over(
-        alloc, file, setting, own, common, curve, at, from, to, asset, scratch,
-    ) else {
+    survey.asking.curve.rises();
+    let own = &survey.each[i as usize].own;
+    let Ok(found) = value_over(alloc, survey.asking, own, survey.common, scratch) else {
         return Err(TotalsErr::NoMemory);
     };
     told(i, found)
@@ -165,50 +150,20 @@ impl Summed {
 }
 
 // The values in all scenarios, and their total.
-fn sum(
-    alloc: Global,
-    file: &CodeFile,
-    setting: &Setting,
-    common: &Fixings,
-    each: &[Scenario],
-    curve: &Curve,
-    at: i64,
-    from: u32,
-    to: u32,
-    asset: u32,
-) -> Result<Summed, TotalsErr>
-    requires setting { HasNumberForEach (declarations file.now.decls) setting.now.days.items }
-    requires formed { IsClosedCode (declarations file.now.decls) (payoff_code file.now.code) }
-    requires accepted { IsAcceptedCode (declarations file.now.decls) setting.now.days.items (payoff_code file.now.code) }
-    requires admitted { AreAdmitted (declarations file.now.decls) (maps_of common.now each.now) }
-    requires question { IsQuestion (declarations file.now.decls) (asked_on curve.now at from to asset) }
-    requires few { AreFew (inquiry_of file.now setting.now curve.now at from to asset) (maps_of common.now each.now) }
-    requires numbered { length each.now < 2 ^ 32 }
-    ensures { AnswersSum (inquiry_of file.now setting.now curve.now at from to asset) (maps_of common.now each.now) result }
+fn sum(alloc: Global, survey: &Survey) -> Result<Summed, TotalsErr>
+    requires { CanBeSurveyed (asked_in survey.now) (scenarios_in survey.now) }
+    ensures { AnswersSum (asked_in survey.now) (scenarios_in survey.now) result }
 {
-    let Ok(mut scratch) = value_scratch(alloc, file) else {
+    let Ok(mut scratch) = value_scratch(alloc, survey.asking.file) else {
         return Err(TotalsErr::NoMemory);
     };
     let mut summed = Summed {
         values: Vec::new(alloc),
         total: 0,
     };
-    let count = each.len() as u32;
+    let count = survey.each.len() as u32;
     for i in 0..count {
-        let found = value_in(
-            alloc,
-            file,
-            setting,
-            common,
-            each,
-            i,
-            curve,
-            at,
-            from,
-            to,
-            asset,
-            &mut scratch,
-        );
+        let found = value_in(alloc, survey, i, &mut scratch);
         match found {
             Ok(worth) => {
                 let Ok(()) = summed.take(worth) else {
@@ -221,33 +176,13 @@ fn sum(
     Ok(summed)
 }
 
-// The totals of scenarios that are not too many.
-fn totals_of(
-    alloc: Global,
-    file: &CodeFile,
-    setting: &Setting,
-    common: &Fixings,
-    each: &[Scenario],
-    curve: &Curve,
-    at: i64,
-    from: u32,
-    to: u32,
-    asset: u32,
-) -> Result<Totals, TotalsErr>
-    requires setting { HasNumberForEach (declarations file.now.decls) setting.now.days.items }
-    requires formed { IsClosedCode (declarations file.now.decls) (payoff_code file.now.code) }
-    requires accepted { IsAcceptedCode (declarations file.now.decls) setting.now.days.items (payoff_code file.now.code) }
-    requires admitted { AreAdmitted (declarations file.now.decls) (maps_of common.now each.now) }
-    requires question { IsQuestion (declarations file.now.decls) (asked_on curve.now at from to asset) }
-    requires few { AreFew (inquiry_of file.now setting.now curve.now at from to asset) (maps_of common.now each.now) }
-    requires some { 1 ≤ length each.now }
-    requires numbered { length each.now < 2 ^ 32 }
-    ensures answer { AnswersTotals (inquiry_of file.now setting.now curve.now at from to asset) (maps_of common.now each.now) result }
+// The totals of scenarios that are laid out.
+fn totals_of(alloc: Global, survey: &Survey) -> Result<Totals, TotalsErr>
+    requires { CanBeSurveyed (asked_in survey.now) (scenarios_in survey.now) }
+    ensures answer { AnswersTotals (asked_in survey.now) (scenarios_in survey.now) result }
     ensures small { IfOk result AreSmallTotals }
 {
-    let Summed { values, total } = sum(
-        alloc, file, setting, common, each, curve, at, from, to, asset,
-    )?;
+    let Summed { values, total } = sum(alloc, survey)?;
     let least = first_least(&values);
     let greatest = first_greatest(&values);
     Ok(Totals {
@@ -256,6 +191,24 @@ fn totals_of(
         least,
         greatest,
     })
+}
+
+// The totals of scenarios that are not too many.
+fn totals_in(alloc: Global, asking: &Asking, set: &Scenarios) -> Result<Totals, TotalsErr>
+    requires { CanBeSurveyed (inquiry asking.now) set.now }
+    ensures answer { AnswersTotals (inquiry asking.now) set.now result }
+    ensures small { IfOk result AreSmallTotals }
+{
+    let Ok(common) = fixed_by(alloc, &set.common) else {
+        return Err(TotalsErr::NoMemory);
+    };
+    code_values_are_fixed();
+    let survey = Survey {
+        asking,
+        common: &common,
+        each: &set.each,
+    };
+    totals_of(alloc, &survey)
 }
 
 /// What a file's code, which is accepted at the setting, is worth in each scenario of a set, as
@@ -277,24 +230,27 @@ pub fn totals(
     to: u32,
     asset: u32,
 ) -> Result<Totals, TotalsErr>
-    requires setting { HasNumberForEach (declarations file.now.decls) setting.now.days.items }
-    requires formed { IsClosedCode (declarations file.now.decls) (payoff_code file.now.code) }
-    requires accepted { IsAcceptedCode (declarations file.now.decls) setting.now.days.items (payoff_code file.now.code) }
-    requires bound { bound ≡ pos (aligned_code_total (declarations file.now.decls) (payoff_code file.now.code) []) }
+    requires inquiry { CanBeAsked
+        (inquiry_of file.now setting.now curve.now at from to asset) }
+    requires bound { bound
+        ≡ pos (most_worth (inquiry_of file.now setting.now curve.now at from to asset)) }
     requires admitted { AreAdmitted (declarations file.now.decls) set.now }
-    requires question { IsQuestion (declarations file.now.decls) (asked_on curve.now at from to asset) }
-    ensures answer { AnswersTotals (inquiry_of file.now setting.now curve.now at from to asset) set.now result }
+    ensures answer { AnswersTotals (inquiry_of file.now setting.now curve.now at from to asset)
+        set.now result }
     ensures small { IfOk result AreSmallTotals }
 {
     let count = set.count();
     if is_too_many(count, bound) {
         return Err(TotalsErr::TooMany { count });
     }
-    let Ok(common) = fixed_by(alloc, &set.common) else {
-        return Err(TotalsErr::NoMemory);
+    let asking = Asking {
+        file,
+        setting,
+        curve,
+        at,
+        from,
+        to,
+        asset,
     };
-    code_values_are_fixed();
-    totals_of(
-        alloc, file, setting, &common, &set.each, curve, at, from, to, asset,
-    )
+    totals_in(alloc, &asking, set)
 }

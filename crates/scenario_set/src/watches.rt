@@ -2,7 +2,8 @@
 
 ghost use Rattle.std.specs.Prelude.{◌≡◌, OnOk};
 ghost use Rattle.fixing_files.specs.Steps.{place_of};
-ghost use Rattle.scenario_set.specs.Watches.{Adds, IsUnseen, TakesMention, clash_in, earlier, group_of, spot_of, told_at};
+ghost use Rattle.scenario_set.specs.Watches.{Adds, IsUnseen, TakesMention, clash_in, earlier};
+ghost use Rattle.scenario_set.specs.Watches.{group_of, spot_of, told_at};
 
 use crate::mentions::Mention;
 use decimal::NoMemory;
