@@ -5,6 +5,7 @@ use Rattle.std.proofs.lemmas.List.{length-map}
 use Rattle.std.proofs.lemmas.Option.{slice_get_within}
 use Rattle.decimal.specs.declared.rounding.Mode.{Mode}
 use Rattle.scenario_set.specs.Scenarios.{NamedMap}
+use Rattle.scenario_set.specs.TotalLines.{CanBeWritten}
 use Rattle.scenario_set.specs.Totals.{AnswersTotals, Inquiry}
 use Rattle.scenario_set.specs.declared.outcomes.Totals.{Totals}
 use Rattle.scenario_set.specs.declared.outcomes.TotalsErr.{TotalsErr}
@@ -12,7 +13,7 @@ use Rattle.scenario_set.specs.declared.outcomes.TotalsErr.TheVariants.{TooMany, 
 use Rattle.report.specs.declared.fault_lines.Fault.{Fault}
 use Rattle.report.specs.declared.fault_lines.Fault.TheVariants as fault
 use Rattle.command_answers.specs.Course.{Stops}
-use Rattle.command_answers.specs.ScenarioParts.{AnswersTotalsOf, AreTotalsFound, CanBeWritten, HaveNoTotal, IsStopOfTotals, LacksInOne}
+use Rattle.command_answers.specs.ScenarioParts.{AnswersTotalsOf, AreTotalsFound, HaveNoTotal, IsStopOfTotals, LacksInOne}
 use Rattle.command_answers.specs.ScenariosCourse.{total_told}
 use Rattle.command_answers.specs.declared.stop.Stop.{Stop}
 

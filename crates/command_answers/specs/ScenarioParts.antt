@@ -1,10 +1,8 @@
 -- What the parts of `scenarios` answer behind accepted code, each that of its own or the fault that stops the command.
 use Rattle.std.specs.Prelude.{◌≡◌, ◌⊎◌, ◌<◌, ℕ, List, Result, length}
-use Rattle.std.specs.List.{All}
 use Rattle.decimal.specs.declared.rounding.Mode.{Mode}
 use Rattle.term_core.specs.Declarations.{Declarations}
 use Rattle.term_core.specs.Factors.{CurveRow}
-use Rattle.interval_check.specs.Safety.{IsSmall}
 use Rattle.fixing_files.specs.Tables.{table_of}
 use Rattle.scenario_set.specs.LawsTotals.{at_setting}
 use Rattle.scenario_set.specs.Scenarios.{AreAdmitted, NamedMap}
@@ -65,16 +63,6 @@ HaveNoTotal q set f = IsTooMany q set f ⊎ IsMissingIn q set f
 
 abbrev pub AnswersTotalsOf : SetInquiry → List NamedMap → Result Totals Stop → Type 0
 AnswersTotalsOf q set r = AnswersBy (AreTotalsFound q set) (HaveNoTotal q set) r
-
--- ---- the lines
-
--- totals with a value for each scenario, which can be written
-pub record CanBeWritten (set : List NamedMap) (totals : Totals) : Type 0 where
-  pub each : length totals.values.items ≡ length set
-  pub values : All IsSmall totals.values.items
-  pub total : IsSmall totals.total
-  pub least : totals.least < length set
-  pub greatest : totals.greatest < length set
 
 -- ---- what is left of the course of `scenarios`
 

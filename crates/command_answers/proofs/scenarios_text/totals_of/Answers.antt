@@ -5,8 +5,7 @@ use Rattle.std.proofs.lemmas.Int.{to_z-of_z}
 use Rattle.term_core.specs.Declarations.{declarations}
 use Rattle.payoff_lang.specs.CodeBooks.{code_book}
 use Rattle.payoff_eval.specs.Questions.{IsQuestion, asked_on}
-use Rattle.scenario_set.specs.Totals.{AnswersTotals, AreTotals, Inquiry}
-use Rattle.scenario_set.specs.TotalSteps.{inquiry_of as asked_of}
+use Rattle.scenario_set.specs.Totals.{AnswersTotals, AreTotals, Inquiry, inquiry_of as asked_of}
 use Rattle.command_answers.specs.ScenarioParts.{by_factors}
 use Rattle.command_answers.specs.ValueParts.{flow_of, inquiry_of}
 use Rattle.command_answers.specs.ValuePromise.{question}
@@ -20,14 +19,17 @@ totals-requires-clause-bound c =
     let most = c.args.asking.now.most in
     to_z-of_z w128 most (most_fits b c.args.asking.now.setting.days.items most (record { accepted = c.requires.asks.accepted; is_most = c.requires.most })) ∙ c.requires.most
 
-pub totals-requires-clause-question : goal.totals-requires-clause-question
-totals-requires-clause-question c =
+pub totals-requires-clause-inquiry : goal.totals-requires-clause-inquiry
+totals-requires-clause-inquiry c =
     let d = declarations c.args.file.now.decls in
     let p = c.args.asking.now.parties in
     let day = c.args.asking.now.day in
     let curve = c.args.curve.now in
     let h = c.requires.asks.is_question curve in
-    subst (λ (t : ℤ). IsQuestion d (asked_on curve t p.from p.to p.asset)) (sym (day_fits d (question day curve (flow_of p)) h)) h
+    record {
+      code = record { setting = c.requires.asks.setting; closed = c.requires.readable.closed; accepted = c.requires.asks.accepted };
+      question = subst (λ (t : ℤ). IsQuestion d (asked_on curve t p.from p.to p.asset)) (sym (day_fits d (question day curve (flow_of p)) h)) h;
+    }
 
 pub returns-in-Ok : goal.returns-in-Ok
 returns-in-Ok c =

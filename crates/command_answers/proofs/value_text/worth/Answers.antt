@@ -11,6 +11,10 @@ use Rattle.command_answers.proofs.DayFacts.{fits_day}
 use Rattle.command_answers.proofs.ValueParts.{without_value}
 use Rattle.command_answers.proofs.value_text.worth.Goals as goal
 
+pub value-requires-clause-code : goal.value-requires-clause-code
+value-requires-clause-code c =
+    record { setting = c.requires.asks.setting; closed = c.requires.readable.closed; accepted = c.requires.asks.accepted }
+
 pub value-requires-clause-question : goal.value-requires-clause-question
 value-requires-clause-question c =
     let d = declarations c.args.file.now.decls in
@@ -31,6 +35,6 @@ returns c =
     let fixings = c.args.fixings.now in
     let h = c.requires.asks.is_question curve in
     let same : to_z w64 (of_z w64 day) ≡ day = to_z-of_z w64 day (fits_day day (let low = h.begun in omega (arith, ints)) h.near) in
-    let told : Some (place_of c.in-Err.missing) ≡ missing_of_code d (payoff_code c.args.file.now.code) c.args.asking.now.setting.days.items fixings (asked_on curve (to_z w64 (of_z w64 day)) p.from p.to p.asset) = c.in-Err.ensures.value.missing in
+    let told : Some (place_of c.in-Err.missing) ≡ missing_of_code d (payoff_code c.args.file.now.code) c.args.asking.now.setting.days.items fixings (asked_on curve (to_z w64 (of_z w64 day)) p.from p.to p.asset) = c.in-Err.ensures.answer.value.missing in
     let here = subst (λ (t : ℤ). Some (place_of c.in-Err.missing) ≡ missing_of_code d (payoff_code c.args.file.now.code) c.args.asking.now.setting.days.items fixings (asked_on curve t p.from p.to p.asset)) same told in
     without_value q fixings curve c.in-Err.missing.label c.in-Err.missing.day c.stop_of_missing.result (sym here) c.stop_of_missing.ensures
