@@ -1,4 +1,3 @@
-pub mod SumFacts
 pub mod RenamingFacts
 pub mod RenamedFlows
 pub mod RenamedReads
@@ -12,6 +11,7 @@ pub mod TurnFacts
 pub mod QueueFacts
 pub mod StartFacts
 pub mod TableSums
+pub mod NetFacts
 pub mod WholeFacts
 pub mod OneFacts
 pub mod TurnTests

@@ -26,7 +26,7 @@ use Rattle.exposure.specs.Positions.{IsPosition, account_of, brings, brought, is
 use Rattle.exposure.specs.Settlement.{Settles, account}
 use Rattle.exposure.specs.LawsTables.{AreDuring, IsDuring, ManyTablesAddUp, PositionsAreWithin, PositionsStandInTime, SettledAreWithin, SettledStandInTime, TablesAddUp}
 use Rattle.exposure.proofs.FilterFacts.{on_itself}
-use Rattle.exposure.proofs.SumFacts.{sum_none}
+use Rattle.report.proofs.ListSums.{sum_none}
 use Rattle.exposure.proofs.TurnFacts.{counted_in, paid_within}
 use Rattle.exposure.proofs.StartFacts.{position_size}
 

@@ -8,7 +8,7 @@ use Rattle.std.proofs.lemmas.Bool.{cases_lt, eq-eqb, eqb-true}
 use Rattle.std.proofs.lemmas.List.Elements.{All-nil, All-cons, All-contains}
 use Rattle.std.proofs.lemmas.List.Sums.{sum_by-cons}
 use Rattle.flow_eval.specs.declared.flow_table.FlowRow.{FlowRow}
-use Rattle.exposure.specs.Sums.{sum_over}
+use Rattle.report.specs.Sums.{sum_over}
 use Rattle.exposure.specs.Positions.{brings}
 use Rattle.exposure.specs.Settlement.{IsTurn, PayInTurn, IsPayment, due_after}
 use Rattle.exposure.proofs.RenamingFacts.{member, member_cases, by_member}

@@ -9,7 +9,7 @@ use Rattle.std.proofs.lemmas.List.Elements.{All-nil, All-cons}
 use Rattle.flow_eval.specs.declared.flow_table.FlowRow.{FlowRow}
 use Rattle.exposure.specs.Positions.{brings, brought, is_on, position_in}
 use Rattle.exposure.specs.Settlement.{IsFirstOwed, IsFirstOwing, PayInTurn, account, due_after}
-use Rattle.exposure.proofs.SumFacts.{sum_none}
+use Rattle.report.proofs.ListSums.{sum_none}
 use Rattle.exposure.proofs.TurnFacts.{not_same, other_part}
 
 -- what is due to the parties, in their order, and nothing to all others

@@ -15,7 +15,7 @@ use Rattle.flow_eval.specs.declared.flow_table.FlowRow.{FlowRow}
 use Rattle.flow_eval.specs.declared.flow_table.FlowTable.{FlowTable}
 use Rattle.report.specs.FlowLines.{HaveLines, IsWholeInAsset}
 use Rattle.exposure.specs.declared.accounts.Account.{Account}
-use Rattle.exposure.specs.Sums.{sum_over}
+use Rattle.report.specs.Sums.{sum_over}
 use Rattle.exposure.specs.Positions.{IsPosition, account_of, brings, brought, is_on, position, position_in}
 use Rattle.exposure.specs.Settlement.{IsTurn, PayInTurn, account, due_after}
 use Rattle.exposure.specs.LawsTables.{AreWholeInAssets, PositionsAreWhole, SettledAreWhole}

@@ -1,6 +1,6 @@
 -- Flow tables of accepted contracts can be taken together: their amounts add up to little enough; and what comes of tables
 -- stands on their days, is no more than they add up to, and has amounts that a line can say where theirs have.
-use Rattle.std.specs.Prelude.{◌≤◌, ◌≤ℤ◌, ◌*◌, ◌^◌, ℤ, [], List, length, unsigned_abs}
+use Rattle.std.specs.Prelude.{◌≡◌, ◌≤◌, ◌≤ℤ◌, ◌*◌, ◌^◌, ℤ, [], ◌∷◌, List, length, unsigned_abs}
 use Rattle.std.specs.List.{All}
 use Rattle.term_core.specs.Declarations.{Declarations}
 use Rattle.term_core.specs.Terms.{Contract}
@@ -12,8 +12,10 @@ use Rattle.flow_eval.specs.Tables.{IsTable, paid_by}
 use Rattle.flow_eval.specs.declared.flow_table.FlowRow.{FlowRow}
 use Rattle.flow_eval.specs.declared.flow_table.FlowTable.{FlowTable}
 use Rattle.report.specs.FlowLines.{HaveLines, IsWholeInAsset}
+use Rattle.report.specs.RunningSums.{AreNetOf}
+use Rattle.exposure.specs.declared.accounts.Account.{Account}
 use Rattle.exposure.specs.declared.accounts.PositionRow.{PositionRow}
-use Rattle.exposure.specs.Positions.{ArePositions, sizes_in, sizes_of}
+use Rattle.exposure.specs.Positions.{ArePositions, position, sizes_in, sizes_of}
 use Rattle.exposure.specs.Settlement.{ArePaidInTurn, Settles}
 
 -- the amounts of a table, over all its days, parties and assets, add up to at most the contract's total
@@ -74,3 +76,15 @@ abbrev pub SettledAreWhole : Type 0
 SettledAreWhole =
     (d : Declarations) (tables : List FlowTable) (rows : List FlowRow)
     → AreWholeInAssets d tables → ArePaidInTurn tables rows → HaveLines d rows
+
+-- the net of tables leaves each account where the tables do
+abbrev pub NetsLeavePositions : Type 0
+NetsLeavePositions =
+    (tables : List FlowTable) (net : FlowTable) (x : Account)
+    → AreNetOf tables net.rows.items → position (net ∷ []) x ≡ position tables x
+
+-- and its amounts add up to no more
+abbrev pub NetsAddUpToNoMore : Type 0
+NetsAddUpToNoMore =
+    (tables : List FlowTable) (net : FlowTable)
+    → AreNetOf tables net.rows.items → sizes_of (net ∷ []) ≤ sizes_of tables

@@ -1,4 +1,3 @@
-pub mod Sums
 pub mod LiteralLists
 pub mod Renaming
 pub mod Positions

@@ -19,7 +19,7 @@ use Rattle.term_core.specs.Redexes.{IsReduced}
 use Rattle.term_core.specs.Residuals.{Carries}
 use Rattle.term_core.specs.WellFormed.{IsWellFormedContract, HasOnlyNumbers}
 use Rattle.exposure.specs.LiteralLists.{AllLiteralsAreListed, literals_in}
-use Rattle.exposure.specs.Sums.{sum_over}
+use Rattle.report.specs.Sums.{sum_over}
 
 -- new in the place of old, and every other party as it is
 abbrev pub renamed_party : ℕ → ℕ → ℕ → ℕ

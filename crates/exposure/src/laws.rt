@@ -5,9 +5,11 @@ ghost use Rattle.exposure.specs.Renaming.{AcceptanceStays, AmountsAreRenamed, Ea
 ghost use Rattle.exposure.specs.Renaming.{FlowsAreRenamed, FormStays, LiteralsStay, ReadsAreKept};
 ghost use Rattle.exposure.specs.Renaming.{RedexesAreKept, ResidualsAreRenamed, SizesAreKept};
 ghost use Rattle.exposure.specs.LawsAnswers.{PositionsAreOne, SettlementsAreOne};
-ghost use Rattle.exposure.specs.LawsTables.{ManyTablesAddUp, PositionsAreWhole, PositionsAreWithin};
-ghost use Rattle.exposure.specs.LawsTables.{PositionsStandInTime, SettledAreWhole};
-ghost use Rattle.exposure.specs.LawsTables.{SettledAreWithin, SettledStandInTime, TablesAddUp};
+ghost use Rattle.exposure.specs.LawsTables.{ManyTablesAddUp, NetsAddUpToNoMore};
+ghost use Rattle.exposure.specs.LawsTables.{NetsLeavePositions, PositionsAreWhole};
+ghost use Rattle.exposure.specs.LawsTables.{PositionsAreWithin, PositionsStandInTime};
+ghost use Rattle.exposure.specs.LawsTables.{SettledAreWhole, SettledAreWithin};
+ghost use Rattle.exposure.specs.LawsTables.{SettledStandInTime, TablesAddUp};
 
 /// A renamed contract is accepted exactly where the contract is, with the same facts; it reads
 /// nothing more, has the same literals, and no redex comes or goes.
@@ -33,6 +35,12 @@ pub fn renamed_contracts_pay_as_renamed()
 pub fn accepted_tables_add_up()
     ensures one { TablesAddUp }
     ensures many { ManyTablesAddUp }
+{}
+
+/// The net of flow tables can stand for them: it leaves each account where they do.
+pub fn nets_leave_positions()
+    ensures positions { NetsLeavePositions }
+    ensures sizes { NetsAddUpToNoMore }
 {}
 
 /// Positions, and payments that settle them, stand on the days of the tables, and none is more than

@@ -26,8 +26,8 @@ mod settlement;
 
 pub use accounts::{PositionRow, Positions};
 pub use laws::{
-    accepted_tables_add_up, one_settlement, renamed_contracts_pay_as_renamed, renaming_keeps_rules,
-    settlement_keeps_within_tables,
+    accepted_tables_add_up, nets_leave_positions, one_settlement, renamed_contracts_pay_as_renamed,
+    renaming_keeps_rules, settlement_keeps_within_tables,
 };
 pub use position_lines::position_line;
 pub use positioning::positions;

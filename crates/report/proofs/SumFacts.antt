@@ -1,6 +1,5 @@
 -- The payments of flow tables can be netted, and come at each slot to what the tables are those of.
 use Rattle.std.proofs.Common.{◌≡◌, ℕ, ◌*◌, ◌^◌, ◌≤◌, ◌<◌, ℤ, pos, neg_ℤ, ◌+ℤ◌, ◌≤ℤ◌, ◌<ℤ◌, min, max, nat_lt, Bool, true, false, if◌then◌else◌, inl, inr, ◌⊎◌, map, List, [], ◌∷◌, length, refl, ap, sym, ◌∙◌, subst, arith, unsigned_abs}
-use Rattle.std.specs.Prelude.{IfOk, Result, Ok, Err}
 use Rattle.std.proofs.Math.IntN.{neg_ℤ-neg_ℤ}
 use Rattle.std.specs.List.{All, Contains, sum_by}
 use Rattle.std.proofs.lemmas.Int.{ints}
@@ -8,23 +7,21 @@ use Rattle.std.proofs.lemmas.Bool.{cases_lt}
 use Rattle.std.proofs.lemmas.Bool.Decides.{nat_tests}
 use Rattle.std.proofs.lemmas.List.Elements.{All-append, All-nil, All-cons, All-head, All-map, All-tail, All-weaker, All-contains, Contains-append_left, Contains-append_right, Contains-push}
 use Rattle.std.proofs.lemmas.List.Sums.{sum_by-append, sum_by-cons}
-use Rattle.std.proofs.lemmas.List.Sorted.{All-permutation}
 use Rattle.term_core.specs.Flows.{Flow}
 use Rattle.term_core.specs.LawsFlows.{reversed}
-use Rattle.flow_eval.specs.Netting.{AreDue, CanBeNetted, Nets, same_slot, size_at}
-use Rattle.flow_eval.specs.Tables.{AreOrdered, IsDueRow, IsPaid, IsTable, Precedes, flow_in, row_for, slot_of, IsMutual}
+use Rattle.flow_eval.specs.Netting.{CanBeNetted, same_slot, size_at}
+use Rattle.flow_eval.specs.Tables.{AreOrdered, IsPaid, IsTable, Precedes, flow_in, row_for, slot_of, IsMutual}
 use Rattle.flow_eval.specs.declared.flow_table.FlowRow.{FlowRow}
 use Rattle.flow_eval.specs.declared.flow_table.FlowTable.{FlowTable}
 use Rattle.flow_eval.specs.declared.flow_table.Slot.{Slot}
 use Rattle.flow_eval.specs.declared.payments.Payment.{Payment}
-use Rattle.flow_eval.proofs.NettingFacts.{rows_due}
-use Rattle.flow_eval.proofs.NetTables.{rows_net_of, table_from_net, to_itself}
+use Rattle.flow_eval.proofs.NetTables.{to_itself}
 use Rattle.flow_eval.proofs.PaidFacts.{flow_at}
 use Rattle.flow_eval.proofs.PaymentFacts.{Counts}
-use Rattle.flow_eval.proofs.SizeFacts.{fits_moved, chosen}
+use Rattle.flow_eval.proofs.SizeFacts.{chosen}
 use Rattle.flow_eval.proofs.SlotFacts.{not_itself, same_from_parts, same_slot_decides}
-use Rattle.flow_eval.proofs.SumFacts.{share, share-other, share-same, sum_at, sum_at-append, sum_at-permutation, zero_and}
-use Rattle.report.specs.SumTables.{AreTablesOf, IsSummable, IsSumOf, payment_of, payments_of, together}
+use Rattle.flow_eval.proofs.SumFacts.{share, share-other, share-same, sum_at, sum_at-append, zero_and}
+use Rattle.report.specs.SumTables.{AreTablesOf, IsSummable, payment_of, payments_of, together}
 use Rattle.flow_eval.proofs.RowFacts.{by_test, differs}
 
 abbrev sizes : Slot → List FlowRow → ℕ
@@ -93,7 +90,7 @@ at_slot s (row ∷ rows) order =
 
 -- ---- sizes
 
-same_size : (up : Bool) (x : ℤ) → unsigned_abs (if up then x else neg_ℤ x) ≡ unsigned_abs x
+pub same_size : (up : Bool) (x : ℤ) → unsigned_abs (if up then x else neg_ℤ x) ≡ unsigned_abs x
 same_size true x = refl
 same_size false x = omega (arith, ints)
 
@@ -178,10 +175,10 @@ module _ (pays : ℤ → Flow → ℤ) (both_ways : IsMutual pays) (first last :
   pub rows_count : All (λ p. Counts first last p.slot) (map payment_of rows)
   rows_count = All-map (λ p. Counts first last p.slot) payment_of rows (All-weaker (IsPaid pays first last) (λ row. Counts first last (slot_of row)) (λ row paid. (paid.no_sooner, paid.no_later, two_parties row paid)) rows table.right)
 
-abbrev IsCounted : ℤ → ℤ → Payment → Type 0
+abbrev pub IsCounted : ℤ → ℤ → Payment → Type 0
 IsCounted first last p = Counts first last p.slot
 
-tables_sum : (all : List (ℤ → Flow → ℤ)) (first last : ℤ) (tables : List FlowTable) (s : Slot) → AreTablesOf all first last tables → s.lower < s.higher → first ≤ℤ s.day → s.day ≤ℤ last → sum_at s (payments_of tables) ≡ together all s.day (flow_at s)
+pub tables_sum : (all : List (ℤ → Flow → ℤ)) (first last : ℤ) (tables : List FlowTable) (s : Slot) → AreTablesOf all first last tables → s.lower < s.higher → first ≤ℤ s.day → s.day ≤ℤ last → sum_at s (payments_of tables) ≡ together all s.day (flow_at s)
 tables_sum [] first last [] s h pair from to = refl
 tables_sum [] first last (table ∷ tables) s h pair from to = absurd h
 tables_sum (pays ∷ others) first last [] s h pair from to = absurd h
@@ -190,7 +187,7 @@ tables_sum (pays ∷ others) first last (table ∷ tables) s h pair from to =
     ∙ ap (λ (x : ℤ). x +ℤ sum_at s (payments_of tables)) (sum_is pays h.0 first last table.rows.items h.1 s pair from to)
     ∙ ap (λ (x : ℤ). pays s.day (flow_at s) +ℤ x) (tables_sum others first last tables s h.2 pair from to)
 
-tables_count : (all : List (ℤ → Flow → ℤ)) (first last : ℤ) (tables : List FlowTable) → AreTablesOf all first last tables → All (IsCounted first last) (payments_of tables)
+pub tables_count : (all : List (ℤ → Flow → ℤ)) (first last : ℤ) (tables : List FlowTable) → AreTablesOf all first last tables → All (IsCounted first last) (payments_of tables)
 tables_count [] first last [] h = All-nil (IsCounted first last)
 tables_count [] first last (table ∷ tables) h = absurd h
 tables_count (pays ∷ others) first last [] h = absurd h
@@ -200,28 +197,9 @@ tables_count (pays ∷ others) first last (table ∷ tables) h =
 neg_sum : (a b x y : ℤ) → a ≡ neg_ℤ x → b ≡ neg_ℤ y → a +ℤ b ≡ neg_ℤ (x +ℤ y)
 neg_sum a b x y h k = omega (arith, ints)
 
-together_mutual : (all : List (ℤ → Flow → ℤ)) (first last : ℤ) (tables : List FlowTable) → AreTablesOf all first last tables → IsMutual (together all)
+pub together_mutual : (all : List (ℤ → Flow → ℤ)) (first last : ℤ) (tables : List FlowTable) → AreTablesOf all first last tables → IsMutual (together all)
 together_mutual [] first last [] h = λ day w. refl
 together_mutual [] first last (table ∷ tables) h = absurd h
 together_mutual (pays ∷ others) first last [] h = absurd h
 together_mutual (pays ∷ others) first last (table ∷ tables) h = λ day w.
     neg_sum (pays day (reversed w)) (together others day (reversed w)) (pays day w) (together others day w) (h.0 day w) (together_mutual others first last tables h.2 day w)
-
--- the rows of the payments of tables are the table of the sum
-pub sum_of_tables : (tables : List FlowTable) (rows : List FlowRow) → length tables ≤ 16_777_216 → All (λ table. IsSummable table.rows.items) tables → Nets (payments_of tables) rows → IsSumOf tables rows
-sum_of_tables tables rows few small nets = λ all first last h.
-    let ps = payments_of tables in
-    let qs = nets.sorted in
-    let counted = All-permutation (IsCounted first last) ps qs nets.moved (tables_count all first last tables h) in
-    let net = rows_net_of first last qs counted nets.in_order in
-    let due : AreDue first last qs = All-weaker (IsCounted first last) (λ (p : Payment). (first ≤ℤ p.slot.day) × (p.slot.day ≤ℤ last)) (λ p is. (is.0, is.1)) qs counted in
-    subst (λ (rs : List FlowRow). IsTable (together all) first last rs × All (IsDueRow first last) rs) (sym nets.netted) (
-      table_from_net (together all) (together_mutual all first last tables h) first last net.0 (λ s. sum_at s qs) _ (λ s pair from to. sum_at-permutation s ps qs nets.moved ∙ tables_sum all first last tables s h pair from to) net.1,
-      rows_due first last qs due (fits_moved ps qs nets.moved (can_be_netted tables few small)),
-    )
-
-pub net_answers : {E : Type 0} (tables : List FlowTable) (ps : List Payment) (r : Result FlowTable E) → ps ≡ payments_of tables → length tables ≤ 16_777_216 → All (λ table. IsSummable table.rows.items) tables → IfOk r (λ table. Nets ps table.rows.items) → IfOk r (λ sum. IsSumOf tables sum.rows.items)
-net_answers tables ps (Ok sum) e few small h = sum_of_tables tables sum.rows.items few small (subst (λ (qs : List Payment). Nets qs sum.rows.items) e h)
-net_answers tables ps (Err x) e few small h = tt
-
--- ---- one table after another

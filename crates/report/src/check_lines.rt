@@ -66,7 +66,8 @@ pub fn check_line(
     requires { IfOk verdict.now (λ facts. IsSmall facts.total) }
     ensures ok { OnOk result (out.new.items
         ≡ out.old.items ++ verdict_line decls.now.amounts name.now verdict.now) }
-    ensures err { OnErr result (AppendsPart out.old.items (verdict_line decls.now.amounts name.now verdict.now) out.new.items) }
+    ensures err { OnErr result (AppendsPart out.old.items
+        (verdict_line decls.now.amounts name.now verdict.now) out.new.items) }
 {
     let name = Piece::Words(name);
     match verdict {

@@ -53,7 +53,8 @@ fn append_line<'a>(
     requires amount { IsSmall amount }
     ensures ok { OnOk result (out.new.items
         ≡ out.old.items ++ line_on decls.now name.now day.entry row.now amount) }
-    ensures err { OnErr result (AppendsPart out.old.items (line_on decls.now name.now day.entry row.now amount) out.new.items) }
+    ensures err { OnErr result (AppendsPart out.old.items
+        (line_on decls.now name.now day.entry row.now amount) out.new.items) }
 {
     let comma = Piece::Words(b",");
     let pieces = [
@@ -110,8 +111,10 @@ pub fn flow_line(
     requires last { row.now.day ≤ℤ pos last_day }
     requires amount { IsSmall row.now.amount }
     requires multiple { IsWholeInAsset (declarations decls.now) row.now.asset row.now.amount }
-    ensures ok { OnOk result (AppendsFlowLine (declarations decls.now) name.now row.now out.old.items out.new.items) }
-    ensures err { OnErr result (AppendsPartOfLine (declarations decls.now) name.now row.now out.old.items out.new.items) }
+    ensures ok { OnOk result (AppendsFlowLine (declarations decls.now) name.now row.now
+        out.old.items out.new.items) }
+    ensures err { OnErr result (AppendsPartOfLine (declarations decls.now) name.now row.now
+        out.old.items out.new.items) }
 {
     let amount = amount_in_asset(decls, row.asset, &row.amount);
     match decls.origin {

@@ -44,7 +44,8 @@ fn append_piece(alloc: Global, out: &mut Vec<u8>, piece: Piece<'_>) -> Result<()
 pub fn append(alloc: Global, out: &mut Vec<u8>, pieces: &[Piece<'_>]) -> Result<(), NoMemory>
     requires { AreWritable pieces.now }
     ensures ok { OnOk result (out.new.items ≡ out.old.items ++ flat_map piece_text pieces.now) }
-    ensures err { OnErr result (AppendsPart out.old.items (flat_map piece_text pieces.now) out.new.items) }
+    ensures err { OnErr result
+        (AppendsPart out.old.items (flat_map piece_text pieces.now) out.new.items) }
 {
     for piece in pieces {
         append_piece(alloc, out, *piece)?;

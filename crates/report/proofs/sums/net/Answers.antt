@@ -1,12 +1,23 @@
-use Rattle.std.proofs.Common.{List, subst, sym}
-use Rattle.flow_eval.specs.Netting.{CanBeNetted}
-use Rattle.flow_eval.specs.declared.payments.Payment.{Payment}
-use Rattle.report.proofs.SumFacts.{can_be_netted, net_answers}
+use Rattle.std.proofs.Common.{◌∙◌, ◌<◌, ◌≤◌, ◌++◌, List, [], ◌∷◌, ap, arith, length, subst, sym, take}
+use Rattle.std.proofs.lemmas.List.{take_all, take_more}
+use Rattle.flow_eval.specs.declared.flow_table.FlowTable.{FlowTable}
+use Rattle.report.specs.RunningSums.{IsSumSoFar}
+use Rattle.report.proofs.RunningFacts.{sum_if_ok}
 use Rattle.report.proofs.sums.net.Goals as goal
 
-pub netted-requires : goal.netted-requires
-netted-requires c =
-    subst (λ (ps : List Payment). CanBeNetted ps) (sym c.in_ok-payments.ensures) (can_be_netted c.args.tables.now c.requires.few c.requires.summable)
+pub loop-table-preserved : goal.loop-table-preserved
+loop-table-preserved c =
+    let tables = c.args.tables.now in
+    let i = c.loop-table.table-index in
+    let table = c.table-item.result in
+    let h : i < length tables = omega arith in
+    let more = ap (λ (t : FlowTable). take i tables ++ t ∷ []) c.table-item.is ∙ sym (take_more tables i table h) in
+    subst (λ (ts : List FlowTable). IsSumSoFar ts c.add.new.self) more (c.in_ok-add.ensures (take i tables) c.loop-table.invariant)
 
 pub returns : goal.returns
-returns c = net_answers c.args.tables.now c.in_ok-payments.payments.items c.netted.result c.in_ok-payments.ensures c.requires.few c.requires.summable c.netted.ensures
+returns c =
+    let tables = c.args.tables.now in
+    let i = c.loop-table.table-index in
+    let h : length tables ≤ i = omega arith in
+    let whole = subst (λ (ts : List FlowTable). IsSumSoFar ts c.loop-table.sum) (take_all i tables h) c.loop-table.invariant in
+    sum_if_ok tables c.loop-table.sum c.table.result whole c.table.ensures
