@@ -5,19 +5,21 @@ use Rattle.std.specs.Global.{Vec}
 use Rattle.term_core.specs.declared.name.Name.{Name}
 use Rattle.term_core.specs.Books.{Book}
 use Rattle.term_core.specs.Declarations.{Declarations, declarations}
+use Rattle.term_core.specs.Environments.{IsAdmitted}
 use Rattle.term_core.specs.Limits.{longest_file}
 use Rattle.term_core.specs.Terms.{Contract}
-use Rattle.flow_eval.specs.declared.flow_table.FlowTable.{FlowTable}
+use Rattle.report.specs.RunningSums.{IsSumOfFew}
 use Rattle.report.specs.declared.fault_lines.Fault.{Fault}
+use Rattle.interval_check.specs.Within.{KeepsLimits}
 use Rattle.command_words.specs.Commands.{FlowsAsked}
 use Rattle.command_answers.specs.ChoosingParts.{Holds, IsPassed, IsWalkedThrough, Selection, StopsByName, StopsIn, StopsOn, refused, selection, so_far, then_stops, unknown}
 use Rattle.command_answers.specs.ChoosingParts as named
 use Rattle.command_answers.specs.Course.{Stops, Tells}
 use Rattle.command_answers.specs.FlowsCourse.{flows_of_text, flows_on}
-use Rattle.command_answers.specs.FlowsParts.{AreLinesOfSum, AreListed, CanBeLast, CanBeSummed, HasFlows, HoldsFixings, ListsFlows, PassesOf}
+use Rattle.command_answers.specs.FlowsParts.{AreLinesOfSum, AreListed, CanBeLast, CanBeSummed, HasFlows, HoldsFixings, IsSumOfFlows, ListsFlows, PassesOf}
 use Rattle.command_answers.specs.FlowsParts.{StopsFlows, StopsOverFixings, TellsLines, of_flows}
 use Rattle.command_answers.specs.FlowsParts as over
-use Rattle.command_answers.specs.FlowsPromise.{AreLinesAsked, AreTables, IsLastDay}
+use Rattle.command_answers.specs.FlowsPromise.{AreLinesAsked, IsLastDay}
 use Rattle.command_answers.specs.Stages.{IsDayFault, IsMissingOf, IsRowFault, all_accepted, all_fixed}
 use Rattle.command_answers.specs.Stopping.{AnswersBy, GoesDone}
 use Rattle.command_answers.specs.UsedContracts.{used}
@@ -28,6 +30,7 @@ use Rattle.command_answers.specs.declared.flows_text.Listed.{Listed}
 use Rattle.command_answers.specs.declared.status.Status.TheVariants as status
 use Rattle.command_answers.specs.declared.stop.Stop.{Stop}
 use Rattle.command_answers.proofs.StopFacts.{answers_too}
+use Rattle.command_answers.proofs.SumLineFacts.{sum_of_few}
 use Rattle.command_answers.proofs.UsedFacts.{contracts_few, used_few}
 
 -- ---- what stops a command over fixings
@@ -88,13 +91,13 @@ module _ (text : List ℕ) (until : FlowsUntil) where
         are_listed = flows.listed p.none;
       }
 
-  -- tables that are listed can be summed
+  -- the sum that is listed can be told
   module _ (listed : Listed) (h : ListsFlows text until listed) where
-    pub are_tables : until.summed ≡ true → AreTables of until.fixings.now until.last (used asks.only (so_far of h.entries)) listed.tables.items
-    are_tables yes_ = subst (λ (n : Bool). AreListed n of until.fixings.now until.last listed (used asks.only (so_far of h.entries))) yes_ h.are_listed
+    pub is_summed : until.summed ≡ true → IsSumOfFlows of until.fixings.now until.last (used asks.only (so_far of h.entries)) listed.sum
+    is_summed yes_ = subst (λ (n : Bool). AreListed n of until.fixings.now until.last listed (used asks.only (so_far of h.entries))) yes_ h.are_listed
 
-    pub can_be_summed : (tables : List FlowTable) → length text ≤ longest_file → until.summed ≡ true → tables ≡ listed.tables.items → CanBeSummed until tables
-    can_be_summed tables short yes_ same =
+    pub can_be_summed : length text ≤ longest_file → until.summed ≡ true → CanBeSummed until listed.sum
+    can_be_summed short yes_ =
         let b = so_far of h.entries in
         let fewer = used_few asks.only of h.entries in
         let few = contracts_few text b h.is_text short in
@@ -102,13 +105,18 @@ module _ (text : List ℕ) (until : FlowsUntil) where
           entries = used asks.only b;
           few = omega (arith, fewer, few);
           accepted = h.passes.accepted;
-          are_tables = subst (λ (ts : List FlowTable). AreTables of until.fixings.now until.last (used asks.only b) ts) (sym same) (are_tables yes_);
+          is_sum = is_summed yes_;
         }
 
-    pub tells_sum : (tables : List FlowTable) (lines : Vec ℕ) → until.summed ≡ true → tables ≡ listed.tables.items → AreLinesOfSum until tables lines.items → TellsLines text until lines
-    tells_sum tables lines yes_ same sum =
+    pub listed_few : KeepsLimits of → IsAdmitted of until.fixings.now → length text ≤ longest_file → until.summed ≡ true → IsSumOfFew listed.sum
+    listed_few limits admitted short yes_ =
+        let s = can_be_summed short yes_ in
+        sum_of_few of until.fixings.now until.last limits admitted s.entries listed.sum s.few s.is_sum
+
+    pub tells_sum : (lines : Vec ℕ) → until.summed ≡ true → AreLinesOfSum until listed.sum lines.items → TellsLines text until lines
+    tells_sum lines yes_ sum =
         let b = so_far of h.entries in
-        let are = sum (used asks.only b) (subst (λ (ts : List FlowTable). AreTables of until.fixings.now until.last (used asks.only b) ts) (sym same) (are_tables yes_)) in
+        let are = sum (used asks.only b) (is_summed yes_) in
         record {
           entries = h.entries;
           is_text = h.is_text;

@@ -8,6 +8,7 @@ use Rattle.term_core.specs.Environments.{Environment}
 use Rattle.term_core.specs.Terms.{Contract}
 use Rattle.flow_eval.specs.FlowAnswers.{AreKnownFlows}
 use Rattle.flow_eval.specs.declared.flow_table.FlowTable.{FlowTable}
+use Rattle.report.specs.RunningSums.{IsSumSoFar}
 use Rattle.report.specs.declared.fault_lines.Fault.{Fault}
 use Rattle.command_answers.specs.ChoosingParts.{Holds}
 use Rattle.command_answers.specs.FlowsParts.{AddsFlows, AreListed, HasFlows, IsMissingOne, KeepsTable}
@@ -60,9 +61,11 @@ module _ (d : Declarations) (fixings : Environment) (last : ℤ) where
   listed_more : (summed : Bool) (before after : Listed) (table : FlowTable) (entries : List (Name × Contract)) (entry : Name × Contract)
       → KeepsTable summed d entry.0 table before after → AreKnownFlows d entry.1 fixings (pos d.start) last table.rows.items
       → AreListed summed d fixings last before entries → AreListed summed d fixings last after (entries ++ entry ∷ [])
-  listed_more true before after table entries entry keeps known h =
-      subst (λ (ts : List FlowTable). AreTables d fixings last (entries ++ entry ∷ []) ts) (sym keeps)
-      (tables_more entries entry before.tables.items table h known)
+  listed_more true before after table entries entry keeps known h = record {
+    tables = h.tables ++ table ∷ [];
+    are_tables = tables_more entries entry h.tables table h.are_tables known;
+    is_sum = keeps h.tables h.is_sum;
+  }
   listed_more false before after table entries entry keeps known h =
       subst (λ (text : List ℕ). AreAllLines d fixings last (entries ++ entry ∷ []) text) (sym keeps.appended)
       (lines_more entries entry before.text.items keeps.text h (record { rows = table.rows.items; flows = known; lines = keeps.lines }))
@@ -85,10 +88,10 @@ module _ (d : Declarations) (fixings : Environment) (last : ℤ) where
       → IsMissingOne d fixings last entry.1 f → Holds (all_fixed d fixings last entries) held → IsMissingOf d fixings last (entries ++ entry ∷ []) f
   missing_held_now held entries entry f none one h = missing_now entries entry f (fixed_before held entries none h) one
 
-nothing_listed : (d : Declarations) (fixings : Environment) (last : ℤ) (summed : Bool) (listed : Listed) → listed.text.items ≡ [] → listed.tables.items ≡ []
+nothing_listed : (d : Declarations) (fixings : Environment) (last : ℤ) (summed : Bool) (listed : Listed) → listed.text.items ≡ [] → IsSumSoFar [] listed.sum
     → AreListed summed d fixings last listed []
-nothing_listed d fixings last true listed text tables = subst (λ (ts : List FlowTable). AreTables d fixings last [] ts) (sym tables) tt
-nothing_listed d fixings last false listed text tables = text
+nothing_listed d fixings last true listed text sum = record { tables = []; are_tables = tt; is_sum = sum }
+nothing_listed d fixings last false listed text sum = text
 
 module _ (until : FlowsUntil) (entry : Name × Contract) (before : KeptFlows) where
   abbrev d : Declarations
@@ -121,10 +124,10 @@ module _ (until : FlowsUntil) (entry : Name × Contract) (before : KeptFlows) wh
         listed = λ _. listed_more d until.fixings.now until.last until.summed before.listed listed table entries entry keeps known (h.listed empty);
       }
 
-pub nothing_kept : (until : FlowsUntil) (kept : KeptFlows) → kept.missing ≡ None → kept.listed.text.items ≡ [] → kept.listed.tables.items ≡ [] → HasFlows until kept []
-nothing_kept until kept none text tables =
+pub nothing_kept : (until : FlowsUntil) (kept : KeptFlows) → kept.missing ≡ None → kept.listed.text.items ≡ [] → IsSumSoFar [] kept.listed.sum → HasFlows until kept []
+nothing_kept until kept none text sum =
     let d = declarations until.choice.decls.now in
     record {
       fixed = subst (λ (r : Option Fault). Holds (all_fixed d until.fixings.now until.last []) r) (sym none) (All-nil (IsFixedEntry d until.fixings.now until.last));
-      listed = λ _. nothing_listed d until.fixings.now until.last until.summed kept.listed text tables;
+      listed = λ _. nothing_listed d until.fixings.now until.last until.summed kept.listed text sum;
     }

@@ -18,30 +18,32 @@ use Rattle.flow_eval.specs.Tables.{IsDueRow}
 use Rattle.flow_eval.specs.declared.flow_table.FlowRow.{FlowRow}
 use Rattle.flow_eval.specs.declared.flow_table.FlowTable.{FlowTable}
 use Rattle.report.specs.FlowLines.{HaveLines, IsWholeInAsset}
+use Rattle.report.specs.RunningSums.{AreNetOf}
 use Rattle.exposure.specs.declared.accounts.PositionRow.{PositionRow}
 use Rattle.exposure.specs.LawsTables.{IsDuring}
 use Rattle.exposure.specs.PositionLines.{AppendsPositionLine, IsPositionLine}
 use Rattle.exposure.specs.Positions.{ArePositions, CanBeAddedUp, sizes_in}
 use Rattle.exposure.specs.Settlement.{ArePaidInTurn, Settles}
 use Rattle.exposure.proofs.TableSums.{many_tables_add_up, positions_are_within, positions_stand_in_time, settled_are_within, settled_stand_in_time, tables_add_up}
+use Rattle.exposure.proofs.NetFacts.{nets_add_up_to_no_more, nets_leave_positions}
 use Rattle.exposure.proofs.WholeFacts.{positions_are_whole, settled_are_whole}
 use Rattle.command_answers.specs.CheckPromise.{AreAllAccepted}
 use Rattle.command_answers.specs.Course.{Stops, Tells}
 use Rattle.command_answers.specs.ChoosingParts.{Selection, StopsIn, selection, so_far}
 use Rattle.command_answers.specs.FlowsCourse.{flows_of_text}
-use Rattle.command_answers.specs.FlowsParts.{CanBeLast, HoldsFixings, ListsFlows, PassesOf, StopsFlows, of_flows}
+use Rattle.command_answers.specs.FlowsParts.{CanBeLast, HoldsFixings, IsSumOfFlows, PassesOf, StopsFlows, of_flows}
 use Rattle.command_answers.specs.FlowsPromise.{AreFixings, AreTables, IsLastDay}
 use Rattle.command_answers.specs.NettingCourse.{flows_of_all, netting_of_text}
-use Rattle.command_answers.specs.NettingParts.{AnswersTablesOfText, AppendsPositions, AreReady, IsDuePosition, KnowsTables, ListsTables, TablesKnown}
+use Rattle.command_answers.specs.NettingParts.{AnswersNetOfText, AppendsPositions, AreReady, IsDuePosition, KnowsNet, ListsNet, TablesKnown}
 use Rattle.command_answers.specs.NettingPromise.{ArePositionLines, IsToldOfTables}
 use Rattle.command_answers.specs.Stopping.{AnswersBy, GoesDone}
 use Rattle.command_words.specs.Commands.{NettingAsked}
 use Rattle.command_answers.specs.UsedContracts.{used}
 use Rattle.command_answers.specs.declared.choice.FlowsUntil.{FlowsUntil}
-use Rattle.command_answers.specs.declared.flows_text.Listed.{Listed}
 use Rattle.command_answers.specs.declared.status.Status.TheVariants as status
 use Rattle.command_answers.specs.declared.stop.Stop.{Stop}
-use Rattle.command_answers.proofs.FlowsStops.{are_tables, stops_flows}
+use Rattle.command_answers.proofs.FlowsStops.{is_summed, stops_flows}
+use Rattle.command_answers.proofs.NettingAreOne.{same_positions}
 use Rattle.command_answers.proofs.LineFacts.{none_and, rows_have_lines, rows_writable, some_and}
 use Rattle.command_answers.proofs.StopFacts.{answers_too, handed_on}
 use Rattle.command_answers.proofs.SumLineFacts.{all_fixed, as_many}
@@ -135,27 +137,28 @@ module _ (asked : NettingAsked) (text : List ℕ) (table : Option (List ℕ)) (u
   abbrev of : Declarations
   of = declarations until.choice.decls.now
 
-  knows_tables : (limits : KeepsLimits of) → length text ≤ longest_file → until.summed ≡ true → (listed : Listed) → ListsFlows text until listed
-      → KnowsTables asked text table of listed.tables.items
-  knows_tables limits short summed listed h =
+  knows_net : (limits : KeepsLimits of) → length text ≤ longest_file → until.summed ≡ true → (net : FlowTable) → ListsNet text until net
+      → KnowsNet asked text table of net
+  knows_net limits short summed net k =
+      let h = k.lists in
       let b = so_far of h.entries in
       let passes = subst (λ (s : Selection). PassesOf s until b) all h.passes in
-      let tables = subst (λ (s : Selection). AreTables of until.fixings.now until.last (used s.only b) listed.tables.items) all (are_tables text until listed h summed) in
+      let sum = subst (λ (s : Selection). IsSumOfFlows of until.fixings.now until.last (used s.only b) k.listed.sum) all (is_summed text until k.listed h summed) in
       record {
         entries = h.entries;
         is_text = h.is_text;
+        tables = sum.tables;
         known = tables_known asked b table until.last last.is_last last.within (contracts_few text b h.is_text short) passes.accepted until.fixings.now fixings.are_fixings
-            limits fixings.admitted listed.tables.items tables;
+            limits fixings.admitted sum.tables sum.are_tables;
+        is_net = (k.told sum.tables sum.is_sum).1;
       }
 
-  pub tables_of_lists : (limits : KeepsLimits of) → length text ≤ longest_file → until.summed ≡ true → (r : Result (Vec FlowTable) Stop)
-      → AnswersBy (λ (tables : Vec FlowTable). ListsTables text until tables.items) (StopsIn text of (StopsFlows until)) r
-      → AnswersBy (λ (tables : Vec FlowTable). KnowsTables asked text table of tables.items) (Stops (flows_of_text (flows_of_all asked) text table)) r
-  tables_of_lists limits short summed r h =
-      answers_too (λ (tables : Vec FlowTable). ListsTables text until tables.items) (λ (tables : Vec FlowTable). KnowsTables asked text table of tables.items)
-      (StopsIn text of (StopsFlows until)) (Stops (flows_of_text (flows_of_all asked) text table))
-      (λ tables k. subst (λ (ts : List FlowTable). KnowsTables asked text table of ts) (sym k.are) (knows_tables limits short summed k.listed k.lists))
-      (stops_flows (flows_of_all asked) text table until all last fixings) r h
+  pub net_of_lists : (limits : KeepsLimits of) → length text ≤ longest_file → until.summed ≡ true → (r : Result FlowTable Stop)
+      → AnswersBy (ListsNet text until) (StopsIn text of (StopsFlows until)) r
+      → AnswersBy (KnowsNet asked text table of) (Stops (flows_of_text (flows_of_all asked) text table)) r
+  net_of_lists limits short summed r h =
+      answers_too (ListsNet text until) (KnowsNet asked text table of) (StopsIn text of (StopsFlows until)) (Stops (flows_of_text (flows_of_all asked) text table))
+      (knows_net limits short summed) (stops_flows (flows_of_all asked) text table until all last fixings) r h
 
 -- ---- lines can hold what comes of them
 
@@ -164,6 +167,16 @@ small_enough n m h k = omega arith
 
 pub can_be_added_up : (d : Declarations) (tables : List FlowTable) → AreReady d tables → CanBeAddedUp tables
 can_be_added_up d tables ready = let h = ready.together in omega arith
+
+pub net_can_be_added_up : (d : Declarations) (tables : List FlowTable) (net : FlowTable) → AreReady d tables → AreNetOf tables net.rows.items → CanBeAddedUp (net ∷ [])
+net_can_be_added_up d tables net ready is =
+    let h = ready.together in
+    let less = nets_add_up_to_no_more tables net is in
+    omega (arith, h, less)
+
+-- the positions of the net are those of the tables
+pub positions_of_net : (tables : List FlowTable) (net : FlowTable) (rows : List PositionRow) → AreNetOf tables net.rows.items → ArePositions (net ∷ []) rows → ArePositions tables rows
+positions_of_net tables net rows is h = same_positions (net ∷ []) tables rows (λ x. nets_leave_positions tables net x is) h
 
 pub due_positions : (d : Declarations) (tables : List FlowTable) (rows : List PositionRow) → AreReady d tables → ArePositions tables rows → All (IsDuePosition d) rows
 due_positions d tables rows ready h =
@@ -189,15 +202,15 @@ settled_have_lines d tables rows ready turns = settled_are_whole d tables rows r
 -- ---- what is told of the tables is what the course tells, and what kept them from being made stops it
 
 module _ (TellsOf : Declarations → List FlowTable → List ℕ → Type 0) (asked : NettingAsked) (text : List ℕ) (table : Option (List ℕ)) where
-  pub told_of_tables : (d : Declarations) (tables : List FlowTable) (lines : List ℕ) → KnowsTables asked text table d tables → TellsOf d tables lines
+  pub told_of_net : (d : Declarations) (net : FlowTable) (lines : List ℕ) (h : KnowsNet asked text table d net) → TellsOf d h.tables lines
       → Tells (netting_of_text TellsOf asked text table) status.Done lines
-  told_of_tables d tables lines h told =
+  told_of_net d net lines h told =
       let b = so_far d h.entries in
       let known = h.known in
-      let are : IsToldOfTables TellsOf d known.fixings known.last (used None b) lines = record { tables = tables; are_tables = known.are_tables; told = told } in
+      let are : IsToldOfTables TellsOf d known.fixings known.last (used None b) lines = record { tables = h.tables; are_tables = known.are_tables; told = told } in
       (b, h.is_text, (tt, refl, (known.last, known.is_last, (tt, known.accepted, (known.fixings, known.are_fixings, (tt, known.fixed, (refl, are)))))))
 
-  pub stopped_with_tables : (e : Stop) (r : Result (Vec ℕ) Stop) → AnswersTablesOfText asked text table (Err e) → IsErrAnd r (λ y. y ≡ e) → GoesDone (netting_of_text TellsOf asked text table) r
-  stopped_with_tables e r h given =
-      handed_on (λ (all : Decls × Vec FlowTable). KnowsTables asked text table (declarations all.0) all.1.items) (λ (lines : Vec ℕ). Tells (netting_of_text TellsOf asked text table) status.Done lines.items)
+  pub stopped_without_net : (e : Stop) (r : Result (Vec ℕ) Stop) → AnswersNetOfText asked text table (Err e) → IsErrAnd r (λ y. y ≡ e) → GoesDone (netting_of_text TellsOf asked text table) r
+  stopped_without_net e r h given =
+      handed_on (λ (all : Decls × FlowTable). KnowsNet asked text table (declarations all.0) all.1) (λ (lines : Vec ℕ). Tells (netting_of_text TellsOf asked text table) status.Done lines.items)
       (Stops (flows_of_text (flows_of_all asked) text table)) (Stops (netting_of_text TellsOf asked text table)) (λ f h. h) e r h given

@@ -7,6 +7,7 @@ use Rattle.term_core.specs.declared.name.Name.{Name}
 use Rattle.term_core.specs.Declarations.{Declarations}
 use Rattle.term_core.specs.Environments.{Environment, Extends, IsAdmitted}
 use Rattle.term_core.specs.Flows.{Flow, amount_of}
+use Rattle.term_core.specs.Limits.{longest_file}
 use Rattle.term_core.specs.Terms.{Contract}
 use Rattle.term_core.specs.Acceptance.{IsAccepted}
 use Rattle.term_core.proofs.FlowFacts.{amounts_opposite}
@@ -18,8 +19,11 @@ use Rattle.flow_eval.specs.declared.flow_table.FlowRow.{FlowRow}
 use Rattle.flow_eval.specs.declared.flow_table.FlowTable.{FlowTable}
 use Rattle.report.specs.FlowLines.{HaveLines, PaysInAssets}
 use Rattle.report.specs.SumTables.{AreTablesOf, IsSummable, IsSumOf, together}
+use Rattle.report.specs.RunningSums.{IsSumOfFew}
+use Rattle.report.specs.declared.sums.FlowSum.{FlowSum}
 use Rattle.report.proofs.TableLines.{paid_in_assets, table_has_lines, together_in_assets}
 use Rattle.command_answers.specs.CheckPromise.{AreAllAccepted}
+use Rattle.command_answers.specs.FlowsParts.{IsSumOfFlows}
 use Rattle.command_answers.specs.FlowsPromise.{AreAllFixed, AreLines, AreSumLines, AreTables, missing_of}
 use Rattle.command_answers.proofs.CheckFacts.{total_small}
 
@@ -42,7 +46,7 @@ module _ (d : Declarations) (fixings : Environment) (last : ℤ) (limits : Keeps
   row_small c accepted row paid =
       subst (λ (x : ℤ). unsigned_abs x ≤ 10 ^ 27) (sym paid.exact) (amount_small d c fixings (pos d.start) (row.day -ℤ pos d.start) (flow_in row) limits accepted admitted)
 
-  one_summable : (c : Contract) (rows : List FlowRow) → IsAccepted d c → AreKnownFlows d c fixings (pos d.start) last rows → IsSummable rows
+  pub one_summable : (c : Contract) (rows : List FlowRow) → IsAccepted d c → AreKnownFlows d c fixings (pos d.start) last rows → IsSummable rows
   one_summable c rows accepted known =
       let table = known.table fixings itself in
       record { ordered = table.ordered; small = All-weaker (IsPaid (paid_by d c fixings (pos d.start)) (pos d.start) last) (λ row. unsigned_abs row.amount ≤ 10 ^ 27) (row_small c accepted) rows table.right }
@@ -60,6 +64,14 @@ module _ (d : Declarations) (fixings : Environment) (last : ℤ) (limits : Keeps
   as_many [] (table ∷ tables) h = absurd h
   as_many (entry ∷ entries) [] h = absurd h
   as_many (entry ∷ entries) (table ∷ tables) h = ap (λ (n : ℕ). suc n) (as_many entries tables h.1)
+
+  -- the sum of as many tables as a text can hold contracts can be told
+  pub sum_of_few : (entries : List (Name × Contract)) (sum : FlowSum) → length entries ≤ longest_file → IsSumOfFlows d fixings last entries sum → IsSumOfFew sum
+  sum_of_few entries sum few h = record {
+    tables = h.tables;
+    is = h.is_sum;
+    few = subst (λ (n : ℕ). n ≤ longest_file) (sym (as_many entries h.tables h.are_tables)) few;
+  }
 
   pub all_fixed : (entries : List (Name × Contract)) (tables : List FlowTable) → AreTables d fixings last entries tables → AreAllFixed d fixings last entries
   all_fixed [] [] h = All-nil (λ (e : Name × Contract). missing_of d fixings last e.1 ≡ None)

@@ -18,7 +18,9 @@ use Rattle.flow_eval.specs.declared.faults.FlowErr.{FlowErr}
 use Rattle.flow_eval.specs.declared.faults.FlowErr.TheVariants as flow
 use Rattle.flow_eval.specs.declared.flow_table.FlowRow.{FlowRow}
 use Rattle.flow_eval.specs.declared.flow_table.FlowTable.{FlowTable}
+use Rattle.report.specs.RunningSums.{AddsTable, IsSumSoFar}
 use Rattle.report.specs.declared.fault_lines.Fault.{Fault}
+use Rattle.report.specs.declared.sums.FlowSum.{FlowSum}
 use Rattle.report.specs.declared.fault_lines.Fault.TheVariants as fault
 use Rattle.command_words.specs.Commands.{FlowsAsked}
 use Rattle.command_answers.specs.CheckPromise.{AreAllAccepted}
@@ -142,14 +144,20 @@ AnswersOver choice reader until table r =
     (text : List ℕ) → IsBegun text d reader
     → AnswersBy (IsOver d until table) (StopsIn text d (λ b. StopsOverFixings b s until table)) r
 
--- the table of a contract is kept behind others, or its lines are
+-- the table of a contract is summed with others, or its lines stand behind theirs
 abbrev pub KeepsTable : Bool → Declarations → List ℕ → FlowTable → Listed → Listed → Type 0
-KeepsTable true d name table before after = after.tables.items ≡ before.tables.items ++ table ∷ []
+KeepsTable true d name table before after = AddsTable table before.sum after.sum
 KeepsTable false d name table before after = AppendsLines d name table.rows.items before.text.items after.text.items
 
--- the tables of contracts if they are to be summed, else their lines
+-- the sum of the flow tables of contracts
+pub record IsSumOfFlows (d : Declarations) (fixings : Environment) (last : ℤ) (entries : List (Name × Contract)) (sum : FlowSum) : Type 0 where
+  pub tables : List FlowTable
+  pub are_tables : AreTables d fixings last entries tables
+  pub is_sum : IsSumSoFar tables sum
+
+-- that of contracts if they are to be summed, else their lines
 abbrev pub AreListed : Bool → Declarations → Environment → ℤ → Listed → List (Name × Contract) → Type 0
-AreListed true d fixings last listed entries = AreTables d fixings last entries listed.tables.items
+AreListed true d fixings last listed entries = IsSumOfFlows d fixings last entries listed.sum
 AreListed false d fixings last listed entries = AreAllLines d fixings last entries listed.text.items
 
 -- the flows of contracts, or the first read of theirs that is not fixed
@@ -200,17 +208,17 @@ AnswersFlows until reader r =
 
 -- ---- sums, and what is told
 
--- the tables of accepted contracts, as many as a text can hold
-pub record CanBeSummed (until : FlowsUntil) (tables : List FlowTable) : Type 0 where
+-- the sum of the tables of accepted contracts, as many as a text can hold
+pub record CanBeSummed (until : FlowsUntil) (sum : FlowSum) : Type 0 where
   pub entries : List (Name × Contract)
   pub few : length entries ≤ longest_file
   pub accepted : AreAllAccepted (declarations until.choice.decls.now) entries
-  pub are_tables : AreTables (declarations until.choice.decls.now) until.fixings.now until.last entries tables
+  pub is_sum : IsSumOfFlows (declarations until.choice.decls.now) until.fixings.now until.last entries sum
 
--- the lines of what contracts with these tables pay together, whichever they are
-abbrev pub AreLinesOfSum : FlowsUntil → List FlowTable → List ℕ → Type 0
-AreLinesOfSum until tables text =
-    (entries : List (Name × Contract)) → AreTables (declarations until.choice.decls.now) until.fixings.now until.last entries tables
+-- the lines of what contracts with this sum pay together, whichever they are
+abbrev pub AreLinesOfSum : FlowsUntil → FlowSum → List ℕ → Type 0
+AreLinesOfSum until sum text =
+    (entries : List (Name × Contract)) → IsSumOfFlows (declarations until.choice.decls.now) until.fixings.now until.last entries sum
     → AreSumLines (declarations until.choice.decls.now) until.fixings.now until.last entries text
 
 -- the lines of contracts of a text that nothing stops, or those of their sum

@@ -1,6 +1,5 @@
 -- What the parts of `positions` and `settle` answer.
 use Rattle.std.specs.Prelude.{◌≡◌, ◌≤◌, ◌≤ℤ◌, ◌^◌, ℕ, ℤ, pos, List, ◌++◌, Option, None, Result}
-use Rattle.std.specs.Global.{Vec}
 use Rattle.term_core.specs.Books.{Book}
 use Rattle.term_core.specs.declared.decls.Decls.{Decls}
 use Rattle.term_core.specs.declared.name.Name.{Name}
@@ -13,6 +12,7 @@ use Rattle.interval_check.specs.Safety.{IsSmall}
 use Rattle.flow_eval.specs.Readiness.{last_day}
 use Rattle.flow_eval.specs.declared.flow_table.FlowTable.{FlowTable}
 use Rattle.report.specs.FlowLines.{IsWholeInAsset}
+use Rattle.report.specs.RunningSums.{AreNetOf, TellsSum}
 use Rattle.exposure.specs.declared.accounts.PositionRow.{PositionRow}
 use Rattle.exposure.specs.LawsTables.{AreDuring, AreWholeInAssets}
 use Rattle.exposure.specs.Positions.{sizes_of}
@@ -63,32 +63,33 @@ pub record TablesKnown (asked : NettingAsked) (b : Book) (table : Option (List �
   pub are_tables : AreTables b.declarations fixings last (used None b) tables
   pub ready : AreReady b.declarations tables
 
--- the tables of contracts of a text, as their flows are listed
-pub record ListsTables (text : List ℕ) (until : FlowsUntil) (tables : List FlowTable) : Type 0 where
+-- the net of the tables of contracts of a text, as their flows are summed
+pub record ListsNet (text : List ℕ) (until : FlowsUntil) (net : FlowTable) : Type 0 where
   pub listed : Listed
   pub lists : ListsFlows text until listed
-  pub are : tables ≡ listed.tables.items
+  pub told : TellsSum listed.sum net.rows.items
 
--- these, or what stops their flows
-abbrev pub AnswersFlowTables : FlowsUntil → ContractReader → Result (Vec FlowTable) Stop → Type 0
-AnswersFlowTables until reader r =
+-- this, or what stops their flows
+abbrev pub AnswersNet : FlowsUntil → ContractReader → Result FlowTable Stop → Type 0
+AnswersNet until reader r =
     let d = declarations until.choice.decls.now in
-    (text : List ℕ) → IsBegun text d reader
-    → AnswersBy (λ tables. ListsTables text until tables.items) (StopsIn text d (StopsFlows until)) r
+    (text : List ℕ) → IsBegun text d reader → AnswersBy (ListsNet text until) (StopsIn text d (StopsFlows until)) r
 
--- the declarations and the tables of all contracts of a text that nothing stops
-pub record KnowsTables (asked : NettingAsked) (text : List ℕ) (table : Option (List ℕ)) (d : Declarations) (tables : List FlowTable) : Type 0 where
+-- the net of the tables of all contracts of a text that nothing stops
+pub record KnowsNet (asked : NettingAsked) (text : List ℕ) (table : Option (List ℕ)) (d : Declarations) (net : FlowTable) : Type 0 where
   pub entries : List (Name × Contract)
   pub is_text : Text text (so_far d entries)
+  pub tables : List FlowTable
   pub known : TablesKnown asked (so_far d entries) table tables
+  pub is_net : AreNetOf tables net.rows.items
 
--- these, or what stops `flows` of all contracts of the text
-abbrev pub AnswersTablesOfText : NettingAsked → List ℕ → Option (List ℕ) → Result (Decls × Vec FlowTable) Stop → Type 0
-AnswersTablesOfText asked text table r =
-    AnswersBy (λ all. KnowsTables asked text table (declarations all.0) all.1.items) (Stops (flows_of_text (flows_of_all asked) text table)) r
+-- the declarations and this, or what stops `flows` of all contracts of the text
+abbrev pub AnswersNetOfText : NettingAsked → List ℕ → Option (List ℕ) → Result (Decls × FlowTable) Stop → Type 0
+AnswersNetOfText asked text table r =
+    AnswersBy (λ all. KnowsNet asked text table (declarations all.0) all.1) (Stops (flows_of_text (flows_of_all asked) text table)) r
 
 -- whichever text is begun
-abbrev pub AnswersTablesOfAll : Choice → ContractReader → NettingAsked → Option (List ℕ) → Result (Vec FlowTable) Stop → Type 0
-AnswersTablesOfAll choice reader asked table r =
+abbrev pub AnswersNetOfAll : Choice → ContractReader → NettingAsked → Option (List ℕ) → Result FlowTable Stop → Type 0
+AnswersNetOfAll choice reader asked table r =
     (text : List ℕ) → IsBegun text (declarations choice.decls.now) reader
-    → AnswersBy (λ tables. KnowsTables asked text table (declarations choice.decls.now) tables.items) (Stops (flows_of_text (flows_of_all asked) text table)) r
+    → AnswersBy (KnowsNet asked text table (declarations choice.decls.now)) (Stops (flows_of_text (flows_of_all asked) text table)) r

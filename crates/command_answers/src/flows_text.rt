@@ -11,6 +11,7 @@ ghost use Rattle.contract_parse.specs.NextContracts.{IsSoundContract};
 ghost use Rattle.flow_eval.specs.Readiness.{last_day};
 ghost use Rattle.flow_eval.specs.Tables.{IsDueRow};
 ghost use Rattle.report.specs.FlowLines.{HaveLines};
+ghost use Rattle.report.specs.SumTables.{IsSummable};
 ghost use Rattle.command_answers.specs.CheckParts.{HasBegun};
 ghost use Rattle.command_answers.specs.ChoosingParts.{Steps, selection};
 ghost use Rattle.command_answers.specs.FlowsCourse.{flows_of_text};
@@ -33,7 +34,7 @@ use contract_parse::{ContractReader, NextContract};
 use decimal::NoMemory;
 use fixing_files::Fixings;
 use flow_eval::{FlowTable, LAST_DAY, flows};
-use report::{Fault, flow_line, net};
+use report::{Fault, FlowSum, flow_line};
 use std::alloc::Global;
 use term_core::{Contr, Decls, defaults};
 
@@ -67,11 +68,11 @@ pub fn append_table(
     Ok(())
 }
 
-/// The flows of contracts: their tables if they are to be summed, else their lines.
+/// The flows of contracts: their sum if they are to be summed, else their lines.
 #[derive(Drop)]
 pub struct Listed {
     pub text: Vec<u8>,
-    pub tables: Vec<FlowTable>,
+    pub sum: FlowSum,
 }
 
 /// The flows of the contracts so far, or the fault of the first of them that has a read that is not
@@ -95,7 +96,7 @@ fn table_of(alloc: Global, until: &FlowsUntil<'_>, contr: &Contr) -> Result<Flow
     }
 }
 
-// Keeps the table of a contract, or its lines.
+// Adds the table of a contract to the sum, or its lines to the text.
 fn list_table(
     alloc: Global,
     until: &FlowsUntil<'_>,
@@ -103,14 +104,14 @@ fn list_table(
     table: FlowTable,
     listed: &mut Listed,
 ) -> Result<(), NoMemory>
+    requires summable { IsSummable table.rows.items }
     requires due { All (IsDueRow (pos 0) (pos last_day)) table.rows.items }
     requires lines { HaveLines (declarations until.now.choice.decls.now) table.rows.items }
     ensures { OnOk result (KeepsTable until.now.summed (declarations until.now.choice.decls.now)
         name.now table listed.old listed.new) }
 {
     if until.summed {
-        listed.tables.push(table)?;
-        Ok(())
+        listed.sum.add(alloc, &table)
     } else {
         append_table(alloc, &mut listed.text, until.choice.decls, name, &table)
     }
@@ -178,7 +179,7 @@ fn flows_of_all(
     let mut kept = KeptFlows {
         listed: Listed {
             text: Vec::new(alloc),
-            tables: Vec::new(alloc),
+            sum: FlowSum::new(alloc),
         },
         missing: None,
     };
@@ -236,19 +237,15 @@ pub fn flows_over(
     }
 }
 
-// The lines of what contracts with these flow tables pay together.
-fn sum_lines(
-    alloc: Global,
-    until: &FlowsUntil<'_>,
-    tables: &[FlowTable],
-) -> Result<Vec<u8>, NoMemory>
-    requires summable { CanBeSummed until.now tables.now }
+// The lines of what contracts pay together whose flow tables have this sum.
+fn sum_lines(alloc: Global, until: &FlowsUntil<'_>, sum: FlowSum) -> Result<Vec<u8>, NoMemory>
+    requires summable { CanBeSummed until.now sum }
     requires admitted { IsAdmitted (declarations until.now.choice.decls.now) until.now.fixings.now }
-    ensures { IfOk result (λ text. AreLinesOfSum until.now tables.now text.items) }
+    ensures { IfOk result (λ text. AreLinesOfSum until.now sum text.items) }
 {
-    let sum = net(alloc, tables)?;
+    let table = sum.table(alloc)?;
     let mut text = Vec::new(alloc);
-    append_table(alloc, &mut text, until.choice.decls, b"*", &sum)?;
+    append_table(alloc, &mut text, until.choice.decls, b"*", &table)?;
     Ok(text)
 }
 
@@ -264,7 +261,7 @@ fn lines_asked(
 {
     let listed = flows_listed(alloc, until, reader)?;
     if until.summed {
-        Ok(sum_lines(alloc, until, &listed.tables)?)
+        Ok(sum_lines(alloc, until, listed.sum)?)
     } else {
         Ok(listed.text)
     }

@@ -1,6 +1,6 @@
 //! The texts of the commands `positions` and `settle`.
 
-ghost use Rattle.std.specs.Prelude.{◌≡◌, ◌≤◌, OnOk, length};
+ghost use Rattle.std.specs.Prelude.{◌≡◌, ◌≤◌, OnOk, length, true};
 ghost use Rattle.std.specs.List.{All};
 ghost use Rattle.term_core.specs.Declarations.{declarations};
 ghost use Rattle.term_core.specs.Environments.{IsAdmitted};
@@ -9,8 +9,8 @@ ghost use Rattle.command_answers.specs.CheckParts.{HasBegun};
 ghost use Rattle.command_answers.specs.ChoosingParts.{selection};
 ghost use Rattle.command_answers.specs.FlowsParts.{IsShortTable, of_flows};
 ghost use Rattle.command_answers.specs.NettingCourse.{flows_of_all, netting_of_text};
-ghost use Rattle.command_answers.specs.NettingParts.{AnswersFlowTables, AnswersTablesOfAll};
-ghost use Rattle.command_answers.specs.NettingParts.{AnswersTablesOfText, AppendsPositions};
+ghost use Rattle.command_answers.specs.NettingParts.{AnswersNet, AnswersNetOfAll};
+ghost use Rattle.command_answers.specs.NettingParts.{AnswersNetOfText, AppendsPositions};
 ghost use Rattle.command_answers.specs.NettingParts.{IsDuePosition};
 ghost use Rattle.command_answers.specs.NettingPromise.{TellsPositions, TellsSettlement};
 ghost use Rattle.command_answers.specs.Stopping.{GoesDone};
@@ -47,33 +47,35 @@ fn append_positions(
     Ok(())
 }
 
-// The flow tables of the contracts that are left of a text; or what stops their flows.
-fn tables_listed(
+// The net of the flow tables of the contracts that are left of a text; or what stops their flows.
+fn net_listed(
     alloc: Global,
     until: &FlowsUntil<'_>,
     reader: &mut ContractReader<'_>,
-) -> Result<Vec<FlowTable>, Stop>
+) -> Result<FlowTable, Stop>
     requires begun { HasBegun (declarations until.now.choice.decls.now) reader.old }
     requires admitted { IsAdmitted (declarations until.now.choice.decls.now) until.now.fixings.now }
-    ensures { AnswersFlowTables until.now reader.old result }
+    requires summed { until.now.summed ≡ true }
+    ensures { AnswersNet until.now reader.old result }
 {
     let listed = flows_listed(alloc, until, reader)?;
-    Ok(listed.tables)
+    let net = listed.sum.table(alloc)?;
+    Ok(net)
 }
 
-// The flow tables of all contracts that are left of a text, at the defaults and in their order; or
-// what stops `flows` of them.
-fn tables_of_all(
+// The net of the flow tables of all contracts that are left of a text, at the defaults; or what
+// stops `flows` of them.
+fn net_of_all(
     alloc: Global,
     choice: Choice<'_>,
     reader: &mut ContractReader<'_>,
     asked: &Netting<'_>,
     table: Option<&[u8]>,
-) -> Result<Vec<FlowTable>, Stop>
+) -> Result<FlowTable, Stop>
     requires begun { HasBegun (declarations choice.decls.now) reader.old }
     requires table { IsShortTable (given_text table) }
     requires all { selection choice ≡ of_flows (flows_of_all (netting_by asked.now)) }
-    ensures { AnswersTablesOfAll choice.entry reader.old (netting_by asked.now)
+    ensures { AnswersNetOfAll choice.entry reader.old (netting_by asked.now)
         (given_text table.entry) result }
 {
     let over = flows_over(alloc, &choice, reader, asked.until, table)?;
@@ -83,25 +85,25 @@ fn tables_of_all(
         last: over.last,
         summed: true,
     };
-    tables_listed(alloc, &until, reader)
+    net_listed(alloc, &until, reader)
 }
 
-// The declarations of a text, and the flow tables of all its contracts.
-fn tables_of_text(
+// The declarations of a text, and the net of the flow tables of all its contracts.
+fn net_of_text(
     alloc: Global,
     text: &[u8],
     asked: &Netting<'_>,
     table: Option<&[u8]>,
-) -> Result<(Decls, Vec<FlowTable>), Stop>
+) -> Result<(Decls, FlowTable), Stop>
     requires short { length text.now ≤ longest_file }
     requires table { IsShortTable (given_text table) }
-    ensures { AnswersTablesOfText (netting_by asked.now) text.now (given_text table.entry) result }
+    ensures { AnswersNetOfText (netting_by asked.now) text.now (given_text table.entry) result }
 {
     let (decls, mut reader) = start_reading(alloc, text)?;
     let setting = defaults(alloc, &decls)?;
     let choice = all_contracts(&decls, &setting, None);
-    let tables = tables_of_all(alloc, choice, &mut reader, asked, table)?;
-    Ok((decls, tables))
+    let net = net_of_all(alloc, choice, &mut reader, asked, table)?;
+    Ok((decls, net))
 }
 
 /// What `positions` writes of a portfolio's text over the fixings of a table: a line for each
@@ -117,8 +119,8 @@ pub fn positions_text(
     ensures { GoesDone (netting_of_text TellsPositions (netting_by asked.now) text.now
         (given_text table.entry)) result }
 {
-    let (decls, tables) = tables_of_text(alloc, text, asked, table)?;
-    let found = positions(alloc, &tables)?;
+    let (decls, net) = net_of_text(alloc, text, asked, table)?;
+    let found = positions(alloc, &[net])?;
     let mut lines = Vec::new(alloc);
     append_positions(alloc, &mut lines, &decls, &found)?;
     Ok(lines)
@@ -137,8 +139,8 @@ pub fn settlement_text(
     ensures { GoesDone (netting_of_text TellsSettlement (netting_by asked.now) text.now
         (given_text table.entry)) result }
 {
-    let (decls, tables) = tables_of_text(alloc, text, asked, table)?;
-    let found = positions(alloc, &tables)?;
+    let (decls, net) = net_of_text(alloc, text, asked, table)?;
+    let found = positions(alloc, &[net])?;
     let settled = settle(alloc, &found)?;
     let mut lines = Vec::new(alloc);
     append_table(alloc, &mut lines, &decls, b"*", &settled)?;

@@ -9,7 +9,14 @@ use Rattle.command_answers.specs.FlowsParts.{AddsFlows, AnswersTable}
 use Rattle.command_answers.specs.declared.stop.Stop.{Stop}
 use Rattle.command_answers.proofs.KeptFlowsFacts.{flows_on, flows_still, flows_stop}
 use Rattle.command_answers.proofs.LineFacts.{rows_have_lines, rows_writable}
+use Rattle.command_answers.proofs.SumLineFacts.{one_summable}
 use Rattle.command_answers.proofs.flows_text.add_flows.Goals as goal
+
+pub list_table-requires-clause-summable : goal.list_table-requires-clause-summable
+list_table-requires-clause-summable c =
+    let until = c.args.until.now in
+    one_summable (declarations until.choice.decls.now) until.fixings.now until.last until.choice.decls.now.labels_in c.requires.admitted
+    (contract c.args.one.contr) c.in-Ok.table.rows.items c.requires.accepted c.in-Ok.ensures
 
 pub list_table-requires-clause-due : goal.list_table-requires-clause-due
 list_table-requires-clause-due c =

@@ -16,9 +16,9 @@ use Rattle.command_answers.proofs.flows_text.flows_of_all.Goals as goal
 pub loop-kept-init : goal.loop-kept-init
 loop-kept-init c = λ text begun.
     let until = c.args.until.now in
-    let kept : KeptFlows = record { listed = record { text = c.new.result; tables = c.new-2.result }; missing = None } in
+    let kept : KeptFlows = record { listed = record { text = c.new.result; sum = c.new-2.result }; missing = None } in
     walked_none text (declarations until.choice.decls.now) (selection until.choice) (HasFlows until kept) c.args.reader.now c.nothing_tried-tried.result begun
-    c.nothing_tried-tried.ensures.met c.nothing_tried-tried.ensures.refused (nothing_kept until kept refl c.new.ensures.items c.new-2.ensures.items)
+    c.nothing_tried-tried.ensures.met c.nothing_tried-tried.ensures.refused (nothing_kept until kept refl c.new.ensures.items c.new-2.ensures)
 
 pub add_next-requires-clause-sound : goal.add_next-requires-clause-sound
 add_next-requires-clause-sound c =

@@ -11,7 +11,7 @@ use Rattle.command_answers.proofs.flows_text.lines_asked.Goals as goal
 pub sum_lines-requires-clause-summable : goal.sum_lines-requires-clause-summable
 sum_lines-requires-clause-summable c =
     let text = c.requires.begun.0 in
-    can_be_summed text c.args.until.now c.in_ok-listed.listed (c.in_ok-listed.ensures text c.requires.begun.1) c.deref.result.now c.requires.begun.1.short c.if-until.true c.deref.ensures.value
+    can_be_summed text c.args.until.now c.in_ok-listed.listed (c.in_ok-listed.ensures text c.requires.begun.1) c.requires.begun.1.short c.if-until.true
 
 pub returns-in_err-listed : goal.returns-in_err-listed
 returns-in_err-listed c = λ text begun.

@@ -5,44 +5,38 @@ use Rattle.term_core.specs.Limits.{longest_file}
 use Rattle.command_answers.specs.FlowsParts.{AppendsLines}
 use Rattle.command_answers.specs.FlowsPromise.{AreLines}
 use Rattle.command_answers.proofs.LineFacts.{rows_writable}
-use Rattle.command_answers.proofs.SumLineFacts.{all_summable, as_many, sum_due, sum_has_lines, sum_known}
+use Rattle.command_answers.proofs.SumLineFacts.{sum_due, sum_has_lines, sum_known, sum_of_few}
 use Rattle.command_answers.proofs.flows_text.sum_lines.Goals as goal
 
-pub net-requires-clause-few : goal.net-requires-clause-few
-net-requires-clause-few c =
-    let until = c.args.until.now in
-    let d = declarations until.choice.decls.now in
-    let h = c.requires.summable in
-    let same = as_many d until.fixings.now until.last until.choice.decls.now.labels_in c.requires.admitted h.entries c.args.tables.now h.are_tables in
-    subst (λ (n : ℕ). n ≤ longest_file) (sym same) h.few
-
-pub net-requires-clause-summable : goal.net-requires-clause-summable
-net-requires-clause-summable c =
+pub table-requires : goal.table-requires
+table-requires c =
     let until = c.args.until.now in
     let h = c.requires.summable in
-    all_summable (declarations until.choice.decls.now) until.fixings.now until.last until.choice.decls.now.labels_in c.requires.admitted h.entries c.args.tables.now h.accepted h.are_tables
+    sum_of_few (declarations until.choice.decls.now) until.fixings.now until.last until.choice.decls.now.labels_in c.requires.admitted h.entries c.args.sum h.few h.is_sum
 
 pub append_table-requires-clause-due : goal.append_table-requires-clause-due
 append_table-requires-clause-due c =
     let until = c.args.until.now in
-    let h = c.requires.summable in
-    let rows = c.in_ok-sum.sum.rows.items in
+    let of = c.requires.summable.is_sum in
+    let rows = c.in_ok-table.table.rows.items in
     rows_writable until.choice.decls.now.start until.last rows until.within
-    (sum_due (declarations until.choice.decls.now) until.fixings.now until.last until.choice.decls.now.labels_in c.requires.admitted h.entries c.args.tables.now rows h.are_tables c.in_ok-sum.ensures)
+    (sum_due (declarations until.choice.decls.now) until.fixings.now until.last until.choice.decls.now.labels_in c.requires.admitted c.requires.summable.entries of.tables rows of.are_tables
+    (c.in_ok-table.ensures of.tables of.is_sum).0)
 
 pub append_table-requires-clause-lines : goal.append_table-requires-clause-lines
 append_table-requires-clause-lines c =
     let until = c.args.until.now in
     let h = c.requires.summable in
-    sum_has_lines (declarations until.choice.decls.now) until.fixings.now until.last until.choice.decls.now.labels_in c.requires.admitted h.entries c.args.tables.now
-    c.in_ok-sum.sum.rows.items h.accepted h.are_tables c.in_ok-sum.ensures
+    let of = h.is_sum in
+    sum_has_lines (declarations until.choice.decls.now) until.fixings.now until.last until.choice.decls.now.labels_in c.requires.admitted h.entries of.tables
+    c.in_ok-table.table.rows.items h.accepted of.are_tables (c.in_ok-table.ensures of.tables of.is_sum).0
 
 pub returns : goal.returns
-returns c = λ entries are_tables.
+returns c = λ entries of.
     let until = c.args.until.now in
     let d = declarations until.choice.decls.now in
-    let rows = c.in_ok-sum.sum.rows.items in
+    let rows = c.in_ok-table.table.rows.items in
     let text = c.append_table.new.out.items in
     let lines : AppendsLines d (codes "*") rows [] text = subst (λ (before : List ℕ). AppendsLines d (codes "*") rows before text) c.new-text.ensures.items c.in_ok-append_table.ensures in
-    sum_known d until.fixings.now until.last until.choice.decls.now.labels_in c.requires.admitted entries c.args.tables.now rows text are_tables c.in_ok-sum.ensures
+    sum_known d until.fixings.now until.last until.choice.decls.now.labels_in c.requires.admitted entries of.tables rows text of.are_tables (c.in_ok-table.ensures of.tables of.is_sum).0
     (subst (λ (t : List ℕ). AreLines d (codes "*") rows t) (sym lines.appended) lines.lines)

@@ -1,5 +1,4 @@
 use Rattle.std.proofs.Common.{Bor, ap, subst, sym}
-use Rattle.std.specs.Global.{Vec}
 use Rattle.term_core.specs.declared.decls.Decls.{Decls}
 use Rattle.term_core.specs.Declarations.{Declarations, declarations}
 use Rattle.flow_eval.specs.declared.flow_table.FlowTable.{FlowTable}
@@ -8,13 +7,13 @@ use Rattle.command_words.specs.Words.{netting_by}
 use Rattle.command_answers.specs.Course.{Stops}
 use Rattle.command_answers.specs.FlowsCourse.{flows_of_text}
 use Rattle.command_answers.specs.NettingCourse.{flows_of_all}
-use Rattle.command_answers.specs.NettingParts.{KnowsTables}
+use Rattle.command_answers.specs.NettingParts.{KnowsNet}
 use Rattle.command_answers.specs.ReadingParts.{IsBegun}
 use Rattle.command_answers.proofs.StopFacts.{handed_on}
-use Rattle.command_answers.proofs.netting_text.tables_of_text.Goals as goal
+use Rattle.command_answers.proofs.netting_text.net_of_text.Goals as goal
 
-pub returns-in_err-tables : goal.returns-in_err-tables
-returns-in_err-tables c =
+pub returns-in_err-net : goal.returns-in_err-net
+returns-in_err-net c =
     let text = c.args.text.now in
     let asked = netting_by c.args.asked.now in
     let table = given_text c.args.table in
@@ -22,6 +21,6 @@ returns-in_err-tables c =
     let same = ap (λ (b : Bor Decls). declarations b.now) c.all_contracts-choice.ensures.decls in
     let begun = subst (λ (d : Declarations). IsBegun text d c.in_ok-decls.reader) (sym same) c.in_ok-decls.ensures in
     let Stopped = Stops (flows_of_text (flows_of_all asked) text table) in
-    handed_on (λ (tables : Vec FlowTable). KnowsTables asked text table (declarations choice.decls.now) tables.items)
-    (λ (all : Decls × Vec FlowTable). KnowsTables asked text table (declarations all.0) all.1.items) Stopped Stopped (λ f h. h)
-    c.in_err-tables.field-0.0 c.from_residual-in_err-tables.result (c.in_err-tables.ensures text begun) c.from_residual-in_err-tables.ensures.1
+    handed_on (KnowsNet asked text table (declarations choice.decls.now))
+    (λ (all : Decls × FlowTable). KnowsNet asked text table (declarations all.0) all.1) Stopped Stopped (λ f h. h)
+    c.in_err-net.field-0.0 c.from_residual-in_err-net.result (c.in_err-net.ensures text begun) c.from_residual-in_err-net.ensures.1

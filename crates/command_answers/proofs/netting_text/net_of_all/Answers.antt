@@ -1,9 +1,7 @@
 use Rattle.std.proofs.Common.{ℤ, refl, subst, sym, w64}
 use Rattle.std.proofs.lemmas.Int.{to_z-of_z}
-use Rattle.std.specs.Global.{Vec}
 use Rattle.term_core.specs.Declarations.{declarations}
 use Rattle.contract_parse.specs.declared.next_contracts.ContractReader.{ContractReader}
-use Rattle.flow_eval.specs.declared.flow_table.FlowTable.{FlowTable}
 use Rattle.command_words.specs.Arguments.{given_text}
 use Rattle.command_words.specs.Words.{netting_by}
 use Rattle.command_answers.specs.ChoosingParts.{StopsIn, selection}
@@ -11,14 +9,14 @@ use Rattle.command_answers.specs.Course.{Stops}
 use Rattle.command_answers.specs.FlowsCourse.{flows_of_text}
 use Rattle.command_answers.specs.FlowsParts.{CanBeLast, IsOver, StopsOverFixings}
 use Rattle.command_answers.specs.NettingCourse.{flows_of_all}
-use Rattle.command_answers.specs.NettingParts.{KnowsTables}
+use Rattle.command_answers.specs.NettingParts.{KnowsNet}
 use Rattle.command_answers.specs.ReadingParts.{IsBegun}
 use Rattle.command_answers.specs.declared.flows_text.Over.{Over}
 use Rattle.command_answers.proofs.DayFacts.{fits_day}
 use Rattle.command_answers.proofs.FlowsStops.{stops_over}
-use Rattle.command_answers.proofs.NettingFacts.{tables_of_lists}
+use Rattle.command_answers.proofs.NettingFacts.{net_of_lists}
 use Rattle.command_answers.proofs.StopFacts.{handed_on}
-use Rattle.command_answers.proofs.netting_text.tables_of_all.Goals as goal
+use Rattle.command_answers.proofs.netting_text.net_of_all.Goals as goal
 
 pub returns-in_err-over : goal.returns-in_err-over
 returns-in_err-over c = λ text begun.
@@ -26,7 +24,7 @@ returns-in_err-over c = λ text begun.
     let s = selection c.args.choice in
     let asked = netting_by c.args.asked.now in
     let table = given_text c.args.table in
-    handed_on (λ (over : Over). IsOver d asked.until table over) (λ (tables : Vec FlowTable). KnowsTables asked text table d tables.items)
+    handed_on (λ (over : Over). IsOver d asked.until table over) (KnowsNet asked text table d)
     (StopsIn text d (λ b. StopsOverFixings b s asked.until table)) (Stops (flows_of_text (flows_of_all asked) text table))
     (λ f h. stops_over (flows_of_all asked) text table d s f c.requires.all h)
     c.in_err-over.field-0.0 c.from_residual.result (c.in_err-over.ensures.over text begun) c.from_residual.ensures.1
@@ -38,5 +36,5 @@ returns c = λ text begun.
     let over = c.in_ok-over.ensures.over text begun in
     let last = c.in_ok-over.over.last in
     let is_last = subst (λ (x : ℤ). CanBeLast d asked.until x) (sym (to_z-of_z w64 last (fits_day last over.last.first over.last.within))) over.last in
-    tables_of_lists asked text (given_text c.args.table) _ c.requires.all is_last over.fixings c.args.choice.decls.now.labels_in begun.short refl c.tables_listed.result
-    (c.tables_listed.ensures text (subst (λ (reader : ContractReader). IsBegun text d reader) (sym c.in_ok-over.ensures.unread) begun))
+    net_of_lists asked text (given_text c.args.table) _ c.requires.all is_last over.fixings c.args.choice.decls.now.labels_in begun.short refl c.net_listed.result
+    (c.net_listed.ensures text (subst (λ (reader : ContractReader). IsBegun text d reader) (sym c.in_ok-over.ensures.unread) begun))
