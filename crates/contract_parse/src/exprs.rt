@@ -3,16 +3,18 @@ ghost use Rattle.std.specs.Prelude.{◌≡◌, ◌≤◌, ◌<◌, ◌+◌, ◌�
 ghost use Rattle.term_core.specs.Terms.{Lit, expression};
 ghost use Rattle.term_core.specs.Sizes.{height};
 ghost use Rattle.contract_parse.specs.Words.{Bytes};
-ghost use Rattle.contract_parse.specs.Names.{DeclaredNames, names_in};
+ghost use Rattle.contract_parse.specs.Names.{DeclaredNames};
+ghost use Rattle.contract_parse.specs.Frames.{PassesAt, expr_place, expression_at, names_at, places_behind_first};
 ghost use Rattle.contract_parse.specs.Judgements.{binder_at, integer_at, mode_at};
 ghost use Rattle.contract_parse.specs.Spelling.{expr, mark, pair, valued, ◌⨟◌};
-ghost use Rattle.contract_parse.specs.Places.{BinderAt, ExprAt, IntegerAt, LiteralNumber, ModeAt, TheMark, binder_places, operand_places, pair_places};
-ghost use Rattle.contract_parse.specs.Reading.{declared_in, joined};
+ghost use Rattle.contract_parse.specs.Places.{BinderAt, IntegerAt, LiteralNumber, ModeAt, TheMark, binder_places, operand_places, pair_places};
+ghost use Rattle.contract_parse.specs.Reading.{joined};
 ghost use Rattle.contract_parse.specs.Heads.{greatest_depth};
-ghost use Rattle.contract_parse.specs.Readers.{Binds, KeepsLeaves, Passes, PassesAnywhere, Reads, behind_first, behind_part, behind_sign, behind_word, expression_in, first_token};
+ghost use Rattle.contract_parse.specs.Readers.{Binds, KeepsLeaves, PassesAnywhere, Reads, behind_part, behind_sign, behind_word, first_token};
 ghost use Rattle.contract_parse.specs.declared.heads.Binder.{Binder};
 
 use crate::faults::ReadErr;
+use crate::frame::Frame;
 use crate::heads::{First, Operator, first_at};
 use crate::judges::refuse;
 use crate::leaves::LeafReader;
@@ -22,7 +24,7 @@ use crate::readers::{
 use crate::words::next;
 use decimal::{Decimal, Mode};
 use std::alloc::Global;
-use term_core::{Decls, Expr, NumOp, Scope};
+use term_core::{Expr, NumOp, Scope};
 
 fn joined(operator: Operator, left: Box<Expr>, right: Box<Expr>) -> Expr
     ensures { expression result ≡ joined operator (expression left.value) (expression right.value) }
@@ -98,26 +100,22 @@ fn read_negative(rest: &[u8]) -> Result<(Expr, &[u8]), ReadErr>
     Ok((literal(number), rest))
 }
 
-// An expression one deeper, in a box.
+// An expression in a box.
 #[cycle(expr)]
 fn read_boxed<'a, L: LeafReader>(
     alloc: Global,
     leaves: &mut L,
-    decls: &Decls,
-    bound: &Scope<&[u8]>,
-    depth: u32,
+    frame: &Frame,
     rest: &'a [u8],
 ) -> Result<(Box<Expr>, &'a [u8]), ReadErr>
-    requires shallow { depth ≤ greatest_depth L.LANGUAGE }
-    requires bound { length (names_in bound.now) ≤ depth }
-    ensures reads { Reads (Passes decls.now (λ s ps.
-        ExprAt L.LANGUAGE (depth + 1) (names_in bound.now) ∷ ps))
-        (λ r. expression_in (L.leaf leaves.new) decls.now bound.now r.0.value)
+    ensures reads { Reads (PassesAt frame.now (λ s ps. expr_place L.LANGUAGE frame.now ∷ ps))
+        (λ r. expression_at (L.leaf leaves.new) frame.now r.0.value)
         (λ r. r.1.now) rest.now result }
-    ensures high { IfOk result (λ r. height (expression r.0.value) + depth ≤ greatest_depth L.LANGUAGE) }
+    ensures high { IfOk result
+        (λ r. height (expression r.0.value) + frame.now.depth ≤ greatest_depth L.LANGUAGE) }
     ensures kept { OnOk result (KeepsLeaves (L.leaf leaves.old) (L.leaf leaves.new)) }
 {
-    let (of, rest) = read_expr(alloc, leaves, decls, bound, depth + 1, rest)?;
+    let (of, rest) = read_expr(alloc, leaves, frame, rest)?;
     let of = Box::new(alloc, of)?;
     Ok((of, rest))
 }
@@ -128,23 +126,20 @@ fn read_boxed<'a, L: LeafReader>(
 fn read_behind<'a, L: LeafReader>(
     alloc: Global,
     leaves: &mut L,
-    decls: &Decls,
-    bound: &Scope<&[u8]>,
-    depth: u32,
+    frame: &Frame,
     wanted: &[u8],
     rest: &'a [u8],
 ) -> Result<(Box<Expr>, &'a [u8]), ReadErr>
-    requires shallow { depth ≤ greatest_depth L.LANGUAGE }
-    requires bound { length (names_in bound.now) ≤ depth }
-    ensures reads { Reads (Passes decls.now (λ s ps.
-        TheMark wanted.now ∷ ExprAt L.LANGUAGE (depth + 1) (names_in bound.now) ∷ ps))
-        (λ r. mark wanted.now ⨟ expression_in (L.leaf leaves.new) decls.now bound.now r.0.value)
+    ensures reads { Reads (PassesAt frame.now (λ s ps.
+        TheMark wanted.now ∷ expr_place L.LANGUAGE frame.now ∷ ps))
+        (λ r. mark wanted.now ⨟ expression_at (L.leaf leaves.new) frame.now r.0.value)
         (λ r. r.1.now) rest.now result }
-    ensures high { IfOk result (λ r. height (expression r.0.value) + depth ≤ greatest_depth L.LANGUAGE) }
+    ensures high { IfOk result
+        (λ r. height (expression r.0.value) + frame.now.depth ≤ greatest_depth L.LANGUAGE) }
     ensures kept { OnOk result (KeepsLeaves (L.leaf leaves.old) (L.leaf leaves.new)) }
 {
     let rest = skip_mark(rest, wanted)?;
-    read_boxed(alloc, leaves, decls, bound, depth, rest)
+    read_boxed(alloc, leaves, frame, rest)
 }
 
 // One expression in parentheses.
@@ -153,21 +148,19 @@ fn read_behind<'a, L: LeafReader>(
 fn read_operand<'a, L: LeafReader>(
     alloc: Global,
     leaves: &mut L,
-    decls: &Decls,
-    bound: &Scope<&[u8]>,
-    depth: u32,
+    frame: &Frame,
     rest: &'a [u8],
 ) -> Result<(Box<Expr>, &'a [u8]), ReadErr>
-    requires shallow { depth ≤ greatest_depth L.LANGUAGE }
-    requires bound { length (names_in bound.now) < depth }
-    ensures reads { Reads (Passes decls.now (λ s ps.
-        operand_places (ExprAt L.LANGUAGE (depth + 1) (names_in bound.now)) ps))
-        (λ r. mark (codes "(") ⨟ expression_in (L.leaf leaves.new) decls.now bound.now r.0.value ⨟ mark (codes ")"))
+    ensures reads { Reads (PassesAt frame.now (λ s ps.
+        operand_places (expr_place L.LANGUAGE frame.now) ps))
+        (λ r. mark (codes "(") ⨟ expression_at (L.leaf leaves.new) frame.now r.0.value
+        ⨟ mark (codes ")"))
         (λ r. r.1.now) rest.now result }
-    ensures high { IfOk result (λ r. height (expression r.0.value) + depth ≤ greatest_depth L.LANGUAGE) }
+    ensures high { IfOk result
+        (λ r. height (expression r.0.value) + frame.now.depth ≤ greatest_depth L.LANGUAGE) }
     ensures kept { OnOk result (KeepsLeaves (L.leaf leaves.old) (L.leaf leaves.new)) }
 {
-    let (of, rest) = read_behind(alloc, leaves, decls, bound, depth, b"(", rest)?;
+    let (of, rest) = read_behind(alloc, leaves, frame, b"(", rest)?;
     let rest = skip_mark(rest, b")")?;
     Ok((of, rest))
 }
@@ -178,20 +171,17 @@ fn read_operand<'a, L: LeafReader>(
 fn read_neg<'a, L: LeafReader>(
     alloc: Global,
     leaves: &mut L,
-    decls: &Decls,
-    bound: &Scope<&[u8]>,
-    depth: u32,
+    frame: &Frame,
     rest: &'a [u8],
 ) -> Result<(Expr, &'a [u8]), ReadErr>
-    requires shallow { depth ≤ greatest_depth L.LANGUAGE }
-    requires bound { length (names_in bound.now) < depth }
-    ensures reads { Reads (Passes decls.now (behind_first L.LANGUAGE depth bound.now First.Neg))
-        (λ r. behind_word (codes "neg") (expression_in (L.leaf leaves.new) decls.now bound.now r.0))
+    ensures reads { Reads (PassesAt frame.now (places_behind_first L.LANGUAGE frame.now First.Neg))
+        (λ r. behind_word (codes "neg") (expression_at (L.leaf leaves.new) frame.now r.0))
         (λ r. r.1.now) rest.now result }
-    ensures high { IfOk result (λ r. height (expression r.0) + depth ≤ greatest_depth L.LANGUAGE + 1) }
+    ensures high { IfOk result
+        (λ r. height (expression r.0) + frame.now.depth ≤ greatest_depth L.LANGUAGE + 1) }
     ensures kept { OnOk result (KeepsLeaves (L.leaf leaves.old) (L.leaf leaves.new)) }
 {
-    let (of, rest) = read_operand(alloc, leaves, decls, bound, depth, rest)?;
+    let (of, rest) = read_operand(alloc, leaves, frame, rest)?;
     Ok((Expr::Neg { of }, rest))
 }
 
@@ -201,20 +191,17 @@ fn read_neg<'a, L: LeafReader>(
 fn read_not<'a, L: LeafReader>(
     alloc: Global,
     leaves: &mut L,
-    decls: &Decls,
-    bound: &Scope<&[u8]>,
-    depth: u32,
+    frame: &Frame,
     rest: &'a [u8],
 ) -> Result<(Expr, &'a [u8]), ReadErr>
-    requires shallow { depth ≤ greatest_depth L.LANGUAGE }
-    requires bound { length (names_in bound.now) < depth }
-    ensures reads { Reads (Passes decls.now (behind_first L.LANGUAGE depth bound.now First.Not))
-        (λ r. behind_word (codes "not") (expression_in (L.leaf leaves.new) decls.now bound.now r.0))
+    ensures reads { Reads (PassesAt frame.now (places_behind_first L.LANGUAGE frame.now First.Not))
+        (λ r. behind_word (codes "not") (expression_at (L.leaf leaves.new) frame.now r.0))
         (λ r. r.1.now) rest.now result }
-    ensures high { IfOk result (λ r. height (expression r.0) + depth ≤ greatest_depth L.LANGUAGE + 1) }
+    ensures high { IfOk result
+        (λ r. height (expression r.0) + frame.now.depth ≤ greatest_depth L.LANGUAGE + 1) }
     ensures kept { OnOk result (KeepsLeaves (L.leaf leaves.old) (L.leaf leaves.new)) }
 {
-    let (of, rest) = read_operand(alloc, leaves, decls, bound, depth, rest)?;
+    let (of, rest) = read_operand(alloc, leaves, frame, rest)?;
     Ok((Expr::Not { of }, rest))
 }
 
@@ -224,24 +211,21 @@ fn read_not<'a, L: LeafReader>(
 fn read_pair<'a, L: LeafReader>(
     alloc: Global,
     leaves: &mut L,
-    decls: &Decls,
-    bound: &Scope<&[u8]>,
-    depth: u32,
+    frame: &Frame,
     rest: &'a [u8],
 ) -> Result<(Box<Expr>, Box<Expr>, &'a [u8]), ReadErr>
-    requires shallow { depth ≤ greatest_depth L.LANGUAGE }
-    requires bound { length (names_in bound.now) < depth }
-    ensures reads { Reads (Passes decls.now (λ s ps.
-        pair_places (ExprAt L.LANGUAGE (depth + 1) (names_in bound.now))
-        (ExprAt L.LANGUAGE (depth + 1) (names_in bound.now)) ps))
-        (λ r. pair (expression_in (L.leaf leaves.new) decls.now bound.now r.0.value) (expression_in (L.leaf leaves.new) decls.now bound.now r.1.value))
+    ensures reads { Reads (PassesAt frame.now (λ s ps.
+        pair_places (expr_place L.LANGUAGE frame.now) (expr_place L.LANGUAGE frame.now) ps))
+        (λ r. pair (expression_at (L.leaf leaves.new) frame.now r.0.value)
+        (expression_at (L.leaf leaves.new) frame.now r.1.value))
         (λ r. r.2.now) rest.now result }
     ensures high { IfOk result
-        (λ r. max (height (expression r.0.value)) (height (expression r.1.value)) + depth ≤ greatest_depth L.LANGUAGE) }
+        (λ r. max (height (expression r.0.value)) (height (expression r.1.value)) + frame.now.depth
+        ≤ greatest_depth L.LANGUAGE) }
     ensures kept { OnOk result (KeepsLeaves (L.leaf leaves.old) (L.leaf leaves.new)) }
 {
-    let (left, rest) = read_behind(alloc, leaves, decls, bound, depth, b"(", rest)?;
-    let (right, rest) = read_behind(alloc, leaves, decls, bound, depth, b",", rest)?;
+    let (left, rest) = read_behind(alloc, leaves, frame, b"(", rest)?;
+    let (right, rest) = read_behind(alloc, leaves, frame, b",", rest)?;
     let rest = skip_mark(rest, b")")?;
     Ok((left, right, rest))
 }
@@ -252,20 +236,17 @@ fn read_pair<'a, L: LeafReader>(
 fn read_min<'a, L: LeafReader>(
     alloc: Global,
     leaves: &mut L,
-    decls: &Decls,
-    bound: &Scope<&[u8]>,
-    depth: u32,
+    frame: &Frame,
     rest: &'a [u8],
 ) -> Result<(Expr, &'a [u8]), ReadErr>
-    requires shallow { depth ≤ greatest_depth L.LANGUAGE }
-    requires bound { length (names_in bound.now) < depth }
-    ensures reads { Reads (Passes decls.now (behind_first L.LANGUAGE depth bound.now First.Min))
-        (λ r. behind_word (codes "min") (expression_in (L.leaf leaves.new) decls.now bound.now r.0))
+    ensures reads { Reads (PassesAt frame.now (places_behind_first L.LANGUAGE frame.now First.Min))
+        (λ r. behind_word (codes "min") (expression_at (L.leaf leaves.new) frame.now r.0))
         (λ r. r.1.now) rest.now result }
-    ensures high { IfOk result (λ r. height (expression r.0) + depth ≤ greatest_depth L.LANGUAGE + 1) }
+    ensures high { IfOk result
+        (λ r. height (expression r.0) + frame.now.depth ≤ greatest_depth L.LANGUAGE + 1) }
     ensures kept { OnOk result (KeepsLeaves (L.leaf leaves.old) (L.leaf leaves.new)) }
 {
-    let (left, right, rest) = read_pair(alloc, leaves, decls, bound, depth, rest)?;
+    let (left, right, rest) = read_pair(alloc, leaves, frame, rest)?;
     let op = NumOp::Min;
     Ok((Expr::Num { op, left, right }, rest))
 }
@@ -276,20 +257,17 @@ fn read_min<'a, L: LeafReader>(
 fn read_max<'a, L: LeafReader>(
     alloc: Global,
     leaves: &mut L,
-    decls: &Decls,
-    bound: &Scope<&[u8]>,
-    depth: u32,
+    frame: &Frame,
     rest: &'a [u8],
 ) -> Result<(Expr, &'a [u8]), ReadErr>
-    requires shallow { depth ≤ greatest_depth L.LANGUAGE }
-    requires bound { length (names_in bound.now) < depth }
-    ensures reads { Reads (Passes decls.now (behind_first L.LANGUAGE depth bound.now First.Max))
-        (λ r. behind_word (codes "max") (expression_in (L.leaf leaves.new) decls.now bound.now r.0))
+    ensures reads { Reads (PassesAt frame.now (places_behind_first L.LANGUAGE frame.now First.Max))
+        (λ r. behind_word (codes "max") (expression_at (L.leaf leaves.new) frame.now r.0))
         (λ r. r.1.now) rest.now result }
-    ensures high { IfOk result (λ r. height (expression r.0) + depth ≤ greatest_depth L.LANGUAGE + 1) }
+    ensures high { IfOk result
+        (λ r. height (expression r.0) + frame.now.depth ≤ greatest_depth L.LANGUAGE + 1) }
     ensures kept { OnOk result (KeepsLeaves (L.leaf leaves.old) (L.leaf leaves.new)) }
 {
-    let (left, right, rest) = read_pair(alloc, leaves, decls, bound, depth, rest)?;
+    let (left, right, rest) = read_pair(alloc, leaves, frame, rest)?;
     let op = NumOp::Max;
     Ok((Expr::Num { op, left, right }, rest))
 }
@@ -300,22 +278,19 @@ fn read_max<'a, L: LeafReader>(
 fn read_infix<'a, L: LeafReader>(
     alloc: Global,
     leaves: &mut L,
-    decls: &Decls,
-    bound: &Scope<&[u8]>,
-    depth: u32,
+    frame: &Frame,
     rest: &'a [u8],
 ) -> Result<(Expr, &'a [u8]), ReadErr>
-    requires shallow { depth ≤ greatest_depth L.LANGUAGE }
-    requires bound { length (names_in bound.now) < depth }
-    ensures reads { Reads (Passes decls.now (behind_first L.LANGUAGE depth bound.now First.Open))
-        (λ r. behind_part (mark (codes "(")) (expression_in (L.leaf leaves.new) decls.now bound.now r.0))
+    ensures reads { Reads (PassesAt frame.now (places_behind_first L.LANGUAGE frame.now First.Open))
+        (λ r. behind_part (mark (codes "(")) (expression_at (L.leaf leaves.new) frame.now r.0))
         (λ r. r.1.now) rest.now result }
-    ensures high { IfOk result (λ r. height (expression r.0) + depth ≤ greatest_depth L.LANGUAGE + 1) }
+    ensures high { IfOk result
+        (λ r. height (expression r.0) + frame.now.depth ≤ greatest_depth L.LANGUAGE + 1) }
     ensures kept { OnOk result (KeepsLeaves (L.leaf leaves.old) (L.leaf leaves.new)) }
 {
-    let (left, rest) = read_boxed(alloc, leaves, decls, bound, depth, rest)?;
+    let (left, rest) = read_boxed(alloc, leaves, frame, rest)?;
     let (operator, rest) = read_operator(rest)?;
-    let (right, rest) = read_boxed(alloc, leaves, decls, bound, depth, rest)?;
+    let (right, rest) = read_boxed(alloc, leaves, frame, rest)?;
     let rest = skip_mark(rest, b")")?;
     Ok((joined(operator, left, right), rest))
 }
@@ -326,22 +301,19 @@ fn read_infix<'a, L: LeafReader>(
 fn read_choice<'a, L: LeafReader>(
     alloc: Global,
     leaves: &mut L,
-    decls: &Decls,
-    bound: &Scope<&[u8]>,
-    depth: u32,
+    frame: &Frame,
     rest: &'a [u8],
 ) -> Result<(Expr, &'a [u8]), ReadErr>
-    requires shallow { depth ≤ greatest_depth L.LANGUAGE }
-    requires bound { length (names_in bound.now) < depth }
-    ensures reads { Reads (Passes decls.now (behind_first L.LANGUAGE depth bound.now First.If))
-        (λ r. behind_word (codes "if") (expression_in (L.leaf leaves.new) decls.now bound.now r.0))
+    ensures reads { Reads (PassesAt frame.now (places_behind_first L.LANGUAGE frame.now First.If))
+        (λ r. behind_word (codes "if") (expression_at (L.leaf leaves.new) frame.now r.0))
         (λ r. r.1.now) rest.now result }
-    ensures high { IfOk result (λ r. height (expression r.0) + depth ≤ greatest_depth L.LANGUAGE + 1) }
+    ensures high { IfOk result
+        (λ r. height (expression r.0) + frame.now.depth ≤ greatest_depth L.LANGUAGE + 1) }
     ensures kept { OnOk result (KeepsLeaves (L.leaf leaves.old) (L.leaf leaves.new)) }
 {
-    let (test, rest) = read_behind(alloc, leaves, decls, bound, depth, b"(", rest)?;
-    let (yes, rest) = read_behind(alloc, leaves, decls, bound, depth, b",", rest)?;
-    let (no, rest) = read_behind(alloc, leaves, decls, bound, depth, b",", rest)?;
+    let (test, rest) = read_behind(alloc, leaves, frame, b"(", rest)?;
+    let (yes, rest) = read_behind(alloc, leaves, frame, b",", rest)?;
+    let (no, rest) = read_behind(alloc, leaves, frame, b",", rest)?;
     let rest = skip_mark(rest, b")")?;
     Ok((Expr::Cond { test, yes, no }, rest))
 }
@@ -352,21 +324,19 @@ fn read_choice<'a, L: LeafReader>(
 fn read_widen<'a, L: LeafReader>(
     alloc: Global,
     leaves: &mut L,
-    decls: &Decls,
-    bound: &Scope<&[u8]>,
-    depth: u32,
+    frame: &Frame,
     rest: &'a [u8],
 ) -> Result<(Expr, &'a [u8]), ReadErr>
-    requires shallow { depth ≤ greatest_depth L.LANGUAGE }
-    requires bound { length (names_in bound.now) < depth }
-    ensures reads { Reads (Passes decls.now (behind_first L.LANGUAGE depth bound.now First.Widen))
-        (λ r. behind_word (codes "widen") (expression_in (L.leaf leaves.new) decls.now bound.now r.0))
+    ensures reads { Reads
+        (PassesAt frame.now (places_behind_first L.LANGUAGE frame.now First.Widen))
+        (λ r. behind_word (codes "widen") (expression_at (L.leaf leaves.new) frame.now r.0))
         (λ r. r.1.now) rest.now result }
-    ensures high { IfOk result (λ r. height (expression r.0) + depth ≤ greatest_depth L.LANGUAGE + 1) }
+    ensures high { IfOk result
+        (λ r. height (expression r.0) + frame.now.depth ≤ greatest_depth L.LANGUAGE + 1) }
     ensures kept { OnOk result (KeepsLeaves (L.leaf leaves.old) (L.leaf leaves.new)) }
 {
     let (scale, rest) = read_scale(b"(", rest)?;
-    let (of, rest) = read_behind(alloc, leaves, decls, bound, depth, b",", rest)?;
+    let (of, rest) = read_behind(alloc, leaves, frame, b",", rest)?;
     let rest = skip_mark(rest, b")")?;
     Ok((Expr::Widen { scale, of }, rest))
 }
@@ -377,21 +347,19 @@ fn read_widen<'a, L: LeafReader>(
 fn read_round<'a, L: LeafReader>(
     alloc: Global,
     leaves: &mut L,
-    decls: &Decls,
-    bound: &Scope<&[u8]>,
-    depth: u32,
+    frame: &Frame,
     rest: &'a [u8],
 ) -> Result<(Expr, &'a [u8]), ReadErr>
-    requires shallow { depth ≤ greatest_depth L.LANGUAGE }
-    requires bound { length (names_in bound.now) < depth }
-    ensures reads { Reads (Passes decls.now (behind_first L.LANGUAGE depth bound.now First.Round))
-        (λ r. behind_word (codes "round") (expression_in (L.leaf leaves.new) decls.now bound.now r.0))
+    ensures reads { Reads
+        (PassesAt frame.now (places_behind_first L.LANGUAGE frame.now First.Round))
+        (λ r. behind_word (codes "round") (expression_at (L.leaf leaves.new) frame.now r.0))
         (λ r. r.1.now) rest.now result }
-    ensures high { IfOk result (λ r. height (expression r.0) + depth ≤ greatest_depth L.LANGUAGE + 1) }
+    ensures high { IfOk result
+        (λ r. height (expression r.0) + frame.now.depth ≤ greatest_depth L.LANGUAGE + 1) }
     ensures kept { OnOk result (KeepsLeaves (L.leaf leaves.old) (L.leaf leaves.new)) }
 {
     let (mode, scale, rest) = read_rounding(rest)?;
-    let (of, rest) = read_behind(alloc, leaves, decls, bound, depth, b",", rest)?;
+    let (of, rest) = read_behind(alloc, leaves, frame, b",", rest)?;
     let rest = skip_mark(rest, b")")?;
     Ok((Expr::Round { mode, scale, of }, rest))
 }
@@ -402,22 +370,19 @@ fn read_round<'a, L: LeafReader>(
 fn read_div<'a, L: LeafReader>(
     alloc: Global,
     leaves: &mut L,
-    decls: &Decls,
-    bound: &Scope<&[u8]>,
-    depth: u32,
+    frame: &Frame,
     rest: &'a [u8],
 ) -> Result<(Expr, &'a [u8]), ReadErr>
-    requires shallow { depth ≤ greatest_depth L.LANGUAGE }
-    requires bound { length (names_in bound.now) < depth }
-    ensures reads { Reads (Passes decls.now (behind_first L.LANGUAGE depth bound.now First.Div))
-        (λ r. behind_word (codes "div") (expression_in (L.leaf leaves.new) decls.now bound.now r.0))
+    ensures reads { Reads (PassesAt frame.now (places_behind_first L.LANGUAGE frame.now First.Div))
+        (λ r. behind_word (codes "div") (expression_at (L.leaf leaves.new) frame.now r.0))
         (λ r. r.1.now) rest.now result }
-    ensures high { IfOk result (λ r. height (expression r.0) + depth ≤ greatest_depth L.LANGUAGE + 1) }
+    ensures high { IfOk result
+        (λ r. height (expression r.0) + frame.now.depth ≤ greatest_depth L.LANGUAGE + 1) }
     ensures kept { OnOk result (KeepsLeaves (L.leaf leaves.old) (L.leaf leaves.new)) }
 {
     let (mode, scale, rest) = read_rounding(rest)?;
-    let (top, rest) = read_behind(alloc, leaves, decls, bound, depth, b",", rest)?;
-    let (below, rest) = read_behind(alloc, leaves, decls, bound, depth, b",", rest)?;
+    let (top, rest) = read_behind(alloc, leaves, frame, b",", rest)?;
+    let (below, rest) = read_behind(alloc, leaves, frame, b",", rest)?;
     let rest = skip_mark(rest, b")")?;
     Ok((
         Expr::Div {
@@ -436,27 +401,30 @@ fn read_div<'a, L: LeafReader>(
 fn read_acc<'a, L: LeafReader>(
     alloc: Global,
     leaves: &mut L,
-    decls: &Decls,
-    bound: &Scope<&[u8]>,
-    depth: u32,
+    frame: &Frame,
     rest: &'a [u8],
 ) -> Result<(Expr, &'a [u8]), ReadErr>
-    requires shallow { depth ≤ greatest_depth L.LANGUAGE }
-    requires bound { length (names_in bound.now) < depth }
-    ensures reads { Reads (Passes decls.now (behind_first L.LANGUAGE depth bound.now First.Acc))
-        (λ r. behind_word (codes "acc") (expression_in (L.leaf leaves.new) decls.now bound.now r.0))
+    requires { length (names_at frame.now) < frame.now.depth }
+    ensures reads { Reads (PassesAt frame.now (places_behind_first L.LANGUAGE frame.now First.Acc))
+        (λ r. behind_word (codes "acc") (expression_at (L.leaf leaves.new) frame.now r.0))
         (λ r. r.1.now) rest.now result }
-    ensures high { IfOk result (λ r. height (expression r.0) + depth ≤ greatest_depth L.LANGUAGE + 1) }
+    ensures high { IfOk result
+        (λ r. height (expression r.0) + frame.now.depth ≤ greatest_depth L.LANGUAGE + 1) }
     ensures kept { OnOk result (KeepsLeaves (L.leaf leaves.old) (L.leaf leaves.new)) }
 {
     let (name, rest) = read_bound_name(rest)?;
-    let inner = Scope::Bound {
+    let bound = Scope::Bound {
         held: name,
-        outer: &*bound,
+        outer: frame.bound,
     };
-    let (body, rest) = read_behind(alloc, leaves, decls, &inner, depth, b",", rest)?;
+    let inner = Frame {
+        decls: frame.decls,
+        bound: &bound,
+        depth: frame.depth,
+    };
+    let (body, rest) = read_behind(alloc, leaves, &inner, b",", rest)?;
     let (days, rest) = read_days_back(rest)?;
-    let (first, rest) = read_behind(alloc, leaves, decls, bound, depth, b",", rest)?;
+    let (first, rest) = read_behind(alloc, leaves, frame, b",", rest)?;
     let rest = skip_mark(rest, b")")?;
     Ok((Expr::Acc { body, days, first }, rest))
 }
@@ -467,17 +435,17 @@ fn read_behind_first<'a, L: LeafReader>(
     first: First,
     alloc: Global,
     leaves: &mut L,
-    decls: &Decls,
-    bound: &Scope<&[u8]>,
-    depth: u32,
+    frame: &Frame,
     rest: &'a [u8],
 ) -> Result<(Expr, &'a [u8]), ReadErr>
-    requires shallow { depth ≤ greatest_depth L.LANGUAGE }
-    requires bound { length (names_in bound.now) < depth }
-    ensures reads { Reads (Passes decls.now (behind_first L.LANGUAGE depth bound.now first))
-        (λ r. behind_part (first_token L.LANGUAGE (names_in bound.now) first) (expression_in (L.leaf leaves.new) decls.now bound.now r.0))
+    requires shallow { frame.now.depth ≤ greatest_depth L.LANGUAGE }
+    requires room { length (names_at frame.now) < frame.now.depth }
+    ensures reads { Reads (PassesAt frame.now (places_behind_first L.LANGUAGE frame.now first))
+        (λ r. behind_part (first_token L.LANGUAGE (names_at frame.now) first)
+        (expression_at (L.leaf leaves.new) frame.now r.0))
         (λ r. r.1.now) rest.now result }
-    ensures high { IfOk result (λ r. height (expression r.0) + depth ≤ greatest_depth L.LANGUAGE + 1) }
+    ensures high { IfOk result
+        (λ r. height (expression r.0) + frame.now.depth ≤ greatest_depth L.LANGUAGE + 1) }
     ensures kept { OnOk result (KeepsLeaves (L.leaf leaves.old) (L.leaf leaves.new)) }
 {
     match first {
@@ -486,42 +454,45 @@ fn read_behind_first<'a, L: LeafReader>(
         First::True => Ok((Expr::Yes { value: true }, rest)),
         First::False => Ok((Expr::Yes { value: false }, rest)),
         First::Minus => read_negative(rest),
-        First::Open => read_infix(alloc, leaves, decls, bound, depth, rest),
-        First::Obs => leaves.read_leaf(alloc, decls, rest),
-        First::Neg => read_neg(alloc, leaves, decls, bound, depth, rest),
-        First::Not => read_not(alloc, leaves, decls, bound, depth, rest),
-        First::Min => read_min(alloc, leaves, decls, bound, depth, rest),
-        First::Max => read_max(alloc, leaves, decls, bound, depth, rest),
-        First::If => read_choice(alloc, leaves, decls, bound, depth, rest),
-        First::Widen => read_widen(alloc, leaves, decls, bound, depth, rest),
-        First::Round => read_round(alloc, leaves, decls, bound, depth, rest),
-        First::Div => read_div(alloc, leaves, decls, bound, depth, rest),
-        First::Acc => read_acc(alloc, leaves, decls, bound, depth, rest),
+        First::Open => read_infix(alloc, leaves, frame, rest),
+        First::Obs => leaves.read_leaf(alloc, frame.decls, rest),
+        First::Neg => read_neg(alloc, leaves, frame, rest),
+        First::Not => read_not(alloc, leaves, frame, rest),
+        First::Min => read_min(alloc, leaves, frame, rest),
+        First::Max => read_max(alloc, leaves, frame, rest),
+        First::If => read_choice(alloc, leaves, frame, rest),
+        First::Widen => read_widen(alloc, leaves, frame, rest),
+        First::Round => read_round(alloc, leaves, frame, rest),
+        First::Div => read_div(alloc, leaves, frame, rest),
+        First::Acc => read_acc(alloc, leaves, frame, rest),
     }
 }
 
-/// An expression of a depth under bound names, and the text after it.
+/// An expression that stands in a frame, and the text after it.
 #[cycle(expr)]
 pub fn read_expr<'a, L: LeafReader>(
     alloc: Global,
     leaves: &mut L,
-    decls: &Decls,
-    bound: &Scope<&[u8]>,
-    depth: u32,
+    frame: &Frame,
     rest: &'a [u8],
 ) -> Result<(Expr, &'a [u8]), ReadErr>
-    requires shallow { depth ≤ greatest_depth L.LANGUAGE + 1 }
-    requires bound { length (names_in bound.now) < depth }
-    ensures reads { Reads (Passes decls.now (λ s ps.
-        ExprAt L.LANGUAGE depth (names_in bound.now) ∷ ps))
-        (λ r. expression_in (L.leaf leaves.new) decls.now bound.now r.0)
+    ensures reads { Reads (PassesAt frame.now (λ s ps. expr_place L.LANGUAGE frame.now ∷ ps))
+        (λ r. expression_at (L.leaf leaves.new) frame.now r.0)
         (λ r. r.1.now) rest.now result }
-    ensures high { IfOk result (λ r. height (expression r.0) + depth ≤ greatest_depth L.LANGUAGE + 1) }
+    ensures high { IfOk result
+        (λ r. height (expression r.0) + frame.now.depth ≤ greatest_depth L.LANGUAGE) }
     ensures kept { OnOk result (KeepsLeaves (L.leaf leaves.old) (L.leaf leaves.new)) }
 {
     let (token, after) = next(rest);
-    match first_at(L::LANGUAGE, bound, depth, &token) {
-        Ok(first) => read_behind_first(first, alloc, leaves, decls, bound, depth, after),
+    match first_at(L::LANGUAGE, frame.bound, frame.depth + 1, &token) {
+        Ok(first) => {
+            let inner = Frame {
+                decls: frame.decls,
+                bound: frame.bound,
+                depth: frame.depth + 1,
+            };
+            read_behind_first(first, alloc, leaves, &inner, after)
+        }
         Err(kind) => Err(refuse(kind, &token)),
     }
 }

@@ -22,6 +22,7 @@ use crate::contrs::read_contr;
 use crate::cursor::start_text;
 use crate::decls::read_decls;
 use crate::faults::{ParseErr, ReadErr};
+use crate::frame::Frame;
 use crate::readers::{after_word, read_end, read_new_name, read_version, skip_mark, skip_word};
 use crate::short_texts::ShortText;
 use crate::words::{Lookahead, look};
@@ -42,7 +43,12 @@ pub fn read_definition<'a>(
     ensures shorter { IfOk result (λ r. length r.1.now < length rest.now) }
 {
     let rest = skip_mark(rest, b"=")?;
-    let (body, rest) = read_contr(alloc, decls, &Scope::Empty, 1, rest)?;
+    let frame = Frame {
+        decls,
+        bound: &Scope::Empty,
+        depth: 0,
+    };
+    let (body, rest) = read_contr(alloc, &frame, rest)?;
     let rest = skip_mark(rest, b";")?;
     Ok((body, rest))
 }

@@ -21,6 +21,7 @@ pub mod Numbered
 pub mod CodeSpelling
 pub mod CodeFiles
 pub mod CodeReading
+pub mod CodeFrames
 pub mod CodeAnswers
 pub mod LawsTexts
 pub mod LawsReading

@@ -2,7 +2,7 @@ use Rattle.std.proofs.Common.{[], ◌∙◌, ap, arith, sym, subst, rules}
 use Rattle.term_core.specs.Sizes.{height}
 use Rattle.term_core.specs.Terms.{expression}
 use Rattle.contract_parse.specs.Tokens.{tokens}
-use Rattle.contract_parse.specs.Names.{names_in}
+use Rattle.contract_parse.specs.Frames.{names_at}
 use Rattle.contract_parse.specs.Reading.{declared_in}
 use Rattle.payoff_lang.specs.Code.{ValueExpression}
 use Rattle.payoff_lang.specs.Dating.{plain}
@@ -17,9 +17,9 @@ pub returns-clause-reads : goal.returns-clause-reads
 returns-clause-reads c = record {
   follows = search rules;
   spelled =
-      let s = declared_in c.args.decls.now [] in
-      subst (λ (v : ValueExpression). value_part s (names_in c.args.bound.now) v (tokens c.args.rest.now) (tokens c.in_ok-e.after.now)) (sym c.in_ok-v.ensures)
-      (listed_spelled _ s (names_in c.args.bound.now) (expression c.in_ok-e.e) (tokens c.args.rest.now) (tokens c.in_ok-e.after.now) c.in_ok-e.ensures.reads.spelled);
+      let s = declared_in c.args.frame.now.decls.now [] in
+      subst (λ (v : ValueExpression). value_part s (names_at c.args.frame.now) v (tokens c.args.rest.now) (tokens c.in_ok-e.after.now)) (sym c.in_ok-v.ensures)
+      (listed_spelled _ s (names_at c.args.frame.now) (expression c.in_ok-e.e) (tokens c.args.rest.now) (tokens c.in_ok-e.after.now) c.in_ok-e.ensures.reads.spelled);
   shorter = search rules;
 }
 
