@@ -46,7 +46,8 @@ fn read_number_label<'a>(
         (λ r. behind_word (codes "num") (Entry label_line labels.old.entries labels.new.entries))
         (λ r. r.now) rest.now result }
     ensures shorter { IfOk result (λ r. length r.now < length rest.now) }
-    ensures few { IfOk result (λ r. index_map_len labels.new + length r.now ≤ index_map_len labels.old + length rest.now) }
+    ensures few { IfOk result (λ r.
+        index_map_len labels.new + length r.now ≤ index_map_len labels.old + length rest.now) }
     ensures limits { IfOk result (λ r. are_labels labels.new.entries ≡ true) }
 {
     let (name, rest) = read_new_name(alloc, labels, rest)?;
@@ -67,7 +68,8 @@ fn read_flag<'a>(
         (λ r. behind_word (codes "flag") (Entry label_line labels.old.entries labels.new.entries))
         (λ r. r.now) rest.now result }
     ensures shorter { IfOk result (λ r. length r.now < length rest.now) }
-    ensures few { IfOk result (λ r. index_map_len labels.new + length r.now ≤ index_map_len labels.old + length rest.now) }
+    ensures few { IfOk result (λ r.
+        index_map_len labels.new + length r.now ≤ index_map_len labels.old + length rest.now) }
     ensures limits { IfOk result (λ r. are_labels labels.new.entries ≡ true) }
 {
     let (name, rest) = read_new_name(alloc, labels, rest)?;
@@ -84,7 +86,8 @@ pub fn read_labels<'a>(
     ensures reads { ReadsAhead (Declares LabelSet [] (λ r. keys r.0) (λ ps. LabelLines ∷ ps))
         (λ r. Repeat (Entry label_line) [] r.0.entries)
         (λ r. ahead_from r.1) (ahead_from ahead.now) result }
-    ensures few { IfOk result (λ r. index_map_len r.0 + length r.1.after.now ≤ length ahead.now.after.now) }
+    ensures few { IfOk result (λ r.
+        index_map_len r.0 + length r.1.after.now ≤ length ahead.now.after.now) }
     ensures limits { IfOk result (λ r. are_labels r.0.entries ≡ true) }
 {
     let mut labels = IndexMap::new(alloc);

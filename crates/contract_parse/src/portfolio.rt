@@ -37,8 +37,10 @@ pub fn read_definition<'a>(
     decls: &Decls,
     rest: &'a [u8],
 ) -> Result<(Contr, &'a [u8]), ReadErr>
-    ensures reads { Reads (Passes decls.now (λ s ps. TheMark (codes "=") ∷ ContrAt s.version 1 [] ∷ TheMark (codes ";") ∷ ps))
-        (λ r. mark (codes "=") ⨟ contr (declared_in decls.now []) [] (contract r.0) ⨟ mark (codes ";")) (λ r. r.1.now) rest.now result }
+    ensures reads { Reads (Passes decls.now (λ s ps.
+        TheMark (codes "=") ∷ ContrAt s.version 1 [] ∷ TheMark (codes ";") ∷ ps))
+        (λ r. mark (codes "=") ⨟ contr (declared_in decls.now []) [] (contract r.0)
+        ⨟ mark (codes ";")) (λ r. r.1.now) rest.now result }
     ensures high { IfOk result (λ r. height_of_contract (contract r.0) ≤ 200) }
     ensures shorter { IfOk result (λ r. length r.1.now < length rest.now) }
 {
@@ -61,9 +63,10 @@ fn read_contract<'a>(
     rest: &'a [u8],
 ) -> Result<&'a [u8], ReadErr>
     ensures reads { Reads (Extends (declared_in decls.now (keys contracts.old))
-        (λ r. declared_in decls.now (keys contracts.new)) (contract_places (version_of decls.now.version)))
-        (λ r. behind_word (codes "contract")
-        (Entry (contract_line (declared_in decls.now [])) (trees contracts.old.entries) (trees contracts.new.entries)))
+        (λ r. declared_in decls.now (keys contracts.new))
+        (contract_places (version_of decls.now.version)))
+        (λ r. behind_word (codes "contract") (Entry (contract_line (declared_in decls.now []))
+        (trees contracts.old.entries) (trees contracts.new.entries)))
         (λ r. r.now) rest.now result }
     ensures shorter { IfOk result (λ r. length r.now < length rest.now) }
 {
