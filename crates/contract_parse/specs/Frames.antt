@@ -1,5 +1,5 @@
 -- Parts of terms where they stand: what the readers in a frame read.
-use Rattle.std.specs.Prelude.{ℕ, ◌+◌, List}
+use Rattle.std.specs.Prelude.{◌+◌, List}
 use Rattle.term_core.specs.declared.terms.Contr.{Contr}
 use Rattle.term_core.specs.declared.terms.Expr.{Expr}
 use Rattle.contract_parse.specs.Words.{Bytes}

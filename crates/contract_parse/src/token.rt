@@ -248,7 +248,10 @@ fn extent_at(bytes: &[u8]) -> Extent
 /// The next token, and the bytes after it.
 #[tactic(auto, unfolding(crate::specs::Tokens::next_token))]
 pub fn next_token(bytes: &[u8]) -> (Lexeme<'_>, &[u8])
-    ensures { (record { kind = result.0.kind; text = result.0.text.now; left = result.0.left }, result.1.now) ≡ next_token bytes.now }
+    ensures { (
+      record { kind = result.0.kind; text = result.0.text.now; left = result.0.left },
+      result.1.now,
+    ) ≡ next_token bytes.now }
 {
     let start = after_gap(bytes);
     let extent = extent_at(start);
