@@ -41,20 +41,16 @@ fn above(a: Counts) -> Counts
     }
 }
 
-// The counts of a node over three parts.
-fn over_three(a: Counts, b: Counts, c: Counts) -> Counts
-    requires a_height { a.height ≤ 1000000 }
+// The counts of two parts side by side: the greater height, and the nodes of both.
+fn beside(a: Counts, b: Counts) -> Counts
     requires a_nodes { a.nodes ≤ 1000000 }
-    requires b_height { b.height ≤ 1000000 }
     requires b_nodes { b.nodes ≤ 1000000 }
-    requires c_height { c.height ≤ 1000000 }
-    requires c_nodes { c.nodes ≤ 1000000 }
-    ensures height { result.height ≡ min (max a.height (max b.height c.height) + 1) 1000000 }
-    ensures nodes { result.nodes ≡ min (a.nodes + b.nodes + c.nodes + 1) 1000000 }
+    ensures height { result.height ≡ max a.height b.height }
+    ensures nodes { result.nodes ≡ min (a.nodes + b.nodes) 1000000 }
 {
     Counts {
-        height: (a.height.max(b.height.max(c.height)) + 1).min(MOST),
-        nodes: (a.nodes + b.nodes + c.nodes + 1).min(MOST),
+        height: a.height.max(b.height),
+        nodes: (a.nodes + b.nodes).min(MOST),
     }
 }
 
@@ -74,10 +70,9 @@ pub fn counts_of_expr(e: &Expr) -> Counts
         Expr::Logic { left, right, .. } => over(counts_of_expr(left), counts_of_expr(right)),
         Expr::Div { top, below, .. } => over(counts_of_expr(top), counts_of_expr(below)),
         Expr::Acc { body, first, .. } => over(counts_of_expr(body), counts_of_expr(first)),
-        Expr::Cond { test, yes, no } => over_three(
+        Expr::Cond { test, yes, no } => over(
             counts_of_expr(test),
-            counts_of_expr(yes),
-            counts_of_expr(no),
+            beside(counts_of_expr(yes), counts_of_expr(no)),
         ),
     }
 }
@@ -98,6 +93,6 @@ pub fn counts(c: &Contr) -> Counts
             hit,
             miss,
             ..
-        } => over_three(counts_of_expr(test), counts(hit), counts(miss)),
+        } => over(counts_of_expr(test), beside(counts(hit), counts(miss))),
     }
 }
