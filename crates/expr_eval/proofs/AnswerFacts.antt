@@ -23,7 +23,7 @@ use Rattle.expr_eval.specs.Rooms.{kinds_of}
 use Rattle.expr_eval.specs.Runs.{Answer, run_of, untyped}
 use Rattle.expr_eval.specs.Standing.{IsHeldFor, StandFor}
 use Rattle.expr_eval.specs.Evaluable.{IsHeldIn, SuitAll, MayEvaluate}
-use Rattle.expr_eval.specs.Answers.{lacked, IsValueEverywhere, IsAnswer, HasKind, held_of, SuitsBinding}
+use Rattle.expr_eval.specs.Answers.{lacked, IsValueEverywhere, IsAnswer, HasKind, held_of, SuitsBinding, IsSuitedAnswer}
 use Rattle.expr_eval.specs.LawsEntries.{NoneStandForNone, EnteredStandFor, EnteredSuit}
 use Rattle.expr_eval.proofs.RunValues.{run_is_value, same_kinds}
 use Rattle.expr_eval.proofs.RunReads.{missed, have_values, run_lacks_first, self_extends}
@@ -80,12 +80,6 @@ suits_binding d e bs fixings f k limits admitted h c m g accepted stands suit =
       within = within_from d e bs fixings f k limits admitted h (run_of d e bs fixings f) refl c m g accepted stands suit;
     }
 
--- what eval promises of its answer
-pub record Promised (d : Declarations) (e : Expression) (bs : List Binding) (fixings : Environment) (f : ℤ) (r : Result Value Missing) : Type 0 where
-  pub answer : IsAnswer d e bs fixings f r
-  pub kind : HasKind d e bs r
-  pub suits : SuitsBinding d e bs r
-
 of_kind_from : (d : Declarations) (e : Expression) (bs : List Binding) (fixings : Environment) (f : ℤ) (k : Kind) → kind_of d e (kinds_of bs) ≡ Some k → SafeEntries d e bs fixings f → (a : Answer) → run_of d e bs fixings f ≡ a → HasKind d e bs (untyped a)
 of_kind_from d e bs fixings f k h s (Err m) r = tt
 of_kind_from d e bs fixings f k h s (Ok v) r =
@@ -93,11 +87,11 @@ of_kind_from d e bs fixings f k h s (Ok v) r =
     let is : v.value ≡ value_of d e s.entries fixings f = ap (λ (o : Typed). o.value) (run_is_value d e bs s.entries s.known fixings fixings (self_extends fixings) f k (subst (λ (ks : List Kind). kind_of d e ks ≡ Some k) same h) v r) in
     subst (λ (w : Value). IsOfKind (kind_or (kind_of d e (kinds_of bs))) w) (sym is) (subst (λ (ks : List Kind). IsOfKind (kind_or (kind_of d e ks)) (value_of d e s.entries fixings f)) (sym same) s.safe.safe.0.of_kind)
 
-pub promised : (d : Declarations) (e : Expression) (bs : List Binding) (fixings : Environment) (f : ℤ) (a : Answer) → KeepsLimits d → IsAdmitted d fixings → MayEvaluate d e bs → a ≡ run_of d e bs fixings f → Promised d e bs fixings f (untyped a)
+pub promised : (d : Declarations) (e : Expression) (bs : List Binding) (fixings : Environment) (f : ℤ) (a : Answer) → KeepsLimits d → IsAdmitted d fixings → MayEvaluate d e bs → a ≡ run_of d e bs fixings f → IsSuitedAnswer d e bs fixings f (untyped a)
 promised d e bs fixings f a limits admitted h r =
     let s = safe_entries d e bs fixings f limits admitted h in
     let k = kind_for d e bs fixings f s in
-    subst (λ (o : Answer). Promised d e bs fixings f (untyped o)) (sym r)
+    subst (λ (o : Answer). IsSuitedAnswer d e bs fixings f (untyped o)) (sym r)
     (record {
       answer = is_answer d e bs fixings f k.0 k.1;
       kind = of_kind_from d e bs fixings f k.0 k.1 s (run_of d e bs fixings f) refl;

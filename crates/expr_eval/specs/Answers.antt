@@ -62,3 +62,10 @@ SuitsBinding d e bs r =
     (c : Contract) (moved : ℤ) (ranges : List Range)
     → IsAccepted d c → StandsIn d (shifted moved e) ranges c [] → SuitAll ranges bs
     → Suits (range_of d e ranges) (entry_from d e bs r)
+
+-- the answer of an evaluation on day f: its value is of the kind of e, and its entry suits a name that is bound to e
+pub record IsSuitedAnswer (d : Declarations) (e : Expression) (bs : List Binding) (fixings : Environment) (f : ℤ)
+    (r : Result Value Missing) : Type 0 where
+  pub answer : IsAnswer d e bs fixings f r
+  pub kind : HasKind d e bs r
+  pub suits : SuitsBinding d e bs r

@@ -5,7 +5,7 @@ ghost use Rattle.term_core.specs.Declarations.{declarations};
 ghost use Rattle.term_core.specs.Terms.{expression};
 ghost use Rattle.term_core.specs.Environments.{IsAdmitted};
 ghost use Rattle.expr_eval.specs.Evaluable.{MayEvaluate};
-ghost use Rattle.expr_eval.specs.Answers.{IsAnswer, HasKind, SuitsBinding};
+ghost use Rattle.expr_eval.specs.Answers.{IsSuitedAnswer};
 
 use crate::bindings::Bindings;
 use crate::evaluation::{evaluate, without_kind};
@@ -28,11 +28,8 @@ pub fn eval(
     requires place { MayEvaluate (declarations decls.now) (expression e.now) scratch.old.entries }
     requires admitted { IsAdmitted (declarations decls.now) fixings.now }
     requires day { unsigned_abs day ≤ 10 ^ 12 }
-    ensures answer { IsAnswer (declarations decls.now) (expression e.now) scratch.old.entries
+    ensures answer { IsSuitedAnswer (declarations decls.now) (expression e.now) scratch.old.entries
         fixings.now day result }
-    ensures kind { HasKind (declarations decls.now) (expression e.now) scratch.old.entries result }
-    ensures suits { SuitsBinding (declarations decls.now) (expression e.now)
-        scratch.old.entries result }
     ensures same { scratch.new ≡ scratch.old }
 {
     let names = Bindings::Lent { scratch: &*scratch };

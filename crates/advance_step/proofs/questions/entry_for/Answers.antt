@@ -23,7 +23,7 @@ returns-clause-enters c =
     (answer_enters d e c.args.moved c.args.span.day _ es F c.eval-answer.result
     c.kind_of-kind.result
     c.of.result (grind (arith, ints, to_z-of_z, z, c.day_read.ensures.day))
-    (sym c.kind_of-kind.ensures.kind) c.of.ensures c.eval-answer.ensures.answer)
+    (sym c.kind_of-kind.ensures.kind) c.of.ensures c.eval-answer.ensures.answer.answer)
 
 pub returns-clause-suits : goal.returns-clause-suits
 returns-clause-suits c =
@@ -33,4 +33,4 @@ returns-clause-suits c =
     let entry : Binding = record { kind = c.kind_of-kind.result; held = c.of.result } in
     subst (λ (b : Knowledge). IsEntry b.decls e es entry) c.known.view_is
     (answer_suits d e es c.eval-answer.result c.kind_of-kind.result c.of.result
-    (sym c.kind_of-kind.ensures.kind) c.of.ensures c.eval-answer.ensures.suits)
+    (sym c.kind_of-kind.ensures.kind) c.of.ensures c.eval-answer.ensures.answer.suits)

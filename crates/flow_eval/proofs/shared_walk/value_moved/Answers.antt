@@ -21,5 +21,5 @@ returns-clause-answer c = λ g bs stand.
     let f = c.args.here.day in
     let z = to_z-of_z w32 c.args.moved c.ranges.moved in
     let day : to_z w64 (of_z w64 c.day_moved.result) ≡ f +ℤ k = grind (arith, ints, to_z-of_z, z, c.day_moved.ensures.day) in
-    answer_is d e c.args.scratch.now.entries F (f +ℤ k) c.eval.result (subst (λ (t : ℤ). IsAnswer d e c.args.scratch.now.entries F t c.eval.result) day c.eval.ensures.answer) g bs stand
+    answer_is d e c.args.scratch.now.entries F (f +ℤ k) c.eval.result (subst (λ (t : ℤ). IsAnswer d e c.args.scratch.now.entries F t c.eval.result) day c.eval.ensures.answer.answer) g bs stand
     ∙ sym (answer_moved d e k g bs F f)

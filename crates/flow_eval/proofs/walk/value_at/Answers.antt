@@ -14,4 +14,4 @@ eval-requires-clause-place c = may_evaluate (declarations c.args.basis.now.decls
 pub returns-clause-answer : goal.returns-clause-answer
 returns-clause-answer c = λ g bs stand.
     answer_is (declarations c.args.basis.now.decls.now) (expression c.args.e.now) c.args.scratch.now.entries c.args.basis.now.fixings.now c.args.here.day c.eval.result
-    (subst (λ (f : ℤ). IsAnswer (declarations c.args.basis.now.decls.now) (expression c.args.e.now) c.args.scratch.now.entries c.args.basis.now.fixings.now f c.eval.result) (to_z-of_z w64 c.args.here.day (day_fits c.args.here.day 0 c.requires.day)) c.eval.ensures.answer) g bs stand
+    (subst (λ (f : ℤ). IsAnswer (declarations c.args.basis.now.decls.now) (expression c.args.e.now) c.args.scratch.now.entries c.args.basis.now.fixings.now f c.eval.result) (to_z-of_z w64 c.args.here.day (day_fits c.args.here.day 0 c.requires.day)) c.eval.ensures.answer.answer) g bs stand
