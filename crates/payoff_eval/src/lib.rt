@@ -8,7 +8,7 @@
 //!
 //! Promised: `value` answers what the code is worth, the same in every environment that extends the
 //! fixings, or the first read that is not fixed (`AnswersValue`).
-//! Only tested: that a scratch is made where there is memory (`contract_cli/src/value_tests.rt`);
+//! Only tested: that a scratch is made where there is memory (rows of `run_rows`);
 //! `value` takes none.
 #![tactic(auto)]
 
