@@ -1,4 +1,3 @@
-use Rattle.flow_eval.specs.declared.flow_table.FlowTable.{FlowTable}
 use Rattle.term_core.specs.Declarations.{declarations}
 use Rattle.command_answers.specs.ChoosingParts.{StopsIn}
 use Rattle.command_answers.specs.FlowsParts.{ListsFlows, StopsFlows}
