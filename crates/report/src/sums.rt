@@ -18,8 +18,9 @@ const LEAST_DUE: usize = 1024;
 // No sum of payments overflows whose sizes add up to so much.
 const MOST: u128 = 1_000_000_000_000_000_000_000_000_000_000_000_000;
 
-/// The sum of flow tables that come one by one. It keeps at most about twice as many payments as
-/// the sum has rows, however many rows the tables have.
+/// The sum of flow tables that come one by one. Payments are netted when they are twice as many as
+/// after the last time, as long as their sizes add up to at most `10^36`. So it keeps some twice as
+/// many as the sum has rows, and those of one table. No clause speaks of how many.
 #[derive(Drop)]
 pub struct FlowSum {
     /// What the tables so far come to, in no order.
