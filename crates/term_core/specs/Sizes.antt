@@ -2,6 +2,7 @@
 -- many steps it takes to evaluate; and the rule on sizes.
 use Rattle.std.specs.Prelude.{ℕ, suc, ℤ, pos, negsuc, ◌+◌, ◌-◌, ◌*◌, min, max}
 use Rattle.term_core.specs.Flows.{count_of}
+use Rattle.term_core.specs.Limits.{most_counted}
 use Rattle.term_core.specs.Terms.{Expression, Lit, Yes, Var, Obs, Neg, Num, Cmp, Not, Logic, Cond, Widen, Round, Div, Acc, Contract, Zero, Pay, Both, Scale, After, Let, Within}
 
 -- the nodes of an expression
@@ -50,9 +51,9 @@ height_of_contract (After n c) = height_of_contract c + 1
 height_of_contract (Let e c) = max (height e) (height_of_contract c) + 1
 height_of_contract (Within e n a b) = max (height e) (max (height_of_contract a) (height_of_contract b)) + 1
 
--- a count that is answered as at most 1,000,000
+-- a count that is answered as at most this many
 abbrev pub capped : ℕ → ℕ
-capped n = min n 1000000
+capped n = min n most_counted
 
 -- Of a contract after its templates got their numbers:
 

@@ -3,6 +3,7 @@
 use Rattle.std.specs.Prelude.{ℕ, ◌+◌, ◌&&◌, Bool, nat_le}
 use Rattle.term_core.specs.Terms.{Expression, Acc, Contract, After, Within}
 use Rattle.term_core.specs.Flows.{count_of}
+use Rattle.term_core.specs.Limits.{most_days, most_height, most_nodes, most_reach_and_past, most_work}
 use Rattle.term_core.specs.Sizes.{nodes, height, past, work, nodes_of_contract, height_of_contract, reach, past_of_contract, work_of_contract}
 use Rattle.term_core.specs.Sites.{Site, Part, OfExpression, OfContract}
 
@@ -18,12 +19,12 @@ days_of_contract _ = 0
 -- a height, a number of nodes, a day count, a reach, a past and a work
 abbrev pub within_limits : ℕ → ℕ → ℕ → ℕ → ℕ → ℕ → Bool
 within_limits h n days far back steps =
-    nat_le h 200
-    && (nat_le n 100_000
-    && (nat_le days 100_000
-    && (nat_le far 100_000
-    && (nat_le (far + back) 1_000_000
-    && nat_le steps 10_000_000))))
+    nat_le h most_height
+    && (nat_le n most_nodes
+    && (nat_le days most_days
+    && (nat_le far most_days
+    && (nat_le (far + back) most_reach_and_past
+    && nat_le steps most_work))))
 
 abbrev pub part_is_small : Part → Bool
 part_is_small (OfExpression e) = within_limits (height e) (nodes e) (days_of e) 0 (past e) (work e)

@@ -27,6 +27,24 @@ pub const LONGEST_FILE: u64 = 16_777_216;
 /// The bytes of the longest name.
 pub const LONGEST_NAME: usize = 64;
 
+/// The greatest number that a date of payoff code may have. The least is its opposite.
+pub const GREATEST_DATE_NUMBER: i32 = 2_000_000;
+
+/// A greater height, or a greater number of nodes, is counted as this one.
+pub const MOST_COUNTED: u32 = 1_000_000;
+
+/// The most nodes of a contract.
+pub const MOST_NODES: u32 = 100_000;
+
+/// The most nodes of payoff code.
+pub const MOST_NODES_OF_CODE: u32 = 200_000;
+
+/// The most days that a contract may reach into the days to come and into the past together.
+pub const MOST_REACH_AND_PAST: u32 = 1_000_000;
+
+/// The most steps in which a contract, or code, may be evaluated.
+pub const MOST_WORK: u32 = 10_000_000;
+
 /// The greatest height of a contract, and the greatest depth of its text.
 pub const MOST_HEIGHT: u32 = 200;
 

@@ -1,12 +1,12 @@
 //! How large a term is.
 
 ghost use Rattle.std.specs.Prelude.{◌≡◌, ◌+◌, ◌≤◌, min, max};
+ghost use Rattle.term_core.specs.Limits.{most_counted};
 ghost use Rattle.term_core.specs.Terms.{expression, contract};
 ghost use Rattle.term_core.specs.Sizes.{nodes, height, nodes_of_contract, height_of_contract, capped};
 
+use crate::limits::MOST_COUNTED;
 use crate::terms::{Contr, Counts, Expr};
-
-const MOST: u32 = 1_000_000;
 
 const LEAF: Counts = Counts {
     height: 1,
@@ -15,42 +15,42 @@ const LEAF: Counts = Counts {
 
 // The counts of a node over two parts.
 fn over(a: Counts, b: Counts) -> Counts
-    requires a_height { a.height ≤ 1000000 }
-    requires a_nodes { a.nodes ≤ 1000000 }
-    requires b_height { b.height ≤ 1000000 }
-    requires b_nodes { b.nodes ≤ 1000000 }
-    ensures height { result.height ≡ min (max a.height b.height + 1) 1000000 }
-    ensures nodes { result.nodes ≡ min (a.nodes + b.nodes + 1) 1000000 }
+    requires a_height { a.height ≤ most_counted }
+    requires a_nodes { a.nodes ≤ most_counted }
+    requires b_height { b.height ≤ most_counted }
+    requires b_nodes { b.nodes ≤ most_counted }
+    ensures height { result.height ≡ min (max a.height b.height + 1) most_counted }
+    ensures nodes { result.nodes ≡ min (a.nodes + b.nodes + 1) most_counted }
 {
     Counts {
-        height: (a.height.max(b.height) + 1).min(MOST),
-        nodes: (a.nodes + b.nodes + 1).min(MOST),
+        height: (a.height.max(b.height) + 1).min(MOST_COUNTED),
+        nodes: (a.nodes + b.nodes + 1).min(MOST_COUNTED),
     }
 }
 
 // The counts of a node over one part.
 fn above(a: Counts) -> Counts
-    requires height { a.height ≤ 1000000 }
-    requires nodes { a.nodes ≤ 1000000 }
-    ensures height { result.height ≡ min (a.height + 1) 1000000 }
-    ensures nodes { result.nodes ≡ min (a.nodes + 1) 1000000 }
+    requires height { a.height ≤ most_counted }
+    requires nodes { a.nodes ≤ most_counted }
+    ensures height { result.height ≡ min (a.height + 1) most_counted }
+    ensures nodes { result.nodes ≡ min (a.nodes + 1) most_counted }
 {
     Counts {
-        height: (a.height + 1).min(MOST),
-        nodes: (a.nodes + 1).min(MOST),
+        height: (a.height + 1).min(MOST_COUNTED),
+        nodes: (a.nodes + 1).min(MOST_COUNTED),
     }
 }
 
 // The counts of two parts side by side: the greater height, and the nodes of both.
 fn beside(a: Counts, b: Counts) -> Counts
-    requires a_nodes { a.nodes ≤ 1000000 }
-    requires b_nodes { b.nodes ≤ 1000000 }
+    requires a_nodes { a.nodes ≤ most_counted }
+    requires b_nodes { b.nodes ≤ most_counted }
     ensures height { result.height ≡ max a.height b.height }
-    ensures nodes { result.nodes ≡ min (a.nodes + b.nodes) 1000000 }
+    ensures nodes { result.nodes ≡ min (a.nodes + b.nodes) most_counted }
 {
     Counts {
         height: a.height.max(b.height),
-        nodes: (a.nodes + b.nodes).min(MOST),
+        nodes: (a.nodes + b.nodes).min(MOST_COUNTED),
     }
 }
 
