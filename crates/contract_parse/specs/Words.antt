@@ -1,5 +1,5 @@
 -- What a token is to the grammar: a word, a mark, a name, a number, a date, the end.
-use Rattle.std.specs.Prelude.{ℕ, Bool, true, false, ◌&&◌, ◌==◌, not, List, [], ◌∷◌, ◌++◌, codes}
+use Rattle.std.specs.Prelude.{ℕ, Bool, true, false, ◌&&◌, ◌||◌, ◌==◌, not, List, [], ◌∷◌, ◌++◌, codes}
 use Rattle.std.specs.List.{list_any, list_all}
 use Rattle.std.specs.Str.{bytes_eq}
 use Rattle.contract_parse.specs.Tokens.{Tok}
@@ -49,6 +49,10 @@ is_end_kind Date = false
 is_end_kind Mark = false
 is_end_kind End = true
 is_end_kind Stray = false
+
+-- `(`, `)`, `,` and `;` are marks whatever stands behind them
+abbrev pub is_whole_mark : ℕ → Bool
+is_whole_mark b = (b == 40) || (b == 41) || (b == 44) || (b == 59)
 
 abbrev pub is_the_word : Bytes → Tok → Bool
 is_the_word w t = is_word_kind t.kind && bytes_eq t.text w

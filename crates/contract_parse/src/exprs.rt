@@ -1,5 +1,6 @@
 //! Expressions from texts.
 ghost use Rattle.std.specs.Prelude.{◌≡◌, ◌≤◌, ◌<◌, ◌+◌, ◌∷◌, [], ℕ, List, IfOk, OnOk, codes, length, max, true};
+ghost use Rattle.term_core.specs.Limits.{most_days};
 ghost use Rattle.term_core.specs.Terms.{Lit, expression};
 ghost use Rattle.term_core.specs.Sizes.{height};
 ghost use Rattle.contract_parse.specs.Words.{Bytes};
@@ -24,7 +25,7 @@ use crate::readers::{
 use crate::words::next;
 use decimal::{Decimal, Mode};
 use std::alloc::Global;
-use term_core::{Expr, NumOp, Scope};
+use term_core::{Expr, MOST_DAYS, NumOp, Scope};
 
 fn joined(operator: Operator, left: Box<Expr>, right: Box<Expr>) -> Expr
     ensures { expression result ≡ joined operator (expression left.value) (expression right.value) }
@@ -83,11 +84,11 @@ fn read_bound_name(rest: &[u8]) -> Result<(&[u8], &[u8]), ReadErr>
 // The number of days of `acc`.
 #[tactic(auto, using(crate::proofs::Parts::followed_by))]
 fn read_days_back(rest: &[u8]) -> Result<(u32, &[u8]), ReadErr>
-    ensures reads { Reads (PassesAnywhere (λ ps. TheMark (codes ",") ∷ IntegerAt 100_000 ∷ ps))
-        (λ r. mark (codes ",") ⨟ valued (integer_at 100_000) r.0) (λ r. r.1.now) rest.now result }
+    ensures reads { Reads (PassesAnywhere (λ ps. TheMark (codes ",") ∷ IntegerAt most_days ∷ ps))
+        (λ r. mark (codes ",") ⨟ valued (integer_at most_days) r.0) (λ r. r.1.now) rest.now result }
 {
     let rest = skip_mark(rest, b",")?;
-    read_integer(100_000, rest)
+    read_integer(MOST_DAYS, rest)
 }
 
 // A literal behind its sign.

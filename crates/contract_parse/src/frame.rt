@@ -1,6 +1,7 @@
 //! Where a part of a term stands.
 
 ghost use Rattle.std.specs.Prelude.{◌≤◌, length};
+ghost use Rattle.term_core.specs.Limits.{most_height_of_code};
 ghost use Rattle.contract_parse.specs.Names.{names_in};
 
 use term_core::{Decls, Scope};
@@ -14,5 +15,5 @@ pub struct Frame<'a> {
     pub bound: &'a Scope<'a, &'a [u8]>,
     pub depth: u32,
     pub ghost few: { length (names_in bound.now) ≤ depth },
-    pub ghost shallow: { depth ≤ 400 },
+    pub ghost shallow: { depth ≤ most_height_of_code },
 }

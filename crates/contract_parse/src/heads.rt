@@ -1,5 +1,6 @@
 //! What a term begins with.
-ghost use Rattle.std.specs.Prelude.{◌≡◌, ◌≤◌, false, length};
+ghost use Rattle.std.specs.Prelude.{◌≡◌, ◌≤◌, ◌+◌, false, length};
+ghost use Rattle.term_core.specs.Limits.{most_height_of_code};
 ghost use Rattle.contract_parse.specs.Words.{is_the_word};
 ghost use Rattle.contract_parse.specs.Names.{names_in};
 ghost use Rattle.contract_parse.specs.Judgements.{literal_at, variable_at};
@@ -11,7 +12,7 @@ use crate::judges::{literal_at, variable_at};
 use crate::token::{Kind, Lexeme};
 use crate::words::{is_name, is_number, is_the_mark, is_the_word};
 use decimal::Decimal;
-use term_core::{CmpOp, LogicOp, NumOp, Scope};
+use term_core::{CmpOp, LogicOp, MOST_HEIGHT, MOST_HEIGHT_OF_CODE, NumOp, Scope};
 
 /// The language whose terms are read: contracts, or payoff code. They differ in the word that reads
 /// an observable, and in how many terms may be open at once.
@@ -86,8 +87,8 @@ pub fn greatest_depth(language: Language) -> u32
     ensures { result ≡ greatest_depth language }
 {
     match language {
-        Language::Contracts => 200,
-        Language::Code => 400,
+        Language::Contracts => MOST_HEIGHT,
+        Language::Code => MOST_HEIGHT_OF_CODE,
     }
 }
 
@@ -141,7 +142,7 @@ fn first_number(token: &Lexeme<'_>) -> Result<First, TextKind>
 }
 
 fn first_name(bound: &Scope<&[u8]>, token: &Lexeme<'_>) -> Result<First, TextKind>
-    requires { length (names_in bound.now) ≤ 401 }
+    requires { length (names_in bound.now) ≤ most_height_of_code + 1 }
     ensures { result ≡ first_name (variable_at (names_in bound.now) (tok_of token.now)) }
 {
     let back = variable_at(bound, token)?;
@@ -149,7 +150,7 @@ fn first_name(bound: &Scope<&[u8]>, token: &Lexeme<'_>) -> Result<First, TextKin
 }
 
 fn first_of(language: Language, bound: &Scope<&[u8]>, token: &Lexeme<'_>) -> Result<First, TextKind>
-    requires { length (names_in bound.now) ≤ 401 }
+    requires { length (names_in bound.now) ≤ most_height_of_code + 1 }
     ensures { result ≡ first_of language (names_in bound.now) (tok_of token.now) }
 {
     if is_number(token) {
@@ -172,7 +173,7 @@ pub fn first_at(
     depth: u32,
     token: &Lexeme<'_>,
 ) -> Result<First, TextKind>
-    requires { length (names_in bound.now) ≤ 401 }
+    requires { length (names_in bound.now) ≤ most_height_of_code + 1 }
     ensures { result ≡ first_at language depth (names_in bound.now) (tok_of token.now) }
 {
     let first = first_of(language, bound, token);

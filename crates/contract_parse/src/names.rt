@@ -1,7 +1,8 @@
 //! Names: those that a text declares, and those that are bound round a term.
-ghost use Rattle.std.specs.Prelude.{◌≡◌, ◌≤◌, ◌<◌, ◌^◌, IfSome, length};
+ghost use Rattle.std.specs.Prelude.{◌≡◌, ◌≤◌, ◌+◌, ◌<◌, ◌^◌, IfSome, length};
 ghost use Rattle.indexmap.specs.IndexMap.{index_map_len, keys};
 ghost use Rattle.indexmap.specs.IndexSet.{index_set_len};
+ghost use Rattle.term_core.specs.Limits.{most_height_of_code};
 ghost use Rattle.contract_parse.specs.Names.{back_to, index_in, names_in};
 
 use indexmap::{IndexMap, IndexSet};
@@ -19,7 +20,7 @@ pub enum NameSet {
 
 /// How many binders stand between a name and its own.
 pub fn back_to(bound: &Scope<&[u8]>, name: &[u8]) -> Option<u32>
-    requires { length (names_in bound.now) ≤ 401 }
+    requires { length (names_in bound.now) ≤ most_height_of_code + 1 }
     ensures value { result ≡ back_to (names_in bound.now) name.now }
     ensures within { IfSome result (λ back. back < length (names_in bound.now)) }
 {

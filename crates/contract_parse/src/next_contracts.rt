@@ -1,5 +1,6 @@
 //! The contracts of a text, one at a time.
 ghost use Rattle.std.specs.Prelude.{◌≡◌, ◌≤◌, ◌<◌, ◌∷◌, ◌++◌, [], IfOk, IfSome, length};
+ghost use Rattle.term_core.specs.Limits.{longest_file};
 ghost use Rattle.term_core.specs.Declarations.{declarations};
 ghost use Rattle.term_core.specs.Terms.{contract};
 ghost use Rattle.contract_parse.specs.Tokens.{tokens};
@@ -41,7 +42,7 @@ pub fn start_contracts<'a>(
     alloc: Global,
     bytes: &'a [u8],
 ) -> Result<(Decls, ContractReader<'a>), ParseErr>
-    requires { length bytes.now ≤ 16_777_216 }
+    requires { length bytes.now ≤ longest_file }
     ensures { StartsContracts bytes.entry.now result }
 {
     if let Err(fault) = start_text(bytes) {

@@ -7,7 +7,7 @@ ghost use Rattle.term_core.specs.Sizes.{height_of_contract};
 ghost use Rattle.term_core.specs.Terms.{contract};
 ghost use Rattle.contract_parse.specs.Tokens.{tokens};
 ghost use Rattle.contract_parse.specs.Names.{nothing_declared};
-ghost use Rattle.term_core.specs.Limits.{is_a_version};
+ghost use Rattle.term_core.specs.Limits.{is_a_version, longest_file, most_height};
 ghost use Rattle.contract_parse.specs.Versions.{version_of};
 ghost use Rattle.contract_parse.specs.Judgements.{is_the_version};
 ghost use Rattle.contract_parse.specs.Spelling.{contr, mark, one, word, ◌⨟◌};
@@ -41,7 +41,7 @@ pub fn read_definition<'a>(
         TheMark (codes "=") ∷ ContrAt s.version 1 [] ∷ TheMark (codes ";") ∷ ps))
         (λ r. mark (codes "=") ⨟ contr (declared_in decls.now []) [] (contract r.0)
         ⨟ mark (codes ";")) (λ r. r.1.now) rest.now result }
-    ensures high { IfOk result (λ r. height_of_contract (contract r.0) ≤ 200) }
+    ensures high { IfOk result (λ r. height_of_contract (contract r.0) ≤ most_height) }
     ensures shorter { IfOk result (λ r. length r.1.now < length rest.now) }
 {
     let rest = skip_mark(rest, b"=")?;
@@ -114,7 +114,7 @@ fn read_first_line(rest: &[u8]) -> Result<(u8, &[u8]), ReadErr>
 
 /// The first line and the declarations of a text, and the token that comes next.
 pub fn read_beginning<'a>(alloc: Global, bytes: &'a [u8]) -> Result<(Decls, Lookahead<'a>), ReadErr>
-    requires { length bytes.now ≤ 16_777_216 }
+    requires { length bytes.now ≤ longest_file }
     ensures follows { Leaves (λ r. run (declared_in r.0 [])
         (places_behind (version_of r.0.version)) (tokens_ahead r.1)) result
         (run nothing_declared text_places (tokens bytes.now)) }
@@ -127,7 +127,7 @@ pub fn read_beginning<'a>(alloc: Global, bytes: &'a [u8]) -> Result<(Decls, Look
 }
 
 fn read_portfolio(alloc: Global, bytes: &[u8]) -> Result<Portfolio, ReadErr>
-    requires { length bytes.now ≤ 16_777_216 }
+    requires { length bytes.now ≤ longest_file }
     ensures follows { Leaves (λ r. Open []) result
         (run nothing_declared text_places (tokens bytes.now)) }
     ensures spelled { IfOk result (λ r. portfolio (book r) (tokens bytes.now) []) }
@@ -140,7 +140,7 @@ fn read_portfolio(alloc: Global, bytes: &[u8]) -> Result<Portfolio, ReadErr>
 
 /// The portfolio of a text, or the first fault of a text that has none.
 pub fn parse_portfolio(alloc: Global, bytes: &[u8]) -> Result<Portfolio, ParseErr>
-    requires { length bytes.now ≤ 16_777_216 }
+    requires { length bytes.now ≤ longest_file }
     ensures { Answers bytes.now result }
 {
     if let Err(fault) = start_text(bytes) {

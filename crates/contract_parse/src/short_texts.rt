@@ -1,5 +1,6 @@
 //! Texts that are short enough for their lines to be counted.
 ghost use Rattle.std.specs.Prelude.{◌≤◌, length};
+ghost use Rattle.term_core.specs.Limits.{longest_file};
 
 use crate::faults::{ParseErr, ReadErr};
 use crate::lines::fault_at;
@@ -8,7 +9,7 @@ use crate::lines::fault_at;
 #[derive(Clone, Copy)]
 pub struct ShortText<'a> {
     pub bytes: &'a [u8],
-    pub ghost short: { length bytes.now ≤ 16_777_216 },
+    pub ghost short: { length bytes.now ≤ longest_file },
 }
 
 impl<'a> ShortText<'a> {

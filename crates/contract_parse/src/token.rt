@@ -1,7 +1,9 @@
 //! The tokens of a text, one at a time.
-ghost use Rattle.std.specs.Prelude.{◌≡◌, ◌≤◌, ◌<◌, false, true, length};
+ghost use Rattle.std.specs.Prelude.{◌≡◌, ◌≤◌, ◌<◌, ◌==◌, ◌||◌, false, true, length};
 ghost use Rattle.std.specs.List.{prefix_len};
 ghost use Rattle.contract_parse.specs.Tokens.{after_gap, are_digits, is_date_part, begins_with_date, begins_with_digit, digits_extent, extent_at, fraction_len, is_blank, is_digit, is_letter, is_word_byte, mark_extent, mark_len, next_token, number_len, word_extent};
+
+use term_core::LONGEST_NAME;
 
 /// What a token is. At a stray byte no token begins.
 #[derive(Clone, Copy)]
@@ -29,8 +31,6 @@ pub struct Extent {
     pub len: usize,
 }
 
-const LONGEST_WORD: usize = 64;
-
 /// Whether a byte is a letter or `_`, with which words begin.
 pub fn is_letter(b: u8) -> bool
     ensures { result ≡ is_letter b }
@@ -44,11 +44,35 @@ fn is_digit(b: u8) -> bool
     b.is_ascii_digit()
 }
 
-/// Whether a byte may stand in a word: a letter, `_` or a digit.
+// Which bytes may stand in a word.
+const WORD_BYTES: [bool; 256] = [
+    false, false, false, false, false, false, false, false, false, false, false, false, false,
+    false, false, false, false, false, false, false, false, false, false, false, false, false,
+    false, false, false, false, false, false, false, false, false, false, false, false, false,
+    false, false, false, false, false, false, false, false, false, true, true, true, true, true,
+    true, true, true, true, true, false, false, false, false, false, false, false, true, true,
+    true, true, true, true, true, true, true, true, true, true, true, true, true, true, true, true,
+    true, true, true, true, true, true, true, true, false, false, false, false, true, false, true,
+    true, true, true, true, true, true, true, true, true, true, true, true, true, true, true, true,
+    true, true, true, true, true, true, true, true, true, false, false, false, false, false, false,
+    false, false, false, false, false, false, false, false, false, false, false, false, false,
+    false, false, false, false, false, false, false, false, false, false, false, false, false,
+    false, false, false, false, false, false, false, false, false, false, false, false, false,
+    false, false, false, false, false, false, false, false, false, false, false, false, false,
+    false, false, false, false, false, false, false, false, false, false, false, false, false,
+    false, false, false, false, false, false, false, false, false, false, false, false, false,
+    false, false, false, false, false, false, false, false, false, false, false, false, false,
+    false, false, false, false, false, false, false, false, false, false, false, false, false,
+    false, false, false, false, false, false, false, false, false, false, false, false, false,
+    false, false, false, false, false, false, false, false, false, false,
+];
+
+/// Whether a byte may stand in a word: a letter, `_` or a digit. Texts are words for the most part,
+/// so it is looked up.
 pub fn is_word_byte(b: u8) -> bool
     ensures { result ≡ is_word_byte b }
 {
-    is_letter(b) | is_digit(b)
+    WORD_BYTES[b as usize]
 }
 
 fn is_blank(b: u8) -> bool
@@ -57,8 +81,39 @@ fn is_blank(b: u8) -> bool
     matches!(b, b' ' | b'\t' | b'\r' | b'\n')
 }
 
-/// The bytes after the blanks and the comments.
+// Whether a byte is a blank, or begins a comment.
+fn begins_gap(b: u8) -> bool
+    ensures { result ≡ is_blank b || b == 35 }
+{
+    matches!(b, b' ' | b'\t' | b'\r' | b'\n' | b'#')
+}
+
+// The bytes after a space, if one stands here.
+fn after_space(bytes: &[u8]) -> &[u8]
+    ensures rest { after_gap false result.now ≡ after_gap false bytes.now }
+    ensures within { length result.now ≤ length bytes.now }
+{
+    match bytes {
+        [b' ', after @ ..] => after,
+        _ => bytes,
+    }
+}
+
+/// The bytes after the blanks and the comments. Most gaps are a space or nothing, so that is looked
+/// at first.
 pub fn after_gap(bytes: &[u8]) -> &[u8]
+    ensures rest { result.now ≡ after_gap false bytes.now }
+    ensures within { length result.now ≤ length bytes.now }
+{
+    let rest = after_space(bytes);
+    match rest {
+        [b, ..] if !begins_gap(*b) => rest,
+        _ => after_any_gap(rest),
+    }
+}
+
+// The bytes after any blanks and comments.
+fn after_any_gap(bytes: &[u8]) -> &[u8]
     ensures rest { result.now ≡ after_gap false bytes.now }
     ensures within { length result.now ≤ length bytes.now }
 {
@@ -181,7 +236,7 @@ fn word_extent(len: usize) -> Extent
     ensures value { result ≡ word_extent len }
     ensures within { result.len ≤ len }
 {
-    if len > LONGEST_WORD {
+    if len > LONGEST_NAME {
         Extent {
             kind: Kind::Stray,
             len: 0,

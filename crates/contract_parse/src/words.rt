@@ -1,10 +1,10 @@
 //! What a token is to the grammar.
-ghost use Rattle.std.specs.Prelude.{◌≡◌, ◌≤◌, ◌<◌, ◌∷◌, ◌==◌, false, length, not};
+ghost use Rattle.std.specs.Prelude.{◌≡◌, ◌≤◌, ◌<◌, ◌∷◌, ◌==◌, IfSome, false, length, not, true};
 ghost use Rattle.std.specs.List.{list_all, list_any};
 ghost use Rattle.std.specs.Str.{bytes_eq};
 ghost use Rattle.contract_parse.specs.Tokens.{is_last, tokens};
-ghost use Rattle.contract_parse.specs.Words.{is_date, is_end, is_integer, is_name, is_number, is_reserved, is_the_mark, is_the_word, reserved_of_five, reserved_of_four, reserved_of_more, reserved_of_three, reserved_of_two};
-ghost use Rattle.contract_parse.specs.Reading.{tok_of, tokens_after, tokens_ahead};
+ghost use Rattle.contract_parse.specs.Words.{is_date, is_end, is_integer, is_name, is_number, is_reserved, is_the_mark, is_the_word, is_whole_mark, reserved_of_five, reserved_of_four, reserved_of_more, reserved_of_three, reserved_of_two};
+ghost use Rattle.contract_parse.specs.Reading.{LacksMark, tok_of, tokens_after, tokens_ahead};
 
 use crate::token::{Kind, Lexeme, next_token};
 
@@ -125,6 +125,37 @@ pub fn look(rest: &[u8]) -> Lookahead<'_>
 {
     let (token, after) = next(rest);
     Lookahead { token, after }
+}
+
+// Whether a byte is a mark by itself, whatever stands behind it: `(`, `)`, `,` or `;`.
+fn is_whole_mark(b: u8) -> bool
+    ensures { result ≡ is_whole_mark b }
+{
+    matches!(b, b'(' | b')' | b',' | b';')
+}
+
+/// The text after a mark of one byte that stands at once in the text, and that no other byte
+/// prolongs. Most marks are found so, and need no token.
+pub fn after_byte<'a>(rest: &'a [u8], wanted: &[u8]) -> Option<&'a [u8]>
+    ensures found { IfSome result (λ r. tokens rest.now
+        ≡ record { kind = Kind.Mark; text = wanted.now; left = length rest.now } ∷ tokens r.now) }
+    ensures shorter { IfSome result (λ r. length r.now < length rest.now) }
+{
+    match (rest, wanted) {
+        ([b, after @ ..], [w]) if *b == *w && is_whole_mark(*b) => Some(after),
+        _ => None,
+    }
+}
+
+/// Whether a mark of one byte that is not the wanted one stands at once in the text, and no other
+/// byte prolongs it.
+pub fn begins_with_other(rest: &[u8], wanted: &[u8]) -> bool
+    ensures { result ≡ true → LacksMark wanted.now (tokens rest.now) }
+{
+    match (rest, wanted) {
+        ([b, ..], [w]) => *b != *w && is_whole_mark(*b),
+        _ => false,
+    }
 }
 
 // Whether a text is this one. Most marks are one byte, so that is looked at first.

@@ -1,6 +1,6 @@
 use Rattle.std.proofs.Common.{◌≡◌, ◌≤◌, length, false}
 use Rattle.contract_parse.specs.Tokens.{after_gap}
-use Rattle.contract_parse.proofs.token.after_gap.Given as goal
+use Rattle.contract_parse.proofs.token.after_any_gap.Given as goal
 
 abbrev pub invariant-loop-rest : goal.invariant-loop-rest
 invariant-loop-rest l = (after_gap false l.fn.bytes ≡ after_gap l.in_comment l.rest) × (length l.rest ≤ length l.fn.bytes)
