@@ -2,6 +2,7 @@
 
 ghost use Rattle.std.specs.Prelude.{◌≡◌, ◌+◌, ◌≤◌, ◌<◌, ◌^◌};
 ghost use Rattle.term_core.specs.Terms.{contract};
+ghost use Rattle.term_core.specs.Limits.{most_days};
 ghost use Rattle.term_core.specs.Sizes.{reach};
 ghost use Rattle.term_core.specs.Horizons.{delayed, horizon_of};
 ghost use Rattle.contract_check.specs.Smallness.{MeetsSize};
@@ -16,10 +17,10 @@ fn delayed_by(days: u32, horizon: u32) -> u32
     if horizon == 0 { 0 } else { days + horizon }
 }
 
-// The horizon of a contract that reaches no further than 100,000 days.
+// The horizon of a contract that reaches no further than the limit.
 #[tactic(auto, using(crate::proofs::HorizonFacts::horizon_most))]
 fn horizon_in(c: &Contr) -> u32
-    requires { reach (contract c.now) ≤ 100_000 }
+    requires { reach (contract c.now) ≤ most_days }
     ensures { result ≡ horizon_of (contract c.now) }
 {
     match c {

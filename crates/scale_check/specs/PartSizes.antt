@@ -1,6 +1,6 @@
 -- How large a whole is, from the sizes of its parts. The limits are those of the rule on sizes.
 use Rattle.std.specs.Prelude.{ℕ, ◌+◌, ◌-◌, ◌*◌, ◌≤◌, max, Bool, Result, Ok, Err, if◌then◌else◌}
-use Rattle.term_core.specs.Limits.{most_height}
+use Rattle.term_core.specs.Limits.{most_days, most_height, most_nodes, most_reach_and_past, most_work}
 use Rattle.term_core.specs.Smallness.{within_limits}
 use Rattle.scale_check.specs.declared.part_sizes.Size.{Size}
 
@@ -98,7 +98,7 @@ limited days s = if is_within days s then Ok s else Err 0
 -- what is known of the size of such a part
 pub record IsLimited (s : Size) : Type 0 where
   pub height_in : s.height ≤ most_height
-  pub nodes_in : s.nodes ≤ 100_000
-  pub reach_in : s.reach ≤ 100_000
-  pub past_in : s.past ≤ 1_000_000
-  pub work_in : s.work ≤ 10_000_000
+  pub nodes_in : s.nodes ≤ most_nodes
+  pub reach_in : s.reach ≤ most_days
+  pub past_in : s.past ≤ most_reach_and_past
+  pub work_in : s.work ≤ most_work

@@ -5,7 +5,7 @@
 ghost use Rattle.std.specs.Prelude.{◌≡◌, ◌+◌, ◌<◌, ◌^◌, IfOk, IfErr};
 ghost use Rattle.term_core.specs.Sizes.{days_before};
 
-use term_core::{MOST_DAYS, MOST_HEIGHT};
+use term_core::{MOST_DAYS, MOST_HEIGHT, MOST_NODES, MOST_REACH_AND_PAST, MOST_WORK};
 
 /// A part's longest path, counted in nodes; its nodes; the days by which its latest part may stand
 /// later; the days before its own that it may read; and the steps in which it is evaluated.
@@ -17,16 +17,6 @@ pub struct Size {
     pub past: u64,
     pub work: u64,
 }
-
-// The limits of the rule on sizes that are no limits of the language besides: nodes, reach, reach
-// and past together, steps.
-const MOST_NODES: u64 = 100_000;
-
-const MOST_REACH: u64 = 100_000;
-
-const MOST_REACH_AND_PAST: u64 = 1_000_000;
-
-const MOST_WORK: u64 = 10_000_000;
 
 impl Size {
     ghost use Rattle.scale_check.specs.PartSizes.{IsLimited, is_within, limited};
@@ -181,11 +171,11 @@ impl Size {
         ensures { result ≡ is_within days self }
     {
         self.height <= MOST_HEIGHT as u64
-            && self.nodes <= MOST_NODES
+            && self.nodes <= MOST_NODES as u64
             && days <= MOST_DAYS
-            && self.reach <= MOST_REACH
-            && self.reach + self.past <= MOST_REACH_AND_PAST
-            && self.work <= MOST_WORK
+            && self.reach <= MOST_DAYS as u64
+            && self.reach + self.past <= MOST_REACH_AND_PAST as u64
+            && self.work <= MOST_WORK as u64
     }
 
     /// This size, where a part of it and of this count of days is within the limits, else a fault
