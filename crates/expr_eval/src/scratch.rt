@@ -1,6 +1,7 @@
 //! What names are bound to, and the room in which it is kept.
 
 ghost use Rattle.std.specs.Prelude.{◌≡◌, ◌∷◌, [], ◌≤◌, ◌<◌, ◌+◌, length, reverse, slice_get, IfOk};
+ghost use Rattle.term_core.specs.Limits.{most_height};
 ghost use Rattle.term_core.specs.Terms.{expression, contract};
 ghost use Rattle.term_core.specs.Sizes.{height, height_of_contract};
 ghost use Rattle.expr_eval.specs.Rooms.{IsWithoutFirst};
@@ -91,7 +92,7 @@ impl Scratch {
     /// higher than 200, so that room for 200 serves each of its parts and of what is left of it,
     /// and none of them is walked for it.
     pub fn for_height(alloc: Global, height: u32) -> Result<Scratch, NoMemory>
-        requires low { height ≤ 200 }
+        requires low { height ≤ most_height }
         ensures empty { IfOk result (λ s. s.entries ≡ []) }
         ensures spare { IfOk result (λ s. height ≤ s.spare) }
     {

@@ -1,6 +1,7 @@
 -- What one record of a table of discount factors says: a row of a curve, which is an offset in days and a factor. Its two
 -- fields are judged in their order, and the first rule that one of them breaks counts.
 use Rattle.std.specs.Prelude.{ℕ, ℤ, pos, ◌^◌, ◌&&◌, nat_le, int_le, List, [], ◌∷◌, Option, Some, None, Result, Ok, Err, if◌then◌else◌, codes}
+use Rattle.term_core.specs.Limits.{last_curve_offset}
 use Rattle.decimal.specs.Mantissas.{decimal_of}
 use Rattle.term_core.specs.Factors.{CurveRow}
 use Rattle.fixing_files.specs.Days.{count_of}
@@ -10,7 +11,7 @@ use Rattle.fixing_files.specs.declared.faults.RowKind.TheVariants as kind
 
 abbrev pub within_offsets : Option ℕ → Option ℕ
 within_offsets None = None
-within_offsets (Some o) = if nat_le o 2_000_000 then Some o else None
+within_offsets (Some o) = if nat_le o last_curve_offset then Some o else None
 
 -- the offset of a field: one to nine digits, of a number within the limit
 abbrev pub offset_said : List ℕ → Option ℕ

@@ -1,5 +1,6 @@
 -- Curves as they are kept: rows of an offset in days and a factor. What they stand for is the list of rows of the model.
 use Rattle.std.specs.Prelude.{◌≤◌, List, [], ◌∷◌, map}
+use Rattle.term_core.specs.Limits.{last_curve_offset}
 use Rattle.term_core.specs.Factors.{CurveRow, IsCurve}
 use Rattle.fixing_files.specs.declared.curves.CurveStep.{CurveStep}
 
@@ -12,7 +13,7 @@ rows_of steps = map row_of steps
 -- no offset is past the limit
 abbrev pub AreNear : List CurveRow → Type 0
 AreNear [] = Unit {0}
-AreNear (row ∷ rest) = (row.offset ≤ 2_000_000) × AreNear rest
+AreNear (row ∷ rest) = (row.offset ≤ last_curve_offset) × AreNear rest
 
 -- what every curve is
 pub record IsKept (rows : List CurveRow) : Type 0 where

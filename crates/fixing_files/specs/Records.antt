@@ -3,6 +3,7 @@
 use Rattle.std.specs.Prelude.{ℕ, ◌-◌, ℤ, pos, neg_ℤ, ◌&&◌, ◌≤ℤ◌, nat_le, int_le, true, false, List, [], ◌∷◌, Option, Some, None, Result, Ok, Err, if◌then◌else◌, position, codes}
 use Rattle.std.specs.Map.{keys_of}
 use Rattle.std.specs.Str.{bytes_eq}
+use Rattle.term_core.specs.Limits.{last_fixed_day}
 use Rattle.decimal.specs.declared.reading.Decimal.{Decimal}
 use Rattle.decimal.specs.Mantissas.{mantissa, decimal_of}
 use Rattle.decimal.specs.Rounding.{raised}
@@ -27,10 +28,10 @@ label_named d name = position (λ declared. bytes_eq name declared) (keys_of d.l
 
 -- a day on which a value may be fixed
 abbrev pub IsFixingDay : ℤ → Type 0
-IsFixingDay t = (neg_ℤ (pos 3_000_000) ≤ℤ t) × (t ≤ℤ pos 3_000_000)
+IsFixingDay t = (neg_ℤ (pos last_fixed_day) ≤ℤ t) × (t ≤ℤ pos last_fixed_day)
 
 abbrev pub within_days : ℤ → Option ℤ
-within_days t = if int_le (neg_ℤ (pos 3_000_000)) t && int_le t (pos 3_000_000) then Some t else None
+within_days t = if int_le (neg_ℤ (pos last_fixed_day)) t && int_le t (pos last_fixed_day) then Some t else None
 
 abbrev pub day_or_none : Result ℤ DayFault → Option ℤ
 day_or_none (Ok t) = within_days t

@@ -10,9 +10,7 @@ use crate::days::count;
 use crate::faults::RowKind;
 use crate::values::mantissa;
 use csv::ByteRecord;
-
-// The greatest offset, in days.
-const LAST_OFFSET: u32 = 2_000_000;
+use term_core::LAST_CURVE_OFFSET;
 
 // The greatest factor: 10, in units of 10^-9.
 const GREATEST_FACTOR: i128 = 10_000_000_000;
@@ -43,7 +41,7 @@ fn offset_said(text: &[u8]) -> Option<u32>
     ensures { result ≡ offset_said text.now }
 {
     match count(text) {
-        Some(offset) if offset <= LAST_OFFSET => Some(offset),
+        Some(offset) if offset <= LAST_CURVE_OFFSET => Some(offset),
         _ => None,
     }
 }

@@ -12,10 +12,7 @@ use crate::days::day_of_text;
 use crate::faults::RowKind;
 use crate::values::value_of;
 use csv::ByteRecord;
-use term_core::{Decls, Label, Value};
-
-/// The limit of the days of fixings, before the origin and after it.
-const LAST_DAY: i64 = 3_000_000;
+use term_core::{Decls, LAST_FIXED_DAY, Label, Value};
 
 /// A label, by its number among the declared ones, and a day of the portfolio.
 #[derive(Clone, Copy, Debug, PartialEq, Eq, PartialOrd, Ord, Drop)]
@@ -66,7 +63,7 @@ fn day_said(origin: Option<i64>, text: &[u8]) -> Option<i64>
     ensures { result ≡ day_said origin text.now }
 {
     match day_of_text(origin, text) {
-        Ok(day) if -LAST_DAY <= day && day <= LAST_DAY => Some(day),
+        Ok(day) if -LAST_FIXED_DAY <= day && day <= LAST_FIXED_DAY => Some(day),
         _ => None,
     }
 }

@@ -1,6 +1,7 @@
 //! How many names a walk over a contract holds at once.
 
 ghost use Rattle.std.specs.Prelude.{◌≡◌, ◌≤◌};
+ghost use Rattle.term_core.specs.Limits.{most_height};
 ghost use Rattle.term_core.specs.Terms.{contract};
 ghost use Rattle.flow_eval.specs.Readiness.{names_in};
 
@@ -9,7 +10,7 @@ use term_core::Contr;
 /// How many names are bound round the part of a contract that has the most of them. Most contracts
 /// bind none, and a walk over these needs no memory for names. Expressions are not looked into.
 pub fn names_in(c: &Contr) -> u32
-    requires { names_in (contract c.now) ≤ 200 }
+    requires { names_in (contract c.now) ≤ most_height }
     ensures { result ≡ names_in (contract c.now) }
 {
     match c {
