@@ -138,7 +138,8 @@ pub fn append_days(
     decls: &Decls,
     days: &Days,
 ) -> Result<(), NoMemory>
-    ensures { OnOk result (out.new.items ≡ out.old.items ++ days_text (declared_by (declarations decls.now) []) (day_count days.now)) }
+    ensures { OnOk result (out.new.items ≡ out.old.items
+        ++ days_text (declared_by (declarations decls.now) []) (day_count days.now)) }
 {
     match days {
         Days::Num { days } => append_number(alloc, out, *days),
@@ -176,7 +177,8 @@ pub fn append_contr(
 ) -> Result<(), NoMemory>
     requires writable { IsWritableContract binders (contract c.now) }
     requires low { binders + height_of_contract (contract c.now) ≤ 1_000 }
-    ensures { OnOk result (out.new.items ≡ out.old.items ++ contr_text (declared_by (declarations decls.now) []) binders (contract c.now)) }
+    ensures { OnOk result (out.new.items ≡ out.old.items
+        ++ contr_text (declared_by (declarations decls.now) []) binders (contract c.now)) }
 {
     match c {
         Contr::Zero => append(out, b"zero"),

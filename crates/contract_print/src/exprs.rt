@@ -83,7 +83,8 @@ fn append_last_two<L: Leaf>(
     requires left_low { binders + height (expression left.now) ≤ 1_000 }
     requires right_low { binders + height (expression right.now) ≤ 1_000 }
     ensures { OnOk result (out.new.items ≡ out.old.items
-        ++ last_two_text (L.text leaf.now) binders (expression left.now) between.now (expression right.now)) }
+        ++ last_two_text (L.text leaf.now) binders (expression left.now) between.now
+        (expression right.now)) }
 {
     append_expr(alloc, out, leaf, binders, left)?;
     append(out, between)?;

@@ -24,7 +24,7 @@ pub trait Dating {
 }
 
 /// The same date once more.
-pub fn copied(alloc: Global, on: &DateExpr) -> Result<DateExpr, NoMemory>
+pub fn copied_date(alloc: Global, on: &DateExpr) -> Result<DateExpr, NoMemory>
     ensures { IfOk result (λ x. date x ≡ date on.now) }
 {
     let names = Vec::from_slice(alloc, on.names.as_slice())?;

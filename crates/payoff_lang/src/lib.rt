@@ -27,6 +27,6 @@ mod reading;
 pub use code::{Code, DateExpr, Vx};
 pub use code_file::CodeFile;
 pub use dates::{put_in_order, with_name};
-pub use dating::{Dating, dated};
+pub use dating::{Dating, copied_date, dated};
 pub use parsing::parse_code;
 pub use printing::print_code;

@@ -13,7 +13,7 @@ ghost use Rattle.payoff_lang.specs.CodeReading.{ListedDate, date_listed, dates_o
 
 use crate::code::DateExpr;
 use crate::date_reading::read_date;
-use crate::dating::{Dating, copied};
+use crate::dating::{Dating, copied_date};
 use contract_parse::{Language, LeafReader, ReadErr, read_use_of_map, skip_mark};
 use decimal::NoMemory;
 use std::alloc::Global;
@@ -97,7 +97,7 @@ impl Dating for Models {
             return Err(NoMemory);
         };
         match self.dates.get(index) {
-            Some(on) => copied(alloc, on),
+            Some(on) => copied_date(alloc, on),
             None => Err(NoMemory),
         }
     }

@@ -66,7 +66,8 @@ fn append_date_at(
     index: i32,
 ) -> Result<(), NoMemory>
     ensures { OnOk result (out.new.items ≡ out.old.items
-        ++ text_at (declared_for_code (declarations models.now.decls.now)) (dates_lent models.now.dates.now) index) }
+        ++ text_at (declared_for_code (declarations models.now.decls.now))
+        (dates_lent models.now.dates.now) index) }
 {
     let Ok(index) = usize::try_from(index) else {
         return Ok(());
@@ -78,7 +79,9 @@ fn append_date_at(
 }
 
 impl<'a> Leaf for Models<'a> {
-    ghost text = { λ m label index. modelled_at (declared_for_code (declarations m.decls.now)) (dates_lent m.dates.now) label index };
+    ghost text = { λ m label index.
+        modelled_at (declared_for_code (declarations m.decls.now)) (dates_lent m.dates.now)
+        label index };
 
     fn append_leaf(
         &self,
@@ -106,7 +109,8 @@ fn append_value(
     requires writable { IsWritableValue binders (value_expression v.now) }
     requires low { binders + height (plain (value_expression v.now)) ≤ 1_000 }
     ensures { OnOk result (out.new.items ≡ out.old.items
-        ++ value_text (declared_for_code (declarations decls.now)) binders (value_expression v.now)) }
+        ++ value_text (declared_for_code (declarations decls.now)) binders
+        (value_expression v.now)) }
 {
     let mut dates = Vec::new(alloc);
     let e = number_dates(alloc, v, &mut dates)?;
@@ -125,7 +129,8 @@ fn append_transfer(
     from: u32,
     to: u32,
 ) -> Result<(), NoMemory>
-    ensures { OnOk result (out.new.items ≡ out.old.items ++ transfer_text (declared_for_code (declarations decls.now)) asset from to) }
+    ensures { OnOk result (out.new.items ≡ out.old.items
+        ++ transfer_text (declared_for_code (declarations decls.now)) asset from to) }
 {
     append_asset_name(out, &decls.assets, asset)?;
     append(out, b", ")?;
@@ -148,7 +153,8 @@ fn append_test(
     requires writable { IsWritableValue binders (value_expression test.now) }
     requires low { binders + height (plain (value_expression test.now)) ≤ 1_000 }
     ensures { OnOk result (out.new.items ≡ out.old.items
-        ++ test_text (declared_for_code (declarations decls.now)) binders (value_expression test.now) (date upto.now)) }
+        ++ test_text (declared_for_code (declarations decls.now)) binders
+        (value_expression test.now) (date upto.now)) }
 {
     append_value(alloc, out, decls, binders, test)?;
     append(out, b" upto ")?;
@@ -238,7 +244,8 @@ fn append_header(out: &mut Vec<u8>) -> Result<(), NoMemory>
 fn append_code_line(alloc: Global, out: &mut Vec<u8>, file: &CodeFile) -> Result<(), NoMemory>
     requires { IsWritableCode (code_book file.now).code }
     ensures { OnOk result (out.new.items ≡ out.old.items
-        ++ code_line_text (declared_for_code (code_book file.now).declarations) (code_book file.now).name (code_book file.now).code) }
+        ++ code_line_text (declared_for_code (code_book file.now).declarations)
+        (code_book file.now).name (code_book file.now).code) }
 {
     append(out, b"code ")?;
     append(out, file.name.text())?;

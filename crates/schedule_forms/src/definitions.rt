@@ -2,6 +2,7 @@
 ghost use Rattle.std.specs.Prelude.{◌≡◌, ◌≤◌, ◌<◌, ◌+◌, ◌-◌, ◌*◌, ◌^◌, ◌∷◌, [], IfOk, codes};
 ghost use Rattle.indexmap.specs.IndexMap.{index_map_len, keys};
 ghost use Rattle.indexmap.specs.IndexSet.{index_set_len};
+ghost use Rattle.term_core.specs.Limits.{greatest_offset, most_days};
 ghost use Rattle.term_core.specs.Declarations.{declarations};
 ghost use Rattle.contract_parse.specs.Places.{IntegerAt, ModeAt, UseOf};
 ghost use Rattle.contract_parse.specs.Spelling.{◌⨟◌, word};
@@ -19,13 +20,14 @@ use crate::readers::{
 use contract_parse::{ReadErr, after_word, look};
 use decimal::{Decimal, Mode};
 use indexmap::{IndexMap, IndexSet};
-use term_core::{Decls, Name};
+use term_core::{Decls, GREATEST_OFFSET, Name};
 
 // How a size is rounded.
 #[tactic(auto, using(contract_parse::proofs::Parts::followed_by))]
 fn read_rounding(rest: &[u8]) -> Result<(Mode, u8, &[u8]), ReadErr>
-    ensures reads { Reads (PassesPlan (λ ps. the_mark (codes "(") ∷ Token ModeAt ∷ the_mark (codes ",")
-        ∷ Token (IntegerAt 27) ∷ ps)) (λ r. rounding_part r.0 r.1) (λ r. r.2.now) rest.now result }
+    ensures reads { Reads (PassesPlan (λ ps. the_mark (codes "(") ∷ Token ModeAt
+        ∷ the_mark (codes ",") ∷ Token (IntegerAt 27) ∷ ps))
+        (λ r. rounding_part r.0 r.1) (λ r. r.2.now) rest.now result }
 {
     let rest = skip_mark(rest, b"(")?;
     let (mode, rest) = read_mode(rest)?;
@@ -37,14 +39,15 @@ fn read_rounding(rest: &[u8]) -> Result<(Mode, u8, &[u8]), ReadErr>
 // What is observed, and how many days before.
 #[tactic(auto, using(contract_parse::proofs::Parts::followed_by))]
 fn read_observed<'a>(decls: &Decls, rest: &'a [u8]) -> Result<(u32, u32, &'a [u8]), ReadErr>
-    ensures reads { Reads (PassesPlan (λ ps. the_mark (codes ",") ∷ NumberLabelAt (declarations decls.now) ∷ the_mark (codes ",")
-        ∷ Token (IntegerAt 1_000_000) ∷ ps))
+    ensures reads { Reads (PassesPlan (λ ps. the_mark (codes ",")
+        ∷ NumberLabelAt (declarations decls.now) ∷ the_mark (codes ",")
+        ∷ Token (IntegerAt greatest_offset) ∷ ps))
         (λ r. observed_part (declarations decls.now) r.0 r.1) (λ r. r.2.now) rest.now result }
 {
     let rest = skip_mark(rest, b",")?;
     let (label, rest) = read_number_label(decls, rest)?;
     let rest = skip_mark(rest, b",")?;
-    let (lag, rest) = read_integer(1_000_000, rest)?;
+    let (lag, rest) = read_integer(GREATEST_OFFSET as u32, rest)?;
     Ok((label, lag, rest))
 }
 
@@ -146,7 +149,7 @@ fn read_first(most: u32, rest: &[u8]) -> Result<(u32, &[u8]), ReadErr>
     ensures reads { Reads (LeadsPlan (λ ps. the_word (codes "first") ∷ FirstAt most ∷ ps)
         (λ r ps. the_word (codes "every") ∷ EveryAt most r.0 ∷ ps)) (λ r. first_part r.0)
         (λ r. r.1.now) rest.now result }
-    ensures most { IfOk result (λ r. r.0 ≤ 100_000) }
+    ensures most { IfOk result (λ r. r.0 ≤ most_days) }
 {
     let rest = skip_word(rest, b"first")?;
     read_first_day(most, rest)
@@ -158,7 +161,7 @@ fn read_every(most: u32, first: u32, rest: &[u8]) -> Result<(u32, &[u8]), ReadEr
     ensures reads { Reads (LeadsPlan (λ ps. the_word (codes "every") ∷ EveryAt most first ∷ ps)
         (λ r ps. the_word (codes "times") ∷ TimesAt most first r.0 ∷ ps)) (λ r. every_part r.0)
         (λ r. r.1.now) rest.now result }
-    ensures most { IfOk result (λ r. r.0 ≤ 100_000) }
+    ensures most { IfOk result (λ r. r.0 ≤ most_days) }
 {
     let rest = skip_word(rest, b"every")?;
     read_interval(most, first, rest)
@@ -167,8 +170,8 @@ fn read_every(most: u32, first: u32, rest: &[u8]) -> Result<(u32, &[u8]), ReadEr
 // How many payments there are.
 #[tactic(auto, using(contract_parse::proofs::Parts::followed_by))]
 fn read_times(most: u32, first: u32, every: u32, rest: &[u8]) -> Result<(u32, &[u8]), ReadErr>
-    requires first { first ≤ 100_000 }
-    requires every { every ≤ 100_000 }
+    requires first { first ≤ most_days }
+    requires every { every ≤ most_days }
     requires most { most ≤ 5_000 }
     ensures reads { Reads (PassesPlan
         (λ ps. the_word (codes "times") ∷ TimesAt most first every ∷ ps))

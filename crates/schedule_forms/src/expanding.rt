@@ -143,7 +143,8 @@ fn guarded(
 ) -> Result<Contr, NoMemory>
     requires { IsSizeWithinLimits leg.now.size }
     ensures { IfOk result (λ c. contract c
-        ≡ guarded leg.now guard.now.flag (cover_payment leg.now guard.now.mant guard.now.scale) days further) }
+        ≡ guarded leg.now guard.now.flag
+        (cover_payment leg.now guard.now.mant guard.now.scale) days further) }
 {
     let test = Expr::Obs {
         label: guard.flag,

@@ -1,13 +1,14 @@
 //! What one token is at a place of a plan that no portfolio has, or the kind of its fault.
 ghost use Rattle.std.specs.Prelude.{◌≡◌, ◌≤◌, ◌<◌, ◌+◌, ◌-◌, ◌*◌, IfOk};
 ghost use Rattle.std.specs.Map.{keys_of};
+ghost use Rattle.term_core.specs.Limits.{most_days};
 ghost use Rattle.term_core.specs.Declarations.{declarations};
 ghost use Rattle.contract_parse.specs.Judgements.{use_at};
 ghost use Rattle.contract_parse.specs.Reading.{tok_of};
 ghost use Rattle.schedule_forms.specs.PlanJudgements.{count_at, flag_at, number_label_at, times_at};
 
 use contract_parse::{Lexeme, TextKind, index_in_map, integer_at, is_name};
-use term_core::{Decls, Label};
+use term_core::{Decls, Label, MOST_DAYS};
 
 /// A number without a point, from 1 up to `most`.
 pub fn count_at(most: u32, token: &Lexeme<'_>) -> Result<u32, TextKind>
@@ -22,17 +23,17 @@ pub fn count_at(most: u32, token: &Lexeme<'_>) -> Result<u32, TextKind>
     }
 }
 
-/// So many payments as end by day 100,000, where the first is on a day and each so many days after
+/// So many payments as end by the last day, where the first is on a day and each so many days after
 /// the one before it.
 pub fn times_at(most: u32, first: u32, every: u32, token: &Lexeme<'_>) -> Result<u32, TextKind>
-    requires first { first ≤ 100_000 }
-    requires every { every ≤ 100_000 }
+    requires first { first ≤ most_days }
+    requires every { every ≤ most_days }
     requires most { most ≤ 5_000 }
     ensures { result ≡ times_at most first every (tok_of token.now) }
 {
     match count_at(most, token) {
         Ok(times) => {
-            if first + (times - 1) * every <= 100_000 {
+            if first + (times - 1) * every <= MOST_DAYS {
                 Ok(times)
             } else {
                 Err(TextKind::Number)

@@ -44,7 +44,8 @@ fn read_definition_line<'a>(
 ) -> Result<(Plan, &'a [u8]), ReadErr>
     ensures reads { Reads (PassesPlan (λ ps. the_mark (codes "=")
         ∷ definition_places (declarations decls.now) head (the_mark (codes ";") ∷ ps)))
-        (λ r. mark (codes "=") ⨟ definition_part (declarations decls.now) r.0 ⨟ mark (codes ";")) (λ r. r.1.now) rest.now result }
+        (λ r. mark (codes "=") ⨟ definition_part (declarations decls.now) r.0 ⨟ mark (codes ";"))
+        (λ r. r.1.now) rest.now result }
     ensures head { IfOk result (λ r. head_of r.0 ≡ head) }
     ensures shorter { IfOk result (λ r. length r.1.now < length rest.now) }
 {
@@ -62,8 +63,10 @@ fn read_plan_line<'a>(
     plans: &mut IndexMap<Name, Plan>,
     rest: &'a [u8],
 ) -> Result<&'a [u8], ReadErr>
-    ensures reads { Reads (NamesPlans (keys plans.old) (λ r. keys plans.new) (λ ps. line_places (declarations decls.now) head ps))
-        (λ r. behind_word (word_of head) (Entry (plan_line (declarations decls.now)) plans.old.entries plans.new.entries))
+    ensures reads { Reads (NamesPlans (keys plans.old) (λ r. keys plans.new)
+        (λ ps. line_places (declarations decls.now) head ps))
+        (λ r. behind_word (word_of head)
+        (Entry (plan_line (declarations decls.now)) plans.old.entries plans.new.entries))
         (λ r. r.now) rest.now result }
     ensures shorter { IfOk result (λ r. length r.now < length rest.now) }
 {

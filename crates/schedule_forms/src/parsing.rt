@@ -1,6 +1,7 @@
 //! Schedule files from their texts.
 ghost use Rattle.std.specs.Prelude.{◌≡◌, ◌≤◌, ◌∷◌, [], IfOk, codes, length};
 ghost use Rattle.std.specs.List.{All};
+ghost use Rattle.term_core.specs.Limits.{longest_file};
 ghost use Rattle.term_core.specs.Declarations.{declarations};
 ghost use Rattle.contract_parse.specs.Tokens.{tokens};
 ghost use Rattle.contract_parse.specs.Names.{declared_by, nothing_declared};
@@ -38,7 +39,7 @@ fn skip_first_line(rest: &[u8]) -> Result<&[u8], ReadErr>
 
 // The first line and the declarations, and the token that comes next.
 fn read_heading<'a>(alloc: Global, bytes: &'a [u8]) -> Result<(Decls, Lookahead<'a>), ReadErr>
-    requires { length bytes.now ≤ 16_777_216 }
+    requires { length bytes.now ≤ longest_file }
     ensures version { IfOk result (λ r. r.0.version ≡ 1) }
     ensures reads { ReadsAhead (Extends nothing_declared
         (λ r. declared_by (declarations r.0) []) heading_places)
@@ -51,7 +52,7 @@ fn read_heading<'a>(alloc: Global, bytes: &'a [u8]) -> Result<(Decls, Lookahead<
 
 // The schedule file, or the first token that is refused.
 fn read_plan_file(alloc: Global, bytes: &[u8]) -> Result<PlanFile, ReadErr>
-    requires { length bytes.now ≤ 16_777_216 }
+    requires { length bytes.now ≤ longest_file }
     ensures reads { ReadsPlans (tokens bytes.now) result }
     ensures version { IfOk result (λ file. file.decls.version ≡ 1) }
 {
@@ -63,9 +64,10 @@ fn read_plan_file(alloc: Global, bytes: &[u8]) -> Result<PlanFile, ReadErr>
 
 /// The schedule file of a text, or the first fault of a text that has none.
 pub fn parse_plans(alloc: Global, bytes: &[u8]) -> Result<PlanFile, ParseErr>
-    requires { length bytes.now ≤ 16_777_216 }
+    requires { length bytes.now ≤ longest_file }
     ensures answer { PlanAnswers bytes.now result }
-    ensures expandable { IfOk result (λ file. All (λ entry. IsPlanOfTexts (declarations file.decls) entry.1) file.plans.entries) }
+    ensures expandable { IfOk result (λ file.
+        All (λ entry. IsPlanOfTexts (declarations file.decls) entry.1) file.plans.entries) }
 {
     if let Err(fault) = start_text(bytes) {
         return Err(ParseErr::Text(fault));

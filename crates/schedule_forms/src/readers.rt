@@ -2,6 +2,7 @@
 ghost use Rattle.std.specs.Prelude.{◌≤◌, ◌<◌, ◌+◌, ◌-◌, ◌*◌, ◌^◌, ◌∷◌, IfOk, codes, length, true};
 ghost use Rattle.indexmap.specs.IndexMap.{index_map_len, keys};
 ghost use Rattle.indexmap.specs.IndexSet.{index_set_len};
+ghost use Rattle.term_core.specs.Limits.{most_days};
 ghost use Rattle.term_core.specs.Declarations.{declarations};
 ghost use Rattle.contract_parse.specs.Judgements.{integer_at, literal_at, mode_at, use_at};
 ghost use Rattle.contract_parse.specs.Spelling.{mark, valued, word};
@@ -19,7 +20,7 @@ use contract_parse::{
 };
 use decimal::{Decimal, Mode};
 use indexmap::{IndexMap, IndexSet};
-use term_core::{Decls, Name};
+use term_core::{Decls, MOST_DAYS, Name};
 
 /// This word.
 pub fn skip_word<'a>(rest: &'a [u8], wanted: &[u8]) -> Result<&'a [u8], ReadErr>
@@ -127,13 +128,13 @@ pub fn read_flag<'a>(decls: &Decls, rest: &'a [u8]) -> Result<(u32, &'a [u8]), R
 
 /// The day of the first of at most so many payments.
 pub fn read_first_day(most: u32, rest: &[u8]) -> Result<(u32, &[u8]), ReadErr>
-    ensures most { IfOk result (λ r. r.0 ≤ 100_000) }
+    ensures most { IfOk result (λ r. r.0 ≤ most_days) }
     ensures reads { Reads (LeadsPlan (λ ps. FirstAt most ∷ ps)
         (λ r ps. the_word (codes "every") ∷ EveryAt most r.0 ∷ ps))
-        (λ r. valued (integer_at 100_000) r.0) (λ r. r.1.now) rest.now result }
+        (λ r. valued (integer_at most_days) r.0) (λ r. r.1.now) rest.now result }
 {
     let (token, after) = next(rest);
-    match integer_at(100_000, &token) {
+    match integer_at(MOST_DAYS, &token) {
         Ok(first) => Ok((first, after)),
         Err(kind) => Err(refuse(kind, &token)),
     }
@@ -141,13 +142,13 @@ pub fn read_first_day(most: u32, rest: &[u8]) -> Result<(u32, &[u8]), ReadErr>
 
 /// The days from one payment to the next, of which the first is on this day.
 pub fn read_interval(most: u32, first: u32, rest: &[u8]) -> Result<(u32, &[u8]), ReadErr>
-    ensures most { IfOk result (λ r. r.0 ≤ 100_000) }
+    ensures most { IfOk result (λ r. r.0 ≤ most_days) }
     ensures reads { Reads (LeadsPlan (λ ps. EveryAt most first ∷ ps)
         (λ r ps. the_word (codes "times") ∷ TimesAt most first r.0 ∷ ps))
-        (λ r. valued (count_at 100_000) r.0) (λ r. r.1.now) rest.now result }
+        (λ r. valued (count_at most_days) r.0) (λ r. r.1.now) rest.now result }
 {
     let (token, after) = next(rest);
-    match count_at(100_000, &token) {
+    match count_at(MOST_DAYS, &token) {
         Ok(every) => Ok((every, after)),
         Err(kind) => Err(refuse(kind, &token)),
     }
@@ -155,8 +156,8 @@ pub fn read_interval(most: u32, first: u32, rest: &[u8]) -> Result<(u32, &[u8]),
 
 /// How many payments there are, which end by day 100,000.
 pub fn read_count(most: u32, first: u32, every: u32, rest: &[u8]) -> Result<(u32, &[u8]), ReadErr>
-    requires first { first ≤ 100_000 }
-    requires every { every ≤ 100_000 }
+    requires first { first ≤ most_days }
+    requires every { every ≤ most_days }
     requires most { most ≤ 5_000 }
     ensures reads { Reads (PassesPlan (λ ps. TimesAt most first every ∷ ps))
         (λ r. valued (times_at most first every) r.0) (λ r. r.1.now) rest.now result }
