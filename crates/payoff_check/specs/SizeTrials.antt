@@ -5,7 +5,7 @@ use Rattle.std.specs.Prelude.{ℕ, ◌+◌, ◌*◌, ◌≤◌, max, nat_le, ◌
 use Rattle.std.specs.Prelude.{if◌then◌else◌}
 use Rattle.term_core.specs.Terms.{Expression, Lit, Yes, Var, Obs, Neg, Num, Cmp, Not, Logic, Cond}
 use Rattle.term_core.specs.Terms.{Widen, Round, Div, Acc}
-use Rattle.term_core.specs.Limits.{most_days, most_height_of_code}
+use Rattle.term_core.specs.Limits.{most_days, most_height_of_code, most_nodes_of_code, most_work}
 use Rattle.term_core.specs.Sizes.{nodes}
 use Rattle.term_core.specs.Trying.{then_do, moved}
 use Rattle.payoff_lang.specs.TemplateDates.{day_of}
@@ -113,8 +113,8 @@ tried_at xs v = size_tried (at_setting xs (value_expression v))
 -- what is known of the size of a part that is within the limits
 pub record IsLimited (s : ValueSize) : Type 0 where
   pub height_in : s.height ≤ most_height_of_code
-  pub nodes_in : s.nodes ≤ 200_000
-  pub work_in : s.work ≤ 10_000_000
+  pub nodes_in : s.nodes ≤ most_nodes_of_code
+  pub work_in : s.work ≤ most_work
 
 -- Code.
 
@@ -181,6 +181,6 @@ sizes_tried xs k n = code_tried (sizing xs) k tt n
 
 pub record IsLimitedCode (s : CodeSize) : Type 0 where
   pub height_in : s.height ≤ most_height_of_code
-  pub nodes_in : s.nodes ≤ 200_000
-  pub work_in : s.work ≤ 10_000_000
+  pub nodes_in : s.nodes ≤ most_nodes_of_code
+  pub work_in : s.work ≤ most_work
   pub days_in : s.days ≤ most_days

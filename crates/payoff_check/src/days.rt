@@ -5,7 +5,7 @@ ghost use Rattle.payoff_lang.specs.TemplateDates.{date, day_of, sum_at};
 ghost use Rattle.payoff_lang.specs.CodeAcceptance as rule;
 
 use payoff_lang::DateExpr;
-use term_core::MOST_DAYS;
+use term_core::{GREATEST_DATE_NUMBER, MOST_DAYS};
 
 // The number that a setting has for a template, and 0 where it has none.
 fn number_at(setting: &[u32], name: u32) -> u32
@@ -42,7 +42,7 @@ pub fn day_at(setting: &[u32], on: &DateExpr) -> i128
 pub fn is_date(day: i128) -> bool
     ensures { result ≡ rule.is_date day }
 {
-    -2_000_000 <= day && day <= 2_000_000
+    -GREATEST_DATE_NUMBER as i128 <= day && day <= GREATEST_DATE_NUMBER as i128
 }
 
 /// Whether the last day of a `loop` is within its range.

@@ -5,13 +5,7 @@
 ghost use Rattle.std.specs.Prelude.{◌≡◌, ◌+◌, ◌≤◌, ◌<◌, ◌^◌, IfOk, IfErr};
 ghost use Rattle.term_core.specs.Limits.{most_days};
 
-use term_core::{MOST_DAYS, MOST_HEIGHT_OF_CODE};
-
-// The limits of the rule on sizes of payoff code that are no limits of the language besides: nodes,
-// steps.
-const MOST_NODES: u32 = 200_000;
-
-const MOST_WORK: u64 = 10_000_000;
+use term_core::{MOST_DAYS, MOST_HEIGHT_OF_CODE, MOST_NODES_OF_CODE, MOST_WORK};
 
 /// A value expression's longest path, counted in nodes; its nodes; and the steps in which it is
 /// evaluated.
@@ -110,8 +104,8 @@ impl ValueSize {
         ensures here { IfErr result (λ node. node ≡ 0) }
     {
         if self.height <= MOST_HEIGHT_OF_CODE
-            && self.nodes <= MOST_NODES
-            && self.work <= MOST_WORK
+            && self.nodes <= MOST_NODES_OF_CODE
+            && self.work <= MOST_WORK as u64
             && days <= MOST_DAYS
         {
             Ok(self)
@@ -212,8 +206,8 @@ impl CodeSize {
         ensures nodes { IfOk result (λ size. size.nodes ≡ self.nodes) }
     {
         if self.height <= MOST_HEIGHT_OF_CODE
-            && self.nodes <= MOST_NODES
-            && self.work <= MOST_WORK
+            && self.nodes <= MOST_NODES_OF_CODE
+            && self.work <= MOST_WORK as u64
             && self.days <= MOST_DAYS
         {
             Ok(self)

@@ -36,17 +36,25 @@ fn amount_at(decimals: Decimals, of: CodeTotal) -> u128
     requires { at_decimals decimals.count of ≤ greatest_mantissa }
     ensures { result ≡ at_decimals decimals.count of }
 {
-    of.amount * power(decimals, of)
+    if decimals.count == of.scale {
+        of.amount
+    } else {
+        of.amount * power(decimals, of)
+    }
+}
+
+// The greatest total at a scale that is at most 10^37 at a count of decimals.
+fn greatest_at(decimals: Decimals, scale: u8) -> u128
+    ensures { result ≡ 10 ^ (37 - (decimals.count - scale)) }
+{
+    pow10(37 - decimals.count.saturating_sub(scale)).unsigned_abs()
 }
 
 // Whether a total is at most 10^37 at a count of decimals.
 fn is_small_at(decimals: Decimals, of: CodeTotal) -> bool
     ensures { result ≡ nat_le (at_decimals decimals.count of) greatest_mantissa }
 {
-    match of.amount.checked_mul(power(decimals, of)) {
-        Some(amount) => amount <= GREATEST_MANTISSA,
-        None => false,
-    }
+    of.amount <= greatest_at(decimals, of.scale)
 }
 
 /// A total that fits, else a fault at its node.

@@ -80,9 +80,11 @@ fn size_over_one(setting: &[u32], of: &Vx) -> Result<ValueSize, u32>
 #[tactic(auto, using(crate::proofs::DateFreeFacts::nodes_plain))]
 fn size_over_two(setting: &[u32], left: &Vx, right: &Vx) -> Result<ValueSize, u32>
     requires { nodes_at setting.now left.now + nodes_at setting.now right.now + 1 < 2 ^ 32 }
-    ensures size { result ≡ two_tried (nodes_at setting.now left.now) (tried_at setting.now left.now) (tried_at setting.now right.now) }
+    ensures size { result ≡ two_tried (nodes_at setting.now left.now)
+        (tried_at setting.now left.now) (tried_at setting.now right.now) }
     ensures limits { IfOk result IsLimited }
-    ensures below { FaultIsWithin (nodes_at setting.now left.now + nodes_at setting.now right.now + 1) result }
+    ensures below { FaultIsWithin
+        (nodes_at setting.now left.now + nodes_at setting.now right.now + 1) result }
 {
     let left_size = behind_node(size_of_value(setting, left))?;
     let right_size = behind_value(left, size_of_value(setting, right))?;
@@ -93,11 +95,15 @@ fn size_over_two(setting: &[u32], left: &Vx, right: &Vx) -> Result<ValueSize, u3
 #[cycle(sizing)]
 #[tactic(auto, using(crate::proofs::DateFreeFacts::nodes_plain))]
 fn size_over_three(setting: &[u32], test: &Vx, yes: &Vx, no: &Vx) -> Result<ValueSize, u32>
-    requires { nodes_at setting.now test.now + nodes_at setting.now yes.now + nodes_at setting.now no.now + 1 < 2 ^ 32 }
-    ensures size { result ≡ three_tried (nodes_at setting.now test.now) (nodes_at setting.now yes.now)
-        (tried_at setting.now test.now) (tried_at setting.now yes.now) (tried_at setting.now no.now) }
+    requires { nodes_at setting.now test.now + nodes_at setting.now yes.now
+        + nodes_at setting.now no.now + 1 < 2 ^ 32 }
+    ensures size { result ≡ three_tried
+        (nodes_at setting.now test.now) (nodes_at setting.now yes.now)
+        (tried_at setting.now test.now) (tried_at setting.now yes.now)
+        (tried_at setting.now no.now) }
     ensures limits { IfOk result IsLimited }
-    ensures below { FaultIsWithin (nodes_at setting.now test.now + nodes_at setting.now yes.now + nodes_at setting.now no.now + 1) result }
+    ensures below { FaultIsWithin (nodes_at setting.now test.now + nodes_at setting.now yes.now
+        + nodes_at setting.now no.now + 1) result }
 {
     let test_size = behind_node(size_of_value(setting, test))?;
     let yes_size = behind_value(test, size_of_value(setting, yes))?;
@@ -113,7 +119,8 @@ fn size_over_days(setting: &[u32], body: &Vx, days: u32, first: &Vx) -> Result<V
     ensures size { result ≡ acc_tried (nodes_at setting.now body.now) days
         (tried_at setting.now first.now) (tried_at setting.now body.now) }
     ensures limits { IfOk result IsLimited }
-    ensures below { FaultIsWithin (nodes_at setting.now body.now + nodes_at setting.now first.now + 1) result }
+    ensures below { FaultIsWithin
+        (nodes_at setting.now body.now + nodes_at setting.now first.now + 1) result }
 {
     let first_size = behind_value(body, size_of_value(setting, first))?;
     let body_size = behind_node(size_of_value(setting, body))?;
@@ -139,8 +146,10 @@ fn behind_two_values(
     answer: Result<ValueSize, u32>,
 ) -> Result<ValueSize, u32>
     requires small { nodes (plain_value first.now) + nodes (plain_value second.now) < 2 ^ 32 }
-    requires room { IfErr answer (λ node. nodes (plain_value first.now) + (1 + nodes (plain_value second.now) + node) < 2 ^ 32) }
-    ensures { result ≡ moved (nodes (plain_value first.now)) (moved (1 + nodes (plain_value second.now)) answer) }
+    requires room { IfErr answer (λ node.
+        nodes (plain_value first.now) + (1 + nodes (plain_value second.now) + node) < 2 ^ 32) }
+    ensures { result ≡ moved (nodes (plain_value first.now))
+        (moved (1 + nodes (plain_value second.now)) answer) }
 {
     match answer {
         Ok(size) => Ok(size),
