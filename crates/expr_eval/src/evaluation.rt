@@ -22,7 +22,9 @@ use crate::operators::{OnOne, done_on_one};
 use crate::scratch::{Binding, Held, Scratch};
 use decimal::Mode;
 use fixing_files::Fixings;
-use term_core::{CmpOp, Decls, Expr, Kind, LogicOp, Missing, NumOp, Value};
+use term_core::{
+    CmpOp, Decls, Expr, Kind, LogicOp, Missing, NumOp, Value, day_read, days_earlier, days_later,
+};
 
 // The value that an entry holds, with its kind.
 fn value_held(binding: &Binding) -> Result<Typed, Missing>
@@ -93,38 +95,6 @@ pub fn value_observed(
     value_found(decls, label, day, fixings.get(label, day))
 }
 
-/// A day that many days later; an offset may be negative.
-pub fn day_at(day: i64, offset: i32) -> i64
-    requires { IsDay day }
-    ensures { result ≡ day +ℤ offset }
-{
-    day + offset as i64
-}
-
-/// The day `i` days after a day.
-pub fn day_on(from: i64, i: u32) -> i64
-    requires { IsDay from }
-    ensures { result ≡ from +ℤ pos i }
-{
-    from + i as i64
-}
-
-/// The day `i + 1` days after a day.
-pub fn day_after(from: i64, i: u32) -> i64
-    requires { IsDay from }
-    ensures { result ≡ from +ℤ pos (i + 1) }
-{
-    from + (i as i64 + 1)
-}
-
-/// The day `days` days before a day.
-pub fn day_before(day: i64, days: u32) -> i64
-    requires { IsDay day }
-    ensures { result ≡ day -ℤ pos days }
-{
-    day - days as i64
-}
-
 /// An answer, without the kind of its value.
 pub fn without_kind(found: Result<Typed, Missing>) -> Result<Value, Missing>
     ensures { result ≡ untyped found }
@@ -153,7 +123,12 @@ pub fn evaluate(
         Expr::Lit { mant, scale } => Ok(number(*scale, *mant)),
         Expr::Yes { value } => Ok(verdict(*value)),
         Expr::Var { back } => value_bound(names, *back),
-        Expr::Obs { label, offset } => value_observed(decls, *label, day_at(day, *offset), fixings),
+        Expr::Obs { label, offset } => value_observed(
+            decls,
+            *label,
+            day_read(day, *offset),
+            fixings,
+        ),
         Expr::Neg { of } => evaluate_one(decls, OnOne::Negative, of, names, fixings, day),
         Expr::Num { op, left, right } => {
             evaluate_combined(decls, *op, left, right, names, fixings, day)
@@ -186,7 +161,7 @@ pub fn evaluate(
             below,
         } => evaluate_quotient(decls, *mode, *scale, top, below, names, fixings, day),
         Expr::Acc { body, days, first } => {
-            let from = day_before(day, *days);
+            let from = days_earlier(day, *days);
             evaluate_days(decls, body, *days, first, names, fixings, from)
         }
     }
@@ -350,7 +325,7 @@ pub fn evaluate_days(
     let mut value = evaluate(decls, first, names, fixings, from)?;
     let level = stays_level(decls, body, names, value);
     for i in 0..days {
-        let day = day_after(from, i);
+        let day = days_later(from, i + 1);
         value = evaluate_day(decls, body, level, value, names, fixings, day)?;
     }
     Ok(value)
@@ -451,7 +426,7 @@ fn mantissa_at(
     match e {
         Expr::Lit { mant, .. } => Ok(*mant),
         Expr::Var { back } => mantissa_bound(names, *back),
-        Expr::Obs { label, offset } => mantissa_observed(*label, day_at(day, *offset), fixings),
+        Expr::Obs { label, offset } => mantissa_observed(*label, day_read(day, *offset), fixings),
         Expr::Num { op, left, right } => {
             mantissa_combined(decls, *op, left, right, names, fixings, day)
         }

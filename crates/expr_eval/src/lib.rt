@@ -32,7 +32,7 @@ mod values;
 mod watches;
 
 pub use bindings::{Bindings, kind_at};
-pub use evaluation::{day_after, day_before, day_on, value_bound, value_found, without_kind};
+pub use evaluation::{value_bound, value_found, without_kind};
 pub use kinds::{kind_observed, kind_of};
 pub use laws::{answers_may_be_entered, parts_may_be_evaluated};
 pub use scratch::{Binding, Held, Scratch};

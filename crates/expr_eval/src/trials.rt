@@ -12,13 +12,13 @@ ghost use Rattle.expr_eval.specs.Trials.{IsFirstTrue, IsOneOf};
 
 use crate::bindings::Bindings;
 use crate::comparisons::{Factors, compare_brought, factors_of};
-use crate::evaluation::{day_at, day_on, evaluate, mantissa_observed};
+use crate::evaluation::{evaluate, mantissa_observed};
 use crate::kinds::kind_in;
 use crate::scratch::Scratch;
 use crate::searches::search;
 use crate::truths::holds;
 use fixing_files::Fixings;
-use term_core::{CmpOp, Decls, Expr, Missing};
+use term_core::{CmpOp, Decls, Expr, Missing, day_read, days_later};
 
 /// A comparison, and its factors.
 #[derive(Clone, Copy)]
@@ -55,7 +55,7 @@ fn mantissa_of(
 {
     match e {
         Expr::Lit { mant, .. } => Ok(*mant),
-        Expr::Obs { label, offset } => mantissa_observed(*label, day_at(day, *offset), fixings),
+        Expr::Obs { label, offset } => mantissa_observed(*label, day_read(day, *offset), fixings),
         _ => {
             let found = evaluate(decls, e, names, fixings, day)?;
             Ok(found.value.number())
@@ -97,7 +97,7 @@ fn first_day_compared(
     ensures found { IfOk result (λ first. IsOneOf days first) }
 {
     for i in 0..days {
-        let day = day_on(from, i);
+        let day = days_later(from, i);
         let holds = compares_on(decls, test, names, fixings, day)?;
         if holds {
             return Ok(Some(i));
@@ -123,7 +123,7 @@ fn first_held(
     ensures found { IfOk result (λ first. IsOneOf days first) }
 {
     for i in 0..days {
-        let day = day_on(from, i);
+        let day = days_later(from, i);
         let holds = holds(decls, test, names, fixings, day)?;
         if holds {
             return Ok(Some(i));

@@ -12,13 +12,13 @@ ghost use Rattle.expr_eval.specs.Truths.{DayFitsWith, DaysFitAfter, DaysFitOf, i
 ghost use Rattle.expr_eval.specs.Latches.{IsKept, keeps, truth_at};
 
 use crate::bindings::Bindings;
-use crate::evaluation::{day_after, day_at, day_before, evaluate, evaluate_days};
+use crate::evaluation::{evaluate, evaluate_days};
 use crate::operations::{Operands, Typed, compare, is_decided};
 use crate::scratch::{Binding, Held};
 use crate::searches::search;
 use crate::stops::{Stop, is_wanted};
 use fixing_files::Fixings;
-use term_core::{CmpOp, Decls, Expr, LogicOp, Missing, Value};
+use term_core::{CmpOp, Decls, Expr, LogicOp, Missing, Value, day_read, days_earlier, days_later};
 
 // The truth value that an entry holds.
 fn truth_entered(binding: &Binding) -> Result<bool, Missing>
@@ -110,7 +110,7 @@ pub fn holds(
     match test {
         Expr::Yes { value } => Ok(*value),
         Expr::Var { back } => truth_bound(names, *back),
-        Expr::Obs { label, offset } => truth_observed(*label, day_at(day, *offset), fixings),
+        Expr::Obs { label, offset } => truth_observed(*label, day_read(day, *offset), fixings),
         Expr::Not { of } => holds_not(decls, of, names, fixings, day),
         Expr::Logic { op, left, right } => {
             holds_joined(decls, *op, left, right, names, fixings, day)
@@ -119,7 +119,7 @@ pub fn holds(
             holds_between(decls, *op, left, right, names, fixings, day)
         }
         Expr::Acc { body, days, first } => {
-            let from = day_before(day, *days);
+            let from = days_earlier(day, *days);
             holds_after(decls, body, *days, first, names, fixings, from)
         }
         _ => holds_otherwise(decls, test, names, fixings, day),
@@ -239,7 +239,15 @@ fn kept_after(
         },
         outer: &*names,
     };
-    let stop = search(decls, body, kept, &inner, fixings, day_after(from, 0), days)?;
+    let stop = search(
+        decls,
+        body,
+        kept,
+        &inner,
+        fixings,
+        days_later(from, 1),
+        days,
+    )?;
     Some(truth_at(stop, kept))
 }
 
@@ -289,7 +297,7 @@ fn verdict_after(
 {
     let mut value = start;
     for i in 0..days {
-        let day = day_after(from, i);
+        let day = days_later(from, i + 1);
         let holds = holds_then(decls, body, value, names, fixings, day)?;
         value.value = Value::Truth { value: holds };
     }

@@ -26,12 +26,12 @@ evaluate-returns-in-Acc t c =
     let g = bindings c.args.names.now in
     let env = c.args.fixings.now in
     let f = c.args.day in
-    let fits : FitsSigned w64 c.day_before-from.result = search rules in
+    let fits : FitsSigned w64 c.days_earlier-from.result = search rules in
     let of_day : FitsSigned w64 f = c.ranges.day in
-    let from_is : c.day_before-from.result ≡ f -ℤ pos c.in-Acc.days = simp to_z-of_z at c.day_before-from.ensures in
+    let from_is : c.days_earlier-from.result ≡ f -ℤ pos c.in-Acc.days = simp to_z-of_z at c.days_earlier-from.ensures.day in
     let same : run_of d (Acc (expression c.in-Acc.body.value) c.in-Acc.days (expression c.in-Acc.first.value)) g env f ≡ run_of d (expression c.args.e.now) g env f =
     ap (λ (x : Expr). run_of d (expression x) g env f) (sym c.in-Acc.is) in
-    acc_is d c.in-Acc.body.value c.deref-in-Acc.result.now c.in-Acc.first.value c.deref-in-Acc-2.result.now c.in-Acc.days g env f c.day_before-from.result _ c.evaluate_days.result c.deref-in-Acc.ensures c.deref-in-Acc-2.ensures (to_z-of_z w64 c.day_before-from.result fits) from_is c.evaluate_days.ensures
+    acc_is d c.in-Acc.body.value c.deref-in-Acc.result.now c.in-Acc.first.value c.deref-in-Acc-2.result.now c.in-Acc.days g env f c.days_earlier-from.result _ c.evaluate_days.result c.deref-in-Acc.ensures c.deref-in-Acc-2.ensures (to_z-of_z w64 c.days_earlier-from.result fits) from_is c.evaluate_days.ensures
     ∙ same
 
 pub evaluate_day-returns-then-level : goal.evaluate_day-returns-then-level
@@ -49,11 +49,11 @@ evaluate_days-loop-i-preserved t c =
     let d = declarations c.args.decls.now in
     let g = bindings c.args.names.now in
     let F = c.args.fixings.now in
-    let fits : FitsSigned w64 c.day_after-day.result = search rules in
-    let day : to_z w64 (of_z w64 c.day_after-day.result) ≡ to_z w64 (of_z w64 c.args.from) +ℤ pos (c.loop-i.i + 1) =
-    to_z-of_z w64 c.day_after-day.result fits ∙ c.day_after-day.ensures in (
-      days_go_on d c.args.body.now c.args.first.now g F (to_z w64 (of_z w64 c.args.from)) c.loop-i.i c.loop-i.value (to_z w64 (of_z w64 c.day_after-day.result)) c.evaluate_day.result c.loop-i.invariant.0 day c.evaluate_day.ensures c.in_ok-value-2.value c.in_ok-value-2.was,
-      (λ level. stays_so d (expression c.args.body.now) g c.loop-i.value (c.loop-i.invariant.1 level) F (to_z w64 (of_z w64 c.day_after-day.result)) c.in_ok-value-2.value (sym c.evaluate_day.ensures ∙ c.in_ok-value-2.was)),
+    let fits : FitsSigned w64 c.days_later-day.result = search rules in
+    let day : to_z w64 (of_z w64 c.days_later-day.result) ≡ to_z w64 (of_z w64 c.args.from) +ℤ pos (c.loop-i.i + 1) =
+    to_z-of_z w64 c.days_later-day.result fits ∙ c.days_later-day.ensures.day in (
+      days_go_on d c.args.body.now c.args.first.now g F (to_z w64 (of_z w64 c.args.from)) c.loop-i.i c.loop-i.value (to_z w64 (of_z w64 c.days_later-day.result)) c.evaluate_day.result c.loop-i.invariant.0 day c.evaluate_day.ensures c.in_ok-value-2.value c.in_ok-value-2.was,
+      (λ level. stays_so d (expression c.args.body.now) g c.loop-i.value (c.loop-i.invariant.1 level) F (to_z w64 (of_z w64 c.days_later-day.result)) c.in_ok-value-2.value (sym c.evaluate_day.ensures ∙ c.in_ok-value-2.was)),
     )
 
 pub mantissa_chosen-returns-then-is_true : goal.mantissa_chosen-returns-then-is_true

@@ -12,17 +12,17 @@ pub returns-in_err-holds-clause-days : goal.returns-in_err-holds-clause-days
 returns-in_err-holds-clause-days c =
     let before : first_tried c.loop-i.i (λ k. untyped (run_of (declarations c.args.decls.now) (expression c.args.test.now) (bindings c.args.names.now) c.args.fixings.now (c.args.from +ℤ pos k))) ≡ Ok None =
     subst (λ (f : ℤ). first_tried c.loop-i.i (λ k. untyped (run_of (declarations c.args.decls.now) (expression c.args.test.now) (bindings c.args.names.now) c.args.fixings.now (f +ℤ pos k))) ≡ Ok None) (to_z-of_z w64 c.args.from c.ranges.from) c.loop-i.invariant in
-    let fits : FitsSigned w64 c.day_on-day.result = search rules in
-    let day : to_z w64 (of_z w64 c.day_on-day.result) ≡ c.args.from +ℤ pos c.loop-i.i =
-    to_z-of_z w64 c.day_on-day.result fits ∙ c.day_on-day.ensures ∙ ap (λ (f : ℤ). f +ℤ pos c.loop-i.i) (to_z-of_z w64 c.args.from c.ranges.from) in
-    let lacks = trial_lacks (declarations c.args.decls.now) (expression c.args.test.now) (bindings c.args.names.now) c.args.fixings.now c.args.from c.args.days c.loop-i.i (to_z w64 (of_z w64 c.day_on-day.result)) c.holds.result c.in_err-holds.field-0.0 c.loop-i-test.true before day c.holds.ensures c.in_err-holds.was in
+    let fits : FitsSigned w64 c.days_later-day.result = search rules in
+    let day : to_z w64 (of_z w64 c.days_later-day.result) ≡ c.args.from +ℤ pos c.loop-i.i =
+    to_z-of_z w64 c.days_later-day.result fits ∙ c.days_later-day.ensures.day ∙ ap (λ (f : ℤ). f +ℤ pos c.loop-i.i) (to_z-of_z w64 c.args.from c.ranges.from) in
+    let lacks = trial_lacks (declarations c.args.decls.now) (expression c.args.test.now) (bindings c.args.names.now) c.args.fixings.now c.args.from c.args.days c.loop-i.i (to_z w64 (of_z w64 c.days_later-day.result)) c.holds.result c.in_err-holds.field-0.0 c.loop-i-test.true before day c.holds.ensures c.in_err-holds.was in
     grind (arith, lacks, c.from_residual.ensures)
 
 pub returns-then-holds-clause-days : goal.returns-then-holds-clause-days
 returns-then-holds-clause-days c =
     let before : first_tried c.loop-i.i (λ k. untyped (run_of (declarations c.args.decls.now) (expression c.args.test.now) (bindings c.args.names.now) c.args.fixings.now (c.args.from +ℤ pos k))) ≡ Ok None =
     subst (λ (f : ℤ). first_tried c.loop-i.i (λ k. untyped (run_of (declarations c.args.decls.now) (expression c.args.test.now) (bindings c.args.names.now) c.args.fixings.now (f +ℤ pos k))) ≡ Ok None) (to_z-of_z w64 c.args.from c.ranges.from) c.loop-i.invariant in
-    let fits : FitsSigned w64 c.day_on-day.result = search rules in
-    let day : to_z w64 (of_z w64 c.day_on-day.result) ≡ c.args.from +ℤ pos c.loop-i.i =
-    to_z-of_z w64 c.day_on-day.result fits ∙ c.day_on-day.ensures ∙ ap (λ (f : ℤ). f +ℤ pos c.loop-i.i) (to_z-of_z w64 c.args.from c.ranges.from) in
-    sym (trial_holds (declarations c.args.decls.now) (expression c.args.test.now) (bindings c.args.names.now) c.args.fixings.now c.args.from c.args.days c.loop-i.i (to_z w64 (of_z w64 c.day_on-day.result)) c.holds.result c.in_ok-holds.holds c.loop-i-test.true before day c.holds.ensures c.in_ok-holds.was c.if-holds.true)
+    let fits : FitsSigned w64 c.days_later-day.result = search rules in
+    let day : to_z w64 (of_z w64 c.days_later-day.result) ≡ c.args.from +ℤ pos c.loop-i.i =
+    to_z-of_z w64 c.days_later-day.result fits ∙ c.days_later-day.ensures.day ∙ ap (λ (f : ℤ). f +ℤ pos c.loop-i.i) (to_z-of_z w64 c.args.from c.ranges.from) in
+    sym (trial_holds (declarations c.args.decls.now) (expression c.args.test.now) (bindings c.args.names.now) c.args.fixings.now c.args.from c.args.days c.loop-i.i (to_z w64 (of_z w64 c.days_later-day.result)) c.holds.result c.in_ok-holds.holds c.loop-i-test.true before day c.holds.ensures c.in_ok-holds.was c.if-holds.true)

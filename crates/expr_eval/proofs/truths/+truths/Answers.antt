@@ -17,12 +17,12 @@ holds-returns-in-Acc t c =
     let g = bindings c.args.names.now in
     let env = c.args.fixings.now in
     let f = c.args.day in
-    let fits : FitsSigned w64 c.day_before-from.result = search rules in
+    let fits : FitsSigned w64 c.days_earlier-from.result = search rules in
     let of_day : FitsSigned w64 f = c.ranges.day in
-    let from_is : c.day_before-from.result ≡ f -ℤ pos c.in-Acc.days = simp to_z-of_z at c.day_before-from.ensures in
+    let from_is : c.days_earlier-from.result ≡ f -ℤ pos c.in-Acc.days = simp to_z-of_z at c.days_earlier-from.ensures.day in
     let same : truth_found (run_of d (Acc (expression c.in-Acc.body.value) c.in-Acc.days (expression c.in-Acc.first.value)) g env f) ≡ truth_found (run_of d (expression c.args.test.now) g env f) =
     ap (λ (x : Expr). truth_found (run_of d (expression x) g env f)) (sym c.in-Acc.is) in
-    acc_holds d c.in-Acc.body.value c.deref-in-Acc.result.now c.in-Acc.first.value c.deref-in-Acc-2.result.now c.in-Acc.days g env f c.day_before-from.result _ c.holds_after.result c.deref-in-Acc.ensures c.deref-in-Acc-2.ensures (to_z-of_z w64 c.day_before-from.result fits) from_is c.holds_after.ensures
+    acc_holds d c.in-Acc.body.value c.deref-in-Acc.result.now c.in-Acc.first.value c.deref-in-Acc-2.result.now c.in-Acc.days g env f c.days_earlier-from.result _ c.holds_after.result c.deref-in-Acc.ensures c.deref-in-Acc-2.ensures (to_z-of_z w64 c.days_earlier-from.result fits) from_is c.holds_after.ensures
     ∙ same
 
 pub holds_after-returns-in_err-start : goal.holds_after-returns-in_err-start
@@ -48,12 +48,12 @@ verdict_after-returns-in_err-holds t c =
     let e = expression c.args.body.now in
     let g = bindings c.args.names.now in
     let F = c.args.fixings.now in
-    let fits : FitsSigned w64 c.day_after-day.result = search rules in
-    let day : to_z w64 (of_z w64 c.day_after-day.result) ≡ to_z w64 (of_z w64 c.args.from) +ℤ pos (c.loop-i.i + 1) =
-    to_z-of_z w64 c.day_after-day.result fits ∙ c.day_after-day.ensures in
+    let fits : FitsSigned w64 c.days_later-day.result = search rules in
+    let day : to_z w64 (of_z w64 c.days_later-day.result) ≡ to_z w64 (of_z w64 c.args.from) +ℤ pos (c.loop-i.i + 1) =
+    to_z-of_z w64 c.days_later-day.result fits ∙ c.days_later-day.ensures.day in
     let lacks : truth_found (days_run d e g F c.args.from c.args.days (Ok c.args.start)) ≡ Err c.in_err-holds.field-0.0 =
     sym (ap (λ (f : ℤ). truth_found (days_run d e g F f c.args.days (Ok c.args.start))) (to_z-of_z w64 c.args.from c.ranges.from))
-    ∙ ap truth_found (days_lack d e c.args.start g F (to_z w64 (of_z w64 c.args.from)) c.loop-i.i c.loop-i.value (to_z w64 (of_z w64 c.day_after-day.result)) c.holds_then.result c.loop-i.invariant day c.holds_then.ensures c.args.days c.in_err-holds.field-0.0 c.loop-i-test.true c.in_err-holds.was) in
+    ∙ ap truth_found (days_lack d e c.args.start g F (to_z w64 (of_z w64 c.args.from)) c.loop-i.i c.loop-i.value (to_z w64 (of_z w64 c.days_later-day.result)) c.holds_then.result c.loop-i.invariant day c.holds_then.ensures c.args.days c.in_err-holds.field-0.0 c.loop-i-test.true c.in_err-holds.was) in
     grind (arith, lacks, c.from_residual.ensures)
 
 pub verdict_after-loop-i-preserved : goal.verdict_after-loop-i-preserved
@@ -62,7 +62,7 @@ verdict_after-loop-i-preserved t c =
     let e = expression c.args.body.now in
     let g = bindings c.args.names.now in
     let F = c.args.fixings.now in
-    let fits : FitsSigned w64 c.day_after-day.result = search rules in
-    let day : to_z w64 (of_z w64 c.day_after-day.result) ≡ to_z w64 (of_z w64 c.args.from) +ℤ pos (c.loop-i.i + 1) =
-    to_z-of_z w64 c.day_after-day.result fits ∙ c.day_after-day.ensures in
-    days_hold d e c.args.start g F (to_z w64 (of_z w64 c.args.from)) c.loop-i.i c.loop-i.value (to_z w64 (of_z w64 c.day_after-day.result)) c.holds_then.result c.loop-i.invariant day c.holds_then.ensures c.in_ok-holds.holds c.requires.body c.in_ok-holds.was
+    let fits : FitsSigned w64 c.days_later-day.result = search rules in
+    let day : to_z w64 (of_z w64 c.days_later-day.result) ≡ to_z w64 (of_z w64 c.args.from) +ℤ pos (c.loop-i.i + 1) =
+    to_z-of_z w64 c.days_later-day.result fits ∙ c.days_later-day.ensures.day in
+    days_hold d e c.args.start g F (to_z w64 (of_z w64 c.args.from)) c.loop-i.i c.loop-i.value (to_z w64 (of_z w64 c.days_later-day.result)) c.holds_then.result c.loop-i.invariant day c.holds_then.ensures c.in_ok-holds.holds c.requires.body c.in_ok-holds.was

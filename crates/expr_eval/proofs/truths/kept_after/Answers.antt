@@ -8,6 +8,6 @@ returns-then-is_wanted c =
 
 pub returns : goal.returns
 returns c =
-    let fits : FitsSigned w64 c.day_after.result = search rules in
-    let first : to_z w64 (of_z w64 c.day_after.result) ≡ c.args.from +ℤ pos 1 = search rules in
-    kept_until c.args.decls.now c.args.body.now c.args.start c.args.names.now c.args.fixings.now c.args.from (to_z w64 (of_z w64 c.day_after.result)) c.args.days c.in_ok-kept.kept c.in-Truth.value c.in_ok-stop.stop c.truth_at.result c.in_ok-kept.ensures c.in-Truth.is (sym c.is_wanted.ensures ∙ c.if-is_wanted.false) first c.in_ok-stop.ensures c.truth_at.ensures
+    let fits : FitsSigned w64 c.days_later.result = search rules in
+    let first : to_z w64 (of_z w64 c.days_later.result) ≡ c.args.from +ℤ pos 1 = search rules in
+    kept_until c.args.decls.now c.args.body.now c.args.start c.args.names.now c.args.fixings.now c.args.from (to_z w64 (of_z w64 c.days_later.result)) c.args.days c.in_ok-kept.kept c.in-Truth.value c.in_ok-stop.stop c.truth_at.result c.in_ok-kept.ensures c.in-Truth.is (sym c.is_wanted.ensures ∙ c.if-is_wanted.false) first c.in_ok-stop.ensures c.truth_at.ensures
