@@ -10,6 +10,7 @@ pub mod TriedFacts
 pub mod StopFacts
 pub mod CompareFacts
 pub mod WatchFacts
+pub mod PassFacts
 pub mod TruthFacts
 pub mod SearchFacts
 pub mod LatchFacts

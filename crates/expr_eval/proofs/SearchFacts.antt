@@ -1,6 +1,5 @@
 -- Where tests stop of which either decides, stretch by stretch.
-use Rattle.std.proofs.Common.{◌≡◌, ℕ, zero, suc, ◌+◌, ◌≤◌, ℤ, pos, ◌+ℤ◌, Bool, true, false, not, Ok, Err, if◌then◌else◌, refl, ap, sym, ◌∙◌, subst, arith}
-use Rattle.std.proofs.lemmas.Int.{ints}
+use Rattle.std.proofs.Common.{◌≡◌, ℕ, zero, suc, ◌+◌, ◌≤◌, ℤ, pos, ◌+ℤ◌, Bool, true, false, not, Ok, Err, if◌then◌else◌, refl, ap, sym, ◌∙◌, subst}
 use Rattle.term_core.specs.declared.decls.Decls.{Decls}
 use Rattle.term_core.specs.declared.values.Missing.{Missing}
 use Rattle.term_core.specs.declared.terms.Expr.{Expr}
@@ -19,7 +18,7 @@ use Rattle.expr_eval.specs.Comparing.{truth_found}
 use Rattle.expr_eval.specs.Stops.{TruthOrMissing, counted_from, days_before, either_met, first_stop, goes_on, is_wanted, or_first, or_stop_on, stop_on, wanted_of}
 use Rattle.expr_eval.specs.Truths.{truth_of}
 use Rattle.expr_eval.specs.Searches.{IsStop, IsStopOfEither, alike, met_in}
-use Rattle.expr_eval.proofs.StopFacts.{either_stops, is_never, same_stop, stays, stops_later}
+use Rattle.expr_eval.proofs.StopFacts.{either_stops, is_never, more_days, same_stop, stays, stopped_too}
 
 -- two sides of which the left one decides where it has the wanted value
 
@@ -94,20 +93,6 @@ module _ (decls : Decls) (left right : Expr) (w : Bool) (names : Bindings) (env 
   right_is h = ap (λ (b : Bool). if b then s else t) (sym h) ∙ both
 
 -- some more days, behind those on which it went on
-
-more_days : (g : ℤ → TruthOrMissing) (from first : ℤ) (done c j : ℕ) (s : Stop) → Never ≡ first_stop done (λ i. g (from +ℤ pos i)) → first ≡ from +ℤ pos done
-    → s ≡ first_stop c (λ i. g (first +ℤ pos i)) → j ≡ done + c → counted_from s done ≡ first_stop j (λ i. g (from +ℤ pos i))
-more_days g from first done c j s before day is all =
-    ap (λ (t : Stop). counted_from t done) (is ∙ same_stop c (λ i. g (first +ℤ pos i)) (λ i. g (from +ℤ pos (done + i))) (λ i l. ap g (moved i)))
-    ∙ sym (stops_later c j done (λ i. g (from +ℤ pos i)) all (sym before))
-  where
-    moved : (i : ℕ) → first +ℤ pos i ≡ from +ℤ pos (done + i)
-    moved i = omega (arith, ints, day)
-
-stopped_too : (s : Stop) (done : ℕ) → goes_on s ≡ false → goes_on (counted_from s done) ≡ false
-stopped_too Never done h = h
-stopped_too (Met k) done h = refl
-stopped_too (Lacking k m) done h = refl
 
 module _ (decls : Decls) (left right : Expr) (w : Bool) (names : Bindings) (env : Environment) (from first : ℤ) (done c : ℕ) (s : Stop)
     (before : IsStopOfEither decls left right w names env from done Never) (day : first ≡ from +ℤ pos done) (is : IsStopOfEither decls left right w names env first c s) where

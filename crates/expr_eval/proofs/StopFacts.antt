@@ -1,6 +1,7 @@
 -- Where tests stop that are tried on one day after another.
-use Rattle.std.proofs.Common.{◌≡◌, ℕ, zero, suc, ◌+◌, ◌≤◌, ◌<◌, ◌^◌, Bool, true, false, Some, None, Ok, Err, if◌then◌else◌, refl, ap, sym, ◌∙◌, subst, inl, inr, arith, eq-or-lt_of_le, add-one}
+use Rattle.std.proofs.Common.{◌≡◌, ℕ, zero, suc, ◌+◌, ◌≤◌, ◌<◌, ◌^◌, ℤ, pos, ◌+ℤ◌, Bool, true, false, Some, None, Ok, Err, if◌then◌else◌, refl, ap, sym, ◌∙◌, subst, inl, inr, arith, eq-or-lt_of_le, add-one}
 use Rattle.std.specs.Prelude.{IfOk}
+use Rattle.std.proofs.lemmas.Int.{ints}
 use Rattle.term_core.specs.declared.values.Missing.{Missing}
 use Rattle.term_core.specs.Values.{truth}
 use Rattle.expr_eval.specs.declared.stops.Stop.{Stop}
@@ -126,6 +127,32 @@ pub is_never : (s : Stop) → goes_on s ≡ true → s ≡ Never
 is_never Never h = refl
 is_never (Met k) h = absurd (cc)
 is_never (Lacking k m) h = absurd (cc)
+
+pub more_days : (g : ℤ → TruthOrMissing) (from first : ℤ) (done c j : ℕ) (s : Stop) → Never ≡ first_stop done (λ i. g (from +ℤ pos i)) → first ≡ from +ℤ pos done
+    → s ≡ first_stop c (λ i. g (first +ℤ pos i)) → j ≡ done + c → counted_from s done ≡ first_stop j (λ i. g (from +ℤ pos i))
+more_days g from first done c j s before day is all =
+    ap (λ (t : Stop). counted_from t done) (is ∙ same_stop c (λ i. g (first +ℤ pos i)) (λ i. g (from +ℤ pos (done + i))) (λ i l. ap g (moved i)))
+    ∙ sym (stops_later c j done (λ i. g (from +ℤ pos i)) all (sym before))
+  where
+    moved : (i : ℕ) → first +ℤ pos i ≡ from +ℤ pos (done + i)
+    moved i = omega (arith, ints, day)
+
+pub stopped_too : (s : Stop) (done : ℕ) → goes_on s ≡ false → goes_on (counted_from s done) ≡ false
+stopped_too Never done h = h
+stopped_too (Met k) done h = refl
+stopped_too (Lacking k m) done h = refl
+
+pub found_later : (n done c : ℕ) (a : ℕ → TruthOrMissing) (s : Stop) → counted_from s done ≡ first_stop (done + c) a → goes_on s ≡ false → done + c ≤ n → counted_from s done ≡ first_stop n a
+found_later n done c a s is stopped l = sym (stays n (done + c) a (counted_from s done) (stopped_too s done stopped) l (sym is))
+
+pub never_later : (done c : ℕ) (a : ℕ → TruthOrMissing) (s : Stop) → counted_from s done ≡ first_stop (done + c) a → goes_on s ≡ true → first_stop (done + c) a ≡ Never
+never_later done c a s is goes = sym is ∙ ap (λ (t : Stop). counted_from t done) (is_never s goes)
+
+-- days on none of which it is met
+
+pub none_met : (n : ℕ) (a : ℕ → TruthOrMissing) → ((i : ℕ) → i < n → a i ≡ Ok false) → first_stop n a ≡ Never
+none_met zero a h = refl
+none_met (suc n) a h = next_stop n a (Ok false) (none_met n a (λ i l. h i (omega arith))) (h n (omega arith))
 
 -- the first stop of two tests of which either stops both
 

@@ -13,6 +13,7 @@ pub mod Levels
 pub mod LevelDays
 pub mod Stops
 pub mod Watching
+pub mod Passing
 pub mod Truths
 pub mod Searches
 pub mod Latches

@@ -15,6 +15,7 @@
 #![tactic(auto)]
 
 mod bindings;
+mod blocks;
 mod comparisons;
 mod evaluation;
 mod heights;

@@ -174,7 +174,7 @@ fn search_compared(
         wanted names.now fixings.now from days s) }
 {
     let watch = watch_of(decls, op, left, right, wanted, names)?;
-    first_met(&watch, fixings, day_read(from, watch.offset), days)
+    first_met(watch, fixings, day_read(from, watch.offset), days)
 }
 
 // Where a flag stops.
@@ -195,7 +195,7 @@ fn search_observed(
         trial: Trial::Flag,
         wanted,
     };
-    first_met(&watch, fixings, day_read(from, offset), days)
+    first_met(watch, fixings, day_read(from, offset), days)
 }
 
 // Where a test stops that answers the same on each day.

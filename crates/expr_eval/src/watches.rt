@@ -1,10 +1,11 @@
 //! What is observed under a label, tried on one day after another.
 
-ghost use Rattle.std.specs.Prelude.{◌≡◌, ◌≤◌, ◌^◌, ◌+ℤ◌, ◌*ℤ◌, pos, unsigned_abs, IfSome};
+ghost use Rattle.std.specs.Prelude.{◌≡◌, ◌≤◌, ◌^◌, ◌+◌, ◌+ℤ◌, ◌*ℤ◌, pos, unsigned_abs, IfSome};
 ghost use Rattle.fixing_files.specs.Runs.{LendsDays};
 ghost use Rattle.expr_eval.specs.Stops.{first_stop};
 ghost use Rattle.expr_eval.specs.Watching.{is_met, met_on};
 
+use crate::blocks::{BLOCK, days_in_block, is_passed};
 use crate::operations::compare_aligned;
 use crate::stops::{Stop, is_wanted};
 use fixing_files::{FixedDay, Fixings};
@@ -49,9 +50,9 @@ fn index_of(run: &[FixedDay], day: i64) -> usize {
     }
 }
 
-// A number times a factor, where a word holds it.
+/// A number times a factor, where a word holds it.
 #[inline(always)]
-fn brought(x: i128, factor: i64) -> Option<i128>
+pub fn brought(x: i128, factor: i64) -> Option<i128>
     ensures { IfSome result (λ y. y ≡ x *ℤ factor) }
 {
     if factor == 1 {
@@ -63,8 +64,8 @@ fn brought(x: i128, factor: i64) -> Option<i128>
 
 // Whether a value meets a watch; none where it is too large for a word.
 #[inline(always)]
-fn is_met(watch: &Watch, value: &Value) -> Option<bool>
-    ensures { IfSome result (λ b. b ≡ is_met watch.now value.now) }
+fn is_met(watch: Watch, value: &Value) -> Option<bool>
+    ensures { IfSome result (λ b. b ≡ is_met watch value.now) }
 {
     match watch.trial {
         Trial::Flag => Some(is_wanted(watch.wanted, value.is_true())),
@@ -78,14 +79,14 @@ fn is_met(watch: &Watch, value: &Value) -> Option<bool>
 // The same of what is found on a day, which is first sought at an index of the label's run.
 #[inline(always)]
 fn met_near(
-    watch: &Watch,
+    watch: Watch,
     fixings: &Fixings,
     run: &[FixedDay],
     at: usize,
     day: i64,
 ) -> Option<Result<bool, Missing>>
-    requires { LendsDays fixings.now watch.now.label run.now }
-    ensures { IfSome result (λ r. r ≡ met_on watch.now fixings.now day) }
+    requires { LendsDays fixings.now watch.label run.now }
+    ensures { IfSome result (λ r. r ≡ met_on watch fixings.now day) }
 {
     if at < run.len() {
         let fixed = &run[at];
@@ -97,8 +98,8 @@ fn met_near(
 }
 
 // The same of what is found on a day.
-fn met_somewhere(watch: &Watch, fixings: &Fixings, day: i64) -> Option<Result<bool, Missing>>
-    ensures { IfSome result (λ r. r ≡ met_on watch.now fixings.now day) }
+fn met_somewhere(watch: Watch, fixings: &Fixings, day: i64) -> Option<Result<bool, Missing>>
+    ensures { IfSome result (λ r. r ≡ met_on watch fixings.now day) }
 {
     match fixings.get(watch.label, day) {
         Some(value) => Some(Ok(is_met(watch, &value)?)),
@@ -111,21 +112,28 @@ fn met_somewhere(watch: &Watch, fixings: &Fixings, day: i64) -> Option<Result<bo
 
 /// The day `i` days after a day.
 pub fn day_behind(first: i64, i: u32) -> i64
-    requires { unsigned_abs first ≤ 2 ^ 62 }
+    requires { unsigned_abs first ≤ 2 ^ 62 + 2 ^ 32 }
     ensures { result ≡ first +ℤ pos i }
 {
     first + i as i64
 }
 
-/// Where a watch stops over some days; none where a number on the way is too large. No day before
-/// that one is missing, so each stands in the run of the label behind the one before it.
-pub fn first_met(watch: &Watch, fixings: &Fixings, first: i64, days: u32) -> Option<Stop>
-    requires { unsigned_abs first ≤ 2 ^ 62 }
+// Where a watch stops over some days, of which the first is sought at an index of the label's run.
+// No day before that one is missing, so each stands in the run behind the one before it.
+#[inline(never)]
+fn first_near(
+    watch: Watch,
+    fixings: &Fixings,
+    run: &[FixedDay],
+    start: usize,
+    first: i64,
+    days: u32,
+) -> Option<Stop>
+    requires lends { LendsDays fixings.now watch.label run.now }
+    requires day { unsigned_abs first ≤ 2 ^ 62 + 2 ^ 32 }
     ensures { IfSome result (λ s. s ≡ first_stop days
-        (λ i. met_on watch.now fixings.now (first +ℤ pos i))) }
+        (λ i. met_on watch fixings.now (first +ℤ pos i))) }
 {
-    let run = fixings.days_of(watch.label);
-    let start = index_of(run, first);
     for i in 0..days {
         let day = day_behind(first, i);
         let at = start.saturating_add(i as usize);
@@ -136,6 +144,34 @@ pub fn first_met(watch: &Watch, fixings: &Fixings, first: i64, days: u32) -> Opt
                 }
             }
             Err(missing) => return Some(Stop::Lacking { day: i, missing }),
+        }
+    }
+    Some(Stop::Never)
+}
+
+/// Where a watch stops over some days; none where a number on the way is too large. It passes over
+/// a block of days at once where none of its numbers can meet the watch.
+pub fn first_met(watch: Watch, fixings: &Fixings, first: i64, days: u32) -> Option<Stop>
+    requires { unsigned_abs first ≤ 2 ^ 62 }
+    ensures { IfSome result (λ s. s ≡ first_stop days
+        (λ i. met_on watch fixings.now (first +ℤ pos i))) }
+{
+    let run = fixings.run_of(watch.label);
+    let start = index_of(run.days, first);
+    let mut done = 0;
+    while done < days {
+        let day = day_behind(first, done);
+        let at = start.saturating_add(done as usize);
+        let left = days - done;
+        if left >= BLOCK && is_passed(watch, run, at, day) {
+            done += BLOCK;
+        } else {
+            let count = left.min(days_in_block(at));
+            let stop = first_near(watch, fixings, run.days, at, day, count)?;
+            if !stop.goes_on() {
+                return Some(stop.counted_from(done));
+            }
+            done += count;
         }
     }
     Some(Stop::Never)

@@ -1,5 +1,6 @@
 pub mod ValueFacts
 pub mod RunFacts
+pub mod BlockFacts
 pub mod LayerFacts
 pub mod FoldFacts
 pub mod RowFacts

@@ -1,6 +1,7 @@
 pub mod Days
 pub mod Runs
 pub mod RunPlaces
+pub mod Blocks
 pub mod Layers
 pub mod Records
 pub mod Tables

@@ -1,11 +1,13 @@
 //! Fixings: values by places.
 
-ghost use Rattle.std.specs.Prelude.{◌≡◌, ◌<◌, ◌^◌, [], OnErr, OnOk, vec_len};
+ghost use Rattle.std.specs.Prelude.{◌≡◌, ◌<◌, ◌^◌, ℕ, [], OnErr, OnOk, vec_len};
 ghost use Rattle.term_core.specs.Declarations.{declarations};
 ghost use Rattle.term_core.specs.Environments.{IsAdmitted, IsValueOf, held, label_of};
+ghost use Rattle.fixing_files.specs.Blocks.{AreBlocks};
 ghost use Rattle.fixing_files.specs.Records.{IsFixingDay};
-ghost use Rattle.fixing_files.specs.Runs.{AddsPair, AddsUnlessHeld, AreRising, IsRising, LendsDays, values_of};
+ghost use Rattle.fixing_files.specs.Runs.{AddsPair, AddsUnlessHeld, AreRising, IsRising, LendsDays, run_at, values_of};
 
+use crate::blocks::{Block, LentRun, blocks_lent, drop_blocks};
 use crate::runs::{FixedDay, search, value_on};
 use decimal::NoMemory;
 use std::alloc::Global;
@@ -13,11 +15,12 @@ use std::marker::Model;
 use term_core::{Decls, Value};
 
 /// What was observed: a finite map from places, each a label and a day, to values. It is kept as a
-/// run of days for each label.
+/// run of days for each label, with blocks of days so that a search may pass over many at once.
 #[derive(Drop)]
 pub struct Fixings {
     pub(crate) alloc: Global,
     pub(crate) runs: Vec<Vec<FixedDay>>,
+    pub(crate) blocks: Vec<Vec<Block>>,
 }
 
 impl Model for Fixings {
@@ -25,17 +28,19 @@ impl Model for Fixings {
 
     ghost Value = { Environment };
 
+    ghost use Rattle.fixing_files.specs.Blocks.{AreBlocksOf};
     ghost use Rattle.fixing_files.specs.Runs.{AreRising, values_of};
 
     ghost view = { λ f. values_of f.runs.items };
 
-    ghost invariant = { λ f. AreRising f.runs.items };
+    ghost invariant = { λ f. AreRising f.runs.items × AreBlocksOf f.blocks.items f.runs.items };
 }
 
 // Makes runs without days up to the run of a label.
 fn reach(alloc: Global, runs: &mut Vec<Vec<FixedDay>>, label: usize) -> Result<(), NoMemory>
     requires { AreRising runs.old.items }
     ensures rising { AreRising runs.new.items }
+    ensures runs { (l : ℕ) → run_at runs.new.items l ≡ run_at runs.old.items l }
     ensures same { values_of runs.new.items ≡ values_of runs.old.items }
     ensures reached { OnOk result (label < vec_len runs.new) }
 {
@@ -43,6 +48,16 @@ fn reach(alloc: Global, runs: &mut Vec<Vec<FixedDay>>, label: usize) -> Result<(
         runs.push(Vec::new(alloc))?;
     }
     Ok(())
+}
+
+// The run of a label.
+fn run_lent(runs: &Vec<Vec<FixedDay>>, label: usize) -> &[FixedDay]
+    ensures { result.now ≡ run_at runs.now.items label }
+{
+    match runs.get(label) {
+        Some(run) => run,
+        None => &[],
+    }
 }
 
 impl Fixings {
@@ -53,6 +68,7 @@ impl Fixings {
         Fixings {
             alloc,
             runs: Vec::new(alloc),
+            blocks: Vec::new(alloc),
         }
     }
 
@@ -70,9 +86,18 @@ impl Fixings {
         ensures rising { IsRising result.now }
         ensures days { LendsDays self.now label result.now }
     {
-        match self.runs.get(label as usize) {
-            Some(run) => run,
-            None => &[],
+        run_lent(&self.runs, label as usize)
+    }
+
+    /// The same days, with their blocks. It takes no memory.
+    pub fn run_of(&self, label: u32) -> LentRun<'_>
+        ensures rising { IsRising result.days.now }
+        ensures days { LendsDays self.now label result.days.now }
+        ensures blocks { AreBlocks result.blocks.now result.days.now }
+    {
+        LentRun {
+            days: run_lent(&self.runs, label as usize),
+            blocks: blocks_lent(&self.blocks, label as usize),
         }
     }
 
@@ -84,6 +109,7 @@ impl Fixings {
         ensures kept { OnErr result (self.new ≡ self.old) }
     {
         reach(self.alloc, &mut self.runs, label as usize)?;
+        drop_blocks(&mut self.blocks, label as usize);
         let run = &mut self.runs[label as usize];
         let Err(at) = search(run, day) else {
             return Ok(());

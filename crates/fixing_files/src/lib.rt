@@ -11,6 +11,7 @@
 //! Only tested: that tables are read where there is memory (rows of `library_rows`).
 #![tactic(auto)]
 
+mod blocks;
 mod curve_records;
 mod curve_tables;
 mod curves;
@@ -28,6 +29,7 @@ mod runs;
 mod tables;
 mod values;
 
+pub use blocks::{BLOCK_DAYS, Block, LentRun};
 pub use curve_tables::read_curve;
 pub use curves::Curve;
 pub use days::{DayFault, NamedDay, day_of_text, place_day, read_day};

@@ -9,6 +9,7 @@ ghost use Rattle.fixing_files.specs.Gathering.{Gathers, Takes, missing};
 ghost use Rattle.fixing_files.specs.Rows.{AreRuns};
 ghost use Rattle.fixing_files.specs.Tables.{Answers, IsPlaced, table_of};
 
+use crate::blocks::blocks_of_all;
 use crate::faults::{RowErr, RowFault, RowKind, refused};
 use crate::fixings::Fixings;
 use crate::folds::{AllSettled, settle_all};
@@ -129,7 +130,14 @@ pub fn read_fixings(alloc: Global, bytes: &[u8], decls: &Decls) -> Result<Fixing
         )),
         Ok(AllSettled::Runs(runs)) => match fault {
             Some(fault) => Err(RowErr::Row(fault)),
-            None => Ok(Fixings { alloc, runs }),
+            None => match blocks_of_all(alloc, &runs) {
+                Ok(blocks) => Ok(Fixings {
+                    alloc,
+                    runs,
+                    blocks,
+                }),
+                Err(_) => Err(RowErr::NoMemory),
+            },
         },
         Err(_) => Err(RowErr::NoMemory),
     }

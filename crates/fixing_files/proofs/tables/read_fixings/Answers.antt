@@ -17,7 +17,7 @@ settle_all-requires-clause-numbers c =
 pub invariant_of-result : goal.invariant_of-result
 invariant_of-result c =
     let settles : SettlesAll c.in-Ok.field-0.runs.items (Runs c.in-Ok-Runs.runs) = rw c.in-Ok-Runs.field-0-is at c.in-Ok-Runs.ensures in
-    settled_rise c.in-Ok.field-0.runs.items c.in-Ok-Runs.runs settles
+    (settled_rise c.in-Ok.field-0.runs.items c.in-Ok-Runs.runs settles, c.in-Ok-blocks_of_all.ensures)
 
 pub returns-in-Ok-Clashes-clause-answer : goal.returns-in-Ok-Clashes-clause-answer
 returns-in-Ok-Clashes-clause-answer c =
@@ -35,8 +35,8 @@ returns-in-Some-clause-answer c =
     let gathers : Gathers d table runs (Some c.in-Some.fault) = subst (λ (o : Option RowFault). Gathers d table runs o) c.in-Some.is c.in-Ok.ensures in
     gathers_fault d table runs c.in-Some.fault c.in-Ok-Runs.runs gathers settles
 
-pub returns-in-None-clause-answer : goal.returns-in-None-clause-answer
-returns-in-None-clause-answer c =
+pub returns-in-Ok-blocks_of_all-clause-answer : goal.returns-in-Ok-blocks_of_all-clause-answer
+returns-in-Ok-blocks_of_all-clause-answer c =
     let d = declarations c.args.decls.now in
     let table = table_of c.args.bytes.now in
     let runs = c.in-Ok.field-0.runs.items in
@@ -44,10 +44,10 @@ returns-in-None-clause-answer c =
     let gathers : Gathers d table runs None = subst (λ (o : Option RowFault). Gathers d table runs o) c.in-None.is c.in-Ok.ensures in
     gathers_holds d table runs c.in-Ok-Runs.runs gathers settles
 
-pub returns-in-None-clause-admitted : goal.returns-in-None-clause-admitted
-returns-in-None-clause-admitted c =
-    holds_admitted (declarations c.args.decls.now) (table_of c.args.bytes.now) (values_of c.in-Ok-Runs.runs.items) (returns-in-None-clause-answer c)
+pub returns-in-Ok-blocks_of_all-clause-admitted : goal.returns-in-Ok-blocks_of_all-clause-admitted
+returns-in-Ok-blocks_of_all-clause-admitted c =
+    holds_admitted (declarations c.args.decls.now) (table_of c.args.bytes.now) (values_of c.in-Ok-Runs.runs.items) (returns-in-Ok-blocks_of_all-clause-answer c)
 
-pub returns-in-None-clause-placed : goal.returns-in-None-clause-placed
-returns-in-None-clause-placed c =
-    holds_placed (declarations c.args.decls.now) (table_of c.args.bytes.now) (values_of c.in-Ok-Runs.runs.items) (returns-in-None-clause-answer c)
+pub returns-in-Ok-blocks_of_all-clause-placed : goal.returns-in-Ok-blocks_of_all-clause-placed
+returns-in-Ok-blocks_of_all-clause-placed c =
+    holds_placed (declarations c.args.decls.now) (table_of c.args.bytes.now) (values_of c.in-Ok-Runs.runs.items) (returns-in-Ok-blocks_of_all-clause-answer c)
