@@ -16,9 +16,9 @@ use crate::kinds::kind_observed;
 use crate::operations::{Typed, is_decided, number};
 use crate::stops::{Stop, is_wanted};
 use crate::truths::truth_bound;
-use crate::watches::{Trial, Watch, day_behind, first_met};
+use crate::watches::{Trial, Watch, first_met};
 use fixing_files::Fixings;
-use term_core::{CmpOp, Decls, Expr, LogicOp, Missing};
+use term_core::{CmpOp, Decls, Expr, LogicOp, Missing, day_read, days_later};
 
 // The value of a side that is the same on each day: of a literal, or of a name whose value is
 // known.
@@ -148,15 +148,6 @@ fn watch_of(
     }
 }
 
-// The day that an observable with an offset reads.
-fn day_read(day: i64, offset: i32) -> i64
-    requires { unsigned_abs day ≤ 2 ^ 61 }
-    ensures is { result ≡ day +ℤ offset }
-    ensures near { unsigned_abs result ≤ 2 ^ 62 }
-{
-    day + offset as i64
-}
-
 // Where a comparison stops of which one side is observed, and the other stays the same.
 fn search_compared(
     decls: &Decls,
@@ -277,7 +268,7 @@ fn search_joined(
     let mut done = 0;
     while done < days {
         let count = STRETCH.min(days - done);
-        let first = day_behind(from, done);
+        let first = days_later(from, done);
         let stop = search_either(decls, left, right, wanted, names, fixings, first, count)?;
         if !stop.goes_on() {
             return Some(stop.counted_from(done));

@@ -1,6 +1,6 @@
 //! What is observed under a label, tried on one day after another.
 
-ghost use Rattle.std.specs.Prelude.{◌≡◌, ◌≤◌, ◌^◌, ◌+◌, ◌+ℤ◌, ◌*ℤ◌, pos, unsigned_abs, IfSome};
+ghost use Rattle.std.specs.Prelude.{◌≡◌, ◌≤◌, ◌<◌, ◌^◌, ◌+◌, ◌+ℤ◌, ◌*ℤ◌, pos, length, unsigned_abs, IfSome};
 ghost use Rattle.fixing_files.specs.Runs.{LendsDays};
 ghost use Rattle.expr_eval.specs.Stops.{first_stop};
 ghost use Rattle.expr_eval.specs.Watching.{is_met, met_on};
@@ -9,7 +9,7 @@ use crate::blocks::{BLOCK, days_in_block, is_passed};
 use crate::operations::compare_aligned;
 use crate::stops::{Stop, is_wanted};
 use fixing_files::{FixedDay, Fixings};
-use term_core::{CmpOp, Missing, Value};
+use term_core::{CmpOp, Missing, Value, days_later};
 
 /// What is asked of a value: whether it is true, or how it compares with a number after it is
 /// multiplied.
@@ -29,7 +29,9 @@ pub struct Watch {
 }
 
 // Where a day stands in a run if no day is missing since the first of the run.
-fn index_without_gaps(run: &[FixedDay], day: i64) -> Option<usize> {
+fn index_without_gaps(run: &[FixedDay], day: i64) -> Option<usize>
+    ensures { IfSome result (λ at. at < length run.now) }
+{
     let since = day.checked_sub(run.first()?.day)?;
     let at = usize::try_from(since).ok()?;
     if run.get(at)?.day == day {
@@ -40,7 +42,9 @@ fn index_without_gaps(run: &[FixedDay], day: i64) -> Option<usize> {
 }
 
 // Where a day stands in a run, or where it would. Most runs have no gaps.
-fn index_of(run: &[FixedDay], day: i64) -> usize {
+fn index_of(run: &[FixedDay], day: i64) -> usize
+    ensures { result < 2 ^ 63 }
+{
     if let Some(at) = index_without_gaps(run, day) {
         return at;
     }
@@ -110,14 +114,6 @@ fn met_somewhere(watch: Watch, fixings: &Fixings, day: i64) -> Option<Result<boo
     }
 }
 
-/// The day `i` days after a day.
-pub fn day_behind(first: i64, i: u32) -> i64
-    requires { unsigned_abs first ≤ 2 ^ 62 + 2 ^ 32 }
-    ensures { result ≡ first +ℤ pos i }
-{
-    first + i as i64
-}
-
 // Where a watch stops over some days, of which the first is sought at an index of the label's run.
 // No day before that one is missing, so each stands in the run behind the one before it.
 #[inline(never)]
@@ -130,13 +126,14 @@ fn first_near(
     days: u32,
 ) -> Option<Stop>
     requires lends { LendsDays fixings.now watch.label run.now }
-    requires day { unsigned_abs first ≤ 2 ^ 62 + 2 ^ 32 }
+    requires start { start ≤ 2 ^ 63 + 2 ^ 32 }
+    requires day { unsigned_abs first ≤ 2 ^ 62 }
     ensures { IfSome result (λ s. s ≡ first_stop days
         (λ i. met_on watch fixings.now (first +ℤ pos i))) }
 {
     for i in 0..days {
-        let day = day_behind(first, i);
-        let at = start.saturating_add(i as usize);
+        let day = days_later(first, i);
+        let at = start + i as usize;
         match met_near(watch, fixings, run, at, day)? {
             Ok(met) => {
                 if met {
@@ -152,7 +149,7 @@ fn first_near(
 /// Where a watch stops over some days; none where a number on the way is too large. It passes over
 /// a block of days at once where none of its numbers can meet the watch.
 pub fn first_met(watch: Watch, fixings: &Fixings, first: i64, days: u32) -> Option<Stop>
-    requires { unsigned_abs first ≤ 2 ^ 62 }
+    requires { unsigned_abs first ≤ 2 ^ 61 + 2 ^ 32 }
     ensures { IfSome result (λ s. s ≡ first_stop days
         (λ i. met_on watch fixings.now (first +ℤ pos i))) }
 {
@@ -160,8 +157,8 @@ pub fn first_met(watch: Watch, fixings: &Fixings, first: i64, days: u32) -> Opti
     let start = index_of(run.days, first);
     let mut done = 0;
     while done < days {
-        let day = day_behind(first, done);
-        let at = start.saturating_add(done as usize);
+        let day = days_later(first, done);
+        let at = start + done as usize;
         let left = days - done;
         if left >= BLOCK && is_passed(watch, run, at, day) {
             done += BLOCK;

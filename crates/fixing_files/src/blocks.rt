@@ -1,8 +1,7 @@
 //! Blocks: the least and the greatest number of 128 days of a run that stand together.
 
-ghost use Rattle.std.specs.Prelude.{◌≡◌, [], IfOk, vec_len};
+ghost use Rattle.std.specs.Prelude.{◌≡◌, [], IfOk};
 ghost use Rattle.fixing_files.specs.Blocks.{AreBlocks, AreBlocksOf, AreKept, IsBlockOf, blocks_at};
-ghost use Rattle.fixing_files.specs.Runs.{IsRising};
 
 use crate::runs::FixedDay;
 use decimal::NoMemory;

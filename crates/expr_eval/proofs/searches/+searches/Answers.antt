@@ -46,22 +46,22 @@ search_joined-counted_from-requires t c =
 pub search_joined-returns-then-not-goes_on : goal.search_joined-returns-then-not-goes_on
 search_joined-returns-then-not-goes_on t c =
     let same = to_z-of_z w64 c.args.from c.ranges.from in
-    let fits : FitsSigned w64 c.day_behind-first.result = search rules in
-    let day : to_z w64 (of_z w64 c.day_behind-first.result) ≡ c.args.from +ℤ pos c.loop-done.done =
-    to_z-of_z w64 c.day_behind-first.result fits ∙ c.day_behind-first.ensures ∙ ap (λ (f : ℤ). f +ℤ pos c.loop-done.done) same in
+    let fits : FitsSigned w64 c.days_later-first.result = search rules in
+    let day : to_z w64 (of_z w64 c.days_later-first.result) ≡ c.args.from +ℤ pos c.loop-done.done =
+    to_z-of_z w64 c.days_later-first.result fits ∙ c.days_later-first.ensures.day ∙ ap (λ (f : ℤ). f +ℤ pos c.loop-done.done) same in
     let before : IsStopOfEither c.args.decls.now c.args.left.now c.args.right.now c.args.wanted c.args.names.now c.args.fixings.now c.args.from c.loop-done.done Never =
     subst (λ (f : ℤ). IsStopOfEither c.args.decls.now c.args.left.now c.args.right.now c.args.wanted c.args.names.now c.args.fixings.now f c.loop-done.done Never) same c.loop-done.invariant.1 in
     let decided : decides c.args.op c.args.wanted ≡ true = search rules in
     let stopped : goes_on c.in_ok-stop.stop ≡ false = search rules in
-    joined_found c.args.decls.now c.args.left.now c.args.right.now c.args.wanted c.args.names.now c.args.fixings.now c.args.from (to_z w64 (of_z w64 c.day_behind-first.result)) c.loop-done.done c.min-count.result c.in_ok-stop.stop before day c.in_ok-stop.ensures
+    joined_found c.args.decls.now c.args.left.now c.args.right.now c.args.wanted c.args.names.now c.args.fixings.now c.args.from (to_z w64 (of_z w64 c.days_later-first.result)) c.loop-done.done c.min-count.result c.in_ok-stop.stop before day c.in_ok-stop.ensures
     c.args.op c.args.days c.counted_from.result decided stopped (omega arith) c.counted_from.ensures
 
 pub search_joined-loop-done-preserved : goal.search_joined-loop-done-preserved
 search_joined-loop-done-preserved t c =
-    let fits : FitsSigned w64 c.day_behind-first.result = search rules in
-    let day : to_z w64 (of_z w64 c.day_behind-first.result) ≡ to_z w64 (of_z w64 c.args.from) +ℤ pos c.loop-done.done =
-    to_z-of_z w64 c.day_behind-first.result fits ∙ c.day_behind-first.ensures in
+    let fits : FitsSigned w64 c.days_later-first.result = search rules in
+    let day : to_z w64 (of_z w64 c.days_later-first.result) ≡ to_z w64 (of_z w64 c.args.from) +ℤ pos c.loop-done.done =
+    to_z-of_z w64 c.days_later-first.result fits ∙ c.days_later-first.ensures.day in
     let goes : goes_on c.in_ok-stop.stop ≡ true = search rules in (
       omega arith,
-      still_goes_on c.args.decls.now c.args.left.now c.args.right.now c.args.wanted c.args.names.now c.args.fixings.now (to_z w64 (of_z w64 c.args.from)) (to_z w64 (of_z w64 c.day_behind-first.result)) c.loop-done.done c.min-count.result c.in_ok-stop.stop c.loop-done.invariant.1 day c.in_ok-stop.ensures goes (c.loop-done.done + c.min-count.result) refl,
+      still_goes_on c.args.decls.now c.args.left.now c.args.right.now c.args.wanted c.args.names.now c.args.fixings.now (to_z w64 (of_z w64 c.args.from)) (to_z w64 (of_z w64 c.days_later-first.result)) c.loop-done.done c.min-count.result c.in_ok-stop.stop c.loop-done.invariant.1 day c.in_ok-stop.ensures goes (c.loop-done.done + c.min-count.result) refl,
     )
