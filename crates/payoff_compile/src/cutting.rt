@@ -7,9 +7,8 @@ ghost use Rattle.payoff_lang.specs.TemplateDates.{date};
 ghost use Rattle.payoff_lang.specs.Compiled.{cut_code};
 ghost use Rattle.payoff_compile.specs.CompiledCode.{CountsTheRest};
 
-use crate::dates::copied;
 use decimal::NoMemory;
-use payoff_lang::{Code, DateExpr, Vx};
+use payoff_lang::{Code, DateExpr, Vx, copied_date};
 use std::alloc::Global;
 
 // Code with each payment cut on its date. A function pays at entry for the locals of all its arms,
@@ -49,7 +48,7 @@ fn cut_payment(
 ) -> Result<Code, NoMemory>
     ensures { IfOk result (λ k. payoff_code k ≡ cut_code (PayOn (date on) asset from to)) }
 {
-    let day = copied(alloc, &on)?;
+    let day = copied_date(alloc, &on)?;
     let payment = Code::Pay {
         date: on,
         asset,

@@ -1,6 +1,7 @@
 //! Dates of code: later ones, and those of day counts.
 
 ghost use Rattle.std.specs.Prelude.{◌≡◌, ◌≤◌, IfOk, [], unsigned_abs};
+ghost use Rattle.term_core.specs.Limits.{most_days};
 ghost use Rattle.term_core.specs.DayCounts.{day_count};
 ghost use Rattle.term_core.specs.Flows.{count_of};
 ghost use Rattle.payoff_lang.specs.TemplateDates.{date, date_of_days, insert_names, plus};
@@ -9,17 +10,6 @@ use decimal::NoMemory;
 use payoff_lang::{DateExpr, Dating, put_in_order, with_name};
 use std::alloc::Global;
 use term_core::{DaySum, Days};
-
-/// An equal date.
-pub fn copied(alloc: Global, on: &DateExpr) -> Result<DateExpr, NoMemory>
-    ensures { IfOk result (λ r. date r ≡ date on.now) }
-{
-    let names = Vec::from_slice(alloc, on.names.as_slice())?;
-    Ok(DateExpr {
-        days: on.days,
-        names,
-    })
-}
 
 // The names of a sum, in rising order.
 fn in_order(alloc: Global, sum: &DaySum) -> Result<Vec<u32>, NoMemory>
@@ -43,7 +33,7 @@ fn with_names(alloc: Global, more: &[u32], names: &[u32]) -> Result<Vec<u32>, No
 
 /// The date as many days later as a day count has.
 pub fn later(alloc: Global, on: &DateExpr, days: &Days) -> Result<DateExpr, NoMemory>
-    requires count { count_of (day_count days.now) ≤ 100_000 }
+    requires count { count_of (day_count days.now) ≤ most_days }
     requires date { unsigned_abs on.now.days ≤ 1_000_000 }
     ensures { IfOk result (λ r. date r ≡ plus (date on.now) (date_of_days (day_count days.now))) }
 {
@@ -69,7 +59,7 @@ pub fn later(alloc: Global, on: &DateExpr, days: &Days) -> Result<DateExpr, NoMe
 
 /// A day count as a date.
 pub fn date_of(alloc: Global, days: &Days) -> Result<DateExpr, NoMemory>
-    requires count { count_of (day_count days.now) ≤ 100_000 }
+    requires count { count_of (day_count days.now) ≤ most_days }
     ensures { IfOk result (λ r. date r ≡ date_of_days (day_count days.now)) }
 {
     match days {
