@@ -52,11 +52,11 @@ fn blocks_of(alloc: Global, run: &[FixedDay]) -> Result<Vec<Block>, NoMemory>
 }
 
 /// The blocks of the runs of all labels.
-pub fn blocks_of_all(alloc: Global, runs: &Vec<Vec<FixedDay>>) -> Result<Vec<Vec<Block>>, NoMemory>
-    ensures { IfOk result (λ blocks. AreBlocksOf blocks.items runs.now.items) }
+pub fn blocks_of_all(alloc: Global, runs: &[Vec<FixedDay>]) -> Result<Vec<Vec<Block>>, NoMemory>
+    ensures { IfOk result (λ blocks. AreBlocksOf blocks.items runs.now) }
 {
     let mut blocks = Vec::new(alloc);
-    for run in runs.iter() {
+    for run in runs {
         blocks.push(blocks_of(alloc, run)?)?;
     }
     Ok(blocks)
@@ -73,8 +73,8 @@ pub fn drop_blocks(blocks: &mut Vec<Vec<Block>>, label: usize)
 }
 
 /// The blocks of a label.
-pub fn blocks_lent(blocks: &Vec<Vec<Block>>, label: usize) -> &[Block]
-    ensures { result.now ≡ blocks_at blocks.now.items label }
+pub fn blocks_lent(blocks: &[Vec<Block>], label: usize) -> &[Block]
+    ensures { result.now ≡ blocks_at blocks.now label }
 {
     match blocks.get(label) {
         Some(of_label) => of_label,

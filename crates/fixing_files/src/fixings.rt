@@ -51,8 +51,8 @@ fn reach(alloc: Global, runs: &mut Vec<Vec<FixedDay>>, label: usize) -> Result<(
 }
 
 // The run of a label.
-fn run_lent(runs: &Vec<Vec<FixedDay>>, label: usize) -> &[FixedDay]
-    ensures { result.now ≡ run_at runs.now.items label }
+fn run_lent(runs: &[Vec<FixedDay>], label: usize) -> &[FixedDay]
+    ensures { result.now ≡ run_at runs.now label }
 {
     match runs.get(label) {
         Some(run) => run,

@@ -17,7 +17,7 @@ settle_all-requires-clause-numbers c =
 pub invariant_of-result : goal.invariant_of-result
 invariant_of-result c =
     let settles : SettlesAll c.in-Ok.field-0.runs.items (Runs c.in-Ok-Runs.runs) = rw c.in-Ok-Runs.field-0-is at c.in-Ok-Runs.ensures in
-    (settled_rise c.in-Ok.field-0.runs.items c.in-Ok-Runs.runs settles, c.in-Ok-blocks_of_all.ensures)
+    (settled_rise c.in-Ok.field-0.runs.items c.in-Ok-Runs.runs settles, rw c.deref.ensures.value at c.in-Ok-blocks_of_all.ensures)
 
 pub returns-in-Ok-Clashes-clause-answer : goal.returns-in-Ok-Clashes-clause-answer
 returns-in-Ok-Clashes-clause-answer c =

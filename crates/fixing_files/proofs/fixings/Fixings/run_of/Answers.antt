@@ -1,19 +1,32 @@
-use Rattle.std.proofs.Common.{List, sym, subst}
+use Rattle.std.proofs.Common.{◌≡◌, ◌∙◌, List, ap, sym, subst}
+use Rattle.std.specs.declared.vec.Vec.{Vec}
+use Rattle.std.specs.declared.alloc.Global.{Global}
 use Rattle.term_core.specs.Environments.{Environment}
-use Rattle.fixing_files.specs.Runs.{IsRising, LendsDays, values_of}
+use Rattle.fixing_files.specs.Blocks.{blocks_at}
+use Rattle.fixing_files.specs.Runs.{IsRising, LendsDays, run_at, values_of}
+use Rattle.fixing_files.specs.declared.blocks.Block.{Block}
 use Rattle.fixing_files.specs.declared.runs.FixedDay.{FixedDay}
 use Rattle.fixing_files.proofs.BlockFacts.{same_blocks}
 use Rattle.fixing_files.proofs.RunFacts.{lends_run}
 use Rattle.fixing_files.proofs.fixings.Fixings.run_of.Goals as goal
 
 pub returns-clause-rising : goal.returns-clause-rising
-returns-clause-rising c = subst IsRising (sym c.run_lent.ensures) (c.self.invariant.0 c.args.label)
+returns-clause-rising c =
+    let l = c.args.label in
+    let at : c.run_lent.result.now ≡ run_at c.self.inside.runs.items l = c.run_lent.ensures ∙ ap (λ (r : List (Vec FixedDay Global)). run_at r l) c.deref.ensures.value in
+    subst IsRising (sym at) (c.self.invariant.0 l)
 
 pub returns-clause-days : goal.returns-clause-days
 returns-clause-days c =
+    let l = c.args.label in
     let runs = c.self.inside.runs.items in
-    subst (λ (env : Environment). LendsDays env c.args.label c.run_lent.result.now) c.self.view_is
-    (subst (λ (run : List FixedDay). LendsDays (values_of runs) c.args.label run) (sym c.run_lent.ensures) (lends_run runs c.args.label c.self.invariant.0))
+    let at : c.run_lent.result.now ≡ run_at runs l = c.run_lent.ensures ∙ ap (λ (r : List (Vec FixedDay Global)). run_at r l) c.deref.ensures.value in
+    subst (λ (env : Environment). LendsDays env l c.run_lent.result.now) c.self.view_is
+    (subst (λ (run : List FixedDay). LendsDays (values_of runs) l run) (sym at) (lends_run runs l c.self.invariant.0))
 
 pub returns-clause-blocks : goal.returns-clause-blocks
-returns-clause-blocks c = same_blocks _ _ _ _ c.blocks_lent.ensures c.run_lent.ensures (c.self.invariant.1 c.args.label)
+returns-clause-blocks c =
+    let l = c.args.label in
+    let at : c.run_lent.result.now ≡ run_at c.self.inside.runs.items l = c.run_lent.ensures ∙ ap (λ (r : List (Vec FixedDay Global)). run_at r l) c.deref.ensures.value in
+    let of_label : c.blocks_lent.result.now ≡ blocks_at c.self.inside.blocks.items l = c.blocks_lent.ensures ∙ ap (λ (b : List (Vec Block Global)). blocks_at b l) c.deref-2.ensures.value in
+    same_blocks _ _ _ _ of_label at (c.self.invariant.1 l)
