@@ -97,7 +97,8 @@ pub fn matches_of<'a>(
     words: &'a [&'a str],
 ) -> Result<ArgMatches<'a>, WordsErr>
     requires { is_simple_and_free (declared name.now (map rule_by arguments.now)) ≡ true }
-    ensures { HasMatches (declared name.entry.now (map rule_by arguments.now)) (texts words.entry.now) result }
+    ensures { HasMatches (declared name.entry.now (map rule_by arguments.now))
+        (texts words.entry.now) result }
 {
     let command = declare(alloc, name, arguments)?;
     match command.try_get_matches_from(words) {

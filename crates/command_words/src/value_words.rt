@@ -2,6 +2,7 @@
 
 ghost use Rattle.std.specs.Prelude.{◌≡◌, ◌≤◌, ◌++◌, ◌∷◌, IfOk, IfSome, OnOk, Some, [], false, option_map};
 ghost use Rattle.std.specs.Map.{keys_of};
+ghost use Rattle.term_core.specs.Limits.{most_days};
 ghost use Rattle.clap.specs.Words.{first_value, found_of};
 ghost use Rattle.clap.specs.Walk.{texts};
 ghost use Rattle.contract_parse.specs.Names.{is_declared};
@@ -19,19 +20,19 @@ use contract_parse::is_name_text;
 use decimal::{NoMemory, number_up_to};
 use indexmap::IndexMap;
 use std::alloc::Global;
-use term_core::Name;
+use term_core::{MOST_DAYS, Name};
 
 // The template that a word names, and the number that it sets for it, which is at most 100,000.
 fn setting_of_word(word: &str) -> Option<(&[u8], u32)>
     ensures value { option_map (λ setting. (setting.0.now, setting.1)) result
         ≡ setting_of_word word.now }
-    ensures few { IfSome result (λ setting. setting.1 ≤ 100_000) }
+    ensures few { IfSome result (λ setting. setting.1 ≤ most_days) }
 {
     let (name, number) = word.split_once('=')?;
     if !is_name_text(name.as_bytes()) {
         return None;
     }
-    let number = number_up_to(100_000, number.as_bytes())?;
+    let number = number_up_to(MOST_DAYS, number.as_bytes())?;
     Some((name.as_bytes(), number))
 }
 
@@ -51,7 +52,8 @@ fn add_setting(
     word: &str,
 ) -> Result<(), WordsErr>
     requires { AreSettings settings.old.entries }
-    ensures answer { IsAnswer (λ _. settings.new.entries) (one_more_setting settings.old.entries (setting_of_word word.now)) result }
+    ensures answer { IsAnswer (λ _. settings.new.entries)
+        (one_more_setting settings.old.entries (setting_of_word word.now)) result }
     ensures few { IfOk result (λ _. AreSettings settings.new.entries) }
 {
     let Some((name, number)) = setting_of_word(word) else {
@@ -67,7 +69,8 @@ fn add_setting(
 
 // What words set, one after another.
 fn settings_of(alloc: Global, words: &[&str]) -> Result<IndexMap<Name, u32>, WordsErr>
-    ensures answer { IsAnswer (λ settings. settings.entries) (settings_after (Some []) (texts words.now)) result }
+    ensures answer { IsAnswer (λ settings. settings.entries)
+        (settings_after (Some []) (texts words.now)) result }
     ensures few { IfOk result (λ settings. AreSettings settings.entries) }
 {
     let mut settings = IndexMap::new(alloc);
@@ -79,7 +82,8 @@ fn settings_of(alloc: Global, words: &[&str]) -> Result<IndexMap<Name, u32>, Wor
 
 // The same, of words that may be given.
 fn settings_given(alloc: Global, words: Option<&[&str]>) -> Result<IndexMap<Name, u32>, WordsErr>
-    ensures answer { IsAnswer (λ settings. settings.entries) (settings_of (given_texts words.entry)) result }
+    ensures answer { IsAnswer (λ settings. settings.entries)
+        (settings_of (given_texts words.entry)) result }
     ensures few { IfOk result (λ settings. AreSettings settings.entries) }
 {
     match words {
@@ -115,7 +119,8 @@ fn between_of<'a>(matches: &ArgMatches<'a>) -> Result<Between<'a>, WordsErr>
 /// What is to be valued, by the files, the day, the parties, the asset and the settings that were
 /// given.
 pub fn value_given<'a>(alloc: Global, matches: &ArgMatches<'a>) -> Result<Value<'a>, WordsErr>
-    ensures { IsAnswer value_by (value_from (first_value (found_of matches.now)) (all_values (found_of matches.now))) result }
+    ensures { IsAnswer value_by (value_from (first_value (found_of matches.now))
+        (all_values (found_of matches.now))) result }
 {
     let files = files_of(matches)?;
     let at = day_given(matches.get_str("at"))?;

@@ -1,6 +1,7 @@
 //! Dates at a setting.
 
 ghost use Rattle.std.specs.Prelude.{◌≡◌, ◌≤◌, ◌<◌, ◌≤ℤ◌, ◌+ℤ◌, ◌^◌, All, length, pos};
+ghost use Rattle.term_core.specs.Limits.{most_days};
 ghost use Rattle.expr_eval.specs.Fits.{IsDay};
 ghost use Rattle.payoff_lang.specs.TemplateDates.{date, day_of, sum_at};
 ghost use Rattle.payoff_eval.specs.DatesFit.{DateFits, IsDayOfDate};
@@ -44,9 +45,9 @@ pub fn day_of(asking: &Asking, base: i64, x: &DateExpr) -> i64
 pub fn count(asking: &Asking, x: &DateExpr) -> u32
     requires date { DateFits asking.now.setting.now (date x.now) }
     requires low { pos 0 ≤ℤ day_of asking.now.setting.now (date x.now) }
-    requires high { day_of asking.now.setting.now (date x.now) ≤ℤ pos 100_000 }
+    requires high { day_of asking.now.setting.now (date x.now) ≤ℤ pos most_days }
     ensures value { pos result ≡ day_of asking.now.setting.now (date x.now) }
-    ensures few { result ≤ 100_000 }
+    ensures few { result ≤ most_days }
 {
     day_at(asking.setting, x) as u32
 }

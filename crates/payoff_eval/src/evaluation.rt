@@ -18,9 +18,9 @@ use crate::kinds::kind_in;
 use expr_eval::operations::{
     Operands, Typed, at_kind, combine, compare, divide, is_decided, negate, number, round, verdict,
 };
-use expr_eval::{Binding, Bindings, Held, day_after, day_before, value_bound, value_found};
+use expr_eval::{Binding, Bindings, Held, value_bound, value_found};
 use payoff_lang::Vx;
-use term_core::{Kind, LogicOp, Missing};
+use term_core::{Kind, LogicOp, Missing, days_earlier, days_later};
 
 // The value of what is observed on a day.
 fn value_observed(asking: &Asking, label: u32, day: i64) -> Result<Typed, Missing>
@@ -78,7 +78,7 @@ pub fn evaluate(asking: &Asking, e: &Vx, names: &Bindings, day: i64) -> Result<T
             Ok(divide(*mode, *scale, both))
         }
         Vx::Acc { body, days, first } => {
-            let from = day_before(day, *days);
+            let from = days_earlier(day, *days);
             let start = evaluate(asking, first, names, from);
             evaluate_days(asking, body, *days, start, names, from)
         }
@@ -175,7 +175,7 @@ fn evaluate_days(
 {
     let mut value = start?;
     for i in 0..days {
-        let day = day_after(from, i);
+        let day = days_later(from, i + 1);
         value = evaluate_day(asking, body, value, names, day)?;
     }
     Ok(value)

@@ -1,22 +1,21 @@
 //! How high code is.
 
 ghost use Rattle.std.specs.Prelude.{◌≡◌, ◌≤◌, ◌+◌, max, min};
+ghost use Rattle.term_core.specs.Limits.{most_counted};
 ghost use Rattle.term_core.specs.Sizes.{height, capped};
 ghost use Rattle.payoff_lang.specs.Code.{value_expression, payoff_code};
 ghost use Rattle.payoff_lang.specs.CodeSizes.{height_of_code};
 ghost use Rattle.payoff_lang.specs.Dating.{plain};
 
 use payoff_lang::{Code, Vx};
-
-/// A greater height is not told from this one.
-pub const MOST: u32 = 1_000_000;
+use term_core::MOST_COUNTED;
 
 // One more than a height.
 fn above(height: u32) -> u32
-    requires { height ≤ 1000000 }
-    ensures { result ≡ min (height + 1) 1000000 }
+    requires { height ≤ most_counted }
+    ensures { result ≡ min (height + 1) most_counted }
 {
-    (height + 1).min(MOST)
+    (height + 1).min(MOST_COUNTED)
 }
 
 // The height of a value expression.

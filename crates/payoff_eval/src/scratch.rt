@@ -4,12 +4,13 @@ ghost use Rattle.std.specs.Prelude.{◌≡◌, ◌≤◌, ◌<◌, [], IfOk};
 ghost use Rattle.payoff_lang.specs.Code.{payoff_code};
 ghost use Rattle.payoff_lang.specs.CodeSizes.{height_of_code};
 
-use crate::heights::{MOST, height_of};
+use crate::heights::height_of;
 use decimal::NoMemory;
 use expr_eval::Scratch;
 use payoff_lang::CodeFile;
 use std::alloc::Global;
 use std::marker::Model;
+use term_core::MOST_COUNTED;
 
 /// Room for the names round a part of code, seen as the number of names that have room. None is
 /// bound between two calls.
@@ -43,7 +44,7 @@ pub fn value_scratch(alloc: Global, file: &CodeFile) -> Result<ValueScratch, NoM
     ensures { IfOk result (λ room. height_of_code (payoff_code file.now.code) ≤ room) }
 {
     let height = height_of(&file.code);
-    if height < MOST {
+    if height < MOST_COUNTED {
         with_room(alloc, height as usize)
     } else {
         Err(NoMemory)

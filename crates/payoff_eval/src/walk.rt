@@ -2,6 +2,7 @@
 
 ghost use Rattle.std.specs.Prelude.{◌≡◌, ◌≤◌, ◌+◌, ◌*ℤ◌, ◌+ℤ◌, int_lt, true, unsigned_abs, IfOk};
 ghost use Rattle.std.specs.Prelude.{Ok};
+ghost use Rattle.term_core.specs.Limits.{most_days};
 ghost use Rattle.term_core.specs.Values.{num};
 ghost use Rattle.term_core.specs.Flows.{unit_flow};
 ghost use Rattle.interval_check.specs.Safety.{IsSmall};
@@ -25,9 +26,9 @@ use crate::dates::{count, day_of};
 use crate::evaluation::evaluate;
 use crate::kinds::kind_in;
 use decimal::align;
-use expr_eval::{Bindings, Held, Scratch, day_on, without_kind};
+use expr_eval::{Bindings, Held, Scratch, without_kind};
 use payoff_lang::{Code, DateExpr, Vx};
-use term_core::{Kind, Missing, Value};
+use term_core::{Kind, Missing, Value, days_later};
 
 /// What code is worth at some decimals, and whether it reaches a payment of the pair and the asset
 /// that are asked for.
@@ -138,7 +139,7 @@ fn first_day(
     test: &Vx,
     days: u32,
 ) -> Result<Option<u32>, Missing>
-    requires days { days ≤ 100_000 }
+    requires days { days ≤ most_days }
     requires base { IsDay base }
     requires fits { EvaluatesFrom asking.now (value_expression test.now) scratch.now.entries base }
     ensures few { IfOk result (λ first. IsUpTo first days) }
@@ -146,7 +147,7 @@ fn first_day(
         (value_expression test.now) scratch.now.entries base (days + 1) }
 {
     for i in 0..days + 1 {
-        let value = value_on(asking, scratch, day_on(base, i), test)?;
+        let value = value_on(asking, scratch, days_later(base, i), test)?;
         if value.is_true() {
             return Ok(Some(i));
         }
@@ -341,7 +342,7 @@ fn walk_loop(
 {
     let days = count(asking, upto);
     match first_day(asking, scratch, base, test, days)? {
-        Some(first) => walk(asking, scratch, day_on(base, first), room, hit),
+        Some(first) => walk(asking, scratch, days_later(base, first), room, hit),
         None => walk(asking, scratch, base, room, miss),
     }
 }

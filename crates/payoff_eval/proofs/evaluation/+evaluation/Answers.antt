@@ -51,10 +51,10 @@ evaluate-returns-in-Acc t c =
     let g = bindings c.args.names.now in
     let env = c.args.asking.now.fixings.now in
     let f = c.args.day in
-    let fits : FitsSigned w64 c.day_before-from.result = search rules in
+    let fits : FitsSigned w64 c.days_earlier-from.result = search rules in
     let of_day : FitsSigned w64 f = c.ranges.day in
-    let from_is : c.day_before-from.result ≡ f -ℤ pos c.in-Acc.days = simp to_z-of_z at c.day_before-from.ensures in
+    let from_is : c.days_earlier-from.result ≡ f -ℤ pos c.in-Acc.days = simp to_z-of_z at c.days_earlier-from.ensures.day in
     let same : run_of d (Acc (at_setting c.args.asking.now.setting.now (value_expression c.in-Acc.body.value)) c.in-Acc.days (at_setting c.args.asking.now.setting.now (value_expression c.in-Acc.first.value))) g env f ≡ run_of d (at_setting c.args.asking.now.setting.now (value_expression c.args.e.now)) g env f =
     ap (λ (x : Vx). run_of d (at_setting c.args.asking.now.setting.now (value_expression x)) g env f) (sym c.in-Acc.is) in
-    acc_is d c.args.asking.now.setting.now c.in-Acc.body.value c.deref-in-Acc-2.result.now c.in-Acc.first.value c.deref-in-Acc.result.now c.in-Acc.days g env f c.day_before-from.result _ c.evaluate-start.result c.evaluate_days.result c.deref-in-Acc-2.ensures c.deref-in-Acc.ensures (to_z-of_z w64 c.day_before-from.result fits) from_is c.evaluate-start.ensures c.evaluate_days.ensures
+    acc_is d c.args.asking.now.setting.now c.in-Acc.body.value c.deref-in-Acc-2.result.now c.in-Acc.first.value c.deref-in-Acc.result.now c.in-Acc.days g env f c.days_earlier-from.result _ c.evaluate-start.result c.evaluate_days.result c.deref-in-Acc-2.ensures c.deref-in-Acc.ensures (to_z-of_z w64 c.days_earlier-from.result fits) from_is c.evaluate-start.ensures c.evaluate_days.ensures
     ∙ same
