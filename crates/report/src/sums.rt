@@ -2,6 +2,7 @@
 
 ghost use Rattle.std.specs.Prelude.{◌≡◌, ◌≤◌, ◌++◌, [], length, map, true, IfOk, OnOk};
 ghost use Rattle.std.specs.List.{All};
+ghost use Rattle.term_core.specs.Limits.{longest_file};
 ghost use Rattle.flow_eval.specs.Netting.{CanBeNetted};
 ghost use Rattle.flow_eval.specs.Tables.{FitsLine, slot_of};
 ghost use Rattle.report.specs.RunningSums.{AddsTable, IsSumOfFew, IsSumSoFar, KeepsSum, TellsSum};
@@ -128,7 +129,7 @@ impl FlowSum {
 
 /// The sum of flow tables, as a flow table.
 pub fn net(alloc: Global, tables: &[FlowTable]) -> Result<FlowTable, NoMemory>
-    requires few { length tables.now ≤ 16_777_216 }
+    requires few { length tables.now ≤ longest_file }
     requires summable { AreSummable tables.now }
     ensures { IfOk result (λ sum. IsSumOf tables.now sum.rows.items) }
 {
