@@ -1,22 +1,19 @@
 -- The expansions of plans: one more behind those so far, and each can be tried and printed.
-use Rattle.std.proofs.Common.{◌≡◌, ◌∙◌, ◌&&◌, ℕ, Bool, true, false, List, [], ◌∷◌, ◌++◌, append_assoc, map, ap, arith, refl, subst, sym}
-use Rattle.std.specs.Prelude.{All, not}
-use Rattle.std.specs.Map.{keys_of}
-use Rattle.std.proofs.lemmas.List.{map-append}
-use Rattle.std.proofs.lemmas.List.Elements.{All-head, All-tail, All-weaker}
+use Rattle.std.proofs.Common.{◌≡◌, ◌∙◌, ℕ, List, [], ◌∷◌, ◌++◌, append_assoc, map, ap, arith, refl, subst, sym}
+use Rattle.std.specs.Prelude.{All}
+use Rattle.std.proofs.lemmas.List.{append-nil}
+use Rattle.std.proofs.lemmas.List.Elements.{All-cons, All-head, All-nil, All-push, All-tail}
 use Rattle.term_core.specs.declared.name.Name.{Name}
-use Rattle.term_core.specs.declared.terms.Contr.{Contr}
+use Rattle.term_core.specs.Acceptance.{IsAccepted}
 use Rattle.term_core.specs.DayCounts.{Days, Named, Num as Count, Sum}
 use Rattle.term_core.specs.Declarations.{Declarations}
 use Rattle.term_core.specs.Instances.{HasSmallSums, IsSmallSum}
-use Rattle.term_core.specs.Terms.{Contract, contract, Zero, Pay, Both, Scale, After, Let, Within}
+use Rattle.term_core.specs.Terms.{Contract, Zero, Pay, Both, Scale, After, Let, Within}
 use Rattle.term_core.specs.WellFormed.{HasOnlyNumbers, IsNumber}
-use Rattle.contract_parse.specs.ContractReading.{trees}
-use Rattle.contract_parse.specs.Names.{is_declared}
-use Rattle.contract_parse.specs.NameTexts.{is_name_text}
-use Rattle.contract_parse.proofs.LineFacts.{keys_added}
-use Rattle.contract_print.specs.Spellable.{IsSpellable, are_new}
+use Rattle.contract_print.specs.Canon.{AppendsBeginning, IsBeginning, IsCanon}
+use Rattle.contract_print.specs.Spellable.{IsSpellable}
 use Rattle.contract_print.specs.Writable.{IsWritableTerm}
+use Rattle.contract_print.proofs.LineByLine.{begun_is_canon, one_more_canon}
 use Rattle.contract_print.proofs.TermNumbers.{spellable_written}
 use Rattle.schedule_forms.specs.DeclaredPlans.{IsPlanOfTexts}
 use Rattle.schedule_forms.specs.Expansions.{expansion}
@@ -25,59 +22,11 @@ use Rattle.schedule_forms.proofs.PlanFacts.{expansions_closed}
 use Rattle.schedule_forms.proofs.SmallFacts.{expansions_small}
 use Rattle.report.specs.declared.fault_lines.Fault.{Fault}
 use Rattle.command_answers.specs.CheckPromise.{AreAllAccepted}
-use Rattle.command_answers.specs.ExpandParts.{expanded_entry}
+use Rattle.command_answers.specs.ExpandParts.{AppendsExpansion, ArePrintedBefore, ArePrintedExpansions, AreWritableExpansions, book_of, expanded_entry}
 use Rattle.command_answers.specs.FlowsParts.{IsRefusedOne}
 use Rattle.command_answers.specs.Stages.{IsRefusedOf}
 use Rattle.contract_parse.specs.NextContracts.{IsSoundContract}
 use Rattle.command_answers.specs.UsedParts.{IsTriable}
-
--- ---- names
-
--- of names that are new, the first is, and the others are behind it
-new_first : (word there others : Bool) → ((word && not there) && others) ≡ true → (there ≡ false) × (others ≡ true)
-new_first true false true h = (refl, refl)
-new_first true false false h = absurd cc
-new_first true true others h = absurd cc
-new_first false there others h = absurd cc
-
-first_is_new : (before names : List (List ℕ)) (name : List ℕ) → are_new before (name ∷ names) ≡ true → (is_declared before name ≡ false) × (are_new (before ++ name ∷ []) names ≡ true)
-first_is_new before names name h = new_first (is_name_text name) (is_declared before name) (are_new (before ++ name ∷ []) names) h
-
-keys_of_trees : (entries : List (Name × Contr)) → keys_of (trees entries) ≡ keys_of entries
-keys_of_trees [] = refl
-keys_of_trees (e ∷ es) = ap (λ (names : List Name). e.0 ∷ names) (keys_of_trees es)
-
--- behind a contract that is put behind others, the other names are new
-names_behind : (before after : List (Name × Contract)) (names : List Name) (name : Name) (c : Contract) → after ≡ before ++ (name, c) ∷ [] → are_new (keys_of before) (name ∷ names) ≡ true → are_new (keys_of after) names ≡ true
-names_behind before after names name c is new =
-    subst (λ (ns : List Name). are_new ns names ≡ true) (sym (ap keys_of is ∙ keys_added before name c)) (first_is_new (keys_of before) names name new).1
-
-pub trees_more : (entries after : List (Name × Contr)) (name : Name) (c : Contr) → after ≡ entries ++ (name, c) ∷ [] → trees after ≡ trees entries ++ (name, contract c) ∷ []
-trees_more entries after name c is =
-    ap (λ (es : List (Name × Contr)). trees es) is ∙ map-append (λ (entry : Name × Contr). (entry.0, contract entry.1)) entries ((name, c) ∷ [])
-
--- ---- one more contract
-
-module _ (before : List (Name × Contr)) (plans rest : List (Name × Plan)) (name : Name) (plan : Plan) (steps : plans ≡ (name, plan) ∷ rest)
-    (names : are_new (keys_of (trees before)) (keys_of plans) ≡ true) where
-  -- the name of the next plan is new, and those behind it are
-  new_names : are_new (keys_of (trees before)) (name ∷ keys_of rest) ≡ true
-  new_names = subst (λ (xs : List (Name × Plan)). are_new (keys_of (trees before)) (keys_of xs) ≡ true) steps names
-
-  pub next_is_new : is_declared (keys_of before) name ≡ false
-  next_is_new =
-      subst (λ (ns : List Name). is_declared ns name ≡ false) (keys_of_trees before)
-      (first_is_new (keys_of (trees before)) (keys_of rest) name new_names).0
-
-  module _ (after : List (Name × Contr)) (kept : trees after ≡ trees before ++ (name, expansion plan) ∷ []) where
-    pub names_go_on : are_new (keys_of (trees after)) (keys_of rest) ≡ true
-    names_go_on = names_behind (trees before) (trees after) (keys_of rest) name (expansion plan) kept new_names
-
-    pub expansions_more : trees after ++ map expanded_entry rest ≡ trees before ++ map expanded_entry plans
-    expansions_more =
-        ap (λ (es : List (Name × Contract)). es ++ map expanded_entry rest) kept
-        ∙ append_assoc (trees before) ((name, expansion plan) ∷ []) (map expanded_entry rest)
-        ∙ ap (λ (xs : List (Name × Plan)). trees before ++ map expanded_entry xs) (sym steps)
 
 -- the next plan of those that are left
 pub next_within : (P : Plan → Type 0) (plans rest : List (Name × Plan)) (name : Name) (plan : Plan) → plans ≡ (name, plan) ∷ rest
@@ -137,12 +86,47 @@ refused_there d before entry after f all one = record {
 
 -- ---- those of all plans
 
-module _ (d : Declarations) where
-  pub expansions_writable : (entries : List (Name × Contract)) → All (λ (entry : Name × Contract). IsSpellable d entry.1) entries
-      → All (λ (entry : Name × Contract). IsWritableTerm entry.1) entries
-  expansions_writable entries all =
-      All-weaker (λ (entry : Name × Contract). IsSpellable d entry.1) (λ (entry : Name × Contract). IsWritableTerm entry.1) (λ entry fits. spellable_written d entry.1 fits) entries all
+pub expansions_writable : (d : Declarations) (plans : List (Name × Plan)) → All (λ (entry : Name × Contract). IsSpellable d entry.1) (map expanded_entry plans) → AreWritableExpansions plans
+expansions_writable d [] all = All-nil (λ (entry : Name × Plan). IsWritableTerm (expansion entry.1))
+expansions_writable d (entry ∷ plans) all =
+    let P : Name × Contract → Type 0 = λ e. IsSpellable d e.1 in
+    let contracts = map expanded_entry plans in
+    All-cons (λ (e : Name × Plan). IsWritableTerm (expansion e.1)) entry plans (spellable_written d (expansion entry.1) (All-head P (expanded_entry entry) contracts all))
+    (expansions_writable d plans (All-tail P (expanded_entry entry) contracts all))
 
-pub names_of_expansions : (plans : List (Name × Plan)) → keys_of (map expanded_entry plans) ≡ keys_of plans
-names_of_expansions [] = refl
-names_of_expansions (entry ∷ plans) = ap (λ (names : List Name). entry.0 ∷ names) (names_of_expansions plans)
+module _ (d : Declarations) (plans : List (Name × Plan)) where
+  pub printed_none : (old new : List ℕ) → old ≡ [] → AppendsBeginning d old new → ArePrintedBefore d plans plans new
+  printed_none old new none begins =
+      let is : new ≡ begins.text = begins.appended ∙ ap (λ (t : List ℕ). t ++ begins.text) none in
+      record {
+        entries = [];
+        before = refl;
+        canon = begun_is_canon d new (subst (λ (t : List ℕ). IsBeginning t d) (sym is) begins.is_beginning);
+        accepted = All-nil (λ (entry : Name × Contract). IsAccepted d entry.1);
+      }
+
+  pub printed_all : (left : List (Name × Plan)) (text : List ℕ) → left ≡ [] → ArePrintedBefore d plans left text → ArePrintedExpansions d plans text
+  printed_all left text none h =
+      let are : h.entries ≡ map expanded_entry plans = sym (append-nil h.entries) ∙ ap (λ (xs : List (Name × Plan)). h.entries ++ map expanded_entry xs) (sym none) ∙ h.before in
+      record {
+        canon = subst (λ (es : List (Name × Contract)). IsCanon text (book_of d es)) are h.canon;
+        accepted = subst (λ (es : List (Name × Contract)). AreAllAccepted d es) are h.accepted;
+      }
+
+  module _ (left rest : List (Name × Plan)) (name : Name) (plan : Plan) (old : List ℕ) (steps : left ≡ (name, plan) ∷ rest) (h : ArePrintedBefore d plans left old) where
+    all_plans : h.entries ++ (name, expansion plan) ∷ map expanded_entry rest ≡ map expanded_entry plans
+    all_plans = ap (λ (xs : List (Name × Plan)). h.entries ++ map expanded_entry xs) (sym steps) ∙ h.before
+
+    pub printed_more : (new : List ℕ) → AppendsExpansion d name plan old new → ArePrintedBefore d plans rest new
+    printed_more new more =
+        let entry : Name × Contract = (name, expansion plan) in
+        record {
+          entries = h.entries ++ entry ∷ [];
+          before = append_assoc h.entries (entry ∷ []) (map expanded_entry rest) ∙ all_plans;
+          canon = subst (λ (t : List ℕ). IsCanon t (book_of d (h.entries ++ entry ∷ []))) (sym more.line) (one_more_canon d h.entries entry old h.canon);
+          accepted = All-push (λ (entry : Name × Contract). IsAccepted d entry.1) h.entries entry h.accepted more.accepted;
+        }
+
+    pub refused_next : (f : Fault) → IsRefusedOne d (name, expansion plan) f → IsRefusedOf d (map expanded_entry plans) f
+    refused_next f one =
+        subst (λ (es : List (Name × Contract)). IsRefusedOf d es f) all_plans (refused_there d h.entries (name, expansion plan) (map expanded_entry rest) f h.accepted one)

@@ -1,22 +1,21 @@
 -- What the parts of `expand` make of plans: the contracts that they are written for, under their
--- names, where these are accepted.
-use Rattle.std.specs.Prelude.{◌≡◌, ◌++◌, ◌∷◌, [], ℕ, List, map, Result}
+-- names, where these are accepted, and their text.
+use Rattle.std.specs.Prelude.{◌≡◌, ◌++◌, [], ℕ, List, map, Result}
 use Rattle.std.specs.List.{All}
 use Rattle.term_core.specs.declared.name.Name.{Name}
-use Rattle.term_core.specs.declared.portfolio.Portfolio.{Portfolio}
 use Rattle.term_core.specs.declared.terms.Contr.{Contr}
 use Rattle.term_core.specs.Acceptance.{IsAccepted}
-use Rattle.term_core.specs.Books.{book}
+use Rattle.term_core.specs.Books.{Book}
 use Rattle.term_core.specs.Declarations.{Declarations}
 use Rattle.term_core.specs.Terms.{Contract, contract}
-use Rattle.contract_parse.specs.ContractReading.{trees}
+use Rattle.contract_parse.specs.Names.{declared_by}
+use Rattle.contract_print.specs.Canon.{IsCanon, contract_text}
+use Rattle.contract_print.specs.Writable.{IsWritableTerm}
 use Rattle.schedule_forms.specs.DeclaredPlans.{IsPlanOfTexts}
 use Rattle.schedule_forms.specs.Expansions.{expansion}
-use Rattle.schedule_forms.specs.PlanBooks.{PlanBook, expanded_book}
 use Rattle.schedule_forms.specs.declared.plans.Plan.{Plan}
 use Rattle.command_answers.specs.CheckPromise.{AreAllAccepted}
 use Rattle.command_answers.specs.FlowsParts.{IsRefusedOne}
-use Rattle.command_answers.specs.Stages.{IsRefusedOf}
 use Rattle.command_answers.specs.Stopping.{AnswersBy}
 use Rattle.command_answers.specs.declared.stop.Stop.{Stop}
 
@@ -34,17 +33,16 @@ abbrev pub AnswersExpansion : Declarations → List ℕ → Plan → Result Cont
 AnswersExpansion d name plan r =
     AnswersBy (IsAcceptedExpansion d plan) (IsRefusedOne d (name, expansion plan)) r
 
--- the same, behind the contracts that were there before
-pub record KeepsExpansion (d : Declarations) (name : List ℕ) (plan : Plan)
-    (before after : List (Name × Contr)) : Type 0 where
-  pub kept : trees after ≡ trees before ++ (name, expansion plan) ∷ []
+-- its line is put behind a text
+pub record AppendsExpansion (d : Declarations) (name : List ℕ) (plan : Plan)
+    (before after : List ℕ) : Type 0 where
+  pub line : after ≡ before ++ contract_text (declared_by d []) name (expansion plan)
   pub accepted : IsAccepted d (expansion plan)
 
-abbrev pub AnswersKept :
-    Declarations → List ℕ → Plan → List (Name × Contr) → List (Name × Contr)
-    → Result (Unit {0}) Stop → Type 0
-AnswersKept d name plan before after r =
-    AnswersBy (λ _. KeepsExpansion d name plan before after) (IsRefusedOne d (name, expansion plan)) r
+abbrev pub AnswersLine :
+    Declarations → List ℕ → Plan → List ℕ → List ℕ → Result (Unit {0}) Stop → Type 0
+AnswersLine d name plan before after r =
+    AnswersBy (λ _. AppendsExpansion d name plan before after) (IsRefusedOne d (name, expansion plan)) r
 
 -- ---- all plans
 
@@ -52,16 +50,22 @@ AnswersKept d name plan before after r =
 abbrev pub ArePlansOfTexts : Declarations → List (Name × Plan) → Type 0
 ArePlansOfTexts d plans = All (λ entry. IsPlanOfTexts d entry.1) plans
 
-pub record AreAcceptedExpansions (d : Declarations) (plans : List (Name × Plan))
-    (contracts : List (Name × Contr)) : Type 0 where
-  pub are : trees contracts ≡ map expanded_entry plans
+abbrev pub AreWritableExpansions : List (Name × Plan) → Type 0
+AreWritableExpansions plans = All (λ entry. IsWritableTerm (expansion entry.1)) plans
+
+abbrev pub book_of : Declarations → List (Name × Contract) → Book
+book_of d contracts = record { declarations = d; contracts = contracts }
+
+-- the text is that of the portfolio of accepted contracts that plans are written for
+pub record ArePrintedExpansions (d : Declarations) (plans : List (Name × Plan))
+    (text : List ℕ) : Type 0 where
+  pub canon : IsCanon text (book_of d (map expanded_entry plans))
   pub accepted : AreAllAccepted d (map expanded_entry plans)
 
--- the portfolio that a schedule file stands for
-pub record IsAcceptedBook (b : PlanBook) (portfolio : Portfolio) : Type 0 where
-  pub is : book portfolio ≡ expanded_book b
-  pub accepted : AreAllAccepted b.declarations (expanded_book b).contracts
-
-abbrev pub AnswersExpanded : PlanBook → Result Portfolio Stop → Type 0
-AnswersExpanded b r =
-    AnswersBy (IsAcceptedBook b) (IsRefusedOf b.declarations (expanded_book b).contracts) r
+-- the same of the plans before those that are left
+pub record ArePrintedBefore (d : Declarations) (plans left : List (Name × Plan))
+    (text : List ℕ) : Type 0 where
+  pub entries : List (Name × Contract)
+  pub before : entries ++ map expanded_entry left ≡ map expanded_entry plans
+  pub canon : IsCanon text (book_of d entries)
+  pub accepted : AreAllAccepted d entries

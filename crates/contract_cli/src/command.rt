@@ -24,7 +24,8 @@ fn answer_words<'a, F: Files>(
     ensures answer { Goes (run_course (texts words.entry.now)
         (seen (F.contents files.old) (F.faults files.old) (F.faults files.new))) result }
     ensures kept { (other : List ℕ) → F.contents files.new other ≡ F.contents files.old other }
-    ensures counts { CountsOnlyBy (texts words.entry.now) (seen (F.contents files.old) (F.faults files.old) (F.faults files.new)) }
+    ensures counts { CountsOnlyBy (texts words.entry.now)
+        (seen (F.contents files.old) (F.faults files.old) (F.faults files.new)) }
 {
     let request = match request_of(alloc, words) {
         Ok(request) => request,
@@ -45,7 +46,8 @@ fn prepare<'a, F: Files>(
     ensures answer { IfOk result (IsAnswerOf (run_course (texts words.entry.now)
         (seen (F.contents files.old) (F.faults files.old) (F.faults files.new)))) }
     ensures kept { (other : List ℕ) → F.contents files.new other ≡ F.contents files.old other }
-    ensures counts { CountsOnlyBy (texts words.entry.now) (seen (F.contents files.old) (F.faults files.old) (F.faults files.new)) }
+    ensures counts { CountsOnlyBy (texts words.entry.now)
+        (seen (F.contents files.old) (F.faults files.old) (F.faults files.new)) }
 {
     match answer_words(alloc, words, files) {
         Ok(answer) => Ok(answer),
@@ -87,7 +89,8 @@ pub fn run<'a, F: Files, S: Sink>(
       sink = sink_left (S.taken out.old) (S.taken out.new) (S.faults out.old) (S.faults out.new);
     }) result }
     ensures kept { (other : List ℕ) → F.contents files.new other ≡ F.contents files.old other }
-    ensures counts { CountsOnlyBy (texts words.entry.now) (seen (F.contents files.old) (F.faults files.old) (F.faults files.new)) }
+    ensures counts { CountsOnlyBy (texts words.entry.now)
+        (seen (F.contents files.old) (F.faults files.old) (F.faults files.new)) }
     ensures later { S.faults out.old ≤ S.faults out.new }
 {
     let answer = match prepare(alloc, words, files) {

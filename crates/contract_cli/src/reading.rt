@@ -10,14 +10,15 @@ use command_answers::Stop;
 use edge_io::{Files, ReadErr};
 use report::Fault;
 use std::alloc::Global;
-
-const LONGEST_FILE: u64 = 16_777_216;
+use term_core::LONGEST_FILE;
 
 // The bytes of the file at a place of the command.
 fn read_file<F: Files>(alloc: Global, files: &mut F, name: &str, place: u8) -> Result<Vec<u8>, Stop>
-    ensures answer { AnswersFile (seen (F.contents files.old) (F.faults files.old) (F.faults files.new)) name.now place result }
+    ensures answer { AnswersFile (seen (F.contents files.old) (F.faults files.old)
+        (F.faults files.new)) name.now place result }
     ensures kept { (other : List ℕ) → F.contents files.new other ≡ F.contents files.old other }
-    ensures counts { CountsOnly (F.contents files.old) (F.faults files.old) (F.faults files.new) name.now }
+    ensures counts { CountsOnly (F.contents files.old) (F.faults files.old)
+        (F.faults files.new) name.now }
 {
     match files.read_all(alloc, name, LONGEST_FILE) {
         Ok(bytes) => Ok(bytes),
@@ -35,9 +36,11 @@ pub fn read_files<F: Files>(
     names: &[&str],
 ) -> Result<Vec<Vec<u8>>, Stop>
     requires { length names.now ≤ 255 }
-    ensures answer { AnswersFiles (seen (F.contents files.old) (F.faults files.old) (F.faults files.new)) (texts names.now) result }
+    ensures answer { AnswersFiles (seen (F.contents files.old) (F.faults files.old)
+        (F.faults files.new)) (texts names.now) result }
     ensures kept { (other : List ℕ) → F.contents files.new other ≡ F.contents files.old other }
-    ensures counts { CountsOnlyOf (texts names.now) (seen (F.contents files.old) (F.faults files.old) (F.faults files.new)) }
+    ensures counts { CountsOnlyOf (texts names.now)
+        (seen (F.contents files.old) (F.faults files.old) (F.faults files.new)) }
 {
     let mut inputs = Vec::new(alloc);
     for (i, name) in names.iter().enumerate() {

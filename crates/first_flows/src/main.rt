@@ -25,11 +25,13 @@ use fixing_files::Fixings;
 use flow_eval::{FlowTable, flows};
 use std::alloc::Global;
 use std::io;
-use term_core::{Contr, Decls, Portfolio, counts, has_only_numbers, is_closed};
+use term_core::{
+    Contr, Decls, LONGEST_FILE, MOST_COUNTED, Portfolio, counts, has_only_numbers, is_closed,
+};
 
 // The portfolio of a text.
 fn portfolio_of(alloc: Global, text: &str) -> Result<Portfolio, Fault> {
-    if text.len() > 16_777_216 {
+    if text.len() as u64 > LONGEST_FILE {
         return Err(Fault::Text);
     }
     Ok(parse_portfolio(alloc, text.as_bytes())?)
@@ -41,7 +43,7 @@ fn table_of(alloc: Global, decls: &Decls, c: &Contr, until: i64) -> Result<FlowT
         (pos decls.now.start) until table.rows.items) }
 {
     let size = counts(c);
-    if size.height > 1_000 || size.nodes >= 1_000_000 {
+    if size.height > 1_000 || size.nodes >= MOST_COUNTED {
         return Err(Fault::Refused);
     }
     if !is_closed(decls, c) || !has_only_numbers(c) {

@@ -1,11 +1,13 @@
 //! What rows above a row say for it.
 
 ghost use Rattle.std.specs.Prelude.{◌≤◌, length, IfOk};
+ghost use Rattle.term_core.specs.Limits.{most_counted};
 
 use crate::bad_row::BadRow;
 use crate::spelling::append_spelled;
 use crate::words::count;
 use std::alloc::Global;
+use term_core::MOST_COUNTED;
 
 /// What holds for the rows below: the text before that of each row, the table of fixings, and the
 /// numbers of the templates.
@@ -18,9 +20,9 @@ pub struct Above {
 
 // A text that is not too long.
 fn short(text: Vec<u8>) -> Result<Vec<u8>, BadRow>
-    ensures { IfOk result (λ text. length text.items ≤ 1_000_000) }
+    ensures { IfOk result (λ text. length text.items ≤ most_counted) }
 {
-    if text.len() > 1_000_000 {
+    if text.len() > MOST_COUNTED as usize {
         return Err(BadRow::Range);
     }
     Ok(text)
@@ -28,7 +30,7 @@ fn short(text: Vec<u8>) -> Result<Vec<u8>, BadRow>
 
 /// What the text of a row stands for, alone.
 pub fn spelled(alloc: Global, text: &str) -> Result<Vec<u8>, BadRow>
-    ensures { IfOk result (λ text. length text.items ≤ 1_000_000) }
+    ensures { IfOk result (λ text. length text.items ≤ most_counted) }
 {
     short(append_spelled(alloc, Vec::new(alloc), text)?)
 }
@@ -72,7 +74,7 @@ impl Above {
 
     /// The text before that of a row, and the row's own.
     pub fn text(&self, alloc: Global, text: &str) -> Result<Vec<u8>, BadRow>
-        ensures { IfOk result (λ text. length text.items ≤ 1_000_000) }
+        ensures { IfOk result (λ text. length text.items ≤ most_counted) }
     {
         let head = self.head.clone()?;
         short(append_spelled(alloc, head, text)?)
@@ -80,7 +82,7 @@ impl Above {
 
     /// The text before that of a row, a sentence, and its end.
     pub fn sentence(&self, alloc: Global, begins: &str, text: &str) -> Result<Vec<u8>, BadRow>
-        ensures { IfOk result (λ text. length text.items ≤ 1_000_000) }
+        ensures { IfOk result (λ text. length text.items ≤ most_counted) }
     {
         let mut whole = self.head.clone()?;
         whole.extend_from_slice(begins.as_bytes())?;
@@ -91,7 +93,7 @@ impl Above {
 
     /// The table of fixings.
     pub fn table(&self) -> Result<Vec<u8>, BadRow>
-        ensures { IfOk result (λ text. length text.items ≤ 1_000_000) }
+        ensures { IfOk result (λ text. length text.items ≤ most_counted) }
     {
         short(self.table.clone()?)
     }

@@ -1,6 +1,7 @@
 //! The calls that rows try, by their names.
 
 ghost use Rattle.std.specs.Prelude.{◌≤◌, length};
+ghost use Rattle.term_core.specs.Limits.{most_counted};
 
 use crate::above::Above;
 use crate::bad_row::{Answer, BadRow};
@@ -158,7 +159,7 @@ impl OfWords {
 impl OfText {
     // What the call answers to a text.
     fn answer(self, alloc: Global, text: &[u8], out: &mut Vec<u8>) -> Answer
-        requires { length text.now ≤ 1_000_000 }
+        requires { length text.now ≤ most_counted }
     {
         match self {
             OfText::ParsePortfolio => texts::read_portfolio(alloc, text, out),

@@ -1,6 +1,7 @@
 //! Contracts of rows, and what the calls ask of them.
 
 ghost use Rattle.std.specs.Prelude.{◌≤◌, ◌<◌, length, IfOk};
+ghost use Rattle.term_core.specs.Limits.{most_counted};
 ghost use Rattle.term_core.specs.Acceptance.{IsAccepted};
 ghost use Rattle.term_core.specs.Declarations.{declarations};
 ghost use Rattle.term_core.specs.Environments.{IsAdmitted};
@@ -14,7 +15,7 @@ use contract_check::check;
 use contract_parse::parse_portfolio;
 use fixing_files::{Fixings, read_fixings};
 use std::alloc::Global;
-use term_core::{Contr, Decls, Portfolio, counts, has_only_numbers, is_closed};
+use term_core::{Contr, Decls, MOST_COUNTED, Portfolio, counts, has_only_numbers, is_closed};
 
 /// A contract, and the declarations under which it stands.
 #[derive(Drop)]
@@ -25,7 +26,7 @@ pub struct Case {
 
 // The declarations of a text.
 fn declared_in(alloc: Global, text: &[u8]) -> Result<Decls, BadRow>
-    requires { length text.now ≤ 1_000_000 }
+    requires { length text.now ≤ most_counted }
 {
     match parse_portfolio(alloc, text) {
         Ok(portfolio) => Ok(portfolio.decls),
@@ -51,7 +52,7 @@ fn only_in(alloc: Global, portfolio: &Portfolio) -> Result<Case, BadRow> {
 
 // The same of a text.
 fn only_in_text(alloc: Global, text: &[u8]) -> Result<Case, BadRow>
-    requires { length text.now ≤ 1_000_000 }
+    requires { length text.now ≤ most_counted }
 {
     match parse_portfolio(alloc, text) {
         Ok(portfolio) => only_in(alloc, &portfolio),
@@ -70,10 +71,10 @@ pub fn try_form(decls: &Decls, c: &Contr) -> Result<(), BadRow>
     ensures closed { IfOk result (λ _. IsClosed (declarations decls.now) (contract c.now)) }
     ensures numbers { IfOk result (λ _. HasOnlyNumbers (contract c.now)) }
     ensures low { IfOk result (λ _. height_of_contract (contract c.now) ≤ 1_000) }
-    ensures small { IfOk result (λ _. nodes_of_contract (contract c.now) < 1_000_000) }
+    ensures small { IfOk result (λ _. nodes_of_contract (contract c.now) < most_counted) }
 {
     let size = counts(c);
-    if size.height > 1_000 || size.nodes >= 1_000_000 {
+    if size.height > 1_000 || size.nodes >= MOST_COUNTED {
         return Err(BadRow::Range);
     }
     if !is_closed(decls, c) || !has_only_numbers(c) {
@@ -84,10 +85,12 @@ pub fn try_form(decls: &Decls, c: &Contr) -> Result<(), BadRow>
 
 /// The same of a contract that names no template.
 pub fn case_of(alloc: Global, above: &Above, words: &str) -> Result<Case, BadRow>
-    ensures closed { IfOk result (λ case. IsClosed (declarations case.decls) (contract case.contract)) }
+    ensures closed { IfOk result
+        (λ case. IsClosed (declarations case.decls) (contract case.contract)) }
     ensures numbers { IfOk result (λ case. HasOnlyNumbers (contract case.contract)) }
     ensures low { IfOk result (λ case. height_of_contract (contract case.contract) ≤ 1_000) }
-    ensures small { IfOk result (λ case. nodes_of_contract (contract case.contract) < 1_000_000) }
+    ensures small { IfOk result
+        (λ case. nodes_of_contract (contract case.contract) < most_counted) }
 {
     let case = only_of(alloc, above, words)?;
     try_form(&case.decls, &case.contract)?;
@@ -99,7 +102,7 @@ pub fn accept(alloc: Global, decls: &Decls, c: &Contr) -> Result<(), BadRow>
     requires closed { IsClosed (declarations decls.now) (contract c.now) }
     requires numbers { HasOnlyNumbers (contract c.now) }
     requires low { height_of_contract (contract c.now) ≤ 1_000 }
-    requires small { nodes_of_contract (contract c.now) < 1_000_000 }
+    requires small { nodes_of_contract (contract c.now) < most_counted }
     ensures { IfOk result (λ _. IsAccepted (declarations decls.now) (contract c.now)) }
 {
     match check(alloc, decls, c) {
@@ -129,7 +132,7 @@ pub fn accepted_over(
     requires closed { IsClosed (declarations decls.now) (contract c.now) }
     requires numbers { HasOnlyNumbers (contract c.now) }
     requires low { height_of_contract (contract c.now) ≤ 1_000 }
-    requires small { nodes_of_contract (contract c.now) < 1_000_000 }
+    requires small { nodes_of_contract (contract c.now) < most_counted }
     ensures accepted { IfOk result (λ _. IsAccepted (declarations decls.now) (contract c.now)) }
     ensures admitted { IfOk result (λ fixings. IsAdmitted (declarations decls.now) fixings) }
 {

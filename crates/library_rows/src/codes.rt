@@ -1,6 +1,7 @@
 //! Rows of payoff code: texts that are read, or have a first fault, canonical texts, and verdicts.
 
-ghost use Rattle.std.specs.Prelude.{◌≡◌, ◌≤◌, ◌<◌, ◌+◌, length, IfOk};
+ghost use Rattle.std.specs.Prelude.{◌*◌, ◌≡◌, ◌≤◌, ◌<◌, ◌+◌, length, IfOk};
+ghost use Rattle.term_core.specs.Limits.{most_counted, most_height_of_code};
 ghost use Rattle.term_core.specs.Declarations.{declarations};
 ghost use Rattle.payoff_lang.specs.Code.{payoff_code};
 ghost use Rattle.payoff_lang.specs.CodeSizes.{height_of_code, nodes_of_code};
@@ -20,7 +21,7 @@ use term_core::Setting;
 
 /// `parse_code TEXT`: `read`, or the first fault.
 pub fn read_code(alloc: Global, text: &[u8], out: &mut Vec<u8>) -> Answer
-    requires { length text.now ≤ 1_000_000 }
+    requires { length text.now ≤ most_counted }
 {
     let read = parse_code(alloc, text);
     say_read(alloc, &read, out)
@@ -37,7 +38,7 @@ fn print_file(alloc: Global, file: &CodeFile, out: &mut Vec<u8>) -> Answer
 
 /// `print_code TEXT`: the canonical text.
 pub fn printed_code(alloc: Global, text: &[u8], out: &mut Vec<u8>) -> Answer
-    requires { length text.now ≤ 1_000_000 }
+    requires { length text.now ≤ most_counted }
 {
     match parse_code(alloc, text) {
         Ok(file) => {
@@ -51,9 +52,10 @@ pub fn printed_code(alloc: Global, text: &[u8], out: &mut Vec<u8>) -> Answer
 
 // The code file of a text.
 fn file_in(alloc: Global, text: &[u8]) -> Result<CodeFile, BadRow>
-    requires { length text.now ≤ 1_000_000 }
-    ensures low { IfOk result (λ file. height_of_code (payoff_code file.code) ≤ 400) }
-    ensures small { IfOk result (λ file. nodes_of_code (payoff_code file.code) < 1_000_000) }
+    requires { length text.now ≤ most_counted }
+    ensures low { IfOk result
+        (λ file. height_of_code (payoff_code file.code) ≤ most_height_of_code) }
+    ensures small { IfOk result (λ file. nodes_of_code (payoff_code file.code) < most_counted) }
 {
     match parse_code(alloc, text) {
         Ok(file) => Ok(file),
@@ -63,8 +65,9 @@ fn file_in(alloc: Global, text: &[u8]) -> Result<CodeFile, BadRow>
 
 // The code file of an amount.
 fn file_of(alloc: Global, above: &Above, amount: &str) -> Result<CodeFile, BadRow>
-    ensures low { IfOk result (λ file. height_of_code (payoff_code file.code) ≤ 400) }
-    ensures small { IfOk result (λ file. nodes_of_code (payoff_code file.code) < 1_000_000) }
+    ensures low { IfOk result
+        (λ file. height_of_code (payoff_code file.code) ≤ most_height_of_code) }
+    ensures small { IfOk result (λ file. nodes_of_code (payoff_code file.code) < most_counted) }
 {
     let text = above.sentence(alloc, "code c = ", amount)?;
     file_in(alloc, &text)
@@ -81,7 +84,7 @@ fn say_facts(alloc: Global, facts: CodeFacts, out: &mut Vec<u8>) -> Answer {
 // The verdict on code at the numbers of its templates.
 fn say_verdict(alloc: Global, file: &CodeFile, days: &[u32], out: &mut Vec<u8>) -> Answer
     requires low { height_of_code (payoff_code file.now.code) ≤ 1_000 }
-    requires small { nodes_of_code (payoff_code file.now.code) < 2_000_000 }
+    requires small { nodes_of_code (payoff_code file.now.code) < 2 * most_counted }
 {
     let days = Vec::from_slice(alloc, days)?;
     match check_code(alloc, file, &Setting { days }) {
@@ -99,8 +102,10 @@ pub fn checked_code(alloc: Global, above: &Above, words: &str, out: &mut Vec<u8>
 
 // Nothing and an amount.
 fn added(alloc: Global, code: Code) -> Result<Code, NoMemory>
-    ensures low { IfOk result (λ k. height_of_code (payoff_code k) ≤ height_of_code (payoff_code code) + 1) }
-    ensures small { IfOk result (λ k. nodes_of_code (payoff_code k) ≤ nodes_of_code (payoff_code code) + 2) }
+    ensures low { IfOk result
+        (λ k. height_of_code (payoff_code k) ≤ height_of_code (payoff_code code) + 1) }
+    ensures small { IfOk result
+        (λ k. nodes_of_code (payoff_code k) ≤ nodes_of_code (payoff_code code) + 2) }
 {
     let left = Box::new(alloc, Code::None)?;
     let right = Box::new(alloc, code)?;
@@ -109,10 +114,11 @@ fn added(alloc: Global, code: Code) -> Result<Code, NoMemory>
 
 // A code file with nothing and its amount.
 fn added_to(alloc: Global, file: CodeFile) -> Result<CodeFile, NoMemory>
-    requires low { height_of_code (payoff_code file.code) ≤ 400 }
-    requires small { nodes_of_code (payoff_code file.code) < 1_000_000 }
+    requires low { height_of_code (payoff_code file.code) ≤ most_height_of_code }
+    requires small { nodes_of_code (payoff_code file.code) < most_counted }
     ensures low { IfOk result (λ whole. height_of_code (payoff_code whole.code) ≤ 1_000) }
-    ensures small { IfOk result (λ whole. nodes_of_code (payoff_code whole.code) < 2_000_000) }
+    ensures small { IfOk result
+        (λ whole. nodes_of_code (payoff_code whole.code) < 2 * most_counted) }
 {
     let CodeFile { decls, name, code } = file;
     let code = added(alloc, code)?;

@@ -1,6 +1,7 @@
 //! Rows of contracts: verdicts, counts, copies and instances.
 
 ghost use Rattle.std.specs.Prelude.{◌≤◌, ◌<◌};
+ghost use Rattle.term_core.specs.Limits.{most_counted};
 ghost use Rattle.term_core.specs.Declarations.{declarations};
 ghost use Rattle.term_core.specs.Sizes.{height_of_contract, nodes_of_contract};
 ghost use Rattle.term_core.specs.Terms.{contract};
@@ -25,7 +26,7 @@ fn verdict_of(alloc: Global, decls: &Decls, c: &Contr) -> Result<Result<Facts, R
     requires closed { IsClosed (declarations decls.now) (contract c.now) }
     requires numbers { HasOnlyNumbers (contract c.now) }
     requires low { height_of_contract (contract c.now) ≤ 1_000 }
-    requires small { nodes_of_contract (contract c.now) < 1_000_000 }
+    requires small { nodes_of_contract (contract c.now) < most_counted }
 {
     match check(alloc, decls, c) {
         Ok(facts) => Ok(Ok(facts)),
@@ -39,7 +40,7 @@ pub fn checked(alloc: Global, decls: &Decls, c: &Contr, out: &mut Vec<u8>) -> An
     requires closed { IsClosed (declarations decls.now) (contract c.now) }
     requires numbers { HasOnlyNumbers (contract c.now) }
     requires low { height_of_contract (contract c.now) ≤ 1_000 }
-    requires small { nodes_of_contract (contract c.now) < 1_000_000 }
+    requires small { nodes_of_contract (contract c.now) < most_counted }
 {
     let verdict = verdict_of(alloc, decls, c)?;
     verdict_line(alloc, decls, &verdict, out)
@@ -47,7 +48,7 @@ pub fn checked(alloc: Global, decls: &Decls, c: &Contr, out: &mut Vec<u8>) -> An
 
 /// `counts CONTRACT`: its height and its nodes.
 pub fn counted(alloc: Global, c: &Contr, out: &mut Vec<u8>) -> Answer
-    requires { nodes_of_contract (contract c.now) < 1_000_000 }
+    requires { nodes_of_contract (contract c.now) < most_counted }
 {
     let size = counts(c);
     if size.nodes != nodes_in_contract(c) {

@@ -1,6 +1,7 @@
 //! Rows of tables of fixings, and of the days that texts name.
 
 ghost use Rattle.std.specs.Prelude.{◌≤◌, length};
+ghost use Rattle.term_core.specs.Limits.{most_counted};
 
 use crate::above::spelled;
 use crate::bad_row::{Answer, BadRow};
@@ -8,11 +9,11 @@ use crate::printing::{append, append_decimal, say, say_decimal, say_table_read, 
 use crate::words::{count, day, first_word, integer};
 use fixing_files::{DayFault, FixedDay, Fixings, day_of_text, read_fixings};
 use std::alloc::Global;
-use term_core::{Decls, Label, Value};
+use term_core::{Decls, LAST_FIXED_DAY, Label, Value};
 
 // Appends whether a table is read, or its first fault.
 fn say_table(alloc: Global, decls: &Decls, table: &[u8], out: &mut Vec<u8>) -> Answer
-    requires { length table.now ≤ 1_000_000 }
+    requires { length table.now ≤ most_counted }
 {
     let read = read_fixings(alloc, table, decls);
     say_table_read(alloc, &read, out)
@@ -69,7 +70,7 @@ fn say_days(
 
 // The fixings of a table, which are read.
 fn fixings_in(alloc: Global, decls: &Decls, table: &[u8]) -> Result<Fixings, BadRow>
-    requires { length table.now ≤ 1_000_000 }
+    requires { length table.now ≤ most_counted }
 {
     match read_fixings(alloc, table, decls) {
         Ok(fixings) => Ok(fixings),
@@ -117,7 +118,7 @@ fn put(
     day: i64,
     mant: i128,
 ) -> Result<(), BadRow> {
-    if day < -3_000_000 || day > 3_000_000 || fixings.get(label, day).is_some() {
+    if day < -LAST_FIXED_DAY || day > LAST_FIXED_DAY || fixings.get(label, day).is_some() {
         return Err(BadRow::Range);
     }
     match decls.label(label) {

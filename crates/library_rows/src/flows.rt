@@ -1,6 +1,7 @@
 //! Rows of flow tables of accepted contracts over the table of fixings, and of sums of flow tables.
 
 ghost use Rattle.std.specs.Prelude.{◌≤ℤ◌, pos, IfOk};
+ghost use Rattle.term_core.specs.Limits.{last_start};
 ghost use Rattle.term_core.specs.Acceptance.{IsAccepted};
 ghost use Rattle.term_core.specs.Declarations.{declarations};
 ghost use Rattle.term_core.specs.Environments.{IsAdmitted};
@@ -16,7 +17,7 @@ use fixing_files::Fixings;
 use flow_eval::{FlowErr, FlowRow, FlowTable, flows, flows_on, flows_shared};
 use report::net;
 use std::alloc::Global;
-use term_core::{Contr, Decls, Missing, share};
+use term_core::{Contr, Decls, LAST_START, Missing, share};
 
 /// Appends the lines of a flow table.
 pub fn say_rows(alloc: Global, decls: &Decls, rows: &[FlowRow], out: &mut Vec<u8>) -> Answer {
@@ -65,10 +66,10 @@ fn say_table(
 /// A day on which a contract can stand.
 pub fn frame(word: &str) -> Result<i64, BadRow>
     ensures first { IfOk result (λ day. pos 0 ≤ℤ day) }
-    ensures last { IfOk result (λ day. day ≤ℤ pos 1_000_000) }
+    ensures last { IfOk result (λ day. day ≤ℤ pos last_start) }
 {
     let day = day(word)?;
-    if day < 0 || day > 1_000_000 {
+    if day < 0 || day > LAST_START as i64 {
         return Err(BadRow::Range);
     }
     Ok(day)

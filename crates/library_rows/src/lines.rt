@@ -215,7 +215,8 @@ pub fn line_of_fault(alloc: Global, words: &str, out: &mut Vec<u8>) -> Answer {
 fn is_whole(decls: &Decls, row: &FlowRow) -> bool
     requires { unsigned_abs row.now.amount ≤ 10 ^ 37 }
     ensures { IsTrue result
-        → IsMultiple row.now.amount (decls.now.amounts - decimals_of (declarations decls.now) row.now.asset) }
+        → IsMultiple row.now.amount
+        (decls.now.amounts - decimals_of (declarations decls.now) row.now.asset) }
 {
     let decimals = decls.decimals(row.asset);
     let amount = round_to(Mode::Floor, row.amount, decls.amounts, decimals);

@@ -2,6 +2,7 @@
 //! more.
 
 ghost use Rattle.std.specs.Prelude.{◌≤ℤ◌, pos, IfOk};
+ghost use Rattle.term_core.specs.Limits.{last_start};
 ghost use Rattle.term_core.specs.Acceptance.{IsAccepted};
 ghost use Rattle.term_core.specs.Declarations.{declarations};
 ghost use Rattle.term_core.specs.Environments.{IsAdmitted};
@@ -23,7 +24,7 @@ use specialise::laws::parts_may_be_specialised;
 use specialise::{Frame, specialise_contr, specialise_expr, specialise_shared};
 use std::alloc::Global;
 use std::rc::Rc;
-use term_core::{Contr, Decls, Expr, SharedContr, share, unshare};
+use term_core::{Contr, Decls, Expr, LAST_START, SharedContr, share, unshare};
 
 // The contract over shared parts.
 fn shared_parts(alloc: Global, _decls: &Decls, c: &Contr) -> Result<Rc<SharedContr>, NoMemory>
@@ -108,7 +109,7 @@ fn say_special_parts(
     requires offsets { StoresOffsets s.now.value }
     requires admitted { IsAdmitted (declarations decls.now) fixings.now }
     requires first { pos 0 ≤ℤ on }
-    requires last { on ≤ℤ pos 1_000_000 }
+    requires last { on ≤ℤ pos last_start }
 {
     let special = specialise_shared(alloc, decls, s, fixings, on)?;
     say_shared(alloc, decls, &special, out)
@@ -232,7 +233,7 @@ fn say_stepped_parts(
     requires offsets { StoresOffsets s.now.value }
     requires admitted { IsAdmitted (declarations decls.now) fixings.now }
     requires first { pos 0 ≤ℤ on }
-    requires last { on ≤ℤ pos 1_000_000 }
+    requires last { on ≤ℤ pos last_start }
 {
     match step_shared(alloc, decls, s, fixings, on) {
         Ok(SharedAdvanced { due, rest }) => {
@@ -278,7 +279,7 @@ pub fn advanced(
     requires admitted { IsAdmitted (declarations decls.now) fixings.now }
 {
     let days = count(days)?;
-    if days > 1_000_000 || decls.start + days > 1_000_000 {
+    if days > LAST_START || decls.start + days > LAST_START {
         return Err(BadRow::Range);
     }
     let answer = advance(alloc, decls, c, fixings, days);

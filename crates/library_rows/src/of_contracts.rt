@@ -2,6 +2,7 @@
 //! fixings.
 
 ghost use Rattle.std.specs.Prelude.{◌≤◌, ◌<◌};
+ghost use Rattle.term_core.specs.Limits.{most_counted};
 ghost use Rattle.term_core.specs.Acceptance.{IsAccepted};
 ghost use Rattle.term_core.specs.Declarations.{declarations};
 ghost use Rattle.term_core.specs.Environments.{IsAdmitted};
@@ -107,7 +108,7 @@ impl OfForm {
         requires closed { IsClosed (declarations decls.now) (contract c.now) }
         requires numbers { HasOnlyNumbers (contract c.now) }
         requires low { height_of_contract (contract c.now) ≤ 1_000 }
-        requires small { nodes_of_contract (contract c.now) < 1_000_000 }
+        requires small { nodes_of_contract (contract c.now) < most_counted }
     {
         match self {
             OfForm::Check => contracts::checked(alloc, decls, c, out),
@@ -134,7 +135,7 @@ impl OfWhole {
         requires closed { IsClosed (declarations decls.now) (contract c.now) }
         requires numbers { HasOnlyNumbers (contract c.now) }
         requires low { height_of_contract (contract c.now) ≤ 1_000 }
-        requires small { nodes_of_contract (contract c.now) < 1_000_000 }
+        requires small { nodes_of_contract (contract c.now) < most_counted }
     {
         accept(alloc, decls, c)?;
         self.answer(alloc, decls, c, out)
@@ -185,7 +186,7 @@ impl OfDay {
         requires closed { IsClosed (declarations decls.now) (contract c.now) }
         requires numbers { HasOnlyNumbers (contract c.now) }
         requires low { height_of_contract (contract c.now) ≤ 1_000 }
-        requires small { nodes_of_contract (contract c.now) < 1_000_000 }
+        requires small { nodes_of_contract (contract c.now) < most_counted }
     {
         let fixings = accepted_over(alloc, above, decls, c)?;
         self.answer(alloc, decls, c, &fixings, on, out)
@@ -228,7 +229,7 @@ impl OfDays {
         requires closed { IsClosed (declarations decls.now) (contract c.now) }
         requires numbers { HasOnlyNumbers (contract c.now) }
         requires low { height_of_contract (contract c.now) ≤ 1_000 }
-        requires small { nodes_of_contract (contract c.now) < 1_000_000 }
+        requires small { nodes_of_contract (contract c.now) < most_counted }
     {
         let fixings = accepted_over(alloc, above, decls, c)?;
         self.answer(alloc, decls, c, &fixings, on, until, out)
@@ -266,7 +267,7 @@ impl OfContract {
         requires closed { IsClosed (declarations decls.now) (contract c.now) }
         requires numbers { HasOnlyNumbers (contract c.now) }
         requires low { height_of_contract (contract c.now) ≤ 1_000 }
-        requires small { nodes_of_contract (contract c.now) < 1_000_000 }
+        requires small { nodes_of_contract (contract c.now) < most_counted }
     {
         match self {
             OfContract::Form(call) => call.answer(alloc, decls, c, out),

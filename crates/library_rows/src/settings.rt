@@ -5,7 +5,7 @@ ghost use Rattle.term_core.specs.DayCounts.{day_count};
 ghost use Rattle.term_core.specs.Instances.{HasSmallSums, IsSetting, IsSmallSum};
 ghost use Rattle.term_core.specs.Terms.{contract};
 
-use term_core::{Contr, Days};
+use term_core::{Contr, Days, MOST_DAYS};
 
 // Whether a day count is no sum, or a small one.
 fn is_small_sum(days: &Days) -> bool
@@ -13,7 +13,7 @@ fn is_small_sum(days: &Days) -> bool
 {
     match days {
         Days::Num { .. } | Days::Named { .. } => true,
-        Days::Sum { sum } => sum.days <= 100_000 && sum.names.len() <= 4,
+        Days::Sum { sum } => sum.days <= MOST_DAYS && sum.names.len() <= 4,
     }
 }
 
@@ -41,6 +41,6 @@ pub fn is_setting(days: &[u32]) -> bool
 {
     match days.split_first() {
         None => true,
-        Some((first, rest)) => *first <= 100_000 && is_setting(rest),
+        Some((first, rest)) => *first <= MOST_DAYS && is_setting(rest),
     }
 }

@@ -2,6 +2,7 @@
 //! canonical form.
 
 ghost use Rattle.std.specs.Prelude.{◌≤◌, length, All};
+ghost use Rattle.term_core.specs.Limits.{most_counted};
 ghost use Rattle.contract_print.specs.Writable.{IsWritableTerm};
 ghost use Rattle.term_core.specs.Books.{book};
 
@@ -15,7 +16,7 @@ use term_core::{Decls, Portfolio};
 
 /// `parse_portfolio TEXT`: `read`, or the first fault.
 pub fn read_portfolio(alloc: Global, text: &[u8], out: &mut Vec<u8>) -> Answer
-    requires { length text.now ≤ 1_000_000 }
+    requires { length text.now ≤ most_counted }
 {
     let read = parse_portfolio(alloc, text);
     say_read(alloc, &read, out)
@@ -31,7 +32,7 @@ fn print_book(alloc: Global, portfolio: &Portfolio, out: &mut Vec<u8>) -> Answer
 
 /// `print_portfolio TEXT`: the canonical text.
 pub fn printed_portfolio(alloc: Global, text: &[u8], out: &mut Vec<u8>) -> Answer
-    requires { length text.now ≤ 1_000_000 }
+    requires { length text.now ≤ most_counted }
 {
     match parse_portfolio(alloc, text) {
         Ok(portfolio) => {
@@ -56,7 +57,7 @@ fn print_copy(alloc: Global, decls: &Decls, out: &mut Vec<u8>) -> Answer {
 
 /// `print_decls TEXT`: the canonical lines of a copy of the declarations.
 pub fn printed_decls(alloc: Global, text: &[u8], out: &mut Vec<u8>) -> Answer
-    requires { length text.now ≤ 1_000_000 }
+    requires { length text.now ≤ most_counted }
 {
     match parse_portfolio(alloc, text) {
         Ok(portfolio) => print_copy(alloc, &portfolio.decls, out),

@@ -1,7 +1,7 @@
 //! Rows of tokens, read one at a time round declarations.
 
 ghost use Rattle.std.specs.Prelude.{◌≡◌, ◌≤◌, length, true};
-ghost use Rattle.term_core.specs.Limits.{is_a_version};
+ghost use Rattle.term_core.specs.Limits.{is_a_version, most_counted};
 ghost use Rattle.contract_parse.specs.Cursors.{Fits};
 
 use crate::above::Above;
@@ -39,7 +39,7 @@ fn say_token(alloc: Global, token: Token, out: &mut Vec<u8>) -> Answer {
 
 // Appends the line of the next token, or of the fault that stands there.
 fn say_next(alloc: Global, cursor: &mut Cursor, text: &[u8], out: &mut Vec<u8>) -> Answer
-    requires small { length text.now ≤ 1_000_000 }
+    requires small { length text.now ≤ most_counted }
     requires fits { Fits text.now cursor.old }
     ensures { Fits text.now cursor.new }
 {
@@ -57,7 +57,7 @@ fn say_tokens(
     tokens: u32,
     out: &mut Vec<u8>,
 ) -> Answer
-    requires small { length text.now ≤ 1_000_000 }
+    requires small { length text.now ≤ most_counted }
     requires fits { Fits text.now cursor.old }
     ensures { Fits text.now cursor.new }
 {
@@ -76,7 +76,7 @@ fn say_decls(
     out: &mut Vec<u8>,
 ) -> Answer
     requires version { is_a_version version ≡ true }
-    requires small { length text.now ≤ 1_000_000 }
+    requires small { length text.now ≤ most_counted }
     requires fits { Fits text.now cursor.old }
     ensures { Fits text.now cursor.new }
 {
@@ -96,7 +96,7 @@ fn say_all(
     out: &mut Vec<u8>,
 ) -> Answer
     requires version { is_a_version version ≡ true }
-    requires small { length text.now ≤ 1_000_000 }
+    requires small { length text.now ≤ most_counted }
 {
     match start_text(text) {
         Ok(start) => {
