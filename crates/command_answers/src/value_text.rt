@@ -21,7 +21,7 @@ use command_words::Value;
 use decimal::NoMemory;
 use fixing_files::{Curve, Fixings};
 use flow_eval::FlowErr;
-use payoff_eval::{value, value_scratch};
+use payoff_eval::{accepted_scratch, value};
 use payoff_lang::CodeFile;
 use report::value_line;
 use std::alloc::Global;
@@ -49,7 +49,7 @@ fn worth(
     ensures { AnswersValueOver (inquiry_of file.now asking.now) fixings.now curve.now result }
 {
     let parties = asking.parties;
-    let mut scratch = value_scratch(alloc, file)?;
+    let mut scratch = accepted_scratch(alloc)?;
     match value(
         file,
         &asking.setting,

@@ -13,7 +13,7 @@ use Rattle.contract_parse.specs.Judgements.{mode_at}
 use Rattle.contract_parse.specs.Names.{is_declared}
 use Rattle.contract_parse.specs.NameTexts.{is_name_text}
 use Rattle.contract_parse.specs.declared.faults.TextKind.{TextKind}
-use Rattle.contract_parse.specs.declared.token.Kind.TheVariants as kind
+use Rattle.contract_parse.specs.declared.token.LexemeKind.TheVariants as kind
 use Rattle.fixing_files.specs.Days.{day_named}
 use Rattle.fixing_files.specs.declared.days.NamedDay.{NamedDay}
 use Rattle.command_words.specs.Arguments.{IsAnswer, asked_of, declared, flag, given_text, is_set, optional, repeated, required, taken, valued}

@@ -6,3 +6,5 @@ pub mod CausalFlows
 pub mod HorizonFacts
 pub mod CheckFacts
 pub mod Granted
+pub mod SimpleRules
+pub mod SimpleFacts

@@ -1,4 +1,5 @@
 pub mod CausalityLaws
 pub mod Smallness
+pub mod SimpleContracts
 pub mod Checks
 pub mod CheckLaws

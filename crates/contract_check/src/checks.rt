@@ -10,6 +10,7 @@ ghost use Rattle.term_core.specs.Verdicts.{IsVerdict};
 ghost use Rattle.contract_check.specs.Checks.{IsChecked};
 
 use crate::horizons::horizon;
+use crate::simple_contracts::simple_facts;
 use interval_check::bounds;
 use scale_check::{scales, sizes};
 use std::alloc::Global;
@@ -48,10 +49,8 @@ fn limited(_decls: &Decls, c: &Contr) -> Result<(), CheckErr>
     }
 }
 
-/// Whether a contract is accepted, and what is said of it then. Where it is not, the answer has the
-/// first rule that fails and the first node at which it does. The rules are tried on sorts, times,
-/// scales, sizes and bounds, in this order.
-pub fn check(alloc: Global, decls: &Decls, c: &Contr) -> Result<Facts, CheckErr>
+// The answer by the five rules, each in a walk of its own.
+fn check_by_rules(alloc: Global, decls: &Decls, c: &Contr) -> Result<Facts, CheckErr>
     requires closed { IsClosed (declarations decls.now) (contract c.now) }
     requires numbers { HasOnlyNumbers (contract c.now) }
     requires low { height_of_contract (contract c.now) ≤ 1_000 }
@@ -70,4 +69,20 @@ pub fn check(alloc: Global, decls: &Decls, c: &Contr) -> Result<Facts, CheckErr>
         total,
         horizon,
     })
+}
+
+/// Whether a contract is accepted, and what is said of it then. Where it is not, the answer has the
+/// first rule that fails and the first node at which it does. The rules are tried on sorts, times,
+/// scales, sizes and bounds, in this order.
+pub fn check(alloc: Global, decls: &Decls, c: &Contr) -> Result<Facts, CheckErr>
+    requires closed { IsClosed (declarations decls.now) (contract c.now) }
+    requires numbers { HasOnlyNumbers (contract c.now) }
+    requires low { height_of_contract (contract c.now) ≤ 1_000 }
+    requires small { nodes_of_contract (contract c.now) < 2 ^ 32 }
+    ensures { IsChecked (declarations decls.now) (contract c.now) result }
+{
+    match simple_facts(decls, c) {
+        Some(facts) => Ok(facts),
+        None => check_by_rules(alloc, decls, c),
+    }
 }

@@ -9,8 +9,8 @@ ghost use Rattle.contract_check.specs.Smallness.{MeetsSize};
 
 use term_core::Contr;
 
-// A horizon some days later; what pays nothing pays nothing later either.
-fn delayed_by(days: u32, horizon: u32) -> u32
+/// A horizon some days later; what pays nothing pays nothing later either.
+pub fn delayed_by(days: u32, horizon: u32) -> u32
     requires { days + horizon < 2 ^ 32 }
     ensures { result ≡ delayed days horizon }
 {

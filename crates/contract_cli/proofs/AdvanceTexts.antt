@@ -52,10 +52,10 @@ before_line front text plain line = record {
   is = ap (λ (rest : List ℕ). front ++ rest) line.is ∙ sym (append_assoc front line.body line_feed);
 }
 
-name_plain : (names : List Name) (place : ℕ) → AllByRecursion IsPlain names → IsPlain (name_at names place)
-name_plain [] place all = refl
+name_plain : (names : List Name) (index : ℕ) → AllByRecursion IsPlain names → IsPlain (name_at names index)
+name_plain [] index all = refl
 name_plain (name ∷ names) zero all = all.0
-name_plain (name ∷ names) (suc place) all = name_plain names place all.1
+name_plain (name ∷ names) (suc index) all = name_plain names index all.1
 
 day_plain : (origin : Option ℤ) (day : ℤ) (text : List ℕ) → IsDayText origin day text → IsPlain text
 day_plain None day text is = subst IsPlain (sym is) (number_plain day 0)

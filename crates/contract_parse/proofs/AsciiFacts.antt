@@ -9,7 +9,7 @@ use Rattle.std.proofs.lemmas.List.{get_or_past}
 use Rattle.std.proofs.lemmas.List.Elements.{All-from_get_or, All-get_or}
 use Rattle.std.proofs.lemmas.Str.{IsUtf8-from_ascii}
 
--- the bytes before a place are at most this
+-- the bytes before a position are at most this
 abbrev pub AreUpTo : List ℕ → ℕ → ℕ → Type 0
 AreUpTo bytes n most = (i : ℕ) → i < n → get_or bytes i 0 ≤ most
 

@@ -15,13 +15,13 @@ use Rattle.contract_parse.specs.DeclarationReading.{label_range}
 use Rattle.term_core.specs.declared.label.Label.{Label}
 use Rattle.term_core.specs.declared.label.Label.TheVariants as label
 use Rattle.contract_parse.proofs.Parts.{followed_by}
-use Rattle.contract_parse.specs.Places.{Place, Next, LabelLines, flag_places, number_label_places, run, step}
+use Rattle.contract_parse.specs.Expecting.{Expected, Next, LabelLines, flag_expected, number_label_expected, run, step}
 use Rattle.contract_parse.specs.Reading.{Lacks}
 use Rattle.contract_parse.specs.declared.faults.TextKind.TheVariants.{Syntax, Twice}
 use Rattle.contract_parse.proofs.Steps.{run-next, run-same}
 
--- a place of lines that begin with a word, what follows the word, and what stands behind the lines
-module _ (s : DeclaredNames) (w : Bytes) (line inside behind : List Place) (shape : (t : Tok) → step s line t ≡ cond (is_the_word w t) (Next s inside) (step s behind t)) where
+-- where lines are expected that begin with a word: what follows the word, and what is expected behind the lines
+module _ (s : DeclaredNames) (w : Bytes) (line inside behind : List Expected) (shape : (t : Tok) → step s line t ≡ cond (is_the_word w t) (Next s inside) (step s behind t)) where
   pub line_opens : (ts rest : List Tok) → word w ts rest → run s line ts ≡ run s inside rest
   line_opens ts rest (t, is, passes) = rw is (run-next s s line inside t rest (shape t ∙ ap (λ b. cond b (Next s inside) (step s behind t)) passes))
 
@@ -29,27 +29,27 @@ module _ (s : DeclaredNames) (w : Bytes) (line inside behind : List Place) (shap
   line_absent ts x = rw x.is (run-same s line behind x.first x.after (shape x.first ∙ ap (λ b. cond b (Next s inside) (step s behind x.first)) x.other))
 
 -- labels are of two kinds
-module _ (s : DeclaredNames) (ps : List Place) where
-  flag_step : (t : Tok) → is_the_word (codes "num") t ≡ false → step s (LabelLines ∷ ps) t ≡ cond (is_the_word (codes "flag") t) (Next s (flag_places (LabelLines ∷ ps))) (step s ps t)
-  flag_step t other = ap (λ b. cond b (Next s (number_label_places (LabelLines ∷ ps))) (cond (is_the_word (codes "flag") t) (Next s (flag_places (LabelLines ∷ ps))) (step s ps t))) other
+module _ (s : DeclaredNames) (ps : List Expected) where
+  flag_step : (t : Tok) → is_the_word (codes "num") t ≡ false → step s (LabelLines ∷ ps) t ≡ cond (is_the_word (codes "flag") t) (Next s (flag_expected (LabelLines ∷ ps))) (step s ps t)
+  flag_step t other = ap (λ b. cond b (Next s (number_label_expected (LabelLines ∷ ps))) (cond (is_the_word (codes "flag") t) (Next s (flag_expected (LabelLines ∷ ps))) (step s ps t))) other
 
-  pub number_opens : (ts rest : List Tok) → word (codes "num") ts rest → run s (LabelLines ∷ ps) ts ≡ run s (number_label_places (LabelLines ∷ ps)) rest
+  pub number_opens : (ts rest : List Tok) → word (codes "num") ts rest → run s (LabelLines ∷ ps) ts ≡ run s (number_label_expected (LabelLines ∷ ps)) rest
   number_opens ts rest (t, is, passes) =
-      rw is (run-next s s (LabelLines ∷ ps) (number_label_places (LabelLines ∷ ps)) t rest (ap (λ b. cond b (Next s (number_label_places (LabelLines ∷ ps))) (cond (is_the_word (codes "flag") t) (Next s (flag_places (LabelLines ∷ ps))) (step s ps t))) passes))
+      rw is (run-next s s (LabelLines ∷ ps) (number_label_expected (LabelLines ∷ ps)) t rest (ap (λ b. cond b (Next s (number_label_expected (LabelLines ∷ ps))) (cond (is_the_word (codes "flag") t) (Next s (flag_expected (LabelLines ∷ ps))) (step s ps t))) passes))
 
-  pub flag_opens : (ts rest : List Tok) → Lacks (codes "num") ts → word (codes "flag") ts rest → run s (LabelLines ∷ ps) ts ≡ run s (flag_places (LabelLines ∷ ps)) rest
+  pub flag_opens : (ts rest : List Tok) → Lacks (codes "num") ts → word (codes "flag") ts rest → run s (LabelLines ∷ ps) ts ≡ run s (flag_expected (LabelLines ∷ ps)) rest
   flag_opens ts rest x (t, is, passes) =
       let both : x.first ∷ x.after ≡ t ∷ rest = sym x.is ∙ is in
       let same : x.first ≡ t = cc in
       let other : is_the_word (codes "num") t ≡ false = ap (λ u. is_the_word (codes "num") u) (sym same) ∙ x.other in
-      rw is (run-next s s (LabelLines ∷ ps) (flag_places (LabelLines ∷ ps)) t rest (flag_step t other ∙ ap (λ b. cond b (Next s (flag_places (LabelLines ∷ ps))) (step s ps t)) passes))
+      rw is (run-next s s (LabelLines ∷ ps) (flag_expected (LabelLines ∷ ps)) t rest (flag_step t other ∙ ap (λ b. cond b (Next s (flag_expected (LabelLines ∷ ps))) (step s ps t)) passes))
 
   pub labels_absent : (ts : List Tok) → Lacks (codes "num") ts → Lacks (codes "flag") ts → run s (LabelLines ∷ ps) ts ≡ run s ps ts
   labels_absent ts x y =
       let both : x.first ∷ x.after ≡ y.first ∷ y.after = sym x.is ∙ y.is in
       let same : x.first ≡ y.first = cc in
       let other : is_the_word (codes "num") y.first ≡ false = ap (λ u. is_the_word (codes "num") u) (sym same) ∙ x.other in
-      rw y.is (run-same s (LabelLines ∷ ps) ps y.first y.after (flag_step y.first other ∙ ap (λ b. cond b (Next s (flag_places (LabelLines ∷ ps))) (step s ps y.first)) y.other))
+      rw y.is (run-same s (LabelLines ∷ ps) ps y.first y.after (flag_step y.first other ∙ ap (λ b. cond b (Next s (flag_expected (LabelLines ∷ ps))) (step s ps y.first)) y.other))
 
 -- ---- what a separator is
 

@@ -1,4 +1,4 @@
--- What is spelled as one token is taken at its place.
+-- What is spelled as one token is taken where it is expected.
 use Rattle.std.proofs.Common.{◌≡◌, ◌∙◌, Bool, true, false, ◌&&◌, Result, Ok, Err, IfOk, IsErrAnd, List, [], ◌∷◌, refl, sym, ap, subst}
 use Rattle.std.specs.Str.{bytes_eq}
 use Rattle.std.proofs.lemmas.Slice.Eq.{bytes_eq-Decides}
@@ -8,42 +8,42 @@ use Rattle.contract_parse.specs.Tokens.{Tok}
 use Rattle.contract_parse.specs.Words.{Bytes, is_end, is_end_kind, is_mark_kind, is_name, is_number, is_number_kind, is_the_mark, is_the_word, is_word_kind}
 use Rattle.contract_parse.specs.Names.{DeclaredNames}
 use Rattle.contract_parse.specs.Spelling.{Part, mark, one, valued, word}
-use Rattle.contract_parse.specs.Places.{Leaves, Outcome, Place, TheMark, TheWord, Next, Open, run, step}
+use Rattle.contract_parse.specs.Expecting.{Leaves, Outcome, Expected, TheMark, TheWord, Next, Open, run, step}
 use Rattle.contract_parse.specs.Reading.{LacksMark}
 use Rattle.contract_parse.specs.Readers.{Ahead, Going, ReadsAhead}
-use Rattle.contract_parse.specs.declared.faults.ReadErr.{ReadErr}
+use Rattle.contract_parse.specs.declared.faults.PartErr.{PartErr}
 use Rattle.contract_parse.proofs.Steps.{run-next}
-use Rattle.contract_parse.specs.declared.token.Kind.{Kind}
-use Rattle.contract_parse.specs.declared.token.Kind.TheVariants.{Word, Number, Date, Mark, End, Stray}
+use Rattle.contract_parse.specs.declared.token.LexemeKind.{LexemeKind}
+use Rattle.contract_parse.specs.declared.token.LexemeKind.TheVariants.{Word, Number, Date, Mark, End, Stray}
 use Rattle.contract_parse.specs.declared.faults.TextKind.{TextKind}
 use Rattle.contract_parse.proofs.EntryFacts.{and_parts}
 
 -- a reader that stops at a fault keeps its promise by the fault alone
-pub stopped : {X : Type 0} {Goes : Going X} {part : X → Part} {behind : X → Ahead} {from : Ahead} {e : ReadErr}
+pub stopped : {X : Type 0} {Goes : Going X} {part : X → Part} {behind : X → Ahead} {from : Ahead} {e : PartErr}
     → Goes (λ r. (behind r).toks) from.toks (Err e) → ReadsAhead Goes part behind from (Err e)
 stopped follows = record { follows = follows; spelled = tt; shorter = tt }
 
 -- the same of a fault that is handed on
-pub stopped_at : {X : Type 0} {Goes : Going X} {part : X → Part} {behind : X → Ahead} {from : Ahead} (e : ReadErr) (result : Result X ReadErr)
+pub stopped_at : {X : Type 0} {Goes : Going X} {part : X → Part} {behind : X → Ahead} {from : Ahead} (e : PartErr) (result : Result X PartErr)
     → IsErrAnd result (λ y. y ≡ e) → Goes (λ r. (behind r).toks) from.toks (Err e) → ReadsAhead Goes part behind from result
 stopped_at e result is follows = let p = err_from_is_err_and result is in rw (p.1, p.2) (stopped follows)
 
 -- what a reader leaves, by other words for where it leads
-pub leaves_as : {X : Type 0} (f g : X → Outcome) (result : Result X ReadErr) (o : Outcome) → IfOk result (λ x. f x ≡ g x) → Leaves f result o → Leaves g result o
+pub leaves_as : {X : Type 0} (f g : X → Outcome) (result : Result X PartErr) (o : Outcome) → IfOk result (λ x. f x ≡ g x) → Leaves f result o → Leaves g result o
 leaves_as f g (Ok x) o same left = left ∙ same
 leaves_as f g (Err e) o same left = left
 
-pub ok_both : {X : Type 0} (P Q : X → Type 0) (result : Result X ReadErr) → IfOk result P → IfOk result Q → IfOk result (λ x. P x × Q x)
+pub ok_both : {X : Type 0} (P Q : X → Type 0) (result : Result X PartErr) → IfOk result P → IfOk result Q → IfOk result (λ x. P x × Q x)
 ok_both P Q (Ok x) p q = (p, q)
 ok_both P Q (Err e) p q = tt
 
-pub run-end : (s : DeclaredNames) (ps : List Place) → run s ps [] ≡ Open ps
+pub run-end : (s : DeclaredNames) (ps : List Expected) → run s ps [] ≡ Open ps
 unfolding run
 run-end s ps = refl
 
 -- ---- what a token is
 
-word_kind : (k : Kind) → is_word_kind k ≡ true → k ≡ Word
+word_kind : (k : LexemeKind) → is_word_kind k ≡ true → k ≡ Word
 word_kind Word e = refl
 word_kind Number e = absurd (false≢true e)
 word_kind Date e = absurd (false≢true e)
@@ -51,7 +51,7 @@ word_kind Mark e = absurd (false≢true e)
 word_kind End e = absurd (false≢true e)
 word_kind Stray e = absurd (false≢true e)
 
-mark_kind : (k : Kind) → is_mark_kind k ≡ true → k ≡ Mark
+mark_kind : (k : LexemeKind) → is_mark_kind k ≡ true → k ≡ Mark
 mark_kind Word e = absurd (false≢true e)
 mark_kind Number e = absurd (false≢true e)
 mark_kind Date e = absurd (false≢true e)
@@ -59,7 +59,7 @@ mark_kind Mark e = refl
 mark_kind End e = absurd (false≢true e)
 mark_kind Stray e = absurd (false≢true e)
 
-number_kind : (k : Kind) → is_number_kind k ≡ true → k ≡ Number
+number_kind : (k : LexemeKind) → is_number_kind k ≡ true → k ≡ Number
 number_kind Word e = absurd (false≢true e)
 number_kind Number e = refl
 number_kind Date e = absurd (false≢true e)
@@ -67,7 +67,7 @@ number_kind Mark e = absurd (false≢true e)
 number_kind End e = absurd (false≢true e)
 number_kind Stray e = absurd (false≢true e)
 
-end_kind : (k : Kind) → is_end_kind k ≡ true → k ≡ End
+end_kind : (k : LexemeKind) → is_end_kind k ≡ true → k ≡ End
 end_kind Word e = absurd (false≢true e)
 end_kind Number e = absurd (false≢true e)
 end_kind Date e = absurd (false≢true e)
@@ -103,18 +103,18 @@ of_mark P m t e h =
     let same : record { kind = Mark; text = m; left = t.left } ≡ t = λ i. record { kind = sym p.0 i; text = sym p.1 i; left = t.left } in
     subst P same h
 
--- ---- one token at its place
+-- ---- one token where it is expected
 
-pub word_taken : (s : DeclaredNames) (w : Bytes) (ps : List Place) (ts rest : List Tok) → word w ts rest → run s (TheWord w ∷ ps) ts ≡ run s ps rest
+pub word_taken : (s : DeclaredNames) (w : Bytes) (ps : List Expected) (ts rest : List Tok) → word w ts rest → run s (TheWord w ∷ ps) ts ≡ run s ps rest
 word_taken s w ps ts rest (t, is, passes) = rw is (run-next s s (TheWord w ∷ ps) ps t rest (rw passes refl))
 
-pub mark_taken : (s : DeclaredNames) (m : Bytes) (ps : List Place) (ts rest : List Tok) → mark m ts rest → run s (TheMark m ∷ ps) ts ≡ run s ps rest
+pub mark_taken : (s : DeclaredNames) (m : Bytes) (ps : List Expected) (ts rest : List Tok) → mark m ts rest → run s (TheMark m ∷ ps) ts ≡ run s ps rest
 mark_taken s m ps ts rest (t, is, passes) = rw is (run-next s s (TheMark m ∷ ps) ps t rest (rw passes refl))
 
-pub value_taken : {X : Type 0} (s s2 : DeclaredNames) (ps qs : List Place) (judge : Tok → Result X TextKind) (x : X) (ts rest : List Tok) → ((t : Tok) → judge t ≡ Ok x → step s ps t ≡ Next s2 qs) → valued judge x ts rest → run s ps ts ≡ run s2 qs rest
+pub value_taken : {X : Type 0} (s s2 : DeclaredNames) (ps qs : List Expected) (judge : Tok → Result X TextKind) (x : X) (ts rest : List Tok) → ((t : Tok) → judge t ≡ Ok x → step s ps t ≡ Next s2 qs) → valued judge x ts rest → run s ps ts ≡ run s2 qs rest
 value_taken s s2 ps qs judge x ts rest next (t, is, passes) = rw is (run-next s s2 ps qs t rest (next t passes))
 
-pub test_taken : (s s2 : DeclaredNames) (ps qs : List Place) (test : Tok → Bool) (ts rest : List Tok) → ((t : Tok) → test t ≡ true → step s ps t ≡ Next s2 qs) → one test ts rest → run s ps ts ≡ run s2 qs rest
+pub test_taken : (s s2 : DeclaredNames) (ps qs : List Expected) (test : Tok → Bool) (ts rest : List Tok) → ((t : Tok) → test t ≡ true → step s ps t ≡ Next s2 qs) → one test ts rest → run s ps ts ≡ run s2 qs rest
 test_taken s s2 ps qs test ts rest next (t, is, passes) = rw is (run-next s s2 ps qs t rest (next t passes))
 
 -- ---- other tokens

@@ -4,11 +4,11 @@ use Rattle.std.specs.Prelude.{codes}
 use Rattle.contract_parse.specs.Tokens.{Tok}
 use Rattle.contract_parse.specs.Names.{DeclaredNames}
 use Rattle.contract_parse.specs.Spelling.{mark}
-use Rattle.contract_parse.specs.Places.{Place, MoreTemplates, Next, UseOf, run, step}
+use Rattle.contract_parse.specs.Expecting.{Expected, MoreTemplates, Next, UseOf, run, step}
 use Rattle.contract_parse.specs.Reading.{LacksMark}
 use Rattle.contract_parse.proofs.Steps.{run-next, run-same}
 
-module _ (s : DeclaredNames) (ps : List Place) where
+module _ (s : DeclaredNames) (ps : List Expected) where
   pub plus_opens : (ts rest : List Tok) → mark (codes "+") ts rest → run s (MoreTemplates ∷ ps) ts ≡ run s (UseOf s.templates ∷ MoreTemplates ∷ ps) rest
   plus_opens ts rest (t, is, passes) =
       rw is (run-next s s (MoreTemplates ∷ ps) (UseOf s.templates ∷ MoreTemplates ∷ ps) t rest (ap (λ b. cond b (Next s (UseOf s.templates ∷ MoreTemplates ∷ ps)) (step s ps t)) passes))

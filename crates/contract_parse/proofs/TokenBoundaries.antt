@@ -1,6 +1,6 @@
--- The place behind a token is between two characters: its last byte is ASCII, or it is the end of the text.
+-- The position behind a token is between two characters: its last byte is ASCII, or it is the end of the text.
 use Rattle.std.proofs.Common.{◌≡◌, ℕ, zero, suc, ◌+◌, ◌-◌, ◌<◌, ◌≤◌, ◌⊎◌, inl, inr, Bool, true, false, cond, ◌&&◌, List, [], ◌∷◌, length, drop, get_or, refl, sym, subst, arith, length-drop}
-use Rattle.std.specs.Prelude.{◌==◌, nat_lt, not}
+use Rattle.std.specs.Prelude.{◌==◌, nat_lt}
 use Rattle.std.specs.List.{prefix_len}
 use Rattle.std.specs.Str.{IsCharBoundary, IsUtf8}
 use Rattle.std.proofs.lemmas.Bool.{cond_both, false≢true}
@@ -8,14 +8,15 @@ use Rattle.std.proofs.lemmas.Bool.Decides.{nat_tests}
 use Rattle.std.proofs.lemmas.List.{get_or-drop}
 use Rattle.std.proofs.lemmas.List.Sums.{prefix_len_passes}
 use Rattle.std.proofs.lemmas.Str.{IsCharBoundary-after_ascii}
-use Rattle.contract_parse.specs.declared.token.Kind.{Kind}
-use Rattle.contract_parse.specs.declared.token.Kind.TheVariants.{Word, Number, Date, Mark, End, Stray}
+use Rattle.contract_parse.specs.declared.token.LexemeKind.{LexemeKind}
+use Rattle.contract_parse.specs.declared.token.LexemeKind.TheVariants.{Word, Number, Date, Mark, End, Stray}
 use Rattle.contract_parse.specs.declared.token.Extent.{Extent}
-use Rattle.contract_parse.specs.Tokens.{Tok, are_digits, begins_with_date, begins_with_digit, digits_extent, extent_at, fraction_len, is_date_part, is_digit, is_last, is_letter, is_long_mark, is_short_mark, is_word_byte, mark_extent, mark_len, next_token, number_len, word_extent}
+use Rattle.contract_parse.specs.Tokens.{Tok, begins_with_date, digits_extent, extent_at, fraction_len, is_digit, is_last, is_letter, is_long_mark, is_short_mark, is_word_byte, mark_extent, mark_len, next_lexeme, number_len, word_extent}
 use Rattle.contract_parse.proofs.EntryFacts.{and_parts}
 use Rattle.contract_parse.specs.Cursors.{NextToken}
+use Rattle.contract_parse.proofs.DateShape.{begins_date}
 use Rattle.contract_parse.proofs.TokenFacts.{has_byte, shorter}
-use Rattle.contract_parse.proofs.TokenPlaces.{behind, behind_rest, is_next, rest_place, rest_short, start, start_rest}
+use Rattle.contract_parse.proofs.TokenPositions.{behind, behind_rest, is_next, rest_position, rest_short, start, start_rest}
 
 -- ---- the bytes of tokens are ASCII
 
@@ -61,19 +62,14 @@ number_by bytes zero e more =
     rw whole (prefix_small is_digit bytes digit_small (omega (arith, e, more)))
 number_by bytes (suc n) e more =
     let digits = prefix_len is_digit bytes in
-    let place : number_len bytes - 1 ≡ digits + (fraction_len (drop digits bytes) - 1) = omega (arith, e) in
-    rw (place, sym (get_or-drop digits bytes (fraction_len (drop digits bytes) - 1) 0)) (fraction_small (drop digits bytes) (omega (arith, e)))
+    let position : number_len bytes - 1 ≡ digits + (fraction_len (drop digits bytes) - 1) = omega (arith, e) in
+    rw (position, sym (get_or-drop digits bytes (fraction_len (drop digits bytes) - 1) 0)) (fraction_small (drop digits bytes) (omega (arith, e)))
 
 number_small : (bytes : List ℕ) → 0 < number_len bytes → get_or bytes (number_len bytes - 1) 0 < 128
 number_small bytes more = number_by bytes (fraction_len (drop (prefix_len is_digit bytes) bytes)) refl more
 
 date_small : (bytes : List ℕ) → begins_with_date bytes ≡ true → get_or bytes 9 0 < 128
-date_small (a ∷ b ∷ c ∷ d ∷ h ∷ e ∷ f ∷ i ∷ g ∷ j ∷ bs) is =
-    let behind_year = (and_parts (are_digits a b && are_digits c d) ((is_date_part h e f && is_date_part i g j) && not (begins_with_digit bs)) is).1 in
-    let parts = (and_parts (is_date_part h e f && is_date_part i g j) (not (begins_with_digit bs)) behind_year).0 in
-    let day = (and_parts (is_date_part h e f) (is_date_part i g j) parts).1 in
-    digit_small j (and_parts (is_digit g) (is_digit j) (and_parts (i == 45) (are_digits g j) day).1).1
-date_small _ is = absurd (false≢true is)
+date_small bytes is = digit_small (get_or bytes 9 0) (begins_date bytes is).last
 
 mark_small : (bytes : List ℕ) → 0 < mark_len bytes → get_or bytes (mark_len bytes - 1) 0 < 128
 mark_small [] = λ more. absurd (omega arith)
@@ -119,7 +115,7 @@ edges (b ∷ bs) = cond_both (is_letter b) (word_extent (prefix_len is_word_byte
     (λ none. record { end = λ e. absurd cc; stray = λ e. refl })
     (λ some. record { end = λ e. absurd cc; stray = λ e. absurd cc })))
 
-not_stray : (k : Kind) → (k ≡ Stray → ⊥) → (is_last k ≡ false) ⊎ (k ≡ End)
+not_stray : (k : LexemeKind) → (k ≡ Stray → ⊥) → (is_last k ≡ false) ⊎ (k ≡ End)
 not_stray Word n = inl refl
 not_stray Number n = inl refl
 not_stray Date n = inl refl
@@ -127,7 +123,7 @@ not_stray Mark n = inl refl
 not_stray End n = inr refl
 not_stray Stray n = absurd (n refl)
 
--- ---- the place behind the next token
+-- ---- the position behind the next token
 
 module _ (bytes : List ℕ) (at : ℕ) (inside : at ≤ length bytes) where
   abbrev first : List ℕ
@@ -141,8 +137,8 @@ module _ (bytes : List ℕ) (at : ℕ) (inside : at ≤ length bytes) where
       let len = (extent_at first).len in
       let has : 0 < len = has_byte first more in
       let sizes : length after ≡ length first - len = length-drop len first in
-      let place : length bytes - length after - 1 ≡ length bytes - length first + (len - 1) = omega (arith, has, sizes, within, rest_short bytes first (start_rest bytes at inside)) in
-      rw (place, sym (get_or-drop (length bytes - length first) bytes (len - 1) 0), rest_place bytes first (start_rest bytes at inside)) (last_small first more has)
+      let position : length bytes - length after - 1 ≡ length bytes - length first + (len - 1) = omega (arith, has, sizes, within, rest_short bytes first (start_rest bytes at inside)) in
+      rw (position, sym (get_or-drop (length bytes - length first) bytes (len - 1) 0), rest_position bytes first (start_rest bytes at inside)) (last_small first more has)
 
   behind_token : IsUtf8 bytes → is_last (extent_at first).kind ≡ false → IsCharBoundary bytes (length bytes - length after)
   behind_token utf8 more = (omega arith, λ within high. (at_last within).1 within high)
@@ -160,15 +156,15 @@ module _ (bytes : List ℕ) (at : ℕ) (inside : at ≤ length bytes) where
       let e : length bytes - length after ≡ length bytes = omega (arith, length-drop (extent_at first).len first, (edges first).end is) in
       rw e (omega arith, λ within. absurd (omega arith))
 
-  boundary : IsUtf8 bytes → ((next_token (drop at bytes)).0.kind ≡ Stray → ⊥) → IsCharBoundary bytes (length bytes - length (next_token (drop at bytes)).1)
-  unfolding next_token
+  boundary : IsUtf8 bytes → ((next_lexeme (drop at bytes)).0.kind ≡ Stray → ⊥) → IsCharBoundary bytes (length bytes - length (next_lexeme (drop at bytes)).1)
+  unfolding next_lexeme
   boundary utf8 other = elim (not_stray (extent_at first).kind other) [
     | inl more ↦ behind_token utf8 more
     | inr end ↦ at_end end
   ]
 
-  stays : (next_token (drop at bytes)).0.kind ≡ Stray → length bytes - (next_token (drop at bytes)).0.left ≡ length bytes - length (next_token (drop at bytes)).1
-  unfolding next_token
+  stays : (next_lexeme (drop at bytes)).0.kind ≡ Stray → length bytes - (next_lexeme (drop at bytes)).0.left ≡ length bytes - length (next_lexeme (drop at bytes)).1
+  unfolding next_lexeme
   stays is = let none = (edges first).stray is in omega (arith, none, length-drop (extent_at first).len first)
 
 -- what is said of the next token and of the bytes behind it
@@ -180,8 +176,8 @@ pub record Found (bytes : List ℕ) (at : ℕ) (p : Tok × List ℕ) : Type 0 wh
   pub stays : p.0.kind ≡ Stray → length bytes - p.0.left ≡ length bytes - length p.1
   pub boundary : IsUtf8 bytes → (p.0.kind ≡ Stray → ⊥) → IsCharBoundary bytes (length bytes - length p.1)
 
-found_next : (bytes : List ℕ) (at : ℕ) → at ≤ length bytes → Found bytes at (next_token (drop at bytes))
-unfolding next_token
+found_next : (bytes : List ℕ) (at : ℕ) → at ≤ length bytes → Found bytes at (next_lexeme (drop at bytes))
+unfolding next_lexeme
 found_next bytes at inside = record {
   left = rest_short bytes (start bytes at inside) (start_rest bytes at inside);
   few = rest_short bytes (behind bytes at inside) (behind_rest bytes at inside);
@@ -191,5 +187,5 @@ found_next bytes at inside = record {
   boundary = boundary bytes at inside;
 }
 
-pub found : (bytes : List ℕ) (at : ℕ) → at ≤ length bytes → (p : Tok × List ℕ) → p ≡ next_token (drop at bytes) → Found bytes at p
+pub found : (bytes : List ℕ) (at : ℕ) → at ≤ length bytes → (p : Tok × List ℕ) → p ≡ next_lexeme (drop at bytes) → Found bytes at p
 found bytes at inside p is = subst (λ (q : Tok × List ℕ). Found bytes at q) (sym is) (found_next bytes at inside)

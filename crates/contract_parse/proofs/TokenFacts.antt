@@ -4,9 +4,9 @@ use Rattle.std.specs.List.{prefix_len}
 use Rattle.std.specs.Prelude.{◌==◌, nat_lt, not}
 use Rattle.std.proofs.lemmas.Bool.{cases_Bool, false≢true}
 use Rattle.std.proofs.lemmas.Bool.Decides.{nat_tests}
-use Rattle.contract_parse.specs.declared.token.Kind.TheVariants.{Word, Number, Date, Mark, Stray}
+use Rattle.contract_parse.specs.declared.token.LexemeKind.TheVariants.{Word, Number, Date, Mark, Stray}
 use Rattle.contract_parse.specs.declared.token.Extent.{Extent}
-use Rattle.contract_parse.specs.Tokens.{Tok, after_gap, begins_with_date, digits_extent, extent_at, is_blank, is_digit, is_last, is_letter, is_word_byte, mark_extent, mark_len, next_token, number_len, tokens, tokens_from, word_extent}
+use Rattle.contract_parse.specs.Tokens.{Tok, after_gap, begins_with_date, digits_extent, extent_at, is_blank, is_digit, is_last, is_letter, is_word_byte, mark_extent, mark_len, next_lexeme, number_len, tokens, tokens_from, word_extent}
 
 one_of_three : (blank hash : Bool) (x y z : List ℕ) (n : ℕ) → length x ≤ n → length y ≤ n → length z ≤ suc n → length (cond blank x (cond hash y z)) ≤ suc n
 one_of_three true hash x y z n p q r = omega arith
@@ -59,21 +59,21 @@ unfolding extent_at
 not_empty [] e = absurd (false≢true (sym e))
 not_empty (b ∷ bs) e = omega arith
 
-pub shorter : (bytes : List ℕ) → is_last (next_token bytes).0.kind ≡ false → length (next_token bytes).1 < length bytes
-unfolding next_token
+pub shorter : (bytes : List ℕ) → is_last (next_lexeme bytes).0.kind ≡ false → length (next_lexeme bytes).1 < length bytes
+unfolding next_lexeme
 shorter bytes e =
     let start = after_gap false bytes in
     omega (arith, has_byte start e, not_empty start e, length-drop (extent_at start).len start, gap_shorter false bytes)
 
-pub within : (bytes : List ℕ) → length (next_token bytes).1 ≤ length bytes
-unfolding next_token
+pub within : (bytes : List ℕ) → length (next_lexeme bytes).1 ≤ length bytes
+unfolding next_lexeme
 within bytes =
     let start = after_gap false bytes in
     omega (arith, length-drop (extent_at start).len start, gap_shorter false bytes)
 
 -- the bytes behind such a token are fewer than those from it on
-pub behind_shorter : (bytes : List ℕ) → is_last (next_token bytes).0.kind ≡ false → length (next_token bytes).1 < (next_token bytes).0.left
-unfolding next_token
+pub behind_shorter : (bytes : List ℕ) → is_last (next_lexeme bytes).0.kind ≡ false → length (next_lexeme bytes).1 < (next_lexeme bytes).0.left
+unfolding next_lexeme
 behind_shorter bytes e =
     let start = after_gap false bytes in
     omega (arith, has_byte start e, not_empty start e, length-drop (extent_at start).len start)
@@ -83,22 +83,22 @@ enough : (m n : ℕ) (bytes : List ℕ) → length bytes < m → length bytes < 
 unfolding tokens_from
 enough zero n bytes p q = absurd (omega arith)
 enough (suc m) zero bytes p q = absurd (omega arith)
-enough (suc m) (suc n) bytes p q = elim (cases_Bool (is_last (next_token bytes).0.kind)) [
+enough (suc m) (suc n) bytes p q = elim (cases_Bool (is_last (next_lexeme bytes).0.kind)) [
   | inl last ↦ rw last refl
-  | inr more ↦ rw more (ap (λ ts. (next_token bytes).0 ∷ ts) (enough m n (next_token bytes).1 (omega (arith, shorter bytes more)) (omega (arith, shorter bytes more))))
+  | inr more ↦ rw more (ap (λ ts. (next_lexeme bytes).0 ∷ ts) (enough m n (next_lexeme bytes).1 (omega (arith, shorter bytes more)) (omega (arith, shorter bytes more))))
 ]
 
-pub tokens_next : (bytes : List ℕ) → tokens bytes ≡ (next_token bytes).0 ∷ cond (is_last (next_token bytes).0.kind) [] (tokens (next_token bytes).1)
+pub tokens_next : (bytes : List ℕ) → tokens bytes ≡ (next_lexeme bytes).0 ∷ cond (is_last (next_lexeme bytes).0.kind) [] (tokens (next_lexeme bytes).1)
 unfolding tokens tokens_from
-tokens_next bytes = elim (cases_Bool (is_last (next_token bytes).0.kind)) [
+tokens_next bytes = elim (cases_Bool (is_last (next_lexeme bytes).0.kind)) [
   | inl last ↦ rw last refl
-  | inr more ↦ rw more (ap (λ ts. (next_token bytes).0 ∷ ts) (enough (length bytes) (suc (length (next_token bytes).1)) (next_token bytes).1 (shorter bytes more) (omega arith)))
+  | inr more ↦ rw more (ap (λ ts. (next_lexeme bytes).0 ∷ ts) (enough (length bytes) (suc (length (next_lexeme bytes).1)) (next_lexeme bytes).1 (shorter bytes more) (omega arith)))
 ]
 
-pub within_pair : (bytes : List ℕ) (p : Tok × List ℕ) → next_token bytes ≡ p → length p.1 ≤ length bytes
+pub within_pair : (bytes : List ℕ) (p : Tok × List ℕ) → next_lexeme bytes ≡ p → length p.1 ≤ length bytes
 within_pair bytes p is = omega (arith, within bytes, ap (λ (q : Tok × List ℕ). length q.1) is)
 
-pub shorter_pair : (bytes : List ℕ) (p : Tok × List ℕ) → next_token bytes ≡ p → is_last p.0.kind ≡ false → length p.1 < length bytes
+pub shorter_pair : (bytes : List ℕ) (p : Tok × List ℕ) → next_lexeme bytes ≡ p → is_last p.0.kind ≡ false → length p.1 < length bytes
 shorter_pair bytes p is more =
-    let at : is_last (next_token bytes).0.kind ≡ false = ap (λ (q : Tok × List ℕ). is_last q.0.kind) is ∙ more in
+    let at : is_last (next_lexeme bytes).0.kind ≡ false = ap (λ (q : Tok × List ℕ). is_last q.0.kind) is ∙ more in
     omega (arith, shorter bytes at, ap (λ (q : Tok × List ℕ). length q.1) is)

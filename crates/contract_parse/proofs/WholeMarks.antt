@@ -7,33 +7,33 @@ use Rattle.std.specs.Str.{bytes_eq}
 use Rattle.std.proofs.lemmas.Bool.{cases_Bool}
 use Rattle.std.proofs.lemmas.Slice.Eq.{bytes_eq-Decides}
 use Rattle.std.proofs.lemmas.Bool.Decides.{nat_tests}
-use Rattle.contract_parse.specs.declared.token.Kind.TheVariants.{Mark}
-use Rattle.contract_parse.specs.Tokens.{extent_at, next_token, tokens}
+use Rattle.contract_parse.specs.declared.token.LexemeKind.TheVariants.{Mark}
+use Rattle.contract_parse.specs.Tokens.{extent_at, next_lexeme, tokens}
 use Rattle.contract_parse.specs.Words.{Bytes, is_the_mark, is_whole_mark}
 use Rattle.contract_parse.specs.Reading.{LacksMark}
 use Rattle.contract_parse.proofs.TokenFacts.{tokens_next}
 
 -- a byte that is a mark whatever stands behind it
 abbrev pub Whole : ℕ → Type 0
-Whole b = (bytes : List ℕ) → next_token (b ∷ bytes) ≡ (record { kind = Mark; text = b ∷ []; left = suc (length bytes) }, bytes)
+Whole b = (bytes : List ℕ) → next_lexeme (b ∷ bytes) ≡ (record { kind = Mark; text = b ∷ []; left = suc (length bytes) }, bytes)
 
 open_whole : Whole 40
-unfolding next_token extent_at
+unfolding next_lexeme extent_at
 open_whole [] = refl
 open_whole (b ∷ bs) = refl
 
 close_whole : Whole 41
-unfolding next_token extent_at
+unfolding next_lexeme extent_at
 close_whole [] = refl
 close_whole (b ∷ bs) = refl
 
 comma_whole : Whole 44
-unfolding next_token extent_at
+unfolding next_lexeme extent_at
 comma_whole [] = refl
 comma_whole (b ∷ bs) = refl
 
 semicolon_whole : Whole 59
-unfolding next_token extent_at
+unfolding next_lexeme extent_at
 semicolon_whole [] = refl
 semicolon_whole (b ∷ bs) = refl
 

@@ -35,8 +35,8 @@ pub data Whole {N : Type 0} (forms : Grammar N) : Form N → List Tok → List T
   again : {symbol : N} {parts : Form N} {ts rest : List Tok} → Whole forms (Nonterminal symbol ∷ Repeated symbol ∷ parts) ts rest
       → Whole forms (Repeated symbol ∷ parts) ts rest
 
--- any number of leading parts, none included, each whole, and then a front of the next part: of a token's place the
--- empty list or that token, of a symbol a front of one of its forms
+-- any number of leading parts, none included, each whole, and then a front of the next part: of a token the empty
+-- list or that token, of a symbol a front of one of its forms
 pub data Front {N : Type 0} (forms : Grammar N) : Form N → List Tok → Type 0 where
   empty : {parts : Form N} → Front forms parts []
   at_token : {test : Tok → Bool} {parts : Form N} {t : Tok} → test t ≡ true → Front forms (Terminal test ∷ parts) (t ∷ [])

@@ -6,7 +6,7 @@ use Rattle.term_core.specs.Books.{Book}
 use Rattle.contract_parse.specs.Tokens.{Tok, tokens}
 use Rattle.contract_parse.specs.Lines.{line_at, column_at}
 use Rattle.contract_parse.specs.Names.{nothing_declared}
-use Rattle.contract_parse.specs.Places.{Place, Open, Stops, places_of, run}
+use Rattle.contract_parse.specs.Expecting.{Expected, Open, Stops, expected_of, run}
 use Rattle.contract_parse.specs.Fronts.{IsFront, IsWhole}
 use Rattle.contract_parse.specs.Texts.{Text, IsFault}
 use Rattle.contract_parse.specs.declared.heads.Language.{Language}
@@ -23,7 +23,7 @@ pub record EndsFront (l : Language) (before : List Tok) (t : Tok) (kind : TextKi
 abbrev pub RefusedTokensEndFronts : Type 0
 RefusedTokensEndFronts =
     (l : Language) (bytes : List ℕ) (before after : List Tok) (t : Tok) (kind : TextKind)
-    → tokens bytes ≡ before ++ t ∷ after → run nothing_declared (places_of l) (tokens bytes) ≡ Stops kind t.left → EndsFront l before t kind
+    → tokens bytes ≡ before ++ t ∷ after → run nothing_declared (expected_of l) (tokens bytes) ≡ Stops kind t.left → EndsFront l before t kind
 
 -- the token of a text that is refused where so many bytes are left
 pub record RefusedToken (l : Language) (bytes : List ℕ) (kind : TextKind) (left : ℕ) : Type 0 where
@@ -38,7 +38,7 @@ pub record RefusedToken (l : Language) (bytes : List ℕ) (kind : TextKind) (lef
 abbrev pub RefusalsEndFronts : Type 0
 RefusalsEndFronts =
     (l : Language) (bytes : List ℕ) (kind : TextKind) (left : ℕ)
-    → run nothing_declared (places_of l) (tokens bytes) ≡ Stops kind left → RefusedToken l bytes kind left
+    → run nothing_declared (expected_of l) (tokens bytes) ≡ Stops kind left → RefusedToken l bytes kind left
 
 -- the token of a text at which it has its fault
 pub record FaultyToken (l : Language) (bytes : List ℕ) (f : TextFault) : Type 0 where
@@ -54,20 +54,20 @@ FaultsEndFronts = (bytes : List ℕ) (f : TextFault) → IsUtf8 bytes → IsFaul
 -- where no rule failed before, the first token with which there is no front is at fault, and of Syntax
 abbrev pub FrontsEndInSyntax : Type 0
 FrontsEndInSyntax =
-    (l : Language) (bytes : List ℕ) (before after : List Tok) (t : Tok) (ps : List Place)
-    → tokens bytes ≡ before ++ t ∷ after → run nothing_declared (places_of l) before ≡ Open ps → (IsFront l (before ++ t ∷ []) → ⊥)
-    → run nothing_declared (places_of l) (tokens bytes) ≡ Stops Syntax t.left
+    (l : Language) (bytes : List ℕ) (before after : List Tok) (t : Tok) (ps : List Expected)
+    → tokens bytes ≡ before ++ t ∷ after → run nothing_declared (expected_of l) before ≡ Open ps → (IsFront l (before ++ t ∷ []) → ⊥)
+    → run nothing_declared (expected_of l) (tokens bytes) ≡ Stops Syntax t.left
 
 -- the tokens of a portfolio's text are whole
 abbrev pub TextsAreWhole : Type 0
 TextsAreWhole = (bytes : List ℕ) (b : Book) → Text bytes b → IsWhole Language.Contracts (tokens bytes)
 
--- tokens over which nothing is refused are a front, and whole where no place is left
+-- tokens over which nothing is refused are a front, and whole where nothing more is expected
 abbrev pub TakenTokensAreFronts : Type 0
-TakenTokensAreFronts = (l : Language) (ts : List Tok) (ps : List Place) → run nothing_declared (places_of l) ts ≡ Open ps → IsFront l ts
+TakenTokensAreFronts = (l : Language) (ts : List Tok) (ps : List Expected) → run nothing_declared (expected_of l) ts ≡ Open ps → IsFront l ts
 
 abbrev pub TakenTextsAreWhole : Type 0
-TakenTextsAreWhole = (l : Language) (ts : List Tok) → run nothing_declared (places_of l) ts ≡ Open [] → IsWhole l ts
+TakenTextsAreWhole = (l : Language) (ts : List Tok) → run nothing_declared (expected_of l) ts ≡ Open [] → IsWhole l ts
 
 -- a front is what goes on to a whole
 abbrev pub FrontsGoOn : Type 0

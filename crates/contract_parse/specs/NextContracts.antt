@@ -15,12 +15,12 @@ use Rattle.contract_parse.specs.Versions.{version_of}
 use Rattle.contract_parse.specs.Names.{declared_by, is_declared, nothing_declared}
 use Rattle.contract_parse.specs.Spelling.{Part, ◌⨟◌, contr, end}
 use Rattle.contract_parse.specs.Statements.{Entry, Repeat, contract_line, portfolio}
-use Rattle.contract_parse.specs.Places.{Fails, places_behind, run, text_places}
+use Rattle.contract_parse.specs.Expecting.{Fails, expected_behind, run, text_expected}
 use Rattle.contract_parse.specs.Reading.{tokens_ahead}
 use Rattle.contract_parse.specs.Texts.{IsFault, Text}
 use Rattle.contract_parse.specs.declared.faults.ParseErr.{ParseErr}
 use Rattle.contract_parse.specs.declared.faults.ParseErr.TheVariants as err
-use Rattle.contract_parse.specs.declared.faults.ReadErr.{ReadErr}
+use Rattle.contract_parse.specs.declared.faults.PartErr.{PartErr}
 use Rattle.contract_parse.specs.declared.faults.TextFault.{TextFault}
 use Rattle.contract_parse.specs.declared.next_contracts.ContractReader.{ContractReader}
 use Rattle.contract_parse.specs.declared.next_contracts.NextContract.{NextContract}
@@ -43,8 +43,8 @@ pub record HasTokens (d : Declarations) (c : Contract) : Type 0 where
   pub behind : List Tok
   pub spelled : contr (declared_by d []) [] c before behind
 
--- of a text with these declarations so many contracts are read: its places go on from here, and
--- what follows completes it
+-- of a text with these declarations so many contracts are read: what is expected goes on from here,
+-- and what follows completes it
 pub record IsReadTo (bytes : List ℕ) (d : Declarations) (entries : List (Name × Contract))
     (reader : ContractReader) : Type 0 where
   pub text : reader.text.bytes.now ≡ bytes
@@ -53,8 +53,8 @@ pub record IsReadTo (bytes : List ℕ) (d : Declarations) (entries : List (Name 
   pub within : length reader.ahead.after.now ≤ length bytes
   pub named : keys_of entries ≡ reader.names.keys
   pub follows :
-      run nothing_declared text_places (tokens bytes)
-      ≡ run (declared_by d reader.names.keys) (places_behind (version_of d.version))
+      run nothing_declared text_expected (tokens bytes)
+      ≡ run (declared_by d reader.names.keys) (expected_behind (version_of d.version))
       (tokens_ahead reader.ahead)
   pub completed :
       (all : List (Name × Contract))
@@ -85,11 +85,11 @@ AnswersNext bytes d entries after (Err err.NoMemory) = Unit {0}
 -- the same while a fault has no line and no column
 abbrev pub ReadsNext :
     List ℕ → Declarations → List (Name × Contract) → ContractReader
-    → Result (Option NextContract) ReadErr → Type 0
+    → Result (Option NextContract) PartErr → Type 0
 ReadsNext bytes d entries after (Ok (Some next)) = IsNext bytes d entries after next
 ReadsNext bytes d entries after (Ok None) =
     Text bytes (record { declarations = d; contracts = entries })
-ReadsNext bytes d entries after (Err e) = Fails e (run nothing_declared text_places (tokens bytes))
+ReadsNext bytes d entries after (Err e) = Fails e (run nothing_declared text_expected (tokens bytes))
 
 -- whatever has been read of whichever text
 abbrev pub GoesOn :
@@ -99,7 +99,7 @@ GoesOn d before after result =
     → AnswersNext bytes d entries after result
 
 abbrev pub ReadsOn :
-    Declarations → ContractReader → ContractReader → Result (Option NextContract) ReadErr → Type 0
+    Declarations → ContractReader → ContractReader → Result (Option NextContract) PartErr → Type 0
 ReadsOn d before after result =
     (bytes : List ℕ) (entries : List (Name × Contract)) → IsReadTo bytes d entries before
     → ReadsNext bytes d entries after result

@@ -9,14 +9,14 @@ use Rattle.contract_parse.specs.Words.{Bytes, is_the_mark, is_the_word}
 use Rattle.contract_parse.specs.Names.{DeclaredNames, declared_by}
 use Rattle.contract_parse.specs.declared.heads.Operator.{Operator}
 use Rattle.contract_parse.specs.declared.heads.Operator.TheVariants as operator
-use Rattle.contract_parse.specs.declared.token.Kind.{Kind}
+use Rattle.contract_parse.specs.declared.token.LexemeKind.{LexemeKind}
 use Rattle.contract_parse.specs.declared.token.Lexeme.{Lexeme}
 use Rattle.contract_parse.specs.declared.words.Lookahead.{Lookahead}
 
 abbrev pub tok_of : Lexeme → Tok
 tok_of t = record { kind = t.kind; text = t.text.now; left = t.left }
 
-abbrev pub tokens_after : Kind → List ℕ → List Tok
+abbrev pub tokens_after : LexemeKind → List ℕ → List Tok
 tokens_after kind rest = if is_last kind then [] else tokens rest
 
 -- the tokens from one on that is read ahead

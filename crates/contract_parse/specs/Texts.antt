@@ -8,7 +8,7 @@ use Rattle.contract_parse.specs.Tokens.{tokens}
 use Rattle.contract_parse.specs.Lines.{line_at, column_at}
 use Rattle.contract_parse.specs.Names.{nothing_declared}
 use Rattle.contract_parse.specs.Statements.{portfolio}
-use Rattle.contract_parse.specs.Places.{Stops, places_of, run}
+use Rattle.contract_parse.specs.Expecting.{Stops, expected_of, run}
 use Rattle.contract_parse.specs.declared.faults.TextKind.{TextKind}
 use Rattle.contract_parse.specs.declared.faults.TextKind.TheVariants.{Utf8}
 use Rattle.contract_parse.specs.declared.faults.TextFault.{TextFault}
@@ -22,11 +22,11 @@ pub record Text (bytes : List ℕ) (b : Book) : Type 0 where
   pub spelled : portfolio b (tokens bytes) []
 
 -- the kind and the position of the first fault: what is no UTF-8 comes before all, at the first byte after the longest
--- prefix that is; else it is the first token that the places of the language refuse
+-- prefix that is; else it is the first token that the grammar of the language refuses
 pub data FirstTextFault (l : Language) (bytes : List ℕ) : TextKind → ℕ → Type 0 where
   no_utf8 : {at : ℕ} → (IsUtf8 bytes → ⊥) → IsValidUpTo bytes at → FirstTextFault l bytes Utf8 at
   refused : {kind : TextKind} {left : ℕ} → IsUtf8 bytes
-      → run nothing_declared (places_of l) (tokens bytes) ≡ Stops kind left → FirstTextFault l bytes kind (length bytes - left)
+      → run nothing_declared (expected_of l) (tokens bytes) ≡ Stops kind left → FirstTextFault l bytes kind (length bytes - left)
 
 -- the first fault of the bytes, with its line and column
 pub record IsTextFault (l : Language) (bytes : List ℕ) (f : TextFault) : Type 0 where

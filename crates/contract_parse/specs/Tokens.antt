@@ -1,15 +1,16 @@
 -- The tokens of a text: words, dates, numbers and marks, and the end. Between them stand blanks and comments. The
 -- longest token is taken, and a date comes before a number. A sign is a mark of its own.
-use Rattle.std.specs.Prelude.{ℕ, zero, suc, ◌+◌, ◌==◌, ◌&&◌, ◌||◌, not, Bool, true, false, List, [], ◌∷◌, length, take, drop, nat_le, nat_lt, if◌then◌else◌}
+use Rattle.std.specs.Prelude.{ℕ, zero, suc, ◌+◌, ◌==◌, ◌&&◌, ◌||◌, not, Bool, true, false, List, [], ◌∷◌, length, take, drop, is_some, nat_le, nat_lt, if◌then◌else◌}
 use Rattle.std.specs.List.{prefix_len}
 pub use Rattle.decimal.specs.Reading.{is_digit}
-use Rattle.contract_parse.specs.declared.token.Kind.{Kind}
-use Rattle.contract_parse.specs.declared.token.Kind.TheVariants.{Word, Number, Date, Mark, End, Stray}
+use Rattle.term_core.specs.Dates.{parts_of}
+use Rattle.contract_parse.specs.declared.token.LexemeKind.{LexemeKind}
+use Rattle.contract_parse.specs.declared.token.LexemeKind.TheVariants.{Word, Number, Date, Mark, End, Stray}
 use Rattle.contract_parse.specs.declared.token.Extent.{Extent}
 
 -- a token: its kind, its text, and how many bytes are left where it begins
 pub record Tok : Type 0 where
-  pub kind : Kind
+  pub kind : LexemeKind
   pub text : List ℕ
   pub left : ℕ
 
@@ -41,18 +42,9 @@ abbrev pub begins_with_digit : List ℕ → Bool
 begins_with_digit [] = false
 begins_with_digit (b ∷ bs) = is_digit b
 
-abbrev pub are_digits : ℕ → ℕ → Bool
-are_digits a b = is_digit a && is_digit b
-
--- a hyphen and two digits
-abbrev pub is_date_part : ℕ → ℕ → ℕ → Bool
-is_date_part h a b = (h == 45) && are_digits a b
-
--- `dddd-dd-dd`, and no digit after
+-- a text `dddd-dd-dd`, and no digit after
 abbrev pub begins_with_date : List ℕ → Bool
-begins_with_date (a ∷ b ∷ c ∷ d ∷ h ∷ e ∷ f ∷ i ∷ g ∷ j ∷ bs) =
-    (are_digits a b && are_digits c d) && ((is_date_part h e f && is_date_part i g j) && not (begins_with_digit bs))
-begins_with_date _ = false
+begins_with_date bytes = is_some (parts_of (take 10 bytes)) && not (begins_with_digit (drop 10 bytes))
 
 -- `<=`, `>=`, `!=` and `..`
 abbrev pub is_long_mark : ℕ → ℕ → Bool
@@ -92,11 +84,11 @@ abbrev pub token_at : List ℕ → Tok
 token_at bytes = record { kind = (extent_at bytes).kind; text = take (extent_at bytes).len bytes; left = length bytes }
 
 -- the next token, and the bytes after it
-unfoldable pub next_token : List ℕ → Tok × List ℕ
-next_token bytes = let start = after_gap false bytes in (token_at start, drop (extent_at start).len start)
+unfoldable pub next_lexeme : List ℕ → Tok × List ℕ
+next_lexeme bytes = let start = after_gap false bytes in (token_at start, drop (extent_at start).len start)
 
 -- no token follows the end, nor a byte at which none begins
-abbrev pub is_last : Kind → Bool
+abbrev pub is_last : LexemeKind → Bool
 is_last End = true
 is_last Stray = true
 is_last Word = false
@@ -107,7 +99,7 @@ is_last Mark = false
 unfoldable pub tokens_from : ℕ → List ℕ → List Tok
 tokens_from zero bytes = []
 tokens_from (suc fuel) bytes =
-    (next_token bytes).0 ∷ (if is_last (next_token bytes).0.kind then [] else tokens_from fuel (next_token bytes).1)
+    (next_lexeme bytes).0 ∷ (if is_last (next_lexeme bytes).0.kind then [] else tokens_from fuel (next_lexeme bytes).1)
 
 -- the tokens of a text, up to the end or to the byte at which none begins
 unfoldable pub tokens : List ℕ → List Tok

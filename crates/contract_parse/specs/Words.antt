@@ -3,14 +3,14 @@ use Rattle.std.specs.Prelude.{ℕ, Bool, true, false, ◌&&◌, ◌||◌, ◌==�
 use Rattle.std.specs.List.{list_any, list_all}
 use Rattle.std.specs.Str.{bytes_eq}
 use Rattle.contract_parse.specs.Tokens.{Tok}
-use Rattle.contract_parse.specs.declared.token.Kind.{Kind}
-use Rattle.contract_parse.specs.declared.token.Kind.TheVariants.{Word, Number, Date, Mark, End, Stray}
+use Rattle.contract_parse.specs.declared.token.LexemeKind.{LexemeKind}
+use Rattle.contract_parse.specs.declared.token.LexemeKind.TheVariants.{Word, Number, Date, Mark, End, Stray}
 
 -- what a token or a name is written with
 abbrev pub Bytes : Type 0
 Bytes = List ℕ
 
-abbrev pub is_word_kind : Kind → Bool
+abbrev pub is_word_kind : LexemeKind → Bool
 is_word_kind Word = true
 is_word_kind Number = false
 is_word_kind Date = false
@@ -18,7 +18,7 @@ is_word_kind Mark = false
 is_word_kind End = false
 is_word_kind Stray = false
 
-abbrev pub is_number_kind : Kind → Bool
+abbrev pub is_number_kind : LexemeKind → Bool
 is_number_kind Word = false
 is_number_kind Number = true
 is_number_kind Date = false
@@ -26,7 +26,7 @@ is_number_kind Mark = false
 is_number_kind End = false
 is_number_kind Stray = false
 
-abbrev pub is_date_kind : Kind → Bool
+abbrev pub is_date_kind : LexemeKind → Bool
 is_date_kind Word = false
 is_date_kind Number = false
 is_date_kind Date = true
@@ -34,7 +34,7 @@ is_date_kind Mark = false
 is_date_kind End = false
 is_date_kind Stray = false
 
-abbrev pub is_mark_kind : Kind → Bool
+abbrev pub is_mark_kind : LexemeKind → Bool
 is_mark_kind Word = false
 is_mark_kind Number = false
 is_mark_kind Date = false
@@ -42,7 +42,7 @@ is_mark_kind Mark = true
 is_mark_kind End = false
 is_mark_kind Stray = false
 
-abbrev pub is_end_kind : Kind → Bool
+abbrev pub is_end_kind : LexemeKind → Bool
 is_end_kind Word = false
 is_end_kind Number = false
 is_end_kind Date = false

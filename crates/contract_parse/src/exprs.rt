@@ -5,16 +5,16 @@ ghost use Rattle.term_core.specs.Terms.{Lit, expression};
 ghost use Rattle.term_core.specs.Sizes.{height};
 ghost use Rattle.contract_parse.specs.Words.{Bytes};
 ghost use Rattle.contract_parse.specs.Names.{DeclaredNames};
-ghost use Rattle.contract_parse.specs.Frames.{PassesAt, expr_place, expression_at, names_at, places_behind_first};
+ghost use Rattle.contract_parse.specs.Frames.{PassesAt, an_expression_here, expression_at, names_at, expected_behind_first};
 ghost use Rattle.contract_parse.specs.Judgements.{binder_at, integer_at, mode_at};
 ghost use Rattle.contract_parse.specs.Spelling.{expr, mark, pair, valued, ◌⨟◌};
-ghost use Rattle.contract_parse.specs.Places.{BinderAt, IntegerAt, LiteralNumber, ModeAt, TheMark, binder_places, operand_places, pair_places};
+ghost use Rattle.contract_parse.specs.Expecting.{BinderAt, IntegerAt, LiteralNumber, ModeAt, TheMark, binder_expected, operand_expected, pair_expected};
 ghost use Rattle.contract_parse.specs.Reading.{joined};
 ghost use Rattle.contract_parse.specs.Heads.{greatest_depth};
 ghost use Rattle.contract_parse.specs.Readers.{Binds, KeepsLeaves, PassesAnywhere, Reads, behind_part, behind_sign, behind_word, first_token};
 ghost use Rattle.contract_parse.specs.declared.heads.Binder.{Binder};
 
-use crate::faults::ReadErr;
+use crate::faults::PartErr;
 use crate::frame::Frame;
 use crate::heads::{First, Operator, first_at};
 use crate::judges::refuse;
@@ -48,7 +48,7 @@ fn literal(number: Decimal) -> Expr
 
 // The scale behind a mark, in `widen`, `round` and `div`.
 #[tactic(auto, using(crate::proofs::Parts::followed_by))]
-fn read_scale<'a>(wanted: &[u8], rest: &'a [u8]) -> Result<(u8, &'a [u8]), ReadErr>
+fn read_scale<'a>(wanted: &[u8], rest: &'a [u8]) -> Result<(u8, &'a [u8]), PartErr>
     ensures reads { Reads (PassesAnywhere (λ ps. TheMark wanted.now ∷ IntegerAt 27 ∷ ps))
         (λ r. mark wanted.now ⨟ valued (integer_at 27) r.0) (λ r. r.1.now) rest.now result }
 {
@@ -59,7 +59,7 @@ fn read_scale<'a>(wanted: &[u8], rest: &'a [u8]) -> Result<(u8, &'a [u8]), ReadE
 
 // The mode and the scale in `round` and `div`.
 #[tactic(auto, using(crate::proofs::Parts::followed_by))]
-fn read_rounding(rest: &[u8]) -> Result<(Mode, u8, &[u8]), ReadErr>
+fn read_rounding(rest: &[u8]) -> Result<(Mode, u8, &[u8]), PartErr>
     ensures reads { Reads (PassesAnywhere
         (λ ps. TheMark (codes "(") ∷ ModeAt ∷ TheMark (codes ",") ∷ IntegerAt 27 ∷ ps))
         (λ r. mark (codes "(") ⨟ valued mode_at r.0 ⨟ mark (codes ",") ⨟ valued (integer_at 27) r.1)
@@ -73,7 +73,7 @@ fn read_rounding(rest: &[u8]) -> Result<(Mode, u8, &[u8]), ReadErr>
 
 // The name that `acc` binds.
 #[tactic(auto, using(crate::proofs::Parts::followed_by))]
-fn read_bound_name(rest: &[u8]) -> Result<(&[u8], &[u8]), ReadErr>
+fn read_bound_name(rest: &[u8]) -> Result<(&[u8], &[u8]), PartErr>
     ensures reads { Reads (Binds (λ r. r.0.now) (λ binder ps. TheMark (codes "(") ∷ binder ∷ ps))
         (λ r. mark (codes "(") ⨟ valued binder_at r.0.now) (λ r. r.1.now) rest.now result }
 {
@@ -83,7 +83,7 @@ fn read_bound_name(rest: &[u8]) -> Result<(&[u8], &[u8]), ReadErr>
 
 // The number of days of `acc`.
 #[tactic(auto, using(crate::proofs::Parts::followed_by))]
-fn read_days_back(rest: &[u8]) -> Result<(u32, &[u8]), ReadErr>
+fn read_days_back(rest: &[u8]) -> Result<(u32, &[u8]), PartErr>
     ensures reads { Reads (PassesAnywhere (λ ps. TheMark (codes ",") ∷ IntegerAt most_days ∷ ps))
         (λ r. mark (codes ",") ⨟ valued (integer_at most_days) r.0) (λ r. r.1.now) rest.now result }
 {
@@ -92,7 +92,7 @@ fn read_days_back(rest: &[u8]) -> Result<(u32, &[u8]), ReadErr>
 }
 
 // A literal behind its sign.
-fn read_negative(rest: &[u8]) -> Result<(Expr, &[u8]), ReadErr>
+fn read_negative(rest: &[u8]) -> Result<(Expr, &[u8]), PartErr>
     ensures reads { Reads (PassesAnywhere (λ ps. LiteralNumber true ∷ ps)) (λ r. behind_sign r.0)
         (λ r. r.1.now) rest.now result }
     ensures high { IfOk result (λ r. height (expression r.0) ≡ 1) }
@@ -108,8 +108,9 @@ fn read_boxed<'a, L: LeafReader>(
     leaves: &mut L,
     frame: &Frame,
     rest: &'a [u8],
-) -> Result<(Box<Expr>, &'a [u8]), ReadErr>
-    ensures reads { Reads (PassesAt frame.now (λ s ps. expr_place L.LANGUAGE frame.now ∷ ps))
+) -> Result<(Box<Expr>, &'a [u8]), PartErr>
+    ensures reads { Reads
+        (PassesAt frame.now (λ s ps. an_expression_here L.LANGUAGE frame.now ∷ ps))
         (λ r. expression_at (L.leaf leaves.new) frame.now r.0.value)
         (λ r. r.1.now) rest.now result }
     ensures high { IfOk result
@@ -130,9 +131,9 @@ fn read_behind<'a, L: LeafReader>(
     frame: &Frame,
     wanted: &[u8],
     rest: &'a [u8],
-) -> Result<(Box<Expr>, &'a [u8]), ReadErr>
+) -> Result<(Box<Expr>, &'a [u8]), PartErr>
     ensures reads { Reads (PassesAt frame.now (λ s ps.
-        TheMark wanted.now ∷ expr_place L.LANGUAGE frame.now ∷ ps))
+        TheMark wanted.now ∷ an_expression_here L.LANGUAGE frame.now ∷ ps))
         (λ r. mark wanted.now ⨟ expression_at (L.leaf leaves.new) frame.now r.0.value)
         (λ r. r.1.now) rest.now result }
     ensures high { IfOk result
@@ -151,9 +152,9 @@ fn read_operand<'a, L: LeafReader>(
     leaves: &mut L,
     frame: &Frame,
     rest: &'a [u8],
-) -> Result<(Box<Expr>, &'a [u8]), ReadErr>
+) -> Result<(Box<Expr>, &'a [u8]), PartErr>
     ensures reads { Reads (PassesAt frame.now (λ s ps.
-        operand_places (expr_place L.LANGUAGE frame.now) ps))
+        operand_expected (an_expression_here L.LANGUAGE frame.now) ps))
         (λ r. mark (codes "(") ⨟ expression_at (L.leaf leaves.new) frame.now r.0.value
         ⨟ mark (codes ")"))
         (λ r. r.1.now) rest.now result }
@@ -174,8 +175,9 @@ fn read_neg<'a, L: LeafReader>(
     leaves: &mut L,
     frame: &Frame,
     rest: &'a [u8],
-) -> Result<(Expr, &'a [u8]), ReadErr>
-    ensures reads { Reads (PassesAt frame.now (places_behind_first L.LANGUAGE frame.now First.Neg))
+) -> Result<(Expr, &'a [u8]), PartErr>
+    ensures reads { Reads
+        (PassesAt frame.now (expected_behind_first L.LANGUAGE frame.now First.Neg))
         (λ r. behind_word (codes "neg") (expression_at (L.leaf leaves.new) frame.now r.0))
         (λ r. r.1.now) rest.now result }
     ensures high { IfOk result
@@ -194,8 +196,9 @@ fn read_not<'a, L: LeafReader>(
     leaves: &mut L,
     frame: &Frame,
     rest: &'a [u8],
-) -> Result<(Expr, &'a [u8]), ReadErr>
-    ensures reads { Reads (PassesAt frame.now (places_behind_first L.LANGUAGE frame.now First.Not))
+) -> Result<(Expr, &'a [u8]), PartErr>
+    ensures reads { Reads
+        (PassesAt frame.now (expected_behind_first L.LANGUAGE frame.now First.Not))
         (λ r. behind_word (codes "not") (expression_at (L.leaf leaves.new) frame.now r.0))
         (λ r. r.1.now) rest.now result }
     ensures high { IfOk result
@@ -214,9 +217,10 @@ fn read_pair<'a, L: LeafReader>(
     leaves: &mut L,
     frame: &Frame,
     rest: &'a [u8],
-) -> Result<(Box<Expr>, Box<Expr>, &'a [u8]), ReadErr>
+) -> Result<(Box<Expr>, Box<Expr>, &'a [u8]), PartErr>
     ensures reads { Reads (PassesAt frame.now (λ s ps.
-        pair_places (expr_place L.LANGUAGE frame.now) (expr_place L.LANGUAGE frame.now) ps))
+        pair_expected (an_expression_here L.LANGUAGE frame.now)
+        (an_expression_here L.LANGUAGE frame.now) ps))
         (λ r. pair (expression_at (L.leaf leaves.new) frame.now r.0.value)
         (expression_at (L.leaf leaves.new) frame.now r.1.value))
         (λ r. r.2.now) rest.now result }
@@ -239,8 +243,9 @@ fn read_min<'a, L: LeafReader>(
     leaves: &mut L,
     frame: &Frame,
     rest: &'a [u8],
-) -> Result<(Expr, &'a [u8]), ReadErr>
-    ensures reads { Reads (PassesAt frame.now (places_behind_first L.LANGUAGE frame.now First.Min))
+) -> Result<(Expr, &'a [u8]), PartErr>
+    ensures reads { Reads
+        (PassesAt frame.now (expected_behind_first L.LANGUAGE frame.now First.Min))
         (λ r. behind_word (codes "min") (expression_at (L.leaf leaves.new) frame.now r.0))
         (λ r. r.1.now) rest.now result }
     ensures high { IfOk result
@@ -260,8 +265,9 @@ fn read_max<'a, L: LeafReader>(
     leaves: &mut L,
     frame: &Frame,
     rest: &'a [u8],
-) -> Result<(Expr, &'a [u8]), ReadErr>
-    ensures reads { Reads (PassesAt frame.now (places_behind_first L.LANGUAGE frame.now First.Max))
+) -> Result<(Expr, &'a [u8]), PartErr>
+    ensures reads { Reads
+        (PassesAt frame.now (expected_behind_first L.LANGUAGE frame.now First.Max))
         (λ r. behind_word (codes "max") (expression_at (L.leaf leaves.new) frame.now r.0))
         (λ r. r.1.now) rest.now result }
     ensures high { IfOk result
@@ -281,8 +287,9 @@ fn read_infix<'a, L: LeafReader>(
     leaves: &mut L,
     frame: &Frame,
     rest: &'a [u8],
-) -> Result<(Expr, &'a [u8]), ReadErr>
-    ensures reads { Reads (PassesAt frame.now (places_behind_first L.LANGUAGE frame.now First.Open))
+) -> Result<(Expr, &'a [u8]), PartErr>
+    ensures reads { Reads
+        (PassesAt frame.now (expected_behind_first L.LANGUAGE frame.now First.Open))
         (λ r. behind_part (mark (codes "(")) (expression_at (L.leaf leaves.new) frame.now r.0))
         (λ r. r.1.now) rest.now result }
     ensures high { IfOk result
@@ -304,8 +311,8 @@ fn read_choice<'a, L: LeafReader>(
     leaves: &mut L,
     frame: &Frame,
     rest: &'a [u8],
-) -> Result<(Expr, &'a [u8]), ReadErr>
-    ensures reads { Reads (PassesAt frame.now (places_behind_first L.LANGUAGE frame.now First.If))
+) -> Result<(Expr, &'a [u8]), PartErr>
+    ensures reads { Reads (PassesAt frame.now (expected_behind_first L.LANGUAGE frame.now First.If))
         (λ r. behind_word (codes "if") (expression_at (L.leaf leaves.new) frame.now r.0))
         (λ r. r.1.now) rest.now result }
     ensures high { IfOk result
@@ -327,9 +334,9 @@ fn read_widen<'a, L: LeafReader>(
     leaves: &mut L,
     frame: &Frame,
     rest: &'a [u8],
-) -> Result<(Expr, &'a [u8]), ReadErr>
+) -> Result<(Expr, &'a [u8]), PartErr>
     ensures reads { Reads
-        (PassesAt frame.now (places_behind_first L.LANGUAGE frame.now First.Widen))
+        (PassesAt frame.now (expected_behind_first L.LANGUAGE frame.now First.Widen))
         (λ r. behind_word (codes "widen") (expression_at (L.leaf leaves.new) frame.now r.0))
         (λ r. r.1.now) rest.now result }
     ensures high { IfOk result
@@ -350,9 +357,9 @@ fn read_round<'a, L: LeafReader>(
     leaves: &mut L,
     frame: &Frame,
     rest: &'a [u8],
-) -> Result<(Expr, &'a [u8]), ReadErr>
+) -> Result<(Expr, &'a [u8]), PartErr>
     ensures reads { Reads
-        (PassesAt frame.now (places_behind_first L.LANGUAGE frame.now First.Round))
+        (PassesAt frame.now (expected_behind_first L.LANGUAGE frame.now First.Round))
         (λ r. behind_word (codes "round") (expression_at (L.leaf leaves.new) frame.now r.0))
         (λ r. r.1.now) rest.now result }
     ensures high { IfOk result
@@ -373,8 +380,9 @@ fn read_div<'a, L: LeafReader>(
     leaves: &mut L,
     frame: &Frame,
     rest: &'a [u8],
-) -> Result<(Expr, &'a [u8]), ReadErr>
-    ensures reads { Reads (PassesAt frame.now (places_behind_first L.LANGUAGE frame.now First.Div))
+) -> Result<(Expr, &'a [u8]), PartErr>
+    ensures reads { Reads
+        (PassesAt frame.now (expected_behind_first L.LANGUAGE frame.now First.Div))
         (λ r. behind_word (codes "div") (expression_at (L.leaf leaves.new) frame.now r.0))
         (λ r. r.1.now) rest.now result }
     ensures high { IfOk result
@@ -404,9 +412,10 @@ fn read_acc<'a, L: LeafReader>(
     leaves: &mut L,
     frame: &Frame,
     rest: &'a [u8],
-) -> Result<(Expr, &'a [u8]), ReadErr>
+) -> Result<(Expr, &'a [u8]), PartErr>
     requires { length (names_at frame.now) < frame.now.depth }
-    ensures reads { Reads (PassesAt frame.now (places_behind_first L.LANGUAGE frame.now First.Acc))
+    ensures reads { Reads
+        (PassesAt frame.now (expected_behind_first L.LANGUAGE frame.now First.Acc))
         (λ r. behind_word (codes "acc") (expression_at (L.leaf leaves.new) frame.now r.0))
         (λ r. r.1.now) rest.now result }
     ensures high { IfOk result
@@ -438,10 +447,10 @@ fn read_behind_first<'a, L: LeafReader>(
     leaves: &mut L,
     frame: &Frame,
     rest: &'a [u8],
-) -> Result<(Expr, &'a [u8]), ReadErr>
+) -> Result<(Expr, &'a [u8]), PartErr>
     requires shallow { frame.now.depth ≤ greatest_depth L.LANGUAGE }
     requires room { length (names_at frame.now) < frame.now.depth }
-    ensures reads { Reads (PassesAt frame.now (places_behind_first L.LANGUAGE frame.now first))
+    ensures reads { Reads (PassesAt frame.now (expected_behind_first L.LANGUAGE frame.now first))
         (λ r. behind_part (first_token L.LANGUAGE (names_at frame.now) first)
         (expression_at (L.leaf leaves.new) frame.now r.0))
         (λ r. r.1.now) rest.now result }
@@ -476,8 +485,9 @@ pub fn read_expr<'a, L: LeafReader>(
     leaves: &mut L,
     frame: &Frame,
     rest: &'a [u8],
-) -> Result<(Expr, &'a [u8]), ReadErr>
-    ensures reads { Reads (PassesAt frame.now (λ s ps. expr_place L.LANGUAGE frame.now ∷ ps))
+) -> Result<(Expr, &'a [u8]), PartErr>
+    ensures reads { Reads
+        (PassesAt frame.now (λ s ps. an_expression_here L.LANGUAGE frame.now ∷ ps))
         (λ r. expression_at (L.leaf leaves.new) frame.now r.0)
         (λ r. r.1.now) rest.now result }
     ensures high { IfOk result

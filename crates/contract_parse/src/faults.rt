@@ -1,6 +1,6 @@
 //! Why a text is refused.
 ghost use Rattle.std.specs.Prelude.{◌≡◌};
-ghost use Rattle.contract_parse.specs.declared.faults.ReadErr.TheVariants.{NoMemory as lacks_memory};
+ghost use Rattle.contract_parse.specs.declared.faults.PartErr.TheVariants.{NoMemory as lacks_memory};
 
 use decimal::NoMemory;
 use std::alloc::{AllocError, AllocFailed};
@@ -43,31 +43,31 @@ pub struct Refusal {
 
 /// Why a part of a text was not read.
 #[derive(Clone, Copy)]
-pub enum ReadErr {
+pub enum PartErr {
     Refused(Refusal),
     NoMemory,
 }
 
-impl From<AllocError> for ReadErr {
+impl From<AllocError> for PartErr {
     ghost from_gives = { λ _ e. e ≡ lacks_memory };
 
-    fn from(_: AllocError) -> ReadErr {
-        ReadErr::NoMemory
+    fn from(_: AllocError) -> PartErr {
+        PartErr::NoMemory
     }
 }
 
-impl<T: Drop> From<AllocFailed<T>> for ReadErr {
+impl<T: Drop> From<AllocFailed<T>> for PartErr {
     ghost from_gives = { λ _ e. e ≡ lacks_memory };
 
-    fn from(_: AllocFailed<T>) -> ReadErr {
-        ReadErr::NoMemory
+    fn from(_: AllocFailed<T>) -> PartErr {
+        PartErr::NoMemory
     }
 }
 
-impl From<NoMemory> for ReadErr {
+impl From<NoMemory> for PartErr {
     ghost from_gives = { λ _ e. e ≡ lacks_memory };
 
-    fn from(_: NoMemory) -> ReadErr {
-        ReadErr::NoMemory
+    fn from(_: NoMemory) -> PartErr {
+        PartErr::NoMemory
     }
 }

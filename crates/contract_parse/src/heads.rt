@@ -9,7 +9,7 @@ ghost use Rattle.contract_parse.specs.Reading.{tok_of};
 
 use crate::faults::TextKind;
 use crate::judges::{literal_at, variable_at};
-use crate::token::{Kind, Lexeme};
+use crate::token::{Lexeme, LexemeKind};
 use crate::words::{is_name, is_number, is_the_mark, is_the_word};
 use decimal::Decimal;
 use term_core::{CmpOp, LogicOp, MOST_HEIGHT, MOST_HEIGHT_OF_CODE, NumOp, Scope};
@@ -187,7 +187,7 @@ pub fn first_at(
 fn head_of(token: &Lexeme<'_>) -> Result<Head, TextKind>
     ensures { result ≡ head_of (tok_of token.now) }
 {
-    if !matches!(token.kind, Kind::Word) {
+    if !matches!(token.kind, LexemeKind::Word) {
         return Err(TextKind::Syntax);
     }
     match token.text {
@@ -217,7 +217,7 @@ pub fn head_at(depth: u32, token: &Lexeme<'_>) -> Result<Head, TextKind>
 fn amount_head_of(token: &Lexeme<'_>) -> Result<AmountHead, TextKind>
     ensures { result ≡ amount_head_of (tok_of token.now) }
 {
-    if !matches!(token.kind, Kind::Word) {
+    if !matches!(token.kind, LexemeKind::Word) {
         return Err(TextKind::Syntax);
     }
     match token.text {

@@ -4,12 +4,12 @@ ghost use Rattle.indexmap.specs.IndexMap.{index_map_len, keys};
 ghost use Rattle.term_core.specs.Limits.{are_labels, is_label};
 ghost use Rattle.contract_parse.specs.Statements.{Entry, Repeat, label_line};
 ghost use Rattle.contract_parse.specs.DeclarationReading.{label_range};
-ghost use Rattle.contract_parse.specs.Places.{LabelLines, ScaleAt, TheMark, flag_places, number_label_places};
+ghost use Rattle.contract_parse.specs.Expecting.{LabelLines, ScaleAt, TheMark, flag_expected, number_label_expected};
 ghost use Rattle.contract_parse.specs.Reading.{tokens_ahead};
 ghost use Rattle.contract_parse.specs.Readers.{Declares, PassesAnywhere, Reads, ReadsAhead, ahead_from, behind_word};
 ghost use Rattle.contract_parse.specs.declared.names.NameSet.TheVariants.{Label as LabelSet};
 
-use crate::faults::ReadErr;
+use crate::faults::PartErr;
 use crate::readers::{
     after_word, read_bound, read_label_scale, read_new_name, skip_mark, skip_word,
 };
@@ -19,7 +19,7 @@ use std::alloc::Global;
 use term_core::{Label, Name};
 
 // What stands behind the name of a number label.
-fn read_range(rest: &[u8]) -> Result<(Label, &[u8]), ReadErr>
+fn read_range(rest: &[u8]) -> Result<(Label, &[u8]), PartErr>
     ensures reads { Reads (PassesAnywhere (λ ps. TheMark (codes ":") ∷ ScaleAt ∷ ps))
         (λ r. label_range r.0) (λ r. r.1.now) rest.now result }
     ensures shorter { IfOk result (λ r. length r.1.now < length rest.now) }
@@ -39,10 +39,10 @@ fn read_number_label<'a>(
     alloc: Global,
     labels: &mut IndexMap<Name, Label>,
     rest: &'a [u8],
-) -> Result<&'a [u8], ReadErr>
+) -> Result<&'a [u8], PartErr>
     requires { are_labels labels.old.entries ≡ true }
     ensures reads { Reads (Declares LabelSet (keys labels.old)
-        (λ r. keys labels.new) number_label_places)
+        (λ r. keys labels.new) number_label_expected)
         (λ r. behind_word (codes "num") (Entry label_line labels.old.entries labels.new.entries))
         (λ r. r.now) rest.now result }
     ensures shorter { IfOk result (λ r. length r.now < length rest.now) }
@@ -62,9 +62,9 @@ fn read_flag<'a>(
     alloc: Global,
     labels: &mut IndexMap<Name, Label>,
     rest: &'a [u8],
-) -> Result<&'a [u8], ReadErr>
+) -> Result<&'a [u8], PartErr>
     requires { are_labels labels.old.entries ≡ true }
-    ensures reads { Reads (Declares LabelSet (keys labels.old) (λ r. keys labels.new) flag_places)
+    ensures reads { Reads (Declares LabelSet (keys labels.old) (λ r. keys labels.new) flag_expected)
         (λ r. behind_word (codes "flag") (Entry label_line labels.old.entries labels.new.entries))
         (λ r. r.now) rest.now result }
     ensures shorter { IfOk result (λ r. length r.now < length rest.now) }
@@ -82,7 +82,7 @@ fn read_flag<'a>(
 pub fn read_labels<'a>(
     alloc: Global,
     ahead: &Lookahead<'a>,
-) -> Result<(IndexMap<Name, Label>, Lookahead<'a>), ReadErr>
+) -> Result<(IndexMap<Name, Label>, Lookahead<'a>), PartErr>
     ensures reads { ReadsAhead (Declares LabelSet [] (λ r. keys r.0) (λ ps. LabelLines ∷ ps))
         (λ r. Repeat (Entry label_line) [] r.0.entries)
         (λ r. ahead_from r.1) (ahead_from ahead.now) result }

@@ -4,11 +4,11 @@ ghost use Rattle.term_core.specs.Terms.{expression};
 ghost use Rattle.term_core.specs.Sizes.{height};
 ghost use Rattle.contract_parse.specs.Names.{DeclaredNames};
 ghost use Rattle.contract_parse.specs.Spelling.{Leaf, obs_leaf};
-ghost use Rattle.contract_parse.specs.Places.{leaf_places};
+ghost use Rattle.contract_parse.specs.Expecting.{leaf_expected};
 ghost use Rattle.contract_parse.specs.Readers.{KeepsLeaves, Passes, Reads, behind_leaf_word};
 ghost use Rattle.contract_parse.specs.declared.heads.Language.{Language};
 
-use crate::faults::ReadErr;
+use crate::faults::PartErr;
 use crate::heads::Language;
 use crate::readers::{read_offset, read_use_of_map, skip_mark};
 use std::alloc::Global;
@@ -31,8 +31,8 @@ pub trait LeafReader {
         alloc: Global,
         decls: &Decls,
         rest: &'a [u8],
-    ) -> Result<(Expr, &'a [u8]), ReadErr>
-        ensures reads { Reads (Passes decls.now (λ s ps. leaf_places s LANGUAGE ps))
+    ) -> Result<(Expr, &'a [u8]), PartErr>
+        ensures reads { Reads (Passes decls.now (λ s ps. leaf_expected s LANGUAGE ps))
             (λ r. behind_leaf_word LANGUAGE (leaf self.new) decls.now r.0)
             (λ r. r.1.now) rest.now result }
         ensures high { IfOk result (λ r. height (expression r.0) ≡ 1) }
@@ -55,7 +55,7 @@ impl LeafReader for Observables {
         _alloc: Global,
         decls: &Decls,
         rest: &'a [u8],
-    ) -> Result<(Expr, &'a [u8]), ReadErr> {
+    ) -> Result<(Expr, &'a [u8]), PartErr> {
         let rest = skip_mark(rest, b"(")?;
         let (label, rest) = read_use_of_map(&decls.labels, rest)?;
         let rest = skip_mark(rest, b",")?;

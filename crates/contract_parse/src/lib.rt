@@ -48,7 +48,7 @@ pub use tokens::{Token, TokenKind};
 // What another grammar over the same tokens and expressions is read with.
 pub use decls::read_decls;
 pub use exprs::read_expr;
-pub use faults::{ReadErr, Refusal};
+pub use faults::{PartErr, Refusal};
 pub use frame::Frame;
 pub use heads::{AmountHead, Language, amount_head_at};
 pub use judges::{integer_at, literal_at, refuse};
@@ -60,5 +60,5 @@ pub use readers::{
     read_mode, read_new_name, read_use_behind, read_use_of_map, read_use_of_set, skip_mark,
     skip_version, skip_word,
 };
-pub use token::{Kind, Lexeme};
+pub use token::{Lexeme, LexemeKind};
 pub use words::{Lookahead, is_name, is_the_mark, look, next};

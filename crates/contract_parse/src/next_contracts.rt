@@ -6,13 +6,13 @@ ghost use Rattle.term_core.specs.Terms.{contract};
 ghost use Rattle.contract_parse.specs.Tokens.{tokens};
 ghost use Rattle.contract_parse.specs.Versions.{version_of};
 ghost use Rattle.contract_parse.specs.Statements.{named_contract};
-ghost use Rattle.contract_parse.specs.Places.{contract_places};
+ghost use Rattle.contract_parse.specs.Expecting.{contract_expected};
 ghost use Rattle.contract_parse.specs.Reading.{declared_in};
 ghost use Rattle.contract_parse.specs.Readers.{Extends, Reads};
 ghost use Rattle.contract_parse.specs.NextContracts.{GoesOn, ReadsOn, StartsContracts, bytes_left};
 
 use crate::cursor::start_text;
-use crate::faults::{ParseErr, ReadErr};
+use crate::faults::{ParseErr, PartErr};
 use crate::portfolio::{read_beginning, read_definition};
 use crate::readers::{after_word, declare, read_end};
 use crate::short_texts::ShortText;
@@ -64,10 +64,10 @@ fn read_named<'a>(
     decls: &Decls,
     names: &mut IndexSet<Name>,
     after: &'a [u8],
-) -> Result<(NextContract<'a>, &'a [u8]), ReadErr>
+) -> Result<(NextContract<'a>, &'a [u8]), PartErr>
     ensures reads { Reads (Extends (declared_in decls.now names.old.keys)
         (λ r. declared_in decls.now names.new.keys)
-        (contract_places (version_of decls.now.version)))
+        (contract_expected (version_of decls.now.version)))
         (λ r. named_contract (declared_in decls.now []) names.old.keys
         r.0.name.now (contract r.0.contr)) (λ r. r.1.now) after.now result }
     ensures added { IfOk result (λ r. names.new.keys ≡ names.old.keys ++ r.0.name.now ∷ []) }
@@ -84,7 +84,7 @@ fn read_next<'a>(
     alloc: Global,
     decls: &Decls,
     reader: &mut ContractReader<'a>,
-) -> Result<Option<NextContract<'a>>, ReadErr>
+) -> Result<Option<NextContract<'a>>, PartErr>
     ensures next { ReadsOn (declarations decls.now) reader.old reader.new result }
     ensures shorter { IfOk result (λ next. IfSome next
         (λ _. bytes_left reader.new < bytes_left reader.old)) }

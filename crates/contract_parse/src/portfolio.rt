@@ -12,7 +12,7 @@ ghost use Rattle.contract_parse.specs.Versions.{version_of};
 ghost use Rattle.contract_parse.specs.Judgements.{is_the_version};
 ghost use Rattle.contract_parse.specs.Spelling.{contr, mark, one, word, ◌⨟◌};
 ghost use Rattle.contract_parse.specs.Statements.{Entry, Repeat, beginning, contract_line, portfolio};
-ghost use Rattle.contract_parse.specs.Places.{ContrAt, ContractLines, Leaves, Open, Place, TextVersion, TheMark, TheWord, contract_places, decls_places, places_behind, run, text_places};
+ghost use Rattle.contract_parse.specs.Expecting.{ContrAt, ContractLines, Leaves, Open, Expected, TextVersion, TheMark, TheWord, contract_expected, decls_expected, expected_behind, run, text_expected};
 ghost use Rattle.contract_parse.specs.Reading.{declared_in, tokens_ahead};
 ghost use Rattle.contract_parse.specs.ContractReading.{trees};
 ghost use Rattle.contract_parse.specs.Texts.{Answers};
@@ -21,7 +21,7 @@ ghost use Rattle.contract_parse.specs.Readers.{BeginsText, Extends, Passes, Read
 use crate::contrs::read_contr;
 use crate::cursor::start_text;
 use crate::decls::read_decls;
-use crate::faults::{ParseErr, ReadErr};
+use crate::faults::{ParseErr, PartErr};
 use crate::frame::Frame;
 use crate::readers::{after_word, read_end, read_new_name, read_version, skip_mark, skip_word};
 use crate::short_texts::ShortText;
@@ -36,7 +36,7 @@ pub fn read_definition<'a>(
     alloc: Global,
     decls: &Decls,
     rest: &'a [u8],
-) -> Result<(Contr, &'a [u8]), ReadErr>
+) -> Result<(Contr, &'a [u8]), PartErr>
     ensures reads { Reads (Passes decls.now (λ s ps.
         TheMark (codes "=") ∷ ContrAt s.version 1 [] ∷ TheMark (codes ";") ∷ ps))
         (λ r. mark (codes "=") ⨟ contr (declared_in decls.now []) [] (contract r.0)
@@ -61,10 +61,10 @@ fn read_contract<'a>(
     decls: &Decls,
     contracts: &mut IndexMap<Name, Contr>,
     rest: &'a [u8],
-) -> Result<&'a [u8], ReadErr>
+) -> Result<&'a [u8], PartErr>
     ensures reads { Reads (Extends (declared_in decls.now (keys contracts.old))
         (λ r. declared_in decls.now (keys contracts.new))
-        (contract_places (version_of decls.now.version)))
+        (contract_expected (version_of decls.now.version)))
         (λ r. behind_word (codes "contract") (Entry (contract_line (declared_in decls.now []))
         (trees contracts.old.entries) (trees contracts.new.entries)))
         (λ r. r.now) rest.now result }
@@ -80,7 +80,7 @@ fn read_contracts<'a>(
     alloc: Global,
     decls: &Decls,
     ahead: &Lookahead<'a>,
-) -> Result<(IndexMap<Name, Contr>, Lookahead<'a>), ReadErr>
+) -> Result<(IndexMap<Name, Contr>, Lookahead<'a>), PartErr>
     ensures reads { ReadsAhead (Extends (declared_in decls.now [])
         (λ r. declared_in decls.now (keys r.0))
         (λ ps. ContractLines (version_of decls.now.version) ∷ ps))
@@ -98,10 +98,10 @@ fn read_contracts<'a>(
 
 // The first line, which says the version.
 #[tactic(auto, using(crate::proofs::Parts::followed_by))]
-fn read_first_line(rest: &[u8]) -> Result<(u8, &[u8]), ReadErr>
+fn read_first_line(rest: &[u8]) -> Result<(u8, &[u8]), PartErr>
     ensures reads { Reads (BeginsText (λ r. version_of r.0)
         (λ ps. TheWord (codes "portfolio") ∷ TextVersion ∷ ps)
-        (λ v ps. decls_places v (ContractLines v ∷ ps)))
+        (λ v ps. decls_expected v (ContractLines v ∷ ps)))
         (λ r. word (codes "portfolio") ⨟ one (is_the_version r.0) ⨟ mark (codes ";"))
         (λ r. r.1.now) rest.now result }
     ensures limits { IfOk result (λ r. is_a_version r.0 ≡ true) }
@@ -113,11 +113,11 @@ fn read_first_line(rest: &[u8]) -> Result<(u8, &[u8]), ReadErr>
 }
 
 /// The first line and the declarations of a text, and the token that comes next.
-pub fn read_beginning<'a>(alloc: Global, bytes: &'a [u8]) -> Result<(Decls, Lookahead<'a>), ReadErr>
+pub fn read_beginning<'a>(alloc: Global, bytes: &'a [u8]) -> Result<(Decls, Lookahead<'a>), PartErr>
     requires { length bytes.now ≤ longest_file }
     ensures follows { Leaves (λ r. run (declared_in r.0 [])
-        (places_behind (version_of r.0.version)) (tokens_ahead r.1)) result
-        (run nothing_declared text_places (tokens bytes.now)) }
+        (expected_behind (version_of r.0.version)) (tokens_ahead r.1)) result
+        (run nothing_declared text_expected (tokens bytes.now)) }
     ensures spelled { IfOk result (λ r.
         beginning (declarations r.0) (tokens bytes.now) (tokens_ahead r.1)) }
     ensures within { IfOk result (λ r. length r.1.after.now ≤ length bytes.now) }
@@ -126,10 +126,10 @@ pub fn read_beginning<'a>(alloc: Global, bytes: &'a [u8]) -> Result<(Decls, Look
     read_decls(alloc, version, rest)
 }
 
-fn read_portfolio(alloc: Global, bytes: &[u8]) -> Result<Portfolio, ReadErr>
+fn read_portfolio(alloc: Global, bytes: &[u8]) -> Result<Portfolio, PartErr>
     requires { length bytes.now ≤ longest_file }
     ensures follows { Leaves (λ r. Open []) result
-        (run nothing_declared text_places (tokens bytes.now)) }
+        (run nothing_declared text_expected (tokens bytes.now)) }
     ensures spelled { IfOk result (λ r. portfolio (book r) (tokens bytes.now) []) }
 {
     let (decls, ahead) = read_beginning(alloc, bytes)?;

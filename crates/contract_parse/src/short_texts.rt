@@ -2,7 +2,7 @@
 ghost use Rattle.std.specs.Prelude.{◌≤◌, length};
 ghost use Rattle.term_core.specs.Limits.{longest_file};
 
-use crate::faults::{ParseErr, ReadErr};
+use crate::faults::{ParseErr, PartErr};
 use crate::lines::fault_at;
 
 /// A text of at most 16 MiB.
@@ -17,15 +17,15 @@ impl<'a> ShortText<'a> {
     ghost use Rattle.contract_parse.specs.Cursors.{fault_of};
 
     /// What is told of a part of the text that was not read.
-    pub fn fault_of(self, error: ReadErr) -> ParseErr
+    pub fn fault_of(self, error: PartErr) -> ParseErr
         ensures { result ≡ fault_of self.entry.bytes.now error }
     {
         match error {
-            ReadErr::Refused(refusal) => {
+            PartErr::Refused(refusal) => {
                 let at = self.bytes.len().saturating_sub(refusal.left);
                 ParseErr::Text(fault_at(self.bytes, refusal.kind, at))
             }
-            ReadErr::NoMemory => ParseErr::NoMemory,
+            PartErr::NoMemory => ParseErr::NoMemory,
         }
     }
 }

@@ -1,13 +1,13 @@
 //! The tokens of a text, one at a time.
 ghost use Rattle.std.specs.Prelude.{◌≡◌, ◌≤◌, ◌<◌, ◌==◌, ◌||◌, false, true, length};
 ghost use Rattle.std.specs.List.{prefix_len};
-ghost use Rattle.contract_parse.specs.Tokens.{after_gap, are_digits, is_date_part, begins_with_date, begins_with_digit, digits_extent, extent_at, fraction_len, is_blank, is_digit, is_letter, is_word_byte, mark_extent, mark_len, next_token, number_len, word_extent};
+ghost use Rattle.contract_parse.specs.Tokens.{after_gap, begins_with_date, begins_with_digit, digits_extent, extent_at, fraction_len, is_blank, is_digit, is_letter, is_word_byte, mark_extent, mark_len, next_lexeme, number_len, word_extent};
 
-use term_core::LONGEST_NAME;
+use term_core::{LONGEST_NAME, date_parts};
 
 /// What a token is. At a stray byte no token begins.
 #[derive(Clone, Copy)]
-pub enum Kind {
+pub enum LexemeKind {
     Word,
     Number,
     Date,
@@ -19,7 +19,7 @@ pub enum Kind {
 /// A token, and how many bytes are left where it begins.
 #[derive(Clone, Copy)]
 pub struct Lexeme<'a> {
-    pub kind: Kind,
+    pub kind: LexemeKind,
     pub text: &'a [u8],
     pub left: usize,
 }
@@ -27,7 +27,7 @@ pub struct Lexeme<'a> {
 /// What begins at a byte, and how many bytes it has.
 #[derive(Clone, Copy)]
 pub struct Extent {
-    pub kind: Kind,
+    pub kind: LexemeKind,
     pub len: usize,
 }
 
@@ -180,29 +180,15 @@ fn begins_with_digit(bytes: &[u8]) -> bool
     }
 }
 
-fn are_digits(a: u8, b: u8) -> bool
-    ensures { result ≡ are_digits a b }
-{
-    is_digit(a) && is_digit(b)
-}
-
-fn is_date_part(h: u8, a: u8, b: u8) -> bool
-    ensures { result ≡ is_date_part h a b }
-{
-    h == b'-' && are_digits(a, b)
-}
-
+// Whether a text `dddd-dd-dd` stands here, and no digit after it.
+#[tactic(auto, using(crate::proofs::DateShape::too_few, crate::proofs::DateShape::as_parts))]
 fn begins_with_date(bytes: &[u8]) -> bool
     ensures value { result ≡ begins_with_date bytes.now }
     ensures long { result ≡ true → 10 ≤ length bytes.now }
 {
-    match bytes {
-        [a, b, c, d, h, e, f, i, g, j, after @ ..] => {
-            let is_year = are_digits(*a, *b) && are_digits(*c, *d);
-            let is_day = is_date_part(*h, *e, *f) && is_date_part(*i, *g, *j);
-            is_year && is_day && !begins_with_digit(after)
-        }
-        _ => false,
+    match bytes.split_first_chunk::<10>() {
+        Some((text, after)) => date_parts(text).is_some() && !begins_with_digit(after),
+        None => false,
     }
 }
 
@@ -238,12 +224,12 @@ fn word_extent(len: usize) -> Extent
 {
     if len > LONGEST_NAME {
         Extent {
-            kind: Kind::Stray,
+            kind: LexemeKind::Stray,
             len: 0,
         }
     } else {
         Extent {
-            kind: Kind::Word,
+            kind: LexemeKind::Word,
             len,
         }
     }
@@ -255,12 +241,12 @@ fn mark_extent(len: usize) -> Extent
 {
     if len == 0 {
         Extent {
-            kind: Kind::Stray,
+            kind: LexemeKind::Stray,
             len: 0,
         }
     } else {
         Extent {
-            kind: Kind::Mark,
+            kind: LexemeKind::Mark,
             len,
         }
     }
@@ -273,12 +259,12 @@ fn digits_extent(bytes: &[u8]) -> Extent
 {
     if begins_with_date(bytes) {
         Extent {
-            kind: Kind::Date,
+            kind: LexemeKind::Date,
             len: 10,
         }
     } else {
         Extent {
-            kind: Kind::Number,
+            kind: LexemeKind::Number,
             len: number_len(bytes),
         }
     }
@@ -291,7 +277,7 @@ fn extent_at(bytes: &[u8]) -> Extent
 {
     match bytes {
         [] => Extent {
-            kind: Kind::End,
+            kind: LexemeKind::End,
             len: 0,
         },
         [b, ..] if is_letter(*b) => word_extent(word_len(bytes)),
@@ -301,12 +287,12 @@ fn extent_at(bytes: &[u8]) -> Extent
 }
 
 /// The next token, and the bytes after it.
-#[tactic(auto, unfolding(crate::specs::Tokens::next_token))]
-pub fn next_token(bytes: &[u8]) -> (Lexeme<'_>, &[u8])
+#[tactic(auto, unfolding(crate::specs::Tokens::next_lexeme))]
+pub fn next_lexeme(bytes: &[u8]) -> (Lexeme<'_>, &[u8])
     ensures { (
       record { kind = result.0.kind; text = result.0.text.now; left = result.0.left },
       result.1.now,
-    ) ≡ next_token bytes.now }
+    ) ≡ next_lexeme bytes.now }
 {
     let start = after_gap(bytes);
     let extent = extent_at(start);

@@ -6,7 +6,7 @@ ghost use Rattle.contract_parse.specs.Tokens.{is_last, tokens};
 ghost use Rattle.contract_parse.specs.Words.{is_date, is_end, is_integer, is_name, is_number, is_reserved, is_the_mark, is_the_word, is_whole_mark, reserved_of_five, reserved_of_four, reserved_of_more, reserved_of_three, reserved_of_two};
 ghost use Rattle.contract_parse.specs.Reading.{LacksMark, tok_of, tokens_after, tokens_ahead};
 
-use crate::token::{Kind, Lexeme, next_token};
+use crate::token::{Lexeme, LexemeKind, next_lexeme};
 
 /// The token that comes next, read ahead, and the text after it.
 #[derive(Clone, Copy)]
@@ -115,7 +115,7 @@ pub fn next(rest: &[u8]) -> (Lexeme<'_>, &[u8])
     ensures shorter { is_last result.0.kind ≡ false → length result.1.now < length rest.now }
     ensures within { length result.1.now ≤ length rest.now }
 {
-    next_token(rest)
+    next_lexeme(rest)
 }
 
 /// The same, as one value that a reader may hand on.
@@ -138,7 +138,8 @@ fn is_whole_mark(b: u8) -> bool
 /// prolongs. Most marks are found so, and need no token.
 pub fn after_byte<'a>(rest: &'a [u8], wanted: &[u8]) -> Option<&'a [u8]>
     ensures found { IfSome result (λ r. tokens rest.now
-        ≡ record { kind = Kind.Mark; text = wanted.now; left = length rest.now } ∷ tokens r.now) }
+        ≡ record { kind = LexemeKind.Mark; text = wanted.now; left = length rest.now }
+        ∷ tokens r.now) }
     ensures shorter { IfSome result (λ r. length r.now < length rest.now) }
 {
     match (rest, wanted) {
@@ -172,28 +173,28 @@ fn is_text(text: &[u8], wanted: &[u8]) -> bool
 pub fn is_the_word(token: &Lexeme<'_>, word: &[u8]) -> bool
     ensures { result ≡ is_the_word word.now (tok_of token.now) }
 {
-    matches!(token.kind, Kind::Word) && token.text == word
+    matches!(token.kind, LexemeKind::Word) && token.text == word
 }
 
 /// Whether a token is this mark.
 pub fn is_the_mark(token: &Lexeme<'_>, mark: &[u8]) -> bool
     ensures { result ≡ is_the_mark mark.now (tok_of token.now) }
 {
-    matches!(token.kind, Kind::Mark) && is_text(token.text, mark)
+    matches!(token.kind, LexemeKind::Mark) && is_text(token.text, mark)
 }
 
 /// Whether a token is a name: a word that is not reserved.
 pub fn is_name(token: &Lexeme<'_>) -> bool
     ensures { result ≡ is_name (tok_of token.now) }
 {
-    matches!(token.kind, Kind::Word) && !is_reserved(token.text)
+    matches!(token.kind, LexemeKind::Word) && !is_reserved(token.text)
 }
 
 /// Whether a token is a number, with a point or without.
 pub fn is_number(token: &Lexeme<'_>) -> bool
     ensures { result ≡ is_number (tok_of token.now) }
 {
-    matches!(token.kind, Kind::Number)
+    matches!(token.kind, LexemeKind::Number)
 }
 
 fn has_no_point(text: &[u8]) -> bool
@@ -206,19 +207,19 @@ fn has_no_point(text: &[u8]) -> bool
 pub fn is_integer(token: &Lexeme<'_>) -> bool
     ensures { result ≡ is_integer (tok_of token.now) }
 {
-    matches!(token.kind, Kind::Number) && has_no_point(token.text)
+    matches!(token.kind, LexemeKind::Number) && has_no_point(token.text)
 }
 
 /// Whether a token is a date, `dddd-dd-dd` by its form.
 pub fn is_date(token: &Lexeme<'_>) -> bool
     ensures { result ≡ is_date (tok_of token.now) }
 {
-    matches!(token.kind, Kind::Date)
+    matches!(token.kind, LexemeKind::Date)
 }
 
 /// Whether a token is the end of the text.
 pub fn is_end(token: &Lexeme<'_>) -> bool
     ensures { result ≡ is_end (tok_of token.now) }
 {
-    matches!(token.kind, Kind::End)
+    matches!(token.kind, LexemeKind::End)
 }

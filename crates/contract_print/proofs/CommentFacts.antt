@@ -8,7 +8,7 @@ use Rattle.std.proofs.lemmas.Grind.{flat_map-append}
 use Rattle.std.proofs.lemmas.List.{append-nil}
 use Rattle.std.proofs.lemmas.List.Elements.{All-append, All-cons, All-nil, recursion_from_All}
 use Rattle.std.proofs.lemmas.Str.{IsUtf8-append, IsUtf8-from_ascii, IsUtf8-nil}
-use Rattle.contract_parse.specs.Tokens.{after_gap, extent_at, is_last, next_token, token_at, tokens}
+use Rattle.contract_parse.specs.Tokens.{after_gap, extent_at, is_last, next_lexeme, token_at, tokens}
 use Rattle.contract_parse.specs.Words.{Bytes}
 use Rattle.contract_parse.proofs.TokenFacts.{tokens_next}
 use Rattle.contract_parse.specs.Statements.{portfolio}
@@ -27,7 +27,7 @@ past_comment (b ∷ text) rest all =
     ap (λ (t : Bool). after_gap (not t) (text ++ 10 ∷ rest)) other ∙ past_comment text rest all.1
 
 same_tokens : (a b : Bytes) → after_gap false a ≡ after_gap false b → tokens a ≡ tokens b
-unfolding next_token
+unfolding next_lexeme
 same_tokens a b e =
     tokens_next a
     ∙ ap (λ (start : Bytes). token_at start ∷ cond (is_last (token_at start).kind) [] (tokens (drop (extent_at start).len start))) e

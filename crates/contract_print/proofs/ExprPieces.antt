@@ -12,7 +12,7 @@ use Rattle.term_core.specs.declared.terms.CmpOp.{CmpOp}
 use Rattle.term_core.specs.declared.terms.CmpOp.TheVariants.{Less, LessEq, Greater, GreaterEq, Equal, Unequal}
 use Rattle.term_core.specs.declared.terms.LogicOp.{LogicOp}
 use Rattle.term_core.specs.declared.terms.LogicOp.TheVariants.{And, Or}
-use Rattle.contract_parse.specs.declared.token.Kind.TheVariants.{Mark}
+use Rattle.contract_parse.specs.declared.token.LexemeKind.TheVariants.{Mark}
 use Rattle.contract_parse.specs.declared.faults.TextKind.{TextKind}
 use Rattle.contract_parse.specs.declared.heads.Operator.TheVariants.{Arithmetic, Comparison, Logic as Connective}
 use Rattle.contract_parse.specs.Tokens.{Tok, after_gap, extent_at}

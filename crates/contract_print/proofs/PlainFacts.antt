@@ -1,5 +1,5 @@
 -- Texts that a comment may hold: ASCII with no line feed, as are names, numbers and dates.
-use Rattle.std.proofs.Common.{◌≡◌, ◌≢◌, ℕ, suc, ◌+◌, ◌≤◌, ℤ, pos, negsuc, Bool, true, ◌&&◌, not, List, [], ◌∷◌, ◌++◌, refl, sym, subst, ◌∙◌, arith}
+use Rattle.std.proofs.Common.{◌≡◌, ◌≢◌, ℕ, suc, ℤ, pos, negsuc, Bool, true, ◌&&◌, not, List, [], ◌∷◌, ◌++◌, refl, sym, subst, ◌∙◌, arith}
 use Rattle.std.specs.Prelude.{◌==◌, nat_lt}
 use Rattle.std.specs.List.{AllByRecursion, list_all}
 use Rattle.std.specs.Str.Parse.{AllDigits}
@@ -14,6 +14,8 @@ use Rattle.contract_parse.specs.NameTexts.{is_name_text, is_word_text}
 use Rattle.contract_parse.specs.Names.{is_declared}
 use Rattle.contract_parse.specs.Tokens.{is_digit, is_letter, is_word_byte}
 use Rattle.contract_parse.specs.Words.{Bytes}
+use Rattle.term_core.specs.Dates.{parts_of}
+use Rattle.contract_parse.proofs.DateShape.{are_date}
 use Rattle.contract_parse.proofs.EntryFacts.{and_parts}
 use Rattle.contract_print.specs.Comments.{IsCommentText}
 use Rattle.contract_print.specs.Spellable.{are_names, are_new}
@@ -90,13 +92,12 @@ unfolding text_of
 number_plain (pos n) s = subst IsPlain (sym (unsigned n s)) (unsigned_plain n s)
 number_plain (negsuc n) s = unsigned_plain (suc n) s
 
-date_digit : (x : ℕ) → x ≤ 9 → is_plain (48 + x) ≡ true
-date_digit x h = grind (arith, nat_tests)
-
 pub date_plain : (text : Bytes) → IsDate text → IsPlain text
-date_plain text t =
-    subst IsPlain (sym t.is)
-    (rw (date_digit t.a t.year.0, date_digit t.b t.year.1, date_digit t.c t.year.2, date_digit t.d t.year.3, date_digit t.e t.month.0, date_digit t.f t.month.1, date_digit t.g t.day.0, date_digit t.h t.day.1) refl)
+unfolding parts_of
+date_plain (a ∷ b ∷ c ∷ d ∷ h ∷ e ∷ f ∷ i ∷ g ∷ j ∷ []) is =
+    let date = are_date a b c d h e f i g j is in
+    rw (digit_plain a date.year.0, digit_plain b date.year.1, digit_plain c date.year.2, digit_plain d date.year.3, date.hyphens.0, digit_plain e date.month.0, digit_plain f date.month.1, date.hyphens.1, digit_plain g date.day.0, digit_plain j date.day.1) refl
+date_plain _ is = absurd (false≢true is)
 
 -- ---- declared names
 

@@ -17,56 +17,56 @@ use indexmap::{IndexMap, IndexSet};
 use std::alloc::Global;
 use term_core::{Contr, Days, Decls, Expr, Label, Name};
 
-/// Appends a declared name, by its place.
-pub fn append_name(out: &mut Vec<u8>, names: &IndexSet<Name>, place: u32) -> Result<(), NoMemory>
-    ensures { OnOk result (out.new.items ≡ out.old.items ++ name_at names.now.keys place) }
+/// Appends a declared name, by its index.
+pub fn append_name(out: &mut Vec<u8>, names: &IndexSet<Name>, index: u32) -> Result<(), NoMemory>
+    ensures { OnOk result (out.new.items ≡ out.old.items ++ name_at names.now.keys index) }
 {
-    match names.get_index(place as usize) {
+    match names.get_index(index as usize) {
         Some(name) => append(out, name.text()),
         None => Ok(()),
     }
 }
 
-/// Appends the name of an asset, by its place.
+/// Appends the name of an asset, by its index.
 pub fn append_asset_name(
     out: &mut Vec<u8>,
     assets: &IndexMap<Name, u8>,
-    place: u32,
+    index: u32,
 ) -> Result<(), NoMemory>
     ensures { OnOk result (out.new.items
-        ≡ out.old.items ++ name_at (keys_of assets.now.entries) place) }
+        ≡ out.old.items ++ name_at (keys_of assets.now.entries) index) }
 {
-    match assets.get_index(place as usize) {
+    match assets.get_index(index as usize) {
         Some((name, _)) => append(out, name.text()),
         None => Ok(()),
     }
 }
 
-/// Appends the name of a label, by its place.
+/// Appends the name of a label, by its index.
 pub fn append_label_name(
     out: &mut Vec<u8>,
     labels: &IndexMap<Name, Label>,
-    place: u32,
+    index: u32,
 ) -> Result<(), NoMemory>
     ensures { OnOk result (out.new.items
-        ≡ out.old.items ++ name_at (keys_of labels.now.entries) place) }
+        ≡ out.old.items ++ name_at (keys_of labels.now.entries) index) }
 {
-    match labels.get_index(place as usize) {
+    match labels.get_index(index as usize) {
         Some((name, _)) => append(out, name.text()),
         None => Ok(()),
     }
 }
 
-/// Appends the name of a template, by its place.
+/// Appends the name of a template, by its index.
 pub fn append_template_name(
     out: &mut Vec<u8>,
     templates: &IndexMap<Name, u32>,
-    place: u32,
+    index: u32,
 ) -> Result<(), NoMemory>
     ensures { OnOk result (out.new.items
-        ≡ out.old.items ++ name_at (keys_of templates.now.entries) place) }
+        ≡ out.old.items ++ name_at (keys_of templates.now.entries) index) }
 {
-    match templates.get_index(place as usize) {
+    match templates.get_index(index as usize) {
         Some((name, _)) => append(out, name.text()),
         None => Ok(()),
     }

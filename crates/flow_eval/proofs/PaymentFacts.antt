@@ -47,20 +47,20 @@ branch_counts None first last hit miss one other = other
 sooner : (first f : ℤ) (n : ℕ) → first ≤ℤ f → first ≤ℤ (f +ℤ pos n)
 sooner first f n h = omega (arith, ints)
 
-pub payments_count : (d : Declarations) (env : Environment) (first last : ℤ) (c : Contract) (g : List Entry) (room : ℕ) (f : ℤ) → first ≤ℤ f → AllCount first last (payments_of d room c g env f last)
-payments_count d env first last Zero g room f from = All-nil (λ (p : Payment). Counts first last p.slot)
-payments_count d env first last (Pay a p q) g room f from =
-    paid_counts (int_lt last f) (p == q) first last (payment_on f (record { asset = a; from = p; to = q }) (raised (pos 1) room)) (λ early different. (from, not_after last f early, apart p q different))
-payments_count d env first last (Both one other) g room f from =
-    All-append (λ (p : Payment). Counts first last p.slot) (payments_of d room one g env f last) (payments_of d room other g env f last) (payments_count d env first last one g room f from) (payments_count d env first last other g room f from)
-payments_count d env first last (Scale e c) g room f from =
-    All-map (λ (p : Payment). Counts first last p.slot) (times (num (value_of d e g env f))) (payments_of d (room - scale_of d e (kinds g)) c g env f last) (payments_count d env first last c g (room - scale_of d e (kinds g)) f from)
-payments_count d env first last (After n c) g room f from = payments_count d env first last c g room (f +ℤ pos (count_of n)) (sooner first f (count_of n) from)
-payments_count d env first last (Let e c) g room f from =
-    payments_count d env first last c (record { value = value_of d e g env f; kind = kind_or (kind_of d e (kinds g)) } ∷ g) room f from
-payments_count d env first last (Within e n one other) g room f from =
-    branch_counts (first_true d e g env f (count_of n)) first last (λ k. payments_of d room one g env (f +ℤ pos k) last) (payments_of d room other g env (f +ℤ pos (count_of n)) last)
-    (λ k. payments_count d env first last one g room (f +ℤ pos k) (sooner first f k from)) (payments_count d env first last other g room (f +ℤ pos (count_of n)) (sooner first f (count_of n) from))
+pub payments_count : (d : Declarations) (env : Environment) (first last : ℤ) (c : Contract) (g : List Entry) (decimals : ℕ) (f : ℤ) → first ≤ℤ f → AllCount first last (payments_of d decimals c g env f last)
+payments_count d env first last Zero g decimals f from = All-nil (λ (p : Payment). Counts first last p.slot)
+payments_count d env first last (Pay a p q) g decimals f from =
+    paid_counts (int_lt last f) (p == q) first last (payment_on f (record { asset = a; from = p; to = q }) (raised (pos 1) decimals)) (λ early different. (from, not_after last f early, apart p q different))
+payments_count d env first last (Both one other) g decimals f from =
+    All-append (λ (p : Payment). Counts first last p.slot) (payments_of d decimals one g env f last) (payments_of d decimals other g env f last) (payments_count d env first last one g decimals f from) (payments_count d env first last other g decimals f from)
+payments_count d env first last (Scale e c) g decimals f from =
+    All-map (λ (p : Payment). Counts first last p.slot) (times (num (value_of d e g env f))) (payments_of d (decimals - scale_of d e (kinds g)) c g env f last) (payments_count d env first last c g (decimals - scale_of d e (kinds g)) f from)
+payments_count d env first last (After n c) g decimals f from = payments_count d env first last c g decimals (f +ℤ pos (count_of n)) (sooner first f (count_of n) from)
+payments_count d env first last (Let e c) g decimals f from =
+    payments_count d env first last c (record { value = value_of d e g env f; kind = kind_or (kind_of d e (kinds g)) } ∷ g) decimals f from
+payments_count d env first last (Within e n one other) g decimals f from =
+    branch_counts (first_true d e g env f (count_of n)) first last (λ k. payments_of d decimals one g env (f +ℤ pos k) last) (payments_of d decimals other g env (f +ℤ pos (count_of n)) last)
+    (λ k. payments_count d env first last one g decimals (f +ℤ pos k) (sooner first f k from)) (payments_count d env first last other g decimals (f +ℤ pos (count_of n)) (sooner first f (count_of n) from))
 
 -- ---- how many they are
 
@@ -75,19 +75,19 @@ branch_few None hit miss most one other = other
 fewer : (n a b : ℕ) → n ≤ a → a ≤ b → n ≤ b
 fewer n a b h k = omega arith
 
-pub payments_few : (d : Declarations) (env : Environment) (last : ℤ) (c : Contract) (g : List Entry) (room : ℕ) (f : ℤ) → length (payments_of d room c g env f last) ≤ nodes_of_contract c
-payments_few d env last Zero g room f = omega arith
-payments_few d env last (Pay a p q) g room f = one_at_most (int_lt last f || (p == q)) (payment_on f (record { asset = a; from = p; to = q }) (raised (pos 1) room))
-payments_few d env last (Both one other) g room f =
-    omega (arith, length-append (payments_of d room one g env f last) (payments_of d room other g env f last), payments_few d env last one g room f, payments_few d env last other g room f)
-payments_few d env last (Scale e c) g room f =
-    omega (arith, length-map (payments_of d (room - scale_of d e (kinds g)) c g env f last) (times (num (value_of d e g env f))), payments_few d env last c g (room - scale_of d e (kinds g)) f)
-payments_few d env last (After n c) g room f = fewer _ (nodes_of_contract c) _ (payments_few d env last c g room (f +ℤ pos (count_of n))) (omega arith)
-payments_few d env last (Let e c) g room f =
-    fewer _ (nodes_of_contract c) _ (payments_few d env last c (record { value = value_of d e g env f; kind = kind_or (kind_of d e (kinds g)) } ∷ g) room f) (omega arith)
-payments_few d env last (Within e n one other) g room f =
-    branch_few (first_true d e g env f (count_of n)) (λ k. payments_of d room one g env (f +ℤ pos k) last) (payments_of d room other g env (f +ℤ pos (count_of n)) last) (nodes e + nodes_of_contract one + nodes_of_contract other + 1)
-    (λ k. fewer _ (nodes_of_contract one) _ (payments_few d env last one g room (f +ℤ pos k)) (omega arith)) (fewer _ (nodes_of_contract other) _ (payments_few d env last other g room (f +ℤ pos (count_of n))) (omega arith))
+pub payments_few : (d : Declarations) (env : Environment) (last : ℤ) (c : Contract) (g : List Entry) (decimals : ℕ) (f : ℤ) → length (payments_of d decimals c g env f last) ≤ nodes_of_contract c
+payments_few d env last Zero g decimals f = omega arith
+payments_few d env last (Pay a p q) g decimals f = one_at_most (int_lt last f || (p == q)) (payment_on f (record { asset = a; from = p; to = q }) (raised (pos 1) decimals))
+payments_few d env last (Both one other) g decimals f =
+    omega (arith, length-append (payments_of d decimals one g env f last) (payments_of d decimals other g env f last), payments_few d env last one g decimals f, payments_few d env last other g decimals f)
+payments_few d env last (Scale e c) g decimals f =
+    omega (arith, length-map (payments_of d (decimals - scale_of d e (kinds g)) c g env f last) (times (num (value_of d e g env f))), payments_few d env last c g (decimals - scale_of d e (kinds g)) f)
+payments_few d env last (After n c) g decimals f = fewer _ (nodes_of_contract c) _ (payments_few d env last c g decimals (f +ℤ pos (count_of n))) (omega arith)
+payments_few d env last (Let e c) g decimals f =
+    fewer _ (nodes_of_contract c) _ (payments_few d env last c (record { value = value_of d e g env f; kind = kind_or (kind_of d e (kinds g)) } ∷ g) decimals f) (omega arith)
+payments_few d env last (Within e n one other) g decimals f =
+    branch_few (first_true d e g env f (count_of n)) (λ k. payments_of d decimals one g env (f +ℤ pos k) last) (payments_of d decimals other g env (f +ℤ pos (count_of n)) last) (nodes e + nodes_of_contract one + nodes_of_contract other + 1)
+    (λ k. fewer _ (nodes_of_contract one) _ (payments_few d env last one g decimals (f +ℤ pos k)) (omega arith)) (fewer _ (nodes_of_contract other) _ (payments_few d env last other g decimals (f +ℤ pos (count_of n))) (omega arith))
 
 -- ---- where there are some
 
@@ -129,23 +129,23 @@ pub shorter : (last f b : ℤ) (n : ℕ) → b ≡ last -ℤ f → b -ℤ pos n 
 shorter last f b n h = omega (arith, ints)
 
 -- there are payments exactly where something is transferred on the path taken
-pub payments_live : (d : Declarations) (env : Environment) (last : ℤ) (c : Contract) (g : List Entry) (room : ℕ) (f a b : ℤ) → a ≤ℤ pos 0 → b ≡ last -ℤ f
-    → some_paid (payments_of d room c g env f last) ≡ live d c g env f a b
-payments_live d env last Zero g room f a b h e = refl
-payments_live d env last (Pay x p q) g room f a b h e =
-    paid_live (int_lt last f) (int_lt b (pos 0)) (int_lt (pos 0) a) (p == q) (payment_on f (record { asset = x; from = p; to = q }) (raised (pos 1) room)) (after_last last f b e) (not_before a h)
-payments_live d env last (Both one other) g room f a b h e =
-    some-append (payments_of d room one g env f last) (payments_of d room other g env f last) ∙ some-either _ _ _ _ (payments_live d env last one g room f a b h e) (payments_live d env last other g room f a b h e)
-payments_live d env last (Scale e c) g room f a b h i =
-    some-multiplied (num (value_of d e g env f)) (payments_of d (room - scale_of d e (kinds g)) c g env f last) ∙ payments_live d env last c g (room - scale_of d e (kinds g)) f a b h i
-payments_live d env last (After n c) g room f a b h e =
-    payments_live d env last c g room (f +ℤ pos (count_of n)) (a -ℤ pos (count_of n)) (b -ℤ pos (count_of n)) (lower a (count_of n) h) (shorter last f b (count_of n) e)
-payments_live d env last (Let e c) g room f a b h i =
-    payments_live d env last c (record { value = value_of d e g env f; kind = kind_or (kind_of d e (kinds g)) } ∷ g) room f a b h i
-payments_live d env last (Within e n one other) g room f a b h i =
-    branch_live (first_true d e g env f (count_of n)) (λ k. payments_of d room one g env (f +ℤ pos k) last) (payments_of d room other g env (f +ℤ pos (count_of n)) last) (λ k. live d one g env (f +ℤ pos k) (a -ℤ pos k) (b -ℤ pos k)) (live d other g env (f +ℤ pos (count_of n)) (a -ℤ pos (count_of n)) (b -ℤ pos (count_of n)))
-    (λ k. payments_live d env last one g room (f +ℤ pos k) (a -ℤ pos k) (b -ℤ pos k) (lower a k h) (shorter last f b k i))
-    (payments_live d env last other g room (f +ℤ pos (count_of n)) (a -ℤ pos (count_of n)) (b -ℤ pos (count_of n)) (lower a (count_of n) h) (shorter last f b (count_of n) i))
+pub payments_live : (d : Declarations) (env : Environment) (last : ℤ) (c : Contract) (g : List Entry) (decimals : ℕ) (f a b : ℤ) → a ≤ℤ pos 0 → b ≡ last -ℤ f
+    → some_paid (payments_of d decimals c g env f last) ≡ live d c g env f a b
+payments_live d env last Zero g decimals f a b h e = refl
+payments_live d env last (Pay x p q) g decimals f a b h e =
+    paid_live (int_lt last f) (int_lt b (pos 0)) (int_lt (pos 0) a) (p == q) (payment_on f (record { asset = x; from = p; to = q }) (raised (pos 1) decimals)) (after_last last f b e) (not_before a h)
+payments_live d env last (Both one other) g decimals f a b h e =
+    some-append (payments_of d decimals one g env f last) (payments_of d decimals other g env f last) ∙ some-either _ _ _ _ (payments_live d env last one g decimals f a b h e) (payments_live d env last other g decimals f a b h e)
+payments_live d env last (Scale e c) g decimals f a b h i =
+    some-multiplied (num (value_of d e g env f)) (payments_of d (decimals - scale_of d e (kinds g)) c g env f last) ∙ payments_live d env last c g (decimals - scale_of d e (kinds g)) f a b h i
+payments_live d env last (After n c) g decimals f a b h e =
+    payments_live d env last c g decimals (f +ℤ pos (count_of n)) (a -ℤ pos (count_of n)) (b -ℤ pos (count_of n)) (lower a (count_of n) h) (shorter last f b (count_of n) e)
+payments_live d env last (Let e c) g decimals f a b h i =
+    payments_live d env last c (record { value = value_of d e g env f; kind = kind_or (kind_of d e (kinds g)) } ∷ g) decimals f a b h i
+payments_live d env last (Within e n one other) g decimals f a b h i =
+    branch_live (first_true d e g env f (count_of n)) (λ k. payments_of d decimals one g env (f +ℤ pos k) last) (payments_of d decimals other g env (f +ℤ pos (count_of n)) last) (λ k. live d one g env (f +ℤ pos k) (a -ℤ pos k) (b -ℤ pos k)) (live d other g env (f +ℤ pos (count_of n)) (a -ℤ pos (count_of n)) (b -ℤ pos (count_of n)))
+    (λ k. payments_live d env last one g decimals (f +ℤ pos k) (a -ℤ pos k) (b -ℤ pos k) (lower a k h) (shorter last f b k i))
+    (payments_live d env last other g decimals (f +ℤ pos (count_of n)) (a -ℤ pos (count_of n)) (b -ℤ pos (count_of n)) (lower a (count_of n) h) (shorter last f b (count_of n) i))
 
 -- there are none after the last day
 branch_none : (o : Option ℕ) (hit : ℕ → List Payment) (miss : List Payment) → ((k : ℕ) → hit k ≡ []) → miss ≡ [] → ◌≡◌ {A = List Payment} (elim o [ Some k ↦ hit k | None ↦ miss ]) []
@@ -162,13 +162,13 @@ paid_late false same p h = absurd (cc)
 none-append : (ps qs : List Payment) → ps ≡ [] → qs ≡ [] → ps ++ qs ≡ []
 none-append ps qs h k = ap (λ (x : List Payment). x ++ qs) h ∙ k
 
-pub payments_none : (d : Declarations) (env : Environment) (last : ℤ) (c : Contract) (g : List Entry) (room : ℕ) (f : ℤ) → int_lt last f ≡ true → payments_of d room c g env f last ≡ []
-payments_none d env last Zero g room f h = refl
-payments_none d env last (Pay a p q) g room f h = paid_late (int_lt last f) (p == q) (payment_on f (record { asset = a; from = p; to = q }) (raised (pos 1) room)) h
-payments_none d env last (Both one other) g room f h = none-append _ _ (payments_none d env last one g room f h) (payments_none d env last other g room f h)
-payments_none d env last (Scale e c) g room f h = ap (multiplied (num (value_of d e g env f))) (payments_none d env last c g (room - scale_of d e (kinds g)) f h)
-payments_none d env last (After n c) g room f h = payments_none d env last c g room (f +ℤ pos (count_of n)) (still_after last f (count_of n) h)
-payments_none d env last (Let e c) g room f h = payments_none d env last c (record { value = value_of d e g env f; kind = kind_or (kind_of d e (kinds g)) } ∷ g) room f h
-payments_none d env last (Within e n one other) g room f h =
-    branch_none (first_true d e g env f (count_of n)) (λ k. payments_of d room one g env (f +ℤ pos k) last) (payments_of d room other g env (f +ℤ pos (count_of n)) last)
-    (λ k. payments_none d env last one g room (f +ℤ pos k) (still_after last f k h)) (payments_none d env last other g room (f +ℤ pos (count_of n)) (still_after last f (count_of n) h))
+pub payments_none : (d : Declarations) (env : Environment) (last : ℤ) (c : Contract) (g : List Entry) (decimals : ℕ) (f : ℤ) → int_lt last f ≡ true → payments_of d decimals c g env f last ≡ []
+payments_none d env last Zero g decimals f h = refl
+payments_none d env last (Pay a p q) g decimals f h = paid_late (int_lt last f) (p == q) (payment_on f (record { asset = a; from = p; to = q }) (raised (pos 1) decimals)) h
+payments_none d env last (Both one other) g decimals f h = none-append _ _ (payments_none d env last one g decimals f h) (payments_none d env last other g decimals f h)
+payments_none d env last (Scale e c) g decimals f h = ap (multiplied (num (value_of d e g env f))) (payments_none d env last c g (decimals - scale_of d e (kinds g)) f h)
+payments_none d env last (After n c) g decimals f h = payments_none d env last c g decimals (f +ℤ pos (count_of n)) (still_after last f (count_of n) h)
+payments_none d env last (Let e c) g decimals f h = payments_none d env last c (record { value = value_of d e g env f; kind = kind_or (kind_of d e (kinds g)) } ∷ g) decimals f h
+payments_none d env last (Within e n one other) g decimals f h =
+    branch_none (first_true d e g env f (count_of n)) (λ k. payments_of d decimals one g env (f +ℤ pos k) last) (payments_of d decimals other g env (f +ℤ pos (count_of n)) last)
+    (λ k. payments_none d env last one g decimals (f +ℤ pos k) (still_after last f k h)) (payments_none d env last other g decimals (f +ℤ pos (count_of n)) (still_after last f (count_of n) h))

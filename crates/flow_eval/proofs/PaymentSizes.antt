@@ -42,10 +42,10 @@ above p q apart h = grind (arith, nat_tests)
 unit_size : (a p q : ℕ) → (p == q) ≡ false → unsigned_abs (unit_flow a p q (record { from = min p q; to = max p q; asset = a })) ≡ 1
 unit_size a p q apart = elim (cases_lt p q) [ inl h ↦ unit_up a p q h | inr h ↦ unit_down a p q (above p q apart h) ]
 
-raised_one : (room : ℕ) → unsigned_abs (raised (pos 1) room) ≡ 1 * 10 ^ (room - 0)
-raised_one room =
-    let all : room ≡ room - 0 = omega arith in
-    unsigned_abs-mul (pos 1) (pos (10 ^ room)) ∙ ap (λ (n : ℕ). 1 * 10 ^ n) all
+raised_one : (decimals : ℕ) → unsigned_abs (raised (pos 1) decimals) ≡ 1 * 10 ^ (decimals - 0)
+raised_one decimals =
+    let all : decimals ≡ decimals - 0 = omega arith in
+    unsigned_abs-mul (pos 1) (pos (10 ^ decimals)) ∙ ap (λ (n : ℕ). 1 * 10 ^ n) all
 
 at_most : (a b : ℕ) → a ≡ b → a ≤ b
 at_most a b h = omega arith
@@ -55,88 +55,88 @@ one_under most true same k p h = All-nil (λ (p : Payment). IsUnder most k p)
 one_under most false true k p h = All-nil (λ (p : Payment). IsUnder most k p)
 one_under most false false k p h = All-cons (λ (p : Payment). IsUnder most k p) p [] (h refl) (All-nil (λ (p : Payment). IsUnder most k p))
 
-pay_under : (a p q room : ℕ) (f : ℤ) → (p == q) ≡ false → IsUnder (λ w. unsigned_abs (unit_flow a p q w)) (room - 0) (payment_on f (record { asset = a; from = p; to = q }) (raised (pos 1) room))
-pay_under a p q room f apart =
-    at_most _ _ (signed (nat_lt p q) (raised (pos 1) room) ∙ raised_one room ∙ ap (λ (n : ℕ). n * 10 ^ (room - 0)) (sym (unit_size a p q apart)))
+pay_under : (a p q decimals : ℕ) (f : ℤ) → (p == q) ≡ false → IsUnder (λ w. unsigned_abs (unit_flow a p q w)) (decimals - 0) (payment_on f (record { asset = a; from = p; to = q }) (raised (pos 1) decimals))
+pay_under a p q decimals f apart =
+    at_most _ _ (signed (nat_lt p q) (raised (pos 1) decimals) ∙ raised_one decimals ∙ ap (λ (n : ℕ). n * 10 ^ (decimals - 0)) (sym (unit_size a p q apart)))
 
 -- ---- more of it
 
-split_power : (t room i j : ℕ) → i ≤ j → j ≤ room → t * 10 ^ (room - i) ≡ (t * 10 ^ (j - i)) * 10 ^ (room - j)
-split_power t room i j h k =
-    let all : room - i ≡ (j - i) + (room - j) = omega arith in
-    ap (λ (n : ℕ). t * 10 ^ n) all ∙ ap (λ (n : ℕ). t * n) (pow-add 10 (j - i) (room - j)) ∙ sym (mul_assoc t (10 ^ (j - i)) (10 ^ (room - j)))
+split_power : (t decimals i j : ℕ) → i ≤ j → j ≤ decimals → t * 10 ^ (decimals - i) ≡ (t * 10 ^ (j - i)) * 10 ^ (decimals - j)
+split_power t decimals i j h k =
+    let all : decimals - i ≡ (j - i) + (decimals - j) = omega arith in
+    ap (λ (n : ℕ). t * 10 ^ n) all ∙ ap (λ (n : ℕ). t * n) (pow-add 10 (j - i) (decimals - j)) ∙ sym (mul_assoc t (10 ^ (j - i)) (10 ^ (decimals - j)))
 
 no_more : (x y k : ℕ) → x ≤ y → x * k ≤ y * k
 no_more x y k h = mul-le x k y k h (omega arith)
 
-raise_to : (t more room i j : ℕ) → i ≤ j → j ≤ room → t * 10 ^ (j - i) ≤ more → t * 10 ^ (room - i) ≤ more * 10 ^ (room - j)
-raise_to t more room i j h k most =
-    subst (λ (n : ℕ). n ≤ more * 10 ^ (room - j)) (sym (split_power t room i j h k)) (no_more (t * 10 ^ (j - i)) more (10 ^ (room - j)) most)
+raise_to : (t more decimals i j : ℕ) → i ≤ j → j ≤ decimals → t * 10 ^ (j - i) ≤ more → t * 10 ^ (decimals - i) ≤ more * 10 ^ (decimals - j)
+raise_to t more decimals i j h k most =
+    subst (λ (n : ℕ). n ≤ more * 10 ^ (decimals - j)) (sym (split_power t decimals i j h k)) (no_more (t * 10 ^ (j - i)) more (10 ^ (decimals - j)) most)
 
 least_of : (a b c : ℕ) → a ≤ b → b ≤ c → a ≤ c
 least_of a b c h k = omega arith
 
-under_more : (less more : Flow → ℕ) (room i j : ℕ) (ps : List Payment) → i ≤ j → j ≤ room → ((w : Flow) → less w * 10 ^ (j - i) ≤ more w) → AreUnder less (room - i) ps → AreUnder more (room - j) ps
-under_more less more room i j ps h k most all =
-    All-weaker (λ (p : Payment). IsUnder less (room - i) p) (λ (p : Payment). IsUnder more (room - j) p) (λ p is. least_of (unsigned_abs p.amount) _ _ is (raise_to (less (flow_at p.slot)) (more (flow_at p.slot)) room i j h k (most (flow_at p.slot)))) ps all
+under_more : (less more : Flow → ℕ) (decimals i j : ℕ) (ps : List Payment) → i ≤ j → j ≤ decimals → ((w : Flow) → less w * 10 ^ (j - i) ≤ more w) → AreUnder less (decimals - i) ps → AreUnder more (decimals - j) ps
+under_more less more decimals i j ps h k most all =
+    All-weaker (λ (p : Payment). IsUnder less (decimals - i) p) (λ (p : Payment). IsUnder more (decimals - j) p) (λ p is. least_of (unsigned_abs p.amount) _ _ is (raise_to (less (flow_at p.slot)) (more (flow_at p.slot)) decimals i j h k (most (flow_at p.slot)))) ps all
 
 reordered : (t p v : ℕ) → (t * p) * v ≡ (t * v) * p
 reordered t p v = omega (arith, mul_assoc)
 
-times_under : (most : Flow → ℕ) (room i j : ℕ) (v : ℤ) (p : Payment) → IsUnder most (room - i - j) p → IsUnder (λ w. most w * unsigned_abs v) (room - (i + j)) (times v p)
-times_under most room i j v p is =
-    let same : room - i - j ≡ room - (i + j) = omega arith in
-    least_of _ _ _ (at_most _ _ (unsigned_abs-mul p.amount v)) (least_of _ _ _ (no_more (unsigned_abs p.amount) (most (flow_at p.slot) * 10 ^ (room - i - j)) (unsigned_abs v) is) (at_most _ _ (reordered (most (flow_at p.slot)) (10 ^ (room - i - j)) (unsigned_abs v) ∙ ap (λ (n : ℕ). (most (flow_at p.slot) * unsigned_abs v) * 10 ^ n) same)))
+times_under : (most : Flow → ℕ) (decimals i j : ℕ) (v : ℤ) (p : Payment) → IsUnder most (decimals - i - j) p → IsUnder (λ w. most w * unsigned_abs v) (decimals - (i + j)) (times v p)
+times_under most decimals i j v p is =
+    let same : decimals - i - j ≡ decimals - (i + j) = omega arith in
+    least_of _ _ _ (at_most _ _ (unsigned_abs-mul p.amount v)) (least_of _ _ _ (no_more (unsigned_abs p.amount) (most (flow_at p.slot) * 10 ^ (decimals - i - j)) (unsigned_abs v) is) (at_most _ _ (reordered (most (flow_at p.slot)) (10 ^ (decimals - i - j)) (unsigned_abs v) ∙ ap (λ (n : ℕ). (most (flow_at p.slot) * unsigned_abs v) * 10 ^ n) same)))
 
-branch_under : (o : Option ℕ) (hit : ℕ → List Payment) (miss : List Payment) (x : ℕ → Flow → ℕ) (y : Flow → ℕ) (room i j : ℕ) → max i j ≤ room
-    → ((k : ℕ) → AreUnder (x k) (room - i) (hit k)) → AreUnder y (room - j) miss
-    → AreUnder (λ w. elim o [ Some k ↦ x k w * 10 ^ (max i j - i) | None ↦ y w * 10 ^ (max i j - j) ]) (room - max i j) (elim o [ Some k ↦ hit k | None ↦ miss ])
-branch_under (Some k) hit miss x y room i j h one other = under_more (x k) (λ w. x k w * 10 ^ (max i j - i)) room i (max i j) (hit k) (omega arith) h (λ w. omega arith) (one k)
-branch_under None hit miss x y room i j h one other = under_more y (λ w. y w * 10 ^ (max i j - j)) room j (max i j) miss (omega arith) h (λ w. omega arith) other
+branch_under : (o : Option ℕ) (hit : ℕ → List Payment) (miss : List Payment) (x : ℕ → Flow → ℕ) (y : Flow → ℕ) (decimals i j : ℕ) → max i j ≤ decimals
+    → ((k : ℕ) → AreUnder (x k) (decimals - i) (hit k)) → AreUnder y (decimals - j) miss
+    → AreUnder (λ w. elim o [ Some k ↦ x k w * 10 ^ (max i j - i) | None ↦ y w * 10 ^ (max i j - j) ]) (decimals - max i j) (elim o [ Some k ↦ hit k | None ↦ miss ])
+branch_under (Some k) hit miss x y decimals i j h one other = under_more (x k) (λ w. x k w * 10 ^ (max i j - i)) decimals i (max i j) (hit k) (omega arith) h (λ w. omega arith) (one k)
+branch_under None hit miss x y decimals i j h one other = under_more y (λ w. y w * 10 ^ (max i j - j)) decimals j (max i j) miss (omega arith) h (λ w. omega arith) other
 
 -- each payment is at most the turnover between its parties, at the decimals that are left for the contract
-pub payments_under : (d : Declarations) (env : Environment) (last : ℤ) (c : Contract) (g : List Entry) (room : ℕ) (f : ℤ) → scale_of_contract d c (kinds g) ≤ room
-    → AreUnder (turnover_of d c g env f) (room - scale_of_contract d c (kinds g)) (payments_of d room c g env f last)
-payments_under d env last Zero g room f fits = All-nil (λ (p : Payment). IsUnder (turnover_of d Zero g env f) (room - 0) p)
-payments_under d env last (Pay a p q) g room f fits =
-    one_under (turnover_of d (Pay a p q) g env f) (int_lt last f) (p == q) (room - 0) (payment_on f (record { asset = a; from = p; to = q }) (raised (pos 1) room)) (pay_under a p q room f)
-payments_under d env last (Both one other) g room f fits =
+pub payments_under : (d : Declarations) (env : Environment) (last : ℤ) (c : Contract) (g : List Entry) (decimals : ℕ) (f : ℤ) → scale_of_contract d c (kinds g) ≤ decimals
+    → AreUnder (turnover_of d c g env f) (decimals - scale_of_contract d c (kinds g)) (payments_of d decimals c g env f last)
+payments_under d env last Zero g decimals f fits = All-nil (λ (p : Payment). IsUnder (turnover_of d Zero g env f) (decimals - 0) p)
+payments_under d env last (Pay a p q) g decimals f fits =
+    one_under (turnover_of d (Pay a p q) g env f) (int_lt last f) (p == q) (decimals - 0) (payment_on f (record { asset = a; from = p; to = q }) (raised (pos 1) decimals)) (pay_under a p q decimals f)
+payments_under d env last (Both one other) g decimals f fits =
     let i = scale_of_contract d one (kinds g) in
     let j = scale_of_contract d other (kinds g) in
-    let l : i ≤ room = omega arith in
-    let r : j ≤ room = omega arith in
-    All-append (λ (p : Payment). IsUnder (turnover_of d (Both one other) g env f) (room - max i j) p) (payments_of d room one g env f last) (payments_of d room other g env f last)
-    (under_more (turnover_of d one g env f) (turnover_of d (Both one other) g env f) room i (max i j) (payments_of d room one g env f last) (omega arith) fits (λ w. omega arith) (payments_under d env last one g room f l))
-    (under_more (turnover_of d other g env f) (turnover_of d (Both one other) g env f) room j (max i j) (payments_of d room other g env f last) (omega arith) fits (λ w. omega arith) (payments_under d env last other g room f r))
-payments_under d env last (Scale e c) g room f fits =
+    let l : i ≤ decimals = omega arith in
+    let r : j ≤ decimals = omega arith in
+    All-append (λ (p : Payment). IsUnder (turnover_of d (Both one other) g env f) (decimals - max i j) p) (payments_of d decimals one g env f last) (payments_of d decimals other g env f last)
+    (under_more (turnover_of d one g env f) (turnover_of d (Both one other) g env f) decimals i (max i j) (payments_of d decimals one g env f last) (omega arith) fits (λ w. omega arith) (payments_under d env last one g decimals f l))
+    (under_more (turnover_of d other g env f) (turnover_of d (Both one other) g env f) decimals j (max i j) (payments_of d decimals other g env f last) (omega arith) fits (λ w. omega arith) (payments_under d env last other g decimals f r))
+payments_under d env last (Scale e c) g decimals f fits =
     let i = scale_of d e (kinds g) in
     let j = scale_of_contract d c (kinds g) in
     let v = num (value_of d e g env f) in
-    let l : j ≤ room - i = omega arith in
-    All-map (λ (p : Payment). IsUnder (turnover_of d (Scale e c) g env f) (room - (i + j)) p) (times v) (payments_of d (room - i) c g env f last)
-    (All-weaker (λ (p : Payment). IsUnder (turnover_of d c g env f) (room - i - j) p) (λ (p : Payment). IsUnder (turnover_of d (Scale e c) g env f) (room - (i + j)) (times v p)) (λ p is. times_under (turnover_of d c g env f) room i j v p is) (payments_of d (room - i) c g env f last)
-    (payments_under d env last c g (room - i) f l))
-payments_under d env last (After n c) g room f fits = payments_under d env last c g room (f +ℤ pos (count_of n)) fits
-payments_under d env last (Let e c) g room f fits = payments_under d env last c (record { value = value_of d e g env f; kind = kind_or (kind_of d e (kinds g)) } ∷ g) room f fits
-payments_under d env last (Within e n one other) g room f fits =
+    let l : j ≤ decimals - i = omega arith in
+    All-map (λ (p : Payment). IsUnder (turnover_of d (Scale e c) g env f) (decimals - (i + j)) p) (times v) (payments_of d (decimals - i) c g env f last)
+    (All-weaker (λ (p : Payment). IsUnder (turnover_of d c g env f) (decimals - i - j) p) (λ (p : Payment). IsUnder (turnover_of d (Scale e c) g env f) (decimals - (i + j)) (times v p)) (λ p is. times_under (turnover_of d c g env f) decimals i j v p is) (payments_of d (decimals - i) c g env f last)
+    (payments_under d env last c g (decimals - i) f l))
+payments_under d env last (After n c) g decimals f fits = payments_under d env last c g decimals (f +ℤ pos (count_of n)) fits
+payments_under d env last (Let e c) g decimals f fits = payments_under d env last c (record { value = value_of d e g env f; kind = kind_or (kind_of d e (kinds g)) } ∷ g) decimals f fits
+payments_under d env last (Within e n one other) g decimals f fits =
     let i = scale_of_contract d one (kinds g) in
     let j = scale_of_contract d other (kinds g) in
-    let l : i ≤ room = omega arith in
-    let r : j ≤ room = omega arith in
-    branch_under (first_true d e g env f (count_of n)) (λ k. payments_of d room one g env (f +ℤ pos k) last) (payments_of d room other g env (f +ℤ pos (count_of n)) last) (λ k. turnover_of d one g env (f +ℤ pos k)) (turnover_of d other g env (f +ℤ pos (count_of n))) room i j fits
-    (λ k. payments_under d env last one g room (f +ℤ pos k) l) (payments_under d env last other g room (f +ℤ pos (count_of n)) r)
+    let l : i ≤ decimals = omega arith in
+    let r : j ≤ decimals = omega arith in
+    branch_under (first_true d e g env f (count_of n)) (λ k. payments_of d decimals one g env (f +ℤ pos k) last) (payments_of d decimals other g env (f +ℤ pos (count_of n)) last) (λ k. turnover_of d one g env (f +ℤ pos k)) (turnover_of d other g env (f +ℤ pos (count_of n))) decimals i j fits
+    (λ k. payments_under d env last one g decimals (f +ℤ pos k) l) (payments_under d env last other g decimals (f +ℤ pos (count_of n)) r)
 
 -- so where the turnover at the portfolio's decimals is small, each payment is, at no more decimals
-under_total : (t room all i most : ℕ) → room ≤ all → i ≤ room → t * 10 ^ (all - i) ≤ most → t * 10 ^ (room - i) ≤ most
-under_total t room all i most h k total =
-    least_of _ (t * 10 ^ (all - i)) _ (mul-le t (10 ^ (room - i)) t (10 ^ (all - i)) (omega arith) (powers (room - i) (all - i) (omega arith))) total
+under_total : (t decimals all i most : ℕ) → decimals ≤ all → i ≤ decimals → t * 10 ^ (all - i) ≤ most → t * 10 ^ (decimals - i) ≤ most
+under_total t decimals all i most h k total =
+    least_of _ (t * 10 ^ (all - i)) _ (mul-le t (10 ^ (decimals - i)) t (10 ^ (all - i)) (omega arith) (powers (decimals - i) (all - i) (omega arith))) total
   where
     powers : (a b : ℕ) → a ≤ b → 10 ^ a ≤ 10 ^ b
     powers a b h = pow-le-pow_right (omega arith) h
 
-pub payments_small : (d : Declarations) (env : Environment) (last : ℤ) (c : Contract) (g : List Entry) (room most : ℕ) (f : ℤ) → scale_of_contract d c (kinds g) ≤ room → room ≤ d.amounts
+pub payments_small : (d : Declarations) (env : Environment) (last : ℤ) (c : Contract) (g : List Entry) (decimals most : ℕ) (f : ℤ) → scale_of_contract d c (kinds g) ≤ decimals → decimals ≤ d.amounts
     → ((w : Flow) → turnover_of d c g env f w * 10 ^ (d.amounts - scale_of_contract d c (kinds g)) ≤ most)
-    → All (λ (p : Payment). unsigned_abs p.amount ≤ most) (payments_of d room c g env f last)
-payments_small d env last c g room most f fits h total =
-    All-weaker (λ (p : Payment). IsUnder (turnover_of d c g env f) (room - scale_of_contract d c (kinds g)) p) (λ (p : Payment). unsigned_abs p.amount ≤ most)
-    (λ p is. least_of _ _ _ is (under_total (turnover_of d c g env f (flow_at p.slot)) room d.amounts (scale_of_contract d c (kinds g)) most h fits (total (flow_at p.slot)))) (payments_of d room c g env f last) (payments_under d env last c g room f fits)
+    → All (λ (p : Payment). unsigned_abs p.amount ≤ most) (payments_of d decimals c g env f last)
+payments_small d env last c g decimals most f fits h total =
+    All-weaker (λ (p : Payment). IsUnder (turnover_of d c g env f) (decimals - scale_of_contract d c (kinds g)) p) (λ (p : Payment). unsigned_abs p.amount ≤ most)
+    (λ p is. least_of _ _ _ is (under_total (turnover_of d c g env f (flow_at p.slot)) decimals d.amounts (scale_of_contract d c (kinds g)) most h fits (total (flow_at p.slot)))) (payments_of d decimals c g env f last) (payments_under d env last c g decimals f fits)

@@ -32,66 +32,66 @@ sum_at-multiplied s v [] = sym (*ℤ-zero v)
 sum_at-multiplied s v (p ∷ ps) =
     ap (λ (x : ℤ). x +ℤ sum_at s (multiplied v ps)) (share_by (same_slot s p.slot) p.amount v) ∙ ap (λ (x : ℤ). share s p *ℤ v +ℤ x) (sum_at-multiplied s v ps ∙ *ℤ_comm v (sum_at s ps)) ∙ sym (sum-mul-all (share s p) (sum_at s ps) v) ∙ *ℤ_comm (share s p +ℤ sum_at s ps) v
 
-unit_raised : (room : ℕ) (u : ℤ) → raised (pos 1) room *ℤ u ≡ raised u (room - 0)
-unit_raised room u =
-    let all : room ≡ room - 0 = omega arith in
-    mul-swap (pos 1) (10 ^ room) u ∙ ap (λ (x : ℤ). raised x room) (*ℤ_comm (pos 1) u ∙ times_one u) ∙ ap (λ (n : ℕ). raised u n) all
+unit_raised : (decimals : ℕ) (u : ℤ) → raised (pos 1) decimals *ℤ u ≡ raised u (decimals - 0)
+unit_raised decimals u =
+    let all : decimals ≡ decimals - 0 = omega arith in
+    mul-swap (pos 1) (10 ^ decimals) u ∙ ap (λ (x : ℤ). raised x decimals) (*ℤ_comm (pos 1) u ∙ times_one u) ∙ ap (λ (n : ℕ). raised u n) all
 
-factor_raised : (room i j : ℕ) (v x : ℤ) → v *ℤ raised x (room - i - j) ≡ raised (v *ℤ x) (room - (i + j))
-factor_raised room i j v x =
-    let same : room - i - j ≡ room - (i + j) = omega arith in
-    *ℤ_comm v (raised x (room - i - j)) ∙ mul-swap x (10 ^ (room - i - j)) v ∙ ap (λ (y : ℤ). raised y (room - i - j)) (*ℤ_comm x v) ∙ ap (λ (n : ℕ). raised (v *ℤ x) n) same
+factor_raised : (decimals i j : ℕ) (v x : ℤ) → v *ℤ raised x (decimals - i - j) ≡ raised (v *ℤ x) (decimals - (i + j))
+factor_raised decimals i j v x =
+    let same : decimals - i - j ≡ decimals - (i + j) = omega arith in
+    *ℤ_comm v (raised x (decimals - i - j)) ∙ mul-swap x (10 ^ (decimals - i - j)) v ∙ ap (λ (y : ℤ). raised y (decimals - i - j)) (*ℤ_comm x v) ∙ ap (λ (n : ℕ). raised (v *ℤ x) n) same
 
 later : (x f : ℤ) (n : ℕ) → x -ℤ (f +ℤ pos n) ≡ (x -ℤ f) -ℤ pos n
 later x f n = omega (arith, ints)
 
-left_raised : (x : ℤ) (room i j : ℕ) → max i j ≤ room → raised x (room - i) ≡ raised (raised x (max i j - i)) (room - max i j)
-left_raised x room i j h =
-    let all : (max i j - i) + (room - max i j) ≡ room - i = omega arith in
-    sym (raised-raised x (max i j - i) (room - max i j) ∙ ap (λ (n : ℕ). raised x n) all)
+left_raised : (x : ℤ) (decimals i j : ℕ) → max i j ≤ decimals → raised x (decimals - i) ≡ raised (raised x (max i j - i)) (decimals - max i j)
+left_raised x decimals i j h =
+    let all : (max i j - i) + (decimals - max i j) ≡ decimals - i = omega arith in
+    sym (raised-raised x (max i j - i) (decimals - max i j) ∙ ap (λ (n : ℕ). raised x n) all)
 
-right_raised : (x : ℤ) (room i j : ℕ) → max i j ≤ room → raised x (room - j) ≡ raised (raised x (max i j - j)) (room - max i j)
-right_raised x room i j h =
-    let all : (max i j - j) + (room - max i j) ≡ room - j = omega arith in
-    sym (raised-raised x (max i j - j) (room - max i j) ∙ ap (λ (n : ℕ). raised x n) all)
+right_raised : (x : ℤ) (decimals i j : ℕ) → max i j ≤ decimals → raised x (decimals - j) ≡ raised (raised x (max i j - j)) (decimals - max i j)
+right_raised x decimals i j h =
+    let all : (max i j - j) + (decimals - max i j) ≡ decimals - j = omega arith in
+    sym (raised-raised x (max i j - j) (decimals - max i j) ∙ ap (λ (n : ℕ). raised x n) all)
 
 -- of two branches the one that is entered
-branch_sum : (s : Slot) (o : Option ℕ) (hit : ℕ → List Payment) (miss : List Payment) (x : ℕ → ℤ) (y : ℤ) (room i j : ℕ) → max i j ≤ room
-    → ((k : ℕ) → sum_at s (hit k) ≡ raised (x k) (room - i)) → sum_at s miss ≡ raised y (room - j)
-    → sum_at s (elim o [ Some k ↦ hit k | None ↦ miss ]) ≡ raised (elim o [ Some k ↦ raised (x k) (max i j - i) | None ↦ raised y (max i j - j) ]) (room - max i j)
-branch_sum s (Some k) hit miss x y room i j h one other = one k ∙ left_raised (x k) room i j h
-branch_sum s None hit miss x y room i j h one other = other ∙ right_raised y room i j h
+branch_sum : (s : Slot) (o : Option ℕ) (hit : ℕ → List Payment) (miss : List Payment) (x : ℕ → ℤ) (y : ℤ) (decimals i j : ℕ) → max i j ≤ decimals
+    → ((k : ℕ) → sum_at s (hit k) ≡ raised (x k) (decimals - i)) → sum_at s miss ≡ raised y (decimals - j)
+    → sum_at s (elim o [ Some k ↦ hit k | None ↦ miss ]) ≡ raised (elim o [ Some k ↦ raised (x k) (max i j - i) | None ↦ raised y (max i j - j) ]) (decimals - max i j)
+branch_sum s (Some k) hit miss x y decimals i j h one other = one k ∙ left_raised (x k) decimals i j h
+branch_sum s None hit miss x y decimals i j h one other = other ∙ right_raised y decimals i j h
 
 -- what the payments come to at a slot is what the model says that the contract pays there
-pub sum_at-payments_of : (d : Declarations) (env : Environment) (s : Slot) (last : ℤ) (c : Contract) (g : List Entry) (room : ℕ) (f : ℤ)
-    → s.lower < s.higher → s.day ≤ℤ last → scale_of_contract d c (kinds g) ≤ room
-    → sum_at s (payments_of d room c g env f last) ≡ raised (flow_of d c g env f (s.day -ℤ f) (flow_at s)) (room - scale_of_contract d c (kinds g))
-sum_at-payments_of d env s last Zero g room f pair due fits = sym (zero-*ℤ (pos (10 ^ (room - 0))))
-sum_at-payments_of d env s last (Pay a p q) g room f pair due fits =
-    sum_at-paid s last f (record { asset = a; from = p; to = q }) (raised (pos 1) room) pair due ∙ unit_raised room (on_day_zero (s.day -ℤ f) (unit_flow a p q (flow_at s)))
-sum_at-payments_of d env s last (Both one other) g room f pair due fits =
+pub sum_at-payments_of : (d : Declarations) (env : Environment) (s : Slot) (last : ℤ) (c : Contract) (g : List Entry) (decimals : ℕ) (f : ℤ)
+    → s.lower < s.higher → s.day ≤ℤ last → scale_of_contract d c (kinds g) ≤ decimals
+    → sum_at s (payments_of d decimals c g env f last) ≡ raised (flow_of d c g env f (s.day -ℤ f) (flow_at s)) (decimals - scale_of_contract d c (kinds g))
+sum_at-payments_of d env s last Zero g decimals f pair due fits = sym (zero-*ℤ (pos (10 ^ (decimals - 0))))
+sum_at-payments_of d env s last (Pay a p q) g decimals f pair due fits =
+    sum_at-paid s last f (record { asset = a; from = p; to = q }) (raised (pos 1) decimals) pair due ∙ unit_raised decimals (on_day_zero (s.day -ℤ f) (unit_flow a p q (flow_at s)))
+sum_at-payments_of d env s last (Both one other) g decimals f pair due fits =
     let i = scale_of_contract d one (kinds g) in
     let j = scale_of_contract d other (kinds g) in
     let x = flow_of d one g env f (s.day -ℤ f) (flow_at s) in
     let y = flow_of d other g env f (s.day -ℤ f) (flow_at s) in
-    let l : i ≤ room = omega arith in
-    let r : j ≤ room = omega arith in
-    sum_at-append s (payments_of d room one g env f last) (payments_of d room other g env f last) ∙ ap (λ (z : ℤ). z +ℤ sum_at s (payments_of d room other g env f last)) (sum_at-payments_of d env s last one g room f pair due l) ∙ ap (λ (z : ℤ). raised x (room - i) +ℤ z) (sum_at-payments_of d env s last other g room f pair due r) ∙ parts_raised x y room i j l r
-sum_at-payments_of d env s last (Scale e c) g room f pair due fits =
+    let l : i ≤ decimals = omega arith in
+    let r : j ≤ decimals = omega arith in
+    sum_at-append s (payments_of d decimals one g env f last) (payments_of d decimals other g env f last) ∙ ap (λ (z : ℤ). z +ℤ sum_at s (payments_of d decimals other g env f last)) (sum_at-payments_of d env s last one g decimals f pair due l) ∙ ap (λ (z : ℤ). raised x (decimals - i) +ℤ z) (sum_at-payments_of d env s last other g decimals f pair due r) ∙ parts_raised x y decimals i j l r
+sum_at-payments_of d env s last (Scale e c) g decimals f pair due fits =
     let i = scale_of d e (kinds g) in
     let j = scale_of_contract d c (kinds g) in
     let v = num (value_of d e g env f) in
-    let l : j ≤ room - i = omega arith in
-    sum_at-multiplied s v (payments_of d (room - i) c g env f last) ∙ ap (λ (z : ℤ). v *ℤ z) (sum_at-payments_of d env s last c g (room - i) f pair due l) ∙ factor_raised room i j v (flow_of d c g env f (s.day -ℤ f) (flow_at s))
-sum_at-payments_of d env s last (After n c) g room f pair due fits =
-    sum_at-payments_of d env s last c g room (f +ℤ pos (count_of n)) pair due fits ∙ ap (λ (x : ℤ). raised (flow_of d c g env (f +ℤ pos (count_of n)) x (flow_at s)) (room - scale_of_contract d c (kinds g))) (later s.day f (count_of n))
-sum_at-payments_of d env s last (Let e c) g room f pair due fits =
-    sum_at-payments_of d env s last c (record { value = value_of d e g env f; kind = kind_or (kind_of d e (kinds g)) } ∷ g) room f pair due fits
-sum_at-payments_of d env s last (Within e n one other) g room f pair due fits =
+    let l : j ≤ decimals - i = omega arith in
+    sum_at-multiplied s v (payments_of d (decimals - i) c g env f last) ∙ ap (λ (z : ℤ). v *ℤ z) (sum_at-payments_of d env s last c g (decimals - i) f pair due l) ∙ factor_raised decimals i j v (flow_of d c g env f (s.day -ℤ f) (flow_at s))
+sum_at-payments_of d env s last (After n c) g decimals f pair due fits =
+    sum_at-payments_of d env s last c g decimals (f +ℤ pos (count_of n)) pair due fits ∙ ap (λ (x : ℤ). raised (flow_of d c g env (f +ℤ pos (count_of n)) x (flow_at s)) (decimals - scale_of_contract d c (kinds g))) (later s.day f (count_of n))
+sum_at-payments_of d env s last (Let e c) g decimals f pair due fits =
+    sum_at-payments_of d env s last c (record { value = value_of d e g env f; kind = kind_or (kind_of d e (kinds g)) } ∷ g) decimals f pair due fits
+sum_at-payments_of d env s last (Within e n one other) g decimals f pair due fits =
     let i = scale_of_contract d one (kinds g) in
     let j = scale_of_contract d other (kinds g) in
-    let l : i ≤ room = omega arith in
-    let r : j ≤ room = omega arith in
-    branch_sum s (first_true d e g env f (count_of n)) (λ k. payments_of d room one g env (f +ℤ pos k) last) (payments_of d room other g env (f +ℤ pos (count_of n)) last) (λ k. flow_of d one g env (f +ℤ pos k) ((s.day -ℤ f) -ℤ pos k) (flow_at s)) (flow_of d other g env (f +ℤ pos (count_of n)) ((s.day -ℤ f) -ℤ pos (count_of n)) (flow_at s)) room i j fits
-    (λ k. sum_at-payments_of d env s last one g room (f +ℤ pos k) pair due l ∙ ap (λ (x : ℤ). raised (flow_of d one g env (f +ℤ pos k) x (flow_at s)) (room - i)) (later s.day f k))
-    (sum_at-payments_of d env s last other g room (f +ℤ pos (count_of n)) pair due r ∙ ap (λ (x : ℤ). raised (flow_of d other g env (f +ℤ pos (count_of n)) x (flow_at s)) (room - j)) (later s.day f (count_of n)))
+    let l : i ≤ decimals = omega arith in
+    let r : j ≤ decimals = omega arith in
+    branch_sum s (first_true d e g env f (count_of n)) (λ k. payments_of d decimals one g env (f +ℤ pos k) last) (payments_of d decimals other g env (f +ℤ pos (count_of n)) last) (λ k. flow_of d one g env (f +ℤ pos k) ((s.day -ℤ f) -ℤ pos k) (flow_at s)) (flow_of d other g env (f +ℤ pos (count_of n)) ((s.day -ℤ f) -ℤ pos (count_of n)) (flow_at s)) decimals i j fits
+    (λ k. sum_at-payments_of d env s last one g decimals (f +ℤ pos k) pair due l ∙ ap (λ (x : ℤ). raised (flow_of d one g env (f +ℤ pos k) x (flow_at s)) (decimals - i)) (later s.day f k))
+    (sum_at-payments_of d env s last other g decimals (f +ℤ pos (count_of n)) pair due r ∙ ap (λ (x : ℤ). raised (flow_of d other g env (f +ℤ pos (count_of n)) x (flow_at s)) (decimals - j)) (later s.day f (count_of n)))

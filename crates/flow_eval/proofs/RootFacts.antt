@@ -83,7 +83,7 @@ room_for d c n h le =
     let names = few_names d c h in
     omega arith
 
--- room for just as many
+-- decimals for just as many
 pub room_as_counted : (c : Contract) (counted spare : ℕ) → counted ≡ names_in c → spare ≡ counted → names_in c ≤ spare
 room_as_counted c counted spare is same = omega arith
 
@@ -135,8 +135,8 @@ whole_not_gathered d c F f g last es xs ys r res e none same is err h =
     subst (λ (x : Result (Vec Payment) FlowErr). IsGathered (walk_of d d.amounts c [] [] F g last) x) (sym err) (not_gathered (walk_of d d.amounts c [] [] F g last) xs ys r e gathered is)
 
 -- the days as they are passed
-pub same_walk : (d : Declarations) (room : ℕ) (c : Contract) (F : Environment) (f g last until : ℤ) → f ≡ g → last ≡ until → walk_of d room c [] [] F f last ≡ walk_of d room c [] [] F g until
-same_walk d room c F f g last until h k = ap (λ (x : ℤ). walk_of d room c [] [] F x last) h ∙ ap (λ (x : ℤ). walk_of d room c [] [] F g x) k
+pub same_walk : (d : Declarations) (decimals : ℕ) (c : Contract) (F : Environment) (f g last until : ℤ) → f ≡ g → last ≡ until → walk_of d decimals c [] [] F f last ≡ walk_of d decimals c [] [] F g until
+same_walk d decimals c F f g last until h k = ap (λ (x : ℤ). walk_of d decimals c [] [] F x last) h ∙ ap (λ (x : ℤ). walk_of d decimals c [] [] F g x) k
 
 known_payments : (o : Option Place) (ps qs : List Payment) → payments_unless o ps ≡ Ok qs → (o ≡ None) × (qs ≡ ps)
 known_payments None ps qs h = (refl, cc)

@@ -219,39 +219,39 @@ within_unless F last f b false walk rs ps e is h none =
 -- the walk of a contract on frame f, for its own days a to b
 abbrev pub WalkIs : Declarations → Environment → ℤ → Contract → Type 0
 WalkIs d F last c =
-    (g : List Entry) (bs : List (List Place)) (room : ℕ) (f a b : ℤ) → a ≤ℤ pos 0 → b ≡ last -ℤ f
-    → walk_of d room c g bs F f last ≡ payments_unless (first_unfixed F (reads_of_contract d c g bs F f a b)) (payments_of d room c g F f last)
+    (g : List Entry) (bs : List (List Place)) (decimals : ℕ) (f a b : ℤ) → a ≤ℤ pos 0 → b ≡ last -ℤ f
+    → walk_of d decimals c g bs F f last ≡ payments_unless (first_unfixed F (reads_of_contract d c g bs F f a b)) (payments_of d decimals c g F f last)
 
 pub walk_is : (d : Declarations) (F : Environment) (last : ℤ) (c : Contract) → WalkIs d F last c
-walk_is d F last Zero g bs room f a b h e = refl
-walk_is d F last (Pay x p q) g bs room f a b h e = refl
-walk_is d F last (Both x y) g bs room f a b h e =
-    ap (λ (w : PaymentsOrMissing). then_others w (walk_of d room y g bs F f last)) (walk_is d F last x g bs room f a b h e)
-    ∙ ap (then_others (payments_unless (first_unfixed F (reads_of_contract d x g bs F f a b)) (payments_of d room x g F f last))) (walk_is d F last y g bs room f a b h e)
-    ∙ others_unless (first_unfixed F (reads_of_contract d x g bs F f a b)) (first_unfixed F (reads_of_contract d y g bs F f a b)) (payments_of d room x g F f last) (payments_of d room y g F f last)
-    ∙ ap (λ (o : Option Place). payments_unless o (payments_of d room (Both x y) g F f last)) (sym (first-append F (reads_of_contract d x g bs F f a b) (reads_of_contract d y g bs F f a b)))
-walk_is d F last (Scale x c) g bs room f a b h e =
-    let left = room - scale_of d x (kinds g) in
+walk_is d F last Zero g bs decimals f a b h e = refl
+walk_is d F last (Pay x p q) g bs decimals f a b h e = refl
+walk_is d F last (Both x y) g bs decimals f a b h e =
+    ap (λ (w : PaymentsOrMissing). then_others w (walk_of d decimals y g bs F f last)) (walk_is d F last x g bs decimals f a b h e)
+    ∙ ap (then_others (payments_unless (first_unfixed F (reads_of_contract d x g bs F f a b)) (payments_of d decimals x g F f last))) (walk_is d F last y g bs decimals f a b h e)
+    ∙ others_unless (first_unfixed F (reads_of_contract d x g bs F f a b)) (first_unfixed F (reads_of_contract d y g bs F f a b)) (payments_of d decimals x g F f last) (payments_of d decimals y g F f last)
+    ∙ ap (λ (o : Option Place). payments_unless o (payments_of d decimals (Both x y) g F f last)) (sym (first-append F (reads_of_contract d x g bs F f a b) (reads_of_contract d y g bs F f a b)))
+walk_is d F last (Scale x c) g bs decimals f a b h e =
+    let left = decimals - scale_of d x (kinds g) in
     let ps = payments_of d left c g F f last in
     let rs = reads_of_contract d c g bs F f a b in
     ap (λ (w : PaymentsOrMissing). then_factor w (answer_of d x g bs F f)) (walk_is d F last c g bs left f a b h e)
     ∙ factor_unless F (first_unfixed F rs) (reads_of d x g bs F f) (live d c g F f a b) ps (value_of d x g F f) (payments_live d F last c g left f a b h e)
     ∙ ap (λ (o : Option Place). payments_unless o (multiplied (num (value_of d x g F f)) ps)) (sym (first-append F rs (if live d c g F f a b then reads_of d x g bs F f else [])))
-walk_is d F last (After n c) g bs room f a b h e =
-    walk_is d F last c g bs room (f +ℤ pos (count_of n)) (a -ℤ pos (count_of n)) (b -ℤ pos (count_of n)) (lower a (count_of n) h) (shorter last f b (count_of n) e)
-walk_is d F last (Let x c) g bs room f a b h e =
-    walk_is d F last c (record { value = value_of d x g F f; kind = kind_or (kind_of d x (kinds g)) } ∷ g) (reads_of d x g bs F f ∷ bs) room f a b h e
-walk_is d F last (Within x n one other) g bs room f a b h e =
+walk_is d F last (After n c) g bs decimals f a b h e =
+    walk_is d F last c g bs decimals (f +ℤ pos (count_of n)) (a -ℤ pos (count_of n)) (b -ℤ pos (count_of n)) (lower a (count_of n) h) (shorter last f b (count_of n) e)
+walk_is d F last (Let x c) g bs decimals f a b h e =
+    walk_is d F last c (record { value = value_of d x g F f; kind = kind_or (kind_of d x (kinds g)) } ∷ g) (reads_of d x g bs F f ∷ bs) decimals f a b h e
+walk_is d F last (Within x n one other) g bs decimals f a b h e =
     let m = count_of n in
     let o = first_true d x g F f m in
     let days = min m (unsigned_abs b) in
     let p : ℕ → Bool = λ i. truth (value_of d x g F (f +ℤ pos i)) in
     let hit : ℕ → List Place = λ k. reads_of_contract d one g bs F (f +ℤ pos k) (a -ℤ pos k) (b -ℤ pos k) in
     let miss = reads_of_contract d other g bs F (f +ℤ pos m) (a -ℤ pos m) (b -ℤ pos m) in
-    let ps : ℕ → List Payment = λ k. payments_of d room one g F (f +ℤ pos k) last in
-    let qs = payments_of d room other g F (f +ℤ pos m) last in
-    let enter : ℕ → PaymentsOrMissing = λ k. walk_of d room one g bs F (f +ℤ pos k) last in
-    let leave = walk_of d room other g bs F (f +ℤ pos m) last in
+    let ps : ℕ → List Payment = λ k. payments_of d decimals one g F (f +ℤ pos k) last in
+    let qs = payments_of d decimals other g F (f +ℤ pos m) last in
+    let enter : ℕ → PaymentsOrMissing = λ k. walk_of d decimals one g bs F (f +ℤ pos k) last in
+    let leave = walk_of d decimals other g bs F (f +ℤ pos m) last in
     let tests : ℕ → List Place = λ i. reads_of d x g bs F (f +ℤ pos i) in
     let answers : ℕ → ValueOrMissing = λ i. answer_of d x g bs F (f +ℤ pos i) in
     within_unless F last f b (int_lt last f) (then_branch (first_tried (days_to_try last f m) answers) last f m enter leave) (upto (tested o m b) tests ++ (elim o [ Some k ↦ if int_lt b (pos k) then [] else hit k | None ↦ if int_lt b (pos m) then [] else miss ])) (elim o [ Some k ↦ ps k | None ↦ qs ]) refl e
@@ -259,7 +259,7 @@ walk_is d F last (Within x n one other) g bs room f a b h e =
     ap (λ (i : ℤ). then_branch (first_tried (suc (min m (unsigned_abs i))) answers) last f m enter leave) (sym e)
     ∙ ap (λ (t : DayOrMissing). then_branch t last f m enter leave) (tried_is F tests (λ i. value_of d x g F (f +ℤ pos i)) (suc days) ∙ ap (λ (u : Option ℕ). day_unless (first_unfixed F (steps_before (tries u (suc days)) tests)) u) (below_is days p))
     ∙ branch_unless F last f b m o (first_of days p) tests hit miss ps qs enter leave e in_time (is_cut m days p (omega arith)) (cut_same m p)
-    (λ k. walk_is d F last one g bs room (f +ℤ pos k) (a -ℤ pos k) (b -ℤ pos k) (lower a k h) (shorter last f b k e))
-    (walk_is d F last other g bs room (f +ℤ pos m) (a -ℤ pos m) (b -ℤ pos m) (lower a m h) (shorter last f b m e))
-    (λ k. payments_none d F last one g room (f +ℤ pos k)) (payments_none d F last other g room (f +ℤ pos m)))
-    (λ late. payments_none d F last (Within x n one other) g room f late)
+    (λ k. walk_is d F last one g bs decimals (f +ℤ pos k) (a -ℤ pos k) (b -ℤ pos k) (lower a k h) (shorter last f b k e))
+    (walk_is d F last other g bs decimals (f +ℤ pos m) (a -ℤ pos m) (b -ℤ pos m) (lower a m h) (shorter last f b m e))
+    (λ k. payments_none d F last one g decimals (f +ℤ pos k)) (payments_none d F last other g decimals (f +ℤ pos m)))
+    (λ late. payments_none d F last (Within x n one other) g decimals f late)

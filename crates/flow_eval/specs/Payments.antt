@@ -46,15 +46,15 @@ some_paid (p ∷ ps) = true
 
 -- the payments up to the last day of a contract on frame f, at so many decimals
 abbrev pub payments_of : Declarations → ℕ → Contract → List Entry → Environment → ℤ → ℤ → List Payment
-payments_of d room Zero g env f last = []
-payments_of d room (Pay a p q) g env f last = paid last f (record { asset = a; from = p; to = q }) (raised (pos 1) room)
-payments_of d room (Both x y) g env f last = payments_of d room x g env f last ++ payments_of d room y g env f last
-payments_of d room (Scale e c) g env f last =
-    multiplied (num (value_of d e g env f)) (payments_of d (room - scale_of d e (kinds g)) c g env f last)
-payments_of d room (After n c) g env f last = payments_of d room c g env (f +ℤ pos (count_of n)) last
-payments_of d room (Let e c) g env f last = payments_of d room c (entry_of d e g env f ∷ g) env f last
-payments_of d room (Within e n x y) g env f last =
+payments_of d decimals Zero g env f last = []
+payments_of d decimals (Pay a p q) g env f last = paid last f (record { asset = a; from = p; to = q }) (raised (pos 1) decimals)
+payments_of d decimals (Both x y) g env f last = payments_of d decimals x g env f last ++ payments_of d decimals y g env f last
+payments_of d decimals (Scale e c) g env f last =
+    multiplied (num (value_of d e g env f)) (payments_of d (decimals - scale_of d e (kinds g)) c g env f last)
+payments_of d decimals (After n c) g env f last = payments_of d decimals c g env (f +ℤ pos (count_of n)) last
+payments_of d decimals (Let e c) g env f last = payments_of d decimals c (entry_of d e g env f ∷ g) env f last
+payments_of d decimals (Within e n x y) g env f last =
     elim (first_true d e g env f (count_of n)) [
-      | Some k ↦ payments_of d room x g env (f +ℤ pos k) last
-      | None ↦ payments_of d room y g env (f +ℤ pos (count_of n)) last
+      | Some k ↦ payments_of d decimals x g env (f +ℤ pos k) last
+      | None ↦ payments_of d decimals y g env (f +ℤ pos (count_of n)) last
     ]

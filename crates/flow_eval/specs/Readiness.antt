@@ -38,7 +38,7 @@ names_in (Let e c) = names_in c + 1
 names_in (Within e n x y) = max (names_in x) (names_in y)
 
 -- a contract inside an accepted one, with entries for the names round it; it has so many decimals left
-pub record CanWalk (d : Declarations) (c : Contract) (room : ℕ) (r : Room) (fixings : Environment) : Type 0 where
+pub record CanWalk (d : Declarations) (c : Contract) (decimals : ℕ) (r : Room) (fixings : Environment) : Type 0 where
   pub limits : KeepsLimits d
   pub whole : Contract
   pub accepted : IsAccepted d whole
@@ -51,8 +51,8 @@ pub record CanWalk (d : Declarations) (c : Contract) (room : ℕ) (r : Room) (fi
   pub within : AreWithin ranges values
   pub stand : StandFor fixings r.entries values places
   pub names : names_in c ≤ r.spare
-  pub fits : scale_of_contract d c (kinds values) ≤ room
-  pub most : room ≤ d.amounts
+  pub fits : scale_of_contract d c (kinds values) ≤ decimals
+  pub most : decimals ≤ d.amounts
 
 -- the last day that a contract on a day can reach
 abbrev pub last_day : ℕ

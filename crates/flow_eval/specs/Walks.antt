@@ -48,16 +48,16 @@ abbrev pub days_to_try : ℤ → ℤ → ℕ → ℕ
 days_to_try last f n = suc (min n (unsigned_abs (last -ℤ f)))
 
 abbrev pub walk_of : Declarations → ℕ → Contract → List Entry → List (List Place) → Environment → ℤ → ℤ → PaymentsOrMissing
-walk_of d room Zero g bs fixings f last = Ok []
-walk_of d room (Pay a p q) g bs fixings f last = Ok (paid last f (record { asset = a; from = p; to = q }) (raised (pos 1) room))
-walk_of d room (Both x y) g bs fixings f last = then_others (walk_of d room x g bs fixings f last) (walk_of d room y g bs fixings f last)
-walk_of d room (Scale e c) g bs fixings f last =
-    then_factor (walk_of d (room - scale_of d e (kinds g)) c g bs fixings f last) (answer_of d e g bs fixings f)
-walk_of d room (After n c) g bs fixings f last = walk_of d room c g bs fixings (f +ℤ pos (count_of n)) last
-walk_of d room (Let e c) g bs fixings f last =
-    walk_of d room c (entry_of d e g fixings f ∷ g) (reads_of d e g bs fixings f ∷ bs) fixings f last
-walk_of d room (Within e n x y) g bs fixings f last =
+walk_of d decimals Zero g bs fixings f last = Ok []
+walk_of d decimals (Pay a p q) g bs fixings f last = Ok (paid last f (record { asset = a; from = p; to = q }) (raised (pos 1) decimals))
+walk_of d decimals (Both x y) g bs fixings f last = then_others (walk_of d decimals x g bs fixings f last) (walk_of d decimals y g bs fixings f last)
+walk_of d decimals (Scale e c) g bs fixings f last =
+    then_factor (walk_of d (decimals - scale_of d e (kinds g)) c g bs fixings f last) (answer_of d e g bs fixings f)
+walk_of d decimals (After n c) g bs fixings f last = walk_of d decimals c g bs fixings (f +ℤ pos (count_of n)) last
+walk_of d decimals (Let e c) g bs fixings f last =
+    walk_of d decimals c (entry_of d e g fixings f ∷ g) (reads_of d e g bs fixings f ∷ bs) fixings f last
+walk_of d decimals (Within e n x y) g bs fixings f last =
     if int_lt last f then Ok [] else
     then_branch (first_tried (days_to_try last f (count_of n)) (λ i. answer_of d e g bs fixings (f +ℤ pos i))) last f (count_of n)
-    (λ k. walk_of d room x g bs fixings (f +ℤ pos k) last)
-    (walk_of d room y g bs fixings (f +ℤ pos (count_of n)) last)
+    (λ k. walk_of d decimals x g bs fixings (f +ℤ pos k) last)
+    (walk_of d decimals y g bs fixings (f +ℤ pos (count_of n)) last)

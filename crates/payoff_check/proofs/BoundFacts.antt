@@ -22,7 +22,7 @@ use Rattle.interval_check.proofs.ScaledFacts.{scales_follow}
 use Rattle.interval_check.proofs.TotalFacts.{finds_range}
 use Rattle.term_core.specs.Bounds.{range_of as right_range}
 use Rattle.interval_check.proofs.TotalFacts as found
-use Rattle.payoff_lang.specs.Dating.{plain}
+use Rattle.payoff_lang.specs.Dating.{undated}
 use Rattle.payoff_lang.specs.Code.{ValueExpression, PayoffCode, Nothing, PayOn, Add, ScaleBy, LetBe}
 use Rattle.payoff_lang.specs.Code.{Loop, Cut}
 use Rattle.payoff_lang.specs.CodeValues.{scale_of_code}
@@ -52,19 +52,19 @@ IsScaledNode d k r n = IsTrue (code_is_scaled d (AtCode n k r))
 
 value_scaled :
     (d : Declarations) (v : ValueExpression) (r : List Layer) (n : ℕ) → IsSortedValue d v r n
-    → IsScaledValue d v r n → AreScaled d (plain v) (kinds_round d r)
+    → IsScaledValue d v r n → AreScaled d (undated v) (kinds_round d r)
 value_scaled d v r n h i =
-    let x = kind_sorted d (plain v) r n h in
-    scales_follow d (plain v) r n x.kind x.has i
+    let x = kind_sorted d (undated v) r n h in
+    scales_follow d (undated v) r n x.kind x.has i
 
 -- the kind that is found is that of the model
 kind_there :
     (d : Declarations) (v : ValueExpression) (r : List Layer) (n : ℕ) → IsSortedValue d v r n
-    → kind_or (kind_of d (plain v) (kinds_round d r)) ≡ kind_found d (plain v) (kinds_round d r)
+    → kind_or (kind_of d (undated v) (kinds_round d r)) ≡ kind_found d (undated v) (kinds_round d r)
 kind_there d v r n h =
-    let x = kind_sorted d (plain v) r n h in
+    let x = kind_sorted d (undated v) r n h in
     ap (λ (o : Option Kind). kind_or o) x.has
-    ∙ sym (has_kind d (plain v) (kinds_round d r) x.kind x.has)
+    ∙ sym (has_kind d (undated v) (kinds_round d r) x.kind x.has)
 
 values_scaled :
     (d : Declarations) (k : PayoffCode) (r : List Layer) (n : ℕ)
@@ -76,16 +76,16 @@ values_scaled d (PayOn x a p q) r n h i = tt
 values_scaled d (Add k l) r n h i =
     (values_scaled d k r (n + 1) h.0 i.0, values_scaled d l r (n + 1 + nodes_of_code k) h.1 i.1)
 values_scaled d (ScaleBy v k) r n h i =
-    (value_scaled d v r (n + 1) h.0 i.0, values_scaled d k r (n + 1 + nodes (plain v)) h.1 i.1)
+    (value_scaled d v r (n + 1) h.0 i.0, values_scaled d k r (n + 1 + nodes (undated v)) h.1 i.1)
 values_scaled d (LetBe v k) r n h i = (
   value_scaled d v r (n + 1) h.0 i.0,
   subst (λ (j : Kind). AreValuesScaled d k (j ∷ kinds_round d r)) (kind_there d v r (n + 1) h.0)
-      (values_scaled d k (Naming (plain v) ∷ r) (n + 1 + nodes (plain v)) h.1 i.1),
+      (values_scaled d k (Naming (undated v) ∷ r) (n + 1 + nodes (undated v)) h.1 i.1),
 )
 values_scaled d (Loop v x k l) r n h i = (
   value_scaled d v r (n + 1) h.0 i.0,
-  values_scaled d k r (n + 1 + nodes (plain v)) h.1 i.1,
-  values_scaled d l r (n + 1 + nodes (plain v) + nodes_of_code k) h.2 i.2,
+  values_scaled d k r (n + 1 + nodes (undated v)) h.1 i.1,
+  values_scaled d l r (n + 1 + nodes (undated v) + nodes_of_code k) h.2 i.2,
 )
 values_scaled d (Cut x k) r n h i = values_scaled d k r (n + 1) h.0 i.0
 
@@ -116,14 +116,14 @@ value_found p xs n m x (Ok s) h = (first_failing-map p xs ∙ h.0, h.1)
 value_found p xs n m x (Err j) h = first_failing-map p xs ∙ h
 
 abbrev pub IsValueRange : Declarations → ValueExpression → List Layer → Found → Type 0
-IsValueRange d v r u = u.range ≡ right_range d (plain v) (ranges_round d r)
+IsValueRange d v r u = u.range ≡ right_range d (undated v) (ranges_round d r)
 
 value_range :
     (d : Declarations) (v : ValueExpression) (r : List Layer) (n : ℕ) → IsSortedValue d v r n
-    → Finds (code_is_bounded d) (map (λ s. InValue s) (sites_of EachDay (plain v) r n))
-    (λ (u : Found). IsValueRange d v r u) (value_tried d (plain v) (ranges_round d r) n)
+    → Finds (code_is_bounded d) (map (λ s. InValue s) (sites_of EachDay (undated v) r n))
+    (λ (u : Found). IsValueRange d v r u) (value_tried d (undated v) (ranges_round d r) n)
 value_range d v r n h =
-    let e = plain v in
+    let e = undated v in
     let g = ranges_round d r in
     let x = kind_sorted d e r n h in
     let has : Has d e (range_kinds g) =
@@ -191,7 +191,7 @@ product d v k r u a hu ha = (
   ap₂ (λ (x : ℕ) (y : Range). x * greatest_size y.interval) ha.0 hu,
   ap₂ (λ (x : Range) (s : ℕ). scale_in x + s) hu ha.1
       ∙ ap (λ (s : ℕ). s + scale_of_code d k (range_kinds (ranges_round d r)))
-      (kind_scale (kind_of d (plain v) (range_kinds (ranges_round d r)))),
+      (kind_scale (kind_of d (undated v) (range_kinds (ranges_round d r)))),
 )
 
 bound_follows :

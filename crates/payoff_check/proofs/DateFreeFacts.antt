@@ -3,7 +3,7 @@ use Rattle.std.proofs.Common.{◌≡◌, ℕ, ℤ, pos, refl, ap, ap₂, ◌∙�
 use Rattle.term_core.specs.Terms.{Expression}
 use Rattle.term_core.specs.Sizes.{nodes, height, work}
 use Rattle.payoff_lang.specs.TemplateDates.{Date, day_of}
-use Rattle.payoff_lang.specs.Dating.{dated_by, at_setting, plain}
+use Rattle.payoff_lang.specs.Dating.{dated_by, at_setting, undated}
 use Rattle.payoff_lang.specs.Code.{ValueExpression, Lit, Yes, Var, Model, Neg, Num, Cmp, Not, Logic, Cond, Widen, Round, Div, Acc}
 use Rattle.payoff_check.specs.declared.part_sizes.ValueSize.{ValueSize}
 use Rattle.payoff_check.specs.SizeTrials.{over_one, over_two, over_three, over_days}
@@ -31,5 +31,5 @@ size_any day more (Div mode s v w) = ap₂ over_two (size_any day more v) (size_
 size_any day more (Acc body n first) =
     ap₂ (λ (a b : ValueSize). over_days a n b) (size_any day more body) (size_any day more first)
 
-pub nodes_plain : (xs : List ℕ) (v : ValueExpression) → nodes (at_setting xs v) ≡ nodes (plain v)
-nodes_plain xs v = ap (λ (s : ValueSize). s.nodes) (size_any (day_of xs) (λ _. pos 0) v)
+pub nodes_undated : (xs : List ℕ) (v : ValueExpression) → nodes (at_setting xs v) ≡ nodes (undated v)
+nodes_undated xs v = ap (λ (s : ValueSize). s.nodes) (size_any (day_of xs) (λ _. pos 0) v)

@@ -7,7 +7,7 @@ use Rattle.term_core.specs.Trying.{then_do}
 use Rattle.term_core.proofs.Trials.{or_else}
 use Rattle.term_core.proofs.Trials as expressions
 use Rattle.payoff_lang.specs.TemplateDates.{Date}
-use Rattle.payoff_lang.specs.Dating.{dated_by, plain}
+use Rattle.payoff_lang.specs.Dating.{dated_by, undated}
 use Rattle.payoff_lang.specs.Code.{ValueExpression, PayoffCode, Nothing, PayOn, Add, ScaleBy, LetBe, Loop, Cut}
 use Rattle.payoff_lang.specs.CodeSizes.{nodes_of_code}
 use Rattle.payoff_lang.specs.CodeSites.{CodeSite, InValue, AtCode, number_of, value_sites, sites_of_code, AllPassInCode, FirstFaultInCode}
@@ -84,22 +84,22 @@ abbrev pub EachNode : (ValueExpression → List Layer → ℕ → Type 0) → (P
 EachNode P Q Nothing r n = Q Nothing r n
 EachNode P Q (PayOn x a p q) r n = Q (PayOn x a p q) r n
 EachNode P Q (Add k l) r n = EachNode P Q k r (n + 1) × EachNode P Q l r (n + 1 + nodes_of_code k) × Q (Add k l) r n
-EachNode P Q (ScaleBy v k) r n = P v r (n + 1) × EachNode P Q k r (n + 1 + nodes (plain v)) × Q (ScaleBy v k) r n
+EachNode P Q (ScaleBy v k) r n = P v r (n + 1) × EachNode P Q k r (n + 1 + nodes (undated v)) × Q (ScaleBy v k) r n
 EachNode P Q (LetBe v k) r n =
-    P v r (n + 1) × EachNode P Q k (Naming (plain v) ∷ r) (n + 1 + nodes (plain v)) × Q (LetBe v k) r n
+    P v r (n + 1) × EachNode P Q k (Naming (undated v) ∷ r) (n + 1 + nodes (undated v)) × Q (LetBe v k) r n
 EachNode P Q (Loop v x k l) r n =
-    P v r (n + 1) × EachNode P Q k r (n + 1 + nodes (plain v)) × EachNode P Q l r (n + 1 + nodes (plain v) + nodes_of_code k) × Q (Loop v x k l) r n
+    P v r (n + 1) × EachNode P Q k r (n + 1 + nodes (undated v)) × EachNode P Q l r (n + 1 + nodes (undated v) + nodes_of_code k) × Q (Loop v x k l) r n
 EachNode P Q (Cut x k) r n = EachNode P Q k r (n + 1) × Q (Cut x k) r n
 
 -- each step of a rule finds its fault: V is said of what is found of values, S of what is found of code
 pub record Follows {U A G : Type 0} (w : Steps U A G) (t : Trial) (day : Date → ℤ) (p : CodeSite → Bool) (env : List Layer → G) (V : ValueExpression → List Layer → U → Type 0) (S : PayoffCode → List Layer → A → Type 0) (P : ValueExpression → List Layer → ℕ → Type 0) (Q : PayoffCode → List Layer → ℕ → Type 0) : Type 0 where
   pub values : (v : ValueExpression) (r : List Layer) (n : ℕ) → P v r n → Finds p (value_sites t r n (dated_by day v)) (V v r) (w.value v (env r) n)
-  pub enters : (v : ValueExpression) (r : List Layer) (u : U) → V v r u → w.enter u (env r) ≡ env (Naming (plain v) ∷ r)
+  pub enters : (v : ValueExpression) (r : List Layer) (u : U) → V v r u → w.enter u (env r) ≡ env (Naming (undated v) ∷ r)
   pub nothings : (r : List Layer) (n : ℕ) → Q Nothing r n → Finds p (AtCode n Nothing r ∷ []) (S Nothing r) (w.nothing n)
   pub payments : (x : Date) (a b c : ℕ) (r : List Layer) (n : ℕ) → Q (PayOn x a b c) r n → Finds p (AtCode n (PayOn x a b c) r ∷ []) (S (PayOn x a b c) r) (w.payment x n)
   pub sums : (k l : PayoffCode) (r : List Layer) (n : ℕ) (a b : A) → S k r a → S l r b → Q (Add k l) r n → Finds p (AtCode n (Add k l) r ∷ []) (S (Add k l) r) (w.sum a b n)
   pub factors : (v : ValueExpression) (k : PayoffCode) (r : List Layer) (n : ℕ) (u : U) (a : A) → V v r u → S k r a → Q (ScaleBy v k) r n → Finds p (AtCode n (ScaleBy v k) r ∷ []) (S (ScaleBy v k) r) (w.scaled u a n)
-  pub binders : (v : ValueExpression) (k : PayoffCode) (r : List Layer) (n : ℕ) (u : U) (a : A) → V v r u → S k (Naming (plain v) ∷ r) a → Q (LetBe v k) r n → Finds p (AtCode n (LetBe v k) r ∷ []) (S (LetBe v k) r) (w.bound u a n)
+  pub binders : (v : ValueExpression) (k : PayoffCode) (r : List Layer) (n : ℕ) (u : U) (a : A) → V v r u → S k (Naming (undated v) ∷ r) a → Q (LetBe v k) r n → Finds p (AtCode n (LetBe v k) r ∷ []) (S (LetBe v k) r) (w.bound u a n)
   pub loops : (v : ValueExpression) (x : Date) (k l : PayoffCode) (r : List Layer) (n : ℕ) (u : U) (a b : A) → V v r u → S k r a → S l r b → Q (Loop v x k l) r n → Finds p (AtCode n (Loop v x k l) r ∷ []) (S (Loop v x k l) r) (w.looped u x a b n)
   pub cuts : (x : Date) (k : PayoffCode) (r : List Layer) (n : ℕ) (a : A) → S k r a → Q (Cut x k) r n → Finds p (AtCode n (Cut x k) r ∷ []) (S (Cut x k) r) (w.cut x a n)
 
@@ -116,16 +116,16 @@ code_finds w t day p env V S P Q f (Add k l) r n h =
 code_finds w t day p env V S P Q f (ScaleBy v k) r n h =
     let g = env r in
     let s = AtCode n (ScaleBy v k) r in
-    let m = n + 1 + nodes (plain v) in
+    let m = n + 1 + nodes (undated v) in
     let ys = sites_of_code t day k r m in
     seq p (value_sites t r (n + 1) (dated_by day v)) (ys ++ s ∷ []) (V v r) (S (ScaleBy v k) r) (w.value v g (n + 1)) (λ u. then_do (code_tried w k g m) (λ a. w.scaled u a n)) (f.values v r (n + 1) h.0)
     (λ u hu. seq p ys (s ∷ []) (S k r) (S (ScaleBy v k) r) (code_tried w k g m) (λ a. w.scaled u a n) (code_finds w t day p env V S P Q f k r m h.1)
     (λ a ha. f.factors v k r n u a hu ha h.2))
 code_finds w t day p env V S P Q f (LetBe v k) r n h =
     let g = env r in
-    let l = Naming (plain v) ∷ r in
+    let l = Naming (undated v) ∷ r in
     let s = AtCode n (LetBe v k) r in
-    let m = n + 1 + nodes (plain v) in
+    let m = n + 1 + nodes (undated v) in
     let ys = sites_of_code t day k l m in
     seq p (value_sites t r (n + 1) (dated_by day v)) (ys ++ s ∷ []) (V v r) (S (LetBe v k) r) (w.value v g (n + 1)) (λ u. then_do (code_tried w k (w.enter u g) m) (λ a. w.bound u a n)) (f.values v r (n + 1) h.0)
     (λ u hu. seq p ys (s ∷ []) (S k l) (S (LetBe v k) r) (code_tried w k (w.enter u g) m) (λ a. w.bound u a n)
@@ -134,8 +134,8 @@ code_finds w t day p env V S P Q f (LetBe v k) r n h =
 code_finds w t day p env V S P Q f (Loop v x k l) r n h =
     let g = env r in
     let s = AtCode n (Loop v x k l) r in
-    let i = n + 1 + nodes (plain v) in
-    let j = n + 1 + nodes (plain v) + nodes_of_code k in
+    let i = n + 1 + nodes (undated v) in
+    let j = n + 1 + nodes (undated v) + nodes_of_code k in
     let ys = sites_of_code t day k r i in
     let zs = sites_of_code t day l r j in
     let T = S (Loop v x k l) r in
@@ -152,10 +152,10 @@ pub each_any : (k : PayoffCode) (r : List Layer) (n : ℕ) → EachNode (λ _ _ 
 each_any Nothing r n = tt
 each_any (PayOn x a p q) r n = tt
 each_any (Add k l) r n = (each_any k r (n + 1), each_any l r (n + 1 + nodes_of_code k), tt)
-each_any (ScaleBy v k) r n = (tt, each_any k r (n + 1 + nodes (plain v)), tt)
-each_any (LetBe v k) r n = (tt, each_any k (Naming (plain v) ∷ r) (n + 1 + nodes (plain v)), tt)
+each_any (ScaleBy v k) r n = (tt, each_any k r (n + 1 + nodes (undated v)), tt)
+each_any (LetBe v k) r n = (tt, each_any k (Naming (undated v) ∷ r) (n + 1 + nodes (undated v)), tt)
 each_any (Loop v x k l) r n =
-    (tt, each_any k r (n + 1 + nodes (plain v)), each_any l r (n + 1 + nodes (plain v) + nodes_of_code k), tt)
+    (tt, each_any k r (n + 1 + nodes (undated v)), each_any l r (n + 1 + nodes (undated v) + nodes_of_code k), tt)
 each_any (Cut x k) r n = (each_any k r (n + 1), tt)
 
 -- From what is found to the rule.

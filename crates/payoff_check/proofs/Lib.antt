@@ -7,5 +7,6 @@ pub mod ValueSizeFacts
 pub mod SizeFacts
 pub mod TotalSizes
 pub mod BoundFacts
+pub mod SimpleFacts
 pub mod VerdictFacts
 mod Rows

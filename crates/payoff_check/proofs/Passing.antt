@@ -3,7 +3,7 @@ use Rattle.std.proofs.Common.{ℕ, ℤ, ◌+◌, List, [], ◌∷◌, ◌++◌, 
 use Rattle.term_core.specs.Sizes.{nodes}
 use Rattle.term_core.specs.Sites.{Trial, Layer, Naming, Site, sites_of, AllPass}
 use Rattle.payoff_lang.specs.TemplateDates.{Date}
-use Rattle.payoff_lang.specs.Dating.{dated_by, plain}
+use Rattle.payoff_lang.specs.Dating.{dated_by, undated}
 use Rattle.payoff_lang.specs.Code.{ValueExpression, PayoffCode, Nothing, PayOn, Add, ScaleBy, LetBe, Loop, Cut}
 use Rattle.payoff_lang.specs.CodeSizes.{nodes_of_code}
 use Rattle.payoff_lang.specs.CodeSites.{CodeSite, InValue, AtCode, value_sites, sites_of_code, AllPassInCode}
@@ -44,21 +44,21 @@ each_passes P w day (Add k l) r n h =
     (each_passes P w day k r (n + 1) (left P xs (ys ++ s ∷ []) h), each_passes P w day l r (n + 1 + nodes_of_code k) (left P ys (s ∷ []) rest), last P ys s rest)
 each_passes P w day (ScaleBy v k) r n h =
     let s = AtCode n (ScaleBy v k) r in
-    let m = n + 1 + nodes (plain v) in
+    let m = n + 1 + nodes (undated v) in
     let ys = sites_of_code w day k r m in
     let q = value_first P w day v r (n + 1) (ys ++ s ∷ []) h in
     (q.0, each_passes P w day k r m (left P ys (s ∷ []) q.1), last P ys s q.1)
 each_passes P w day (LetBe v k) r n h =
     let s = AtCode n (LetBe v k) r in
-    let m = n + 1 + nodes (plain v) in
-    let l = Naming (plain v) ∷ r in
+    let m = n + 1 + nodes (undated v) in
+    let l = Naming (undated v) ∷ r in
     let ys = sites_of_code w day k l m in
     let q = value_first P w day v r (n + 1) (ys ++ s ∷ []) h in
     (q.0, each_passes P w day k l m (left P ys (s ∷ []) q.1), last P ys s q.1)
 each_passes P w day (Loop v x k l) r n h =
     let s = AtCode n (Loop v x k l) r in
-    let i = n + 1 + nodes (plain v) in
-    let j = n + 1 + nodes (plain v) + nodes_of_code k in
+    let i = n + 1 + nodes (undated v) in
+    let j = n + 1 + nodes (undated v) + nodes_of_code k in
     let ys = sites_of_code w day k r i in
     let zs = sites_of_code w day l r j in
     let q = value_first P w day v r (n + 1) (ys ++ (zs ++ s ∷ [])) h in
@@ -75,9 +75,9 @@ each_of_two P P' Q Q' Nothing r n h i = i
 each_of_two P P' Q Q' (PayOn x a p q) r n h i = i
 each_of_two P P' Q Q' (Add k l) r n h i =
     (each_of_two P P' Q Q' k r (n + 1) h.0 i.0, each_of_two P P' Q Q' l r (n + 1 + nodes_of_code k) h.1 i.1, i.2)
-each_of_two P P' Q Q' (ScaleBy v k) r n h i = (h.0, each_of_two P P' Q Q' k r (n + 1 + nodes (plain v)) h.1 i.1, i.2)
+each_of_two P P' Q Q' (ScaleBy v k) r n h i = (h.0, each_of_two P P' Q Q' k r (n + 1 + nodes (undated v)) h.1 i.1, i.2)
 each_of_two P P' Q Q' (LetBe v k) r n h i =
-    (h.0, each_of_two P P' Q Q' k (Naming (plain v) ∷ r) (n + 1 + nodes (plain v)) h.1 i.1, i.2)
+    (h.0, each_of_two P P' Q Q' k (Naming (undated v) ∷ r) (n + 1 + nodes (undated v)) h.1 i.1, i.2)
 each_of_two P P' Q Q' (Loop v x k l) r n h i =
-    (h.0, each_of_two P P' Q Q' k r (n + 1 + nodes (plain v)) h.1 i.1, each_of_two P P' Q Q' l r (n + 1 + nodes (plain v) + nodes_of_code k) h.2 i.2, i.3)
+    (h.0, each_of_two P P' Q Q' k r (n + 1 + nodes (undated v)) h.1 i.1, each_of_two P P' Q Q' l r (n + 1 + nodes (undated v) + nodes_of_code k) h.2 i.2, i.3)
 each_of_two P P' Q Q' (Cut x k) r n h i = (each_of_two P P' Q Q' k r (n + 1) h.0 i.0, i.1)

@@ -14,7 +14,7 @@ use Rattle.scale_check.specs.ScaleTrials.{scale_tried}
 use Rattle.scale_check.proofs.Finding as found
 use Rattle.scale_check.proofs.SortedKinds.{kind_sorted}
 use Rattle.scale_check.proofs.ExprScaleFacts.{IsScale, scales_round, scale_finds}
-use Rattle.payoff_lang.specs.Dating.{plain}
+use Rattle.payoff_lang.specs.Dating.{undated}
 use Rattle.payoff_lang.specs.Code.{ValueExpression, PayoffCode, Nothing, PayOn, Add, ScaleBy, LetBe}
 use Rattle.payoff_lang.specs.Code.{Loop, Cut}
 use Rattle.payoff_lang.specs.CodeValues.{scale_of_code}
@@ -30,7 +30,7 @@ use Rattle.interval_check.proofs.NodeTests.{scale_of_some}
 
 -- the scale that is found of a value expression is that of its kind
 abbrev pub IsValueScale : Declarations → ValueExpression → List Layer → Scaled → Type 0
-IsValueScale d v r u = u.scale ≡ scale_of_kind (kind_or (kind_of d (plain v) (kinds_round d r)))
+IsValueScale d v r u = u.scale ≡ scale_of_kind (kind_or (kind_of d (undated v) (kinds_round d r)))
 
 abbrev pub IsCodeScale : Declarations → PayoffCode → List Layer → Scaled → Type 0
 IsCodeScale d k r a = a.scale ≡ scale_of_code d k (kinds_round d r)
@@ -51,10 +51,10 @@ value_found p xs n m i x (Err j) e h = first_failing-map p xs ∙ h
 
 value_scale :
     (d : Declarations) (v : ValueExpression) (r : List Layer) (n : ℕ) → IsSortedValue d v r n
-    → Finds (code_is_scaled d) (map (λ s. InValue s) (sites_of Once (plain v) r n))
-    (λ (u : Scaled). IsValueScale d v r u) (value_tried d (plain v) (scales_round d r) n)
+    → Finds (code_is_scaled d) (map (λ s. InValue s) (sites_of Once (undated v) r n))
+    (λ (u : Scaled). IsValueScale d v r u) (value_tried d (undated v) (scales_round d r) n)
 value_scale d v r n h =
-    let e = plain v in
+    let e = undated v in
     let x = kind_sorted d e r n h in
     let same : scale_of_kind x.kind ≡ scale_of_kind (kind_or (kind_of d e (kinds_round d r))) =
     ap (λ (o : Option Kind). scale_of_kind (kind_or o)) (sym x.has) in
@@ -86,7 +86,7 @@ scale_follows d = record {
       (ap₂ max ha hb);
   factors = λ v k r n u a hu ha _. node d (ScaleBy v k) r n (u.scale + a.scale)
       (u.nodes + a.nodes + 1) (ap₂ (λ (i j : ℕ). i + j)
-      (hu ∙ scale_of_some (kind_of d (plain v) (kinds_round d r))) ha);
+      (hu ∙ scale_of_some (kind_of d (undated v) (kinds_round d r))) ha);
   binders = λ v k r n u a _ ha _. node d (LetBe v k) r n a.scale (u.nodes + a.nodes + 1) ha;
   loops = λ v x k l r n u a b _ ha hb _. node d (Loop v x k l) r n (max a.scale b.scale)
       (u.nodes + a.nodes + b.nodes + 1) (ap₂ max ha hb);

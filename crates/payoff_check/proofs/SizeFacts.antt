@@ -6,7 +6,7 @@ use Rattle.term_core.specs.Sites.{Layer, Site, Once, sites_of}
 use Rattle.term_core.specs.Trying.{moved}
 use Rattle.scale_check.proofs.Finding as found
 use Rattle.payoff_lang.specs.TemplateDates.{day_of}
-use Rattle.payoff_lang.specs.Dating.{at_setting, plain}
+use Rattle.payoff_lang.specs.Dating.{at_setting, undated}
 use Rattle.payoff_lang.specs.Code.{ValueExpression, PayoffCode, Nothing, PayOn, Add, ScaleBy, LetBe, Loop, Cut}
 use Rattle.payoff_lang.specs.CodeSizes.{nodes_of_code, height_of_code, work_of_code, loop_days, as_count}
 use Rattle.payoff_lang.specs.CodeSites.{CodeSite, InValue, AtCode, number_of, sites_of_code}
@@ -23,7 +23,7 @@ abbrev pub size_of_code : List ℕ → PayoffCode → CodeSize
 size_of_code xs k = record { height = height_of_code k; nodes = nodes_of_code k; work = work_of_code xs k; days = loop_days xs k }
 
 abbrev pub IsValueSize : ValueExpression → ValueSize → Type 0
-IsValueSize v u = u ≡ size_of (plain v)
+IsValueSize v u = u ≡ size_of (undated v)
 
 abbrev pub IsCodeSize : List ℕ → PayoffCode → CodeSize → Type 0
 IsCodeSize xs k a = a ≡ size_of_code xs k
@@ -51,7 +51,7 @@ three n u u' a a' b b' hu ha hb = ap (λ (x : ValueSize). looped x n a b) hu ∙
 
 size_follows : (xs : List ℕ) → Follows (sizing xs) Once (day_of xs) (code_is_small xs) (λ _. tt) (λ v r u. IsValueSize v u) (λ k r a. IsCodeSize xs k a) (λ _ _ _. Unit {0}) (λ _ _ _. Unit {0})
 size_follows xs = record {
-  values = λ v r n _. value_found (code_is_small xs) (sites_of Once (at_setting xs v) r n) n (size_of (at_setting xs v)) (size_of (plain v)) (size_tried (at_setting xs v)) (size_any (day_of xs) (λ _. pos 0) v) (size_finds (at_setting xs v) r n);
+  values = λ v r n _. value_found (code_is_small xs) (sites_of Once (at_setting xs v) r n) n (size_of (at_setting xs v)) (size_of (undated v)) (size_tried (at_setting xs v)) (size_any (day_of xs) (λ _. pos 0) v) (size_finds (at_setting xs v) r n);
   enters = λ v r u h. refl;
   nothings = λ r n _. node xs Nothing r n unit refl;
   payments = λ x a b c r n _. node xs (PayOn x a b c) r n unit refl;

@@ -19,7 +19,7 @@ use Rattle.time_types.specs.SortTrials.{sort_tried}
 use Rattle.time_types.specs.SortTrials as expressions
 use Rattle.time_types.proofs.SortFacts.{names, sort_finds}
 use Rattle.time_types.proofs.SortFacts as found
-use Rattle.payoff_lang.specs.Dating.{plain}
+use Rattle.payoff_lang.specs.Dating.{undated}
 use Rattle.payoff_lang.specs.Code.{ValueExpression, PayoffCode, Nothing, PayOn, Add, ScaleBy, LetBe}
 use Rattle.payoff_lang.specs.Code.{Loop, Cut}
 use Rattle.payoff_lang.specs.CodeSites.{CodeSite, InValue, AtCode, sites_of_code}
@@ -31,7 +31,7 @@ use Rattle.payoff_check.proofs.Finding.{each_any, meets, fails}
 
 -- the sort that is found of a value expression is that of its kind
 abbrev pub IsSortOf : Declarations → ValueExpression → List Layer → Sorted → Type 0
-IsSortOf d v r u = sort_of (kind_of d (plain v) (kinds_round d r)) ≡ Some u.sort
+IsSortOf d v r u = sort_of (kind_of d (undated v) (kinds_round d r)) ≡ Some u.sort
 
 value_found :
     (p : CodeSite → Bool) (xs : List Site) (n m : ℕ) (a : expressions.Answer) (w : Option Kind)
@@ -74,22 +74,22 @@ sort_follows :
     → Follows (sorting d) Once (λ _. pos 0) (code_is_sorted d) (λ r. names d r)
     (λ v r u. IsSortOf d v r u) (λ _ _ _. Unit {0}) (λ _ _ _. Unit {0}) (λ _ _ _. Unit {0})
 sort_follows d = record {
-  values = λ v r n _. value_found (code_is_sorted d) (sites_of Once (plain v) r n) n
-      (nodes (plain v)) (sort_tried d (plain v) (names d r)) (kind_of d (plain v) (kinds_round d r))
-      (sort_finds d (plain v) r n);
+  values = λ v r n _. value_found (code_is_sorted d) (sites_of Once (undated v) r n) n
+      (nodes (undated v)) (sort_tried d (undated v) (names d r)) (kind_of d (undated v) (kinds_round d r))
+      (sort_finds d (undated v) r n);
   enters = λ v r u h. ap (λ (s : Sort). s ∷ names d r)
-      (entered (kind_of d (plain v) (kinds_round d r)) u.sort h);
+      (entered (kind_of d (undated v) (kinds_round d r)) u.sort h);
   nothings = λ r n _. fine (code_is_sorted d) (AtCode n Nothing r) (λ (_ : ℕ). Unit {0}) 1 refl tt;
   payments = λ x a b c r n _. fine (code_is_sorted d) (AtCode n (PayOn x a b c) r)
       (λ (_ : ℕ). Unit {0}) 1 refl tt;
   sums = λ k l r n a b _ _ _. fine (code_is_sorted d) (AtCode n (Add k l) r) (λ (_ : ℕ). Unit {0})
       (a + b + 1) refl tt;
   factors = λ v k r n u a h _ _. factor (code_is_sorted d) (ScaleBy v k) r n (u.nodes + a + 1)
-      (kind_of d (plain v) (kinds_round d r)) u.sort refl h;
+      (kind_of d (undated v) (kinds_round d r)) u.sort refl h;
   binders = λ v k r n u a _ _ _. fine (code_is_sorted d) (AtCode n (LetBe v k) r)
       (λ (_ : ℕ). Unit {0}) (u.nodes + a + 1) refl tt;
   loops = λ v x k l r n u a b h _ _ _. test (code_is_sorted d) (Loop v x k l) r n
-      (u.nodes + a + b + 1) (kind_of d (plain v) (kinds_round d r)) u.sort refl h;
+      (u.nodes + a + b + 1) (kind_of d (undated v) (kinds_round d r)) u.sort refl h;
   cuts = λ x k r n a _ _. fine (code_is_sorted d) (AtCode n (Cut x k) r) (λ (_ : ℕ). Unit {0})
       (a + 1) refl tt;
 }

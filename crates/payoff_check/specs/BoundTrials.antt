@@ -1,5 +1,5 @@
 -- The trial of the rule on bounds, of code whose sorts and scales are right: a value expression has
--- the range of its plain expression, and every total is at most 10^37, as it is and at nine more
+-- the range of its undated expression, and every total is at most 10^37, as it is and at nine more
 -- decimals than the portfolio's.
 use Rattle.std.specs.Prelude.{◌≡◌, ℕ, ◌+◌, ◌-◌, ◌*◌, ◌^◌, ◌≤◌, max, ◌&&◌, Bool, nat_le}
 use Rattle.std.specs.Prelude.{List, ◌∷◌, Result, Ok, Err, if◌then◌else◌}
@@ -16,7 +16,7 @@ use Rattle.interval_check.specs.Ranges.{range}
 use Rattle.interval_check.specs.declared.ranges.Range.{Range as HeldRange}
 use Rattle.interval_check.specs.RangeScopes.{ranges_in}
 use Rattle.interval_check.specs.RangeTrials.{scale_in, range_tried, kind_found, AreScaled}
-use Rattle.payoff_lang.specs.Dating.{plain}
+use Rattle.payoff_lang.specs.Dating.{undated}
 use Rattle.payoff_lang.specs.Code.{PayoffCode, Nothing, PayOn, Add, ScaleBy, LetBe, Loop, Cut}
 use Rattle.payoff_check.specs.declared.bound_rule.Ranged.{Ranged}
 use Rattle.payoff_check.specs.declared.totals.CodeTotal.{CodeTotal}
@@ -34,7 +34,7 @@ ranged r = record { range = range r.range; nodes = r.nodes }
 abbrev pub HasKind : Declarations → Expression → List Range → Ranged → Type 0
 HasKind d e g r = r.range.kind ≡ kind_found d e (range_kinds g)
 
--- a plain expression whose first node has number n
+-- an undated expression whose first node has number n
 abbrev pub value_tried : Declarations → Expression → List Range → ℕ → Result Found ℕ
 value_tried d e g n =
     then_do (moved n (range_tried d e g)) (λ r. Ok (record { range = r; nodes = nodes e }))
@@ -84,7 +84,7 @@ of_part count a = record { amount = a.amount; scale = a.scale; nodes = count + a
 
 abbrev pub bounding : Declarations → Steps Found CodeTotal (List Range)
 bounding d = record {
-  value = λ v g n. value_tried d (plain v) g n;
+  value = λ v g n. value_tried d (undated v) g n;
   enter = λ u g. u.range ∷ g;
   nothing = λ n. total_here (d.amounts + 9) of_nothing n;
   payment = λ x n. total_here (d.amounts + 9) of_payment n;
@@ -109,11 +109,11 @@ abbrev pub AreValuesScaled : Declarations → PayoffCode → List Kind → Type 
 AreValuesScaled d Nothing ks = Unit {0}
 AreValuesScaled d (PayOn x a p q) ks = Unit {0}
 AreValuesScaled d (Add k l) ks = AreValuesScaled d k ks × AreValuesScaled d l ks
-AreValuesScaled d (ScaleBy v k) ks = AreScaled d (plain v) ks × AreValuesScaled d k ks
+AreValuesScaled d (ScaleBy v k) ks = AreScaled d (undated v) ks × AreValuesScaled d k ks
 AreValuesScaled d (LetBe v k) ks =
-    AreScaled d (plain v) ks × AreValuesScaled d k (kind_found d (plain v) ks ∷ ks)
+    AreScaled d (undated v) ks × AreValuesScaled d k (kind_found d (undated v) ks ∷ ks)
 AreValuesScaled d (Loop v x k l) ks =
-    AreScaled d (plain v) ks × AreValuesScaled d k ks × AreValuesScaled d l ks
+    AreScaled d (undated v) ks × AreValuesScaled d k ks × AreValuesScaled d l ks
 AreValuesScaled d (Cut x k) ks = AreValuesScaled d k ks
 
 -- the same among the names of a scope

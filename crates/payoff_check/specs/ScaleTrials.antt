@@ -1,5 +1,5 @@
 -- The trial of the rule on scales, of code whose sorts are right: a value expression has the scale
--- of its plain expression, and the scale of each code is at most the portfolio's decimals and nine.
+-- of its undated expression, and the scale of each code is at most the portfolio's decimals and nine.
 use Rattle.std.specs.Prelude.{ℕ, ◌+◌, max, nat_le, List, ◌∷◌, Result, Ok, Err, if◌then◌else◌}
 use Rattle.term_core.specs.declared.decls.Decls.{Decls}
 use Rattle.term_core.specs.declared.scope.Scope.{Scope}
@@ -9,12 +9,12 @@ use Rattle.term_core.specs.Sizes.{nodes}
 use Rattle.term_core.specs.Scopes.{held_in}
 use Rattle.term_core.specs.Trying.{then_do, moved}
 use Rattle.scale_check.specs.ScaleTrials.{scale_tried}
-use Rattle.payoff_lang.specs.Dating.{plain}
+use Rattle.payoff_lang.specs.Dating.{undated}
 use Rattle.payoff_lang.specs.Code.{PayoffCode}
 use Rattle.payoff_check.specs.declared.scale_rule.Scaled.{Scaled}
 use Rattle.payoff_check.specs.Trials.{Steps, code_tried}
 
--- a plain expression whose first node has number n
+-- an undated expression whose first node has number n
 abbrev pub value_tried : Declarations → Expression → List ℕ → ℕ → Result Scaled ℕ
 value_tried d e ss n =
     then_do (moved n (scale_tried d e ss)) (λ s. Ok (record { scale = s; nodes = nodes e }))
@@ -26,7 +26,7 @@ kept greatest s count n =
 
 abbrev pub scaling : Declarations → Steps Scaled Scaled (List ℕ)
 scaling d = record {
-  value = λ v ss n. value_tried d (plain v) ss n;
+  value = λ v ss n. value_tried d (undated v) ss n;
   enter = λ u ss. u.scale ∷ ss;
   nothing = λ n. kept (d.amounts + 9) 0 1 n;
   payment = λ x n. kept (d.amounts + 9) 9 1 n;

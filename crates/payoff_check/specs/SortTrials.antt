@@ -1,4 +1,4 @@
--- The trial of the rule on sorts: a value expression has the sort of its plain expression, a factor
+-- The trial of the rule on sorts: a value expression has the sort of its undated expression, a factor
 -- has to be a number and a test a truth value. What is found of code is the number of its nodes.
 use Rattle.std.specs.Prelude.{ℕ, ◌+◌, List, ◌∷◌, Result, Ok, Err}
 use Rattle.term_core.specs.declared.decls.Decls.{Decls}
@@ -11,12 +11,12 @@ use Rattle.term_core.specs.Trying.{then_do, moved}
 use Rattle.time_types.specs.declared.observed_sorts.Sort.{Sort}
 use Rattle.time_types.specs.declared.observed_sorts.Sort.TheVariants.{Truth, Number}
 use Rattle.time_types.specs.SortTrials.{sort_tried}
-use Rattle.payoff_lang.specs.Dating.{plain}
+use Rattle.payoff_lang.specs.Dating.{undated}
 use Rattle.payoff_lang.specs.Code.{PayoffCode}
 use Rattle.payoff_check.specs.declared.sort_rule.Sorted.{Sorted}
 use Rattle.payoff_check.specs.Trials.{Steps, code_tried}
 
--- a plain expression whose first node has number n
+-- an undated expression whose first node has number n
 abbrev pub value_tried : Declarations → Expression → List Sort → ℕ → Result Sorted ℕ
 value_tried d e ss n =
     then_do (moved n (sort_tried d e ss)) (λ s. Ok (record { sort = s; nodes = nodes e }))
@@ -30,7 +30,7 @@ needed Number Truth count n = Err n
 
 abbrev pub sorting : Declarations → Steps Sorted ℕ (List Sort)
 sorting d = record {
-  value = λ v ss n. value_tried d (plain v) ss n;
+  value = λ v ss n. value_tried d (undated v) ss n;
   enter = λ u ss. u.sort ∷ ss;
   nothing = λ n. Ok 1;
   payment = λ x n. Ok 1;

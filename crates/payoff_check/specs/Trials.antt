@@ -6,7 +6,7 @@ use Rattle.term_core.specs.Terms.{Expression}
 use Rattle.term_core.specs.Sizes.{nodes}
 use Rattle.term_core.specs.Trying.{then_do}
 use Rattle.payoff_lang.specs.TemplateDates.{Date}
-use Rattle.payoff_lang.specs.Dating.{plain}
+use Rattle.payoff_lang.specs.Dating.{undated}
 use Rattle.payoff_lang.specs.Code.{ValueExpression, value_expression}
 use Rattle.payoff_lang.specs.Code.{PayoffCode, Nothing, PayOn, Add, ScaleBy, LetBe, Loop, Cut}
 use Rattle.payoff_lang.specs.CodeSizes.{nodes_of_code}
@@ -14,9 +14,9 @@ use Rattle.payoff_lang.specs.declared.code.Vx.{Vx}
 use Rattle.payoff_check.specs.declared.faults.Fault.{Fault}
 use Rattle.payoff_check.specs.declared.faults.Fault.TheVariants.{At}
 
--- the plain expression of the program's value expression
-abbrev pub plain_value : Vx → Expression
-plain_value v = plain (value_expression v)
+-- the undated expression of the program's value expression
+abbrev pub undated_value : Vx → Expression
+undated_value v = undated (value_expression v)
 
 -- the steps of a rule, with what is found of values, U, what is found of code, A, and what is known
 -- of names, G
@@ -40,14 +40,14 @@ code_tried w (Add k l) g n =
     (λ a. then_do (code_tried w l g (n + 1 + nodes_of_code k)) (λ b. w.sum a b n))
 code_tried w (ScaleBy v k) g n =
     then_do (w.value v g (n + 1))
-    (λ u. then_do (code_tried w k g (n + 1 + nodes (plain v))) (λ a. w.scaled u a n))
+    (λ u. then_do (code_tried w k g (n + 1 + nodes (undated v))) (λ a. w.scaled u a n))
 code_tried w (LetBe v k) g n =
     then_do (w.value v g (n + 1))
-    (λ u. then_do (code_tried w k (w.enter u g) (n + 1 + nodes (plain v))) (λ a. w.bound u a n))
+    (λ u. then_do (code_tried w k (w.enter u g) (n + 1 + nodes (undated v))) (λ a. w.bound u a n))
 code_tried w (Loop v x k l) g n =
     then_do (w.value v g (n + 1))
-    (λ u. then_do (code_tried w k g (n + 1 + nodes (plain v)))
-    (λ a. then_do (code_tried w l g (n + 1 + nodes (plain v) + nodes_of_code k))
+    (λ u. then_do (code_tried w k g (n + 1 + nodes (undated v)))
+    (λ a. then_do (code_tried w l g (n + 1 + nodes (undated v) + nodes_of_code k))
     (λ b. w.looped u x a b n)))
 code_tried w (Cut x k) g n = then_do (code_tried w k g (n + 1)) (λ a. w.cut x a n)
 

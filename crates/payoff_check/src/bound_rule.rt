@@ -15,15 +15,15 @@ ghost use Rattle.payoff_lang.specs.CodeSizes.{nodes_of_code};
 ghost use Rattle.payoff_lang.specs.CodeAcceptance.{MeetsInCode};
 ghost use Rattle.payoff_check.specs.Parts.{added, multiple, naming, looping, cutting};
 ghost use Rattle.payoff_check.specs.Verdicts.{IsCodeVerdict, IsTotalOf};
-ghost use Rattle.payoff_check.specs.Trials.{Tells, TellsAs, plain_value};
+ghost use Rattle.payoff_check.specs.Trials.{Tells, TellsAs, undated_value};
 ghost use Rattle.payoff_check.specs.BoundTrials.{AreScaledAmong, HasKindAmong, IsFitting};
 ghost use Rattle.payoff_check.specs.BoundTrials.{bounds_among, of_part, range_among, ranged};
 ghost use Rattle.payoff_check.specs.BoundTrials.{total_here};
 
 use crate::decimals::Decimals;
 use crate::faults::Fault;
-use crate::plains::plain_of;
 use crate::totals::{CodeTotal, checked, greater_of, product_of, sum_of};
+use crate::undated::undated_of;
 use decimal::NoMemory;
 use interval_check::{Range, range_of};
 use payoff_lang::{Code, Vx};
@@ -37,8 +37,13 @@ pub struct Ranged {
     pub nodes: u32,
 }
 
-// Of a plain expression whose first node has a number.
-fn range_of_plain(decls: &Decls, e: &Expr, scope: &Scope<Range>, node: u32) -> Result<Ranged, Fault>
+// Of an undated expression whose first node has a number.
+fn range_of_undated(
+    decls: &Decls,
+    e: &Expr,
+    scope: &Scope<Range>,
+    node: u32,
+) -> Result<Ranged, Fault>
     requires nodes { node + nodes (expression e.now) < 2 ^ 32 }
     requires scaled { IsScaledWithin decls.now (expression e.now) scope.now }
     ensures range { TellsAs ranged result
@@ -64,16 +69,16 @@ fn range_of_value(
     scope: &Scope<Range>,
     node: u32,
 ) -> Result<Ranged, Fault>
-    requires nodes { node + nodes (plain_value v.now) < 2 ^ 32 }
-    requires scaled { IsScaledWithin decls.now (plain_value v.now) scope.now }
+    requires nodes { node + nodes (undated_value v.now) < 2 ^ 32 }
+    requires scaled { IsScaledWithin decls.now (undated_value v.now) scope.now }
     ensures range { TellsAs ranged result
-        (range_among decls.now (plain_value v.now) scope.now node) }
-    ensures nodes { IfOk result (λ found. found.nodes ≡ nodes (plain_value v.now)) }
-    ensures kind { IfOk result (HasKindAmong decls.now (plain_value v.now) scope.now) }
+        (range_among decls.now (undated_value v.now) scope.now node) }
+    ensures nodes { IfOk result (λ found. found.nodes ≡ nodes (undated_value v.now)) }
+    ensures kind { IfOk result (HasKindAmong decls.now (undated_value v.now) scope.now) }
     ensures fit { IfOk result (λ found. IsFit (range found.range)) }
 {
-    match plain_of(alloc, v) {
-        Ok(e) => range_of_plain(decls, &e, scope, node),
+    match undated_of(alloc, v) {
+        Ok(e) => range_of_undated(decls, &e, scope, node),
         Err(NoMemory) => Err(Fault::NoMemory),
     }
 }

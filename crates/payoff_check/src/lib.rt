@@ -1,6 +1,6 @@
 //! Which payoff code is accepted at a setting: the rules on sorts, scales, sizes and bounds, in
 //! this order. For value expressions the first two and the last are the rules of contracts, tried
-//! on the plain expression, which is made where the value expression stands and dropped at once.
+//! on the undated expression, which is made where the value expression stands and dropped at once.
 //!
 //! ```text
 //! let facts = check_code(alloc, &file, &setting)?; // its scale and its total
@@ -18,11 +18,12 @@ mod decimals;
 mod faults;
 mod laws;
 mod part_sizes;
-mod plains;
 mod scale_rule;
+mod simple_code;
 mod size_rule;
 mod sort_rule;
 mod totals;
+mod undated;
 mod value_sizes;
 
 pub use checks::{CodeFacts, check_code};

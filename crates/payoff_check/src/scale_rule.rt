@@ -13,11 +13,11 @@ ghost use Rattle.payoff_lang.specs.CodeSizes.{nodes_of_code};
 ghost use Rattle.payoff_lang.specs.CodeAcceptance.{MeetsInCode};
 ghost use Rattle.payoff_check.specs.Parts.{added, multiple, naming, looping, cutting};
 ghost use Rattle.payoff_check.specs.Verdicts.{IsCodeVerdict, IsScaleOf};
-ghost use Rattle.payoff_check.specs.Trials.{Tells, plain_value};
+ghost use Rattle.payoff_check.specs.Trials.{Tells, undated_value};
 ghost use Rattle.payoff_check.specs.ScaleTrials.{kept, scale_among, scales_among};
 
 use crate::faults::Fault;
-use crate::plains::plain_of;
+use crate::undated::undated_of;
 use decimal::NoMemory;
 use payoff_lang::{Code, Vx};
 use scale_check::scale_of_expr;
@@ -31,8 +31,8 @@ pub struct Scaled {
     pub nodes: u32,
 }
 
-// Of a plain expression whose first node has a number.
-fn scale_of_plain(decls: &Decls, e: &Expr, scope: &Scope<u8>, node: u32) -> Result<Scaled, Fault>
+// Of an undated expression whose first node has a number.
+fn scale_of_undated(decls: &Decls, e: &Expr, scope: &Scope<u8>, node: u32) -> Result<Scaled, Fault>
     requires { node + nodes (expression e.now) < 2 ^ 32 }
     ensures scale { Tells result (scale_among decls.now (expression e.now) scope.now node) }
     ensures nodes { IfOk result (λ found. found.nodes ≡ nodes (expression e.now)) }
@@ -55,13 +55,13 @@ fn scale_of_value(
     scope: &Scope<u8>,
     node: u32,
 ) -> Result<Scaled, Fault>
-    requires { node + nodes (plain_value v.now) < 2 ^ 32 }
-    ensures scale { Tells result (scale_among decls.now (plain_value v.now) scope.now node) }
-    ensures nodes { IfOk result (λ found. found.nodes ≡ nodes (plain_value v.now)) }
+    requires { node + nodes (undated_value v.now) < 2 ^ 32 }
+    ensures scale { Tells result (scale_among decls.now (undated_value v.now) scope.now node) }
+    ensures nodes { IfOk result (λ found. found.nodes ≡ nodes (undated_value v.now)) }
     ensures within { IfOk result (λ found. found.scale ≤ 27) }
 {
-    match plain_of(alloc, v) {
-        Ok(e) => scale_of_plain(decls, &e, scope, node),
+    match undated_of(alloc, v) {
+        Ok(e) => scale_of_undated(decls, &e, scope, node),
         Err(NoMemory) => Err(Fault::NoMemory),
     }
 }

@@ -13,7 +13,7 @@ ghost use Rattle.payoff_lang.specs.Code.{payoff_code};
 ghost use Rattle.payoff_lang.specs.CodeAcceptance as rule;
 ghost use Rattle.payoff_lang.specs.CodeSizes.{as_count, nodes_of_code};
 ghost use Rattle.payoff_check.specs.Parts.{added, multiple, looping_to, cutting_on};
-ghost use Rattle.payoff_check.specs.Trials.{plain_value};
+ghost use Rattle.payoff_check.specs.Trials.{undated_value};
 ghost use Rattle.payoff_check.specs.Verdicts.{IsCodeVerdict, NothingMore};
 ghost use Rattle.payoff_check.specs.SizeTrials.{IsLimited, IsLimitedCode, dated_code, looped};
 ghost use Rattle.payoff_check.specs.SizeTrials.{sizes_tried, tried_at};
@@ -26,10 +26,10 @@ use term_core::{CheckErr, Decls, Rule, Setting};
 
 // The size of a value expression whose first node has a number.
 fn size_at(setting: &[u32], v: &Vx, node: u32) -> Result<ValueSize, u32>
-    requires { node + nodes (plain_value v.now) < 2 ^ 32 }
+    requires { node + nodes (undated_value v.now) < 2 ^ 32 }
     ensures size { result ≡ moved node (tried_at setting.now v.now) }
     ensures limits { IfOk result IsLimited }
-    ensures nodes { IfOk result (λ size. size.nodes ≡ nodes (plain_value v.now)) }
+    ensures nodes { IfOk result (λ size. size.nodes ≡ nodes (undated_value v.now)) }
 {
     match size_of_value(setting, v) {
         Ok(size) => Ok(size),

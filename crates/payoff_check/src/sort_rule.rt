@@ -11,11 +11,11 @@ ghost use Rattle.payoff_lang.specs.Code.{payoff_code};
 ghost use Rattle.payoff_lang.specs.CodeSizes.{nodes_of_code};
 ghost use Rattle.payoff_check.specs.Parts.{added, multiple, naming, looping, cutting};
 ghost use Rattle.payoff_check.specs.Verdicts.{IsCodeVerdict, NothingMore};
-ghost use Rattle.payoff_check.specs.Trials.{Tells, plain_value};
+ghost use Rattle.payoff_check.specs.Trials.{Tells, undated_value};
 ghost use Rattle.payoff_check.specs.SortTrials.{needed, sort_among, sorts_among};
 
 use crate::faults::Fault;
-use crate::plains::plain_of;
+use crate::undated::undated_of;
 use decimal::NoMemory;
 use payoff_lang::{Code, Vx};
 use std::alloc::Global;
@@ -29,8 +29,8 @@ pub struct Sorted {
     pub nodes: u32,
 }
 
-// Of a plain expression whose first node has a number.
-fn sort_of_plain(decls: &Decls, e: &Expr, scope: &Scope<Sort>, node: u32) -> Result<Sorted, Fault>
+// Of an undated expression whose first node has a number.
+fn sort_of_undated(decls: &Decls, e: &Expr, scope: &Scope<Sort>, node: u32) -> Result<Sorted, Fault>
     requires { node + nodes (expression e.now) < 2 ^ 32 }
     ensures sort { Tells result (sort_among decls.now (expression e.now) scope.now node) }
     ensures nodes { IfOk result (λ found. found.nodes ≡ nodes (expression e.now)) }
@@ -52,12 +52,12 @@ fn sort_of_value(
     scope: &Scope<Sort>,
     node: u32,
 ) -> Result<Sorted, Fault>
-    requires { node + nodes (plain_value v.now) < 2 ^ 32 }
-    ensures sort { Tells result (sort_among decls.now (plain_value v.now) scope.now node) }
-    ensures nodes { IfOk result (λ found. found.nodes ≡ nodes (plain_value v.now)) }
+    requires { node + nodes (undated_value v.now) < 2 ^ 32 }
+    ensures sort { Tells result (sort_among decls.now (undated_value v.now) scope.now node) }
+    ensures nodes { IfOk result (λ found. found.nodes ≡ nodes (undated_value v.now)) }
 {
-    match plain_of(alloc, v) {
-        Ok(e) => sort_of_plain(decls, &e, scope, node),
+    match undated_of(alloc, v) {
+        Ok(e) => sort_of_undated(decls, &e, scope, node),
         Err(NoMemory) => Err(Fault::NoMemory),
     }
 }

@@ -6,7 +6,7 @@
 ghost use Rattle.std.specs.Prelude.{◌≡◌, ◌<◌, ◌≤◌, ◌+◌, ◌^◌, IfOk, IfErr};
 ghost use Rattle.term_core.specs.Sizes.{nodes};
 ghost use Rattle.term_core.specs.Trying.{FaultIsWithin, moved};
-ghost use Rattle.payoff_check.specs.Trials.{plain_value};
+ghost use Rattle.payoff_check.specs.Trials.{undated_value};
 ghost use Rattle.payoff_check.specs.SizeTrials.{IsLimited, acc_tried, nodes_at, one_tried, three_tried, tried_at, two_tried};
 
 use crate::days::{day_at, is_date};
@@ -16,8 +16,8 @@ use term_core::behind_node;
 
 /// The nodes of a value expression.
 pub fn nodes_in_value(v: &Vx) -> u32
-    requires { nodes (plain_value v.now) < 2 ^ 32 }
-    ensures { result ≡ nodes (plain_value v.now) }
+    requires { nodes (undated_value v.now) < 2 ^ 32 }
+    ensures { result ≡ nodes (undated_value v.now) }
 {
     match v {
         Vx::Lit { .. } | Vx::Yes { .. } | Vx::Var { .. } | Vx::Model { .. } => 1,
@@ -77,7 +77,7 @@ fn size_over_one(setting: &[u32], of: &Vx) -> Result<ValueSize, u32>
 
 // Of an operator on two operands.
 #[cycle(sizing)]
-#[tactic(auto, using(crate::proofs::DateFreeFacts::nodes_plain))]
+#[tactic(auto, using(crate::proofs::DateFreeFacts::nodes_undated))]
 fn size_over_two(setting: &[u32], left: &Vx, right: &Vx) -> Result<ValueSize, u32>
     requires { nodes_at setting.now left.now + nodes_at setting.now right.now + 1 < 2 ^ 32 }
     ensures size { result ≡ two_tried (nodes_at setting.now left.now)
@@ -93,7 +93,7 @@ fn size_over_two(setting: &[u32], left: &Vx, right: &Vx) -> Result<ValueSize, u3
 
 // Of an `if`.
 #[cycle(sizing)]
-#[tactic(auto, using(crate::proofs::DateFreeFacts::nodes_plain))]
+#[tactic(auto, using(crate::proofs::DateFreeFacts::nodes_undated))]
 fn size_over_three(setting: &[u32], test: &Vx, yes: &Vx, no: &Vx) -> Result<ValueSize, u32>
     requires { nodes_at setting.now test.now + nodes_at setting.now yes.now
         + nodes_at setting.now no.now + 1 < 2 ^ 32 }
@@ -113,7 +113,7 @@ fn size_over_three(setting: &[u32], test: &Vx, yes: &Vx, no: &Vx) -> Result<Valu
 
 // Of an accumulator, whose start is tried before its body.
 #[cycle(sizing)]
-#[tactic(auto, using(crate::proofs::DateFreeFacts::nodes_plain))]
+#[tactic(auto, using(crate::proofs::DateFreeFacts::nodes_undated))]
 fn size_over_days(setting: &[u32], body: &Vx, days: u32, first: &Vx) -> Result<ValueSize, u32>
     requires { nodes_at setting.now body.now + nodes_at setting.now first.now + 1 < 2 ^ 32 }
     ensures size { result ≡ acc_tried (nodes_at setting.now body.now) days
@@ -129,9 +129,9 @@ fn size_over_days(setting: &[u32], body: &Vx, days: u32, first: &Vx) -> Result<V
 
 // The answer of the part that follows a value expression.
 fn behind_value(before: &Vx, answer: Result<ValueSize, u32>) -> Result<ValueSize, u32>
-    requires small { nodes (plain_value before.now) < 2 ^ 32 }
-    requires room { IfErr answer (λ node. 1 + nodes (plain_value before.now) + node < 2 ^ 32) }
-    ensures { result ≡ moved (1 + nodes (plain_value before.now)) answer }
+    requires small { nodes (undated_value before.now) < 2 ^ 32 }
+    requires room { IfErr answer (λ node. 1 + nodes (undated_value before.now) + node < 2 ^ 32) }
+    ensures { result ≡ moved (1 + nodes (undated_value before.now)) answer }
 {
     match answer {
         Ok(size) => Ok(size),
@@ -145,11 +145,11 @@ fn behind_two_values(
     second: &Vx,
     answer: Result<ValueSize, u32>,
 ) -> Result<ValueSize, u32>
-    requires small { nodes (plain_value first.now) + nodes (plain_value second.now) < 2 ^ 32 }
+    requires small { nodes (undated_value first.now) + nodes (undated_value second.now) < 2 ^ 32 }
     requires room { IfErr answer (λ node.
-        nodes (plain_value first.now) + (1 + nodes (plain_value second.now) + node) < 2 ^ 32) }
-    ensures { result ≡ moved (nodes (plain_value first.now))
-        (moved (1 + nodes (plain_value second.now)) answer) }
+        nodes (undated_value first.now) + (1 + nodes (undated_value second.now) + node) < 2 ^ 32) }
+    ensures { result ≡ moved (nodes (undated_value first.now))
+        (moved (1 + nodes (undated_value second.now)) answer) }
 {
     match answer {
         Ok(size) => Ok(size),

@@ -17,7 +17,7 @@ use Rattle.interval_check.proofs.NodeTests.{at_root}
 use Rattle.interval_check.proofs.RuleFacts.{kinds_of_ranges}
 use Rattle.expr_eval.proofs.SpanFacts.{span}
 use Rattle.payoff_lang.specs.TemplateDates.{Date, day_of}
-use Rattle.payoff_lang.specs.Dating.{dated_by, at_setting, plain}
+use Rattle.payoff_lang.specs.Dating.{dated_by, at_setting, undated}
 use Rattle.payoff_lang.specs.Code.{ValueExpression, Lit, Yes, Var, Model, Neg, Num, Cmp, Not, Logic, Cond, Widen, Round, Div, Acc, PayoffCode, Nothing, PayOn, Add, ScaleBy, LetBe, Loop, Cut}
 use Rattle.payoff_lang.specs.CodeValues.{scale_of_code}
 use Rattle.payoff_lang.specs.CodeSizes.{nodes_of_code, height_of_code, work_of_code, loop_days}
@@ -62,29 +62,29 @@ each_part d Q w day P R here value (Add k l) r n h =
     )
 each_part d Q w day P R here value (ScaleBy v k) r n h =
     let first = value_sites w r (n + 1) (dated_by day v) in
-    let second = sites_of_code w day k r (n + 1 + nodes (plain v)) in
+    let second = sites_of_code w day k r (n + 1 + nodes (undated v)) in
     let rest = code-right Q first _ h in (
       value r v (n + 1) (from_map Q (sites_of w (dated_by day v) r (n + 1)) (code-left Q first _ h)),
-      each_part d Q w day P R here value k r (n + 1 + nodes (plain v)) (code-left Q second _ rest),
+      each_part d Q w day P R here value k r (n + 1 + nodes (undated v)) (code-left Q second _ rest),
       here r (ScaleBy v k) n (code-right Q second _ rest).0,
     )
 each_part d Q w day P R here value (LetBe v k) r n h =
     let first = value_sites w r (n + 1) (dated_by day v) in
-    let second = sites_of_code w day k (Naming (plain v) ∷ r) (n + 1 + nodes (plain v)) in
+    let second = sites_of_code w day k (Naming (undated v) ∷ r) (n + 1 + nodes (undated v)) in
     let rest = code-right Q first _ h in (
       value r v (n + 1) (from_map Q (sites_of w (dated_by day v) r (n + 1)) (code-left Q first _ h)),
-      each_part d Q w day P R here value k (Naming (plain v) ∷ r) (n + 1 + nodes (plain v)) (code-left Q second _ rest),
+      each_part d Q w day P R here value k (Naming (undated v) ∷ r) (n + 1 + nodes (undated v)) (code-left Q second _ rest),
       here r (LetBe v k) n (code-right Q second _ rest).0,
     )
 each_part d Q w day P R here value (Loop v x k l) r n h =
     let first = value_sites w r (n + 1) (dated_by day v) in
-    let second = sites_of_code w day k r (n + 1 + nodes (plain v)) in
-    let third = sites_of_code w day l r (n + 1 + nodes (plain v) + nodes_of_code k) in
+    let second = sites_of_code w day k r (n + 1 + nodes (undated v)) in
+    let third = sites_of_code w day l r (n + 1 + nodes (undated v) + nodes_of_code k) in
     let rest = code-right Q first _ h in
     let last = code-right Q second _ rest in (
       value r v (n + 1) (from_map Q (sites_of w (dated_by day v) r (n + 1)) (code-left Q first _ h)),
-      each_part d Q w day P R here value k r (n + 1 + nodes (plain v)) (code-left Q second _ rest),
-      each_part d Q w day P R here value l r (n + 1 + nodes (plain v) + nodes_of_code k) (code-left Q third _ last),
+      each_part d Q w day P R here value k r (n + 1 + nodes (undated v)) (code-left Q second _ rest),
+      each_part d Q w day P R here value l r (n + 1 + nodes (undated v) + nodes_of_code k) (code-left Q third _ last),
       here r (Loop v x k l) n (code-right Q third _ last).0,
     )
 each_part d Q w day P R here value (Cut x k) r n h =

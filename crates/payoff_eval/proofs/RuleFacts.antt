@@ -1,5 +1,5 @@
 -- Accepted code meets the rules by which values are known, at each of its value expressions: from the list of sites to the
--- structure, and from the plain expression to that of a setting.
+-- structure, and from the undated expression to that of a setting.
 use Rattle.std.proofs.Common.{◌≡◌, ℕ, suc, ℤ, pos, ◌+◌, Bool, ◌&&◌, List, [], ◌∷◌, ◌++◌, map, Option, IsTrue, is_some, nat_le, refl, ap, ap₂, subst, ◌∙◌}
 use Rattle.term_core.specs.Declarations.{Declarations}
 use Rattle.term_core.specs.declared.values.Kind.{Kind}
@@ -13,7 +13,7 @@ use Rattle.interval_check.specs.Nodes.{EachNode, InRounds, range_after, IsSorted
 use Rattle.interval_check.proofs.NodeFacts.{nodes_hold}
 use Rattle.interval_check.proofs.RuleFacts.{sorted_is, scaled_is}
 use Rattle.payoff_lang.specs.TemplateDates.{Date, day_of}
-use Rattle.payoff_lang.specs.Dating.{dated_by, at_setting, plain}
+use Rattle.payoff_lang.specs.Dating.{dated_by, at_setting, undated}
 use Rattle.payoff_lang.specs.Code.{ValueExpression, Lit, Yes, Var, Model, Neg, Num, Cmp, Not, Logic, Cond, Widen, Round, Div, Acc, PayoffCode, Nothing, PayOn, Add, ScaleBy, LetBe, Loop, Cut}
 use Rattle.payoff_lang.specs.CodeSites.{CodeSite, InValue, value_sites, sites_of_code, AllPassInCode}
 use Rattle.payoff_lang.specs.CodeAcceptance.{IsAcceptedCode, code_is_sorted, code_is_scaled, code_is_bounded}
@@ -127,26 +127,26 @@ EachValue R Nothing r = Unit {0}
 EachValue R (PayOn x a p q) r = Unit {0}
 EachValue R (Add k l) r = EachValue R k r × EachValue R l r
 EachValue R (ScaleBy v k) r = R r v × EachValue R k r
-EachValue R (LetBe v k) r = R r v × EachValue R k (Naming (plain v) ∷ r)
+EachValue R (LetBe v k) r = R r v × EachValue R k (Naming (undated v) ∷ r)
 EachValue R (Loop v x k l) r = R r v × EachValue R k r × EachValue R l r
 EachValue R (Cut x k) r = EachValue R k r
 
-each_value : (Q : CodeSite → Type 0) (w : Trial) (R : List Layer → ValueExpression → Type 0) → ((r : List Layer) (v : ValueExpression) (n : ℕ) → AllPass (λ s. Q (InValue s)) (sites_of w (plain v) r n) → R r v) → (k : PayoffCode) (r : List Layer) (n : ℕ) → AllPassInCode Q (sites_of_code w (λ _. pos 0) k r n) → EachValue R k r
+each_value : (Q : CodeSite → Type 0) (w : Trial) (R : List Layer → ValueExpression → Type 0) → ((r : List Layer) (v : ValueExpression) (n : ℕ) → AllPass (λ s. Q (InValue s)) (sites_of w (undated v) r n) → R r v) → (k : PayoffCode) (r : List Layer) (n : ℕ) → AllPassInCode Q (sites_of_code w (λ _. pos 0) k r n) → EachValue R k r
 each_value Q w R here Nothing r n h = tt
 each_value Q w R here (PayOn x a p q) r n h = tt
 each_value Q w R here (Add k l) r n h =
     let first = sites_of_code w (λ _. pos 0) k r (n + 1) in
     (each_value Q w R here k r _ (code-left Q first _ h), each_value Q w R here l r _ (code-left Q (sites_of_code w (λ _. pos 0) l r _) _ (code-right Q first _ h)))
 each_value Q w R here (ScaleBy v k) r n h =
-    let first = value_sites w r (n + 1) (plain v) in
-    (here r v (n + 1) (from_map Q (sites_of w (plain v) r (n + 1)) (code-left Q first _ h)), each_value Q w R here k r _ (code-left Q (sites_of_code w (λ _. pos 0) k r _) _ (code-right Q first _ h)))
+    let first = value_sites w r (n + 1) (undated v) in
+    (here r v (n + 1) (from_map Q (sites_of w (undated v) r (n + 1)) (code-left Q first _ h)), each_value Q w R here k r _ (code-left Q (sites_of_code w (λ _. pos 0) k r _) _ (code-right Q first _ h)))
 each_value Q w R here (LetBe v k) r n h =
-    let first = value_sites w r (n + 1) (plain v) in
-    (here r v (n + 1) (from_map Q (sites_of w (plain v) r (n + 1)) (code-left Q first _ h)), each_value Q w R here k (Naming (plain v) ∷ r) _ (code-left Q (sites_of_code w (λ _. pos 0) k (Naming (plain v) ∷ r) _) _ (code-right Q first _ h)))
+    let first = value_sites w r (n + 1) (undated v) in
+    (here r v (n + 1) (from_map Q (sites_of w (undated v) r (n + 1)) (code-left Q first _ h)), each_value Q w R here k (Naming (undated v) ∷ r) _ (code-left Q (sites_of_code w (λ _. pos 0) k (Naming (undated v) ∷ r) _) _ (code-right Q first _ h)))
 each_value Q w R here (Loop v x k l) r n h =
-    let first = value_sites w r (n + 1) (plain v) in
+    let first = value_sites w r (n + 1) (undated v) in
     let rest = code-right Q first _ h in
-    (here r v (n + 1) (from_map Q (sites_of w (plain v) r (n + 1)) (code-left Q first _ h)), each_value Q w R here k r _ (code-left Q (sites_of_code w (λ _. pos 0) k r _) _ rest), each_value Q w R here l r _ (code-left Q (sites_of_code w (λ _. pos 0) l r _) _ (code-right Q (sites_of_code w (λ _. pos 0) k r _) _ rest)))
+    (here r v (n + 1) (from_map Q (sites_of w (undated v) r (n + 1)) (code-left Q first _ h)), each_value Q w R here k r _ (code-left Q (sites_of_code w (λ _. pos 0) k r _) _ rest), each_value Q w R here l r _ (code-left Q (sites_of_code w (λ _. pos 0) l r _) _ (code-right Q (sites_of_code w (λ _. pos 0) k r _) _ rest)))
 each_value Q w R here (Cut x k) r n h = each_value Q w R here k r _ (code-left Q (sites_of_code w (λ _. pos 0) k r (n + 1)) _ h)
 
 together : (d : Declarations) (xs : List ℕ) (k : PayoffCode) (r : List Layer)
@@ -158,13 +158,13 @@ together d xs Nothing r a b c = tt
 together d xs (PayOn x u p q) r a b c = tt
 together d xs (Add k l) r a b c = (together d xs k r a.0 b.0 c.0, together d xs l r a.1 b.1 c.1)
 together d xs (ScaleBy v k) r a b c = (record { sorts = a.0; scales = b.0; bounds = c.0 }, together d xs k r a.1 b.1 c.1)
-together d xs (LetBe v k) r a b c = (record { sorts = a.0; scales = b.0; bounds = c.0 }, together d xs k (Naming (plain v) ∷ r) a.1 b.1 c.1)
+together d xs (LetBe v k) r a b c = (record { sorts = a.0; scales = b.0; bounds = c.0 }, together d xs k (Naming (undated v) ∷ r) a.1 b.1 c.1)
 together d xs (Loop v x k l) r a b c = (record { sorts = a.0; scales = b.0; bounds = c.0 }, together d xs k r a.1 b.1 c.1, together d xs l r a.2 b.2 c.2)
 together d xs (Cut x k) r a b c = together d xs k r a b c
 
 pub accepted_code_meets : (d : Declarations) (xs : List ℕ) (k : PayoffCode) → IsAcceptedCode d xs k → CodeMeetsRules d xs k []
 accepted_code_meets d xs k h =
     together d xs k []
-    (each_value (λ s. IsTrue (code_is_sorted d s)) Once (λ r v. EachNode (IsSortedPart d) Once d (at_setting xs v) (ranges_round d r)) (λ r v n a. each_any d (λ _. pos 0) (day_of xs) (IsSortedPart d) (sort_any d (λ _. pos 0) (day_of xs)) Once v (ranges_round d r) (nodes_hold d (λ s. IsTrue (is_sorted d s)) (IsSortedPart d) (λ j l part p. same_test _ _ (sorted_is d j l part) p) Once (plain v) r n a)) k [] 0 h.sorts)
-    (each_value (λ s. IsTrue (code_is_scaled d s)) Once (λ r v. EachNode (IsScaledPart d) Once d (at_setting xs v) (ranges_round d r)) (λ r v n a. each_any d (λ _. pos 0) (day_of xs) (IsScaledPart d) (scale_part_any d (λ _. pos 0) (day_of xs)) Once v (ranges_round d r) (nodes_hold d (λ s. IsTrue (is_scaled d s)) (IsScaledPart d) (λ j l part p. same_test _ _ (scaled_is d j l part) p) Once (plain v) r n a)) k [] 0 h.scales)
-    (each_value (λ s. IsTrue (code_is_bounded d s)) EachDay (λ r v. EachNode (IsBoundedPart d) EachDay d (at_setting xs v) (ranges_round d r)) (λ r v n a. each_any d (λ _. pos 0) (day_of xs) (IsBoundedPart d) (bound_any d (λ _. pos 0) (day_of xs)) EachDay v (ranges_round d r) (nodes_hold d (λ s. IsTrue (is_bounded d s)) (IsBoundedPart d) (λ j l part p. p) EachDay (plain v) r n a)) k [] 0 h.bounds)
+    (each_value (λ s. IsTrue (code_is_sorted d s)) Once (λ r v. EachNode (IsSortedPart d) Once d (at_setting xs v) (ranges_round d r)) (λ r v n a. each_any d (λ _. pos 0) (day_of xs) (IsSortedPart d) (sort_any d (λ _. pos 0) (day_of xs)) Once v (ranges_round d r) (nodes_hold d (λ s. IsTrue (is_sorted d s)) (IsSortedPart d) (λ j l part p. same_test _ _ (sorted_is d j l part) p) Once (undated v) r n a)) k [] 0 h.sorts)
+    (each_value (λ s. IsTrue (code_is_scaled d s)) Once (λ r v. EachNode (IsScaledPart d) Once d (at_setting xs v) (ranges_round d r)) (λ r v n a. each_any d (λ _. pos 0) (day_of xs) (IsScaledPart d) (scale_part_any d (λ _. pos 0) (day_of xs)) Once v (ranges_round d r) (nodes_hold d (λ s. IsTrue (is_scaled d s)) (IsScaledPart d) (λ j l part p. same_test _ _ (scaled_is d j l part) p) Once (undated v) r n a)) k [] 0 h.scales)
+    (each_value (λ s. IsTrue (code_is_bounded d s)) EachDay (λ r v. EachNode (IsBoundedPart d) EachDay d (at_setting xs v) (ranges_round d r)) (λ r v n a. each_any d (λ _. pos 0) (day_of xs) (IsBoundedPart d) (bound_any d (λ _. pos 0) (day_of xs)) EachDay v (ranges_round d r) (nodes_hold d (λ s. IsTrue (is_bounded d s)) (IsBoundedPart d) (λ j l part p. p) EachDay (undated v) r n a)) k [] 0 h.bounds)

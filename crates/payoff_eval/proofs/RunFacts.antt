@@ -23,7 +23,7 @@ use Rattle.expr_eval.proofs.AnswerFacts.{is_answer}
 use Rattle.expr_eval.proofs.RunValues.{same_kinds}
 use Rattle.expr_eval.proofs.RunReads.{have_values, self_extends}
 use Rattle.payoff_lang.specs.TemplateDates.{day_of}
-use Rattle.payoff_lang.specs.Dating.{at_setting, plain}
+use Rattle.payoff_lang.specs.Dating.{at_setting, undated}
 use Rattle.payoff_lang.specs.Code.{ValueExpression, PayoffCode, Nothing, PayOn, Add, ScaleBy, LetBe, Loop, Cut}
 use Rattle.payoff_lang.specs.CodeValues.{Asked, kind_at, entry_at}
 use Rattle.payoff_lang.specs.CodeReads.{value_reads}
@@ -72,7 +72,7 @@ held_is d e bs F b (Err m) g ps h s = sym (h.missing g ps s)
 -- what is known of a value expression among entries that stand for names
 pub record Known (d : Declarations) (xs : List ℕ) (v : ValueExpression) (bs : List Binding) (F : Environment) (b : ℤ) (g : List Entry) (ps : List (List Place)) : Type 0 where
   pub answer : answer_of d v bs F xs b ≡ answer_at d v g ps F xs b
-  pub scale : scale_found d v bs xs ≡ scale_of d (plain v) (kinds g)
+  pub scale : scale_found d v bs xs ≡ scale_of d (undated v) (kinds g)
   pub stands : StandFor F (bound_for d v bs F xs b ∷ bs) (entry_at d v g F xs b ∷ g) (value_reads d v g ps F xs b ∷ ps)
 
 pub known : (d : Declarations) (xs : List ℕ) (v : ValueExpression) (bs : List Binding) (F : Environment) (b : ℤ) (g : List Entry) (ps : List (List Place)) → HasSome d xs v (kinds g) → StandFor F bs g ps → Known d xs v bs F b g ps
@@ -96,20 +96,20 @@ cut_same : (t : Bool) (x y : Result Worth Missing) → x ≡ y → (if t then Ok
 cut_same true x y h = refl
 cut_same false x y h = h
 
-pub runs : (d : Declarations) (xs : List ℕ) (F : Environment) (a : Asked) (k : PayoffCode) (room : ℕ) (bs : List Binding) (g : List Entry) (ps : List (List Place)) (b : ℤ) → Kinded d xs k (kinds g) → StandFor F bs g ps → run_code d room k bs F xs a b ≡ walk_of d room k g ps F xs a b
-runs d xs F a Nothing room bs g ps b h s = refl
-runs d xs F a (PayOn x u p q) room bs g ps b h s = refl
-runs d xs F a (Add k l) room bs g ps b h s = ap₂ then_added (runs d xs F a k room bs g ps b h.0 s) (runs d xs F a l room bs g ps b h.1 s)
-runs d xs F a (ScaleBy v k) room bs g ps b h s =
+pub runs : (d : Declarations) (xs : List ℕ) (F : Environment) (a : Asked) (k : PayoffCode) (decimals : ℕ) (bs : List Binding) (g : List Entry) (ps : List (List Place)) (b : ℤ) → Kinded d xs k (kinds g) → StandFor F bs g ps → run_code d decimals k bs F xs a b ≡ walk_of d decimals k g ps F xs a b
+runs d xs F a Nothing decimals bs g ps b h s = refl
+runs d xs F a (PayOn x u p q) decimals bs g ps b h s = refl
+runs d xs F a (Add k l) decimals bs g ps b h s = ap₂ then_added (runs d xs F a k decimals bs g ps b h.0 s) (runs d xs F a l decimals bs g ps b h.1 s)
+runs d xs F a (ScaleBy v k) decimals bs g ps b h s =
     let n = known d xs v bs F b g ps h.0 s in
-    ap₂ then_scaled (ap (λ (i : ℕ). run_code d (room - i) k bs F xs a b) n.scale ∙ runs d xs F a k (room - scale_of d (plain v) (kinds g)) bs g ps b h.1 s) n.answer
-runs d xs F a (LetBe v k) room bs g ps b h s =
-    runs d xs F a k room (bound_for d v bs F xs b ∷ bs) (entry_at d v g F xs b ∷ g) (value_reads d v g ps F xs b ∷ ps) b h.1 (known d xs v bs F b g ps h.0 s).stands
-runs d xs F a (Loop v x k l) room bs g ps b h s =
+    ap₂ then_scaled (ap (λ (i : ℕ). run_code d (decimals - i) k bs F xs a b) n.scale ∙ runs d xs F a k (decimals - scale_of d (undated v) (kinds g)) bs g ps b h.1 s) n.answer
+runs d xs F a (LetBe v k) decimals bs g ps b h s =
+    runs d xs F a k decimals (bound_for d v bs F xs b ∷ bs) (entry_at d v g F xs b ∷ g) (value_reads d v g ps F xs b ∷ ps) b h.1 (known d xs v bs F b g ps h.0 s).stands
+runs d xs F a (Loop v x k l) decimals bs g ps b h s =
     branch_same _ _ _ _ _ _ (ap (λ (r : ℕ → Result Value Missing). first_tried (tries (day_of xs x)) r) (λ i n. (known d xs v bs F (b +ℤ pos n) g ps h.0 s).answer i))
-    (λ n. runs d xs F a k room bs g ps (b +ℤ pos n) h.1 s) (runs d xs F a l room bs g ps b h.2 s)
-runs d xs F a (Cut x k) room bs g ps b h s =
-    cut_same (int_lt (b +ℤ day_of xs x) a.now) _ _ (runs d xs F a k room bs g ps b h s)
+    (λ n. runs d xs F a k decimals bs g ps (b +ℤ pos n) h.1 s) (runs d xs F a l decimals bs g ps b h.2 s)
+runs d xs F a (Cut x k) decimals bs g ps b h s =
+    cut_same (int_lt (b +ℤ day_of xs x) a.now) _ _ (runs d xs F a k decimals bs g ps b h s)
 
-pub runs_are_walks : (d : Declarations) (xs : List ℕ) (k : PayoffCode) (room : ℕ) (F : Environment) (a : Asked) (b : ℤ) → CodeMeetsRules d xs k [] → run_code d room k [] F xs a b ≡ walk_of d room k [] [] F xs a b
-runs_are_walks d xs k room F a b h = runs d xs F a k room [] [] [] b (kinded d xs k [] h) tt
+pub runs_are_walks : (d : Declarations) (xs : List ℕ) (k : PayoffCode) (decimals : ℕ) (F : Environment) (a : Asked) (b : ℤ) → CodeMeetsRules d xs k [] → run_code d decimals k [] F xs a b ≡ walk_of d decimals k [] [] F xs a b
+runs_are_walks d xs k decimals F a b h = runs d xs F a k decimals [] [] [] b (kinded d xs k [] h) tt

@@ -19,7 +19,7 @@ use Rattle.interval_check.proofs.ValueFacts.{same_kinds, values_lie}
 use Rattle.interval_check.proofs.SafeFacts.{Suits}
 use Rattle.interval_check.proofs.ContractSafeFacts.{let_suits}
 use Rattle.payoff_lang.specs.TemplateDates.{day_of}
-use Rattle.payoff_lang.specs.Dating.{at_setting, plain}
+use Rattle.payoff_lang.specs.Dating.{at_setting, undated}
 use Rattle.payoff_lang.specs.Code.{ValueExpression, PayoffCode, Nothing, PayOn, Add, ScaleBy, LetBe, Loop, Cut}
 use Rattle.payoff_lang.specs.CodeValues.{Asked, factor_on, value_at, entry_at, first_true_at, code_value, scale_of_code}
 use Rattle.payoff_lang.specs.CodeTotals.{range_at, total_of_code}
@@ -127,8 +127,8 @@ code_within d xs a fit (Add k l) g es env b n h s le =
 code_within d xs a fit (ScaleBy v k) g es env b n h s le =
     let i = scale_of_code d k (kinds es) in
     let lies = values_lie d s.limits (at_setting xs v) g es env b h.0.bounds s.inside s.admitted in
-    let most : unsigned_abs (num (value_at d v es env xs b)) ≤ greatest_size (interval_of d (plain v) g) = subst (λ (r : Interval). unsigned_abs (num (value_at d v es env xs b)) ≤ greatest_size r) (interval_any d (day_of xs) (λ _. pos 0) v g) (size_in (interval_of d (at_setting xs v) g) (num (value_at d v es env xs b)) lies) in
-    scale_within (num (value_at d v es env xs b)) (code_value d k es env xs a b) (total_of_code d k g) (greatest_size (interval_of d (plain v) g)) (scale_of d (plain v) (kinds es)) i n le most (code_within d xs a fit k g es env b (n - scale_of d (plain v) (kinds es)) h.1 s (omega arith))
+    let most : unsigned_abs (num (value_at d v es env xs b)) ≤ greatest_size (interval_of d (undated v) g) = subst (λ (r : Interval). unsigned_abs (num (value_at d v es env xs b)) ≤ greatest_size r) (interval_any d (day_of xs) (λ _. pos 0) v g) (size_in (interval_of d (at_setting xs v) g) (num (value_at d v es env xs b)) lies) in
+    scale_within (num (value_at d v es env xs b)) (code_value d k es env xs a b) (total_of_code d k g) (greatest_size (interval_of d (undated v) g)) (scale_of d (undated v) (kinds es)) i n le most (code_within d xs a fit k g es env b (n - scale_of d (undated v) (kinds es)) h.1 s (omega arith))
 code_within d xs a fit (LetBe v k) g es env b n h s le =
     code_within d xs a fit k (range_at d v g ∷ g) (entry_at d v es env xs b ∷ es) env b n h.1 (bound_suits d xs v g es env b h.0 s) le
 code_within d xs a fit (Loop v x k l) g es env b n h s le =

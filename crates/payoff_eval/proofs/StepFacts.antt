@@ -11,11 +11,11 @@ use Rattle.interval_check.proofs.MultipleFacts.{times-size}
 use Rattle.payoff_eval.specs.declared.walk.Worth.{Worth}
 use Rattle.payoff_eval.specs.Walks.{then_branch, tries}
 
-pub pay_small : (x : ℤ) (room : ℕ) → unsigned_abs x ≤ 10 ^ 10 → 9 ≤ room → room ≤ 21 → unsigned_abs (raised x (room - 9)) ≤ 10 ^ 37
-pay_small x room h low high =
-    let power = ten_most (room - 9) 12 (omega arith) in
-    let most = product_at_most (unsigned_abs x) (10 ^ (room - 9)) (10 ^ 10) (10 ^ 12) h power in
-    omega (arith, times-size x (10 ^ (room - 9)), most)
+pub pay_small : (x : ℤ) (decimals : ℕ) → unsigned_abs x ≤ 10 ^ 10 → 9 ≤ decimals → decimals ≤ 21 → unsigned_abs (raised x (decimals - 9)) ≤ 10 ^ 37
+pay_small x decimals h low high =
+    let power = ten_most (decimals - 9) 12 (omega arith) in
+    let most = product_at_most (unsigned_abs x) (10 ^ (decimals - 9)) (10 ^ 10) (10 ^ 12) h power in
+    omega (arith, times-size x (10 ^ (decimals - 9)), most)
 
 pub unit_times : (f u : ℤ) → unsigned_abs f ≤ 10 ^ 10 → unsigned_abs u ≤ 1 → unsigned_abs (f *ℤ u) ≤ 10 ^ 10
 unit_times f u h k =

@@ -12,7 +12,7 @@ use Rattle.term_core.specs.Reads.{first_unfixed, is_fixed, steps_before}
 use Rattle.term_core.proofs.FlowFacts.{one_zero, raised-zero}
 use Rattle.expr_eval.specs.Trials.{or_next, first_tried}
 use Rattle.payoff_lang.specs.TemplateDates.{day_of}
-use Rattle.payoff_lang.specs.Dating.{plain}
+use Rattle.payoff_lang.specs.Dating.{undated}
 use Rattle.payoff_lang.specs.Code.{PayoffCode, Nothing, PayOn, Add, ScaleBy, LetBe, Loop, Cut}
 use Rattle.payoff_lang.specs.CodeValues.{Asked, value_at, entry_at, first_upto, first_true_at, code_value, scale_of_code}
 use Rattle.payoff_lang.specs.CodeReads.{value_reads, upto_first, reaches_payment, reads_of_code}
@@ -112,64 +112,64 @@ tests_are F r v (negsuc n) = refl
 
 -- ---- the branch that is entered
 
-branch_unless : (F : Environment) (room i j : ℕ) (o : Option ℕ) (ts : List Place) (rx : ℕ → List Place) (ry : List Place) (v : ℕ → ℤ) (w : ℤ) (r : ℕ → Bool) (s : Bool) (hit : ℕ → Result Worth Missing) (miss : Result Worth Missing)
-    → max i j ≤ room → ((n : ℕ) → hit n ≡ unless (first_unfixed F (rx n)) (worth (raised (v n) (room - i)) (r n))) → miss ≡ unless (first_unfixed F ry) (worth (raised w (room - j)) s)
-    → then_branch (unless (first_unfixed F ts) o) hit miss ≡ unless (first_unfixed F (ts ++ either o rx ry)) (worth (raised (either o (λ n. raised (v n) (max i j - i)) (raised w (max i j - j))) (room - max i j)) (either o r s))
-branch_unless F room i j (Some n) ts rx ry v w r s hit miss le h k =
+branch_unless : (F : Environment) (decimals i j : ℕ) (o : Option ℕ) (ts : List Place) (rx : ℕ → List Place) (ry : List Place) (v : ℕ → ℤ) (w : ℤ) (r : ℕ → Bool) (s : Bool) (hit : ℕ → Result Worth Missing) (miss : Result Worth Missing)
+    → max i j ≤ decimals → ((n : ℕ) → hit n ≡ unless (first_unfixed F (rx n)) (worth (raised (v n) (decimals - i)) (r n))) → miss ≡ unless (first_unfixed F ry) (worth (raised w (decimals - j)) s)
+    → then_branch (unless (first_unfixed F ts) o) hit miss ≡ unless (first_unfixed F (ts ++ either o rx ry)) (worth (raised (either o (λ n. raised (v n) (max i j - i)) (raised w (max i j - j))) (decimals - max i j)) (either o r s))
+branch_unless F decimals i j (Some n) ts rx ry v w r s hit miss le h k =
     entered (first_unfixed F ts)
-    ∙ ap₂ (λ (u : Option Place) (z : ℤ). unless u (worth z (r n))) (sym (first-append F ts (rx n))) (sym (raised_up (v n) i (max i j) room (omega arith) le))
+    ∙ ap₂ (λ (u : Option Place) (z : ℤ). unless u (worth z (r n))) (sym (first-append F ts (rx n))) (sym (raised_up (v n) i (max i j) decimals (omega arith) le))
   where
-    entered : (u : Option Place) → then_branch (unless u (Some n)) hit miss ≡ unless (or_else u (first_unfixed F (rx n))) (worth (raised (v n) (room - i)) (r n))
+    entered : (u : Option Place) → then_branch (unless u (Some n)) hit miss ≡ unless (or_else u (first_unfixed F (rx n))) (worth (raised (v n) (decimals - i)) (r n))
     entered (Some q) = refl
     entered None = h n
-branch_unless F room i j None ts rx ry v w r s hit miss le h k =
+branch_unless F decimals i j None ts rx ry v w r s hit miss le h k =
     entered (first_unfixed F ts)
-    ∙ ap₂ (λ (u : Option Place) (z : ℤ). unless u (worth z s)) (sym (first-append F ts ry)) (sym (raised_up w j (max i j) room (omega arith) le))
+    ∙ ap₂ (λ (u : Option Place) (z : ℤ). unless u (worth z s)) (sym (first-append F ts ry)) (sym (raised_up w j (max i j) decimals (omega arith) le))
   where
-    entered : (u : Option Place) → then_branch (unless u None) hit miss ≡ unless (or_else u (first_unfixed F ry)) (worth (raised w (room - j)) s)
+    entered : (u : Option Place) → then_branch (unless u None) hit miss ≡ unless (or_else u (first_unfixed F ry)) (worth (raised w (decimals - j)) s)
     entered (Some q) = refl
     entered None = k
 
-cut_unless : (F : Environment) (b : Bool) (rs : List Place) (v : ℤ) (r : Bool) (room i : ℕ) (a : Result Worth Missing) → a ≡ unless (first_unfixed F rs) (worth (raised v (room - i)) r) → (if b then Ok nothing_reached else a) ≡ unless (first_unfixed F (if b then [] else rs)) (worth (raised (if b then pos 0 else v) (room - i)) (if b then false else r))
-cut_unless F true rs v r room i a h = ap (λ (z : ℤ). unless None (worth z false)) (sym (raised-zero (room - i)))
-cut_unless F false rs v r room i a h = h
+cut_unless : (F : Environment) (b : Bool) (rs : List Place) (v : ℤ) (r : Bool) (decimals i : ℕ) (a : Result Worth Missing) → a ≡ unless (first_unfixed F rs) (worth (raised v (decimals - i)) r) → (if b then Ok nothing_reached else a) ≡ unless (first_unfixed F (if b then [] else rs)) (worth (raised (if b then pos 0 else v) (decimals - i)) (if b then false else r))
+cut_unless F true rs v r decimals i a h = ap (λ (z : ℤ). unless None (worth z false)) (sym (raised-zero (decimals - i)))
+cut_unless F false rs v r decimals i a h = h
 
 -- ---- the whole
 
 -- a walk at some decimals, no fewer than the code's scale, answers the first place that the code reads and that is not
 -- fixed, exactly where there is one; else what the code is worth at these decimals
-pub walk_is : (d : Declarations) (k : PayoffCode) (room : ℕ) (g : List Entry) (bs : List (List Place)) (F : Environment) (xs : List ℕ) (a : Asked) (b : ℤ) → scale_of_code d k (kinds g) ≤ room → walk_of d room k g bs F xs a b ≡ unless (first_unfixed F (reads_of_code d k g bs F xs a b)) (worth (raised (code_value d k g F xs a b) (room - scale_of_code d k (kinds g))) (reaches_payment d k g F xs a b))
-walk_is d Nothing room g bs F xs a b le = ap (λ (z : ℤ). unless None (worth z false)) (sym (raised-zero (room - 0)))
-walk_is d (PayOn x u p q) room g bs F xs a b le = refl
-walk_is d (Add k l) room g bs F xs a b le =
+pub walk_is : (d : Declarations) (k : PayoffCode) (decimals : ℕ) (g : List Entry) (bs : List (List Place)) (F : Environment) (xs : List ℕ) (a : Asked) (b : ℤ) → scale_of_code d k (kinds g) ≤ decimals → walk_of d decimals k g bs F xs a b ≡ unless (first_unfixed F (reads_of_code d k g bs F xs a b)) (worth (raised (code_value d k g F xs a b) (decimals - scale_of_code d k (kinds g))) (reaches_payment d k g F xs a b))
+walk_is d Nothing decimals g bs F xs a b le = ap (λ (z : ℤ). unless None (worth z false)) (sym (raised-zero (decimals - 0)))
+walk_is d (PayOn x u p q) decimals g bs F xs a b le = refl
+walk_is d (Add k l) decimals g bs F xs a b le =
     let i = scale_of_code d k (kinds g) in
     let j = scale_of_code d l (kinds g) in
     let v = code_value d k g F xs a b in
     let w = code_value d l g F xs a b in
     let r = reaches_payment d k g F xs a b in
     let s = reaches_payment d l g F xs a b in
-    ap₂ then_added (walk_is d k room g bs F xs a b (omega arith)) (walk_is d l room g bs F xs a b (omega arith))
-    ∙ added_unless (first_unfixed F (reads_of_code d k g bs F xs a b)) (first_unfixed F (reads_of_code d l g bs F xs a b)) (raised v (room - i)) (raised w (room - j)) r s
-    ∙ ap₂ (λ (o : Option Place) (z : ℤ). unless o (worth z (r || s))) (sym (first-append F (reads_of_code d k g bs F xs a b) (reads_of_code d l g bs F xs a b))) (parts_raised v w room i j (omega arith) (omega arith))
-walk_is d (ScaleBy e k) room g bs F xs a b le =
-    let s = scale_of d (plain e) (kinds g) in
+    ap₂ then_added (walk_is d k decimals g bs F xs a b (omega arith)) (walk_is d l decimals g bs F xs a b (omega arith))
+    ∙ added_unless (first_unfixed F (reads_of_code d k g bs F xs a b)) (first_unfixed F (reads_of_code d l g bs F xs a b)) (raised v (decimals - i)) (raised w (decimals - j)) r s
+    ∙ ap₂ (λ (o : Option Place) (z : ℤ). unless o (worth z (r || s))) (sym (first-append F (reads_of_code d k g bs F xs a b) (reads_of_code d l g bs F xs a b))) (parts_raised v w decimals i j (omega arith) (omega arith))
+walk_is d (ScaleBy e k) decimals g bs F xs a b le =
+    let s = scale_of d (undated e) (kinds g) in
     let i = scale_of_code d k (kinds g) in
     let v = code_value d k g F xs a b in
     let r = reaches_payment d k g F xs a b in
     let x = value_at d e g F xs b in
-    let down : room - s - i ≡ room - (s + i) = omega arith in
-    ap (λ (t : Result Worth Missing). then_scaled t (answer_at d e g bs F xs b)) (walk_is d k (room - s) g bs F xs a b (omega arith))
-    ∙ scaled_unless F (first_unfixed F (reads_of_code d k g bs F xs a b)) (value_reads d e g bs F xs b) r (raised v (room - s - i)) x (λ none. one_zero v (room - s - i) (unreached d k g F xs a b none))
-    ∙ ap₂ (λ (o : Option Place) (z : ℤ). unless o (worth z r)) (sym (first-append F (reads_of_code d k g bs F xs a b) (if r then value_reads d e g bs F xs b else []))) (sym (mul-assoc (num x) v (pos (10 ^ (room - s - i)))) ∙ ap (λ (n : ℕ). raised (num x *ℤ v) n) down)
-walk_is d (LetBe e k) room g bs F xs a b le =
-    walk_is d k room (entry_at d e g F xs b ∷ g) (value_reads d e g bs F xs b ∷ bs) F xs a b le
-walk_is d (Loop e x k l) room g bs F xs a b le =
+    let down : decimals - s - i ≡ decimals - (s + i) = omega arith in
+    ap (λ (t : Result Worth Missing). then_scaled t (answer_at d e g bs F xs b)) (walk_is d k (decimals - s) g bs F xs a b (omega arith))
+    ∙ scaled_unless F (first_unfixed F (reads_of_code d k g bs F xs a b)) (value_reads d e g bs F xs b) r (raised v (decimals - s - i)) x (λ none. one_zero v (decimals - s - i) (unreached d k g F xs a b none))
+    ∙ ap₂ (λ (o : Option Place) (z : ℤ). unless o (worth z r)) (sym (first-append F (reads_of_code d k g bs F xs a b) (if r then value_reads d e g bs F xs b else []))) (sym (mul-assoc (num x) v (pos (10 ^ (decimals - s - i)))) ∙ ap (λ (n : ℕ). raised (num x *ℤ v) n) down)
+walk_is d (LetBe e k) decimals g bs F xs a b le =
+    walk_is d k decimals (entry_at d e g F xs b ∷ g) (value_reads d e g bs F xs b ∷ bs) F xs a b le
+walk_is d (Loop e x k l) decimals g bs F xs a b le =
     let i = scale_of_code d k (kinds g) in
     let j = scale_of_code d l (kinds g) in
     let n = day_of xs x in
-    ap (λ (t : Result (Option ℕ) Missing). then_branch t (λ n. walk_of d room k g bs F xs a (b +ℤ pos n)) (walk_of d room l g bs F xs a b)) (tests_are F (λ i. value_reads d e g bs F xs (b +ℤ pos i)) (λ i. value_at d e g F xs (b +ℤ pos i)) n)
-    ∙ branch_unless F room i j (first_true_at d e g F xs b n) (upto_first (first_true_at d e g F xs b n) n (λ i. value_reads d e g bs F xs (b +ℤ pos i))) (λ m. reads_of_code d k g bs F xs a (b +ℤ pos m)) (reads_of_code d l g bs F xs a b) (λ m. code_value d k g F xs a (b +ℤ pos m)) (code_value d l g F xs a b) (λ m. reaches_payment d k g F xs a (b +ℤ pos m)) (reaches_payment d l g F xs a b)
-    (λ m. walk_of d room k g bs F xs a (b +ℤ pos m)) (walk_of d room l g bs F xs a b) le
-    (λ m. walk_is d k room g bs F xs a (b +ℤ pos m) (omega arith)) (walk_is d l room g bs F xs a b (omega arith))
-walk_is d (Cut x k) room g bs F xs a b le =
-    cut_unless F (int_lt (b +ℤ day_of xs x) a.now) (reads_of_code d k g bs F xs a b) (code_value d k g F xs a b) (reaches_payment d k g F xs a b) room (scale_of_code d k (kinds g)) (walk_of d room k g bs F xs a b) (walk_is d k room g bs F xs a b le)
+    ap (λ (t : Result (Option ℕ) Missing). then_branch t (λ n. walk_of d decimals k g bs F xs a (b +ℤ pos n)) (walk_of d decimals l g bs F xs a b)) (tests_are F (λ i. value_reads d e g bs F xs (b +ℤ pos i)) (λ i. value_at d e g F xs (b +ℤ pos i)) n)
+    ∙ branch_unless F decimals i j (first_true_at d e g F xs b n) (upto_first (first_true_at d e g F xs b n) n (λ i. value_reads d e g bs F xs (b +ℤ pos i))) (λ m. reads_of_code d k g bs F xs a (b +ℤ pos m)) (reads_of_code d l g bs F xs a b) (λ m. code_value d k g F xs a (b +ℤ pos m)) (code_value d l g F xs a b) (λ m. reaches_payment d k g F xs a (b +ℤ pos m)) (reaches_payment d l g F xs a b)
+    (λ m. walk_of d decimals k g bs F xs a (b +ℤ pos m)) (walk_of d decimals l g bs F xs a b) le
+    (λ m. walk_is d k decimals g bs F xs a (b +ℤ pos m) (omega arith)) (walk_is d l decimals g bs F xs a b (omega arith))
+walk_is d (Cut x k) decimals g bs F xs a b le =
+    cut_unless F (int_lt (b +ℤ day_of xs x) a.now) (reads_of_code d k g bs F xs a b) (code_value d k g F xs a b) (reaches_payment d k g F xs a b) decimals (scale_of_code d k (kinds g)) (walk_of d decimals k g bs F xs a b) (walk_is d k decimals g bs F xs a b le)

@@ -108,7 +108,7 @@ loop_code v x k l = Loop (value_expression v) (date x) (payoff_code k) (payoff_c
 
 -- a walk over code at a base
 abbrev pub worth_on : Asking → ℕ → PayoffCode → List Binding → ℤ → WorthOrMissing
-worth_on q room k g b = run_code (declarations q.decls.now) room k g q.fixings.now q.setting.now (asked_of q) b
+worth_on q decimals k g b = run_code (declarations q.decls.now) decimals k g q.fixings.now q.setting.now (asked_of q) b
 
 abbrev pub WalksOn : Asking → ℕ → PayoffCode → List Binding → ℤ → Type 0
-WalksOn q room k g b = CodeFits (declarations q.decls.now) room k g q.fixings.now q.setting.now (asked_of q) b
+WalksOn q decimals k g b = CodeFits (declarations q.decls.now) decimals k g q.fixings.now q.setting.now (asked_of q) b

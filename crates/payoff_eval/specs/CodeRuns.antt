@@ -37,22 +37,22 @@ bound_for d v g fixings xs b =
     record { kind = kind_found d (at_setting xs v) (kinds_of g); held = held_of (answer_of d v g fixings xs b) }
 
 abbrev pub paid : ℕ → Asked → ℤ → ℕ → ℕ → ℕ → Worth
-paid room a day u p q =
-    record { amount = raised (factor_on a day *ℤ unit_flow u p q a.flow) (room - 9); reached = concerns u p q a.flow }
+paid decimals a day u p q =
+    record { amount = raised (factor_on a day *ℤ unit_flow u p q a.flow) (decimals - 9); reached = concerns u p q a.flow }
 
 abbrev pub run_code : Declarations → ℕ → PayoffCode → List Binding → Environment → List ℕ → Asked → ℤ → WorthOrMissing
-run_code d room Nothing g fixings xs a b = Ok nothing_reached
-run_code d room (PayOn x u p q) g fixings xs a b = Ok (paid room a (b +ℤ day_of xs x) u p q)
-run_code d room (Add k l) g fixings xs a b = then_added (run_code d room k g fixings xs a b) (run_code d room l g fixings xs a b)
-run_code d room (ScaleBy v k) g fixings xs a b =
-    then_scaled (run_code d (room - scale_found d v g xs) k g fixings xs a b) (answer_of d v g fixings xs b)
-run_code d room (LetBe v k) g fixings xs a b = run_code d room k (bound_for d v g fixings xs b ∷ g) fixings xs a b
-run_code d room (Loop v x k l) g fixings xs a b =
+run_code d decimals Nothing g fixings xs a b = Ok nothing_reached
+run_code d decimals (PayOn x u p q) g fixings xs a b = Ok (paid decimals a (b +ℤ day_of xs x) u p q)
+run_code d decimals (Add k l) g fixings xs a b = then_added (run_code d decimals k g fixings xs a b) (run_code d decimals l g fixings xs a b)
+run_code d decimals (ScaleBy v k) g fixings xs a b =
+    then_scaled (run_code d (decimals - scale_found d v g xs) k g fixings xs a b) (answer_of d v g fixings xs b)
+run_code d decimals (LetBe v k) g fixings xs a b = run_code d decimals k (bound_for d v g fixings xs b ∷ g) fixings xs a b
+run_code d decimals (Loop v x k l) g fixings xs a b =
     then_branch (first_tried (tries (day_of xs x)) (λ i. answer_of d v g fixings xs (b +ℤ pos i)))
-    (λ n. run_code d room k g fixings xs a (b +ℤ pos n))
-    (run_code d room l g fixings xs a b)
-run_code d room (Cut x k) g fixings xs a b =
-    if int_lt (b +ℤ day_of xs x) a.now then Ok nothing_reached else run_code d room k g fixings xs a b
+    (λ n. run_code d decimals k g fixings xs a (b +ℤ pos n))
+    (run_code d decimals l g fixings xs a b)
+run_code d decimals (Cut x k) g fixings xs a b =
+    if int_lt (b +ℤ day_of xs x) a.now then Ok nothing_reached else run_code d decimals k g fixings xs a b
 
 -- what is left of an answer
 abbrev pub amount_in : WorthOrMissing → Result ℤ Missing
@@ -91,23 +91,23 @@ pub record DayFits (xs : List ℕ) (x : Date) (b : ℤ) : Type 0 where
   pub base : IsDay b
 
 abbrev pub CodeFits : Declarations → ℕ → PayoffCode → List Binding → Environment → List ℕ → Asked → ℤ → Type 0
-CodeFits d room Nothing g fixings xs a b = Unit {0}
-CodeFits d room (PayOn x u p q) g fixings xs a b = DayFits xs x b × (9 ≤ room) × (room ≤ 21)
-CodeFits d room (Add k l) g fixings xs a b =
-    CodeFits d room k g fixings xs a b × CodeFits d room l g fixings xs a b
-    × IsSmallWorth (run_code d room k g fixings xs a b) × IsSmallWorth (run_code d room l g fixings xs a b)
-CodeFits d room (ScaleBy v k) g fixings xs a b =
-    ValueFits d v g fixings xs b × (scale_found d v g xs ≤ room)
-    × CodeFits d (room - scale_found d v g xs) k g fixings xs a b
-    × ScalesSafely (answer_of d v g fixings xs b) (run_code d (room - scale_found d v g xs) k g fixings xs a b)
-CodeFits d room (LetBe v k) g fixings xs a b =
-    ValueFits d v g fixings xs b × CodeFits d room k (bound_for d v g fixings xs b ∷ g) fixings xs a b
-CodeFits d room (Loop v x k l) g fixings xs a b =
+CodeFits d decimals Nothing g fixings xs a b = Unit {0}
+CodeFits d decimals (PayOn x u p q) g fixings xs a b = DayFits xs x b × (9 ≤ decimals) × (decimals ≤ 21)
+CodeFits d decimals (Add k l) g fixings xs a b =
+    CodeFits d decimals k g fixings xs a b × CodeFits d decimals l g fixings xs a b
+    × IsSmallWorth (run_code d decimals k g fixings xs a b) × IsSmallWorth (run_code d decimals l g fixings xs a b)
+CodeFits d decimals (ScaleBy v k) g fixings xs a b =
+    ValueFits d v g fixings xs b × (scale_found d v g xs ≤ decimals)
+    × CodeFits d (decimals - scale_found d v g xs) k g fixings xs a b
+    × ScalesSafely (answer_of d v g fixings xs b) (run_code d (decimals - scale_found d v g xs) k g fixings xs a b)
+CodeFits d decimals (LetBe v k) g fixings xs a b =
+    ValueFits d v g fixings xs b × CodeFits d decimals k (bound_for d v g fixings xs b ∷ g) fixings xs a b
+CodeFits d decimals (Loop v x k l) g fixings xs a b =
     DayFits xs x b × (pos 0 ≤ℤ day_of xs x) × (day_of xs x ≤ℤ pos 100_000)
     × ((i : ℕ) → i ≤ 100_000 → ValueFits d v g fixings xs (b +ℤ pos i))
-    × ((i : ℕ) → i ≤ 100_000 → CodeFits d room k g fixings xs a (b +ℤ pos i))
-    × CodeFits d room l g fixings xs a b
-CodeFits d room (Cut x k) g fixings xs a b = DayFits xs x b × CodeFits d room k g fixings xs a b
+    × ((i : ℕ) → i ≤ 100_000 → CodeFits d decimals k g fixings xs a (b +ℤ pos i))
+    × CodeFits d decimals l g fixings xs a b
+CodeFits d decimals (Cut x k) g fixings xs a b = DayFits xs x b × CodeFits d decimals k g fixings xs a b
 
 -- a day that was found is among the first n
 abbrev pub IsUpTo : Option ℕ → ℕ → Type 0

@@ -13,7 +13,7 @@ use Rattle.term_core.specs.Flows.{unit_flow}
 use Rattle.term_core.specs.Reads.{first_unfixed}
 use Rattle.expr_eval.specs.Trials.{DayOrMissing, ValueOrMissing, missing_at, first_tried}
 use Rattle.payoff_lang.specs.TemplateDates.{day_of}
-use Rattle.payoff_lang.specs.Dating.{plain}
+use Rattle.payoff_lang.specs.Dating.{undated}
 use Rattle.payoff_lang.specs.Code.{ValueExpression, PayoffCode, Nothing, PayOn, Add, ScaleBy, LetBe, Loop, Cut}
 use Rattle.payoff_lang.specs.CodeValues.{Asked, factor_on, value_at, entry_at}
 use Rattle.payoff_lang.specs.CodeReads.{value_reads, concerns}
@@ -59,17 +59,17 @@ then_branch (Ok (Some n)) hit miss = hit n
 then_branch (Ok None) hit miss = miss
 
 abbrev pub walk_of : Declarations → ℕ → PayoffCode → List Entry → List (List Place) → Environment → List ℕ → Asked → ℤ → WorthOrMissing
-walk_of d room Nothing g bs fixings xs a b = Ok nothing_reached
-walk_of d room (PayOn x u p q) g bs fixings xs a b =
-    Ok (record { amount = raised (factor_on a (b +ℤ day_of xs x) *ℤ unit_flow u p q a.flow) (room - 9); reached = concerns u p q a.flow })
-walk_of d room (Add k l) g bs fixings xs a b = then_added (walk_of d room k g bs fixings xs a b) (walk_of d room l g bs fixings xs a b)
-walk_of d room (ScaleBy v k) g bs fixings xs a b =
-    then_scaled (walk_of d (room - scale_of d (plain v) (kinds g)) k g bs fixings xs a b) (answer_at d v g bs fixings xs b)
-walk_of d room (LetBe v k) g bs fixings xs a b =
-    walk_of d room k (entry_at d v g fixings xs b ∷ g) (value_reads d v g bs fixings xs b ∷ bs) fixings xs a b
-walk_of d room (Loop v x k l) g bs fixings xs a b =
+walk_of d decimals Nothing g bs fixings xs a b = Ok nothing_reached
+walk_of d decimals (PayOn x u p q) g bs fixings xs a b =
+    Ok (record { amount = raised (factor_on a (b +ℤ day_of xs x) *ℤ unit_flow u p q a.flow) (decimals - 9); reached = concerns u p q a.flow })
+walk_of d decimals (Add k l) g bs fixings xs a b = then_added (walk_of d decimals k g bs fixings xs a b) (walk_of d decimals l g bs fixings xs a b)
+walk_of d decimals (ScaleBy v k) g bs fixings xs a b =
+    then_scaled (walk_of d (decimals - scale_of d (undated v) (kinds g)) k g bs fixings xs a b) (answer_at d v g bs fixings xs b)
+walk_of d decimals (LetBe v k) g bs fixings xs a b =
+    walk_of d decimals k (entry_at d v g fixings xs b ∷ g) (value_reads d v g bs fixings xs b ∷ bs) fixings xs a b
+walk_of d decimals (Loop v x k l) g bs fixings xs a b =
     then_branch (first_tried (tries (day_of xs x)) (λ i. answer_at d v g bs fixings xs (b +ℤ pos i)))
-    (λ n. walk_of d room k g bs fixings xs a (b +ℤ pos n))
-    (walk_of d room l g bs fixings xs a b)
-walk_of d room (Cut x k) g bs fixings xs a b =
-    if int_lt (b +ℤ day_of xs x) a.now then Ok nothing_reached else walk_of d room k g bs fixings xs a b
+    (λ n. walk_of d decimals k g bs fixings xs a (b +ℤ pos n))
+    (walk_of d decimals l g bs fixings xs a b)
+walk_of d decimals (Cut x k) g bs fixings xs a b =
+    if int_lt (b +ℤ day_of xs x) a.now then Ok nothing_reached else walk_of d decimals k g bs fixings xs a b

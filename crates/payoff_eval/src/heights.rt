@@ -5,7 +5,7 @@ ghost use Rattle.term_core.specs.Limits.{most_counted};
 ghost use Rattle.term_core.specs.Sizes.{height, capped};
 ghost use Rattle.payoff_lang.specs.Code.{value_expression, payoff_code};
 ghost use Rattle.payoff_lang.specs.CodeSizes.{height_of_code};
-ghost use Rattle.payoff_lang.specs.Dating.{plain};
+ghost use Rattle.payoff_lang.specs.Dating.{undated};
 
 use payoff_lang::{Code, Vx};
 use term_core::MOST_COUNTED;
@@ -20,7 +20,7 @@ fn above(height: u32) -> u32
 
 // The height of a value expression.
 fn height_of_value(v: &Vx) -> u32
-    ensures { result ≡ capped (height (plain (value_expression v.now))) }
+    ensures { result ≡ capped (height (undated (value_expression v.now))) }
 {
     match v {
         Vx::Lit { .. } | Vx::Yes { .. } | Vx::Var { .. } | Vx::Model { .. } => 1,

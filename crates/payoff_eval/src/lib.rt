@@ -2,7 +2,7 @@
 //! manner of Annenkov and Elsman (PPDP 2018); or the first observable that is missing.
 //!
 //! ```text
-//! let mut scratch = value_scratch(alloc, &file)?;
+//! let mut scratch = accepted_scratch(alloc)?;
 //! let worth = value(&file, &setting, &fixings, &curve, at, from, to, asset, &mut scratch)?;
 //! ```
 //!
@@ -22,5 +22,5 @@ mod scratch;
 mod values;
 mod walk;
 
-pub use scratch::{ValueScratch, value_scratch};
+pub use scratch::{ValueScratch, accepted_scratch, value_scratch};
 pub use values::{value, value_layered};

@@ -1,6 +1,7 @@
 //! Room for the names round a part of code.
 
 ghost use Rattle.std.specs.Prelude.{◌≡◌, ◌≤◌, ◌<◌, [], IfOk};
+ghost use Rattle.term_core.specs.Limits.{most_height_of_code};
 ghost use Rattle.payoff_lang.specs.Code.{payoff_code};
 ghost use Rattle.payoff_lang.specs.CodeSizes.{height_of_code};
 
@@ -10,7 +11,7 @@ use expr_eval::Scratch;
 use payoff_lang::CodeFile;
 use std::alloc::Global;
 use std::marker::Model;
-use term_core::MOST_COUNTED;
+use term_core::{MOST_COUNTED, MOST_HEIGHT_OF_CODE};
 
 /// Room for the names round a part of code, seen as the number of names that have room. None is
 /// bound between two calls.
@@ -30,10 +31,10 @@ impl Model for ValueScratch {
 }
 
 // Room for some names.
-fn with_room(alloc: Global, room: usize) -> Result<ValueScratch, NoMemory>
-    ensures { IfOk result (λ s. s ≡ room) }
+fn with_room(alloc: Global, spare: usize) -> Result<ValueScratch, NoMemory>
+    ensures { IfOk result (λ s. s ≡ spare) }
 {
-    let names = Scratch::with_room(alloc, room)?;
+    let names = Scratch::with_room(alloc, spare)?;
     Ok(ValueScratch { names })
 }
 
@@ -49,4 +50,12 @@ pub fn value_scratch(alloc: Global, file: &CodeFile) -> Result<ValueScratch, NoM
     } else {
         Err(NoMemory)
     }
+}
+
+/// Room for as many names as any accepted code can need: none is higher than 400. It looks at no
+/// code.
+pub fn accepted_scratch(alloc: Global) -> Result<ValueScratch, NoMemory>
+    ensures { IfOk result (λ room. room ≡ most_height_of_code) }
+{
+    with_room(alloc, MOST_HEIGHT_OF_CODE as usize)
 }

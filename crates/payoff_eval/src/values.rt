@@ -61,8 +61,8 @@ pub fn value_layered(
         asset,
     };
     let base = file.decls.start as i64;
-    let room = file.decls.amounts + 9;
-    amount_of(walk(&asking, &mut scratch.names, base, room, &file.code))
+    let decimals = file.decls.amounts + 9;
+    amount_of(walk(&asking, &mut scratch.names, base, decimals, &file.code))
 }
 
 /// What a file's code, which is accepted at the setting, is worth on the day `at` for what `from`

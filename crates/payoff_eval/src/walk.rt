@@ -100,14 +100,14 @@ fn face(asking: &Asking, day: i64, asset: u32, from: u32, to: u32) -> i128
 }
 
 // A payment on a day.
-fn pay(asking: &Asking, room: u8, day: i64, asset: u32, from: u32, to: u32) -> Worth
-    requires low { 9 ≤ room }
-    requires high { room ≤ 21 }
+fn pay(asking: &Asking, decimals: u8, day: i64, asset: u32, from: u32, to: u32) -> Worth
+    requires low { 9 ≤ decimals }
+    requires high { decimals ≤ 21 }
     requires day { IsDayOfDate day }
-    ensures { result ≡ paid room (asked_of asking.now) day asset from to }
+    ensures { result ≡ paid decimals (asked_of asking.now) day asset from to }
 {
     Worth {
-        amount: align(face(asking, day, asset, from, to), 9, room),
+        amount: align(face(asking, day, asset, from, to), 9, decimals),
         reached: is_asked(asking, asset, from, to),
     }
 }
@@ -195,13 +195,13 @@ pub fn walk(
     asking: &Asking,
     scratch: &mut Scratch,
     base: i64,
-    room: u8,
+    decimals: u8,
     k: &Code,
 ) -> Result<Worth, Missing>
-    requires fits { WalksOn asking.now room (payoff_code k.now) scratch.old.entries base }
+    requires fits { WalksOn asking.now decimals (payoff_code k.now) scratch.old.entries base }
     requires space { height_of_code (payoff_code k.now) ≤ scratch.old.spare }
     ensures worth { result
-        ≡ worth_on asking.now room (payoff_code k.now) scratch.old.entries base }
+        ≡ worth_on asking.now decimals (payoff_code k.now) scratch.old.entries base }
     ensures same { scratch.new ≡ scratch.old }
 {
     match k {
@@ -211,21 +211,21 @@ pub fn walk(
             asset,
             from,
             to,
-        } => walk_payment(asking, base, room, date, *asset, *from, *to),
-        Code::Add { left, right } => walk_both(asking, scratch, base, room, left, right),
-        Code::Scale { factor, body } => walk_scaled(asking, scratch, base, room, factor, body),
-        Code::Let { bound, body } => walk_bound(asking, scratch, base, room, bound, body),
+        } => walk_payment(asking, base, decimals, date, *asset, *from, *to),
+        Code::Add { left, right } => walk_both(asking, scratch, base, decimals, left, right),
+        Code::Scale { factor, body } => walk_scaled(asking, scratch, base, decimals, factor, body),
+        Code::Let { bound, body } => walk_bound(asking, scratch, base, decimals, bound, body),
         Code::LoopIf {
             test,
             upto,
             hit,
             miss,
-        } => walk_loop(asking, scratch, base, room, test, upto, hit, miss),
+        } => walk_loop(asking, scratch, base, decimals, test, upto, hit, miss),
         Code::Cut { date, body } => {
             if is_gone(asking, base, date) {
                 return Ok(NOTHING);
             }
-            walk(asking, scratch, base, room, body)
+            walk(asking, scratch, base, decimals, body)
         }
     }
 }
@@ -234,20 +234,20 @@ pub fn walk(
 fn walk_payment(
     asking: &Asking,
     base: i64,
-    room: u8,
+    decimals: u8,
     on: &DateExpr,
     asset: u32,
     from: u32,
     to: u32,
 ) -> Result<Worth, Missing>
-    requires low { 9 ≤ room }
-    requires high { room ≤ 21 }
+    requires low { 9 ≤ decimals }
+    requires high { decimals ≤ 21 }
     requires day { DayFits asking.now.setting.now (date on.now) base }
-    ensures { result ≡ Ok (paid room (asked_of asking.now)
+    ensures { result ≡ Ok (paid decimals (asked_of asking.now)
         (base +ℤ day_of asking.now.setting.now (date on.now)) asset from to) }
 {
     let day = day_of(asking, base, on);
-    Ok(pay(asking, room, day, asset, from, to))
+    Ok(pay(asking, decimals, day, asset, from, to))
 }
 
 // Both amounts, the left one first.
@@ -256,18 +256,19 @@ fn walk_both(
     asking: &Asking,
     scratch: &mut Scratch,
     base: i64,
-    room: u8,
+    decimals: u8,
     left: &Code,
     right: &Code,
 ) -> Result<Worth, Missing>
-    requires fits { WalksOn asking.now room (add_code left.now right.now) scratch.old.entries base }
+    requires fits { WalksOn asking.now decimals (add_code left.now right.now)
+        scratch.old.entries base }
     requires space { height_of_code (add_code left.now right.now) ≤ scratch.old.spare }
     ensures worth { result
-        ≡ worth_on asking.now room (add_code left.now right.now) scratch.old.entries base }
+        ≡ worth_on asking.now decimals (add_code left.now right.now) scratch.old.entries base }
     ensures same { scratch.new ≡ scratch.old }
 {
-    let left = walk(asking, scratch, base, room, left)?;
-    let right = walk(asking, scratch, base, room, right)?;
+    let left = walk(asking, scratch, base, decimals, left)?;
+    let right = walk(asking, scratch, base, decimals, right)?;
     Ok(added(left, right))
 }
 
@@ -277,18 +278,19 @@ fn walk_scaled(
     asking: &Asking,
     scratch: &mut Scratch,
     base: i64,
-    room: u8,
+    decimals: u8,
     by: &Vx,
     body: &Code,
 ) -> Result<Worth, Missing>
-    requires fits { WalksOn asking.now room (scale_code by.now body.now) scratch.old.entries base }
+    requires fits { WalksOn asking.now decimals (scale_code by.now body.now)
+        scratch.old.entries base }
     requires space { height_of_code (scale_code by.now body.now) ≤ scratch.old.spare }
     ensures worth { result
-        ≡ worth_on asking.now room (scale_code by.now body.now) scratch.old.entries base }
+        ≡ worth_on asking.now decimals (scale_code by.now body.now) scratch.old.entries base }
     ensures same { scratch.new ≡ scratch.old }
 {
     let scale = kind_of(asking, scratch, by).scale();
-    let worth = walk(asking, scratch, base, room - scale, body)?;
+    let worth = walk(asking, scratch, base, decimals - scale, body)?;
     if !worth.reached {
         return Ok(NOTHING);
     }
@@ -302,20 +304,21 @@ fn walk_bound(
     asking: &Asking,
     scratch: &mut Scratch,
     base: i64,
-    room: u8,
+    decimals: u8,
     bound: &Vx,
     body: &Code,
 ) -> Result<Worth, Missing>
-    requires fits { WalksOn asking.now room (let_code bound.now body.now) scratch.old.entries base }
+    requires fits { WalksOn asking.now decimals (let_code bound.now body.now)
+        scratch.old.entries base }
     requires space { height_of_code (let_code bound.now body.now) ≤ scratch.old.spare }
     ensures worth { result
-        ≡ worth_on asking.now room (let_code bound.now body.now) scratch.old.entries base }
+        ≡ worth_on asking.now decimals (let_code bound.now body.now) scratch.old.entries base }
     ensures same { scratch.new ≡ scratch.old }
 {
     let kind = kind_of(asking, scratch, bound);
     let held = Held::of(value_on(asking, scratch, base, bound));
     scratch.enter(kind, held);
-    let worth = walk(asking, scratch, base, room, body);
+    let worth = walk(asking, scratch, base, decimals, body);
     scratch.leave();
     worth
 }
@@ -326,23 +329,23 @@ fn walk_loop(
     asking: &Asking,
     scratch: &mut Scratch,
     base: i64,
-    room: u8,
+    decimals: u8,
     test: &Vx,
     upto: &DateExpr,
     hit: &Code,
     miss: &Code,
 ) -> Result<Worth, Missing>
-    requires fits { WalksOn asking.now room (loop_code test.now upto.now hit.now miss.now)
+    requires fits { WalksOn asking.now decimals (loop_code test.now upto.now hit.now miss.now)
         scratch.old.entries base }
     requires space { height_of_code (loop_code test.now upto.now hit.now miss.now)
         ≤ scratch.old.spare }
-    ensures worth { result ≡ worth_on asking.now room
+    ensures worth { result ≡ worth_on asking.now decimals
         (loop_code test.now upto.now hit.now miss.now) scratch.old.entries base }
     ensures same { scratch.new ≡ scratch.old }
 {
     let days = count(asking, upto);
     match first_day(asking, scratch, base, test, days)? {
-        Some(first) => walk(asking, scratch, days_later(base, first), room, hit),
-        None => walk(asking, scratch, base, room, miss),
+        Some(first) => walk(asking, scratch, days_later(base, first), decimals, hit),
+        None => walk(asking, scratch, base, decimals, miss),
     }
 }

@@ -5,7 +5,7 @@ use Rattle.contract_parse.specs.Tokens.{Tok, tokens}
 use Rattle.contract_parse.specs.Words.{Bytes, is_the_word}
 use Rattle.contract_parse.specs.Cursors.{IsNoUtf8, fault_at}
 use Rattle.contract_parse.specs.Names.{DeclaredNames, nothing_declared}
-use Rattle.contract_parse.specs.Places.{Next, Place, Refuse, Stops, TheWord, code_text_places, run}
+use Rattle.contract_parse.specs.Expecting.{Next, Expected, Refuse, Stops, TheWord, code_text_expected, run}
 use Rattle.contract_parse.specs.Reading.{Lacks}
 use Rattle.contract_parse.specs.Texts.{FirstTextFault, no_utf8, refused}
 use Rattle.contract_parse.specs.declared.heads.Language.{Language}
@@ -20,7 +20,7 @@ use Rattle.payoff_lang.specs.CodeAnswers.{IsCodeFault}
 use Rattle.payoff_lang.proofs.CodeTaken.{file_taken}
 
 -- another word than the one that is to stand here
-pub word_refused : (s : DeclaredNames) (w : Bytes) (ps : List Place) (t : Tok) (ts : List Tok) → Lacks w (t ∷ ts) → run s (TheWord w ∷ ps) (t ∷ ts) ≡ Stops Syntax t.left
+pub word_refused : (s : DeclaredNames) (w : Bytes) (ps : List Expected) (t : Tok) (ts : List Tok) → Lacks w (t ∷ ts) → run s (TheWord w ∷ ps) (t ∷ ts) ≡ Stops Syntax t.left
 word_refused s w ps t ts lacks =
     let other : is_the_word w t ≡ false = ap (λ (u : Tok). is_the_word w u) (tail_same t lacks.first (t ∷ ts) ts lacks.after refl lacks.is).0 ∙ lacks.other in
     run-refuse s (TheWord w ∷ ps) Syntax t ts (ap (λ (b : Bool). cond b (Next s ps) (Refuse Syntax)) other)
@@ -40,9 +40,9 @@ is_fault bytes kind at f is first =
 pub not_code_utf8 : (bytes : List ℕ) (f : TextFault) → IsNoUtf8 bytes f → IsCodeFault bytes f × ((b : CodeBook) → CodeText bytes b → ⊥)
 not_code_utf8 bytes f bad = (is_fault bytes Utf8 bad.at f bad.is (no_utf8 bad.none bad.longest), λ b text. bad.none text.utf8)
 
-pub not_code : (bytes : List ℕ) (kind : TextKind) (left at : ℕ) (f : TextFault) → f ≡ fault_at bytes kind at → at ≡ length bytes - left → IsUtf8 bytes → run nothing_declared code_text_places (tokens bytes) ≡ Stops kind left
+pub not_code : (bytes : List ℕ) (kind : TextKind) (left at : ℕ) (f : TextFault) → f ≡ fault_at bytes kind at → at ≡ length bytes - left → IsUtf8 bytes → run nothing_declared code_text_expected (tokens bytes) ≡ Stops kind left
     → IsCodeFault bytes f × ((b : CodeBook) → CodeText bytes b → ⊥)
-not_code bytes kind left at f is place utf8 stops =
-    let first = subst (λ (n : ℕ). FirstTextFault Language.Code bytes kind n) (sym place) (refused utf8 stops) in
+not_code bytes kind left at f is position utf8 stops =
+    let first = subst (λ (n : ℕ). FirstTextFault Language.Code bytes kind n) (sym position) (refused utf8 stops) in
     let fault = is_fault bytes kind at f is first in
     (fault, λ b text. no_code_fault bytes b f text fault)

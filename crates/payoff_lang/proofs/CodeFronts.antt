@@ -17,7 +17,7 @@ use Rattle.payoff_lang.proofs.CodeTaken.{file_taken}
 
 first_ends : (bytes : List ℕ) (k : TextKind) (at line column : ℕ) → IsUtf8 bytes → FirstTextFault Language.Code bytes k at → line ≡ line_at bytes at → column ≡ column_at bytes at
     → FaultyToken Language.Code bytes (record { kind = k; line = line; column = column })
-first_ends bytes k at line column utf8 (no_utf8 none place) is_line is_column = absurd (none utf8)
+first_ends bytes k at line column utf8 (no_utf8 none valid) is_line is_column = absurd (none utf8)
 first_ends bytes k at line column utf8 (refused {left = left} ok e) is_line is_column =
     record { left = left; refused = refusals_end_fronts Language.Code bytes k left e; line = is_line; column = is_column }
 

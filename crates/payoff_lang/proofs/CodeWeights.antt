@@ -13,7 +13,7 @@ use Rattle.contract_parse.proofs.Weights.{AtLeast, ◌▹◌, close_least, comma
 use Rattle.contract_parse.proofs.TextSizes.{decls_weigh}
 use Rattle.payoff_lang.specs.TemplateDates.{Date}
 use Rattle.payoff_lang.specs.Code.{ValueExpression, PayoffCode, Nothing, PayOn, Add, ScaleBy, LetBe, Loop, Cut}
-use Rattle.payoff_lang.specs.Dating.{plain}
+use Rattle.payoff_lang.specs.Dating.{undated}
 use Rattle.payoff_lang.specs.CodeSizes.{nodes_of_code}
 use Rattle.payoff_lang.specs.CodeSpelling.{DatePart, code_part, value_part}
 use Rattle.payoff_lang.specs.CodeBooks.{CodeBook}
@@ -24,7 +24,7 @@ use Rattle.payoff_lang.proofs.CodeStanding.{Stood, code_stood, line_stood}
 use Rattle.payoff_lang.proofs.CodeTaken.{line_stands}
 
 module _ (text : List ℕ) (s : DeclaredNames) where
-  value_weighs : (names : List Bytes) (v : ValueExpression) → AtLeast (nodes (plain v)) (Stood text (value_part s names v))
+  value_weighs : (names : List Bytes) (v : ValueExpression) → AtLeast (nodes (undated v)) (Stood text (value_part s names v))
   value_weighs names v = record {
     least = λ ts rest x.
         let p = ((value_placed text s names v).turns ts rest x.0 x.1).0 in

@@ -14,7 +14,7 @@ use Rattle.contract_parse.proofs.Passing.{number_no_mark}
 use Rattle.contract_parse.proofs.TermsTaken.{number_of_date}
 use Rattle.payoff_lang.specs.TemplateDates.{Date, insert_names}
 use Rattle.payoff_lang.specs.CodeSpelling.{DatePart}
-use Rattle.payoff_lang.proofs.DatePlaces.{behind_days, date_first, days_first, or_first, templates_first}
+use Rattle.payoff_lang.proofs.DatePositions.{behind_days, date_first, days_first, or_first, templates_first}
 
 -- ---- one token
 

@@ -12,7 +12,7 @@ use Rattle.contract_parse.specs.Readers.{KeepsLeaves}
 use Rattle.contract_parse.proofs.LeafFacts.{Gives, ◌▹◌, same}
 use Rattle.payoff_lang.specs.declared.code.DateExpr.{DateExpr}
 use Rattle.payoff_lang.specs.TemplateDates.{Date, date}
-use Rattle.payoff_lang.specs.Dating.{HaveDates, plain, with_date}
+use Rattle.payoff_lang.specs.Dating.{HaveDates, undated, with_date}
 use Rattle.payoff_lang.specs.CodeSpelling.{DatePart, value_part}
 use Rattle.payoff_lang.specs.CodeReading.{ListedDate, date_listed, dates_of, listed_leaf}
 
@@ -34,7 +34,7 @@ have_dates has all (Div m k a b) = (have_dates has all a, have_dates has all b)
 have_dates has all (Acc body n first) = (have_dates has all body, have_dates has all first)
 
 -- dates have no part in the height
-pub height_dated : (on : ℤ → Date) (e : Expression) → height (plain (with_date on e)) ≡ height e
+pub height_dated : (on : ℤ → Date) (e : Expression) → height (undated (with_date on e)) ≡ height e
 height_dated on (Lit m k) = refl
 height_dated on (Yes b) = refl
 height_dated on (Var back) = refl

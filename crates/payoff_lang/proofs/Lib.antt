@@ -16,7 +16,7 @@ pub mod CodeFileSpelled
 pub mod IndexFacts
 pub mod OrderFacts
 pub mod TokensStand
-pub mod DatePlaces
+pub mod DatePositions
 pub mod DateReading
 pub mod Standing
 pub mod DatedSpelled

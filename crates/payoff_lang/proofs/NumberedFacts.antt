@@ -8,7 +8,7 @@ use Rattle.term_core.specs.Terms.{Expression}
 use Rattle.contract_print.specs.TermTexts.{expr_text}
 use Rattle.contract_print.specs.Writable.{IsWritable}
 use Rattle.payoff_lang.specs.TemplateDates.{Date}
-use Rattle.payoff_lang.specs.Dating.{plain}
+use Rattle.payoff_lang.specs.Dating.{undated}
 use Rattle.payoff_lang.specs.Code.{ValueExpression, Lit, Yes, Var, Model, Neg, Num, Cmp, Not, Logic, Cond, Widen, Round, Div, Acc}
 use Rattle.payoff_lang.specs.CodeTexts.{date_text, modelled, value_text}
 use Rattle.payoff_lang.specs.Numbered.{numbered, with_dates, modelled_at}
@@ -56,7 +56,7 @@ found (y ∷ dates) more x = found dates more x
 found_in : (all dates more : List Date) (x : Date) → all ≡ (dates ++ x ∷ []) ++ more → slice_get all (length dates) ≡ Some x
 found_in all dates more x is = ap (λ (us : List Date). slice_get us (length dates)) is ∙ found dates more x
 
--- the date at the place of a leaf
+-- the date at the index of a leaf
 leaf_written : (s : DeclaredNames) (all dates : List Date) (l : ℕ) (x : Date) → Leads (dates ++ x ∷ []) all → modelled_at s all l (pos (length dates)) ≡ modelled s l (date_text s x)
 leaf_written s all dates l x front =
     ap (λ (o : Option Date). modelled s l (elim o [ Some y ↦ date_text s y | None ↦ [] ])) (found_in all dates front.0 x front.1)
@@ -112,7 +112,7 @@ pub written_as : (s : DeclaredNames) (n : ℕ) (v : ValueExpression) (e : Expres
 written_as s n v e dates p q = ap₂ (λ (us : List Date) (x : Expression). expr_text (modelled_at s us) n x) q p ∙ written_whole s n v
 
 -- dates have no part in the height
-pub height_numbered : (dates : List Date) (v : ValueExpression) → height (numbered dates v) ≡ height (plain v)
+pub height_numbered : (dates : List Date) (v : ValueExpression) → height (numbered dates v) ≡ height (undated v)
 height_numbered dates (Lit m k) = refl
 height_numbered dates (Yes b) = refl
 height_numbered dates (Var back) = refl

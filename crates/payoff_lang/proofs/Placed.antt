@@ -1,4 +1,4 @@
--- A value expression that stands in a text is spelled as an expression of code, whose dates stand at its places.
+-- A value expression that stands in a text is spelled as an expression of code, whose dates stand at its positions.
 use Rattle.std.proofs.Common.{◌≡◌, ◌∙◌, ℕ, ℤ, pos, Bool, true, false, List, ◌∷◌, refl, sym, ap, subst, arith}
 use Rattle.std.specs.Prelude.{codes}
 use Rattle.term_core.specs.Terms.{Expression, Lit as Lit', Yes as Yes', Var as Var', Obs as Obs', Neg as Neg', Num as Num', Cmp as Cmp', Not as Not', Logic as Logic', Cond as Cond', Widen as Widen', Round as Round', Div as Div', Acc as Acc'}
@@ -14,10 +14,10 @@ use Rattle.contract_parse.specs.declared.heads.Operator.TheVariants.{Arithmetic,
 use Rattle.contract_parse.proofs.Passing.{mark_lacks}
 use Rattle.payoff_lang.specs.TemplateDates.{Date}
 use Rattle.payoff_lang.specs.Code.{ValueExpression, Lit, Yes, Var, Model, Neg, Num, Cmp, Not, Logic, Cond, Widen, Round, Div, Acc}
-use Rattle.payoff_lang.specs.Dating.{plain}
+use Rattle.payoff_lang.specs.Dating.{undated}
 use Rattle.payoff_lang.specs.CodeSpelling.{DatePart, value_part}
 use Rattle.payoff_lang.specs.Dating.{with_date}
-use Rattle.payoff_lang.proofs.DatePlaces.{date_at, date_first}
+use Rattle.payoff_lang.proofs.DatePositions.{date_at, date_first}
 use Rattle.payoff_lang.proofs.Standing.{Turns, ◌▹◌, behind_first, close_stays, comma_stays, date_stays, open_stays, signed_stays, value_stays, word_stays}
 use Rattle.payoff_lang.proofs.DateReading.{date_is}
 use Rattle.payoff_lang.proofs.DatedSpelled.{height_dated}
@@ -28,13 +28,13 @@ pub record Placed (text : List ℕ) (s : DeclaredNames) (names : List Bytes) (v 
   pub spelled : expr Language.Code s names e ts rest
   pub is : with_date (date_at s.templates text) e ≡ v
 
--- a date with its place
+-- a date with its position
 record Located (text : List ℕ) (s : DeclaredNames) (x : Date) (ts rest : List Tok) : Type 0 where
-  place : ℤ
-  from : DateFrom s.templates place ts rest
-  is : date_at s.templates text place ≡ x
+  position : ℤ
+  from : DateFrom s.templates position ts rest
+  is : date_at s.templates text position ≡ x
 
--- ---- another part at one of the places of a part
+-- ---- another part instead of one
 
 module _ {P A B R : Part} {ts rest : List Tok} where
   abbrev second : (x : (P ⨟ A ⨟ R) ts rest) → B x.between x.two.between → (P ⨟ B ⨟ R) ts rest
@@ -67,9 +67,9 @@ date_begins true days ts rest x = (x.one.0, x.between, x.one.1)
 date_begins false days ts rest x = (x.two.0, rest, x.one ∙ x.two.1)
 
 module _ (text : List ℕ) (s : DeclaredNames) where
-  -- what stands at the place of a date is the date
-  place_is : (place : ℤ) (ts rest : List Tok) → StandsIn text ts → DateFrom s.templates place ts rest → date_at s.templates text place ≡ date_first s.templates ts
-  place_is place ts rest stands x =
+  -- what stands at the position of a date is the date
+  position_is : (position : ℤ) (ts rest : List Tok) → StandsIn text ts → DateFrom s.templates position ts rest → date_at s.templates text position ≡ date_first s.templates ts
+  position_is position ts rest stands x =
       let first = (subst (λ (us : List Tok). StandsIn text us) x.is stands).0 in
       ap (λ (p : ℤ). date_at s.templates text p) x.left ∙ ap (λ (us : List Tok). date_first s.templates us) (first ∙ sym x.is)
 
@@ -80,8 +80,8 @@ module _ (text : List ℕ) (s : DeclaredNames) where
         let first = date_begins d.spelled.one.negative x.days ts d.spelled.between d.spelled.one.spelled in
         let from : DateFrom s.templates (pos first.0.left) ts y.between = record { days = x.days; written = d.written; first = first.0; behind = first.1; is = first.2; left = refl; spelled = d.spelled } in
         let stays = (date_stays {text = text} s.templates x.days d.written).turns ts y.between stands d.spelled in
-        let is = place_is (pos first.0.left) ts y.between stands from ∙ date_is s x ts y.between d (mark_lacks (codes ")") (codes "+") y.between rest refl y.two) in
-        (record { between = y.between; one = record { place = pos first.0.left; from = from; is = is }; two = y.two }, behind_first text y.two.0 y.between rest y.two.1 stays.1);
+        let is = position_is (pos first.0.left) ts y.between stands from ∙ date_is s x ts y.between d (mark_lacks (codes ")") (codes "+") y.between rest refl y.two) in
+        (record { between = y.between; one = record { position = pos first.0.left; from = from; is = is }; two = y.two }, behind_first text y.two.0 y.between rest y.two.1 stays.1);
   }
 
   -- ---- value expressions
@@ -96,7 +96,7 @@ module _ (text : List ℕ) (s : DeclaredNames) where
   value_placed names (Var back) = made names (Var back) (value_stays (variable_at names) back) (λ ts rest y. record { e = Var' back; spelled = y; is = refl })
   value_placed names (Model label x) = made names (Model label x) (word_stays (codes "model") ▹ open_stays ▹ value_stays (use_at s.labels) label ▹ comma_stays ▹ located x) (λ ts rest y.
       let d = y.two.two.two.two.one in
-      record { e = Obs' label d.place; spelled = fifth y d.from; is = ap (λ (q : Date). Model label q) d.is })
+      record { e = Obs' label d.position; spelled = fifth y d.from; is = ap (λ (q : Date). Model label q) d.is })
   value_placed names (Neg v) = made names (Neg v) (word_stays (codes "neg") ▹ open_stays ▹ value_placed names v ▹ close_stays) (λ ts rest y.
       let a = y.two.two.one in
       record { e = Neg' a.e; spelled = third {B = expr Language.Code s names a.e} y a.spelled; is = ap Neg a.is })
@@ -161,7 +161,7 @@ module _ (text : List ℕ) (s : DeclaredNames) where
 
 -- ---- sizes
 
-nodes_dated : (on : ℤ → Date) (e : Expression) → nodes (plain (with_date on e)) ≡ nodes e
+nodes_dated : (on : ℤ → Date) (e : Expression) → nodes (undated (with_date on e)) ≡ nodes e
 nodes_dated on (Lit' m k) = refl
 nodes_dated on (Yes' b) = refl
 nodes_dated on (Var' back) = refl
@@ -177,8 +177,8 @@ nodes_dated on (Round' m k e) = omega (arith, nodes_dated on e)
 nodes_dated on (Div' m k a b) = omega (arith, nodes_dated on a, nodes_dated on b)
 nodes_dated on (Acc' body n first) = omega (arith, nodes_dated on body, nodes_dated on first)
 
-pub placed_height : (text : List ℕ) (s : DeclaredNames) (names : List Bytes) (v : ValueExpression) (ts rest : List Tok) (p : Placed text s names v ts rest) → height (plain v) ≡ height p.e
-placed_height text s names v ts rest p = sym (ap (λ (u : ValueExpression). height (plain u)) p.is) ∙ height_dated (date_at s.templates text) p.e
+pub placed_height : (text : List ℕ) (s : DeclaredNames) (names : List Bytes) (v : ValueExpression) (ts rest : List Tok) (p : Placed text s names v ts rest) → height (undated v) ≡ height p.e
+placed_height text s names v ts rest p = sym (ap (λ (u : ValueExpression). height (undated u)) p.is) ∙ height_dated (date_at s.templates text) p.e
 
-pub placed_nodes : (text : List ℕ) (s : DeclaredNames) (names : List Bytes) (v : ValueExpression) (ts rest : List Tok) (p : Placed text s names v ts rest) → nodes (plain v) ≡ nodes p.e
-placed_nodes text s names v ts rest p = sym (ap (λ (u : ValueExpression). nodes (plain u)) p.is) ∙ nodes_dated (date_at s.templates text) p.e
+pub placed_nodes : (text : List ℕ) (s : DeclaredNames) (names : List Bytes) (v : ValueExpression) (ts rest : List Tok) (p : Placed text s names v ts rest) → nodes (undated v) ≡ nodes p.e
+placed_nodes text s names v ts rest p = sym (ap (λ (u : ValueExpression). nodes (undated u)) p.is) ∙ nodes_dated (date_at s.templates text) p.e

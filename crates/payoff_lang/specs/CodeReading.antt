@@ -8,7 +8,7 @@ use Rattle.term_core.specs.declared.decls.Decls.{Decls}
 use Rattle.contract_parse.specs.Names.{BoundNames, DeclaredNames, names_in}
 use Rattle.contract_parse.specs.Judgements.{use_at}
 use Rattle.contract_parse.specs.Spelling.{Leaf, Part, ◌⨟◌, mark, pair, templates_part, valued, word}
-use Rattle.contract_parse.specs.Places.{Place, amount_places}
+use Rattle.contract_parse.specs.Expecting.{Expected, amount_expected}
 use Rattle.contract_parse.specs.Reading.{declared_in}
 use Rattle.contract_parse.specs.declared.heads.AmountHead.{AmountHead}
 use Rattle.payoff_lang.specs.declared.code.DateExpr.{DateExpr}
@@ -67,5 +67,5 @@ abbrev pub first_token_of_amount : AmountHead → Part
 first_token_of_amount head ts rest = (t : Tok) × (ts ≡ t ∷ rest) × BeginsAmount t head
 
 -- what stands behind it
-abbrev pub behind_amount_head : ℕ → BoundNames → AmountHead → DeclaredNames → List Place → List Place
-behind_amount_head depth bound head s ps = amount_places s depth (names_in bound) head ps
+abbrev pub behind_amount_head : ℕ → BoundNames → AmountHead → DeclaredNames → List Expected → List Expected
+behind_amount_head depth bound head s ps = amount_expected s depth (names_in bound) head ps

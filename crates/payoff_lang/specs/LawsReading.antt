@@ -4,7 +4,7 @@ use Rattle.std.specs.Prelude.{◌≡◌, ◌≤◌, ◌<◌, List, ℕ, [], leng
 use Rattle.std.specs.Str.{IsUtf8}
 use Rattle.contract_parse.specs.Tokens.{tokens}
 use Rattle.contract_parse.specs.Names.{nothing_declared}
-use Rattle.contract_parse.specs.Places.{Open, code_text_places, run}
+use Rattle.contract_parse.specs.Expecting.{Open, code_text_expected, run}
 use Rattle.contract_parse.specs.Laws.{NamesFit}
 use Rattle.contract_parse.specs.Fronts.{IsWhole}
 use Rattle.contract_parse.specs.FrontLaws.{FaultyToken}
@@ -18,7 +18,7 @@ use Rattle.payoff_lang.specs.WellFormedCode.{IsClosedCode}
 use Rattle.payoff_lang.specs.PrintableCode.{IsPrintableCode}
 
 abbrev pub CodeTextIsTaken : Type 0
-CodeTextIsTaken = (bytes : List ℕ) (b : CodeBook) → CodeText bytes b → run nothing_declared code_text_places (tokens bytes) ≡ Open []
+CodeTextIsTaken = (bytes : List ℕ) (b : CodeBook) → CodeText bytes b → run nothing_declared code_text_expected (tokens bytes) ≡ Open []
 
 abbrev pub CodeTextHasNoFault : Type 0
 CodeTextHasNoFault = (bytes : List ℕ) (b : CodeBook) (f : TextFault) → CodeText bytes b → IsCodeFault bytes f → ⊥

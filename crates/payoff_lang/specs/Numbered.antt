@@ -1,5 +1,5 @@
--- A value expression as an expression with its dates in a list: each observable has the place of its date for an offset.
--- So value expressions are printed by the printer of expressions, whose leaf writes the date at a place.
+-- A value expression as an expression with its dates in a list: each observable has the index of its date for an offset.
+-- So value expressions are printed by the printer of expressions, whose leaf writes the date at an index.
 use Rattle.std.specs.Prelude.{ℕ, ℤ, pos, negsuc, List, [], ◌∷◌, ◌++◌, length, map, Some, None, slice_get}
 use denote.Ref.{Bor}
 use Rattle.contract_parse.specs.Words.{Bytes}
@@ -49,11 +49,11 @@ numbered dates (Round m k v) = Round' m k (numbered dates v)
 numbered dates (Div m k v w) = Div' m k (numbered dates v) (numbered (with_dates dates v) w)
 numbered dates (Acc body days first) = Acc' (numbered dates body) days (numbered (with_dates dates body) first)
 
--- the text of the date at a place
+-- the text of the date at an index
 abbrev pub text_at : DeclaredNames → List Date → ℤ → Bytes
 text_at s dates (pos i) = elim (slice_get dates i) [ Some x ↦ date_text s x | None ↦ [] ]
 text_at s dates (negsuc i) = []
 
--- an observable, with the date at a place
+-- an observable, with the date at an index
 abbrev pub modelled_at : DeclaredNames → List Date → ℕ → ℤ → Bytes
-modelled_at s dates label place = modelled s label (text_at s dates place)
+modelled_at s dates label i = modelled s label (text_at s dates i)

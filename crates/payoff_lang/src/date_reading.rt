@@ -3,14 +3,14 @@
 ghost use Rattle.std.specs.Prelude.{◌≤◌, ◌∷◌, IfOk, codes, length};
 ghost use Rattle.indexmap.specs.IndexMap.{keys};
 ghost use Rattle.contract_parse.specs.Tokens.{tokens};
-ghost use Rattle.contract_parse.specs.Places.{MoreTemplates, date_places};
+ghost use Rattle.contract_parse.specs.Expecting.{MoreTemplates, date_expected};
 ghost use Rattle.contract_parse.specs.Reading.{LacksMark};
 ghost use Rattle.contract_parse.specs.Readers.{Passes, Reads};
 ghost use Rattle.payoff_lang.specs.CodeReading.{AddsTemplates, RisingTemplates, date_in};
 
 use crate::code::DateExpr;
 use crate::dates::put_in_order;
-use contract_parse::{ReadErr, after_mark, read_date_number, read_use_of_map};
+use contract_parse::{PartErr, after_mark, read_date_number, read_use_of_map};
 use std::alloc::Global;
 use term_core::Decls;
 
@@ -20,7 +20,7 @@ fn push_templates<'a>(
     decls: &Decls,
     names: &mut Vec<u32>,
     rest: &'a [u8],
-) -> Result<&'a [u8], ReadErr>
+) -> Result<&'a [u8], PartErr>
     ensures reads { Reads (Passes decls.now (λ s ps. MoreTemplates ∷ ps))
         (λ r. AddsTemplates (keys decls.now.templates) names.old.items names.new.items)
         (λ r. r.now) rest.now result }
@@ -40,7 +40,7 @@ fn read_templates<'a>(
     alloc: Global,
     decls: &Decls,
     rest: &'a [u8],
-) -> Result<(Vec<u32>, &'a [u8]), ReadErr>
+) -> Result<(Vec<u32>, &'a [u8]), PartErr>
     ensures reads { Reads (Passes decls.now (λ s ps. MoreTemplates ∷ ps))
         (λ r. RisingTemplates (keys decls.now.templates) r.0.items) (λ r. r.1.now) rest.now result }
     ensures ends { IfOk result (λ r. LacksMark (codes "+") (tokens r.1.now)) }
@@ -56,8 +56,8 @@ pub fn read_date<'a>(
     alloc: Global,
     decls: &Decls,
     rest: &'a [u8],
-) -> Result<(DateExpr, &'a [u8]), ReadErr>
-    ensures reads { Reads (Passes decls.now (λ s ps. date_places ps)) (λ r. date_in decls.now r.0)
+) -> Result<(DateExpr, &'a [u8]), PartErr>
+    ensures reads { Reads (Passes decls.now (λ s ps. date_expected ps)) (λ r. date_in decls.now r.0)
         (λ r. r.1.now) rest.now result }
     ensures ends { IfOk result (λ r. LacksMark (codes "+") (tokens r.1.now)) }
 {

@@ -4,7 +4,7 @@
 ghost use Rattle.std.specs.Prelude.{◌≡◌, ◌≤ℤ◌, ◌++◌, ◌∷◌, [], ℤ, IfOk, OnOk, length, pos};
 ghost use Rattle.contract_parse.specs.Names.{DeclaredNames};
 ghost use Rattle.contract_parse.specs.Spelling.{Leaf};
-ghost use Rattle.contract_parse.specs.Places.{date_places};
+ghost use Rattle.contract_parse.specs.Expecting.{date_expected};
 ghost use Rattle.contract_parse.specs.Reading.{declared_in};
 ghost use Rattle.contract_parse.specs.Readers.{KeepsLeaves, Passes, Reads};
 ghost use Rattle.contract_parse.specs.declared.heads.Language.{Language};
@@ -14,7 +14,7 @@ ghost use Rattle.payoff_lang.specs.CodeReading.{ListedDate, date_listed, dates_o
 use crate::code::DateExpr;
 use crate::date_reading::read_date;
 use crate::dating::{Dating, copied_date};
-use contract_parse::{Language, LeafReader, ReadErr, read_use_of_map, skip_mark};
+use contract_parse::{Language, LeafReader, PartErr, read_use_of_map, skip_mark};
 use decimal::NoMemory;
 use std::alloc::Global;
 use term_core::{Decls, Expr};
@@ -52,8 +52,8 @@ fn read_listed_date<'a>(
     dates: &mut Vec<DateExpr>,
     decls: &Decls,
     rest: &'a [u8],
-) -> Result<(i32, &'a [u8]), ReadErr>
-    ensures reads { Reads (Passes decls.now (λ s ps. date_places ps))
+) -> Result<(i32, &'a [u8]), PartErr>
+    ensures reads { Reads (Passes decls.now (λ s ps. date_expected ps))
         (λ r. ListedDate (dates_of dates.new.items) (declared_in decls.now []) r.0)
         (λ r. r.1.now) rest.now result }
     ensures kept { OnOk result (KeepsLeaves (λ s. listed_leaf (dates_of dates.old.items) s)
@@ -76,7 +76,7 @@ impl LeafReader for Models {
         alloc: Global,
         decls: &Decls,
         rest: &'a [u8],
-    ) -> Result<(Expr, &'a [u8]), ReadErr> {
+    ) -> Result<(Expr, &'a [u8]), PartErr> {
         let rest = skip_mark(rest, b"(")?;
         let (label, rest) = read_use_of_map(&decls.labels, rest)?;
         let rest = skip_mark(rest, b",")?;

@@ -4,7 +4,7 @@ ghost use Rattle.std.specs.Prelude.{◌≡◌, ◌≤◌, ◌+◌, ◌++◌, OnO
 ghost use Rattle.term_core.specs.Declarations.{declarations};
 ghost use Rattle.term_core.specs.Sizes.{height};
 ghost use Rattle.payoff_lang.specs.TemplateDates.{date};
-ghost use Rattle.payoff_lang.specs.Dating.{plain};
+ghost use Rattle.payoff_lang.specs.Dating.{undated};
 ghost use Rattle.payoff_lang.specs.Code.{value_expression, payoff_code};
 ghost use Rattle.payoff_lang.specs.CodeBooks.{code_book};
 ghost use Rattle.payoff_lang.specs.CodeSizes.{height_of_code};
@@ -107,7 +107,7 @@ fn append_value(
     v: &Vx,
 ) -> Result<(), NoMemory>
     requires writable { IsWritableValue binders (value_expression v.now) }
-    requires low { binders + height (plain (value_expression v.now)) ≤ 1_000 }
+    requires low { binders + height (undated (value_expression v.now)) ≤ 1_000 }
     ensures { OnOk result (out.new.items ≡ out.old.items
         ++ value_text (declared_for_code (declarations decls.now)) binders
         (value_expression v.now)) }
@@ -151,7 +151,7 @@ fn append_test(
     upto: &DateExpr,
 ) -> Result<(), NoMemory>
     requires writable { IsWritableValue binders (value_expression test.now) }
-    requires low { binders + height (plain (value_expression test.now)) ≤ 1_000 }
+    requires low { binders + height (undated (value_expression test.now)) ≤ 1_000 }
     ensures { OnOk result (out.new.items ≡ out.old.items
         ++ test_text (declared_for_code (declarations decls.now)) binders
         (value_expression test.now) (date upto.now)) }

@@ -20,5 +20,5 @@ mod scale_rule;
 mod scale_scopes;
 mod size_rule;
 
-pub use scale_rule::{scale_of_expr, scales};
+pub use scale_rule::{GREATEST_SCALE, scale_of_expr, scales};
 pub use size_rule::sizes;

@@ -25,36 +25,36 @@ use Rattle.contract_parse.proofs.OneToken.{one_one}
 use Rattle.contract_parse.proofs.OneSplit.{one_split}
 use Rattle.contract_parse.proofs.TokenOrder.{any_taken}
 use Rattle.contract_parse.specs.declared.faults.TextKind.TheVariants.{Syntax}
-use Rattle.contract_parse.specs.Places.{AnyTokens, Fails, Place, Stops, TheEnd, decls_places, run}
+use Rattle.contract_parse.specs.Expecting.{AnyTokens, Fails, Expected, Stops, TheEnd, decls_expected, run}
 use Rattle.contract_parse.specs.declared.faults.Refusal.{Refusal}
-use Rattle.contract_parse.specs.declared.faults.ReadErr.{ReadErr}
-use Rattle.contract_parse.specs.declared.faults.ReadErr.TheVariants.{Refused, NoMemory}
+use Rattle.contract_parse.specs.declared.faults.PartErr.{PartErr}
+use Rattle.contract_parse.specs.declared.faults.PartErr.TheVariants.{Refused, NoMemory}
 use Rattle.schedule_forms.specs.PlanBooks.{PlanBook}
 use Rattle.schedule_forms.specs.PlanSpelling.{PlanText, first_line, plan_lines}
-use Rattle.schedule_forms.specs.PlanPlaces.{Token, plan_fault, plan_places}
+use Rattle.schedule_forms.specs.PlanExpecting.{Token, plan_fault, plan_expected}
 use Rattle.schedule_forms.specs.PlanReading.{IsFaultOf}
-use Rattle.schedule_forms.specs.PlanTexts.{Heading, FirstPlanFault, IsPlanFault, no_utf8, refused, FirstRefusal, in_heading, in_plans, ReadsPlans, heading_places}
+use Rattle.schedule_forms.specs.PlanTexts.{Heading, FirstPlanFault, IsPlanFault, no_utf8, refused, FirstRefusal, in_heading, in_plans, ReadsPlans, heading_expected}
 use Rattle.schedule_forms.specs.LawsTexts.{OnePlanFault, PlanTextsHaveNoFault}
 use Rattle.schedule_forms.proofs.CommonFacts.{one_test, token_refused}
 use Rattle.schedule_forms.proofs.TakenFacts.{plan_heads, plan_words, plans_declare_none, plans_taken}
 
-pub heading_refused : (ts : List Tok) (e : ReadErr) → Fails e (run nothing_declared (heading_places (AnyTokens ∷ [])) ts) → ReadsPlans ts (Err e)
+pub heading_refused : (ts : List Tok) (e : PartErr) → Fails e (run nothing_declared (heading_expected (AnyTokens ∷ [])) ts) → ReadsPlans ts (Err e)
 heading_refused ts (Refused r) h = in_heading h
 heading_refused ts NoMemory h = tt
 
-pub plans_refused : (ts : List Tok) (d : Declarations) (rest : List Tok) (e : ReadErr) → Heading ts d rest → IsFaultOf e (plan_fault [] (plan_places d) rest) → ReadsPlans ts (Err e)
+pub plans_refused : (ts : List Tok) (d : Declarations) (rest : List Tok) (e : PartErr) → Heading ts d rest → IsFaultOf e (plan_fault [] (plan_expected d) rest) → ReadsPlans ts (Err e)
 plans_refused ts d rest (Refused r) heading h = in_plans heading h
 plans_refused ts d rest NoMemory heading h = tt
 
-pub end_refused : (names : List Bytes) (ts : List Tok) (e : ReadErr) → ((s : DeclaredNames) (ps : List Place) → Fails e (run s (TheEnd ∷ ps) ts)) → IsFaultOf e (plan_fault names (Token TheEnd ∷ []) ts)
+pub end_refused : (names : List Bytes) (ts : List Tok) (e : PartErr) → ((s : DeclaredNames) (ps : List Expected) → Fails e (run s (TheEnd ∷ ps) ts)) → IsFaultOf e (plan_fault names (Token TheEnd ∷ []) ts)
 end_refused names ts (Refused r) h = token_refused names TheEnd [] ts r (one_test TheEnd is_end (λ s ps t. refl)) (h nothing_declared (AnyTokens ∷ []))
 end_refused names ts NoMemory h = tt
 
 -- ---- a text has no fault
 
-pub heading_taken : (d : Declarations) (ps : List Place) (ts rest : List Tok) → d.version ≡ 1 → (first_line ⨟ decls d) ts rest → Heads plan_words rest → run nothing_declared (heading_places ps) ts ≡ run (declared_by d []) ps rest
+pub heading_taken : (d : Declarations) (ps : List Expected) (ts rest : List Tok) → d.version ≡ 1 → (first_line ⨟ decls d) ts rest → Heads plan_words rest → run nothing_declared (heading_expected ps) ts ≡ run (declared_by d []) ps rest
 heading_taken d ps ts rest version x heads =
-    let declared = subst (λ (v : ℕ). run (nothing_in (version_of v)) (decls_places (version_of v) ps) x.between ≡ run (declared_by d []) ps rest) version
+    let declared = subst (λ (v : ℕ). run (nothing_in (version_of v)) (decls_expected (version_of v) ps) x.between ≡ run (declared_by d []) ps rest) version
     (decls_taken_before plan_words plans_declare_none d ps x.between rest x.two heads) in
     word_taken nothing_declared (codes "schedules") _ _ _ x.one.one
     ∙ test_taken nothing_declared nothing_declared _ _ is_version _ _ (λ t e. rw e refl) x.one.two.one
@@ -113,8 +113,8 @@ no_refusal bytes b r text (in_heading stops) =
 no_refusal bytes b r text (in_plans {d = d} {rest = rest} heading fault) =
     let x = text.spelled in
     let same = one_heading bytes d b.declarations rest x.between heading (text_heading (tokens bytes) b x.between text.version x.one x.two) in
-    let met : plan_fault [] (plan_places d) rest ≡ plan_fault [] (plan_places b.declarations) x.between =
-    ap (λ (e : Declarations). plan_fault [] (plan_places e) rest) same.0 ∙ ap (λ (k : List Tok). plan_fault [] (plan_places b.declarations) k) same.1 in
+    let met : plan_fault [] (plan_expected d) rest ≡ plan_fault [] (plan_expected b.declarations) x.between =
+    ap (λ (e : Declarations). plan_fault [] (plan_expected e) rest) same.0 ∙ ap (λ (k : List Tok). plan_fault [] (plan_expected b.declarations) k) same.1 in
     let taken = plans_taken b x.between x.two in
     absurd (cc)
 
@@ -127,8 +127,8 @@ pub not_utf8 : (bytes : List ℕ) (f : TextFault) → IsNoUtf8 bytes f → IsPla
 not_utf8 bytes f bad = (is_fault bytes Utf8 bad.at f bad.is (no_utf8 bad.none bad.longest), λ b text. bad.none text.utf8)
 
 pub not_plans : (bytes : List ℕ) (r : Refusal) (at : ℕ) (f : TextFault) → f ≡ fault_at bytes r.kind at → at ≡ length bytes - r.left → IsUtf8 bytes → FirstRefusal (tokens bytes) r → IsPlanFault bytes f × ((b : PlanBook) → PlanText bytes b → ⊥)
-not_plans bytes r at f is place utf8 first =
-    let here = subst (λ (n : ℕ). FirstPlanFault bytes r.kind n) (sym place) (refused utf8 first) in
+not_plans bytes r at f is position utf8 first =
+    let here = subst (λ (n : ℕ). FirstPlanFault bytes r.kind n) (sym position) (refused utf8 first) in
     (is_fault bytes r.kind at f is here, λ b text. no_refusal bytes b r text first)
 
 no_first : (bytes : List ℕ) (b : PlanBook) (kind : TextKind) (at : ℕ) → PlanText bytes b → FirstPlanFault bytes kind at → ⊥
@@ -159,8 +159,8 @@ one_refusal bytes r s (in_plans {d = d} {rest = m} heading x) (in_heading y) =
     absurd (cc)
 one_refusal bytes r s (in_plans {d = d} {rest = m} x h) (in_plans {d = e} {rest = n} y k) =
     let same = one_heading bytes d e m n x y in
-    let met : plan_fault [] (plan_places d) m ≡ plan_fault [] (plan_places e) n =
-    ap (λ (c : Declarations). plan_fault [] (plan_places c) m) same.0 ∙ ap (λ (l : List Tok). plan_fault [] (plan_places e) l) same.1 in
+    let met : plan_fault [] (plan_expected d) m ≡ plan_fault [] (plan_expected e) n =
+    ap (λ (c : Declarations). plan_fault [] (plan_expected c) m) same.0 ∙ ap (λ (l : List Tok). plan_fault [] (plan_expected e) l) same.1 in
     let both : Some r ≡ Some s = sym h ∙ met ∙ k in
     cc
 
@@ -172,18 +172,18 @@ fault_is : (bytes : List ℕ) (kind : TextKind) (at : ℕ) → FirstPlanFault by
 fault_is bytes kind at (no_utf8 not_utf8 valid) = broken not_utf8 valid refl
 fault_is bytes kind at (refused {r = r} utf8 first) = refused_at utf8 r first refl refl
 
-one_place : (bytes : List ℕ) (kind other : TextKind) (at place : ℕ) → FaultIs bytes kind at → FaultIs bytes other place → (kind ≡ other) × (at ≡ place)
-one_place bytes kind other at place (broken n v e) (broken m w f) =
-    (e ∙ sym f, sym (utf8_valid_len-IsValidUpTo bytes at v) ∙ utf8_valid_len-IsValidUpTo bytes place w)
-one_place bytes kind other at place (broken n v e) (refused_at u r first k l) = absurd (n u)
-one_place bytes kind other at place (refused_at u r first k l) (broken n v e) = absurd (n u)
-one_place bytes kind other at place (refused_at u r first k l) (refused_at w s second p q) =
+one_position : (bytes : List ℕ) (kind other : TextKind) (at position : ℕ) → FaultIs bytes kind at → FaultIs bytes other position → (kind ≡ other) × (at ≡ position)
+one_position bytes kind other at position (broken n v e) (broken m w f) =
+    (e ∙ sym f, sym (utf8_valid_len-IsValidUpTo bytes at v) ∙ utf8_valid_len-IsValidUpTo bytes position w)
+one_position bytes kind other at position (broken n v e) (refused_at u r first k l) = absurd (n u)
+one_position bytes kind other at position (refused_at u r first k l) (broken n v e) = absurd (n u)
+one_position bytes kind other at position (refused_at u r first k l) (refused_at w s second p q) =
     let same = one_refusal bytes r s first second in
     (k ∙ ap (λ (z : Refusal). z.kind) same ∙ sym p, l ∙ ap (λ (z : Refusal). length bytes - z.left) same ∙ sym q)
 
 pub one_plan_fault : OnePlanFault
 one_plan_fault bytes f g x y =
-    let one = one_place bytes f.kind g.kind x.at y.at (fault_is bytes f.kind x.at x.first) (fault_is bytes g.kind y.at y.first) in
+    let one = one_position bytes f.kind g.kind x.at y.at (fault_is bytes f.kind x.at x.first) (fault_is bytes g.kind y.at y.first) in
     let line = x.line ∙ ap (λ (n : ℕ). line_at bytes n) one.1 ∙ sym y.line in
     let column = x.column ∙ ap (λ (n : ℕ). column_at bytes n) one.1 ∙ sym y.column in
     λ i. record { kind = one.0 i; line = line i; column = column i }

@@ -1,9 +1,9 @@
--- What a list of tokens makes of the first line and the declarations of a schedule file, whatever places stand behind them.
+-- What a list of tokens makes of the first line and the declarations of a schedule file, whatever is expected behind them.
 use Rattle.std.proofs.Common.{◌≡◌, ℕ, List, [], ◌∷◌, ◌++◌, refl, ap, ◌∙◌}
 use Rattle.contract_parse.specs.Tokens.{Tok}
 use Rattle.contract_parse.specs.Names.{DeclaredNames}
 use Rattle.contract_parse.specs.Forms.{Form, Whole, Front, empty}
-use Rattle.contract_parse.specs.Places.{Place, Next, Open, Stops, run, step}
+use Rattle.contract_parse.specs.Expecting.{Expected, Next, Open, Stops, run, step}
 use Rattle.contract_parse.specs.declared.faults.TextKind.{TextKind}
 use Rattle.contract_parse.specs.declared.faults.TextKind.TheVariants as kind
 use Rattle.contract_parse.proofs.Passing.{run-end}
@@ -69,28 +69,28 @@ failed_later parts next t ts k left takes x = record {
   fault = faulty_as next parts (x.before ++ x.at ∷ []) (t ∷ x.before ++ x.at ∷ []) k (λ y. takes.on (x.before ++ x.at ∷ []) y) (λ y. takes.back (x.before ++ x.at ∷ []) y) x.fault;
 }
 
--- what stands behind the places begins with one of the tokens
-pub record Leaves (s : DeclaredNames) (qs : List Place) (ts : List Tok) : Type 0 where
+-- what is expected behind that begins with one of the tokens
+pub record Leaves (s : DeclaredNames) (qs : List Expected) (ts : List Tok) : Type 0 where
   pub before : List Tok
   pub at : Tok
   pub after : List Tok
   pub are : ts ≡ before ++ at ∷ after
   pub declared : DeclaredNames
-  pub runs : (ps : List Place) → run s (qs ++ ps) ts ≡ run declared ps (at ∷ after)
+  pub runs : (ps : List Expected) → run s (qs ++ ps) ts ≡ run declared ps (at ∷ after)
   pub front : Front plan_forms (heading_parts qs) before
   pub on : (us : List Tok) → Front plan_forms (heading_parts qs) (before ++ at ∷ us) → Front plan_forms plans_form (at ∷ us)
   pub back : (us : List Tok) → Front plan_forms plans_form (at ∷ us) → Front plan_forms (heading_parts qs) (before ++ at ∷ us)
   pub whole : (us rest : List Tok) → Whole plan_forms plans_form (at ∷ us) rest → Whole plan_forms (heading_parts qs) (before ++ at ∷ us) rest
 
 -- the tokens end in the heading, or one is refused there, or what stands behind begins with one
-pub data Runs (s : DeclaredNames) (qs : List Place) (ts : List Tok) : Type 0 where
-  ends : (next : List Place) → ((ps : List Place) → run s (qs ++ ps) ts ≡ Open (next ++ ps)) → Runs s qs ts
-  stopped : (k : TextKind) (left : ℕ) → ((ps : List Place) → run s (qs ++ ps) ts ≡ Stops k left) → Failed (heading_parts qs) ts k left → Runs s qs ts
+pub data Runs (s : DeclaredNames) (qs : List Expected) (ts : List Tok) : Type 0 where
+  ends : (next : List Expected) → ((ps : List Expected) → run s (qs ++ ps) ts ≡ Open (next ++ ps)) → Runs s qs ts
+  stopped : (k : TextKind) (left : ℕ) → ((ps : List Expected) → run s (qs ++ ps) ts ≡ Stops k left) → Failed (heading_parts qs) ts k left → Runs s qs ts
   behind : Leaves s qs ts → Runs s qs ts
 
 -- one more token at the front
-module _ (s s2 : DeclaredNames) (qs next : List Place) (t : Tok) (ts : List Tok) (is : (ps : List Place) → step s (qs ++ ps) t ≡ Next s2 (next ++ ps)) (takes : Takes plan_forms (heading_parts qs) t (heading_parts next)) where
-  first : (ps : List Place) → run s (qs ++ ps) (t ∷ ts) ≡ run s2 (next ++ ps) ts
+module _ (s s2 : DeclaredNames) (qs next : List Expected) (t : Tok) (ts : List Tok) (is : (ps : List Expected) → step s (qs ++ ps) t ≡ Next s2 (next ++ ps)) (takes : Takes plan_forms (heading_parts qs) t (heading_parts next)) where
+  first : (ps : List Expected) → run s (qs ++ ps) (t ∷ ts) ≡ run s2 (next ++ ps) ts
   first ps = run-next s s2 (qs ++ ps) (next ++ ps) t ts (is ps)
 
   onto : Runs s2 next ts → Runs s qs (t ∷ ts)
@@ -109,7 +109,7 @@ module _ (s s2 : DeclaredNames) (qs next : List Place) (t : Tok) (ts : List Tok)
     whole = λ us rest w. takes.whole (x.before ++ x.at ∷ us) rest (x.whole us rest w);
   })
 
-met : (s : DeclaredNames) (qs : List Place) (t : Tok) (ts : List Tok) → Meets s qs t → ((s2 : DeclaredNames) (next : List Place) → IsHeading next → Runs s2 next ts) → Runs s qs (t ∷ ts)
+met : (s : DeclaredNames) (qs : List Expected) (t : Tok) (ts : List Tok) → Meets s qs t → ((s2 : DeclaredNames) (next : List Expected) → IsHeading next → Runs s2 next ts) → Runs s qs (t ∷ ts)
 met s qs t ts (goes s2 next heading is takes) more = onto s s2 qs next t ts is takes (more s2 next heading)
 met s qs t ts (stops k is x) more = stopped k t.left (λ ps. run-refuse s (qs ++ ps) k t ts (is ps)) (failed_first (heading_parts qs) t ts k x)
 met s qs t ts (leaves is skips) more = behind (record {
@@ -125,6 +125,6 @@ met s qs t ts (leaves is skips) more = behind (record {
   whole = skips.whole;
 })
 
-pub heading_runs : (ts : List Tok) (s : DeclaredNames) (qs : List Place) → IsHeading qs → Runs s qs ts
+pub heading_runs : (ts : List Tok) (s : DeclaredNames) (qs : List Expected) → IsHeading qs → Runs s qs ts
 heading_runs [] s qs heading = ends qs (λ ps. run-end s (qs ++ ps))
 heading_runs (t ∷ ts) s qs heading = met s qs t ts (meets s qs t heading) (λ s2 next h. heading_runs ts s2 next h)

@@ -8,13 +8,13 @@ use Rattle.contract_parse.specs.Versions.{One, Two}
 use Rattle.contract_parse.specs.Forms.{Form, Terminal, Nonterminal, Optional, Repeated, here, later, done, token, form, absent, enough}
 use Rattle.contract_parse.specs.Fronts.{Declaration, Declared, Versioned, ContractLine, Contract, Amount, Expression, SignedInteger, FurtherTemplate, FurtherItem}
 use Rattle.contract_parse.specs.declared.heads.Language.{Language}
-use Rattle.contract_parse.specs.declared.token.Kind.{Kind}
-use Rattle.contract_parse.specs.declared.token.Kind.TheVariants as kind
+use Rattle.contract_parse.specs.declared.token.LexemeKind.{LexemeKind}
+use Rattle.contract_parse.specs.declared.token.LexemeKind.TheVariants as kind
 use Rattle.contract_parse.proofs.FrontGoesOn.{Made, front_goes_on, whole_front}
 use Rattle.schedule_forms.specs.PlanFronts.{IsWholePlanFile, PlanSymbol, Shared, PlanLine, PlanSize, SignedNumber, plan_file_form, plan_forms}
 use Rattle.schedule_forms.specs.PlanFrontLaws.{PlanFrontsGoOn}
 
-abbrev sample : Kind → Bytes → Tok
+abbrev sample : LexemeKind → Bytes → Tok
 sample kind text = record { kind = kind; text = text; left = 0 }
 
 abbrev a_word : Bytes → Tok
@@ -39,7 +39,7 @@ abbrev words : List Bytes
 words =
     codes "schedules" ∷ codes "leg" ∷ codes "swap" ∷ codes "guarded" ∷ codes "of" ∷ codes "from" ∷ codes "to" ∷ codes "first" ∷ codes "every" ∷ codes "times" ∷ codes "against" ∷ codes "until" ∷ codes "covers" ∷ reserved
 
--- a token for each place of one
+-- a token for each form of one
 abbrev samples : List Tok
 samples =
     x ∷ one ∷ sample kind.Number (codes "2") ∷ sample kind.Date [] ∷ sample kind.End [] ∷ map (λ w. a_word w) words ++ map (λ m. a_mark m) marks
@@ -84,7 +84,7 @@ all_made PlanLine = record {
 all_made PlanSize = record { tokens = one ∷ []; whole = λ rest. form (later here) (token refl done) done }
 all_made SignedNumber = record { tokens = one ∷ []; whole = λ rest. form here (token refl done) done }
 
--- each token's place is met by one of the samples
+-- each token that a form expects is met by one of the samples
 abbrev is_met : Form PlanSymbol → Bool
 is_met [] = true
 is_met (Terminal test ∷ parts) = list_any test samples && is_met parts

@@ -1,4 +1,4 @@
--- One token at a place of plans: it is taken just where a front goes on with it, and its fault is of Syntax just where none
+-- One token, where something of plans is expected: it is taken just where a front goes on with it, and its fault is of Syntax just where none
 -- does.
 use Rattle.std.proofs.Common.{◌≡◌, ℕ, zero, suc, Bool, true, false, cond, Option, Some, None, Result, Ok, Err, List, [], ◌∷◌, ◌++◌, refl, sym, ap, ◌∙◌, subst}
 use Rattle.std.specs.Prelude.{codes}
@@ -12,25 +12,25 @@ use Rattle.contract_parse.specs.Names.{nothing_declared}
 use Rattle.contract_parse.specs.Judgements.{integer_at, literal_at, mode_at, new_at, use_at}
 use Rattle.contract_parse.specs.Forms.{Terminal, Nonterminal, Repeated, Form, at_token, empty}
 use Rattle.contract_parse.specs.Fronts.{is_one_of, mode_words}
-use Rattle.contract_parse.specs.Places.{Place, AnyTokens, IntegerAt, LiteralNumber, ModeAt, TheEnd, TheMark, TheWord, UseOf}
-use Rattle.contract_parse.specs.Places as common
+use Rattle.contract_parse.specs.Expecting.{Expected, AnyTokens, IntegerAt, LiteralNumber, ModeAt, TheEnd, TheMark, TheWord, UseOf}
+use Rattle.contract_parse.specs.Expecting as common
 use Rattle.contract_parse.specs.declared.faults.TextKind.{TextKind}
 use Rattle.contract_parse.specs.declared.faults.TextKind.TheVariants as kind
 use Rattle.contract_parse.proofs.Passing.{of_mark, of_word}
 use Rattle.contract_parse.proofs.FrontTakes.{Bars, Takes, nothing_bars, one_bars, one_takes, repeated_takes, rests, symbol_bars, symbol_takes}
-use Rattle.contract_parse.proofs.FrontPlaces.{formed, integer_formed, literal_formed, mode_formed, new_formed, parts_of, use_formed}
+use Rattle.contract_parse.proofs.FrontExpecting.{formed, integer_formed, literal_formed, mode_formed, new_formed, parts_of, use_formed}
 use Rattle.contract_parse.proofs.FrontChoices.{either}
 use Rattle.schedule_forms.specs.declared.heads.PlanHead.{PlanHead}
 use Rattle.schedule_forms.specs.declared.heads.PlanHead.TheVariants.{Leg, Swap, Guarded}
 use Rattle.schedule_forms.specs.PlanHeads.{head_at, word_of}
 use Rattle.schedule_forms.specs.PlanJudgements.{count_at, flag_at, from_one, in_time, is_flag_label, is_number_label, number_label_at, of_sort, times_at}
-use Rattle.schedule_forms.specs.PlanPlaces.{PlanPlace, DecimalAt, EveryAt, FirstAt, FlagAt, NewPlan, NumberLabelAt, PlanLines, SizeAt, TimesAt, Token, PlanStep, Next, Refuse, as_common, decimal_step, fixing_places, guard_places, judged, leg_places, line_places, plan_places, plan_step}
-use Rattle.schedule_forms.specs.PlanPlaces as plans
+use Rattle.schedule_forms.specs.PlanExpecting.{PlanExpected, DecimalAt, EveryAt, FirstAt, FlagAt, NewPlan, NumberLabelAt, PlanLines, SizeAt, TimesAt, Token, PlanStep, Next, Refuse, as_common, decimal_step, fixing_expected, guard_expected, judged, leg_expected, line_expected, plan_expected, plan_step}
+use Rattle.schedule_forms.specs.PlanExpecting as plans
 use Rattle.schedule_forms.specs.PlanFronts.{PlanSymbol, PlanLine, PlanSize, SignedNumber, a_mode, a_name, a_number, an_integer, guard_form, leg_form, line_end, plan_forms, plans_form, shared_form, the_mark, the_word}
 use Rattle.schedule_forms.proofs.PlanFrontChoices.{Allows, Refused, skips_refused, skips_repeated, skips_takes, starts}
 
-abbrev pub parts_of_plan : PlanPlace → Form PlanSymbol
-parts_of_plan (Token place) = shared_form (parts_of place)
+abbrev pub parts_of_plan : PlanExpected → Form PlanSymbol
+parts_of_plan (Token p) = shared_form (parts_of p)
 parts_of_plan DecimalAt = Nonterminal SignedNumber ∷ []
 parts_of_plan (SizeAt d) = Nonterminal PlanSize ∷ []
 parts_of_plan (NumberLabelAt d) = a_name ∷ []
@@ -41,12 +41,12 @@ parts_of_plan (TimesAt most first every) = an_integer ∷ []
 parts_of_plan NewPlan = a_name ∷ []
 parts_of_plan (PlanLines d) = Repeated PlanLine ∷ []
 
-abbrev pub plan_parts : List PlanPlace → Form PlanSymbol
+abbrev pub plan_parts : List PlanExpected → Form PlanSymbol
 plan_parts [] = []
 plan_parts (p ∷ ps) = parts_of_plan p ++ plan_parts ps
 
--- the places of one token that plans have
-abbrev IsOneToken : Place → Type 0
+-- what plans expect that is one token
+abbrev IsOneToken : Expected → Type 0
 IsOneToken (TheWord w) = Unit {0}
 IsOneToken (TheMark m) = Unit {0}
 IsOneToken TheEnd = Unit {0}
@@ -57,13 +57,13 @@ IsOneToken ModeAt = Unit {0}
 IsOneToken _ = ⊥
 
 -- plans end where another part may begin with one of their words
-abbrev EndsPlans : List PlanPlace → Type 0
+abbrev EndsPlans : List PlanExpected → Type 0
 EndsPlans ps = (head : PlanHead) (t : Tok) → is_the_word (word_of head) t ≡ true → Bars plan_forms (plan_parts ps) t
 
--- at each place the next token decides the form
-abbrev pub IsDecided : List PlanPlace → Type 0
+-- at each thing that is expected the next token decides the form
+abbrev pub IsDecided : List PlanExpected → Type 0
 IsDecided [] = Unit {0}
-IsDecided (Token place ∷ ps) = IsOneToken place × IsDecided ps
+IsDecided (Token p ∷ ps) = IsOneToken p × IsDecided ps
 IsDecided (DecimalAt ∷ ps) = IsDecided ps
 IsDecided (SizeAt d ∷ ps) = IsDecided ps
 IsDecided (NumberLabelAt d ∷ ps) = IsDecided ps
@@ -97,8 +97,8 @@ by_token : {X : Type 0} (test : Tok → Bool) (rest : Form PlanSymbol) (t : Tok)
 by_token test rest t r next is ok =
     by_judgement (Terminal test ∷ rest) t (test t) r next is (λ x hit. ok x (one_takes plan_forms test rest t hit)) (λ hit. at_token hit) (λ miss. one_bars plan_forms test rest t miss)
 
--- one token of a place of portfolios
-module _ (test : Tok → Bool) (names : List Bytes) (ps : List PlanPlace) (t : Tok) (decided : IsDecided ps) where
+-- one token where portfolios expect the same
+module _ (test : Tok → Bool) (names : List Bytes) (ps : List PlanExpected) (t : Tok) (decided : IsDecided ps) where
   abbrev P : common.Step → Type 0
   P st = PlanStepped (Terminal test ∷ plan_parts ps) t (as_common st names ps)
 
@@ -151,7 +151,7 @@ times_formed most first every t = count_formed most t ∙ in_time_formed first e
 -- ---- decimals and sizes
 
 -- a decimal, alone or as a size
-by_decimal : (symbol : PlanSymbol) (names : List Bytes) (ps : List PlanPlace) (t : Tok) → IsDecided ps → (is_the_mark (codes "-") t ≡ true → rests (plan_forms symbol) t ≡ (a_number ∷ []) ∷ [])
+by_decimal : (symbol : PlanSymbol) (names : List Bytes) (ps : List PlanExpected) (t : Tok) → IsDecided ps → (is_the_mark (codes "-") t ≡ true → rests (plan_forms symbol) t ≡ (a_number ∷ []) ∷ [])
     → ((b : Bool) → is_the_mark (codes "-") t ≡ false → is_number t ≡ b → rests (plan_forms symbol) t ≡ cond b ([] ∷ []) []) → PlanStepped (Nonterminal symbol ∷ plan_parts ps) t (decimal_step names ps t)
 by_decimal symbol names ps t decided signed plain =
     either (is_the_mark (codes "-") t)
@@ -186,7 +186,7 @@ abbrev fixing_rest : Form PlanSymbol
 fixing_rest =
     the_mark (codes "(") ∷ a_mode ∷ the_mark (codes ",") ∷ an_integer ∷ the_mark (codes ",") ∷ a_name ∷ the_mark (codes ",") ∷ an_integer ∷ the_mark (codes ",") ∷ Nonterminal SignedNumber ∷ the_mark (codes ")") ∷ []
 
-by_size : (d : Declarations) (names : List Bytes) (ps : List PlanPlace) (t : Tok) → IsDecided ps → PlanStepped (Nonterminal PlanSize ∷ plan_parts ps) t (plan_step names (SizeAt d ∷ ps) t)
+by_size : (d : Declarations) (names : List Bytes) (ps : List PlanExpected) (t : Tok) → IsDecided ps → PlanStepped (Nonterminal PlanSize ∷ plan_parts ps) t (plan_step names (SizeAt d ∷ ps) t)
 by_size d names ps t decided =
     either (is_the_word (codes "round") t)
     (λ hit. subst P (sym (ap (λ b. cond b fixing decimal) hit))
@@ -197,7 +197,7 @@ by_size d names ps t decided =
     P st = PlanStepped (Nonterminal PlanSize ∷ plan_parts ps) t st
 
     fixing : PlanStep
-    fixing = Next names (fixing_places d ps)
+    fixing = Next names (fixing_expected d ps)
 
     decimal : PlanStep
     decimal = decimal_step names ps t
@@ -213,31 +213,31 @@ definition_form Guarded = leg_form (guard_form line_end)
 abbrev line_rest : PlanHead → Form PlanSymbol
 line_rest head = a_name ∷ the_mark (codes "=") ∷ definition_form head
 
-line_parts : (d : Declarations) (head : PlanHead) (ps : List PlanPlace) → line_rest head ++ plan_parts ps ≡ plan_parts (line_places d head ps)
+line_parts : (d : Declarations) (head : PlanHead) (ps : List PlanExpected) → line_rest head ++ plan_parts ps ≡ plan_parts (line_expected d head ps)
 line_parts d Leg ps = refl
 line_parts d Swap ps = refl
 line_parts d Guarded ps = refl
 
-leg_decided : (d : Declarations) (most : ℕ) (ps : List PlanPlace) → IsDecided ps → IsDecided (leg_places d most ps)
+leg_decided : (d : Declarations) (most : ℕ) (ps : List PlanExpected) → IsDecided ps → IsDecided (leg_expected d most ps)
 leg_decided d most ps decided = (tt, (tt, (tt, (tt, (tt, (tt, (tt, decided)))))))
 
-line_decided : (d : Declarations) (head : PlanHead) (ps : List PlanPlace) → IsDecided ps → IsDecided (line_places d head ps)
+line_decided : (d : Declarations) (head : PlanHead) (ps : List PlanExpected) → IsDecided ps → IsDecided (line_expected d head ps)
 line_decided d Leg ps decided = (tt, leg_decided d 5_000 (plans.the_mark (codes ";") ∷ ps) (tt, decided))
 line_decided d Swap ps decided =
-    (tt, leg_decided d 5_000 (plans.the_word (codes "against") ∷ leg_places d 5_000 (plans.the_mark (codes ";") ∷ ps)) (tt, leg_decided d 5_000 (plans.the_mark (codes ";") ∷ ps) (tt, decided)))
-line_decided d Guarded ps decided = (tt, leg_decided d 60 (guard_places d (plans.the_mark (codes ";") ∷ ps)) (tt, (tt, (tt, decided))))
+    (tt, leg_decided d 5_000 (plans.the_word (codes "against") ∷ leg_expected d 5_000 (plans.the_mark (codes ";") ∷ ps)) (tt, leg_decided d 5_000 (plans.the_mark (codes ";") ∷ ps) (tt, decided)))
+line_decided d Guarded ps decided = (tt, leg_decided d 60 (guard_expected d (plans.the_mark (codes ";") ∷ ps)) (tt, (tt, (tt, decided))))
 
 line_begins : (head : PlanHead) (t : Tok) → is_the_word (word_of head) t ≡ true → rests (plan_forms PlanLine) t ≡ line_rest head ∷ []
 line_begins Leg t hit = of_word (λ z. rests (plan_forms PlanLine) z ≡ line_rest Leg ∷ []) (codes "leg") t hit refl
 line_begins Swap t hit = of_word (λ z. rests (plan_forms PlanLine) z ≡ line_rest Swap ∷ []) (codes "swap") t hit refl
 line_begins Guarded t hit = of_word (λ z. rests (plan_forms PlanLine) z ≡ line_rest Guarded ∷ []) (codes "guarded") t hit refl
 
--- a place of lines, at which nothing of a line stands
-line_absent : (ps : List PlanPlace) (t : Tok) (st : PlanStep) → rests (plan_forms PlanLine) t ≡ [] → PlanStepped (plan_parts ps) t st → PlanStepped (Repeated PlanLine ∷ plan_parts ps) t st
+-- where lines are expected, and nothing of a line stands
+line_absent : (ps : List PlanExpected) (t : Tok) (st : PlanStep) → rests (plan_forms PlanLine) t ≡ [] → PlanStepped (plan_parts ps) t st → PlanStepped (Repeated PlanLine ∷ plan_parts ps) t st
 line_absent ps t (Next names qs) none x = (x.0, skips_takes (Repeated PlanLine ∷ plan_parts ps) (plan_parts ps) (plan_parts qs) t (skips_repeated PlanLine (plan_parts ps) t none) x.1)
 line_absent ps t (Refuse k) none x = skips_refused (Repeated PlanLine ∷ plan_parts ps) (plan_parts ps) t k (skips_repeated PlanLine (plan_parts ps) t none) x
 
-by_lines : (d : Declarations) (names : List Bytes) (ps : List PlanPlace) (t : Tok) → IsDecided (PlanLines d ∷ ps) → PlanStepped (plan_parts ps) t (plan_step names ps t) → PlanStepped (Repeated PlanLine ∷ plan_parts ps) t (plan_step names (PlanLines d ∷ ps) t)
+by_lines : (d : Declarations) (names : List Bytes) (ps : List PlanExpected) (t : Tok) → IsDecided (PlanLines d ∷ ps) → PlanStepped (plan_parts ps) t (plan_step names ps t) → PlanStepped (Repeated PlanLine ∷ plan_parts ps) t (plan_step names (PlanLines d ∷ ps) t)
 by_lines d names ps t decided more =
     either (is_the_word (codes "leg") t) (λ hit. begun Leg hit (rw hit refl)) (λ no_leg.
     either (is_the_word (codes "swap") t) (λ hit. begun Swap hit (rw (no_leg, hit) refl)) (λ no_swap.
@@ -247,7 +247,7 @@ by_lines d names ps t decided more =
     subst (λ o. PlanStepped (Repeated PlanLine ∷ plan_parts ps) t (line_step o)) (sym none) (line_absent ps t (plan_step names ps t) no_line more))))
   where
     line_step : Option PlanHead → PlanStep
-    line_step o = elim o [ Some head ↦ Next names (line_places d head (PlanLines d ∷ ps)) | None ↦ plan_step names ps t ]
+    line_step o = elim o [ Some head ↦ Next names (line_expected d head (PlanLines d ∷ ps)) | None ↦ plan_step names ps t ]
 
     begun : (head : PlanHead) → is_the_word (word_of head) t ≡ true → head_at t ≡ Some head → PlanStepped (Repeated PlanLine ∷ plan_parts ps) t (line_step (head_at t))
     begun head hit is =
@@ -255,9 +255,9 @@ by_lines d names ps t decided more =
         subst (λ o. PlanStepped (Repeated PlanLine ∷ plan_parts ps) t (line_step o)) (sym is)
         (line_decided d head (PlanLines d ∷ ps) decided, subst (λ parts. Takes plan_forms (Repeated PlanLine ∷ plan_parts ps) t parts) (line_parts d head (PlanLines d ∷ ps)) takes)
 
--- ---- each place
+-- ---- each thing that is expected
 
-pub plan_stepped : (names : List Bytes) (ps : List PlanPlace) (t : Tok) → IsDecided ps → PlanStepped (plan_parts ps) t (plan_step names ps t)
+pub plan_stepped : (names : List Bytes) (ps : List PlanExpected) (t : Tok) → IsDecided ps → PlanStepped (plan_parts ps) t (plan_step names ps t)
 plan_stepped names [] t decided = nothing_bars plan_forms t
 plan_stepped names (Token (TheWord w) ∷ ps) t decided = by_common_test (is_the_word w) names ps t decided.1
 plan_stepped names (Token (TheMark m) ∷ ps) t decided = by_common_test (is_the_mark m) names ps t decided.1
@@ -279,9 +279,9 @@ plan_stepped names (TimesAt most first every ∷ ps) t decided = by_token is_int
 plan_stepped names (NewPlan ∷ ps) t decided = by_token is_name (plan_parts ps) t (new_at names t) (λ name. Next (names ++ name ∷ []) ps) (new_formed names t) (λ name takes. (decided, takes))
 plan_stepped names (PlanLines d ∷ ps) t decided = by_lines d names ps t decided (plan_stepped names ps t decided.1)
 
--- the places of all plans
-pub plans_decided : (d : Declarations) → IsDecided (plan_places d)
+-- what is expected of all plans
+pub plans_decided : (d : Declarations) → IsDecided (plan_expected d)
 plans_decided d = ((λ head t is. of_word (λ z. Bars plan_forms (plan_parts (Token TheEnd ∷ [])) z) (word_of head) t is (one_bars plan_forms is_end [] _ refl)), (tt, tt))
 
-pub plans_parts : (d : Declarations) → plan_parts (plan_places d) ≡ plans_form
+pub plans_parts : (d : Declarations) → plan_parts (plan_expected d) ≡ plans_form
 plans_parts d = refl

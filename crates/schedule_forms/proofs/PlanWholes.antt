@@ -12,7 +12,7 @@ use Rattle.contract_parse.specs.Statements.{Entry, Repeat, none, more}
 use Rattle.contract_parse.specs.Forms.{Terminal, Nonterminal, Repeated, Form, IsAmong, here, later, Whole, done, token, form, again, enough}
 use Rattle.contract_parse.specs.Fronts.{is_one_of, mode_words}
 use Rattle.contract_parse.specs.declared.faults.TextKind.{TextKind}
-use Rattle.contract_parse.proofs.FrontPlaces.{formed, integer_formed, literal_formed, mode_formed, new_formed, use_formed}
+use Rattle.contract_parse.proofs.FrontExpecting.{formed, integer_formed, literal_formed, mode_formed, new_formed, use_formed}
 use Rattle.schedule_forms.specs.declared.plans.Size.{Size}
 use Rattle.schedule_forms.specs.declared.plans.Size.TheVariants.{Fixed, Fixing}
 use Rattle.schedule_forms.specs.declared.plans.Leg.{Leg}

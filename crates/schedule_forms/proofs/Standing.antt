@@ -12,7 +12,7 @@ use Rattle.contract_parse.specs.Versions.{Version, One, Two, version_of}
 use Rattle.contract_parse.specs.Judgements.{bound_at, integer_at, new_at, origin_at}
 use Rattle.contract_parse.specs.Spelling.{Part, Signed, ◌⨟◌, mark, nothing, one, sign, valued, word}
 use Rattle.contract_parse.specs.Statements.{Added, AssetList, Entry, NameList, Repeat, asset_item, asset_line, comma_asset, comma_name, decimals_part, decls, label_line, name_line, none, more, origin_line, range, start_line, template_line}
-use Rattle.contract_parse.specs.declared.token.Kind.TheVariants.{End}
+use Rattle.contract_parse.specs.declared.token.LexemeKind.TheVariants.{End}
 use Rattle.contract_parse.specs.declared.faults.TextKind.{TextKind}
 use Rattle.contract_parse.proofs.Parts.{followed_by}
 use Rattle.contract_parse.proofs.LinesTaken.{Heads, behind_templates}

@@ -71,7 +71,7 @@ sort_in sort d (Ok j) i within h = elim (cases_Bool (sort (label_of d j))) [
   | inr other ↦ let e = rw other at h in absurd cc
 ]
 
--- a declared name of a map has its place in it
+-- a declared name of a map has an index in it
 use_in : {V : Type 0} (entries : List (Bytes × V)) (t : Tok) (i : ℕ) → use_at (keys_of entries) t ≡ Ok i → i < length entries
 use_in {V = V} entries t i e =
     subst (λ (n : ℕ). i < n) (length-map entries (λ (entry : Bytes × V). entry.0)) (use_within (keys_of entries) t i e)

@@ -10,7 +10,7 @@ pub mod PlanJudgements
 pub mod PlanHeads
 pub mod PlanBooks
 pub mod PlanSpelling
-pub mod PlanPlaces
+pub mod PlanExpecting
 pub mod PlanReading
 pub mod PlanTexts
 pub mod LawsTexts

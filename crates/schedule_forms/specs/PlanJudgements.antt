@@ -1,4 +1,4 @@
--- What one token is at a place of a plan that no portfolio has, or the kind of its fault: a number from 1 on, a number of
+-- What one token is where a plan expects what no portfolio has, or the kind of its fault: a number from 1 on, a number of
 -- payments that end in time, and a declared observable of a sort.
 use Rattle.std.specs.Prelude.{ℕ, zero, suc, ◌+◌, ◌-◌, ◌*◌, Bool, true, false, Option, Some, Result, Ok, Err, nat_le, if◌then◌else◌}
 use Rattle.std.specs.Map.{keys_of}

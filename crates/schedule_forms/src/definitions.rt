@@ -4,11 +4,11 @@ ghost use Rattle.indexmap.specs.IndexMap.{index_map_len, keys};
 ghost use Rattle.indexmap.specs.IndexSet.{index_set_len};
 ghost use Rattle.term_core.specs.Limits.{greatest_offset, most_days};
 ghost use Rattle.term_core.specs.Declarations.{declarations};
-ghost use Rattle.contract_parse.specs.Places.{IntegerAt, ModeAt, UseOf};
+ghost use Rattle.contract_parse.specs.Expecting.{IntegerAt, ModeAt, UseOf};
 ghost use Rattle.contract_parse.specs.Spelling.{◌⨟◌, word};
 ghost use Rattle.contract_parse.specs.Readers.{Reads, behind_word};
 ghost use Rattle.schedule_forms.specs.PlanSpelling.{cover_part, days_part, definition_part, every_part, first_part, flag_part, head_of, leg_part, named_by, notional_part, observed_part, rounding_part, route_part, size_part, times_part};
-ghost use Rattle.schedule_forms.specs.PlanPlaces.{DecimalAt, EveryAt, FirstAt, FlagAt, NumberLabelAt, SizeAt, TimesAt, Token, definition_places, fixing_places, guard_places, leg_places, route_places, the_mark, the_word};
+ghost use Rattle.schedule_forms.specs.PlanExpecting.{DecimalAt, EveryAt, FirstAt, FlagAt, NumberLabelAt, SizeAt, TimesAt, Token, definition_expected, fixing_expected, guard_expected, leg_expected, route_expected, the_mark, the_word};
 ghost use Rattle.schedule_forms.specs.PlanReading.{LeadsPlan, PassesPlan};
 
 use crate::heads::PlanHead;
@@ -17,14 +17,14 @@ use crate::readers::{
     read_asset, read_count, read_decimal, read_first_day, read_flag, read_integer, read_interval,
     read_mode, read_number_label, read_party, skip_mark, skip_word,
 };
-use contract_parse::{ReadErr, after_word, look};
+use contract_parse::{PartErr, after_word, look};
 use decimal::{Decimal, Mode};
 use indexmap::{IndexMap, IndexSet};
 use term_core::{Decls, GREATEST_OFFSET, Name};
 
 // How a size is rounded.
 #[tactic(auto, using(contract_parse::proofs::Parts::followed_by))]
-fn read_rounding(rest: &[u8]) -> Result<(Mode, u8, &[u8]), ReadErr>
+fn read_rounding(rest: &[u8]) -> Result<(Mode, u8, &[u8]), PartErr>
     ensures reads { Reads (PassesPlan (λ ps. the_mark (codes "(") ∷ Token ModeAt
         ∷ the_mark (codes ",") ∷ Token (IntegerAt 27) ∷ ps))
         (λ r. rounding_part r.0 r.1) (λ r. r.2.now) rest.now result }
@@ -38,7 +38,7 @@ fn read_rounding(rest: &[u8]) -> Result<(Mode, u8, &[u8]), ReadErr>
 
 // What is observed, and how many days before.
 #[tactic(auto, using(contract_parse::proofs::Parts::followed_by))]
-fn read_observed<'a>(decls: &Decls, rest: &'a [u8]) -> Result<(u32, u32, &'a [u8]), ReadErr>
+fn read_observed<'a>(decls: &Decls, rest: &'a [u8]) -> Result<(u32, u32, &'a [u8]), PartErr>
     ensures reads { Reads (PassesPlan (λ ps. the_mark (codes ",")
         ∷ NumberLabelAt (declarations decls.now) ∷ the_mark (codes ",")
         ∷ Token (IntegerAt greatest_offset) ∷ ps))
@@ -53,7 +53,7 @@ fn read_observed<'a>(decls: &Decls, rest: &'a [u8]) -> Result<(u32, u32, &'a [u8
 
 // A notional, to the end of its size.
 #[tactic(auto, using(contract_parse::proofs::Parts::followed_by))]
-fn read_notional(rest: &[u8]) -> Result<(Decimal, &[u8]), ReadErr>
+fn read_notional(rest: &[u8]) -> Result<(Decimal, &[u8]), PartErr>
     ensures reads { Reads (PassesPlan
         (λ ps. the_mark (codes ",") ∷ DecimalAt ∷ the_mark (codes ")") ∷ ps))
         (λ r. notional_part r.0.mant r.0.scale) (λ r. r.1.now) rest.now result }
@@ -66,8 +66,8 @@ fn read_notional(rest: &[u8]) -> Result<(Decimal, &[u8]), ReadErr>
 
 // An observed size behind `round`.
 #[tactic(auto, using(contract_parse::proofs::Parts::followed_by))]
-fn read_fixing<'a>(decls: &Decls, rest: &'a [u8]) -> Result<(Size, &'a [u8]), ReadErr>
-    ensures reads { Reads (PassesPlan (λ ps. fixing_places (declarations decls.now) ps))
+fn read_fixing<'a>(decls: &Decls, rest: &'a [u8]) -> Result<(Size, &'a [u8]), PartErr>
+    ensures reads { Reads (PassesPlan (λ ps. fixing_expected (declarations decls.now) ps))
         (λ r. behind_word (codes "round") (size_part (declarations decls.now) r.0))
         (λ r. r.1.now) rest.now result }
 {
@@ -86,7 +86,7 @@ fn read_fixing<'a>(decls: &Decls, rest: &'a [u8]) -> Result<(Size, &'a [u8]), Re
 }
 
 // A size.
-fn read_size<'a>(decls: &Decls, rest: &'a [u8]) -> Result<(Size, &'a [u8]), ReadErr>
+fn read_size<'a>(decls: &Decls, rest: &'a [u8]) -> Result<(Size, &'a [u8]), PartErr>
     ensures reads { Reads (PassesPlan (λ ps. SizeAt (declarations decls.now) ∷ ps))
         (λ r. size_part (declarations decls.now) r.0) (λ r. r.1.now) rest.now result }
 {
@@ -109,7 +109,7 @@ fn read_party_behind<'a>(
     wanted: &[u8],
     parties: &IndexSet<Name>,
     rest: &'a [u8],
-) -> Result<(u32, &'a [u8]), ReadErr>
+) -> Result<(u32, &'a [u8]), PartErr>
     requires { index_set_len parties.now < 2 ^ 32 }
     ensures reads { Reads (PassesPlan
         (λ ps. the_word wanted.now ∷ Token (UseOf parties.now.keys) ∷ ps))
@@ -121,7 +121,7 @@ fn read_party_behind<'a>(
 
 // What is paid, behind its word.
 #[tactic(auto, using(contract_parse::proofs::Parts::followed_by))]
-fn read_paid<'a>(assets: &IndexMap<Name, u8>, rest: &'a [u8]) -> Result<(u32, &'a [u8]), ReadErr>
+fn read_paid<'a>(assets: &IndexMap<Name, u8>, rest: &'a [u8]) -> Result<(u32, &'a [u8]), PartErr>
     requires { index_map_len assets.now < 2 ^ 32 }
     ensures reads { Reads (PassesPlan
         (λ ps. the_word (codes "of") ∷ Token (UseOf (keys assets.now)) ∷ ps))
@@ -133,8 +133,8 @@ fn read_paid<'a>(assets: &IndexMap<Name, u8>, rest: &'a [u8]) -> Result<(u32, &'
 
 // What is paid, by whom and to whom.
 #[tactic(auto, using(contract_parse::proofs::Parts::followed_by))]
-fn read_route<'a>(decls: &Decls, rest: &'a [u8]) -> Result<(u32, u32, u32, &'a [u8]), ReadErr>
-    ensures reads { Reads (PassesPlan (λ ps. route_places (declarations decls.now) ps))
+fn read_route<'a>(decls: &Decls, rest: &'a [u8]) -> Result<(u32, u32, u32, &'a [u8]), PartErr>
+    ensures reads { Reads (PassesPlan (λ ps. route_expected (declarations decls.now) ps))
         (λ r. route_part (declarations decls.now) r.0 r.1 r.2) (λ r. r.3.now) rest.now result }
 {
     let (asset, rest) = read_paid(&decls.assets, rest)?;
@@ -145,7 +145,7 @@ fn read_route<'a>(decls: &Decls, rest: &'a [u8]) -> Result<(u32, u32, u32, &'a [
 
 // The first day of at most so many payments.
 #[tactic(auto, using(contract_parse::proofs::Parts::followed_by))]
-fn read_first(most: u32, rest: &[u8]) -> Result<(u32, &[u8]), ReadErr>
+fn read_first(most: u32, rest: &[u8]) -> Result<(u32, &[u8]), PartErr>
     ensures reads { Reads (LeadsPlan (λ ps. the_word (codes "first") ∷ FirstAt most ∷ ps)
         (λ r ps. the_word (codes "every") ∷ EveryAt most r.0 ∷ ps)) (λ r. first_part r.0)
         (λ r. r.1.now) rest.now result }
@@ -157,7 +157,7 @@ fn read_first(most: u32, rest: &[u8]) -> Result<(u32, &[u8]), ReadErr>
 
 // The days from one payment to the next.
 #[tactic(auto, using(contract_parse::proofs::Parts::followed_by))]
-fn read_every(most: u32, first: u32, rest: &[u8]) -> Result<(u32, &[u8]), ReadErr>
+fn read_every(most: u32, first: u32, rest: &[u8]) -> Result<(u32, &[u8]), PartErr>
     ensures reads { Reads (LeadsPlan (λ ps. the_word (codes "every") ∷ EveryAt most first ∷ ps)
         (λ r ps. the_word (codes "times") ∷ TimesAt most first r.0 ∷ ps)) (λ r. every_part r.0)
         (λ r. r.1.now) rest.now result }
@@ -169,7 +169,7 @@ fn read_every(most: u32, first: u32, rest: &[u8]) -> Result<(u32, &[u8]), ReadEr
 
 // How many payments there are.
 #[tactic(auto, using(contract_parse::proofs::Parts::followed_by))]
-fn read_times(most: u32, first: u32, every: u32, rest: &[u8]) -> Result<(u32, &[u8]), ReadErr>
+fn read_times(most: u32, first: u32, every: u32, rest: &[u8]) -> Result<(u32, &[u8]), PartErr>
     requires first { first ≤ most_days }
     requires every { every ≤ most_days }
     requires most { most ≤ 5_000 }
@@ -183,7 +183,7 @@ fn read_times(most: u32, first: u32, every: u32, rest: &[u8]) -> Result<(u32, &[
 
 // The days of at most so many payments.
 #[tactic(auto, using(contract_parse::proofs::Parts::followed_by))]
-fn read_days(most: u32, rest: &[u8]) -> Result<(u32, u32, u32, &[u8]), ReadErr>
+fn read_days(most: u32, rest: &[u8]) -> Result<(u32, u32, u32, &[u8]), PartErr>
     requires most { most ≤ 5_000 }
     ensures reads { Reads (PassesPlan (λ ps. the_word (codes "first") ∷ FirstAt most ∷ ps))
         (λ r. days_part most r.0 r.1 r.2) (λ r. r.3.now) rest.now result }
@@ -196,9 +196,9 @@ fn read_days(most: u32, rest: &[u8]) -> Result<(u32, u32, u32, &[u8]), ReadErr>
 
 // A leg of at most so many payments.
 #[tactic(auto, using(contract_parse::proofs::Parts::followed_by))]
-fn read_leg<'a>(decls: &Decls, most: u32, rest: &'a [u8]) -> Result<(Leg, &'a [u8]), ReadErr>
+fn read_leg<'a>(decls: &Decls, most: u32, rest: &'a [u8]) -> Result<(Leg, &'a [u8]), PartErr>
     requires most { most ≤ 5_000 }
-    ensures reads { Reads (PassesPlan (λ ps. leg_places (declarations decls.now) most ps))
+    ensures reads { Reads (PassesPlan (λ ps. leg_expected (declarations decls.now) most ps))
         (λ r. leg_part (declarations decls.now) most r.0) (λ r. r.1.now) rest.now result }
 {
     let (size, rest) = read_size(decls, rest)?;
@@ -218,9 +218,9 @@ fn read_leg<'a>(decls: &Decls, most: u32, rest: &'a [u8]) -> Result<(Leg, &'a [u
 
 // Two legs, one against the other.
 #[tactic(auto, using(contract_parse::proofs::Parts::followed_by))]
-fn read_swap<'a>(decls: &Decls, rest: &'a [u8]) -> Result<(Plan, &'a [u8]), ReadErr>
+fn read_swap<'a>(decls: &Decls, rest: &'a [u8]) -> Result<(Plan, &'a [u8]), PartErr>
     ensures reads { Reads (PassesPlan
-        (λ ps. definition_places (declarations decls.now) PlanHead.Swap ps))
+        (λ ps. definition_expected (declarations decls.now) PlanHead.Swap ps))
         (λ r. definition_part (declarations decls.now) r.0) (λ r. r.1.now) rest.now result }
     ensures head { IfOk result (λ r. head_of r.0 ≡ PlanHead.Swap) }
 {
@@ -232,7 +232,7 @@ fn read_swap<'a>(decls: &Decls, rest: &'a [u8]) -> Result<(Plan, &'a [u8]), Read
 
 // The flag that ends a leg.
 #[tactic(auto, using(contract_parse::proofs::Parts::followed_by))]
-fn read_ending_flag<'a>(decls: &Decls, rest: &'a [u8]) -> Result<(u32, &'a [u8]), ReadErr>
+fn read_ending_flag<'a>(decls: &Decls, rest: &'a [u8]) -> Result<(u32, &'a [u8]), PartErr>
     ensures reads { Reads (PassesPlan
         (λ ps. the_word (codes "until") ∷ FlagAt (declarations decls.now) ∷ ps))
         (λ r. flag_part (declarations decls.now) r.0) (λ r. r.1.now) rest.now result }
@@ -243,7 +243,7 @@ fn read_ending_flag<'a>(decls: &Decls, rest: &'a [u8]) -> Result<(u32, &'a [u8])
 
 // What it covers.
 #[tactic(auto, using(contract_parse::proofs::Parts::followed_by))]
-fn read_cover(rest: &[u8]) -> Result<(Decimal, &[u8]), ReadErr>
+fn read_cover(rest: &[u8]) -> Result<(Decimal, &[u8]), PartErr>
     ensures reads { Reads (PassesPlan (λ ps. the_word (codes "covers") ∷ DecimalAt ∷ ps))
         (λ r. cover_part r.0.mant r.0.scale) (λ r. r.1.now) rest.now result }
 {
@@ -253,9 +253,9 @@ fn read_cover(rest: &[u8]) -> Result<(Decimal, &[u8]), ReadErr>
 
 // A leg, and the flag that ends it.
 #[tactic(auto, using(contract_parse::proofs::Parts::followed_by))]
-fn read_guarded<'a>(decls: &Decls, rest: &'a [u8]) -> Result<(Plan, &'a [u8]), ReadErr>
+fn read_guarded<'a>(decls: &Decls, rest: &'a [u8]) -> Result<(Plan, &'a [u8]), PartErr>
     ensures reads { Reads (PassesPlan
-        (λ ps. definition_places (declarations decls.now) PlanHead.Guarded ps))
+        (λ ps. definition_expected (declarations decls.now) PlanHead.Guarded ps))
         (λ r. definition_part (declarations decls.now) r.0) (λ r. r.1.now) rest.now result }
     ensures head { IfOk result (λ r. head_of r.0 ≡ PlanHead.Guarded) }
 {
@@ -276,8 +276,8 @@ pub fn read_definition<'a>(
     head: PlanHead,
     decls: &Decls,
     rest: &'a [u8],
-) -> Result<(Plan, &'a [u8]), ReadErr>
-    ensures reads { Reads (PassesPlan (λ ps. definition_places (declarations decls.now) head ps))
+) -> Result<(Plan, &'a [u8]), PartErr>
+    ensures reads { Reads (PassesPlan (λ ps. definition_expected (declarations decls.now) head ps))
         (λ r. definition_part (declarations decls.now) r.0) (λ r. r.1.now) rest.now result }
     ensures head { IfOk result (λ r. head_of r.0 ≡ head) }
 {

@@ -1,4 +1,4 @@
-//! What one token is at a place of a plan that no portfolio has, or the kind of its fault.
+//! What one token is where a plan expects what no portfolio has, or the kind of its fault.
 ghost use Rattle.std.specs.Prelude.{◌≡◌, ◌≤◌, ◌<◌, ◌+◌, ◌-◌, ◌*◌, IfOk};
 ghost use Rattle.std.specs.Map.{keys_of};
 ghost use Rattle.term_core.specs.Limits.{most_days};

@@ -9,14 +9,14 @@ ghost use Rattle.contract_parse.specs.Statements.{Entry, Repeat};
 ghost use Rattle.contract_parse.specs.Readers.{Reads, ReadsAhead, ahead_from, behind_word};
 ghost use Rattle.schedule_forms.specs.PlanHeads.{word_of};
 ghost use Rattle.schedule_forms.specs.PlanSpelling.{definition_part, head_of, plan_line};
-ghost use Rattle.schedule_forms.specs.PlanPlaces.{NewPlan, PlanLines, definition_places, line_places, the_mark};
+ghost use Rattle.schedule_forms.specs.PlanExpecting.{NewPlan, PlanLines, definition_expected, line_expected, the_mark};
 ghost use Rattle.schedule_forms.specs.PlanReading.{NamesPlans, PassesPlan};
 
 use crate::definitions::read_definition;
 use crate::heads::{PlanHead, head_ahead};
 use crate::plans::Plan;
 use crate::readers::skip_mark;
-use contract_parse::{Lookahead, ReadErr, look, read_new_name};
+use contract_parse::{Lookahead, PartErr, look, read_new_name};
 use indexmap::IndexMap;
 use std::alloc::Global;
 use term_core::{Decls, Name};
@@ -26,7 +26,7 @@ fn read_name<'a>(
     alloc: Global,
     plans: &IndexMap<Name, Plan>,
     rest: &'a [u8],
-) -> Result<(Name, &'a [u8]), ReadErr>
+) -> Result<(Name, &'a [u8]), PartErr>
     ensures reads { Reads (NamesPlans (keys plans.now) (λ r. keys plans.now ++ r.0 ∷ [])
         (λ ps. NewPlan ∷ ps)) (λ r. valued (new_at (keys plans.now)) r.0)
         (λ r. r.1.now) rest.now result }
@@ -41,9 +41,9 @@ fn read_definition_line<'a>(
     head: PlanHead,
     decls: &Decls,
     rest: &'a [u8],
-) -> Result<(Plan, &'a [u8]), ReadErr>
+) -> Result<(Plan, &'a [u8]), PartErr>
     ensures reads { Reads (PassesPlan (λ ps. the_mark (codes "=")
-        ∷ definition_places (declarations decls.now) head (the_mark (codes ";") ∷ ps)))
+        ∷ definition_expected (declarations decls.now) head (the_mark (codes ";") ∷ ps)))
         (λ r. mark (codes "=") ⨟ definition_part (declarations decls.now) r.0 ⨟ mark (codes ";"))
         (λ r. r.1.now) rest.now result }
     ensures head { IfOk result (λ r. head_of r.0 ≡ head) }
@@ -62,9 +62,9 @@ fn read_plan_line<'a>(
     decls: &Decls,
     plans: &mut IndexMap<Name, Plan>,
     rest: &'a [u8],
-) -> Result<&'a [u8], ReadErr>
+) -> Result<&'a [u8], PartErr>
     ensures reads { Reads (NamesPlans (keys plans.old) (λ r. keys plans.new)
-        (λ ps. line_places (declarations decls.now) head ps))
+        (λ ps. line_expected (declarations decls.now) head ps))
         (λ r. behind_word (word_of head)
         (Entry (plan_line (declarations decls.now)) plans.old.entries plans.new.entries))
         (λ r. r.now) rest.now result }
@@ -81,7 +81,7 @@ pub fn read_plans<'a>(
     alloc: Global,
     decls: &Decls,
     ahead: &Lookahead<'a>,
-) -> Result<(IndexMap<Name, Plan>, Lookahead<'a>), ReadErr>
+) -> Result<(IndexMap<Name, Plan>, Lookahead<'a>), PartErr>
     ensures reads { ReadsAhead (NamesPlans [] (λ r. keys r.0)
         (λ ps. PlanLines (declarations decls.now) ∷ ps))
         (λ r. Repeat (Entry (plan_line (declarations decls.now))) [] r.0.entries)

@@ -8,16 +8,16 @@ ghost use Rattle.contract_parse.specs.Names.{declared_by, nothing_declared};
 ghost use Rattle.contract_parse.specs.Judgements.{is_version};
 ghost use Rattle.contract_parse.specs.Spelling.{mark, one, word, ◌⨟◌};
 ghost use Rattle.contract_parse.specs.Statements.{decls};
-ghost use Rattle.contract_parse.specs.Places.{TheMark, TheVersion, TheWord};
+ghost use Rattle.contract_parse.specs.Expecting.{TheMark, TheVersion, TheWord};
 ghost use Rattle.contract_parse.specs.Readers.{Extends, PassesAnywhere, Reads, ReadsAhead, ahead_from, ahead_in};
 ghost use Rattle.schedule_forms.specs.PlanSpelling.{first_line};
 ghost use Rattle.schedule_forms.specs.DeclaredPlans.{IsPlanOfTexts};
-ghost use Rattle.schedule_forms.specs.PlanTexts.{PlanAnswers, ReadsPlans, heading_places};
+ghost use Rattle.schedule_forms.specs.PlanTexts.{PlanAnswers, ReadsPlans, heading_expected};
 
 use crate::lines::read_plans;
 use crate::plan_file::PlanFile;
 use contract_parse::{
-    Lookahead, ParseErr, ReadErr, fault_at, read_decls, read_end, skip_mark, skip_version,
+    Lookahead, ParseErr, PartErr, fault_at, read_decls, read_end, skip_mark, skip_version,
     skip_word, start_text,
 };
 use std::alloc::Global;
@@ -25,7 +25,7 @@ use term_core::Decls;
 
 // The first line.
 #[tactic(auto, using(contract_parse::proofs::Parts::followed_by))]
-fn skip_first_line(rest: &[u8]) -> Result<&[u8], ReadErr>
+fn skip_first_line(rest: &[u8]) -> Result<&[u8], PartErr>
     ensures reads { Reads (PassesAnywhere
         (λ ps. TheWord (codes "schedules") ∷ TheVersion ∷ TheMark (codes ";") ∷ ps))
         (λ r. word (codes "schedules") ⨟ one is_version ⨟ mark (codes ";"))
@@ -38,11 +38,11 @@ fn skip_first_line(rest: &[u8]) -> Result<&[u8], ReadErr>
 }
 
 // The first line and the declarations, and the token that comes next.
-fn read_heading<'a>(alloc: Global, bytes: &'a [u8]) -> Result<(Decls, Lookahead<'a>), ReadErr>
+fn read_heading<'a>(alloc: Global, bytes: &'a [u8]) -> Result<(Decls, Lookahead<'a>), PartErr>
     requires { length bytes.now ≤ longest_file }
     ensures version { IfOk result (λ r. r.0.version ≡ 1) }
     ensures reads { ReadsAhead (Extends nothing_declared
-        (λ r. declared_by (declarations r.0) []) heading_places)
+        (λ r. declared_by (declarations r.0) []) heading_expected)
         (λ r. first_line ⨟ decls (declarations r.0))
         (λ r. ahead_from r.1) (ahead_in bytes.now) result }
 {
@@ -51,7 +51,7 @@ fn read_heading<'a>(alloc: Global, bytes: &'a [u8]) -> Result<(Decls, Lookahead<
 }
 
 // The schedule file, or the first token that is refused.
-fn read_plan_file(alloc: Global, bytes: &[u8]) -> Result<PlanFile, ReadErr>
+fn read_plan_file(alloc: Global, bytes: &[u8]) -> Result<PlanFile, PartErr>
     requires { length bytes.now ≤ longest_file }
     ensures reads { ReadsPlans (tokens bytes.now) result }
     ensures version { IfOk result (λ file. file.decls.version ≡ 1) }
@@ -74,10 +74,10 @@ pub fn parse_plans(alloc: Global, bytes: &[u8]) -> Result<PlanFile, ParseErr>
     }
     match read_plan_file(alloc, bytes) {
         Ok(file) => Ok(file),
-        Err(ReadErr::Refused(refusal)) => {
+        Err(PartErr::Refused(refusal)) => {
             let at = bytes.len().saturating_sub(refusal.left);
             Err(ParseErr::Text(fault_at(bytes, refusal.kind, at)))
         }
-        Err(ReadErr::NoMemory) => Err(ParseErr::NoMemory),
+        Err(PartErr::NoMemory) => Err(ParseErr::NoMemory),
     }
 }

@@ -36,8 +36,9 @@ fn two(a: u8, b: u8) -> Option<u8>
     Some(10 * x + y)
 }
 
+/// The numbers of a text `dddd-dd-dd`, which need not be those of a day.
 #[tactic(auto, unfolding(crate::specs::Dates::parts_of))]
-fn ten_parts(text: &[u8; 10]) -> Option<Ymd>
+pub fn date_parts(text: &[u8; 10]) -> Option<Ymd>
     ensures value { option_map (λ p. record { year = p.year; month = p.month; day = p.day }) result
         ≡ parts_of text.now }
     ensures bound { IfSome result (λ p. (p.year ≤ 9999) × (p.month ≤ 99) × (p.day ≤ 99)) }
@@ -65,7 +66,7 @@ fn parts(text: &[u8]) -> Option<Ymd>
     ensures bound { IfSome result (λ p. (p.year ≤ 9999) × (p.month ≤ 99) × (p.day ≤ 99)) }
 {
     match text {
-        [a, b, c, d, h, e, f, i, g, j] => ten_parts(&[*a, *b, *c, *d, *h, *e, *f, *i, *g, *j]),
+        [a, b, c, d, h, e, f, i, g, j] => date_parts(&[*a, *b, *c, *d, *h, *e, *f, *i, *g, *j]),
         _ => None,
     }
 }

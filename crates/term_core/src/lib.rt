@@ -38,7 +38,7 @@ mod trying;
 mod values;
 
 pub use closed::{has_only_numbers, is_closed};
-pub use dates::{date_text, epoch_day};
+pub use dates::{Ymd, date_parts, date_text, epoch_day};
 pub use days::{day_read, days_earlier, days_later};
 pub use decls::Decls;
 pub use instances::instantiate;

@@ -3,7 +3,7 @@
 /// The last day on which contracts may stand, as declared or after an advance.
 pub const LAST_START: u32 = 1_000_000;
 
-/// The greatest day count, and the greatest number of a template.
+/// The greatest day count, the greatest number of a template, and the greatest reach of a contract.
 pub const MOST_DAYS: u32 = 100_000;
 
 /// The greatest offset of an observable. The least is its opposite.

@@ -5,6 +5,7 @@ use Rattle.term_core.specs.Declarations.{declarations}
 use Rattle.expr_eval.specs.Standing.{place_of}
 use Rattle.payoff_lang.specs.Code.{payoff_code}
 use Rattle.payoff_eval.specs.Questions.{IsQuestion, asked_on}
+use Rattle.payoff_eval.proofs.NodeFacts.{height_of_accepted}
 use Rattle.command_answers.specs.ValuePromise.{missing_of_code}
 use Rattle.command_answers.specs.ValueParts.{inquiry_of}
 use Rattle.command_answers.proofs.DayFacts.{fits_day}
@@ -24,6 +25,12 @@ value-requires-clause-question c =
     let h = c.requires.asks.is_question curve in
     let same : to_z w64 (of_z w64 day) ≡ day = to_z-of_z w64 day (fits_day day (let low = h.begun in omega (arith, ints)) h.near) in
     subst (λ (t : ℤ). IsQuestion d (asked_on curve t p.from p.to p.asset)) (sym same) h
+
+pub value-requires-clause-room : goal.value-requires-clause-room
+value-requires-clause-room c =
+    let d = declarations c.args.file.now.decls in
+    let low = height_of_accepted d c.args.asking.now.setting.days.items (payoff_code c.args.file.now.code) c.requires.asks.accepted in
+    omega (arith, low, c.in_ok-scratch.ensures)
 
 pub returns : goal.returns
 returns c =

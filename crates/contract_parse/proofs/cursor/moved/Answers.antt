@@ -1,6 +1,6 @@
 use Rattle.std.proofs.Common.{◌≡◌, ◌+◌, ◌∙◌, ap, arith}
 use Rattle.contract_parse.specs.Cursors.{Position}
-use Rattle.contract_parse.proofs.LinePlaces.{behind_feed, behind_other, column_small}
+use Rattle.contract_parse.proofs.LinePositions.{behind_feed, behind_other, column_small}
 use Rattle.contract_parse.proofs.cursor.moved.Goals as goal
 use Rattle.contract_parse.proofs.cursor.moved.Goals.{then-b-eq10, else-b-eq10}
 

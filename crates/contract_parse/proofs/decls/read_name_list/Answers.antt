@@ -1,7 +1,7 @@
 use Rattle.std.proofs.Common.{◌∙◌, ◌∷◌, Bool, ap, arith, rules}
 use Rattle.contract_parse.specs.Tokens.{tokens}
 use Rattle.contract_parse.specs.Names.{with_names}
-use Rattle.contract_parse.specs.Places.{list_places, MoreNames, run}
+use Rattle.contract_parse.specs.Expecting.{list_expected, MoreNames, run}
 use Rattle.contract_parse.specs.Statements.{none, more}
 use Rattle.contract_parse.proofs.Parts.{followed_by}
 use Rattle.contract_parse.proofs.LineFacts.{is_comma, is_semicolon}
@@ -25,7 +25,7 @@ loop-comma-preserved c = record {
       let here = with_names set c.loop-comma.names.keys s in
       c.loop-comma.invariant.follows set s ps
       ∙ c.in_ok-comma.ensures.reads.follows set here ps
-      ∙ ap (λ (comma : Bool). run here (list_places set comma ps) (tokens c.in_ok-comma.after.now)) c.if-not-comma.false
+      ∙ ap (λ (comma : Bool). run here (list_expected set comma ps) (tokens c.in_ok-comma.after.now)) c.if-not-comma.false
       ∙ c.in_ok-rest-2.ensures.reads.follows set s (MoreNames set ∷ ps);
   spelled = λ after end x.
       let comma = is_comma c.in_ok-comma.comma (tokens c.loop-comma.rest.now) (tokens c.in_ok-comma.after.now) c.if-not-comma.false c.in_ok-comma.ensures.reads.spelled in

@@ -2,7 +2,7 @@ use Rattle.std.proofs.Common.{◌∙◌, ◌∷◌, List, ap, length, refl, subs
 use Rattle.contract_parse.specs.Tokens.{Tok, tokens}
 use Rattle.contract_parse.specs.Names.{with_names}
 use Rattle.contract_parse.specs.Reading.{tokens_ahead}
-use Rattle.contract_parse.specs.Places.{MoreNames, NameLines, NewIn, run}
+use Rattle.contract_parse.specs.Expecting.{MoreNames, NameLines, NewIn, run}
 use Rattle.contract_parse.specs.Statements.{Repeat, name_line, none, more}
 use Rattle.contract_parse.proofs.Parts.{followed_by}
 use Rattle.contract_parse.proofs.LineFacts.{line_absent, line_opens}

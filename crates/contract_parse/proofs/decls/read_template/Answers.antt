@@ -5,7 +5,7 @@ use Rattle.std.specs.Map.{keys_of}
 use Rattle.contract_parse.specs.Tokens.{tokens}
 use Rattle.contract_parse.specs.Words.{Bytes}
 use Rattle.contract_parse.specs.Names.{with_names}
-use Rattle.contract_parse.specs.Places.{IntegerAt, TheMark, run}
+use Rattle.contract_parse.specs.Expecting.{IntegerAt, TheMark, run}
 use Rattle.contract_parse.specs.declared.names.NameSet.TheVariants.{Template}
 use Rattle.contract_parse.proofs.EntryFacts.{all_inserted}
 use Rattle.contract_parse.proofs.Parts.{followed_by}

@@ -6,13 +6,13 @@ use Rattle.contract_parse.specs.Words.{Bytes}
 use Rattle.contract_parse.specs.Reading.{tokens_ahead}
 use Rattle.contract_parse.specs.Names.{DeclaredNames, with_names}
 use Rattle.contract_parse.specs.Statements.{Entry, Repeat, template_line}
-use Rattle.contract_parse.specs.Places.{Place, TemplateLines, run}
+use Rattle.contract_parse.specs.Expecting.{Expected, TemplateLines, run}
 use Rattle.contract_parse.specs.declared.names.NameSet.TheVariants.{Template}
 use Rattle.contract_parse.proofs.decls.read_templates.Given as goal
 
 abbrev pub invariant-loop-after : goal.invariant-loop-after
 invariant-loop-after l = record {
-  follows : (s : DeclaredNames) (ps : List Place) → run (with_names Template [] s) (TemplateLines ∷ ps) (tokens_ahead l.fn.ahead) ≡ run (with_names Template (keys l.templates) s) (TemplateLines ∷ ps) (tokens_ahead l.ahead);
+  follows : (s : DeclaredNames) (ps : List Expected) → run (with_names Template [] s) (TemplateLines ∷ ps) (tokens_ahead l.fn.ahead) ≡ run (with_names Template (keys l.templates) s) (TemplateLines ∷ ps) (tokens_ahead l.ahead);
   spelled : (after : List (Bytes × ℕ)) (end : List Tok) → Repeat (Entry template_line) l.templates.entries after (tokens_ahead l.ahead) end → Repeat (Entry template_line) [] after (tokens_ahead l.fn.ahead) end;
   few : index_map_len l.templates + length l.ahead.after.now ≤ length l.fn.ahead.after.now;
   limits : are_numbers l.templates.entries ≡ true;

@@ -3,7 +3,7 @@ use Rattle.indexmap.specs.IndexMap.{keys}
 use Rattle.contract_parse.specs.Tokens.{Tok, tokens}
 use Rattle.contract_parse.specs.Names.{with_names}
 use Rattle.contract_parse.specs.Reading.{tokens_ahead}
-use Rattle.contract_parse.specs.Places.{LabelLines, run}
+use Rattle.contract_parse.specs.Expecting.{LabelLines, run}
 use Rattle.contract_parse.specs.Statements.{Entry, Repeat, label_line, none, more}
 use Rattle.contract_parse.specs.declared.names.NameSet.TheVariants.{Label as LabelSet}
 use Rattle.contract_parse.proofs.LineFacts.{flag_opens, labels_absent, number_opens}

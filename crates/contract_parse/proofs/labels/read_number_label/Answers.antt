@@ -4,7 +4,7 @@ use Rattle.std.specs.Map.{keys_of}
 use Rattle.contract_parse.specs.Tokens.{tokens}
 use Rattle.contract_parse.specs.Words.{Bytes}
 use Rattle.contract_parse.specs.Names.{with_names}
-use Rattle.contract_parse.specs.Places.{ScaleAt, TheMark, run}
+use Rattle.contract_parse.specs.Expecting.{ScaleAt, TheMark, run}
 use Rattle.contract_parse.specs.declared.names.NameSet.TheVariants.{Label as LabelSet}
 use Rattle.contract_parse.proofs.LineFacts.{inserted_entry, inserted_names, number_spelled}
 use Rattle.term_core.specs.Limits.{is_label}

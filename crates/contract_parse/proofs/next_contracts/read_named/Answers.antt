@@ -5,7 +5,7 @@ use Rattle.contract_parse.specs.Versions.{version_of}
 use Rattle.contract_parse.specs.Words.{Bytes}
 use Rattle.contract_parse.specs.Judgements.{new_at}
 use Rattle.contract_parse.specs.Spelling.{valued}
-use Rattle.contract_parse.specs.Places.{ContrAt, TheMark}
+use Rattle.contract_parse.specs.Expecting.{ContrAt, TheMark}
 use Rattle.contract_parse.specs.Reading.{declared_in, tok_of, tokens_after}
 use Rattle.contract_parse.specs.declared.names.NameSet.TheVariants.{Contract}
 use Rattle.contract_parse.proofs.NextFacts.{new_name_is}

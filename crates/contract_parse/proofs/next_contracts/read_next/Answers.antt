@@ -9,7 +9,7 @@ use Rattle.contract_parse.specs.Versions.{version_of}
 use Rattle.contract_parse.specs.Words.{Bytes}
 use Rattle.contract_parse.specs.Names.{declared_by}
 use Rattle.contract_parse.specs.Statements.{named_contract, none}
-use Rattle.contract_parse.specs.Places.{TheEnd, contract_places, places_behind, run}
+use Rattle.contract_parse.specs.Expecting.{TheEnd, contract_expected, expected_behind, run}
 use Rattle.contract_parse.specs.Reading.{tokens_ahead}
 use Rattle.contract_parse.proofs.LineFacts.{keys_added, line_absent, line_opens, new_absent}
 use Rattle.contract_parse.proofs.NextFacts.{one_further, sound_contract}
@@ -35,9 +35,9 @@ returns-in_ok-next-in-Some-clause-next c = λ bytes entries so_far.
         named = keys_added entries name tree ∙ ap (λ (ns : List Bytes). ns ++ name ∷ []) so_far.named ∙ sym c.in_ok-next-in-Some.ensures.added;
         follows =
             so_far.follows
-            ∙ line_opens (declared_by d old.names.keys) (codes "contract") (places_behind v) (contract_places v (places_behind v)) (TheEnd ∷ []) (λ t. refl) (tokens_ahead old.ahead) (tokens behind) c.in-Some.ensures.found
-            ∙ c.in_ok-next-in-Some.ensures.reads.follows (places_behind v)
-            ∙ ap (run (declared_by d c.read_named.new.names.keys) (places_behind v)) (sym c.look-reader.ensures.same);
+            ∙ line_opens (declared_by d old.names.keys) (codes "contract") (expected_behind v) (contract_expected v (expected_behind v)) (TheEnd ∷ []) (λ t. refl) (tokens_ahead old.ahead) (tokens behind) c.in-Some.ensures.found
+            ∙ c.in_ok-next-in-Some.ensures.reads.follows (expected_behind v)
+            ∙ ap (run (declared_by d c.read_named.new.names.keys) (expected_behind v)) (sym c.look-reader.ensures.same);
         completed = λ all x. so_far.completed all (one_further d entries all name tree (tokens_ahead old.ahead) (tokens behind) (tokens_ahead c.look-reader.result) rest c.in-Some.ensures.found line c.look-reader.ensures.same x);
       };
       sound = sound_contract d (keys_of entries) name tree behind rest (omega (arith, ap length c.in-Some.ensures.after, so_far.within, so_far.short)) line;
@@ -53,8 +53,8 @@ returns-in_err-next-in-Some-clause-next c = λ bytes entries so_far.
     let old = c.args.reader.now in
     let before =
     so_far.follows
-    ∙ line_opens (declared_by d old.names.keys) (codes "contract") (places_behind v) (contract_places v (places_behind v)) (TheEnd ∷ []) (λ t. refl) (tokens_ahead old.ahead) (tokens c.in-Some.after.now) c.in-Some.ensures.found in
-    rw (p.1, p.2, before) (c.in_err-next-in-Some.ensures.reads.follows (places_behind v))
+    ∙ line_opens (declared_by d old.names.keys) (codes "contract") (expected_behind v) (contract_expected v (expected_behind v)) (TheEnd ∷ []) (λ t. refl) (tokens_ahead old.ahead) (tokens c.in-Some.after.now) c.in-Some.ensures.found in
+    rw (p.1, p.2, before) (c.in_err-next-in-Some.ensures.reads.follows (expected_behind v))
 
 pub returns-in_err-read_end-in-None-clause-next : goal.returns-in_err-read_end-in-None-clause-next
 returns-in_err-read_end-in-None-clause-next c = λ bytes entries so_far.
@@ -64,7 +64,7 @@ returns-in_err-read_end-in-None-clause-next c = λ bytes entries so_far.
     let old = c.args.reader.now in
     let before =
     so_far.follows
-    ∙ line_absent (declared_by d old.names.keys) (codes "contract") (places_behind v) (contract_places v (places_behind v)) (TheEnd ∷ []) (λ t. refl) (tokens_ahead old.ahead) c.in-None.ensures.lacks in
+    ∙ line_absent (declared_by d old.names.keys) (codes "contract") (expected_behind v) (contract_expected v (expected_behind v)) (TheEnd ∷ []) (λ t. refl) (tokens_ahead old.ahead) c.in-None.ensures.lacks in
     rw (p.1, p.2, before) (c.in_err-read_end-in-None.ensures.follows (declared_by d old.names.keys) [])
 
 pub returns-in_ok-read_end-in-None-clause-next : goal.returns-in_ok-read_end-in-None-clause-next

@@ -1,7 +1,7 @@
 use Rattle.std.proofs.Common.{◌≡◌, ◌∙◌, [], List, Err, ap, refl, sym}
 use Rattle.contract_parse.specs.Words.{Bytes}
 use Rattle.contract_parse.specs.Versions.{version_of}
-use Rattle.contract_parse.specs.Places.{places_behind, run}
+use Rattle.contract_parse.specs.Expecting.{expected_behind, run}
 use Rattle.contract_parse.specs.Reading.{declared_in, tokens_ahead}
 use Rattle.contract_parse.specs.NextContracts.{StartsContracts}
 use Rattle.contract_parse.specs.declared.faults.ParseErr.{ParseErr}
@@ -22,7 +22,7 @@ returns-in-Ok c =
       short = c.requires;
       within = c.in-Ok.ensures.within;
       named = none;
-      follows = c.in-Ok.ensures.follows ∙ ap (λ (ns : List Bytes). run (declared_in decls ns) (places_behind (version_of decls.version)) (tokens_ahead c.in-Ok.ahead)) none;
+      follows = c.in-Ok.ensures.follows ∙ ap (λ (ns : List Bytes). run (declared_in decls ns) (expected_behind (version_of decls.version)) (tokens_ahead c.in-Ok.ahead)) none;
       completed = λ all x. four_then (tokens_ahead c.in-Ok.ahead) c.in-Ok.ensures.spelled x;
     }
 

@@ -5,7 +5,7 @@ use Rattle.contract_parse.specs.Versions.{Version, version_of}
 use Rattle.contract_parse.specs.Judgements.{is_the_version}
 use Rattle.contract_parse.specs.Spelling.{one}
 use Rattle.contract_parse.specs.Names.{nothing_declared}
-use Rattle.contract_parse.specs.Places.{TheEnd, places_behind, run}
+use Rattle.contract_parse.specs.Expecting.{TheEnd, expected_behind, run}
 use Rattle.contract_parse.specs.Reading.{declared_in, tokens_ahead}
 use Rattle.contract_parse.proofs.Parts.{followed_by}
 use Rattle.contract_parse.proofs.Passing.{leaves_as, ok_both}
@@ -19,10 +19,10 @@ returns-in_err-version-clause-follows c =
 pub returns-clause-follows : goal.returns-clause-follows
 returns-clause-follows c =
     let v = version_of c.in_ok-version.version in
-    let same = IfOk-weaker c.read_decls.result _ (λ r. run (declared_in r.0 []) (places_behind v) (tokens_ahead r.1) ≡ run (declared_in r.0 []) (places_behind (version_of r.0.version)) (tokens_ahead r.1))
-    (λ r is. ap (λ (w : Version). run (declared_in r.0 []) (places_behind w) (tokens_ahead r.1)) (ap version_of (sym is))) c.read_decls.ensures.version in
+    let same = IfOk-weaker c.read_decls.result _ (λ r. run (declared_in r.0 []) (expected_behind v) (tokens_ahead r.1) ≡ run (declared_in r.0 []) (expected_behind (version_of r.0.version)) (tokens_ahead r.1))
+    (λ r is. ap (λ (w : Version). run (declared_in r.0 []) (expected_behind w) (tokens_ahead r.1)) (ap version_of (sym is))) c.read_decls.ensures.version in
     rw (c.in_ok-version.ensures.reads.follows nothing_declared (TheEnd ∷ []))
-    (leaves_as (λ r. run (declared_in r.0 []) (places_behind v) (tokens_ahead r.1)) (λ r. run (declared_in r.0 []) (places_behind (version_of r.0.version)) (tokens_ahead r.1)) c.read_decls.result _ same (c.read_decls.ensures.reads.follows (places_behind v)))
+    (leaves_as (λ r. run (declared_in r.0 []) (expected_behind v) (tokens_ahead r.1)) (λ r. run (declared_in r.0 []) (expected_behind (version_of r.0.version)) (tokens_ahead r.1)) c.read_decls.result _ same (c.read_decls.ensures.reads.follows (expected_behind v)))
 
 pub returns-clause-spelled : goal.returns-clause-spelled
 returns-clause-spelled c =

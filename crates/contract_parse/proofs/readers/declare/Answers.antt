@@ -1,6 +1,6 @@
 use Rattle.std.proofs.Common.{◌∙◌, List, Ok, refl, sym, ap, rules}
 use Rattle.contract_parse.specs.Judgements.{new_at}
-use Rattle.contract_parse.specs.Places.{run}
+use Rattle.contract_parse.specs.Expecting.{run}
 use Rattle.contract_parse.specs.Reading.{tok_of}
 use Rattle.contract_parse.proofs.Passing.{stopped}
 use Rattle.contract_parse.proofs.Steps.{new_passes, new_refuses, spells}

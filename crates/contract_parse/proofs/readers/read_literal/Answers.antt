@@ -1,6 +1,6 @@
 use Rattle.std.proofs.Common.{◌∷◌, refl, rules}
 use Rattle.contract_parse.specs.Judgements.{literal_at}
-use Rattle.contract_parse.specs.Places.{LiteralNumber, Next}
+use Rattle.contract_parse.specs.Expecting.{LiteralNumber, Next}
 use Rattle.contract_parse.specs.Reading.{tok_of}
 use Rattle.contract_parse.proofs.Passing.{stopped}
 use Rattle.contract_parse.proofs.Steps.{passes, refuses, spells}

@@ -6,7 +6,7 @@ use Rattle.std.proofs.lemmas.Result.{IfOk-weaker}
 use Rattle.contract_parse.specs.Judgements.{offset_at}
 use Rattle.contract_parse.specs.Words.{is_the_mark}
 use Rattle.contract_parse.specs.Tokens.{tokens}
-use Rattle.contract_parse.specs.Places.{OffsetAt, OffsetNumber, Next, judged, step}
+use Rattle.contract_parse.specs.Expecting.{OffsetAt, OffsetNumber, Next, judged, step}
 use Rattle.contract_parse.specs.Reading.{tok_of}
 use Rattle.contract_parse.proofs.Steps.{passes, refuses, so_passes, so_spells, spells}
 use Rattle.contract_parse.proofs.Parts.{followed_by}

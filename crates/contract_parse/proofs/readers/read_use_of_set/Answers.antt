@@ -1,6 +1,6 @@
 use Rattle.std.proofs.Common.{◌∷◌, refl, rules}
 use Rattle.contract_parse.specs.Judgements.{use_at}
-use Rattle.contract_parse.specs.Places.{UseOf, Next}
+use Rattle.contract_parse.specs.Expecting.{UseOf, Next}
 use Rattle.contract_parse.specs.Reading.{tok_of}
 use Rattle.contract_parse.proofs.Passing.{stopped}
 use Rattle.contract_parse.proofs.Steps.{passes, refuses, spells}

@@ -1,6 +1,6 @@
 use Rattle.std.proofs.Common.{◌∷◌, refl, rules}
 use Rattle.contract_parse.specs.Words.{is_the_word}
-use Rattle.contract_parse.specs.Places.{TheWord, Next, Refuse}
+use Rattle.contract_parse.specs.Expecting.{TheWord, Next, Refuse}
 use Rattle.contract_parse.specs.Reading.{tok_of}
 use Rattle.contract_parse.proofs.Passing.{stopped}
 use Rattle.contract_parse.proofs.Steps.{so_passes, so_refuses, so_spells}

@@ -3,18 +3,18 @@ use Rattle.payoff_lang.specs.TemplateDates.{day_of}
 use Rattle.payoff_lang.specs.Code.{value_expression}
 use Rattle.payoff_lang.specs.Dating.{at_setting}
 use Rattle.payoff_check.specs.declared.part_sizes.ValueSize.{ValueSize}
-use Rattle.payoff_check.proofs.DateFreeFacts.{size_any, nodes_plain}
+use Rattle.payoff_check.proofs.DateFreeFacts.{size_any, nodes_undated}
 use Rattle.payoff_check.proofs.ValueSizeFacts.{size_there}
 use Rattle.payoff_check.proofs.size_rule.size_at.Goals as goal
 
 pub size_of_value-requires : goal.size_of_value-requires
 size_of_value-requires c =
-    let same = nodes_plain c.args.setting.now (value_expression c.args.v.now) in
+    let same = nodes_undated c.args.setting.now (value_expression c.args.v.now) in
     omega (arith, same, c.requires)
 
 pub overflow_add-result : goal.overflow_add-result
 overflow_add-result c =
-    let same = nodes_plain c.args.setting.now (value_expression c.args.v.now) in
+    let same = nodes_undated c.args.setting.now (value_expression c.args.v.now) in
     omega (arith, same, c.requires, c.in-Err.ensures.below)
 
 pub returns-in-Ok-clause-nodes : goal.returns-in-Ok-clause-nodes

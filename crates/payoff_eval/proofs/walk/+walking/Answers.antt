@@ -15,7 +15,7 @@ use Rattle.payoff_eval.proofs.walk.+walking.Goals as goal
 pub walk_loop-returns-in-Some-clause-worth : goal.walk_loop-returns-in-Some-clause-worth
 walk_loop-returns-in-Some-clause-worth t c =
     let d = declarations c.args.asking.now.decls.now in
-    let run : ℤ → Result Worth Missing = λ b. run_code d c.args.room (payoff_code c.args.hit.now) c.args.scratch.now.entries c.args.asking.now.fixings.now c.args.asking.now.setting.now (asked_of c.args.asking.now) b in
+    let run : ℤ → Result Worth Missing = λ b. run_code d c.args.decimals (payoff_code c.args.hit.now) c.args.scratch.now.entries c.args.asking.now.fixings.now c.args.asking.now.setting.now (asked_of c.args.asking.now) b in
     let base : FitsSigned w64 c.args.base = c.ranges.base in
     let fits : FitsSigned w64 c.days_later.result = search rules in
     let day : c.days_later.result ≡ c.args.base +ℤ pos c.in-Some.first = simp to_z-of_z at c.days_later.ensures.day in

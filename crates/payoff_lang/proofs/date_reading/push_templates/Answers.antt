@@ -1,7 +1,7 @@
 use Rattle.std.proofs.Common.{◌∙◌, ◌∷◌, [], ◌++◌, List, ℕ, append_assoc, ap, arith, refl, sym, rules}
 use Rattle.std.proofs.lemmas.List.{append-nil}
 use Rattle.contract_parse.specs.Tokens.{tokens}
-use Rattle.contract_parse.specs.Places.{MoreTemplates}
+use Rattle.contract_parse.specs.Expecting.{MoreTemplates}
 use Rattle.contract_parse.specs.Reading.{declared_in}
 use Rattle.contract_parse.proofs.Parts.{followed_by}
 use Rattle.contract_parse.proofs.PlusFacts.{plus_lacks, plus_opens}

@@ -3,7 +3,7 @@ use Rattle.std.specs.Map.{keys_of}
 use Rattle.contract_parse.specs.Tokens.{tokens}
 use Rattle.contract_parse.specs.Words.{Bytes}
 use Rattle.contract_parse.specs.Names.{with_names}
-use Rattle.contract_parse.specs.Places.{Leaves, NewIn, run}
+use Rattle.contract_parse.specs.Expecting.{Leaves, NewIn, run}
 use Rattle.contract_parse.specs.declared.names.NameSet.TheVariants.{Contract}
 use Rattle.payoff_lang.proofs.parsing.read_name.Goals as goal
 

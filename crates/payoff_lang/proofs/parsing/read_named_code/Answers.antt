@@ -1,6 +1,6 @@
 use Rattle.std.proofs.Common.{◌∙◌, ◌∷◌, [], rules}
 use Rattle.std.specs.Prelude.{codes}
-use Rattle.contract_parse.specs.Places.{AmountAt, TheMark}
+use Rattle.contract_parse.specs.Expecting.{AmountAt, TheMark}
 use Rattle.contract_parse.specs.Reading.{declared_in}
 use Rattle.contract_parse.proofs.Passing.{stopped_at}
 use Rattle.payoff_lang.proofs.parsing.read_named_code.Goals as goal

@@ -3,7 +3,7 @@ use Rattle.std.proofs.lemmas.Result.{IfOk-weaker}
 use Rattle.contract_parse.specs.Tokens.{tokens}
 use Rattle.contract_parse.specs.Frames.{names_at}
 use Rattle.contract_parse.specs.Heads.{amount_head_at}
-use Rattle.contract_parse.specs.Places.{AmountAt, Next, amount_places}
+use Rattle.contract_parse.specs.Expecting.{AmountAt, Next, amount_expected}
 use Rattle.contract_parse.specs.Reading.{declared_in, tok_of}
 use Rattle.contract_parse.proofs.HeadFacts.{amount_heads}
 use Rattle.contract_parse.proofs.Passing.{stopped}
@@ -15,7 +15,7 @@ read_amount-returns-in-Err-clause-reads t c = stopped (λ cs ps.
     let s = declared_in c.args.frame.now.decls.now cs in
     let names = names_at c.args.frame.now in
     rw c.refuse.ensures (refuses (amount_head_at (c.args.frame.now.depth + 1)) s (AmountAt (c.args.frame.now.depth + 1) names ∷ ps)
-    (λ head. Next s (amount_places s (c.args.frame.now.depth + 1) names head ps)) c.in-Err.kind (tok_of c.next.result.0) c.args.rest.now
+    (λ head. Next s (amount_expected s (c.args.frame.now.depth + 1) names head ps)) c.in-Err.kind (tok_of c.next.result.0) c.args.rest.now
     c.next.result.1.now c.next.ensures.starts c.in-Err.ensures refl))
 
 pub read_amount-returns-in-Ok-clause-reads : goal.read_amount-returns-in-Ok-clause-reads
@@ -24,7 +24,7 @@ read_amount-returns-in-Ok-clause-reads t c = record {
       let s = declared_in c.args.frame.now.decls.now cs in
       let names = names_at c.args.frame.now in
       rw (passes (amount_head_at (c.args.frame.now.depth + 1)) (λ text left. (refl, refl)) s s (AmountAt (c.args.frame.now.depth + 1) names ∷ ps)
-      (amount_places s (c.args.frame.now.depth + 1) names c.in-Ok.head ps) (λ head. Next s (amount_places s (c.args.frame.now.depth + 1) names head ps)) c.in-Ok.head
+      (amount_expected s (c.args.frame.now.depth + 1) names c.in-Ok.head ps) (λ head. Next s (amount_expected s (c.args.frame.now.depth + 1) names head ps)) c.in-Ok.head
       (tok_of c.next.result.0) c.args.rest.now c.next.result.1.now c.next.ensures.starts c.in-Ok.ensures refl refl)
       (c.read_behind_amount.ensures.reads.follows cs ps);
   spelled =

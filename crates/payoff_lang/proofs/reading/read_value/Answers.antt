@@ -5,7 +5,7 @@ use Rattle.contract_parse.specs.Tokens.{tokens}
 use Rattle.contract_parse.specs.Frames.{names_at}
 use Rattle.contract_parse.specs.Reading.{declared_in}
 use Rattle.payoff_lang.specs.Code.{ValueExpression}
-use Rattle.payoff_lang.specs.Dating.{plain}
+use Rattle.payoff_lang.specs.Dating.{undated}
 use Rattle.payoff_lang.specs.CodeSpelling.{value_part}
 use Rattle.payoff_lang.proofs.DatedSpelled.{have_dates, height_dated, listed_spelled}
 use Rattle.payoff_lang.proofs.reading.read_value.Goals as goal
@@ -25,5 +25,5 @@ returns-clause-reads c = record {
 
 pub returns-clause-high : goal.returns-clause-high
 returns-clause-high c =
-    let same = ap (λ (v : ValueExpression). height (plain v)) c.in_ok-v.ensures ∙ height_dated _ (expression c.in_ok-e.e) in
+    let same = ap (λ (v : ValueExpression). height (undated v)) c.in_ok-v.ensures ∙ height_dated _ (expression c.in_ok-e.e) in
     omega (arith, c.in_ok-e.ensures.high, same)

@@ -9,7 +9,7 @@ use Rattle.contract_parse.proofs.Parts.{followed_by}
 use Rattle.contract_parse.proofs.LineFacts.{inserted_entry, inserted_names}
 use Rattle.schedule_forms.specs.declared.heads.PlanHead.{PlanHead}
 use Rattle.schedule_forms.specs.PlanHeads.{word_of}
-use Rattle.schedule_forms.specs.PlanPlaces.{definition_places, plan_fault, the_mark}
+use Rattle.schedule_forms.specs.PlanExpecting.{definition_expected, plan_fault, the_mark}
 use Rattle.schedule_forms.proofs.lines.read_plan_line.Goals as goal
 
 pub returns-clause-reads : goal.returns-clause-reads
@@ -17,7 +17,7 @@ returns-clause-reads c = record {
   follows = λ ps.
       let d = declarations c.args.decls.now in
       let names = keys_of c.args.plans.now.entries ++ c.in_ok-name.name ∷ [] in
-      c.in_ok-name.ensures.reads.follows (the_mark (codes "=") ∷ definition_places d c.args.head (the_mark (codes ";") ∷ ps))
+      c.in_ok-name.ensures.reads.follows (the_mark (codes "=") ∷ definition_expected d c.args.head (the_mark (codes ";") ∷ ps))
       ∙ c.in_ok-plan.ensures.reads.follows names ps
       ∙ ap (λ (ns : List Bytes). plan_fault ns ps (tokens c.in_ok-plan.rest.now))
       (inserted_names c.args.plans.now.entries c.insert.new.self.entries c.in_ok-name.name c.in_ok-plan.plan (tokens c.args.rest.now) (tokens c.in_ok-name.rest.now) c.in_ok-insert.ensures.entries c.in_ok-name.ensures.reads.spelled);

@@ -6,7 +6,7 @@ use Rattle.contract_parse.specs.Statements.{Entry, Repeat, none, more}
 use Rattle.contract_parse.specs.Reading.{tok_of, tokens_after, tokens_ahead}
 use Rattle.contract_parse.proofs.Passing.{stopped_at}
 use Rattle.schedule_forms.specs.PlanSpelling.{plan_line}
-use Rattle.schedule_forms.specs.PlanPlaces.{PlanLines, plan_fault}
+use Rattle.schedule_forms.specs.PlanExpecting.{PlanLines, plan_fault}
 use Rattle.schedule_forms.proofs.PlanSteps.{line_absent, line_opens}
 use Rattle.schedule_forms.proofs.lines.read_plans.Goals as goal
 

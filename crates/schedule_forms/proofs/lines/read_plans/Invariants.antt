@@ -7,12 +7,12 @@ use Rattle.contract_parse.specs.Statements.{Entry, Repeat}
 use Rattle.contract_parse.specs.Reading.{tokens_ahead}
 use Rattle.schedule_forms.specs.declared.plans.Plan.{Plan}
 use Rattle.schedule_forms.specs.PlanSpelling.{plan_line}
-use Rattle.schedule_forms.specs.PlanPlaces.{PlanLines, PlanPlace, plan_fault}
+use Rattle.schedule_forms.specs.PlanExpecting.{PlanLines, PlanExpected, plan_fault}
 use Rattle.schedule_forms.proofs.lines.read_plans.Given as goal
 
 abbrev pub invariant-loop-head : goal.invariant-loop-head
 invariant-loop-head l = record {
-  follows : (ps : List PlanPlace) → plan_fault [] (PlanLines (declarations l.decls) ∷ ps) (tokens_ahead l.fn.ahead) ≡ plan_fault (keys l.plans) (PlanLines (declarations l.decls) ∷ ps) (tokens_ahead l.ahead);
+  follows : (ps : List PlanExpected) → plan_fault [] (PlanLines (declarations l.decls) ∷ ps) (tokens_ahead l.fn.ahead) ≡ plan_fault (keys l.plans) (PlanLines (declarations l.decls) ∷ ps) (tokens_ahead l.ahead);
   spelled : (after : List (Bytes × Plan)) (end : List Tok) → Repeat (Entry (plan_line (declarations l.decls))) l.plans.entries after (tokens_ahead l.ahead) end → Repeat (Entry (plan_line (declarations l.decls))) [] after (tokens_ahead l.fn.ahead) end;
   shorter : length l.ahead.after.now ≤ length l.fn.ahead.after.now;
 }

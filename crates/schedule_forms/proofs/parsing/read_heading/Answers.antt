@@ -3,7 +3,7 @@ use Rattle.std.proofs.lemmas.Result.{IfOk-weaker}
 use Rattle.contract_parse.specs.Tokens.{tokens}
 use Rattle.contract_parse.specs.Versions.{One}
 use Rattle.contract_parse.specs.Names.{nothing_declared}
-use Rattle.contract_parse.specs.Places.{decls_places}
+use Rattle.contract_parse.specs.Expecting.{decls_expected}
 use Rattle.contract_parse.proofs.Parts.{followed_by}
 use Rattle.schedule_forms.proofs.parsing.read_heading.Goals as goal
 
@@ -11,7 +11,7 @@ pub returns-clause-reads : goal.returns-clause-reads
 returns-clause-reads c =
     let near : length c.in_ok-rest.rest.now ≤ length c.args.bytes.now = c.in_ok-rest.ensures.reads.shorter in
     record {
-      follows = λ ps. rw (c.in_ok-rest.ensures.reads.follows nothing_declared (decls_places One ps)) (c.read_decls.ensures.reads.follows ps);
+      follows = λ ps. rw (c.in_ok-rest.ensures.reads.follows nothing_declared (decls_expected One ps)) (c.read_decls.ensures.reads.follows ps);
       spelled = IfOk-weaker c.read_decls.result _ _ (λ r h. followed_by (tokens c.in_ok-rest.rest.now) c.in_ok-rest.ensures.reads.spelled h) c.read_decls.ensures.reads.spelled;
       shorter = IfOk-weaker c.read_decls.result _ _ (λ r h. omega (arith, h, near)) c.read_decls.ensures.reads.shorter;
     }

@@ -3,9 +3,9 @@ use Rattle.std.proofs.lemmas.Result.{err_from_is_err_and}
 use Rattle.indexmap.specs.IndexMap.{keys}
 use Rattle.term_core.specs.Declarations.{declarations}
 use Rattle.contract_parse.specs.Tokens.{tokens}
-use Rattle.contract_parse.specs.Places.{AnyTokens, TheEnd}
+use Rattle.contract_parse.specs.Expecting.{AnyTokens, TheEnd}
 use Rattle.contract_parse.specs.Reading.{tokens_ahead}
-use Rattle.schedule_forms.specs.PlanPlaces.{Token}
+use Rattle.schedule_forms.specs.PlanExpecting.{Token}
 use Rattle.schedule_forms.specs.PlanTexts.{Heading}
 use Rattle.schedule_forms.proofs.FileFacts.{end_refused, heading_refused, plans_refused}
 use Rattle.schedule_forms.proofs.parsing.read_plan_file.Goals as goal

@@ -3,7 +3,7 @@ use Rattle.contract_parse.specs.Reading.{tok_of}
 use Rattle.schedule_forms.specs.PlanJudgements.{times_at}
 use Rattle.contract_parse.proofs.Passing.{stopped}
 use Rattle.contract_parse.proofs.Steps.{spells}
-use Rattle.schedule_forms.specs.PlanPlaces.{TimesAt, Next}
+use Rattle.schedule_forms.specs.PlanExpecting.{TimesAt, Next}
 use Rattle.schedule_forms.proofs.PlanSteps.{plan_passes, plan_refuses}
 use Rattle.schedule_forms.proofs.readers.read_count.Goals as goal
 

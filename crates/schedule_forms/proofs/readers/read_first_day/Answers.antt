@@ -4,7 +4,7 @@ use Rattle.contract_parse.specs.Reading.{tok_of}
 use Rattle.contract_parse.specs.Judgements.{integer_at}
 use Rattle.contract_parse.proofs.Passing.{stopped}
 use Rattle.contract_parse.proofs.Steps.{spells}
-use Rattle.schedule_forms.specs.PlanPlaces.{EveryAt, FirstAt, Next, the_word}
+use Rattle.schedule_forms.specs.PlanExpecting.{EveryAt, FirstAt, Next, the_word}
 use Rattle.schedule_forms.proofs.PlanSteps.{plan_passes, plan_refuses}
 use Rattle.schedule_forms.proofs.readers.read_first_day.Goals as goal
 

@@ -4,7 +4,7 @@ use Rattle.contract_parse.specs.Reading.{tok_of}
 use Rattle.schedule_forms.specs.PlanJudgements.{flag_at}
 use Rattle.contract_parse.proofs.Passing.{stopped}
 use Rattle.contract_parse.proofs.Steps.{spells}
-use Rattle.schedule_forms.specs.PlanPlaces.{FlagAt, Next}
+use Rattle.schedule_forms.specs.PlanExpecting.{FlagAt, Next}
 use Rattle.schedule_forms.proofs.PlanSteps.{plan_passes, plan_refuses}
 use Rattle.schedule_forms.proofs.readers.read_flag.Goals as goal
 

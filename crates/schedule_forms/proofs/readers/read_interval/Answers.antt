@@ -4,7 +4,7 @@ use Rattle.contract_parse.specs.Reading.{tok_of}
 use Rattle.schedule_forms.specs.PlanJudgements.{count_at}
 use Rattle.contract_parse.proofs.Passing.{stopped}
 use Rattle.contract_parse.proofs.Steps.{spells}
-use Rattle.schedule_forms.specs.PlanPlaces.{EveryAt, TimesAt, Next, the_word}
+use Rattle.schedule_forms.specs.PlanExpecting.{EveryAt, TimesAt, Next, the_word}
 use Rattle.schedule_forms.proofs.PlanSteps.{plan_passes, plan_refuses}
 use Rattle.schedule_forms.proofs.readers.read_interval.Goals as goal
 
