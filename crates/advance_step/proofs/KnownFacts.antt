@@ -79,12 +79,12 @@ only_memory d F c f j known (Missing l t) h =
 
 -- ---- what is left
 
-near_enough : (d : Declarations) (c : Contract) → IsAccepted d c
+pub near_enough : (d : Declarations) (c : Contract) → IsAccepted d c
     → reach c + past_of_contract c ≤ 1_000_000
 near_enough d c h = (contract_limits c
     (whole_passes (λ s. IsTrue (is_small s)) c [] 0 h.sizes)).both
 
-left_after : (d : Declarations) (F : Environment) (c rest : Contract) (f : ℤ) (j : ℕ)
+pub left_after : (d : Declarations) (F : Environment) (c rest : Contract) (f : ℤ) (j : ℕ)
     → KeepsLimits d
     → IsAccepted d c → HasOnlyNumbers c → IsLeftEverywhere d F c f j rest
     → IsLeftAfter d F f (suc j) c rest
@@ -101,7 +101,7 @@ left_after d F c rest f j limits h n is =
     }
 
 -- nothing has no redex
-nothing_reduced : (d : Declarations) (F : Environment) (f : ℤ) → IsReduced d Zero F f
+pub nothing_reduced : (d : Declarations) (F : Environment) (f : ℤ) → IsReduced d Zero F f
 nothing_reduced d F f EmptyLeft = (refl, tt)
 nothing_reduced d F f EmptyRight = (refl, tt)
 nothing_reduced d F f ScaledNothing = (refl, tt)

@@ -21,5 +21,6 @@ pub mod WalkFacts
 pub mod RestFacts
 pub mod RoundFacts
 pub mod KnownFacts
+pub mod SimpleFacts
 pub mod GoneFacts
 pub mod ResidualFacts

@@ -1,4 +1,5 @@
 pub mod WhatIsLeft
+pub mod SimpleContracts
 pub mod CarryingWalk
 pub mod Residual
 pub mod Advancing

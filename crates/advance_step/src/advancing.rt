@@ -9,7 +9,7 @@ ghost use Rattle.term_core.specs.Environments.{IsAdmitted};
 ghost use Rattle.term_core.specs.WellFormed.{IsClosed, HasOnlyNumbers};
 ghost use Rattle.advance_step.specs.Advancing.{Advances};
 
-use crate::residual::residual_of;
+use crate::residual::{residual_of, rest_of};
 use crate::span::DaysGone;
 use fixing_files::Fixings;
 use flow_eval::{FlowErr, FlowTable, flows};
@@ -47,5 +47,29 @@ pub fn advance(
     let gone = DaysGone { from, days };
     let due = flows(alloc, decls, c, fixings, gone.last_day())?;
     let rest = residual_of(alloc, decls, c, fixings, gone)?;
+    Ok(Advanced { due, rest })
+}
+
+/// What `advance` answers of a contract that is handed over: what is left may be made of its parts,
+/// and most contracts of a book are neither copied nor reduced.
+pub fn into_advanced(
+    alloc: Global,
+    decls: &Decls,
+    c: Contr,
+    fixings: &Fixings,
+    days: u32,
+) -> Result<Advanced, FlowErr>
+    requires accepted { IsAccepted (declarations decls.now) (contract c) }
+    requires closed { IsClosed (declarations decls.now) (contract c) }
+    requires numbers { HasOnlyNumbers (contract c) }
+    requires admitted { IsAdmitted (declarations decls.now) fixings.now }
+    requires last { decls.now.start + days ≤ last_start }
+    ensures { Advances (declarations decls.now) (contract c) fixings.now
+        (pos decls.now.start) days result }
+{
+    let from = decls.start as i64;
+    let gone = DaysGone { from, days };
+    let due = flows(alloc, decls, &c, fixings, gone.last_day())?;
+    let rest = rest_of(alloc, decls, c, fixings, gone)?;
     Ok(Advanced { due, rest })
 }

@@ -3,11 +3,11 @@
 //!
 //! ```text
 //! let advanced = advance(alloc, &portfolio.decls, &contr, &fixings, days)?;
-//! // its due flows, its rest
+//! // its due flows, its rest; or into_advanced, of a contract that is handed over
 //! ```
 //!
-//! Promised: `advance` answers the flows that are due and a contract without redexes that carries
-//! the first one on, or the first read that is not fixed (`Advances`).
+//! Promised: `advance` and `into_advanced` answer the flows that are due and a contract without
+//! redexes that carries the first one on, or the first read that is not fixed (`Advances`).
 //! Only tested: which of several such contracts it answers, and that it does where there is memory
 //! (rows of `run_rows` and `library_rows`).
 #![tactic(auto)]
@@ -21,10 +21,11 @@ mod parts;
 mod questions;
 mod reducing;
 mod residual;
+mod simple_contracts;
 mod span;
 mod stepping;
 mod walk;
 
-pub use advancing::{Advanced, advance};
+pub use advancing::{Advanced, advance, into_advanced};
 pub use carried::carry;
 pub use stepping::{SharedAdvanced, step, step_shared};

@@ -13,6 +13,7 @@ ghost use Rattle.advance_step.specs.Residual.{AnswersLeftAfter, ReadsAreFixed};
 use crate::gone::is_gone;
 use crate::known::carry_known;
 use crate::reducing::reduce;
+use crate::simple_contracts::{is_reduced_simple, left_of_simple};
 use crate::span::DaysGone;
 use decimal::NoMemory;
 use fixing_files::Fixings;
@@ -116,4 +117,28 @@ pub fn residual_of(
     let s = share(alloc, c)?;
     let rest = reduced_after(alloc, decls, &s, fixings, gone)?;
     Ok(unshare(alloc, &rest)?)
+}
+
+/// The residual of a contract that is handed over. That of a simple one is made of its parts.
+pub fn rest_of(
+    alloc: Global,
+    decls: &Decls,
+    c: Contr,
+    fixings: &Fixings,
+    gone: DaysGone,
+) -> Result<Contr, FlowErr>
+    requires accepted { IsAccepted (declarations decls.now) (contract c) }
+    requires closed { IsClosed (declarations decls.now) (contract c) }
+    requires numbers { HasOnlyNumbers (contract c) }
+    requires admitted { IsAdmitted (declarations decls.now) fixings.now }
+    requires known { ReadsAreFixed (declarations decls.now) (contract c) fixings.now
+        gone.from (day_before gone.from gone.days) }
+    ensures { AnswersResidual (declarations decls.now) fixings.now
+        gone.from gone.days (contract c) result }
+{
+    if gone.days > 0 && is_reduced_simple(&c) {
+        Ok(left_of_simple(alloc, c, gone.days - 1)?)
+    } else {
+        residual_of(alloc, decls, &c, fixings, gone)
+    }
 }

@@ -31,7 +31,7 @@ use crate::choosing::{Tried, all_contracts, behind_names, choose, first_stop, no
 use crate::over_fixings::{day_asked, fixings_over, stop_of};
 use crate::reading::{read_next, start_reading};
 use crate::stop::Stop;
-use advance_step::{Advanced, advance};
+use advance_step::{Advanced, into_advanced};
 use command_words::{Advance, DayWord};
 use contract_parse::{ContractReader, NextContract};
 use contract_print::{print_beginning, print_contract};
@@ -86,14 +86,14 @@ pub struct KeptRest {
 }
 
 // What is due of a contract before the new day, and what is left of it then.
-fn advance_contract(alloc: Global, to: &AdvanceTo<'_>, contr: &Contr) -> Result<Advanced, Stop>
-    requires accepted { IsAccepted (declarations to.now.choice.decls.now) (contract contr.now) }
-    requires triable { IsTriable (declarations to.now.choice.decls.now) (contract contr.now) }
+fn advance_contract(alloc: Global, to: &AdvanceTo<'_>, contr: Contr) -> Result<Advanced, Stop>
+    requires accepted { IsAccepted (declarations to.now.choice.decls.now) (contract contr) }
+    requires triable { IsTriable (declarations to.now.choice.decls.now) (contract contr) }
     requires admitted { IsAdmitted (declarations to.now.choice.decls.now) to.now.fixings.now }
-    ensures { AnswersAdvanced to.now (contract contr.now) result }
+    ensures { AnswersAdvanced to.now (contract contr) result }
 {
     let days = to.day - to.choice.decls.start;
-    match advance(alloc, to.choice.decls, contr, to.fixings, days) {
+    match into_advanced(alloc, to.choice.decls, contr, to.fixings, days) {
         Ok(advanced) => Ok(advanced),
         Err(error) => Err(stop_of(alloc, to.choice.decls, error)),
     }
@@ -157,8 +157,9 @@ fn advance_one(
     if kept.missing.is_some() {
         return Ok(());
     }
-    match advance_contract(alloc, to, &one.contr) {
-        Ok(advanced) => keep(alloc, to, one.name, advanced, &mut kept.left),
+    let NextContract { name, contr } = one;
+    match advance_contract(alloc, to, contr) {
+        Ok(advanced) => keep(alloc, to, name, advanced, &mut kept.left),
         Err(Stop::Fault(fault)) => {
             kept.missing = Some(fault);
             Ok(())
