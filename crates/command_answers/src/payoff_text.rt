@@ -25,7 +25,7 @@ use crate::stop::Stop;
 use command_words::Payoff;
 use contract_parse::{ContractReader, NextContract};
 use decimal::NoMemory;
-use payoff_compile::{compile, compile_cut};
+use payoff_compile::{into_code, into_cut_code};
 use payoff_lang::{Code, CodeFile, print_code};
 use report::Fault;
 use std::alloc::Global;
@@ -93,15 +93,15 @@ fn accept_at_defaults(alloc: Global, decls: &Decls, name: &[u8], contr: &Contr) 
 }
 
 // The code that is asked for of a contract.
-fn code_asked(alloc: Global, decls: &Decls, contr: &Contr, plain: bool) -> Result<Code, NoMemory>
-    requires closed { IsClosed (declarations decls.now) (contract contr.now) }
-    requires accepted { IsAcceptedAtDefaults (declarations decls.now) (contract contr.now) }
-    ensures { IfOk result (λ code. payoff_code code ≡ code_asked plain (contract contr.now)) }
+fn code_asked(alloc: Global, decls: &Decls, contr: Contr, plain: bool) -> Result<Code, NoMemory>
+    requires closed { IsClosed (declarations decls.now) (contract contr) }
+    requires accepted { IsAcceptedAtDefaults (declarations decls.now) (contract contr) }
+    ensures { IfOk result (λ code. payoff_code code ≡ code_asked plain (contract contr)) }
 {
     if plain {
-        compile(alloc, decls, contr)
+        into_code(alloc, decls, contr)
     } else {
-        compile_cut(alloc, decls, contr)
+        into_cut_code(alloc, decls, contr)
     }
 }
 
@@ -141,16 +141,16 @@ fn code_text(alloc: Global, decls: &Decls, name: &[u8], code: Code) -> Result<Ve
 fn payoff_of(
     alloc: Global,
     decls: &Decls,
-    contr: &Contr,
+    contr: Contr,
     asked: &Payoff<'_>,
 ) -> Result<Vec<u8>, Stop>
-    requires sound { IsSoundContract (declarations decls.now) (contract contr.now) }
-    requires writable { IsWritableTerm (contract contr.now) }
+    requires sound { IsSoundContract (declarations decls.now) (contract contr) }
+    requires writable { IsWritableTerm (contract contr) }
     ensures { GoesDone
-        (payoff_of (payoff_by asked.now) (declarations decls.now) (contract contr.now)) result }
+        (payoff_of (payoff_by asked.now) (declarations decls.now) (contract contr)) result }
 {
     let name = asked.contract.as_bytes();
-    accept_at_defaults(alloc, decls, name, contr)?;
+    accept_at_defaults(alloc, decls, name, &contr)?;
     let code = code_asked(alloc, decls, contr, asked.plain)?;
     let text = code_text(alloc, decls, name, code)?;
     Ok(text)
@@ -165,5 +165,5 @@ pub fn payoff_text(alloc: Global, text: &[u8], asked: &Payoff<'_>) -> Result<Vec
 {
     let (decls, reader) = start_reading(alloc, text)?;
     let contr = contract_named(alloc, &decls, reader, asked.contract)?;
-    payoff_of(alloc, &decls, &contr, asked)
+    payoff_of(alloc, &decls, contr, asked)
 }

@@ -7,8 +7,8 @@
 //! ```
 //!
 //! Promised: `compile` answers code that means the contract at every setting at which it is
-//! accepted (`IsPlainCode`), and `cut` code that counts what is left to be paid (`CountsTheRest`),
-//! which `compile_cut` makes at once.
+//! accepted (`IsPlainCode`), and `cut` code that counts what is left to be paid (`CountsTheRest`).
+//! `into_code` takes the contract and answers the same code, and `into_cut_code` its cut code.
 //! Only tested: that they answer where there is memory (rows of `library_rows`).
 #![tactic(auto)]
 
@@ -17,5 +17,5 @@ mod cutting;
 mod dates;
 pub mod laws;
 
-pub use compiling::{compile, compile_cut};
+pub use compiling::{compile, into_code, into_cut_code};
 pub use cutting::cut;

@@ -19,7 +19,7 @@ pub returns-in_err-accept_at_defaults : goal.returns-in_err-accept_at_defaults
 returns-in_err-accept_at_defaults c =
     let d = declarations c.args.decls.now in
     let asked = payoff_by c.args.asked.now in
-    let contr = contract c.args.contr.now in
+    let contr = contract c.args.contr in
     let called = c.as_bytes-name.result.now in
     handed_on (λ (u : Unit {0}). IsAcceptedAtDefaults d contr) (λ (text : Vec ℕ). Tells (payoff_of asked d contr) status.Done text.items)
     (IsRefusedOne d (at_defaults d (called, contr))) (Stops (payoff_of asked d contr))
@@ -32,7 +32,7 @@ code_asked-requires-clause-closed c = c.requires.sound.closed
 pub code_text-requires : goal.code_text-requires
 code_text-requires c =
     let d = declarations c.args.decls.now in
-    let contr = contract c.args.contr.now in
+    let contr = contract c.args.contr in
     subst (λ (k : PayoffCode). IsWritableCode k) (sym c.in_ok-code.ensures)
     (code_writable d contr c.args.asked.now.plain c.requires.sound.closed c.in_ok-accept_at_defaults.ensures c.requires.writable)
 
@@ -40,6 +40,6 @@ pub returns : goal.returns
 returns c =
     let d = declarations c.args.decls.now in
     let asked = payoff_by c.args.asked.now in
-    let contr = contract c.args.contr.now in
+    let contr = contract c.args.contr in
     let canon = canon_asked d asked c.as_bytes-name.result.now contr (payoff_code c.in_ok-code.code) c.in_ok-text.text.items c.as_bytes-name.ensures.value c.in_ok-code.ensures c.in_ok-text.ensures in
     (tt, c.in_ok-accept_at_defaults.ensures, (refl, canon))

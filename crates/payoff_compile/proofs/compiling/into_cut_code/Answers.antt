@@ -4,11 +4,11 @@ use Rattle.term_core.specs.Terms.{contract}
 use Rattle.term_core.specs.Instances.{instance, declared_numbers}
 use Rattle.payoff_lang.proofs.MeaningFacts.{reach_of}
 use Rattle.payoff_compile.proofs.LimitFacts.{code_dates_fit, reach_named}
-use Rattle.payoff_compile.proofs.compiling.compile_cut.Goals as goal
+use Rattle.payoff_compile.proofs.compiling.into_cut_code.Goals as goal
 
 pub compile_whole-requires : goal.compile_whole-requires
 compile_whole-requires c =
     let d = declarations c.args.decls.now in
-    let named = reach_named (declared_numbers d) (contract c.args.c.now) in
-    let far = reach_of d (instance (declared_numbers d) (contract c.args.c.now)) c.requires.accepted in
-    code_dates_fit d 0 0 (contract c.args.c.now) (omega (arith, named, far)) c.requires.closed
+    let named = reach_named (declared_numbers d) (contract c.args.c) in
+    let far = reach_of d (instance (declared_numbers d) (contract c.args.c)) c.requires.accepted in
+    code_dates_fit d 0 0 (contract c.args.c) (omega (arith, named, far)) c.requires.closed
