@@ -10,7 +10,7 @@ use Rattle.term_core.specs.declared.name.Name.{Name}
 use Rattle.term_core.specs.Books.{Book}
 use Rattle.term_core.specs.DayCounts.{Days, Named, Num as Count, Sum}
 use Rattle.term_core.specs.Declarations.{Declarations}
-use Rattle.term_core.specs.Terms.{Contract, Zero, Pay, Both, Scale, After, Let, Within, contract}
+use Rattle.term_core.specs.Terms.{Contract, Zero, Pay, Both, Scale, After, Let, Within}
 use Rattle.term_core.specs.Sizes.{height_of_contract, nodes_of_contract}
 use Rattle.term_core.specs.WellFormed.{HasOnlyNumbers, IsNumber}
 use Rattle.term_core.specs.Instances.{HasNumbers, IsSetting, declared_numbers, instance, with_number}
