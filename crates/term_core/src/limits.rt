@@ -1,4 +1,4 @@
-//! The limits of the language. `specs/Limits.antt` has each under the same name for clauses.
+//! The limits of the language. `specs/Limits.antt` has those that clauses name, under the same names.
 
 /// The last day on which contracts may stand, as declared or after an advance.
 pub const LAST_START: u32 = 1_000_000;

@@ -5,7 +5,7 @@ use std::rc::Rc;
 
 /// A contract whose parts may be shared, for residuals of which most stays from day to day. The
 /// factor of a `Scale` and the expression of a `Let` are read `moved` days later than they stand.
-#[derive(Debug, PartialEq, Eq, Drop)]
+#[derive(Drop)]
 pub enum SharedContr {
     Zero,
     Pay {

@@ -6,7 +6,15 @@ ghost use Rattle.term_core.specs.Terms.{expression, contract};
 ghost use Rattle.term_core.specs.Sizes.{nodes, height, nodes_of_contract, height_of_contract, capped};
 
 use crate::limits::MOST_COUNTED;
-use crate::terms::{Contr, Counts, Expr};
+use crate::terms::{Contr, Expr};
+
+/// The height and the number of nodes of a term; a greater number than 1,000,000 is given as
+/// 1,000,000.
+#[derive(Clone, Copy, Debug, PartialEq, Eq)]
+pub struct Counts {
+    pub height: u32,
+    pub nodes: u32,
+}
 
 const LEAF: Counts = Counts {
     height: 1,
