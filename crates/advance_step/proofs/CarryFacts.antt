@@ -2,11 +2,11 @@
 use Rattle.std.proofs.Common.{◌≡◌, ℕ, suc, ℤ, pos, ◌+ℤ◌, ◌+◌, ◌-◌, ◌≤◌, ap, subst, ◌∙◌, [], Contains, arith}
 use Rattle.std.proofs.lemmas.Int.{ints}
 use Rattle.decimal.specs.Rounding.{raised}
-use Rattle.term_core.specs.Declarations.{Declarations}
-use Rattle.term_core.specs.Terms.{Contract}
-use Rattle.term_core.specs.Environments.{Environment}
-use Rattle.term_core.specs.Flows.{Flow, flow_of, amount_of, scale_of_contract}
-use Rattle.term_core.specs.Reads.{reads_of_contract}
+use Rattle.term_model.specs.Declarations.{Declarations}
+use Rattle.term_model.specs.Terms.{Contract}
+use Rattle.term_model.specs.Environments.{Environment}
+use Rattle.term_model.specs.Flows.{Flow, flow_of, amount_of, scale_of_contract}
+use Rattle.term_model.specs.Reads.{reads_of_contract}
 use Rattle.advance_step.specs.WhatIsLeft.{left_of}
 use Rattle.advance_step.specs.LawsLeft.{LeftCarries}
 use Rattle.rewriting.proofs.RaisedFacts.{raised_by}

@@ -1,19 +1,19 @@
 -- Every part of an accepted contract can be carried.
 use Rattle.std.proofs.Common.{◌≡◌, ◌≤◌, ℕ, ℤ, List, [], ◌∷◌, Result, inl, inr, ap, sym, subst, arith}
-use Rattle.term_core.specs.Declarations.{Declarations}
-use Rattle.term_core.specs.declared.values.Value.{Value}
-use Rattle.term_core.specs.declared.values.Missing.{Missing}
+use Rattle.term_model.specs.Declarations.{Declarations}
+use Rattle.term_model.specs.declared.values.Value.{Value}
+use Rattle.term_model.specs.declared.values.Missing.{Missing}
 use Rattle.term_core.specs.declared.shared.SharedContr.{SharedContr}
 use Rattle.term_core.specs.declared.shared.SharedContr.TheVariants.{Zero as Zero', Pay as Pay', Both', Scale', After', Let', Within'}
-use Rattle.term_core.specs.Terms.{expression}
-use Rattle.term_core.specs.Terms.{Expression}
-use Rattle.term_core.specs.Terms.{Contract, Let}
-use Rattle.term_core.specs.Values.{kind_or}
-use Rattle.term_core.specs.Bounds.{Range}
-use Rattle.term_core.specs.Shifts.{shifted}
+use Rattle.term_model.specs.Terms.{expression}
+use Rattle.term_model.specs.Terms.{Expression}
+use Rattle.term_model.specs.Terms.{Contract, Let}
+use Rattle.term_model.specs.Values.{kind_or}
+use Rattle.term_model.specs.Bounds.{Range}
+use Rattle.term_model.specs.Shifts.{shifted}
 use Rattle.term_core.specs.SharedTerms.{shared, StoresOffsets}
-use Rattle.term_core.specs.Sizes.{past, height_of_contract}
-use Rattle.term_core.specs.Acceptance.{IsAccepted}
+use Rattle.term_model.specs.Sizes.{past, height_of_contract}
+use Rattle.term_model.specs.Acceptance.{IsAccepted}
 use Rattle.interval_check.specs.Nodes.{range_of}
 use Rattle.interval_check.specs.Parts.{StandsIn}
 use Rattle.interval_check.proofs.LookFacts.{Look}

@@ -1,17 +1,17 @@
 -- The entry of a name that is bound to an expression, which is read some days later than it stands.
 use Rattle.std.proofs.Common.{◌≡◌, ℤ, ◌+ℤ◌, List, ◌∷◌, Option, Some, Result, ap, ap₂, sym, subst}
-use Rattle.term_core.specs.Declarations.{Declarations}
-use Rattle.term_core.specs.declared.values.Kind.{Kind}
-use Rattle.term_core.specs.declared.values.Value.{Value}
-use Rattle.term_core.specs.declared.values.Missing.{Missing}
-use Rattle.term_core.specs.Terms.{Expression}
-use Rattle.term_core.specs.Environments.{Environment, Place}
-use Rattle.term_core.specs.Kinds.{kind_of}
-use Rattle.term_core.specs.Values.{Entry, kinds, kind_or, entry_of}
-use Rattle.term_core.specs.Reads.{reads_of}
-use Rattle.term_core.specs.Shifts.{shifted}
-use Rattle.term_core.proofs.ShiftFacts.{kind-shifted, value-shifted}
-use Rattle.term_core.proofs.ReadShiftFacts.{reads-shifted}
+use Rattle.term_model.specs.Declarations.{Declarations}
+use Rattle.term_model.specs.declared.values.Kind.{Kind}
+use Rattle.term_model.specs.declared.values.Value.{Value}
+use Rattle.term_model.specs.declared.values.Missing.{Missing}
+use Rattle.term_model.specs.Terms.{Expression}
+use Rattle.term_model.specs.Environments.{Environment, Place}
+use Rattle.term_model.specs.Kinds.{kind_of}
+use Rattle.term_model.specs.Values.{Entry, kinds, kind_or, entry_of}
+use Rattle.term_model.specs.Reads.{reads_of}
+use Rattle.term_model.specs.Shifts.{shifted}
+use Rattle.term_model.proofs.ShiftFacts.{kind-shifted, value-shifted}
+use Rattle.term_model.proofs.ReadShiftFacts.{reads-shifted}
 use Rattle.expr_eval.specs.declared.scratch.Binding.{Binding}
 use Rattle.expr_eval.specs.declared.scratch.Held.{Held}
 use Rattle.expr_eval.specs.Rooms.{kinds_of}

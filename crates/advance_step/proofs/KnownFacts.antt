@@ -8,21 +8,21 @@ use Rattle.std.proofs.lemmas.Int.{ints}
 use Rattle.std.proofs.lemmas.List.Elements.{All-cons, All-contains}
 use Rattle.std.specs.declared.rc.Rc.{Rc}
 use Rattle.std.specs.Global.{Global}
-use Rattle.term_core.specs.Declarations.{Declarations}
+use Rattle.term_model.specs.Declarations.{Declarations}
 use Rattle.term_core.specs.declared.shared.SharedContr.{SharedContr}
 use Rattle.term_core.specs.SharedTerms.{shared}
-use Rattle.term_core.specs.Terms.{Contract, Zero}
-use Rattle.term_core.specs.Environments.{Environment, Place}
-use Rattle.term_core.specs.Acceptance.{IsAccepted}
-use Rattle.term_core.specs.Reads.{first_unfixed, is_fixed, reads_of_contract}
-use Rattle.term_core.specs.Redexes.{IsReduced, EmptyLeft, EmptyRight, ScaledNothing, ZeroFactor}
-use Rattle.term_core.specs.Redexes.{NoDelay, TwoDelays, DelayedNothing, UnusedName, LiteralName}
-use Rattle.term_core.specs.Redexes.{NothingEither, DecidedTest, LiteralOperands, DecidedChoice}
-use Rattle.term_core.specs.Redexes.{FixedPlace, NoSteps, FixedSteps}
-use Rattle.term_core.specs.Sizes.{reach, past_of_contract}
-use Rattle.term_core.specs.Smallness.{is_small}
-use Rattle.term_core.specs.WellFormed.{IsClosed, HasOnlyNumbers}
-use Rattle.term_core.proofs.TimeFacts.{whole_passes}
+use Rattle.term_model.specs.Terms.{Contract, Zero}
+use Rattle.term_model.specs.Environments.{Environment, Place}
+use Rattle.term_model.specs.Acceptance.{IsAccepted}
+use Rattle.term_model.specs.Reads.{first_unfixed, is_fixed, reads_of_contract}
+use Rattle.term_model.specs.Redexes.{IsReduced, EmptyLeft, EmptyRight, ScaledNothing, ZeroFactor}
+use Rattle.term_model.specs.Redexes.{NoDelay, TwoDelays, DelayedNothing, UnusedName, LiteralName}
+use Rattle.term_model.specs.Redexes.{NothingEither, DecidedTest, LiteralOperands, DecidedChoice}
+use Rattle.term_model.specs.Redexes.{FixedPlace, NoSteps, FixedSteps}
+use Rattle.term_model.specs.Sizes.{reach, past_of_contract}
+use Rattle.term_model.specs.Smallness.{is_small}
+use Rattle.term_model.specs.WellFormed.{IsClosed, HasOnlyNumbers}
+use Rattle.term_model.proofs.TimeFacts.{whole_passes}
 use Rattle.interval_check.specs.Within.{KeepsLimits}
 use Rattle.simplify.proofs.SimplifyingFacts.{right_scale}
 use Rattle.flow_eval.specs.FlowAnswers.{reads_until}

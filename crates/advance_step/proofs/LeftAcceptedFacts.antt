@@ -1,6 +1,6 @@
 -- What is left of an accepted contract is accepted.
 use Rattle.std.proofs.Common.{suc, pos, ◌-ℤ◌, []}
-use Rattle.term_core.proofs.TimeFacts.{times_mean_typed}
+use Rattle.term_model.proofs.TimeFacts.{times_mean_typed}
 use Rattle.interval_check.proofs.GuaranteeFacts.{accepted_meet_rules, rules_are_by_structure}
 use Rattle.advance_step.specs.WhatIsLeft.{left_of}
 use Rattle.advance_step.proofs.LeftRules.{left_replaces}

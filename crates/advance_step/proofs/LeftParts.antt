@@ -5,13 +5,13 @@ use Rattle.rewriting.proofs.Worth.{worth_zero, worth_nothing, worth_is, worth_mo
 use Rattle.std.proofs.Common.{◌≡◌, ℕ, ℤ, ◌+ℤ◌, ◌*ℤ◌, ◌+◌, ◌-◌, max, if◌then◌else◌, ap, ap₂, sym, subst, ◌∙◌, List, ◌∷◌, arith}
 use Rattle.std.proofs.Math.IntN.{*ℤ-zero}
 use Rattle.decimal.specs.Rounding.{raised}
-use Rattle.term_core.specs.Declarations.{Declarations}
-use Rattle.term_core.specs.Terms.{Expression, Contract, Zero, Both, Scale, Let}
-use Rattle.term_core.specs.Environments.{Environment}
-use Rattle.term_core.specs.Kinds.{kind_of, scale_of}
-use Rattle.term_core.specs.Values.{Entry, kinds, num, kind_or, value_of}
-use Rattle.term_core.specs.Flows.{Flow, flow_of, scale_of_contract}
-use Rattle.term_core.proofs.FlowFacts.{one_zero}
+use Rattle.term_model.specs.Declarations.{Declarations}
+use Rattle.term_model.specs.Terms.{Expression, Contract, Zero, Both, Scale, Let}
+use Rattle.term_model.specs.Environments.{Environment}
+use Rattle.term_model.specs.Kinds.{kind_of, scale_of}
+use Rattle.term_model.specs.Values.{Entry, kinds, num, kind_or, value_of}
+use Rattle.term_model.specs.Flows.{Flow, flow_of, scale_of_contract}
+use Rattle.term_model.proofs.FlowFacts.{one_zero}
 use Rattle.simplify.specs.TurningContracts.{is_nothing}
 use Rattle.simplify.proofs.RuleFlows.{nothing_is, left_gone, right_gone}
 use Rattle.advance_step.specs.WhatIsLeft.{both_left, scale_left, let_left}

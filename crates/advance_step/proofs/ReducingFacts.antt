@@ -2,13 +2,13 @@
 use Rattle.std.proofs.Common.{◌≡◌, ℕ, zero, suc, ℤ, pos, ◌+ℤ◌, ◌+◌, ◌≤◌, ◌<◌, nat_le, true, [], Some, refl, ap, sym, subst, ◌∙◌, inl, inr, ◌⊎◌, arith}
 use Rattle.std.proofs.lemmas.Int.{ints}
 use Rattle.std.proofs.lemmas.Bool.Decides.{nat_tests}
-use Rattle.term_core.specs.Declarations.{Declarations}
-use Rattle.term_core.specs.Terms.{Contract, Zero}
-use Rattle.term_core.specs.Environments.{Environment}
-use Rattle.term_core.specs.Residuals.{Carries}
-use Rattle.term_core.specs.Redexes.{EmptyLeft, EmptyRight, ScaledNothing, ZeroFactor, NoDelay, TwoDelays, DelayedNothing, UnusedName, LiteralName, NothingEither, DecidedTest, LiteralOperands, DecidedChoice, FixedPlace, NoSteps, FixedSteps, HasNone, IsReduced}
-use Rattle.term_core.specs.Acceptance.{IsAccepted}
-use Rattle.term_core.proofs.ResidualFacts.{carries_composes}
+use Rattle.term_model.specs.Declarations.{Declarations}
+use Rattle.term_model.specs.Terms.{Contract, Zero}
+use Rattle.term_model.specs.Environments.{Environment}
+use Rattle.term_model.specs.Residuals.{Carries}
+use Rattle.term_model.specs.Redexes.{EmptyLeft, EmptyRight, ScaledNothing, ZeroFactor, NoDelay, TwoDelays, DelayedNothing, UnusedName, LiteralName, NothingEither, DecidedTest, LiteralOperands, DecidedChoice, FixedPlace, NoSteps, FixedSteps, HasNone, IsReduced}
+use Rattle.term_model.specs.Acceptance.{IsAccepted}
+use Rattle.term_model.proofs.ResidualFacts.{carries_composes}
 use Rattle.advance_step.specs.WhatIsLeft.{left_of}
 use Rattle.advance_step.proofs.CarryFacts.{left_carries}
 use Rattle.advance_step.proofs.LeftSizes.{gone}

@@ -5,13 +5,13 @@ use Rattle.std.proofs.Common.{Option, Some, None, Result, Ok, Err, IfErr, IfOk, 
 use Rattle.std.proofs.Common.{ap₂, ◌∙◌}
 use Rattle.std.specs.declared.rc.Rc.{Rc}
 use Rattle.std.specs.Global.{Global}
-use Rattle.term_core.specs.declared.values.Missing.{Missing as MissingPlace}
+use Rattle.term_model.specs.declared.values.Missing.{Missing as MissingPlace}
 use Rattle.term_core.specs.declared.shared.SharedContr.{SharedContr}
-use Rattle.term_core.specs.DayCounts.{Num as Count}
-use Rattle.term_core.specs.Terms.{Expression, Contract, Zero, Pay, Both, Scale, After, Let, Within}
-use Rattle.term_core.specs.Environments.{Environment}
-use Rattle.term_core.specs.Values.{Entry}
-use Rattle.term_core.specs.Shifts.{shifted}
+use Rattle.term_model.specs.DayCounts.{Num as Count}
+use Rattle.term_model.specs.Terms.{Expression, Contract, Zero, Pay, Both, Scale, After, Let, Within}
+use Rattle.term_model.specs.Environments.{Environment}
+use Rattle.term_model.specs.Values.{Entry}
+use Rattle.term_model.specs.Shifts.{shifted}
 use Rattle.term_core.specs.SharedTerms.{shared, StoresOffsets}
 use Rattle.expr_eval.specs.declared.scratch.Binding.{Binding}
 use Rattle.expr_eval.specs.Rooms.{Room}

@@ -2,15 +2,15 @@
 use Rattle.std.proofs.Common.{◌≡◌, ℤ, [], Some, Result, Ok, Err, IfOk, ap, sym, subst, ◌∙◌, inl, inr, ◌<◌, arith}
 use Rattle.std.specs.declared.rc.Rc.{Rc}
 use Rattle.std.specs.Global.{Global}
-use Rattle.term_core.specs.Declarations.{Declarations}
+use Rattle.term_model.specs.Declarations.{Declarations}
 use Rattle.term_core.specs.declared.shared.SharedContr.{SharedContr}
 use Rattle.term_core.specs.SharedTerms.{shared}
-use Rattle.term_core.specs.Terms.{Contract}
-use Rattle.term_core.specs.Environments.{Environment, IsAdmitted}
-use Rattle.term_core.specs.Acceptance.{IsAccepted}
-use Rattle.term_core.specs.Redexes.{FixedPlace, FixedSteps, HasNone}
-use Rattle.term_core.specs.Residuals.{Carries}
-use Rattle.term_core.specs.WellFormed.{IsClosed, HasOnlyNumbers}
+use Rattle.term_model.specs.Terms.{Contract}
+use Rattle.term_model.specs.Environments.{Environment, IsAdmitted}
+use Rattle.term_model.specs.Acceptance.{IsAccepted}
+use Rattle.term_model.specs.Redexes.{FixedPlace, FixedSteps, HasNone}
+use Rattle.term_model.specs.Residuals.{Carries}
+use Rattle.term_model.specs.WellFormed.{IsClosed, HasOnlyNumbers}
 use Rattle.interval_check.specs.Within.{KeepsLimits}
 use Rattle.rewriting.specs.Measures.{size_in}
 use Rattle.specialise.specs.Specialising.{specialised_in}

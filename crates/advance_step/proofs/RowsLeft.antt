@@ -6,27 +6,27 @@ use Rattle.std.proofs.lemmas.Int.{ints}
 use Rattle.std.proofs.lemmas.Bool.Decides.{Decides-eqb}
 use Rattle.decimal.specs.Rounding.{at_scale}
 use Rattle.decimal.specs.declared.Mode.TheVariants.{HalfEven}
-use Rattle.term_core.specs.Declarations.{Declarations}
-use Rattle.term_core.specs.declared.label.Label.TheVariants.{Number}
-use Rattle.term_core.specs.declared.terms.CmpOp.TheVariants.{Greater}
-use Rattle.term_core.specs.declared.values.Value.{Value}
-use Rattle.term_core.specs.declared.values.Value.TheVariants.{Num as Amount}
-use Rattle.term_core.specs.DayCounts.{Num as Count, Sum}
-use Rattle.term_core.specs.Terms.{Lit, Var, Obs, Cmp, Round, Contract, Zero, Pay, Both, Scale, After, Let, Within}
-use Rattle.term_core.specs.Environments.{Environment, Place, IsAdmitted, IsValueOf, Extends, held, label_of, same_place, value_or}
-use Rattle.term_core.specs.Instances.{instance}
-use Rattle.term_core.specs.Values.{num, of_cmp}
-use Rattle.term_core.specs.Residuals.{Carries}
-use Rattle.term_core.specs.Redexes.{IsReduced}
-use Rattle.term_core.specs.Sites.{Once, EachDay, sites}
-use Rattle.term_core.specs.Sorts.{is_sorted}
-use Rattle.term_core.specs.Scales.{is_scaled}
-use Rattle.term_core.specs.Smallness.{is_small}
-use Rattle.term_core.specs.Bounds.{is_bounded}
-use Rattle.term_core.specs.Acceptance.{IsAccepted}
-use Rattle.term_core.proofs.AlikeFacts.{and_left}
-use Rattle.term_core.proofs.TimeFacts.{nodes_timed}
-use Rattle.term_core.proofs.Trials.{first_failing-is}
+use Rattle.term_model.specs.Declarations.{Declarations}
+use Rattle.term_model.specs.declared.label.Label.TheVariants.{Number}
+use Rattle.term_model.specs.declared.terms.CmpOp.TheVariants.{Greater}
+use Rattle.term_model.specs.declared.values.Value.{Value}
+use Rattle.term_model.specs.declared.values.Value.TheVariants.{Num as Amount}
+use Rattle.term_model.specs.DayCounts.{Num as Count, Sum}
+use Rattle.term_model.specs.Terms.{Lit, Var, Obs, Cmp, Round, Contract, Zero, Pay, Both, Scale, After, Let, Within}
+use Rattle.term_model.specs.Environments.{Environment, Place, IsAdmitted, IsValueOf, Extends, held, label_of, same_place, value_or}
+use Rattle.term_model.specs.Instances.{instance}
+use Rattle.term_model.specs.Values.{num, of_cmp}
+use Rattle.term_model.specs.Residuals.{Carries}
+use Rattle.term_model.specs.Redexes.{IsReduced}
+use Rattle.term_model.specs.Sites.{Once, EachDay, sites}
+use Rattle.term_model.specs.Sorts.{is_sorted}
+use Rattle.term_model.specs.Scales.{is_scaled}
+use Rattle.term_model.specs.Smallness.{is_small}
+use Rattle.term_model.specs.Bounds.{is_bounded}
+use Rattle.term_model.specs.Acceptance.{IsAccepted}
+use Rattle.term_model.proofs.AlikeFacts.{and_left}
+use Rattle.term_model.proofs.TimeFacts.{nodes_timed}
+use Rattle.term_model.proofs.Trials.{first_failing-is}
 use Rattle.rewriting.specs.Measures.{size_in}
 use Rattle.advance_step.specs.WhatIsLeft.{left_of}
 use Rattle.advance_step.specs.LawsReducing.{reduced_times}

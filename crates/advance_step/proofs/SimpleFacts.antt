@@ -2,17 +2,17 @@
 use Rattle.std.proofs.Common.{◌≡◌, ℕ, suc, zero, ℤ, pos, negsuc, ◌+ℤ◌, ◌+◌, ◌-◌, ◌≤◌, ◌||◌, ◌==◌, not, nat_le, Bool, true, false, List, [], Some, Option, refl, ap, ap₂, sym, subst, ◌∙◌, inl, inr, ◌⊎◌, arith}
 use Rattle.std.specs.Ordering.{int_eq}
 use Rattle.std.proofs.lemmas.Bool.Decides.{nat_tests}
-use Rattle.term_core.specs.Declarations.{Declarations}
-use Rattle.term_core.specs.Terms.{Expression, Lit, Yes, Var, Obs, Neg, Num, Cmp, Not, Logic, Cond, Widen, Round, Div, Acc}
-use Rattle.term_core.specs.Terms.{Contract, Zero, Pay, Both, Scale, After, Let, Within}
-use Rattle.term_core.specs.Environments.{Environment, IsAdmitted}
-use Rattle.term_core.specs.Values.{Entry}
-use Rattle.term_core.specs.Flows.{count_of}
-use Rattle.term_core.specs.Shifts.{shifted}
-use Rattle.term_core.specs.Acceptance.{IsAccepted}
-use Rattle.term_core.specs.Literals.{HasLiteralsIn}
-use Rattle.term_core.specs.Redexes.{Redex, FixedPlace, FixedSteps, HasNone, IsReduced, is_zero_literal, moved}
-use Rattle.term_core.specs.WellFormed.{IsClosed, HasOnlyNumbers}
+use Rattle.term_model.specs.Declarations.{Declarations}
+use Rattle.term_model.specs.Terms.{Expression, Lit, Yes, Var, Obs, Neg, Num, Cmp, Not, Logic, Cond, Widen, Round, Div, Acc}
+use Rattle.term_model.specs.Terms.{Contract, Zero, Pay, Both, Scale, After, Let, Within}
+use Rattle.term_model.specs.Environments.{Environment, IsAdmitted}
+use Rattle.term_model.specs.Values.{Entry}
+use Rattle.term_model.specs.Flows.{count_of}
+use Rattle.term_model.specs.Shifts.{shifted}
+use Rattle.term_model.specs.Acceptance.{IsAccepted}
+use Rattle.term_model.specs.Literals.{HasLiteralsIn}
+use Rattle.term_model.specs.Redexes.{Redex, FixedPlace, FixedSteps, HasNone, IsReduced, is_zero_literal, moved}
+use Rattle.term_model.specs.WellFormed.{IsClosed, HasOnlyNumbers}
 use Rattle.interval_check.specs.Within.{KeepsLimits}
 use Rattle.rewriting.proofs.Choices.{if_cases}
 use Rattle.specialise.specs.Specialising.{specialised, specialised_in}

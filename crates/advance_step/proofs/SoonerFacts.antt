@@ -1,12 +1,12 @@
 -- An expression that reads an observable not too far back is moved by few days, and one that reads none may be moved by any.
 use Rattle.std.proofs.Common.{◌≡◌, ◌≤◌, ℕ, ◌+◌, ◌-◌, max, ℤ, pos, negsuc, ◌+ℤ◌, ◌≤ℤ◌, refl, ap, ap₂, sym, ◌∙◌, arith}
 use Rattle.std.proofs.lemmas.Int.{ints}
-use Rattle.term_core.specs.Limits.{IsOffset}
-use Rattle.term_core.specs.Terms.{Expression, Lit, Yes, Var, Obs, Neg, Num, Cmp, Not, Logic, Cond, Widen, Round, Div, Acc}
-use Rattle.term_core.specs.Shifts.{shifted}
+use Rattle.term_model.specs.Limits.{IsOffset}
+use Rattle.term_model.specs.Terms.{Expression, Lit, Yes, Var, Obs, Neg, Num, Cmp, Not, Logic, Cond, Widen, Round, Div, Acc}
+use Rattle.term_model.specs.Shifts.{shifted}
 use Rattle.term_core.specs.SharedTerms.{HasOffsets}
-use Rattle.term_core.specs.Sizes.{past, days_before}
-use Rattle.term_core.proofs.ShiftedFacts.{shifted_twice}
+use Rattle.term_model.specs.Sizes.{past, days_before}
+use Rattle.term_model.proofs.ShiftedFacts.{shifted_twice}
 use Rattle.advance_step.specs.CarryingWalk.{CanMove}
 
 -- r is k, where k is as few days as an observable can be moved by

@@ -1,12 +1,12 @@
 -- Over more days a contract transfers and reads no less.
 use Rattle.std.proofs.Common.{◌≡◌, ℕ, ℤ, pos, ◌+ℤ◌, ◌-ℤ◌, ◌≤ℤ◌, Bool, true, false, ◌&&◌, not, ◌==◌, int_lt, Option, Some, None, List, [], ◌∷◌, refl, inl, inr, arith}
 use Rattle.std.proofs.lemmas.Int.{ints, by_lt_z}
-use Rattle.term_core.specs.Declarations.{Declarations}
-use Rattle.term_core.specs.Terms.{Contract, Zero, Pay, Both, Scale, After, Let, Within}
-use Rattle.term_core.specs.Environments.{Environment, Place}
-use Rattle.term_core.specs.Values.{Entry, first_true, entry_of}
-use Rattle.term_core.specs.Flows.{count_of}
-use Rattle.term_core.specs.Reads.{reads_of, reads_of_contract, live, upto, tested}
+use Rattle.term_model.specs.Declarations.{Declarations}
+use Rattle.term_model.specs.Terms.{Contract, Zero, Pay, Both, Scale, After, Let, Within}
+use Rattle.term_model.specs.Environments.{Environment, Place}
+use Rattle.term_model.specs.Values.{Entry, first_true, entry_of}
+use Rattle.term_model.specs.Flows.{count_of}
+use Rattle.term_model.specs.Reads.{reads_of, reads_of_contract, live, upto, tested}
 use Rattle.rewriting.specs.Keeping.{AreAmong}
 use Rattle.rewriting.proofs.Among.{among_none, among_same, among_both, among_if, among_unless, among_branches}
 use Rattle.simplify.proofs.RuleReads.{OnlyIf, below_is, not_below}

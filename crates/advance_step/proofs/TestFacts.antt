@@ -1,19 +1,19 @@
 -- What the days of a test tell: the first true one in every environment, or a place that is read and not fixed.
 use Rattle.std.proofs.Common.{◌≡◌, ◌≤◌, ◌<◌, ℕ, zero, suc, ℤ, pos, ◌+ℤ◌, Bool, true, false, if◌then◌else◌, Option, Some, None, Ok, Err, List, [], ◌∷◌, Contains, refl, ap, sym, subst, ◌∙◌, inl, inr, arith, eq-or-lt_of_le}
 use Rattle.std.proofs.lemmas.List.Elements.{Contains-append_left, Contains-append_right, Contains-push}
-use Rattle.term_core.specs.Declarations.{Declarations}
-use Rattle.term_core.specs.declared.values.Value.{Value}
-use Rattle.term_core.specs.declared.values.Missing.{Missing}
-use Rattle.term_core.specs.Terms.{Expression}
-use Rattle.term_core.specs.Environments.{Environment, Place, Extends}
-use Rattle.term_core.specs.Values.{Entry, truth, value_of, first_of, first_true}
-use Rattle.term_core.specs.Reads.{reads_of, first_unfixed, is_fixed, steps_before, tested}
-use Rattle.term_core.proofs.AlikeFacts.{same_alike}
-use Rattle.term_core.proofs.ReadFacts.{SameNames, reads_alike}
-use Rattle.term_core.proofs.ReadLawFacts.{all_fixed, extension_reads}
+use Rattle.term_model.specs.Declarations.{Declarations}
+use Rattle.term_model.specs.declared.values.Value.{Value}
+use Rattle.term_model.specs.declared.values.Missing.{Missing}
+use Rattle.term_model.specs.Terms.{Expression}
+use Rattle.term_model.specs.Environments.{Environment, Place, Extends}
+use Rattle.term_model.specs.Values.{Entry, truth, value_of, first_of, first_true}
+use Rattle.term_model.specs.Reads.{reads_of, first_unfixed, is_fixed, steps_before, tested}
+use Rattle.term_model.proofs.AlikeFacts.{same_alike}
+use Rattle.term_model.proofs.ReadFacts.{SameNames, reads_alike}
+use Rattle.term_model.proofs.ReadLawFacts.{all_fixed, extension_reads}
 use Rattle.expr_eval.specs.Standing.{place_of}
 use Rattle.expr_eval.specs.Trials.{DayOrMissing, ValueOrMissing, answer_of, first_tried, missing_at, or_next, tried_on, value_unless}
-use Rattle.term_core.proofs.FirstFacts.{or_last}
+use Rattle.term_model.proofs.FirstFacts.{or_last}
 
 -- ---- the first true day
 

@@ -2,25 +2,25 @@
 -- what is left of it, reduced; or the first place that it reads on these days and that is not
 -- fixed.
 use Rattle.std.specs.Prelude.{◌≡◌, ◌<◌, ℕ, ℤ, pos, ◌+ℤ◌, ◌-ℤ◌, List, Some, Result, Ok, Err}
-use Rattle.term_core.specs.Declarations.{Declarations}
+use Rattle.term_model.specs.Declarations.{Declarations}
 use Rattle.std.specs.declared.rc.Rc.{Rc}
 use Rattle.std.specs.Global.{Global}
-use Rattle.term_core.specs.Terms.{Contract, Zero, contract}
-use Rattle.term_core.specs.declared.terms.Contr.{Contr}
+use Rattle.term_model.specs.Terms.{Contract, Zero, contract}
+use Rattle.term_model.specs.declared.terms.Contr.{Contr}
 use Rattle.term_core.specs.declared.shared.SharedContr.{SharedContr}
 use Rattle.term_core.specs.SharedTerms.{shared, StoresOffsets}
-use Rattle.term_core.specs.Environments.{Environment}
-use Rattle.term_core.specs.Acceptance.{IsAccepted}
-use Rattle.term_core.specs.Reads.{first_unfixed}
-use Rattle.term_core.specs.Redexes.{IsReduced}
-use Rattle.term_core.specs.Residuals.{Carries}
-use Rattle.term_core.specs.Sizes.{reach}
-use Rattle.term_core.specs.WellFormed.{HasOnlyNumbers, IsClosed}
+use Rattle.term_model.specs.Environments.{Environment}
+use Rattle.term_model.specs.Acceptance.{IsAccepted}
+use Rattle.term_model.specs.Reads.{first_unfixed}
+use Rattle.term_model.specs.Redexes.{IsReduced}
+use Rattle.term_model.specs.Residuals.{Carries}
+use Rattle.term_model.specs.Sizes.{reach}
+use Rattle.term_model.specs.WellFormed.{HasOnlyNumbers, IsClosed}
 use Rattle.flow_eval.specs.FlowAnswers.{AreKnownFlows, reads_until}
 use Rattle.flow_eval.specs.declared.faults.FlowErr.{FlowErr}
 use Rattle.flow_eval.specs.declared.flow_table.FlowRow.{FlowRow}
 use Rattle.flow_eval.specs.declared.faults.FlowErr.TheVariants.{Missing, NoMemory}
-use Rattle.term_core.specs.Literals.{HasLiteralsIn}
+use Rattle.term_model.specs.Literals.{HasLiteralsIn}
 use Rattle.flow_eval.specs.Faults.{lacks_memory}
 use Rattle.advance_step.specs.declared.advancing.Advanced.{Advanced}
 use Rattle.advance_step.specs.declared.stepping.SharedAdvanced.{SharedAdvanced}

@@ -6,23 +6,23 @@ use Rattle.std.specs.Prelude.{ℕ, ℤ, pos, ◌≡◌, ◌≤◌, ◌+◌, fals
 use Rattle.std.specs.Prelude.{Contains}
 use Rattle.std.specs.declared.rc.Rc.{Rc}
 use Rattle.std.specs.Global.{Global}
-use Rattle.term_core.specs.Declarations.{Declarations}
-use Rattle.term_core.specs.Limits.{last_start}
-use Rattle.term_core.specs.declared.values.Value.{Value}
-use Rattle.term_core.specs.declared.values.Missing.{Missing as MissingPlace}
-use Rattle.term_core.specs.declared.terms.Expr.{Expr}
+use Rattle.term_model.specs.Declarations.{Declarations}
+use Rattle.term_model.specs.Limits.{last_start}
+use Rattle.term_model.specs.declared.values.Value.{Value}
+use Rattle.term_model.specs.declared.values.Missing.{Missing as MissingPlace}
+use Rattle.term_model.specs.declared.terms.Expr.{Expr}
 use Rattle.term_core.specs.declared.shared.SharedContr.{SharedContr}
 use Rattle.term_core.specs.declared.shared.SharedContr.TheVariants.{Zero as Zero', Pay as Pay'}
 use Rattle.term_core.specs.declared.shared.SharedContr.TheVariants.{Both', Scale', After', Let'}
 use Rattle.term_core.specs.declared.shared.SharedContr.TheVariants.{Within'}
-use Rattle.term_core.specs.Terms.{expression}
-use Rattle.term_core.specs.Terms.{Expression, Contract}
-use Rattle.term_core.specs.Environments.{Environment, Place, Extends}
-use Rattle.term_core.specs.Values.{Entry, entry_of}
-use Rattle.term_core.specs.Reads.{reads_of, reads_of_contract, is_fixed}
-use Rattle.term_core.specs.Shifts.{shifted}
+use Rattle.term_model.specs.Terms.{expression}
+use Rattle.term_model.specs.Terms.{Expression, Contract}
+use Rattle.term_model.specs.Environments.{Environment, Place, Extends}
+use Rattle.term_model.specs.Values.{Entry, entry_of}
+use Rattle.term_model.specs.Reads.{reads_of, reads_of_contract, is_fixed}
+use Rattle.term_model.specs.Shifts.{shifted}
 use Rattle.term_core.specs.SharedTerms.{shared, HasOffsets, StoresOffsets}
-use Rattle.term_core.specs.Sizes.{past, height_of_contract}
+use Rattle.term_model.specs.Sizes.{past, height_of_contract}
 use Rattle.expr_eval.specs.Rooms.{Room}
 use Rattle.expr_eval.specs.declared.scratch.Binding.{Binding}
 use Rattle.expr_eval.specs.Standing.{StandFor}

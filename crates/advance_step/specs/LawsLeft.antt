@@ -1,11 +1,11 @@
 -- The laws of what is left of a contract after some days.
 use Rattle.std.specs.Prelude.{ℕ, suc, ℤ, pos, ◌+◌, ◌+ℤ◌, ◌≤◌, ◌≡◌, List, []}
-use Rattle.term_core.specs.Declarations.{Declarations}
-use Rattle.term_core.specs.Terms.{Contract}
-use Rattle.term_core.specs.Environments.{Environment, IsAdmitted, Extends}
-use Rattle.term_core.specs.Values.{Entry, kinds}
-use Rattle.term_core.specs.Flows.{Flow, flow_of, scale_of_contract}
-use Rattle.term_core.specs.Residuals.{Carries}
+use Rattle.term_model.specs.Declarations.{Declarations}
+use Rattle.term_model.specs.Terms.{Contract}
+use Rattle.term_model.specs.Environments.{Environment, IsAdmitted, Extends}
+use Rattle.term_model.specs.Values.{Entry, kinds}
+use Rattle.term_model.specs.Flows.{Flow, flow_of, scale_of_contract}
+use Rattle.term_model.specs.Residuals.{Carries}
 use Rattle.rewriting.specs.Worth.{flow_at_scale}
 use Rattle.advance_step.specs.WhatIsLeft.{left_of}
 

@@ -1,12 +1,12 @@
 -- What is left of an accepted contract is accepted.
 use Rattle.std.specs.Prelude.{ℕ, ℤ, ◌+◌, ◌≤◌, List, []}
-use Rattle.term_core.specs.Declarations.{Declarations}
-use Rattle.term_core.specs.Terms.{Contract}
-use Rattle.term_core.specs.Environments.{Environment}
-use Rattle.term_core.specs.Values.{Entry}
-use Rattle.term_core.specs.Sizes.{reach, past_of_contract}
-use Rattle.term_core.specs.WellFormed.{IsWellFormedContract, HasOnlyNumbers}
-use Rattle.term_core.specs.Acceptance.{IsAccepted}
+use Rattle.term_model.specs.Declarations.{Declarations}
+use Rattle.term_model.specs.Terms.{Contract}
+use Rattle.term_model.specs.Environments.{Environment}
+use Rattle.term_model.specs.Values.{Entry}
+use Rattle.term_model.specs.Sizes.{reach, past_of_contract}
+use Rattle.term_model.specs.WellFormed.{IsWellFormedContract, HasOnlyNumbers}
+use Rattle.term_model.specs.Acceptance.{IsAccepted}
 use Rattle.interval_check.specs.Within.{KeepsLimits}
 use Rattle.advance_step.specs.WhatIsLeft.{left_of}
 

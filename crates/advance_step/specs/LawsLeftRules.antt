@@ -1,13 +1,13 @@
 -- What is left of an accepted contract after some days: nothing past its reach, its types so many days sooner, and the
 -- rules on sorts, scales and bounds.
 use Rattle.std.specs.Prelude.{ℕ, suc, ℤ, pos, ◌-ℤ◌, ◌+◌, ◌≤◌, ◌≡◌, ◌⊎◌, List}
-use Rattle.term_core.specs.Declarations.{Declarations}
-use Rattle.term_core.specs.Terms.{Contract, Zero}
-use Rattle.term_core.specs.Environments.{Environment}
-use Rattle.term_core.specs.Values.{Entry}
-use Rattle.term_core.specs.Sizes.{reach, past_of_contract, nodes_of_contract}
-use Rattle.term_core.specs.Times.{TypedContract, lowered_by}
-use Rattle.term_core.specs.Bounds.{Range}
+use Rattle.term_model.specs.Declarations.{Declarations}
+use Rattle.term_model.specs.Terms.{Contract, Zero}
+use Rattle.term_model.specs.Environments.{Environment}
+use Rattle.term_model.specs.Values.{Entry}
+use Rattle.term_model.specs.Sizes.{reach, past_of_contract, nodes_of_contract}
+use Rattle.term_model.specs.Times.{TypedContract, lowered_by}
+use Rattle.term_model.specs.Bounds.{Range}
 use Rattle.interval_check.specs.Nodes.{ContractMeetsRules}
 use Rattle.interval_check.specs.Narrowing.{AreNarrower}
 use Rattle.interval_check.specs.Within.{KeepsLimits}

@@ -1,12 +1,12 @@
 -- Reducing: specialise, turn, and again. Then the whole of what is asked of a residual.
 use Rattle.std.specs.Prelude.{ℕ, zero, suc, ℤ, pos, ◌+ℤ◌, ◌≤◌, ◌<◌, ◌≡◌, ◌⊎◌, [], Some}
-use Rattle.term_core.specs.Declarations.{Declarations}
-use Rattle.term_core.specs.Terms.{Contract, Zero}
-use Rattle.term_core.specs.Environments.{Environment}
-use Rattle.term_core.specs.Sizes.{reach}
-use Rattle.term_core.specs.Residuals.{Carries}
-use Rattle.term_core.specs.Redexes.{IsReduced}
-use Rattle.term_core.specs.Acceptance.{IsAccepted}
+use Rattle.term_model.specs.Declarations.{Declarations}
+use Rattle.term_model.specs.Terms.{Contract, Zero}
+use Rattle.term_model.specs.Environments.{Environment}
+use Rattle.term_model.specs.Sizes.{reach}
+use Rattle.term_model.specs.Residuals.{Carries}
+use Rattle.term_model.specs.Redexes.{IsReduced}
+use Rattle.term_model.specs.Acceptance.{IsAccepted}
 use Rattle.advance_step.specs.LawsLeft.{IsLeftInAdmitted}
 use Rattle.rewriting.specs.Measures.{size_in}
 use Rattle.simplify.specs.TurningContracts.{turned_in}

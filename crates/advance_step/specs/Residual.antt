@@ -3,22 +3,22 @@
 use Rattle.std.specs.Prelude.{ℕ, ℤ, pos, ◌<◌, ◌≤ℤ◌, ◌≡◌, None, Result, Ok, Err}
 use Rattle.std.specs.declared.rc.Rc.{Rc}
 use Rattle.std.specs.Global.{Global}
-use Rattle.term_core.specs.Declarations.{Declarations}
-use Rattle.term_core.specs.Terms.{Contract, Zero}
-use Rattle.term_core.specs.Environments.{Environment}
+use Rattle.term_model.specs.Declarations.{Declarations}
+use Rattle.term_model.specs.Terms.{Contract, Zero}
+use Rattle.term_model.specs.Environments.{Environment}
 use Rattle.term_core.specs.declared.shared.SharedContr.{SharedContr}
 use Rattle.term_core.specs.SharedTerms.{shared, StoresOffsets}
-use Rattle.term_core.specs.Acceptance.{IsAccepted}
-use Rattle.term_core.specs.Limits.{last_start}
-use Rattle.term_core.specs.Reads.{first_unfixed}
-use Rattle.term_core.specs.Redexes.{IsReduced}
-use Rattle.term_core.specs.Residuals.{Carries}
-use Rattle.term_core.specs.Sizes.{reach}
-use Rattle.term_core.specs.WellFormed.{IsClosed}
+use Rattle.term_model.specs.Acceptance.{IsAccepted}
+use Rattle.term_model.specs.Limits.{last_start}
+use Rattle.term_model.specs.Reads.{first_unfixed}
+use Rattle.term_model.specs.Redexes.{IsReduced}
+use Rattle.term_model.specs.Residuals.{Carries}
+use Rattle.term_model.specs.Sizes.{reach}
+use Rattle.term_model.specs.WellFormed.{IsClosed}
 use Rattle.flow_eval.specs.FlowAnswers.{reads_until}
 use Rattle.flow_eval.specs.Faults.{lacks_memory}
 use Rattle.flow_eval.specs.declared.faults.FlowErr.{FlowErr}
-use Rattle.term_core.specs.Literals.{HasLiteralsIn}
+use Rattle.term_model.specs.Literals.{HasLiteralsIn}
 
 -- a day on which a contract may stand
 abbrev pub MayStandOn : ℤ → Type 0

@@ -2,11 +2,11 @@
 -- hangs on nothing that is observed.
 use Rattle.std.specs.Prelude.{ℕ, ℤ, pos, ◌≡◌, ◌≤◌, not, Bool, true, false, List}
 use Rattle.std.specs.Ordering.{int_eq}
-use Rattle.term_core.specs.Declarations.{Declarations}
-use Rattle.term_core.specs.Terms.{Expression, Lit, Contract, Pay, Both, Scale, After}
-use Rattle.term_core.specs.Environments.{Environment}
-use Rattle.term_core.specs.Values.{Entry}
-use Rattle.term_core.specs.Flows.{count_of}
+use Rattle.term_model.specs.Declarations.{Declarations}
+use Rattle.term_model.specs.Terms.{Expression, Lit, Contract, Pay, Both, Scale, After}
+use Rattle.term_model.specs.Environments.{Environment}
+use Rattle.term_model.specs.Values.{Entry}
+use Rattle.term_model.specs.Flows.{count_of}
 use Rattle.simplify.specs.TurningContracts.{is_later}
 use Rattle.advance_step.specs.WhatIsLeft.{left_of}
 

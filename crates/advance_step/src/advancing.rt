@@ -1,12 +1,12 @@
 //! Advancing a contract: what it pays on the days gone by, and what is left of it.
 
 ghost use Rattle.std.specs.Prelude.{◌≤◌, ◌+◌, pos};
-ghost use Rattle.term_core.specs.Declarations.{declarations};
-ghost use Rattle.term_core.specs.Limits.{last_start};
-ghost use Rattle.term_core.specs.Terms.{contract};
-ghost use Rattle.term_core.specs.Acceptance.{IsAccepted};
-ghost use Rattle.term_core.specs.Environments.{IsAdmitted};
-ghost use Rattle.term_core.specs.WellFormed.{IsClosed, HasOnlyNumbers};
+ghost use Rattle.term_model.specs.Declarations.{declarations};
+ghost use Rattle.term_model.specs.Limits.{last_start};
+ghost use Rattle.term_model.specs.Terms.{contract};
+ghost use Rattle.term_model.specs.Acceptance.{IsAccepted};
+ghost use Rattle.term_model.specs.Environments.{IsAdmitted};
+ghost use Rattle.term_model.specs.WellFormed.{IsClosed, HasOnlyNumbers};
 ghost use Rattle.advance_step.specs.Advancing.{Advances};
 
 use crate::residual::{residual_of, rest_of};
@@ -14,7 +14,7 @@ use crate::span::DaysGone;
 use fixing_files::Fixings;
 use flow_eval::{FlowErr, FlowTable, flows};
 use std::alloc::Global;
-use term_core::{Contr, Decls};
+use term_model::{Contr, Decls};
 
 /// What a contract pays on the days gone by, and what is left of it.
 #[derive(Drop)]

@@ -1,10 +1,10 @@
 //! What is left of a contract after some days.
 
 ghost use Rattle.std.specs.Prelude.{◌≤◌};
-ghost use Rattle.term_core.specs.Declarations.{declarations};
-ghost use Rattle.term_core.specs.Environments.{IsAdmitted};
-ghost use Rattle.term_core.specs.Acceptance.{IsAccepted};
-ghost use Rattle.term_core.specs.Limits.{last_start};
+ghost use Rattle.term_model.specs.Declarations.{declarations};
+ghost use Rattle.term_model.specs.Environments.{IsAdmitted};
+ghost use Rattle.term_model.specs.Acceptance.{IsAccepted};
+ghost use Rattle.term_model.specs.Limits.{last_start};
 ghost use Rattle.term_core.specs.SharedTerms.{shared, StoresOffsets};
 ghost use Rattle.advance_step.specs.CarryingWalk.{AnswersLeft};
 ghost use Rattle.advance_step.specs.Residual.{MayStandOn};
@@ -17,7 +17,8 @@ use fixing_files::{Fixings, Known};
 use flow_eval::FlowErr;
 use std::alloc::Global;
 use std::rc::Rc;
-use term_core::{Decls, MOST_HEIGHT, SharedContr};
+use term_model::{Decls, MOST_HEIGHT};
+use term_core::SharedContr;
 
 // What is left of a contract, by a walk.
 fn carry_by_walk(

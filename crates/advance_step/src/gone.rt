@@ -1,10 +1,10 @@
 //! Contracts that lie behind.
 
 ghost use Rattle.std.specs.Prelude.{◌≡◌, ◌<◌, true};
-ghost use Rattle.term_core.specs.Terms.{contract};
-ghost use Rattle.term_core.specs.Sizes.{reach};
+ghost use Rattle.term_model.specs.Terms.{contract};
+ghost use Rattle.term_model.specs.Sizes.{reach};
 
-use term_core::Contr;
+use term_model::Contr;
 
 /// Whether each part of a contract stands on one of the next `days` days, whatever its tests come
 /// to. It looks no further than to the first part that stands later.

@@ -2,9 +2,9 @@
 //! is fixed, so no walk over these days lacks one.
 
 ghost use Rattle.std.specs.Prelude.{◌+◌, ◌+ℤ◌, pos};
-ghost use Rattle.term_core.specs.Declarations.{declarations};
-ghost use Rattle.term_core.specs.Environments.{IsAdmitted};
-ghost use Rattle.term_core.specs.Acceptance.{IsAccepted};
+ghost use Rattle.term_model.specs.Declarations.{declarations};
+ghost use Rattle.term_model.specs.Environments.{IsAdmitted};
+ghost use Rattle.term_model.specs.Acceptance.{IsAccepted};
 ghost use Rattle.term_core.specs.SharedTerms.{shared, StoresOffsets};
 ghost use Rattle.advance_step.specs.Residual.{AnswersLeftAfter, ReadsAreFixed};
 
@@ -14,7 +14,8 @@ use fixing_files::{Fixings, Known};
 use flow_eval::FlowErr;
 use std::alloc::Global;
 use std::rc::Rc;
-use term_core::{Decls, SharedContr};
+use term_model::Decls;
+use term_core::SharedContr;
 
 /// What is left of a contract after the days of a span, on which each read is fixed.
 pub fn carry_known(

@@ -1,9 +1,9 @@
 //! What is left of parts, put together. A part that is not touched is handed on.
 
 ghost use Rattle.std.specs.Prelude.{◌≡◌, ◌≤◌, ◌≤ℤ◌, ◌*◌, ◌-ℤ◌, pos, negsuc, IfOk};
-ghost use Rattle.term_core.specs.Limits.{last_start};
-ghost use Rattle.term_core.specs.Terms.{expression, Zero, Expression};
-ghost use Rattle.term_core.specs.Shifts.{shifted};
+ghost use Rattle.term_model.specs.Limits.{last_start};
+ghost use Rattle.term_model.specs.Terms.{expression, Zero, Expression};
+ghost use Rattle.term_model.specs.Shifts.{shifted};
 ghost use Rattle.term_core.specs.SharedTerms.{shared, HasOffsets, StoresOffsets};
 ghost use Rattle.rewriting.specs.RebuildingContracts.{within_over};
 ghost use Rattle.simplify.specs.TurningContracts.{is_nothing};
@@ -14,7 +14,8 @@ use decimal::NoMemory;
 use simplify::is_nothing;
 use std::alloc::Global;
 use std::rc::Rc;
-use term_core::{Expr, SharedContr};
+use term_model::Expr;
+use term_core::SharedContr;
 
 /// What is left of two parts.
 pub fn both_left(

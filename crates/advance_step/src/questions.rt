@@ -1,8 +1,8 @@
 //! What the walk asks of evaluations.
 
 ghost use Rattle.std.specs.Prelude.{◌≡◌, IfOk};
-ghost use Rattle.term_core.specs.Terms.{expression};
-ghost use Rattle.term_core.specs.Shifts.{shifted};
+ghost use Rattle.term_model.specs.Terms.{expression};
+ghost use Rattle.term_model.specs.Shifts.{shifted};
 ghost use Rattle.expr_eval.specs.Evaluable.{MayEvaluate};
 ghost use Rattle.flow_eval.specs.Readiness.{IsUpTo};
 ghost use Rattle.advance_step.specs.CarryingWalk.{IsEntry, EntersOn, IsFirstDay};
@@ -10,7 +10,7 @@ ghost use Rattle.advance_step.specs.CarryingWalk.{IsEntry, EntersOn, IsFirstDay}
 use crate::span::Span;
 use expr_eval::{Binding, Held, Scratch, eval, first_true, kind_of};
 use fixing_files::Known;
-use term_core::{Expr, Missing, day_read};
+use term_model::{Expr, Missing, day_read};
 
 /// The days until a test is first true, of so many and of those that are gone by.
 pub fn first_day(

@@ -1,9 +1,9 @@
 //! Reducing a contract that stands on a day.
 
 ghost use Rattle.std.specs.Prelude.{IfOk};
-ghost use Rattle.term_core.specs.Declarations.{declarations};
-ghost use Rattle.term_core.specs.Environments.{IsAdmitted};
-ghost use Rattle.term_core.specs.Acceptance.{IsAccepted};
+ghost use Rattle.term_model.specs.Declarations.{declarations};
+ghost use Rattle.term_model.specs.Environments.{IsAdmitted};
+ghost use Rattle.term_model.specs.Acceptance.{IsAccepted};
 ghost use Rattle.term_core.specs.SharedTerms.{shared, StoresOffsets};
 ghost use Rattle.advance_step.specs.Residual.{IsReducedFrom, MayStandOn};
 
@@ -13,7 +13,8 @@ use simplify::turn_shared;
 use specialise::specialise_shared;
 use std::alloc::Global;
 use std::rc::Rc;
-use term_core::{Decls, SharedContr};
+use term_model::Decls;
+use term_core::SharedContr;
 
 /// What an accepted contract that stands on a day is reduced to: what the fixings tell is put in,
 /// and then a turn of the simplifier is taken, again and again, until a turn changes nothing. Each

@@ -1,12 +1,12 @@
 //! Residuals of contracts whose flows are known.
 
 ghost use Rattle.std.specs.Prelude.{◌≡◌, ◌≤◌, IfOk};
-ghost use Rattle.term_core.specs.Declarations.{declarations};
-ghost use Rattle.term_core.specs.Terms.{contract};
-ghost use Rattle.term_core.specs.Environments.{IsAdmitted};
-ghost use Rattle.term_core.specs.Acceptance.{IsAccepted};
+ghost use Rattle.term_model.specs.Declarations.{declarations};
+ghost use Rattle.term_model.specs.Terms.{contract};
+ghost use Rattle.term_model.specs.Environments.{IsAdmitted};
+ghost use Rattle.term_model.specs.Acceptance.{IsAccepted};
 ghost use Rattle.term_core.specs.SharedTerms.{shared, StoresOffsets};
-ghost use Rattle.term_core.specs.WellFormed.{IsClosed, HasOnlyNumbers};
+ghost use Rattle.term_model.specs.WellFormed.{IsClosed, HasOnlyNumbers};
 ghost use Rattle.advance_step.specs.Advancing.{AnswersReducedRest, AnswersResidual, day_before};
 ghost use Rattle.advance_step.specs.Residual.{AnswersLeftAfter, ReadsAreFixed};
 
@@ -20,7 +20,8 @@ use fixing_files::Fixings;
 use flow_eval::FlowErr;
 use std::alloc::Global;
 use std::rc::Rc;
-use term_core::{Contr, Decls, SharedContr, share, unshare};
+use term_model::{Contr, Decls};
+use term_core::{SharedContr, share, unshare};
 
 // The contract itself, shared.
 fn as_it_is(s: &Rc<SharedContr>) -> Result<Rc<SharedContr>, NoMemory>

@@ -3,15 +3,15 @@
 //! parts, and needs no reducing.
 
 ghost use Rattle.std.specs.Prelude.{◌≡◌, true, IfOk};
-ghost use Rattle.term_core.specs.DayCounts.{Num as Count};
-ghost use Rattle.term_core.specs.Terms.{contract, expression, Both, Scale, After};
+ghost use Rattle.term_model.specs.DayCounts.{Num as Count};
+ghost use Rattle.term_model.specs.Terms.{contract, expression, Both, Scale, After};
 ghost use Rattle.simplify.specs.TurningContracts.{is_later};
 ghost use Rattle.advance_step.specs.SimpleContracts.{IsLeftAnywhere, IsReducedSimple, is_factor};
 ghost use Rattle.advance_step.specs.WhatIsLeft as model;
 
 use decimal::NoMemory;
 use std::alloc::Global;
-use term_core::{Contr, Days, Expr};
+use term_model::{Contr, Days, Expr};
 
 // Whether an expression is a decimal other than 0.
 fn is_factor(e: &Expr) -> bool

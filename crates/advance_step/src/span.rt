@@ -1,9 +1,9 @@
 //! The days that are gone by.
 
 ghost use Rattle.std.specs.Prelude.{◌≡◌, ◌≤◌, ◌≤ℤ◌, ◌+◌, ◌-◌, ◌*◌, ◌+ℤ◌, ◌-ℤ◌, min, pos};
-ghost use Rattle.term_core.specs.Limits.{last_start};
+ghost use Rattle.term_model.specs.Limits.{last_start};
 
-use term_core::{days_earlier, days_later};
+use term_model::{days_earlier, days_later};
 
 /// The days gone by for a part of a contract: the one on which it stands, and the `last` behind it.
 #[derive(Clone, Copy)]

@@ -1,11 +1,11 @@
 //! A step from a day to the next.
 
-ghost use Rattle.term_core.specs.Declarations.{declarations};
-ghost use Rattle.term_core.specs.Terms.{contract};
-ghost use Rattle.term_core.specs.Environments.{IsAdmitted};
-ghost use Rattle.term_core.specs.Acceptance.{IsAccepted};
+ghost use Rattle.term_model.specs.Declarations.{declarations};
+ghost use Rattle.term_model.specs.Terms.{contract};
+ghost use Rattle.term_model.specs.Environments.{IsAdmitted};
+ghost use Rattle.term_model.specs.Acceptance.{IsAccepted};
 ghost use Rattle.term_core.specs.SharedTerms.{shared, StoresOffsets};
-ghost use Rattle.term_core.specs.WellFormed.{IsClosed, HasOnlyNumbers};
+ghost use Rattle.term_model.specs.WellFormed.{IsClosed, HasOnlyNumbers};
 ghost use Rattle.advance_step.specs.Advancing.{AnswersSharedStep, AnswersStep};
 ghost use Rattle.advance_step.specs.Residual.{MayStandOn};
 
@@ -16,7 +16,8 @@ use fixing_files::Fixings;
 use flow_eval::{FlowErr, FlowTable, flows_shared};
 use std::alloc::Global;
 use std::rc::Rc;
-use term_core::{Contr, Decls, SharedContr, share, unshare};
+use term_model::{Contr, Decls};
+use term_core::{SharedContr, share, unshare};
 
 /// What a contract pays on a day, and what is left of it on the next, with shared parts.
 #[derive(Drop)]

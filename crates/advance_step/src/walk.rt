@@ -2,7 +2,7 @@
 //! stands up to the last of them is met once, and what stands later is handed on as it is.
 
 ghost use Rattle.std.specs.Prelude.{◌≡◌, IfOk, IfErr};
-ghost use Rattle.term_core.specs.Terms.{expression, Zero};
+ghost use Rattle.term_model.specs.Terms.{expression, Zero};
 ghost use Rattle.term_core.specs.SharedTerms.{shared, StoresOffsets};
 ghost use Rattle.flow_eval.specs.Faults.{lacks_memory};
 ghost use Rattle.rewriting.specs.RebuildingContracts.{after_over, both_over, let_over, scale_over};
@@ -18,7 +18,8 @@ use fixing_files::Known;
 use flow_eval::FlowErr;
 use std::alloc::Global;
 use std::rc::Rc;
-use term_core::{Expr, SharedContr};
+use term_model::Expr;
+use term_core::SharedContr;
 
 // What is left of a payment, and of nothing.
 fn nothing_left(alloc: Global) -> Result<Rc<SharedContr>, FlowErr>

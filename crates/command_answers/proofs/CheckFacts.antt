@@ -4,15 +4,15 @@ use Rattle.std.specs.Prelude.{IfOk, None, Option, Some, Result, Ok, Err, is_ok}
 use Rattle.std.proofs.lemmas.Bool.{and_parts, and_from}
 use Rattle.std.proofs.lemmas.List.{append-nil, map-append}
 use Rattle.std.proofs.lemmas.List.Elements.{All-nil, All-pop, All-push}
-use Rattle.term_core.specs.declared.name.Name.{Name}
-use Rattle.term_core.specs.declared.rules.RuleFault.{RuleFault}
-use Rattle.term_core.specs.Books.{Book}
-use Rattle.term_core.specs.Declarations.{Declarations}
-use Rattle.term_core.specs.Terms.{Contract, contract}
-use Rattle.term_core.specs.Sites.{EachDay}
-use Rattle.term_core.specs.Bounds.{aligned_total}
-use Rattle.term_core.specs.Acceptance.{IsAccepted}
-use Rattle.term_core.proofs.RefusalFacts.{accepted_not_refused}
+use Rattle.term_model.specs.declared.name.Name.{Name}
+use Rattle.term_model.specs.declared.rules.RuleFault.{RuleFault}
+use Rattle.term_model.specs.Books.{Book}
+use Rattle.term_model.specs.Declarations.{Declarations}
+use Rattle.term_model.specs.Terms.{Contract, contract}
+use Rattle.term_model.specs.Sites.{EachDay}
+use Rattle.term_model.specs.Bounds.{aligned_total}
+use Rattle.term_model.specs.Acceptance.{IsAccepted}
+use Rattle.term_model.proofs.RefusalFacts.{accepted_not_refused}
 use Rattle.interval_check.specs.Nodes.{IsBoundedPart}
 use Rattle.interval_check.proofs.ContractSafeFacts.{contract_at_root, total_fits}
 use Rattle.interval_check.proofs.RuleFacts.{bounds_hold}

@@ -2,7 +2,7 @@
 use Rattle.std.proofs.Common.{◌≡◌, ◌∙◌, ◌≤ℤ◌, ◌<ℤ◌, ℕ, ℤ, pos, Bool, true, false, ◌&&◌, List, ap, arith, refl, FitsSigned, w64}
 use Rattle.std.specs.Prelude.{Option, Some, None, Result, Ok, Err, int_le, if◌then◌else◌}
 use Rattle.std.proofs.lemmas.Int.{ints}
-use Rattle.term_core.specs.Declarations.{Declarations}
+use Rattle.term_model.specs.Declarations.{Declarations}
 use Rattle.fixing_files.specs.Days.{day_named, day_of, placed_day, placed_if_named}
 use Rattle.fixing_files.specs.declared.days.DayFault.{DayFault}
 use Rattle.fixing_files.specs.declared.days.DayFault.TheVariants.{NotDay, NoOrigin}

@@ -1,9 +1,9 @@
 -- Contracts over fixings have one text of what is due.
 use Rattle.std.proofs.Common.{◌≡◌, ◌∙◌, ℕ, ℤ, List, [], ◌∷◌, ◌++◌, ap, subst, sym}
-use Rattle.term_core.specs.declared.name.Name.{Name}
-use Rattle.term_core.specs.Declarations.{Declarations}
-use Rattle.term_core.specs.Environments.{Environment, Place, held}
-use Rattle.term_core.specs.Terms.{Contract}
+use Rattle.term_model.specs.declared.name.Name.{Name}
+use Rattle.term_model.specs.Declarations.{Declarations}
+use Rattle.term_model.specs.Environments.{Environment, Place, held}
+use Rattle.term_model.specs.Terms.{Contract}
 use Rattle.flow_eval.specs.declared.flow_table.FlowRow.{FlowRow}
 use Rattle.command_answers.specs.AdvancePromise.{AreComments, AreDueLines, IsDueText, commented}
 use Rattle.command_answers.proofs.FlowsAreOne.{one_line, one_table}

@@ -1,8 +1,8 @@
 -- What the law of statuses says of `flows` and of `value`: each cause makes its status due, and what stops a course has its cause.
 use Rattle.std.proofs.Common.{◌≡◌, ◌∙◌, inl, inr, ℕ, ℤ, List, refl, subst, sym}
 use Rattle.std.specs.Prelude.{Option, Some}
-use Rattle.term_core.specs.Books.{Book}
-use Rattle.term_core.specs.Flows.{Flow}
+use Rattle.term_model.specs.Books.{Book}
+use Rattle.term_model.specs.Flows.{Flow}
 use Rattle.fixing_files.specs.Tables.{IsFirstFault, table_of}
 use Rattle.fixing_files.proofs.CurveLawFacts.{faulty_hold_none}
 use Rattle.fixing_files.proofs.LawFacts.{faulty_hold_nothing}

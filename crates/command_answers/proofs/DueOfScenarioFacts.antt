@@ -1,6 +1,6 @@
 -- What the law of statuses says of `scenarios`: each cause makes its status due, and what stops the course has its cause.
 use Rattle.std.proofs.Common.{◌≡◌, inl, inr, ℕ, ℤ, List, refl, subst, sym}
-use Rattle.term_core.specs.Flows.{Flow}
+use Rattle.term_model.specs.Flows.{Flow}
 use Rattle.fixing_files.specs.Tables.{table_of}
 use Rattle.fixing_files.proofs.CurveLawFacts as curves
 use Rattle.payoff_check.proofs.VerdictFacts.{accepted_not_refused}

@@ -3,13 +3,13 @@ use Rattle.std.proofs.Common.{◌≡◌, ◌∙◌, ℕ, List, [], ◌∷◌, �
 use Rattle.std.specs.Prelude.{All}
 use Rattle.std.proofs.lemmas.List.{append-nil}
 use Rattle.std.proofs.lemmas.List.Elements.{All-cons, All-head, All-nil, All-push, All-tail}
-use Rattle.term_core.specs.declared.name.Name.{Name}
-use Rattle.term_core.specs.Acceptance.{IsAccepted}
-use Rattle.term_core.specs.DayCounts.{Days, Named, Num as Count, Sum}
-use Rattle.term_core.specs.Declarations.{Declarations}
-use Rattle.term_core.specs.Instances.{HasSmallSums, IsSmallSum}
-use Rattle.term_core.specs.Terms.{Contract, Zero, Pay, Both, Scale, After, Let, Within}
-use Rattle.term_core.specs.WellFormed.{HasOnlyNumbers, IsNumber}
+use Rattle.term_model.specs.declared.name.Name.{Name}
+use Rattle.term_model.specs.Acceptance.{IsAccepted}
+use Rattle.term_model.specs.DayCounts.{Days, Named, Num as Count, Sum}
+use Rattle.term_model.specs.Declarations.{Declarations}
+use Rattle.term_model.specs.Instances.{HasSmallSums, IsSmallSum}
+use Rattle.term_model.specs.Terms.{Contract, Zero, Pay, Both, Scale, After, Let, Within}
+use Rattle.term_model.specs.WellFormed.{HasOnlyNumbers, IsNumber}
 use Rattle.contract_print.specs.Canon.{AppendsBeginning, IsBeginning, IsCanon}
 use Rattle.contract_print.specs.Spellable.{IsSpellable}
 use Rattle.contract_print.specs.Writable.{IsWritableTerm}

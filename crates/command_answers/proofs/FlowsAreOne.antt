@@ -5,17 +5,17 @@ use Rattle.std.proofs.lemmas.Int.{ints}
 use Rattle.std.proofs.lemmas.List.Elements.{All-head, All-tail, All-weaker}
 use Rattle.decimal.specs.Rounding.{raised}
 use Rattle.decimal.proofs.PowerFacts.{ten_above}
-use Rattle.term_core.specs.declared.name.Name.{Name}
-use Rattle.term_core.specs.declared.rules.Rule.{Rule}
-use Rattle.term_core.specs.declared.values.Value.{Value}
-use Rattle.term_core.specs.Declarations.{Declarations, decimals_of}
-use Rattle.term_core.specs.Environments.{Environment, Extends, Place, held}
-use Rattle.term_core.specs.Reads.{first_unfixed, is_fixed, up_to_first}
-use Rattle.term_core.specs.Terms.{Contract}
-use Rattle.term_core.specs.Acceptance.{IsRefusal}
-use Rattle.term_core.proofs.DateTextFacts.{texts_unique}
-use Rattle.term_core.proofs.ReadLawFacts.{reads_stay}
-use Rattle.term_core.proofs.RefusalFacts.{accepted_not_refused, refusals_unique}
+use Rattle.term_model.specs.declared.name.Name.{Name}
+use Rattle.term_model.specs.declared.rules.Rule.{Rule}
+use Rattle.term_model.specs.declared.values.Value.{Value}
+use Rattle.term_model.specs.Declarations.{Declarations, decimals_of}
+use Rattle.term_model.specs.Environments.{Environment, Extends, Place, held}
+use Rattle.term_model.specs.Reads.{first_unfixed, is_fixed, up_to_first}
+use Rattle.term_model.specs.Terms.{Contract}
+use Rattle.term_model.specs.Acceptance.{IsRefusal}
+use Rattle.term_model.proofs.DateTextFacts.{texts_unique}
+use Rattle.term_model.proofs.ReadLawFacts.{reads_stay}
+use Rattle.term_model.proofs.RefusalFacts.{accepted_not_refused, refusals_unique}
 use Rattle.fixing_files.specs.Tables.{table_of}
 use Rattle.fixing_files.proofs.LawFacts.{one_map}
 use Rattle.interval_check.proofs.MultipleFacts.{times-cancel}

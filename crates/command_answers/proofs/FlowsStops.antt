@@ -2,12 +2,12 @@
 use Rattle.std.proofs.Common.{◌≡◌, ◌≤◌, inl, inr, ℕ, ℤ, Bool, true, false, List, arith, length, refl, subst, sym}
 use Rattle.std.specs.Prelude.{Option, None, Some, Result}
 use Rattle.std.specs.Global.{Vec}
-use Rattle.term_core.specs.declared.name.Name.{Name}
-use Rattle.term_core.specs.Books.{Book}
-use Rattle.term_core.specs.Declarations.{Declarations, declarations}
-use Rattle.term_core.specs.Environments.{IsAdmitted}
-use Rattle.term_core.specs.Limits.{longest_file}
-use Rattle.term_core.specs.Terms.{Contract}
+use Rattle.term_model.specs.declared.name.Name.{Name}
+use Rattle.term_model.specs.Books.{Book}
+use Rattle.term_model.specs.Declarations.{Declarations, declarations}
+use Rattle.term_model.specs.Environments.{IsAdmitted}
+use Rattle.term_model.specs.Limits.{longest_file}
+use Rattle.term_model.specs.Terms.{Contract}
 use Rattle.report.specs.RunningSums.{IsSumOfFew}
 use Rattle.report.specs.declared.fault_lines.Fault.{Fault}
 use Rattle.interval_check.specs.Within.{KeepsLimits}

@@ -4,7 +4,7 @@ use Rattle.std.proofs.Common.{◌≡◌, ◌≤◌, ℕ, suc, zero, List, [], �
 use Rattle.std.specs.Prelude.{Option, Some, None, option_map, Result}
 use Rattle.std.specs.Global.{Vec}
 use Rattle.std.proofs.lemmas.List.Elements.{All-head, All-tail}
-use Rattle.term_core.specs.Limits.{longest_file}
+use Rattle.term_model.specs.Limits.{longest_file}
 use Rattle.command_answers.specs.Course.{Course, behind}
 use Rattle.command_answers.specs.FlowsParts.{IsShortTable}
 use Rattle.command_answers.specs.Inputs.{AreShort, file_at}

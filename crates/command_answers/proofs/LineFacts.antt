@@ -4,11 +4,11 @@ use Rattle.std.specs.Prelude.{All, Some, Result, Err}
 use Rattle.std.proofs.lemmas.Int.{ints}
 use Rattle.std.proofs.lemmas.List.{append-nil}
 use Rattle.std.proofs.lemmas.List.Elements.{All-weaker}
-use Rattle.term_core.specs.Declarations.{Declarations, decimals_of}
-use Rattle.term_core.specs.Environments.{Environment}
-use Rattle.term_core.specs.LawsScales.{IsMultiple}
-use Rattle.term_core.specs.Terms.{Contract}
-use Rattle.term_core.specs.Acceptance.{IsAccepted}
+use Rattle.term_model.specs.Declarations.{Declarations, decimals_of}
+use Rattle.term_model.specs.Environments.{Environment}
+use Rattle.term_model.specs.LawsScales.{IsMultiple}
+use Rattle.term_model.specs.Terms.{Contract}
+use Rattle.term_model.specs.Acceptance.{IsAccepted}
 use Rattle.flow_eval.specs.Readiness.{last_day}
 use Rattle.flow_eval.specs.FlowAnswers.{AreFlows, AreKnownFlows}
 use Rattle.flow_eval.specs.Tables.{IsDueRow, paid_by}

@@ -1,7 +1,7 @@
 -- What stops `positions` and `settle` is what stops `flows` of all contracts, so their statuses have the same causes.
 use Rattle.std.specs.Prelude.{ℕ, List, Option}
-use Rattle.term_core.specs.Books.{Book}
-use Rattle.term_core.specs.Declarations.{Declarations}
+use Rattle.term_model.specs.Books.{Book}
+use Rattle.term_model.specs.Declarations.{Declarations}
 use Rattle.flow_eval.specs.declared.flow_table.FlowTable.{FlowTable}
 use Rattle.command_words.specs.Commands.{NettingAsked}
 use Rattle.command_answers.specs.DueOfNetting.{DueOfNettingIs, DueOfPositions, DueOfSettlements}

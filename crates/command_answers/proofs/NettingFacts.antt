@@ -3,14 +3,14 @@ use Rattle.std.proofs.Common.{◌≡◌, ◌∙◌, ◌<◌, ◌≤◌, ◌≤�
 use Rattle.std.specs.Prelude.{All, Option, None, Result, Err, IsErrAnd}
 use Rattle.std.specs.Global.{Vec}
 use Rattle.std.proofs.lemmas.List.Elements.{All-cons, All-head, All-nil, All-tail, All-weaker}
-use Rattle.term_core.specs.declared.decls.Decls.{Decls}
-use Rattle.term_core.specs.declared.name.Name.{Name}
-use Rattle.term_core.specs.Books.{Book}
-use Rattle.term_core.specs.Declarations.{Declarations, declarations}
-use Rattle.term_core.specs.Environments.{Environment, IsAdmitted}
-use Rattle.term_core.specs.Terms.{Contract}
-use Rattle.term_core.specs.Acceptance.{IsAccepted}
-use Rattle.term_core.specs.Limits.{longest_file}
+use Rattle.term_model.specs.declared.decls.Decls.{Decls}
+use Rattle.term_model.specs.declared.name.Name.{Name}
+use Rattle.term_model.specs.Books.{Book}
+use Rattle.term_model.specs.Declarations.{Declarations, declarations}
+use Rattle.term_model.specs.Environments.{Environment, IsAdmitted}
+use Rattle.term_model.specs.Terms.{Contract}
+use Rattle.term_model.specs.Acceptance.{IsAccepted}
+use Rattle.term_model.specs.Limits.{longest_file}
 use Rattle.interval_check.specs.Within.{KeepsLimits}
 use Rattle.flow_eval.specs.Readiness.{last_day}
 use Rattle.flow_eval.specs.FlowAnswers.{AreKnownFlows}

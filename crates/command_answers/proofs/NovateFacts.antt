@@ -5,10 +5,10 @@ use Rattle.std.specs.Prelude.{Option, Some, Err, length, if◌then◌else◌}
 use Rattle.std.specs.Global.{Vec}
 use Rattle.std.specs.List.{AllByRecursion}
 use Rattle.std.specs.Str.{bytes_eq}
-use Rattle.term_core.specs.declared.name.Name.{Name}
-use Rattle.term_core.specs.Books.{Book}
-use Rattle.term_core.specs.Declarations.{Declarations, declarations}
-use Rattle.term_core.specs.Terms.{Contract}
+use Rattle.term_model.specs.declared.name.Name.{Name}
+use Rattle.term_model.specs.Books.{Book}
+use Rattle.term_model.specs.Declarations.{Declarations, declarations}
+use Rattle.term_model.specs.Terms.{Contract}
 use Rattle.contract_print.specs.Rests.{IsSoundRest}
 use Rattle.exposure.specs.Renaming.{renamed}
 use Rattle.exposure.proofs.RenamedRules.{acceptance_is_kept, form_is_kept, limits_are_kept, numbers_are_kept}

@@ -1,11 +1,11 @@
 -- Contracts have one text of `check`: each has one verdict, and the verdict one line.
 use Rattle.std.proofs.Common.{◌≡◌, ◌∙◌, ℕ, List, [], ◌∷◌, ◌++◌, ap, pos, sym}
-use Rattle.term_core.specs.declared.name.Name.{Name}
-use Rattle.term_core.specs.declared.rules.Rule.{Rule}
-use Rattle.term_core.specs.Declarations.{Declarations}
-use Rattle.term_core.specs.Terms.{Contract}
-use Rattle.term_core.specs.Acceptance.{Facts}
-use Rattle.term_core.proofs.RefusalFacts.{accepted_not_refused, refusals_unique}
+use Rattle.term_model.specs.declared.name.Name.{Name}
+use Rattle.term_model.specs.declared.rules.Rule.{Rule}
+use Rattle.term_model.specs.Declarations.{Declarations}
+use Rattle.term_model.specs.Terms.{Contract}
+use Rattle.term_model.specs.Acceptance.{Facts}
+use Rattle.term_model.proofs.RefusalFacts.{accepted_not_refused, refusals_unique}
 use Rattle.contract_check.proofs.CheckFacts.{facts_unique}
 use Rattle.report.specs.CheckLines.{accepted_line, refused_line}
 use Rattle.command_answers.specs.CheckPromise.{AreCheckLines, IsCheckLine, accepted, refused}

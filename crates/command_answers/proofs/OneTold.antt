@@ -1,11 +1,11 @@
 -- A command that leaves nothing open tells one text of the bytes of its files; and one that does is done.
 use Rattle.std.proofs.Common.{◌≡◌, ◌∙◌, ◌+◌, ℕ, ℤ, List, ap, subst, sym}
 use Rattle.std.specs.Prelude.{Option, Some, None}
-use Rattle.term_core.specs.Books.{Book}
-use Rattle.term_core.specs.Environments.{Environment}
-use Rattle.term_core.specs.Factors.{CurveRow}
-use Rattle.term_core.specs.Flows.{Flow}
-use Rattle.term_core.specs.Terms.{Contract}
+use Rattle.term_model.specs.Books.{Book}
+use Rattle.term_model.specs.Environments.{Environment}
+use Rattle.term_model.specs.Factors.{CurveRow}
+use Rattle.term_model.specs.Flows.{Flow}
+use Rattle.term_model.specs.Terms.{Contract}
 use Rattle.contract_parse.proofs.OneText.{one_text}
 use Rattle.contract_print.specs.Canon.{IsCanon}
 use Rattle.contract_print.specs.Migrated.{migrated}

@@ -4,8 +4,8 @@ use Rattle.std.specs.Prelude.{Option, Some, None, Ok, Err, option_map, slice_get
 use Rattle.std.specs.List.{flat_map}
 use Rattle.std.proofs.lemmas.Option.{slice_get-map, slice_get_within}
 use Rattle.decimal.specs.declared.rounding.Mode.{Mode}
-use Rattle.term_core.specs.Declarations.{Declarations}
-use Rattle.term_core.specs.Environments.{Place, held}
+use Rattle.term_model.specs.Declarations.{Declarations}
+use Rattle.term_model.specs.Environments.{Place, held}
 use Rattle.fixing_files.specs.Tables.{table_of}
 use Rattle.fixing_files.specs.declared.faults.RowFault.{RowFault}
 use Rattle.payoff_lang.proofs.CodeAlikeFacts.{code_stays}

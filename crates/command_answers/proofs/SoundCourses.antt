@@ -2,13 +2,13 @@
 -- and its statuses are those of commands.
 use Rattle.std.proofs.Common.{◌≡◌, ◌∙◌, inl, inr, ℕ, ℤ, List, ap, refl, subst, sym}
 use Rattle.std.specs.Prelude.{Option, Some, None}
-use Rattle.term_core.specs.declared.name.Name.{Name}
-use Rattle.term_core.specs.Books.{Book}
-use Rattle.term_core.specs.Declarations.{Declarations}
-use Rattle.term_core.specs.Environments.{Environment, Place}
-use Rattle.term_core.specs.Factors.{CurveRow}
-use Rattle.term_core.specs.Flows.{Flow}
-use Rattle.term_core.specs.Terms.{Contract}
+use Rattle.term_model.specs.declared.name.Name.{Name}
+use Rattle.term_model.specs.Books.{Book}
+use Rattle.term_model.specs.Declarations.{Declarations}
+use Rattle.term_model.specs.Environments.{Environment, Place}
+use Rattle.term_model.specs.Factors.{CurveRow}
+use Rattle.term_model.specs.Flows.{Flow}
+use Rattle.term_model.specs.Terms.{Contract}
 use Rattle.contract_parse.proofs.OneText.{one_text}
 use Rattle.contract_print.specs.Canon.{IsCanon}
 use Rattle.contract_print.specs.Migrated.{migrated}

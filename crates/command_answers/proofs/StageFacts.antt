@@ -1,16 +1,16 @@
 -- The stages exclude one another: none both passes and stops, each has one fault, with the stage's status.
 use Rattle.std.proofs.Common.{◌≡◌, ◌∙◌, ℕ, ℤ, pos, true, false, List, ap, refl, subst, sym}
 use Rattle.std.specs.Prelude.{Option, Some, None}
-use Rattle.term_core.specs.declared.name.Name.{Name}
-use Rattle.term_core.specs.declared.rules.Rule.{Rule}
-use Rattle.term_core.specs.Books.{Book}
-use Rattle.term_core.specs.Declarations.{Declarations}
-use Rattle.term_core.specs.Environments.{Environment, Place}
-use Rattle.term_core.specs.Factors.{CurveRow}
-use Rattle.term_core.specs.Flows.{Flow}
-use Rattle.term_core.specs.Terms.{Contract}
-use Rattle.term_core.specs.Instances.{instance, declared_numbers}
-use Rattle.term_core.proofs.RefusalFacts as contracts
+use Rattle.term_model.specs.declared.name.Name.{Name}
+use Rattle.term_model.specs.declared.rules.Rule.{Rule}
+use Rattle.term_model.specs.Books.{Book}
+use Rattle.term_model.specs.Declarations.{Declarations}
+use Rattle.term_model.specs.Environments.{Environment, Place}
+use Rattle.term_model.specs.Factors.{CurveRow}
+use Rattle.term_model.specs.Flows.{Flow}
+use Rattle.term_model.specs.Terms.{Contract}
+use Rattle.term_model.specs.Instances.{instance, declared_numbers}
+use Rattle.term_model.proofs.RefusalFacts as contracts
 use Rattle.contract_parse.specs.Names.{index_in}
 use Rattle.contract_parse.specs.declared.faults.TextFault.{TextFault}
 use Rattle.contract_parse.specs.declared.heads.Language.{Language}

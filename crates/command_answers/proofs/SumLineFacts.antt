@@ -3,14 +3,14 @@ use Rattle.std.proofs.Common.{◌≡◌, ◌≤◌, ◌^◌, ◌-ℤ◌, ◌+ℤ
 use Rattle.std.specs.Prelude.{All, None, codes}
 use Rattle.std.proofs.lemmas.Int.{ints}
 use Rattle.std.proofs.lemmas.List.Elements.{All-cons, All-head, All-nil, All-tail, All-weaker}
-use Rattle.term_core.specs.declared.name.Name.{Name}
-use Rattle.term_core.specs.Declarations.{Declarations}
-use Rattle.term_core.specs.Environments.{Environment, Extends, IsAdmitted}
-use Rattle.term_core.specs.Flows.{Flow, amount_of}
-use Rattle.term_core.specs.Limits.{longest_file}
-use Rattle.term_core.specs.Terms.{Contract}
-use Rattle.term_core.specs.Acceptance.{IsAccepted}
-use Rattle.term_core.proofs.FlowFacts.{amounts_opposite}
+use Rattle.term_model.specs.declared.name.Name.{Name}
+use Rattle.term_model.specs.Declarations.{Declarations}
+use Rattle.term_model.specs.Environments.{Environment, Extends, IsAdmitted}
+use Rattle.term_model.specs.Flows.{Flow, amount_of}
+use Rattle.term_model.specs.Limits.{longest_file}
+use Rattle.term_model.specs.Terms.{Contract}
+use Rattle.term_model.specs.Acceptance.{IsAccepted}
+use Rattle.term_model.proofs.FlowFacts.{amounts_opposite}
 use Rattle.interval_check.specs.Within.{KeepsLimits}
 use Rattle.interval_check.proofs.GuaranteeFacts.{amounts_add_up_to_total}
 use Rattle.flow_eval.specs.FlowAnswers.{AreKnownFlows}

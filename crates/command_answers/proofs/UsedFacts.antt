@@ -6,16 +6,16 @@ use Rattle.std.specs.List.{filter, sum_by}
 use Rattle.std.proofs.lemmas.Bool.{and_parts}
 use Rattle.std.proofs.lemmas.List.Sums.{sum_by-cons}
 use Rattle.std.proofs.lemmas.List.Elements.{All-cons, All-nil}
-use Rattle.term_core.specs.declared.name.Name.{Name}
-use Rattle.term_core.specs.Books.{Book}
-use Rattle.term_core.specs.DayCounts.{Days, Named, Num as Count, Sum}
-use Rattle.term_core.specs.Declarations.{Declarations}
-use Rattle.term_core.specs.Terms.{Contract, Zero, Pay, Both, Scale, After, Let, Within}
-use Rattle.term_core.specs.Sizes.{height_of_contract, nodes_of_contract}
-use Rattle.term_core.specs.WellFormed.{HasOnlyNumbers, IsNumber}
-use Rattle.term_core.specs.Instances.{HasNumbers, IsSetting, declared_numbers, instance, with_number}
-use Rattle.term_core.specs.Limits.{are_numbers, longest_file}
-use Rattle.term_core.proofs.InstanceFacts.{defaults_suit, instances_have_numbers, instances_well_formed, settings_suit}
+use Rattle.term_model.specs.declared.name.Name.{Name}
+use Rattle.term_model.specs.Books.{Book}
+use Rattle.term_model.specs.DayCounts.{Days, Named, Num as Count, Sum}
+use Rattle.term_model.specs.Declarations.{Declarations}
+use Rattle.term_model.specs.Terms.{Contract, Zero, Pay, Both, Scale, After, Let, Within}
+use Rattle.term_model.specs.Sizes.{height_of_contract, nodes_of_contract}
+use Rattle.term_model.specs.WellFormed.{HasOnlyNumbers, IsNumber}
+use Rattle.term_model.specs.Instances.{HasNumbers, IsSetting, declared_numbers, instance, with_number}
+use Rattle.term_model.specs.Limits.{are_numbers, longest_file}
+use Rattle.term_model.proofs.InstanceFacts.{defaults_suit, instances_have_numbers, instances_well_formed, settings_suit}
 use Rattle.contract_parse.specs.NextContracts.{IsSoundContract}
 use Rattle.contract_parse.specs.Texts.{Text}
 use Rattle.contract_parse.proofs.TextClosed.{contracts_closed, contracts_small}

@@ -13,10 +13,10 @@ use Rattle.std.proofs.lemmas.List.{length-map}
 use Rattle.std.proofs.lemmas.Nat.{mul-le}
 use Rattle.decimal.specs.Rounding.{raised}
 use Rattle.decimal.proofs.PowerFacts.{ten_above}
-use Rattle.term_core.specs.Declarations.{Declarations}
-use Rattle.term_core.specs.Environments.{Environment}
-use Rattle.term_core.specs.Factors.{CurveRow}
-use Rattle.term_core.specs.Flows.{Flow}
+use Rattle.term_model.specs.Declarations.{Declarations}
+use Rattle.term_model.specs.Environments.{Environment}
+use Rattle.term_model.specs.Factors.{CurveRow}
+use Rattle.term_model.specs.Flows.{Flow}
 use Rattle.contract_parse.specs.Names.{index_in}
 use Rattle.flow_eval.specs.declared.faults.FlowErr.TheVariants as flow
 use Rattle.payoff_check.specs.Verdicts.{IsScaleOf, IsTotalOf}

@@ -1,9 +1,9 @@
 -- Code over two tables of fixings that hold the same: its first read that is not fixed is the same, and so is its value.
 use Rattle.std.proofs.Common.{◌≡◌, ◌∙◌, ℕ, ℤ, pos, List, [], ap, sym}
-use Rattle.term_core.specs.Declarations.{Declarations}
-use Rattle.term_core.specs.Environments.{Environment, Extends, Place}
-use Rattle.term_core.specs.Reads.{first_unfixed, is_fixed, up_to_first}
-use Rattle.term_core.proofs.ReadLawFacts.{extension_reads, no_names}
+use Rattle.term_model.specs.Declarations.{Declarations}
+use Rattle.term_model.specs.Environments.{Environment, Extends, Place}
+use Rattle.term_model.specs.Reads.{first_unfixed, is_fixed, up_to_first}
+use Rattle.term_model.proofs.ReadLawFacts.{extension_reads, no_names}
 use Rattle.payoff_lang.specs.Code.{PayoffCode}
 use Rattle.payoff_lang.specs.CodeBooks.{CodeBook}
 use Rattle.payoff_lang.specs.CodeReads.{reads_of_code}

@@ -3,10 +3,10 @@ use Rattle.std.proofs.Common.{◌≤◌, ℕ, suc, ℤ, Bool, true, false, List,
 use Rattle.std.specs.Prelude.{Option, Some, None, if◌then◌else◌}
 use Rattle.std.specs.List.{AllByRecursion}
 use Rattle.std.specs.Str.{bytes_eq}
-use Rattle.term_core.specs.declared.name.Name.{Name}
-use Rattle.term_core.specs.Declarations.{Declarations}
-use Rattle.term_core.specs.Environments.{Environment}
-use Rattle.term_core.specs.Terms.{Contract, Zero, Pay, Both, Scale, After, Let, Within}
+use Rattle.term_model.specs.declared.name.Name.{Name}
+use Rattle.term_model.specs.Declarations.{Declarations}
+use Rattle.term_model.specs.Environments.{Environment}
+use Rattle.term_model.specs.Terms.{Contract, Zero, Pay, Both, Scale, After, Let, Within}
 use Rattle.contract_print.specs.Rests.{IsSoundRest}
 use Rattle.contract_print.specs.Writable.{IsWritableContract, IsWritableTerm}
 use Rattle.contract_print.proofs.RestFacts.{rest_written}

@@ -2,8 +2,8 @@
 -- fixings of which each row is taken; reads of the days before that day that are fixed; and then what is due before it, and
 -- the text of what is left on it.
 use Rattle.std.specs.Prelude.{ℕ, List, Option, Some, None}
-use Rattle.term_core.specs.Books.{Book}
-use Rattle.term_core.specs.Environments.{Environment}
+use Rattle.term_model.specs.Books.{Book}
+use Rattle.term_model.specs.Environments.{Environment}
 use Rattle.command_words.specs.Commands.{AdvanceAsked}
 use Rattle.command_answers.specs.AdvancePromise.{IsAdvanced, last_gone}
 use Rattle.command_answers.specs.Course.{Course, behind, tells}

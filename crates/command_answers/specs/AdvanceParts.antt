@@ -2,11 +2,11 @@
 -- comes of all contracts of a text.
 use Rattle.std.specs.Prelude.{◌≡◌, ◌-◌, ℕ, pos, true, map, List, [], ◌∷◌, ◌++◌, Option, Some, None, Result}
 use Rattle.std.specs.Global.{Vec}
-use Rattle.term_core.specs.declared.name.Name.{Name}
-use Rattle.term_core.specs.Books.{Book}
-use Rattle.term_core.specs.Declarations.{Declarations, declarations}
-use Rattle.term_core.specs.Environments.{Environment}
-use Rattle.term_core.specs.Terms.{Contract, contract}
+use Rattle.term_model.specs.declared.name.Name.{Name}
+use Rattle.term_model.specs.Books.{Book}
+use Rattle.term_model.specs.Declarations.{Declarations, declarations}
+use Rattle.term_model.specs.Environments.{Environment}
+use Rattle.term_model.specs.Terms.{Contract, contract}
 use Rattle.contract_parse.specs.Names.{declared_by}
 use Rattle.contract_parse.specs.Texts.{Text}
 use Rattle.contract_parse.specs.declared.next_contracts.ContractReader.{ContractReader}

@@ -3,12 +3,12 @@
 -- line a comment; and then the canonical text of a portfolio that stands on the new day, with what is left of each contract
 -- under its name.
 use Rattle.std.specs.Prelude.{◌≡◌, ◌≤◌, ◌-◌, ◌-ℤ◌, ℕ, ℤ, pos, List, [], ◌∷◌, ◌++◌, Option, None, Ok, codes}
-use Rattle.term_core.specs.declared.name.Name.{Name}
-use Rattle.term_core.specs.Books.{Book}
-use Rattle.term_core.specs.Declarations.{Declarations}
-use Rattle.term_core.specs.Environments.{Environment}
-use Rattle.term_core.specs.Limits.{last_start}
-use Rattle.term_core.specs.Terms.{Contract}
+use Rattle.term_model.specs.declared.name.Name.{Name}
+use Rattle.term_model.specs.Books.{Book}
+use Rattle.term_model.specs.Declarations.{Declarations}
+use Rattle.term_model.specs.Environments.{Environment}
+use Rattle.term_model.specs.Limits.{last_start}
+use Rattle.term_model.specs.Terms.{Contract}
 use Rattle.contract_print.specs.Canon.{IsCanon}
 use Rattle.fixing_files.specs.Days.{day_of}
 use Rattle.flow_eval.specs.FlowAnswers.{AreKnownFlows}

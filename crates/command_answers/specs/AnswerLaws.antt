@@ -1,8 +1,8 @@
 -- Laws of answers: that the bytes of a command's files have one, and that declared names have places.
 use Rattle.std.specs.Prelude.{◌≡◌, ℕ, List, Option, None}
-use Rattle.term_core.specs.Books.{Book}
-use Rattle.term_core.specs.Declarations.{Declarations}
-use Rattle.term_core.specs.Flows.{Flow}
+use Rattle.term_model.specs.Books.{Book}
+use Rattle.term_model.specs.Declarations.{Declarations}
+use Rattle.term_model.specs.Flows.{Flow}
 use Rattle.sample.specs.Summary.{IsSummary}
 use Rattle.command_words.specs.Commands.{Advance, AdvanceAsked, Novate, NovateAsked, Request, ValueAsked}
 use Rattle.command_answers.specs.AdvancePromise.{IsAdvanceText}

@@ -1,12 +1,12 @@
 -- What the parts of `check` answer: the line of each contract behind those before it, and whether all of them were
 -- accepted so far.
 use Rattle.std.specs.Prelude.{◌≡◌, ◌↔◌, ◌&&◌, ℕ, Bool, true, IsTrue, List, [], ◌++◌, map, None, Result, Ok, Err}
-use Rattle.term_core.specs.declared.name.Name.{Name}
-use Rattle.term_core.specs.declared.rules.RuleFault.{RuleFault}
-use Rattle.term_core.specs.Books.{Book}
-use Rattle.term_core.specs.Declarations.{Declarations}
-use Rattle.term_core.specs.Terms.{Contract}
-use Rattle.term_core.specs.Acceptance.{IsAccepted, IsRefusal}
+use Rattle.term_model.specs.declared.name.Name.{Name}
+use Rattle.term_model.specs.declared.rules.RuleFault.{RuleFault}
+use Rattle.term_model.specs.Books.{Book}
+use Rattle.term_model.specs.Declarations.{Declarations}
+use Rattle.term_model.specs.Terms.{Contract}
+use Rattle.term_model.specs.Acceptance.{IsAccepted, IsRefusal}
 use Rattle.contract_parse.specs.Texts.{Text}
 use Rattle.contract_check.specs.Checks.{IsGranted}
 use Rattle.contract_check.specs.declared.checks.Facts.{Facts}

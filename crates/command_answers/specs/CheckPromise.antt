@@ -3,13 +3,13 @@
 -- refuses it and the first node at which that fails.
 use Rattle.std.specs.Prelude.{◌≡◌, ◌⊎◌, ℕ, pos, List, [], ◌∷◌, ◌++◌, None}
 use Rattle.std.specs.List.{All}
-use Rattle.term_core.specs.declared.name.Name.{Name}
-use Rattle.term_core.specs.declared.rules.Rule.{Rule}
-use Rattle.term_core.specs.Books.{Book}
-use Rattle.term_core.specs.Declarations.{Declarations}
-use Rattle.term_core.specs.Terms.{Contract}
-use Rattle.term_core.specs.Acceptance.{Facts, IsAccepted, AreFacts, IsRefusal}
-use Rattle.term_core.specs.Causality.{IsCausal}
+use Rattle.term_model.specs.declared.name.Name.{Name}
+use Rattle.term_model.specs.declared.rules.Rule.{Rule}
+use Rattle.term_model.specs.Books.{Book}
+use Rattle.term_model.specs.Declarations.{Declarations}
+use Rattle.term_model.specs.Terms.{Contract}
+use Rattle.term_model.specs.Acceptance.{Facts, IsAccepted, AreFacts, IsRefusal}
+use Rattle.term_model.specs.Causality.{IsCausal}
 use Rattle.report.specs.CheckLines.{accepted_line, refused_line}
 use Rattle.command_answers.specs.UsedContracts.{used}
 use Rattle.command_answers.specs.declared.status.Status.{Status}

@@ -1,7 +1,7 @@
 -- What the law of statuses says of `flows`, status by status: in the order of its stages, each with what passes before it.
 use Rattle.std.specs.Prelude.{◌≡◌, ℕ, ℤ, false, true, List, Option, Some}
-use Rattle.term_core.specs.Books.{Book}
-use Rattle.term_core.specs.Environments.{Environment}
+use Rattle.term_model.specs.Books.{Book}
+use Rattle.term_model.specs.Environments.{Environment}
 use Rattle.fixing_files.specs.Tables.{IsFirstFault, table_of}
 use Rattle.fixing_files.specs.declared.faults.RowFault.{RowFault}
 use Rattle.report.specs.declared.fault_lines.Fault.{Fault}

@@ -1,8 +1,8 @@
 -- What the law of statuses says of `positions` and `settle`: what stops them is what stops `flows` of all contracts, and each status
 -- of theirs has the cause that it has there.
 use Rattle.std.specs.Prelude.{◌↔◌, ℕ, List, Option}
-use Rattle.term_core.specs.Books.{Book}
-use Rattle.term_core.specs.Declarations.{Declarations}
+use Rattle.term_model.specs.Books.{Book}
+use Rattle.term_model.specs.Declarations.{Declarations}
 use Rattle.flow_eval.specs.declared.flow_table.FlowTable.{FlowTable}
 use Rattle.report.specs.declared.fault_lines.Fault.{Fault}
 use Rattle.command_words.specs.Commands.{NettingAsked}

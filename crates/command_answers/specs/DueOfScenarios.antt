@@ -1,6 +1,6 @@
 -- What the law of statuses says of `scenarios`, status by status: in the order of its stages, each with what passes before it.
 use Rattle.std.specs.Prelude.{ℕ, ℤ, List}
-use Rattle.term_core.specs.Declarations.{Declarations}
+use Rattle.term_model.specs.Declarations.{Declarations}
 use Rattle.fixing_files.specs.CurveTables.{IsFirstCurveFault}
 use Rattle.fixing_files.specs.Tables.{table_of}
 use Rattle.fixing_files.specs.declared.faults.RowFault.{RowFault}

@@ -2,12 +2,12 @@
 -- names, where these are accepted, and their text.
 use Rattle.std.specs.Prelude.{◌≡◌, ◌++◌, [], ℕ, List, map, Result}
 use Rattle.std.specs.List.{All}
-use Rattle.term_core.specs.declared.name.Name.{Name}
-use Rattle.term_core.specs.declared.terms.Contr.{Contr}
-use Rattle.term_core.specs.Acceptance.{IsAccepted}
-use Rattle.term_core.specs.Books.{Book}
-use Rattle.term_core.specs.Declarations.{Declarations}
-use Rattle.term_core.specs.Terms.{Contract, contract}
+use Rattle.term_model.specs.declared.name.Name.{Name}
+use Rattle.term_model.specs.declared.terms.Contr.{Contr}
+use Rattle.term_model.specs.Acceptance.{IsAccepted}
+use Rattle.term_model.specs.Books.{Book}
+use Rattle.term_model.specs.Declarations.{Declarations}
+use Rattle.term_model.specs.Terms.{Contract, contract}
 use Rattle.contract_parse.specs.Names.{declared_by}
 use Rattle.contract_print.specs.Canon.{IsCanon, contract_text}
 use Rattle.contract_print.specs.Writable.{IsWritableTerm}

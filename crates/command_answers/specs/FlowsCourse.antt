@@ -2,8 +2,8 @@
 -- is a contract's; a day in range; contracts that are accepted; fixings of which each row is taken; reads that are fixed; and
 -- then the flow lines, or those of the sum.
 use Rattle.std.specs.Prelude.{ℕ, ℤ, List, Option, option_map}
-use Rattle.term_core.specs.Books.{Book}
-use Rattle.term_core.specs.Environments.{Environment}
+use Rattle.term_model.specs.Books.{Book}
+use Rattle.term_model.specs.Environments.{Environment}
 use Rattle.command_words.specs.Commands.{FlowsAsked}
 use Rattle.command_answers.specs.Course.{Course, behind, tells}
 use Rattle.command_answers.specs.FlowsPromise.{AreLinesAsked}

@@ -3,14 +3,14 @@
 -- their place the lines of what these contracts pay together.
 use Rattle.std.specs.Prelude.{◌≡◌, ◌≤ℤ◌, ◌<ℤ◌, ℕ, ℤ, pos, Bool, true, false, List, [], ◌∷◌, ◌++◌, Option, Some, None, Ok, Err, codes, map, slice_get}
 use Rattle.std.specs.List.{All}
-use Rattle.term_core.specs.declared.name.Name.{Name}
-use Rattle.term_core.specs.declared.rules.Rule.{Rule}
-use Rattle.term_core.specs.Declarations.{Declarations}
-use Rattle.term_core.specs.Environments.{Environment, Extends, Place}
-use Rattle.term_core.specs.Flows.{Flow}
-use Rattle.term_core.specs.Terms.{Contract}
-use Rattle.term_core.specs.Acceptance.{IsRefusal}
-use Rattle.term_core.specs.Reads.{first_unfixed}
+use Rattle.term_model.specs.declared.name.Name.{Name}
+use Rattle.term_model.specs.declared.rules.Rule.{Rule}
+use Rattle.term_model.specs.Declarations.{Declarations}
+use Rattle.term_model.specs.Environments.{Environment, Extends, Place}
+use Rattle.term_model.specs.Flows.{Flow}
+use Rattle.term_model.specs.Terms.{Contract}
+use Rattle.term_model.specs.Acceptance.{IsRefusal}
+use Rattle.term_model.specs.Reads.{first_unfixed}
 use Rattle.fixing_files.specs.Days.{day_of}
 use Rattle.fixing_files.specs.Tables.{Holds, table_of}
 use Rattle.fixing_files.specs.declared.days.DayFault.TheVariants.{NoOrigin}

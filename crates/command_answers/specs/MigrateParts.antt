@@ -1,9 +1,9 @@
 -- What the parts of `migrate` answer: the contracts that are read so far, printed in version 2.
 use Rattle.std.specs.Prelude.{ℕ, List, Result}
 use Rattle.std.specs.Global.{Vec}
-use Rattle.term_core.specs.declared.name.Name.{Name}
-use Rattle.term_core.specs.Declarations.{Declarations}
-use Rattle.term_core.specs.Terms.{Contract}
+use Rattle.term_model.specs.declared.name.Name.{Name}
+use Rattle.term_model.specs.Declarations.{Declarations}
+use Rattle.term_model.specs.Terms.{Contract}
 use Rattle.contract_parse.specs.NextContracts.{IsReadTo}
 use Rattle.contract_parse.specs.declared.next_contracts.ContractReader.{ContractReader}
 use Rattle.contract_print.specs.Canon.{IsCanon}

@@ -1,8 +1,8 @@
 -- `positions PORTFOLIO [FIXINGS] [--until DAY]` and `settle PORTFOLIO [FIXINGS] [--until DAY]`: the stages of `flows` of all contracts;
 -- and then the lines of what parties come to by the contracts' flow tables, or of payments that settle it.
 use Rattle.std.specs.Prelude.{ℕ, true, List, Option, None}
-use Rattle.term_core.specs.Books.{Book}
-use Rattle.term_core.specs.Declarations.{Declarations}
+use Rattle.term_model.specs.Books.{Book}
+use Rattle.term_model.specs.Declarations.{Declarations}
 use Rattle.flow_eval.specs.declared.flow_table.FlowTable.{FlowTable}
 use Rattle.command_words.specs.Commands.{FlowsAsked, NettingAsked}
 use Rattle.command_answers.specs.Course.{Course, behind, tells}

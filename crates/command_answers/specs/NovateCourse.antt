@@ -1,7 +1,7 @@
 -- `novate PORTFOLIO FIXINGS --to DAY --contract NAME --old PARTY --new PARTY`: the portfolio of the text; the name of a contract; a
 -- declared party, and another; and then the stages of `advance`, what is due, and the text of what is left with the new party.
 use Rattle.std.specs.Prelude.{ℕ, List, Option, Some}
-use Rattle.term_core.specs.Books.{Book}
+use Rattle.term_model.specs.Books.{Book}
 use Rattle.command_words.specs.Commands.{NovateAsked}
 use Rattle.command_answers.specs.AdvanceCourse.{to_a_day}
 use Rattle.command_answers.specs.Course.{Course, behind, tells}

@@ -3,10 +3,10 @@
 -- lines of what is due keep the old party.
 use Rattle.std.specs.Prelude.{◌≡◌, ℕ, true, map, List, Option, Some, if◌then◌else◌}
 use Rattle.std.specs.Str.{bytes_eq}
-use Rattle.term_core.specs.declared.name.Name.{Name}
-use Rattle.term_core.specs.Books.{Book}
-use Rattle.term_core.specs.Environments.{Environment}
-use Rattle.term_core.specs.Terms.{Contract}
+use Rattle.term_model.specs.declared.name.Name.{Name}
+use Rattle.term_model.specs.Books.{Book}
+use Rattle.term_model.specs.Environments.{Environment}
+use Rattle.term_model.specs.Terms.{Contract}
 use Rattle.contract_parse.specs.Names.{index_in}
 use Rattle.exposure.specs.Renaming.{renamed}
 use Rattle.command_words.specs.Commands.{NovateAsked}

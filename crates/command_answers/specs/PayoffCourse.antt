@@ -1,9 +1,9 @@
 -- `payoff PORTFOLIO --contract NAME [--plain]`: the portfolio of the text; the contract of the name; that it is accepted at the
 -- defaults; and then the text of its code.
 use Rattle.std.specs.Prelude.{ℕ, List}
-use Rattle.term_core.specs.Books.{Book}
-use Rattle.term_core.specs.Declarations.{Declarations}
-use Rattle.term_core.specs.Terms.{Contract}
+use Rattle.term_model.specs.Books.{Book}
+use Rattle.term_model.specs.Declarations.{Declarations}
+use Rattle.term_model.specs.Terms.{Contract}
 use Rattle.payoff_lang.specs.CodeCanon.{IsCanonOfCode}
 use Rattle.command_words.specs.Commands.{PayoffAsked}
 use Rattle.command_answers.specs.Course.{Course, behind, tells}

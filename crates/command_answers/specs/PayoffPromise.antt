@@ -3,12 +3,12 @@
 -- with the names of its templates, or its plain code where that is asked. The contract is tried under the portfolio's own
 -- declarations.
 use Rattle.std.specs.Prelude.{◌≡◌, ℕ, Bool, true, false, List, Some}
-use Rattle.term_core.specs.declared.rules.Rule.{Rule}
-use Rattle.term_core.specs.Acceptance.{IsAccepted, IsRefusal}
-use Rattle.term_core.specs.Books.{Book}
-use Rattle.term_core.specs.Declarations.{Declarations, at_one_scale}
-use Rattle.term_core.specs.Instances.{instance, declared_numbers}
-use Rattle.term_core.specs.Terms.{Contract}
+use Rattle.term_model.specs.declared.rules.Rule.{Rule}
+use Rattle.term_model.specs.Acceptance.{IsAccepted, IsRefusal}
+use Rattle.term_model.specs.Books.{Book}
+use Rattle.term_model.specs.Declarations.{Declarations, at_one_scale}
+use Rattle.term_model.specs.Instances.{instance, declared_numbers}
+use Rattle.term_model.specs.Terms.{Contract}
 use Rattle.payoff_lang.specs.Code.{PayoffCode}
 use Rattle.payoff_lang.specs.CodeBooks.{CodeBook}
 use Rattle.payoff_lang.specs.CodeCanon.{IsCanonOfCode}

@@ -1,9 +1,9 @@
 -- The contracts of a text, as they are read one at a time.
 use Rattle.std.specs.Prelude.{◌<◌, [], ℕ, List, Option, Some, None, IfOk, IfSome, Result}
-use Rattle.term_core.specs.declared.decls.Decls.{Decls}
-use Rattle.term_core.specs.declared.name.Name.{Name}
-use Rattle.term_core.specs.Declarations.{Declarations, declarations}
-use Rattle.term_core.specs.Terms.{Contract}
+use Rattle.term_model.specs.declared.decls.Decls.{Decls}
+use Rattle.term_model.specs.declared.name.Name.{Name}
+use Rattle.term_model.specs.Declarations.{Declarations, declarations}
+use Rattle.term_model.specs.Terms.{Contract}
 use Rattle.contract_parse.specs.NextContracts.{IsNext, IsReadTo, bytes_left}
 use Rattle.contract_parse.specs.Texts.{Text}
 use Rattle.contract_parse.specs.declared.next_contracts.ContractReader.{ContractReader}

@@ -1,8 +1,8 @@
 -- What the parts of `scenarios` answer behind accepted code, each that of its own or the fault that stops the command.
 use Rattle.std.specs.Prelude.{◌≡◌, ◌⊎◌, ◌<◌, ℕ, List, Result, length}
 use Rattle.decimal.specs.declared.rounding.Mode.{Mode}
-use Rattle.term_core.specs.Declarations.{Declarations}
-use Rattle.term_core.specs.Factors.{CurveRow}
+use Rattle.term_model.specs.Declarations.{Declarations}
+use Rattle.term_model.specs.Factors.{CurveRow}
 use Rattle.fixing_files.specs.Tables.{table_of}
 use Rattle.scenario_set.specs.LawsTotals.{at_setting}
 use Rattle.scenario_set.specs.Scenarios.{AreAdmitted, NamedMap}

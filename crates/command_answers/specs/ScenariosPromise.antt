@@ -4,8 +4,8 @@
 -- of the least and of the greatest.
 use Rattle.std.specs.Prelude.{◌≡◌, ◌+◌, ℕ, ℤ, List}
 use Rattle.decimal.specs.declared.rounding.Mode.{Mode}
-use Rattle.term_core.specs.Factors.{CurveRow}
-use Rattle.term_core.specs.Flows.{Flow}
+use Rattle.term_model.specs.Factors.{CurveRow}
+use Rattle.term_model.specs.Flows.{Flow}
 use Rattle.fixing_files.specs.CurveTables.{HoldsCurve}
 use Rattle.fixing_files.specs.Tables.{table_of}
 use Rattle.payoff_lang.specs.CodeAcceptance.{IsAcceptedCode}

@@ -1,13 +1,13 @@
 -- The stages of commands, each with its status, what it passes on, and the fault that it has.
 use Rattle.std.specs.Prelude.{◌≡◌, ℕ, ℤ, true, false, List, Option, Some, None}
-use Rattle.term_core.specs.declared.name.Name.{Name}
-use Rattle.term_core.specs.declared.rules.Rule.{Rule}
-use Rattle.term_core.specs.Books.{Book}
-use Rattle.term_core.specs.Declarations.{Declarations}
-use Rattle.term_core.specs.Environments.{Environment, Place}
-use Rattle.term_core.specs.Factors.{CurveRow}
-use Rattle.term_core.specs.Flows.{Flow}
-use Rattle.term_core.specs.Terms.{Contract}
+use Rattle.term_model.specs.declared.name.Name.{Name}
+use Rattle.term_model.specs.declared.rules.Rule.{Rule}
+use Rattle.term_model.specs.Books.{Book}
+use Rattle.term_model.specs.Declarations.{Declarations}
+use Rattle.term_model.specs.Environments.{Environment, Place}
+use Rattle.term_model.specs.Factors.{CurveRow}
+use Rattle.term_model.specs.Flows.{Flow}
+use Rattle.term_model.specs.Terms.{Contract}
 use Rattle.contract_parse.specs.Names.{index_in}
 use Rattle.contract_parse.specs.Texts.{IsFault, Text}
 use Rattle.contract_parse.specs.declared.faults.TextFault.{TextFault}

@@ -1,9 +1,9 @@
 -- What is asked of a contract before it is tried.
 use Rattle.std.specs.Prelude.{◌≤◌, ◌<◌, ◌^◌}
-use Rattle.term_core.specs.Declarations.{Declarations}
-use Rattle.term_core.specs.Terms.{Contract}
-use Rattle.term_core.specs.Sizes.{height_of_contract, nodes_of_contract}
-use Rattle.term_core.specs.WellFormed.{HasOnlyNumbers, IsClosed}
+use Rattle.term_model.specs.Declarations.{Declarations}
+use Rattle.term_model.specs.Terms.{Contract}
+use Rattle.term_model.specs.Sizes.{height_of_contract, nodes_of_contract}
+use Rattle.term_model.specs.WellFormed.{HasOnlyNumbers, IsClosed}
 
 -- a contract without names of templates that can be tried
 pub record IsTriable (d : Declarations) (c : Contract) : Type 0 where

@@ -2,7 +2,7 @@
 -- in range; code that is accepted at the numbers that are set; fixings and then factors of which each row is taken; reads that
 -- are fixed; and then the line of the value.
 use Rattle.std.specs.Prelude.{ℕ, ℤ, List, Some}
-use Rattle.term_core.specs.Flows.{Flow}
+use Rattle.term_model.specs.Flows.{Flow}
 use Rattle.payoff_lang.specs.CodeBooks.{CodeBook}
 use Rattle.command_words.specs.Commands.{ValueAsked}
 use Rattle.command_answers.specs.Course.{Course, behind, tells}

@@ -1,10 +1,10 @@
 -- What the parts of `value` answer, each that of its own or the fault that stops the command. `scenarios` shares those up to its
 -- tables, and the curve.
 use Rattle.std.specs.Prelude.{◌≡◌, ◌≤◌, ◌<◌, ◌^◌, ℕ, ℤ, pos, List, [], Option, Some, None, Result, unsigned_abs}
-use Rattle.term_core.specs.Declarations.{Declarations}
-use Rattle.term_core.specs.Environments.{Environment, Place}
-use Rattle.term_core.specs.Factors.{CurveRow}
-use Rattle.term_core.specs.Flows.{Flow}
+use Rattle.term_model.specs.Declarations.{Declarations}
+use Rattle.term_model.specs.Environments.{Environment, Place}
+use Rattle.term_model.specs.Factors.{CurveRow}
+use Rattle.term_model.specs.Flows.{Flow}
 use Rattle.payoff_lang.specs.CodeAcceptance.{IsAcceptedCode}
 use Rattle.payoff_lang.specs.CodeBooks.{CodeBook, code_book}
 use Rattle.payoff_lang.specs.CodeFiles.{CodeText}

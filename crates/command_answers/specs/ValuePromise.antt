@@ -3,11 +3,11 @@
 use Rattle.std.specs.Prelude.{◌≡◌, ◌+◌, ℕ, ℤ, pos, List, [], ◌∷◌, ◌++◌, Option, Some, None, find, is_none, map, option_map, unwrap_or}
 use Rattle.std.specs.Map.{keys_of, lookup}
 use Rattle.std.specs.Str.{bytes_eq}
-use Rattle.term_core.specs.Declarations.{Declarations}
-use Rattle.term_core.specs.Environments.{Environment, Extends, Place}
-use Rattle.term_core.specs.Factors.{CurveRow}
-use Rattle.term_core.specs.Flows.{Flow}
-use Rattle.term_core.specs.Reads.{first_unfixed}
+use Rattle.term_model.specs.Declarations.{Declarations}
+use Rattle.term_model.specs.Environments.{Environment, Extends, Place}
+use Rattle.term_model.specs.Factors.{CurveRow}
+use Rattle.term_model.specs.Flows.{Flow}
+use Rattle.term_model.specs.Reads.{first_unfixed}
 use Rattle.contract_parse.specs.Names.{index_in}
 use Rattle.fixing_files.specs.CurveTables.{HoldsCurve}
 use Rattle.fixing_files.specs.Tables.{Holds, table_of}

@@ -1,8 +1,8 @@
 //! A contract of a name that is accepted, or what stops a command that uses one that is not.
 
 ghost use Rattle.std.specs.Prelude.{◌≡◌, IfOk};
-ghost use Rattle.term_core.specs.Declarations.{declarations};
-ghost use Rattle.term_core.specs.Terms.{contract};
+ghost use Rattle.term_model.specs.Declarations.{declarations};
+ghost use Rattle.term_model.specs.Terms.{contract};
 ghost use Rattle.command_answers.specs.ChoosingParts.{refused_fault};
 ghost use Rattle.command_answers.specs.FlowsParts.{AnswersAcceptedOne};
 ghost use Rattle.command_answers.specs.UsedParts.{IsTriable};
@@ -12,7 +12,7 @@ use crate::stop::Stop;
 use decimal::NoMemory;
 use report::Fault;
 use std::alloc::Global;
-use term_core::{Contr, Decls, Name, RuleFault};
+use term_model::{Contr, Decls, Name, RuleFault};
 
 /// The fault of a contract that is not accepted.
 pub fn refusal(alloc: Global, name: &[u8], fault: RuleFault) -> Result<Fault, NoMemory>

@@ -2,11 +2,11 @@
 //! left is written.
 
 ghost use Rattle.std.specs.Prelude.{◌≡◌, ◌≤◌, ◌++◌, [], pos, All, IfOk, None, OnOk, length};
-ghost use Rattle.term_core.specs.Acceptance.{IsAccepted};
-ghost use Rattle.term_core.specs.Declarations.{declarations};
-ghost use Rattle.term_core.specs.Environments.{IsAdmitted};
-ghost use Rattle.term_core.specs.Limits.{last_start, longest_file};
-ghost use Rattle.term_core.specs.Terms.{contract};
+ghost use Rattle.term_model.specs.Acceptance.{IsAccepted};
+ghost use Rattle.term_model.specs.Declarations.{declarations};
+ghost use Rattle.term_model.specs.Environments.{IsAdmitted};
+ghost use Rattle.term_model.specs.Limits.{last_start, longest_file};
+ghost use Rattle.term_model.specs.Terms.{contract};
 ghost use Rattle.contract_parse.specs.NextContracts.{IsSoundContract};
 ghost use Rattle.contract_print.specs.Writable.{IsWritableTerm};
 ghost use Rattle.flow_eval.specs.Readiness.{last_day};
@@ -40,7 +40,7 @@ use exposure::rename;
 use flow_eval::FlowTable;
 use report::{Fault, flow_line};
 use std::alloc::Global;
-use term_core::{Contr, Decls, LAST_START, defaults};
+use term_model::{Contr, Decls, LAST_START, defaults};
 
 // The new day of a word.
 fn new_day(alloc: Global, decls: &Decls, to: DayWord<'_>) -> Result<u32, Stop>

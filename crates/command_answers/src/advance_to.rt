@@ -1,7 +1,7 @@
 //! What `advance` and `novate` ask of the contracts of a text.
 
 ghost use Rattle.std.specs.Prelude.{◌≤◌};
-ghost use Rattle.term_core.specs.Limits.{last_start};
+ghost use Rattle.term_model.specs.Limits.{last_start};
 
 use crate::choice::Choice;
 use fixing_files::Fixings;

@@ -2,7 +2,7 @@
 //! curve of a table.
 
 ghost use Rattle.std.specs.Prelude.{◌≤◌, length};
-ghost use Rattle.term_core.specs.Limits.{longest_file};
+ghost use Rattle.term_model.specs.Limits.{longest_file};
 ghost use Rattle.fixing_files.specs.CurveTables.{HoldsCurve};
 ghost use Rattle.fixing_files.specs.Tables.{table_of};
 ghost use Rattle.payoff_lang.specs.CodeBooks.{code_book};
@@ -22,7 +22,7 @@ use payoff_check::check_code;
 use payoff_lang::CodeFile;
 use report::Fault;
 use std::alloc::Global;
-use term_core::{CheckErr, Setting};
+use term_model::{CheckErr, Setting};
 
 /// What is asked of a code file that is accepted at a setting: on which day, between whom; and the
 /// most that its code can be worth in size, at nine decimals more than amounts.

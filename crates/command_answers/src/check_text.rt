@@ -1,10 +1,10 @@
 //! The text of the command `check`.
 
 ghost use Rattle.std.specs.Prelude.{◌≡◌, ◌≤◌, IfOk, OnOk, length};
-ghost use Rattle.term_core.specs.Declarations.{declarations};
-ghost use Rattle.term_core.specs.Terms.{contract};
-ghost use Rattle.term_core.specs.Instances.{declared_numbers};
-ghost use Rattle.term_core.specs.Limits.{longest_file};
+ghost use Rattle.term_model.specs.Declarations.{declarations};
+ghost use Rattle.term_model.specs.Terms.{contract};
+ghost use Rattle.term_model.specs.Instances.{declared_numbers};
+ghost use Rattle.term_model.specs.Limits.{longest_file};
 ghost use Rattle.contract_parse.specs.NextContracts.{IsSoundContract};
 ghost use Rattle.command_answers.specs.CheckParts.{AddsVerdict, AnswersAllVerdicts, AnswersCheck};
 ghost use Rattle.command_answers.specs.CheckParts.{HasBegun};
@@ -19,7 +19,7 @@ use contract_parse::{ContractReader, NextContract};
 use decimal::NoMemory;
 use report::check_line;
 use std::alloc::Global;
-use term_core::{CheckErr, Contr, Decls, RuleFault, Setting, defaults};
+use term_model::{CheckErr, Contr, Decls, RuleFault, Setting, defaults};
 
 /// The verdicts on contracts, a line each, and whether all of them are accepted.
 #[derive(Drop)]

@@ -1,12 +1,12 @@
 //! What a command asks of the contracts of a text.
 
 ghost use Rattle.std.specs.Prelude.{◌≡◌, ◌≤ℤ◌, pos};
-ghost use Rattle.term_core.specs.Declarations.{declarations};
-ghost use Rattle.term_core.specs.Instances.{declared_numbers};
+ghost use Rattle.term_model.specs.Declarations.{declarations};
+ghost use Rattle.term_model.specs.Instances.{declared_numbers};
 ghost use Rattle.flow_eval.specs.Readiness.{last_day};
 
 use fixing_files::Fixings;
-use term_core::{Decls, Setting};
+use term_model::{Decls, Setting};
 
 /// What a command asks of the contracts of a text: the numbers at which they are tried, the
 /// defaults; the name, if any, that is to be that of one; and whether only that one is used.

@@ -2,9 +2,9 @@
 //! read, and dropped.
 
 ghost use Rattle.std.specs.Prelude.{◌≡◌, None, IfOk, OnOk, is_none};
-ghost use Rattle.term_core.specs.Declarations.{declarations};
-ghost use Rattle.term_core.specs.Instances.{declared_numbers};
-ghost use Rattle.term_core.specs.Terms.{contract};
+ghost use Rattle.term_model.specs.Declarations.{declarations};
+ghost use Rattle.term_model.specs.Instances.{declared_numbers};
+ghost use Rattle.term_model.specs.Terms.{contract};
 ghost use Rattle.contract_parse.specs.NextContracts.{IsSoundContract};
 ghost use Rattle.command_words.specs.Arguments.{given_text};
 ghost use Rattle.command_answers.specs.CheckParts.{HasBegun};
@@ -23,7 +23,7 @@ use contract_parse::{ContractReader, NextContract};
 use decimal::NoMemory;
 use report::Fault;
 use std::alloc::Global;
-use term_core::{Decls, Name, Setting};
+use term_model::{Decls, Name, Setting};
 
 /// All contracts of a text, and a name, if any, that is to be that of one.
 pub fn all_contracts<'a>(

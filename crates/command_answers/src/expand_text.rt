@@ -2,7 +2,7 @@
 //! printed and dropped before the next.
 
 ghost use Rattle.std.specs.Prelude.{◌≡◌, map};
-ghost use Rattle.term_core.specs.Declarations.{declarations};
+ghost use Rattle.term_model.specs.Declarations.{declarations};
 ghost use Rattle.contract_print.specs.Spellable.{IsSpellableBook};
 ghost use Rattle.contract_print.specs.Writable.{IsWritableTerm};
 ghost use Rattle.schedule_forms.specs.DeclaredPlans.{IsPlanOfTexts};
@@ -21,7 +21,7 @@ use contract_print::{print_beginning, print_contract};
 use indexmap::IndexMap;
 use schedule_forms::{Plan, PlanFile, expand};
 use std::alloc::Global;
-use term_core::{Contr, Decls, Name};
+use term_model::{Contr, Decls, Name};
 
 // The contract that a plan is written for, where it is accepted.
 fn accepted_expansion(alloc: Global, decls: &Decls, name: &Name, plan: &Plan) -> Result<Contr, Stop>

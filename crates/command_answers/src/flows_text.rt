@@ -2,11 +2,11 @@
 
 ghost use Rattle.std.specs.Prelude.{◌≡◌, ◌≤ℤ◌, ◌≤◌, pos, IfOk, OnOk, length, option_map};
 ghost use Rattle.std.specs.List.{All};
-ghost use Rattle.term_core.specs.Acceptance.{IsAccepted};
-ghost use Rattle.term_core.specs.Declarations.{declarations};
-ghost use Rattle.term_core.specs.Environments.{IsAdmitted};
-ghost use Rattle.term_core.specs.Limits.{longest_file};
-ghost use Rattle.term_core.specs.Terms.{contract};
+ghost use Rattle.term_model.specs.Acceptance.{IsAccepted};
+ghost use Rattle.term_model.specs.Declarations.{declarations};
+ghost use Rattle.term_model.specs.Environments.{IsAdmitted};
+ghost use Rattle.term_model.specs.Limits.{longest_file};
+ghost use Rattle.term_model.specs.Terms.{contract};
 ghost use Rattle.contract_parse.specs.NextContracts.{IsSoundContract};
 ghost use Rattle.flow_eval.specs.Readiness.{last_day};
 ghost use Rattle.flow_eval.specs.Tables.{IsDueRow};
@@ -36,7 +36,7 @@ use fixing_files::Fixings;
 use flow_eval::{FlowTable, LAST_DAY, flows};
 use report::{Fault, FlowSum, flow_line};
 use std::alloc::Global;
-use term_core::{Contr, Decls, defaults};
+use term_model::{Contr, Decls, defaults};
 
 /// The day of a word, or of none the last that there is.
 pub fn last_day(alloc: Global, decls: &Decls, until: Option<DayWord<'_>>) -> Result<i64, Stop>

@@ -1,7 +1,7 @@
 //! The bytes of a command's files, and the texts that they are.
 
 ghost use Rattle.std.specs.Prelude.{◌≡◌, ◌≤◌, length};
-ghost use Rattle.term_core.specs.Limits.{longest_file};
+ghost use Rattle.term_model.specs.Limits.{longest_file};
 ghost use Rattle.payoff_lang.specs.CodeBooks.{code_book};
 ghost use Rattle.command_answers.specs.Inputs.{bytes_of, file_at};
 ghost use Rattle.schedule_forms.specs.PlanBooks.{plan_book};

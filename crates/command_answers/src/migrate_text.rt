@@ -1,9 +1,9 @@
 //! The text of the command `migrate`.
 
 ghost use Rattle.std.specs.Prelude.{◌≡◌, ◌≤◌, ◌++◌, [], OnOk, length};
-ghost use Rattle.term_core.specs.Declarations.{declarations};
-ghost use Rattle.term_core.specs.Limits.{longest_file};
-ghost use Rattle.term_core.specs.Terms.{contract};
+ghost use Rattle.term_model.specs.Declarations.{declarations};
+ghost use Rattle.term_model.specs.Limits.{longest_file};
+ghost use Rattle.term_model.specs.Terms.{contract};
 ghost use Rattle.contract_parse.specs.Names.{declared_by};
 ghost use Rattle.contract_print.specs.Canon.{contract_text};
 ghost use Rattle.contract_print.specs.Migrated.{in_version_two};
@@ -19,7 +19,7 @@ use contract_parse::{ContractReader, NextContract};
 use contract_print::{print_beginning, print_contract};
 use decimal::NoMemory;
 use std::alloc::Global;
-use term_core::Decls;
+use term_model::Decls;
 
 // Declarations in version 2, with all else as it is.
 fn in_version_two(decls: Decls) -> Decls

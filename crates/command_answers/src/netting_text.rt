@@ -2,9 +2,9 @@
 
 ghost use Rattle.std.specs.Prelude.{◌≡◌, ◌≤◌, OnOk, length, true};
 ghost use Rattle.std.specs.List.{All};
-ghost use Rattle.term_core.specs.Declarations.{declarations};
-ghost use Rattle.term_core.specs.Environments.{IsAdmitted};
-ghost use Rattle.term_core.specs.Limits.{longest_file};
+ghost use Rattle.term_model.specs.Declarations.{declarations};
+ghost use Rattle.term_model.specs.Environments.{IsAdmitted};
+ghost use Rattle.term_model.specs.Limits.{longest_file};
 ghost use Rattle.command_answers.specs.CheckParts.{HasBegun};
 ghost use Rattle.command_answers.specs.ChoosingParts.{selection};
 ghost use Rattle.command_answers.specs.FlowsParts.{IsShortTable, of_flows};
@@ -28,7 +28,7 @@ use decimal::NoMemory;
 use exposure::{Positions, position_line, positions, settle};
 use flow_eval::FlowTable;
 use std::alloc::Global;
-use term_core::{Decls, defaults};
+use term_model::{Decls, defaults};
 
 // Appends the lines of positions.
 fn append_positions(

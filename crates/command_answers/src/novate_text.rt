@@ -1,8 +1,8 @@
 //! The text of the command `novate`.
 
 ghost use Rattle.std.specs.Prelude.{◌≤◌, length};
-ghost use Rattle.term_core.specs.Declarations.{declarations};
-ghost use Rattle.term_core.specs.Limits.{longest_file};
+ghost use Rattle.term_model.specs.Declarations.{declarations};
+ghost use Rattle.term_model.specs.Limits.{longest_file};
 ghost use Rattle.command_words.specs.Arguments.{given_text};
 ghost use Rattle.command_words.specs.Words.{novate_by};
 ghost use Rattle.command_answers.specs.FlowsParts.{IsShortTable};
@@ -17,7 +17,7 @@ use crate::stop::Stop;
 use crate::value_names::index_of;
 use command_words::Novate;
 use std::alloc::Global;
-use term_core::{Decls, defaults};
+use term_model::{Decls, defaults};
 
 // The renaming that is asked for, where both parties are declared.
 fn renaming_of<'a>(alloc: Global, decls: &Decls, asked: &Novate<'a>) -> Result<Renaming<'a>, Stop>

@@ -2,7 +2,7 @@
 //! command that lacks one of these.
 
 ghost use Rattle.std.specs.Prelude.{◌≡◌, ◌≤◌, pos, IfOk};
-ghost use Rattle.term_core.specs.Declarations.{declarations};
+ghost use Rattle.term_model.specs.Declarations.{declarations};
 ghost use Rattle.flow_eval.specs.Readiness.{last_day};
 ghost use Rattle.command_answers.specs.CheckParts.{HasBegun};
 ghost use Rattle.command_answers.specs.FlowsParts.{AnswersDay, AnswersFixings, AnswersFixingsOver};
@@ -20,7 +20,7 @@ use fixing_files::{DayFault, Fixings, RowErr, place_day, read_fixings};
 use flow_eval::FlowErr;
 use report::Fault;
 use std::alloc::Global;
-use term_core::{Decls, Name};
+use term_model::{Decls, Name};
 
 // A day, where it is none before the start or above the greatest.
 fn day_in_range(decls: &Decls, day: Result<i64, DayFault>, greatest: u32) -> Option<i64>

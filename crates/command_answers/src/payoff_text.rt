@@ -1,10 +1,10 @@
 //! The text of the command `payoff`.
 
 ghost use Rattle.std.specs.Prelude.{◌≡◌, ◌≤◌, [], ◌∷◌, IfOk, length};
-ghost use Rattle.term_core.specs.Declarations.{at_one_scale, declarations};
-ghost use Rattle.term_core.specs.Limits.{longest_file};
-ghost use Rattle.term_core.specs.Terms.{contract};
-ghost use Rattle.term_core.specs.WellFormed.{IsClosed};
+ghost use Rattle.term_model.specs.Declarations.{at_one_scale, declarations};
+ghost use Rattle.term_model.specs.Limits.{longest_file};
+ghost use Rattle.term_model.specs.Terms.{contract};
+ghost use Rattle.term_model.specs.WellFormed.{IsClosed};
 ghost use Rattle.contract_parse.specs.NextContracts.{IsSoundContract};
 ghost use Rattle.contract_print.specs.Writable.{IsWritableTerm};
 ghost use Rattle.payoff_lang.specs.Code.{payoff_code};
@@ -29,7 +29,8 @@ use payoff_compile::{into_code, into_cut_code};
 use payoff_lang::{Code, CodeFile, print_code};
 use report::Fault;
 use std::alloc::Global;
-use term_core::{Contr, Decls, Name, defaults, has_only_numbers, instantiate};
+use term_model::{Contr, Decls, Name, defaults};
+use term_core::{has_only_numbers, instantiate};
 
 // The contract, if it has the name.
 fn if_named(next: NextContract<'_>, word: &str) -> Option<Contr>

@@ -1,17 +1,18 @@
 //! The contracts of a portfolio's text, read one at a time.
 
 ghost use Rattle.std.specs.Prelude.{◌≡◌, ◌≤◌, IfOk, length};
-ghost use Rattle.term_core.specs.Declarations.{declarations};
-ghost use Rattle.term_core.specs.Instances.{HasNumbers, HasSmallSums, IsSetting, instance};
-ghost use Rattle.term_core.specs.Limits.{longest_file};
-ghost use Rattle.term_core.specs.Terms.{contract};
+ghost use Rattle.term_model.specs.Declarations.{declarations};
+ghost use Rattle.term_model.specs.Instances.{HasNumbers, HasSmallSums, IsSetting, instance};
+ghost use Rattle.term_model.specs.Limits.{longest_file};
+ghost use Rattle.term_model.specs.Terms.{contract};
 ghost use Rattle.command_answers.specs.ReadingParts.{LeavesLess, ReadsNext, StartsReading};
 
 use crate::stop::Stop;
 use contract_parse::{ContractReader, NextContract, next_contract, start_contracts};
 use decimal::NoMemory;
 use std::alloc::Global;
-use term_core::{Contr, Decls, Setting, has_only_numbers, instantiate};
+use term_model::{Contr, Decls, Setting};
+use term_core::{has_only_numbers, instantiate};
 
 /// The declarations of a text, and a reader that stands before its first contract.
 pub fn start_reading<'a>(alloc: Global, text: &'a [u8]) -> Result<(Decls, ContractReader<'a>), Stop>

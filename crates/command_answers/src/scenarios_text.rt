@@ -1,8 +1,8 @@
 //! The text of the command `scenarios`.
 
 ghost use Rattle.std.specs.Prelude.{◌≡◌, ◌≤◌, ◌+◌, IfOk, length};
-ghost use Rattle.term_core.specs.Declarations.{declarations};
-ghost use Rattle.term_core.specs.Limits.{longest_file};
+ghost use Rattle.term_model.specs.Declarations.{declarations};
+ghost use Rattle.term_model.specs.Limits.{longest_file};
 ghost use Rattle.payoff_lang.specs.CodeBooks.{code_book};
 ghost use Rattle.scenario_set.specs.Scenarios.{AreAdmitted};
 ghost use Rattle.scenario_set.specs.TotalLines.{CanBeWritten, total_text};
@@ -27,7 +27,7 @@ use payoff_lang::CodeFile;
 use report::Fault;
 use scenario_set::{Scenarios, Totals, TotalsErr, read_scenarios, total_lines, totals};
 use std::alloc::Global;
-use term_core::{Decls, Name};
+use term_model::{Decls, Name};
 
 // The scenarios of a table.
 fn scenarios_of(alloc: Global, decls: &Decls, bytes: &[u8]) -> Result<Scenarios, Stop>

@@ -4,7 +4,7 @@ ghost use Rattle.std.specs.Prelude.{◌≡◌, ◌<◌, ◌^◌, IfOk, Some};
 ghost use Rattle.std.specs.Map.{keys_of};
 ghost use Rattle.indexmap.specs.IndexMap.{index_map_len};
 ghost use Rattle.indexmap.specs.IndexSet.{index_set_len};
-ghost use Rattle.term_core.specs.Declarations.{declarations};
+ghost use Rattle.term_model.specs.Declarations.{declarations};
 ghost use Rattle.contract_parse.specs.Names.{index_in};
 ghost use Rattle.command_words.specs.Words.{between_by, value_by};
 ghost use Rattle.command_answers.specs.Stages.{IsUndeclared, names_of_value};
@@ -18,7 +18,7 @@ use decimal::NoMemory;
 use indexmap::{IndexMap, IndexSet};
 use report::Fault;
 use std::alloc::Global;
-use term_core::{Decls, Name, Setting};
+use term_model::{Decls, Name, Setting};
 
 /// Two parties and an asset, by their indices.
 #[derive(Clone, Copy)]

@@ -1,9 +1,9 @@
 //! The text of the command `value`.
 
 ghost use Rattle.std.specs.Prelude.{◌≡◌, ◌≤◌, ◌+◌, ◌^◌, IfOk, length, unsigned_abs};
-ghost use Rattle.term_core.specs.Declarations.{declarations};
-ghost use Rattle.term_core.specs.Environments.{IsAdmitted};
-ghost use Rattle.term_core.specs.Limits.{longest_file};
+ghost use Rattle.term_model.specs.Declarations.{declarations};
+ghost use Rattle.term_model.specs.Environments.{IsAdmitted};
+ghost use Rattle.term_model.specs.Limits.{longest_file};
 ghost use Rattle.flow_eval.specs.declared.faults.FlowErr.TheVariants as flow;
 ghost use Rattle.payoff_lang.specs.CodeBooks.{code_book};
 ghost use Rattle.report.specs.ValueLines.{value_text};
@@ -25,7 +25,7 @@ use payoff_eval::{accepted_scratch, value};
 use payoff_lang::CodeFile;
 use report::value_line;
 use std::alloc::Global;
-use term_core::{Decls, Missing};
+use term_model::{Decls, Missing};
 
 // What stops a command that lacks a place.
 fn stop_of_missing(alloc: Global, decls: &Decls, missing: Missing) -> Stop

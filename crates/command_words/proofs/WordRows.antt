@@ -5,7 +5,7 @@ use Rattle.clap.specs.Words.{Text}
 use Rattle.clap.proofs.OnLiterals.{clap_on_literals}
 use Rattle.decimal.specs.declared.rounding.Mode.{Mode}
 use Rattle.decimal.specs.declared.rounding.Mode.TheVariants.{Ceil, Floor, HalfAway, HalfEven}
-use Rattle.term_core.specs.Dates.{epoch_day_of, parts_of, two_of}
+use Rattle.term_model.specs.Dates.{epoch_day_of, parts_of, two_of}
 use Rattle.fixing_files.specs.Days.{day_named, day_of}
 use Rattle.command_words.specs.Arguments.{taken}
 use Rattle.command_words.specs.Commands.{Advance, Expand, Flows, Migrate, NettingAsked, Novate, Payoff, Positions, Request, Sample, Scenarios, Settle, Value, ValueAsked}

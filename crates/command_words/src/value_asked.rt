@@ -4,7 +4,7 @@ ghost use Rattle.command_words.specs.Commands.{AreSettings};
 
 use crate::day_words::DayWord;
 use indexmap::IndexMap;
-use term_core::Name;
+use term_model::Name;
 
 /// The files of `value`: payoff code, fixings and discount factors.
 #[derive(Clone, Copy)]

@@ -2,7 +2,7 @@
 
 ghost use Rattle.std.specs.Prelude.{◌≡◌, ◌≤◌, ◌++◌, ◌∷◌, IfOk, IfSome, OnOk, Some, [], false, option_map};
 ghost use Rattle.std.specs.Map.{keys_of};
-ghost use Rattle.term_core.specs.Limits.{most_days};
+ghost use Rattle.term_model.specs.Limits.{most_days};
 ghost use Rattle.clap.specs.Words.{first_value, found_of};
 ghost use Rattle.clap.specs.Walk.{texts};
 ghost use Rattle.contract_parse.specs.Names.{is_declared};
@@ -20,7 +20,7 @@ use contract_parse::is_name_text;
 use decimal::{NoMemory, number_up_to};
 use indexmap::IndexMap;
 use std::alloc::Global;
-use term_core::{MOST_DAYS, Name};
+use term_model::{MOST_DAYS, Name};
 
 // The template that a word names, and the number that it sets for it, which is at most 100,000.
 fn setting_of_word(word: &str) -> Option<(&[u8], u32)>

@@ -2,22 +2,22 @@
 use Rattle.std.proofs.Common.{◌≡◌, ℕ, ℤ, pos, negsuc, ◌+ℤ◌, ◌-ℤ◌, ◌*ℤ◌, ◌<◌, ◌≤ℤ◌, ◌<ℤ◌, ◌-◌, max, List, [], ◌∷◌, Option, Some, None, refl, ap, ap₂, sym, ◌∙◌, inl, inr, arith}
 use Rattle.std.proofs.lemmas.Int.{ints, by_lt_z}
 use Rattle.decimal.specs.Rounding.{raised}
-use Rattle.term_core.specs.Declarations.{Declarations}
-use Rattle.term_core.specs.declared.values.Kind.{Kind}
-use Rattle.term_core.specs.Terms.{Contract, Zero, Pay, Both, Scale, After, Let, Within}
-use Rattle.term_core.specs.Environments.{Environment, AgreeUpTo}
-use Rattle.term_core.specs.Kinds.{kind_of}
-use Rattle.term_core.specs.Values.{Entry, kinds, kind_or, num, truth, value_of, first_true}
-use Rattle.term_core.specs.Flows.{Flow, count_of, scale_of_contract, flow_of}
-use Rattle.term_core.specs.Times.{TypedContract, lowered_by}
-use Rattle.term_core.proofs.FlowFacts.{flow_idle, one_zero}
-use Rattle.term_core.proofs.TimeFacts.{times_mean_typed}
+use Rattle.term_model.specs.Declarations.{Declarations}
+use Rattle.term_model.specs.declared.values.Kind.{Kind}
+use Rattle.term_model.specs.Terms.{Contract, Zero, Pay, Both, Scale, After, Let, Within}
+use Rattle.term_model.specs.Environments.{Environment, AgreeUpTo}
+use Rattle.term_model.specs.Kinds.{kind_of}
+use Rattle.term_model.specs.Values.{Entry, kinds, kind_or, num, truth, value_of, first_true}
+use Rattle.term_model.specs.Flows.{Flow, count_of, scale_of_contract, flow_of}
+use Rattle.term_model.specs.Times.{TypedContract, lowered_by}
+use Rattle.term_model.proofs.FlowFacts.{flow_idle, one_zero}
+use Rattle.term_model.proofs.TimeFacts.{times_mean_typed}
 use Rattle.contract_check.specs.CausalityLaws.{TypedAreCausal, TimedAreCausal, AcceptedAreCausal}
 use Rattle.contract_check.proofs.KnownNames.{SameNames, same_kinds, sooner, lowered_names}
 use Rattle.contract_check.proofs.KnownValues.{values_known}
 use Rattle.contract_check.proofs.FirstDays.{IsLate, SameOrLate, first_same}
 use Rattle.contract_check.proofs.QuietDays.{flow_quiet}
-use Rattle.term_core.proofs.ContractReadFacts.{branch_flow}
+use Rattle.term_model.proofs.ContractReadFacts.{branch_flow}
 
 -- by how many decimals a part is below the whole of two contracts, by the kinds of their names
 abbrev below : Declarations → Contract → Contract → Contract → List Kind → ℕ

@@ -1,12 +1,12 @@
 -- A contract has one answer.
 use Rattle.std.proofs.Common.{ℕ, ℤ, pos, ◌+ℤ◌, ◌≤ℤ◌, unsigned_abs, ◌≡◌, inl, inr, Option, Some, None, Ok, Err, refl, sym, ap, ap₂, ◌∙◌, arith}
 use Rattle.std.proofs.lemmas.Int.{ints}
-use Rattle.term_core.specs.declared.rules.Rule.{Rule}
-use Rattle.term_core.specs.declared.rules.CheckErr.TheVariants.{Refused, NoMemory}
-use Rattle.term_core.specs.Terms.{Contract}
-use Rattle.term_core.specs.Times.{IsStart}
-use Rattle.term_core.specs.Acceptance.{Facts}
-use Rattle.term_core.proofs.RefusalFacts.{refusals_unique, accepted_not_refused}
+use Rattle.term_model.specs.declared.rules.Rule.{Rule}
+use Rattle.term_model.specs.declared.rules.CheckErr.TheVariants.{Refused, NoMemory}
+use Rattle.term_model.specs.Terms.{Contract}
+use Rattle.term_model.specs.Times.{IsStart}
+use Rattle.term_model.specs.Acceptance.{Facts}
+use Rattle.term_model.proofs.RefusalFacts.{refusals_unique, accepted_not_refused}
 use Rattle.time_types.specs.declared.starts.Start.{Start}
 use Rattle.time_types.specs.declared.starts.Start.TheVariants.{Day, Always}
 use Rattle.time_types.specs.Starts.{start_day}

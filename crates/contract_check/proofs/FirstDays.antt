@@ -1,8 +1,8 @@
 -- Two tests that agree up to a day: they have one first day, or both are first true after it.
 use Rattle.std.proofs.Common.{◌≡◌, ℕ, zero, suc, ◌≤◌, ◌<◌, Bool, true, false, if◌then◌else◌, Option, Some, None, refl, ap, ap₂, inl, inr, ◌⊎◌, arith}
 use Rattle.std.proofs.lemmas.Bool.{cases_lt}
-use Rattle.term_core.specs.Values.{first_of}
-use Rattle.term_core.proofs.FirstFacts.{or_last}
+use Rattle.term_model.specs.Values.{first_of}
+use Rattle.term_model.proofs.FirstFacts.{or_last}
 
 -- no first day up to day n, among the days up to m
 abbrev pub IsLate : ℕ → ℕ → Option ℕ → Type 0

@@ -1,14 +1,14 @@
 -- From the verdict on each rule to the answer for all of them.
 use Rattle.std.proofs.Common.{ℤ, pos, unsigned_abs, ◌≡◌, ◌≤◌, [], arith, sym, ap, ◌∙◌}
 use Rattle.std.proofs.lemmas.Int.{ints}
-use Rattle.term_core.specs.Declarations.{Declarations}
-use Rattle.term_core.specs.declared.rules.Rule.TheVariants.{Sort, Time, Scale, Size, Bound}
-use Rattle.term_core.specs.Terms.{Contract}
-use Rattle.term_core.specs.Times.{IsStart}
-use Rattle.term_core.specs.Flows.{scale_of_contract}
-use Rattle.term_core.specs.Bounds.{aligned_total}
-use Rattle.term_core.specs.Horizons.{horizon_of}
-use Rattle.term_core.specs.Acceptance.{Meets}
+use Rattle.term_model.specs.Declarations.{Declarations}
+use Rattle.term_model.specs.declared.rules.Rule.TheVariants.{Sort, Time, Scale, Size, Bound}
+use Rattle.term_model.specs.Terms.{Contract}
+use Rattle.term_model.specs.Times.{IsStart}
+use Rattle.term_model.specs.Flows.{scale_of_contract}
+use Rattle.term_model.specs.Bounds.{aligned_total}
+use Rattle.term_model.specs.Horizons.{horizon_of}
+use Rattle.term_model.specs.Acceptance.{Meets}
 use Rattle.time_types.specs.Starts.{start_day}
 use Rattle.interval_check.specs.Sums.{sum_of_amounts}
 use Rattle.interval_check.specs.Within.{KeepsLimits}

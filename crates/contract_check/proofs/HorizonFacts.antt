@@ -1,12 +1,12 @@
 -- The horizon is at most one day past the reach, and the reach is limited by the rule on sizes.
 use Rattle.std.proofs.Common.{ℕ, zero, suc, ◌+◌, ◌≤◌, max, [], IsTrue, arith}
 use Rattle.std.proofs.lemmas.Bool.Decides.{nat_tests}
-use Rattle.term_core.specs.Terms.{Contract, Zero, Pay, Both, Scale, After, Let, Within}
-use Rattle.term_core.specs.Flows.{count_of}
-use Rattle.term_core.specs.Sizes.{reach, height_of_contract, nodes_of_contract, past_of_contract, work_of_contract}
-use Rattle.term_core.specs.Smallness.{is_small, within_limits, days_of_contract}
-use Rattle.term_core.specs.Horizons.{delayed, horizon_of}
-use Rattle.term_core.proofs.TimeFacts.{whole_passes}
+use Rattle.term_model.specs.Terms.{Contract, Zero, Pay, Both, Scale, After, Let, Within}
+use Rattle.term_model.specs.Flows.{count_of}
+use Rattle.term_model.specs.Sizes.{reach, height_of_contract, nodes_of_contract, past_of_contract, work_of_contract}
+use Rattle.term_model.specs.Smallness.{is_small, within_limits, days_of_contract}
+use Rattle.term_model.specs.Horizons.{delayed, horizon_of}
+use Rattle.term_model.proofs.TimeFacts.{whole_passes}
 use Rattle.contract_check.specs.Smallness.{MeetsSize}
 
 delayed_most : (n h m : ℕ) → h ≤ m → delayed n h ≤ n + m

@@ -1,9 +1,9 @@
 -- Two lists of entries for the names of a context: of equal kinds, and equal wherever the name is known on a day.
 use Rattle.std.proofs.Common.{◌≡◌, ℕ, zero, suc, ℤ, pos, ◌+ℤ◌, ◌-ℤ◌, ◌≤ℤ◌, List, [], ◌∷◌, refl, ap₂, arith, slice_get}
 use Rattle.std.proofs.lemmas.Int.{ints}
-use Rattle.term_core.specs.declared.values.Kind.{Kind}
-use Rattle.term_core.specs.Values.{Entry, kinds, value_of_entry}
-use Rattle.term_core.specs.Times.{AtMost, raised_by, lowered_by}
+use Rattle.term_model.specs.declared.values.Kind.{Kind}
+use Rattle.term_model.specs.Values.{Entry, kinds, value_of_entry}
+use Rattle.term_model.specs.Times.{AtMost, raised_by, lowered_by}
 
 -- on day t, by the times of the names
 abbrev pub SameNames : ℤ → List ℤ → List Entry → List Entry → Type 0

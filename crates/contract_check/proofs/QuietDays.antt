@@ -2,14 +2,14 @@
 use Rattle.std.proofs.Common.{◌≡◌, ℕ, ℤ, pos, ◌+ℤ◌, ◌-ℤ◌, ◌*ℤ◌, ◌≤ℤ◌, ◌<ℤ◌, List, ◌∷◌, Option, Some, None, refl, ap₂, inl, arith}
 use Rattle.std.proofs.lemmas.Int.{ints}
 use Rattle.decimal.specs.Rounding.{raised}
-use Rattle.term_core.specs.Declarations.{Declarations}
-use Rattle.term_core.specs.Terms.{Contract, Zero, Pay, Both, Scale, After, Let, Within}
-use Rattle.term_core.specs.Environments.{Environment}
-use Rattle.term_core.specs.Kinds.{kind_of}
-use Rattle.term_core.specs.Values.{Entry, kinds, kind_or, num, value_of, first_true}
-use Rattle.term_core.specs.Flows.{Flow, count_of, flow_of}
-use Rattle.term_core.specs.Times.{TypedContract, lowered_by}
-use Rattle.term_core.proofs.FlowFacts.{flow_idle, one_zero}
+use Rattle.term_model.specs.Declarations.{Declarations}
+use Rattle.term_model.specs.Terms.{Contract, Zero, Pay, Both, Scale, After, Let, Within}
+use Rattle.term_model.specs.Environments.{Environment}
+use Rattle.term_model.specs.Kinds.{kind_of}
+use Rattle.term_model.specs.Values.{Entry, kinds, kind_or, num, value_of, first_true}
+use Rattle.term_model.specs.Flows.{Flow, count_of, flow_of}
+use Rattle.term_model.specs.Times.{TypedContract, lowered_by}
+use Rattle.term_model.proofs.FlowFacts.{flow_idle, one_zero}
 
 product_zero : (x y : ℤ) → y ≡ pos 0 → x *ℤ y ≡ pos 0
 product_zero x y h = grind (arith, ints)

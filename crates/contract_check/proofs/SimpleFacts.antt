@@ -5,14 +5,14 @@ use Rattle.std.proofs.Math.Nat.{mul_right_comm}
 use Rattle.std.proofs.lemmas.Bool.{and_from}
 use Rattle.std.proofs.lemmas.Int.{ints}
 use Rattle.decimal.proofs.PowerFacts.{ten_most}
-use Rattle.term_core.specs.Declarations.{Declarations, decimals_of}
-use Rattle.term_core.specs.DayCounts.{Days}
-use Rattle.term_core.specs.Terms.{Lit, Contract, Zero, Pay, Both, Scale, After}
-use Rattle.term_core.specs.Flows.{count_of, scale_of_contract}
-use Rattle.term_core.specs.Horizons as horizons
-use Rattle.term_core.specs.Horizons.{horizon_of}
-use Rattle.term_core.specs.Times.{IsStart}
-use Rattle.term_core.specs.Bounds.{total_of}
+use Rattle.term_model.specs.Declarations.{Declarations, decimals_of}
+use Rattle.term_model.specs.DayCounts.{Days}
+use Rattle.term_model.specs.Terms.{Lit, Contract, Zero, Pay, Both, Scale, After}
+use Rattle.term_model.specs.Flows.{count_of, scale_of_contract}
+use Rattle.term_model.specs.Horizons as horizons
+use Rattle.term_model.specs.Horizons.{horizon_of}
+use Rattle.term_model.specs.Times.{IsStart}
+use Rattle.term_model.specs.Bounds.{total_of}
 use Rattle.interval_check.proofs.AlignedFacts.{sum_raised_twice}
 use Rattle.contract_check.specs.declared.simple_contracts.Measure.{Measure}
 use Rattle.contract_check.specs.SimpleContracts.{nothing, payment, sooner, joined, multiplied, delayed, IsWithin, IsEarly, IsBy, StartsOn, IsMeasure, IsMeasured}

@@ -4,25 +4,25 @@ use Rattle.std.proofs.Math.Nat.{mul-le-mul_right}
 use Rattle.std.proofs.lemmas.Bool.{and_parts, and_from}
 use Rattle.std.proofs.lemmas.Int.{ints}
 use Rattle.decimal.proofs.PowerFacts.{ten_most}
-use Rattle.term_core.specs.Declarations.{Declarations, decimals_of}
-use Rattle.term_core.specs.DayCounts.{Days}
-use Rattle.term_core.specs.declared.rules.Rule.{Rule}
-use Rattle.term_core.specs.declared.rules.Rule.TheVariants.{Sort, Time, Scale as ScaleRule, Size as SizeRule, Bound}
-use Rattle.term_core.specs.declared.values.Kind.{Kind}
-use Rattle.term_core.specs.Terms.{Lit, Contract, Zero, Pay, Both, Scale, After, Let, Within}
-use Rattle.term_core.specs.Kinds.{scale_of, kind_of}
-use Rattle.term_core.specs.Values.{kind_or}
-use Rattle.term_core.specs.Flows.{count_of, scale_of_contract}
-use Rattle.term_core.specs.Sizes.{nodes_of_contract, height_of_contract, reach, past_of_contract, work_of_contract}
-use Rattle.term_core.specs.Smallness.{days_of_contract, within_limits}
-use Rattle.term_core.specs.Times.{IsAllowed}
-use Rattle.term_core.specs.AssetScales.{assets_are_scaled, payments_fit}
-use Rattle.term_core.specs.Bounds.{Range, ranges_round, total_of, aligned_total}
-use Rattle.term_core.specs.Sorts.{is_sorted}
-use Rattle.term_core.specs.Sites.{Site, Trial, Layer, Naming, Counting, Later, Earlier, Undated, sites_of_contract, contract_at, expression_at, kinds_round, AllPass}
-use Rattle.term_core.specs.Acceptance.{Passes}
-use Rattle.term_core.proofs.AssetFacts.{by_payments}
-use Rattle.term_core.proofs.Trials.{AllPass-append}
+use Rattle.term_model.specs.Declarations.{Declarations, decimals_of}
+use Rattle.term_model.specs.DayCounts.{Days}
+use Rattle.term_model.specs.declared.rules.Rule.{Rule}
+use Rattle.term_model.specs.declared.rules.Rule.TheVariants.{Sort, Time, Scale as ScaleRule, Size as SizeRule, Bound}
+use Rattle.term_model.specs.declared.values.Kind.{Kind}
+use Rattle.term_model.specs.Terms.{Lit, Contract, Zero, Pay, Both, Scale, After, Let, Within}
+use Rattle.term_model.specs.Kinds.{scale_of, kind_of}
+use Rattle.term_model.specs.Values.{kind_or}
+use Rattle.term_model.specs.Flows.{count_of, scale_of_contract}
+use Rattle.term_model.specs.Sizes.{nodes_of_contract, height_of_contract, reach, past_of_contract, work_of_contract}
+use Rattle.term_model.specs.Smallness.{days_of_contract, within_limits}
+use Rattle.term_model.specs.Times.{IsAllowed}
+use Rattle.term_model.specs.AssetScales.{assets_are_scaled, payments_fit}
+use Rattle.term_model.specs.Bounds.{Range, ranges_round, total_of, aligned_total}
+use Rattle.term_model.specs.Sorts.{is_sorted}
+use Rattle.term_model.specs.Sites.{Site, Trial, Layer, Naming, Counting, Later, Earlier, Undated, sites_of_contract, contract_at, expression_at, kinds_round, AllPass}
+use Rattle.term_model.specs.Acceptance.{Passes}
+use Rattle.term_model.proofs.AssetFacts.{by_payments}
+use Rattle.term_model.proofs.Trials.{AllPass-append}
 use Rattle.interval_check.proofs.AlignedFacts.{raised_twice, below_raised}
 use Rattle.contract_check.specs.declared.simple_contracts.Measure.{Measure}
 use Rattle.contract_check.specs.SimpleContracts.{IsBy, IsUnderWaits, MeetsRules, IsMeasure}

@@ -1,12 +1,12 @@
 -- The law of causality: a contract that has a type in the rule on times is causal. What it pays up to a day is the same
 -- in any two environments that agree up to that day (Bahr, Berthold and Elsman, ICFP 2015).
 use Rattle.std.specs.Prelude.{ℤ, []}
-use Rattle.term_core.specs.Declarations.{Declarations}
-use Rattle.term_core.specs.declared.rules.Rule.TheVariants.{Time}
-use Rattle.term_core.specs.Terms.{Contract}
-use Rattle.term_core.specs.Times.{TypedContract}
-use Rattle.term_core.specs.Acceptance.{Meets, IsAccepted}
-use Rattle.term_core.specs.Causality.{IsCausal}
+use Rattle.term_model.specs.Declarations.{Declarations}
+use Rattle.term_model.specs.declared.rules.Rule.TheVariants.{Time}
+use Rattle.term_model.specs.Terms.{Contract}
+use Rattle.term_model.specs.Times.{TypedContract}
+use Rattle.term_model.specs.Acceptance.{Meets, IsAccepted}
+use Rattle.term_model.specs.Causality.{IsCausal}
 
 -- a closed contract of any type
 abbrev pub TypedAreCausal : Type 0

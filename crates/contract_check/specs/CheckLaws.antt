@@ -1,11 +1,11 @@
 -- The law of checks: but for want of memory, a contract has one answer. It is accepted, with the facts that are true of
 -- it, or refused, with the rule and the node that the order of trial names; and never both.
 use Rattle.std.specs.Prelude.{◌≡◌, ◌⊎◌, Result, Err}
-use Rattle.term_core.specs.Declarations.{Declarations}
-use Rattle.term_core.specs.Terms.{Contract}
-use Rattle.term_core.specs.Acceptance.{Facts, AreFacts}
-use Rattle.term_core.specs.declared.rules.CheckErr.{CheckErr}
-use Rattle.term_core.specs.declared.rules.CheckErr.TheVariants.{NoMemory}
+use Rattle.term_model.specs.Declarations.{Declarations}
+use Rattle.term_model.specs.Terms.{Contract}
+use Rattle.term_model.specs.Acceptance.{Facts, AreFacts}
+use Rattle.term_model.specs.declared.rules.CheckErr.{CheckErr}
+use Rattle.term_model.specs.declared.rules.CheckErr.TheVariants.{NoMemory}
 use Rattle.contract_check.specs.declared.checks.Facts.{Facts as Answer}
 use Rattle.contract_check.specs.Checks.{IsChecked}
 

@@ -1,14 +1,14 @@
 -- What `check` answers: the facts of an accepted contract, which is causal and never pays more than its total; or the
 -- first rule that fails, with the first node at which it does. Want of memory says nothing.
 use Rattle.std.specs.Prelude.{ℕ, ℤ, pos, ◌≤ℤ◌, unsigned_abs, ◌≡◌, Result, Ok, Err}
-use Rattle.term_core.specs.Declarations.{Declarations}
-use Rattle.term_core.specs.Terms.{Contract}
-use Rattle.term_core.specs.declared.rules.CheckErr.{CheckErr}
-use Rattle.term_core.specs.declared.rules.CheckErr.TheVariants.{Refused, NoMemory}
-use Rattle.term_core.specs.Acceptance.{Facts, IsAccepted, AreFacts, IsRefusal}
-use Rattle.term_core.specs.Causality.{IsCausal}
-use Rattle.term_core.specs.Environments.{Environment, IsAdmitted}
-use Rattle.term_core.specs.Flows.{Flow}
+use Rattle.term_model.specs.Declarations.{Declarations}
+use Rattle.term_model.specs.Terms.{Contract}
+use Rattle.term_model.specs.declared.rules.CheckErr.{CheckErr}
+use Rattle.term_model.specs.declared.rules.CheckErr.TheVariants.{Refused, NoMemory}
+use Rattle.term_model.specs.Acceptance.{Facts, IsAccepted, AreFacts, IsRefusal}
+use Rattle.term_model.specs.Causality.{IsCausal}
+use Rattle.term_model.specs.Environments.{Environment, IsAdmitted}
+use Rattle.term_model.specs.Flows.{Flow}
 use Rattle.time_types.specs.Starts.{start_day}
 use Rattle.interval_check.specs.Sums.{sum_of_amounts}
 use Rattle.contract_check.specs.declared.checks.Facts.{Facts as Answer}

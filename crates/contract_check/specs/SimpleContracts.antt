@@ -1,19 +1,19 @@
 -- Simple contracts, of transfers, sums, waits and factors that are literals: what one walk measures of them. Round a
 -- part stand waits, and factors that have `above` decimals together.
 use Rattle.std.specs.Prelude.{ℕ, ℤ, pos, ◌≤ℤ◌, ◌+◌, ◌-◌, ◌*◌, ◌^◌, ◌≤◌, min, max, ◌≡◌, ◌↔◌, true, List, [], ◌∷◌, Option, Some, None, option_map, IfSome}
-use Rattle.term_core.specs.Declarations.{Declarations}
-use Rattle.term_core.specs.declared.rules.Rule.{Rule}
-use Rattle.term_core.specs.Terms.{Contract}
-use Rattle.term_core.specs.Limits.{most_days, most_height, most_nodes}
-use Rattle.term_core.specs.Flows.{scale_of_contract}
-use Rattle.term_core.specs.Sizes.{nodes_of_contract, height_of_contract, reach, past_of_contract, work_of_contract}
-use Rattle.term_core.specs.Times.{TypedContract}
-use Rattle.term_core.specs.AssetScales.{payments_fit}
-use Rattle.term_core.specs.Bounds.{total_of}
-use Rattle.term_core.specs.Horizons.{horizon_of}
-use Rattle.term_core.specs.Horizons as horizons
-use Rattle.term_core.specs.Sites.{Trial, Layer, Later, sites_of_contract, AllPass}
-use Rattle.term_core.specs.Acceptance.{Passes}
+use Rattle.term_model.specs.Declarations.{Declarations}
+use Rattle.term_model.specs.declared.rules.Rule.{Rule}
+use Rattle.term_model.specs.Terms.{Contract}
+use Rattle.term_model.specs.Limits.{most_days, most_height, most_nodes}
+use Rattle.term_model.specs.Flows.{scale_of_contract}
+use Rattle.term_model.specs.Sizes.{nodes_of_contract, height_of_contract, reach, past_of_contract, work_of_contract}
+use Rattle.term_model.specs.Times.{TypedContract}
+use Rattle.term_model.specs.AssetScales.{payments_fit}
+use Rattle.term_model.specs.Bounds.{total_of}
+use Rattle.term_model.specs.Horizons.{horizon_of}
+use Rattle.term_model.specs.Horizons as horizons
+use Rattle.term_model.specs.Sites.{Trial, Layer, Later, sites_of_contract, AllPass}
+use Rattle.term_model.specs.Acceptance.{Passes}
 use Rattle.contract_check.specs.declared.simple_contracts.Measure.{Measure}
 
 -- the greatest total, and literal, that is measured, and the most decimals of the factors round a part

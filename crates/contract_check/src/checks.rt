@@ -1,12 +1,12 @@
 //! All five rules of acceptance, in their order.
 
 ghost use Rattle.std.specs.Prelude.{◌≤◌, ◌<◌, ◌^◌};
-ghost use Rattle.term_core.specs.Declarations.{declarations};
-ghost use Rattle.term_core.specs.declared.rules.Rule.{Rule};
-ghost use Rattle.term_core.specs.Terms.{contract};
-ghost use Rattle.term_core.specs.Sizes.{nodes_of_contract, height_of_contract};
-ghost use Rattle.term_core.specs.WellFormed.{IsClosed, HasOnlyNumbers};
-ghost use Rattle.term_core.specs.Verdicts.{IsVerdict};
+ghost use Rattle.term_model.specs.Declarations.{declarations};
+ghost use Rattle.term_model.specs.declared.rules.Rule.{Rule};
+ghost use Rattle.term_model.specs.Terms.{contract};
+ghost use Rattle.term_model.specs.Sizes.{nodes_of_contract, height_of_contract};
+ghost use Rattle.term_model.specs.WellFormed.{IsClosed, HasOnlyNumbers};
+ghost use Rattle.term_model.specs.Verdicts.{IsVerdict};
 ghost use Rattle.contract_check.specs.Checks.{IsChecked};
 
 use crate::horizons::horizon;
@@ -14,7 +14,7 @@ use crate::simple_contracts::simple_facts;
 use interval_check::bounds;
 use scale_check::{scales, sizes};
 use std::alloc::Global;
-use term_core::{CheckErr, Contr, Decls};
+use term_model::{CheckErr, Contr, Decls};
 use time_types::{Start, sorts, times};
 
 /// What is said of an accepted contract.

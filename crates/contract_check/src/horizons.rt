@@ -1,13 +1,13 @@
 //! How long a contract can pay.
 
 ghost use Rattle.std.specs.Prelude.{◌≡◌, ◌+◌, ◌≤◌, ◌<◌, ◌^◌};
-ghost use Rattle.term_core.specs.Terms.{contract};
-ghost use Rattle.term_core.specs.Limits.{most_days};
-ghost use Rattle.term_core.specs.Sizes.{reach};
-ghost use Rattle.term_core.specs.Horizons.{delayed, horizon_of};
+ghost use Rattle.term_model.specs.Terms.{contract};
+ghost use Rattle.term_model.specs.Limits.{most_days};
+ghost use Rattle.term_model.specs.Sizes.{reach};
+ghost use Rattle.term_model.specs.Horizons.{delayed, horizon_of};
 ghost use Rattle.contract_check.specs.Smallness.{MeetsSize};
 
-use term_core::Contr;
+use term_model::Contr;
 
 /// A horizon some days later; what pays nothing pays nothing later either.
 pub fn delayed_by(days: u32, horizon: u32) -> u32

@@ -4,10 +4,10 @@
 //! pays at entry for the locals of all its arms, so each form with parts has one of its own.
 
 ghost use Rattle.std.specs.Prelude.{◌≡◌, ◌≤◌, ◌+◌, ◌-◌, pos, unsigned_abs, option_map, IfSome};
-ghost use Rattle.term_core.specs.Declarations.{declarations, decimals_of};
-ghost use Rattle.term_core.specs.DayCounts.{Num};
-ghost use Rattle.term_core.specs.Terms.{contract, Lit, Both, Scale, After};
-ghost use Rattle.term_core.specs.Limits.{most_days};
+ghost use Rattle.term_model.specs.Declarations.{declarations, decimals_of};
+ghost use Rattle.term_model.specs.DayCounts.{Num};
+ghost use Rattle.term_model.specs.Terms.{contract, Lit, Both, Scale, After};
+ghost use Rattle.term_model.specs.Limits.{most_days};
 ghost use Rattle.time_types.specs.Starts.{start_day};
 ghost use Rattle.contract_check.specs.Checks.{IsGranted};
 ghost use Rattle.contract_check.specs.SimpleContracts.{sooner, IsEarly, IsWithin, IsMeasured};
@@ -17,7 +17,7 @@ ghost use Rattle.contract_check.specs.SimpleContracts as simple;
 use crate::checks::Facts;
 use crate::horizons::delayed_by;
 use decimal::pow10;
-use term_core::{Contr, Days, Decls, Expr, MOST_DAYS, MOST_HEIGHT, MOST_NODES};
+use term_model::{Contr, Days, Decls, Expr, MOST_DAYS, MOST_HEIGHT, MOST_NODES};
 use time_types::Start;
 
 // The greatest total, and literal, that is measured. With the decimals of the factors round it, of

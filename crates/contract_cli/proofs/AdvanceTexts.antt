@@ -7,13 +7,13 @@ use Rattle.std.specs.Map.{keys_of}
 use Rattle.std.proofs.lemmas.List.{append_assoc}
 use Rattle.std.proofs.lemmas.List.Elements.{All-from_recursion}
 use Rattle.decimal.specs.Text.{text_of}
-use Rattle.term_core.specs.declared.name.Name.{Name}
-use Rattle.term_core.specs.Acceptance.{IsAccepted}
-use Rattle.term_core.specs.Declarations.{Declarations, decimals_of}
-use Rattle.term_core.specs.Environments.{Environment}
-use Rattle.term_core.specs.Instances.{declared_numbers}
-use Rattle.term_core.specs.Terms.{Contract}
-use Rattle.term_core.specs.WellFormed.{HasOnlyNumbers}
+use Rattle.term_model.specs.declared.name.Name.{Name}
+use Rattle.term_model.specs.Acceptance.{IsAccepted}
+use Rattle.term_model.specs.Declarations.{Declarations, decimals_of}
+use Rattle.term_model.specs.Environments.{Environment}
+use Rattle.term_model.specs.Instances.{declared_numbers}
+use Rattle.term_model.specs.Terms.{Contract}
+use Rattle.term_model.specs.WellFormed.{HasOnlyNumbers}
 use Rattle.contract_parse.specs.Texts.{Text}
 use Rattle.contract_print.specs.Comments.{IsComments}
 use Rattle.contract_print.specs.Rests.{IsRestOf, IsSoundRest}

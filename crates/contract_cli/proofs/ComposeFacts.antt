@@ -2,15 +2,15 @@
 use Rattle.std.proofs.Common.{◌≡◌, ◌∙◌, ◌≤◌, ◌-◌, ◌+◌, ◌+ℤ◌, ℕ, ℤ, pos, List, [], ◌∷◌, ap, arith, refl, subst}
 use Rattle.std.specs.Prelude.{None}
 use Rattle.std.proofs.lemmas.Int.{ints}
-use Rattle.term_core.specs.declared.name.Name.{Name}
-use Rattle.term_core.specs.Declarations.{Declarations}
-use Rattle.term_core.specs.Environments.{Environment, Extends}
-use Rattle.term_core.specs.Instances.{declared_numbers, instance}
-use Rattle.term_core.specs.Residuals.{Carries}
-use Rattle.term_core.specs.Terms.{Contract}
-use Rattle.term_core.specs.WellFormed.{HasOnlyNumbers}
-use Rattle.term_core.proofs.ResidualFacts.{carries_composes}
-use Rattle.term_core.proofs.VerdictFacts.{one_verdict}
+use Rattle.term_model.specs.declared.name.Name.{Name}
+use Rattle.term_model.specs.Declarations.{Declarations}
+use Rattle.term_model.specs.Environments.{Environment, Extends}
+use Rattle.term_model.specs.Instances.{declared_numbers, instance}
+use Rattle.term_model.specs.Residuals.{Carries}
+use Rattle.term_model.specs.Terms.{Contract}
+use Rattle.term_model.specs.WellFormed.{HasOnlyNumbers}
+use Rattle.term_model.proofs.ResidualFacts.{carries_composes}
+use Rattle.term_model.proofs.VerdictFacts.{one_verdict}
 use Rattle.advance_step.specs.Advancing.{IsResidual}
 use Rattle.command_answers.specs.AdvancePromise.{AreResiduals, rest_declarations}
 use Rattle.command_answers.specs.UsedContracts.{used}

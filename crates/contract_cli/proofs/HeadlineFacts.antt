@@ -3,13 +3,13 @@ use Rattle.std.proofs.Common.{◌≡◌, ◌∙◌, ◌<◌, inl, inr, ℕ, ℤ,
 use Rattle.std.specs.Prelude.{Some}
 use Rattle.std.specs.Map.{keys_of}
 use Rattle.std.proofs.lemmas.List.{length-map}
-use Rattle.term_core.specs.Books.{Book}
-use Rattle.term_core.specs.Declarations.{Declarations}
-use Rattle.term_core.specs.Environments.{Environment, IsAdmitted}
-use Rattle.term_core.specs.Factors.{CurveRow, IsCurve}
-use Rattle.term_core.specs.Flows.{Flow}
-use Rattle.term_core.specs.Instances.{IsSetting}
-use Rattle.term_core.specs.Terms.{Contract}
+use Rattle.term_model.specs.Books.{Book}
+use Rattle.term_model.specs.Declarations.{Declarations}
+use Rattle.term_model.specs.Environments.{Environment, IsAdmitted}
+use Rattle.term_model.specs.Factors.{CurveRow, IsCurve}
+use Rattle.term_model.specs.Flows.{Flow}
+use Rattle.term_model.specs.Instances.{IsSetting}
+use Rattle.term_model.specs.Terms.{Contract}
 use Rattle.contract_parse.specs.Texts.{Text}
 use Rattle.payoff_lang.specs.CodeBooks.{CodeBook}
 use Rattle.payoff_lang.specs.CodeFiles.{CodeText}

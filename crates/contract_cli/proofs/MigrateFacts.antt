@@ -3,18 +3,18 @@ use Rattle.std.proofs.Common.{◌≡◌, ◌∙◌, inl, inr, ℕ, ℤ, pos, ◌
 use Rattle.std.specs.Prelude.{None, codes}
 use Rattle.std.proofs.Math.Path.{fun_ext}
 use Rattle.std.proofs.lemmas.List.Elements.{All-weaker}
-use Rattle.term_core.specs.Acceptance.{IsAccepted}
-use Rattle.term_core.specs.Books.{Book}
-use Rattle.term_core.specs.Causality.{IsCausal}
-use Rattle.term_core.specs.Declarations.{Declarations}
-use Rattle.term_core.specs.Environments.{Environment, Place}
-use Rattle.term_core.specs.Flows.{Flow}
-use Rattle.term_core.specs.LawsDeclarations.{HasOneMeaning, HasOneVerdict, MeanTheSame}
-use Rattle.term_core.specs.Reads.{first_unfixed}
-use Rattle.term_core.specs.Terms.{Contract}
-use Rattle.term_core.specs.declared.name.Name.{Name}
-use Rattle.term_core.proofs.MeaningFacts.{one_meaning}
-use Rattle.term_core.proofs.VerdictFacts.{one_verdict}
+use Rattle.term_model.specs.Acceptance.{IsAccepted}
+use Rattle.term_model.specs.Books.{Book}
+use Rattle.term_model.specs.Causality.{IsCausal}
+use Rattle.term_model.specs.Declarations.{Declarations}
+use Rattle.term_model.specs.Environments.{Environment, Place}
+use Rattle.term_model.specs.Flows.{Flow}
+use Rattle.term_model.specs.LawsDeclarations.{HasOneMeaning, HasOneVerdict, MeanTheSame}
+use Rattle.term_model.specs.Reads.{first_unfixed}
+use Rattle.term_model.specs.Terms.{Contract}
+use Rattle.term_model.specs.declared.name.Name.{Name}
+use Rattle.term_model.proofs.MeaningFacts.{one_meaning}
+use Rattle.term_model.proofs.VerdictFacts.{one_verdict}
 use Rattle.contract_parse.proofs.OneText.{one_text}
 use Rattle.contract_print.specs.Canon.{IsCanon}
 use Rattle.contract_print.specs.Migrated.{in_version_two, migrated}

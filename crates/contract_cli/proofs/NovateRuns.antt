@@ -6,18 +6,18 @@ use Rattle.std.specs.Str.{bytes_eq}
 use Rattle.std.proofs.Math.IntN.{+ℤ_assoc}
 use Rattle.std.proofs.lemmas.Int.{ints}
 use Rattle.std.proofs.lemmas.Slice.Eq.{bytes_eq-Decides}
-use Rattle.term_core.specs.declared.name.Name.{Name}
-use Rattle.term_core.specs.Books.{Book}
-use Rattle.term_core.specs.Declarations.{Declarations}
-use Rattle.term_core.specs.Environments.{Environment, Extends, IsAdmitted}
-use Rattle.term_core.specs.Flows.{Flow, amount_of}
-use Rattle.term_core.specs.Instances.{declared_numbers}
-use Rattle.term_core.specs.Reads.{reads_of_contract}
-use Rattle.term_core.specs.Residuals.{Carries}
-use Rattle.term_core.specs.Terms.{Contract}
-use Rattle.term_core.specs.WellFormed.{HasOnlyNumbers}
-use Rattle.term_core.proofs.MeaningFacts.{one_meaning}
-use Rattle.term_core.proofs.ResidualFacts.{carries_composes}
+use Rattle.term_model.specs.declared.name.Name.{Name}
+use Rattle.term_model.specs.Books.{Book}
+use Rattle.term_model.specs.Declarations.{Declarations}
+use Rattle.term_model.specs.Environments.{Environment, Extends, IsAdmitted}
+use Rattle.term_model.specs.Flows.{Flow, amount_of}
+use Rattle.term_model.specs.Instances.{declared_numbers}
+use Rattle.term_model.specs.Reads.{reads_of_contract}
+use Rattle.term_model.specs.Residuals.{Carries}
+use Rattle.term_model.specs.Terms.{Contract}
+use Rattle.term_model.specs.WellFormed.{HasOnlyNumbers}
+use Rattle.term_model.proofs.MeaningFacts.{one_meaning}
+use Rattle.term_model.proofs.ResidualFacts.{carries_composes}
 use Rattle.contract_parse.specs.Texts.{Text}
 use Rattle.contract_parse.proofs.OneText.{one_text}
 use Rattle.exposure.specs.Renaming.{CarriesRenamed, renamed}

@@ -6,14 +6,14 @@ use Rattle.std.specs.Map.{keys_of}
 use Rattle.std.specs.Str.{bytes_eq}
 use Rattle.std.proofs.lemmas.List.Elements.{All-from_recursion}
 use Rattle.std.proofs.lemmas.Slice.Eq.{bytes_eq-Decides}
-use Rattle.term_core.specs.declared.name.Name.{Name}
-use Rattle.term_core.specs.Acceptance.{IsAccepted}
-use Rattle.term_core.specs.Books.{Book}
-use Rattle.term_core.specs.Declarations.{Declarations}
-use Rattle.term_core.specs.Environments.{Environment}
-use Rattle.term_core.specs.Residuals.{Carries}
-use Rattle.term_core.specs.Terms.{Contract}
-use Rattle.term_core.specs.WellFormed.{HasOnlyNumbers}
+use Rattle.term_model.specs.declared.name.Name.{Name}
+use Rattle.term_model.specs.Acceptance.{IsAccepted}
+use Rattle.term_model.specs.Books.{Book}
+use Rattle.term_model.specs.Declarations.{Declarations}
+use Rattle.term_model.specs.Environments.{Environment}
+use Rattle.term_model.specs.Residuals.{Carries}
+use Rattle.term_model.specs.Terms.{Contract}
+use Rattle.term_model.specs.WellFormed.{HasOnlyNumbers}
 use Rattle.contract_parse.specs.Texts.{Text}
 use Rattle.contract_print.specs.Rests.{IsRestOf, IsSoundRest}
 use Rattle.contract_print.proofs.CommentFacts.{comments_change_nothing}

@@ -7,12 +7,12 @@ use Rattle.std.specs.Map.{keys_of}
 use Rattle.std.specs.Str.{bytes_eq}
 use Rattle.std.proofs.lemmas.Bool.{and_parts, cases_Bool}
 use Rattle.std.proofs.lemmas.Map.Made.{is_some-lookup}
-use Rattle.term_core.specs.Books.{Book}
-use Rattle.term_core.specs.Declarations.{Declarations, at_one_scale}
-use Rattle.term_core.specs.Instances.{declared_numbers, instance}
-use Rattle.term_core.specs.Terms.{Contract}
-use Rattle.term_core.proofs.FormedFacts.{closed_at_one_scale}
-use Rattle.term_core.proofs.VerdictFacts.{accepted_at_one_scale}
+use Rattle.term_model.specs.Books.{Book}
+use Rattle.term_model.specs.Declarations.{Declarations, at_one_scale}
+use Rattle.term_model.specs.Instances.{declared_numbers, instance}
+use Rattle.term_model.specs.Terms.{Contract}
+use Rattle.term_model.proofs.FormedFacts.{closed_at_one_scale}
+use Rattle.term_model.proofs.VerdictFacts.{accepted_at_one_scale}
 use Rattle.contract_parse.specs.Names.{is_declared}
 use Rattle.contract_parse.specs.NameTexts.{is_name_text}
 use Rattle.contract_parse.specs.Words.{Bytes}

@@ -10,7 +10,7 @@ use Rattle.std.proofs.lemmas.Map.Entries.{All-lookup}
 use Rattle.clap.specs.Words.{Row, Text, all_of, first_of}
 use Rattle.decimal.specs.Reading.{digits_of, number_up_to, up_to}
 use Rattle.decimal.specs.declared.rounding.Mode.{Mode}
-use Rattle.term_core.specs.Instances.{IsSetting}
+use Rattle.term_model.specs.Instances.{IsSetting}
 use Rattle.contract_parse.specs.Judgements.{integer_at}
 use Rattle.contract_parse.specs.Names.{is_declared}
 use Rattle.contract_parse.specs.NameTexts.{is_name_text}

@@ -3,13 +3,13 @@ use Rattle.std.proofs.Common.{◌≡◌, ◌∙◌, inl, inr, ◌++◌, ◌≤�
 use Rattle.std.specs.Prelude.{Option, Some, None}
 use Rattle.std.specs.Io.KnownBytes.{Appends}
 use Rattle.std.proofs.lemmas.List.{append_cancel_left}
-use Rattle.term_core.specs.Books.{Book}
-use Rattle.term_core.specs.Declarations.{Declarations, at_one_scale}
-use Rattle.term_core.specs.Environments.{Environment, Extends}
-use Rattle.term_core.specs.Horizons.{horizon_of}
-use Rattle.term_core.specs.Terms.{Contract}
-use Rattle.term_core.proofs.MeaningFacts.{one_meaning}
-use Rattle.term_core.proofs.VerdictFacts.{accepted_at_one_scale}
+use Rattle.term_model.specs.Books.{Book}
+use Rattle.term_model.specs.Declarations.{Declarations, at_one_scale}
+use Rattle.term_model.specs.Environments.{Environment, Extends}
+use Rattle.term_model.specs.Horizons.{horizon_of}
+use Rattle.term_model.specs.Terms.{Contract}
+use Rattle.term_model.proofs.MeaningFacts.{one_meaning}
+use Rattle.term_model.proofs.VerdictFacts.{accepted_at_one_scale}
 use Rattle.contract_parse.specs.Texts.{Text}
 use Rattle.contract_parse.proofs.OneText.{one_text}
 use Rattle.contract_print.proofs.LinesSpelled.{book_spelled}

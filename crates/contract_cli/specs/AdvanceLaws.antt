@@ -1,12 +1,12 @@
 -- Laws of what `advance` leaves of a portfolio: its text is that of a portfolio on the new day; and what is left of what is left
 -- carries the first contracts to the later day.
 use Rattle.std.specs.Prelude.{◌≡◌, ◌≤◌, ◌-◌, ℕ, pos, List, [], ◌∷◌, Option, None}
-use Rattle.term_core.specs.Books.{Book}
-use Rattle.term_core.specs.declared.name.Name.{Name}
-use Rattle.term_core.specs.Declarations.{Declarations}
-use Rattle.term_core.specs.Environments.{Environment, Extends}
-use Rattle.term_core.specs.Residuals.{Carries}
-use Rattle.term_core.specs.Terms.{Contract}
+use Rattle.term_model.specs.Books.{Book}
+use Rattle.term_model.specs.declared.name.Name.{Name}
+use Rattle.term_model.specs.Declarations.{Declarations}
+use Rattle.term_model.specs.Environments.{Environment, Extends}
+use Rattle.term_model.specs.Residuals.{Carries}
+use Rattle.term_model.specs.Terms.{Contract}
 use Rattle.contract_parse.specs.Texts.{Text}
 use Rattle.command_answers.specs.AdvancePromise.{CanAdvance, IsAdvanceText, IsRestBook, rest_declarations}
 use Rattle.command_answers.specs.CheckPromise.{AreAllAccepted}

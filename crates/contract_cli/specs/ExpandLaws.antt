@@ -4,10 +4,10 @@
 use Rattle.std.specs.Prelude.{◌≡◌, ◌-ℤ◌, ◌-◌, ℕ, ℤ, pos, Bool, true, false, List, [], ◌∷◌, ◌++◌, Option, codes, map}
 use Rattle.std.specs.List.{All, filter}
 use Rattle.decimal.specs.Rounding.{raised}
-use Rattle.term_core.specs.declared.name.Name.{Name}
-use Rattle.term_core.specs.Declarations.{Declarations}
-use Rattle.term_core.specs.Environments.{Environment, Extends}
-use Rattle.term_core.specs.Flows.{Flow}
+use Rattle.term_model.specs.declared.name.Name.{Name}
+use Rattle.term_model.specs.Declarations.{Declarations}
+use Rattle.term_model.specs.Environments.{Environment, Extends}
+use Rattle.term_model.specs.Flows.{Flow}
 use Rattle.contract_parse.specs.Texts.{Text}
 use Rattle.contract_print.specs.Canon.{IsCanon}
 use Rattle.flow_eval.specs.Tables.{IsTable}

@@ -3,14 +3,14 @@
 -- contract pays what the first one pays.
 use Rattle.std.specs.Prelude.{◌≡◌, ◌↔◌, ◌+◌, ◌-◌, ◌+ℤ◌, ℕ, ℤ, pos, List, [], ◌∷◌, Option, None}
 use Rattle.std.specs.List.{All}
-use Rattle.term_core.specs.declared.name.Name.{Name}
-use Rattle.term_core.specs.Acceptance.{AreFacts, Facts}
-use Rattle.term_core.specs.Books.{Book}
-use Rattle.term_core.specs.Declarations.{Declarations}
-use Rattle.term_core.specs.Environments.{Environment, Extends, IsAdmitted}
-use Rattle.term_core.specs.Flows.{Flow, amount_of}
-use Rattle.term_core.specs.Residuals.{Carries}
-use Rattle.term_core.specs.Terms.{Contract}
+use Rattle.term_model.specs.declared.name.Name.{Name}
+use Rattle.term_model.specs.Acceptance.{AreFacts, Facts}
+use Rattle.term_model.specs.Books.{Book}
+use Rattle.term_model.specs.Declarations.{Declarations}
+use Rattle.term_model.specs.Environments.{Environment, Extends, IsAdmitted}
+use Rattle.term_model.specs.Flows.{Flow, amount_of}
+use Rattle.term_model.specs.Residuals.{Carries}
+use Rattle.term_model.specs.Terms.{Contract}
 use Rattle.contract_parse.specs.Texts.{Text}
 use Rattle.exposure.specs.LiteralLists.{literals_in}
 use Rattle.exposure.specs.Renaming.{AreSources, CarriesRenamed, sum_between}

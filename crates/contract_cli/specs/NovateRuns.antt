@@ -2,10 +2,10 @@
 -- later flows of the first contracts, with the new party in the place of the old one in the contract of the name. And a later
 -- `advance` of it leaves contracts that stand for the first ones too.
 use Rattle.std.specs.Prelude.{◌≡◌, ◌++◌, ℕ, ℤ, pos, Bool, true, false, List, [], ◌∷◌, codes}
-use Rattle.term_core.specs.declared.name.Name.{Name}
-use Rattle.term_core.specs.Declarations.{Declarations}
-use Rattle.term_core.specs.Environments.{Environment, Extends, IsAdmitted}
-use Rattle.term_core.specs.Terms.{Contract}
+use Rattle.term_model.specs.declared.name.Name.{Name}
+use Rattle.term_model.specs.Declarations.{Declarations}
+use Rattle.term_model.specs.Environments.{Environment, Extends, IsAdmitted}
+use Rattle.term_model.specs.Terms.{Contract}
 use Rattle.flow_eval.specs.Tables.{IsTable, paid_by}
 use Rattle.flow_eval.specs.declared.flow_table.FlowRow.{FlowRow}
 use Rattle.command_words.specs.Commands.{AdvanceAsked, Check, Flows, FlowsAsked, Novate, NovateAsked, files_of}

@@ -1,10 +1,10 @@
 -- The law of what `payoff` prints of a contract: it is a text of a code file that stands on the portfolio's declarations, and
 -- the code means the contract.
 use Rattle.std.specs.Prelude.{◌≡◌, ◌≤◌, ◌*◌, ℕ, Bool, true, false, List}
-use Rattle.term_core.specs.Books.{Book}
-use Rattle.term_core.specs.Declarations.{Declarations, at_one_scale}
-use Rattle.term_core.specs.Sizes.{nodes_of_contract}
-use Rattle.term_core.specs.Terms.{Contract}
+use Rattle.term_model.specs.Books.{Book}
+use Rattle.term_model.specs.Declarations.{Declarations, at_one_scale}
+use Rattle.term_model.specs.Sizes.{nodes_of_contract}
+use Rattle.term_model.specs.Terms.{Contract}
 use Rattle.contract_parse.specs.Texts.{Text}
 use Rattle.payoff_lang.specs.Code.{PayoffCode}
 use Rattle.payoff_lang.specs.CodeBooks.{CodeBook}

@@ -3,8 +3,8 @@
 -- contracts that carry the first ones (Bahr, Berthold and Elsman, ICFP 2015). What `migrate` prints is the same portfolio in
 -- version 2.
 use Rattle.std.specs.Prelude.{◌≡◌, ◌++◌, ℕ, ℤ, Bool, false, List, Option, Some}
-use Rattle.term_core.specs.Books.{Book}
-use Rattle.term_core.specs.Environments.{Environment, Extends}
+use Rattle.term_model.specs.Books.{Book}
+use Rattle.term_model.specs.Environments.{Environment, Extends}
 use Rattle.contract_parse.specs.Texts.{Text}
 use Rattle.contract_print.specs.Canon.{IsCanon}
 use Rattle.contract_print.specs.Migrated.{migrated}

@@ -10,7 +10,7 @@ use command_answers::Stop;
 use edge_io::{Files, ReadErr};
 use report::Fault;
 use std::alloc::Global;
-use term_core::LONGEST_FILE;
+use term_model::LONGEST_FILE;
 
 // The bytes of the file at a place of the command.
 fn read_file<F: Files>(alloc: Global, files: &mut F, name: &str, place: u8) -> Result<Vec<u8>, Stop>

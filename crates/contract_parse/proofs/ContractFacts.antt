@@ -1,9 +1,9 @@
 -- The contracts of a portfolio by their contents: one more of them, and their names.
 use Rattle.std.proofs.Common.{◌≡◌, List, [], ◌∷◌, ◌++◌, ap, refl}
 use Rattle.std.specs.Map.{keys_of}
-use Rattle.term_core.specs.declared.name.Name.{Name}
-use Rattle.term_core.specs.declared.terms.Contr.{Contr}
-use Rattle.term_core.specs.Terms.{Contract, contract}
+use Rattle.term_model.specs.declared.name.Name.{Name}
+use Rattle.term_model.specs.declared.terms.Contr.{Contr}
+use Rattle.term_model.specs.Terms.{Contract, contract}
 use Rattle.contract_parse.specs.Words.{Bytes}
 use Rattle.contract_parse.specs.ContractReading.{trees}
 

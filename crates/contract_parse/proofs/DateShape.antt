@@ -4,7 +4,7 @@ use Rattle.std.specs.Prelude.{if◌then◌else◌, is_some, not, option_and_then
 use Rattle.std.specs.List.{prefix_len}
 use Rattle.std.proofs.lemmas.Bool.{false≢true}
 use Rattle.std.proofs.lemmas.Bool.Decides.{nat_tests}
-use Rattle.term_core.specs.Dates.{Parts, parts_of, two_of}
+use Rattle.term_model.specs.Dates.{Parts, parts_of, two_of}
 use Rattle.contract_parse.specs.Tokens.{begins_with_date, begins_with_digit, is_digit}
 use Rattle.contract_parse.proofs.EntryFacts.{and_parts}
 

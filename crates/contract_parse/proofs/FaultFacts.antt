@@ -1,7 +1,7 @@
 -- The first fault of bytes that are no text.
 use Rattle.std.proofs.Common.{◌≡◌, ◌-◌, ℕ, List, length, refl, subst, sym}
 use Rattle.std.specs.Str.{IsUtf8}
-use Rattle.term_core.specs.Books.{Book}
+use Rattle.term_model.specs.Books.{Book}
 use Rattle.contract_parse.specs.Tokens.{tokens}
 use Rattle.contract_parse.specs.Cursors.{IsNoUtf8, fault_at, fault_of}
 use Rattle.contract_parse.specs.Names.{nothing_declared}

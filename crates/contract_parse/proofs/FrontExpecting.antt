@@ -2,8 +2,8 @@
 use Rattle.std.proofs.Common.{◌≡◌, ℕ, ℤ, Bool, true, false, cond, ◌&&◌, ◌||◌, Option, Some, None, Result, Ok, Err, List, [], ◌∷◌, ◌++◌, refl, sym, ap, ◌∙◌}
 use Rattle.std.specs.Prelude.{codes, ◌-◌, length, nat_le, nat_lt, not}
 use Rattle.decimal.specs.declared.Decimal.{Decimal}
-use Rattle.term_core.specs.Dates.{epoch_day_of}
-use Rattle.term_core.specs.Limits.{is_origin}
+use Rattle.term_model.specs.Dates.{epoch_day_of}
+use Rattle.term_model.specs.Limits.{is_origin}
 use Rattle.contract_parse.specs.Tokens.{Tok}
 use Rattle.contract_parse.specs.Words.{Bytes, is_date, is_end, is_integer, is_name, is_number, is_the_mark, is_the_word}
 use Rattle.contract_parse.specs.Versions.{Version, One, Two}

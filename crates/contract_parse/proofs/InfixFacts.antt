@@ -1,8 +1,8 @@
 -- An operator between its operands.
 use Rattle.std.proofs.Common.{List}
 use Rattle.std.specs.Prelude.{codes}
-use Rattle.term_core.specs.Terms.{Expression}
-use Rattle.term_core.specs.declared.terms.NumOp.TheVariants.{Plus, Minus, Times, Min, Max}
+use Rattle.term_model.specs.Terms.{Expression}
+use Rattle.term_model.specs.declared.terms.NumOp.TheVariants.{Plus, Minus, Times, Min, Max}
 use Rattle.contract_parse.specs.Tokens.{Tok}
 use Rattle.contract_parse.specs.Words.{Bytes}
 use Rattle.contract_parse.specs.Judgements.{operator_at}

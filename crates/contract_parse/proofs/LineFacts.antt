@@ -12,8 +12,8 @@ use Rattle.contract_parse.specs.Judgements.{new_at, separator_at}
 use Rattle.contract_parse.specs.Spelling.{mark, valued, word}
 use Rattle.contract_parse.specs.Statements.{label_line}
 use Rattle.contract_parse.specs.DeclarationReading.{label_range}
-use Rattle.term_core.specs.declared.label.Label.{Label}
-use Rattle.term_core.specs.declared.label.Label.TheVariants as label
+use Rattle.term_model.specs.declared.label.Label.{Label}
+use Rattle.term_model.specs.declared.label.Label.TheVariants as label
 use Rattle.contract_parse.proofs.Parts.{followed_by}
 use Rattle.contract_parse.specs.Expecting.{Expected, Next, LabelLines, flag_expected, number_label_expected, run, step}
 use Rattle.contract_parse.specs.Reading.{Lacks}

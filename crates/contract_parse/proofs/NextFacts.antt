@@ -2,9 +2,9 @@
 use Rattle.std.proofs.Common.{◌≡◌, ◌≤◌, ◌∙◌, ◌∷◌, ◌++◌, ℕ, [], List, Bool, true, false, cond, Ok, Err, ap, arith, length, refl, subst, sym}
 use Rattle.std.specs.Prelude.{codes}
 use Rattle.std.specs.Map.{keys_of}
-use Rattle.term_core.specs.Declarations.{Declarations}
-use Rattle.term_core.specs.Sizes.{nodes_of_contract}
-use Rattle.term_core.specs.Terms.{Contract}
+use Rattle.term_model.specs.Declarations.{Declarations}
+use Rattle.term_model.specs.Sizes.{nodes_of_contract}
+use Rattle.term_model.specs.Terms.{Contract}
 use Rattle.contract_parse.specs.Tokens.{Tok, tokens}
 use Rattle.contract_parse.specs.Words.{Bytes, is_name}
 use Rattle.contract_parse.specs.Versions.{version_of}

@@ -1,6 +1,6 @@
 -- A text of a portfolio has no fault.
 use Rattle.std.proofs.Common.{ℕ, List}
-use Rattle.term_core.specs.Books.{Book}
+use Rattle.term_model.specs.Books.{Book}
 use Rattle.contract_parse.specs.Tokens.{tokens}
 use Rattle.contract_parse.specs.Texts.{FirstFault, IsFault, Text, no_utf8, refused}
 use Rattle.contract_parse.specs.declared.faults.TextKind.{TextKind}

@@ -1,7 +1,7 @@
 -- What the readers of declarations make of parts of a line: the range of a label stands behind its name, and a label
 -- that is a flag has none.
-use Rattle.term_core.specs.declared.label.Label.{Label}
-use Rattle.term_core.specs.declared.label.Label.TheVariants as label
+use Rattle.term_model.specs.declared.label.Label.{Label}
+use Rattle.term_model.specs.declared.label.Label.TheVariants as label
 use Rattle.contract_parse.specs.Spelling.{Part}
 use Rattle.contract_parse.specs.Statements.{range}
 

@@ -1,7 +1,7 @@
 -- Parts of terms where they stand: what the readers in a frame read.
 use Rattle.std.specs.Prelude.{◌+◌, List}
-use Rattle.term_core.specs.declared.terms.Contr.{Contr}
-use Rattle.term_core.specs.declared.terms.Expr.{Expr}
+use Rattle.term_model.specs.declared.terms.Contr.{Contr}
+use Rattle.term_model.specs.declared.terms.Expr.{Expr}
 use Rattle.contract_parse.specs.Words.{Bytes}
 use Rattle.contract_parse.specs.Versions.{version_of}
 use Rattle.contract_parse.specs.Names.{DeclaredNames, names_in}

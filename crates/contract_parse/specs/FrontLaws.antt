@@ -2,7 +2,7 @@
 -- is of Syntax exactly where the token ends all fronts; a front is what some text goes on from, names and limits aside.
 use Rattle.std.specs.Prelude.{◌≡◌, ◌-◌, ◌↔◌, ℕ, List, [], ◌∷◌, ◌++◌, length}
 use Rattle.std.specs.Str.{IsUtf8}
-use Rattle.term_core.specs.Books.{Book}
+use Rattle.term_model.specs.Books.{Book}
 use Rattle.contract_parse.specs.Tokens.{Tok, tokens}
 use Rattle.contract_parse.specs.Lines.{line_at, column_at}
 use Rattle.contract_parse.specs.Names.{nothing_declared}

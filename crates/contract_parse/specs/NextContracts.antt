@@ -2,14 +2,14 @@
 use Rattle.std.specs.Prelude.{◌≡◌, ◌≤◌, ◌<◌, ◌^◌, ◌∷◌, ◌++◌, ℕ, [], List, Option, Some, None, Result, Ok, Err, false, length}
 use Rattle.std.specs.Map.{keys_of}
 use Rattle.std.specs.Str.{IsUtf8}
-use Rattle.term_core.specs.Books.{Book}
-use Rattle.term_core.specs.Declarations.{Declarations, declarations}
-use Rattle.term_core.specs.Instances.{HasSmallSums}
-use Rattle.term_core.specs.Sizes.{height_of_contract, nodes_of_contract}
-use Rattle.term_core.specs.Terms.{Contract, contract}
-use Rattle.term_core.specs.WellFormed.{IsClosed}
-use Rattle.term_core.specs.declared.decls.Decls.{Decls}
-use Rattle.term_core.specs.declared.name.Name.{Name}
+use Rattle.term_model.specs.Books.{Book}
+use Rattle.term_model.specs.Declarations.{Declarations, declarations}
+use Rattle.term_model.specs.Instances.{HasSmallSums}
+use Rattle.term_model.specs.Sizes.{height_of_contract, nodes_of_contract}
+use Rattle.term_model.specs.Terms.{Contract, contract}
+use Rattle.term_model.specs.WellFormed.{IsClosed}
+use Rattle.term_model.specs.declared.decls.Decls.{Decls}
+use Rattle.term_model.specs.declared.name.Name.{Name}
 use Rattle.contract_parse.specs.Tokens.{Tok, tokens}
 use Rattle.contract_parse.specs.Versions.{version_of}
 use Rattle.contract_parse.specs.Names.{declared_by, is_declared, nothing_declared}

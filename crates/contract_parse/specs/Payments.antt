@@ -1,6 +1,6 @@
 -- How many payments a contract holds.
 use Rattle.std.specs.Prelude.{ℕ, ◌+◌}
-use Rattle.term_core.specs.Terms.{Contract, Zero, Pay, Both, Scale, After, Let, Within}
+use Rattle.term_model.specs.Terms.{Contract, Zero, Pay, Both, Scale, After, Let, Within}
 
 -- the payments of all branches together
 abbrev pub payments_in : Contract → ℕ

@@ -1,9 +1,9 @@
 -- What the tokens and the answers of the code stand for.
 use Rattle.std.specs.Prelude.{◌≡◌, ◌≤◌, ◌≤ℤ◌, ◌^◌, ℕ, ℤ, unsigned_abs, List, [], ◌∷◌, false, Option, Some, None, if◌then◌else◌}
-use Rattle.term_core.specs.Terms.{Expression, Num, Cmp, Logic}
-use Rattle.term_core.specs.Declarations.{declarations}
-use Rattle.term_core.specs.declared.decls.Decls.{Decls}
-use Rattle.term_core.specs.declared.terms.NumOp.TheVariants.{Plus, Minus, Times, Min, Max}
+use Rattle.term_model.specs.Terms.{Expression, Num, Cmp, Logic}
+use Rattle.term_model.specs.Declarations.{declarations}
+use Rattle.term_model.specs.declared.decls.Decls.{Decls}
+use Rattle.term_model.specs.declared.terms.NumOp.TheVariants.{Plus, Minus, Times, Min, Max}
 use Rattle.contract_parse.specs.Tokens.{Tok, is_last, tokens}
 use Rattle.contract_parse.specs.Words.{Bytes, is_the_mark, is_the_word}
 use Rattle.contract_parse.specs.Names.{DeclaredNames, declared_by}

@@ -2,8 +2,8 @@
 -- code.
 use Rattle.std.specs.Prelude.{◌≡◌, ◌-◌, ℕ, List, [], Result, Ok, Err, length}
 use Rattle.std.specs.Str.{IsUtf8, IsValidUpTo}
-use Rattle.term_core.specs.Books.{Book, book}
-use Rattle.term_core.specs.declared.portfolio.Portfolio.{Portfolio}
+use Rattle.term_model.specs.Books.{Book, book}
+use Rattle.term_model.specs.declared.portfolio.Portfolio.{Portfolio}
 use Rattle.contract_parse.specs.Tokens.{tokens}
 use Rattle.contract_parse.specs.Lines.{line_at, column_at}
 use Rattle.contract_parse.specs.Names.{nothing_declared}

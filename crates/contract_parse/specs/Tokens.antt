@@ -3,7 +3,7 @@
 use Rattle.std.specs.Prelude.{ℕ, zero, suc, ◌+◌, ◌==◌, ◌&&◌, ◌||◌, not, Bool, true, false, List, [], ◌∷◌, length, take, drop, is_some, nat_le, nat_lt, if◌then◌else◌}
 use Rattle.std.specs.List.{prefix_len}
 pub use Rattle.decimal.specs.Reading.{is_digit}
-use Rattle.term_core.specs.Dates.{parts_of}
+use Rattle.term_model.specs.Dates.{parts_of}
 use Rattle.contract_parse.specs.declared.token.LexemeKind.{LexemeKind}
 use Rattle.contract_parse.specs.declared.token.LexemeKind.TheVariants.{Word, Number, Date, Mark, End, Stray}
 use Rattle.contract_parse.specs.declared.token.Extent.{Extent}

@@ -1,8 +1,8 @@
 //! Expressions from texts.
 ghost use Rattle.std.specs.Prelude.{◌≡◌, ◌≤◌, ◌<◌, ◌+◌, ◌∷◌, [], ℕ, List, IfOk, OnOk, codes, length, max, true};
-ghost use Rattle.term_core.specs.Limits.{most_days};
-ghost use Rattle.term_core.specs.Terms.{Lit, expression};
-ghost use Rattle.term_core.specs.Sizes.{height};
+ghost use Rattle.term_model.specs.Limits.{most_days};
+ghost use Rattle.term_model.specs.Terms.{Lit, expression};
+ghost use Rattle.term_model.specs.Sizes.{height};
 ghost use Rattle.contract_parse.specs.Words.{Bytes};
 ghost use Rattle.contract_parse.specs.Names.{DeclaredNames};
 ghost use Rattle.contract_parse.specs.Frames.{PassesAt, an_expression_here, expression_at, names_at, expected_behind_first};
@@ -25,7 +25,7 @@ use crate::readers::{
 use crate::words::next;
 use decimal::{Decimal, Mode};
 use std::alloc::Global;
-use term_core::{Expr, MOST_DAYS, NumOp, Scope};
+use term_model::{Expr, MOST_DAYS, NumOp, Scope};
 
 fn joined(operator: Operator, left: Box<Expr>, right: Box<Expr>) -> Expr
     ensures { expression result ≡ joined operator (expression left.value) (expression right.value) }

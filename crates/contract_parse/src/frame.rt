@@ -1,10 +1,10 @@
 //! Where a part of a term stands.
 
 ghost use Rattle.std.specs.Prelude.{◌≤◌, length};
-ghost use Rattle.term_core.specs.Limits.{most_height_of_code};
+ghost use Rattle.term_model.specs.Limits.{most_height_of_code};
 ghost use Rattle.contract_parse.specs.Names.{names_in};
 
-use term_core::{Decls, Scope};
+use term_model::{Decls, Scope};
 
 /// Where a part of a term stands: the declarations, the names that are bound around it, and how
 /// many constructs are open there. These are no fewer than the names, and no more than payoff code

@@ -1,6 +1,6 @@
 //! What a term begins with.
 ghost use Rattle.std.specs.Prelude.{◌≡◌, ◌≤◌, ◌+◌, false, length};
-ghost use Rattle.term_core.specs.Limits.{most_height_of_code};
+ghost use Rattle.term_model.specs.Limits.{most_height_of_code};
 ghost use Rattle.contract_parse.specs.Words.{is_the_word};
 ghost use Rattle.contract_parse.specs.Names.{names_in};
 ghost use Rattle.contract_parse.specs.Judgements.{literal_at, variable_at};
@@ -12,7 +12,7 @@ use crate::judges::{literal_at, variable_at};
 use crate::token::{Lexeme, LexemeKind};
 use crate::words::{is_name, is_number, is_the_mark, is_the_word};
 use decimal::Decimal;
-use term_core::{CmpOp, LogicOp, MOST_HEIGHT, MOST_HEIGHT_OF_CODE, NumOp, Scope};
+use term_model::{CmpOp, LogicOp, MOST_HEIGHT, MOST_HEIGHT_OF_CODE, NumOp, Scope};
 
 /// The language whose terms are read: contracts, or payoff code. They differ in the word that reads
 /// an observable, and in how many terms may be open at once.

@@ -1,7 +1,7 @@
 //! Declarations of labels.
 ghost use Rattle.std.specs.Prelude.{◌≡◌, ◌≤◌, ◌<◌, ◌+◌, ◌∷◌, [], IfOk, codes, length, true};
 ghost use Rattle.indexmap.specs.IndexMap.{index_map_len, keys};
-ghost use Rattle.term_core.specs.Limits.{are_labels, is_label};
+ghost use Rattle.term_model.specs.Limits.{are_labels, is_label};
 ghost use Rattle.contract_parse.specs.Statements.{Entry, Repeat, label_line};
 ghost use Rattle.contract_parse.specs.DeclarationReading.{label_range};
 ghost use Rattle.contract_parse.specs.Expecting.{LabelLines, ScaleAt, TheMark, flag_expected, number_label_expected};
@@ -16,7 +16,7 @@ use crate::readers::{
 use crate::words::{Lookahead, look};
 use indexmap::IndexMap;
 use std::alloc::Global;
-use term_core::{Label, Name};
+use term_model::{Label, Name};
 
 // What stands behind the name of a number label.
 fn read_range(rest: &[u8]) -> Result<(Label, &[u8]), PartErr>

@@ -1,7 +1,7 @@
 //! How the observables of a language are read.
 ghost use Rattle.std.specs.Prelude.{◌≡◌, ◌∷◌, IfOk, OnOk};
-ghost use Rattle.term_core.specs.Terms.{expression};
-ghost use Rattle.term_core.specs.Sizes.{height};
+ghost use Rattle.term_model.specs.Terms.{expression};
+ghost use Rattle.term_model.specs.Sizes.{height};
 ghost use Rattle.contract_parse.specs.Names.{DeclaredNames};
 ghost use Rattle.contract_parse.specs.Spelling.{Leaf, obs_leaf};
 ghost use Rattle.contract_parse.specs.Expecting.{leaf_expected};
@@ -12,7 +12,7 @@ use crate::faults::PartErr;
 use crate::heads::Language;
 use crate::readers::{read_offset, read_use_of_map, skip_mark};
 use std::alloc::Global;
-use term_core::{Decls, Expr};
+use term_model::{Decls, Expr};
 
 /// How the observables of a language are read, and what is kept of them beside the expression.
 /// Contracts write `obs(NAME, offset)`; another language over the same expressions writes its own.

@@ -1,7 +1,7 @@
 //! Lines and columns.
 ghost use Rattle.std.specs.Prelude.{◌≡◌, ◌≤◌, ◌==◌, length, not, reverse};
 ghost use Rattle.std.specs.List.{prefix_len};
-ghost use Rattle.term_core.specs.Limits.{longest_file};
+ghost use Rattle.term_model.specs.Limits.{longest_file};
 ghost use Rattle.contract_parse.specs.Lines.{column_at, line_at};
 ghost use Rattle.contract_parse.specs.Cursors.{fault_at};
 

@@ -2,11 +2,11 @@
 ghost use Rattle.std.specs.Prelude.{◌≡◌, ◌≤◌, ◌+◌, ◌<◌, ◌^◌, IfSome, length};
 ghost use Rattle.indexmap.specs.IndexMap.{index_map_len, keys};
 ghost use Rattle.indexmap.specs.IndexSet.{index_set_len};
-ghost use Rattle.term_core.specs.Limits.{most_height_of_code};
+ghost use Rattle.term_model.specs.Limits.{most_height_of_code};
 ghost use Rattle.contract_parse.specs.Names.{back_to, index_in, names_in};
 
 use indexmap::{IndexMap, IndexSet};
-use term_core::{Name, Scope};
+use term_model::{Name, Scope};
 
 /// The sets of names that a text declares.
 #[derive(Clone, Copy)]

@@ -1,8 +1,8 @@
 //! The contracts of a text, one at a time.
 ghost use Rattle.std.specs.Prelude.{◌≡◌, ◌≤◌, ◌<◌, ◌∷◌, ◌++◌, [], IfOk, IfSome, length};
-ghost use Rattle.term_core.specs.Limits.{longest_file};
-ghost use Rattle.term_core.specs.Declarations.{declarations};
-ghost use Rattle.term_core.specs.Terms.{contract};
+ghost use Rattle.term_model.specs.Limits.{longest_file};
+ghost use Rattle.term_model.specs.Declarations.{declarations};
+ghost use Rattle.term_model.specs.Terms.{contract};
 ghost use Rattle.contract_parse.specs.Tokens.{tokens};
 ghost use Rattle.contract_parse.specs.Versions.{version_of};
 ghost use Rattle.contract_parse.specs.Statements.{named_contract};
@@ -19,7 +19,7 @@ use crate::short_texts::ShortText;
 use crate::words::{Lookahead, look, next};
 use indexmap::IndexSet;
 use std::alloc::Global;
-use term_core::{Contr, Decls, Name};
+use term_model::{Contr, Decls, Name};
 
 /// A text of a portfolio that is read a contract at a time.
 #[derive(Drop)]

@@ -1,13 +1,13 @@
 //! Portfolios from texts.
 ghost use Rattle.std.specs.Prelude.{◌≡◌, ◌≤◌, ◌<◌, ◌∷◌, [], List, true, IfOk, codes, length};
 ghost use Rattle.indexmap.specs.IndexMap.{keys};
-ghost use Rattle.term_core.specs.Books.{book};
-ghost use Rattle.term_core.specs.Declarations.{declarations};
-ghost use Rattle.term_core.specs.Sizes.{height_of_contract};
-ghost use Rattle.term_core.specs.Terms.{contract};
+ghost use Rattle.term_model.specs.Books.{book};
+ghost use Rattle.term_model.specs.Declarations.{declarations};
+ghost use Rattle.term_model.specs.Sizes.{height_of_contract};
+ghost use Rattle.term_model.specs.Terms.{contract};
 ghost use Rattle.contract_parse.specs.Tokens.{tokens};
 ghost use Rattle.contract_parse.specs.Names.{nothing_declared};
-ghost use Rattle.term_core.specs.Limits.{is_a_version, longest_file, most_height};
+ghost use Rattle.term_model.specs.Limits.{is_a_version, longest_file, most_height};
 ghost use Rattle.contract_parse.specs.Versions.{version_of};
 ghost use Rattle.contract_parse.specs.Judgements.{is_the_version};
 ghost use Rattle.contract_parse.specs.Spelling.{contr, mark, one, word, ◌⨟◌};
@@ -28,7 +28,7 @@ use crate::short_texts::ShortText;
 use crate::words::{Lookahead, look};
 use indexmap::IndexMap;
 use std::alloc::Global;
-use term_core::{Contr, Decls, Name, Portfolio, Scope};
+use term_model::{Contr, Decls, Name, Portfolio, Scope};
 
 /// A contract behind its name, to the end of its line.
 #[tactic(auto, using(crate::proofs::Parts::followed_by))]

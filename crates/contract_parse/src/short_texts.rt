@@ -1,6 +1,6 @@
 //! Texts that are short enough for their lines to be counted.
 ghost use Rattle.std.specs.Prelude.{◌≤◌, length};
-ghost use Rattle.term_core.specs.Limits.{longest_file};
+ghost use Rattle.term_model.specs.Limits.{longest_file};
 
 use crate::faults::{ParseErr, PartErr};
 use crate::lines::fault_at;

@@ -3,7 +3,7 @@ ghost use Rattle.std.specs.Prelude.{◌≡◌, ◌≤◌, ◌<◌, ◌==◌, ◌
 ghost use Rattle.std.specs.List.{prefix_len};
 ghost use Rattle.contract_parse.specs.Tokens.{after_gap, begins_with_date, begins_with_digit, digits_extent, extent_at, fraction_len, is_blank, is_digit, is_letter, is_word_byte, mark_extent, mark_len, next_lexeme, number_len, word_extent};
 
-use term_core::{LONGEST_NAME, date_parts};
+use term_model::{LONGEST_NAME, date_parts};
 
 /// What a token is. At a stray byte no token begins.
 #[derive(Clone, Copy)]

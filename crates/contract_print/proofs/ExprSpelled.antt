@@ -3,12 +3,12 @@ use Rattle.std.proofs.Common.{◌≡◌, ℕ, suc, ◌+◌, ◌-◌, ◌≤◌, 
 use Rattle.std.specs.Prelude.{◌^◌, codes}
 use Rattle.std.specs.Map.{keys_of}
 use Rattle.std.proofs.lemmas.List.{length-map}
-use Rattle.term_core.specs.Limits.{IsOffset}
-use Rattle.term_core.specs.Declarations.{Declarations}
-use Rattle.term_core.specs.Sizes.{height}
-use Rattle.term_core.specs.WellFormed.{IsWellFormed}
-use Rattle.term_core.specs.Terms.{Expression, Lit, Yes, Var, Obs, Neg, Num, Cmp, Not, Logic, Cond, Widen, Round, Div, Acc}
-use Rattle.term_core.specs.declared.terms.NumOp.TheVariants.{Plus, Minus, Times, Min, Max}
+use Rattle.term_model.specs.Limits.{IsOffset}
+use Rattle.term_model.specs.Declarations.{Declarations}
+use Rattle.term_model.specs.Sizes.{height}
+use Rattle.term_model.specs.WellFormed.{IsWellFormed}
+use Rattle.term_model.specs.Terms.{Expression, Lit, Yes, Var, Obs, Neg, Num, Cmp, Not, Logic, Cond, Widen, Round, Div, Acc}
+use Rattle.term_model.specs.declared.terms.NumOp.TheVariants.{Plus, Minus, Times, Min, Max}
 use Rattle.contract_parse.specs.Words.{Bytes}
 use Rattle.contract_parse.specs.Names.{DeclaredNames, declared_by}
 use Rattle.contract_parse.specs.Judgements.{literal_at, offset_at, variable_at}

@@ -2,15 +2,15 @@
 use Rattle.std.proofs.Common.{◌≡◌, ◌∙◌, ℕ, true, List, [], ◌∷◌, refl, ap, arith}
 use Rattle.std.proofs.lemmas.Bool.Decides.{nat_tests}
 use Rattle.std.proofs.lemmas.List.Elements.{All-weaker}
-use Rattle.term_core.specs.Declarations.{Declarations}
-use Rattle.term_core.specs.DayCounts.{Days}
-use Rattle.term_core.specs.DayCounts.{Num as Count, Named, Sum}
-use Rattle.term_core.specs.LawsDeclarations.{DeclareAsMany}
-use Rattle.term_core.specs.Limits.{has_decimals, have_decimals}
-use Rattle.term_core.specs.Terms.{Contract, Zero, Pay, Both, Scale, After, Let, Within}
-use Rattle.term_core.specs.declared.name.Name.{Name}
-use Rattle.term_core.proofs.FormedFacts.{one_form}
-use Rattle.term_core.proofs.OneScaleFacts.{are_uniform, keys_stay}
+use Rattle.term_model.specs.Declarations.{Declarations}
+use Rattle.term_model.specs.DayCounts.{Days}
+use Rattle.term_model.specs.DayCounts.{Num as Count, Named, Sum}
+use Rattle.term_model.specs.LawsDeclarations.{DeclareAsMany}
+use Rattle.term_model.specs.Limits.{has_decimals, have_decimals}
+use Rattle.term_model.specs.Terms.{Contract, Zero, Pay, Both, Scale, After, Let, Within}
+use Rattle.term_model.specs.declared.name.Name.{Name}
+use Rattle.term_model.proofs.FormedFacts.{one_form}
+use Rattle.term_model.proofs.OneScaleFacts.{are_uniform, keys_stay}
 use Rattle.contract_parse.specs.Versions.{Version, One, Two, version_of}
 use Rattle.contract_parse.proofs.EntryFacts.{and_parts, both_true}
 use Rattle.contract_print.specs.Migrated.{MigratedAreSpellable, in_version_two}

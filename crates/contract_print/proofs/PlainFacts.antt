@@ -14,7 +14,7 @@ use Rattle.contract_parse.specs.NameTexts.{is_name_text, is_word_text}
 use Rattle.contract_parse.specs.Names.{is_declared}
 use Rattle.contract_parse.specs.Tokens.{is_digit, is_letter, is_word_byte}
 use Rattle.contract_parse.specs.Words.{Bytes}
-use Rattle.term_core.specs.Dates.{parts_of}
+use Rattle.term_model.specs.Dates.{parts_of}
 use Rattle.contract_parse.proofs.DateShape.{are_date}
 use Rattle.contract_parse.proofs.EntryFacts.{and_parts}
 use Rattle.contract_print.specs.Comments.{IsCommentText}

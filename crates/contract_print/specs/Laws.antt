@@ -2,12 +2,12 @@
 -- printed, as can what is left of it on a later day. And comment lines may stand before a text.
 use Rattle.std.specs.Prelude.{All, ℕ, ◌+◌, ◌≤◌, ◌≡◌, true, List, [], ◌++◌}
 use Rattle.std.specs.Map.{keys_of}
-use Rattle.term_core.specs.Terms.{Expression, Contract}
-use Rattle.term_core.specs.Sizes.{height, height_of_contract}
-use Rattle.term_core.specs.Declarations.{Declarations, at_one_scale}
-use Rattle.term_core.specs.Acceptance.{IsAccepted}
-use Rattle.term_core.specs.Books.{Book}
-use Rattle.term_core.specs.WellFormed.{IsWellFormed, IsWellFormedContract}
+use Rattle.term_model.specs.Terms.{Expression, Contract}
+use Rattle.term_model.specs.Sizes.{height, height_of_contract}
+use Rattle.term_model.specs.Declarations.{Declarations, at_one_scale}
+use Rattle.term_model.specs.Acceptance.{IsAccepted}
+use Rattle.term_model.specs.Books.{Book}
+use Rattle.term_model.specs.WellFormed.{IsWellFormed, IsWellFormedContract}
 use Rattle.contract_parse.specs.Versions.{version_of}
 use Rattle.contract_parse.specs.Names.{declared_by}
 use Rattle.contract_parse.specs.Spelling.{expr, contr}

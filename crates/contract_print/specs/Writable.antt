@@ -1,8 +1,8 @@
 -- What printing asks of a contract: literals within the limits of decimals, names under their binders, and a depth of at
 -- most 200. It asks less than that a text can stand for it: a name that is not declared is written as nothing.
 use Rattle.std.specs.Prelude.{ℕ, suc, ◌≤◌, ◌<◌, ◌^◌, unsigned_abs}
-use Rattle.term_core.specs.Sizes.{height_of_contract}
-use Rattle.term_core.specs.Terms.{Expression, Lit, Yes, Var, Obs, Neg, Num, Cmp, Not, Logic, Cond, Widen, Round, Div, Acc, Contract, Zero, Pay, Both, Scale, After, Let, Within}
+use Rattle.term_model.specs.Sizes.{height_of_contract}
+use Rattle.term_model.specs.Terms.{Expression, Lit, Yes, Var, Obs, Neg, Num, Cmp, Not, Logic, Cond, Widen, Round, Div, Acc, Contract, Zero, Pay, Both, Scale, After, Let, Within}
 
 -- an expression under n binders
 abbrev pub IsWritable : ℕ → Expression → Type 0

@@ -2,11 +2,11 @@
 
 ghost use Rattle.std.specs.Prelude.{◌≡◌, ◌≤◌, ◌+◌, ◌++◌, [], OnOk};
 ghost use Rattle.std.specs.Map.{keys_of};
-ghost use Rattle.term_core.specs.Declarations.{declarations};
-ghost use Rattle.term_core.specs.Terms.{contract, expression};
-ghost use Rattle.term_core.specs.Sizes.{height, height_of_contract};
+ghost use Rattle.term_model.specs.Declarations.{declarations};
+ghost use Rattle.term_model.specs.Terms.{contract, expression};
+ghost use Rattle.term_model.specs.Sizes.{height, height_of_contract};
 ghost use Rattle.contract_parse.specs.Names.{declared_by};
-ghost use Rattle.term_core.specs.DayCounts.{day_count};
+ghost use Rattle.term_model.specs.DayCounts.{day_count};
 ghost use Rattle.contract_print.specs.TermTexts.{contr_text, days_text, expr_text, more_days_text, name_at, observed, sum_text};
 ghost use Rattle.contract_print.specs.Writable.{IsWritable, IsWritableContract};
 
@@ -15,7 +15,7 @@ use crate::pieces::{append, append_bound_name, append_number};
 use decimal::{NoMemory, write};
 use indexmap::{IndexMap, IndexSet};
 use std::alloc::Global;
-use term_core::{Contr, Days, Decls, Expr, Label, Name};
+use term_model::{Contr, Days, Decls, Expr, Label, Name};
 
 /// Appends a declared name, by its index.
 pub fn append_name(out: &mut Vec<u8>, names: &IndexSet<Name>, index: u32) -> Result<(), NoMemory>

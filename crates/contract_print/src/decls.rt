@@ -1,9 +1,9 @@
 //! The lines of declarations.
 
 ghost use Rattle.std.specs.Prelude.{◌≡◌, ◌++◌, true, OnOk, OnErr};
-ghost use Rattle.term_core.specs.Declarations.{declarations};
-ghost use Rattle.term_core.specs.Limits.{are_labels, is_label};
-ghost use Rattle.term_core.specs.declared.label.Label.TheVariants.{Number};
+ghost use Rattle.term_model.specs.Declarations.{declarations};
+ghost use Rattle.term_model.specs.Limits.{are_labels, is_label};
+ghost use Rattle.term_model.specs.declared.label.Label.TheVariants.{Number};
 ghost use Rattle.contract_parse.specs.Versions.{version_of};
 ghost use Rattle.contract_print.specs.Canon.{AppendsDecls, IsOriginText, amounts_text, asset_text, assets_text, decls_text, first_lines, label_text, labels_text, more_assets_text, more_names_text, names_text, origin_text, range_text, start_text, table_lines, template_text, templates_text};
 
@@ -12,7 +12,7 @@ use decimal::{NoMemory, write};
 use indexmap::map::Slice;
 use indexmap::{IndexMap, IndexSet};
 use std::alloc::Global;
-use term_core::{Decls, Label, Name, date_text};
+use term_model::{Decls, Label, Name, date_text};
 
 // The further names of a line.
 fn append_more_names(out: &mut Vec<u8>, names: &[Name]) -> Result<(), NoMemory>

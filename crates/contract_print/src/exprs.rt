@@ -1,8 +1,8 @@
 //! The texts of expressions, for every leaf that says how what is observed is written.
 
 ghost use Rattle.std.specs.Prelude.{◌≡◌, ◌≤◌, ◌+◌, ◌++◌, List, OnOk, codes, ℕ, ℤ};
-ghost use Rattle.term_core.specs.Terms.{expression};
-ghost use Rattle.term_core.specs.Sizes.{height};
+ghost use Rattle.term_model.specs.Terms.{expression};
+ghost use Rattle.term_model.specs.Sizes.{height};
 ghost use Rattle.contract_print.specs.TermTexts.{◌⊕◌, expr_text, last_text, last_two_text, mode_text, number_text};
 ghost use Rattle.contract_print.specs.Writable.{IsWritable};
 
@@ -12,7 +12,7 @@ use crate::words::{
 };
 use decimal::{Mode, NoMemory, write};
 use std::alloc::Global;
-use term_core::Expr;
+use term_model::Expr;
 
 /// How what is observed is written: the text of a label's number and an offset. Contracts write
 /// `obs(NAME, offset)`; another language over the same expressions writes its own.

@@ -4,7 +4,7 @@ ghost use Rattle.std.specs.Prelude.{◌≡◌};
 ghost use Rattle.contract_print.specs.TermTexts.{comparison_text, connective_text, mode_text, operation_head, operation_text};
 
 use decimal::Mode;
-use term_core::{CmpOp, LogicOp, NumOp};
+use term_model::{CmpOp, LogicOp, NumOp};
 
 /// The word of a mode.
 pub fn mode_word(mode: Mode) -> &'static [u8]

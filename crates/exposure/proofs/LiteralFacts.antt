@@ -3,9 +3,9 @@ use Rattle.std.proofs.Common.{List, [], ◌∷◌, ◌++◌}
 use Rattle.std.specs.Prelude.{◌↔◌}
 use Rattle.std.specs.List.{All}
 use Rattle.std.proofs.lemmas.List.Elements.{All-nil, All-cons, All-head, All-tail, All-append}
-use Rattle.term_core.specs.Terms.{Expression, Lit, Yes, Var, Obs, Neg, Num, Cmp, Not, Logic, Cond, Widen, Round, Div, Acc}
-use Rattle.term_core.specs.Terms.{Zero, Pay, Both, Scale, After, Let, Within}
-use Rattle.term_core.specs.Literals.{HasLiterals, HasLiteralsIn}
+use Rattle.term_model.specs.Terms.{Expression, Lit, Yes, Var, Obs, Neg, Num, Cmp, Not, Logic, Cond, Widen, Round, Div, Acc}
+use Rattle.term_model.specs.Terms.{Zero, Pay, Both, Scale, After, Let, Within}
+use Rattle.term_model.specs.Literals.{HasLiterals, HasLiteralsIn}
 use Rattle.exposure.specs.LiteralLists.{AllLiteralsAreListed, IsWritten, Literal, literals_in, literals_of}
 
 left : (xs ys : List Literal) → All IsWritten (xs ++ ys) → All IsWritten xs

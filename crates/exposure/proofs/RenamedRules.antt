@@ -2,25 +2,25 @@
 use Rattle.std.proofs.Common.{◌≡◌, ℕ, ℤ, pos, ◌-ℤ◌, ◌+◌, ◌-◌, ◌*◌, ◌^◌, ◌<◌, max, length, Bool, true, false, ◌&&◌, ◌||◌, not, ◌==◌, nat_le, if◌then◌else◌, IsTrue, IsFalse, Option, Some, None, List, [], ◌∷◌, ◌++◌, refl, ap, ap₂, sym, subst, ◌∙◌}
 use Rattle.std.specs.Prelude.{◌↔◌, option_map}
 use Rattle.std.specs.List.{list_all}
-use Rattle.term_core.specs.Declarations.{Declarations, decimals_of}
-use Rattle.term_core.specs.declared.values.Kind.{Kind}
-use Rattle.term_core.specs.declared.rules.Rule.{Rule}
-use Rattle.term_core.specs.declared.rules.Rule.TheVariants.{Sort, Time, Scale as ScaleRule, Size, Bound}
-use Rattle.term_core.specs.Terms.{Contract, Zero, Pay, Both, Scale, After, Let, Within}
-use Rattle.term_core.specs.Environments.{Environment}
-use Rattle.term_core.specs.Flows.{count_of, scale_of_contract}
-use Rattle.term_core.specs.Kinds.{kind_of, scale_of}
-use Rattle.term_core.specs.Values.{kind_or}
-use Rattle.term_core.specs.AssetScales.{assets_are_scaled, assets_in, fits_asset, greater, scale_in_asset}
-use Rattle.term_core.specs.Sites.{Layer, Naming, Later, Undated, Site, Trial, Once, OfContract, contract_at, sites_of, sites_of_contract, AllPass, kinds_round}
-use Rattle.term_core.specs.Sorts.{is_sorted}
-use Rattle.term_core.specs.Times.{TypedContract, IsStart, lowered_by}
-use Rattle.term_core.specs.Sizes.{nodes, height, past, work, nodes_of_contract, height_of_contract, reach, past_of_contract, work_of_contract}
-use Rattle.term_core.specs.Smallness.{days_of_contract, within_limits}
-use Rattle.term_core.specs.Bounds.{Range, range_of, range_kinds, ranges_round, interval_of, greatest_size, greatest_total, total_of, aligned_total}
-use Rattle.term_core.specs.Horizons.{delayed, horizon_of}
-use Rattle.term_core.specs.Acceptance.{Passes, trial_of}
-use Rattle.term_core.specs.Redexes.{Redex, EmptyLeft, EmptyRight, ScaledNothing, ZeroFactor, NoDelay, TwoDelays, DelayedNothing, UnusedName, LiteralName, NothingEither, DecidedTest, LiteralOperands, DecidedChoice, FixedPlace, NoSteps, FixedSteps, frame_round, is_redex, uses, uses_in_contract}
+use Rattle.term_model.specs.Declarations.{Declarations, decimals_of}
+use Rattle.term_model.specs.declared.values.Kind.{Kind}
+use Rattle.term_model.specs.declared.rules.Rule.{Rule}
+use Rattle.term_model.specs.declared.rules.Rule.TheVariants.{Sort, Time, Scale as ScaleRule, Size, Bound}
+use Rattle.term_model.specs.Terms.{Contract, Zero, Pay, Both, Scale, After, Let, Within}
+use Rattle.term_model.specs.Environments.{Environment}
+use Rattle.term_model.specs.Flows.{count_of, scale_of_contract}
+use Rattle.term_model.specs.Kinds.{kind_of, scale_of}
+use Rattle.term_model.specs.Values.{kind_or}
+use Rattle.term_model.specs.AssetScales.{assets_are_scaled, assets_in, fits_asset, greater, scale_in_asset}
+use Rattle.term_model.specs.Sites.{Layer, Naming, Later, Undated, Site, Trial, Once, OfContract, contract_at, sites_of, sites_of_contract, AllPass, kinds_round}
+use Rattle.term_model.specs.Sorts.{is_sorted}
+use Rattle.term_model.specs.Times.{TypedContract, IsStart, lowered_by}
+use Rattle.term_model.specs.Sizes.{nodes, height, past, work, nodes_of_contract, height_of_contract, reach, past_of_contract, work_of_contract}
+use Rattle.term_model.specs.Smallness.{days_of_contract, within_limits}
+use Rattle.term_model.specs.Bounds.{Range, range_of, range_kinds, ranges_round, interval_of, greatest_size, greatest_total, total_of, aligned_total}
+use Rattle.term_model.specs.Horizons.{delayed, horizon_of}
+use Rattle.term_model.specs.Acceptance.{Passes, trial_of}
+use Rattle.term_model.specs.Redexes.{Redex, EmptyLeft, EmptyRight, ScaledNothing, ZeroFactor, NoDelay, TwoDelays, DelayedNothing, UnusedName, LiteralName, NothingEither, DecidedTest, LiteralOperands, DecidedChoice, FixedPlace, NoSteps, FixedSteps, frame_round, is_redex, uses, uses_in_contract}
 use Rattle.exposure.specs.LiteralLists.{Literal, literals_of}
 use Rattle.exposure.specs.Renaming.{renamed_party, renamed, RulesAreKept, AcceptanceIsKept, FactsAreKept, SizesAreKept, LiteralsAreKept, LimitsAreKept, NumbersAreKept, FormIsKept, RedexesAreKept}
 use Rattle.exposure.proofs.RenamingFacts.{scale_renamed}

@@ -3,12 +3,12 @@ use Rattle.std.proofs.Common.{◌≡◌, ℕ, ℤ, pos, neg_ℤ, ◌-ℤ◌, ◌
 use Rattle.std.specs.Prelude.{codes}
 use Rattle.std.proofs.Math.IntN.{*ℤ-zero}
 use Rattle.decimal.specs.Text.{text_of}
-use Rattle.term_core.specs.Declarations.{Declarations}
-use Rattle.term_core.specs.DayCounts.{Num as Count, Sum}
-use Rattle.term_core.specs.Terms.{Contract, Lit, Pay, Both, Scale, After}
-use Rattle.term_core.specs.Environments.{Environment}
-use Rattle.term_core.specs.Values.{Entry}
-use Rattle.term_core.specs.Flows.{Flow, flow_of, unit_flow}
+use Rattle.term_model.specs.Declarations.{Declarations}
+use Rattle.term_model.specs.DayCounts.{Num as Count, Sum}
+use Rattle.term_model.specs.Terms.{Contract, Lit, Pay, Both, Scale, After}
+use Rattle.term_model.specs.Environments.{Environment}
+use Rattle.term_model.specs.Values.{Entry}
+use Rattle.term_model.specs.Flows.{Flow, flow_of, unit_flow}
 use Rattle.flow_eval.specs.declared.flow_table.FlowRow.{FlowRow}
 use Rattle.exposure.specs.declared.accounts.PositionRow.{PositionRow}
 use Rattle.exposure.specs.LiteralLists.{literals_in}

@@ -5,13 +5,13 @@ use Rattle.std.specs.List.{All, filter}
 use Rattle.std.proofs.lemmas.Int.{ints, by_lt_z}
 use Rattle.std.proofs.lemmas.List.Elements.{All-nil, All-cons, All-head, All-tail, All-weaker}
 use Rattle.std.proofs.lemmas.List.Sums.{sum_by-cons}
-use Rattle.term_core.specs.Declarations.{Declarations}
-use Rattle.term_core.specs.Terms.{Contract}
-use Rattle.term_core.specs.Environments.{Environment}
-use Rattle.term_core.specs.Flows.{amount_of}
-use Rattle.term_core.specs.Bounds.{aligned_total}
+use Rattle.term_model.specs.Declarations.{Declarations}
+use Rattle.term_model.specs.Terms.{Contract}
+use Rattle.term_model.specs.Environments.{Environment}
+use Rattle.term_model.specs.Flows.{amount_of}
+use Rattle.term_model.specs.Bounds.{aligned_total}
 use Rattle.interval_check.specs.Volumes.{AreApart, IsApart, Occasion, amounts_on}
-use Rattle.term_core.specs.Sites.{EachDay}
+use Rattle.term_model.specs.Sites.{EachDay}
 use Rattle.interval_check.specs.Nodes.{IsBoundedPart}
 use Rattle.interval_check.proofs.ContractSafeFacts.{contract_at_root, total_fits}
 use Rattle.interval_check.proofs.RuleFacts.{bounds_hold}

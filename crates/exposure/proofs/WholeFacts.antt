@@ -6,10 +6,10 @@ use Rattle.std.specs.List.{All, filter}
 use Rattle.std.proofs.lemmas.Int.{ints}
 use Rattle.std.proofs.lemmas.Bool.{eqb-true}
 use Rattle.std.proofs.lemmas.List.Elements.{All-nil, All-cons, All-head, All-tail, All-weaker}
-use Rattle.term_core.specs.Declarations.{Declarations, decimals_of}
-use Rattle.term_core.specs.LawsScales.{IsMultiple}
-use Rattle.term_core.proofs.FlowFacts.{raised-neg}
-use Rattle.term_core.proofs.MultipleFacts.{none_multiple, sum_multiple}
+use Rattle.term_model.specs.Declarations.{Declarations, decimals_of}
+use Rattle.term_model.specs.LawsScales.{IsMultiple}
+use Rattle.term_model.proofs.FlowFacts.{raised-neg}
+use Rattle.term_model.proofs.MultipleFacts.{none_multiple, sum_multiple}
 use Rattle.interval_check.proofs.MultipleFacts.{times-sub}
 use Rattle.flow_eval.specs.declared.flow_table.FlowRow.{FlowRow}
 use Rattle.flow_eval.specs.declared.flow_table.FlowTable.{FlowTable}

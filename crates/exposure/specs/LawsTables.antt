@@ -2,11 +2,11 @@
 -- stands on their days, is no more than they add up to, and has amounts that a line can say where theirs have.
 use Rattle.std.specs.Prelude.{◌≡◌, ◌≤◌, ◌≤ℤ◌, ◌*◌, ◌^◌, ℤ, [], ◌∷◌, List, length, unsigned_abs}
 use Rattle.std.specs.List.{All}
-use Rattle.term_core.specs.Declarations.{Declarations}
-use Rattle.term_core.specs.Terms.{Contract}
-use Rattle.term_core.specs.Environments.{Environment, IsAdmitted}
-use Rattle.term_core.specs.Bounds.{aligned_total}
-use Rattle.term_core.specs.Acceptance.{IsAccepted}
+use Rattle.term_model.specs.Declarations.{Declarations}
+use Rattle.term_model.specs.Terms.{Contract}
+use Rattle.term_model.specs.Environments.{Environment, IsAdmitted}
+use Rattle.term_model.specs.Bounds.{aligned_total}
+use Rattle.term_model.specs.Acceptance.{IsAccepted}
 use Rattle.interval_check.specs.Within.{KeepsLimits}
 use Rattle.flow_eval.specs.Tables.{IsTable, paid_by}
 use Rattle.flow_eval.specs.declared.flow_table.FlowRow.{FlowRow}

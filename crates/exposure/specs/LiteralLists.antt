@@ -1,9 +1,9 @@
 -- The literals of a contract, in the order in which they stand in it.
 use Rattle.std.specs.Prelude.{◌↔◌, ◌≤◌, ◌^◌, ℕ, ℤ, unsigned_abs, List, [], ◌∷◌, ◌++◌}
 use Rattle.std.specs.List.{All}
-use Rattle.term_core.specs.Terms.{Expression, Lit, Yes, Var, Obs, Neg, Num, Cmp, Not, Logic, Cond, Widen, Round, Div, Acc}
-use Rattle.term_core.specs.Terms.{Contract, Zero, Pay, Both, Scale, After, Let, Within}
-use Rattle.term_core.specs.Literals.{HasLiteralsIn}
+use Rattle.term_model.specs.Terms.{Expression, Lit, Yes, Var, Obs, Neg, Num, Cmp, Not, Logic, Cond, Widen, Round, Div, Acc}
+use Rattle.term_model.specs.Terms.{Contract, Zero, Pay, Both, Scale, After, Let, Within}
+use Rattle.term_model.specs.Literals.{HasLiteralsIn}
 
 -- a number as it is written: its digits, and how many of them are decimals
 pub record Literal : Type 0 where

@@ -2,8 +2,8 @@
 -- origin, and the amount at the asset's decimals, with a minus before it where it is below 0.
 use Rattle.std.specs.Prelude.{◌≡◌, ℕ, ℤ, List, ◌++◌}
 use Rattle.decimal.specs.Appending.{AppendsPart}
-use Rattle.term_core.specs.Declarations.{Declarations, declarations}
-use Rattle.term_core.specs.declared.decls.Decls.{Decls}
+use Rattle.term_model.specs.Declarations.{Declarations, declarations}
+use Rattle.term_model.specs.declared.decls.Decls.{Decls}
 use Rattle.report.specs.FlowLines.{IsAmountInAsset, IsDayText, amount_text, field, name_at}
 use Rattle.report.specs.Pieces.{piece_text}
 use Rattle.report.specs.declared.pieces.Piece.{Piece}

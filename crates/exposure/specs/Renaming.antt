@@ -4,20 +4,20 @@
 use Rattle.std.specs.Prelude.{◌≡◌, ◌↔◌, ◌==◌, ℕ, ℤ, pos, ◌+◌, ◌+ℤ◌, ◌<◌, length, List, [], ◌∷◌}
 use Rattle.std.specs.Prelude.{if◌then◌else◌, Contains}
 use Rattle.std.specs.List.{All}
-use Rattle.term_core.specs.Declarations.{Declarations}
-use Rattle.term_core.specs.declared.rules.Rule.{Rule}
-use Rattle.term_core.specs.Terms.{Contract, Zero, Pay, Both, Scale, After, Let, Within}
-use Rattle.term_core.specs.Environments.{Environment, Place, IsAdmitted, Extends}
-use Rattle.term_core.specs.Values.{Entry}
-use Rattle.term_core.specs.Flows.{Flow, flow_of, amount_of}
-use Rattle.term_core.specs.Reads.{reads_of_contract}
-use Rattle.term_core.specs.Sublists.{IsSublist}
-use Rattle.term_core.specs.Sizes.{reach, nodes_of_contract, height_of_contract}
-use Rattle.term_core.specs.Acceptance.{Meets, IsAccepted, Facts, AreFacts}
-use Rattle.term_core.specs.Literals.{HasLiteralsIn}
-use Rattle.term_core.specs.Redexes.{IsReduced}
-use Rattle.term_core.specs.Residuals.{Carries}
-use Rattle.term_core.specs.WellFormed.{IsWellFormedContract, HasOnlyNumbers}
+use Rattle.term_model.specs.Declarations.{Declarations}
+use Rattle.term_model.specs.declared.rules.Rule.{Rule}
+use Rattle.term_model.specs.Terms.{Contract, Zero, Pay, Both, Scale, After, Let, Within}
+use Rattle.term_model.specs.Environments.{Environment, Place, IsAdmitted, Extends}
+use Rattle.term_model.specs.Values.{Entry}
+use Rattle.term_model.specs.Flows.{Flow, flow_of, amount_of}
+use Rattle.term_model.specs.Reads.{reads_of_contract}
+use Rattle.term_model.specs.Sublists.{IsSublist}
+use Rattle.term_model.specs.Sizes.{reach, nodes_of_contract, height_of_contract}
+use Rattle.term_model.specs.Acceptance.{Meets, IsAccepted, Facts, AreFacts}
+use Rattle.term_model.specs.Literals.{HasLiteralsIn}
+use Rattle.term_model.specs.Redexes.{IsReduced}
+use Rattle.term_model.specs.Residuals.{Carries}
+use Rattle.term_model.specs.WellFormed.{IsWellFormedContract, HasOnlyNumbers}
 use Rattle.exposure.specs.LiteralLists.{AllLiteralsAreListed, literals_in}
 use Rattle.report.specs.Sums.{sum_over}
 

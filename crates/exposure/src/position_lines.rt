@@ -2,7 +2,7 @@
 
 ghost use Rattle.std.specs.Prelude.{◌≡◌, ◌≤ℤ◌, ◌++◌, pos, OnOk, OnErr};
 ghost use Rattle.decimal.specs.Appending.{AppendsPart};
-ghost use Rattle.term_core.specs.Declarations.{declarations};
+ghost use Rattle.term_model.specs.Declarations.{declarations};
 ghost use Rattle.interval_check.specs.Safety.{IsSmall};
 ghost use Rattle.flow_eval.specs.Readiness.{last_day};
 ghost use Rattle.report.specs.FlowLines.{IsWholeInAsset};
@@ -13,7 +13,7 @@ use crate::accounts::PositionRow;
 use decimal::NoMemory;
 use report::{Piece, amount_in_asset, append, asset_piece, date_of, name_piece};
 use std::alloc::Global;
-use term_core::Decls;
+use term_model::Decls;
 
 // The line with these words or this number for the day.
 fn append_line<'a>(

@@ -1,12 +1,12 @@
 //! A party in the place of another.
 
 ghost use Rattle.std.specs.Prelude.{◌≡◌, IfOk};
-ghost use Rattle.term_core.specs.Terms.{contract};
+ghost use Rattle.term_model.specs.Terms.{contract};
 ghost use Rattle.exposure.specs.Renaming.{renamed, renamed_party};
 
 use decimal::NoMemory;
 use std::alloc::Global;
-use term_core::Contr;
+use term_model::Contr;
 
 // The party that stands in the place of one.
 fn renamed_party(old: u32, new: u32, party: u32) -> u32

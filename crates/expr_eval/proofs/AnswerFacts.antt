@@ -1,22 +1,22 @@
 -- What an evaluation over fixings answers is the value, or the first place that is not fixed; and it may be entered for the
 -- name that is bound to its expression.
 use Rattle.std.proofs.Common.{◌≡◌, ℤ, refl, ap, sym, subst, ◌∙◌, Ok, Err, IfOk, Some, Result, List, [], ◌∷◌}
-use Rattle.term_core.specs.Declarations.{Declarations}
-use Rattle.term_core.specs.declared.values.Kind.{Kind}
-use Rattle.term_core.specs.declared.values.Value.{Value}
-use Rattle.term_core.specs.declared.values.Missing.{Missing}
-use Rattle.term_core.specs.Terms.{Expression, Contract}
-use Rattle.term_core.specs.Environments.{Environment, Place, Extends, IsAdmitted}
-use Rattle.term_core.specs.Kinds.{kind_of}
-use Rattle.term_core.specs.Values.{Entry, kinds, num, kind_or, value_of}
-use Rattle.term_core.specs.LawsKinds.{IsOfKind}
-use Rattle.term_core.specs.Reads.{reads_of}
-use Rattle.term_core.specs.Bounds.{Range, range_kinds}
-use Rattle.term_core.specs.Acceptance.{IsAccepted}
+use Rattle.term_model.specs.Declarations.{Declarations}
+use Rattle.term_model.specs.declared.values.Kind.{Kind}
+use Rattle.term_model.specs.declared.values.Value.{Value}
+use Rattle.term_model.specs.declared.values.Missing.{Missing}
+use Rattle.term_model.specs.Terms.{Expression, Contract}
+use Rattle.term_model.specs.Environments.{Environment, Place, Extends, IsAdmitted}
+use Rattle.term_model.specs.Kinds.{kind_of}
+use Rattle.term_model.specs.Values.{Entry, kinds, num, kind_or, value_of}
+use Rattle.term_model.specs.LawsKinds.{IsOfKind}
+use Rattle.term_model.specs.Reads.{reads_of}
+use Rattle.term_model.specs.Bounds.{Range, range_kinds}
+use Rattle.term_model.specs.Acceptance.{IsAccepted}
 use Rattle.interval_check.specs.Nodes.{range_of}
 use Rattle.interval_check.specs.Within.{IsIn, KeepsLimits}
 use Rattle.interval_check.specs.Parts.{StandsIn}
-use Rattle.term_core.specs.Shifts.{shifted}
+use Rattle.term_model.specs.Shifts.{shifted}
 use Rattle.expr_eval.specs.declared.scratch.Binding.{Binding}
 use Rattle.expr_eval.specs.declared.operations.Typed.{Typed}
 use Rattle.expr_eval.specs.Rooms.{kinds_of}

@@ -1,15 +1,15 @@
 -- Comparisons on one day after another: their sides have the scales that their forms tell, and fit.
 use Rattle.std.proofs.Common.{◌≡◌, ℕ, ◌≤◌, ◌^◌, ℤ, pos, ◌*ℤ◌, unsigned_abs, refl, ap, ap₂, sym, subst, ◌∙◌, Ok, Err, Some, List, []}
-use Rattle.term_core.specs.Declarations.{Declarations}
-use Rattle.term_core.specs.declared.terms.CmpOp.{CmpOp}
-use Rattle.term_core.specs.declared.values.Kind.{Kind}
-use Rattle.term_core.specs.declared.values.Kind.TheVariants.{Truth as TruthKind, Number}
-use Rattle.term_core.specs.declared.values.Missing.{Missing}
-use Rattle.term_core.specs.Terms.{Expression, Cmp}
-use Rattle.term_core.specs.Environments.{Environment, IsAdmitted}
-use Rattle.term_core.specs.Kinds.{kind_of, scale_of, scale_of_kind}
-use Rattle.term_core.specs.Scales.{greatest_scale}
-use Rattle.term_core.specs.Values.{kinds}
+use Rattle.term_model.specs.Declarations.{Declarations}
+use Rattle.term_model.specs.declared.terms.CmpOp.{CmpOp}
+use Rattle.term_model.specs.declared.values.Kind.{Kind}
+use Rattle.term_model.specs.declared.values.Kind.TheVariants.{Truth as TruthKind, Number}
+use Rattle.term_model.specs.declared.values.Missing.{Missing}
+use Rattle.term_model.specs.Terms.{Expression, Cmp}
+use Rattle.term_model.specs.Environments.{Environment, IsAdmitted}
+use Rattle.term_model.specs.Kinds.{kind_of, scale_of, scale_of_kind}
+use Rattle.term_model.specs.Scales.{greatest_scale}
+use Rattle.term_model.specs.Values.{kinds}
 use Rattle.interval_check.specs.Safety.{IsSmall}
 use Rattle.interval_check.specs.Within.{KeepsLimits}
 use Rattle.interval_check.proofs.KindsFound.{two_numbers, has_kind, scale_is}

@@ -1,10 +1,10 @@
 -- The days of an accumulator, one after another.
 use Rattle.std.proofs.Common.{◌≡◌, ℕ, zero, suc, ◌+◌, ◌<◌, ◌-◌, ℤ, ◌+ℤ◌, ◌-ℤ◌, arith, refl, ap, sym, ◌∙◌, Ok, Err, add-one, List, pos}
-use Rattle.term_core.specs.declared.values.Missing.{Missing}
-use Rattle.term_core.specs.Declarations.{Declarations}
-use Rattle.term_core.specs.declared.terms.Expr.{Expr}
-use Rattle.term_core.specs.Terms.{expression, Acc}
-use Rattle.term_core.specs.Environments.{Environment}
+use Rattle.term_model.specs.declared.values.Missing.{Missing}
+use Rattle.term_model.specs.Declarations.{Declarations}
+use Rattle.term_model.specs.declared.terms.Expr.{Expr}
+use Rattle.term_model.specs.Terms.{expression, Acc}
+use Rattle.term_model.specs.Environments.{Environment}
 use Rattle.expr_eval.specs.declared.scratch.Binding.{Binding}
 use Rattle.expr_eval.specs.declared.operations.Typed.{Typed}
 use Rattle.expr_eval.specs.Runs.{Answer, day_run, day_step, then_do, days_tried, run_of}

@@ -2,27 +2,27 @@
 use Rattle.std.proofs.Common.{◌≡◌, inl, inr, ℕ, ◌^◌, ◌≤◌, ℤ, pos, unsigned_abs, IsTrue, is_some, List, [], ◌∷◌, Option, Some, None, refl, sym, subst, ap, ◌∙◌, arith}
 use Rattle.std.proofs.lemmas.Int.{ints}
 use Rattle.std.proofs.lemmas.Bool.Decides.{nat_tests}
-use Rattle.term_core.specs.Declarations.{Declarations}
-use Rattle.term_core.specs.declared.values.Kind.{Kind}
-use Rattle.term_core.specs.declared.values.Kind.TheVariants.{Truth as TruthKind, Number}
-use Rattle.term_core.specs.declared.values.Value.{Value}
-use Rattle.term_core.specs.Terms.{Expression, Lit, Yes, Var, Obs, Neg, Num, Cmp, Not, Logic, Cond, Widen, Round, Div, Acc}
-use Rattle.term_core.specs.Terms.{Contract, Zero, Pay, Both, Scale, After, Let, Within}
-use Rattle.term_core.specs.Environments.{Environment, IsAdmitted}
-use Rattle.term_core.specs.Kinds.{kind_of}
-use Rattle.term_core.specs.Values.{Entry, num, value_of}
-use Rattle.term_core.specs.LawsKinds.{IsOfKind}
-use Rattle.term_core.specs.Bounds.{Range, interval_of}
-use Rattle.term_core.specs.Acceptance.{IsAccepted}
-use Rattle.term_core.specs.Sizes.{past, past_of_contract, height_of_contract, nodes_of_contract, reach, work_of_contract}
-use Rattle.term_core.specs.Smallness.{is_small, within_limits, days_of_contract}
-use Rattle.term_core.proofs.TimeFacts.{whole_passes}
+use Rattle.term_model.specs.Declarations.{Declarations}
+use Rattle.term_model.specs.declared.values.Kind.{Kind}
+use Rattle.term_model.specs.declared.values.Kind.TheVariants.{Truth as TruthKind, Number}
+use Rattle.term_model.specs.declared.values.Value.{Value}
+use Rattle.term_model.specs.Terms.{Expression, Lit, Yes, Var, Obs, Neg, Num, Cmp, Not, Logic, Cond, Widen, Round, Div, Acc}
+use Rattle.term_model.specs.Terms.{Contract, Zero, Pay, Both, Scale, After, Let, Within}
+use Rattle.term_model.specs.Environments.{Environment, IsAdmitted}
+use Rattle.term_model.specs.Kinds.{kind_of}
+use Rattle.term_model.specs.Values.{Entry, num, value_of}
+use Rattle.term_model.specs.LawsKinds.{IsOfKind}
+use Rattle.term_model.specs.Bounds.{Range, interval_of}
+use Rattle.term_model.specs.Acceptance.{IsAccepted}
+use Rattle.term_model.specs.Sizes.{past, past_of_contract, height_of_contract, nodes_of_contract, reach, work_of_contract}
+use Rattle.term_model.specs.Smallness.{is_small, within_limits, days_of_contract}
+use Rattle.term_model.proofs.TimeFacts.{whole_passes}
 use Rattle.interval_check.specs.Nodes.{range_of}
 use Rattle.interval_check.specs.Within.{IsIn, OnNumber, IsWithin, AreWithin, IsSuited, AreSuited, KeepsLimits}
 use Rattle.interval_check.specs.Parts.{IsPart, StandsIn}
 use Rattle.interval_check.specs.Safety.{ScalesFit, CanEvaluate}
 use Rattle.interval_check.specs.RangeTrials.{kind_found}
-use Rattle.term_core.specs.Shifts.{shifted}
+use Rattle.term_model.specs.Shifts.{shifted}
 use Rattle.interval_check.proofs.GuaranteeFacts.{accepted_meet_rules, parts_meet_rules, expressions_are_safe}
 use Rattle.interval_check.proofs.GuaranteeFacts.{values_lie_in_intervals}
 use Rattle.interval_check.proofs.ShiftedRules.{rules_see_no_offsets}

@@ -1,19 +1,19 @@
 -- What stands directly in a contract may be evaluated where the contract may be.
 use Rattle.std.proofs.Common.{pos, inl, inr, refl, sym, subst, List, [], ◌∷◌, Result}
-use Rattle.term_core.specs.Declarations.{Declarations}
-use Rattle.term_core.specs.declared.values.Value.{Value}
-use Rattle.term_core.specs.declared.values.Missing.{Missing}
-use Rattle.term_core.specs.Terms.{Expression, Lit, Yes, Var, Obs, Neg, Num, Cmp, Not, Logic, Cond, Widen, Round, Div, Acc}
-use Rattle.term_core.specs.Terms.{Contract, Zero, Pay, Both, Scale, After, Let, Within}
-use Rattle.term_core.specs.Shifts.{shifted}
-use Rattle.term_core.specs.Bounds.{Range}
+use Rattle.term_model.specs.Declarations.{Declarations}
+use Rattle.term_model.specs.declared.values.Value.{Value}
+use Rattle.term_model.specs.declared.values.Missing.{Missing}
+use Rattle.term_model.specs.Terms.{Expression, Lit, Yes, Var, Obs, Neg, Num, Cmp, Not, Logic, Cond, Widen, Round, Div, Acc}
+use Rattle.term_model.specs.Terms.{Contract, Zero, Pay, Both, Scale, After, Let, Within}
+use Rattle.term_model.specs.Shifts.{shifted}
+use Rattle.term_model.specs.Bounds.{Range}
 use Rattle.interval_check.specs.Nodes.{range_of}
 use Rattle.interval_check.specs.Parts.{IsPart, IsPartHere, StandsIn}
 use Rattle.expr_eval.specs.declared.scratch.Binding.{Binding}
 use Rattle.expr_eval.specs.Evaluable.{MayEvaluate, MayEvaluateIn}
 use Rattle.expr_eval.specs.Answers.{entry_from, SuitsBinding}
 use Rattle.expr_eval.specs.LawsEntries.{AcceptedMayEvaluate, PartsOfPartsMayEvaluate}
-use Rattle.term_core.proofs.ShiftedFacts.{shifted_zero}
+use Rattle.term_model.proofs.ShiftedFacts.{shifted_zero}
 
 pub part_of_itself : (e : Expression) → IsPart e e
 part_of_itself (Lit m s) = refl

@@ -1,7 +1,7 @@
 -- Entries of a fixed and of a lacking name, and what they stand for.
 use Rattle.std.proofs.Common.{pos, false, [], ◌∷◌, refl}
-use Rattle.term_core.specs.declared.values.Kind.TheVariants.{Truth as TruthKind, Number}
-use Rattle.term_core.specs.declared.values.Value.TheVariants.{Num as Amount, Truth}
+use Rattle.term_model.specs.declared.values.Kind.TheVariants.{Truth as TruthKind, Number}
+use Rattle.term_model.specs.declared.values.Value.TheVariants.{Num as Amount, Truth}
 use Rattle.expr_eval.specs.declared.scratch.Held.TheVariants.{Known, Lacking}
 use Rattle.expr_eval.specs.Standing.{StandFor}
 

@@ -1,14 +1,14 @@
 -- An answer lacks the first unfixed read, exactly where there is one.
 use Rattle.std.proofs.Common.{◌≡◌, ℕ, zero, suc, ℤ, pos, ◌+ℤ◌, ◌-ℤ◌, Bool, true, false, not, if◌then◌else◌, refl, ap, sym, ◌∙◌, Ok, Err, Some, None, Option, List, [], ◌∷◌, ◌++◌, slice_get, append-nil, append_assoc, is_some}
-use Rattle.term_core.specs.Declarations.{Declarations}
-use Rattle.term_core.specs.declared.values.Kind.{Kind}
-use Rattle.term_core.specs.declared.values.Kind.TheVariants.{Truth as TruthKind, Number}
-use Rattle.term_core.specs.declared.values.Value.{Value}
-use Rattle.term_core.specs.Terms.{Expression, Lit, Yes, Var, Obs, Neg, Num, Cmp, Not, Logic, Cond, Widen, Round, Div, Acc}
-use Rattle.term_core.specs.Environments.{Environment, Place, held, label_of, Extends}
-use Rattle.term_core.specs.Kinds.{kind_of, kind_of_label, scale_of, scale_of_kind, scale_of_op, on_truth, joined}
-use Rattle.term_core.specs.Values.{Entry, kinds, truth, widened, kind_or, value_of, days_run}
-use Rattle.term_core.specs.Reads.{decides, reads_of, places_or, steps_before, is_fixed, first_unfixed}
+use Rattle.term_model.specs.Declarations.{Declarations}
+use Rattle.term_model.specs.declared.values.Kind.{Kind}
+use Rattle.term_model.specs.declared.values.Kind.TheVariants.{Truth as TruthKind, Number}
+use Rattle.term_model.specs.declared.values.Value.{Value}
+use Rattle.term_model.specs.Terms.{Expression, Lit, Yes, Var, Obs, Neg, Num, Cmp, Not, Logic, Cond, Widen, Round, Div, Acc}
+use Rattle.term_model.specs.Environments.{Environment, Place, held, label_of, Extends}
+use Rattle.term_model.specs.Kinds.{kind_of, kind_of_label, scale_of, scale_of_kind, scale_of_op, on_truth, joined}
+use Rattle.term_model.specs.Values.{Entry, kinds, truth, widened, kind_or, value_of, days_run}
+use Rattle.term_model.specs.Reads.{decides, reads_of, places_or, steps_before, is_fixed, first_unfixed}
 use Rattle.interval_check.specs.RangeTrials.{kind_found, kind_of_either}
 use Rattle.interval_check.proofs.KindsFound.{one_number, two_numbers, truth_then, branches, days, scale_is}
 use Rattle.expr_eval.specs.declared.scratch.Held.{Held}

@@ -1,19 +1,19 @@
 -- A value over the fixings has the kind of its expression, and is the value in each environment that extends them.
 use Rattle.std.proofs.Common.{◌≡◌, ℕ, zero, suc, ℤ, pos, ◌+ℤ◌, ◌-ℤ◌, neg_ℤ, max, Bool, true, false, not, if◌then◌else◌, refl, ap, sym, ◌∙◌, Ok, Err, Some, None, Option, List, [], ◌∷◌, slice_get}
 use Rattle.decimal.specs.Rounding.{at_scale, divided}
-use Rattle.term_core.specs.Declarations.{Declarations}
-use Rattle.term_core.specs.declared.values.Kind.{Kind}
-use Rattle.term_core.specs.declared.values.Kind.TheVariants.{Truth as TruthKind, Number}
-use Rattle.term_core.specs.declared.terms.LogicOp.{LogicOp}
-use Rattle.term_core.specs.declared.terms.LogicOp.TheVariants.{And, Or}
-use Rattle.term_core.specs.declared.values.Value.{Value}
-use Rattle.term_core.specs.declared.values.Value.TheVariants.{Num as Amount, Truth}
-use Rattle.term_core.specs.Terms.{Expression, Lit, Yes, Var, Obs, Neg, Num, Cmp, Not, Logic, Cond, Widen, Round, Div, Acc}
-use Rattle.term_core.specs.Environments.{Environment, held, observed, value_or, least, label_of, Extends}
-use Rattle.term_core.specs.Kinds.{kind_of, kind_of_label, scale_of, scale_or_zero, scale_of_kind, scale_of_op, joined}
-use Rattle.term_core.specs.Values.{Entry, kinds, num, truth, of_num, of_cmp, widened, kind_or, value_of, logic_op, days_run, value_of_entry}
-use Rattle.term_core.specs.Reads.{decides}
-use Rattle.term_core.proofs.KindParts.{scale_either}
+use Rattle.term_model.specs.Declarations.{Declarations}
+use Rattle.term_model.specs.declared.values.Kind.{Kind}
+use Rattle.term_model.specs.declared.values.Kind.TheVariants.{Truth as TruthKind, Number}
+use Rattle.term_model.specs.declared.terms.LogicOp.{LogicOp}
+use Rattle.term_model.specs.declared.terms.LogicOp.TheVariants.{And, Or}
+use Rattle.term_model.specs.declared.values.Value.{Value}
+use Rattle.term_model.specs.declared.values.Value.TheVariants.{Num as Amount, Truth}
+use Rattle.term_model.specs.Terms.{Expression, Lit, Yes, Var, Obs, Neg, Num, Cmp, Not, Logic, Cond, Widen, Round, Div, Acc}
+use Rattle.term_model.specs.Environments.{Environment, held, observed, value_or, least, label_of, Extends}
+use Rattle.term_model.specs.Kinds.{kind_of, kind_of_label, scale_of, scale_or_zero, scale_of_kind, scale_of_op, joined}
+use Rattle.term_model.specs.Values.{Entry, kinds, num, truth, of_num, of_cmp, widened, kind_or, value_of, logic_op, days_run, value_of_entry}
+use Rattle.term_model.specs.Reads.{decides}
+use Rattle.term_model.proofs.KindParts.{scale_either}
 use Rattle.interval_check.specs.RangeTrials.{kind_found, kind_of_either}
 use Rattle.interval_check.proofs.KindsFound.{OneNumber, TwoNumbers, one_number, two_numbers, truth_then, branches, days, has_kind, scale_is}
 use Rattle.expr_eval.specs.declared.scratch.Held.{Held}

@@ -1,13 +1,13 @@
 -- Where tests stop of which either decides, stretch by stretch.
 use Rattle.std.proofs.Common.{◌≡◌, ℕ, zero, suc, ◌+◌, ◌≤◌, ℤ, pos, ◌+ℤ◌, Bool, true, false, not, Ok, Err, if◌then◌else◌, refl, ap, sym, ◌∙◌, subst}
-use Rattle.term_core.specs.declared.decls.Decls.{Decls}
-use Rattle.term_core.specs.declared.values.Missing.{Missing}
-use Rattle.term_core.specs.declared.terms.Expr.{Expr}
-use Rattle.term_core.specs.declared.terms.LogicOp.{LogicOp}
-use Rattle.term_core.specs.declared.terms.LogicOp.TheVariants.{And, Or}
-use Rattle.term_core.specs.Terms.{Expression, expression, Logic, Not}
-use Rattle.term_core.specs.Environments.{Environment}
-use Rattle.term_core.specs.Reads.{decides}
+use Rattle.term_model.specs.declared.decls.Decls.{Decls}
+use Rattle.term_model.specs.declared.values.Missing.{Missing}
+use Rattle.term_model.specs.declared.terms.Expr.{Expr}
+use Rattle.term_model.specs.declared.terms.LogicOp.{LogicOp}
+use Rattle.term_model.specs.declared.terms.LogicOp.TheVariants.{And, Or}
+use Rattle.term_model.specs.Terms.{Expression, expression, Logic, Not}
+use Rattle.term_model.specs.Environments.{Environment}
+use Rattle.term_model.specs.Reads.{decides}
 use Rattle.expr_eval.specs.declared.operations.Typed.{Typed}
 use Rattle.expr_eval.specs.declared.bindings.Bindings.{Bindings}
 use Rattle.expr_eval.specs.declared.stops.Stop.{Stop}

@@ -1,9 +1,9 @@
 -- The days before its own to which the accumulators of an expression go back. Offsets do not count, so the number stays
 -- where they are moved; and it is at most the past.
 use Rattle.std.proofs.Common.{◌≡◌, ℕ, ℤ, ◌+◌, ◌-◌, ◌≤◌, max, refl, ap₂, arith}
-use Rattle.term_core.specs.Terms.{Expression, Lit, Yes, Var, Obs, Neg, Num, Cmp, Not, Logic, Cond, Widen, Round, Div, Acc}
-use Rattle.term_core.specs.Shifts.{shifted}
-use Rattle.term_core.specs.Sizes.{past}
+use Rattle.term_model.specs.Terms.{Expression, Lit, Yes, Var, Obs, Neg, Num, Cmp, Not, Logic, Cond, Widen, Round, Div, Acc}
+use Rattle.term_model.specs.Shifts.{shifted}
+use Rattle.term_model.specs.Sizes.{past}
 
 abbrev pub span : Expression → ℕ
 span (Lit m s) = 0

@@ -2,8 +2,8 @@
 use Rattle.std.proofs.Common.{◌≡◌, ℕ, zero, suc, ◌+◌, ◌≤◌, ◌<◌, ◌^◌, ℤ, pos, ◌+ℤ◌, Bool, true, false, Some, None, Ok, Err, if◌then◌else◌, refl, ap, sym, ◌∙◌, subst, inl, inr, arith, eq-or-lt_of_le, add-one}
 use Rattle.std.specs.Prelude.{IfOk}
 use Rattle.std.proofs.lemmas.Int.{ints}
-use Rattle.term_core.specs.declared.values.Missing.{Missing}
-use Rattle.term_core.specs.Values.{truth}
+use Rattle.term_model.specs.declared.values.Missing.{Missing}
+use Rattle.term_model.specs.Values.{truth}
 use Rattle.expr_eval.specs.declared.stops.Stop.{Stop}
 use Rattle.expr_eval.specs.declared.stops.Stop.TheVariants.{Never, Met, Lacking}
 use Rattle.expr_eval.specs.Runs.{Answer, untyped}

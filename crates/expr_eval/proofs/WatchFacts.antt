@@ -6,17 +6,17 @@ use Rattle.std.proofs.lemmas.Bool.{cases_Bool}
 use Rattle.std.proofs.lemmas.Bool.Decides.{Decides-int_eq}
 use Rattle.std.proofs.lemmas.Int.{ints}
 use Rattle.decimal.specs.Rounding.{raised}
-use Rattle.term_core.specs.Declarations.{declarations}
-use Rattle.term_core.specs.declared.decls.Decls.{Decls}
-use Rattle.term_core.specs.declared.terms.CmpOp.{CmpOp}
-use Rattle.term_core.specs.declared.terms.CmpOp.TheVariants.{Less, LessEq, Greater, GreaterEq, Equal, Unequal}
-use Rattle.term_core.specs.declared.values.Kind.{Kind}
-use Rattle.term_core.specs.declared.values.Value.{Value}
-use Rattle.term_core.specs.declared.values.Missing.{Missing}
-use Rattle.term_core.specs.Kinds.{scale_of_kind}
-use Rattle.term_core.specs.Terms.{Expression, Obs, Cmp}
-use Rattle.term_core.specs.Environments.{Environment, held}
-use Rattle.term_core.specs.Values.{cmp_op, num, of_cmp}
+use Rattle.term_model.specs.Declarations.{declarations}
+use Rattle.term_model.specs.declared.decls.Decls.{Decls}
+use Rattle.term_model.specs.declared.terms.CmpOp.{CmpOp}
+use Rattle.term_model.specs.declared.terms.CmpOp.TheVariants.{Less, LessEq, Greater, GreaterEq, Equal, Unequal}
+use Rattle.term_model.specs.declared.values.Kind.{Kind}
+use Rattle.term_model.specs.declared.values.Value.{Value}
+use Rattle.term_model.specs.declared.values.Missing.{Missing}
+use Rattle.term_model.specs.Kinds.{scale_of_kind}
+use Rattle.term_model.specs.Terms.{Expression, Obs, Cmp}
+use Rattle.term_model.specs.Environments.{Environment, held}
+use Rattle.term_model.specs.Values.{cmp_op, num, of_cmp}
 use Rattle.fixing_files.specs.Runs.{LendsDays}
 use Rattle.fixing_files.specs.declared.runs.FixedDay.{FixedDay}
 use Rattle.fixing_files.proofs.RunFacts.{same_read}

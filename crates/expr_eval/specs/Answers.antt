@@ -1,18 +1,18 @@
 -- What an evaluation answers: the value, in every environment that extends the fixings; or the first place that is read
 -- and not fixed, exactly where there is one. It is so for all values and places that the entries stand for.
 use Rattle.std.specs.Prelude.{ℤ, ◌≡◌, List, [], Option, Some, None, Result, Ok, Err, IfOk}
-use Rattle.term_core.specs.Declarations.{Declarations}
-use Rattle.term_core.specs.declared.values.Value.{Value}
-use Rattle.term_core.specs.declared.values.Missing.{Missing}
-use Rattle.term_core.specs.Terms.{Expression, Contract}
-use Rattle.term_core.specs.Environments.{Environment, Place, Extends}
-use Rattle.term_core.specs.Kinds.{kind_of}
-use Rattle.term_core.specs.Values.{Entry, kind_or, value_of}
-use Rattle.term_core.specs.LawsKinds.{IsOfKind}
-use Rattle.term_core.specs.Reads.{reads_of, first_unfixed}
-use Rattle.term_core.specs.Shifts.{shifted}
-use Rattle.term_core.specs.Bounds.{Range}
-use Rattle.term_core.specs.Acceptance.{IsAccepted}
+use Rattle.term_model.specs.Declarations.{Declarations}
+use Rattle.term_model.specs.declared.values.Value.{Value}
+use Rattle.term_model.specs.declared.values.Missing.{Missing}
+use Rattle.term_model.specs.Terms.{Expression, Contract}
+use Rattle.term_model.specs.Environments.{Environment, Place, Extends}
+use Rattle.term_model.specs.Kinds.{kind_of}
+use Rattle.term_model.specs.Values.{Entry, kind_or, value_of}
+use Rattle.term_model.specs.LawsKinds.{IsOfKind}
+use Rattle.term_model.specs.Reads.{reads_of, first_unfixed}
+use Rattle.term_model.specs.Shifts.{shifted}
+use Rattle.term_model.specs.Bounds.{Range}
+use Rattle.term_model.specs.Acceptance.{IsAccepted}
 use Rattle.interval_check.specs.Nodes.{range_of}
 use Rattle.interval_check.specs.Parts.{StandsIn}
 use Rattle.expr_eval.specs.declared.scratch.Held.{Held}

@@ -1,15 +1,15 @@
 -- A comparison on one day after another. The scales of its two sides do not depend on the day, so neither does that by
 -- which their numbers are multiplied so that they have one scale.
 use Rattle.std.specs.Prelude.{ℕ, ℤ, pos, ◌+ℤ◌, ◌*ℤ◌, ◌-◌, ◌^◌, ◌≤◌, ◌<◌, ◌≡◌, max, Bool, List, Option, Some, None, Result, Ok, Err}
-use Rattle.term_core.specs.Declarations.{Declarations}
-use Rattle.term_core.specs.declared.values.Kind.{Kind}
-use Rattle.term_core.specs.declared.values.Value.{Value}
-use Rattle.term_core.specs.declared.values.Missing.{Missing}
-use Rattle.term_core.specs.Terms.{Expression}
-use Rattle.term_core.specs.Environments.{Environment}
-use Rattle.term_core.specs.Kinds.{scale_of_kind}
-use Rattle.term_core.specs.Values.{num}
-use Rattle.term_core.specs.Scales.{greatest_scale}
+use Rattle.term_model.specs.Declarations.{Declarations}
+use Rattle.term_model.specs.declared.values.Kind.{Kind}
+use Rattle.term_model.specs.declared.values.Value.{Value}
+use Rattle.term_model.specs.declared.values.Missing.{Missing}
+use Rattle.term_model.specs.Terms.{Expression}
+use Rattle.term_model.specs.Environments.{Environment}
+use Rattle.term_model.specs.Kinds.{scale_of_kind}
+use Rattle.term_model.specs.Values.{num}
+use Rattle.term_model.specs.Scales.{greatest_scale}
 use Rattle.interval_check.specs.RangeTrials.{kind_found}
 use Rattle.interval_check.specs.Safety.{IsSmall}
 use Rattle.expr_eval.specs.declared.scratch.Binding.{Binding}

@@ -1,15 +1,15 @@
 -- Where an expression may be evaluated, and with which entries for its names: in an accepted contract, outside the bodies
 -- of accumulators, with an entry for each `let` in whose body it stands; or with none, where it uses no name from outside.
 use Rattle.std.specs.Prelude.{ℤ, ◌≡◌, ◌⊎◌, List, [], ◌∷◌}
-use Rattle.term_core.specs.Declarations.{Declarations}
-use Rattle.term_core.specs.declared.values.Value.{Value}
-use Rattle.term_core.specs.Terms.{Expression, Contract}
-use Rattle.term_core.specs.Shifts.{shifted}
-use Rattle.term_core.specs.WellFormed.{IsWellFormed}
-use Rattle.term_core.specs.Values.{num}
-use Rattle.term_core.specs.LawsKinds.{IsOfKind}
-use Rattle.term_core.specs.Bounds.{Range}
-use Rattle.term_core.specs.Acceptance.{IsAccepted}
+use Rattle.term_model.specs.Declarations.{Declarations}
+use Rattle.term_model.specs.declared.values.Value.{Value}
+use Rattle.term_model.specs.Terms.{Expression, Contract}
+use Rattle.term_model.specs.Shifts.{shifted}
+use Rattle.term_model.specs.WellFormed.{IsWellFormed}
+use Rattle.term_model.specs.Values.{num}
+use Rattle.term_model.specs.LawsKinds.{IsOfKind}
+use Rattle.term_model.specs.Bounds.{Range}
+use Rattle.term_model.specs.Acceptance.{IsAccepted}
 use Rattle.interval_check.specs.Within.{IsIn, OnNumber}
 use Rattle.interval_check.specs.Parts.{StandsIn}
 use Rattle.expr_eval.specs.declared.scratch.Held.{Held}

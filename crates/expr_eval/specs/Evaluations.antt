@@ -1,16 +1,16 @@
 -- The evaluator by the program's values: what it answers of an expression on a day, over fixings and among bound
 -- names, and what it needs so that numbers fit 128 bits and days 64.
 use Rattle.std.specs.Prelude.{ℕ, ℤ, pos, ◌+ℤ◌, List}
-use Rattle.term_core.specs.Declarations.{Declarations, declarations}
-use Rattle.term_core.specs.declared.decls.Decls.{Decls}
-use Rattle.term_core.specs.declared.terms.Expr.{Expr}
+use Rattle.term_model.specs.Declarations.{Declarations, declarations}
+use Rattle.term_model.specs.declared.decls.Decls.{Decls}
+use Rattle.term_model.specs.declared.terms.Expr.{Expr}
 use Rattle.decimal.specs.declared.rounding.Mode.{Mode}
-use Rattle.term_core.specs.declared.terms.NumOp.{NumOp}
-use Rattle.term_core.specs.declared.terms.CmpOp.{CmpOp}
-use Rattle.term_core.specs.declared.terms.LogicOp.{LogicOp}
-use Rattle.term_core.specs.declared.values.Kind.{Kind}
-use Rattle.term_core.specs.Terms.{Expression, expression, Num, Cmp, Logic, Cond, Div}
-use Rattle.term_core.specs.Environments.{Environment}
+use Rattle.term_model.specs.declared.terms.NumOp.{NumOp}
+use Rattle.term_model.specs.declared.terms.CmpOp.{CmpOp}
+use Rattle.term_model.specs.declared.terms.LogicOp.{LogicOp}
+use Rattle.term_model.specs.declared.values.Kind.{Kind}
+use Rattle.term_model.specs.Terms.{Expression, expression, Num, Cmp, Logic, Cond, Div}
+use Rattle.term_model.specs.Environments.{Environment}
 use Rattle.interval_check.specs.RangeTrials.{kind_found}
 use Rattle.expr_eval.specs.declared.scratch.Binding.{Binding}
 use Rattle.expr_eval.specs.declared.bindings.Bindings.{Bindings}

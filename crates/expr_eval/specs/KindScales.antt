@@ -1,10 +1,10 @@
 -- The scales on the way to the kind of an expression whose sorts are in order are at most 27.
 use Rattle.std.specs.Prelude.{◌≤◌, List}
-use Rattle.term_core.specs.Declarations.{Declarations}
-use Rattle.term_core.specs.declared.values.Kind.{Kind}
-use Rattle.term_core.specs.Terms.{Expression, Neg, Num, Cond, Acc}
-use Rattle.term_core.specs.Kinds.{scale_of_kind, scale_of_op}
-use Rattle.term_core.specs.Scales.{greatest_scale}
+use Rattle.term_model.specs.Declarations.{Declarations}
+use Rattle.term_model.specs.declared.values.Kind.{Kind}
+use Rattle.term_model.specs.Terms.{Expression, Neg, Num, Cond, Acc}
+use Rattle.term_model.specs.Kinds.{scale_of_kind, scale_of_op}
+use Rattle.term_model.specs.Scales.{greatest_scale}
 use Rattle.interval_check.specs.RangeTrials.{kind_found}
 
 abbrev pub KindFits : Declarations → Expression → List Kind → Type 0

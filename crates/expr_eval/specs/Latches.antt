@@ -1,8 +1,8 @@
 -- Accumulators that keep a truth value once their name has it, such as `x | e` and `x & e`: the name decides before
 -- anything is read.
 use Rattle.std.specs.Prelude.{◌==◌, ◌&&◌, ◌≡◌, Bool, true, false, not, Ok, Err}
-use Rattle.term_core.specs.Terms.{Expression, Var, Logic}
-use Rattle.term_core.specs.Reads.{decides}
+use Rattle.term_model.specs.Terms.{Expression, Var, Logic}
+use Rattle.term_model.specs.Reads.{decides}
 use Rattle.expr_eval.specs.declared.stops.Stop.{Stop}
 use Rattle.expr_eval.specs.declared.stops.Stop.TheVariants.{Never, Met, Lacking}
 use Rattle.expr_eval.specs.Stops.{TruthOrMissing}

@@ -2,15 +2,15 @@
 -- evaluated. And what is entered for a `let` stands for it: an entry from the answer of its expression, put before the others, suits the
 -- body, and stands for the values and the places of the names in it.
 use Rattle.std.specs.Prelude.{ℤ, List, [], ◌∷◌, Result}
-use Rattle.term_core.specs.Declarations.{Declarations}
-use Rattle.term_core.specs.declared.values.Value.{Value}
-use Rattle.term_core.specs.declared.values.Missing.{Missing}
-use Rattle.term_core.specs.Terms.{Expression, Contract, Zero, Pay, Both, Scale, After, Let, Within}
-use Rattle.term_core.specs.Environments.{Environment, Place, Extends}
-use Rattle.term_core.specs.Values.{Entry}
-use Rattle.term_core.specs.Reads.{reads_of}
-use Rattle.term_core.specs.Bounds.{Range}
-use Rattle.term_core.specs.Acceptance.{IsAccepted}
+use Rattle.term_model.specs.Declarations.{Declarations}
+use Rattle.term_model.specs.declared.values.Value.{Value}
+use Rattle.term_model.specs.declared.values.Missing.{Missing}
+use Rattle.term_model.specs.Terms.{Expression, Contract, Zero, Pay, Both, Scale, After, Let, Within}
+use Rattle.term_model.specs.Environments.{Environment, Place, Extends}
+use Rattle.term_model.specs.Values.{Entry}
+use Rattle.term_model.specs.Reads.{reads_of}
+use Rattle.term_model.specs.Bounds.{Range}
+use Rattle.term_model.specs.Acceptance.{IsAccepted}
 use Rattle.interval_check.specs.Nodes.{range_of}
 use Rattle.interval_check.specs.Sums.{entry_of}
 use Rattle.expr_eval.specs.declared.scratch.Binding.{Binding}

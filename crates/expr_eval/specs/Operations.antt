@@ -3,14 +3,14 @@
 use Rattle.std.specs.Prelude.{ℕ, ℤ, neg_ℤ, Bool, ◌≤◌}
 use Rattle.decimal.specs.Rounding.{at_scale, divided}
 use Rattle.decimal.specs.declared.rounding.Mode.{Mode}
-use Rattle.term_core.specs.declared.terms.NumOp.{NumOp}
-use Rattle.term_core.specs.declared.terms.CmpOp.{CmpOp}
-use Rattle.term_core.specs.declared.values.Kind.{Kind}
-use Rattle.term_core.specs.declared.values.Kind.TheVariants.{Truth as TruthKind, Number}
-use Rattle.term_core.specs.declared.values.Value.TheVariants.{Num as Amount, Truth}
-use Rattle.term_core.specs.Kinds.{scale_of_kind, scale_of_op}
-use Rattle.term_core.specs.Values.{num, truth, of_num, of_cmp, widened}
-use Rattle.term_core.specs.Scales.{greatest_scale}
+use Rattle.term_model.specs.declared.terms.NumOp.{NumOp}
+use Rattle.term_model.specs.declared.terms.CmpOp.{CmpOp}
+use Rattle.term_model.specs.declared.values.Kind.{Kind}
+use Rattle.term_model.specs.declared.values.Kind.TheVariants.{Truth as TruthKind, Number}
+use Rattle.term_model.specs.declared.values.Value.TheVariants.{Num as Amount, Truth}
+use Rattle.term_model.specs.Kinds.{scale_of_kind, scale_of_op}
+use Rattle.term_model.specs.Values.{num, truth, of_num, of_cmp, widened}
+use Rattle.term_model.specs.Scales.{greatest_scale}
 use Rattle.interval_check.specs.Safety.{IsSmall, AlignSafely, OperateSafely, WidensSafely, RoundsSafely, DivideSafely}
 use Rattle.expr_eval.specs.declared.operations.Typed.{Typed}
 

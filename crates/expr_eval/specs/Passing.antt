@@ -1,10 +1,10 @@
 -- Blocks of days on which a watch cannot be met.
 use Rattle.std.specs.Prelude.{◌≡◌, ◌<◌, ℕ, ℤ, pos, ◌+ℤ◌, false, List, Ok}
-use Rattle.term_core.specs.declared.terms.CmpOp.{CmpOp}
-use Rattle.term_core.specs.declared.terms.CmpOp.TheVariants.{Less, LessEq, Greater, GreaterEq, Equal, Unequal}
-use Rattle.term_core.specs.declared.values.Value.{Value}
-use Rattle.term_core.specs.Environments.{Environment}
-use Rattle.term_core.specs.Values.{cmp_op, num}
+use Rattle.term_model.specs.declared.terms.CmpOp.{CmpOp}
+use Rattle.term_model.specs.declared.terms.CmpOp.TheVariants.{Less, LessEq, Greater, GreaterEq, Equal, Unequal}
+use Rattle.term_model.specs.declared.values.Value.{Value}
+use Rattle.term_model.specs.Environments.{Environment}
+use Rattle.term_model.specs.Values.{cmp_op, num}
 use Rattle.fixing_files.specs.Blocks.{IsWithin}
 use Rattle.fixing_files.specs.Runs.{LendsDays}
 use Rattle.fixing_files.specs.declared.blocks.Block.{Block}

@@ -1,6 +1,6 @@
 -- The entries of bound names, each with the kind of its expression and what it holds, and how many more have room.
 use Rattle.std.specs.Prelude.{ℕ, List, [], ◌∷◌, ◌≡◌, map}
-use Rattle.term_core.specs.declared.values.Kind.{Kind}
+use Rattle.term_model.specs.declared.values.Kind.{Kind}
 use Rattle.expr_eval.specs.declared.scratch.Binding.{Binding}
 
 -- the entries, innermost first

@@ -2,17 +2,17 @@
 -- fixed. It goes as the evaluator does: operands in written order, a branch and a right side only where they are needed,
 -- and an accumulator day by day.
 use Rattle.std.specs.Prelude.{ℕ, zero, suc, ℤ, pos, ◌+ℤ◌, ◌-ℤ◌, not, false, List, ◌∷◌, Option, Some, None, Result, Ok, Err, if◌then◌else◌, slice_get}
-use Rattle.term_core.specs.Declarations.{Declarations}
-use Rattle.term_core.specs.declared.terms.LogicOp.{LogicOp}
-use Rattle.term_core.specs.declared.values.Kind.{Kind}
-use Rattle.term_core.specs.declared.values.Kind.TheVariants.{Number}
-use Rattle.term_core.specs.declared.values.Value.{Value}
-use Rattle.term_core.specs.declared.values.Missing.{Missing}
-use Rattle.term_core.specs.Terms.{Expression, Lit, Yes, Var, Obs, Neg, Num, Cmp, Not, Logic, Cond, Widen, Round, Div, Acc}
-use Rattle.term_core.specs.Environments.{Environment, held, label_of}
-use Rattle.term_core.specs.Kinds.{kind_of_label}
-use Rattle.term_core.specs.Values.{kind_or}
-use Rattle.term_core.specs.Reads.{decides}
+use Rattle.term_model.specs.Declarations.{Declarations}
+use Rattle.term_model.specs.declared.terms.LogicOp.{LogicOp}
+use Rattle.term_model.specs.declared.values.Kind.{Kind}
+use Rattle.term_model.specs.declared.values.Kind.TheVariants.{Number}
+use Rattle.term_model.specs.declared.values.Value.{Value}
+use Rattle.term_model.specs.declared.values.Missing.{Missing}
+use Rattle.term_model.specs.Terms.{Expression, Lit, Yes, Var, Obs, Neg, Num, Cmp, Not, Logic, Cond, Widen, Round, Div, Acc}
+use Rattle.term_model.specs.Environments.{Environment, held, label_of}
+use Rattle.term_model.specs.Kinds.{kind_of_label}
+use Rattle.term_model.specs.Values.{kind_or}
+use Rattle.term_model.specs.Reads.{decides}
 use Rattle.expr_eval.specs.declared.scratch.Held.{Held}
 use Rattle.expr_eval.specs.declared.scratch.Held.TheVariants.{Known, Lacking}
 use Rattle.expr_eval.specs.declared.scratch.Binding.{Binding}

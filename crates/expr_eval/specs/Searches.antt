@@ -1,9 +1,9 @@
 -- Where a test stops that is tried on one day after another, by the program's values.
 use Rattle.std.specs.Prelude.{ℕ, ℤ, pos, ◌+ℤ◌, ◌+◌, ◌^◌, ◌≤◌, ◌≡◌, unsigned_abs, Bool}
-use Rattle.term_core.specs.declared.decls.Decls.{Decls}
-use Rattle.term_core.specs.declared.terms.Expr.{Expr}
-use Rattle.term_core.specs.Terms.{Expression, expression, Obs}
-use Rattle.term_core.specs.Environments.{Environment}
+use Rattle.term_model.specs.declared.decls.Decls.{Decls}
+use Rattle.term_model.specs.declared.terms.Expr.{Expr}
+use Rattle.term_model.specs.Terms.{Expression, expression, Obs}
+use Rattle.term_model.specs.Environments.{Environment}
 use Rattle.expr_eval.specs.declared.bindings.Bindings.{Bindings}
 use Rattle.expr_eval.specs.declared.stops.Stop.{Stop}
 use Rattle.expr_eval.specs.Stops.{TruthOrMissing, either_met, first_stop, wanted_of}

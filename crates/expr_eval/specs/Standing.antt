@@ -1,11 +1,11 @@
 -- What the entries of bound names stand for: for each a value with its kind, and the list of the places that its
 -- expression reads. An entry either knows the value, where every place of the list is fixed, or has the first that is not.
 use Rattle.std.specs.Prelude.{◌≡◌, List, [], ◌∷◌, Some, None}
-use Rattle.term_core.specs.declared.values.Value.{Value}
-use Rattle.term_core.specs.declared.values.Missing.{Missing}
-use Rattle.term_core.specs.Environments.{Environment, Place}
-use Rattle.term_core.specs.Values.{Entry}
-use Rattle.term_core.specs.Reads.{first_unfixed}
+use Rattle.term_model.specs.declared.values.Value.{Value}
+use Rattle.term_model.specs.declared.values.Missing.{Missing}
+use Rattle.term_model.specs.Environments.{Environment, Place}
+use Rattle.term_model.specs.Values.{Entry}
+use Rattle.term_model.specs.Reads.{first_unfixed}
 use Rattle.expr_eval.specs.declared.scratch.Held.{Held}
 use Rattle.expr_eval.specs.declared.scratch.Held.TheVariants.{Known, Lacking}
 use Rattle.expr_eval.specs.declared.scratch.Binding.{Binding}

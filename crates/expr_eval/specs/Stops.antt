@@ -1,7 +1,7 @@
 -- Where a test stops that is tried on one day after another: on the first day on which it has the truth value that is
 -- wanted, or on which it lacks a place.
 use Rattle.std.specs.Prelude.{ℕ, zero, suc, ◌+◌, ◌<◌, ◌^◌, Bool, true, false, not, Some, None, Result, Ok, Err, if◌then◌else◌}
-use Rattle.term_core.specs.declared.values.Missing.{Missing}
+use Rattle.term_model.specs.declared.values.Missing.{Missing}
 use Rattle.expr_eval.specs.declared.stops.Stop.{Stop}
 use Rattle.expr_eval.specs.declared.stops.Stop.TheVariants.{Never, Met, Lacking}
 use Rattle.expr_eval.specs.Trials.{DayOrMissing}

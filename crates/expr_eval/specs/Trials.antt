@@ -1,13 +1,13 @@
 -- The days of a test, one after another: the first on which it is true, or the first place that is met before and that is
 -- not fixed.
 use Rattle.std.specs.Prelude.{ℕ, zero, suc, ℤ, pos, ◌+ℤ◌, ◌<◌, ◌≡◌, List, Option, Some, None, Result, Ok, Err, if◌then◌else◌}
-use Rattle.term_core.specs.Declarations.{Declarations}
-use Rattle.term_core.specs.declared.values.Value.{Value}
-use Rattle.term_core.specs.declared.values.Missing.{Missing}
-use Rattle.term_core.specs.Terms.{Expression}
-use Rattle.term_core.specs.Environments.{Environment, Place}
-use Rattle.term_core.specs.Values.{Entry, truth, value_of}
-use Rattle.term_core.specs.Reads.{first_unfixed, reads_of}
+use Rattle.term_model.specs.Declarations.{Declarations}
+use Rattle.term_model.specs.declared.values.Value.{Value}
+use Rattle.term_model.specs.declared.values.Missing.{Missing}
+use Rattle.term_model.specs.Terms.{Expression}
+use Rattle.term_model.specs.Environments.{Environment, Place}
+use Rattle.term_model.specs.Values.{Entry, truth, value_of}
+use Rattle.term_model.specs.Reads.{first_unfixed, reads_of}
 use Rattle.expr_eval.specs.declared.scratch.Binding.{Binding}
 use Rattle.expr_eval.specs.Standing.{StandFor}
 

@@ -1,13 +1,13 @@
 -- The truth values of tests, without kinds; and the bodies of accumulators that have no other values.
 use Rattle.std.specs.Prelude.{ℕ, ℤ, Bool, true, false, ◌∷◌, Option, Some, None, Result, Ok, Err}
-use Rattle.term_core.specs.Declarations.{declarations}
-use Rattle.term_core.specs.declared.decls.Decls.{Decls}
-use Rattle.term_core.specs.declared.terms.Expr.{Expr}
-use Rattle.term_core.specs.declared.values.Value.{Value}
-use Rattle.term_core.specs.declared.values.Missing.{Missing}
-use Rattle.term_core.specs.Terms.{Expression, expression, Yes, Cmp, Not, Logic}
-use Rattle.term_core.specs.Environments.{Environment}
-use Rattle.term_core.specs.Values.{truth}
+use Rattle.term_model.specs.Declarations.{declarations}
+use Rattle.term_model.specs.declared.decls.Decls.{Decls}
+use Rattle.term_model.specs.declared.terms.Expr.{Expr}
+use Rattle.term_model.specs.declared.values.Value.{Value}
+use Rattle.term_model.specs.declared.values.Missing.{Missing}
+use Rattle.term_model.specs.Terms.{Expression, expression, Yes, Cmp, Not, Logic}
+use Rattle.term_model.specs.Environments.{Environment}
+use Rattle.term_model.specs.Values.{truth}
 use Rattle.expr_eval.specs.declared.operations.Typed.{Typed}
 use Rattle.expr_eval.specs.declared.bindings.Bindings.{Bindings}
 use Rattle.expr_eval.specs.Bindings.{bindings}

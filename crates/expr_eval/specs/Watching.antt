@@ -1,14 +1,14 @@
 -- What is observed under a label, tried on each day: whether it is true, or how it compares with a number that stays the
 -- same.
 use Rattle.std.specs.Prelude.{ℕ, ℤ, ◌+ℤ◌, ◌*ℤ◌, ◌≡◌, Bool, List, Option, Some, None, Ok, Err}
-use Rattle.term_core.specs.Declarations.{declarations}
-use Rattle.term_core.specs.declared.decls.Decls.{Decls}
-use Rattle.term_core.specs.declared.terms.CmpOp.{CmpOp}
-use Rattle.term_core.specs.declared.terms.CmpOp.TheVariants.{Less, LessEq, Greater, GreaterEq, Equal, Unequal}
-use Rattle.term_core.specs.declared.values.Value.{Value}
-use Rattle.term_core.specs.Terms.{Expression}
-use Rattle.term_core.specs.Environments.{Environment, held}
-use Rattle.term_core.specs.Values.{cmp_op, num, truth}
+use Rattle.term_model.specs.Declarations.{declarations}
+use Rattle.term_model.specs.declared.decls.Decls.{Decls}
+use Rattle.term_model.specs.declared.terms.CmpOp.{CmpOp}
+use Rattle.term_model.specs.declared.terms.CmpOp.TheVariants.{Less, LessEq, Greater, GreaterEq, Equal, Unequal}
+use Rattle.term_model.specs.declared.values.Value.{Value}
+use Rattle.term_model.specs.Terms.{Expression}
+use Rattle.term_model.specs.Environments.{Environment, held}
+use Rattle.term_model.specs.Values.{cmp_op, num, truth}
 use Rattle.expr_eval.specs.declared.scratch.Binding.{Binding}
 use Rattle.expr_eval.specs.declared.operations.Typed.{Typed}
 use Rattle.expr_eval.specs.declared.bindings.Bindings.{Bindings}

@@ -1,12 +1,12 @@
 //! The names around an expression, those of accumulators among them.
 
 ghost use Rattle.std.specs.Prelude.{◌≡◌, slice_get};
-ghost use Rattle.term_core.specs.Values.{kind_or};
+ghost use Rattle.term_model.specs.Values.{kind_or};
 ghost use Rattle.expr_eval.specs.Rooms.{kinds_of};
 ghost use Rattle.expr_eval.specs.Bindings.{bindings};
 
 use crate::scratch::{Binding, Scratch};
-use term_core::Kind;
+use term_model::Kind;
 
 /// The names that are bound around an expression, innermost first: those of accumulators lie on the
 /// stack, inside those of a scratch that is lent.

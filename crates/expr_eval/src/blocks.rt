@@ -8,7 +8,7 @@ ghost use Rattle.expr_eval.specs.Passing.{CannotMeet, IsBeyond, IsPassed, opposi
 
 use crate::watches::{Trial, Watch, brought};
 use fixing_files::{BLOCK_DAYS, Block, FixedDay, LentRun};
-use term_core::CmpOp;
+use term_model::CmpOp;
 
 /// The days of a block.
 pub const BLOCK: u32 = BLOCK_DAYS as u32;

@@ -1,13 +1,13 @@
 //! Comparisons of two numbers of any scales: each is multiplied so that both have one scale.
 
 ghost use Rattle.std.specs.Prelude.{◌≡◌, ◌≤◌, ◌*ℤ◌};
-ghost use Rattle.term_core.specs.Values.{cmp_op};
+ghost use Rattle.term_model.specs.Values.{cmp_op};
 ghost use Rattle.interval_check.specs.Safety.{IsSmall};
 ghost use Rattle.expr_eval.specs.Comparing as found;
 
 use crate::operations::compare_aligned;
 use decimal::pow10;
-use term_core::CmpOp;
+use term_model::CmpOp;
 
 /// By what the numbers of two sides are multiplied, so that they have one scale.
 #[derive(Clone, Copy)]

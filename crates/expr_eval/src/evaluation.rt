@@ -1,9 +1,9 @@
 //! The evaluator: values with their kinds, or the first place that is not fixed.
 
 ghost use Rattle.std.specs.Prelude.{◌≡◌, ◌+◌, ◌+ℤ◌, ◌-ℤ◌, pos, slice_get, IsTrue};
-ghost use Rattle.term_core.specs.Declarations.{declarations};
-ghost use Rattle.term_core.specs.Terms.{expression};
-ghost use Rattle.term_core.specs.Environments.{held};
+ghost use Rattle.term_model.specs.Declarations.{declarations};
+ghost use Rattle.term_model.specs.Terms.{expression};
+ghost use Rattle.term_model.specs.Environments.{held};
 ghost use Rattle.expr_eval.specs.Bindings.{bindings};
 ghost use Rattle.expr_eval.specs.Runs.{day_run, kind_observed, observation, of_binding, of_held, of_place, run_of, untyped};
 ghost use Rattle.expr_eval.specs.Fits.{DayFitsIn, Fits, IsDay};
@@ -22,9 +22,7 @@ use crate::operators::{OnOne, done_on_one};
 use crate::scratch::{Binding, Held, Scratch};
 use decimal::Mode;
 use fixing_files::Fixings;
-use term_core::{
-    CmpOp, Decls, Expr, Kind, LogicOp, Missing, NumOp, Value, day_read, days_earlier, days_later,
-};
+use term_model::{CmpOp, Decls, Expr, Kind, LogicOp, Missing, NumOp, Value, day_read, days_earlier, days_later};
 
 // The value that an entry holds, with its kind.
 fn value_held(binding: &Binding) -> Result<Typed, Missing>

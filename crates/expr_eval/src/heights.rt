@@ -1,10 +1,10 @@
 //! How high an expression is.
 
 ghost use Rattle.std.specs.Prelude.{◌≡◌, ◌≤◌};
-ghost use Rattle.term_core.specs.Terms.{expression};
-ghost use Rattle.term_core.specs.Sizes.{height};
+ghost use Rattle.term_model.specs.Terms.{expression};
+ghost use Rattle.term_model.specs.Sizes.{height};
 
-use term_core::Expr;
+use term_model::Expr;
 
 /// The height of an expression.
 pub fn height_of(e: &Expr) -> u32

@@ -1,9 +1,9 @@
 //! Kinds of expressions.
 
 ghost use Rattle.std.specs.Prelude.{◌≡◌, Some};
-ghost use Rattle.term_core.specs.Declarations.{declarations};
-ghost use Rattle.term_core.specs.Terms.{expression};
-ghost use Rattle.term_core.specs.Kinds as model;
+ghost use Rattle.term_model.specs.Declarations.{declarations};
+ghost use Rattle.term_model.specs.Terms.{expression};
+ghost use Rattle.term_model.specs.Kinds as model;
 ghost use Rattle.expr_eval.specs.Rooms.{kinds_of};
 ghost use Rattle.expr_eval.specs.Runs.{kind_observed};
 ghost use Rattle.expr_eval.specs.Evaluations.{KindFitsIn, kind_in};
@@ -12,7 +12,7 @@ ghost use Rattle.expr_eval.specs.Evaluable.{MayEvaluate};
 use crate::bindings::{Bindings, kind_at};
 use crate::operations::scale_of_both;
 use crate::scratch::Scratch;
-use term_core::{Decls, Expr, Kind, Label};
+use term_model::{Decls, Expr, Kind, Label};
 
 /// The kind of what is observed; a label that is not declared, which no accepted term has, is a
 /// truth value.

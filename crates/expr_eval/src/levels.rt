@@ -1,8 +1,8 @@
 //! Expressions whose numbers have one scale on all the way, so that none is widened.
 
 ghost use Rattle.std.specs.Prelude.{◌≡◌};
-ghost use Rattle.term_core.specs.Declarations.{declarations};
-ghost use Rattle.term_core.specs.Terms.{expression};
+ghost use Rattle.term_model.specs.Declarations.{declarations};
+ghost use Rattle.term_model.specs.Terms.{expression};
 ghost use Rattle.expr_eval.specs.Bindings.{bindings};
 ghost use Rattle.expr_eval.specs.Evaluations.{kinds_in};
 ghost use Rattle.expr_eval.specs.Levels.{has_scale, is_amount, is_level, is_numeric, keeps_scale, stays_level};
@@ -11,7 +11,7 @@ use crate::bindings::{Bindings, kind_at};
 use crate::kinds::kind_observed;
 use crate::operations::Typed;
 use crate::scratch::{Binding, Held};
-use term_core::{Decls, Expr, Kind, NumOp, Value};
+use term_model::{Decls, Expr, Kind, NumOp, Value};
 
 // Whether it is the kind of the numbers of a scale.
 fn has_scale(kind: Kind, scale: u8) -> bool

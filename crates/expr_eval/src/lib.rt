@@ -37,6 +37,6 @@ pub use evaluation::{value_bound, value_found, without_kind};
 pub use kinds::{kind_observed, kind_of};
 pub use laws::{answers_may_be_entered, parts_may_be_evaluated};
 pub use scratch::{Binding, Held, Scratch};
-pub use term_core::Kind;
+pub use term_model::Kind;
 pub use trials::first_true;
 pub use values::eval;

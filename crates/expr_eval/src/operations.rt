@@ -1,15 +1,15 @@
 //! Values with their kinds, and what each operator makes of those of its parts.
 
 ghost use Rattle.std.specs.Prelude.{◌≡◌, ◌≤◌};
-ghost use Rattle.term_core.specs.Kinds.{scale_of_kind, scale_of_op};
-ghost use Rattle.term_core.specs.Values.{num_op, cmp_op, of_num};
-ghost use Rattle.term_core.specs.Reads.{decides};
+ghost use Rattle.term_model.specs.Kinds.{scale_of_kind, scale_of_op};
+ghost use Rattle.term_model.specs.Values.{num_op, cmp_op, of_num};
+ghost use Rattle.term_model.specs.Reads.{decides};
 ghost use Rattle.interval_check.specs.Safety.{IsSmall, OperateSafely};
 ghost use Rattle.expr_eval.specs.Operations as made;
 ghost use Rattle.expr_eval.specs.Operations.{Negates, Combines, Compares, RoundsTo, DividesTo, FitsKind};
 
 use decimal::{Mode, align, div_to, round_to};
-use term_core::{CmpOp, Kind, LogicOp, NumOp, Value};
+use term_model::{CmpOp, Kind, LogicOp, NumOp, Value};
 
 /// A value, and of what kind it is.
 #[derive(Clone, Copy, Debug, PartialEq, Eq)]

@@ -5,7 +5,7 @@ ghost use Rattle.expr_eval.specs.Operators.{FitsOne, of_one};
 
 use crate::operations::{Typed, at_kind, negate, round, verdict};
 use decimal::Mode;
-use term_core::Kind;
+use term_model::Kind;
 
 /// What is done with one value.
 #[derive(Clone, Copy)]

@@ -1,9 +1,9 @@
 //! What names are bound to, and the room in which it is kept.
 
 ghost use Rattle.std.specs.Prelude.{◌≡◌, ◌∷◌, [], ◌≤◌, ◌<◌, ◌+◌, length, reverse, slice_get, IfOk};
-ghost use Rattle.term_core.specs.Limits.{most_height};
-ghost use Rattle.term_core.specs.Terms.{expression, contract};
-ghost use Rattle.term_core.specs.Sizes.{height, height_of_contract};
+ghost use Rattle.term_model.specs.Limits.{most_height};
+ghost use Rattle.term_model.specs.Terms.{expression, contract};
+ghost use Rattle.term_model.specs.Sizes.{height, height_of_contract};
 ghost use Rattle.expr_eval.specs.Rooms.{IsWithoutFirst};
 ghost use Rattle.expr_eval.specs.Answers.{held_of};
 
@@ -11,7 +11,8 @@ use crate::heights::height_of;
 use decimal::NoMemory;
 use std::alloc::Global;
 use std::marker::Model;
-use term_core::{Contr, Expr, Kind, Missing, Value, counts};
+use term_model::{Contr, Expr, Kind, Missing, Value};
+use term_core::counts;
 
 /// What a bound name holds: the value of its expression, or the first place that the expression
 /// reads and that is not fixed.

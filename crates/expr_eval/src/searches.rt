@@ -2,7 +2,7 @@
 //! through the days of its label.
 
 ghost use Rattle.std.specs.Prelude.{◌≡◌, ◌≤◌, ◌^◌, ◌+ℤ◌, ◌*ℤ◌, unsigned_abs, IfSome};
-ghost use Rattle.term_core.specs.Terms.{expression};
+ghost use Rattle.term_model.specs.Terms.{expression};
 ghost use Rattle.expr_eval.specs.Bindings.{bindings};
 ghost use Rattle.expr_eval.specs.Evaluations.{comparison_over, logic_over};
 ghost use Rattle.expr_eval.specs.Searches.{AreNear, IsFlagStop, IsStop, IsStopOfEither, alike};
@@ -18,7 +18,7 @@ use crate::stops::{Stop, is_wanted};
 use crate::truths::truth_bound;
 use crate::watches::{Trial, Watch, first_met};
 use fixing_files::Fixings;
-use term_core::{CmpOp, Decls, Expr, LogicOp, Missing, day_read, days_later};
+use term_model::{CmpOp, Decls, Expr, LogicOp, Missing, day_read, days_later};
 
 // The value of a side that is the same on each day: of a literal, or of a name whose value is
 // known.

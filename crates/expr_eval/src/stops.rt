@@ -3,7 +3,7 @@
 ghost use Rattle.std.specs.Prelude.{◌≡◌};
 ghost use Rattle.expr_eval.specs.Stops.{IsCounted, counted_from, day_of, days_before, goes_on, is_wanted};
 
-use term_core::Missing;
+use term_model::Missing;
 
 /// On which of some days, counted from 0, a test first has the truth value that is wanted, or lacks
 /// a place.

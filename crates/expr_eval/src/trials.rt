@@ -1,9 +1,9 @@
 //! Tests, tried on one day after another.
 
 ghost use Rattle.std.specs.Prelude.{◌≡◌, ◌≤◌, ◌^◌, unsigned_abs, IfOk};
-ghost use Rattle.term_core.specs.Declarations.{declarations};
-ghost use Rattle.term_core.specs.Terms.{expression};
-ghost use Rattle.term_core.specs.Environments.{IsAdmitted, held};
+ghost use Rattle.term_model.specs.Declarations.{declarations};
+ghost use Rattle.term_model.specs.Terms.{expression};
+ghost use Rattle.term_model.specs.Environments.{IsAdmitted, held};
 ghost use Rattle.expr_eval.specs.Fits.{IsDay};
 ghost use Rattle.expr_eval.specs.Evaluable.{MayEvaluate};
 ghost use Rattle.expr_eval.specs.Evaluations.{ComparesIn, FitsIn, answer_in, comparison, first_in, kinds_in};
@@ -18,7 +18,7 @@ use crate::scratch::Scratch;
 use crate::searches::search;
 use crate::truths::holds;
 use fixing_files::Fixings;
-use term_core::{CmpOp, Decls, Expr, Missing, day_read, days_later};
+use term_model::{CmpOp, Decls, Expr, Missing, day_read, days_later};
 
 /// A comparison, and its factors.
 #[derive(Clone, Copy)]

@@ -1,8 +1,8 @@
 //! Whether tests hold on a day. Only the truth value is carried, and its kind is not looked up.
 
 ghost use Rattle.std.specs.Prelude.{◌≡◌, true, slice_get, IfSome};
-ghost use Rattle.term_core.specs.Terms.{expression};
-ghost use Rattle.term_core.specs.Environments.{held};
+ghost use Rattle.term_model.specs.Terms.{expression};
+ghost use Rattle.term_model.specs.Environments.{held};
 ghost use Rattle.expr_eval.specs.Bindings.{bindings};
 ghost use Rattle.expr_eval.specs.Runs.{of_binding, of_held};
 ghost use Rattle.expr_eval.specs.Fits.{IsDay};
@@ -18,7 +18,7 @@ use crate::scratch::{Binding, Held};
 use crate::searches::search;
 use crate::stops::{Stop, is_wanted};
 use fixing_files::Fixings;
-use term_core::{CmpOp, Decls, Expr, LogicOp, Missing, Value, day_read, days_earlier, days_later};
+use term_model::{CmpOp, Decls, Expr, LogicOp, Missing, Value, day_read, days_earlier, days_later};
 
 // The truth value that an entry holds.
 fn truth_entered(binding: &Binding) -> Result<bool, Missing>

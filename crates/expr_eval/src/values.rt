@@ -1,9 +1,9 @@
 //! Values of expressions on a day.
 
 ghost use Rattle.std.specs.Prelude.{◌≡◌, ◌≤◌, ◌^◌, unsigned_abs};
-ghost use Rattle.term_core.specs.Declarations.{declarations};
-ghost use Rattle.term_core.specs.Terms.{expression};
-ghost use Rattle.term_core.specs.Environments.{IsAdmitted};
+ghost use Rattle.term_model.specs.Declarations.{declarations};
+ghost use Rattle.term_model.specs.Terms.{expression};
+ghost use Rattle.term_model.specs.Environments.{IsAdmitted};
 ghost use Rattle.expr_eval.specs.Evaluable.{MayEvaluate};
 ghost use Rattle.expr_eval.specs.Answers.{IsSuitedAnswer};
 
@@ -11,7 +11,7 @@ use crate::bindings::Bindings;
 use crate::evaluation::{evaluate, without_kind};
 use crate::scratch::Scratch;
 use fixing_files::Fixings;
-use term_core::{Decls, Expr, Missing, Value};
+use term_model::{Decls, Expr, Missing, Value};
 
 /// The value of an expression on a day of the portfolio, over fixings, with the entries of a
 /// scratch for its names: the mantissa of a number at the scale of its kind, or a truth value. It

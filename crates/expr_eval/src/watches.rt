@@ -9,7 +9,7 @@ use crate::blocks::{BLOCK, days_in_block, is_passed};
 use crate::operations::compare_aligned;
 use crate::stops::{Stop, is_wanted};
 use fixing_files::{FixedDay, Fixings};
-use term_core::{CmpOp, Missing, Value, days_later};
+use term_model::{CmpOp, Missing, Value, days_later};
 
 /// What is asked of a value: whether it is true, or how it compares with a number after it is
 /// multiplied.

@@ -2,7 +2,7 @@
 
 use contract_parse::ParseErr;
 use flow_eval::FlowErr;
-use term_core::CheckErr;
+use term_model::CheckErr;
 use thiserror::Error;
 
 /// What stopped the program.

@@ -11,8 +11,8 @@
 #![tactic(auto)]
 
 ghost use Rattle.std.specs.Prelude.{[], pos, IfOk};
-ghost use Rattle.term_core.specs.Declarations.{declarations};
-ghost use Rattle.term_core.specs.Terms.{contract};
+ghost use Rattle.term_model.specs.Declarations.{declarations};
+ghost use Rattle.term_model.specs.Terms.{contract};
 ghost use Rattle.flow_eval.specs.FlowAnswers.{AreKnownFlows};
 
 mod fault;
@@ -25,9 +25,8 @@ use fixing_files::Fixings;
 use flow_eval::{FlowTable, flows};
 use std::alloc::Global;
 use std::io;
-use term_core::{
-    Contr, Decls, LONGEST_FILE, MOST_COUNTED, Portfolio, counts, has_only_numbers, is_closed,
-};
+use term_model::{Contr, Decls, LONGEST_FILE, MOST_COUNTED, Portfolio};
+use term_core::{counts, has_only_numbers, is_closed};
 
 // The portfolio of a text.
 fn portfolio_of(alloc: Global, text: &str) -> Result<Portfolio, Fault> {

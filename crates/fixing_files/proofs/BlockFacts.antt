@@ -11,7 +11,7 @@ use Rattle.std.proofs.lemmas.Bool.Decides.{nat_tests}
 use Rattle.std.proofs.lemmas.Int.{ints}
 use Rattle.std.proofs.lemmas.List.{get_or-drop, get_or-take, length-append, length-drop, length-take}
 use Rattle.std.proofs.lemmas.Option.{slice_get_read}
-use Rattle.term_core.specs.Values.{num}
+use Rattle.term_model.specs.Values.{num}
 use Rattle.fixing_files.specs.Blocks.{AreBlocks, AreBlocksOf, AreKept, IsBlockOf, IsWithin, block_at, block_days, blocks_at, no_block, number_at}
 use Rattle.fixing_files.specs.Runs.{no_day, run_at}
 use Rattle.fixing_files.specs.declared.blocks.Block.{Block}

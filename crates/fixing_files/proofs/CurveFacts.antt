@@ -4,8 +4,8 @@ use Rattle.std.specs.Prelude.{◌<ℤ◌, ◌≤ℤ◌, int_le, int_lt}
 use Rattle.std.specs.List.Sorted.{IsPartitionPoint, IsPartitionedBy}
 use Rattle.std.proofs.lemmas.Bool.{cases_Bool}
 use Rattle.std.proofs.lemmas.Int.{ints}
-use Rattle.term_core.specs.Factors.{HasFactors, IsCurve, IsFactor, Rises, discount_factor, last_factor}
-use Rattle.term_core.specs.LawsFactors.{CurvesAnswerFactors}
+use Rattle.term_model.specs.Factors.{HasFactors, IsCurve, IsFactor, Rises, discount_factor, last_factor}
+use Rattle.term_model.specs.LawsFactors.{CurvesAnswerFactors}
 use Rattle.fixing_files.specs.Curves.{AreNear, IsKept, rows_of}
 use Rattle.fixing_files.specs.declared.curves.CurveStep.{CurveStep}
 

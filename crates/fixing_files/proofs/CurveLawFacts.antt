@@ -1,7 +1,7 @@
 -- A table of discount factors has one answer.
 use Rattle.std.proofs.Common.{◌≡◌, ◌∙◌, ◌⊎◌, inl, inr, ℕ, ◌+◌, ◌≤◌, List, [], ◌∷◌, ◌++◌, length, Option, Some, None, Result, Ok, Err, refl, sym, ap, ap₂, subst, arith, append_assoc}
 use Rattle.std.proofs.lemmas.List.{length-append}
-use Rattle.term_core.specs.Factors.{CurveRow, IsCurve}
+use Rattle.term_model.specs.Factors.{CurveRow, IsCurve}
 use Rattle.fixing_files.specs.CurveRecords.{curve_header, row_said}
 use Rattle.fixing_files.specs.CurveSteps.{BeginsCurve, IsFront, TellsNext, broken_behind, is_curve_header, last_of}
 use Rattle.fixing_files.specs.CurveTables.{BreaksCurve, HoldsCurve, IsFirstCurveFault, SaysRow, SayRows}

@@ -6,7 +6,7 @@ use Rattle.std.proofs.lemmas.Bool.Decides.{nat_tests}
 use Rattle.std.proofs.lemmas.Int.{ints}
 use Rattle.std.proofs.lemmas.Option.{slice_get_within}
 use Rattle.decimal.specs.Mantissas.{decimal_of}
-use Rattle.term_core.specs.Factors.{CurveRow, HasFactors, IsFactor, Rises}
+use Rattle.term_model.specs.Factors.{CurveRow, HasFactors, IsFactor, Rises}
 use Rattle.fixing_files.specs.CurveRecords.{factor_said, offset_said, row_said, row_with, within_factors, within_offsets}
 use Rattle.fixing_files.specs.CurveSteps.{BeginsCurve, IsFront, TellsNext, broken_behind, last_of}
 use Rattle.fixing_files.specs.CurveTables.{BreaksCurve, SaysRow, SayRows}

@@ -2,7 +2,7 @@
 -- the first record that breaks a rule.
 use Rattle.std.proofs.Common.{true, false, ◌≡◌, ◌≢◌, ◌∙◌, inl, inr, ℕ, zero, suc, ◌+◌, ◌<◌, ◌≤◌, List, [], ◌∷◌, ◌++◌, length, Option, Some, None, Result, Ok, Err, slice_get, refl, sym, ap, subst, arith, add-one}
 use Rattle.std.proofs.lemmas.Bool.{cases_lt}
-use Rattle.term_core.specs.Factors.{CurveRow, Rises}
+use Rattle.term_model.specs.Factors.{CurveRow, Rises}
 use Rattle.fixing_files.specs.CurveRecords.{curve_header, row_said}
 use Rattle.fixing_files.specs.CurveSteps.{BeginsCurve, IsFront, TakesRecord, is_curve_header}
 use Rattle.fixing_files.specs.CurveTables.{AnswersCurve, BreaksCurve, HoldsCurve, IsFirstCurveFault, SaysRow, SayRows}

@@ -7,7 +7,7 @@ use Rattle.std.specs.Ordering.{int_eq}
 use Rattle.std.proofs.lemmas.Int.{ints}
 use Rattle.std.proofs.lemmas.List.{get_or-take, get_or_append_left, get_or_push, length-take, length_push, take_more}
 use Rattle.std.proofs.lemmas.List.Elements.{Contains-append_left, Contains-push, Contains-push_cases}
-use Rattle.term_core.specs.declared.values.Value.{Value}
+use Rattle.term_model.specs.declared.values.Value.{Value}
 use Rattle.fixing_files.specs.Runs.{IsRising, day_at, no_day}
 use Rattle.fixing_files.specs.Rows.{HasOwnNumbers, day_of_row, same_value}
 use Rattle.fixing_files.specs.Folds.{Clashes, Comes, Folds, HeadIs, HoldsDays, IsBefore, IsFirstDay, IsFirstRow, IsHead, IsInOrder, IsKept, IsLeast, first_of_day, lesser}

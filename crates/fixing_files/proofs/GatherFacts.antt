@@ -7,9 +7,9 @@ use Rattle.std.specs.declared.alloc.Global.{Global}
 use Rattle.std.proofs.lemmas.Bool.{and_parts, cases_Bool, cases_lt}
 use Rattle.std.proofs.lemmas.Bool.Decides.{nat_tests}
 use Rattle.std.proofs.lemmas.Slice.Eq.{bytes_eq-Decides}
-use Rattle.term_core.specs.Declarations.{Declarations}
-use Rattle.term_core.specs.Environments.{Place}
-use Rattle.term_core.specs.declared.values.Value.{Value}
+use Rattle.term_model.specs.Declarations.{Declarations}
+use Rattle.term_model.specs.Environments.{Place}
+use Rattle.term_model.specs.declared.values.Value.{Value}
 use Rattle.fixing_files.specs.Records.{Fields, header, said}
 use Rattle.fixing_files.specs.Runs.{AreRising, run_at, values_of}
 use Rattle.fixing_files.specs.Rows.{AreRuns, HaveOwnNumbers, RowAt, same_value}

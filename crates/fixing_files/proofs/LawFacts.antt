@@ -8,12 +8,12 @@ use Rattle.std.proofs.lemmas.Int.{ints}
 use Rattle.std.proofs.lemmas.List.Quantifiers.{position-Some}
 use Rattle.std.proofs.lemmas.Map.Entries.{length-keys_of}
 use Rattle.decimal.specs.Mantissas.{decimal_of}
-use Rattle.term_core.specs.Declarations.{Declarations}
-use Rattle.term_core.specs.Environments.{Place, Environment, IsAdmitted, IsValueOf, held, label_of}
-use Rattle.term_core.specs.declared.label.Label.{Label}
-use Rattle.term_core.specs.declared.label.Label.TheVariants.{Number, Flag}
-use Rattle.term_core.specs.declared.values.Value.{Value}
-use Rattle.term_core.specs.declared.values.Value.TheVariants.{Num as Amount, Truth}
+use Rattle.term_model.specs.Declarations.{Declarations}
+use Rattle.term_model.specs.Environments.{Place, Environment, IsAdmitted, IsValueOf, held, label_of}
+use Rattle.term_model.specs.declared.label.Label.{Label}
+use Rattle.term_model.specs.declared.label.Label.TheVariants.{Number, Flag}
+use Rattle.term_model.specs.declared.values.Value.{Value}
+use Rattle.term_model.specs.declared.values.Value.TheVariants.{Num as Amount, Truth}
 use Rattle.fixing_files.specs.Days.{day_of}
 use Rattle.fixing_files.specs.Records.{Fields, IsFixingDay, day_or_none, day_said, label_named, mantissa_at, placed, said, said_at, value_said, within_bounds, within_days}
 use Rattle.fixing_files.specs.Tables.{Table, StandsAt, Says, IsFirstAt, BreaksAlone, Breaks, Holds, IsPlaced}

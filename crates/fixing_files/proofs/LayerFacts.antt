@@ -10,8 +10,8 @@ use Rattle.std.specs.declared.cmp.Ordering.TheVariants.{Equal, Less, Greater}
 use Rattle.std.proofs.lemmas.Bool.{and_parts, cases_Bool}
 use Rattle.std.proofs.lemmas.Bool.Decides.{Decides-int_eq, nat_tests}
 use Rattle.std.proofs.lemmas.Map.Lookups.{exact_signed, exact_unsigned}
-use Rattle.term_core.specs.Environments.{Environment, Place, held, same_place, value_or}
-use Rattle.term_core.specs.declared.values.Value.{Value}
+use Rattle.term_model.specs.Environments.{Environment, Place, held, same_place, value_or}
+use Rattle.term_model.specs.declared.values.Value.{Value}
 use Rattle.fixing_files.specs.Layers.{HoldSame, entries_held, entry_held, place_order}
 use Rattle.fixing_files.specs.Runs.{AddsUnlessHeld}
 use Rattle.fixing_files.specs.Steps.{place_of}

@@ -4,9 +4,9 @@ use Rattle.std.proofs.lemmas.Bool.{and_parts}
 use Rattle.std.specs.Prelude.{codes}
 use Rattle.std.specs.Str.{bytes_eq}
 use Rattle.csv.specs.Records.{field_at}
-use Rattle.term_core.specs.declared.name.Name.{Name}
-use Rattle.term_core.specs.declared.label.Label.{Label}
-use Rattle.term_core.specs.Limits.{are_labels, is_label}
+use Rattle.term_model.specs.declared.name.Name.{Name}
+use Rattle.term_model.specs.declared.label.Label.{Label}
+use Rattle.term_model.specs.Limits.{are_labels, is_label}
 use Rattle.fixing_files.specs.Records.{Fields}
 use Rattle.fixing_files.specs.Steps.{are_header, is_header, three_of}
 

@@ -5,7 +5,7 @@ use Rattle.std.proofs.lemmas.Int.{ints}
 use Rattle.csv.specs.Machine.{next_record}
 use Rattle.csv.specs.Reading.{records_from, strip_bom}
 use Rattle.decimal.specs.Reading.{read_of}
-use Rattle.term_core.specs.Factors.{CurveRow, IsCurve, discount_factor}
+use Rattle.term_model.specs.Factors.{CurveRow, IsCurve, discount_factor}
 use Rattle.fixing_files.specs.CurveRecords.{curve_header, row_said}
 use Rattle.fixing_files.specs.CurveSteps.{IsFront}
 use Rattle.fixing_files.specs.CurveTables.{HoldsCurve, IsFirstCurveFault}

@@ -2,12 +2,12 @@
 use Rattle.std.proofs.Common.{◌≡◌, ℕ, ℤ, pos, neg_ℤ, List, [], ◌∷◌, Option, Some, None, Result, Ok, Err, true, false, refl}
 use Rattle.std.specs.Prelude.{codes}
 use Rattle.decimal.specs.Reading.{read_of}
-use Rattle.term_core.specs.Declarations.{Declarations}
-use Rattle.term_core.specs.Dates.{epoch_day_of, parts_of, two_of}
-use Rattle.term_core.specs.Environments.{Place}
-use Rattle.term_core.specs.declared.label.Label.TheVariants.{Number, Flag}
-use Rattle.term_core.specs.declared.values.Value.{Value as Reading}
-use Rattle.term_core.specs.declared.values.Value.TheVariants.{Num as Amount, Truth}
+use Rattle.term_model.specs.Declarations.{Declarations}
+use Rattle.term_model.specs.Dates.{epoch_day_of, parts_of, two_of}
+use Rattle.term_model.specs.Environments.{Place}
+use Rattle.term_model.specs.declared.label.Label.TheVariants.{Number, Flag}
+use Rattle.term_model.specs.declared.values.Value.{Value as Reading}
+use Rattle.term_model.specs.declared.values.Value.TheVariants.{Num as Amount, Truth}
 use Rattle.fixing_files.specs.Days.{day_named, day_of}
 use Rattle.fixing_files.specs.Records.{Fields, said}
 use Rattle.fixing_files.specs.declared.faults.RowKind.{RowKind}

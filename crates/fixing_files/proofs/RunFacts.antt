@@ -13,9 +13,9 @@ use Rattle.std.proofs.lemmas.Int.{ints}
 use Rattle.std.proofs.lemmas.List.Edits.{length-insert, get_or-insert_below, get_or-insert_at, get_or-insert_above}
 use Rattle.std.proofs.lemmas.List.Sorted.{IsNonDecreasingBy-from_default}
 use Rattle.std.proofs.lemmas.Option.{slice_get_read}
-use Rattle.term_core.specs.Declarations.{Declarations}
-use Rattle.term_core.specs.Environments.{Environment, IsAdmitted, IsValueOf, Place, held, label_of, same_place}
-use Rattle.term_core.specs.declared.values.Value.{Value}
+use Rattle.term_model.specs.Declarations.{Declarations}
+use Rattle.term_model.specs.Environments.{Environment, IsAdmitted, IsValueOf, Place, held, label_of, same_place}
+use Rattle.term_model.specs.declared.values.Value.{Value}
 use Rattle.fixing_files.specs.Runs.{AddsPair, AreRising, IsRising, LendsDays, day_at, no_day, placed_at, run_at, value_on, values_from, values_of}
 use Rattle.fixing_files.specs.RunPlaces.{IsGapFor, IsOn}
 use Rattle.fixing_files.specs.declared.runs.FixedDay.{FixedDay}

@@ -14,7 +14,7 @@ use Rattle.std.proofs.lemmas.Int.{ints}
 use Rattle.std.proofs.lemmas.List.{length_push}
 use Rattle.std.proofs.lemmas.List.Elements.{Contains-push_cases, Contains-append_left, Contains-push}
 use Rattle.std.proofs.lemmas.List.Sorted.{Contains-permutation, IsPermutation-sym, ranks_by, sorted_far}
-use Rattle.term_core.specs.declared.values.Value.{Value}
+use Rattle.term_model.specs.declared.values.Value.{Value}
 use Rattle.fixing_files.specs.Runs.{IsRising, day_at, no_day, run_at}
 use Rattle.fixing_files.specs.Rows.{AreRuns, HasOwnNumbers, HasRisen, HasRow, HasRows, HaveOwnNumbers, IsRun, RowAt, row_at, row_from}
 use Rattle.fixing_files.specs.Folds.{Clashes, ClashesAt, HoldsDays, IsBefore, IsFirstRow, IsInOrder, IsLeast, Settles, SettlesAll, lesser}

@@ -1,9 +1,9 @@
 -- Records of a table that goes on: what holds of a record in the front part holds in the whole.
 use Rattle.std.proofs.Common.{◌≡◌, ◌∙◌, inl, inr, ℕ, zero, suc, ◌+◌, ◌≤◌, ◌<◌, [], ◌∷◌, ◌++◌, length, Some, slice_get, refl, sym, arith, add-one}
 use Rattle.std.proofs.lemmas.Option.{slice_get_within}
-use Rattle.term_core.specs.Declarations.{Declarations}
-use Rattle.term_core.specs.Environments.{Place}
-use Rattle.term_core.specs.declared.values.Value.{Value}
+use Rattle.term_model.specs.Declarations.{Declarations}
+use Rattle.term_model.specs.Environments.{Place}
+use Rattle.term_model.specs.declared.values.Value.{Value}
 use Rattle.fixing_files.specs.Records.{Fields}
 use Rattle.fixing_files.specs.Tables.{Table, record_at, StandsAt, Says, IsFirstAt, Conflicts, Breaks}
 use Rattle.fixing_files.specs.declared.faults.RowKind.{RowKind}

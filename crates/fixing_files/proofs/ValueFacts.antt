@@ -1,9 +1,9 @@
 -- Values are compared.
 use Rattle.std.proofs.Common.{◌≡◌, ◌≢◌, Bool, true, false, refl, sym, ap, subst}
 use Rattle.std.proofs.lemmas.Bool.Decides.{Decides-int_eq}
-use Rattle.term_core.specs.declared.values.Value.{Value}
+use Rattle.term_model.specs.declared.values.Value.{Value}
 use Rattle.fixing_files.specs.Rows.{same_truth, same_value}
-use Rattle.term_core.specs.declared.values.Value.TheVariants.{Num as Amount, Truth}
+use Rattle.term_model.specs.declared.values.Value.TheVariants.{Num as Amount, Truth}
 
 truths : (a b : Bool) → same_truth a b ≡ true → a ≡ b
 truths true b h = sym h

@@ -2,7 +2,7 @@
 use Rattle.std.specs.Prelude.{◌≡◌, ◌≢◌, ◌<◌, ◌≤ℤ◌, ◌/◌, ℕ, zero, suc, ℤ, pos, List, [], ◌∷◌, length, slice_index_or}
 use Rattle.std.specs.declared.vec.Vec.{Vec}
 use Rattle.std.specs.declared.alloc.Global.{Global}
-use Rattle.term_core.specs.Values.{num}
+use Rattle.term_model.specs.Values.{num}
 use Rattle.fixing_files.specs.Runs.{no_day, run_at}
 use Rattle.fixing_files.specs.declared.blocks.Block.{Block}
 use Rattle.fixing_files.specs.declared.runs.FixedDay.{FixedDay}

@@ -1,9 +1,9 @@
 -- What one record of a table of discount factors says: a row of a curve, which is an offset in days and a factor. Its two
 -- fields are judged in their order, and the first rule that one of them breaks counts.
 use Rattle.std.specs.Prelude.{ℕ, ℤ, pos, ◌^◌, ◌&&◌, nat_le, int_le, List, [], ◌∷◌, Option, Some, None, Result, Ok, Err, if◌then◌else◌, codes}
-use Rattle.term_core.specs.Limits.{last_curve_offset}
+use Rattle.term_model.specs.Limits.{last_curve_offset}
 use Rattle.decimal.specs.Mantissas.{decimal_of}
-use Rattle.term_core.specs.Factors.{CurveRow}
+use Rattle.term_model.specs.Factors.{CurveRow}
 use Rattle.fixing_files.specs.Days.{count_of}
 use Rattle.fixing_files.specs.Records.{Fields, mantissa_at}
 use Rattle.fixing_files.specs.declared.faults.RowKind.{RowKind}

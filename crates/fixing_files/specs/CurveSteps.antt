@@ -2,7 +2,7 @@
 -- which rise from 0. These are for the private steps of reading.
 use Rattle.std.specs.Prelude.{◌≡◌, ◌⊎◌, ◌+◌, ◌-◌, ◌==◌, ◌&&◌, ℕ, Bool, false, nat_lt, List, [], ◌∷◌, ◌++◌, length, Option, Some, None, Result, Ok, Err, slice_get, if◌then◌else◌, codes}
 use Rattle.std.specs.Str.{bytes_eq}
-use Rattle.term_core.specs.Factors.{CurveRow, IsCurve}
+use Rattle.term_model.specs.Factors.{CurveRow, IsCurve}
 use Rattle.fixing_files.specs.CurveRecords.{curve_header, row_said}
 use Rattle.fixing_files.specs.CurveTables.{AnswersCurve, IsFirstCurveFault, SayRows}
 use Rattle.fixing_files.specs.Curves.{AreNear, row_of}

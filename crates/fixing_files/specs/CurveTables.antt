@@ -3,7 +3,7 @@
 -- each further one above the row before. A table is refused at the first record that breaks a rule, and else it holds the
 -- curve of its rows.
 use Rattle.std.specs.Prelude.{◌≡◌, ◌≢◌, ◌⊎◌, ◌≤◌, ◌+◌, ℕ, List, [], ◌∷◌, Some, None, Result, Ok, Err}
-use Rattle.term_core.specs.Factors.{CurveRow, IsCurve}
+use Rattle.term_model.specs.Factors.{CurveRow, IsCurve}
 use Rattle.fixing_files.specs.CurveRecords.{curve_header, row_said}
 use Rattle.fixing_files.specs.Records.{Fields}
 use Rattle.fixing_files.specs.Tables.{StandsAt, Table, record_at}

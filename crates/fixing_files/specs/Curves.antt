@@ -1,7 +1,7 @@
 -- Curves as they are kept: rows of an offset in days and a factor. What they stand for is the list of rows of the model.
 use Rattle.std.specs.Prelude.{◌≤◌, List, [], ◌∷◌, map}
-use Rattle.term_core.specs.Limits.{last_curve_offset}
-use Rattle.term_core.specs.Factors.{CurveRow, IsCurve}
+use Rattle.term_model.specs.Limits.{last_curve_offset}
+use Rattle.term_model.specs.Factors.{CurveRow, IsCurve}
 use Rattle.fixing_files.specs.declared.curves.CurveStep.{CurveStep}
 
 abbrev pub row_of : CurveStep → CurveRow

@@ -2,7 +2,7 @@
 -- date `dddd-dd-dd`, whose day is its distance from the origin.
 use Rattle.std.specs.Prelude.{ℕ, ℤ, pos, neg_ℤ, ◌-ℤ◌, ◌==◌, nat_le, List, [], ◌∷◌, length, Option, Some, None, option_map, Result, Ok, Err, if◌then◌else◌}
 use Rattle.decimal.specs.Reading.{digits_of}
-use Rattle.term_core.specs.Dates.{epoch_day_of}
+use Rattle.term_model.specs.Dates.{epoch_day_of}
 use Rattle.fixing_files.specs.declared.days.DayFault.{DayFault}
 use Rattle.fixing_files.specs.declared.days.DayFault.TheVariants.{NotDay, NoOrigin}
 use Rattle.fixing_files.specs.declared.days.NamedDay.{NamedDay}

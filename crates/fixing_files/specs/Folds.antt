@@ -2,7 +2,7 @@
 -- record of its day. These are for the private steps of reading.
 use Rattle.std.specs.Prelude.{◌≡◌, ◌≢◌, ◌↔◌, ◌≤◌, ◌<◌, ◌≤ℤ◌, nat_le, ℕ, ℤ, List, [], ◌∷◌, ◌++◌, length, Option, Some, None, if◌then◌else◌, slice_index_or, Contains}
 use Rattle.std.specs.Ordering.{int_eq}
-use Rattle.term_core.specs.declared.values.Value.{Value}
+use Rattle.term_model.specs.declared.values.Value.{Value}
 use Rattle.fixing_files.specs.Runs.{IsRising, run_at}
 use Rattle.fixing_files.specs.Rows.{HasOwnNumbers, RowAt, day_of_row}
 use Rattle.fixing_files.specs.declared.runs.FixedDay.{FixedDay}

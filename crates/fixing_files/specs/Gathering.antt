@@ -1,9 +1,9 @@
 -- What is known of a table after some of its records: none broke a rule by itself, and the rows of each label are what
 -- they say. These are for the private steps of reading.
 use Rattle.std.specs.Prelude.{◌≡◌, ◌↔◌, ◌⊎◌, ◌+◌, ◌≤◌, ◌==◌, ℕ, true, false, List, length, Option, Some, None, Result, Ok, Err, if◌then◌else◌}
-use Rattle.term_core.specs.Declarations.{Declarations}
-use Rattle.term_core.specs.Environments.{Place}
-use Rattle.term_core.specs.declared.values.Value.{Value}
+use Rattle.term_model.specs.Declarations.{Declarations}
+use Rattle.term_model.specs.Environments.{Place}
+use Rattle.term_model.specs.declared.values.Value.{Value}
 use Rattle.fixing_files.specs.Records.{Fields, said}
 use Rattle.fixing_files.specs.Rows.{AddsRowAt, AreRuns, RowAt, SameRows}
 use Rattle.fixing_files.specs.Steps.{is_header}

@@ -1,6 +1,6 @@
 -- What a walk goes by, as clauses see it: declarations, and fixings that they admit.
-use Rattle.term_core.specs.Declarations.{Declarations}
-use Rattle.term_core.specs.Environments.{Environment}
+use Rattle.term_model.specs.Declarations.{Declarations}
+use Rattle.term_model.specs.Environments.{Environment}
 
 pub record Knowledge : Type 0 where
   pub decls : Declarations

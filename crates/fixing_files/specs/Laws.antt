@@ -4,8 +4,8 @@ use Rattle.std.specs.Prelude.{◌≡◌, ◌↔◌, ℕ, ◌-◌, ◌≤◌, ◌
 use Rattle.decimal.specs.DecimalText.{IsDecimalText}
 use Rattle.decimal.specs.Mantissas.{decimal_of}
 use Rattle.decimal.specs.Rounding.{raised}
-use Rattle.term_core.specs.Declarations.{Declarations}
-use Rattle.term_core.specs.Environments.{Environment, Place, held}
+use Rattle.term_model.specs.Declarations.{Declarations}
+use Rattle.term_model.specs.Environments.{Environment, Place, held}
 use Rattle.fixing_files.specs.Records.{mantissa_at}
 use Rattle.fixing_files.specs.Tables.{Table, IsFirstFault, Holds}
 use Rattle.fixing_files.specs.declared.faults.RowFault.{RowFault}

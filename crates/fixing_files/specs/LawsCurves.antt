@@ -1,7 +1,7 @@
 -- The laws of tables of discount factors. A table has one answer: it is refused at one record for one rule, or it holds one
 -- curve.
 use Rattle.std.specs.Prelude.{◌≡◌, ◌⊎◌, List}
-use Rattle.term_core.specs.Factors.{CurveRow}
+use Rattle.term_model.specs.Factors.{CurveRow}
 use Rattle.fixing_files.specs.CurveTables.{HoldsCurve, IsFirstCurveFault}
 use Rattle.fixing_files.specs.Tables.{Table}
 use Rattle.fixing_files.specs.declared.faults.RowFault.{RowFault}

@@ -3,8 +3,8 @@ use Rattle.std.specs.Prelude.{◌≡◌, ◌++◌, map, Option, Some, None}
 use Rattle.std.specs.Borrow.{Bor}
 use Rattle.std.specs.BTreeMap.{BTreeMap}
 use Rattle.std.specs.declared.cmp.Ordering.{Ordering}
-use Rattle.term_core.specs.Environments.{Environment, Place, held}
-use Rattle.term_core.specs.declared.values.Value.{Value}
+use Rattle.term_model.specs.Environments.{Environment, Place, held}
+use Rattle.term_model.specs.declared.values.Value.{Value}
 use Rattle.fixing_files.specs.Steps.{place_of}
 use Rattle.fixing_files.specs.contracts.records.PlaceOrd.TheImpl as place_ord
 use Rattle.fixing_files.specs.declared.records.Place.{Place as Spot}

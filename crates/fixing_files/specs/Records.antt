@@ -3,16 +3,16 @@
 use Rattle.std.specs.Prelude.{ℕ, ◌-◌, ℤ, pos, neg_ℤ, ◌&&◌, ◌≤ℤ◌, nat_le, int_le, true, false, List, [], ◌∷◌, Option, Some, None, Result, Ok, Err, if◌then◌else◌, position, codes}
 use Rattle.std.specs.Map.{keys_of}
 use Rattle.std.specs.Str.{bytes_eq}
-use Rattle.term_core.specs.Limits.{last_fixed_day}
+use Rattle.term_model.specs.Limits.{last_fixed_day}
 use Rattle.decimal.specs.declared.reading.Decimal.{Decimal}
 use Rattle.decimal.specs.Mantissas.{mantissa, decimal_of}
 use Rattle.decimal.specs.Rounding.{raised}
-use Rattle.term_core.specs.Declarations.{Declarations}
-use Rattle.term_core.specs.Environments.{Place, label_of}
-use Rattle.term_core.specs.declared.label.Label.{Label}
-use Rattle.term_core.specs.declared.label.Label.TheVariants.{Number, Flag}
-use Rattle.term_core.specs.declared.values.Value.{Value as Reading}
-use Rattle.term_core.specs.declared.values.Value.TheVariants.{Num as Amount, Truth}
+use Rattle.term_model.specs.Declarations.{Declarations}
+use Rattle.term_model.specs.Environments.{Place, label_of}
+use Rattle.term_model.specs.declared.label.Label.{Label}
+use Rattle.term_model.specs.declared.label.Label.TheVariants.{Number, Flag}
+use Rattle.term_model.specs.declared.values.Value.{Value as Reading}
+use Rattle.term_model.specs.declared.values.Value.TheVariants.{Num as Amount, Truth}
 use Rattle.fixing_files.specs.Days.{day_of}
 use Rattle.fixing_files.specs.declared.days.DayFault.{DayFault}
 use Rattle.fixing_files.specs.declared.faults.RowKind.{RowKind}

@@ -2,8 +2,8 @@
 -- reading; `Tables` says what a whole table means.
 use Rattle.std.specs.Prelude.{◌≡◌, ◌↔◌, ◌⊎◌, ◌<◌, ℕ, ℤ, zero, suc, Bool, true, false, List, [], ◌∷◌, length, Option, Some, None, slice_get, slice_index, slice_index_or, Contains, int_lt}
 use Rattle.std.specs.Ordering.{int_eq}
-use Rattle.term_core.specs.declared.values.Value.{Value}
-use Rattle.term_core.specs.declared.values.Value.TheVariants.{Num as Amount, Truth}
+use Rattle.term_model.specs.declared.values.Value.{Value}
+use Rattle.term_model.specs.declared.values.Value.TheVariants.{Num as Amount, Truth}
 use Rattle.fixing_files.specs.Runs.{IsRising, day_at, no_day}
 use Rattle.fixing_files.specs.declared.runs.FixedDay.{FixedDay}
 use Rattle.fixing_files.specs.declared.rows.Row.{Row}

@@ -4,9 +4,9 @@ use Rattle.std.specs.Prelude.{◌≡◌, ◌↔◌, ◌<◌, ◌<ℤ◌, ◌+◌
 use Rattle.std.specs.Ordering.{int_eq}
 use Rattle.std.specs.declared.vec.Vec.{Vec}
 use Rattle.std.specs.declared.alloc.Global.{Global}
-use Rattle.term_core.specs.Environments.{Environment, Place, same_place, held, value_or}
-use Rattle.term_core.specs.declared.values.Value.{Value}
-use Rattle.term_core.specs.declared.values.Value.TheVariants.{Truth}
+use Rattle.term_model.specs.Environments.{Environment, Place, same_place, held, value_or}
+use Rattle.term_model.specs.declared.values.Value.{Value}
+use Rattle.term_model.specs.declared.values.Value.TheVariants.{Truth}
 use Rattle.fixing_files.specs.declared.runs.FixedDay.{FixedDay}
 
 abbrev pub no_day : FixedDay

@@ -10,7 +10,7 @@ use crate::days::count;
 use crate::faults::RowKind;
 use crate::values::mantissa;
 use csv::ByteRecord;
-use term_core::LAST_CURVE_OFFSET;
+use term_model::LAST_CURVE_OFFSET;
 
 // The greatest factor: 10, in units of 10^-9.
 const GREATEST_FACTOR: i128 = 10_000_000_000;

@@ -1,7 +1,7 @@
 //! Tables of curves, record by record.
 
 ghost use Rattle.std.specs.Prelude.{◌≡◌, ◌≤◌, length};
-ghost use Rattle.term_core.specs.Limits.{longest_file};
+ghost use Rattle.term_model.specs.Limits.{longest_file};
 ghost use Rattle.csv.specs.Records.{fields_of};
 ghost use Rattle.fixing_files.specs.Curves.{IsKept, rows_of};
 ghost use Rattle.fixing_files.specs.CurveSteps.{EndsCurve, TakesRecord, TellsNext, broken_behind};

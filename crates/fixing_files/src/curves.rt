@@ -1,11 +1,11 @@
 //! Curves: discount factors by offsets.
 
 ghost use Rattle.std.specs.Prelude.{◌≡◌, ◌^◌, pos};
-ghost use Rattle.term_core.specs.Factors.{IsCurve, IsFactor, discount_factor};
+ghost use Rattle.term_model.specs.Factors.{IsCurve, IsFactor, discount_factor};
 ghost use Rattle.fixing_files.specs.Curves.{AreNear, IsKept, rows_of};
 
 use std::marker::Model;
-use term_core::laws::curves_answer_factors;
+use term_model::laws::curves_answer_factors;
 
 // The factor of a day gone by: 1, in units of 10^-9.
 const UNIT: i128 = 1_000_000_000;
@@ -26,7 +26,7 @@ pub struct Curve {
 
 impl Model for Curve {
     ghost use Rattle.std.specs.Prelude.{List};
-    ghost use Rattle.term_core.specs.Factors.{CurveRow};
+    ghost use Rattle.term_model.specs.Factors.{CurveRow};
     ghost use Rattle.fixing_files.specs.Curves.{IsKept, rows_of};
 
     ghost Value = { List CurveRow };

@@ -1,14 +1,14 @@
 //! Days as tables and command lines give them.
 
 ghost use Rattle.std.specs.Prelude.{◌≡◌, ◌<◌, ◌^◌, true, IfSome, option_map};
-ghost use Rattle.term_core.specs.Dates.{epoch_day_of};
-ghost use Rattle.term_core.specs.Limits.{is_origin};
+ghost use Rattle.term_model.specs.Dates.{epoch_day_of};
+ghost use Rattle.term_model.specs.Limits.{is_origin};
 ghost use Rattle.fixing_files.specs.Days.{count_of, day_named, day_of, number_of, placed_day};
 ghost use Rattle.fixing_files.specs.declared.days.NamedDay.TheVariants.{Date};
 
 use decimal::number_up_to;
-use term_core::epoch_day;
-use term_core::laws::days_of_texts_are_civil;
+use term_model::epoch_day;
+use term_model::laws::days_of_texts_are_civil;
 
 /// Why a text has no day.
 #[derive(Clone, Copy, Debug, PartialEq, Eq)]

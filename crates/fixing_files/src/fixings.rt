@@ -1,8 +1,8 @@
 //! Fixings: values by places.
 
 ghost use Rattle.std.specs.Prelude.{◌≡◌, ◌<◌, ◌^◌, ℕ, [], OnErr, OnOk, vec_len};
-ghost use Rattle.term_core.specs.Declarations.{declarations};
-ghost use Rattle.term_core.specs.Environments.{IsAdmitted, IsValueOf, held, label_of};
+ghost use Rattle.term_model.specs.Declarations.{declarations};
+ghost use Rattle.term_model.specs.Environments.{IsAdmitted, IsValueOf, held, label_of};
 ghost use Rattle.fixing_files.specs.Blocks.{AreBlocks};
 ghost use Rattle.fixing_files.specs.Records.{IsFixingDay};
 ghost use Rattle.fixing_files.specs.Runs.{AddsPair, AddsUnlessHeld, AreRising, IsRising, LendsDays, run_at, values_of};
@@ -12,7 +12,7 @@ use crate::runs::{FixedDay, search, value_on};
 use decimal::NoMemory;
 use std::alloc::Global;
 use std::marker::Model;
-use term_core::{Decls, Value};
+use term_model::{Decls, Value};
 
 /// What was observed: a finite map from places, each a label and a day, to values. It is kept as a
 /// run of days for each label, with blocks of days so that a search may pass over many at once.
@@ -24,7 +24,7 @@ pub struct Fixings {
 }
 
 impl Model for Fixings {
-    ghost use Rattle.term_core.specs.Environments.{Environment};
+    ghost use Rattle.term_model.specs.Environments.{Environment};
 
     ghost Value = { Environment };
 

@@ -2,7 +2,7 @@
 
 use crate::fixings::Fixings;
 use std::marker::Model;
-use term_core::Decls;
+use term_model::Decls;
 
 /// Declarations, and fixings that they admit.
 #[derive(Drop)]
@@ -12,8 +12,8 @@ pub struct Known<'a> {
 }
 
 impl<'a> Model for Known<'a> {
-    ghost use Rattle.term_core.specs.Declarations.{declarations};
-    ghost use Rattle.term_core.specs.Environments.{IsAdmitted};
+    ghost use Rattle.term_model.specs.Declarations.{declarations};
+    ghost use Rattle.term_model.specs.Environments.{IsAdmitted};
     ghost use Rattle.fixing_files.specs.Knowledge.{Knowledge};
 
     ghost Value = { Knowledge };

@@ -1,7 +1,7 @@
 //! Fixings in two layers.
 
 ghost use Rattle.std.specs.Prelude.{◌≡◌, ◌++◌, [], IfOk, OnErr, OnOk};
-ghost use Rattle.term_core.specs.Environments.{held};
+ghost use Rattle.term_model.specs.Environments.{held};
 ghost use Rattle.fixing_files.specs.Layers.{HoldSame};
 ghost use Rattle.fixing_files.specs.Runs.{AddsUnlessHeld};
 ghost use Rattle.fixing_files.specs.Steps.{place_of};
@@ -12,7 +12,7 @@ use decimal::NoMemory;
 use std::alloc::Global;
 use std::collections::BTreeMap;
 use std::marker::Model;
-use term_core::Value;
+use term_model::Value;
 
 /// Fixings of a few places. They are kept in the order of places and not by labels, so they take
 /// memory for what is fixed alone.
@@ -22,7 +22,7 @@ pub struct FewFixings {
 }
 
 impl Model for FewFixings {
-    ghost use Rattle.term_core.specs.Environments.{Environment};
+    ghost use Rattle.term_model.specs.Environments.{Environment};
 
     ghost Value = { Environment };
 
@@ -88,7 +88,6 @@ pub struct LayeredFixings<'a> {
 }
 
 impl<'a> Model for LayeredFixings<'a> {
-    ghost use Rattle.term_core.specs.Environments.{Environment};
 
     ghost Value = { Environment };
 

@@ -2,9 +2,9 @@
 
 ghost use Rattle.std.specs.Prelude.{◌≡◌, ◌∷◌, [], IfSome, Some, option_map, true};
 ghost use Rattle.csv.specs.Records.{fields_of};
-ghost use Rattle.term_core.specs.Declarations.{declarations};
-ghost use Rattle.term_core.specs.Environments.{label_of};
-ghost use Rattle.term_core.specs.Limits.{is_label, is_origin};
+ghost use Rattle.term_model.specs.Declarations.{declarations};
+ghost use Rattle.term_model.specs.Environments.{label_of};
+ghost use Rattle.term_model.specs.Limits.{is_label, is_origin};
 ghost use Rattle.fixing_files.specs.Records.{day_said, label_named, said};
 ghost use Rattle.fixing_files.specs.Steps.{Tells, is_header, three_of};
 
@@ -12,7 +12,7 @@ use crate::days::day_of_text;
 use crate::faults::RowKind;
 use crate::values::value_of;
 use csv::ByteRecord;
-use term_core::{Decls, LAST_FIXED_DAY, Label, Value};
+use term_model::{Decls, LAST_FIXED_DAY, Label, Value};
 
 /// A label, by its number among the declared ones, and a day of the portfolio.
 #[derive(Clone, Copy, Debug, PartialEq, Eq, PartialOrd, Ord, Drop)]

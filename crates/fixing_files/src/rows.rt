@@ -7,7 +7,7 @@ ghost use Rattle.fixing_files.specs.Rows.{AddsRow, AddsRowAt, AreRuns, HasNoRow,
 use crate::runs::FixedDay;
 use decimal::NoMemory;
 use std::alloc::Global;
-use term_core::Value;
+use term_model::Value;
 
 /// The value that a record fixes on a day, and the number of the record.
 #[derive(Clone, Copy, Debug, PartialEq, Eq)]

@@ -4,7 +4,7 @@ ghost use Rattle.std.specs.Prelude.{◌≡◌, IfErr, IfOk, IfSome, Contains};
 ghost use Rattle.fixing_files.specs.Runs.{IsRising, value_on};
 ghost use Rattle.fixing_files.specs.RunPlaces.{IsGapFor, IsOn};
 
-use term_core::Value;
+use term_model::Value;
 
 /// A day of the portfolio on which a label is fixed, and the value.
 #[derive(Clone, Copy, Debug, PartialEq, Eq)]

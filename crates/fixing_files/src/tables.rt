@@ -1,10 +1,10 @@
 //! Tables of fixings, record by record.
 
 ghost use Rattle.std.specs.Prelude.{◌≡◌, ◌≤◌, length, IfOk};
-ghost use Rattle.term_core.specs.Limits.{longest_file};
+ghost use Rattle.term_model.specs.Limits.{longest_file};
 ghost use Rattle.csv.specs.Records.{fields_of};
-ghost use Rattle.term_core.specs.Declarations.{declarations};
-ghost use Rattle.term_core.specs.Environments.{IsAdmitted};
+ghost use Rattle.term_model.specs.Declarations.{declarations};
+ghost use Rattle.term_model.specs.Environments.{IsAdmitted};
 ghost use Rattle.fixing_files.specs.Gathering.{Gathers, Takes, missing};
 ghost use Rattle.fixing_files.specs.Rows.{AreRuns};
 ghost use Rattle.fixing_files.specs.Tables.{Answers, IsPlaced, table_of};
@@ -19,7 +19,7 @@ use crate::rows::{Row, Run, take_row};
 use csv::ByteRecord;
 use decimal::NoMemory;
 use std::alloc::Global;
-use term_core::Decls;
+use term_model::Decls;
 
 // Takes the record of this number, or answers the rule that it breaks by itself.
 fn take(

@@ -2,12 +2,12 @@
 
 ghost use Rattle.std.specs.Prelude.{◌≡◌, ◌≤◌, Some, true};
 ghost use Rattle.decimal.specs.Mantissas.{decimal_of};
-ghost use Rattle.term_core.specs.Limits.{is_label};
+ghost use Rattle.term_model.specs.Limits.{is_label};
 ghost use Rattle.fixing_files.specs.Records.{mantissa_at, truth_said, value_said, within_bounds};
 
 use crate::faults::RowKind;
 use decimal::{decimal_of, widen};
-use term_core::{Label, Value};
+use term_model::{Label, Value};
 
 /// The mantissa of a decimal's text at a scale.
 pub fn mantissa(scale: u8, text: &[u8]) -> Option<i128>

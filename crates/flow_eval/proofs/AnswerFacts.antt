@@ -1,6 +1,6 @@
 -- The flows of a contract over fixings have one answer.
 use Rattle.std.proofs.Common.{◌≡◌, ℕ, ℤ, inl, inr, List, Option, Some, None, Ok, Err, refl, ap, sym, ◌∙◌}
-use Rattle.term_core.specs.Environments.{Place}
+use Rattle.term_model.specs.Environments.{Place}
 use Rattle.flow_eval.specs.declared.faults.FlowErr.{FlowErr}
 use Rattle.flow_eval.specs.declared.faults.FlowErr.TheVariants.{Missing, NoMemory}
 use Rattle.flow_eval.specs.declared.flow_table.FlowRow.{FlowRow}

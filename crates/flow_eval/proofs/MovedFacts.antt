@@ -1,16 +1,16 @@
 -- What is answered for an expression that is read k days later than it is stored.
 use Rattle.std.proofs.Common.{◌≡◌, ℤ, ◌+ℤ◌, List, Option, Some, ap, ap₂, sym, ◌∙◌}
-use Rattle.term_core.specs.Declarations.{Declarations}
-use Rattle.term_core.specs.declared.values.Kind.{Kind}
-use Rattle.term_core.specs.declared.values.Value.{Value}
-use Rattle.term_core.specs.Terms.{Expression}
-use Rattle.term_core.specs.Environments.{Environment, Place}
-use Rattle.term_core.specs.Kinds.{kind_of}
-use Rattle.term_core.specs.Values.{Entry, kind_or}
-use Rattle.term_core.specs.Reads.{first_unfixed}
-use Rattle.term_core.specs.Shifts.{shifted}
-use Rattle.term_core.proofs.ShiftFacts.{kind-shifted, value-shifted}
-use Rattle.term_core.proofs.ReadShiftFacts.{reads-shifted}
+use Rattle.term_model.specs.Declarations.{Declarations}
+use Rattle.term_model.specs.declared.values.Kind.{Kind}
+use Rattle.term_model.specs.declared.values.Value.{Value}
+use Rattle.term_model.specs.Terms.{Expression}
+use Rattle.term_model.specs.Environments.{Environment, Place}
+use Rattle.term_model.specs.Kinds.{kind_of}
+use Rattle.term_model.specs.Values.{Entry, kind_or}
+use Rattle.term_model.specs.Reads.{first_unfixed}
+use Rattle.term_model.specs.Shifts.{shifted}
+use Rattle.term_model.proofs.ShiftFacts.{kind-shifted, value-shifted}
+use Rattle.term_model.proofs.ReadShiftFacts.{reads-shifted}
 use Rattle.expr_eval.specs.Trials.{ValueOrMissing, answer_of, value_unless}
 
 -- it has the kind of the stored one

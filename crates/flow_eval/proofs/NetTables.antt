@@ -7,14 +7,14 @@ use Rattle.std.proofs.lemmas.Int.{ints}
 use Rattle.std.proofs.lemmas.Bool.{cases_lt}
 use Rattle.std.proofs.lemmas.List.Sorted.{All-permutation}
 use Rattle.std.proofs.lemmas.List.Elements.{All-head, All-tail, All-weaker}
-use Rattle.term_core.specs.Declarations.{Declarations}
-use Rattle.term_core.specs.Terms.{Contract}
-use Rattle.term_core.specs.Environments.{Environment, Extends}
-use Rattle.term_core.specs.Flows.{Flow, amount_of, scale_of_contract}
-use Rattle.term_core.specs.Reads.{first_unfixed, reads_of_contract}
-use Rattle.term_core.specs.LawsFlows.{reversed}
-use Rattle.term_core.proofs.FlowFacts.{amounts_opposite}
-use Rattle.term_core.proofs.ReadLawFacts.{amounts_fixed}
+use Rattle.term_model.specs.Declarations.{Declarations}
+use Rattle.term_model.specs.Terms.{Contract}
+use Rattle.term_model.specs.Environments.{Environment, Extends}
+use Rattle.term_model.specs.Flows.{Flow, amount_of, scale_of_contract}
+use Rattle.term_model.specs.Reads.{first_unfixed, reads_of_contract}
+use Rattle.term_model.specs.LawsFlows.{reversed}
+use Rattle.term_model.proofs.FlowFacts.{amounts_opposite}
+use Rattle.term_model.proofs.ReadLawFacts.{amounts_fixed}
 use Rattle.flow_eval.specs.declared.flow_table.FlowRow.{FlowRow}
 use Rattle.flow_eval.specs.declared.flow_table.Slot.{Slot}
 use Rattle.flow_eval.specs.declared.payments.Payment.{Payment}

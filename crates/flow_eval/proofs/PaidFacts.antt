@@ -5,8 +5,8 @@ use Rattle.std.specs.Ordering.{int_eq}
 use Rattle.std.proofs.lemmas.Int.{ints}
 use Rattle.std.proofs.lemmas.Bool.Decides.{nat_tests, Decides-int_eq, Decides-like, same_from_decides}
 use Rattle.std.proofs.lemmas.Bool.{cases_lt}
-use Rattle.term_core.specs.Flows.{Flow, unit_flow, on_day_zero}
-use Rattle.term_core.proofs.FlowFacts.{mul-neg}
+use Rattle.term_model.specs.Flows.{Flow, unit_flow, on_day_zero}
+use Rattle.term_model.proofs.FlowFacts.{mul-neg}
 use Rattle.flow_eval.specs.declared.flow_table.Slot.{Slot}
 use Rattle.flow_eval.specs.declared.payments.Payment.{Payment}
 use Rattle.flow_eval.specs.declared.payments.Transfer.{Transfer}

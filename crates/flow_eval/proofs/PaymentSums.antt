@@ -3,19 +3,19 @@ use Rattle.std.proofs.Common.{◌≡◌, ℕ, ℤ, pos, neg_ℤ, ◌+ℤ◌, ◌
 use Rattle.std.proofs.Math.IntN.{*ℤ_comm, zero-*ℤ, *ℤ-zero}
 use Rattle.std.proofs.lemmas.Int.{ints}
 use Rattle.decimal.specs.Rounding.{raised}
-use Rattle.term_core.specs.Declarations.{Declarations}
-use Rattle.term_core.specs.Terms.{Contract, Zero, Pay, Both, Scale, After, Let, Within}
-use Rattle.term_core.specs.Environments.{Environment}
-use Rattle.term_core.specs.Kinds.{kind_of, scale_of}
-use Rattle.term_core.specs.Values.{Entry, kinds, num, kind_or, value_of, first_true}
-use Rattle.term_core.specs.Flows.{count_of, flow_of, scale_of_contract, unit_flow, on_day_zero}
+use Rattle.term_model.specs.Declarations.{Declarations}
+use Rattle.term_model.specs.Terms.{Contract, Zero, Pay, Both, Scale, After, Let, Within}
+use Rattle.term_model.specs.Environments.{Environment}
+use Rattle.term_model.specs.Kinds.{kind_of, scale_of}
+use Rattle.term_model.specs.Values.{Entry, kinds, num, kind_or, value_of, first_true}
+use Rattle.term_model.specs.Flows.{count_of, flow_of, scale_of_contract, unit_flow, on_day_zero}
 use Rattle.flow_eval.specs.declared.flow_table.Slot.{Slot}
 use Rattle.flow_eval.specs.declared.payments.Payment.{Payment}
 use Rattle.flow_eval.specs.Netting.{same_slot}
 use Rattle.flow_eval.specs.Payments.{multiplied, payments_of}
 use Rattle.flow_eval.proofs.SumFacts.{share, sum_at, sum_at-append}
-use Rattle.term_core.proofs.FlowFacts.{mul-neg}
-use Rattle.term_core.proofs.Products.{by_sign, mul-swap, parts_raised, raised-raised, sum-mul, neg_sum}
+use Rattle.term_model.proofs.FlowFacts.{mul-neg}
+use Rattle.term_model.proofs.Products.{by_sign, mul-swap, parts_raised, raised-raised, sum-mul, neg_sum}
 use Rattle.flow_eval.proofs.PaidFacts.{flow_at, times_one, sum_at-paid}
 
 share_by : (b : Bool) (x v : ℤ) → (if b then x *ℤ v else pos 0) ≡ (if b then x else pos 0) *ℤ v

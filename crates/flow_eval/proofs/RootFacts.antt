@@ -6,17 +6,17 @@ use Rattle.std.proofs.lemmas.Int.{ints}
 use Rattle.std.proofs.lemmas.Bool.Decides.{nat_tests}
 use Rattle.std.proofs.lemmas.List.Elements.{All-weaker}
 use Rattle.std.proofs.lemmas.List.Sorted.{All-permutation}
-use Rattle.term_core.specs.Declarations.{Declarations}
-use Rattle.term_core.specs.Terms.{Contract, Zero, Pay, Both, Scale, After, Let, Within}
-use Rattle.term_core.specs.Environments.{Environment, IsAdmitted, Place}
-use Rattle.term_core.specs.Values.{Entry}
-use Rattle.term_core.specs.Flows.{scale_of_contract}
-use Rattle.term_core.specs.Reads.{first_unfixed}
-use Rattle.term_core.specs.Bounds.{greatest_total}
-use Rattle.term_core.specs.Sizes.{height_of_contract, nodes_of_contract, past_of_contract, reach, work_of_contract}
-use Rattle.term_core.specs.Smallness.{days_of_contract, is_small, within_limits}
-use Rattle.term_core.specs.Acceptance.{IsAccepted}
-use Rattle.term_core.proofs.TimeFacts.{whole_passes}
+use Rattle.term_model.specs.Declarations.{Declarations}
+use Rattle.term_model.specs.Terms.{Contract, Zero, Pay, Both, Scale, After, Let, Within}
+use Rattle.term_model.specs.Environments.{Environment, IsAdmitted, Place}
+use Rattle.term_model.specs.Values.{Entry}
+use Rattle.term_model.specs.Flows.{scale_of_contract}
+use Rattle.term_model.specs.Reads.{first_unfixed}
+use Rattle.term_model.specs.Bounds.{greatest_total}
+use Rattle.term_model.specs.Sizes.{height_of_contract, nodes_of_contract, past_of_contract, reach, work_of_contract}
+use Rattle.term_model.specs.Smallness.{days_of_contract, is_small, within_limits}
+use Rattle.term_model.specs.Acceptance.{IsAccepted}
+use Rattle.term_model.proofs.TimeFacts.{whole_passes}
 use Rattle.interval_check.specs.Within.{KeepsLimits}
 use Rattle.interval_check.proofs.GuaranteeFacts.{accepted_are_safe, accepted_meet_rules}
 use Rattle.expr_eval.specs.Rooms.{Room}

@@ -2,7 +2,7 @@
 use Rattle.std.proofs.Common.{◌≡◌, ◌<◌, ℤ, pos, ◌<ℤ◌, ◌⊎◌, inl, inr, List, [], ◌∷◌, get_or, refl, ap, sym, ◌∙◌, subst, arith}
 use Rattle.std.specs.List.{All, Contains}
 use Rattle.std.proofs.lemmas.List.Elements.{All-head, All-tail, All-weaker, All-contains, Contains-append_cases, Contains-push_cases}
-use Rattle.term_core.specs.Flows.{Flow}
+use Rattle.term_model.specs.Flows.{Flow}
 use Rattle.flow_eval.specs.declared.flow_table.FlowRow.{FlowRow}
 use Rattle.flow_eval.specs.Tables.{AreOrdered, IsPaid, IsTable, Precedes, TablesAreOne, flow_in, row_for, slot_of}
 use Rattle.flow_eval.proofs.SlotFacts.{not_both, not_itself}

@@ -3,20 +3,20 @@
 use Rattle.std.proofs.Common.{◌≡◌, ℕ, zero, suc, ℤ, pos, ◌+ℤ◌, ◌-ℤ◌, ◌≤ℤ◌, ◌≤◌, ◌<◌, ◌-◌, min, Bool, true, false, int_lt, if◌then◌else◌, List, [], ◌∷◌, ◌++◌, Option, Some, None, Ok, Err, refl, ap, sym, ◌∙◌, subst, inl, inr, arith, unsigned_abs}
 use Rattle.std.proofs.lemmas.Int.{ints}
 use Rattle.std.proofs.lemmas.Bool.{cases_lt}
-use Rattle.term_core.specs.Declarations.{Declarations}
-use Rattle.term_core.specs.declared.values.Value.{Value}
-use Rattle.term_core.specs.Terms.{Contract, Zero, Pay, Both, Scale, After, Let, Within}
-use Rattle.term_core.specs.Environments.{Environment, Place}
-use Rattle.term_core.specs.Kinds.{kind_of, scale_of}
-use Rattle.term_core.specs.Values.{Entry, kinds, num, truth, kind_or, value_of, first_of, first_true}
-use Rattle.term_core.specs.Flows.{count_of}
-use Rattle.term_core.specs.Reads.{first_unfixed, is_fixed, live, reads_of, reads_of_contract, steps_before, tested, upto}
+use Rattle.term_model.specs.Declarations.{Declarations}
+use Rattle.term_model.specs.declared.values.Value.{Value}
+use Rattle.term_model.specs.Terms.{Contract, Zero, Pay, Both, Scale, After, Let, Within}
+use Rattle.term_model.specs.Environments.{Environment, Place}
+use Rattle.term_model.specs.Kinds.{kind_of, scale_of}
+use Rattle.term_model.specs.Values.{Entry, kinds, num, truth, kind_or, value_of, first_of, first_true}
+use Rattle.term_model.specs.Flows.{count_of}
+use Rattle.term_model.specs.Reads.{first_unfixed, is_fixed, live, reads_of, reads_of_contract, steps_before, tested, upto}
 use Rattle.flow_eval.specs.declared.payments.Payment.{Payment}
 use Rattle.flow_eval.specs.Payments.{multiplied, payments_of, some_paid}
 use Rattle.expr_eval.specs.Trials.{DayOrMissing, ValueOrMissing, answer_of, first_tried, missing_at, or_next, value_unless}
 use Rattle.flow_eval.specs.Walks.{PaymentsOrMissing, days_to_try, payments_unless, then_branch, then_factor, then_others, walk_of}
 use Rattle.flow_eval.proofs.PaymentFacts.{after_last, payments_live, payments_none, shorter, lower}
-use Rattle.term_core.proofs.FirstFacts.{or_last}
+use Rattle.term_model.proofs.FirstFacts.{or_last}
 
 -- ---- the first place that is not fixed
 

@@ -1,5 +1,5 @@
 -- Why a contract has no flow table: memory is short, or a place that it reads is not fixed.
-use Rattle.term_core.specs.declared.values.Missing.{Missing as MissingPlace}
+use Rattle.term_model.specs.declared.values.Missing.{Missing as MissingPlace}
 use Rattle.flow_eval.specs.declared.faults.FlowErr.{FlowErr}
 use Rattle.flow_eval.specs.declared.faults.FlowErr.TheVariants.{Missing, NoMemory}
 

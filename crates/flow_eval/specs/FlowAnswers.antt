@@ -3,10 +3,10 @@
 -- where every place that is read is fixed. Want of memory says nothing.
 use Rattle.std.specs.Prelude.{ℤ, pos, ◌-ℤ◌, ◌≡◌, ◌⊎◌, List, [], Some, None, Result, Ok, Err}
 use Rattle.std.specs.List.{All}
-use Rattle.term_core.specs.Declarations.{Declarations}
-use Rattle.term_core.specs.Terms.{Contract}
-use Rattle.term_core.specs.Environments.{Environment, Place, Extends}
-use Rattle.term_core.specs.Reads.{first_unfixed, reads_of_contract}
+use Rattle.term_model.specs.Declarations.{Declarations}
+use Rattle.term_model.specs.Terms.{Contract}
+use Rattle.term_model.specs.Environments.{Environment, Place, Extends}
+use Rattle.term_model.specs.Reads.{first_unfixed, reads_of_contract}
 use Rattle.flow_eval.specs.declared.faults.FlowErr.{FlowErr}
 use Rattle.flow_eval.specs.declared.faults.FlowErr.TheVariants.{Missing, NoMemory}
 use Rattle.flow_eval.specs.declared.flow_table.FlowRow.{FlowRow}

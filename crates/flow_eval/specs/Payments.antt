@@ -4,12 +4,12 @@
 use Rattle.std.specs.Prelude.{ℕ, ℤ, pos, neg_ℤ, ◌+ℤ◌, ◌*ℤ◌, ◌-◌, ◌^◌, ◌≤◌, ◌==◌, ◌||◌, unsigned_abs, int_lt, nat_lt, min, max, map, Bool, true, false, List, [], ◌∷◌, ◌++◌, Some, None, if◌then◌else◌}
 use Rattle.std.specs.List.{All}
 use Rattle.decimal.specs.Rounding.{raised}
-use Rattle.term_core.specs.Declarations.{Declarations}
-use Rattle.term_core.specs.Terms.{Contract, Zero, Pay, Both, Scale, After, Let, Within}
-use Rattle.term_core.specs.Environments.{Environment}
-use Rattle.term_core.specs.Kinds.{scale_of}
-use Rattle.term_core.specs.Values.{Entry, kinds, num, value_of, first_true}
-use Rattle.term_core.specs.Flows.{count_of}
+use Rattle.term_model.specs.Declarations.{Declarations}
+use Rattle.term_model.specs.Terms.{Contract, Zero, Pay, Both, Scale, After, Let, Within}
+use Rattle.term_model.specs.Environments.{Environment}
+use Rattle.term_model.specs.Kinds.{scale_of}
+use Rattle.term_model.specs.Values.{Entry, kinds, num, value_of, first_true}
+use Rattle.term_model.specs.Flows.{count_of}
 use Rattle.interval_check.specs.Sums.{entry_of}
 use Rattle.flow_eval.specs.declared.payments.Payment.{Payment}
 use Rattle.flow_eval.specs.declared.payments.Transfer.{Transfer}

@@ -1,13 +1,13 @@
 -- When a part of an accepted contract can be walked: the names round it have entries that stand for values within their
 -- ranges, there is room for the names in it, and its days and decimals are within those of the whole.
 use Rattle.std.specs.Prelude.{ℕ, ℤ, pos, ◌+ℤ◌, ◌≤ℤ◌, ◌≤◌, ◌+◌, max, List, [], Option, Some, None}
-use Rattle.term_core.specs.Declarations.{Declarations}
-use Rattle.term_core.specs.Terms.{Expression, Contract, Zero, Pay, Both, Scale, After, Let, Within}
-use Rattle.term_core.specs.Environments.{Environment, IsAdmitted, Place}
-use Rattle.term_core.specs.Values.{Entry, kinds}
-use Rattle.term_core.specs.Flows.{scale_of_contract}
-use Rattle.term_core.specs.Bounds.{Range}
-use Rattle.term_core.specs.Acceptance.{IsAccepted}
+use Rattle.term_model.specs.Declarations.{Declarations}
+use Rattle.term_model.specs.Terms.{Expression, Contract, Zero, Pay, Both, Scale, After, Let, Within}
+use Rattle.term_model.specs.Environments.{Environment, IsAdmitted, Place}
+use Rattle.term_model.specs.Values.{Entry, kinds}
+use Rattle.term_model.specs.Flows.{scale_of_contract}
+use Rattle.term_model.specs.Bounds.{Range}
+use Rattle.term_model.specs.Acceptance.{IsAccepted}
 use Rattle.interval_check.specs.Nodes.{ContractMeetsRules}
 use Rattle.interval_check.specs.Parts.{StandsIn}
 use Rattle.interval_check.specs.Within.{AreWithin, KeepsLimits}

@@ -3,11 +3,11 @@
 -- higher party; the places of assets and parties are those of the declarations.
 use Rattle.std.specs.Prelude.{ℤ, pos, neg_ℤ, ◌-ℤ◌, ◌<ℤ◌, ◌≤ℤ◌, ◌<◌, ◌≤◌, ◌^◌, ◌≡◌, unsigned_abs, ◌⊎◌, min, max, List, [], ◌∷◌}
 use Rattle.std.specs.List.{All, Contains}
-use Rattle.term_core.specs.Declarations.{Declarations}
-use Rattle.term_core.specs.Terms.{Contract}
-use Rattle.term_core.specs.Environments.{Environment}
-use Rattle.term_core.specs.Flows.{Flow, amount_of}
-use Rattle.term_core.specs.LawsFlows.{reversed}
+use Rattle.term_model.specs.Declarations.{Declarations}
+use Rattle.term_model.specs.Terms.{Contract}
+use Rattle.term_model.specs.Environments.{Environment}
+use Rattle.term_model.specs.Flows.{Flow, amount_of}
+use Rattle.term_model.specs.LawsFlows.{reversed}
 use Rattle.flow_eval.specs.declared.flow_table.FlowRow.{FlowRow}
 use Rattle.flow_eval.specs.declared.flow_table.Slot.{Slot}
 

@@ -3,14 +3,14 @@
 -- places that these were read from, as in `Reads`.
 use Rattle.std.specs.Prelude.{ℕ, suc, ℤ, pos, ◌+ℤ◌, ◌-ℤ◌, ◌-◌, min, int_lt, unsigned_abs, List, [], ◌∷◌, ◌++◌, Option, Some, None, Result, Ok, Err, if◌then◌else◌}
 use Rattle.decimal.specs.Rounding.{raised}
-use Rattle.term_core.specs.Declarations.{Declarations}
-use Rattle.term_core.specs.declared.values.Missing.{Missing}
-use Rattle.term_core.specs.Terms.{Contract, Zero, Pay, Both, Scale, After, Let, Within}
-use Rattle.term_core.specs.Environments.{Environment, Place}
-use Rattle.term_core.specs.Kinds.{scale_of}
-use Rattle.term_core.specs.Values.{Entry, kinds, num}
-use Rattle.term_core.specs.Flows.{count_of}
-use Rattle.term_core.specs.Reads.{reads_of}
+use Rattle.term_model.specs.Declarations.{Declarations}
+use Rattle.term_model.specs.declared.values.Missing.{Missing}
+use Rattle.term_model.specs.Terms.{Contract, Zero, Pay, Both, Scale, After, Let, Within}
+use Rattle.term_model.specs.Environments.{Environment, Place}
+use Rattle.term_model.specs.Kinds.{scale_of}
+use Rattle.term_model.specs.Values.{Entry, kinds, num}
+use Rattle.term_model.specs.Flows.{count_of}
+use Rattle.term_model.specs.Reads.{reads_of}
 use Rattle.interval_check.specs.Sums.{entry_of}
 use Rattle.expr_eval.specs.Trials.{DayOrMissing, ValueOrMissing, answer_of, first_tried, missing_at}
 use Rattle.flow_eval.specs.declared.payments.Payment.{Payment}

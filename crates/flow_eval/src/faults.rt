@@ -4,7 +4,7 @@ ghost use Rattle.std.specs.Prelude.{◌≡◌};
 ghost use Rattle.flow_eval.specs.Faults.{lacks_memory, lacks_place};
 
 use decimal::NoMemory;
-use term_core::Missing;
+use term_model::Missing;
 
 /// Why there is no flow table: the contract reads an observable on a day on which it is not fixed,
 /// or memory is short.

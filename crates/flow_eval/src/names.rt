@@ -1,11 +1,11 @@
 //! How many names a walk over a contract holds at once.
 
 ghost use Rattle.std.specs.Prelude.{◌≡◌, ◌≤◌};
-ghost use Rattle.term_core.specs.Limits.{most_height};
-ghost use Rattle.term_core.specs.Terms.{contract};
+ghost use Rattle.term_model.specs.Limits.{most_height};
+ghost use Rattle.term_model.specs.Terms.{contract};
 ghost use Rattle.flow_eval.specs.Readiness.{names_in};
 
-use term_core::Contr;
+use term_model::Contr;
 
 /// How many names are bound round the part of a contract that has the most of them. Most contracts
 /// bind none, and a walk over these needs no memory for names. Expressions are not looked into.

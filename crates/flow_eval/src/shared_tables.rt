@@ -1,10 +1,10 @@
 //! The flow tables of contracts with shared parts.
 
 ghost use Rattle.std.specs.Prelude.{◌≤ℤ◌, pos};
-ghost use Rattle.term_core.specs.Limits.{last_start};
-ghost use Rattle.term_core.specs.Declarations.{declarations};
-ghost use Rattle.term_core.specs.Environments.{IsAdmitted};
-ghost use Rattle.term_core.specs.Acceptance.{IsAccepted};
+ghost use Rattle.term_model.specs.Limits.{last_start};
+ghost use Rattle.term_model.specs.Declarations.{declarations};
+ghost use Rattle.term_model.specs.Environments.{IsAdmitted};
+ghost use Rattle.term_model.specs.Acceptance.{IsAccepted};
 ghost use Rattle.term_core.specs.SharedTerms.{shared};
 ghost use Rattle.flow_eval.specs.FlowAnswers.{AreFlows};
 ghost use Rattle.flow_eval.specs.WalkAnswers.{ArePaymentsOf};
@@ -19,7 +19,8 @@ use expr_eval::Scratch;
 use fixing_files::Fixings;
 use std::alloc::Global;
 use std::rc::Rc;
-use term_core::{Decls, SharedContr};
+use term_model::Decls;
+use term_core::SharedContr;
 
 // The payments up to the last day of a contract that stands on a day.
 fn payments_shared(

@@ -1,11 +1,11 @@
 //! The flow tables of contracts.
 
 ghost use Rattle.std.specs.Prelude.{◌≤ℤ◌, pos};
-ghost use Rattle.term_core.specs.Limits.{last_start};
-ghost use Rattle.term_core.specs.Declarations.{declarations};
-ghost use Rattle.term_core.specs.Terms.{contract};
-ghost use Rattle.term_core.specs.Environments.{IsAdmitted};
-ghost use Rattle.term_core.specs.Acceptance.{IsAccepted};
+ghost use Rattle.term_model.specs.Limits.{last_start};
+ghost use Rattle.term_model.specs.Declarations.{declarations};
+ghost use Rattle.term_model.specs.Terms.{contract};
+ghost use Rattle.term_model.specs.Environments.{IsAdmitted};
+ghost use Rattle.term_model.specs.Acceptance.{IsAccepted};
 ghost use Rattle.flow_eval.specs.FlowAnswers.{AreFlows};
 ghost use Rattle.flow_eval.specs.WalkAnswers.{ArePaymentsOf};
 
@@ -18,7 +18,7 @@ use crate::walk::{Basis, Standing, gather};
 use expr_eval::Scratch;
 use fixing_files::Fixings;
 use std::alloc::Global;
-use term_core::{Contr, Decls};
+use term_model::{Contr, Decls};
 
 /// The last day that a contract on a day can reach.
 pub const LAST_DAY: u32 = 1_100_000;

@@ -1,10 +1,10 @@
 //! The walk over a contract that notes its payments.
 
 ghost use Rattle.std.specs.Prelude.{◌≡◌, ◌≤◌, ◌+◌, ◌-◌, ◌≤ℤ◌, ◌+ℤ◌, ◌-ℤ◌, pos, min, max, unsigned_abs, IfOk, int_lt};
-ghost use Rattle.term_core.specs.Terms.{contract, expression, Both, Scale, Let, Within};
-ghost use Rattle.term_core.specs.DayCounts.{day_count};
-ghost use Rattle.term_core.specs.Flows.{count_of};
-ghost use Rattle.term_core.specs.Sizes.{reach};
+ghost use Rattle.term_model.specs.Terms.{contract, expression, Both, Scale, Let, Within};
+ghost use Rattle.term_model.specs.DayCounts.{day_count};
+ghost use Rattle.term_model.specs.Flows.{count_of};
+ghost use Rattle.term_model.specs.Sizes.{reach};
 ghost use Rattle.flow_eval.specs.Gathering.{Gathers};
 ghost use Rattle.flow_eval.specs.Readiness.{IsAmongDays, IsUpTo};
 ghost use Rattle.flow_eval.specs.WalkAnswers.{IsAnswerFor, IsFirstDayFor, MayAnswer, MayWalk, Notes, kind_among, paid_alone};
@@ -14,7 +14,7 @@ use crate::payments::{Payment, Transfer, multiply_from, pay};
 use decimal::pow10;
 use expr_eval::{Held, Scratch, eval, first_true, kind_of};
 use fixing_files::Fixings;
-use term_core::{Contr, Days, Decls, Expr, Kind, Missing, Value};
+use term_model::{Contr, Days, Decls, Expr, Kind, Missing, Value};
 
 /// What a walk goes by: the declarations, the fixings, and the last day that counts.
 #[derive(Clone, Copy)]

@@ -2,7 +2,7 @@
 -- such days alone.
 use Rattle.std.proofs.Common.{◌≡◌, ℕ, zero, suc, ◌≤◌, ◌<◌, inl, inr, Ok, Err, ap, ◌∙◌, sym, arith}
 use Rattle.std.proofs.lemmas.Bool.{cases_lt}
-use Rattle.term_core.specs.Bounds.{Range}
+use Rattle.term_model.specs.Bounds.{Range}
 use Rattle.term_core.specs.Trying.{then_do}
 use Rattle.interval_check.specs.RangeTrials.{Answer, days_tried}
 

@@ -1,6 +1,6 @@
 -- What was found of a part, where the part stands behind other nodes.
 use Rattle.std.proofs.Common.{◌≡◌, ℕ, Result, Ok, Err, refl, ap, ◌∙◌}
-use Rattle.term_core.specs.Bounds.{Range}
+use Rattle.term_model.specs.Bounds.{Range}
 use Rattle.term_core.specs.Trying.{moved}
 use Rattle.interval_check.specs.declared.ranges.Range.{Range as FoundRange}
 use Rattle.interval_check.specs.declared.totals.Total.{Total as FoundTotal}

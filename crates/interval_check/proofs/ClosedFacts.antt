@@ -1,14 +1,14 @@
 -- An expression that uses no name bound outside it meets the rules without any names.
 use Rattle.std.proofs.Common.{◌≡◌, ℕ, suc, ◌+◌, Bool, ◌&&◌, nat_le, IsTrue, is_some, List, [], ◌∷◌, Option, refl, ap, sym, subst, ◌∙◌, arith}
-use Rattle.term_core.specs.Declarations.{Declarations}
-use Rattle.term_core.specs.declared.values.Kind.{Kind}
-use Rattle.term_core.specs.Terms.{Expression, Lit, Yes, Var, Obs, Neg, Num, Cmp, Not, Logic, Cond, Widen, Round, Div, Acc}
-use Rattle.term_core.specs.WellFormed.{IsWellFormed}
-use Rattle.term_core.specs.Kinds.{kind_of, scale_of}
-use Rattle.term_core.specs.Values.{kind_or}
-use Rattle.term_core.specs.Sites.{Trial, Once, EachDay, Part, OfExpression}
-use Rattle.term_core.specs.Scales.{greatest_scale}
-use Rattle.term_core.specs.Bounds.{Interval, Range, range_kinds, interval_of, operands_fit, fits, fit_aligned, fit_operands, fit_divided}
+use Rattle.term_model.specs.Declarations.{Declarations}
+use Rattle.term_model.specs.declared.values.Kind.{Kind}
+use Rattle.term_model.specs.Terms.{Expression, Lit, Yes, Var, Obs, Neg, Num, Cmp, Not, Logic, Cond, Widen, Round, Div, Acc}
+use Rattle.term_model.specs.WellFormed.{IsWellFormed}
+use Rattle.term_model.specs.Kinds.{kind_of, scale_of}
+use Rattle.term_model.specs.Values.{kind_or}
+use Rattle.term_model.specs.Sites.{Trial, Once, EachDay, Part, OfExpression}
+use Rattle.term_model.specs.Scales.{greatest_scale}
+use Rattle.term_model.specs.Bounds.{Interval, Range, range_kinds, interval_of, operands_fit, fits, fit_aligned, fit_operands, fit_divided}
 use Rattle.interval_check.specs.Nodes.{InRounds, EachNode, IsSortedPart, IsScaledPart, IsBoundedPart, has_scaled_parts, range_after}
 use Rattle.interval_check.specs.Guarantees.{ClosedNeedNoNames, ClosedPartsAreSafe}
 use Rattle.interval_check.proofs.NameFacts.{AgreeOn, under, kinds_agree, kind_same, scale_same, at_same, interval_same}

@@ -7,7 +7,7 @@ use Rattle.decimal.specs.Rounding.{raised, divided}
 use Rattle.decimal.specs.Rounded.{IsRounded, IsRoundedQuotient}
 use Rattle.decimal.proofs.PowerFacts.{ten_above}
 use Rattle.decimal.proofs.RoundedFacts.{divides_to_scale}
-use Rattle.term_core.specs.Bounds.{Interval, single, hull, corners}
+use Rattle.term_model.specs.Bounds.{Interval, single, hull, corners}
 use Rattle.interval_check.specs.Within.{IsIn}
 use Rattle.interval_check.proofs.InclusionFacts.{between_up, between_down, in_corners}
 use Rattle.interval_check.proofs.MultipleFacts.{times-more, times-less}

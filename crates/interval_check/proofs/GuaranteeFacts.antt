@@ -1,13 +1,13 @@
 -- The guarantees of the rules, joined from what is known of nodes, values and sums.
 use Rattle.std.proofs.Common.{pos, ◌+ℤ◌, ◌-◌, ◌^◌, List, [], ◌∷◌, arith}
 use Rattle.std.proofs.Math.Nat.{mul-le-mul_right}
-use Rattle.term_core.specs.Declarations.{Declarations}
-use Rattle.term_core.specs.Environments.{Environment, IsAdmitted}
-use Rattle.term_core.specs.Values.{Entry}
-use Rattle.term_core.specs.LawsKinds.{AreOfKinds}
-use Rattle.term_core.specs.Flows.{scale_of_contract, flow_of}
-use Rattle.term_core.specs.Sites.{Once, EachDay}
-use Rattle.term_core.specs.Bounds.{Range}
+use Rattle.term_model.specs.Declarations.{Declarations}
+use Rattle.term_model.specs.Environments.{Environment, IsAdmitted}
+use Rattle.term_model.specs.Values.{Entry}
+use Rattle.term_model.specs.LawsKinds.{AreOfKinds}
+use Rattle.term_model.specs.Flows.{scale_of_contract, flow_of}
+use Rattle.term_model.specs.Sites.{Once, EachDay}
+use Rattle.term_model.specs.Bounds.{Range}
 use Rattle.interval_check.specs.Nodes.{IsSortedPart, IsScaledPart, IsBoundedPart}
 use Rattle.interval_check.specs.Within.{AreWithin, KeepsLimits}
 use Rattle.interval_check.specs.Guarantees.{RulesAreByStructure, AcceptedMeetRules, PartsMeetRules, ValuesLieInIntervals, ExpressionsAreSafe, BindingsLieWithin, ContractsAreSafe, AcceptedAreSafe, FlowsAddUpToTotal, AmountsAddUpToTotal}

@@ -4,10 +4,10 @@ use Rattle.std.proofs.Math.IntN.{*ℤ_comm, *ℤ-negsuc}
 use Rattle.std.proofs.lemmas.Int.{ints, clamps}
 use Rattle.decimal.specs.declared.rounding.Mode.{Mode}
 use Rattle.decimal.specs.Rounding.{raised, at_scale}
-use Rattle.term_core.specs.declared.terms.NumOp.{NumOp}
-use Rattle.term_core.specs.declared.terms.NumOp.TheVariants.{Plus, Minus, Times, Min, Max}
-use Rattle.term_core.specs.Values.{num_op, of_num}
-use Rattle.term_core.specs.Bounds.{Interval, single, lifted, swapped, hull, corners, on_intervals, aligned, of_op}
+use Rattle.term_model.specs.declared.terms.NumOp.{NumOp}
+use Rattle.term_model.specs.declared.terms.NumOp.TheVariants.{Plus, Minus, Times, Min, Max}
+use Rattle.term_model.specs.Values.{num_op, of_num}
+use Rattle.term_model.specs.Bounds.{Interval, single, lifted, swapped, hull, corners, on_intervals, aligned, of_op}
 use Rattle.interval_check.specs.Within.{IsIn}
 use Rattle.interval_check.proofs.MultipleFacts.{times-le}
 use Rattle.interval_check.proofs.RoundingFacts.{raised_rises, at_scale_rises}

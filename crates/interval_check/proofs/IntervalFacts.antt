@@ -4,7 +4,7 @@ use Rattle.std.proofs.Common.{◌≡◌, ℕ, ℤ, ◌*ℤ◌, ◌≤ℤ◌, ◌
 use Rattle.std.specs.Int.{int_min, int_max}
 use Rattle.std.proofs.lemmas.Bool.Decides.{nat_tests}
 use Rattle.std.proofs.lemmas.Int.{ints, clamps}
-use Rattle.term_core.specs.Bounds.{Interval, single, hull, corners}
+use Rattle.term_model.specs.Bounds.{Interval, single, hull, corners}
 use Rattle.interval_check.specs.Intervals.{mantissa, fitting, EndsFit}
 
 size_between : (l m h : ℤ) (n : ℕ) → l ≤ℤ m → m ≤ℤ h → unsigned_abs l ≤ n → unsigned_abs h ≤ n → unsigned_abs m ≤ n

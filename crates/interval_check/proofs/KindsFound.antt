@@ -1,12 +1,12 @@
 -- An expression that has a kind has the one that is found by structure, and so do its parts.
-pub use Rattle.term_core.proofs.KindParts.{OneNumber, TwoNumbers, one_number, two_numbers, truth_then, branches, days}
+pub use Rattle.term_model.proofs.KindParts.{OneNumber, TwoNumbers, one_number, two_numbers, truth_then, branches, days}
 use Rattle.std.proofs.Common.{◌≡◌, ℕ, List, ◌∷◌, Option, Some, ap, ◌∙◌}
-use Rattle.term_core.specs.declared.values.Kind.{Kind}
-use Rattle.term_core.specs.declared.values.Kind.TheVariants.{Truth, Number}
-use Rattle.term_core.specs.Declarations.{Declarations}
-use Rattle.term_core.specs.Terms.{Expression, Lit, Yes, Var, Obs, Neg, Num, Cmp, Not, Logic, Cond, Widen, Round, Div, Acc}
-use Rattle.term_core.specs.Kinds.{kind_of, scale_of, scale_or_zero, scale_of_kind, scale_of_op, on_truth, joined}
-use Rattle.term_core.specs.Values.{kind_or}
+use Rattle.term_model.specs.declared.values.Kind.{Kind}
+use Rattle.term_model.specs.declared.values.Kind.TheVariants.{Truth, Number}
+use Rattle.term_model.specs.Declarations.{Declarations}
+use Rattle.term_model.specs.Terms.{Expression, Lit, Yes, Var, Obs, Neg, Num, Cmp, Not, Logic, Cond, Widen, Round, Div, Acc}
+use Rattle.term_model.specs.Kinds.{kind_of, scale_of, scale_or_zero, scale_of_kind, scale_of_op, on_truth, joined}
+use Rattle.term_model.specs.Values.{kind_or}
 use Rattle.interval_check.specs.RangeTrials.{kind_of_either, kind_found}
 
 number_found : (k : Kind) (s : ℕ) → k ≡ Number s → scale_of_kind k ≡ s

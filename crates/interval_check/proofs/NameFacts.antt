@@ -2,14 +2,14 @@
 -- its kind and its interval are the same, and so is every rule.
 use Rattle.std.proofs.Common.{◌≡◌, ℕ, zero, suc, ◌+◌, ◌-◌, ◌<◌, List, [], ◌∷◌, Option, Some, None, slice_get, neg_ℤ, refl, ap, sym, ◌∙◌, arith}
 use Rattle.decimal.specs.Rounding.{raised, at_scale, divided}
-use Rattle.term_core.specs.Declarations.{Declarations}
-use Rattle.term_core.specs.declared.values.Kind.{Kind}
-use Rattle.term_core.specs.declared.values.Kind.TheVariants.{Truth as TruthKind, Number}
-use Rattle.term_core.specs.Terms.{Expression, Lit, Yes, Var, Obs, Neg, Num, Cmp, Not, Logic, Cond, Widen, Round, Div, Acc}
-use Rattle.term_core.specs.WellFormed.{IsWellFormed}
-use Rattle.term_core.specs.Kinds.{kind_of, scale_of, scale_of_kind, scale_or_zero, scale_of_op, on_number, on_numbers, on_truth, joined, of_acc}
-use Rattle.term_core.specs.Values.{kind_or}
-use Rattle.term_core.specs.Bounds.{Interval, Range, range_kinds, lifted, swapped, hull, corners, aligned, of_op, interval_of_range, interval_of, stepped}
+use Rattle.term_model.specs.Declarations.{Declarations}
+use Rattle.term_model.specs.declared.values.Kind.{Kind}
+use Rattle.term_model.specs.declared.values.Kind.TheVariants.{Truth as TruthKind, Number}
+use Rattle.term_model.specs.Terms.{Expression, Lit, Yes, Var, Obs, Neg, Num, Cmp, Not, Logic, Cond, Widen, Round, Div, Acc}
+use Rattle.term_model.specs.WellFormed.{IsWellFormed}
+use Rattle.term_model.specs.Kinds.{kind_of, scale_of, scale_of_kind, scale_or_zero, scale_of_op, on_number, on_numbers, on_truth, joined, of_acc}
+use Rattle.term_model.specs.Values.{kind_or}
+use Rattle.term_model.specs.Bounds.{Interval, Range, range_kinds, lifted, swapped, hull, corners, aligned, of_op, interval_of_range, interval_of, stepped}
 
 -- the first k names are the same
 abbrev pub AgreeOn : {A : Type 0} → ℕ → List A → List A → Type 0

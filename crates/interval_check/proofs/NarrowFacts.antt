@@ -4,9 +4,9 @@ use Rattle.std.proofs.lemmas.Bool.{and_parts, and_from, le-leb}
 use Rattle.std.proofs.lemmas.Int.{ints, clamps}
 use Rattle.decimal.specs.declared.rounding.Mode.{Mode}
 use Rattle.decimal.specs.Rounding.{raised, at_scale, divided}
-use Rattle.term_core.specs.declared.terms.NumOp.{NumOp}
-use Rattle.term_core.specs.declared.terms.NumOp.TheVariants.{Plus, Minus, Times, Min, Max}
-use Rattle.term_core.specs.Bounds.{Interval, single, lifted, swapped, hull, corners, on_intervals, aligned, of_op, fits, fit_aligned, fit_operands, fit_divided, has_zero, greatest_size}
+use Rattle.term_model.specs.declared.terms.NumOp.{NumOp}
+use Rattle.term_model.specs.declared.terms.NumOp.TheVariants.{Plus, Minus, Times, Min, Max}
+use Rattle.term_model.specs.Bounds.{Interval, single, lifted, swapped, hull, corners, on_intervals, aligned, of_op, fits, fit_aligned, fit_operands, fit_divided, has_zero, greatest_size}
 use Rattle.interval_check.specs.Within.{IsIn}
 use Rattle.interval_check.specs.Narrowing.{IsNarrower}
 use Rattle.interval_check.proofs.InclusionFacts.{in_single, in_left, in_right, in_product, in_negative, in_raised, in_rounded}

@@ -3,18 +3,18 @@ use Rattle.std.proofs.Common.{◌≡◌, ℕ, zero, suc, ◌+◌, ◌-◌, ◌*�
 use Rattle.std.proofs.Math.Nat.{mul-le-mul_right}
 use Rattle.std.proofs.lemmas.Bool.{and_parts, and_from, le-leb}
 use Rattle.std.proofs.lemmas.Int.{ints}
-use Rattle.term_core.specs.Declarations.{Declarations}
-use Rattle.term_core.specs.declared.label.Label.{Label}
-use Rattle.term_core.specs.declared.label.Label.TheVariants.{Number as NumberLabel, Flag}
-use Rattle.term_core.specs.declared.values.Kind.{Kind}
-use Rattle.term_core.specs.Terms.{Expression, Lit, Yes, Var, Obs, Neg, Num, Cmp, Not, Logic, Cond, Widen, Round, Div, Acc}
-use Rattle.term_core.specs.Terms.{Contract, Zero, Pay, Both, Scale, After, Let, Within}
-use Rattle.term_core.specs.Limits.{is_label}
-use Rattle.term_core.specs.Environments.{label_of}
-use Rattle.term_core.specs.Kinds.{kind_of}
-use Rattle.term_core.specs.Values.{kind_or}
-use Rattle.term_core.specs.Flows.{scale_of_contract}
-use Rattle.term_core.specs.Bounds.{Range, range_kinds, interval_of, interval_of_label, interval_of_range, greatest_size, total_of, aligned_total, greatest_total}
+use Rattle.term_model.specs.Declarations.{Declarations}
+use Rattle.term_model.specs.declared.label.Label.{Label}
+use Rattle.term_model.specs.declared.label.Label.TheVariants.{Number as NumberLabel, Flag}
+use Rattle.term_model.specs.declared.values.Kind.{Kind}
+use Rattle.term_model.specs.Terms.{Expression, Lit, Yes, Var, Obs, Neg, Num, Cmp, Not, Logic, Cond, Widen, Round, Div, Acc}
+use Rattle.term_model.specs.Terms.{Contract, Zero, Pay, Both, Scale, After, Let, Within}
+use Rattle.term_model.specs.Limits.{is_label}
+use Rattle.term_model.specs.Environments.{label_of}
+use Rattle.term_model.specs.Kinds.{kind_of}
+use Rattle.term_model.specs.Values.{kind_or}
+use Rattle.term_model.specs.Flows.{scale_of_contract}
+use Rattle.term_model.specs.Bounds.{Range, range_kinds, interval_of, interval_of_label, interval_of_range, greatest_size, total_of, aligned_total, greatest_total}
 use Rattle.interval_check.specs.Nodes.{IsBounded, IsBoundedContract, range_after, range_of, is_sorted_part, is_scaled_part}
 use Rattle.interval_check.specs.Within.{KeepsLimits}
 use Rattle.interval_check.specs.Narrowing.{IsNarrower, AreNarrower, IntervalsAreMonotone, TotalsAreMonotone, RulesAreMonotone, ContractRulesAreMonotone}

@@ -1,14 +1,14 @@
 -- A rule that passes at every site of a term holds at each node of it by structure, and the other way.
 use Rattle.std.proofs.Common.{◌≡◌, ℕ, zero, suc, ◌+◌, ◌<◌, ◌≤◌, ◌⊎◌, inl, inr, List, [], ◌∷◌, ◌++◌, subst, arith}
 use Rattle.std.proofs.lemmas.Bool.{cases_lt}
-use Rattle.term_core.specs.Declarations.{Declarations}
-use Rattle.term_core.specs.Terms.{Expression, Lit, Yes, Var, Obs, Neg, Num, Cmp, Not, Logic, Cond, Widen, Round, Div, Acc}
-use Rattle.term_core.specs.Terms.{Contract, Zero, Pay, Both, Scale, After, Let, Within}
-use Rattle.term_core.specs.Flows.{count_of}
-use Rattle.term_core.specs.Sizes.{nodes, nodes_of_contract}
-use Rattle.term_core.specs.Sites.{Layer, Naming, Counting, Later, Earlier, Undated, Trial, Once, EachDay, Site, Part, OfExpression, OfContract, sites_of, sites_of_contract, days_tried, rounds, expression_at, contract_at, AllPass}
-use Rattle.term_core.specs.Bounds.{Range, ranges_round}
-use Rattle.term_core.proofs.Trials.{AllPass-append, AllPass-left, AllPass-right}
+use Rattle.term_model.specs.Declarations.{Declarations}
+use Rattle.term_model.specs.Terms.{Expression, Lit, Yes, Var, Obs, Neg, Num, Cmp, Not, Logic, Cond, Widen, Round, Div, Acc}
+use Rattle.term_model.specs.Terms.{Contract, Zero, Pay, Both, Scale, After, Let, Within}
+use Rattle.term_model.specs.Flows.{count_of}
+use Rattle.term_model.specs.Sizes.{nodes, nodes_of_contract}
+use Rattle.term_model.specs.Sites.{Layer, Naming, Counting, Later, Earlier, Undated, Trial, Once, EachDay, Site, Part, OfExpression, OfContract, sites_of, sites_of_contract, days_tried, rounds, expression_at, contract_at, AllPass}
+use Rattle.term_model.specs.Bounds.{Range, ranges_round}
+use Rattle.term_model.proofs.Trials.{AllPass-append, AllPass-left, AllPass-right}
 use Rattle.interval_check.specs.Nodes.{InRounds, EachNode, EachContractNode, range_after}
 
 -- at each site of the days before n

@@ -1,15 +1,15 @@
 -- What the rules say of an expression itself: it has a kind, its scale is at most 27, and its interval fits.
 use Rattle.std.proofs.Common.{◌≡◌, ℕ, zero, suc, ◌<◌, ◌≤◌, ◌&&◌, nat_le, IsTrue, is_some, List, ◌∷◌, Option, Some, None, refl, arith}
 use Rattle.std.proofs.lemmas.Bool.{and_parts, leb-true}
-use Rattle.term_core.specs.Declarations.{Declarations}
-use Rattle.term_core.specs.declared.values.Kind.{Kind}
-use Rattle.term_core.specs.declared.values.Kind.TheVariants.{Truth as TruthKind, Number}
-use Rattle.term_core.specs.Terms.{Expression, Lit, Yes, Var, Obs, Neg, Num, Cmp, Not, Logic, Cond, Widen, Round, Div, Acc}
-use Rattle.term_core.specs.Kinds.{scale_of, scale_of_kind, scale_or_zero, on_number, on_numbers}
-use Rattle.term_core.specs.Values.{kind_or}
-use Rattle.term_core.specs.Sites.{Part, OfExpression, Once}
-use Rattle.term_core.specs.Scales.{greatest_scale}
-use Rattle.term_core.specs.Bounds.{Range, range_kinds, interval_of, operands_fit, fits}
+use Rattle.term_model.specs.Declarations.{Declarations}
+use Rattle.term_model.specs.declared.values.Kind.{Kind}
+use Rattle.term_model.specs.declared.values.Kind.TheVariants.{Truth as TruthKind, Number}
+use Rattle.term_model.specs.Terms.{Expression, Lit, Yes, Var, Obs, Neg, Num, Cmp, Not, Logic, Cond, Widen, Round, Div, Acc}
+use Rattle.term_model.specs.Kinds.{scale_of, scale_of_kind, scale_or_zero, on_number, on_numbers}
+use Rattle.term_model.specs.Values.{kind_or}
+use Rattle.term_model.specs.Sites.{Part, OfExpression, Once}
+use Rattle.term_model.specs.Scales.{greatest_scale}
+use Rattle.term_model.specs.Bounds.{Range, range_kinds, interval_of, operands_fit, fits}
 use Rattle.interval_check.specs.Nodes.{EachNode, IsScaled, IsBounded, IsScaledPart, has_scaled_parts, range_after}
 use Rattle.interval_check.specs.Safety.{ScalesFit}
 

@@ -5,14 +5,14 @@ use Rattle.std.proofs.lemmas.Int.{ints}
 use Rattle.decimal.specs.declared.rounding.Mode.{Mode}
 use Rattle.decimal.specs.Rounding as rounding
 use Rattle.decimal.specs.Rounding.{raised, at_scale}
-use Rattle.term_core.specs.declared.name.Name.{Name}
-use Rattle.term_core.specs.declared.label.Label.{Label}
-use Rattle.term_core.specs.declared.label.Label.TheVariants.{Number as NumberLabel}
-use Rattle.term_core.specs.declared.values.Kind.TheVariants.{Number}
-use Rattle.term_core.specs.Declarations.{Declarations}
-use Rattle.term_core.specs.Environments.{label_of}
-use Rattle.term_core.specs.Limits.{is_label, are_labels}
-use Rattle.term_core.specs.Bounds.{Interval, Range, lifted, aligned}
+use Rattle.term_model.specs.declared.name.Name.{Name}
+use Rattle.term_model.specs.declared.label.Label.{Label}
+use Rattle.term_model.specs.declared.label.Label.TheVariants.{Number as NumberLabel}
+use Rattle.term_model.specs.declared.values.Kind.TheVariants.{Number}
+use Rattle.term_model.specs.Declarations.{Declarations}
+use Rattle.term_model.specs.Environments.{label_of}
+use Rattle.term_model.specs.Limits.{is_label, are_labels}
+use Rattle.term_model.specs.Bounds.{Interval, Range, lifted, aligned}
 use Rattle.interval_check.specs.Intervals.{fitting}
 use Rattle.interval_check.proofs.IntervalFacts.{same_ends, both_small}
 use Rattle.interval_check.specs.Ranges.{IsFit}

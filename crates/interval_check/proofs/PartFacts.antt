@@ -1,10 +1,10 @@
 -- A part of what meets the rules meets them.
 use Rattle.std.proofs.Common.{◌≡◌, inl, inr, List, ◌∷◌, sym, subst}
-use Rattle.term_core.specs.Declarations.{Declarations}
-use Rattle.term_core.specs.Terms.{Expression, Lit, Yes, Var, Obs, Neg, Num, Cmp, Not, Logic, Cond, Widen, Round, Div, Acc}
-use Rattle.term_core.specs.Terms.{Contract, Zero, Pay, Both, Scale, After, Let, Within}
-use Rattle.term_core.specs.Sites.{Trial, Part}
-use Rattle.term_core.specs.Bounds.{Range}
+use Rattle.term_model.specs.Declarations.{Declarations}
+use Rattle.term_model.specs.Terms.{Expression, Lit, Yes, Var, Obs, Neg, Num, Cmp, Not, Logic, Cond, Widen, Round, Div, Acc}
+use Rattle.term_model.specs.Terms.{Contract, Zero, Pay, Both, Scale, After, Let, Within}
+use Rattle.term_model.specs.Sites.{Trial, Part}
+use Rattle.term_model.specs.Bounds.{Range}
 use Rattle.interval_check.specs.Nodes.{EachNode, EachContractNode, range_of}
 use Rattle.interval_check.specs.Parts.{IsPart, IsPartHere, StandsIn}
 

@@ -4,8 +4,8 @@ use Rattle.std.proofs.lemmas.Bool.Decides.{nat_tests}
 use Rattle.decimal.specs.declared.rounding.Mode.{Mode}
 use Rattle.decimal.specs.Rounding as rounding
 use Rattle.decimal.specs.Rounding.{raised, divided, DivFits}
-use Rattle.term_core.specs.declared.values.Kind.TheVariants.{Number}
-use Rattle.term_core.specs.Bounds.{Interval, Range, single, lifted, hull, fits, has_zero, fit_divided}
+use Rattle.term_model.specs.declared.values.Kind.TheVariants.{Number}
+use Rattle.term_model.specs.Bounds.{Interval, Range, single, lifted, hull, fits, has_zero, fit_divided}
 use Rattle.interval_check.specs.Intervals.{fitting}
 use Rattle.interval_check.specs.RangeTrials.{Answer, ranged, scale_in, quotient}
 use Rattle.interval_check.proofs.OperatorFacts.{left_true, right_true}

@@ -1,19 +1,19 @@
 -- The trial of ranges by structure is the trial of intervals of the model, wherever an expression has a kind.
 use Rattle.std.proofs.Common.{◌≡◌, ℕ, zero, suc, pos, ◌+◌, ◌-◌, Bool, true, false, ◌&&◌, if◌then◌else◌, List, ◌∷◌, Option, Some, None, Ok, Err, neg_ℤ, slice_get, refl, ap, ◌∙◌, sym, subst, arith, add-zero}
 use Rattle.decimal.specs.Rounding.{raised, at_scale, divided}
-use Rattle.term_core.specs.declared.terms.NumOp.{NumOp}
-use Rattle.term_core.specs.declared.terms.NumOp.TheVariants.{Plus, Minus, Times, Min, Max}
-use Rattle.term_core.specs.declared.values.Kind.{Kind}
-use Rattle.term_core.specs.declared.values.Kind.TheVariants.{Truth, Number}
-use Rattle.term_core.specs.Declarations.{Declarations}
-use Rattle.term_core.specs.Terms.{Expression, Lit, Yes, Var, Obs, Neg, Num, Cmp, Not, Logic, Cond, Widen, Round, Div, Acc}
-use Rattle.term_core.specs.Environments.{label_of}
-use Rattle.term_core.specs.Kinds.{kind_of, kind_of_label, scale_of, scale_of_kind, scale_of_op, joined, on_truth}
-use Rattle.term_core.specs.Values.{kind_or}
-use Rattle.term_core.specs.Sizes.{nodes}
-use Rattle.term_core.specs.Bounds.{Interval, Range, range_kinds, single, lifted, swapped, hull, corners, aligned, on_intervals, of_op, interval_of_label, interval_of_range, fits, fit_aligned, fit_operands, fit_divided}
+use Rattle.term_model.specs.declared.terms.NumOp.{NumOp}
+use Rattle.term_model.specs.declared.terms.NumOp.TheVariants.{Plus, Minus, Times, Min, Max}
+use Rattle.term_model.specs.declared.values.Kind.{Kind}
+use Rattle.term_model.specs.declared.values.Kind.TheVariants.{Truth, Number}
+use Rattle.term_model.specs.Declarations.{Declarations}
+use Rattle.term_model.specs.Terms.{Expression, Lit, Yes, Var, Obs, Neg, Num, Cmp, Not, Logic, Cond, Widen, Round, Div, Acc}
+use Rattle.term_model.specs.Environments.{label_of}
+use Rattle.term_model.specs.Kinds.{kind_of, kind_of_label, scale_of, scale_of_kind, scale_of_op, joined, on_truth}
+use Rattle.term_model.specs.Values.{kind_or}
+use Rattle.term_model.specs.Sizes.{nodes}
+use Rattle.term_model.specs.Bounds.{Interval, Range, range_kinds, single, lifted, swapped, hull, corners, aligned, on_intervals, of_op, interval_of_label, interval_of_range, fits, fit_aligned, fit_operands, fit_divided}
 use Rattle.term_core.specs.Trying.{then_do, moved}
-use Rattle.term_core.proofs.BoundTrials.{Tried, then_try, checked, each_day, tried}
+use Rattle.term_model.proofs.BoundTrials.{Tried, then_try, checked, each_day, tried}
 use Rattle.interval_check.specs.Intervals.{fitting}
 use Rattle.interval_check.specs.RangeTrials.{Answer, Operands, ranged, truth, scale_in, both_fit, combined, compared, either, quotient, range_or_truth, operands, days_tried, day_tried, widened, rounded, range_tried}
 use Rattle.interval_check.proofs.KindsFound.{one_number, two_numbers, truth_then, branches, days, has_kind, scale_is}

@@ -1,16 +1,16 @@
 -- The kind of the range that the trial answers is the one that is found by structure; and that is the kind of the
 -- model wherever there is one.
 use Rattle.std.proofs.Common.{◌≡◌, ℕ, zero, suc, ◌+◌, ◌≤◌, Bool, true, false, if◌then◌else◌, List, [], ◌∷◌, Option, Some, None, Result, Ok, Err, slice_get, refl, ap, ◌∙◌, sym, subst}
-use Rattle.term_core.specs.declared.terms.NumOp.{NumOp}
-use Rattle.term_core.specs.declared.terms.NumOp.TheVariants.{Plus, Minus, Times, Min, Max}
-use Rattle.term_core.specs.declared.values.Kind.{Kind}
-use Rattle.term_core.specs.declared.values.Kind.TheVariants.{Number}
-use Rattle.term_core.specs.Declarations.{Declarations}
-use Rattle.term_core.specs.Terms.{Expression, Lit, Yes, Var, Obs, Neg, Num, Cmp, Not, Logic, Cond, Widen, Round, Div, Acc}
-use Rattle.term_core.specs.Kinds.{scale_of_kind, scale_of_op}
-use Rattle.term_core.specs.Values.{kind_or}
-use Rattle.term_core.specs.Sizes.{nodes}
-use Rattle.term_core.specs.Bounds.{Interval, Range, range_kinds, hull, on_intervals, fit_divided}
+use Rattle.term_model.specs.declared.terms.NumOp.{NumOp}
+use Rattle.term_model.specs.declared.terms.NumOp.TheVariants.{Plus, Minus, Times, Min, Max}
+use Rattle.term_model.specs.declared.values.Kind.{Kind}
+use Rattle.term_model.specs.declared.values.Kind.TheVariants.{Number}
+use Rattle.term_model.specs.Declarations.{Declarations}
+use Rattle.term_model.specs.Terms.{Expression, Lit, Yes, Var, Obs, Neg, Num, Cmp, Not, Logic, Cond, Widen, Round, Div, Acc}
+use Rattle.term_model.specs.Kinds.{scale_of_kind, scale_of_op}
+use Rattle.term_model.specs.Values.{kind_or}
+use Rattle.term_model.specs.Sizes.{nodes}
+use Rattle.term_model.specs.Bounds.{Interval, Range, range_kinds, hull, on_intervals, fit_divided}
 use Rattle.term_core.specs.Trying.{then_do, moved}
 use Rattle.interval_check.specs.Intervals.{fitting}
 use Rattle.interval_check.specs.RangeTrials.{Answer, Shared, Operands, ranged, scale_in, aligned_both, combined, either, operands, kind_of_either, range_or_truth, days_tried, day_tried, widened, range_tried, kind_found, AreScaled}

@@ -1,19 +1,19 @@
 -- What a rule that holds everywhere tells of an expression and of a contract as wholes: each part has a kind, every
 -- scale is within its limit, and the nodes are not too many.
 use Rattle.std.proofs.Common.{◌≡◌, ℕ, zero, ◌+◌, List, [], ◌∷◌, ◌++◌, Option, Some, None, IsTrue, is_some, refl}
-use Rattle.term_core.specs.declared.values.Kind.{Kind}
-use Rattle.term_core.specs.declared.rules.Rule.TheVariants.{Sort}
-use Rattle.term_core.specs.Declarations.{Declarations}
-use Rattle.term_core.specs.Terms.{Expression, Lit, Yes, Var, Obs, Neg, Num, Cmp, Not, Logic, Cond, Widen, Round, Div, Acc}
-use Rattle.term_core.specs.Terms.{Contract, Zero, Pay, Both, Scale, After, Let, Within}
-use Rattle.term_core.specs.Flows.{count_of}
-use Rattle.term_core.specs.Kinds.{kind_of}
-use Rattle.term_core.specs.Values.{kind_or}
-use Rattle.term_core.specs.Sizes.{nodes, nodes_of_contract}
-use Rattle.term_core.specs.Sites.{Site, Layer, Naming, Counting, Later, Earlier, Undated, Once, sites_of, sites_of_contract, expression_at, contract_at, kinds_round, AllPass}
-use Rattle.term_core.specs.Sorts.{is_sorted}
-use Rattle.term_core.specs.Acceptance.{Meets}
-use Rattle.term_core.proofs.Trials.{AllPass-left, AllPass-right}
+use Rattle.term_model.specs.declared.values.Kind.{Kind}
+use Rattle.term_model.specs.declared.rules.Rule.TheVariants.{Sort}
+use Rattle.term_model.specs.Declarations.{Declarations}
+use Rattle.term_model.specs.Terms.{Expression, Lit, Yes, Var, Obs, Neg, Num, Cmp, Not, Logic, Cond, Widen, Round, Div, Acc}
+use Rattle.term_model.specs.Terms.{Contract, Zero, Pay, Both, Scale, After, Let, Within}
+use Rattle.term_model.specs.Flows.{count_of}
+use Rattle.term_model.specs.Kinds.{kind_of}
+use Rattle.term_model.specs.Values.{kind_or}
+use Rattle.term_model.specs.Sizes.{nodes, nodes_of_contract}
+use Rattle.term_model.specs.Sites.{Site, Layer, Naming, Counting, Later, Earlier, Undated, Once, sites_of, sites_of_contract, expression_at, contract_at, kinds_round, AllPass}
+use Rattle.term_model.specs.Sorts.{is_sorted}
+use Rattle.term_model.specs.Acceptance.{Meets}
+use Rattle.term_model.proofs.Trials.{AllPass-left, AllPass-right}
 
 -- the last site of a list
 last : (P : Site → Type 0) (xs : List Site) (s : Site) → AllPass P (xs ++ s ∷ []) → P s

@@ -1,17 +1,17 @@
 -- The rules of acceptance by structure: an accepted contract meets each at each node, among the ranges of its names.
 use Rattle.std.proofs.Common.{◌≡◌, ℕ, Bool, ◌&&◌, nat_le, List, [], ◌∷◌, refl, ap, sym, ◌∙◌}
-use Rattle.term_core.specs.Declarations.{Declarations}
-use Rattle.term_core.specs.declared.values.Kind.{Kind}
-use Rattle.term_core.specs.declared.rules.Rule.TheVariants.{Sort, Scale as ScaleRule, Bound}
-use Rattle.term_core.specs.Terms.{Expression, Lit, Yes, Var, Obs, Neg, Num, Cmp, Not, Logic, Cond, Widen, Round, Div, Acc}
-use Rattle.term_core.specs.Terms.{Contract, Zero, Pay, Both, Scale, After, Let, Within}
-use Rattle.term_core.specs.Kinds.{kind_of, scale_of}
-use Rattle.term_core.specs.Values.{kind_or}
-use Rattle.term_core.specs.Sites.{Layer, Naming, Counting, Later, Earlier, Undated, Part, OfExpression, OfContract, Once, EachDay, kinds_round}
-use Rattle.term_core.specs.Sorts.{is_sorted}
-use Rattle.term_core.specs.Scales.{greatest_scale, is_scaled, parts_are_scaled}
-use Rattle.term_core.specs.Bounds.{range_kinds, ranges_round}
-use Rattle.term_core.specs.Acceptance.{Passes, Meets}
+use Rattle.term_model.specs.Declarations.{Declarations}
+use Rattle.term_model.specs.declared.values.Kind.{Kind}
+use Rattle.term_model.specs.declared.rules.Rule.TheVariants.{Sort, Scale as ScaleRule, Bound}
+use Rattle.term_model.specs.Terms.{Expression, Lit, Yes, Var, Obs, Neg, Num, Cmp, Not, Logic, Cond, Widen, Round, Div, Acc}
+use Rattle.term_model.specs.Terms.{Contract, Zero, Pay, Both, Scale, After, Let, Within}
+use Rattle.term_model.specs.Kinds.{kind_of, scale_of}
+use Rattle.term_model.specs.Values.{kind_or}
+use Rattle.term_model.specs.Sites.{Layer, Naming, Counting, Later, Earlier, Undated, Part, OfExpression, OfContract, Once, EachDay, kinds_round}
+use Rattle.term_model.specs.Sorts.{is_sorted}
+use Rattle.term_model.specs.Scales.{greatest_scale, is_scaled, parts_are_scaled}
+use Rattle.term_model.specs.Bounds.{range_kinds, ranges_round}
+use Rattle.term_model.specs.Acceptance.{Passes, Meets}
 use Rattle.interval_check.specs.Nodes.{is_sorted_part, is_scaled_part, has_scaled_parts, IsSortedPart, IsScaledPart, IsBoundedPart, IsSortedContract, IsScaledContract, IsBoundedContract}
 use Rattle.interval_check.proofs.NodeFacts.{contract_nodes_hold, contract_nodes_pass}
 

@@ -4,21 +4,21 @@ use Rattle.std.proofs.Common.{◌≡◌, ℕ, zero, suc, ◌-◌, ◌≤◌, ◌
 use Rattle.std.proofs.lemmas.Bool.{and_parts, leb-true}
 use Rattle.decimal.specs.declared.rounding.Mode.{Mode}
 use Rattle.decimal.specs.Rounding.{raised, at_scale}
-use Rattle.term_core.specs.Declarations.{Declarations}
-use Rattle.term_core.specs.declared.terms.NumOp.{NumOp}
-use Rattle.term_core.specs.declared.terms.NumOp.TheVariants.{Plus, Minus, Times, Min, Max}
-use Rattle.term_core.specs.declared.values.Kind.{Kind}
-use Rattle.term_core.specs.declared.values.Kind.TheVariants.{Truth as TruthKind, Number}
-use Rattle.term_core.specs.declared.values.Value.{Value}
-use Rattle.term_core.specs.declared.values.Value.TheVariants.{Num as Amount, Truth}
-use Rattle.term_core.specs.Terms.{Expression, Lit, Yes, Var, Obs, Neg, Num, Cmp, Not, Logic, Cond, Widen, Round, Div, Acc}
-use Rattle.term_core.specs.Environments.{Environment, IsAdmitted}
-use Rattle.term_core.specs.Kinds.{kind_of, scale_of, scale_of_kind, on_truth, on_number, of_acc}
-use Rattle.term_core.specs.Values.{Entry, kinds, num, of_num, widened, kind_or, value_of}
-use Rattle.term_core.specs.LawsKinds.{IsOfKind, AreOfKinds}
-use Rattle.term_core.specs.Scales.{greatest_scale}
-use Rattle.term_core.specs.Bounds.{Interval, Range, range_kinds, lifted, of_op, interval_of, fit_aligned, fit_operands, fits}
-use Rattle.term_core.proofs.KindFacts.{values_have_kinds}
+use Rattle.term_model.specs.Declarations.{Declarations}
+use Rattle.term_model.specs.declared.terms.NumOp.{NumOp}
+use Rattle.term_model.specs.declared.terms.NumOp.TheVariants.{Plus, Minus, Times, Min, Max}
+use Rattle.term_model.specs.declared.values.Kind.{Kind}
+use Rattle.term_model.specs.declared.values.Kind.TheVariants.{Truth as TruthKind, Number}
+use Rattle.term_model.specs.declared.values.Value.{Value}
+use Rattle.term_model.specs.declared.values.Value.TheVariants.{Num as Amount, Truth}
+use Rattle.term_model.specs.Terms.{Expression, Lit, Yes, Var, Obs, Neg, Num, Cmp, Not, Logic, Cond, Widen, Round, Div, Acc}
+use Rattle.term_model.specs.Environments.{Environment, IsAdmitted}
+use Rattle.term_model.specs.Kinds.{kind_of, scale_of, scale_of_kind, on_truth, on_number, of_acc}
+use Rattle.term_model.specs.Values.{Entry, kinds, num, of_num, widened, kind_or, value_of}
+use Rattle.term_model.specs.LawsKinds.{IsOfKind, AreOfKinds}
+use Rattle.term_model.specs.Scales.{greatest_scale}
+use Rattle.term_model.specs.Bounds.{Interval, Range, range_kinds, lifted, of_op, interval_of, fit_aligned, fit_operands, fits}
+use Rattle.term_model.proofs.KindFacts.{values_have_kinds}
 use Rattle.interval_check.specs.Nodes.{MeetsRules, IsSortedPart, is_sorted_part, is_scaled_part, has_scaled_parts, range_after}
 use Rattle.interval_check.specs.Within.{IsIn, KeepsLimits}
 use Rattle.interval_check.specs.Safety.{IsSmall, AlignSafely, OperateSafely, WidensSafely, RoundsSafely, DivideSafely, HasSafeValue, HasSafeParts, ScalesFit, IsSafe, CanEvaluate, entry_after}

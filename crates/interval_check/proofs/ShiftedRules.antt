@@ -1,9 +1,9 @@
 -- The rules do not see offsets.
 use Rattle.std.proofs.Common.{ℤ, List, ◌∷◌, refl}
-use Rattle.term_core.specs.Declarations.{Declarations}
-use Rattle.term_core.specs.Terms.{Expression, Lit, Yes, Var, Obs, Neg, Num, Cmp, Not, Logic, Cond, Widen, Round, Div, Acc}
-use Rattle.term_core.specs.Shifts.{shifted}
-use Rattle.term_core.specs.Bounds.{Range}
+use Rattle.term_model.specs.Declarations.{Declarations}
+use Rattle.term_model.specs.Terms.{Expression, Lit, Yes, Var, Obs, Neg, Num, Cmp, Not, Logic, Cond, Widen, Round, Div, Acc}
+use Rattle.term_model.specs.Shifts.{shifted}
+use Rattle.term_model.specs.Bounds.{Range}
 use Rattle.interval_check.specs.Guarantees.{RulesDoNotSeeOffsets}
 use Rattle.interval_check.proofs.LookFacts.{Alike, alike_leaf, alike_neg, alike_not, alike_num, alike_cmp, alike_logic, alike_cond, alike_widen, alike_round, alike_div, alike_acc}
 

@@ -1,15 +1,15 @@
 -- Entries that suit the bindings round an expression lie within their ranges, so that the expression can be evaluated.
 use Rattle.std.proofs.Common.{inl, inr, pos, List, [], ◌∷◌, sym, subst}
-use Rattle.term_core.specs.Declarations.{Declarations}
-use Rattle.term_core.specs.declared.values.Kind.{Kind}
-use Rattle.term_core.specs.declared.values.Kind.TheVariants.{Truth as TruthKind, Number}
-use Rattle.term_core.specs.declared.values.Value.{Value}
-use Rattle.term_core.specs.declared.values.Value.TheVariants.{Num as Amount, Truth}
-use Rattle.term_core.specs.Terms.{Expression, Contract, Zero, Pay, Both, Scale, After, Let, Within}
-use Rattle.term_core.specs.Environments.{IsAdmitted}
-use Rattle.term_core.specs.Values.{Entry, num}
-use Rattle.term_core.specs.LawsKinds.{IsOfKind}
-use Rattle.term_core.specs.Bounds.{Interval, Range}
+use Rattle.term_model.specs.Declarations.{Declarations}
+use Rattle.term_model.specs.declared.values.Kind.{Kind}
+use Rattle.term_model.specs.declared.values.Kind.TheVariants.{Truth as TruthKind, Number}
+use Rattle.term_model.specs.declared.values.Value.{Value}
+use Rattle.term_model.specs.declared.values.Value.TheVariants.{Num as Amount, Truth}
+use Rattle.term_model.specs.Terms.{Expression, Contract, Zero, Pay, Both, Scale, After, Let, Within}
+use Rattle.term_model.specs.Environments.{IsAdmitted}
+use Rattle.term_model.specs.Values.{Entry, num}
+use Rattle.term_model.specs.LawsKinds.{IsOfKind}
+use Rattle.term_model.specs.Bounds.{Interval, Range}
 use Rattle.interval_check.specs.Nodes.{ContractMeetsRules, range_of}
 use Rattle.interval_check.specs.Within.{IsIn, OnNumber, IsWithin, AreWithin, IsSuited, AreSuited, KeepsLimits}
 use Rattle.interval_check.specs.Parts.{IsPartHere, StandsIn}

@@ -4,7 +4,7 @@ use Rattle.std.proofs.Math.Nat.{add-mul}
 use Rattle.std.proofs.lemmas.Bool.Decides.{nat_tests}
 use Rattle.std.proofs.lemmas.Int.{ints, by_lt_z, unsigned_abs-mul}
 use Rattle.decimal.specs.Rounding.{raised}
-use Rattle.term_core.specs.Flows.{on_day_zero}
+use Rattle.term_model.specs.Flows.{on_day_zero}
 use Rattle.interval_check.specs.Sums.{sum_of_sizes}
 use Rattle.interval_check.proofs.MultipleFacts.{times-size}
 

@@ -3,8 +3,8 @@ use Rattle.std.proofs.Common.{◌≡◌, ℕ, ◌+◌, ◌-◌, max, ◌≤◌, 
 use Rattle.std.proofs.lemmas.Bool.{and_parts, and_from, leb-true, le-leb}
 use Rattle.std.proofs.lemmas.Int.{ints}
 use Rattle.decimal.specs.Rounding.{raised, DivFits}
-use Rattle.term_core.specs.Limits.{greatest_mantissa}
-use Rattle.term_core.specs.Bounds.{Interval, lifted, aligned, fits, fit_aligned, fit_divided, has_zero}
+use Rattle.term_model.specs.Limits.{greatest_mantissa}
+use Rattle.term_model.specs.Bounds.{Interval, lifted, aligned, fits, fit_aligned, fit_divided, has_zero}
 use Rattle.interval_check.specs.Intervals.{EndsFit}
 use Rattle.interval_check.specs.Within.{IsIn}
 use Rattle.interval_check.specs.Safety.{IsSmall, AlignSafely}

@@ -4,15 +4,15 @@ use Rattle.std.proofs.Common.{◌≡◌, ℕ, zero, suc, ◌-◌, ◌≤◌, ◌
 use Rattle.std.proofs.lemmas.Bool.{and_from}
 use Rattle.decimal.specs.declared.rounding.Mode.{Mode}
 use Rattle.decimal.specs.Rounding.{raised, at_scale, divided}
-use Rattle.term_core.specs.Declarations.{Declarations}
-use Rattle.term_core.specs.declared.terms.NumOp.{NumOp}
-use Rattle.term_core.specs.declared.terms.CmpOp.{CmpOp}
-use Rattle.term_core.specs.declared.terms.LogicOp.{LogicOp}
-use Rattle.term_core.specs.declared.values.Kind.{Kind}
-use Rattle.term_core.specs.Terms.{Expression, Neg, Num, Cmp, Not, Logic, Cond, Widen, Round, Div, Acc}
-use Rattle.term_core.specs.Kinds.{kind_of, scale_of, scale_of_kind, scale_or_zero}
-use Rattle.term_core.specs.Values.{kind_or}
-use Rattle.term_core.specs.Bounds.{Interval, Range, range_kinds, lifted, hull, corners, aligned, of_op, interval_of, fits, fit_aligned, fit_operands, fit_divided}
+use Rattle.term_model.specs.Declarations.{Declarations}
+use Rattle.term_model.specs.declared.terms.NumOp.{NumOp}
+use Rattle.term_model.specs.declared.terms.CmpOp.{CmpOp}
+use Rattle.term_model.specs.declared.terms.LogicOp.{LogicOp}
+use Rattle.term_model.specs.declared.values.Kind.{Kind}
+use Rattle.term_model.specs.Terms.{Expression, Neg, Num, Cmp, Not, Logic, Cond, Widen, Round, Div, Acc}
+use Rattle.term_model.specs.Kinds.{kind_of, scale_of, scale_of_kind, scale_or_zero}
+use Rattle.term_model.specs.Values.{kind_or}
+use Rattle.term_model.specs.Bounds.{Interval, Range, range_kinds, lifted, hull, corners, aligned, of_op, interval_of, fits, fit_aligned, fit_operands, fit_divided}
 use Rattle.interval_check.specs.Nodes.{IsBounded, range_after}
 use Rattle.interval_check.specs.Narrowing.{IsNarrower}
 use Rattle.interval_check.proofs.TestFacts.{division_fits}

@@ -1,11 +1,11 @@
 -- The scale of the total that the trial answers is the one that is found by structure.
 use Rattle.std.proofs.Common.{◌≡◌, ℕ, ◌+◌, ◌≤◌, max, Bool, true, false, if◌then◌else◌, List, ◌∷◌, Result, Ok, Err, refl, ap, ◌∙◌, sym, subst}
-use Rattle.term_core.specs.declared.values.Kind.{Kind}
-use Rattle.term_core.specs.Declarations.{Declarations}
-use Rattle.term_core.specs.Terms.{Expression, Contract, Zero, Pay, Both, Scale, After, Let, Within}
-use Rattle.term_core.specs.Kinds.{scale_of_kind}
-use Rattle.term_core.specs.Sizes.{nodes, nodes_of_contract}
-use Rattle.term_core.specs.Bounds.{Range, range_kinds}
+use Rattle.term_model.specs.declared.values.Kind.{Kind}
+use Rattle.term_model.specs.Declarations.{Declarations}
+use Rattle.term_model.specs.Terms.{Expression, Contract, Zero, Pay, Both, Scale, After, Let, Within}
+use Rattle.term_model.specs.Kinds.{scale_of_kind}
+use Rattle.term_model.specs.Sizes.{nodes, nodes_of_contract}
+use Rattle.term_model.specs.Bounds.{Range, range_kinds}
 use Rattle.term_core.specs.Trying.{then_do, moved}
 use Rattle.interval_check.specs.RangeTrials.{scale_in, range_tried, kind_found}
 use Rattle.interval_check.specs.TotalTrials.{Total, Answer, total_fits, total_here, of_both, of_either, of_scaled, total_tried, scale_found, AreTotalsScaled}

@@ -3,14 +3,14 @@ use Rattle.std.proofs.Common.{◌≡◌, ℕ, ◌+◌, ◌-◌, ◌*◌, ◌^◌
 use Rattle.std.proofs.Math.Nat.{mul-le-mul_right, mul-le-mul_left}
 use Rattle.std.proofs.lemmas.Int.{ints}
 use Rattle.decimal.specs.Rounding.{raised}
-use Rattle.term_core.specs.Declarations.{Declarations}
-use Rattle.term_core.specs.declared.values.Kind.{Kind}
-use Rattle.term_core.specs.Terms.{Expression, Contract, Zero, Pay, Both, Scale, After, Let, Within}
-use Rattle.term_core.specs.Environments.{Environment, IsAdmitted}
-use Rattle.term_core.specs.Kinds.{kind_of}
-use Rattle.term_core.specs.Values.{Entry, kinds, num, kind_or, value_of, first_true}
-use Rattle.term_core.specs.Flows.{Flow, count_of, scale_of_contract, unit_flow, flow_of}
-use Rattle.term_core.specs.Bounds.{Interval, Range, range_kinds, interval_of, greatest_size, total_of}
+use Rattle.term_model.specs.Declarations.{Declarations}
+use Rattle.term_model.specs.declared.values.Kind.{Kind}
+use Rattle.term_model.specs.Terms.{Expression, Contract, Zero, Pay, Both, Scale, After, Let, Within}
+use Rattle.term_model.specs.Environments.{Environment, IsAdmitted}
+use Rattle.term_model.specs.Kinds.{kind_of}
+use Rattle.term_model.specs.Values.{Entry, kinds, num, kind_or, value_of, first_true}
+use Rattle.term_model.specs.Flows.{Flow, count_of, scale_of_contract, unit_flow, flow_of}
+use Rattle.term_model.specs.Bounds.{Interval, Range, range_kinds, interval_of, greatest_size, total_of}
 use Rattle.interval_check.specs.Nodes.{IsBoundedContract, range_of}
 use Rattle.interval_check.specs.Within.{IsIn, KeepsLimits}
 use Rattle.interval_check.specs.Sums.{sum_of_sizes, sum_of_flows, entry_of, turnover_of}

@@ -5,20 +5,20 @@ use Rattle.std.specs.Prelude.{int_le, nat_le}
 use Rattle.std.proofs.lemmas.Bool.{and_parts}
 use Rattle.std.proofs.lemmas.Int.{ints}
 use Rattle.decimal.specs.Rounding.{raised, at_scale, divided}
-use Rattle.term_core.specs.Declarations.{Declarations}
-use Rattle.term_core.specs.declared.name.Name.{Name}
-use Rattle.term_core.specs.declared.label.Label.{Label}
-use Rattle.term_core.specs.declared.label.Label.TheVariants.{Number as NumberLabel, Flag}
-use Rattle.term_core.specs.declared.values.Kind.{Kind}
-use Rattle.term_core.specs.declared.values.Value.{Value}
-use Rattle.term_core.specs.declared.values.Value.TheVariants.{Num as Amount, Truth}
-use Rattle.term_core.specs.Terms.{Expression, Lit, Yes, Var, Obs, Neg, Num, Cmp, Not, Logic, Cond, Widen, Round, Div, Acc}
-use Rattle.term_core.specs.Limits.{are_labels, is_label}
-use Rattle.term_core.specs.Environments.{Environment, Place, IsAdmitted, IsValueOf, held, label_of, least, value_or}
-use Rattle.term_core.specs.Kinds.{kind_of, scale_of, scale_of_kind}
-use Rattle.term_core.specs.Values.{Entry, kinds, num, truth, of_num, widened, kind_or, value_of, value_of_entry, days_run}
-use Rattle.term_core.specs.Bounds.{Interval, Range, range_kinds, lifted, hull, aligned, of_op, interval_of_label, interval_of_range, interval_of, stepped, operands_fit, fits}
-use Rattle.term_core.proofs.FlowFacts.{raised-zero}
+use Rattle.term_model.specs.Declarations.{Declarations}
+use Rattle.term_model.specs.declared.name.Name.{Name}
+use Rattle.term_model.specs.declared.label.Label.{Label}
+use Rattle.term_model.specs.declared.label.Label.TheVariants.{Number as NumberLabel, Flag}
+use Rattle.term_model.specs.declared.values.Kind.{Kind}
+use Rattle.term_model.specs.declared.values.Value.{Value}
+use Rattle.term_model.specs.declared.values.Value.TheVariants.{Num as Amount, Truth}
+use Rattle.term_model.specs.Terms.{Expression, Lit, Yes, Var, Obs, Neg, Num, Cmp, Not, Logic, Cond, Widen, Round, Div, Acc}
+use Rattle.term_model.specs.Limits.{are_labels, is_label}
+use Rattle.term_model.specs.Environments.{Environment, Place, IsAdmitted, IsValueOf, held, label_of, least, value_or}
+use Rattle.term_model.specs.Kinds.{kind_of, scale_of, scale_of_kind}
+use Rattle.term_model.specs.Values.{Entry, kinds, num, truth, of_num, widened, kind_or, value_of, value_of_entry, days_run}
+use Rattle.term_model.specs.Bounds.{Interval, Range, range_kinds, lifted, hull, aligned, of_op, interval_of_label, interval_of_range, interval_of, stepped, operands_fit, fits}
+use Rattle.term_model.proofs.FlowFacts.{raised-zero}
 use Rattle.interval_check.specs.Nodes.{IsBounded, range_after}
 use Rattle.interval_check.specs.Within.{IsIn, AreWithin, KeepsLimits}
 use Rattle.interval_check.proofs.InclusionFacts.{in_single, in_left, in_right, in_negative, in_raised, in_rounded, in_of_op, in_aligned_left, in_aligned_right}

@@ -8,13 +8,13 @@ use Rattle.std.proofs.lemmas.Bool.Decides.{nat_tests}
 use Rattle.std.proofs.lemmas.List.Elements.{All-head, All-tail}
 use Rattle.std.proofs.lemmas.List.Sums.{sum_by-cons}
 use Rattle.decimal.specs.Rounding.{raised}
-use Rattle.term_core.specs.Declarations.{Declarations}
-use Rattle.term_core.specs.declared.values.Kind.{Kind}
-use Rattle.term_core.specs.Terms.{Contract, Zero, Pay, Both, Scale, After, Let, Within}
-use Rattle.term_core.specs.Environments.{Environment, IsAdmitted}
-use Rattle.term_core.specs.Values.{Entry, kinds, num, value_of, first_true, entry_of}
-use Rattle.term_core.specs.Flows.{count_of, scale_of_contract, unit_flow, on_day_zero, flow_of}
-use Rattle.term_core.specs.Bounds.{Range, range_kinds, interval_of, greatest_size, total_of}
+use Rattle.term_model.specs.Declarations.{Declarations}
+use Rattle.term_model.specs.declared.values.Kind.{Kind}
+use Rattle.term_model.specs.Terms.{Contract, Zero, Pay, Both, Scale, After, Let, Within}
+use Rattle.term_model.specs.Environments.{Environment, IsAdmitted}
+use Rattle.term_model.specs.Values.{Entry, kinds, num, value_of, first_true, entry_of}
+use Rattle.term_model.specs.Flows.{count_of, scale_of_contract, unit_flow, on_day_zero, flow_of}
+use Rattle.term_model.specs.Bounds.{Range, range_kinds, interval_of, greatest_size, total_of}
 use Rattle.interval_check.specs.Nodes.{IsBoundedContract, range_of}
 use Rattle.interval_check.specs.Within.{KeepsLimits}
 use Rattle.interval_check.specs.Volumes.{Occasion, IsApart, AreApart, volume_of, AllFlowsAddUpToTotal, AllAmountsAddUpToTotal}

@@ -3,12 +3,12 @@
 -- the portfolio's decimals; and so is all that it pays between two parties in an asset, before it is netted.
 use Rattle.std.specs.Prelude.{ℕ, ℤ, pos, ◌+ℤ◌, ◌-◌, ◌*◌, ◌^◌, ◌≤◌, max, unsigned_abs, List, ◌∷◌}
 use Rattle.decimal.specs.Rounding.{raised}
-use Rattle.term_core.specs.Declarations.{Declarations}
-use Rattle.term_core.specs.Terms.{Contract, Zero, Pay, Both, Scale, After, Let, Within}
-use Rattle.term_core.specs.Environments.{Environment}
-use Rattle.term_core.specs.Values.{Entry, kinds}
-use Rattle.term_core.specs.Flows.{Flow, count_of, scale_of_contract, flow_of}
-use Rattle.term_core.specs.Bounds.{greatest_total}
+use Rattle.term_model.specs.Declarations.{Declarations}
+use Rattle.term_model.specs.Terms.{Contract, Zero, Pay, Both, Scale, After, Let, Within}
+use Rattle.term_model.specs.Environments.{Environment}
+use Rattle.term_model.specs.Values.{Entry, kinds}
+use Rattle.term_model.specs.Flows.{Flow, count_of, scale_of_contract, flow_of}
+use Rattle.term_model.specs.Bounds.{greatest_total}
 use Rattle.interval_check.specs.Sums.{entry_of, turnover_of}
 use Rattle.interval_check.specs.Safety.{CanEvaluate}
 

@@ -2,17 +2,17 @@
 -- interval arithmetic, Moore 1966, for exact decimals and rounding by a mode), every number fits, no divisor is 0, and what
 -- a contract pays adds up to at most its total.
 use Rattle.std.specs.Prelude.{ℕ, ℤ, ◌≤◌, ◌↔◌, List, [], ◌∷◌}
-use Rattle.term_core.specs.Declarations.{Declarations, declarations}
-use Rattle.term_core.specs.declared.decls.Decls.{Decls}
-use Rattle.term_core.specs.declared.rules.Rule.TheVariants.{Sort, Scale, Bound}
-use Rattle.term_core.specs.Terms.{Expression, Contract}
-use Rattle.term_core.specs.WellFormed.{IsWellFormed}
-use Rattle.term_core.specs.Shifts.{shifted}
-use Rattle.term_core.specs.Environments.{Environment, IsAdmitted}
-use Rattle.term_core.specs.Values.{Entry, num, value_of}
-use Rattle.term_core.specs.Flows.{Flow}
-use Rattle.term_core.specs.Bounds.{Range, interval_of, total_of, aligned_total}
-use Rattle.term_core.specs.Acceptance.{Meets, IsAccepted}
+use Rattle.term_model.specs.Declarations.{Declarations, declarations}
+use Rattle.term_model.specs.declared.decls.Decls.{Decls}
+use Rattle.term_model.specs.declared.rules.Rule.TheVariants.{Sort, Scale, Bound}
+use Rattle.term_model.specs.Terms.{Expression, Contract}
+use Rattle.term_model.specs.WellFormed.{IsWellFormed}
+use Rattle.term_model.specs.Shifts.{shifted}
+use Rattle.term_model.specs.Environments.{Environment, IsAdmitted}
+use Rattle.term_model.specs.Values.{Entry, num, value_of}
+use Rattle.term_model.specs.Flows.{Flow}
+use Rattle.term_model.specs.Bounds.{Range, interval_of, total_of, aligned_total}
+use Rattle.term_model.specs.Acceptance.{Meets, IsAccepted}
 use Rattle.interval_check.specs.Nodes.{IsBounded, IsSortedContract, IsScaledContract, IsBoundedContract, MeetsRules, ContractMeetsRules, range_of}
 use Rattle.interval_check.specs.Within.{IsIn, AreWithin, AreSuited, KeepsLimits}
 use Rattle.interval_check.specs.Sums.{sum_of_flows, sum_of_amounts, turnover_of, entry_of}

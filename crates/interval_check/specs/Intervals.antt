@@ -1,7 +1,7 @@
 -- The program's intervals as those of the model; and a mantissa, or an interval, where it is at most 10^37 in size.
 pub use Rattle.decimal.specs.Mantissas.{mantissa}
 use Rattle.std.specs.Prelude.{Option, Some, None, if◌then◌else◌}
-use Rattle.term_core.specs.Bounds.{Interval, fits}
+use Rattle.term_model.specs.Bounds.{Interval, fits}
 use Rattle.interval_check.specs.declared.intervals.Interval.{Interval as Ends}
 use Rattle.interval_check.specs.Safety.{IsSmall}
 

@@ -1,8 +1,8 @@
 -- Narrower intervals: where names have narrower ranges, so have expressions, and every rule that held still holds.
 use Rattle.std.specs.Prelude.{◌≡◌, ◌≤◌, List, [], ◌∷◌}
-use Rattle.term_core.specs.Declarations.{Declarations}
-use Rattle.term_core.specs.Terms.{Expression, Contract}
-use Rattle.term_core.specs.Bounds.{Interval, Range, interval_of, total_of}
+use Rattle.term_model.specs.Declarations.{Declarations}
+use Rattle.term_model.specs.Terms.{Expression, Contract}
+use Rattle.term_model.specs.Bounds.{Interval, Range, interval_of, total_of}
 use Rattle.interval_check.specs.Nodes.{IsBounded, IsBoundedContract, MeetsRules, ContractMeetsRules}
 use Rattle.interval_check.specs.Within.{IsIn, KeepsLimits}
 

@@ -1,22 +1,22 @@
 -- The range of an expression, or the place of its first node that breaks the rule on bounds, counted from the
 -- expression's own first node. This goes by structure, each part once, and an accumulator's body once for each day;
 -- proofs/RangeFacts shows that it finds what the rule says.
-pub use Rattle.term_core.specs.Branches.{either as kind_of_either}
+pub use Rattle.term_model.specs.Branches.{either as kind_of_either}
 use Rattle.std.specs.Prelude.{ℕ, zero, suc, pos, neg_ℤ, ◌+◌, ◌-◌, ◌≤◌, List, ◌∷◌, Option, Some, None, Result, Ok, Err, if◌then◌else◌, slice_get}
 use Rattle.decimal.specs.declared.rounding.Mode.{Mode}
 use Rattle.decimal.specs.Rounding.{raised, at_scale, divided}
-use Rattle.term_core.specs.declared.terms.NumOp.{NumOp}
-use Rattle.term_core.specs.declared.terms.NumOp.TheVariants.{Times}
-use Rattle.term_core.specs.declared.values.Kind.{Kind}
-use Rattle.term_core.specs.declared.values.Kind.TheVariants.{Truth, Number}
-use Rattle.term_core.specs.declared.label.Label.{Label}
-use Rattle.term_core.specs.Declarations.{Declarations}
-use Rattle.term_core.specs.Terms.{Expression, Lit, Yes, Var, Obs, Neg, Num, Cmp, Not, Logic, Cond, Widen, Round, Div, Acc}
-use Rattle.term_core.specs.Environments.{label_of}
-use Rattle.term_core.specs.Kinds.{kind_of_label, scale_of_kind, scale_of_op}
-use Rattle.term_core.specs.Values.{kind_or}
-use Rattle.term_core.specs.Sizes.{nodes}
-use Rattle.term_core.specs.Bounds.{Interval, Range, single, lifted, swapped, hull, corners, aligned, on_intervals, interval_of_label, fit_divided}
+use Rattle.term_model.specs.declared.terms.NumOp.{NumOp}
+use Rattle.term_model.specs.declared.terms.NumOp.TheVariants.{Times}
+use Rattle.term_model.specs.declared.values.Kind.{Kind}
+use Rattle.term_model.specs.declared.values.Kind.TheVariants.{Truth, Number}
+use Rattle.term_model.specs.declared.label.Label.{Label}
+use Rattle.term_model.specs.Declarations.{Declarations}
+use Rattle.term_model.specs.Terms.{Expression, Lit, Yes, Var, Obs, Neg, Num, Cmp, Not, Logic, Cond, Widen, Round, Div, Acc}
+use Rattle.term_model.specs.Environments.{label_of}
+use Rattle.term_model.specs.Kinds.{kind_of_label, scale_of_kind, scale_of_op}
+use Rattle.term_model.specs.Values.{kind_or}
+use Rattle.term_model.specs.Sizes.{nodes}
+use Rattle.term_model.specs.Bounds.{Interval, Range, single, lifted, swapped, hull, corners, aligned, on_intervals, interval_of_label, fit_divided}
 use Rattle.term_core.specs.Trying.{then_do, moved}
 use Rattle.interval_check.specs.Intervals.{fitting}
 

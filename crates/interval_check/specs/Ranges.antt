@@ -1,9 +1,9 @@
 -- The program's ranges as those of the model, and what is known of a range that passed its trial:
 -- mantissas of at most 10^37 in size, and a scale of at most 27.
 use Rattle.std.specs.Prelude.{◌≡◌, ℕ, ◌≤◌, ◌^◌, Result, Ok, Err, unsigned_abs}
-use Rattle.term_core.specs.declared.values.Kind.{Kind}
-use Rattle.term_core.specs.Kinds.{scale_of_kind}
-use Rattle.term_core.specs.Bounds.{Range}
+use Rattle.term_model.specs.declared.values.Kind.{Kind}
+use Rattle.term_model.specs.Kinds.{scale_of_kind}
+use Rattle.term_model.specs.Bounds.{Range}
 use Rattle.interval_check.specs.declared.ranges.Range.{Range as Found}
 use Rattle.interval_check.specs.declared.ranges.Shared.{Shared as FoundShared}
 use Rattle.interval_check.specs.declared.ranges.Operands.{Operands as FoundOperands}

@@ -1,15 +1,15 @@
 -- What the trials find of a term, as the model or the program holds it, among the names of a scope,
 -- and that its scales are right there.
 use Rattle.std.specs.Prelude.{◌∷◌}
-use Rattle.term_core.specs.declared.decls.Decls.{Decls}
-use Rattle.term_core.specs.declared.terms.Expr.{Expr}
-use Rattle.term_core.specs.declared.terms.Contr.{Contr}
-use Rattle.term_core.specs.declared.scope.Scope.{Scope}
-use Rattle.term_core.specs.declared.values.Kind.{Kind}
-use Rattle.term_core.specs.Declarations.{declarations}
-use Rattle.term_core.specs.Terms.{Expression, Contract, Within, expression, contract}
-use Rattle.term_core.specs.DayCounts.{Num}
-use Rattle.term_core.specs.Bounds.{Range as Bounds, range_kinds}
+use Rattle.term_model.specs.declared.decls.Decls.{Decls}
+use Rattle.term_model.specs.declared.terms.Expr.{Expr}
+use Rattle.term_model.specs.declared.terms.Contr.{Contr}
+use Rattle.term_model.specs.declared.scope.Scope.{Scope}
+use Rattle.term_model.specs.declared.values.Kind.{Kind}
+use Rattle.term_model.specs.Declarations.{declarations}
+use Rattle.term_model.specs.Terms.{Expression, Contract, Within, expression, contract}
+use Rattle.term_model.specs.DayCounts.{Num}
+use Rattle.term_model.specs.Bounds.{Range as Bounds, range_kinds}
 use Rattle.interval_check.specs.declared.ranges.Range.{Range}
 use Rattle.interval_check.specs.RangeScopes.{ranges_in}
 use Rattle.interval_check.specs.RangeTrials.{Answer, day_tried, range_tried, AreScaled}

@@ -1,12 +1,12 @@
 -- What is added up over days: the sizes of flows; and the turnover, which is the sizes of all single payments, in both
 -- directions and before any is netted against another.
-pub use Rattle.term_core.specs.Values.{entry_of}
+pub use Rattle.term_model.specs.Values.{entry_of}
 use Rattle.std.specs.Prelude.{ℕ, zero, suc, ℤ, pos, ◌+ℤ◌, ◌+◌, ◌-◌, ◌*◌, ◌^◌, max, unsigned_abs, List, ◌∷◌, Some, None}
-use Rattle.term_core.specs.Declarations.{Declarations}
-use Rattle.term_core.specs.Terms.{Contract, Zero, Pay, Both, Scale, After, Let, Within}
-use Rattle.term_core.specs.Environments.{Environment}
-use Rattle.term_core.specs.Values.{Entry, kinds, num, value_of, first_true}
-use Rattle.term_core.specs.Flows.{Flow, count_of, scale_of_contract, unit_flow, flow_of, amount_of}
+use Rattle.term_model.specs.Declarations.{Declarations}
+use Rattle.term_model.specs.Terms.{Contract, Zero, Pay, Both, Scale, After, Let, Within}
+use Rattle.term_model.specs.Environments.{Environment}
+use Rattle.term_model.specs.Values.{Entry, kinds, num, value_of, first_true}
+use Rattle.term_model.specs.Flows.{Flow, count_of, scale_of_contract, unit_flow, flow_of, amount_of}
 
 -- the sizes of n numbers, from the first on
 abbrev pub sum_of_sizes : ℕ → (ℕ → ℤ) → ℕ

@@ -3,14 +3,14 @@
 -- contract is the sizes of all its single payments between two different parties, before any is netted against another.
 use Rattle.std.specs.Prelude.{ℕ, ℤ, pos, ◌+ℤ◌, ◌+◌, ◌-◌, ◌*◌, ◌^◌, ◌≤◌, ◌≡◌, ◌⊎◌, ◌==◌, max, unsigned_abs, List, [], ◌∷◌, Some, None, if◌then◌else◌}
 use Rattle.std.specs.List.{All, sum_by}
-use Rattle.term_core.specs.Declarations.{Declarations}
-use Rattle.term_core.specs.declared.rules.Rule.TheVariants.{Bound}
-use Rattle.term_core.specs.Terms.{Contract, Zero, Pay, Both, Scale, After, Let, Within}
-use Rattle.term_core.specs.Environments.{Environment, IsAdmitted}
-use Rattle.term_core.specs.Values.{Entry, kinds, num, value_of, first_true, entry_of}
-use Rattle.term_core.specs.Flows.{Flow, count_of, scale_of_contract, flow_of, amount_of}
-use Rattle.term_core.specs.Bounds.{Range, total_of, aligned_total}
-use Rattle.term_core.specs.Acceptance.{Meets}
+use Rattle.term_model.specs.Declarations.{Declarations}
+use Rattle.term_model.specs.declared.rules.Rule.TheVariants.{Bound}
+use Rattle.term_model.specs.Terms.{Contract, Zero, Pay, Both, Scale, After, Let, Within}
+use Rattle.term_model.specs.Environments.{Environment, IsAdmitted}
+use Rattle.term_model.specs.Values.{Entry, kinds, num, value_of, first_true, entry_of}
+use Rattle.term_model.specs.Flows.{Flow, count_of, scale_of_contract, flow_of, amount_of}
+use Rattle.term_model.specs.Bounds.{Range, total_of, aligned_total}
+use Rattle.term_model.specs.Acceptance.{Meets}
 use Rattle.interval_check.specs.Nodes.{IsBoundedContract}
 use Rattle.interval_check.specs.Within.{AreWithin, KeepsLimits}
 

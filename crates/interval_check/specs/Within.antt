@@ -1,12 +1,12 @@
 -- When numbers lie in intervals, and values of names in their ranges.
 use Rattle.std.specs.Prelude.{true, ℤ, ◌≤ℤ◌, ◌≡◌, List, [], ◌∷◌}
-use Rattle.term_core.specs.Declarations.{Declarations}
-use Rattle.term_core.specs.Limits.{are_labels}
-use Rattle.term_core.specs.declared.values.Kind.{Kind}
-use Rattle.term_core.specs.declared.values.Kind.TheVariants.{Truth, Number}
-use Rattle.term_core.specs.Values.{Entry, num}
-use Rattle.term_core.specs.LawsKinds.{IsOfKind}
-use Rattle.term_core.specs.Bounds.{Interval, Range}
+use Rattle.term_model.specs.Declarations.{Declarations}
+use Rattle.term_model.specs.Limits.{are_labels}
+use Rattle.term_model.specs.declared.values.Kind.{Kind}
+use Rattle.term_model.specs.declared.values.Kind.TheVariants.{Truth, Number}
+use Rattle.term_model.specs.Values.{Entry, num}
+use Rattle.term_model.specs.LawsKinds.{IsOfKind}
+use Rattle.term_model.specs.Bounds.{Interval, Range}
 
 -- a mantissa lies in an interval
 pub record IsIn (i : Interval) (m : ℤ) : Type 0 where

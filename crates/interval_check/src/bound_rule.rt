@@ -6,14 +6,14 @@
 //! arms, so each form with parts has one of its own.
 
 ghost use Rattle.std.specs.Prelude.{◌≡◌, ◌<◌, ◌+◌, ◌^◌, pos, [], IfOk};
-ghost use Rattle.term_core.specs.Declarations.{declarations};
-ghost use Rattle.term_core.specs.declared.rules.Rule.{Rule};
-ghost use Rattle.term_core.specs.Terms.{expression, contract, Both, Scale, Let};
-ghost use Rattle.term_core.specs.Sizes.{nodes, nodes_of_contract};
-ghost use Rattle.term_core.specs.Bounds.{aligned_total};
+ghost use Rattle.term_model.specs.Declarations.{declarations};
+ghost use Rattle.term_model.specs.declared.rules.Rule.{Rule};
+ghost use Rattle.term_model.specs.Terms.{expression, contract, Both, Scale, Let};
+ghost use Rattle.term_model.specs.Sizes.{nodes, nodes_of_contract};
+ghost use Rattle.term_model.specs.Bounds.{aligned_total};
 ghost use Rattle.term_core.specs.Trying.{FaultIsWithin, moved};
-ghost use Rattle.term_core.specs.Acceptance.{Meets};
-ghost use Rattle.term_core.specs.Verdicts.{IsVerdict};
+ghost use Rattle.term_model.specs.Acceptance.{Meets};
+ghost use Rattle.term_model.specs.Verdicts.{IsVerdict};
 ghost use Rattle.interval_check.specs.ScopedTrials.{total_among, total_within};
 ghost use Rattle.interval_check.specs.ScopedTrials.{PaysScaledAmong, PaysScaledBranches};
 ghost use Rattle.interval_check.specs.ScopedTrials.{PaysScaledWithin};
@@ -26,9 +26,8 @@ use crate::totals::{
     Total, amount_at, checked_total, total_of_both, total_of_either, total_of_scaled,
 };
 use std::alloc::Global;
-use term_core::{
-    CheckErr, Contr, Decls, Expr, Rule, Scope, behind, behind_both, behind_contract, behind_node,
-};
+use term_model::{CheckErr, Contr, Decls, Expr, Rule, Scope};
+use term_core::{behind, behind_both, behind_contract, behind_node};
 
 /// The total of a contract among names of these ranges.
 #[cycle(totalling)]

@@ -2,8 +2,9 @@
 
 ghost use Rattle.std.specs.Prelude.{◌≡◌, ◌≤◌, ◌^◌, unsigned_abs, ◌*ℤ◌, neg_ℤ, IfSome};
 ghost use Rattle.decimal.specs.Rounding.{raised};
-ghost use Rattle.term_core.specs.declared.terms.NumOp.TheVariants.{Plus, Minus, Times, Min, Max};
-ghost use Rattle.term_core.specs.Bounds.{fits, greatest_size, lifted, swapped, single, hull, on_intervals};
+ghost use Rattle.term_model.specs.declared.terms.NumOp.TheVariants.{Plus, Minus, Times, Min, Max};
+ghost use Rattle.term_model.specs.Bounds.{fits, greatest_size, lifted, swapped, single, hull};
+ghost use Rattle.term_model.specs.Bounds.{on_intervals};
 ghost use Rattle.interval_check.specs.Intervals.{interval, found, mantissa, fitting, EndsFit};
 
 use decimal::{is_mantissa, widen};

@@ -2,7 +2,7 @@
 
 ghost use Rattle.std.specs.Prelude.{◌≡◌, ◌≤◌, ◌+◌, IfErr, IfOk};
 ghost use Rattle.decimal.specs.Rounding.{divided, DivFits};
-ghost use Rattle.term_core.specs.Bounds.{single, hull, has_zero, fit_divided};
+ghost use Rattle.term_model.specs.Bounds.{single, hull, has_zero, fit_divided};
 ghost use Rattle.interval_check.specs.Intervals.{interval};
 ghost use Rattle.interval_check.specs.Ranges.{range, range_found, IsFit};
 ghost use Rattle.interval_check.specs.RangeTrials as tried;
@@ -10,7 +10,7 @@ ghost use Rattle.interval_check.specs.RangeTrials as tried;
 use crate::intervals::{Interval, hull_of, raise_ends};
 use crate::ranges::{Range, checked};
 use decimal::{Mode, div_to};
-use term_core::Kind;
+use term_model::Kind;
 
 // How a quotient is rounded: the scales of its numerator and its denominator, the mode, and its own
 // scale.

@@ -5,13 +5,13 @@
 //! function pays at entry for the locals of all its arms, so each form has one of its own.
 
 ghost use Rattle.std.specs.Prelude.{◌≡◌, ◌<◌, ◌≤◌, ◌+◌, ◌^◌, IfErr, IfOk, slice_get};
-ghost use Rattle.term_core.specs.Terms.{expression, Neg, Num, Cmp, Not, Logic, Cond};
-ghost use Rattle.term_core.specs.Terms.{Widen, Round, Div, Acc};
-ghost use Rattle.term_core.specs.declared.values.Kind.TheVariants.{Number};
-ghost use Rattle.term_core.specs.Kinds.{scale_of_kind};
-ghost use Rattle.term_core.specs.Values.{kind_or};
-ghost use Rattle.term_core.specs.Sizes.{nodes};
-ghost use Rattle.term_core.specs.Bounds.{range_kinds, single};
+ghost use Rattle.term_model.specs.Terms.{expression, Neg, Num, Cmp, Not, Logic, Cond};
+ghost use Rattle.term_model.specs.Terms.{Widen, Round, Div, Acc};
+ghost use Rattle.term_model.specs.declared.values.Kind.TheVariants.{Number};
+ghost use Rattle.term_model.specs.Kinds.{scale_of_kind};
+ghost use Rattle.term_model.specs.Values.{kind_or};
+ghost use Rattle.term_model.specs.Sizes.{nodes};
+ghost use Rattle.term_model.specs.Bounds.{range_kinds, single};
 ghost use Rattle.term_core.specs.Trying.{FaultIsWithin, moved};
 ghost use Rattle.interval_check.specs.Intervals.{interval, fitting};
 ghost use Rattle.interval_check.specs.Ranges.{range, range_found, operands_found};
@@ -29,7 +29,8 @@ use crate::ranges::{
     Operands, Range, TRUTH, checked, combined, compared, either, is_same, negated, rounded, widened,
 };
 use decimal::Mode;
-use term_core::{CmpOp, Decls, Expr, Kind, LogicOp, NumOp, Scope, behind, behind_node, nodes_in};
+use term_model::{CmpOp, Decls, Expr, Kind, LogicOp, NumOp, Scope};
+use term_core::{behind, behind_node, nodes_in};
 
 /// The range of an expression whose sorts and scales are right, among names of these ranges, or the
 /// number of its first node that breaks the rule on bounds, counted from the expression's own first

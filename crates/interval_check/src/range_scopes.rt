@@ -1,17 +1,17 @@
 //! The ranges of the names that stand around an expression, and of what is observed.
 
 ghost use Rattle.std.specs.Prelude.{◌≡◌, IfErr, IfOk, slice_get};
-ghost use Rattle.term_core.specs.Declarations.{declarations};
-ghost use Rattle.term_core.specs.Environments.{label_of};
-ghost use Rattle.term_core.specs.Values.{kind_or};
-ghost use Rattle.term_core.specs.Bounds.{range_kinds};
+ghost use Rattle.term_model.specs.Declarations.{declarations};
+ghost use Rattle.term_model.specs.Environments.{label_of};
+ghost use Rattle.term_model.specs.Values.{kind_or};
+ghost use Rattle.term_model.specs.Bounds.{range_kinds};
 ghost use Rattle.interval_check.specs.Ranges.{range, range_found, IsFit};
 ghost use Rattle.interval_check.specs.RangeScopes.{ranges_in};
 ghost use Rattle.interval_check.specs.RangeTrials.{observed, range_or_truth};
 
 use crate::intervals::Interval;
 use crate::ranges::{Range, TRUTH, checked};
-use term_core::{Decls, Kind, Label, Scope};
+use term_model::{Decls, Kind, Label, Scope};
 
 /// The range of the name that is bound `back` binders further out than the innermost. One without a
 /// binder, which no closed term has, is a truth value.

@@ -2,9 +2,9 @@
 //! fault 0, the node itself, where an end point or an operand is no mantissa.
 
 ghost use Rattle.std.specs.Prelude.{◌≡◌, ◌↔◌, ◌≤◌, ◌+◌, IfErr, IfOk, IfSome, IsTrue};
-ghost use Rattle.term_core.specs.declared.terms.NumOp.{NumOp};
-ghost use Rattle.term_core.specs.Kinds.{scale_of_kind, scale_of_op};
-ghost use Rattle.term_core.specs.Bounds.{aligned};
+ghost use Rattle.term_model.specs.declared.terms.NumOp.{NumOp};
+ghost use Rattle.term_model.specs.Kinds.{scale_of_kind, scale_of_op};
+ghost use Rattle.term_model.specs.Bounds.{aligned};
 ghost use Rattle.interval_check.specs.Intervals.{interval, found, fitting, EndsFit};
 ghost use Rattle.interval_check.specs.Ranges.{range, range_found, shared_found, IsFit};
 ghost use Rattle.interval_check.specs.RangeTrials as tried;
@@ -14,7 +14,7 @@ use crate::intervals::{
     raise_ends, sum_of,
 };
 use decimal::{Mode, round_to};
-use term_core::{Kind, NumOp};
+use term_model::{Kind, NumOp};
 
 /// Where the mantissa of an expression lies, and what the expression is. A truth value has the
 /// interval of 0.

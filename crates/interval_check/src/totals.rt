@@ -7,7 +7,7 @@ ghost use Rattle.interval_check.specs.Ranges.{range};
 ghost use Rattle.interval_check.specs.Totals.{total, total_found, IsTotal};
 ghost use Rattle.interval_check.specs.RangeTrials.{scale_in};
 ghost use Rattle.interval_check.specs.TotalTrials as tried;
-ghost use Rattle.term_core.specs.Bounds.{greatest_total};
+ghost use Rattle.term_model.specs.Bounds.{greatest_total};
 
 use crate::intervals::greatest_size_in;
 use crate::ranges::Range;

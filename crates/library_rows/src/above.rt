@@ -1,13 +1,13 @@
 //! What rows above a row say for it.
 
 ghost use Rattle.std.specs.Prelude.{◌≤◌, length, IfOk};
-ghost use Rattle.term_core.specs.Limits.{most_counted};
+ghost use Rattle.term_model.specs.Limits.{most_counted};
 
 use crate::bad_row::BadRow;
 use crate::spelling::append_spelled;
 use crate::words::count;
 use std::alloc::Global;
-use term_core::MOST_COUNTED;
+use term_model::MOST_COUNTED;
 
 /// What holds for the rows below: the text before that of each row, the table of fixings, and the
 /// numbers of the templates.

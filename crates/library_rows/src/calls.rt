@@ -1,7 +1,7 @@
 //! The calls that rows try, by their names.
 
 ghost use Rattle.std.specs.Prelude.{◌≤◌, length};
-ghost use Rattle.term_core.specs.Limits.{most_counted};
+ghost use Rattle.term_model.specs.Limits.{most_counted};
 
 use crate::above::Above;
 use crate::bad_row::{Answer, BadRow};

@@ -1,13 +1,13 @@
 //! Contracts of rows, and what the calls ask of them.
 
 ghost use Rattle.std.specs.Prelude.{◌≤◌, ◌<◌, length, IfOk};
-ghost use Rattle.term_core.specs.Limits.{most_counted};
-ghost use Rattle.term_core.specs.Acceptance.{IsAccepted};
-ghost use Rattle.term_core.specs.Declarations.{declarations};
-ghost use Rattle.term_core.specs.Environments.{IsAdmitted};
-ghost use Rattle.term_core.specs.Sizes.{height_of_contract, nodes_of_contract};
-ghost use Rattle.term_core.specs.Terms.{contract};
-ghost use Rattle.term_core.specs.WellFormed.{IsClosed, HasOnlyNumbers};
+ghost use Rattle.term_model.specs.Limits.{most_counted};
+ghost use Rattle.term_model.specs.Acceptance.{IsAccepted};
+ghost use Rattle.term_model.specs.Declarations.{declarations};
+ghost use Rattle.term_model.specs.Environments.{IsAdmitted};
+ghost use Rattle.term_model.specs.Sizes.{height_of_contract, nodes_of_contract};
+ghost use Rattle.term_model.specs.Terms.{contract};
+ghost use Rattle.term_model.specs.WellFormed.{IsClosed, HasOnlyNumbers};
 
 use crate::above::Above;
 use crate::bad_row::BadRow;
@@ -15,7 +15,8 @@ use contract_check::check;
 use contract_parse::parse_portfolio;
 use fixing_files::{Fixings, read_fixings};
 use std::alloc::Global;
-use term_core::{Contr, Decls, MOST_COUNTED, Portfolio, counts, has_only_numbers, is_closed};
+use term_model::{Contr, Decls, MOST_COUNTED, Portfolio};
+use term_core::{counts, has_only_numbers, is_closed};
 
 /// A contract, and the declarations under which it stands.
 #[derive(Drop)]

@@ -1,8 +1,8 @@
 //! Rows of payoff code: texts that are read, or have a first fault, canonical texts, and verdicts.
 
 ghost use Rattle.std.specs.Prelude.{◌*◌, ◌≡◌, ◌≤◌, ◌<◌, ◌+◌, length, IfOk};
-ghost use Rattle.term_core.specs.Limits.{most_counted, most_height_of_code};
-ghost use Rattle.term_core.specs.Declarations.{declarations};
+ghost use Rattle.term_model.specs.Limits.{most_counted, most_height_of_code};
+ghost use Rattle.term_model.specs.Declarations.{declarations};
 ghost use Rattle.payoff_lang.specs.Code.{payoff_code};
 ghost use Rattle.payoff_lang.specs.CodeSizes.{height_of_code, nodes_of_code};
 ghost use Rattle.payoff_lang.specs.WritableCode.{IsWritableCode};
@@ -17,7 +17,7 @@ use payoff_check::{CodeFacts, check_code};
 use payoff_lang::laws::{code_of_text_is_printable, printable_is_writable};
 use payoff_lang::{Code, CodeFile, parse_code, print_code};
 use std::alloc::Global;
-use term_core::Setting;
+use term_model::Setting;
 
 /// `parse_code TEXT`: `read`, or the first fault.
 pub fn read_code(alloc: Global, text: &[u8], out: &mut Vec<u8>) -> Answer

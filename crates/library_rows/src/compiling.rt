@@ -1,11 +1,11 @@
 //! Rows of contracts that are compiled to payoff code.
 
 ghost use Rattle.std.specs.Prelude.{◌≡◌, IfOk};
-ghost use Rattle.term_core.specs.Acceptance.{IsAccepted};
-ghost use Rattle.term_core.specs.Declarations.{declarations};
-ghost use Rattle.term_core.specs.Instances.{declared_numbers, instance};
-ghost use Rattle.term_core.specs.Terms.{contract};
-ghost use Rattle.term_core.specs.WellFormed.{IsClosed};
+ghost use Rattle.term_model.specs.Acceptance.{IsAccepted};
+ghost use Rattle.term_model.specs.Declarations.{declarations};
+ghost use Rattle.term_model.specs.Instances.{declared_numbers, instance};
+ghost use Rattle.term_model.specs.Terms.{contract};
+ghost use Rattle.term_model.specs.WellFormed.{IsClosed};
 ghost use Rattle.contract_print.specs.Writable.{IsWritableTerm};
 ghost use Rattle.payoff_lang.specs.Code.{payoff_code};
 ghost use Rattle.payoff_lang.specs.WritableCode.{IsWritableCode};
@@ -20,8 +20,9 @@ use payoff_compile::laws::{plain_code_is_writable, writable_terms_have_small_lit
 use payoff_compile::{compile, cut};
 use payoff_lang::{Code, CodeFile, print_code};
 use std::alloc::Global;
-use term_core::laws::{defaults_suit, settings_suit};
-use term_core::{Contr, Decls, Name, defaults, instantiate, is_closed};
+use term_model::laws::{defaults_suit, settings_suit};
+use term_model::{Contr, Decls, Name, defaults};
+use term_core::{instantiate, is_closed};
 
 // Stops at a contract that is not accepted, or has no numbers for its templates.
 fn accept_sized(alloc: Global, decls: &Decls, c: &Contr) -> Result<(), BadRow>

@@ -1,11 +1,11 @@
 //! Rows of contracts: verdicts, counts, copies and instances.
 
 ghost use Rattle.std.specs.Prelude.{◌≤◌, ◌<◌};
-ghost use Rattle.term_core.specs.Limits.{most_counted};
-ghost use Rattle.term_core.specs.Declarations.{declarations};
-ghost use Rattle.term_core.specs.Sizes.{height_of_contract, nodes_of_contract};
-ghost use Rattle.term_core.specs.Terms.{contract};
-ghost use Rattle.term_core.specs.WellFormed.{IsClosed, HasOnlyNumbers};
+ghost use Rattle.term_model.specs.Limits.{most_counted};
+ghost use Rattle.term_model.specs.Declarations.{declarations};
+ghost use Rattle.term_model.specs.Sizes.{height_of_contract, nodes_of_contract};
+ghost use Rattle.term_model.specs.Terms.{contract};
+ghost use Rattle.term_model.specs.WellFormed.{IsClosed, HasOnlyNumbers};
 
 use crate::bad_row::{Answer, BadRow};
 use crate::lines::verdict_line;
@@ -15,11 +15,9 @@ use crate::writable::say_contract;
 use contract_check::{Facts, check};
 use decimal::NoMemory;
 use std::alloc::Global;
-use term_core::laws::settings_suit;
-use term_core::{
-    CheckErr, Contr, Decls, RuleFault, Setting, counts, defaults, instantiate, is_closed,
-    nodes_in_contract,
-};
+use term_model::laws::settings_suit;
+use term_model::{CheckErr, Contr, Decls, RuleFault, Setting, defaults};
+use term_core::{counts, instantiate, is_closed, nodes_in_contract};
 
 // The verdict on a contract.
 fn verdict_of(alloc: Global, decls: &Decls, c: &Contr) -> Result<Result<Facts, RuleFault>, NoMemory>

@@ -6,7 +6,7 @@ use crate::printing::{append, append_decimal, end, say, say_decimal};
 use crate::words::{count, day, first_word, integer, scale};
 use decimal::{DecFault, Decimal, number_up_to, read, whole_number};
 use std::alloc::Global;
-use term_core::{date_text, epoch_day};
+use term_model::{date_text, epoch_day};
 
 /// `write MANTISSA SCALE`: the text of a decimal.
 pub fn written(alloc: Global, words: &str, out: &mut Vec<u8>) -> Answer {

@@ -1,11 +1,11 @@
 //! Rows of values of expressions, in accepted contracts over the table of fixings.
 
 ghost use Rattle.std.specs.Prelude.{◌≡◌, ◌≤◌, ◌^◌, unsigned_abs, IfOk};
-ghost use Rattle.term_core.specs.Acceptance.{IsAccepted};
-ghost use Rattle.term_core.specs.Declarations.{declarations};
-ghost use Rattle.term_core.specs.Terms.{contract};
-ghost use Rattle.term_core.specs.Environments.{IsAdmitted};
-ghost use Rattle.term_core.specs.Sizes.{height_of_contract};
+ghost use Rattle.term_model.specs.Acceptance.{IsAccepted};
+ghost use Rattle.term_model.specs.Declarations.{declarations};
+ghost use Rattle.term_model.specs.Terms.{contract};
+ghost use Rattle.term_model.specs.Environments.{IsAdmitted};
+ghost use Rattle.term_model.specs.Sizes.{height_of_contract};
 ghost use Rattle.expr_eval.specs.Evaluable.{MayEvaluateIn};
 
 use crate::bad_row::{Answer, BadRow};
@@ -14,7 +14,7 @@ use crate::words::day;
 use expr_eval::{Held, Scratch, eval, kind_of, parts_may_be_evaluated};
 use fixing_files::Fixings;
 use std::alloc::Global;
-use term_core::{Contr, Decls, Kind, Missing, Value};
+use term_model::{Contr, Decls, Kind, Missing, Value};
 
 // What is answered, where something is asked.
 type Found = Option<(Kind, Result<Value, Missing>)>;

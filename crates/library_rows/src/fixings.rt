@@ -1,7 +1,7 @@
 //! Rows of tables of fixings, and of the days that texts name.
 
 ghost use Rattle.std.specs.Prelude.{◌≤◌, length};
-ghost use Rattle.term_core.specs.Limits.{most_counted};
+ghost use Rattle.term_model.specs.Limits.{most_counted};
 
 use crate::above::spelled;
 use crate::bad_row::{Answer, BadRow};
@@ -9,7 +9,7 @@ use crate::printing::{append, append_decimal, say, say_decimal, say_table_read, 
 use crate::words::{count, day, first_word, integer};
 use fixing_files::{DayFault, FixedDay, Fixings, day_of_text, read_fixings};
 use std::alloc::Global;
-use term_core::{Decls, LAST_FIXED_DAY, Label, Value};
+use term_model::{Decls, LAST_FIXED_DAY, Label, Value};
 
 // Appends whether a table is read, or its first fault.
 fn say_table(alloc: Global, decls: &Decls, table: &[u8], out: &mut Vec<u8>) -> Answer

@@ -1,12 +1,12 @@
 //! Rows of flow tables of accepted contracts over the table of fixings, and of sums of flow tables.
 
 ghost use Rattle.std.specs.Prelude.{◌≤ℤ◌, pos, IfOk};
-ghost use Rattle.term_core.specs.Limits.{last_start};
-ghost use Rattle.term_core.specs.Acceptance.{IsAccepted};
-ghost use Rattle.term_core.specs.Declarations.{declarations};
-ghost use Rattle.term_core.specs.Environments.{IsAdmitted};
-ghost use Rattle.term_core.specs.Terms.{contract};
-ghost use Rattle.term_core.specs.WellFormed.{HasOnlyNumbers};
+ghost use Rattle.term_model.specs.Limits.{last_start};
+ghost use Rattle.term_model.specs.Acceptance.{IsAccepted};
+ghost use Rattle.term_model.specs.Declarations.{declarations};
+ghost use Rattle.term_model.specs.Environments.{IsAdmitted};
+ghost use Rattle.term_model.specs.Terms.{contract};
+ghost use Rattle.term_model.specs.WellFormed.{HasOnlyNumbers};
 ghost use Rattle.report.specs.SumTables.{IsSummable};
 
 use crate::bad_row::{Answer, BadRow};
@@ -17,7 +17,8 @@ use fixing_files::Fixings;
 use flow_eval::{FlowErr, FlowRow, FlowTable, flows, flows_on, flows_shared};
 use report::net;
 use std::alloc::Global;
-use term_core::{Contr, Decls, LAST_START, Missing, share};
+use term_model::{Contr, Decls, LAST_START, Missing};
+use term_core::share;
 
 /// Appends the lines of a flow table.
 pub fn say_rows(alloc: Global, decls: &Decls, rows: &[FlowRow], out: &mut Vec<u8>) -> Answer {

@@ -1,8 +1,8 @@
 //! Rows of lines: of verdicts, of faults, of flows and of values.
 
 ghost use Rattle.std.specs.Prelude.{◌≤◌, ◌-◌, ◌^◌, unsigned_abs, IsTrue, IfOk};
-ghost use Rattle.term_core.specs.Declarations.{declarations, decimals_of};
-ghost use Rattle.term_core.specs.LawsScales.{IsMultiple};
+ghost use Rattle.term_model.specs.Declarations.{declarations, decimals_of};
+ghost use Rattle.term_model.specs.LawsScales.{IsMultiple};
 
 use crate::bad_row::{Answer, BadRow};
 use crate::printing::{append, say_fault};
@@ -14,7 +14,7 @@ use fixing_files::{RowFault, RowKind};
 use flow_eval::FlowRow;
 use report::{Fault, check_line, flow_line, value_line};
 use std::alloc::Global;
-use term_core::{Decls, Name, Rule, RuleFault};
+use term_model::{Decls, Name, Rule, RuleFault};
 use time_types::Start;
 
 // Whether a line can hold the total of a verdict.

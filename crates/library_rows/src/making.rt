@@ -2,13 +2,13 @@
 //! more.
 
 ghost use Rattle.std.specs.Prelude.{◌≤ℤ◌, pos, IfOk};
-ghost use Rattle.term_core.specs.Limits.{last_start};
-ghost use Rattle.term_core.specs.Acceptance.{IsAccepted};
-ghost use Rattle.term_core.specs.Declarations.{declarations};
-ghost use Rattle.term_core.specs.Environments.{IsAdmitted};
+ghost use Rattle.term_model.specs.Limits.{last_start};
+ghost use Rattle.term_model.specs.Acceptance.{IsAccepted};
+ghost use Rattle.term_model.specs.Declarations.{declarations};
+ghost use Rattle.term_model.specs.Environments.{IsAdmitted};
 ghost use Rattle.term_core.specs.SharedTerms.{shared, StoresOffsets};
-ghost use Rattle.term_core.specs.Terms.{contract};
-ghost use Rattle.term_core.specs.WellFormed.{HasOnlyNumbers, IsClosed};
+ghost use Rattle.term_model.specs.Terms.{contract};
+ghost use Rattle.term_model.specs.WellFormed.{HasOnlyNumbers, IsClosed};
 ghost use Rattle.specialise.specs.Specialised.{IsNear};
 
 use crate::bad_row::{Answer, BadRow};
@@ -24,7 +24,8 @@ use specialise::laws::parts_may_be_specialised;
 use specialise::{Frame, specialise_contr, specialise_expr, specialise_shared};
 use std::alloc::Global;
 use std::rc::Rc;
-use term_core::{Contr, Decls, Expr, LAST_START, SharedContr, share, unshare};
+use term_model::{Contr, Decls, Expr, LAST_START};
+use term_core::{SharedContr, share, unshare};
 
 // The contract over shared parts.
 fn shared_parts(alloc: Global, _decls: &Decls, c: &Contr) -> Result<Rc<SharedContr>, NoMemory>

@@ -2,13 +2,13 @@
 //! fixings.
 
 ghost use Rattle.std.specs.Prelude.{◌≤◌, ◌<◌};
-ghost use Rattle.term_core.specs.Limits.{most_counted};
-ghost use Rattle.term_core.specs.Acceptance.{IsAccepted};
-ghost use Rattle.term_core.specs.Declarations.{declarations};
-ghost use Rattle.term_core.specs.Environments.{IsAdmitted};
-ghost use Rattle.term_core.specs.Sizes.{height_of_contract, nodes_of_contract};
-ghost use Rattle.term_core.specs.Terms.{contract};
-ghost use Rattle.term_core.specs.WellFormed.{HasOnlyNumbers, IsClosed};
+ghost use Rattle.term_model.specs.Limits.{most_counted};
+ghost use Rattle.term_model.specs.Acceptance.{IsAccepted};
+ghost use Rattle.term_model.specs.Declarations.{declarations};
+ghost use Rattle.term_model.specs.Environments.{IsAdmitted};
+ghost use Rattle.term_model.specs.Sizes.{height_of_contract, nodes_of_contract};
+ghost use Rattle.term_model.specs.Terms.{contract};
+ghost use Rattle.term_model.specs.WellFormed.{HasOnlyNumbers, IsClosed};
 
 use crate::above::Above;
 use crate::bad_row::Answer;
@@ -17,7 +17,7 @@ use crate::words::first_word;
 use crate::{compiling, contracts, evaluating, flows, making};
 use fixing_files::Fixings;
 use std::alloc::Global;
-use term_core::{Contr, Decls};
+use term_model::{Contr, Decls};
 
 /// What a row tries of a contract as it is written.
 #[derive(Clone, Copy)]

@@ -5,7 +5,7 @@ use crate::bad_row::Answer;
 use crate::cases::declared;
 use crate::{contracts, fixings, flows, lines};
 use std::alloc::Global;
-use term_core::Decls;
+use term_model::Decls;
 
 /// What a row tries under declarations.
 #[derive(Clone, Copy)]

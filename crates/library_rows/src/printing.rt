@@ -6,7 +6,7 @@ use decimal::{GREATEST_MANTISSA, write};
 use fixing_files::RowErr;
 use report::{Fault, fault_line};
 use std::alloc::Global;
-use term_core::{CheckErr, Decls, Missing, Name, Rule, Value};
+use term_model::{CheckErr, Decls, Missing, Name, Rule, Value};
 
 /// Appends a word, and what stands behind it.
 pub fn append(out: &mut Vec<u8>, words: &str) -> Answer {

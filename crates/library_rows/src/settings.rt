@@ -1,11 +1,11 @@
 //! What contracts of rows and the numbers of their templates keep to.
 
 ghost use Rattle.std.specs.Prelude.{IsTrue};
-ghost use Rattle.term_core.specs.DayCounts.{day_count};
-ghost use Rattle.term_core.specs.Instances.{HasSmallSums, IsSetting, IsSmallSum};
-ghost use Rattle.term_core.specs.Terms.{contract};
+ghost use Rattle.term_model.specs.DayCounts.{day_count};
+ghost use Rattle.term_model.specs.Instances.{HasSmallSums, IsSetting, IsSmallSum};
+ghost use Rattle.term_model.specs.Terms.{contract};
 
-use term_core::{Contr, Days, MOST_DAYS};
+use term_model::{Contr, Days, MOST_DAYS};
 
 // Whether a day count is no sum, or a small one.
 fn is_small_sum(days: &Days) -> bool

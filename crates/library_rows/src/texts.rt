@@ -2,9 +2,9 @@
 //! canonical form.
 
 ghost use Rattle.std.specs.Prelude.{◌≤◌, length, All};
-ghost use Rattle.term_core.specs.Limits.{most_counted};
+ghost use Rattle.term_model.specs.Limits.{most_counted};
 ghost use Rattle.contract_print.specs.Writable.{IsWritableTerm};
-ghost use Rattle.term_core.specs.Books.{book};
+ghost use Rattle.term_model.specs.Books.{book};
 
 use crate::bad_row::Answer;
 use crate::printing::{say_parse_fault, say_read};
@@ -12,7 +12,7 @@ use contract_parse::parse_portfolio;
 use contract_print::laws::texts_are_writable;
 use contract_print::{print_decls, print_portfolio};
 use std::alloc::Global;
-use term_core::{Decls, Portfolio};
+use term_model::{Decls, Portfolio};
 
 /// `parse_portfolio TEXT`: `read`, or the first fault.
 pub fn read_portfolio(alloc: Global, text: &[u8], out: &mut Vec<u8>) -> Answer

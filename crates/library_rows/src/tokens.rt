@@ -1,7 +1,7 @@
 //! Rows of tokens, read one at a time round declarations.
 
 ghost use Rattle.std.specs.Prelude.{◌≡◌, ◌≤◌, length, true};
-ghost use Rattle.term_core.specs.Limits.{is_a_version, most_counted};
+ghost use Rattle.term_model.specs.Limits.{is_a_version, most_counted};
 ghost use Rattle.contract_parse.specs.Cursors.{Fits};
 
 use crate::above::Above;

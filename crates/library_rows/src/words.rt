@@ -1,7 +1,7 @@
 //! The words of a row.
 
 ghost use Rattle.std.specs.Prelude.{◌≡◌, true, IfOk};
-ghost use Rattle.term_core.specs.Limits.{is_a_version};
+ghost use Rattle.term_model.specs.Limits.{is_a_version};
 
 use crate::bad_row::BadRow;
 use decimal::Mode;

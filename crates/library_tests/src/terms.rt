@@ -7,7 +7,7 @@ use decimal::Mode;
 use expr_eval::{Binding, Held, Scratch};
 use std::process::Abort;
 use std::test::Fail;
-use term_core::{Expr, Kind, Value, shift_obs};
+use term_model::{Expr, Kind, Value, shift_obs};
 
 #[test]
 fn observables_are_shifted(rt: HostRuntime) -> Result<(), Fail> {

@@ -3,16 +3,16 @@
 use Rattle.std.proofs.Common.{◌≡◌, ℕ, pos, ◌+◌, ◌-◌, ◌*◌, ◌^◌, max, nat_le, ◌&&◌, Bool, true, false}
 use Rattle.std.proofs.Common.{if◌then◌else◌, List, [], ◌∷◌, map, Option, Some, Result, Ok, Err}
 use Rattle.std.proofs.Common.{IsTrue, refl, ap, ap₂, sym, subst, ◌∙◌}
-use Rattle.term_core.specs.Declarations.{Declarations}
-use Rattle.term_core.specs.declared.values.Kind.{Kind}
-use Rattle.term_core.specs.declared.rules.Rule.TheVariants.{Sort as SortRule, Scale as ScaleRule}
-use Rattle.term_core.specs.declared.rules.Rule.TheVariants.{Bound as BoundRule}
-use Rattle.term_core.specs.Kinds.{kind_of}
-use Rattle.term_core.specs.Values.{kind_or}
-use Rattle.term_core.specs.Limits.{greatest_mantissa}
-use Rattle.term_core.specs.Sizes.{nodes}
-use Rattle.term_core.specs.Sites.{Layer, Naming, Site, Once, EachDay, sites_of, kinds_round}
-use Rattle.term_core.specs.Bounds.{Range, range_kinds, ranges_round, greatest_size}
+use Rattle.term_model.specs.Declarations.{Declarations}
+use Rattle.term_model.specs.declared.values.Kind.{Kind}
+use Rattle.term_model.specs.declared.rules.Rule.TheVariants.{Sort as SortRule, Scale as ScaleRule}
+use Rattle.term_model.specs.declared.rules.Rule.TheVariants.{Bound as BoundRule}
+use Rattle.term_model.specs.Kinds.{kind_of}
+use Rattle.term_model.specs.Values.{kind_or}
+use Rattle.term_model.specs.Limits.{greatest_mantissa}
+use Rattle.term_model.specs.Sizes.{nodes}
+use Rattle.term_model.specs.Sites.{Layer, Naming, Site, Once, EachDay, sites_of, kinds_round}
+use Rattle.term_model.specs.Bounds.{Range, range_kinds, ranges_round, greatest_size}
 use Rattle.term_core.specs.Trying.{then_do, moved}
 use Rattle.scale_check.proofs.SortedKinds.{kind_sorted}
 use Rattle.interval_check.specs.RangeTrials.{range_tried, kind_found, scale_in, AreScaled}
@@ -20,7 +20,7 @@ use Rattle.interval_check.proofs.KindsFound.{has_kind}
 use Rattle.interval_check.proofs.RootFacts.{Has}
 use Rattle.interval_check.proofs.ScaledFacts.{scales_follow}
 use Rattle.interval_check.proofs.TotalFacts.{finds_range}
-use Rattle.term_core.specs.Bounds.{range_of as right_range}
+use Rattle.term_model.specs.Bounds.{range_of as right_range}
 use Rattle.interval_check.proofs.TotalFacts as found
 use Rattle.payoff_lang.specs.Dating.{undated}
 use Rattle.payoff_lang.specs.Code.{ValueExpression, PayoffCode, Nothing, PayOn, Add, ScaleBy, LetBe}

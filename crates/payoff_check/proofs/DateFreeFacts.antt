@@ -1,7 +1,7 @@
 -- The size of a value expression, whatever its dates.
 use Rattle.std.proofs.Common.{◌≡◌, ℕ, ℤ, pos, refl, ap, ap₂, ◌∙◌, List}
-use Rattle.term_core.specs.Terms.{Expression}
-use Rattle.term_core.specs.Sizes.{nodes, height, work}
+use Rattle.term_model.specs.Terms.{Expression}
+use Rattle.term_model.specs.Sizes.{nodes, height, work}
 use Rattle.payoff_lang.specs.TemplateDates.{Date, day_of}
 use Rattle.payoff_lang.specs.Dating.{dated_by, at_setting, undated}
 use Rattle.payoff_lang.specs.Code.{ValueExpression, Lit, Yes, Var, Model, Neg, Num, Cmp, Not, Logic, Cond, Widen, Round, Div, Acc}

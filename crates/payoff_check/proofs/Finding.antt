@@ -1,11 +1,11 @@
 -- What the trial of payoff code answers, against the order in which the rules of acceptance try nodes. Whatever the rule,
 -- a trial finds the first fault where its steps do: this goes by structure once for all rules.
 use Rattle.std.proofs.Common.{◌≡◌, ℕ, ℤ, ◌+◌, Bool, true, false, if◌then◌else◌, List, [], ◌∷◌, ◌++◌, map, Option, Some, None, Result, Ok, Err, IsTrue, refl, ap, sym, subst, ◌∙◌, inl, inr}
-use Rattle.term_core.specs.Sizes.{nodes}
-use Rattle.term_core.specs.Sites.{Trial, Layer, Naming, Site}
+use Rattle.term_model.specs.Sizes.{nodes}
+use Rattle.term_model.specs.Sites.{Trial, Layer, Naming, Site}
 use Rattle.term_core.specs.Trying.{then_do}
-use Rattle.term_core.proofs.Trials.{or_else}
-use Rattle.term_core.proofs.Trials as expressions
+use Rattle.term_model.proofs.Trials.{or_else}
+use Rattle.term_model.proofs.Trials as expressions
 use Rattle.payoff_lang.specs.TemplateDates.{Date}
 use Rattle.payoff_lang.specs.Dating.{dated_by, undated}
 use Rattle.payoff_lang.specs.Code.{ValueExpression, PayoffCode, Nothing, PayOn, Add, ScaleBy, LetBe, Loop, Cut}

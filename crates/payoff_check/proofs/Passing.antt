@@ -1,7 +1,7 @@
 -- From a rule that holds at all nodes of code to each node by structure.
 use Rattle.std.proofs.Common.{ℕ, ℤ, ◌+◌, List, [], ◌∷◌, ◌++◌, map}
-use Rattle.term_core.specs.Sizes.{nodes}
-use Rattle.term_core.specs.Sites.{Trial, Layer, Naming, Site, sites_of, AllPass}
+use Rattle.term_model.specs.Sizes.{nodes}
+use Rattle.term_model.specs.Sites.{Trial, Layer, Naming, Site, sites_of, AllPass}
 use Rattle.payoff_lang.specs.TemplateDates.{Date}
 use Rattle.payoff_lang.specs.Dating.{dated_by, undated}
 use Rattle.payoff_lang.specs.Code.{ValueExpression, PayoffCode, Nothing, PayOn, Add, ScaleBy, LetBe, Loop, Cut}

@@ -2,13 +2,13 @@
 -- it, and else the scale.
 use Rattle.std.proofs.Common.{◌≡◌, ℕ, pos, ◌+◌, max, nat_le, Bool, List, [], ◌∷◌, map, Option}
 use Rattle.std.proofs.Common.{Result, Ok, Err, IsTrue, refl, ap, ap₂, sym, ◌∙◌}
-use Rattle.term_core.specs.Declarations.{Declarations}
-use Rattle.term_core.specs.declared.values.Kind.{Kind}
-use Rattle.term_core.specs.declared.rules.Rule.TheVariants.{Sort as SortRule, Scale as ScaleRule}
-use Rattle.term_core.specs.Kinds.{kind_of, scale_of_kind}
-use Rattle.term_core.specs.Values.{kind_or}
-use Rattle.term_core.specs.Sizes.{nodes}
-use Rattle.term_core.specs.Sites.{Layer, Site, Once, sites_of, kinds_round}
+use Rattle.term_model.specs.Declarations.{Declarations}
+use Rattle.term_model.specs.declared.values.Kind.{Kind}
+use Rattle.term_model.specs.declared.rules.Rule.TheVariants.{Sort as SortRule, Scale as ScaleRule}
+use Rattle.term_model.specs.Kinds.{kind_of, scale_of_kind}
+use Rattle.term_model.specs.Values.{kind_or}
+use Rattle.term_model.specs.Sizes.{nodes}
+use Rattle.term_model.specs.Sites.{Layer, Site, Once, sites_of, kinds_round}
 use Rattle.term_core.specs.Trying.{then_do, moved}
 use Rattle.scale_check.specs.ScaleTrials.{scale_tried}
 use Rattle.scale_check.proofs.Finding as found

@@ -2,12 +2,12 @@
 use Rattle.std.proofs.Common.{◌≡◌, ℕ, ℤ, unsigned_abs, ◌+◌, ◌-◌, ◌*◌, ◌^◌, ◌≤◌, ◌&&◌, max, le-leb, Bool, true, List, [], Ok, Err, Option, Some, None, IfSome, zero-add, refl, ap, sym, subst, ◌∙◌, arith, if◌then◌else◌}
 use Rattle.std.proofs.lemmas.Nat.{mul-le}
 use Rattle.decimal.proofs.PowerFacts.{ten_most}
-use Rattle.term_core.specs.Declarations.{Declarations}
-use Rattle.term_core.specs.declared.values.Kind.TheVariants.{Number}
-use Rattle.term_core.specs.Limits.{greatest_mantissa, most_height_of_code, most_nodes_of_code, most_work}
-use Rattle.term_core.specs.Sizes.{nodes}
+use Rattle.term_model.specs.Declarations.{Declarations}
+use Rattle.term_model.specs.declared.values.Kind.TheVariants.{Number}
+use Rattle.term_model.specs.Limits.{greatest_mantissa, most_height_of_code, most_nodes_of_code, most_work}
+use Rattle.term_model.specs.Sizes.{nodes}
 use Rattle.term_core.specs.Trying.{then_do, moved}
-use Rattle.term_core.specs.Bounds.{single, fits}
+use Rattle.term_model.specs.Bounds.{single, fits}
 use Rattle.interval_check.specs.RangeTrials.{ranged}
 use Rattle.payoff_lang.specs.TemplateDates.{Date, day_of}
 use Rattle.payoff_lang.specs.Code.{ValueExpression, Lit, PayoffCode, Nothing, PayOn, Add, ScaleBy, Cut}

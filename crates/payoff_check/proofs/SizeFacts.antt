@@ -1,8 +1,8 @@
 -- The trial of the rule on sizes at a setting finds the first node that breaks it.
 use Rattle.std.proofs.Common.{◌≡◌, ℕ, pos, Bool, true, false, ◌&&◌, nat_le, if◌then◌else◌, List, [], ◌∷◌, map, Result, Ok, Err, refl, ap, ap₂, sym, ◌∙◌}
-use Rattle.term_core.specs.declared.rules.Rule.TheVariants.{Size as SizeRule}
-use Rattle.term_core.specs.Declarations.{Declarations}
-use Rattle.term_core.specs.Sites.{Layer, Site, Once, sites_of}
+use Rattle.term_model.specs.declared.rules.Rule.TheVariants.{Size as SizeRule}
+use Rattle.term_model.specs.Declarations.{Declarations}
+use Rattle.term_model.specs.Sites.{Layer, Site, Once, sites_of}
 use Rattle.term_core.specs.Trying.{moved}
 use Rattle.scale_check.proofs.Finding as found
 use Rattle.payoff_lang.specs.TemplateDates.{day_of}

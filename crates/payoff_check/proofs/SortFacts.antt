@@ -1,16 +1,16 @@
 -- The trial of the rule on sorts finds the first node that breaks it.
 use Rattle.std.proofs.Common.{◌≡◌, ℕ, pos, ◌+◌, Bool, List, [], ◌∷◌, map, Option, Some, None, Ok}
 use Rattle.std.proofs.Common.{Err, refl, ap, ◌∙◌}
-use Rattle.term_core.specs.Declarations.{Declarations}
-use Rattle.term_core.specs.declared.values.Kind.{Kind}
-use Rattle.term_core.specs.declared.values.Kind.TheVariants.{Truth as TruthKind}
-use Rattle.term_core.specs.declared.values.Kind.TheVariants.{Number as NumberKind}
-use Rattle.term_core.specs.declared.rules.Rule.TheVariants.{Sort as SortRule}
-use Rattle.term_core.specs.Kinds.{kind_of}
-use Rattle.term_core.specs.Values.{kind_or}
-use Rattle.term_core.specs.Sizes.{nodes}
-use Rattle.term_core.specs.Sorts.{is_number, is_truth}
-use Rattle.term_core.specs.Sites.{Layer, Site, Once, sites_of, kinds_round}
+use Rattle.term_model.specs.Declarations.{Declarations}
+use Rattle.term_model.specs.declared.values.Kind.{Kind}
+use Rattle.term_model.specs.declared.values.Kind.TheVariants.{Truth as TruthKind}
+use Rattle.term_model.specs.declared.values.Kind.TheVariants.{Number as NumberKind}
+use Rattle.term_model.specs.declared.rules.Rule.TheVariants.{Sort as SortRule}
+use Rattle.term_model.specs.Kinds.{kind_of}
+use Rattle.term_model.specs.Values.{kind_or}
+use Rattle.term_model.specs.Sizes.{nodes}
+use Rattle.term_model.specs.Sorts.{is_number, is_truth}
+use Rattle.term_model.specs.Sites.{Layer, Site, Once, sites_of, kinds_round}
 use Rattle.term_core.specs.Trying.{then_do, moved}
 use Rattle.time_types.specs.declared.observed_sorts.Sort.{Sort}
 use Rattle.time_types.specs.declared.observed_sorts.Sort.TheVariants.{Truth, Number}

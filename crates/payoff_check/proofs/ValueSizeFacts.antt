@@ -2,9 +2,9 @@
 -- size.
 use Rattle.std.proofs.Common.{◌≡◌, ℕ, zero, ◌+◌, Bool, ◌&&◌, nat_le, List, [], ◌∷◌, ◌++◌, Ok, refl, ap, subst, arith}
 use Rattle.std.proofs.Math.Bool.{and-true}
-use Rattle.term_core.specs.Terms.{Expression, Lit, Yes, Var, Obs, Neg, Num, Cmp, Not, Logic, Cond, Widen, Round, Div, Acc}
-use Rattle.term_core.specs.Sizes.{nodes}
-use Rattle.term_core.specs.Sites.{Site, Layer, Counting, Earlier, Once, sites_of, expression_at}
+use Rattle.term_model.specs.Terms.{Expression, Lit, Yes, Var, Obs, Neg, Num, Cmp, Not, Logic, Cond, Widen, Round, Div, Acc}
+use Rattle.term_model.specs.Sizes.{nodes}
+use Rattle.term_model.specs.Sites.{Site, Layer, Counting, Earlier, Once, sites_of, expression_at}
 use Rattle.scale_check.proofs.Finding.{Finds, here}
 use Rattle.scale_check.proofs.Measuring.{Is, node, one_finds, two_find, three_find}
 use Rattle.payoff_lang.specs.CodeAcceptance.{value_is_small, is_date}

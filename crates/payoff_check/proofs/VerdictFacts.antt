@@ -1,10 +1,10 @@
 -- Verdicts on code: accepted or refused, never both, and at most one refusal.
 use Rattle.std.proofs.Common.{◌≡◌, ◌⊎◌, ℕ, ℤ, pos, Bool, List, [], ◌∷◌, Option, Some, None, Ok, Err, IsTrue, refl, sym, ap, ap₂, ◌∙◌, inl, inr}
-use Rattle.term_core.specs.Declarations.{Declarations}
-use Rattle.term_core.specs.declared.rules.Rule.{Rule}
-use Rattle.term_core.specs.declared.rules.Rule.TheVariants.{Sort, Time, Scale, Size, Bound}
-use Rattle.term_core.specs.declared.rules.CheckErr.TheVariants.{Refused, NoMemory}
-use Rattle.term_core.specs.Sites.{Once, EachDay}
+use Rattle.term_model.specs.Declarations.{Declarations}
+use Rattle.term_model.specs.declared.rules.Rule.{Rule}
+use Rattle.term_model.specs.declared.rules.Rule.TheVariants.{Sort, Time, Scale, Size, Bound}
+use Rattle.term_model.specs.declared.rules.CheckErr.TheVariants.{Refused, NoMemory}
+use Rattle.term_model.specs.Sites.{Once, EachDay}
 use Rattle.payoff_lang.specs.TemplateDates.{day_of}
 use Rattle.payoff_lang.specs.Code.{PayoffCode}
 use Rattle.payoff_lang.specs.CodeSites.{CodeSite, sites_of_code, AllPassInCode, FirstFaultInCode}

@@ -3,14 +3,14 @@
 -- decimals than the portfolio's.
 use Rattle.std.specs.Prelude.{◌≡◌, ℕ, ◌+◌, ◌-◌, ◌*◌, ◌^◌, ◌≤◌, max, ◌&&◌, Bool, nat_le}
 use Rattle.std.specs.Prelude.{List, ◌∷◌, Result, Ok, Err, if◌then◌else◌}
-use Rattle.term_core.specs.declared.values.Kind.{Kind}
-use Rattle.term_core.specs.declared.decls.Decls.{Decls}
-use Rattle.term_core.specs.declared.scope.Scope.{Scope}
-use Rattle.term_core.specs.Declarations.{Declarations, declarations}
-use Rattle.term_core.specs.Limits.{greatest_mantissa}
-use Rattle.term_core.specs.Terms.{Expression}
-use Rattle.term_core.specs.Sizes.{nodes}
-use Rattle.term_core.specs.Bounds.{Range, range_kinds, greatest_size}
+use Rattle.term_model.specs.declared.values.Kind.{Kind}
+use Rattle.term_model.specs.declared.decls.Decls.{Decls}
+use Rattle.term_model.specs.declared.scope.Scope.{Scope}
+use Rattle.term_model.specs.Declarations.{Declarations, declarations}
+use Rattle.term_model.specs.Limits.{greatest_mantissa}
+use Rattle.term_model.specs.Terms.{Expression}
+use Rattle.term_model.specs.Sizes.{nodes}
+use Rattle.term_model.specs.Bounds.{Range, range_kinds, greatest_size}
 use Rattle.term_core.specs.Trying.{then_do, moved}
 use Rattle.interval_check.specs.Ranges.{range}
 use Rattle.interval_check.specs.declared.ranges.Range.{Range as HeldRange}

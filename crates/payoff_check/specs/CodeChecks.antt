@@ -1,9 +1,9 @@
 -- What `check_code` answers at a setting: accepted code with its scale and its total, or the first rule that fails with the
 -- first node at which it does. Want of memory says nothing.
 use Rattle.std.specs.Prelude.{ℕ, List, Result, Ok, Err}
-use Rattle.term_core.specs.Declarations.{Declarations}
-use Rattle.term_core.specs.declared.rules.CheckErr.{CheckErr}
-use Rattle.term_core.specs.declared.rules.CheckErr.TheVariants.{Refused, NoMemory}
+use Rattle.term_model.specs.Declarations.{Declarations}
+use Rattle.term_model.specs.declared.rules.CheckErr.{CheckErr}
+use Rattle.term_model.specs.declared.rules.CheckErr.TheVariants.{Refused, NoMemory}
 use Rattle.payoff_lang.specs.Code.{PayoffCode}
 use Rattle.payoff_lang.specs.CodeAcceptance.{IsAcceptedCode, IsCodeRefusal}
 use Rattle.payoff_check.specs.Verdicts.{IsScaleOf, IsTotalOf}

@@ -1,10 +1,10 @@
 -- The laws of verdicts on code at a setting: it is accepted or has a refusal, which is a rule and a node; never both; and
 -- never two refusals. So, but for want of memory, a check has no choice in its answer.
 use Rattle.std.specs.Prelude.{ℕ, ◌≡◌, ◌⊎◌, List, Result, Err}
-use Rattle.term_core.specs.Declarations.{Declarations}
-use Rattle.term_core.specs.declared.rules.Rule.{Rule}
-use Rattle.term_core.specs.declared.rules.CheckErr.{CheckErr}
-use Rattle.term_core.specs.declared.rules.CheckErr.TheVariants.{NoMemory}
+use Rattle.term_model.specs.Declarations.{Declarations}
+use Rattle.term_model.specs.declared.rules.Rule.{Rule}
+use Rattle.term_model.specs.declared.rules.CheckErr.{CheckErr}
+use Rattle.term_model.specs.declared.rules.CheckErr.TheVariants.{NoMemory}
 use Rattle.payoff_lang.specs.Code.{PayoffCode}
 use Rattle.payoff_lang.specs.CodeAcceptance.{IsAcceptedCode, IsCodeRefusal}
 use Rattle.payoff_check.specs.declared.checks.CodeFacts.{CodeFacts}

@@ -1,12 +1,12 @@
 -- The trial of the rule on scales, of code whose sorts are right: a value expression has the scale
 -- of its undated expression, and the scale of each code is at most the portfolio's decimals and nine.
 use Rattle.std.specs.Prelude.{ℕ, ◌+◌, max, nat_le, List, ◌∷◌, Result, Ok, Err, if◌then◌else◌}
-use Rattle.term_core.specs.declared.decls.Decls.{Decls}
-use Rattle.term_core.specs.declared.scope.Scope.{Scope}
-use Rattle.term_core.specs.Declarations.{Declarations, declarations}
-use Rattle.term_core.specs.Terms.{Expression}
-use Rattle.term_core.specs.Sizes.{nodes}
-use Rattle.term_core.specs.Scopes.{held_in}
+use Rattle.term_model.specs.declared.decls.Decls.{Decls}
+use Rattle.term_model.specs.declared.scope.Scope.{Scope}
+use Rattle.term_model.specs.Declarations.{Declarations, declarations}
+use Rattle.term_model.specs.Terms.{Expression}
+use Rattle.term_model.specs.Sizes.{nodes}
+use Rattle.term_model.specs.Scopes.{held_in}
 use Rattle.term_core.specs.Trying.{then_do, moved}
 use Rattle.scale_check.specs.ScaleTrials.{scale_tried}
 use Rattle.payoff_lang.specs.Dating.{undated}

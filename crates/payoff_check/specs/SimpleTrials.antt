@@ -1,8 +1,8 @@
 -- Code of payments, sums, cuts and literal factors alone, which one walk sees to meet every rule: what the trials of the
 -- rules answer of it.
 use Rattle.std.specs.Prelude.{ℕ, ◌+◌, ◌*◌, ◌^◌, ◌≡◌, ◌≤◌, max, List, [], Ok}
-use Rattle.term_core.specs.Declarations.{Declarations}
-use Rattle.term_core.specs.Limits.{most_height_of_code, most_nodes_of_code}
+use Rattle.term_model.specs.Declarations.{Declarations}
+use Rattle.term_model.specs.Limits.{most_height_of_code, most_nodes_of_code}
 use Rattle.payoff_lang.specs.Code.{PayoffCode}
 use Rattle.payoff_check.specs.declared.scale_rule.Scaled.{Scaled}
 use Rattle.payoff_check.specs.declared.part_sizes.CodeSize.{CodeSize}

@@ -3,10 +3,10 @@
 -- first node.
 use Rattle.std.specs.Prelude.{ℕ, ◌+◌, ◌*◌, ◌≤◌, max, nat_le, ◌&&◌, Bool, List, Result, Ok, Err}
 use Rattle.std.specs.Prelude.{if◌then◌else◌}
-use Rattle.term_core.specs.Terms.{Expression, Lit, Yes, Var, Obs, Neg, Num, Cmp, Not, Logic, Cond}
-use Rattle.term_core.specs.Terms.{Widen, Round, Div, Acc}
-use Rattle.term_core.specs.Limits.{most_days, most_height_of_code, most_nodes_of_code, most_work}
-use Rattle.term_core.specs.Sizes.{nodes}
+use Rattle.term_model.specs.Terms.{Expression, Lit, Yes, Var, Obs, Neg, Num, Cmp, Not, Logic, Cond}
+use Rattle.term_model.specs.Terms.{Widen, Round, Div, Acc}
+use Rattle.term_model.specs.Limits.{most_days, most_height_of_code, most_nodes_of_code, most_work}
+use Rattle.term_model.specs.Sizes.{nodes}
 use Rattle.term_core.specs.Trying.{then_do, moved}
 use Rattle.payoff_lang.specs.TemplateDates.{day_of}
 use Rattle.payoff_lang.specs.Dating.{at_setting}

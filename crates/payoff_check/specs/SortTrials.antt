@@ -1,12 +1,12 @@
 -- The trial of the rule on sorts: a value expression has the sort of its undated expression, a factor
 -- has to be a number and a test a truth value. What is found of code is the number of its nodes.
 use Rattle.std.specs.Prelude.{ℕ, ◌+◌, List, ◌∷◌, Result, Ok, Err}
-use Rattle.term_core.specs.declared.decls.Decls.{Decls}
-use Rattle.term_core.specs.declared.scope.Scope.{Scope}
-use Rattle.term_core.specs.Declarations.{Declarations, declarations}
-use Rattle.term_core.specs.Terms.{Expression}
-use Rattle.term_core.specs.Sizes.{nodes}
-use Rattle.term_core.specs.Scopes.{held_in}
+use Rattle.term_model.specs.declared.decls.Decls.{Decls}
+use Rattle.term_model.specs.declared.scope.Scope.{Scope}
+use Rattle.term_model.specs.Declarations.{Declarations, declarations}
+use Rattle.term_model.specs.Terms.{Expression}
+use Rattle.term_model.specs.Sizes.{nodes}
+use Rattle.term_model.specs.Scopes.{held_in}
 use Rattle.term_core.specs.Trying.{then_do, moved}
 use Rattle.time_types.specs.declared.observed_sorts.Sort.{Sort}
 use Rattle.time_types.specs.declared.observed_sorts.Sort.TheVariants.{Truth, Number}

@@ -2,8 +2,8 @@
 -- answers, how a name that is bound to it is known in the body, and what a node answers from the
 -- answers of its parts. A trial answers what it found, or the number of the first node at fault.
 use Rattle.std.specs.Prelude.{ℕ, ◌+◌, ◌≡◌, Result, Ok, Err}
-use Rattle.term_core.specs.Terms.{Expression}
-use Rattle.term_core.specs.Sizes.{nodes}
+use Rattle.term_model.specs.Terms.{Expression}
+use Rattle.term_model.specs.Sizes.{nodes}
 use Rattle.term_core.specs.Trying.{then_do}
 use Rattle.payoff_lang.specs.TemplateDates.{Date}
 use Rattle.payoff_lang.specs.Dating.{undated}

@@ -1,10 +1,10 @@
 -- What the trial of one rule of code answers: that the rule holds everywhere, with what is said of
 -- such code; or that it fails, with the first node at which it does. Want of memory says nothing.
 use Rattle.std.specs.Prelude.{ℕ, ℤ, pos, ◌≡◌, List, [], Result, Ok, Err}
-use Rattle.term_core.specs.Declarations.{Declarations}
-use Rattle.term_core.specs.declared.rules.Rule.{Rule}
-use Rattle.term_core.specs.declared.rules.CheckErr.{CheckErr}
-use Rattle.term_core.specs.declared.rules.CheckErr.TheVariants.{Refused, NoMemory}
+use Rattle.term_model.specs.Declarations.{Declarations}
+use Rattle.term_model.specs.declared.rules.Rule.{Rule}
+use Rattle.term_model.specs.declared.rules.CheckErr.{CheckErr}
+use Rattle.term_model.specs.declared.rules.CheckErr.TheVariants.{Refused, NoMemory}
 use Rattle.payoff_lang.specs.Code.{PayoffCode}
 use Rattle.payoff_lang.specs.CodeValues.{scale_of_code}
 use Rattle.payoff_lang.specs.CodeTotals.{total_of_code}

@@ -4,10 +4,10 @@
 //! so each form of code with parts has one of its own.
 
 ghost use Rattle.std.specs.Prelude.{◌≡◌, ◌<◌, ◌+◌, ◌^◌, IfOk};
-ghost use Rattle.term_core.specs.Declarations.{declarations};
-ghost use Rattle.term_core.specs.declared.rules.Rule.{Rule};
-ghost use Rattle.term_core.specs.Terms.{expression};
-ghost use Rattle.term_core.specs.Sizes.{nodes};
+ghost use Rattle.term_model.specs.Declarations.{declarations};
+ghost use Rattle.term_model.specs.declared.rules.Rule.{Rule};
+ghost use Rattle.term_model.specs.Terms.{expression};
+ghost use Rattle.term_model.specs.Sizes.{nodes};
 ghost use Rattle.interval_check.specs.Ranges.{range, IsFit};
 ghost use Rattle.interval_check.specs.ScopedTrials.{IsScaledWithin};
 ghost use Rattle.payoff_lang.specs.Code.{payoff_code};
@@ -28,7 +28,8 @@ use decimal::NoMemory;
 use interval_check::{Range, range_of};
 use payoff_lang::{Code, Vx};
 use std::alloc::Global;
-use term_core::{CheckErr, Decls, Expr, Rule, Scope, Setting, nodes_in};
+use term_model::{CheckErr, Decls, Expr, Rule, Scope, Setting};
+use term_core::nodes_in;
 
 /// The range of a value expression, and its nodes.
 #[derive(Clone, Copy)]

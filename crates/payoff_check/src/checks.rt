@@ -1,7 +1,7 @@
 //! The rules of acceptance of payoff code, in their order.
 
 ghost use Rattle.std.specs.Prelude.{◌≤◌, ◌<◌, ◌^◌};
-ghost use Rattle.term_core.specs.Declarations.{declarations};
+ghost use Rattle.term_model.specs.Declarations.{declarations};
 ghost use Rattle.payoff_lang.specs.Code.{payoff_code};
 ghost use Rattle.payoff_lang.specs.CodeSizes.{height_of_code, nodes_of_code};
 ghost use Rattle.payoff_check.specs.CodeChecks.{IsCheckedCode};
@@ -13,7 +13,7 @@ use crate::size_rule::sizes;
 use crate::sort_rule::sorts;
 use payoff_lang::CodeFile;
 use std::alloc::Global;
-use term_core::{CheckErr, Setting};
+use term_model::{CheckErr, Setting};
 
 /// What is said of accepted code.
 #[derive(Clone, Copy, Debug, PartialEq, Eq)]

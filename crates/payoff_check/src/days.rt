@@ -5,7 +5,7 @@ ghost use Rattle.payoff_lang.specs.TemplateDates.{date, day_of, sum_at};
 ghost use Rattle.payoff_lang.specs.CodeAcceptance as rule;
 
 use payoff_lang::DateExpr;
-use term_core::{GREATEST_DATE_NUMBER, MOST_DAYS};
+use term_model::{GREATEST_DATE_NUMBER, MOST_DAYS};
 
 // The number that a setting has for a template, and 0 where it has none.
 fn number_at(setting: &[u32], name: u32) -> u32

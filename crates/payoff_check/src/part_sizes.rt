@@ -3,9 +3,9 @@
 //! so that no number leaves its integer.
 
 ghost use Rattle.std.specs.Prelude.{◌≡◌, ◌+◌, ◌≤◌, ◌<◌, ◌^◌, IfOk, IfErr};
-ghost use Rattle.term_core.specs.Limits.{most_days};
+ghost use Rattle.term_model.specs.Limits.{most_days};
 
-use term_core::{MOST_DAYS, MOST_HEIGHT_OF_CODE, MOST_NODES_OF_CODE, MOST_WORK};
+use term_model::{MOST_DAYS, MOST_HEIGHT_OF_CODE, MOST_NODES_OF_CODE, MOST_WORK};
 
 /// A value expression's longest path, counted in nodes; its nodes; and the steps in which it is
 /// evaluated.

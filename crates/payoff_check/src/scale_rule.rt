@@ -4,10 +4,10 @@
 //! of its own.
 
 ghost use Rattle.std.specs.Prelude.{◌≡◌, ◌<◌, ◌≤◌, ◌+◌, ◌^◌, IfOk};
-ghost use Rattle.term_core.specs.Declarations.{declarations};
-ghost use Rattle.term_core.specs.declared.rules.Rule.{Rule};
-ghost use Rattle.term_core.specs.Terms.{expression};
-ghost use Rattle.term_core.specs.Sizes.{nodes};
+ghost use Rattle.term_model.specs.Declarations.{declarations};
+ghost use Rattle.term_model.specs.declared.rules.Rule.{Rule};
+ghost use Rattle.term_model.specs.Terms.{expression};
+ghost use Rattle.term_model.specs.Sizes.{nodes};
 ghost use Rattle.payoff_lang.specs.Code.{payoff_code};
 ghost use Rattle.payoff_lang.specs.CodeSizes.{nodes_of_code};
 ghost use Rattle.payoff_lang.specs.CodeAcceptance.{MeetsInCode};
@@ -22,7 +22,8 @@ use decimal::NoMemory;
 use payoff_lang::{Code, Vx};
 use scale_check::scale_of_expr;
 use std::alloc::Global;
-use term_core::{CheckErr, Decls, Expr, Rule, Scope, Setting, nodes_in};
+use term_model::{CheckErr, Decls, Expr, Rule, Scope, Setting};
+use term_core::nodes_in;
 
 /// The scale of a part, and its nodes.
 #[derive(Clone, Copy)]

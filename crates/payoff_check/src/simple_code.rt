@@ -4,7 +4,7 @@
 //! so each form with parts has one of its own.
 
 ghost use Rattle.std.specs.Prelude.{◌≡◌, ◌≤◌, ◌+◌, true, unsigned_abs, IfSome};
-ghost use Rattle.term_core.specs.Declarations.{declarations};
+ghost use Rattle.term_model.specs.Declarations.{declarations};
 ghost use Rattle.payoff_lang.specs.TemplateDates.{date, day_of};
 ghost use Rattle.payoff_lang.specs.Code.{payoff_code};
 ghost use Rattle.payoff_lang.specs.CodeAcceptance as rule;
@@ -15,7 +15,7 @@ ghost use Rattle.payoff_check.specs.SimpleTrials as simple;
 use crate::days::{day_at, is_date};
 use payoff_lang::{Code, DateExpr, Vx};
 use scale_check::GREATEST_SCALE;
-use term_core::{Decls, MOST_HEIGHT_OF_CODE, MOST_NODES_OF_CODE};
+use term_model::{Decls, MOST_HEIGHT_OF_CODE, MOST_NODES_OF_CODE};
 
 /// What is measured of such code: the most that it is worth in size, in units of its scale; its
 /// height, its nodes, and the steps in which it is evaluated.

@@ -4,9 +4,9 @@
 //! has one of its own.
 
 ghost use Rattle.std.specs.Prelude.{◌≡◌, ◌<◌, ◌≤◌, ◌+◌, ◌^◌, IfOk};
-ghost use Rattle.term_core.specs.Declarations.{declarations};
-ghost use Rattle.term_core.specs.declared.rules.Rule.{Rule};
-ghost use Rattle.term_core.specs.Sizes.{nodes};
+ghost use Rattle.term_model.specs.Declarations.{declarations};
+ghost use Rattle.term_model.specs.declared.rules.Rule.{Rule};
+ghost use Rattle.term_model.specs.Sizes.{nodes};
 ghost use Rattle.term_core.specs.Trying.{moved};
 ghost use Rattle.payoff_lang.specs.TemplateDates.{date, day_of};
 ghost use Rattle.payoff_lang.specs.Code.{payoff_code};
@@ -22,7 +22,7 @@ use crate::days::{day_at, is_date, is_upto};
 use crate::part_sizes::{CodeSize, ValueSize};
 use crate::value_sizes::size_of_value;
 use payoff_lang::{Code, DateExpr, Vx};
-use term_core::{CheckErr, Decls, Rule, Setting};
+use term_model::{CheckErr, Decls, Rule, Setting};
 
 // The size of a value expression whose first node has a number.
 fn size_at(setting: &[u32], v: &Vx, node: u32) -> Result<ValueSize, u32>

@@ -3,10 +3,10 @@
 //! arms, so each form of code with parts has one of its own.
 
 ghost use Rattle.std.specs.Prelude.{◌≡◌, ◌<◌, ◌+◌, ◌^◌, IfOk};
-ghost use Rattle.term_core.specs.Declarations.{declarations};
-ghost use Rattle.term_core.specs.declared.rules.Rule.{Rule};
-ghost use Rattle.term_core.specs.Terms.{expression};
-ghost use Rattle.term_core.specs.Sizes.{nodes};
+ghost use Rattle.term_model.specs.Declarations.{declarations};
+ghost use Rattle.term_model.specs.declared.rules.Rule.{Rule};
+ghost use Rattle.term_model.specs.Terms.{expression};
+ghost use Rattle.term_model.specs.Sizes.{nodes};
 ghost use Rattle.payoff_lang.specs.Code.{payoff_code};
 ghost use Rattle.payoff_lang.specs.CodeSizes.{nodes_of_code};
 ghost use Rattle.payoff_check.specs.Parts.{added, multiple, naming, looping, cutting};
@@ -19,7 +19,8 @@ use crate::undated::undated_of;
 use decimal::NoMemory;
 use payoff_lang::{Code, Vx};
 use std::alloc::Global;
-use term_core::{CheckErr, Decls, Expr, Rule, Scope, Setting, nodes_in};
+use term_model::{CheckErr, Decls, Expr, Rule, Scope, Setting};
+use term_core::nodes_in;
 use time_types::{Sort, sort_of_expr};
 
 /// The sort of a value expression, and its nodes.

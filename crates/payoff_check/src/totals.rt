@@ -2,7 +2,7 @@
 //! than 10^37, as it is or at nine more decimals than the portfolio's.
 
 ghost use Rattle.std.specs.Prelude.{◌≡◌, ◌≤◌, ◌<◌, ◌+◌, ◌-◌, ◌^◌, nat_le, IfOk};
-ghost use Rattle.term_core.specs.Limits.{greatest_mantissa};
+ghost use Rattle.term_model.specs.Limits.{greatest_mantissa};
 ghost use Rattle.interval_check.specs.Intervals.{interval};
 ghost use Rattle.interval_check.specs.Ranges.{IsFit, range};
 ghost use Rattle.payoff_check.specs.Trials.{Tells};

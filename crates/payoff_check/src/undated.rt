@@ -4,14 +4,14 @@
 //! own.
 
 ghost use Rattle.std.specs.Prelude.{◌≡◌, IfOk};
-ghost use Rattle.term_core.specs.Terms.{expression, Neg, Num, Cmp, Not, Logic, Cond};
-ghost use Rattle.term_core.specs.Terms.{Widen, Round, Div, Acc};
+ghost use Rattle.term_model.specs.Terms.{expression, Neg, Num, Cmp, Not, Logic, Cond};
+ghost use Rattle.term_model.specs.Terms.{Widen, Round, Div, Acc};
 ghost use Rattle.payoff_check.specs.Trials.{undated_value};
 
 use decimal::{Mode, NoMemory};
 use payoff_lang::Vx;
 use std::alloc::Global;
-use term_core::{CmpOp, Expr, LogicOp, NumOp};
+use term_model::{CmpOp, Expr, LogicOp, NumOp};
 
 /// The expression of a value expression in which each observable is read on the day itself: no rule
 /// but that on sizes sees a date.

@@ -4,7 +4,7 @@
 //! no part is visited more than twice.
 
 ghost use Rattle.std.specs.Prelude.{◌≡◌, ◌<◌, ◌≤◌, ◌+◌, ◌^◌, IfOk, IfErr};
-ghost use Rattle.term_core.specs.Sizes.{nodes};
+ghost use Rattle.term_model.specs.Sizes.{nodes};
 ghost use Rattle.term_core.specs.Trying.{FaultIsWithin, moved};
 ghost use Rattle.payoff_check.specs.Trials.{undated_value};
 ghost use Rattle.payoff_check.specs.SizeTrials.{IsLimited, acc_tried, nodes_at, one_tried, three_tried, tried_at, two_tried};

@@ -1,6 +1,6 @@
 -- What the compiler promises, put together.
 use Rattle.std.proofs.Common.{arith}
-use Rattle.term_core.specs.Instances.{declared_numbers}
+use Rattle.term_model.specs.Instances.{declared_numbers}
 use Rattle.payoff_lang.specs.TemplateDates.{no_date}
 use Rattle.payoff_lang.specs.Compiled.{code_of}
 use Rattle.payoff_lang.proofs.CutFacts.{cut_value}

@@ -1,13 +1,13 @@
 -- What the compiler promises of the code that it answers for a contract, and the cut of the code that it answers for code.
 use Rattle.std.specs.Prelude.{ℕ, ℤ, pos, ◌≤◌, ◌≡◌, ◌*◌, List}
-use Rattle.term_core.specs.Declarations.{Declarations}
-use Rattle.term_core.specs.Terms.{Contract}
-use Rattle.term_core.specs.Acceptance.{IsAccepted}
-use Rattle.term_core.specs.Sizes.{nodes_of_contract}
-use Rattle.term_core.specs.Instances.{instance}
-use Rattle.term_core.specs.Environments.{Environment}
-use Rattle.term_core.specs.Values.{Entry}
-use Rattle.term_core.specs.Factors.{IsCurve}
+use Rattle.term_model.specs.Declarations.{Declarations}
+use Rattle.term_model.specs.Terms.{Contract}
+use Rattle.term_model.specs.Acceptance.{IsAccepted}
+use Rattle.term_model.specs.Sizes.{nodes_of_contract}
+use Rattle.term_model.specs.Instances.{instance}
+use Rattle.term_model.specs.Environments.{Environment}
+use Rattle.term_model.specs.Values.{Entry}
+use Rattle.term_model.specs.Factors.{IsCurve}
 use Rattle.payoff_lang.specs.Code.{PayoffCode}
 use Rattle.payoff_lang.specs.CodeValues.{Asked, code_value}
 use Rattle.payoff_lang.specs.CodeSizes.{nodes_of_code}

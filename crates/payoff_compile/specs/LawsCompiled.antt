@@ -1,14 +1,14 @@
 -- Laws of the code of a contract against the contract, for the check and the values of code: totals, sizes, and that it is
 -- accepted where the contract is; what the compiler and the cut promise; and that code may be printed.
 use Rattle.std.specs.Prelude.{ℕ, ◌≤◌, ◌+◌, ◌*◌, ◌^◌, List, []}
-use Rattle.term_core.specs.Declarations.{Declarations}
-use Rattle.term_core.specs.Terms.{Contract}
-use Rattle.term_core.specs.WellFormed.{IsClosed}
-use Rattle.term_core.specs.Acceptance.{IsAccepted}
-use Rattle.term_core.specs.Flows.{scale_of_contract}
-use Rattle.term_core.specs.Bounds.{aligned_total}
-use Rattle.term_core.specs.Sizes.{nodes_of_contract, height_of_contract, work_of_contract, reach}
-use Rattle.term_core.specs.Instances.{instance, declared_numbers}
+use Rattle.term_model.specs.Declarations.{Declarations}
+use Rattle.term_model.specs.Terms.{Contract}
+use Rattle.term_model.specs.WellFormed.{IsClosed}
+use Rattle.term_model.specs.Acceptance.{IsAccepted}
+use Rattle.term_model.specs.Flows.{scale_of_contract}
+use Rattle.term_model.specs.Bounds.{aligned_total}
+use Rattle.term_model.specs.Sizes.{nodes_of_contract, height_of_contract, work_of_contract, reach}
+use Rattle.term_model.specs.Instances.{instance, declared_numbers}
 use Rattle.contract_print.specs.Writable.{IsWritableTerm}
 use Rattle.payoff_lang.specs.Code.{PayoffCode}
 use Rattle.payoff_lang.specs.Compiled.{code_of, cut_code}

@@ -1,9 +1,9 @@
 -- Each literal of a term has a mantissa of at most 10^37 in size. The rules of acceptance ask it of every literal that is
 -- evaluated, but not of one in the body of an accumulator of no days.
 use Rattle.std.specs.Prelude.{◌≤◌, unsigned_abs}
-use Rattle.term_core.specs.Limits.{greatest_mantissa}
-use Rattle.term_core.specs.Terms.{Expression, Lit, Yes, Var, Obs, Neg, Num, Cmp, Not, Logic, Cond, Widen, Round, Div, Acc}
-use Rattle.term_core.specs.Terms.{Contract, Zero, Pay, Both, Scale, After, Let, Within}
+use Rattle.term_model.specs.Limits.{greatest_mantissa}
+use Rattle.term_model.specs.Terms.{Expression, Lit, Yes, Var, Obs, Neg, Num, Cmp, Not, Logic, Cond, Widen, Round, Div, Acc}
+use Rattle.term_model.specs.Terms.{Contract, Zero, Pay, Both, Scale, After, Let, Within}
 
 abbrev pub HasSmallLiterals : Expression → Type 0
 HasSmallLiterals (Lit m s) = unsigned_abs m ≤ greatest_mantissa

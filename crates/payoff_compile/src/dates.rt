@@ -1,15 +1,15 @@
 //! Dates of code: later ones, and those of day counts.
 
 ghost use Rattle.std.specs.Prelude.{◌≡◌, ◌≤◌, IfOk, [], unsigned_abs};
-ghost use Rattle.term_core.specs.Limits.{most_days};
-ghost use Rattle.term_core.specs.DayCounts.{day_count};
-ghost use Rattle.term_core.specs.Flows.{count_of};
+ghost use Rattle.term_model.specs.Limits.{most_days};
+ghost use Rattle.term_model.specs.DayCounts.{day_count};
+ghost use Rattle.term_model.specs.Flows.{count_of};
 ghost use Rattle.payoff_lang.specs.TemplateDates.{date, date_of_days, insert_names, plus};
 
 use decimal::NoMemory;
 use payoff_lang::{DateExpr, Dating, put_in_order, with_name};
 use std::alloc::Global;
-use term_core::{DaySum, Days};
+use term_model::{DaySum, Days};
 
 // The names of a sum, in rising order.
 fn in_order(alloc: Global, sum: &DaySum) -> Result<Vec<u32>, NoMemory>

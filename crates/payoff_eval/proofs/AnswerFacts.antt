@@ -1,11 +1,11 @@
 -- A walk at the portfolio's decimals and nine more answers the value.
 use Rattle.std.proofs.Common.{◌≡◌, ℕ, ℤ, ◌+◌, ◌-◌, ◌≤◌, List, [], Option, Some, None, Result, refl, ap, sym, subst, ◌∙◌}
 use Rattle.decimal.specs.Rounding.{raised}
-use Rattle.term_core.specs.Declarations.{Declarations}
-use Rattle.term_core.specs.declared.values.Missing.{Missing}
-use Rattle.term_core.specs.Environments.{Environment, Place, Extends}
-use Rattle.term_core.specs.Reads.{first_unfixed, is_fixed}
-use Rattle.term_core.proofs.ReadLawFacts.{no_names, extension_reads, all_fixed}
+use Rattle.term_model.specs.Declarations.{Declarations}
+use Rattle.term_model.specs.declared.values.Missing.{Missing}
+use Rattle.term_model.specs.Environments.{Environment, Place, Extends}
+use Rattle.term_model.specs.Reads.{first_unfixed, is_fixed}
+use Rattle.term_model.proofs.ReadLawFacts.{no_names, extension_reads, all_fixed}
 use Rattle.payoff_lang.specs.Code.{PayoffCode}
 use Rattle.payoff_lang.specs.CodeValues.{Asked, code_value, scale_of_code}
 use Rattle.payoff_lang.specs.CodeReads.{reads_of_code, reaches_payment}

@@ -4,15 +4,15 @@ use Rattle.std.proofs.Common.{◌≡◌, ℕ, ℤ, pos, ◌+ℤ◌, ◌*ℤ◌, 
 use Rattle.std.proofs.lemmas.Int.{ints}
 use Rattle.decimal.specs.Rounding.{raised}
 use Rattle.decimal.proofs.PowerFacts.{ten_most}
-use Rattle.term_core.specs.Declarations.{Declarations}
-use Rattle.term_core.specs.declared.values.Kind.{Kind}
-use Rattle.term_core.specs.declared.values.Value.{Value}
-use Rattle.term_core.specs.declared.values.Missing.{Missing}
-use Rattle.term_core.specs.Environments.{Environment, Place, IsAdmitted}
-use Rattle.term_core.specs.Kinds.{kind_of, scale_of}
-use Rattle.term_core.specs.Values.{Entry, kinds, num}
-use Rattle.term_core.specs.Reads.{first_unfixed}
-use Rattle.term_core.specs.Bounds.{Range}
+use Rattle.term_model.specs.Declarations.{Declarations}
+use Rattle.term_model.specs.declared.values.Kind.{Kind}
+use Rattle.term_model.specs.declared.values.Value.{Value}
+use Rattle.term_model.specs.declared.values.Missing.{Missing}
+use Rattle.term_model.specs.Environments.{Environment, Place, IsAdmitted}
+use Rattle.term_model.specs.Kinds.{kind_of, scale_of}
+use Rattle.term_model.specs.Values.{Entry, kinds, num}
+use Rattle.term_model.specs.Reads.{first_unfixed}
+use Rattle.term_model.specs.Bounds.{Range}
 use Rattle.interval_check.specs.Nodes.{MeetsRules}
 use Rattle.interval_check.specs.Safety.{IsSmall, ScalesFit}
 use Rattle.interval_check.specs.Within.{KeepsLimits}
@@ -34,7 +34,7 @@ use Rattle.payoff_lang.specs.CodeSizes.{height_of_code}
 use Rattle.payoff_lang.specs.CodeTotals.{range_at, total_of_code}
 use Rattle.payoff_lang.specs.CodeAcceptance.{IsAcceptedCode}
 use Rattle.payoff_lang.specs.WellFormedCode.{IsWellFormedValue, IsWellFormedCode, IsClosedCode}
-use Rattle.term_core.proofs.Products.{mul-assoc}
+use Rattle.term_model.proofs.Products.{mul-assoc}
 use Rattle.payoff_eval.specs.declared.walk.Worth.{Worth}
 use Rattle.payoff_eval.specs.Walks.{unless}
 use Rattle.payoff_eval.specs.CodeRules.{CodeMeetsRules, FactorsFit}

@@ -1,9 +1,9 @@
 -- The law of sizes, and what the call for a value answers.
 use Rattle.std.proofs.Common.{◌≡◌, ℤ, ◌≤◌, ◌+◌, ◌^◌, ◌∙◌, unsigned_abs, List, [], ℕ, Result, Ok, Err, IfOk, ap, sym, subst, arith}
-use Rattle.term_core.specs.Declarations.{Declarations}
-use Rattle.term_core.specs.declared.values.Missing.{Missing}
-use Rattle.term_core.specs.Environments.{Environment, IsAdmitted}
-use Rattle.term_core.specs.Factors.{CurveRow, IsCurve, IsFactor}
+use Rattle.term_model.specs.Declarations.{Declarations}
+use Rattle.term_model.specs.declared.values.Missing.{Missing}
+use Rattle.term_model.specs.Environments.{Environment, IsAdmitted}
+use Rattle.term_model.specs.Factors.{CurveRow, IsCurve, IsFactor}
 use Rattle.interval_check.specs.Safety.{IsSmall}
 use Rattle.interval_check.specs.Within.{KeepsLimits}
 use Rattle.expr_eval.specs.declared.scratch.Binding.{Binding}

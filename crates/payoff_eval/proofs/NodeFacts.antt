@@ -3,14 +3,14 @@ use Rattle.std.proofs.Common.{◌≡◌, ℕ, zero, suc, ℤ, pos, ◌+◌, ◌*
 use Rattle.std.proofs.lemmas.Int.{ints}
 use Rattle.std.proofs.lemmas.Bool.{and_parts, leb-true}
 use Rattle.std.proofs.lemmas.Bool.Decides.{nat_tests}
-use Rattle.term_core.specs.Declarations.{Declarations}
-use Rattle.term_core.specs.declared.values.Kind.{Kind}
-use Rattle.term_core.specs.Terms.{Expression}
-use Rattle.term_core.specs.Limits.{greatest_mantissa}
-use Rattle.term_core.specs.Sizes.{nodes, height, work}
-use Rattle.term_core.specs.Smallness.{days_of}
-use Rattle.term_core.specs.Bounds.{Range, range_kinds, ranges_round}
-use Rattle.term_core.specs.Sites.{Trial, Once, EachDay, OfExpression, Layer, Naming, sites_of, AllPass}
+use Rattle.term_model.specs.Declarations.{Declarations}
+use Rattle.term_model.specs.declared.values.Kind.{Kind}
+use Rattle.term_model.specs.Terms.{Expression}
+use Rattle.term_model.specs.Limits.{greatest_mantissa}
+use Rattle.term_model.specs.Sizes.{nodes, height, work}
+use Rattle.term_model.specs.Smallness.{days_of}
+use Rattle.term_model.specs.Bounds.{Range, range_kinds, ranges_round}
+use Rattle.term_model.specs.Sites.{Trial, Once, EachDay, OfExpression, Layer, Naming, sites_of, AllPass}
 use Rattle.interval_check.specs.Nodes.{EachNode, range_after}
 use Rattle.interval_check.proofs.NodeFacts.{nodes_hold}
 use Rattle.interval_check.proofs.NodeTests.{at_root}

@@ -1,14 +1,14 @@
 -- Accepted code meets the rules by which values are known, at each of its value expressions: from the list of sites to the
 -- structure, and from the undated expression to that of a setting.
 use Rattle.std.proofs.Common.{◌≡◌, ℕ, suc, ℤ, pos, ◌+◌, Bool, ◌&&◌, List, [], ◌∷◌, ◌++◌, map, Option, IsTrue, is_some, nat_le, refl, ap, ap₂, subst, ◌∙◌}
-use Rattle.term_core.specs.Declarations.{Declarations}
-use Rattle.term_core.specs.declared.values.Kind.{Kind}
-use Rattle.term_core.specs.Kinds.{kind_of, scale_of}
-use Rattle.term_core.specs.Values.{kind_or}
-use Rattle.term_core.specs.Scales.{is_scaled, greatest_scale}
-use Rattle.term_core.specs.Sorts.{is_sorted}
-use Rattle.term_core.specs.Bounds.{Interval, Range, range_kinds, ranges_round, is_bounded, operands_fit, fit_operands, fit_aligned, fit_divided, fits}
-use Rattle.term_core.specs.Sites.{Trial, Once, EachDay, Part, OfExpression, Layer, Naming, Site, sites_of, AllPass}
+use Rattle.term_model.specs.Declarations.{Declarations}
+use Rattle.term_model.specs.declared.values.Kind.{Kind}
+use Rattle.term_model.specs.Kinds.{kind_of, scale_of}
+use Rattle.term_model.specs.Values.{kind_or}
+use Rattle.term_model.specs.Scales.{is_scaled, greatest_scale}
+use Rattle.term_model.specs.Sorts.{is_sorted}
+use Rattle.term_model.specs.Bounds.{Interval, Range, range_kinds, ranges_round, is_bounded, operands_fit, fit_operands, fit_aligned, fit_divided, fits}
+use Rattle.term_model.specs.Sites.{Trial, Once, EachDay, Part, OfExpression, Layer, Naming, Site, sites_of, AllPass}
 use Rattle.interval_check.specs.Nodes.{EachNode, InRounds, range_after, IsSortedPart, IsScaledPart, IsBoundedPart, has_scaled_parts}
 use Rattle.interval_check.proofs.NodeFacts.{nodes_hold}
 use Rattle.interval_check.proofs.RuleFacts.{sorted_is, scaled_is}

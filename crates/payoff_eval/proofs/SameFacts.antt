@@ -1,12 +1,12 @@
 -- Code over two maps that hold the same: its first read that is not fixed is the same, and so is what it is worth.
 use Rattle.std.proofs.Common.{◌≡◌, ◌∙◌, ℕ, ℤ, pos, List, [], ◌∷◌, Bool, true, false, Option, Some, Result, Ok, Err, if◌then◌else◌, refl, ap, sym}
 use Rattle.std.specs.Prelude.{is_some}
-use Rattle.term_core.specs.Declarations.{Declarations}
-use Rattle.term_core.specs.declared.values.Missing.{Missing}
-use Rattle.term_core.specs.declared.values.Value.{Value}
-use Rattle.term_core.specs.Environments.{Environment, Extends, Place}
-use Rattle.term_core.specs.Reads.{first_unfixed, is_fixed, up_to_first}
-use Rattle.term_core.proofs.ReadLawFacts.{extension_reads, no_names}
+use Rattle.term_model.specs.Declarations.{Declarations}
+use Rattle.term_model.specs.declared.values.Missing.{Missing}
+use Rattle.term_model.specs.declared.values.Value.{Value}
+use Rattle.term_model.specs.Environments.{Environment, Extends, Place}
+use Rattle.term_model.specs.Reads.{first_unfixed, is_fixed, up_to_first}
+use Rattle.term_model.proofs.ReadLawFacts.{extension_reads, no_names}
 use Rattle.fixing_files.specs.Layers.{HoldSame}
 use Rattle.payoff_lang.specs.Code.{PayoffCode}
 use Rattle.payoff_lang.specs.CodeBooks.{CodeBook}

@@ -2,15 +2,15 @@
 use Rattle.std.proofs.Common.{◌≡◌, ℕ, ℤ, pos, negsuc, ◌+ℤ◌, ◌-ℤ◌, ◌*ℤ◌, ◌≤◌, ◌+◌, ◌-◌, ◌*◌, ◌^◌, max, unsigned_abs, Bool, true, false, if◌then◌else◌, ◌&&◌, not, ◌==◌, int_lt, List, ◌∷◌, Option, Some, None, ap, ap₂, subst, sym, arith}
 use Rattle.std.proofs.lemmas.Int.{ints, unsigned_abs-mul}
 use Rattle.decimal.specs.Rounding.{raised}
-use Rattle.term_core.specs.Declarations.{Declarations}
-use Rattle.term_core.specs.declared.values.Kind.{Kind}
-use Rattle.term_core.specs.Environments.{Environment}
-use Rattle.term_core.specs.Kinds.{kind_of, scale_of}
-use Rattle.term_core.specs.Values.{Entry, kinds, num, kind_or, value_of}
-use Rattle.term_core.specs.Flows.{Flow, unit_flow}
-use Rattle.term_core.specs.Factors.{IsFactor, IsCurve}
-use Rattle.term_core.proofs.FactorFacts.{answers_factor}
-use Rattle.term_core.specs.Bounds.{Interval, Range, range_kinds, interval_of, greatest_size}
+use Rattle.term_model.specs.Declarations.{Declarations}
+use Rattle.term_model.specs.declared.values.Kind.{Kind}
+use Rattle.term_model.specs.Environments.{Environment}
+use Rattle.term_model.specs.Kinds.{kind_of, scale_of}
+use Rattle.term_model.specs.Values.{Entry, kinds, num, kind_or, value_of}
+use Rattle.term_model.specs.Flows.{Flow, unit_flow}
+use Rattle.term_model.specs.Factors.{IsFactor, IsCurve}
+use Rattle.term_model.proofs.FactorFacts.{answers_factor}
+use Rattle.term_model.specs.Bounds.{Interval, Range, range_kinds, interval_of, greatest_size}
 use Rattle.interval_check.specs.Nodes.{MeetsRules, range_of}
 use Rattle.interval_check.proofs.AlignedFacts.{sum_raised_twice, max_raised_twice}
 use Rattle.interval_check.proofs.TurnoverFacts.{product_at_most, size_in}
@@ -24,7 +24,7 @@ use Rattle.payoff_lang.specs.Code.{ValueExpression, PayoffCode, Nothing, PayOn, 
 use Rattle.payoff_lang.specs.CodeValues.{Asked, factor_on, value_at, entry_at, first_true_at, code_value, scale_of_code}
 use Rattle.payoff_lang.specs.CodeTotals.{range_at, total_of_code}
 use Rattle.payoff_lang.specs.Meaning.{face_value}
-use Rattle.term_core.proofs.Products.{mul-assoc, parts_raised}
+use Rattle.term_model.proofs.Products.{mul-assoc, parts_raised}
 use Rattle.payoff_lang.proofs.DateFreeFacts.{kind_any, interval_any}
 use Rattle.payoff_eval.specs.CodeRules.{CodeMeetsRules, FactorsFit}
 use Rattle.payoff_lang.proofs.ValueFacts.{raised_up}

@@ -3,8 +3,8 @@ use Rattle.std.proofs.Common.{◌≡◌, ℕ, suc, ℤ, pos, ◌*ℤ◌, ◌≤�
 use Rattle.std.proofs.lemmas.Int.{unsigned_abs-mul}
 use Rattle.decimal.specs.Rounding.{raised}
 use Rattle.decimal.proofs.PowerFacts.{ten_most}
-use Rattle.term_core.specs.declared.values.Value.{Value}
-use Rattle.term_core.specs.declared.values.Missing.{Missing}
+use Rattle.term_model.specs.declared.values.Value.{Value}
+use Rattle.term_model.specs.declared.values.Missing.{Missing}
 use Rattle.expr_eval.specs.Trials.{first_tried}
 use Rattle.interval_check.proofs.TurnoverFacts.{product_at_most}
 use Rattle.interval_check.proofs.MultipleFacts.{times-size}

@@ -2,12 +2,12 @@
 -- asks for a factor only where a payment is reached.
 use Rattle.std.specs.Prelude.{ℕ, ℤ, pos, int_lt, ◌+ℤ◌, ◌*ℤ◌, ◌-◌, ◌≤◌, ◌≤ℤ◌, List, ◌∷◌, Option, Some, None, Result, Ok, Err, if◌then◌else◌}
 use Rattle.decimal.specs.Rounding.{raised}
-use Rattle.term_core.specs.Declarations.{Declarations}
-use Rattle.term_core.specs.declared.values.Missing.{Missing}
-use Rattle.term_core.specs.Environments.{Environment}
-use Rattle.term_core.specs.Kinds.{scale_of_kind}
-use Rattle.term_core.specs.Values.{num}
-use Rattle.term_core.specs.Flows.{unit_flow}
+use Rattle.term_model.specs.Declarations.{Declarations}
+use Rattle.term_model.specs.declared.values.Missing.{Missing}
+use Rattle.term_model.specs.Environments.{Environment}
+use Rattle.term_model.specs.Kinds.{scale_of_kind}
+use Rattle.term_model.specs.Values.{num}
+use Rattle.term_model.specs.Flows.{unit_flow}
 use Rattle.interval_check.specs.RangeTrials.{kind_found}
 use Rattle.interval_check.specs.Safety.{IsSmall}
 use Rattle.expr_eval.specs.declared.scratch.Binding.{Binding}

@@ -1,9 +1,9 @@
 -- The law of sizes: what accepted code is worth, in any admitted environment and by any curve, is at most its total in
 -- size, both at nine decimals more than the portfolio's.
 use Rattle.std.specs.Prelude.{ℕ, ℤ, ◌≤◌, unsigned_abs, List, []}
-use Rattle.term_core.specs.Declarations.{Declarations}
-use Rattle.term_core.specs.Environments.{Environment, IsAdmitted}
-use Rattle.term_core.specs.Factors.{IsCurve, IsFactor}
+use Rattle.term_model.specs.Declarations.{Declarations}
+use Rattle.term_model.specs.Environments.{Environment, IsAdmitted}
+use Rattle.term_model.specs.Factors.{IsCurve, IsFactor}
 use Rattle.interval_check.specs.Within.{KeepsLimits}
 use Rattle.payoff_lang.specs.Code.{PayoffCode}
 use Rattle.payoff_lang.specs.CodeValues.{Asked}

@@ -1,8 +1,8 @@
 -- What may be asked of a code file whose code is closed and accepted at a setting with a number for each template: what one
 -- declared party owes another in a declared asset, on a day from the start on. A payment gone by counts with its face value.
 use Rattle.std.specs.Prelude.{ℕ, ℤ, pos, ◌<◌, ◌≤ℤ◌, ◌≡◌, List, length}
-use Rattle.term_core.specs.Declarations.{Declarations}
-use Rattle.term_core.specs.Factors.{CurveRow}
+use Rattle.term_model.specs.Declarations.{Declarations}
+use Rattle.term_model.specs.Factors.{CurveRow}
 use Rattle.payoff_lang.specs.CodeAcceptance.{IsAcceptedCode}
 use Rattle.payoff_lang.specs.CodeBooks.{CodeBook}
 use Rattle.payoff_lang.specs.CodeValues.{Asked}

@@ -4,13 +4,13 @@
 -- from.
 use Rattle.std.specs.Prelude.{ℕ, zero, suc, ℤ, pos, negsuc, int_lt, ◌+ℤ◌, ◌*ℤ◌, ◌-◌, true, false, ◌||◌, List, ◌∷◌, Option, Some, None, Result, Ok, Err, if◌then◌else◌}
 use Rattle.decimal.specs.Rounding.{raised}
-use Rattle.term_core.specs.Declarations.{Declarations}
-use Rattle.term_core.specs.declared.values.Missing.{Missing}
-use Rattle.term_core.specs.Environments.{Environment, Place}
-use Rattle.term_core.specs.Kinds.{scale_of}
-use Rattle.term_core.specs.Values.{Entry, kinds, num}
-use Rattle.term_core.specs.Flows.{unit_flow}
-use Rattle.term_core.specs.Reads.{first_unfixed}
+use Rattle.term_model.specs.Declarations.{Declarations}
+use Rattle.term_model.specs.declared.values.Missing.{Missing}
+use Rattle.term_model.specs.Environments.{Environment, Place}
+use Rattle.term_model.specs.Kinds.{scale_of}
+use Rattle.term_model.specs.Values.{Entry, kinds, num}
+use Rattle.term_model.specs.Flows.{unit_flow}
+use Rattle.term_model.specs.Reads.{first_unfixed}
 use Rattle.expr_eval.specs.Trials.{DayOrMissing, ValueOrMissing, missing_at, first_tried}
 use Rattle.payoff_lang.specs.TemplateDates.{day_of}
 use Rattle.payoff_lang.specs.Dating.{undated}

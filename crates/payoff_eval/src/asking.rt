@@ -3,7 +3,7 @@
 ghost use Rattle.expr_eval.specs.Fits.{IsDay};
 
 use fixing_files::{Curve, LayeredFixings};
-use term_core::Decls;
+use term_model::Decls;
 
 /// The declarations, the setting, the fixings and the curve, the current day, from which days can
 /// be counted, the pair and the asset.

@@ -1,7 +1,7 @@
 //! Dates at a setting.
 
 ghost use Rattle.std.specs.Prelude.{◌≡◌, ◌≤◌, ◌<◌, ◌≤ℤ◌, ◌+ℤ◌, ◌^◌, All, length, pos};
-ghost use Rattle.term_core.specs.Limits.{most_days};
+ghost use Rattle.term_model.specs.Limits.{most_days};
 ghost use Rattle.expr_eval.specs.Fits.{IsDay};
 ghost use Rattle.payoff_lang.specs.TemplateDates.{date, day_of, sum_at};
 ghost use Rattle.payoff_eval.specs.DatesFit.{DateFits, IsDayOfDate};

@@ -3,7 +3,7 @@
 //! expression is at the setting.
 
 ghost use Rattle.std.specs.Prelude.{◌≡◌};
-ghost use Rattle.term_core.specs.Declarations.{declarations};
+ghost use Rattle.term_model.specs.Declarations.{declarations};
 ghost use Rattle.expr_eval.specs.Fits.{IsDay};
 ghost use Rattle.expr_eval.specs.Runs.{observation};
 ghost use Rattle.payoff_eval.specs.CodeEvaluations.{DayFitsOn, DaysFitOn, FitsOn, HasDates};
@@ -20,7 +20,7 @@ use expr_eval::operations::{
 };
 use expr_eval::{Binding, Bindings, Held, value_bound, value_found};
 use payoff_lang::Vx;
-use term_core::{Kind, LogicOp, Missing, days_earlier, days_later};
+use term_model::{Kind, LogicOp, Missing, days_earlier, days_later};
 
 // The value of what is observed on a day.
 fn value_observed(asking: &Asking, label: u32, day: i64) -> Result<Typed, Missing>

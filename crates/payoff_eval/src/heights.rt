@@ -1,14 +1,14 @@
 //! How high code is.
 
 ghost use Rattle.std.specs.Prelude.{◌≡◌, ◌≤◌, ◌+◌, max, min};
-ghost use Rattle.term_core.specs.Limits.{most_counted};
-ghost use Rattle.term_core.specs.Sizes.{height, capped};
+ghost use Rattle.term_model.specs.Limits.{most_counted};
+ghost use Rattle.term_model.specs.Sizes.{height, capped};
 ghost use Rattle.payoff_lang.specs.Code.{value_expression, payoff_code};
 ghost use Rattle.payoff_lang.specs.CodeSizes.{height_of_code};
 ghost use Rattle.payoff_lang.specs.Dating.{undated};
 
 use payoff_lang::{Code, Vx};
-use term_core::MOST_COUNTED;
+use term_model::MOST_COUNTED;
 
 // One more than a height.
 fn above(height: u32) -> u32

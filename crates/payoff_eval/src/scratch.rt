@@ -1,7 +1,7 @@
 //! Room for the names round a part of code.
 
 ghost use Rattle.std.specs.Prelude.{◌≡◌, ◌≤◌, ◌<◌, [], IfOk};
-ghost use Rattle.term_core.specs.Limits.{most_height_of_code};
+ghost use Rattle.term_model.specs.Limits.{most_height_of_code};
 ghost use Rattle.payoff_lang.specs.Code.{payoff_code};
 ghost use Rattle.payoff_lang.specs.CodeSizes.{height_of_code};
 
@@ -11,7 +11,7 @@ use expr_eval::Scratch;
 use payoff_lang::CodeFile;
 use std::alloc::Global;
 use std::marker::Model;
-use term_core::{MOST_COUNTED, MOST_HEIGHT_OF_CODE};
+use term_model::{MOST_COUNTED, MOST_HEIGHT_OF_CODE};
 
 /// Room for the names round a part of code, seen as the number of names that have room. None is
 /// bound between two calls.

@@ -1,8 +1,8 @@
 //! The value of a file's code.
 
 ghost use Rattle.std.specs.Prelude.{◌≡◌, ◌≤◌};
-ghost use Rattle.term_core.specs.Declarations.{declarations};
-ghost use Rattle.term_core.specs.Environments.{IsAdmitted};
+ghost use Rattle.term_model.specs.Declarations.{declarations};
+ghost use Rattle.term_model.specs.Environments.{IsAdmitted};
 ghost use Rattle.payoff_lang.specs.Code.{payoff_code};
 ghost use Rattle.payoff_lang.specs.CodeBooks.{code_book};
 ghost use Rattle.payoff_lang.specs.CodeSizes.{height_of_code};
@@ -15,7 +15,7 @@ use crate::scratch::ValueScratch;
 use crate::walk::{Worth, walk};
 use fixing_files::{Curve, Fixings, LayeredFixings};
 use payoff_lang::CodeFile;
-use term_core::{Missing, Setting};
+use term_model::{Missing, Setting};
 
 // The amount of an answer.
 fn amount_of(found: Result<Worth, Missing>) -> Result<i128, Missing>

@@ -2,9 +2,9 @@
 
 ghost use Rattle.std.specs.Prelude.{◌≡◌, ◌≤◌, ◌+◌, ◌*ℤ◌, ◌+ℤ◌, int_lt, true, unsigned_abs, IfOk};
 ghost use Rattle.std.specs.Prelude.{Ok};
-ghost use Rattle.term_core.specs.Limits.{most_days};
-ghost use Rattle.term_core.specs.Values.{num};
-ghost use Rattle.term_core.specs.Flows.{unit_flow};
+ghost use Rattle.term_model.specs.Limits.{most_days};
+ghost use Rattle.term_model.specs.Values.{num};
+ghost use Rattle.term_model.specs.Flows.{unit_flow};
 ghost use Rattle.interval_check.specs.Safety.{IsSmall};
 ghost use Rattle.expr_eval.specs.Fits.{IsDay};
 ghost use Rattle.payoff_lang.specs.TemplateDates.{date, day_of};
@@ -28,7 +28,7 @@ use crate::kinds::kind_in;
 use decimal::align;
 use expr_eval::{Bindings, Held, Scratch, without_kind};
 use payoff_lang::{Code, DateExpr, Vx};
-use term_core::{Kind, Missing, Value, days_later};
+use term_model::{Kind, Missing, Value, days_later};
 
 /// What code is worth at some decimals, and whether it reaches a payment of the pair and the asset
 /// that are asked for.

@@ -1,10 +1,10 @@
 -- There is one canonical text of a code file, and code that a text can stand for may be printed.
 use Rattle.std.proofs.Common.{◌≡◌, ◌∙◌, ℕ, suc, ℤ, ◌+◌, [], Option, Some, None, refl, sym, ap, subst, arith}
 use Rattle.std.proofs.lemmas.List.Elements.{All-nil}
-use Rattle.term_core.specs.Declarations.{Declarations}
-use Rattle.term_core.specs.Terms.{Contract}
-use Rattle.term_core.specs.Books.{Book}
-use Rattle.term_core.proofs.DateTextFacts.{texts_unique}
+use Rattle.term_model.specs.Declarations.{Declarations}
+use Rattle.term_model.specs.Terms.{Contract}
+use Rattle.term_model.specs.Books.{Book}
+use Rattle.term_model.proofs.DateTextFacts.{texts_unique}
 use Rattle.contract_parse.specs.Words.{Bytes}
 use Rattle.contract_print.specs.Canon.{IsOriginText, origin_text}
 use Rattle.contract_print.specs.Spellable.{IsSpellable}

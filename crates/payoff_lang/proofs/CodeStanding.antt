@@ -1,7 +1,7 @@
 -- Code that stands in a text: its parts stand there too, and so does what follows.
 use Rattle.std.proofs.Common.{ℕ, List, [], ◌∷◌, ◌++◌, subst}
 use Rattle.std.specs.Prelude.{codes}
-use Rattle.term_core.specs.Declarations.{Declarations}
+use Rattle.term_model.specs.Declarations.{Declarations}
 use Rattle.contract_parse.specs.Tokens.{Tok}
 use Rattle.contract_parse.specs.Words.{Bytes}
 use Rattle.contract_parse.specs.Names.{DeclaredNames}

@@ -1,7 +1,7 @@
 -- How many bytes code takes at least, and what a text of a code file can hold.
 use Rattle.std.proofs.Common.{ℕ, ◌+◌, ◌≤◌, ◌<◌, List, [], ◌∷◌, length, arith}
 use Rattle.std.specs.Prelude.{codes}
-use Rattle.term_core.specs.Sizes.{nodes}
+use Rattle.term_model.specs.Sizes.{nodes}
 use Rattle.contract_parse.specs.Tokens.{Tok, tokens}
 use Rattle.contract_parse.specs.Words.{Bytes}
 use Rattle.contract_parse.specs.Names.{DeclaredNames}

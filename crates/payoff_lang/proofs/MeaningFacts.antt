@@ -4,18 +4,18 @@ use Rattle.std.specs.Prelude.{Contains}
 use Rattle.std.proofs.lemmas.Int.{ints}
 use Rattle.std.proofs.lemmas.Bool.Decides.{nat_tests}
 use Rattle.decimal.specs.Rounding.{raised}
-use Rattle.term_core.specs.Declarations.{Declarations}
-use Rattle.term_core.specs.Terms.{Contract}
-use Rattle.term_core.specs.Environments.{Environment, Place}
-use Rattle.term_core.specs.Flows.{scale_of_contract}
-use Rattle.term_core.specs.Horizons.{horizon_of}
-use Rattle.term_core.specs.Instances.{instance}
-use Rattle.term_core.specs.Sizes.{reach, height_of_contract, nodes_of_contract, past_of_contract, work_of_contract}
-use Rattle.term_core.specs.Smallness.{is_small, within_limits, days_of_contract}
-use Rattle.term_core.specs.Scales.{is_scaled}
-use Rattle.term_core.specs.Acceptance.{IsAccepted}
-use Rattle.term_core.specs.Reads.{reads_of_contract}
-use Rattle.term_core.proofs.TimeFacts.{whole_passes}
+use Rattle.term_model.specs.Declarations.{Declarations}
+use Rattle.term_model.specs.Terms.{Contract}
+use Rattle.term_model.specs.Environments.{Environment, Place}
+use Rattle.term_model.specs.Flows.{scale_of_contract}
+use Rattle.term_model.specs.Horizons.{horizon_of}
+use Rattle.term_model.specs.Instances.{instance}
+use Rattle.term_model.specs.Sizes.{reach, height_of_contract, nodes_of_contract, past_of_contract, work_of_contract}
+use Rattle.term_model.specs.Smallness.{is_small, within_limits, days_of_contract}
+use Rattle.term_model.specs.Scales.{is_scaled}
+use Rattle.term_model.specs.Acceptance.{IsAccepted}
+use Rattle.term_model.specs.Reads.{reads_of_contract}
+use Rattle.term_model.proofs.TimeFacts.{whole_passes}
 use Rattle.payoff_lang.specs.TemplateDates.{day_of, no_date}
 use Rattle.payoff_lang.specs.Code.{PayoffCode}
 use Rattle.payoff_lang.specs.CodeValues.{Asked, code_value, scale_of_code}

@@ -4,16 +4,16 @@ use Rattle.std.proofs.Common.{◌≡◌, ℕ, ℤ, pos, negsuc, ◌+ℤ◌, ◌-
 use Rattle.std.specs.Prelude.{Contains}
 use Rattle.std.proofs.lemmas.Int.{ints, by_lt_z}
 use Rattle.std.proofs.lemmas.List.Elements.{Contains-append_left, Contains-append_right, Contains-append_cases}
-use Rattle.term_core.specs.Declarations.{Declarations}
-use Rattle.term_core.specs.Terms.{Expression, Contract, Zero, Pay, Both, Scale, After, Let, Within}
-use Rattle.term_core.specs.Environments.{Environment, Place}
-use Rattle.term_core.specs.Kinds.{kind_of}
-use Rattle.term_core.specs.Values.{Entry, kinds, kind_or, value_of, first_true}
-use Rattle.term_core.specs.Flows.{count_of}
-use Rattle.term_core.specs.Reads.{reads_of, reads_of_contract, live, upto, tested}
-use Rattle.term_core.specs.Instances.{with_number, instance}
-use Rattle.term_core.specs.Sizes.{reach}
-use Rattle.term_core.proofs.FlowFacts.{first_within}
+use Rattle.term_model.specs.Declarations.{Declarations}
+use Rattle.term_model.specs.Terms.{Expression, Contract, Zero, Pay, Both, Scale, After, Let, Within}
+use Rattle.term_model.specs.Environments.{Environment, Place}
+use Rattle.term_model.specs.Kinds.{kind_of}
+use Rattle.term_model.specs.Values.{Entry, kinds, kind_or, value_of, first_true}
+use Rattle.term_model.specs.Flows.{count_of}
+use Rattle.term_model.specs.Reads.{reads_of, reads_of_contract, live, upto, tested}
+use Rattle.term_model.specs.Instances.{with_number, instance}
+use Rattle.term_model.specs.Sizes.{reach}
+use Rattle.term_model.proofs.FlowFacts.{first_within}
 use Rattle.payoff_lang.specs.TemplateDates.{Date, day_of, plus, date_of_days}
 use Rattle.payoff_lang.specs.Code.{PayoffCode, Nothing, PayOn, Add, ScaleBy, LetBe, Loop, Cut}
 use Rattle.payoff_lang.specs.CodeValues.{Asked}
@@ -22,7 +22,7 @@ use Rattle.payoff_lang.specs.Compiled.{compiled, compiled_value, cut_code}
 use Rattle.payoff_lang.specs.Meaning.{Counting, Remaining, Everything}
 use Rattle.payoff_lang.proofs.DateFacts.{day_plus, day_of_count}
 use Rattle.payoff_lang.proofs.DatingFacts.{dated_shifted, entry_compiled}
-use Rattle.term_core.proofs.ReadShiftFacts.{reads-shifted}
+use Rattle.term_model.proofs.ReadShiftFacts.{reads-shifted}
 use Rattle.payoff_lang.proofs.CutFacts.{not_below}
 use Rattle.payoff_lang.proofs.ValueFacts.{first_compiled}
 use Rattle.payoff_lang.proofs.CodeAlikeFacts.{either}

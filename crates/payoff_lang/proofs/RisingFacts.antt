@@ -1,7 +1,7 @@
 -- Templates go among others in rising order, and stay declared.
 use Rattle.std.proofs.Common.{◌≡◌, ℕ, ◌≤◌, ◌<◌, Bool, true, false, if◌then◌else◌, nat_le, List, [], ◌∷◌, length, refl, arith}
 use Rattle.std.proofs.lemmas.Bool.Decides.{nat_tests}
-use Rattle.term_core.specs.Declarations.{Declarations}
+use Rattle.term_model.specs.Declarations.{Declarations}
 use Rattle.payoff_lang.specs.TemplateDates.{AreInOrderFrom, insert_name, insert_names}
 use Rattle.payoff_lang.specs.WellFormedCode.{AreTemplates}
 

@@ -3,13 +3,13 @@
 use Rattle.std.proofs.Common.{◌≡◌, pos, neg_ℤ, [], ◌∷◌, Some, refl}
 use Rattle.decimal.specs.Rounding.{at_scale, divided}
 use Rattle.decimal.specs.declared.Mode.TheVariants.{HalfEven}
-use Rattle.term_core.specs.declared.terms.NumOp.TheVariants.{Plus, Minus, Times}
-use Rattle.term_core.specs.declared.terms.CmpOp.TheVariants.{Greater}
-use Rattle.term_core.specs.DayCounts.{Days}
-use Rattle.term_core.specs.DayCounts.{Num as Count, Named, Sum}
-use Rattle.term_core.specs.Terms.{Lit, Var, Obs, Num, Cmp, Round, Div, Acc, Contract, Zero, Pay, Both, Scale, After, Within}
-use Rattle.term_core.specs.Environments.{Environment}
-use Rattle.term_core.specs.Reads.{first_unfixed}
+use Rattle.term_model.specs.declared.terms.NumOp.TheVariants.{Plus, Minus, Times}
+use Rattle.term_model.specs.declared.terms.CmpOp.TheVariants.{Greater}
+use Rattle.term_model.specs.DayCounts.{Days}
+use Rattle.term_model.specs.DayCounts.{Num as Count, Named, Sum}
+use Rattle.term_model.specs.Terms.{Lit, Var, Obs, Num, Cmp, Round, Div, Acc, Contract, Zero, Pay, Both, Scale, After, Within}
+use Rattle.term_model.specs.Environments.{Environment}
+use Rattle.term_model.specs.Reads.{first_unfixed}
 use Rattle.payoff_lang.specs.TemplateDates.{Date}
 use Rattle.payoff_lang.specs.Code.{Lit as Lit', Model, Cmp as Cmp', PayoffCode, PayOn, Add, ScaleBy, Loop, Cut}
 use Rattle.payoff_lang.specs.CodeReads.{reads_of_code}

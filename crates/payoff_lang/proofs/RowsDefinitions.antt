@@ -1,10 +1,10 @@
 -- Worked rows of the definitions of code: the cases of the values of value expressions, code that is written by hand, and
 -- dates that the rules refuse.
 use Rattle.std.proofs.Common.{◌≡◌, ℕ, ℤ, pos, neg_ℤ, ◌+ℤ◌, ◌-ℤ◌, max, true, false, List, [], ◌∷◌, if◌then◌else◌, refl, arith}
-use Rattle.term_core.specs.Declarations.{Declarations}
-use Rattle.term_core.specs.Environments.{Environment, observed}
-use Rattle.term_core.specs.Kinds.{kind_of, scale_of, scale_of_kind}
-use Rattle.term_core.specs.Values.{Entry, kinds, kind_or, truth, widened, days_run}
+use Rattle.term_model.specs.Declarations.{Declarations}
+use Rattle.term_model.specs.Environments.{Environment, observed}
+use Rattle.term_model.specs.Kinds.{kind_of, scale_of, scale_of_kind}
+use Rattle.term_model.specs.Values.{Entry, kinds, kind_or, truth, widened, days_run}
 use Rattle.payoff_lang.specs.TemplateDates.{Date, day_of, AreInOrder}
 use Rattle.payoff_lang.specs.Dating.{at_setting}
 use Rattle.payoff_lang.specs.Code.{ValueExpression, Yes, Model, Cond, Acc, Nothing, PayOn, Loop, Cut}

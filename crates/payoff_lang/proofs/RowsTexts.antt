@@ -3,10 +3,10 @@ use Rattle.std.proofs.Common.{◌≡◌, pos, neg_ℤ, true, [], ◌∷◌, refl
 use Rattle.std.specs.Prelude.{codes}
 use Rattle.decimal.specs.Text.{text_of}
 use Rattle.decimal.specs.declared.Mode.TheVariants.{Floor}
-use Rattle.term_core.specs.declared.terms.NumOp.TheVariants.{Plus, Max}
-use Rattle.term_core.specs.declared.terms.CmpOp.TheVariants.{Unequal}
-use Rattle.term_core.specs.declared.terms.LogicOp.TheVariants.{And}
-use Rattle.term_core.specs.DayCounts.{Num as Count, Named}
+use Rattle.term_model.specs.declared.terms.NumOp.TheVariants.{Plus, Max}
+use Rattle.term_model.specs.declared.terms.CmpOp.TheVariants.{Unequal}
+use Rattle.term_model.specs.declared.terms.LogicOp.TheVariants.{And}
+use Rattle.term_model.specs.DayCounts.{Num as Count, Named}
 use Rattle.contract_parse.specs.Names.{DeclaredNames}
 use Rattle.contract_print.specs.TermTexts.{◌⊕◌}
 use Rattle.contract_print.specs.Canon.{amounts_text, line, start_text}

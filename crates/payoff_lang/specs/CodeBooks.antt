@@ -1,7 +1,7 @@
 -- A code file by its contents: declarations, a name and code. Where maps and boxes lie in memory is left out, so two files
 -- with equal contents are equal here.
-use Rattle.term_core.specs.declared.name.Name.{Name}
-use Rattle.term_core.specs.Declarations.{Declarations, declarations}
+use Rattle.term_model.specs.declared.name.Name.{Name}
+use Rattle.term_model.specs.Declarations.{Declarations, declarations}
 use Rattle.payoff_lang.specs.declared.code_file.CodeFile.{CodeFile}
 use Rattle.payoff_lang.specs.Code.{PayoffCode, payoff_code}
 

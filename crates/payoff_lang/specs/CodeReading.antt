@@ -4,7 +4,7 @@ use Rattle.std.specs.Prelude.{◌≡◌, ℕ, ℤ, pos, negsuc, List, [], ◌∷
 use Rattle.contract_parse.specs.Tokens.{Tok}
 use Rattle.contract_parse.specs.Words.{Bytes}
 use Rattle.contract_parse.specs.Heads.{BeginsAmount}
-use Rattle.term_core.specs.declared.decls.Decls.{Decls}
+use Rattle.term_model.specs.declared.decls.Decls.{Decls}
 use Rattle.contract_parse.specs.Names.{BoundNames, DeclaredNames, names_in}
 use Rattle.contract_parse.specs.Judgements.{use_at}
 use Rattle.contract_parse.specs.Spelling.{Leaf, Part, ◌⨟◌, mark, pair, templates_part, valued, word}

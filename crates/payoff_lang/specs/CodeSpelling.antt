@@ -1,7 +1,7 @@
 -- The grammar of payoff code: which tokens spell which code. A part relates the tokens where it begins to those after it;
 -- the names that a text declares come with the part, and bound names are listed innermost first.
 use Rattle.std.specs.Prelude.{◌≡◌, ℕ, true, false, List, [], ◌∷◌, codes}
-use Rattle.term_core.specs.declared.terms.NumOp.TheVariants.{Min, Max}
+use Rattle.term_model.specs.declared.terms.NumOp.TheVariants.{Min, Max}
 use Rattle.contract_parse.specs.Tokens.{Tok}
 use Rattle.contract_parse.specs.Words.{Bytes}
 use Rattle.contract_parse.specs.Names.{DeclaredNames}

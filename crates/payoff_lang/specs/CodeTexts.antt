@@ -2,7 +2,7 @@
 -- What is common to contracts and code has the words and the numbers of contracts.
 use Rattle.std.specs.Prelude.{ℕ, suc, ◌-◌, true, false, List, [], ◌∷◌, codes}
 use Rattle.decimal.specs.Text.{text_of}
-use Rattle.term_core.specs.Declarations.{Declarations}
+use Rattle.term_model.specs.Declarations.{Declarations}
 use Rattle.contract_parse.specs.Words.{Bytes}
 use Rattle.contract_parse.specs.Names.{DeclaredNames, declared_by}
 use Rattle.contract_print.specs.TermTexts.{◌⊕◌, bound_name, comparison_text, connective_text, mode_text, name_at, number_text, operation_head, operation_text}

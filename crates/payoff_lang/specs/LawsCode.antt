@@ -1,13 +1,13 @@
 -- The laws of the code of contracts and of its cut code, and of the values of code.
 use Rattle.std.specs.Prelude.{ℕ, ℤ, ◌≡◌, List, [], None}
-use Rattle.term_core.specs.Declarations.{Declarations}
-use Rattle.term_core.specs.Environments.{Environment, Extends}
-use Rattle.term_core.specs.Reads.{first_unfixed}
-use Rattle.term_core.specs.WellFormed.{IsClosed}
+use Rattle.term_model.specs.Declarations.{Declarations}
+use Rattle.term_model.specs.Environments.{Environment, Extends}
+use Rattle.term_model.specs.Reads.{first_unfixed}
+use Rattle.term_model.specs.WellFormed.{IsClosed}
 use Rattle.payoff_lang.specs.Code.{PayoffCode}
 use Rattle.payoff_lang.specs.CodeValues.{Asked, code_value}
 use Rattle.payoff_lang.specs.CodeReads.{reads_of_code}
-use Rattle.term_core.specs.Terms.{Contract}
+use Rattle.term_model.specs.Terms.{Contract}
 use Rattle.payoff_lang.specs.Compiled.{code_of, cut_code}
 use Rattle.payoff_lang.specs.Meaning.{CodeMeans, Remaining, Everything}
 use Rattle.payoff_lang.specs.WellFormedCode.{IsClosedCode}

@@ -4,13 +4,13 @@
 -- to pay, and plain code what is gone by as well, at face value.
 use Rattle.std.specs.Prelude.{ℕ, ℤ, pos, ◌+◌, ◌-◌, ◌-ℤ◌, ◌<◌, ◌≤ℤ◌, ◌≡◌, List, [], length, Contains}
 use Rattle.decimal.specs.Rounding.{raised}
-use Rattle.term_core.specs.Declarations.{Declarations}
-use Rattle.term_core.specs.Terms.{Contract}
-use Rattle.term_core.specs.Environments.{Environment, Place, IsAdmitted}
-use Rattle.term_core.specs.Factors.{IsCurve}
-use Rattle.term_core.specs.Instances.{instance, IsSetting}
-use Rattle.term_core.specs.Acceptance.{IsAccepted}
-use Rattle.term_core.specs.Reads.{reads_of_contract}
+use Rattle.term_model.specs.Declarations.{Declarations}
+use Rattle.term_model.specs.Terms.{Contract}
+use Rattle.term_model.specs.Environments.{Environment, Place, IsAdmitted}
+use Rattle.term_model.specs.Factors.{IsCurve}
+use Rattle.term_model.specs.Instances.{instance, IsSetting}
+use Rattle.term_model.specs.Acceptance.{IsAccepted}
+use Rattle.term_model.specs.Reads.{reads_of_contract}
 use Rattle.payoff_lang.specs.CodeValues.{Asked, scale_of_code, code_value}
 use Rattle.payoff_lang.specs.CodeReads.{reads_of_code}
 use Rattle.payoff_lang.specs.PresentValues.{present_value}

@@ -2,7 +2,7 @@
 -- open at once. A date has a number of at most 2,000,000 days either way, a literal a mantissa of at most 10^37 in
 -- size, a scale is at most 27, and an accumulator runs over at most 100,000 days.
 use Rattle.std.specs.Prelude.{◌≤◌, ◌^◌, unsigned_abs}
-use Rattle.term_core.specs.Declarations.{Declarations}
+use Rattle.term_model.specs.Declarations.{Declarations}
 use Rattle.payoff_lang.specs.TemplateDates.{Date}
 use Rattle.payoff_lang.specs.CodeSizes.{height_of_code}
 use Rattle.payoff_lang.specs.WellFormedCode.{IsClosedCode}

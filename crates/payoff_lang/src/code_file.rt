@@ -1,7 +1,7 @@
 //! Code files.
 
 use crate::code::Code;
-use term_core::{Decls, Name};
+use term_model::{Decls, Name};
 
 /// Code with the declarations that it stands on, and its name.
 #[derive(Drop)]

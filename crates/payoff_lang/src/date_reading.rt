@@ -12,7 +12,7 @@ use crate::code::DateExpr;
 use crate::dates::put_in_order;
 use contract_parse::{PartErr, after_mark, read_date_number, read_use_of_map};
 use std::alloc::Global;
-use term_core::Decls;
+use term_model::Decls;
 
 // The templates behind a date's number, as they are written. They are put behind those that stand
 // in the list.

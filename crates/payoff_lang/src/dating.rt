@@ -1,7 +1,7 @@
 //! Value expressions from expressions, for every way in which an offset gives a date.
 
 ghost use Rattle.std.specs.Prelude.{◌≡◌, ℤ, IfOk};
-ghost use Rattle.term_core.specs.Terms.{expression};
+ghost use Rattle.term_model.specs.Terms.{expression};
 ghost use Rattle.payoff_lang.specs.TemplateDates.{Date, date, plus_days};
 ghost use Rattle.payoff_lang.specs.Dating.{HaveDates, MayMove, with_date};
 ghost use Rattle.payoff_lang.specs.Code.{value_expression};
@@ -9,7 +9,7 @@ ghost use Rattle.payoff_lang.specs.Code.{value_expression};
 use crate::code::{DateExpr, Vx};
 use decimal::NoMemory;
 use std::alloc::Global;
-use term_core::Expr;
+use term_model::Expr;
 
 /// How the offset of an observable gives the date on which it is read.
 pub trait Dating {

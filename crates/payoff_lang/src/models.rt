@@ -17,7 +17,7 @@ use crate::dating::{Dating, copied_date};
 use contract_parse::{Language, LeafReader, PartErr, read_use_of_map, skip_mark};
 use decimal::NoMemory;
 use std::alloc::Global;
-use term_core::{Decls, Expr};
+use term_model::{Decls, Expr};
 
 /// The dates of an expression's observables, each of which has the index of its date for an offset.
 #[derive(Drop)]

@@ -1,14 +1,14 @@
 //! Value expressions as expressions whose dates stand in a list.
 
 ghost use Rattle.std.specs.Prelude.{◌≡◌, IfOk, OnOk, length, pos};
-ghost use Rattle.term_core.specs.Terms.{expression};
+ghost use Rattle.term_model.specs.Terms.{expression};
 ghost use Rattle.payoff_lang.specs.Code.{value_expression};
 ghost use Rattle.payoff_lang.specs.Numbered.{dates_lent, numbered, with_dates};
 
 use crate::code::{DateExpr, Vx};
 use decimal::NoMemory;
 use std::alloc::Global;
-use term_core::Expr;
+use term_model::Expr;
 
 // The index of the next date. An offset has room for 2^31 of them: where one expression has more,
 // memory is wanting.

@@ -1,8 +1,8 @@
 //! The texts of dates, of value expressions and of code, and whole code files.
 
 ghost use Rattle.std.specs.Prelude.{◌≡◌, ◌≤◌, ◌+◌, ◌++◌, OnOk, OnErr};
-ghost use Rattle.term_core.specs.Declarations.{declarations};
-ghost use Rattle.term_core.specs.Sizes.{height};
+ghost use Rattle.term_model.specs.Declarations.{declarations};
+ghost use Rattle.term_model.specs.Sizes.{height};
 ghost use Rattle.payoff_lang.specs.TemplateDates.{date};
 ghost use Rattle.payoff_lang.specs.Dating.{undated};
 ghost use Rattle.payoff_lang.specs.Code.{value_expression, payoff_code};
@@ -22,7 +22,7 @@ use contract_print::{
 };
 use decimal::{NoMemory, write};
 use std::alloc::Global;
-use term_core::Decls;
+use term_model::Decls;
 
 // The templates of a date.
 fn append_templates(out: &mut Vec<u8>, decls: &Decls, names: &[u32]) -> Result<(), NoMemory>

@@ -3,7 +3,7 @@
 use Rattle.std.proofs.Common.{◌≡◌, pos, [], ◌∷◌, None, refl}
 use Rattle.std.specs.Prelude.{codes}
 use Rattle.decimal.specs.Text.{text_of}
-use Rattle.term_core.specs.Declarations.{Declarations}
+use Rattle.term_model.specs.Declarations.{Declarations}
 use Rattle.flow_eval.specs.declared.flow_table.FlowRow.{FlowRow}
 use Rattle.report.specs.FlowLines.{IsFlowLine, line_with}
 

@@ -7,8 +7,8 @@ use Rattle.std.proofs.lemmas.Bool.{cases_lt}
 use Rattle.std.proofs.lemmas.Bool.Decides.{nat_tests}
 use Rattle.std.proofs.lemmas.List.Elements.{All-append, All-nil, All-cons, All-head, All-map, All-tail, All-weaker, All-contains, Contains-append_left, Contains-append_right, Contains-push}
 use Rattle.std.proofs.lemmas.List.Sums.{sum_by-append, sum_by-cons}
-use Rattle.term_core.specs.Flows.{Flow}
-use Rattle.term_core.specs.LawsFlows.{reversed}
+use Rattle.term_model.specs.Flows.{Flow}
+use Rattle.term_model.specs.LawsFlows.{reversed}
 use Rattle.flow_eval.specs.Netting.{CanBeNetted, same_slot, size_at}
 use Rattle.flow_eval.specs.Tables.{AreOrdered, IsPaid, IsTable, Precedes, flow_in, row_for, slot_of, IsMutual}
 use Rattle.flow_eval.specs.declared.flow_table.FlowRow.{FlowRow}

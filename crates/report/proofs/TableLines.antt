@@ -2,13 +2,13 @@
 use Rattle.std.proofs.Common.{◌-◌, ℤ, ◌-ℤ◌, List, [], ◌∷◌, subst, sym}
 use Rattle.std.specs.List.{All}
 use Rattle.std.proofs.lemmas.List.Elements.{All-head, All-tail, All-weaker}
-use Rattle.term_core.specs.Acceptance.{IsAccepted}
-use Rattle.term_core.specs.Declarations.{Declarations, decimals_of}
-use Rattle.term_core.specs.Environments.{Environment}
-use Rattle.term_core.specs.Flows.{Flow}
-use Rattle.term_core.specs.LawsScales.{IsMultiple}
-use Rattle.term_core.specs.Terms.{Contract}
-use Rattle.term_core.proofs.MultipleFacts.{amounts_multiple, none_multiple, sum_multiple}
+use Rattle.term_model.specs.Acceptance.{IsAccepted}
+use Rattle.term_model.specs.Declarations.{Declarations, decimals_of}
+use Rattle.term_model.specs.Environments.{Environment}
+use Rattle.term_model.specs.Flows.{Flow}
+use Rattle.term_model.specs.LawsScales.{IsMultiple}
+use Rattle.term_model.specs.Terms.{Contract}
+use Rattle.term_model.proofs.MultipleFacts.{amounts_multiple, none_multiple, sum_multiple}
 use Rattle.flow_eval.specs.Tables.{IsPaid, IsTable, flow_in, paid_by}
 use Rattle.flow_eval.specs.declared.flow_table.FlowRow.{FlowRow}
 use Rattle.report.specs.FlowLines.{HaveLines, PaysInAssets}

@@ -2,9 +2,9 @@
 -- `always` and the total at the portfolio's decimals; or `NAME refused RULE node N`.
 use Rattle.std.specs.Prelude.{ℕ, ℤ, List, [], ◌∷◌, ◌++◌, Option, Some, None, Result, Ok, Err, codes}
 use Rattle.decimal.specs.Text.{text_of}
-use Rattle.term_core.specs.declared.rules.Rule.{Rule}
-use Rattle.term_core.specs.declared.rules.Rule.TheVariants.{Sort, Time, Scale, Size, Bound}
-use Rattle.term_core.specs.declared.rules.RuleFault.{RuleFault}
+use Rattle.term_model.specs.declared.rules.Rule.{Rule}
+use Rattle.term_model.specs.declared.rules.Rule.TheVariants.{Sort, Time, Scale, Size, Bound}
+use Rattle.term_model.specs.declared.rules.RuleFault.{RuleFault}
 use Rattle.time_types.specs.Starts.{start_day}
 use Rattle.report.specs.Pieces.{number_text}
 use Rattle.contract_check.specs.declared.checks.Facts.{Facts}

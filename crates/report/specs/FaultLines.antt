@@ -8,7 +8,7 @@ use Rattle.report.specs.Pieces.{number_text}
 use Rattle.report.specs.CheckLines.{refusal_text, line_feed}
 use Rattle.report.specs.declared.fault_lines.Fault.{Fault}
 use Rattle.report.specs.declared.fault_lines.Fault.TheVariants.{Usage, Read, TooLong, Text, UnknownName, Day, Refused, Row, Missing, Scenarios, MissingIn}
-use Rattle.term_core.specs.declared.rules.Rule.{Rule}
+use Rattle.term_model.specs.declared.rules.Rule.{Rule}
 use Rattle.fixing_files.specs.declared.faults.RowFault.{RowFault}
 use Rattle.fixing_files.specs.declared.faults.RowKind.{RowKind}
 use Rattle.fixing_files.specs.declared.faults.RowKind.TheVariants as row

@@ -6,12 +6,12 @@ use Rattle.std.specs.Map.{keys_of}
 use Rattle.decimal.specs.Appending.{AppendsPart}
 use Rattle.decimal.specs.Rounding.{raised}
 use Rattle.decimal.specs.Text.{text_of}
-use Rattle.term_core.specs.Dates.{epoch_day_of}
-use Rattle.term_core.specs.Declarations.{Declarations, declarations, decimals_of}
-use Rattle.term_core.specs.Flows.{Flow}
-use Rattle.term_core.specs.LawsScales.{IsMultiple}
-use Rattle.term_core.specs.declared.decls.Decls.{Decls}
-use Rattle.term_core.specs.declared.name.Name.{Name}
+use Rattle.term_model.specs.Dates.{epoch_day_of}
+use Rattle.term_model.specs.Declarations.{Declarations, declarations, decimals_of}
+use Rattle.term_model.specs.Flows.{Flow}
+use Rattle.term_model.specs.LawsScales.{IsMultiple}
+use Rattle.term_model.specs.declared.decls.Decls.{Decls}
+use Rattle.term_model.specs.declared.name.Name.{Name}
 use Rattle.flow_eval.specs.declared.flow_table.FlowRow.{FlowRow}
 use Rattle.report.specs.CheckLines.{line_feed}
 use Rattle.report.specs.Pieces.{piece_text}

@@ -2,7 +2,7 @@
 -- together: a row for each day, asset and two parties between whom the sum is not 0, in the direction in which it is above 0.
 use Rattle.std.specs.Prelude.{ℤ, pos, ◌+ℤ◌, ◌≤◌, ◌^◌, unsigned_abs, map, List, [], ◌∷◌, ◌++◌}
 use Rattle.std.specs.List.{All}
-use Rattle.term_core.specs.Flows.{Flow}
+use Rattle.term_model.specs.Flows.{Flow}
 use Rattle.flow_eval.specs.Payments.{payment_on}
 use Rattle.flow_eval.specs.Tables.{AreOrdered, IsDueRow, IsTable, IsMutual}
 use Rattle.flow_eval.specs.declared.flow_table.FlowRow.{FlowRow}

@@ -12,7 +12,7 @@ use crate::pieces::{Piece, append, whole};
 use contract_check::Facts;
 use decimal::NoMemory;
 use std::alloc::Global;
-use term_core::{Decls, Rule, RuleFault};
+use term_model::{Decls, Rule, RuleFault};
 use time_types::Start;
 
 /// The word for a rule.

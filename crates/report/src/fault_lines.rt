@@ -13,7 +13,7 @@ use contract_parse::{TextFault, TextKind};
 use decimal::NoMemory;
 use fixing_files::{RowFault, RowKind};
 use std::alloc::Global;
-use term_core::{Name, Rule};
+use term_model::{Name, Rule};
 
 /// What keeps a command from its answer. A place is that of a file in the command's form, from 1.
 #[derive(Debug, PartialEq, Eq, Drop)]

@@ -3,8 +3,8 @@
 ghost use Rattle.std.specs.Prelude.{◌≡◌, ◌≤ℤ◌, ◌+ℤ◌, ◌++◌, pos, Some, OnOk, OnErr};
 ghost use Rattle.std.specs.Map.{keys_of};
 ghost use Rattle.decimal.specs.Appending.{AppendsPart};
-ghost use Rattle.term_core.specs.Dates.{epoch_day_of};
-ghost use Rattle.term_core.specs.Declarations.{declarations};
+ghost use Rattle.term_model.specs.Dates.{epoch_day_of};
+ghost use Rattle.term_model.specs.Declarations.{declarations};
 ghost use Rattle.interval_check.specs.Safety.{IsSmall};
 ghost use Rattle.flow_eval.specs.Readiness.{last_day};
 ghost use Rattle.report.specs.Pieces.{piece_text, IsWritable};
@@ -15,7 +15,7 @@ use decimal::{Mode, NoMemory, round_to};
 use flow_eval::FlowRow;
 use indexmap::{IndexMap, IndexSet};
 use std::alloc::Global;
-use term_core::{Decls, Name, date_text};
+use term_model::{Decls, Name, date_text};
 
 /// A declared name.
 pub fn name_piece<'a>(names: &'a IndexSet<Name>, place: u32) -> Piece<'a>

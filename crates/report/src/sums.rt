@@ -2,7 +2,7 @@
 
 ghost use Rattle.std.specs.Prelude.{◌≡◌, ◌≤◌, ◌++◌, [], length, map, true, IfOk, OnOk};
 ghost use Rattle.std.specs.List.{All};
-ghost use Rattle.term_core.specs.Limits.{longest_file};
+ghost use Rattle.term_model.specs.Limits.{longest_file};
 ghost use Rattle.flow_eval.specs.Netting.{CanBeNetted};
 ghost use Rattle.flow_eval.specs.Tables.{FitsLine, slot_of};
 ghost use Rattle.report.specs.RunningSums.{AddsTable, IsSumOfFew, IsSumSoFar, KeepsSum, TellsSum};

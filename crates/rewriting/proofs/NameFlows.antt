@@ -1,15 +1,15 @@
 -- Contracts without a name: scales and flows.
 use Rattle.std.proofs.Common.{◌≡◌, ℕ, zero, suc, ℤ, pos, ◌+ℤ◌, ◌-ℤ◌, ◌*ℤ◌, ◌+◌, ◌-◌, max, Bool, true, ◌||◌, if◌then◌else◌, Option, Some, None, List, ◌∷◌, refl, ap, ap₂, subst, ◌∙◌, arith}
 use Rattle.decimal.specs.Rounding.{raised}
-use Rattle.term_core.specs.Declarations.{Declarations}
-use Rattle.term_core.specs.declared.values.Kind.{Kind}
-use Rattle.term_core.specs.declared.values.Value.{Value}
-use Rattle.term_core.specs.Terms.{Expression, Contract, Zero, Pay, Both, Scale, After, Let, Within}
-use Rattle.term_core.specs.Environments.{Environment}
-use Rattle.term_core.specs.Kinds.{kind_of, scale_or_zero}
-use Rattle.term_core.specs.Values.{Entry, kinds, num, truth, kind_or, value_of, first_of, first_true}
-use Rattle.term_core.specs.Flows.{flow_of, count_of, scale_of_contract}
-use Rattle.term_core.specs.Redexes.{uses, uses_in_contract}
+use Rattle.term_model.specs.Declarations.{Declarations}
+use Rattle.term_model.specs.declared.values.Kind.{Kind}
+use Rattle.term_model.specs.declared.values.Value.{Value}
+use Rattle.term_model.specs.Terms.{Expression, Contract, Zero, Pay, Both, Scale, After, Let, Within}
+use Rattle.term_model.specs.Environments.{Environment}
+use Rattle.term_model.specs.Kinds.{kind_of, scale_or_zero}
+use Rattle.term_model.specs.Values.{Entry, kinds, num, truth, kind_or, value_of, first_of, first_true}
+use Rattle.term_model.specs.Flows.{flow_of, count_of, scale_of_contract}
+use Rattle.term_model.specs.Redexes.{uses, uses_in_contract}
 use Rattle.rewriting.specs.Substituting.{substituted, substituted_in, without}
 use Rattle.rewriting.specs.LawsNames.{HasKindOf, HasValueOf, FlowsWithoutName}
 use Rattle.rewriting.proofs.Branches.{two_raised, same_branch}

@@ -1,13 +1,13 @@
 -- Kinds without a name.
 use Rattle.std.proofs.Common.{◌≡◌, ℕ, suc, ◌+◌, Bool, true, ◌||◌, ◌==◌, Option, Some, List, ◌∷◌, slice_get, refl, ap, ap₂, sym, subst, ◌∙◌, arith}
-use Rattle.term_core.specs.Declarations.{Declarations}
-use Rattle.term_core.specs.declared.values.Kind.{Kind}
-use Rattle.term_core.specs.declared.values.Kind.TheVariants.{Truth as TruthKind, Number}
-use Rattle.term_core.specs.Terms.{Expression, Lit, Yes, Var, Obs, Neg, Num, Cmp, Not, Logic, Cond, Widen, Round, Div, Acc}
-use Rattle.term_core.specs.Kinds.{kind_of, scale_of, scale_or_zero, on_number, on_numbers, on_truth, joined, scale_of_op}
-use Rattle.term_core.specs.Values.{Entry, kinds}
-use Rattle.term_core.specs.Redexes.{uses}
-use Rattle.term_core.proofs.ShiftFacts.{same_acc}
+use Rattle.term_model.specs.Declarations.{Declarations}
+use Rattle.term_model.specs.declared.values.Kind.{Kind}
+use Rattle.term_model.specs.declared.values.Kind.TheVariants.{Truth as TruthKind, Number}
+use Rattle.term_model.specs.Terms.{Expression, Lit, Yes, Var, Obs, Neg, Num, Cmp, Not, Logic, Cond, Widen, Round, Div, Acc}
+use Rattle.term_model.specs.Kinds.{kind_of, scale_of, scale_or_zero, on_number, on_numbers, on_truth, joined, scale_of_op}
+use Rattle.term_model.specs.Values.{Entry, kinds}
+use Rattle.term_model.specs.Redexes.{uses}
+use Rattle.term_model.proofs.ShiftFacts.{same_acc}
 use Rattle.rewriting.specs.Substituting.{substituted, without}
 use Rattle.rewriting.specs.LawsNames.{HasKindOf, KindsWithoutName}
 use Rattle.rewriting.proofs.NameLists.{get_before, get_past, kinds-without, name_cases, on_left, on_right, eq_is}

@@ -1,8 +1,8 @@
 -- Look-ups in a list without one of its elements.
 use Rattle.std.proofs.Common.{◌≡◌, ℕ, zero, suc, ◌-◌, ◌<◌, ◌≤◌, ◌==◌, nat_lt, Bool, true, false, ◌||◌, if◌then◌else◌, List, [], ◌∷◌, slice_get, refl, ap, arith}
 use Rattle.std.proofs.lemmas.Bool.Decides.{nat_tests}
-use Rattle.term_core.specs.Terms.{Expression, Var}
-use Rattle.term_core.specs.Values.{Entry, kinds}
+use Rattle.term_model.specs.Terms.{Expression, Var}
+use Rattle.term_model.specs.Values.{Entry, kinds}
 use Rattle.rewriting.specs.Substituting.{name_without, without}
 use Rattle.rewriting.proofs.Choices.{if_cases}
 

@@ -1,18 +1,18 @@
 -- Reads without a name.
 use Rattle.std.proofs.Common.{◌≡◌, ℕ, suc, ℤ, pos, ◌+ℤ◌, ◌-ℤ◌, ◌+◌, Bool, true, ◌||◌, ◌==◌, if◌then◌else◌, int_lt, Option, Some, None, List, [], ◌∷◌, ◌++◌, slice_get, refl, ap, ap₂, sym, ◌∙◌}
-use Rattle.term_core.specs.Declarations.{Declarations}
-use Rattle.term_core.specs.declared.values.Kind.{Kind}
-use Rattle.term_core.specs.declared.values.Value.{Value}
-use Rattle.term_core.specs.Terms.{Expression, Lit, Yes, Var, Obs, Neg, Num, Cmp, Not, Logic, Cond, Widen, Round, Div, Acc}
-use Rattle.term_core.specs.Terms.{Contract, Zero, Pay, Both, Scale, After, Let, Within}
-use Rattle.term_core.specs.Environments.{Environment, Place}
-use Rattle.term_core.specs.Kinds.{kind_of, scale_of, scale_of_kind}
-use Rattle.term_core.specs.Values.{Entry, kinds, truth, widened, kind_or, value_of, days_run, first_true}
-use Rattle.term_core.specs.Flows.{count_of}
-use Rattle.term_core.specs.Reads.{reads_of, reads_of_contract, live, places_or, steps_before, decides, upto, tested}
-use Rattle.term_core.specs.Redexes.{uses, uses_in_contract}
-use Rattle.term_core.proofs.ReadShiftFacts.{same_steps, appended, chosen}
-use Rattle.term_core.proofs.ShiftFacts.{same_days}
+use Rattle.term_model.specs.Declarations.{Declarations}
+use Rattle.term_model.specs.declared.values.Kind.{Kind}
+use Rattle.term_model.specs.declared.values.Value.{Value}
+use Rattle.term_model.specs.Terms.{Expression, Lit, Yes, Var, Obs, Neg, Num, Cmp, Not, Logic, Cond, Widen, Round, Div, Acc}
+use Rattle.term_model.specs.Terms.{Contract, Zero, Pay, Both, Scale, After, Let, Within}
+use Rattle.term_model.specs.Environments.{Environment, Place}
+use Rattle.term_model.specs.Kinds.{kind_of, scale_of, scale_of_kind}
+use Rattle.term_model.specs.Values.{Entry, kinds, truth, widened, kind_or, value_of, days_run, first_true}
+use Rattle.term_model.specs.Flows.{count_of}
+use Rattle.term_model.specs.Reads.{reads_of, reads_of_contract, live, places_or, steps_before, decides, upto, tested}
+use Rattle.term_model.specs.Redexes.{uses, uses_in_contract}
+use Rattle.term_model.proofs.ReadShiftFacts.{same_steps, appended, chosen}
+use Rattle.term_model.proofs.ShiftFacts.{same_days}
 use Rattle.rewriting.specs.Substituting.{substituted, substituted_in, without}
 use Rattle.rewriting.specs.LawsNames.{HasKindOf, HasValueOf, ReadsWithoutName, ContractReadsWithoutName}
 use Rattle.rewriting.proofs.NameLists.{get_before, get_past, name_cases, on_left, on_right, eq_is}

@@ -1,15 +1,15 @@
 -- Values without a name.
 use Rattle.std.proofs.Common.{◌≡◌, ℕ, suc, pos, ◌+ℤ◌, ◌-ℤ◌, neg_ℤ, ◌+◌, max, not, true, ◌||◌, ◌==◌, if◌then◌else◌, Option, List, ◌∷◌, slice_get, refl, ap, ap₂, sym, ◌∙◌}
 use Rattle.decimal.specs.Rounding.{at_scale, divided}
-use Rattle.term_core.specs.Declarations.{Declarations}
-use Rattle.term_core.specs.declared.values.Kind.{Kind}
-use Rattle.term_core.specs.declared.values.Value.{Value}
-use Rattle.term_core.specs.declared.values.Value.TheVariants.{Num as Amount, Truth}
-use Rattle.term_core.specs.Terms.{Expression, Lit, Yes, Var, Obs, Neg, Num, Cmp, Not, Logic, Cond, Widen, Round, Div, Acc}
-use Rattle.term_core.specs.Kinds.{kind_of, scale_of, scale_of_kind}
-use Rattle.term_core.specs.Values.{Entry, kinds, num, truth, of_num, of_cmp, logic_op, widened, kind_or, value_of, value_of_entry, days_run}
-use Rattle.term_core.specs.Redexes.{uses}
-use Rattle.term_core.proofs.ShiftFacts.{same_days, of_two}
+use Rattle.term_model.specs.Declarations.{Declarations}
+use Rattle.term_model.specs.declared.values.Kind.{Kind}
+use Rattle.term_model.specs.declared.values.Value.{Value}
+use Rattle.term_model.specs.declared.values.Value.TheVariants.{Num as Amount, Truth}
+use Rattle.term_model.specs.Terms.{Expression, Lit, Yes, Var, Obs, Neg, Num, Cmp, Not, Logic, Cond, Widen, Round, Div, Acc}
+use Rattle.term_model.specs.Kinds.{kind_of, scale_of, scale_of_kind}
+use Rattle.term_model.specs.Values.{Entry, kinds, num, truth, of_num, of_cmp, logic_op, widened, kind_or, value_of, value_of_entry, days_run}
+use Rattle.term_model.specs.Redexes.{uses}
+use Rattle.term_model.proofs.ShiftFacts.{same_days, of_two}
 use Rattle.rewriting.specs.Substituting.{substituted, without}
 use Rattle.rewriting.specs.LawsNames.{HasKindOf, ValuesWithoutName}
 use Rattle.rewriting.proofs.NameLists.{get_before, get_past, name_cases, on_left, on_right, eq_is}

@@ -3,9 +3,9 @@ use Rattle.std.proofs.Common.{◌≡◌, ℕ, ◌+◌, ℤ, true, Option, Result
 use Rattle.std.specs.declared.rc.Rc.{Rc}
 use Rattle.std.specs.Global.{Global}
 use Rattle.term_core.specs.declared.shared.SharedContr.{SharedContr}
-use Rattle.term_core.specs.Terms.{Expression, Contract, Scale, Let}
-use Rattle.term_core.specs.Redexes.{is_literal}
-use Rattle.term_core.specs.Shifts.{shifted}
+use Rattle.term_model.specs.Terms.{Expression, Contract, Scale, Let}
+use Rattle.term_model.specs.Redexes.{is_literal}
+use Rattle.term_model.specs.Shifts.{shifted}
 use Rattle.rewriting.specs.RebuildingContracts.{after_in}
 use Rattle.rewriting.specs.Substituting.{substituted, substituted_in}
 use Rattle.rewriting.proofs.ShiftedSizes.{substituted_shifted}

@@ -1,7 +1,7 @@
 -- Where a literal takes the place of a name, every offset stays as it is.
 use Rattle.std.proofs.Common.{◌≡◌, ℕ, suc, ◌-◌, Bool, true, false, if◌then◌else◌, nat_lt, ◌==◌}
-use Rattle.term_core.specs.Terms.{Expression, Lit, Yes, Var, Obs, Neg, Num, Cmp, Not, Logic, Cond, Widen, Round, Div, Acc}
-use Rattle.term_core.specs.Redexes.{is_literal}
+use Rattle.term_model.specs.Terms.{Expression, Lit, Yes, Var, Obs, Neg, Num, Cmp, Not, Logic, Cond, Widen, Round, Div, Acc}
+use Rattle.term_model.specs.Redexes.{is_literal}
 use Rattle.term_core.specs.SharedTerms.{HasOffsets}
 use Rattle.rewriting.specs.Substituting.{substituted, name_without}
 use Rattle.rewriting.proofs.ShiftedSizes.{substituted_shifted, shifted_height}

@@ -1,12 +1,12 @@
 -- The sites of a term and its frames.
 use Rattle.std.proofs.Common.{ℕ, zero, ℤ, ◌+◌, Option, List, [], ◌∷◌}
-use Rattle.term_core.specs.Terms.{Expression, Lit, Yes, Var, Obs, Neg, Num, Cmp, Not, Logic, Cond, Widen, Round, Div, Acc}
-use Rattle.term_core.specs.Terms.{Contract, Zero, Pay, Both, Scale, After, Let, Within}
-use Rattle.term_core.specs.Flows.{count_of}
-use Rattle.term_core.specs.Sizes.{nodes, nodes_of_contract}
-use Rattle.term_core.specs.Sites.{Layer, Naming, Counting, Later, Earlier, Undated, Part, Once, Site, sites_of, sites_of_contract, AllPass}
-use Rattle.term_core.specs.Redexes.{frame_round}
-use Rattle.term_core.proofs.Trials.{AllPass-append}
+use Rattle.term_model.specs.Terms.{Expression, Lit, Yes, Var, Obs, Neg, Num, Cmp, Not, Logic, Cond, Widen, Round, Div, Acc}
+use Rattle.term_model.specs.Terms.{Contract, Zero, Pay, Both, Scale, After, Let, Within}
+use Rattle.term_model.specs.Flows.{count_of}
+use Rattle.term_model.specs.Sizes.{nodes, nodes_of_contract}
+use Rattle.term_model.specs.Sites.{Layer, Naming, Counting, Later, Earlier, Undated, Part, Once, Site, sites_of, sites_of_contract, AllPass}
+use Rattle.term_model.specs.Redexes.{frame_round}
+use Rattle.term_model.proofs.Trials.{AllPass-append}
 use Rattle.rewriting.specs.Reduced.{IsNoRedex, NoneIn, NoneInContract, ReducedByStructure}
 
 abbrev AtFrames : (Option ℤ → Part → Type 0) → Option ℤ → Site → Type 0

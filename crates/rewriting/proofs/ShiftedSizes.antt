@@ -1,10 +1,10 @@
 -- An expression that is read later has the size and the height of the expression, uses the same names, and is a literal
 -- where the expression is one.
 use Rattle.std.proofs.Common.{◌≡◌, ℕ, suc, ℤ, ◌+◌, ◌||◌, Bool, true, false, ◌-◌, if◌then◌else◌, refl, ap, ap₂, sym, nat_lt, ◌==◌}
-use Rattle.term_core.specs.Terms.{Expression, Lit, Yes, Var, Obs, Neg, Num, Cmp, Not, Logic, Cond, Widen, Round, Div, Acc}
-use Rattle.term_core.specs.Sizes.{height}
-use Rattle.term_core.specs.Redexes.{is_literal, is_zero_literal, uses}
-use Rattle.term_core.specs.Shifts.{shifted}
+use Rattle.term_model.specs.Terms.{Expression, Lit, Yes, Var, Obs, Neg, Num, Cmp, Not, Logic, Cond, Widen, Round, Div, Acc}
+use Rattle.term_model.specs.Sizes.{height}
+use Rattle.term_model.specs.Redexes.{is_literal, is_zero_literal, uses}
+use Rattle.term_model.specs.Shifts.{shifted}
 use Rattle.rewriting.specs.Measures.{size}
 use Rattle.rewriting.specs.Substituting.{substituted, name_without}
 

@@ -1,6 +1,6 @@
 -- A term has a size.
 use Rattle.std.proofs.Common.{◌≤◌, arith}
-use Rattle.term_core.specs.Terms.{Expression, Lit, Yes, Var, Obs, Neg, Num, Cmp, Not, Logic, Cond, Widen, Round, Div, Acc}
+use Rattle.term_model.specs.Terms.{Expression, Lit, Yes, Var, Obs, Neg, Num, Cmp, Not, Logic, Cond, Widen, Round, Div, Acc}
 use Rattle.rewriting.specs.Measures.{size}
 
 pub some_size : (e : Expression) → 1 ≤ size e

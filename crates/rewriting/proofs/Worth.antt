@@ -1,12 +1,12 @@
 -- What a contract is worth on a day, at a scale: how what is worth so much is put together.
 use Rattle.std.proofs.Common.{◌≡◌, ℕ, ℤ, pos, ◌+ℤ◌, ◌-◌, ◌≤◌, max, ap, ap₂, sym, subst, ◌∙◌, List, ◌∷◌, arith}
 use Rattle.decimal.specs.Rounding.{raised}
-use Rattle.term_core.specs.Declarations.{Declarations}
-use Rattle.term_core.specs.Terms.{Contract, Zero, Both}
-use Rattle.term_core.specs.Environments.{Environment}
-use Rattle.term_core.specs.Values.{Entry, kinds}
-use Rattle.term_core.specs.Flows.{Flow, flow_of, scale_of_contract}
-use Rattle.term_core.proofs.FlowFacts.{raised-zero}
+use Rattle.term_model.specs.Declarations.{Declarations}
+use Rattle.term_model.specs.Terms.{Contract, Zero, Both}
+use Rattle.term_model.specs.Environments.{Environment}
+use Rattle.term_model.specs.Values.{Entry, kinds}
+use Rattle.term_model.specs.Flows.{Flow, flow_of, scale_of_contract}
+use Rattle.term_model.proofs.FlowFacts.{raised-zero}
 use Rattle.rewriting.specs.Worth.{IsWorth}
 use Rattle.rewriting.proofs.RaisedFacts.{raised_by, raised-none, raised-sum}
 

@@ -1,11 +1,11 @@
 -- What a term keeps of the one in whose place it stands.
 use Rattle.std.specs.Prelude.{ℕ, ℤ, ◌<◌, ◌≡◌, ◌⊎◌, List, Contains, slice_get}
-use Rattle.term_core.specs.Declarations.{Declarations}
-use Rattle.term_core.specs.Terms.{Expression, Contract}
-use Rattle.term_core.specs.Environments.{Place}
-use Rattle.term_core.specs.Reads.{places_or}
-use Rattle.term_core.specs.Times.{TypedContract}
-use Rattle.term_core.specs.WellFormed.{IsWellFormedContract, IsClosed, HasOnlyNumbers}
+use Rattle.term_model.specs.Declarations.{Declarations}
+use Rattle.term_model.specs.Terms.{Expression, Contract}
+use Rattle.term_model.specs.Environments.{Place}
+use Rattle.term_model.specs.Reads.{places_or}
+use Rattle.term_model.specs.Times.{TypedContract}
+use Rattle.term_model.specs.WellFormed.{IsWellFormedContract, IsClosed, HasOnlyNumbers}
 use Rattle.rewriting.specs.Measures.{size, size_in}
 
 -- each place of the first is among the second

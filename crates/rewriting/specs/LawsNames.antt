@@ -1,15 +1,15 @@
 -- The laws of a literal for a name: where the name is used, the literal has its kind, its value and the places that it
 -- reads; then expressions and contracts mean among the other names what they mean among all.
 use Rattle.std.specs.Prelude.{ℕ, ℤ, ◌≡◌, Bool, true, List, slice_get}
-use Rattle.term_core.specs.Declarations.{Declarations}
-use Rattle.term_core.specs.declared.values.Kind.{Kind}
-use Rattle.term_core.specs.Terms.{Expression, Contract}
-use Rattle.term_core.specs.Environments.{Environment, Place}
-use Rattle.term_core.specs.Kinds.{kind_of}
-use Rattle.term_core.specs.Values.{Entry, kinds, value_of, value_of_entry}
-use Rattle.term_core.specs.Flows.{Flow, flow_of}
-use Rattle.term_core.specs.Reads.{reads_of, reads_of_contract, places_or}
-use Rattle.term_core.specs.Redexes.{uses, uses_in_contract}
+use Rattle.term_model.specs.Declarations.{Declarations}
+use Rattle.term_model.specs.declared.values.Kind.{Kind}
+use Rattle.term_model.specs.Terms.{Expression, Contract}
+use Rattle.term_model.specs.Environments.{Environment, Place}
+use Rattle.term_model.specs.Kinds.{kind_of}
+use Rattle.term_model.specs.Values.{Entry, kinds, value_of, value_of_entry}
+use Rattle.term_model.specs.Flows.{Flow, flow_of}
+use Rattle.term_model.specs.Reads.{reads_of, reads_of_contract, places_or}
+use Rattle.term_model.specs.Redexes.{uses, uses_in_contract}
 use Rattle.rewriting.specs.Substituting.{substituted, substituted_in, without}
 
 -- x has the kind of the name at j, its value, and the places that it reads

@@ -1,10 +1,10 @@
 -- The rules on sorts, scales and bounds do not see whether a name stands for a literal or the literal stands itself; and a
 -- name that is not used may go.
 use Rattle.std.specs.Prelude.{ℕ, ◌≡◌, true, List, slice_get}
-use Rattle.term_core.specs.Declarations.{Declarations}
-use Rattle.term_core.specs.Terms.{Expression, Contract}
-use Rattle.term_core.specs.Redexes.{uses, uses_in_contract}
-use Rattle.term_core.specs.Bounds.{Range, range_kinds, interval_of, interval_of_range, total_of}
+use Rattle.term_model.specs.Declarations.{Declarations}
+use Rattle.term_model.specs.Terms.{Expression, Contract}
+use Rattle.term_model.specs.Redexes.{uses, uses_in_contract}
+use Rattle.term_model.specs.Bounds.{Range, range_kinds, interval_of, interval_of_range, total_of}
 use Rattle.interval_check.specs.Nodes.{MeetsRules, ContractMeetsRules}
 use Rattle.rewriting.specs.LawsNames.{HasKindOf}
 use Rattle.rewriting.specs.Substituting.{substituted, substituted_in, without}

@@ -1,8 +1,8 @@
 -- The size of a term: its nodes, and its observables once more. It falls where a redex goes, and where an observable
 -- becomes a literal.
 use Rattle.std.specs.Prelude.{ℕ, ◌+◌}
-use Rattle.term_core.specs.Terms.{Expression, Lit, Yes, Var, Obs, Neg, Num, Cmp, Not, Logic, Cond, Widen, Round, Div, Acc}
-use Rattle.term_core.specs.Terms.{Contract, Zero, Pay, Both, Scale, After, Let, Within}
+use Rattle.term_model.specs.Terms.{Expression, Lit, Yes, Var, Obs, Neg, Num, Cmp, Not, Logic, Cond, Widen, Round, Div, Acc}
+use Rattle.term_model.specs.Terms.{Contract, Zero, Pay, Both, Scale, After, Let, Within}
 
 abbrev pub size : Expression → ℕ
 size (Lit m s) = 1

@@ -1,8 +1,8 @@
 -- An expression of which parts are replaced: what took the place of a part, or the part where nothing did.
 use Rattle.std.specs.Prelude.{◌+◌, ◌<◌, ◌≡◌, Option, Some, None}
-use Rattle.term_core.specs.declared.terms.Expr.{Expr}
-use Rattle.term_core.specs.Terms.{Expression, expression, Cond}
-pub use Rattle.term_core.specs.Rebuilding.{over_one, over_two}
+use Rattle.term_model.specs.declared.terms.Expr.{Expr}
+use Rattle.term_model.specs.Terms.{Expression, expression, Cond}
+pub use Rattle.term_model.specs.Rebuilding.{over_one, over_two}
 use Rattle.rewriting.specs.Measures.{size}
 
 abbrev pub after : Expression → Option Expr → Expression

@@ -1,11 +1,11 @@
 -- What a contract is worth on a day, at a scale that is no less than its own.
 use Rattle.std.specs.Prelude.{ℕ, ℤ, ◌-◌, ◌≤◌, ◌≡◌, List}
 use Rattle.decimal.specs.Rounding.{raised}
-use Rattle.term_core.specs.Declarations.{Declarations}
-use Rattle.term_core.specs.Terms.{Contract}
-use Rattle.term_core.specs.Environments.{Environment}
-use Rattle.term_core.specs.Values.{Entry, kinds}
-use Rattle.term_core.specs.Flows.{Flow, flow_of, scale_of_contract}
+use Rattle.term_model.specs.Declarations.{Declarations}
+use Rattle.term_model.specs.Terms.{Contract}
+use Rattle.term_model.specs.Environments.{Environment}
+use Rattle.term_model.specs.Values.{Entry, kinds}
+use Rattle.term_model.specs.Flows.{Flow, flow_of, scale_of_contract}
 
 -- what c pays on its own day x, at scale s
 abbrev pub flow_at_scale : Declarations → List Entry → Environment → ℤ → ℤ → Flow → ℕ → Contract → ℤ

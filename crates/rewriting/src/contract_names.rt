@@ -1,9 +1,9 @@
 //! Names in contracts with shared parts, as in expressions.
 
 ghost use Rattle.std.specs.Prelude.{◌≡◌, ◌≤◌, ◌+◌, ◌^◌, IfOk, true};
-ghost use Rattle.term_core.specs.Terms.{expression};
-ghost use Rattle.term_core.specs.Sizes.{height_of_contract};
-ghost use Rattle.term_core.specs.Redexes.{is_literal, uses_in_contract};
+ghost use Rattle.term_model.specs.Terms.{expression};
+ghost use Rattle.term_model.specs.Sizes.{height_of_contract};
+ghost use Rattle.term_model.specs.Redexes.{is_literal, uses_in_contract};
 ghost use Rattle.term_core.specs.SharedTerms.{shared, StoresOffsets};
 ghost use Rattle.rewriting.specs.RebuildingContracts.{after_in, NewStoresOffsets};
 ghost use Rattle.rewriting.specs.Substituting.{substituted_in};
@@ -13,7 +13,8 @@ use crate::naming::{substituted, uses};
 use decimal::NoMemory;
 use std::alloc::Global;
 use std::rc::Rc;
-use term_core::{Expr, SharedContr};
+use term_model::Expr;
+use term_core::SharedContr;
 
 /// Whether a contract uses the name with `back` binders between.
 #[tactic(auto, using(crate::proofs::ShiftedSizes::shifted_uses, crate::proofs::ShiftedSizes::shifted_height))]

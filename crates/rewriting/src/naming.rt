@@ -1,16 +1,16 @@
 //! Names in expressions: whether one is used, and a literal in its place.
 
 ghost use Rattle.std.specs.Prelude.{◌≡◌, ◌≤◌, ◌+◌, ◌^◌, IfOk};
-ghost use Rattle.term_core.specs.Terms.{expression, Var};
-ghost use Rattle.term_core.specs.Sizes.{height};
-ghost use Rattle.term_core.specs.Redexes.{uses, names_within};
+ghost use Rattle.term_model.specs.Terms.{expression, Var};
+ghost use Rattle.term_model.specs.Sizes.{height};
+ghost use Rattle.term_model.specs.Redexes.{uses, names_within};
 ghost use Rattle.rewriting.specs.Rebuilding.{after};
 ghost use Rattle.rewriting.specs.Substituting.{substituted, name_without};
 
 use crate::rebuilding::{of_one, of_three, of_two};
 use decimal::NoMemory;
 use std::alloc::Global;
-use term_core::Expr;
+use term_model::Expr;
 
 /// Whether an expression uses the name with `back` binders between.
 pub fn uses(e: &Expr, back: u32) -> bool

@@ -3,14 +3,14 @@
 //! what its parts come to.
 
 ghost use Rattle.std.specs.Prelude.{◌≡◌, IfOk};
-ghost use Rattle.term_core.specs.Terms.{expression, Cond};
+ghost use Rattle.term_model.specs.Terms.{expression, Cond};
 ghost use Rattle.rewriting.specs.Replacing.{literal_of};
 ghost use Rattle.rewriting.specs.Measures.{size};
 ghost use Rattle.rewriting.specs.Rebuilding.{after, choice_after, over_one, over_two, two_after, IfAllAreLess, IfBothAreLess, IsLess, IsLessByParts};
 
 use decimal::NoMemory;
 use std::alloc::Global;
-use term_core::{Expr, Kind, Value};
+use term_model::{Expr, Kind, Value};
 
 /// The literal of a value of a kind.
 pub fn literal(kind: Kind, value: Value) -> Expr

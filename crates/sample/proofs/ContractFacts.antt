@@ -3,14 +3,14 @@ use Rattle.std.proofs.Common.{◌≡◌, ◌∙◌, ℕ, zero, suc, ◌^◌, ◌
 use Rattle.std.proofs.lemmas.Int.{ints}
 use Rattle.std.proofs.lemmas.List.Elements.{All-weaker}
 use Rattle.decimal.specs.Rounding.{at_scale}
-use Rattle.term_core.specs.Declarations.{Declarations}
-use Rattle.term_core.specs.Terms.{Contract}
-use Rattle.term_core.specs.Environments.{Environment, IsAdmitted, Place}
-use Rattle.term_core.specs.Flows.{Flow, amount_of}
-use Rattle.term_core.specs.Reads.{first_unfixed}
-use Rattle.term_core.specs.Bounds.{aligned_total}
-use Rattle.term_core.specs.Acceptance.{IsAccepted}
-use Rattle.term_core.proofs.FlowFacts.{amounts_opposite}
+use Rattle.term_model.specs.Declarations.{Declarations}
+use Rattle.term_model.specs.Terms.{Contract}
+use Rattle.term_model.specs.Environments.{Environment, IsAdmitted, Place}
+use Rattle.term_model.specs.Flows.{Flow, amount_of}
+use Rattle.term_model.specs.Reads.{first_unfixed}
+use Rattle.term_model.specs.Bounds.{aligned_total}
+use Rattle.term_model.specs.Acceptance.{IsAccepted}
+use Rattle.term_model.proofs.FlowFacts.{amounts_opposite}
 use Rattle.interval_check.specs.Sums.{sum_of_amounts, sum_of_sizes}
 use Rattle.interval_check.proofs.GuaranteeFacts.{amounts_add_up_to_total}
 use Rattle.flow_eval.specs.FlowAnswers.{AreKnownFlows, reads_until}

@@ -5,11 +5,11 @@ use Rattle.std.specs.Prelude.{is_some, Result, Ok, Err, OnOk}
 use Rattle.std.proofs.lemmas.Int.{ints}
 use Rattle.std.proofs.lemmas.Bool.{cases_lt}
 use Rattle.std.proofs.lemmas.Bool.Decides.{Decides-int_eq}
-use Rattle.term_core.specs.declared.values.Value.{Value}
-use Rattle.term_core.specs.declared.values.Value.TheVariants.{Num as Amount}
-use Rattle.term_core.specs.Declarations.{Declarations}
-use Rattle.term_core.specs.Environments.{Environment, Extends, IsAdmitted, held, same_place}
-use Rattle.term_core.specs.Reads.{is_fixed}
+use Rattle.term_model.specs.declared.values.Value.{Value}
+use Rattle.term_model.specs.declared.values.Value.TheVariants.{Num as Amount}
+use Rattle.term_model.specs.Declarations.{Declarations}
+use Rattle.term_model.specs.Environments.{Environment, Extends, IsAdmitted, held, same_place}
+use Rattle.term_model.specs.Reads.{is_fixed}
 use Rattle.fixing_files.specs.Runs.{AddsPair}
 use Rattle.sample.specs.Sample.{HoldSame, fixings_before, rate_on, sample_factor, sample_fixings}
 use Rattle.sample.proofs.ReadFacts.{AreDaysFixed}

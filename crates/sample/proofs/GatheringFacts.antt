@@ -3,8 +3,8 @@ use Rattle.std.proofs.Common.{◌≡◌, ◌∙◌, ℕ, suc, ◌+◌, ◌*◌, 
 use Rattle.std.proofs.lemmas.List.Elements.{All-push}
 use Rattle.std.specs.Prelude.{IfOk, Result, Ok, Err}
 use Rattle.std.specs.Global.{Vec}
-use Rattle.term_core.specs.Environments.{IsAdmitted}
-use Rattle.term_core.specs.Flows.{Flow}
+use Rattle.term_model.specs.Environments.{IsAdmitted}
+use Rattle.term_model.specs.Flows.{Flow}
 use Rattle.flow_eval.specs.Tables.{IsTable, IsMutual}
 use Rattle.flow_eval.specs.declared.flow_table.FlowRow.{FlowRow}
 use Rattle.flow_eval.specs.declared.flow_table.FlowTable.{FlowTable}

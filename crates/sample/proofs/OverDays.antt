@@ -7,8 +7,8 @@ use Rattle.std.proofs.lemmas.Int.{ints}
 use Rattle.std.proofs.lemmas.List.Elements.{All-cons, All-head, All-nil, All-tail, All-weaker}
 use Rattle.std.proofs.lemmas.List.Sums.{sum_by-append, sum_by-cons}
 use Rattle.std.proofs.lemmas.List.Sorted.{All-permutation}
-use Rattle.term_core.specs.Flows.{Flow}
-use Rattle.term_core.specs.LawsFlows.{reversed}
+use Rattle.term_model.specs.Flows.{Flow}
+use Rattle.term_model.specs.LawsFlows.{reversed}
 use Rattle.flow_eval.specs.Netting.{CanBeNetted, Nets, same_slot, size_at}
 use Rattle.flow_eval.specs.Tables.{IsDueRow, IsPaid, IsTable, IsMutual}
 use Rattle.flow_eval.specs.declared.flow_table.FlowRow.{FlowRow}

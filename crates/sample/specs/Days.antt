@@ -2,7 +2,7 @@
 -- table of one day is the table of what is paid over all.
 use Rattle.std.specs.Prelude.{ℕ, zero, suc, ℤ, pos, ◌+ℤ◌, List}
 use Rattle.std.specs.List.{All}
-use Rattle.term_core.specs.Flows.{Flow}
+use Rattle.term_model.specs.Flows.{Flow}
 use Rattle.flow_eval.specs.Readiness.{last_day}
 use Rattle.flow_eval.specs.Payments.{payment_on}
 use Rattle.flow_eval.specs.Tables.{IsDueRow, IsTable, IsMutual}

@@ -1,12 +1,12 @@
 //! The contracts of the sample.
 
 ghost use Rattle.std.specs.Prelude.{◌≡◌, IfOk};
-ghost use Rattle.term_core.specs.Terms.{contract, expression};
+ghost use Rattle.term_model.specs.Terms.{contract, expression};
 ghost use Rattle.sample.specs.Sample.{above, hundredfold, paid_above, paid_else, rate, sample_body, sample_contract};
 
 use decimal::{Mode, NoMemory};
 use std::alloc::Global;
-use term_core::{CmpOp, Contr, Days, Expr, NumOp};
+use term_model::{CmpOp, Contr, Days, Expr, NumOp};
 
 const EUR: u32 = 0;
 

@@ -1,14 +1,14 @@
 //! The fixings of the sample.
 
 ghost use Rattle.std.specs.Prelude.{◌≡◌, ◌<◌, ◌+◌, pos, IfOk, OnOk};
-ghost use Rattle.term_core.specs.Declarations.{declarations};
-ghost use Rattle.term_core.specs.Environments.{IsAdmitted};
+ghost use Rattle.term_model.specs.Declarations.{declarations};
+ghost use Rattle.term_model.specs.Environments.{IsAdmitted};
 ghost use Rattle.sample.specs.Sample.{HoldSame, fixings_before, sample_declarations, sample_factor, sample_fixings};
 
 use decimal::NoMemory;
 use fixing_files::Fixings;
 use std::alloc::Global;
-use term_core::{Decls, Value};
+use term_model::{Decls, Value};
 
 // The mantissa of FX on a day.
 fn factor(day: u32) -> i128

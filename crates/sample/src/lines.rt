@@ -4,7 +4,7 @@ ghost use Rattle.std.specs.Prelude.{◌≡◌, ◌≤◌, ◌^◌, ◌++◌, IfO
 ghost use Rattle.std.specs.Map.{keys_of};
 ghost use Rattle.std.specs.List.{flat_map};
 ghost use Rattle.decimal.specs.Text.{text_of};
-ghost use Rattle.term_core.specs.Declarations.{declarations};
+ghost use Rattle.term_model.specs.Declarations.{declarations};
 ghost use Rattle.interval_check.specs.Safety.{IsSmall};
 ghost use Rattle.flow_eval.specs.Tables.{FitsLine};
 ghost use Rattle.report.specs.CheckLines.{line_feed};
@@ -17,7 +17,7 @@ use decimal::{NoMemory, write};
 use flow_eval::FlowRow;
 use indexmap::{IndexMap, IndexSet};
 use std::alloc::Global;
-use term_core::{Decls, Name};
+use term_model::{Decls, Name};
 
 // Appends a word and a number.
 fn append_number(

@@ -1,9 +1,9 @@
 //! The summary of the sample.
 
 ghost use Rattle.std.specs.Prelude.{◌≡◌, ◌≤◌, ◌<◌, ◌+◌, ◌^◌, length, IfOk};
-ghost use Rattle.term_core.specs.Declarations.{declarations};
-ghost use Rattle.term_core.specs.Terms.{contract};
-ghost use Rattle.term_core.specs.Environments.{IsAdmitted};
+ghost use Rattle.term_model.specs.Declarations.{declarations};
+ghost use Rattle.term_model.specs.Terms.{contract};
+ghost use Rattle.term_model.specs.Environments.{IsAdmitted};
 ghost use Rattle.sample.specs.Sample.{HoldSame, IsOfSample, sample_contract, sample_declarations, sample_fixings};
 ghost use Rattle.sample.specs.Days.{AreDue};
 ghost use Rattle.sample.specs.Gathering.{IsGathered};
@@ -19,7 +19,7 @@ use fixing_files::Fixings;
 use flow_eval::{FlowErr, FlowTable, LAST_DAY, flows};
 use report::net;
 use std::alloc::Global;
-use term_core::{Contr, Decls};
+use term_model::{Contr, Decls};
 
 // The flow table of a contract of the sample. No read of it lacks a fixing.
 fn table_of(

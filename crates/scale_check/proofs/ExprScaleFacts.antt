@@ -1,21 +1,21 @@
 -- The trial of the scale of an expression whose sorts are right finds the first node that breaks the rule on scales.
 use Rattle.std.proofs.Common.{◌≡◌, ℕ, zero, suc, ◌+◌, ◌≤◌, max, true, leb-true, le-leb, ◌&&◌, nat_le, List, [], ◌∷◌, ◌++◌, map, Option, Some, Ok, refl, ap, ap₂, sym, subst, ◌∙◌, arith, slice_get}
 use Rattle.std.proofs.Math.Bool.{and-true}
-use Rattle.term_core.specs.Declarations.{Declarations}
-use Rattle.term_core.specs.declared.values.Kind.{Kind}
-use Rattle.term_core.specs.declared.values.Kind.TheVariants.{Truth, Number}
+use Rattle.term_model.specs.Declarations.{Declarations}
+use Rattle.term_model.specs.declared.values.Kind.{Kind}
+use Rattle.term_model.specs.declared.values.Kind.TheVariants.{Truth, Number}
 use Rattle.decimal.specs.declared.Mode.{Mode}
-use Rattle.term_core.specs.declared.terms.NumOp.{NumOp}
-use Rattle.term_core.specs.declared.terms.LogicOp.{LogicOp}
-use Rattle.term_core.specs.Terms.{Expression, Lit, Yes, Var, Obs, Neg, Num, Cmp, Not, Logic, Cond, Widen, Round, Div, Acc}
-use Rattle.term_core.specs.Environments.{label_of}
-use Rattle.term_core.specs.Kinds.{kind_of, kind_of_label, on_numbers, scale_of_op, scale_of_kind, scale_or_zero, scale_of, on_truth, joined}
-use Rattle.term_core.specs.Values.{kind_or}
-use Rattle.term_core.specs.Sizes.{nodes}
-use Rattle.term_core.specs.Scales.{greatest_scale, is_scaled}
-use Rattle.term_core.specs.Sites.{Site, Layer, Counting, Earlier, Once, sites_of, expression_at, kinds_round}
+use Rattle.term_model.specs.declared.terms.NumOp.{NumOp}
+use Rattle.term_model.specs.declared.terms.LogicOp.{LogicOp}
+use Rattle.term_model.specs.Terms.{Expression, Lit, Yes, Var, Obs, Neg, Num, Cmp, Not, Logic, Cond, Widen, Round, Div, Acc}
+use Rattle.term_model.specs.Environments.{label_of}
+use Rattle.term_model.specs.Kinds.{kind_of, kind_of_label, on_numbers, scale_of_op, scale_of_kind, scale_or_zero, scale_of, on_truth, joined}
+use Rattle.term_model.specs.Values.{kind_or}
+use Rattle.term_model.specs.Sizes.{nodes}
+use Rattle.term_model.specs.Scales.{greatest_scale, is_scaled}
+use Rattle.term_model.specs.Sites.{Site, Layer, Counting, Earlier, Once, sites_of, expression_at, kinds_round}
 use Rattle.term_core.specs.Trying.{then_do, moved}
-use Rattle.term_core.proofs.KindParts.{one_number, two_numbers, truth_then, branches, days, scale_either}
+use Rattle.term_model.proofs.KindParts.{one_number, two_numbers, truth_then, branches, days, scale_either}
 use Rattle.scale_check.specs.ScaleScopes.{found_scale}
 use Rattle.scale_check.specs.ScaleTrials.{Answer, at_most, not_above, two_tried, scale_tried}
 use Rattle.scale_check.proofs.Finding.{Finds, shift, seq, fine, ends, here, here_twice}

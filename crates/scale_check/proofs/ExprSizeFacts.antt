@@ -1,9 +1,9 @@
 -- The trial of the size of an expression finds the first node that breaks the rule on sizes.
 use Rattle.std.proofs.Common.{◌≡◌, ℕ, zero, ◌+◌, List, [], ◌∷◌, ◌++◌, refl, arith}
-use Rattle.term_core.specs.Terms.{Expression, Lit, Yes, Var, Obs, Neg, Num, Cmp, Not, Logic, Cond, Widen, Round, Div, Acc}
-use Rattle.term_core.specs.Sizes.{height, nodes, past, work, days_before}
-use Rattle.term_core.specs.Smallness.{is_small}
-use Rattle.term_core.specs.Sites.{Layer, Counting, Earlier, Once, sites_of, expression_at}
+use Rattle.term_model.specs.Terms.{Expression, Lit, Yes, Var, Obs, Neg, Num, Cmp, Not, Logic, Cond, Widen, Round, Div, Acc}
+use Rattle.term_model.specs.Sizes.{height, nodes, past, work, days_before}
+use Rattle.term_model.specs.Smallness.{is_small}
+use Rattle.term_model.specs.Sites.{Layer, Counting, Earlier, Once, sites_of, expression_at}
 use Rattle.scale_check.specs.declared.part_sizes.Size.{Size}
 use Rattle.scale_check.specs.PartSizes.{leaf, over_one, over_two, over_three, over_days, is_within}
 use Rattle.scale_check.specs.SizeTrials.{one_tried, two_tried, size_tried}

@@ -1,9 +1,9 @@
 -- What a trial by structure answers, against the order in which the rules of acceptance try nodes: step by step, where
 -- a node passes by a test that computes.
 use Rattle.std.proofs.Common.{◌≡◌, ℕ, ◌+◌, Bool, true, false, ◌&&◌, if◌then◌else◌, List, [], ◌∷◌, ◌++◌, Option, Some, None, Result, Ok, Err, refl, ap, ◌∙◌, arith}
-use Rattle.term_core.specs.Sites.{Site}
+use Rattle.term_model.specs.Sites.{Site}
 use Rattle.term_core.specs.Trying.{then_do, moved}
-use Rattle.term_core.proofs.Trials.{or_else, first_failing, first_failing-append}
+use Rattle.term_model.proofs.Trials.{or_else, first_failing, first_failing-append}
 
 -- A trial of the nodes from number k on finds what something is said of, where all pass, or else the first that does
 -- not.

@@ -1,7 +1,7 @@
 -- What the trial of a size answers of a whole, where those of its parts find their sizes: whatever a size tells, however
 -- the size of a whole is made from those of its parts, and whichever sizes fit.
 use Rattle.std.proofs.Common.{◌≡◌, ℕ, ◌+◌, Bool, if◌then◌else◌, List, [], ◌∷◌, ◌++◌, Result, Ok, Err, refl, ap, ap₂, sym, ◌∙◌, arith}
-use Rattle.term_core.specs.Sites.{Site}
+use Rattle.term_model.specs.Sites.{Site}
 use Rattle.term_core.specs.Trying.{then_do, moved}
 use Rattle.scale_check.proofs.Finding.{Finds, shift, seq, here}
 

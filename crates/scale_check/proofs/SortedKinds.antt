@@ -1,14 +1,14 @@
 -- An expression of which each node has a kind has one itself.
 use Rattle.std.proofs.Common.{◌≡◌, ℕ, zero, ◌+◌, List, [], ◌∷◌, ◌++◌, Option, Some, None, IsTrue, is_some, refl}
-use Rattle.term_core.specs.Declarations.{Declarations}
-use Rattle.term_core.specs.declared.values.Kind.{Kind}
-use Rattle.term_core.specs.declared.rules.Rule.TheVariants.{Sort}
-use Rattle.term_core.specs.Terms.{Expression, Lit, Yes, Var, Obs, Neg, Num, Cmp, Not, Logic, Cond, Widen, Round, Div, Acc}
-use Rattle.term_core.specs.Kinds.{kind_of}
-use Rattle.term_core.specs.Sites.{Site, Layer, Earlier, Counting, Once, sites_of, expression_at, kinds_round, AllPass}
-use Rattle.term_core.specs.Sizes.{nodes}
-use Rattle.term_core.specs.Acceptance.{Passes}
-use Rattle.term_core.proofs.Trials.{AllPass-right}
+use Rattle.term_model.specs.Declarations.{Declarations}
+use Rattle.term_model.specs.declared.values.Kind.{Kind}
+use Rattle.term_model.specs.declared.rules.Rule.TheVariants.{Sort}
+use Rattle.term_model.specs.Terms.{Expression, Lit, Yes, Var, Obs, Neg, Num, Cmp, Not, Logic, Cond, Widen, Round, Div, Acc}
+use Rattle.term_model.specs.Kinds.{kind_of}
+use Rattle.term_model.specs.Sites.{Site, Layer, Earlier, Counting, Once, sites_of, expression_at, kinds_round, AllPass}
+use Rattle.term_model.specs.Sizes.{nodes}
+use Rattle.term_model.specs.Acceptance.{Passes}
+use Rattle.term_model.proofs.Trials.{AllPass-right}
 
 pub record HasKind (v : Option Kind) : Type 0 where
   pub kind : Kind

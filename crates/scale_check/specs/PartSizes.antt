@@ -1,7 +1,7 @@
 -- How large a whole is, from the sizes of its parts. The limits are those of the rule on sizes.
 use Rattle.std.specs.Prelude.{ℕ, ◌+◌, ◌-◌, ◌*◌, ◌≤◌, max, Bool, Result, Ok, Err, if◌then◌else◌}
-use Rattle.term_core.specs.Limits.{most_days, most_height, most_nodes, most_reach_and_past, most_work}
-use Rattle.term_core.specs.Smallness.{within_limits}
+use Rattle.term_model.specs.Limits.{most_days, most_height, most_nodes, most_reach_and_past, most_work}
+use Rattle.term_model.specs.Smallness.{within_limits}
 use Rattle.scale_check.specs.declared.part_sizes.Size.{Size}
 
 -- an expression without parts

@@ -1,10 +1,10 @@
 -- The size of a part, or the place of its first node that breaks the rule on sizes. This goes by structure, each part
 -- once; proofs/SizeFacts shows that it finds what the rule says.
 use Rattle.std.specs.Prelude.{ℕ, ◌+◌, Result}
-use Rattle.term_core.specs.Terms.{Expression, Lit, Yes, Var, Obs, Neg, Num, Cmp, Not, Logic, Cond, Widen, Round, Div, Acc}
-use Rattle.term_core.specs.Terms.{Contract, Zero, Pay, Both, Scale, After, Let, Within}
-use Rattle.term_core.specs.Flows.{count_of}
-use Rattle.term_core.specs.Sizes.{nodes, nodes_of_contract, days_before}
+use Rattle.term_model.specs.Terms.{Expression, Lit, Yes, Var, Obs, Neg, Num, Cmp, Not, Logic, Cond, Widen, Round, Div, Acc}
+use Rattle.term_model.specs.Terms.{Contract, Zero, Pay, Both, Scale, After, Let, Within}
+use Rattle.term_model.specs.Flows.{count_of}
+use Rattle.term_model.specs.Sizes.{nodes, nodes_of_contract, days_before}
 use Rattle.term_core.specs.Trying.{then_do, moved}
 use Rattle.scale_check.specs.declared.part_sizes.Size.{Size}
 use Rattle.scale_check.specs.PartSizes.{leaf, over_one, over_two, over_three, over_days, unit, together, delayed, tested, limited}

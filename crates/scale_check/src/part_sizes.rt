@@ -3,9 +3,9 @@
 //! so that no number leaves its integer.
 
 ghost use Rattle.std.specs.Prelude.{◌≡◌, ◌+◌, ◌<◌, ◌^◌, IfOk, IfErr};
-ghost use Rattle.term_core.specs.Sizes.{days_before};
+ghost use Rattle.term_model.specs.Sizes.{days_before};
 
-use term_core::{MOST_DAYS, MOST_HEIGHT, MOST_NODES, MOST_REACH_AND_PAST, MOST_WORK};
+use term_model::{MOST_DAYS, MOST_HEIGHT, MOST_NODES, MOST_REACH_AND_PAST, MOST_WORK};
 
 /// A part's longest path, counted in nodes; its nodes; the days by which its latest part may stand
 /// later; the days before its own that it may read; and the steps in which it is evaluated.

@@ -1,13 +1,13 @@
 //! The scales of the names that stand around an expression, and of what is observed.
 
 ghost use Rattle.std.specs.Prelude.{◌≡◌, slice_get};
-ghost use Rattle.term_core.specs.Declarations.{declarations};
-ghost use Rattle.term_core.specs.Environments.{label_of};
-ghost use Rattle.term_core.specs.Kinds.{kind_of_label, scale_or_zero};
-ghost use Rattle.term_core.specs.Scopes.{held_in};
+ghost use Rattle.term_model.specs.Declarations.{declarations};
+ghost use Rattle.term_model.specs.Environments.{label_of};
+ghost use Rattle.term_model.specs.Kinds.{kind_of_label, scale_or_zero};
+ghost use Rattle.term_model.specs.Scopes.{held_in};
 ghost use Rattle.scale_check.specs.ScaleScopes.{found_scale};
 
-use term_core::{Decls, Label, Scope, held_at};
+use term_model::{Decls, Label, Scope, held_at};
 
 /// The scale of the name that is bound `back` binders further out than the innermost, or 0 where
 /// there is none; a truth value has 0.

@@ -5,19 +5,18 @@
 //! counted only on the way up from a fault, so that no part is visited more than twice.
 
 ghost use Rattle.std.specs.Prelude.{◌≡◌, ◌<◌, ◌≤◌, ◌+◌, ◌^◌, IfOk};
-ghost use Rattle.term_core.specs.Terms.{expression, contract};
-ghost use Rattle.term_core.specs.Sizes.{nodes, nodes_of_contract, height_of_contract};
+ghost use Rattle.term_model.specs.Terms.{expression, contract};
+ghost use Rattle.term_model.specs.Sizes.{nodes, nodes_of_contract, height_of_contract};
 ghost use Rattle.term_core.specs.Trying.{FaultIsWithin};
-ghost use Rattle.term_core.specs.WellFormed.{HasOnlyNumbers};
+ghost use Rattle.term_model.specs.WellFormed.{HasOnlyNumbers};
 ghost use Rattle.scale_check.specs.PartSizes.{IsLimited};
 ghost use Rattle.scale_check.specs.SizeTrials.{one_tried, two_tried, three_tried, acc_tried};
 ghost use Rattle.scale_check.specs.SizeTrials.{size_tried, behind_tried, contract_tried};
 ghost use Rattle.scale_check.specs.SizeVerdicts.{IsSizeVerdict};
 
 use crate::part_sizes::{Size, days_back};
-use term_core::{
-    Contr, Expr, Rule, RuleFault, behind, behind_both, behind_contract, behind_node, behind_two,
-};
+use term_model::{Contr, Expr, Rule, RuleFault};
+use term_core::{behind, behind_both, behind_contract, behind_node, behind_two};
 
 // The size of an expression.
 #[cycle(sizing)]

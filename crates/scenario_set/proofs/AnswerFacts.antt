@@ -3,9 +3,9 @@ use Rattle.std.proofs.Common.{◌≡◌, ◌∙◌, inl, inr, ℕ, ◌≤◌, Li
 use Rattle.std.specs.Prelude.{Contains, option_map}
 use Rattle.std.proofs.lemmas.Bool.{cases_Bool, cases_lt}
 use Rattle.std.proofs.lemmas.Option.{slice_get-get_or, slice_get-map, slice_get_within}
-use Rattle.term_core.specs.Declarations.{Declarations}
-use Rattle.term_core.specs.Environments.{IsValueOf, Place, label_of}
-use Rattle.term_core.specs.declared.values.Value.{Value}
+use Rattle.term_model.specs.Declarations.{Declarations}
+use Rattle.term_model.specs.Environments.{IsValueOf, Place, label_of}
+use Rattle.term_model.specs.declared.values.Value.{Value}
 use Rattle.fixing_files.specs.Records.{Fields, said}
 use Rattle.fixing_files.specs.Rows.{same_value}
 use Rattle.fixing_files.specs.Tables.{Table}

@@ -3,8 +3,8 @@ use Rattle.std.proofs.Common.{◌≡◌, ◌∙◌, ℕ, zero, suc, ◌+◌, ◌
 use Rattle.std.proofs.lemmas.Bool.{cases_Bool}
 use Rattle.std.proofs.lemmas.List.{append_assoc, length-map, map_more}
 use Rattle.std.proofs.lemmas.Option.{slice_get-map, slice_get_read}
-use Rattle.term_core.specs.Environments.{Environment, Place, held, same_place}
-use Rattle.term_core.specs.declared.values.Value.{Value}
+use Rattle.term_model.specs.Environments.{Environment, Place, held, same_place}
+use Rattle.term_model.specs.declared.values.Value.{Value}
 use Rattle.fixing_files.specs.Layers.{HoldSame}
 use Rattle.fixing_files.specs.Runs.{AddsUnlessHeld}
 use Rattle.fixing_files.proofs.LayerFacts.{adds_last}

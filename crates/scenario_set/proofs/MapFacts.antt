@@ -6,8 +6,8 @@ use Rattle.std.proofs.lemmas.List.{get_or-map, length-map}
 use Rattle.std.proofs.lemmas.List.Elements.{Contains-append_cases, Contains-append_left, Contains-append_right}
 use Rattle.std.proofs.lemmas.Map.Made.{Contains-tail}
 use Rattle.std.proofs.lemmas.Option.{slice_get-map}
-use Rattle.term_core.specs.Environments.{Environment, Place, held, same_place}
-use Rattle.term_core.specs.declared.values.Value.{Value}
+use Rattle.term_model.specs.Environments.{Environment, Place, held, same_place}
+use Rattle.term_model.specs.declared.values.Value.{Value}
 use Rattle.scenario_set.specs.Collecting.{Names}
 use Rattle.scenario_set.specs.Scenarios.{NamedMap, map_of, maps_of, row_held, rows_held}
 use Rattle.scenario_set.specs.Settling.{Fills, IsFirst, Settles, names_of, row_for, rows_at}

@@ -5,8 +5,8 @@ use Rattle.std.proofs.lemmas.Int.{ints}
 use Rattle.std.proofs.lemmas.List.{length-map}
 use Rattle.std.proofs.lemmas.Option.{slice_get_within}
 use Rattle.decimal.specs.Rounding.{raised}
-use Rattle.term_core.specs.Declarations.{Declarations}
-use Rattle.term_core.specs.Environments.{Environment, Extends, Place}
+use Rattle.term_model.specs.Declarations.{Declarations}
+use Rattle.term_model.specs.Environments.{Environment, Extends, Place}
 use Rattle.fixing_files.specs.Layers.{HoldSame}
 use Rattle.payoff_lang.specs.CodeValues.{scale_of_code}
 use Rattle.payoff_lang.specs.LawsCode.{CodeValuesAreFixed}

@@ -6,11 +6,11 @@ use Rattle.std.proofs.lemmas.Int.{ints}
 use Rattle.decimal.specs.Reading.{read_of}
 use Rattle.decimal.specs.Rounding.{divided}
 use Rattle.decimal.specs.declared.rounding.Mode.TheVariants.{HalfEven, HalfAway, Floor, Ceil}
-use Rattle.term_core.specs.Dates.{epoch_day_of, parts_of}
-use Rattle.term_core.specs.Declarations.{Declarations}
-use Rattle.term_core.specs.declared.label.Label.TheVariants.{Number, Flag}
-use Rattle.term_core.specs.declared.values.Value.{Value as Reading}
-use Rattle.term_core.specs.declared.values.Value.TheVariants.{Num as Amount, Truth}
+use Rattle.term_model.specs.Dates.{epoch_day_of, parts_of}
+use Rattle.term_model.specs.Declarations.{Declarations}
+use Rattle.term_model.specs.declared.label.Label.TheVariants.{Number, Flag}
+use Rattle.term_model.specs.declared.values.Value.{Value as Reading}
+use Rattle.term_model.specs.declared.values.Value.TheVariants.{Num as Amount, Truth}
 use Rattle.fixing_files.specs.Days.{day_named, day_of}
 use Rattle.fixing_files.specs.Records.{said}
 use Rattle.fixing_files.specs.declared.faults.RowKind.{RowKind}

@@ -2,7 +2,7 @@
 use Rattle.std.proofs.Common.{◌≡◌, ◌≢◌, ◌∙◌, ◌⊎◌, inl, inr, ◌<◌, ◌≤◌, Bool, true, false, Option, Some, None, if◌then◌else◌, refl, sym, ap, arith}
 use Rattle.std.specs.Prelude.{nat_le}
 use Rattle.std.proofs.lemmas.Bool.Decides.{nat_tests}
-use Rattle.term_core.specs.declared.values.Value.{Value}
+use Rattle.term_model.specs.declared.values.Value.{Value}
 use Rattle.fixing_files.specs.Rows.{same_value}
 use Rattle.fixing_files.proofs.ValueFacts.{differ, same_from}
 use Rattle.scenario_set.specs.Mentions.{FirstIs, IsOther, IsSeen, next, next_first, next_other, none_seen, or_row, told_of}

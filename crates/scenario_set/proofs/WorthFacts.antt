@@ -1,10 +1,10 @@
 -- What code is worth over a map that holds what the map of a scenario holds.
 use Rattle.std.proofs.Common.{◌≡◌, ◌∙◌, ℕ, ℤ, pos, ◌≤◌, List, Result, Ok, Err, refl, sym, subst}
 use Rattle.std.specs.Prelude.{unsigned_abs}
-use Rattle.term_core.specs.Declarations.{Declarations}
-use Rattle.term_core.specs.declared.values.Missing.{Missing}
-use Rattle.term_core.specs.Environments.{Environment, IsAdmitted}
-use Rattle.term_core.specs.Factors.{IsCurve, IsFactor}
+use Rattle.term_model.specs.Declarations.{Declarations}
+use Rattle.term_model.specs.declared.values.Missing.{Missing}
+use Rattle.term_model.specs.Environments.{Environment, IsAdmitted}
+use Rattle.term_model.specs.Factors.{IsCurve, IsFactor}
 use Rattle.interval_check.specs.Within.{KeepsLimits}
 use Rattle.expr_eval.specs.Standing.{place_of}
 use Rattle.payoff_lang.specs.CodeAcceptance.{IsAcceptedCode}

@@ -1,7 +1,7 @@
 -- The laws of tables of scenarios. A table has one answer: it is refused at one record for one rule, or it holds one list of
 -- scenarios, each with one value at each place that it fixes.
 use Rattle.std.specs.Prelude.{◌≡◌, List}
-use Rattle.term_core.specs.Declarations.{Declarations}
+use Rattle.term_model.specs.Declarations.{Declarations}
 use Rattle.fixing_files.specs.Tables.{Table}
 use Rattle.fixing_files.specs.declared.faults.RowFault.{RowFault}
 use Rattle.scenario_set.specs.ScenarioTables.{HoldsScenarios, IsFirstFault}

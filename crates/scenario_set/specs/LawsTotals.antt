@@ -2,10 +2,10 @@
 -- worth there, whatever else is observed (the soundness statement of Annenkov and Elsman, PPDP 2018, in each scenario). And what
 -- is asked of a set has one answer, by the names and the maps of its scenarios alone.
 use Rattle.std.specs.Prelude.{◌≡◌, ℕ, ℤ, pos, List, Some, Result, Ok, Err, slice_get}
-use Rattle.term_core.specs.Environments.{Environment, Extends}
-use Rattle.term_core.specs.Factors.{CurveRow}
-use Rattle.term_core.specs.Instances.{instance}
-use Rattle.term_core.specs.Terms.{Contract}
+use Rattle.term_model.specs.Environments.{Environment, Extends}
+use Rattle.term_model.specs.Factors.{CurveRow}
+use Rattle.term_model.specs.Instances.{instance}
+use Rattle.term_model.specs.Terms.{Contract}
 use Rattle.payoff_lang.specs.CodeBooks.{CodeBook}
 use Rattle.payoff_lang.specs.CodeValues.{Asked}
 use Rattle.payoff_lang.specs.Meaning.{CodeMeans, Counting, MayBeAsked, counting, of_past}

@@ -1,7 +1,7 @@
 -- The rows of a group that were met so far. Two of them are kept: the first, and the first with another value than it. They
 -- tell, of every value, the first row that says another.
 use Rattle.std.specs.Prelude.{◌≢◌, ◌≤◌, Option, Some, None, if◌then◌else◌}
-use Rattle.term_core.specs.declared.values.Value.{Value}
+use Rattle.term_model.specs.declared.values.Value.{Value}
 use Rattle.fixing_files.specs.Rows.{same_value}
 use Rattle.scenario_set.specs.declared.mentions.Mention.{Mention}
 

@@ -1,9 +1,9 @@
 -- Scenarios as they are kept: the rows of each beside its name, and once the rows that hold in all. What they stand for is a
 -- list of names, each with its map of places.
 use Rattle.std.specs.Prelude.{◌≡◌, ℕ, List, ◌++◌, map, Some, slice_get}
-use Rattle.term_core.specs.Declarations.{Declarations}
-use Rattle.term_core.specs.Environments.{Environment, IsAdmitted, Place}
-use Rattle.term_core.specs.declared.values.Value.{Value}
+use Rattle.term_model.specs.Declarations.{Declarations}
+use Rattle.term_model.specs.Environments.{Environment, IsAdmitted, Place}
+use Rattle.term_model.specs.declared.values.Value.{Value}
 use Rattle.fixing_files.specs.Layers.{HoldSame}
 use Rattle.scenario_set.specs.declared.scenarios.SetRow.{SetRow}
 use Rattle.scenario_set.specs.declared.scenarios.Scenario.{Scenario}

@@ -1,8 +1,8 @@
 -- The scenarios of a table that breaks no rule: their names, and at each place the first value that is kept. These are for the
 -- private steps of reading.
 use Rattle.std.specs.Prelude.{◌≡◌, ◌≢◌, ◌↔◌, ◌⊎◌, ◌<◌, ℕ, zero, suc, List, [], ◌∷◌, ◌++◌, map, Contains, Some, slice_get}
-use Rattle.term_core.specs.Environments.{Place}
-use Rattle.term_core.specs.declared.values.Value.{Value}
+use Rattle.term_model.specs.Environments.{Place}
+use Rattle.term_model.specs.declared.values.Value.{Value}
 use Rattle.scenario_set.specs.Collecting.{Names}
 use Rattle.scenario_set.specs.Scenarios.{NamedMap}
 use Rattle.scenario_set.specs.Watches.{Rows, row_of, spot_of}

@@ -1,7 +1,7 @@
 -- What is asked in the scenarios of a set, and when the values can be found and added up. This is for the private steps of the
 -- total.
 use Rattle.std.specs.Prelude.{ℕ, ◌≤◌, List}
-use Rattle.term_core.specs.Environments.{Environment, IsAdmitted}
+use Rattle.term_model.specs.Environments.{Environment, IsAdmitted}
 use Rattle.payoff_lang.specs.CodeSizes.{height_of_code}
 use Rattle.scenario_set.specs.Scenarios.{AreAdmitted, NamedMap, maps_of}
 use Rattle.scenario_set.specs.Totals.{AreFew, CanBeAsked, Inquiry, inquiry_of}

@@ -1,8 +1,8 @@
 -- What the code is worth in one scenario. This is for the private steps of the total.
 use Rattle.std.specs.Prelude.{All, ◌≡◌, ◌≤◌, ◌<◌, ◌*◌, ◌+ℤ◌, [], ◌∷◌, ◌++◌, ℕ}
 use Rattle.std.specs.Prelude.{ℤ, length, take, unsigned_abs, List, Some, None, Result, Ok, Err, slice_get}
-use Rattle.term_core.specs.declared.values.Missing.{Missing as Lacked}
-use Rattle.term_core.specs.Environments.{Environment}
+use Rattle.term_model.specs.declared.values.Missing.{Missing as Lacked}
+use Rattle.term_model.specs.Environments.{Environment}
 use Rattle.payoff_eval.specs.CodeAnswers.{IsValueOf}
 use Rattle.scenario_set.specs.Scenarios.{NamedMap, rows_held}
 use Rattle.scenario_set.specs.Totals.{Inquiry, IsFixedIn, LacksIn, lacked_in, most_worth, total_of, values_in, worth_in}

@@ -5,11 +5,11 @@ use Rattle.std.specs.Prelude.{All, ◌≡◌, ◌≤◌, ◌<◌, ◌≤ℤ◌, 
 use Rattle.std.specs.Prelude.{[], ◌∷◌, length, map, Option, Some, None, Result, Ok, Err, slice_get, slice_index_or}
 use Rattle.decimal.specs.declared.rounding.Mode.{Mode}
 use Rattle.decimal.specs.Rounding.{divided}
-use Rattle.term_core.specs.declared.settings.Setting.{Setting}
-use Rattle.term_core.specs.Environments.{Environment, Place}
-use Rattle.term_core.specs.Factors.{CurveRow}
-use Rattle.term_core.specs.Limits.{greatest_mantissa}
-use Rattle.term_core.specs.Reads.{first_unfixed}
+use Rattle.term_model.specs.declared.settings.Setting.{Setting}
+use Rattle.term_model.specs.Environments.{Environment, Place}
+use Rattle.term_model.specs.Factors.{CurveRow}
+use Rattle.term_model.specs.Limits.{greatest_mantissa}
+use Rattle.term_model.specs.Reads.{first_unfixed}
 use Rattle.interval_check.specs.Safety.{IsSmall}
 use Rattle.payoff_lang.specs.CodeBooks.{CodeBook, code_book}
 use Rattle.payoff_lang.specs.CodeReads.{reads_of_code}

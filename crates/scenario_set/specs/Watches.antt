@@ -3,8 +3,8 @@
 use Rattle.std.specs.Prelude.{◌≡◌, ◌≢◌, ℕ, Option, Some, None, if◌then◌else◌, nat_le}
 use Rattle.std.specs.BTreeMap.{BTreeMap, get}
 use Rattle.std.specs.declared.cmp.Ordering.{Ordering}
-use Rattle.term_core.specs.Environments.{Place}
-use Rattle.term_core.specs.declared.values.Value.{Value}
+use Rattle.term_model.specs.Environments.{Place}
+use Rattle.term_model.specs.declared.values.Value.{Value}
 use Rattle.scenario_set.specs.Mentions.{next, none_seen, told_of}
 use Rattle.scenario_set.specs.declared.mentions.Mention.{Mention}
 use Rattle.scenario_set.specs.Mentions.{Seen}

@@ -13,7 +13,7 @@ use decimal::NoMemory;
 use fixing_files::RowKind;
 use indexmap::IndexSet;
 use std::alloc::Global;
-use term_core::Name;
+use term_model::Name;
 
 /// The names of the scenarios, in the order of their first records, and what was said so far.
 #[derive(Drop)]

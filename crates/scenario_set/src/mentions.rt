@@ -3,7 +3,7 @@
 ghost use Rattle.std.specs.Prelude.{◌≡◌};
 ghost use Rattle.fixing_files.specs.Rows.{same_value};
 
-use term_core::Value;
+use term_model::Value;
 
 /// The number of a record, and the value that it says.
 #[derive(Clone, Copy, Debug, PartialEq, Eq, Drop)]

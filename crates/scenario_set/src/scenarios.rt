@@ -10,7 +10,7 @@ use decimal::NoMemory;
 use fixing_files::{FewFixings, Fixings, Place};
 use std::alloc::Global;
 use std::marker::Model;
-use term_core::{Name, Value};
+use term_model::{Name, Value};
 
 /// A place with its value.
 #[derive(Clone, Copy, Debug, PartialEq, Eq)]

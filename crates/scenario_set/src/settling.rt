@@ -12,7 +12,7 @@ use decimal::NoMemory;
 use indexmap::IndexSet;
 use std::alloc::Global;
 use std::collections::BTreeMap;
-use term_core::Name;
+use term_model::Name;
 
 // Scenarios of these names, without rows.
 fn unfilled(alloc: Global, names: IndexSet<Name>) -> Result<Vec<Scenario>, NoMemory>

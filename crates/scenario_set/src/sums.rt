@@ -2,7 +2,7 @@
 
 ghost use Rattle.std.specs.Prelude.{◌≡◌, ◌<◌, ◌≤ℤ◌, ◌+ℤ◌, ◌*ℤ◌, ◌++◌, ◌^◌, length, pos, int_lt};
 ghost use Rattle.std.specs.Prelude.{IfOk, OnOk};
-ghost use Rattle.term_core.specs.Declarations.{declarations};
+ghost use Rattle.term_model.specs.Declarations.{declarations};
 ghost use Rattle.interval_check.specs.Safety.{IsSmall};
 ghost use Rattle.scenario_set.specs.Scenarios.{AreAdmitted, rows_held};
 ghost use Rattle.scenario_set.specs.Surveys.{CanBeAskedOver, CanBeSurveyed, HasRoomFor, asked_in};
@@ -21,7 +21,7 @@ use payoff_eval::{ValueScratch, value_layered, value_scratch};
 use payoff_lang::CodeFile;
 use payoff_lang::laws::code_values_are_fixed;
 use std::alloc::Global;
-use term_core::{Missing, Setting};
+use term_model::{Missing, Setting};
 
 /// The greatest total in size, `10^37`.
 const GREATEST_TOTAL: i128 = 10_000_000_000_000_000_000_000_000_000_000_000_000;

@@ -10,7 +10,7 @@ use decimal::NoMemory;
 use fixing_files::Place;
 use std::alloc::Global;
 use std::collections::BTreeMap;
-use term_core::Value;
+use term_model::Value;
 
 /// Rows of a place: all of them, those that hold in each scenario, or those of one scenario, by its
 /// number.

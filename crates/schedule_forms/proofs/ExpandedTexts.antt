@@ -7,9 +7,9 @@ use Rattle.std.proofs.lemmas.List.Elements.{All-map, All-weaker}
 use Rattle.std.proofs.lemmas.List.FromFn.{length-map-range_with_len}
 use Rattle.std.proofs.lemmas.Nat.{mul-le}
 use Rattle.std.proofs.lemmas.Simd.{map-map}
-use Rattle.term_core.specs.Declarations.{Declarations}
-use Rattle.term_core.specs.Limits.{is_a_version}
-use Rattle.term_core.specs.Terms.{Contract}
+use Rattle.term_model.specs.Declarations.{Declarations}
+use Rattle.term_model.specs.Limits.{is_a_version}
+use Rattle.term_model.specs.Terms.{Contract}
 use Rattle.contract_parse.specs.Tokens.{Tok, tokens}
 use Rattle.contract_parse.specs.Words.{Bytes}
 use Rattle.contract_parse.specs.Versions.{Version, version_of}

@@ -4,7 +4,7 @@ use Rattle.std.proofs.lemmas.Str.{utf8_valid_len-IsValidUpTo}
 use Rattle.std.specs.Prelude.{codes}
 use Rattle.std.proofs.Common.{Err, Some, ◌≡◌, ◌-◌, ◌++◌, ℕ, length, List, [], ◌∷◌, refl, ap, sym, subst, ◌∙◌}
 use Rattle.std.proofs.lemmas.List.{append_cancel_left}
-use Rattle.term_core.specs.Declarations.{Declarations}
+use Rattle.term_model.specs.Declarations.{Declarations}
 use Rattle.contract_parse.specs.Tokens.{Tok, tokens}
 use Rattle.contract_parse.specs.Cursors.{IsNoUtf8, fault_at}
 use Rattle.contract_parse.specs.Lines.{line_at, column_at}

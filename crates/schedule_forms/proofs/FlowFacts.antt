@@ -7,14 +7,14 @@ use Rattle.std.proofs.lemmas.Int.{ints}
 use Rattle.std.proofs.lemmas.List.FromFn.{length-map-range_with_len}
 use Rattle.decimal.specs.Rounding.{raised}
 use Rattle.decimal.proofs.RoundedFacts.{raised_none}
-use Rattle.term_core.specs.Declarations.{Declarations}
-use Rattle.term_core.specs.DayCounts.{Num as Count}
-use Rattle.term_core.specs.declared.values.Kind.{Kind}
-use Rattle.term_core.specs.declared.values.Kind.TheVariants.{Number}
-use Rattle.term_core.specs.Terms.{Contract, After}
-use Rattle.term_core.specs.Environments.{Environment}
-use Rattle.term_core.specs.Kinds.{kind_of, scale_or_zero}
-use Rattle.term_core.specs.Flows.{Flow, flow_of, scale_of_contract, unit_flow, on_day_zero}
+use Rattle.term_model.specs.Declarations.{Declarations}
+use Rattle.term_model.specs.DayCounts.{Num as Count}
+use Rattle.term_model.specs.declared.values.Kind.{Kind}
+use Rattle.term_model.specs.declared.values.Kind.TheVariants.{Number}
+use Rattle.term_model.specs.Terms.{Contract, After}
+use Rattle.term_model.specs.Environments.{Environment}
+use Rattle.term_model.specs.Kinds.{kind_of, scale_or_zero}
+use Rattle.term_model.specs.Flows.{Flow, flow_of, scale_of_contract, unit_flow, on_day_zero}
 use Rattle.schedule_forms.specs.declared.plans.Size.{Size}
 use Rattle.schedule_forms.specs.declared.plans.Leg.{Leg}
 use Rattle.schedule_forms.specs.PaymentSizes.{expression_of_size, scale_of_size, size_on}

@@ -7,12 +7,12 @@ use Rattle.std.proofs.lemmas.Bool.{cases_Bool}
 use Rattle.std.proofs.lemmas.Int.{ints}
 use Rattle.decimal.specs.Rounding.{raised}
 use Rattle.decimal.proofs.RoundedFacts.{raised_none}
-use Rattle.term_core.specs.Declarations.{Declarations}
-use Rattle.term_core.specs.Environments.{Environment, observed}
-use Rattle.term_core.specs.Values.{truth, first_of}
-use Rattle.term_core.specs.Flows.{Flow, flow_of, scale_of_contract, unit_flow, on_day_zero}
-use Rattle.term_core.proofs.FlowFacts.{first_within, one_zero}
-use Rattle.term_core.proofs.Products.{sum-mul}
+use Rattle.term_model.specs.Declarations.{Declarations}
+use Rattle.term_model.specs.Environments.{Environment, observed}
+use Rattle.term_model.specs.Values.{truth, first_of}
+use Rattle.term_model.specs.Flows.{Flow, flow_of, scale_of_contract, unit_flow, on_day_zero}
+use Rattle.term_model.proofs.FlowFacts.{first_within, one_zero}
+use Rattle.term_model.proofs.Products.{sum-mul}
 use Rattle.schedule_forms.specs.declared.plans.Leg.{Leg}
 use Rattle.schedule_forms.specs.declared.plans.Plan.TheVariants.{Guarded}
 use Rattle.schedule_forms.specs.PaymentSizes.{scale_of_size}

@@ -3,14 +3,14 @@ use Rattle.std.proofs.Common.{ℕ, zero, suc, ℤ, ◌+◌, ◌<◌, ◌≤◌, 
 use Rattle.std.specs.List.{range_with_len}
 use Rattle.std.proofs.lemmas.Bool.Decides.{nat_tests}
 use Rattle.std.proofs.lemmas.List.FromFn.{length-map-range_with_len}
-use Rattle.term_core.specs.Declarations.{Declarations}
-use Rattle.term_core.specs.DayCounts.{Num as Count}
-use Rattle.term_core.specs.declared.rules.Rule.TheVariants.{Scale as ScaleRule, Bound}
-use Rattle.term_core.specs.Terms.{Contract, Lit, After}
-use Rattle.term_core.specs.Literals.{HasLiterals, HasLiteralsIn}
-use Rattle.term_core.specs.Limits.{greatest_mantissa}
-use Rattle.term_core.specs.Sites.{Once, EachDay}
-use Rattle.term_core.specs.Acceptance.{Passes}
+use Rattle.term_model.specs.Declarations.{Declarations}
+use Rattle.term_model.specs.DayCounts.{Num as Count}
+use Rattle.term_model.specs.declared.rules.Rule.TheVariants.{Scale as ScaleRule, Bound}
+use Rattle.term_model.specs.Terms.{Contract, Lit, After}
+use Rattle.term_model.specs.Literals.{HasLiterals, HasLiteralsIn}
+use Rattle.term_model.specs.Limits.{greatest_mantissa}
+use Rattle.term_model.specs.Sites.{Once, EachDay}
+use Rattle.term_model.specs.Acceptance.{Passes}
 use Rattle.schedule_forms.specs.declared.plans.Size.{Size}
 use Rattle.schedule_forms.specs.declared.plans.Size.TheVariants.{Fixed, Fixing}
 use Rattle.schedule_forms.specs.declared.plans.Leg.{Leg}

@@ -1,7 +1,7 @@
 -- Small schedule files are walked through token by token, by the grammar alone.
 use Rattle.std.proofs.Common.{◌≡◌, Bool, true, false, cond, ◌&&◌, List, [], ◌∷◌, ◌++◌, refl, sym, ap, subst, append-nil}
 use Rattle.std.specs.Prelude.{ℕ, codes}
-use Rattle.term_core.specs.Dates.{parts_of, two_of}
+use Rattle.term_model.specs.Dates.{parts_of, two_of}
 use Rattle.contract_parse.specs.Tokens.{Tok, extent_at, next_lexeme, tokens, tokens_from}
 use Rattle.contract_parse.specs.Forms.{Terminal, Nonterminal, Optional, Repeated, Form, Whole, done, Front, empty}
 use Rattle.contract_parse.specs.FrontRows.{at_left}

@@ -3,7 +3,7 @@ use Rattle.std.proofs.Common.{◌≡◌, ℕ, Bool, true, cond, List, ◌∷◌,
 use Rattle.contract_parse.specs.Tokens.{Tok, tokens}
 use Rattle.contract_parse.specs.Words.{Bytes, is_the_word}
 use Rattle.contract_parse.proofs.Passing.{not_word}
-use Rattle.term_core.specs.Declarations.{Declarations}
+use Rattle.term_model.specs.Declarations.{Declarations}
 use Rattle.schedule_forms.specs.declared.heads.PlanHead.{PlanHead}
 use Rattle.schedule_forms.specs.declared.heads.PlanHead.TheVariants.{Leg, Swap, Guarded}
 use Rattle.schedule_forms.specs.PlanHeads.{head_at, word_of}

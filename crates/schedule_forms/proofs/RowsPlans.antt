@@ -3,15 +3,15 @@
 use Rattle.std.proofs.Common.{◌≡◌, ℕ, ℤ, pos, neg_ℤ, ◌∷◌, [], None, Some, true, false, refl, codes, arith}
 use Rattle.decimal.specs.Rounding.{at_scale}
 use Rattle.decimal.specs.declared.Mode.TheVariants.{HalfEven}
-use Rattle.term_core.specs.Declarations.{Declarations}
-use Rattle.term_core.specs.declared.label.Label.{Label}
-use Rattle.term_core.specs.declared.label.Label.TheVariants.{Number, Flag}
-use Rattle.term_core.specs.DayCounts.{Num as Count}
-use Rattle.term_core.specs.declared.terms.NumOp.TheVariants.{Times}
-use Rattle.term_core.specs.declared.values.Value.TheVariants.{Num as Amount, Truth}
-use Rattle.term_core.specs.Terms.{Contract, Pay, Both, Scale, After, Within, Lit, Obs, Num, Round}
-use Rattle.term_core.specs.Environments.{Environment}
-use Rattle.term_core.specs.Flows.{Flow, amount_of, flow_of}
+use Rattle.term_model.specs.Declarations.{Declarations}
+use Rattle.term_model.specs.declared.label.Label.{Label}
+use Rattle.term_model.specs.declared.label.Label.TheVariants.{Number, Flag}
+use Rattle.term_model.specs.DayCounts.{Num as Count}
+use Rattle.term_model.specs.declared.terms.NumOp.TheVariants.{Times}
+use Rattle.term_model.specs.declared.values.Value.TheVariants.{Num as Amount, Truth}
+use Rattle.term_model.specs.Terms.{Contract, Pay, Both, Scale, After, Within, Lit, Obs, Num, Round}
+use Rattle.term_model.specs.Environments.{Environment}
+use Rattle.term_model.specs.Flows.{Flow, amount_of, flow_of}
 use Rattle.schedule_forms.specs.declared.plans.Size.TheVariants.{Fixed, Fixing}
 use Rattle.schedule_forms.specs.declared.plans.Leg.{Leg}
 use Rattle.schedule_forms.specs.declared.plans.Plan.{Plan}

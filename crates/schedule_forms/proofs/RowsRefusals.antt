@@ -2,13 +2,13 @@
 -- refused, by scale, size or bound. Nodes are counted in the expansion.
 use Rattle.std.proofs.Common.{pos, ◌^◌}
 use Rattle.decimal.specs.declared.Mode.TheVariants.{HalfEven}
-use Rattle.term_core.specs.declared.rules.Rule.TheVariants.{Scale as ScaleRule, Size as SizeRule, Bound}
-use Rattle.term_core.specs.Sites.{Once, EachDay, sites}
-use Rattle.term_core.specs.Scales.{is_scaled}
-use Rattle.term_core.specs.Smallness.{is_small}
-use Rattle.term_core.specs.Bounds.{is_bounded}
-use Rattle.term_core.specs.Acceptance.{IsAccepted, FailsAt, Meets}
-use Rattle.term_core.proofs.Trials.{first_failing-is}
+use Rattle.term_model.specs.declared.rules.Rule.TheVariants.{Scale as ScaleRule, Size as SizeRule, Bound}
+use Rattle.term_model.specs.Sites.{Once, EachDay, sites}
+use Rattle.term_model.specs.Scales.{is_scaled}
+use Rattle.term_model.specs.Smallness.{is_small}
+use Rattle.term_model.specs.Bounds.{is_bounded}
+use Rattle.term_model.specs.Acceptance.{IsAccepted, FailsAt, Meets}
+use Rattle.term_model.proofs.Trials.{first_failing-is}
 use Rattle.schedule_forms.specs.declared.plans.Size.TheVariants.{Fixed, Fixing}
 use Rattle.schedule_forms.specs.declared.plans.Leg.{Leg}
 use Rattle.schedule_forms.specs.declared.plans.Plan.{Plan}

@@ -2,9 +2,9 @@
 use Rattle.std.proofs.Common.{◌≡◌, ℕ, pos, List, [], ◌∷◌, Some, None, refl}
 use Rattle.std.specs.Prelude.{codes}
 use Rattle.decimal.specs.Reading.{read_of}
-use Rattle.term_core.specs.Declarations.{Declarations}
-use Rattle.term_core.specs.declared.label.Label.TheVariants as label
-use Rattle.term_core.specs.Dates.{parts_of, two_of}
+use Rattle.term_model.specs.Declarations.{Declarations}
+use Rattle.term_model.specs.declared.label.Label.TheVariants as label
+use Rattle.term_model.specs.Dates.{parts_of, two_of}
 use Rattle.contract_parse.specs.Tokens.{Tok, extent_at, next_lexeme, tokens, tokens_from}
 use Rattle.contract_parse.specs.Words.{Bytes}
 use Rattle.contract_parse.specs.declared.token.LexemeKind.{LexemeKind}

@@ -2,9 +2,9 @@
 use Rattle.std.proofs.Common.{◌≡◌, ℕ, zero, suc, ℤ, ◌+◌, ◌-◌, ◌*◌, ◌^◌, ◌<◌, ◌≤◌, max, List, ◌++◌, length, map, arith, length-append, pow-suc}
 use Rattle.std.specs.List.{range_with_len}
 use Rattle.std.proofs.lemmas.List.FromFn.{length-map-range_with_len}
-use Rattle.term_core.specs.DayCounts.{Num as Count}
-use Rattle.term_core.specs.Terms.{Contract, After}
-use Rattle.term_core.specs.Sizes.{nodes, height, nodes_of_contract, height_of_contract}
+use Rattle.term_model.specs.DayCounts.{Num as Count}
+use Rattle.term_model.specs.Terms.{Contract, After}
+use Rattle.term_model.specs.Sizes.{nodes, height, nodes_of_contract, height_of_contract}
 use Rattle.schedule_forms.specs.declared.plans.Size.{Size}
 use Rattle.schedule_forms.specs.declared.plans.Size.TheVariants.{Fixed, Fixing}
 use Rattle.schedule_forms.specs.declared.plans.Leg.{Leg}

@@ -4,23 +4,23 @@ use Rattle.std.proofs.Common.{ℕ, zero, suc, ℤ, pos, neg_ℤ, ◌-ℤ◌, ◌
 use Rattle.std.specs.List.{range_with_len}
 use Rattle.std.proofs.lemmas.Int.{ints}
 use Rattle.std.proofs.lemmas.List.FromFn.{length-map-range_with_len}
-use Rattle.term_core.specs.Declarations.{Declarations}
-use Rattle.term_core.specs.declared.label.Label.{Label}
-use Rattle.term_core.specs.declared.label.Label.TheVariants.{Number as NumberLabel, Flag}
-use Rattle.term_core.specs.DayCounts.{Num as Count}
-use Rattle.term_core.specs.declared.rules.Rule.TheVariants.{Sort}
-use Rattle.term_core.specs.declared.values.Kind.{Kind}
-use Rattle.term_core.specs.declared.values.Kind.TheVariants.{Number}
-use Rattle.term_core.specs.Terms.{Contract, Both, After, Within, Obs, Scale, Pay}
-use Rattle.term_core.specs.Environments.{label_of}
-use Rattle.term_core.specs.Kinds.{kind_of_label, on_number, on_numbers}
-use Rattle.term_core.specs.Sizes.{nodes_of_contract}
-use Rattle.term_core.specs.Sites.{Once, Layer, Later, Undated, AllPass, sites_of_contract}
-use Rattle.term_core.specs.Sorts.{is_number, is_truth}
-use Rattle.term_core.specs.Times.{Typed, TypedContract}
-use Rattle.term_core.specs.Acceptance.{Passes}
-use Rattle.term_core.proofs.Trials.{AllPass-append}
-use Rattle.term_core.proofs.TimeFacts.{times_mean_typed}
+use Rattle.term_model.specs.Declarations.{Declarations}
+use Rattle.term_model.specs.declared.label.Label.{Label}
+use Rattle.term_model.specs.declared.label.Label.TheVariants.{Number as NumberLabel, Flag}
+use Rattle.term_model.specs.DayCounts.{Num as Count}
+use Rattle.term_model.specs.declared.rules.Rule.TheVariants.{Sort}
+use Rattle.term_model.specs.declared.values.Kind.{Kind}
+use Rattle.term_model.specs.declared.values.Kind.TheVariants.{Number}
+use Rattle.term_model.specs.Terms.{Contract, Both, After, Within, Obs, Scale, Pay}
+use Rattle.term_model.specs.Environments.{label_of}
+use Rattle.term_model.specs.Kinds.{kind_of_label, on_number, on_numbers}
+use Rattle.term_model.specs.Sizes.{nodes_of_contract}
+use Rattle.term_model.specs.Sites.{Once, Layer, Later, Undated, AllPass, sites_of_contract}
+use Rattle.term_model.specs.Sorts.{is_number, is_truth}
+use Rattle.term_model.specs.Times.{Typed, TypedContract}
+use Rattle.term_model.specs.Acceptance.{Passes}
+use Rattle.term_model.proofs.Trials.{AllPass-append}
+use Rattle.term_model.proofs.TimeFacts.{times_mean_typed}
 use Rattle.schedule_forms.specs.declared.plans.Size.{Size}
 use Rattle.schedule_forms.specs.declared.plans.Size.TheVariants.{Fixed, Fixing}
 use Rattle.schedule_forms.specs.declared.plans.Leg.{Leg}

@@ -3,9 +3,9 @@
 use Rattle.std.proofs.Common.{◌≡◌, ℕ, ℤ, Bool, true, false, Option, Some, None, Result, List, [], ◌∷◌, ◌++◌, append_assoc, refl, ap, sym, subst, ◌∙◌, inl, inr}
 use Rattle.std.specs.Prelude.{codes}
 use Rattle.std.proofs.lemmas.List.{append_cancel_right}
-use Rattle.term_core.specs.Declarations.{Declarations}
-use Rattle.term_core.specs.declared.label.Label.{Label}
-use Rattle.term_core.specs.declared.label.Label.TheVariants as label
+use Rattle.term_model.specs.Declarations.{Declarations}
+use Rattle.term_model.specs.declared.label.Label.{Label}
+use Rattle.term_model.specs.declared.label.Label.TheVariants as label
 use Rattle.contract_parse.specs.Tokens.{Tok}
 use Rattle.contract_parse.specs.Words.{Bytes, is_the_mark, is_the_word}
 use Rattle.contract_parse.specs.Versions.{Version, One, Two, version_of}

@@ -2,17 +2,17 @@
 use Rattle.std.proofs.Common.{◌≡◌, ℕ, zero, suc, ℤ, pos, ◌+◌, ◌<◌, IsTrue, List, [], ◌∷◌, ◌++◌, length, map, Option, Some, None, is_some, refl, arith}
 use Rattle.std.specs.List.{range_with_len}
 use Rattle.std.proofs.lemmas.List.FromFn.{length-map-range_with_len}
-use Rattle.term_core.specs.Declarations.{Declarations}
-use Rattle.term_core.specs.DayCounts.{Num as Count}
-use Rattle.term_core.specs.declared.rules.Rule.TheVariants.{Sort}
-use Rattle.term_core.specs.declared.values.Kind.{Kind}
-use Rattle.term_core.specs.declared.values.Kind.TheVariants.{Truth, Number}
-use Rattle.term_core.specs.Terms.{Expression, Contract, Lit, Obs, Both, After, Within}
-use Rattle.term_core.specs.Kinds.{on_number}
-use Rattle.term_core.specs.Sizes.{nodes, nodes_of_contract}
-use Rattle.term_core.specs.Sites.{Trial, Once, Layer, Later, Undated, Site, AllPass, sites_of, sites_of_contract}
-use Rattle.term_core.specs.Acceptance.{Passes}
-use Rattle.term_core.proofs.Trials.{AllPass-left, AllPass-right}
+use Rattle.term_model.specs.Declarations.{Declarations}
+use Rattle.term_model.specs.DayCounts.{Num as Count}
+use Rattle.term_model.specs.declared.rules.Rule.TheVariants.{Sort}
+use Rattle.term_model.specs.declared.values.Kind.{Kind}
+use Rattle.term_model.specs.declared.values.Kind.TheVariants.{Truth, Number}
+use Rattle.term_model.specs.Terms.{Expression, Contract, Lit, Obs, Both, After, Within}
+use Rattle.term_model.specs.Kinds.{on_number}
+use Rattle.term_model.specs.Sizes.{nodes, nodes_of_contract}
+use Rattle.term_model.specs.Sites.{Trial, Once, Layer, Later, Undated, Site, AllPass, sites_of, sites_of_contract}
+use Rattle.term_model.specs.Acceptance.{Passes}
+use Rattle.term_model.proofs.Trials.{AllPass-left, AllPass-right}
 use Rattle.schedule_forms.specs.declared.plans.Size.{Size}
 use Rattle.schedule_forms.specs.declared.plans.Size.TheVariants.{Fixed, Fixing}
 use Rattle.schedule_forms.specs.declared.plans.Leg.{Leg}

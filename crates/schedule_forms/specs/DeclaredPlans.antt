@@ -1,10 +1,10 @@
 -- A plan is over declarations if all that it names is declared: assets and parties, for an observed size a number, and
 -- for a guard a flag.
 use Rattle.std.specs.Prelude.{◌<◌, length, Option, Some}
-use Rattle.term_core.specs.Declarations.{Declarations}
-use Rattle.term_core.specs.Environments.{label_of}
-use Rattle.term_core.specs.declared.label.Label.{Label}
-use Rattle.term_core.specs.declared.label.Label.TheVariants.{Number, Flag}
+use Rattle.term_model.specs.Declarations.{Declarations}
+use Rattle.term_model.specs.Environments.{label_of}
+use Rattle.term_model.specs.declared.label.Label.{Label}
+use Rattle.term_model.specs.declared.label.Label.TheVariants.{Number, Flag}
 use Rattle.schedule_forms.specs.declared.plans.Size.{Size}
 use Rattle.schedule_forms.specs.declared.plans.Size.TheVariants.{Fixed, Fixing}
 use Rattle.schedule_forms.specs.declared.plans.Leg.{Leg}

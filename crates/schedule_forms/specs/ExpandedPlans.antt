@@ -1,12 +1,12 @@
 -- A contract is written for a plan: it is within the limits of height and nodes, over declarations that have what the plan
 -- names it is closed and pays what the plan says, and so it does where it is accepted.
 use Rattle.std.specs.Prelude.{◌≤◌}
-use Rattle.term_core.specs.Declarations.{Declarations}
-use Rattle.term_core.specs.Terms.{Contract}
-use Rattle.term_core.specs.WellFormed.{IsClosed, HasOnlyNumbers}
-use Rattle.term_core.specs.Literals.{HasLiteralsIn}
-use Rattle.term_core.specs.Acceptance.{IsAccepted}
-use Rattle.term_core.specs.Sizes.{height_of_contract, nodes_of_contract}
+use Rattle.term_model.specs.Declarations.{Declarations}
+use Rattle.term_model.specs.Terms.{Contract}
+use Rattle.term_model.specs.WellFormed.{IsClosed, HasOnlyNumbers}
+use Rattle.term_model.specs.Literals.{HasLiteralsIn}
+use Rattle.term_model.specs.Acceptance.{IsAccepted}
+use Rattle.term_model.specs.Sizes.{height_of_contract, nodes_of_contract}
 use Rattle.schedule_forms.specs.declared.plans.Plan.{Plan}
 use Rattle.schedule_forms.specs.DeclaredPlans.{IsPlanOver}
 use Rattle.schedule_forms.specs.LawsSchedules.{PaysAsPlanned}

@@ -1,8 +1,8 @@
 -- The contract that a plan is written for: the payments of a leg in a balanced tree, so that it is not high, and under a
 -- guard one after the other, each behind a test of the flag over the days up to it.
 use Rattle.std.specs.Prelude.{ℕ, zero, suc, ℤ, pos, ◌+◌, ◌-◌, ◌/◌, List, [], ◌∷◌, length, take, drop, map}
-use Rattle.term_core.specs.DayCounts.{Num as Count}
-use Rattle.term_core.specs.Terms.{Contract, Zero, Pay, Both, Scale, After, Within, Lit, Obs}
+use Rattle.term_model.specs.DayCounts.{Num as Count}
+use Rattle.term_model.specs.Terms.{Contract, Zero, Pay, Both, Scale, After, Within, Lit, Obs}
 use Rattle.schedule_forms.specs.declared.plans.Leg.{Leg}
 use Rattle.schedule_forms.specs.declared.plans.Plan.{Plan}
 use Rattle.schedule_forms.specs.declared.plans.Plan.TheVariants.{Leg as LegPlan, Swap, Guarded}

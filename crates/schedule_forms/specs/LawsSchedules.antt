@@ -2,15 +2,15 @@
 -- meets the rules on sorts and times, and a leg's days are decided and its payments stand in a tree as the definitions
 -- say in words.
 use Rattle.std.specs.Prelude.{ℤ, ◌≡◌, ◌≤◌, ◌<◌, ◌↔◌, true, List, [], ◌∷◌, length, take, drop}
-use Rattle.term_core.specs.Declarations.{Declarations}
-use Rattle.term_core.specs.Terms.{Contract, Both}
-use Rattle.term_core.specs.WellFormed.{IsClosed, HasOnlyNumbers}
-use Rattle.term_core.specs.Environments.{Environment}
-use Rattle.term_core.specs.Flows.{Flow, flow_of, scale_of_contract}
-use Rattle.term_core.specs.Literals.{HasLiteralsIn}
-use Rattle.term_core.specs.declared.rules.Rule.TheVariants.{Sort, Time}
-use Rattle.term_core.specs.Acceptance.{Meets, IsAccepted}
-use Rattle.term_core.specs.Sizes.{height_of_contract, nodes_of_contract}
+use Rattle.term_model.specs.Declarations.{Declarations}
+use Rattle.term_model.specs.Terms.{Contract, Both}
+use Rattle.term_model.specs.WellFormed.{IsClosed, HasOnlyNumbers}
+use Rattle.term_model.specs.Environments.{Environment}
+use Rattle.term_model.specs.Flows.{Flow, flow_of, scale_of_contract}
+use Rattle.term_model.specs.Literals.{HasLiteralsIn}
+use Rattle.term_model.specs.declared.rules.Rule.TheVariants.{Sort, Time}
+use Rattle.term_model.specs.Acceptance.{Meets, IsAccepted}
+use Rattle.term_model.specs.Sizes.{height_of_contract, nodes_of_contract}
 use Rattle.schedule_forms.specs.declared.plans.Leg.{Leg}
 use Rattle.schedule_forms.specs.declared.plans.Plan.{Plan}
 use Rattle.schedule_forms.specs.PaymentDays.{IsPaymentDay, pays_on}

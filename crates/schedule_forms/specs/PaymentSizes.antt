@@ -3,11 +3,11 @@
 use Rattle.std.specs.Prelude.{ℕ, ℤ, pos, neg_ℤ, []}
 use Rattle.schedule_forms.specs.declared.plans.Size.{Size}
 use Rattle.schedule_forms.specs.declared.plans.Size.TheVariants.{Fixed, Fixing}
-use Rattle.term_core.specs.declared.terms.NumOp.TheVariants.{Times}
-use Rattle.term_core.specs.Declarations.{Declarations}
-use Rattle.term_core.specs.Terms.{Expression, Lit, Obs, Num, Round}
-use Rattle.term_core.specs.Environments.{Environment}
-use Rattle.term_core.specs.Values.{num, value_of}
+use Rattle.term_model.specs.declared.terms.NumOp.TheVariants.{Times}
+use Rattle.term_model.specs.Declarations.{Declarations}
+use Rattle.term_model.specs.Terms.{Expression, Lit, Obs, Num, Round}
+use Rattle.term_model.specs.Environments.{Environment}
+use Rattle.term_model.specs.Values.{num, value_of}
 
 abbrev pub expression_of_size : Size → Expression
 expression_of_size (Fixed mant scale) = Lit mant scale

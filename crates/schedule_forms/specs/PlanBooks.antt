@@ -1,9 +1,9 @@
 -- A schedule file by its contents: its declarations, and its plans by name in their order; and the portfolio of its
 -- expansions, which has the same declarations and a contract for each plan.
 use Rattle.std.specs.Prelude.{List, map}
-use Rattle.term_core.specs.declared.name.Name.{Name}
-use Rattle.term_core.specs.Books.{Book}
-use Rattle.term_core.specs.Declarations.{Declarations, declarations}
+use Rattle.term_model.specs.declared.name.Name.{Name}
+use Rattle.term_model.specs.Books.{Book}
+use Rattle.term_model.specs.Declarations.{Declarations, declarations}
 use Rattle.schedule_forms.specs.declared.plans.Plan.{Plan}
 use Rattle.schedule_forms.specs.declared.plan_file.PlanFile.{PlanFile}
 use Rattle.schedule_forms.specs.Expansions.{expansion}

@@ -2,7 +2,7 @@
 -- is expected first, and leaves what is expected behind it, or it is at fault. The next token decides the form.
 use Rattle.std.specs.Prelude.{ℕ, ◌∷◌, ◌++◌, true, false, List, [], Option, Some, None, Result, Ok, Err, codes, if◌then◌else◌}
 use Rattle.std.specs.Map.{keys_of}
-use Rattle.term_core.specs.Declarations.{Declarations}
+use Rattle.term_model.specs.Declarations.{Declarations}
 use Rattle.contract_parse.specs.Tokens.{Tok}
 use Rattle.contract_parse.specs.Words.{Bytes, is_the_mark, is_the_word}
 use Rattle.contract_parse.specs.Names.{nothing_declared}

@@ -4,10 +4,10 @@
 use Rattle.std.specs.Prelude.{ℕ, ℤ, pos, ◌+ℤ◌, ◌*ℤ◌, int_lt, ◌-◌, max, Option, Some, None, if◌then◌else◌}
 use Rattle.std.specs.Ordering.{int_eq}
 use Rattle.decimal.specs.Rounding.{raised}
-use Rattle.term_core.specs.Declarations.{Declarations}
-use Rattle.term_core.specs.Environments.{Environment, observed}
-use Rattle.term_core.specs.Values.{truth, first_of}
-use Rattle.term_core.specs.Flows.{Flow, unit_flow}
+use Rattle.term_model.specs.Declarations.{Declarations}
+use Rattle.term_model.specs.Environments.{Environment, observed}
+use Rattle.term_model.specs.Values.{truth, first_of}
+use Rattle.term_model.specs.Flows.{Flow, unit_flow}
 use Rattle.schedule_forms.specs.declared.plans.Leg.{Leg}
 use Rattle.schedule_forms.specs.declared.plans.Plan.{Plan}
 use Rattle.schedule_forms.specs.declared.plans.Plan.TheVariants.{Leg as LegPlan, Swap, Guarded}

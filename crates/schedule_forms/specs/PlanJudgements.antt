@@ -2,10 +2,10 @@
 -- payments that end in time, and a declared observable of a sort.
 use Rattle.std.specs.Prelude.{ℕ, zero, suc, ◌+◌, ◌-◌, ◌*◌, Bool, true, false, Option, Some, Result, Ok, Err, nat_le, if◌then◌else◌}
 use Rattle.std.specs.Map.{keys_of}
-use Rattle.term_core.specs.Declarations.{Declarations}
-use Rattle.term_core.specs.Environments.{label_of}
-use Rattle.term_core.specs.declared.label.Label.{Label}
-use Rattle.term_core.specs.declared.label.Label.TheVariants.{Number as NumberLabel, Flag}
+use Rattle.term_model.specs.Declarations.{Declarations}
+use Rattle.term_model.specs.Environments.{label_of}
+use Rattle.term_model.specs.declared.label.Label.{Label}
+use Rattle.term_model.specs.declared.label.Label.TheVariants.{Number as NumberLabel, Flag}
 use Rattle.contract_parse.specs.Tokens.{Tok}
 use Rattle.contract_parse.specs.Judgements.{integer_at, use_at}
 use Rattle.contract_parse.specs.declared.faults.TextKind.{TextKind}

@@ -2,7 +2,7 @@
 -- as in portfolios; behind them, over the declarations that were made, plans are expected.
 use Rattle.std.specs.Prelude.{◌≡◌, ◌-◌, ℕ, List, [], ◌∷◌, Some, Result, Ok, Err, codes, length}
 use Rattle.std.specs.Str.{IsUtf8, IsValidUpTo}
-use Rattle.term_core.specs.Declarations.{Declarations}
+use Rattle.term_model.specs.Declarations.{Declarations}
 use Rattle.contract_parse.specs.Tokens.{Tok, tokens}
 use Rattle.contract_parse.specs.Lines.{line_at, column_at}
 use Rattle.contract_parse.specs.Versions.{One}

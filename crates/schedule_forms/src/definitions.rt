@@ -2,8 +2,8 @@
 ghost use Rattle.std.specs.Prelude.{◌≡◌, ◌≤◌, ◌<◌, ◌+◌, ◌-◌, ◌*◌, ◌^◌, ◌∷◌, [], IfOk, codes};
 ghost use Rattle.indexmap.specs.IndexMap.{index_map_len, keys};
 ghost use Rattle.indexmap.specs.IndexSet.{index_set_len};
-ghost use Rattle.term_core.specs.Limits.{greatest_offset, most_days};
-ghost use Rattle.term_core.specs.Declarations.{declarations};
+ghost use Rattle.term_model.specs.Limits.{greatest_offset, most_days};
+ghost use Rattle.term_model.specs.Declarations.{declarations};
 ghost use Rattle.contract_parse.specs.Expecting.{IntegerAt, ModeAt, UseOf};
 ghost use Rattle.contract_parse.specs.Spelling.{◌⨟◌, word};
 ghost use Rattle.contract_parse.specs.Readers.{Reads, behind_word};
@@ -20,7 +20,7 @@ use crate::readers::{
 use contract_parse::{PartErr, after_word, look};
 use decimal::{Decimal, Mode};
 use indexmap::{IndexMap, IndexSet};
-use term_core::{Decls, GREATEST_OFFSET, Name};
+use term_model::{Decls, GREATEST_OFFSET, Name};
 
 // How a size is rounded.
 #[tactic(auto, using(contract_parse::proofs::Parts::followed_by))]

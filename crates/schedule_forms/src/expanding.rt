@@ -2,7 +2,7 @@
 
 ghost use Rattle.std.specs.Prelude.{◌≡◌, ◌<◌, ◌≤◌, ◌+◌, IfOk, map};
 ghost use Rattle.std.specs.List.{range_with_len};
-ghost use Rattle.term_core.specs.Terms.{contract, expression};
+ghost use Rattle.term_model.specs.Terms.{contract, expression};
 ghost use Rattle.schedule_forms.specs.PaymentSizes.{expression_of_size};
 ghost use Rattle.schedule_forms.specs.PlanLimits.{IsLegWithinLimits, IsSizeWithinLimits, IsWithinLimits};
 ghost use Rattle.schedule_forms.specs.Expansions.{balanced, cover_payment, dated_payment, expansion, guarded, payment, payments};
@@ -11,7 +11,7 @@ ghost use Rattle.schedule_forms.specs.ExpandedPlans.{IsWrittenFor};
 use crate::plans::{Leg, Plan, Size};
 use decimal::NoMemory;
 use std::alloc::Global;
-use term_core::{Contr, Days, Expr, NumOp};
+use term_model::{Contr, Days, Expr, NumOp};
 
 // A size as an expression.
 fn expression_of_size(alloc: Global, size: &Size) -> Result<Expr, NoMemory>

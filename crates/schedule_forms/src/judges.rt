@@ -1,14 +1,14 @@
 //! What one token is where a plan expects what no portfolio has, or the kind of its fault.
 ghost use Rattle.std.specs.Prelude.{◌≡◌, ◌≤◌, ◌<◌, ◌+◌, ◌-◌, ◌*◌, IfOk};
 ghost use Rattle.std.specs.Map.{keys_of};
-ghost use Rattle.term_core.specs.Limits.{most_days};
-ghost use Rattle.term_core.specs.Declarations.{declarations};
+ghost use Rattle.term_model.specs.Limits.{most_days};
+ghost use Rattle.term_model.specs.Declarations.{declarations};
 ghost use Rattle.contract_parse.specs.Judgements.{use_at};
 ghost use Rattle.contract_parse.specs.Reading.{tok_of};
 ghost use Rattle.schedule_forms.specs.PlanJudgements.{count_at, flag_at, number_label_at, times_at};
 
 use contract_parse::{Lexeme, TextKind, index_in_map, integer_at, is_name};
-use term_core::{Decls, Label, MOST_DAYS};
+use term_model::{Decls, Label, MOST_DAYS};
 
 /// A number without a point, from 1 up to `most`.
 pub fn count_at(most: u32, token: &Lexeme<'_>) -> Result<u32, TextKind>

@@ -2,7 +2,7 @@
 ghost use Rattle.std.specs.Prelude.{◌≡◌, ◌≤◌, ◌<◌, ◌∷◌, ◌++◌, [], IfOk, OnOk, codes, length};
 ghost use Rattle.std.specs.List.{All};
 ghost use Rattle.indexmap.specs.IndexMap.{keys};
-ghost use Rattle.term_core.specs.Declarations.{declarations};
+ghost use Rattle.term_model.specs.Declarations.{declarations};
 ghost use Rattle.contract_parse.specs.Judgements.{new_at};
 ghost use Rattle.contract_parse.specs.Spelling.{mark, valued, ◌⨟◌};
 ghost use Rattle.contract_parse.specs.Statements.{Entry, Repeat};
@@ -19,7 +19,7 @@ use crate::readers::skip_mark;
 use contract_parse::{Lookahead, PartErr, look, read_new_name};
 use indexmap::IndexMap;
 use std::alloc::Global;
-use term_core::{Decls, Name};
+use term_model::{Decls, Name};
 
 // The name of a plan, which no other has.
 fn read_name<'a>(

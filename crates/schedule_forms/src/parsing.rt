@@ -1,8 +1,8 @@
 //! Schedule files from their texts.
 ghost use Rattle.std.specs.Prelude.{◌≡◌, ◌≤◌, ◌∷◌, [], IfOk, codes, length};
 ghost use Rattle.std.specs.List.{All};
-ghost use Rattle.term_core.specs.Limits.{longest_file};
-ghost use Rattle.term_core.specs.Declarations.{declarations};
+ghost use Rattle.term_model.specs.Limits.{longest_file};
+ghost use Rattle.term_model.specs.Declarations.{declarations};
 ghost use Rattle.contract_parse.specs.Tokens.{tokens};
 ghost use Rattle.contract_parse.specs.Names.{declared_by, nothing_declared};
 ghost use Rattle.contract_parse.specs.Judgements.{is_version};
@@ -21,7 +21,7 @@ use contract_parse::{
     skip_word, start_text,
 };
 use std::alloc::Global;
-use term_core::Decls;
+use term_model::Decls;
 
 // The first line.
 #[tactic(auto, using(contract_parse::proofs::Parts::followed_by))]

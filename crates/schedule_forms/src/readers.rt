@@ -2,8 +2,8 @@
 ghost use Rattle.std.specs.Prelude.{◌≤◌, ◌<◌, ◌+◌, ◌-◌, ◌*◌, ◌^◌, ◌∷◌, IfOk, codes, length, true};
 ghost use Rattle.indexmap.specs.IndexMap.{index_map_len, keys};
 ghost use Rattle.indexmap.specs.IndexSet.{index_set_len};
-ghost use Rattle.term_core.specs.Limits.{most_days};
-ghost use Rattle.term_core.specs.Declarations.{declarations};
+ghost use Rattle.term_model.specs.Limits.{most_days};
+ghost use Rattle.term_model.specs.Declarations.{declarations};
 ghost use Rattle.contract_parse.specs.Judgements.{integer_at, literal_at, mode_at, use_at};
 ghost use Rattle.contract_parse.specs.Spelling.{mark, valued, word};
 ghost use Rattle.contract_parse.specs.Expecting.{IntegerAt, LiteralNumber, ModeAt, UseOf};
@@ -20,7 +20,7 @@ use contract_parse::{
 };
 use decimal::{Decimal, Mode};
 use indexmap::{IndexMap, IndexSet};
-use term_core::{Decls, MOST_DAYS, Name};
+use term_model::{Decls, MOST_DAYS, Name};
 
 /// This word.
 pub fn skip_word<'a>(rest: &'a [u8], wanted: &[u8]) -> Result<&'a [u8], PartErr>

@@ -1,14 +1,14 @@
 -- A turn of a contract transfers only where the contract does, and reads nothing that it does not read.
 use Rattle.std.proofs.Common.{◌≡◌, ℕ, suc, ℤ, pos, ◌+ℤ◌, ◌-ℤ◌, ◌+◌, Bool, true, false, ◌||◌, int_lt, Option, Some, None, List, ◌∷◌, [], refl, ap, sym, subst, ◌∙◌, arith}
 use Rattle.std.proofs.lemmas.Int.{ints}
-use Rattle.term_core.specs.Declarations.{Declarations}
-use Rattle.term_core.specs.declared.values.Kind.TheVariants.{Truth as TruthKind}
-use Rattle.term_core.specs.Terms.{Contract, Zero, Pay, Both, Scale, After, Let, Within}
-use Rattle.term_core.specs.Environments.{Environment, Place}
-use Rattle.term_core.specs.Kinds.{kind_of}
-use Rattle.term_core.specs.Values.{Entry, kinds, kind_or, first_true, entry_of}
-use Rattle.term_core.specs.Flows.{count_of, amount_of}
-use Rattle.term_core.specs.Reads.{reads_of, reads_of_contract, live, upto, tested}
+use Rattle.term_model.specs.Declarations.{Declarations}
+use Rattle.term_model.specs.declared.values.Kind.TheVariants.{Truth as TruthKind}
+use Rattle.term_model.specs.Terms.{Contract, Zero, Pay, Both, Scale, After, Let, Within}
+use Rattle.term_model.specs.Environments.{Environment, Place}
+use Rattle.term_model.specs.Kinds.{kind_of}
+use Rattle.term_model.specs.Values.{Entry, kinds, kind_or, first_true, entry_of}
+use Rattle.term_model.specs.Flows.{count_of, amount_of}
+use Rattle.term_model.specs.Reads.{reads_of, reads_of_contract, live, upto, tested}
 use Rattle.interval_check.proofs.GuaranteeFacts.{rules_are_by_structure}
 use Rattle.rewriting.proofs.Among.{among_none, among_same, among_both, among_if, then_among, among_steps, one_name_more, among_unless, among_branches}
 use Rattle.simplify.specs.Turning.{turned}
@@ -16,7 +16,7 @@ use Rattle.simplify.specs.TurningContracts.{rule_in, turned_in}
 use Rattle.simplify.proofs.TurnMeaning.{turn_means}
 use Rattle.rewriting.specs.Keeping.{AreAmong}
 use Rattle.rewriting.proofs.Branches.{branch_test, branch_reads}
-use Rattle.term_core.proofs.ContractReadFacts.{test_reads}
+use Rattle.term_model.proofs.ContractReadFacts.{test_reads}
 use Rattle.simplify.specs.LawsTurnsKeep.{TurnsTransferLess, ContractTurnsReadLess, TurnsCarry}
 use Rattle.simplify.proofs.RuleReads.{OnlyIf, ReadsInPlace, rule_reads_in}
 use Rattle.simplify.proofs.TurnReads.{turn_reads}

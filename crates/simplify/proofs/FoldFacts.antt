@@ -1,11 +1,11 @@
 -- An operator whose operands are no literals stays as it is.
 use Rattle.std.proofs.Common.{◌≡◌, ◌&&◌, not, if◌then◌else◌, Bool, true, false, Option, Some, None, List, refl, ap}
-use Rattle.term_core.specs.Declarations.{Declarations}
-use Rattle.term_core.specs.declared.terms.LogicOp.{LogicOp}
-use Rattle.term_core.specs.declared.values.Kind.{Kind}
-use Rattle.term_core.specs.Terms.{Expression, Lit, Yes, Var, Obs, Neg, Num, Cmp, Not, Logic, Cond, Widen, Round, Div, Acc}
-use Rattle.term_core.specs.declared.values.Kind.TheVariants.{Number}
-use Rattle.term_core.specs.Redexes.{is_literal, has_literal_operands}
+use Rattle.term_model.specs.Declarations.{Declarations}
+use Rattle.term_model.specs.declared.terms.LogicOp.{LogicOp}
+use Rattle.term_model.specs.declared.values.Kind.{Kind}
+use Rattle.term_model.specs.Terms.{Expression, Lit, Yes, Var, Obs, Neg, Num, Cmp, Not, Logic, Cond, Widen, Round, Div, Acc}
+use Rattle.term_model.specs.declared.values.Kind.TheVariants.{Number}
+use Rattle.term_model.specs.Redexes.{is_literal, has_literal_operands}
 use Rattle.expr_eval.specs.declared.operations.Typed.{Typed}
 use Rattle.expr_eval.specs.declared.operations.Operands.{Operands}
 use Rattle.expr_eval.specs.Operations.{verdict, truth_in, at_kind, negated, combined, compared, rounded, quotient}

@@ -2,18 +2,18 @@
 use Rattle.std.proofs.Common.{◌≡◌, ℕ, pos, ◌≤◌, max, nat_lt, nat_le, true, false, if◌then◌else◌, IsTrue, is_some, Option, Some, None, List, ◌∷◌, [], refl, ap, ap₂, sym, subst, ◌∙◌, inl, inr, arith}
 use Rattle.std.proofs.lemmas.Bool.{and_parts, and_from}
 use Rattle.std.proofs.lemmas.Bool.Decides.{nat_tests}
-use Rattle.term_core.specs.Declarations.{Declarations}
-use Rattle.term_core.specs.declared.values.Kind.{Kind}
-use Rattle.term_core.specs.declared.values.Kind.TheVariants.{Truth as TruthKind, Number}
-use Rattle.term_core.specs.declared.values.Value.{Value}
-use Rattle.term_core.specs.Terms.{Expression, Lit, Yes, Logic, Cond, Widen, Acc}
-use Rattle.term_core.specs.Kinds.{kind_of, scale_of, scale_or_zero, on_number, on_truth}
-use Rattle.term_core.specs.Values.{kind_or, value_of}
-use Rattle.term_core.specs.Reads.{decides}
-use Rattle.term_core.specs.Redexes.{has_literal_operands}
-use Rattle.term_core.specs.Sites.{OfExpression}
-use Rattle.term_core.specs.Scales.{greatest_scale}
-use Rattle.term_core.specs.Bounds.{Range, range_kinds}
+use Rattle.term_model.specs.Declarations.{Declarations}
+use Rattle.term_model.specs.declared.values.Kind.{Kind}
+use Rattle.term_model.specs.declared.values.Kind.TheVariants.{Truth as TruthKind, Number}
+use Rattle.term_model.specs.declared.values.Value.{Value}
+use Rattle.term_model.specs.Terms.{Expression, Lit, Yes, Logic, Cond, Widen, Acc}
+use Rattle.term_model.specs.Kinds.{kind_of, scale_of, scale_or_zero, on_number, on_truth}
+use Rattle.term_model.specs.Values.{kind_or, value_of}
+use Rattle.term_model.specs.Reads.{decides}
+use Rattle.term_model.specs.Redexes.{has_literal_operands}
+use Rattle.term_model.specs.Sites.{OfExpression}
+use Rattle.term_model.specs.Scales.{greatest_scale}
+use Rattle.term_model.specs.Bounds.{Range, range_kinds}
 use Rattle.interval_check.specs.Nodes.{IsSortedPart, IsScaledPart, IsSorted, IsScaled, has_scaled_parts}
 use Rattle.rewriting.specs.Replacing.{KeepsForm, literal_of, branch_at}
 use Rattle.interval_check.proofs.KindsFound.{truth_then, days}

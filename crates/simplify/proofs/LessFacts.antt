@@ -2,10 +2,10 @@
 use Rattle.std.proofs.Common.{◌≡◌, ◌≤◌, ℕ, true, Option, Some, None, arith}
 use Rattle.std.specs.declared.rc.Rc.{Rc}
 use Rattle.std.specs.Global.{Global}
-use Rattle.term_core.specs.declared.terms.Expr.{Expr}
+use Rattle.term_model.specs.declared.terms.Expr.{Expr}
 use Rattle.term_core.specs.declared.shared.SharedContr.{SharedContr}
-use Rattle.term_core.specs.Terms.{Expression, Contract}
-use Rattle.term_core.specs.Redexes.{is_literal}
+use Rattle.term_model.specs.Terms.{Expression, Contract}
+use Rattle.term_model.specs.Redexes.{is_literal}
 use Rattle.rewriting.specs.Measures.{size, size_in}
 use Rattle.rewriting.specs.Rebuilding.{after, IsLess}
 use Rattle.rewriting.specs.RebuildingContracts.{after_in, IsLessIn}

@@ -1,11 +1,11 @@
 -- A turn keeps every offset within its limit.
 use Rattle.std.proofs.Common.{pos, [], max, nat_lt, Bool, true, false, if◌then◌else◌, ℕ, List, ◌∷◌}
-use Rattle.term_core.specs.Declarations.{Declarations}
-use Rattle.term_core.specs.declared.values.Kind.{Kind}
-use Rattle.term_core.specs.Terms.{Expression, Lit, Yes, Var, Obs, Neg, Num, Cmp, Not, Logic, Cond, Widen, Round, Div, Acc}
-use Rattle.term_core.specs.Kinds.{kind_of, scale_of}
-use Rattle.term_core.specs.Values.{kind_or, value_of}
-use Rattle.term_core.specs.Redexes.{has_literal_operands}
+use Rattle.term_model.specs.Declarations.{Declarations}
+use Rattle.term_model.specs.declared.values.Kind.{Kind}
+use Rattle.term_model.specs.Terms.{Expression, Lit, Yes, Var, Obs, Neg, Num, Cmp, Not, Logic, Cond, Widen, Round, Div, Acc}
+use Rattle.term_model.specs.Kinds.{kind_of, scale_of}
+use Rattle.term_model.specs.Values.{kind_or, value_of}
+use Rattle.term_model.specs.Redexes.{has_literal_operands}
 use Rattle.term_core.specs.SharedTerms.{HasOffsets}
 use Rattle.rewriting.specs.Replacing.{branch_at}
 use Rattle.simplify.specs.Turning.{resolved, choice, is_chosen, rule, turned}

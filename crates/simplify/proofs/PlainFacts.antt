@@ -1,12 +1,12 @@
 -- Where no part is a redex that asks for no frame, none of the kinds that ask for none stands in the contract.
 use Rattle.std.proofs.Common.{◌≡◌, ℤ, pos, ◌-ℤ◌, ◌||◌, ◌==◌, Bool, true, false, Option, None, refl}
-use Rattle.term_core.specs.Declarations.{Declarations}
-use Rattle.term_core.specs.Terms.{Expression, Lit, Yes, Var, Obs, Neg, Num, Cmp, Not, Logic, Cond, Widen, Round, Div, Acc}
-use Rattle.term_core.specs.Terms.{Contract, Zero, Pay, Both, Scale, After, Let, Within}
-use Rattle.term_core.specs.Environments.{Environment}
-use Rattle.term_core.specs.Flows.{count_of}
-use Rattle.term_core.specs.Sites.{OfExpression, OfContract}
-use Rattle.term_core.specs.Redexes.{Redex, EmptyLeft, EmptyRight, ScaledNothing, ZeroFactor, NoDelay, TwoDelays, DelayedNothing, UnusedName, LiteralName, NothingEither, DecidedTest, LiteralOperands, DecidedChoice, FixedPlace, NoSteps, FixedSteps, is_redex, is_literal, has_literal_operands, moved}
+use Rattle.term_model.specs.Declarations.{Declarations}
+use Rattle.term_model.specs.Terms.{Expression, Lit, Yes, Var, Obs, Neg, Num, Cmp, Not, Logic, Cond, Widen, Round, Div, Acc}
+use Rattle.term_model.specs.Terms.{Contract, Zero, Pay, Both, Scale, After, Let, Within}
+use Rattle.term_model.specs.Environments.{Environment}
+use Rattle.term_model.specs.Flows.{count_of}
+use Rattle.term_model.specs.Sites.{OfExpression, OfContract}
+use Rattle.term_model.specs.Redexes.{Redex, EmptyLeft, EmptyRight, ScaledNothing, ZeroFactor, NoDelay, TwoDelays, DelayedNothing, UnusedName, LiteralName, NothingEither, DecidedTest, LiteralOperands, DecidedChoice, FixedPlace, NoSteps, FixedSteps, is_redex, is_literal, has_literal_operands, moved}
 use Rattle.rewriting.specs.Reduced.{IsNoRedex, NoneIn, NoneInContract}
 use Rattle.rewriting.proofs.ReducedFacts.{reduced_by_structure}
 use Rattle.simplify.specs.Turning.{is_chosen, is_plain_redex, HasNoPlain}

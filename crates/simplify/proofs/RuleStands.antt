@@ -1,16 +1,16 @@
 -- What the rule makes of an expression may stand in its place.
 use Rattle.std.proofs.Common.{◌≡◌, ℕ, pos, ◌&&◌, Bool, true, false, if◌then◌else◌, Option, Some, List, ◌∷◌, [], refl, ap, sym, subst, ◌∙◌}
-use Rattle.term_core.specs.Declarations.{Declarations}
-use Rattle.term_core.specs.declared.terms.LogicOp.{LogicOp}
-use Rattle.term_core.specs.declared.terms.LogicOp.TheVariants.{And, Or}
-use Rattle.term_core.specs.declared.values.Kind.{Kind}
-use Rattle.term_core.specs.declared.values.Kind.TheVariants.{Truth as TruthKind}
-use Rattle.term_core.specs.declared.values.Value.{Value}
-use Rattle.term_core.specs.Terms.{Expression, Lit, Yes, Var, Obs, Neg, Num, Cmp, Not, Logic, Cond, Widen, Round, Div, Acc}
-use Rattle.term_core.specs.Kinds.{kind_of, scale_of, on_truth}
-use Rattle.term_core.specs.Values.{Entry, kind_or, value_of}
-use Rattle.term_core.specs.Redexes.{is_literal, has_literal_operands, names_within}
-use Rattle.term_core.specs.Bounds.{Interval, Range, range_kinds, single, interval_of}
+use Rattle.term_model.specs.Declarations.{Declarations}
+use Rattle.term_model.specs.declared.terms.LogicOp.{LogicOp}
+use Rattle.term_model.specs.declared.terms.LogicOp.TheVariants.{And, Or}
+use Rattle.term_model.specs.declared.values.Kind.{Kind}
+use Rattle.term_model.specs.declared.values.Kind.TheVariants.{Truth as TruthKind}
+use Rattle.term_model.specs.declared.values.Value.{Value}
+use Rattle.term_model.specs.Terms.{Expression, Lit, Yes, Var, Obs, Neg, Num, Cmp, Not, Logic, Cond, Widen, Round, Div, Acc}
+use Rattle.term_model.specs.Kinds.{kind_of, scale_of, on_truth}
+use Rattle.term_model.specs.Values.{Entry, kind_or, value_of}
+use Rattle.term_model.specs.Redexes.{is_literal, has_literal_operands, names_within}
+use Rattle.term_model.specs.Bounds.{Interval, Range, range_kinds, single, interval_of}
 use Rattle.interval_check.specs.Nodes.{IsSortedPart, MeetsRules}
 use Rattle.interval_check.specs.Narrowing.{IsNarrower, AreNarrower}
 use Rattle.interval_check.specs.Within.{AreWithin, KeepsLimits}

@@ -1,15 +1,15 @@
 -- Truth values have the interval of 0.
 use Rattle.std.proofs.Common.{◌≡◌, ℕ, zero, suc, pos, ◌-◌, Option, Some, None, List, ◌∷◌, [], slice_get, refl, ap, ap₂, ◌∙◌}
 use Rattle.decimal.specs.Rounding.{raised}
-use Rattle.term_core.specs.declared.label.Label.{Label}
-use Rattle.term_core.specs.declared.label.Label.TheVariants.{Number as NumberLabel, Flag}
-use Rattle.term_core.specs.declared.values.Kind.{Kind}
-use Rattle.term_core.specs.declared.values.Kind.TheVariants.{Truth as TruthKind, Number}
-use Rattle.term_core.specs.Terms.{Lit, Yes, Var, Obs, Neg, Num, Cmp, Not, Logic, Cond, Widen, Round, Div, Acc}
-use Rattle.term_core.specs.Environments.{label_of}
-use Rattle.term_core.specs.Kinds.{kind_of, kind_of_label, scale_of, scale_or_zero, scale_of_kind, scale_of_op, joined, of_acc}
-use Rattle.term_core.specs.Values.{kind_or}
-use Rattle.term_core.specs.Bounds.{Interval, Range, range_kinds, single, lifted, hull, aligned, stepped, interval_of, interval_of_label, interval_of_range}
+use Rattle.term_model.specs.declared.label.Label.{Label}
+use Rattle.term_model.specs.declared.label.Label.TheVariants.{Number as NumberLabel, Flag}
+use Rattle.term_model.specs.declared.values.Kind.{Kind}
+use Rattle.term_model.specs.declared.values.Kind.TheVariants.{Truth as TruthKind, Number}
+use Rattle.term_model.specs.Terms.{Lit, Yes, Var, Obs, Neg, Num, Cmp, Not, Logic, Cond, Widen, Round, Div, Acc}
+use Rattle.term_model.specs.Environments.{label_of}
+use Rattle.term_model.specs.Kinds.{kind_of, kind_of_label, scale_of, scale_or_zero, scale_of_kind, scale_of_op, joined, of_acc}
+use Rattle.term_model.specs.Values.{kind_or}
+use Rattle.term_model.specs.Bounds.{Interval, Range, range_kinds, single, lifted, hull, aligned, stepped, interval_of, interval_of_label, interval_of_range}
 use Rattle.interval_check.proofs.KindsFound.{one_number, two_numbers, truth_then}
 use Rattle.simplify.specs.LawsRulesStand.{TruthsAreNothing, TruthsHaveNothing}
 

@@ -1,6 +1,6 @@
 -- A turn of an accepted contract is accepted.
 use Rattle.std.proofs.Common.{[]}
-use Rattle.term_core.proofs.TimeFacts.{times_mean_typed}
+use Rattle.term_model.proofs.TimeFacts.{times_mean_typed}
 use Rattle.interval_check.proofs.GuaranteeFacts.{accepted_meet_rules, rules_are_by_structure}
 use Rattle.simplify.specs.TurningContracts.{turned_in}
 use Rattle.simplify.proofs.TurnTimes.{turns_keep_types}

@@ -1,12 +1,12 @@
 -- Turns end.
 use Rattle.rewriting.proofs.SizeFacts.{some_size}
 use Rattle.std.proofs.Common.{◌≡◌, ℕ, ◌+◌, ◌<◌, ◌≤◌, ◌||◌, Bool, true, false, max, nat_lt, List, ◌∷◌, if◌then◌else◌, refl, ap, ap₂, sym, subst, ◌∙◌, inl, inr, ◌⊎◌, arith}
-use Rattle.term_core.specs.Declarations.{Declarations}
-use Rattle.term_core.specs.declared.values.Kind.{Kind}
-use Rattle.term_core.specs.Terms.{Expression, Lit, Yes, Var, Obs, Neg, Num, Cmp, Not, Logic, Cond, Widen, Round, Div, Acc}
-use Rattle.term_core.specs.Kinds.{kind_of, scale_of}
-use Rattle.term_core.specs.Values.{kind_or}
-use Rattle.term_core.specs.Redexes.{has_literal_operands}
+use Rattle.term_model.specs.Declarations.{Declarations}
+use Rattle.term_model.specs.declared.values.Kind.{Kind}
+use Rattle.term_model.specs.Terms.{Expression, Lit, Yes, Var, Obs, Neg, Num, Cmp, Not, Logic, Cond, Widen, Round, Div, Acc}
+use Rattle.term_model.specs.Kinds.{kind_of, scale_of}
+use Rattle.term_model.specs.Values.{kind_or}
+use Rattle.term_model.specs.Redexes.{has_literal_operands}
 use Rattle.rewriting.specs.Replacing.{branch_at}
 use Rattle.rewriting.specs.Measures.{size}
 use Rattle.simplify.specs.Turning.{is_chosen, is_plain_redex, resolved, choice, rule, HasNoPlain, IsTurn, TurnsEnd}

@@ -1,19 +1,19 @@
 -- A turn of a contract may stand in its place.
 use Rattle.std.proofs.Common.{◌≡◌, ℕ, ℤ, pos, ◌+ℤ◌, ◌-◌, IsTrue, is_some, Option, Some, None, List, [], ◌∷◌, refl, ap, ap₂, sym, subst, ◌∙◌}
 use Rattle.decimal.specs.Rounding.{raised}
-use Rattle.term_core.specs.Declarations.{Declarations}
-use Rattle.term_core.specs.declared.values.Kind.{Kind}
-use Rattle.term_core.specs.declared.values.Kind.TheVariants.{Truth as TruthKind, Number}
-use Rattle.term_core.specs.declared.values.Value.{Value}
-use Rattle.term_core.specs.Terms.{Expression, Contract, Zero, Pay, Both, Scale, After, Let, Within}
-use Rattle.term_core.specs.Environments.{Environment, IsAdmitted}
-use Rattle.term_core.specs.Kinds.{kind_of, scale_or_zero}
-use Rattle.term_core.specs.Values.{Entry, kinds, truth, kind_or, value_of, first_true, entry_of}
-use Rattle.term_core.specs.Flows.{flow_of, count_of, scale_of_contract}
-use Rattle.term_core.specs.LawsKinds.{IsOfKind, AreOfKinds}
-use Rattle.term_core.specs.Sorts.{is_truth}
-use Rattle.term_core.specs.Bounds.{Range, range_kinds}
-use Rattle.term_core.proofs.KindFacts.{values_have_kinds}
+use Rattle.term_model.specs.Declarations.{Declarations}
+use Rattle.term_model.specs.declared.values.Kind.{Kind}
+use Rattle.term_model.specs.declared.values.Kind.TheVariants.{Truth as TruthKind, Number}
+use Rattle.term_model.specs.declared.values.Value.{Value}
+use Rattle.term_model.specs.Terms.{Expression, Contract, Zero, Pay, Both, Scale, After, Let, Within}
+use Rattle.term_model.specs.Environments.{Environment, IsAdmitted}
+use Rattle.term_model.specs.Kinds.{kind_of, scale_or_zero}
+use Rattle.term_model.specs.Values.{Entry, kinds, truth, kind_or, value_of, first_true, entry_of}
+use Rattle.term_model.specs.Flows.{flow_of, count_of, scale_of_contract}
+use Rattle.term_model.specs.LawsKinds.{IsOfKind, AreOfKinds}
+use Rattle.term_model.specs.Sorts.{is_truth}
+use Rattle.term_model.specs.Bounds.{Range, range_kinds}
+use Rattle.term_model.proofs.KindFacts.{values_have_kinds}
 use Rattle.interval_check.specs.Nodes.{IsSortedPart, IsSortedContract, range_of}
 use Rattle.interval_check.proofs.GuaranteeFacts.{rules_are_by_structure}
 use Rattle.interval_check.proofs.NodeTests.{at_root}

@@ -1,12 +1,12 @@
 -- A turn keeps the form of an expression.
 use Rattle.std.proofs.Common.{◌≡◌, ℕ, IsTrue, nat_le, Option, Some, List, ◌∷◌, refl, ap, ap₂, sym, subst, ◌∙◌}
-use Rattle.term_core.specs.Declarations.{Declarations}
-use Rattle.term_core.specs.declared.values.Kind.{Kind}
-use Rattle.term_core.specs.declared.values.Kind.TheVariants.{Truth as TruthKind, Number}
-use Rattle.term_core.specs.Terms.{Expression, Lit, Yes, Var, Obs, Neg, Num, Cmp, Not, Logic, Cond, Widen, Round, Div, Acc}
-use Rattle.term_core.specs.Kinds.{kind_of, scale_of, scale_or_zero, scale_of_op, on_number, on_numbers, on_truth, joined}
-use Rattle.term_core.specs.Values.{kind_or}
-use Rattle.term_core.specs.Bounds.{Range, range_kinds}
+use Rattle.term_model.specs.Declarations.{Declarations}
+use Rattle.term_model.specs.declared.values.Kind.{Kind}
+use Rattle.term_model.specs.declared.values.Kind.TheVariants.{Truth as TruthKind, Number}
+use Rattle.term_model.specs.Terms.{Expression, Lit, Yes, Var, Obs, Neg, Num, Cmp, Not, Logic, Cond, Widen, Round, Div, Acc}
+use Rattle.term_model.specs.Kinds.{kind_of, scale_of, scale_or_zero, scale_of_op, on_number, on_numbers, on_truth, joined}
+use Rattle.term_model.specs.Values.{kind_or}
+use Rattle.term_model.specs.Bounds.{Range, range_kinds}
 use Rattle.interval_check.specs.Nodes.{IsSorted, IsScaled, is_sorted_part, is_scaled_part, range_after}
 use Rattle.rewriting.specs.Replacing.{KeepsForm}
 use Rattle.interval_check.proofs.KindsEnough.{kinds_are_enough}

@@ -3,21 +3,21 @@ use Rattle.std.proofs.Common.{◌≡◌, ℕ, zero, suc, ℤ, pos, ◌+ℤ◌, �
 use Rattle.std.proofs.lemmas.Int.{ints}
 use Rattle.std.proofs.lemmas.Bool.Decides.{nat_tests}
 use Rattle.decimal.specs.Rounding.{raised, at_scale, divided}
-use Rattle.term_core.specs.Declarations.{Declarations}
-use Rattle.term_core.specs.declared.terms.LogicOp.{LogicOp}
-use Rattle.term_core.specs.declared.terms.LogicOp.TheVariants.{And, Or}
-use Rattle.term_core.specs.declared.values.Kind.{Kind}
-use Rattle.term_core.specs.declared.values.Kind.TheVariants.{Truth as TruthKind, Number}
-use Rattle.term_core.specs.declared.values.Value.{Value}
-use Rattle.term_core.specs.declared.values.Value.TheVariants.{Num as Amount, Truth}
-use Rattle.term_core.specs.Terms.{Expression, Lit, Yes, Var, Obs, Neg, Num, Cmp, Not, Logic, Cond, Widen, Round, Div, Acc}
-use Rattle.term_core.specs.Environments.{Environment, IsAdmitted}
-use Rattle.term_core.specs.Kinds.{kind_of, scale_of, scale_or_zero, scale_of_kind, on_number, on_numbers, on_truth, joined, of_acc, scale_of_op}
-use Rattle.term_core.specs.Values.{Entry, kinds, num, truth, of_num, of_cmp, logic_op, widened, kind_or, value_of, days_run}
-use Rattle.term_core.specs.LawsKinds.{IsOfKind, AreOfKinds}
-use Rattle.term_core.specs.Redexes.{has_literal_operands}
-use Rattle.term_core.proofs.KindFacts.{values_have_kinds}
-use Rattle.term_core.proofs.ShiftFacts.{of_two}
+use Rattle.term_model.specs.Declarations.{Declarations}
+use Rattle.term_model.specs.declared.terms.LogicOp.{LogicOp}
+use Rattle.term_model.specs.declared.terms.LogicOp.TheVariants.{And, Or}
+use Rattle.term_model.specs.declared.values.Kind.{Kind}
+use Rattle.term_model.specs.declared.values.Kind.TheVariants.{Truth as TruthKind, Number}
+use Rattle.term_model.specs.declared.values.Value.{Value}
+use Rattle.term_model.specs.declared.values.Value.TheVariants.{Num as Amount, Truth}
+use Rattle.term_model.specs.Terms.{Expression, Lit, Yes, Var, Obs, Neg, Num, Cmp, Not, Logic, Cond, Widen, Round, Div, Acc}
+use Rattle.term_model.specs.Environments.{Environment, IsAdmitted}
+use Rattle.term_model.specs.Kinds.{kind_of, scale_of, scale_or_zero, scale_of_kind, on_number, on_numbers, on_truth, joined, of_acc, scale_of_op}
+use Rattle.term_model.specs.Values.{Entry, kinds, num, truth, of_num, of_cmp, logic_op, widened, kind_or, value_of, days_run}
+use Rattle.term_model.specs.LawsKinds.{IsOfKind, AreOfKinds}
+use Rattle.term_model.specs.Redexes.{has_literal_operands}
+use Rattle.term_model.proofs.KindFacts.{values_have_kinds}
+use Rattle.term_model.proofs.ShiftFacts.{of_two}
 use Rattle.rewriting.specs.Replacing.{branch_at}
 use Rattle.interval_check.proofs.KindsFound.{one_number, two_numbers, truth_then, branches, days}
 use Rattle.simplify.specs.Turning.{is_chosen, resolved, choice, rule, turned}

@@ -1,19 +1,19 @@
 -- A turn of an expression reads nothing that the expression does not read.
 use Rattle.std.proofs.Common.{◌≡◌, ℕ, zero, suc, ℤ, pos, ◌+ℤ◌, ◌-ℤ◌, max, nat_lt, Bool, true, false, if◌then◌else◌, Option, Some, List, ◌∷◌, [], ◌++◌, refl, ap, ap₂, sym, subst, ◌∙◌, arith}
 use Rattle.std.proofs.lemmas.Int.{ints}
-use Rattle.term_core.specs.Declarations.{Declarations}
-use Rattle.term_core.specs.declared.terms.LogicOp.{LogicOp}
-use Rattle.term_core.specs.declared.terms.LogicOp.TheVariants.{And, Or}
-use Rattle.term_core.specs.declared.values.Kind.{Kind}
-use Rattle.term_core.specs.declared.values.Kind.TheVariants.{Truth as TruthKind, Number}
-use Rattle.term_core.specs.declared.values.Value.{Value}
-use Rattle.term_core.specs.Terms.{Expression, Lit, Yes, Var, Obs, Neg, Num, Cmp, Not, Logic, Cond, Widen, Round, Div, Acc}
-use Rattle.term_core.specs.Environments.{Environment, Place}
-use Rattle.term_core.specs.Kinds.{kind_of, scale_of, scale_of_kind, scale_or_zero, scale_of_op, on_number, on_numbers, on_truth, joined}
-use Rattle.term_core.specs.Values.{Entry, kinds, truth, widened, kind_or, value_of, days_run}
-use Rattle.term_core.specs.LawsKinds.{IsOfKind}
-use Rattle.term_core.specs.Reads.{reads_of, steps_before, decides}
-use Rattle.term_core.specs.Redexes.{has_literal_operands}
+use Rattle.term_model.specs.Declarations.{Declarations}
+use Rattle.term_model.specs.declared.terms.LogicOp.{LogicOp}
+use Rattle.term_model.specs.declared.terms.LogicOp.TheVariants.{And, Or}
+use Rattle.term_model.specs.declared.values.Kind.{Kind}
+use Rattle.term_model.specs.declared.values.Kind.TheVariants.{Truth as TruthKind, Number}
+use Rattle.term_model.specs.declared.values.Value.{Value}
+use Rattle.term_model.specs.Terms.{Expression, Lit, Yes, Var, Obs, Neg, Num, Cmp, Not, Logic, Cond, Widen, Round, Div, Acc}
+use Rattle.term_model.specs.Environments.{Environment, Place}
+use Rattle.term_model.specs.Kinds.{kind_of, scale_of, scale_of_kind, scale_or_zero, scale_of_op, on_number, on_numbers, on_truth, joined}
+use Rattle.term_model.specs.Values.{Entry, kinds, truth, widened, kind_or, value_of, days_run}
+use Rattle.term_model.specs.LawsKinds.{IsOfKind}
+use Rattle.term_model.specs.Reads.{reads_of, steps_before, decides}
+use Rattle.term_model.specs.Redexes.{has_literal_operands}
 use Rattle.rewriting.specs.Replacing.{branch_at}
 use Rattle.interval_check.proofs.KindsFound.{one_number, two_numbers, truth_then, branches, days}
 use Rattle.rewriting.proofs.Among.{among_none, among_same, among_both, among_left, then_among, among_steps, among_chosen, one_name_more}

@@ -1,12 +1,12 @@
 -- A turn may stand in the place of what is turned.
 use Rattle.std.proofs.Common.{◌≡◌, ℕ, pos, ◌<◌, ◌≤◌, Option, Some, List, ◌∷◌, [], refl, ap, sym, subst, ◌∙◌, inl, inr, arith}
-use Rattle.term_core.specs.Declarations.{Declarations}
-use Rattle.term_core.specs.declared.values.Kind.{Kind}
-use Rattle.term_core.specs.Terms.{Expression, Lit, Yes, Var, Obs, Neg, Num, Cmp, Not, Logic, Cond, Widen, Round, Div, Acc}
-use Rattle.term_core.specs.Terms.{Contract, Zero, Pay, Both, Scale, After, Let, Within}
-use Rattle.term_core.specs.Kinds.{kind_of}
-use Rattle.term_core.specs.Values.{Entry, kind_or}
-use Rattle.term_core.specs.Bounds.{Range, range_kinds, interval_of}
+use Rattle.term_model.specs.Declarations.{Declarations}
+use Rattle.term_model.specs.declared.values.Kind.{Kind}
+use Rattle.term_model.specs.Terms.{Expression, Lit, Yes, Var, Obs, Neg, Num, Cmp, Not, Logic, Cond, Widen, Round, Div, Acc}
+use Rattle.term_model.specs.Terms.{Contract, Zero, Pay, Both, Scale, After, Let, Within}
+use Rattle.term_model.specs.Kinds.{kind_of}
+use Rattle.term_model.specs.Values.{Entry, kind_or}
+use Rattle.term_model.specs.Bounds.{Range, range_kinds, interval_of}
 use Rattle.interval_check.specs.Nodes.{MeetsRules, range_of, range_after}
 use Rattle.interval_check.specs.Narrowing.{AreNarrower}
 use Rattle.interval_check.specs.Within.{AreWithin, KeepsLimits}

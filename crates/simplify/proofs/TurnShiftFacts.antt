@@ -1,14 +1,14 @@
 -- A turn sees no offsets.
 use Rattle.std.proofs.Common.{◌≡◌, ℕ, ℤ, max, nat_lt, ◌&&◌, Bool, true, false, if◌then◌else◌, Option, List, ◌∷◌, refl, ap, ap₂, ◌∙◌}
-use Rattle.term_core.specs.Declarations.{Declarations}
-use Rattle.term_core.specs.declared.values.Kind.{Kind}
-use Rattle.term_core.specs.Terms.{Expression, Lit, Yes, Var, Obs, Neg, Num, Cmp, Not, Logic, Cond, Widen, Round, Div, Acc}
-use Rattle.term_core.specs.Kinds.{kind_of, scale_of, scale_or_zero}
-use Rattle.term_core.specs.Values.{kind_or}
-use Rattle.term_core.specs.Reads.{decides}
-use Rattle.term_core.specs.Redexes.{is_literal, has_literal_operands}
-use Rattle.term_core.specs.Shifts.{shifted}
-use Rattle.term_core.proofs.ShiftFacts.{kind-shifted}
+use Rattle.term_model.specs.Declarations.{Declarations}
+use Rattle.term_model.specs.declared.values.Kind.{Kind}
+use Rattle.term_model.specs.Terms.{Expression, Lit, Yes, Var, Obs, Neg, Num, Cmp, Not, Logic, Cond, Widen, Round, Div, Acc}
+use Rattle.term_model.specs.Kinds.{kind_of, scale_of, scale_or_zero}
+use Rattle.term_model.specs.Values.{kind_or}
+use Rattle.term_model.specs.Reads.{decides}
+use Rattle.term_model.specs.Redexes.{is_literal, has_literal_operands}
+use Rattle.term_model.specs.Shifts.{shifted}
+use Rattle.term_model.proofs.ShiftFacts.{kind-shifted}
 use Rattle.rewriting.specs.Replacing.{branch_at}
 use Rattle.simplify.specs.Turning.{is_chosen, resolved, choice, rule, turned}
 use Rattle.simplify.specs.LawsTurnShifts.{TurnsSeeNoOffsets}

@@ -1,18 +1,18 @@
 -- What meets the rules can be turned, over contracts with shared parts.
 use Rattle.std.proofs.Common.{◌≡◌, ℕ, pos, ◌+◌, ◌<◌, ◌≤◌, ◌^◌, Option, Some, ℤ, true, false, List, ◌∷◌, [], refl, ap, subst, ◌∙◌, arith}
-use Rattle.term_core.specs.Declarations.{Declarations}
-use Rattle.term_core.specs.declared.values.Kind.{Kind}
-use Rattle.term_core.specs.declared.values.Kind.TheVariants.{Truth as TruthKind}
+use Rattle.term_model.specs.Declarations.{Declarations}
+use Rattle.term_model.specs.declared.values.Kind.{Kind}
+use Rattle.term_model.specs.declared.values.Kind.TheVariants.{Truth as TruthKind}
 use Rattle.term_core.specs.declared.shared.SharedContr.{SharedContr}
 use Rattle.term_core.specs.declared.shared.SharedContr.TheVariants.{Zero as Zero', Pay as Pay', Both', Scale', After', Let', Within'}
 use Rattle.term_core.specs.SharedTerms.{shared}
-use Rattle.term_core.specs.Shifts.{shifted}
-use Rattle.term_core.specs.Terms.{Expression, expression, Lit, Yes, Contract, Zero, Pay, Both, Scale, After, Let, Within}
-use Rattle.term_core.specs.Kinds.{kind_of}
-use Rattle.term_core.specs.Sizes.{height_of_contract, reach}
-use Rattle.term_core.specs.Values.{Entry, kind_or}
-use Rattle.term_core.specs.Bounds.{Range, range_kinds}
-use Rattle.term_core.proofs.ShiftFacts.{kind-shifted}
+use Rattle.term_model.specs.Shifts.{shifted}
+use Rattle.term_model.specs.Terms.{Expression, expression, Lit, Yes, Contract, Zero, Pay, Both, Scale, After, Let, Within}
+use Rattle.term_model.specs.Kinds.{kind_of}
+use Rattle.term_model.specs.Sizes.{height_of_contract, reach}
+use Rattle.term_model.specs.Values.{Entry, kind_or}
+use Rattle.term_model.specs.Bounds.{Range, range_kinds}
+use Rattle.term_model.proofs.ShiftFacts.{kind-shifted}
 use Rattle.interval_check.specs.Nodes.{MeetsRules, ContractMeetsRules, range_of}
 use Rattle.interval_check.specs.Narrowing.{AreNarrower}
 use Rattle.interval_check.specs.RangeTrials.{kind_found}

@@ -2,11 +2,11 @@
 use Rattle.std.proofs.Common.{◌≡◌, ℤ, Option, Result, Ok, Err, IfOk, List, ap, ap₂, sym, ◌∙◌}
 use Rattle.std.specs.declared.rc.Rc.{Rc}
 use Rattle.std.specs.Global.{Global}
-use Rattle.term_core.specs.Declarations.{Declarations}
+use Rattle.term_model.specs.Declarations.{Declarations}
 use Rattle.term_core.specs.declared.shared.SharedContr.{SharedContr}
-use Rattle.term_core.specs.declared.values.Kind.{Kind}
-use Rattle.term_core.specs.Shifts.{shifted}
-use Rattle.term_core.specs.Terms.{Expression, Contract, Scale}
+use Rattle.term_model.specs.declared.values.Kind.{Kind}
+use Rattle.term_model.specs.Shifts.{shifted}
+use Rattle.term_model.specs.Terms.{Expression, Contract, Scale}
 use Rattle.rewriting.specs.RebuildingContracts.{after_in}
 use Rattle.simplify.specs.Turning.{turned}
 use Rattle.simplify.specs.TurningContracts.{rule_in, turned_in}

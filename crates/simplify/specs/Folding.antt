@@ -1,7 +1,7 @@
 -- What an operator on literals comes to: the literal of its value. And what that asks, so that the numbers fit 128 bits.
 use Rattle.std.specs.Prelude.{Option, Some, None, not}
-use Rattle.term_core.specs.declared.values.Kind.TheVariants.{Number}
-use Rattle.term_core.specs.Terms.{Expression, Lit, Yes, Neg, Num, Cmp, Not, Widen, Round, Div}
+use Rattle.term_model.specs.declared.values.Kind.TheVariants.{Number}
+use Rattle.term_model.specs.Terms.{Expression, Lit, Yes, Neg, Num, Cmp, Not, Widen, Round, Div}
 use Rattle.rewriting.specs.Replacing.{literal_of}
 use Rattle.expr_eval.specs.declared.operations.Typed.{Typed}
 use Rattle.expr_eval.specs.declared.operations.Operands.{Operands}

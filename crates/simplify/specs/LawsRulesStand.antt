@@ -1,12 +1,12 @@
 -- What a rule of the simplifier makes may stand in the place of what it is applied to, for the rules on sorts, scales and
 -- bounds.
 use Rattle.std.specs.Prelude.{pos, ◌≡◌, List, [], ◌∷◌, Some}
-use Rattle.term_core.specs.Declarations.{Declarations}
-use Rattle.term_core.specs.declared.values.Kind.TheVariants.{Truth as TruthKind}
-use Rattle.term_core.specs.Terms.{Expression, Contract}
-use Rattle.term_core.specs.Kinds.{kind_of}
-use Rattle.term_core.specs.Values.{Entry}
-use Rattle.term_core.specs.Bounds.{Range, range_kinds, single, interval_of}
+use Rattle.term_model.specs.Declarations.{Declarations}
+use Rattle.term_model.specs.declared.values.Kind.TheVariants.{Truth as TruthKind}
+use Rattle.term_model.specs.Terms.{Expression, Contract}
+use Rattle.term_model.specs.Kinds.{kind_of}
+use Rattle.term_model.specs.Values.{Entry}
+use Rattle.term_model.specs.Bounds.{Range, range_kinds, single, interval_of}
 use Rattle.interval_check.specs.Nodes.{MeetsRules, ContractMeetsRules}
 use Rattle.interval_check.specs.Narrowing.{AreNarrower}
 use Rattle.interval_check.specs.Within.{AreWithin, KeepsLimits}

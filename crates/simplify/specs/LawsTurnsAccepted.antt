@@ -1,10 +1,10 @@
 -- A turn of an accepted contract keeps the rules.
 use Rattle.std.specs.Prelude.{List}
-use Rattle.term_core.specs.Declarations.{Declarations}
-use Rattle.term_core.specs.declared.rules.Rule.TheVariants.{Size}
-use Rattle.term_core.specs.declared.values.Kind.{Kind}
-use Rattle.term_core.specs.Terms.{Contract}
-use Rattle.term_core.specs.Acceptance.{Meets}
+use Rattle.term_model.specs.Declarations.{Declarations}
+use Rattle.term_model.specs.declared.rules.Rule.TheVariants.{Size}
+use Rattle.term_model.specs.declared.values.Kind.{Kind}
+use Rattle.term_model.specs.Terms.{Contract}
+use Rattle.term_model.specs.Acceptance.{Meets}
 use Rattle.rewriting.specs.Keeping.{KeepsTypes, StaysWellFormed}
 use Rattle.simplify.specs.TurningContracts.{turned_in}
 

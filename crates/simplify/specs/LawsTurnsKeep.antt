@@ -1,18 +1,18 @@
 -- What a turn of the simplifier keeps of a contract.
 use Rattle.std.specs.Prelude.{ℤ, ◌≤◌, ◌≡◌, true, List, [], ◌∷◌, Some}
-use Rattle.term_core.specs.Declarations.{Declarations}
-use Rattle.term_core.specs.declared.rules.Rule.TheVariants.{Sort}
-use Rattle.term_core.specs.declared.values.Kind.{Kind}
-use Rattle.term_core.specs.declared.values.Kind.TheVariants.{Truth as TruthKind}
-use Rattle.term_core.specs.Terms.{Expression, Contract, Zero, Pay, Both, Scale, After, Let, Within}
-use Rattle.term_core.specs.Environments.{Environment, Place, IsAdmitted}
-use Rattle.term_core.specs.Reads.{reads_of, reads_of_contract, live}
-use Rattle.term_core.specs.Residuals.{Carries}
-use Rattle.term_core.specs.Kinds.{kind_of}
-use Rattle.term_core.specs.Values.{Entry, kinds, kind_or}
-use Rattle.term_core.specs.LawsKinds.{AreOfKinds}
-use Rattle.term_core.specs.Flows.{Flow, amount_of, scale_of_contract}
-use Rattle.term_core.specs.Acceptance.{Meets}
+use Rattle.term_model.specs.Declarations.{Declarations}
+use Rattle.term_model.specs.declared.rules.Rule.TheVariants.{Sort}
+use Rattle.term_model.specs.declared.values.Kind.{Kind}
+use Rattle.term_model.specs.declared.values.Kind.TheVariants.{Truth as TruthKind}
+use Rattle.term_model.specs.Terms.{Expression, Contract, Zero, Pay, Both, Scale, After, Let, Within}
+use Rattle.term_model.specs.Environments.{Environment, Place, IsAdmitted}
+use Rattle.term_model.specs.Reads.{reads_of, reads_of_contract, live}
+use Rattle.term_model.specs.Residuals.{Carries}
+use Rattle.term_model.specs.Kinds.{kind_of}
+use Rattle.term_model.specs.Values.{Entry, kinds, kind_or}
+use Rattle.term_model.specs.LawsKinds.{AreOfKinds}
+use Rattle.term_model.specs.Flows.{Flow, amount_of, scale_of_contract}
+use Rattle.term_model.specs.Acceptance.{Meets}
 use Rattle.rewriting.specs.Keeping.{AreAmong, NamesReadLess}
 use Rattle.rewriting.specs.Worth.{IsWorthTheSame}
 use Rattle.simplify.specs.Turning.{turned}

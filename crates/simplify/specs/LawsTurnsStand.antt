@@ -1,10 +1,10 @@
 -- A turn may stand in the place of what is turned, and is accepted where that is.
 use Rattle.std.specs.Prelude.{List, []}
-use Rattle.term_core.specs.Declarations.{Declarations}
-use Rattle.term_core.specs.Terms.{Expression, Contract}
-use Rattle.term_core.specs.Values.{Entry}
-use Rattle.term_core.specs.Acceptance.{IsAccepted}
-use Rattle.term_core.specs.Bounds.{Range, range_kinds}
+use Rattle.term_model.specs.Declarations.{Declarations}
+use Rattle.term_model.specs.Terms.{Expression, Contract}
+use Rattle.term_model.specs.Values.{Entry}
+use Rattle.term_model.specs.Acceptance.{IsAccepted}
+use Rattle.term_model.specs.Bounds.{Range, range_kinds}
 use Rattle.interval_check.specs.Nodes.{IsSorted, IsScaled, MeetsRules, ContractMeetsRules}
 use Rattle.interval_check.specs.Within.{KeepsLimits}
 use Rattle.rewriting.specs.Replacing.{Replaces, KeepsForm, ReplacesContract}

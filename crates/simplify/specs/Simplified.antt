@@ -1,13 +1,13 @@
 -- What the simplifier promises of a contract k that it makes of a contract c.
 use Rattle.std.specs.Prelude.{ℕ, ℤ, pos, ◌≡◌, [], Option}
-use Rattle.term_core.specs.Declarations.{Declarations}
-use Rattle.term_core.specs.Terms.{Contract}
-use Rattle.term_core.specs.Environments.{Environment, IsAdmitted}
-use Rattle.term_core.specs.Flows.{Flow, amount_of}
-use Rattle.term_core.specs.Reads.{reads_of_contract}
-use Rattle.term_core.specs.Redexes.{Redex, HasNone}
-use Rattle.term_core.specs.Acceptance.{IsAccepted}
-use Rattle.term_core.specs.Literals.{HasLiteralsIn}
+use Rattle.term_model.specs.Declarations.{Declarations}
+use Rattle.term_model.specs.Terms.{Contract}
+use Rattle.term_model.specs.Environments.{Environment, IsAdmitted}
+use Rattle.term_model.specs.Flows.{Flow, amount_of}
+use Rattle.term_model.specs.Reads.{reads_of_contract}
+use Rattle.term_model.specs.Redexes.{Redex, HasNone}
+use Rattle.term_model.specs.Acceptance.{IsAccepted}
+use Rattle.term_model.specs.Literals.{HasLiteralsIn}
 use Rattle.rewriting.specs.Keeping.{AreAmong, IsNoLargerIn, StaysClosed}
 use Rattle.simplify.specs.TurningContracts.{IsPlainKind}
 

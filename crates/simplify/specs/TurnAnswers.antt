@@ -2,15 +2,15 @@
 use Rattle.std.specs.Prelude.{◌≡◌, ◌≤◌, Option, List}
 use Rattle.std.specs.declared.rc.Rc.{Rc}
 use Rattle.std.specs.Global.{Global}
-use Rattle.term_core.specs.Declarations.{Declarations}
-use Rattle.term_core.specs.declared.terms.Expr.{Expr}
-use Rattle.term_core.specs.declared.terms.LogicOp.{LogicOp}
+use Rattle.term_model.specs.Declarations.{Declarations}
+use Rattle.term_model.specs.declared.terms.Expr.{Expr}
+use Rattle.term_model.specs.declared.terms.LogicOp.{LogicOp}
 use Rattle.term_core.specs.declared.shared.SharedContr.{SharedContr}
-use Rattle.term_core.specs.declared.values.Kind.{Kind}
-use Rattle.term_core.specs.declared.values.Kind.TheVariants.{Truth, Number}
-use Rattle.term_core.specs.Terms.{Expression, expression, Neg, Num, Logic, Widen, Round, Div}
-use Rattle.term_core.specs.Kinds.{scale_of_kind, scale_of_op}
-use Rattle.term_core.specs.Scales.{greatest_scale}
+use Rattle.term_model.specs.declared.values.Kind.{Kind}
+use Rattle.term_model.specs.declared.values.Kind.TheVariants.{Truth, Number}
+use Rattle.term_model.specs.Terms.{Expression, expression, Neg, Num, Logic, Widen, Round, Div}
+use Rattle.term_model.specs.Kinds.{scale_of_kind, scale_of_op}
+use Rattle.term_model.specs.Scales.{greatest_scale}
 use Rattle.term_core.specs.SharedTerms.{shared}
 use Rattle.rewriting.specs.Rebuilding.{after, choice_after, over_one, over_two}
 use Rattle.rewriting.specs.RebuildingContracts.{after_in}

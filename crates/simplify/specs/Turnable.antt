@@ -1,14 +1,14 @@
 -- What a turn of an expression asks, by structure: at each operator on literals that its numbers fit, at each decision
 -- that it is one by a truth value, and at each binder that its kind is the one that is found on the way.
 use Rattle.std.specs.Prelude.{ℕ, ◌≡◌, ◌≢◌, ◌≤◌, max, Bool, if◌then◌else◌, Option, Some, None, List, ◌∷◌}
-use Rattle.term_core.specs.declared.terms.LogicOp.{LogicOp}
-use Rattle.term_core.specs.Declarations.{Declarations}
-use Rattle.term_core.specs.declared.values.Kind.{Kind}
-use Rattle.term_core.specs.Terms.{Expression, Yes, Neg, Num, Cmp, Not, Logic, Cond, Widen, Round, Div, Acc}
-use Rattle.term_core.specs.Kinds.{kind_of, scale_of_op}
-use Rattle.term_core.specs.Values.{kind_or}
-use Rattle.term_core.specs.Reads.{decides}
-use Rattle.term_core.specs.Scales.{greatest_scale}
+use Rattle.term_model.specs.declared.terms.LogicOp.{LogicOp}
+use Rattle.term_model.specs.Declarations.{Declarations}
+use Rattle.term_model.specs.declared.values.Kind.{Kind}
+use Rattle.term_model.specs.Terms.{Expression, Yes, Neg, Num, Cmp, Not, Logic, Cond, Widen, Round, Div, Acc}
+use Rattle.term_model.specs.Kinds.{kind_of, scale_of_op}
+use Rattle.term_model.specs.Values.{kind_or}
+use Rattle.term_model.specs.Reads.{decides}
+use Rattle.term_model.specs.Scales.{greatest_scale}
 use Rattle.interval_check.specs.RangeTrials.{kind_found}
 use Rattle.rewriting.specs.Replacing.{branch_at}
 use Rattle.simplify.specs.Turning.{turned, rule}

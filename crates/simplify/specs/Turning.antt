@@ -3,15 +3,15 @@
 -- is left.
 use Rattle.rewriting.specs.Measures.{size}
 use Rattle.std.specs.Prelude.{ℤ, pos, Some, ◌<◌, ◌≡◌, ◌⊎◌, ◌||◌, ◌==◌, Bool, false, max, List, [], ◌∷◌, if◌then◌else◌}
-use Rattle.term_core.specs.Declarations.{Declarations}
-use Rattle.term_core.specs.declared.values.Kind.{Kind}
-use Rattle.term_core.specs.Terms.{Expression, Lit, Yes, Var, Obs, Neg, Num, Cmp, Not, Logic, Cond, Widen, Round, Div, Acc}
-use Rattle.term_core.specs.Kinds.{kind_of, scale_of}
-use Rattle.term_core.specs.Environments.{Environment, IsAdmitted}
-use Rattle.term_core.specs.LawsKinds.{AreOfKinds}
-use Rattle.term_core.specs.Values.{Entry, kinds, kind_or, value_of}
-use Rattle.term_core.specs.Reads.{decides}
-use Rattle.term_core.specs.Redexes.{is_literal, has_literal_operands}
+use Rattle.term_model.specs.Declarations.{Declarations}
+use Rattle.term_model.specs.declared.values.Kind.{Kind}
+use Rattle.term_model.specs.Terms.{Expression, Lit, Yes, Var, Obs, Neg, Num, Cmp, Not, Logic, Cond, Widen, Round, Div, Acc}
+use Rattle.term_model.specs.Kinds.{kind_of, scale_of}
+use Rattle.term_model.specs.Environments.{Environment, IsAdmitted}
+use Rattle.term_model.specs.LawsKinds.{AreOfKinds}
+use Rattle.term_model.specs.Values.{Entry, kinds, kind_or, value_of}
+use Rattle.term_model.specs.Reads.{decides}
+use Rattle.term_model.specs.Redexes.{is_literal, has_literal_operands}
 use Rattle.rewriting.specs.Replacing.{literal_of, branch_at}
 
 -- a choice that is decided, or an accumulator of no days

@@ -2,8 +2,8 @@
 //! locals; so whether there are any is asked first.
 
 ghost use Rattle.std.specs.Prelude.{◌≡◌, ◌&&◌};
-ghost use Rattle.term_core.specs.Terms.{expression};
-ghost use Rattle.term_core.specs.Redexes.{has_literal_operands, is_literal};
+ghost use Rattle.term_model.specs.Terms.{expression};
+ghost use Rattle.term_model.specs.Redexes.{has_literal_operands, is_literal};
 ghost use Rattle.rewriting.specs.Measures.{size};
 ghost use Rattle.rewriting.specs.Rebuilding.{after, IsLess};
 ghost use Rattle.simplify.specs.Folding as model;
@@ -13,7 +13,7 @@ use expr_eval::operations::{
     Operands, Typed, at_kind, combine, compare, divide, negate, number, round, verdict,
 };
 use rewriting::literal;
-use term_core::{Expr, Kind};
+use term_model::{Expr, Kind};
 
 /// Whether an expression is a literal.
 pub fn is_literal(e: &Expr) -> bool

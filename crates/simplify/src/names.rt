@@ -1,10 +1,10 @@
 //! The names that stand around a part, by their kinds.
 
 ghost use Rattle.std.specs.Prelude.{◌≡◌, slice_get};
-ghost use Rattle.term_core.specs.Scopes.{held_in};
-ghost use Rattle.term_core.specs.Values.{kind_or};
+ghost use Rattle.term_model.specs.Scopes.{held_in};
+ghost use Rattle.term_model.specs.Values.{kind_or};
 
-use term_core::{Kind, Scope, held_at};
+use term_model::{Kind, Scope, held_at};
 
 /// The kind of the name that is bound `back` binders further out than the innermost; a name without
 /// a binder, which no accepted term has, is a truth value.

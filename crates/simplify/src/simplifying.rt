@@ -1,9 +1,9 @@
 //! The simplifier: turns, until one changes nothing.
 
 ghost use Rattle.std.specs.Prelude.{[], IfOk};
-ghost use Rattle.term_core.specs.Declarations.{declarations};
-ghost use Rattle.term_core.specs.Terms.{contract};
-ghost use Rattle.term_core.specs.Acceptance.{IsAccepted};
+ghost use Rattle.term_model.specs.Declarations.{declarations};
+ghost use Rattle.term_model.specs.Terms.{contract};
+ghost use Rattle.term_model.specs.Acceptance.{IsAccepted};
 ghost use Rattle.term_core.specs.SharedTerms.{shared, StoresOffsets};
 ghost use Rattle.rewriting.specs.RebuildingContracts.{IsLessIn, NewStoresOffsets};
 ghost use Rattle.specialise.specs.Specialised.{StandsAlone};
@@ -14,7 +14,8 @@ use crate::contracts::turn_in;
 use decimal::NoMemory;
 use std::alloc::Global;
 use std::rc::Rc;
-use term_core::{Contr, Decls, Scope, SharedContr, share, unshare};
+use term_model::{Contr, Decls, Scope};
+use term_core::{SharedContr, share, unshare};
 
 /// One turn of the simplifier: what takes the contract's place, which is smaller, or nothing where
 /// no redex is left that asks for no frame.

@@ -4,17 +4,17 @@
 //! from where nothing changes.
 
 ghost use Rattle.std.specs.Prelude.{◌≡◌, ◌≤◌, ◌<◌, ◌+◌, IfOk, Ok, None, max};
-ghost use Rattle.term_core.specs.Declarations.{declarations};
-ghost use Rattle.term_core.specs.Terms.{expression, Expression, Logic, Cond, Acc};
-ghost use Rattle.term_core.specs.declared.values.Kind.TheVariants.{Truth};
-ghost use Rattle.term_core.specs.Kinds.{scale_of_kind};
-ghost use Rattle.term_core.specs.Branches.{either};
+ghost use Rattle.term_model.specs.Declarations.{declarations};
+ghost use Rattle.term_model.specs.Terms.{expression, Expression, Logic, Cond, Acc};
+ghost use Rattle.term_model.specs.declared.values.Kind.TheVariants.{Truth};
+ghost use Rattle.term_model.specs.Kinds.{scale_of_kind};
+ghost use Rattle.term_model.specs.Branches.{either};
 ghost use Rattle.interval_check.specs.RangeTrials.{kind_found};
 ghost use Rattle.rewriting.specs.Replacing.{branch_at};
 ghost use Rattle.rewriting.specs.Measures.{size};
 ghost use Rattle.rewriting.specs.Rebuilding.{after, over_one, over_two, two_after, IfAllAreLess};
 ghost use Rattle.rewriting.specs.Rebuilding.{IfBothAreLess, IsLess};
-ghost use Rattle.term_core.specs.Scopes.{held_in};
+ghost use Rattle.term_model.specs.Scopes.{held_in};
 ghost use Rattle.simplify.specs.Folding.{folded, CanFold};
 ghost use Rattle.simplify.specs.Turnable.{CanTurn, FoldsTo, truth_literal};
 ghost use Rattle.simplify.specs.Turning.{turned};
@@ -30,7 +30,7 @@ use expr_eval::kind_observed;
 use expr_eval::operations::{is_decided, scale_of_both};
 use rewriting::{kept, of_one, of_three, of_two};
 use std::alloc::Global;
-use term_core::{Decls, Expr, Kind, LogicOp, Scope};
+use term_model::{Decls, Expr, Kind, LogicOp, Scope};
 
 /// What an expression turns into, and nothing where it stays as it is; and its kind, which a turn
 /// keeps.

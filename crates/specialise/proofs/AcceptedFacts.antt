@@ -1,6 +1,6 @@
 -- What is specialised of an accepted contract is accepted.
 use Rattle.std.proofs.Common.{[]}
-use Rattle.term_core.proofs.TimeFacts.{times_mean_typed}
+use Rattle.term_model.proofs.TimeFacts.{times_mean_typed}
 use Rattle.interval_check.proofs.GuaranteeFacts.{accepted_meet_rules}
 use Rattle.rewriting.proofs.RewritingContracts.{rewritten_meet_rules}
 use Rattle.specialise.specs.Specialising.{specialised_in}

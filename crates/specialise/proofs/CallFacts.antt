@@ -1,23 +1,23 @@
 -- What follows for the calls from the equation with what is specialised.
 use Rattle.std.proofs.Common.{◌≡◌, ◌-◌, Result, Ok, Err, IfOk, ℕ, ℤ, pos, Option, Some, [], refl, ap, ap₂, sym, subst, ◌∙◌}
-use Rattle.term_core.specs.Declarations.{Declarations, declarations}
-use Rattle.term_core.specs.declared.decls.Decls.{Decls}
+use Rattle.term_model.specs.Declarations.{Declarations, declarations}
+use Rattle.term_model.specs.declared.decls.Decls.{Decls}
 use Rattle.term_core.specs.declared.shared.SharedContr.{SharedContr}
 use Rattle.term_core.specs.declared.shared.SharedContr.TheVariants.{Zero as Zero', Pay as Pay', Both', Scale', After', Let', Within'}
-use Rattle.term_core.specs.Terms.{Expression, Contract}
-use Rattle.term_core.specs.Environments.{Environment, IsAdmitted}
+use Rattle.term_model.specs.Terms.{Expression, Contract}
+use Rattle.term_model.specs.Environments.{Environment, IsAdmitted}
 use Rattle.decimal.specs.Rounding.{raised}
 use Rattle.term_core.specs.SharedTerms.{shared, MovesNothing, HasOffsetsIn, StoresOffsets}
-use Rattle.term_core.proofs.ShiftedFacts.{stores_offsets, formed_offsets_in}
-use Rattle.term_core.specs.WellFormed.{IsClosed, HasOnlyNumbers}
-use Rattle.term_core.specs.Acceptance.{IsAccepted}
+use Rattle.term_core.proofs.SharedFacts.{stores_offsets, formed_offsets_in}
+use Rattle.term_model.specs.WellFormed.{IsClosed, HasOnlyNumbers}
+use Rattle.term_model.specs.Acceptance.{IsAccepted}
 use Rattle.interval_check.proofs.GuaranteeFacts.{accepted_meet_rules, parts_meet_rules}
 use Rattle.specialise.specs.Specialising.{specialised, specialised_in}
 use Rattle.specialise.specs.Specialisable.{IsPartOfAccepted}
 use Rattle.rewriting.specs.Keeping.{IsNoLarger, IsNoLargerIn}
 use Rattle.specialise.specs.Specialised.{StaysFormed, HasItsKind, HasItsValue, ReadsNoMore, HasNoTold, PaysTheSameOn, ReadsNoMoreOn, HasNoToldIn}
 use Rattle.specialise.specs.Specialised.{Specialises, SpecialisesOn, StandsAlone}
-use Rattle.term_core.specs.Literals.{HasLiteralsIn}
+use Rattle.term_model.specs.Literals.{HasLiteralsIn}
 use Rattle.specialise.proofs.SpecialValues.{special_kind, special_value}
 use Rattle.specialise.proofs.SpecialReads.{special_reads}
 use Rattle.specialise.proofs.SpecialSizes.{special_smaller}

@@ -3,18 +3,18 @@
 use Rattle.std.proofs.Common.{◌≡◌, ℕ, zero, suc, ℤ, pos, ◌+ℤ◌, ◌-ℤ◌, neg_ℤ, ◌+◌, ◌<◌, ◌≤◌, max, not, Bool, true, ◌&&◌, if◌then◌else◌, nat_lt, Option, Some, List, ◌∷◌, slice_get, refl, ap, ap₂, ◌∙◌, arith}
 use Rattle.std.proofs.lemmas.Bool.Decides.{nat_tests}
 use Rattle.decimal.specs.Rounding.{at_scale, divided}
-use Rattle.term_core.specs.Declarations.{Declarations}
-use Rattle.term_core.specs.declared.values.Kind.{Kind}
-use Rattle.term_core.specs.declared.values.Kind.TheVariants.{Truth as TruthKind, Number}
-use Rattle.term_core.specs.declared.values.Value.{Value}
-use Rattle.term_core.specs.declared.values.Value.TheVariants.{Num as Amount, Truth}
-use Rattle.term_core.specs.Terms.{Expression, Lit, Yes, Var, Obs, Neg, Num, Cmp, Not, Logic, Cond, Widen, Round, Div, Acc}
-use Rattle.term_core.specs.Environments.{Environment}
-use Rattle.term_core.specs.Kinds.{kind_of, scale_of, scale_of_kind, scale_or_zero, on_number, on_numbers, on_truth, joined, scale_of_op}
-use Rattle.term_core.specs.Values.{Entry, kinds, num, truth, of_num, of_cmp, logic_op, widened, kind_or, value_of, value_of_entry, days_run}
-use Rattle.term_core.specs.Redexes.{names_within}
-use Rattle.term_core.proofs.AlikeFacts.{and_left, and_right}
-use Rattle.term_core.proofs.ShiftFacts.{same_acc, same_days, of_two}
+use Rattle.term_model.specs.Declarations.{Declarations}
+use Rattle.term_model.specs.declared.values.Kind.{Kind}
+use Rattle.term_model.specs.declared.values.Kind.TheVariants.{Truth as TruthKind, Number}
+use Rattle.term_model.specs.declared.values.Value.{Value}
+use Rattle.term_model.specs.declared.values.Value.TheVariants.{Num as Amount, Truth}
+use Rattle.term_model.specs.Terms.{Expression, Lit, Yes, Var, Obs, Neg, Num, Cmp, Not, Logic, Cond, Widen, Round, Div, Acc}
+use Rattle.term_model.specs.Environments.{Environment}
+use Rattle.term_model.specs.Kinds.{kind_of, scale_of, scale_of_kind, scale_or_zero, on_number, on_numbers, on_truth, joined, scale_of_op}
+use Rattle.term_model.specs.Values.{Entry, kinds, num, truth, of_num, of_cmp, logic_op, widened, kind_or, value_of, value_of_entry, days_run}
+use Rattle.term_model.specs.Redexes.{names_within}
+use Rattle.term_model.proofs.AlikeFacts.{and_left, and_right}
+use Rattle.term_model.proofs.ShiftFacts.{same_acc, same_days, of_two}
 use Rattle.rewriting.proofs.NameLists.{where_lt}
 
 -- the first k names are the same

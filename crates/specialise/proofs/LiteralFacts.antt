@@ -1,24 +1,24 @@
 -- The literals that are put meet the rules, so they are such as can be printed.
 use Rattle.std.proofs.Common.{◌≤◌, ℕ, ℤ, pos, ◌-ℤ◌, true, ◌&&◌, nat_le, IsTrue, unsigned_abs, Option, None, List, [], ◌∷◌, sym, subst, arith}
 use Rattle.std.proofs.lemmas.Bool.Decides.{nat_tests}
-use Rattle.term_core.specs.Declarations.{Declarations}
-use Rattle.term_core.specs.Limits.{greatest_mantissa}
-use Rattle.term_core.specs.declared.values.Kind.{Kind}
-use Rattle.term_core.specs.declared.values.Kind.TheVariants.{Truth as TruthKind, Number}
-use Rattle.term_core.specs.declared.values.Value.{Value}
-use Rattle.term_core.specs.Terms.{Expression, Lit, Yes, Var, Obs, Neg, Num, Cmp, Not, Logic, Cond, Widen, Round, Div, Acc}
-use Rattle.term_core.specs.Terms.{Contract, Zero, Pay, Both, Scale, After, Let, Within}
-use Rattle.term_core.specs.Environments.{Environment}
-use Rattle.term_core.specs.Values.{num}
-use Rattle.term_core.specs.Flows.{count_of}
-use Rattle.term_core.specs.Redexes.{moved}
-use Rattle.term_core.specs.Acceptance.{IsAccepted}
-use Rattle.term_core.specs.Bounds.{Range}
+use Rattle.term_model.specs.Declarations.{Declarations}
+use Rattle.term_model.specs.Limits.{greatest_mantissa}
+use Rattle.term_model.specs.declared.values.Kind.{Kind}
+use Rattle.term_model.specs.declared.values.Kind.TheVariants.{Truth as TruthKind, Number}
+use Rattle.term_model.specs.declared.values.Value.{Value}
+use Rattle.term_model.specs.Terms.{Expression, Lit, Yes, Var, Obs, Neg, Num, Cmp, Not, Logic, Cond, Widen, Round, Div, Acc}
+use Rattle.term_model.specs.Terms.{Contract, Zero, Pay, Both, Scale, After, Let, Within}
+use Rattle.term_model.specs.Environments.{Environment}
+use Rattle.term_model.specs.Values.{num}
+use Rattle.term_model.specs.Flows.{count_of}
+use Rattle.term_model.specs.Redexes.{moved}
+use Rattle.term_model.specs.Acceptance.{IsAccepted}
+use Rattle.term_model.specs.Bounds.{Range}
 use Rattle.interval_check.specs.Nodes.{IsScaled, IsBounded, IsScaledContract, IsBoundedContract, range_of}
 use Rattle.rewriting.specs.Replacing.{literal_of}
 use Rattle.interval_check.proofs.GuaranteeFacts.{accepted_meet_rules}
 use Rattle.specialise.specs.Specialising.{specialised, specialised_in}
-use Rattle.term_core.specs.Literals.{HasLiterals, HasLiteralsIn}
+use Rattle.term_model.specs.Literals.{HasLiterals, HasLiteralsIn}
 use Rattle.specialise.proofs.ToldFacts.{told_cases}
 use Rattle.specialise.proofs.SpecialSizes.{nothing_told}
 

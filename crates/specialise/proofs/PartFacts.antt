@@ -1,12 +1,12 @@
 -- Parts of what may be specialised may be specialised.
 use Rattle.std.proofs.Common.{◌≡◌, inl, inr, subst, sym, ℤ, pos, List, [], ◌∷◌}
-use Rattle.term_core.specs.Declarations.{Declarations}
-use Rattle.term_core.specs.Terms.{Expression, Lit, Yes, Var, Obs, Neg, Num, Cmp, Not, Logic, Cond, Widen, Round, Div, Acc}
-use Rattle.term_core.specs.Terms.{Contract, Zero, Pay, Both, Scale, After, Let, Within}
-use Rattle.term_core.specs.Shifts.{shifted}
+use Rattle.term_model.specs.Declarations.{Declarations}
+use Rattle.term_model.specs.Terms.{Expression, Lit, Yes, Var, Obs, Neg, Num, Cmp, Not, Logic, Cond, Widen, Round, Div, Acc}
+use Rattle.term_model.specs.Terms.{Contract, Zero, Pay, Both, Scale, After, Let, Within}
+use Rattle.term_model.specs.Shifts.{shifted}
 use Rattle.term_core.specs.SharedTerms.{HasOffsets}
-use Rattle.term_core.proofs.ShiftedFacts.{shifted_zero}
-use Rattle.term_core.specs.Bounds.{Range}
+use Rattle.term_model.proofs.ShiftedFacts.{shifted_zero}
+use Rattle.term_model.specs.Bounds.{Range}
 use Rattle.interval_check.specs.Nodes.{range_of}
 use Rattle.interval_check.specs.Parts.{IsPart, IsPartHere, StandsIn}
 use Rattle.specialise.specs.LawsParts.{AcceptedMaySpecialise, PartsOfPartsMaySpecialise}

@@ -2,23 +2,23 @@
 use Rattle.std.proofs.Common.{◌≡◌, ℕ, suc, ℤ, pos, ◌+ℤ◌, ◌-ℤ◌, ◌*ℤ◌, ◌+◌, ◌-◌, max, Bool, ◌||◌, int_lt, Option, Some, None, List, ◌∷◌, [], refl, ap, ap₂, ◌∙◌, inl, arith}
 use Rattle.std.proofs.lemmas.Int.{ints}
 use Rattle.decimal.specs.Rounding.{raised}
-use Rattle.term_core.specs.Declarations.{Declarations}
-use Rattle.term_core.specs.declared.values.Kind.{Kind}
-use Rattle.term_core.specs.declared.values.Value.{Value}
-use Rattle.term_core.specs.Terms.{Expression, Contract, Zero, Pay, Both, Scale, After, Let, Within}
-use Rattle.term_core.specs.Environments.{Environment}
-use Rattle.term_core.specs.Kinds.{kind_of}
-use Rattle.term_core.specs.Values.{Entry, kinds, num, truth, kind_or, value_of, first_true}
-use Rattle.term_core.specs.Flows.{flow_of, amount_of, count_of, scale_of_contract}
-use Rattle.term_core.specs.Reads.{reads_of, reads_of_contract, live, upto, tested}
-use Rattle.term_core.specs.Redexes.{moved}
+use Rattle.term_model.specs.Declarations.{Declarations}
+use Rattle.term_model.specs.declared.values.Kind.{Kind}
+use Rattle.term_model.specs.declared.values.Value.{Value}
+use Rattle.term_model.specs.Terms.{Expression, Contract, Zero, Pay, Both, Scale, After, Let, Within}
+use Rattle.term_model.specs.Environments.{Environment}
+use Rattle.term_model.specs.Kinds.{kind_of}
+use Rattle.term_model.specs.Values.{Entry, kinds, num, truth, kind_or, value_of, first_true}
+use Rattle.term_model.specs.Flows.{flow_of, amount_of, count_of, scale_of_contract}
+use Rattle.term_model.specs.Reads.{reads_of, reads_of_contract, live, upto, tested}
+use Rattle.term_model.specs.Redexes.{moved}
 use Rattle.rewriting.proofs.NameFlows.{same_first}
 use Rattle.rewriting.proofs.Among.{among_none, among_same, among_both, then_among, among_steps, one_name_more, among_unless, among_if_same, among_branches}
 use Rattle.specialise.specs.Specialising.{specialised, specialised_in}
 use Rattle.specialise.specs.Specialised.{IsOn, MayCome}
 use Rattle.specialise.specs.LawsSpecialContracts.{ContractScales, ContractFlows, ContractReads, ContractIsSmaller, SpecialisedCarries}
 use Rattle.rewriting.proofs.Branches.{two_raised, same_branch, same_test, branch_reads}
-use Rattle.term_core.proofs.ContractReadFacts.{test_reads}
+use Rattle.term_model.proofs.ContractReadFacts.{test_reads}
 use Rattle.specialise.proofs.SpecialValues.{special_kind, special_scale, special_value, on_moved}
 use Rattle.rewriting.specs.Measures.{size}
 use Rattle.rewriting.specs.Measures.{size_in}

@@ -2,21 +2,21 @@
 use Rattle.std.proofs.Common.{◌≡◌, ℕ, suc, ℤ, pos, ◌+ℤ◌, ◌-ℤ◌, ◌+◌, Bool, true, false, ◌&&◌, if◌then◌else◌, Option, Some, None, List, ◌∷◌, [], ◌++◌, is_some, refl, ap, ap₂, sym, ◌∙◌, inl, inr, arith}
 use Rattle.std.proofs.lemmas.Int.{ints}
 use Rattle.std.specs.List.{list_all}
-use Rattle.term_core.specs.Declarations.{Declarations}
-use Rattle.term_core.specs.declared.values.Kind.{Kind}
-use Rattle.term_core.specs.declared.values.Kind.TheVariants.{Truth as TruthKind, Number}
-use Rattle.term_core.specs.declared.values.Value.{Value}
-use Rattle.term_core.specs.Terms.{Expression, Lit, Yes, Var, Obs, Neg, Num, Cmp, Not, Logic, Cond, Widen, Round, Div, Acc}
-use Rattle.term_core.specs.Terms.{Contract, Zero, Pay, Both, Scale, After, Let, Within}
-use Rattle.term_core.specs.Environments.{Environment, Place, IsAdmitted}
-use Rattle.term_core.specs.Kinds.{kind_of, scale_of, scale_of_kind}
-use Rattle.term_core.specs.Values.{truth, widened, kind_or, value_of, days_run}
-use Rattle.term_core.specs.Flows.{count_of}
-use Rattle.term_core.specs.Reads.{reads_of, steps_before, decides, is_fixed}
-use Rattle.term_core.specs.Sites.{OfExpression, OfContract}
-use Rattle.term_core.specs.Redexes.{Redex, FixedPlace, FixedSteps, EmptyLeft, EmptyRight, ScaledNothing, ZeroFactor, NoDelay, TwoDelays, DelayedNothing, UnusedName, LiteralName, NothingEither, DecidedTest, LiteralOperands, DecidedChoice, NoSteps, is_redex, names_within, reads_are_fixed, moved}
-use Rattle.term_core.specs.Bounds.{Range, range_kinds}
-use Rattle.term_core.proofs.AlikeFacts.{all-append}
+use Rattle.term_model.specs.Declarations.{Declarations}
+use Rattle.term_model.specs.declared.values.Kind.{Kind}
+use Rattle.term_model.specs.declared.values.Kind.TheVariants.{Truth as TruthKind, Number}
+use Rattle.term_model.specs.declared.values.Value.{Value}
+use Rattle.term_model.specs.Terms.{Expression, Lit, Yes, Var, Obs, Neg, Num, Cmp, Not, Logic, Cond, Widen, Round, Div, Acc}
+use Rattle.term_model.specs.Terms.{Contract, Zero, Pay, Both, Scale, After, Let, Within}
+use Rattle.term_model.specs.Environments.{Environment, Place, IsAdmitted}
+use Rattle.term_model.specs.Kinds.{kind_of, scale_of, scale_of_kind}
+use Rattle.term_model.specs.Values.{truth, widened, kind_or, value_of, days_run}
+use Rattle.term_model.specs.Flows.{count_of}
+use Rattle.term_model.specs.Reads.{reads_of, steps_before, decides, is_fixed}
+use Rattle.term_model.specs.Sites.{OfExpression, OfContract}
+use Rattle.term_model.specs.Redexes.{Redex, FixedPlace, FixedSteps, EmptyLeft, EmptyRight, ScaledNothing, ZeroFactor, NoDelay, TwoDelays, DelayedNothing, UnusedName, LiteralName, NothingEither, DecidedTest, LiteralOperands, DecidedChoice, NoSteps, is_redex, names_within, reads_are_fixed, moved}
+use Rattle.term_model.specs.Bounds.{Range, range_kinds}
+use Rattle.term_model.proofs.AlikeFacts.{all-append}
 use Rattle.interval_check.specs.Nodes.{IsSorted, IsSortedContract, range_of, range_after}
 use Rattle.interval_check.proofs.GuaranteeFacts.{rules_are_by_structure}
 use Rattle.rewriting.specs.Replacing.{literal_of}

@@ -1,15 +1,15 @@
 -- The rules on sorts, scales and bounds hold of what is specialised.
 use Rattle.std.proofs.Common.{◌≡◌, ℕ, ℤ, pos, ◌-ℤ◌, Option, None, List, ◌∷◌, [], refl, sym, subst, ◌∙◌, inl, inr}
-use Rattle.term_core.specs.Declarations.{Declarations}
-use Rattle.term_core.specs.declared.values.Kind.{Kind}
-use Rattle.term_core.specs.declared.values.Value.{Value}
-use Rattle.term_core.specs.Terms.{Expression, Lit, Yes, Var, Obs, Neg, Num, Cmp, Not, Logic, Cond, Widen, Round, Div, Acc}
-use Rattle.term_core.specs.Terms.{Contract, Zero, Pay, Both, Scale, After, Let, Within}
-use Rattle.term_core.specs.Environments.{Environment, IsAdmitted}
-use Rattle.term_core.specs.Values.{Entry, value_of}
-use Rattle.term_core.specs.Flows.{count_of}
-use Rattle.term_core.specs.Redexes.{moved}
-use Rattle.term_core.specs.Bounds.{Range, range_kinds}
+use Rattle.term_model.specs.Declarations.{Declarations}
+use Rattle.term_model.specs.declared.values.Kind.{Kind}
+use Rattle.term_model.specs.declared.values.Value.{Value}
+use Rattle.term_model.specs.Terms.{Expression, Lit, Yes, Var, Obs, Neg, Num, Cmp, Not, Logic, Cond, Widen, Round, Div, Acc}
+use Rattle.term_model.specs.Terms.{Contract, Zero, Pay, Both, Scale, After, Let, Within}
+use Rattle.term_model.specs.Environments.{Environment, IsAdmitted}
+use Rattle.term_model.specs.Values.{Entry, value_of}
+use Rattle.term_model.specs.Flows.{count_of}
+use Rattle.term_model.specs.Redexes.{moved}
+use Rattle.term_model.specs.Bounds.{Range, range_kinds}
 use Rattle.interval_check.specs.Nodes.{MeetsRules, ContractMeetsRules, range_of, range_after}
 use Rattle.interval_check.specs.Narrowing.{AreNarrower}
 use Rattle.interval_check.specs.Within.{AreWithin, KeepsLimits}

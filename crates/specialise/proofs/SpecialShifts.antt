@@ -2,19 +2,19 @@
 use Rattle.std.proofs.Common.{◌≡◌, ℕ, ℤ, pos, ◌+ℤ◌, ◌-ℤ◌, ◌+◌, Bool, true, false, if◌then◌else◌, Option, Some, None, [], refl, ap, ap₂, ◌∙◌, arith}
 use Rattle.std.proofs.lemmas.Int.{ints}
 use Rattle.std.specs.List.{list_all}
-use Rattle.term_core.specs.Declarations.{Declarations}
-use Rattle.term_core.specs.declared.values.Kind.{Kind}
-use Rattle.term_core.specs.declared.values.Kind.TheVariants.{Truth as TruthKind, Number}
-use Rattle.term_core.specs.declared.values.Value.{Value}
-use Rattle.term_core.specs.Terms.{Expression, Lit, Yes, Var, Obs, Neg, Num, Cmp, Not, Logic, Cond, Widen, Round, Div, Acc}
-use Rattle.term_core.specs.Environments.{Environment}
-use Rattle.term_core.specs.Kinds.{kind_of}
-use Rattle.term_core.specs.Values.{value_of}
-use Rattle.term_core.specs.Reads.{is_fixed}
-use Rattle.term_core.specs.Shifts.{shifted}
-use Rattle.term_core.specs.Redexes.{names_within, reads_are_fixed, moved}
-use Rattle.term_core.proofs.ShiftFacts.{kind-shifted, value-shifted}
-use Rattle.term_core.proofs.ReadShiftFacts.{reads-shifted}
+use Rattle.term_model.specs.Declarations.{Declarations}
+use Rattle.term_model.specs.declared.values.Kind.{Kind}
+use Rattle.term_model.specs.declared.values.Kind.TheVariants.{Truth as TruthKind, Number}
+use Rattle.term_model.specs.declared.values.Value.{Value}
+use Rattle.term_model.specs.Terms.{Expression, Lit, Yes, Var, Obs, Neg, Num, Cmp, Not, Logic, Cond, Widen, Round, Div, Acc}
+use Rattle.term_model.specs.Environments.{Environment}
+use Rattle.term_model.specs.Kinds.{kind_of}
+use Rattle.term_model.specs.Values.{value_of}
+use Rattle.term_model.specs.Reads.{is_fixed}
+use Rattle.term_model.specs.Shifts.{shifted}
+use Rattle.term_model.specs.Redexes.{names_within, reads_are_fixed, moved}
+use Rattle.term_model.proofs.ShiftFacts.{kind-shifted, value-shifted}
+use Rattle.term_model.proofs.ReadShiftFacts.{reads-shifted}
 use Rattle.specialise.specs.Specialising.{is_known, literal_or, told, told_or, specialised}
 use Rattle.specialise.specs.LawsSpecial.{SpecialisedShifts}
 use Rattle.specialise.proofs.SpecialRedexes.{and_same}

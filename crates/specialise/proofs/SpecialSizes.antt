@@ -1,12 +1,12 @@
 -- A specialised expression is the same, or smaller.
 use Rattle.std.proofs.Common.{◌≡◌, ℕ, pos, ◌-ℤ◌, ◌+◌, ◌<◌, ◌≤◌, None, refl, ap, ap₂, ◌∙◌, inl, inr, ◌⊎◌, arith}
-use Rattle.term_core.specs.Declarations.{Declarations}
-use Rattle.term_core.specs.declared.values.Kind.{Kind}
-use Rattle.term_core.specs.declared.values.Kind.TheVariants.{Truth as TruthKind, Number}
-use Rattle.term_core.specs.declared.values.Value.{Value}
-use Rattle.term_core.specs.Terms.{Expression, Lit, Yes, Var, Obs, Neg, Num, Cmp, Not, Logic, Cond, Widen, Round, Div, Acc}
-use Rattle.term_core.specs.Environments.{Environment}
-use Rattle.term_core.specs.Redexes.{moved}
+use Rattle.term_model.specs.Declarations.{Declarations}
+use Rattle.term_model.specs.declared.values.Kind.{Kind}
+use Rattle.term_model.specs.declared.values.Kind.TheVariants.{Truth as TruthKind, Number}
+use Rattle.term_model.specs.declared.values.Value.{Value}
+use Rattle.term_model.specs.Terms.{Expression, Lit, Yes, Var, Obs, Neg, Num, Cmp, Not, Logic, Cond, Widen, Round, Div, Acc}
+use Rattle.term_model.specs.Environments.{Environment}
+use Rattle.term_model.specs.Redexes.{moved}
 use Rattle.rewriting.specs.Replacing.{literal_of}
 use Rattle.rewriting.specs.Measures.{size}
 use Rattle.rewriting.proofs.SizeFacts.{some_size}

@@ -1,17 +1,17 @@
 -- What is specialised is no larger, by any measure, and so each of its nodes is small.
 use Rattle.std.proofs.Common.{◌≡◌, ℕ, ℤ, pos, ◌-ℤ◌, ◌+◌, ◌≤◌, max, Option, None, List, ◌∷◌, refl, sym, subst, arith}
-use Rattle.term_core.specs.Declarations.{Declarations}
-use Rattle.term_core.specs.declared.values.Kind.{Kind}
-use Rattle.term_core.specs.declared.values.Kind.TheVariants.{Truth as TruthKind, Number}
-use Rattle.term_core.specs.declared.values.Value.{Value}
-use Rattle.term_core.specs.Terms.{Expression, Lit, Yes, Var, Obs, Neg, Num, Cmp, Not, Logic, Cond, Widen, Round, Div, Acc}
-use Rattle.term_core.specs.Terms.{Contract, Zero, Pay, Both, Scale, After, Let, Within}
-use Rattle.term_core.specs.Environments.{Environment}
-use Rattle.term_core.specs.Flows.{count_of}
-use Rattle.term_core.specs.Sizes.{height, nodes, past, work}
-use Rattle.term_core.specs.Sites.{Once}
-use Rattle.term_core.specs.Redexes.{moved}
-use Rattle.term_core.specs.Bounds.{Range}
+use Rattle.term_model.specs.Declarations.{Declarations}
+use Rattle.term_model.specs.declared.values.Kind.{Kind}
+use Rattle.term_model.specs.declared.values.Kind.TheVariants.{Truth as TruthKind, Number}
+use Rattle.term_model.specs.declared.values.Value.{Value}
+use Rattle.term_model.specs.Terms.{Expression, Lit, Yes, Var, Obs, Neg, Num, Cmp, Not, Logic, Cond, Widen, Round, Div, Acc}
+use Rattle.term_model.specs.Terms.{Contract, Zero, Pay, Both, Scale, After, Let, Within}
+use Rattle.term_model.specs.Environments.{Environment}
+use Rattle.term_model.specs.Flows.{count_of}
+use Rattle.term_model.specs.Sizes.{height, nodes, past, work}
+use Rattle.term_model.specs.Sites.{Once}
+use Rattle.term_model.specs.Redexes.{moved}
+use Rattle.term_model.specs.Bounds.{Range}
 use Rattle.interval_check.specs.Nodes.{EachNode, EachContractNode, range_of, range_after}
 use Rattle.rewriting.specs.Replacing.{literal_of}
 use Rattle.specialise.specs.Specialising.{specialised, specialised_in}

@@ -1,23 +1,23 @@
 -- What stands in an accepted contract is low, and may be evaluated where it uses no name from outside.
 use Rattle.std.proofs.Common.{◌≡◌, ◌≤◌, ◌+◌, ◌<◌, ℕ, zero, suc, ℤ, true, IsTrue, inl, inr, Option, Some, None, is_some, List, [], ◌∷◌, length, slice_get, refl, ap, arith}
 use Rattle.std.proofs.lemmas.Bool.Decides.{nat_tests}
-use Rattle.term_core.specs.Declarations.{Declarations}
-use Rattle.term_core.specs.declared.name.Name.{Name}
-use Rattle.term_core.specs.declared.label.Label.{Label}
-use Rattle.term_core.specs.Environments.{label_of}
-use Rattle.term_core.specs.Kinds.{kind_of_label}
+use Rattle.term_model.specs.Declarations.{Declarations}
+use Rattle.term_model.specs.declared.name.Name.{Name}
+use Rattle.term_model.specs.declared.label.Label.{Label}
+use Rattle.term_model.specs.Environments.{label_of}
+use Rattle.term_model.specs.Kinds.{kind_of_label}
 use Rattle.term_core.specs.SharedTerms.{HasOffsets}
-use Rattle.term_core.specs.Terms.{Expression, Lit, Yes, Var, Obs, Neg, Num, Cmp, Not, Logic, Cond, Widen, Round, Div, Acc}
-use Rattle.term_core.specs.Terms.{Contract, Zero, Pay, Both, Scale, After, Let, Within}
-use Rattle.term_core.specs.Shifts.{shifted}
-use Rattle.term_core.specs.Sizes.{height, height_of_contract, nodes_of_contract, reach, past_of_contract, work_of_contract}
-use Rattle.term_core.specs.Smallness.{is_small, within_limits, days_of_contract}
-use Rattle.term_core.specs.WellFormed.{IsWellFormed}
-use Rattle.term_core.specs.Redexes.{names_within}
-use Rattle.term_core.specs.Acceptance.{IsAccepted}
-use Rattle.term_core.specs.Bounds.{Range}
-use Rattle.term_core.proofs.AlikeFacts.{and_left, and_right}
-use Rattle.term_core.proofs.TimeFacts.{whole_passes}
+use Rattle.term_model.specs.Terms.{Expression, Lit, Yes, Var, Obs, Neg, Num, Cmp, Not, Logic, Cond, Widen, Round, Div, Acc}
+use Rattle.term_model.specs.Terms.{Contract, Zero, Pay, Both, Scale, After, Let, Within}
+use Rattle.term_model.specs.Shifts.{shifted}
+use Rattle.term_model.specs.Sizes.{height, height_of_contract, nodes_of_contract, reach, past_of_contract, work_of_contract}
+use Rattle.term_model.specs.Smallness.{is_small, within_limits, days_of_contract}
+use Rattle.term_model.specs.WellFormed.{IsWellFormed}
+use Rattle.term_model.specs.Redexes.{names_within}
+use Rattle.term_model.specs.Acceptance.{IsAccepted}
+use Rattle.term_model.specs.Bounds.{Range}
+use Rattle.term_model.proofs.AlikeFacts.{and_left, and_right}
+use Rattle.term_model.proofs.TimeFacts.{whole_passes}
 use Rattle.interval_check.specs.Nodes.{range_of, range_after, IsSorted}
 use Rattle.interval_check.proofs.GuaranteeFacts.{accepted_meet_rules, parts_meet_rules}
 use Rattle.interval_check.specs.Parts.{IsPart, StandsIn}

@@ -1,22 +1,22 @@
 -- The literal of what the fixings tell.
 use Rattle.std.proofs.Common.{◌≡◌, ℤ, Bool, true, false, Option, Some, None, List, [], if◌then◌else◌, refl, ap, sym, ◌∙◌, inl, inr, ◌⊎◌}
 use Rattle.std.specs.List.{list_all}
-use Rattle.term_core.specs.Declarations.{Declarations}
-use Rattle.term_core.specs.declared.values.Kind.{Kind}
-use Rattle.term_core.specs.declared.values.Kind.TheVariants.{Truth as TruthKind, Number}
-use Rattle.term_core.specs.declared.values.Value.{Value}
-use Rattle.term_core.specs.declared.values.Value.TheVariants.{Num as Amount, Truth}
-use Rattle.term_core.specs.Terms.{Expression}
-use Rattle.term_core.specs.Environments.{Environment, Place, IsAdmitted}
-use Rattle.term_core.specs.Kinds.{kind_of}
-use Rattle.term_core.specs.Values.{Entry, value_of}
-use Rattle.term_core.specs.LawsKinds.{IsOfKind}
-use Rattle.term_core.specs.Reads.{reads_of, is_fixed}
-use Rattle.term_core.specs.Redexes.{names_within, reads_are_fixed}
-use Rattle.term_core.proofs.AlikeFacts.{and_left, and_right}
-use Rattle.term_core.proofs.KindFacts.{values_have_kinds}
-use Rattle.term_core.proofs.ReadFacts.{reads_alike}
-use Rattle.term_core.proofs.ReadLawFacts.{extension_reads, no_names}
+use Rattle.term_model.specs.Declarations.{Declarations}
+use Rattle.term_model.specs.declared.values.Kind.{Kind}
+use Rattle.term_model.specs.declared.values.Kind.TheVariants.{Truth as TruthKind, Number}
+use Rattle.term_model.specs.declared.values.Value.{Value}
+use Rattle.term_model.specs.declared.values.Value.TheVariants.{Num as Amount, Truth}
+use Rattle.term_model.specs.Terms.{Expression}
+use Rattle.term_model.specs.Environments.{Environment, Place, IsAdmitted}
+use Rattle.term_model.specs.Kinds.{kind_of}
+use Rattle.term_model.specs.Values.{Entry, value_of}
+use Rattle.term_model.specs.LawsKinds.{IsOfKind}
+use Rattle.term_model.specs.Reads.{reads_of, is_fixed}
+use Rattle.term_model.specs.Redexes.{names_within, reads_are_fixed}
+use Rattle.term_model.proofs.AlikeFacts.{and_left, and_right}
+use Rattle.term_model.proofs.KindFacts.{values_have_kinds}
+use Rattle.term_model.proofs.ReadFacts.{reads_alike}
+use Rattle.term_model.proofs.ReadLawFacts.{extension_reads, no_names}
 use Rattle.rewriting.specs.Replacing.{literal_of}
 use Rattle.specialise.specs.Specialising.{is_known, literal_or, told, told_or}
 use Rattle.specialise.specs.Specialised.{IsOn, MayCome}

@@ -2,17 +2,17 @@
 use Rattle.std.proofs.Common.{◌≡◌, ◌≤◌, ◌+◌, ◌^◌, ℕ, ℤ, pos, ◌+ℤ◌, ◌-ℤ◌, ◌≤ℤ◌, max, unsigned_abs, IsTrue, [], sym, subst₂, arith}
 use Rattle.std.proofs.lemmas.Bool.Decides.{nat_tests}
 use Rattle.std.proofs.lemmas.Int.{ints}
-use Rattle.term_core.specs.Declarations.{Declarations}
-use Rattle.term_core.specs.Terms.{Contract}
-use Rattle.term_core.specs.Terms.{Expression, Lit, Yes, Var, Obs, Neg, Num, Cmp, Not, Logic, Cond, Widen, Round, Div, Acc}
+use Rattle.term_model.specs.Declarations.{Declarations}
+use Rattle.term_model.specs.Terms.{Contract}
+use Rattle.term_model.specs.Terms.{Expression, Lit, Yes, Var, Obs, Neg, Num, Cmp, Not, Logic, Cond, Widen, Round, Div, Acc}
 use Rattle.term_core.specs.declared.shared.SharedContr.{SharedContr}
 use Rattle.term_core.specs.declared.shared.SharedContr.TheVariants.{Zero as Zero', Pay as Pay', Both', Scale', After', Let', Within'}
 use Rattle.term_core.specs.SharedTerms.{shared, StoresOffsets, HasOffsets}
-use Rattle.term_core.specs.Sizes.{past, reach, height_of_contract, nodes_of_contract, past_of_contract, work_of_contract}
-use Rattle.term_core.specs.Smallness.{is_small, within_limits, days_of_contract}
-use Rattle.term_core.specs.Acceptance.{IsAccepted}
-use Rattle.term_core.specs.Limits.{last_start, most_days}
-use Rattle.term_core.proofs.TimeFacts.{whole_passes}
+use Rattle.term_model.specs.Sizes.{past, reach, height_of_contract, nodes_of_contract, past_of_contract, work_of_contract}
+use Rattle.term_model.specs.Smallness.{is_small, within_limits, days_of_contract}
+use Rattle.term_model.specs.Acceptance.{IsAccepted}
+use Rattle.term_model.specs.Limits.{last_start, most_days}
+use Rattle.term_model.proofs.TimeFacts.{whole_passes}
 use Rattle.specialise.specs.Specialisable.{IsPartOfAccepted, MaySpecialise, MaySpecialiseIn, CanTell, CanTellLater, CanTellIn}
 use Rattle.specialise.proofs.PartFacts.{parts_may_be_specialised, parts_inside, whole_inside, stored_may_be_specialised, standing_may_be_specialised}
 use Rattle.specialise.proofs.SpecialSizes.{nothing_told}

@@ -1,12 +1,12 @@
 -- How a contract is specialised part by part: what stands directly in an accepted contract, or in a part of it, is a part of
 -- an accepted contract; and a well-formed expression has its offsets within their limit.
 use Rattle.std.specs.Prelude.{ℕ}
-use Rattle.term_core.specs.Declarations.{Declarations}
-use Rattle.term_core.specs.Terms.{Expression}
-use Rattle.term_core.specs.Terms.{Contract, Zero, Pay, Both, Scale, After, Let, Within}
+use Rattle.term_model.specs.Declarations.{Declarations}
+use Rattle.term_model.specs.Terms.{Expression}
+use Rattle.term_model.specs.Terms.{Contract, Zero, Pay, Both, Scale, After, Let, Within}
 use Rattle.term_core.specs.SharedTerms.{HasOffsets}
-use Rattle.term_core.specs.WellFormed.{IsWellFormed}
-use Rattle.term_core.specs.Acceptance.{IsAccepted}
+use Rattle.term_model.specs.WellFormed.{IsWellFormed}
+use Rattle.term_model.specs.Acceptance.{IsAccepted}
 use Rattle.specialise.specs.Specialisable.{IsPartOfAccepted, MaySpecialiseIn}
 
 -- the parts of a contract

@@ -1,10 +1,10 @@
 -- The laws of the specialiser: of every expression on every frame.
 use Rattle.std.specs.Prelude.{ℤ, ◌≡◌, Option, None}
-use Rattle.term_core.specs.Declarations.{Declarations}
-use Rattle.term_core.specs.Terms.{Expression}
-use Rattle.term_core.specs.Environments.{Environment}
-use Rattle.term_core.specs.Shifts.{shifted}
-use Rattle.term_core.specs.Redexes.{moved}
+use Rattle.term_model.specs.Declarations.{Declarations}
+use Rattle.term_model.specs.Terms.{Expression}
+use Rattle.term_model.specs.Environments.{Environment}
+use Rattle.term_model.specs.Shifts.{shifted}
+use Rattle.term_model.specs.Redexes.{moved}
 use Rattle.rewriting.specs.Keeping.{IsNoLarger}
 use Rattle.specialise.specs.Specialising.{specialised}
 use Rattle.specialise.specs.Specialised.{HasItsKind, HasItsValue, ReadsNoMore}

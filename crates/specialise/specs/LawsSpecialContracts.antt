@@ -1,16 +1,16 @@
 -- The laws of the specialiser over contracts.
 use Rattle.std.specs.Prelude.{ℤ, ◌≡◌, List, Option, Some}
-use Rattle.term_core.specs.Declarations.{Declarations}
-use Rattle.term_core.specs.declared.values.Kind.{Kind}
-use Rattle.term_core.specs.declared.rules.Rule.TheVariants.{Sort}
-use Rattle.term_core.specs.Terms.{Contract}
-use Rattle.term_core.specs.Environments.{Environment, Place, IsAdmitted}
-use Rattle.term_core.specs.Values.{Entry}
-use Rattle.term_core.specs.Flows.{Flow, flow_of, scale_of_contract}
-use Rattle.term_core.specs.Reads.{reads_of_contract}
-use Rattle.term_core.specs.Residuals.{Carries}
-use Rattle.term_core.specs.Redexes.{Redex, HasNone}
-use Rattle.term_core.specs.Acceptance.{Meets}
+use Rattle.term_model.specs.Declarations.{Declarations}
+use Rattle.term_model.specs.declared.values.Kind.{Kind}
+use Rattle.term_model.specs.declared.rules.Rule.TheVariants.{Sort}
+use Rattle.term_model.specs.Terms.{Contract}
+use Rattle.term_model.specs.Environments.{Environment, Place, IsAdmitted}
+use Rattle.term_model.specs.Values.{Entry}
+use Rattle.term_model.specs.Flows.{Flow, flow_of, scale_of_contract}
+use Rattle.term_model.specs.Reads.{reads_of_contract}
+use Rattle.term_model.specs.Residuals.{Carries}
+use Rattle.term_model.specs.Redexes.{Redex, HasNone}
+use Rattle.term_model.specs.Acceptance.{Meets}
 use Rattle.rewriting.specs.Keeping.{AreAmong, IsNoLargerIn, NamesReadLess}
 use Rattle.specialise.specs.Specialising.{specialised_in}
 use Rattle.specialise.specs.Specialised.{IsOn, IsToldKind, MayCome}

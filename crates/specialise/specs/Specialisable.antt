@@ -2,21 +2,21 @@
 -- a part of an accepted contract and stands there in no accumulator's body; a contract of which all
 -- parts stand so in an accepted one.
 use Rattle.std.specs.Prelude.{ℕ, ℤ, pos, ◌+ℤ◌, ◌-ℤ◌, ◌≤◌, ◌^◌, unsigned_abs, List, []}
-use Rattle.term_core.specs.Declarations.{Declarations}
-use Rattle.term_core.specs.Terms.{expression, Contract}
-use Rattle.term_core.specs.Terms.{Expression, Obs, Neg, Num, Cmp, Not, Logic, Cond, Widen, Round}
-use Rattle.term_core.specs.Terms.{Div, Acc}
+use Rattle.term_model.specs.Declarations.{Declarations}
+use Rattle.term_model.specs.Terms.{expression, Contract}
+use Rattle.term_model.specs.Terms.{Expression, Obs, Neg, Num, Cmp, Not, Logic, Cond, Widen, Round}
+use Rattle.term_model.specs.Terms.{Div, Acc}
 use Rattle.term_core.specs.declared.shared.SharedContr.{SharedContr}
 use Rattle.term_core.specs.declared.shared.SharedContr.TheVariants.{Zero as Zero', Pay as Pay'}
 use Rattle.term_core.specs.declared.shared.SharedContr.TheVariants.{Both', Scale', After', Let'}
 use Rattle.term_core.specs.declared.shared.SharedContr.TheVariants.{Within'}
-use Rattle.term_core.specs.Shifts.{shifted}
+use Rattle.term_model.specs.Shifts.{shifted}
 use Rattle.term_core.specs.SharedTerms.{HasOffsets, StoresOffsets}
 use Rattle.std.specs.declared.rc.Rc.{Rc}
 use Rattle.std.specs.Global.{Global}
-use Rattle.term_core.specs.declared.terms.Expr.{Expr}
-use Rattle.term_core.specs.Bounds.{Range}
-use Rattle.term_core.specs.Acceptance.{IsAccepted}
+use Rattle.term_model.specs.declared.terms.Expr.{Expr}
+use Rattle.term_model.specs.Bounds.{Range}
+use Rattle.term_model.specs.Acceptance.{IsAccepted}
 use Rattle.interval_check.specs.Parts.{StandsIn}
 
 -- an expression that stands in an accepted contract, outside the bodies of accumulators

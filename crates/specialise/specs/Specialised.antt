@@ -1,18 +1,18 @@
 -- What the specialiser promises of what it makes of a term.
 use Rattle.std.specs.Prelude.{ℕ, ℤ, pos, ◌+◌, ◌≤ℤ◌, ◌≡◌, List, [], Option, Some, None}
-use Rattle.term_core.specs.Declarations.{Declarations}
-use Rattle.term_core.specs.declared.values.Kind.{Kind}
-use Rattle.term_core.specs.Terms.{Expression, Contract}
-use Rattle.term_core.specs.WellFormed.{IsWellFormed, IsClosed, HasOnlyNumbers}
-use Rattle.term_core.specs.Acceptance.{IsAccepted}
-use Rattle.term_core.specs.Environments.{Environment, Place, IsAdmitted, Extends}
-use Rattle.term_core.specs.Limits.{last_start, most_days}
-use Rattle.term_core.specs.Literals.{HasLiteralsIn}
-use Rattle.term_core.specs.Kinds.{kind_of}
-use Rattle.term_core.specs.Values.{Entry, value_of}
-use Rattle.term_core.specs.Flows.{Flow, amount_of}
-use Rattle.term_core.specs.Reads.{reads_of, reads_of_contract}
-use Rattle.term_core.specs.Redexes.{Redex, FixedPlace, FixedSteps, HasNone}
+use Rattle.term_model.specs.Declarations.{Declarations}
+use Rattle.term_model.specs.declared.values.Kind.{Kind}
+use Rattle.term_model.specs.Terms.{Expression, Contract}
+use Rattle.term_model.specs.WellFormed.{IsWellFormed, IsClosed, HasOnlyNumbers}
+use Rattle.term_model.specs.Acceptance.{IsAccepted}
+use Rattle.term_model.specs.Environments.{Environment, Place, IsAdmitted, Extends}
+use Rattle.term_model.specs.Limits.{last_start, most_days}
+use Rattle.term_model.specs.Literals.{HasLiteralsIn}
+use Rattle.term_model.specs.Kinds.{kind_of}
+use Rattle.term_model.specs.Values.{Entry, value_of}
+use Rattle.term_model.specs.Flows.{Flow, amount_of}
+use Rattle.term_model.specs.Reads.{reads_of, reads_of_contract}
+use Rattle.term_model.specs.Redexes.{Redex, FixedPlace, FixedSteps, HasNone}
 use Rattle.rewriting.specs.Keeping.{AreAmong, NamesReadLess, IsNoLarger, IsNoLargerIn, StaysClosed}
 use Rattle.rewriting.specs.Reduced.{NoneIn, IsNoRedex}
 use Rattle.specialise.specs.declared.frames.Frame.{Frame}

@@ -3,10 +3,10 @@
 use Rattle.std.specs.Prelude.{ℕ, ℤ, pos, ◌-ℤ◌, ◌≡◌, Option, Some}
 use Rattle.std.specs.declared.rc.Rc.{Rc}
 use Rattle.std.specs.Global.{Global}
-use Rattle.term_core.specs.declared.terms.Expr.{Expr}
+use Rattle.term_model.specs.declared.terms.Expr.{Expr}
 use Rattle.term_core.specs.declared.shared.SharedContr.{SharedContr}
-use Rattle.term_core.specs.Terms.{Expression, Obs, Acc, expression, Contract}
-use Rattle.term_core.specs.Shifts.{shifted}
+use Rattle.term_model.specs.Terms.{Expression, Obs, Acc, expression, Contract}
+use Rattle.term_model.specs.Shifts.{shifted}
 use Rattle.term_core.specs.SharedTerms.{shared}
 use Rattle.rewriting.specs.Rebuilding.{after}
 use Rattle.rewriting.specs.RebuildingContracts.{after_in, moved_after}

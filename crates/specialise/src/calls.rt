@@ -2,10 +2,10 @@
 //! (ICFP 2015) and the partial evaluation of contracts by Annenkov and Elsman (PPDP 2018).
 
 ghost use Rattle.std.specs.Prelude.{IfOk};
-ghost use Rattle.term_core.specs.Declarations.{declarations};
-ghost use Rattle.term_core.specs.Terms.{expression, contract};
-ghost use Rattle.term_core.specs.Acceptance.{IsAccepted};
-ghost use Rattle.term_core.specs.Environments.{IsAdmitted};
+ghost use Rattle.term_model.specs.Declarations.{declarations};
+ghost use Rattle.term_model.specs.Terms.{expression, contract};
+ghost use Rattle.term_model.specs.Acceptance.{IsAccepted};
+ghost use Rattle.term_model.specs.Environments.{IsAdmitted};
 ghost use Rattle.term_core.specs.SharedTerms.{shared, HasOffsets, StoresOffsets};
 ghost use Rattle.specialise.specs.Specialisable.{IsPartOfAccepted};
 ghost use Rattle.specialise.specs.Specialised.{day_of, IsDayOfContract, IsNear, StandsAlone};
@@ -19,7 +19,8 @@ use decimal::NoMemory;
 use fixing_files::{Fixings, Known};
 use std::alloc::Global;
 use std::rc::Rc;
-use term_core::{Contr, Decls, Expr, SharedContr, share, unshare};
+use term_model::{Contr, Decls, Expr};
+use term_core::{SharedContr, share, unshare};
 
 // What takes the place of an expression on a frame.
 #[tactic(auto, using(crate::proofs::WalkFacts::for_frames))]

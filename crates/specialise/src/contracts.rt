@@ -3,7 +3,7 @@
 //! pays at entry for the locals of another.
 
 ghost use Rattle.std.specs.Prelude.{◌≡◌, IfOk};
-ghost use Rattle.term_core.specs.Terms.{expression};
+ghost use Rattle.term_model.specs.Terms.{expression};
 ghost use Rattle.term_core.specs.SharedTerms.{shared, HasOffsets};
 ghost use Rattle.rewriting.specs.Rebuilding.{after};
 ghost use Rattle.rewriting.specs.RebuildingContracts.{both_over, scale_over, after_over, let_over};
@@ -18,7 +18,8 @@ use fixing_files::Known;
 use rewriting::{after_of, both_of, let_of, scale_of, within_of};
 use std::alloc::Global;
 use std::rc::Rc;
-use term_core::{Expr, SharedContr, day_read, days_later};
+use term_model::{Expr, day_read, days_later};
+use term_core::SharedContr;
 
 // What takes the place of a stored expression that is read some days later.
 #[tactic(auto, using(crate::proofs::StoredFacts::for_stored))]

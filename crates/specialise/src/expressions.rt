@@ -3,9 +3,9 @@
 //! none of them.
 
 ghost use Rattle.std.specs.Prelude.{◌≡◌, ◌-ℤ◌, pos, IfOk, Some};
-ghost use Rattle.term_core.specs.Declarations.{declarations};
-ghost use Rattle.term_core.specs.Terms.{expression, Acc, Cond};
-ghost use Rattle.term_core.specs.Environments.{IsAdmitted};
+ghost use Rattle.term_model.specs.Declarations.{declarations};
+ghost use Rattle.term_model.specs.Terms.{expression, Acc, Cond};
+ghost use Rattle.term_model.specs.Environments.{IsAdmitted};
 ghost use Rattle.rewriting.specs.Rebuilding.{after, over_one, over_two};
 ghost use Rattle.specialise.specs.Specialisable.{CanTell, IsLookedUp, MaySpecialise};
 ghost use Rattle.specialise.specs.WalkAnswers.{told_on, IsAccumulator, TakesItsPlace};
@@ -17,7 +17,7 @@ use expr_eval::{Scratch, eval, kind_of};
 use fixing_files::{Fixings, Known};
 use rewriting::{literal, names_within, of_one, of_three, of_two};
 use std::alloc::Global;
-use term_core::{Decls, Expr, days_earlier};
+use term_model::{Decls, Expr, days_earlier};
 
 // The literal of an accumulator, where it stands by itself and all that it reads is fixed.
 #[tactic(auto, using(crate::proofs::AccumulatorFacts::for_accumulators))]

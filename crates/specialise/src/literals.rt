@@ -1,17 +1,17 @@
 //! Literals of what fixings tell.
 
 ghost use Rattle.std.specs.Prelude.{◌≡◌, Some};
-ghost use Rattle.term_core.specs.Declarations.{declarations};
-ghost use Rattle.term_core.specs.Terms.{Obs};
-ghost use Rattle.term_core.specs.Environments.{label_of};
-ghost use Rattle.term_core.specs.Kinds as model;
+ghost use Rattle.term_model.specs.Declarations.{declarations};
+ghost use Rattle.term_model.specs.Terms.{Obs};
+ghost use Rattle.term_model.specs.Environments.{label_of};
+ghost use Rattle.term_model.specs.Kinds as model;
 ghost use Rattle.rewriting.specs.Rebuilding.{after};
 ghost use Rattle.specialise.specs.Specialising.{specialised};
 ghost use Rattle.specialise.specs.Specialisable.{IsLookedUp};
 
 use fixing_files::Fixings;
 use rewriting::literal;
-use term_core::{Decls, Expr, Kind, Label};
+use term_model::{Decls, Expr, Kind, Label};
 
 // The kind of what is observed; none where the label is not declared.
 fn kind_of_label(decls: &Decls, label: u32) -> Option<Kind>

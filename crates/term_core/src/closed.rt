@@ -2,15 +2,13 @@
 //! and each offset of an observable is within the limit.
 
 ghost use Rattle.std.specs.Prelude.{◌≡◌, ◌≤◌, ◌^◌, ◌↔◌, IfSome, IsTrue, nat_lt};
-ghost use Rattle.term_core.specs.Declarations.{declarations};
-ghost use Rattle.term_core.specs.DayCounts.{day_count};
-ghost use Rattle.term_core.specs.Terms.{expression, contract};
-ghost use Rattle.term_core.specs.WellFormed.{IsClosed, HasOnlyNumbers};
+ghost use Rattle.term_model.specs.Declarations.{declarations};
+ghost use Rattle.term_model.specs.DayCounts.{day_count};
+ghost use Rattle.term_model.specs.Terms.{expression, contract};
+ghost use Rattle.term_model.specs.WellFormed.{IsClosed, HasOnlyNumbers};
 ghost use Rattle.term_core.specs.Binders.{are_below, around, is_declared, is_observable, is_offset, is_transfer, more_of, wanted, wanted_by_contract};
 
-use crate::decls::Decls;
-use crate::limits::GREATEST_OFFSET;
-use crate::terms::{Contr, Days, Expr};
+use term_model::{Contr, Days, Decls, Expr, GREATEST_OFFSET};
 
 // The greater of two counts of binders.
 fn more_of(one: Option<u64>, other: Option<u64>) -> Option<u64>

@@ -1,10 +1,10 @@
 //! How many nodes a term has. Unlike the capped counts of a term, these are exact.
 
 ghost use Rattle.std.specs.Prelude.{◌≡◌, ◌<◌, ◌^◌};
-ghost use Rattle.term_core.specs.Terms.{expression, contract};
-ghost use Rattle.term_core.specs.Sizes.{nodes, nodes_of_contract};
+ghost use Rattle.term_model.specs.Terms.{expression, contract};
+ghost use Rattle.term_model.specs.Sizes.{nodes, nodes_of_contract};
 
-use crate::terms::{Contr, Expr};
+use term_model::{Contr, Expr};
 
 /// The nodes of an expression.
 pub fn nodes_in(e: &Expr) -> u32

@@ -1,7 +1,7 @@
 //! Contracts whose parts are shared.
 
-use crate::terms::Expr;
 use std::rc::Rc;
+use term_model::Expr;
 
 /// A contract whose parts may be shared, for residuals of which most stays from day to day. The
 /// factor of a `Scale` and the expression of a `Let` are read `moved` days later than they stand.

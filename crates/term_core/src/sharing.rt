@@ -1,20 +1,18 @@
 //! Contracts whose parts are shared, of plain ones, and back.
 
 ghost use Rattle.std.specs.Prelude.{◌≡◌, IfOk};
-ghost use Rattle.term_core.specs.DayCounts.{Num as Count};
-ghost use Rattle.term_core.specs.Terms.{contract, expression};
-ghost use Rattle.term_core.specs.Terms.{Zero, Pay, Both, Scale, After, Let, Within};
-ghost use Rattle.term_core.specs.WellFormed.{HasOnlyNumbers};
+ghost use Rattle.term_model.specs.DayCounts.{Num as Count};
+ghost use Rattle.term_model.specs.Terms.{contract, expression};
+ghost use Rattle.term_model.specs.Terms.{Zero, Pay, Both, Scale, After, Let, Within};
+ghost use Rattle.term_model.specs.WellFormed.{HasOnlyNumbers};
 ghost use Rattle.term_core.specs.SharedTerms.{shared, MovesNothing, HasOffsets, HasOffsetsIn};
-ghost use Rattle.term_core.specs.Shifts.{shifted};
+ghost use Rattle.term_model.specs.Shifts.{shifted};
 
-use crate::copies::{nothing, payment};
 use crate::shared::SharedContr;
-use crate::shifts::shift_obs;
-use crate::terms::{Contr, Days, Expr};
 use decimal::NoMemory;
 use std::alloc::Global;
 use std::rc::Rc;
+use term_model::{Contr, Days, Expr, nothing, payment, shift_obs};
 
 /// The contract over parts that nobody else holds yet.
 #[cycle(sharing)]
@@ -86,7 +84,7 @@ fn share_expression(alloc: Global, e: &Expr) -> Result<Rc<Expr>, NoMemory>
 
 // A contract with a factor.
 #[cycle(sharing)]
-#[tactic(auto, using(crate::proofs::ShiftedFacts::shifted_zero))]
+#[tactic(auto, using(term_model::proofs::ShiftedFacts::shifted_zero))]
 fn share_scale(alloc: Global, factor: &Expr, body: &Contr) -> Result<Rc<SharedContr>, NoMemory>
     requires { HasOnlyNumbers (contract body.now) }
     ensures tree { IfOk result (λ s. shared s.value
@@ -116,7 +114,7 @@ fn share_after(alloc: Global, days: u32, body: &Contr) -> Result<Rc<SharedContr>
 
 // A contract with a name.
 #[cycle(sharing)]
-#[tactic(auto, using(crate::proofs::ShiftedFacts::shifted_zero))]
+#[tactic(auto, using(term_model::proofs::ShiftedFacts::shifted_zero))]
 fn share_let(alloc: Global, bound: &Expr, body: &Contr) -> Result<Rc<SharedContr>, NoMemory>
     requires { HasOnlyNumbers (contract body.now) }
     ensures tree { IfOk result (λ s. shared s.value
@@ -161,7 +159,7 @@ fn share_within(
 }
 
 // The expression that a node reads.
-#[tactic(auto, using(crate::proofs::ShiftedFacts::offsets_shift))]
+#[tactic(auto, using(crate::proofs::SharedFacts::offsets_shift))]
 fn read_later(alloc: Global, e: &Expr, moved: i32) -> Result<Expr, NoMemory>
     requires { HasOffsets (shifted moved (expression e.now)) }
     ensures { IfOk result (λ r. expression r ≡ shifted moved (expression e.now)) }

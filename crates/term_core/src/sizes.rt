@@ -1,12 +1,12 @@
 //! How large a term is.
 
 ghost use Rattle.std.specs.Prelude.{◌≡◌, ◌+◌, ◌≤◌, min, max};
-ghost use Rattle.term_core.specs.Limits.{most_counted};
-ghost use Rattle.term_core.specs.Terms.{expression, contract};
-ghost use Rattle.term_core.specs.Sizes.{nodes, height, nodes_of_contract, height_of_contract, capped};
+ghost use Rattle.term_model.specs.Limits.{most_counted};
+ghost use Rattle.term_model.specs.Terms.{expression, contract};
+ghost use Rattle.term_model.specs.Sizes.{nodes, height, nodes_of_contract, height_of_contract};
+ghost use Rattle.term_model.specs.Sizes.{capped};
 
-use crate::limits::MOST_COUNTED;
-use crate::terms::{Contr, Expr};
+use term_model::{Contr, Expr, MOST_COUNTED};
 
 /// The height and the number of nodes of a term; a greater number than 1,000,000 is given as
 /// 1,000,000.

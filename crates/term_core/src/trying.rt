@@ -3,12 +3,12 @@
 //! are counted only where there is a fault.
 
 ghost use Rattle.std.specs.Prelude.{◌≡◌, ◌<◌, ◌+◌, ◌^◌, IfErr};
-ghost use Rattle.term_core.specs.Terms.{expression, contract};
-ghost use Rattle.term_core.specs.Sizes.{nodes, nodes_of_contract};
+ghost use Rattle.term_model.specs.Terms.{expression, contract};
+ghost use Rattle.term_model.specs.Sizes.{nodes, nodes_of_contract};
 ghost use Rattle.term_core.specs.Trying.{moved};
 
 use crate::nodes::{nodes_in, nodes_in_contract};
-use crate::terms::{Contr, Expr};
+use term_model::{Contr, Expr};
 
 /// The answer of the part that follows its node.
 pub fn behind_node<T>(answer: Result<T, u32>) -> Result<T, u32>

@@ -1,20 +1,20 @@
 -- The trial of sorts by structure finds the first node that breaks the rule on sorts.
 use Rattle.std.proofs.Common.{◌≡◌, ℕ, ◌+◌, Bool, true, false, if◌then◌else◌, List, [], ◌∷◌, ◌++◌, map, Option, Some, None, Ok, Err, is_some, refl, ap, sym, subst, ◌∙◌, arith, slice_get, zero, suc, zero-add}
-use Rattle.term_core.specs.Declarations.{Declarations}
-use Rattle.term_core.specs.declared.values.Kind.{Kind}
-use Rattle.term_core.specs.declared.values.Kind.TheVariants.{Truth as TruthKind, Number as NumberKind}
-use Rattle.term_core.specs.declared.rules.Rule.TheVariants.{Sort as SortRule}
-use Rattle.term_core.specs.Terms.{Expression, Lit, Yes, Var, Obs, Neg, Num, Cmp, Not, Logic, Cond, Widen, Round, Div, Acc}
-use Rattle.term_core.specs.Terms.{Contract, Zero, Pay, Both, Scale, After, Let, Within}
-use Rattle.term_core.specs.Environments.{label_of}
-use Rattle.term_core.specs.Flows.{count_of}
-use Rattle.term_core.specs.Kinds.{kind_of, kind_of_label, scale_of_op, on_number, on_numbers, on_truth, joined, of_acc}
-use Rattle.term_core.specs.Values.{kind_or}
-use Rattle.term_core.specs.Sizes.{nodes, nodes_of_contract}
-use Rattle.term_core.specs.Sites.{Site, Layer, Naming, Counting, Later, Earlier, Undated, Once, sites_of, sites_of_contract, sites, expression_at, contract_at, kinds_round}
-use Rattle.term_core.specs.Sorts.{is_sorted, is_number, is_truth}
-use Rattle.term_core.specs.Acceptance.{Meets, FailsAt}
-use Rattle.term_core.proofs.Trials.{or_else, first_failing, first_failing-append, first_failing-is, FaultIs}
+use Rattle.term_model.specs.Declarations.{Declarations}
+use Rattle.term_model.specs.declared.values.Kind.{Kind}
+use Rattle.term_model.specs.declared.values.Kind.TheVariants.{Truth as TruthKind, Number as NumberKind}
+use Rattle.term_model.specs.declared.rules.Rule.TheVariants.{Sort as SortRule}
+use Rattle.term_model.specs.Terms.{Expression, Lit, Yes, Var, Obs, Neg, Num, Cmp, Not, Logic, Cond, Widen, Round, Div, Acc}
+use Rattle.term_model.specs.Terms.{Contract, Zero, Pay, Both, Scale, After, Let, Within}
+use Rattle.term_model.specs.Environments.{label_of}
+use Rattle.term_model.specs.Flows.{count_of}
+use Rattle.term_model.specs.Kinds.{kind_of, kind_of_label, scale_of_op, on_number, on_numbers, on_truth, joined, of_acc}
+use Rattle.term_model.specs.Values.{kind_or}
+use Rattle.term_model.specs.Sizes.{nodes, nodes_of_contract}
+use Rattle.term_model.specs.Sites.{Site, Layer, Naming, Counting, Later, Earlier, Undated, Once, sites_of, sites_of_contract, sites, expression_at, contract_at, kinds_round}
+use Rattle.term_model.specs.Sorts.{is_sorted, is_number, is_truth}
+use Rattle.term_model.specs.Acceptance.{Meets, FailsAt}
+use Rattle.term_model.proofs.Trials.{or_else, first_failing, first_failing-append, first_failing-is, FaultIs}
 use Rattle.time_types.specs.declared.observed_sorts.Sort.{Sort}
 use Rattle.time_types.specs.declared.observed_sorts.Sort.TheVariants.{Truth, Number}
 use Rattle.term_core.specs.Trying.{then_do, moved, or_here}

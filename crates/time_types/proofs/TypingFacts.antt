@@ -1,10 +1,10 @@
 -- Types are kept as times of expressions rise, times of contracts fall, and times of names fall.
 use Rattle.std.proofs.Common.{ℕ, zero, suc, ℤ, pos, ◌+ℤ◌, ◌-ℤ◌, ◌≤ℤ◌, List, [], ◌∷◌, arith, slice_get}
 use Rattle.std.proofs.lemmas.Int.{ints}
-use Rattle.term_core.specs.Terms.{Expression, Lit, Yes, Var, Obs, Neg, Num, Cmp, Not, Logic, Cond, Widen, Round, Div, Acc}
-use Rattle.term_core.specs.Terms.{Contract, Zero, Pay, Both, Scale, After, Let, Within}
-use Rattle.term_core.specs.Flows.{count_of}
-use Rattle.term_core.specs.Times.{AtMost, Typed, TypedContract, raised_by, lowered_by}
+use Rattle.term_model.specs.Terms.{Expression, Lit, Yes, Var, Obs, Neg, Num, Cmp, Not, Logic, Cond, Widen, Round, Div, Acc}
+use Rattle.term_model.specs.Terms.{Contract, Zero, Pay, Both, Scale, After, Let, Within}
+use Rattle.term_model.specs.Flows.{count_of}
+use Rattle.term_model.specs.Times.{AtMost, Typed, TypedContract, raised_by, lowered_by}
 use Rattle.time_types.specs.TypingLaws.{AreNoLater, TypesOfExpressionsRise, TypesOfContractsFall}
 
 -- each name that is known on day t in the first context is known on day u in the second

@@ -1,12 +1,12 @@
 -- What the trial of sorts finds of a term among the names of a scope.
-use Rattle.term_core.specs.declared.decls.Decls.{Decls}
-use Rattle.term_core.specs.declared.terms.Expr.{Expr}
-use Rattle.term_core.specs.declared.terms.Contr.{Contr}
-use Rattle.term_core.specs.declared.scope.Scope.{Scope}
-use Rattle.term_core.specs.Declarations.{declarations}
-use Rattle.term_core.specs.DayCounts.{Num}
-use Rattle.term_core.specs.Scopes.{held_in}
-use Rattle.term_core.specs.Terms.{Expression, Contract, Acc, Within, expression, contract}
+use Rattle.term_model.specs.declared.decls.Decls.{Decls}
+use Rattle.term_model.specs.declared.terms.Expr.{Expr}
+use Rattle.term_model.specs.declared.terms.Contr.{Contr}
+use Rattle.term_model.specs.declared.scope.Scope.{Scope}
+use Rattle.term_model.specs.Declarations.{declarations}
+use Rattle.term_model.specs.DayCounts.{Num}
+use Rattle.term_model.specs.Scopes.{held_in}
+use Rattle.term_model.specs.Terms.{Expression, Contract, Acc, Within, expression, contract}
 use Rattle.time_types.specs.declared.observed_sorts.Sort.{Sort}
 use Rattle.time_types.specs.SortTrials.{Answer, Sorted, sort_tried, sorts_tried}
 

@@ -2,12 +2,12 @@
 -- that breaks the rule on sorts. This goes by structure, each part once; proofs/SortFacts shows that it finds what the
 -- rule says.
 use Rattle.std.specs.Prelude.{ℕ, ◌+◌, List, ◌∷◌, Result, Ok, Err, slice_get}
-use Rattle.term_core.specs.Declarations.{Declarations}
-use Rattle.term_core.specs.Terms.{Expression, Lit, Yes, Var, Obs, Neg, Num, Cmp, Not, Logic, Cond, Widen, Round, Div, Acc}
-use Rattle.term_core.specs.Terms.{Contract, Zero, Pay, Both, Scale, After, Let, Within}
-use Rattle.term_core.specs.Environments.{label_of}
-use Rattle.term_core.specs.Kinds.{kind_of_label}
-use Rattle.term_core.specs.Sizes.{nodes, nodes_of_contract}
+use Rattle.term_model.specs.Declarations.{Declarations}
+use Rattle.term_model.specs.Terms.{Expression, Lit, Yes, Var, Obs, Neg, Num, Cmp, Not, Logic, Cond, Widen, Round, Div, Acc}
+use Rattle.term_model.specs.Terms.{Contract, Zero, Pay, Both, Scale, After, Let, Within}
+use Rattle.term_model.specs.Environments.{label_of}
+use Rattle.term_model.specs.Kinds.{kind_of_label}
+use Rattle.term_model.specs.Sizes.{nodes, nodes_of_contract}
 use Rattle.time_types.specs.declared.observed_sorts.Sort.{Sort}
 use Rattle.time_types.specs.declared.observed_sorts.Sort.TheVariants.{Truth, Number}
 use Rattle.time_types.specs.SortKinds.{sort_of}

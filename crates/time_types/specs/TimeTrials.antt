@@ -4,10 +4,10 @@
 -- proofs/StartFacts and proofs/TimeFaults show that it finds what the rule says.
 use Rattle.std.specs.Prelude.{ℕ, ℤ, pos, ◌+◌, ◌*◌, ◌^◌, ◌+ℤ◌, ◌-ℤ◌, ◌≤◌, unsigned_abs, Bool, true, not, int_lt, List, ◌∷◌, Option, Some, None, Result, Ok, Err, if◌then◌else◌, slice_get}
 use Rattle.std.specs.Int.{int_max, int_min}
-use Rattle.term_core.specs.Terms.{Expression, Lit, Yes, Var, Obs, Neg, Num, Cmp, Not, Logic, Cond, Widen, Round, Div, Acc}
-use Rattle.term_core.specs.Terms.{Contract, Zero, Pay, Both, Scale, After, Let, Within}
-use Rattle.term_core.specs.Flows.{count_of}
-use Rattle.term_core.specs.Sizes.{nodes, nodes_of_contract}
+use Rattle.term_model.specs.Terms.{Expression, Lit, Yes, Var, Obs, Neg, Num, Cmp, Not, Logic, Cond, Widen, Round, Div, Acc}
+use Rattle.term_model.specs.Terms.{Contract, Zero, Pay, Both, Scale, After, Let, Within}
+use Rattle.term_model.specs.Flows.{count_of}
+use Rattle.term_model.specs.Sizes.{nodes, nodes_of_contract}
 use Rattle.time_types.specs.declared.starts.Start.{Start}
 use Rattle.time_types.specs.declared.starts.Start.TheVariants.{Day, Always}
 use Rattle.term_core.specs.Trying.{then_do, moved}

@@ -1,8 +1,8 @@
 -- Types are kept where an expression is asked on a later day, a contract on an earlier one, and where names are known
 -- sooner.
 use Rattle.std.specs.Prelude.{ℤ, ◌≤ℤ◌, List, [], ◌∷◌}
-use Rattle.term_core.specs.Terms.{Expression, Contract}
-use Rattle.term_core.specs.Times.{Typed, TypedContract}
+use Rattle.term_model.specs.Terms.{Expression, Contract}
+use Rattle.term_model.specs.Times.{Typed, TypedContract}
 
 -- the first context's times are at most the second's, name by name
 abbrev pub AreNoLater : List ℤ → List ℤ → Type 0

@@ -1,12 +1,12 @@
 //! Sorts, and the sort of what is observed.
 
 ghost use Rattle.std.specs.Prelude.{◌≡◌};
-ghost use Rattle.term_core.specs.Declarations.{declarations};
-ghost use Rattle.term_core.specs.Environments.{label_of};
-ghost use Rattle.term_core.specs.Kinds.{kind_of_label};
+ghost use Rattle.term_model.specs.Declarations.{declarations};
+ghost use Rattle.term_model.specs.Environments.{label_of};
+ghost use Rattle.term_model.specs.Kinds.{kind_of_label};
 ghost use Rattle.time_types.specs.SortKinds.{sort_of};
 
-use term_core::{Decls, Label};
+use term_model::{Decls, Label};
 
 /// What an expression is by its form. A kind would also count decimals, which at this rule have no
 /// limit yet.

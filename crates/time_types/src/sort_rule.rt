@@ -5,23 +5,21 @@
 //! locals of all its arms, so each form with parts has one of its own.
 
 ghost use Rattle.std.specs.Prelude.{◌≡◌, ◌<◌, ◌≤◌, ◌+◌, ◌^◌, IfErr};
-ghost use Rattle.term_core.specs.Declarations.{declarations};
-ghost use Rattle.term_core.specs.declared.rules.Rule.{Rule};
-ghost use Rattle.term_core.specs.Terms.{expression, contract, Both, Cond, Let, Scale};
-ghost use Rattle.term_core.specs.Sizes.{nodes, nodes_of_contract, height_of_contract};
-ghost use Rattle.term_core.specs.Scopes.{held_in};
+ghost use Rattle.term_model.specs.Declarations.{declarations};
+ghost use Rattle.term_model.specs.declared.rules.Rule.{Rule};
+ghost use Rattle.term_model.specs.Terms.{expression, contract, Both, Cond, Let, Scale};
+ghost use Rattle.term_model.specs.Sizes.{nodes, nodes_of_contract, height_of_contract};
+ghost use Rattle.term_model.specs.Scopes.{held_in};
 ghost use Rattle.term_core.specs.Trying.{FaultIsWithin, or_here};
 ghost use Rattle.time_types.specs.ScopedSorts.{sort_within, sorts_within, sorts_of_branches};
 ghost use Rattle.time_types.specs.ScopedSorts as scoped;
 ghost use Rattle.time_types.specs.SortTrials.{expected, required, one_tried, two_tried, sort_tried};
-ghost use Rattle.term_core.specs.Verdicts.{IsVerdict};
+ghost use Rattle.term_model.specs.Verdicts.{IsVerdict};
 
 use crate::observed_sorts::{Sort, sort_observed};
 use std::alloc::Global;
-use term_core::{
-    CheckErr, Contr, Decls, Expr, Rule, Scope, behind, behind_both, behind_contract, behind_node,
-    behind_two, held_at,
-};
+use term_model::{CheckErr, Contr, Decls, Expr, Rule, Scope, held_at};
+use term_core::{behind, behind_both, behind_contract, behind_node, behind_two};
 
 // The answer where a sort is as wanted, else a fault here.
 fn expect(wanted: Sort, found: Sort, answer: Sort) -> Result<Sort, u32>

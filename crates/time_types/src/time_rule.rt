@@ -5,26 +5,24 @@
 
 ghost use Rattle.std.specs.Prelude.{◌≡◌, ◌<◌, ◌≤◌, ◌+◌, ◌^◌, pos, ◌+ℤ◌, ◌-ℤ◌, unsigned_abs, IfErr};
 ghost use Rattle.std.specs.Prelude.{slice_get};
-ghost use Rattle.term_core.specs.Declarations.{declarations};
-ghost use Rattle.term_core.specs.declared.rules.Rule.{Rule};
-ghost use Rattle.term_core.specs.Terms.{expression, contract};
-ghost use Rattle.term_core.specs.Sizes.{nodes, height, nodes_of_contract, height_of_contract};
-ghost use Rattle.term_core.specs.Times.{IsStart};
-ghost use Rattle.term_core.specs.WellFormed.{IsClosed, HasOnlyNumbers};
-ghost use Rattle.term_core.specs.Acceptance.{Meets};
-ghost use Rattle.term_core.specs.Scopes.{held_in};
+ghost use Rattle.term_model.specs.Declarations.{declarations};
+ghost use Rattle.term_model.specs.declared.rules.Rule.{Rule};
+ghost use Rattle.term_model.specs.Terms.{expression, contract};
+ghost use Rattle.term_model.specs.Sizes.{nodes, height, nodes_of_contract, height_of_contract};
+ghost use Rattle.term_model.specs.Times.{IsStart};
+ghost use Rattle.term_model.specs.WellFormed.{IsClosed, HasOnlyNumbers};
+ghost use Rattle.term_model.specs.Acceptance.{Meets};
+ghost use Rattle.term_model.specs.Scopes.{held_in};
 ghost use Rattle.term_core.specs.Trying.{FaultIsWithin};
 ghost use Rattle.time_types.specs.Starts.{start_day};
 ghost use Rattle.time_types.specs.TimeTrials.{HasRoom, later, name_known, known_from, in_time};
 ghost use Rattle.time_types.specs.TimeTrials.{start_tried};
-ghost use Rattle.term_core.specs.Verdicts.{IsVerdict};
+ghost use Rattle.term_model.specs.Verdicts.{IsVerdict};
 
 use crate::starts::{Start, earlier_of, is_known};
 use std::alloc::Global;
-use term_core::{
-    CheckErr, Contr, Decls, Expr, Rule, Scope, behind, behind_both, behind_contract, behind_node,
-    day_read, days_earlier, days_later, held_at,
-};
+use term_model::{CheckErr, Contr, Decls, Expr, Rule, Scope, day_read, days_earlier, days_later, held_at};
+use term_core::{behind, behind_both, behind_contract, behind_node};
 
 // The day from which both are known.
 fn later_of(a: Option<i64>, b: Option<i64>) -> Option<i64>

@@ -1,4 +1,4 @@
-use Rattle.term_core.specs.Declarations.{declarations}
+use Rattle.term_model.specs.Declarations.{declarations}
 use Rattle.advance_step.proofs.KnownFacts.{known_answers}
 use Rattle.advance_step.proofs.known.carry_known.Goals as goal
 

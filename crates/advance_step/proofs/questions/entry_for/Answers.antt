@@ -1,9 +1,9 @@
 use Rattle.std.proofs.Common.{sym, subst, arith}
 use Rattle.std.specs.Int.{w32}
 use Rattle.std.proofs.lemmas.Int.{to_z-of_z, ints}
-use Rattle.term_core.specs.Declarations.{declarations}
-use Rattle.term_core.specs.Shifts.{shifted}
-use Rattle.term_core.specs.Terms.{expression}
+use Rattle.term_model.specs.Declarations.{declarations}
+use Rattle.term_model.specs.Shifts.{shifted}
+use Rattle.term_model.specs.Terms.{expression}
 use Rattle.expr_eval.specs.declared.scratch.Binding.{Binding}
 use Rattle.fixing_files.specs.Knowledge.{Knowledge}
 use Rattle.advance_step.specs.CarryingWalk.{EntersOn, IsEntry}

@@ -1,6 +1,6 @@
 use Rattle.std.proofs.Common.{rules, ◌≡◌, ◌<◌, ℤ, [], Some, IfOk, refl, subst, w64}
 use Rattle.std.proofs.lemmas.Int.{to_z-of_z}
-use Rattle.term_core.specs.Declarations.{declarations}
+use Rattle.term_model.specs.Declarations.{declarations}
 use Rattle.term_core.specs.SharedTerms.{shared}
 use Rattle.rewriting.specs.Measures.{size_in}
 use Rattle.specialise.specs.Specialising.{specialised_in}

@@ -1,4 +1,4 @@
-use Rattle.term_core.specs.Declarations.{declarations}
+use Rattle.term_model.specs.Declarations.{declarations}
 use Rattle.term_core.specs.SharedTerms.{shared}
 use Rattle.advance_step.proofs.GoneFacts.{known_in, left_in}
 use Rattle.advance_step.proofs.residual.carried_after.Goals as goal

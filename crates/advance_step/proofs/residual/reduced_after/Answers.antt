@@ -1,5 +1,5 @@
 use Rattle.std.proofs.Common.{rules, ◌≡◌, ◌+ℤ◌, ℤ, pos, subst, w64, to_z, of_z}
-use Rattle.term_core.specs.Declarations.{declarations}
+use Rattle.term_model.specs.Declarations.{declarations}
 use Rattle.term_core.specs.SharedTerms.{shared}
 use Rattle.advance_step.specs.Residual.{IsReducedFrom}
 use Rattle.advance_step.proofs.ResidualFacts.{residual_is}

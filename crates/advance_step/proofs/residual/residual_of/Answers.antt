@@ -1,9 +1,9 @@
 use Rattle.std.proofs.Common.{sym, subst}
-use Rattle.term_core.specs.Declarations.{declarations}
+use Rattle.term_model.specs.Declarations.{declarations}
 use Rattle.term_core.specs.declared.shared.SharedContr.{SharedContr}
 use Rattle.term_core.specs.SharedTerms.{shared, HasOffsetsIn}
-use Rattle.term_core.specs.Terms.{contract}
-use Rattle.term_core.proofs.ShiftedFacts.{formed_offsets_in}
+use Rattle.term_model.specs.Terms.{contract}
+use Rattle.term_core.proofs.SharedFacts.{formed_offsets_in}
 use Rattle.specialise.proofs.CallFacts.{offsets_shared}
 use Rattle.advance_step.proofs.KnownFacts.{gone_residual}
 use Rattle.advance_step.proofs.residual.residual_of.Goals as goal

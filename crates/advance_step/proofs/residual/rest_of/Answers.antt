@@ -1,6 +1,6 @@
 use Rattle.std.proofs.Common.{◌-◌, arith}
-use Rattle.term_core.specs.Declarations.{declarations}
-use Rattle.term_core.specs.Terms.{contract}
+use Rattle.term_model.specs.Declarations.{declarations}
+use Rattle.term_model.specs.Terms.{contract}
 use Rattle.advance_step.proofs.SimpleFacts.{simple_residual}
 use Rattle.advance_step.proofs.residual.rest_of.Goals as goal
 

@@ -1,5 +1,5 @@
 use Rattle.std.proofs.Common.{◌+◌, ◌*◌, max}
-use Rattle.term_core.specs.declared.terms.Contr.{size-Contr}
+use Rattle.term_model.specs.declared.terms.Contr.{size-Contr}
 use Rattle.advance_step.proofs.simple_contracts.+passing.Given as goal
 
 abbrev pub decreases-left_of_simple : goal.decreases-left_of_simple

@@ -1,10 +1,10 @@
 use Rattle.std.proofs.Common.{rules, ◌≡◌, sym, subst}
-use Rattle.term_core.specs.Declarations.{declarations}
+use Rattle.term_model.specs.Declarations.{declarations}
 use Rattle.term_core.specs.declared.shared.SharedContr.{SharedContr}
 use Rattle.term_core.specs.SharedTerms.{shared, HasOffsetsIn}
-use Rattle.term_core.specs.Terms.{Contract, contract}
-use Rattle.term_core.specs.WellFormed.{HasOnlyNumbers, IsClosed}
-use Rattle.term_core.proofs.ShiftedFacts.{formed_offsets_in}
+use Rattle.term_model.specs.Terms.{Contract, contract}
+use Rattle.term_model.specs.WellFormed.{HasOnlyNumbers, IsClosed}
+use Rattle.term_core.proofs.SharedFacts.{formed_offsets_in}
 use Rattle.specialise.proofs.CallFacts.{offsets_shared, shared_numbers}
 use Rattle.advance_step.proofs.stepping.step.Goals as goal
 

@@ -1,8 +1,8 @@
 use Rattle.std.proofs.Common.{rules, ◌≡◌, ◌≤◌, ◌<◌, ◌-◌, ℕ, ap, sym, ◌∙◌, Option, Ok, Err, arith}
 use Rattle.std.specs.Int.{w32}
 use Rattle.std.proofs.lemmas.Int.{to_z-of_z}
-use Rattle.term_core.specs.Terms.{expression}
-use Rattle.term_core.specs.declared.terms.Expr.{Expr}
+use Rattle.term_model.specs.Terms.{expression}
+use Rattle.term_model.specs.declared.terms.Expr.{Expr}
 use Rattle.term_core.specs.declared.shared.SharedContr.{SharedContr}
 use Rattle.term_core.specs.SharedTerms.{shared}
 use Rattle.expr_eval.specs.Trials.{DayOrMissing}

@@ -1,4 +1,4 @@
-use Rattle.term_core.specs.Terms.{contract}
+use Rattle.term_model.specs.Terms.{contract}
 use Rattle.command_answers.proofs.AdvanceFacts.{carried_one, not_carried}
 use Rattle.command_answers.proofs.advance_text.advance_contract.Goals as goal
 

@@ -1,5 +1,5 @@
-use Rattle.term_core.specs.declared.name.Name.{Name}
-use Rattle.term_core.specs.Terms.{Contract, contract}
+use Rattle.term_model.specs.declared.name.Name.{Name}
+use Rattle.term_model.specs.Terms.{Contract, contract}
 use Rattle.command_answers.specs.AdvanceParts.{HasRests, declared_to}
 use Rattle.command_answers.specs.ChoosingParts.{selection}
 use Rattle.command_answers.proofs.AdvanceFacts.{chosen_accepted, chosen_none, chosen_one, chosen_triable, on_ok}

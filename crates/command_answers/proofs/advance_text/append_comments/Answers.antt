@@ -1,7 +1,7 @@
 use Rattle.std.proofs.Common.{◌≡◌, ◌<◌, ◌++◌, List, arith, get_or, length, pos, subst, sym, take}
 use Rattle.std.specs.Prelude.{codes}
 use Rattle.std.proofs.lemmas.List.{take_more}
-use Rattle.term_core.specs.Declarations.{declarations}
+use Rattle.term_model.specs.Declarations.{declarations}
 use Rattle.report.specs.FlowLines.{AppendsFlowLine}
 use Rattle.command_answers.specs.AdvanceParts.{AppendsComments}
 use Rattle.flow_eval.specs.declared.flow_table.FlowRow.{FlowRow}

@@ -1,7 +1,7 @@
 use Rattle.std.proofs.Common.{◌≡◌, ℕ, List, Bor, subst, sym}
 use Rattle.std.specs.Prelude.{Option, option_map}
 use Rattle.std.specs.Global.{Vec}
-use Rattle.term_core.specs.Declarations.{declarations}
+use Rattle.term_model.specs.Declarations.{declarations}
 use Rattle.contract_parse.specs.declared.next_contracts.ContractReader.{ContractReader}
 use Rattle.command_words.specs.Words.{advance_by}
 use Rattle.command_answers.specs.AdvanceParts.{IsCarriedText, StopsCarry}

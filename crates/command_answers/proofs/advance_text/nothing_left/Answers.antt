@@ -1,4 +1,4 @@
-use Rattle.term_core.specs.Declarations.{declarations}
+use Rattle.term_model.specs.Declarations.{declarations}
 use Rattle.command_answers.proofs.AdvanceFacts.{none_left}
 use Rattle.command_answers.proofs.advance_text.nothing_left.Goals as goal
 

@@ -1,6 +1,6 @@
 use Rattle.std.proofs.Common.{◌≤◌, ℕ, List, length, subst, sym}
 use Rattle.std.specs.Prelude.{Some, Err}
-use Rattle.term_core.specs.Limits.{longest_file}
+use Rattle.term_model.specs.Limits.{longest_file}
 use Rattle.command_words.specs.Words.{advance_by}
 use Rattle.command_answers.specs.AdvanceCourse.{advance_course}
 use Rattle.command_answers.specs.AdvanceParts.{advance_of_text}

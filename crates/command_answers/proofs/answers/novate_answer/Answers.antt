@@ -1,6 +1,6 @@
 use Rattle.std.proofs.Common.{◌≤◌, ℕ, List, length, subst, sym}
 use Rattle.std.specs.Prelude.{Some, Err}
-use Rattle.term_core.specs.Limits.{longest_file}
+use Rattle.term_model.specs.Limits.{longest_file}
 use Rattle.command_words.specs.Words.{novate_by}
 use Rattle.command_answers.specs.NovateCourse.{novate_course}
 use Rattle.command_answers.specs.NovateParts.{novate_of_text}

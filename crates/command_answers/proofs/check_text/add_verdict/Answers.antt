@@ -1,7 +1,7 @@
 use Rattle.std.proofs.Common.{◌∙◌, ℕ, List, ap, rules, subst, sym}
-use Rattle.term_core.specs.Declarations.{declarations}
-use Rattle.term_core.specs.Instances.{HasNumbers, instance}
-use Rattle.term_core.specs.Terms.{Contract, contract}
+use Rattle.term_model.specs.Declarations.{declarations}
+use Rattle.term_model.specs.Instances.{HasNumbers, instance}
+use Rattle.term_model.specs.Terms.{Contract, contract}
 use Rattle.command_answers.specs.CheckParts.{AppendsVerdict}
 use Rattle.command_answers.specs.UsedParts.{IsTriable}
 use Rattle.command_answers.proofs.UsedFacts.{defaults_small, numbers_given, triable}

@@ -1,5 +1,5 @@
 use Rattle.std.proofs.Common.{true, [], refl}
-use Rattle.term_core.specs.Declarations.{declarations}
+use Rattle.term_model.specs.Declarations.{declarations}
 use Rattle.command_answers.specs.CheckParts.{AreTextVerdicts}
 use Rattle.command_answers.specs.ReadingParts.{IsNextOrEnd}
 use Rattle.command_answers.specs.Stages.{IsBadText}

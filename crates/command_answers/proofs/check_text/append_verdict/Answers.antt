@@ -1,5 +1,5 @@
-use Rattle.term_core.specs.Declarations.{declarations}
-use Rattle.term_core.specs.Terms.{contract}
+use Rattle.term_model.specs.Declarations.{declarations}
+use Rattle.term_model.specs.Terms.{contract}
 use Rattle.command_answers.proofs.CheckFacts.{one_verdict, verdict_small}
 use Rattle.command_answers.proofs.check_text.append_verdict.Goals as goal
 

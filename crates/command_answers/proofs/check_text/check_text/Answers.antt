@@ -1,5 +1,5 @@
-use Rattle.term_core.specs.declared.decls.Decls.{Decls}
-use Rattle.term_core.specs.Declarations.{declarations}
+use Rattle.term_model.specs.declared.decls.Decls.{Decls}
+use Rattle.term_model.specs.Declarations.{declarations}
 use Rattle.contract_parse.specs.declared.next_contracts.ContractReader.{ContractReader}
 use Rattle.command_answers.specs.CheckParts.{AreTextVerdicts}
 use Rattle.command_answers.specs.ReadingParts.{IsBegun}

@@ -1,5 +1,5 @@
 use Rattle.std.proofs.Common.{◌≡◌, subst, sym}
-use Rattle.term_core.specs.Declarations.{declarations}
+use Rattle.term_model.specs.Declarations.{declarations}
 use Rattle.report.specs.declared.fault_lines.Fault.{Fault}
 use Rattle.command_answers.specs.ChoosingParts.{HasName, StopsByName, StopsIn, StopsOn, selection}
 use Rattle.command_answers.specs.declared.stop.Stop.TheVariants as stop

@@ -1,8 +1,8 @@
 use Rattle.std.proofs.Common.{◌∙◌, ◌||◌, Bool, ap, refl, sym}
 use Rattle.std.specs.Prelude.{not}
 use Rattle.std.proofs.lemmas.Result.{IfOk-weaker}
-use Rattle.term_core.specs.Declarations.{declarations}
-use Rattle.term_core.specs.Terms.{contract}
+use Rattle.term_model.specs.Declarations.{declarations}
+use Rattle.term_model.specs.Terms.{contract}
 use Rattle.command_words.specs.Arguments.{given_text}
 use Rattle.command_answers.specs.ChoosingParts.{Chooses, TriesNext, selection}
 use Rattle.command_answers.specs.UsedContracts.{at_defaults}

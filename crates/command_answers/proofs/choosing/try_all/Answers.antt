@@ -1,4 +1,4 @@
-use Rattle.term_core.specs.Declarations.{declarations}
+use Rattle.term_model.specs.Declarations.{declarations}
 use Rattle.command_answers.specs.ChoosingParts.{IsWalkedThrough, Nothing, selection}
 use Rattle.command_answers.specs.ReadingParts.{IsNextOrEnd}
 use Rattle.command_answers.specs.Stages.{IsBadText}

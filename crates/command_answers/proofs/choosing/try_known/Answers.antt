@@ -1,5 +1,5 @@
 use Rattle.std.proofs.Common.{inl, inr, true, ◌≡◌}
-use Rattle.term_core.specs.Declarations.{declarations}
+use Rattle.term_model.specs.Declarations.{declarations}
 use Rattle.command_answers.specs.ChoosingParts.{HasName, IsWalkedThrough, Nothing, StopsByName, StopsIn, selection, so_far, unknown}
 use Rattle.command_answers.specs.Stages.{IsBadText, IsUnknownName}
 use Rattle.command_answers.specs.UsedContracts.{is_known}

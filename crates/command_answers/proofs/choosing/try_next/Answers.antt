@@ -1,9 +1,9 @@
 use Rattle.std.proofs.Common.{◌∙◌, ℕ, List, ap, refl, subst, sym}
 use Rattle.std.specs.Prelude.{Some}
-use Rattle.term_core.specs.Acceptance.{IsAccepted, IsRefusal}
-use Rattle.term_core.specs.Declarations.{declarations}
-use Rattle.term_core.specs.Instances.{HasNumbers, instance}
-use Rattle.term_core.specs.Terms.{Contract, contract}
+use Rattle.term_model.specs.Acceptance.{IsAccepted, IsRefusal}
+use Rattle.term_model.specs.Declarations.{declarations}
+use Rattle.term_model.specs.Instances.{HasNumbers, instance}
+use Rattle.term_model.specs.Terms.{Contract, contract}
 use Rattle.report.specs.declared.fault_lines.Fault.{Fault}
 use Rattle.command_answers.specs.CheckParts.{IsVerdictOf}
 use Rattle.command_answers.specs.UsedContracts.{at_defaults}

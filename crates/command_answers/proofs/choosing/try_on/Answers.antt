@@ -1,5 +1,5 @@
-use Rattle.term_core.specs.Declarations.{declarations}
-use Rattle.term_core.specs.Terms.{contract}
+use Rattle.term_model.specs.Declarations.{declarations}
+use Rattle.term_model.specs.Terms.{contract}
 use Rattle.command_answers.specs.ChoosingParts.{selection}
 use Rattle.command_answers.proofs.ChoosingFacts.{steps_nothing}
 use Rattle.command_answers.proofs.choosing.try_on.Goals as goal

@@ -1,7 +1,7 @@
 use Rattle.std.proofs.Common.{ℕ, List, subst, sym}
-use Rattle.term_core.specs.Acceptance.{IsAccepted}
-use Rattle.term_core.specs.Declarations.{declarations}
-use Rattle.term_core.specs.Terms.{Contract, contract}
+use Rattle.term_model.specs.Acceptance.{IsAccepted}
+use Rattle.term_model.specs.Declarations.{declarations}
+use Rattle.term_model.specs.Terms.{Contract, contract}
 use Rattle.schedule_forms.specs.Expansions.{expansion}
 use Rattle.command_answers.specs.ExpandParts.{IsAcceptedExpansion}
 use Rattle.command_answers.specs.FlowsParts.{IsRefusedOne}

@@ -1,8 +1,8 @@
 use Rattle.std.specs.Global.{Vec}
 use Rattle.std.proofs.Common.{◌≡◌, ℕ, List, map, rules, subst}
-use Rattle.term_core.specs.declared.name.Name.{Name}
-use Rattle.term_core.specs.Declarations.{declarations}
-use Rattle.term_core.specs.Terms.{Contract}
+use Rattle.term_model.specs.declared.name.Name.{Name}
+use Rattle.term_model.specs.Declarations.{declarations}
+use Rattle.term_model.specs.Terms.{Contract}
 use Rattle.contract_print.specs.Writable.{IsWritableTerm}
 use Rattle.schedule_forms.specs.DeclaredPlans.{IsPlanOfTexts}
 use Rattle.schedule_forms.specs.Expansions.{expansion}

@@ -1,4 +1,4 @@
-use Rattle.term_core.specs.Declarations.{declarations}
+use Rattle.term_model.specs.Declarations.{declarations}
 use Rattle.command_answers.specs.ExpandParts.{ArePlansOfTexts, ArePrintedBefore, AreWritableExpansions}
 use Rattle.command_answers.proofs.expand_text.expansions_text.Given as goal
 

@@ -1,5 +1,5 @@
 use Rattle.std.proofs.Common.{take}
-use Rattle.term_core.specs.Declarations.{declarations}
+use Rattle.term_model.specs.Declarations.{declarations}
 use Rattle.command_answers.specs.FlowsParts.{AppendsLines}
 use Rattle.command_answers.proofs.flows_text.append_table.Given as goal
 

@@ -1,6 +1,6 @@
 use Rattle.std.proofs.Common.{◌≡◌, inl, refl}
 use Rattle.std.specs.Prelude.{None, Some}
-use Rattle.term_core.specs.Declarations.{declarations}
+use Rattle.term_model.specs.Declarations.{declarations}
 use Rattle.report.specs.declared.fault_lines.Fault.{Fault}
 use Rattle.command_answers.specs.ChoosingParts.{IsPassed, IsWalkedThrough, StopsIn, StopsOn, selection, so_far}
 use Rattle.command_answers.specs.FlowsParts.{HasFlows, ListsFlows, StopsFlows}

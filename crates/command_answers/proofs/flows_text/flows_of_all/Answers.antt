@@ -1,6 +1,6 @@
 use Rattle.std.proofs.Common.{refl}
 use Rattle.std.specs.Prelude.{None}
-use Rattle.term_core.specs.Declarations.{declarations}
+use Rattle.term_model.specs.Declarations.{declarations}
 use Rattle.command_answers.specs.ChoosingParts.{IsWalkedThrough, selection}
 use Rattle.command_answers.specs.FlowsParts.{HasFlows}
 use Rattle.command_answers.specs.ReadingParts.{IsNextOrEnd}

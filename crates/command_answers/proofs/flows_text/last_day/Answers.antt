@@ -1,6 +1,6 @@
 use Rattle.std.proofs.Common.{ℕ, List, ap, subst, sym}
 use Rattle.std.specs.Prelude.{Option, Some, option_map}
-use Rattle.term_core.specs.Declarations.{declarations}
+use Rattle.term_model.specs.Declarations.{declarations}
 use Rattle.command_answers.specs.FlowsParts.{CanBeLast}
 use Rattle.command_answers.specs.FlowsPromise.{IsDayAsked, greatest_day}
 use Rattle.command_answers.specs.Stages.{IsDayFault, IsWordFault}

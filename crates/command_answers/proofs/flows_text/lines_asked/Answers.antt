@@ -1,6 +1,6 @@
 use Rattle.std.specs.Prelude.{ℕ}
 use Rattle.std.specs.Global.{Vec}
-use Rattle.term_core.specs.Declarations.{declarations}
+use Rattle.term_model.specs.Declarations.{declarations}
 use Rattle.command_answers.specs.ChoosingParts.{StopsIn}
 use Rattle.command_answers.specs.FlowsParts.{ListsFlows, StopsFlows, TellsLines}
 use Rattle.command_answers.specs.declared.flows_text.Listed.{Listed}

@@ -1,7 +1,7 @@
 use Rattle.std.proofs.Common.{ℕ, ℤ, refl, subst, sym, w64}
 use Rattle.std.proofs.lemmas.Int.{to_z-of_z}
 use Rattle.std.specs.Global.{Vec}
-use Rattle.term_core.specs.Declarations.{declarations}
+use Rattle.term_model.specs.Declarations.{declarations}
 use Rattle.contract_parse.specs.declared.next_contracts.ContractReader.{ContractReader}
 use Rattle.command_words.specs.Arguments.{given_text}
 use Rattle.command_words.specs.Words.{flows_by}

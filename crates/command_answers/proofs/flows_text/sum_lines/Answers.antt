@@ -1,6 +1,6 @@
 use Rattle.std.proofs.Common.{ℕ, List, [], subst, sym}
 use Rattle.std.specs.Prelude.{codes}
-use Rattle.term_core.specs.Declarations.{declarations}
+use Rattle.term_model.specs.Declarations.{declarations}
 use Rattle.command_answers.specs.FlowsParts.{AppendsLines}
 use Rattle.command_answers.specs.FlowsPromise.{AreLines}
 use Rattle.command_answers.proofs.LineFacts.{rows_writable}

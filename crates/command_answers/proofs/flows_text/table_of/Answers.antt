@@ -1,8 +1,8 @@
 use Rattle.std.proofs.Common.{ℤ, pos, subst, w64, to_z, of_z}
 use Rattle.std.proofs.lemmas.Int.{to_z-of_z}
 use Rattle.std.specs.Prelude.{Err}
-use Rattle.term_core.specs.Declarations.{declarations}
-use Rattle.term_core.specs.Terms.{contract}
+use Rattle.term_model.specs.Declarations.{declarations}
+use Rattle.term_model.specs.Terms.{contract}
 use Rattle.flow_eval.specs.FlowAnswers.{AreFlows}
 use Rattle.command_answers.proofs.DayFacts.{fits_day}
 use Rattle.command_answers.proofs.LineFacts.{without_flows}

@@ -1,7 +1,7 @@
 use Rattle.std.proofs.Common.{ℕ, inl, ◌∙◌, ap}
 use Rattle.std.specs.Global.{Vec}
-use Rattle.term_core.specs.Declarations.{Declarations, declarations}
-use Rattle.term_core.specs.declared.decls.Decls.{Decls}
+use Rattle.term_model.specs.Declarations.{Declarations, declarations}
+use Rattle.term_model.specs.declared.decls.Decls.{Decls}
 use Rattle.contract_parse.specs.declared.next_contracts.ContractReader.{ContractReader}
 use Rattle.contract_print.specs.Migrated.{in_version_two}
 use Rattle.command_answers.specs.Course.{Stops, Tells}

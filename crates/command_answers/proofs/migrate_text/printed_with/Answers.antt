@@ -1,6 +1,6 @@
 use Rattle.std.proofs.Common.{ℕ, List, inl}
 use Rattle.std.specs.Global.{Vec}
-use Rattle.term_core.specs.Declarations.{declarations}
+use Rattle.term_model.specs.Declarations.{declarations}
 use Rattle.command_answers.specs.Course.{Stops, Tells}
 use Rattle.command_answers.specs.MigrateCourse.{migrate_of_text}
 use Rattle.command_answers.specs.ReadingParts.{IsNextOrEnd}

@@ -1,5 +1,5 @@
 use Rattle.std.specs.Prelude.{ℕ, List}
-use Rattle.term_core.specs.Declarations.{declarations}
+use Rattle.term_model.specs.Declarations.{declarations}
 use Rattle.contract_parse.specs.NextContracts.{bytes_left}
 use Rattle.command_answers.specs.MigrateParts.{IsMigratedTo}
 use Rattle.command_answers.specs.ReadingParts.{IsBegun}

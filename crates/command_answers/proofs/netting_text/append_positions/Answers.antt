@@ -1,6 +1,6 @@
 use Rattle.std.proofs.Common.{◌<◌, List, arith, get_or, length, pos, subst, sym, take}
 use Rattle.std.proofs.lemmas.List.{take_more}
-use Rattle.term_core.specs.Declarations.{declarations}
+use Rattle.term_model.specs.Declarations.{declarations}
 use Rattle.exposure.specs.PositionLines.{AppendsPositionLine}
 use Rattle.exposure.specs.declared.accounts.PositionRow.{PositionRow}
 use Rattle.command_answers.specs.NettingParts.{AppendsPositions}

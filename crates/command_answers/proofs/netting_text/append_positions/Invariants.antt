@@ -1,5 +1,5 @@
 use Rattle.std.proofs.Common.{take}
-use Rattle.term_core.specs.Declarations.{declarations}
+use Rattle.term_model.specs.Declarations.{declarations}
 use Rattle.command_answers.specs.NettingParts.{AppendsPositions}
 use Rattle.command_answers.proofs.netting_text.append_positions.Given as goal
 

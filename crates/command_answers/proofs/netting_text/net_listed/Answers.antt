@@ -1,4 +1,4 @@
-use Rattle.term_core.specs.Declarations.{declarations}
+use Rattle.term_model.specs.Declarations.{declarations}
 use Rattle.command_answers.specs.ChoosingParts.{StopsIn}
 use Rattle.command_answers.specs.FlowsParts.{ListsFlows, StopsFlows}
 use Rattle.command_answers.specs.NettingParts.{ListsNet}

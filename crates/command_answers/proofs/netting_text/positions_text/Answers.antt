@@ -1,5 +1,5 @@
 use Rattle.std.proofs.Common.{ℕ, List, [], subst, sym}
-use Rattle.term_core.specs.Declarations.{declarations}
+use Rattle.term_model.specs.Declarations.{declarations}
 use Rattle.command_words.specs.Arguments.{given_text}
 use Rattle.command_words.specs.Words.{netting_by}
 use Rattle.command_answers.specs.NettingParts.{AppendsPositions}

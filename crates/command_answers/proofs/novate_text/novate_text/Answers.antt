@@ -1,8 +1,8 @@
 use Rattle.std.proofs.Common.{◌≡◌, ℕ, List, Bor, ap, inl, subst, sym}
 use Rattle.std.specs.Prelude.{Option, Some, Err, option_map}
 use Rattle.std.specs.Global.{Vec}
-use Rattle.term_core.specs.Declarations.{Declarations, declarations}
-use Rattle.term_core.specs.declared.decls.Decls.{Decls}
+use Rattle.term_model.specs.Declarations.{Declarations, declarations}
+use Rattle.term_model.specs.declared.decls.Decls.{Decls}
 use Rattle.contract_parse.specs.declared.next_contracts.ContractReader.{ContractReader}
 use Rattle.command_words.specs.Words.{novate_by}
 use Rattle.command_answers.specs.AdvanceParts.{IsCarriedText, StopsCarry}

@@ -1,7 +1,7 @@
 use Rattle.std.proofs.Common.{◌≡◌, ◌≤ℤ◌, ℤ, arith, ap, of_z, pos, rules, subst, sym, to_z, w64}
 use Rattle.std.specs.Prelude.{Some, None}
 use Rattle.std.proofs.lemmas.Int.{ints, to_z-of_z}
-use Rattle.term_core.specs.Declarations.{declarations}
+use Rattle.term_model.specs.Declarations.{declarations}
 use Rattle.fixing_files.specs.Days.{placed_day}
 use Rattle.flow_eval.specs.Readiness.{last_day}
 use Rattle.report.specs.declared.fault_lines.Fault.TheVariants as fault

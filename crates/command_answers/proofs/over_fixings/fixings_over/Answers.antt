@@ -1,5 +1,5 @@
-use Rattle.term_core.specs.Declarations.{Declarations, declarations}
-use Rattle.term_core.specs.Environments.{Environment}
+use Rattle.term_model.specs.Declarations.{Declarations, declarations}
+use Rattle.term_model.specs.Environments.{Environment}
 use Rattle.report.specs.declared.fault_lines.Fault.{Fault}
 use Rattle.command_words.specs.Arguments.{given_text}
 use Rattle.std.proofs.Common.{◌≡◌}

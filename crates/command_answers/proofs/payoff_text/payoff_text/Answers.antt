@@ -1,7 +1,7 @@
 use Rattle.std.proofs.Common.{ℕ, inl}
 use Rattle.std.specs.Global.{Vec}
-use Rattle.term_core.specs.declared.decls.Decls.{Decls}
-use Rattle.term_core.specs.Declarations.{declarations}
+use Rattle.term_model.specs.declared.decls.Decls.{Decls}
+use Rattle.term_model.specs.Declarations.{declarations}
 use Rattle.contract_parse.specs.declared.next_contracts.ContractReader.{ContractReader}
 use Rattle.command_answers.specs.ChoosingParts.{StopsIn}
 use Rattle.command_answers.specs.Course.{Stops, Tells}

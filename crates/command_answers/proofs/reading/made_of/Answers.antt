@@ -1,5 +1,5 @@
 use Rattle.std.proofs.Common.{sym}
-use Rattle.term_core.specs.Terms.{contract}
+use Rattle.term_model.specs.Terms.{contract}
 use Rattle.command_answers.proofs.UsedFacts.{own_instance}
 use Rattle.command_answers.proofs.reading.made_of.Goals as goal
 

@@ -1,5 +1,5 @@
 use Rattle.std.specs.Prelude.{Err}
-use Rattle.term_core.specs.Declarations.{declarations}
+use Rattle.term_model.specs.Declarations.{declarations}
 use Rattle.contract_parse.specs.NextContracts.{AnswersNext}
 use Rattle.contract_parse.specs.declared.faults.ParseErr.{ParseErr}
 use Rattle.command_answers.specs.ReadingParts.{IsNextOrEnd}

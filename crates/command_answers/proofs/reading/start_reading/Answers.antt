@@ -1,6 +1,6 @@
 use Rattle.std.specs.Prelude.{Err}
-use Rattle.term_core.specs.declared.decls.Decls.{Decls}
-use Rattle.term_core.specs.Declarations.{declarations}
+use Rattle.term_model.specs.declared.decls.Decls.{Decls}
+use Rattle.term_model.specs.Declarations.{declarations}
 use Rattle.contract_parse.specs.NextContracts.{StartsContracts}
 use Rattle.contract_parse.specs.declared.faults.ParseErr.{ParseErr}
 use Rattle.contract_parse.specs.declared.next_contracts.ContractReader.{ContractReader}

@@ -1,4 +1,4 @@
-use Rattle.term_core.specs.Declarations.{declarations}
+use Rattle.term_model.specs.Declarations.{declarations}
 use Rattle.command_words.specs.Words.{value_by}
 use Rattle.command_answers.specs.Stages.{IsFirstUnknown, KnowsNames}
 use Rattle.command_answers.specs.ValuePromise.{AreBetween}

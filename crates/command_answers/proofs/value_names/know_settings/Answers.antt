@@ -1,8 +1,8 @@
 use Rattle.std.proofs.Common.{◌≡◌, ◌∙◌, ℕ, List, true, false, ap, refl, rules}
 use Rattle.std.specs.Prelude.{is_none}
 use Rattle.std.specs.Map.{keys_of}
-use Rattle.term_core.specs.declared.name.Name.{Name}
-use Rattle.term_core.specs.Declarations.{declarations}
+use Rattle.term_model.specs.declared.name.Name.{Name}
+use Rattle.term_model.specs.Declarations.{declarations}
 use Rattle.report.specs.declared.fault_lines.Fault.TheVariants as fault
 use Rattle.contract_parse.specs.Names.{index_in}
 use Rattle.command_answers.specs.ValuePromise.{first_unknown_of, names_set}

@@ -1,5 +1,5 @@
 use Rattle.std.specs.Prelude.{◌≡◌}
-use Rattle.term_core.specs.Declarations.{declarations}
+use Rattle.term_model.specs.Declarations.{declarations}
 use Rattle.command_answers.specs.ValuePromise.{first_unknown_of, names_set}
 use Rattle.command_answers.proofs.value_names.know_settings.Given as goal
 

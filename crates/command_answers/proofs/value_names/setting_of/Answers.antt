@@ -1,6 +1,6 @@
 use Rattle.std.proofs.Common.{◌≡◌, ◌∙◌, ◌++◌, ◌∷◌, [], ℕ, List, ap, map, rules, sym}
 use Rattle.std.proofs.lemmas.List.{append_assoc}
-use Rattle.term_core.specs.declared.name.Name.{Name}
+use Rattle.term_model.specs.declared.name.Name.{Name}
 use Rattle.command_answers.specs.ValuePromise.{number_set}
 use Rattle.command_answers.proofs.value_names.setting_of.Goals as goal
 

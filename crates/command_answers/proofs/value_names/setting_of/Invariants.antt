@@ -1,5 +1,5 @@
 use Rattle.std.specs.Prelude.{◌≡◌, ◌++◌, map}
-use Rattle.term_core.specs.Declarations.{declarations}
+use Rattle.term_model.specs.Declarations.{declarations}
 use Rattle.command_answers.specs.ValuePromise.{number_set, setting_by}
 use Rattle.command_answers.proofs.value_names.setting_of.Given as goal
 

@@ -1,7 +1,7 @@
 use Rattle.std.proofs.Common.{◌≡◌, ℤ, arith, of_z, subst, sym, to_z, w64}
 use Rattle.std.specs.Prelude.{Some}
 use Rattle.std.proofs.lemmas.Int.{ints, to_z-of_z}
-use Rattle.term_core.specs.Declarations.{declarations}
+use Rattle.term_model.specs.Declarations.{declarations}
 use Rattle.expr_eval.specs.Standing.{place_of}
 use Rattle.payoff_lang.specs.Code.{payoff_code}
 use Rattle.payoff_eval.specs.Questions.{IsQuestion, asked_on}

@@ -1,4 +1,4 @@
-use Rattle.term_core.specs.Declarations.{declarations}
+use Rattle.term_model.specs.Declarations.{declarations}
 use Rattle.contract_check.proofs.checks.limited.Goals as goal
 
 pub returns-in-Ok : goal.returns-in-Ok

@@ -1,7 +1,7 @@
 use Rattle.std.proofs.Common.{ℕ, unsigned_abs, ◌+◌, ◌≤◌, ◌-◌, ◌^◌, ◌≡◌, ap, arith, rules}
-use Rattle.term_core.specs.Declarations.{declarations, decimals_of}
-use Rattle.term_core.specs.DayCounts.{Num}
-use Rattle.term_core.specs.Terms.{contract, Lit, Pay, Both, Scale, After}
+use Rattle.term_model.specs.Declarations.{declarations, decimals_of}
+use Rattle.term_model.specs.DayCounts.{Num}
+use Rattle.term_model.specs.Terms.{contract, Lit, Pay, Both, Scale, After}
 use Rattle.contract_check.specs.SimpleContracts.{payment, joined, multiplied, delayed, IsMeasured}
 use Rattle.contract_check.proofs.HorizonFacts.{horizon_most}
 use Rattle.contract_check.proofs.SimpleFacts.{nothing_measured, payment_measured, both_measured, scaled_measured, delayed_measured, measured_kept, measured_if}

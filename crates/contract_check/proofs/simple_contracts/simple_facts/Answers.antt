@@ -1,13 +1,13 @@
 use Rattle.std.proofs.Common.{pos, ◌≡◌, ◌-◌, ◌*◌, ◌^◌, ℕ, ℤ, [], Option, ap, sym, subst, ◌∙◌, arith}
 use Rattle.std.proofs.lemmas.Int.{to_z_pos}
 use mir.Syntax.{w128}
-use Rattle.term_core.specs.Declarations.{declarations}
-use Rattle.term_core.specs.declared.rules.Rule.TheVariants.{Sort, Time, Scale, Size, Bound}
-use Rattle.term_core.specs.Terms.{contract}
-use Rattle.term_core.specs.Sites.{Once, EachDay}
-use Rattle.term_core.specs.Flows.{scale_of_contract}
-use Rattle.term_core.specs.Times.{IsStart}
-use Rattle.term_core.specs.Bounds.{total_of}
+use Rattle.term_model.specs.Declarations.{declarations}
+use Rattle.term_model.specs.declared.rules.Rule.TheVariants.{Sort, Time, Scale, Size, Bound}
+use Rattle.term_model.specs.Terms.{contract}
+use Rattle.term_model.specs.Sites.{Once, EachDay}
+use Rattle.term_model.specs.Flows.{scale_of_contract}
+use Rattle.term_model.specs.Times.{IsStart}
+use Rattle.term_model.specs.Bounds.{total_of}
 use Rattle.contract_check.proofs.Granted.{granted}
 use Rattle.contract_check.proofs.SimpleFacts.{is_start}
 use Rattle.contract_check.proofs.simple_contracts.simple_facts.Goals as goal

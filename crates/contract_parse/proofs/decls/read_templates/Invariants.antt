@@ -1,6 +1,6 @@
 use Rattle.std.proofs.Common.{◌≡◌, ◌≤◌, ◌+◌, ◌∷◌, [], ℕ, List, length, true}
 use Rattle.indexmap.specs.IndexMap.{index_map_len, keys}
-use Rattle.term_core.specs.Limits.{are_numbers}
+use Rattle.term_model.specs.Limits.{are_numbers}
 use Rattle.contract_parse.specs.Tokens.{Tok}
 use Rattle.contract_parse.specs.Words.{Bytes}
 use Rattle.contract_parse.specs.Reading.{tokens_ahead}

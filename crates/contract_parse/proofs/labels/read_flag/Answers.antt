@@ -8,8 +8,8 @@ use Rattle.contract_parse.specs.Expecting.{TheMark, run}
 use Rattle.contract_parse.specs.declared.names.NameSet.TheVariants.{Label as LabelSet}
 use Rattle.contract_parse.proofs.Parts.{followed_by}
 use Rattle.contract_parse.proofs.LineFacts.{inserted_entry, inserted_names}
-use Rattle.term_core.specs.Limits.{is_label}
-use Rattle.term_core.specs.declared.label.Label.TheVariants.{Flag}
+use Rattle.term_model.specs.Limits.{is_label}
+use Rattle.term_model.specs.declared.label.Label.TheVariants.{Flag}
 use Rattle.contract_parse.proofs.EntryFacts.{all_inserted}
 use Rattle.contract_parse.proofs.Passing.{stopped_at}
 use Rattle.contract_parse.proofs.labels.read_flag.Goals as goal

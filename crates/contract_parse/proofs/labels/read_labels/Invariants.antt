@@ -1,7 +1,7 @@
 use Rattle.std.proofs.Common.{◌≡◌, ◌≤◌, ◌+◌, ◌∷◌, [], List, length, true}
 use Rattle.indexmap.specs.IndexMap.{index_map_len, keys}
-use Rattle.term_core.specs.Limits.{are_labels}
-use Rattle.term_core.specs.declared.label.Label.{Label}
+use Rattle.term_model.specs.Limits.{are_labels}
+use Rattle.term_model.specs.declared.label.Label.{Label}
 use Rattle.contract_parse.specs.Tokens.{Tok}
 use Rattle.contract_parse.specs.Words.{Bytes}
 use Rattle.contract_parse.specs.Reading.{tokens_ahead}

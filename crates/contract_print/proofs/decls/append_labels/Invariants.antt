@@ -1,5 +1,5 @@
 use Rattle.std.proofs.Common.{◌≡◌, ◌++◌, true}
-use Rattle.term_core.specs.Limits.{are_labels}
+use Rattle.term_model.specs.Limits.{are_labels}
 use Rattle.contract_print.specs.Canon.{labels_text}
 use Rattle.contract_print.proofs.decls.append_labels.Given as goal
 

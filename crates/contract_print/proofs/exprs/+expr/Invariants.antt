@@ -1,6 +1,6 @@
 use Rattle.std.proofs.Common.{◌+◌, ◌*◌, max}
-use Rattle.term_core.specs.Terms.{expression}
-use Rattle.term_core.specs.Sizes.{height}
+use Rattle.term_model.specs.Terms.{expression}
+use Rattle.term_model.specs.Sizes.{height}
 use Rattle.contract_print.proofs.exprs.+expr.Given as goal
 
 abbrev pub decreases-append_expr : goal.decreases-append_expr

@@ -1,6 +1,6 @@
 use Rattle.std.proofs.Common.{◌≡◌, ◌++◌, []}
 use Rattle.std.specs.Prelude.{All}
-use Rattle.term_core.specs.Declarations.{declarations}
+use Rattle.term_model.specs.Declarations.{declarations}
 use Rattle.contract_parse.specs.Names.{declared_by}
 use Rattle.contract_print.specs.Canon.{contracts_text}
 use Rattle.contract_print.specs.Writable.{IsWritableTerm}

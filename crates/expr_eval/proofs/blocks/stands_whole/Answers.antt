@@ -1,7 +1,7 @@
 use Rattle.std.proofs.Common.{rules, ◌≡◌, ◌∙◌, ◌+◌, ◌≤◌, ◌+ℤ◌, ℤ, pos, w64, FitsSigned, to_z, of_z, length, get_or, ap, sym, arith}
 use Rattle.std.proofs.lemmas.Bool.Decides.{nat_tests}
 use Rattle.std.proofs.lemmas.Int.{to_z-of_z}
-use Rattle.term_core.specs.declared.values.Value.TheVariants.{Num}
+use Rattle.term_model.specs.declared.values.Value.TheVariants.{Num}
 use Rattle.fixing_files.specs.Runs.{day_at, no_day}
 use Rattle.fixing_files.specs.declared.runs.FixedDay.{FixedDay}
 use Rattle.fixing_files.proofs.RunFacts.{same_read}

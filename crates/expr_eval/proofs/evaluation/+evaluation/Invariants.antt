@@ -1,6 +1,6 @@
 use Rattle.std.proofs.Common.{◌≡◌, ◌+◌, ◌*◌, max, Ok, IsTrue}
-use Rattle.term_core.specs.declared.terms.Expr.{size-Expr}
-use Rattle.term_core.specs.Declarations.{declarations}
+use Rattle.term_model.specs.declared.terms.Expr.{size-Expr}
+use Rattle.term_model.specs.Declarations.{declarations}
 use Rattle.expr_eval.specs.Bindings.{bindings}
 use Rattle.expr_eval.specs.Evaluations.{days_from}
 use Rattle.expr_eval.specs.LevelDays.{StaysLevel}

@@ -1,8 +1,8 @@
 use Rattle.std.proofs.Common.{rules, arith, ◌≡◌, ◌≤◌, ◌+◌, ◌^◌, ◌+ℤ◌, pos, ℤ, unsigned_abs, true, false, not, refl, ap, sym, subst, ◌∙◌, w64, FitsSigned, to_z, of_z}
 use Rattle.std.proofs.lemmas.Int.{to_z-of_z}
-use Rattle.term_core.specs.declared.terms.Expr.{Expr}
-use Rattle.term_core.specs.Terms.{expression, Not}
-use Rattle.term_core.specs.Reads.{decides}
+use Rattle.term_model.specs.declared.terms.Expr.{Expr}
+use Rattle.term_model.specs.Terms.{expression, Not}
+use Rattle.term_model.specs.Reads.{decides}
 use Rattle.expr_eval.specs.declared.stops.Stop.{Stop}
 use Rattle.expr_eval.specs.declared.stops.Stop.TheVariants.{Never}
 use Rattle.expr_eval.specs.Stops.{days_before, goes_on}

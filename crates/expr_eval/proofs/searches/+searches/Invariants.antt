@@ -1,5 +1,5 @@
 use Rattle.std.proofs.Common.{◌≤◌, ◌+◌, ◌-◌, ◌*◌, max}
-use Rattle.term_core.specs.declared.terms.Expr.{size-Expr}
+use Rattle.term_model.specs.declared.terms.Expr.{size-Expr}
 use Rattle.expr_eval.specs.declared.stops.Stop.TheVariants.{Never}
 use Rattle.expr_eval.specs.Searches.{IsStopOfEither}
 use Rattle.expr_eval.proofs.searches.+searches.Given as goal

@@ -1,6 +1,6 @@
 use Rattle.std.proofs.Common.{rules, ap}
-use Rattle.term_core.specs.declared.terms.Expr.{Expr}
-use Rattle.term_core.specs.Terms.{expression}
+use Rattle.term_model.specs.declared.terms.Expr.{Expr}
+use Rattle.term_model.specs.Terms.{expression}
 use Rattle.expr_eval.specs.Evaluations.{comparison_over}
 use Rattle.expr_eval.specs.Watching.{IsWatched}
 use Rattle.expr_eval.proofs.WatchFacts.{right_is, some_too}

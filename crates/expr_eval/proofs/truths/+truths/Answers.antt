@@ -1,8 +1,8 @@
 use Rattle.std.proofs.Common.{rules, arith, ◌≡◌, true, sym, ap, ◌∙◌, ◌+◌, ℤ, pos, ◌+ℤ◌, ◌-ℤ◌, FitsSigned, w64, to_z, of_z, Ok, Err}
 use Rattle.std.proofs.lemmas.Int.{to_z-of_z}
-use Rattle.term_core.specs.declared.terms.Expr.{Expr}
-use Rattle.term_core.specs.Declarations.{declarations}
-use Rattle.term_core.specs.Terms.{expression, Acc}
+use Rattle.term_model.specs.declared.terms.Expr.{Expr}
+use Rattle.term_model.specs.Declarations.{declarations}
+use Rattle.term_model.specs.Terms.{expression, Acc}
 use Rattle.expr_eval.specs.Bindings.{bindings}
 use Rattle.expr_eval.specs.Runs.{days_run, run_of}
 use Rattle.expr_eval.specs.Comparing.{truth_found}

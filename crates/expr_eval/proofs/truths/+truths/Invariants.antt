@@ -1,7 +1,7 @@
 use Rattle.std.proofs.Common.{◌≡◌, ◌+◌, ◌*◌, max, Ok}
-use Rattle.term_core.specs.declared.terms.Expr.{size-Expr}
-use Rattle.term_core.specs.Declarations.{declarations}
-use Rattle.term_core.specs.Terms.{expression}
+use Rattle.term_model.specs.declared.terms.Expr.{size-Expr}
+use Rattle.term_model.specs.Declarations.{declarations}
+use Rattle.term_model.specs.Terms.{expression}
 use Rattle.expr_eval.specs.Bindings.{bindings}
 use Rattle.expr_eval.specs.Runs.{days_run}
 use Rattle.expr_eval.proofs.truths.+truths.Given as goal

@@ -1,9 +1,9 @@
 use Rattle.std.proofs.Common.{◌≡◌, ℤ, w64, refl, sym, subst, ap, ◌∙◌, Result}
 use Rattle.std.proofs.lemmas.Int.{to_z-of_z}
-use Rattle.term_core.specs.declared.values.Value.{Value}
-use Rattle.term_core.specs.declared.values.Missing.{Missing}
-use Rattle.term_core.specs.Declarations.{declarations}
-use Rattle.term_core.specs.Terms.{expression}
+use Rattle.term_model.specs.declared.values.Value.{Value}
+use Rattle.term_model.specs.declared.values.Missing.{Missing}
+use Rattle.term_model.specs.Declarations.{declarations}
+use Rattle.term_model.specs.Terms.{expression}
 use Rattle.expr_eval.specs.Answers.{IsSuitedAnswer}
 use Rattle.expr_eval.specs.Fits.{Fits}
 use Rattle.expr_eval.specs.Runs.{run_of, untyped}

@@ -1,5 +1,5 @@
 use Rattle.std.proofs.Common.{rules, pos}
-use Rattle.term_core.specs.declared.values.Value.TheVariants.{Num}
+use Rattle.term_model.specs.declared.values.Value.TheVariants.{Num}
 use Rattle.expr_eval.proofs.WatchFacts.{met_there}
 use Rattle.expr_eval.proofs.watches.met_near.Goals as goal
 

@@ -1,7 +1,7 @@
 use Rattle.std.proofs.Common.{rules, ◌≡◌, ◌∙◌, ℤ, ◌≤ℤ◌, FitsSigned, to_z, of_z, ap, sym, subst}
 use Rattle.std.specs.Int.{w128}
 use Rattle.std.proofs.lemmas.Int.{to_z-of_z}
-use Rattle.term_core.specs.Values.{num}
+use Rattle.term_model.specs.Values.{num}
 use Rattle.fixing_files.specs.Blocks.{number_at}
 use Rattle.fixing_files.specs.Runs.{no_day}
 use Rattle.fixing_files.specs.declared.runs.FixedDay.{FixedDay}

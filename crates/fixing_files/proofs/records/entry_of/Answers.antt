@@ -1,6 +1,6 @@
 use Rattle.std.proofs.Common.{sym, subst}
 use Rattle.csv.specs.Records.{fields_of}
-use Rattle.term_core.specs.Declarations.{declarations}
+use Rattle.term_model.specs.Declarations.{declarations}
 use Rattle.fixing_files.specs.Records.{Fields, said}
 use Rattle.fixing_files.specs.Steps.{Tells}
 use Rattle.fixing_files.proofs.RecordFacts.{three_listed}

@@ -1,7 +1,7 @@
 use Rattle.std.proofs.Common.{List, ◌≡◌, ◌∙◌, ◌+◌, ◌++◌, ap, sym, refl, arith, Some, ◌∷◌, [], length, subst}
 use Rattle.std.proofs.lemmas.List.{length-append}
 use Rattle.csv.specs.Records.{fields_of}
-use Rattle.term_core.specs.Declarations.{declarations}
+use Rattle.term_model.specs.Declarations.{declarations}
 use Rattle.fixing_files.specs.Gathering.{Gathers}
 use Rattle.fixing_files.specs.Tables.{table_of}
 use Rattle.fixing_files.specs.declared.faults.RowFault.{RowFault}

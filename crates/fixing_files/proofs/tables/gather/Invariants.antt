@@ -1,5 +1,5 @@
 use Rattle.std.proofs.Common.{◌≡◌, length}
-use Rattle.term_core.specs.Declarations.{declarations}
+use Rattle.term_model.specs.Declarations.{declarations}
 use Rattle.fixing_files.specs.Gathering.{Collects}
 use Rattle.fixing_files.specs.Readers.{HasRead}
 use Rattle.fixing_files.specs.Rows.{AreRuns}

@@ -1,5 +1,5 @@
 use Rattle.std.proofs.Common.{Option, Some, None, subst}
-use Rattle.term_core.specs.Declarations.{declarations}
+use Rattle.term_model.specs.Declarations.{declarations}
 use Rattle.fixing_files.specs.Folds.{SettlesAll}
 use Rattle.fixing_files.specs.Gathering.{Gathers}
 use Rattle.fixing_files.specs.Runs.{values_of}

@@ -1,8 +1,8 @@
 use Rattle.std.proofs.Common.{◌≡◌, ℤ, Err, Result, sym, subst, ap, ◌∙◌, arith, []}
 use Rattle.std.specs.Int.{w64}
 use Rattle.std.proofs.lemmas.Int.{to_z-of_z}
-use Rattle.term_core.specs.Declarations.{Declarations, declarations}
-use Rattle.term_core.specs.Environments.{Environment}
+use Rattle.term_model.specs.Declarations.{Declarations, declarations}
+use Rattle.term_model.specs.Environments.{Environment}
 use Rattle.term_core.specs.SharedTerms.{shared}
 use Rattle.term_core.specs.declared.shared.SharedContr.{SharedContr}
 use Rattle.flow_eval.specs.declared.faults.FlowErr.{FlowErr}

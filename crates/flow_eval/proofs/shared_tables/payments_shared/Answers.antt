@@ -1,8 +1,8 @@
 use Rattle.std.proofs.Common.{◌≡◌, ℤ, Err, sym, subst, arith}
 use Rattle.std.specs.Int.{w64}
 use Rattle.std.proofs.lemmas.Int.{to_z-of_z}
-use Rattle.term_core.specs.Declarations.{declarations}
-use Rattle.term_core.specs.Sizes.{reach}
+use Rattle.term_model.specs.Declarations.{declarations}
+use Rattle.term_model.specs.Sizes.{reach}
 use Rattle.term_core.specs.SharedTerms.{shared}
 use Rattle.flow_eval.specs.Readiness.{IsAmongDays}
 use Rattle.flow_eval.proofs.RootFacts.{room_for, whole_days, whole_not_gathered, whole_ready}

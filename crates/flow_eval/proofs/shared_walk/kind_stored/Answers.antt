@@ -1,5 +1,5 @@
-use Rattle.term_core.specs.Declarations.{declarations}
-use Rattle.term_core.specs.Terms.{expression}
+use Rattle.term_model.specs.Declarations.{declarations}
+use Rattle.term_model.specs.Terms.{expression}
 use Rattle.expr_eval.specs.Rooms.{kinds_of}
 use Rattle.flow_eval.proofs.MovedFacts.{kind_moved}
 use Rattle.flow_eval.proofs.shared_walk.kind_stored.Goals as goal

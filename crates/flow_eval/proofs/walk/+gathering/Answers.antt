@@ -2,12 +2,12 @@ use Rattle.std.proofs.Common.{rules, ◌≡◌, ◌≤◌, ◌-◌, ◌∷◌, t
 use Rattle.std.specs.Int.{w128}
 use Rattle.std.specs.List.{All}
 use Rattle.std.proofs.lemmas.Int.{to_z-of_z}
-use Rattle.term_core.specs.Declarations.{declarations}
-use Rattle.term_core.specs.DayCounts.{day_count}
-use Rattle.term_core.specs.Terms.{contract, expression, Within}
-use Rattle.term_core.specs.Values.{kinds, num}
-use Rattle.term_core.specs.Kinds.{scale_of}
-use Rattle.term_core.specs.Reads.{reads_of}
+use Rattle.term_model.specs.Declarations.{declarations}
+use Rattle.term_model.specs.DayCounts.{day_count}
+use Rattle.term_model.specs.Terms.{contract, expression, Within}
+use Rattle.term_model.specs.Values.{kinds, num}
+use Rattle.term_model.specs.Kinds.{scale_of}
+use Rattle.term_model.specs.Reads.{reads_of}
 use Rattle.interval_check.specs.Sums.{entry_of}
 use Rattle.expr_eval.specs.declared.scratch.Binding.{Binding}
 use Rattle.expr_eval.specs.Rooms.{Room}

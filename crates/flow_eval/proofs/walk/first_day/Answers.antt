@@ -1,8 +1,8 @@
 use Rattle.std.proofs.Common.{◌≡◌, ◌≤◌, ◌<◌, ◌+◌, ℕ, suc, min, ℤ, ◌+ℤ◌, pos, Some, None, Ok, Err, IfOk, ap, ◌∙◌, arith}
 use Rattle.std.specs.Int.{w64}
 use Rattle.std.proofs.lemmas.Int.{to_z-of_z}
-use Rattle.term_core.specs.Declarations.{declarations}
-use Rattle.term_core.specs.Terms.{expression}
+use Rattle.term_model.specs.Declarations.{declarations}
+use Rattle.term_model.specs.Terms.{expression}
 use Rattle.expr_eval.specs.Trials.{DayOrMissing, IsOneOf, answer_of, first_tried}
 use Rattle.flow_eval.specs.Readiness.{IsUpTo}
 use Rattle.flow_eval.proofs.ReadyFacts.{day_fits, may_evaluate}

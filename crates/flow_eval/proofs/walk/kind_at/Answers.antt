@@ -1,8 +1,8 @@
 use Rattle.std.proofs.Common.{Option, ap, sym}
-use Rattle.term_core.specs.Declarations.{declarations}
-use Rattle.term_core.specs.Terms.{expression}
-use Rattle.term_core.specs.Values.{kind_or}
-use Rattle.term_core.specs.declared.values.Kind.{Kind}
+use Rattle.term_model.specs.Declarations.{declarations}
+use Rattle.term_model.specs.Terms.{expression}
+use Rattle.term_model.specs.Values.{kind_or}
+use Rattle.term_model.specs.declared.values.Kind.{Kind}
 use Rattle.flow_eval.proofs.ReadyFacts.{may_evaluate}
 use Rattle.flow_eval.proofs.walk.kind_at.Goals as goal
 

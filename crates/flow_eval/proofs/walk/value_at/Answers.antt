@@ -2,8 +2,8 @@ use Rattle.std.proofs.Common.{ℤ, subst}
 use Rattle.std.specs.Int.{w64}
 use Rattle.std.proofs.lemmas.Int.{to_z-of_z}
 use Rattle.expr_eval.specs.Answers.{IsAnswer}
-use Rattle.term_core.specs.Declarations.{declarations}
-use Rattle.term_core.specs.Terms.{expression}
+use Rattle.term_model.specs.Declarations.{declarations}
+use Rattle.term_model.specs.Terms.{expression}
 use Rattle.expr_eval.proofs.TrialFacts.{answer_is}
 use Rattle.flow_eval.proofs.ReadyFacts.{day_fits, may_evaluate}
 use Rattle.flow_eval.proofs.walk.value_at.Goals as goal

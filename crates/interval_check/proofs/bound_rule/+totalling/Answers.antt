@@ -1,6 +1,6 @@
 use Rattle.std.proofs.Common.{rules}
-use Rattle.term_core.specs.Declarations.{declarations}
-use Rattle.term_core.specs.Terms.{expression, contract}
+use Rattle.term_model.specs.Declarations.{declarations}
+use Rattle.term_model.specs.Terms.{expression, contract}
 use Rattle.interval_check.specs.Ranges.{range}
 use Rattle.interval_check.specs.RangeScopes.{ranges_in}
 use Rattle.interval_check.specs.Totals.{total}

@@ -1,5 +1,5 @@
 use Rattle.std.proofs.Common.{◌+◌, ◌*◌, max}
-use Rattle.term_core.specs.declared.terms.Contr.{size-Contr}
+use Rattle.term_model.specs.declared.terms.Contr.{size-Contr}
 use Rattle.interval_check.proofs.bound_rule.+totalling.Given as goal
 
 abbrev pub decreases-total_of : goal.decreases-total_of

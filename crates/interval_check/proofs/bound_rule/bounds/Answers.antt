@@ -1,8 +1,8 @@
 use Rattle.std.proofs.Common.{pos, ℕ, ◌≤◌, ◌<◌, ◌^◌, ap, refl, ◌∙◌, arith}
 use Rattle.std.proofs.lemmas.Int.{to_z_pos}
 use mir.Syntax.{w128}
-use Rattle.term_core.specs.Declarations.{declarations}
-use Rattle.term_core.specs.Terms.{contract}
+use Rattle.term_model.specs.Declarations.{declarations}
+use Rattle.term_model.specs.Terms.{contract}
 use Rattle.interval_check.specs.Totals.{total}
 use Rattle.interval_check.specs.TotalTrials.{at_decimals}
 use Rattle.interval_check.proofs.RootFacts.{sorted_kinds}

@@ -3,7 +3,7 @@ use Rattle.std.proofs.lemmas.Grind.{common_steps}
 use Rattle.std.proofs.lemmas.Int.{to_z-of_z}
 use mir.Syntax.{w128}
 use mir.Val.{SFits}
-use Rattle.term_core.specs.Bounds.{Interval}
+use Rattle.term_model.specs.Bounds.{Interval}
 use Rattle.interval_check.specs.Intervals.{interval, EndsFit}
 use Rattle.interval_check.proofs.IntervalFacts.{no_lower, no_upper, products_there, hull_small}
 use Rattle.interval_check.proofs.intervals.product_of.Goals as goal

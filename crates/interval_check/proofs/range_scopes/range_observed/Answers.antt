@@ -1,6 +1,6 @@
 use Rattle.std.proofs.Common.{Some, ap, sym, ◌∙◌}
-use Rattle.term_core.specs.Declarations.{declarations}
-use Rattle.term_core.specs.declared.label.Label.{Label}
+use Rattle.term_model.specs.Declarations.{declarations}
+use Rattle.term_model.specs.declared.label.Label.{Label}
 use Rattle.interval_check.proofs.OperatorFacts.{label_scale}
 use Rattle.interval_check.proofs.range_scopes.range_observed.Goals as goal
 

@@ -1,4 +1,4 @@
-use Rattle.term_core.specs.Declarations.{declarations}
+use Rattle.term_model.specs.Declarations.{declarations}
 use Rattle.payoff_lang.specs.Code.{payoff_code}
 use Rattle.payoff_lang.specs.CodeBooks.{code_book}
 use Rattle.library_rows.proofs.codes.printed_code.Goals as goal

@@ -1,5 +1,5 @@
-use Rattle.term_core.specs.Declarations.{declarations}
-use Rattle.term_core.specs.Terms.{contract}
+use Rattle.term_model.specs.Declarations.{declarations}
+use Rattle.term_model.specs.Terms.{contract}
 use Rattle.payoff_lang.specs.Code.{payoff_code}
 use Rattle.library_rows.proofs.compiling.code_of.Goals as goal
 

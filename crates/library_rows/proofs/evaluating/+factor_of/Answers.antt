@@ -1,7 +1,7 @@
 use Rattle.std.proofs.Common.{List, ◌≡◌, subst}
-use Rattle.term_core.specs.Declarations.{Declarations, declarations}
-use Rattle.term_core.specs.Terms.{contract}
-use Rattle.term_core.specs.declared.terms.Contr.{Contr}
+use Rattle.term_model.specs.Declarations.{Declarations, declarations}
+use Rattle.term_model.specs.Terms.{contract}
+use Rattle.term_model.specs.declared.terms.Contr.{Contr}
 use Rattle.expr_eval.specs.declared.scratch.Binding.{Binding}
 use Rattle.expr_eval.specs.Evaluable.{MayEvaluateIn}
 use Rattle.expr_eval.specs.LawsEntries.{PartsOfPartsMayEvaluate, PartsMayEvaluate}

@@ -1,8 +1,8 @@
 use Rattle.std.proofs.Common.{sym, subst}
-use Rattle.term_core.specs.Declarations.{declarations}
+use Rattle.term_model.specs.Declarations.{declarations}
 use Rattle.term_core.specs.declared.shared.SharedContr.{SharedContr}
 use Rattle.term_core.specs.SharedTerms.{shared, HasOffsetsIn}
-use Rattle.term_core.proofs.ShiftedFacts.{formed_offsets_in}
+use Rattle.term_core.proofs.SharedFacts.{formed_offsets_in}
 use Rattle.library_rows.proofs.making.say_shared.Goals as goal
 
 -- what is closed has its offsets within the limit

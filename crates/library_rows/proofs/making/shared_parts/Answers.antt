@@ -1,8 +1,8 @@
 use Rattle.std.proofs.Common.{sym, subst}
-use Rattle.term_core.specs.Acceptance.{IsAccepted}
-use Rattle.term_core.specs.Declarations.{declarations}
-use Rattle.term_core.specs.Terms.{Contract, contract}
-use Rattle.term_core.specs.WellFormed.{IsClosed}
+use Rattle.term_model.specs.Acceptance.{IsAccepted}
+use Rattle.term_model.specs.Declarations.{declarations}
+use Rattle.term_model.specs.Terms.{Contract, contract}
+use Rattle.term_model.specs.WellFormed.{IsClosed}
 use Rattle.specialise.proofs.CallFacts.{offsets_shared}
 use Rattle.library_rows.proofs.making.shared_parts.Goals as goal
 

@@ -1,4 +1,4 @@
-use Rattle.term_core.specs.Books.{book}
+use Rattle.term_model.specs.Books.{book}
 use Rattle.library_rows.proofs.texts.printed_portfolio.Goals as goal
 
 pub print_book-requires : goal.print_book-requires

@@ -1,5 +1,5 @@
 use Rattle.std.proofs.Common.{ℕ, unsigned_abs, ◌≡◌, ◌≤◌, ◌^◌, true, ap, ◌∙◌, arith, rules}
-use Rattle.term_core.specs.Declarations.{declarations}
+use Rattle.term_model.specs.Declarations.{declarations}
 use Rattle.payoff_lang.specs.TemplateDates.{date, day_of}
 use Rattle.payoff_lang.specs.Code.{payoff_code, Lit, Add, ScaleBy, Cut}
 use Rattle.payoff_lang.specs.CodeAcceptance.{is_date}

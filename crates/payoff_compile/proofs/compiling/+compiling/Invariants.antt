@@ -1,5 +1,5 @@
 use Rattle.std.proofs.Common.{◌+◌, ◌*◌, max}
-use Rattle.term_core.specs.declared.terms.Contr.{size-Contr}
+use Rattle.term_model.specs.declared.terms.Contr.{size-Contr}
 use Rattle.payoff_compile.proofs.compiling.+compiling.Given as goal
 
 abbrev pub decreases-compile_at : goal.decreases-compile_at

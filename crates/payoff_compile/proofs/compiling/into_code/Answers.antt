@@ -1,8 +1,8 @@
 use Rattle.std.proofs.Common.{sym, subst, arith}
 use Rattle.std.proofs.lemmas.Result.{IfOk-weaker}
-use Rattle.term_core.specs.Declarations.{declarations}
-use Rattle.term_core.specs.Terms.{contract}
-use Rattle.term_core.specs.Instances.{instance, declared_numbers}
+use Rattle.term_model.specs.Declarations.{declarations}
+use Rattle.term_model.specs.Terms.{contract}
+use Rattle.term_model.specs.Instances.{instance, declared_numbers}
 use Rattle.payoff_lang.specs.Code.{PayoffCode}
 use Rattle.payoff_lang.proofs.MeaningFacts.{reach_of}
 use Rattle.payoff_compile.specs.CompiledCode.{IsPlainCode}

@@ -3,8 +3,8 @@ use Rattle.std.proofs.lemmas.Int.{to_z-of_z}
 use Rattle.payoff_lang.specs.declared.code.Vx.{Vx}
 use Rattle.payoff_lang.specs.Code.{value_expression}
 use Rattle.payoff_lang.specs.Dating.{at_setting}
-use Rattle.term_core.specs.Declarations.{declarations}
-use Rattle.term_core.specs.Terms.{Cmp, Div, Acc}
+use Rattle.term_model.specs.Declarations.{declarations}
+use Rattle.term_model.specs.Terms.{Cmp, Div, Acc}
 use Rattle.expr_eval.specs.Bindings.{bindings}
 use Rattle.expr_eval.specs.Runs.{run_of, both_of}
 use Rattle.expr_eval.specs.Fits.{Fits}

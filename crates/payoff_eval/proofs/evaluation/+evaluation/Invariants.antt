@@ -1,6 +1,6 @@
 use Rattle.std.proofs.Common.{◌≡◌, ◌+◌, ◌*◌, max, Ok}
 use Rattle.payoff_lang.specs.declared.code.Vx.{size-Vx}
-use Rattle.term_core.specs.Declarations.{declarations}
+use Rattle.term_model.specs.Declarations.{declarations}
 use Rattle.payoff_lang.specs.Code.{value_expression}
 use Rattle.payoff_lang.specs.Dating.{at_setting}
 use Rattle.expr_eval.specs.Bindings.{bindings}

@@ -1,8 +1,8 @@
 use Rattle.std.proofs.Common.{◌≡◌, ℕ, ℤ, pos, ◌+ℤ◌, ◌+◌, Option, Ok, FitsSigned, w64, Result, ap, ◌∙◌, rules}
 use Rattle.std.proofs.lemmas.Int.{to_z-of_z}
-use Rattle.term_core.specs.declared.values.Value.{Value}
-use Rattle.term_core.specs.declared.values.Missing.{Missing}
-use Rattle.term_core.specs.Declarations.{declarations}
+use Rattle.term_model.specs.declared.values.Value.{Value}
+use Rattle.term_model.specs.declared.values.Missing.{Missing}
+use Rattle.term_model.specs.Declarations.{declarations}
 use Rattle.payoff_lang.specs.TemplateDates.{date, day_of}
 use Rattle.payoff_lang.specs.Code.{value_expression, payoff_code}
 use Rattle.payoff_eval.specs.declared.walk.Worth.{Worth}

@@ -1,8 +1,8 @@
 use Rattle.std.proofs.Common.{◌≡◌, ℕ, ℤ, pos, ◌+ℤ◌, ◌+◌, FitsSigned, w64, Result, Ok, None, ap, sym, ◌∙◌, arith, rules}
 use Rattle.std.proofs.lemmas.Int.{to_z-of_z}
-use Rattle.term_core.specs.declared.values.Value.{Value}
-use Rattle.term_core.specs.declared.values.Missing.{Missing}
-use Rattle.term_core.specs.Declarations.{declarations}
+use Rattle.term_model.specs.declared.values.Value.{Value}
+use Rattle.term_model.specs.declared.values.Missing.{Missing}
+use Rattle.term_model.specs.Declarations.{declarations}
 use Rattle.payoff_lang.specs.Code.{value_expression}
 use Rattle.payoff_eval.specs.CodeRuns.{answer_of}
 use Rattle.expr_eval.specs.Trials.{first_tried}

@@ -1,5 +1,5 @@
 use Rattle.std.proofs.Common.{◌≡◌, ◌++◌, drop}
-use Rattle.term_core.specs.Declarations.{declarations}
+use Rattle.term_model.specs.Declarations.{declarations}
 use Rattle.payoff_lang.specs.CodeTexts.{declared_for_code, names_text}
 use Rattle.payoff_lang.proofs.printing.append_templates.Given as goal
 

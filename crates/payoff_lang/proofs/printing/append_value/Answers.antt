@@ -1,6 +1,6 @@
 use Rattle.std.proofs.Common.{◌≡◌, [], sym, subst}
-use Rattle.term_core.specs.Declarations.{declarations}
-use Rattle.term_core.specs.Terms.{Expression, expression}
+use Rattle.term_model.specs.Declarations.{declarations}
+use Rattle.term_model.specs.Terms.{Expression, expression}
 use Rattle.contract_print.specs.Writable.{IsWritable}
 use Rattle.payoff_lang.specs.Code.{value_expression}
 use Rattle.payoff_lang.specs.CodeTexts.{declared_for_code}

@@ -5,7 +5,7 @@ use Rattle.decimal.specs.Rounding.{raised, at_scale}
 use Rattle.decimal.specs.declared.Mode.TheVariants.{Floor}
 use Rattle.decimal.specs.Mantissas.{greatest_mantissa}
 use Rattle.interval_check.specs.Safety.{IsSmall}
-use Rattle.term_core.specs.Declarations.{declarations, decimals_of}
+use Rattle.term_model.specs.Declarations.{declarations, decimals_of}
 use Rattle.report.proofs.ExactFacts.{exact_floor, no_more, smaller}
 use Rattle.report.proofs.flow_lines.amount_in_asset.Goals as goal
 

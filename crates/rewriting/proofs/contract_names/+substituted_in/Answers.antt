@@ -1,7 +1,7 @@
 use Rattle.std.proofs.Common.{rules, ◌≡◌, ap, ◌+◌, FitsSigned, w32}
 use Rattle.std.proofs.lemmas.Int.{to_z-of_z}
 use Rattle.term_core.specs.declared.shared.SharedContr.{SharedContr}
-use Rattle.term_core.specs.Terms.{expression}
+use Rattle.term_model.specs.Terms.{expression}
 use Rattle.term_core.specs.SharedTerms.{shared}
 use Rattle.rewriting.specs.Rebuilding.{after}
 use Rattle.rewriting.specs.RebuildingContracts.{after_in}

@@ -1,7 +1,7 @@
 use Rattle.std.proofs.Common.{◌≡◌, ◌∙◌, ◌+◌, ◌*◌, ◌<◌, ◌%◌, ℕ, ℤ, pos, ap, arith, subst, sym, to_z, of_z, w64, FitsSigned}
 use mir.Syntax.{w128}
 use Rattle.std.proofs.lemmas.Int.{ints, to_z-of_z}
-use Rattle.term_core.specs.Environments.{held}
+use Rattle.term_model.specs.Environments.{held}
 use Rattle.sample.specs.Sample.{rate_on}
 use Rattle.sample.proofs.FixingFacts.{after_put, not_yet}
 use Rattle.sample.proofs.fixed.fix.Goals as goal

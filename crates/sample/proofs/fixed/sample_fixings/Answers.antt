@@ -1,5 +1,5 @@
 use Rattle.std.proofs.Common.{subst, sym}
-use Rattle.term_core.specs.Environments.{Environment, IsAdmitted}
+use Rattle.term_model.specs.Environments.{Environment, IsAdmitted}
 use Rattle.sample.specs.Sample.{HoldSame, fixings_before, sample_declarations}
 use Rattle.sample.proofs.FixingFacts.{no_value, none_at_first}
 use Rattle.sample.proofs.fixed.sample_fixings.Goals as goal

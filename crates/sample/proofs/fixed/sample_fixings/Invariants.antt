@@ -1,4 +1,4 @@
-use Rattle.term_core.specs.Environments.{IsAdmitted}
+use Rattle.term_model.specs.Environments.{IsAdmitted}
 use Rattle.sample.specs.Sample.{HoldSame, fixings_before, sample_declarations}
 use Rattle.sample.proofs.fixed.sample_fixings.Given as goal
 

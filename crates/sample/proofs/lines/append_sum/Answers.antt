@@ -2,7 +2,7 @@ use Rattle.std.proofs.Common.{◌≡◌, ◌++◌, ◌^◌, ◌≤◌, ℤ, arit
 use mir.Syntax.{w128}
 use Rattle.std.proofs.lemmas.Int.{ints, to_z-of_z}
 use Rattle.decimal.specs.Text.{text_of}
-use Rattle.term_core.specs.Declarations.{declarations, decimals_of}
+use Rattle.term_model.specs.Declarations.{declarations, decimals_of}
 use Rattle.report.specs.CheckLines.{line_feed}
 use Rattle.report.specs.FlowLines.{field}
 use Rattle.sample.proofs.LineFacts.{four_appended}

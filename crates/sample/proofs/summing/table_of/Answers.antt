@@ -1,5 +1,5 @@
-use Rattle.term_core.specs.Declarations.{declarations}
-use Rattle.term_core.specs.Terms.{contract}
+use Rattle.term_model.specs.Declarations.{declarations}
+use Rattle.term_model.specs.Terms.{contract}
 use Rattle.sample.proofs.ContractFacts.{is_accepted, not_missing, rows_known}
 use Rattle.sample.proofs.summing.table_of.Goals as goal
 

@@ -1,5 +1,5 @@
 use Rattle.std.proofs.Common.{◌+◌, ◌*◌, max}
-use Rattle.term_core.specs.declared.terms.Expr.{size-Expr}
+use Rattle.term_model.specs.declared.terms.Expr.{size-Expr}
 use Rattle.scale_check.proofs.scale_rule.+scaling.Given as goal
 
 abbrev pub decreases-scale_of_expr : goal.decreases-scale_of_expr

@@ -1,5 +1,5 @@
 use Rattle.std.proofs.Common.{◌+◌, ◌*◌}
-use Rattle.term_core.specs.declared.terms.Contr.{size-Contr}
+use Rattle.term_model.specs.declared.terms.Contr.{size-Contr}
 use Rattle.scale_check.proofs.size_rule.+sized.Given as goal
 
 abbrev pub decreases-try_size : goal.decreases-try_size

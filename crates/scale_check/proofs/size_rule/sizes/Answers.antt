@@ -1,5 +1,5 @@
 use Rattle.std.proofs.Common.{sym, refl, ◌∙◌}
-use Rattle.term_core.specs.Terms.{contract}
+use Rattle.term_model.specs.Terms.{contract}
 use Rattle.scale_check.proofs.SizeFacts.{sizes_meet, sizes_fail}
 use Rattle.scale_check.proofs.size_rule.sizes.Goals as goal
 

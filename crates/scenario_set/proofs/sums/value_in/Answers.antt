@@ -1,6 +1,6 @@
 use Rattle.std.proofs.Common.{◌∙◌, ◌++◌, ◌<◌, ap, arith, length, refl, sym}
 use Rattle.std.proofs.lemmas.List.{length-map}
-use Rattle.term_core.specs.Declarations.{declarations}
+use Rattle.term_model.specs.Declarations.{declarations}
 use Rattle.payoff_eval.proofs.SizeFacts.{face_is_factor}
 use Rattle.scenario_set.specs.Scenarios.{IsMapOf, map_of, maps_of, rows_held}
 use Rattle.scenario_set.specs.Surveys.{asked_in}

@@ -1,5 +1,5 @@
 use Rattle.std.proofs.Common.{◌≡◌, length}
-use Rattle.term_core.specs.Declarations.{declarations}
+use Rattle.term_model.specs.Declarations.{declarations}
 use Rattle.fixing_files.specs.Readers.{HasRead}
 use Rattle.fixing_files.specs.Tables.{Table, table_of}
 use Rattle.scenario_set.specs.Collecting.{Collects}

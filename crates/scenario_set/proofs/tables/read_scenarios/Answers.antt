@@ -1,5 +1,5 @@
 use Rattle.std.proofs.Common.{length}
-use Rattle.term_core.specs.Declarations.{declarations}
+use Rattle.term_model.specs.Declarations.{declarations}
 use Rattle.fixing_files.specs.Tables.{table_of}
 use Rattle.scenario_set.proofs.AnswerFacts.{are_admitted, are_within, holds_scenarios}
 use Rattle.scenario_set.proofs.tables.read_scenarios.Goals as goal

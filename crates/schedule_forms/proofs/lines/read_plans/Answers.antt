@@ -1,6 +1,6 @@
 use Rattle.std.proofs.Common.{◌∙◌, ◌∷◌, List, ap, arith, length, subst, sym, rules}
 use Rattle.indexmap.specs.IndexMap.{keys}
-use Rattle.term_core.specs.Declarations.{declarations}
+use Rattle.term_model.specs.Declarations.{declarations}
 use Rattle.contract_parse.specs.Tokens.{Tok, tokens}
 use Rattle.contract_parse.specs.Statements.{Entry, Repeat, none, more}
 use Rattle.contract_parse.specs.Reading.{tok_of, tokens_after, tokens_ahead}

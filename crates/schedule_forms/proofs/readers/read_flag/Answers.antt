@@ -1,5 +1,5 @@
 use Rattle.std.proofs.Common.{◌∷◌, refl, rules}
-use Rattle.term_core.specs.Declarations.{declarations}
+use Rattle.term_model.specs.Declarations.{declarations}
 use Rattle.contract_parse.specs.Reading.{tok_of}
 use Rattle.schedule_forms.specs.PlanJudgements.{flag_at}
 use Rattle.contract_parse.proofs.Passing.{stopped}

@@ -1,13 +1,13 @@
 use Rattle.std.proofs.Common.{◌≡◌, subst, w32}
 use Rattle.std.proofs.lemmas.Int.{to_z-of_z}
-use Rattle.term_core.specs.Declarations.{declarations}
+use Rattle.term_model.specs.Declarations.{declarations}
 use Rattle.term_core.specs.declared.shared.SharedContr.{SharedContr}
-use Rattle.term_core.specs.declared.terms.Expr.{Expr}
-use Rattle.term_core.specs.Terms.{expression}
+use Rattle.term_model.specs.declared.terms.Expr.{Expr}
+use Rattle.term_model.specs.Terms.{expression}
 use Rattle.term_core.specs.SharedTerms.{shared}
 use Rattle.rewriting.specs.Rebuilding.{after}
 use Rattle.rewriting.specs.RebuildingContracts.{after_in}
-use Rattle.term_core.specs.Scopes.{held_in}
+use Rattle.term_model.specs.Scopes.{held_in}
 use Rattle.simplify.specs.Turning.{turned}
 use Rattle.simplify.specs.TurningContracts.{turned_in}
 use Rattle.simplify.proofs.TurnedParts.{scale_turned}

@@ -1,8 +1,8 @@
 use Rattle.std.proofs.Common.{rules, ◌≡◌, ◌<◌, [], sym, subst}
-use Rattle.term_core.specs.Declarations.{declarations}
+use Rattle.term_model.specs.Declarations.{declarations}
 use Rattle.term_core.specs.declared.shared.SharedContr.{SharedContr}
 use Rattle.term_core.specs.SharedTerms.{shared}
-use Rattle.term_core.specs.Terms.{Contract}
+use Rattle.term_model.specs.Terms.{Contract}
 use Rattle.rewriting.specs.Measures.{size_in}
 use Rattle.simplify.specs.TurnableContracts.{CanTurnIn}
 use Rattle.simplify.specs.Simplified.{Simplifies}

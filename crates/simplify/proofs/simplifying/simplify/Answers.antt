@@ -1,10 +1,10 @@
 use Rattle.std.proofs.Common.{sym, subst}
-use Rattle.term_core.specs.Declarations.{declarations}
+use Rattle.term_model.specs.Declarations.{declarations}
 use Rattle.term_core.specs.declared.shared.SharedContr.{SharedContr}
 use Rattle.term_core.specs.SharedTerms.{shared, HasOffsetsIn}
-use Rattle.term_core.specs.Terms.{contract, Contract}
-use Rattle.term_core.specs.WellFormed.{IsClosed}
-use Rattle.term_core.proofs.ShiftedFacts.{formed_offsets_in, stores_offsets}
+use Rattle.term_model.specs.Terms.{contract, Contract}
+use Rattle.term_model.specs.WellFormed.{IsClosed}
+use Rattle.term_core.proofs.SharedFacts.{formed_offsets_in, stores_offsets}
 use Rattle.simplify.proofs.SimplifyingFacts.{simplifies_as, alone_as}
 use Rattle.simplify.proofs.simplifying.simplify.Goals as goal
 

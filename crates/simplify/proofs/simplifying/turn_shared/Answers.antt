@@ -1,5 +1,5 @@
 use Rattle.std.proofs.Common.{[], sym, subst}
-use Rattle.term_core.specs.Declarations.{declarations}
+use Rattle.term_model.specs.Declarations.{declarations}
 use Rattle.term_core.specs.declared.shared.SharedContr.{SharedContr}
 use Rattle.simplify.specs.TurnableContracts.{CanTurnIn}
 use Rattle.simplify.proofs.SimplifyingFacts.{accepted_turns}

@@ -1,5 +1,5 @@
 use Rattle.std.proofs.Common.{◌+◌, ◌*◌, max}
-use Rattle.term_core.specs.declared.terms.Expr.{size-Expr}
+use Rattle.term_model.specs.declared.terms.Expr.{size-Expr}
 use Rattle.simplify.proofs.turns.+turning.Given as goal
 
 abbrev pub decreases-turn : goal.decreases-turn

@@ -1,7 +1,7 @@
 use Rattle.std.proofs.Common.{ℤ, IfOk, subst, w64}
 use Rattle.std.proofs.lemmas.Int.{to_z-of_z}
-use Rattle.term_core.specs.Declarations.{declarations}
-use Rattle.term_core.specs.Terms.{contract}
+use Rattle.term_model.specs.Declarations.{declarations}
+use Rattle.term_model.specs.Terms.{contract}
 use Rattle.specialise.specs.Specialised.{IsSpecialisedOn, SpecialisesOn, StandsAlone}
 use Rattle.specialise.proofs.CallFacts.{on_ok, stands_alone, takes_place}
 use Rattle.specialise.proofs.calls.specialise_contr.Goals as goal

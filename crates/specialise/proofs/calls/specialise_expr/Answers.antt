@@ -1,5 +1,5 @@
-use Rattle.term_core.specs.Declarations.{declarations}
-use Rattle.term_core.specs.Terms.{expression}
+use Rattle.term_model.specs.Declarations.{declarations}
+use Rattle.term_model.specs.Terms.{expression}
 use Rattle.specialise.specs.Specialised.{day_of, IsSpecialised, Specialises}
 use Rattle.specialise.proofs.CallFacts.{on_ok, stands_for}
 use Rattle.specialise.proofs.calls.specialise_expr.Goals as goal

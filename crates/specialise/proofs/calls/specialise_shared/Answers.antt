@@ -1,6 +1,6 @@
 use Rattle.std.proofs.Common.{ℤ, IfOk, subst, w64}
 use Rattle.std.proofs.lemmas.Int.{to_z-of_z}
-use Rattle.term_core.specs.Declarations.{declarations}
+use Rattle.term_model.specs.Declarations.{declarations}
 use Rattle.term_core.specs.SharedTerms.{shared}
 use Rattle.specialise.specs.Specialised.{IsSpecialisedOn, SpecialisesOn}
 use Rattle.specialise.proofs.CallFacts.{on_ok, shared_numbers, takes_place}

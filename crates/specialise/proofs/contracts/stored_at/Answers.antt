@@ -1,7 +1,7 @@
 use Rattle.std.proofs.Common.{rules, ◌≡◌, ◌≤◌, ◌+◌, ◌^◌, ◌∙◌, ℤ, ◌+ℤ◌, unsigned_abs, ap, ap₂, subst, FitsSigned, w32, w64}
 use Rattle.std.proofs.lemmas.Int.{to_z-of_z}
-use Rattle.term_core.specs.declared.terms.Expr.{Expr}
-use Rattle.term_core.specs.Terms.{expression}
+use Rattle.term_model.specs.declared.terms.Expr.{Expr}
+use Rattle.term_model.specs.Terms.{expression}
 use Rattle.specialise.proofs.WalkFacts.{can_tell_later}
 use Rattle.specialise.proofs.contracts.stored_at.Goals as goal
 

@@ -1,5 +1,5 @@
 use Rattle.std.proofs.Common.{◌+◌, ◌*◌, max}
-use Rattle.term_core.specs.declared.terms.Expr.{size-Expr}
+use Rattle.term_model.specs.declared.terms.Expr.{size-Expr}
 use Rattle.specialise.proofs.expressions.+telling.Given as goal
 
 abbrev pub decreases-specialise_at : goal.decreases-specialise_at

@@ -1,7 +1,7 @@
 use Rattle.std.proofs.Common.{ℤ, IfOk, subst, sym, w64}
 use Rattle.std.proofs.lemmas.Int.{to_z-of_z}
-use Rattle.term_core.specs.Declarations.{declarations}
-use Rattle.term_core.specs.Terms.{expression}
+use Rattle.term_model.specs.Declarations.{declarations}
+use Rattle.term_model.specs.Terms.{expression}
 use Rattle.fixing_files.specs.Knowledge.{Knowledge}
 use Rattle.specialise.specs.Specialisable.{MaySpecialise}
 use Rattle.specialise.specs.WalkAnswers.{TakesPlaceOfSteps}

@@ -1,4 +1,4 @@
-use Rattle.term_core.proofs.ShiftedFacts.{formed_offsets}
+use Rattle.term_core.proofs.SharedFacts.{formed_offsets}
 use Rattle.specialise.proofs.PartFacts.{whole_inside, parts_inside}
 use Rattle.specialise.proofs.laws.parts_may_be_specialised.Goals as goal
 

@@ -1,6 +1,6 @@
 use Rattle.term_core.proofs.BinderFacts.{closed_where, open_where}
-use Rattle.term_core.specs.Declarations.{declarations}
-use Rattle.term_core.specs.Terms.{contract}
+use Rattle.term_model.specs.Declarations.{declarations}
+use Rattle.term_model.specs.Terms.{contract}
 use Rattle.term_core.proofs.closed.is_closed.Goals as goal
 
 pub returns-in-Some : goal.returns-in-Some

@@ -1,5 +1,5 @@
 use Rattle.std.proofs.Common.{◌+◌, ◌*◌, max}
-use Rattle.term_core.specs.declared.terms.Expr.{size-Expr}
+use Rattle.term_model.specs.declared.terms.Expr.{size-Expr}
 use Rattle.time_types.proofs.sort_rule.+sorting.Given as goal
 
 abbrev pub decreases-sort_of_expr : goal.decreases-sort_of_expr

@@ -1,5 +1,5 @@
 use Rattle.std.proofs.Common.{◌+◌, ◌*◌, max}
-use Rattle.term_core.specs.declared.terms.Contr.{size-Contr}
+use Rattle.term_model.specs.declared.terms.Contr.{size-Contr}
 use Rattle.time_types.proofs.sort_rule.+trying.Given as goal
 
 abbrev pub decreases-try_sorts : goal.decreases-try_sorts

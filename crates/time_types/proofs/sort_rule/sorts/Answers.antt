@@ -1,6 +1,6 @@
 use Rattle.std.proofs.Common.{sym, refl}
-use Rattle.term_core.specs.Declarations.{declarations}
-use Rattle.term_core.specs.Terms.{contract}
+use Rattle.term_model.specs.Declarations.{declarations}
+use Rattle.term_model.specs.Terms.{contract}
 use Rattle.time_types.proofs.SortFacts.{sorts_meet, sorts_fail}
 use Rattle.time_types.proofs.sort_rule.sorts.Goals as goal
 

@@ -1,5 +1,5 @@
 use Rattle.std.proofs.Common.{◌+◌, ◌*◌, max}
-use Rattle.term_core.specs.declared.terms.Expr.{size-Expr}
+use Rattle.term_model.specs.declared.terms.Expr.{size-Expr}
 use Rattle.time_types.proofs.time_rule.+knowing.Given as goal
 
 abbrev pub decreases-known : goal.decreases-known

@@ -1,6 +1,6 @@
 use Rattle.std.proofs.Common.{sym, refl}
-use Rattle.term_core.specs.Declarations.{declarations}
-use Rattle.term_core.specs.Terms.{contract}
+use Rattle.term_model.specs.Declarations.{declarations}
+use Rattle.term_model.specs.Terms.{contract}
 use Rattle.time_types.proofs.TimeFaults.{times_meet, times_fail, start_is_greatest}
 use Rattle.time_types.proofs.time_rule.times.Goals as goal
 

@@ -1,6 +1,6 @@
 use Rattle.std.proofs.Common.{pos, arith, w64}
 use Rattle.std.proofs.lemmas.Int.{ints, to_z-of_z}
-use Rattle.term_core.specs.Factors.{IsCurve, IsFactor}
+use Rattle.term_model.specs.Factors.{IsCurve, IsFactor}
 use Rattle.fixing_files.specs.Curves.{rows_of}
 use Rattle.fixing_files.proofs.CurveFacts.{answers_factor}
 use Rattle.fixing_files.proofs.curves.Curve.at.Goals as goal

@@ -1,7 +1,7 @@
 use Rattle.std.proofs.Common.{◌≡◌, ◌∙◌, ℤ, refl, set, sym, subst, arith, w64}
 use Rattle.std.specs.List.{insert}
 use Rattle.std.proofs.lemmas.Int.{to_z-of_z}
-use Rattle.term_core.specs.Environments.{Environment}
+use Rattle.term_model.specs.Environments.{Environment}
 use Rattle.fixing_files.specs.Runs.{AddsPair, IsRising, run_at, values_of}
 use Rattle.fixing_files.specs.RunPlaces.{IsGapFor}
 use Rattle.fixing_files.proofs.BlockFacts.{blocks_dropped}

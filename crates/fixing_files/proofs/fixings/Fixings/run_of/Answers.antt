@@ -1,7 +1,7 @@
 use Rattle.std.proofs.Common.{◌≡◌, ◌∙◌, List, ap, sym, subst}
 use Rattle.std.specs.declared.vec.Vec.{Vec}
 use Rattle.std.specs.declared.alloc.Global.{Global}
-use Rattle.term_core.specs.Environments.{Environment}
+use Rattle.term_model.specs.Environments.{Environment}
 use Rattle.fixing_files.specs.Blocks.{blocks_at}
 use Rattle.fixing_files.specs.Runs.{IsRising, LendsDays, run_at, values_of}
 use Rattle.fixing_files.specs.declared.blocks.Block.{Block}

@@ -1,7 +1,7 @@
 use Rattle.std.proofs.Common.{◌≡◌, ◌∙◌, ap, false, subst, sym, true}
 use Rattle.std.specs.Prelude.{is_some}
 use Rattle.std.specs.BTreeMap.{get}
-use Rattle.term_core.specs.Environments.{Environment, held}
+use Rattle.term_model.specs.Environments.{Environment, held}
 use Rattle.fixing_files.specs.Layers.{entries_held, place_order}
 use Rattle.fixing_files.specs.Runs.{AddsUnlessHeld}
 use Rattle.fixing_files.specs.Steps.{place_of}

@@ -1,8 +1,8 @@
 use Rattle.std.proofs.Common.{◌≡◌, ◌∙◌, List, [], map, refl, subst, sym}
 use Rattle.std.proofs.lemmas.List.{map-id}
 use Rattle.std.proofs.lemmas.Map.Iter.{iter_end}
-use Rattle.term_core.specs.Environments.{Environment}
-use Rattle.term_core.specs.declared.values.Value.{Value}
+use Rattle.term_model.specs.Environments.{Environment}
+use Rattle.term_model.specs.declared.values.Value.{Value}
 use Rattle.fixing_files.specs.Layers.{HoldSame, entry_held}
 use Rattle.fixing_files.specs.declared.records.Place.{Place as Spot}
 use Rattle.fixing_files.proofs.LayerFacts.{adds_entry}

@@ -1,5 +1,5 @@
 use Rattle.std.proofs.Common.{◌∙◌, ap, sym}
-use Rattle.term_core.specs.Environments.{Environment, held}
+use Rattle.term_model.specs.Environments.{Environment, held}
 use Rattle.fixing_files.specs.Steps.{place_of}
 use Rattle.fixing_files.proofs.LayerFacts.{found_is}
 use Rattle.fixing_files.proofs.layers.FewFixings.get.Goals as goal

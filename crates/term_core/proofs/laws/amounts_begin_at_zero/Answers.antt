@@ -1,5 +1,0 @@
-use Rattle.term_core.proofs.FlowFacts.{amounts_begin}
-use Rattle.term_core.proofs.laws.amounts_begin_at_zero.Goals as goal
-
-pub returns : goal.returns
-returns c = amounts_begin

@@ -1,5 +1,0 @@
-use Rattle.term_core.proofs.FlowFacts.{amounts_end}
-use Rattle.term_core.proofs.laws.amounts_end_at_horizon.Goals as goal
-
-pub returns : goal.returns
-returns c = amounts_end

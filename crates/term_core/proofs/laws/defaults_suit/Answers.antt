@@ -1,5 +1,0 @@
-use Rattle.term_core.proofs.InstanceFacts.{defaults_suit}
-use Rattle.term_core.proofs.laws.defaults_suit.Goals as goal
-
-pub returns : goal.returns
-returns c = defaults_suit

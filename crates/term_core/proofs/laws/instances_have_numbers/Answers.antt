@@ -1,5 +1,0 @@
-use Rattle.term_core.proofs.InstanceFacts.{instances_have_numbers}
-use Rattle.term_core.proofs.laws.instances_have_numbers.Goals as goal
-
-pub returns : goal.returns
-returns c = instances_have_numbers

@@ -1,5 +1,0 @@
-use Rattle.term_core.proofs.ReadLawFacts.{reads_stay}
-use Rattle.term_core.proofs.laws.reads_stay_up_to_unfixed.Goals as goal
-
-pub returns : goal.returns
-returns c = reads_stay

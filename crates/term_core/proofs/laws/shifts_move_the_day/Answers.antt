@@ -1,5 +1,0 @@
-use Rattle.term_core.proofs.ShiftFacts.{value-shifted}
-use Rattle.term_core.proofs.laws.shifts_move_the_day.Goals as goal
-
-pub returns : goal.returns
-returns c = value-shifted

@@ -1,5 +1,0 @@
-use Rattle.term_core.proofs.DateTextFacts.{texts_unique}
-use Rattle.term_core.proofs.laws.texts_of_days_are_unique.Goals as goal
-
-pub returns : goal.returns
-returns c = texts_unique

@@ -1,5 +1,0 @@
-use Rattle.term_core.proofs.TimeFacts.{times_mean_typed}
-use Rattle.term_core.proofs.laws.times_mean_typed.Goals as goal
-
-pub returns : goal.returns
-returns c = times_mean_typed

@@ -1,5 +1,0 @@
-use Rattle.term_core.proofs.ReadLawFacts.{values_depend}
-use Rattle.term_core.proofs.laws.values_depend_on_reads.Goals as goal
-
-pub returns : goal.returns
-returns c = values_depend

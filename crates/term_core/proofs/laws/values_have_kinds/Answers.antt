@@ -1,5 +1,0 @@
-use Rattle.term_core.proofs.KindFacts.{values_have_kinds}
-use Rattle.term_core.proofs.laws.values_have_kinds.Goals as goal
-
-pub returns : goal.returns
-returns c = values_have_kinds
