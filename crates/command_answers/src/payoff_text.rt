@@ -29,8 +29,8 @@ use payoff_compile::{into_code, into_cut_code};
 use payoff_lang::{Code, CodeFile, print_code};
 use report::Fault;
 use std::alloc::Global;
-use term_model::{Contr, Decls, Name, defaults};
 use term_core::{has_only_numbers, instantiate};
+use term_model::{Contr, Decls, Name, defaults};
 
 // The contract, if it has the name.
 fn if_named(next: NextContract<'_>, word: &str) -> Option<Contr>

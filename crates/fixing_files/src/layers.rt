@@ -88,7 +88,6 @@ pub struct LayeredFixings<'a> {
 }
 
 impl<'a> Model for LayeredFixings<'a> {
-
     ghost Value = { Environment };
 
     ghost use Rattle.fixing_files.specs.Layers.{laid_over};

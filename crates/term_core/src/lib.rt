@@ -14,6 +14,7 @@
 
 mod closed;
 mod instances;
+mod measures;
 mod nodes;
 mod shared;
 mod sharing;
@@ -22,10 +23,11 @@ mod trying;
 
 pub use closed::{has_only_numbers, is_closed};
 pub use instances::instantiate;
+pub use measures::Counts;
 pub use nodes::{nodes_in, nodes_in_contract};
 pub use shared::SharedContr;
 pub use sharing::{share, unshare};
-pub use sizes::{Counts, counts};
+pub use sizes::counts;
 pub use term_model::{
     CheckErr, CmpOp, Contr, DaySum, Days, Decls, Expr, FIRST_ORIGIN, GREATEST_DATE_NUMBER,
     GREATEST_OFFSET, Kind, LAST_CURVE_OFFSET, LAST_FIXED_DAY, LAST_ORIGIN, LAST_START,

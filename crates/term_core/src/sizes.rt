@@ -6,15 +6,8 @@ ghost use Rattle.term_model.specs.Terms.{expression, contract};
 ghost use Rattle.term_model.specs.Sizes.{nodes, height, nodes_of_contract, height_of_contract};
 ghost use Rattle.term_model.specs.Sizes.{capped};
 
+use crate::measures::Counts;
 use term_model::{Contr, Expr, MOST_COUNTED};
-
-/// The height and the number of nodes of a term; a greater number than 1,000,000 is given as
-/// 1,000,000.
-#[derive(Clone, Copy, Debug, PartialEq, Eq)]
-pub struct Counts {
-    pub height: u32,
-    pub nodes: u32,
-}
 
 const LEAF: Counts = Counts {
     height: 1,
