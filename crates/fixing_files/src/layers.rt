@@ -88,6 +88,8 @@ pub struct LayeredFixings<'a> {
 }
 
 impl<'a> Model for LayeredFixings<'a> {
+    ghost use Rattle.term_model.specs.Environments.{Environment};
+
     ghost Value = { Environment };
 
     ghost use Rattle.fixing_files.specs.Layers.{laid_over};
