@@ -12,7 +12,7 @@ use Rattle.term_model.specs.Books.{Book}
 use Rattle.term_model.specs.Declarations.{Declarations, declarations}
 use Rattle.term_model.specs.Environments.{Environment}
 use Rattle.term_model.specs.Terms.{Contract, contract}
-use Rattle.contract_parse.specs.Names.{declared_by}
+use Rattle.contract_grammar.specs.Names.{declared_by}
 use Rattle.contract_parse.specs.declared.next_contracts.NextContract.{NextContract}
 use Rattle.contract_print.specs.Canon.{AppendsBeginning, IsBeginning, IsCanon, contract_text}
 use Rattle.contract_print.proofs.LineByLine.{begun_is_canon, one_more_canon}

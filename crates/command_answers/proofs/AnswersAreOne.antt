@@ -2,7 +2,7 @@
 use Rattle.std.proofs.Common.{◌≡◌, ◌∙◌, ◌⊎◌, inl, inr, ℕ, List, ◌∷◌, refl, subst, sym}
 use Rattle.std.specs.Map.{keys_of}
 use Rattle.std.specs.Prelude.{Option, Some, None}
-use Rattle.contract_parse.specs.Names.{index_in}
+use Rattle.contract_grammar.specs.Names.{index_in}
 use Rattle.command_words.specs.Commands.{Advance, Check, Expand, Flows, Migrate, Novate, Payoff, Positions, Request, Sample, Scenarios, Settle, Value}
 use Rattle.command_answers.specs.AdvancePromise.{AreDueLines, last_gone}
 use Rattle.command_answers.specs.AnswerLaws.{AnswersAreOne, DeclaredNamesHavePlaces, DueLinesAreOne, DueLinesOfNovateAreOne, LeavesNothingOpen, StatusesAreOne, SummariesAreOne}

@@ -22,7 +22,7 @@ use Rattle.report.specs.CheckLines.{accepted_line, verdict_line}
 use Rattle.time_types.specs.Starts.{start_day}
 use Rattle.command_answers.specs.CheckPromise.{AreCheckLines, IsCheckLine, accepted, refused, Verdict}
 use Rattle.contract_parse.specs.NextContracts.{IsNext}
-use Rattle.contract_parse.specs.Texts.{Text}
+use Rattle.contract_grammar.specs.Texts.{Text}
 use Rattle.contract_parse.specs.declared.next_contracts.ContractReader.{ContractReader}
 use Rattle.contract_parse.specs.declared.next_contracts.NextContract.{NextContract}
 use Rattle.command_answers.specs.CheckParts.{AddsVerdict, AppendsVerdict, AppendsVerdicts, AreTextVerdicts, AreVerdicts, HasVerdicts, IsVerdictOf}

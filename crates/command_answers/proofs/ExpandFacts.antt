@@ -12,7 +12,7 @@ use Rattle.term_model.specs.Terms.{Contract, Zero, Pay, Both, Scale, After, Let,
 use Rattle.term_model.specs.WellFormed.{HasOnlyNumbers, IsNumber}
 use Rattle.contract_print.specs.Canon.{AppendsBeginning, IsBeginning, IsCanon}
 use Rattle.contract_print.specs.Spellable.{IsSpellable}
-use Rattle.contract_print.specs.Writable.{IsWritableTerm}
+use Rattle.contract_grammar.specs.Writable.{IsWritableTerm}
 use Rattle.contract_print.proofs.LineByLine.{begun_is_canon, one_more_canon}
 use Rattle.contract_print.proofs.TermNumbers.{spellable_written}
 use Rattle.schedule_forms.specs.DeclaredPlans.{IsPlanOfTexts}

@@ -3,14 +3,14 @@ use Rattle.std.proofs.Common.{◌≡◌, ◌∙◌, ℕ, List, [], ◌∷◌, �
 use Rattle.term_model.specs.declared.name.Name.{Name}
 use Rattle.term_model.specs.Declarations.{Declarations}
 use Rattle.term_model.specs.Terms.{Contract, contract}
-use Rattle.contract_parse.specs.Names.{declared_by}
+use Rattle.contract_grammar.specs.Names.{declared_by}
 use Rattle.contract_parse.specs.NextContracts.{IsNext}
-use Rattle.contract_parse.specs.Texts.{Text}
+use Rattle.contract_grammar.specs.Texts.{Text}
 use Rattle.contract_parse.specs.declared.next_contracts.ContractReader.{ContractReader}
 use Rattle.contract_parse.specs.declared.next_contracts.NextContract.{NextContract}
 use Rattle.contract_print.specs.Canon.{AppendsBeginning, IsBeginning, IsCanon, contract_text}
 use Rattle.contract_print.specs.Migrated.{in_version_two, migrated}
-use Rattle.contract_print.specs.Writable.{IsWritableTerm}
+use Rattle.contract_grammar.specs.Writable.{IsWritableTerm}
 use Rattle.contract_print.proofs.LineByLine.{begun_is_canon, one_more_canon}
 use Rattle.contract_print.proofs.TermNumbers.{numbers_of_contract, spellable_written}
 use Rattle.command_answers.specs.ChoosingParts.{so_far}

@@ -14,10 +14,10 @@ use Rattle.term_model.specs.Limits.{longest_file}
 use Rattle.term_model.specs.Terms.{Contract, contract}
 use Rattle.term_model.specs.WellFormed.{IsClosed}
 use Rattle.contract_parse.specs.NextContracts.{IsNext, IsSoundContract}
-use Rattle.contract_parse.specs.Texts.{Text}
+use Rattle.contract_grammar.specs.Texts.{Text}
 use Rattle.contract_parse.specs.declared.next_contracts.ContractReader.{ContractReader}
 use Rattle.contract_parse.specs.declared.next_contracts.NextContract.{NextContract}
-use Rattle.contract_print.specs.Writable.{IsWritableTerm}
+use Rattle.contract_grammar.specs.Writable.{IsWritableTerm}
 use Rattle.contract_print.proofs.TextSpellable.{texts_writable}
 use Rattle.payoff_lang.specs.Code.{PayoffCode}
 use Rattle.payoff_lang.specs.CodeBooks.{CodeBook}

@@ -11,9 +11,9 @@ use Rattle.term_model.specs.Flows.{Flow}
 use Rattle.term_model.specs.Terms.{Contract}
 use Rattle.term_model.specs.Instances.{instance, declared_numbers}
 use Rattle.term_model.proofs.RefusalFacts as contracts
-use Rattle.contract_parse.specs.Names.{index_in}
-use Rattle.contract_parse.specs.declared.faults.TextFault.{TextFault}
-use Rattle.contract_parse.specs.declared.heads.Language.{Language}
+use Rattle.contract_grammar.specs.Names.{index_in}
+use Rattle.contract_grammar.specs.declared.faults.TextFault.{TextFault}
+use Rattle.contract_grammar.specs.declared.terms.Language.{Language}
 use Rattle.fixing_files.specs.Tables.{IsFirstFault, table_of}
 use Rattle.fixing_files.specs.declared.faults.RowFault.{RowFault}
 use Rattle.fixing_files.proofs.CurveLawFacts.{faulty_hold_none}

@@ -2,15 +2,15 @@
 use Rattle.std.proofs.Common.{◌≡◌, ◌∙◌, ◌-◌, ℕ, List, length, ap, refl, sym}
 use Rattle.std.specs.Str.{IsUtf8, IsValidUpTo}
 use Rattle.std.proofs.lemmas.Str.{utf8_valid_len-IsValidUpTo}
-use Rattle.contract_parse.specs.Names.{nothing_declared}
+use Rattle.contract_grammar.specs.Names.{nothing_declared}
 use Rattle.contract_parse.specs.Expecting.{Stops as stops_at, expected_of, run}
 use Rattle.contract_parse.specs.Lines.{line_at, column_at}
-use Rattle.contract_parse.specs.Tokens.{tokens}
-use Rattle.contract_parse.specs.Texts.{FirstTextFault, IsTextFault, no_utf8, refused}
-use Rattle.contract_parse.specs.declared.heads.Language.{Language}
-use Rattle.contract_parse.specs.declared.faults.TextFault.{TextFault}
-use Rattle.contract_parse.specs.declared.faults.TextKind.{TextKind}
-use Rattle.contract_parse.specs.declared.faults.TextKind.TheVariants.{Utf8}
+use Rattle.contract_grammar.specs.Tokens.{tokens}
+use Rattle.contract_parse.specs.TextFaults.{FirstTextFault, IsTextFault, no_utf8, refused}
+use Rattle.contract_grammar.specs.declared.terms.Language.{Language}
+use Rattle.contract_grammar.specs.declared.faults.TextFault.{TextFault}
+use Rattle.contract_grammar.specs.declared.faults.TextKind.{TextKind}
+use Rattle.contract_grammar.specs.declared.faults.TextKind.TheVariants.{Utf8}
 
 data FaultIs (l : Language) (bytes : List ℕ) (kind : TextKind) (at : ℕ) : Type 0 where
   broken : (IsUtf8 bytes → ⊥) → IsValidUpTo bytes at → kind ≡ Utf8 → FaultIs l bytes kind at

@@ -17,9 +17,9 @@ use Rattle.term_model.specs.Instances.{HasNumbers, IsSetting, declared_numbers, 
 use Rattle.term_model.specs.Limits.{are_numbers, longest_file}
 use Rattle.term_model.proofs.InstanceFacts.{defaults_suit, instances_have_numbers, instances_well_formed, settings_suit}
 use Rattle.contract_parse.specs.NextContracts.{IsSoundContract}
-use Rattle.contract_parse.specs.Texts.{Text}
-use Rattle.contract_parse.proofs.TextClosed.{contracts_closed, contracts_small}
-use Rattle.contract_parse.proofs.TextSizes.{nodes_fit}
+use Rattle.contract_grammar.specs.Texts.{Text}
+use Rattle.contract_grammar.proofs.TextClosed.{contracts_closed, contracts_small}
+use Rattle.contract_grammar.proofs.TextSizes.{nodes_fit}
 use Rattle.command_answers.specs.UsedContracts.{at_defaults, is_asked}
 use Rattle.command_answers.specs.UsedParts.{IsTriable}
 

@@ -17,7 +17,7 @@ use Rattle.term_model.specs.Declarations.{Declarations}
 use Rattle.term_model.specs.Environments.{Environment}
 use Rattle.term_model.specs.Factors.{CurveRow}
 use Rattle.term_model.specs.Flows.{Flow}
-use Rattle.contract_parse.specs.Names.{index_in}
+use Rattle.contract_grammar.specs.Names.{index_in}
 use Rattle.flow_eval.specs.declared.faults.FlowErr.TheVariants as flow
 use Rattle.payoff_check.specs.Verdicts.{IsScaleOf, IsTotalOf}
 use Rattle.payoff_eval.specs.Questions.{IsQuestion}

@@ -8,7 +8,7 @@ use Rattle.term_model.specs.Declarations.{Declarations}
 use Rattle.term_model.specs.Environments.{Environment}
 use Rattle.term_model.specs.Terms.{Contract, Zero, Pay, Both, Scale, After, Let, Within}
 use Rattle.contract_print.specs.Rests.{IsSoundRest}
-use Rattle.contract_print.specs.Writable.{IsWritableContract, IsWritableTerm}
+use Rattle.contract_grammar.specs.Writable.{IsWritableContract, IsWritableTerm}
 use Rattle.contract_print.proofs.RestFacts.{rest_written}
 use Rattle.advance_step.specs.Advancing.{IsResidual}
 use Rattle.exposure.specs.Renaming.{renamed}

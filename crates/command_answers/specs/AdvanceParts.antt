@@ -7,8 +7,8 @@ use Rattle.term_model.specs.Books.{Book}
 use Rattle.term_model.specs.Declarations.{Declarations, declarations}
 use Rattle.term_model.specs.Environments.{Environment}
 use Rattle.term_model.specs.Terms.{Contract, contract}
-use Rattle.contract_parse.specs.Names.{declared_by}
-use Rattle.contract_parse.specs.Texts.{Text}
+use Rattle.contract_grammar.specs.Names.{declared_by}
+use Rattle.contract_grammar.specs.Texts.{Text}
 use Rattle.contract_parse.specs.declared.next_contracts.ContractReader.{ContractReader}
 use Rattle.contract_print.specs.Canon.{IsCanon, contract_text}
 use Rattle.flow_eval.specs.FlowAnswers.{AreKnownFlows}

@@ -7,7 +7,7 @@ use Rattle.term_model.specs.Books.{Book}
 use Rattle.term_model.specs.Declarations.{Declarations}
 use Rattle.term_model.specs.Terms.{Contract}
 use Rattle.term_model.specs.Acceptance.{IsAccepted, IsRefusal}
-use Rattle.contract_parse.specs.Texts.{Text}
+use Rattle.contract_grammar.specs.Texts.{Text}
 use Rattle.contract_check.specs.Checks.{IsGranted}
 use Rattle.contract_check.specs.declared.checks.Facts.{Facts}
 use Rattle.command_answers.specs.CheckPromise.{AreAllAccepted, AreCheckLines, IsCheckLine}

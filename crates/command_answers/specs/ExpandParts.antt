@@ -8,9 +8,9 @@ use Rattle.term_model.specs.Acceptance.{IsAccepted}
 use Rattle.term_model.specs.Books.{Book}
 use Rattle.term_model.specs.Declarations.{Declarations}
 use Rattle.term_model.specs.Terms.{Contract, contract}
-use Rattle.contract_parse.specs.Names.{declared_by}
+use Rattle.contract_grammar.specs.Names.{declared_by}
 use Rattle.contract_print.specs.Canon.{IsCanon, contract_text}
-use Rattle.contract_print.specs.Writable.{IsWritableTerm}
+use Rattle.contract_grammar.specs.Writable.{IsWritableTerm}
 use Rattle.schedule_forms.specs.DeclaredPlans.{IsPlanOfTexts}
 use Rattle.schedule_forms.specs.Expansions.{expansion}
 use Rattle.schedule_forms.specs.declared.plans.Plan.{Plan}

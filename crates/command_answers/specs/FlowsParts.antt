@@ -9,7 +9,7 @@ use Rattle.term_model.specs.Environments.{Environment, IsAdmitted, Place}
 use Rattle.term_model.specs.Terms.{Contract}
 use Rattle.term_model.specs.Acceptance.{IsAccepted, IsRefusal}
 use Rattle.term_model.specs.Limits.{longest_file}
-use Rattle.contract_parse.specs.Texts.{Text}
+use Rattle.contract_grammar.specs.Texts.{Text}
 use Rattle.contract_parse.specs.declared.next_contracts.ContractReader.{ContractReader}
 use Rattle.fixing_files.specs.declared.days.DayFault.{DayFault}
 use Rattle.flow_eval.specs.Readiness.{last_day}

@@ -6,7 +6,7 @@ use Rattle.term_model.specs.declared.name.Name.{Name}
 use Rattle.term_model.specs.Declarations.{Declarations, declarations}
 use Rattle.term_model.specs.Environments.{Environment}
 use Rattle.term_model.specs.Terms.{Contract}
-use Rattle.contract_parse.specs.Texts.{Text}
+use Rattle.contract_grammar.specs.Texts.{Text}
 use Rattle.contract_parse.specs.declared.next_contracts.ContractReader.{ContractReader}
 use Rattle.interval_check.specs.Safety.{IsSmall}
 use Rattle.flow_eval.specs.Readiness.{last_day}

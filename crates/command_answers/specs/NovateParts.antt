@@ -1,7 +1,7 @@
 -- What a part of `novate` answers: the renaming, where both parties are declared.
 use Rattle.std.specs.Prelude.{◌≡◌, ℕ, List, Option, Some, Result}
 use Rattle.term_model.specs.Declarations.{Declarations}
-use Rattle.contract_parse.specs.Names.{index_in}
+use Rattle.contract_grammar.specs.Names.{index_in}
 use Rattle.report.specs.declared.fault_lines.Fault.{Fault}
 use Rattle.command_words.specs.Commands.{NovateAsked}
 use Rattle.command_answers.specs.Course.{Course, behind}

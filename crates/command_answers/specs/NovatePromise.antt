@@ -7,7 +7,7 @@ use Rattle.term_model.specs.declared.name.Name.{Name}
 use Rattle.term_model.specs.Books.{Book}
 use Rattle.term_model.specs.Environments.{Environment}
 use Rattle.term_model.specs.Terms.{Contract}
-use Rattle.contract_parse.specs.Names.{index_in}
+use Rattle.contract_grammar.specs.Names.{index_in}
 use Rattle.exposure.specs.Renaming.{renamed}
 use Rattle.command_words.specs.Commands.{NovateAsked}
 use Rattle.command_answers.specs.AdvancePromise.{CanAdvance, IsAdvancedWith}

@@ -7,7 +7,7 @@ use Rattle.term_model.specs.declared.terms.Contr.{Contr}
 use Rattle.term_model.specs.Declarations.{Declarations}
 use Rattle.term_model.specs.Terms.{Contract, contract}
 use Rattle.contract_parse.specs.NextContracts.{IsReadTo}
-use Rattle.contract_parse.specs.Texts.{Text}
+use Rattle.contract_grammar.specs.Texts.{Text}
 use Rattle.contract_parse.specs.declared.next_contracts.ContractReader.{ContractReader}
 use Rattle.command_answers.specs.ChoosingParts.{StopsIn, so_far}
 use Rattle.command_answers.specs.ReadingParts.{IsBegun}

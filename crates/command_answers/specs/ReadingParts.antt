@@ -5,7 +5,7 @@ use Rattle.term_model.specs.declared.name.Name.{Name}
 use Rattle.term_model.specs.Declarations.{Declarations, declarations}
 use Rattle.term_model.specs.Terms.{Contract}
 use Rattle.contract_parse.specs.NextContracts.{IsNext, IsReadTo, bytes_left}
-use Rattle.contract_parse.specs.Texts.{Text}
+use Rattle.contract_grammar.specs.Texts.{Text}
 use Rattle.contract_parse.specs.declared.next_contracts.ContractReader.{ContractReader}
 use Rattle.contract_parse.specs.declared.next_contracts.NextContract.{NextContract}
 use Rattle.command_answers.specs.Stages.{IsBadText}

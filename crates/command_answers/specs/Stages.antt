@@ -8,9 +8,10 @@ use Rattle.term_model.specs.Environments.{Environment, Place}
 use Rattle.term_model.specs.Factors.{CurveRow}
 use Rattle.term_model.specs.Flows.{Flow}
 use Rattle.term_model.specs.Terms.{Contract}
-use Rattle.contract_parse.specs.Names.{index_in}
-use Rattle.contract_parse.specs.Texts.{IsFault, Text}
-use Rattle.contract_parse.specs.declared.faults.TextFault.{TextFault}
+use Rattle.contract_grammar.specs.Names.{index_in}
+use Rattle.contract_parse.specs.TextFaults.{IsFault}
+use Rattle.contract_grammar.specs.Texts.{Text}
+use Rattle.contract_grammar.specs.declared.faults.TextFault.{TextFault}
 use Rattle.fixing_files.specs.CurveTables.{HoldsCurve, IsFirstCurveFault}
 use Rattle.fixing_files.specs.Tables.{IsFirstFault, table_of}
 use Rattle.fixing_files.specs.declared.faults.RowFault.{RowFault}

@@ -8,7 +8,7 @@ use Rattle.term_model.specs.Environments.{Environment, Extends, Place}
 use Rattle.term_model.specs.Factors.{CurveRow}
 use Rattle.term_model.specs.Flows.{Flow}
 use Rattle.term_model.specs.Reads.{first_unfixed}
-use Rattle.contract_parse.specs.Names.{index_in}
+use Rattle.contract_grammar.specs.Names.{index_in}
 use Rattle.fixing_files.specs.CurveTables.{HoldsCurve}
 use Rattle.fixing_files.specs.Tables.{Holds, table_of}
 use Rattle.payoff_lang.specs.Code.{PayoffCode}

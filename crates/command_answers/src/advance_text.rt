@@ -8,7 +8,7 @@ ghost use Rattle.term_model.specs.Environments.{IsAdmitted};
 ghost use Rattle.term_model.specs.Limits.{last_start, longest_file};
 ghost use Rattle.term_model.specs.Terms.{contract};
 ghost use Rattle.contract_parse.specs.NextContracts.{IsSoundContract};
-ghost use Rattle.contract_print.specs.Writable.{IsWritableTerm};
+ghost use Rattle.contract_grammar.specs.Writable.{IsWritableTerm};
 ghost use Rattle.flow_eval.specs.Readiness.{last_day};
 ghost use Rattle.flow_eval.specs.Tables.{IsDueRow};
 ghost use Rattle.report.specs.FlowLines.{HaveLines};

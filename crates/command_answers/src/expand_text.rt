@@ -4,7 +4,7 @@
 ghost use Rattle.std.specs.Prelude.{◌≡◌, map};
 ghost use Rattle.term_model.specs.Declarations.{declarations};
 ghost use Rattle.contract_print.specs.Spellable.{IsSpellableBook};
-ghost use Rattle.contract_print.specs.Writable.{IsWritableTerm};
+ghost use Rattle.contract_grammar.specs.Writable.{IsWritableTerm};
 ghost use Rattle.schedule_forms.specs.DeclaredPlans.{IsPlanOfTexts};
 ghost use Rattle.schedule_forms.specs.Expansions.{expansion};
 ghost use Rattle.schedule_forms.specs.PlanBooks.{expanded_book, plan_book};

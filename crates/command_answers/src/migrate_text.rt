@@ -4,10 +4,10 @@ ghost use Rattle.std.specs.Prelude.{◌≡◌, ◌≤◌, ◌++◌, [], OnOk, le
 ghost use Rattle.term_model.specs.Declarations.{declarations};
 ghost use Rattle.term_model.specs.Limits.{longest_file};
 ghost use Rattle.term_model.specs.Terms.{contract};
-ghost use Rattle.contract_parse.specs.Names.{declared_by};
+ghost use Rattle.contract_grammar.specs.Names.{declared_by};
 ghost use Rattle.contract_print.specs.Canon.{contract_text};
 ghost use Rattle.contract_print.specs.Migrated.{in_version_two};
-ghost use Rattle.contract_print.specs.Writable.{IsWritableTerm};
+ghost use Rattle.contract_grammar.specs.Writable.{IsWritableTerm};
 ghost use Rattle.command_answers.specs.CheckParts.{HasBegun};
 ghost use Rattle.command_answers.specs.MigrateCourse.{migrate_of_text};
 ghost use Rattle.command_answers.specs.MigrateParts.{AnswersMigrated};

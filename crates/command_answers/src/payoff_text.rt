@@ -6,7 +6,7 @@ ghost use Rattle.term_model.specs.Limits.{longest_file};
 ghost use Rattle.term_model.specs.Terms.{contract};
 ghost use Rattle.term_model.specs.WellFormed.{IsClosed};
 ghost use Rattle.contract_parse.specs.NextContracts.{IsSoundContract};
-ghost use Rattle.contract_print.specs.Writable.{IsWritableTerm};
+ghost use Rattle.contract_grammar.specs.Writable.{IsWritableTerm};
 ghost use Rattle.payoff_lang.specs.Code.{payoff_code};
 ghost use Rattle.payoff_lang.specs.CodeBooks.{code_book};
 ghost use Rattle.payoff_lang.specs.CodeCanon.{IsCanonOfCode};
@@ -29,8 +29,8 @@ use payoff_compile::{into_code, into_cut_code};
 use payoff_lang::{Code, CodeFile, print_code};
 use report::Fault;
 use std::alloc::Global;
-use term_core::{has_only_numbers, instantiate};
 use term_model::{Contr, Decls, Name, defaults};
+use term_core::{has_only_numbers, instantiate};
 
 // The contract, if it has the name.
 fn if_named(next: NextContract<'_>, word: &str) -> Option<Contr>

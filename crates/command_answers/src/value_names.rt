@@ -5,7 +5,7 @@ ghost use Rattle.std.specs.Map.{keys_of};
 ghost use Rattle.indexmap.specs.IndexMap.{index_map_len};
 ghost use Rattle.indexmap.specs.IndexSet.{index_set_len};
 ghost use Rattle.term_model.specs.Declarations.{declarations};
-ghost use Rattle.contract_parse.specs.Names.{index_in};
+ghost use Rattle.contract_grammar.specs.Names.{index_in};
 ghost use Rattle.command_words.specs.Words.{between_by, value_by};
 ghost use Rattle.command_answers.specs.Stages.{IsUndeclared, names_of_value};
 ghost use Rattle.command_answers.specs.Stopping.{AnswersBy, AnswersStage};

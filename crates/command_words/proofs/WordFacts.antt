@@ -10,8 +10,8 @@ use Rattle.clap.specs.Walk.{texts}
 use Rattle.clap.specs.Words.{App, Row, Text, all_of, first_value, found_of}
 use Rattle.clap.specs.declared.parser.matches.ArgMatches.{ArgMatches}
 use Rattle.decimal.specs.declared.rounding.Mode.{Mode}
-use Rattle.contract_parse.specs.Names.{is_declared}
-use Rattle.contract_parse.specs.NameTexts.{is_name_text}
+use Rattle.contract_grammar.specs.Names.{is_declared}
+use Rattle.contract_grammar.specs.NameTexts.{is_name_text}
 use Rattle.command_words.specs.Arguments.{HasMatches, IsAnswer, Reading, all_values, asked_of, is_set, read_rows, taken}
 use Rattle.command_words.specs.Commands.{Advance, AdvanceAsked, Between, Check, Expand, Flows, Migrate, Novate, NovateAsked, Payoff, Sample, Settle, ValueAsked, ValueFiles}
 use Rattle.command_words.specs.Words.{advance_from, advance_with, check_from, expand_from, flows_from, flows_with, if_given, is_day, migrate_from, mode_if_given, netting_from, netting_with, novate_from, novate_with, one_more_setting, payoff_from, payoff_with, read_all_rows, sample_from, sample_size, scenarios_from, scenarios_with, settings_of, value_between, value_files, value_from, value_with, with_form}

@@ -9,11 +9,11 @@ use Rattle.std.specs.Str.{bytes_eq}
 use Rattle.clap.specs.Words.{App, Row, Text, all_of, first_of}
 use Rattle.decimal.specs.Reading.{number_up_to}
 use Rattle.decimal.specs.declared.rounding.Mode.{Mode}
-use Rattle.contract_parse.specs.Judgements.{mode_at}
-use Rattle.contract_parse.specs.Names.{is_declared}
-use Rattle.contract_parse.specs.NameTexts.{is_name_text}
-use Rattle.contract_parse.specs.declared.faults.TextKind.{TextKind}
-use Rattle.contract_parse.specs.declared.token.LexemeKind.TheVariants as kind
+use Rattle.contract_grammar.specs.Judgements.{mode_at}
+use Rattle.contract_grammar.specs.Names.{is_declared}
+use Rattle.contract_grammar.specs.NameTexts.{is_name_text}
+use Rattle.contract_grammar.specs.declared.faults.TextKind.{TextKind}
+use Rattle.contract_grammar.specs.declared.token.LexemeKind.TheVariants as kind
 use Rattle.fixing_files.specs.Days.{day_named}
 use Rattle.fixing_files.specs.declared.days.NamedDay.{NamedDay}
 use Rattle.command_words.specs.Arguments.{IsAnswer, asked_of, declared, flag, given_text, is_set, optional, repeated, required, taken, valued}

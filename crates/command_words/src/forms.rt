@@ -1,13 +1,13 @@
 //! Words of a form: that have to be given, or may be.
 
 ghost use Rattle.std.specs.Prelude.{option_map};
-ghost use Rattle.contract_parse.specs.NameTexts.{is_name_text};
+ghost use Rattle.contract_grammar.specs.NameTexts.{is_name_text};
 ghost use Rattle.command_words.specs.Arguments.{IsAnswer, given_text};
 ghost use Rattle.command_words.specs.Words.{if_given, is_day, with_form};
 
 use crate::arguments::WordsErr;
 use crate::day_words::DayWord;
-use contract_parse::is_name_text;
+use contract_grammar::is_name_text;
 
 /// A word that has to be given.
 pub fn given(word: Option<&str>) -> Result<&str, WordsErr>

@@ -14,7 +14,7 @@ use Rattle.term_model.specs.Environments.{Environment}
 use Rattle.term_model.specs.Instances.{declared_numbers}
 use Rattle.term_model.specs.Terms.{Contract}
 use Rattle.term_model.specs.WellFormed.{HasOnlyNumbers}
-use Rattle.contract_parse.specs.Texts.{Text}
+use Rattle.contract_grammar.specs.Texts.{Text}
 use Rattle.contract_print.specs.Comments.{IsComments}
 use Rattle.contract_print.specs.Rests.{IsRestOf, IsSoundRest}
 use Rattle.contract_print.specs.Spellable.{AreSpellable}

@@ -13,7 +13,7 @@ use Rattle.term_model.specs.Environments.{Environment}
 use Rattle.term_model.specs.Flows.{Flow}
 use Rattle.term_model.specs.Instances.{declared_numbers, instance}
 use Rattle.term_model.specs.Terms.{Contract}
-use Rattle.contract_parse.specs.Texts.{Text}
+use Rattle.contract_grammar.specs.Texts.{Text}
 use Rattle.contract_parse.proofs.OneText.{one_text}
 use Rattle.contract_print.proofs.LinesSpelled.{book_spelled}
 use Rattle.flow_eval.specs.Tables.{IsTable, paid_by}

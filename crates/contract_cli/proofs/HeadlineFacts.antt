@@ -10,7 +10,7 @@ use Rattle.term_model.specs.Factors.{CurveRow, IsCurve}
 use Rattle.term_model.specs.Flows.{Flow}
 use Rattle.term_model.specs.Instances.{IsSetting}
 use Rattle.term_model.specs.Terms.{Contract}
-use Rattle.contract_parse.specs.Texts.{Text}
+use Rattle.contract_grammar.specs.Texts.{Text}
 use Rattle.payoff_lang.specs.CodeBooks.{CodeBook}
 use Rattle.payoff_lang.specs.CodeFiles.{CodeText}
 use Rattle.payoff_lang.specs.Meaning.{CodeMeans, Counting, MayBeAsked, Remaining}

@@ -18,7 +18,7 @@ use Rattle.term_model.specs.Terms.{Contract}
 use Rattle.term_model.specs.WellFormed.{HasOnlyNumbers}
 use Rattle.term_model.proofs.MeaningFacts.{one_meaning}
 use Rattle.term_model.proofs.ResidualFacts.{carries_composes}
-use Rattle.contract_parse.specs.Texts.{Text}
+use Rattle.contract_grammar.specs.Texts.{Text}
 use Rattle.contract_parse.proofs.OneText.{one_text}
 use Rattle.exposure.specs.Renaming.{CarriesRenamed, renamed}
 use Rattle.flow_eval.specs.Tables.{paid_by}

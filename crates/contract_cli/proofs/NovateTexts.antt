@@ -14,7 +14,7 @@ use Rattle.term_model.specs.Environments.{Environment}
 use Rattle.term_model.specs.Residuals.{Carries}
 use Rattle.term_model.specs.Terms.{Contract}
 use Rattle.term_model.specs.WellFormed.{HasOnlyNumbers}
-use Rattle.contract_parse.specs.Texts.{Text}
+use Rattle.contract_grammar.specs.Texts.{Text}
 use Rattle.contract_print.specs.Rests.{IsRestOf, IsSoundRest}
 use Rattle.contract_print.proofs.CommentFacts.{comments_change_nothing}
 use Rattle.contract_print.proofs.LinesSpelled.{book_spelled}

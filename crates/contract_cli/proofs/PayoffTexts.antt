@@ -13,11 +13,11 @@ use Rattle.term_model.specs.Instances.{declared_numbers, instance}
 use Rattle.term_model.specs.Terms.{Contract}
 use Rattle.term_model.proofs.FormedFacts.{closed_at_one_scale}
 use Rattle.term_model.proofs.VerdictFacts.{accepted_at_one_scale}
-use Rattle.contract_parse.specs.Names.{is_declared}
-use Rattle.contract_parse.specs.NameTexts.{is_name_text}
-use Rattle.contract_parse.specs.Words.{Bytes}
+use Rattle.contract_grammar.specs.Names.{is_declared}
+use Rattle.contract_grammar.specs.NameTexts.{is_name_text}
+use Rattle.contract_grammar.specs.Words.{Bytes}
 use Rattle.contract_print.specs.Spellable.{IsSpellable, are_names, are_new}
-use Rattle.contract_print.specs.Writable.{IsWritableTerm}
+use Rattle.contract_grammar.specs.Writable.{IsWritableTerm}
 use Rattle.contract_print.proofs.LinesSpelled.{decls_spelled}
 use Rattle.contract_print.proofs.MigratedFacts.{one_scale_spellable}
 use Rattle.contract_print.proofs.TextSpellable.{texts_spellable, texts_writable}

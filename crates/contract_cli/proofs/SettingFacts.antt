@@ -11,14 +11,14 @@ use Rattle.clap.specs.Words.{Row, Text, all_of, first_of}
 use Rattle.decimal.specs.Reading.{digits_of, number_up_to, up_to}
 use Rattle.decimal.specs.declared.rounding.Mode.{Mode}
 use Rattle.term_model.specs.Instances.{IsSetting}
-use Rattle.contract_parse.specs.Judgements.{integer_at}
-use Rattle.contract_parse.specs.Names.{is_declared}
-use Rattle.contract_parse.specs.NameTexts.{is_name_text}
-use Rattle.contract_parse.specs.Spelling.{Repeat, none, more}
-use Rattle.contract_parse.specs.Statements.{Entry, template_line}
-use Rattle.contract_parse.specs.Tokens.{Tok}
-use Rattle.contract_parse.specs.Words.{Bytes}
-use Rattle.contract_parse.proofs.TextNumbers.{by_value, integer_within}
+use Rattle.contract_grammar.specs.Judgements.{integer_at}
+use Rattle.contract_grammar.specs.Names.{is_declared}
+use Rattle.contract_grammar.specs.NameTexts.{is_name_text}
+use Rattle.contract_grammar.specs.Spelling.{Repeat, none, more}
+use Rattle.contract_grammar.specs.Statements.{Entry, template_line}
+use Rattle.contract_grammar.specs.Tokens.{Tok}
+use Rattle.contract_grammar.specs.Words.{Bytes}
+use Rattle.contract_grammar.proofs.TextNumbers.{by_value, integer_within}
 use Rattle.payoff_lang.specs.CodeBooks.{CodeBook}
 use Rattle.payoff_lang.specs.CodeFiles.{CodeText}
 use Rattle.command_words.specs.Arguments.{Reading, read_rows, taken}

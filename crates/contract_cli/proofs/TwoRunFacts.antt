@@ -10,7 +10,7 @@ use Rattle.term_model.specs.Horizons.{horizon_of}
 use Rattle.term_model.specs.Terms.{Contract}
 use Rattle.term_model.proofs.MeaningFacts.{one_meaning}
 use Rattle.term_model.proofs.VerdictFacts.{accepted_at_one_scale}
-use Rattle.contract_parse.specs.Texts.{Text}
+use Rattle.contract_grammar.specs.Texts.{Text}
 use Rattle.contract_parse.proofs.OneText.{one_text}
 use Rattle.contract_print.proofs.LinesSpelled.{book_spelled}
 use Rattle.contract_print.proofs.MigratedFacts.{migrated_spellable}

@@ -7,7 +7,7 @@ use Rattle.term_model.specs.Declarations.{Declarations}
 use Rattle.term_model.specs.Environments.{Environment, Extends}
 use Rattle.term_model.specs.Residuals.{Carries}
 use Rattle.term_model.specs.Terms.{Contract}
-use Rattle.contract_parse.specs.Texts.{Text}
+use Rattle.contract_grammar.specs.Texts.{Text}
 use Rattle.command_answers.specs.AdvancePromise.{CanAdvance, IsAdvanceText, IsRestBook, rest_declarations}
 use Rattle.command_answers.specs.CheckPromise.{AreAllAccepted}
 use Rattle.command_words.specs.Commands.{AdvanceAsked}

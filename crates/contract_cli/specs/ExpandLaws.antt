@@ -8,7 +8,7 @@ use Rattle.term_model.specs.declared.name.Name.{Name}
 use Rattle.term_model.specs.Declarations.{Declarations}
 use Rattle.term_model.specs.Environments.{Environment, Extends}
 use Rattle.term_model.specs.Flows.{Flow}
-use Rattle.contract_parse.specs.Texts.{Text}
+use Rattle.contract_grammar.specs.Texts.{Text}
 use Rattle.contract_print.specs.Canon.{IsCanon}
 use Rattle.flow_eval.specs.Tables.{IsTable}
 use Rattle.flow_eval.specs.declared.flow_table.FlowRow.{FlowRow}

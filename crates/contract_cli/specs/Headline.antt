@@ -12,7 +12,7 @@ use Rattle.term_model.specs.Declarations.{Declarations}
 use Rattle.term_model.specs.Environments.{Environment, Extends, IsAdmitted}
 use Rattle.term_model.specs.Instances.{instance}
 use Rattle.term_model.specs.Terms.{Contract}
-use Rattle.contract_parse.specs.Texts.{Text}
+use Rattle.contract_grammar.specs.Texts.{Text}
 use Rattle.payoff_lang.specs.CodeBooks.{CodeBook}
 use Rattle.payoff_lang.specs.CodeFiles.{CodeText}
 use Rattle.payoff_lang.specs.CodeValues.{Asked as Question}

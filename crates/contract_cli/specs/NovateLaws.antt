@@ -11,7 +11,7 @@ use Rattle.term_model.specs.Environments.{Environment, Extends, IsAdmitted}
 use Rattle.term_model.specs.Flows.{Flow, amount_of}
 use Rattle.term_model.specs.Residuals.{Carries}
 use Rattle.term_model.specs.Terms.{Contract}
-use Rattle.contract_parse.specs.Texts.{Text}
+use Rattle.contract_grammar.specs.Texts.{Text}
 use Rattle.exposure.specs.LiteralLists.{literals_in}
 use Rattle.exposure.specs.Renaming.{AreSources, CarriesRenamed, sum_between}
 use Rattle.command_words.specs.Commands.{NovateAsked}

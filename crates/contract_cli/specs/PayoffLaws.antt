@@ -5,7 +5,7 @@ use Rattle.term_model.specs.Books.{Book}
 use Rattle.term_model.specs.Declarations.{Declarations, at_one_scale}
 use Rattle.term_model.specs.Sizes.{nodes_of_contract}
 use Rattle.term_model.specs.Terms.{Contract}
-use Rattle.contract_parse.specs.Texts.{Text}
+use Rattle.contract_grammar.specs.Texts.{Text}
 use Rattle.payoff_lang.specs.Code.{PayoffCode}
 use Rattle.payoff_lang.specs.CodeBooks.{CodeBook}
 use Rattle.payoff_lang.specs.CodeCanon.{IsCanonOfCode}

@@ -5,7 +5,7 @@
 use Rattle.std.specs.Prelude.{◌≡◌, ◌++◌, ℕ, ℤ, Bool, false, List, Option, Some}
 use Rattle.term_model.specs.Books.{Book}
 use Rattle.term_model.specs.Environments.{Environment, Extends}
-use Rattle.contract_parse.specs.Texts.{Text}
+use Rattle.contract_grammar.specs.Texts.{Text}
 use Rattle.contract_print.specs.Canon.{IsCanon}
 use Rattle.contract_print.specs.Migrated.{migrated}
 use Rattle.contract_print.specs.Spellable.{IsSpellableBook}

@@ -4,8 +4,8 @@ use Rattle.std.specs.Map.{keys_of}
 use Rattle.term_model.specs.declared.name.Name.{Name}
 use Rattle.term_model.specs.declared.terms.Contr.{Contr}
 use Rattle.term_model.specs.Terms.{Contract, contract}
-use Rattle.contract_parse.specs.Words.{Bytes}
-use Rattle.contract_parse.specs.ContractReading.{trees}
+use Rattle.contract_grammar.specs.Words.{Bytes}
+use Rattle.contract_grammar.specs.ContractReading.{trees}
 
 pub trees_added : (es : List (Name × Contr)) (name : Name) (c : Contr) → trees (es ++ (name, c) ∷ []) ≡ trees es ++ (name, contract c) ∷ []
 trees_added [] name c = refl

@@ -2,14 +2,15 @@
 use Rattle.std.proofs.Common.{◌≡◌, ◌-◌, ℕ, List, length, refl, subst, sym}
 use Rattle.std.specs.Str.{IsUtf8}
 use Rattle.term_model.specs.Books.{Book}
-use Rattle.contract_parse.specs.Tokens.{tokens}
+use Rattle.contract_grammar.specs.Tokens.{tokens}
 use Rattle.contract_parse.specs.Cursors.{IsNoUtf8, fault_at, fault_of}
-use Rattle.contract_parse.specs.Names.{nothing_declared}
+use Rattle.contract_grammar.specs.Names.{nothing_declared}
 use Rattle.contract_parse.specs.Expecting.{Fails, Stops, run, text_expected}
-use Rattle.contract_parse.specs.Texts.{FirstFault, IsFault, Text, no_utf8, refused}
-use Rattle.contract_parse.specs.declared.faults.TextKind.{TextKind}
-use Rattle.contract_parse.specs.declared.faults.TextKind.TheVariants.{Utf8}
-use Rattle.contract_parse.specs.declared.faults.TextFault.{TextFault}
+use Rattle.contract_parse.specs.TextFaults.{FirstFault, IsFault, no_utf8, refused}
+use Rattle.contract_grammar.specs.Texts.{Text}
+use Rattle.contract_grammar.specs.declared.faults.TextKind.{TextKind}
+use Rattle.contract_grammar.specs.declared.faults.TextKind.TheVariants.{Utf8}
+use Rattle.contract_grammar.specs.declared.faults.TextFault.{TextFault}
 use Rattle.contract_parse.specs.declared.faults.ParseErr.{ParseErr}
 use Rattle.contract_parse.specs.declared.faults.ParseErr.TheVariants as told
 use Rattle.contract_parse.specs.declared.faults.PartErr.{PartErr}

@@ -4,23 +4,23 @@ use Rattle.std.specs.Prelude.{codes, ◌-◌, length, nat_le, nat_lt, not}
 use Rattle.decimal.specs.declared.Decimal.{Decimal}
 use Rattle.term_model.specs.Dates.{epoch_day_of}
 use Rattle.term_model.specs.Limits.{is_origin}
-use Rattle.contract_parse.specs.Tokens.{Tok}
-use Rattle.contract_parse.specs.Words.{Bytes, is_date, is_end, is_integer, is_name, is_number, is_the_mark, is_the_word}
-use Rattle.contract_parse.specs.Versions.{Version, One, Two}
-use Rattle.contract_parse.specs.Sums.{Tally, item_at, with_number, with_use}
-use Rattle.contract_parse.specs.Names.{index_in, is_declared}
+use Rattle.contract_grammar.specs.Tokens.{Tok}
+use Rattle.contract_grammar.specs.Words.{Bytes, is_date, is_end, is_integer, is_name, is_number, is_the_mark, is_the_word}
+use Rattle.contract_grammar.specs.Versions.{Version, One, Two}
+use Rattle.contract_grammar.specs.Sums.{Tally, item_at, with_number, with_use}
+use Rattle.contract_grammar.specs.Names.{index_in, is_declared}
 use Rattle.decimal.specs.Mantissas.{decimal_of}
-use Rattle.contract_parse.specs.Judgements.{above_limited, binder_at, bound_at, counted, date_number_at, days_at, integer_at, is_version, literal_at, mode_at, named, new_at, offset_at, operator_at, or_fault, origin_at, signed_decimal, signed_result, up_to, use_at, whole, widened}
+use Rattle.contract_grammar.specs.Judgements.{above_limited, binder_at, bound_at, counted, date_number_at, days_at, integer_at, is_version, literal_at, mode_at, named, new_at, offset_at, operator_at, or_fault, origin_at, signed_decimal, signed_result, up_to, use_at, whole, widened}
 use Rattle.contract_parse.specs.Forms.{Part, Terminal, Nonterminal, Optional, Repeated, Form}
 use Rattle.contract_parse.specs.Fronts.{Declared, Symbol, Declaration, Versioned, ContractLine, Contract, Amount, Expression, FurtherTemplate, FurtherItem, a_count, a_date, a_mode, a_name, a_number, a_signed_integer, an_integer, an_operator, is_one_of, lines_form, mode_words, operator_marks, text_forms, the_mark, the_word}
 use Rattle.contract_parse.specs.Expecting.{Expected, TheWord, TheMark, TheVersion, TextVersion, TheEnd, IntegerAt, AmountsAt, OriginDate, OriginLine, StartLine, NameLines, AssetLines, LabelLines, TemplateLines, ContractLines, NewIn, MoreNames, DecimalsAt, MoreAssets, ScaleAt, BoundAt, BoundNumber, UseOf, OffsetAt, OffsetNumber, LiteralNumber, DaysAt, ModeAt, OperatorAt, DateAt, DateNumber, MoreTemplates, BinderAt, ExprAt, ContrAt, AmountAt, AnyTokens, ItemAt, MoreItems}
-use Rattle.contract_parse.specs.declared.names.NameSet.{NameSet}
-use Rattle.contract_parse.specs.declared.names.NameSet.TheVariants.{Party, Asset, Label, Template, Contract as ContractSet}
-use Rattle.contract_parse.specs.declared.heads.Language.{Language}
+use Rattle.contract_grammar.specs.declared.names.NameSet.{NameSet}
+use Rattle.contract_grammar.specs.declared.names.NameSet.TheVariants.{Party, Asset, Label, Template, Contract as ContractSet}
+use Rattle.contract_grammar.specs.declared.terms.Language.{Language}
 use Rattle.contract_parse.specs.declared.heads.Binder.TheVariants as binder
-use Rattle.contract_parse.specs.declared.faults.TextKind.{TextKind}
-use Rattle.contract_parse.specs.declared.faults.TextKind.TheVariants.{Syntax, Number, Date, Deep, Range, Twice, Unknown, Utf8}
-use Rattle.contract_parse.specs.declared.token.LexemeKind.TheVariants as token
+use Rattle.contract_grammar.specs.declared.faults.TextKind.{TextKind}
+use Rattle.contract_grammar.specs.declared.faults.TextKind.TheVariants.{Syntax, Number, Date, Deep, Range, Twice, Unknown, Utf8}
+use Rattle.contract_grammar.specs.declared.token.LexemeKind.TheVariants as token
 use Rattle.contract_parse.proofs.FrontTakes.{Bars, barred}
 
 abbrev pub an_expression : Language → Part Symbol

@@ -1,7 +1,7 @@
 -- Fronts and wholes of any grammar: parts one after another, and one token.
 use Rattle.std.proofs.Common.{◌≡◌, Bool, true, List, [], ◌∷◌, ◌++◌, refl, ap, subst, inl, inr}
 use Rattle.std.specs.Prelude.{◌⊎◌}
-use Rattle.contract_parse.specs.Tokens.{Tok}
+use Rattle.contract_grammar.specs.Tokens.{Tok}
 use Rattle.contract_parse.specs.Forms.{Part, Terminal, Nonterminal, Optional, Repeated, Form, Grammar, IsAmong, Whole, done, token, form, absent, present, enough, again, Front, empty, at_token, in_form, in_optional, in_repeated, beyond}
 
 -- a form begins with the whole of a form, and the rest is behind it

@@ -1,17 +1,17 @@
 -- What the first token makes of a symbol that is expected: it begins at most one of the symbol's forms.
 use Rattle.std.proofs.Common.{◌≡◌, ℕ, Bool, true, false, cond, Result, Ok, Err, [], ◌∷◌, ◌++◌, sym, subst}
 use Rattle.std.specs.Prelude.{nat_lt}
-use Rattle.contract_parse.specs.Tokens.{Tok}
-use Rattle.contract_parse.specs.Words.{Bytes, is_the_mark, is_the_word}
+use Rattle.contract_grammar.specs.Tokens.{Tok}
+use Rattle.contract_grammar.specs.Words.{Bytes, is_the_mark, is_the_word}
 use Rattle.contract_parse.specs.Heads.{greatest_depth, within_depth}
 use Rattle.contract_parse.specs.Forms.{Nonterminal, Form, empty}
 use Rattle.contract_parse.specs.Fronts.{Symbol, text_forms}
 use Rattle.contract_parse.specs.Expecting.{Step, judged}
-use Rattle.contract_parse.specs.declared.heads.Language.{Language}
-use Rattle.contract_parse.specs.declared.faults.TextKind.{TextKind}
-use Rattle.contract_parse.specs.declared.faults.TextKind.TheVariants as kind
-use Rattle.contract_parse.specs.declared.token.LexemeKind.TheVariants.{Word, Mark}
-use Rattle.contract_parse.proofs.Passing.{of_mark, of_word}
+use Rattle.contract_grammar.specs.declared.terms.Language.{Language}
+use Rattle.contract_grammar.specs.declared.faults.TextKind.{TextKind}
+use Rattle.contract_grammar.specs.declared.faults.TextKind.TheVariants as kind
+use Rattle.contract_grammar.specs.declared.token.LexemeKind.TheVariants.{Word, Mark}
+use Rattle.contract_grammar.proofs.TokenKinds.{of_mark, of_word}
 use Rattle.contract_parse.proofs.FrontTakes.{Takes, rests, symbol_bars, symbol_takes}
 use Rattle.contract_parse.proofs.FrontChoices.{Allows, Stepped, starts}
 

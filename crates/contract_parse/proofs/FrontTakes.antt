@@ -1,10 +1,10 @@
 -- What one token makes of a front, in a grammar each of whose forms begins with a token.
 use Rattle.std.proofs.Common.{◌≡◌, Bool, true, false, cond, ◌&&◌, List, [], ◌∷◌, ◌++◌, refl, sym, ◌∙◌, subst, inl, inr}
 use Rattle.std.specs.Prelude.{not}
-use Rattle.std.proofs.lemmas.Bool.{false≢true}
-use Rattle.contract_parse.specs.Tokens.{Tok}
+use Rattle.std.proofs.lemmas.Bool.{false≢true, not-true}
+use Rattle.contract_grammar.specs.Tokens.{Tok}
 use Rattle.contract_parse.specs.Forms.{Terminal, Nonterminal, Optional, Repeated, Form, Grammar, IsAmong, here, later, Whole, done, token, absent, present, enough, again, Front, beyond}
-use Rattle.contract_parse.proofs.EntryFacts.{and_parts}
+use Rattle.contract_grammar.proofs.EntryFacts.{and_parts}
 use Rattle.contract_parse.proofs.FrontFacts.{of_token, to_token, optional_from, repeated_from, to_symbol, whole_symbol, of_symbol, of_optional, of_repeated}
 
 -- the token takes what may stand to what may stand behind it
@@ -84,10 +84,6 @@ barred forms (Terminal test ∷ parts) t = not (test t)
 barred forms (Nonterminal symbol ∷ parts) t = is_nil (rests (forms symbol) t)
 barred forms (Optional symbol ∷ parts) t = is_nil (rests (forms symbol) t) && barred forms parts t
 barred forms (Repeated symbol ∷ parts) t = is_nil (rests (forms symbol) t) && barred forms parts t
-
-pub not_true : (b : Bool) → not b ≡ true → b ≡ false
-not_true true e = absurd (false≢true e)
-not_true false e = refl
 
 module _ {N : Type 0} (forms : Grammar N) where
   pub nothing_bars : (t : Tok) → Bars forms [] t
@@ -177,7 +173,7 @@ module _ {N : Type 0} (forms : Grammar N) where
 
     pub bars : (parts : Form N) (t : Tok) → barred forms parts t ≡ true → Bars forms parts t
     bars [] t e = nothing_bars t
-    bars (Terminal test ∷ parts) t e = one_bars test parts t (not_true (test t) e)
+    bars (Terminal test ∷ parts) t e = one_bars test parts t (not-true (test t) e)
     bars (Nonterminal symbol ∷ parts) t e = symbol_bars symbol parts t (nil_is (rests (forms symbol) t) e)
     bars (Optional symbol ∷ parts) t e = let p = and_parts (is_nil (rests (forms symbol) t)) (barred forms parts t) e in optional_bars symbol parts t (nil_is (rests (forms symbol) t) p.0) (bars parts t p.1)
     bars (Repeated symbol ∷ parts) t e = let p = and_parts (is_nil (rests (forms symbol) t)) (barred forms parts t) e in repeated_bars symbol parts t (nil_is (rests (forms symbol) t) p.0) (bars parts t p.1)

@@ -3,15 +3,15 @@ use Rattle.std.proofs.Common.{◌≡◌, ℕ, ◌≤◌, Bool, true, false, cond
 use Rattle.std.specs.Prelude.{codes, nat_lt}
 use Rattle.std.proofs.lemmas.Bool.Decides.{nat_tests}
 use Rattle.decimal.specs.declared.Decimal.{Decimal}
-use Rattle.contract_parse.specs.declared.faults.TextKind.{TextKind}
-use Rattle.contract_parse.specs.declared.faults.TextKind.TheVariants as kind
-use Rattle.contract_parse.specs.declared.heads.Language.{Language}
+use Rattle.contract_grammar.specs.declared.faults.TextKind.{TextKind}
+use Rattle.contract_grammar.specs.declared.faults.TextKind.TheVariants as kind
+use Rattle.contract_grammar.specs.declared.terms.Language.{Language}
 use Rattle.contract_parse.specs.declared.heads.First.{First}
 use Rattle.contract_parse.specs.declared.heads.Head.{Head}
 use Rattle.contract_parse.specs.declared.heads.AmountHead.{AmountHead}
-use Rattle.contract_parse.specs.Tokens.{Tok}
-use Rattle.contract_parse.specs.Words.{Bytes, is_name, is_number, is_the_mark, is_the_word}
-use Rattle.contract_parse.specs.Judgements.{literal_at, variable_at}
+use Rattle.contract_grammar.specs.Tokens.{Tok}
+use Rattle.contract_grammar.specs.Words.{Bytes, is_name, is_number, is_the_mark, is_the_word}
+use Rattle.contract_grammar.specs.Judgements.{literal_at, variable_at}
 use Rattle.contract_parse.specs.Heads.{Begins, BeginsAmount, BeginsContract, amount_head_at, amount_head_of, first_at, first_name, first_number, first_of, first_word, greatest_depth, head_at, head_of, is_before_depth, leaf_word, within_depth}
 
 -- ---- from the judgement to the token

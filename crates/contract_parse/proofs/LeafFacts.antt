@@ -2,10 +2,10 @@
 use Rattle.std.proofs.Common.{true, false, List, ◌∷◌}
 use Rattle.term_model.specs.Terms.{Expression, Lit, Yes, Var, Obs, Neg, Num, Cmp, Not, Logic, Cond, Widen, Round, Div, Acc}
 use Rattle.term_model.specs.declared.terms.NumOp.TheVariants.{Plus, Minus, Times, Min, Max}
-use Rattle.contract_parse.specs.Tokens.{Tok}
-use Rattle.contract_parse.specs.Words.{Bytes}
-use Rattle.contract_parse.specs.Names.{DeclaredNames}
-use Rattle.contract_parse.specs.Spelling.{Leaf, Part, ◌⨟◌, expr_with}
+use Rattle.contract_grammar.specs.Tokens.{Tok}
+use Rattle.contract_grammar.specs.Words.{Bytes}
+use Rattle.contract_grammar.specs.Names.{DeclaredNames}
+use Rattle.contract_grammar.specs.Spelling.{Leaf, Part, ◌⨟◌, expr_with}
 use Rattle.contract_parse.specs.Readers.{KeepsLeaves}
 
 pub keeps_all : {leaf : DeclaredNames → Leaf} → KeepsLeaves leaf leaf

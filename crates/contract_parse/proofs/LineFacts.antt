@@ -3,21 +3,21 @@ use Rattle.std.proofs.Common.{◌≡◌, Bool, true, false, cond, ◌||◌, Ok, 
 use Rattle.std.specs.Prelude.{codes}
 use Rattle.std.specs.Map.{keys_of}
 use Rattle.std.specs.Str.{bytes_eq}
-use Rattle.std.proofs.lemmas.Bool.{false≢true}
+use Rattle.contract_grammar.proofs.EntryFacts.{entry_added, keys_added}
 use Rattle.indexmap.specs.IndexMap.{insert_entry}
-use Rattle.contract_parse.specs.Tokens.{Tok}
-use Rattle.contract_parse.specs.Words.{Bytes, is_name, is_the_mark, is_the_word}
-use Rattle.contract_parse.specs.Names.{DeclaredNames, is_declared}
-use Rattle.contract_parse.specs.Judgements.{new_at, separator_at}
-use Rattle.contract_parse.specs.Spelling.{mark, valued, word}
-use Rattle.contract_parse.specs.Statements.{label_line}
+use Rattle.contract_grammar.specs.Tokens.{Tok}
+use Rattle.contract_grammar.specs.Words.{Bytes, is_name, is_the_mark, is_the_word}
+use Rattle.contract_grammar.specs.Names.{DeclaredNames, is_declared}
+use Rattle.contract_grammar.specs.Judgements.{new_at, separator_at}
+use Rattle.contract_grammar.specs.Spelling.{mark, valued, word}
+use Rattle.contract_grammar.specs.Statements.{label_line}
 use Rattle.contract_parse.specs.DeclarationReading.{label_range}
 use Rattle.term_model.specs.declared.label.Label.{Label}
 use Rattle.term_model.specs.declared.label.Label.TheVariants as label
-use Rattle.contract_parse.proofs.Parts.{followed_by}
+use Rattle.contract_grammar.proofs.Parts.{followed_by}
 use Rattle.contract_parse.specs.Expecting.{Expected, Next, LabelLines, flag_expected, number_label_expected, run, step}
 use Rattle.contract_parse.specs.Reading.{Lacks}
-use Rattle.contract_parse.specs.declared.faults.TextKind.TheVariants.{Syntax, Twice}
+use Rattle.contract_grammar.specs.declared.faults.TextKind.TheVariants.{Syntax, Twice}
 use Rattle.contract_parse.proofs.Steps.{run-next, run-same}
 
 -- where lines are expected that begin with a word: what follows the word, and what is expected behind the lines
@@ -82,22 +82,7 @@ new_absent names name ts rest (t, is, passes) =
     let p = new_is (is_name t) (is_declared names t.text) t.text name passes in
     ap (is_declared names) (sym p.1) ∙ p.0
 
-or_parts : (a b : Bool) → (a || b) ≡ false → (a ≡ false) × (b ≡ false)
-or_parts true b e = absurd (false≢true (sym e))
-or_parts false b e = (refl, e)
-
 module _ {V : Type 0} where
-  -- it stands at the end
-  pub entry_added : (es : List (Bytes × V)) (name : Bytes) (value : V) → is_declared (keys_of es) name ≡ false → insert_entry bytes_eq es name value ≡ es ++ (name, value) ∷ []
-  entry_added [] name value e = refl
-  entry_added (entry ∷ es) name value e =
-      let p = or_parts (bytes_eq name entry.0) (is_declared (keys_of es) name) e in
-      rw p.0 (ap (λ more. entry ∷ more) (entry_added es name value p.1))
-
-  pub keys_added : (es : List (Bytes × V)) (name : Bytes) (value : V) → keys_of (es ++ (name, value) ∷ []) ≡ keys_of es ++ name ∷ []
-  keys_added [] name value = refl
-  keys_added (entry ∷ es) name value = ap (λ more. entry.0 ∷ more) (keys_added es name value)
-
   -- the entries after `insert`, and their names
   pub inserted_entry : (es after : List (Bytes × V)) (name : Bytes) (value : V) (ts rest : List Tok) → after ≡ insert_entry bytes_eq es name value → valued (new_at (keys_of es)) name ts rest → after ≡ es ++ (name, value) ∷ []
   inserted_entry es after name value ts rest is new = is ∙ entry_added es name value (new_absent (keys_of es) name ts rest new)

@@ -5,19 +5,19 @@ use Rattle.std.specs.Map.{keys_of}
 use Rattle.term_model.specs.Declarations.{Declarations}
 use Rattle.term_model.specs.Sizes.{nodes_of_contract}
 use Rattle.term_model.specs.Terms.{Contract}
-use Rattle.contract_parse.specs.Tokens.{Tok, tokens}
-use Rattle.contract_parse.specs.Words.{Bytes, is_name}
-use Rattle.contract_parse.specs.Versions.{version_of}
-use Rattle.contract_parse.specs.Names.{declared_by, is_declared}
-use Rattle.contract_parse.specs.Judgements.{new_at}
-use Rattle.contract_parse.specs.Spelling.{valued, word}
-use Rattle.contract_parse.specs.Statements.{Entry, contract_line, more, named_contract}
+use Rattle.contract_grammar.specs.Tokens.{Tok, tokens}
+use Rattle.contract_grammar.specs.Words.{Bytes, is_name}
+use Rattle.contract_grammar.specs.Versions.{version_of}
+use Rattle.contract_grammar.specs.Names.{declared_by, is_declared}
+use Rattle.contract_grammar.specs.Judgements.{new_at}
+use Rattle.contract_grammar.specs.Spelling.{valued, word}
+use Rattle.contract_grammar.specs.Statements.{Entry, contract_line, more, named_contract}
 use Rattle.contract_parse.specs.NextContracts.{IsSoundContract, further_contracts}
-use Rattle.contract_parse.specs.declared.faults.TextKind.TheVariants.{Syntax, Twice}
-use Rattle.contract_parse.proofs.Parts.{followed_by}
-use Rattle.contract_parse.proofs.TextClosed.{closed_contract, counts_are, small_sums}
-use Rattle.contract_parse.proofs.TextSizes.{named_least}
-use Rattle.contract_parse.proofs.Weights.{contr_least, weight_tokens}
+use Rattle.contract_grammar.specs.declared.faults.TextKind.TheVariants.{Syntax, Twice}
+use Rattle.contract_grammar.proofs.Parts.{followed_by}
+use Rattle.contract_grammar.proofs.TextClosed.{closed_contract, counts_are, small_sums}
+use Rattle.contract_grammar.proofs.TextSizes.{named_least}
+use Rattle.contract_grammar.proofs.Weights.{contr_least, weight_tokens}
 
 -- ---- the name
 

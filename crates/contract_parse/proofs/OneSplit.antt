@@ -1,10 +1,10 @@
 -- The position of a token tells it among the tokens of a text.
 use Rattle.std.proofs.Common.{◌≡◌, ℕ, inl, inr, cond, List, [], ◌∷◌, ◌++◌, refl, sym, ap, ◌∙◌, arith}
 use Rattle.std.proofs.lemmas.Bool.{cases_Bool}
-use Rattle.contract_parse.specs.Tokens.{Tok, is_last, next_lexeme, tokens}
+use Rattle.contract_grammar.specs.Tokens.{Tok, is_last, next_lexeme, tokens}
 use Rattle.contract_parse.specs.Reading.{tokens_after}
 use Rattle.contract_parse.proofs.OneToken.{tail_same}
-use Rattle.contract_parse.proofs.TokenFacts.{tokens_next}
+use Rattle.contract_grammar.proofs.TokenFacts.{tokens_next}
 use Rattle.contract_parse.proofs.TokenOrder.{later_left, no_token}
 
 -- the tokens behind the first are those of the bytes behind it

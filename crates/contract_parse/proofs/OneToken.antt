@@ -2,11 +2,11 @@
 use Rattle.std.proofs.Common.{◌≡◌, Bool, true, false, Result, Ok, List, ◌∷◌, sym, ap, ◌∙◌, subst}
 use Rattle.std.specs.Prelude.{codes}
 use Rattle.std.proofs.lemmas.Bool.{false≢true}
-use Rattle.contract_parse.specs.Tokens.{Tok}
-use Rattle.contract_parse.specs.Words.{is_number, is_the_mark}
-use Rattle.contract_parse.specs.Spelling.{Part, Then, ◌⨟◌, Signed, mark, one, sign, valued}
-use Rattle.contract_parse.specs.declared.faults.TextKind.{TextKind}
-use Rattle.contract_parse.proofs.Passing.{number_no_mark}
+use Rattle.contract_grammar.specs.Tokens.{Tok}
+use Rattle.contract_grammar.specs.Words.{is_number, is_the_mark}
+use Rattle.contract_grammar.specs.Spelling.{Part, Then, ◌⨟◌, Signed, mark, one, sign, valued}
+use Rattle.contract_grammar.specs.declared.faults.TextKind.{TextKind}
+use Rattle.contract_grammar.proofs.TokenKinds.{number_no_mark}
 
 ok_same : {X : Type 0} (r r' : Result X TextKind) (x y : X) → r ≡ r' → r ≡ Ok x → r' ≡ Ok y → x ≡ y
 ok_same r r' x y same e f = cc

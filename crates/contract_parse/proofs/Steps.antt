@@ -1,17 +1,17 @@
 -- What one token makes of what is expected.
 use Rattle.std.proofs.Common.{◌≡◌, ℕ, Bool, true, false, cond, Result, Ok, Err, List, [], ◌∷◌, ◌++◌, refl, sym, ap, ◌∙◌}
-use Rattle.contract_parse.specs.declared.token.LexemeKind.{LexemeKind}
-use Rattle.contract_parse.specs.declared.token.LexemeKind.TheVariants.{Word, Number, Date, Mark, End, Stray}
-use Rattle.contract_parse.specs.declared.faults.TextKind.{TextKind}
-use Rattle.contract_parse.specs.declared.faults.TextKind.TheVariants.{Syntax}
-use Rattle.contract_parse.specs.Tokens.{Tok, is_last, tokens}
-use Rattle.contract_parse.specs.Words.{Bytes, is_end, is_end_kind}
-use Rattle.contract_parse.specs.Names.{DeclaredNames, with_names}
-use Rattle.contract_parse.specs.Judgements.{new_at}
-use Rattle.contract_parse.specs.declared.names.NameSet.{NameSet}
-use Rattle.contract_parse.specs.declared.names.NameSet.TheVariants.{Party, Asset, Label, Template, Contract}
+use Rattle.contract_grammar.specs.declared.token.LexemeKind.{LexemeKind}
+use Rattle.contract_grammar.specs.declared.token.LexemeKind.TheVariants.{Word, Number, Date, Mark, End, Stray}
+use Rattle.contract_grammar.specs.declared.faults.TextKind.{TextKind}
+use Rattle.contract_grammar.specs.declared.faults.TextKind.TheVariants.{Syntax}
+use Rattle.contract_grammar.specs.Tokens.{Tok, is_last, tokens}
+use Rattle.contract_grammar.specs.Words.{Bytes, is_end, is_end_kind}
+use Rattle.contract_grammar.specs.Names.{DeclaredNames, with_names}
+use Rattle.contract_grammar.specs.Judgements.{new_at}
+use Rattle.contract_grammar.specs.declared.names.NameSet.{NameSet}
+use Rattle.contract_grammar.specs.declared.names.NameSet.TheVariants.{Party, Asset, Label, Template, Contract}
 use Rattle.contract_parse.specs.Reading.{tokens_after}
-use Rattle.contract_parse.specs.Spelling.{one, valued}
+use Rattle.contract_grammar.specs.Spelling.{one, valued}
 use Rattle.contract_parse.specs.Expecting.{Expected, Step, Next, NewIn, Refuse, Open, Stops, TheEnd, judged, run, step}
 
 pub run-next : (s s2 : DeclaredNames) (ps qs : List Expected) (t : Tok) (ts : List Tok) → step s ps t ≡ Next s2 qs → run s ps (t ∷ ts) ≡ run s2 qs ts

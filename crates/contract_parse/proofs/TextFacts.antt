@@ -1,10 +1,11 @@
 -- A text of a portfolio has no fault.
 use Rattle.std.proofs.Common.{ℕ, List}
 use Rattle.term_model.specs.Books.{Book}
-use Rattle.contract_parse.specs.Tokens.{tokens}
-use Rattle.contract_parse.specs.Texts.{FirstFault, IsFault, Text, no_utf8, refused}
-use Rattle.contract_parse.specs.declared.faults.TextKind.{TextKind}
-use Rattle.contract_parse.specs.declared.faults.TextFault.{TextFault}
+use Rattle.contract_grammar.specs.Tokens.{tokens}
+use Rattle.contract_parse.specs.TextFaults.{FirstFault, IsFault, no_utf8, refused}
+use Rattle.contract_grammar.specs.Texts.{Text}
+use Rattle.contract_grammar.specs.declared.faults.TextKind.{TextKind}
+use Rattle.contract_grammar.specs.declared.faults.TextFault.{TextFault}
 use Rattle.contract_parse.proofs.LinesTaken.{portfolio_taken}
 
 no_first_fault : (bytes : List ℕ) (b : Book) (kind : TextKind) (at : ℕ) → Text bytes b → FirstFault bytes kind at → ⊥

@@ -8,20 +8,17 @@ use Rattle.std.proofs.lemmas.Bool.Decides.{nat_tests}
 use Rattle.std.proofs.lemmas.List.{get_or-drop}
 use Rattle.std.proofs.lemmas.List.Sums.{prefix_len_passes}
 use Rattle.std.proofs.lemmas.Str.{IsCharBoundary-after_ascii}
-use Rattle.contract_parse.specs.declared.token.LexemeKind.{LexemeKind}
-use Rattle.contract_parse.specs.declared.token.LexemeKind.TheVariants.{Word, Number, Date, Mark, End, Stray}
-use Rattle.contract_parse.specs.declared.token.Extent.{Extent}
-use Rattle.contract_parse.specs.Tokens.{Tok, begins_with_date, digits_extent, extent_at, fraction_len, is_digit, is_last, is_letter, is_long_mark, is_short_mark, is_word_byte, mark_extent, mark_len, next_lexeme, number_len, word_extent}
-use Rattle.contract_parse.proofs.EntryFacts.{and_parts}
+use Rattle.contract_grammar.specs.declared.token.LexemeKind.{LexemeKind}
+use Rattle.contract_grammar.specs.declared.token.LexemeKind.TheVariants.{Word, Number, Date, Mark, End, Stray}
+use Rattle.contract_grammar.specs.declared.token.Extent.{Extent}
+use Rattle.contract_grammar.specs.Tokens.{Tok, begins_with_date, digits_extent, extent_at, fraction_len, is_digit, is_last, is_letter, is_long_mark, is_short_mark, is_word_byte, mark_extent, mark_len, next_lexeme, number_len, word_extent}
+use Rattle.contract_grammar.proofs.EntryFacts.{and_parts}
 use Rattle.contract_parse.specs.Cursors.{NextToken}
-use Rattle.contract_parse.proofs.DateShape.{begins_date}
-use Rattle.contract_parse.proofs.TokenFacts.{has_byte, shorter}
+use Rattle.contract_grammar.proofs.DateShape.{begins_date}
+use Rattle.contract_grammar.proofs.TokenFacts.{has_byte, shorter, word_small}
 use Rattle.contract_parse.proofs.TokenPositions.{behind, behind_rest, is_next, rest_position, rest_short, start, start_rest}
 
 -- ---- the bytes of tokens are ASCII
-
-pub word_small : (b : ℕ) → is_word_byte b ≡ true → b < 128
-word_small b e = grind (arith, nat_tests)
 
 digit_small : (b : ℕ) → is_digit b ≡ true → b < 128
 digit_small b e = grind (arith, nat_tests)

@@ -2,17 +2,17 @@
 use Rattle.std.proofs.Common.{◌≡◌, ℕ, zero, suc, ◌+◌, ◌-◌, ◌<◌, ◌≤◌, ◌⊎◌, inl, inr, true, false, cond, List, [], ◌∷◌, ◌++◌, length, drop, refl, sym, ap, subst, ◌∙◌, arith, length-append, length-drop}
 use Rattle.std.proofs.lemmas.Bool.{cases_Bool}
 use Rattle.std.proofs.lemmas.List.{append_assoc, length-take-le}
-use Rattle.contract_parse.specs.declared.token.LexemeKind.{LexemeKind}
-use Rattle.contract_parse.specs.declared.faults.TextKind.{TextKind}
-use Rattle.contract_parse.specs.Names.{DeclaredNames}
-use Rattle.contract_parse.specs.Tokens.{Tok, is_last, next_lexeme, tokens, tokens_from}
+use Rattle.contract_grammar.specs.declared.token.LexemeKind.{LexemeKind}
+use Rattle.contract_grammar.specs.declared.faults.TextKind.{TextKind}
+use Rattle.contract_grammar.specs.Names.{DeclaredNames}
+use Rattle.contract_grammar.specs.Tokens.{Tok, is_last, next_lexeme, tokens, tokens_from}
 use Rattle.contract_parse.specs.Expecting.{AnyTokens, Next, Open, Expected, Refuse, Step, Stops, run, step}
 use Rattle.contract_parse.specs.Reading.{tokens_after}
 use Rattle.contract_parse.specs.Cursors.{IsAfter, NextToken, token_between, tokens_at}
 use Rattle.contract_parse.proofs.Passing.{run-end}
 use Rattle.contract_parse.proofs.Steps.{run-next, run-refuse}
 use Rattle.contract_parse.proofs.OneToken.{tail_same}
-use Rattle.contract_parse.proofs.TokenFacts.{behind_shorter, gap_shorter, shorter, tokens_next}
+use Rattle.contract_grammar.proofs.TokenFacts.{behind_shorter, gap_shorter, shorter, tokens_next}
 
 -- ---- how many bytes are left
 

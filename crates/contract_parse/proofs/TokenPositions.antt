@@ -2,10 +2,10 @@
 use Rattle.std.proofs.Common.{◌≡◌, ℕ, zero, suc, ◌+◌, ◌-◌, ◌≤◌, Bool, true, false, cond, List, [], ◌∷◌, length, take, drop, refl, sym, ap, ◌∙◌, arith, length-drop}
 use Rattle.std.specs.Prelude.{◌==◌, not}
 use Rattle.std.proofs.lemmas.List.{drop-drop}
-use Rattle.contract_parse.specs.Tokens.{Tok, after_gap, extent_at, is_blank, next_lexeme, token_at}
+use Rattle.contract_grammar.specs.Tokens.{Tok, after_gap, extent_at, is_blank, next_lexeme, token_at}
 use Rattle.contract_parse.specs.Reading.{tokens_after}
 use Rattle.contract_parse.specs.Cursors.{NextToken, token_between}
-use Rattle.contract_parse.proofs.TokenFacts.{tokens_next}
+use Rattle.contract_grammar.proofs.TokenFacts.{tokens_next}
 
 -- the last bytes of a text
 pub record IsRest (bytes rest : List ℕ) : Type 0 where

@@ -7,11 +7,11 @@ use Rattle.std.specs.Str.{bytes_eq}
 use Rattle.std.proofs.lemmas.Bool.{cases_Bool}
 use Rattle.std.proofs.lemmas.Slice.Eq.{bytes_eq-Decides}
 use Rattle.std.proofs.lemmas.Bool.Decides.{nat_tests}
-use Rattle.contract_parse.specs.declared.token.LexemeKind.TheVariants.{Mark}
-use Rattle.contract_parse.specs.Tokens.{extent_at, next_lexeme, tokens}
-use Rattle.contract_parse.specs.Words.{Bytes, is_the_mark, is_whole_mark}
+use Rattle.contract_grammar.specs.declared.token.LexemeKind.TheVariants.{Mark}
+use Rattle.contract_grammar.specs.Tokens.{extent_at, next_lexeme, tokens}
+use Rattle.contract_grammar.specs.Words.{Bytes, is_the_mark, is_whole_mark}
 use Rattle.contract_parse.specs.Reading.{LacksMark}
-use Rattle.contract_parse.proofs.TokenFacts.{tokens_next}
+use Rattle.contract_grammar.proofs.TokenFacts.{tokens_next}
 
 -- a byte that is a mark whatever stands behind it
 abbrev pub Whole : ℕ → Type 0

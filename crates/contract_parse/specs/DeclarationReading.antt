@@ -2,8 +2,8 @@
 -- that is a flag has none.
 use Rattle.term_model.specs.declared.label.Label.{Label}
 use Rattle.term_model.specs.declared.label.Label.TheVariants as label
-use Rattle.contract_parse.specs.Spelling.{Part}
-use Rattle.contract_parse.specs.Statements.{range}
+use Rattle.contract_grammar.specs.Spelling.{Part}
+use Rattle.contract_grammar.specs.Statements.{range}
 
 abbrev pub label_range : Label → Part
 label_range (label.Number scale low high) = range scale low high

@@ -2,23 +2,23 @@
 -- leaves what is expected behind it, or it is at fault. The next token decides the form; optional and repeated parts may
 -- be absent. A list of tokens over which nothing is refused is a front of the text.
 use Rattle.std.specs.Prelude.{◌≡◌, ℕ, ℤ, ◌+◌, Bool, true, false, List, [], ◌∷◌, ◌++◌, Option, Some, None, Result, Ok, Err, codes, if◌then◌else◌}
-use Rattle.contract_parse.specs.Tokens.{Tok}
-use Rattle.contract_parse.specs.Words.{Bytes, is_the_word, is_the_mark, is_end}
-use Rattle.contract_parse.specs.Versions.{Version, One, Two}
-use Rattle.contract_parse.specs.Names.{DeclaredNames, names_of, with_names}
-use Rattle.contract_parse.specs.Judgements.{binder_at, bound_at, date_number_at, days_at, integer_at, is_the_version, is_version, literal_at, mode_at, new_at, offset_at, operator_at, origin_at, separator_at, use_at}
-use Rattle.contract_parse.specs.Sums.{Tally, item_at, no_items}
+use Rattle.contract_grammar.specs.Tokens.{Tok}
+use Rattle.contract_grammar.specs.Words.{Bytes, is_the_word, is_the_mark, is_end}
+use Rattle.contract_grammar.specs.Versions.{Version, One, Two}
+use Rattle.contract_grammar.specs.Names.{DeclaredNames, names_of, with_names}
+use Rattle.contract_grammar.specs.Judgements.{binder_at, bound_at, date_number_at, days_at, integer_at, is_the_version, is_version, literal_at, mode_at, new_at, offset_at, operator_at, origin_at, separator_at, use_at}
+use Rattle.contract_grammar.specs.Sums.{Tally, item_at, no_items}
 use Rattle.contract_parse.specs.Heads.{amount_head_at, first_at, head_at}
-use Rattle.contract_parse.specs.declared.names.NameSet.{NameSet}
-use Rattle.contract_parse.specs.declared.names.NameSet.TheVariants.{Party, Asset, Label, Template, Contract}
-use Rattle.contract_parse.specs.declared.heads.Language.{Language}
+use Rattle.contract_grammar.specs.declared.names.NameSet.{NameSet}
+use Rattle.contract_grammar.specs.declared.names.NameSet.TheVariants.{Party, Asset, Label, Template, Contract}
+use Rattle.contract_grammar.specs.declared.terms.Language.{Language}
 use Rattle.contract_parse.specs.declared.heads.First.{First}
 use Rattle.contract_parse.specs.declared.heads.Head.{Head}
 use Rattle.contract_parse.specs.declared.heads.AmountHead.{AmountHead}
 use Rattle.contract_parse.specs.declared.heads.Binder.{Binder}
 use Rattle.contract_parse.specs.declared.heads.Binder.TheVariants as binder
-use Rattle.contract_parse.specs.declared.faults.TextKind.{TextKind}
-use Rattle.contract_parse.specs.declared.faults.TextKind.TheVariants.{Syntax}
+use Rattle.contract_grammar.specs.declared.faults.TextKind.{TextKind}
+use Rattle.contract_grammar.specs.declared.faults.TextKind.TheVariants.{Syntax}
 use Rattle.contract_parse.specs.declared.faults.PartErr.{PartErr}
 use Rattle.contract_parse.specs.declared.faults.PartErr.TheVariants.{Refused, NoMemory}
 

@@ -1,7 +1,7 @@
 -- Forms of a grammar, and fronts. A grammar gives each of its symbols the forms that it may take; a form is a list of
 -- parts. A token counts by what it is to a form, and not by the names that are declared, nor by limits.
 use Rattle.std.specs.Prelude.{◌≡◌, Bool, true, List, [], ◌∷◌}
-use Rattle.contract_parse.specs.Tokens.{Tok}
+use Rattle.contract_grammar.specs.Tokens.{Tok}
 
 -- one token that passes; what a symbol stands for; that at most once; that any number of times
 pub data Part (N : Type 0) : Type 0 where

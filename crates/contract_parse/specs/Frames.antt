@@ -2,16 +2,16 @@
 use Rattle.std.specs.Prelude.{◌+◌, List}
 use Rattle.term_model.specs.declared.terms.Contr.{Contr}
 use Rattle.term_model.specs.declared.terms.Expr.{Expr}
-use Rattle.contract_parse.specs.Words.{Bytes}
-use Rattle.contract_parse.specs.Versions.{version_of}
-use Rattle.contract_parse.specs.Names.{DeclaredNames, names_in}
-use Rattle.contract_parse.specs.Spelling.{Leaf, Part}
+use Rattle.contract_grammar.specs.Words.{Bytes}
+use Rattle.contract_grammar.specs.Versions.{version_of}
+use Rattle.contract_grammar.specs.Names.{DeclaredNames, names_in}
+use Rattle.contract_grammar.specs.Spelling.{Leaf, Part}
 use Rattle.contract_parse.specs.Expecting.{ContrAt, ExprAt, Expected}
 use Rattle.contract_parse.specs.Readers.{Going, Passes, behind_first, behind_head, contract_in, expression_in}
 use Rattle.contract_parse.specs.declared.frame.Frame.{Frame}
 use Rattle.contract_parse.specs.declared.heads.First.{First}
 use Rattle.contract_parse.specs.declared.heads.Head.{Head}
-use Rattle.contract_parse.specs.declared.heads.Language.{Language}
+use Rattle.contract_grammar.specs.declared.terms.Language.{Language}
 
 -- the names that are bound there, innermost first
 abbrev pub names_at : Frame → List Bytes

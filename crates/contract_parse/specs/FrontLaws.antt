@@ -3,16 +3,17 @@
 use Rattle.std.specs.Prelude.{◌≡◌, ◌-◌, ◌↔◌, ℕ, List, [], ◌∷◌, ◌++◌, length}
 use Rattle.std.specs.Str.{IsUtf8}
 use Rattle.term_model.specs.Books.{Book}
-use Rattle.contract_parse.specs.Tokens.{Tok, tokens}
+use Rattle.contract_grammar.specs.Tokens.{Tok, tokens}
 use Rattle.contract_parse.specs.Lines.{line_at, column_at}
-use Rattle.contract_parse.specs.Names.{nothing_declared}
+use Rattle.contract_grammar.specs.Names.{nothing_declared}
 use Rattle.contract_parse.specs.Expecting.{Expected, Open, Stops, expected_of, run}
 use Rattle.contract_parse.specs.Fronts.{IsFront, IsWhole}
-use Rattle.contract_parse.specs.Texts.{Text, IsFault}
-use Rattle.contract_parse.specs.declared.heads.Language.{Language}
-use Rattle.contract_parse.specs.declared.faults.TextKind.{TextKind}
-use Rattle.contract_parse.specs.declared.faults.TextKind.TheVariants.{Syntax}
-use Rattle.contract_parse.specs.declared.faults.TextFault.{TextFault}
+use Rattle.contract_grammar.specs.Texts.{Text}
+use Rattle.contract_parse.specs.TextFaults.{IsFault}
+use Rattle.contract_grammar.specs.declared.terms.Language.{Language}
+use Rattle.contract_grammar.specs.declared.faults.TextKind.{TextKind}
+use Rattle.contract_grammar.specs.declared.faults.TextKind.TheVariants.{Syntax}
+use Rattle.contract_grammar.specs.declared.faults.TextFault.{TextFault}
 
 -- the tokens before this one are a front, and its fault is of Syntax exactly where with it they are none
 pub record EndsFront (l : Language) (before : List Tok) (t : Tok) (kind : TextKind) : Type 0 where

@@ -10,18 +10,19 @@ use Rattle.term_model.specs.Terms.{Contract, contract}
 use Rattle.term_model.specs.WellFormed.{IsClosed}
 use Rattle.term_model.specs.declared.decls.Decls.{Decls}
 use Rattle.term_model.specs.declared.name.Name.{Name}
-use Rattle.contract_parse.specs.Tokens.{Tok, tokens}
-use Rattle.contract_parse.specs.Versions.{version_of}
-use Rattle.contract_parse.specs.Names.{declared_by, is_declared, nothing_declared}
-use Rattle.contract_parse.specs.Spelling.{Part, ◌⨟◌, contr, end}
-use Rattle.contract_parse.specs.Statements.{Entry, Repeat, contract_line, portfolio}
+use Rattle.contract_grammar.specs.Tokens.{Tok, tokens}
+use Rattle.contract_grammar.specs.Versions.{version_of}
+use Rattle.contract_grammar.specs.Names.{declared_by, is_declared, nothing_declared}
+use Rattle.contract_grammar.specs.Spelling.{Part, ◌⨟◌, contr, end}
+use Rattle.contract_grammar.specs.Statements.{Entry, Repeat, contract_line, portfolio}
 use Rattle.contract_parse.specs.Expecting.{Fails, expected_behind, run, text_expected}
 use Rattle.contract_parse.specs.Reading.{tokens_ahead}
-use Rattle.contract_parse.specs.Texts.{IsFault, Text}
+use Rattle.contract_parse.specs.TextFaults.{IsFault}
+use Rattle.contract_grammar.specs.Texts.{Text}
 use Rattle.contract_parse.specs.declared.faults.ParseErr.{ParseErr}
 use Rattle.contract_parse.specs.declared.faults.ParseErr.TheVariants as err
 use Rattle.contract_parse.specs.declared.faults.PartErr.{PartErr}
-use Rattle.contract_parse.specs.declared.faults.TextFault.{TextFault}
+use Rattle.contract_grammar.specs.declared.faults.TextFault.{TextFault}
 use Rattle.contract_parse.specs.declared.next_contracts.ContractReader.{ContractReader}
 use Rattle.contract_parse.specs.declared.next_contracts.NextContract.{NextContract}
 

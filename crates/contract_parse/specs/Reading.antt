@@ -4,12 +4,12 @@ use Rattle.term_model.specs.Terms.{Expression, Num, Cmp, Logic}
 use Rattle.term_model.specs.Declarations.{declarations}
 use Rattle.term_model.specs.declared.decls.Decls.{Decls}
 use Rattle.term_model.specs.declared.terms.NumOp.TheVariants.{Plus, Minus, Times, Min, Max}
-use Rattle.contract_parse.specs.Tokens.{Tok, is_last, tokens}
-use Rattle.contract_parse.specs.Words.{Bytes, is_the_mark, is_the_word}
-use Rattle.contract_parse.specs.Names.{DeclaredNames, declared_by}
-use Rattle.contract_parse.specs.declared.heads.Operator.{Operator}
-use Rattle.contract_parse.specs.declared.heads.Operator.TheVariants as operator
-use Rattle.contract_parse.specs.declared.token.LexemeKind.{LexemeKind}
+use Rattle.contract_grammar.specs.Tokens.{Tok, is_last, tokens}
+use Rattle.contract_grammar.specs.Words.{Bytes, is_the_mark, is_the_word}
+use Rattle.contract_grammar.specs.Names.{DeclaredNames, declared_by}
+use Rattle.contract_grammar.specs.declared.terms.Operator.{Operator}
+use Rattle.contract_grammar.specs.declared.terms.Operator.TheVariants as operator
+use Rattle.contract_grammar.specs.declared.token.LexemeKind.{LexemeKind}
 use Rattle.contract_parse.specs.declared.token.Lexeme.{Lexeme}
 use Rattle.contract_parse.specs.declared.words.Lookahead.{Lookahead}
 

@@ -3,11 +3,11 @@ ghost use Rattle.std.specs.Prelude.{◌≡◌, ◌≤◌, ◌<◌, ◌+◌, ◌�
 ghost use Rattle.term_model.specs.Limits.{most_days};
 ghost use Rattle.term_model.specs.Terms.{Lit, expression};
 ghost use Rattle.term_model.specs.Sizes.{height};
-ghost use Rattle.contract_parse.specs.Words.{Bytes};
-ghost use Rattle.contract_parse.specs.Names.{DeclaredNames};
+ghost use Rattle.contract_grammar.specs.Words.{Bytes};
+ghost use Rattle.contract_grammar.specs.Names.{DeclaredNames};
 ghost use Rattle.contract_parse.specs.Frames.{PassesAt, an_expression_here, expression_at, names_at, expected_behind_first};
-ghost use Rattle.contract_parse.specs.Judgements.{binder_at, integer_at, mode_at};
-ghost use Rattle.contract_parse.specs.Spelling.{expr, mark, pair, valued, ◌⨟◌};
+ghost use Rattle.contract_grammar.specs.Judgements.{binder_at, integer_at, mode_at};
+ghost use Rattle.contract_grammar.specs.Spelling.{expr, mark, pair, valued, ◌⨟◌};
 ghost use Rattle.contract_parse.specs.Expecting.{BinderAt, IntegerAt, LiteralNumber, ModeAt, TheMark, binder_expected, operand_expected, pair_expected};
 ghost use Rattle.contract_parse.specs.Reading.{joined};
 ghost use Rattle.contract_parse.specs.Heads.{greatest_depth};
@@ -16,7 +16,8 @@ ghost use Rattle.contract_parse.specs.declared.heads.Binder.{Binder};
 
 use crate::faults::PartErr;
 use crate::frame::Frame;
-use crate::heads::{First, Operator, first_at};
+use crate::heads::{First, first_at};
+use contract_grammar::Operator;
 use crate::judges::refuse;
 use crate::leaves::LeafReader;
 use crate::readers::{
@@ -47,7 +48,7 @@ fn literal(number: Decimal) -> Expr
 }
 
 // The scale behind a mark, in `widen`, `round` and `div`.
-#[tactic(auto, using(crate::proofs::Parts::followed_by))]
+#[tactic(auto, using(contract_grammar::proofs::Parts::followed_by))]
 fn read_scale<'a>(wanted: &[u8], rest: &'a [u8]) -> Result<(u8, &'a [u8]), PartErr>
     ensures reads { Reads (PassesAnywhere (λ ps. TheMark wanted.now ∷ IntegerAt 27 ∷ ps))
         (λ r. mark wanted.now ⨟ valued (integer_at 27) r.0) (λ r. r.1.now) rest.now result }
@@ -58,7 +59,7 @@ fn read_scale<'a>(wanted: &[u8], rest: &'a [u8]) -> Result<(u8, &'a [u8]), PartE
 }
 
 // The mode and the scale in `round` and `div`.
-#[tactic(auto, using(crate::proofs::Parts::followed_by))]
+#[tactic(auto, using(contract_grammar::proofs::Parts::followed_by))]
 fn read_rounding(rest: &[u8]) -> Result<(Mode, u8, &[u8]), PartErr>
     ensures reads { Reads (PassesAnywhere
         (λ ps. TheMark (codes "(") ∷ ModeAt ∷ TheMark (codes ",") ∷ IntegerAt 27 ∷ ps))
@@ -72,7 +73,7 @@ fn read_rounding(rest: &[u8]) -> Result<(Mode, u8, &[u8]), PartErr>
 }
 
 // The name that `acc` binds.
-#[tactic(auto, using(crate::proofs::Parts::followed_by))]
+#[tactic(auto, using(contract_grammar::proofs::Parts::followed_by))]
 fn read_bound_name(rest: &[u8]) -> Result<(&[u8], &[u8]), PartErr>
     ensures reads { Reads (Binds (λ r. r.0.now) (λ binder ps. TheMark (codes "(") ∷ binder ∷ ps))
         (λ r. mark (codes "(") ⨟ valued binder_at r.0.now) (λ r. r.1.now) rest.now result }
@@ -82,7 +83,7 @@ fn read_bound_name(rest: &[u8]) -> Result<(&[u8], &[u8]), PartErr>
 }
 
 // The number of days of `acc`.
-#[tactic(auto, using(crate::proofs::Parts::followed_by))]
+#[tactic(auto, using(contract_grammar::proofs::Parts::followed_by))]
 fn read_days_back(rest: &[u8]) -> Result<(u32, &[u8]), PartErr>
     ensures reads { Reads (PassesAnywhere (λ ps. TheMark (codes ",") ∷ IntegerAt most_days ∷ ps))
         (λ r. mark (codes ",") ⨟ valued (integer_at most_days) r.0) (λ r. r.1.now) rest.now result }
@@ -124,7 +125,7 @@ fn read_boxed<'a, L: LeafReader>(
 
 // The same behind a mark.
 #[cycle(expr)]
-#[tactic(auto, using(crate::proofs::Parts::followed_by))]
+#[tactic(auto, using(contract_grammar::proofs::Parts::followed_by))]
 fn read_behind<'a, L: LeafReader>(
     alloc: Global,
     leaves: &mut L,
@@ -146,7 +147,7 @@ fn read_behind<'a, L: LeafReader>(
 
 // One expression in parentheses.
 #[cycle(expr)]
-#[tactic(auto, using(crate::proofs::Parts::followed_by))]
+#[tactic(auto, using(contract_grammar::proofs::Parts::followed_by))]
 fn read_operand<'a, L: LeafReader>(
     alloc: Global,
     leaves: &mut L,
@@ -169,7 +170,7 @@ fn read_operand<'a, L: LeafReader>(
 
 // What stands behind `neg`.
 #[cycle(expr)]
-#[tactic(auto, using(crate::proofs::Parts::followed_by))]
+#[tactic(auto, using(contract_grammar::proofs::Parts::followed_by))]
 fn read_neg<'a, L: LeafReader>(
     alloc: Global,
     leaves: &mut L,
@@ -190,7 +191,7 @@ fn read_neg<'a, L: LeafReader>(
 
 // What stands behind `not`.
 #[cycle(expr)]
-#[tactic(auto, using(crate::proofs::Parts::followed_by))]
+#[tactic(auto, using(contract_grammar::proofs::Parts::followed_by))]
 fn read_not<'a, L: LeafReader>(
     alloc: Global,
     leaves: &mut L,
@@ -211,7 +212,7 @@ fn read_not<'a, L: LeafReader>(
 
 // Two expressions in parentheses.
 #[cycle(expr)]
-#[tactic(auto, using(crate::proofs::Parts::followed_by))]
+#[tactic(auto, using(contract_grammar::proofs::Parts::followed_by))]
 fn read_pair<'a, L: LeafReader>(
     alloc: Global,
     leaves: &mut L,
@@ -237,7 +238,7 @@ fn read_pair<'a, L: LeafReader>(
 
 // What stands behind `min`.
 #[cycle(expr)]
-#[tactic(auto, using(crate::proofs::Parts::followed_by))]
+#[tactic(auto, using(contract_grammar::proofs::Parts::followed_by))]
 fn read_min<'a, L: LeafReader>(
     alloc: Global,
     leaves: &mut L,
@@ -259,7 +260,7 @@ fn read_min<'a, L: LeafReader>(
 
 // What stands behind `max`.
 #[cycle(expr)]
-#[tactic(auto, using(crate::proofs::Parts::followed_by))]
+#[tactic(auto, using(contract_grammar::proofs::Parts::followed_by))]
 fn read_max<'a, L: LeafReader>(
     alloc: Global,
     leaves: &mut L,
@@ -281,7 +282,7 @@ fn read_max<'a, L: LeafReader>(
 
 // What stands behind a parenthesis.
 #[cycle(expr)]
-#[tactic(auto, using(crate::proofs::Parts::followed_by))]
+#[tactic(auto, using(contract_grammar::proofs::Parts::followed_by))]
 fn read_infix<'a, L: LeafReader>(
     alloc: Global,
     leaves: &mut L,
@@ -305,7 +306,7 @@ fn read_infix<'a, L: LeafReader>(
 
 // What stands behind `if`.
 #[cycle(expr)]
-#[tactic(auto, using(crate::proofs::Parts::followed_by))]
+#[tactic(auto, using(contract_grammar::proofs::Parts::followed_by))]
 fn read_choice<'a, L: LeafReader>(
     alloc: Global,
     leaves: &mut L,
@@ -328,7 +329,7 @@ fn read_choice<'a, L: LeafReader>(
 
 // What stands behind `widen`.
 #[cycle(expr)]
-#[tactic(auto, using(crate::proofs::Parts::followed_by))]
+#[tactic(auto, using(contract_grammar::proofs::Parts::followed_by))]
 fn read_widen<'a, L: LeafReader>(
     alloc: Global,
     leaves: &mut L,
@@ -351,7 +352,7 @@ fn read_widen<'a, L: LeafReader>(
 
 // What stands behind `round`.
 #[cycle(expr)]
-#[tactic(auto, using(crate::proofs::Parts::followed_by))]
+#[tactic(auto, using(contract_grammar::proofs::Parts::followed_by))]
 fn read_round<'a, L: LeafReader>(
     alloc: Global,
     leaves: &mut L,
@@ -374,7 +375,7 @@ fn read_round<'a, L: LeafReader>(
 
 // What stands behind `div`.
 #[cycle(expr)]
-#[tactic(auto, using(crate::proofs::Parts::followed_by))]
+#[tactic(auto, using(contract_grammar::proofs::Parts::followed_by))]
 fn read_div<'a, L: LeafReader>(
     alloc: Global,
     leaves: &mut L,
@@ -406,7 +407,7 @@ fn read_div<'a, L: LeafReader>(
 
 // What stands behind `acc`: the body, in which the name is bound, comes before the start.
 #[cycle(expr)]
-#[tactic(auto, using(crate::proofs::Parts::followed_by))]
+#[tactic(auto, using(contract_grammar::proofs::Parts::followed_by))]
 fn read_acc<'a, L: LeafReader>(
     alloc: Global,
     leaves: &mut L,

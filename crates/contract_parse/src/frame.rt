@@ -2,7 +2,7 @@
 
 ghost use Rattle.std.specs.Prelude.{◌≤◌, length};
 ghost use Rattle.term_model.specs.Limits.{most_height_of_code};
-ghost use Rattle.contract_parse.specs.Names.{names_in};
+ghost use Rattle.contract_grammar.specs.Names.{names_in};
 
 use term_model::{Decls, Scope};
 

@@ -1,26 +1,19 @@
 //! What a term begins with.
 ghost use Rattle.std.specs.Prelude.{◌≡◌, ◌≤◌, ◌+◌, false, length};
 ghost use Rattle.term_model.specs.Limits.{most_height_of_code};
-ghost use Rattle.contract_parse.specs.Words.{is_the_word};
-ghost use Rattle.contract_parse.specs.Names.{names_in};
-ghost use Rattle.contract_parse.specs.Judgements.{literal_at, variable_at};
+ghost use Rattle.contract_grammar.specs.Words.{is_the_word};
+ghost use Rattle.contract_grammar.specs.Names.{names_in};
+ghost use Rattle.contract_grammar.specs.Judgements.{literal_at, variable_at};
 ghost use Rattle.contract_parse.specs.Heads.{amount_head_at, amount_head_of, first_at, first_name, first_number, first_of, first_word, greatest_depth, head_at, head_of, leaf_word};
 ghost use Rattle.contract_parse.specs.Reading.{tok_of};
 
-use crate::faults::TextKind;
+use contract_grammar::TextKind;
 use crate::judges::{literal_at, variable_at};
-use crate::token::{Lexeme, LexemeKind};
+use crate::token::Lexeme;
+use contract_grammar::LexemeKind;
 use crate::words::{is_name, is_number, is_the_mark, is_the_word};
 use decimal::Decimal;
 use term_model::{CmpOp, LogicOp, MOST_HEIGHT, MOST_HEIGHT_OF_CODE, NumOp, Scope};
-
-/// The language whose terms are read: contracts, or payoff code. They differ in the word that reads
-/// an observable, and in how many terms may be open at once.
-#[derive(Clone, Copy)]
-pub enum Language {
-    Contracts,
-    Code,
-}
 
 /// What an expression begins with.
 #[derive(Clone, Copy)]
@@ -65,14 +58,6 @@ pub enum AmountHead {
     Let,
     Loop,
     Cut,
-}
-
-/// An operator between two expressions.
-#[derive(Clone, Copy)]
-pub enum Operator {
-    Arithmetic { op: NumOp },
-    Comparison { op: CmpOp },
-    Logic { op: LogicOp },
 }
 
 /// What binds a name.

@@ -2,14 +2,14 @@
 ghost use Rattle.std.specs.Prelude.{◌≡◌, ◌∷◌, IfOk, OnOk};
 ghost use Rattle.term_model.specs.Terms.{expression};
 ghost use Rattle.term_model.specs.Sizes.{height};
-ghost use Rattle.contract_parse.specs.Names.{DeclaredNames};
-ghost use Rattle.contract_parse.specs.Spelling.{Leaf, obs_leaf};
+ghost use Rattle.contract_grammar.specs.Names.{DeclaredNames};
+ghost use Rattle.contract_grammar.specs.Spelling.{Leaf, obs_leaf};
 ghost use Rattle.contract_parse.specs.Expecting.{leaf_expected};
 ghost use Rattle.contract_parse.specs.Readers.{KeepsLeaves, Passes, Reads, behind_leaf_word};
-ghost use Rattle.contract_parse.specs.declared.heads.Language.{Language};
+ghost use Rattle.contract_grammar.specs.declared.terms.Language.{Language};
 
 use crate::faults::PartErr;
-use crate::heads::Language;
+use contract_grammar::Language;
 use crate::readers::{read_offset, read_use_of_map, skip_mark};
 use std::alloc::Global;
 use term_model::{Decls, Expr};

@@ -28,7 +28,6 @@ mod labels;
 pub mod laws;
 mod leaves;
 mod lines;
-mod name_texts;
 mod names;
 mod next_contracts;
 mod portfolio;
@@ -38,19 +37,20 @@ mod token;
 mod tokens;
 mod words;
 
+pub use contract_grammar::{TextFault, TextKind, is_name_text};
 pub use cursor::{Cursor, next_token, parse_decls, start_text};
-pub use faults::{ParseErr, TextFault, TextKind};
-pub use name_texts::is_name_text;
+pub use faults::ParseErr;
 pub use next_contracts::{ContractReader, NextContract, next_contract, start_contracts};
 pub use portfolio::parse_portfolio;
 pub use tokens::{Token, TokenKind};
 
 // What another grammar over the same tokens and expressions is read with.
+pub use contract_grammar::{Language, LexemeKind};
 pub use decls::read_decls;
 pub use exprs::read_expr;
 pub use faults::{PartErr, Refusal};
 pub use frame::Frame;
-pub use heads::{AmountHead, Language, amount_head_at};
+pub use heads::{AmountHead, amount_head_at};
 pub use judges::{integer_at, literal_at, refuse};
 pub use leaves::LeafReader;
 pub use lines::fault_at;
@@ -60,5 +60,5 @@ pub use readers::{
     read_mode, read_new_name, read_use_behind, read_use_of_map, read_use_of_set, skip_mark,
     skip_version, skip_word,
 };
-pub use token::{Lexeme, LexemeKind};
+pub use token::Lexeme;
 pub use words::{Lookahead, is_name, is_the_mark, look, next};

@@ -5,7 +5,7 @@ ghost use Rattle.term_model.specs.Limits.{longest_file};
 ghost use Rattle.contract_parse.specs.Lines.{column_at, line_at};
 ghost use Rattle.contract_parse.specs.Cursors.{fault_at};
 
-use crate::faults::{TextFault, TextKind};
+use contract_grammar::{TextFault, TextKind};
 
 /// The line of a position, from 1.
 pub fn line_at(bytes: &[u8], at: usize) -> u32

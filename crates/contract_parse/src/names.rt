@@ -3,20 +3,10 @@ ghost use Rattle.std.specs.Prelude.{◌≡◌, ◌≤◌, ◌+◌, ◌<◌, ◌^
 ghost use Rattle.indexmap.specs.IndexMap.{index_map_len, keys};
 ghost use Rattle.indexmap.specs.IndexSet.{index_set_len};
 ghost use Rattle.term_model.specs.Limits.{most_height_of_code};
-ghost use Rattle.contract_parse.specs.Names.{back_to, index_in, names_in};
+ghost use Rattle.contract_grammar.specs.Names.{back_to, index_in, names_in};
 
 use indexmap::{IndexMap, IndexSet};
 use term_model::{Name, Scope};
-
-/// The sets of names that a text declares.
-#[derive(Clone, Copy)]
-pub enum NameSet {
-    Party,
-    Asset,
-    Label,
-    Template,
-    Contract,
-}
 
 /// How many binders stand between a name and its own.
 pub fn back_to(bound: &Scope<&[u8]>, name: &[u8]) -> Option<u32>

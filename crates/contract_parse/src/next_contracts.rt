@@ -3,9 +3,9 @@ ghost use Rattle.std.specs.Prelude.{◌≡◌, ◌≤◌, ◌<◌, ◌∷◌, �
 ghost use Rattle.term_model.specs.Limits.{longest_file};
 ghost use Rattle.term_model.specs.Declarations.{declarations};
 ghost use Rattle.term_model.specs.Terms.{contract};
-ghost use Rattle.contract_parse.specs.Tokens.{tokens};
-ghost use Rattle.contract_parse.specs.Versions.{version_of};
-ghost use Rattle.contract_parse.specs.Statements.{named_contract};
+ghost use Rattle.contract_grammar.specs.Tokens.{tokens};
+ghost use Rattle.contract_grammar.specs.Versions.{version_of};
+ghost use Rattle.contract_grammar.specs.Statements.{named_contract};
 ghost use Rattle.contract_parse.specs.Expecting.{contract_expected};
 ghost use Rattle.contract_parse.specs.Reading.{declared_in};
 ghost use Rattle.contract_parse.specs.Readers.{Extends, Reads};

@@ -5,17 +5,18 @@ ghost use Rattle.term_model.specs.Books.{book};
 ghost use Rattle.term_model.specs.Declarations.{declarations};
 ghost use Rattle.term_model.specs.Sizes.{height_of_contract};
 ghost use Rattle.term_model.specs.Terms.{contract};
-ghost use Rattle.contract_parse.specs.Tokens.{tokens};
-ghost use Rattle.contract_parse.specs.Names.{nothing_declared};
+ghost use Rattle.contract_grammar.specs.Tokens.{tokens};
+ghost use Rattle.contract_grammar.specs.Names.{nothing_declared};
 ghost use Rattle.term_model.specs.Limits.{is_a_version, longest_file, most_height};
-ghost use Rattle.contract_parse.specs.Versions.{version_of};
-ghost use Rattle.contract_parse.specs.Judgements.{is_the_version};
-ghost use Rattle.contract_parse.specs.Spelling.{contr, mark, one, word, ◌⨟◌};
-ghost use Rattle.contract_parse.specs.Statements.{Entry, Repeat, beginning, contract_line, portfolio};
+ghost use Rattle.contract_grammar.specs.Versions.{version_of};
+ghost use Rattle.contract_grammar.specs.Judgements.{is_the_version};
+ghost use Rattle.contract_grammar.specs.Spelling.{contr, mark, one, word, ◌⨟◌};
+ghost use Rattle.contract_grammar.specs.Statements.{Entry, Repeat, beginning, contract_line};
+ghost use Rattle.contract_grammar.specs.Statements.{portfolio};
 ghost use Rattle.contract_parse.specs.Expecting.{ContrAt, ContractLines, Leaves, Open, Expected, TextVersion, TheMark, TheWord, contract_expected, decls_expected, expected_behind, run, text_expected};
 ghost use Rattle.contract_parse.specs.Reading.{declared_in, tokens_ahead};
-ghost use Rattle.contract_parse.specs.ContractReading.{trees};
-ghost use Rattle.contract_parse.specs.Texts.{Answers};
+ghost use Rattle.contract_grammar.specs.ContractReading.{trees};
+ghost use Rattle.contract_parse.specs.TextFaults.{Answers};
 ghost use Rattle.contract_parse.specs.Readers.{BeginsText, Extends, Passes, Reads, ReadsAhead, ahead_from, behind_word};
 
 use crate::contrs::read_contr;
@@ -31,7 +32,7 @@ use std::alloc::Global;
 use term_model::{Contr, Decls, Name, Portfolio, Scope};
 
 /// A contract behind its name, to the end of its line.
-#[tactic(auto, using(crate::proofs::Parts::followed_by))]
+#[tactic(auto, using(contract_grammar::proofs::Parts::followed_by))]
 pub fn read_definition<'a>(
     alloc: Global,
     decls: &Decls,
@@ -97,7 +98,7 @@ fn read_contracts<'a>(
 }
 
 // The first line, which says the version.
-#[tactic(auto, using(crate::proofs::Parts::followed_by))]
+#[tactic(auto, using(contract_grammar::proofs::Parts::followed_by))]
 fn read_first_line(rest: &[u8]) -> Result<(u8, &[u8]), PartErr>
     ensures reads { Reads (BeginsText (λ r. version_of r.0)
         (λ ps. TheWord (codes "portfolio") ∷ TextVersion ∷ ps)

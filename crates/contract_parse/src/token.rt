@@ -1,20 +1,12 @@
 //! The tokens of a text, one at a time.
 ghost use Rattle.std.specs.Prelude.{◌≡◌, ◌≤◌, ◌<◌, ◌==◌, ◌||◌, false, true, length};
 ghost use Rattle.std.specs.List.{prefix_len};
-ghost use Rattle.contract_parse.specs.Tokens.{after_gap, begins_with_date, begins_with_digit, digits_extent, extent_at, fraction_len, is_blank, is_digit, is_letter, is_word_byte, mark_extent, mark_len, next_lexeme, number_len, word_extent};
+ghost use Rattle.contract_grammar.specs.Tokens.{after_gap, begins_with_date, begins_with_digit};
+ghost use Rattle.contract_grammar.specs.Tokens.{digits_extent, extent_at, fraction_len, is_blank};
+ghost use Rattle.contract_grammar.specs.Tokens.{is_digit, is_letter, is_word_byte, mark_extent};
+ghost use Rattle.contract_grammar.specs.Tokens.{mark_len, next_lexeme, number_len, word_extent};
 
 use term_model::{LONGEST_NAME, date_parts};
-
-/// What a token is. At a stray byte no token begins.
-#[derive(Clone, Copy)]
-pub enum LexemeKind {
-    Word,
-    Number,
-    Date,
-    Mark,
-    End,
-    Stray,
-}
 
 /// A token, and how many bytes are left where it begins.
 #[derive(Clone, Copy)]
@@ -24,55 +16,10 @@ pub struct Lexeme<'a> {
     pub left: usize,
 }
 
-/// What begins at a byte, and how many bytes it has.
-#[derive(Clone, Copy)]
-pub struct Extent {
-    pub kind: LexemeKind,
-    pub len: usize,
-}
-
-/// Whether a byte is a letter or `_`, with which words begin.
-pub fn is_letter(b: u8) -> bool
-    ensures { result ≡ is_letter b }
-{
-    b.is_ascii_alphabetic() | (b == b'_')
-}
-
 fn is_digit(b: u8) -> bool
     ensures { result ≡ is_digit b }
 {
     b.is_ascii_digit()
-}
-
-// Which bytes may stand in a word.
-const WORD_BYTES: [bool; 256] = [
-    false, false, false, false, false, false, false, false, false, false, false, false, false,
-    false, false, false, false, false, false, false, false, false, false, false, false, false,
-    false, false, false, false, false, false, false, false, false, false, false, false, false,
-    false, false, false, false, false, false, false, false, false, true, true, true, true, true,
-    true, true, true, true, true, false, false, false, false, false, false, false, true, true,
-    true, true, true, true, true, true, true, true, true, true, true, true, true, true, true, true,
-    true, true, true, true, true, true, true, true, false, false, false, false, true, false, true,
-    true, true, true, true, true, true, true, true, true, true, true, true, true, true, true, true,
-    true, true, true, true, true, true, true, true, true, false, false, false, false, false, false,
-    false, false, false, false, false, false, false, false, false, false, false, false, false,
-    false, false, false, false, false, false, false, false, false, false, false, false, false,
-    false, false, false, false, false, false, false, false, false, false, false, false, false,
-    false, false, false, false, false, false, false, false, false, false, false, false, false,
-    false, false, false, false, false, false, false, false, false, false, false, false, false,
-    false, false, false, false, false, false, false, false, false, false, false, false, false,
-    false, false, false, false, false, false, false, false, false, false, false, false, false,
-    false, false, false, false, false, false, false, false, false, false, false, false, false,
-    false, false, false, false, false, false, false, false, false, false, false, false, false,
-    false, false, false, false, false, false, false, false, false, false,
-];
-
-/// Whether a byte may stand in a word: a letter, `_` or a digit. Texts are words for the most part,
-/// so it is looked up.
-pub fn is_word_byte(b: u8) -> bool
-    ensures { result ≡ is_word_byte b }
-{
-    WORD_BYTES[b as usize]
 }
 
 fn is_blank(b: u8) -> bool
@@ -181,7 +128,7 @@ fn begins_with_digit(bytes: &[u8]) -> bool
 }
 
 // Whether a text `dddd-dd-dd` stands here, and no digit after it.
-#[tactic(auto, using(crate::proofs::DateShape::too_few, crate::proofs::DateShape::as_parts))]
+#[tactic(auto, using(contract_grammar::proofs::DateShape::too_few, contract_grammar::proofs::DateShape::as_parts))]
 fn begins_with_date(bytes: &[u8]) -> bool
     ensures value { result ≡ begins_with_date bytes.now }
     ensures long { result ≡ true → 10 ≤ length bytes.now }
@@ -270,7 +217,7 @@ fn digits_extent(bytes: &[u8]) -> Extent
     }
 }
 
-#[tactic(auto, unfolding(crate::specs::Tokens::extent_at))]
+#[tactic(auto, unfolding(contract_grammar::specs::Tokens::extent_at))]
 fn extent_at(bytes: &[u8]) -> Extent
     ensures value { result ≡ extent_at bytes.now }
     ensures within { result.len ≤ length bytes.now }
@@ -287,7 +234,7 @@ fn extent_at(bytes: &[u8]) -> Extent
 }
 
 /// The next token, and the bytes after it.
-#[tactic(auto, unfolding(crate::specs::Tokens::next_lexeme))]
+#[tactic(auto, unfolding(contract_grammar::specs::Tokens::next_lexeme))]
 pub fn next_lexeme(bytes: &[u8]) -> (Lexeme<'_>, &[u8])
     ensures { (
       record { kind = result.0.kind; text = result.0.text.now; left = result.0.left },

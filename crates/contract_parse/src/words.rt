@@ -2,111 +2,22 @@
 ghost use Rattle.std.specs.Prelude.{◌≡◌, ◌≤◌, ◌<◌, ◌∷◌, ◌==◌, IfSome, false, length, not, true};
 ghost use Rattle.std.specs.List.{list_all, list_any};
 ghost use Rattle.std.specs.Str.{bytes_eq};
-ghost use Rattle.contract_parse.specs.Tokens.{is_last, tokens};
-ghost use Rattle.contract_parse.specs.Words.{is_date, is_end, is_integer, is_name, is_number, is_reserved, is_the_mark, is_the_word, is_whole_mark, reserved_of_five, reserved_of_four, reserved_of_more, reserved_of_three, reserved_of_two};
+ghost use Rattle.contract_grammar.specs.Tokens.{is_last, tokens};
+ghost use Rattle.contract_grammar.specs.Words.{is_date, is_end, is_integer, is_name, is_number};
+ghost use Rattle.contract_grammar.specs.Words.{is_reserved, is_the_mark, is_the_word};
+ghost use Rattle.contract_grammar.specs.Words.{is_whole_mark, reserved_of_five, reserved_of_four};
+ghost use Rattle.contract_grammar.specs.Words.{reserved_of_more, reserved_of_three};
+ghost use Rattle.contract_grammar.specs.Words.{reserved_of_two};
 ghost use Rattle.contract_parse.specs.Reading.{LacksMark, tok_of, tokens_after, tokens_ahead};
 
-use crate::token::{Lexeme, LexemeKind, next_lexeme};
+use crate::token::{Lexeme, next_lexeme};
+use contract_grammar::LexemeKind;
 
 /// The token that comes next, read ahead, and the text after it.
 #[derive(Clone, Copy)]
 pub struct Lookahead<'a> {
     pub token: Lexeme<'a>,
     pub after: &'a [u8],
-}
-
-fn is_reserved_of_two(text: &[u8]) -> bool
-    ensures { result ≡ list_any (λ w. bytes_eq text.now w) reserved_of_two }
-{
-    matches!(text, b"in" | b"if")
-}
-
-fn is_reserved_of_three(text: &[u8]) -> bool
-    ensures { result ≡ list_any (λ w. bytes_eq text.now w) reserved_of_three }
-{
-    matches!(
-        text,
-        b"num"
-            | b"pay"
-            | b"let"
-            | b"obs"
-            | b"neg"
-            | b"not"
-            | b"min"
-            | b"max"
-            | b"div"
-            | b"acc"
-            | b"add"
-            | b"cut"
-    )
-}
-
-fn is_reserved_of_four(text: &[u8]) -> bool
-    ensures { result ≡ list_any (λ w. bytes_eq text.now w) reserved_of_four }
-{
-    matches!(
-        text,
-        b"flag"
-            | b"code"
-            | b"zero"
-            | b"both"
-            | b"then"
-            | b"else"
-            | b"true"
-            | b"none"
-            | b"loop"
-            | b"upto"
-            | b"ceil"
-    )
-}
-
-fn is_reserved_of_five(text: &[u8]) -> bool
-    ensures { result ≡ list_any (λ w. bytes_eq text.now w) reserved_of_five }
-{
-    matches!(
-        text,
-        b"start"
-            | b"party"
-            | b"asset"
-            | b"scale"
-            | b"after"
-            | b"false"
-            | b"widen"
-            | b"round"
-            | b"model"
-            | b"floor"
-    )
-}
-
-fn is_reserved_of_more(text: &[u8]) -> bool
-    ensures { result ≡ list_any (λ w. bytes_eq text.now w) reserved_of_more }
-{
-    match text.len() {
-        6 => text == b"payoff".as_slice()
-            || text == b"origin".as_slice()
-            || text == b"within".as_slice(),
-        7 => text == b"amounts".as_slice(),
-        8 => text == b"template".as_slice() || text == b"contract".as_slice(),
-        9 => text == b"portfolio".as_slice()
-            || text == b"half_even".as_slice()
-            || text == b"half_away".as_slice(),
-        _ => false,
-    }
-}
-
-/// Whether a word is reserved, and so no name. The length is looked at first: it tells most names
-/// from the reserved words.
-pub fn is_reserved(text: &[u8]) -> bool
-    ensures { result ≡ is_reserved text.now }
-{
-    match text.len() {
-        0 | 1 => false,
-        2 => is_reserved_of_two(text),
-        3 => is_reserved_of_three(text),
-        4 => is_reserved_of_four(text),
-        5 => is_reserved_of_five(text),
-        _ => is_reserved_of_more(text),
-    }
 }
 
 /// The next token of a text, and the text after it.

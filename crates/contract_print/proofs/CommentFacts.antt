@@ -8,11 +8,11 @@ use Rattle.std.proofs.lemmas.Grind.{flat_map-append}
 use Rattle.std.proofs.lemmas.List.{append-nil}
 use Rattle.std.proofs.lemmas.List.Elements.{All-append, All-cons, All-nil, recursion_from_All}
 use Rattle.std.proofs.lemmas.Str.{IsUtf8-append, IsUtf8-from_ascii, IsUtf8-nil}
-use Rattle.contract_parse.specs.Tokens.{after_gap, extent_at, is_last, next_lexeme, token_at, tokens}
-use Rattle.contract_parse.specs.Words.{Bytes}
-use Rattle.contract_parse.proofs.TokenFacts.{tokens_next}
-use Rattle.contract_parse.specs.Statements.{portfolio}
-use Rattle.contract_parse.specs.Texts.{Text}
+use Rattle.contract_grammar.specs.Tokens.{after_gap, extent_at, is_last, next_lexeme, token_at, tokens}
+use Rattle.contract_grammar.specs.Words.{Bytes}
+use Rattle.contract_grammar.proofs.TokenFacts.{tokens_next}
+use Rattle.contract_grammar.specs.Statements.{portfolio}
+use Rattle.contract_grammar.specs.Texts.{Text}
 use Rattle.contract_print.specs.Comments.{IsCommentText, IsComments, comment_line}
 use Rattle.contract_print.specs.Laws.{CommentsChangeNothing}
 use Rattle.contract_print.proofs.ExprPieces.{ascii_of}

@@ -9,7 +9,7 @@ use Rattle.jiff_core.proofs.MarchLemmas.{day_count-late, day_count-early}
 use Rattle.jiff_core.proofs.DateLemmas.{days_from_civil-day, days_from_civil-next_month, days_from_civil-next_year}
 use Rattle.jiff_core.proofs.SignedLemmas.{one_part, signed_arith}
 use Rattle.term_model.specs.Limits.{is_origin}
-use Rattle.contract_parse.proofs.EntryFacts.{and_parts}
+use Rattle.contract_grammar.proofs.EntryFacts.{and_parts}
 use Rattle.contract_print.specs.Canon.{IsOriginText, book_text}
 use Rattle.contract_print.specs.Laws.{CanonExists}
 use Rattle.term_model.specs.Dates.{Parts, digit_of, day_of, epoch_day_of, is_civil, is_digit, parts_of, two_of}

@@ -6,9 +6,9 @@ use Rattle.std.specs.Str.{IsAscii}
 use Rattle.std.proofs.lemmas.Bool.{false≢true}
 use Rattle.std.proofs.lemmas.Bool.Decides.{nat_tests}
 use Rattle.term_model.specs.Dates.{Parts, day_of, epoch_day_of, parts_of}
-use Rattle.contract_parse.specs.declared.token.LexemeKind.TheVariants.{Date, Number}
-use Rattle.contract_parse.specs.Tokens.{begins_with_date, digits_extent, extent_at, is_digit, is_word_byte, mark_extent, mark_len, number_len, tokens, word_extent}
-use Rattle.contract_parse.proofs.DateShape.{are_date}
+use Rattle.contract_grammar.specs.declared.token.LexemeKind.TheVariants.{Date, Number}
+use Rattle.contract_grammar.specs.Tokens.{begins_with_date, digits_extent, extent_at, is_digit, is_word_byte, mark_extent, mark_len, number_len, tokens, word_extent}
+use Rattle.contract_grammar.proofs.DateShape.{are_date}
 use Rattle.contract_print.specs.Spelled.{is_stop, stops}
 use Rattle.contract_print.proofs.ExprPieces.{ascii_of}
 use Rattle.contract_print.proofs.TokenTexts.{digit_no_gap, digit_no_letter, is_first, stop_no_digit, token}

@@ -12,14 +12,14 @@ use Rattle.term_model.specs.declared.terms.CmpOp.{CmpOp}
 use Rattle.term_model.specs.declared.terms.CmpOp.TheVariants.{Less, LessEq, Greater, GreaterEq, Equal, Unequal}
 use Rattle.term_model.specs.declared.terms.LogicOp.{LogicOp}
 use Rattle.term_model.specs.declared.terms.LogicOp.TheVariants.{And, Or}
-use Rattle.contract_parse.specs.declared.token.LexemeKind.TheVariants.{Mark}
-use Rattle.contract_parse.specs.declared.faults.TextKind.{TextKind}
-use Rattle.contract_parse.specs.declared.heads.Operator.TheVariants.{Arithmetic, Comparison, Logic as Connective}
-use Rattle.contract_parse.specs.Tokens.{Tok, after_gap, extent_at}
-use Rattle.contract_parse.specs.Words.{Bytes}
-use Rattle.contract_parse.specs.Judgements.{binder_at, integer_at, mode_at, operator_at, use_at}
-use Rattle.contract_parse.specs.Spelling.{Part, ◌⨟◌, valued}
-use Rattle.contract_parse.proofs.EntryFacts.{and_parts}
+use Rattle.contract_grammar.specs.declared.token.LexemeKind.TheVariants.{Mark}
+use Rattle.contract_grammar.specs.declared.faults.TextKind.{TextKind}
+use Rattle.contract_grammar.specs.declared.terms.Operator.TheVariants.{Arithmetic, Comparison, Logic as Connective}
+use Rattle.contract_grammar.specs.Tokens.{Tok, after_gap, extent_at}
+use Rattle.contract_grammar.specs.Words.{Bytes}
+use Rattle.contract_grammar.specs.Judgements.{binder_at, integer_at, mode_at, operator_at, use_at}
+use Rattle.contract_grammar.specs.Spelling.{Part, ◌⨟◌, valued}
+use Rattle.contract_grammar.proofs.EntryFacts.{and_parts}
 use Rattle.contract_print.specs.TermTexts.{bound_name, comparison_text, connective_text, mode_text, name_at, number_text}
 use Rattle.contract_print.specs.Spellable.{are_names}
 use Rattle.contract_print.specs.Spelled.{Spells, stops}

@@ -9,11 +9,11 @@ use Rattle.term_model.specs.Sizes.{height}
 use Rattle.term_model.specs.WellFormed.{IsWellFormed}
 use Rattle.term_model.specs.Terms.{Expression, Lit, Yes, Var, Obs, Neg, Num, Cmp, Not, Logic, Cond, Widen, Round, Div, Acc}
 use Rattle.term_model.specs.declared.terms.NumOp.TheVariants.{Plus, Minus, Times, Min, Max}
-use Rattle.contract_parse.specs.Words.{Bytes}
-use Rattle.contract_parse.specs.Names.{DeclaredNames, declared_by}
-use Rattle.contract_parse.specs.Judgements.{literal_at, offset_at, variable_at}
-use Rattle.contract_parse.specs.Spelling.{Leaf, expr, expr_with, obs_leaf}
-use Rattle.contract_parse.specs.declared.heads.Language.{Language}
+use Rattle.contract_grammar.specs.Words.{Bytes}
+use Rattle.contract_grammar.specs.Names.{DeclaredNames, declared_by}
+use Rattle.contract_grammar.specs.Judgements.{literal_at, offset_at, variable_at}
+use Rattle.contract_grammar.specs.Spelling.{Leaf, expr, expr_with, obs_leaf}
+use Rattle.contract_grammar.specs.declared.terms.Language.{Language}
 use Rattle.contract_print.specs.TermTexts.{bound_name, expr_text, observed}
 use Rattle.contract_print.specs.Spellable.{HasNumbersOfTexts, are_names}
 use Rattle.contract_print.specs.Spelled.{Spells, bound_names, stops}

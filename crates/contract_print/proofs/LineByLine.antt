@@ -5,8 +5,8 @@ use Rattle.term_model.specs.Books.{Book}
 use Rattle.term_model.specs.Declarations.{Declarations}
 use Rattle.term_model.specs.Terms.{Contract}
 use Rattle.term_model.specs.declared.name.Name.{Name}
-use Rattle.contract_parse.specs.Words.{Bytes}
-use Rattle.contract_parse.specs.Names.{declared_by}
+use Rattle.contract_grammar.specs.Words.{Bytes}
+use Rattle.contract_grammar.specs.Names.{declared_by}
 use Rattle.contract_print.specs.Canon.{IsBeginning, IsCanon, beginning_text, book_contracts_text, book_text, contract_text, decls_text, header_text}
 
 -- what stands before the contracts, and then the contracts

@@ -11,8 +11,8 @@ use Rattle.term_model.specs.Terms.{Contract, Zero, Pay, Both, Scale, After, Let,
 use Rattle.term_model.specs.declared.name.Name.{Name}
 use Rattle.term_model.proofs.FormedFacts.{one_form}
 use Rattle.term_model.proofs.OneScaleFacts.{are_uniform, keys_stay}
-use Rattle.contract_parse.specs.Versions.{Version, One, Two, version_of}
-use Rattle.contract_parse.proofs.EntryFacts.{and_parts, both_true}
+use Rattle.contract_grammar.specs.Versions.{Version, One, Two, version_of}
+use Rattle.contract_grammar.proofs.EntryFacts.{and_parts, both_true}
 use Rattle.contract_print.specs.Migrated.{MigratedAreSpellable, in_version_two}
 use Rattle.contract_print.specs.Laws.{OneScaleIsSpellable}
 use Rattle.contract_print.specs.Spellable.{AreSpellable, ContractHasNumbersOfTexts, IsCountOfTexts, IsSpellable, are_names}

@@ -10,13 +10,13 @@ use Rattle.std.proofs.lemmas.List.Folds.{list_all-append}
 use Rattle.std.proofs.lemmas.Str.{IsUtf8-from_ascii}
 use Rattle.decimal.specs.DecimalText.{after_point}
 use Rattle.decimal.specs.Text.{text_of, unsigned_text}
-use Rattle.contract_parse.specs.NameTexts.{is_name_text, is_word_text}
-use Rattle.contract_parse.specs.Names.{is_declared}
-use Rattle.contract_parse.specs.Tokens.{is_digit, is_letter, is_word_byte}
-use Rattle.contract_parse.specs.Words.{Bytes}
+use Rattle.contract_grammar.specs.NameTexts.{is_name_text, is_word_text}
+use Rattle.contract_grammar.specs.Names.{is_declared}
+use Rattle.contract_grammar.specs.Tokens.{is_digit, is_letter, is_word_byte}
+use Rattle.contract_grammar.specs.Words.{Bytes}
 use Rattle.term_model.specs.Dates.{parts_of}
-use Rattle.contract_parse.proofs.DateShape.{are_date}
-use Rattle.contract_parse.proofs.EntryFacts.{and_parts}
+use Rattle.contract_grammar.proofs.DateShape.{are_date}
+use Rattle.contract_grammar.proofs.EntryFacts.{and_parts}
 use Rattle.contract_print.specs.Comments.{IsCommentText}
 use Rattle.contract_print.specs.Spellable.{are_names, are_new}
 use Rattle.contract_print.proofs.DateTokens.{IsDate}

@@ -3,7 +3,7 @@
 use Rattle.std.specs.Prelude.{All, ◌≡◌, ◌≢◌, List, [], ◌∷◌, ◌++◌}
 use Rattle.std.specs.List.{flat_map}
 use Rattle.std.specs.Str.{IsUtf8}
-use Rattle.contract_parse.specs.Words.{Bytes}
+use Rattle.contract_grammar.specs.Words.{Bytes}
 
 -- what may stand between the `#` and the line feed
 pub record IsCommentText (text : Bytes) : Type 0 where

@@ -8,18 +8,18 @@ use Rattle.term_model.specs.Declarations.{Declarations, at_one_scale}
 use Rattle.term_model.specs.Acceptance.{IsAccepted}
 use Rattle.term_model.specs.Books.{Book}
 use Rattle.term_model.specs.WellFormed.{IsWellFormed, IsWellFormedContract}
-use Rattle.contract_parse.specs.Versions.{version_of}
-use Rattle.contract_parse.specs.Names.{declared_by}
-use Rattle.contract_parse.specs.Spelling.{expr, contr}
-use Rattle.contract_parse.specs.declared.heads.Language.{Language}
-use Rattle.contract_parse.specs.Texts.{Text}
+use Rattle.contract_grammar.specs.Versions.{version_of}
+use Rattle.contract_grammar.specs.Names.{declared_by}
+use Rattle.contract_grammar.specs.Spelling.{expr, contr}
+use Rattle.contract_grammar.specs.declared.terms.Language.{Language}
+use Rattle.contract_grammar.specs.Texts.{Text}
 use Rattle.contract_print.specs.TermTexts.{expr_text, contr_text, observed}
 use Rattle.contract_print.specs.Canon.{IsCanon}
 use Rattle.contract_print.specs.Comments.{IsComments}
 use Rattle.contract_print.specs.Rests.{IsRestOf, IsSoundRest}
 use Rattle.contract_print.specs.Spellable.{ContractHasNumbersOfTexts, HasNumbersOfTexts, AreSpellable, IsSpellable, IsSpellableBook, are_names}
 use Rattle.contract_print.specs.Spelled.{Spells, bound_names, stops}
-use Rattle.contract_print.specs.Writable.{IsWritableTerm}
+use Rattle.contract_grammar.specs.Writable.{IsWritableTerm}
 
 -- the canonical text of a term spells it wherever it stands before a stop; names of fewer than 1,000 binders are words
 abbrev pub ExpressionIsSpelled : Type 0

@@ -2,9 +2,9 @@
 -- whatever follows.
 use Rattle.std.specs.Prelude.{◌≡◌, ℕ, zero, suc, ◌==◌, ◌||◌, Bool, true, false, List, [], ◌∷◌, ◌++◌}
 use Rattle.std.specs.Str.{IsAscii}
-use Rattle.contract_parse.specs.Tokens.{tokens}
-use Rattle.contract_parse.specs.Spelling.{Part}
-use Rattle.contract_parse.specs.Words.{Bytes}
+use Rattle.contract_grammar.specs.Tokens.{tokens}
+use Rattle.contract_grammar.specs.Spelling.{Part}
+use Rattle.contract_grammar.specs.Words.{Bytes}
 use Rattle.contract_print.specs.TermTexts.{bound_name}
 
 -- a space, `,`, `)` or `;`: each of them ends a word and a number

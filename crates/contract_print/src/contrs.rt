@@ -5,10 +5,10 @@ ghost use Rattle.std.specs.Map.{keys_of};
 ghost use Rattle.term_model.specs.Declarations.{declarations};
 ghost use Rattle.term_model.specs.Terms.{contract, expression};
 ghost use Rattle.term_model.specs.Sizes.{height, height_of_contract};
-ghost use Rattle.contract_parse.specs.Names.{declared_by};
+ghost use Rattle.contract_grammar.specs.Names.{declared_by};
 ghost use Rattle.term_model.specs.DayCounts.{day_count};
 ghost use Rattle.contract_print.specs.TermTexts.{contr_text, days_text, expr_text, more_days_text, name_at, observed, sum_text};
-ghost use Rattle.contract_print.specs.Writable.{IsWritable, IsWritableContract};
+ghost use Rattle.contract_grammar.specs.Writable.{IsWritable, IsWritableContract};
 
 use crate::exprs::{Leaf, append_expr};
 use crate::pieces::{append, append_bound_name, append_number};

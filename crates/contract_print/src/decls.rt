@@ -4,7 +4,7 @@ ghost use Rattle.std.specs.Prelude.{◌≡◌, ◌++◌, true, OnOk, OnErr};
 ghost use Rattle.term_model.specs.Declarations.{declarations};
 ghost use Rattle.term_model.specs.Limits.{are_labels, is_label};
 ghost use Rattle.term_model.specs.declared.label.Label.TheVariants.{Number};
-ghost use Rattle.contract_parse.specs.Versions.{version_of};
+ghost use Rattle.contract_grammar.specs.Versions.{version_of};
 ghost use Rattle.contract_print.specs.Canon.{AppendsDecls, IsOriginText, amounts_text, asset_text, assets_text, decls_text, first_lines, label_text, labels_text, more_assets_text, more_names_text, names_text, origin_text, range_text, start_text, table_lines, template_text, templates_text};
 
 use crate::pieces::{append, append_number};

@@ -4,7 +4,7 @@ ghost use Rattle.std.specs.Prelude.{◌≡◌, ◌≤◌, ◌+◌, ◌++◌, Lis
 ghost use Rattle.term_model.specs.Terms.{expression};
 ghost use Rattle.term_model.specs.Sizes.{height};
 ghost use Rattle.contract_print.specs.TermTexts.{◌⊕◌, expr_text, last_text, last_two_text, mode_text, number_text};
-ghost use Rattle.contract_print.specs.Writable.{IsWritable};
+ghost use Rattle.contract_grammar.specs.Writable.{IsWritable};
 
 use crate::pieces::{append, append_bound_name, append_number};
 use crate::words::{

@@ -88,7 +88,6 @@ pub struct LayeredFixings<'a> {
 }
 
 impl<'a> Model for LayeredFixings<'a> {
-    ghost use Rattle.term_model.specs.Environments.{Environment};
 
     ghost Value = { Environment };
 

@@ -6,7 +6,7 @@ ghost use Rattle.term_model.specs.Declarations.{declarations};
 ghost use Rattle.term_model.specs.Instances.{declared_numbers, instance};
 ghost use Rattle.term_model.specs.Terms.{contract};
 ghost use Rattle.term_model.specs.WellFormed.{IsClosed};
-ghost use Rattle.contract_print.specs.Writable.{IsWritableTerm};
+ghost use Rattle.contract_grammar.specs.Writable.{IsWritableTerm};
 ghost use Rattle.payoff_lang.specs.Code.{payoff_code};
 ghost use Rattle.payoff_lang.specs.WritableCode.{IsWritableCode};
 ghost use Rattle.payoff_lang.specs.Compiled.{cut_code};
@@ -20,9 +20,9 @@ use payoff_compile::laws::{plain_code_is_writable, writable_terms_have_small_lit
 use payoff_compile::{compile, cut};
 use payoff_lang::{Code, CodeFile, print_code};
 use std::alloc::Global;
-use term_core::{instantiate, is_closed};
 use term_model::laws::{defaults_suit, settings_suit};
 use term_model::{Contr, Decls, Name, defaults};
+use term_core::{instantiate, is_closed};
 
 // Stops at a contract that is not accepted, or has no numbers for its templates.
 fn accept_sized(alloc: Global, decls: &Decls, c: &Contr) -> Result<(), BadRow>

@@ -8,7 +8,7 @@ use crate::bad_row::{Answer, BadRow};
 use crate::printing::{append, say_fault};
 use crate::words::{count, day, first_word, integer, scale};
 use contract_check::Facts;
-use contract_parse::{TextFault, TextKind};
+use contract_grammar::{TextFault, TextKind};
 use decimal::{GREATEST_MANTISSA, Mode, round_to, widen};
 use fixing_files::{RowFault, RowKind};
 use flow_eval::FlowRow;

@@ -3,7 +3,7 @@
 
 ghost use Rattle.std.specs.Prelude.{◌≤◌, length, All};
 ghost use Rattle.term_model.specs.Limits.{most_counted};
-ghost use Rattle.contract_print.specs.Writable.{IsWritableTerm};
+ghost use Rattle.contract_grammar.specs.Writable.{IsWritableTerm};
 ghost use Rattle.term_model.specs.Books.{book};
 
 use crate::bad_row::Answer;

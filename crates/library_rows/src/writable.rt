@@ -3,15 +3,15 @@
 ghost use Rattle.std.specs.Prelude.{◌≤◌, All, IsTrue, IfOk};
 ghost use Rattle.term_model.specs.Books.{book};
 ghost use Rattle.term_model.specs.Terms.{contract, expression};
-ghost use Rattle.contract_print.specs.Writable.{IsWritable, IsWritableContract, IsWritableTerm};
+ghost use Rattle.contract_grammar.specs.Writable.{IsWritable, IsWritableContract, IsWritableTerm};
 
 use crate::bad_row::{Answer, BadRow};
 use contract_print::{print_decls, print_portfolio};
 use decimal::{GREATEST_MANTISSA, NoMemory};
 use indexmap::IndexMap;
 use std::alloc::Global;
-use term_core::counts;
 use term_model::{Contr, Decls, Expr, Name, Portfolio};
+use term_core::counts;
 
 // Whether an expression can be printed under so many binders.
 fn is_writable(binders: u32, e: &Expr) -> bool

@@ -9,7 +9,7 @@ use Rattle.term_model.specs.Flows.{scale_of_contract}
 use Rattle.term_model.specs.Bounds.{aligned_total}
 use Rattle.term_model.specs.Sizes.{nodes_of_contract, height_of_contract, work_of_contract, reach}
 use Rattle.term_model.specs.Instances.{instance, declared_numbers}
-use Rattle.contract_print.specs.Writable.{IsWritableTerm}
+use Rattle.contract_grammar.specs.Writable.{IsWritableTerm}
 use Rattle.payoff_lang.specs.Code.{PayoffCode}
 use Rattle.payoff_lang.specs.Compiled.{code_of, cut_code}
 use Rattle.payoff_lang.specs.CodeSizes.{nodes_of_code, height_of_code, work_of_code, loop_days}

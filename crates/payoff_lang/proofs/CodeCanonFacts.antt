@@ -5,7 +5,7 @@ use Rattle.term_model.specs.Declarations.{Declarations}
 use Rattle.term_model.specs.Terms.{Contract}
 use Rattle.term_model.specs.Books.{Book}
 use Rattle.term_model.proofs.DateTextFacts.{texts_unique}
-use Rattle.contract_parse.specs.Words.{Bytes}
+use Rattle.contract_grammar.specs.Words.{Bytes}
 use Rattle.contract_print.specs.Canon.{IsOriginText, origin_text}
 use Rattle.contract_print.specs.Spellable.{IsSpellable}
 use Rattle.contract_print.proofs.DateExists.{canon_exists}

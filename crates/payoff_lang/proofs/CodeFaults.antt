@@ -1,17 +1,17 @@
 -- The first fault of bytes that are no text of a code file, and that a text of one has none.
 use Rattle.std.proofs.Common.{◌≡◌, ◌-◌, ℕ, Bool, false, List, ◌∷◌, length, cond, refl, subst, sym, ap, ◌∙◌}
 use Rattle.std.specs.Str.{IsUtf8}
-use Rattle.contract_parse.specs.Tokens.{Tok, tokens}
-use Rattle.contract_parse.specs.Words.{Bytes, is_the_word}
+use Rattle.contract_grammar.specs.Tokens.{Tok, tokens}
+use Rattle.contract_grammar.specs.Words.{Bytes, is_the_word}
 use Rattle.contract_parse.specs.Cursors.{IsNoUtf8, fault_at}
-use Rattle.contract_parse.specs.Names.{DeclaredNames, nothing_declared}
+use Rattle.contract_grammar.specs.Names.{DeclaredNames, nothing_declared}
 use Rattle.contract_parse.specs.Expecting.{Next, Expected, Refuse, Stops, TheWord, code_text_expected, run}
 use Rattle.contract_parse.specs.Reading.{Lacks}
-use Rattle.contract_parse.specs.Texts.{FirstTextFault, no_utf8, refused}
-use Rattle.contract_parse.specs.declared.heads.Language.{Language}
-use Rattle.contract_parse.specs.declared.faults.TextKind.{TextKind}
-use Rattle.contract_parse.specs.declared.faults.TextKind.TheVariants.{Syntax, Utf8}
-use Rattle.contract_parse.specs.declared.faults.TextFault.{TextFault}
+use Rattle.contract_parse.specs.TextFaults.{FirstTextFault, no_utf8, refused}
+use Rattle.contract_grammar.specs.declared.terms.Language.{Language}
+use Rattle.contract_grammar.specs.declared.faults.TextKind.{TextKind}
+use Rattle.contract_grammar.specs.declared.faults.TextKind.TheVariants.{Syntax, Utf8}
+use Rattle.contract_grammar.specs.declared.faults.TextFault.{TextFault}
 use Rattle.contract_parse.proofs.OneToken.{tail_same}
 use Rattle.contract_parse.proofs.Steps.{run-refuse}
 use Rattle.payoff_lang.specs.CodeBooks.{CodeBook}

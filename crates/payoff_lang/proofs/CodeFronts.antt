@@ -1,14 +1,14 @@
 -- A fault of bytes that are no text of a code file stands behind a front, and the tokens of a text of one are whole.
 use Rattle.std.proofs.Common.{◌≡◌, ℕ, List}
 use Rattle.std.specs.Str.{IsUtf8}
-use Rattle.contract_parse.specs.Tokens.{tokens}
+use Rattle.contract_grammar.specs.Tokens.{tokens}
 use Rattle.contract_parse.specs.Lines.{line_at, column_at}
 use Rattle.contract_parse.specs.Fronts.{IsWhole}
 use Rattle.contract_parse.specs.FrontLaws.{FaultyToken}
-use Rattle.contract_parse.specs.declared.heads.Language.{Language}
-use Rattle.contract_parse.specs.Texts.{FirstTextFault, no_utf8, refused}
-use Rattle.contract_parse.specs.declared.faults.TextKind.{TextKind}
-use Rattle.contract_parse.specs.declared.faults.TextFault.{TextFault}
+use Rattle.contract_grammar.specs.declared.terms.Language.{Language}
+use Rattle.contract_parse.specs.TextFaults.{FirstTextFault, no_utf8, refused}
+use Rattle.contract_grammar.specs.declared.faults.TextKind.{TextKind}
+use Rattle.contract_grammar.specs.declared.faults.TextFault.{TextFault}
 use Rattle.contract_parse.proofs.FrontRuns.{refusals_end_fronts, taken_texts_are_whole}
 use Rattle.payoff_lang.specs.CodeBooks.{CodeBook}
 use Rattle.payoff_lang.specs.CodeFiles.{CodeText}

@@ -2,13 +2,13 @@
 use Rattle.std.proofs.Common.{◌≡◌, ℕ, zero, suc, ℤ, ◌≤◌, Bool, true, false, Result, Ok, Err, List, ◌∷◌, refl, arith, unsigned_abs}
 use Rattle.decimal.specs.DecimalText.{signed}
 use Rattle.term_model.specs.declared.terms.NumOp.TheVariants.{Plus, Minus, Times, Min, Max}
-use Rattle.contract_parse.specs.Tokens.{Tok}
-use Rattle.contract_parse.specs.Words.{Bytes}
-use Rattle.contract_parse.specs.Names.{DeclaredNames}
-use Rattle.contract_parse.specs.Judgements.{date_number_at, integer_at, literal_at, signed_result}
-use Rattle.contract_parse.specs.declared.faults.TextKind.{TextKind}
+use Rattle.contract_grammar.specs.Tokens.{Tok}
+use Rattle.contract_grammar.specs.Words.{Bytes}
+use Rattle.contract_grammar.specs.Names.{DeclaredNames}
+use Rattle.contract_grammar.specs.Judgements.{date_number_at, integer_at, literal_at, signed_result}
+use Rattle.contract_grammar.specs.declared.faults.TextKind.{TextKind}
 use Rattle.contract_print.proofs.NumbersWithin.{integer_within, literal_within}
-use Rattle.contract_parse.proofs.TextClosed.{by_value}
+use Rattle.contract_grammar.proofs.TextClosed.{by_value}
 use Rattle.payoff_lang.specs.TemplateDates.{Date}
 use Rattle.payoff_lang.specs.Code.{ValueExpression, Lit, Yes, Var, Model, Neg, Num, Cmp, Not, Logic, Cond, Widen, Round, Div, Acc, PayoffCode, Nothing, PayOn, Add, ScaleBy, LetBe, Loop, Cut}
 use Rattle.payoff_lang.specs.CodeSpelling.{DatePart, code_part, value_part}

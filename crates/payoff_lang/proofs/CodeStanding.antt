@@ -2,12 +2,12 @@
 use Rattle.std.proofs.Common.{ℕ, List, [], ◌∷◌, ◌++◌, subst}
 use Rattle.std.specs.Prelude.{codes}
 use Rattle.term_model.specs.Declarations.{Declarations}
-use Rattle.contract_parse.specs.Tokens.{Tok}
-use Rattle.contract_parse.specs.Words.{Bytes}
-use Rattle.contract_parse.specs.Names.{DeclaredNames}
-use Rattle.contract_parse.specs.Judgements.{binder_at, new_at, use_at}
-use Rattle.contract_parse.specs.Spelling.{Part, SomeName, ◌⨟◌, mark, pair, valued, word}
-use Rattle.contract_parse.specs.Statements.{decls}
+use Rattle.contract_grammar.specs.Tokens.{Tok}
+use Rattle.contract_grammar.specs.Words.{Bytes}
+use Rattle.contract_grammar.specs.Names.{DeclaredNames}
+use Rattle.contract_grammar.specs.Judgements.{binder_at, new_at, use_at}
+use Rattle.contract_grammar.specs.Spelling.{Part, SomeName, ◌⨟◌, mark, pair, valued, word}
+use Rattle.contract_grammar.specs.Statements.{decls}
 use Rattle.contract_parse.proofs.LastTokens.{decls_end}
 use Rattle.payoff_lang.specs.TemplateDates.{Date}
 use Rattle.payoff_lang.specs.Code.{ValueExpression, PayoffCode, Nothing, PayOn, Add, ScaleBy, LetBe, Loop, Cut}

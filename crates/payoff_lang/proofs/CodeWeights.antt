@@ -2,15 +2,15 @@
 use Rattle.std.proofs.Common.{ℕ, ◌+◌, ◌≤◌, ◌<◌, List, [], ◌∷◌, length, arith}
 use Rattle.std.specs.Prelude.{codes}
 use Rattle.term_model.specs.Sizes.{nodes}
-use Rattle.contract_parse.specs.Tokens.{Tok, tokens}
-use Rattle.contract_parse.specs.Words.{Bytes}
-use Rattle.contract_parse.specs.Names.{DeclaredNames}
-use Rattle.contract_parse.specs.Judgements.{binder_at, is_version, new_at, use_at}
-use Rattle.contract_parse.specs.Spelling.{one}
-use Rattle.contract_parse.specs.Laws.{NamesFit}
-use Rattle.contract_parse.specs.declared.heads.Language.{Language}
-use Rattle.contract_parse.proofs.Weights.{AtLeast, ◌▹◌, close_least, comma_least, date_least, expr_least, lighter, mark_least, open_least, value_least, weight, weight_tokens, word_least}
-use Rattle.contract_parse.proofs.TextSizes.{decls_weigh}
+use Rattle.contract_grammar.specs.Tokens.{Tok, tokens}
+use Rattle.contract_grammar.specs.Words.{Bytes}
+use Rattle.contract_grammar.specs.Names.{DeclaredNames}
+use Rattle.contract_grammar.specs.Judgements.{binder_at, is_version, new_at, use_at}
+use Rattle.contract_grammar.specs.Spelling.{one}
+use Rattle.contract_grammar.specs.TextLaws.{NamesFit}
+use Rattle.contract_grammar.specs.declared.terms.Language.{Language}
+use Rattle.contract_grammar.proofs.Weights.{AtLeast, ◌▹◌, close_least, comma_least, date_least, expr_least, lighter, mark_least, open_least, value_least, weight, weight_tokens, word_least}
+use Rattle.contract_grammar.proofs.TextSizes.{decls_weigh}
 use Rattle.payoff_lang.specs.TemplateDates.{Date}
 use Rattle.payoff_lang.specs.Code.{ValueExpression, PayoffCode, Nothing, PayOn, Add, ScaleBy, LetBe, Loop, Cut}
 use Rattle.payoff_lang.specs.Dating.{undated}

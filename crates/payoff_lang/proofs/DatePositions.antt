@@ -2,10 +2,10 @@
 -- dates, an expression is the only one that is spelled by its tokens.
 use Rattle.std.specs.Prelude.{◌-◌, ℕ, ℤ, pos, negsuc, false, true, List, [], ◌∷◌, Option, Some, None, codes, drop, length, if◌then◌else◌}
 use Rattle.decimal.specs.DecimalText.{signed}
-use Rattle.contract_parse.specs.Tokens.{Tok, tokens}
-use Rattle.contract_parse.specs.Words.{Bytes, is_the_mark}
-use Rattle.contract_parse.specs.Names.{index_in}
-use Rattle.contract_parse.specs.Judgements.{whole}
+use Rattle.contract_grammar.specs.Tokens.{Tok, tokens}
+use Rattle.contract_grammar.specs.Words.{Bytes, is_the_mark}
+use Rattle.contract_grammar.specs.Names.{index_in}
+use Rattle.contract_grammar.specs.Judgements.{whole}
 use Rattle.payoff_lang.specs.TemplateDates.{Date, insert_names}
 
 -- the number of the first token

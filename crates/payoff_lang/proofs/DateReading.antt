@@ -3,15 +3,15 @@ use Rattle.std.proofs.Common.{◌≡◌, ◌∙◌, ℕ, ℤ, Bool, true, false,
 use Rattle.std.specs.Prelude.{codes, nat_le}
 use Rattle.std.proofs.lemmas.Bool.{cases_Bool}
 use Rattle.decimal.specs.DecimalText.{signed}
-use Rattle.contract_parse.specs.Tokens.{Tok}
-use Rattle.contract_parse.specs.Words.{Bytes, is_integer, is_name, is_the_mark}
-use Rattle.contract_parse.specs.Names.{DeclaredNames, index_in}
-use Rattle.contract_parse.specs.Judgements.{date_number_at, or_fault, use_at, whole}
-use Rattle.contract_parse.specs.Spelling.{◌⨟◌, mark, sign, templates_part, valued}
+use Rattle.contract_grammar.specs.Tokens.{Tok}
+use Rattle.contract_grammar.specs.Words.{Bytes, is_integer, is_name, is_the_mark}
+use Rattle.contract_grammar.specs.Names.{DeclaredNames, index_in}
+use Rattle.contract_grammar.specs.Judgements.{date_number_at, or_fault, use_at, whole}
+use Rattle.contract_grammar.specs.Spelling.{◌⨟◌, mark, sign, templates_part, valued}
 use Rattle.contract_parse.specs.Reading.{LacksMark}
-use Rattle.contract_parse.specs.declared.faults.TextKind.TheVariants.{Unknown}
-use Rattle.contract_parse.proofs.Passing.{number_no_mark}
-use Rattle.contract_parse.proofs.TermsTaken.{number_of_date}
+use Rattle.contract_grammar.specs.declared.faults.TextKind.TheVariants.{Unknown}
+use Rattle.contract_grammar.proofs.TokenKinds.{number_no_mark}
+use Rattle.contract_grammar.proofs.TokenKinds.{number_of_date}
 use Rattle.payoff_lang.specs.TemplateDates.{Date, insert_names}
 use Rattle.payoff_lang.specs.CodeSpelling.{DatePart}
 use Rattle.payoff_lang.proofs.DatePositions.{behind_days, date_first, days_first, or_first, templates_first}

@@ -2,11 +2,11 @@
 -- value expression may.
 use Rattle.std.proofs.Common.{◌≡◌, ◌∙◌, ℕ, suc, pos, true, false, List, [], ◌∷◌, ◌++◌, length, Option, Some, None, refl, ap, ap₂, append_assoc, arith}
 use Rattle.std.specs.Prelude.{slice_get}
-use Rattle.contract_parse.specs.Names.{DeclaredNames}
+use Rattle.contract_grammar.specs.Names.{DeclaredNames}
 use Rattle.term_model.specs.Sizes.{height}
 use Rattle.term_model.specs.Terms.{Expression}
 use Rattle.contract_print.specs.TermTexts.{expr_text}
-use Rattle.contract_print.specs.Writable.{IsWritable}
+use Rattle.contract_grammar.specs.Writable.{IsWritable}
 use Rattle.payoff_lang.specs.TemplateDates.{Date}
 use Rattle.payoff_lang.specs.Dating.{undated}
 use Rattle.payoff_lang.specs.Code.{ValueExpression, Lit, Yes, Var, Model, Neg, Num, Cmp, Not, Logic, Cond, Widen, Round, Div, Acc}

@@ -7,7 +7,7 @@ use Rattle.term_model.specs.declared.terms.NumOp.TheVariants.{Plus, Max}
 use Rattle.term_model.specs.declared.terms.CmpOp.TheVariants.{Unequal}
 use Rattle.term_model.specs.declared.terms.LogicOp.TheVariants.{And}
 use Rattle.term_model.specs.DayCounts.{Num as Count, Named}
-use Rattle.contract_parse.specs.Names.{DeclaredNames}
+use Rattle.contract_grammar.specs.Names.{DeclaredNames}
 use Rattle.contract_print.specs.TermTexts.{◌⊕◌}
 use Rattle.contract_print.specs.Canon.{amounts_text, line, start_text}
 use Rattle.payoff_lang.specs.Code.{Lit, Yes, Var, Model, Neg, Num, Cmp, Not, Logic, Cond, Widen, Div, Acc, Nothing, PayOn, ScaleBy, LetBe}

@@ -1,11 +1,11 @@
 -- Parts that stand in a text: where one stands, another does, and what follows stands in the text too.
 use Rattle.std.proofs.Common.{ℕ, ℤ, Bool, true, false, Result, List, [], ◌∷◌, ◌≡◌, subst}
 use Rattle.std.specs.Prelude.{codes}
-use Rattle.contract_parse.specs.Tokens.{Tok}
-use Rattle.contract_parse.specs.Words.{Bytes, is_the_mark, is_the_word}
-use Rattle.contract_parse.specs.Judgements.{date_number_at, use_at}
-use Rattle.contract_parse.specs.Spelling.{Part, Signed, ◌⨟◌, dated_part, mark, nothing, one, sign, templates_part, valued, word}
-use Rattle.contract_parse.specs.declared.faults.TextKind.{TextKind}
+use Rattle.contract_grammar.specs.Tokens.{Tok}
+use Rattle.contract_grammar.specs.Words.{Bytes, is_the_mark, is_the_word}
+use Rattle.contract_grammar.specs.Judgements.{date_number_at, use_at}
+use Rattle.contract_grammar.specs.Spelling.{Part, Signed, ◌⨟◌, dated_part, mark, nothing, one, sign, templates_part, valued, word}
+use Rattle.contract_grammar.specs.declared.faults.TextKind.{TextKind}
 use Rattle.payoff_lang.proofs.TokensStand.{StandsIn}
 
 -- where the one part stands, the other does, and what follows stands in the text too

@@ -3,8 +3,8 @@
 use Rattle.std.proofs.Common.{◌≡◌, ℕ, zero, suc, ◌-◌, ◌≤◌, Bool, true, false, cond, List, [], ◌∷◌, length, drop, refl, sym, ap, ◌∙◌, subst, arith, inl, inr}
 use Rattle.std.specs.Prelude.{◌==◌, not}
 use Rattle.std.proofs.lemmas.Bool.{cases_Bool}
-use Rattle.contract_parse.specs.Tokens.{Tok, after_gap, extent_at, is_blank, is_last, next_lexeme, token_at, tokens}
-use Rattle.contract_parse.proofs.TokenFacts.{shorter, tokens_next}
+use Rattle.contract_grammar.specs.Tokens.{Tok, after_gap, extent_at, is_blank, is_last, next_lexeme, token_at, tokens}
+use Rattle.contract_grammar.proofs.TokenFacts.{shorter, tokens_next}
 use Rattle.contract_parse.proofs.TokenPositions.{behind, behind_rest, rest_position, start, start_rest}
 
 abbrev pub StandsIn : List ℕ → List Tok → Type 0

@@ -1,9 +1,9 @@
 -- What is answered to bytes that should be the text of a code file: the file, or, just where the bytes are no such text,
 -- their first fault.
 use Rattle.std.specs.Prelude.{ℕ, List, Result, Ok, Err}
-use Rattle.contract_parse.specs.Texts.{IsTextFault}
-use Rattle.contract_parse.specs.declared.heads.Language.{Language}
-use Rattle.contract_parse.specs.declared.faults.TextFault.{TextFault}
+use Rattle.contract_parse.specs.TextFaults.{IsTextFault}
+use Rattle.contract_grammar.specs.declared.terms.Language.{Language}
+use Rattle.contract_grammar.specs.declared.faults.TextFault.{TextFault}
 use Rattle.contract_parse.specs.declared.faults.ParseErr.{ParseErr}
 use Rattle.contract_parse.specs.declared.faults.ParseErr.TheVariants as err
 use Rattle.payoff_lang.specs.declared.code_file.CodeFile.{CodeFile}

@@ -1,8 +1,8 @@
 -- The canonical text of a code file: each statement is a line. `IsCanonOfCode` says that bytes are it; it is over the text
 -- of the origin's date, since no function leads from days to dates.
 use Rattle.std.specs.Prelude.{◌≡◌, ◌++◌, codes}
-use Rattle.contract_parse.specs.Words.{Bytes}
-use Rattle.contract_parse.specs.Names.{DeclaredNames}
+use Rattle.contract_grammar.specs.Words.{Bytes}
+use Rattle.contract_grammar.specs.Names.{DeclaredNames}
 use Rattle.contract_print.specs.TermTexts.{◌⊕◌}
 use Rattle.contract_print.specs.Canon.{IsOriginText, decls_text, line}
 use Rattle.payoff_lang.specs.Code.{PayoffCode}

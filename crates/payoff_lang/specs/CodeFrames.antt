@@ -1,7 +1,7 @@
 -- Amounts of payoff code and their values where they stand.
 use Rattle.std.specs.Prelude.{◌+◌, List}
-use Rattle.contract_parse.specs.Names.{DeclaredNames}
-use Rattle.contract_parse.specs.Spelling.{Part}
+use Rattle.contract_grammar.specs.Names.{DeclaredNames}
+use Rattle.contract_grammar.specs.Spelling.{Part}
 use Rattle.contract_parse.specs.Frames.{names_at}
 use Rattle.contract_parse.specs.Expecting.{AmountAt, Expected}
 use Rattle.contract_parse.specs.declared.frame.Frame.{Frame}

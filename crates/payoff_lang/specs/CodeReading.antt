@@ -1,13 +1,13 @@
 -- What the readers of payoff code make of a text. The dates of an expression are put into a list, and an expression that
 -- is read as one of code has for the offset of each observable the index of its date.
 use Rattle.std.specs.Prelude.{◌≡◌, ℕ, ℤ, pos, negsuc, List, [], ◌∷◌, ◌++◌, Some, None, codes, map, slice_get}
-use Rattle.contract_parse.specs.Tokens.{Tok}
-use Rattle.contract_parse.specs.Words.{Bytes}
+use Rattle.contract_grammar.specs.Tokens.{Tok}
+use Rattle.contract_grammar.specs.Words.{Bytes}
 use Rattle.contract_parse.specs.Heads.{BeginsAmount}
 use Rattle.term_model.specs.declared.decls.Decls.{Decls}
-use Rattle.contract_parse.specs.Names.{BoundNames, DeclaredNames, names_in}
-use Rattle.contract_parse.specs.Judgements.{use_at}
-use Rattle.contract_parse.specs.Spelling.{Leaf, Part, ◌⨟◌, mark, pair, templates_part, valued, word}
+use Rattle.contract_grammar.specs.Names.{BoundNames, DeclaredNames, names_in}
+use Rattle.contract_grammar.specs.Judgements.{use_at}
+use Rattle.contract_grammar.specs.Spelling.{Leaf, Part, ◌⨟◌, mark, pair, templates_part, valued, word}
 use Rattle.contract_parse.specs.Expecting.{Expected, amount_expected}
 use Rattle.contract_parse.specs.Reading.{declared_in}
 use Rattle.contract_parse.specs.declared.heads.AmountHead.{AmountHead}

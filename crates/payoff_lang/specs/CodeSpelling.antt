@@ -2,12 +2,12 @@
 -- the names that a text declares come with the part, and bound names are listed innermost first.
 use Rattle.std.specs.Prelude.{◌≡◌, ℕ, true, false, List, [], ◌∷◌, codes}
 use Rattle.term_model.specs.declared.terms.NumOp.TheVariants.{Min, Max}
-use Rattle.contract_parse.specs.Tokens.{Tok}
-use Rattle.contract_parse.specs.Words.{Bytes}
-use Rattle.contract_parse.specs.Names.{DeclaredNames}
-use Rattle.contract_parse.specs.Judgements.{binder_at, integer_at, literal_at, mode_at, operator_at, use_at, variable_at}
-use Rattle.contract_parse.specs.Spelling.{Part, Signed, SomeName, ◌⨟◌, dated_part, infixed, mark, pair, valued, word}
-use Rattle.contract_parse.specs.declared.heads.Operator.TheVariants.{Arithmetic, Comparison, Logic as Connective}
+use Rattle.contract_grammar.specs.Tokens.{Tok}
+use Rattle.contract_grammar.specs.Words.{Bytes}
+use Rattle.contract_grammar.specs.Names.{DeclaredNames}
+use Rattle.contract_grammar.specs.Judgements.{binder_at, integer_at, literal_at, mode_at, operator_at, use_at, variable_at}
+use Rattle.contract_grammar.specs.Spelling.{Part, Signed, SomeName, ◌⨟◌, dated_part, infixed, mark, pair, valued, word}
+use Rattle.contract_grammar.specs.declared.terms.Operator.TheVariants.{Arithmetic, Comparison, Logic as Connective}
 use Rattle.payoff_lang.specs.TemplateDates.{Date, insert_names}
 use Rattle.payoff_lang.specs.Code.{ValueExpression, Lit, Yes, Var, Model, Neg, Num, Cmp, Not, Logic, Cond, Widen, Round, Div, Acc, PayoffCode, Nothing, PayOn, Add, ScaleBy, LetBe, Loop, Cut}
 

@@ -2,14 +2,14 @@
 -- than the text.
 use Rattle.std.specs.Prelude.{◌≡◌, ◌≤◌, ◌<◌, List, ℕ, [], length}
 use Rattle.std.specs.Str.{IsUtf8}
-use Rattle.contract_parse.specs.Tokens.{tokens}
-use Rattle.contract_parse.specs.Names.{nothing_declared}
+use Rattle.contract_grammar.specs.Tokens.{tokens}
+use Rattle.contract_grammar.specs.Names.{nothing_declared}
 use Rattle.contract_parse.specs.Expecting.{Open, code_text_expected, run}
-use Rattle.contract_parse.specs.Laws.{NamesFit}
+use Rattle.contract_grammar.specs.TextLaws.{NamesFit}
 use Rattle.contract_parse.specs.Fronts.{IsWhole}
 use Rattle.contract_parse.specs.FrontLaws.{FaultyToken}
-use Rattle.contract_parse.specs.declared.heads.Language.{Language}
-use Rattle.contract_parse.specs.declared.faults.TextFault.{TextFault}
+use Rattle.contract_grammar.specs.declared.terms.Language.{Language}
+use Rattle.contract_grammar.specs.declared.faults.TextFault.{TextFault}
 use Rattle.payoff_lang.specs.CodeBooks.{CodeBook}
 use Rattle.payoff_lang.specs.CodeFiles.{CodeText}
 use Rattle.payoff_lang.specs.CodeAnswers.{IsCodeFault}

@@ -1,7 +1,7 @@
 -- The laws of the canonical texts of code.
 use Rattle.std.specs.Prelude.{ℕ, ◌≡◌, ◌+◌, ◌≤◌, List, []}
 use Rattle.term_model.specs.Declarations.{Declarations}
-use Rattle.contract_parse.specs.Names.{DeclaredNames}
+use Rattle.contract_grammar.specs.Names.{DeclaredNames}
 use Rattle.contract_print.specs.TermTexts.{expr_text}
 use Rattle.contract_print.specs.Spellable.{AreSpellable}
 use Rattle.contract_print.specs.Spelled.{Spells, bound_names, stops}

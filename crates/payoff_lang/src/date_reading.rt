@@ -2,7 +2,7 @@
 
 ghost use Rattle.std.specs.Prelude.{◌≤◌, ◌∷◌, IfOk, codes, length};
 ghost use Rattle.indexmap.specs.IndexMap.{keys};
-ghost use Rattle.contract_parse.specs.Tokens.{tokens};
+ghost use Rattle.contract_grammar.specs.Tokens.{tokens};
 ghost use Rattle.contract_parse.specs.Expecting.{MoreTemplates, date_expected};
 ghost use Rattle.contract_parse.specs.Reading.{LacksMark};
 ghost use Rattle.contract_parse.specs.Readers.{Passes, Reads};

@@ -1,8 +1,8 @@
 -- The line of a fault: `fault` and what kept the command from its answer.
 use Rattle.std.specs.Prelude.{ℕ, ℤ, List, [], ◌++◌, codes}
-use Rattle.contract_parse.specs.declared.faults.TextFault.{TextFault}
-use Rattle.contract_parse.specs.declared.faults.TextKind.{TextKind}
-use Rattle.contract_parse.specs.declared.faults.TextKind.TheVariants.{Syntax, Number, Date, Deep, Range, Twice, Unknown, Utf8}
+use Rattle.contract_grammar.specs.declared.faults.TextFault.{TextFault}
+use Rattle.contract_grammar.specs.declared.faults.TextKind.{TextKind}
+use Rattle.contract_grammar.specs.declared.faults.TextKind.TheVariants.{Syntax, Number, Date, Deep, Range, Twice, Unknown, Utf8}
 use Rattle.decimal.specs.Text.{text_of}
 use Rattle.report.specs.Pieces.{number_text}
 use Rattle.report.specs.CheckLines.{refusal_text, line_feed}

@@ -9,7 +9,7 @@ ghost use Rattle.report.specs.FaultLines.{refused_text, row_fault_text, row_text
 
 use crate::check_lines::rule_word;
 use crate::pieces::{Piece, append, whole};
-use contract_parse::{TextFault, TextKind};
+use contract_grammar::{TextFault, TextKind};
 use decimal::NoMemory;
 use fixing_files::{RowFault, RowKind};
 use std::alloc::Global;

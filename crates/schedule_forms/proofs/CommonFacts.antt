@@ -1,17 +1,17 @@
 -- What portfolios expect too, if it is one token: what is read there is taken or refused as in a portfolio.
 use Rattle.std.proofs.Common.{◌≡◌, ℕ, Bool, true, false, cond, List, [], ◌∷◌, ◌++◌, ◌⊎◌, Some, Result, Ok, Err, refl, ap, ◌∙◌, inl, inr}
-use Rattle.contract_parse.specs.Tokens.{Tok, tokens}
-use Rattle.contract_parse.specs.Words.{Bytes}
-use Rattle.contract_parse.specs.Names.{DeclaredNames, nothing_declared, with_names}
-use Rattle.contract_parse.specs.Judgements.{new_at}
-use Rattle.contract_parse.specs.declared.names.NameSet.{NameSet}
-use Rattle.contract_parse.specs.declared.names.NameSet.TheVariants.{Contract}
-use Rattle.contract_parse.specs.Spelling.{Part, one, valued}
+use Rattle.contract_grammar.specs.Tokens.{Tok, tokens}
+use Rattle.contract_grammar.specs.Words.{Bytes}
+use Rattle.contract_grammar.specs.Names.{DeclaredNames, nothing_declared, with_names}
+use Rattle.contract_grammar.specs.Judgements.{new_at}
+use Rattle.contract_grammar.specs.declared.names.NameSet.{NameSet}
+use Rattle.contract_grammar.specs.declared.names.NameSet.TheVariants.{Contract}
+use Rattle.contract_grammar.specs.Spelling.{Part, one, valued}
 use Rattle.contract_parse.specs.Expecting.{AnyTokens, NewIn, Expected, Stops, run, step}
 use Rattle.contract_parse.specs.Expecting as common
 use Rattle.contract_parse.specs.Readers.{Declares, ForEach, PassesAnywhere, Reads}
-use Rattle.contract_parse.specs.declared.faults.TextKind.{TextKind}
-use Rattle.contract_parse.specs.declared.faults.TextKind.TheVariants.{Syntax}
+use Rattle.contract_grammar.specs.declared.faults.TextKind.{TextKind}
+use Rattle.contract_grammar.specs.declared.faults.TextKind.TheVariants.{Syntax}
 use Rattle.contract_parse.specs.declared.faults.Refusal.{Refusal}
 use Rattle.contract_parse.specs.declared.faults.PartErr.{PartErr}
 use Rattle.contract_parse.specs.declared.faults.PartErr.TheVariants.{Refused, NoMemory}

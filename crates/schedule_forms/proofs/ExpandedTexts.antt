@@ -10,11 +10,11 @@ use Rattle.std.proofs.lemmas.Simd.{map-map}
 use Rattle.term_model.specs.Declarations.{Declarations}
 use Rattle.term_model.specs.Limits.{is_a_version}
 use Rattle.term_model.specs.Terms.{Contract}
-use Rattle.contract_parse.specs.Tokens.{Tok, tokens}
-use Rattle.contract_parse.specs.Words.{Bytes}
-use Rattle.contract_parse.specs.Versions.{Version, version_of}
-use Rattle.contract_parse.specs.Judgements.{integer_at, is_version, literal_at, mode_at, use_at}
-use Rattle.contract_parse.specs.Statements.{Entry}
+use Rattle.contract_grammar.specs.Tokens.{Tok, tokens}
+use Rattle.contract_grammar.specs.Words.{Bytes}
+use Rattle.contract_grammar.specs.Versions.{Version, version_of}
+use Rattle.contract_grammar.specs.Judgements.{integer_at, is_version, literal_at, mode_at, use_at}
+use Rattle.contract_grammar.specs.Statements.{Entry}
 use Rattle.contract_print.specs.Spellable.{AreSpellable, ContractHasNumbersOfTexts, HasNumbersOfTexts, IsSpellable, are_names}
 use Rattle.contract_print.proofs.TextSpellable.{AreEntries, LineIs, decls_is, entry_goes, new_then, repeat_goes, three_keep}
 use Rattle.contract_print.proofs.WordTexts.{words_are_words}

@@ -5,18 +5,18 @@ use Rattle.std.specs.Prelude.{codes}
 use Rattle.std.proofs.Common.{Err, Some, ◌≡◌, ◌-◌, ◌++◌, ℕ, length, List, [], ◌∷◌, refl, ap, sym, subst, ◌∙◌}
 use Rattle.std.proofs.lemmas.List.{append_cancel_left}
 use Rattle.term_model.specs.Declarations.{Declarations}
-use Rattle.contract_parse.specs.Tokens.{Tok, tokens}
+use Rattle.contract_grammar.specs.Tokens.{Tok, tokens}
 use Rattle.contract_parse.specs.Cursors.{IsNoUtf8, fault_at}
 use Rattle.contract_parse.specs.Lines.{line_at, column_at}
-use Rattle.contract_parse.specs.declared.faults.TextKind.{TextKind}
-use Rattle.contract_parse.specs.declared.faults.TextKind.TheVariants.{Utf8}
-use Rattle.contract_parse.specs.declared.faults.TextFault.{TextFault}
-use Rattle.contract_parse.specs.Words.{Bytes, is_end, is_the_mark, is_the_word}
-use Rattle.contract_parse.specs.Versions.{version_of}
-use Rattle.contract_parse.specs.Names.{DeclaredNames, declared_by, nothing_declared, nothing_in}
-use Rattle.contract_parse.specs.Judgements.{is_version}
-use Rattle.contract_parse.specs.Spelling.{mark, one, ◌⨟◌}
-use Rattle.contract_parse.specs.Statements.{decls}
+use Rattle.contract_grammar.specs.declared.faults.TextKind.{TextKind}
+use Rattle.contract_grammar.specs.declared.faults.TextKind.TheVariants.{Utf8}
+use Rattle.contract_grammar.specs.declared.faults.TextFault.{TextFault}
+use Rattle.contract_grammar.specs.Words.{Bytes, is_end, is_the_mark, is_the_word}
+use Rattle.contract_grammar.specs.Versions.{version_of}
+use Rattle.contract_grammar.specs.Names.{DeclaredNames, declared_by, nothing_declared, nothing_in}
+use Rattle.contract_grammar.specs.Judgements.{is_version}
+use Rattle.contract_grammar.specs.Spelling.{mark, one, ◌⨟◌}
+use Rattle.contract_grammar.specs.Statements.{decls}
 use Rattle.contract_parse.proofs.Steps.{run-refuse}
 use Rattle.contract_parse.proofs.Passing.{mark_taken, run-end, test_taken, word_taken}
 use Rattle.contract_parse.proofs.LinesTaken.{Heads, decls_taken_before}
@@ -24,7 +24,7 @@ use Rattle.schedule_forms.proofs.Standing.{AllStand, decls_stand, one_decls_to, 
 use Rattle.contract_parse.proofs.OneToken.{one_one}
 use Rattle.contract_parse.proofs.OneSplit.{one_split}
 use Rattle.contract_parse.proofs.TokenOrder.{any_taken}
-use Rattle.contract_parse.specs.declared.faults.TextKind.TheVariants.{Syntax}
+use Rattle.contract_grammar.specs.declared.faults.TextKind.TheVariants.{Syntax}
 use Rattle.contract_parse.specs.Expecting.{AnyTokens, Fails, Expected, Stops, TheEnd, decls_expected, run}
 use Rattle.contract_parse.specs.declared.faults.Refusal.{Refusal}
 use Rattle.contract_parse.specs.declared.faults.PartErr.{PartErr}

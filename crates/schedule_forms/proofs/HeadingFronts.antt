@@ -2,19 +2,19 @@
 -- taken just where a front goes on with them, or refused, or no token of theirs.
 use Rattle.std.proofs.Common.{◌≡◌, ℕ, ℤ, Bool, true, false, cond, Option, Some, None, Result, Ok, Err, List, [], ◌∷◌, ◌++◌, refl, sym, ap, ◌∙◌, subst}
 use Rattle.std.specs.Prelude.{codes}
-use Rattle.contract_parse.specs.Tokens.{Tok}
-use Rattle.contract_parse.specs.Words.{Bytes, is_date, is_integer, is_name, is_number, is_the_mark, is_the_word}
-use Rattle.contract_parse.specs.Versions.{One, Two}
-use Rattle.contract_parse.specs.Names.{DeclaredNames, names_of, with_names}
-use Rattle.contract_parse.specs.Judgements.{bound_at, integer_at, is_version, new_at, origin_at, separator_at}
+use Rattle.contract_grammar.specs.Tokens.{Tok}
+use Rattle.contract_grammar.specs.Words.{Bytes, is_date, is_integer, is_name, is_number, is_the_mark, is_the_word}
+use Rattle.contract_grammar.specs.Versions.{One, Two}
+use Rattle.contract_grammar.specs.Names.{DeclaredNames, names_of, with_names}
+use Rattle.contract_grammar.specs.Judgements.{bound_at, integer_at, is_version, new_at, origin_at, separator_at}
 use Rattle.contract_parse.specs.Forms.{Part, Terminal, Nonterminal, Optional, Repeated, Form, at_token, empty}
 use Rattle.contract_parse.specs.Fronts.{Declared, Declaration}
 use Rattle.contract_parse.specs.Expecting.{Expected, TheWord, TheMark, TheVersion, IntegerAt, AmountsAt, OriginDate, OriginLine, StartLine, NameLines, AssetLines, LabelLines, TemplateLines, NewIn, MoreNames, DecimalsAt, MoreAssets, ScaleAt, BoundAt, BoundNumber, Step, Next, Refuse, asset_expected, bound_expected, flag_expected, judged, line_expected, list_expected, number_label_expected, range_expected, step, template_expected}
-use Rattle.contract_parse.specs.declared.names.NameSet.TheVariants.{Party}
-use Rattle.contract_parse.specs.declared.faults.TextKind.{TextKind}
-use Rattle.contract_parse.specs.declared.faults.TextKind.TheVariants as kind
-use Rattle.contract_parse.specs.declared.token.LexemeKind.TheVariants.{Word}
-use Rattle.contract_parse.proofs.Passing.{of_mark, of_word}
+use Rattle.contract_grammar.specs.declared.names.NameSet.TheVariants.{Party}
+use Rattle.contract_grammar.specs.declared.faults.TextKind.{TextKind}
+use Rattle.contract_grammar.specs.declared.faults.TextKind.TheVariants as kind
+use Rattle.contract_grammar.specs.declared.token.LexemeKind.TheVariants.{Word}
+use Rattle.contract_grammar.proofs.TokenKinds.{of_mark, of_word}
 use Rattle.contract_parse.proofs.FrontTakes.{Bars, Takes, barred, bars, one_bars, one_takes, optional_takes, repeated_takes, rests, symbol_bars, symbol_takes}
 use Rattle.contract_parse.proofs.FrontExpecting.{all_parts, bound_formed, formed, integer_formed, new_formed, origin_formed}
 use Rattle.contract_parse.proofs.FrontChoices.{either}

@@ -1,11 +1,11 @@
 -- What a list of tokens makes of the first line and the declarations of a schedule file, whatever is expected behind them.
 use Rattle.std.proofs.Common.{◌≡◌, ℕ, List, [], ◌∷◌, ◌++◌, refl, ap, ◌∙◌}
-use Rattle.contract_parse.specs.Tokens.{Tok}
-use Rattle.contract_parse.specs.Names.{DeclaredNames}
+use Rattle.contract_grammar.specs.Tokens.{Tok}
+use Rattle.contract_grammar.specs.Names.{DeclaredNames}
 use Rattle.contract_parse.specs.Forms.{Form, Whole, Front, empty}
 use Rattle.contract_parse.specs.Expecting.{Expected, Next, Open, Stops, run, step}
-use Rattle.contract_parse.specs.declared.faults.TextKind.{TextKind}
-use Rattle.contract_parse.specs.declared.faults.TextKind.TheVariants as kind
+use Rattle.contract_grammar.specs.declared.faults.TextKind.{TextKind}
+use Rattle.contract_grammar.specs.declared.faults.TextKind.TheVariants as kind
 use Rattle.contract_parse.proofs.Passing.{run-end}
 use Rattle.contract_parse.proofs.Steps.{run-next, run-refuse, run-same}
 use Rattle.contract_parse.proofs.FrontTakes.{Takes}

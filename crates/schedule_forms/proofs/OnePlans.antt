@@ -6,11 +6,11 @@ use Rattle.std.proofs.lemmas.Bool.{false≢true}
 use Rattle.decimal.specs.declared.Mode.{Mode}
 use Rattle.decimal.specs.declared.Decimal.{Decimal}
 use Rattle.term_model.specs.Declarations.{Declarations}
-use Rattle.contract_parse.specs.Tokens.{Tok, tokens}
-use Rattle.contract_parse.specs.Words.{Bytes, is_number, is_the_word}
-use Rattle.contract_parse.specs.Judgements.{integer_at, literal_at, mode_at, use_at}
-use Rattle.contract_parse.specs.Spelling.{end, valued, word, ◌⨟◌}
-use Rattle.contract_parse.specs.Statements.{Entry, Repeat}
+use Rattle.contract_grammar.specs.Tokens.{Tok, tokens}
+use Rattle.contract_grammar.specs.Words.{Bytes, is_number, is_the_word}
+use Rattle.contract_grammar.specs.Judgements.{integer_at, literal_at, mode_at, use_at}
+use Rattle.contract_grammar.specs.Spelling.{end, valued, word, ◌⨟◌}
+use Rattle.contract_grammar.specs.Statements.{Entry, Repeat}
 use Rattle.contract_parse.specs.Reading.{Lacks}
 use Rattle.contract_parse.proofs.LinesTaken.{Heads}
 use Rattle.contract_parse.proofs.OneTerm.{other_words}

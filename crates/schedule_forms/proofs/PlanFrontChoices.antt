@@ -1,10 +1,10 @@
 -- What one token makes of what may stand in a schedule file.
 use Rattle.std.proofs.Common.{◌≡◌, List, [], ◌∷◌, inl, inr, map}
-use Rattle.contract_parse.specs.Tokens.{Tok}
+use Rattle.contract_grammar.specs.Tokens.{Tok}
 use Rattle.contract_parse.specs.Forms.{Terminal, Nonterminal, Optional, Repeated, Form, Whole, absent, done, enough, Front, beyond}
 use Rattle.contract_parse.specs.Fronts.{Symbol, text_forms}
-use Rattle.contract_parse.specs.declared.faults.TextKind.{TextKind}
-use Rattle.contract_parse.specs.declared.faults.TextKind.TheVariants as kind
+use Rattle.contract_grammar.specs.declared.faults.TextKind.{TextKind}
+use Rattle.contract_grammar.specs.declared.faults.TextKind.TheVariants as kind
 use Rattle.contract_parse.proofs.FrontFacts.{of_optional, of_repeated}
 use Rattle.contract_parse.proofs.FrontTakes.{Bars, BeginWithTokens, Takes, rests, symbol_bars}
 use Rattle.contract_parse.proofs.FrontChoices.{starts as text_starts}

@@ -2,14 +2,14 @@
 use Rattle.std.proofs.Common.{◌≡◌, Bool, true, ◌&&◌, List, [], ◌∷◌, ◌++◌, refl, subst, append-nil, map}
 use Rattle.std.specs.Prelude.{codes}
 use Rattle.std.specs.List.{list_all, list_any}
-use Rattle.contract_parse.specs.Tokens.{Tok}
-use Rattle.contract_parse.specs.Words.{Bytes, reserved}
-use Rattle.contract_parse.specs.Versions.{One, Two}
+use Rattle.contract_grammar.specs.Tokens.{Tok}
+use Rattle.contract_grammar.specs.Words.{Bytes, reserved}
+use Rattle.contract_grammar.specs.Versions.{One, Two}
 use Rattle.contract_parse.specs.Forms.{Form, Terminal, Nonterminal, Optional, Repeated, here, later, done, token, form, absent, enough}
 use Rattle.contract_parse.specs.Fronts.{Declaration, Declared, Versioned, ContractLine, Contract, Amount, Expression, SignedInteger, FurtherTemplate, FurtherItem}
-use Rattle.contract_parse.specs.declared.heads.Language.{Language}
-use Rattle.contract_parse.specs.declared.token.LexemeKind.{LexemeKind}
-use Rattle.contract_parse.specs.declared.token.LexemeKind.TheVariants as kind
+use Rattle.contract_grammar.specs.declared.terms.Language.{Language}
+use Rattle.contract_grammar.specs.declared.token.LexemeKind.{LexemeKind}
+use Rattle.contract_grammar.specs.declared.token.LexemeKind.TheVariants as kind
 use Rattle.contract_parse.proofs.FrontGoesOn.{Made, front_goes_on, whole_front}
 use Rattle.schedule_forms.specs.PlanFronts.{IsWholePlanFile, PlanSymbol, Shared, PlanLine, PlanSize, SignedNumber, plan_file_form, plan_forms}
 use Rattle.schedule_forms.specs.PlanFrontLaws.{PlanFrontsGoOn}

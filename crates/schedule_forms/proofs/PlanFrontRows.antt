@@ -2,11 +2,11 @@
 use Rattle.std.proofs.Common.{◌≡◌, Bool, true, false, cond, ◌&&◌, List, [], ◌∷◌, ◌++◌, refl, sym, ap, subst, append-nil}
 use Rattle.std.specs.Prelude.{ℕ, codes}
 use Rattle.term_model.specs.Dates.{parts_of, two_of}
-use Rattle.contract_parse.specs.Tokens.{Tok, extent_at, next_lexeme, tokens, tokens_from}
+use Rattle.contract_grammar.specs.Tokens.{Tok, extent_at, next_lexeme, tokens, tokens_from}
 use Rattle.contract_parse.specs.Forms.{Terminal, Nonterminal, Optional, Repeated, Form, Whole, done, Front, empty}
 use Rattle.contract_parse.specs.FrontRows.{at_left}
-use Rattle.contract_parse.specs.declared.token.LexemeKind.TheVariants.{Word, Number, Mark, End}
-use Rattle.contract_parse.proofs.EntryFacts.{and_parts}
+use Rattle.contract_grammar.specs.declared.token.LexemeKind.TheVariants.{Word, Number, Mark, End}
+use Rattle.contract_grammar.proofs.EntryFacts.{and_parts}
 use Rattle.contract_parse.proofs.FrontTakes.{Takes, barred, bars, is_nil, nil_is, one_takes, optional_takes, repeated_takes, rests, symbol_takes}
 use Rattle.schedule_forms.specs.PlanFronts.{IsPlanFront, IsWholePlanFile, PlanSymbol, plan_file_form, plan_forms}
 use Rattle.schedule_forms.specs.PlanFrontRows.{EndsPlanAt, PlanFrontRows, begun, leg, three_lines}

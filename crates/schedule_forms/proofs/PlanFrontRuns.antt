@@ -3,15 +3,15 @@ use Rattle.std.proofs.Common.{◌≡◌, ℕ, Option, Some, None, List, [], ◌�
 use Rattle.std.specs.Prelude.{◌↔◌}
 use Rattle.std.specs.Str.{IsUtf8}
 use Rattle.term_model.specs.Declarations.{Declarations}
-use Rattle.contract_parse.specs.Tokens.{Tok, tokens}
+use Rattle.contract_grammar.specs.Tokens.{Tok, tokens}
 use Rattle.contract_parse.specs.Lines.{line_at, column_at}
-use Rattle.contract_parse.specs.Words.{Bytes}
-use Rattle.contract_parse.specs.Names.{declared_by, nothing_declared}
+use Rattle.contract_grammar.specs.Words.{Bytes}
+use Rattle.contract_grammar.specs.Names.{declared_by, nothing_declared}
 use Rattle.contract_parse.specs.Forms.{Form, Whole, Front}
 use Rattle.contract_parse.specs.Expecting.{AnyTokens, Open, Expected, Stops, run}
 use Rattle.contract_parse.specs.declared.faults.Refusal.{Refusal}
-use Rattle.contract_parse.specs.declared.faults.TextKind.{TextKind}
-use Rattle.contract_parse.specs.declared.faults.TextKind.TheVariants as kind
+use Rattle.contract_grammar.specs.declared.faults.TextKind.{TextKind}
+use Rattle.contract_grammar.specs.declared.faults.TextKind.TheVariants as kind
 use Rattle.contract_parse.proofs.Steps.{run-refuse}
 use Rattle.contract_parse.proofs.TokenOrder.{any_taken}
 use Rattle.schedule_forms.specs.PlanExpecting.{PlanExpected, PlanStep, Next, Refuse, plan_fault, plan_expected, plan_step}

@@ -6,17 +6,17 @@ use Rattle.std.specs.Map.{keys_of}
 use Rattle.term_model.specs.Environments.{label_of}
 use Rattle.term_model.specs.Declarations.{Declarations}
 use Rattle.term_model.specs.declared.label.Label.{Label}
-use Rattle.contract_parse.specs.Tokens.{Tok}
-use Rattle.contract_parse.specs.Words.{Bytes, is_end, is_integer, is_name, is_number, is_the_mark, is_the_word}
-use Rattle.contract_parse.specs.Names.{nothing_declared}
-use Rattle.contract_parse.specs.Judgements.{integer_at, literal_at, mode_at, new_at, use_at}
+use Rattle.contract_grammar.specs.Tokens.{Tok}
+use Rattle.contract_grammar.specs.Words.{Bytes, is_end, is_integer, is_name, is_number, is_the_mark, is_the_word}
+use Rattle.contract_grammar.specs.Names.{nothing_declared}
+use Rattle.contract_grammar.specs.Judgements.{integer_at, literal_at, mode_at, new_at, use_at}
 use Rattle.contract_parse.specs.Forms.{Terminal, Nonterminal, Repeated, Form, at_token, empty}
 use Rattle.contract_parse.specs.Fronts.{is_one_of, mode_words}
 use Rattle.contract_parse.specs.Expecting.{Expected, AnyTokens, IntegerAt, LiteralNumber, ModeAt, TheEnd, TheMark, TheWord, UseOf}
 use Rattle.contract_parse.specs.Expecting as common
-use Rattle.contract_parse.specs.declared.faults.TextKind.{TextKind}
-use Rattle.contract_parse.specs.declared.faults.TextKind.TheVariants as kind
-use Rattle.contract_parse.proofs.Passing.{of_mark, of_word}
+use Rattle.contract_grammar.specs.declared.faults.TextKind.{TextKind}
+use Rattle.contract_grammar.specs.declared.faults.TextKind.TheVariants as kind
+use Rattle.contract_grammar.proofs.TokenKinds.{of_mark, of_word}
 use Rattle.contract_parse.proofs.FrontTakes.{Bars, Takes, nothing_bars, one_bars, one_takes, repeated_takes, rests, symbol_bars, symbol_takes}
 use Rattle.contract_parse.proofs.FrontExpecting.{formed, integer_formed, literal_formed, mode_formed, new_formed, parts_of, use_formed}
 use Rattle.contract_parse.proofs.FrontChoices.{either}

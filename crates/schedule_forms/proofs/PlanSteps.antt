@@ -1,16 +1,16 @@
 -- What one token makes of what plans expect.
 use Rattle.std.proofs.Common.{◌≡◌, ℕ, Bool, true, cond, List, ◌∷◌, Option, Some, None, Result, Ok, Err, refl, ap, sym, ◌∙◌}
-use Rattle.contract_parse.specs.Tokens.{Tok, tokens}
-use Rattle.contract_parse.specs.Words.{Bytes, is_the_word}
-use Rattle.contract_parse.proofs.Passing.{not_word}
+use Rattle.contract_grammar.specs.Tokens.{Tok, tokens}
+use Rattle.contract_grammar.specs.Words.{Bytes, is_the_word}
+use Rattle.contract_grammar.proofs.TokenKinds.{not_word}
 use Rattle.term_model.specs.Declarations.{Declarations}
 use Rattle.schedule_forms.specs.declared.heads.PlanHead.{PlanHead}
 use Rattle.schedule_forms.specs.declared.heads.PlanHead.TheVariants.{Leg, Swap, Guarded}
 use Rattle.schedule_forms.specs.PlanHeads.{head_at, word_of}
 use Rattle.std.specs.Prelude.{codes}
-use Rattle.contract_parse.specs.Spelling.{word}
+use Rattle.contract_grammar.specs.Spelling.{word}
 use Rattle.contract_parse.specs.Reading.{Lacks, tokens_after}
-use Rattle.contract_parse.specs.declared.faults.TextKind.{TextKind}
+use Rattle.contract_grammar.specs.declared.faults.TextKind.{TextKind}
 use Rattle.contract_parse.proofs.Steps.{Ends, Fails, so_takes, takes}
 use Rattle.schedule_forms.specs.PlanExpecting.{PlanExpected, DecimalAt, PlanLines, SizeAt, PlanStep, Next, decimal_step, fixing_expected, line_expected, judged, plan_fault, plan_step}
 use Rattle.schedule_forms.proofs.CommonFacts.{plan_next, plan_refuse}

@@ -4,14 +4,14 @@ use Rattle.std.specs.Prelude.{codes}
 use Rattle.std.specs.Map.{keys_of}
 use Rattle.decimal.specs.declared.Mode.{Mode}
 use Rattle.term_model.specs.Declarations.{Declarations}
-use Rattle.contract_parse.specs.Tokens.{Tok}
-use Rattle.contract_parse.specs.Words.{Bytes, is_end, is_integer, is_name, is_number, is_the_mark, is_the_word}
-use Rattle.contract_parse.specs.Judgements.{integer_at, literal_at, mode_at, new_at, use_at}
-use Rattle.contract_parse.specs.Spelling.{one, sign, valued}
-use Rattle.contract_parse.specs.Statements.{Entry, Repeat, none, more}
+use Rattle.contract_grammar.specs.Tokens.{Tok}
+use Rattle.contract_grammar.specs.Words.{Bytes, is_end, is_integer, is_name, is_number, is_the_mark, is_the_word}
+use Rattle.contract_grammar.specs.Judgements.{integer_at, literal_at, mode_at, new_at, use_at}
+use Rattle.contract_grammar.specs.Spelling.{one, sign, valued}
+use Rattle.contract_grammar.specs.Statements.{Entry, Repeat, none, more}
 use Rattle.contract_parse.specs.Forms.{Terminal, Nonterminal, Repeated, Form, IsAmong, here, later, Whole, done, token, form, again, enough}
 use Rattle.contract_parse.specs.Fronts.{is_one_of, mode_words}
-use Rattle.contract_parse.specs.declared.faults.TextKind.{TextKind}
+use Rattle.contract_grammar.specs.declared.faults.TextKind.{TextKind}
 use Rattle.contract_parse.proofs.FrontExpecting.{formed, integer_formed, literal_formed, mode_formed, new_formed, use_formed}
 use Rattle.schedule_forms.specs.declared.plans.Size.{Size}
 use Rattle.schedule_forms.specs.declared.plans.Size.TheVariants.{Fixed, Fixing}

@@ -5,11 +5,11 @@ use Rattle.decimal.specs.Reading.{read_of}
 use Rattle.term_model.specs.Declarations.{Declarations}
 use Rattle.term_model.specs.declared.label.Label.TheVariants as label
 use Rattle.term_model.specs.Dates.{parts_of, two_of}
-use Rattle.contract_parse.specs.Tokens.{Tok, extent_at, next_lexeme, tokens, tokens_from}
-use Rattle.contract_parse.specs.Words.{Bytes}
-use Rattle.contract_parse.specs.declared.token.LexemeKind.{LexemeKind}
-use Rattle.contract_parse.specs.declared.token.LexemeKind.TheVariants.{Word, Number, Mark, End}
-use Rattle.contract_parse.specs.declared.faults.TextKind.TheVariants as kind
+use Rattle.contract_grammar.specs.Tokens.{Tok, extent_at, next_lexeme, tokens, tokens_from}
+use Rattle.contract_grammar.specs.Words.{Bytes}
+use Rattle.contract_grammar.specs.declared.token.LexemeKind.{LexemeKind}
+use Rattle.contract_grammar.specs.declared.token.LexemeKind.TheVariants.{Word, Number, Mark, End}
+use Rattle.contract_grammar.specs.declared.faults.TextKind.TheVariants as kind
 use Rattle.schedule_forms.specs.PlanExpecting.{plan_fault, plan_expected}
 
 abbrev token : LexemeKind → Bytes → ℕ → Tok

@@ -6,15 +6,15 @@ use Rattle.std.proofs.lemmas.List.{append_cancel_right}
 use Rattle.term_model.specs.Declarations.{Declarations}
 use Rattle.term_model.specs.declared.label.Label.{Label}
 use Rattle.term_model.specs.declared.label.Label.TheVariants as label
-use Rattle.contract_parse.specs.Tokens.{Tok}
-use Rattle.contract_parse.specs.Words.{Bytes, is_the_mark, is_the_word}
-use Rattle.contract_parse.specs.Versions.{Version, One, Two, version_of}
-use Rattle.contract_parse.specs.Judgements.{bound_at, integer_at, new_at, origin_at}
-use Rattle.contract_parse.specs.Spelling.{Part, Signed, ◌⨟◌, mark, nothing, one, sign, valued, word}
-use Rattle.contract_parse.specs.Statements.{Added, AssetList, Entry, NameList, Repeat, asset_item, asset_line, comma_asset, comma_name, decimals_part, decls, label_line, name_line, none, more, origin_line, range, start_line, template_line}
-use Rattle.contract_parse.specs.declared.token.LexemeKind.TheVariants.{End}
-use Rattle.contract_parse.specs.declared.faults.TextKind.{TextKind}
-use Rattle.contract_parse.proofs.Parts.{followed_by}
+use Rattle.contract_grammar.specs.Tokens.{Tok}
+use Rattle.contract_grammar.specs.Words.{Bytes, is_the_mark, is_the_word}
+use Rattle.contract_grammar.specs.Versions.{Version, One, Two, version_of}
+use Rattle.contract_grammar.specs.Judgements.{bound_at, integer_at, new_at, origin_at}
+use Rattle.contract_grammar.specs.Spelling.{Part, Signed, ◌⨟◌, mark, nothing, one, sign, valued, word}
+use Rattle.contract_grammar.specs.Statements.{Added, AssetList, Entry, NameList, Repeat, asset_item, asset_line, comma_asset, comma_name, decimals_part, decls, label_line, name_line, none, more, origin_line, range, start_line, template_line}
+use Rattle.contract_grammar.specs.declared.token.LexemeKind.TheVariants.{End}
+use Rattle.contract_grammar.specs.declared.faults.TextKind.{TextKind}
+use Rattle.contract_grammar.proofs.Parts.{followed_by}
 use Rattle.contract_parse.proofs.LinesTaken.{Heads, behind_templates}
 use Rattle.contract_parse.proofs.OneText.{one_decls}
 

@@ -7,19 +7,19 @@ use Rattle.std.proofs.lemmas.List.{map-append}
 use Rattle.decimal.specs.declared.Mode.{Mode}
 use Rattle.decimal.specs.declared.Decimal.{Decimal}
 use Rattle.term_model.specs.Declarations.{Declarations}
-use Rattle.contract_parse.specs.Tokens.{Tok}
-use Rattle.contract_parse.specs.Words.{Bytes, is_word_kind, is_end, is_number, is_the_mark, is_the_word}
-use Rattle.contract_parse.specs.Judgements.{integer_at, literal_at, mode_at, use_at}
-use Rattle.contract_parse.specs.Spelling.{end, mark, sign, valued, word}
-use Rattle.contract_parse.specs.Statements.{Entry, Repeat, none, more}
+use Rattle.contract_grammar.specs.Tokens.{Tok}
+use Rattle.contract_grammar.specs.Words.{Bytes, is_word_kind, is_end, is_number, is_the_mark, is_the_word}
+use Rattle.contract_grammar.specs.Judgements.{integer_at, literal_at, mode_at, use_at}
+use Rattle.contract_grammar.specs.Spelling.{end, mark, sign, valued, word}
+use Rattle.contract_grammar.specs.Statements.{Entry, Repeat, none, more}
 use Rattle.contract_parse.specs.Reading.{Lacks}
 use Rattle.contract_parse.specs.Expecting.{IntegerAt, LiteralNumber, ModeAt, TheEnd, TheMark, TheWord, UseOf}
-use Rattle.contract_parse.specs.declared.faults.TextKind.{TextKind}
-use Rattle.contract_parse.specs.declared.faults.TextKind.TheVariants.{Syntax}
+use Rattle.contract_grammar.specs.declared.faults.TextKind.{TextKind}
+use Rattle.contract_grammar.specs.declared.faults.TextKind.TheVariants.{Syntax}
 use Rattle.contract_parse.proofs.LinesTaken.{Heads, NoneDeclares, heads_more, heads_word}
 use Rattle.schedule_forms.specs.declared.heads.PlanHead.{PlanHead}
 use Rattle.schedule_forms.specs.PlanHeads.{head_at, word_of}
-use Rattle.contract_parse.proofs.Passing.{end_no_word, number_no_mark, of_mark, the_number}
+use Rattle.contract_grammar.proofs.TokenKinds.{end_no_word, number_no_mark, of_mark, the_number}
 use Rattle.schedule_forms.specs.declared.plans.Size.{Size}
 use Rattle.schedule_forms.specs.declared.plans.Size.TheVariants.{Fixed, Fixing}
 use Rattle.schedule_forms.specs.declared.plans.Leg.{Leg}

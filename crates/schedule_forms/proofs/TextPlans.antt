@@ -9,12 +9,12 @@ use Rattle.term_model.specs.Declarations.{Declarations}
 use Rattle.term_model.specs.Environments.{label_of}
 use Rattle.term_model.specs.declared.label.Label.{Label}
 use Rattle.term_model.specs.declared.label.Label.TheVariants.{Number as NumberLabel, Flag}
-use Rattle.contract_parse.specs.Tokens.{Tok}
-use Rattle.contract_parse.specs.Words.{Bytes}
-use Rattle.contract_parse.specs.Judgements.{integer_at, literal_at, use_at}
-use Rattle.contract_parse.specs.Statements.{Entry, Repeat, none, more}
-use Rattle.contract_parse.specs.declared.faults.TextKind.{TextKind}
-use Rattle.contract_parse.proofs.TextNumbers.{by_value, integer_within, use_within}
+use Rattle.contract_grammar.specs.Tokens.{Tok}
+use Rattle.contract_grammar.specs.Words.{Bytes}
+use Rattle.contract_grammar.specs.Judgements.{integer_at, literal_at, use_at}
+use Rattle.contract_grammar.specs.Statements.{Entry, Repeat, none, more}
+use Rattle.contract_grammar.specs.declared.faults.TextKind.{TextKind}
+use Rattle.contract_grammar.proofs.TextNumbers.{by_value, integer_within, use_within}
 use Rattle.contract_print.proofs.NumbersWithin.{literal_within}
 use Rattle.schedule_forms.specs.declared.plans.Size.{Size}
 use Rattle.schedule_forms.specs.declared.plans.Size.TheVariants.{Fixed, Fixing}

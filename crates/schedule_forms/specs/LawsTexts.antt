@@ -3,7 +3,7 @@
 -- the portfolio of the expansions is one that texts can stand for, so that its canonical text is a text of it.
 use Rattle.std.specs.Prelude.{◌≡◌, ℕ, List}
 use Rattle.std.specs.List.{All}
-use Rattle.contract_parse.specs.declared.faults.TextFault.{TextFault}
+use Rattle.contract_grammar.specs.declared.faults.TextFault.{TextFault}
 use Rattle.contract_print.specs.Spellable.{IsSpellableBook}
 use Rattle.schedule_forms.specs.PlanBooks.{PlanBook, expanded_book}
 use Rattle.schedule_forms.specs.DeclaredPlans.{IsPlanOfTexts}

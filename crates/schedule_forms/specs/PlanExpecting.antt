@@ -3,13 +3,13 @@
 use Rattle.std.specs.Prelude.{ℕ, ◌∷◌, ◌++◌, true, false, List, [], Option, Some, None, Result, Ok, Err, codes, if◌then◌else◌}
 use Rattle.std.specs.Map.{keys_of}
 use Rattle.term_model.specs.Declarations.{Declarations}
-use Rattle.contract_parse.specs.Tokens.{Tok}
-use Rattle.contract_parse.specs.Words.{Bytes, is_the_mark, is_the_word}
-use Rattle.contract_parse.specs.Names.{nothing_declared}
-use Rattle.contract_parse.specs.Judgements.{integer_at, literal_at, new_at}
+use Rattle.contract_grammar.specs.Tokens.{Tok}
+use Rattle.contract_grammar.specs.Words.{Bytes, is_the_mark, is_the_word}
+use Rattle.contract_grammar.specs.Names.{nothing_declared}
+use Rattle.contract_grammar.specs.Judgements.{integer_at, literal_at, new_at}
 use Rattle.contract_parse.specs.Expecting.{AnyTokens, IntegerAt, LiteralNumber, ModeAt, Expected, TheEnd, TheMark, TheWord, UseOf, step}
 use Rattle.contract_parse.specs.Expecting as common
-use Rattle.contract_parse.specs.declared.faults.TextKind.{TextKind}
+use Rattle.contract_grammar.specs.declared.faults.TextKind.{TextKind}
 use Rattle.contract_parse.specs.declared.faults.Refusal.{Refusal}
 use Rattle.schedule_forms.specs.declared.heads.PlanHead.{PlanHead}
 use Rattle.schedule_forms.specs.declared.heads.PlanHead.TheVariants.{Leg as LegHead, Swap as SwapHead, Guarded as GuardedHead}

@@ -2,11 +2,11 @@
 -- the token ends all fronts; a text is whole; a front is what some text goes on from, names and limits aside.
 use Rattle.std.specs.Prelude.{◌≡◌, ◌-◌, ◌↔◌, ℕ, List, [], ◌∷◌, ◌++◌, length}
 use Rattle.std.specs.Str.{IsUtf8}
-use Rattle.contract_parse.specs.Tokens.{Tok, tokens}
+use Rattle.contract_grammar.specs.Tokens.{Tok, tokens}
 use Rattle.contract_parse.specs.Lines.{line_at, column_at}
-use Rattle.contract_parse.specs.declared.faults.TextKind.{TextKind}
-use Rattle.contract_parse.specs.declared.faults.TextKind.TheVariants.{Syntax}
-use Rattle.contract_parse.specs.declared.faults.TextFault.{TextFault}
+use Rattle.contract_grammar.specs.declared.faults.TextKind.{TextKind}
+use Rattle.contract_grammar.specs.declared.faults.TextKind.TheVariants.{Syntax}
+use Rattle.contract_grammar.specs.declared.faults.TextFault.{TextFault}
 use Rattle.schedule_forms.specs.PlanBooks.{PlanBook}
 use Rattle.schedule_forms.specs.PlanSpelling.{PlanText}
 use Rattle.schedule_forms.specs.PlanTexts.{IsPlanFault}

@@ -1,8 +1,8 @@
 -- Small schedule files, by hand: where they stop being fronts, so that the laws on fronts speak of something.
 use Rattle.std.specs.Prelude.{◌≡◌, ℕ, List, [], ◌∷◌, ◌++◌, codes}
-use Rattle.contract_parse.specs.Tokens.{Tok, tokens}
+use Rattle.contract_grammar.specs.Tokens.{Tok, tokens}
 use Rattle.contract_parse.specs.FrontRows.{at_left}
-use Rattle.contract_parse.specs.declared.token.LexemeKind.TheVariants.{Word, Number, Mark, End}
+use Rattle.contract_grammar.specs.declared.token.LexemeKind.TheVariants.{Word, Number, Mark, End}
 use Rattle.schedule_forms.specs.PlanFronts.{IsPlanFront, IsWholePlanFile}
 
 -- the tokens before this one are a front, and with it they are none

@@ -1,10 +1,10 @@
 -- The grammar of schedule files by the forms of their tokens and the value of the version alone, and their fronts: what a
 -- schedule file may begin with. Its declarations have the forms that they have in portfolios of version 1.
 use Rattle.std.specs.Prelude.{List, [], ◌∷◌, ◌++◌, codes, map}
-use Rattle.contract_parse.specs.Tokens.{Tok}
-use Rattle.contract_parse.specs.Words.{Bytes, is_end, is_integer, is_name, is_number, is_the_mark, is_the_word}
-use Rattle.contract_parse.specs.Versions.{One}
-use Rattle.contract_parse.specs.Judgements.{is_version}
+use Rattle.contract_grammar.specs.Tokens.{Tok}
+use Rattle.contract_grammar.specs.Words.{Bytes, is_end, is_integer, is_name, is_number, is_the_mark, is_the_word}
+use Rattle.contract_grammar.specs.Versions.{One}
+use Rattle.contract_grammar.specs.Judgements.{is_version}
 use Rattle.contract_parse.specs.Forms.{Part, Terminal, Nonterminal, Optional, Repeated, Form, Grammar, Whole, Front}
 use Rattle.contract_parse.specs.Fronts.{Symbol, declarations_form, is_one_of, mode_words, text_forms}
 

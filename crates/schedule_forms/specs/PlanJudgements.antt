@@ -6,10 +6,10 @@ use Rattle.term_model.specs.Declarations.{Declarations}
 use Rattle.term_model.specs.Environments.{label_of}
 use Rattle.term_model.specs.declared.label.Label.{Label}
 use Rattle.term_model.specs.declared.label.Label.TheVariants.{Number as NumberLabel, Flag}
-use Rattle.contract_parse.specs.Tokens.{Tok}
-use Rattle.contract_parse.specs.Judgements.{integer_at, use_at}
-use Rattle.contract_parse.specs.declared.faults.TextKind.{TextKind}
-use Rattle.contract_parse.specs.declared.faults.TextKind.TheVariants.{Number, Unknown}
+use Rattle.contract_grammar.specs.Tokens.{Tok}
+use Rattle.contract_grammar.specs.Judgements.{integer_at, use_at}
+use Rattle.contract_grammar.specs.declared.faults.TextKind.{TextKind}
+use Rattle.contract_grammar.specs.declared.faults.TextKind.TheVariants.{Number, Unknown}
 
 -- not 0
 abbrev pub from_one : Result ℕ TextKind → Result ℕ TextKind

@@ -4,11 +4,11 @@ use Rattle.std.specs.Map.{keys_of}
 use Rattle.std.specs.Str.{IsUtf8}
 use Rattle.decimal.specs.declared.Mode.{Mode}
 use Rattle.term_model.specs.Declarations.{Declarations}
-use Rattle.contract_parse.specs.Tokens.{tokens}
-use Rattle.contract_parse.specs.Words.{Bytes}
-use Rattle.contract_parse.specs.Judgements.{integer_at, is_version, literal_at, mode_at, use_at}
-use Rattle.contract_parse.specs.Spelling.{Part, Signed, ◌⨟◌, end, mark, one, valued, word}
-use Rattle.contract_parse.specs.Statements.{Entry, Repeat, decls, new_name}
+use Rattle.contract_grammar.specs.Tokens.{tokens}
+use Rattle.contract_grammar.specs.Words.{Bytes}
+use Rattle.contract_grammar.specs.Judgements.{integer_at, is_version, literal_at, mode_at, use_at}
+use Rattle.contract_grammar.specs.Spelling.{Part, Signed, ◌⨟◌, end, mark, one, valued, word}
+use Rattle.contract_grammar.specs.Statements.{Entry, Repeat, decls, new_name}
 use Rattle.schedule_forms.specs.declared.plans.Size.{Size}
 use Rattle.schedule_forms.specs.declared.plans.Size.TheVariants.{Fixed, Fixing}
 use Rattle.schedule_forms.specs.declared.plans.Leg.{Leg}

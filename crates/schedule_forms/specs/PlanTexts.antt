@@ -3,16 +3,16 @@
 use Rattle.std.specs.Prelude.{◌≡◌, ◌-◌, ℕ, List, [], ◌∷◌, Some, Result, Ok, Err, codes, length}
 use Rattle.std.specs.Str.{IsUtf8, IsValidUpTo}
 use Rattle.term_model.specs.Declarations.{Declarations}
-use Rattle.contract_parse.specs.Tokens.{Tok, tokens}
+use Rattle.contract_grammar.specs.Tokens.{Tok, tokens}
 use Rattle.contract_parse.specs.Lines.{line_at, column_at}
-use Rattle.contract_parse.specs.Versions.{One}
-use Rattle.contract_parse.specs.Names.{declared_by, nothing_declared}
-use Rattle.contract_parse.specs.Spelling.{◌⨟◌}
-use Rattle.contract_parse.specs.Statements.{decls}
+use Rattle.contract_grammar.specs.Versions.{One}
+use Rattle.contract_grammar.specs.Names.{declared_by, nothing_declared}
+use Rattle.contract_grammar.specs.Spelling.{◌⨟◌}
+use Rattle.contract_grammar.specs.Statements.{decls}
 use Rattle.contract_parse.specs.Expecting.{AnyTokens, Expected, Stops, TheMark, TheVersion, TheWord, decls_expected, run}
-use Rattle.contract_parse.specs.declared.faults.TextKind.{TextKind}
-use Rattle.contract_parse.specs.declared.faults.TextKind.TheVariants.{Utf8}
-use Rattle.contract_parse.specs.declared.faults.TextFault.{TextFault}
+use Rattle.contract_grammar.specs.declared.faults.TextKind.{TextKind}
+use Rattle.contract_grammar.specs.declared.faults.TextKind.TheVariants.{Utf8}
+use Rattle.contract_grammar.specs.declared.faults.TextFault.{TextFault}
 use Rattle.contract_parse.specs.declared.faults.Refusal.{Refusal}
 use Rattle.contract_parse.specs.declared.faults.PartErr.{PartErr}
 use Rattle.contract_parse.specs.declared.faults.PartErr.TheVariants as read_err

@@ -5,7 +5,7 @@ ghost use Rattle.indexmap.specs.IndexSet.{index_set_len};
 ghost use Rattle.term_model.specs.Limits.{greatest_offset, most_days};
 ghost use Rattle.term_model.specs.Declarations.{declarations};
 ghost use Rattle.contract_parse.specs.Expecting.{IntegerAt, ModeAt, UseOf};
-ghost use Rattle.contract_parse.specs.Spelling.{◌⨟◌, word};
+ghost use Rattle.contract_grammar.specs.Spelling.{◌⨟◌, word};
 ghost use Rattle.contract_parse.specs.Readers.{Reads, behind_word};
 ghost use Rattle.schedule_forms.specs.PlanSpelling.{cover_part, days_part, definition_part, every_part, first_part, flag_part, head_of, leg_part, named_by, notional_part, observed_part, rounding_part, route_part, size_part, times_part};
 ghost use Rattle.schedule_forms.specs.PlanExpecting.{DecimalAt, EveryAt, FirstAt, FlagAt, NumberLabelAt, SizeAt, TimesAt, Token, definition_expected, fixing_expected, guard_expected, leg_expected, route_expected, the_mark, the_word};
@@ -23,7 +23,7 @@ use indexmap::{IndexMap, IndexSet};
 use term_model::{Decls, GREATEST_OFFSET, Name};
 
 // How a size is rounded.
-#[tactic(auto, using(contract_parse::proofs::Parts::followed_by))]
+#[tactic(auto, using(contract_grammar::proofs::Parts::followed_by))]
 fn read_rounding(rest: &[u8]) -> Result<(Mode, u8, &[u8]), PartErr>
     ensures reads { Reads (PassesPlan (λ ps. the_mark (codes "(") ∷ Token ModeAt
         ∷ the_mark (codes ",") ∷ Token (IntegerAt 27) ∷ ps))
@@ -37,7 +37,7 @@ fn read_rounding(rest: &[u8]) -> Result<(Mode, u8, &[u8]), PartErr>
 }
 
 // What is observed, and how many days before.
-#[tactic(auto, using(contract_parse::proofs::Parts::followed_by))]
+#[tactic(auto, using(contract_grammar::proofs::Parts::followed_by))]
 fn read_observed<'a>(decls: &Decls, rest: &'a [u8]) -> Result<(u32, u32, &'a [u8]), PartErr>
     ensures reads { Reads (PassesPlan (λ ps. the_mark (codes ",")
         ∷ NumberLabelAt (declarations decls.now) ∷ the_mark (codes ",")
@@ -52,7 +52,7 @@ fn read_observed<'a>(decls: &Decls, rest: &'a [u8]) -> Result<(u32, u32, &'a [u8
 }
 
 // A notional, to the end of its size.
-#[tactic(auto, using(contract_parse::proofs::Parts::followed_by))]
+#[tactic(auto, using(contract_grammar::proofs::Parts::followed_by))]
 fn read_notional(rest: &[u8]) -> Result<(Decimal, &[u8]), PartErr>
     ensures reads { Reads (PassesPlan
         (λ ps. the_mark (codes ",") ∷ DecimalAt ∷ the_mark (codes ")") ∷ ps))
@@ -65,7 +65,7 @@ fn read_notional(rest: &[u8]) -> Result<(Decimal, &[u8]), PartErr>
 }
 
 // An observed size behind `round`.
-#[tactic(auto, using(contract_parse::proofs::Parts::followed_by))]
+#[tactic(auto, using(contract_grammar::proofs::Parts::followed_by))]
 fn read_fixing<'a>(decls: &Decls, rest: &'a [u8]) -> Result<(Size, &'a [u8]), PartErr>
     ensures reads { Reads (PassesPlan (λ ps. fixing_expected (declarations decls.now) ps))
         (λ r. behind_word (codes "round") (size_part (declarations decls.now) r.0))
@@ -104,7 +104,7 @@ fn read_size<'a>(decls: &Decls, rest: &'a [u8]) -> Result<(Size, &'a [u8]), Part
 }
 
 // A declared party behind a word.
-#[tactic(auto, using(contract_parse::proofs::Parts::followed_by))]
+#[tactic(auto, using(contract_grammar::proofs::Parts::followed_by))]
 fn read_party_behind<'a>(
     wanted: &[u8],
     parties: &IndexSet<Name>,
@@ -120,7 +120,7 @@ fn read_party_behind<'a>(
 }
 
 // What is paid, behind its word.
-#[tactic(auto, using(contract_parse::proofs::Parts::followed_by))]
+#[tactic(auto, using(contract_grammar::proofs::Parts::followed_by))]
 fn read_paid<'a>(assets: &IndexMap<Name, u8>, rest: &'a [u8]) -> Result<(u32, &'a [u8]), PartErr>
     requires { index_map_len assets.now < 2 ^ 32 }
     ensures reads { Reads (PassesPlan
@@ -132,7 +132,7 @@ fn read_paid<'a>(assets: &IndexMap<Name, u8>, rest: &'a [u8]) -> Result<(u32, &'
 }
 
 // What is paid, by whom and to whom.
-#[tactic(auto, using(contract_parse::proofs::Parts::followed_by))]
+#[tactic(auto, using(contract_grammar::proofs::Parts::followed_by))]
 fn read_route<'a>(decls: &Decls, rest: &'a [u8]) -> Result<(u32, u32, u32, &'a [u8]), PartErr>
     ensures reads { Reads (PassesPlan (λ ps. route_expected (declarations decls.now) ps))
         (λ r. route_part (declarations decls.now) r.0 r.1 r.2) (λ r. r.3.now) rest.now result }
@@ -144,7 +144,7 @@ fn read_route<'a>(decls: &Decls, rest: &'a [u8]) -> Result<(u32, u32, u32, &'a [
 }
 
 // The first day of at most so many payments.
-#[tactic(auto, using(contract_parse::proofs::Parts::followed_by))]
+#[tactic(auto, using(contract_grammar::proofs::Parts::followed_by))]
 fn read_first(most: u32, rest: &[u8]) -> Result<(u32, &[u8]), PartErr>
     ensures reads { Reads (LeadsPlan (λ ps. the_word (codes "first") ∷ FirstAt most ∷ ps)
         (λ r ps. the_word (codes "every") ∷ EveryAt most r.0 ∷ ps)) (λ r. first_part r.0)
@@ -156,7 +156,7 @@ fn read_first(most: u32, rest: &[u8]) -> Result<(u32, &[u8]), PartErr>
 }
 
 // The days from one payment to the next.
-#[tactic(auto, using(contract_parse::proofs::Parts::followed_by))]
+#[tactic(auto, using(contract_grammar::proofs::Parts::followed_by))]
 fn read_every(most: u32, first: u32, rest: &[u8]) -> Result<(u32, &[u8]), PartErr>
     ensures reads { Reads (LeadsPlan (λ ps. the_word (codes "every") ∷ EveryAt most first ∷ ps)
         (λ r ps. the_word (codes "times") ∷ TimesAt most first r.0 ∷ ps)) (λ r. every_part r.0)
@@ -168,7 +168,7 @@ fn read_every(most: u32, first: u32, rest: &[u8]) -> Result<(u32, &[u8]), PartEr
 }
 
 // How many payments there are.
-#[tactic(auto, using(contract_parse::proofs::Parts::followed_by))]
+#[tactic(auto, using(contract_grammar::proofs::Parts::followed_by))]
 fn read_times(most: u32, first: u32, every: u32, rest: &[u8]) -> Result<(u32, &[u8]), PartErr>
     requires first { first ≤ most_days }
     requires every { every ≤ most_days }
@@ -182,7 +182,7 @@ fn read_times(most: u32, first: u32, every: u32, rest: &[u8]) -> Result<(u32, &[
 }
 
 // The days of at most so many payments.
-#[tactic(auto, using(contract_parse::proofs::Parts::followed_by))]
+#[tactic(auto, using(contract_grammar::proofs::Parts::followed_by))]
 fn read_days(most: u32, rest: &[u8]) -> Result<(u32, u32, u32, &[u8]), PartErr>
     requires most { most ≤ 5_000 }
     ensures reads { Reads (PassesPlan (λ ps. the_word (codes "first") ∷ FirstAt most ∷ ps))
@@ -195,7 +195,7 @@ fn read_days(most: u32, rest: &[u8]) -> Result<(u32, u32, u32, &[u8]), PartErr>
 }
 
 // A leg of at most so many payments.
-#[tactic(auto, using(contract_parse::proofs::Parts::followed_by))]
+#[tactic(auto, using(contract_grammar::proofs::Parts::followed_by))]
 fn read_leg<'a>(decls: &Decls, most: u32, rest: &'a [u8]) -> Result<(Leg, &'a [u8]), PartErr>
     requires most { most ≤ 5_000 }
     ensures reads { Reads (PassesPlan (λ ps. leg_expected (declarations decls.now) most ps))
@@ -217,7 +217,7 @@ fn read_leg<'a>(decls: &Decls, most: u32, rest: &'a [u8]) -> Result<(Leg, &'a [u
 }
 
 // Two legs, one against the other.
-#[tactic(auto, using(contract_parse::proofs::Parts::followed_by))]
+#[tactic(auto, using(contract_grammar::proofs::Parts::followed_by))]
 fn read_swap<'a>(decls: &Decls, rest: &'a [u8]) -> Result<(Plan, &'a [u8]), PartErr>
     ensures reads { Reads (PassesPlan
         (λ ps. definition_expected (declarations decls.now) PlanHead.Swap ps))
@@ -231,7 +231,7 @@ fn read_swap<'a>(decls: &Decls, rest: &'a [u8]) -> Result<(Plan, &'a [u8]), Part
 }
 
 // The flag that ends a leg.
-#[tactic(auto, using(contract_parse::proofs::Parts::followed_by))]
+#[tactic(auto, using(contract_grammar::proofs::Parts::followed_by))]
 fn read_ending_flag<'a>(decls: &Decls, rest: &'a [u8]) -> Result<(u32, &'a [u8]), PartErr>
     ensures reads { Reads (PassesPlan
         (λ ps. the_word (codes "until") ∷ FlagAt (declarations decls.now) ∷ ps))
@@ -242,7 +242,7 @@ fn read_ending_flag<'a>(decls: &Decls, rest: &'a [u8]) -> Result<(u32, &'a [u8])
 }
 
 // What it covers.
-#[tactic(auto, using(contract_parse::proofs::Parts::followed_by))]
+#[tactic(auto, using(contract_grammar::proofs::Parts::followed_by))]
 fn read_cover(rest: &[u8]) -> Result<(Decimal, &[u8]), PartErr>
     ensures reads { Reads (PassesPlan (λ ps. the_word (codes "covers") ∷ DecimalAt ∷ ps))
         (λ r. cover_part r.0.mant r.0.scale) (λ r. r.1.now) rest.now result }
@@ -252,7 +252,7 @@ fn read_cover(rest: &[u8]) -> Result<(Decimal, &[u8]), PartErr>
 }
 
 // A leg, and the flag that ends it.
-#[tactic(auto, using(contract_parse::proofs::Parts::followed_by))]
+#[tactic(auto, using(contract_grammar::proofs::Parts::followed_by))]
 fn read_guarded<'a>(decls: &Decls, rest: &'a [u8]) -> Result<(Plan, &'a [u8]), PartErr>
     ensures reads { Reads (PassesPlan
         (λ ps. definition_expected (declarations decls.now) PlanHead.Guarded ps))

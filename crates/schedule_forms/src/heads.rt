@@ -1,8 +1,8 @@
 //! The words with which lines of plans begin.
 ghost use Rattle.std.specs.Prelude.{◌≡◌, IfNone, IfSome, None};
-ghost use Rattle.contract_parse.specs.Spelling.{word};
+ghost use Rattle.contract_grammar.specs.Spelling.{word};
 ghost use Rattle.contract_parse.specs.Reading.{tok_of, tokens_ahead};
-ghost use Rattle.contract_parse.specs.Tokens.{tokens};
+ghost use Rattle.contract_grammar.specs.Tokens.{tokens};
 ghost use Rattle.schedule_forms.specs.PlanHeads.{head_at, word_of};
 
 use contract_parse::{Lookahead, after_word};

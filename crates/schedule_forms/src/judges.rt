@@ -3,11 +3,12 @@ ghost use Rattle.std.specs.Prelude.{◌≡◌, ◌≤◌, ◌<◌, ◌+◌, ◌-
 ghost use Rattle.std.specs.Map.{keys_of};
 ghost use Rattle.term_model.specs.Limits.{most_days};
 ghost use Rattle.term_model.specs.Declarations.{declarations};
-ghost use Rattle.contract_parse.specs.Judgements.{use_at};
+ghost use Rattle.contract_grammar.specs.Judgements.{use_at};
 ghost use Rattle.contract_parse.specs.Reading.{tok_of};
 ghost use Rattle.schedule_forms.specs.PlanJudgements.{count_at, flag_at, number_label_at, times_at};
 
-use contract_parse::{Lexeme, TextKind, index_in_map, integer_at, is_name};
+use contract_parse::{Lexeme, index_in_map, integer_at, is_name};
+use contract_grammar::TextKind;
 use term_model::{Decls, Label, MOST_DAYS};
 
 /// A number without a point, from 1 up to `most`.

@@ -3,9 +3,9 @@ ghost use Rattle.std.specs.Prelude.{◌≡◌, ◌≤◌, ◌<◌, ◌∷◌, �
 ghost use Rattle.std.specs.List.{All};
 ghost use Rattle.indexmap.specs.IndexMap.{keys};
 ghost use Rattle.term_model.specs.Declarations.{declarations};
-ghost use Rattle.contract_parse.specs.Judgements.{new_at};
-ghost use Rattle.contract_parse.specs.Spelling.{mark, valued, ◌⨟◌};
-ghost use Rattle.contract_parse.specs.Statements.{Entry, Repeat};
+ghost use Rattle.contract_grammar.specs.Judgements.{new_at};
+ghost use Rattle.contract_grammar.specs.Spelling.{mark, valued, ◌⨟◌};
+ghost use Rattle.contract_grammar.specs.Statements.{Entry, Repeat};
 ghost use Rattle.contract_parse.specs.Readers.{Reads, ReadsAhead, ahead_from, behind_word};
 ghost use Rattle.schedule_forms.specs.PlanHeads.{word_of};
 ghost use Rattle.schedule_forms.specs.PlanSpelling.{definition_part, head_of, plan_line};
@@ -36,7 +36,7 @@ fn read_name<'a>(
 }
 
 // A plan behind its name, to the end of its line.
-#[tactic(auto, using(contract_parse::proofs::Parts::followed_by))]
+#[tactic(auto, using(contract_grammar::proofs::Parts::followed_by))]
 fn read_definition_line<'a>(
     head: PlanHead,
     decls: &Decls,

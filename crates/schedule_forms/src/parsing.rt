@@ -3,11 +3,11 @@ ghost use Rattle.std.specs.Prelude.{◌≡◌, ◌≤◌, ◌∷◌, [], IfOk, c
 ghost use Rattle.std.specs.List.{All};
 ghost use Rattle.term_model.specs.Limits.{longest_file};
 ghost use Rattle.term_model.specs.Declarations.{declarations};
-ghost use Rattle.contract_parse.specs.Tokens.{tokens};
-ghost use Rattle.contract_parse.specs.Names.{declared_by, nothing_declared};
-ghost use Rattle.contract_parse.specs.Judgements.{is_version};
-ghost use Rattle.contract_parse.specs.Spelling.{mark, one, word, ◌⨟◌};
-ghost use Rattle.contract_parse.specs.Statements.{decls};
+ghost use Rattle.contract_grammar.specs.Tokens.{tokens};
+ghost use Rattle.contract_grammar.specs.Names.{declared_by, nothing_declared};
+ghost use Rattle.contract_grammar.specs.Judgements.{is_version};
+ghost use Rattle.contract_grammar.specs.Spelling.{mark, one, word, ◌⨟◌};
+ghost use Rattle.contract_grammar.specs.Statements.{decls};
 ghost use Rattle.contract_parse.specs.Expecting.{TheMark, TheVersion, TheWord};
 ghost use Rattle.contract_parse.specs.Readers.{Extends, PassesAnywhere, Reads, ReadsAhead, ahead_from, ahead_in};
 ghost use Rattle.schedule_forms.specs.PlanSpelling.{first_line};
@@ -24,7 +24,7 @@ use std::alloc::Global;
 use term_model::Decls;
 
 // The first line.
-#[tactic(auto, using(contract_parse::proofs::Parts::followed_by))]
+#[tactic(auto, using(contract_grammar::proofs::Parts::followed_by))]
 fn skip_first_line(rest: &[u8]) -> Result<&[u8], PartErr>
     ensures reads { Reads (PassesAnywhere
         (λ ps. TheWord (codes "schedules") ∷ TheVersion ∷ TheMark (codes ";") ∷ ps))

@@ -1,6 +1,6 @@
 use Rattle.std.proofs.Common.{subst, sym}
 use Rattle.term_model.specs.Terms.{Contract, contract}
-use Rattle.contract_print.specs.Writable.{IsWritableTerm}
+use Rattle.contract_grammar.specs.Writable.{IsWritableTerm}
 use Rattle.command_answers.proofs.WritableFacts.{changed_writable}
 use Rattle.command_answers.proofs.advance_text.keep.Goals as goal
 

@@ -1,5 +1,5 @@
 use Rattle.std.proofs.Common.{ℕ, List, inl, subst}
-use Rattle.contract_parse.specs.Texts.{Text}
+use Rattle.contract_grammar.specs.Texts.{Text}
 use Rattle.command_answers.specs.CheckCourse.{check_course}
 use Rattle.command_answers.specs.CheckParts.{AreTextVerdicts}
 use Rattle.command_answers.specs.CheckPromise.{Verdict}

@@ -1,9 +1,9 @@
 use Rattle.std.proofs.Common.{◌∙◌, ◌++◌, [], ℕ, List, ap, subst, sym}
 use Rattle.term_model.specs.Declarations.{declarations}
 use Rattle.term_model.specs.Terms.{Contract, contract}
-use Rattle.contract_parse.specs.Names.{declared_by}
+use Rattle.contract_grammar.specs.Names.{declared_by}
 use Rattle.contract_print.specs.Canon.{contract_text}
-use Rattle.contract_print.specs.Writable.{IsWritableTerm}
+use Rattle.contract_grammar.specs.Writable.{IsWritableTerm}
 use Rattle.schedule_forms.specs.Expansions.{expansion}
 use Rattle.command_answers.specs.ExpandParts.{AppendsExpansion, IsAcceptedExpansion}
 use Rattle.command_answers.specs.FlowsParts.{IsRefusedOne}

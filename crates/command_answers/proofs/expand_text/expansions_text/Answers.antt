@@ -3,7 +3,7 @@ use Rattle.std.proofs.Common.{◌≡◌, ℕ, List, map, rules, subst}
 use Rattle.term_model.specs.declared.name.Name.{Name}
 use Rattle.term_model.specs.Declarations.{declarations}
 use Rattle.term_model.specs.Terms.{Contract}
-use Rattle.contract_print.specs.Writable.{IsWritableTerm}
+use Rattle.contract_grammar.specs.Writable.{IsWritableTerm}
 use Rattle.schedule_forms.specs.DeclaredPlans.{IsPlanOfTexts}
 use Rattle.schedule_forms.specs.Expansions.{expansion}
 use Rattle.schedule_forms.specs.declared.plans.Plan.{Plan}

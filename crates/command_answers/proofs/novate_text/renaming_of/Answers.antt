@@ -1,7 +1,7 @@
 use Rattle.std.proofs.Common.{◌≡◌, ℕ, refl}
 use Rattle.std.specs.Prelude.{Some}
 use Rattle.term_model.specs.Declarations.{declarations}
-use Rattle.contract_parse.specs.Names.{index_in}
+use Rattle.contract_grammar.specs.Names.{index_in}
 use Rattle.command_words.specs.Words.{novate_by}
 use Rattle.command_answers.specs.NovateParts.{IsRenaming, LacksParty, no_new, no_old}
 use Rattle.command_answers.specs.Stages.{IsUndeclared}

@@ -4,7 +4,7 @@ use Rattle.std.specs.Map.{keys_of}
 use Rattle.term_model.specs.declared.name.Name.{Name}
 use Rattle.term_model.specs.Declarations.{declarations}
 use Rattle.report.specs.declared.fault_lines.Fault.TheVariants as fault
-use Rattle.contract_parse.specs.Names.{index_in}
+use Rattle.contract_grammar.specs.Names.{index_in}
 use Rattle.command_answers.specs.ValuePromise.{first_unknown_of, names_set}
 use Rattle.command_answers.proofs.value_names.know_settings.Goals as goal
 

@@ -2,7 +2,7 @@ use Rattle.std.proofs.Common.{◌≡◌, ℕ}
 use Rattle.std.specs.Map.{keys_of}
 use Rattle.std.specs.Prelude.{Some}
 use Rattle.term_model.specs.Declarations.{declarations}
-use Rattle.contract_parse.specs.Names.{index_in}
+use Rattle.contract_grammar.specs.Names.{index_in}
 use Rattle.command_words.specs.Words.{between_by}
 use Rattle.command_answers.specs.Stages.{IsUndeclared}
 use Rattle.command_answers.specs.ValuePromise.{AreBetween}

@@ -1,6 +1,6 @@
 use Rattle.std.proofs.Common.{◌∙◌, Bor, ap, sym}
 use Rattle.clap.specs.Words.{Text, first_value, found_of}
-use Rattle.contract_parse.specs.NameTexts.{is_name_text}
+use Rattle.contract_grammar.specs.NameTexts.{is_name_text}
 use Rattle.command_words.specs.Arguments.{given_text}
 use Rattle.command_words.specs.Words.{advance_by, advance_from, novate_by, novate_from, with_form}
 use Rattle.command_words.proofs.WordFacts.{handed_on, lacks, novate_has, novate_no_advance, novate_no_contract, novate_no_new, novate_no_old}

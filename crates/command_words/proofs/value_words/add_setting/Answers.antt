@@ -3,7 +3,7 @@ use Rattle.std.proofs.lemmas.Map.Made.{is_some-lookup}
 use Rattle.std.specs.Map.{keys_of}
 use Rattle.std.specs.Str.{bytes_eq}
 use Rattle.clap.specs.Words.{Text}
-use Rattle.contract_parse.specs.Names.{is_declared}
+use Rattle.contract_grammar.specs.Names.{is_declared}
 use Rattle.command_words.specs.Words.{one_more_setting, setting_of_word}
 use Rattle.command_words.proofs.WordFacts.{setting_fresh, setting_twice}
 use Rattle.command_words.proofs.value_words.add_setting.Goals as goal

@@ -1,5 +1,5 @@
 use Rattle.std.proofs.Common.{◌∙◌}
-use Rattle.contract_parse.proofs.LineFacts.{entry_added}
+use Rattle.contract_grammar.proofs.EntryFacts.{entry_added}
 use Rattle.command_words.proofs.value_words.put.Goals as goal
 
 pub returns : goal.returns

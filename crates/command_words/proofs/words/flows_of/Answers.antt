@@ -2,7 +2,7 @@ use Rattle.std.proofs.Common.{◌∙◌, Bor, ap, refl, sym}
 use Rattle.std.specs.Prelude.{Option, option_map}
 use Rattle.clap.specs.Words.{Text, first_value, found_of}
 use Rattle.clap.specs.Walk.{texts}
-use Rattle.contract_parse.specs.NameTexts.{is_name_text}
+use Rattle.contract_grammar.specs.NameTexts.{is_name_text}
 use Rattle.command_words.specs.Arguments.{given_text, is_set, read_rows}
 use Rattle.command_words.specs.Words.{requested_by, flows_app, flows_from, flows_of, if_given, is_day}
 use Rattle.command_words.specs.declared.day_words.DayWord.{DayWord}

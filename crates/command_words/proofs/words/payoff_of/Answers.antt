@@ -1,7 +1,7 @@
 use Rattle.std.proofs.Common.{◌∙◌, Bor, ap, refl, sym}
 use Rattle.clap.specs.Words.{Text, first_value, found_of}
 use Rattle.clap.specs.Walk.{texts}
-use Rattle.contract_parse.specs.NameTexts.{is_name_text}
+use Rattle.contract_grammar.specs.NameTexts.{is_name_text}
 use Rattle.command_words.specs.Arguments.{given_text, is_set, read_rows}
 use Rattle.command_words.specs.Words.{payoff_app, payoff_from, payoff_of, requested_by, with_form}
 use Rattle.command_words.proofs.WordFacts.{payoff_has, payoff_lacks, payoff_no_name, handed_on, lacks, reads, refused}

@@ -1,6 +1,6 @@
 use Rattle.std.proofs.Common.{◌≡◌, ℕ, false, sym, ap, subst, ◌∙◌, arith}
 use Rattle.std.proofs.lemmas.Bool.{false≢true}
-use Rattle.contract_parse.specs.Tokens.{is_last}
+use Rattle.contract_grammar.specs.Tokens.{is_last}
 use Rattle.contract_parse.specs.Cursors.{NextToken, Position}
 use Rattle.contract_parse.proofs.LinePositions.{fits_at}
 use Rattle.contract_parse.proofs.TokenOrder.{IsAhead, ahead_ends, ahead_on, ahead_stops}

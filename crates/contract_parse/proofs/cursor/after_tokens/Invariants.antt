@@ -1,5 +1,5 @@
 use Rattle.std.proofs.Common.{◌≡◌, ◌-◌, ◌∷◌, ◌++◌, List, length}
-use Rattle.contract_parse.specs.Tokens.{Tok}
+use Rattle.contract_grammar.specs.Tokens.{Tok}
 use Rattle.contract_parse.specs.Cursors.{Fits, tokens_at}
 use Rattle.contract_parse.proofs.TokenOrder.{IsAhead}
 use Rattle.contract_parse.proofs.cursor.after_tokens.Given as goal

@@ -1,6 +1,6 @@
 use Rattle.std.proofs.Common.{◌∙◌, ap}
 use Rattle.std.proofs.lemmas.List.{take_rest}
-use Rattle.contract_parse.specs.Tokens.{next_lexeme}
+use Rattle.contract_grammar.specs.Tokens.{next_lexeme}
 use Rattle.contract_parse.proofs.TokenBoundaries.{found}
 use Rattle.contract_parse.proofs.cursor.next_span.Goals as goal
 

@@ -1,9 +1,9 @@
 use Rattle.std.proofs.Common.{◌∙◌, ◌∷◌, Bool, ap, arith, rules}
-use Rattle.contract_parse.specs.Tokens.{tokens}
-use Rattle.contract_parse.specs.Names.{with_names}
+use Rattle.contract_grammar.specs.Tokens.{tokens}
+use Rattle.contract_grammar.specs.Names.{with_names}
 use Rattle.contract_parse.specs.Expecting.{list_expected, MoreNames, run}
-use Rattle.contract_parse.specs.Statements.{none, more}
-use Rattle.contract_parse.proofs.Parts.{followed_by}
+use Rattle.contract_grammar.specs.Statements.{none, more}
+use Rattle.contract_grammar.proofs.Parts.{followed_by}
 use Rattle.contract_parse.proofs.LineFacts.{is_comma, is_semicolon}
 use Rattle.contract_parse.proofs.Passing.{stopped_at}
 use Rattle.contract_parse.proofs.decls.read_name_list.Goals as goal

@@ -1,13 +1,13 @@
 use Rattle.std.proofs.Common.{◌≡◌, ◌≤◌, ◌<◌, ◌+◌, ◌∷◌, List, length}
 use Rattle.std.specs.Prelude.{codes}
 use Rattle.indexmap.specs.IndexSet.{index_set_len}
-use Rattle.contract_parse.specs.Tokens.{Tok, tokens}
-use Rattle.contract_parse.specs.Words.{Bytes}
-use Rattle.contract_parse.specs.Names.{DeclaredNames, with_names}
-use Rattle.contract_parse.specs.Spelling.{◌⨟◌, mark}
-use Rattle.contract_parse.specs.Statements.{NameList, Repeat, comma_name}
+use Rattle.contract_grammar.specs.Tokens.{Tok, tokens}
+use Rattle.contract_grammar.specs.Words.{Bytes}
+use Rattle.contract_grammar.specs.Names.{DeclaredNames, with_names}
+use Rattle.contract_grammar.specs.Spelling.{◌⨟◌, mark}
+use Rattle.contract_grammar.specs.Statements.{NameList, Repeat, comma_name}
 use Rattle.contract_parse.specs.Expecting.{MoreNames, NewIn, Expected, run}
-use Rattle.contract_parse.specs.declared.names.NameSet.{NameSet}
+use Rattle.contract_grammar.specs.declared.names.NameSet.{NameSet}
 use Rattle.contract_parse.proofs.decls.read_name_list.Given as goal
 
 abbrev pub invariant-loop-comma : goal.invariant-loop-comma

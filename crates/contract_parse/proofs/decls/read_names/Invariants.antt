@@ -1,12 +1,12 @@
 use Rattle.std.proofs.Common.{◌≡◌, ◌≤◌, ◌+◌, ◌∷◌, [], List, length}
 use Rattle.indexmap.specs.IndexSet.{index_set_len}
-use Rattle.contract_parse.specs.Tokens.{Tok}
-use Rattle.contract_parse.specs.Words.{Bytes}
+use Rattle.contract_grammar.specs.Tokens.{Tok}
+use Rattle.contract_grammar.specs.Words.{Bytes}
 use Rattle.contract_parse.specs.Reading.{tokens_ahead}
-use Rattle.contract_parse.specs.Names.{DeclaredNames, with_names}
-use Rattle.contract_parse.specs.Statements.{Repeat, name_line}
+use Rattle.contract_grammar.specs.Names.{DeclaredNames, with_names}
+use Rattle.contract_grammar.specs.Statements.{Repeat, name_line}
 use Rattle.contract_parse.specs.Expecting.{NameLines, Expected, run}
-use Rattle.contract_parse.specs.declared.names.NameSet.{NameSet}
+use Rattle.contract_grammar.specs.declared.names.NameSet.{NameSet}
 use Rattle.contract_parse.proofs.decls.read_names.Given as goal
 
 abbrev pub invariant-loop-after : goal.invariant-loop-after

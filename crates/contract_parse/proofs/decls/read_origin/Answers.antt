@@ -1,6 +1,6 @@
 use Rattle.std.proofs.Common.{◌∙◌, ◌∷◌, ap, refl, sym, rules}
 use Rattle.std.specs.Prelude.{codes}
-use Rattle.contract_parse.specs.Tokens.{tokens}
+use Rattle.contract_grammar.specs.Tokens.{tokens}
 use Rattle.contract_parse.specs.Reading.{tokens_ahead}
 use Rattle.contract_parse.specs.Expecting.{OriginDate, OriginLine, TheMark, run}
 use Rattle.contract_parse.proofs.LineFacts.{line_absent, line_opens}

@@ -2,13 +2,13 @@ use Rattle.std.proofs.Common.{◌∙◌, ◌∷◌, ◌++◌, [], List, ap, arit
 use Rattle.std.proofs.lemmas.Bool.Decides.{nat_tests}
 use Rattle.std.specs.Prelude.{codes, nat_le}
 use Rattle.std.specs.Map.{keys_of}
-use Rattle.contract_parse.specs.Tokens.{tokens}
-use Rattle.contract_parse.specs.Words.{Bytes}
-use Rattle.contract_parse.specs.Names.{with_names}
+use Rattle.contract_grammar.specs.Tokens.{tokens}
+use Rattle.contract_grammar.specs.Words.{Bytes}
+use Rattle.contract_grammar.specs.Names.{with_names}
 use Rattle.contract_parse.specs.Expecting.{IntegerAt, TheMark, run}
-use Rattle.contract_parse.specs.declared.names.NameSet.TheVariants.{Template}
-use Rattle.contract_parse.proofs.EntryFacts.{all_inserted}
-use Rattle.contract_parse.proofs.Parts.{followed_by}
+use Rattle.contract_grammar.specs.declared.names.NameSet.TheVariants.{Template}
+use Rattle.contract_grammar.proofs.EntryFacts.{all_inserted}
+use Rattle.contract_grammar.proofs.Parts.{followed_by}
 use Rattle.contract_parse.proofs.LineFacts.{inserted_entry, inserted_names}
 use Rattle.contract_parse.proofs.Passing.{stopped_at}
 use Rattle.contract_parse.proofs.decls.read_template.Goals as goal

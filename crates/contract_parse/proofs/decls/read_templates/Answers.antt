@@ -1,12 +1,12 @@
 use Rattle.std.proofs.Common.{◌∙◌, ◌∷◌, List, ap, length, refl, subst, sym, arith, rules}
 use Rattle.std.specs.Prelude.{codes}
 use Rattle.indexmap.specs.IndexMap.{keys}
-use Rattle.contract_parse.specs.Tokens.{Tok, tokens}
-use Rattle.contract_parse.specs.Names.{with_names}
+use Rattle.contract_grammar.specs.Tokens.{Tok, tokens}
+use Rattle.contract_grammar.specs.Names.{with_names}
 use Rattle.contract_parse.specs.Reading.{tokens_ahead}
 use Rattle.contract_parse.specs.Expecting.{TemplateLines, run, template_expected}
-use Rattle.contract_parse.specs.Statements.{Entry, Repeat, none, more, template_line}
-use Rattle.contract_parse.specs.declared.names.NameSet.TheVariants.{Template}
+use Rattle.contract_grammar.specs.Statements.{Entry, Repeat, none, more, template_line}
+use Rattle.contract_grammar.specs.declared.names.NameSet.TheVariants.{Template}
 use Rattle.contract_parse.proofs.LineFacts.{line_absent, line_opens}
 use Rattle.contract_parse.proofs.Passing.{stopped_at}
 use Rattle.contract_parse.proofs.decls.read_templates.Goals as goal

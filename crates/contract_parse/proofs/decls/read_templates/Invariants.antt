@@ -1,13 +1,13 @@
 use Rattle.std.proofs.Common.{◌≡◌, ◌≤◌, ◌+◌, ◌∷◌, [], ℕ, List, length, true}
 use Rattle.indexmap.specs.IndexMap.{index_map_len, keys}
 use Rattle.term_model.specs.Limits.{are_numbers}
-use Rattle.contract_parse.specs.Tokens.{Tok}
-use Rattle.contract_parse.specs.Words.{Bytes}
+use Rattle.contract_grammar.specs.Tokens.{Tok}
+use Rattle.contract_grammar.specs.Words.{Bytes}
 use Rattle.contract_parse.specs.Reading.{tokens_ahead}
-use Rattle.contract_parse.specs.Names.{DeclaredNames, with_names}
-use Rattle.contract_parse.specs.Statements.{Entry, Repeat, template_line}
+use Rattle.contract_grammar.specs.Names.{DeclaredNames, with_names}
+use Rattle.contract_grammar.specs.Statements.{Entry, Repeat, template_line}
 use Rattle.contract_parse.specs.Expecting.{Expected, TemplateLines, run}
-use Rattle.contract_parse.specs.declared.names.NameSet.TheVariants.{Template}
+use Rattle.contract_grammar.specs.declared.names.NameSet.TheVariants.{Template}
 use Rattle.contract_parse.proofs.decls.read_templates.Given as goal
 
 abbrev pub invariant-loop-after : goal.invariant-loop-after

@@ -1,6 +1,6 @@
 use Rattle.std.proofs.Common.{true, rules}
-use Rattle.contract_parse.specs.Tokens.{tokens}
-use Rattle.contract_parse.proofs.Parts.{followed_by}
+use Rattle.contract_grammar.specs.Tokens.{tokens}
+use Rattle.contract_grammar.proofs.Parts.{followed_by}
 use Rattle.contract_parse.proofs.exprs.read_negative.Goals as goal
 
 pub returns-clause-reads : goal.returns-clause-reads

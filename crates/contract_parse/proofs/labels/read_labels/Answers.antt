@@ -1,11 +1,11 @@
 use Rattle.std.proofs.Common.{◌∙◌, ◌∷◌, List, ap, length, subst, sym, arith, rules}
 use Rattle.indexmap.specs.IndexMap.{keys}
-use Rattle.contract_parse.specs.Tokens.{Tok, tokens}
-use Rattle.contract_parse.specs.Names.{with_names}
+use Rattle.contract_grammar.specs.Tokens.{Tok, tokens}
+use Rattle.contract_grammar.specs.Names.{with_names}
 use Rattle.contract_parse.specs.Reading.{tokens_ahead}
 use Rattle.contract_parse.specs.Expecting.{LabelLines, run}
-use Rattle.contract_parse.specs.Statements.{Entry, Repeat, label_line, none, more}
-use Rattle.contract_parse.specs.declared.names.NameSet.TheVariants.{Label as LabelSet}
+use Rattle.contract_grammar.specs.Statements.{Entry, Repeat, label_line, none, more}
+use Rattle.contract_grammar.specs.declared.names.NameSet.TheVariants.{Label as LabelSet}
 use Rattle.contract_parse.proofs.LineFacts.{flag_opens, labels_absent, number_opens}
 use Rattle.contract_parse.proofs.Passing.{stopped_at}
 use Rattle.contract_parse.proofs.labels.read_labels.Goals as goal

@@ -2,13 +2,13 @@ use Rattle.std.proofs.Common.{◌≡◌, ◌≤◌, ◌+◌, ◌∷◌, [], List
 use Rattle.indexmap.specs.IndexMap.{index_map_len, keys}
 use Rattle.term_model.specs.Limits.{are_labels}
 use Rattle.term_model.specs.declared.label.Label.{Label}
-use Rattle.contract_parse.specs.Tokens.{Tok}
-use Rattle.contract_parse.specs.Words.{Bytes}
+use Rattle.contract_grammar.specs.Tokens.{Tok}
+use Rattle.contract_grammar.specs.Words.{Bytes}
 use Rattle.contract_parse.specs.Reading.{tokens_ahead}
-use Rattle.contract_parse.specs.Names.{DeclaredNames, with_names}
-use Rattle.contract_parse.specs.Statements.{Entry, Repeat, label_line}
+use Rattle.contract_grammar.specs.Names.{DeclaredNames, with_names}
+use Rattle.contract_grammar.specs.Statements.{Entry, Repeat, label_line}
 use Rattle.contract_parse.specs.Expecting.{LabelLines, Expected, run}
-use Rattle.contract_parse.specs.declared.names.NameSet.TheVariants.{Label as LabelSet}
+use Rattle.contract_grammar.specs.declared.names.NameSet.TheVariants.{Label as LabelSet}
 use Rattle.contract_parse.proofs.labels.read_labels.Given as goal
 
 abbrev pub invariant-loop-after : goal.invariant-loop-after

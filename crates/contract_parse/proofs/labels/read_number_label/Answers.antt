@@ -1,14 +1,14 @@
 use Rattle.std.proofs.Common.{◌∙◌, ◌∷◌, ◌++◌, [], List, ap, rules}
 use Rattle.std.specs.Prelude.{codes}
 use Rattle.std.specs.Map.{keys_of}
-use Rattle.contract_parse.specs.Tokens.{tokens}
-use Rattle.contract_parse.specs.Words.{Bytes}
-use Rattle.contract_parse.specs.Names.{with_names}
+use Rattle.contract_grammar.specs.Tokens.{tokens}
+use Rattle.contract_grammar.specs.Words.{Bytes}
+use Rattle.contract_grammar.specs.Names.{with_names}
 use Rattle.contract_parse.specs.Expecting.{ScaleAt, TheMark, run}
-use Rattle.contract_parse.specs.declared.names.NameSet.TheVariants.{Label as LabelSet}
+use Rattle.contract_grammar.specs.declared.names.NameSet.TheVariants.{Label as LabelSet}
 use Rattle.contract_parse.proofs.LineFacts.{inserted_entry, inserted_names, number_spelled}
 use Rattle.term_model.specs.Limits.{is_label}
-use Rattle.contract_parse.proofs.EntryFacts.{all_inserted}
+use Rattle.contract_grammar.proofs.EntryFacts.{all_inserted}
 use Rattle.contract_parse.proofs.Passing.{stopped_at}
 use Rattle.contract_parse.proofs.labels.read_number_label.Goals as goal
 

@@ -1,4 +1,4 @@
-use Rattle.contract_parse.specs.Tokens.{tokens}
+use Rattle.contract_grammar.specs.Tokens.{tokens}
 use Rattle.contract_parse.proofs.LinesTaken.{portfolio_taken}
 use Rattle.contract_parse.proofs.laws.text_is_taken.Goals as goal
 

@@ -1,15 +1,15 @@
 use Rattle.std.proofs.Common.{◌∙◌, ◌∷◌, ◌++◌, [], ap, refl, subst, rules}
 use Rattle.std.specs.Prelude.{codes}
-use Rattle.contract_parse.specs.Tokens.{tokens}
-use Rattle.contract_parse.specs.Versions.{version_of}
-use Rattle.contract_parse.specs.Words.{Bytes}
-use Rattle.contract_parse.specs.Judgements.{new_at}
-use Rattle.contract_parse.specs.Spelling.{valued}
+use Rattle.contract_grammar.specs.Tokens.{tokens}
+use Rattle.contract_grammar.specs.Versions.{version_of}
+use Rattle.contract_grammar.specs.Words.{Bytes}
+use Rattle.contract_grammar.specs.Judgements.{new_at}
+use Rattle.contract_grammar.specs.Spelling.{valued}
 use Rattle.contract_parse.specs.Expecting.{ContrAt, TheMark}
 use Rattle.contract_parse.specs.Reading.{declared_in, tok_of, tokens_after}
-use Rattle.contract_parse.specs.declared.names.NameSet.TheVariants.{Contract}
+use Rattle.contract_grammar.specs.declared.names.NameSet.TheVariants.{Contract}
 use Rattle.contract_parse.proofs.NextFacts.{new_name_is}
-use Rattle.contract_parse.proofs.Parts.{followed_by}
+use Rattle.contract_grammar.proofs.Parts.{followed_by}
 use Rattle.contract_parse.proofs.Passing.{stopped_at}
 use Rattle.contract_parse.proofs.next_contracts.read_named.Goals as goal
 

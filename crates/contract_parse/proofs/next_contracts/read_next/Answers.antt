@@ -4,16 +4,17 @@ use Rattle.std.specs.Prelude.{codes}
 use Rattle.std.specs.Map.{keys_of}
 use Rattle.term_model.specs.Declarations.{declarations}
 use Rattle.term_model.specs.Terms.{contract}
-use Rattle.contract_parse.specs.Tokens.{tokens}
-use Rattle.contract_parse.specs.Versions.{version_of}
-use Rattle.contract_parse.specs.Words.{Bytes}
-use Rattle.contract_parse.specs.Names.{declared_by}
-use Rattle.contract_parse.specs.Statements.{named_contract, none}
+use Rattle.contract_grammar.specs.Tokens.{tokens}
+use Rattle.contract_grammar.specs.Versions.{version_of}
+use Rattle.contract_grammar.specs.Words.{Bytes}
+use Rattle.contract_grammar.specs.Names.{declared_by}
+use Rattle.contract_grammar.specs.Statements.{named_contract, none}
 use Rattle.contract_parse.specs.Expecting.{TheEnd, contract_expected, expected_behind, run}
 use Rattle.contract_parse.specs.Reading.{tokens_ahead}
-use Rattle.contract_parse.proofs.LineFacts.{keys_added, line_absent, line_opens, new_absent}
+use Rattle.contract_grammar.proofs.EntryFacts.{keys_added}
+use Rattle.contract_parse.proofs.LineFacts.{line_absent, line_opens, new_absent}
 use Rattle.contract_parse.proofs.NextFacts.{one_further, sound_contract}
-use Rattle.contract_parse.proofs.Parts.{followed_by}
+use Rattle.contract_grammar.proofs.Parts.{followed_by}
 use Rattle.contract_parse.proofs.next_contracts.read_next.Goals as goal
 
 pub returns-in_ok-next-in-Some-clause-next : goal.returns-in_ok-next-in-Some-clause-next

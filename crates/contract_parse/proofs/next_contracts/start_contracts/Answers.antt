@@ -1,12 +1,12 @@
 use Rattle.std.proofs.Common.{◌≡◌, ◌∙◌, [], List, Err, ap, refl, sym}
-use Rattle.contract_parse.specs.Words.{Bytes}
-use Rattle.contract_parse.specs.Versions.{version_of}
+use Rattle.contract_grammar.specs.Words.{Bytes}
+use Rattle.contract_grammar.specs.Versions.{version_of}
 use Rattle.contract_parse.specs.Expecting.{expected_behind, run}
 use Rattle.contract_parse.specs.Reading.{declared_in, tokens_ahead}
 use Rattle.contract_parse.specs.NextContracts.{StartsContracts}
 use Rattle.contract_parse.specs.declared.faults.ParseErr.{ParseErr}
 use Rattle.contract_parse.proofs.FaultFacts.{not_utf8, tells}
-use Rattle.contract_parse.proofs.Parts.{four_then}
+use Rattle.contract_grammar.proofs.Parts.{four_then}
 use Rattle.contract_parse.proofs.next_contracts.start_contracts.Goals as goal
 
 pub returns-in-Err : goal.returns-in-Err

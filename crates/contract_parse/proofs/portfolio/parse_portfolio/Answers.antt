@@ -1,5 +1,5 @@
 use Rattle.std.proofs.Common.{Err}
-use Rattle.contract_parse.specs.Texts.{Answers}
+use Rattle.contract_parse.specs.TextFaults.{Answers}
 use Rattle.contract_parse.specs.declared.faults.ParseErr.{ParseErr}
 use Rattle.contract_parse.proofs.FaultFacts.{not_utf8, tells}
 use Rattle.contract_parse.proofs.portfolio.parse_portfolio.Goals as goal

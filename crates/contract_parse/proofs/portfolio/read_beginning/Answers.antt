@@ -1,13 +1,13 @@
 use Rattle.std.proofs.Common.{◌≡◌, ◌∷◌, [], ap, subst, sym}
 use Rattle.std.proofs.lemmas.Result.{IfOk-weaker, err_from_is_err_and}
-use Rattle.contract_parse.specs.Tokens.{tokens}
-use Rattle.contract_parse.specs.Versions.{Version, version_of}
-use Rattle.contract_parse.specs.Judgements.{is_the_version}
-use Rattle.contract_parse.specs.Spelling.{one}
-use Rattle.contract_parse.specs.Names.{nothing_declared}
+use Rattle.contract_grammar.specs.Tokens.{tokens}
+use Rattle.contract_grammar.specs.Versions.{Version, version_of}
+use Rattle.contract_grammar.specs.Judgements.{is_the_version}
+use Rattle.contract_grammar.specs.Spelling.{one}
+use Rattle.contract_grammar.specs.Names.{nothing_declared}
 use Rattle.contract_parse.specs.Expecting.{TheEnd, expected_behind, run}
 use Rattle.contract_parse.specs.Reading.{declared_in, tokens_ahead}
-use Rattle.contract_parse.proofs.Parts.{followed_by}
+use Rattle.contract_grammar.proofs.Parts.{followed_by}
 use Rattle.contract_parse.proofs.Passing.{leaves_as, ok_both}
 use Rattle.contract_parse.proofs.portfolio.read_beginning.Goals as goal
 

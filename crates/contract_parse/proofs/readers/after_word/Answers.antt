@@ -1,5 +1,5 @@
 use Rattle.std.proofs.Common.{refl, sym}
-use Rattle.contract_parse.specs.Words.{is_the_word}
+use Rattle.contract_grammar.specs.Words.{is_the_word}
 use Rattle.contract_parse.specs.Reading.{tok_of, tokens_after}
 use Rattle.contract_parse.proofs.Steps.{ahead_spells}
 use Rattle.contract_parse.proofs.readers.after_word.Goals as goal

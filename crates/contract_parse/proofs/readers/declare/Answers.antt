@@ -1,14 +1,14 @@
 use Rattle.std.proofs.Common.{◌∙◌, List, Ok, refl, sym, ap, rules}
-use Rattle.contract_parse.specs.Judgements.{new_at}
+use Rattle.contract_grammar.specs.Judgements.{new_at}
 use Rattle.contract_parse.specs.Expecting.{run}
 use Rattle.contract_parse.specs.Reading.{tok_of}
 use Rattle.contract_parse.proofs.Passing.{stopped}
 use Rattle.contract_parse.proofs.Steps.{new_passes, new_refuses, spells}
-use Rattle.contract_parse.proofs.NameFacts.{inserted, is_new, is_old, new_fresh, new_none, new_twice}
-use Rattle.contract_parse.specs.declared.faults.TextKind.TheVariants.{Syntax, Twice}
-use Rattle.contract_parse.specs.Names.{is_declared, with_names}
-use Rattle.contract_parse.specs.Words.{Bytes}
-use Rattle.contract_parse.specs.Tokens.{tokens}
+use Rattle.contract_grammar.proofs.NameFacts.{inserted, is_new, is_old, new_fresh, new_none, new_twice}
+use Rattle.contract_grammar.specs.declared.faults.TextKind.TheVariants.{Syntax, Twice}
+use Rattle.contract_grammar.specs.Names.{is_declared, with_names}
+use Rattle.contract_grammar.specs.Words.{Bytes}
+use Rattle.contract_grammar.specs.Tokens.{tokens}
 use Rattle.contract_parse.proofs.readers.declare.Goals as goal
 
 pub returns-then-not-is_name-clause-reads : goal.returns-then-not-is_name-clause-reads

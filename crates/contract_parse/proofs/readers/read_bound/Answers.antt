@@ -4,13 +4,13 @@ use Rattle.contract_parse.proofs.NumberFacts.{fits_wide}
 use Rattle.std.proofs.Common.{◌≡◌, ◌∷◌, refl, sym, true, false, rules}
 use Rattle.std.specs.Prelude.{codes}
 use Rattle.std.proofs.lemmas.Result.{IfOk-weaker}
-use Rattle.contract_parse.specs.Judgements.{bound_at}
-use Rattle.contract_parse.specs.Words.{is_the_mark}
-use Rattle.contract_parse.specs.Tokens.{tokens}
+use Rattle.contract_grammar.specs.Judgements.{bound_at}
+use Rattle.contract_grammar.specs.Words.{is_the_mark}
+use Rattle.contract_grammar.specs.Tokens.{tokens}
 use Rattle.contract_parse.specs.Expecting.{BoundAt, BoundNumber, Next, bound_expected, judged, step}
 use Rattle.contract_parse.specs.Reading.{tok_of}
 use Rattle.contract_parse.proofs.Steps.{passes, refuses, so_passes, so_spells, spells}
-use Rattle.contract_parse.proofs.Parts.{followed_by}
+use Rattle.contract_grammar.proofs.Parts.{followed_by}
 use Rattle.contract_parse.proofs.readers.read_bound.Goals as goal
 
 pub returns-then-is_the_mark-clause-reads : goal.returns-then-is_the_mark-clause-reads

@@ -2,7 +2,7 @@ use Rattle.std.proofs.lemmas.Int.{to_z-of_z}
 use mir.Syntax.{w128}
 use Rattle.contract_parse.proofs.NumberFacts.{fits_wide}
 use Rattle.std.proofs.Common.{◌∷◌, refl, rules}
-use Rattle.contract_parse.specs.Judgements.{bound_at}
+use Rattle.contract_grammar.specs.Judgements.{bound_at}
 use Rattle.contract_parse.specs.Expecting.{BoundNumber, Next, bound_expected}
 use Rattle.contract_parse.specs.Reading.{tok_of}
 use Rattle.contract_parse.proofs.Passing.{stopped}

@@ -1,7 +1,7 @@
 use Rattle.std.proofs.lemmas.Int.{to_z-of_z}
 use Rattle.contract_parse.proofs.NumberFacts.{fits_days}
 use Rattle.std.proofs.Common.{w32, ◌∷◌, refl, rules}
-use Rattle.contract_parse.specs.Judgements.{date_number_at}
+use Rattle.contract_grammar.specs.Judgements.{date_number_at}
 use Rattle.contract_parse.specs.Expecting.{DateNumber, Next}
 use Rattle.contract_parse.specs.Reading.{tok_of}
 use Rattle.contract_parse.proofs.Passing.{stopped}

@@ -1,5 +1,5 @@
 use Rattle.std.proofs.Common.{◌∷◌, refl, rules}
-use Rattle.contract_parse.specs.Judgements.{integer_at}
+use Rattle.contract_grammar.specs.Judgements.{integer_at}
 use Rattle.contract_parse.specs.Expecting.{IntegerAt, Next}
 use Rattle.contract_parse.specs.Reading.{tok_of}
 use Rattle.contract_parse.proofs.Passing.{stopped}

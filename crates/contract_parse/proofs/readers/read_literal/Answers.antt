@@ -1,5 +1,5 @@
 use Rattle.std.proofs.Common.{◌∷◌, refl, rules}
-use Rattle.contract_parse.specs.Judgements.{literal_at}
+use Rattle.contract_grammar.specs.Judgements.{literal_at}
 use Rattle.contract_parse.specs.Expecting.{LiteralNumber, Next}
 use Rattle.contract_parse.specs.Reading.{tok_of}
 use Rattle.contract_parse.proofs.Passing.{stopped}

@@ -1,14 +1,14 @@
 use Rattle.std.proofs.Common.{◌∙◌, Ok, refl, ap, rules}
 use Rattle.std.specs.Str.{bytes_eq}
 use Rattle.std.proofs.lemmas.Map.Made.{is_some-lookup}
-use Rattle.contract_parse.specs.Judgements.{new_at}
+use Rattle.contract_grammar.specs.Judgements.{new_at}
 use Rattle.contract_parse.specs.Reading.{tok_of}
 use Rattle.contract_parse.proofs.Passing.{stopped}
 use Rattle.contract_parse.proofs.Steps.{new_passes, new_refuses, spells}
-use Rattle.contract_parse.proofs.NameFacts.{new_fresh, new_none, new_twice}
+use Rattle.contract_grammar.proofs.NameFacts.{new_fresh, new_none, new_twice}
 use Rattle.indexmap.specs.IndexMap.{keys}
-use Rattle.contract_parse.specs.declared.faults.TextKind.TheVariants.{Syntax, Twice}
-use Rattle.contract_parse.specs.Words.{Bytes}
+use Rattle.contract_grammar.specs.declared.faults.TextKind.TheVariants.{Syntax, Twice}
+use Rattle.contract_grammar.specs.Words.{Bytes}
 use Rattle.contract_parse.proofs.readers.read_new_name.Goals as goal
 
 pub returns-then-not-is_name-clause-reads : goal.returns-then-not-is_name-clause-reads

@@ -3,13 +3,13 @@ use Rattle.contract_parse.proofs.NumberFacts.{fits_small}
 use Rattle.std.proofs.Common.{w32, ◌≡◌, ◌∷◌, refl, sym, true, false, rules}
 use Rattle.std.specs.Prelude.{codes}
 use Rattle.std.proofs.lemmas.Result.{IfOk-weaker}
-use Rattle.contract_parse.specs.Judgements.{offset_at}
-use Rattle.contract_parse.specs.Words.{is_the_mark}
-use Rattle.contract_parse.specs.Tokens.{tokens}
+use Rattle.contract_grammar.specs.Judgements.{offset_at}
+use Rattle.contract_grammar.specs.Words.{is_the_mark}
+use Rattle.contract_grammar.specs.Tokens.{tokens}
 use Rattle.contract_parse.specs.Expecting.{OffsetAt, OffsetNumber, Next, judged, step}
 use Rattle.contract_parse.specs.Reading.{tok_of}
 use Rattle.contract_parse.proofs.Steps.{passes, refuses, so_passes, so_spells, spells}
-use Rattle.contract_parse.proofs.Parts.{followed_by}
+use Rattle.contract_grammar.proofs.Parts.{followed_by}
 use Rattle.contract_parse.proofs.readers.read_offset.Goals as goal
 
 pub returns-then-is_the_mark : goal.returns-then-is_the_mark

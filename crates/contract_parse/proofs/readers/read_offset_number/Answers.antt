@@ -1,7 +1,7 @@
 use Rattle.std.proofs.lemmas.Int.{to_z-of_z}
 use Rattle.contract_parse.proofs.NumberFacts.{fits_small}
 use Rattle.std.proofs.Common.{w32, ◌∷◌, refl, rules}
-use Rattle.contract_parse.specs.Judgements.{offset_at}
+use Rattle.contract_grammar.specs.Judgements.{offset_at}
 use Rattle.contract_parse.specs.Expecting.{OffsetNumber, Next}
 use Rattle.contract_parse.specs.Reading.{tok_of}
 use Rattle.contract_parse.proofs.Passing.{stopped}

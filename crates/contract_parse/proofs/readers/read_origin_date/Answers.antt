@@ -1,7 +1,7 @@
 use Rattle.std.proofs.lemmas.Int.{to_z-of_z}
 use Rattle.contract_parse.proofs.NumberFacts.{fits_day}
 use Rattle.std.proofs.Common.{w64, ◌∷◌, refl, rules}
-use Rattle.contract_parse.specs.Judgements.{origin_at}
+use Rattle.contract_grammar.specs.Judgements.{origin_at}
 use Rattle.contract_parse.specs.Expecting.{OriginDate, Next}
 use Rattle.contract_parse.specs.Reading.{tok_of}
 use Rattle.contract_parse.proofs.Passing.{stopped}

@@ -1,11 +1,11 @@
 use Rattle.std.proofs.Common.{◌∷◌, refl, rules}
-use Rattle.contract_parse.specs.Judgements.{use_at}
+use Rattle.contract_grammar.specs.Judgements.{use_at}
 use Rattle.contract_parse.specs.Expecting.{UseOf, Next}
 use Rattle.contract_parse.specs.Reading.{tok_of}
 use Rattle.contract_parse.proofs.Passing.{stopped}
 use Rattle.contract_parse.proofs.Steps.{passes, refuses, spells}
-use Rattle.contract_parse.proofs.NameFacts.{use_none, use_some, use_unknown}
-use Rattle.contract_parse.specs.declared.faults.TextKind.TheVariants.{Syntax, Unknown}
+use Rattle.contract_grammar.proofs.NameFacts.{use_none, use_some, use_unknown}
+use Rattle.contract_grammar.specs.declared.faults.TextKind.TheVariants.{Syntax, Unknown}
 use Rattle.contract_parse.proofs.readers.read_use_of_set.Goals as goal
 
 pub returns-then-not-is_name : goal.returns-then-not-is_name

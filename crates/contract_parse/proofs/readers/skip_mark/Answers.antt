@@ -1,13 +1,13 @@
 use Rattle.std.proofs.Common.{◌∷◌, refl, rules}
-use Rattle.contract_parse.specs.Words.{is_the_mark}
+use Rattle.contract_grammar.specs.Words.{is_the_mark}
 use Rattle.contract_parse.specs.Expecting.{TheMark, Next, Refuse}
 use Rattle.contract_parse.specs.Reading.{tok_of}
 use Rattle.contract_parse.proofs.Passing.{stopped}
 use Rattle.contract_parse.proofs.Steps.{so_passes, so_refuses, so_spells}
-use Rattle.contract_parse.specs.declared.faults.TextKind.TheVariants.{Syntax}
+use Rattle.contract_grammar.specs.declared.faults.TextKind.TheVariants.{Syntax}
 use Rattle.std.proofs.Common.{length}
-use Rattle.contract_parse.specs.declared.token.LexemeKind.TheVariants.{Mark}
-use Rattle.contract_parse.specs.Tokens.{Tok}
+use Rattle.contract_grammar.specs.declared.token.LexemeKind.TheVariants.{Mark}
+use Rattle.contract_grammar.specs.Tokens.{Tok}
 use Rattle.contract_parse.proofs.WholeMarks.{same_mark}
 use Rattle.contract_parse.proofs.readers.skip_mark.Goals as goal
 

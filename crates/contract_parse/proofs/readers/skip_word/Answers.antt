@@ -1,10 +1,10 @@
 use Rattle.std.proofs.Common.{◌∷◌, refl, rules}
-use Rattle.contract_parse.specs.Words.{is_the_word}
+use Rattle.contract_grammar.specs.Words.{is_the_word}
 use Rattle.contract_parse.specs.Expecting.{TheWord, Next, Refuse}
 use Rattle.contract_parse.specs.Reading.{tok_of}
 use Rattle.contract_parse.proofs.Passing.{stopped}
 use Rattle.contract_parse.proofs.Steps.{so_passes, so_refuses, so_spells}
-use Rattle.contract_parse.specs.declared.faults.TextKind.TheVariants.{Syntax}
+use Rattle.contract_grammar.specs.declared.faults.TextKind.TheVariants.{Syntax}
 use Rattle.contract_parse.proofs.readers.skip_word.Goals as goal
 
 pub returns-then-is_the_word-clause-reads : goal.returns-then-is_the_word-clause-reads

@@ -1,5 +1,5 @@
 use Rattle.std.proofs.Common.{◌≡◌, ◌≤◌, length, false}
-use Rattle.contract_parse.specs.Tokens.{after_gap}
+use Rattle.contract_grammar.specs.Tokens.{after_gap}
 use Rattle.contract_parse.proofs.token.after_any_gap.Given as goal
 
 abbrev pub invariant-loop-rest : goal.invariant-loop-rest

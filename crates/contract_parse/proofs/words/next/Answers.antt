@@ -1,6 +1,6 @@
 use Rattle.std.proofs.Common.{◌∙◌, List, ℕ, cond, [], ◌∷◌, sym, ap}
-use Rattle.contract_parse.specs.Tokens.{Tok, is_last, tokens}
-use Rattle.contract_parse.proofs.TokenFacts.{tokens_next, shorter_pair, within_pair}
+use Rattle.contract_grammar.specs.Tokens.{Tok, is_last, tokens}
+use Rattle.contract_grammar.proofs.TokenFacts.{tokens_next, shorter_pair, within_pair}
 use Rattle.contract_parse.proofs.words.next.Goals as goal
 
 pub returns-clause-starts : goal.returns-clause-starts

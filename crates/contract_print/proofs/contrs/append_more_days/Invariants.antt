@@ -1,6 +1,6 @@
 use Rattle.std.proofs.Common.{◌≡◌, ◌++◌, [], drop}
 use Rattle.term_model.specs.Declarations.{declarations}
-use Rattle.contract_parse.specs.Names.{declared_by}
+use Rattle.contract_grammar.specs.Names.{declared_by}
 use Rattle.contract_print.specs.TermTexts.{more_days_text}
 use Rattle.contract_print.proofs.contrs.append_more_days.Given as goal
 

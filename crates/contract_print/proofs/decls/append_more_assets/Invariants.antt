@@ -1,5 +1,5 @@
 use Rattle.std.proofs.Common.{◌≡◌, ◌++◌}
-use Rattle.contract_parse.specs.Versions.{version_of}
+use Rattle.contract_grammar.specs.Versions.{version_of}
 use Rattle.contract_print.specs.Canon.{more_assets_text}
 use Rattle.contract_print.proofs.decls.append_more_assets.Given as goal
 

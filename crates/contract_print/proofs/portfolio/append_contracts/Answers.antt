@@ -1,6 +1,6 @@
 use Rattle.std.proofs.Common.{ap, List, [], subst}
 use Rattle.term_model.specs.Declarations.{declarations}
-use Rattle.contract_parse.specs.Names.{declared_by}
+use Rattle.contract_grammar.specs.Names.{declared_by}
 use Rattle.contract_print.specs.Canon.{contract_text}
 use Rattle.contract_print.proofs.AppendFacts.{lines_on}
 use Rattle.std.specs.Prelude.{All}
@@ -10,9 +10,9 @@ use Rattle.std.proofs.lemmas.List.Elements.{All-head, All-tail}
 use Rattle.term_model.specs.declared.name.Name.{Name}
 use Rattle.term_model.specs.declared.terms.Contr.{Contr}
 use Rattle.term_model.specs.Terms.{Contract, contract}
-use Rattle.contract_print.specs.Writable.{IsWritableTerm}
+use Rattle.contract_grammar.specs.Writable.{IsWritableTerm}
 use Rattle.contract_print.proofs.portfolio.append_contracts.Goals as goal
-use Rattle.contract_parse.specs.ContractReading.{trees}
+use Rattle.contract_grammar.specs.ContractReading.{trees}
 
 pub print_contract-requires : goal.print_contract-requires
 print_contract-requires c =

@@ -2,7 +2,7 @@ use Rattle.std.proofs.lemmas.List.Elements.{All-map}
 use Rattle.term_model.specs.declared.name.Name.{Name}
 use Rattle.term_model.specs.declared.terms.Contr.{Contr}
 use Rattle.term_model.specs.Terms.{Contract, contract}
-use Rattle.contract_print.specs.Writable.{IsWritableTerm}
+use Rattle.contract_grammar.specs.Writable.{IsWritableTerm}
 use Rattle.library_rows.proofs.writable.book_under.Goals as goal
 
 -- the portfolio's contracts are those of the map, as trees

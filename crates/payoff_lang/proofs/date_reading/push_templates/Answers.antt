@@ -1,9 +1,9 @@
 use Rattle.std.proofs.Common.{◌∙◌, ◌∷◌, [], ◌++◌, List, ℕ, append_assoc, ap, arith, refl, sym, rules}
 use Rattle.std.proofs.lemmas.List.{append-nil}
-use Rattle.contract_parse.specs.Tokens.{tokens}
+use Rattle.contract_grammar.specs.Tokens.{tokens}
 use Rattle.contract_parse.specs.Expecting.{MoreTemplates}
 use Rattle.contract_parse.specs.Reading.{declared_in}
-use Rattle.contract_parse.proofs.Parts.{followed_by}
+use Rattle.contract_grammar.proofs.Parts.{followed_by}
 use Rattle.contract_parse.proofs.PlusFacts.{plus_lacks, plus_opens}
 use Rattle.contract_parse.proofs.Passing.{stopped_at}
 use Rattle.payoff_lang.proofs.date_reading.push_templates.Goals as goal

@@ -1,7 +1,7 @@
 use Rattle.std.proofs.Common.{◌≡◌, ◌≤◌, ◌∷◌, List, ℕ, length}
 use Rattle.indexmap.specs.IndexMap.{keys}
-use Rattle.contract_parse.specs.Tokens.{Tok, tokens}
-use Rattle.contract_parse.specs.Words.{Bytes}
+use Rattle.contract_grammar.specs.Tokens.{Tok, tokens}
+use Rattle.contract_grammar.specs.Words.{Bytes}
 use Rattle.contract_parse.specs.Expecting.{MoreTemplates, Expected, run}
 use Rattle.contract_parse.specs.Reading.{declared_in}
 use Rattle.payoff_lang.specs.CodeReading.{AddsTemplates}

@@ -1,7 +1,7 @@
 use Rattle.std.proofs.Common.{[], arith, rules, w32}
 use Rattle.std.specs.Prelude.{FitsSigned}
 use Rattle.std.proofs.lemmas.Int.{ints, to_z-of_z}
-use Rattle.contract_parse.specs.Tokens.{tokens}
+use Rattle.contract_grammar.specs.Tokens.{tokens}
 use Rattle.contract_parse.specs.Reading.{declared_in}
 use Rattle.payoff_lang.proofs.DatedSpelled.{put_keeps, put_last}
 use Rattle.payoff_lang.proofs.models.read_listed_date.Goals as goal

@@ -1,9 +1,9 @@
 use Rattle.std.proofs.Common.{◌∷◌, [], rules}
 use Rattle.std.specs.Prelude.{codes}
-use Rattle.contract_parse.specs.Tokens.{tokens}
+use Rattle.contract_grammar.specs.Tokens.{tokens}
 use Rattle.contract_parse.specs.Expecting.{AmountAt, NewIn, TheMark}
 use Rattle.contract_parse.specs.Reading.{declared_in, tok_of, tokens_after, tokens_ahead}
-use Rattle.contract_parse.specs.declared.names.NameSet.TheVariants.{Contract}
+use Rattle.contract_grammar.specs.declared.names.NameSet.TheVariants.{Contract}
 use Rattle.contract_parse.proofs.Passing.{word_taken}
 use Rattle.payoff_lang.proofs.CodeFaults.{word_refused}
 use Rattle.contract_parse.proofs.Passing.{stopped}

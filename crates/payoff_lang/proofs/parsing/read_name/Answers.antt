@@ -1,10 +1,10 @@
 use Rattle.std.proofs.Common.{◌≡◌, ◌∷◌, ◌++◌, [], List, ap, subst, rules}
 use Rattle.std.specs.Map.{keys_of}
-use Rattle.contract_parse.specs.Tokens.{tokens}
-use Rattle.contract_parse.specs.Words.{Bytes}
-use Rattle.contract_parse.specs.Names.{with_names}
+use Rattle.contract_grammar.specs.Tokens.{tokens}
+use Rattle.contract_grammar.specs.Words.{Bytes}
+use Rattle.contract_grammar.specs.Names.{with_names}
 use Rattle.contract_parse.specs.Expecting.{Leaves, NewIn, run}
-use Rattle.contract_parse.specs.declared.names.NameSet.TheVariants.{Contract}
+use Rattle.contract_grammar.specs.declared.names.NameSet.TheVariants.{Contract}
 use Rattle.payoff_lang.proofs.parsing.read_name.Goals as goal
 
 pub returns-clause-reads : goal.returns-clause-reads

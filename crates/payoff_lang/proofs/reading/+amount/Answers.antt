@@ -1,6 +1,6 @@
 use Rattle.std.proofs.Common.{◌+◌, ◌∷◌, refl, rules}
 use Rattle.std.proofs.lemmas.Result.{IfOk-weaker}
-use Rattle.contract_parse.specs.Tokens.{tokens}
+use Rattle.contract_grammar.specs.Tokens.{tokens}
 use Rattle.contract_parse.specs.Frames.{names_at}
 use Rattle.contract_parse.specs.Heads.{amount_head_at}
 use Rattle.contract_parse.specs.Expecting.{AmountAt, Next, amount_expected}

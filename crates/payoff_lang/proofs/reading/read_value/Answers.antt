@@ -1,7 +1,7 @@
 use Rattle.std.proofs.Common.{[], ◌∙◌, ap, arith, sym, subst, rules}
 use Rattle.term_model.specs.Sizes.{height}
 use Rattle.term_model.specs.Terms.{expression}
-use Rattle.contract_parse.specs.Tokens.{tokens}
+use Rattle.contract_grammar.specs.Tokens.{tokens}
 use Rattle.contract_parse.specs.Frames.{names_at}
 use Rattle.contract_parse.specs.Reading.{declared_in}
 use Rattle.payoff_lang.specs.Code.{ValueExpression}

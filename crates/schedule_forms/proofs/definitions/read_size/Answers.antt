@@ -4,8 +4,8 @@ use Rattle.std.specs.Int.{w128}
 use Rattle.std.proofs.lemmas.Int.{to_z-of_z}
 use Rattle.std.proofs.lemmas.Result.{IfOk-weaker}
 use Rattle.term_model.specs.Declarations.{declarations}
-use Rattle.contract_parse.specs.Tokens.{Tok, tokens}
-use Rattle.contract_parse.specs.Spelling.{word}
+use Rattle.contract_grammar.specs.Tokens.{Tok, tokens}
+use Rattle.contract_grammar.specs.Spelling.{word}
 use Rattle.contract_parse.specs.Reading.{Lacks}
 use Rattle.contract_parse.proofs.Passing.{stopped_at}
 use Rattle.schedule_forms.proofs.PlanSteps.{round_lacking, round_taken}

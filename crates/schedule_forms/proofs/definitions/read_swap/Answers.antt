@@ -1,8 +1,8 @@
 use Rattle.std.proofs.Common.{◌∷◌, ◌∙◌, rules}
 use Rattle.std.specs.Prelude.{codes}
 use Rattle.term_model.specs.Declarations.{declarations}
-use Rattle.contract_parse.specs.Tokens.{tokens}
-use Rattle.contract_parse.proofs.Parts.{followed_by}
+use Rattle.contract_grammar.specs.Tokens.{tokens}
+use Rattle.contract_grammar.proofs.Parts.{followed_by}
 use Rattle.contract_parse.proofs.Passing.{stopped_at}
 use Rattle.schedule_forms.specs.PlanExpecting.{leg_expected, the_word}
 use Rattle.schedule_forms.proofs.definitions.read_swap.Goals as goal

@@ -2,10 +2,10 @@ use Rattle.std.proofs.Common.{◌∙◌, ◌∷◌, ◌++◌, [], List, ap, subs
 use Rattle.std.specs.Prelude.{codes}
 use Rattle.std.specs.Map.{keys_of}
 use Rattle.term_model.specs.Declarations.{declarations}
-use Rattle.contract_parse.specs.Tokens.{tokens}
-use Rattle.contract_parse.specs.Words.{Bytes}
-use Rattle.contract_parse.specs.Spelling.{word}
-use Rattle.contract_parse.proofs.Parts.{followed_by}
+use Rattle.contract_grammar.specs.Tokens.{tokens}
+use Rattle.contract_grammar.specs.Words.{Bytes}
+use Rattle.contract_grammar.specs.Spelling.{word}
+use Rattle.contract_grammar.proofs.Parts.{followed_by}
 use Rattle.contract_parse.proofs.LineFacts.{inserted_entry, inserted_names}
 use Rattle.schedule_forms.specs.declared.heads.PlanHead.{PlanHead}
 use Rattle.schedule_forms.specs.PlanHeads.{word_of}

@@ -1,8 +1,8 @@
 use Rattle.std.proofs.Common.{◌∙◌, ◌∷◌, List, ap, arith, length, subst, sym, rules}
 use Rattle.indexmap.specs.IndexMap.{keys}
 use Rattle.term_model.specs.Declarations.{declarations}
-use Rattle.contract_parse.specs.Tokens.{Tok, tokens}
-use Rattle.contract_parse.specs.Statements.{Entry, Repeat, none, more}
+use Rattle.contract_grammar.specs.Tokens.{Tok, tokens}
+use Rattle.contract_grammar.specs.Statements.{Entry, Repeat, none, more}
 use Rattle.contract_parse.specs.Reading.{tok_of, tokens_after, tokens_ahead}
 use Rattle.contract_parse.proofs.Passing.{stopped_at}
 use Rattle.schedule_forms.specs.PlanSpelling.{plan_line}

@@ -1,10 +1,10 @@
 use Rattle.std.proofs.Common.{◌≤◌, arith, length}
 use Rattle.std.proofs.lemmas.Result.{IfOk-weaker}
-use Rattle.contract_parse.specs.Tokens.{tokens}
-use Rattle.contract_parse.specs.Versions.{One}
-use Rattle.contract_parse.specs.Names.{nothing_declared}
+use Rattle.contract_grammar.specs.Tokens.{tokens}
+use Rattle.contract_grammar.specs.Versions.{One}
+use Rattle.contract_grammar.specs.Names.{nothing_declared}
 use Rattle.contract_parse.specs.Expecting.{decls_expected}
-use Rattle.contract_parse.proofs.Parts.{followed_by}
+use Rattle.contract_grammar.proofs.Parts.{followed_by}
 use Rattle.schedule_forms.proofs.parsing.read_heading.Goals as goal
 
 pub returns-clause-reads : goal.returns-clause-reads

@@ -2,7 +2,7 @@ use Rattle.std.proofs.Common.{◌∷◌, []}
 use Rattle.std.proofs.lemmas.Result.{err_from_is_err_and}
 use Rattle.indexmap.specs.IndexMap.{keys}
 use Rattle.term_model.specs.Declarations.{declarations}
-use Rattle.contract_parse.specs.Tokens.{tokens}
+use Rattle.contract_grammar.specs.Tokens.{tokens}
 use Rattle.contract_parse.specs.Expecting.{AnyTokens, TheEnd}
 use Rattle.contract_parse.specs.Reading.{tokens_ahead}
 use Rattle.schedule_forms.specs.PlanExpecting.{Token}

@@ -1,7 +1,7 @@
 use Rattle.std.proofs.Common.{refl}
 use Rattle.indexmap.specs.IndexMap.{keys}
-use Rattle.contract_parse.specs.Judgements.{use_at}
-use Rattle.contract_parse.specs.Spelling.{valued}
+use Rattle.contract_grammar.specs.Judgements.{use_at}
+use Rattle.contract_grammar.specs.Spelling.{valued}
 use Rattle.contract_parse.specs.Expecting.{UseOf}
 use Rattle.schedule_forms.proofs.CommonFacts.{common_reads, one_value, takes_value}
 use Rattle.schedule_forms.proofs.readers.read_asset.Goals as goal

@@ -1,13 +1,13 @@
 use Rattle.std.proofs.Common.{◌≡◌, ◌∷◌, refl, sym, true, false, rules}
 use Rattle.std.specs.Prelude.{codes}
 use Rattle.std.proofs.lemmas.Result.{IfOk-weaker}
-use Rattle.contract_parse.specs.Judgements.{literal_at}
-use Rattle.contract_parse.specs.Words.{is_the_mark}
-use Rattle.contract_parse.specs.Tokens.{tokens}
+use Rattle.contract_grammar.specs.Judgements.{literal_at}
+use Rattle.contract_grammar.specs.Words.{is_the_mark}
+use Rattle.contract_grammar.specs.Tokens.{tokens}
 use Rattle.contract_parse.specs.Expecting.{LiteralNumber}
 use Rattle.contract_parse.specs.Reading.{tok_of}
 use Rattle.contract_parse.proofs.Steps.{so_spells, spells}
-use Rattle.contract_parse.proofs.Parts.{followed_by}
+use Rattle.contract_grammar.proofs.Parts.{followed_by}
 use Rattle.schedule_forms.specs.PlanExpecting.{DecimalAt, Next, Token, judged, plan_step}
 use Rattle.schedule_forms.proofs.PlanSteps.{plan_passes, plan_refuses, plan_so_passes}
 use Rattle.schedule_forms.proofs.readers.read_decimal.Goals as goal

@@ -1,7 +1,7 @@
 use Rattle.std.proofs.Common.{◌∷◌, refl, rules}
 use Rattle.std.specs.Prelude.{codes}
 use Rattle.contract_parse.specs.Reading.{tok_of}
-use Rattle.contract_parse.specs.Judgements.{integer_at}
+use Rattle.contract_grammar.specs.Judgements.{integer_at}
 use Rattle.contract_parse.proofs.Passing.{stopped}
 use Rattle.contract_parse.proofs.Steps.{spells}
 use Rattle.schedule_forms.specs.PlanExpecting.{EveryAt, FirstAt, Next, the_word}

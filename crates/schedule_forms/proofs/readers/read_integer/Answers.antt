@@ -1,6 +1,6 @@
 use Rattle.std.proofs.Common.{refl}
-use Rattle.contract_parse.specs.Judgements.{integer_at}
-use Rattle.contract_parse.specs.Spelling.{valued}
+use Rattle.contract_grammar.specs.Judgements.{integer_at}
+use Rattle.contract_grammar.specs.Spelling.{valued}
 use Rattle.contract_parse.specs.Expecting.{IntegerAt}
 use Rattle.schedule_forms.proofs.CommonFacts.{common_reads, one_value, takes_value}
 use Rattle.schedule_forms.proofs.readers.read_integer.Goals as goal

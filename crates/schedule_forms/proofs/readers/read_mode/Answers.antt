@@ -1,6 +1,6 @@
 use Rattle.std.proofs.Common.{refl}
-use Rattle.contract_parse.specs.Judgements.{mode_at}
-use Rattle.contract_parse.specs.Spelling.{valued}
+use Rattle.contract_grammar.specs.Judgements.{mode_at}
+use Rattle.contract_grammar.specs.Spelling.{valued}
 use Rattle.contract_parse.specs.Expecting.{ModeAt}
 use Rattle.schedule_forms.proofs.CommonFacts.{common_reads, one_value, takes_value}
 use Rattle.schedule_forms.proofs.readers.read_mode.Goals as goal

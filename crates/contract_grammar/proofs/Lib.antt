@@ -1,0 +1,13 @@
+pub mod EntryFacts
+pub mod Parts
+pub mod TokenKinds
+pub mod TokenFacts
+pub mod DateShape
+pub mod NameFacts
+pub mod ItemFacts
+pub mod Weights
+pub mod TextSizes
+pub mod TextNumbers
+pub mod SumFacts
+pub mod TextClosed
+pub mod AssetFacts

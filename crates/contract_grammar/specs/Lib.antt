@@ -1,0 +1,14 @@
+pub mod Tokens
+pub mod Words
+pub mod NameTexts
+pub mod Versions
+pub mod Names
+pub mod Judgements
+pub mod Sums
+pub mod Spelling
+pub mod Statements
+pub mod Texts
+pub mod Payments
+pub mod TextLaws
+pub mod ContractReading
+pub mod Writable

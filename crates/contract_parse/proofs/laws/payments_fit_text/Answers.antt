@@ -1,5 +1,0 @@
-use Rattle.contract_parse.proofs.TextSizes.{payments_fit}
-use Rattle.contract_parse.proofs.laws.payments_fit_text.Goals as goal
-
-pub returns : goal.returns
-returns c = payments_fit
