@@ -7,7 +7,7 @@ use Rattle.fixing_files.specs.Tables.{IsFirstFault, table_of}
 use Rattle.fixing_files.proofs.CurveLawFacts.{faulty_hold_none}
 use Rattle.fixing_files.proofs.LawFacts.{faulty_hold_nothing}
 use Rattle.payoff_check.proofs.VerdictFacts.{accepted_not_refused}
-use Rattle.payoff_lang.specs.CodeBooks.{CodeBook}
+use Rattle.payoff_terms.specs.CodeBooks.{CodeBook}
 use Rattle.report.specs.declared.fault_lines.Fault.{Fault}
 use Rattle.command_words.specs.Commands.{FlowsAsked, ValueAsked}
 use Rattle.command_answers.specs.Course.{Course, IsDue, Stops, behind, tells}

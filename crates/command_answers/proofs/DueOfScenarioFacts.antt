@@ -4,7 +4,7 @@ use Rattle.term_model.specs.Flows.{Flow}
 use Rattle.fixing_files.specs.Tables.{table_of}
 use Rattle.fixing_files.proofs.CurveLawFacts as curves
 use Rattle.payoff_check.proofs.VerdictFacts.{accepted_not_refused}
-use Rattle.payoff_lang.specs.CodeBooks.{CodeBook}
+use Rattle.payoff_terms.specs.CodeBooks.{CodeBook}
 use Rattle.scenario_set.proofs.TableLawFacts.{faulty_hold_none}
 use Rattle.report.specs.declared.fault_lines.Fault.{Fault}
 use Rattle.command_words.specs.Commands.{ScenariosAsked}

@@ -12,9 +12,9 @@ use Rattle.contract_print.specs.Migrated.{migrated}
 use Rattle.contract_print.proofs.LinesSpelled.{one_canon}
 use Rattle.fixing_files.specs.Tables.{table_of}
 use Rattle.fixing_files.proofs.CurveLawFacts.{one_curve}
-use Rattle.payoff_lang.specs.CodeBooks.{CodeBook}
+use Rattle.payoff_terms.specs.CodeBooks.{CodeBook}
 use Rattle.payoff_lang.specs.CodeCanon.{IsCanonOfCode}
-use Rattle.payoff_lang.specs.CodeValues.{Asked as Question}
+use Rattle.payoff_terms.specs.CodeValues.{Asked as Question}
 use Rattle.payoff_lang.proofs.CodeCanonFacts.{one_canon_of_code}
 use Rattle.payoff_lang.proofs.OneCode.{one_code_text}
 use Rattle.scenario_set.specs.LawsTotals.{at_setting}

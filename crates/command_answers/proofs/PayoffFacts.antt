@@ -19,11 +19,11 @@ use Rattle.contract_parse.specs.declared.next_contracts.ContractReader.{Contract
 use Rattle.contract_parse.specs.declared.next_contracts.NextContract.{NextContract}
 use Rattle.contract_grammar.specs.Writable.{IsWritableTerm}
 use Rattle.contract_print.proofs.TextSpellable.{texts_writable}
-use Rattle.payoff_lang.specs.Code.{PayoffCode}
-use Rattle.payoff_lang.specs.CodeBooks.{CodeBook}
+use Rattle.payoff_terms.specs.Code.{PayoffCode}
+use Rattle.payoff_terms.specs.CodeBooks.{CodeBook}
 use Rattle.payoff_lang.specs.CodeCanon.{IsCanonOfCode}
-use Rattle.payoff_lang.specs.Compiled.{code_of}
-use Rattle.payoff_lang.specs.WritableCode.{IsWritableCode}
+use Rattle.payoff_terms.specs.Compiled.{code_of}
+use Rattle.payoff_terms.specs.WritableCode.{IsWritableCode}
 use Rattle.payoff_compile.proofs.PlainFacts.{code_plain}
 use Rattle.payoff_compile.proofs.WritableFacts.{plain_writable, terms_small}
 use Rattle.report.specs.declared.fault_lines.Fault.{Fault}

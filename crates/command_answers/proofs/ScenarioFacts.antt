@@ -8,7 +8,7 @@ use Rattle.term_model.specs.Declarations.{Declarations}
 use Rattle.term_model.specs.Environments.{Place, held}
 use Rattle.fixing_files.specs.Tables.{table_of}
 use Rattle.fixing_files.specs.declared.faults.RowFault.{RowFault}
-use Rattle.payoff_lang.proofs.CodeAlikeFacts.{code_stays}
+use Rattle.payoff_terms.proofs.CodeAlikeFacts.{code_stays}
 use Rattle.payoff_eval.proofs.SameFacts.{same_lacked}
 use Rattle.scenario_set.specs.LawsTotals.{SameTotals}
 use Rattle.scenario_set.specs.Scenarios.{NamedMap, SameScenarios}

@@ -16,9 +16,9 @@ use Rattle.decimal.specs.declared.rounding.Mode.{Mode}
 use Rattle.fixing_files.specs.Tables.{table_of}
 use Rattle.fixing_files.proofs.CurveLawFacts.{one_curve}
 use Rattle.flow_eval.specs.declared.flow_table.FlowTable.{FlowTable}
-use Rattle.payoff_lang.specs.CodeBooks.{CodeBook}
+use Rattle.payoff_terms.specs.CodeBooks.{CodeBook}
 use Rattle.payoff_lang.specs.CodeCanon.{IsCanonOfCode}
-use Rattle.payoff_lang.specs.CodeValues.{Asked as Question}
+use Rattle.payoff_terms.specs.CodeValues.{Asked as Question}
 use Rattle.payoff_lang.proofs.OneCode.{one_code_text}
 use Rattle.scenario_set.specs.Scenarios.{NamedMap}
 use Rattle.scenario_set.specs.Totals.{Inquiry}

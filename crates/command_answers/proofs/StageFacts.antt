@@ -19,8 +19,8 @@ use Rattle.fixing_files.specs.declared.faults.RowFault.{RowFault}
 use Rattle.fixing_files.proofs.CurveLawFacts.{faulty_hold_none}
 use Rattle.fixing_files.proofs.CurveLawFacts as curves
 use Rattle.fixing_files.proofs.LawFacts.{faults_unique, faulty_hold_nothing}
-use Rattle.payoff_lang.specs.CodeBooks.{CodeBook}
-use Rattle.payoff_lang.specs.CodeValues.{Asked as Question}
+use Rattle.payoff_terms.specs.CodeBooks.{CodeBook}
+use Rattle.payoff_terms.specs.CodeValues.{Asked as Question}
 use Rattle.payoff_check.proofs.VerdictFacts.{accepted_not_refused, refusals_unique}
 use Rattle.schedule_forms.specs.PlanBooks.{PlanBook}
 use Rattle.schedule_forms.proofs.FileFacts.{one_plan_fault}

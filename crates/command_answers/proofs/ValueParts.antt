@@ -22,11 +22,11 @@ use Rattle.flow_eval.specs.declared.faults.FlowErr.TheVariants as flow
 use Rattle.payoff_check.specs.Verdicts.{IsScaleOf, IsTotalOf}
 use Rattle.payoff_eval.specs.Questions.{IsQuestion}
 use Rattle.payoff_eval.proofs.NodeFacts.{bounds_hold, total_at_root}
-use Rattle.payoff_lang.specs.CodeAcceptance.{IsAcceptedCode}
-use Rattle.payoff_lang.specs.CodeBooks.{CodeBook, code_book}
-use Rattle.payoff_lang.specs.CodeTotals.{total_of_code}
-use Rattle.payoff_lang.specs.CodeValues.{Asked as Question, scale_of_code}
-use Rattle.payoff_lang.specs.declared.code_file.CodeFile.{CodeFile}
+use Rattle.payoff_terms.specs.CodeAcceptance.{IsAcceptedCode}
+use Rattle.payoff_terms.specs.CodeBooks.{CodeBook, code_book}
+use Rattle.payoff_terms.specs.CodeTotals.{total_of_code}
+use Rattle.payoff_terms.specs.CodeValues.{Asked as Question, scale_of_code}
+use Rattle.payoff_terms.specs.declared.code_file.CodeFile.{CodeFile}
 use Rattle.report.specs.declared.fault_lines.Fault.{Fault}
 use Rattle.command_words.specs.Commands.{Between, ValueAsked}
 use Rattle.command_answers.specs.Course.{Course, Stops, Tells}

@@ -4,11 +4,11 @@ use Rattle.term_model.specs.Declarations.{Declarations}
 use Rattle.term_model.specs.Environments.{Environment, Extends, Place}
 use Rattle.term_model.specs.Reads.{first_unfixed, is_fixed, up_to_first}
 use Rattle.term_model.proofs.ReadLawFacts.{extension_reads, no_names}
-use Rattle.payoff_lang.specs.Code.{PayoffCode}
-use Rattle.payoff_lang.specs.CodeBooks.{CodeBook}
-use Rattle.payoff_lang.specs.CodeReads.{reads_of_code}
-use Rattle.payoff_lang.specs.CodeValues.{Asked as Question}
-use Rattle.payoff_lang.proofs.CodeAlikeFacts.{code_alike}
+use Rattle.payoff_terms.specs.Code.{PayoffCode}
+use Rattle.payoff_terms.specs.CodeBooks.{CodeBook}
+use Rattle.payoff_terms.specs.CodeReads.{reads_of_code}
+use Rattle.payoff_terms.specs.CodeValues.{Asked as Question}
+use Rattle.payoff_terms.proofs.CodeAlikeFacts.{code_alike}
 use Rattle.command_answers.specs.ValuePromise.{IsValue, missing_of_code}
 use Rattle.command_answers.proofs.FlowsAreOne.{HoldSame, extends_same, same_unfixed, unfixed_up_to}
 

@@ -4,7 +4,7 @@ use Rattle.term_model.specs.Declarations.{Declarations}
 use Rattle.fixing_files.specs.CurveTables.{IsFirstCurveFault}
 use Rattle.fixing_files.specs.Tables.{table_of}
 use Rattle.fixing_files.specs.declared.faults.RowFault.{RowFault}
-use Rattle.payoff_lang.specs.CodeBooks.{CodeBook}
+use Rattle.payoff_terms.specs.CodeBooks.{CodeBook}
 use Rattle.scenario_set.specs.Scenarios.{NamedMap}
 use Rattle.scenario_set.specs.ScenarioTables.{HoldsScenarios, IsFirstFault}
 use Rattle.scenario_set.specs.Totals.{AreFew, AreTooMany}

@@ -7,9 +7,9 @@ use Rattle.term_model.specs.Flows.{Flow}
 use Rattle.fixing_files.specs.CurveTables.{HoldsCurve, IsFirstCurveFault}
 use Rattle.fixing_files.specs.Tables.{Holds, IsFirstFault, table_of}
 use Rattle.fixing_files.specs.declared.faults.RowFault.{RowFault}
-use Rattle.payoff_lang.specs.CodeAcceptance.{IsAcceptedCode}
-use Rattle.payoff_lang.specs.CodeBooks.{CodeBook}
-use Rattle.payoff_lang.specs.CodeValues.{Asked as Question}
+use Rattle.payoff_terms.specs.CodeAcceptance.{IsAcceptedCode}
+use Rattle.payoff_terms.specs.CodeBooks.{CodeBook}
+use Rattle.payoff_terms.specs.CodeValues.{Asked as Question}
 use Rattle.report.specs.declared.fault_lines.Fault.{Fault}
 use Rattle.command_words.specs.Commands.{ValueAsked}
 use Rattle.command_answers.specs.Course.{IsDue, Stops}

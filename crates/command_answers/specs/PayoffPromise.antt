@@ -9,10 +9,10 @@ use Rattle.term_model.specs.Books.{Book}
 use Rattle.term_model.specs.Declarations.{Declarations, at_one_scale}
 use Rattle.term_model.specs.Instances.{instance, declared_numbers}
 use Rattle.term_model.specs.Terms.{Contract}
-use Rattle.payoff_lang.specs.Code.{PayoffCode}
-use Rattle.payoff_lang.specs.CodeBooks.{CodeBook}
+use Rattle.payoff_terms.specs.Code.{PayoffCode}
+use Rattle.payoff_terms.specs.CodeBooks.{CodeBook}
 use Rattle.payoff_lang.specs.CodeCanon.{IsCanonOfCode}
-use Rattle.payoff_lang.specs.Compiled.{code_of, cut_code}
+use Rattle.payoff_terms.specs.Compiled.{code_of, cut_code}
 use Rattle.command_words.specs.Commands.{PayoffAsked}
 use Rattle.command_answers.specs.UsedContracts.{contract_named}
 

@@ -3,7 +3,7 @@
 -- that are fixed in each of them; and then the lines of their values and of the total.
 use Rattle.std.specs.Prelude.{ℕ, List}
 use Rattle.decimal.specs.declared.rounding.Mode.{Mode}
-use Rattle.payoff_lang.specs.CodeBooks.{CodeBook}
+use Rattle.payoff_terms.specs.CodeBooks.{CodeBook}
 use Rattle.scenario_set.specs.Scenarios.{NamedMap}
 use Rattle.scenario_set.specs.Totals.{Inquiry}
 use Rattle.command_words.specs.Commands.{ScenariosAsked}

@@ -8,8 +8,8 @@ use Rattle.term_model.specs.Factors.{CurveRow}
 use Rattle.term_model.specs.Flows.{Flow}
 use Rattle.fixing_files.specs.CurveTables.{HoldsCurve}
 use Rattle.fixing_files.specs.Tables.{table_of}
-use Rattle.payoff_lang.specs.CodeAcceptance.{IsAcceptedCode}
-use Rattle.payoff_lang.specs.CodeBooks.{CodeBook}
+use Rattle.payoff_terms.specs.CodeAcceptance.{IsAcceptedCode}
+use Rattle.payoff_terms.specs.CodeBooks.{CodeBook}
 use Rattle.scenario_set.specs.LawsTotals.{at_setting}
 use Rattle.scenario_set.specs.Scenarios.{NamedMap}
 use Rattle.scenario_set.specs.ScenarioTables.{HoldsScenarios}

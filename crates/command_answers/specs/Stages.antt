@@ -15,11 +15,11 @@ use Rattle.contract_grammar.specs.declared.faults.TextFault.{TextFault}
 use Rattle.fixing_files.specs.CurveTables.{HoldsCurve, IsFirstCurveFault}
 use Rattle.fixing_files.specs.Tables.{IsFirstFault, table_of}
 use Rattle.fixing_files.specs.declared.faults.RowFault.{RowFault}
-use Rattle.payoff_lang.specs.CodeAcceptance.{IsAcceptedCode, IsCodeRefusal}
+use Rattle.payoff_terms.specs.CodeAcceptance.{IsAcceptedCode, IsCodeRefusal}
 use Rattle.payoff_lang.specs.CodeAnswers.{IsCodeFault}
-use Rattle.payoff_lang.specs.CodeBooks.{CodeBook}
+use Rattle.payoff_terms.specs.CodeBooks.{CodeBook}
 use Rattle.payoff_lang.specs.CodeFiles.{CodeText}
-use Rattle.payoff_lang.specs.CodeValues.{Asked as Question}
+use Rattle.payoff_terms.specs.CodeValues.{Asked as Question}
 use Rattle.schedule_forms.specs.PlanBooks.{PlanBook}
 use Rattle.schedule_forms.specs.PlanSpelling.{PlanText}
 use Rattle.schedule_forms.specs.PlanTexts.{IsPlanFault}

@@ -3,7 +3,7 @@
 -- are fixed; and then the line of the value.
 use Rattle.std.specs.Prelude.{ℕ, ℤ, List, Some}
 use Rattle.term_model.specs.Flows.{Flow}
-use Rattle.payoff_lang.specs.CodeBooks.{CodeBook}
+use Rattle.payoff_terms.specs.CodeBooks.{CodeBook}
 use Rattle.command_words.specs.Commands.{ValueAsked}
 use Rattle.command_answers.specs.Course.{Course, behind, tells}
 use Rattle.command_answers.specs.Inputs.{file_at}

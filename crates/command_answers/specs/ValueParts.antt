@@ -5,13 +5,13 @@ use Rattle.term_model.specs.Declarations.{Declarations}
 use Rattle.term_model.specs.Environments.{Environment, Place}
 use Rattle.term_model.specs.Factors.{CurveRow}
 use Rattle.term_model.specs.Flows.{Flow}
-use Rattle.payoff_lang.specs.CodeAcceptance.{IsAcceptedCode}
-use Rattle.payoff_lang.specs.CodeBooks.{CodeBook, code_book}
+use Rattle.payoff_terms.specs.CodeAcceptance.{IsAcceptedCode}
+use Rattle.payoff_terms.specs.CodeBooks.{CodeBook, code_book}
 use Rattle.payoff_lang.specs.CodeFiles.{CodeText}
-use Rattle.payoff_lang.specs.CodeSizes.{height_of_code, nodes_of_code}
-use Rattle.payoff_lang.specs.CodeTotals.{aligned_code_total}
-use Rattle.payoff_lang.specs.WellFormedCode.{IsClosedCode}
-use Rattle.payoff_lang.specs.declared.code_file.CodeFile.{CodeFile}
+use Rattle.payoff_terms.specs.CodeSizes.{height_of_code, nodes_of_code}
+use Rattle.payoff_terms.specs.CodeTotals.{aligned_code_total}
+use Rattle.payoff_terms.specs.WellFormedCode.{IsClosedCode}
+use Rattle.payoff_terms.specs.declared.code_file.CodeFile.{CodeFile}
 use Rattle.payoff_eval.specs.Questions.{HasNumberForEach, IsQuestion}
 use Rattle.report.specs.declared.fault_lines.Fault.{Fault}
 use Rattle.report.specs.declared.fault_lines.Fault.TheVariants as fault

@@ -11,12 +11,12 @@ use Rattle.term_model.specs.Reads.{first_unfixed}
 use Rattle.contract_grammar.specs.Names.{index_in}
 use Rattle.fixing_files.specs.CurveTables.{HoldsCurve}
 use Rattle.fixing_files.specs.Tables.{Holds, table_of}
-use Rattle.payoff_lang.specs.Code.{PayoffCode}
-use Rattle.payoff_lang.specs.CodeAcceptance.{IsAcceptedCode}
-use Rattle.payoff_lang.specs.CodeBooks.{CodeBook}
-use Rattle.payoff_lang.specs.CodeReads.{reads_of_code}
-use Rattle.payoff_lang.specs.CodeValues.{Asked as Question}
-use Rattle.payoff_lang.specs.Meaning.{face_value}
+use Rattle.payoff_terms.specs.Code.{PayoffCode}
+use Rattle.payoff_terms.specs.CodeAcceptance.{IsAcceptedCode}
+use Rattle.payoff_terms.specs.CodeBooks.{CodeBook}
+use Rattle.payoff_terms.specs.CodeReads.{reads_of_code}
+use Rattle.payoff_terms.specs.CodeValues.{Asked as Question}
+use Rattle.payoff_terms.specs.Meaning.{face_value}
 use Rattle.payoff_eval.specs.CodeAnswers.{aligned_value}
 use Rattle.report.specs.ValueLines.{value_text}
 use Rattle.command_words.specs.Commands.{Between, ValueAsked}

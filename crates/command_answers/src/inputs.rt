@@ -2,7 +2,7 @@
 
 ghost use Rattle.std.specs.Prelude.{◌≡◌, ◌≤◌, length};
 ghost use Rattle.term_model.specs.Limits.{longest_file};
-ghost use Rattle.payoff_lang.specs.CodeBooks.{code_book};
+ghost use Rattle.payoff_terms.specs.CodeBooks.{code_book};
 ghost use Rattle.command_answers.specs.Inputs.{bytes_of, file_at};
 ghost use Rattle.schedule_forms.specs.PlanBooks.{plan_book};
 ghost use Rattle.command_answers.specs.Stages.{IsBadCode, plans_of};
@@ -10,7 +10,8 @@ ghost use Rattle.command_answers.specs.Stopping.{AnswersBy, AnswersStage};
 ghost use Rattle.command_answers.specs.ValueParts.{IsReadFrom};
 
 use crate::stop::Stop;
-use payoff_lang::{CodeFile, parse_code};
+use payoff_lang::parse_code;
+use payoff_terms::CodeFile;
 use schedule_forms::{PlanFile, parse_plans};
 use std::alloc::Global;
 

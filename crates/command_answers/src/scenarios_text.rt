@@ -3,7 +3,7 @@
 ghost use Rattle.std.specs.Prelude.{◌≡◌, ◌≤◌, ◌+◌, IfOk, length};
 ghost use Rattle.term_model.specs.Declarations.{declarations};
 ghost use Rattle.term_model.specs.Limits.{longest_file};
-ghost use Rattle.payoff_lang.specs.CodeBooks.{code_book};
+ghost use Rattle.payoff_terms.specs.CodeBooks.{code_book};
 ghost use Rattle.scenario_set.specs.Scenarios.{AreAdmitted};
 ghost use Rattle.scenario_set.specs.TotalLines.{CanBeWritten, total_text};
 ghost use Rattle.command_words.specs.Words.{scenarios_by};
@@ -23,7 +23,7 @@ use crate::stop::Stop;
 use command_words::Scenarios as Asked;
 use decimal::{Mode, NoMemory};
 use fixing_files::{Curve, RowErr};
-use payoff_lang::CodeFile;
+use payoff_terms::CodeFile;
 use report::Fault;
 use scenario_set::{Scenarios, Totals, TotalsErr, read_scenarios, total_lines, totals};
 use std::alloc::Global;

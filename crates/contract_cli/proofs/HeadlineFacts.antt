@@ -11,10 +11,10 @@ use Rattle.term_model.specs.Flows.{Flow}
 use Rattle.term_model.specs.Instances.{IsSetting}
 use Rattle.term_model.specs.Terms.{Contract}
 use Rattle.contract_grammar.specs.Texts.{Text}
-use Rattle.payoff_lang.specs.CodeBooks.{CodeBook}
+use Rattle.payoff_terms.specs.CodeBooks.{CodeBook}
 use Rattle.payoff_lang.specs.CodeFiles.{CodeText}
-use Rattle.payoff_lang.specs.Meaning.{CodeMeans, Counting, MayBeAsked, Remaining}
-use Rattle.payoff_lang.proofs.CodeAlikeFacts.{code_stays}
+use Rattle.payoff_terms.specs.Meaning.{CodeMeans, Counting, MayBeAsked, Remaining}
+use Rattle.payoff_terms.proofs.CodeAlikeFacts.{code_stays}
 use Rattle.command_words.specs.Commands.{Advance, AdvanceAsked, Check, Novate, Payoff, PayoffAsked, Request, Scenarios, ScenariosAsked, Value, ValueAsked}
 use Rattle.scenario_set.specs.Totals.{AreTotals}
 use Rattle.scenario_set.specs.declared.outcomes.Totals.{Totals}

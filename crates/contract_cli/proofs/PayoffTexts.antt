@@ -22,8 +22,8 @@ use Rattle.contract_print.proofs.LinesSpelled.{decls_spelled}
 use Rattle.contract_print.proofs.MigratedFacts.{one_scale_spellable}
 use Rattle.contract_print.proofs.TextSpellable.{texts_spellable, texts_writable}
 use Rattle.payoff_lang.specs.CodeFiles.{IsPrintableFile}
-use Rattle.payoff_lang.specs.Compiled.{code_of}
-use Rattle.payoff_lang.specs.PrintableCode.{IsPrintableCode}
+use Rattle.payoff_terms.specs.Compiled.{code_of}
+use Rattle.payoff_terms.specs.PrintableCode.{IsPrintableCode}
 use Rattle.payoff_lang.proofs.CodeFileSpelled.{file_spelled}
 use Rattle.payoff_compile.specs.CompiledCode.{IsPlainCode}
 use Rattle.payoff_compile.specs.Literals.{ContractHasSmallLiterals}

@@ -19,7 +19,7 @@ use Rattle.contract_grammar.specs.Statements.{Entry, template_line}
 use Rattle.contract_grammar.specs.Tokens.{Tok}
 use Rattle.contract_grammar.specs.Words.{Bytes}
 use Rattle.contract_grammar.proofs.TextNumbers.{by_value, integer_within}
-use Rattle.payoff_lang.specs.CodeBooks.{CodeBook}
+use Rattle.payoff_terms.specs.CodeBooks.{CodeBook}
 use Rattle.payoff_lang.specs.CodeFiles.{CodeText}
 use Rattle.command_words.specs.Arguments.{Reading, read_rows, taken}
 use Rattle.command_words.specs.Commands.{Advance, AreSettings, Between, Check, Expand, Flows, Migrate, Novate, Payoff, Positions, Request, Sample, Scenarios, ScenariosAsked, Settle, Value, ValueAsked, ValueFiles}

@@ -16,13 +16,13 @@ use Rattle.contract_print.proofs.LinesSpelled.{book_spelled}
 use Rattle.contract_print.proofs.MigratedFacts.{migrated_spellable}
 use Rattle.contract_print.proofs.TextSpellable.{texts_spellable}
 use Rattle.contract_print.specs.Migrated.{migrated}
-use Rattle.payoff_lang.specs.CodeAcceptance.{IsAcceptedCode}
-use Rattle.payoff_lang.specs.CodeBooks.{CodeBook}
+use Rattle.payoff_terms.specs.CodeAcceptance.{IsAcceptedCode}
+use Rattle.payoff_terms.specs.CodeBooks.{CodeBook}
 use Rattle.payoff_lang.specs.CodeFiles.{CodeText}
-use Rattle.payoff_lang.specs.CodeValues.{Asked as Question, factor_on}
-use Rattle.payoff_lang.specs.Meaning.{CodeMeans, Counting, Remaining, counting}
+use Rattle.payoff_terms.specs.CodeValues.{Asked as Question, factor_on}
+use Rattle.payoff_terms.specs.Meaning.{CodeMeans, Counting, Remaining, counting}
 use Rattle.payoff_lang.proofs.OneCode.{one_code_text}
-use Rattle.payoff_lang.proofs.SumFacts.{same_sum}
+use Rattle.payoff_terms.proofs.SumFacts.{same_sum}
 use Rattle.command_words.specs.Commands.{AdvanceAsked, Check, Migrate, PayoffAsked, Value, ValueAsked}
 use Rattle.command_answers.specs.AdvancePromise.{IsRestBook}
 use Rattle.command_answers.specs.Course.{Answers, stopped, told}

@@ -13,11 +13,11 @@ use Rattle.term_model.specs.Environments.{Environment, Extends, IsAdmitted}
 use Rattle.term_model.specs.Instances.{instance}
 use Rattle.term_model.specs.Terms.{Contract}
 use Rattle.contract_grammar.specs.Texts.{Text}
-use Rattle.payoff_lang.specs.CodeBooks.{CodeBook}
+use Rattle.payoff_terms.specs.CodeBooks.{CodeBook}
 use Rattle.payoff_lang.specs.CodeFiles.{CodeText}
-use Rattle.payoff_lang.specs.CodeValues.{Asked as Question}
-use Rattle.payoff_lang.specs.Meaning.{CodeMeans, Counting, Remaining, counting, of_past}
-use Rattle.payoff_lang.specs.PresentValues.{present_value}
+use Rattle.payoff_terms.specs.CodeValues.{Asked as Question}
+use Rattle.payoff_terms.specs.Meaning.{CodeMeans, Counting, Remaining, counting, of_past}
+use Rattle.payoff_terms.specs.PresentValues.{present_value}
 use Rattle.scenario_set.specs.Scenarios.{NamedMap}
 use Rattle.scenario_set.specs.TotalLines.{total_text}
 use Rattle.scenario_set.specs.Totals.{AreTotals, value_at}

@@ -6,12 +6,12 @@ use Rattle.term_model.specs.Declarations.{Declarations, at_one_scale}
 use Rattle.term_model.specs.Sizes.{nodes_of_contract}
 use Rattle.term_model.specs.Terms.{Contract}
 use Rattle.contract_grammar.specs.Texts.{Text}
-use Rattle.payoff_lang.specs.Code.{PayoffCode}
-use Rattle.payoff_lang.specs.CodeBooks.{CodeBook}
+use Rattle.payoff_terms.specs.Code.{PayoffCode}
+use Rattle.payoff_terms.specs.CodeBooks.{CodeBook}
 use Rattle.payoff_lang.specs.CodeCanon.{IsCanonOfCode}
 use Rattle.payoff_lang.specs.CodeFiles.{CodeText}
-use Rattle.payoff_lang.specs.CodeSizes.{nodes_of_code}
-use Rattle.payoff_lang.specs.Meaning.{CodeMeans, Counting, Everything, Remaining}
+use Rattle.payoff_terms.specs.CodeSizes.{nodes_of_code}
+use Rattle.payoff_terms.specs.Meaning.{CodeMeans, Counting, Everything, Remaining}
 use Rattle.payoff_compile.specs.CompiledCode.{IsAcceptedWith}
 use Rattle.command_words.specs.Commands.{PayoffAsked}
 use Rattle.command_answers.specs.PayoffPromise.{CanCompile, IsPayoffText}

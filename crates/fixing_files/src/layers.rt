@@ -88,6 +88,7 @@ pub struct LayeredFixings<'a> {
 }
 
 impl<'a> Model for LayeredFixings<'a> {
+    ghost use Rattle.term_model.specs.Environments.{Environment};
 
     ghost Value = { Environment };
 

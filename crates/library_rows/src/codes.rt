@@ -3,9 +3,9 @@
 ghost use Rattle.std.specs.Prelude.{◌*◌, ◌≡◌, ◌≤◌, ◌<◌, ◌+◌, length, IfOk};
 ghost use Rattle.term_model.specs.Limits.{most_counted, most_height_of_code};
 ghost use Rattle.term_model.specs.Declarations.{declarations};
-ghost use Rattle.payoff_lang.specs.Code.{payoff_code};
-ghost use Rattle.payoff_lang.specs.CodeSizes.{height_of_code, nodes_of_code};
-ghost use Rattle.payoff_lang.specs.WritableCode.{IsWritableCode};
+ghost use Rattle.payoff_terms.specs.Code.{payoff_code};
+ghost use Rattle.payoff_terms.specs.CodeSizes.{height_of_code, nodes_of_code};
+ghost use Rattle.payoff_terms.specs.WritableCode.{IsWritableCode};
 
 use crate::above::Above;
 use crate::bad_row::{Answer, BadRow};
@@ -14,8 +14,10 @@ use crate::printing::{
 };
 use decimal::NoMemory;
 use payoff_check::{CodeFacts, check_code};
-use payoff_lang::laws::{code_of_text_is_printable, printable_is_writable};
-use payoff_lang::{Code, CodeFile, parse_code, print_code};
+use payoff_lang::laws::code_of_text_is_printable;
+use payoff_lang::{parse_code, print_code};
+use payoff_terms::laws::printable_is_writable;
+use payoff_terms::{Code, CodeFile};
 use std::alloc::Global;
 use term_model::Setting;
 

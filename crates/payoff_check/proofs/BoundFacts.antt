@@ -22,15 +22,15 @@ use Rattle.interval_check.proofs.ScaledFacts.{scales_follow}
 use Rattle.interval_check.proofs.TotalFacts.{finds_range}
 use Rattle.term_model.specs.Bounds.{range_of as right_range}
 use Rattle.interval_check.proofs.TotalFacts as found
-use Rattle.payoff_lang.specs.Dating.{undated}
-use Rattle.payoff_lang.specs.Code.{ValueExpression, PayoffCode, Nothing, PayOn, Add, ScaleBy, LetBe}
-use Rattle.payoff_lang.specs.Code.{Loop, Cut}
-use Rattle.payoff_lang.specs.CodeValues.{scale_of_code}
-use Rattle.payoff_lang.specs.CodeSizes.{nodes_of_code}
-use Rattle.payoff_lang.specs.CodeTotals.{total_of_code}
-use Rattle.payoff_lang.specs.CodeSites.{CodeSite, InValue, AtCode, number_of, sites_of_code}
-use Rattle.payoff_lang.specs.CodeAcceptance.{code_is_sorted, code_is_scaled, code_is_bounded}
-use Rattle.payoff_lang.specs.CodeAcceptance.{MeetsInCode, FailsInCode}
+use Rattle.payoff_terms.specs.Dating.{undated}
+use Rattle.payoff_terms.specs.Code.{ValueExpression, PayoffCode, Nothing, PayOn, Add, ScaleBy, LetBe}
+use Rattle.payoff_terms.specs.Code.{Loop, Cut}
+use Rattle.payoff_terms.specs.CodeValues.{scale_of_code}
+use Rattle.payoff_terms.specs.CodeSizes.{nodes_of_code}
+use Rattle.payoff_terms.specs.CodeTotals.{total_of_code}
+use Rattle.payoff_terms.specs.CodeSites.{CodeSite, InValue, AtCode, number_of, sites_of_code}
+use Rattle.payoff_terms.specs.CodeAcceptance.{code_is_sorted, code_is_scaled, code_is_bounded}
+use Rattle.payoff_terms.specs.CodeAcceptance.{MeetsInCode, FailsInCode}
 use Rattle.payoff_check.specs.declared.totals.CodeTotal.{CodeTotal}
 use Rattle.payoff_check.specs.BoundTrials.{Found, value_tried, total_fits, total_here, of_nothing}
 use Rattle.payoff_check.specs.BoundTrials.{of_payment, of_sum, of_product, of_branches, of_part}

@@ -2,9 +2,9 @@
 use Rattle.std.proofs.Common.{◌≡◌, ℕ, ℤ, pos, refl, ap, ap₂, ◌∙◌, List}
 use Rattle.term_model.specs.Terms.{Expression}
 use Rattle.term_model.specs.Sizes.{nodes, height, work}
-use Rattle.payoff_lang.specs.TemplateDates.{Date, day_of}
-use Rattle.payoff_lang.specs.Dating.{dated_by, at_setting, undated}
-use Rattle.payoff_lang.specs.Code.{ValueExpression, Lit, Yes, Var, Model, Neg, Num, Cmp, Not, Logic, Cond, Widen, Round, Div, Acc}
+use Rattle.payoff_terms.specs.TemplateDates.{Date, day_of}
+use Rattle.payoff_terms.specs.Dating.{dated_by, at_setting, undated}
+use Rattle.payoff_terms.specs.Code.{ValueExpression, Lit, Yes, Var, Model, Neg, Num, Cmp, Not, Logic, Cond, Widen, Round, Div, Acc}
 use Rattle.payoff_check.specs.declared.part_sizes.ValueSize.{ValueSize}
 use Rattle.payoff_check.specs.SizeTrials.{over_one, over_two, over_three, over_days}
 

@@ -6,11 +6,11 @@ use Rattle.term_model.specs.Sites.{Trial, Layer, Naming, Site}
 use Rattle.term_core.specs.Trying.{then_do}
 use Rattle.term_model.proofs.Trials.{or_else}
 use Rattle.term_model.proofs.Trials as expressions
-use Rattle.payoff_lang.specs.TemplateDates.{Date}
-use Rattle.payoff_lang.specs.Dating.{dated_by, undated}
-use Rattle.payoff_lang.specs.Code.{ValueExpression, PayoffCode, Nothing, PayOn, Add, ScaleBy, LetBe, Loop, Cut}
-use Rattle.payoff_lang.specs.CodeSizes.{nodes_of_code}
-use Rattle.payoff_lang.specs.CodeSites.{CodeSite, InValue, AtCode, number_of, value_sites, sites_of_code, AllPassInCode, FirstFaultInCode}
+use Rattle.payoff_terms.specs.TemplateDates.{Date}
+use Rattle.payoff_terms.specs.Dating.{dated_by, undated}
+use Rattle.payoff_terms.specs.Code.{ValueExpression, PayoffCode, Nothing, PayOn, Add, ScaleBy, LetBe, Loop, Cut}
+use Rattle.payoff_terms.specs.CodeSizes.{nodes_of_code}
+use Rattle.payoff_terms.specs.CodeSites.{CodeSite, InValue, AtCode, number_of, value_sites, sites_of_code, AllPassInCode, FirstFaultInCode}
 use Rattle.payoff_check.specs.Trials.{Steps, code_tried}
 
 -- the number of the first site that fails a test

@@ -2,11 +2,11 @@
 use Rattle.std.proofs.Common.{ℕ, ℤ, ◌+◌, List, [], ◌∷◌, ◌++◌, map}
 use Rattle.term_model.specs.Sizes.{nodes}
 use Rattle.term_model.specs.Sites.{Trial, Layer, Naming, Site, sites_of, AllPass}
-use Rattle.payoff_lang.specs.TemplateDates.{Date}
-use Rattle.payoff_lang.specs.Dating.{dated_by, undated}
-use Rattle.payoff_lang.specs.Code.{ValueExpression, PayoffCode, Nothing, PayOn, Add, ScaleBy, LetBe, Loop, Cut}
-use Rattle.payoff_lang.specs.CodeSizes.{nodes_of_code}
-use Rattle.payoff_lang.specs.CodeSites.{CodeSite, InValue, AtCode, value_sites, sites_of_code, AllPassInCode}
+use Rattle.payoff_terms.specs.TemplateDates.{Date}
+use Rattle.payoff_terms.specs.Dating.{dated_by, undated}
+use Rattle.payoff_terms.specs.Code.{ValueExpression, PayoffCode, Nothing, PayOn, Add, ScaleBy, LetBe, Loop, Cut}
+use Rattle.payoff_terms.specs.CodeSizes.{nodes_of_code}
+use Rattle.payoff_terms.specs.CodeSites.{CodeSite, InValue, AtCode, value_sites, sites_of_code, AllPassInCode}
 use Rattle.payoff_check.proofs.Finding.{EachNode}
 
 left : (P : CodeSite → Type 0) (xs ys : List CodeSite) → AllPassInCode P (xs ++ ys) → AllPassInCode P xs

@@ -14,13 +14,13 @@ use Rattle.scale_check.specs.ScaleTrials.{scale_tried}
 use Rattle.scale_check.proofs.Finding as found
 use Rattle.scale_check.proofs.SortedKinds.{kind_sorted}
 use Rattle.scale_check.proofs.ExprScaleFacts.{IsScale, scales_round, scale_finds}
-use Rattle.payoff_lang.specs.Dating.{undated}
-use Rattle.payoff_lang.specs.Code.{ValueExpression, PayoffCode, Nothing, PayOn, Add, ScaleBy, LetBe}
-use Rattle.payoff_lang.specs.Code.{Loop, Cut}
-use Rattle.payoff_lang.specs.CodeValues.{scale_of_code}
-use Rattle.payoff_lang.specs.CodeSites.{CodeSite, InValue, AtCode, sites_of_code}
-use Rattle.payoff_lang.specs.CodeAcceptance.{code_is_sorted, code_is_scaled, MeetsInCode}
-use Rattle.payoff_lang.specs.CodeAcceptance.{FailsInCode}
+use Rattle.payoff_terms.specs.Dating.{undated}
+use Rattle.payoff_terms.specs.Code.{ValueExpression, PayoffCode, Nothing, PayOn, Add, ScaleBy, LetBe}
+use Rattle.payoff_terms.specs.Code.{Loop, Cut}
+use Rattle.payoff_terms.specs.CodeValues.{scale_of_code}
+use Rattle.payoff_terms.specs.CodeSites.{CodeSite, InValue, AtCode, sites_of_code}
+use Rattle.payoff_terms.specs.CodeAcceptance.{code_is_sorted, code_is_scaled, MeetsInCode}
+use Rattle.payoff_terms.specs.CodeAcceptance.{FailsInCode}
 use Rattle.payoff_check.specs.declared.scale_rule.Scaled.{Scaled}
 use Rattle.payoff_check.specs.ScaleTrials.{value_tried, kept, scaling, scales_tried}
 use Rattle.payoff_check.proofs.Finding.{Finds, first_failing-map, here, Follows, code_finds, meets}

@@ -9,13 +9,13 @@ use Rattle.term_model.specs.Sizes.{nodes}
 use Rattle.term_core.specs.Trying.{then_do, moved}
 use Rattle.term_model.specs.Bounds.{single, fits}
 use Rattle.interval_check.specs.RangeTrials.{ranged}
-use Rattle.payoff_lang.specs.TemplateDates.{Date, day_of}
-use Rattle.payoff_lang.specs.Code.{ValueExpression, Lit, PayoffCode, Nothing, PayOn, Add, ScaleBy, Cut}
-use Rattle.payoff_lang.specs.CodeSizes.{nodes_of_code}
-use Rattle.payoff_lang.specs.CodeValues.{scale_of_code}
-use Rattle.payoff_lang.specs.CodeTotals.{total_of_code}
-use Rattle.payoff_lang.specs.CodeAcceptance.{IsAcceptedCode, is_date}
-use Rattle.payoff_lang.specs.Dating.{undated}
+use Rattle.payoff_terms.specs.TemplateDates.{Date, day_of}
+use Rattle.payoff_terms.specs.Code.{ValueExpression, Lit, PayoffCode, Nothing, PayOn, Add, ScaleBy, Cut}
+use Rattle.payoff_terms.specs.CodeSizes.{nodes_of_code}
+use Rattle.payoff_terms.specs.CodeValues.{scale_of_code}
+use Rattle.payoff_terms.specs.CodeTotals.{total_of_code}
+use Rattle.payoff_terms.specs.CodeAcceptance.{IsAcceptedCode, is_date}
+use Rattle.payoff_terms.specs.Dating.{undated}
 use Rattle.payoff_check.specs.declared.totals.CodeTotal.{CodeTotal}
 use Rattle.payoff_check.specs.declared.simple_code.SimpleCode.{SimpleCode}
 use Rattle.payoff_check.specs.Trials.{Steps, code_tried}

@@ -5,12 +5,12 @@ use Rattle.term_model.specs.Declarations.{Declarations}
 use Rattle.term_model.specs.Sites.{Layer, Site, Once, sites_of}
 use Rattle.term_core.specs.Trying.{moved}
 use Rattle.scale_check.proofs.Finding as found
-use Rattle.payoff_lang.specs.TemplateDates.{day_of}
-use Rattle.payoff_lang.specs.Dating.{at_setting, undated}
-use Rattle.payoff_lang.specs.Code.{ValueExpression, PayoffCode, Nothing, PayOn, Add, ScaleBy, LetBe, Loop, Cut}
-use Rattle.payoff_lang.specs.CodeSizes.{nodes_of_code, height_of_code, work_of_code, loop_days, as_count}
-use Rattle.payoff_lang.specs.CodeSites.{CodeSite, InValue, AtCode, number_of, sites_of_code}
-use Rattle.payoff_lang.specs.CodeAcceptance.{code_is_small, dates_in_range, within_code_limits, MeetsInCode, FailsInCode}
+use Rattle.payoff_terms.specs.TemplateDates.{day_of}
+use Rattle.payoff_terms.specs.Dating.{at_setting, undated}
+use Rattle.payoff_terms.specs.Code.{ValueExpression, PayoffCode, Nothing, PayOn, Add, ScaleBy, LetBe, Loop, Cut}
+use Rattle.payoff_terms.specs.CodeSizes.{nodes_of_code, height_of_code, work_of_code, loop_days, as_count}
+use Rattle.payoff_terms.specs.CodeSites.{CodeSite, InValue, AtCode, number_of, sites_of_code}
+use Rattle.payoff_terms.specs.CodeAcceptance.{code_is_small, dates_in_range, within_code_limits, MeetsInCode, FailsInCode}
 use Rattle.payoff_check.specs.declared.part_sizes.ValueSize.{ValueSize}
 use Rattle.payoff_check.specs.declared.part_sizes.CodeSize.{CodeSize}
 use Rattle.payoff_check.specs.SizeTrials.{size_tried, unit, together, behind, over, looped, dated_code, sizing, sizes_tried}

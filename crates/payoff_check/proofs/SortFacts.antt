@@ -19,11 +19,11 @@ use Rattle.time_types.specs.SortTrials.{sort_tried}
 use Rattle.time_types.specs.SortTrials as expressions
 use Rattle.time_types.proofs.SortFacts.{names, sort_finds}
 use Rattle.time_types.proofs.SortFacts as found
-use Rattle.payoff_lang.specs.Dating.{undated}
-use Rattle.payoff_lang.specs.Code.{ValueExpression, PayoffCode, Nothing, PayOn, Add, ScaleBy, LetBe}
-use Rattle.payoff_lang.specs.Code.{Loop, Cut}
-use Rattle.payoff_lang.specs.CodeSites.{CodeSite, InValue, AtCode, sites_of_code}
-use Rattle.payoff_lang.specs.CodeAcceptance.{code_is_sorted, MeetsInCode, FailsInCode}
+use Rattle.payoff_terms.specs.Dating.{undated}
+use Rattle.payoff_terms.specs.Code.{ValueExpression, PayoffCode, Nothing, PayOn, Add, ScaleBy, LetBe}
+use Rattle.payoff_terms.specs.Code.{Loop, Cut}
+use Rattle.payoff_terms.specs.CodeSites.{CodeSite, InValue, AtCode, sites_of_code}
+use Rattle.payoff_terms.specs.CodeAcceptance.{code_is_sorted, MeetsInCode, FailsInCode}
 use Rattle.payoff_check.specs.declared.sort_rule.Sorted.{Sorted}
 use Rattle.payoff_check.specs.SortTrials.{needed, sorting, sorts_tried}
 use Rattle.payoff_check.proofs.Finding.{Finds, first_failing-map, fine, faulty, Follows, code_finds}

@@ -7,7 +7,7 @@ use Rattle.term_model.specs.Sizes.{nodes}
 use Rattle.term_model.specs.Sites.{Site, Layer, Counting, Earlier, Once, sites_of, expression_at}
 use Rattle.scale_check.proofs.Finding.{Finds, here}
 use Rattle.scale_check.proofs.Measuring.{Is, node, one_finds, two_find, three_find}
-use Rattle.payoff_lang.specs.CodeAcceptance.{value_is_small, is_date}
+use Rattle.payoff_terms.specs.CodeAcceptance.{value_is_small, is_date}
 use Rattle.payoff_check.specs.declared.part_sizes.ValueSize.{ValueSize}
 use Rattle.payoff_check.proofs.DateFreeFacts.{size_of}
 use Rattle.payoff_check.specs.SizeTrials.{Answer, leaf, over_one, over_two, over_three, over_days, value_fits, one_tried, two_tried, size_tried}

@@ -5,10 +5,10 @@ use Rattle.term_model.specs.declared.rules.Rule.{Rule}
 use Rattle.term_model.specs.declared.rules.Rule.TheVariants.{Sort, Time, Scale, Size, Bound}
 use Rattle.term_model.specs.declared.rules.CheckErr.TheVariants.{Refused, NoMemory}
 use Rattle.term_model.specs.Sites.{Once, EachDay}
-use Rattle.payoff_lang.specs.TemplateDates.{day_of}
-use Rattle.payoff_lang.specs.Code.{PayoffCode}
-use Rattle.payoff_lang.specs.CodeSites.{CodeSite, sites_of_code, AllPassInCode, FirstFaultInCode}
-use Rattle.payoff_lang.specs.CodeAcceptance.{code_is_sorted, code_is_scaled, code_is_small, code_is_bounded, MeetsInCode, FailsInCode, IsAcceptedCode}
+use Rattle.payoff_terms.specs.TemplateDates.{day_of}
+use Rattle.payoff_terms.specs.Code.{PayoffCode}
+use Rattle.payoff_terms.specs.CodeSites.{CodeSite, sites_of_code, AllPassInCode, FirstFaultInCode}
+use Rattle.payoff_terms.specs.CodeAcceptance.{code_is_sorted, code_is_scaled, code_is_small, code_is_bounded, MeetsInCode, FailsInCode, IsAcceptedCode}
 use Rattle.payoff_check.specs.declared.checks.CodeFacts.{CodeFacts}
 use Rattle.payoff_check.specs.CodeChecks.{AreCodeFacts}
 use Rattle.payoff_check.specs.CodeLaws.{HasRefusal, CodeIsAcceptedOrRefused, AcceptedCodeIsNotRefused, CodeRefusalsAreUnique, CodeAnswersAreUnique}

@@ -16,8 +16,8 @@ use Rattle.interval_check.specs.Ranges.{range}
 use Rattle.interval_check.specs.declared.ranges.Range.{Range as HeldRange}
 use Rattle.interval_check.specs.RangeScopes.{ranges_in}
 use Rattle.interval_check.specs.RangeTrials.{scale_in, range_tried, kind_found, AreScaled}
-use Rattle.payoff_lang.specs.Dating.{undated}
-use Rattle.payoff_lang.specs.Code.{PayoffCode, Nothing, PayOn, Add, ScaleBy, LetBe, Loop, Cut}
+use Rattle.payoff_terms.specs.Dating.{undated}
+use Rattle.payoff_terms.specs.Code.{PayoffCode, Nothing, PayOn, Add, ScaleBy, LetBe, Loop, Cut}
 use Rattle.payoff_check.specs.declared.bound_rule.Ranged.{Ranged}
 use Rattle.payoff_check.specs.declared.totals.CodeTotal.{CodeTotal}
 use Rattle.payoff_check.specs.Trials.{Steps, code_tried}

@@ -4,8 +4,8 @@ use Rattle.std.specs.Prelude.{ℕ, List, Result, Ok, Err}
 use Rattle.term_model.specs.Declarations.{Declarations}
 use Rattle.term_model.specs.declared.rules.CheckErr.{CheckErr}
 use Rattle.term_model.specs.declared.rules.CheckErr.TheVariants.{Refused, NoMemory}
-use Rattle.payoff_lang.specs.Code.{PayoffCode}
-use Rattle.payoff_lang.specs.CodeAcceptance.{IsAcceptedCode, IsCodeRefusal}
+use Rattle.payoff_terms.specs.Code.{PayoffCode}
+use Rattle.payoff_terms.specs.CodeAcceptance.{IsAcceptedCode, IsCodeRefusal}
 use Rattle.payoff_check.specs.Verdicts.{IsScaleOf, IsTotalOf}
 use Rattle.payoff_check.specs.declared.checks.CodeFacts.{CodeFacts}
 

@@ -5,8 +5,8 @@ use Rattle.term_model.specs.Declarations.{Declarations}
 use Rattle.term_model.specs.declared.rules.Rule.{Rule}
 use Rattle.term_model.specs.declared.rules.CheckErr.{CheckErr}
 use Rattle.term_model.specs.declared.rules.CheckErr.TheVariants.{NoMemory}
-use Rattle.payoff_lang.specs.Code.{PayoffCode}
-use Rattle.payoff_lang.specs.CodeAcceptance.{IsAcceptedCode, IsCodeRefusal}
+use Rattle.payoff_terms.specs.Code.{PayoffCode}
+use Rattle.payoff_terms.specs.CodeAcceptance.{IsAcceptedCode, IsCodeRefusal}
 use Rattle.payoff_check.specs.declared.checks.CodeFacts.{CodeFacts}
 use Rattle.payoff_check.specs.CodeChecks.{IsCheckedCode}
 

@@ -1,11 +1,11 @@
 -- Payoff code of parts that the program holds.
 use Rattle.std.specs.Prelude.{ℕ, ℤ, pos, []}
-use Rattle.payoff_lang.specs.TemplateDates.{Date, date}
-use Rattle.payoff_lang.specs.Code.{Lit, PayoffCode, Add, ScaleBy, LetBe, Loop, Cut}
-use Rattle.payoff_lang.specs.Code.{payoff_code, value_expression}
-use Rattle.payoff_lang.specs.declared.code.Code.{Code}
-use Rattle.payoff_lang.specs.declared.code.DateExpr.{DateExpr}
-use Rattle.payoff_lang.specs.declared.code.Vx.{Vx}
+use Rattle.payoff_terms.specs.TemplateDates.{Date, date}
+use Rattle.payoff_terms.specs.Code.{Lit, PayoffCode, Add, ScaleBy, LetBe, Loop, Cut}
+use Rattle.payoff_terms.specs.Code.{payoff_code, value_expression}
+use Rattle.payoff_terms.specs.declared.code.Code.{Code}
+use Rattle.payoff_terms.specs.declared.code.DateExpr.{DateExpr}
+use Rattle.payoff_terms.specs.declared.code.Vx.{Vx}
 
 abbrev pub added : Code → Code → PayoffCode
 added left right = Add (payoff_code left) (payoff_code right)

@@ -9,8 +9,8 @@ use Rattle.term_model.specs.Sizes.{nodes}
 use Rattle.term_model.specs.Scopes.{held_in}
 use Rattle.term_core.specs.Trying.{then_do, moved}
 use Rattle.scale_check.specs.ScaleTrials.{scale_tried}
-use Rattle.payoff_lang.specs.Dating.{undated}
-use Rattle.payoff_lang.specs.Code.{PayoffCode}
+use Rattle.payoff_terms.specs.Dating.{undated}
+use Rattle.payoff_terms.specs.Code.{PayoffCode}
 use Rattle.payoff_check.specs.declared.scale_rule.Scaled.{Scaled}
 use Rattle.payoff_check.specs.Trials.{Steps, code_tried}
 

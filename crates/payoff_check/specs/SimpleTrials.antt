@@ -3,7 +3,7 @@
 use Rattle.std.specs.Prelude.{ℕ, ◌+◌, ◌*◌, ◌^◌, ◌≡◌, ◌≤◌, max, List, [], Ok}
 use Rattle.term_model.specs.Declarations.{Declarations}
 use Rattle.term_model.specs.Limits.{most_height_of_code, most_nodes_of_code}
-use Rattle.payoff_lang.specs.Code.{PayoffCode}
+use Rattle.payoff_terms.specs.Code.{PayoffCode}
 use Rattle.payoff_check.specs.declared.scale_rule.Scaled.{Scaled}
 use Rattle.payoff_check.specs.declared.part_sizes.CodeSize.{CodeSize}
 use Rattle.payoff_check.specs.declared.totals.CodeTotal.{CodeTotal}

@@ -8,12 +8,12 @@ use Rattle.term_model.specs.Terms.{Widen, Round, Div, Acc}
 use Rattle.term_model.specs.Limits.{most_days, most_height_of_code, most_nodes_of_code, most_work}
 use Rattle.term_model.specs.Sizes.{nodes}
 use Rattle.term_core.specs.Trying.{then_do, moved}
-use Rattle.payoff_lang.specs.TemplateDates.{day_of}
-use Rattle.payoff_lang.specs.Dating.{at_setting}
-use Rattle.payoff_lang.specs.Code.{PayoffCode, value_expression}
-use Rattle.payoff_lang.specs.CodeSizes.{as_count}
-use Rattle.payoff_lang.specs.CodeAcceptance.{within_code_limits, is_date, is_upto}
-use Rattle.payoff_lang.specs.declared.code.Vx.{Vx}
+use Rattle.payoff_terms.specs.TemplateDates.{day_of}
+use Rattle.payoff_terms.specs.Dating.{at_setting}
+use Rattle.payoff_terms.specs.Code.{PayoffCode, value_expression}
+use Rattle.payoff_terms.specs.CodeSizes.{as_count}
+use Rattle.payoff_terms.specs.CodeAcceptance.{within_code_limits, is_date, is_upto}
+use Rattle.payoff_terms.specs.declared.code.Vx.{Vx}
 use Rattle.payoff_check.specs.declared.part_sizes.ValueSize.{ValueSize}
 use Rattle.payoff_check.specs.declared.part_sizes.CodeSize.{CodeSize}
 use Rattle.payoff_check.specs.Trials.{Steps, code_tried}

@@ -11,8 +11,8 @@ use Rattle.term_core.specs.Trying.{then_do, moved}
 use Rattle.time_types.specs.declared.observed_sorts.Sort.{Sort}
 use Rattle.time_types.specs.declared.observed_sorts.Sort.TheVariants.{Truth, Number}
 use Rattle.time_types.specs.SortTrials.{sort_tried}
-use Rattle.payoff_lang.specs.Dating.{undated}
-use Rattle.payoff_lang.specs.Code.{PayoffCode}
+use Rattle.payoff_terms.specs.Dating.{undated}
+use Rattle.payoff_terms.specs.Code.{PayoffCode}
 use Rattle.payoff_check.specs.declared.sort_rule.Sorted.{Sorted}
 use Rattle.payoff_check.specs.Trials.{Steps, code_tried}
 

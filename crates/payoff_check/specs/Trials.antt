@@ -5,12 +5,12 @@ use Rattle.std.specs.Prelude.{ℕ, ◌+◌, ◌≡◌, Result, Ok, Err}
 use Rattle.term_model.specs.Terms.{Expression}
 use Rattle.term_model.specs.Sizes.{nodes}
 use Rattle.term_core.specs.Trying.{then_do}
-use Rattle.payoff_lang.specs.TemplateDates.{Date}
-use Rattle.payoff_lang.specs.Dating.{undated}
-use Rattle.payoff_lang.specs.Code.{ValueExpression, value_expression}
-use Rattle.payoff_lang.specs.Code.{PayoffCode, Nothing, PayOn, Add, ScaleBy, LetBe, Loop, Cut}
-use Rattle.payoff_lang.specs.CodeSizes.{nodes_of_code}
-use Rattle.payoff_lang.specs.declared.code.Vx.{Vx}
+use Rattle.payoff_terms.specs.TemplateDates.{Date}
+use Rattle.payoff_terms.specs.Dating.{undated}
+use Rattle.payoff_terms.specs.Code.{ValueExpression, value_expression}
+use Rattle.payoff_terms.specs.Code.{PayoffCode, Nothing, PayOn, Add, ScaleBy, LetBe, Loop, Cut}
+use Rattle.payoff_terms.specs.CodeSizes.{nodes_of_code}
+use Rattle.payoff_terms.specs.declared.code.Vx.{Vx}
 use Rattle.payoff_check.specs.declared.faults.Fault.{Fault}
 use Rattle.payoff_check.specs.declared.faults.Fault.TheVariants.{At}
 

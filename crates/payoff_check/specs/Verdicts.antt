@@ -5,10 +5,10 @@ use Rattle.term_model.specs.Declarations.{Declarations}
 use Rattle.term_model.specs.declared.rules.Rule.{Rule}
 use Rattle.term_model.specs.declared.rules.CheckErr.{CheckErr}
 use Rattle.term_model.specs.declared.rules.CheckErr.TheVariants.{Refused, NoMemory}
-use Rattle.payoff_lang.specs.Code.{PayoffCode}
-use Rattle.payoff_lang.specs.CodeValues.{scale_of_code}
-use Rattle.payoff_lang.specs.CodeTotals.{total_of_code}
-use Rattle.payoff_lang.specs.CodeAcceptance.{MeetsInCode, FailsInCode}
+use Rattle.payoff_terms.specs.Code.{PayoffCode}
+use Rattle.payoff_terms.specs.CodeValues.{scale_of_code}
+use Rattle.payoff_terms.specs.CodeTotals.{total_of_code}
+use Rattle.payoff_terms.specs.CodeAcceptance.{MeetsInCode, FailsInCode}
 
 -- what is said of accepted code: its scale, and its total in units of that scale
 abbrev pub IsScaleOf : Declarations → PayoffCode → ℕ → Type 0

@@ -2,8 +2,8 @@
 
 ghost use Rattle.std.specs.Prelude.{◌≤◌, ◌<◌, ◌^◌};
 ghost use Rattle.term_model.specs.Declarations.{declarations};
-ghost use Rattle.payoff_lang.specs.Code.{payoff_code};
-ghost use Rattle.payoff_lang.specs.CodeSizes.{height_of_code, nodes_of_code};
+ghost use Rattle.payoff_terms.specs.Code.{payoff_code};
+ghost use Rattle.payoff_terms.specs.CodeSizes.{height_of_code, nodes_of_code};
 ghost use Rattle.payoff_check.specs.CodeChecks.{IsCheckedCode};
 
 use crate::bound_rule::bounds;
@@ -11,7 +11,7 @@ use crate::scale_rule::scales;
 use crate::simple_code::simple_code;
 use crate::size_rule::sizes;
 use crate::sort_rule::sorts;
-use payoff_lang::CodeFile;
+use payoff_terms::CodeFile;
 use std::alloc::Global;
 use term_model::{CheckErr, Setting};
 

@@ -1,10 +1,10 @@
 //! The days of dates at a setting.
 
 ghost use Rattle.std.specs.Prelude.{◌≡◌, ◌≤◌, ◌^◌, slice_index};
-ghost use Rattle.payoff_lang.specs.TemplateDates.{date, day_of, sum_at};
-ghost use Rattle.payoff_lang.specs.CodeAcceptance as rule;
+ghost use Rattle.payoff_terms.specs.TemplateDates.{date, day_of, sum_at};
+ghost use Rattle.payoff_terms.specs.CodeAcceptance as rule;
 
-use payoff_lang::DateExpr;
+use payoff_terms::DateExpr;
 use term_model::{GREATEST_DATE_NUMBER, MOST_DAYS};
 
 // The number that a setting has for a template, and 0 where it has none.

@@ -5,15 +5,15 @@
 
 ghost use Rattle.std.specs.Prelude.{◌≡◌, ◌≤◌, ◌+◌, true, unsigned_abs, IfSome};
 ghost use Rattle.term_model.specs.Declarations.{declarations};
-ghost use Rattle.payoff_lang.specs.TemplateDates.{date, day_of};
-ghost use Rattle.payoff_lang.specs.Code.{payoff_code};
-ghost use Rattle.payoff_lang.specs.CodeAcceptance as rule;
+ghost use Rattle.payoff_terms.specs.TemplateDates.{date, day_of};
+ghost use Rattle.payoff_terms.specs.Code.{payoff_code};
+ghost use Rattle.payoff_terms.specs.CodeAcceptance as rule;
 ghost use Rattle.payoff_check.specs.Parts.{added, cutting_on, literal_multiple};
 ghost use Rattle.payoff_check.specs.SimpleTrials.{IsSmall, IsWithin, PassesTrials};
 ghost use Rattle.payoff_check.specs.SimpleTrials as simple;
 
 use crate::days::{day_at, is_date};
-use payoff_lang::{Code, DateExpr, Vx};
+use payoff_terms::{Code, DateExpr, Vx};
 use scale_check::GREATEST_SCALE;
 use term_model::{Decls, MOST_HEIGHT_OF_CODE, MOST_NODES_OF_CODE};
 

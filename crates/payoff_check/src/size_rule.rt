@@ -8,10 +8,10 @@ ghost use Rattle.term_model.specs.Declarations.{declarations};
 ghost use Rattle.term_model.specs.declared.rules.Rule.{Rule};
 ghost use Rattle.term_model.specs.Sizes.{nodes};
 ghost use Rattle.term_core.specs.Trying.{moved};
-ghost use Rattle.payoff_lang.specs.TemplateDates.{date, day_of};
-ghost use Rattle.payoff_lang.specs.Code.{payoff_code};
-ghost use Rattle.payoff_lang.specs.CodeAcceptance as rule;
-ghost use Rattle.payoff_lang.specs.CodeSizes.{as_count, nodes_of_code};
+ghost use Rattle.payoff_terms.specs.TemplateDates.{date, day_of};
+ghost use Rattle.payoff_terms.specs.Code.{payoff_code};
+ghost use Rattle.payoff_terms.specs.CodeAcceptance as rule;
+ghost use Rattle.payoff_terms.specs.CodeSizes.{as_count, nodes_of_code};
 ghost use Rattle.payoff_check.specs.Parts.{added, multiple, looping_to, cutting_on};
 ghost use Rattle.payoff_check.specs.Trials.{undated_value};
 ghost use Rattle.payoff_check.specs.Verdicts.{IsCodeVerdict, NothingMore};
@@ -21,7 +21,7 @@ ghost use Rattle.payoff_check.specs.SizeTrials.{sizes_tried, tried_at};
 use crate::days::{day_at, is_date, is_upto};
 use crate::part_sizes::{CodeSize, ValueSize};
 use crate::value_sizes::size_of_value;
-use payoff_lang::{Code, DateExpr, Vx};
+use payoff_terms::{Code, DateExpr, Vx};
 use term_model::{CheckErr, Decls, Rule, Setting};
 
 // The size of a value expression whose first node has a number.

@@ -9,7 +9,7 @@ ghost use Rattle.term_model.specs.Terms.{Widen, Round, Div, Acc};
 ghost use Rattle.payoff_check.specs.Trials.{undated_value};
 
 use decimal::{Mode, NoMemory};
-use payoff_lang::Vx;
+use payoff_terms::Vx;
 use std::alloc::Global;
 use term_model::{CmpOp, Expr, LogicOp, NumOp};
 

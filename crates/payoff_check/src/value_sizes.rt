@@ -11,7 +11,7 @@ ghost use Rattle.payoff_check.specs.SizeTrials.{IsLimited, acc_tried, nodes_at, 
 
 use crate::days::{day_at, is_date};
 use crate::part_sizes::ValueSize;
-use payoff_lang::Vx;
+use payoff_terms::Vx;
 use term_core::behind_node;
 
 /// The nodes of a value expression.

@@ -1,9 +1,9 @@
 -- The code that one walk finds is the code of the contract, and where it cuts the cut code of that.
 use Rattle.std.proofs.Common.{◌≡◌, Bool, true, false, refl, ap, ap₂}
 use Rattle.term_model.specs.Terms.{Contract, Zero, Pay, Both, Scale, After, Let, Within}
-use Rattle.payoff_lang.specs.TemplateDates.{Date, date_of_days, no_date, plus}
-use Rattle.payoff_lang.specs.Code.{PayoffCode, Add, ScaleBy, LetBe, Loop}
-use Rattle.payoff_lang.specs.Compiled.{compiled, compiled_value, cut_code}
+use Rattle.payoff_terms.specs.TemplateDates.{Date, date_of_days, no_date, plus}
+use Rattle.payoff_terms.specs.Code.{PayoffCode, Add, ScaleBy, LetBe, Loop}
+use Rattle.payoff_terms.specs.Compiled.{compiled, compiled_value, cut_code}
 use Rattle.payoff_compile.specs.CutOnTheWay.{compiled_with, code_with}
 
 uncut : (x : Date) (c : Contract) → compiled_with false x c ≡ compiled x c

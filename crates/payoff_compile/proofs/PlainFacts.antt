@@ -1,11 +1,11 @@
 -- What the compiler promises, put together.
 use Rattle.std.proofs.Common.{arith}
 use Rattle.term_model.specs.Instances.{declared_numbers}
-use Rattle.payoff_lang.specs.TemplateDates.{no_date}
-use Rattle.payoff_lang.specs.Compiled.{code_of}
-use Rattle.payoff_lang.proofs.CutFacts.{cut_value}
-use Rattle.payoff_lang.proofs.MeaningFacts.{compiled_means, cut_means}
-use Rattle.payoff_lang.proofs.WellFormedFacts.{codes_formed}
+use Rattle.payoff_terms.specs.TemplateDates.{no_date}
+use Rattle.payoff_terms.specs.Compiled.{code_of}
+use Rattle.payoff_terms.proofs.CutFacts.{cut_value}
+use Rattle.payoff_terms.proofs.MeaningFacts.{compiled_means, cut_means}
+use Rattle.payoff_terms.proofs.WellFormedFacts.{codes_formed}
 use Rattle.payoff_compile.specs.LawsCompiled.{CodeIsPlain, CutCodeCountsTheRest}
 use Rattle.payoff_compile.proofs.AcceptedFacts.{compiled_accepted}
 use Rattle.payoff_compile.proofs.LimitFacts.{nodes_named}

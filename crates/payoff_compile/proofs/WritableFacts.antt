@@ -3,8 +3,8 @@ use Rattle.std.proofs.Common.{ℕ, suc}
 use Rattle.term_model.specs.Terms.{Expression, Lit, Yes, Var, Obs, Neg, Num, Cmp, Not, Logic, Cond, Widen, Round, Div, Acc}
 use Rattle.term_model.specs.Terms.{Contract, Zero, Pay, Both, Scale, After, Let, Within}
 use Rattle.contract_grammar.specs.Writable.{IsWritable, IsWritableContract}
-use Rattle.payoff_lang.specs.Compiled.{cut_code}
-use Rattle.payoff_lang.proofs.CodeCanonFacts.{printable_writable}
+use Rattle.payoff_terms.specs.Compiled.{cut_code}
+use Rattle.payoff_terms.proofs.WritableFacts.{printable_writable}
 use Rattle.payoff_compile.specs.Literals.{HasSmallLiterals, ContractHasSmallLiterals}
 use Rattle.payoff_compile.specs.LawsCompiled.{PlainCodeIsWritable, WritableTermsHaveSmallLiterals}
 

@@ -8,14 +8,14 @@ use Rattle.term_model.specs.Instances.{instance}
 use Rattle.term_model.specs.Environments.{Environment}
 use Rattle.term_model.specs.Values.{Entry}
 use Rattle.term_model.specs.Factors.{IsCurve}
-use Rattle.payoff_lang.specs.Code.{PayoffCode}
-use Rattle.payoff_lang.specs.CodeValues.{Asked, code_value}
-use Rattle.payoff_lang.specs.CodeSizes.{nodes_of_code}
-use Rattle.payoff_lang.specs.CodeAcceptance.{IsAcceptedCode}
-use Rattle.payoff_lang.specs.Compiled.{cut_code}
-use Rattle.payoff_lang.specs.Meaning.{CodeMeans, Remaining, Everything, counting}
-use Rattle.payoff_lang.specs.WellFormedCode.{IsClosedCode}
-use Rattle.payoff_lang.specs.PrintableCode.{IsPrintableCode}
+use Rattle.payoff_terms.specs.Code.{PayoffCode}
+use Rattle.payoff_terms.specs.CodeValues.{Asked, code_value}
+use Rattle.payoff_terms.specs.CodeSizes.{nodes_of_code}
+use Rattle.payoff_terms.specs.CodeAcceptance.{IsAcceptedCode}
+use Rattle.payoff_terms.specs.Compiled.{cut_code}
+use Rattle.payoff_terms.specs.Meaning.{CodeMeans, Remaining, Everything, counting}
+use Rattle.payoff_terms.specs.WellFormedCode.{IsClosedCode}
+use Rattle.payoff_terms.specs.PrintableCode.{IsPrintableCode}
 use Rattle.payoff_compile.specs.Literals.{ContractHasSmallLiterals}
 
 -- code is accepted at every setting at which the contract is

@@ -1,9 +1,9 @@
 -- The code of a contract by one walk, as it is or with each payment cut once its day is gone by.
 use Rattle.std.specs.Prelude.{ℕ, Bool, true, false}
 use Rattle.term_model.specs.Terms.{Contract, Zero, Pay, Both, Scale, After, Let, Within}
-use Rattle.payoff_lang.specs.TemplateDates.{Date, date_of_days, plus}
-use Rattle.payoff_lang.specs.Code.{PayoffCode, Nothing, PayOn, Add, ScaleBy, LetBe, Loop, Cut}
-use Rattle.payoff_lang.specs.Compiled.{code_of, compiled_value, cut_code}
+use Rattle.payoff_terms.specs.TemplateDates.{Date, date_of_days, plus}
+use Rattle.payoff_terms.specs.Code.{PayoffCode, Nothing, PayOn, Add, ScaleBy, LetBe, Loop, Cut}
+use Rattle.payoff_terms.specs.Compiled.{code_of, compiled_value, cut_code}
 
 abbrev pub payment : Bool → Date → ℕ → ℕ → ℕ → PayoffCode
 payment false x a p q = PayOn x a p q

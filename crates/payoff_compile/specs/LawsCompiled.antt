@@ -10,12 +10,12 @@ use Rattle.term_model.specs.Bounds.{aligned_total}
 use Rattle.term_model.specs.Sizes.{nodes_of_contract, height_of_contract, work_of_contract, reach}
 use Rattle.term_model.specs.Instances.{instance, declared_numbers}
 use Rattle.contract_grammar.specs.Writable.{IsWritableTerm}
-use Rattle.payoff_lang.specs.Code.{PayoffCode}
-use Rattle.payoff_lang.specs.Compiled.{code_of, cut_code}
-use Rattle.payoff_lang.specs.CodeSizes.{nodes_of_code, height_of_code, work_of_code, loop_days}
-use Rattle.payoff_lang.specs.CodeTotals.{aligned_code_total}
-use Rattle.payoff_lang.specs.CodeAcceptance.{IsAcceptedCode}
-use Rattle.payoff_lang.specs.WritableCode.{IsWritableCode}
+use Rattle.payoff_terms.specs.Code.{PayoffCode}
+use Rattle.payoff_terms.specs.Compiled.{code_of, cut_code}
+use Rattle.payoff_terms.specs.CodeSizes.{nodes_of_code, height_of_code, work_of_code, loop_days}
+use Rattle.payoff_terms.specs.CodeTotals.{aligned_code_total}
+use Rattle.payoff_terms.specs.CodeAcceptance.{IsAcceptedCode}
+use Rattle.payoff_terms.specs.WritableCode.{IsWritableCode}
 use Rattle.payoff_compile.specs.Literals.{ContractHasSmallLiterals}
 use Rattle.payoff_compile.specs.CompiledCode.{IsPlainCode, CountsTheRest}
 

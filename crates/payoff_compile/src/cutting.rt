@@ -1,14 +1,13 @@
 //! Code whose payments are cut once they are gone by.
 
 ghost use Rattle.std.specs.Prelude.{◌≡◌, IfOk};
-ghost use Rattle.payoff_lang.specs.Code.{payoff_code, value_expression};
-ghost use Rattle.payoff_lang.specs.Code.{PayOn, Add, ScaleBy, LetBe, Loop, Cut};
-ghost use Rattle.payoff_lang.specs.TemplateDates.{date};
-ghost use Rattle.payoff_lang.specs.Compiled.{cut_code};
+ghost use Rattle.payoff_terms.specs.Code.{payoff_code, value_expression, PayOn, Add, ScaleBy, LetBe, Loop, Cut};
+ghost use Rattle.payoff_terms.specs.TemplateDates.{date};
+ghost use Rattle.payoff_terms.specs.Compiled.{cut_code};
 ghost use Rattle.payoff_compile.specs.CompiledCode.{CountsTheRest};
 
 use decimal::NoMemory;
-use payoff_lang::{Code, DateExpr, Vx, copied_date};
+use payoff_terms::{Code, DateExpr, Vx, copied_date};
 use std::alloc::Global;
 
 // Code with each payment cut on its date. A function pays at entry for the locals of all its arms,

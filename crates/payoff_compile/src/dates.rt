@@ -4,10 +4,10 @@ ghost use Rattle.std.specs.Prelude.{◌≡◌, ◌≤◌, IfOk, [], unsigned_abs
 ghost use Rattle.term_model.specs.Limits.{most_days};
 ghost use Rattle.term_model.specs.DayCounts.{day_count};
 ghost use Rattle.term_model.specs.Flows.{count_of};
-ghost use Rattle.payoff_lang.specs.TemplateDates.{date, date_of_days, insert_names, plus};
+ghost use Rattle.payoff_terms.specs.TemplateDates.{date, date_of_days, insert_names, plus};
 
 use decimal::NoMemory;
-use payoff_lang::{DateExpr, Dating, put_in_order, with_name};
+use payoff_terms::{DateExpr, Dating, put_in_order, with_name};
 use std::alloc::Global;
 use term_model::{DaySum, Days};
 

@@ -6,10 +6,10 @@ use Rattle.term_model.specs.declared.values.Missing.{Missing}
 use Rattle.term_model.specs.Environments.{Environment, Place, Extends}
 use Rattle.term_model.specs.Reads.{first_unfixed, is_fixed}
 use Rattle.term_model.proofs.ReadLawFacts.{no_names, extension_reads, all_fixed}
-use Rattle.payoff_lang.specs.Code.{PayoffCode}
-use Rattle.payoff_lang.specs.CodeValues.{Asked, code_value, scale_of_code}
-use Rattle.payoff_lang.specs.CodeReads.{reads_of_code, reaches_payment}
-use Rattle.payoff_lang.proofs.CodeAlikeFacts.{Worth as Worth', code_alike}
+use Rattle.payoff_terms.specs.Code.{PayoffCode}
+use Rattle.payoff_terms.specs.CodeValues.{Asked, code_value, scale_of_code}
+use Rattle.payoff_terms.specs.CodeReads.{reads_of_code, reaches_payment}
+use Rattle.payoff_terms.proofs.CodeAlikeFacts.{Worth as Worth', code_alike}
 use Rattle.payoff_eval.specs.declared.walk.Worth.{Worth}
 use Rattle.payoff_eval.specs.Walks.{unless, walk_of}
 use Rattle.payoff_eval.specs.CodeAnswers.{IsCodeValue}

@@ -26,14 +26,14 @@ use Rattle.expr_eval.proofs.RunValues.{same_kinds as entry_kinds}
 use Rattle.expr_eval.proofs.RunReads.{have_values}
 use Rattle.expr_eval.proofs.FitFacts.{InDays, kind_fits, run_fits}
 use Rattle.expr_eval.proofs.SpanFacts.{span}
-use Rattle.payoff_lang.specs.Dating.{at_setting, undated}
-use Rattle.payoff_lang.specs.Code.{ValueExpression, PayoffCode, Nothing, PayOn, Add, ScaleBy, LetBe, Loop, Cut}
-use Rattle.payoff_lang.specs.CodeValues.{Asked, value_at, entry_at, code_value, scale_of_code}
-use Rattle.payoff_lang.specs.CodeReads.{value_reads, reaches_payment, reads_of_code}
-use Rattle.payoff_lang.specs.CodeSizes.{height_of_code}
-use Rattle.payoff_lang.specs.CodeTotals.{range_at, total_of_code}
-use Rattle.payoff_lang.specs.CodeAcceptance.{IsAcceptedCode}
-use Rattle.payoff_lang.specs.WellFormedCode.{IsWellFormedValue, IsWellFormedCode, IsClosedCode}
+use Rattle.payoff_terms.specs.Dating.{at_setting, undated}
+use Rattle.payoff_terms.specs.Code.{ValueExpression, PayoffCode, Nothing, PayOn, Add, ScaleBy, LetBe, Loop, Cut}
+use Rattle.payoff_terms.specs.CodeValues.{Asked, value_at, entry_at, code_value, scale_of_code}
+use Rattle.payoff_terms.specs.CodeReads.{value_reads, reaches_payment, reads_of_code}
+use Rattle.payoff_terms.specs.CodeSizes.{height_of_code}
+use Rattle.payoff_terms.specs.CodeTotals.{range_at, total_of_code}
+use Rattle.payoff_terms.specs.CodeAcceptance.{IsAcceptedCode}
+use Rattle.payoff_terms.specs.WellFormedCode.{IsWellFormedValue, IsWellFormedCode, IsClosedCode}
 use Rattle.term_model.proofs.Products.{mul-assoc}
 use Rattle.payoff_eval.specs.declared.walk.Worth.{Worth}
 use Rattle.payoff_eval.specs.Walks.{unless}

@@ -8,9 +8,9 @@ use Rattle.interval_check.specs.Safety.{IsSmall}
 use Rattle.interval_check.specs.Within.{KeepsLimits}
 use Rattle.expr_eval.specs.declared.scratch.Binding.{Binding}
 use Rattle.expr_eval.proofs.RunReads.{self_extends}
-use Rattle.payoff_lang.specs.Code.{PayoffCode}
-use Rattle.payoff_lang.specs.CodeValues.{Asked}
-use Rattle.payoff_lang.specs.CodeAcceptance.{IsAcceptedCode}
+use Rattle.payoff_terms.specs.Code.{PayoffCode}
+use Rattle.payoff_terms.specs.CodeValues.{Asked}
+use Rattle.payoff_terms.specs.CodeAcceptance.{IsAcceptedCode}
 use Rattle.payoff_eval.specs.declared.walk.Worth.{Worth}
 use Rattle.payoff_eval.specs.Questions.{asked_on}
 use Rattle.payoff_eval.specs.CodeRuns.{CodeFits, amount_in, run_code}

@@ -16,15 +16,15 @@ use Rattle.interval_check.proofs.NodeFacts.{nodes_hold}
 use Rattle.interval_check.proofs.NodeTests.{at_root}
 use Rattle.interval_check.proofs.RuleFacts.{kinds_of_ranges}
 use Rattle.expr_eval.proofs.SpanFacts.{span}
-use Rattle.payoff_lang.specs.TemplateDates.{Date, day_of}
-use Rattle.payoff_lang.specs.Dating.{dated_by, at_setting, undated}
-use Rattle.payoff_lang.specs.Code.{ValueExpression, Lit, Yes, Var, Model, Neg, Num, Cmp, Not, Logic, Cond, Widen, Round, Div, Acc, PayoffCode, Nothing, PayOn, Add, ScaleBy, LetBe, Loop, Cut}
-use Rattle.payoff_lang.specs.CodeValues.{scale_of_code}
-use Rattle.payoff_lang.specs.CodeSizes.{nodes_of_code, height_of_code, work_of_code, loop_days}
-use Rattle.payoff_lang.specs.CodeTotals.{range_at, total_of_code, aligned_code_total}
-use Rattle.payoff_lang.specs.CodeSites.{CodeSite, InValue, AtCode, value_sites, sites_of_code, AllPassInCode}
-use Rattle.payoff_lang.specs.CodeAcceptance.{IsAcceptedCode, code_is_scaled, code_is_small, code_is_bounded, value_is_small, within_code_limits, date_in_range, dates_in_range, is_date, is_upto}
-use Rattle.payoff_lang.specs.WellFormedCode.{AreTemplates, IsWellFormedValue}
+use Rattle.payoff_terms.specs.TemplateDates.{Date, day_of}
+use Rattle.payoff_terms.specs.Dating.{dated_by, at_setting, undated}
+use Rattle.payoff_terms.specs.Code.{ValueExpression, Lit, Yes, Var, Model, Neg, Num, Cmp, Not, Logic, Cond, Widen, Round, Div, Acc, PayoffCode, Nothing, PayOn, Add, ScaleBy, LetBe, Loop, Cut}
+use Rattle.payoff_terms.specs.CodeValues.{scale_of_code}
+use Rattle.payoff_terms.specs.CodeSizes.{nodes_of_code, height_of_code, work_of_code, loop_days}
+use Rattle.payoff_terms.specs.CodeTotals.{range_at, total_of_code, aligned_code_total}
+use Rattle.payoff_terms.specs.CodeSites.{CodeSite, InValue, AtCode, value_sites, sites_of_code, AllPassInCode}
+use Rattle.payoff_terms.specs.CodeAcceptance.{IsAcceptedCode, code_is_scaled, code_is_small, code_is_bounded, value_is_small, within_code_limits, date_in_range, dates_in_range, is_date, is_upto}
+use Rattle.payoff_terms.specs.WellFormedCode.{AreTemplates, IsWellFormedValue}
 use Rattle.payoff_eval.specs.DatesFit.{DateFits, DatesFit}
 use Rattle.payoff_eval.proofs.RuleFacts.{code-left, code-right, from_map}
 

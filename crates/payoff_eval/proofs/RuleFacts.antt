@@ -12,12 +12,12 @@ use Rattle.term_model.specs.Sites.{Trial, Once, EachDay, Part, OfExpression, Lay
 use Rattle.interval_check.specs.Nodes.{EachNode, InRounds, range_after, IsSortedPart, IsScaledPart, IsBoundedPart, has_scaled_parts}
 use Rattle.interval_check.proofs.NodeFacts.{nodes_hold}
 use Rattle.interval_check.proofs.RuleFacts.{sorted_is, scaled_is}
-use Rattle.payoff_lang.specs.TemplateDates.{Date, day_of}
-use Rattle.payoff_lang.specs.Dating.{dated_by, at_setting, undated}
-use Rattle.payoff_lang.specs.Code.{ValueExpression, Lit, Yes, Var, Model, Neg, Num, Cmp, Not, Logic, Cond, Widen, Round, Div, Acc, PayoffCode, Nothing, PayOn, Add, ScaleBy, LetBe, Loop, Cut}
-use Rattle.payoff_lang.specs.CodeSites.{CodeSite, InValue, value_sites, sites_of_code, AllPassInCode}
-use Rattle.payoff_lang.specs.CodeAcceptance.{IsAcceptedCode, code_is_sorted, code_is_scaled, code_is_bounded}
-use Rattle.payoff_lang.proofs.DateFreeFacts.{kind_any, scale_any, interval_any, two_intervals}
+use Rattle.payoff_terms.specs.TemplateDates.{Date, day_of}
+use Rattle.payoff_terms.specs.Dating.{dated_by, at_setting, undated}
+use Rattle.payoff_terms.specs.Code.{ValueExpression, Lit, Yes, Var, Model, Neg, Num, Cmp, Not, Logic, Cond, Widen, Round, Div, Acc, PayoffCode, Nothing, PayOn, Add, ScaleBy, LetBe, Loop, Cut}
+use Rattle.payoff_terms.specs.CodeSites.{CodeSite, InValue, value_sites, sites_of_code, AllPassInCode}
+use Rattle.payoff_terms.specs.CodeAcceptance.{IsAcceptedCode, code_is_sorted, code_is_scaled, code_is_bounded}
+use Rattle.payoff_terms.proofs.DateFreeFacts.{kind_any, scale_any, interval_any, two_intervals}
 use Rattle.payoff_eval.specs.CodeRules.{CodeMeetsRules}
 
 -- ---- from one date to another

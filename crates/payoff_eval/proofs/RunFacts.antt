@@ -22,13 +22,13 @@ use Rattle.expr_eval.specs.Trials.{first_tried}
 use Rattle.expr_eval.proofs.AnswerFacts.{is_answer}
 use Rattle.expr_eval.proofs.RunValues.{same_kinds}
 use Rattle.expr_eval.proofs.RunReads.{have_values, self_extends}
-use Rattle.payoff_lang.specs.TemplateDates.{day_of}
-use Rattle.payoff_lang.specs.Dating.{at_setting, undated}
-use Rattle.payoff_lang.specs.Code.{ValueExpression, PayoffCode, Nothing, PayOn, Add, ScaleBy, LetBe, Loop, Cut}
-use Rattle.payoff_lang.specs.CodeValues.{Asked, kind_at, entry_at}
-use Rattle.payoff_lang.specs.CodeReads.{value_reads}
-use Rattle.payoff_lang.specs.CodeTotals.{range_at}
-use Rattle.payoff_lang.proofs.DateFreeFacts.{kind_any, scale_any}
+use Rattle.payoff_terms.specs.TemplateDates.{day_of}
+use Rattle.payoff_terms.specs.Dating.{at_setting, undated}
+use Rattle.payoff_terms.specs.Code.{ValueExpression, PayoffCode, Nothing, PayOn, Add, ScaleBy, LetBe, Loop, Cut}
+use Rattle.payoff_terms.specs.CodeValues.{Asked, kind_at, entry_at}
+use Rattle.payoff_terms.specs.CodeReads.{value_reads}
+use Rattle.payoff_terms.specs.CodeTotals.{range_at}
+use Rattle.payoff_terms.proofs.DateFreeFacts.{kind_any, scale_any}
 use Rattle.payoff_eval.specs.declared.walk.Worth.{Worth}
 use Rattle.payoff_eval.specs.Walks.{answer_at, nothing_reached, then_added, then_branch, then_scaled, tries, unless, walk_of}
 use Rattle.payoff_eval.specs.CodeRules.{CodeMeetsRules}

@@ -8,11 +8,11 @@ use Rattle.term_model.specs.Environments.{Environment, Extends, Place}
 use Rattle.term_model.specs.Reads.{first_unfixed, is_fixed, up_to_first}
 use Rattle.term_model.proofs.ReadLawFacts.{extension_reads, no_names}
 use Rattle.fixing_files.specs.Layers.{HoldSame}
-use Rattle.payoff_lang.specs.Code.{PayoffCode}
-use Rattle.payoff_lang.specs.CodeBooks.{CodeBook}
-use Rattle.payoff_lang.specs.CodeReads.{reads_of_code}
-use Rattle.payoff_lang.specs.CodeValues.{Asked}
-use Rattle.payoff_lang.proofs.CodeAlikeFacts.{code_alike}
+use Rattle.payoff_terms.specs.Code.{PayoffCode}
+use Rattle.payoff_terms.specs.CodeBooks.{CodeBook}
+use Rattle.payoff_terms.specs.CodeReads.{reads_of_code}
+use Rattle.payoff_terms.specs.CodeValues.{Asked}
+use Rattle.payoff_terms.proofs.CodeAlikeFacts.{code_alike}
 use Rattle.payoff_eval.specs.CodeAnswers.{IsValueOf}
 
 pub extends_same : (one other : Environment) → HoldSame one other → Extends one other

@@ -18,16 +18,16 @@ use Rattle.interval_check.proofs.MultipleFacts.{times-size}
 use Rattle.interval_check.proofs.ValueFacts.{same_kinds, values_lie}
 use Rattle.interval_check.proofs.SafeFacts.{Suits}
 use Rattle.interval_check.proofs.ContractSafeFacts.{let_suits}
-use Rattle.payoff_lang.specs.TemplateDates.{day_of}
-use Rattle.payoff_lang.specs.Dating.{at_setting, undated}
-use Rattle.payoff_lang.specs.Code.{ValueExpression, PayoffCode, Nothing, PayOn, Add, ScaleBy, LetBe, Loop, Cut}
-use Rattle.payoff_lang.specs.CodeValues.{Asked, factor_on, value_at, entry_at, first_true_at, code_value, scale_of_code}
-use Rattle.payoff_lang.specs.CodeTotals.{range_at, total_of_code}
-use Rattle.payoff_lang.specs.Meaning.{face_value}
+use Rattle.payoff_terms.specs.TemplateDates.{day_of}
+use Rattle.payoff_terms.specs.Dating.{at_setting, undated}
+use Rattle.payoff_terms.specs.Code.{ValueExpression, PayoffCode, Nothing, PayOn, Add, ScaleBy, LetBe, Loop, Cut}
+use Rattle.payoff_terms.specs.CodeValues.{Asked, factor_on, value_at, entry_at, first_true_at, code_value, scale_of_code}
+use Rattle.payoff_terms.specs.CodeTotals.{range_at, total_of_code}
+use Rattle.payoff_terms.specs.Meaning.{face_value}
 use Rattle.term_model.proofs.Products.{mul-assoc, parts_raised}
-use Rattle.payoff_lang.proofs.DateFreeFacts.{kind_any, interval_any}
+use Rattle.payoff_terms.proofs.DateFreeFacts.{kind_any, interval_any}
 use Rattle.payoff_eval.specs.CodeRules.{CodeMeetsRules, FactorsFit}
-use Rattle.payoff_lang.proofs.ValueFacts.{raised_up}
+use Rattle.payoff_terms.proofs.ValueFacts.{raised_up}
 
 pub size_plus : (x y : ℤ) → unsigned_abs (x +ℤ y) ≤ unsigned_abs x + unsigned_abs y
 size_plus (pos a) (pos b) = omega (arith, ints)

@@ -11,16 +11,16 @@ use Rattle.term_model.specs.Values.{Entry, kinds, num, truth, first_of}
 use Rattle.term_model.specs.Reads.{first_unfixed, is_fixed, steps_before}
 use Rattle.term_model.proofs.FlowFacts.{one_zero, raised-zero}
 use Rattle.expr_eval.specs.Trials.{or_next, first_tried}
-use Rattle.payoff_lang.specs.TemplateDates.{day_of}
-use Rattle.payoff_lang.specs.Dating.{undated}
-use Rattle.payoff_lang.specs.Code.{PayoffCode, Nothing, PayOn, Add, ScaleBy, LetBe, Loop, Cut}
-use Rattle.payoff_lang.specs.CodeValues.{Asked, value_at, entry_at, first_upto, first_true_at, code_value, scale_of_code}
-use Rattle.payoff_lang.specs.CodeReads.{value_reads, upto_first, reaches_payment, reads_of_code}
+use Rattle.payoff_terms.specs.TemplateDates.{day_of}
+use Rattle.payoff_terms.specs.Dating.{undated}
+use Rattle.payoff_terms.specs.Code.{PayoffCode, Nothing, PayOn, Add, ScaleBy, LetBe, Loop, Cut}
+use Rattle.payoff_terms.specs.CodeValues.{Asked, value_at, entry_at, first_upto, first_true_at, code_value, scale_of_code}
+use Rattle.payoff_terms.specs.CodeReads.{value_reads, upto_first, reaches_payment, reads_of_code}
 use Rattle.term_model.proofs.Products.{mul-assoc, parts_raised}
-use Rattle.payoff_lang.proofs.CodeAlikeFacts.{unreached, either}
+use Rattle.payoff_terms.proofs.CodeAlikeFacts.{unreached, either}
 use Rattle.payoff_eval.specs.declared.walk.Worth.{Worth}
 use Rattle.payoff_eval.specs.Walks.{nothing_reached, unless, answer_at, tries, then_added, then_scaled, then_branch, walk_of}
-use Rattle.payoff_lang.proofs.ValueFacts.{raised_up}
+use Rattle.payoff_terms.proofs.ValueFacts.{raised_up}
 
 -- ---- the first place that is not fixed, of two lists
 

@@ -8,10 +8,10 @@ use Rattle.term_model.specs.Environments.{Environment, Place, Extends}
 use Rattle.term_model.specs.Reads.{first_unfixed}
 use Rattle.interval_check.specs.Safety.{IsSmall}
 use Rattle.expr_eval.specs.Standing.{place_of}
-use Rattle.payoff_lang.specs.Code.{PayoffCode}
-use Rattle.payoff_lang.specs.CodeBooks.{CodeBook}
-use Rattle.payoff_lang.specs.CodeValues.{Asked, code_value, scale_of_code}
-use Rattle.payoff_lang.specs.CodeReads.{reads_of_code}
+use Rattle.payoff_terms.specs.Code.{PayoffCode}
+use Rattle.payoff_terms.specs.CodeBooks.{CodeBook}
+use Rattle.payoff_terms.specs.CodeValues.{Asked, code_value, scale_of_code}
+use Rattle.payoff_terms.specs.CodeReads.{reads_of_code}
 
 -- the value of closed code, at nine decimals more than the portfolio's
 abbrev pub aligned_value : Declarations → PayoffCode → Environment → List ℕ → Asked → ℤ → ℤ

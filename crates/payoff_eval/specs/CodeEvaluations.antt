@@ -17,14 +17,14 @@ use Rattle.expr_eval.specs.Trials.{DayOrMissing, ValueOrMissing, first_tried}
 use Rattle.expr_eval.specs.KindScales.{KindFits}
 use Rattle.expr_eval.specs.Rooms.{kinds_of}
 use Rattle.interval_check.specs.RangeTrials.{kind_found}
-use Rattle.payoff_lang.specs.declared.code.Code.{Code}
-use Rattle.payoff_lang.specs.declared.code.DateExpr.{DateExpr}
-use Rattle.payoff_lang.specs.declared.code.Vx.{Vx}
-use Rattle.payoff_lang.specs.TemplateDates.{date}
-use Rattle.payoff_lang.specs.Code.{ValueExpression, PayoffCode, Add, ScaleBy, LetBe, Loop}
-use Rattle.payoff_lang.specs.Code.{value_expression, payoff_code}
-use Rattle.payoff_lang.specs.Dating.{at_setting}
-use Rattle.payoff_lang.specs.CodeValues.{Asked}
+use Rattle.payoff_terms.specs.declared.code.Code.{Code}
+use Rattle.payoff_terms.specs.declared.code.DateExpr.{DateExpr}
+use Rattle.payoff_terms.specs.declared.code.Vx.{Vx}
+use Rattle.payoff_terms.specs.TemplateDates.{date}
+use Rattle.payoff_terms.specs.Code.{ValueExpression, PayoffCode, Add, ScaleBy, LetBe, Loop}
+use Rattle.payoff_terms.specs.Code.{value_expression, payoff_code}
+use Rattle.payoff_terms.specs.Dating.{at_setting}
+use Rattle.payoff_terms.specs.CodeValues.{Asked}
 use Rattle.payoff_eval.specs.DatesFit.{DatesFit}
 use Rattle.payoff_eval.specs.Questions.{asked_on}
 use Rattle.payoff_eval.specs.Walks.{WorthOrMissing}

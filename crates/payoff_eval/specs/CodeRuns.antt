@@ -17,11 +17,11 @@ use Rattle.expr_eval.specs.Answers.{held_of}
 use Rattle.expr_eval.specs.KindScales.{KindFits}
 use Rattle.expr_eval.specs.Fits.{Fits, IsDay}
 use Rattle.expr_eval.specs.Trials.{ValueOrMissing, first_tried}
-use Rattle.payoff_lang.specs.TemplateDates.{Date, day_of}
-use Rattle.payoff_lang.specs.Dating.{at_setting}
-use Rattle.payoff_lang.specs.Code.{ValueExpression, PayoffCode, Nothing, PayOn, Add, ScaleBy, LetBe, Loop, Cut}
-use Rattle.payoff_lang.specs.CodeValues.{Asked, factor_on}
-use Rattle.payoff_lang.specs.CodeReads.{concerns}
+use Rattle.payoff_terms.specs.TemplateDates.{Date, day_of}
+use Rattle.payoff_terms.specs.Dating.{at_setting}
+use Rattle.payoff_terms.specs.Code.{ValueExpression, PayoffCode, Nothing, PayOn, Add, ScaleBy, LetBe, Loop, Cut}
+use Rattle.payoff_terms.specs.CodeValues.{Asked, factor_on}
+use Rattle.payoff_terms.specs.CodeReads.{concerns}
 use Rattle.payoff_eval.specs.DatesFit.{DateFits, DatesFit}
 use Rattle.payoff_eval.specs.Walks.{WorthOrMissing, nothing_reached, tries, then_added, then_scaled, then_branch}
 use Rattle.payoff_eval.specs.declared.walk.Worth.{Worth}

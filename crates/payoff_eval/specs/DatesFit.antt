@@ -1,7 +1,7 @@
 -- Where each date of a value expression has a day: its templates have numbers, and the day is near the base.
 use Rattle.std.specs.Prelude.{ℕ, ℤ, ◌≤◌, ◌<◌, ◌*◌, ◌^◌, unsigned_abs, List, length, All}
-use Rattle.payoff_lang.specs.TemplateDates.{Date, day_of}
-use Rattle.payoff_lang.specs.Code.{ValueExpression, Model, Neg, Num, Cmp, Not, Logic, Cond, Widen, Round, Div, Acc}
+use Rattle.payoff_terms.specs.TemplateDates.{Date, day_of}
+use Rattle.payoff_terms.specs.Code.{ValueExpression, Model, Neg, Num, Cmp, Not, Logic, Cond, Widen, Round, Div, Acc}
 
 pub record DateFits (xs : List ℕ) (x : Date) : Type 0 where
   pub declared : All (λ t. t < length xs) x.names

@@ -5,10 +5,10 @@ use Rattle.term_model.specs.Declarations.{Declarations}
 use Rattle.term_model.specs.Environments.{Environment, IsAdmitted}
 use Rattle.term_model.specs.Factors.{IsCurve, IsFactor}
 use Rattle.interval_check.specs.Within.{KeepsLimits}
-use Rattle.payoff_lang.specs.Code.{PayoffCode}
-use Rattle.payoff_lang.specs.CodeValues.{Asked}
-use Rattle.payoff_lang.specs.CodeTotals.{aligned_code_total}
-use Rattle.payoff_lang.specs.CodeAcceptance.{IsAcceptedCode}
+use Rattle.payoff_terms.specs.Code.{PayoffCode}
+use Rattle.payoff_terms.specs.CodeValues.{Asked}
+use Rattle.payoff_terms.specs.CodeTotals.{aligned_code_total}
+use Rattle.payoff_terms.specs.CodeAcceptance.{IsAcceptedCode}
 use Rattle.payoff_eval.specs.CodeAnswers.{aligned_value}
 
 abbrev pub ValuesAreWithinTotals : Type 0

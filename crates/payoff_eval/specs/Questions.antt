@@ -3,11 +3,11 @@
 use Rattle.std.specs.Prelude.{ℕ, ℤ, pos, ◌<◌, ◌≤ℤ◌, ◌≡◌, List, length}
 use Rattle.term_model.specs.Declarations.{Declarations}
 use Rattle.term_model.specs.Factors.{CurveRow}
-use Rattle.payoff_lang.specs.CodeAcceptance.{IsAcceptedCode}
-use Rattle.payoff_lang.specs.CodeBooks.{CodeBook}
-use Rattle.payoff_lang.specs.CodeValues.{Asked}
-use Rattle.payoff_lang.specs.Meaning.{face_value}
-use Rattle.payoff_lang.specs.WellFormedCode.{IsClosedCode}
+use Rattle.payoff_terms.specs.CodeAcceptance.{IsAcceptedCode}
+use Rattle.payoff_terms.specs.CodeBooks.{CodeBook}
+use Rattle.payoff_terms.specs.CodeValues.{Asked}
+use Rattle.payoff_terms.specs.Meaning.{face_value}
+use Rattle.payoff_terms.specs.WellFormedCode.{IsClosedCode}
 
 abbrev pub asked_on : List CurveRow → ℤ → ℕ → ℕ → ℕ → Asked
 asked_on curve at from to asset =

@@ -12,11 +12,11 @@ use Rattle.term_model.specs.Values.{Entry, kinds, num}
 use Rattle.term_model.specs.Flows.{unit_flow}
 use Rattle.term_model.specs.Reads.{first_unfixed}
 use Rattle.expr_eval.specs.Trials.{DayOrMissing, ValueOrMissing, missing_at, first_tried}
-use Rattle.payoff_lang.specs.TemplateDates.{day_of}
-use Rattle.payoff_lang.specs.Dating.{undated}
-use Rattle.payoff_lang.specs.Code.{ValueExpression, PayoffCode, Nothing, PayOn, Add, ScaleBy, LetBe, Loop, Cut}
-use Rattle.payoff_lang.specs.CodeValues.{Asked, factor_on, value_at, entry_at}
-use Rattle.payoff_lang.specs.CodeReads.{value_reads, concerns}
+use Rattle.payoff_terms.specs.TemplateDates.{day_of}
+use Rattle.payoff_terms.specs.Dating.{undated}
+use Rattle.payoff_terms.specs.Code.{ValueExpression, PayoffCode, Nothing, PayOn, Add, ScaleBy, LetBe, Loop, Cut}
+use Rattle.payoff_terms.specs.CodeValues.{Asked, factor_on, value_at, entry_at}
+use Rattle.payoff_terms.specs.CodeReads.{value_reads, concerns}
 use Rattle.payoff_eval.specs.declared.walk.Worth.{Worth}
 
 -- what comes out where a place may be missing

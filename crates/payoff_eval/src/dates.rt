@@ -3,11 +3,11 @@
 ghost use Rattle.std.specs.Prelude.{◌≡◌, ◌≤◌, ◌<◌, ◌≤ℤ◌, ◌+ℤ◌, ◌^◌, All, length, pos};
 ghost use Rattle.term_model.specs.Limits.{most_days};
 ghost use Rattle.expr_eval.specs.Fits.{IsDay};
-ghost use Rattle.payoff_lang.specs.TemplateDates.{date, day_of, sum_at};
+ghost use Rattle.payoff_terms.specs.TemplateDates.{date, day_of, sum_at};
 ghost use Rattle.payoff_eval.specs.DatesFit.{DateFits, IsDayOfDate};
 
 use crate::asking::Asking;
-use payoff_lang::DateExpr;
+use payoff_terms::DateExpr;
 
 // The days that a setting has for templates, added up.
 fn days_of(setting: &[u32], names: &[u32]) -> u64

@@ -19,7 +19,7 @@ use expr_eval::operations::{
     Operands, Typed, at_kind, combine, compare, divide, is_decided, negate, number, round, verdict,
 };
 use expr_eval::{Binding, Bindings, Held, value_bound, value_found};
-use payoff_lang::Vx;
+use payoff_terms::Vx;
 use term_model::{Kind, LogicOp, Missing, days_earlier, days_later};
 
 // The value of what is observed on a day.

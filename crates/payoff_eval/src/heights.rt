@@ -3,11 +3,11 @@
 ghost use Rattle.std.specs.Prelude.{◌≡◌, ◌≤◌, ◌+◌, max, min};
 ghost use Rattle.term_model.specs.Limits.{most_counted};
 ghost use Rattle.term_model.specs.Sizes.{height, capped};
-ghost use Rattle.payoff_lang.specs.Code.{value_expression, payoff_code};
-ghost use Rattle.payoff_lang.specs.CodeSizes.{height_of_code};
-ghost use Rattle.payoff_lang.specs.Dating.{undated};
+ghost use Rattle.payoff_terms.specs.Code.{value_expression, payoff_code};
+ghost use Rattle.payoff_terms.specs.CodeSizes.{height_of_code};
+ghost use Rattle.payoff_terms.specs.Dating.{undated};
 
-use payoff_lang::{Code, Vx};
+use payoff_terms::{Code, Vx};
 use term_model::MOST_COUNTED;
 
 // One more than a height.

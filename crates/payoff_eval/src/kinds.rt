@@ -7,7 +7,7 @@ ghost use Rattle.payoff_eval.specs.CodeEvaluations.{dated};
 use crate::asking::Asking;
 use expr_eval::operations::scale_of_both;
 use expr_eval::{Bindings, kind_at, kind_observed};
-use payoff_lang::Vx;
+use payoff_terms::Vx;
 use term_model::Kind;
 
 /// The kind of an expression whose sorts are in order. It looks only at the parts on which the kind

@@ -2,13 +2,13 @@
 
 ghost use Rattle.std.specs.Prelude.{◌≡◌, ◌≤◌, ◌<◌, [], IfOk};
 ghost use Rattle.term_model.specs.Limits.{most_height_of_code};
-ghost use Rattle.payoff_lang.specs.Code.{payoff_code};
-ghost use Rattle.payoff_lang.specs.CodeSizes.{height_of_code};
+ghost use Rattle.payoff_terms.specs.Code.{payoff_code};
+ghost use Rattle.payoff_terms.specs.CodeSizes.{height_of_code};
 
 use crate::heights::height_of;
 use decimal::NoMemory;
 use expr_eval::Scratch;
-use payoff_lang::CodeFile;
+use payoff_terms::CodeFile;
 use std::alloc::Global;
 use std::marker::Model;
 use term_model::{MOST_COUNTED, MOST_HEIGHT_OF_CODE};

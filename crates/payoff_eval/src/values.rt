@@ -3,9 +3,9 @@
 ghost use Rattle.std.specs.Prelude.{◌≡◌, ◌≤◌};
 ghost use Rattle.term_model.specs.Declarations.{declarations};
 ghost use Rattle.term_model.specs.Environments.{IsAdmitted};
-ghost use Rattle.payoff_lang.specs.Code.{payoff_code};
-ghost use Rattle.payoff_lang.specs.CodeBooks.{code_book};
-ghost use Rattle.payoff_lang.specs.CodeSizes.{height_of_code};
+ghost use Rattle.payoff_terms.specs.Code.{payoff_code};
+ghost use Rattle.payoff_terms.specs.CodeBooks.{code_book};
+ghost use Rattle.payoff_terms.specs.CodeSizes.{height_of_code};
 ghost use Rattle.payoff_eval.specs.Questions.{CanBeValued, IsQuestion, asked_on};
 ghost use Rattle.payoff_eval.specs.CodeAnswers.{AnswersValue};
 ghost use Rattle.payoff_eval.specs.CodeRuns.{amount_in};
@@ -14,7 +14,7 @@ use crate::asking::Asking;
 use crate::scratch::ValueScratch;
 use crate::walk::{Worth, walk};
 use fixing_files::{Curve, Fixings, LayeredFixings};
-use payoff_lang::CodeFile;
+use payoff_terms::CodeFile;
 use term_model::{Missing, Setting};
 
 // The amount of an answer.

@@ -7,11 +7,11 @@ ghost use Rattle.term_model.specs.Values.{num};
 ghost use Rattle.term_model.specs.Flows.{unit_flow};
 ghost use Rattle.interval_check.specs.Safety.{IsSmall};
 ghost use Rattle.expr_eval.specs.Fits.{IsDay};
-ghost use Rattle.payoff_lang.specs.TemplateDates.{date, day_of};
-ghost use Rattle.payoff_lang.specs.Code.{value_expression, payoff_code};
-ghost use Rattle.payoff_lang.specs.CodeSizes.{height_of_code};
-ghost use Rattle.payoff_lang.specs.CodeValues.{factor_on};
-ghost use Rattle.payoff_lang.specs.CodeReads.{concerns};
+ghost use Rattle.payoff_terms.specs.TemplateDates.{date, day_of};
+ghost use Rattle.payoff_terms.specs.Code.{value_expression, payoff_code};
+ghost use Rattle.payoff_terms.specs.CodeSizes.{height_of_code};
+ghost use Rattle.payoff_terms.specs.CodeValues.{factor_on};
+ghost use Rattle.payoff_terms.specs.CodeReads.{concerns};
 ghost use Rattle.payoff_eval.specs.DatesFit.{IsDayOfDate};
 ghost use Rattle.payoff_eval.specs.Walks.{then_added};
 ghost use Rattle.payoff_eval.specs.CodeRules.{IsAtMostTen};
@@ -27,7 +27,7 @@ use crate::evaluation::evaluate;
 use crate::kinds::kind_in;
 use decimal::align;
 use expr_eval::{Bindings, Held, Scratch, without_kind};
-use payoff_lang::{Code, DateExpr, Vx};
+use payoff_terms::{Code, DateExpr, Vx};
 use term_model::{Kind, Missing, Value, days_later};
 
 /// What code is worth at some decimals, and whether it reaches a payment of the pair and the asset

@@ -14,7 +14,7 @@ use Rattle.contract_grammar.specs.declared.faults.TextKind.TheVariants.{Syntax, 
 use Rattle.contract_grammar.specs.declared.faults.TextFault.{TextFault}
 use Rattle.contract_parse.proofs.OneToken.{tail_same}
 use Rattle.contract_parse.proofs.Steps.{run-refuse}
-use Rattle.payoff_lang.specs.CodeBooks.{CodeBook}
+use Rattle.payoff_terms.specs.CodeBooks.{CodeBook}
 use Rattle.payoff_lang.specs.CodeFiles.{CodeText}
 use Rattle.payoff_lang.specs.CodeAnswers.{IsCodeFault}
 use Rattle.payoff_lang.proofs.CodeTaken.{file_taken}

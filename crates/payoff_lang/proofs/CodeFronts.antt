@@ -10,7 +10,7 @@ use Rattle.contract_parse.specs.TextFaults.{FirstTextFault, no_utf8, refused}
 use Rattle.contract_grammar.specs.declared.faults.TextKind.{TextKind}
 use Rattle.contract_grammar.specs.declared.faults.TextFault.{TextFault}
 use Rattle.contract_parse.proofs.FrontRuns.{refusals_end_fronts, taken_texts_are_whole}
-use Rattle.payoff_lang.specs.CodeBooks.{CodeBook}
+use Rattle.payoff_terms.specs.CodeBooks.{CodeBook}
 use Rattle.payoff_lang.specs.CodeFiles.{CodeText}
 use Rattle.payoff_lang.specs.CodeAnswers.{IsCodeFault}
 use Rattle.payoff_lang.proofs.CodeTaken.{file_taken}

@@ -9,13 +9,13 @@ use Rattle.contract_grammar.specs.Judgements.{date_number_at, integer_at, litera
 use Rattle.contract_grammar.specs.declared.faults.TextKind.{TextKind}
 use Rattle.contract_print.proofs.NumbersWithin.{integer_within, literal_within}
 use Rattle.contract_grammar.proofs.TextClosed.{by_value}
-use Rattle.payoff_lang.specs.TemplateDates.{Date}
-use Rattle.payoff_lang.specs.Code.{ValueExpression, Lit, Yes, Var, Model, Neg, Num, Cmp, Not, Logic, Cond, Widen, Round, Div, Acc, PayoffCode, Nothing, PayOn, Add, ScaleBy, LetBe, Loop, Cut}
+use Rattle.payoff_terms.specs.TemplateDates.{Date}
+use Rattle.payoff_terms.specs.Code.{ValueExpression, Lit, Yes, Var, Model, Neg, Num, Cmp, Not, Logic, Cond, Widen, Round, Div, Acc, PayoffCode, Nothing, PayOn, Add, ScaleBy, LetBe, Loop, Cut}
 use Rattle.payoff_lang.specs.CodeSpelling.{DatePart, code_part, value_part}
-use Rattle.payoff_lang.specs.CodeBooks.{CodeBook}
+use Rattle.payoff_terms.specs.CodeBooks.{CodeBook}
 use Rattle.payoff_lang.specs.CodeFiles.{CodeText}
 use Rattle.payoff_lang.specs.CodeTexts.{declared_for_code}
-use Rattle.payoff_lang.specs.PrintableCode.{CodeHasNumbersOfTexts, HasNumberOfTexts, IsPrintableCode, ValueHasNumbersOfTexts}
+use Rattle.payoff_terms.specs.PrintableCode.{CodeHasNumbersOfTexts, HasNumberOfTexts, IsPrintableCode, ValueHasNumbersOfTexts}
 use Rattle.payoff_lang.proofs.CodeClosed.{code_of_text_closed}
 
 -- ---- dates

@@ -9,8 +9,8 @@ use Rattle.contract_grammar.specs.Judgements.{binder_at, new_at, use_at}
 use Rattle.contract_grammar.specs.Spelling.{Part, SomeName, ◌⨟◌, mark, pair, valued, word}
 use Rattle.contract_grammar.specs.Statements.{decls}
 use Rattle.contract_parse.proofs.LastTokens.{decls_end}
-use Rattle.payoff_lang.specs.TemplateDates.{Date}
-use Rattle.payoff_lang.specs.Code.{ValueExpression, PayoffCode, Nothing, PayOn, Add, ScaleBy, LetBe, Loop, Cut}
+use Rattle.payoff_terms.specs.TemplateDates.{Date}
+use Rattle.payoff_terms.specs.Code.{ValueExpression, PayoffCode, Nothing, PayOn, Add, ScaleBy, LetBe, Loop, Cut}
 use Rattle.payoff_lang.specs.CodeSpelling.{DatePart, code_part, value_part}
 use Rattle.payoff_lang.specs.CodeFiles.{code_line, shallow_code}
 use Rattle.payoff_lang.proofs.TokensStand.{StandsIn}

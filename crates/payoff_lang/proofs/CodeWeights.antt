@@ -11,12 +11,12 @@ use Rattle.contract_grammar.specs.TextLaws.{NamesFit}
 use Rattle.contract_grammar.specs.declared.terms.Language.{Language}
 use Rattle.contract_grammar.proofs.Weights.{AtLeast, ◌▹◌, close_least, comma_least, date_least, expr_least, lighter, mark_least, open_least, value_least, weight, weight_tokens, word_least}
 use Rattle.contract_grammar.proofs.TextSizes.{decls_weigh}
-use Rattle.payoff_lang.specs.TemplateDates.{Date}
-use Rattle.payoff_lang.specs.Code.{ValueExpression, PayoffCode, Nothing, PayOn, Add, ScaleBy, LetBe, Loop, Cut}
-use Rattle.payoff_lang.specs.Dating.{undated}
-use Rattle.payoff_lang.specs.CodeSizes.{nodes_of_code}
+use Rattle.payoff_terms.specs.TemplateDates.{Date}
+use Rattle.payoff_terms.specs.Code.{ValueExpression, PayoffCode, Nothing, PayOn, Add, ScaleBy, LetBe, Loop, Cut}
+use Rattle.payoff_terms.specs.Dating.{undated}
+use Rattle.payoff_terms.specs.CodeSizes.{nodes_of_code}
 use Rattle.payoff_lang.specs.CodeSpelling.{DatePart, code_part, value_part}
-use Rattle.payoff_lang.specs.CodeBooks.{CodeBook}
+use Rattle.payoff_terms.specs.CodeBooks.{CodeBook}
 use Rattle.payoff_lang.specs.CodeFiles.{CodeText, shallow_code}
 use Rattle.payoff_lang.specs.CodeTexts.{declared_for_code}
 use Rattle.payoff_lang.proofs.Placed.{placed_nodes, value_placed}

@@ -6,7 +6,7 @@ use Rattle.contract_grammar.specs.Tokens.{Tok, tokens}
 use Rattle.contract_grammar.specs.Words.{Bytes, is_the_mark}
 use Rattle.contract_grammar.specs.Names.{index_in}
 use Rattle.contract_grammar.specs.Judgements.{whole}
-use Rattle.payoff_lang.specs.TemplateDates.{Date, insert_names}
+use Rattle.payoff_terms.specs.TemplateDates.{Date, insert_names}
 
 -- the number of the first token
 abbrev pub number_first : List Tok → ℕ

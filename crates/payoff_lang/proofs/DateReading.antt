@@ -12,7 +12,7 @@ use Rattle.contract_parse.specs.Reading.{LacksMark}
 use Rattle.contract_grammar.specs.declared.faults.TextKind.TheVariants.{Unknown}
 use Rattle.contract_grammar.proofs.TokenKinds.{number_no_mark}
 use Rattle.contract_grammar.proofs.TokenKinds.{number_of_date}
-use Rattle.payoff_lang.specs.TemplateDates.{Date, insert_names}
+use Rattle.payoff_terms.specs.TemplateDates.{Date, insert_names}
 use Rattle.payoff_lang.specs.CodeSpelling.{DatePart}
 use Rattle.payoff_lang.proofs.DatePositions.{behind_days, date_first, days_first, or_first, templates_first}
 

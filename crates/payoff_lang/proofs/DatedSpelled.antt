@@ -10,9 +10,9 @@ use Rattle.contract_grammar.specs.Names.{DeclaredNames}
 use Rattle.contract_grammar.specs.Spelling.{expr_with}
 use Rattle.contract_parse.specs.Readers.{KeepsLeaves}
 use Rattle.contract_parse.proofs.LeafFacts.{Gives, ◌▹◌, same}
-use Rattle.payoff_lang.specs.declared.code.DateExpr.{DateExpr}
-use Rattle.payoff_lang.specs.TemplateDates.{Date, date}
-use Rattle.payoff_lang.specs.Dating.{HaveDates, undated, with_date}
+use Rattle.payoff_terms.specs.declared.code.DateExpr.{DateExpr}
+use Rattle.payoff_terms.specs.TemplateDates.{Date, date}
+use Rattle.payoff_terms.specs.Dating.{HaveDates, undated, with_date}
 use Rattle.payoff_lang.specs.CodeSpelling.{DatePart, value_part}
 use Rattle.payoff_lang.specs.CodeReading.{ListedDate, date_listed, dates_of, listed_leaf}
 

@@ -7,12 +7,12 @@ use Rattle.term_model.specs.Sizes.{height}
 use Rattle.term_model.specs.Terms.{Expression}
 use Rattle.contract_print.specs.TermTexts.{expr_text}
 use Rattle.contract_grammar.specs.Writable.{IsWritable}
-use Rattle.payoff_lang.specs.TemplateDates.{Date}
-use Rattle.payoff_lang.specs.Dating.{undated}
-use Rattle.payoff_lang.specs.Code.{ValueExpression, Lit, Yes, Var, Model, Neg, Num, Cmp, Not, Logic, Cond, Widen, Round, Div, Acc}
+use Rattle.payoff_terms.specs.TemplateDates.{Date}
+use Rattle.payoff_terms.specs.Dating.{undated}
+use Rattle.payoff_terms.specs.Code.{ValueExpression, Lit, Yes, Var, Model, Neg, Num, Cmp, Not, Logic, Cond, Widen, Round, Div, Acc}
 use Rattle.payoff_lang.specs.CodeTexts.{date_text, modelled, value_text}
 use Rattle.payoff_lang.specs.Numbered.{numbered, with_dates, modelled_at}
-use Rattle.payoff_lang.specs.WritableCode.{IsWritableValue}
+use Rattle.payoff_terms.specs.WritableCode.{IsWritableValue}
 use Rattle.payoff_lang.specs.LawsTexts.{ValuesAreWrittenAsExpressions}
 
 -- one list stands at the front of another

@@ -12,11 +12,11 @@ use Rattle.contract_grammar.specs.Spelling.{DateFrom, Part, ◌⨟◌, expr, mar
 use Rattle.contract_grammar.specs.declared.terms.Language.{Language}
 use Rattle.contract_grammar.specs.declared.terms.Operator.TheVariants.{Arithmetic, Comparison, Logic as Connective}
 use Rattle.contract_parse.proofs.Passing.{mark_lacks}
-use Rattle.payoff_lang.specs.TemplateDates.{Date}
-use Rattle.payoff_lang.specs.Code.{ValueExpression, Lit, Yes, Var, Model, Neg, Num, Cmp, Not, Logic, Cond, Widen, Round, Div, Acc}
-use Rattle.payoff_lang.specs.Dating.{undated}
+use Rattle.payoff_terms.specs.TemplateDates.{Date}
+use Rattle.payoff_terms.specs.Code.{ValueExpression, Lit, Yes, Var, Model, Neg, Num, Cmp, Not, Logic, Cond, Widen, Round, Div, Acc}
+use Rattle.payoff_terms.specs.Dating.{undated}
 use Rattle.payoff_lang.specs.CodeSpelling.{DatePart, value_part}
-use Rattle.payoff_lang.specs.Dating.{with_date}
+use Rattle.payoff_terms.specs.Dating.{with_date}
 use Rattle.payoff_lang.proofs.DatePositions.{date_at, date_first}
 use Rattle.payoff_lang.proofs.Standing.{Turns, ◌▹◌, behind_first, close_stays, comma_stays, date_stays, open_stays, signed_stays, value_stays, word_stays}
 use Rattle.payoff_lang.proofs.DateReading.{date_is}

@@ -10,13 +10,13 @@ use Rattle.term_model.specs.DayCounts.{Num as Count, Named}
 use Rattle.contract_grammar.specs.Names.{DeclaredNames}
 use Rattle.contract_print.specs.TermTexts.{◌⊕◌}
 use Rattle.contract_print.specs.Canon.{amounts_text, line, start_text}
-use Rattle.payoff_lang.specs.Code.{Lit, Yes, Var, Model, Neg, Num, Cmp, Not, Logic, Cond, Widen, Div, Acc, Nothing, PayOn, ScaleBy, LetBe}
-use Rattle.payoff_lang.specs.CodeBooks.{CodeBook}
+use Rattle.payoff_terms.specs.Code.{Lit, Yes, Var, Model, Neg, Num, Cmp, Not, Logic, Cond, Widen, Div, Acc, Nothing, PayOn, ScaleBy, LetBe}
+use Rattle.payoff_terms.specs.CodeBooks.{CodeBook}
 use Rattle.payoff_lang.specs.CodeTexts.{code_text, date_text, declared_for_code, test_text, value_text}
 use Rattle.payoff_lang.specs.CodeCanon.{code_book_text, code_header_text, code_line_text}
-use Rattle.payoff_lang.specs.Compiled.{code_of, cut_code}
-use Rattle.payoff_lang.proofs.RowsSample.{days, decls}
-use Rattle.payoff_lang.proofs.RowsCode.{delayed, loan, option, touch}
+use Rattle.payoff_terms.specs.Compiled.{code_of, cut_code}
+use Rattle.payoff_terms.proofs.RowsSample.{days, decls}
+use Rattle.payoff_terms.proofs.RowsCode.{delayed, loan, option, touch}
 
 abbrev declared : DeclaredNames
 declared = declared_for_code decls

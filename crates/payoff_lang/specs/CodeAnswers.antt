@@ -6,8 +6,8 @@ use Rattle.contract_grammar.specs.declared.terms.Language.{Language}
 use Rattle.contract_grammar.specs.declared.faults.TextFault.{TextFault}
 use Rattle.contract_parse.specs.declared.faults.ParseErr.{ParseErr}
 use Rattle.contract_parse.specs.declared.faults.ParseErr.TheVariants as err
-use Rattle.payoff_lang.specs.declared.code_file.CodeFile.{CodeFile}
-use Rattle.payoff_lang.specs.CodeBooks.{CodeBook, code_book}
+use Rattle.payoff_terms.specs.declared.code_file.CodeFile.{CodeFile}
+use Rattle.payoff_terms.specs.CodeBooks.{CodeBook, code_book}
 use Rattle.payoff_lang.specs.CodeFiles.{CodeText}
 
 -- the first fault of bytes that are no text of a code file

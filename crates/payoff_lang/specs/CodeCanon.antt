@@ -5,8 +5,8 @@ use Rattle.contract_grammar.specs.Words.{Bytes}
 use Rattle.contract_grammar.specs.Names.{DeclaredNames}
 use Rattle.contract_print.specs.TermTexts.{◌⊕◌}
 use Rattle.contract_print.specs.Canon.{IsOriginText, decls_text, line}
-use Rattle.payoff_lang.specs.Code.{PayoffCode}
-use Rattle.payoff_lang.specs.CodeBooks.{CodeBook}
+use Rattle.payoff_terms.specs.Code.{PayoffCode}
+use Rattle.payoff_terms.specs.CodeBooks.{CodeBook}
 use Rattle.payoff_lang.specs.CodeTexts.{code_text, declared_for_code}
 
 unfoldable pub code_header_text : Bytes

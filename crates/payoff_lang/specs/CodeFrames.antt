@@ -6,8 +6,8 @@ use Rattle.contract_parse.specs.Frames.{names_at}
 use Rattle.contract_parse.specs.Expecting.{AmountAt, Expected}
 use Rattle.contract_parse.specs.declared.frame.Frame.{Frame}
 use Rattle.contract_parse.specs.declared.heads.AmountHead.{AmountHead}
-use Rattle.payoff_lang.specs.declared.code.Code.{Code}
-use Rattle.payoff_lang.specs.declared.code.Vx.{Vx}
+use Rattle.payoff_terms.specs.declared.code.Code.{Code}
+use Rattle.payoff_terms.specs.declared.code.Vx.{Vx}
 use Rattle.payoff_lang.specs.CodeReading.{behind_amount_head, code_in, value_in}
 
 -- that an amount is expected in a frame, one deeper than the constructs that are open

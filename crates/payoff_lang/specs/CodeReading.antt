@@ -11,12 +11,12 @@ use Rattle.contract_grammar.specs.Spelling.{Leaf, Part, ◌⨟◌, mark, pair, t
 use Rattle.contract_parse.specs.Expecting.{Expected, amount_expected}
 use Rattle.contract_parse.specs.Reading.{declared_in}
 use Rattle.contract_parse.specs.declared.heads.AmountHead.{AmountHead}
-use Rattle.payoff_lang.specs.declared.code.DateExpr.{DateExpr}
-use Rattle.payoff_lang.specs.declared.code.Vx.{Vx}
-use Rattle.payoff_lang.specs.declared.code.Code.{Code}
-use Rattle.payoff_lang.specs.TemplateDates.{Date, date, insert_names, no_date}
+use Rattle.payoff_terms.specs.declared.code.DateExpr.{DateExpr}
+use Rattle.payoff_terms.specs.declared.code.Vx.{Vx}
+use Rattle.payoff_terms.specs.declared.code.Code.{Code}
+use Rattle.payoff_terms.specs.TemplateDates.{Date, date, insert_names, no_date}
 use Rattle.payoff_lang.specs.CodeSpelling.{DatePart, code_part, value_part}
-use Rattle.payoff_lang.specs.Code.{payoff_code, value_expression}
+use Rattle.payoff_terms.specs.Code.{payoff_code, value_expression}
 
 -- some templates are written, and these stand behind those that were there
 pub record AddsTemplates (templates : List Bytes) (before after : List ℕ) (ts rest : List Tok) : Type 0 where

@@ -8,8 +8,8 @@ use Rattle.contract_grammar.specs.Names.{DeclaredNames}
 use Rattle.contract_grammar.specs.Judgements.{binder_at, integer_at, literal_at, mode_at, operator_at, use_at, variable_at}
 use Rattle.contract_grammar.specs.Spelling.{Part, Signed, SomeName, ◌⨟◌, dated_part, infixed, mark, pair, valued, word}
 use Rattle.contract_grammar.specs.declared.terms.Operator.TheVariants.{Arithmetic, Comparison, Logic as Connective}
-use Rattle.payoff_lang.specs.TemplateDates.{Date, insert_names}
-use Rattle.payoff_lang.specs.Code.{ValueExpression, Lit, Yes, Var, Model, Neg, Num, Cmp, Not, Logic, Cond, Widen, Round, Div, Acc, PayoffCode, Nothing, PayOn, Add, ScaleBy, LetBe, Loop, Cut}
+use Rattle.payoff_terms.specs.TemplateDates.{Date, insert_names}
+use Rattle.payoff_terms.specs.Code.{ValueExpression, Lit, Yes, Var, Model, Neg, Num, Cmp, Not, Logic, Cond, Widen, Round, Div, Acc, PayoffCode, Nothing, PayOn, Add, ScaleBy, LetBe, Loop, Cut}
 
 -- a date: its number, and its templates in any order
 pub record DatePart (s : DeclaredNames) (x : Date) (ts rest : List Tok) : Type 0 where

@@ -6,8 +6,8 @@ use Rattle.term_model.specs.Declarations.{Declarations}
 use Rattle.contract_grammar.specs.Words.{Bytes}
 use Rattle.contract_grammar.specs.Names.{DeclaredNames, declared_by}
 use Rattle.contract_print.specs.TermTexts.{◌⊕◌, bound_name, comparison_text, connective_text, mode_text, name_at, number_text, operation_head, operation_text}
-use Rattle.payoff_lang.specs.TemplateDates.{Date}
-use Rattle.payoff_lang.specs.Code.{ValueExpression, Lit, Yes, Var, Model, Neg, Num, Cmp, Not, Logic, Cond, Widen, Round, Div, Acc, PayoffCode, Nothing, PayOn, Add, ScaleBy, LetBe, Loop, Cut}
+use Rattle.payoff_terms.specs.TemplateDates.{Date}
+use Rattle.payoff_terms.specs.Code.{ValueExpression, Lit, Yes, Var, Model, Neg, Num, Cmp, Not, Logic, Cond, Widen, Round, Div, Acc, PayoffCode, Nothing, PayOn, Add, ScaleBy, LetBe, Loop, Cut}
 
 -- the names that code can use
 abbrev pub declared_for_code : Declarations → DeclaredNames

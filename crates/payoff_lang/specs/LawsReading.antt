@@ -10,12 +10,12 @@ use Rattle.contract_parse.specs.Fronts.{IsWhole}
 use Rattle.contract_parse.specs.FrontLaws.{FaultyToken}
 use Rattle.contract_grammar.specs.declared.terms.Language.{Language}
 use Rattle.contract_grammar.specs.declared.faults.TextFault.{TextFault}
-use Rattle.payoff_lang.specs.CodeBooks.{CodeBook}
+use Rattle.payoff_terms.specs.CodeBooks.{CodeBook}
 use Rattle.payoff_lang.specs.CodeFiles.{CodeText}
 use Rattle.payoff_lang.specs.CodeAnswers.{IsCodeFault}
-use Rattle.payoff_lang.specs.CodeSizes.{height_of_code, nodes_of_code}
-use Rattle.payoff_lang.specs.WellFormedCode.{IsClosedCode}
-use Rattle.payoff_lang.specs.PrintableCode.{IsPrintableCode}
+use Rattle.payoff_terms.specs.CodeSizes.{height_of_code, nodes_of_code}
+use Rattle.payoff_terms.specs.WellFormedCode.{IsClosedCode}
+use Rattle.payoff_terms.specs.PrintableCode.{IsPrintableCode}
 
 abbrev pub CodeTextIsTaken : Type 0
 CodeTextIsTaken = (bytes : List ℕ) (b : CodeBook) → CodeText bytes b → run nothing_declared code_text_expected (tokens bytes) ≡ Open []

@@ -5,17 +5,17 @@ use Rattle.contract_grammar.specs.Names.{DeclaredNames}
 use Rattle.contract_print.specs.TermTexts.{expr_text}
 use Rattle.contract_print.specs.Spellable.{AreSpellable}
 use Rattle.contract_print.specs.Spelled.{Spells, bound_names, stops}
-use Rattle.payoff_lang.specs.Code.{ValueExpression, PayoffCode}
-use Rattle.payoff_lang.specs.CodeBooks.{CodeBook}
+use Rattle.payoff_terms.specs.Code.{ValueExpression, PayoffCode}
+use Rattle.payoff_terms.specs.CodeBooks.{CodeBook}
 use Rattle.payoff_lang.specs.CodeTexts.{code_text, declared_for_code, value_text}
-use Rattle.payoff_lang.specs.CodeSizes.{height_of_code}
+use Rattle.payoff_terms.specs.CodeSizes.{height_of_code}
 use Rattle.payoff_lang.specs.CodeSpelling.{code_part}
 use Rattle.payoff_lang.specs.CodeCanon.{IsCanonOfCode}
 use Rattle.payoff_lang.specs.CodeFiles.{CodeText, IsPrintableFile}
 use Rattle.payoff_lang.specs.Numbered.{numbered, with_dates, modelled_at}
-use Rattle.payoff_lang.specs.PrintableCode.{CodeHasNumbersOfTexts, IsPrintableCode}
-use Rattle.payoff_lang.specs.WellFormedCode.{IsWellFormedCode}
-use Rattle.payoff_lang.specs.WritableCode.{IsWritableCode}
+use Rattle.payoff_terms.specs.PrintableCode.{CodeHasNumbersOfTexts, IsPrintableCode}
+use Rattle.payoff_terms.specs.WellFormedCode.{IsWellFormedCode}
+use Rattle.payoff_terms.specs.WritableCode.{IsWritableCode}
 
 -- value expressions are written as expressions are, but for the leaf
 abbrev pub ValuesAreWrittenAsExpressions : Type 0
@@ -29,10 +29,6 @@ CodeCanonExists = (b : CodeBook) → AreSpellable b.declarations → (bytes : Li
 -- and it is the only one
 abbrev pub OneCanonOfCode : Type 0
 OneCanonOfCode = (bytes other : List ℕ) (b : CodeBook) → IsCanonOfCode bytes b → IsCanonOfCode other b → bytes ≡ other
-
--- what a text can stand for can be printed
-abbrev pub PrintableIsWritable : Type 0
-PrintableIsWritable = (d : Declarations) (k : PayoffCode) → IsPrintableCode d k → IsWritableCode k
 
 -- the canonical text of code spells it wherever it stands before a stop; names of fewer than 1,000 binders are words
 abbrev pub CodeIsSpelled : Type 0

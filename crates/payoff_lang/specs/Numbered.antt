@@ -5,10 +5,10 @@ use denote.Ref.{Bor}
 use Rattle.contract_grammar.specs.Words.{Bytes}
 use Rattle.contract_grammar.specs.Names.{DeclaredNames}
 use Rattle.term_model.specs.Terms.{Expression, Lit as Lit', Yes as Yes', Var as Var', Obs as Obs', Neg as Neg', Num as Num', Cmp as Cmp', Not as Not', Logic as Logic', Cond as Cond', Widen as Widen', Round as Round', Div as Div', Acc as Acc'}
-use Rattle.payoff_lang.specs.declared.code.DateExpr.{DateExpr}
-use Rattle.payoff_lang.specs.TemplateDates.{Date, date}
+use Rattle.payoff_terms.specs.declared.code.DateExpr.{DateExpr}
+use Rattle.payoff_terms.specs.TemplateDates.{Date, date}
 use Rattle.payoff_lang.specs.CodeTexts.{date_text, modelled}
-use Rattle.payoff_lang.specs.Code.{ValueExpression, Lit, Yes, Var, Model, Neg, Num, Cmp, Not, Logic, Cond, Widen, Round, Div, Acc}
+use Rattle.payoff_terms.specs.Code.{ValueExpression, Lit, Yes, Var, Model, Neg, Num, Cmp, Not, Logic, Cond, Widen, Round, Div, Acc}
 
 -- the dates that are lent
 abbrev pub dates_lent : List (Bor DateExpr) → List Date

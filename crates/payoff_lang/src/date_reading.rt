@@ -8,9 +8,8 @@ ghost use Rattle.contract_parse.specs.Reading.{LacksMark};
 ghost use Rattle.contract_parse.specs.Readers.{Passes, Reads};
 ghost use Rattle.payoff_lang.specs.CodeReading.{AddsTemplates, RisingTemplates, date_in};
 
-use crate::code::DateExpr;
-use crate::dates::put_in_order;
 use contract_parse::{PartErr, after_mark, read_date_number, read_use_of_map};
+use payoff_terms::{DateExpr, put_in_order};
 use std::alloc::Global;
 use term_model::Decls;
 

@@ -1,33 +1,13 @@
-//! Laws of payoff code. Each is the contract of a function that does nothing; a caller takes the
-//! law by calling it.
+//! Laws of the texts of payoff code. Each is the contract of a function that does nothing; a
+//! caller takes the law by calling it.
 
-ghost use Rattle.payoff_lang.specs.LawsCode.{CompiledCodeMeans, CutCodeMeans, CodeIsWellFormed, CodeValuesAreFixed};
 ghost use Rattle.payoff_lang.specs.LawsReading.{CodeFaultsEndFronts, CodeFitsText, CodeOfTextIsClosed, CodeOfTextIsPrintable, CodeTextHasNoFault, CodeTextIsTaken, CodeTextsAreWhole, NamesOfCodeFitText, OneCodeReading};
-ghost use Rattle.payoff_lang.specs.LawsTexts.{CodeCanonExists, CodeCanonIsText, CodeIsSpelled, OneCanonOfCode, PrintableIsWritable, ValuesAreWrittenAsExpressions};
+ghost use Rattle.payoff_lang.specs.LawsTexts.{CodeCanonExists, CodeCanonIsText, CodeIsSpelled, OneCanonOfCode, ValuesAreWrittenAsExpressions};
 
-/// The code of a contract means it: at every setting at which the contract is accepted, in every
-/// admitted environment, on every day, for every pair of parties and asset, its value is the sum of
-/// the contract's discounted amounts.
-pub fn code_means()
-    ensures { CompiledCodeMeans }
-{}
-
-/// And so does its cut code, which counts the amounts that are left to be paid.
-pub fn cut_means()
-    ensures { CutCodeMeans }
-{}
-
-/// The code of a closed contract is closed, and its dates have their templates in order; so has its
-/// cut code.
-pub fn code_is_well_formed()
-    ensures { CodeIsWellFormed }
-{}
-
-/// Where each place that code reads is fixed, its value is that of the fixings, whatever else is
-/// observed.
-pub fn code_values_are_fixed()
-    ensures { CodeValuesAreFixed }
-{}
+/// The laws of what code is, is worth and means.
+pub use payoff_terms::laws::{
+    code_is_well_formed, code_means, code_values_are_fixed, cut_means, printable_is_writable,
+};
 
 /// A value expression is written as the expression that it is with its dates in a list, but for the
 /// leaf.
@@ -43,11 +23,6 @@ pub fn code_canon_exists()
 /// A code file has at most one canonical text.
 pub fn one_canon_of_code()
     ensures { OneCanonOfCode }
-{}
-
-/// Code that a text can stand for may be printed.
-pub fn printable_is_writable()
-    ensures { PrintableIsWritable }
 {}
 
 /// The canonical text of code spells it wherever a comma, a bracket, a space or a semicolon

@@ -1,6 +1,5 @@
-//! Payoff code in the manner of Annenkov and Elsman (PPDP 2018): what it is, what it is worth and
-//! reads, when it is accepted, what it is that code means a contract, and its texts: their
-//! canonical form, and how they are read.
+//! The texts of payoff code: their canonical form, and how they are read. What code is, is worth
+//! and means is in `payoff_terms`, which is passed on.
 //!
 //! ```text
 //! let file = parse_code(alloc, &bytes)?;
@@ -12,11 +11,7 @@
 //! Only tested: that they succeed where there is memory (rows of `library_rows`).
 #![tactic(auto)]
 
-mod code;
-mod code_file;
 mod date_reading;
-mod dates;
-mod dating;
 pub mod laws;
 mod models;
 mod numbering;
@@ -24,9 +19,6 @@ mod parsing;
 mod printing;
 mod reading;
 
-pub use code::{Code, DateExpr, Vx};
-pub use code_file::CodeFile;
-pub use dates::{put_in_order, with_name};
-pub use dating::{Dating, copied_date, dated};
 pub use parsing::parse_code;
+pub use payoff_terms::{Code, CodeFile, DateExpr, Vx};
 pub use printing::print_code;

@@ -8,15 +8,14 @@ ghost use Rattle.contract_parse.specs.Expecting.{date_expected};
 ghost use Rattle.contract_parse.specs.Reading.{declared_in};
 ghost use Rattle.contract_parse.specs.Readers.{KeepsLeaves, Passes, Reads};
 ghost use Rattle.contract_grammar.specs.declared.terms.Language.{Language};
-ghost use Rattle.payoff_lang.specs.TemplateDates.{Date, date};
+ghost use Rattle.payoff_terms.specs.TemplateDates.{Date, date};
 ghost use Rattle.payoff_lang.specs.CodeReading.{ListedDate, date_listed, dates_of, listed_leaf};
 
-use crate::code::DateExpr;
 use crate::date_reading::read_date;
-use crate::dating::{Dating, copied_date};
 use contract_grammar::Language;
 use contract_parse::{LeafReader, PartErr, read_use_of_map, skip_mark};
 use decimal::NoMemory;
+use payoff_terms::{DateExpr, Dating, copied_date};
 use std::alloc::Global;
 use term_model::{Decls, Expr};
 

@@ -2,11 +2,11 @@
 
 ghost use Rattle.std.specs.Prelude.{◌≡◌, IfOk, OnOk, length, pos};
 ghost use Rattle.term_model.specs.Terms.{expression};
-ghost use Rattle.payoff_lang.specs.Code.{value_expression};
+ghost use Rattle.payoff_terms.specs.Code.{value_expression};
 ghost use Rattle.payoff_lang.specs.Numbered.{dates_lent, numbered, with_dates};
 
-use crate::code::{DateExpr, Vx};
 use decimal::NoMemory;
+use payoff_terms::{DateExpr, Vx};
 use std::alloc::Global;
 use term_model::Expr;
 

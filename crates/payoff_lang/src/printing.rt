@@ -3,24 +3,23 @@
 ghost use Rattle.std.specs.Prelude.{◌≡◌, ◌≤◌, ◌+◌, ◌++◌, OnOk, OnErr};
 ghost use Rattle.term_model.specs.Declarations.{declarations};
 ghost use Rattle.term_model.specs.Sizes.{height};
-ghost use Rattle.payoff_lang.specs.TemplateDates.{date};
-ghost use Rattle.payoff_lang.specs.Dating.{undated};
-ghost use Rattle.payoff_lang.specs.Code.{value_expression, payoff_code};
-ghost use Rattle.payoff_lang.specs.CodeBooks.{code_book};
-ghost use Rattle.payoff_lang.specs.CodeSizes.{height_of_code};
+ghost use Rattle.payoff_terms.specs.TemplateDates.{date};
+ghost use Rattle.payoff_terms.specs.Dating.{undated};
+ghost use Rattle.payoff_terms.specs.Code.{value_expression, payoff_code};
+ghost use Rattle.payoff_terms.specs.CodeBooks.{code_book};
+ghost use Rattle.payoff_terms.specs.CodeSizes.{height_of_code};
 ghost use Rattle.payoff_lang.specs.CodeTexts.{code_text, date_text, declared_for_code, names_text, test_text, transfer_text, value_text};
 ghost use Rattle.payoff_lang.specs.CodeCanon.{AppendsCode, code_book_text, code_header_text, code_line_text};
 ghost use Rattle.payoff_lang.specs.Numbered.{dates_lent, modelled_at, text_at};
-ghost use Rattle.payoff_lang.specs.WritableCode.{IsWritableCode, IsWritableUnder, IsWritableValue};
+ghost use Rattle.payoff_terms.specs.WritableCode.{IsWritableCode, IsWritableUnder, IsWritableValue};
 
-use crate::code::{Code, DateExpr, Vx};
-use crate::code_file::CodeFile;
 use crate::numbering::number_dates;
 use contract_print::{
     Leaf, append, append_asset_name, append_bound_name, append_decls, append_expr,
     append_label_name, append_name, append_template_name, origin_date,
 };
 use decimal::{NoMemory, write};
+use payoff_terms::{Code, CodeFile, DateExpr, Vx};
 use std::alloc::Global;
 use term_model::Decls;
 

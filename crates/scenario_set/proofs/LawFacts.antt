@@ -1,7 +1,7 @@
 -- Each value of a total is what a contract that the code means is worth in that scenario.
 use Rattle.std.proofs.Common.{◌≡◌, ◌∙◌, ℕ, zero, suc, ℤ, List, [], ◌∷◌, map, Option, None, Some, slice_get, ap, subst, sym}
 use Rattle.std.proofs.lemmas.Option.{slice_get_within}
-use Rattle.payoff_lang.specs.LawsCode.{CodeValuesAreFixed}
+use Rattle.payoff_terms.specs.LawsCode.{CodeValuesAreFixed}
 use Rattle.payoff_eval.specs.Questions.{asked_on}
 use Rattle.scenario_set.specs.LawsTotals.{ScenariosAreWorth, at_setting}
 use Rattle.scenario_set.specs.Scenarios.{NamedMap}

@@ -8,8 +8,8 @@ use Rattle.decimal.specs.Rounding.{raised}
 use Rattle.term_model.specs.Declarations.{Declarations}
 use Rattle.term_model.specs.Environments.{Environment, Extends, Place}
 use Rattle.fixing_files.specs.Layers.{HoldSame}
-use Rattle.payoff_lang.specs.CodeValues.{scale_of_code}
-use Rattle.payoff_lang.specs.LawsCode.{CodeValuesAreFixed}
+use Rattle.payoff_terms.specs.CodeValues.{scale_of_code}
+use Rattle.payoff_terms.specs.LawsCode.{CodeValuesAreFixed}
 use Rattle.payoff_eval.proofs.SameFacts.{extends_same, same_lacked}
 use Rattle.scenario_set.specs.LawsTotals.{SameAnswer, SameTotals, TotalsAreOne}
 use Rattle.scenario_set.specs.Scenarios.{AreAdmitted, NamedMap, SameScenarios}

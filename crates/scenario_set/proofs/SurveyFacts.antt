@@ -4,7 +4,7 @@ use Rattle.std.proofs.Common.{◌≡◌, ◌*◌, ◌≤◌, ◌^◌, ℕ, ℤ, 
 use Rattle.std.specs.Prelude.{◌≤ℤ◌}
 use Rattle.std.proofs.lemmas.Int.{ints, to_z-of_z}
 use Rattle.term_model.specs.Declarations.{Declarations}
-use Rattle.payoff_lang.specs.CodeValues.{Asked}
+use Rattle.payoff_terms.specs.CodeValues.{Asked}
 use Rattle.payoff_eval.specs.Questions.{IsQuestion}
 use Rattle.scenario_set.specs.Scenarios.{NamedMap, SameScenarios}
 use Rattle.scenario_set.specs.Surveys.{CanBeSurveyed}

@@ -7,7 +7,7 @@ use Rattle.term_model.specs.Environments.{Environment, IsAdmitted}
 use Rattle.term_model.specs.Factors.{IsCurve, IsFactor}
 use Rattle.interval_check.specs.Within.{KeepsLimits}
 use Rattle.expr_eval.specs.Standing.{place_of}
-use Rattle.payoff_lang.specs.CodeAcceptance.{IsAcceptedCode}
+use Rattle.payoff_terms.specs.CodeAcceptance.{IsAcceptedCode}
 use Rattle.payoff_eval.specs.CodeAnswers.{IsValueOf, aligned_value}
 use Rattle.payoff_eval.proofs.LawFacts.{values_are_within_totals}
 use Rattle.payoff_eval.proofs.SameFacts.{extends_same, same_lacked}

@@ -6,10 +6,10 @@ use Rattle.term_model.specs.Environments.{Environment, Extends}
 use Rattle.term_model.specs.Factors.{CurveRow}
 use Rattle.term_model.specs.Instances.{instance}
 use Rattle.term_model.specs.Terms.{Contract}
-use Rattle.payoff_lang.specs.CodeBooks.{CodeBook}
-use Rattle.payoff_lang.specs.CodeValues.{Asked}
-use Rattle.payoff_lang.specs.Meaning.{CodeMeans, Counting, MayBeAsked, counting, of_past}
-use Rattle.payoff_lang.specs.PresentValues.{present_value}
+use Rattle.payoff_terms.specs.CodeBooks.{CodeBook}
+use Rattle.payoff_terms.specs.CodeValues.{Asked}
+use Rattle.payoff_terms.specs.Meaning.{CodeMeans, Counting, MayBeAsked, counting, of_past}
+use Rattle.payoff_terms.specs.PresentValues.{present_value}
 use Rattle.payoff_eval.specs.Questions.{asked_on}
 use Rattle.scenario_set.specs.Scenarios.{NamedMap, SameScenarios}
 use Rattle.scenario_set.specs.Totals.{AnswersTotals, AreTotals, Inquiry, value_at}

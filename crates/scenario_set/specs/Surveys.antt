@@ -2,7 +2,7 @@
 -- total.
 use Rattle.std.specs.Prelude.{ℕ, ◌≤◌, List}
 use Rattle.term_model.specs.Environments.{Environment, IsAdmitted}
-use Rattle.payoff_lang.specs.CodeSizes.{height_of_code}
+use Rattle.payoff_terms.specs.CodeSizes.{height_of_code}
 use Rattle.scenario_set.specs.Scenarios.{AreAdmitted, NamedMap, maps_of}
 use Rattle.scenario_set.specs.Totals.{AreFew, CanBeAsked, Inquiry, inquiry_of}
 use Rattle.scenario_set.specs.declared.surveys.Asking.{Asking}

@@ -11,11 +11,11 @@ use Rattle.term_model.specs.Factors.{CurveRow}
 use Rattle.term_model.specs.Limits.{greatest_mantissa}
 use Rattle.term_model.specs.Reads.{first_unfixed}
 use Rattle.interval_check.specs.Safety.{IsSmall}
-use Rattle.payoff_lang.specs.CodeBooks.{CodeBook, code_book}
-use Rattle.payoff_lang.specs.CodeReads.{reads_of_code}
-use Rattle.payoff_lang.specs.CodeTotals.{aligned_code_total}
-use Rattle.payoff_lang.specs.CodeValues.{Asked}
-use Rattle.payoff_lang.specs.declared.code_file.CodeFile.{CodeFile}
+use Rattle.payoff_terms.specs.CodeBooks.{CodeBook, code_book}
+use Rattle.payoff_terms.specs.CodeReads.{reads_of_code}
+use Rattle.payoff_terms.specs.CodeTotals.{aligned_code_total}
+use Rattle.payoff_terms.specs.CodeValues.{Asked}
+use Rattle.payoff_terms.specs.declared.code_file.CodeFile.{CodeFile}
 use Rattle.payoff_eval.specs.CodeAnswers.{aligned_value}
 use Rattle.payoff_eval.specs.Questions.{CanBeValued, IsQuestion, asked_on}
 use Rattle.scenario_set.specs.Scenarios.{NamedMap}

@@ -5,7 +5,7 @@ ghost use Rattle.scenario_set.specs.LawsTables.{FaultyTablesHoldNoScenarios};
 ghost use Rattle.scenario_set.specs.LawsTables.{ScenarioFaultsAreUnique, TablesHoldOneSet};
 ghost use Rattle.scenario_set.specs.LawsTotals.{ScenariosAreWorth, TotalsAreOne};
 
-use payoff_lang::laws::code_values_are_fixed;
+use payoff_terms::laws::code_values_are_fixed;
 
 /// Where code means a contract, plain or cut, each value of a total is what the contract is worth
 /// in that scenario, whatever else is observed.

@@ -18,8 +18,8 @@ use crate::surveys::{Asking, Survey};
 use decimal::NoMemory;
 use fixing_files::{Curve, Fixings, LayeredFixings};
 use payoff_eval::{ValueScratch, value_layered, value_scratch};
-use payoff_lang::CodeFile;
-use payoff_lang::laws::code_values_are_fixed;
+use payoff_terms::CodeFile;
+use payoff_terms::laws::code_values_are_fixed;
 use std::alloc::Global;
 use term_model::{Missing, Setting};
 

@@ -4,7 +4,7 @@ ghost use Rattle.std.specs.Prelude.{◌≤◌, ◌<◌, ◌^◌, length};
 
 use crate::scenarios::Scenario;
 use fixing_files::{Curve, Fixings};
-use payoff_lang::CodeFile;
+use payoff_terms::CodeFile;
 use term_model::Setting;
 
 /// What is asked of a code file: at a setting, by a curve, on a day, between parties in an asset.

@@ -1,7 +1,7 @@
 use Rattle.std.proofs.Common.{◌≡◌, ℕ, List, inr, subst}
 use Rattle.std.specs.Prelude.{Result, Ok, Err}
 use Rattle.std.specs.Global.{Vec}
-use Rattle.payoff_lang.specs.CodeBooks.{CodeBook, code_book}
+use Rattle.payoff_terms.specs.CodeBooks.{CodeBook, code_book}
 use Rattle.payoff_lang.specs.CodeFiles.{CodeText}
 use Rattle.command_words.specs.Commands.{ValueAsked}
 use Rattle.command_words.specs.Words.{value_by}

@@ -2,7 +2,7 @@ use Rattle.std.proofs.Common.{◌≡◌, ◌∙◌, ◌≤◌, ◌+◌, ◌-◌,
 use Rattle.std.specs.Prelude.{unsigned_abs}
 use Rattle.std.specs.Int.{w128}
 use Rattle.std.proofs.lemmas.Int.{to_z-of_z}
-use Rattle.payoff_lang.specs.CodeBooks.{code_book}
+use Rattle.payoff_terms.specs.CodeBooks.{code_book}
 use Rattle.payoff_eval.proofs.NodeFacts.{scale_of_accepted}
 use Rattle.command_answers.specs.ValueParts.{most_of}
 use Rattle.command_answers.proofs.ValueParts.{most_aligned, most_fits, most_small, total_fits}

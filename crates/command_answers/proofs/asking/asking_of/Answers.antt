@@ -1,7 +1,7 @@
 use Rattle.std.proofs.Common.{◌≡◌, ℕ, List, inl, inr, of_z, subst, to_z, w64}
 use Rattle.std.specs.Int.{w128}
 use Rattle.std.proofs.lemmas.Int.{to_z-of_z}
-use Rattle.payoff_lang.specs.CodeBooks.{code_book}
+use Rattle.payoff_terms.specs.CodeBooks.{code_book}
 use Rattle.command_words.specs.Words.{value_by}
 use Rattle.command_answers.specs.FlowsPromise.{IsDayAsked, greatest_day}
 use Rattle.command_answers.specs.Stages.{IsRefusedCode, IsWordFault}

@@ -2,8 +2,8 @@ use Rattle.std.proofs.Common.{refl}
 use Rattle.std.specs.Prelude.{Err}
 use Rattle.contract_parse.specs.declared.faults.ParseErr.{ParseErr}
 use Rattle.payoff_lang.specs.CodeAnswers.{CodeAnswers}
-use Rattle.payoff_lang.specs.CodeBooks.{code_book}
-use Rattle.payoff_lang.specs.declared.code_file.CodeFile.{CodeFile}
+use Rattle.payoff_terms.specs.CodeBooks.{code_book}
+use Rattle.payoff_terms.specs.declared.code_file.CodeFile.{CodeFile}
 use Rattle.command_answers.specs.Stages.{IsBadCode}
 use Rattle.command_answers.specs.ValueParts.{IsReadFrom}
 use Rattle.command_answers.proofs.StopFacts.{text_stops}

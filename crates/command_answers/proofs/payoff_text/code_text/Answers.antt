@@ -1,10 +1,10 @@
 use Rattle.std.proofs.Common.{ℕ, ap, subst, sym}
 use Rattle.std.specs.Prelude.{IfOk}
 use Rattle.std.specs.Global.{Vec}
-use Rattle.payoff_lang.specs.Code.{PayoffCode}
-use Rattle.payoff_lang.specs.CodeBooks.{CodeBook}
+use Rattle.payoff_terms.specs.Code.{PayoffCode}
+use Rattle.payoff_terms.specs.CodeBooks.{CodeBook}
 use Rattle.payoff_lang.specs.CodeCanon.{IsCanonOfCode}
-use Rattle.payoff_lang.specs.WritableCode.{IsWritableCode}
+use Rattle.payoff_terms.specs.WritableCode.{IsWritableCode}
 use Rattle.command_answers.proofs.payoff_text.code_text.Goals as goal
 
 pub file_text-requires-clause-version : goal.file_text-requires-clause-version

@@ -2,8 +2,8 @@ use Rattle.std.proofs.Common.{ℕ, inl, refl, subst, sym}
 use Rattle.std.specs.Global.{Vec}
 use Rattle.term_model.specs.Declarations.{declarations}
 use Rattle.term_model.specs.Terms.{contract}
-use Rattle.payoff_lang.specs.Code.{PayoffCode, payoff_code}
-use Rattle.payoff_lang.specs.WritableCode.{IsWritableCode}
+use Rattle.payoff_terms.specs.Code.{PayoffCode, payoff_code}
+use Rattle.payoff_terms.specs.WritableCode.{IsWritableCode}
 use Rattle.command_answers.specs.Course.{Stops, Tells}
 use Rattle.command_answers.specs.FlowsParts.{IsRefusedOne}
 use Rattle.command_answers.specs.PayoffCourse.{payoff_of}

@@ -1,7 +1,7 @@
 use Rattle.std.proofs.Common.{ℕ, ℤ, List, subst}
 use Rattle.decimal.specs.declared.rounding.Mode.{Mode}
 use Rattle.term_model.specs.Flows.{Flow}
-use Rattle.payoff_lang.specs.CodeBooks.{CodeBook, code_book}
+use Rattle.payoff_terms.specs.CodeBooks.{CodeBook, code_book}
 use Rattle.command_words.specs.Words.{scenarios_by}
 use Rattle.command_answers.specs.Course.{Course}
 use Rattle.command_answers.specs.ScenarioParts.{totals_by_tables}

@@ -3,7 +3,7 @@ use Rattle.std.specs.Prelude.{Err}
 use Rattle.std.specs.Int.{w128}
 use Rattle.std.proofs.lemmas.Int.{to_z-of_z}
 use Rattle.term_model.specs.Declarations.{declarations}
-use Rattle.payoff_lang.specs.CodeBooks.{code_book}
+use Rattle.payoff_terms.specs.CodeBooks.{code_book}
 use Rattle.payoff_eval.specs.Questions.{IsQuestion, asked_on}
 use Rattle.scenario_set.specs.Totals.{AnswersTotals, AreTotals, Inquiry, inquiry_of as asked_of}
 use Rattle.command_answers.specs.ScenarioParts.{by_factors}

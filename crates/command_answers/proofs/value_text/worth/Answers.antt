@@ -3,7 +3,7 @@ use Rattle.std.specs.Prelude.{Some}
 use Rattle.std.proofs.lemmas.Int.{ints, to_z-of_z}
 use Rattle.term_model.specs.Declarations.{declarations}
 use Rattle.expr_eval.specs.Standing.{place_of}
-use Rattle.payoff_lang.specs.Code.{payoff_code}
+use Rattle.payoff_terms.specs.Code.{payoff_code}
 use Rattle.payoff_eval.specs.Questions.{IsQuestion, asked_on}
 use Rattle.payoff_eval.proofs.NodeFacts.{height_of_accepted}
 use Rattle.command_answers.specs.ValuePromise.{missing_of_code}

@@ -1,6 +1,6 @@
 use Rattle.term_model.specs.Declarations.{declarations}
-use Rattle.payoff_lang.specs.Code.{payoff_code}
-use Rattle.payoff_lang.specs.CodeBooks.{code_book}
+use Rattle.payoff_terms.specs.Code.{payoff_code}
+use Rattle.payoff_terms.specs.CodeBooks.{code_book}
 use Rattle.library_rows.proofs.codes.printed_code.Goals as goal
 
 pub print_file-requires : goal.print_file-requires

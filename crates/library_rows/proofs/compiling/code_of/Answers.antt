@@ -1,6 +1,6 @@
 use Rattle.term_model.specs.Declarations.{declarations}
 use Rattle.term_model.specs.Terms.{contract}
-use Rattle.payoff_lang.specs.Code.{payoff_code}
+use Rattle.payoff_terms.specs.Code.{payoff_code}
 use Rattle.library_rows.proofs.compiling.code_of.Goals as goal
 
 -- what the compiler answers may be cut and printed

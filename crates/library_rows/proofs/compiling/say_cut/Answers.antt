@@ -1,6 +1,6 @@
 use Rattle.std.proofs.Common.{subst, sym}
-use Rattle.payoff_lang.specs.Code.{PayoffCode}
-use Rattle.payoff_lang.specs.WritableCode.{IsWritableCode}
+use Rattle.payoff_terms.specs.Code.{PayoffCode}
+use Rattle.payoff_terms.specs.WritableCode.{IsWritableCode}
 use Rattle.library_rows.proofs.compiling.say_cut.Goals as goal
 
 pub say_code-requires : goal.say_code-requires

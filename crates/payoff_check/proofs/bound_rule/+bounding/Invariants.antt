@@ -1,5 +1,5 @@
 use Rattle.std.proofs.Common.{◌+◌, ◌*◌, max}
-use Rattle.payoff_lang.specs.declared.code.Code.{size-Code}
+use Rattle.payoff_terms.specs.declared.code.Code.{size-Code}
 use Rattle.payoff_check.proofs.bound_rule.+bounding.Given as goal
 
 abbrev pub decreases-bounds_of : goal.decreases-bounds_of

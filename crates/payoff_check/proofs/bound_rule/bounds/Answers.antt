@@ -2,7 +2,7 @@ use Rattle.std.proofs.Common.{pos, ℕ, ◌≤◌, ◌<◌, ◌^◌, refl, ap, �
 use Rattle.std.proofs.lemmas.Int.{to_z_pos}
 use mir.Syntax.{w128}
 use Rattle.term_model.specs.Declarations.{declarations}
-use Rattle.payoff_lang.specs.Code.{payoff_code}
+use Rattle.payoff_terms.specs.Code.{payoff_code}
 use Rattle.payoff_check.proofs.BoundFacts.{are_values_scaled, bounds_meet, bounds_fail}
 use Rattle.payoff_check.proofs.bound_rule.bounds.Goals as goal
 

@@ -2,7 +2,7 @@ use Rattle.std.proofs.Common.{pos, ℕ, ap, ◌∙◌, arith}
 use Rattle.std.proofs.lemmas.Int.{to_z_pos}
 use mir.Syntax.{w128}
 use Rattle.term_model.specs.Declarations.{declarations}
-use Rattle.payoff_lang.specs.Code.{payoff_code}
+use Rattle.payoff_terms.specs.Code.{payoff_code}
 use Rattle.payoff_check.proofs.SimpleFacts.{trials_accept}
 use Rattle.payoff_check.proofs.checks.check_code.Goals as goal
 

@@ -1,5 +1,5 @@
 use Rattle.std.proofs.Common.{◌≡◌, ◌≤◌, ◌+◌, ◌*◌, ◌^◌, ℕ, List, drop}
-use Rattle.payoff_lang.specs.TemplateDates.{sum_at}
+use Rattle.payoff_terms.specs.TemplateDates.{sum_at}
 use Rattle.payoff_check.proofs.days.days_of.Given as goal
 
 pub record IsSumSoFar (xs names : List ℕ) (i total : ℕ) : Type 0 where

@@ -1,6 +1,6 @@
 use Rattle.std.proofs.Common.{refl}
 use Rattle.term_model.specs.Declarations.{declarations}
-use Rattle.payoff_lang.specs.Code.{payoff_code}
+use Rattle.payoff_terms.specs.Code.{payoff_code}
 use Rattle.payoff_check.proofs.ScaleFacts.{scales_meet, scales_fail}
 use Rattle.payoff_check.proofs.scale_rule.scales.Goals as goal
 

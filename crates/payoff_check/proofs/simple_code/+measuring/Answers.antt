@@ -1,8 +1,8 @@
 use Rattle.std.proofs.Common.{ℕ, unsigned_abs, ◌≡◌, ◌≤◌, ◌^◌, true, ap, ◌∙◌, arith, rules}
 use Rattle.term_model.specs.Declarations.{declarations}
-use Rattle.payoff_lang.specs.TemplateDates.{date, day_of}
-use Rattle.payoff_lang.specs.Code.{payoff_code, Lit, Add, ScaleBy, Cut}
-use Rattle.payoff_lang.specs.CodeAcceptance.{is_date}
+use Rattle.payoff_terms.specs.TemplateDates.{date, day_of}
+use Rattle.payoff_terms.specs.Code.{payoff_code, Lit, Add, ScaleBy, Cut}
+use Rattle.payoff_terms.specs.CodeAcceptance.{is_date}
 use Rattle.payoff_check.specs.SimpleTrials.{PassesTrials, joined, multiplied, cut_from}
 use Rattle.payoff_check.proofs.SimpleFacts.{nothing_passes, payments_pass, sum_passes, product_passes, cut_passes, kept_passes}
 use Rattle.payoff_check.proofs.simple_code.+measuring.Goals as goal

@@ -1,5 +1,5 @@
 use Rattle.std.proofs.Common.{◌+◌, ◌*◌, max}
-use Rattle.payoff_lang.specs.declared.code.Code.{size-Code}
+use Rattle.payoff_terms.specs.declared.code.Code.{size-Code}
 use Rattle.payoff_check.proofs.size_rule.+sizing.Given as goal
 
 abbrev pub decreases-sizes_of : goal.decreases-sizes_of

@@ -1,7 +1,7 @@
 use Rattle.std.proofs.Common.{pos, ap, sym, ◌∙◌, arith}
-use Rattle.payoff_lang.specs.TemplateDates.{day_of}
-use Rattle.payoff_lang.specs.Code.{value_expression}
-use Rattle.payoff_lang.specs.Dating.{at_setting}
+use Rattle.payoff_terms.specs.TemplateDates.{day_of}
+use Rattle.payoff_terms.specs.Code.{value_expression}
+use Rattle.payoff_terms.specs.Dating.{at_setting}
 use Rattle.payoff_check.specs.declared.part_sizes.ValueSize.{ValueSize}
 use Rattle.payoff_check.proofs.DateFreeFacts.{size_any, nodes_undated}
 use Rattle.payoff_check.proofs.ValueSizeFacts.{size_there}

@@ -1,6 +1,6 @@
 use Rattle.std.proofs.Common.{refl, sym}
 use Rattle.term_model.specs.Declarations.{declarations}
-use Rattle.payoff_lang.specs.Code.{payoff_code}
+use Rattle.payoff_terms.specs.Code.{payoff_code}
 use Rattle.payoff_check.proofs.SizeFacts.{sizes_meet, sizes_fail}
 use Rattle.payoff_check.proofs.size_rule.sizes.Goals as goal
 

@@ -1,5 +1,5 @@
 use Rattle.std.proofs.Common.{◌+◌, ◌*◌, max}
-use Rattle.payoff_lang.specs.declared.code.Code.{size-Code}
+use Rattle.payoff_terms.specs.declared.code.Code.{size-Code}
 use Rattle.payoff_check.proofs.sort_rule.+sorting.Given as goal
 
 abbrev pub decreases-sorts_of : goal.decreases-sorts_of

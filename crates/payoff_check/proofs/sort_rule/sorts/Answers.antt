@@ -1,6 +1,6 @@
 use Rattle.std.proofs.Common.{refl}
 use Rattle.term_model.specs.Declarations.{declarations}
-use Rattle.payoff_lang.specs.Code.{payoff_code}
+use Rattle.payoff_terms.specs.Code.{payoff_code}
 use Rattle.payoff_check.proofs.SortFacts.{sorts_meet, sorts_fail}
 use Rattle.payoff_check.proofs.sort_rule.sorts.Goals as goal
 

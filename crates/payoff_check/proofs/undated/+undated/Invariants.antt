@@ -1,5 +1,5 @@
 use Rattle.std.proofs.Common.{◌+◌, ◌*◌, max}
-use Rattle.payoff_lang.specs.declared.code.Vx.{size-Vx}
+use Rattle.payoff_terms.specs.declared.code.Vx.{size-Vx}
 use Rattle.payoff_check.proofs.undated.+undated.Given as goal
 
 abbrev pub decreases-undated_of : goal.decreases-undated_of

@@ -1,5 +1,5 @@
 use Rattle.std.proofs.Common.{◌+◌, ◌*◌, max}
-use Rattle.payoff_lang.specs.declared.code.Vx.{size-Vx}
+use Rattle.payoff_terms.specs.declared.code.Vx.{size-Vx}
 use Rattle.payoff_check.proofs.value_sizes.+sizing.Given as goal
 
 abbrev pub decreases-size_of_value : goal.decreases-size_of_value

@@ -3,8 +3,8 @@ use Rattle.std.proofs.lemmas.Result.{IfOk-weaker}
 use Rattle.term_model.specs.Declarations.{declarations}
 use Rattle.term_model.specs.Terms.{contract}
 use Rattle.term_model.specs.Instances.{instance, declared_numbers}
-use Rattle.payoff_lang.specs.Code.{PayoffCode}
-use Rattle.payoff_lang.proofs.MeaningFacts.{reach_of}
+use Rattle.payoff_terms.specs.Code.{PayoffCode}
+use Rattle.payoff_terms.proofs.MeaningFacts.{reach_of}
 use Rattle.payoff_compile.specs.CompiledCode.{IsPlainCode}
 use Rattle.payoff_compile.proofs.LimitFacts.{code_dates_fit, reach_named}
 use Rattle.payoff_compile.proofs.PlainFacts.{code_plain}

@@ -2,7 +2,7 @@ use Rattle.std.proofs.Common.{arith}
 use Rattle.term_model.specs.Declarations.{declarations}
 use Rattle.term_model.specs.Terms.{contract}
 use Rattle.term_model.specs.Instances.{instance, declared_numbers}
-use Rattle.payoff_lang.proofs.MeaningFacts.{reach_of}
+use Rattle.payoff_terms.proofs.MeaningFacts.{reach_of}
 use Rattle.payoff_compile.proofs.LimitFacts.{code_dates_fit, reach_named}
 use Rattle.payoff_compile.proofs.compiling.into_cut_code.Goals as goal
 

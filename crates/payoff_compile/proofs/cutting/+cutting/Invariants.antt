@@ -1,5 +1,5 @@
 use Rattle.std.proofs.Common.{◌+◌, ◌*◌, max}
-use Rattle.payoff_lang.specs.declared.code.Code.{size-Code}
+use Rattle.payoff_terms.specs.declared.code.Code.{size-Code}
 use Rattle.payoff_compile.proofs.cutting.+cutting.Given as goal
 
 abbrev pub decreases-with_cuts : goal.decreases-with_cuts

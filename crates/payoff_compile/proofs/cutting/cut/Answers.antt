@@ -1,6 +1,6 @@
 use Rattle.std.proofs.Common.{sym, subst}
 use Rattle.std.proofs.lemmas.Result.{IfOk-weaker}
-use Rattle.payoff_lang.specs.Code.{PayoffCode, payoff_code}
+use Rattle.payoff_terms.specs.Code.{PayoffCode, payoff_code}
 use Rattle.payoff_compile.specs.CompiledCode.{CountsTheRest}
 use Rattle.payoff_compile.proofs.PlainFacts.{cut_counts}
 use Rattle.payoff_compile.proofs.cutting.cut.Goals as goal

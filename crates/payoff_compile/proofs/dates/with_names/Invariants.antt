@@ -1,5 +1,5 @@
 use Rattle.std.proofs.Common.{◌≡◌, ◌-◌, drop, length}
-use Rattle.payoff_lang.specs.TemplateDates.{insert_names}
+use Rattle.payoff_terms.specs.TemplateDates.{insert_names}
 use Rattle.payoff_compile.proofs.dates.with_names.Given as goal
 
 -- the last of the further names stand among the others

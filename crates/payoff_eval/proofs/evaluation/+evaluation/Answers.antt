@@ -1,8 +1,8 @@
 use Rattle.std.proofs.Common.{rules, arith, ◌≡◌, sym, ap, subst, ◌∙◌, Ok, pos, ◌-ℤ◌, FitsSigned, w64}
 use Rattle.std.proofs.lemmas.Int.{to_z-of_z}
-use Rattle.payoff_lang.specs.declared.code.Vx.{Vx}
-use Rattle.payoff_lang.specs.Code.{value_expression}
-use Rattle.payoff_lang.specs.Dating.{at_setting}
+use Rattle.payoff_terms.specs.declared.code.Vx.{Vx}
+use Rattle.payoff_terms.specs.Code.{value_expression}
+use Rattle.payoff_terms.specs.Dating.{at_setting}
 use Rattle.term_model.specs.Declarations.{declarations}
 use Rattle.term_model.specs.Terms.{Cmp, Div, Acc}
 use Rattle.expr_eval.specs.Bindings.{bindings}

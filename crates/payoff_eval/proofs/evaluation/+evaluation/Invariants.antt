@@ -1,8 +1,8 @@
 use Rattle.std.proofs.Common.{◌≡◌, ◌+◌, ◌*◌, max, Ok}
-use Rattle.payoff_lang.specs.declared.code.Vx.{size-Vx}
+use Rattle.payoff_terms.specs.declared.code.Vx.{size-Vx}
 use Rattle.term_model.specs.Declarations.{declarations}
-use Rattle.payoff_lang.specs.Code.{value_expression}
-use Rattle.payoff_lang.specs.Dating.{at_setting}
+use Rattle.payoff_terms.specs.Code.{value_expression}
+use Rattle.payoff_terms.specs.Dating.{at_setting}
 use Rattle.expr_eval.specs.Bindings.{bindings}
 use Rattle.expr_eval.specs.Runs.{days_run}
 use Rattle.payoff_eval.proofs.evaluation.+evaluation.Given as goal

@@ -1,7 +1,7 @@
 use Rattle.std.proofs.Common.{◌≡◌, pos, rules, to_z, of_z, w64}
 use Rattle.std.proofs.lemmas.Int.{to_z-of_z}
 use Rattle.term_model.specs.Declarations.{declarations}
-use Rattle.payoff_lang.specs.Code.{payoff_code}
+use Rattle.payoff_terms.specs.Code.{payoff_code}
 use Rattle.payoff_eval.specs.Questions.{asked_on}
 use Rattle.payoff_eval.specs.CodeAnswers.{IsCodeValue}
 use Rattle.payoff_eval.proofs.FitFacts.{accepted_code_fits}

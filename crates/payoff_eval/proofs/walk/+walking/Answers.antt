@@ -3,8 +3,8 @@ use Rattle.std.proofs.lemmas.Int.{to_z-of_z}
 use Rattle.term_model.specs.declared.values.Value.{Value}
 use Rattle.term_model.specs.declared.values.Missing.{Missing}
 use Rattle.term_model.specs.Declarations.{declarations}
-use Rattle.payoff_lang.specs.TemplateDates.{date, day_of}
-use Rattle.payoff_lang.specs.Code.{value_expression, payoff_code}
+use Rattle.payoff_terms.specs.TemplateDates.{date, day_of}
+use Rattle.payoff_terms.specs.Code.{value_expression, payoff_code}
 use Rattle.payoff_eval.specs.declared.walk.Worth.{Worth}
 use Rattle.payoff_eval.specs.CodeEvaluations.{asked_of}
 use Rattle.payoff_eval.specs.CodeRuns.{answer_of, run_code}

@@ -3,7 +3,7 @@ use Rattle.std.proofs.lemmas.Int.{to_z-of_z}
 use Rattle.term_model.specs.declared.values.Value.{Value}
 use Rattle.term_model.specs.declared.values.Missing.{Missing}
 use Rattle.term_model.specs.Declarations.{declarations}
-use Rattle.payoff_lang.specs.Code.{value_expression}
+use Rattle.payoff_terms.specs.Code.{value_expression}
 use Rattle.payoff_eval.specs.CodeRuns.{answer_of}
 use Rattle.expr_eval.specs.Trials.{first_tried}
 use Rattle.expr_eval.proofs.TriedFacts.{tried_missing, tried_true}

@@ -1,6 +1,6 @@
 use Rattle.std.proofs.Common.{◌≡◌, ◌+ℤ◌, pos, Ok, None}
 use Rattle.term_model.specs.Declarations.{declarations}
-use Rattle.payoff_lang.specs.Code.{value_expression}
+use Rattle.payoff_terms.specs.Code.{value_expression}
 use Rattle.payoff_eval.specs.CodeRuns.{answer_of}
 use Rattle.expr_eval.specs.Trials.{first_tried}
 use Rattle.payoff_eval.proofs.walk.first_day.Given as goal

@@ -2,7 +2,7 @@ use Rattle.std.proofs.Common.{◌≡◌, [], sym, subst}
 use Rattle.term_model.specs.Declarations.{declarations}
 use Rattle.term_model.specs.Terms.{Expression, expression}
 use Rattle.contract_grammar.specs.Writable.{IsWritable}
-use Rattle.payoff_lang.specs.Code.{value_expression}
+use Rattle.payoff_terms.specs.Code.{value_expression}
 use Rattle.payoff_lang.specs.CodeTexts.{declared_for_code}
 use Rattle.payoff_lang.specs.Numbered.{dates_lent, numbered, with_dates}
 use Rattle.payoff_lang.proofs.NumberedFacts.{height_numbered, writable_numbered, written_as}

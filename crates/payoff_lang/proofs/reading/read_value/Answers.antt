@@ -4,8 +4,8 @@ use Rattle.term_model.specs.Terms.{expression}
 use Rattle.contract_grammar.specs.Tokens.{tokens}
 use Rattle.contract_parse.specs.Frames.{names_at}
 use Rattle.contract_parse.specs.Reading.{declared_in}
-use Rattle.payoff_lang.specs.Code.{ValueExpression}
-use Rattle.payoff_lang.specs.Dating.{undated}
+use Rattle.payoff_terms.specs.Code.{ValueExpression}
+use Rattle.payoff_terms.specs.Dating.{undated}
 use Rattle.payoff_lang.specs.CodeSpelling.{value_part}
 use Rattle.payoff_lang.proofs.DatedSpelled.{have_dates, height_dated, listed_spelled}
 use Rattle.payoff_lang.proofs.reading.read_value.Goals as goal

@@ -1,7 +1,7 @@
 use Rattle.std.proofs.Common.{◌∙◌, ◌++◌, ℤ, ap, subst, sym}
 use Rattle.term_model.specs.Declarations.{declarations}
 use Rattle.term_model.specs.Environments.{Environment, held}
-use Rattle.payoff_lang.specs.CodeBooks.{code_book}
+use Rattle.payoff_terms.specs.CodeBooks.{code_book}
 use Rattle.payoff_eval.specs.CodeAnswers.{IsValueOf}
 use Rattle.payoff_eval.specs.Questions.{IsQuestion, asked_on}
 use Rattle.payoff_eval.proofs.SameFacts.{same_answer}

@@ -1,0 +1,17 @@
+pub mod TemplateDates
+pub mod Code
+pub mod Dating
+pub mod CodeValues
+pub mod CodeReads
+pub mod PresentValues
+pub mod Compiled
+pub mod Meaning
+pub mod CodeSizes
+pub mod CodeTotals
+pub mod CodeSites
+pub mod CodeAcceptance
+pub mod WellFormedCode
+pub mod PrintableCode
+pub mod CodeBooks
+pub mod LawsCode
+pub mod WritableCode
