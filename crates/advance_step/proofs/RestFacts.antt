@@ -53,11 +53,6 @@ fails b c room span (Err x) e is h =
     let same : e ≡ x = cc in
     subst (λ (y : FlowErr). LacksReadOn b c room span y) same h
 
--- want of memory is one of any contract
-pub lacks_room : (b : Knowledge) (c : Contract) (room : Room) (span : Span) (o : Answer)
-    → o ≡ Err lacks_memory → AnswersRest b c room span o
-lacks_room b c room span o is = fails b c room span o lacks_memory is tt
-
 -- ---- the same by other names
 
 pub same_contract : (b : Knowledge) (c c' : Contract) (room : Room) (span : Span) (o : Answer)

@@ -8,9 +8,6 @@ use Rattle.contract_grammar.specs.Names.{DeclaredNames}
 use Rattle.contract_grammar.specs.Spelling.{Leaf, Part, ◌⨟◌, expr_with}
 use Rattle.contract_parse.specs.Readers.{KeepsLeaves}
 
-pub keeps_all : {leaf : DeclaredNames → Leaf} → KeepsLeaves leaf leaf
-keeps_all = record { keeps = λ s label offset ts rest x. x }
-
 pub keeps_on : {a b c : DeclaredNames → Leaf} → KeepsLeaves a b → KeepsLeaves b c → KeepsLeaves a c
 keeps_on f g = record { keeps = λ s label offset ts rest x. g.keeps s label offset ts rest (f.keeps s label offset ts rest x) }
 

@@ -1,6 +1,6 @@
 -- What follows of payments in turn: they pay just what is due; each settles one of its two parties, so they are few, no two of
 -- them have the same payer and the same payee, and neither payers nor payees go back.
-use Rattle.std.proofs.Common.{◌≡◌, ℕ, zero, suc, ◌+◌, ◌-◌, ◌≤◌, ◌<◌, ℤ, pos, neg_ℤ, ◌+ℤ◌, ◌-ℤ◌, ◌<ℤ◌, ◌≤ℤ◌, unsigned_abs, min, max, Bool, true, false, ◌==◌, int_eq, cond, if◌then◌else◌, inl, inr, ◌⊎◌, List, [], ◌∷◌, length, get_or, refl, ap, sym, ◌∙◌, subst, arith}
+use Rattle.std.proofs.Common.{◌≡◌, ℕ, zero, suc, ◌+◌, ◌-◌, ◌≤◌, ◌<◌, ℤ, pos, neg_ℤ, ◌+ℤ◌, ◌-ℤ◌, ◌<ℤ◌, ◌≤ℤ◌, unsigned_abs, min, max, Bool, true, false, ◌==◌, cond, if◌then◌else◌, inl, inr, ◌⊎◌, List, [], ◌∷◌, length, get_or, refl, ap, sym, ◌∙◌, subst, arith}
 use Rattle.std.specs.Int.{int_min}
 use Rattle.std.specs.List.{All, Contains, count_by}
 use Rattle.std.proofs.lemmas.Int.{ints}
@@ -179,12 +179,6 @@ kept z q (p ∷ ps) h k =
 -- all parties to which something is due
 abbrev HoldsDue : (ℕ → ℤ) → List ℕ → Type 0
 HoldsDue due ps = (p : ℕ) → (due p ≡ pos 0 → ⊥) → Contains ps p
-
-not_held : (x : ℤ) (P : Type 0) → ((x ≡ pos 0 → ⊥) → P) → (P → ⊥) → x ≡ pos 0
-not_held x P f g = by_test (x ≡ pos 0) (int_eq x (pos 0)) (λ t. grind (arith, ints)) (λ t. absurd (g (f (λ e. no x t e))))
-  where
-    no : (x : ℤ) → int_eq x (pos 0) ≡ false → x ≡ pos 0 → ⊥
-    no x t e = grind (arith, ints)
 
 -- what is left is held without the party that is settled
 still_held : (due : ℕ → ℤ) (row : FlowRow) (z : ℕ) (ps : List ℕ) → IsTurn due row → due_after due row z ≡ pos 0 → HoldsDue due ps → HoldsDue (due_after due row) (without z ps)

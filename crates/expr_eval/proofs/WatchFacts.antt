@@ -101,11 +101,6 @@ stop_too None P Q go h = h
 
 -- what stays the same may stand on either side
 
-pub left_watched : (decls : Decls) (op : CmpOp) (l : ℕ) (t : ℤ) (b : Expression) (wanted : Bool) (names : Bindings) (v : Typed) (w : Watch)
-    → Stands b (bindings names) v → IsAgainst decls op l t v wanted w → IsWatched decls (Cmp op (Obs l t) b) wanted names w
-left_watched decls op l t b wanted names v w stands is env f =
-    ap (λ (r : Answer). wanted_of wanted (truth_found (on_both (both_of (observation (declarations decls) env l (f +ℤ t)) r) (compared op)))) (stands decls env f) ∙ is env f
-
 turned_day : (op : CmpOp) (k : Kind) (v : Typed) (o : Option Value) (l : ℕ) (t : ℤ)
     → truth_found (on_both (both_of (Ok v) (of_place k o l t)) (compared op)) ≡ truth_found (on_both (both_of (of_place k o l t) (Ok v)) (compared (turned op)))
 turned_day op k v None l t = refl

@@ -6,15 +6,14 @@ use Rattle.std.specs.List.Sorted.{IsSearchInRange, IsBinarySearchResult, IsNonDe
 use Rattle.std.specs.Ordering.{int_cmp, int_eq, ordering_index}
 use Rattle.std.specs.declared.vec.Vec.{Vec}
 use Rattle.std.specs.declared.alloc.Global.{Global}
-use Rattle.std.proofs.lemmas.Bool.{and_parts, cases_Bool, cases_lt}
+use Rattle.std.proofs.lemmas.Bool.{cases_Bool, cases_lt}
 use Rattle.std.proofs.lemmas.Bool.Decides.{Decides-int_eq, nat_tests}
 use Rattle.std.proofs.lemmas.Cmp.{int_ranked}
 use Rattle.std.proofs.lemmas.Int.{ints}
 use Rattle.std.proofs.lemmas.List.Edits.{length-insert, get_or-insert_below, get_or-insert_at, get_or-insert_above}
 use Rattle.std.proofs.lemmas.List.Sorted.{IsNonDecreasingBy-from_default}
 use Rattle.std.proofs.lemmas.Option.{slice_get_read}
-use Rattle.term_model.specs.Declarations.{Declarations}
-use Rattle.term_model.specs.Environments.{Environment, IsAdmitted, IsValueOf, Place, held, label_of, same_place}
+use Rattle.term_model.specs.Environments.{Environment, Place, held}
 use Rattle.term_model.specs.declared.values.Value.{Value}
 use Rattle.fixing_files.specs.Runs.{AddsPair, AreRising, IsRising, LendsDays, day_at, no_day, placed_at, run_at, value_on, values_from, values_of}
 use Rattle.fixing_files.specs.RunPlaces.{IsGapFor, IsOn}
@@ -306,17 +305,6 @@ values_kept k (r ∷ runs) (suc l) run h is = ap (λ (env : Environment). placed
 
 pub values_of-kept : (runs : Runs) (l : ℕ) (run : Vec FixedDay Global) → l < length runs → run_at runs l ≡ run.items → values_of (set runs l run) ≡ values_of runs
 values_of-kept runs l run h is = values_kept 0 runs l run h is
-
--- a value that lies within its label's declaration keeps a map admitted
-pub admitted_more : (d : Declarations) (before after : Environment) (l : ℕ) (t : ℤ) (v : Value) → AddsPair before after (record { label = l; day = t }) v → IsValueOf (label_of d l) v → IsAdmitted d before → IsAdmitted d after
-admitted_more d before after l t v adds lies admitted q w e = elim (cases_Bool (same_place (record { label = l; day = t }) q)) [
-  | inl here ↦
-      let one : ◌≡◌ {A = Option Value} (Some v) (Some w) = sym (rw here at (adds q)) ∙ e in
-      let value : v ≡ w = cc in
-      let label : l ≡ q.label = same_number l q.label (and_parts (l == q.label) (int_eq t q.day) here).0 in
-      subst (λ (x : Value). IsValueOf (label_of d q.label) x) value (subst (λ (k : ℕ). IsValueOf (label_of d k) v) label lies)
-  | inr there ↦ admitted q w (sym (rw there at (adds q)) ∙ e)
-]
 
 pub on_err : {T E : Type 0} (P : Type 0) (r : Result T E) → P → OnErr r P
 on_err P (Ok x) p = tt

@@ -348,12 +348,6 @@ payments_more (t ∷ tables) table =
     ap (λ (ps : List Payment). map payment_of t.rows.items ++ ps) (payments_more tables table)
     ∙ sym (append_assoc (map payment_of t.rows.items) (payments_of tables) (map payment_of table.rows.items))
 
-pub no_tables : (sum : FlowSum) → sum.payments.items ≡ [] → IsSumSoFar [] sum
-no_tables sum none = record {
-  summable = All-nil (λ (t : FlowTable). IsSummable t.rows.items);
-  come = subst (λ (ps : List Payment). ComeTo [] ps) (sym none) (come_itself []);
-}
-
 pub one_more : (table : FlowTable) (tables : List FlowTable) (before after : FlowSum) → IsSummable table.rows.items
     → after.payments.items ≡ before.payments.items ++ map payment_of table.rows.items → IsSumSoFar tables before → IsSumSoFar (tables ++ table ∷ []) after
 one_more table tables before after summable appended h = record {

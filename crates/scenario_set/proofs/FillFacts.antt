@@ -93,12 +93,6 @@ pub record FillsFront (entries : List (Spot × Mention)) (common : List SetRow) 
 no_element : (r : SetRow) → ¬ (Contains [] r)
 no_element r h = omega (arith, h.1)
 
-pub fills_none : (each : List Scenario) → ((i : ℕ) → rows_at each i ≡ []) → FillsFront [] [] each
-fills_none each none = record {
-  common_is = λ r. ((λ h. absurd (no_element r h)), (λ h. absurd (omega (arith, h.among.1))));
-  own_is = λ i r. ((λ h. absurd (no_element r (subst (λ (l : List SetRow). Contains l r) (none i) h))), (λ h. absurd (omega (arith, h.among.1))));
-}
-
 module _ (entries : List (Spot × Mention)) (e : Spot × Mention) where
   given_old : (g : Group) (r : SetRow) → IsGiven entries g r → IsGiven (entries ++ e ∷ []) g r
   given_old g r h = record { entry = h.entry; among = Contains-append_left entries (e ∷ []) h.entry h.among; group = h.group; row = h.row }

@@ -8,7 +8,7 @@ use Rattle.std.proofs.lemmas.Int.{fits_signed_from_abs}
 use Rattle.std.proofs.lemmas.Bool.Decides.{nat_tests}
 use Rattle.std.proofs.lemmas.Int.{ints}
 use Rattle.std.proofs.lemmas.List.{map_more, take_all}
-use Rattle.std.proofs.lemmas.List.Elements.{All-nil, All-push}
+use Rattle.std.proofs.lemmas.List.Elements.{All-push}
 use Rattle.std.proofs.lemmas.Option.{slice_get-get_or}
 use Rattle.scenario_set.specs.Scenarios.{NamedMap}
 use Rattle.scenario_set.specs.Totals.{AreFew, Inquiry, IsFixedIn, LacksIn, most_worth, total_of, values_in, worth_in}
@@ -34,16 +34,6 @@ times_more n m = grind arith
 
 times_up : (n m k : ℕ) → n ≤ k → n * m ≤ k * m
 times_up n m k h = grind arith
-
--- nothing yet
-pub sums_none : (q : Inquiry) (set : List NamedMap) → SumsUpTo q set 0 [] (pos 0)
-sums_none q set = record {
-  values_are = refl;
-  total_is = refl;
-  fixed = λ j h. absurd (omega (arith, h));
-  sizes = All-nil (λ (v : ℤ). unsigned_abs v ≤ most_worth q);
-  size = omega arith;
-}
 
 fixed_more : (q : Inquiry) (set : List NamedMap) (n : ℕ) (worth : ℤ) → ((j : ℕ) → j < n → IsFixedIn q set j) → IsWorthIn q set n worth → (j : ℕ) → j < n + 1 → IsFixedIn q set j
 fixed_more q set n worth before w j h = elim (split j n h) [
@@ -77,16 +67,6 @@ sums_more q set n values total worth within sums w =
       sizes = All-push (λ (v : ℤ). unsigned_abs v ≤ most_worth q) values worth sums.sizes w.size;
       size = rw (times_more n (most_worth q)) (size_more total worth (n * most_worth q) (most_worth q) sums.size w.size);
     }
-
--- the total stays within the limit
-pub sums_fit :
-    (q : Inquiry) (set : List NamedMap) (n : ℕ) (values : List ℤ) (total worth : ℤ) → n < length set
-    → length set * most_worth q ≤ 10 ^ 37 → SumsUpTo q set n values total → IsWorthIn q set n worth → unsigned_abs (total +ℤ worth) ≤ 10 ^ 37
-sums_fit q set n values total worth within few sums w =
-    let size = size_more total worth (n * most_worth q) (most_worth q) sums.size w.size in
-    let most = times_up (n + 1) (most_worth q) (length set) (omega (arith, within)) in
-    let step = times_more n (most_worth q) in
-    omega (arith, size, most, step, few)
 
 pub all_values : (q : Inquiry) (set : List NamedMap) (values : List ℤ) (total : ℤ) → SumsUpTo q set (length set) values total → values ≡ values_in q.book q.setting q.asked set
 all_values q set values total sums =

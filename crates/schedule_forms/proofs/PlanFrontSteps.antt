@@ -26,7 +26,7 @@ use Rattle.schedule_forms.specs.PlanHeads.{head_at, word_of}
 use Rattle.schedule_forms.specs.PlanJudgements.{count_at, flag_at, from_one, in_time, is_flag_label, is_number_label, number_label_at, of_sort, times_at}
 use Rattle.schedule_forms.specs.PlanExpecting.{PlanExpected, DecimalAt, EveryAt, FirstAt, FlagAt, NewPlan, NumberLabelAt, PlanLines, SizeAt, TimesAt, Token, PlanStep, Next, Refuse, as_common, decimal_step, fixing_expected, guard_expected, judged, leg_expected, line_expected, plan_expected, plan_step}
 use Rattle.schedule_forms.specs.PlanExpecting as plans
-use Rattle.schedule_forms.specs.PlanFronts.{PlanSymbol, PlanLine, PlanSize, SignedNumber, a_mode, a_name, a_number, an_integer, guard_form, leg_form, line_end, plan_forms, plans_form, shared_form, the_mark, the_word}
+use Rattle.schedule_forms.specs.PlanFronts.{PlanSymbol, PlanLine, PlanSize, SignedNumber, a_mode, a_name, a_number, an_integer, guard_form, leg_form, line_end, plan_forms, shared_form, the_mark, the_word}
 use Rattle.schedule_forms.proofs.PlanFrontChoices.{Allows, Refused, skips_refused, skips_repeated, skips_takes, starts}
 
 abbrev pub parts_of_plan : PlanExpected → Form PlanSymbol
@@ -282,6 +282,3 @@ plan_stepped names (PlanLines d ∷ ps) t decided = by_lines d names ps t decide
 -- what is expected of all plans
 pub plans_decided : (d : Declarations) → IsDecided (plan_expected d)
 plans_decided d = ((λ head t is. of_word (λ z. Bars plan_forms (plan_parts (Token TheEnd ∷ [])) z) (word_of head) t is (one_bars plan_forms is_end [] _ refl)), (tt, tt))
-
-pub plans_parts : (d : Declarations) → plan_parts (plan_expected d) ≡ plans_form
-plans_parts d = refl

@@ -103,9 +103,6 @@ shared_numbers (After' n p c) = (tt, shared_numbers c)
 shared_numbers (Let' e k q c) = shared_numbers c
 shared_numbers (Within' e n q a r b) = (tt, shared_numbers a, shared_numbers b)
 
-pub closed_kept : (d : Declarations) (F : Environment) (f : ℤ) (s : SharedContr) (r : Contract) → r ≡ specialised_in d F (Some f) (shared s) → IsClosed d (shared s) → IsClosed d r
-closed_kept d F f s r h k = (formed_kept d F f r (shared s) h k (shared_numbers s)).0
-
 -- what takes the place of a contract
 pub takes_place : (decls : Decls) (F : Environment) (f : ℤ) (r c : Contract) → r ≡ specialised_in (declarations decls) F (Some f) c
     → IsAdmitted (declarations decls) F → IsAccepted (declarations decls) c → HasOnlyNumbers c
