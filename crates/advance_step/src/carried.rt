@@ -17,8 +17,8 @@ use fixing_files::{Fixings, Known};
 use flow_eval::FlowErr;
 use std::alloc::Global;
 use std::rc::Rc;
-use term_model::{Decls, MOST_HEIGHT};
 use term_core::SharedContr;
+use term_model::{Decls, MOST_HEIGHT};
 
 // What is left of a contract, by a walk.
 fn carry_by_walk(

@@ -14,8 +14,8 @@ use fixing_files::{Fixings, Known};
 use flow_eval::FlowErr;
 use std::alloc::Global;
 use std::rc::Rc;
-use term_model::Decls;
 use term_core::SharedContr;
+use term_model::Decls;
 
 /// What is left of a contract after the days of a span, on which each read is fixed.
 pub fn carry_known(

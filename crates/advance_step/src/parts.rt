@@ -14,8 +14,8 @@ use decimal::NoMemory;
 use simplify::is_nothing;
 use std::alloc::Global;
 use std::rc::Rc;
-use term_model::Expr;
 use term_core::SharedContr;
+use term_model::Expr;
 
 /// What is left of two parts.
 pub fn both_left(

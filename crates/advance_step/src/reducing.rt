@@ -13,8 +13,8 @@ use simplify::turn_shared;
 use specialise::specialise_shared;
 use std::alloc::Global;
 use std::rc::Rc;
-use term_model::Decls;
 use term_core::SharedContr;
+use term_model::Decls;
 
 /// What an accepted contract that stands on a day is reduced to: what the fixings tell is put in,
 /// and then a turn of the simplifier is taken, again and again, until a turn changes nothing. Each

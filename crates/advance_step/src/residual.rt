@@ -20,8 +20,8 @@ use fixing_files::Fixings;
 use flow_eval::FlowErr;
 use std::alloc::Global;
 use std::rc::Rc;
-use term_model::{Contr, Decls};
 use term_core::{SharedContr, share, unshare};
+use term_model::{Contr, Decls};
 
 // The contract itself, shared.
 fn as_it_is(s: &Rc<SharedContr>) -> Result<Rc<SharedContr>, NoMemory>

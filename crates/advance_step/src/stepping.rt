@@ -16,8 +16,8 @@ use fixing_files::Fixings;
 use flow_eval::{FlowErr, FlowTable, flows_shared};
 use std::alloc::Global;
 use std::rc::Rc;
-use term_model::{Contr, Decls};
 use term_core::{SharedContr, share, unshare};
+use term_model::{Contr, Decls};
 
 /// What a contract pays on a day, and what is left of it on the next, with shared parts.
 #[derive(Drop)]

@@ -18,8 +18,8 @@ use fixing_files::Known;
 use flow_eval::FlowErr;
 use std::alloc::Global;
 use std::rc::Rc;
-use term_model::Expr;
 use term_core::SharedContr;
+use term_model::Expr;
 
 // What is left of a payment, and of nothing.
 fn nothing_left(alloc: Global) -> Result<Rc<SharedContr>, FlowErr>

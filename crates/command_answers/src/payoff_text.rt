@@ -30,8 +30,8 @@ use payoff_lang::print_code;
 use payoff_terms::{Code, CodeFile};
 use report::Fault;
 use std::alloc::Global;
-use term_model::{Contr, Decls, Name, defaults};
 use term_core::{has_only_numbers, instantiate};
+use term_model::{Contr, Decls, Name, defaults};
 
 // The contract, if it has the name.
 fn if_named(next: NextContract<'_>, word: &str) -> Option<Contr>

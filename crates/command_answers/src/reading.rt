@@ -11,8 +11,8 @@ use crate::stop::Stop;
 use contract_parse::{ContractReader, NextContract, next_contract, start_contracts};
 use decimal::NoMemory;
 use std::alloc::Global;
-use term_model::{Contr, Decls, Setting};
 use term_core::{has_only_numbers, instantiate};
+use term_model::{Contr, Decls, Setting};
 
 /// The declarations of a text, and a reader that stands before its first contract.
 pub fn start_reading<'a>(alloc: Global, text: &'a [u8]) -> Result<(Decls, ContractReader<'a>), Stop>

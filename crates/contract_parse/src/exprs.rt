@@ -17,13 +17,13 @@ ghost use Rattle.contract_parse.specs.declared.heads.Binder.{Binder};
 use crate::faults::PartErr;
 use crate::frame::Frame;
 use crate::heads::{First, first_at};
-use contract_grammar::Operator;
 use crate::judges::refuse;
 use crate::leaves::LeafReader;
 use crate::readers::{
     read_binder, read_integer, read_literal, read_mode, read_operator, skip_mark,
 };
 use crate::words::next;
+use contract_grammar::Operator;
 use decimal::{Decimal, Mode};
 use std::alloc::Global;
 use term_model::{Expr, MOST_DAYS, NumOp, Scope};

@@ -7,11 +7,10 @@ ghost use Rattle.contract_grammar.specs.Judgements.{literal_at, variable_at};
 ghost use Rattle.contract_parse.specs.Heads.{amount_head_at, amount_head_of, first_at, first_name, first_number, first_of, first_word, greatest_depth, head_at, head_of, leaf_word};
 ghost use Rattle.contract_parse.specs.Reading.{tok_of};
 
-use contract_grammar::TextKind;
 use crate::judges::{literal_at, variable_at};
 use crate::token::Lexeme;
-use contract_grammar::LexemeKind;
 use crate::words::{is_name, is_number, is_the_mark, is_the_word};
+use contract_grammar::{LexemeKind, TextKind};
 use decimal::Decimal;
 use term_model::{CmpOp, LogicOp, MOST_HEIGHT, MOST_HEIGHT_OF_CODE, NumOp, Scope};
 

@@ -9,8 +9,8 @@ ghost use Rattle.contract_parse.specs.Readers.{KeepsLeaves, Passes, Reads, behin
 ghost use Rattle.contract_grammar.specs.declared.terms.Language.{Language};
 
 use crate::faults::PartErr;
-use contract_grammar::Language;
 use crate::readers::{read_offset, read_use_of_map, skip_mark};
+use contract_grammar::Language;
 use std::alloc::Global;
 use term_model::{Decls, Expr};
 

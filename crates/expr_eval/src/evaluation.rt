@@ -22,7 +22,9 @@ use crate::operators::{OnOne, done_on_one};
 use crate::scratch::{Binding, Held, Scratch};
 use decimal::Mode;
 use fixing_files::Fixings;
-use term_model::{CmpOp, Decls, Expr, Kind, LogicOp, Missing, NumOp, Value, day_read, days_earlier, days_later};
+use term_model::{
+    CmpOp, Decls, Expr, Kind, LogicOp, Missing, NumOp, Value, day_read, days_earlier, days_later,
+};
 
 // The value that an entry holds, with its kind.
 fn value_held(binding: &Binding) -> Result<Typed, Missing>

@@ -11,8 +11,8 @@ use crate::heights::height_of;
 use decimal::NoMemory;
 use std::alloc::Global;
 use std::marker::Model;
-use term_model::{Contr, Expr, Kind, Missing, Value};
 use term_core::counts;
+use term_model::{Contr, Expr, Kind, Missing, Value};
 
 /// What a bound name holds: the value of its expression, or the first place that the expression
 /// reads and that is not fixed.

@@ -25,8 +25,8 @@ use fixing_files::Fixings;
 use flow_eval::{FlowTable, flows};
 use std::alloc::Global;
 use std::io;
-use term_model::{Contr, Decls, LONGEST_FILE, MOST_COUNTED, Portfolio};
 use term_core::{counts, has_only_numbers, is_closed};
+use term_model::{Contr, Decls, LONGEST_FILE, MOST_COUNTED, Portfolio};
 
 // The portfolio of a text.
 fn portfolio_of(alloc: Global, text: &str) -> Result<Portfolio, Fault> {

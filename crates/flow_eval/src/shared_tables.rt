@@ -19,8 +19,8 @@ use expr_eval::Scratch;
 use fixing_files::Fixings;
 use std::alloc::Global;
 use std::rc::Rc;
-use term_model::Decls;
 use term_core::SharedContr;
+use term_model::Decls;
 
 // The payments up to the last day of a contract that stands on a day.
 fn payments_shared(

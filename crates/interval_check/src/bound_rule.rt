@@ -26,8 +26,8 @@ use crate::totals::{
     Total, amount_at, checked_total, total_of_both, total_of_either, total_of_scaled,
 };
 use std::alloc::Global;
-use term_model::{CheckErr, Contr, Decls, Expr, Rule, Scope};
 use term_core::{behind, behind_both, behind_contract, behind_node};
+use term_model::{CheckErr, Contr, Decls, Expr, Rule, Scope};
 
 /// The total of a contract among names of these ranges.
 #[cycle(totalling)]

@@ -29,8 +29,8 @@ use crate::ranges::{
     Operands, Range, TRUTH, checked, combined, compared, either, is_same, negated, rounded, widened,
 };
 use decimal::Mode;
-use term_model::{CmpOp, Decls, Expr, Kind, LogicOp, NumOp, Scope};
 use term_core::{behind, behind_node, nodes_in};
+use term_model::{CmpOp, Decls, Expr, Kind, LogicOp, NumOp, Scope};
 
 /// The range of an expression whose sorts and scales are right, among names of these ranges, or the
 /// number of its first node that breaks the rule on bounds, counted from the expression's own first

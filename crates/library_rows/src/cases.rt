@@ -15,8 +15,8 @@ use contract_check::check;
 use contract_parse::parse_portfolio;
 use fixing_files::{Fixings, read_fixings};
 use std::alloc::Global;
-use term_model::{Contr, Decls, MOST_COUNTED, Portfolio};
 use term_core::{counts, has_only_numbers, is_closed};
+use term_model::{Contr, Decls, MOST_COUNTED, Portfolio};
 
 /// A contract, and the declarations under which it stands.
 #[derive(Drop)]

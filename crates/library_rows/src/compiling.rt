@@ -21,9 +21,9 @@ use payoff_compile::{compile, cut};
 use payoff_lang::print_code;
 use payoff_terms::{Code, CodeFile};
 use std::alloc::Global;
+use term_core::{instantiate, is_closed};
 use term_model::laws::{defaults_suit, settings_suit};
 use term_model::{Contr, Decls, Name, defaults};
-use term_core::{instantiate, is_closed};
 
 // Stops at a contract that is not accepted, or has no numbers for its templates.
 fn accept_sized(alloc: Global, decls: &Decls, c: &Contr) -> Result<(), BadRow>

@@ -15,9 +15,9 @@ use crate::writable::say_contract;
 use contract_check::{Facts, check};
 use decimal::NoMemory;
 use std::alloc::Global;
+use term_core::{counts, instantiate, is_closed, nodes_in_contract};
 use term_model::laws::settings_suit;
 use term_model::{CheckErr, Contr, Decls, RuleFault, Setting, defaults};
-use term_core::{counts, instantiate, is_closed, nodes_in_contract};
 
 // The verdict on a contract.
 fn verdict_of(alloc: Global, decls: &Decls, c: &Contr) -> Result<Result<Facts, RuleFault>, NoMemory>

@@ -17,8 +17,8 @@ use fixing_files::Fixings;
 use flow_eval::{FlowErr, FlowRow, FlowTable, flows, flows_on, flows_shared};
 use report::net;
 use std::alloc::Global;
-use term_model::{Contr, Decls, LAST_START, Missing};
 use term_core::share;
+use term_model::{Contr, Decls, LAST_START, Missing};
 
 /// Appends the lines of a flow table.
 pub fn say_rows(alloc: Global, decls: &Decls, rows: &[FlowRow], out: &mut Vec<u8>) -> Answer {

@@ -24,8 +24,8 @@ use specialise::laws::parts_may_be_specialised;
 use specialise::{Frame, specialise_contr, specialise_expr, specialise_shared};
 use std::alloc::Global;
 use std::rc::Rc;
-use term_model::{Contr, Decls, Expr, LAST_START};
 use term_core::{SharedContr, share, unshare};
+use term_model::{Contr, Decls, Expr, LAST_START};
 
 // The contract over shared parts.
 fn shared_parts(alloc: Global, _decls: &Decls, c: &Contr) -> Result<Rc<SharedContr>, NoMemory>

@@ -1,8 +1,8 @@
 //! Answers as words.
 
 use crate::bad_row::{Answer, BadRow};
-use contract_parse::ParseErr;
 use contract_grammar::TextFault;
+use contract_parse::ParseErr;
 use decimal::{GREATEST_MANTISSA, write};
 use fixing_files::RowErr;
 use report::{Fault, fault_line};

@@ -10,8 +10,8 @@ use contract_print::{print_decls, print_portfolio};
 use decimal::{GREATEST_MANTISSA, NoMemory};
 use indexmap::IndexMap;
 use std::alloc::Global;
-use term_model::{Contr, Decls, Expr, Name, Portfolio};
 use term_core::counts;
+use term_model::{Contr, Decls, Expr, Name, Portfolio};
 
 // Whether an expression can be printed under so many binders.
 fn is_writable(binders: u32, e: &Expr) -> bool

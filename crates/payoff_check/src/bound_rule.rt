@@ -28,8 +28,8 @@ use decimal::NoMemory;
 use interval_check::{Range, range_of};
 use payoff_terms::{Code, Vx};
 use std::alloc::Global;
-use term_model::{CheckErr, Decls, Expr, Rule, Scope, Setting};
 use term_core::nodes_in;
+use term_model::{CheckErr, Decls, Expr, Rule, Scope, Setting};
 
 /// The range of a value expression, and its nodes.
 #[derive(Clone, Copy)]

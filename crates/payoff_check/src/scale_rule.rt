@@ -22,8 +22,8 @@ use decimal::NoMemory;
 use payoff_terms::{Code, Vx};
 use scale_check::scale_of_expr;
 use std::alloc::Global;
-use term_model::{CheckErr, Decls, Expr, Rule, Scope, Setting};
 use term_core::nodes_in;
+use term_model::{CheckErr, Decls, Expr, Rule, Scope, Setting};
 
 /// The scale of a part, and its nodes.
 #[derive(Clone, Copy)]

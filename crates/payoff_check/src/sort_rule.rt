@@ -19,8 +19,8 @@ use crate::undated::undated_of;
 use decimal::NoMemory;
 use payoff_terms::{Code, Vx};
 use std::alloc::Global;
-use term_model::{CheckErr, Decls, Expr, Rule, Scope, Setting};
 use term_core::nodes_in;
+use term_model::{CheckErr, Decls, Expr, Rule, Scope, Setting};
 use time_types::{Sort, sort_of_expr};
 
 /// The sort of a value expression, and its nodes.

@@ -13,8 +13,8 @@ use crate::naming::{substituted, uses};
 use decimal::NoMemory;
 use std::alloc::Global;
 use std::rc::Rc;
-use term_model::Expr;
 use term_core::SharedContr;
+use term_model::Expr;
 
 /// Whether a contract uses the name with `back` binders between.
 #[tactic(auto, using(crate::proofs::ShiftedSizes::shifted_uses, crate::proofs::ShiftedSizes::shifted_height))]

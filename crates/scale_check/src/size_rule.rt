@@ -15,8 +15,8 @@ ghost use Rattle.scale_check.specs.SizeTrials.{size_tried, behind_tried, contrac
 ghost use Rattle.scale_check.specs.SizeVerdicts.{IsSizeVerdict};
 
 use crate::part_sizes::{Size, days_back};
-use term_model::{Contr, Expr, Rule, RuleFault};
 use term_core::{behind, behind_both, behind_contract, behind_node, behind_two};
+use term_model::{Contr, Expr, Rule, RuleFault};
 
 // The size of an expression.
 #[cycle(sizing)]

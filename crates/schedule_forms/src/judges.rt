@@ -7,8 +7,8 @@ ghost use Rattle.contract_grammar.specs.Judgements.{use_at};
 ghost use Rattle.contract_parse.specs.Reading.{tok_of};
 ghost use Rattle.schedule_forms.specs.PlanJudgements.{count_at, flag_at, number_label_at, times_at};
 
-use contract_parse::{Lexeme, index_in_map, integer_at, is_name};
 use contract_grammar::TextKind;
+use contract_parse::{Lexeme, index_in_map, integer_at, is_name};
 use term_model::{Decls, Label, MOST_DAYS};
 
 /// A number without a point, from 1 up to `most`.

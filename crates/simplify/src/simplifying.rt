@@ -14,8 +14,8 @@ use crate::contracts::turn_in;
 use decimal::NoMemory;
 use std::alloc::Global;
 use std::rc::Rc;
-use term_model::{Contr, Decls, Scope};
 use term_core::{SharedContr, share, unshare};
+use term_model::{Contr, Decls, Scope};
 
 /// One turn of the simplifier: what takes the contract's place, which is smaller, or nothing where
 /// no redex is left that asks for no frame.

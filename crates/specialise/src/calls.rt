@@ -19,8 +19,8 @@ use decimal::NoMemory;
 use fixing_files::{Fixings, Known};
 use std::alloc::Global;
 use std::rc::Rc;
-use term_model::{Contr, Decls, Expr};
 use term_core::{SharedContr, share, unshare};
+use term_model::{Contr, Decls, Expr};
 
 // What takes the place of an expression on a frame.
 #[tactic(auto, using(crate::proofs::WalkFacts::for_frames))]

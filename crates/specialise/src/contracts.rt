@@ -18,8 +18,8 @@ use fixing_files::Known;
 use rewriting::{after_of, both_of, let_of, scale_of, within_of};
 use std::alloc::Global;
 use std::rc::Rc;
-use term_model::{Expr, day_read, days_later};
 use term_core::SharedContr;
+use term_model::{Expr, day_read, days_later};
 
 // What takes the place of a stored expression that is read some days later.
 #[tactic(auto, using(crate::proofs::StoredFacts::for_stored))]

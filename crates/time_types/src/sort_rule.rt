@@ -18,8 +18,8 @@ ghost use Rattle.term_model.specs.Verdicts.{IsVerdict};
 
 use crate::observed_sorts::{Sort, sort_observed};
 use std::alloc::Global;
-use term_model::{CheckErr, Contr, Decls, Expr, Rule, Scope, held_at};
 use term_core::{behind, behind_both, behind_contract, behind_node, behind_two};
+use term_model::{CheckErr, Contr, Decls, Expr, Rule, Scope, held_at};
 
 // The answer where a sort is as wanted, else a fault here.
 fn expect(wanted: Sort, found: Sort, answer: Sort) -> Result<Sort, u32>

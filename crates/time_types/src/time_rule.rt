@@ -21,8 +21,10 @@ ghost use Rattle.term_model.specs.Verdicts.{IsVerdict};
 
 use crate::starts::{Start, earlier_of, is_known};
 use std::alloc::Global;
-use term_model::{CheckErr, Contr, Decls, Expr, Rule, Scope, day_read, days_earlier, days_later, held_at};
 use term_core::{behind, behind_both, behind_contract, behind_node};
+use term_model::{
+    CheckErr, Contr, Decls, Expr, Rule, Scope, day_read, days_earlier, days_later, held_at,
+};
 
 // The day from which both are known.
 fn later_of(a: Option<i64>, b: Option<i64>) -> Option<i64>
