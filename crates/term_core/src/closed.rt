@@ -97,12 +97,7 @@ fn is_transfer(decls: &Decls, asset: u32, from: u32, to: u32) -> bool
 fn are_below(len: usize, names: &[u32]) -> bool
     ensures { result ≡ are_below len names.now }
 {
-    for name in names {
-        if !is_among(*name, len) {
-            return false;
-        }
-    }
-    true
+    names.iter().all(|name| is_among(*name, len))
 }
 
 fn is_declared(decls: &Decls, days: &Days) -> bool
