@@ -2,6 +2,7 @@
 ghost use Rattle.std.specs.Prelude.{◌≡◌};
 ghost use Rattle.contract_parse.specs.declared.faults.PartErr.TheVariants.{NoMemory as lacks_memory};
 
+use contract_grammar::{TextFault, TextKind};
 use decimal::NoMemory;
 use std::alloc::{AllocError, AllocFailed};
 

@@ -10,7 +10,7 @@ ghost use Rattle.contract_parse.specs.Reading.{tok_of};
 use crate::judges::{literal_at, variable_at};
 use crate::token::Lexeme;
 use crate::words::{is_name, is_number, is_the_mark, is_the_word};
-use contract_grammar::{LexemeKind, TextKind};
+use contract_grammar::{Language, LexemeKind, TextKind};
 use decimal::Decimal;
 use term_model::{CmpOp, LogicOp, MOST_HEIGHT, MOST_HEIGHT_OF_CODE, NumOp, Scope};
 

@@ -6,6 +6,7 @@ ghost use Rattle.contract_grammar.specs.Tokens.{digits_extent, extent_at, fracti
 ghost use Rattle.contract_grammar.specs.Tokens.{is_digit, is_letter, is_word_byte, mark_extent};
 ghost use Rattle.contract_grammar.specs.Tokens.{mark_len, next_lexeme, number_len, word_extent};
 
+use contract_grammar::{Extent, LexemeKind, is_letter, is_word_byte};
 use term_model::{LONGEST_NAME, date_parts};
 
 /// A token, and how many bytes are left where it begins.

@@ -11,7 +11,7 @@ ghost use Rattle.contract_grammar.specs.Words.{reserved_of_two};
 ghost use Rattle.contract_parse.specs.Reading.{LacksMark, tok_of, tokens_after, tokens_ahead};
 
 use crate::token::{Lexeme, next_lexeme};
-use contract_grammar::LexemeKind;
+use contract_grammar::{LexemeKind, is_reserved};
 
 /// The token that comes next, read ahead, and the text after it.
 #[derive(Clone, Copy)]
