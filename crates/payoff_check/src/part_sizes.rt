@@ -2,7 +2,7 @@
 //! on sizes. Parts are within the limits before their whole is made, and day counts are below 2^32,
 //! so that no number leaves its integer.
 
-ghost use Rattle.std.specs.Prelude.{◌≡◌, ◌+◌, ◌≤◌, ◌<◌, ◌^◌, IfOk, IfErr};
+ghost use Rattle.std.specs.Prelude.{◌≡◌, ◌+◌, ◌≤◌, ◌<◌, IfOk, IfErr};
 ghost use Rattle.term_model.specs.Limits.{most_days};
 
 use term_model::{MOST_DAYS, MOST_HEIGHT_OF_CODE, MOST_NODES_OF_CODE, MOST_WORK};

@@ -3,7 +3,7 @@
 //! range. A function pays at entry for the locals of all its arms, so each form of code with parts
 //! has one of its own.
 
-ghost use Rattle.std.specs.Prelude.{◌≡◌, ◌<◌, ◌≤◌, ◌+◌, ◌^◌, IfOk};
+ghost use Rattle.std.specs.Prelude.{◌≡◌, ◌<◌, ◌+◌, ◌^◌, IfOk};
 ghost use Rattle.term_model.specs.Declarations.{declarations};
 ghost use Rattle.term_model.specs.declared.rules.Rule.{Rule};
 ghost use Rattle.term_model.specs.Sizes.{nodes};

@@ -3,7 +3,7 @@
 //! to 2,000,000 days. Nodes before a node at fault are counted only on the way up from it, so that
 //! no part is visited more than twice.
 
-ghost use Rattle.std.specs.Prelude.{◌≡◌, ◌<◌, ◌≤◌, ◌+◌, ◌^◌, IfOk, IfErr};
+ghost use Rattle.std.specs.Prelude.{◌≡◌, ◌<◌, ◌+◌, ◌^◌, IfOk, IfErr};
 ghost use Rattle.term_model.specs.Sizes.{nodes};
 ghost use Rattle.term_core.specs.Trying.{FaultIsWithin, moved};
 ghost use Rattle.payoff_check.specs.Trials.{undated_value};

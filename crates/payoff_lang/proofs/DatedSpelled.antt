@@ -1,6 +1,7 @@
 -- An expression whose dates stand in a list is spelled as the value expression that it is with its dates put in.
-use Rattle.std.proofs.Common.{◌≡◌, ◌∙◌, ℕ, zero, suc, ℤ, pos, true, false, Some, List, [], ◌∷◌, ◌++◌, length, refl, sym, ap, subst, arith}
+use Rattle.std.proofs.Common.{◌≡◌, ◌∙◌, ◌<◌, ℕ, zero, suc, ℤ, pos, true, false, Some, List, [], ◌∷◌, ◌++◌, length, refl, sym, ap, subst, arith}
 use Rattle.std.specs.Prelude.{slice_get}
+use Rattle.std.proofs.lemmas.Int.{ints}
 use Rattle.term_model.specs.Terms.{Expression, Lit, Yes, Var, Obs, Neg, Num, Cmp, Not, Logic, Cond, Widen, Round, Div, Acc}
 use Rattle.term_model.specs.Sizes.{height}
 use Rattle.term_model.specs.declared.terms.NumOp.TheVariants.{Plus, Minus, Times, Min, Max}
@@ -14,24 +15,7 @@ use Rattle.payoff_terms.specs.declared.code.DateExpr.{DateExpr}
 use Rattle.payoff_terms.specs.TemplateDates.{Date, date}
 use Rattle.payoff_terms.specs.Dating.{HaveDates, undated, with_date}
 use Rattle.payoff_lang.specs.CodeSpelling.{DatePart, value_part}
-use Rattle.payoff_lang.specs.CodeReading.{ListedDate, date_listed, dates_of, listed_leaf}
-
--- where every offset has a date, those of an expression do
-pub have_dates : (has : ℤ → Type 0) → ((t : ℤ) → has t) → (e : Expression) → HaveDates has e
-have_dates has all (Lit m k) = tt
-have_dates has all (Yes b) = tt
-have_dates has all (Var back) = tt
-have_dates has all (Obs l t) = all t
-have_dates has all (Neg e) = have_dates has all e
-have_dates has all (Num op a b) = (have_dates has all a, have_dates has all b)
-have_dates has all (Cmp op a b) = (have_dates has all a, have_dates has all b)
-have_dates has all (Not e) = have_dates has all e
-have_dates has all (Logic op a b) = (have_dates has all a, have_dates has all b)
-have_dates has all (Cond t a b) = (have_dates has all t, have_dates has all a, have_dates has all b)
-have_dates has all (Widen k e) = have_dates has all e
-have_dates has all (Round m k e) = have_dates has all e
-have_dates has all (Div m k a b) = (have_dates has all a, have_dates has all b)
-have_dates has all (Acc body n first) = (have_dates has all body, have_dates has all first)
+use Rattle.payoff_lang.specs.CodeReading.{IsListed, ListedDate, date_listed, dates_of, listed_leaf}
 
 -- dates have no part in the height
 pub height_dated : (on : ℤ → Date) (e : Expression) → height (undated (with_date on e)) ≡ height e
@@ -60,6 +44,11 @@ stands_still : (dates more : List Date) (i : ℕ) (x : Date) → slice_get dates
 stands_still [] more i x e = absurd cc
 stands_still (y ∷ dates) more zero x e = e
 stands_still (y ∷ dates) more (suc i) x e = stands_still dates more i x e
+
+stands_within : (dates : List Date) (i : ℕ) (x : Date) → slice_get dates i ≡ Some x → i < length dates
+stands_within [] i x e = absurd cc
+stands_within (y ∷ dates) zero x e = omega arith
+stands_within (y ∷ dates) (suc i) x e = omega (arith, stands_within dates i x e)
 
 one_more : (dates : List DateExpr) (x : DateExpr) → dates_of (dates ++ x ∷ []) ≡ dates_of dates ++ date x ∷ []
 one_more [] x = refl
@@ -106,6 +95,33 @@ module _ (dates : List Date) (s : DeclaredNames) where
     gives = λ ts rest d. subst (λ (x : Date). DatePart s x ts rest) (sym (listed_is dates index d.number d.on d.is d.stands)) d.spelled;
   }
 
+  has_date : (index : ℤ) (ts rest : List Tok) → ListedDate dates s index ts rest → IsListed dates index
+  has_date index ts rest d = rw d.is (omega (arith, ints), omega (arith, ints, stands_within dates d.number d.on d.stands))
+
+  have_dates : (names : List Bytes) (e : Expression) (ts rest : List Tok) → expr_with (listed_leaf dates s) names e ts rest → HaveDates (IsListed dates) e
+  have_dates names (Lit m k) ts rest x = tt
+  have_dates names (Yes b) ts rest x = tt
+  have_dates names (Var back) ts rest x = tt
+  have_dates names (Obs label index) ts rest x = let d = x.two.two.two.two in has_date index _ _ d.one
+  have_dates names (Neg e) ts rest x = have_dates names e _ _ x.two.two.one
+  have_dates names (Not e) ts rest x = have_dates names e _ _ x.two.two.one
+  have_dates names (Num Min a b) ts rest x = (have_dates names a _ _ x.two.two.one, have_dates names b _ _ x.two.two.two.two.one)
+  have_dates names (Num Max a b) ts rest x = (have_dates names a _ _ x.two.two.one, have_dates names b _ _ x.two.two.two.two.one)
+  have_dates names (Num Plus a b) ts rest x = (have_dates names a _ _ x.two.one, have_dates names b _ _ x.two.two.two.one)
+  have_dates names (Num Minus a b) ts rest x = (have_dates names a _ _ x.two.one, have_dates names b _ _ x.two.two.two.one)
+  have_dates names (Num Times a b) ts rest x = (have_dates names a _ _ x.two.one, have_dates names b _ _ x.two.two.two.one)
+  have_dates names (Cmp op a b) ts rest x = (have_dates names a _ _ x.two.one, have_dates names b _ _ x.two.two.two.one)
+  have_dates names (Logic op a b) ts rest x = (have_dates names a _ _ x.two.one, have_dates names b _ _ x.two.two.two.one)
+  have_dates names (Cond t a b) ts rest x =
+      (have_dates names t _ _ x.two.two.one, have_dates names a _ _ x.two.two.two.two.one, have_dates names b _ _ x.two.two.two.two.two.two.one)
+  have_dates names (Widen k e) ts rest x = have_dates names e _ _ x.two.two.two.two.one
+  have_dates names (Round m k e) ts rest x = have_dates names e _ _ x.two.two.two.two.two.two.one
+  have_dates names (Div m k a b) ts rest x =
+      (have_dates names a _ _ x.two.two.two.two.two.two.one, have_dates names b _ _ x.two.two.two.two.two.two.two.two.one)
+  have_dates names (Acc body n first) ts rest x =
+      let y = x.spelled in
+      (have_dates (x.name ∷ names) body _ _ y.two.two.two.two.one, have_dates names first _ _ y.two.two.two.two.two.two.two.two.one)
+
   value_gives : (names : List Bytes) (e : Expression) → Gives (expr_with (listed_leaf dates s) names e) (value_part s names (with_date (date_listed dates) e))
   value_gives names (Lit m k) = same
   value_gives names (Yes true) = same
@@ -136,3 +152,7 @@ module _ (dates : List Date) (s : DeclaredNames) where
 -- an expression is spelled as the value expression that it is with the dates of its list
 pub listed_spelled : (dates : List Date) (s : DeclaredNames) (names : List Bytes) (e : Expression) (ts rest : List Tok) → expr_with (listed_leaf dates s) names e ts rest → value_part s names (with_date (date_listed dates) e) ts rest
 listed_spelled dates s names e = (value_gives dates s names e).gives
+
+-- and each of its observables has a date in the list
+pub dates_listed : (dates : List Date) (s : DeclaredNames) (names : List Bytes) (e : Expression) (ts rest : List Tok) → expr_with (listed_leaf dates s) names e ts rest → HaveDates (IsListed dates) e
+dates_listed dates s names e ts rest x = have_dates dates s names e ts rest x

@@ -1,13 +1,13 @@
 -- What the readers of payoff code make of a text. The dates of an expression are put into a list, and an expression that
 -- is read as one of code has for the offset of each observable the index of its date.
-use Rattle.std.specs.Prelude.{◌≡◌, ℕ, ℤ, pos, negsuc, List, [], ◌∷◌, ◌++◌, Some, None, codes, map, slice_get}
+use Rattle.std.specs.Prelude.{◌≡◌, ◌≤ℤ◌, ◌<ℤ◌, ℕ, ℤ, pos, negsuc, List, [], ◌∷◌, ◌++◌, Some, None, codes, length, map, slice_get}
 use Rattle.contract_grammar.specs.Tokens.{Tok}
 use Rattle.contract_grammar.specs.Words.{Bytes}
 use Rattle.contract_parse.specs.Heads.{BeginsAmount}
 use Rattle.term_model.specs.declared.decls.Decls.{Decls}
 use Rattle.contract_grammar.specs.Names.{BoundNames, DeclaredNames, names_in}
 use Rattle.contract_grammar.specs.Judgements.{use_at}
-use Rattle.contract_grammar.specs.Spelling.{Leaf, Part, ◌⨟◌, mark, pair, templates_part, valued, word}
+use Rattle.contract_grammar.specs.Spelling.{Leaf, Part, ◌⨟◌, pair, templates_part, valued, word}
 use Rattle.contract_parse.specs.Expecting.{Expected, amount_expected}
 use Rattle.contract_parse.specs.Reading.{declared_in}
 use Rattle.contract_parse.specs.declared.heads.AmountHead.{AmountHead}
@@ -38,6 +38,10 @@ dates_of dates = map date dates
 abbrev pub date_listed : List Date → ℤ → Date
 date_listed dates (pos i) = elim (slice_get dates i) [ Some x ↦ x | None ↦ no_date ]
 date_listed dates (negsuc i) = no_date
+
+-- an index at which a date stands
+abbrev pub IsListed : List Date → ℤ → Type 0
+IsListed dates index = (pos 0 ≤ℤ index) × (index <ℤ pos (length dates))
 
 -- a date with this index in a list
 pub record ListedDate (dates : List Date) (s : DeclaredNames) (index : ℤ) (ts rest : List Tok) : Type 0 where

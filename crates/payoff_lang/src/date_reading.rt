@@ -1,6 +1,6 @@
 //! Dates of payoff code from texts.
 
-ghost use Rattle.std.specs.Prelude.{◌≤◌, ◌∷◌, IfOk, codes, length};
+ghost use Rattle.std.specs.Prelude.{◌∷◌, IfOk, codes};
 ghost use Rattle.indexmap.specs.IndexMap.{keys};
 ghost use Rattle.contract_grammar.specs.Tokens.{tokens};
 ghost use Rattle.contract_parse.specs.Expecting.{MoreTemplates, date_expected};

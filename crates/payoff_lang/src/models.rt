@@ -2,14 +2,11 @@
 //! expression is read.
 
 ghost use Rattle.std.specs.Prelude.{◌≡◌, ◌≤ℤ◌, ◌++◌, ◌∷◌, [], ℤ, IfOk, OnOk, length, pos};
-ghost use Rattle.contract_grammar.specs.Names.{DeclaredNames};
-ghost use Rattle.contract_grammar.specs.Spelling.{Leaf};
 ghost use Rattle.contract_parse.specs.Expecting.{date_expected};
 ghost use Rattle.contract_parse.specs.Reading.{declared_in};
 ghost use Rattle.contract_parse.specs.Readers.{KeepsLeaves, Passes, Reads};
 ghost use Rattle.contract_grammar.specs.declared.terms.Language.{Language};
-ghost use Rattle.payoff_terms.specs.TemplateDates.{Date, date};
-ghost use Rattle.payoff_lang.specs.CodeReading.{ListedDate, date_listed, dates_of, listed_leaf};
+ghost use Rattle.payoff_lang.specs.CodeReading.{IsListed, ListedDate, date_listed, dates_of, listed_leaf};
 
 use crate::date_reading::read_date;
 use contract_grammar::Language;
@@ -87,18 +84,11 @@ impl LeafReader for Models {
 }
 
 impl Dating for Models {
-    ghost has = { λ _ _. Unit {0} };
+    ghost has = { λ m index. IsListed (dates_of m.dates.items) index };
 
     ghost on = { λ m index. date_listed (dates_of m.dates.items) index };
 
-    // Each index that was given has a date, so that no other fault comes than want of memory.
     fn date_at(&self, alloc: Global, offset: i32) -> Result<DateExpr, NoMemory> {
-        let Ok(index) = usize::try_from(offset) else {
-            return Err(NoMemory);
-        };
-        match self.dates.get(index) {
-            Some(on) => copied_date(alloc, on),
-            None => Err(NoMemory),
-        }
+        copied_date(alloc, &self.dates[offset as usize])
     }
 }

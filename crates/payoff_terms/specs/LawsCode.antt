@@ -11,6 +11,8 @@ use Rattle.term_model.specs.Terms.{Contract}
 use Rattle.payoff_terms.specs.Compiled.{code_of, cut_code}
 use Rattle.payoff_terms.specs.Meaning.{CodeMeans, Remaining, Everything}
 use Rattle.payoff_terms.specs.WellFormedCode.{IsClosedCode}
+use Rattle.payoff_terms.specs.PrintableCode.{IsPrintableCode}
+use Rattle.payoff_terms.specs.WritableCode.{IsWritableCode}
 
 abbrev pub CompiledCodeMeans : Type 0
 CompiledCodeMeans = (d : Declarations) (c : Contract) → CodeMeans d (code_of c) c Everything

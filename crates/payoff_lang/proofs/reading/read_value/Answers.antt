@@ -7,11 +7,11 @@ use Rattle.contract_parse.specs.Reading.{declared_in}
 use Rattle.payoff_terms.specs.Code.{ValueExpression}
 use Rattle.payoff_terms.specs.Dating.{undated}
 use Rattle.payoff_lang.specs.CodeSpelling.{value_part}
-use Rattle.payoff_lang.proofs.DatedSpelled.{have_dates, height_dated, listed_spelled}
+use Rattle.payoff_lang.proofs.DatedSpelled.{dates_listed, height_dated, listed_spelled}
 use Rattle.payoff_lang.proofs.reading.read_value.Goals as goal
 
 pub dated-requires : goal.dated-requires
-dated-requires c = have_dates (λ index. Unit {0}) (λ index. tt) (expression c.in_ok-e.e)
+dated-requires c = dates_listed _ (declared_in c.args.frame.now.decls.now []) (names_at c.args.frame.now) (expression c.in_ok-e.e) (tokens c.args.rest.now) (tokens c.in_ok-e.after.now) c.in_ok-e.ensures.reads.spelled
 
 pub returns-clause-reads : goal.returns-clause-reads
 returns-clause-reads c = record {
