@@ -2,17 +2,17 @@
 use Rattle.std.specs.Prelude.{ℕ, List}
 use Rattle.sample.specs.Summary.{IsSummary}
 use Rattle.command_words.specs.Commands.{Advance, Check, Expand, Flows, Migrate, Novate, Payoff, Positions, Request, Sample, Scenarios, Settle, Value}
-use Rattle.command_answers.specs.AdvanceCourse.{advance_course}
-use Rattle.command_answers.specs.CheckCourse.{check_course}
-use Rattle.command_answers.specs.Course.{Course, tells}
-use Rattle.command_answers.specs.ExpandCourse.{expand_course}
-use Rattle.command_answers.specs.FlowsCourse.{flows_course}
-use Rattle.command_answers.specs.MigrateCourse.{migrate_course}
-use Rattle.command_answers.specs.NettingCourse.{positions_course, settle_course}
-use Rattle.command_answers.specs.NovateCourse.{novate_course}
-use Rattle.command_answers.specs.PayoffCourse.{payoff_course}
-use Rattle.command_answers.specs.ScenariosCourse.{scenarios_course}
-use Rattle.command_answers.specs.ValueCourse.{value_course}
+use Rattle.lifecycle_commands.specs.AdvanceCourse.{advance_course}
+use Rattle.text_commands.specs.CheckCourse.{check_course}
+use Rattle.command_courses.specs.Course.{Course, tells}
+use Rattle.text_commands.specs.ExpandCourse.{expand_course}
+use Rattle.flow_commands.specs.FlowsCourse.{flows_course}
+use Rattle.text_commands.specs.MigrateCourse.{migrate_course}
+use Rattle.flow_commands.specs.NettingCourse.{positions_course, settle_course}
+use Rattle.lifecycle_commands.specs.NovateCourse.{novate_course}
+use Rattle.text_commands.specs.PayoffCourse.{payoff_course}
+use Rattle.valuation_commands.specs.ScenariosCourse.{scenarios_course}
+use Rattle.valuation_commands.specs.ValueCourse.{value_course}
 
 abbrev pub sample_course : ℕ → Course
 sample_course contracts = tells (IsSummary contracts)

@@ -12,29 +12,6 @@
 //! Only tested: that it answers where there is memory.
 #![tactic(auto)]
 
-mod accepting;
-mod advance_text;
-mod advance_to;
 mod answers;
-mod asking;
-mod check_text;
-mod choice;
-mod choosing;
-mod expand_text;
-mod flows_text;
-mod inputs;
-mod migrate_text;
-mod netting_text;
-mod novate_text;
-mod over_fixings;
-mod payoff_text;
-mod reading;
-mod scenarios_text;
-mod status;
-mod stop;
-mod value_names;
-mod value_text;
 
-pub use answers::{Answer, answer_request, fault_answer};
-pub use status::Status;
-pub use stop::Stop;
+pub use answers::answer_request;

@@ -28,11 +28,12 @@ use Rattle.flow_eval.specs.declared.flow_table.FlowRow.{FlowRow}
 use Rattle.report.specs.CheckLines.{line_feed}
 use Rattle.report.specs.FlowLines.{IsDayText, IsFlowLine, field, name_at}
 use Rattle.contract_cli.specs.AdvanceLaws.{AdvanceTextsAreTexts}
-use Rattle.command_answers.specs.AdvancePromise.{AreComments, AreDueLines, AreResiduals, commented, last_gone}
-use Rattle.command_answers.specs.UsedContracts.{at_defaults, is_asked, used}
-use Rattle.command_answers.proofs.AdvanceFacts.{left_names, used_names}
-use Rattle.command_answers.proofs.UsedFacts.{own_instance}
-use Rattle.command_answers.proofs.WritableFacts.{left_sound}
+use Rattle.lifecycle_commands.specs.AdvancePromise.{AreComments, AreDueLines, AreResiduals, commented, last_gone}
+use Rattle.used_contracts.specs.UsedContracts.{at_defaults, is_asked, used}
+use Rattle.lifecycle_commands.proofs.AdvanceFacts.{left_names}
+use Rattle.used_contracts.proofs.UsedFacts.{used_names}
+use Rattle.used_contracts.proofs.UsedFacts.{own_instance}
+use Rattle.lifecycle_commands.proofs.WritableFacts.{left_sound}
 
 -- ---- a flow line may be a comment
 

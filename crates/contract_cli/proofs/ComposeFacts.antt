@@ -12,9 +12,9 @@ use Rattle.term_model.specs.WellFormed.{HasOnlyNumbers}
 use Rattle.term_model.proofs.ResidualFacts.{carries_composes}
 use Rattle.term_model.proofs.VerdictFacts.{one_verdict}
 use Rattle.advance_step.specs.Advancing.{IsResidual}
-use Rattle.command_answers.specs.AdvancePromise.{AreResiduals, rest_declarations}
-use Rattle.command_answers.specs.UsedContracts.{used}
-use Rattle.command_answers.proofs.UsedFacts.{own_instance, used_of}
+use Rattle.lifecycle_commands.specs.AdvancePromise.{AreResiduals, rest_declarations}
+use Rattle.used_contracts.specs.UsedContracts.{used}
+use Rattle.used_contracts.proofs.UsedFacts.{own_instance, used_of}
 use Rattle.contract_cli.specs.AdvanceLaws.{AdvancesCompose, AreCarried}
 
 module _ (d : Declarations) (fixings more : Environment) (day later : ℕ) (first : d.start ≤ day) (next : day ≤ later) (extends : Extends fixings more) where

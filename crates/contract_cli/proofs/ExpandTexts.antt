@@ -28,16 +28,16 @@ use Rattle.schedule_forms.proofs.ExpandedTexts.{expanded_spellable}
 use Rattle.schedule_forms.proofs.PlanFacts.{declared_pay}
 use Rattle.schedule_forms.proofs.TextPlans.{texts_expandable}
 use Rattle.command_words.specs.Commands.{Check, Expand, Flows, FlowsAsked, file_if_named, files_of}
-use Rattle.command_answers.specs.CheckPromise.{AreAllAccepted}
-use Rattle.command_answers.specs.Course.{Tells}
-use Rattle.command_answers.specs.ExpandParts.{expanded_entry}
-use Rattle.command_answers.specs.FlowsCourse.{flows_on, table_named}
-use Rattle.command_answers.specs.FlowsPromise.{AreAllLines, AreLinesAsked, paid_together}
-use Rattle.command_answers.specs.Inputs.{file_at}
-use Rattle.command_answers.specs.UsedContracts.{at_defaults, is_asked, used}
-use Rattle.command_answers.specs.declared.status.Status.TheVariants as status
-use Rattle.command_answers.proofs.ExpandFacts.{expansion_numbers}
-use Rattle.command_answers.proofs.UsedFacts.{own_instance, used_of}
+use Rattle.used_contracts.specs.AllAccepted.{AreAllAccepted}
+use Rattle.command_courses.specs.Course.{Tells}
+use Rattle.text_commands.specs.ExpandParts.{expanded_entry}
+use Rattle.flow_commands.specs.FlowsCourse.{flows_on, table_named}
+use Rattle.flow_commands.specs.FlowsPromise.{AreAllLines, AreLinesAsked, paid_together}
+use Rattle.command_courses.specs.Inputs.{file_at}
+use Rattle.used_contracts.specs.UsedContracts.{at_defaults, is_asked, used}
+use Rattle.command_courses.specs.declared.status.Status.TheVariants as status
+use Rattle.text_commands.proofs.ExpandFacts.{expansion_numbers}
+use Rattle.used_contracts.proofs.UsedFacts.{own_instance, used_of}
 use Rattle.contract_cli.specs.ExpandLaws.{AreLinesOfPlans, ArePaidAsPlanned, ArePlanLinesAsked, ExpandedPlansAreListed, ExpandedTextsAreAccepted, ExpandedTextsAreTexts}
 use Rattle.contract_cli.specs.ExpandLaws.{Expands, HasExpanded, ListsPlans, paid_as_planned, planned_together, plans_asked}
 use Rattle.contract_cli.specs.Reading.{WereRead}

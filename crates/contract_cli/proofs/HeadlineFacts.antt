@@ -19,22 +19,22 @@ use Rattle.command_words.specs.Commands.{Advance, AdvanceAsked, Check, Novate, P
 use Rattle.scenario_set.specs.Totals.{AreTotals}
 use Rattle.scenario_set.specs.declared.outcomes.Totals.{Totals}
 use Rattle.scenario_set.proofs.LawFacts.{scenarios_are_worth}
-use Rattle.command_answers.specs.AdvanceCourse.{advance_course}
-use Rattle.command_answers.specs.AdvancePromise.{IsAdvanceText}
-use Rattle.command_answers.specs.CheckCourse.{check_course}
-use Rattle.command_answers.specs.Course.{Answers, Tells, stopped, told}
-use Rattle.command_answers.specs.Inputs.{file_at}
-use Rattle.command_answers.specs.PayoffCourse.{payoff_course}
-use Rattle.command_answers.specs.PayoffPromise.{IsPayoffText}
-use Rattle.command_answers.specs.ScenariosCourse.{scenarios_course}
-use Rattle.command_answers.specs.ScenariosPromise.{AsksInScenarios, IsScenariosText, inquiry_in}
-use Rattle.command_answers.specs.Statuses.{status_of}
-use Rattle.command_answers.specs.ValueCourse.{value_course}
-use Rattle.command_answers.specs.ValuePromise.{AreBetween, CanValue, IsValue, IsValueText, WordsFitCode, question, setting_by}
-use Rattle.command_answers.specs.declared.status.Status.{Status}
-use Rattle.command_answers.specs.declared.status.Status.TheVariants as status
-use Rattle.command_answers.proofs.SoundCourses.{OfCommand}
-use Rattle.command_answers.proofs.ValueParts.{index_within}
+use Rattle.lifecycle_commands.specs.AdvanceCourse.{advance_course}
+use Rattle.lifecycle_commands.specs.AdvancePromise.{IsAdvanceText}
+use Rattle.text_commands.specs.CheckCourse.{check_course}
+use Rattle.command_courses.specs.Course.{Answers, Tells, stopped, told}
+use Rattle.command_courses.specs.Inputs.{file_at}
+use Rattle.text_commands.specs.PayoffCourse.{payoff_course}
+use Rattle.text_commands.specs.PayoffPromise.{IsPayoffText}
+use Rattle.valuation_commands.specs.ScenariosCourse.{scenarios_course}
+use Rattle.valuation_commands.specs.ScenariosPromise.{AsksInScenarios, IsScenariosText, inquiry_in}
+use Rattle.command_courses.specs.Statuses.{status_of}
+use Rattle.valuation_commands.specs.ValueCourse.{value_course}
+use Rattle.valuation_commands.specs.ValuePromise.{AreBetween, CanValue, IsValue, IsValueText, WordsFitCode, question, setting_by}
+use Rattle.command_courses.specs.declared.status.Status.{Status}
+use Rattle.command_courses.specs.declared.status.Status.TheVariants as status
+use Rattle.command_courses.proofs.CourseFacts.{OfCommand}
+use Rattle.valuation_commands.proofs.ValueParts.{index_within}
 use Rattle.contract_cli.specs.Headline.{AreWorthIn, HasAdvanced, HasChecked, HasCompiled, HasTotalled, HasValued, Headline, IsAcceptedAtNumbers, IsPresentValue, Judged}
 use Rattle.contract_cli.specs.RunLaws.{HasTold}
 use Rattle.contract_cli.specs.RunPromise.{Meets, Names}

@@ -6,14 +6,15 @@ use Rattle.report.specs.declared.fault_lines.Fault.{Fault}
 use Rattle.report.specs.declared.fault_lines.Fault.TheVariants as fault
 use Rattle.command_words.specs.Commands.{Request, files_of}
 use Rattle.command_words.specs.Words.{request_of}
-use Rattle.command_answers.specs.Course.{Answers, IsDue, Stops, Tells, stopped, told}
+use Rattle.command_courses.specs.Course.{Answers, IsDue, Stops, Tells, stopped, told}
 use Rattle.command_answers.specs.Courses.{course_of}
-use Rattle.command_answers.specs.Statuses.{status_of}
-use Rattle.command_answers.specs.declared.status.Status.{Status}
-use Rattle.command_answers.specs.declared.status.Status.TheVariants as status
-use Rattle.command_answers.proofs.CourseFacts.{answer_is_due, answers_stop, due_within, one_due, passed_is_told}
-use Rattle.command_answers.proofs.SoundCourses.{OfCommand, sound_course}
-use Rattle.command_answers.proofs.StageFacts.{none_or_some, some_same}
+use Rattle.command_courses.specs.Statuses.{status_of}
+use Rattle.command_courses.specs.declared.status.Status.{Status}
+use Rattle.command_courses.specs.declared.status.Status.TheVariants as status
+use Rattle.command_courses.proofs.CourseFacts.{answer_is_due, answers_stop, due_within, one_due, passed_is_told}
+use Rattle.command_courses.proofs.CourseFacts.{OfCommand}
+use Rattle.command_answers.proofs.SoundCourses.{sound_course}
+use Rattle.command_courses.proofs.StageFacts.{none_or_some, some_same}
 use Rattle.contract_cli.specs.Reading.{FileFault, WereRead, read_failed, read_long, reading}
 use Rattle.contract_cli.specs.RunLaws.{AnswersHaveCauses, AreTold, AreWhole, Cause, no_form, unread, long, answered, DoneHasTold, IsNext}
 use Rattle.contract_cli.specs.RunLaws.{IsReadWhole, IsTold, IsUndisturbed, IsWritten, ReadFaultIs, ReadFaultsHaveCauses, RunIsComplete, StatusesAreExact}

@@ -23,10 +23,11 @@ use Rattle.contract_print.proofs.MigratedFacts.{migrated_spellable}
 use Rattle.flow_eval.specs.FlowAnswers.{AreKnownFlows}
 use Rattle.flow_eval.specs.Tables.{IsTable, paid_by}
 use Rattle.flow_eval.specs.declared.flow_table.FlowRow.{FlowRow}
-use Rattle.command_answers.specs.CheckPromise.{AreAllAccepted, AreCheckLines, IsCheckLine, accepted, refused, Verdict}
-use Rattle.command_answers.specs.FlowsPromise.{AreAllLines, AreLines, AreLinesAsked, paid_together}
-use Rattle.command_answers.specs.UsedContracts.{used}
-use Rattle.command_answers.specs.declared.status.Status.{Status}
+use Rattle.used_contracts.specs.AllAccepted.{AreAllAccepted}
+use Rattle.text_commands.specs.CheckPromise.{AreCheckLines, IsCheckLine, accepted, refused, Verdict}
+use Rattle.flow_commands.specs.FlowsPromise.{AreAllLines, AreLines, AreLinesAsked, paid_together}
+use Rattle.used_contracts.specs.UsedContracts.{used}
+use Rattle.command_courses.specs.declared.status.Status.{Status}
 use Rattle.contract_cli.specs.TwoRuns.{MigratedSayTheSame, MigratedStay}
 
 module _ (d : Declarations) where

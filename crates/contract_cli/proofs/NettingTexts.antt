@@ -17,13 +17,13 @@ use Rattle.exposure.specs.Positions.{ArePositions, IsPosition, account_of, is_on
 use Rattle.exposure.specs.Settlement.{HoldsAllIn, Settles, account}
 use Rattle.exposure.proofs.RenamingFacts.{by_member, member, member_cases}
 use Rattle.command_words.specs.Commands.{NettingAsked, Positions, Settle, files_of}
-use Rattle.command_answers.specs.Course.{Tells}
-use Rattle.command_answers.specs.FlowsCourse.{table_if_named}
-use Rattle.command_answers.specs.Inputs.{file_at}
-use Rattle.command_answers.specs.NettingCourse.{netting_on}
-use Rattle.command_answers.specs.NettingPromise.{TellsPositions, TellsSettlement}
-use Rattle.command_answers.specs.declared.status.Status.TheVariants as status
-use Rattle.command_answers.proofs.NettingAreOne.{LeaveSame, same_positions, same_tables}
+use Rattle.command_courses.specs.Course.{Tells}
+use Rattle.command_courses.specs.Inputs.{table_if_named}
+use Rattle.command_courses.specs.Inputs.{file_at}
+use Rattle.flow_commands.specs.NettingCourse.{netting_on}
+use Rattle.flow_commands.specs.NettingPromise.{TellsPositions, TellsSettlement}
+use Rattle.command_courses.specs.declared.status.Status.TheVariants as status
+use Rattle.flow_commands.proofs.NettingAreOne.{LeaveSame, same_positions, same_tables}
 use Rattle.contract_cli.specs.NettingLaws.{AreFewer, AreTablesOfAll, BringToPositions, HasPositions, HasSettled}
 use Rattle.contract_cli.specs.NettingLaws.{PrintedPositionsBalance, PrintedSettlementsSettle, SettlementsSettlePositions, stands_on}
 use Rattle.contract_cli.proofs.LawFacts.{done_has_told}

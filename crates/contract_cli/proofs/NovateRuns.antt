@@ -26,15 +26,15 @@ use Rattle.flow_eval.specs.declared.flow_table.FlowRow.{FlowRow}
 use Rattle.flow_eval.proofs.NetTables.{table_same}
 use Rattle.report.specs.FlowLines.{IsFlowLine}
 use Rattle.command_words.specs.Commands.{AdvanceAsked, Check, Flows, FlowsAsked, NovateAsked, file_if_named, files_of}
-use Rattle.command_answers.specs.AdvancePromise.{AreResiduals, IsRestBook, rest_declarations}
-use Rattle.command_answers.specs.Course.{Tells}
-use Rattle.command_answers.specs.FlowsCourse.{flows_on, table_named}
-use Rattle.command_answers.specs.FlowsPromise.{AreAllLines, AreLines, AreLinesAsked, paid_together}
-use Rattle.command_answers.specs.Inputs.{file_at}
-use Rattle.command_answers.specs.NovatePromise.{novated, novated_book, novated_entry}
-use Rattle.command_answers.specs.UsedContracts.{at_defaults, is_asked, used}
-use Rattle.command_answers.specs.declared.status.Status.TheVariants as status
-use Rattle.command_answers.proofs.UsedFacts.{own_instance, used_of}
+use Rattle.lifecycle_commands.specs.AdvancePromise.{AreResiduals, IsRestBook, rest_declarations}
+use Rattle.command_courses.specs.Course.{Tells}
+use Rattle.flow_commands.specs.FlowsCourse.{flows_on, table_named}
+use Rattle.flow_commands.specs.FlowsPromise.{AreAllLines, AreLines, AreLinesAsked, paid_together}
+use Rattle.command_courses.specs.Inputs.{file_at}
+use Rattle.lifecycle_commands.specs.NovatePromise.{novated, novated_book, novated_entry}
+use Rattle.used_contracts.specs.UsedContracts.{at_defaults, is_asked, used}
+use Rattle.command_courses.specs.declared.status.Status.TheVariants as status
+use Rattle.used_contracts.proofs.UsedFacts.{own_instance, used_of}
 use Rattle.contract_cli.specs.Headline.{HasAdvanced, HasNovated}
 use Rattle.contract_cli.specs.NovateLaws.{AreHandedOn, IsHandedOn, IsHandedOnBook}
 use Rattle.contract_cli.specs.NovateRuns.{AreAllLaterLines, AreLaterLines, AreLaterLinesAsked, ListsNovated, NovatedTextsAdvance, NovatedTextsAreAccepted, NovatedTextsAreListed}

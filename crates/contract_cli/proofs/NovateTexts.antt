@@ -26,18 +26,19 @@ use Rattle.exposure.proofs.RenamedFlows.{amounts_are_renamed}
 use Rattle.exposure.proofs.RenamedReads.{residuals_are_renamed}
 use Rattle.exposure.proofs.RenamedRules.{facts_are_kept, literals_are_kept, numbers_are_kept}
 use Rattle.command_words.specs.Commands.{Novate, NovateAsked}
-use Rattle.command_answers.specs.AdvancePromise.{AreResiduals, last_gone}
-use Rattle.command_answers.specs.Course.{Tells}
-use Rattle.command_answers.specs.Inputs.{file_at}
-use Rattle.command_answers.specs.NovateCourse.{novate_course}
-use Rattle.command_answers.specs.NovatePromise.{IsNovateText, novated, novated_book, novated_entry}
-use Rattle.command_answers.specs.UsedContracts.{used}
-use Rattle.command_answers.specs.declared.status.Status.{Status}
-use Rattle.command_answers.specs.declared.status.Status.TheVariants as status
-use Rattle.command_answers.proofs.AdvanceFacts.{left_names, used_names}
-use Rattle.command_answers.proofs.NovateFacts.{novated_sound}
-use Rattle.command_answers.proofs.ValueParts.{index_within}
-use Rattle.command_answers.proofs.WritableFacts.{left_sound}
+use Rattle.lifecycle_commands.specs.AdvancePromise.{AreResiduals, last_gone}
+use Rattle.command_courses.specs.Course.{Tells}
+use Rattle.command_courses.specs.Inputs.{file_at}
+use Rattle.lifecycle_commands.specs.NovateCourse.{novate_course}
+use Rattle.lifecycle_commands.specs.NovatePromise.{IsNovateText, novated, novated_book, novated_entry}
+use Rattle.used_contracts.specs.UsedContracts.{used}
+use Rattle.command_courses.specs.declared.status.Status.{Status}
+use Rattle.command_courses.specs.declared.status.Status.TheVariants as status
+use Rattle.lifecycle_commands.proofs.AdvanceFacts.{left_names}
+use Rattle.used_contracts.proofs.UsedFacts.{used_names}
+use Rattle.lifecycle_commands.proofs.NovateFacts.{novated_sound}
+use Rattle.valuation_commands.proofs.ValueParts.{index_within}
+use Rattle.lifecycle_commands.proofs.WritableFacts.{left_sound}
 use Rattle.contract_cli.specs.Headline.{HasNovated}
 use Rattle.contract_cli.specs.NovateLaws.{AreHandedOn, IsHandedOn, IsJudgedAs, NovateTextsAreTexts, TakesOver}
 use Rattle.contract_cli.specs.RunLaws.{HasTold}

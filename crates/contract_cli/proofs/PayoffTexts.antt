@@ -30,9 +30,9 @@ use Rattle.payoff_compile.specs.Literals.{ContractHasSmallLiterals}
 use Rattle.payoff_compile.proofs.PlainFacts.{code_plain}
 use Rattle.payoff_compile.proofs.WritableFacts.{terms_small}
 use Rattle.contract_cli.specs.PayoffLaws.{IsCodeFor, PayoffTextsMean}
-use Rattle.command_answers.specs.PayoffPromise.{code_asked, code_file_of}
-use Rattle.command_answers.specs.UsedContracts.{contract_named}
-use Rattle.command_answers.proofs.PayoffFacts.{named_has}
+use Rattle.text_commands.specs.PayoffPromise.{code_asked, code_file_of}
+use Rattle.used_contracts.specs.UsedContracts.{contract_named}
+use Rattle.text_commands.proofs.PayoffFacts.{named_has}
 
 -- ---- the name
 

@@ -5,10 +5,10 @@ use Rattle.std.specs.List.{All}
 use Rattle.std.proofs.lemmas.List.Elements.{All-cons, All-nil}
 use Rattle.report.specs.declared.fault_lines.Fault.{Fault}
 use Rattle.command_words.specs.Commands.{Advance, Check, Expand, Flows, Migrate, Novate, Payoff, Positions, Request, Sample, Scenarios, Settle, Value, file_if_named, files_of}
-use Rattle.command_answers.specs.Course.{Course, Stops, Tells}
+use Rattle.command_courses.specs.Course.{Course, Stops, Tells}
 use Rattle.command_answers.specs.Courses.{course_of}
-use Rattle.command_answers.specs.Inputs.{AreShort}
-use Rattle.command_answers.specs.declared.status.Status.{Status}
+use Rattle.command_courses.specs.Inputs.{AreShort}
+use Rattle.command_courses.specs.declared.status.Status.{Status}
 use Rattle.contract_cli.specs.Reading.{read_failed, read_long, StopsReading, WereRead, reading}
 use Rattle.contract_cli.specs.RunPromise.{CountsOnlyBy, Names, run_course}
 use Rattle.contract_cli.specs.Seen.{CountsOnlyOf, FilesSeen, longest_file}

@@ -5,14 +5,15 @@ use Rattle.report.specs.declared.fault_lines.Fault.{Fault}
 use Rattle.report.specs.declared.fault_lines.Fault.TheVariants as fault
 use Rattle.command_words.specs.Commands.{Request, files_of}
 use Rattle.command_words.specs.Words.{request_of}
-use Rattle.command_answers.specs.Course.{Course, IsDue, Stops, Tells, behind}
+use Rattle.command_courses.specs.Course.{Course, IsDue, Stops, Tells, behind}
 use Rattle.command_answers.specs.Courses.{course_of}
-use Rattle.command_answers.specs.Inputs.{file_at}
-use Rattle.command_answers.specs.Statuses.{status_of}
-use Rattle.command_answers.specs.declared.status.Status.{Status}
-use Rattle.command_answers.proofs.CourseFacts.{IsStage, Sound, alike_next, sound_more}
-use Rattle.command_answers.proofs.SoundCourses.{OfCommand, sound_course}
-use Rattle.command_answers.proofs.StageFacts.{none_or_some, some_same}
+use Rattle.command_courses.specs.Inputs.{file_at}
+use Rattle.command_courses.specs.Statuses.{status_of}
+use Rattle.command_courses.specs.declared.status.Status.{Status}
+use Rattle.command_courses.proofs.CourseFacts.{IsStage, Sound, alike_next, sound_more}
+use Rattle.command_courses.proofs.CourseFacts.{OfCommand}
+use Rattle.command_answers.proofs.SoundCourses.{sound_course}
+use Rattle.command_courses.proofs.StageFacts.{none_or_some, some_same}
 use Rattle.contract_cli.specs.Reading.{FileFault, read_failed, read_long, StopsReading, WereRead, fitting, opened, reading}
 use Rattle.contract_cli.specs.RunLaws.{AreTold, AreWhole, IsFirstLong, IsTold}
 use Rattle.contract_cli.specs.RunPromise.{Names, formed, run_course}

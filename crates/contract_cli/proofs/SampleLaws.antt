@@ -2,10 +2,10 @@
 use Rattle.std.proofs.Common.{◌∙◌, inl, inr, ℕ, List, subst, sym}
 use Rattle.command_words.specs.Commands.{Request, Sample, files_of}
 use Rattle.command_words.specs.Words.{request_of}
-use Rattle.command_answers.specs.Course.{Answers, Stops, Tells, stopped, told}
+use Rattle.command_courses.specs.Course.{Answers, Stops, Tells, stopped, told}
 use Rattle.command_answers.specs.Courses.{course_of}
-use Rattle.command_answers.specs.declared.status.Status.{Status}
-use Rattle.command_answers.proofs.StageFacts.{none_or_some, some_same}
+use Rattle.command_courses.specs.declared.status.Status.{Status}
+use Rattle.command_courses.proofs.StageFacts.{none_or_some, some_same}
 use Rattle.contract_cli.specs.Reading.{reading}
 use Rattle.contract_cli.specs.RunPromise.{Meets, written, broken, lacking, Names, run_course}
 use Rattle.contract_cli.specs.SampleLaws.{SampleEnds, summarized, unwritten, no_memory, SampleHasThreeEnds}

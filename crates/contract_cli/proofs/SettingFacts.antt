@@ -25,8 +25,8 @@ use Rattle.command_words.specs.Arguments.{Reading, read_rows, taken}
 use Rattle.command_words.specs.Commands.{Advance, AreSettings, Between, Check, Expand, Flows, Migrate, Novate, Payoff, Positions, Request, Sample, Scenarios, ScenariosAsked, Settle, Value, ValueAsked, ValueFiles}
 use Rattle.command_words.specs.Words.{advance_of, check_app, check_from, expand_app, expand_from, flows_app, flows_from, flows_with, migrate_app, migrate_from, netting_of, novate_of, payoff_app, payoff_from, payoff_with}
 use Rattle.command_words.specs.Words.{one_more_setting, other_request_of, parted, read_all_rows, request_of, sample_app, sample_from, scenarios_app, scenarios_from, scenarios_with, setting_of_parts, setting_of_word, settings_after, settings_of, size_if_given, value_app, value_from, value_with}
-use Rattle.command_answers.specs.ValuePromise.{number_set, setting_by}
-use Rattle.command_answers.proofs.StageFacts.{some_same}
+use Rattle.valuation_commands.specs.ValuePromise.{number_set, setting_by}
+use Rattle.command_courses.proofs.StageFacts.{some_same}
 use Rattle.contract_cli.specs.RunPromise.{Names}
 
 -- ---- what a part of an answer is, where there is an answer

@@ -24,16 +24,16 @@ use Rattle.payoff_terms.specs.Meaning.{CodeMeans, Counting, Remaining, counting}
 use Rattle.payoff_lang.proofs.OneCode.{one_code_text}
 use Rattle.payoff_terms.proofs.SumFacts.{same_sum}
 use Rattle.command_words.specs.Commands.{AdvanceAsked, Check, Migrate, PayoffAsked, Value, ValueAsked}
-use Rattle.command_answers.specs.AdvancePromise.{IsRestBook}
-use Rattle.command_answers.specs.Course.{Answers, stopped, told}
-use Rattle.command_answers.specs.DueOfValue.{CauseOfValue, CodeIsRefused, IsAcceptedAtSetting}
-use Rattle.command_answers.specs.Inputs.{file_at}
-use Rattle.command_answers.specs.Statuses.{status_of}
-use Rattle.command_answers.specs.ValueCourse.{value_course}
-use Rattle.command_answers.specs.ValuePromise.{question, setting_by}
-use Rattle.command_answers.specs.declared.status.Status.{Status}
-use Rattle.command_answers.specs.declared.status.Status.TheVariants as status
-use Rattle.command_answers.proofs.DueFacts.{due_of_value}
+use Rattle.lifecycle_commands.specs.AdvancePromise.{IsRestBook}
+use Rattle.command_courses.specs.Course.{Answers, stopped, told}
+use Rattle.valuation_commands.specs.DueOfValue.{CauseOfValue, CodeIsRefused, IsAcceptedAtSetting}
+use Rattle.command_courses.specs.Inputs.{file_at}
+use Rattle.command_courses.specs.Statuses.{status_of}
+use Rattle.valuation_commands.specs.ValueCourse.{value_course}
+use Rattle.valuation_commands.specs.ValuePromise.{question, setting_by}
+use Rattle.command_courses.specs.declared.status.Status.{Status}
+use Rattle.command_courses.specs.declared.status.Status.TheVariants as status
+use Rattle.valuation_commands.proofs.DueOfValueFacts.{due_of_value}
 use Rattle.contract_cli.specs.AdvanceLaws.{IsCarriedBook, IsTextOfRest}
 use Rattle.contract_cli.specs.Headline.{HasAdvanced, HasCompiled, HasValued, IsAcceptedAtNumbers, IsWorthOf, at_numbers, value_left}
 use Rattle.contract_cli.specs.PayoffLaws.{counted}

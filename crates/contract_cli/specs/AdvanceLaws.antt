@@ -8,10 +8,10 @@ use Rattle.term_model.specs.Environments.{Environment, Extends}
 use Rattle.term_model.specs.Residuals.{Carries}
 use Rattle.term_model.specs.Terms.{Contract}
 use Rattle.contract_grammar.specs.Texts.{Text}
-use Rattle.command_answers.specs.AdvancePromise.{CanAdvance, IsAdvanceText, IsRestBook, rest_declarations}
-use Rattle.command_answers.specs.CheckPromise.{AreAllAccepted}
+use Rattle.lifecycle_commands.specs.AdvancePromise.{CanAdvance, IsAdvanceText, IsRestBook, rest_declarations}
+use Rattle.used_contracts.specs.AllAccepted.{AreAllAccepted}
 use Rattle.command_words.specs.Commands.{AdvanceAsked}
-use Rattle.command_answers.specs.UsedContracts.{used}
+use Rattle.used_contracts.specs.UsedContracts.{used}
 
 -- the bytes are a text of what is left of a portfolio on the new day, in which no contract is refused
 pub record IsTextOfRest (b : Book) (asked : AdvanceAsked) (table : Option (List ℕ)) (text : List ℕ) : Type 0 where

@@ -20,13 +20,14 @@ use Rattle.schedule_forms.specs.PlanFlows.{plan_flow, scale_of_plan}
 use Rattle.schedule_forms.specs.PlanSpelling.{PlanText}
 use Rattle.schedule_forms.specs.declared.plans.Plan.{Plan}
 use Rattle.command_words.specs.Commands.{Check, Expand, Flows, FlowsAsked, files_of}
-use Rattle.command_answers.specs.CheckPromise.{AreAllAccepted}
-use Rattle.command_answers.specs.FlowsCourse.{table_named}
-use Rattle.command_answers.specs.FlowsPromise.{AreFixings, AreLines, IsLastDay}
-use Rattle.command_answers.specs.Inputs.{file_at}
-use Rattle.command_answers.specs.UsedContracts.{is_asked}
-use Rattle.command_answers.specs.declared.status.Status.{Status}
-use Rattle.command_answers.specs.declared.status.Status.TheVariants as status
+use Rattle.used_contracts.specs.AllAccepted.{AreAllAccepted}
+use Rattle.flow_commands.specs.FlowsCourse.{table_named}
+use Rattle.command_courses.specs.FixingTables.{AreFixings}
+use Rattle.flow_commands.specs.FlowsPromise.{AreLines, IsLastDay}
+use Rattle.command_courses.specs.Inputs.{file_at}
+use Rattle.used_contracts.specs.UsedContracts.{is_asked}
+use Rattle.command_courses.specs.declared.status.Status.{Status}
+use Rattle.command_courses.specs.declared.status.Status.TheVariants as status
 use Rattle.contract_cli.specs.Reading.{WereRead}
 use Rattle.contract_cli.specs.RunLaws.{IsOrNoMemory, IsReadWhole}
 use Rattle.contract_cli.specs.RunPromise.{Meets, Names}

@@ -24,14 +24,14 @@ use Rattle.scenario_set.specs.Totals.{AreTotals, value_at}
 use Rattle.scenario_set.specs.declared.outcomes.Totals.{Totals}
 use Rattle.report.specs.ValueLines.{value_text}
 use Rattle.command_words.specs.Commands.{Advance, AdvanceAsked, Check, Novate, NovateAsked, Payoff, PayoffAsked, Request, Scenarios, ScenariosAsked, Value, ValueAsked, files_of}
-use Rattle.command_answers.specs.AdvancePromise.{IsAdvanceText}
-use Rattle.command_answers.specs.CheckPromise.{IsCheckText}
-use Rattle.command_answers.specs.Inputs.{file_at}
-use Rattle.command_answers.specs.NovatePromise.{IsNovateText}
-use Rattle.command_answers.specs.ScenariosPromise.{CanTotal, inquiry_in}
-use Rattle.command_answers.specs.ValuePromise.{CanValue, question, setting_by}
-use Rattle.command_answers.specs.declared.status.Status.{Status}
-use Rattle.command_answers.specs.declared.status.Status.TheVariants as status
+use Rattle.lifecycle_commands.specs.AdvancePromise.{IsAdvanceText}
+use Rattle.text_commands.specs.CheckPromise.{IsCheckText}
+use Rattle.command_courses.specs.Inputs.{file_at}
+use Rattle.lifecycle_commands.specs.NovatePromise.{IsNovateText}
+use Rattle.valuation_commands.specs.ScenariosPromise.{CanTotal, inquiry_in}
+use Rattle.valuation_commands.specs.ValuePromise.{CanValue, question, setting_by}
+use Rattle.command_courses.specs.declared.status.Status.{Status}
+use Rattle.command_courses.specs.declared.status.Status.TheVariants as status
 use Rattle.contract_cli.specs.AdvanceLaws.{IsTextOfRest}
 use Rattle.contract_cli.specs.NovateLaws.{IsTextOfNovated}
 use Rattle.contract_cli.specs.PayoffLaws.{IsTextOfCode}

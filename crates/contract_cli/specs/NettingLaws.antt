@@ -14,11 +14,12 @@ use Rattle.exposure.specs.declared.accounts.PositionRow.{PositionRow}
 use Rattle.exposure.specs.Positions.{ArePositions, account_of, day_sum, is_on, position_in, row_for}
 use Rattle.exposure.specs.Settlement.{Settles}
 use Rattle.command_words.specs.Commands.{NettingAsked, Positions, Request, Settle}
-use Rattle.command_answers.specs.FlowsCourse.{table_if_named}
-use Rattle.command_answers.specs.FlowsPromise.{AreFixings, AreLines, AreTables, IsLastDay}
-use Rattle.command_answers.specs.NettingPromise.{ArePositionLines}
-use Rattle.command_answers.specs.UsedContracts.{used}
-use Rattle.command_answers.specs.declared.status.Status.TheVariants as status
+use Rattle.command_courses.specs.Inputs.{table_if_named}
+use Rattle.command_courses.specs.FixingTables.{AreFixings}
+use Rattle.flow_commands.specs.FlowsPromise.{AreLines, AreTables, IsLastDay}
+use Rattle.flow_commands.specs.NettingPromise.{ArePositionLines}
+use Rattle.used_contracts.specs.UsedContracts.{used}
+use Rattle.command_courses.specs.declared.status.Status.TheVariants as status
 use Rattle.contract_cli.specs.Headline.{Ran}
 use Rattle.contract_cli.specs.RunLaws.{IsReadWhole}
 use Rattle.contract_cli.specs.RunPromise.{Meets, Names}

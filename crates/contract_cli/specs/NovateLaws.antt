@@ -15,10 +15,10 @@ use Rattle.contract_grammar.specs.Texts.{Text}
 use Rattle.exposure.specs.LiteralLists.{literals_in}
 use Rattle.exposure.specs.Renaming.{AreSources, CarriesRenamed, sum_between}
 use Rattle.command_words.specs.Commands.{NovateAsked}
-use Rattle.command_answers.specs.AdvancePromise.{CanAdvance, IsRestBook, rest_declarations}
-use Rattle.command_answers.specs.CheckPromise.{AreAllAccepted}
-use Rattle.command_answers.specs.NovatePromise.{IsNovateText, KnowsParties, novated_book, novated_entry}
-use Rattle.command_answers.specs.UsedContracts.{used}
+use Rattle.lifecycle_commands.specs.AdvancePromise.{CanAdvance, IsRestBook, rest_declarations}
+use Rattle.used_contracts.specs.AllAccepted.{AreAllAccepted}
+use Rattle.lifecycle_commands.specs.NovatePromise.{IsNovateText, KnowsParties, novated_book, novated_entry}
+use Rattle.used_contracts.specs.UsedContracts.{used}
 
 -- ---- a contract that takes over another, with the new party in the place of the old one
 

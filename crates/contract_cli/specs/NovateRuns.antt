@@ -9,12 +9,13 @@ use Rattle.term_model.specs.Terms.{Contract}
 use Rattle.flow_eval.specs.Tables.{IsTable, paid_by}
 use Rattle.flow_eval.specs.declared.flow_table.FlowRow.{FlowRow}
 use Rattle.command_words.specs.Commands.{AdvanceAsked, Check, Flows, FlowsAsked, Novate, NovateAsked, files_of}
-use Rattle.command_answers.specs.FlowsCourse.{table_named}
-use Rattle.command_answers.specs.FlowsPromise.{AreFixings, AreLines, IsLastDay, paid_together}
-use Rattle.command_answers.specs.NovatePromise.{novated, novated_book}
-use Rattle.command_answers.specs.UsedContracts.{used}
-use Rattle.command_answers.specs.declared.status.Status.{Status}
-use Rattle.command_answers.specs.declared.status.Status.TheVariants as status
+use Rattle.flow_commands.specs.FlowsCourse.{table_named}
+use Rattle.command_courses.specs.FixingTables.{AreFixings}
+use Rattle.flow_commands.specs.FlowsPromise.{AreLines, IsLastDay, paid_together}
+use Rattle.lifecycle_commands.specs.NovatePromise.{novated, novated_book}
+use Rattle.used_contracts.specs.UsedContracts.{used}
+use Rattle.command_courses.specs.declared.status.Status.{Status}
+use Rattle.command_courses.specs.declared.status.Status.TheVariants as status
 use Rattle.contract_cli.specs.ExpandLaws.{Lists}
 use Rattle.contract_cli.specs.Headline.{HasAdvanced, HasNovated}
 use Rattle.contract_cli.specs.NovateLaws.{IsHandedOnBook}

@@ -14,7 +14,7 @@ use Rattle.payoff_terms.specs.CodeSizes.{nodes_of_code}
 use Rattle.payoff_terms.specs.Meaning.{CodeMeans, Counting, Everything, Remaining}
 use Rattle.payoff_compile.specs.CompiledCode.{IsAcceptedWith}
 use Rattle.command_words.specs.Commands.{PayoffAsked}
-use Rattle.command_answers.specs.PayoffPromise.{CanCompile, IsPayoffText}
+use Rattle.text_commands.specs.PayoffPromise.{CanCompile, IsPayoffText}
 
 -- plain code counts what is gone by as well, at face value, and cut code what is left to be paid
 abbrev pub counted : Bool → Counting

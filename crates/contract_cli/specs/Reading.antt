@@ -4,11 +4,11 @@ use Rattle.std.specs.Prelude.{◌≡◌, ◌⊎◌, ℕ, suc, List, [], ◌∷�
 use Rattle.std.specs.Global.{Vec}
 use Rattle.report.specs.declared.fault_lines.Fault.{Fault}
 use Rattle.report.specs.declared.fault_lines.Fault.TheVariants as fault
-use Rattle.command_answers.specs.Course.{Course, Stage, behind}
-use Rattle.command_answers.specs.Inputs.{bytes_of}
-use Rattle.command_answers.specs.Stopping.{AnswersBy}
-use Rattle.command_answers.specs.declared.status.Status.TheVariants as status
-use Rattle.command_answers.specs.declared.stop.Stop.{Stop}
+use Rattle.command_courses.specs.Course.{Course, Stage, behind}
+use Rattle.command_courses.specs.Inputs.{bytes_of}
+use Rattle.command_courses.specs.Stopping.{AnswersBy}
+use Rattle.command_courses.specs.declared.status.Status.TheVariants as status
+use Rattle.command_courses.specs.declared.stop.Stop.{Stop}
 use Rattle.contract_cli.specs.Seen.{Failed, FilesSeen, IsLong, WasRead}
 
 -- a read fails only where the count of the file rose

@@ -7,10 +7,10 @@ use Rattle.report.specs.FaultLines.{fault_text}
 use Rattle.report.specs.declared.fault_lines.Fault.TheVariants as fault
 use Rattle.command_words.specs.Commands.{Request, files_of}
 use Rattle.command_words.specs.Words.{request_of}
-use Rattle.command_answers.specs.Course.{Answers, Course, IsDue, IsPassed, Tells}
+use Rattle.command_courses.specs.Course.{Answers, Course, IsDue, IsPassed, Tells}
 use Rattle.command_answers.specs.Courses.{course_of}
-use Rattle.command_answers.specs.declared.status.Status.{Status}
-use Rattle.command_answers.specs.declared.status.Status.TheVariants as status
+use Rattle.command_courses.specs.declared.status.Status.{Status}
+use Rattle.command_courses.specs.declared.status.Status.TheVariants as status
 use Rattle.contract_cli.specs.Reading.{WereRead}
 use Rattle.contract_cli.specs.RunPromise.{Meets, Names, run_course}
 use Rattle.contract_cli.specs.Seen.{Edge, Failed, FilesSeen, IsLong, WritesAll, WritesNothing, longest_file}

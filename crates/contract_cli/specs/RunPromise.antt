@@ -6,10 +6,10 @@ use Rattle.std.specs.List.{All}
 use Rattle.report.specs.declared.fault_lines.Fault.TheVariants as fault
 use Rattle.command_words.specs.Commands.{Request, files_of}
 use Rattle.command_words.specs.Words.{request_of}
-use Rattle.command_answers.specs.Course.{Answers, Course, Stage, behind}
+use Rattle.command_courses.specs.Course.{Answers, Course, Stage, behind}
 use Rattle.command_answers.specs.Courses.{course_of}
-use Rattle.command_answers.specs.declared.status.Status.{Status}
-use Rattle.command_answers.specs.declared.status.Status.TheVariants as status
+use Rattle.command_courses.specs.declared.status.Status.{Status}
+use Rattle.command_courses.specs.declared.status.Status.TheVariants as status
 use Rattle.contract_cli.specs.Reading.{reading}
 use Rattle.contract_cli.specs.Seen.{Edge, FilesSeen, WritesAll, WritesNothing, WritesPart}
 

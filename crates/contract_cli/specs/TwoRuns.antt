@@ -9,17 +9,17 @@ use Rattle.contract_grammar.specs.Texts.{Text}
 use Rattle.contract_print.specs.Canon.{IsCanon}
 use Rattle.contract_print.specs.Migrated.{migrated}
 use Rattle.contract_print.specs.Spellable.{IsSpellableBook}
-use Rattle.command_answers.specs.CheckPromise.{IsCheckText}
-use Rattle.command_answers.specs.FlowsPromise.{AreLinesAsked}
-use Rattle.command_answers.specs.UsedContracts.{used}
+use Rattle.text_commands.specs.CheckPromise.{IsCheckText}
+use Rattle.flow_commands.specs.FlowsPromise.{AreLinesAsked}
+use Rattle.used_contracts.specs.UsedContracts.{used}
 use Rattle.command_words.specs.Commands.{Advance, AdvanceAsked, Check, Migrate, Payoff, PayoffAsked, Value, ValueAsked}
 use Rattle.contract_cli.specs.AdvanceLaws.{IsCarriedBook}
 use Rattle.contract_cli.specs.Headline.{HasAdvanced, HasCompiled, HasValued, IsAcceptedAtNumbers, IsPresentValue, Ran}
 use Rattle.contract_cli.specs.RunLaws.{IsOrNoMemory, IsReadWhole}
 use Rattle.contract_cli.specs.RunPromise.{Meets, Names}
 use Rattle.contract_cli.specs.Seen.{Edge, SinkLeft}
-use Rattle.command_answers.specs.declared.status.Status.{Status}
-use Rattle.command_answers.specs.declared.status.Status.TheVariants as status
+use Rattle.command_courses.specs.declared.status.Status.{Status}
+use Rattle.command_courses.specs.declared.status.Status.TheVariants as status
 
 -- these bytes were written, where it is told what a sink holds
 pub record Printed (sink : SinkLeft) (text : List ℕ) : Type 0 where

@@ -2,13 +2,14 @@
 
 ghost use Rattle.std.specs.Prelude.{◌≡◌, ◌≤◌, ℕ, List, IfOk};
 ghost use Rattle.clap.specs.Walk.{texts};
-ghost use Rattle.command_answers.specs.Stopping.{Goes, IsAnswerOf};
+ghost use Rattle.command_courses.specs.Stopping.{Goes, IsAnswerOf};
 ghost use Rattle.contract_cli.specs.Headline.{Headline};
 ghost use Rattle.contract_cli.specs.RunPromise.{CountsOnlyBy, Meets, run_course};
 ghost use Rattle.contract_cli.specs.Seen.{seen, sink_left};
 
 use crate::reading::read_files;
-use command_answers::{Answer, Status, Stop, answer_request, fault_answer};
+use command_courses::{Answer, Status, Stop, fault_answer};
+use command_answers::answer_request;
 use command_words::{WordsErr, files_of, request_of};
 use decimal::NoMemory;
 use edge_io::{Files, Sink, write_whole};

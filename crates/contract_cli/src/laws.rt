@@ -1,11 +1,13 @@
 //! Laws of what runs answer: their statuses, and the texts that they print. Each is the contract of
 //! a function that does nothing.
 
-ghost use Rattle.command_answers.specs.AnswerLaws.{AnswersAreOne, DeclaredNamesHavePlaces, DueLinesAreOne, DueLinesOfNovateAreOne, StatusesAreOne, SummariesAreOne};
-ghost use Rattle.command_answers.specs.DueOfFlows.{DueOfFlows};
-ghost use Rattle.command_answers.specs.DueOfNetting.{DueOfPositions, DueOfSettlements};
-ghost use Rattle.command_answers.specs.DueOfScenarios.{DueOfScenarios};
-ghost use Rattle.command_answers.specs.DueOfValue.{DueOfValue};
+ghost use Rattle.command_answers.specs.AnswerLaws.{AnswersAreOne, StatusesAreOne, SummariesAreOne};
+ghost use Rattle.valuation_commands.specs.LawsNames.{DeclaredNamesHavePlaces};
+ghost use Rattle.lifecycle_commands.specs.LawsDueLines.{DueLinesAreOne, DueLinesOfNovateAreOne};
+ghost use Rattle.flow_commands.specs.DueOfFlows.{DueOfFlows};
+ghost use Rattle.flow_commands.specs.DueOfNetting.{DueOfPositions, DueOfSettlements};
+ghost use Rattle.valuation_commands.specs.DueOfScenarios.{DueOfScenarios};
+ghost use Rattle.valuation_commands.specs.DueOfValue.{DueOfValue};
 ghost use Rattle.contract_cli.specs.AdvanceLaws.{AdvanceTextsAreTexts, AdvancesCompose};
 ghost use Rattle.contract_cli.specs.ExpandLaws.{ExpandedPlansAreListed, ExpandedTextsAreAccepted, ExpandedTextsAreTexts};
 ghost use Rattle.contract_cli.specs.NettingLaws.{PrintedPositionsBalance, PrintedSettlementsSettle, SettlementsSettlePositions};

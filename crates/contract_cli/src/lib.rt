@@ -16,4 +16,4 @@ pub mod laws;
 mod reading;
 
 pub use command::run;
-pub use command_answers::Status;
+pub use command_courses::Status;

@@ -6,7 +6,7 @@ ghost use Rattle.edge_io.specs.Files.{CountsOnly};
 ghost use Rattle.contract_cli.specs.Reading.{AnswersFile, AnswersFiles};
 ghost use Rattle.contract_cli.specs.Seen.{CountsOnlyOf, seen};
 
-use command_answers::Stop;
+use command_courses::Stop;
 use edge_io::{Files, ReadErr};
 use report::Fault;
 use std::alloc::Global;

@@ -2,8 +2,8 @@
 use Rattle.std.specs.Prelude.{◌≡◌, ℕ, List}
 use Rattle.std.specs.Process.{exit_status}
 use Rattle.std.specs.declared.process.ExitCode.{ExitCode}
-use Rattle.command_answers.specs.Statuses.{number_of}
-use Rattle.command_answers.specs.declared.status.Status.{Status}
+use Rattle.command_courses.specs.Statuses.{number_of}
+use Rattle.command_courses.specs.declared.status.Status.{Status}
 use Rattle.contract_cli.specs.RunPromise.{Meets}
 use Rattle.contract_cli.specs.Seen.{Edge}
 

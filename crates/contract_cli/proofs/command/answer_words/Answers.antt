@@ -7,11 +7,11 @@ use Rattle.command_words.specs.Commands.{files_of}
 use Rattle.command_words.specs.Words.{IsRequestOf, requested_by}
 use Rattle.command_words.specs.declared.arguments.WordsErr.{WordsErr}
 use Rattle.command_words.specs.declared.arguments.WordsErr.TheVariants as words_err
-use Rattle.command_answers.specs.Course.{Stops, Tells}
+use Rattle.command_courses.specs.Course.{Stops, Tells}
 use Rattle.command_answers.specs.Courses.{course_of}
-use Rattle.command_answers.specs.Inputs.{bytes_of}
-use Rattle.command_answers.specs.declared.answers.Answer.{Answer}
-use Rattle.command_answers.proofs.StopFacts.{answers_too, handed_on}
+use Rattle.command_courses.specs.Inputs.{bytes_of}
+use Rattle.command_courses.specs.declared.answer.Answer.{Answer}
+use Rattle.command_courses.proofs.StopFacts.{answers_too, handed_on}
 use Rattle.contract_cli.specs.Reading.{StopsReading, WereRead}
 use Rattle.contract_cli.specs.RunPromise.{Names, run_course}
 use Rattle.contract_cli.specs.Seen.{seen}

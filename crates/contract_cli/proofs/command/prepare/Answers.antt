@@ -1,12 +1,12 @@
 use Rattle.std.proofs.Common.{◌≡◌, rules, subst}
 use Rattle.std.specs.Prelude.{Result, Err}
 use Rattle.clap.specs.Walk.{texts}
-use Rattle.command_answers.specs.Course.{Stops}
-use Rattle.command_answers.specs.Stopping.{Goes}
-use Rattle.command_answers.specs.declared.answers.Answer.{Answer}
-use Rattle.command_answers.specs.declared.stop.Stop.{Stop}
-use Rattle.command_answers.specs.declared.stop.Stop.TheVariants as stop
-use Rattle.command_answers.proofs.StopFacts.{line_answers}
+use Rattle.command_courses.specs.Course.{Stops}
+use Rattle.command_courses.specs.Stopping.{Goes}
+use Rattle.command_courses.specs.declared.answer.Answer.{Answer}
+use Rattle.command_courses.specs.declared.stop.Stop.{Stop}
+use Rattle.command_courses.specs.declared.stop.Stop.TheVariants as stop
+use Rattle.command_courses.proofs.StopFacts.{line_answers}
 use Rattle.contract_cli.specs.RunPromise.{run_course}
 use Rattle.contract_cli.specs.Seen.{seen}
 use Rattle.contract_cli.proofs.command.prepare.Goals as goal

@@ -1,6 +1,7 @@
-use Rattle.command_answers.proofs.DueFacts.{due_of_flows, due_of_value}
-use Rattle.command_answers.proofs.NettingCauses.{due_of_positions, due_of_settlements}
-use Rattle.command_answers.proofs.DueOfScenarioFacts.{due_of_scenarios}
+use Rattle.flow_commands.proofs.DueOfFlowFacts.{due_of_flows}
+use Rattle.valuation_commands.proofs.DueOfValueFacts.{due_of_value}
+use Rattle.flow_commands.proofs.NettingCauses.{due_of_positions, due_of_settlements}
+use Rattle.valuation_commands.proofs.DueOfScenarioFacts.{due_of_scenarios}
 use Rattle.contract_cli.proofs.laws.causes_are_due.Goals as goal
 
 pub returns : goal.returns

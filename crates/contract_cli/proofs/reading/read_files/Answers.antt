@@ -3,8 +3,8 @@ use Rattle.std.specs.Global.{Vec}
 use Rattle.std.proofs.lemmas.List.{length-map, length-take, map-append}
 use Rattle.clap.specs.Walk.{texts}
 use Rattle.report.specs.declared.fault_lines.Fault.{Fault}
-use Rattle.command_answers.specs.Inputs.{bytes_of}
-use Rattle.command_answers.proofs.StopFacts.{handed_on}
+use Rattle.command_courses.specs.Inputs.{bytes_of}
+use Rattle.command_courses.proofs.StopFacts.{handed_on}
 use Rattle.contract_cli.specs.Reading.{FileFault, StopsReading, WereRead}
 use Rattle.contract_cli.specs.Seen.{FilesSeen, WasRead, seen}
 use Rattle.contract_cli.proofs.ReadFacts.{counts_more, fault_seen, other_name, seen_told, stops_behind, texts_more, texts_split, were_more}

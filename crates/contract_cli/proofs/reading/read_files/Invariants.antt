@@ -1,6 +1,6 @@
 use Rattle.std.proofs.Common.{◌≡◌, ◌≤◌, ℕ, List, length, take}
 use Rattle.clap.specs.Walk.{texts}
-use Rattle.command_answers.specs.Inputs.{bytes_of}
+use Rattle.command_courses.specs.Inputs.{bytes_of}
 use Rattle.contract_cli.specs.Reading.{WereRead}
 use Rattle.contract_cli.specs.Seen.{CountsOnlyOf, seen}
 use Rattle.contract_cli.proofs.reading.read_files.Given as goal

@@ -1,0 +1,11 @@
+pub mod LastDayFacts
+pub mod FlowLineFacts
+pub mod SoundFlows
+pub mod DueOfFlowFacts
+pub mod KeptFlowsFacts
+pub mod SumLineFacts
+pub mod FlowsStops
+pub mod FlowsAreOne
+pub mod NettingAreOne
+pub mod NettingFacts
+pub mod NettingCauses

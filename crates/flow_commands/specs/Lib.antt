@@ -1,0 +1,9 @@
+pub mod FlowsPromise
+pub mod FlowsStages
+pub mod NettingPromise
+pub mod FlowsCourse
+pub mod NettingCourse
+pub mod FlowsParts
+pub mod NettingParts
+pub mod DueOfFlows
+pub mod DueOfNetting

@@ -1,0 +1,12 @@
+//! The commands on what contracts pay up to a last day: `flows`, `positions` and `settle`.
+//!
+//! Promised: each answers what its course tells, or the fault of the first stage that stops it.
+//! Only tested: that it answers where there is memory.
+#![tactic(auto)]
+
+mod flows_text;
+mod flows_until;
+mod netting_text;
+
+pub use flows_text::flows_answer;
+pub use netting_text::{positions_answer, settle_answer};

@@ -1,0 +1,6 @@
+pub mod WritableFacts
+pub mod AdvanceFacts
+pub mod NovateFacts
+pub mod StageFacts
+pub mod SoundLifecycle
+pub mod DueAreOne

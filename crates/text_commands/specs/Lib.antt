@@ -1,0 +1,12 @@
+pub mod ExpandStages
+pub mod CheckPromise
+pub mod PayoffPromise
+pub mod PayoffStages
+pub mod CheckCourse
+pub mod PayoffCourse
+pub mod MigrateCourse
+pub mod ExpandCourse
+pub mod CheckParts
+pub mod MigrateParts
+pub mod ExpandParts
+pub mod PayoffParts

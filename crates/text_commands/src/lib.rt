@@ -1,0 +1,15 @@
+//! The commands that judge or write what contracts say: `check`, `migrate`, `expand` and `payoff`.
+//!
+//! Promised: each answers what its course tells, or the fault of the first stage that stops it.
+//! Only tested: that it answers where there is memory.
+#![tactic(auto)]
+
+mod check_text;
+mod expand_text;
+mod migrate_text;
+mod payoff_text;
+
+pub use check_text::check_answer;
+pub use expand_text::expand_answer;
+pub use migrate_text::migrate_answer;
+pub use payoff_text::payoff_answer;

@@ -1,0 +1,9 @@
+pub mod AllAccepted
+pub mod AcceptingParts
+pub mod AllFixed
+pub mod UsedContracts
+pub mod Portfolios
+pub mod UsedParts
+pub mod ReadingParts
+pub mod ChoosingParts
+pub mod FixingsOver

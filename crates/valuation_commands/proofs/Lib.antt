@@ -1,0 +1,10 @@
+pub mod NamePlaces
+pub mod DueOfValueFacts
+pub mod ValueParts
+pub mod ValueReads
+pub mod StageFacts
+pub mod ScenarioFacts
+pub mod SoundValues
+pub mod OneWorth
+pub mod ScenarioParts
+pub mod DueOfScenarioFacts

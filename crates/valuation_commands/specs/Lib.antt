@@ -1,0 +1,11 @@
+pub mod ValuePromise
+pub mod ValueStages
+pub mod LawsNames
+pub mod ValueCourse
+pub mod ScenarioStages
+pub mod ScenariosPromise
+pub mod ScenariosCourse
+pub mod ValueParts
+pub mod ScenarioParts
+pub mod DueOfValue
+pub mod DueOfScenarios
