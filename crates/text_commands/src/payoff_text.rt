@@ -30,6 +30,7 @@ use payoff_terms::{Code, CodeFile};
 use report::Fault;
 use std::alloc::Global;
 use term_core::{has_only_numbers, instantiate};
+use term_model::{Contr, Decls, Name, defaults};
 use used_contracts::{accept_named, read_next, start_reading};
 
 // The contract, if it has the name.
