@@ -130,10 +130,10 @@ def bash_lines(table: Table) -> list[str]:
 
 def zsh_lines(table: Table) -> list[str]:
     """The table of commands for zsh."""
-    lines = ["local -a _tilugba_commands=("]
+    lines = ["typeset -ga _tilugba_commands=("]
     lines += [f"  '{it.name}:{it.short}'" for it in table.commands.values()]
     flags = sorted({f"--{it.name}" for command in table.commands.values() for it in command.options if not it.kind})
-    lines += [")", f"local -a _tilugba_flags=({' '.join(flags)})", "", "_tilugba_arguments() {", "  case $1 in"]
+    lines += [")", f"typeset -ga _tilugba_flags=({' '.join(flags)})", "", "_tilugba_arguments() {", "  case $1 in"]
     for command in table.commands.values():
         specs = [f"'{'' if it.is_needed else ':'}:{it.name}:_files'" for it in command.files]
         specs += ["'*:days of a template:_tilugba_settings'"] if command.has_settings else []
