@@ -9,7 +9,12 @@ import subprocess
 import time
 
 HERE = os.path.dirname(os.path.abspath(__file__))
-COMPLETIONS = os.path.join(HERE, "..", "completions")
+# What each shell is given: a file, or the folder of it.
+COMPLETIONS = {
+    "bash": os.path.join(HERE, "..", "completions", "tilugba.bash"),
+    "zsh": os.path.join(HERE, "..", "completions"),
+    "fish": os.path.join(HERE, "..", "completions", "tilugba.fish"),
+}
 # Prints its words, each on a line of its own between marks.
 SHOW = """tilugba() { printf 'begin\\n'; printf '<%s>\\n' "$@"; printf 'end\\n'; }"""
 PATIENCE = 20
@@ -66,14 +71,13 @@ class Typed:
 
 
 def bash(folder: str) -> Typed:
-    path = os.path.join(COMPLETIONS, "tilugba.bash")
-    setting = f"bind 'set enable-bracketed-paste off'\nbind '\"\\C-t\": insert-completions'\nsource '{path}'"
+    setting = "bind 'set enable-bracketed-paste off'\nbind '\"\\C-t\": insert-completions'\n" + f"source '{COMPLETIONS['bash']}'"
     return Typed(["bash", "--norc", "--noprofile", "-i"], setting, "\x14", folder)
 
 
 def zsh(folder: str) -> Typed:
-    setting = f"""fpath=('{COMPLETIONS}' $fpath); autoload -Uz compinit; compinit -u -D
-unsetopt zle_bracketed_paste nomatch beep; unset zle_bracketed_paste
+    setting = f"""fpath=('{COMPLETIONS['zsh']}' $fpath); autoload -Uz compinit; compinit -u -D
+unsetopt nomatch beep; unset zle_bracketed_paste
 zstyle ':completion:all-matches::::' completer _all_matches _complete
 zstyle ':completion:all-matches:*' insert yes
 zstyle ':completion:*' verbose no
@@ -88,8 +92,7 @@ class Fish:
         self.folder = folder
 
     def offers(self, line: str) -> list[str]:
-        path = os.path.join(COMPLETIONS, "tilugba.fish")
-        script = f"source '{path}'; complete -C '{line}'"
+        script = f"source '{COMPLETIONS['fish']}'; complete -C '{line}'"
         environment = {**os.environ, "HOME": self.folder, "XDG_CONFIG_HOME": self.folder, "XDG_DATA_HOME": self.folder}
         done = subprocess.run(
             ["fish", "--no-config", "-c", script], cwd=self.folder, env=environment, capture_output=True, text=True, check=False, timeout=60
