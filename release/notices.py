@@ -5,8 +5,8 @@ import re
 
 from contents import TOP, Refusal, read
 
-HEAD = """Notices of what is linked into the program beside its own sources, as they are in the folder of the toolchain. A text that is that of
-several crates is here once.
+HEAD = """Notices of what is linked into the program beside its own sources, as they are in the folder of the toolchain.
+A text that is that of several crates is here once.
 """
 OWN = "These parts of the toolchain are linked in as well. In its folder there is no licence file of theirs:"
 

@@ -11,11 +11,12 @@ from collections.abc import Callable
 TOP = os.path.normpath(os.path.join(os.path.dirname(os.path.abspath(__file__)), ".."))
 PARTS = ("README.md", "CHANGELOG.md", "LICENSE", "VERSION", "HANDLES", "commands.toml", "docs", "examples", "man", "completions", "editors")
 SCRIPTS = ("release", "tools")
-# It makes the program of its one text, where the real one writes it, and has a guide in its folder.
+# It makes a library or the program where the real one does, the program of its one text, and has a guide in its folder.
 TOOLCHAIN = """#!/bin/sh
 case $1 in
   version) echo 'a toolchain 1' ;;
   doc) echo "${0%/*}/guide.md" ;;
+  lib) mkdir -p out/rlib && : >out/rlib/texts ;;
   run) mkdir -p out && { printf '#!/bin/sh\\necho '; cat src/main.rt; } >out/tilugba && chmod +x out/tilugba ;;
 esac
 """
@@ -39,6 +40,7 @@ class Copy:
         self.put("crates.txt", "low: clap\ntilugba: low\n")
         self.put("crates/low/src/lib.rt", "low\n")
         self.put("crates/tilugba/src/main.rt", "first\n")
+        self.put("tools/toolchain", "a toolchain 1\n")
         self.put(".gitignore", "crates/*/out/\n/built/\n")
         self.make_toolchain()
         self.git("init", "-q")
