@@ -129,6 +129,9 @@ def try_releases(room: str, judge: Judge) -> None:
     copy.commit()
     copy.build()
     refuses("no version", "VERSION is no version: 1.0")
+    os.unlink(os.path.join(copy.top, "VERSION"))
+    copy.commit()
+    refuses("no file VERSION", "VERSION is not read: No such file")
 
 
 def try_record(copy: Copy, made: dict[str, bytes], judge: Judge) -> None:
