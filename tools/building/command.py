@@ -1,7 +1,6 @@
 """How a script ends that builds: whatever goes wrong is one line on standard error, and the status 70, which the program never has."""
 from __future__ import annotations
 
-import os
 import signal
 import sys
 from collections.abc import Callable
@@ -37,6 +36,6 @@ def ends(body: Callable[[], int], begun: str) -> int:
     except Interrupted:
         say(f"{begun}: it was interrupted, and what was there is as it was; the next call goes on")
     except OSError as error:
-        place = f"{os.fsdecode(error.filename)}: " if error.filename else ""
+        place = f"{error.filename2 or error.filename}: " if error.filename else ""
         say(f"{begun}: {place}{error.strerror or error}; mend that, and call this again")
     return FAILED

@@ -156,12 +156,12 @@ def prove_until_settled(top: Path, at_once: int, most: int) -> None:
 def build(top: Path, at_once: int, most: int) -> None:
     """Sees to it that built/tilugba is the program of the texts. The program that was there stays if that fails."""
     os.chdir(top)
-    found = Sources(top).look() if os.path.isdir(BUILT) else None
+    found = Sources(top).look()
     if found and found.is_proved:
         return
     toolchain.at_hand(top)
-    os.makedirs(BUILT, exist_ok=True)
-    with held(Path(BUILT) / "lock", "another build goes on; this one waits for it") as had_to_wait:
+    (top / BUILT).mkdir(exist_ok=True)
+    with held(top / BUILT / "lock", "another build goes on; this one waits for it") as had_to_wait:
         found = Sources(top).look()
         if found and found.is_proved:
             return
