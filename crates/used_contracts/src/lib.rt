@@ -9,11 +9,11 @@
 mod accepting;
 mod choice;
 mod choosing;
-mod fixings_over;
+mod over_fixings;
 mod reading;
 
 pub use accepting::{accept_named, verdict};
 pub use choice::Choice;
 pub use choosing::{Tried, all_contracts, behind_names, choose, first_stop, nothing_tried};
-pub use fixings_over::fixings_over;
+pub use over_fixings::fixings_over;
 pub use reading::{made_of, read_next, start_reading};

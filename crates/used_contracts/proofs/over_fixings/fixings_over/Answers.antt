@@ -8,7 +8,7 @@ use Rattle.command_courses.specs.FixingTables.{HoldsFixings}
 use Rattle.command_courses.specs.FixingTables.{IsRowFault}
 use Rattle.command_courses.specs.declared.stop.Stop.TheVariants as stop
 use Rattle.used_contracts.proofs.ChoosingFacts.{own_acceptance, stop_answers, stops_too}
-use Rattle.used_contracts.proofs.fixings_over.fixings_over.Goals as goal
+use Rattle.used_contracts.proofs.over_fixings.fixings_over.Goals as goal
 
 pub returns-in-Ok-clause-over : goal.returns-in-Ok-clause-over
 returns-in-Ok-clause-over c = λ text begun. c.in-Ok.ensures
