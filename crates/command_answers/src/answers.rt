@@ -1,52 +1,48 @@
 //! What a command answers to the bytes of its files.
 
 ghost use Rattle.command_words.specs.Words.{requested_by};
-ghost use Rattle.command_courses.specs.Inputs.{AreShort, bytes_of};
-ghost use Rattle.command_courses.specs.Stopping.{Goes};
+ghost use Rattle.command_courses.specs.Inputs.{bytes_of};
+ghost use Rattle.command_courses.specs.Stopping.{Goes, GoesDone};
 ghost use Rattle.command_answers.specs.Courses.{course_of, sample_course};
 
-use command_courses::{Answer, Status, Stop};
+use command_courses::{Answer, Inputs, Stop, done};
 use command_words::{Request, SampleSize};
-use flow_commands::{flows_answer, positions_answer, settle_answer};
-use lifecycle_commands::{advance_answer, novate_answer};
+use flow_commands::{flows_text, positions_text, settlement_text};
+use lifecycle_commands::{advance_text, novate_text};
 use sample::summary;
 use std::alloc::Global;
-use text_commands::{check_answer, expand_answer, migrate_answer, payoff_answer};
-use valuation_commands::{scenarios_answer, value_answer};
+use text_commands::{check_text, expand_text, migrated_text, payoff_text};
+use valuation_commands::{scenarios_text, value_text};
 
 // The summary of the sample of so many contracts.
-fn sample_answer(alloc: Global, size: SampleSize) -> Result<Answer, Stop>
-    ensures { Goes (sample_course size.contracts) result }
+fn sample_text(alloc: Global, size: SampleSize) -> Result<Vec<u8>, Stop>
+    ensures { GoesDone (sample_course size.contracts) result }
 {
     let text = summary(alloc, size.contracts)?;
-    Ok(Answer {
-        status: Status::Done,
-        text,
-    })
+    Ok(text)
 }
 
-/// What a command answers to the bytes of its files, none of them longer than 16,777,216: what it
-/// tells at the end of its course, or the fault of the first stage that stops it, or out of memory.
+/// What a command answers to its files: what it tells at the end of its course, or the fault of the
+/// first stage that stops it, or out of memory.
 pub fn answer_request(
     alloc: Global,
     request: &Request<'_>,
-    inputs: &[Vec<u8>],
+    inputs: Inputs<'_>,
 ) -> Result<Answer, Stop>
-    requires { AreShort (bytes_of inputs.now) }
-    ensures { Goes (course_of (requested_by request.now) (bytes_of inputs.now)) result }
+    ensures { Goes (course_of (requested_by request.now) (bytes_of inputs.entry.files.now)) result }
 {
     match request {
-        Request::Check { .. } => check_answer(alloc, inputs),
-        Request::Flows(asked) => flows_answer(alloc, asked, inputs),
-        Request::Advance(asked) => advance_answer(alloc, asked, inputs),
-        Request::Payoff(asked) => payoff_answer(alloc, asked, inputs),
-        Request::Value(asked) => value_answer(alloc, asked, inputs),
-        Request::Migrate { .. } => migrate_answer(alloc, inputs),
-        Request::Expand { .. } => expand_answer(alloc, inputs),
-        Request::Sample(size) => sample_answer(alloc, *size),
-        Request::Positions(asked) => positions_answer(alloc, asked, inputs),
-        Request::Settle(asked) => settle_answer(alloc, asked, inputs),
-        Request::Novate(asked) => novate_answer(alloc, asked, inputs),
-        Request::Scenarios(asked) => scenarios_answer(alloc, asked, inputs),
+        Request::Check { .. } => check_text(alloc, inputs),
+        Request::Flows(asked) => done(flows_text(alloc, asked, inputs)),
+        Request::Advance(asked) => done(advance_text(alloc, asked, inputs)),
+        Request::Payoff(asked) => done(payoff_text(alloc, asked, inputs)),
+        Request::Value(asked) => done(value_text(alloc, asked, inputs)),
+        Request::Migrate { .. } => done(migrated_text(alloc, inputs)),
+        Request::Expand { .. } => done(expand_text(alloc, inputs)),
+        Request::Sample(size) => done(sample_text(alloc, *size)),
+        Request::Positions(asked) => done(positions_text(alloc, asked, inputs)),
+        Request::Settle(asked) => done(settlement_text(alloc, asked, inputs)),
+        Request::Novate(asked) => done(novate_text(alloc, asked, inputs)),
+        Request::Scenarios(asked) => done(scenarios_text(alloc, asked, inputs)),
     }
 }

@@ -3,7 +3,7 @@
 //!
 //! ```text
 //! // the bytes of the files that the request names, in order
-//! let answer = answer_request(alloc, &request, &inputs)?;
+//! let answer = answer_request(alloc, &request, Inputs { files: &files })?;
 //! ```
 //!
 //! Promised: a command has a course, which is a row of stages and then a text (`course_of`). What

@@ -10,9 +10,9 @@ use Rattle.contract_grammar.specs.declared.faults.TextFault.{TextFault}
 use Rattle.report.specs.FaultLines.{fault_text}
 use Rattle.report.specs.declared.fault_lines.Fault.{Fault}
 use Rattle.report.specs.declared.fault_lines.Fault.TheVariants as fault
-use Rattle.command_courses.specs.Course.{Course, Stops, Tells, stopped}
+use Rattle.command_courses.specs.Course.{Course, Stage, Stops, Tells, behind, stopped}
 use Rattle.command_courses.specs.Statuses.{status_of}
-use Rattle.command_courses.specs.Stopping.{AnswersBy, Goes, GoesDone, IsAnswerOf, stop_of_text}
+use Rattle.command_courses.specs.Stopping.{AnswersBy, Goes, GoesDone, IsAnswerOf, is_done, stop_of_text}
 use Rattle.command_courses.specs.declared.answer.Answer.{Answer}
 use Rattle.command_courses.specs.declared.status.Status.TheVariants as status
 use Rattle.command_courses.specs.declared.stop.Stop.{Stop}
@@ -45,10 +45,20 @@ answers_too Good Other Stopped Stops good pass (Ok a) h = good a h
 answers_too Good Other Stopped Stops good pass (Err (stop.Fault f)) h = pass f h
 answers_too Good Other Stopped Stops good pass (Err stop.NoMemory) h = tt
 
--- what stops the rest of a course stops the whole
-pub hands_on_rest : (rest c : Course) → ((f : Fault) → Stops rest f → Stops c f) → (e : Stop) (r : Result Answer Stop) → GoesDone rest (Err e) → IsErrAnd r (λ y. y ≡ e) → Goes c r
-hands_on_rest rest c pass e r h given =
-    handed_on (λ (text : Vec ℕ). Tells rest status.Done text.items) (λ (answer : Answer). Tells c answer.status answer.text.items) (Stops rest) (Stops c) pass e r h given
+-- what goes the rest of a course to its end, behind a stage that passes, goes the whole
+pub goes_behind : {A : Type 0} (stage : Stage A) (next : A → Course) (a : A) → stage.Passes a → (r : Result (Vec ℕ) Stop) → GoesDone (next a) r → GoesDone (behind stage next) r
+goes_behind stage next a p r h =
+    answers_too (λ (text : Vec ℕ). Tells (next a) status.Done text.items) (λ (text : Vec ℕ). Tells (behind stage next) status.Done text.items) (Stops (next a)) (Stops (behind stage next))
+    (λ text told. (a, p, told)) (λ f stops. inr (a, p, stops)) r h
+
+-- a command that is done goes its course
+pub goes_done : (c : Course) (text : Result (Vec ℕ) Stop) (r : Result Answer Stop) → r ≡ is_done text → GoesDone c text → Goes c r
+goes_done c text r is h = subst (Goes c) (sym is) (by_text text h)
+  where
+    by_text : (t : Result (Vec ℕ) Stop) → GoesDone c t → Goes c (is_done t)
+    by_text (Ok t) h = h
+    by_text (Err (stop.Fault f)) h = h
+    by_text (Err stop.NoMemory) h = tt
 
 -- the line of a fault is the answer of a course that it stops
 pub line_answers : (c : Course) (f : Fault) (r : Result Answer NoMemory) → Stops c f → IfOk r (λ answer. answer.status ≡ status_of f) → IfOk r (λ answer. answer.text.items ≡ fault_text f)
@@ -56,13 +66,7 @@ pub line_answers : (c : Course) (f : Fault) (r : Result Answer NoMemory) → Sto
 line_answers c f (Ok answer) h s t = stopped f h s t
 line_answers c f (Err e) h s t = tt
 
--- want of memory stops every course
-pub lacks_memory : (c : Course) (r : Result Answer Stop) → IsErrAnd r (λ e. e ≡ stop.NoMemory) → Goes c r
-lacks_memory c r given =
-    let p = err_from_is_err_and r given in
-    subst (λ (x : Result Answer Stop). Goes c x) (sym (p.1 ∙ ap (λ (x : Stop). Err x) p.2)) tt
-
--- and what is left of one
+-- want of memory stops what is left of every course
 pub lacks_memory_done : (c : Course) (r : Result (Vec ℕ) Stop) → IsErrAnd r (λ e. e ≡ stop.NoMemory) → GoesDone c r
 lacks_memory_done c r given =
     let p = err_from_is_err_and r given in

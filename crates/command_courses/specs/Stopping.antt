@@ -34,6 +34,11 @@ Goes c r = AnswersBy (λ answer. Tells c answer.status answer.text.items) (Stops
 abbrev pub GoesDone : Course → Result (Vec ℕ) Stop → Type 0
 GoesDone c r = AnswersBy (λ text. Tells c status.Done text.items) (Stops c) r
 
+-- the same with its status
+abbrev pub is_done : Result (Vec ℕ) Stop → Result Answer Stop
+is_done (Ok text) = Ok (record { status = status.Done; text = text })
+is_done (Err e) = Err e
+
 -- an answer of a course, whether it tells or is the line of a fault
 abbrev pub IsAnswerOf : Course → Answer → Type 0
 IsAnswerOf c answer = Answers c answer.status answer.text.items

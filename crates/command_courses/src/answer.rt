@@ -3,8 +3,10 @@
 ghost use Rattle.std.specs.Prelude.{◌≡◌, IfOk};
 ghost use Rattle.report.specs.FaultLines.{fault_text};
 ghost use Rattle.command_courses.specs.Statuses.{status_of};
+ghost use Rattle.command_courses.specs.Stopping.{is_done};
 
 use crate::status::{Status, status_of};
+use crate::stop::Stop;
 use decimal::NoMemory;
 use report::{Fault, fault_line};
 use std::alloc::Global;
@@ -25,4 +27,17 @@ pub fn fault_answer(alloc: Global, fault: &Fault) -> Result<Answer, NoMemory>
     fault_line(alloc, &mut text, fault)?;
     let status = status_of(fault);
     Ok(Answer { status, text })
+}
+
+/// The answer of a command that is done, if it has a text.
+pub fn done(text: Result<Vec<u8>, Stop>) -> Result<Answer, Stop>
+    ensures { result ≡ is_done text }
+{
+    match text {
+        Ok(text) => Ok(Answer {
+            status: Status::Done,
+            text,
+        }),
+        Err(stop) => Err(stop),
+    }
 }

@@ -13,10 +13,10 @@ mod names;
 mod status;
 mod stop;
 
-pub use answer::{Answer, fault_answer};
+pub use answer::{Answer, done, fault_answer};
 pub use days::day_asked;
 pub use fixing_tables::{fixings_of, stop_of};
-pub use inputs::{file_at, table_if_named};
+pub use inputs::Inputs;
 pub use names::{index_of, label_name};
 pub use status::Status;
 pub use stop::Stop;

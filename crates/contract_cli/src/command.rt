@@ -8,6 +8,7 @@ ghost use Rattle.contract_cli.specs.RunPromise.{CountsOnlyBy, Meets, run_course}
 ghost use Rattle.contract_cli.specs.Seen.{seen, sink_left};
 
 use crate::reading::read_files;
+use command_courses::{Answer, Inputs, Status, Stop, fault_answer};
 use command_answers::answer_request;
 use command_courses::{Answer, Status, Stop, fault_answer};
 use command_words::{WordsErr, files_of, request_of};
@@ -35,7 +36,7 @@ fn answer_words<'a, F: Files>(
     };
     let names = files_of(alloc, &request)?;
     let inputs = read_files(alloc, files, &names)?;
-    answer_request(alloc, &request, &inputs)
+    answer_request(alloc, &request, Inputs { files: &inputs })
 }
 
 // The same, with the line of its fault for an answer that there is none of.

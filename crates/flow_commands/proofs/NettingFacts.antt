@@ -32,6 +32,7 @@ use Rattle.command_courses.specs.Course.{Stops, Tells}
 use Rattle.used_contracts.specs.ChoosingParts.{Selection, StopsIn, selection, so_far}
 use Rattle.flow_commands.specs.FlowsCourse.{flows_of_text}
 use Rattle.flow_commands.specs.FlowsParts.{CanBeLast, IsSumOfFlows, PassesOf, StopsFlows, of_flows}
+use Rattle.command_courses.specs.Inputs.{file_at, table_if_named}
 use Rattle.command_courses.specs.FixingTables.{HoldsFixings}
 use Rattle.command_courses.specs.FixingTables.{AreFixings}
 use Rattle.flow_commands.specs.FlowsPromise.{AreTables, IsLastDay}
@@ -203,7 +204,13 @@ settled_have_lines d tables rows ready turns = settled_are_whole d tables rows r
 
 -- ---- what is told of the tables is what the course tells, and what kept them from being made stops it
 
-module _ (TellsOf : Declarations → List FlowTable → List ℕ → Type 0) (asked : NettingAsked) (text : List ℕ) (table : Option (List ℕ)) where
+module _ (TellsOf : Declarations → List FlowTable → List ℕ → Type 0) (asked : NettingAsked) (inputs : List (List ℕ)) where
+  abbrev text : List ℕ
+  text = file_at inputs 0
+
+  abbrev table : Option (List ℕ)
+  table = table_if_named asked.fixings inputs
+
   pub told_of_net : (d : Declarations) (net : FlowTable) (lines : List ℕ) (h : KnowsNet asked text table d net) → TellsOf d h.tables lines
       → Tells (netting_of_text TellsOf asked text table) status.Done lines
   told_of_net d net lines h told =
@@ -212,7 +219,7 @@ module _ (TellsOf : Declarations → List FlowTable → List ℕ → Type 0) (as
       let are : IsToldOfTables TellsOf d known.fixings known.last (used None b) lines = record { tables = h.tables; are_tables = known.are_tables; told = told } in
       (b, h.is_text, (tt, refl, (known.last, known.is_last, (tt, known.accepted, (known.fixings, known.are_fixings, (tt, known.fixed, (refl, are)))))))
 
-  pub stopped_without_net : (e : Stop) (r : Result (Vec ℕ) Stop) → AnswersNetOfText asked text table (Err e) → IsErrAnd r (λ y. y ≡ e) → GoesDone (netting_of_text TellsOf asked text table) r
+  pub stopped_without_net : (e : Stop) (r : Result (Vec ℕ) Stop) → AnswersNetOfText asked inputs (Err e) → IsErrAnd r (λ y. y ≡ e) → GoesDone (netting_of_text TellsOf asked text table) r
   stopped_without_net e r h given =
       handed_on (λ (all : Decls × FlowTable). KnowsNet asked text table (declarations all.0) all.1) (λ (lines : Vec ℕ). Tells (netting_of_text TellsOf asked text table) status.Done lines.items)
       (Stops (flows_of_text (flows_of_all asked) text table)) (Stops (netting_of_text TellsOf asked text table)) (λ f h. h) e r h given

@@ -20,6 +20,7 @@ use Rattle.command_words.specs.Commands.{NettingAsked}
 use Rattle.used_contracts.specs.AllAccepted.{AreAllAccepted}
 use Rattle.used_contracts.specs.ChoosingParts.{StopsIn, so_far}
 use Rattle.command_courses.specs.Course.{Stops}
+use Rattle.command_courses.specs.Inputs.{file_at, table_if_named}
 use Rattle.flow_commands.specs.FlowsCourse.{flows_of_text}
 use Rattle.flow_commands.specs.FlowsParts.{ListsFlows, StopsFlows}
 use Rattle.used_contracts.specs.AllFixed.{AreAllFixed}
@@ -86,8 +87,10 @@ pub record KnowsNet (asked : NettingAsked) (text : List ℕ) (table : Option (Li
   pub is_net : AreNetOf tables net.rows.items
 
 -- the declarations and this, or what stops `flows` of all contracts of the text
-abbrev pub AnswersNetOfText : NettingAsked → List ℕ → Option (List ℕ) → Result (Decls × FlowTable) Stop → Type 0
-AnswersNetOfText asked text table r =
+abbrev pub AnswersNetOfText : NettingAsked → List (List ℕ) → Result (Decls × FlowTable) Stop → Type 0
+AnswersNetOfText asked inputs r =
+    let text = file_at inputs 0 in
+    let table = table_if_named asked.fixings inputs in
     AnswersBy (λ all. KnowsNet asked text table (declarations all.0) all.1) (Stops (flows_of_text (flows_of_all asked) text table)) r
 
 -- whichever text is begun

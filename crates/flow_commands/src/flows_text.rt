@@ -1,11 +1,10 @@
 //! The command `flows`.
 
-ghost use Rattle.std.specs.Prelude.{◌≡◌, ◌≤◌, pos, IfOk, OnOk, length, option_map};
+ghost use Rattle.std.specs.Prelude.{◌≡◌, pos, IfOk, OnOk, option_map};
 ghost use Rattle.std.specs.List.{All};
 ghost use Rattle.term_model.specs.Acceptance.{IsAccepted};
 ghost use Rattle.term_model.specs.Declarations.{declarations};
 ghost use Rattle.term_model.specs.Environments.{IsAdmitted};
-ghost use Rattle.term_model.specs.Limits.{longest_file};
 ghost use Rattle.term_model.specs.Terms.{contract};
 ghost use Rattle.contract_parse.specs.NextContracts.{IsSoundContract};
 ghost use Rattle.flow_eval.specs.Readiness.{last_day};
@@ -15,11 +14,11 @@ ghost use Rattle.report.specs.SumTables.{IsSummable};
 ghost use Rattle.command_words.specs.Arguments.{given_text};
 ghost use Rattle.command_words.specs.Words.{flows_by};
 ghost use Rattle.command_courses.specs.FixingTables.{IsShortTable};
-ghost use Rattle.command_courses.specs.Inputs.{AreShort, bytes_of, table_if_named};
-ghost use Rattle.command_courses.specs.Stopping.{Goes, GoesDone};
+ghost use Rattle.command_courses.specs.Inputs.{bytes_of};
+ghost use Rattle.command_courses.specs.Stopping.{GoesDone};
 ghost use Rattle.used_contracts.specs.ChoosingParts.{Steps, selection};
 ghost use Rattle.used_contracts.specs.ReadingParts.{HasBegun};
-ghost use Rattle.flow_commands.specs.FlowsCourse.{flows_course, flows_of_text};
+ghost use Rattle.flow_commands.specs.FlowsCourse.{flows_course};
 ghost use Rattle.flow_commands.specs.FlowsParts.{AddsFlows, AnswersFlows, AnswersKeptFlows};
 ghost use Rattle.flow_commands.specs.FlowsParts.{AnswersLastDay, AnswersLinesAsked, AnswersOver};
 ghost use Rattle.flow_commands.specs.FlowsParts.{AnswersTable, AppendsLines, AreLinesOfSum};
@@ -27,7 +26,7 @@ ghost use Rattle.flow_commands.specs.FlowsParts.{CanBeSummed, HasFlows, KeepsTab
 ghost use Rattle.flow_commands.specs.FlowsParts.{of_flows};
 
 use crate::flows_until::FlowsUntil;
-use command_courses::{Answer, Status, Stop, day_asked, file_at, stop_of, table_if_named};
+use command_courses::{Inputs, Stop, day_asked, stop_of};
 use command_words::{DayWord, Flows};
 use contract_parse::{ContractReader, NextContract};
 use decimal::NoMemory;
@@ -294,21 +293,14 @@ fn lines_over(
     lines_asked(alloc, &until, reader)
 }
 
-/// What `flows` writes of a portfolio's text over the fixings of a table: the flow lines of the
+/// What `flows` writes of a portfolio over the fixings of a table: the flow lines of the
 /// contracts that are asked for, at the defaults and in their order, or those of their sum; or what
 /// stops it. Each contract is read, tried and dropped before the next.
-pub fn flows_text(
-    alloc: Global,
-    text: &[u8],
-    asked: &Flows<'_>,
-    table: Option<&[u8]>,
-) -> Result<Vec<u8>, Stop>
-    requires short { length text.now ≤ longest_file }
-    requires table { IsShortTable (given_text table) }
-    ensures { GoesDone (flows_of_text (flows_by asked.now) text.now (given_text table.entry))
+pub fn flows_text(alloc: Global, asked: &Flows<'_>, inputs: Inputs<'_>) -> Result<Vec<u8>, Stop>
+    ensures { GoesDone (flows_course (flows_by asked.now) (bytes_of inputs.entry.files.now))
         result }
 {
-    let (decls, mut reader) = start_reading(alloc, text)?;
+    let (decls, mut reader) = start_reading(alloc, inputs)?;
     let setting = defaults(alloc, &decls)?;
     let choice = Choice {
         decls: &decls,
@@ -316,18 +308,6 @@ pub fn flows_text(
         named: asked.contract,
         only: true,
     };
+    let table = inputs.table_if_named(asked.fixings);
     lines_over(alloc, choice, &mut reader, asked, table)
-}
-
-/// The flow lines of a portfolio.
-pub fn flows_answer(alloc: Global, asked: &Flows<'_>, inputs: &[Vec<u8>]) -> Result<Answer, Stop>
-    requires { AreShort (bytes_of inputs.now) }
-    ensures { Goes (flows_course (flows_by asked.now) (bytes_of inputs.now)) result }
-{
-    let table = table_if_named(asked.fixings, inputs);
-    let text = flows_text(alloc, file_at(inputs, 0), asked, table)?;
-    Ok(Answer {
-        status: Status::Done,
-        text,
-    })
 }

@@ -8,5 +8,5 @@ mod flows_text;
 mod flows_until;
 mod netting_text;
 
-pub use flows_text::flows_answer;
-pub use netting_text::{positions_answer, settle_answer};
+pub use flows_text::flows_text;
+pub use netting_text::{positions_text, settlement_text};

@@ -1,27 +1,24 @@
 //! The commands `positions` and `settle`.
 
-ghost use Rattle.std.specs.Prelude.{◌≡◌, ◌≤◌, OnOk, length, true};
+ghost use Rattle.std.specs.Prelude.{◌≡◌, OnOk, true};
 ghost use Rattle.std.specs.List.{All};
 ghost use Rattle.term_model.specs.Declarations.{declarations};
 ghost use Rattle.term_model.specs.Environments.{IsAdmitted};
-ghost use Rattle.term_model.specs.Limits.{longest_file};
 ghost use Rattle.command_words.specs.Arguments.{given_text};
 ghost use Rattle.command_words.specs.Words.{netting_by};
 ghost use Rattle.command_courses.specs.FixingTables.{IsShortTable};
-ghost use Rattle.command_courses.specs.Inputs.{AreShort, bytes_of, table_if_named};
-ghost use Rattle.command_courses.specs.Stopping.{Goes, GoesDone};
+ghost use Rattle.command_courses.specs.Inputs.{bytes_of};
+ghost use Rattle.command_courses.specs.Stopping.{GoesDone};
 ghost use Rattle.used_contracts.specs.ChoosingParts.{selection};
 ghost use Rattle.used_contracts.specs.ReadingParts.{HasBegun};
 ghost use Rattle.flow_commands.specs.FlowsParts.{of_flows};
-ghost use Rattle.flow_commands.specs.NettingCourse.{flows_of_all, netting_of_text};
-ghost use Rattle.flow_commands.specs.NettingCourse.{positions_course, settle_course};
+ghost use Rattle.flow_commands.specs.NettingCourse.{flows_of_all, positions_course, settle_course};
 ghost use Rattle.flow_commands.specs.NettingParts.{AnswersNet, AnswersNetOfAll, AnswersNetOfText};
 ghost use Rattle.flow_commands.specs.NettingParts.{AppendsPositions, IsDuePosition};
-ghost use Rattle.flow_commands.specs.NettingPromise.{TellsPositions, TellsSettlement};
 
 use crate::flows_text::{append_table, flows_listed, flows_over};
 use crate::flows_until::FlowsUntil;
-use command_courses::{Answer, Status, Stop, file_at, table_if_named};
+use command_courses::{Inputs, Stop};
 use command_words::Netting;
 use contract_parse::ContractReader;
 use decimal::NoMemory;
@@ -92,35 +89,30 @@ fn net_of_all(
 // The declarations of a text, and the net of the flow tables of all its contracts.
 fn net_of_text(
     alloc: Global,
-    text: &[u8],
     asked: &Netting<'_>,
-    table: Option<&[u8]>,
+    inputs: Inputs<'_>,
 ) -> Result<(Decls, FlowTable), Stop>
-    requires short { length text.now ≤ longest_file }
-    requires table { IsShortTable (given_text table) }
-    ensures { AnswersNetOfText (netting_by asked.now) text.now (given_text table.entry) result }
+    ensures { AnswersNetOfText (netting_by asked.now) (bytes_of inputs.entry.files.now) result }
 {
-    let (decls, mut reader) = start_reading(alloc, text)?;
+    let (decls, mut reader) = start_reading(alloc, inputs)?;
     let setting = defaults(alloc, &decls)?;
     let choice = all_contracts(&decls, &setting, None);
+    let table = inputs.table_if_named(asked.fixings);
     let net = net_of_all(alloc, choice, &mut reader, asked, table)?;
     Ok((decls, net))
 }
 
-/// What `positions` writes of a portfolio's text over the fixings of a table: a line for each
+/// What `positions` writes of a portfolio over the fixings of a table: a line for each
 /// party, day and asset of what all contracts bring the party; or what stops it.
 pub fn positions_text(
     alloc: Global,
-    text: &[u8],
     asked: &Netting<'_>,
-    table: Option<&[u8]>,
+    inputs: Inputs<'_>,
 ) -> Result<Vec<u8>, Stop>
-    requires short { length text.now ≤ longest_file }
-    requires table { IsShortTable (given_text table) }
-    ensures { GoesDone (netting_of_text TellsPositions (netting_by asked.now) text.now
-        (given_text table.entry)) result }
+    ensures { GoesDone (positions_course (netting_by asked.now) (bytes_of inputs.entry.files.now))
+        result }
 {
-    let (decls, net) = net_of_text(alloc, text, asked, table)?;
+    let (decls, net) = net_of_text(alloc, asked, inputs)?;
     let found = positions(alloc, &[net])?;
     let mut lines = Vec::new(alloc);
     append_positions(alloc, &mut lines, &decls, &found)?;
@@ -131,49 +123,16 @@ pub fn positions_text(
 /// stops it.
 pub fn settlement_text(
     alloc: Global,
-    text: &[u8],
     asked: &Netting<'_>,
-    table: Option<&[u8]>,
+    inputs: Inputs<'_>,
 ) -> Result<Vec<u8>, Stop>
-    requires short { length text.now ≤ longest_file }
-    requires table { IsShortTable (given_text table) }
-    ensures { GoesDone (netting_of_text TellsSettlement (netting_by asked.now) text.now
-        (given_text table.entry)) result }
+    ensures { GoesDone (settle_course (netting_by asked.now) (bytes_of inputs.entry.files.now))
+        result }
 {
-    let (decls, net) = net_of_text(alloc, text, asked, table)?;
+    let (decls, net) = net_of_text(alloc, asked, inputs)?;
     let found = positions(alloc, &[net])?;
     let settled = settle(alloc, &found)?;
     let mut lines = Vec::new(alloc);
     append_table(alloc, &mut lines, &decls, b"*", &settled)?;
     Ok(lines)
-}
-
-/// The net positions of a portfolio's parties.
-pub fn positions_answer(
-    alloc: Global,
-    asked: &Netting<'_>,
-    inputs: &[Vec<u8>],
-) -> Result<Answer, Stop>
-    requires { AreShort (bytes_of inputs.now) }
-    ensures { Goes (positions_course (netting_by asked.now) (bytes_of inputs.now)) result }
-{
-    let table = table_if_named(asked.fixings, inputs);
-    let text = positions_text(alloc, file_at(inputs, 0), asked, table)?;
-    Ok(Answer {
-        status: Status::Done,
-        text,
-    })
-}
-
-/// The payments that settle the net positions of a portfolio's parties.
-pub fn settle_answer(alloc: Global, asked: &Netting<'_>, inputs: &[Vec<u8>]) -> Result<Answer, Stop>
-    requires { AreShort (bytes_of inputs.now) }
-    ensures { Goes (settle_course (netting_by asked.now) (bytes_of inputs.now)) result }
-{
-    let table = table_if_named(asked.fixings, inputs);
-    let text = settlement_text(alloc, file_at(inputs, 0), asked, table)?;
-    Ok(Answer {
-        status: Status::Done,
-        text,
-    })
 }

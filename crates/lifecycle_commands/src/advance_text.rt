@@ -12,11 +12,9 @@ ghost use Rattle.contract_grammar.specs.Writable.{IsWritableTerm};
 ghost use Rattle.flow_eval.specs.Readiness.{last_day};
 ghost use Rattle.flow_eval.specs.Tables.{IsDueRow};
 ghost use Rattle.report.specs.FlowLines.{HaveLines};
-ghost use Rattle.command_words.specs.Arguments.{given_text};
 ghost use Rattle.command_words.specs.Words.{advance_by};
-ghost use Rattle.command_courses.specs.FixingTables.{IsShortTable};
-ghost use Rattle.command_courses.specs.Inputs.{AreShort, bytes_of};
-ghost use Rattle.command_courses.specs.Stopping.{Goes, GoesDone};
+ghost use Rattle.command_courses.specs.Inputs.{bytes_of};
+ghost use Rattle.command_courses.specs.Stopping.{GoesDone};
 ghost use Rattle.used_contracts.specs.ChoosingParts.{Steps, selection};
 ghost use Rattle.used_contracts.specs.ReadingParts.{HasBegun};
 ghost use Rattle.used_contracts.specs.UsedParts.{IsTriable};
@@ -24,13 +22,12 @@ ghost use Rattle.lifecycle_commands.specs.AdvanceCourse.{advance_course};
 ghost use Rattle.lifecycle_commands.specs.AdvanceParts.{AddsRest, AnswersAdvanced, AnswersCarried};
 ghost use Rattle.lifecycle_commands.specs.AdvanceParts.{AnswersKeptRest, AnswersLeft};
 ghost use Rattle.lifecycle_commands.specs.AdvanceParts.{AnswersNewDay, AppendsComments, AreLeft};
-ghost use Rattle.lifecycle_commands.specs.AdvanceParts.{HasRests, advance_of_text, changed};
-ghost use Rattle.lifecycle_commands.specs.AdvanceParts.{rest_line};
+ghost use Rattle.lifecycle_commands.specs.AdvanceParts.{HasRests, changed, rest_line};
 ghost use Rattle.lifecycle_commands.specs.AdvancePromise.{rest_declarations};
 
 use crate::advance_to::{AdvanceTo, Renaming};
 use advance_step::{Advanced, into_advanced};
-use command_courses::{Answer, Status, Stop, day_asked, file_at, stop_of};
+use command_courses::{Inputs, Stop, day_asked, stop_of};
 use command_words::{Advance, DayWord};
 use contract_parse::{ContractReader, NextContract};
 use contract_print::{print_beginning, print_contract};
@@ -265,17 +262,17 @@ pub fn carry(
     reader: &mut ContractReader<'_>,
     asked: &Advance<'_>,
     renaming: Option<Renaming<'_>>,
-    table: Option<&[u8]>,
+    table: &[u8],
 ) -> Result<Vec<u8>, Stop>
     requires begun { HasBegun (declarations choice.decls.now) reader.old }
-    requires table { IsShortTable (given_text table) }
+    requires table { length table.now ≤ longest_file }
     requires all { (selection choice).only ≡ None }
-    ensures { AnswersCarried choice.entry renaming.entry (advance_by asked.now)
-        (given_text table.entry) reader.old result }
+    ensures { AnswersCarried choice.entry renaming.entry (advance_by asked.now) (Some table.now)
+        reader.old result }
 {
     match new_day(alloc, choice.decls, asked.to) {
         Ok(day) => {
-            let fixings = fixings_over(alloc, &choice, reader, table)?;
+            let fixings = fixings_over(alloc, &choice, reader, Some(table))?;
             let to = AdvanceTo {
                 choice,
                 fixings: &fixings,
@@ -288,38 +285,15 @@ pub fn carry(
     }
 }
 
-/// What `advance` writes of a portfolio's text over the fixings of a table: what is due before the
+/// What `advance` writes of a portfolio over the fixings of a table: what is due before the
 /// new day, and the text of the portfolio that is left on it; or what stops it. Each contract is
 /// read, tried, advanced and dropped before the next.
-pub fn advance_text(
-    alloc: Global,
-    text: &[u8],
-    asked: &Advance<'_>,
-    table: Option<&[u8]>,
-) -> Result<Vec<u8>, Stop>
-    requires short { length text.now ≤ longest_file }
-    requires table { IsShortTable (given_text table) }
-    ensures { GoesDone (advance_of_text (advance_by asked.now) text.now
-        (given_text table.entry)) result }
+pub fn advance_text(alloc: Global, asked: &Advance<'_>, inputs: Inputs<'_>) -> Result<Vec<u8>, Stop>
+    ensures { GoesDone (advance_course (advance_by asked.now) (bytes_of inputs.entry.files.now))
+        result }
 {
-    let (decls, mut reader) = start_reading(alloc, text)?;
+    let (decls, mut reader) = start_reading(alloc, inputs)?;
     let setting = defaults(alloc, &decls)?;
     let choice = all_contracts(&decls, &setting, None);
-    carry(alloc, choice, &mut reader, asked, None, table)
-}
-
-/// What is due of a portfolio before a day, and what is left of it then.
-pub fn advance_answer(
-    alloc: Global,
-    asked: &Advance<'_>,
-    inputs: &[Vec<u8>],
-) -> Result<Answer, Stop>
-    requires { AreShort (bytes_of inputs.now) }
-    ensures { Goes (advance_course (advance_by asked.now) (bytes_of inputs.now)) result }
-{
-    let text = advance_text(alloc, file_at(inputs, 0), asked, Some(file_at(inputs, 1)))?;
-    Ok(Answer {
-        status: Status::Done,
-        text,
-    })
+    carry(alloc, choice, &mut reader, asked, None, inputs.file(1))
 }

@@ -9,5 +9,5 @@ mod advance_text;
 mod advance_to;
 mod novate_text;
 
-pub use advance_text::advance_answer;
-pub use novate_text::novate_answer;
+pub use advance_text::advance_text;
+pub use novate_text::novate_text;

@@ -1,12 +1,11 @@
 //! The command `check`.
 
-ghost use Rattle.std.specs.Prelude.{◌≡◌, ◌≤◌, IfOk, OnOk, length};
+ghost use Rattle.std.specs.Prelude.{◌≡◌, IfOk, OnOk};
 ghost use Rattle.term_model.specs.Declarations.{declarations};
 ghost use Rattle.term_model.specs.Terms.{contract};
 ghost use Rattle.term_model.specs.Instances.{declared_numbers};
-ghost use Rattle.term_model.specs.Limits.{longest_file};
 ghost use Rattle.contract_parse.specs.NextContracts.{IsSoundContract};
-ghost use Rattle.command_courses.specs.Inputs.{AreShort, bytes_of};
+ghost use Rattle.command_courses.specs.Inputs.{bytes_of, file_at};
 ghost use Rattle.command_courses.specs.Stopping.{Goes};
 ghost use Rattle.used_contracts.specs.ReadingParts.{HasBegun};
 ghost use Rattle.used_contracts.specs.UsedContracts.{at_defaults};
@@ -15,7 +14,7 @@ ghost use Rattle.text_commands.specs.CheckCourse.{check_course};
 ghost use Rattle.text_commands.specs.CheckParts.{AddsVerdict, AnswersAllVerdicts, AnswersCheck};
 ghost use Rattle.text_commands.specs.CheckParts.{AppendsVerdict};
 
-use command_courses::{Answer, Status, Stop, file_at};
+use command_courses::{Answer, Inputs, Status, Stop};
 use contract_parse::{ContractReader, NextContract};
 use decimal::NoMemory;
 use report::check_line;
@@ -89,23 +88,21 @@ fn all_verdicts(
     Ok(check)
 }
 
-/// The verdicts on the contracts of a text, in their order. Each contract is read, tried and
-/// dropped before the next.
-pub fn check_text(alloc: Global, text: &[u8]) -> Result<CheckText, Stop>
-    requires { length text.now ≤ longest_file }
-    ensures { AnswersCheck text.now result }
+// The verdicts on the contracts of a portfolio, in their order.
+fn verdicts(alloc: Global, inputs: Inputs<'_>) -> Result<CheckText, Stop>
+    ensures { AnswersCheck (file_at (bytes_of inputs.entry.files.now) 0) result }
 {
-    let (decls, reader) = start_reading(alloc, text)?;
+    let (decls, reader) = start_reading(alloc, inputs)?;
     let setting = defaults(alloc, &decls)?;
     all_verdicts(alloc, &decls, &setting, reader)
 }
 
-/// The verdicts on the contracts of a portfolio.
-pub fn check_answer(alloc: Global, inputs: &[Vec<u8>]) -> Result<Answer, Stop>
-    requires { AreShort (bytes_of inputs.now) }
-    ensures { Goes (check_course (bytes_of inputs.now)) result }
+/// What `check` answers: the verdicts on the contracts of a portfolio, with the status that says
+/// whether all are accepted. Each contract is read, tried and dropped before the next.
+pub fn check_text(alloc: Global, inputs: Inputs<'_>) -> Result<Answer, Stop>
+    ensures { Goes (check_course (bytes_of inputs.entry.files.now)) result }
 {
-    let check = check_text(alloc, file_at(inputs, 0))?;
+    let check = verdicts(alloc, inputs)?;
     let status = if check.all_accepted {
         Status::Done
     } else {

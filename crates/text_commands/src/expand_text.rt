@@ -1,24 +1,22 @@
 //! The command `expand`: the contract that each plan is written for is made, tried, printed and
 //! dropped before the next.
 
-ghost use Rattle.std.specs.Prelude.{◌≤◌, length, map};
-ghost use Rattle.term_model.specs.Limits.{longest_file};
+ghost use Rattle.std.specs.Prelude.{map};
 ghost use Rattle.term_model.specs.Declarations.{declarations};
-ghost use Rattle.contract_print.specs.Spellable.{IsSpellableBook};
 ghost use Rattle.contract_grammar.specs.Writable.{IsWritableTerm};
-ghost use Rattle.schedule_forms.specs.PlanBooks.{plan_book, expanded_book};
+ghost use Rattle.schedule_forms.specs.PlanBooks.{plan_book};
 ghost use Rattle.schedule_forms.specs.DeclaredPlans.{IsPlanOfTexts};
 ghost use Rattle.schedule_forms.specs.Expansions.{expansion};
-ghost use Rattle.command_courses.specs.Inputs.{AreShort, bytes_of};
-ghost use Rattle.command_courses.specs.Stopping.{AnswersBy, AnswersStage, Goes, GoesDone};
+ghost use Rattle.command_courses.specs.Inputs.{bytes_of, file_at};
+ghost use Rattle.command_courses.specs.Stopping.{AnswersBy, AnswersStage, GoesDone};
 ghost use Rattle.used_contracts.specs.AllAccepted.{IsRefusedOf};
-ghost use Rattle.text_commands.specs.ExpandCourse.{expand_course, expand_on};
+ghost use Rattle.text_commands.specs.ExpandCourse.{expand_course};
 ghost use Rattle.text_commands.specs.ExpandParts.{AnswersExpansion, AnswersLine, ArePlansOfTexts};
 ghost use Rattle.text_commands.specs.ExpandParts.{ArePrintedExpansions, AreWritableExpansions};
 ghost use Rattle.text_commands.specs.ExpandParts.{expanded_entry};
 ghost use Rattle.text_commands.specs.ExpandStages.{plans_of};
 
-use command_courses::{Answer, Status, Stop, file_at};
+use command_courses::{Inputs, Stop};
 use contract_print::{print_beginning, print_contract};
 use indexmap::IndexMap;
 use schedule_forms::{Plan, PlanFile, expand, parse_plans};
@@ -26,12 +24,12 @@ use std::alloc::Global;
 use term_model::{Contr, Decls, Name};
 use used_contracts::accept_named;
 
-/// The schedule file of a text.
-pub fn plans_of(alloc: Global, bytes: &[u8]) -> Result<PlanFile, Stop>
-    requires { length bytes.now ≤ longest_file }
-    ensures { AnswersStage (plans_of bytes.now) plan_book result }
+// The schedule file of a command's first file.
+fn plans_of(alloc: Global, inputs: Inputs<'_>) -> Result<PlanFile, Stop>
+    ensures { AnswersStage (plans_of (file_at (bytes_of inputs.entry.files.now) 0)) plan_book
+        result }
 {
-    let file = parse_plans(alloc, bytes)?;
+    let file = parse_plans(alloc, inputs.file(0))?;
     Ok(file)
 }
 
@@ -87,23 +85,9 @@ fn expansions_text(
 
 /// What `expand` writes of a schedule file: the text of the portfolio of the contracts that its
 /// plans are written for; or the fault of the first of them that is not accepted.
-pub fn expand_text(alloc: Global, file: PlanFile) -> Result<Vec<u8>, Stop>
-    requires plans { ArePlansOfTexts (declarations file.decls) file.plans.entries }
-    requires spellable { IsSpellableBook (expanded_book (plan_book file)) }
-    ensures { GoesDone (expand_on (plan_book file)) result }
+pub fn expand_text(alloc: Global, inputs: Inputs<'_>) -> Result<Vec<u8>, Stop>
+    ensures { GoesDone (expand_course (bytes_of inputs.entry.files.now)) result }
 {
+    let file = plans_of(alloc, inputs)?;
     expansions_text(alloc, &file.decls, &file.plans)
-}
-
-/// The text of the portfolio that a schedule file stands for.
-pub fn expand_answer(alloc: Global, inputs: &[Vec<u8>]) -> Result<Answer, Stop>
-    requires { AreShort (bytes_of inputs.now) }
-    ensures { Goes (expand_course (bytes_of inputs.now)) result }
-{
-    let file = plans_of(alloc, file_at(inputs, 0))?;
-    let text = expand_text(alloc, file)?;
-    Ok(Answer {
-        status: Status::Done,
-        text,
-    })
 }

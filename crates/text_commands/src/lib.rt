@@ -9,7 +9,7 @@ mod expand_text;
 mod migrate_text;
 mod payoff_text;
 
-pub use check_text::check_answer;
-pub use expand_text::expand_answer;
-pub use migrate_text::migrate_answer;
-pub use payoff_text::payoff_answer;
+pub use check_text::check_text;
+pub use expand_text::expand_text;
+pub use migrate_text::migrated_text;
+pub use payoff_text::payoff_text;

@@ -1,20 +1,19 @@
 //! The command `migrate`.
 
-ghost use Rattle.std.specs.Prelude.{◌≡◌, ◌≤◌, ◌++◌, [], OnOk, length};
+ghost use Rattle.std.specs.Prelude.{◌≡◌, ◌++◌, [], OnOk};
 ghost use Rattle.term_model.specs.Declarations.{declarations};
-ghost use Rattle.term_model.specs.Limits.{longest_file};
 ghost use Rattle.term_model.specs.Terms.{contract};
 ghost use Rattle.contract_grammar.specs.Names.{declared_by};
 ghost use Rattle.contract_print.specs.Canon.{contract_text};
 ghost use Rattle.contract_print.specs.Migrated.{in_version_two};
 ghost use Rattle.contract_grammar.specs.Writable.{IsWritableTerm};
-ghost use Rattle.command_courses.specs.Inputs.{AreShort, bytes_of};
-ghost use Rattle.command_courses.specs.Stopping.{Goes, GoesDone};
+ghost use Rattle.command_courses.specs.Inputs.{bytes_of};
+ghost use Rattle.command_courses.specs.Stopping.{GoesDone};
 ghost use Rattle.used_contracts.specs.ReadingParts.{HasBegun};
-ghost use Rattle.text_commands.specs.MigrateCourse.{migrate_course, migrate_of_text};
+ghost use Rattle.text_commands.specs.MigrateCourse.{migrate_course};
 ghost use Rattle.text_commands.specs.MigrateParts.{AnswersMigrated};
 
-use command_courses::{Answer, Status, Stop, file_at};
+use command_courses::{Inputs, Stop};
 use contract_parse::{ContractReader, NextContract};
 use contract_print::{print_beginning, print_contract};
 use decimal::NoMemory;
@@ -72,25 +71,12 @@ fn printed_with(
     Ok(text)
 }
 
-/// What `migrate` writes of a portfolio's text: the text of the same portfolio in version 2; or the
-/// fault of the text. Each contract is read, printed and dropped before the next.
-pub fn migrated_text(alloc: Global, text: &[u8]) -> Result<Vec<u8>, Stop>
-    requires { length text.now ≤ longest_file }
-    ensures { GoesDone (migrate_of_text text.now) result }
+/// What `migrate` writes of a portfolio: its text in version 2; or the fault of the text. Each
+/// contract is read, printed and dropped before the next.
+pub fn migrated_text(alloc: Global, inputs: Inputs<'_>) -> Result<Vec<u8>, Stop>
+    ensures { GoesDone (migrate_course (bytes_of inputs.entry.files.now)) result }
 {
-    let (decls, mut reader) = start_reading(alloc, text)?;
+    let (decls, mut reader) = start_reading(alloc, inputs)?;
     let two = in_version_two(decls.copy(alloc)?);
     printed_with(alloc, &two, &decls, &mut reader)
-}
-
-/// The text of a portfolio in version 2.
-pub fn migrate_answer(alloc: Global, inputs: &[Vec<u8>]) -> Result<Answer, Stop>
-    requires { AreShort (bytes_of inputs.now) }
-    ensures { Goes (migrate_course (bytes_of inputs.now)) result }
-{
-    let text = migrated_text(alloc, file_at(inputs, 0))?;
-    Ok(Answer {
-        status: Status::Done,
-        text,
-    })
 }

@@ -1,8 +1,7 @@
 //! The command `payoff`.
 
-ghost use Rattle.std.specs.Prelude.{◌≡◌, ◌≤◌, [], ◌∷◌, IfOk, length};
+ghost use Rattle.std.specs.Prelude.{◌≡◌, [], ◌∷◌, IfOk};
 ghost use Rattle.term_model.specs.Declarations.{at_one_scale, declarations};
-ghost use Rattle.term_model.specs.Limits.{longest_file};
 ghost use Rattle.term_model.specs.Terms.{contract};
 ghost use Rattle.term_model.specs.WellFormed.{IsClosed};
 ghost use Rattle.contract_parse.specs.NextContracts.{IsSoundContract};
@@ -12,15 +11,15 @@ ghost use Rattle.payoff_terms.specs.CodeBooks.{code_book};
 ghost use Rattle.payoff_lang.specs.CodeCanon.{IsCanonOfCode};
 ghost use Rattle.payoff_terms.specs.WritableCode.{IsWritableCode};
 ghost use Rattle.command_words.specs.Words.{payoff_by};
-ghost use Rattle.command_courses.specs.Inputs.{AreShort, bytes_of};
-ghost use Rattle.command_courses.specs.Stopping.{Goes, GoesDone};
+ghost use Rattle.command_courses.specs.Inputs.{bytes_of};
+ghost use Rattle.command_courses.specs.Stopping.{GoesDone};
 ghost use Rattle.used_contracts.specs.AcceptingParts.{AnswersAcceptedOne};
 ghost use Rattle.used_contracts.specs.UsedContracts.{at_defaults};
-ghost use Rattle.text_commands.specs.PayoffCourse.{payoff_course, payoff_of, payoff_of_text};
+ghost use Rattle.text_commands.specs.PayoffCourse.{payoff_course, payoff_of};
 ghost use Rattle.text_commands.specs.PayoffParts.{AnswersKeptNamed, AnswersNamed, IsKept};
 ghost use Rattle.text_commands.specs.PayoffPromise.{IsAcceptedAtDefaults, code_asked, file_of};
 
-use command_courses::{Answer, Status, Stop, file_at};
+use command_courses::{Inputs, Stop};
 use command_words::Payoff;
 use contract_parse::{ContractReader, NextContract};
 use decimal::NoMemory;
@@ -158,26 +157,14 @@ fn payoff_of(
     Ok(text)
 }
 
-/// What `payoff` writes of the named contract of a portfolio's text: the code of the contract as it
+/// What `payoff` writes of the named contract of a portfolio: the code of the contract as it
 /// is written, under its name and behind the portfolio's declarations; or what stops it. The other
 /// contracts are read and dropped, and an instance is made only to be tried.
-pub fn payoff_text(alloc: Global, text: &[u8], asked: &Payoff<'_>) -> Result<Vec<u8>, Stop>
-    requires { length text.now ≤ longest_file }
-    ensures { GoesDone (payoff_of_text (payoff_by asked.now) text.now) result }
+pub fn payoff_text(alloc: Global, asked: &Payoff<'_>, inputs: Inputs<'_>) -> Result<Vec<u8>, Stop>
+    ensures { GoesDone (payoff_course (payoff_by asked.now) (bytes_of inputs.entry.files.now))
+        result }
 {
-    let (decls, reader) = start_reading(alloc, text)?;
+    let (decls, reader) = start_reading(alloc, inputs)?;
     let contr = contract_named(alloc, &decls, reader, asked.contract)?;
     payoff_of(alloc, &decls, contr, asked)
-}
-
-/// The code of a contract of a portfolio.
-pub fn payoff_answer(alloc: Global, asked: &Payoff<'_>, inputs: &[Vec<u8>]) -> Result<Answer, Stop>
-    requires { AreShort (bytes_of inputs.now) }
-    ensures { Goes (payoff_course (payoff_by asked.now) (bytes_of inputs.now)) result }
-{
-    let text = payoff_text(alloc, file_at(inputs, 0), asked)?;
-    Ok(Answer {
-        status: Status::Done,
-        text,
-    })
 }

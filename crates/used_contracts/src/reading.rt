@@ -1,25 +1,27 @@
 //! The contracts of a portfolio's text, read one at a time.
 
-ghost use Rattle.std.specs.Prelude.{◌≡◌, ◌≤◌, IfOk, length};
+ghost use Rattle.std.specs.Prelude.{◌≡◌, IfOk};
 ghost use Rattle.term_model.specs.Declarations.{declarations};
 ghost use Rattle.term_model.specs.Instances.{HasNumbers, HasSmallSums, IsSetting, instance};
-ghost use Rattle.term_model.specs.Limits.{longest_file};
 ghost use Rattle.term_model.specs.Terms.{contract};
+ghost use Rattle.command_courses.specs.Inputs.{bytes_of, file_at};
 ghost use Rattle.used_contracts.specs.ReadingParts.{LeavesLess, ReadsNext, StartsReading};
 
-use command_courses::Stop;
+use command_courses::{Inputs, Stop};
 use contract_parse::{ContractReader, NextContract, next_contract, start_contracts};
 use decimal::NoMemory;
 use std::alloc::Global;
 use term_core::{has_only_numbers, instantiate};
 use term_model::{Contr, Decls, Setting};
 
-/// The declarations of a text, and a reader that stands before its first contract.
-pub fn start_reading<'a>(alloc: Global, text: &'a [u8]) -> Result<(Decls, ContractReader<'a>), Stop>
-    requires { length text.now ≤ longest_file }
-    ensures { StartsReading text.entry.now result }
+/// The declarations of a command's first file, and a reader that stands before its first contract.
+pub fn start_reading<'a>(
+    alloc: Global,
+    inputs: Inputs<'a>,
+) -> Result<(Decls, ContractReader<'a>), Stop>
+    ensures { StartsReading (file_at (bytes_of inputs.entry.files.now) 0) result }
 {
-    let start = start_contracts(alloc, text)?;
+    let start = start_contracts(alloc, inputs.file(0))?;
     Ok(start)
 }
 

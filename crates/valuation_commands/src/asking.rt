@@ -1,19 +1,18 @@
 //! The code of a file, and what the words ask of it: at which setting, on which day, between whom;
 //! and the curve of a table.
 
-ghost use Rattle.std.specs.Prelude.{◌≤◌, length};
-ghost use Rattle.term_model.specs.Limits.{longest_file};
 ghost use Rattle.fixing_files.specs.CurveTables.{HoldsCurve};
 ghost use Rattle.fixing_files.specs.Tables.{table_of};
 ghost use Rattle.payoff_terms.specs.CodeBooks.{code_book};
 ghost use Rattle.command_words.specs.Words.{value_by};
+ghost use Rattle.command_courses.specs.Inputs.{bytes_of, file_at};
 ghost use Rattle.command_courses.specs.Stopping.{AnswersBy};
 ghost use Rattle.valuation_commands.specs.ValueParts.{AnswersAsking, IsAcceptedUpTo, IsReadFrom};
 ghost use Rattle.valuation_commands.specs.ValueParts.{IsReadable};
 ghost use Rattle.valuation_commands.specs.ValueStages.{IsBadCode, IsCurveFault, IsRefusedCode};
 
 use crate::value_names::{Parties, know_names, setting_of};
-use command_courses::{Stop, day_asked};
+use command_courses::{Inputs, Stop, day_asked};
 use command_words::Value;
 use decimal::align;
 use fixing_files::{Curve, RowErr, read_curve};
@@ -25,13 +24,13 @@ use report::Fault;
 use std::alloc::Global;
 use term_model::{CheckErr, Setting};
 
-/// The code file of a text.
-pub fn code_of(alloc: Global, bytes: &[u8]) -> Result<CodeFile, Stop>
-    requires { length bytes.now ≤ longest_file }
-    ensures { AnswersBy (λ file. IsReadFrom bytes.now (code_book file)) (IsBadCode bytes.now)
-        result }
+/// The code file of a command's first file.
+pub fn code_of(alloc: Global, inputs: Inputs<'_>) -> Result<CodeFile, Stop>
+    ensures { AnswersBy
+        (λ file. IsReadFrom (file_at (bytes_of inputs.entry.files.now) 0) (code_book file))
+        (IsBadCode (file_at (bytes_of inputs.entry.files.now) 0)) result }
 {
-    let file = parse_code(alloc, bytes)?;
+    let file = parse_code(alloc, inputs.file(0))?;
     Ok(file)
 }
 
@@ -80,12 +79,12 @@ pub fn asking_of(alloc: Global, file: &CodeFile, value: &Value<'_>) -> Result<As
     })
 }
 
-/// The curve of a table.
-pub fn curve_of(alloc: Global, bytes: &[u8]) -> Result<Curve, Stop>
-    requires { length bytes.now ≤ longest_file }
-    ensures { AnswersBy (HoldsCurve (table_of bytes.now)) (IsCurveFault bytes.now 3) result }
+/// The curve of a command's third file.
+pub fn curve_of(alloc: Global, inputs: Inputs<'_>) -> Result<Curve, Stop>
+    ensures { AnswersBy (HoldsCurve (table_of (file_at (bytes_of inputs.entry.files.now) 2)))
+        (IsCurveFault (file_at (bytes_of inputs.entry.files.now) 2) 3) result }
 {
-    match read_curve(alloc, bytes) {
+    match read_curve(alloc, inputs.file(2)) {
         Ok(curve) => Ok(curve),
         Err(RowErr::Row(fault)) => Err(Stop::Fault(Fault::Row { place: 3, fault })),
         Err(RowErr::NoMemory) => Err(Stop::NoMemory),

@@ -9,5 +9,5 @@ mod scenarios_text;
 mod value_names;
 mod value_text;
 
-pub use scenarios_text::scenarios_answer;
-pub use value_text::value_answer;
+pub use scenarios_text::scenarios_text;
+pub use value_text::value_text;

@@ -1,24 +1,23 @@
 //! The command `scenarios`.
 
-ghost use Rattle.std.specs.Prelude.{◌≡◌, ◌≤◌, ◌+◌, IfOk, length};
+ghost use Rattle.std.specs.Prelude.{◌≡◌, ◌≤◌, ◌+◌, IfOk};
 ghost use Rattle.term_model.specs.Declarations.{declarations};
-ghost use Rattle.term_model.specs.Limits.{longest_file};
 ghost use Rattle.payoff_terms.specs.CodeBooks.{code_book};
 ghost use Rattle.scenario_set.specs.Scenarios.{AreAdmitted};
 ghost use Rattle.scenario_set.specs.TotalLines.{CanBeWritten, total_text};
 ghost use Rattle.report.specs.declared.fault_lines.Fault.TheVariants as fault;
 ghost use Rattle.command_words.specs.Words.{scenarios_by};
-ghost use Rattle.command_courses.specs.Inputs.{AreShort, bytes_of};
+ghost use Rattle.command_courses.specs.Inputs.{bytes_of, file_at};
 ghost use Rattle.command_courses.specs.Names.{label_name};
-ghost use Rattle.command_courses.specs.Stopping.{Goes, GoesDone};
+ghost use Rattle.command_courses.specs.Stopping.{GoesDone};
 ghost use Rattle.valuation_commands.specs.ScenarioParts.{AnswersSet, AnswersTotalsOf};
 ghost use Rattle.valuation_commands.specs.ScenarioParts.{IsStopOfTotals, LacksInOne, by_factors};
 ghost use Rattle.valuation_commands.specs.ScenarioParts.{totals_by_curve, totals_by_tables};
-ghost use Rattle.valuation_commands.specs.ScenariosCourse.{scenarios_course, scenarios_on};
+ghost use Rattle.valuation_commands.specs.ScenariosCourse.{scenarios_course};
 ghost use Rattle.valuation_commands.specs.ValueParts.{IsReadable, MayAsk, inquiry_of, most_of};
 
 use crate::asking::{Asking, asking_of, code_of, curve_of};
-use command_courses::{Answer, Status, Stop, file_at, label_name};
+use command_courses::{Inputs, Stop, label_name};
 use command_words::Scenarios as Asked;
 use decimal::{Mode, NoMemory};
 use fixing_files::{Curve, RowErr};
@@ -28,12 +27,12 @@ use scenario_set::{Scenarios, Totals, TotalsErr, read_scenarios, total_lines, to
 use std::alloc::Global;
 use term_model::{Decls, Name};
 
-// The scenarios of a table.
-fn scenarios_of(alloc: Global, decls: &Decls, bytes: &[u8]) -> Result<Scenarios, Stop>
-    requires { length bytes.now ≤ longest_file }
-    ensures { AnswersSet (declarations decls.now) bytes.now result }
+// The scenarios of the second file.
+fn scenarios_of(alloc: Global, decls: &Decls, inputs: Inputs<'_>) -> Result<Scenarios, Stop>
+    ensures { AnswersSet (declarations decls.now) (file_at (bytes_of inputs.entry.files.now) 1)
+        result }
 {
-    match read_scenarios(alloc, bytes, decls) {
+    match read_scenarios(alloc, inputs.file(1), decls) {
         Ok(set) => Ok(set),
         Err(RowErr::Row(fault)) => Err(Stop::Fault(Fault::Row { place: 2, fault })),
         Err(RowErr::NoMemory) => Err(Stop::NoMemory),
@@ -129,82 +128,54 @@ fn lines_of(
     Ok(text)
 }
 
-// The lines over scenarios and the curve of a table.
+// The lines over scenarios and the curve of the third file.
 fn by_curve(
     alloc: Global,
     file: &CodeFile,
     asking: &Asking,
     set: &Scenarios,
     mean: Mode,
-    curve: &[u8],
+    inputs: Inputs<'_>,
 ) -> Result<Vec<u8>, Stop>
     requires readable { IsReadable (code_book file.now) }
     requires asks { MayAsk (inquiry_of file.now asking.now) }
     requires most { asking.now.most ≡ most_of (code_book file.now) }
     requires admitted { AreAdmitted (declarations file.now.decls) set.now }
-    requires short { length curve.now ≤ longest_file }
-    ensures { GoesDone (totals_by_curve (inquiry_of file.now asking.now) set.now mean curve.now)
-        result }
+    ensures { GoesDone (totals_by_curve (inquiry_of file.now asking.now) set.now mean
+        (file_at (bytes_of inputs.entry.files.now) 2)) result }
 {
-    let curve = curve_of(alloc, curve)?;
+    let curve = curve_of(alloc, inputs)?;
     let totals = totals_of(alloc, file, asking, set, &curve)?;
     let text = lines_of(alloc, set, &totals, mean, file.decls.amounts)?;
     Ok(text)
 }
 
-// The same over the scenarios of another table.
+// The same over the scenarios of the second file.
 fn by_tables(
     alloc: Global,
     file: &CodeFile,
     asking: &Asking,
     mean: Mode,
-    table: &[u8],
-    curve: &[u8],
+    inputs: Inputs<'_>,
 ) -> Result<Vec<u8>, Stop>
     requires readable { IsReadable (code_book file.now) }
     requires asks { MayAsk (inquiry_of file.now asking.now) }
     requires most { asking.now.most ≡ most_of (code_book file.now) }
-    requires table { length table.now ≤ longest_file }
-    requires curve { length curve.now ≤ longest_file }
-    ensures { GoesDone (totals_by_tables (inquiry_of file.now asking.now) mean table.now curve.now)
-        result }
+    ensures { GoesDone (totals_by_tables (inquiry_of file.now asking.now) mean
+        (file_at (bytes_of inputs.entry.files.now) 1)
+        (file_at (bytes_of inputs.entry.files.now) 2)) result }
 {
-    let set = scenarios_of(alloc, &file.decls, table)?;
-    by_curve(alloc, file, asking, &set, mean, curve)
+    let set = scenarios_of(alloc, &file.decls, inputs)?;
+    by_curve(alloc, file, asking, &set, mean, inputs)
 }
 
 /// The lines of what a code file is worth in each scenario of a table, and of the total; or what
 /// stops the command.
-pub fn scenarios_text(
-    alloc: Global,
-    file: &CodeFile,
-    asked: &Asked<'_>,
-    table: &[u8],
-    curve: &[u8],
-) -> Result<Vec<u8>, Stop>
-    requires readable { IsReadable (code_book file.now) }
-    requires table { length table.now ≤ longest_file }
-    requires curve { length curve.now ≤ longest_file }
-    ensures { GoesDone
-        (scenarios_on (scenarios_by asked.now) (code_book file.now) table.now curve.now) result }
+pub fn scenarios_text(alloc: Global, asked: &Asked<'_>, inputs: Inputs<'_>) -> Result<Vec<u8>, Stop>
+    ensures { GoesDone (scenarios_course (scenarios_by asked.now) (bytes_of inputs.entry.files.now))
+        result }
 {
-    let asking = asking_of(alloc, file, &asked.value)?;
-    by_tables(alloc, file, &asking, asked.mean, table, curve)
-}
-
-/// The lines of what a code file is worth in scenarios.
-pub fn scenarios_answer(
-    alloc: Global,
-    asked: &Asked<'_>,
-    inputs: &[Vec<u8>],
-) -> Result<Answer, Stop>
-    requires { AreShort (bytes_of inputs.now) }
-    ensures { Goes (scenarios_course (scenarios_by asked.now) (bytes_of inputs.now)) result }
-{
-    let file = code_of(alloc, file_at(inputs, 0))?;
-    let text = scenarios_text(alloc, &file, asked, file_at(inputs, 1), file_at(inputs, 2))?;
-    Ok(Answer {
-        status: Status::Done,
-        text,
-    })
+    let file = code_of(alloc, inputs)?;
+    let asking = asking_of(alloc, &file, &asked.value)?;
+    by_tables(alloc, &file, &asking, asked.mean, inputs)
 }

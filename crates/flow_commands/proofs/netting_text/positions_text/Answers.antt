@@ -1,7 +1,7 @@
 use Rattle.std.proofs.Common.{ℕ, List, [], subst, sym}
 use Rattle.term_model.specs.Declarations.{declarations}
-use Rattle.command_words.specs.Arguments.{given_text}
 use Rattle.command_words.specs.Words.{netting_by}
+use Rattle.command_courses.specs.Inputs.{bytes_of}
 use Rattle.flow_commands.specs.NettingParts.{AppendsPositions}
 use Rattle.flow_commands.specs.NettingPromise.{ArePositionLines, TellsPositions}
 use Rattle.flow_commands.proofs.NettingFacts.{due_positions, net_can_be_added_up, positions_of_net, stopped_without_net, told_of_net}
@@ -9,7 +9,7 @@ use Rattle.flow_commands.proofs.netting_text.positions_text.Goals as goal
 
 pub returns-in_err-decls : goal.returns-in_err-decls
 returns-in_err-decls c =
-    stopped_without_net TellsPositions (netting_by c.args.asked.now) c.args.text.now (given_text c.args.table) c.in_err-decls.field-0.0 c.from_residual.result
+    stopped_without_net TellsPositions (netting_by c.args.asked.now) (bytes_of c.args.inputs.files.now) c.in_err-decls.field-0.0 c.from_residual.result
     c.in_err-decls.ensures c.from_residual.ensures.1
 
 pub positions-requires : goal.positions-requires
@@ -38,4 +38,4 @@ returns c =
       positions = found;
       lines = subst (λ (t : List ℕ). ArePositionLines d rows t) (sym lines.appended) lines.lines;
     } in
-    told_of_net TellsPositions (netting_by c.args.asked.now) c.args.text.now (given_text c.args.table) d c.in_ok-decls.net text h told
+    told_of_net TellsPositions (netting_by c.args.asked.now) (bytes_of c.args.inputs.files.now) d c.in_ok-decls.net text h told

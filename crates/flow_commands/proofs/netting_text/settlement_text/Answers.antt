@@ -1,8 +1,8 @@
 use Rattle.std.proofs.Common.{ℕ, List, [], subst, sym}
 use Rattle.std.specs.Prelude.{codes}
 use Rattle.term_model.specs.Declarations.{declarations}
-use Rattle.command_words.specs.Arguments.{given_text}
 use Rattle.command_words.specs.Words.{netting_by}
+use Rattle.command_courses.specs.Inputs.{bytes_of}
 use Rattle.flow_commands.specs.FlowsParts.{AppendsLines}
 use Rattle.flow_commands.specs.FlowsPromise.{AreLines}
 use Rattle.flow_commands.specs.NettingPromise.{TellsSettlement}
@@ -11,7 +11,7 @@ use Rattle.flow_commands.proofs.netting_text.settlement_text.Goals as goal
 
 pub returns-in_err-decls : goal.returns-in_err-decls
 returns-in_err-decls c =
-    stopped_without_net TellsSettlement (netting_by c.args.asked.now) c.args.text.now (given_text c.args.table) c.in_err-decls.field-0.0 c.from_residual.result
+    stopped_without_net TellsSettlement (netting_by c.args.asked.now) (bytes_of c.args.inputs.files.now) c.in_err-decls.field-0.0 c.from_residual.result
     c.in_err-decls.ensures c.from_residual.ensures.1
 
 pub positions-requires : goal.positions-requires
@@ -56,4 +56,4 @@ returns c =
       in_turn = c.in_ok-settled.ensures.in_turn tables found;
       lines = subst (λ (t : List ℕ). AreLines d (codes "*") rows t) (sym lines.appended) lines.lines;
     } in
-    told_of_net TellsSettlement (netting_by c.args.asked.now) c.args.text.now (given_text c.args.table) d c.in_ok-decls.net text h told
+    told_of_net TellsSettlement (netting_by c.args.asked.now) (bytes_of c.args.inputs.files.now) d c.in_ok-decls.net text h told

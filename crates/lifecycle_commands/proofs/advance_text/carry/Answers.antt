@@ -1,5 +1,5 @@
-use Rattle.std.proofs.Common.{◌≡◌, ℕ, List, Bor, subst, sym}
-use Rattle.std.specs.Prelude.{Option, option_map}
+use Rattle.std.proofs.Common.{◌≡◌, ℕ, subst, sym}
+use Rattle.std.specs.Prelude.{Some}
 use Rattle.std.specs.Global.{Vec}
 use Rattle.term_model.specs.Declarations.{declarations}
 use Rattle.contract_parse.specs.declared.next_contracts.ContractReader.{ContractReader}
@@ -15,9 +15,6 @@ use Rattle.used_contracts.proofs.ChoosingFacts.{stop_answers, stops_too}
 use Rattle.command_courses.proofs.StopFacts.{handed_on}
 use Rattle.lifecycle_commands.proofs.advance_text.carry.Goals as goal
 
-abbrev given : Option (Bor (List ℕ)) → Option (List ℕ)
-given table = option_map (λ (bytes : Bor (List ℕ)). bytes.now) table
-
 pub left_text-requires-clause-begun : goal.left_text-requires-clause-begun
 left_text-requires-clause-begun c =
     let text = c.requires.begun.0 in
@@ -32,7 +29,7 @@ returns-in_err-fixings-in-Ok c = λ text begun.
     let d = declarations choice.decls.now in
     let s = selection choice in
     let asked = advance_by c.args.asked.now in
-    let table = given c.args.table in
+    let table = Some c.args.table.now in
     handed_on (HoldsFixings d table) (λ (out : Vec ℕ). IsCarriedText text choice c.args.renaming asked table out.items)
     (StopsIn text d (λ b. StopsOn b s (IsRowFault d table 2))) (StopsIn text d (StopsCarry s asked table))
     (stops_at_row text choice asked table c.requires.all c.in-Ok.day c.in-Ok.ensures)
@@ -42,7 +39,7 @@ pub returns-in_ok-fixings-in-Ok : goal.returns-in_ok-fixings-in-Ok
 returns-in_ok-fixings-in-Ok c = λ text begun.
     let choice = c.args.choice in
     let here = subst (λ (r : ContractReader). IsBegun text (declarations choice.decls.now) r) (sym c.in_ok-fixings-in-Ok.ensures.unread) begun in
-    carries text _ (advance_by c.args.asked.now) (given c.args.table) c.requires.all c.in-Ok.ensures (c.in_ok-fixings-in-Ok.ensures.over text begun)
+    carries text _ (advance_by c.args.asked.now) (Some c.args.table.now) c.requires.all c.in-Ok.ensures (c.in_ok-fixings-in-Ok.ensures.over text begun)
     c.left_text.result (c.left_text.ensures text here)
 
 pub returns-in-Err : goal.returns-in-Err
@@ -51,7 +48,7 @@ returns-in-Err c = λ text begun.
     let d = declarations choice.decls.now in
     let s = selection choice in
     let asked = advance_by c.args.asked.now in
-    let table = given c.args.table in
+    let table = Some c.args.table.now in
     let own = c.in-Err.stop in
     stop_answers (λ (out : Vec ℕ). IsCarriedText text choice c.args.renaming asked table out.items) (StopsIn text d (StopsCarry s asked table)) c.behind_names.result
     (stops_too (StopsIn text d (λ b. StopsByName b s (λ f. own ≡ stop.Fault f))) (StopsIn text d (StopsCarry s asked table))

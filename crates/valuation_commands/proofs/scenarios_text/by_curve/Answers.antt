@@ -1,6 +1,7 @@
 use Rattle.std.proofs.Common.{ℕ, inr, refl}
 use Rattle.std.specs.Global.{Vec}
 use Rattle.command_courses.specs.Course.{Stops, Tells}
+use Rattle.command_courses.specs.Inputs.{bytes_of, file_at}
 use Rattle.valuation_commands.specs.ScenarioParts.{AreTotalsFound, HaveNoTotal, by_factors, totals_by_curve}
 use Rattle.valuation_commands.specs.ValueParts.{inquiry_of}
 use Rattle.command_courses.specs.declared.status.Status.TheVariants as status
@@ -13,7 +14,7 @@ returns-in_err-totals c =
     let q = inquiry_of c.args.file.now c.args.asking.now in
     let set = c.args.set.now in
     let factors = c.in_ok-curve.curve in
-    let course = totals_by_curve q set c.args.mean c.args.curve.now in
+    let course = totals_by_curve q set c.args.mean (file_at (bytes_of c.args.inputs.files.now) 2) in
     handed_on (AreTotalsFound (by_factors q factors) set) (λ (text : Vec ℕ). Tells course status.Done text.items) (HaveNoTotal (by_factors q factors) set) (Stops course)
     (λ f h. inr (factors, c.in_ok-curve.ensures, no_total (by_factors q factors) set c.args.mean f h)) c.in_err-totals.field-0.0 c.from_residual-in_err-totals.result c.in_err-totals.ensures c.from_residual-in_err-totals.ensures.1
 
