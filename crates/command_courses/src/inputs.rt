@@ -6,6 +6,16 @@ ghost use Rattle.command_words.specs.Arguments.{given_text};
 ghost use Rattle.command_courses.specs.FixingTables.{IsShortTable};
 ghost use Rattle.command_courses.specs.Inputs.{AreShort, bytes_of, file_at, table_if_named};
 
+// The bytes of the file at an index, none where there is none.
+fn file_at(files: &[Vec<u8>], index: usize) -> &[u8]
+    ensures { result.now ≡ file_at (bytes_of files.now) index }
+{
+    match files.get(index) {
+        Some(bytes) => bytes.as_slice(),
+        None => &[],
+    }
+}
+
 /// The files of a command in their order, none of them longer than 16,777,216 bytes.
 #[derive(Clone, Copy)]
 pub struct Inputs<'a> {
@@ -19,10 +29,7 @@ impl<'a> Inputs<'a> {
         ensures is { result.now ≡ file_at (bytes_of self.entry.files.now) index }
         ensures short { length result.now ≤ longest_file }
     {
-        match self.files.get(index) {
-            Some(bytes) => bytes.as_slice(),
-            None => &[],
-        }
+        file_at(self.files, index)
     }
 
     /// The table of the fixings, if the words name one: the second file.
