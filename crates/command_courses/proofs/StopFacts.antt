@@ -1,5 +1,5 @@
 -- A fault that stops a part of a command stops the whole, and its line is the answer of the command.
-use Rattle.std.proofs.Common.{◌≡◌, ◌∙◌, ℕ, ap, subst, sym}
+use Rattle.std.proofs.Common.{◌≡◌, ◌∙◌, inr, ℕ, ap, subst, sym}
 use Rattle.std.specs.Prelude.{Result, Ok, Err, IsErrAnd, IfOk}
 use Rattle.std.specs.Global.{Vec}
 use Rattle.std.proofs.lemmas.Result.{err_from_is_err_and}
