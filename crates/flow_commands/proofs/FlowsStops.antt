@@ -29,8 +29,8 @@ use Rattle.command_courses.specs.Stopping.{AnswersBy, GoesDone}
 use Rattle.used_contracts.specs.UsedContracts.{used}
 use Rattle.flow_commands.specs.declared.flows_until.FlowsUntil.{FlowsUntil}
 use Rattle.used_contracts.specs.declared.choosing.Tried.{Tried}
-use Rattle.flow_commands.specs.declared.flows_text.KeptFlows.{KeptFlows}
-use Rattle.flow_commands.specs.declared.flows_text.Listed.{Listed}
+use Rattle.flow_commands.specs.declared.flows.KeptFlows.{KeptFlows}
+use Rattle.flow_commands.specs.declared.flows.Listed.{Listed}
 use Rattle.command_courses.specs.declared.status.Status.TheVariants as status
 use Rattle.command_courses.specs.declared.stop.Stop.{Stop}
 use Rattle.command_courses.proofs.StopFacts.{answers_too}

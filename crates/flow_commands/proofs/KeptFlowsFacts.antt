@@ -18,8 +18,8 @@ use Rattle.used_contracts.proofs.HeldFacts.{fixed_more, missing_behind_held, mis
 use Rattle.used_contracts.proofs.LineFacts.{none_and, some_and}
 use Rattle.flow_commands.specs.FlowsParts.{AddsFlows, AreListed, HasFlows, KeepsTable}
 use Rattle.flow_commands.specs.FlowsPromise.{AreAllLines, AreFlowLines, AreTables}
-use Rattle.flow_commands.specs.declared.flows_text.KeptFlows.{KeptFlows}
-use Rattle.flow_commands.specs.declared.flows_text.Listed.{Listed}
+use Rattle.flow_commands.specs.declared.flows.KeptFlows.{KeptFlows}
+use Rattle.flow_commands.specs.declared.flows.Listed.{Listed}
 use Rattle.flow_commands.specs.declared.flows_until.FlowsUntil.{FlowsUntil}
 
 module _ (d : Declarations) (fixings : Environment) (last : ℤ) where

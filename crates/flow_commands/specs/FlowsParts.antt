@@ -31,9 +31,9 @@ use Rattle.used_contracts.specs.declared.choosing.Tried.{Tried}
 use Rattle.flow_commands.specs.FlowsCourse.{flows_of_text}
 use Rattle.flow_commands.specs.FlowsPromise.{AreAllLines, AreLines, AreLinesAsked, AreSumLines, AreTables, IsLastDay}
 use Rattle.flow_commands.specs.FlowsStages.{IsDayFault}
-use Rattle.flow_commands.specs.declared.flows_text.KeptFlows.{KeptFlows}
-use Rattle.flow_commands.specs.declared.flows_text.Listed.{Listed}
-use Rattle.flow_commands.specs.declared.flows_text.Over.{Over}
+use Rattle.flow_commands.specs.declared.flows.KeptFlows.{KeptFlows}
+use Rattle.flow_commands.specs.declared.flows.Listed.{Listed}
+use Rattle.flow_commands.specs.declared.flows.Over.{Over}
 use Rattle.flow_commands.specs.declared.flows_until.FlowsUntil.{FlowsUntil}
 
 -- ---- the day of a word

@@ -33,7 +33,7 @@ use Rattle.command_courses.specs.Stopping.{AnswersBy}
 use Rattle.used_contracts.specs.UsedContracts.{used}
 use Rattle.used_contracts.specs.declared.choice.Choice.{Choice}
 use Rattle.flow_commands.specs.declared.flows_until.FlowsUntil.{FlowsUntil}
-use Rattle.flow_commands.specs.declared.flows_text.Listed.{Listed}
+use Rattle.flow_commands.specs.declared.flows.Listed.{Listed}
 use Rattle.command_courses.specs.declared.stop.Stop.{Stop}
 
 -- a position that a line can hold

@@ -4,9 +4,9 @@
 //! Only tested: that it answers where there is memory.
 #![tactic(auto)]
 
-mod flows_text;
+mod flows;
 mod flows_until;
-mod netting_text;
+mod netting;
 
-pub use flows_text::flows_text;
-pub use netting_text::{positions_text, settlement_text};
+pub use flows::flows_text;
+pub use netting::{positions_text, settlement_text};

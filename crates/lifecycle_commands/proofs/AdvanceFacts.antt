@@ -48,8 +48,8 @@ use Rattle.used_contracts.proofs.LineFacts.{none_and, some_and, without_flows}
 use Rattle.lifecycle_commands.specs.AdvanceCourse.{advance_on}
 use Rattle.lifecycle_commands.specs.AdvanceParts.{AddsRest, AppendsComments, AreLeft, HasRests, IsCarriedOne, IsCarriedText, IsLeftText, IsMissingTo, StopsCarry, advance_of_text, changed, changed_book, declared_to, rest_line}
 use Rattle.lifecycle_commands.specs.AdvancePromise.{AreComments, AreDueLines, AreResiduals, IsAdvanced, IsAdvancedWith, IsDueText, IsNewDay, commented, greatest_new_day, last_gone, rest_declarations}
-use Rattle.lifecycle_commands.specs.declared.advance_text.KeptRest.{KeptRest}
-use Rattle.lifecycle_commands.specs.declared.advance_text.Left.{Left}
+use Rattle.lifecycle_commands.specs.declared.advance.KeptRest.{KeptRest}
+use Rattle.lifecycle_commands.specs.declared.advance.Left.{Left}
 use Rattle.lifecycle_commands.specs.declared.advance_to.AdvanceTo.{AdvanceTo}
 use Rattle.lifecycle_commands.specs.declared.advance_to.Renaming.{Renaming}
 

@@ -33,8 +33,8 @@ use Rattle.command_courses.specs.Days.{IsWordFault}
 use Rattle.command_courses.specs.Stopping.{AnswersBy}
 use Rattle.used_contracts.specs.UsedContracts.{is_known, used}
 use Rattle.lifecycle_commands.specs.declared.advance_to.AdvanceTo.{AdvanceTo}
-use Rattle.lifecycle_commands.specs.declared.advance_text.KeptRest.{KeptRest}
-use Rattle.lifecycle_commands.specs.declared.advance_text.Left.{Left}
+use Rattle.lifecycle_commands.specs.declared.advance.KeptRest.{KeptRest}
+use Rattle.lifecycle_commands.specs.declared.advance.Left.{Left}
 use Rattle.lifecycle_commands.specs.declared.advance_to.Renaming.{Renaming}
 use Rattle.used_contracts.specs.declared.choice.Choice.{Choice}
 use Rattle.used_contracts.specs.declared.choosing.Tried.{Tried}

@@ -5,9 +5,9 @@
 //! Only tested: that it answers where there is memory.
 #![tactic(auto)]
 
-mod advance_text;
+mod advance;
 mod advance_to;
-mod novate_text;
+mod novate;
 
-pub use advance_text::advance_text;
-pub use novate_text::novate_text;
+pub use advance::advance_text;
+pub use novate::novate_text;

@@ -26,7 +26,7 @@ use Rattle.used_contracts.proofs.FirstFacts.{IsAcceptedEntry}
 use Rattle.used_contracts.proofs.UsedFacts.{total_small, used_of}
 use Rattle.text_commands.specs.CheckParts.{AddsVerdict, AppendsVerdict, AppendsVerdicts, AreTextVerdicts, AreVerdicts, HasVerdicts}
 use Rattle.text_commands.specs.CheckPromise.{AreCheckLines, IsCheckLine, Verdict, accepted, refused}
-use Rattle.text_commands.specs.declared.check_text.CheckText.{CheckText}
+use Rattle.text_commands.specs.declared.check.CheckText.{CheckText}
 
 -- ---- one verdict
 

@@ -16,7 +16,7 @@ use Rattle.used_contracts.specs.Portfolios.{IsBadText}
 use Rattle.used_contracts.specs.ReadingParts.{IsBegun}
 use Rattle.used_contracts.specs.UsedContracts.{at_defaults, used}
 use Rattle.text_commands.specs.CheckPromise.{AreCheckLines, IsCheckLine}
-use Rattle.text_commands.specs.declared.check_text.CheckText.{CheckText}
+use Rattle.text_commands.specs.declared.check.CheckText.{CheckText}
 
 -- the text after is the text before and the line of a contract
 pub record AppendsVerdict (d : Declarations) (entry : Name × Contract) (accepted : Bool) (before after : List ℕ) : Type 0 where

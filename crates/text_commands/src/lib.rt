@@ -4,12 +4,12 @@
 //! Only tested: that it answers where there is memory.
 #![tactic(auto)]
 
-mod check_text;
-mod expand_text;
-mod migrate_text;
-mod payoff_text;
+mod check;
+mod expand;
+mod migrate;
+mod payoff;
 
-pub use check_text::check_text;
-pub use expand_text::expand_text;
-pub use migrate_text::migrated_text;
-pub use payoff_text::payoff_text;
+pub use check::check_text;
+pub use expand::expand_text;
+pub use migrate::migrated_text;
+pub use payoff::payoff_text;

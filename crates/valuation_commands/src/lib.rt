@@ -5,9 +5,9 @@
 #![tactic(auto)]
 
 mod asking;
-mod scenarios_text;
+mod scenarios;
+mod value;
 mod value_names;
-mod value_text;
 
-pub use scenarios_text::scenarios_text;
-pub use value_text::value_text;
+pub use scenarios::scenarios_text;
+pub use value::value_text;
