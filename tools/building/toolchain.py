@@ -36,5 +36,6 @@ def at_hand(top: Path) -> Toolchain:
         raise Stop("there is no rt in the PATH, so the toolchain is not at hand: README.md says under \"Run it\" where it is found")
     version, wanted = said_by_rt("version"), (top / FILE).read_text(encoding="ascii").strip()
     if version.partition(" ")[2] != wanted.partition(" ")[2]:
-        raise Stop(f"rt is `{version}`, and the sources are proved with `{wanted}`: put that one first in the PATH, or write the other into {FILE}")
+        cure = f"put that one first in the PATH, or write the other into {FILE}"
+        raise Stop(f"rt is `{version}`, and the sources are proved with `{wanted}`: {cure}")
     return Toolchain(version, Path(said_by_rt("doc")).parent, version == wanted)
