@@ -38,4 +38,6 @@ def ends(body: Callable[[], int], begun: str) -> int:
     except OSError as error:
         place = f"{error.filename2 or error.filename}: " if error.filename else ""
         say(f"{begun}: {place}{error.strerror or error}; mend that, and call this again")
+    except Exception as error:
+        say(f"{begun}, by a fault of this script: {type(error).__name__}: {error}")
     return FAILED
