@@ -32,8 +32,8 @@ BUILT, PROVED, UNPROVED = "built", "built/tilugba", "built/unproved"
 LOOKED_AT = "built/looked_at"
 # How many lists ./tilugba looks at side by side, where there are as many processors.
 MOST_LISTS = 4
-# A file system may keep times by the second: what changes within the second of a look is seen by the next one.
-SET_BACK = 2_000_000_000
+# A file system counts time in ticks of some milliseconds, or by the second: what changes within the tick of a look is seen by the next one.
+TICK, SECOND = 50_000_000, 1_000_000_000
 
 
 class Stop(Exception):
@@ -144,19 +144,29 @@ class Sources:
         with contextlib.ExitStack() as turn:
             if (self.top / BUILT).is_dir():
                 turn.enter_context(held(self.top / BUILT))
-            now = time.time_ns()
+            now = self.clock()
             texts, folders = self.names()
             program = self.program_of(self.sum())
-            if program:
+            if program and now:
                 self.keep_look(now, program, [program.path, *texts, *folders])
             return program
 
+    def clock(self) -> int | None:
+        """The time of the file system, set back by a tick; None in a copy that cannot be written to."""
+        with contextlib.suppress(OSError):
+            new = self.top / f"{LOOKED_AT}.new"
+            new.unlink(missing_ok=True)
+            new.touch()
+            now = new.stat().st_mtime_ns
+            return now - (TICK if now % SECOND else 2 * SECOND)
+        return None
+
     def keep_look(self, now: int, program: Program, names: list[str]) -> None:
-        """Notes what was looked at and when. A copy that cannot be written to goes without."""
+        """Notes what was looked at and when, unless the folder is full."""
         count = min(MOST_LISTS, len(os.sched_getaffinity(0)))
         with contextlib.suppress(OSError):
             (self.top / LOOKED_AT).unlink(missing_ok=True)
-            for it in (self.top / BUILT).glob("looked_at.*"):
+            for it in (self.top / BUILT).glob("looked_at.[0-9]"):
                 it.unlink()
             for number in range(count):
                 part = "".join(f"{it}\0" for it in names[number::count])
@@ -164,7 +174,7 @@ class Sources:
             said = "" if program.is_proved else unproved_line(self.top)
             new = self.top / f"{LOOKED_AT}.new"
             new.write_text(f"{program.path}\n{said}\n", encoding="utf-8")
-            os.utime(new, ns=(now - SET_BACK, now - SET_BACK))
+            os.utime(new, ns=(now, now))
             new.rename(self.top / LOOKED_AT)
 
 
