@@ -15,6 +15,8 @@ def find_program(named: str | None = None) -> str:
     told = named or os.environ.get("TILUGBA")
     if told:
         return told
+    # Of the repository's ./tilugba only the proved program will do, where it is not named.
+    os.environ["TILUGBA_PROVED"] = "1"
     beside = [os.path.normpath(os.path.join(HERE, place)) for place in PLACES]
     found = [path for path in beside if os.path.isfile(path) and os.access(path, os.X_OK)]
     return found[0] if found else shutil.which("tilugba") or "tilugba"
