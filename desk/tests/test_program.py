@@ -147,10 +147,12 @@ class Finding(Room):
         for folder in ("bin", "clone/desk", "clone/built"):
             (self.folder / folder).mkdir(parents=True)
         self.file("clone/crates.txt", "")
+        self.script("clone/tilugba", "#!/bin/sh\n")
         with self.assertRaises(Stop) as raised:
             self.find()
         self.assertIn("there is no program tilugba", raised.exception.message)
-        for name in ("clone/tilugba", "bin/tilugba", "clone/built/tilugba", "clone/desk/tilugba"):
+        self.assertIn("in a clone, ./tilugba builds it", raised.exception.message)
+        for name in ("bin/tilugba", "clone/built/tilugba", "clone/desk/tilugba"):
             path = self.script(name, "#!/bin/sh\n")
             self.assertEqual(self.find(), path)
         self.assertEqual(self.find(TILUGBA="/else/where"), Path("/else/where"))

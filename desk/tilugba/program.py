@@ -307,16 +307,18 @@ def find(named: str | None, beside: Path, seconds: float | None = None) -> Progr
     for path in candidates(beside):
         if path.is_file() and os.access(path, os.X_OK):
             return Program(path.absolute(), seconds)
-    raise Stop(Status.DESK, f"there is no program {NAME}: name it by --program or {VARIABLE}, or put it into the PATH")
+    built = f"; in a clone, ./{NAME} builds it" if is_clone(beside.parent) else ""
+    raise Stop(Status.DESK, f"there is no program {NAME}: name it by --program or {VARIABLE}, or put it into the PATH{built}")
+
+
+def is_clone(folder: Path) -> bool:
+    return (folder / "crates.txt").is_file()
 
 
 def candidates(beside: Path) -> Iterator[Path]:
-    """Where the program may be. In a clone that has built none, the script comes last, since it builds first."""
+    """Where the program may be. The script of a clone is none of them: it builds first, which takes an hour."""
     yield beside / NAME
-    clone = beside.parent if (beside.parent / "crates.txt").is_file() else None
-    if clone:
-        yield clone / "built" / NAME
+    if is_clone(beside.parent):
+        yield beside.parent / "built" / NAME
     for folder in os.get_exec_path():
         yield Path(folder) / NAME
-    if clone:
-        yield clone / NAME

@@ -183,8 +183,10 @@ class Reading:
         if number >= len(self.header) and (twice := self.twice_in(number, read)):
             return twice
         if read.fault:
-            token = read.fault.token
-            return Fault(read.fault.kind, token._replace(at=base + token.at), read.fault.offers)
+            token, offers = read.fault.token, read.fault.offers
+            if number >= len(self.header) and offers.new is NameSet.CONTRACT:
+                offers = self.new_names(number)
+            return Fault(read.fault.kind, token._replace(at=base + token.at), offers)
         if read.missing:
             behind = next(tokens.tokens(self.text, self.segments[number].end))
             return Fault("syntax", behind, read.missing)
