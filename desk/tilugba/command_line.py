@@ -116,7 +116,8 @@ def read(words: Sequence[str]) -> Words:
     if command in ("help", "-h", "--help", "--version"):
         raise WrongWords(f"the program has no {command}; its commands are {', '.join(FORMS)}")
     if command not in FORMS:
-        raise WrongWords(f"there is no command {command}{meant(command, list(FORMS))}; it is one of {', '.join(FORMS)}")
+        known = meant(command, list(FORMS)) or f"; it is one of {', '.join(FORMS)}"
+        raise WrongWords(f"there is no command {command}{known}")
     found = Words(command)
     bare = take_options(found, list(words[1:]))
     take_files(found, bare)

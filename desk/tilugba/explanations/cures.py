@@ -181,7 +181,7 @@ def of_a_name(scene: Scene) -> str | None:
     adjacent = last.kind == tokens.NAME and last.end == at
     if adjacent and scene.token.text == "-" and scene.next().kind in (tokens.NAME, tokens.NUMBER) and is_between_names(scene):
         return f"a name has letters, digits and `_`: {last.text}_{scene.next().text}"
-    if scene.token.kind == tokens.STRAY and at < len(text) and (adjacent or text[at] > "\x7f" or text[at] in ".&'"):
+    if scene.token.kind == tokens.STRAY and at < len(text) and (adjacent or text[at] > "\x7f" or text[at] in ".&'" or text[at].isalpha()):
         return of_a_stray_in_a_name(scene)
     if offers.new is not None and scene.token.kind == tokens.NUMBER:
         return "a name does not begin with a digit: _" + re.compile("[0-9A-Za-z_]*").match(text, at)[0]

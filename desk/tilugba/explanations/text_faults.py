@@ -60,6 +60,8 @@ def named(reading: Reading, fault: Fault) -> str:
     if fault.token.kind == tokens.END:
         return "the end of the text"
     if fault.token.kind == tokens.STRAY:
+        if reading.text[fault.at : fault.at + 64].isidentifier():
+            return "a word of more than 64 characters"
         character = reading.source.data[fault.at : fault.at + 4].decode("utf-8", "ignore")[:1]
         return f"{character!r}, with which nothing begins"
     return f"'{shortened(fault.token.text)}'"
