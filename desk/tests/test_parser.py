@@ -19,7 +19,7 @@ from tilugba.texts.names import NameSet
 from tilugba.texts.reading import Memory, Reading
 from tilugba.texts.tokens import Place
 
-EDITS = 3_200
+EDITS = 3_000
 KINDS = {"none", "syntax", "number", "date", "deep", "range", "twice", "unknown", "utf8"}
 
 

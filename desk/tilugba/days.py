@@ -108,10 +108,10 @@ class Calendar:
         return "a holiday" if ordinal in self.holidays else None
 
 
-def read_holidays(path: Path) -> frozenset[int]:
+def read_holidays(path: str | Path) -> frozenset[int]:
     """The ordinals of a file of holidays: a date a line; what stands behind it or behind `#` is left aside, and so are empty lines."""
     try:
-        lines = path.read_text(encoding="utf-8-sig").splitlines()
+        lines = Path(path).read_text(encoding="utf-8-sig").splitlines()
     except OSError as error:
         raise Stop(Status.UNREAD, f"{path}: {reason_of(error)}") from error
     except ValueError as error:
@@ -119,7 +119,7 @@ def read_holidays(path: Path) -> frozenset[int]:
     return frozenset(holiday_of(path, number, line) for number, line in enumerate(lines, 1) if line.split("#")[0].strip())
 
 
-def holiday_of(path: Path, number: int, line: str) -> int:
+def holiday_of(path: str | Path, number: int, line: str) -> int:
     ordinal = ordinal_of(re.split(r"[\s,;#]", line.strip(), maxsplit=1)[0])
     if ordinal is None:
         raise Stop(Status.ROW, f"{path}: line {number} does not begin with a date YYYY-MM-DD")

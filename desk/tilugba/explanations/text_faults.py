@@ -31,6 +31,11 @@ def note_of(file: str, data: bytes, grammar: Grammar, cause: BadText) -> Note:
     return Note(file, cause.kind, reading.source, place, tuple(lines))
 
 
+def note_of_fault(file: str, reading: Reading, fault: Fault) -> Note:
+    """The explanation of a fault that the parser has found."""
+    return Note(file, fault.kind, reading.source, reading.source.place(fault.at), tuple(told(reading, fault)))
+
+
 def fault_at(reading: Reading, place: Place, kind: str) -> Fault | None:
     """The parser's fault at the place. It is looked for there first, so that a long text is not read whole."""
     at = reading.source.at(place)

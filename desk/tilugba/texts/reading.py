@@ -183,13 +183,11 @@ class Reading:
         if number >= len(self.header) and (twice := self.twice_in(number, read)):
             return twice
         if read.fault:
-            token, offers = read.fault.token, read.fault.offers
-            if number >= len(self.header) and offers.new is NameSet.CONTRACT:
-                offers = self.new_names(number)
-            return Fault(read.fault.kind, token._replace(at=base + token.at), offers)
+            token = read.fault.token
+            return Fault(read.fault.kind, token._replace(at=base + token.at), self.offers_in(number, read.fault.offers))
         if read.missing:
             behind = next(tokens.tokens(self.text, self.segments[number].end))
-            return Fault("syntax", behind, read.missing)
+            return Fault("syntax", behind, self.offers_in(number, read.missing))
         return None
 
     def twice_in(self, number: int, read: Read) -> Fault | None:
@@ -201,6 +199,10 @@ class Reading:
             return None
         token = Token(tokens.NAME, declared.name, self.segments[number].at + declared.at)
         return Fault("twice", token, self.new_names(number))
+
+    def offers_in(self, number: int, offers: Offers) -> Offers:
+        """What may stand in a segment, by what was read of it apart from the others."""
+        return self.new_names(number) if number >= len(self.header) and offers.new is NameSet.CONTRACT else offers
 
     def new_names(self, number: int) -> Offers:
         """What may stand where a definition has its name."""
