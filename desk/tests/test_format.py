@@ -25,10 +25,10 @@ contract c = let x = (obs(FX, -3) - -1.5) in after(5, if (x > 1) within 3 then b
   else if not(obs(F, 0)) within 3 then scale(round(half_even, 2, if((x > 1), (x + 2), 3)), both(pay(EUR, A, B), zero)) else zero); # end
 """
 LAID = """portfolio 1;
-amounts 2;                # two decimals
+amounts 2;  # two decimals
 # parties
 party A, B;
-asset EUR;                            # é behind
+asset EUR;  # é behind
 
 num FX : 4 in -0.5000 .. 2.0000;
 flag F;
@@ -56,6 +56,10 @@ def laid_out(text: str) -> str:
 class Layouts(unittest.TestCase):
     def test_a_text(self) -> None:
         self.assertEqual(laid_out(TEXT), LAID)
+
+    def test_columns_of_comments_are_kept(self) -> None:
+        text = "portfolio 1;   # first\namounts   2;    # second\nparty A;# third\n"
+        self.assertEqual(laid_out(text), "portfolio 1;   # first\namounts 2;      # second\nparty A;  # third\n")
 
     def test_a_layout_stays(self) -> None:
         for example in self.whole():

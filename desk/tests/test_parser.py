@@ -95,11 +95,12 @@ class Remembered(unittest.TestCase):
         lines = [f"contract c{number} = zero;\n" for number in range(50)]
         memory = Memory()
         self.assertIsNone(Reading((head + "".join(lines)).encode(), memory=memory).fault)
-        kept = dict(memory.read)
+        [read] = memory.under.values()
+        before = len(read)
         lines[20] = "contract c20 = zerro;\n"
         reading = Reading((head + "".join(lines)).encode(), memory=memory)
         self.assertEqual(told(reading, reading.fault), Told("syntax", Place(22, 16)))
-        self.assertEqual(len(memory.read) - len(kept), 1)
+        self.assertEqual(len(read) - before, 1)
 
 
 BOOK = """portfolio 2;

@@ -124,7 +124,9 @@ def comments_between(text: str, at: int, end: int) -> Iterator[Comment]:
         written = line.strip(" \t\r")
         if written:
             before = text[start:at] + line[: line.index("#")]
-            yield Comment(decoded(written), len(decoded(before)), is_alone)
+            # Behind several statements of one line no column is kept.
+            column = len(decoded(before)) if before.count(";") <= 1 else 0
+            yield Comment(decoded(written), column, is_alone)
         elif is_alone and not was_empty and number < len(lines) - 1:
             yield Comment("", 0, is_alone=True)
         was_empty = is_alone and not written
@@ -155,8 +157,9 @@ def merged(lines: list[str]) -> Iterator[str]:
             before = line
             continue
         column, _, comment = line[1:].partition(" ")
-        joined = f"{before}{' ' * max(2, int(column) - len(before or ''))}{comment}"
+        gap = int(column) - len(before or "")
         tight = f"{before}  {comment}"
+        joined = f"{before}{' ' * gap}{comment}" if gap > 0 else tight
         fitting = next((it for it in (joined, tight) if len(it) <= WIDTH), None)
         if before is None or fitting is None:
             if before is not None:

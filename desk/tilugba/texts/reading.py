@@ -7,14 +7,15 @@ holds as long as its own text and the declarations stay (`Memory`).
 from __future__ import annotations
 
 import re
+from bisect import bisect_right
 from collections.abc import Iterator
-from dataclasses import dataclass, field
+from dataclasses import dataclass, field, replace
 from functools import cached_property
 
 from . import tokens
 from .grammar import CODE, GRAMMARS, PORTFOLIO, Grammar
 from .machine import Fault, Machine
-from .names import Declarations, NameSet
+from .names import Declarations, Declared, NameSet
 from .offers import Offers
 from .parts import Part
 from .tokens import GAP, Source, Token
@@ -26,6 +27,7 @@ BORDER = re.compile(
 )
 FIRST_TOKEN = re.compile(GAP + "([A-Za-z_][A-Za-z0-9_]*)?")
 BEGINNING = re.compile(GAP + "([A-Za-z_][A-Za-z0-9_]*)" + GAP + "([A-Za-z_][A-Za-z0-9_]*)?")
+MOST_REMEMBERED = 3
 NO_TOKEN = Token(tokens.STRAY, "", 0)
 
 
@@ -48,10 +50,17 @@ class Read:
 
 @dataclass(slots=True)
 class Memory:
-    """What was read of definitions under the declarations of a text, by the text of each."""
+    """What was read of definitions, by the text of each, under the last few declarations that a text had."""
 
-    declarations: str = ""
-    read: dict[str, Read] = field(default_factory=dict)
+    under: dict[str, dict[str, Read]] = field(default_factory=dict)
+
+    def read_under(self, declarations: str) -> dict[str, Read]:
+        """What was read under these declarations. Of those that were not asked for the longest, it is forgotten."""
+        found = self.under.pop(declarations, {})
+        while len(self.under) >= MOST_REMEMBERED:
+            del self.under[next(iter(self.under))]
+        self.under[declarations] = found
+        return found
 
 
 def segments(text: str) -> list[Segment]:
@@ -85,6 +94,7 @@ class Reading:
         self.segments = segments(self.source.text)
         self.declared = Declarations()
         self.memory = memory if memory is not None else Memory()
+        self.remembered: dict[str, Read] = {}
         self.header: list[Read] = []
         self.stack: list[Part] = list(reversed(self.grammar.text))
         self.is_broken = False
@@ -114,9 +124,7 @@ class Reading:
             if self.is_broken:
                 break
         text = self.text[: self.segments[len(self.header) - 1].end] if self.header else ""
-        if self.memory.declarations != text or not self.header:
-            self.memory.declarations = text
-            self.memory.read = {}
+        self.remembered = self.memory.read_under(text)
 
     def read_segment(self, number: int, declared: Declarations, stack: list[Part]) -> Read:
         """Reads a statement from a stack on, which it changes."""
@@ -147,9 +155,9 @@ class Reading:
         if number == len(self.header) or number == len(self.segments) - 1:
             return self.read_definition(number)
         written = self.slice(number)
-        read = self.memory.read.get(written)
+        read = self.remembered.get(written)
         if read is None:
-            read = self.memory.read[written] = self.read_definition(number)
+            read = self.remembered[written] = self.read_definition(number)
         return read
 
     def read_definition(self, number: int) -> Read:
@@ -174,6 +182,40 @@ class Reading:
     def definition(self, name: str) -> int | None:
         """The segment of a definition."""
         return self.defined.get(name)
+
+    # ---- what may stand at a place
+
+    def segment_at(self, at: int) -> int:
+        """The number of the segment in which a byte is; between two it is the second."""
+        return max(bisect_right(self.segments, at, key=lambda it: it.at) - 1, 0)
+
+    def offers_at(self, at: int) -> Offers:
+        """What may stand at a byte, by what stands before it in its statement."""
+        number = self.segment_at(at)
+        if self.is_broken and number >= len(self.header):
+            return Offers()
+        declared, stack = self.state_before(number)
+        before = [token for token in tokens.tokens(self.text, self.segments[number].at, at) if token.kind != tokens.END]
+        machine = Machine(declared, stack)
+        fault = machine.read([*before, NO_TOKEN])
+        return fault.offers if fault and fault.token is NO_TOKEN else Offers()
+
+    def state_before(self, number: int) -> tuple[Declarations, list[Part]]:
+        """The declarations and the stack where a segment begins."""
+        if number > len(self.header):
+            return self.declared_of(number), list(reversed(self.grammar.further))
+        declared, stack = Declarations(), list(reversed(self.grammar.text))
+        for earlier in range(min(number, len(self.header))):
+            before = list(stack)
+            read = self.read_segment(earlier, declared, stack)
+            stack = before if read.fault or read.missing else stack
+        return declared, stack
+
+    def declared_of(self, number: int) -> Declarations:
+        """The declarations, with the names of the definitions before a segment."""
+        sets = dict(self.declared.sets)
+        sets[NameSet.CONTRACT] = {name: Declared(name, 0) for name, first in self.defined.items() if first < number}
+        return replace(self.declared, sets=sets)
 
     # ---- faults
 
