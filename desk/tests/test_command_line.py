@@ -72,6 +72,6 @@ class Words(unittest.TestCase):
             self.assertIn(said, str(raised.exception))
 
     def test_the_forms(self) -> None:
-        told = FORMS["value"].told("value")
+        told = FORMS["value"].told()
         self.assertEqual(told, "value CODE FIX CURVE [T=N].. --at DAY --from P --to Q --asset A")
-        self.assertEqual(FORMS["flows"].told("flows"), "flows PORT [FIX] [--until DAY] [--contract NAME] [--net]")
+        self.assertEqual(FORMS["flows"].told(), "flows PORT [FIX] [--until DAY] [--contract NAME] [--net]")

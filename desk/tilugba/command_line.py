@@ -6,6 +6,7 @@ import difflib
 from collections.abc import Callable, Mapping, Sequence
 from dataclasses import dataclass, field
 
+from .command_table import Command, read_table
 from .days import day_of
 from .texts import tokens
 from .texts.grammar import CODE, MODES, PORTFOLIO, SCHEDULES, Grammar
@@ -39,40 +40,38 @@ KINDS: Mapping[str, tuple[Callable[[str], bool], str]] = {
 class Form:
     """What a command takes: its files, of which the first ones have to be there, its options with their kinds, and settings `T=N`."""
 
+    command: Command
     files: tuple[str, ...]
     least: int
-    options: Mapping[str, str] = field(default_factory=dict)
-    required: tuple[str, ...] = ()
-    has_settings: bool = False
+    options: Mapping[str, str]
+    required: tuple[str, ...]
 
-    def told(self, command: str) -> str:
+    @property
+    def has_settings(self) -> bool:
+        return self.command.has_settings
+
+    def told(self) -> str:
         """The form of the command, as in the program's own pages."""
-        said = [command, *(it if number < self.least else f"[{it}]" for number, it in enumerate(self.files))]
-        said += ["[T=N].."] if self.has_settings else []
-        for option, kind in self.options.items():
-            written = f"{option} {VALUES.get(option, kind)}" if kind else option
-            said.append(written if option in self.required else f"[{written}]")
-        return " ".join(said)
+        return self.command.form()
 
 
-VALUES = {"--from": "P", "--to": "Q", "--asset": "A", "--old": "P", "--new": "Q"}
-UNTIL = {"--until": DAY}
-BETWEEN = {"--at": DAY, "--from": NAME, "--to": NAME, "--asset": NAME}
-NOVATE = {"--to": DAY, "--contract": NAME, "--old": NAME, "--new": NAME}
-FORMS: Mapping[str, Form] = {
-    "check": Form((BOOK,), 1),
-    "flows": Form((BOOK, FIX), 1, UNTIL | {"--contract": NAME, "--net": FLAG}),
-    "advance": Form((BOOK, FIX), 2, {"--to": DAY}, ("--to",)),
-    "payoff": Form((BOOK,), 1, {"--contract": NAME, "--plain": FLAG}, ("--contract",)),
-    "value": Form((CODE_FILE, FIX, CURVE), 3, BETWEEN, tuple(BETWEEN), has_settings=True),
-    "scenarios": Form((CODE_FILE, SCEN, CURVE), 3, BETWEEN | {"--mean": MODE}, (*BETWEEN, "--mean"), has_settings=True),
-    "migrate": Form((BOOK,), 1),
-    "expand": Form((PLANS,), 1),
-    "positions": Form((BOOK, FIX), 1, UNTIL),
-    "settle": Form((BOOK, FIX), 1, UNTIL),
-    "novate": Form((BOOK, FIX), 2, NOVATE, tuple(NOVATE)),
-    "sample": Form((NUMBER,), 1),
-}
+# What each kind of the table of commands is here.
+SORTS = {"day": DAY, "contract": NAME, "party": NAME, "asset": NAME, "mode": MODE}
+
+
+def form_of(command: Command) -> Form:
+    """The form of a command, of which a number counts as a file."""
+    files = [it.word for it in command.files] or [NUMBER]
+    return Form(
+        command,
+        tuple(files),
+        sum(it.is_needed for it in command.files) or 1,
+        {f"--{it.name}": SORTS[it.kind.name] if it.kind else FLAG for it in command.options},
+        tuple(f"--{it.name}" for it in command.options if it.is_needed),
+    )
+
+
+FORMS: Mapping[str, Form] = {name: form_of(it) for name, it in read_table().commands.items()}
 
 
 class WrongWords(Exception):

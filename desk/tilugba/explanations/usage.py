@@ -20,4 +20,4 @@ def note_of(words: Sequence[str]) -> Note:
         told = "the program does not take these words"
     if not command:
         return Note("tilugba", told)
-    return Note(command, f"{told}; the command is `{FORMS[command].told(command)}`")
+    return Note(command, f"{told}; the command is `{FORMS[command].told()}`")

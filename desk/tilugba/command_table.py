@@ -1,12 +1,15 @@
-"""The table of commands, commands.toml, as values: what other tools know of the words of the program, they ask here.
+"""The table of commands, commands.toml, as values: what the desk and other tools know of the words of the program, they ask here.
 
-The file lies beside the tools, or above them as in the repository.
+The file lies in this package, or in the clone that the package is of.
 """
-import os
-import tomllib
-from dataclasses import dataclass, field
 
-HERE = os.path.dirname(os.path.realpath(__file__))
+from __future__ import annotations
+
+import tomllib
+from dataclasses import dataclass
+from pathlib import Path
+
+HERE = Path(__file__).resolve().parent
 # The form of a setting of `value` and `scenarios`, as it is written in the form of a command.
 SETTING = "T=N"
 
@@ -87,27 +90,18 @@ class Table:
     commands: dict[str, Command]
     statuses: dict[int, Status]
     kinds: dict[str, Kind]
-    always: tuple[int, ...] = field(default=())
-
-    def options_with_word(self) -> set[str]:
-        """The options, with their dashes, behind which a word belongs to them."""
-        return {f"--{it.name}" for command in self.commands.values() for it in command.options if it.kind}
-
-    def files_of(self) -> dict[str, int]:
-        """How many files each command takes, of those that take any."""
-        return {name: len(it.files) for name, it in self.commands.items() if it.files}
+    always: tuple[int, ...] = ()
 
 
-def table_path() -> str:
+def table_path() -> Path:
     """Where the file lies."""
-    beside = os.path.join(HERE, "commands.toml")
-    return beside if os.path.exists(beside) else os.path.join(HERE, "..", "commands.toml")
+    beside = HERE / "commands.toml"
+    return beside if beside.exists() else HERE.parents[1] / "commands.toml"
 
 
-def read_table(path: str = "") -> Table:
+def read_table(path: Path | None = None) -> Table:
     """Reads the file."""
-    with open(path or table_path(), "rb") as file:
-        told = tomllib.load(file)
+    told = tomllib.loads((path or table_path()).read_text(encoding="utf-8"))
     kinds = {name: kind_of(name, it) for name, it in told["kind"].items()}
     statuses = {int(number): status_of(int(number), it) for number, it in told["status"].items()}
     commands = {it["name"]: command_of(it, told, kinds, statuses) for it in told["command"]}
