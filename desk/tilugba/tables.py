@@ -89,15 +89,24 @@ def field_at(data: bytes, at: int) -> tuple[bytes, int]:
     return data[at + 1 : close].replace(b'""', b'"') + behind[0], behind.end()
 
 
-def read(path: str | Path, header: tuple[str, ...]) -> list[Record]:
-    """The records of a file below the header, each with as many fields; what is otherwise ends the command."""
-    found = list(records(read_file(path)))
+def read_whole(path: str | Path, header: tuple[str, ...]) -> tuple[bytes, Record, list[Record]]:
+    """The byte order mark of a file or nothing, its header, and the records below it, each with as many fields.
+
+    What is otherwise ends the command.
+    """
+    data = read_file(path)
+    found = list(records(data))
     if not found or found[0].texts != header:
         raise Stop(Status.ROW, f"{path}: record 1 is not the header {','.join(header)}")
     for record in found[1:]:
         if len(record.fields) != len(header):
             raise Stop(Status.ROW, f"{path}: record {record.number} does not have {len(header)} fields")
-    return found[1:]
+    return MARK if data.startswith(MARK) else b"", found[0], found[1:]
+
+
+def read(path: str | Path, header: tuple[str, ...]) -> list[Record]:
+    """The records of a file below the header."""
+    return read_whole(path, header)[2]
 
 
 @dataclass
