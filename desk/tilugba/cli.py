@@ -9,6 +9,7 @@ import sys
 from collections.abc import Sequence
 from pathlib import Path
 from types import ModuleType
+from typing import NoReturn
 
 from . import commands
 from .desk import COMMAND, Desk
@@ -54,15 +55,26 @@ def seconds(text: str) -> float:
     return number
 
 
+class Parser(argparse.ArgumentParser):
+    """A parser whose subcommand says with which status it ends if its words are not right."""
+
+    usage_status: int = Status.USAGE
+
+    def error(self, message: str) -> NoReturn:
+        self.print_usage(sys.stderr)
+        self.exit(self.usage_status, f"{self.prog}: error: {message}\n")
+
+
 def parser_of(name: str, module: ModuleType) -> argparse.ArgumentParser:
     """The parser of a subcommand's words, with the options that all have."""
     first, rest = summary_of(module)
-    parser = argparse.ArgumentParser(
+    parser = Parser(
         prog=f"{COMMAND} {name}",
         description=f"{first}\n\n{rest}" if rest else first,
         formatter_class=argparse.RawDescriptionHelpFormatter,
         allow_abbrev=False,
     )
+    parser.usage_status = getattr(module, "USAGE_STATUS", Status.USAGE)
     shared = parser.add_argument_group("the program")
     shared.add_argument(
         "--program", metavar="PROGRAM", help=f"the program to run; otherwise that of {VARIABLE}, one beside this command, or in the PATH"

@@ -16,6 +16,7 @@ from collections.abc import Callable, Iterator, Mapping, Sequence
 from contextlib import contextmanager
 from dataclasses import dataclass
 from pathlib import Path
+from typing import BinaryIO
 
 NAME = "tilugba"
 VARIABLE = "TILUGBA"
@@ -256,10 +257,28 @@ class Program:
             except (OSError, ValueError) as error:
                 raise Stop(Status.DESK, f"{self.path} does not start: {reason_of(error)}") from error
         if ran.returncode < 0:
-            raise Stop(128 - ran.returncode, f"{self.path} was killed by signal {signal_name(-ran.returncode)}")
+            raise Stop(status_of(ran.returncode), f"{self.path} was killed by signal {signal_name(-ran.returncode)}")
         if ran.returncode == Status.DESK:
             raise Stop(Status.DESK, f"{self.path} gave no answer{last_line(ran.stderr)}")
         return Answer(ran.returncode, ran.stdout, ran.stderr)
+
+    def start(self, words: Sequence[str], output: BinaryIO) -> subprocess.Popen[bytes]:
+        """Starts a run whose output goes into a file; who starts it waits for it."""
+        return subprocess.Popen([self.path, *words], stdin=subprocess.DEVNULL, stdout=output)
+
+    def wait(self, process: subprocess.Popen[bytes]) -> int:
+        """The status of a run that was started, where a signal counts 128 more than its number, and 70 is one that took too long."""
+        try:
+            return status_of(process.wait(self.seconds))
+        except subprocess.TimeoutExpired:
+            process.kill()
+            process.wait()
+            return Status.DESK
+
+
+def status_of(code: int) -> int:
+    """The status that a shell tells of a process."""
+    return code if code >= 0 else 128 - code
 
 
 def reason_of(error: Exception) -> str:
